@@ -1,0 +1,49 @@
+-- Look-ups in the entries of an attribute dictionary.
+use Rattle.std.proofs.Common.{◌≡◌, ℕ, Bool, true, false, cond, List, [], ◌∷◌, Option, Some, None, String, refl, ap, ◌∙◌}
+use Rattle.std.specs.Map.{lookup}
+use Rattle.std.specs.Str.{bytes_eq}
+use Rattle.std.specs.String.{string_bytes, string_eq}
+use Rattle.std.specs.Cmp.Lexicographic.{nat_list_eq_equiv}
+use Rattle.indexmap.specs.IndexMap.{insert_entry}
+use Rattle.ir_names.specs.Dictionary.{named_entries, attribute_at, with_attribute, SetsAttribute}
+
+-- a look-up by bytes, over the entries as they are held
+pub attribute_at-named_entries : {X Y : Type 0} (key : List ℕ) (es : List (String Y × X)) → attribute_at (named_entries es) key ≡ lookup (λ k. bytes_eq key (string_bytes k)) es
+attribute_at-named_entries key [] = refl
+attribute_at-named_entries {X} key (e ∷ es) = ap (λ (r : Option X). cond (bytes_eq key (string_bytes e.0)) (Some e.1) r) (attribute_at-named_entries key es)
+
+named-cond : {X Y : Type 0} (b : Bool) (e : String Y × X) (v : X) (es rest : List (String Y × X)) (done : List (List ℕ × X)) → named_entries rest ≡ done → named_entries (cond b ((e.0, v) ∷ es) (e ∷ rest)) ≡ cond b ((string_bytes e.0, v) ∷ named_entries es) ((string_bytes e.0, e.1) ∷ done)
+named-cond true e v es rest done h = refl
+named-cond {X} false e v es rest done h = ap (λ (r : List (List ℕ × X)). (string_bytes e.0, e.1) ∷ r) h
+
+-- an insertion, seen by the names' bytes
+pub named_entries-insert_entry : {X Y : Type 0} (k : String Y) (v : X) (es : List (String Y × X)) → named_entries (insert_entry string_eq es k v) ≡ with_attribute (named_entries es) (string_bytes k) v
+named_entries-insert_entry k v [] = refl
+named_entries-insert_entry k v (e ∷ es) = named-cond (string_eq k e.0) e v es (insert_entry string_eq es k v) _ (named_entries-insert_entry k v es)
+
+module _ {V : Type 0} where
+  same_test : (p q : Bool) (v w l : V) → p ≡ q → cond q v l ≡ cond p v (cond q w l)
+  same_test true true v w l h = refl
+  same_test false false v w l h = refl
+  same_test true false v w l h = cc
+  same_test false true v w l h = cc
+
+  other_test : (p q : Bool) (v w l : V) → (q ≡ true → p ≡ false) → cond q w (cond p v l) ≡ cond p v (cond q w l)
+  other_test true true v w l h = let e : true ≡ false = h refl in cc
+  other_test true false v w l h = refl
+  other_test false q v w l h = refl
+
+module _ {X : Type 0} where
+  -- one step of a look-up, where b says whether the entry has the key that is put and p whether that key is looked for
+  put_step : (test : List ℕ → Bool) (b p : Bool) (e : List ℕ × X) (v : X) (es rest : List (List ℕ × X)) → (b ≡ true → p ≡ test e.0) → (b ≡ false → test e.0 ≡ true → p ≡ false) → lookup test rest ≡ cond p (Some v) (lookup test es) → lookup test (cond b ((e.0, v) ∷ es) (e ∷ rest)) ≡ cond p (Some v) (cond (test e.0) (Some e.1) (lookup test es))
+  put_step test true p e v es rest same other h = same_test p (test e.0) (Some v) (Some e.1) (lookup test es) (same refl)
+  put_step test false p e v es rest same other h = ap (λ (r : Option X). cond (test e.0) (Some e.1) r) h ∙ other_test p (test e.0) (Some v) (Some e.1) (lookup test es) (other refl)
+
+  -- a look-up after an attribute is put under a name
+  pub attribute_at-with_attribute : (es : List (List ℕ × X)) (key : List ℕ) (attr : X) → SetsAttribute es (with_attribute es key attr) key attr
+  attribute_at-with_attribute [] key attr other = ap (λ (b : Bool). cond b (Some attr) None) (nat_list_eq_equiv.symm other key)
+  attribute_at-with_attribute (e ∷ es) key attr other =
+      put_step (bytes_eq other) (bytes_eq key e.0) (bytes_eq key other) e attr es (with_attribute es key attr)
+      (λ h. nat_list_eq_equiv.congr key e.0 other h ∙ nat_list_eq_equiv.symm e.0 other)
+      (λ h k. nat_list_eq_equiv.symm key other ∙ (nat_list_eq_equiv.congr other e.0 key k ∙ (nat_list_eq_equiv.symm e.0 key ∙ h)))
+      (attribute_at-with_attribute es key attr other)

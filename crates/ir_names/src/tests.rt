@@ -1,0 +1,111 @@
+//! Tests of what no clause says.
+use super::*;
+use std::alloc::{AllocError, Global};
+use std::test::Fail;
+
+struct Tiny;
+
+#[derive(Clone, Copy, Debug, PartialEq, Eq, Hash)]
+enum TinyKind {
+    Define,
+}
+
+#[derive(Debug, PartialEq, Eq, Hash, Drop)]
+enum TinyAttr {
+    Number(u64),
+    Type(TypeHandle),
+}
+
+impl Dialects for Tiny {
+    type OpKind = TinyKind;
+
+    type Attr = TinyAttr;
+
+    type TypeKey = u8;
+
+    fn clone_attr(_alloc: Global, attr: &TinyAttr) -> Result<TinyAttr, AllocError> {
+        match attr {
+            TinyAttr::Number(number) => Ok(TinyAttr::Number(*number)),
+            TinyAttr::Type(handle) => Ok(TinyAttr::Type(*handle)),
+        }
+    }
+
+    fn attr_type(attr: &TinyAttr) -> Option<TypeHandle> {
+        match attr {
+            TinyAttr::Number(_) => None,
+            TinyAttr::Type(handle) => Some(*handle),
+        }
+    }
+}
+
+#[test]
+fn tells_identifiers(rt: HostRuntime) -> Result<(), Fail> {
+    for text in ["_", "a1", "Z", "a_B_9"] {
+        assert!(rt; Identifier::is_valid(text), "{text}");
+        let name = Identifier::try_new(rt.alloc(), text)?;
+        assert_eq!(rt; name.as_str(), text);
+        assert_eq!(rt; name.try_clone()?, name);
+        assert_eq!(rt; format!(in rt.alloc(); "{name}")?.as_str(), text);
+        let chars: Vec<char> = text.chars().collect(rt.alloc())?;
+        assert_eq!(rt;
+            Identifier::from_chars(rt.alloc(), chars.as_slice())?.as_str(),
+            text
+        );
+    }
+    for text in ["", "a-b", "1a", "é", "a ", "-"] {
+        assert!(rt; !Identifier::is_valid(text), "{text}");
+        assert!(rt;
+            matches!(
+                Identifier::try_new(rt.alloc(), text),
+                Err(IdentifierError::Invalid(_))
+            )
+        );
+        let chars: Vec<char> = text.chars().collect(rt.alloc())?;
+        let made = Identifier::from_chars(rt.alloc(), chars.as_slice());
+        assert!(rt; matches!(made, Err(IdentifierError::Invalid(_))));
+    }
+    Ok(())
+}
+
+#[test]
+fn shows_places(rt: HostRuntime) -> Result<(), Fail> {
+    let mut place = Place {
+        children: Vec::new(rt.alloc()),
+    };
+    assert_eq!(rt; format!(in rt.alloc(); "{place}")?.as_str(), "root");
+    place.children.push(0)?;
+    place.children.push(12)?;
+    place.children.push(3)?;
+    assert_eq!(rt; format!(in rt.alloc(); "{place}")?.as_str(), "0.12.3");
+    Ok(())
+}
+
+#[test]
+fn holds_attributes(rt: HostRuntime) -> Result<(), Fail> {
+    let mut dict: AttributeDict<Tiny> = AttributeDict::new(rt.alloc());
+    assert!(rt; dict.is_empty());
+    let old = dict.set(Identifier::try_new(rt.alloc(), "b")?, TinyAttr::Number(3))?;
+    assert_eq!(rt; old, None);
+    let old = dict.set(Identifier::try_new(rt.alloc(), "a")?, TinyAttr::Number(4))?;
+    assert_eq!(rt; old, None);
+    let old = dict.set(Identifier::try_new(rt.alloc(), "b")?, TinyAttr::Number(5))?;
+    assert_eq!(rt; old, Some(TinyAttr::Number(3)));
+    assert_eq!(rt; dict.len(), 2);
+    assert_eq!(rt; dict.get("b"), Some(&TinyAttr::Number(5)));
+    assert_eq!(rt; dict.get("c"), None);
+    assert_eq!(rt; dict.entry(1), Some(("a", &TinyAttr::Number(4))));
+    assert_eq!(rt; dict.entry(2), None);
+    Ok(())
+}
+
+#[test]
+fn clones_attributes(rt: HostRuntime) -> Result<(), Fail> {
+    let attr = TinyAttr::Type(TypeHandle::new(2));
+    let copy = Tiny::clone_attr(rt.alloc(), &attr)?;
+    assert_eq!(rt; copy, attr);
+    assert_eq!(rt; Tiny::attr_type(&copy), Some(TypeHandle::new(2)));
+    assert_eq!(rt; TypeHandle::new(2).number(), 2);
+    assert_eq!(rt; GrowError::from(AllocError), GrowError::Memory);
+    assert_eq!(rt; TinyKind::Define, TinyKind::Define);
+    Ok(())
+}

@@ -1,0 +1,115 @@
+//! What a dialect says of its texts.
+ghost use Rattle.ir_store.specs.Context.{IsLiveOperation};
+ghost use Rattle.ir_store.specs.Marks.{IsSameTree};
+
+use crate::format::{Directive, Part};
+use ir_names::{AttributeDict, Dialects, TypeHandle};
+use ir_store::{Context, Operation, Ptr};
+use std::alloc::{AllocError, AllocFailed, Global};
+use std::fmt::Debug;
+use std::hash::Hash;
+
+/// Why a value isn't made of the parts that were read.
+#[derive(Clone, Copy, Debug, PartialEq, Eq)]
+pub enum MakeFault {
+    /// The part with this number, from 0 on in the order of the text, is refused.
+    Refused(usize),
+    Memory,
+}
+
+impl From<AllocError> for MakeFault {
+    fn from(_error: AllocError) -> MakeFault {
+        MakeFault::Memory
+    }
+}
+
+impl<T: Drop> From<AllocFailed<T>> for MakeFault {
+    fn from(_error: AllocFailed<T>) -> MakeFault {
+        MakeFault::Memory
+    }
+}
+
+/// What an operation is made with beside its operands and regions.
+#[derive(Drop)]
+pub struct OperationDraft<D: Dialects> {
+    pub result_types: Vec<TypeHandle>,
+    pub attributes: AttributeDict<D>,
+}
+
+/// A dialect whose operations, types and attributes have texts.
+///
+/// The ids of each of the three are distinct dotted names. What is made of a value's parts is the value.
+pub trait TextDialect: Dialects {
+    type TypeKind: Copy + Eq + Hash + Debug;
+
+    type AttrKind: Copy + Eq + Hash + Debug;
+
+    /// The kind with this number, from 0 on, of those that can be read. None stands behind the last.
+    fn op_kind_at(number: usize) -> Option<Self::OpKind>;
+
+    fn type_kind_at(number: usize) -> Option<Self::TypeKind>;
+
+    fn attr_kind_at(number: usize) -> Option<Self::AttrKind>;
+
+    /// The dotted name with which an operation of the kind is printed and read.
+    fn op_id(kind: Self::OpKind) -> &'static str;
+
+    fn type_id(kind: Self::TypeKind) -> &'static str;
+
+    fn attr_id(kind: Self::AttrKind) -> &'static str;
+
+    /// What follows the id.
+    fn op_format(kind: Self::OpKind) -> &'static [Directive];
+
+    fn type_format(kind: Self::TypeKind) -> &'static [Directive];
+
+    fn attr_format(kind: Self::AttrKind) -> &'static [Directive];
+
+    /// Whether values outside of an operation of the kind can't be named in its regions.
+    fn is_isolated(kind: Self::OpKind) -> bool;
+
+    fn type_kind(key: &Self::TypeKey) -> Self::TypeKind;
+
+    fn attr_kind(attr: &Self::Attr) -> Self::AttrKind;
+
+    /// The type of these parts, or the first part that is refused.
+    fn make_type(
+        alloc: Global,
+        kind: Self::TypeKind,
+        parts: &[Part<Self>],
+    ) -> Result<Self::TypeKey, MakeFault>;
+
+    /// The attribute of these parts, or the first part that is refused.
+    fn make_attr(
+        alloc: Global,
+        ctx: &mut Context<Self>,
+        kind: Self::AttrKind,
+        parts: &[Part<Self>],
+    ) -> Result<Self::Attr, MakeFault>
+        ensures same { IsSameTree ctx.old ctx.new };
+
+    /// What an operation of these parts is made with, or the first part that is refused.
+    fn make_operation(
+        alloc: Global,
+        ctx: &mut Context<Self>,
+        kind: Self::OpKind,
+        parts: Vec<Part<Self>>,
+    ) -> Result<OperationDraft<Self>, MakeFault>
+        ensures same { IsSameTree ctx.old ctx.new };
+
+    /// The parts of a type, as reading its text gives them.
+    fn type_parts(alloc: Global, key: &Self::TypeKey) -> Result<Vec<Part<Self>>, AllocError>;
+
+    fn attr_parts(
+        alloc: Global,
+        ctx: &Context<Self>,
+        attr: &Self::Attr,
+    ) -> Result<Vec<Part<Self>>, AllocError>;
+
+    fn operation_parts(
+        alloc: Global,
+        ctx: &Context<Self>,
+        op: Ptr<Operation>,
+    ) -> Result<Vec<Part<Self>>, AllocError>
+        requires live { IsLiveOperation ctx.now op };
+}

@@ -1,0 +1,53 @@
+//! Formats as data, and the parts of a value that a format's text holds.
+
+use ir_names::{Dialects, Identifier, Signedness, TypeHandle};
+
+/// One step of a format.
+#[derive(Clone, Copy)]
+pub enum Directive {
+    /// This text, as printed. Reading takes it without its spaces, as one token.
+    Literal(&'static str),
+    /// Names of values, none or more, with commas between them.
+    Operands,
+    /// An attribute with its id.
+    Attribute,
+    /// A type with its id.
+    Type,
+    /// Blocks in braces.
+    Region,
+    /// `@` and the name of a symbol.
+    SymbolHeader,
+    /// A name.
+    Name,
+    /// A decimal number, which may begin with `-`.
+    Number,
+    /// `i`, `si` or `ui` and a number of bits.
+    Width,
+    /// What the directives say, none or more times, with this literal between two members.
+    List(&'static [Directive], &'static str),
+}
+
+/// A number as a text writes it.
+#[derive(Clone, Copy, Debug, PartialEq, Eq)]
+pub struct Number {
+    pub is_negative: bool,
+    pub magnitude: u64,
+}
+
+/// A part of a value, one for each directive of its format that is no literal.
+///
+/// Operands and regions stay with the operation, in the order of the text: a part gives their number.
+#[derive(Drop)]
+pub enum Part<D: Dialects> {
+    /// So many operands.
+    Operands(usize),
+    Attribute(D::Attr),
+    Type(TypeHandle),
+    Region,
+    Name(Identifier),
+    /// None stands for a number past 64 bits.
+    Number(Option<Number>),
+    /// None stands for a width past 32 bits.
+    Width(Signedness, Option<u32>),
+    List(Vec<Vec<Part<D>>>),
+}

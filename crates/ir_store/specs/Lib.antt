@@ -1,0 +1,4 @@
+pub mod Pointer
+pub mod Views
+pub mod Context
+pub mod Marks
