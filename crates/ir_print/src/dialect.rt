@@ -93,7 +93,7 @@ pub trait TextDialect: Dialects {
         alloc: Global,
         ctx: &mut Context<Self>,
         kind: Self::OpKind,
-        parts: Vec<Part<Self>>,
+        parts: &[Part<Self>],
     ) -> Result<OperationDraft<Self>, MakeFault>
         ensures same { IsSameTree ctx.old ctx.new };
 

@@ -117,7 +117,15 @@ fn print_type<D: TextDialect>(
     let kind = D::type_kind(key);
     out.push_str(D::type_id(kind))?;
     let parts = D::type_parts(alloc, key)?;
-    print_parts(alloc, ctx, out, D::type_format(kind), &parts, Before::Id, left - 1)
+    print_parts(
+        alloc,
+        ctx,
+        out,
+        D::type_format(kind),
+        &parts,
+        Before::Id,
+        left - 1,
+    )
 }
 
 #[cycle(values)]
@@ -134,7 +142,15 @@ fn print_attribute<D: TextDialect>(
     let kind = D::attr_kind(attr);
     out.push_str(D::attr_id(kind))?;
     let parts = D::attr_parts(alloc, ctx, attr)?;
-    print_parts(alloc, ctx, out, D::attr_format(kind), &parts, Before::Id, left - 1)
+    print_parts(
+        alloc,
+        ctx,
+        out,
+        D::attr_format(kind),
+        &parts,
+        Before::Id,
+        left - 1,
+    )
 }
 
 /// The parts of a type or an attribute, or of a member of a list in one.
@@ -298,7 +314,13 @@ fn print_arguments<D: TextDialect>(
         }
         print_value(out, block.get_argument(ctx, index))?;
         out.push_str(": ")?;
-        print_type(alloc, ctx, out, block.argument_type(ctx, index), VALUE_CALLS)?;
+        print_type(
+            alloc,
+            ctx,
+            out,
+            block.argument_type(ctx, index),
+            VALUE_CALLS,
+        )?;
     }
     Ok(())
 }
@@ -341,8 +363,9 @@ fn print_operation<D: TextDialect>(
             print_literal(out, progress.before, text)?;
             progress.before = Before::Literal;
         } else if let Some(part) = parts.get(next) {
-            progress =
-                print_operation_part(alloc, ctx, out, op, *directive, part, progress, indent, left)?;
+            progress = print_operation_part(
+                alloc, ctx, out, op, *directive, part, progress, indent, left,
+            )?;
             next += 1;
         }
     }

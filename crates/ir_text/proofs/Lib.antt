@@ -1,0 +1,10 @@
+pub mod TokenLongest
+pub mod TokenSteps
+pub mod TokenUnique
+pub mod Derivations
+pub mod Closing
+pub mod Steps
+pub mod Ends
+pub mod Checks
+pub mod PlacingGrowth
+pub mod PlacingSizes

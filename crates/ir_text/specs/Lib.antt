@@ -1,0 +1,6 @@
+pub mod Tokens
+pub mod Grammar
+pub mod Table
+pub mod Reading
+pub mod Run
+pub mod Faults

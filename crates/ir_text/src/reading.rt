@@ -1,0 +1,186 @@
+//! Reading a text into a context.
+ghost use Rattle.std.specs.Prelude.{OnOk, OnErr, IfOk};
+ghost use Rattle.ir_store.specs.Context.{IsLiveOperation};
+ghost use Rattle.ir_store.specs.Marks.{CanRewind, KeepsBelow, IsSameTree, mark_of};
+
+use crate::building::{BuildFault, Source, build};
+use crate::faults::{Fault, FaultKind, ScopeCause, TextFault, first_of};
+use crate::grammar::{Event, Reading, Stop};
+use crate::placing::place;
+use crate::rules::{DialectGrammar, grammar_of};
+use crate::scopes::{Resolution, ScopeFault, resolve};
+use crate::syntax::SyntaxOperation;
+use crate::tokens::{place_after, tokens_of};
+use crate::words::{classify, spelled};
+use ir_print::TextDialect;
+use ir_store::{Context, Operation, Ptr};
+use std::alloc::Global;
+
+/// Regions, types and attributes stand in one another at most so deep.
+const DEEPEST: usize = 64;
+
+/// The first token at which one more than 64 regions, types and attributes are open.
+fn too_deep(events: &[Event]) -> Option<Fault> {
+    let mut taken: usize = 0;
+    let mut depth: usize = 0;
+    for event in events {
+        match event {
+            Event::Took => taken = taken.saturating_add(1),
+            Event::Did(action) => {
+                if action.opens() {
+                    if depth >= DEEPEST {
+                        let token = taken.saturating_sub(1);
+                        return Some(Fault {
+                            kind: FaultKind::TooDeep,
+                            met: token,
+                            place: token,
+                        });
+                    }
+                    depth += 1;
+                } else if action.closes() {
+                    depth = depth.saturating_sub(1);
+                }
+            }
+        }
+    }
+    None
+}
+
+/// The fault that no text of the grammar goes on with the next token, of so many.
+fn syntax_fault(reading: &Reading, tokens: usize) -> Option<Fault> {
+    let token = reading.taken;
+    let stands = match reading.stop {
+        Stop::Text => token < tokens,
+        Stop::Stuck => true,
+        Stop::Deep => false,
+    };
+    if stands {
+        Some(Fault {
+            kind: FaultKind::Syntax,
+            met: token,
+            place: token,
+        })
+    } else {
+        None
+    }
+}
+
+/// A fault as users see it, with its line and column.
+fn told(source: Source, fault: Fault) -> TextFault {
+    let (line, column) = match source.tokens.get(fault.place) {
+        Some(token) => place_after(source.front(token.start)),
+        None => place_after(source.chars),
+    };
+    match fault.kind {
+        FaultKind::TooDeep => TextFault::TooDeep(line, column),
+        FaultKind::MultipleDefinitions => {
+            TextFault::Scope(line, column, ScopeCause::MultipleDefinitions)
+        }
+        FaultKind::UnresolvedReference => {
+            TextFault::Scope(line, column, ScopeCause::UnresolvedReference)
+        }
+        _ => TextFault::Syntax(line, column),
+    }
+}
+
+/// Reads one operation with all that stands in it, into a context.
+///
+/// `chars` is the whole text; only white space may stand behind the operation. The answer is the operation, which
+/// stands in no block, or the fault that is met first: what is no text of the dialect's grammar, what is nested deeper
+/// than 64 levels, and names that are defined twice or not at all. After a fault no operation, region or block is
+/// left of the text. Takes time in proportion to the text.
+pub fn top_level_parse<D: TextDialect>(
+    alloc: Global,
+    ctx: &mut Context<D>,
+    chars: &[char],
+) -> Result<Ptr<Operation>, TextFault>
+    ensures read { IfOk result (IsLiveOperation ctx.new) }
+    ensures kept { OnOk result (KeepsBelow (mark_of ctx.old) ctx.old ctx.new) }
+    ensures refused { OnErr result (IsSameTree ctx.old ctx.new) }
+{
+    let mark = ctx.mark();
+    let outcome = parse(alloc, ctx, chars);
+    if outcome.is_err() {
+        ctx.rewind(mark);
+    }
+    outcome
+}
+
+fn parse<D: TextDialect>(
+    alloc: Global,
+    ctx: &mut Context<D>,
+    chars: &[char],
+) -> Result<Ptr<Operation>, TextFault>
+    requires { CanRewind ctx.old (mark_of ctx.old) }
+    ensures read { IfOk result (IsLiveOperation ctx.new) }
+    ensures kept { KeepsBelow (mark_of ctx.old) ctx.old ctx.new }
+{
+    let language: DialectGrammar = grammar_of::<D>(alloc)?;
+    let tokens = tokens_of(alloc, chars)?;
+    let source = Source {
+        chars,
+        tokens: &tokens,
+    };
+    let words = spelled(alloc, &language.words)?;
+    let classified = classify(alloc, &words, chars, &tokens)?;
+    if !language.grammar.can_read(0) {
+        return Err(TextFault::Syntax(1, 1));
+    }
+    let reading = language.grammar.read(alloc, 0, DEEPEST, &classified.kinds)?;
+    understand(alloc, ctx, source, &classified.names, &reading)
+}
+
+/// The first fault of the tree of a text, if it isn't built.
+fn value_fault<D: TextDialect>(
+    built: &Result<Option<SyntaxOperation<D>>, BuildFault>,
+) -> Result<Option<Fault>, TextFault> {
+    match built {
+        Ok(_) => Ok(None),
+        Err(BuildFault::Text(fault)) => Ok(Some(*fault)),
+        Err(BuildFault::Memory) => Err(TextFault::Memory),
+    }
+}
+
+/// The first fault of the scopes of a text, if its names aren't looked up.
+fn scope_fault(resolved: &Result<Resolution, ScopeFault>) -> Result<Option<Fault>, TextFault> {
+    match resolved {
+        Ok(_) => Ok(None),
+        Err(ScopeFault::Text(fault)) => Ok(Some(*fault)),
+        Err(ScopeFault::Memory) => Err(TextFault::Memory),
+    }
+}
+
+/// Puts what reading a source gave into a context, or names the first fault.
+fn understand<D: TextDialect>(
+    alloc: Global,
+    ctx: &mut Context<D>,
+    source: Source,
+    names: &[usize],
+    reading: &Reading,
+) -> Result<Ptr<Operation>, TextFault>
+    requires { CanRewind ctx.old (mark_of ctx.old) }
+    ensures read { IfOk result (IsLiveOperation ctx.new) }
+    ensures kept { KeepsBelow (mark_of ctx.old) ctx.old ctx.new }
+{
+    let built = build(alloc, ctx, &source, &reading.events);
+    let resolved = resolve::<D>(alloc, names, &reading.events);
+    let end = source.tokens.len();
+    let early = first_of(syntax_fault(reading, end), too_deep(&reading.events));
+    let late = first_of(value_fault(&built)?, scope_fault(&resolved)?);
+    if let Some(fault) = first_of(early, late) {
+        return Err(told(source, fault));
+    }
+    match built {
+        Ok(Some(tree)) => match resolved {
+            Ok(resolution) => place(alloc, ctx, source, &resolution, tree),
+            Err(_) => Err(unfinished(source)),
+        },
+        _ => Err(unfinished(source)),
+    }
+}
+
+/// The fault that a text ends before its operation does.
+fn unfinished(source: Source) -> TextFault {
+    let (line, column) = place_after(source.chars);
+    TextFault::Syntax(line, column)
+}

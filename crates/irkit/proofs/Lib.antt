@@ -1,0 +1,4 @@
+pub mod StreamLemmas
+pub mod Ends
+pub mod Names
+pub mod Mistakes

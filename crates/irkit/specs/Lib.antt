@@ -1,0 +1,6 @@
+pub mod Streams
+pub mod Refusals
+pub mod Outcomes
+pub mod CommandLine
+pub mod Requests
+pub mod Works

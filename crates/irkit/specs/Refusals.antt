@@ -1,0 +1,46 @@
+-- Refusals, and which bytes deserve which.
+use Rattle.std.specs.Prelude.{◌≡◌, ℕ, List, IsUtf8}
+use Rattle.std.specs.Str.Lossy.{utf8_valid_len}
+use Rattle.ir_text.specs.declared.faults.TextFault.{TextFault}
+use Rattle.ir_text.specs.declared.faults.TextFault.TheVariants as text
+use Rattle.kit_dialect.specs.declared.module_rules.RuleFault.{RuleFault}
+use Rattle.kit_dialect.specs.declared.module_rules.RuleFault.TheVariants as rule
+use Rattle.irkit.specs.declared.refusal.Refusal.{Refusal}
+use Rattle.irkit.specs.declared.refusal.Refusal.TheVariants.{NotUtf8, Syntax, TooDeep, Scope, Rule, Memory, CounterFull, Read, Write}
+
+-- the number of a refusal, from 1
+abbrev pub number_of : Refusal → ℕ
+number_of (NotUtf8 _) = 1
+number_of (Syntax _ _) = 2
+number_of (TooDeep _ _) = 3
+number_of (Scope _ _ _) = 4
+number_of (Rule _ _) = 5
+number_of Memory = 6
+number_of CounterFull = 7
+number_of Read = 8
+number_of (Write _) = 9
+
+-- The whole input may be refused so: it is no UTF-8 from that byte on, or it is UTF-8 with a fault (of the places, causes and rules nothing is said here).
+abbrev pub Deserves : List ℕ → Refusal → Type 0
+Deserves bytes (NotUtf8 b) = (b ≡ utf8_valid_len bytes) × (IsUtf8 bytes → ⊥)
+Deserves bytes (Syntax line column) = IsUtf8 bytes
+Deserves bytes (TooDeep line column) = IsUtf8 bytes
+Deserves bytes (Scope line column cause) = IsUtf8 bytes
+Deserves bytes (Rule number place) = IsUtf8 bytes
+Deserves bytes Memory = ⊥
+Deserves bytes CounterFull = ⊥
+Deserves bytes Read = ⊥
+Deserves bytes (Write b) = ⊥
+
+-- the refusal of the same name
+abbrev pub of_text_fault : TextFault → Refusal
+of_text_fault text.Memory = Memory
+of_text_fault text.CounterFull = CounterFull
+of_text_fault (text.Syntax line column) = Syntax line column
+of_text_fault (text.TooDeep line column) = TooDeep line column
+of_text_fault (text.Scope line column cause) = Scope line column cause
+
+-- the refusal for a module that isn't accepted
+abbrev pub of_rule_fault : RuleFault → Refusal
+of_rule_fault rule.Memory = Memory
+of_rule_fault (rule.Broken number place) = Rule number place

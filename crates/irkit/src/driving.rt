@@ -1,0 +1,142 @@
+//! The program on its words.
+ghost use Rattle.std.specs.Prelude.{◌≡◌, ◌≢◌, ◌∷◌, [], false, true, map, string_bytes};
+ghost use Rattle.clap.specs.Words.{fault_of, kind_of, subcommand_of, subcommand_rows_of, takes};
+ghost use Rattle.irkit.specs.Streams.{has_failed};
+ghost use Rattle.irkit.specs.CommandLine.{irkit, IsMistake};
+ghost use Rattle.irkit.specs.Requests.{IsServed};
+ghost use Rattle.irkit.specs.Works.{Complains, Drives, EndsHelp, Helps, Serves, status_of};
+
+use crate::checking::check;
+use crate::command::parse;
+use crate::refusal::Refusal;
+use crate::request::{Request, request_of};
+use crate::running::run;
+use crate::telling::{tell, tell_fault};
+use crate::watched::Watched;
+use crate::writing::write_text;
+use clap::error::ErrorKind;
+use clap::{ArgMatches, Error};
+use std::alloc::Global;
+use std::io::{Read, Write};
+
+/// The program on its words, of which the first is its name. It gives the status:
+/// 0 done or help asked, 1 a fault, 2 a mistake in the words.
+/// Help goes to the output, a fault's line to the faults; where that can't be written, the status stays.
+pub fn drive<R: Read, W: Write, F: Write>(
+    alloc: Global,
+    words: Vec<String>,
+    input: &mut Watched<R>,
+    output: &mut Watched<W>,
+    faults: &mut Watched<F>,
+) -> u8
+    requires input { has_failed input.old ≡ false }
+    requires output { has_failed output.old ≡ false }
+    ensures served { takes irkit (map string_bytes words.items) ≡ true
+        → Drives R.remaining W.contents input.old input.new output.old output.new (subcommand_of irkit (map string_bytes words.items)) result }
+    ensures mistaken { IsMistake (fault_of irkit (map string_bytes words.items)) → Complains R.remaining W.contents input.old input.new output.old output.new result }
+    ensures helped { fault_of irkit (map string_bytes words.items) ≡ ErrorKind.DisplayHelp ∷ []
+        → (input.new ≡ input.old) × Helps W.contents output.old output.new result }
+{
+    match parse(alloc, words.as_slice()) {
+        Ok(matches) => answer(alloc, &matches, input, output, faults),
+        Err(error) => refuse(alloc, &error, output, faults),
+    }
+}
+
+/// The answer to words that a parse takes.
+fn answer<R: Read, W: Write, F: Write>(
+    alloc: Global,
+    matches: &ArgMatches<'_>,
+    input: &mut Watched<R>,
+    output: &mut Watched<W>,
+    faults: &mut Watched<F>,
+) -> u8
+    requires input { has_failed input.old ≡ false }
+    requires output { has_failed output.old ≡ false }
+    ensures { Drives R.remaining W.contents input.old input.new output.old output.new (subcommand_rows_of matches.now) result }
+{
+    match request_of(alloc, matches) {
+        Ok(Some(request)) => {
+            if request.is_served() {
+                return serve(alloc, request, input, output, faults);
+            }
+            tell_fault(faults, &"pass not available yet");
+            2
+        }
+        Ok(None) => {
+            tell_fault(faults, &"unknown pass");
+            2
+        }
+        Err(_) => {
+            tell_fault(faults, &Refusal::Memory);
+            1
+        }
+    }
+}
+
+/// Makes the call for a request, and gives its status.
+fn serve<R: Read, W: Write, F: Write>(
+    alloc: Global,
+    request: Request,
+    input: &mut Watched<R>,
+    output: &mut Watched<W>,
+    faults: &mut Watched<F>,
+) -> u8
+    requires served { IsServed request }
+    requires input { has_failed input.old ≡ false }
+    requires output { has_failed output.old ≡ false }
+    ensures { Serves R.remaining W.contents input.old input.new output.old output.new request result }
+{
+    let outcome = match request {
+        Request::Check => check(alloc, input, output),
+        Request::Optimise(passes) => run(alloc, passes.as_slice(), input, output),
+    };
+    status(faults, outcome)
+}
+
+/// The answer to words that a parse doesn't take.
+fn refuse<W: Write, F: Write>(
+    alloc: Global,
+    error: &Error,
+    output: &mut Watched<W>,
+    faults: &mut Watched<F>,
+) -> u8
+    requires { has_failed output.old ≡ false }
+    ensures memory { kind_of error.now ≡ ErrorKind.OutOfMemory → (result ≡ 1) × (output.new ≡ output.old) }
+    ensures mistake { kind_of error.now ≢ ErrorKind.OutOfMemory → kind_of error.now ≢ ErrorKind.DisplayHelp → kind_of error.now ≢ ErrorKind.DisplayVersion
+        → (result ≡ 2) × (output.new ≡ output.old) }
+    ensures help { kind_of error.now ≡ ErrorKind.DisplayHelp → Helps W.contents output.old output.new result }
+{
+    if let ErrorKind::OutOfMemory = error.kind() {
+        tell_fault(faults, &Refusal::Memory);
+        return 1;
+    }
+    if error.use_stderr() {
+        tell(faults, error);
+        return 2;
+    }
+    let outcome = help(alloc, error, output);
+    status(faults, outcome)
+}
+
+/// Writes the help that was asked for.
+fn help<W: Write>(alloc: Global, error: &Error, output: &mut Watched<W>) -> Result<(), Refusal>
+    requires { has_failed output.old ≡ false }
+    ensures { EndsHelp W.contents output.old output.new result }
+{
+    let text = format!(in alloc; "{error}")?;
+    write_text(output, text.as_bytes())
+}
+
+/// The status of a call. A fault's line is written where it can be.
+fn status<F: Write>(faults: &mut Watched<F>, outcome: Result<(), Refusal>) -> u8
+    ensures { result ≡ status_of outcome }
+{
+    match outcome {
+        Ok(()) => 0,
+        Err(refusal) => {
+            tell_fault(faults, &refusal);
+            1
+        }
+    }
+}

@@ -1,0 +1,42 @@
+// Reading to the end, and from bytes to characters.
+ghost use Rattle.std.specs.Prelude.{◌≡◌, List, ℕ, MatchResult, IsErrAnd, false, encode_utf8_all};
+ghost use Rattle.irkit.specs.Streams.{has_failed};
+ghost use Rattle.irkit.specs.Outcomes.{EndsReading, Decodes};
+
+use crate::refusal::Refusal;
+use crate::watched::Watched;
+use std::alloc::Global;
+use std::io::Read;
+
+const CHUNK: usize = 65536;
+
+/// Reads to the end, in at most so many calls.
+pub fn read_to_end<R: Read>(
+    alloc: Global,
+    reader: &mut Watched<R>,
+    turns: u64,
+) -> Result<Vec<u8>, Refusal>
+    requires { has_failed reader.old ≡ false }
+    ensures { EndsReading R.remaining reader.old reader.new turns (λ v. v.items) result }
+{
+    let mut bytes = Vec::new(alloc);
+    let mut chunk = [0u8; CHUNK];
+    'reading: for _turn in 0..turns {
+        match reader.read(&mut chunk) {
+            Ok(0) => return Ok(bytes),
+            Ok(n) => bytes.extend_from_slice(&chunk[..n])?,
+            Err(_) => return Err(Refusal::Read),
+        }
+    }
+    Err(Refusal::Read)
+}
+
+/// The characters of these bytes.
+pub fn decode(alloc: Global, bytes: &[u8]) -> Result<Vec<char>, Refusal>
+    ensures { Decodes bytes.now (λ v. v.items) result }
+{
+    match std::str::from_utf8(bytes) {
+        Ok(text) => Ok(text.chars().collect(alloc)?),
+        Err(e) => Err(Refusal::NotUtf8(e.valid_up_to())),
+    }
+}

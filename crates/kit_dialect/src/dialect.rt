@@ -1,0 +1,448 @@
+//! The dialect and its formats.
+ghost use Rattle.std.specs.Prelude.{◌≡◌, ◌↔◌, ◌⊎◌, true, IsTrue, IfOk, slice_get};
+ghost use Rattle.ir_names.specs.Text.{is_identifier};
+ghost use Rattle.ir_store.specs.Context.{IsLiveOperation};
+ghost use Rattle.ir_store.specs.Marks.{IsSameTree};
+ghost use Rattle.kit_dialect.specs.declared.kinds.KitOp.TheVariants.{Module, Func};
+ghost use Rattle.kit_dialect.specs.Kinds.{read_ops, read_types, read_attrs, name_of_op, name_of_type, name_of_attr, kind_of_type, kind_of_attr, type_of_attr};
+ghost use Rattle.kit_dialect.specs.Numbers.{HasFittingBits, IsFittingInteger};
+ghost use Rattle.kit_dialect.specs.Parts.{number_part, integer_part, integer_parts, HasPartsOf, IsSameInteger};
+ghost use Rattle.kit_dialect.specs.declared.attributes.IntegerAttr.{IntegerAttr};
+
+use crate::attributes::{
+    CONSTANT_VALUE, FUNCTION_TYPE, IntegerAttr, KitAttr, KitAttrKind, SYMBOL_NAME,
+};
+use crate::kinds::{FunctionType, IntegerType, KitOp, KitType, KitTypeKind};
+use ir_names::{AttributeDict, Dialects, Identifier, TypeHandle};
+use ir_print::{Directive, MakeFault, Number, OperationDraft, Part, TextDialect};
+use ir_store::{Context, Operation, Ptr};
+use std::alloc::{AllocError, Global};
+
+/// The dialect `kit`.
+#[derive(Clone, Copy, Debug)]
+pub struct Kit;
+
+const MODULE_FORMAT: &[Directive] = &[Directive::SymbolHeader, Directive::Region];
+
+const FUNC_FORMAT: &[Directive] = &[
+    Directive::SymbolHeader,
+    Directive::Literal(": "),
+    Directive::Type,
+    Directive::Region,
+];
+
+const ATTRIBUTE_FORMAT: &[Directive] = &[Directive::Attribute];
+
+const OPERANDS_FORMAT: &[Directive] = &[Directive::Operands];
+
+const WIDTH_FORMAT: &[Directive] = &[Directive::Width];
+
+const TYPE_FORMAT: &[Directive] = &[Directive::Type];
+
+const NAME_FORMAT: &[Directive] = &[Directive::Name];
+
+const FUNCTION_FORMAT: &[Directive] = &[
+    Directive::Literal("<"),
+    Directive::Literal("("),
+    Directive::List(TYPE_FORMAT, ", "),
+    Directive::Literal(")"),
+    Directive::Literal("->"),
+    Directive::Literal("("),
+    Directive::List(TYPE_FORMAT, ", "),
+    Directive::Literal(")"),
+    Directive::Literal(">"),
+];
+
+const NUMBER_FORMAT: &[Directive] = &[
+    Directive::Literal("<"),
+    Directive::Number,
+    Directive::Literal(": "),
+    Directive::Width,
+    Directive::Literal(">"),
+];
+
+impl Dialects for Kit {
+    type OpKind = KitOp;
+
+    type Attr = KitAttr;
+
+    type TypeKey = KitType;
+
+    fn clone_attr(_alloc: Global, attr: &KitAttr) -> Result<KitAttr, AllocError> {
+        match attr {
+            KitAttr::Identifier(name) => Ok(KitAttr::Identifier(name.try_clone()?)),
+            KitAttr::Type(ty) => Ok(KitAttr::Type(*ty)),
+            KitAttr::Integer(integer) => Ok(KitAttr::Integer(*integer)),
+        }
+    }
+
+    fn attr_type(attr: &KitAttr) -> Option<TypeHandle>
+        ensures { result ≡ type_of_attr attr.now }
+    {
+        match attr {
+            KitAttr::Integer(integer) => Some(integer.ty),
+            KitAttr::Identifier(_) => None,
+            KitAttr::Type(_) => None,
+        }
+    }
+}
+
+/// The attributes of an operation with one entry.
+fn with_entry(
+    alloc: Global,
+    mut attributes: AttributeDict<Kit>,
+    key: &str,
+    attr: KitAttr,
+) -> Result<AttributeDict<Kit>, AllocError>
+    requires { is_identifier key.now ≡ true }
+{
+    let _ = attributes.set(Identifier::new(alloc, key)?, attr)?;
+    Ok(attributes)
+}
+
+fn draft(attributes: AttributeDict<Kit>, result_types: Vec<TypeHandle>) -> OperationDraft<Kit> {
+    OperationDraft {
+        result_types,
+        attributes,
+    }
+}
+
+/// The types in a list of types.
+fn types_of(alloc: Global, members: &[Vec<Part<Kit>>]) -> Result<Vec<TypeHandle>, AllocError> {
+    let mut types = Vec::with_capacity(alloc, members.len())?;
+    for member in members {
+        if let [Part::Type(ty)] = member.as_slice() {
+            types.push(*ty)?;
+        }
+    }
+    Ok(types)
+}
+
+/// A list of types, as parts.
+fn list_of(alloc: Global, types: &[TypeHandle]) -> Result<Part<Kit>, AllocError> {
+    let mut members = Vec::with_capacity(alloc, types.len())?;
+    for ty in types {
+        members.push(vec![in alloc; Part::Type(*ty)]?)?;
+    }
+    Ok(Part::List(members))
+}
+
+/// The number that a part is.
+fn number_in(part: &Part<Kit>) -> Option<Number>
+    ensures { result ≡ number_part part.now }
+{
+    match part {
+        Part::Number(number) => *number,
+        _ => None,
+    }
+}
+
+/// The integer type that a part is.
+fn integer_in(part: &Part<Kit>) -> Option<IntegerType>
+    ensures { result ≡ integer_part part.now }
+{
+    match part {
+        Part::Width(signedness, Some(width)) => Some(IntegerType {
+            signedness: *signedness,
+            width: *width,
+        }),
+        _ => None,
+    }
+}
+
+/// An integer of its number and its type. The parts of an integer that fits give it again.
+fn make_integer(ctx: &mut Context<Kit>, parts: &[Part<Kit>]) -> Result<KitAttr, MakeFault>
+    ensures same { IsSameTree ctx.old ctx.new }
+    ensures fits { IfOk result (λ attr. IsFittingInteger attr) }
+    ensures reads { (a : IntegerAttr) → HasFittingBits a → parts.now ≡ integer_parts a → IfOk result (λ attr. IsSameInteger a attr) }
+{
+    if parts.len() != 2 {
+        return Err(MakeFault::Refused(0));
+    }
+    let Some(integer) = integer_in(&parts[1]) else {
+        return Err(MakeFault::Refused(1));
+    };
+    if !integer.has_values() {
+        return Err(MakeFault::Refused(1));
+    }
+    let Some(number) = number_in(&parts[0]) else {
+        return Err(MakeFault::Refused(0));
+    };
+    let Some(bits) = integer.bits_of(number) else {
+        return Err(MakeFault::Refused(0));
+    };
+    let ty = ctx.intern(KitType::Integer(integer))?;
+    Ok(KitAttr::Integer(IntegerAttr { ty, integer, bits }))
+}
+
+/// What a module or a function is made with: a name, and a type where it has one.
+fn make_symbol(alloc: Global, parts: &[Part<Kit>]) -> Result<OperationDraft<Kit>, MakeFault> {
+    let mut attributes = AttributeDict::new(alloc);
+    for part in parts {
+        match part {
+            Part::Name(name) => {
+                let name = KitAttr::Identifier(name.try_clone()?);
+                attributes = with_entry(alloc, attributes, SYMBOL_NAME, name)?;
+            }
+            Part::Type(ty) => {
+                attributes = with_entry(alloc, attributes, FUNCTION_TYPE, KitAttr::Type(*ty))?;
+            }
+            _ => {}
+        }
+    }
+    Ok(draft(attributes, Vec::new(alloc)))
+}
+
+/// What a constant is made with: its value, and the type of that as the type of its result.
+fn make_constant(alloc: Global, parts: &[Part<Kit>]) -> Result<OperationDraft<Kit>, MakeFault> {
+    let [Part::Attribute(attr)] = parts else {
+        return Err(MakeFault::Refused(0));
+    };
+    let Some(ty) = Kit::attr_type(attr) else {
+        return Err(MakeFault::Refused(0));
+    };
+    let value = Kit::clone_attr(alloc, attr)?;
+    let attributes = with_entry(alloc, AttributeDict::new(alloc), CONSTANT_VALUE, value)?;
+    Ok(draft(attributes, vec![in alloc; ty]?))
+}
+
+impl TextDialect for Kit {
+    type TypeKind = KitTypeKind;
+
+    type AttrKind = KitAttrKind;
+
+    fn op_kind_at(number: usize) -> Option<KitOp>
+        ensures { result ≡ slice_get read_ops number }
+    {
+        match number {
+            0 => Some(KitOp::Module),
+            1 => Some(KitOp::Func),
+            2 => Some(KitOp::Constant),
+            3 => Some(KitOp::Return),
+            _ => None,
+        }
+    }
+
+    fn type_kind_at(number: usize) -> Option<KitTypeKind>
+        ensures { result ≡ slice_get read_types number }
+    {
+        match number {
+            0 => Some(KitTypeKind::Integer),
+            1 => Some(KitTypeKind::Function),
+            2 => Some(KitTypeKind::Unit),
+            _ => None,
+        }
+    }
+
+    fn attr_kind_at(number: usize) -> Option<KitAttrKind>
+        ensures { result ≡ slice_get read_attrs number }
+    {
+        match number {
+            0 => Some(KitAttrKind::Integer),
+            _ => None,
+        }
+    }
+
+    fn op_id(kind: KitOp) -> &'static str
+        ensures { result.now ≡ name_of_op kind }
+    {
+        match kind {
+            KitOp::Module => "builtin.module",
+            KitOp::Func => "builtin.func",
+            KitOp::Constant => "builtin.constant",
+            KitOp::Return => "kit.return",
+        }
+    }
+
+    fn type_id(kind: KitTypeKind) -> &'static str
+        ensures { result.now ≡ name_of_type kind }
+    {
+        match kind {
+            KitTypeKind::Integer => "builtin.integer",
+            KitTypeKind::Function => "builtin.function",
+            KitTypeKind::Unit => "builtin.unit",
+        }
+    }
+
+    fn attr_id(kind: KitAttrKind) -> &'static str
+        ensures { result.now ≡ name_of_attr kind }
+    {
+        match kind {
+            KitAttrKind::Identifier => "builtin.identifier",
+            KitAttrKind::Type => "builtin.type",
+            KitAttrKind::Integer => "builtin.integer",
+        }
+    }
+
+    fn op_format(kind: KitOp) -> &'static [Directive] {
+        match kind {
+            KitOp::Module => MODULE_FORMAT,
+            KitOp::Func => FUNC_FORMAT,
+            KitOp::Constant => ATTRIBUTE_FORMAT,
+            KitOp::Return => OPERANDS_FORMAT,
+        }
+    }
+
+    fn type_format(kind: KitTypeKind) -> &'static [Directive] {
+        match kind {
+            KitTypeKind::Integer => WIDTH_FORMAT,
+            KitTypeKind::Function => FUNCTION_FORMAT,
+            KitTypeKind::Unit => &[],
+        }
+    }
+
+    fn attr_format(kind: KitAttrKind) -> &'static [Directive] {
+        match kind {
+            KitAttrKind::Identifier => NAME_FORMAT,
+            KitAttrKind::Type => TYPE_FORMAT,
+            KitAttrKind::Integer => NUMBER_FORMAT,
+        }
+    }
+
+    fn is_isolated(kind: KitOp) -> bool
+        ensures { IsTrue result ↔ ((kind ≡ Module) ⊎ (kind ≡ Func)) }
+    {
+        match kind {
+            KitOp::Module => true,
+            KitOp::Func => true,
+            KitOp::Constant => false,
+            KitOp::Return => false,
+        }
+    }
+
+    fn type_kind(key: &KitType) -> KitTypeKind
+        ensures { result ≡ kind_of_type key.now }
+    {
+        match key {
+            KitType::Integer(_) => KitTypeKind::Integer,
+            KitType::Function(_) => KitTypeKind::Function,
+            KitType::Unit => KitTypeKind::Unit,
+        }
+    }
+
+    fn attr_kind(attr: &KitAttr) -> KitAttrKind
+        ensures { result ≡ kind_of_attr attr.now }
+    {
+        match attr {
+            KitAttr::Identifier(_) => KitAttrKind::Identifier,
+            KitAttr::Type(_) => KitAttrKind::Type,
+            KitAttr::Integer(_) => KitAttrKind::Integer,
+        }
+    }
+
+    fn make_type(
+        alloc: Global,
+        kind: KitTypeKind,
+        parts: &[Part<Kit>],
+    ) -> Result<KitType, MakeFault> {
+        match (kind, parts) {
+            (KitTypeKind::Integer, [Part::Width(signedness, Some(width))]) => {
+                Ok(KitType::Integer(IntegerType {
+                    signedness: *signedness,
+                    width: *width,
+                }))
+            }
+            (KitTypeKind::Function, [Part::List(inputs), Part::List(results)]) => {
+                Ok(KitType::Function(FunctionType {
+                    inputs: types_of(alloc, inputs)?,
+                    results: types_of(alloc, results)?,
+                }))
+            }
+            (KitTypeKind::Unit, []) => Ok(KitType::Unit),
+            _ => Err(MakeFault::Refused(0)),
+        }
+    }
+
+    fn make_attr(
+        _alloc: Global,
+        ctx: &mut Context<Kit>,
+        kind: KitAttrKind,
+        parts: &[Part<Kit>],
+    ) -> Result<KitAttr, MakeFault>
+        ensures same { IsSameTree ctx.old ctx.new }
+        ensures fits { IfOk result (λ attr. IsFittingInteger attr) }
+        ensures reads { (a : IntegerAttr) → HasFittingBits a → parts.now ≡ integer_parts a → IfOk result (λ attr. IsSameInteger a attr) }
+    {
+        match kind {
+            KitAttrKind::Integer => make_integer(ctx, parts),
+            KitAttrKind::Identifier => Err(MakeFault::Refused(0)),
+            KitAttrKind::Type => Err(MakeFault::Refused(0)),
+        }
+    }
+
+    fn make_operation(
+        alloc: Global,
+        _ctx: &mut Context<Kit>,
+        kind: KitOp,
+        parts: &[Part<Kit>],
+    ) -> Result<OperationDraft<Kit>, MakeFault>
+        ensures same { IsSameTree _ctx.old _ctx.new }
+    {
+        match kind {
+            KitOp::Module => make_symbol(alloc, parts),
+            KitOp::Func => make_symbol(alloc, parts),
+            KitOp::Constant => make_constant(alloc, parts),
+            KitOp::Return => Ok(draft(AttributeDict::new(alloc), Vec::new(alloc))),
+        }
+    }
+
+    fn type_parts(alloc: Global, key: &KitType) -> Result<Vec<Part<Kit>>, AllocError> {
+        match key {
+            KitType::Integer(integer) => {
+                Ok(vec![in alloc; Part::Width(integer.signedness, Some(integer.width))]?)
+            }
+            KitType::Function(function) => {
+                let inputs = list_of(alloc, &function.inputs)?;
+                let results = list_of(alloc, &function.results)?;
+                Ok(vec![in alloc; inputs, results]?)
+            }
+            KitType::Unit => Ok(Vec::new(alloc)),
+        }
+    }
+
+    fn attr_parts(
+        alloc: Global,
+        _ctx: &Context<Kit>,
+        attr: &KitAttr,
+    ) -> Result<Vec<Part<Kit>>, AllocError>
+        ensures { IfOk result (λ parts. HasPartsOf attr.now parts.items) }
+    {
+        match attr {
+            KitAttr::Identifier(name) => Ok(vec![in alloc; Part::Name(name.try_clone()?)]?),
+            KitAttr::Type(ty) => Ok(vec![in alloc; Part::Type(*ty)]?),
+            KitAttr::Integer(integer) => {
+                let number = Part::Number(Some(integer.number()));
+                let integer = integer.integer;
+                let width = Part::Width(integer.signedness, Some(integer.width));
+                Ok(vec![in alloc; number, width]?)
+            }
+        }
+    }
+
+    fn operation_parts(
+        alloc: Global,
+        ctx: &Context<Kit>,
+        op: Ptr<Operation>,
+    ) -> Result<Vec<Part<Kit>>, AllocError>
+        requires live { IsLiveOperation ctx.now op }
+    {
+        let attributes = op.attributes(ctx);
+        let mut parts = Vec::new(alloc);
+        if let Some(KitAttr::Identifier(name)) = attributes.get(SYMBOL_NAME) {
+            parts.push(Part::Name(name.try_clone()?))?;
+        }
+        if let Some(KitAttr::Type(ty)) = attributes.get(FUNCTION_TYPE) {
+            parts.push(Part::Type(*ty))?;
+        }
+        if let Some(attr) = attributes.get(CONSTANT_VALUE) {
+            parts.push(Part::Attribute(Kit::clone_attr(alloc, attr)?))?;
+        }
+        match op.kind(ctx) {
+            KitOp::Module => parts.push(Part::Region)?,
+            KitOp::Func => parts.push(Part::Region)?,
+            KitOp::Constant => {}
+            KitOp::Return => parts.push(Part::Operands(op.get_num_operands(ctx)))?,
+        }
+        Ok(parts)
+    }
+}

@@ -1,0 +1,13 @@
+//! The dialect `kit`: its kinds, types and attributes, their formats, and the rules of its modules.
+#![tactic(auto)]
+
+mod attributes;
+mod dialect;
+mod kinds;
+mod module_rules;
+mod shape;
+
+pub use attributes::{IntegerAttr, KitAttr, KitAttrKind, reread_bits};
+pub use dialect::Kit;
+pub use kinds::{FunctionType, IntegerType, KitOp, KitType, KitTypeKind};
+pub use module_rules::{RuleFault, rules};
