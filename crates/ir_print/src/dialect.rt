@@ -1,4 +1,5 @@
 //! What a dialect says of its texts.
+ghost use Rattle.std.specs.Prelude.{◌≡◌, ℕ, Bool, Option};
 ghost use Rattle.ir_store.specs.Context.{IsLiveOperation};
 ghost use Rattle.ir_store.specs.Marks.{IsSameTree};
 
@@ -44,8 +45,15 @@ pub trait TextDialect: Dialects {
 
     type AttrKind: Copy + Eq + Hash + Debug;
 
+    /// The kind of operations with a number.
+    ghost kind_at: { ℕ → Option Self.OpKind };
+
+    /// Whether the operations of a kind are isolated from above.
+    ghost isolated: { Self.OpKind → Bool };
+
     /// The kind with this number, from 0 on, of those that can be read. None stands behind the last.
-    fn op_kind_at(number: usize) -> Option<Self::OpKind>;
+    fn op_kind_at(number: usize) -> Option<Self::OpKind>
+        ensures { result ≡ kind_at number };
 
     fn type_kind_at(number: usize) -> Option<Self::TypeKind>;
 
@@ -66,7 +74,8 @@ pub trait TextDialect: Dialects {
     fn attr_format(kind: Self::AttrKind) -> &'static [Directive];
 
     /// Whether values outside of an operation of the kind can't be named in its regions.
-    fn is_isolated(kind: Self::OpKind) -> bool;
+    fn is_isolated(kind: Self::OpKind) -> bool
+        ensures { result ≡ isolated kind };
 
     fn type_kind(key: &Self::TypeKey) -> Self::TypeKind;
 

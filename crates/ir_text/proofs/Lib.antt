@@ -8,3 +8,12 @@ pub mod Ends
 pub mod Checks
 pub mod PlacingGrowth
 pub mod PlacingSizes
+pub mod Depths
+pub mod FirstFault
+pub mod Lacking
+pub mod Places
+pub mod Resolving
+pub mod Tables
+pub mod Walks
+pub mod Apart
+pub mod ScopeFronts

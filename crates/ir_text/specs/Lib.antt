@@ -4,3 +4,5 @@ pub mod Table
 pub mod Reading
 pub mod Run
 pub mod Faults
+pub mod Scopes
+pub mod Depth

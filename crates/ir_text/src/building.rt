@@ -195,6 +195,17 @@ impl<D: TextDialect> Builder<D> {
         Ok(parts)
     }
 
+    /// The parts from a base on.
+    fn waiting(&self, base: usize) -> &[Part<D>] {
+        &self.parts[base.min(self.parts.len())..]
+    }
+
+    /// Takes the parts from a base on off the stack, and their tokens.
+    fn drop_from(&mut self, base: usize) {
+        self.parts.truncate(base);
+        self.leaves.truncate(base);
+    }
+
     /// The fault that the part with this number above a base is refused.
     fn refused(&self, base: usize, number: usize) -> BuildFault {
         let place = match self.leaves.get(base.saturating_add(number)) {
@@ -220,11 +231,10 @@ impl<D: TextDialect> Builder<D> {
         let Some(kind) = D::type_kind_at(open.kind as usize) else {
             return Ok(());
         };
-        let parts = self.take(open.base)?;
-        match D::make_type(self.alloc, kind, &parts) {
+        match D::make_type(self.alloc, kind, self.waiting(open.base)) {
             Ok(key) => {
                 let ty = ctx.intern(key)?;
-                self.leaves.truncate(open.base);
+                self.drop_from(open.base);
                 self.put(Part::Type(ty), open.first)
             }
             Err(fault) => Err(self.made(open.base, fault)),
@@ -240,10 +250,9 @@ impl<D: TextDialect> Builder<D> {
         let Some(kind) = D::attr_kind_at(open.kind as usize) else {
             return Ok(());
         };
-        let parts = self.take(open.base)?;
-        match D::make_attr(self.alloc, ctx, kind, &parts) {
+        match D::make_attr(self.alloc, ctx, kind, self.waiting(open.base)) {
             Ok(attr) => {
-                self.leaves.truncate(open.base);
+                self.drop_from(open.base);
                 self.put(Part::Attribute(attr), open.first)
             }
             Err(fault) => Err(self.made(open.base, fault)),
@@ -276,12 +285,12 @@ impl<D: TextDialect> Builder<D> {
         let Some(open) = self.operations.pop() else {
             return Ok(());
         };
-        let parts = self.take(open.base)?;
-        let draft = match D::make_operation(self.alloc, ctx, open.kind, &parts) {
+        let parts = self.waiting(open.base);
+        let draft = match D::make_operation(self.alloc, ctx, open.kind, parts) {
             Ok(draft) => draft,
             Err(fault) => return Err(self.made(open.base, fault)),
         };
-        self.leaves.truncate(open.base);
+        self.drop_from(open.base);
         if open.results.len() != draft.result_types.len() {
             return Err(self.fault(FaultKind::ResultNames, open.first));
         }

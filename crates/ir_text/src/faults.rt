@@ -1,4 +1,6 @@
 //! The faults of a text.
+ghost use Rattle.std.specs.Prelude.{◌≡◌, ◌↔◌, IsTrue};
+ghost use Rattle.ir_text.specs.Faults.{row, Precedes, IsFirstOf};
 
 use ir_names::GrowError;
 use std::alloc::{AllocError, AllocFailed};
@@ -40,7 +42,9 @@ pub enum FaultKind {
 
 impl FaultKind {
     /// Where the kind stands in the order.
-    pub fn row(self) -> u8 {
+    pub fn row(self) -> u8
+        ensures { result ≡ row self }
+    {
         match self {
             FaultKind::Syntax => 0,
             FaultKind::Number => 1,
@@ -64,7 +68,9 @@ pub struct Fault {
 
 impl Fault {
     /// Whether this fault is named where both stand: by the tokens at which they are met, then by kind, then by place.
-    pub fn precedes(self, other: Fault) -> bool {
+    pub fn precedes(self, other: Fault) -> bool
+        ensures { IsTrue result ↔ Precedes self other }
+    {
         if self.met != other.met {
             return self.met < other.met;
         }
@@ -76,7 +82,9 @@ impl Fault {
 }
 
 /// Of two faults that may stand, the one that is named.
-pub fn first_of(a: Option<Fault>, b: Option<Fault>) -> Option<Fault> {
+pub fn first_of(a: Option<Fault>, b: Option<Fault>) -> Option<Fault>
+    ensures { IsFirstOf a b result }
+{
     match (a, b) {
         (None, _) => b,
         (_, None) => a,

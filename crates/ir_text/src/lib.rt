@@ -16,6 +16,7 @@
 
 mod building;
 mod check;
+mod depth;
 mod faults;
 pub mod grammar;
 pub mod laws;
@@ -24,6 +25,7 @@ mod reading;
 mod rules;
 mod scan;
 mod scopes;
+mod sites;
 mod syntax;
 mod table;
 #[cfg(test)]

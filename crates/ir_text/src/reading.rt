@@ -4,8 +4,9 @@ ghost use Rattle.ir_store.specs.Context.{IsLiveOperation};
 ghost use Rattle.ir_store.specs.Marks.{CanRewind, KeepsBelow, IsSameTree, mark_of};
 
 use crate::building::{BuildFault, Source, build};
+use crate::depth::{DEEPEST, too_deep};
 use crate::faults::{Fault, FaultKind, ScopeCause, TextFault, first_of};
-use crate::grammar::{Event, Reading, Stop};
+use crate::grammar::{Reading, Stop};
 use crate::placing::place;
 use crate::rules::{DialectGrammar, grammar_of};
 use crate::scopes::{Resolution, ScopeFault, resolve};
@@ -15,36 +16,6 @@ use crate::words::{classify, spelled};
 use ir_print::TextDialect;
 use ir_store::{Context, Operation, Ptr};
 use std::alloc::Global;
-
-/// Regions, types and attributes stand in one another at most so deep.
-const DEEPEST: usize = 64;
-
-/// The first token at which one more than 64 regions, types and attributes are open.
-fn too_deep(events: &[Event]) -> Option<Fault> {
-    let mut taken: usize = 0;
-    let mut depth: usize = 0;
-    for event in events {
-        match event {
-            Event::Took => taken = taken.saturating_add(1),
-            Event::Did(action) => {
-                if action.opens() {
-                    if depth >= DEEPEST {
-                        let token = taken.saturating_sub(1);
-                        return Some(Fault {
-                            kind: FaultKind::TooDeep,
-                            met: token,
-                            place: token,
-                        });
-                    }
-                    depth += 1;
-                } else if action.closes() {
-                    depth = depth.saturating_sub(1);
-                }
-            }
-        }
-    }
-    None
-}
 
 /// The fault that no text of the grammar goes on with the next token, of so many.
 fn syntax_fault(reading: &Reading, tokens: usize) -> Option<Fault> {

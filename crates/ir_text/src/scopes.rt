@@ -1,10 +1,18 @@
 //! Which definition each name of a text means.
 //!
-//! A region of an operation that is isolated from above opens a scope of values, each region one of labels. All
-//! definitions of a scope are collected, and at its end the names that were mentioned are looked up.
+//! All definitions of a scope count, wherever they stand in it, so first all names are collected, and then those that
+//! were mentioned are looked up.
+ghost use Rattle.std.specs.Prelude.{◌≡◌, ◌↔◌, ◌<◌, ℕ, Option, Some, IfOk, OnOk, MatchResult, true, length, nat_eq, slice_get, slice_set, slice_index};
+ghost use Rattle.std.specs.HashMap as hash;
+ghost use Rattle.std.specs.HashMap.{Updates};
+ghost use Rattle.std.specs.HashSet as bag;
+ghost use Rattle.ir_text.specs.declared.sites.Site.{Site};
+ghost use Rattle.ir_text.specs.Faults.{IsNamed};
+ghost use Rattle.ir_text.specs.Scopes.{isolated_at, name_of, same_key, fault_again, fault_unresolved, IsAgain, IsTable, AreLacking, EndsAmong, AreDistinct, AreApart, IsResolved, IsScopeFault};
 
-use crate::faults::{Fault, FaultKind};
-use crate::grammar::{Action, Event};
+use crate::faults::{Fault, FaultKind, first_of};
+use crate::grammar::Event;
+use crate::sites::{Closing, Site, Sites, sites_of};
 use ir_print::TextDialect;
 use std::alloc::{AllocError, AllocFailed, Global};
 use std::collections::{HashMap, HashSet};
@@ -26,234 +34,206 @@ pub enum ScopeFault {
 }
 
 impl From<AllocError> for ScopeFault {
+    ghost use Rattle.std.specs.Prelude.{◌≡◌};
+    ghost use Rattle.ir_text.specs.declared.scopes.ScopeFault.TheVariants.{Memory};
+
+    ghost from_gives = { λ _ e. e ≡ Memory };
+
     fn from(_error: AllocError) -> ScopeFault {
         ScopeFault::Memory
     }
 }
 
 impl<T: Drop> From<AllocFailed<T>> for ScopeFault {
+    ghost use Rattle.std.specs.Prelude.{◌≡◌};
+    ghost use Rattle.ir_text.specs.declared.scopes.ScopeFault.TheVariants.{Memory};
+
+    ghost from_gives = { λ _ e. e ≡ Memory };
+
     fn from(_error: AllocFailed<T>) -> ScopeFault {
         ScopeFault::Memory
     }
 }
 
-/// A scope of values.
+/// A number of each name in each scope.
+type Numbers = HashMap<(usize, usize), usize>;
+
+/// The names at some sites.
 #[derive(Drop)]
-struct Scope {
-    /// The brace that opens it, or the first token of the text.
-    opened: usize,
-    /// The number of each definition, by the number of its name.
-    values: HashMap<usize, usize>,
-    /// So many mentions stand outside of it, before it.
-    mentions: usize,
+struct Table {
+    /// The number of the first site of each name in each scope.
+    numbers: Numbers,
+    /// That a site has the name of an earlier one.
+    again: Option<Fault>,
 }
 
-/// A region that is being read.
-#[derive(Drop)]
-struct OpenRegion {
-    has_scope: bool,
-    labels: HashSet<usize>,
+/// The number of the token's name.
+fn name_of(names: &[usize], token: usize) -> usize
+    ensures { result ≡ name_of names.now token }
+{
+    match names.get(token) {
+        Some(name) => *name,
+        None => 0,
+    }
 }
 
-#[derive(Drop)]
-struct Resolver<'a> {
+/// The scope and the name of a site.
+fn key_of(names: &[usize], site: Site) -> (usize, usize)
+    ensures scope { result.0 ≡ site.scope }
+    ensures name { result.1 ≡ name_of names.now site.token }
+{
+    (site.scope, name_of(names, site.token))
+}
+
+/// The number that a table has.
+fn number_of(numbers: &Numbers, key: (usize, usize)) -> Option<usize>
+    ensures { result ≡ hash.get same_key numbers.now key }
+{
+    numbers.get(&key).copied()
+}
+
+fn fault_again(token: usize) -> Fault
+    ensures { result ≡ fault_again token }
+{
+    Fault {
+        kind: FaultKind::MultipleDefinitions,
+        met: token,
+        place: token,
+    }
+}
+
+fn fault_unresolved(closing: Closing) -> Fault
+    ensures { result ≡ fault_unresolved closing }
+{
+    Fault {
+        kind: FaultKind::UnresolvedReference,
+        met: closing.met,
+        place: closing.place,
+    }
+}
+
+/// The names at the sites, with the first fault that one stands at two of them in one scope.
+fn table_of(alloc: Global, names: &[usize], sites: &[Site]) -> Result<Table, AllocError>
+    ensures numbers { IfOk result (λ t. IsTable names.now sites.now t.numbers) }
+    ensures again { IfOk result (λ t. IsNamed (IsAgain names.now sites.now) t.again) }
+{
+    let mut numbers: Numbers = HashMap::new(alloc);
+    let mut again = None;
+    for (number, site) in sites.iter().enumerate() {
+        let key = key_of(names, *site);
+        match number_of(&numbers, key) {
+            Some(_) => again = first_of(again, Some(fault_again(site.token))),
+            None => {
+                numbers.insert(key, number)?;
+            }
+        }
+    }
+    Ok(Table { numbers, again })
+}
+
+/// The scopes in which a name is mentioned that the table doesn't have.
+fn lacking_scopes(
     alloc: Global,
-    /// The number of each token's name.
-    names: &'a [usize],
-    taken: usize,
-    scopes: Vec<Scope>,
-    regions: Vec<OpenRegion>,
-    /// Whether each operation that is being read is isolated.
-    isolated: Vec<bool>,
-    /// The tokens that mention values of scopes that are open.
-    mentions: Vec<usize>,
-    definitions: Vec<usize>,
-    count: usize,
+    names: &[usize],
+    mentions: &[Site],
+    numbers: &Numbers,
+) -> Result<HashSet<usize>, AllocError>
+    ensures { IfOk result (AreLacking names.now numbers.now mentions.now) }
+{
+    let mut lacking = HashSet::new(alloc);
+    for site in mentions {
+        let key = key_of(names, *site);
+        if number_of(numbers, key).is_none() {
+            lacking.insert(key.0)?;
+        }
+    }
+    Ok(lacking)
 }
 
-impl<'a> Resolver<'a> {
-    fn last(&self) -> usize {
-        self.taken.saturating_sub(1)
-    }
-
-    /// The number of the name of the token that was taken last.
-    fn name(&self) -> usize {
-        match self.names.get(self.last()) {
-            Some(name) => *name,
-            None => 0,
+/// The first fault that one of these scopes ends.
+fn lacking_fault(closings: &[Closing], lacking: &HashSet<usize>) -> Option<Fault>
+    ensures { IsNamed (EndsAmong lacking.now closings.now) result }
+{
+    let mut fault = None;
+    for closing in closings {
+        if lacking.contains(&closing.scope) {
+            fault = first_of(fault, Some(fault_unresolved(*closing)));
         }
     }
+    fault
+}
 
-    fn fault(&self, kind: FaultKind, place: usize) -> ScopeFault {
-        ScopeFault::Text(Fault {
-            kind,
-            met: self.last(),
-            place,
-        })
+/// Writes a number to the place of a token, if it has one.
+fn note(places: &mut [usize], token: usize, number: usize)
+    ensures { places.new ≡ slice_set places.old token number }
+{
+    if token < places.len() {
+        places[token] = number;
     }
+}
 
-    fn note(&mut self, token: usize, definition: usize) {
-        if let Some(place) = self.definitions.get_mut(token) {
-            *place = definition;
-        }
+/// Writes the number of each definition to the place of its token.
+fn note_definitions(places: &mut [usize], definitions: &[Site])
+    ensures { AreDistinct definitions.now → (j : ℕ) (s : Site) → slice_get definitions.now j ≡ Some s → s.token < length places.old → slice_index places.new s.token ≡ j }
+{
+    for (number, site) in definitions.iter().enumerate() {
+        note(places, site.token, number);
     }
+}
 
-    fn open_scope(&mut self, opened: usize) -> Result<(), ScopeFault> {
-        self.scopes.push(Scope {
-            opened,
-            values: HashMap::new(self.alloc),
-            mentions: self.mentions.len(),
-        })?;
-        Ok(())
-    }
-
-    /// Looks up what was mentioned in the innermost scope, and closes it.
-    fn close_scope(&mut self) -> Result<(), ScopeFault> {
-        let Some(scope) = self.scopes.pop() else {
-            return Ok(());
-        };
-        for index in scope.mentions..self.mentions.len() {
-            let Some(token) = self.mentions.get(index) else {
-                break;
-            };
-            let token = *token;
-            let Some(name) = self.names.get(token) else {
-                break;
-            };
-            let Some(definition) = scope.values.get(name) else {
-                return Err(self.fault(FaultKind::UnresolvedReference, scope.opened));
-            };
-            let definition = *definition;
-            self.note(token, definition);
-        }
-        self.mentions.truncate(scope.mentions);
-        Ok(())
-    }
-
-    /// The name that was taken last is a definition.
-    fn define(&mut self) -> Result<(), ScopeFault> {
-        let token = self.last();
-        let name = self.name();
-        let number = self.count;
-        if let Some(scope) = self.scopes.last_mut() {
-            if scope.values.contains_key(&name) {
-                return Err(self.fault(FaultKind::MultipleDefinitions, token));
-            }
-            scope.values.insert(name, number)?;
-        }
-        self.note(token, number);
-        self.count = number.saturating_add(1);
-        Ok(())
-    }
-
-    fn label(&mut self) -> Result<(), ScopeFault> {
-        let token = self.last();
-        let name = self.name();
-        if let Some(region) = self.regions.last_mut() {
-            if region.labels.contains(&name) {
-                return Err(self.fault(FaultKind::MultipleDefinitions, token));
-            }
-            region.labels.insert(name)?;
-        }
-        Ok(())
-    }
-
-    fn begin_region(&mut self) -> Result<(), ScopeFault> {
-        let has_scope = match self.isolated.last() {
-            Some(is_isolated) => *is_isolated,
-            None => false,
-        };
-        if has_scope {
-            self.open_scope(self.last())?;
-        }
-        self.regions.push(OpenRegion {
-            has_scope,
-            labels: HashSet::new(self.alloc),
-        })?;
-        Ok(())
-    }
-
-    fn end_region(&mut self) -> Result<(), ScopeFault> {
-        match self.regions.pop() {
-            Some(region) => {
-                if region.has_scope {
-                    self.close_scope()?;
-                }
-                Ok(())
-            }
-            None => Ok(()),
-        }
-    }
-
-    /// At the end of the root its own scope, outside of all regions, is closed.
-    fn end_operation(&mut self) -> Result<(), ScopeFault> {
-        let _ = self.isolated.pop();
-        if self.isolated.is_empty() {
-            self.close_scope()?;
-        }
-        Ok(())
-    }
-
-    fn step<D: TextDialect>(&mut self, action: Action) -> Result<(), ScopeFault> {
-        match action {
-            Action::Result => self.define(),
-            Action::Argument => self.define(),
-            Action::Label => self.label(),
-            Action::Operand => {
-                let token = self.last();
-                self.mentions.push(token)?;
-                Ok(())
-            }
-            Action::Operation(number) => {
-                self.isolated.push(is_isolated::<D>(number))?;
-                Ok(())
-            }
-            Action::EndOperation => self.end_operation(),
-            Action::BeginRegion => self.begin_region(),
-            Action::EndRegion => self.end_region(),
-            _ => Ok(()),
+/// Writes what the table has for each mention to the place of its token.
+fn note_mentions(places: &mut [usize], names: &[usize], mentions: &[Site], numbers: &Numbers)
+    ensures noted { AreDistinct mentions.now → (i j : ℕ) (m : Site) → slice_get mentions.now i ≡ Some m → hash.get same_key numbers.now (m.scope, name_of names.now m.token) ≡ Some j
+        → m.token < length places.old → slice_index places.new m.token ≡ j }
+    ensures kept { (k : ℕ) → ((i : ℕ) (m : Site) → slice_get mentions.now i ≡ Some m → m.token ≡ k → ⊥) → slice_index places.new k ≡ slice_index places.old k }
+{
+    for site in mentions {
+        match number_of(numbers, key_of(names, *site)) {
+            Some(number) => note(places, site.token, number),
+            None => {}
         }
     }
 }
 
-/// Whether operations of the kind with this number are isolated from above.
-fn is_isolated<D: TextDialect>(number: u32) -> bool {
-    match D::op_kind_at(number as usize) {
-        Some(kind) => D::is_isolated(kind),
-        None => false,
-    }
+/// For each token that names a value, the number of its definition.
+fn numbers_of(
+    alloc: Global,
+    names: &[usize],
+    sites: &Sites,
+    numbers: &Numbers,
+) -> Result<Vec<usize>, AllocError>
+    ensures defined { IfOk result (λ r. AreApart sites.now.definitions.items sites.now.mentions.items → (j : ℕ) (s : Site) → slice_get sites.now.definitions.items j ≡ Some s
+        → s.token < length names.now → slice_index r.items s.token ≡ j) }
+    ensures mentioned { IfOk result (λ r. AreDistinct sites.now.mentions.items → (i j : ℕ) (m : Site) → slice_get sites.now.mentions.items i ≡ Some m
+        → hash.get same_key numbers.now (m.scope, name_of names.now m.token) ≡ Some j → m.token < length names.now → slice_index r.items m.token ≡ j) }
+{
+    let mut places = vec![in alloc; 0usize; names.len()]?;
+    note_definitions(&mut places, &sites.definitions);
+    note_mentions(&mut places, names, &sites.mentions, numbers);
+    Ok(places)
 }
 
-/// What the names of a text mean, of which reading did this, or the first fault of its scopes.
+/// What the names of a text mean, of which reading did this, or the first fault of its names.
 ///
-/// `names` has a number for each token; two have the same where they are spelled alike.
+/// `names` has a number for each token; two have the same where they are spelled alike. The text may be unfinished:
+/// then the scopes that are still open have no fault yet.
 pub fn resolve<D: TextDialect>(
     alloc: Global,
     names: &[usize],
     events: &[Event],
-) -> Result<Resolution, ScopeFault> {
-    let mut resolver = Resolver {
-        alloc,
-        names,
-        taken: 0,
-        scopes: Vec::new(alloc),
-        regions: Vec::new(alloc),
-        isolated: Vec::new(alloc),
-        mentions: Vec::new(alloc),
-        definitions: vec![in alloc; 0usize; names.len()]?,
-        count: 0,
-    };
-    resolver.open_scope(0)?;
-    for event in events {
-        match event {
-            Event::Took => resolver.taken = resolver.taken.saturating_add(1),
-            Event::Did(action) => resolver.step::<D>(*action)?,
-        }
+) -> Result<Resolution, ScopeFault>
+    ensures { MatchResult result (IsResolved (isolated_at D.kind_at D.isolated) names.now events.now) (IsScopeFault (isolated_at D.kind_at D.isolated) names.now events.now) }
+{
+    let sites = sites_of::<D>(alloc, events)?;
+    let labels = table_of(alloc, names, &sites.labels)?;
+    let values = table_of(alloc, names, &sites.definitions)?;
+    let lacking = lacking_scopes(alloc, names, &sites.mentions, &values.numbers)?;
+    let unresolved = lacking_fault(&sites.closings, &lacking);
+    match first_of(values.again, first_of(labels.again, unresolved)) {
+        Some(fault) => Err(ScopeFault::Text(fault)),
+        None => Ok(Resolution {
+            definitions: numbers_of(alloc, names, &sites, &values.numbers)?,
+            count: sites.definitions.len(),
+        }),
     }
-    let Resolver {
-        definitions,
-        count,
-        ..
-    } = resolver;
-    Ok(Resolution { definitions, count })
 }

@@ -1,5 +1,5 @@
 -- The kinds of `kit`, in the order of their numbers, and what each is of.
-use Rattle.std.specs.Prelude.{ℕ, List, [], ◌∷◌, Option, Some, None, codes}
+use Rattle.std.specs.Prelude.{ℕ, Bool, true, false, List, [], ◌∷◌, Option, Some, None, codes}
 use Rattle.ir_names.specs.declared.kinds.TypeHandle.{TypeHandle}
 use Rattle.kit_dialect.specs.declared.kinds.KitOp.{KitOp}
 use Rattle.kit_dialect.specs.declared.kinds.KitOp.TheVariants.{Module, Func, Constant, Return}
@@ -15,6 +15,13 @@ use Rattle.kit_dialect.specs.declared.attributes.KitAttrKind.TheVariants as attr
 -- the kinds of operations that can be read, by number
 abbrev pub read_ops : List KitOp
 read_ops = Module ∷ Func ∷ Constant ∷ Return ∷ []
+
+-- modules and functions are isolated from above
+abbrev pub is_isolated_kind : KitOp → Bool
+is_isolated_kind Module = true
+is_isolated_kind Func = true
+is_isolated_kind Constant = false
+is_isolated_kind Return = false
 
 -- the kinds of types that can be read, by number
 abbrev pub read_types : List KitTypeKind

@@ -4,7 +4,7 @@ ghost use Rattle.ir_names.specs.Text.{is_identifier};
 ghost use Rattle.ir_store.specs.Context.{IsLiveOperation};
 ghost use Rattle.ir_store.specs.Marks.{IsSameTree};
 ghost use Rattle.kit_dialect.specs.declared.kinds.KitOp.TheVariants.{Module, Func};
-ghost use Rattle.kit_dialect.specs.Kinds.{read_ops, read_types, read_attrs, name_of_op, name_of_type, name_of_attr, kind_of_type, kind_of_attr, type_of_attr};
+ghost use Rattle.kit_dialect.specs.Kinds.{read_ops, is_isolated_kind, read_types, read_attrs, name_of_op, name_of_type, name_of_attr, kind_of_type, kind_of_attr, type_of_attr};
 ghost use Rattle.kit_dialect.specs.Numbers.{HasFittingBits, IsFittingInteger};
 ghost use Rattle.kit_dialect.specs.Parts.{number_part, integer_part, integer_parts, HasPartsOf, IsSameInteger};
 ghost use Rattle.kit_dialect.specs.declared.attributes.IntegerAttr.{IntegerAttr};
@@ -211,6 +211,10 @@ impl TextDialect for Kit {
 
     type AttrKind = KitAttrKind;
 
+    ghost kind_at = { slice_get read_ops };
+
+    ghost isolated = { is_isolated_kind };
+
     fn op_kind_at(number: usize) -> Option<KitOp>
         ensures { result ≡ slice_get read_ops number }
     {
@@ -300,7 +304,7 @@ impl TextDialect for Kit {
     }
 
     fn is_isolated(kind: KitOp) -> bool
-        ensures { IsTrue result ↔ ((kind ≡ Module) ⊎ (kind ≡ Func)) }
+        ensures { result ≡ is_isolated_kind kind }
     {
         match kind {
             KitOp::Module => true,

@@ -11,3 +11,6 @@ pub use attributes::{IntegerAttr, KitAttr, KitAttrKind, reread_bits};
 pub use dialect::Kit;
 pub use kinds::{FunctionType, IntegerType, KitOp, KitType, KitTypeKind};
 pub use module_rules::{RuleFault, rules};
+
+#[cfg(test)]
+mod tests;

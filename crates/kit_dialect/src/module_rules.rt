@@ -11,13 +11,12 @@ use crate::dialect::Kit;
 use crate::kinds::KitOp;
 use crate::shape::{
     entry_block, fits_format, function_type, has_empty_block, has_function_body, has_module_body,
-    has_operand_types, has_value_arguments, has_value_results, is_last, parent_op, stands_in,
-    symbol_name,
+    has_value_arguments, has_value_results, is_last, parent_op, stands_in, symbol_name,
 };
-use ir_names::Place;
+use ir_names::{Place, TypeHandle};
 use ir_store::{BasicBlock, Context, DefiningEntity, Operation, Ptr, Region, Value};
 use std::alloc::{AllocError, AllocFailed, Global};
-use std::collections::HashSet;
+use std::collections::{HashMap, HashSet};
 use thiserror::Error;
 
 /// Why a tree isn't a module that can be used.
@@ -67,8 +66,8 @@ struct Node {
 /// What has been seen of a tree on a walk in the order of the text.
 #[derive(Drop)]
 struct Seen<'a> {
-    /// The operations that were visited.
-    visited: HashSet<Ptr<Operation>>,
+    /// The types of the results of operations that were visited, and of the arguments of their blocks.
+    types: HashMap<Value, TypeHandle>,
     /// The names in each block of a module that was visited.
     names: HashSet<(Ptr<BasicBlock>, &'a str)>,
 }
@@ -121,22 +120,6 @@ fn breaks_blocks(ctx: &Context<Kit>, root: Ptr<Operation>, op: Ptr<Operation>) -
         return true;
     }
     op != root && stands_in(ctx, op, KitOp::Func) && is_last(ctx, op) != kind.is_terminator()
-}
-
-/// What leaves a function has the types of its results.
-fn breaks_return(ctx: &Context<Kit>, root: Ptr<Operation>, op: Ptr<Operation>) -> bool
-    requires { IsLiveOperation ctx.now op }
-{
-    if op.kind(ctx) != KitOp::Return || op == root {
-        return false;
-    }
-    let Some(parent) = parent_op(ctx, op) else {
-        return false;
-    };
-    match function_type(ctx, parent) {
-        Some(function) => !has_operand_types(ctx, op, &function.results),
-        None => false,
-    }
 }
 
 /// A constant's value is an integer of its result's type.
@@ -201,7 +184,7 @@ impl<'a> Seen<'a> {
         let (defining, is_earlier) = match value.definer() {
             DefiningEntity::Block(defining) => (defining, true),
             DefiningEntity::Op(definer) => match definer.get_parent_block(ctx) {
-                Some(defining) => (defining, self.visited.contains(&definer)),
+                Some(defining) => (defining, self.types.contains_key(&value)),
                 None => return false,
             },
         };
@@ -212,6 +195,89 @@ impl<'a> Seen<'a> {
             Some(region) => entry_block(ctx, region) == Some(defining),
             None => false,
         }
+    }
+
+    /// What leaves a function has the types of its results.
+    fn breaks_return(&self, ctx: &Context<Kit>, root: Ptr<Operation>, op: Ptr<Operation>) -> bool
+        requires { IsLiveOperation ctx.now op }
+    {
+        if op.kind(ctx) != KitOp::Return || op == root {
+            return false;
+        }
+        let Some(parent) = parent_op(ctx, op) else {
+            return false;
+        };
+        match function_type(ctx, parent) {
+            Some(function) => !self.has_operand_types(ctx, op, &function.results),
+            None => false,
+        }
+    }
+
+    /// Whether an operation has operands of these types, which were seen before it.
+    fn has_operand_types(
+        &self,
+        ctx: &Context<Kit>,
+        op: Ptr<Operation>,
+        types: &[TypeHandle],
+    ) -> bool
+        requires { IsLiveOperation ctx.now op }
+    {
+        if op.get_num_operands(ctx) != types.len() {
+            return false;
+        }
+        for (index, ty) in types.iter().enumerate() {
+            if index < op.get_num_operands(ctx)
+                && self.types.get(&op.get_operand(ctx, index)) != Some(ty)
+            {
+                return false;
+            }
+        }
+        true
+    }
+
+    /// The values that an operation defines, and those of its blocks, have been seen.
+    fn note_values(&mut self, ctx: &Context<Kit>, op: Ptr<Operation>) -> Result<(), RuleFault>
+        requires { IsLiveOperation ctx.now op }
+    {
+        for index in 0..op.get_num_results(ctx) {
+            self.types
+                .insert(op.get_result(ctx, index), op.get_type(ctx, index))?;
+        }
+        self.note_regions(ctx, op)
+    }
+
+    fn note_regions(&mut self, ctx: &Context<Kit>, op: Ptr<Operation>) -> Result<(), RuleFault>
+        requires { IsLiveOperation ctx.now op }
+    {
+        for index in 0..op.num_regions(ctx) {
+            self.note_blocks(ctx, op.get_region(ctx, index))?;
+        }
+        Ok(())
+    }
+
+    fn note_blocks(&mut self, ctx: &Context<Kit>, region: Ptr<Region>) -> Result<(), RuleFault>
+        requires { IsLiveRegion ctx.now region }
+    {
+        for index in 0..region.num_blocks(ctx) {
+            self.note_arguments(ctx, region.get_block(ctx, index))?;
+        }
+        Ok(())
+    }
+
+    fn note_arguments(
+        &mut self,
+        ctx: &Context<Kit>,
+        block: Ptr<BasicBlock>,
+    ) -> Result<(), RuleFault>
+        requires { IsLiveBlock ctx.now block }
+    {
+        for index in 0..block.get_num_arguments(ctx) {
+            self.types.insert(
+                block.get_argument(ctx, index),
+                block.argument_type(ctx, index),
+            )?;
+        }
+        Ok(())
     }
 
     /// The smallest number of a rule that an operation breaks, above all that are greater than the last.
@@ -245,7 +311,7 @@ impl<'a> Seen<'a> {
             6
         } else if self.breaks_operands(ctx, op) {
             7
-        } else if breaks_return(ctx, root, op) {
+        } else if self.breaks_return(ctx, root, op) {
             11
         } else if breaks_constant(ctx, op) {
             12
@@ -395,7 +461,7 @@ fn visit(
     requires { AreLive ctx.now walk.old.nodes.items }
 {
     let mut seen = Seen {
-        visited: HashSet::new(alloc),
+        types: HashMap::new(alloc),
         names: HashSet::new(alloc),
     };
     let mut verdict = Verdict {
@@ -411,7 +477,7 @@ fn visit(
         if rule < verdict.rule {
             verdict = Verdict { rule, node };
         }
-        seen.visited.insert(op)?;
+        seen.note_values(ctx, op)?;
         walk.wait(ctx, node, op)?;
     }
     Ok(verdict)

@@ -82,23 +82,6 @@ fn has_argument_types(ctx: &Context<Kit>, block: Ptr<BasicBlock>, types: &[TypeH
     true
 }
 
-/// Whether an operation has operands of these types.
-pub fn has_operand_types(ctx: &Context<Kit>, op: Ptr<Operation>, types: &[TypeHandle]) -> bool
-    requires { IsLiveOperation ctx.now op }
-{
-    if op.get_num_operands(ctx) != types.len() {
-        return false;
-    }
-    for (index, ty) in types.iter().enumerate() {
-        if index < op.get_num_operands(ctx)
-            && op.get_operand(ctx, index).get_type(ctx) != Some(*ty)
-        {
-            return false;
-        }
-    }
-    true
-}
-
 /// The first region of an operation.
 fn first_region(ctx: &Context<Kit>, op: Ptr<Operation>) -> Option<Ptr<Region>>
     requires { IsLiveOperation ctx.now op }
