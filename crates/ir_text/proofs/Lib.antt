@@ -17,6 +17,3 @@ pub mod Tables
 pub mod Walks
 pub mod Apart
 pub mod ScopeFronts
-pub mod Makes
-pub mod Predictable
-pub mod Spelled

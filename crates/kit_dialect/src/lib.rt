@@ -6,7 +6,6 @@ mod dialect;
 mod kinds;
 mod module_rules;
 mod shape;
-mod table;
 
 pub use attributes::{IntegerAttr, KitAttr, KitAttrKind, reread_bits};
 pub use dialect::Kit;
