@@ -1,5 +1,6 @@
 //! What a dialect says of its texts.
-ghost use Rattle.std.specs.Prelude.{◌≡◌, ℕ, Bool, Option};
+ghost use Rattle.std.specs.Prelude.{◌≡◌, ℕ, Bool, Option, true, slice_get, option_map};
+ghost use Rattle.ir_print.specs.Formats.{Formats, Kind, is_small, steps_of};
 ghost use Rattle.ir_store.specs.Context.{IsLiveOperation};
 ghost use Rattle.ir_store.specs.Marks.{IsSameTree};
 
@@ -51,27 +52,44 @@ pub trait TextDialect: Dialects {
     /// Whether the operations of a kind are isolated from above.
     ghost isolated: { Self.OpKind → Bool };
 
+    ghost formats: { Formats };
+
+    ghost op_text: { Self.OpKind → Kind };
+
+    ghost type_text: { Self.TypeKind → Kind };
+
+    ghost attr_text: { Self.AttrKind → Kind };
+
     /// The kind with this number, from 0 on, of those that can be read. None stands behind the last.
     fn op_kind_at(number: usize) -> Option<Self::OpKind>
-        ensures { result ≡ kind_at number };
+        ensures kind { result ≡ kind_at number }
+        ensures text { option_map op_text result ≡ slice_get formats.operations number };
 
-    fn type_kind_at(number: usize) -> Option<Self::TypeKind>;
+    fn type_kind_at(number: usize) -> Option<Self::TypeKind>
+        ensures { option_map type_text result ≡ slice_get formats.types number };
 
-    fn attr_kind_at(number: usize) -> Option<Self::AttrKind>;
+    fn attr_kind_at(number: usize) -> Option<Self::AttrKind>
+        ensures { option_map attr_text result ≡ slice_get formats.attributes number };
 
     /// The dotted name with which an operation of the kind is printed and read.
-    fn op_id(kind: Self::OpKind) -> &'static str;
+    fn op_id(kind: Self::OpKind) -> &'static str
+        ensures { result.now ≡ (op_text kind).id };
 
-    fn type_id(kind: Self::TypeKind) -> &'static str;
+    fn type_id(kind: Self::TypeKind) -> &'static str
+        ensures { result.now ≡ (type_text kind).id };
 
-    fn attr_id(kind: Self::AttrKind) -> &'static str;
+    fn attr_id(kind: Self::AttrKind) -> &'static str
+        ensures { result.now ≡ (attr_text kind).id };
 
     /// What follows the id.
-    fn op_format(kind: Self::OpKind) -> &'static [Directive];
+    fn op_format(kind: Self::OpKind) -> &'static [Directive]
+        ensures { steps_of result.now ≡ (op_text kind).format };
 
-    fn type_format(kind: Self::TypeKind) -> &'static [Directive];
+    fn type_format(kind: Self::TypeKind) -> &'static [Directive]
+        ensures { steps_of result.now ≡ (type_text kind).format };
 
-    fn attr_format(kind: Self::AttrKind) -> &'static [Directive];
+    fn attr_format(kind: Self::AttrKind) -> &'static [Directive]
+        ensures { steps_of result.now ≡ (attr_text kind).format };
 
     /// Whether values outside of an operation of the kind can't be named in its regions.
     fn is_isolated(kind: Self::OpKind) -> bool
@@ -121,4 +139,6 @@ pub trait TextDialect: Dialects {
         op: Ptr<Operation>,
     ) -> Result<Vec<Part<Self>>, AllocError>
         requires live { IsLiveOperation ctx.now op };
+
+    ghost few: { is_small formats ≡ true };
 }

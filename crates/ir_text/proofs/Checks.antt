@@ -15,7 +15,7 @@ use Rattle.ir_text.specs.Table.{IsKnown, IsBelow, chosen, closing_of}
 pub item_drop : (body : List Symbol) (i : ℕ) (d s : Symbol) → i < length body → get_or body i d ≡ s → drop i body ≡ s ∷ drop (i + 1) body
 item_drop body i d s lt e = drop-cons body i d lt ∙ (ap (λ x. x ∷ drop (suc i) body) e ∙ ap (λ n. s ∷ drop n body) (sym (add-one i)))
 
-known_by_cases : (xs : List Facts) (n : ℕ) → n < length xs → (f : Facts) × (slice_get xs n ≡ Some f)
+pub known_by_cases : (xs : List Facts) (n : ℕ) → n < length xs → (f : Facts) × (slice_get xs n ≡ Some f)
 known_by_cases [] n lt = absurd (omega arith)
 known_by_cases (x ∷ xs) zero lt = (x, refl)
 known_by_cases (x ∷ xs) (suc n) lt = known_by_cases xs n (omega arith)

@@ -17,3 +17,6 @@ pub mod Tables
 pub mod Walks
 pub mod Apart
 pub mod ScopeFronts
+pub mod Makes
+pub mod Predictable
+pub mod Spelled

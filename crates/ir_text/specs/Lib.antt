@@ -6,3 +6,9 @@ pub mod Run
 pub mod Faults
 pub mod Scopes
 pub mod Depth
+pub mod Rules
+pub mod Making
+pub mod Predicting
+pub mod Given
+pub mod Words
+pub mod Spelling

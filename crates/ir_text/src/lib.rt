@@ -18,6 +18,7 @@ mod building;
 mod check;
 mod depth;
 mod faults;
+mod given;
 pub mod grammar;
 pub mod laws;
 mod placing;
@@ -34,6 +35,8 @@ pub mod tokens;
 mod words;
 
 pub use faults::{ScopeCause, TextFault};
+pub use given::{PartTable, ReadDialect};
 pub use grammar::{Action, Class, Event, Facts, Grammar, Reading, Rule, Stop, Symbol};
 pub use reading::top_level_parse;
+pub use rules::table_of;
 pub use tokens::{Token, TokenKind, place_after, tokens_of};

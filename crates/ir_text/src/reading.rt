@@ -6,6 +6,7 @@ ghost use Rattle.ir_store.specs.Marks.{CanRewind, KeepsBelow, IsSameTree, mark_o
 use crate::building::{BuildFault, Source, build};
 use crate::depth::{DEEPEST, too_deep};
 use crate::faults::{Fault, FaultKind, ScopeCause, TextFault, first_of};
+use crate::given::ReadDialect;
 use crate::grammar::{Reading, Stop};
 use crate::placing::place;
 use crate::rules::{DialectGrammar, grammar_of};
@@ -60,7 +61,7 @@ fn told(source: Source, fault: Fault) -> TextFault {
 /// stands in no block, or the fault that is met first: what is no text of the dialect's grammar, what is nested deeper
 /// than 64 levels, and names that are defined twice or not at all. After a fault no operation, region or block is
 /// left of the text. Takes time in proportion to the text.
-pub fn top_level_parse<D: TextDialect>(
+pub fn top_level_parse<D: ReadDialect>(
     alloc: Global,
     ctx: &mut Context<D>,
     chars: &[char],
@@ -77,7 +78,7 @@ pub fn top_level_parse<D: TextDialect>(
     outcome
 }
 
-fn parse<D: TextDialect>(
+fn parse<D: ReadDialect>(
     alloc: Global,
     ctx: &mut Context<D>,
     chars: &[char],
@@ -94,9 +95,6 @@ fn parse<D: TextDialect>(
     };
     let words = spelled(alloc, &language.words)?;
     let classified = classify(alloc, &words, chars, &tokens)?;
-    if !language.grammar.can_read(0) {
-        return Err(TextFault::Syntax(1, 1));
-    }
     let reading = language.grammar.read(alloc, 0, DEEPEST, &classified.kinds)?;
     understand(alloc, ctx, source, &classified.names, &reading)
 }

@@ -1,6 +1,13 @@
 //! The grammar of a dialect's texts, made from its formats.
+ghost use Rattle.std.specs.Prelude.{◌≡◌, ◌∷◌, [], ◌++◌, OnOk, IfOk, IfSome, length, min, ◌+◌, slice_get, option_map, codes};
+ghost use Rattle.ir_print.specs.Formats.{operands, step_of, steps_of};
+ghost use Rattle.ir_text.specs.Rules.{up, texts, number_of, with_word, with_words, words_in, words_in_step, words_of, words_of_kinds, frame_words, sign, may_be_name, takes, class_of, classes_of, several, step_made, steps_made, kind_made, kinds_made, kinds_of, part_of, begin_of, end_of, operation_rules, region_rules, block_rules, argument_rules, rules_of, parts_of, plain_rule, plain_rules, plain_classes};
+ghost use Rattle.ir_text.specs.Table.{CanRead};
+ghost use Rattle.ir_text.specs.Words.{shape_number};
+ghost use Rattle.ir_text.specs.Making.{kind_of, Adds, AddsRules, AddsMade};
 
-use crate::grammar::{Action, Class, Grammar, Rule, Symbol};
+use crate::given::{ReadDialect, facts_of};
+use crate::grammar::{Action, Class, Facts, Grammar, Rule, Symbol};
 use ir_names::Identifier;
 use ir_print::{Directive, TextDialect};
 use std::alloc::{AllocError, Global};
@@ -22,7 +29,9 @@ pub const SHAPES: usize = 5;
 
 impl Shape {
     /// The kind of tokens of this shape.
-    pub fn kind(self) -> u32 {
+    pub fn kind(self) -> u32
+        ensures { result ≡ shape_number self }
+    {
         match self {
             Shape::Name => 0,
             Shape::Width => 1,
@@ -75,6 +84,9 @@ const ATTRIBUTE: u32 = 13;
 /// The first part of a list.
 const FIRST_LIST: u32 = 14;
 
+/// The words that no format gives.
+const FRAME_WORDS: [&str; 9] = [",", "=", "{", "}", ";", "^", "(", ")", ":"];
+
 /// A dialect has at most so many kinds of operations, types or attributes that can be read.
 const KINDS: usize = 256;
 
@@ -86,89 +98,235 @@ pub struct DialectGrammar {
     pub words: Vec<&'static str>,
 }
 
+/// What is read by formats.
+#[derive(Clone, Copy, PartialEq, Eq)]
+enum Sort {
+    Operation,
+    Type,
+    Attribute,
+}
+
+impl Sort {
+    fn part(self) -> u32
+        ensures { result ≡ part_of self }
+    {
+        match self {
+            Sort::Operation => BODY,
+            Sort::Type => TYPE,
+            Sort::Attribute => ATTRIBUTE,
+        }
+    }
+
+    /// What is done behind the id of a kind.
+    fn begin(self, number: u32) -> Action
+        ensures { result ≡ begin_of self number }
+    {
+        match self {
+            Sort::Operation => Action::Operation(number),
+            Sort::Type => Action::BeginType(number),
+            Sort::Attribute => Action::BeginAttribute(number),
+        }
+    }
+
+    /// What is done at the end of a text of a kind.
+    fn end(self) -> Action
+        ensures { result ≡ end_of self }
+    {
+        match self {
+            Sort::Operation => Action::EndOperation,
+            Sort::Type => Action::EndType,
+            Sort::Attribute => Action::EndAttribute,
+        }
+    }
+}
+
+/// What the texts of a kind are made of.
+#[derive(Clone, Copy)]
+struct KindText {
+    id: &'static str,
+    format: &'static [Directive],
+}
+
+/// The kind of a sort with this number, from 0 on.
+fn kind_at<D: TextDialect>(sort: Sort, number: usize) -> Option<KindText>
+    ensures { option_map kind_of result ≡ slice_get (kinds_of D.formats sort) number }
+{
+    match sort {
+        Sort::Operation => {
+            let kind = D::op_kind_at(number)?;
+            Some(KindText {
+                id: D::op_id(kind),
+                format: D::op_format(kind),
+            })
+        }
+        Sort::Type => {
+            let kind = D::type_kind_at(number)?;
+            Some(KindText {
+                id: D::type_id(kind),
+                format: D::type_format(kind),
+            })
+        }
+        Sort::Attribute => {
+            let kind = D::attr_kind_at(number)?;
+            Some(KindText {
+                id: D::attr_id(kind),
+                format: D::attr_format(kind),
+            })
+        }
+    }
+}
+
+/// The place of a word among words, or their number where it is none of them.
+fn number_of(words: &[&'static str], text: &str) -> usize
+    ensures { result ≡ number_of (texts words.now) text.now }
+{
+    for index in 0..words.len() {
+        if text == words[index] {
+            return index;
+        }
+    }
+    words.len()
+}
+
+fn add_word(words: &mut Vec<&'static str>, text: &'static str) -> Result<(), AllocError>
+    ensures { OnOk result (texts words.new.items ≡ with_word (texts words.old.items) text.now) }
+{
+    if number_of(words, text) == words.len() {
+        words.push(text)?;
+    }
+    Ok(())
+}
+
+fn add_words(words: &mut Vec<&'static str>, more: &[&'static str]) -> Result<(), AllocError>
+    ensures { OnOk result (texts words.new.items ≡ with_words (texts words.old.items) (texts more.now)) }
+{
+    for word in more {
+        add_word(words, word)?;
+    }
+    Ok(())
+}
+
+/// Adds the words of a format.
+#[cycle(words)]
+fn add_format(words: &mut Vec<&'static str>, format: &[Directive]) -> Result<(), AllocError>
+    ensures { OnOk result (texts words.new.items ≡ with_words (texts words.old.items) (words_in (steps_of format.now))) }
+{
+    for directive in format {
+        add_directive(words, *directive)?;
+    }
+    Ok(())
+}
+
+#[cycle(words)]
+fn add_directive(words: &mut Vec<&'static str>, directive: Directive) -> Result<(), AllocError>
+    ensures { OnOk result (texts words.new.items ≡ with_words (texts words.old.items) (words_in_step (step_of directive))) }
+{
+    match directive {
+        Directive::Literal(text) => add_word(words, text.trim())?,
+        Directive::Operands => add_word(words, ",")?,
+        Directive::SymbolHeader => add_word(words, "@")?,
+        Directive::List(member, separator) => {
+            add_word(words, separator.trim())?;
+            add_format(words, member)?;
+        }
+        Directive::Attribute => {}
+        Directive::Type => {}
+        Directive::Region => {}
+        Directive::Name => {}
+        Directive::Number => {}
+        Directive::Width => {}
+    }
+    Ok(())
+}
+
+/// Adds the ids of the kinds of a sort, and the words of their formats.
+fn add_kinds<D: TextDialect>(words: &mut Vec<&'static str>, sort: Sort) -> Result<(), AllocError>
+    ensures { OnOk result (texts words.new.items ≡ with_words (texts words.old.items) (words_of_kinds (kinds_of D.formats sort))) }
+{
+    for number in 0..KINDS {
+        let Some(kind) = kind_at::<D>(sort, number) else {
+            return Ok(());
+        };
+        add_word(words, kind.id)?;
+        add_format(words, kind.format)?;
+    }
+    Ok(())
+}
+
+/// The words of a dialect's grammar, each once.
+fn words_of<D: TextDialect>(alloc: Global) -> Result<Vec<&'static str>, AllocError>
+    ensures { IfOk result (λ words. texts words.items ≡ words_of D.formats) }
+{
+    let mut words: Vec<&'static str> = Vec::new(alloc);
+    add_words(&mut words, &FRAME_WORDS)?;
+    add_kinds::<D>(&mut words, Sort::Operation)?;
+    add_kinds::<D>(&mut words, Sort::Type)?;
+    add_kinds::<D>(&mut words, Sort::Attribute)?;
+    Ok(words)
+}
+
 /// Rules in the making.
 #[derive(Drop)]
 struct RuleMaker {
     alloc: Global,
-    rules: Vec<Rule>,
     words: Vec<&'static str>,
+    rules: Vec<Rule>,
     /// The part of the next list.
     next_list: u32,
 }
 
-fn small(number: usize) -> u32 {
-    if number < 65536 { number as u32 } else { 65536 }
-}
-
 impl RuleMaker {
-    /// The sign of a word, which may be written with spaces around it.
-    fn word(&mut self, text: &'static str) -> Result<Symbol, AllocError> {
-        let word = text.trim();
-        let mut number = self.words.len();
-        for (index, known) in self.words.iter().enumerate() {
-            if *known == word {
-                number = index;
-            }
+    /// The sign of a word.
+    fn sign(&self, word: &str) -> Symbol
+        ensures { result ≡ sign (texts self.now.words.items) word.now }
+    {
+        let number = number_of(&self.words, word);
+        let most = (u32::MAX - FIRST_WORD_SIGN) as usize;
+        if number < most {
+            Symbol::Sign(number as u32 + FIRST_WORD_SIGN)
+        } else {
+            Symbol::Sign(u32::MAX)
         }
-        if number == self.words.len() {
-            self.words.push(word)?;
-        }
-        Ok(Symbol::Sign(FIRST_WORD_SIGN.saturating_add(small(number))))
     }
 
-    fn rule(&mut self, part: u32, symbols: &[Symbol]) -> Result<(), AllocError> {
+    fn rule(&mut self, part: u32, symbols: &[Symbol]) -> Result<(), AllocError>
+        ensures { OnOk result (AddsRules self.old self.new ((part, symbols.now) ∷ []) self.old.next_list) }
+    {
         let body = Vec::from_slice(self.alloc, symbols)?;
         self.rules.push(Rule { part, body })?;
         Ok(())
     }
 
-    /// A part of its own for a list, and one for what follows a member.
-    fn list_parts(&mut self) -> (u32, u32) {
+    /// The part of the next list; what follows a member of it has the part behind it.
+    fn list_part(&mut self) -> u32
+        ensures part { result ≡ self.old.next_list }
+        ensures next { AddsRules self.old self.new [] (up self.old.next_list 2) }
+    {
         let list = self.next_list;
         self.next_list = list.saturating_add(2);
-        (list, list.saturating_add(1))
+        list
     }
 
-    /// Names of values, none or more, with commas between them.
-    fn operands(&mut self) -> Result<u32, AllocError> {
-        let (list, more) = self.list_parts();
-        let comma = self.word(",")?;
-        let operand = [
-            comma,
-            Symbol::Sign(NAME_SIGN),
-            Symbol::Act(Action::Operand),
-            Symbol::Part(more),
-        ];
-        self.rule(list, &[])?;
-        self.rule(list, &operand[1..])?;
-        self.rule(more, &[])?;
-        self.rule(more, &operand)?;
-        Ok(list)
-    }
-
-    /// Members, none or more, with a literal between them.
-    #[cycle(formats)]
-    fn list(&mut self, member: &[Directive], separator: &'static str) -> Result<u32, AllocError> {
-        let (list, more) = self.list_parts();
+    /// Adds the rules of a list of members, none or more, with a separator between two.
+    fn several(&mut self, list: u32, separator: Symbol, member: &[Symbol]) -> Result<(), AllocError>
+        ensures { OnOk result (AddsRules self.old self.new (several list separator member.now) self.old.next_list) }
+    {
+        let more = list.saturating_add(1);
         let mut symbols = Vec::new(self.alloc);
-        symbols.push(self.word(separator)?)?;
-        self.format(&mut symbols, member)?;
-        symbols.push(Symbol::Act(Action::Item))?;
+        symbols.push(separator)?;
+        symbols.extend_from_slice(member)?;
         symbols.push(Symbol::Part(more))?;
         self.rule(list, &[])?;
         self.rule(list, &symbols[1..])?;
         self.rule(more, &[])?;
-        self.rule(more, &symbols)?;
-        Ok(list)
+        self.rule(more, &symbols)
     }
 
     /// Puts what a format stands for behind these symbols.
     #[cycle(formats)]
-    fn format(
-        &mut self,
-        symbols: &mut Vec<Symbol>,
-        format: &[Directive],
-    ) -> Result<(), AllocError> {
+    fn format(&mut self, symbols: &mut Vec<Symbol>, format: &[Directive]) -> Result<(), AllocError>
+        ensures { OnOk result (Adds self.old self.new symbols.old.items symbols.new.items (steps_made (texts self.old.words.items) (steps_of format.now) self.old.next_list)) }
+    {
         for directive in format {
             self.directive(symbols, *directive)?;
         }
@@ -180,23 +338,23 @@ impl RuleMaker {
         &mut self,
         symbols: &mut Vec<Symbol>,
         directive: Directive,
-    ) -> Result<(), AllocError> {
+    ) -> Result<(), AllocError>
+        ensures { OnOk result (Adds self.old self.new symbols.old.items symbols.new.items (step_made (texts self.old.words.items) (step_of directive) self.old.next_list)) }
+    {
+        let name = Symbol::Sign(NAME_SIGN);
         match directive {
-            Directive::Literal(text) => symbols.push(self.word(text)?)?,
-            Directive::Operands => {
-                symbols.push(Symbol::Act(Action::Operands))?;
-                symbols.push(Symbol::Part(self.operands()?))?;
-            }
+            Directive::Literal(text) => symbols.push(self.sign(text.trim()))?,
+            Directive::Operands => self.operands(symbols)?,
             Directive::Attribute => symbols.push(Symbol::Part(ATTRIBUTE))?,
             Directive::Type => symbols.push(Symbol::Part(TYPE))?,
             Directive::Region => symbols.push(Symbol::Part(REGION))?,
             Directive::SymbolHeader => {
-                symbols.push(self.word("@")?)?;
-                symbols.push(Symbol::Sign(NAME_SIGN))?;
+                symbols.push(self.sign("@"))?;
+                symbols.push(name)?;
                 symbols.push(Symbol::Act(Action::Name))?;
             }
             Directive::Name => {
-                symbols.push(Symbol::Sign(NAME_SIGN))?;
+                symbols.push(name)?;
                 symbols.push(Symbol::Act(Action::Name))?;
             }
             Directive::Number => {
@@ -208,42 +366,64 @@ impl RuleMaker {
                 symbols.push(Symbol::Act(Action::Width))?;
             }
             Directive::List(member, separator) => {
+                let list = self.list_part();
                 symbols.push(Symbol::Act(Action::BeginList))?;
-                symbols.push(Symbol::Part(self.list(member, separator)?))?;
+                symbols.push(Symbol::Part(list))?;
                 symbols.push(Symbol::Act(Action::EndList))?;
+                let mut inner = Vec::new(self.alloc);
+                self.format(&mut inner, member)?;
+                inner.push(Symbol::Act(Action::Item))?;
+                self.several(list, self.sign(separator.trim()), &inner)?;
             }
         }
         Ok(())
     }
 
-    /// A rule for a value with an id: what it stands for lies between two actions.
-    fn value(
-        &mut self,
-        part: u32,
-        id: &'static str,
-        begin: Action,
-        format: &[Directive],
-        end: Action,
-    ) -> Result<(), AllocError> {
+    /// Names of values, none or more, with commas between them.
+    fn operands(&mut self, symbols: &mut Vec<Symbol>) -> Result<(), AllocError>
+        ensures { OnOk result (Adds self.old self.new symbols.old.items symbols.new.items (step_made (texts self.old.words.items) operands self.old.next_list)) }
+    {
+        let list = self.list_part();
+        symbols.push(Symbol::Act(Action::Operands))?;
+        symbols.push(Symbol::Part(list))?;
+        let operand = [Symbol::Sign(NAME_SIGN), Symbol::Act(Action::Operand)];
+        self.several(list, self.sign(","), &operand)
+    }
+
+    /// Adds the rule of a kind: its id, and between two actions what its format says.
+    fn kind(&mut self, sort: Sort, number: u32, kind: KindText) -> Result<(), AllocError>
+        ensures { OnOk result (AddsMade self.old self.new (kind_made (texts self.old.words.items) sort number (kind_of kind) self.old.next_list)) }
+    {
         let mut symbols = Vec::new(self.alloc);
-        symbols.push(self.word(id)?)?;
-        symbols.push(Symbol::Act(begin))?;
-        self.format(&mut symbols, format)?;
-        symbols.push(Symbol::Act(end))?;
-        self.rules.push(Rule {
-            part,
-            body: symbols,
-        })?;
+        symbols.push(self.sign(kind.id))?;
+        symbols.push(Symbol::Act(sort.begin(number)))?;
+        self.format(&mut symbols, kind.format)?;
+        symbols.push(Symbol::Act(sort.end()))?;
+        self.rule(sort.part(), &symbols)
+    }
+
+    /// Adds the rules of the kinds of a sort, each under its number.
+    fn kinds<D: TextDialect>(&mut self, sort: Sort) -> Result<(), AllocError>
+        ensures { OnOk result (AddsMade self.old self.new (kinds_made (texts self.old.words.items) sort 0 (kinds_of D.formats sort) self.old.next_list)) }
+    {
+        for number in 0..KINDS {
+            let Some(kind) = kind_at::<D>(sort, number) else {
+                return Ok(());
+            };
+            self.kind(sort, number as u32, kind)?;
+        }
         Ok(())
     }
 
     /// An operation with its results, whatever its kind.
-    fn operation_rules(&mut self) -> Result<(), AllocError> {
+    fn operation_rules(&mut self) -> Result<(), AllocError>
+        ensures { OnOk result (AddsRules self.old self.new (operation_rules (texts self.old.words.items)) self.old.next_list) }
+    {
         let name = Symbol::Sign(NAME_SIGN);
         let result = Symbol::Act(Action::Result);
         let more = Symbol::Part(MORE_RESULTS);
-        let comma = self.word(",")?;
-        let equals = self.word("=")?;
+        let comma = self.sign(",");
+        let equals = self.sign("=");
         let body = Symbol::Part(BODY);
         self.rule(ROOT, &[Symbol::Part(OPERATION)])?;
         self.rule(OPERATION, &[body])?;
@@ -253,10 +433,12 @@ impl RuleMaker {
     }
 
     /// Regions, blocks and their operations.
-    fn region_rules(&mut self) -> Result<(), AllocError> {
-        let open = self.word("{")?;
-        let close = self.word("}")?;
-        let semicolon = self.word(";")?;
+    fn region_rules(&mut self) -> Result<(), AllocError>
+        ensures { OnOk result (AddsRules self.old self.new (region_rules (texts self.old.words.items)) self.old.next_list) }
+    {
+        let open = self.sign("{");
+        let close = self.sign("}");
+        let semicolon = self.sign(";");
         let blocks = Symbol::Part(BLOCKS);
         let operations = Symbol::Part(OPERATIONS);
         let begin = Symbol::Act(Action::BeginRegion);
@@ -271,13 +453,14 @@ impl RuleMaker {
         self.rule(MORE_OPERATIONS, &[semicolon, operations])
     }
 
-    /// The header of a block, and its arguments.
-    fn block_rules(&mut self) -> Result<(), AllocError> {
-        let caret = self.word("^")?;
-        let open = self.word("(")?;
-        let close = self.word(")")?;
-        let colon = self.word(":")?;
-        let comma = self.word(",")?;
+    /// A block: its header, and its operations.
+    fn block_rules(&mut self) -> Result<(), AllocError>
+        ensures { OnOk result (AddsRules self.old self.new (block_rules (texts self.old.words.items)) self.old.next_list) }
+    {
+        let caret = self.sign("^");
+        let open = self.sign("(");
+        let close = self.sign(")");
+        let colon = self.sign(":");
         let name = Symbol::Sign(NAME_SIGN);
         let label = Symbol::Act(Action::Label);
         let header = Symbol::Act(Action::Header);
@@ -289,100 +472,130 @@ impl RuleMaker {
             &[
                 caret, name, label, open, arguments, close, colon, header, operations, end,
             ],
-        )?;
+        )
+    }
+
+    /// The arguments of a block, with their types.
+    fn argument_rules(&mut self) -> Result<(), AllocError>
+        ensures { OnOk result (AddsRules self.old self.new (argument_rules (texts self.old.words.items)) self.old.next_list) }
+    {
+        let colon = self.sign(":");
+        let comma = self.sign(",");
+        let name = Symbol::Sign(NAME_SIGN);
         let argument = Symbol::Part(ARGUMENT);
         let more = Symbol::Part(MORE_ARGUMENTS);
+        let defines = Symbol::Act(Action::Argument);
+        self.rule(ARGUMENT, &[name, defines, colon, Symbol::Part(TYPE)])?;
         self.rule(ARGUMENTS, &[])?;
         self.rule(ARGUMENTS, &[argument, more])?;
         self.rule(MORE_ARGUMENTS, &[])?;
-        self.rule(MORE_ARGUMENTS, &[comma, argument, more])?;
-        let defines = Symbol::Act(Action::Argument);
-        self.rule(ARGUMENT, &[name, defines, colon, Symbol::Part(TYPE)])
+        self.rule(MORE_ARGUMENTS, &[comma, argument, more])
     }
+}
 
-    /// The rules of the formats of operations, types and attributes, each kind under its number.
-    fn format_rules<D: TextDialect>(&mut self) -> Result<(), AllocError> {
-        for number in 0..KINDS {
-            if let Some(kind) = D::op_kind_at(number) {
-                let begin = Action::Operation(small(number));
-                let format = D::op_format(kind);
-                self.value(BODY, D::op_id(kind), begin, format, Action::EndOperation)?;
-            }
-            if let Some(kind) = D::type_kind_at(number) {
-                let begin = Action::BeginType(small(number));
-                let format = D::type_format(kind);
-                self.value(TYPE, D::type_id(kind), begin, format, Action::EndType)?;
-            }
-            if let Some(kind) = D::attr_kind_at(number) {
-                let begin = Action::BeginAttribute(small(number));
-                let format = D::attr_format(kind);
-                self.value(
-                    ATTRIBUTE,
-                    D::attr_id(kind),
-                    begin,
-                    format,
-                    Action::EndAttribute,
-                )?;
-            }
-        }
-        Ok(())
+/// Whether a name may be a token of this kind.
+fn may_be_name(words: &[&'static str], kind: usize) -> bool
+    ensures { result ≡ may_be_name (texts words.now) kind }
+{
+    if kind < SHAPES {
+        return kind == 0 || kind == 1;
+    }
+    let number = kind - SHAPES;
+    if number < words.len() {
+        Identifier::is_valid(words[number])
+    } else {
+        false
     }
 }
 
 /// Whether tokens of a kind may stand where a sign does.
-fn is_taken(words: &[&'static str], sign: u32, kind: usize) -> bool {
-    let kind_number = small(kind);
-    if sign == NAME_SIGN {
-        if kind < SHAPES {
-            return kind_number == Shape::Name.kind() || kind_number == Shape::Width.kind();
-        }
-        return match words.get(kind - SHAPES) {
-            Some(word) => Identifier::is_valid(word),
-            None => false,
-        };
+fn is_taken(words: &[&'static str], sign: usize, kind: usize) -> bool
+    ensures { result ≡ takes (texts words.now) sign kind }
+{
+    match sign {
+        0 => may_be_name(words, kind),
+        1 => kind == 1,
+        2 => kind == 2 || kind == 3,
+        _ => kind >= SHAPES && kind - SHAPES == sign - 3,
     }
-    if sign == WIDTH_SIGN {
-        return kind_number == Shape::Width.kind();
-    }
-    if sign == NUMBER_SIGN {
-        return kind_number == Shape::Digits.kind() || kind_number == Shape::Negative.kind();
-    }
-    kind >= SHAPES && kind - SHAPES == (sign - FIRST_WORD_SIGN) as usize
 }
 
-fn signs(alloc: Global, words: &[&'static str]) -> Result<Vec<Class>, AllocError> {
-    let kinds = SHAPES + words.len();
+/// The kinds that a sign takes, as a mark for each kind.
+fn class(alloc: Global, words: &[&'static str], sign: usize) -> Result<Class, AllocError>
+    ensures { IfOk result (λ c. c.kinds.items ≡ class_of (texts words.now) sign) }
+{
+    let mut kinds = Vec::new(alloc);
+    for kind in 0..words.len() + SHAPES {
+        kinds.push(is_taken(words, sign, kind))?;
+    }
+    Ok(Class { kinds })
+}
+
+/// The signs of a grammar with these words.
+fn signs(alloc: Global, words: &[&'static str]) -> Result<Vec<Class>, AllocError>
+    ensures { IfOk result (λ cs. plain_classes cs.items ≡ classes_of (texts words.now)) }
+{
     let mut signs = Vec::new(alloc);
-    for sign in 0..FIRST_WORD_SIGN.saturating_add(small(words.len())) {
-        let mut taken = Vec::with_capacity(alloc, kinds)?;
-        for kind in 0..kinds {
-            taken.push(is_taken(words, sign, kind))?;
-        }
-        signs.push(Class { kinds: taken })?;
+    for sign in 0..words.len() + 3 {
+        signs.push(class(alloc, words, sign)?)?;
     }
     Ok(signs)
 }
 
-/// The grammar of a dialect's texts.
-pub fn grammar_of<D: TextDialect>(alloc: Global) -> Result<DialectGrammar, AllocError> {
+/// The rules of a dialect's grammar, with so many parts.
+fn rules<D: TextDialect>(alloc: Global, words: Vec<&'static str>) -> Result<RuleMaker, AllocError>
+    requires { texts words.items ≡ words_of D.formats }
+    ensures rules { IfOk result (λ m. plain_rules m.rules.items ≡ rules_of D.formats) }
+    ensures parts { IfOk result (λ m. m.next_list ≡ parts_of D.formats) }
+    ensures words { IfOk result (λ m. texts m.words.items ≡ words_of D.formats) }
+{
     let mut maker = RuleMaker {
         alloc,
+        words,
         rules: Vec::new(alloc),
-        words: Vec::new(alloc),
         next_list: FIRST_LIST,
     };
     maker.operation_rules()?;
     maker.region_rules()?;
     maker.block_rules()?;
-    maker.format_rules::<D>()?;
+    maker.argument_rules()?;
+    maker.kinds::<D>(Sort::Operation)?;
+    maker.kinds::<D>(Sort::Type)?;
+    maker.kinds::<D>(Sort::Attribute)?;
+    Ok(maker)
+}
+
+/// The table of the grammar that a dialect's formats make, worked out of its rules: what a
+/// [`ReadDialect`](crate::ReadDialect) gives. If the next token doesn't decide each step, none fits.
+pub fn table_of<D: TextDialect>(alloc: Global) -> Result<Vec<Facts>, AllocError> {
+    let words = words_of::<D>(alloc)?;
+    let maker = rules::<D>(alloc, words)?;
+    let signs = signs(alloc, &maker.words)?;
+    let columns = maker.words.len() + SHAPES + 1;
     let RuleMaker {
         rules,
-        words,
         next_list,
         ..
     } = maker;
+    let Grammar { parts, .. } = Grammar::new(alloc, signs, rules, next_list as usize, columns)?;
+    Ok(parts)
+}
+
+/// The grammar of a dialect's texts.
+pub fn grammar_of<D: ReadDialect>(alloc: Global) -> Result<DialectGrammar, AllocError>
+    ensures words { IfOk result (λ g. texts g.words.items ≡ words_of D.formats) }
+    ensures rules { IfOk result (λ g. plain_rules g.grammar.rules.items ≡ rules_of D.formats) }
+    ensures signs { IfOk result (λ g. plain_classes g.grammar.signs.items ≡ classes_of (words_of D.formats)) }
+    ensures can_read { IfOk result (λ g. CanRead g.grammar 0) }
+{
+    let words = words_of::<D>(alloc)?;
+    let RuleMaker { rules, words, .. } = rules::<D>(alloc, words)?;
     let signs = signs(alloc, &words)?;
-    let columns = SHAPES.saturating_add(words.len()).saturating_add(1);
-    let grammar = Grammar::new(alloc, signs, rules, next_list as usize, columns)?;
+    let parts = facts_of(alloc, D::table(), words.len() + SHAPES + 1)?;
+    let grammar = Grammar {
+        signs,
+        rules,
+        parts,
+    };
     Ok(DialectGrammar { grammar, words })
 }

@@ -10,7 +10,7 @@ fn is_letter(c: char) -> bool
     ('a' <= c && c <= 'z') || ('A' <= c && c <= 'Z') || c == '_'
 }
 
-fn is_digit(c: char) -> bool
+pub(crate) fn is_digit(c: char) -> bool
     ensures { result ≡ is_digit c }
 {
     '0' <= c && c <= '9'

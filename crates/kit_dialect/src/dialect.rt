@@ -1,5 +1,5 @@
 //! The dialect and its formats.
-ghost use Rattle.std.specs.Prelude.{◌≡◌, ◌↔◌, ◌⊎◌, true, IsTrue, IfOk, slice_get};
+ghost use Rattle.std.specs.Prelude.{◌≡◌, ◌↔◌, ◌⊎◌, true, IsTrue, IfOk, slice_get, refl};
 ghost use Rattle.ir_names.specs.Text.{is_identifier};
 ghost use Rattle.ir_store.specs.Context.{IsLiveOperation};
 ghost use Rattle.ir_store.specs.Marks.{IsSameTree};
@@ -211,9 +211,19 @@ impl TextDialect for Kit {
 
     type AttrKind = KitAttrKind;
 
+    ghost use Rattle.kit_dialect.specs.Texts as texts;
+
     ghost kind_at = { slice_get read_ops };
 
     ghost isolated = { is_isolated_kind };
+
+    ghost formats = { texts.formats };
+
+    ghost op_text = { texts.op_text };
+
+    ghost type_text = { texts.type_text };
+
+    ghost attr_text = { texts.attr_text };
 
     fn op_kind_at(number: usize) -> Option<KitOp>
         ensures { result ≡ slice_get read_ops number }
@@ -449,4 +459,6 @@ impl TextDialect for Kit {
         }
         Ok(parts)
     }
+
+    ghost few = { refl };
 }

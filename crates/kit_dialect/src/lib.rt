@@ -6,6 +6,7 @@ mod dialect;
 mod kinds;
 mod module_rules;
 mod shape;
+mod table;
 
 pub use attributes::{IntegerAttr, KitAttr, KitAttrKind, reread_bits};
 pub use dialect::Kit;

@@ -1,53 +1,67 @@
-use crate::*;
-use ir_print::print_root;
-use ir_store::Context;
-use ir_text::top_level_parse;
-use std::alloc::{AllocError, Global};
-use std::test::Fail;
+//! The table of the dialect is the one that is worked out of its formats. Where formats have changed, run this by
+//! `rt try --test table_is_worked_out`, and write what it prints into `table.rt`.
 
-/// What becomes of a text: the fault's line, or the module's text.
-fn outcome(alloc: Global, text: &str) -> Result<String, AllocError> {
-    let chars: Vec<char> = text.chars().collect(alloc)?;
-    let mut ctx: Context<Kit> = Context::new(alloc);
-    let root = match top_level_parse(alloc, &mut ctx, &chars) {
-        Ok(root) => root,
-        Err(fault) => return format!(in alloc; "{fault}"),
-    };
-    match rules(alloc, &ctx, root) {
-        Ok(()) => print_root(alloc, &ctx, root),
-        Err(fault) => format!(in alloc; "{fault}"),
+use crate::Kit;
+use ir_text::{Facts, PartTable, ReadDialect, table_of};
+use std::alloc::{AllocError, Global};
+
+/// What the table says of a part, as Rust source.
+fn source_of(alloc: Global, facts: &Facts) -> Result<String, AllocError> {
+    let mut text = String::new(alloc);
+    text.push_str("PartTable {\n    choices: &[")?;
+    for (column, choice) in facts.choices.iter().enumerate() {
+        if let Some(rule) = choice {
+            write!(text, "({column}, {rule}), ")?;
+        }
     }
+    text.push_str("],\n    follows: &[")?;
+    for (column, may) in facts.follows.iter().enumerate() {
+        if *may {
+            write!(text, "{column}, ")?;
+        }
+    }
+    let closing = facts.closing;
+    let cost = facts.cost;
+    let shortest = facts.shortest;
+    let rank = facts.rank;
+    write!(text, "],\n    closing: {closing:?},\n    cost: {cost},\n")?;
+    write!(text, "    shortest: {shortest},\n    rank: {rank},\n}},\n")?;
+    Ok(text)
+}
+
+/// Whether the part of the given table says the same.
+fn is_same(facts: &Facts, part: &PartTable) -> bool {
+    for (column, choice) in facts.choices.iter().enumerate() {
+        let given = part.choices.iter().find(|given| given.0 == column);
+        if given.map(|given| given.1) != *choice {
+            return false;
+        }
+    }
+    for (column, may) in facts.follows.iter().enumerate() {
+        if part.follows.iter().any(|given| *given == column) != *may {
+            return false;
+        }
+    }
+    facts.closing == part.closing
+        && facts.cost == part.cost
+        && facts.shortest == part.shortest
+        && facts.rank == part.rank
 }
 
 #[test]
-fn texts_come_out(rt: HostRuntime) -> Result<(), Fail> {
-    for (text, want) in [
-        ("", "syntax at 1:1"),
-        ("builtin.module @m {^b():", "syntax at 1:25"),
-        (
-            "builtin.module @m {^b():}",
-            "builtin.module @m \n{\n  ^b_block1v1():\n}",
-        ),
-        (
-            "builtin.module @m {^b():} \n",
-            "builtin.module @m \n{\n  ^b_block1v1():\n}",
-        ),
-        ("builtin.module @m {^b():}x", "syntax at 1:26"),
-        (
-            "builtin.module @m {^b(): builtin.func @f: builtin.function <()->()> {^e(): kit.return}; builtin.func @f: builtin.function <()->()> {^e(): kit.return}}",
-            "rule 2 at 0.0.1",
-        ),
-        (
-            "builtin.module @m {^b(): builtin.func @f: builtin.function <()->()> {^e(): a = builtin.constant builtin.integer <1: i8>; a = builtin.constant builtin.integer <2: i8>; kit.return}}",
-            "scope at 1:122: MultipleDefinitions",
-        ),
-        (
-            "builtin.module @m {^b(): builtin.func @f: builtin.function <()->()> {^e(): a = builtin.constant builtin.integer <256: i8>; kit.return}}",
-            "syntax at 1:114",
-        ),
-    ] {
-        let came = outcome(rt.alloc(), text)?;
-        assert_eq!(rt; came.as_str(), want, "{text}");
+fn table_is_worked_out(rt: HostRuntime) -> Result<(), AllocError> {
+    let alloc = rt.alloc();
+    let worked_out = table_of::<Kit>(alloc)?;
+    let given = Kit::table();
+    let mut text = String::new(alloc);
+    let mut differs = worked_out.len() != given.len();
+    for (index, facts) in worked_out.iter().enumerate() {
+        text.push_str(source_of(alloc, facts)?.as_str())?;
+        match given.get(index) {
+            Some(part) => differs = differs || !is_same(facts, part),
+            None => differs = true,
+        }
     }
+    assert!(rt; !differs, "{text}");
     Ok(())
 }

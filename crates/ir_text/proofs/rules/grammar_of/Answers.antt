@@ -1,0 +1,12 @@
+use Rattle.std.proofs.Common.{◌≡◌, ◌∙◌, ap, map, arith}
+use Rattle.ir_text.specs.Rules.{texts, classes_of, plain_classes}
+use Rattle.ir_text.specs.Given.{plain_part}
+use Rattle.ir_text.proofs.Predictable.{can_read_given}
+use Rattle.ir_text.proofs.rules.grammar_of.Goals as goal
+
+pub returns-clause-can_read : goal.returns-clause-can_read
+returns-clause-can_read g c =
+    let words = c.in_ok-words-2.field-0.words.items in
+    let spelled = c.in_ok-words-2.ensures.words in
+    let signs : plain_classes c.in_ok-signs.signs.items ≡ classes_of (texts words) = rw c.deref.ensures.value at c.in_ok-signs.ensures in
+    can_read_given _ g.D.TextDialect.formats words (map plain_part c.table.result.now) _ c.in_ok-words-2.ensures.rules (signs ∙ ap classes_of spelled) c.in_ok-parts.ensures spelled (omega (arith, c.len.ensures)) c.table.ensures
