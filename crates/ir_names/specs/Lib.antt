@@ -1,3 +1,4 @@
 pub mod Text
 pub mod Identifier
 pub mod Dictionary
+pub mod Tree

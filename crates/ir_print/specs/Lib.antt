@@ -1,1 +1,4 @@
 pub mod Formats
+pub mod Pieces
+pub mod Shown
+pub mod Standing

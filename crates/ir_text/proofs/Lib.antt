@@ -20,3 +20,8 @@ pub mod ScopeFronts
 pub mod Makes
 pub mod Predictable
 pub mod Spelled
+pub mod Ordered
+pub mod BuiltSteps
+pub mod BuiltTrees
+pub mod BuiltEnds
+pub mod BuiltRefusals

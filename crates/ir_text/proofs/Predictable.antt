@@ -12,6 +12,7 @@ use Rattle.ir_text.specs.declared.grammar.Class.{Class}
 use Rattle.ir_text.specs.declared.grammar.Facts.{Facts}
 use Rattle.ir_text.specs.declared.grammar.Grammar.{Grammar}
 use Rattle.ir_text.specs.Grammar.{accepts, accepted}
+use Rattle.ir_text.specs.Reading.{begins_member}
 use Rattle.ir_text.specs.Table.{chosen, pick, may_follow, closing_of, is_solid, cost_of, OpensIn, Begins, IsFineIn, has_solid, height, IsKnown, IsBelow, FitsRule, HasShortest, IsRuleOf, IsChoice, CanRead}
 use Rattle.ir_print.specs.Formats.{Formats}
 use Rattle.ir_text.specs.Given.{PlainPart, dense, grammar_value}
@@ -227,7 +228,7 @@ module _ (g : Grammar) where
   begins_at [] c e = cc
   begins_at (Sign s ∷ ss) zero e = cc
   begins_at (Sign s ∷ ss) (suc k) e = (k, refl, accepts_is s k ∙ e)
-  begins_at (Act a ∷ ss) c e = cc
+  begins_at (Act a ∷ ss) c e = let two = both_hold (begins_member a) (begins (plain_grammar g) ss c) e in (two.0, begins_at ss c two.1)
   begins_at (Part m ∷ ss) c e =
       let h = other_at (get_or (choice_row (slice_get (plain_grammar g).parts m)) c None) (plain_closing (slice_get (plain_grammar g).parts m)) e in
       (h.0, pick_is m c ∙ h.1, λ closes. h.2 (sym (closes_is m) ∙ closes))

@@ -82,7 +82,7 @@ module _ (g : Grammar) (ok : IsPredictive g) where
 
   pub on_acted : (P : ℕ → List ℕ → Type 0) (did did' : List Event) (s rest : List Symbol) (a : Action) (c : ℕ) → s ≡ Act a ∷ rest → did' ≡ did ++ Did a ∷ [] → IsOn g P did s c → IsOn g P did' rest c
   on_acted P did did' s rest a c top more (inl f) = inl (λ root done p. rw more (closes_acted g ok root done did a rest (rw top at (f root done p))))
-  on_acted P did did' s rest a c top more (inr b) = absurd (rw top at b)
+  on_acted P did did' s rest a c top more (inr b) = let h = rw top at b in inr h.1
 
   pub on_expanded : (P : ℕ → List ℕ → Type 0) (did : List Event) (s rest s' : List Symbol) (n c p : ℕ) (r : Rule) → s ≡ Part n ∷ rest → pick g n c ≡ Some p → slice_get g.rules.items p ≡ Some r
       → s' ≡ r.body.items ++ rest → IsFine g s → IsOn g P did s c → IsOn g P did s' c

@@ -12,3 +12,11 @@ pub mod Predicting
 pub mod Given
 pub mod Words
 pub mod Spelling
+pub mod Forest
+pub mod Nesting
+pub mod Meaning
+pub mod ValueFaults
+pub mod Texts
+pub mod Building
+pub mod Ordered
+pub mod Progress

@@ -4,6 +4,7 @@ use Rattle.std.specs.List.{list_any}
 use Rattle.ir_text.specs.declared.grammar.Symbol.{Symbol}
 use Rattle.ir_text.specs.declared.grammar.Symbol.TheVariants.{Sign, Part, Act}
 use Rattle.ir_text.specs.declared.grammar.Facts.{Facts}
+use Rattle.ir_text.specs.Reading.{begins_member}
 use Rattle.ir_text.specs.Rules.{PlainRule}
 
 -- What a table knows of a part: for each column the rule to take there, and whether the part may stand before it; the rule to take
@@ -139,12 +140,12 @@ abbrev pub is_other : Option ℕ → Option ℕ → Bool
 is_other None closing = false
 is_other (Some p) closing = not (is_number closing p)
 
--- the first token of the symbols stands at the column, with nothing done before it
+-- the first token of the symbols stands at the column, with nothing done before it but that members begin
 abbrev pub begins : PlainGrammar → List Symbol → ℕ → Bool
 begins G [] c = false
 begins G (Sign s ∷ ss) zero = false
 begins G (Sign s ∷ ss) (suc k) = slice_index_or (sign_row (slice_get G.signs s)) k false
-begins G (Act a ∷ ss) c = false
+begins G (Act a ∷ ss) c = begins_member a && begins G ss c
 begins G (Part m ∷ ss) c = let f = slice_get G.parts m in is_other (slice_index_or (choice_row f) c None) (plain_closing f)
 
 -- a rule of part n

@@ -1,7 +1,7 @@
 -- What is read, and where it is refused.
 use Rattle.std.specs.Prelude.{◌≡◌, Bool, true, false, ℕ, zero, suc, ◌+◌, ◌<◌, ◌≤◌, List, [], ◌∷◌, ◌++◌, ◌-◌, ◌⊎◌, cond, take, length}
 use Rattle.ir_text.specs.declared.grammar.Action.{Action}
-use Rattle.ir_text.specs.declared.grammar.Action.TheVariants.{BeginRegion, EndRegion, BeginType, EndType, BeginAttribute, EndAttribute}
+use Rattle.ir_text.specs.declared.grammar.Action.TheVariants.{BeginRegion, EndRegion, BeginType, EndType, BeginAttribute, EndAttribute, BeginItem}
 use Rattle.ir_text.specs.declared.grammar.Event.{Event}
 use Rattle.ir_text.specs.declared.grammar.Event.TheVariants.{Took, Did}
 use Rattle.ir_text.specs.declared.grammar.Grammar.{Grammar}
@@ -32,10 +32,26 @@ tooks (Did a ∷ es) = tooks es
 abbrev pub IsPrefix : List Event → List Event → Type 0
 IsPrefix es fs = (more : List Event) × (fs ≡ es ++ more)
 
--- This is done at the front by a text that begins with it, and no text that does does more at it.
+-- The action begins a member of a list, whose first token is the next one.
+abbrev pub begins_member : Action → Bool
+begins_member BeginItem = true
+begins_member _ = false
+
+-- nothing is done but that members begin
+abbrev pub OnlyBegins : List Event → Type 0
+OnlyBegins [] = Unit {0}
+OnlyBegins (Took ∷ es) = ⊥
+OnlyBegins (Did a ∷ es) = (begins_member a ≡ true) × OnlyBegins es
+
+-- The first list is the second, but for members that begin at its end.
+abbrev pub IsMostly : List Event → List Event → Type 0
+IsMostly es fs = (begun : List Event) × (es ≡ fs ++ begun) × OnlyBegins begun
+
+-- This is done at the front by a text that begins with it, and no text that does does more at it: but for members of lists that
+-- begin with the next token, which is none of the front's.
 pub record IsMost (g : Grammar) (root : ℕ) (front : List ℕ) (es : List Event) : Type 0 where
-  pub some : (more : List ℕ) × (all : List Event) × IsTextOf g root (front ++ more) all × (through all (length front) ≡ es)
-  pub most : (more : List ℕ) (all : List Event) → IsTextOf g root (front ++ more) all → IsPrefix (through all (length front)) es
+  pub some : (more : List ℕ) × (all : List Event) × IsTextOf g root (front ++ more) all × IsMostly (through all (length front)) es
+  pub most : (more : List ℕ) (all : List Event) → IsTextOf g root (front ++ more) all → (start : List Event) × IsMostly (through all (length front)) start × IsPrefix start es
 
 -- the action begins a part that counts for the depth: a region, a type or an attribute
 abbrev pub opens : Action → Bool

@@ -224,7 +224,7 @@ both a b = record { symbols = a.symbols ++ b.symbols; rules = a.rules ++ b.rules
 abbrev pub list_made : ℕ → Symbol → Made → Made
 list_made n separator member = record {
   symbols = Act act.BeginList ∷ Part n ∷ Act act.EndList ∷ [];
-  rules = member.rules ++ several n separator (member.symbols ++ Act act.Item ∷ []);
+  rules = member.rules ++ several n separator (Act act.BeginItem ∷ (member.symbols ++ Act act.EndItem ∷ []));
   next = member.next;
 }
 
@@ -233,7 +233,7 @@ abbrev mutual
   pub step_made : List (List ℕ) → Step → ℕ → Made
   step_made ws (word w) n = just (sign ws w ∷ []) n
   step_made ws operands n = record {
-    symbols = Act act.Operands ∷ Part n ∷ [];
+    symbols = Act act.BeginOperands ∷ Part n ∷ Act act.EndOperands ∷ [];
     rules = several n (sign ws (codes ",")) (name ∷ Act act.Operand ∷ []);
     next = up n 2;
   }

@@ -8,7 +8,7 @@ use Rattle.ir_text.specs.declared.grammar.Stop.{Stop}
 use Rattle.ir_text.specs.declared.grammar.Stop.TheVariants.{Text, Stuck, Deep}
 use Rattle.ir_text.specs.Grammar.{Derives, IsTextOf, IsText}
 use Rattle.ir_text.specs.Table.{column_of}
-use Rattle.ir_text.specs.Reading.{through, tooks, IsPrefix, IsMost}
+use Rattle.ir_text.specs.Reading.{through, tooks, IsPrefix, IsMostly, IsMost}
 
 -- After the tokens done, which did this, the stack stands for what may come, whatever it is.
 pub record Leads (g : Grammar) (root : ℕ) (done : List ℕ) (did : List Event) (stack : List Symbol) : Type 0 where
@@ -22,12 +22,12 @@ pub record LeadsAt (g : Grammar) (root : ℕ) (done : List ℕ) (did : List Even
   pub on : (ts : List ℕ) (more : List Event) → Derives g stack ts more → IsTextOf g root (done ++ ts) (did ++ more)
   pub back : (ts : List ℕ) (all : List Event) → column_of ts ≡ c → IsTextOf g root (done ++ ts) all → (more : List Event) × (all ≡ did ++ more) × Derives g stack ts more
 
--- The same, for texts of which more may end at the last token done than did. The others go on, and did no more.
+-- The same, for texts of which more may end at the last token done than did. The others go on, and did no more but begin members.
 pub record Closes (g : Grammar) (root : ℕ) (done : List ℕ) (did : List Event) (stack : List Symbol) : Type 0 where
   pub took : tooks did ≡ length done
   pub on : (ts : List ℕ) (more : List Event) → Derives g stack ts more → IsTextOf g root (done ++ ts) (did ++ more)
   pub back : (ts : List ℕ) (all : List Event) → IsTextOf g root (done ++ ts) all
-      → (IsPrefix (through all (length done)) did × (ts ≡ [] → ⊥)) ⊎ ((more : List Event) × (all ≡ did ++ more) × Derives g stack ts more)
+      → (((start : List Event) × IsMostly (through all (length done)) start × IsPrefix start did) × (ts ≡ [] → ⊥)) ⊎ ((more : List Event) × (all ≡ did ++ more) × Derives g stack ts more)
 
 -- no text goes on at this column
 abbrev pub IsStuck : Grammar → ℕ → List ℕ → ℕ → Type 0

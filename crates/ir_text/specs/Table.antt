@@ -6,6 +6,7 @@ use Rattle.ir_text.specs.declared.grammar.Rule.{Rule}
 use Rattle.ir_text.specs.declared.grammar.Facts.{Facts}
 use Rattle.ir_text.specs.declared.grammar.Grammar.{Grammar}
 use Rattle.ir_text.specs.Grammar.{accepts}
+use Rattle.ir_text.specs.Reading.{begins_member}
 use Rattle.ir_text.specs.declared.check.Target.{Target}
 use Rattle.ir_text.specs.declared.check.Target.TheVariants.{ToPick, Before}
 
@@ -61,11 +62,11 @@ OpensIn g n (Sign s ∷ ss) c = (k : ℕ) × (c ≡ suc k) × (accepts g s k ≡
 OpensIn g n (Act a ∷ ss) c = OpensIn g n ss c
 OpensIn g n (Part m ∷ ss) c = (p : ℕ) × (pick g m c ≡ Some p)
 
--- The symbols go on at this column: their first token stands there, and nothing is done before it.
+-- The symbols go on at this column: their first token stands there, and nothing is done before it but that members begin.
 abbrev pub Begins : Grammar → List Symbol → ℕ → Type 0
 Begins g [] c = ⊥
 Begins g (Sign s ∷ ss) c = (k : ℕ) × (c ≡ suc k) × (accepts g s k ≡ true)
-Begins g (Act a ∷ ss) c = ⊥
+Begins g (Act a ∷ ss) c = (begins_member a ≡ true) × Begins g ss c
 Begins g (Part n ∷ ss) c = (p : ℕ) × (pick g n c ≡ Some p) × (closing_of (slice_get g.parts.items n) ≡ Some p → ⊥)
 
 -- each part may stand before what comes after it

@@ -458,10 +458,10 @@ impl<D: TextDialect> Builder<D> {
                 let (signedness, width) = width_of(source.text(token));
                 self.put(Part::Width(signedness, width), token)
             }
-            Action::Operands => self.put(Part::Operands(0), token),
+            Action::BeginOperands => self.put(Part::Operands(0), token),
             Action::Operand => self.operand(),
             Action::BeginList => self.begin_list(),
-            Action::Item => self.item(),
+            Action::EndItem => self.item(),
             Action::EndList => self.end_list(),
             _ => Ok(()),
         }

@@ -295,14 +295,11 @@ impl Grammar {
         self.rules[rule].part == part
     }
 
-    /// Whether the first token of the symbols stands at the column, with nothing done before it.
-    fn begins(&self, body: &[Symbol], column: usize) -> bool
-        ensures { IsTrue result → Begins self.now body.now column }
+    /// Whether the first token of the symbol stands at the column.
+    fn goes_on(&self, symbol: Symbol, column: usize) -> bool
+        ensures { IsTrue result → (rest : List Symbol) → Begins self.now (symbol ∷ rest) column }
     {
-        if body.len() == 0 {
-            return false;
-        }
-        match body[0] {
+        match symbol {
             Symbol::Act(_) => false,
             Symbol::Sign(sign) => column > 0 && self.accepts(sign, column - 1),
             Symbol::Part(inner) => match self.pick(inner, column) {
@@ -310,6 +307,23 @@ impl Grammar {
                 Some(rule) => self.closing(inner) != Some(rule),
             },
         }
+    }
+
+    /// Whether the first token of the symbols stands at the column, with nothing done before it but that members begin.
+    fn begins(&self, body: &[Symbol], column: usize) -> bool
+        ensures { IsTrue result → Begins self.now body.now column }
+    {
+        for symbol in body {
+            match symbol {
+                Symbol::Act(action) => {
+                    if !action.begins_member() {
+                        return false;
+                    }
+                }
+                _ => return self.goes_on(*symbol, column),
+            }
+        }
+        false
     }
 
     /// Whether the rule may be what the table has for the part at the column.

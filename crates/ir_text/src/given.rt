@@ -2,6 +2,8 @@
 ghost use Rattle.std.specs.Prelude.{◌≡◌, IfOk, map, true};
 ghost use Rattle.ir_text.specs.Predicting.{fits, plain_facts};
 ghost use Rattle.ir_text.specs.Given.{grammar_value, plain_part, dense, rule_at, is_in};
+ghost use Rattle.ir_text.specs.Rules.{rules_of};
+ghost use Rattle.ir_text.specs.Ordered.{Leads, is_ordered};
 
 use crate::grammar::Facts;
 use ir_print::TextDialect;
@@ -26,9 +28,14 @@ pub struct PartTable {
 
 /// A dialect whose texts can be read: the next token decides each step.
 pub trait ReadDialect: TextDialect {
+    /// Where each part of that grammar may stand, and where it leads to.
+    ghost leads: { Leads };
+
     /// The table of the grammar that the dialect's formats make, as [`table_of`](crate::table_of) writes it.
     fn table() -> &'static [PartTable]
         ensures { fits (grammar_value Self.formats (map plain_part result.now)) ≡ true };
+
+    ghost ordered: { is_ordered leads (rules_of Self.formats) ≡ true };
 }
 
 /// The rule for a column.

@@ -3,7 +3,7 @@ ghost use Rattle.std.specs.Prelude.{◌≡◌, ℕ, List, ◌++◌, reverse, tak
 ghost use Rattle.ir_text.specs.Grammar.{accepts};
 ghost use Rattle.ir_text.specs.Table.{pick, closing_of, IsFine, IsKnown, IsPredictive, CanRead};
 ghost use Rattle.ir_text.specs.Run.{Leads, Closes, Advances, Ends, Grows};
-ghost use Rattle.ir_text.specs.Reading.{Reads, OpensMore, depth_after, opens, closes};
+ghost use Rattle.ir_text.specs.Reading.{Reads, OpensMore, depth_after, opens, closes, begins_member};
 
 use std::alloc::{AllocError, Global};
 
@@ -43,13 +43,17 @@ pub enum Action {
     /// The width is a part of what is being read.
     Width,
     /// A list of operands begins behind this token.
-    Operands,
+    BeginOperands,
     /// The name mentions a value.
     Operand,
+    /// The operands have been read.
+    EndOperands,
     /// A list begins behind this token.
     BeginList,
-    /// A member of the list has been read.
-    Item,
+    /// A member of the list begins with the next token.
+    BeginItem,
+    /// The member has been read.
+    EndItem,
     /// The list has been read.
     EndList,
 }
@@ -144,6 +148,16 @@ impl Action {
     {
         match self {
             Action::BeginRegion | Action::BeginType(_) | Action::BeginAttribute(_) => true,
+            _ => false,
+        }
+    }
+
+    /// Whether a member of a list begins, with the next token.
+    pub fn begins_member(self) -> bool
+        ensures { result ≡ begins_member self }
+    {
+        match self {
+            Action::BeginItem => true,
             _ => false,
         }
     }

@@ -1,14 +1,19 @@
 //! Laws of the definitions: a text is read in one way, and its faults are met in the order of its tokens.
-ghost use Rattle.std.specs.Prelude.{◌≡◌, ◌≤◌, ◌+◌, ◌++◌, ◌⊎◌, ℕ, Bool, false, List};
+ghost use Rattle.std.specs.Prelude.{◌≡◌, ◌≤◌, ◌+◌, ◌++◌, ◌⊎◌, ℕ, Bool, true, false, List};
 ghost use Rattle.ir_text.specs.declared.tokens.Token.{Token};
 ghost use Rattle.ir_text.specs.declared.grammar.Grammar.{Grammar};
 ghost use Rattle.ir_text.specs.declared.grammar.Event.{Event};
+ghost use Rattle.ir_text.specs.declared.grammar.Stop.{Stop};
+ghost use Rattle.ir_text.specs.declared.grammar.Stop.TheVariants.{Text};
 ghost use Rattle.ir_text.specs.Tokens.{ReadsAs};
 ghost use Rattle.ir_text.specs.Grammar.{IsTextOf};
 ghost use Rattle.ir_text.specs.Table.{CanRead};
 ghost use Rattle.ir_text.specs.declared.faults.Fault.{Fault};
 ghost use Rattle.ir_text.specs.Depth.{IsTooDeep};
-ghost use Rattle.ir_text.specs.Reading.{OpensMore, tooks};
+ghost use Rattle.ir_text.specs.Reading.{OpensMore, Reads, tooks};
+ghost use Rattle.ir_text.specs.Rules.{plain_rules};
+ghost use Rattle.ir_text.specs.Nesting.{at_root, at_end, FollowTokens};
+ghost use Rattle.ir_text.specs.Ordered.{Leads, is_ordered, IsInOrder, LeadsTo, OrdersTexts};
 ghost use Rattle.ir_text.specs.Scopes.{HasScopeFault, OwnTokens, AreApart, definitions, mentions};
 
 /// The characters of a text are one list of tokens.
@@ -40,4 +45,27 @@ pub fn deep_faults_stay()
     ensures stays { (es more : List Event) (f : Fault) → IsTooDeep es f → IsTooDeep (es ++ more) f }
     ensures later { (es more : List Event) (f : Fault) → IsTooDeep (es ++ more) f → IsTooDeep es f ⊎ (tooks es ≤ f.met + 1) }
     ensures some { (es : List Event) → OpensMore 64 0 es → (f : Fault) × IsTooDeep es f }
+{}
+
+/// Where the rules of a grammar pass the test of their order, reading its texts does all in order.
+pub fn texts_are_ordered()
+    ensures { (g : Grammar) (leads : Leads) → is_ordered leads (plain_rules g.rules.items) ≡ true → OrdersTexts g }
+{}
+
+/// So is all that reading any tokens does; and where they are a text, nothing is begun any more at its end.
+pub fn readings_are_ordered()
+    ensures order { (g : Grammar) → OrdersTexts g → (many n : ℕ) (ts : List ℕ) (stop : Stop) (es : List Event)
+        → Reads g 0 many ts stop n es → IsInOrder es }
+    ensures ends { (g : Grammar) → OrdersTexts g → (many n : ℕ) (ts : List ℕ) (es : List Event)
+        → Reads g 0 many ts Text n es → LeadsTo at_root es at_end }
+{}
+
+/// A front of what is in order is in order.
+pub fn fronts_are_ordered()
+    ensures { (es more : List Event) → IsInOrder (es ++ more) → IsInOrder es }
+{}
+
+/// Where actions come straight behind their tokens, each name of a value has a token of its own.
+pub fn names_have_tokens()
+    ensures { (es : List Event) → FollowTokens false es → OwnTokens false es }
 {}

@@ -15,6 +15,7 @@
 #![tactic(auto)]
 
 mod building;
+pub mod building_laws;
 mod check;
 mod depth;
 mod faults;

@@ -3,6 +3,7 @@ ghost use Rattle.std.specs.Prelude.{◌≡◌, ◌∷◌, [], ◌++◌, OnOk, If
 ghost use Rattle.ir_print.specs.Formats.{operands, step_of, steps_of};
 ghost use Rattle.ir_text.specs.Rules.{up, texts, number_of, with_word, with_words, words_in, words_in_step, words_of, words_of_kinds, frame_words, sign, may_be_name, takes, class_of, classes_of, several, step_made, steps_made, kind_made, kinds_made, kinds_of, part_of, begin_of, end_of, operation_rules, region_rules, block_rules, argument_rules, rules_of, parts_of, plain_rule, plain_rules, plain_classes};
 ghost use Rattle.ir_text.specs.Table.{CanRead};
+ghost use Rattle.ir_text.specs.Ordered.{OrdersTexts};
 ghost use Rattle.ir_text.specs.Words.{shape_number};
 ghost use Rattle.ir_text.specs.Making.{kind_of, Adds, AddsRules, AddsMade};
 
@@ -371,8 +372,9 @@ impl RuleMaker {
                 symbols.push(Symbol::Part(list))?;
                 symbols.push(Symbol::Act(Action::EndList))?;
                 let mut inner = Vec::new(self.alloc);
+                inner.push(Symbol::Act(Action::BeginItem))?;
                 self.format(&mut inner, member)?;
-                inner.push(Symbol::Act(Action::Item))?;
+                inner.push(Symbol::Act(Action::EndItem))?;
                 self.several(list, self.sign(separator.trim()), &inner)?;
             }
         }
@@ -384,8 +386,9 @@ impl RuleMaker {
         ensures { OnOk result (Adds self.old self.new symbols.old.items symbols.new.items (step_made (texts self.old.words.items) operands self.old.next_list)) }
     {
         let list = self.list_part();
-        symbols.push(Symbol::Act(Action::Operands))?;
+        symbols.push(Symbol::Act(Action::BeginOperands))?;
         symbols.push(Symbol::Part(list))?;
+        symbols.push(Symbol::Act(Action::EndOperands))?;
         let operand = [Symbol::Sign(NAME_SIGN), Symbol::Act(Action::Operand)];
         self.several(list, self.sign(","), &operand)
     }
@@ -587,6 +590,7 @@ pub fn grammar_of<D: ReadDialect>(alloc: Global) -> Result<DialectGrammar, Alloc
     ensures rules { IfOk result (λ g. plain_rules g.grammar.rules.items ≡ rules_of D.formats) }
     ensures signs { IfOk result (λ g. plain_classes g.grammar.signs.items ≡ classes_of (words_of D.formats)) }
     ensures can_read { IfOk result (λ g. CanRead g.grammar 0) }
+    ensures ordered { IfOk result (λ g. OrdersTexts g.grammar) }
 {
     let words = words_of::<D>(alloc)?;
     let RuleMaker { rules, words, .. } = rules::<D>(alloc, words)?;

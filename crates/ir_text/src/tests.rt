@@ -99,7 +99,7 @@ fn nested(alloc: Global) -> Result<Grammar, AllocError> {
         Symbol::Sign(CLOSE),
         Symbol::Act(Action::EndRegion),
     ];
-    let more = [Symbol::Part(0), Symbol::Act(Action::Item), Symbol::Part(1)];
+    let more = [Symbol::Part(0), Symbol::Act(Action::EndItem), Symbol::Part(1)];
     let mut rules = Vec::new(alloc);
     rules.push(rule(alloc, 0, &name)?)?;
     rules.push(rule(alloc, 0, &region)?)?;
@@ -116,7 +116,7 @@ const END: Event = Event::Did(Action::EndRegion);
 
 const NAMED: Event = Event::Did(Action::Name);
 
-const ITEM: Event = Event::Did(Action::Item);
+const ITEM: Event = Event::Did(Action::EndItem);
 
 #[test]
 fn reads_nested_lists(rt: HostRuntime) -> Result<(), AllocError> {

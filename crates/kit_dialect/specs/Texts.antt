@@ -1,6 +1,7 @@
 -- The texts of the kinds of `kit`.
 use Rattle.std.specs.Prelude.{[], ◌∷◌, map, codes}
 use Rattle.ir_print.specs.Formats.{Formats, Kind, Step, Steps, steps, word, operands, an_attribute, a_type, a_region, symbol_name, a_name, a_number, a_width, list_of}
+use Rattle.ir_text.specs.Ordered.{Leads, leads_with, operands_leads, list_leads}
 use Rattle.kit_dialect.specs.declared.kinds.KitOp.{KitOp}
 use Rattle.kit_dialect.specs.declared.kinds.KitOp.TheVariants.{Module, Func, Constant, Return}
 use Rattle.kit_dialect.specs.declared.kinds.KitTypeKind.{KitTypeKind}
@@ -47,3 +48,7 @@ attr_text kind = record { id = name_of_attr kind; format = format_of_attr kind }
 -- the kinds that can be read, by their numbers
 abbrev pub formats : Formats
 formats = record { operations = map op_text read_ops; types = map type_text read_types; attributes = map attr_text read_attrs }
+
+-- Where the parts of lists lead to: the operands of `kit.return`, and the inputs and the results of a function type.
+abbrev pub leads : Leads
+leads = leads_with (operands_leads ∷ operands_leads ∷ list_leads ∷ list_leads ∷ list_leads ∷ list_leads ∷ [])

@@ -1,4 +1,5 @@
 //! The table by which the texts of the dialect are read. A test writes what stands here (`table_is_current`).
+ghost use Rattle.std.specs.Prelude.{refl};
 
 use crate::dialect::Kit;
 use ir_text::{PartTable, ReadDialect};
@@ -145,7 +146,7 @@ const TABLE: &[PartTable] = &[
         choices: &[(13, 27), (20, 28), (21, 28), (25, 28)],
         follows: &[13],
         closing: Some(27),
-        cost: 2,
+        cost: 3,
         shortest: 27,
         rank: 1,
     },
@@ -161,7 +162,7 @@ const TABLE: &[PartTable] = &[
         choices: &[(13, 31), (20, 32), (21, 32), (25, 32)],
         follows: &[13],
         closing: Some(31),
-        cost: 2,
+        cost: 3,
         shortest: 31,
         rank: 1,
     },
@@ -176,7 +177,13 @@ const TABLE: &[PartTable] = &[
 ];
 
 impl ReadDialect for Kit {
+    ghost use Rattle.kit_dialect.specs.Texts as texts;
+
+    ghost leads = { texts.leads };
+
     fn table() -> &'static [PartTable] {
         TABLE
     }
+
+    ghost ordered = { refl };
 }

@@ -1,0 +1,65 @@
+-- What types, attributes and operations say, whatever their dialect.
+use Rattle.std.specs.Prelude.{ℕ, Bool, List, Option}
+use Rattle.ir_names.specs.declared.kinds.Signedness.{Signedness}
+use Rattle.ir_names.specs.Tree.{Tree, Trees}
+
+-- A piece of what a type, an attribute or an operation says, one for each directive of its format that is no literal. Kinds are
+-- given by their numbers in the dialect.
+pub data Piece : Type 0 where
+  -- a type of a kind, with the pieces of the type below it
+  type_of_kind : ℕ → Piece
+  -- an attribute of a kind, with its pieces below it
+  attribute_of_kind : ℕ → Piece
+  -- a list, with a member for each tree below it
+  list : Piece
+  -- a member of a list, with its pieces below it
+  item : Piece
+  -- so many operands
+  operands : ℕ → Piece
+  -- a region
+  region : Piece
+  -- a name, by its characters
+  name : List ℕ → Piece
+  -- a number: whether it is negative, and its magnitude
+  number : Bool → ℕ → Piece
+  -- the width of an integer: its sign, and its number of bits
+  width : Signedness → ℕ → Piece
+
+-- a type or an attribute
+abbrev pub ValueTree : Type 0
+ValueTree = Tree Piece
+
+-- pieces, one after the other
+abbrev pub Pieces : Type 0
+Pieces = Trees Piece
+
+-- What a dialect says of pieces that were read. Kinds are given by their numbers.
+pub record Values : Type 0 where
+  -- the number of the first piece that a type of a kind is refused for
+  pub refused_type : ℕ → Pieces → Option ℕ
+  -- the number of the first piece that an attribute of a kind is refused for
+  pub refused_attribute : ℕ → Pieces → Option ℕ
+  -- the number of the first piece that an operation of a kind is refused for
+  pub refused_operation : ℕ → Pieces → Option ℕ
+  -- the pieces of the attribute that is read from pieces: those that it is printed with
+  pub canonical : ℕ → Pieces → Pieces
+  -- the types of the results of an operation
+  pub result_types : ℕ → Pieces → List ValueTree
+
+-- What an operation, a region or a block says of itself, where an N names a value.
+pub data Head (N : Type 0) : Type 0 where
+  -- An operation: its kind, its results with their types, its operands, and what it says beside them. Its regions are below it.
+  operation : (kind : ℕ) (results : List (N × ValueTree)) (operands : List N) (pieces : Pieces) → Head N
+  -- a region, with its blocks below it
+  a_region : Head N
+  -- A block: its label, and its arguments with their types. Its operations are below it.
+  block : (label : List ℕ) (arguments : List (N × ValueTree)) → Head N
+
+mutual
+  -- an operation, a region or a block, with all that stands in it
+  pub data Entity (N : Type 0) : Type 0 where
+    entity : Head N → Entities N → Entity N
+
+  pub data Entities (N : Type 0) : Type 0 where
+    no_entity : Entities N
+    an_entity : Entity N → Entities N → Entities N

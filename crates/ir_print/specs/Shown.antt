@@ -1,0 +1,133 @@
+-- Which types, attributes and operations of a context say what.
+use Rattle.std.specs.Prelude.{◌≡◌, ℕ, ◌+◌, ◌^◌, ◌≤◌, Bool, List, [], ◌∷◌, Option, Some, None, slice_get, Vec}
+use Rattle.std.specs.Global.{Global}
+use Rattle.ir_names.specs.declared.kinds.TypeHandle.{TypeHandle}
+use Rattle.ir_names.specs.declared.kinds.Signedness.{Signedness}
+use Rattle.ir_names.specs.declared.identifier.Identifier.{Identifier}
+use Rattle.ir_names.specs.Identifier.{text_of}
+use Rattle.ir_names.specs.Tree.{Tree, Trees, node, no_tree, a_tree}
+use Rattle.ir_store.specs.Views.{ContextView}
+use Rattle.ir_store.specs.Context.{key_at}
+use Rattle.ir_print.specs.declared.format.Number.{Number}
+use Rattle.ir_print.specs.declared.format.Part.{Part}
+use Rattle.ir_print.specs.declared.format.Part.TheVariants as part
+use Rattle.ir_print.specs.Pieces.{Piece, type_of_kind, attribute_of_kind, list, item, operands, region, name, number, width, ValueTree, Pieces, Values}
+
+-- A piece of what something in a context says. Types are given by their handles.
+pub data Said (A : Type 0) : Type 0 where
+  said_type : TypeHandle → Said A
+  said_attribute : A → Said A
+  -- a list, with its members below it, and a member, with what it says below it
+  said_list said_item : Said A
+  said_operands : ℕ → Said A
+  said_region : Said A
+  said_name : List ℕ → Said A
+  said_number : Bool → ℕ → Said A
+  said_width : Signedness → ℕ → Said A
+
+-- a piece with nothing below it
+abbrev pub leaf : {A : Type 0} → Said A → Tree (Said A)
+leaf x = node x no_tree
+
+-- What a dialect's types, attributes and operations say: the number of the kind, and the pieces. Those that no text has say none.
+pub record Saying (K A T : Type 0) : Type 0 where
+  pub of_type : T → Option (ℕ × Trees (Said A))
+  pub of_attribute : A → Option (ℕ × Trees (Said A))
+  -- an operation of a kind with these attributes, by name, and so many operands
+  pub of_operation : K → List (List ℕ × A) → ℕ → Option (ℕ × Trees (Said A))
+
+-- the number that is read is this one; none is kept from 2^64 on
+abbrev pub IsNumber : Option Number → Bool → ℕ → Type 0
+IsNumber (Some n) negative magnitude = (n.is_negative ≡ negative) × (n.magnitude ≡ magnitude)
+IsNumber None negative magnitude = 2 ^ 64 ≤ magnitude
+
+-- the number of bits that is read is this one; none is kept from 2^32 on
+abbrev pub IsWidth : Option ℕ → ℕ → Type 0
+IsWidth (Some w) bits = w ≡ bits
+IsWidth None bits = 2 ^ 32 ≤ bits
+
+-- each of the first with the one of the second beside it, and neither has more
+abbrev pub Pairs : {X Y : Type 0} → (X → Y → Type 0) → List X → List Y → Type 0
+Pairs R [] [] = Unit {0}
+Pairs R (x ∷ xs) (y ∷ ys) = R x y × Pairs R xs ys
+Pairs R _ _ = ⊥
+
+-- What is said is this piece, and these pieces one each. A type is what the key under its handle says.
+abbrev mutual
+  pub Shows : {K A T : Type 0} → Saying K A T → List T → Tree (Said A) → ValueTree → Type 0
+  Shows {A = A} {T = T} says types x (node (type_of_kind n) ts) =
+      (ty : TypeHandle) × (key : T) × (us : Trees (Said A))
+      × (x ≡ leaf (said_type ty)) × (slice_get types ty.number ≡ Some key) × (says.of_type key ≡ Some (n, us)) × ShowsAll says types us ts
+  Shows {A = A} says types x (node (attribute_of_kind n) ts) =
+      (attr : A) × (us : Trees (Said A)) × (x ≡ leaf (said_attribute attr)) × (says.of_attribute attr ≡ Some (n, us)) × ShowsAll says types us ts
+  Shows {A = A} says types x (node list ts) = (us : Trees (Said A)) × (x ≡ node said_list us) × ShowsAll says types us ts
+  Shows {A = A} says types x (node item ts) = (us : Trees (Said A)) × (x ≡ node said_item us) × ShowsAll says types us ts
+  Shows says types x (node (operands n) ts) = x ≡ leaf (said_operands n)
+  Shows says types x (node region ts) = x ≡ leaf said_region
+  Shows says types x (node (name cs) ts) = x ≡ leaf (said_name cs)
+  Shows says types x (node (number negative magnitude) ts) = x ≡ leaf (said_number negative magnitude)
+  Shows says types x (node (width sign bits) ts) = x ≡ leaf (said_width sign bits)
+
+  pub ShowsAll : {K A T : Type 0} → Saying K A T → List T → Trees (Said A) → Pieces → Type 0
+  ShowsAll says types no_tree no_tree = Unit {0}
+  ShowsAll says types (a_tree u us) (a_tree t ts) = Shows says types u t × ShowsAll says types us ts
+  ShowsAll says types _ _ = ⊥
+
+module _ {K A T : Type 0} (says : Saying K A T) (types : List T) where
+  -- the type under a handle is this one
+  abbrev pub ShowsType : TypeHandle → ValueTree → Type 0
+  ShowsType ty t = Shows says types (leaf (said_type ty)) t
+
+  -- the attribute is this one
+  abbrev pub ShowsAttribute : A → ValueTree → Type 0
+  ShowsAttribute attr t = Shows says types (leaf (said_attribute attr)) t
+
+  -- the key of a type of the kind with this number says these pieces
+  abbrev pub ShowsKey : T → ℕ → Pieces → Type 0
+  ShowsKey key n ts = (us : Trees (Said A)) × (says.of_type key ≡ Some (n, us)) × ShowsAll says types us ts
+
+-- A part that was read is this piece. Parts are these pieces, one each, and so are the members of a list.
+abbrev mutual
+  pub ShowsPart : {D K A T : Type 0} → Saying K A T → List T → Part D K A T → ValueTree → Type 0
+  ShowsPart says types p (node (type_of_kind n) ts) = (ty : TypeHandle) × (p ≡ part.Type ty) × ShowsType says types ty (node (type_of_kind n) ts)
+  ShowsPart {A = A} says types p (node (attribute_of_kind n) ts) = (attr : A) × (p ≡ part.Attribute attr) × ShowsAttribute says types attr (node (attribute_of_kind n) ts)
+  ShowsPart {D = D} {K = K} {A = A} {T = T} says types p (node list ts) =
+      (ms : Vec (Vec (Part D K A T) Global) Global) × (p ≡ part.List ms) × ShowsMembers says types ms.items ts
+  ShowsPart says types p (node item ts) = ⊥
+  ShowsPart says types p (node (operands n) ts) = p ≡ part.Operands n
+  ShowsPart says types p (node region ts) = p ≡ part.Region
+  ShowsPart says types p (node (name cs) ts) = (id : Identifier) × (p ≡ part.Name id) × (text_of id ≡ cs)
+  ShowsPart says types p (node (number negative magnitude) ts) = (o : Option Number) × (p ≡ part.Number o) × IsNumber o negative magnitude
+  ShowsPart says types p (node (width sign bits) ts) = (o : Option ℕ) × (p ≡ part.Width sign o) × IsWidth o bits
+
+  pub ShowsParts : {D K A T : Type 0} → Saying K A T → List T → List (Part D K A T) → Pieces → Type 0
+  ShowsParts says types [] no_tree = Unit {0}
+  ShowsParts says types (p ∷ ps) (a_tree t ts) = ShowsPart says types p t × ShowsParts says types ps ts
+  ShowsParts says types _ _ = ⊥
+
+  pub ShowsMembers : {D K A T : Type 0} → Saying K A T → List T → List (Vec (Part D K A T) Global) → Pieces → Type 0
+  ShowsMembers says types [] no_tree = Unit {0}
+  ShowsMembers says types (m ∷ ms) (a_tree t ts) = ShowsMember says types m.items t × ShowsMembers says types ms ts
+  ShowsMembers says types _ _ = ⊥
+
+  pub ShowsMember : {D K A T : Type 0} → Saying K A T → List T → List (Part D K A T) → ValueTree → Type 0
+  ShowsMember says types ps (node item ts) = ShowsParts says types ps ts
+  ShowsMember says types ps (node _ ts) = ⊥
+
+-- how many operands pieces say, of which one piece at most says any
+abbrev pub operands_said : Pieces → ℕ
+operands_said no_tree = 0
+operands_said (a_tree (node (operands n) ts) rest) = n + operands_said rest
+operands_said (a_tree (node _ ts) rest) = operands_said rest
+
+-- An operation of a kind with these attributes, and with the operands of these pieces, says them; its results have these types.
+pub record Drafts {K A T : Type 0} (says : Saying K A T) (types : List T) (values : Values) (kind : K) (n : ℕ) (ps : Pieces) (attributes : List (List ℕ × A)) (result_types : List TypeHandle) : Type 0 where
+  pub pieces : Trees (Said A)
+  pub said : says.of_operation kind attributes (operands_said ps) ≡ Some (n, pieces)
+  pub shown : ShowsAll says types pieces ps
+  pub typed : Pairs (ShowsType says types) result_types (values.result_types n ps)
+
+-- each type under a handle stays there, and no value is made
+pub record KeepsTypes {K A T : Type 0} (s t : ContextView K A T) : Type 0 where
+  pub types : (ty : TypeHandle) (key : T) → key_at s ty ≡ Some key → key_at t ty ≡ Some key
+  pub counter : t.counter ≡ s.counter

@@ -1,0 +1,92 @@
+-- Which texts are read, what they say, and how the others are refused.
+use Rattle.std.specs.Prelude.{◌≡◌, ◌≢◌, ◌<◌, ℕ, List, [], ◌∷◌, map, length, take, slice_get, slice_index, Option, Some, None, Bool, ◌⊎◌}
+use Rattle.std.specs.Option.{option_map_or}
+use Rattle.std.specs.Str.{chars}
+use Rattle.ir_names.specs.Tree.{Trees}
+use Rattle.ir_print.specs.Formats.{Formats}
+use Rattle.ir_print.specs.Pieces.{Values, Entity, an_entity, no_entity}
+use Rattle.ir_text.specs.declared.grammar.Event.{Event}
+use Rattle.ir_text.specs.declared.grammar.Grammar.{Grammar}
+use Rattle.ir_text.specs.declared.grammar.Stop.{Stop}
+use Rattle.ir_text.specs.declared.grammar.Stop.TheVariants as stops
+use Rattle.ir_text.specs.declared.tokens.Token.{Token}
+use Rattle.ir_text.specs.declared.faults.Fault.{Fault}
+use Rattle.ir_text.specs.declared.faults.FaultKind.{FaultKind}
+use Rattle.ir_text.specs.declared.faults.FaultKind.TheVariants as kinds
+use Rattle.ir_text.specs.declared.faults.TextFault.{TextFault}
+use Rattle.ir_text.specs.declared.faults.TextFault.TheVariants as told
+use Rattle.ir_text.specs.declared.faults.ScopeCause.TheVariants as causes
+use Rattle.ir_text.specs.declared.scopes.Resolution.{Resolution}
+use Rattle.ir_text.specs.Tokens.{ReadsAs, place}
+use Rattle.ir_text.specs.Words.{text_of, kind_of, AlikeInNumber}
+use Rattle.ir_text.specs.Rules.{words_of, rules_of, classes_of, plain_rules, plain_classes}
+use Rattle.ir_text.specs.Reading.{Reads}
+use Rattle.ir_text.specs.Faults.{IsNamed}
+use Rattle.ir_text.specs.Depth.{IsTooDeep}
+use Rattle.ir_text.specs.Scopes.{HasScopeFault, IsResolved}
+use Rattle.ir_text.specs.Forest.{Step, IsForest}
+use Rattle.ir_text.specs.Meaning.{operations_in, renamed}
+use Rattle.ir_text.specs.ValueFaults.{HasNumberFault, HasNamesFault}
+
+-- What texts of a dialect are like: their formats, which kinds of operations are isolated, and what values say.
+pub record Language : Type 0 where
+  pub formats : Formats
+  pub isolated : ℕ → Bool
+  pub values : Values
+
+-- a grammar with the rules and the signs of the formats
+pub record IsGrammarOf (f : Formats) (g : Grammar) : Type 0 where
+  pub rules : plain_rules g.rules.items ≡ rules_of f
+  pub signs : plain_classes g.signs.items ≡ classes_of (words_of f)
+
+-- the characters of the token with this number, none behind the last
+abbrev pub token_text : List ℕ → List Token → ℕ → List ℕ
+token_text cs ts k = option_map_or (text_of cs) (slice_get ts k) []
+
+-- A text is these tokens, and reading them in the formats' grammar, with at most 64 parts open, does this up to where it stops. Two
+-- names of the text have one number where they are spelled alike.
+pub record IsReading (l : Language) (cs : List ℕ) (ts : List Token) (names : List ℕ) (stop : Stop) (n : ℕ) (es : List Event) : Type 0 where
+  pub tokens : ReadsAs cs 0 ts
+  pub alike : AlikeInNumber cs ts names
+  pub reads : (g : Grammar) × IsGrammarOf l.formats g × Reads g 0 64 (map (kind_of (map chars (words_of l.formats)) cs) ts) stop n es
+
+-- No text goes on with the token at which reading stopped, which may be the end.
+abbrev pub IsSyntaxFault : Stop → ℕ → ℕ → Fault → Type 0
+IsSyntaxFault stops.Text n all f = (n < all) × (f ≡ record { kind = kinds.Syntax; met = n; place = n })
+IsSyntaxFault stops.Stuck n all f = f ≡ record { kind = kinds.Syntax; met = n; place = n }
+IsSyntaxFault stops.Deep n all f = ⊥
+
+-- the faults of a text that was read so far
+abbrev pub HasFault : Language → List ℕ → List Token → List ℕ → Stop → ℕ → List Event → Fault → Type 0
+HasFault l cs ts names stop n es f =
+    IsSyntaxFault stop n (length ts) f
+    ⊎ (HasNumberFault l.values (token_text cs ts) es f
+    ⊎ (HasNamesFault l.values (token_text cs ts) es f
+    ⊎ (IsTooDeep es f
+    ⊎ HasScopeFault l.isolated names es f)))
+
+-- the line and column of the token with this number, or behind the last character
+abbrev pub place_of : List ℕ → List Token → ℕ → ℕ × ℕ
+place_of cs ts k = option_map_or (λ t. place (take t.start cs)) (slice_get ts k) (place cs)
+
+-- a fault as users see it
+abbrev pub tell : FaultKind → ℕ × ℕ → TextFault
+tell kinds.Syntax at = told.Syntax at.0 at.1
+tell kinds.Number at = told.Syntax at.0 at.1
+tell kinds.ResultNames at = told.Syntax at.0 at.1
+tell kinds.TooDeep at = told.TooDeep at.0 at.1
+tell kinds.MultipleDefinitions at = told.Scope at.0 at.1 causes.MultipleDefinitions
+tell kinds.UnresolvedReference at = told.Scope at.0 at.1 causes.UnresolvedReference
+
+-- The text is refused so: this is the first of its faults.
+abbrev pub IsTextFault : Language → List ℕ → TextFault → Type 0
+IsTextFault l cs fault = (ts : List Token) × (names : List ℕ) × (stop : Stop) × (n : ℕ) × (es : List Event) × (f : Fault)
+    × IsReading l cs ts names stop n es × IsNamed (HasFault l cs ts names stop n es) (Some f)
+    × (fault ≡ tell f.kind (place_of cs ts f.place))
+
+-- The text has no fault and says this tree, in which the number of its definition names a value.
+abbrev pub Says : Language → List ℕ → Entity ℕ → Type 0
+Says l cs tree = (ts : List Token) × (names : List ℕ) × (stop : Stop) × (n : ℕ) × (es : List Event) × (forest : Trees Step) × (t : Entity ℕ) × (r : Resolution)
+    × IsReading l cs ts names stop n es × IsNamed (HasFault l cs ts names stop n es) None
+    × IsForest es forest × (operations_in l.values (token_text cs ts) [] forest ≡ an_entity t no_entity)
+    × IsResolved l.isolated names es r × (tree ≡ renamed (slice_index r.definitions.items) t)
