@@ -312,7 +312,8 @@ impl Grammar {
     {
         let mut stack = Vec::new(alloc);
         stack.push(Symbol::Part(root))?;
-        let mut events = Vec::new(alloc);
+        // Reading does less than one thing more at a token, in most texts, than to take it.
+        let mut events = Vec::with_capacity(alloc, kinds.len().saturating_mul(2))?;
         let mut depth = 0;
         for taken in 0..kinds.len() {
             let mark = events.len();

@@ -48,7 +48,8 @@ ghost use Rattle.ir_text.specs.Tokens.{IsToken, ReadsAs, place};
 pub fn tokens_of(alloc: Global, chars: &[char]) -> Result<Vec<Token>, AllocError>
     ensures { IfOk result (λ v. ReadsAs chars.now 0 v.items) }
 {
-    let mut tokens = Vec::new(alloc);
+    // A token takes some six characters in most texts, with the white space before it.
+    let mut tokens = Vec::with_capacity(alloc, chars.len() / 6)?;
     let mut at = 0;
     'reading: while at < chars.len() {
         if char_at(chars, at).is_whitespace() {

@@ -210,8 +210,8 @@ pub fn classify(
         known: IndexSet::new(alloc),
         words: Vec::new(alloc),
     };
-    let mut kinds = Vec::new(alloc);
-    let mut names = Vec::new(alloc);
+    let mut kinds = Vec::with_capacity(alloc, tokens.len())?;
+    let mut names = Vec::with_capacity(alloc, tokens.len())?;
     for token in tokens {
         let (kind, name) = spellings.token(words, chars, *token, tokens.len())?;
         kinds.push(kind)?;

@@ -14,9 +14,9 @@ loop-taken-init c =
     let j : c.push.new.self.items ≡ Part c.args.root ∷ [] = i ∙ ap (λ x. x ++ (Part c.args.root ∷ [])) c.new-stack.ensures.items in
     let e : reverse c.push.new.self.items ≡ Part c.args.root ∷ [] = ap reverse j in
     record {
-      leads = rw (e, c.new-events.ensures.items) (leads_first c.args.self.now c.requires.predictive c.args.root);
+      leads = rw (e, c.in_ok-events.ensures.items) (leads_first c.args.self.now c.requires.predictive c.args.root);
       within = omega arith;
-      depth = rw c.new-events.ensures.items refl;
+      depth = rw c.in_ok-events.ensures.items refl;
       fine = rw e ((λ n z. subst (λ x. Follows c.args.self.now c.args.root x) (sym z) c.requires.ends), tt);
       known = rw e c.requires.known;
     }
