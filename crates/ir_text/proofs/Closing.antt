@@ -12,7 +12,7 @@ use Rattle.ir_text.specs.declared.grammar.Grammar.{Grammar}
 use Rattle.ir_text.specs.Grammar.{Derives, Finished, Shifted, Acted, Expanded, IsTextOf}
 use Rattle.ir_text.specs.Table.{column_of, pick, closing_of, Begins, IsFine, IsKnown, IsPredictive}
 use Rattle.ir_text.specs.declared.grammar.Stop.TheVariants.{Text, Stuck}
-use Rattle.ir_text.specs.Reading.{through, tooks, IsPrefix, begins_member, OnlyBegins, IsMostly}
+use Rattle.ir_text.specs.Reading.{through, tooks, IsPrefix, OnlyBegins, IsMostly}
 use Rattle.ir_text.specs.Run.{Leads, Closes, Ends}
 use Rattle.ir_text.proofs.Derivations.{after_none, after_sign, after_act, after_part, tooks_append, picks, fine_expanded, text_of}
 

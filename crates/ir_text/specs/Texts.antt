@@ -1,5 +1,5 @@
 -- Which texts are read, what they say, and how the others are refused.
-use Rattle.std.specs.Prelude.{◌≡◌, ◌≢◌, ◌<◌, ℕ, List, [], ◌∷◌, map, length, take, slice_get, slice_index, Option, Some, None, Bool, ◌⊎◌}
+use Rattle.std.specs.Prelude.{◌≡◌, ◌<◌, ℕ, List, [], map, length, take, slice_get, slice_index, Some, None, Bool, ◌⊎◌}
 use Rattle.std.specs.Option.{option_map_or}
 use Rattle.std.specs.Str.{chars}
 use Rattle.ir_names.specs.Tree.{Trees}

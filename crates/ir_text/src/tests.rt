@@ -99,7 +99,11 @@ fn nested(alloc: Global) -> Result<Grammar, AllocError> {
         Symbol::Sign(CLOSE),
         Symbol::Act(Action::EndRegion),
     ];
-    let more = [Symbol::Part(0), Symbol::Act(Action::EndItem), Symbol::Part(1)];
+    let more = [
+        Symbol::Part(0),
+        Symbol::Act(Action::EndItem),
+        Symbol::Part(1),
+    ];
     let mut rules = Vec::new(alloc);
     rules.push(rule(alloc, 0, &name)?)?;
     rules.push(rule(alloc, 0, &region)?)?;

@@ -1,1 +1,8 @@
 pub mod Printed
+pub mod Every
+pub mod Shown
+pub mod Heads
+pub mod Rulings
+pub mod Tables
+pub mod Left
+pub mod Verdicts

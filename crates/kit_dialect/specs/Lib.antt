@@ -1,5 +1,9 @@
 pub mod Kinds
 pub mod Numbers
-pub mod Walks
 pub mod Parts
 pub mod Texts
+pub mod Says
+pub mod Rules
+pub mod Shapes
+pub mod Walks
+pub mod Rows

@@ -4,6 +4,7 @@
 mod attributes;
 mod dialect;
 mod kinds;
+mod laws;
 mod module_rules;
 mod shape;
 mod table;

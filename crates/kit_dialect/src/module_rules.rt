@@ -2,19 +2,18 @@
 //!
 //! Each rule is tested on any tree. Of several broken rules the one with the smallest number is named, at its first
 //! place in the order of the text.
-ghost use Rattle.std.specs.Prelude.{◌≡◌, IfOk, IfSome};
-ghost use Rattle.ir_store.specs.Context.{IsLiveOperation, IsLiveRegion, IsLiveBlock, IsLiveDefiner};
-ghost use Rattle.kit_dialect.specs.Walks.{AreLive};
+ghost use Rattle.std.specs.Prelude.{◌≡◌, IfOk, OnOk, ℕ, List, Some, false, option_map, cond, ◌==◌};
+ghost use Rattle.std.specs.Option.{option_map_or};
+ghost use Rattle.kit_dialect.specs.declared.kinds.KitOp.{KitOp};
+ghost use Rattle.kit_dialect.specs.Walks as walks;
+ghost use Rattle.ir_store.specs.declared.value.Value.{Value};
+ghost use Rattle.ir_store.specs.Context.{IsLiveOperation, IsLiveRegion, IsLiveBlock, result_value, argument_value, results_of, arguments_of, operands_of, kind_of};
 
-use crate::attributes::{CONSTANT_VALUE, KitAttr};
 use crate::dialect::Kit;
-use crate::kinds::KitOp;
-use crate::shape::{
-    entry_block, fits_format, function_type, has_empty_block, has_function_body, has_module_body,
-    has_value_arguments, has_value_results, is_last, parent_op, stands_in, symbol_name,
-};
+use crate::kinds::{IntegerType, KitOp};
+use crate::shape::{function_type, integer_type, is_same_integer, own_rule, symbol_name};
 use ir_names::{Place, TypeHandle};
-use ir_store::{BasicBlock, Context, DefiningEntity, Operation, Ptr, Region, Value};
+use ir_store::{BasicBlock, Context, Operation, Ptr, Region, Value};
 use std::alloc::{AllocError, AllocFailed, Global};
 use std::collections::{HashMap, HashSet};
 use thiserror::Error;
@@ -49,438 +48,298 @@ impl<T: Drop> From<AllocFailed<T>> for RuleFault {
     }
 }
 
-/// The greatest number of a rule.
-const LAST_RULE: u8 = 14;
+/// The integer types of values that were defined, None for a value of another type.
+type Table = HashMap<Value, Option<IntegerType>>;
 
-/// An operation of the tree, with where it stands below another one.
-#[derive(Clone, Copy)]
-struct Node {
-    op: Ptr<Operation>,
-    /// The number of the node of its parent; its own for the root.
-    parent: usize,
-    region: usize,
-    block: usize,
-    index: usize,
-}
-
-/// What has been seen of a tree on a walk in the order of the text.
-#[derive(Drop)]
-struct Seen<'a> {
-    /// The types of the results of operations that were visited, and of the arguments of their blocks.
-    types: HashMap<Value, TypeHandle>,
-    /// The names in each block of a module that was visited.
-    names: HashSet<(Ptr<BasicBlock>, &'a str)>,
-}
-
-/// The operations of a tree, those that are known so far.
-#[derive(Drop)]
-struct Walk {
-    nodes: Vec<Node>,
-    /// The nodes that are still to be visited, the next one last.
-    waiting: Vec<usize>,
-}
-
-/// The root is a module.
-fn breaks_root(ctx: &Context<Kit>, root: Ptr<Operation>, op: Ptr<Operation>) -> bool
-    requires { IsLiveOperation ctx.now op }
+/// The integer type that one of two tables has for a value, the first one's where both have it.
+fn look_up(earlier: &Table, entry: &Table, value: Value) -> Option<Option<IntegerType>>
+    ensures { result ≡ walks.seen (walks.table_of earlier.now) (walks.table_of entry.now) value }
 {
-    op == root && op.kind(ctx) != KitOp::Module
-}
-
-/// A function has a function type over integers, and is entered with its inputs.
-fn breaks_function(ctx: &Context<Kit>, op: Ptr<Operation>) -> bool
-    requires { IsLiveOperation ctx.now op }
-{
-    op.kind(ctx) == KitOp::Func && !has_function_body(ctx, op)
-}
-
-/// The blocks of a function hold constants and operations of `kit`, without regions.
-fn breaks_body(ctx: &Context<Kit>, root: Ptr<Operation>, op: Ptr<Operation>) -> bool
-    requires { IsLiveOperation ctx.now op }
-{
-    let kind = op.kind(ctx);
-    op != root
-        && stands_in(ctx, op, KitOp::Func)
-        && (kind == KitOp::Module || kind == KitOp::Func || op.num_regions(ctx) > 0)
-}
-
-/// Each value is an integer of 1 to 64 bits.
-fn breaks_values(ctx: &Context<Kit>, op: Ptr<Operation>) -> bool
-    requires { IsLiveOperation ctx.now op }
-{
-    !has_value_results(ctx, op) || !has_value_arguments(ctx, op)
-}
-
-/// In a function the last operation of each block, and no other, is a terminator.
-fn breaks_blocks(ctx: &Context<Kit>, root: Ptr<Operation>, op: Ptr<Operation>) -> bool
-    requires { IsLiveOperation ctx.now op }
-{
-    let kind = op.kind(ctx);
-    if kind == KitOp::Func && has_empty_block(ctx, op) {
-        return true;
+    match earlier.get(&value) {
+        Some(ty) => Some(*ty),
+        None => entry.get(&value).copied(),
     }
-    op != root && stands_in(ctx, op, KitOp::Func) && is_last(ctx, op) != kind.is_terminator()
 }
 
-/// A constant's value is an integer of its result's type.
-fn breaks_constant(ctx: &Context<Kit>, op: Ptr<Operation>) -> bool
+/// Notes the results of an operation.
+fn define_results(
+    table: &mut Table,
+    ctx: &Context<Kit>,
+    op: Ptr<Operation>,
+) -> Result<(), AllocError>
     requires { IsLiveOperation ctx.now op }
+    ensures { OnOk result ((v : Value) → walks.table_of table.new v ≡ walks.defined ctx.now (result_value op) (results_of ctx.now op) v (walks.table_of table.old v)) }
 {
-    if op.kind(ctx) != KitOp::Constant || op.get_num_results(ctx) == 0 {
+    for index in 0..op.get_num_results(ctx) {
+        let ty = integer_type(ctx, op.get_type(ctx, index));
+        table.insert(op.get_result(ctx, index), ty)?;
+    }
+    Ok(())
+}
+
+/// Notes the arguments of a block.
+fn define_arguments(
+    table: &mut Table,
+    ctx: &Context<Kit>,
+    block: Ptr<BasicBlock>,
+) -> Result<(), AllocError>
+    requires { IsLiveBlock ctx.now block }
+    ensures { OnOk result ((v : Value) → walks.table_of table.new v ≡ walks.defined ctx.now (argument_value block) (arguments_of ctx.now block) v (walks.table_of table.old v)) }
+{
+    for index in 0..block.get_num_arguments(ctx) {
+        let ty = integer_type(ctx, block.argument_type(ctx, index));
+        table.insert(block.get_argument(ctx, index), ty)?;
+    }
+    Ok(())
+}
+
+/// The name of a module or a function, None for another operation.
+fn symbol_of<'a>(ctx: &'a Context<Kit>, op: Ptr<Operation>) -> Option<&'a str>
+    requires { IsLiveOperation ctx.now op }
+    ensures { (kind : KitOp) → kind_of ctx.now op ≡ Some kind → option_map (λ name. name.now) result ≡ walks.symbol_in ctx.now kind op }
+{
+    match op.kind(ctx) {
+        KitOp::Module => symbol_name(ctx, op),
+        KitOp::Func => symbol_name(ctx, op),
+        KitOp::Constant => None,
+        KitOp::Return => None,
+    }
+}
+
+/// Whether a module or a function has the name of an earlier one. Its name is noted.
+fn note_name<'a>(
+    names: &mut HashSet<&'a str>,
+    ctx: &'a Context<Kit>,
+    op: Ptr<Operation>,
+) -> Result<bool, AllocError>
+    requires { IsLiveOperation ctx.now op }
+    ensures taken { IfOk result (λ is_taken. (kind : KitOp) → kind_of ctx.now op ≡ Some kind → is_taken ≡ option_map_or (walks.names_of names.old) (walks.symbol_in ctx.now kind op) false) }
+    ensures noted { OnOk result ((kind : KitOp) → kind_of ctx.now op ≡ Some kind → (text : List ℕ) → walks.names_of names.new text ≡ walks.with_name (walks.names_of names.old) (walks.symbol_in ctx.now kind op) text) }
+{
+    match symbol_of(ctx, op) {
+        Some(name) => Ok(!names.insert(name)?),
+        None => Ok(false),
+    }
+}
+
+/// Whether each operand of an operation is in one of the tables.
+fn are_seen(ctx: &Context<Kit>, op: Ptr<Operation>, earlier: &Table, entry: &Table) -> bool
+    requires { IsLiveOperation ctx.now op }
+    ensures { result ≡ walks.are_seen ctx.now (walks.table_of earlier.now) (walks.table_of entry.now) op }
+{
+    for index in 0..op.get_num_operands(ctx) {
+        if look_up(earlier, entry, op.get_operand(ctx, index)).is_none() {
+            return false;
+        }
+    }
+    true
+}
+
+/// The integer type of a value that was defined and has one.
+fn known_type(earlier: &Table, entry: &Table, value: Value) -> Option<IntegerType>
+    ensures { result ≡ walks.known (walks.seen (walks.table_of earlier.now) (walks.table_of entry.now) value) }
+{
+    match look_up(earlier, entry, value) {
+        Some(ty) => ty,
+        None => None,
+    }
+}
+
+/// Whether an operation has operands of these types, which are integers.
+fn has_operand_types(
+    ctx: &Context<Kit>,
+    op: Ptr<Operation>,
+    earlier: &Table,
+    entry: &Table,
+    types: &[TypeHandle],
+) -> bool
+    requires { IsLiveOperation ctx.now op }
+    ensures { result ≡ walks.has_operand_types ctx.now (walks.table_of earlier.now) (walks.table_of entry.now) op types.now }
+{
+    let count = op.get_num_operands(ctx);
+    if count != types.len() {
         return false;
     }
-    match op.attributes(ctx).get(CONSTANT_VALUE) {
-        Some(KitAttr::Integer(integer)) => integer.ty != op.get_type(ctx, 0),
-        _ => true,
+    for index in 0..count {
+        let ty = known_type(earlier, entry, op.get_operand(ctx, index));
+        if !is_same_integer(ty, integer_type(ctx, types[index])) {
+            return false;
+        }
+    }
+    true
+}
+
+/// Whether what leaves a function has the types of its results.
+fn returns_results(
+    ctx: &Context<Kit>,
+    owner: Ptr<Operation>,
+    op: Ptr<Operation>,
+    earlier: &Table,
+    entry: &Table,
+) -> bool
+    requires owner { IsLiveOperation ctx.now owner }
+    requires op { IsLiveOperation ctx.now op }
+    ensures { result ≡ walks.returns_results ctx.now (walks.table_of earlier.now) (walks.table_of entry.now) owner op }
+{
+    match function_type(ctx, owner) {
+        Some(function) => has_operand_types(ctx, op, earlier, entry, &function.results),
+        None => true,
     }
 }
 
-impl<'a> Seen<'a> {
-    /// A module has one block, which holds modules and functions with distinct names.
-    fn breaks_module(
-        &mut self,
-        ctx: &'a Context<Kit>,
-        root: Ptr<Operation>,
-        op: Ptr<Operation>,
-    ) -> Result<bool, RuleFault>
-        requires { IsLiveOperation ctx.now op }
+/// The smallest number of a rule that an operation breaks by where it stands, 15 if it breaks none.
+fn standing_rule(
+    ctx: &Context<Kit>,
+    owner: Ptr<Operation>,
+    op: Ptr<Operation>,
+    is_last: bool,
+    is_taken: bool,
+    earlier: &Table,
+    entry: &Table,
+) -> u8
+    requires owner { IsLiveOperation ctx.now owner }
+    requires op { IsLiveOperation ctx.now op }
+    ensures { (outer : KitOp) → (kind : KitOp) → kind_of ctx.now owner ≡ Some outer → kind_of ctx.now op ≡ Some kind
+        → result ≡ walks.standing_rule ctx.now outer owner kind op is_last is_taken (walks.table_of earlier.now) (walks.table_of entry.now) }
+{
+    let outer = owner.kind(ctx);
+    let kind = op.kind(ctx);
+    let is_symbol = kind == KitOp::Module || kind == KitOp::Func;
+    if outer == KitOp::Module && !is_symbol {
+        2
+    } else if outer == KitOp::Module && is_taken {
+        2
+    } else if outer == KitOp::Func && (is_symbol || op.num_regions(ctx) > 0) {
+        4
+    } else if outer == KitOp::Func && is_last != kind.is_terminator() {
+        6
+    } else if !are_seen(ctx, op, earlier, entry) {
+        7
+    } else if kind == KitOp::Return
+        && outer == KitOp::Func
+        && !returns_results(ctx, owner, op, earlier, entry)
     {
-        let kind = op.kind(ctx);
-        if kind == KitOp::Module && !has_module_body(ctx, op) {
-            return Ok(true);
-        }
-        if op == root || !stands_in(ctx, op, KitOp::Module) {
-            return Ok(false);
-        }
-        if kind != KitOp::Module && kind != KitOp::Func {
-            return Ok(true);
-        }
-        match (op.get_parent_block(ctx), symbol_name(ctx, op)) {
-            (Some(block), Some(name)) => Ok(!self.names.insert((block, name))?),
-            _ => Ok(false),
-        }
+        11
+    } else {
+        15
     }
+}
 
-    /// An operand is an earlier value of its own block or, outside the entry block, a value of the entry block.
-    fn breaks_operands(&self, ctx: &Context<Kit>, op: Ptr<Operation>) -> bool
-        requires { IsLiveOperation ctx.now op }
-    {
-        for index in 0..op.get_num_operands(ctx) {
-            if !self.is_seen(ctx, op, op.get_operand(ctx, index)) {
-                return true;
-            }
-        }
-        false
-    }
+/// The values of the entry block, behind the block with an index that has these values.
+fn entry_after(entry: Table, values: Table, index: usize) -> Table
+    ensures { (v : Value) → walks.table_of result v ≡ cond (index == 0) (walks.table_of values v) (walks.table_of entry v) }
+{
+    if index == 0 { values } else { entry }
+}
 
-    /// Whether an operation may name a value.
-    fn is_seen(&self, ctx: &Context<Kit>, op: Ptr<Operation>, value: Value) -> bool
-        requires op { IsLiveOperation ctx.now op }
-        requires value { IsLiveDefiner ctx.now value.definer }
-    {
-        let Some(block) = op.get_parent_block(ctx) else {
-            return false;
-        };
-        let (defining, is_earlier) = match value.definer() {
-            DefiningEntity::Block(defining) => (defining, true),
-            DefiningEntity::Op(definer) => match definer.get_parent_block(ctx) {
-                Some(defining) => (defining, self.types.contains_key(&value)),
-                None => return false,
-            },
-        };
-        if defining == block {
-            return is_earlier;
-        }
-        match block.get_parent_region(ctx) {
-            Some(region) => entry_block(ctx, region) == Some(defining),
-            None => false,
-        }
-    }
-
-    /// What leaves a function has the types of its results.
-    fn breaks_return(&self, ctx: &Context<Kit>, root: Ptr<Operation>, op: Ptr<Operation>) -> bool
-        requires { IsLiveOperation ctx.now op }
-    {
-        if op.kind(ctx) != KitOp::Return || op == root {
-            return false;
-        }
-        let Some(parent) = parent_op(ctx, op) else {
-            return false;
-        };
-        match function_type(ctx, parent) {
-            Some(function) => !self.has_operand_types(ctx, op, &function.results),
-            None => false,
-        }
-    }
-
-    /// Whether an operation has operands of these types, which were seen before it.
-    fn has_operand_types(
-        &self,
-        ctx: &Context<Kit>,
-        op: Ptr<Operation>,
-        types: &[TypeHandle],
-    ) -> bool
-        requires { IsLiveOperation ctx.now op }
-    {
-        if op.get_num_operands(ctx) != types.len() {
-            return false;
-        }
-        for (index, ty) in types.iter().enumerate() {
-            if index < op.get_num_operands(ctx)
-                && self.types.get(&op.get_operand(ctx, index)) != Some(ty)
-            {
-                return false;
-            }
-        }
-        true
-    }
-
-    /// The values that an operation defines, and those of its blocks, have been seen.
-    fn note_values(&mut self, ctx: &Context<Kit>, op: Ptr<Operation>) -> Result<(), RuleFault>
-        requires { IsLiveOperation ctx.now op }
-    {
-        for index in 0..op.get_num_results(ctx) {
-            self.types
-                .insert(op.get_result(ctx, index), op.get_type(ctx, index))?;
-        }
-        self.note_regions(ctx, op)
-    }
-
-    fn note_regions(&mut self, ctx: &Context<Kit>, op: Ptr<Operation>) -> Result<(), RuleFault>
-        requires { IsLiveOperation ctx.now op }
-    {
-        for index in 0..op.num_regions(ctx) {
-            self.note_blocks(ctx, op.get_region(ctx, index))?;
-        }
-        Ok(())
-    }
-
-    fn note_blocks(&mut self, ctx: &Context<Kit>, region: Ptr<Region>) -> Result<(), RuleFault>
-        requires { IsLiveRegion ctx.now region }
-    {
-        for index in 0..region.num_blocks(ctx) {
-            self.note_arguments(ctx, region.get_block(ctx, index))?;
-        }
-        Ok(())
-    }
-
-    fn note_arguments(
-        &mut self,
-        ctx: &Context<Kit>,
-        block: Ptr<BasicBlock>,
-    ) -> Result<(), RuleFault>
-        requires { IsLiveBlock ctx.now block }
-    {
-        for index in 0..block.get_num_arguments(ctx) {
-            self.types.insert(
-                block.get_argument(ctx, index),
-                block.argument_type(ctx, index),
-            )?;
-        }
-        Ok(())
-    }
-
-    /// The smallest number of a rule that an operation breaks, above all that are greater than the last.
-    fn broken(
-        &mut self,
-        ctx: &'a Context<Kit>,
-        root: Ptr<Operation>,
-        op: Ptr<Operation>,
-    ) -> Result<u8, RuleFault>
-        requires { IsLiveOperation ctx.now op }
-    {
-        if breaks_root(ctx, root, op) {
-            return Ok(1);
-        }
-        if self.breaks_module(ctx, root, op)? {
-            return Ok(2);
-        }
-        Ok(self.broken_inside(ctx, root, op))
-    }
-
-    fn broken_inside(&self, ctx: &Context<Kit>, root: Ptr<Operation>, op: Ptr<Operation>) -> u8
-        requires { IsLiveOperation ctx.now op }
-    {
-        if breaks_function(ctx, op) {
-            3
-        } else if breaks_body(ctx, root, op) {
-            4
-        } else if breaks_values(ctx, op) {
-            5
-        } else if breaks_blocks(ctx, root, op) {
-            6
-        } else if self.breaks_operands(ctx, op) {
-            7
-        } else if self.breaks_return(ctx, root, op) {
-            11
-        } else if breaks_constant(ctx, op) {
-            12
-        } else if !fits_format(ctx, op) {
-            14
-        } else {
-            LAST_RULE + 1
-        }
-    }
+/// What a walk over the operations of a tree has found.
+#[derive(Drop)]
+struct Walk {
+    /// The place of the operation that is visited.
+    place: Vec<usize>,
+    /// The smallest number of a broken rule, 15 if none was broken, with the first place where it is.
+    rule: u8,
+    found: Vec<usize>,
 }
 
 impl Walk {
-    /// The walk that is to visit the root alone.
-    fn from_root(alloc: Global, ctx: &Context<Kit>, root: Ptr<Operation>) -> Result<Walk, RuleFault>
-        requires { IsLiveOperation ctx.now root }
-        ensures { IfOk result (λ walk. AreLive ctx.now walk.nodes.items) }
+    /// A rule is broken at the place.
+    fn note(&mut self, rule: u8) -> Result<(), RuleFault>
+        ensures place { OnOk result (self.new.place.items ≡ self.old.place.items) }
+        ensures found { OnOk result (walks.found self.new.rule self.new.found.items ≡ walks.note self.old.place.items rule (walks.found self.old.rule self.old.found.items)) }
     {
-        let node = Node {
-            op: root,
-            parent: 0,
-            region: 0,
-            block: 0,
-            index: 0,
-        };
-        let nodes = vec![in alloc; node]?;
-        let waiting = vec![in alloc; 0]?;
-        Ok(Walk { nodes, waiting })
+        if rule < self.rule {
+            self.found = self.place.clone()?;
+            self.rule = rule;
+        }
+        Ok(())
     }
 
-    /// The number and the operation of the node that is visited next.
-    fn next(&mut self, ctx: &Context<Kit>) -> Option<(usize, Ptr<Operation>)>
-        requires { AreLive ctx.now self.old.nodes.items }
-        ensures live { IfSome result (λ next. IsLiveOperation ctx.now next.1) }
-        ensures same { self.new.nodes ≡ self.old.nodes }
-    {
-        let number = self.waiting.pop()?;
-        let node = self.nodes.get(number)?;
-        Some((number, node.op))
-    }
-
-    /// The operations below a node wait to be visited, the first one next.
-    fn wait(
+    /// Visits an operation that breaks this rule by where it stands, and all that is in it.
+    #[cycle(visiting)]
+    fn operation(
         &mut self,
+        alloc: Global,
         ctx: &Context<Kit>,
-        parent: usize,
         op: Ptr<Operation>,
+        standing: u8,
+        depth: u64,
     ) -> Result<(), RuleFault>
-        requires op { IsLiveOperation ctx.now op }
-        requires nodes { AreLive ctx.now self.old.nodes.items }
-        ensures { AreLive ctx.now self.new.nodes.items }
+        requires { IsLiveOperation ctx.now op }
+        ensures place { OnOk result (self.new.place.items ≡ self.old.place.items) }
+        ensures found { OnOk result (walks.VisitsOperation ctx.now op standing self.old.place.items (walks.found self.old.rule self.old.found.items) (walks.found self.new.rule self.new.found.items)) }
     {
-        let from = self.nodes.len();
-        for region in 0..op.num_regions(ctx) {
-            self.add_region(ctx, parent, op.get_region(ctx, region), region)?;
+        // No memory holds a tree of that depth.
+        if depth == 0 {
+            return Err(RuleFault::Memory);
         }
-        self.wait_from(from)
-    }
-
-    /// The nodes from this one on wait to be visited, this one next.
-    fn wait_from(&mut self, from: usize) -> Result<(), RuleFault>
-        ensures { self.new.nodes ≡ self.old.nodes }
-    {
-        for number in (from..self.nodes.len()).rev() {
-            self.waiting.push(number)?;
+        self.note(standing)?;
+        self.note(own_rule(ctx, op))?;
+        for index in 0..op.num_regions(ctx) {
+            self.place.push(index)?;
+            self.region(alloc, ctx, op, op.get_region(ctx, index), depth - 1)?;
+            let _ = self.place.pop();
         }
         Ok(())
     }
 
-    /// The operations of a region become nodes.
-    fn add_region(
+    #[cycle(visiting)]
+    fn region(
         &mut self,
+        alloc: Global,
         ctx: &Context<Kit>,
-        parent: usize,
-        place: Ptr<Region>,
-        region: usize,
+        owner: Ptr<Operation>,
+        region: Ptr<Region>,
+        depth: u64,
     ) -> Result<(), RuleFault>
-        requires region { IsLiveRegion ctx.now place }
-        requires nodes { AreLive ctx.now self.old.nodes.items }
-        ensures { AreLive ctx.now self.new.nodes.items }
+        requires owner { IsLiveOperation ctx.now owner }
+        requires region { IsLiveRegion ctx.now region }
+        ensures place { OnOk result (self.new.place.items ≡ self.old.place.items) }
+        ensures found { OnOk result (walks.VisitsRegion ctx.now owner region self.old.place.items (walks.found self.old.rule self.old.found.items) (walks.found self.new.rule self.new.found.items)) }
     {
-        for block in 0..place.num_blocks(ctx) {
-            self.add_block(ctx, parent, place.get_block(ctx, block), region, block)?;
+        let mut entry: Table = HashMap::new(alloc);
+        for index in 0..region.num_blocks(ctx) {
+            self.place.push(index)?;
+            let block = region.get_block(ctx, index);
+            let values = self.block(alloc, ctx, owner, block, &entry, depth)?;
+            let _ = self.place.pop();
+            entry = entry_after(entry, values, index);
         }
         Ok(())
     }
 
-    /// The operations of a block become nodes.
-    fn add_block(
+    /// Visits the operations of a block, behind the values of the entry block. Answers the values of the block.
+    #[cycle(visiting)]
+    fn block(
         &mut self,
+        alloc: Global,
         ctx: &Context<Kit>,
-        parent: usize,
-        place: Ptr<BasicBlock>,
-        region: usize,
-        block: usize,
-    ) -> Result<(), RuleFault>
-        requires block { IsLiveBlock ctx.now place }
-        requires nodes { AreLive ctx.now self.old.nodes.items }
-        ensures { AreLive ctx.now self.new.nodes.items }
+        owner: Ptr<Operation>,
+        block: Ptr<BasicBlock>,
+        entry: &Table,
+        depth: u64,
+    ) -> Result<Table, RuleFault>
+        requires owner { IsLiveOperation ctx.now owner }
+        requires block { IsLiveBlock ctx.now block }
+        ensures place { OnOk result (self.new.place.items ≡ self.old.place.items) }
+        ensures found { IfOk result (λ earlier. walks.VisitsBlock ctx.now owner block (walks.table_of entry.now) self.old.place.items (walks.found self.old.rule self.old.found.items) (walks.found self.new.rule self.new.found.items) (walks.table_of earlier)) }
     {
-        for index in 0..place.num_operations(ctx) {
-            self.nodes.push(Node {
-                op: place.get_operation(ctx, index),
-                parent,
-                region,
-                block,
-                index,
-            })?;
+        let mut earlier: Table = HashMap::new(alloc);
+        define_arguments(&mut earlier, ctx, block)?;
+        let mut names = HashSet::new(alloc);
+        let count = block.num_operations(ctx);
+        for index in 0..count {
+            let op = block.get_operation(ctx, index);
+            let is_last = index + 1 == count;
+            let is_taken = note_name(&mut names, ctx, op)?;
+            let standing = standing_rule(ctx, owner, op, is_last, is_taken, &earlier, entry);
+            self.place.push(index)?;
+            self.operation(alloc, ctx, op, standing, depth)?;
+            let _ = self.place.pop();
+            define_results(&mut earlier, ctx, op)?;
         }
-        Ok(())
+        Ok(earlier)
     }
-
-    /// Where a node stands below the root.
-    fn place(&self, alloc: Global, node: usize) -> Result<Place, RuleFault> {
-        let mut children = Vec::new(alloc);
-        let mut at = node;
-        while at > 0 {
-            let Some(found) = self.nodes.get(at) else {
-                break;
-            };
-            children.push(found.index)?;
-            children.push(found.block)?;
-            children.push(found.region)?;
-            if found.parent >= at {
-                break;
-            }
-            at = found.parent;
-        }
-        children.reverse();
-        Ok(Place { children })
-    }
-}
-
-/// The smallest number of a broken rule, and the node that breaks it first.
-#[derive(Clone, Copy)]
-struct Verdict {
-    rule: u8,
-    node: usize,
-}
-
-/// Visits the tree of an operation, in the order of the text.
-fn visit(
-    alloc: Global,
-    ctx: &Context<Kit>,
-    root: Ptr<Operation>,
-    walk: &mut Walk,
-) -> Result<Verdict, RuleFault>
-    requires { AreLive ctx.now walk.old.nodes.items }
-{
-    let mut seen = Seen {
-        types: HashMap::new(alloc),
-        names: HashSet::new(alloc),
-    };
-    let mut verdict = Verdict {
-        rule: LAST_RULE + 1,
-        node: 0,
-    };
-    // There are fewer operations than turns.
-    for _turn in 0..u64::MAX {
-        let Some((node, op)) = walk.next(ctx) else {
-            break;
-        };
-        let rule = seen.broken(ctx, root, op)?;
-        if rule < verdict.rule {
-            verdict = Verdict { rule, node };
-        }
-        seen.note_values(ctx, op)?;
-        walk.wait(ctx, node, op)?;
-    }
-    Ok(verdict)
 }
 
 /// Tests the rules on the tree of an operation.
@@ -489,11 +348,39 @@ fn visit(
 /// breaks it. Takes time in proportion to the tree.
 pub fn rules(alloc: Global, ctx: &Context<Kit>, root: Ptr<Operation>) -> Result<(), RuleFault>
     requires { IsLiveOperation ctx.now root }
+    ensures { walks.IsExact ctx.now root result }
 {
-    let mut walk = Walk::from_root(alloc, ctx, root)?;
-    let verdict = visit(alloc, ctx, root, &mut walk)?;
-    if verdict.rule > LAST_RULE {
+    let mut walk = Walk {
+        place: Vec::new(alloc),
+        rule: 15,
+        found: Vec::new(alloc),
+    };
+    let standing = root_rule(ctx, root);
+    match walk.operation(alloc, ctx, root, standing, u64::MAX) {
+        Ok(()) => {}
+        Err(_) => return Err(RuleFault::Memory),
+    }
+    if walk.rule > 14 {
         return Ok(());
     }
-    Err(RuleFault::Broken(verdict.rule, walk.place(alloc, verdict.node)?))
+    Err(RuleFault::Broken(
+        walk.rule,
+        Place {
+            children: walk.found,
+        },
+    ))
+}
+
+/// The smallest number of a rule that the root breaks as the root: it is a module, and there is no value that it may name.
+fn root_rule(ctx: &Context<Kit>, root: Ptr<Operation>) -> u8
+    requires { IsLiveOperation ctx.now root }
+    ensures { (kind : KitOp) → kind_of ctx.now root ≡ Some kind → result ≡ walks.root_rule ctx.now kind root }
+{
+    if root.kind(ctx) != KitOp::Module {
+        1
+    } else if root.get_num_operands(ctx) > 0 {
+        7
+    } else {
+        15
+    }
 }

@@ -1,0 +1,11 @@
+use Rattle.std.proofs.Common.{[], ◌∷◌, refl, arith}
+use Rattle.ir_print.specs.Pieces.{no_entity, an_entity}
+use Rattle.kit_dialect.specs.Rows.{a_function, module_with}
+use Rattle.kit_dialect.proofs.Verdicts.{accepted, named}
+use Rattle.kit_dialect.proofs.laws.rows.Goals as goal
+
+pub returns-clause-kept : goal.returns-clause-kept
+returns-clause-kept c = accepted (module_with (an_entity a_function no_entity)) (15, []) refl (omega arith)
+
+pub returns-clause-again : goal.returns-clause-again
+returns-clause-again c = named (module_with (an_entity a_function (an_entity a_function no_entity))) (2, 0 ∷ 0 ∷ 1 ∷ []) refl (omega arith)
