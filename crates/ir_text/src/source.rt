@@ -1,4 +1,5 @@
 //! A text with its tokens, and what single tokens say.
+ghost use Rattle.std.specs.Prelude.{◌≡◌, take};
 
 use crate::tokens::Token;
 use crate::words::text_of;
@@ -22,7 +23,9 @@ impl<'a> Source<'a> {
     }
 
     /// So many characters from the beginning on.
-    pub fn front(&self, end: usize) -> &'a [char] {
+    pub fn front(&self, end: usize) -> &'a [char]
+        ensures { result.now ≡ take end self.now.chars.now }
+    {
         &self.chars[..end.min(self.chars.len())]
     }
 }
