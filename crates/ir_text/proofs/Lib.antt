@@ -27,5 +27,3 @@ pub mod BuiltRefusals
 pub mod Growing
 pub mod ShownLater
 pub mod PiecesBehind
-pub mod TextFaults
-pub mod TextReadings

@@ -25,7 +25,7 @@ both_hold : (a b : Bool) → a && b ≡ true → (a ≡ true) × (b ≡ true)
 both_hold true b e = (refl, e)
 both_hold false b e = cc
 
-pub nothing : {A : Type 0} {C : Type 0} {x : A} → None ≡ Some x → C
+nothing : {A : Type 0} {C : Type 0} {x : A} → None ≡ Some x → C
 nothing e = cc
 
 inner : {A : Type 0} {x y : A} → Some x ≡ Some y → x ≡ y
@@ -67,7 +67,7 @@ alone_there (Some s) q e = is_alone_there s.here s.around q e
 
 -- ---- walks one behind the other
 
-pub passed_none : (es : List Event) → passed_all None es ≡ None
+passed_none : (es : List Event) → passed_all None es ≡ None
 passed_none [] = refl
 passed_none (Took ∷ es) = passed_none es
 passed_none (Did a ∷ es) = passed_none es

@@ -3,16 +3,10 @@
 //! What was begun waits around what is being read, the innermost last. Types and attributes are made at their ends,
 //! a block at the end of its header, and an operation with its regions at its end. Operands may be defined further on,
 //! so they are linked once all operations are made.
-ghost use Rattle.std.specs.Prelude.{◌≡◌, ℕ, false, [], Some, None, Err, OnOk, IfOk, IsSomeAnd};
+ghost use Rattle.std.specs.Prelude.{◌≡◌, ℕ};
 ghost use Rattle.ir_store.specs.declared.mark.Mark.{Mark};
 ghost use Rattle.ir_store.specs.Context.{IsLiveOperation, IsLiveBlock};
 ghost use Rattle.ir_store.specs.Marks.{CanRewind, KeepsBelow, KeepsLive, IsOperationSince};
-ghost use Rattle.ir_text.specs.declared.faults.Fault.{Fault};
-ghost use Rattle.ir_text.specs.declared.opened.AssemblyFault.TheVariants.{Text};
-ghost use Rattle.ir_text.specs.Nesting.{at_root, at_end, Nests, FollowTokens};
-ghost use Rattle.ir_text.specs.Progress.{Leads};
-ghost use Rattle.ir_text.specs.Building.{first_refusal};
-ghost use Rattle.ir_text.specs.Texts.{token_text};
 
 use crate::faults::{Fault, FaultKind};
 use crate::grammar::{Action, Event};
@@ -460,9 +454,6 @@ pub fn assemble<D: TextDialect>(
     requires { CanRewind ctx.old mark }
     ensures below { KeepsBelow mark ctx.old ctx.new }
     ensures live { KeepsLive ctx.old ctx.new }
-    ensures refused { (f : Fault) → Nests at_root [] events.now → FollowTokens false events.now → result ≡ Err (Text f) → first_refusal D.values (token_text source.entry.chars.now source.entry.tokens.now) events.now ≡ Some f }
-    ensures sound { Nests at_root [] events.now → FollowTokens false events.now → OnOk result (first_refusal D.values (token_text source.entry.chars.now source.entry.tokens.now) events.now ≡ None) }
-    ensures root { Leads at_root [] events.now at_end [] → IfOk result (λ a. IsSomeAnd a.root (IsLiveOperation ctx.new)) }
 {
     let mut assembler = Assembler::new(alloc);
     for event in events {

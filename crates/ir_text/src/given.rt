@@ -4,7 +4,6 @@ ghost use Rattle.ir_text.specs.Predicting.{fits, plain_facts};
 ghost use Rattle.ir_text.specs.Given.{grammar_value, plain_part, dense, rule_at, is_in};
 ghost use Rattle.ir_text.specs.Rules.{rules_of};
 ghost use Rattle.ir_text.specs.Ordered.{Leads, is_ordered};
-ghost use Rattle.ir_text.specs.Progress.{IsWithin};
 
 use crate::grammar::Facts;
 use ir_print::TextDialect;
@@ -37,9 +36,6 @@ pub trait ReadDialect: TextDialect {
         ensures { fits (grammar_value Self.formats (map plain_part result.now)) ≡ true };
 
     ghost ordered: { is_ordered leads (rules_of Self.formats) ≡ true };
-
-    /// What is refused in a type, an attribute or an operation is one of its pieces.
-    ghost within: { IsWithin Self.values };
 }
 
 /// The rule for a column.

@@ -19,7 +19,6 @@ pub mod building_laws;
 mod check;
 mod depth;
 mod faults;
-mod finding;
 mod given;
 pub mod grammar;
 pub mod laws;

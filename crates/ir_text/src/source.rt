@@ -1,5 +1,4 @@
 //! A text with its tokens, and what single tokens say.
-ghost use Rattle.std.specs.Prelude.{◌≡◌, take};
 
 use crate::tokens::Token;
 use crate::words::text_of;
@@ -23,9 +22,7 @@ impl<'a> Source<'a> {
     }
 
     /// So many characters from the beginning on.
-    pub fn front(&self, end: usize) -> &'a [char]
-        ensures { result.now ≡ take end self.now.chars.now }
-    {
+    pub fn front(&self, end: usize) -> &'a [char] {
         &self.chars[..end.min(self.chars.len())]
     }
 }
