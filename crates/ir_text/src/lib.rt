@@ -14,7 +14,7 @@
 //! read one list of events.
 #![tactic(auto)]
 
-mod assembling;
+mod building;
 pub mod building_laws;
 mod check;
 mod depth;
@@ -22,15 +22,13 @@ mod faults;
 mod given;
 pub mod grammar;
 pub mod laws;
-mod linking;
-mod making;
-mod opened;
+mod placing;
 mod reading;
 mod rules;
 mod scan;
 mod scopes;
 mod sites;
-mod source;
+mod syntax;
 mod table;
 #[cfg(test)]
 mod tests;

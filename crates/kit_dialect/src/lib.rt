@@ -4,7 +4,7 @@
 mod attributes;
 mod dialect;
 mod kinds;
-pub mod laws;
+mod laws;
 mod module_rules;
 mod shape;
 mod table;
