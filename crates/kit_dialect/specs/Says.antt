@@ -1,10 +1,9 @@
--- What the types, attributes and operations of `kit` say, and which pieces are refused.
-use Rattle.std.specs.Prelude.{ℕ, zero, suc, ◌^◌, ◌==◌, ◌&&◌, nat_lt, Bool, true, false, List, [], ◌∷◌, length, Option, Some, None, codes}
+-- What the types, attributes and operations of `kit` say.
+use Rattle.std.specs.Prelude.{ℕ, ◌==◌, ◌&&◌, Bool, true, false, List, [], ◌∷◌, length, Option, Some, None, codes}
 use Rattle.ir_names.specs.declared.kinds.TypeHandle.{TypeHandle}
 use Rattle.ir_names.specs.Dictionary.{attribute_at}
 use Rattle.ir_names.specs.Identifier.{text_of}
 use Rattle.ir_names.specs.Tree.{Tree, Trees, node, no_tree, a_tree}
-use Rattle.ir_print.specs.Pieces.{list, width, Pieces}
 use Rattle.ir_print.specs.Shown.{Said, said_type, said_attribute, said_list, said_item, said_operands, said_region, said_name, said_number, said_width, leaf, Saying}
 use Rattle.kit_dialect.specs.declared.kinds.KitOp.{KitOp}
 use Rattle.kit_dialect.specs.declared.kinds.KitOp.TheVariants.{Module, Func, Constant, Return}
@@ -83,32 +82,3 @@ said_of_operation Return entries n = only (length entries == 0) (Some (3, one (l
 -- what the types, attributes and operations of `kit` say
 abbrev pub says : Saying KitOp KitAttr KitType
 says = record { of_type = said_of_type; of_attribute = said_of_attribute; of_operation = said_of_operation }
-
--- ---- what is read
-
--- None where this holds, or the number of the piece that is refused
-abbrev pub refused_unless : Bool → ℕ → Option ℕ
-refused_unless true i = None
-refused_unless false i = Some i
-
--- the pieces are one width of less than 2^32 bits
-abbrev pub is_integer_type : Pieces → Bool
-is_integer_type (a_tree (node (width sign bits) _) no_tree) = nat_lt bits (2 ^ 32)
-is_integer_type _ = false
-
--- the pieces are two lists
-abbrev pub are_lists : Pieces → Bool
-are_lists (a_tree (node list _) (a_tree (node list _) no_tree)) = true
-are_lists _ = false
-
--- there are no pieces
-abbrev pub are_none : Pieces → Bool
-are_none no_tree = true
-are_none _ = false
-
--- A type is refused for a width of 2^32 or more.
-abbrev pub refused_type : ℕ → Pieces → Option ℕ
-refused_type zero ps = refused_unless (is_integer_type ps) 0
-refused_type (suc zero) ps = refused_unless (are_lists ps) 0
-refused_type (suc (suc zero)) ps = refused_unless (are_none ps) 0
-refused_type _ ps = Some 0
