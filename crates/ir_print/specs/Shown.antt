@@ -131,3 +131,7 @@ pub record Drafts {K A T : Type 0} (says : Saying K A T) (types : List T) (value
 pub record KeepsTypes {K A T : Type 0} (s t : ContextView K A T) : Type 0 where
   pub types : (ty : TypeHandle) (key : T) → key_at s ty ≡ Some key → key_at t ty ≡ Some key
   pub counter : t.counter ≡ s.counter
+
+-- the kind is the one with the number that is said
+abbrev pub IsKindOf : {A X : Type 0} → Option (ℕ × Trees (Said A)) → List X → X → Type 0
+IsKindOf {A = A} said kinds kind = (n : ℕ) (us : Trees (Said A)) → said ≡ Some (n, us) → slice_get kinds n ≡ Some kind

@@ -1,6 +1,10 @@
 //! What a dialect says of its texts.
-ghost use Rattle.std.specs.Prelude.{◌≡◌, ℕ, Bool, Option, true, slice_get, option_map};
+ghost use Rattle.std.specs.Prelude.{◌≡◌, ℕ, Bool, List, Option, Some, None, Err, true, slice_get, option_map, IfOk};
+ghost use Rattle.ir_names.specs.Tree.{node};
+ghost use Rattle.ir_print.specs.declared.dialect.MakeFault.TheVariants.{Refused};
 ghost use Rattle.ir_print.specs.Formats.{Formats, Kind, is_small, steps_of};
+ghost use Rattle.ir_print.specs.Pieces.{Pieces, Values, attribute_of_kind};
+ghost use Rattle.ir_print.specs.Shown.{Saying, ShowsParts, ShowsKey, ShowsAttribute, KeepsTypes, Drafts, IsKindOf};
 ghost use Rattle.ir_store.specs.Context.{IsLiveOperation};
 ghost use Rattle.ir_store.specs.Marks.{IsSameTree};
 
@@ -20,12 +24,20 @@ pub enum MakeFault {
 }
 
 impl From<AllocError> for MakeFault {
+    ghost use Rattle.ir_print.specs.declared.dialect.MakeFault.TheVariants.{Memory};
+
+    ghost from_gives = { λ _ e. e ≡ Memory };
+
     fn from(_error: AllocError) -> MakeFault {
         MakeFault::Memory
     }
 }
 
 impl<T: Drop> From<AllocFailed<T>> for MakeFault {
+    ghost use Rattle.ir_print.specs.declared.dialect.MakeFault.TheVariants.{Memory};
+
+    ghost from_gives = { λ _ e. e ≡ Memory };
+
     fn from(_error: AllocFailed<T>) -> MakeFault {
         MakeFault::Memory
     }
@@ -60,16 +72,30 @@ pub trait TextDialect: Dialects {
 
     ghost attr_text: { Self.AttrKind → Kind };
 
+    /// The kinds of types with their numbers.
+    ghost type_kinds: { List Self.TypeKind };
+
+    /// The kinds of attributes with their numbers.
+    ghost attr_kinds: { List Self.AttrKind };
+
+    /// What types, attributes and operations say.
+    ghost says: { Saying Self.OpKind Self.Attr Self.TypeKey };
+
+    /// What is made of the pieces that were read, and what is refused.
+    ghost values: { Values };
+
     /// The kind with this number, from 0 on, of those that can be read. None stands behind the last.
     fn op_kind_at(number: usize) -> Option<Self::OpKind>
         ensures kind { result ≡ kind_at number }
         ensures text { option_map op_text result ≡ slice_get formats.operations number };
 
     fn type_kind_at(number: usize) -> Option<Self::TypeKind>
-        ensures { option_map type_text result ≡ slice_get formats.types number };
+        ensures kind { result ≡ slice_get type_kinds number }
+        ensures text { option_map type_text result ≡ slice_get formats.types number };
 
     fn attr_kind_at(number: usize) -> Option<Self::AttrKind>
-        ensures { option_map attr_text result ≡ slice_get formats.attributes number };
+        ensures kind { result ≡ slice_get attr_kinds number }
+        ensures text { option_map attr_text result ≡ slice_get formats.attributes number };
 
     /// The dotted name with which an operation of the kind is printed and read.
     fn op_id(kind: Self::OpKind) -> &'static str
@@ -95,16 +121,22 @@ pub trait TextDialect: Dialects {
     fn is_isolated(kind: Self::OpKind) -> bool
         ensures { result ≡ isolated kind };
 
-    fn type_kind(key: &Self::TypeKey) -> Self::TypeKind;
+    /// The kind of a type, with the number that its text is read by.
+    fn type_kind(key: &Self::TypeKey) -> Self::TypeKind
+        ensures { IsKindOf (says.of_type key.now) type_kinds result };
 
-    fn attr_kind(attr: &Self::Attr) -> Self::AttrKind;
+    /// The kind of an attribute, with the number that its text is read by.
+    fn attr_kind(attr: &Self::Attr) -> Self::AttrKind
+        ensures { IsKindOf (says.of_attribute attr.now) attr_kinds result };
 
     /// The type of these parts, or the first part that is refused.
     fn make_type(
         alloc: Global,
         kind: Self::TypeKind,
         parts: &[Part<Self>],
-    ) -> Result<Self::TypeKey, MakeFault>;
+    ) -> Result<Self::TypeKey, MakeFault>
+        ensures made { (n : ℕ) → (ps : Pieces) → (types : List Self.TypeKey) → slice_get type_kinds n ≡ Some kind → ShowsParts says types parts.now ps → IfOk result (λ key. (values.refused_type n ps ≡ None) × ShowsKey says types key n ps) }
+        ensures refused { (n : ℕ) → (ps : Pieces) → (types : List Self.TypeKey) → slice_get type_kinds n ≡ Some kind → ShowsParts says types parts.now ps → (i : ℕ) → result ≡ Err (Refused i) → values.refused_type n ps ≡ Some i };
 
     /// The attribute of these parts, or the first part that is refused.
     fn make_attr(
@@ -113,7 +145,10 @@ pub trait TextDialect: Dialects {
         kind: Self::AttrKind,
         parts: &[Part<Self>],
     ) -> Result<Self::Attr, MakeFault>
-        ensures same { IsSameTree ctx.old ctx.new };
+        ensures same { IsSameTree ctx.old ctx.new }
+        ensures types { KeepsTypes ctx.old ctx.new }
+        ensures made { (n : ℕ) → (ps : Pieces) → slice_get attr_kinds n ≡ Some kind → ShowsParts says ctx.old.types parts.now ps → IfOk result (λ attr. (values.refused_attribute n ps ≡ None) × ShowsAttribute says ctx.new.types attr (node (attribute_of_kind n) (values.canonical n ps))) }
+        ensures refused { (n : ℕ) → (ps : Pieces) → slice_get attr_kinds n ≡ Some kind → ShowsParts says ctx.old.types parts.now ps → (i : ℕ) → result ≡ Err (Refused i) → values.refused_attribute n ps ≡ Some i };
 
     /// What an operation of these parts is made with, or the first part that is refused.
     fn make_operation(
@@ -122,7 +157,10 @@ pub trait TextDialect: Dialects {
         kind: Self::OpKind,
         parts: &[Part<Self>],
     ) -> Result<OperationDraft<Self>, MakeFault>
-        ensures same { IsSameTree ctx.old ctx.new };
+        ensures same { IsSameTree ctx.old ctx.new }
+        ensures types { KeepsTypes ctx.old ctx.new }
+        ensures made { (n : ℕ) → (ps : Pieces) → kind_at n ≡ Some kind → ShowsParts says ctx.old.types parts.now ps → IfOk result (λ draft. (values.refused_operation n ps ≡ None) × Drafts says ctx.new.types values kind n ps draft.attributes draft.result_types.items) }
+        ensures refused { (n : ℕ) → (ps : Pieces) → kind_at n ≡ Some kind → ShowsParts says ctx.old.types parts.now ps → (i : ℕ) → result ≡ Err (Refused i) → values.refused_operation n ps ≡ Some i };
 
     /// The parts of a type, as reading its text gives them.
     fn type_parts(alloc: Global, key: &Self::TypeKey) -> Result<Vec<Part<Self>>, AllocError>;

@@ -7,7 +7,6 @@ pub mod Steps
 pub mod Ends
 pub mod Checks
 pub mod PlacingGrowth
-pub mod PlacingSizes
 pub mod Depths
 pub mod FirstFault
 pub mod Lacking
@@ -25,3 +24,6 @@ pub mod BuiltSteps
 pub mod BuiltTrees
 pub mod BuiltEnds
 pub mod BuiltRefusals
+pub mod Growing
+pub mod ShownLater
+pub mod PiecesBehind

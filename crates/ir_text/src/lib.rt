@@ -14,7 +14,7 @@
 //! read one list of events.
 #![tactic(auto)]
 
-mod building;
+mod assembling;
 pub mod building_laws;
 mod check;
 mod depth;
@@ -22,13 +22,15 @@ mod faults;
 mod given;
 pub mod grammar;
 pub mod laws;
-mod placing;
+mod linking;
+mod making;
+mod opened;
 mod reading;
 mod rules;
 mod scan;
 mod scopes;
 mod sites;
-mod syntax;
+mod source;
 mod table;
 #[cfg(test)]
 mod tests;

@@ -3,19 +3,20 @@ ghost use Rattle.std.specs.Prelude.{OnOk, OnErr, IfOk};
 ghost use Rattle.ir_store.specs.Context.{IsLiveOperation};
 ghost use Rattle.ir_store.specs.Marks.{CanRewind, KeepsBelow, IsSameTree, mark_of};
 
-use crate::building::{BuildFault, Source, build};
+use crate::assembling::{Assembly, assemble};
 use crate::depth::{DEEPEST, too_deep};
 use crate::faults::{Fault, FaultKind, ScopeCause, TextFault, first_of};
 use crate::given::ReadDialect;
 use crate::grammar::{Reading, Stop};
-use crate::placing::place;
+use crate::linking::link;
+use crate::opened::AssemblyFault;
 use crate::rules::{DialectGrammar, grammar_of};
 use crate::scopes::{Resolution, ScopeFault, resolve};
-use crate::syntax::SyntaxOperation;
+use crate::source::Source;
 use crate::tokens::{place_after, tokens_of};
 use crate::words::{classify, spelled};
 use ir_print::TextDialect;
-use ir_store::{Context, Operation, Ptr};
+use ir_store::{Context, Mark, Operation, Ptr};
 use std::alloc::Global;
 
 /// The fault that no text of the grammar goes on with the next token, of so many.
@@ -99,14 +100,13 @@ fn parse<D: ReadDialect>(
     understand(alloc, ctx, source, &classified.names, &reading)
 }
 
-/// The first fault of the tree of a text, if it isn't built.
-fn value_fault<D: TextDialect>(
-    built: &Result<Option<SyntaxOperation<D>>, BuildFault>,
-) -> Result<Option<Fault>, TextFault> {
-    match built {
+/// The first fault of the values of a text, if it isn't assembled.
+fn value_fault(assembled: &Result<Assembly, AssemblyFault>) -> Result<Option<Fault>, TextFault> {
+    match assembled {
         Ok(_) => Ok(None),
-        Err(BuildFault::Text(fault)) => Ok(Some(*fault)),
-        Err(BuildFault::Memory) => Err(TextFault::Memory),
+        Err(AssemblyFault::Text(fault)) => Ok(Some(*fault)),
+        Err(AssemblyFault::Memory) => Err(TextFault::Memory),
+        Err(AssemblyFault::CounterFull) => Err(TextFault::CounterFull),
     }
 }
 
@@ -131,19 +131,36 @@ fn understand<D: TextDialect>(
     ensures read { IfOk result (IsLiveOperation ctx.new) }
     ensures kept { KeepsBelow (mark_of ctx.old) ctx.old ctx.new }
 {
-    let built = build(alloc, ctx, &source, &reading.events);
+    let mark = ctx.mark();
+    let assembled = assemble(alloc, ctx, mark, source, &reading.events);
     let resolved = resolve::<D>(alloc, names, &reading.events);
     let end = source.tokens.len();
     let early = first_of(syntax_fault(reading, end), too_deep(&reading.events));
-    let late = first_of(value_fault(&built)?, scope_fault(&resolved)?);
+    let late = first_of(value_fault(&assembled)?, scope_fault(&resolved)?);
     if let Some(fault) = first_of(early, late) {
         return Err(told(source, fault));
     }
-    match built {
-        Ok(Some(tree)) => match resolved {
-            Ok(resolution) => place(alloc, ctx, source, &resolution, tree),
-            Err(_) => Err(unfinished(source)),
-        },
+    match (assembled, resolved) {
+        (Ok(assembly), Ok(resolution)) => finish(ctx, mark, source, &resolution, &assembly),
+        _ => Err(unfinished(source)),
+    }
+}
+
+/// The operation that a text has become, with operands.
+fn finish<D: TextDialect>(
+    ctx: &mut Context<D>,
+    mark: Mark,
+    source: Source,
+    resolution: &Resolution,
+    assembly: &Assembly,
+) -> Result<Ptr<Operation>, TextFault>
+    requires { CanRewind ctx.old mark }
+    ensures read { IfOk result (IsLiveOperation ctx.new) }
+    ensures kept { KeepsBelow mark ctx.old ctx.new }
+{
+    link(ctx, mark, resolution, assembly)?;
+    match assembly.root {
+        Some(root) if root.is_live(ctx) => Ok(root),
         _ => Err(unfinished(source)),
     }
 }

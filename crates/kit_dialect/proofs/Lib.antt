@@ -6,3 +6,10 @@ pub mod Rulings
 pub mod Tables
 pub mod Left
 pub mod Verdicts
+pub mod Shapes
+pub mod Made
+pub mod Drafted
+pub mod Keys
+pub mod Integers
+pub mod Numbered
+pub mod Within

@@ -9,4 +9,4 @@ either true p bits h = let back : p - (p - bits) ≡ bits = omega arith in ap (�
 either false p bits h = mod-eq_of_lt h
 
 pub printed_modulo : (a : IntegerAttr) → HasFittingBits a → number_modulo a.integer.width (printed_number a) ≡ a.bits
-printed_modulo a h = either (is_below_zero a) (2 ^ a.integer.width) a.bits h.bits
+printed_modulo a h = either (is_below_zero a.integer.signedness a.integer.width a.bits) (2 ^ a.integer.width) a.bits h.bits

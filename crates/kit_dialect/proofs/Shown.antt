@@ -1,5 +1,5 @@
 -- What types and operations of a context say, by the pieces of a tree.
-use Rattle.std.proofs.Common.{◌≡◌, ℕ, ◌&&◌, Bool, List, [], ◌∷◌, refl, sym, ap, ap₂, ◌∙◌, subst, Option, Some, None}
+use Rattle.std.proofs.Common.{◌≡◌, ℕ, ◌&&◌, Bool, List, [], ◌∷◌, refl, sym, ap, ap₂, ◌∙◌, subst, Option, Some, None, true, false}
 use Rattle.std.specs.List.{slice_get}
 use Rattle.std.specs.Option.{option_and_then}
 use Rattle.std.proofs.lemmas.Option.{none-some, same_Some, some_pair_parts}
@@ -14,7 +14,7 @@ use Rattle.kit_dialect.specs.declared.kinds.IntegerType.{IntegerType}
 use Rattle.kit_dialect.specs.declared.kinds.FunctionType.{FunctionType}
 use Rattle.kit_dialect.specs.declared.attributes.KitAttr.{KitAttr}
 use Rattle.kit_dialect.specs.declared.attributes.KitAttr.TheVariants as attrs
-use Rattle.kit_dialect.specs.Says.{says, one, two, types_said, said_of_type, said_of_attribute}
+use Rattle.kit_dialect.specs.Says.{says, one, two, types_said, said_of_type, said_of_attribute, only}
 use Rattle.kit_dialect.specs.Shapes.{integer_key, function_key, integer_attr}
 use Rattle.kit_dialect.specs.Rules.{every, every_pair, integer_type, listed_types, function_of_type, FunctionTree, integer_of_constant}
 
@@ -187,11 +187,15 @@ module _ (tys : List KitType) where
   integer_alone x s w (a_tree t (a_tree u no_tree)) h = let k = width_shown s w u h.1.0 in
       ap (λ (z : ValueTree). integer_of_constant (a_tree (node (attribute_of_kind 0) (a_tree t (a_tree z no_tree))) no_tree)) k.1
 
+  only_some : (b : Bool) (x y : ℕ × Trees (Said KitAttr)) → only b (Some x) ≡ Some y → Some x ≡ Some y
+  only_some true x y e = e
+  only_some false x y e = absurd (none-some _ e)
+
   constant_by : (attr : KitAttr) (n : ℕ) (xs : Trees (Said KitAttr)) (us : Pieces) → said_of_attribute attr ≡ Some (n, xs) → ShowsAll says tys xs us
       → integer_of_constant (a_tree (node (attribute_of_kind n) us) no_tree) ≡ integer_attr (Some attr)
   constant_by (attrs.Identifier id) n xs us e h = absurd (none-some _ e)
   constant_by (attrs.Type ty) n xs us e h = absurd (none-some _ e)
-  constant_by (attrs.Integer a) n xs us e h = let p = some_pair_parts _ _ _ _ e in
+  constant_by (attrs.Integer a) n xs us e h = let p = some_pair_parts _ _ _ _ (only_some _ _ _ e) in
       ap (λ (m : ℕ). integer_of_constant (a_tree (node (attribute_of_kind m) us) no_tree)) (sym p.0)
       ∙ integer_alone _ a.integer.signedness a.integer.width us (subst (λ (z : Trees (Said KitAttr)). ShowsAll says tys z us) (sym p.1) h)
 

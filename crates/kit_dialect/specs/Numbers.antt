@@ -37,13 +37,17 @@ pub record HasFittingBits (a : IntegerAttr) : Type 0 where
   pub values : HasValues a.integer
   pub bits : a.bits < 2 ^ a.integer.width
 
--- the highest bit is set, and stands for a sign
-abbrev pub is_below_zero : IntegerAttr → Bool
-is_below_zero a = is_signed a.integer.signedness a.integer.width && nat_le (2 ^ a.integer.width) (2 * a.bits)
+-- the highest of so many bits is set, and stands for a sign
+abbrev pub is_below_zero : Signedness → ℕ → ℕ → Bool
+is_below_zero s w bits = is_signed s w && nat_le (2 ^ w) (2 * bits)
 
--- the number that the bits stand for
+-- the number that so many bits stand for
+abbrev pub number_of_bits : Signedness → ℕ → ℕ → Number
+number_of_bits s w bits = record { is_negative = is_below_zero s w bits; magnitude = cond (is_below_zero s w bits) (2 ^ w - bits) bits }
+
+-- the number that an attribute's bits stand for
 abbrev pub printed_number : IntegerAttr → Number
-printed_number a = record { is_negative = is_below_zero a; magnitude = cond (is_below_zero a) (2 ^ a.integer.width - a.bits) a.bits }
+printed_number a = number_of_bits a.integer.signedness a.integer.width a.bits
 
 -- the attribute is an integer with bits of its type
 abbrev pub IsFittingInteger : KitAttr → Type 0

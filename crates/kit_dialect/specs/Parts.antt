@@ -1,7 +1,10 @@
 -- The parts of which integers are read, and which are printed.
-use Rattle.std.specs.Prelude.{◌≡◌, List, [], ◌∷◌, Option, Some, None, option_map}
+use Rattle.std.specs.Prelude.{◌≡◌, ℕ, Vec, List, [], ◌∷◌, Option, Some, None, option_map}
+use Rattle.std.specs.Global.{Global}
+use Rattle.ir_names.specs.declared.identifier.Identifier.{Identifier}
+use Rattle.ir_names.specs.declared.kinds.TypeHandle.{TypeHandle}
 use Rattle.ir_print.specs.declared.format.Number.{Number}
-use Rattle.ir_print.specs.declared.format.Part.{Part}
+use Rattle.ir_print.specs.declared.format.Part.{Part, Part-F, out-Part}
 use Rattle.ir_print.specs.declared.format.Part.TheVariants as parts
 use Rattle.kit_dialect.specs.declared.kinds.IntegerType.{IntegerType}
 use Rattle.kit_dialect.specs.declared.attributes.IntegerAttr.{IntegerAttr}
@@ -32,6 +35,70 @@ module _ {D A K T : Type 0} where
   integer_part (parts.Width s w) = option_map (λ n. record { signedness = s; width = n }) w
   integer_part other = None
 
+  -- the type that a part is
+  abbrev pub type_part : Part D A K T → Option TypeHandle
+  type_part (parts.Operands n) = None
+  type_part (parts.Attribute a) = None
+  type_part (parts.Type t) = Some t
+  type_part parts.Region = None
+  type_part (parts.Name n) = None
+  type_part (parts.Number n) = None
+  type_part (parts.Width s w) = None
+  type_part other = None
+
+  -- the name that a part is
+  abbrev pub name_part : Part D A K T → Option Identifier
+  name_part (parts.Operands n) = None
+  name_part (parts.Attribute a) = None
+  name_part (parts.Type t) = None
+  name_part parts.Region = None
+  name_part (parts.Name n) = Some n
+  name_part (parts.Number n) = None
+  name_part (parts.Width s w) = None
+  name_part other = None
+
+  -- whether a part is a region
+  abbrev pub region_part : Part D A K T → Option (Unit {0})
+  region_part (parts.Operands n) = None
+  region_part (parts.Attribute a) = None
+  region_part (parts.Type t) = None
+  region_part parts.Region = Some tt
+  region_part (parts.Name n) = None
+  region_part (parts.Number n) = None
+  region_part (parts.Width s w) = None
+  region_part other = None
+
+  -- the attribute that a part is
+  abbrev pub attribute_part : Part D A K T → Option K
+  attribute_part (parts.Operands n) = None
+  attribute_part (parts.Attribute a) = Some a
+  attribute_part (parts.Type t) = None
+  attribute_part parts.Region = None
+  attribute_part (parts.Name n) = None
+  attribute_part (parts.Number n) = None
+  attribute_part (parts.Width s w) = None
+  attribute_part other = None
+
+  -- the number of operands that a part is
+  abbrev pub operands_part : Part D A K T → Option ℕ
+  operands_part (parts.Operands n) = Some n
+  operands_part (parts.Attribute a) = None
+  operands_part (parts.Type t) = None
+  operands_part parts.Region = None
+  operands_part (parts.Name n) = None
+  operands_part (parts.Number n) = None
+  operands_part (parts.Width s w) = None
+  operands_part other = None
+
+  -- the list that a layer of a part is
+  abbrev pub list_layer : Part-F D A K T (Part D A K T) → Option (Vec (Vec (Part D A K T) Global) Global)
+  list_layer (Part-F.List ms) = Some ms
+  list_layer other = None
+
+  -- the list that a part is
+  abbrev pub list_part : Part D A K T → Option (Vec (Vec (Part D A K T) Global) Global)
+  list_part p = list_layer (out-Part D A K T p)
+
   -- an integer's number, and its type
   abbrev pub integer_parts : IntegerAttr → List (Part D A K T)
   integer_parts a = parts.Number (Some (printed_number a)) ∷ parts.Width a.integer.signedness (Some a.integer.width) ∷ []
@@ -47,3 +114,9 @@ abbrev pub IsSameInteger : IntegerAttr → KitAttr → Type 0
 IsSameInteger a (attrs.Identifier name) = ⊥
 IsSameInteger a (attrs.Type t) = ⊥
 IsSameInteger a (attrs.Integer b) = (b.integer ≡ a.integer) × (b.bits ≡ a.bits)
+
+-- the integer that an attribute is
+abbrev pub integer_of : KitAttr → Option IntegerAttr
+integer_of (attrs.Identifier name) = None
+integer_of (attrs.Type t) = None
+integer_of (attrs.Integer a) = Some a

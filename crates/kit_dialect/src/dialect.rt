@@ -1,12 +1,19 @@
 //! The dialect and its formats.
-ghost use Rattle.std.specs.Prelude.{◌≡◌, ◌↔◌, ◌⊎◌, true, IsTrue, IfOk, slice_get, refl};
+ghost use Rattle.std.specs.Prelude.{◌≡◌, ◌↔◌, ◌⊎◌, ℕ, true, List, Some, None, Err, IsTrue, IfOk, slice_get, option_copied, option_map, refl};
 ghost use Rattle.ir_names.specs.Text.{is_identifier};
+ghost use Rattle.ir_names.specs.Dictionary.{with_attribute};
+ghost use Rattle.ir_names.specs.Tree.{node};
+ghost use Rattle.ir_print.specs.declared.dialect.MakeFault.TheVariants.{Refused};
+ghost use Rattle.ir_print.specs.Pieces.{Pieces, attribute_of_kind};
+ghost use Rattle.ir_print.specs.Shown.{ShowsParts, ShowsAttribute, KeepsTypes};
 ghost use Rattle.ir_store.specs.Context.{IsLiveOperation};
 ghost use Rattle.ir_store.specs.Marks.{IsSameTree};
-ghost use Rattle.kit_dialect.specs.declared.kinds.KitOp.TheVariants.{Module, Func};
+ghost use Rattle.kit_dialect.specs.declared.kinds.KitOp.TheVariants.{Module, Func, Constant, Return};
+ghost use Rattle.kit_dialect.specs.declared.kinds.KitType.{KitType};
 ghost use Rattle.kit_dialect.specs.Kinds.{read_ops, is_isolated_kind, read_types, read_attrs, name_of_op, name_of_type, name_of_attr, kind_of_type, kind_of_attr, type_of_attr};
 ghost use Rattle.kit_dialect.specs.Numbers.{HasFittingBits, IsFittingInteger};
-ghost use Rattle.kit_dialect.specs.Parts.{number_part, integer_part, integer_parts, HasPartsOf, IsSameInteger};
+ghost use Rattle.kit_dialect.specs.Parts.{number_part, integer_part, list_part, integer_parts, HasPartsOf, IsSameInteger};
+ghost use Rattle.kit_dialect.specs.Says.{says, one_type, one_integer_type, module_name, function_header, one_integer, one_operands, each_type, MakesType, RefusesType, MakesOperation, RefusesOperation, refused_attribute, canonical};
 ghost use Rattle.kit_dialect.specs.declared.attributes.IntegerAttr.{IntegerAttr};
 
 use crate::attributes::{
@@ -95,27 +102,47 @@ fn with_entry(
     attr: KitAttr,
 ) -> Result<AttributeDict<Kit>, AllocError>
     requires { is_identifier key.now ≡ true }
+    ensures { IfOk result (λ entries. entries ≡ with_attribute attributes key.now attr) }
 {
     let _ = attributes.set(Identifier::new(alloc, key)?, attr)?;
     Ok(attributes)
 }
 
-fn draft(attributes: AttributeDict<Kit>, result_types: Vec<TypeHandle>) -> OperationDraft<Kit> {
+fn draft(attributes: AttributeDict<Kit>, result_types: Vec<TypeHandle>) -> OperationDraft<Kit>
+    ensures attributes { result.attributes ≡ attributes }
+    ensures types { result.result_types ≡ result_types }
+{
     OperationDraft {
         result_types,
         attributes,
     }
 }
 
-/// The types in a list of types.
-fn types_of(alloc: Global, members: &[Vec<Part<Kit>>]) -> Result<Vec<TypeHandle>, AllocError> {
+/// The type that parts are, if they are one.
+fn type_in(parts: &[Part<Kit>]) -> Option<TypeHandle>
+    ensures { result ≡ one_type parts.now }
+{
+    match parts {
+        [Part::Type(ty)] => Some(*ty),
+        _ => None,
+    }
+}
+
+/// The types in a list of types, if each member is one.
+fn types_of(
+    alloc: Global,
+    members: &[Vec<Part<Kit>>],
+) -> Result<Option<Vec<TypeHandle>>, AllocError>
+    ensures { IfOk result (λ types. option_map (λ v. v.items) types ≡ each_type members.now) }
+{
     let mut types = Vec::with_capacity(alloc, members.len())?;
     for member in members {
-        if let [Part::Type(ty)] = member.as_slice() {
-            types.push(*ty)?;
-        }
+        let Some(ty) = type_in(member.as_slice()) else {
+            return Ok(None);
+        };
+        types.push(ty)?;
     }
-    Ok(types)
+    Ok(Some(types))
 }
 
 /// A list of types, as parts.
@@ -155,6 +182,9 @@ fn make_integer(ctx: &mut Context<Kit>, parts: &[Part<Kit>]) -> Result<KitAttr, 
     ensures same { IsSameTree ctx.old ctx.new }
     ensures fits { IfOk result (λ attr. IsFittingInteger attr) }
     ensures reads { (a : IntegerAttr) → HasFittingBits a → parts.now ≡ integer_parts a → IfOk result (λ attr. IsSameInteger a attr) }
+    ensures types { KeepsTypes ctx.old ctx.new }
+    ensures made { (types new : List KitType) → (ps : Pieces) → ShowsParts says types parts.now ps → IfOk result (λ attr. (refused_attribute 0 ps ≡ None) × ShowsAttribute says new attr (node (attribute_of_kind 0) (canonical 0 ps))) }
+    ensures refused { (types : List KitType) → (ps : Pieces) → ShowsParts says types parts.now ps → (i : ℕ) → result ≡ Err (Refused i) → refused_attribute 0 ps ≡ Some i }
 {
     if parts.len() != 2 {
         return Err(MakeFault::Refused(0));
@@ -175,35 +205,168 @@ fn make_integer(ctx: &mut Context<Kit>, parts: &[Part<Kit>]) -> Result<KitAttr, 
     Ok(KitAttr::Integer(IntegerAttr { ty, integer, bits }))
 }
 
-/// What a module or a function is made with: a name, and a type where it has one.
-fn make_symbol(alloc: Global, parts: &[Part<Kit>]) -> Result<OperationDraft<Kit>, MakeFault> {
-    let mut attributes = AttributeDict::new(alloc);
-    for part in parts {
-        match part {
-            Part::Name(name) => {
-                let name = KitAttr::Identifier(name.try_clone()?);
-                attributes = with_entry(alloc, attributes, SYMBOL_NAME, name)?;
-            }
-            Part::Type(ty) => {
-                attributes = with_entry(alloc, attributes, FUNCTION_TYPE, KitAttr::Type(*ty))?;
-            }
-            _ => {}
-        }
+/// The integer type that parts are, if they are one.
+fn integer_type_in(parts: &[Part<Kit>]) -> Option<IntegerType>
+    ensures { result ≡ one_integer_type parts.now }
+{
+    match parts {
+        [part] => integer_in(part),
+        _ => None,
     }
+}
+
+/// An integer type of its width.
+fn make_integer_type(parts: &[Part<Kit>]) -> Result<KitType, MakeFault>
+    ensures made { IfOk result (λ key. MakesType 0 parts.now key) }
+    ensures refused { (i : ℕ) → result ≡ Err (Refused i) → RefusesType 0 parts.now i }
+{
+    let Some(integer) = integer_type_in(parts) else {
+        return Err(MakeFault::Refused(0));
+    };
+    Ok(KitType::Integer(integer))
+}
+
+/// The list that a part is.
+fn list_in(part: &Part<Kit>) -> Option<&Vec<Vec<Part<Kit>>>>
+    ensures { option_copied result ≡ list_part part.now }
+{
+    match part {
+        Part::List(members) => Some(members),
+        _ => None,
+    }
+}
+
+/// A function type of its inputs and its results.
+fn make_function_type(alloc: Global, parts: &[Part<Kit>]) -> Result<KitType, MakeFault>
+    ensures made { IfOk result (λ key. MakesType 1 parts.now key) }
+    ensures refused { (i : ℕ) → result ≡ Err (Refused i) → RefusesType 1 parts.now i }
+{
+    let [first, second] = parts else {
+        return Err(MakeFault::Refused(0));
+    };
+    let Some(inputs) = list_in(first) else {
+        return Err(MakeFault::Refused(0));
+    };
+    let Some(results) = list_in(second) else {
+        return Err(MakeFault::Refused(0));
+    };
+    let Some(inputs) = types_of(alloc, inputs)? else {
+        return Err(MakeFault::Refused(0));
+    };
+    let Some(results) = types_of(alloc, results)? else {
+        return Err(MakeFault::Refused(0));
+    };
+    Ok(KitType::Function(FunctionType { inputs, results }))
+}
+
+/// The unit type, of no part.
+fn make_unit_type(parts: &[Part<Kit>]) -> Result<KitType, MakeFault>
+    ensures made { IfOk result (λ key. MakesType 2 parts.now key) }
+    ensures refused { (i : ℕ) → result ≡ Err (Refused i) → RefusesType 2 parts.now i }
+{
+    if parts.is_empty() {
+        Ok(KitType::Unit)
+    } else {
+        Err(MakeFault::Refused(0))
+    }
+}
+
+/// The name of parts that are a name and a region.
+fn module_in(parts: &[Part<Kit>]) -> Option<&Identifier>
+    ensures { option_copied result ≡ module_name parts.now }
+{
+    match parts {
+        [Part::Name(name), Part::Region] => Some(name),
+        _ => None,
+    }
+}
+
+/// The name and the type of parts that are a name, a type and a region.
+fn function_in(parts: &[Part<Kit>]) -> Option<(&Identifier, TypeHandle)>
+    ensures { option_map (λ e. (e.0.now, e.1)) result ≡ function_header parts.now }
+{
+    match parts {
+        [Part::Name(name), Part::Type(ty), Part::Region] => Some((name, *ty)),
+        _ => None,
+    }
+}
+
+/// The integer that parts are, if they are one.
+fn constant_in(parts: &[Part<Kit>]) -> Option<IntegerAttr>
+    ensures { result ≡ one_integer parts.now }
+{
+    match parts {
+        [Part::Attribute(KitAttr::Integer(integer))] => Some(*integer),
+        _ => None,
+    }
+}
+
+/// The number of operands that parts are, if they are operands.
+fn operands_in(parts: &[Part<Kit>]) -> Option<usize>
+    ensures { result ≡ one_operands parts.now }
+{
+    match parts {
+        [Part::Operands(count)] => Some(*count),
+        _ => None,
+    }
+}
+
+/// What a module is made with: a name.
+fn make_module(alloc: Global, parts: &[Part<Kit>]) -> Result<OperationDraft<Kit>, MakeFault>
+    ensures made { IfOk result (λ draft. (types : List KitType) → MakesOperation Module 0 parts.now types types draft.attributes draft.result_types.items) }
+    ensures refused { (i : ℕ) → result ≡ Err (Refused i) → (types : List KitType) → RefusesOperation 0 parts.now types i }
+{
+    let Some(name) = module_in(parts) else {
+        return Err(MakeFault::Refused(0));
+    };
+    let name = KitAttr::Identifier(name.try_clone()?);
+    let attributes = with_entry(alloc, AttributeDict::new(alloc), SYMBOL_NAME, name)?;
+    Ok(draft(attributes, Vec::new(alloc)))
+}
+
+/// What a function is made with: a name and a type.
+fn make_function(alloc: Global, parts: &[Part<Kit>]) -> Result<OperationDraft<Kit>, MakeFault>
+    ensures made { IfOk result (λ draft. (types : List KitType) → MakesOperation Func 1 parts.now types types draft.attributes draft.result_types.items) }
+    ensures refused { (i : ℕ) → result ≡ Err (Refused i) → (types : List KitType) → RefusesOperation 1 parts.now types i }
+{
+    let Some((name, ty)) = function_in(parts) else {
+        return Err(MakeFault::Refused(0));
+    };
+    let name = KitAttr::Identifier(name.try_clone()?);
+    let attributes = with_entry(alloc, AttributeDict::new(alloc), SYMBOL_NAME, name)?;
+    let attributes = with_entry(alloc, attributes, FUNCTION_TYPE, KitAttr::Type(ty))?;
     Ok(draft(attributes, Vec::new(alloc)))
 }
 
 /// What a constant is made with: its value, and the type of that as the type of its result.
-fn make_constant(alloc: Global, parts: &[Part<Kit>]) -> Result<OperationDraft<Kit>, MakeFault> {
-    let [Part::Attribute(attr)] = parts else {
+fn make_constant(
+    alloc: Global,
+    ctx: &mut Context<Kit>,
+    parts: &[Part<Kit>],
+) -> Result<OperationDraft<Kit>, MakeFault>
+    ensures same { IsSameTree ctx.old ctx.new }
+    ensures types { KeepsTypes ctx.old ctx.new }
+    ensures made { IfOk result (λ draft. MakesOperation Constant 2 parts.now ctx.old.types ctx.new.types draft.attributes draft.result_types.items) }
+    ensures refused { (i : ℕ) → result ≡ Err (Refused i) → RefusesOperation 2 parts.now ctx.old.types i }
+{
+    let Some(integer) = constant_in(parts) else {
         return Err(MakeFault::Refused(0));
     };
-    let Some(ty) = Kit::attr_type(attr) else {
-        return Err(MakeFault::Refused(0));
-    };
-    let value = Kit::clone_attr(alloc, attr)?;
+    let ty = ctx.intern(KitType::Integer(integer.integer))?;
+    let value = KitAttr::Integer(integer);
     let attributes = with_entry(alloc, AttributeDict::new(alloc), CONSTANT_VALUE, value)?;
     Ok(draft(attributes, vec![in alloc; ty]?))
+}
+
+/// What a return is made with: nothing.
+fn make_return(alloc: Global, parts: &[Part<Kit>]) -> Result<OperationDraft<Kit>, MakeFault>
+    ensures made { IfOk result (λ draft. (types : List KitType) → MakesOperation Return 3 parts.now types types draft.attributes draft.result_types.items) }
+    ensures refused { (i : ℕ) → result ≡ Err (Refused i) → (types : List KitType) → RefusesOperation 3 parts.now types i }
+{
+    let Some(_count) = operands_in(parts) else {
+        return Err(MakeFault::Refused(0));
+    };
+    Ok(draft(AttributeDict::new(alloc), Vec::new(alloc)))
 }
 
 impl TextDialect for Kit {
@@ -212,6 +375,7 @@ impl TextDialect for Kit {
     type AttrKind = KitAttrKind;
 
     ghost use Rattle.kit_dialect.specs.Texts as texts;
+    ghost use Rattle.kit_dialect.specs.Says as kit;
 
     ghost kind_at = { slice_get read_ops };
 
@@ -224,6 +388,14 @@ impl TextDialect for Kit {
     ghost type_text = { texts.type_text };
 
     ghost attr_text = { texts.attr_text };
+
+    ghost type_kinds = { read_types };
+
+    ghost attr_kinds = { read_attrs };
+
+    ghost says = { kit.says };
+
+    ghost values = { kit.values };
 
     fn op_kind_at(number: usize) -> Option<KitOp>
         ensures { result ≡ slice_get read_ops number }
@@ -349,21 +521,10 @@ impl TextDialect for Kit {
         kind: KitTypeKind,
         parts: &[Part<Kit>],
     ) -> Result<KitType, MakeFault> {
-        match (kind, parts) {
-            (KitTypeKind::Integer, [Part::Width(signedness, Some(width))]) => {
-                Ok(KitType::Integer(IntegerType {
-                    signedness: *signedness,
-                    width: *width,
-                }))
-            }
-            (KitTypeKind::Function, [Part::List(inputs), Part::List(results)]) => {
-                Ok(KitType::Function(FunctionType {
-                    inputs: types_of(alloc, inputs)?,
-                    results: types_of(alloc, results)?,
-                }))
-            }
-            (KitTypeKind::Unit, []) => Ok(KitType::Unit),
-            _ => Err(MakeFault::Refused(0)),
+        match kind {
+            KitTypeKind::Integer => make_integer_type(parts),
+            KitTypeKind::Function => make_function_type(alloc, parts),
+            KitTypeKind::Unit => make_unit_type(parts),
         }
     }
 
@@ -374,8 +535,11 @@ impl TextDialect for Kit {
         parts: &[Part<Kit>],
     ) -> Result<KitAttr, MakeFault>
         ensures same { IsSameTree ctx.old ctx.new }
+        ensures types { KeepsTypes ctx.old ctx.new }
         ensures fits { IfOk result (λ attr. IsFittingInteger attr) }
         ensures reads { (a : IntegerAttr) → HasFittingBits a → parts.now ≡ integer_parts a → IfOk result (λ attr. IsSameInteger a attr) }
+        ensures made { (n : ℕ) → (ps : Pieces) → slice_get read_attrs n ≡ Some kind → ShowsParts says ctx.old.types parts.now ps → IfOk result (λ attr. (refused_attribute n ps ≡ None) × ShowsAttribute says ctx.new.types attr (node (attribute_of_kind n) (canonical n ps))) }
+        ensures refused { (n : ℕ) → (ps : Pieces) → slice_get read_attrs n ≡ Some kind → ShowsParts says ctx.old.types parts.now ps → (i : ℕ) → result ≡ Err (Refused i) → refused_attribute n ps ≡ Some i }
     {
         match kind {
             KitAttrKind::Integer => make_integer(ctx, parts),
@@ -386,17 +550,15 @@ impl TextDialect for Kit {
 
     fn make_operation(
         alloc: Global,
-        _ctx: &mut Context<Kit>,
+        ctx: &mut Context<Kit>,
         kind: KitOp,
         parts: &[Part<Kit>],
-    ) -> Result<OperationDraft<Kit>, MakeFault>
-        ensures same { IsSameTree _ctx.old _ctx.new }
-    {
+    ) -> Result<OperationDraft<Kit>, MakeFault> {
         match kind {
-            KitOp::Module => make_symbol(alloc, parts),
-            KitOp::Func => make_symbol(alloc, parts),
-            KitOp::Constant => make_constant(alloc, parts),
-            KitOp::Return => Ok(draft(AttributeDict::new(alloc), Vec::new(alloc))),
+            KitOp::Module => make_module(alloc, parts),
+            KitOp::Func => make_function(alloc, parts),
+            KitOp::Constant => make_constant(alloc, ctx, parts),
+            KitOp::Return => make_return(alloc, parts),
         }
     }
 

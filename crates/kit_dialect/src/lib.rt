@@ -4,7 +4,7 @@
 mod attributes;
 mod dialect;
 mod kinds;
-mod laws;
+pub mod laws;
 mod module_rules;
 mod shape;
 mod table;

@@ -1,7 +1,12 @@
-use Rattle.std.proofs.Common.{◌≡◌, ◌∙◌, ap, Some, get_or}
+use Rattle.std.proofs.Common.{◌≡◌, ◌∙◌, sym, subst, ap, arith, Some, get_or, length}
+use Rattle.std.proofs.lemmas.Bool.Decides.{nat_tests}
 use Rattle.kit_dialect.specs.Numbers.{number_modulo, printed_number}
 use Rattle.kit_dialect.specs.Parts.{number_part, integer_part}
+use Rattle.ir_print.specs.Shown.{ShowsParts}
+use Rattle.kit_dialect.specs.Says.{says}
 use Rattle.kit_dialect.proofs.Printed.{printed_modulo}
+use Rattle.kit_dialect.proofs.Integers.{integer_made}
+use Rattle.kit_dialect.proofs.Made.{two_items}
 use Rattle.kit_dialect.proofs.dialect.make_integer.Goals as goal
 
 pub returns-clause-reads : goal.returns-clause-reads
@@ -11,3 +16,10 @@ returns-clause-reads c a h e =
     let integer : c.in-Some.integer ≡ a.integer = cc in
     let number : c.in-Some-number_in.number ≡ printed_number a = cc in
     (integer, c.in-Some-bits_of.ensures.1 ∙ (ap (λ t. number_modulo t.width c.in-Some-number_in.number) integer ∙ (ap (number_modulo a.integer.width) number ∙ printed_modulo a h)))
+
+pub returns-clause-made : goal.returns-clause-made
+returns-clause-made c = λ types new ps h.
+    let many : length c.args.parts.now ≡ 2 = grind (arith, nat_tests) in
+    let two = two_items c.args.parts.now c.index-parts-0.result c.index-parts-1.result (omega arith) (omega arith) c.index-parts-0.is c.index-parts-1.is in
+    integer_made types new c.index-parts-0.result c.index-parts-1.result c.in-Some-number_in.number _ ps (sym c.in-Some.ensures) (sym c.in-Some-number_in.ensures) c.in-Some-bits_of.ensures.0 c.in-Some-bits_of.ensures.1
+    (subst (λ parts. ShowsParts says types parts ps) two h)

@@ -1,0 +1,11 @@
+use Rattle.ir_store.proofs.Below.{keeps_live_both}
+use Rattle.ir_text.proofs.making.make_operation.Goals as goal
+
+pub returns-in_err-fill-clause-live : goal.returns-in_err-fill-clause-live
+returns-in_err-fill-clause-live g c = keeps_live_both _ _ _ c.new_operation.ensures.live c.fill.ensures.live
+
+pub returns-clause-made : goal.returns-clause-made
+returns-clause-made g c = c.fill.ensures.live.operations c.in_ok-op.op c.in_ok-op.ensures.is_live
+
+pub returns-clause-live : goal.returns-clause-live
+returns-clause-live g c = keeps_live_both _ _ _ c.new_operation.ensures.live c.fill.ensures.live
