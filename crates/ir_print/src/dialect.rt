@@ -179,4 +179,16 @@ pub trait TextDialect: Dialects {
         requires live { IsLiveOperation ctx.now op };
 
     ghost few: { is_small formats ≡ true };
+
+    /// Equal keys say the same.
+    ghost same: { (x y : Self.TypeKey) → Self.TypeKey.eq x y ≡ true → says.of_type x ≡ says.of_type y };
+
+    /// Where no kind of types has a number, the first piece is refused.
+    ghost unknown_type: { (n : ℕ) (ps : Pieces) → slice_get type_kinds n ≡ None → values.refused_type n ps ≡ Some 0 };
+
+    /// Where no kind of attributes has a number, the first piece is refused.
+    ghost unknown_attribute: { (n : ℕ) (ps : Pieces) → slice_get attr_kinds n ≡ None → values.refused_attribute n ps ≡ Some 0 };
+
+    /// Where no kind of operations has a number, the first piece is refused.
+    ghost unknown_operation: { (n : ℕ) (ps : Pieces) → kind_at n ≡ None → values.refused_operation n ps ≡ Some 0 };
 }

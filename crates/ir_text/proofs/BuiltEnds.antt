@@ -1,8 +1,8 @@
 -- The faults that are met at ends, in the order of the tokens.
-use Rattle.std.proofs.Common.{◌≡◌, ◌==◌, if◌then◌else◌, ◌<◌, ◌≤◌, ℕ, suc, zero, ◌+◌, ◌-◌, Bool, true, false, MatchBool, List, [], ◌∷◌, length, Option, Some, None, option_map, refl, sym, subst, ap, ◌∙◌, arith, ◌⊎◌, inl, inr}
+use Rattle.std.proofs.Common.{◌≡◌, ◌==◌, if◌then◌else◌, ◌<◌, ◌≤◌, ℕ, ◌+◌, ◌-◌, Bool, true, false, MatchBool, List, [], ◌∷◌, length, Option, Some, None, refl, sym, subst, ap, ◌∙◌, arith, ◌⊎◌, inl, inr}
 use Rattle.std.specs.Option.{option_map_or}
 use Rattle.std.proofs.lemmas.Bool.{cases_lt, eqb-true, eqb-false}
-use Rattle.ir_names.specs.Tree.{Trees, node, no_tree, a_tree, count, join}
+use Rattle.ir_names.specs.Tree.{Trees, node, no_tree, a_tree, join}
 use Rattle.ir_print.specs.Pieces.{Pieces, Values}
 use Rattle.ir_text.specs.declared.grammar.Action.{Action}
 use Rattle.ir_text.specs.declared.grammar.Action.TheVariants as act
@@ -12,11 +12,10 @@ use Rattle.ir_text.specs.declared.faults.Fault.{Fault}
 use Rattle.ir_text.specs.declared.faults.FaultKind.TheVariants as kinds
 use Rattle.ir_text.specs.Faults.{row, Precedes, IsNamed}
 use Rattle.ir_text.specs.Forest.{end_of, Deed, deeds_from, Step}
-use Rattle.ir_text.specs.Meaning.{with_piece, pieces_in}
+use Rattle.ir_text.specs.Meaning.{pieces_in}
 use Rattle.ir_text.specs.Nesting.{Position, at_root, at_end, in_region, in_block, Move, goes_to, goes_in, goes_out, nowhere, move, region_move, block_move, Nests, NestsBy, has_own_token, FollowTokens}
-use Rattle.ir_text.specs.ValueFaults.{refused, first_at, first_token, AreSound}
+use Rattle.ir_text.specs.ValueFaults.{refused, piece_token, first_token, AreSound}
 use Rattle.ir_text.specs.Building.{Open, Built, ended_tree, after, names_behind, number_fault, names_fault_of, or_else, fault_at_end, fault_after, first_refusal_from}
-use Rattle.ir_text.specs.Progress.{IsWithin}
 use Rattle.ir_text.proofs.FirstFault.{precedes_itself, named_along}
 use Rattle.ir_text.proofs.BuiltSteps.{Sort, alone, opening, closing, sort_of, end_sort, end_at, Behind, Says, says, Follows, Fits, step}
 use Rattle.ir_text.proofs.BuiltTrees.{Way, AllBefore, AllBuilt}
@@ -86,13 +85,6 @@ end_fault values text act.BeginList first before here os a k h = let e : act.End
 end_fault values text act.BeginItem first before here os a k h = let e : act.EndItem ≡ a = cc in rw (← e)
 end_fault values text _ first before here os a k h = cc
 
--- ---- places of pieces
-
-first_some : (ts : Trees Step) (i : ℕ) → i < count ts → (j : ℕ) × (first_at ts i ≡ Some j)
-first_some no_tree i lt = absurd (omega arith)
-first_some (a_tree (node s ts) rest) zero lt = (s.first, refl)
-first_some (a_tree (node s ts) rest) (suc i) lt = first_some rest i (omega arith)
-
 -- ---- behind an operation
 
 -- where nothing ends but a block, up to the next token
@@ -154,8 +146,7 @@ module _ (values : Values) (text : ℕ → List ℕ) where
   Results here o kind = length (names_behind [] o.before) ≡ length (values.result_types kind (pieces_in values text here))
 
   abbrev pub NumberAt : Trees Step → Open → ℕ → Fault → Type 0
-  NumberAt here o k f = (i : ℕ) × (j : ℕ) × AreSound values text here × (refused values o.action (pieces_in values text here) ≡ Some i) × (first_at here i ≡ Some j)
-      × (f ≡ record { kind = kinds.Number; met = k; place = j })
+  NumberAt here o k f = (i : ℕ) × AreSound values text here × (refused values o.action (pieces_in values text here) ≡ Some i) × (f ≡ number_at k (piece_token here i k))
 
   abbrev pub NamesAt : Trees Step → Open → ℕ → Fault → Type 0
   NamesAt here o k f = (kind : ℕ) × (o.action ≡ act.Operation kind) × (Results here o kind → ⊥)
@@ -186,28 +177,20 @@ module _ (values : Values) (text : ℕ → List ℕ) where
 
   has_met : (here : Trees Step) (os : List Open) (d : Deed) (f : Fault) → HasAt here os d f → f.met ≡ d.1
   has_met here [] d f h = absurd h
-  has_met here (o ∷ os) d f h = elim (h.1) [ inl x ↦ ap (λ z. z.met) x.5 | inr x ↦ ap (λ z. z.met) x.3 ]
+  has_met here (o ∷ os) d f h = elim (h.1) [ inl x ↦ ap (λ z. z.met) x.3 | inr x ↦ ap (λ z. z.met) x.3 ]
 
   has_no_block : (here : Trees Step) (os : List Open) (d : Deed) (f : Fault) → HasAt here os d f → d.0 ≡ act.EndBlock → ⊥
   has_no_block here [] d f h e = h
   has_no_block here (o ∷ os) d f h e = elim (h.1) [
-    | inl x ↦ (let r = refused_ends values o.action (pieces_in values text here) x.0 x.3 in let same : Some r.0 ≡ Some d.0 = sym r.1 ∙ h.0 in let is : r.0 ≡ d.0 = cc in r.3 (is ∙ e))
+    | inl x ↦ (let r = refused_ends values o.action (pieces_in values text here) x.0 x.2 in let same : Some r.0 ≡ Some d.0 = sym r.1 ∙ h.0 in let is : r.0 ≡ d.0 = cc in r.3 (is ∙ e))
     | inr x ↦ (let same : Some act.EndOperation ≡ Some act.EndBlock = ap end_of (sym x.1) ∙ (h.0 ∙ ap (λ z. Some z) e) in cc)
   ]
 
   -- ---- which faults what ends has
 
-  piece_count : (a : Action) (t : List ℕ) (m : ℕ) (ts rest : Pieces) → count (with_piece values a t m ts rest) ≤ suc (count rest)
-  piece_count (act.BeginType kind) t m ts rest = omega arith
-  piece_count _ t m ts rest = omega arith
-
-  pieces_count : (ts : Trees Step) → count (pieces_in values text ts) ≤ count ts
-  pieces_count no_tree = omega arith
-  pieces_count (a_tree (node s ts) rest) = omega (arith, piece_count s.action (text s.first) (count ts) (pieces_in values text ts) (pieces_in values text rest), pieces_count rest)
-
   abbrev CaseNumber : Trees Step → Open → List Open → ℕ → Type 0
-  CaseNumber here o os k = (i : ℕ) × (j : ℕ) × (refused values o.action (pieces_in values text here) ≡ Some i) × (first_at here i ≡ Some j)
-      × (fault_at_end values text here (o ∷ os) k ≡ Some (number_at k j))
+  CaseNumber here o os k = (i : ℕ) × (refused values o.action (pieces_in values text here) ≡ Some i)
+      × (fault_at_end values text here (o ∷ os) k ≡ Some (number_at k (piece_token here i k)))
 
   abbrev CaseNames : Trees Step → Open → List Open → ℕ → Type 0
   CaseNames here o os k = (kind : ℕ) × (refused values o.action (pieces_in values text here) ≡ None) × (o.action ≡ act.Operation kind) × (Results here o kind → ⊥)
@@ -234,17 +217,14 @@ module _ (values : Values) (text : ℕ → List ℕ) where
       go false e = inl (kind, refl, eqb-false _ _ e, ap (λ (b : Bool). let o : Option Fault = if b then None else Some (names_at k (first_token (names_behind [] before) first)) in o) e)
   names_case _ first before here k = inr ((λ kind same. cc), refl)
 
-  end_case : IsWithin values → (here : Trees Step) (o : Open) (os : List Open) (k : ℕ) → CaseNumber here o os k ⊎ (CaseNames here o os k ⊎ CaseNone here o os k)
-  end_case within here o os k = go (refused values o.action (pieces_in values text here)) refl
+  end_case : (here : Trees Step) (o : Open) (os : List Open) (k : ℕ) → CaseNumber here o os k ⊎ (CaseNames here o os k ⊎ CaseNone here o os k)
+  end_case here o os k = go (refused values o.action (pieces_in values text here)) refl
     where
       by : Option ℕ → Option Fault
       by z = option_map_or (λ i. number_fault here k i) z (names_fault_of values text o.action o.first o.before here k)
 
       go : (r : Option ℕ) → refused values o.action (pieces_in values text here) ≡ r → CaseNumber here o os k ⊎ (CaseNames here o os k ⊎ CaseNone here o os k)
-      go (Some i) e =
-          let small : i < count (pieces_in values text here) = within o.action (pieces_in values text here) i e in
-          let j = first_some here i (omega (arith, small, pieces_count here)) in
-          inl (i, j.0, e, j.1, ap by e ∙ ap (option_map (λ z. number_at k z)) j.1)
+      go (Some i) e = inl (i, e, ap by e)
       go None e = elim (names_case o.action o.first o.before here k) [
         | inl x ↦ inr (inl (x.0, e, x.1, x.2, ap by e ∙ x.3))
         | inr x ↦ inr (inr (e, x.0, ap by e ∙ x.1))
@@ -252,27 +232,26 @@ module _ (values : Values) (text : ℕ → List ℕ) where
 
   -- ---- of two faults at one end
 
-  number_first : (here : Trees Step) (o : Open) (os : List Open) (d : Deed) → (c : CaseNumber here o os d.1) → (g : Fault) → HasAt here (o ∷ os) d g → Precedes (number_at d.1 c.1) g
+  number_first : (here : Trees Step) (o : Open) (os : List Open) (d : Deed) → (c : CaseNumber here o os d.1) → (g : Fault) → HasAt here (o ∷ os) d g → Precedes (number_at d.1 (piece_token here c.0 d.1)) g
   number_first here o os d c g h = elim (h.1) [
     | inl x ↦ (
-        let one : Some c.0 ≡ Some x.0 = sym c.2 ∙ x.3 in
+        let one : Some c.0 ≡ Some x.0 = sym c.1 ∙ x.2 in
         let i : c.0 ≡ x.0 = cc in
-        let two : Some c.1 ≡ Some x.1 = sym c.3 ∙ (ap (first_at here) i ∙ x.4) in
-        let j : c.1 ≡ x.1 = cc in
-        subst (Precedes (number_at d.1 c.1)) (ap (number_at d.1) j ∙ sym x.5) (precedes_itself (number_at d.1 c.1)))
-    | inr x ↦ subst (Precedes (number_at d.1 c.1)) (sym x.3) (inr (refl, inl (omega arith)))
+        let r : Fault = number_at d.1 (piece_token here c.0 d.1) in
+        subst (Precedes r) (ap (λ z. number_at d.1 (piece_token here z d.1)) i ∙ sym x.3) (precedes_itself r))
+    | inr x ↦ subst (Precedes (number_at d.1 (piece_token here c.0 d.1))) (sym x.3) (inr (refl, inl (omega arith)))
   ]
 
   names_first : (here : Trees Step) (o : Open) (os : List Open) (d : Deed) → CaseNames here o os d.1 → (g : Fault) → HasAt here (o ∷ os) d g
       → Precedes (names_at d.1 (first_token (names_behind [] o.before) o.first)) g
   names_first here o os d c g h = elim (h.1) [
-    | inl x ↦ (let wrong : None ≡ Some x.0 = sym c.1 ∙ x.3 in cc)
+    | inl x ↦ (let wrong : None ≡ Some x.0 = sym c.1 ∙ x.2 in cc)
     | inr x ↦ subst (Precedes (names_at d.1 (first_token (names_behind [] o.before) o.first))) (sym x.3) (precedes_itself (names_at d.1 (first_token (names_behind [] o.before) o.first)))
   ]
 
   none_here : (here : Trees Step) (o : Open) (os : List Open) (d : Deed) → CaseNone here o os d.1 → (g : Fault) → HasAt here (o ∷ os) d g → ⊥
   none_here here o os d c g h = elim (h.1) [
-    | inl x ↦ (let wrong : None ≡ Some x.0 = sym c.0 ∙ x.3 in cc)
+    | inl x ↦ (let wrong : None ≡ Some x.0 = sym c.0 ∙ x.2 in cc)
     | inr x ↦ x.2 (c.1 x.0 x.1)
   ]
 
@@ -337,8 +316,8 @@ module _ (values : Values) (text : ℕ → List ℕ) where
   later_names here [] d c g le r h = absurd h
   later_names here (o ∷ os) d c g le r h = elim (h.1) [
     | inl x ↦ absurd (elim r [
-      | inl y ↦ y x.2
-      | inr y ↦ (let own = (refused_ends values o.action (pieces_in values text here) x.0 x.3).2 in let wrong : true ≡ false = sym own ∙ y.0 in cc)
+      | inl y ↦ y x.1
+      | inr y ↦ (let own = (refused_ends values o.action (pieces_in values text here) x.0 x.2).2 in let wrong : true ≡ false = sym own ∙ y.0 in cc)
     ])
     | inr x ↦ later_or c (d.1 + 1) g le (inr (ap (λ z. z + 1) (sym (ap (λ z. z.met) x.3)), ap (λ z. row z.kind) x.3))
   ]
@@ -404,54 +383,53 @@ module _ (values : Values) (text : ℕ → List ℕ) where
       let around = subst (AllBefore (AreSound values text)) w.2 h.1 in
       subst Sound (sym w.4) (sound_join o.before (a_tree (ended_tree o b.here d.1) no_tree) around.0 (r o w.1 w.2 w.3, h.0, tt), around.1)
 
-  module _ (within : IsWithin values) where
-    pub named : (ds : List Deed) (p : Position) (ps : List Position) (b : Built) (c : ℕ) → Fits (end_at p) ps b.around → Follows p ps ds → Grow c ds → Sound b
-        → IsNamed (Somewhere b ds) (refusal b ds)
-    named [] p ps b c fits f grow sound = λ g h. h
-    named (d ∷ ds) p ps b c fits f grow sound =
-        let s = step p ps b d ds fits f in
-        go s.0 s.1 s.2 s.3 s.4 (λ sound'. named ds s.0 s.1 (after b d.0 d.1) (d.1 + 1) s.2 s.3 grow.2 sound')
-      where
-        open_sort : (s : Sort) → sort_of d.0 ≡ s → (s ≡ closing → ⊥) → (f : Fault) → HasAt b.here b.around d f → ⊥
-        open_sort s e other f h = other (sym e ∙ has_closing b.here b.around d f h)
+  pub named : (ds : List Deed) (p : Position) (ps : List Position) (b : Built) (c : ℕ) → Fits (end_at p) ps b.around → Follows p ps ds → Grow c ds → Sound b
+      → IsNamed (Somewhere b ds) (refusal b ds)
+  named [] p ps b c fits f grow sound = λ g h. h
+  named (d ∷ ds) p ps b c fits f grow sound =
+      let s = step p ps b d ds fits f in
+      go s.0 s.1 s.2 s.3 s.4 (λ sound'. named ds s.0 s.1 (after b d.0 d.1) (d.1 + 1) s.2 s.3 grow.2 sound')
+    where
+      open_sort : (s : Sort) → sort_of d.0 ≡ s → (s ≡ closing → ⊥) → (f : Fault) → HasAt b.here b.around d f → ⊥
+      open_sort s e other f h = other (sym e ∙ has_closing b.here b.around d f h)
 
-        go : (q : Position) (qs : List Position) → Fits (end_at q) qs (after b d.0 d.1).around → Follows q qs ds → Way b d (after b d.0 d.1)
-            → (Sound (after b d.0 d.1) → IsNamed (Somewhere (after b d.0 d.1) ds) (refusal (after b d.0 d.1) ds)) → IsNamed (Somewhere b (d ∷ ds)) (refusal b (d ∷ ds))
-        go q qs fits' f' (inl w) ih =
-            quiet b d ds (plain_fault values text b d.0 d.1 (λ e. let wrong : alone ≡ closing = sym w.0 ∙ e in cc)) (open_sort alone w.0 (λ e. cc))
-            (ih (step_sound b d (after b d.0 d.1) (inl w) (λ o os e h. let wrong : closing ≡ alone = sym (end_sort o.action d.0 h) ∙ w.0 in cc) sound))
-        go q qs fits' f' (inr (inl w)) ih =
-            quiet b d ds (plain_fault values text b d.0 d.1 (λ e. let wrong : opening ≡ closing = sym w.0 ∙ e in cc)) (open_sort opening w.0 (λ e. cc))
-            (ih (step_sound b d (after b d.0 d.1) (inr (inl w)) (λ o os e h. let wrong : closing ≡ opening = sym (end_sort o.action d.0 h) ∙ w.0 in cc) sound))
-        go q qs fits' f' (inr (inr w)) ih = cases (end_case within b.here w.0 w.1 d.1)
-          where
-            fault : fault_after values text b d.0 d.1 ≡ fault_at_end values text b.here (w.0 ∷ w.1) d.1
-            fault = closing_fault b w.0 w.1 d.0 d.1 w.2 w.3
+      go : (q : Position) (qs : List Position) → Fits (end_at q) qs (after b d.0 d.1).around → Follows q qs ds → Way b d (after b d.0 d.1)
+          → (Sound (after b d.0 d.1) → IsNamed (Somewhere (after b d.0 d.1) ds) (refusal (after b d.0 d.1) ds)) → IsNamed (Somewhere b (d ∷ ds)) (refusal b (d ∷ ds))
+      go q qs fits' f' (inl w) ih =
+          quiet b d ds (plain_fault values text b d.0 d.1 (λ e. let wrong : alone ≡ closing = sym w.0 ∙ e in cc)) (open_sort alone w.0 (λ e. cc))
+          (ih (step_sound b d (after b d.0 d.1) (inl w) (λ o os e h. let wrong : closing ≡ alone = sym (end_sort o.action d.0 h) ∙ w.0 in cc) sound))
+      go q qs fits' f' (inr (inl w)) ih =
+          quiet b d ds (plain_fault values text b d.0 d.1 (λ e. let wrong : opening ≡ closing = sym w.0 ∙ e in cc)) (open_sort opening w.0 (λ e. cc))
+          (ih (step_sound b d (after b d.0 d.1) (inr (inl w)) (λ o os e h. let wrong : closing ≡ opening = sym (end_sort o.action d.0 h) ∙ w.0 in cc) sound))
+      go q qs fits' f' (inr (inr w)) ih = cases (end_case b.here w.0 w.1 d.1)
+        where
+          fault : fault_after values text b d.0 d.1 ≡ fault_at_end values text b.here (w.0 ∷ w.1) d.1
+          fault = closing_fault b w.0 w.1 d.0 d.1 w.2 w.3
 
-            into : (g : Fault) → HasAt b.here b.around d g → HasAt b.here (w.0 ∷ w.1) d g
-            into g h = subst (λ z. HasAt b.here z d g) w.2 h
+          into : (g : Fault) → HasAt b.here b.around d g → HasAt b.here (w.0 ∷ w.1) d g
+          into g h = subst (λ z. HasAt b.here z d g) w.2 h
 
-            out : (g : Fault) → HasAt b.here (w.0 ∷ w.1) d g → HasAt b.here b.around d g
-            out g h = subst (λ z. HasAt b.here z d g) (sym w.2) h
+          out : (g : Fault) → HasAt b.here (w.0 ∷ w.1) d g → HasAt b.here b.around d g
+          out g h = subst (λ z. HasAt b.here z d g) (sym w.2) h
 
-            cases : CaseNumber b.here w.0 w.1 d.1 ⊎ (CaseNames b.here w.0 w.1 d.1 ⊎ CaseNone b.here w.0 w.1 d.1) → IsNamed (Somewhere b (d ∷ ds)) (refusal b (d ∷ ds))
-            cases (inl n) =
-                let r = number_at d.1 n.1 in
-                let tree : Trees Step = a_tree (ended_tree (w.0) b.here d.1) no_tree in
-                let bad : RefusedIn (after b d.0 d.1) = subst RefusedIn (sym w.4) (refused_here (join (w.0).before tree) w.1
-                (λ s. let wrong : Some n.0 ≡ None = sym n.2 ∙ (sound_back (w.0).before tree s).0 in cc)) in
-                found b d ds r (fault ∙ n.4) (out r (w.3, inl (n.0, n.1, sound.0, n.2, n.3, refl))) (λ g h. number_first b.here w.0 w.1 d n g (into g h))
-                (λ g h. number_precedes d.1 n.1 g (later_refused ds q qs (after b d.0 d.1) (d.1 + 1) fits' f' grow.2 bad g h))
-            cases (inr (inl n)) =
-                let r = names_at d.1 (first_token (names_behind [] (w.0).before) (w.0).first) in
-                let same : Some act.EndOperation ≡ Some d.0 = ap end_of (sym n.2) ∙ w.3 in
-                let ends : d.0 ≡ act.EndOperation = cc in
-                let calm = operation_ends (λ q qs. Follows q qs ds) p d.0 (move p d.0) ps b.around fits (says p d.0) ends f in
-                found b d ds r (fault ∙ n.4) (out r (w.3, inr (n.0, n.2, n.3, refl))) (λ g h. names_first b.here w.0 w.1 d n g (into g h))
-                (λ g h. before_later d.1 (first_token (names_behind [] (w.0).before) (w.0).first) g (later_calm ds calm.0 calm.1 (after b d.0 d.1) (d.1 + 1) calm.2 calm.3 grow.2 g h))
-            cases (inr (inr n)) =
-                quiet b d ds (fault ∙ n.2) (λ g h. none_here b.here w.0 w.1 d n g (into g h))
-                (ih (step_sound b d (after b d.0 d.1) (inr (inr w)) (λ o os e h.
-                let same : w.0 ∷ w.1 ≡ o ∷ os = sym w.2 ∙ e in
-                let is : w.0 ≡ o = cc in
-                ap (λ z. refused values z.action (pieces_in values text b.here)) (sym is) ∙ n.0) sound))
+          cases : CaseNumber b.here w.0 w.1 d.1 ⊎ (CaseNames b.here w.0 w.1 d.1 ⊎ CaseNone b.here w.0 w.1 d.1) → IsNamed (Somewhere b (d ∷ ds)) (refusal b (d ∷ ds))
+          cases (inl n) =
+              let r = number_at d.1 (piece_token b.here n.0 d.1) in
+              let tree : Trees Step = a_tree (ended_tree (w.0) b.here d.1) no_tree in
+              let bad : RefusedIn (after b d.0 d.1) = subst RefusedIn (sym w.4) (refused_here (join (w.0).before tree) w.1
+              (λ s. let wrong : Some n.0 ≡ None = sym n.1 ∙ (sound_back (w.0).before tree s).0 in cc)) in
+              found b d ds r (fault ∙ n.2) (out r (w.3, inl (n.0, sound.0, n.1, refl))) (λ g h. number_first b.here w.0 w.1 d n g (into g h))
+              (λ g h. number_precedes d.1 (piece_token b.here n.0 d.1) g (later_refused ds q qs (after b d.0 d.1) (d.1 + 1) fits' f' grow.2 bad g h))
+          cases (inr (inl n)) =
+              let r = names_at d.1 (first_token (names_behind [] (w.0).before) (w.0).first) in
+              let same : Some act.EndOperation ≡ Some d.0 = ap end_of (sym n.2) ∙ w.3 in
+              let ends : d.0 ≡ act.EndOperation = cc in
+              let calm = operation_ends (λ q qs. Follows q qs ds) p d.0 (move p d.0) ps b.around fits (says p d.0) ends f in
+              found b d ds r (fault ∙ n.4) (out r (w.3, inr (n.0, n.2, n.3, refl))) (λ g h. names_first b.here w.0 w.1 d n g (into g h))
+              (λ g h. before_later d.1 (first_token (names_behind [] (w.0).before) (w.0).first) g (later_calm ds calm.0 calm.1 (after b d.0 d.1) (d.1 + 1) calm.2 calm.3 grow.2 g h))
+          cases (inr (inr n)) =
+              quiet b d ds (fault ∙ n.2) (λ g h. none_here b.here w.0 w.1 d n g (into g h))
+              (ih (step_sound b d (after b d.0 d.1) (inr (inr w)) (λ o os e h.
+              let same : w.0 ∷ w.1 ≡ o ∷ os = sym w.2 ∙ e in
+              let is : w.0 ≡ o = cc in
+              ap (λ z. refused values z.action (pieces_in values text b.here)) (sym is) ∙ n.0) sound))

@@ -14,7 +14,7 @@ use Rattle.ir_text.specs.Meaning.{pieces_in}
 use Rattle.ir_text.specs.Nesting.{Position, at_root, move, Nests, FollowTokens}
 use Rattle.ir_text.specs.ValueFaults.{first_token, results, EndsInResult, HasNumberFault, HasNamesFault}
 use Rattle.ir_text.specs.Building.{Open, Built, nothing_built, with_begin, after, with_name, names_behind, first_refusal}
-use Rattle.ir_text.specs.Progress.{deeds_around, deeds_so_far, run, IsWithin}
+use Rattle.ir_text.specs.Progress.{deeds_around, deeds_so_far, run}
 use Rattle.ir_text.proofs.FirstFault.{named_along}
 use Rattle.ir_text.proofs.BuiltSteps.{alone, opening, closing, sort_of, end_sort, end_at, Follows, by_move, nests_deeds, Fits, step}
 use Rattle.ir_text.proofs.BuiltTrees.{AllBuilt, after_begin, pushed, run_trees, run_deeds, run_whole, step_deeds, step_whole}
@@ -190,7 +190,7 @@ module _ (values : Values) (text : ℕ → List ℕ) (es : List Event) where
   met_here here (o ∷ os) e (p ∷ ps) d ds fits whole all f (end, inl h) =
       let s : Step = record { action = o.action; first = o.first; last = d.1 } in
       let read = end_read here o os d ds s refl end all in
-      inl (s, here, h.0, h.1, (end_whole here o d end whole.0, deeds_around os ++ deeds_in o.before, ds, read), h.2, h.3, h.4, h.5)
+      inl (s, here, h.0, (end_whole here o d end whole.0, deeds_around os ++ deeds_in o.before, ds, read), h.1, h.2, h.3)
   met_here here (o ∷ os) e (p ∷ ps) d ds fits whole all f (end, inr h) =
       let s : Step = record { action = o.action; first = o.first; last = d.1 } in
       let read = end_read here o os d ds s refl end all in
@@ -244,11 +244,11 @@ module _ (values : Values) (text : ℕ → List ℕ) (es : List Event) where
       subst (λ z. Somewhere values text b z f) (sym same) whole
 
   number_met : (f : Fault) → HasNumberFault values text es f → Somewhere values text nothing_built (deeds es) f
-  number_met f (s, ts, i, k, tree, sound, no_number, place, is) =
+  number_met f (s, ts, i, tree, sound, no_number, is) =
       let x = refused_ends values s.action (pieces_in values text ts) i no_number in
       subst (λ z. Somewhere values text nothing_built z f) (sym tree.3)
       (somewhere_behind tree.1 (deeds_of (node s ts) ++ tree.2) nothing_built f
-      (somewhere_tree (run nothing_built tree.1) s ts tree.2 f x.0 x.1 tree.0.1 (x.1, inl (i, k, sound, no_number, place, is))))
+      (somewhere_tree (run nothing_built tree.1) s ts tree.2 f x.0 x.1 tree.0.1 (x.1, inl (i, sound, no_number, is))))
 
   names_met : Nests at_root [] es → (f : Fault) → HasNamesFault values text es f → Somewhere values text nothing_built (deeds es) f
   names_met nests f (names, kind, s, ts, before, more, whole, read, other, operation, wrong, is) =
@@ -274,12 +274,12 @@ module _ (values : Values) (text : ℕ → List ℕ) (es : List Event) where
 
   -- ---- law 3
 
-  pub refusal_is_named : IsWithin values → Nests at_root [] es → FollowTokens false es
+  pub refusal_is_named : Nests at_root [] es → FollowTokens false es
       → IsNamed (λ f. HasNumberFault values text es f ⊎ HasNamesFault values text es f) (first_refusal values text es)
-  refusal_is_named within nests fresh =
+  refusal_is_named nests fresh =
       let follows = nests_deeds es at_root [] 0 nests in
       let grow = root_grows es false 0 nests fresh (λ e. cc) in
-      let first = named values text within (deeds es) at_root [] nothing_built 0 refl follows grow (tt, tt) in
+      let first = named values text (deeds es) at_root [] nothing_built 0 refl follows grow (tt, tt) in
       let Has : Fault → Type 0 = λ f. HasNumberFault values text es f ⊎ HasNamesFault values text es f in
       subst (IsNamed Has) (sym (refusal_by_deeds values text es nothing_built 0))
       (named_along (Somewhere values text nothing_built (deeds es)) Has (refusal values text nothing_built (deeds es))

@@ -20,6 +20,9 @@ pub mod Makes
 pub mod Predictable
 pub mod Spelled
 pub mod Ordered
+pub mod NameSigns
+pub mod NameTokens
+pub mod Identifiers
 pub mod BuiltSteps
 pub mod BuiltTrees
 pub mod BuiltEnds
@@ -27,3 +30,13 @@ pub mod BuiltRefusals
 pub mod Growing
 pub mod ShownLater
 pub mod PiecesBehind
+pub mod TextFaults
+pub mod TextReadings
+pub mod Digits
+pub mod Following
+pub mod Framing
+pub mod Ended
+pub mod Holding
+pub mod Opening
+pub mod Moving
+pub mod Stepping

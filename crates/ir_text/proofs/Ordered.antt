@@ -25,7 +25,7 @@ both_hold : (a b : Bool) → a && b ≡ true → (a ≡ true) × (b ≡ true)
 both_hold true b e = (refl, e)
 both_hold false b e = cc
 
-nothing : {A : Type 0} {C : Type 0} {x : A} → None ≡ Some x → C
+pub nothing : {A : Type 0} {C : Type 0} {x : A} → None ≡ Some x → C
 nothing e = cc
 
 inner : {A : Type 0} {x y : A} → Some x ≡ Some y → x ≡ y
@@ -67,7 +67,7 @@ alone_there (Some s) q e = is_alone_there s.here s.around q e
 
 -- ---- walks one behind the other
 
-passed_none : (es : List Event) → passed_all None es ≡ None
+pub passed_none : (es : List Event) → passed_all None es ≡ None
 passed_none [] = refl
 passed_none (Took ∷ es) = passed_none es
 passed_none (Did a ∷ es) = passed_none es
@@ -314,7 +314,7 @@ orders_texts g leads ok ts es d =
 -- ---- what reading gives
 
 -- what is done at the first tokens is a front of all that is done
-through_front : (all : List Event) (n : ℕ) → (more : List Event) × (all ≡ through all n ++ more)
+pub through_front : (all : List Event) (n : ℕ) → (more : List Event) × (all ≡ through all n ++ more)
 through_front [] n = ([], refl)
 through_front (Took ∷ es) zero = (Took ∷ es, refl)
 through_front (Took ∷ es) (suc n) = let r = through_front es n in (r.0, ap (λ x. Took ∷ x) r.1)

@@ -1,12 +1,12 @@
 -- What one more tree adds to the pieces, the tokens and the names of others.
-use Rattle.std.proofs.Common.{◌≡◌, ℕ, zero, suc, List, [], ◌∷◌, ◌++◌, Option, Some, None, slice_get, refl, ap, ◌∙◌}
+use Rattle.std.proofs.Common.{◌≡◌, ℕ, zero, suc, List, [], ◌∷◌, ◌++◌, Some, None, slice_get, refl, ap, ◌∙◌}
 use Rattle.ir_names.specs.Tree.{Tree, Trees, node, no_tree, a_tree, join, count}
-use Rattle.ir_print.specs.Pieces.{Pieces, Values, ValueTree}
+use Rattle.ir_print.specs.Pieces.{Pieces, Values}
 use Rattle.ir_text.specs.declared.grammar.Action.{Action}
 use Rattle.ir_text.specs.declared.grammar.Action.TheVariants as act
 use Rattle.ir_text.specs.Forest.{Step}
 use Rattle.ir_text.specs.Meaning.{with_piece, pieces_in, tokens_in}
-use Rattle.ir_text.specs.ValueFaults.{first_at}
+use Rattle.ir_text.specs.ValueFaults.{piece_token}
 use Rattle.ir_text.specs.Building.{behind, names_behind, with_name}
 
 -- a step's piece stands before the others, whatever these are
@@ -56,8 +56,13 @@ pub count_behind : (ts : Trees Step) (t : Tree Step) → count (behind ts t) ≡
 count_behind no_tree t = refl
 count_behind (a_tree u ts) t = ap suc (count_behind ts t)
 
--- the token of a step by its number
-pub first_at_token : (ts : Trees Step) (i : ℕ) → first_at ts i ≡ slice_get (tokens_in ts) i
-first_at_token no_tree i = refl
-first_at_token (a_tree (node s us) ts) zero = refl
-first_at_token (a_tree (node s us) ts) (suc i) = first_at_token ts i
+-- the token of a step by its number, or the end where there is no such step
+pub piece_token_there : (ts : Trees Step) (i k last : ℕ) → slice_get (tokens_in ts) i ≡ Some k → piece_token ts i last ≡ k
+piece_token_there no_tree i k last h = cc
+piece_token_there (a_tree (node s us) ts) zero k last h = cc
+piece_token_there (a_tree (node s us) ts) (suc i) k last h = piece_token_there ts i k last h
+
+pub piece_token_none : (ts : Trees Step) (i last : ℕ) → slice_get (tokens_in ts) i ≡ None → piece_token ts i last ≡ last
+piece_token_none no_tree i last h = refl
+piece_token_none (a_tree (node s us) ts) zero last h = cc
+piece_token_none (a_tree (node s us) ts) (suc i) last h = piece_token_none ts i last h

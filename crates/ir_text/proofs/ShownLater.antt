@@ -1,8 +1,8 @@
 -- What parts show stays shown where types are kept.
-use Rattle.std.proofs.Common.{◌≡◌, ℕ, zero, suc, List, [], ◌∷◌, ◌++◌, Some, slice_get, refl}
+use Rattle.std.proofs.Common.{◌≡◌, ℕ, List, [], ◌∷◌, ◌++◌, Some, slice_get}
 use Rattle.ir_names.specs.Tree.{Tree, Trees, node, no_tree, a_tree, join}
 use Rattle.ir_print.specs.declared.format.Part.{Part}
-use Rattle.ir_print.specs.Pieces.{Piece, type_of_kind, attribute_of_kind, list, item, operands, region, name, number, width, ValueTree, Pieces}
+use Rattle.ir_print.specs.Pieces.{type_of_kind, attribute_of_kind, list, item, operands, region, name, number, width, ValueTree, Pieces}
 use Rattle.ir_print.specs.Shown.{Said, Saying, Shows, ShowsAll, ShowsPart, ShowsParts, ShowsMembers, ShowsMember}
 use Rattle.std.specs.Prelude.{Vec}
 use Rattle.std.specs.Global.{Global}

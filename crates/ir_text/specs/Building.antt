@@ -1,5 +1,5 @@
 -- How far the trees of a text are built.
-use Rattle.std.specs.Prelude.{ℕ, ◌+◌, ◌-◌, ◌==◌, List, [], ◌∷◌, ◌++◌, length, Option, Some, None, option_map, if◌then◌else◌}
+use Rattle.std.specs.Prelude.{ℕ, ◌+◌, ◌-◌, ◌==◌, List, [], ◌∷◌, ◌++◌, length, Option, Some, None, if◌then◌else◌}
 use Rattle.std.specs.Option.{option_map_or}
 use Rattle.ir_names.specs.Tree.{Tree, Trees, node, no_tree, a_tree, join}
 use Rattle.ir_print.specs.Pieces.{Values}
@@ -11,7 +11,7 @@ use Rattle.ir_text.specs.declared.faults.Fault.{Fault}
 use Rattle.ir_text.specs.declared.faults.FaultKind.TheVariants as kinds
 use Rattle.ir_text.specs.Forest.{Step}
 use Rattle.ir_text.specs.Meaning.{pieces_in}
-use Rattle.ir_text.specs.ValueFaults.{refused, first_at, first_token}
+use Rattle.ir_text.specs.ValueFaults.{refused, piece_token, first_token}
 
 -- What was begun and isn't ended: the action that began it, its token, and the trees that stood before it where it began.
 pub record Open : Type 0 where
@@ -97,9 +97,9 @@ abbrev pub names_behind : List ℕ → Trees Step → List ℕ
 names_behind names no_tree = names
 names_behind names (a_tree (node s ts) rest) = names_behind (with_name names s.action s.first) rest
 
--- a number out of range in what ends: at the piece with this number
+-- a number out of range in what ends: at the piece with this number, or at the end
 abbrev pub number_fault : Trees Step → ℕ → ℕ → Option Fault
-number_fault ts last i = option_map (λ k. record { kind = kinds.Number; met = last; place = k }) (first_at ts i)
+number_fault ts last i = Some (record { kind = kinds.Number; met = last; place = piece_token ts i last })
 
 -- as many names as results, or a fault
 abbrev pub names_fault : List ℕ → ℕ → ℕ → ℕ → Option Fault

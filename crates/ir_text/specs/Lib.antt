@@ -14,9 +14,12 @@ pub mod Words
 pub mod Spelling
 pub mod Forest
 pub mod Nesting
+pub mod Identifiers
 pub mod Meaning
 pub mod ValueFaults
 pub mod Texts
 pub mod Building
 pub mod Ordered
 pub mod Progress
+pub mod Opened
+pub mod Frames

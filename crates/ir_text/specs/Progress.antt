@@ -1,14 +1,10 @@
 -- How what is built goes with what was read.
-use Rattle.std.specs.Prelude.{◌≡◌, ◌<◌, ℕ, List, [], ◌∷◌, ◌++◌, Some}
-use Rattle.ir_names.specs.Tree.{count}
-use Rattle.ir_print.specs.Pieces.{Pieces, Values}
-use Rattle.ir_text.specs.declared.grammar.Action.{Action}
+use Rattle.std.specs.Prelude.{◌≡◌, List, [], ◌∷◌, ◌++◌}
 use Rattle.ir_text.specs.declared.grammar.Event.{Event}
 use Rattle.ir_text.specs.declared.grammar.Event.TheVariants.{Took, Did}
 use Rattle.ir_text.specs.Forest.{Deed, deeds_in}
 use Rattle.ir_text.specs.Nesting.{Position, move, NestsBy}
 use Rattle.ir_text.specs.Building.{Open, Built, after}
-use Rattle.ir_text.specs.ValueFaults.{refused}
 
 -- the deeds of what is open: of each, the outermost first, those of the trees before it, and that which began it
 abbrev pub deeds_around : List Open → List Deed
@@ -29,7 +25,3 @@ abbrev pub Leads : Position → List Position → List Event → Position → Li
 Leads here around [] to behind = (here ≡ to) × (around ≡ behind)
 Leads here around (Took ∷ es) to behind = Leads here around es to behind
 Leads here around (Did a ∷ es) to behind = NestsBy (move here a) around (λ next more. Leads next more es to behind)
-
--- What is refused is one of the pieces.
-abbrev pub IsWithin : Values → Type 0
-IsWithin values = (a : Action) (ps : Pieces) (i : ℕ) → refused values a ps ≡ Some i → i < count ps

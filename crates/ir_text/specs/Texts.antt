@@ -1,5 +1,5 @@
 -- Which texts are read, what they say, and how the others are refused.
-use Rattle.std.specs.Prelude.{◌≡◌, ◌<◌, ℕ, List, [], map, length, take, slice_get, slice_index, Some, None, Bool, ◌⊎◌}
+use Rattle.std.specs.Prelude.{◌≡◌, ◌<◌, ℕ, List, [], map, length, take, slice_get, slice_index, Option, Some, None, Bool, ◌⊎◌}
 use Rattle.std.specs.Option.{option_map_or}
 use Rattle.std.specs.Str.{chars}
 use Rattle.ir_names.specs.Tree.{Trees}
@@ -23,7 +23,7 @@ use Rattle.ir_text.specs.Rules.{words_of, rules_of, classes_of, plain_rules, pla
 use Rattle.ir_text.specs.Reading.{Reads}
 use Rattle.ir_text.specs.Faults.{IsNamed}
 use Rattle.ir_text.specs.Depth.{IsTooDeep}
-use Rattle.ir_text.specs.Scopes.{HasScopeFault, IsResolved}
+use Rattle.ir_text.specs.Scopes.{isolated_at, HasScopeFault, IsResolved}
 use Rattle.ir_text.specs.Forest.{Step, IsForest}
 use Rattle.ir_text.specs.Meaning.{operations_in, renamed}
 use Rattle.ir_text.specs.ValueFaults.{HasNumberFault, HasNamesFault}
@@ -33,6 +33,10 @@ pub record Language : Type 0 where
   pub formats : Formats
   pub isolated : ℕ → Bool
   pub values : Values
+
+-- the language of a dialect: its formats, the kind of operations with each number, whether those of a kind are isolated, and its values
+abbrev pub language_of : {K : Type 0} → Formats → (ℕ → Option K) → (K → Bool) → Values → Language
+language_of formats kind_at isolated values = record { formats = formats; isolated = isolated_at kind_at isolated; values = values }
 
 -- a grammar with the rules and the signs of the formats
 pub record IsGrammarOf (f : Formats) (g : Grammar) : Type 0 where
@@ -84,9 +88,21 @@ IsTextFault l cs fault = (ts : List Token) × (names : List ℕ) × (stop : Stop
     × IsReading l cs ts names stop n es × IsNamed (HasFault l cs ts names stop n es) (Some f)
     × (fault ≡ tell f.kind (place_of cs ts f.place))
 
+-- This is told in place of what the text says: how it is refused, or that memory is or a counter is full, which says nothing of it.
+abbrev pub IsRefusal : Language → List ℕ → TextFault → Type 0
+IsRefusal l cs told.Memory = Unit {0}
+IsRefusal l cs told.CounterFull = Unit {0}
+IsRefusal l cs (told.Syntax line column) = IsTextFault l cs (told.Syntax line column)
+IsRefusal l cs (told.TooDeep line column) = IsTextFault l cs (told.TooDeep line column)
+IsRefusal l cs (told.Scope line column cause) = IsTextFault l cs (told.Scope line column cause)
+
 -- The text has no fault and says this tree, in which the number of its definition names a value.
 abbrev pub Says : Language → List ℕ → Entity ℕ → Type 0
 Says l cs tree = (ts : List Token) × (names : List ℕ) × (stop : Stop) × (n : ℕ) × (es : List Event) × (forest : Trees Step) × (t : Entity ℕ) × (r : Resolution)
     × IsReading l cs ts names stop n es × IsNamed (HasFault l cs ts names stop n es) None
     × IsForest es forest × (operations_in l.values (token_text cs ts) [] forest ≡ an_entity t no_entity)
     × IsResolved l.isolated names es r × (tree ≡ renamed (slice_index r.definitions.items) t)
+
+-- the text has no fault and says a tree
+abbrev pub SaysATree : Language → List ℕ → Type 0
+SaysATree l cs = (tree : Entity ℕ) × Says l cs tree

@@ -17,11 +17,11 @@ refused values (act.BeginAttribute kind) ps = values.refused_attribute kind ps
 refused values (act.Operation kind) ps = values.refused_operation kind ps
 refused values _ ps = None
 
--- the token of the step with a number
-abbrev pub first_at : Trees Step → ℕ → Option ℕ
-first_at no_tree i = None
-first_at (a_tree (node s ts) rest) zero = Some s.first
-first_at (a_tree (node s ts) rest) (suc i) = first_at rest i
+-- the token of the step with a number, or of the end (the last argument) where there are fewer
+abbrev pub piece_token : Trees Step → ℕ → ℕ → ℕ
+piece_token no_tree i last = last
+piece_token (a_tree (node s ts) rest) zero last = s.first
+piece_token (a_tree (node s ts) rest) (suc i) last = piece_token rest i last
 
 -- nothing is refused in these steps, at any depth
 abbrev pub AreSound : Values → (ℕ → List ℕ) → Trees Step → Type 0
@@ -29,11 +29,12 @@ AreSound values text no_tree = Unit {0}
 AreSound values text (a_tree (node s ts) rest) =
     (refused values s.action (pieces_in values text ts) ≡ None) × AreSound values text ts × AreSound values text rest
 
--- A number is out of range: what it is in ends, and is refused for it, and nothing within that is refused. It is placed there.
+-- A number is out of range: what it is in ends, and is refused for it, and nothing within that is refused. It is placed there, or
+-- at the end where there is no such piece.
 abbrev pub HasNumberFault : Values → (ℕ → List ℕ) → List Event → Fault → Type 0
-HasNumberFault values text es f = (s : Step) × (ts : Trees Step) × (i : ℕ) × (k : ℕ)
+HasNumberFault values text es f = (s : Step) × (ts : Trees Step) × (i : ℕ)
     × HasTree es (node s ts) × AreSound values text ts × (refused values s.action (pieces_in values text ts) ≡ Some i)
-    × (first_at ts i ≡ Some k) × (f ≡ record { kind = kinds.Number; met = s.last; place = k })
+    × (f ≡ record { kind = kinds.Number; met = s.last; place = piece_token ts i s.last })
 
 -- names of results, at these tokens
 abbrev pub results : List ℕ → List Deed

@@ -1,5 +1,5 @@
 -- The kinds of tokens, and which are spelled alike.
-use Rattle.std.specs.Prelude.{◌≡◌, ◌↔◌, ℕ, ◌&&◌, ◌||◌, ◌==◌, nat_lt, nat_le, Bool, true, false, List, [], ◌∷◌, length, map, Some, slice_get, slice_index, slice_range, if◌then◌else◌, Vec}
+use Rattle.std.specs.Prelude.{◌≡◌, ◌↔◌, ℕ, ◌+◌, ◌&&◌, ◌||◌, ◌==◌, nat_lt, nat_le, Bool, true, false, List, [], ◌∷◌, length, map, Some, slice_get, slice_index, slice_range, if◌then◌else◌, Vec}
 use Rattle.std.specs.Global.{Global}
 use Rattle.std.specs.List.{list_all}
 use Rattle.ir_text.specs.declared.tokens.TokenKind.{TokenKind}
@@ -8,7 +8,7 @@ use Rattle.ir_text.specs.declared.tokens.Token.{Token}
 use Rattle.ir_text.specs.declared.rules.Shape.{Shape}
 use Rattle.ir_text.specs.declared.rules.Shape.TheVariants as shapes
 use Rattle.ir_text.specs.Tokens.{is_digit}
-use Rattle.ir_text.specs.Rules.{number_of, with_word, up}
+use Rattle.ir_text.specs.Rules.{number_of, with_word}
 
 -- the characters of a token of the text
 abbrev pub text_of : List ℕ → Token → List ℕ
@@ -64,9 +64,10 @@ spelled_texts cs (t ∷ ts) = if is_spelled t.kind then text_of cs t ∷ spelled
 abbrev pub name_number : List (List ℕ) → ℕ → List ℕ → Token → ℕ
 name_number all none cs t = if is_spelled t.kind then number_of all (text_of cs t) else none
 
--- the kind of the word of this number, of so many, or of a token that is none of them
+-- The kind of the word of this number, of so many, or of a token that is none of them. Kinds end at 2^32 - 1, far past those of any
+-- dialect, and words past that have none of their own.
 abbrev pub word_kind : ℕ → ℕ → ℕ → ℕ
-word_kind number words shape = if nat_lt number words then up number 5 else shape
+word_kind number words shape = if nat_lt number words && nat_lt number 4294967290 then number + 5 else shape
 
 -- the kind of a token: a word of the grammar has that of the word, and any other that of its shape
 abbrev pub kind_of : List (List ℕ) → List ℕ → Token → ℕ

@@ -9,7 +9,7 @@ ghost use Rattle.ir_text.specs.Nesting.{Position, Nests, FollowTokens, at_root, 
 ghost use Rattle.ir_text.specs.Building.{Built, built, built_from, behind, first_refusal};
 ghost use Rattle.ir_text.specs.Faults.{IsNamed};
 ghost use Rattle.ir_text.specs.ValueFaults.{HasNumberFault, HasNamesFault};
-ghost use Rattle.ir_text.specs.Progress.{deeds_so_far, run, Leads, IsWithin};
+ghost use Rattle.ir_text.specs.Progress.{deeds_so_far, run, Leads};
 
 /// What is built is what was read: its deeds are those of the events. Where all is ended it is the forest of the text.
 pub fn built_deeds()
@@ -35,6 +35,6 @@ pub fn built_tree()
 
 /// The first refusal is the fault that is named of those that values and names of results have.
 pub fn first_refusal_is_named()
-    ensures { (values : Values) (text : ℕ → List ℕ) (es : List Event) → IsWithin values → Nests at_root [] es → FollowTokens false es
+    ensures { (values : Values) (text : ℕ → List ℕ) (es : List Event) → Nests at_root [] es → FollowTokens false es
         → IsNamed (λ f. HasNumberFault values text es f ⊎ HasNamesFault values text es f) (first_refusal values text es) }
 {}

@@ -14,6 +14,8 @@ ghost use Rattle.ir_text.specs.Reading.{OpensMore, Reads, tooks};
 ghost use Rattle.ir_text.specs.Rules.{plain_rules};
 ghost use Rattle.ir_text.specs.Nesting.{at_root, at_end, FollowTokens};
 ghost use Rattle.ir_text.specs.Ordered.{Leads, is_ordered, IsInOrder, LeadsTo, OrdersTexts};
+ghost use Rattle.ir_text.specs.Identifiers.{AreSpelt};
+ghost use Rattle.ir_text.specs.Texts.{Language, IsReading, token_text};
 ghost use Rattle.ir_text.specs.Scopes.{HasScopeFault, OwnTokens, AreApart, definitions, mentions};
 
 /// The characters of a text are one list of tokens.
@@ -58,6 +60,12 @@ pub fn readings_are_ordered()
         → Reads g 0 many ts stop n es → IsInOrder es }
     ensures ends { (g : Grammar) → OrdersTexts g → (many n : ℕ) (ts : List ℕ) (es : List Event)
         → Reads g 0 many ts Text n es → LeadsTo at_root es at_end }
+{}
+
+/// Each name and each label that reading a text keeps is an identifier.
+pub fn kept_names_are_identifiers()
+    ensures { (l : Language) (cs : List ℕ) (ts : List Token) (names : List ℕ) (stop : Stop) (n : ℕ) (es : List Event)
+        → IsReading l cs ts names stop n es → AreSpelt (token_text cs ts) 0 es }
 {}
 
 /// A front of what is in order is in order.

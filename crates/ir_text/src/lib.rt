@@ -15,10 +15,13 @@
 #![tactic(auto)]
 
 mod assembling;
+mod beginning;
 pub mod building_laws;
 mod check;
 mod depth;
+mod ending;
 mod faults;
+mod finding;
 mod given;
 pub mod grammar;
 pub mod laws;

@@ -1,10 +1,14 @@
 //! What is made of what a text says.
-ghost use Rattle.std.specs.Prelude.{◌≡◌, ℕ, IfOk, Some, slice_get};
+ghost use Rattle.std.specs.Prelude.{◌≡◌, ℕ, IfOk, None, Some, Err, slice_get};
+ghost use Rattle.ir_names.specs.Tree.{node};
+ghost use Rattle.ir_print.specs.declared.dialect.MakeFault.TheVariants.{Refused};
+ghost use Rattle.ir_print.specs.Pieces.{Pieces, type_of_kind, attribute_of_kind};
+ghost use Rattle.ir_print.specs.Shown.{ShowsParts, ShowsType, ShowsAttribute, KeepsTypes, Drafts};
 ghost use Rattle.ir_store.specs.declared.mark.Mark.{Mark};
 ghost use Rattle.ir_store.specs.declared.pointer.Ptr.{Ptr};
 ghost use Rattle.ir_store.specs.declared.pointer.Region.{Region};
 ghost use Rattle.ir_store.specs.Context.{IsLiveOperation, IsLiveRegion, regions_of};
-ghost use Rattle.ir_store.specs.Marks.{CanRewind, KeepsBelow, KeepsLive, IsOperationSince, IsRegionSince, AreRegionsSince};
+ghost use Rattle.ir_store.specs.Marks.{CanRewind, KeepsBelow, KeepsLive, IsSameTree, IsOperationSince, IsRegionSince, AreRegionsSince};
 
 use crate::opened::AssemblyFault;
 use ir_names::{GrowError, Identifier, IdentifierError, TypeHandle};
@@ -12,52 +16,67 @@ use ir_print::{MakeFault, OperationDraft, Part, TextDialect};
 use ir_store::{BasicBlock, Context, Mark, Operation, Ptr, Region};
 use std::alloc::{AllocError, Global};
 
-/// The type of the kind with a number that has these parts, if there is such a kind.
+/// The type of these parts, of the kind with a number, or the first part that is refused.
 pub fn make_type<D: TextDialect>(
     alloc: Global,
     ctx: &mut Context<D>,
     kind: u32,
     parts: &[Part<D>],
-) -> Result<Option<TypeHandle>, MakeFault>
+) -> Result<TypeHandle, MakeFault>
     ensures live { KeepsLive ctx.old ctx.new }
     ensures below { (m : Mark) → CanRewind ctx.old m → KeepsBelow m ctx.old ctx.new }
+    ensures types { KeepsTypes ctx.old ctx.new }
+    ensures tree { IsSameTree ctx.old ctx.new }
+    ensures made { (ps : Pieces) → ShowsParts D.says ctx.old.types parts.now ps → IfOk result (λ ty. (D.values.refused_type kind ps ≡ None) × ShowsType D.says ctx.new.types ty (node (type_of_kind kind) ps)) }
+    ensures refused { (ps : Pieces) → ShowsParts D.says ctx.old.types parts.now ps → (i : ℕ) → result ≡ Err (Refused i) → D.values.refused_type kind ps ≡ Some i }
 {
-    let Some(kind) = D::type_kind_at(kind as usize) else {
-        return Ok(None);
+    let Some(found) = D::type_kind_at(kind as usize) else {
+        return Err(MakeFault::Refused(0));
     };
-    let key = D::make_type(alloc, kind, parts)?;
+    let key = D::make_type(alloc, found, parts)?;
     let ty = ctx.intern(key)?;
-    Ok(Some(ty))
+    Ok(ty)
 }
 
-/// The attribute of the kind with a number that has these parts, if there is such a kind.
+/// The attribute of these parts, of the kind with a number, or the first part that is refused.
 pub fn make_attribute<D: TextDialect>(
     alloc: Global,
     ctx: &mut Context<D>,
     kind: u32,
     parts: &[Part<D>],
-) -> Result<Option<D::Attr>, MakeFault>
+) -> Result<D::Attr, MakeFault>
     ensures live { KeepsLive ctx.old ctx.new }
     ensures below { (m : Mark) → CanRewind ctx.old m → KeepsBelow m ctx.old ctx.new }
+    ensures types { KeepsTypes ctx.old ctx.new }
+    ensures tree { IsSameTree ctx.old ctx.new }
+    ensures made { (ps : Pieces) → ShowsParts D.says ctx.old.types parts.now ps → IfOk result (λ attr. (D.values.refused_attribute kind ps ≡ None) × ShowsAttribute D.says ctx.new.types attr (node (attribute_of_kind kind) (D.values.canonical kind ps))) }
+    ensures refused { (ps : Pieces) → ShowsParts D.says ctx.old.types parts.now ps → (i : ℕ) → result ≡ Err (Refused i) → D.values.refused_attribute kind ps ≡ Some i }
 {
-    let Some(kind) = D::attr_kind_at(kind as usize) else {
-        return Ok(None);
+    let Some(found) = D::attr_kind_at(kind as usize) else {
+        return Err(MakeFault::Refused(0));
     };
-    let attr = D::make_attr(alloc, ctx, kind, parts)?;
-    Ok(Some(attr))
+    D::make_attr(alloc, ctx, found, parts)
 }
 
-/// What an operation of these parts is made with.
+/// The kind with a number, and what an operation of it and of these parts is made with, or the first part that is refused.
 pub fn draft_of<D: TextDialect>(
     alloc: Global,
     ctx: &mut Context<D>,
-    kind: D::OpKind,
+    kind: u32,
     parts: &[Part<D>],
-) -> Result<OperationDraft<D>, MakeFault>
+) -> Result<(D::OpKind, OperationDraft<D>), MakeFault>
     ensures live { KeepsLive ctx.old ctx.new }
     ensures below { (m : Mark) → CanRewind ctx.old m → KeepsBelow m ctx.old ctx.new }
+    ensures types { KeepsTypes ctx.old ctx.new }
+    ensures tree { IsSameTree ctx.old ctx.new }
+    ensures made { (ps : Pieces) → ShowsParts D.says ctx.old.types parts.now ps → IfOk result (λ r. (D.values.refused_operation kind ps ≡ None) × (D.kind_at kind ≡ Some r.0) × Drafts D.says ctx.new.types D.values r.0 kind ps r.1.attributes r.1.result_types.items) }
+    ensures refused { (ps : Pieces) → ShowsParts D.says ctx.old.types parts.now ps → (i : ℕ) → result ≡ Err (Refused i) → D.values.refused_operation kind ps ≡ Some i }
 {
-    D::make_operation(alloc, ctx, kind, parts)
+    let Some(found) = D::op_kind_at(kind as usize) else {
+        return Err(MakeFault::Refused(0));
+    };
+    let draft = D::make_operation(alloc, ctx, found, parts)?;
+    Ok((found, draft))
 }
 
 /// The label that a token is.
@@ -110,6 +129,7 @@ pub fn append_block<D: TextDialect>(
     requires rewind { CanRewind ctx.old mark }
     requires region { IsLiveRegion ctx.old region }
     requires since { IsRegionSince mark region }
+    ensures types { ctx.new.types ≡ ctx.old.types }
     ensures below { KeepsBelow mark ctx.old ctx.new }
     ensures live { KeepsLive ctx.old ctx.new }
 {
@@ -132,6 +152,7 @@ pub fn append_operation<D: TextDialect>(
     requires rewind { CanRewind ctx.old mark }
     requires op { IsLiveOperation ctx.old op }
     requires since { IsOperationSince mark op }
+    ensures types { ctx.new.types ≡ ctx.old.types }
     ensures below { KeepsBelow mark ctx.old ctx.new }
     ensures live { KeepsLive ctx.old ctx.new }
 {
@@ -154,6 +175,7 @@ fn fill_region<D: TextDialect>(
     requires rewind { CanRewind ctx.old mark }
     requires region { IsLiveRegion ctx.old region }
     requires since { IsRegionSince mark region }
+    ensures types { ctx.new.types ≡ ctx.old.types }
     ensures below { KeepsBelow mark ctx.old ctx.new }
     ensures live { KeepsLive ctx.old ctx.new }
 {
@@ -172,6 +194,7 @@ fn fill_live_region<D: TextDialect>(
 ) -> Result<(), AllocError>
     requires rewind { CanRewind ctx.old mark }
     requires since { IsRegionSince mark region }
+    ensures types { ctx.new.types ≡ ctx.old.types }
     ensures below { KeepsBelow mark ctx.old ctx.new }
     ensures live { KeepsLive ctx.old ctx.new }
 {
@@ -192,6 +215,7 @@ pub fn fill<D: TextDialect>(
     requires rewind { CanRewind ctx.old mark }
     requires op { IsLiveOperation ctx.old op }
     requires since { AreRegionsSince mark (regions_of ctx.old op) }
+    ensures types { ctx.new.types ≡ ctx.old.types }
     ensures below { KeepsBelow mark ctx.old ctx.new }
     ensures live { KeepsLive ctx.old ctx.new }
 {
@@ -216,6 +240,7 @@ pub fn make_operation<D: TextDialect>(
     requires { CanRewind ctx.old mark }
     ensures made { IfOk result (IsLiveOperation ctx.new) }
     ensures since { IfOk result (IsOperationSince mark) }
+    ensures types { ctx.new.types ≡ ctx.old.types }
     ensures below { KeepsBelow mark ctx.old ctx.new }
     ensures live { KeepsLive ctx.old ctx.new }
 {

@@ -1,4 +1,11 @@
 //! What was begun in a text and isn't ended.
+ghost use Rattle.std.specs.Prelude.{◌≡◌, [], OnOk, IfErr};
+ghost use Rattle.ir_names.specs.Tree.{Trees};
+ghost use Rattle.ir_text.specs.declared.opened.AssemblyFault.TheVariants.{Memory};
+ghost use Rattle.ir_text.specs.Forest.{Step};
+ghost use Rattle.ir_text.specs.Meaning.{tokens_in};
+ghost use Rattle.ir_text.specs.Opened.{IsFresh, HasPart, HasPut};
+ghost use Rattle.ir_text.specs.ValueFaults.{piece_token};
 
 use crate::faults::Fault;
 use ir_names::{Dialects, GrowError};
@@ -15,18 +22,30 @@ pub enum AssemblyFault {
 }
 
 impl From<AllocError> for AssemblyFault {
+    ghost use Rattle.ir_text.specs.declared.opened.AssemblyFault.TheVariants.{Memory};
+
+    ghost from_gives = { λ _ e. e ≡ Memory };
+
     fn from(_error: AllocError) -> AssemblyFault {
         AssemblyFault::Memory
     }
 }
 
 impl<T: Drop> From<AllocFailed<T>> for AssemblyFault {
+    ghost use Rattle.ir_text.specs.declared.opened.AssemblyFault.TheVariants.{Memory};
+
+    ghost from_gives = { λ _ e. e ≡ Memory };
+
     fn from(_error: AllocFailed<T>) -> AssemblyFault {
         AssemblyFault::Memory
     }
 }
 
 impl From<GrowError> for AssemblyFault {
+    ghost use Rattle.ir_text.specs.Opened.{of_growth};
+
+    ghost from_gives = { λ error e. e ≡ of_growth error };
+
     fn from(error: GrowError) -> AssemblyFault {
         match error {
             GrowError::Memory => AssemblyFault::Memory,
@@ -95,7 +114,10 @@ pub struct Open<D: Dialects> {
 }
 
 impl<D: Dialects> Content<D> {
-    pub fn new(alloc: Global) -> Self {
+    pub fn new(alloc: Global) -> Self
+        ensures parts { result.parts.items ≡ [] }
+        ensures tokens { result.tokens.items ≡ [] }
+    {
         Content {
             parts: Vec::new(alloc),
             tokens: Vec::new(alloc),
@@ -103,14 +125,19 @@ impl<D: Dialects> Content<D> {
     }
 
     /// One more part, which begins at the token.
-    pub fn put(&mut self, part: Part<D>, token: usize) -> Result<(), AssemblyFault> {
+    pub fn put(&mut self, part: Part<D>, token: usize) -> Result<(), AssemblyFault>
+        ensures put { OnOk result (HasPart self.old self.new part token) }
+        ensures memory { IfErr result (λ e. e ≡ Memory) }
+    {
         self.parts.push(part)?;
         self.tokens.push(token)?;
         Ok(())
     }
 
     /// The token at which the part with a number begins, or another one where there is no such part.
-    pub fn token(&self, number: usize, other: usize) -> usize {
+    pub fn token(&self, number: usize, other: usize) -> usize
+        ensures { (ts : Trees Step) → self.now.tokens.items ≡ tokens_in ts → result ≡ piece_token ts number other }
+    {
         match self.tokens.get(number) {
             Some(token) => *token,
             None => other,
@@ -120,7 +147,9 @@ impl<D: Dialects> Content<D> {
 
 impl<D: Dialects> Open<D> {
     /// What begins at a token, with nothing in it.
-    pub fn new(alloc: Global, body: Body<D>, first: usize) -> Self {
+    pub fn new(alloc: Global, body: Body<D>, first: usize) -> Self
+        ensures { IsFresh result body first }
+    {
         Open {
             body,
             first,
@@ -130,7 +159,10 @@ impl<D: Dialects> Open<D> {
     }
 
     /// One more part, behind which no name of a result stands yet.
-    pub fn put(&mut self, part: Part<D>, token: usize) -> Result<(), AssemblyFault> {
+    pub fn put(&mut self, part: Part<D>, token: usize) -> Result<(), AssemblyFault>
+        ensures put { OnOk result (HasPut self.old self.new self.old.body part token) }
+        ensures memory { IfErr result (λ e. e ≡ Memory) }
+    {
         self.names.clear();
         self.content.put(part, token)
     }

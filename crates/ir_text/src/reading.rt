@@ -1,17 +1,19 @@
 //! Reading a text into a context.
-ghost use Rattle.std.specs.Prelude.{OnOk, OnErr, IfOk};
+ghost use Rattle.std.specs.Prelude.{◌≡◌, OnOk, OnErr, IfOk, IfErr, IsSomeAnd};
 ghost use Rattle.ir_store.specs.Context.{IsLiveOperation};
 ghost use Rattle.ir_store.specs.Marks.{CanRewind, KeepsBelow, IsSameTree, mark_of};
+ghost use Rattle.ir_text.specs.declared.faults.TextFault.TheVariants.{Memory};
+ghost use Rattle.ir_text.specs.Texts.{language_of, IsReading, IsRefusal, SaysATree, place_of, tell};
 
 use crate::assembling::{Assembly, assemble};
-use crate::depth::{DEEPEST, too_deep};
-use crate::faults::{Fault, FaultKind, ScopeCause, TextFault, first_of};
+use crate::depth::DEEPEST;
+use crate::faults::{Fault, FaultKind, ScopeCause, TextFault};
+use crate::finding::{fault_of, scope_fault, value_fault};
 use crate::given::ReadDialect;
-use crate::grammar::{Reading, Stop};
+use crate::grammar::Reading;
 use crate::linking::link;
-use crate::opened::AssemblyFault;
 use crate::rules::{DialectGrammar, grammar_of};
-use crate::scopes::{Resolution, ScopeFault, resolve};
+use crate::scopes::{Resolution, resolve};
 use crate::source::Source;
 use crate::tokens::{place_after, tokens_of};
 use crate::words::{classify, spelled};
@@ -19,27 +21,10 @@ use ir_print::TextDialect;
 use ir_store::{Context, Mark, Operation, Ptr};
 use std::alloc::Global;
 
-/// The fault that no text of the grammar goes on with the next token, of so many.
-fn syntax_fault(reading: &Reading, tokens: usize) -> Option<Fault> {
-    let token = reading.taken;
-    let stands = match reading.stop {
-        Stop::Text => token < tokens,
-        Stop::Stuck => true,
-        Stop::Deep => false,
-    };
-    if stands {
-        Some(Fault {
-            kind: FaultKind::Syntax,
-            met: token,
-            place: token,
-        })
-    } else {
-        None
-    }
-}
-
 /// A fault as users see it, with its line and column.
-fn told(source: Source, fault: Fault) -> TextFault {
+fn told(source: Source, fault: Fault) -> TextFault
+    ensures { result ≡ tell fault.kind (place_of source.entry.chars.now source.entry.tokens.now fault.place) }
+{
     let (line, column) = match source.tokens.get(fault.place) {
         Some(token) => place_after(source.front(token.start)),
         None => place_after(source.chars),
@@ -70,6 +55,8 @@ pub fn top_level_parse<D: ReadDialect>(
     ensures read { IfOk result (IsLiveOperation ctx.new) }
     ensures kept { OnOk result (KeepsBelow (mark_of ctx.old) ctx.old ctx.new) }
     ensures refused { OnErr result (IsSameTree ctx.old ctx.new) }
+    ensures says { OnOk result (SaysATree (language_of D.formats D.kind_at D.isolated D.values) chars.now) }
+    ensures fault { IfErr result (IsRefusal (language_of D.formats D.kind_at D.isolated D.values) chars.now) }
 {
     let mark = ctx.mark();
     let outcome = parse(alloc, ctx, chars);
@@ -87,6 +74,8 @@ fn parse<D: ReadDialect>(
     requires { CanRewind ctx.old (mark_of ctx.old) }
     ensures read { IfOk result (IsLiveOperation ctx.new) }
     ensures kept { KeepsBelow (mark_of ctx.old) ctx.old ctx.new }
+    ensures says { OnOk result (SaysATree (language_of D.formats D.kind_at D.isolated D.values) chars.now) }
+    ensures fault { IfErr result (IsRefusal (language_of D.formats D.kind_at D.isolated D.values) chars.now) }
 {
     let language: DialectGrammar = grammar_of::<D>(alloc)?;
     let tokens = tokens_of(alloc, chars)?;
@@ -100,73 +89,54 @@ fn parse<D: ReadDialect>(
     understand(alloc, ctx, source, &classified.names, &reading)
 }
 
-/// The first fault of the values of a text, if it isn't assembled.
-fn value_fault(assembled: &Result<Assembly, AssemblyFault>) -> Result<Option<Fault>, TextFault> {
-    match assembled {
-        Ok(_) => Ok(None),
-        Err(AssemblyFault::Text(fault)) => Ok(Some(*fault)),
-        Err(AssemblyFault::Memory) => Err(TextFault::Memory),
-        Err(AssemblyFault::CounterFull) => Err(TextFault::CounterFull),
-    }
-}
-
-/// The first fault of the scopes of a text, if its names aren't looked up.
-fn scope_fault(resolved: &Result<Resolution, ScopeFault>) -> Result<Option<Fault>, TextFault> {
-    match resolved {
-        Ok(_) => Ok(None),
-        Err(ScopeFault::Text(fault)) => Ok(Some(*fault)),
-        Err(ScopeFault::Memory) => Err(TextFault::Memory),
-    }
-}
-
 /// Puts what reading a source gave into a context, or names the first fault.
-fn understand<D: TextDialect>(
+fn understand<D: ReadDialect>(
     alloc: Global,
     ctx: &mut Context<D>,
     source: Source,
     names: &[usize],
     reading: &Reading,
 ) -> Result<Ptr<Operation>, TextFault>
-    requires { CanRewind ctx.old (mark_of ctx.old) }
+    requires rewind { CanRewind ctx.old (mark_of ctx.old) }
+    requires reading { IsReading (language_of D.formats D.kind_at D.isolated D.values) source.chars.now source.tokens.now names.now reading.now.stop reading.now.taken reading.now.events.items }
     ensures read { IfOk result (IsLiveOperation ctx.new) }
     ensures kept { KeepsBelow (mark_of ctx.old) ctx.old ctx.new }
+    ensures says { OnOk result (SaysATree (language_of D.formats D.kind_at D.isolated D.values) source.entry.chars.now) }
+    ensures fault { IfErr result (IsRefusal (language_of D.formats D.kind_at D.isolated D.values) source.entry.chars.now) }
 {
     let mark = ctx.mark();
     let assembled = assemble(alloc, ctx, mark, source, &reading.events);
     let resolved = resolve::<D>(alloc, names, &reading.events);
-    let end = source.tokens.len();
-    let early = first_of(syntax_fault(reading, end), too_deep(&reading.events));
-    let late = first_of(value_fault(&assembled)?, scope_fault(&resolved)?);
-    if let Some(fault) = first_of(early, late) {
+    let values = value_fault(&assembled)?;
+    let scopes = scope_fault(&resolved)?;
+    if let Some(fault) = fault_of(reading, source.tokens.len(), values, scopes) {
         return Err(told(source, fault));
     }
-    match (assembled, resolved) {
-        (Ok(assembly), Ok(resolution)) => finish(ctx, mark, source, &resolution, &assembly),
-        _ => Err(unfinished(source)),
-    }
+    let Ok(assembly) = assembled else {
+        unreachable!()
+    };
+    let Ok(resolution) = resolved else {
+        unreachable!()
+    };
+    finish(ctx, mark, &resolution, &assembly)
 }
 
 /// The operation that a text has become, with operands.
 fn finish<D: TextDialect>(
     ctx: &mut Context<D>,
     mark: Mark,
-    source: Source,
     resolution: &Resolution,
     assembly: &Assembly,
 ) -> Result<Ptr<Operation>, TextFault>
-    requires { CanRewind ctx.old mark }
+    requires rewind { CanRewind ctx.old mark }
+    requires root { IsSomeAnd assembly.now.root (IsLiveOperation ctx.old) }
     ensures read { IfOk result (IsLiveOperation ctx.new) }
     ensures kept { KeepsBelow mark ctx.old ctx.new }
+    ensures memory { IfErr result (λ f. f ≡ Memory) }
 {
     link(ctx, mark, resolution, assembly)?;
     match assembly.root {
-        Some(root) if root.is_live(ctx) => Ok(root),
-        _ => Err(unfinished(source)),
+        Some(root) => Ok(root),
+        None => unreachable!(),
     }
-}
-
-/// The fault that a text ends before its operation does.
-fn unfinished(source: Source) -> TextFault {
-    let (line, column) = place_after(source.chars);
-    TextFault::Syntax(line, column)
 }

@@ -1,4 +1,10 @@
 //! A text with its tokens, and what single tokens say.
+ghost use Rattle.std.specs.Prelude.{◌≡◌, ◌+◌, ◌*◌, ◌-◌, ◌<◌, ◌^◌, ℕ, Bool, SomeIff, take};
+ghost use Rattle.ir_names.specs.declared.kinds.Signedness.{Signedness};
+ghost use Rattle.ir_print.specs.Pieces.{number, width};
+ghost use Rattle.ir_print.specs.Shown.{IsNumber, IsWidth};
+ghost use Rattle.ir_text.specs.Meaning.{digits, number_in, width_in};
+ghost use Rattle.ir_text.specs.Texts.{token_text};
 
 use crate::tokens::Token;
 use crate::words::text_of;
@@ -14,7 +20,9 @@ pub struct Source<'a> {
 
 impl<'a> Source<'a> {
     /// The characters of the token with this number, none past the last.
-    pub fn text(&self, token: usize) -> &'a [char] {
+    pub fn text(&self, token: usize) -> &'a [char]
+        ensures { result.now ≡ token_text self.now.chars.now self.now.tokens.now token }
+    {
         match self.tokens.get(token) {
             Some(found) => text_of(self.chars, *found),
             None => &[],
@@ -22,32 +30,42 @@ impl<'a> Source<'a> {
     }
 
     /// So many characters from the beginning on.
-    pub fn front(&self, end: usize) -> &'a [char] {
+    pub fn front(&self, end: usize) -> &'a [char]
+        ensures { result.now ≡ take end self.now.chars.now }
+    {
         &self.chars[..end.min(self.chars.len())]
     }
 }
 
 /// What a decimal digit counts: `0` is 48.
-fn digit_value(digit: char) -> u64 {
+fn digit_value(digit: char) -> u64
+    ensures { result ≡ digit - 48 }
+{
     u64::from((digit as u32).saturating_sub(48))
 }
 
 /// The number with one more digit, if it is below 2^64.
-fn with_digit(value: u64, digit: char) -> Option<u64> {
+fn with_digit(value: u64, digit: char) -> Option<u64>
+    ensures { SomeIff result (10 * value + (digit - 48) < 2 ^ 64) (10 * value + (digit - 48)) }
+{
     value.checked_mul(10)?.checked_add(digit_value(digit))
 }
 
 /// The value of decimal digits, if it is below 2^64.
-fn digits_value(digits: &[char]) -> Option<u64> {
+fn digits_value(text: &[char]) -> Option<u64>
+    ensures { SomeIff result (digits text.now < 2 ^ 64) (digits text.now) }
+{
     let mut value: u64 = 0;
-    for digit in digits {
+    for digit in text {
         value = with_digit(value, *digit)?;
     }
     Some(value)
 }
 
 /// What a number token says.
-pub fn number_of(text: &[char]) -> Option<Number> {
+pub fn number_of(text: &[char]) -> Option<Number>
+    ensures { (negative : Bool) (magnitude : ℕ) → number_in text.now ≡ number negative magnitude → IsNumber result negative magnitude }
+{
     let (is_negative, digits) = match text {
         ['-', rest @ ..] => (true, rest),
         _ => (false, text),
@@ -60,15 +78,19 @@ pub fn number_of(text: &[char]) -> Option<Number> {
 }
 
 /// The number of bits that decimal digits say, if it is below 2^32.
-fn bits_of(digits: &[char]) -> Option<u32> {
-    match digits_value(digits) {
+fn bits_of(text: &[char]) -> Option<u32>
+    ensures { IsWidth result (digits text.now) }
+{
+    match digits_value(text) {
         Some(value) => u32::try_from(value).ok(),
         None => None,
     }
 }
 
 /// What a width token says.
-pub fn width_of(text: &[char]) -> (Signedness, Option<u32>) {
+pub fn width_of(text: &[char]) -> (Signedness, Option<u32>)
+    ensures { (sign : Signedness) (bits : ℕ) → width_in text.now ≡ width sign bits → (result.0 ≡ sign) × IsWidth result.1 bits }
+{
     match text {
         ['s', _, digits @ ..] => (Signedness::Signed, bits_of(digits)),
         ['u', _, digits @ ..] => (Signedness::Unsigned, bits_of(digits)),

@@ -1,7 +1,7 @@
 //! The kind of each token, and which tokens are spelled alike.
 ghost use Rattle.std.specs.Prelude.{◌≡◌, OnOk, IfOk, length, map, ◌==◌};
 ghost use Rattle.std.specs.Str.{chars};
-ghost use Rattle.ir_text.specs.Rules.{texts, number_of, with_word, up};
+ghost use Rattle.ir_text.specs.Rules.{texts, number_of, with_word};
 ghost use Rattle.ir_text.specs.Spelling.{known_texts};
 ghost use Rattle.ir_text.specs.Words.{spellings, text_of, is_width, are_digits, shape_kind, is_spelled, word_kind, kind_of, known_with, name_number, AlikeInNumber};
 
@@ -116,17 +116,15 @@ fn word_number(words: &[Vec<char>], text: &[char]) -> usize
     words.len()
 }
 
-/// The kind of a token that may be the word of this number, of so many.
+/// The kind of a token that may be the word of this number, of so many. Words past the last kind have none of their own.
 fn word_kind(number: usize, words: usize, shape: u32) -> u32
     ensures { result ≡ word_kind number words shape }
 {
     let most = u32::MAX as usize - SHAPES;
-    if number >= words {
-        shape
-    } else if number < most {
+    if number < words && number < most {
         (number + SHAPES) as u32
     } else {
-        u32::MAX
+        shape
     }
 }
 

@@ -12,4 +12,3 @@ pub mod Drafted
 pub mod Keys
 pub mod Integers
 pub mod Numbered
-pub mod Within

@@ -3,6 +3,7 @@ pub mod Numbers
 pub mod Parts
 pub mod Texts
 pub mod Says
+pub mod Agree
 pub mod Rules
 pub mod Shapes
 pub mod Walks

@@ -376,6 +376,7 @@ impl TextDialect for Kit {
 
     ghost use Rattle.kit_dialect.specs.Texts as texts;
     ghost use Rattle.kit_dialect.specs.Says as kit;
+    ghost use Rattle.kit_dialect.specs.Agree as agree;
 
     ghost kind_at = { slice_get read_ops };
 
@@ -623,4 +624,12 @@ impl TextDialect for Kit {
     }
 
     ghost few = { refl };
+
+    ghost same = { agree.same_says };
+
+    ghost unknown_type = { agree.unknown_type };
+
+    ghost unknown_attribute = { agree.unknown_attribute };
+
+    ghost unknown_operation = { agree.unknown_operation };
 }

@@ -1,11 +1,78 @@
+use Rattle.std.proofs.Common.{◌≡◌, ◌+◌, ◌∷◌, [], drop, Err, refl, sym, subst, ap, ◌∙◌, arith}
+use Rattle.std.proofs.lemmas.Result.{err_from_is_err_and}
+use Rattle.std.proofs.Math.ListN.{drop_of_length-le}
+use Rattle.std.specs.Prelude.{IsSomeAnd}
 use Rattle.ir_store.proofs.Below.{keeps_below_both, keeps_live_both}
+use Rattle.ir_store.specs.Context.{IsLiveOperation}
+use Rattle.ir_text.specs.declared.grammar.Event.TheVariants.{Did}
+use Rattle.ir_text.specs.Texts.{token_text}
+use Rattle.ir_text.specs.Nesting.{at_root, at_end}
+use Rattle.ir_text.proofs.BuiltTrees.{leads_nests}
+use Rattle.ir_text.proofs.Depths.{split_at}
+use Rattle.ir_text.proofs.Following.{Follows, follows_first, follows_took, follows_did, follows_refused, follows_root, errors_same}
 use Rattle.ir_text.proofs.assembling.assemble.Goals as goal
+use Rattle.ir_text.proofs.assembling.assemble.Goals.{in-Took, in-Did+in_ok-step-in-Did}
 
-pub returns-in_err-take-clause-live : goal.returns-in_err-take-clause-live
-returns-in_err-take-clause-live g c = keeps_live_both _ _ _ c.loop-event.invariant.1 c.take.ensures.live
+pub loop-event-init : goal.loop-event-init
+loop-event-init g c = record {
+  below = search;
+  live = search;
+  count = rw c.new-assembler.ensures.taken (omega arith);
+  follows = λ nests spelt. follows_first g.D.TextDialect.says g.D.TextDialect.values (token_text c.args.source.chars.now c.args.source.tokens.now) c.args.ctx.now.types c.new-assembler.result c.args.events.now
+      (IsSomeAnd c.new-assembler.result.made.root (IsLiveOperation c.args.ctx.now)) c.new-assembler.ensures.here c.new-assembler.ensures.around c.new-assembler.ensures.taken nests spelt;
+}
+
+pub returns-in_err-step-in-Did-clause-live : goal.returns-in_err-step-in-Did-clause-live
+returns-in_err-step-in-Did-clause-live g c = keeps_live_both _ _ _ c.loop-event.invariant.live c.step.ensures.live
+
+pub returns-in_err-step-in-Did-clause-refused : goal.returns-in_err-step-in-Did-clause-refused
+returns-in_err-step-in-Did-clause-refused g c f nests spelt e =
+    let es = c.args.events.now in
+    let i = c.loop-event.event-index in
+    let text = token_text c.args.source.chars.now c.args.source.tokens.now in
+    let a = c.loop-event.assembler in
+    let Root = IsSomeAnd a.made.root (IsLiveOperation c.loop-event.ctx) in
+    let split : drop i es ≡ Did c.in-Did.action ∷ drop (i + 1) es = split_at es _ _ _ c.loop-event-test.true c.in-Did.is in
+    let now = subst (λ rest. Follows g.D.TextDialect.says g.D.TextDialect.values text c.loop-event.ctx.types a es rest Root) split (c.loop-event.invariant.follows nests spelt) in
+    let p = err_from_is_err_and c.from_residual.result c.from_residual.ensures.1 in
+    follows_refused g.D.TextDialect.says g.D.TextDialect.values text c.loop-event.ctx.types a es (drop (i + 1) es) c.in-Did.action Root f
+    (λ b s next holds moved is. c.step.ensures.refused b s next holds moved is f (c.in_err-step-in-Did.was ∙ ap Err (sym p.2 ∙ errors_same (sym p.1 ∙ e)))) now
 
 pub loop-event-preserved : goal.loop-event-preserved
-loop-event-preserved g c = (
-  keeps_below_both _ _ _ _ c.loop-event.invariant.0 c.take.ensures.below,
-  keeps_live_both _ _ _ c.loop-event.invariant.1 c.take.ensures.live,
-)
+loop-event-preserved g c =
+    let es = c.args.events.now in
+    let i = c.loop-event.event-index in
+    let text = token_text c.args.source.chars.now c.args.source.tokens.now in
+    let a = c.loop-event.assembler in
+    let types = c.loop-event.ctx.types in
+    let says = g.D.TextDialect.says in
+    let values = g.D.TextDialect.values in
+    let now = c.loop-event.invariant in
+    let Root = IsSomeAnd a.made.root (IsLiveOperation c.loop-event.ctx) in
+    elim c.match-event.branch [
+      | in-Took w ↦ rw (w.ctx-is, w.assembler-is) (record {
+        below = now.below;
+        live = now.live;
+        count = omega (arith, now.count);
+        follows = λ nests spelt. follows_took says values text types a (record a { taken = a.taken + 1 }) es (drop (i + 1) es) Root refl refl refl
+            (subst (λ rest. Follows says values text types a es rest Root) (split_at es _ _ _ c.loop-event-test.true w.in-Took.is) (now.follows nests spelt));
+      })
+      | in-Did+in_ok-step-in-Did w ↦ rw (w.ctx-is, w.assembler-is) (record {
+        below = keeps_below_both _ _ _ _ now.below w.step.ensures.below;
+        live = keeps_live_both _ _ _ now.live w.step.ensures.live;
+        count = omega (arith, now.count, w.step.ensures.taken);
+        follows = λ nests spelt. follows_did says values text types w.step.new.ctx.types a w.step.new.self es (drop (i + 1) es) w.in-Did.action Root (IsSomeAnd w.step.new.self.made.root (IsLiveOperation w.step.new.ctx))
+            w.step.ensures.taken w.in_ok-step-in-Did.ensures.went w.in_ok-step-in-Did.ensures.root
+            (subst (λ rest. Follows says values text types a es rest Root) (split_at es _ _ _ c.loop-event-test.true w.in-Did.is) (now.follows nests spelt));
+      })
+    ]
+
+pub returns-clause-root : goal.returns-clause-root
+returns-clause-root g c leads spelt =
+    let es = c.args.events.now in
+    let text = token_text c.args.source.chars.now c.args.source.tokens.now in
+    let a = c.loop-event.assembler in
+    let Root = IsSomeAnd a.made.root (IsLiveOperation c.loop-event.ctx) in
+    follows_root g.D.TextDialect.says g.D.TextDialect.values text c.loop-event.ctx.types a es Root
+    (subst (λ rest. Follows g.D.TextDialect.says g.D.TextDialect.values text c.loop-event.ctx.types a es rest Root) (drop_of_length-le es (omega (arith, c.loop-event-test.false)))
+    (c.loop-event.invariant.follows (leads_nests es at_root [] at_end [] leads) spelt)) leads

@@ -1,5 +1,19 @@
+use Rattle.std.proofs.Common.{◌≤◌, [], drop}
+use Rattle.std.specs.Prelude.{IsSomeAnd}
+use Rattle.ir_store.specs.Context.{IsLiveOperation}
 use Rattle.ir_store.specs.Marks.{KeepsBelow, KeepsLive}
+use Rattle.ir_text.specs.Nesting.{at_root, Nests}
+use Rattle.ir_text.specs.Identifiers.{AreSpelt}
+use Rattle.ir_text.specs.Texts.{token_text}
+use Rattle.ir_text.proofs.Following.{Follows}
 use Rattle.ir_text.proofs.assembling.assemble.Given as goal
 
 abbrev pub invariant-loop-event : goal.invariant-loop-event
-invariant-loop-event g l = KeepsBelow l.mark l.initial.ctx l.ctx × KeepsLive l.initial.ctx l.ctx
+invariant-loop-event g l = record {
+  below : KeepsBelow l.mark l.initial.ctx l.ctx;
+  live : KeepsLive l.initial.ctx l.ctx;
+  count : l.assembler.taken ≤ l.event-index;
+  follows : Nests at_root [] l.events → AreSpelt (token_text l.source.chars.now l.source.tokens.now) 0 l.events
+      → Follows g.D.TextDialect.says g.D.TextDialect.values (token_text l.source.chars.now l.source.tokens.now) l.ctx.types l.assembler l.events (drop l.event-index l.events)
+      (IsSomeAnd l.assembler.made.root (IsLiveOperation l.ctx));
+}

@@ -4,4 +4,4 @@ use Rattle.std.proofs.Common.{◌≡◌}
 use Rattle.ir_text.proofs.making.fill.Given as goal
 
 abbrev pub invariant-loop-index : goal.invariant-loop-index
-invariant-loop-index g l = KeepsBelow l.mark l.initial.ctx l.ctx × KeepsLive l.initial.ctx l.ctx × (l.places.items ≡ regions_of l.fn.ctx l.fn.op)
+invariant-loop-index g l = KeepsBelow l.mark l.initial.ctx l.ctx × KeepsLive l.initial.ctx l.ctx × (l.ctx.types ≡ l.initial.ctx.types) × (l.places.items ≡ regions_of l.fn.ctx l.fn.op)

@@ -1,0 +1,94 @@
+use Rattle.std.proofs.Common.{refl, subst, sym, []}
+use Rattle.std.proofs.lemmas.Result.{err_from_is_err_and, IfOk-at_ok, MatchResult-at_ok}
+use Rattle.std.specs.Prelude.{IsSomeAnd}
+use Rattle.ir_store.specs.Context.{IsLiveOperation}
+use Rattle.ir_text.specs.Nesting.{at_root, at_end}
+use Rattle.ir_text.specs.Progress.{Leads}
+use Rattle.ir_text.specs.Identifiers.{AreSpelt}
+use Rattle.ir_text.specs.Building.{first_refusal}
+use Rattle.ir_text.specs.Faults.{IsNamed}
+use Rattle.ir_text.specs.Scopes.{HasScopeFault, IsResolved, IsScopeFault}
+use Rattle.ir_text.specs.Texts.{language_of, token_text, HasFault, SaysATree}
+use Rattle.ir_text.proofs.Identifiers.{reading_spelt}
+use Rattle.ir_text.proofs.TextFaults.{refusal, always_ok}
+use Rattle.ir_text.proofs.TextReadings.{read_in_order, read_whole, says, values_named}
+use Rattle.ir_text.proofs.reading.understand.Goals as goal
+
+pub returns-in_err-values-clause-fault : goal.returns-in_err-values-clause-fault
+returns-in_err-values-clause-fault g c =
+    let d = g.D.TextDialect in
+    let p = err_from_is_err_and c.from_residual.result c.from_residual.ensures.1 in
+    rw (p.1, p.2) (c.in_err-values.ensures.memory (language_of d.formats d.kind_at d.isolated d.values) c.args.source.chars.now)
+
+pub returns-in_err-scopes-clause-fault : goal.returns-in_err-scopes-clause-fault
+returns-in_err-scopes-clause-fault g c =
+    let d = g.D.TextDialect in
+    let p = err_from_is_err_and c.from_residual-in_err-scopes.result c.from_residual-in_err-scopes.ensures.1 in
+    rw (p.1, p.2) (c.in_err-scopes.ensures.memory (language_of d.formats d.kind_at d.isolated d.values) c.args.source.chars.now)
+
+pub returns-in-Some-clause-fault : goal.returns-in-Some-clause-fault
+returns-in-Some-clause-fault g c =
+    let d = g.D.TextDialect in
+    let l = language_of d.formats d.kind_at d.isolated d.values in
+    let cs = c.args.source.chars.now in
+    let ts = c.args.source.tokens.now in
+    let names = c.args.names.now in
+    let r = c.args.reading.now in
+    let es = r.events.items in
+    let text = token_text cs ts in
+    let xs = c.deref.result.now in
+    let spelt = subst (λ z. AreSpelt text 0 z) (sym c.deref.ensures.value) (reading_spelt l cs ts names r.stop r.taken es c.requires.reading) in
+    let order = read_in_order l g.D.ReadDialect.leads g.met.D.ReadDialect.ordered cs ts names r.taken es r.stop c.requires.reading in
+    let values = values_named d.values text es xs c.in_ok-values.values c.deref.ensures.value order
+    (λ nests follows. c.in_ok-values.ensures.found (first_refusal d.values text xs) (c.assemble-assembled.ensures.sound nests spelt) (λ f. c.assemble-assembled.ensures.refused f nests spelt)) in
+    let scopes = subst (λ z. IsNamed (HasScopeFault l.isolated names z) c.in_ok-scopes.scopes) c.deref-2.ensures.value
+    (c.in_ok-scopes.ensures.found l.isolated names c.deref-2.result.now c.resolve-resolved.ensures) in
+    let named = c.fault_of.ensures.first l cs ts names refl values scopes in
+    refusal l cs c.told.result (ts, names, r.stop, r.taken, es, c.in-Some.fault, c.requires.reading, subst (IsNamed (HasFault l cs ts names r.stop r.taken es)) c.in-Some.is named, c.told.ensures)
+
+pub finish-requires-clause-root : goal.finish-requires-clause-root
+finish-requires-clause-root g c =
+    let d = g.D.TextDialect in
+    let l = language_of d.formats d.kind_at d.isolated d.values in
+    let cs = c.args.source.chars.now in
+    let ts = c.args.source.tokens.now in
+    let names = c.args.names.now in
+    let r = c.args.reading.now in
+    let es = r.events.items in
+    let text = token_text cs ts in
+    let xs = c.deref.result.now in
+    let spelt = subst (λ z. AreSpelt text 0 z) (sym c.deref.ensures.value) (reading_spelt l cs ts names r.stop r.taken es c.requires.reading) in
+    let order = read_in_order l g.D.ReadDialect.leads g.met.D.ReadDialect.ordered cs ts names r.taken es r.stop c.requires.reading in
+    let values = values_named d.values text es xs c.in_ok-values.values c.deref.ensures.value order
+    (λ nests follows. c.in_ok-values.ensures.found (first_refusal d.values text xs) (c.assemble-assembled.ensures.sound nests spelt) (λ f. c.assemble-assembled.ensures.refused f nests spelt)) in
+    let scopes = subst (λ z. IsNamed (HasScopeFault l.isolated names z) c.in_ok-scopes.scopes) c.deref-2.ensures.value
+    (c.in_ok-scopes.ensures.found l.isolated names c.deref-2.result.now c.resolve-resolved.ensures) in
+    let named = c.fault_of.ensures.first l cs ts names refl values scopes in
+    let none = subst (IsNamed (HasFault l cs ts names r.stop r.taken es)) c.in_default.is named in
+    let leads = read_whole l g.D.ReadDialect.leads g.met.D.ReadDialect.ordered cs ts names r.taken es r.stop c.requires.reading none in
+    IfOk-at_ok (λ a. IsSomeAnd a.root (IsLiveOperation c.assemble-assembled.new.ctx)) c.in-Ok.is
+    (c.assemble-assembled.ensures.root (subst (λ z. Leads at_root [] z at_end []) (sym c.deref.ensures.value) leads) spelt)
+
+pub returns-clause-says : goal.returns-clause-says
+returns-clause-says g c =
+    let d = g.D.TextDialect in
+    let l = language_of d.formats d.kind_at d.isolated d.values in
+    let cs = c.args.source.chars.now in
+    let ts = c.args.source.tokens.now in
+    let names = c.args.names.now in
+    let r = c.args.reading.now in
+    let es = r.events.items in
+    let text = token_text cs ts in
+    let xs = c.deref.result.now in
+    let spelt = subst (λ z. AreSpelt text 0 z) (sym c.deref.ensures.value) (reading_spelt l cs ts names r.stop r.taken es c.requires.reading) in
+    let order = read_in_order l g.D.ReadDialect.leads g.met.D.ReadDialect.ordered cs ts names r.taken es r.stop c.requires.reading in
+    let values = values_named d.values text es xs c.in_ok-values.values c.deref.ensures.value order
+    (λ nests follows. c.in_ok-values.ensures.found (first_refusal d.values text xs) (c.assemble-assembled.ensures.sound nests spelt) (λ f. c.assemble-assembled.ensures.refused f nests spelt)) in
+    let scopes = subst (λ z. IsNamed (HasScopeFault l.isolated names z) c.in_ok-scopes.scopes) c.deref-2.ensures.value
+    (c.in_ok-scopes.ensures.found l.isolated names c.deref-2.result.now c.resolve-resolved.ensures) in
+    let named = c.fault_of.ensures.first l cs ts names refl values scopes in
+    let none = subst (IsNamed (HasFault l cs ts names r.stop r.taken es)) c.in_default.is named in
+    let leads = read_whole l g.D.ReadDialect.leads g.met.D.ReadDialect.ordered cs ts names r.taken es r.stop c.requires.reading none in
+    let resolved = subst (λ z. IsResolved l.isolated names z c.in-Ok-resolved.resolution) c.deref-2.ensures.value
+    (MatchResult-at_ok (IsResolved l.isolated names c.deref-2.result.now) (IsScopeFault l.isolated names c.deref-2.result.now) c.in-Ok-resolved.resolution c.in-Ok-resolved.is c.resolve-resolved.ensures) in
+    always_ok c.finish.result (SaysATree l cs) (says l cs ts names r.stop r.taken es c.in-Ok-resolved.resolution c.requires.reading none leads resolved)

@@ -1,0 +1,374 @@
+//! What ends in a text.
+ghost use Rattle.std.specs.Prelude.{◌≡◌, ◌-◌, ◌∷◌, ◌++◌, [], ℕ, List, length, Some, None, Err, OnOk, IfErr, MatchOption, IsSomeAnd};
+ghost use Rattle.std.specs.Option.{option_map_or};
+ghost use Rattle.ir_names.specs.Tree.{Trees, node};
+ghost use Rattle.ir_names.specs.declared.kinds.TypeHandle.{TypeHandle};
+ghost use Rattle.ir_print.specs.Pieces.{Pieces, type_of_kind, attribute_of_kind};
+ghost use Rattle.ir_print.specs.Shown.{ShowsParts, ShowsType, ShowsAttribute};
+ghost use Rattle.ir_store.specs.declared.mark.Mark.{Mark};
+ghost use Rattle.ir_store.specs.declared.pointer.Ptr.{Ptr};
+ghost use Rattle.ir_store.specs.declared.pointer.BasicBlock.{BasicBlock};
+ghost use Rattle.ir_store.specs.Context.{IsLiveOperation, IsLiveBlock};
+ghost use Rattle.ir_store.specs.Marks.{CanRewind, KeepsBelow, KeepsLive, IsOperationSince};
+ghost use Rattle.ir_text.specs.declared.faults.Fault.{Fault};
+ghost use Rattle.ir_text.specs.declared.opened.AssemblyFault.TheVariants.{Memory, Text};
+ghost use Rattle.ir_text.specs.declared.opened.OpenBlock.{OpenBlock};
+ghost use Rattle.ir_text.specs.declared.opened.OpenOperation.{OpenOperation};
+ghost use Rattle.ir_text.specs.Building.{Built, number_fault, names_fault, fault_at_end, with_end};
+ghost use Rattle.ir_text.specs.Forest.{Step};
+ghost use Rattle.ir_text.specs.Building as building;
+ghost use Rattle.ir_text.specs.Frames.{KeepsAround, Holds, Ending, Ended, an_operation, sort_of};
+ghost use Rattle.ir_text.specs.Meaning.{tokens_in};
+ghost use Rattle.ir_text.specs.Nesting.{Position, at_end};
+ghost use Rattle.ir_text.specs.Opened.{HasBody, HasPut, KeepsKeys, IsOfContext};
+ghost use Rattle.ir_text.specs.Ordered.{Standing, alone, moved_out};
+
+use crate::assembling::{Assembler, Pending};
+use crate::faults::{Fault, FaultKind};
+use crate::making::{
+    append_operation, draft_of, label_of, make_attribute, make_operation, make_type, types_of,
+};
+use crate::opened::{AssemblyFault, Body, Content, Open, OpenBlock, OpenOperation};
+use crate::source::Source;
+use ir_print::{MakeFault, Part, TextDialect};
+use ir_store::{BasicBlock, Context, Mark, Operation, Ptr, Value};
+use std::alloc::AllocError;
+
+impl<D: TextDialect> Assembler<D> {
+    ghost use Rattle.ir_print.specs.declared.dialect.MakeFault.TheVariants as make;
+    ghost use Rattle.ir_print.specs.declared.format.Part.{Part};
+    ghost use Rattle.ir_print.specs.declared.format.Part.TheVariants as part;
+    ghost use Rattle.ir_text.specs.declared.opened.Body.TheVariants as body;
+    ghost use Rattle.std.specs.Prelude.{Vec};
+    ghost use Rattle.std.specs.Global.{Global};
+
+    /// The fault that a value with this content isn't made.
+    fn refused(&self, content: &Content<D>, fault: MakeFault) -> AssemblyFault
+        ensures number { (ts : Trees Step) (i : ℕ) → content.now.tokens.items ≡ tokens_in ts → fault ≡ make.Refused i → (f : Fault) × (result ≡ Text f) × (number_fault ts (self.now.taken - 1) i ≡ Some f) }
+        ensures memory { fault ≡ make.Memory → result ≡ Memory }
+    {
+        match fault {
+            MakeFault::Refused(number) => AssemblyFault::Text(Fault {
+                kind: FaultKind::Number,
+                met: self.last(),
+                place: content.token(number, self.last()),
+            }),
+            MakeFault::Memory => AssemblyFault::Memory,
+        }
+    }
+
+    fn end_type(
+        &mut self,
+        ctx: &mut Context<D>,
+        kind: u32,
+        first: usize,
+        content: &Content<D>,
+    ) -> Result<(), AssemblyFault>
+        ensures made { (ps : Pieces) → ShowsParts D.says ctx.old.types content.now.parts.items ps
+            → OnOk result ((D.values.refused_type kind ps ≡ None) × (ty : TypeHandle) × ShowsType D.says ctx.new.types ty (node (type_of_kind kind) ps) × HasPut self.old.here self.new.here self.old.here.body (part.«Type» ty) first) }
+        ensures refused { (ps : Pieces) (ts : Trees Step) → ShowsParts D.says ctx.old.types content.now.parts.items ps → content.now.tokens.items ≡ tokens_in ts
+            → (f : Fault) → result ≡ Err (Text f) → (i : ℕ) × (D.values.refused_type kind ps ≡ Some i) × (number_fault ts (self.old.taken - 1) i ≡ Some f) }
+        ensures around { KeepsAround self.old self.new }
+        ensures types { KeepsKeys ctx.old.types ctx.new.types }
+        ensures live { KeepsLive ctx.old ctx.new }
+        ensures below { (m : Mark) → CanRewind ctx.old m → KeepsBelow m ctx.old ctx.new }
+    {
+        match make_type(self.alloc, ctx, kind, &content.parts) {
+            Ok(ty) => self.here.put(Part::Type(ty), first),
+            Err(fault) => Err(self.refused(content, fault)),
+        }
+    }
+
+    fn end_attribute(
+        &mut self,
+        ctx: &mut Context<D>,
+        kind: u32,
+        first: usize,
+        content: &Content<D>,
+    ) -> Result<(), AssemblyFault>
+        ensures made { (ps : Pieces) → ShowsParts D.says ctx.old.types content.now.parts.items ps
+            → OnOk result ((D.values.refused_attribute kind ps ≡ None) × (attr : D.Attr) × ShowsAttribute D.says ctx.new.types attr (node (attribute_of_kind kind) (D.values.canonical kind ps)) × HasPut self.old.here self.new.here self.old.here.body (part.Attribute attr) first) }
+        ensures refused { (ps : Pieces) (ts : Trees Step) → ShowsParts D.says ctx.old.types content.now.parts.items ps → content.now.tokens.items ≡ tokens_in ts
+            → (f : Fault) → result ≡ Err (Text f) → (i : ℕ) × (D.values.refused_attribute kind ps ≡ Some i) × (number_fault ts (self.old.taken - 1) i ≡ Some f) }
+        ensures around { KeepsAround self.old self.new }
+        ensures types { KeepsKeys ctx.old.types ctx.new.types }
+        ensures live { KeepsLive ctx.old ctx.new }
+        ensures below { (m : Mark) → CanRewind ctx.old m → KeepsBelow m ctx.old ctx.new }
+    {
+        match make_attribute(self.alloc, ctx, kind, &content.parts) {
+            Ok(attr) => self.here.put(Part::Attribute(attr), first),
+            Err(fault) => Err(self.refused(content, fault)),
+        }
+    }
+
+    fn end_item(&mut self, parts: Vec<Part<D>>) -> Result<(), AssemblyFault>
+        ensures here { (ms : Vec (Vec (Part D D.OpKind D.Attr D.TypeKey) Global) Global) → self.old.here.body ≡ body.List ms
+            → OnOk result ((ns : Vec (Vec (Part D D.OpKind D.Attr D.TypeKey) Global) Global) × (self.new.here ≡ record self.old.here { body = body.List ns }) × (ns.items ≡ ms.items ++ parts ∷ [])) }
+        ensures around { KeepsAround self.old self.new }
+        ensures memory { IfErr result (λ e. e ≡ Memory) }
+    {
+        if let Body::List(members) = &mut self.here.body {
+            members.push(parts)?;
+        }
+        Ok(())
+    }
+
+    fn end_operands(&mut self, first: usize, tokens: Vec<usize>) -> Result<(), AssemblyFault>
+        ensures here { (o : OpenOperation) → self.old.here.body ≡ body.Operation o
+            → OnOk result ((p : OpenOperation) × HasPut self.old.here self.new.here (body.Operation p) (part.Operands (length tokens.items)) first
+            × (p.kind ≡ o.kind) × (p.first_value ≡ o.first_value) × (p.regions ≡ o.regions) × (p.operands.items ≡ o.operands.items ++ tokens.items)) }
+        ensures around { KeepsAround self.old self.new }
+        ensures memory { IfErr result (λ e. e ≡ Memory) }
+    {
+        if let Body::Operation(open) = &mut self.here.body {
+            open.operands.extend_from_slice(&tokens)?;
+        }
+        self.here.put(Part::Operands(tokens.len()), first)
+    }
+
+    fn end_region(
+        &mut self,
+        first: usize,
+        blocks: Vec<Ptr<BasicBlock>>,
+    ) -> Result<(), AssemblyFault>
+        ensures here { (o : OpenOperation) → self.old.here.body ≡ body.Operation o
+            → OnOk result ((p : OpenOperation) × HasPut self.old.here self.new.here (body.Operation p) part.Region first
+            × (p.kind ≡ o.kind) × (p.first_value ≡ o.first_value) × (p.operands ≡ o.operands) × (p.regions.items ≡ o.regions.items ++ blocks ∷ [])) }
+        ensures around { KeepsAround self.old self.new }
+        ensures memory { IfErr result (λ e. e ≡ Memory) }
+    {
+        if let Body::Operation(open) = &mut self.here.body {
+            open.regions.push(blocks)?;
+        }
+        self.here.put(Part::Region, first)
+    }
+
+    fn end_block(&mut self, ended: OpenBlock) -> Result<(), AssemblyFault>
+        ensures here { (bs : Vec (Ptr BasicBlock) Global) → self.old.here.body ≡ body.Region bs
+            → OnOk result ((cs : Vec (Ptr BasicBlock) Global) × (self.new.here ≡ record self.old.here { body = body.Region cs }) × MatchOption ended.block (cs.items ≡ bs.items) (λ b. cs.items ≡ bs.items ++ b ∷ [])) }
+        ensures around { KeepsAround self.old self.new }
+        ensures memory { IfErr result (λ e. e ≡ Memory) }
+    {
+        if let Body::Region(blocks) = &mut self.here.body {
+            if let Some(block) = ended.block {
+                blocks.push(block)?;
+            }
+        }
+        Ok(())
+    }
+}
+
+impl<D: TextDialect> Assembler<D> {
+    ghost use Rattle.ir_text.specs.declared.opened.Body.TheVariants as body;
+
+    /// The definition with a number is this value.
+    fn define(&mut self, number: usize, value: Value)
+        ensures here { self.new.here ≡ self.old.here }
+        ensures around { KeepsAround self.old self.new }
+    {
+        if let Some(place) = self.made.values.get_mut(number) {
+            *place = Some(value);
+        }
+    }
+
+    /// The arguments of a block are the definitions from a number on.
+    fn define_arguments(&mut self, ctx: &Context<D>, block: Ptr<BasicBlock>, first: usize)
+        requires { IsLiveBlock ctx.now block }
+        ensures here { self.new.here ≡ self.old.here }
+        ensures around { KeepsAround self.old self.new }
+    {
+        for index in 0..block.get_num_arguments(ctx) {
+            self.define(first.saturating_add(index), block.get_argument(ctx, index));
+        }
+    }
+
+    /// The results of an operation are the definitions from a number on.
+    fn define_results(&mut self, ctx: &Context<D>, op: Ptr<Operation>, first: usize)
+        requires { IsLiveOperation ctx.now op }
+        ensures here { self.new.here ≡ self.old.here }
+        ensures around { KeepsAround self.old self.new }
+    {
+        for index in 0..op.get_num_results(ctx) {
+            self.define(first.saturating_add(index), op.get_result(ctx, index));
+        }
+    }
+
+    /// Makes the block whose header has been read.
+    pub fn header(&mut self, ctx: &mut Context<D>, source: Source) -> Result<(), AssemblyFault>
+        ensures here { (o : OpenBlock) → self.old.here.body ≡ body.Block o
+            → OnOk result ((b : Ptr BasicBlock) × HasBody self.old.here self.new.here (body.Block (record { first_value = o.first_value; block = Some b }))) }
+        ensures around { KeepsAround self.old self.new }
+        ensures context { IfErr result IsOfContext }
+        ensures types { KeepsKeys ctx.old.types ctx.new.types }
+        ensures live { KeepsLive ctx.old ctx.new }
+        ensures below { (m : Mark) → CanRewind ctx.old m → KeepsBelow m ctx.old ctx.new }
+    {
+        self.here.names.clear();
+        let Body::Block(open) = &self.here.body else {
+            return Ok(());
+        };
+        let first_value = open.first_value;
+        let label = label_of(self.alloc, source.text(self.here.first))?;
+        let types = types_of(self.alloc, &self.here.content.parts)?;
+        let block = ctx.new_block(self.alloc, label, &types)?;
+        self.define_arguments(ctx, block, first_value);
+        self.here.content = Content::new(self.alloc);
+        self.here.body = Body::Block(OpenBlock {
+            first_value,
+            block: Some(block),
+        });
+        Ok(())
+    }
+
+    /// An operation has as many names as results, or there is a fault.
+    fn compare_names(&self, first: usize, results: usize) -> Result<(), AssemblyFault>
+        ensures same { OnOk result (names_fault self.now.here.names.items first results (self.now.taken - 1) ≡ None) }
+        ensures fault { IfErr result (λ e. (f : Fault) × (e ≡ Text f) × (names_fault self.now.here.names.items first results (self.now.taken - 1) ≡ Some f)) }
+    {
+        let names = &self.here.names;
+        if names.len() == results {
+            return Ok(());
+        }
+        let place = match names.first() {
+            Some(token) => *token,
+            None => first,
+        };
+        Err(AssemblyFault::Text(Fault {
+            kind: FaultKind::ResultNames,
+            met: self.last(),
+            place,
+        }))
+    }
+
+    /// The tokens name the operands of an operation.
+    fn wait(&mut self, op: Ptr<Operation>, operands: &[usize]) -> Result<(), AllocError>
+        ensures here { self.new.here ≡ self.old.here }
+        ensures around { KeepsAround self.old self.new }
+    {
+        for token in operands {
+            self.made.pending.push(Pending { op, token: *token })?;
+        }
+        Ok(())
+    }
+
+    /// Puts an operation where it stands: at the end of the block that is being read, or at the root.
+    fn attach(
+        &mut self,
+        ctx: &mut Context<D>,
+        mark: Mark,
+        op: Ptr<Operation>,
+    ) -> Result<(), AssemblyFault>
+        requires rewind { CanRewind ctx.old mark }
+        requires op { IsLiveOperation ctx.old op }
+        requires since { IsOperationSince mark op }
+        ensures here { HasBody self.old.here self.new.here self.old.here.body }
+        ensures around { KeepsAround self.old self.new }
+        ensures root { self.old.here.body ≡ body.Text → OnOk result (self.new.made.root ≡ Some op) }
+        ensures memory { IfErr result (λ e. e ≡ Memory) }
+        ensures types { ctx.new.types ≡ ctx.old.types }
+        ensures below { KeepsBelow mark ctx.old ctx.new }
+        ensures live { KeepsLive ctx.old ctx.new }
+    {
+        self.here.names.clear();
+        match &self.here.body {
+            Body::Block(open) => {
+                if let Some(block) = open.block {
+                    append_operation(ctx, mark, block, op)?;
+                }
+            }
+            Body::Text => self.made.root = Some(op),
+            _ => {}
+        }
+        Ok(())
+    }
+
+    #[tactic(auto, using(crate::proofs::Growing::live_both))]
+    fn end_operation(
+        &mut self,
+        ctx: &mut Context<D>,
+        mark: Mark,
+        first: usize,
+        ended: OpenOperation,
+        content: &Content<D>,
+    ) -> Result<(), AssemblyFault>
+        requires { CanRewind ctx.old mark }
+        ensures made { (ps : Pieces) → ShowsParts D.says ctx.old.types content.now.parts.items ps
+            → OnOk result ((D.values.refused_operation ended.kind ps ≡ None)
+            × (names_fault self.old.here.names.items first (length (D.values.result_types ended.kind ps)) (self.old.taken - 1) ≡ None) × HasBody self.old.here self.new.here self.old.here.body) }
+        ensures refused { (ps : Pieces) (ts : Trees Step) → ShowsParts D.says ctx.old.types content.now.parts.items ps → content.now.tokens.items ≡ tokens_in ts
+            → (f : Fault) → result ≡ Err (Text f)
+            → option_map_or (λ i. number_fault ts (self.old.taken - 1) i) (D.values.refused_operation ended.kind ps)
+            (names_fault self.old.here.names.items first (length (D.values.result_types ended.kind ps)) (self.old.taken - 1)) ≡ Some f }
+        ensures root { self.old.here.body ≡ body.Text → OnOk result (IsSomeAnd self.new.made.root (IsLiveOperation ctx.new)) }
+        ensures around { KeepsAround self.old self.new }
+        ensures types { KeepsKeys ctx.old.types ctx.new.types }
+        ensures below { KeepsBelow mark ctx.old ctx.new }
+        ensures live { KeepsLive ctx.old ctx.new }
+    {
+        let (kind, draft) = match draft_of(self.alloc, ctx, ended.kind, &content.parts) {
+            Ok(draft) => draft,
+            Err(fault) => return Err(self.refused(content, fault)),
+        };
+        self.compare_names(first, draft.result_types.len())?;
+        let op = make_operation(self.alloc, ctx, mark, kind, draft, &ended.regions)?;
+        self.define_results(ctx, op, ended.first_value);
+        self.wait(op, &ended.operands)?;
+        self.attach(ctx, mark, op)
+    }
+
+    /// What was begun ends at the last token, in what is around it.
+    fn end_in(
+        &mut self,
+        ctx: &mut Context<D>,
+        mark: Mark,
+        ended: Open<D>,
+    ) -> Result<(), AssemblyFault>
+        requires { CanRewind ctx.old mark }
+        ensures ended { (text : ℕ → List ℕ) (o : building.Open) (at next : Position) (ts : Trees Step) → Ending D.says D.values text ctx.old.types ended self.old.here o at next ts
+            → OnOk result (Ended D.says D.values text ctx.new.types self.old.here self.new.here o next ts (self.old.taken - 1)) }
+        ensures refused { (text : ℕ → List ℕ) (o : building.Open) (at next : Position) (ts : Trees Step) → Ending D.says D.values text ctx.old.types ended self.old.here o at next ts
+            → (f : Fault) → result ≡ Err (Text f) → fault_at_end D.values text ts (o ∷ []) (self.old.taken - 1) ≡ Some f }
+        ensures root { sort_of ended.body ≡ an_operation → self.old.here.body ≡ body.Text → OnOk result (IsSomeAnd self.new.made.root (IsLiveOperation ctx.new)) }
+        ensures around { KeepsAround self.old self.new }
+        ensures types { KeepsKeys ctx.old.types ctx.new.types }
+        ensures below { KeepsBelow mark ctx.old ctx.new }
+        ensures live { KeepsLive ctx.old ctx.new }
+    {
+        let Open {
+            body,
+            first,
+            content,
+            names: _,
+        } = ended;
+        match body {
+            Body::Text => Ok(()),
+            Body::Type(kind) => self.end_type(ctx, kind, first, &content),
+            Body::Attribute(kind) => self.end_attribute(ctx, kind, first, &content),
+            Body::List(members) => self.here.put(Part::List(members), first),
+            Body::Item => self.end_item(content.parts),
+            Body::Operation(open) => self.end_operation(ctx, mark, first, open, &content),
+            Body::Operands(tokens) => self.end_operands(first, tokens),
+            Body::Region(blocks) => self.end_region(first, blocks),
+            Body::Block(open) => self.end_block(open),
+        }
+    }
+
+    /// What is being read ends at the last token.
+    pub fn end(&mut self, ctx: &mut Context<D>, mark: Mark) -> Result<(), AssemblyFault>
+        requires { CanRewind ctx.old mark }
+        ensures ended { (text : ℕ → List ℕ) (b : Built) (s next : Standing) → Holds D.says D.values text ctx.old.types self.old b s → moved_out s.around ≡ Some next
+            → OnOk result ((fault_at_end D.values text b.here b.around (self.old.taken - 1) ≡ None) × Holds D.says D.values text ctx.new.types self.new (with_end b.here b.around (self.old.taken - 1)) next) }
+        ensures refused { (text : ℕ → List ℕ) (b : Built) (s next : Standing) → Holds D.says D.values text ctx.old.types self.old b s → moved_out s.around ≡ Some next
+            → (f : Fault) → result ≡ Err (Text f) → fault_at_end D.values text b.here b.around (self.old.taken - 1) ≡ Some f }
+        ensures root { (text : ℕ → List ℕ) (b : Built) (s : Standing) → Holds D.says D.values text ctx.old.types self.old b s → moved_out s.around ≡ Some (alone at_end) → OnOk result (IsSomeAnd self.new.made.root (IsLiveOperation ctx.new)) }
+        ensures taken { self.new.taken ≡ self.old.taken }
+        ensures below { KeepsBelow mark ctx.old ctx.new }
+        ensures live { KeepsLive ctx.old ctx.new }
+    {
+        let Some(outer) = self.around.pop() else {
+            return Ok(());
+        };
+        let ended = std::mem::replace(&mut self.here, outer);
+        self.end_in(ctx, mark, ended)
+    }
+}
