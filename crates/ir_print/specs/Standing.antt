@@ -1,5 +1,5 @@
 -- Which operations, regions and blocks of a context stand for which trees.
-use Rattle.std.specs.Prelude.{◌≡◌, ℕ, List, [], ◌∷◌, Option, Some, None, length}
+use Rattle.std.specs.Prelude.{◌≡◌, ℕ, List, [], ◌∷◌, Option, Some, None, length, slice_get}
 use Rattle.ir_names.specs.declared.identifier.Identifier.{Identifier}
 use Rattle.ir_names.specs.Identifier.{text_of}
 use Rattle.ir_store.specs.declared.pointer.Ptr.{Ptr}
@@ -11,7 +11,7 @@ use Rattle.ir_store.specs.declared.value.Definition.{Definition}
 use Rattle.ir_store.specs.Views.{OperationView, RegionView, BlockView, ContextView}
 use Rattle.ir_store.specs.Context.{operation_at, region_at, block_at, result_value, argument_value}
 use Rattle.ir_names.specs.Tree.{Trees}
-use Rattle.ir_print.specs.Pieces.{Piece, ValueTree, Pieces, operation, a_region, block, Entity, entity, Entities, no_entity, an_entity}
+use Rattle.ir_print.specs.Pieces.{ValueTree, Pieces, operation, a_region, block, Entity, entity, Entities, no_entity, an_entity}
 use Rattle.ir_print.specs.Shown.{Said, Saying, Pairs, ShowsAll, ShowsType}
 
 -- the label of a block is this text
@@ -75,3 +75,13 @@ abbrev mutual
   StandsOperations {K = K} {A = A} says Named s b (p ∷ ps) (an_entity t ts) =
       ((o : OperationView K A) × (operation_at s p ≡ Some o) × (o.parent ≡ Some b)) × StandsOperation says Named s p t × StandsOperations says Named s b ps ts
   StandsOperations says Named s b _ _ = ⊥
+
+-- ---- values by number
+
+-- the definition with this number is the value
+abbrev pub Named : List Value → Value → ℕ → Type 0
+Named values v n = slice_get values n ≡ Some v
+
+-- no value stands at two places
+abbrev pub AreDistinct : List Value → Type 0
+AreDistinct values = (v : Value) (i j : ℕ) → Named values v i → Named values v j → i ≡ j

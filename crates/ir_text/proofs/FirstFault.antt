@@ -1,7 +1,9 @@
 -- The first of some faults.
-use Rattle.std.proofs.Common.{◌≡◌, ◌<◌, ◌≤◌, Option, Some, None, refl, sym, subst, arith, inl, inr, ◌⊎◌}
+use Rattle.std.proofs.Common.{◌≡◌, ◌<◌, ◌≤◌, Option, Some, None, refl, sym, subst, ap, ◌∙◌, arith, inl, inr, ◌⊎◌}
 use Rattle.std.proofs.lemmas.Bool.{cases_lt}
 use Rattle.ir_text.specs.declared.faults.Fault.{Fault}
+use Rattle.ir_text.specs.declared.faults.FaultKind.{FaultKind}
+use Rattle.ir_text.specs.declared.faults.FaultKind.TheVariants.{Syntax, Number, ResultNames, TooDeep, MultipleDefinitions, UnresolvedReference}
 use Rattle.ir_text.specs.Faults.{row, Precedes, IsFirstOf, IsNamed}
 
 pub precedes_trans : (f g h : Fault) → Precedes f g → Precedes g h → Precedes f h
@@ -54,3 +56,61 @@ first_more P H g a r split p here ha = first_of_law P (λ f. f ≡ g) H a (Some 
 pub named_along : (P Q : Fault → Type 0) (o : Option Fault) → ((f : Fault) → P f → Q f) → ((f : Fault) → Q f → P f) → IsNamed P o → IsNamed Q o
 named_along P Q None up down h = λ f q. h f (down f q)
 named_along P Q (Some f) up down h = (up f h.0, λ g q. h.1 g (down g q))
+
+same_row : (a b : FaultKind) → row a ≡ row b → a ≡ b
+same_row Syntax Syntax e = refl
+same_row Syntax Number e = absurd (omega (arith, e))
+same_row Syntax ResultNames e = absurd (omega (arith, e))
+same_row Syntax TooDeep e = absurd (omega (arith, e))
+same_row Syntax MultipleDefinitions e = absurd (omega (arith, e))
+same_row Syntax UnresolvedReference e = absurd (omega (arith, e))
+same_row Number Syntax e = absurd (omega (arith, e))
+same_row Number Number e = refl
+same_row Number ResultNames e = absurd (omega (arith, e))
+same_row Number TooDeep e = absurd (omega (arith, e))
+same_row Number MultipleDefinitions e = absurd (omega (arith, e))
+same_row Number UnresolvedReference e = absurd (omega (arith, e))
+same_row ResultNames Syntax e = absurd (omega (arith, e))
+same_row ResultNames Number e = absurd (omega (arith, e))
+same_row ResultNames ResultNames e = refl
+same_row ResultNames TooDeep e = absurd (omega (arith, e))
+same_row ResultNames MultipleDefinitions e = absurd (omega (arith, e))
+same_row ResultNames UnresolvedReference e = absurd (omega (arith, e))
+same_row TooDeep Syntax e = absurd (omega (arith, e))
+same_row TooDeep Number e = absurd (omega (arith, e))
+same_row TooDeep ResultNames e = absurd (omega (arith, e))
+same_row TooDeep TooDeep e = refl
+same_row TooDeep MultipleDefinitions e = absurd (omega (arith, e))
+same_row TooDeep UnresolvedReference e = absurd (omega (arith, e))
+same_row MultipleDefinitions Syntax e = absurd (omega (arith, e))
+same_row MultipleDefinitions Number e = absurd (omega (arith, e))
+same_row MultipleDefinitions ResultNames e = absurd (omega (arith, e))
+same_row MultipleDefinitions TooDeep e = absurd (omega (arith, e))
+same_row MultipleDefinitions MultipleDefinitions e = refl
+same_row MultipleDefinitions UnresolvedReference e = absurd (omega (arith, e))
+same_row UnresolvedReference Syntax e = absurd (omega (arith, e))
+same_row UnresolvedReference Number e = absurd (omega (arith, e))
+same_row UnresolvedReference ResultNames e = absurd (omega (arith, e))
+same_row UnresolvedReference TooDeep e = absurd (omega (arith, e))
+same_row UnresolvedReference MultipleDefinitions e = absurd (omega (arith, e))
+same_row UnresolvedReference UnresolvedReference e = refl
+
+-- two that precede each other are one
+pub precedes_one : (f g : Fault) → Precedes f g → Precedes g f → f ≡ g
+precedes_one f g (inl a) (inl b) = absurd (omega (arith, a, b))
+precedes_one f g (inl a) (inr b) = absurd (omega (arith, a, b.0))
+precedes_one f g (inr a) (inl b) = absurd (omega (arith, a.0, b))
+precedes_one f g (inr a) (inr b) = go a.1 b.1
+  where
+    go : (row f.kind < row g.kind) ⊎ ((row f.kind ≡ row g.kind) × (f.place ≤ g.place)) → (row g.kind < row f.kind) ⊎ ((row g.kind ≡ row f.kind) × (g.place ≤ f.place)) → f ≡ g
+    go (inl x) (inl y) = absurd (omega (arith, x, y))
+    go (inl x) (inr y) = absurd (omega (arith, x, y.0))
+    go (inr x) (inl y) = absurd (omega (arith, x.0, y))
+    go (inr x) (inr y) =
+        let kind : f.kind ≡ g.kind = same_row f.kind g.kind x.0 in
+        let place : f.place ≡ g.place = omega (arith, x.1, y.1) in
+        ap (λ m. record { kind = f.kind; met = m; place = f.place }) a.0 ∙ ap (λ k. record { kind = k; met = g.met; place = f.place }) kind ∙ ap (λ p. record { kind = g.kind; met = g.met; place = p }) place
+
+-- one fault is named
+pub one_named : (Has : Fault → Type 0) (f g : Fault) → IsNamed Has (Some f) → IsNamed Has (Some g) → f ≡ g
+one_named Has f g a b = precedes_one f g (a.1 g b.0) (b.1 f a.0)

@@ -49,12 +49,12 @@ here_of_root p = ⊥
 root_is_no_end : {P : Type 0} → alone at_root ≡ alone at_end → P
 root_is_no_end e = absurd (subst (λ (s : Standing). here_of_root s.here) e tt)
 
-leads_so : (act : Action) (rest : List Event) (s next : Standing) → moved_by (move s.here act) s.around ≡ Some next → Leads s.here s.around (Did act ∷ rest) at_end [] → Leads next.here next.around rest at_end []
+pub leads_so : (act : Action) (rest : List Event) (s next : Standing) → moved_by (move s.here act) s.around ≡ Some next → Leads s.here s.around (Did act ∷ rest) at_end [] → Leads next.here next.around rest at_end []
 leads_so act rest s next e h =
     let p = next_of (move s.here act) s.around (λ here around. Leads here around rest at_end []) h in
     subst (λ (t : Standing). Leads t.here t.around rest at_end []) (some_same (sym p.1 ∙ e)) p.2
 
-standing_so : (s : Standing) → Leads s.here s.around [] at_end [] → s ≡ alone at_end
+pub standing_so : (s : Standing) → Leads s.here s.around [] at_end [] → s ≡ alone at_end
 standing_so s h = rw h.0 (rw h.1 refl)
 
 module _ {D K A T : Type 0} (says : Saying K A T) (values : Values) (text : ℕ → List ℕ) where

@@ -122,7 +122,7 @@ module _ (names : ℕ → Bool) (kind : Token → ℕ) (cs : List ℕ) (all : Li
 
 -- ---- what reading gives
 
-through_tooks : (all : List Event) (n : ℕ) → tooks (through all n) ≤ n
+pub through_tooks : (all : List Event) (n : ℕ) → tooks (through all n) ≤ n
 through_tooks [] n = omega arith
 through_tooks (Took ∷ es) zero = omega arith
 through_tooks (Took ∷ es) (suc n) = let h = through_tooks es n in omega arith

@@ -1,4 +1,4 @@
--- In the rules of formats each action that keeps a name comes straight behind the sign of names.
+-- In the rules of formats each action that keeps a name or names a value comes straight behind the sign of names.
 use Rattle.std.proofs.Common.{◌≡◌, ℕ, zero, suc, ◌==◌, List, [], ◌∷◌, ◌++◌, Some, Bool, true, false, slice_get, refl, subst}
 use Rattle.std.specs.Bool.{MatchBool}
 use Rattle.ir_print.specs.Formats.{Formats, Kind, Step, Steps, word, operands, an_attribute, a_type, a_region, symbol_name, a_name, a_number, a_width, list_of, no_steps, step}
@@ -13,13 +13,16 @@ use Rattle.ir_text.specs.Rules.{PlainRule, Made, up, sign, number_of, several, s
 
 -- ---- the test
 
--- the action keeps a name
+-- the action keeps a name, or names a value
 abbrev pub keeps_name : Action → Bool
 keeps_name act.Name = true
 keeps_name act.Label = true
+keeps_name act.Result = true
+keeps_name act.Argument = true
+keeps_name act.Operand = true
 keeps_name _ = false
 
--- Each action that keeps a name comes straight behind the sign of names. At first that sign may stand before.
+-- Each such action comes straight behind the sign of names. At first that sign may stand before.
 abbrev pub BehindNames : Bool → List Symbol → Type 0
 BehindNames fresh [] = Unit {0}
 BehindNames fresh (Sign s ∷ ss) = BehindNames (s == 0) ss
@@ -71,7 +74,7 @@ module _ (ws : List (List ℕ)) where
   mutual
     step_behind : (s : Step) (n : ℕ) → MadeBehindNames (step_made ws s n)
     step_behind (word w) n = (tt, tt)
-    step_behind operands n = (tt, (tt, (tt, (tt, (tt, tt)))))
+    step_behind operands n = (tt, (tt, ((refl, tt), (tt, ((refl, tt), tt)))))
     step_behind an_attribute n = (tt, tt)
     step_behind a_type n = (tt, tt)
     step_behind a_region n = (tt, tt)
@@ -118,10 +121,10 @@ rules_behind f =
     let of_kinds = a.rules ++ (b.rules ++ c.rules) in
     let of_arguments = argument_rules ws ++ of_kinds in
     let of_blocks = block_rules ws ++ of_arguments in
-    rules_append (operation_rules ws) (region_rules ws ++ of_blocks) (tt, (tt, (tt, (tt, (tt, tt)))))
+    rules_append (operation_rules ws) (region_rules ws ++ of_blocks) (tt, (tt, ((refl, tt), (tt, ((refl, tt), tt)))))
     (rules_append (region_rules ws) of_blocks (tt, (tt, (tt, (tt, (tt, (tt, (tt, tt)))))))
     (rules_append (block_rules ws) of_arguments ((refl, tt), tt)
-    (rules_append (argument_rules ws) of_kinds (tt, (tt, (tt, (tt, (tt, tt)))))
+    (rules_append (argument_rules ws) of_kinds ((refl, tt), (tt, (tt, (tt, (tt, tt)))))
     (rules_append a.rules (b.rules ++ c.rules) (kinds_behind ws sort.Operation 0 f.operations 14)
     (rules_append b.rules c.rules (kinds_behind ws sort.«Type» 0 f.types a.next) (kinds_behind ws sort.Attribute 0 f.attributes b.next))))))
 

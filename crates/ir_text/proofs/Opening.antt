@@ -23,6 +23,7 @@ put_with_body f between g b p q token e ep h = record {
   first = h.first ∙ ap (λ x. x.first) e;
   content = record { parts = cc (h.content.parts, ap (λ x. x.content.parts.items) e, ep); tokens = cc (h.content.tokens, ap (λ x. x.content.tokens.items) e) };
   names = h.names;
+  numbers = h.numbers ∙ ap (λ x. x.numbers) e;
 }
 
 -- what a value isn't made for is a fault at the piece that its dialect refuses

@@ -62,13 +62,13 @@ record IsPast (s : ℕ) (at : Place) : Type 0 where
   around : NoneIn s at.around
 
 -- the values of these frames are in the same scope or ones begun earlier, from this one on
-abbrev Descends : ℕ → List Frame → Type 0
+abbrev pub Descends : ℕ → List Frame → Type 0
 Descends n [] = Unit {0}
 Descends n (f ∷ fs) = (f.values ≤ n) × Descends f.values fs
 
-record IsOrdered (at : Place) : Type 0 where
-  here : at.here.values ≤ at.events
-  around : Descends at.here.values at.around
+pub record IsOrdered (at : Place) : Type 0 where
+  pub here : at.here.values ≤ at.events
+  pub around : Descends at.here.values at.around
 
 descends_more : (n m : ℕ) (fs : List Frame) → n ≤ m → Descends n fs → Descends m fs
 descends_more n m [] le h = tt
@@ -79,7 +79,7 @@ none_below s n [] lt h = tt
 none_below s n (f ∷ fs) lt h = (λ e. omega (arith, h.0), none_below s f.values fs (omega (arith, h.0)) h.1)
 
 module _ (isolated : ℕ → Bool) where
-  ordered_next : (at : Place) (e : Event) → IsOrdered at → IsOrdered (behind isolated at e)
+  pub ordered_next : (at : Place) (e : Event) → IsOrdered at → IsOrdered (behind isolated at e)
   ordered_next at Took o = record { here = let h = o.here in omega arith; around = o.around }
   ordered_next at (Did (Operation n)) o = record { here = let h = o.here in omega arith; around = (omega arith, o.around) }
   ordered_next at (Did EndOperation) o = go at.around o.around

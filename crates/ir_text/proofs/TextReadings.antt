@@ -1,5 +1,5 @@
 -- What reading a text gives: its faults, and what it says.
-use Rattle.std.proofs.Common.{◌≡◌, ℕ, List, [], ◌∷◌, slice_index, Option, Some, None, true, false, refl, sym, ap, subst, ◌∙◌, ◌⊎◌, inl, inr}
+use Rattle.std.proofs.Common.{◌≡◌, ℕ, List, [], ◌∷◌, Option, Some, None, true, false, refl, sym, ap, subst, ◌∙◌, ◌⊎◌, inl, inr}
 use Rattle.ir_text.specs.declared.grammar.Event.{Event}
 use Rattle.ir_text.specs.declared.grammar.Event.TheVariants.{Took, Did}
 use Rattle.ir_text.specs.declared.grammar.Grammar.{Grammar}
@@ -7,24 +7,20 @@ use Rattle.ir_text.specs.declared.grammar.Stop.{Stop}
 use Rattle.ir_text.specs.declared.grammar.Stop.TheVariants as stops
 use Rattle.ir_text.specs.declared.tokens.Token.{Token}
 use Rattle.ir_text.specs.declared.faults.Fault.{Fault}
-use Rattle.ir_text.specs.declared.scopes.Resolution.{Resolution}
 use Rattle.ir_text.specs.Nesting.{Nests, FollowTokens, Position, at_root, at_end, Move, goes_to, goes_in, goes_out, nowhere, move, NestsBy}
 use Rattle.ir_text.specs.Ordered.{Standing, alone, moved_by, passed_all, LeadsTo, IsInOrder, OrdersTexts, is_ordered}
 use Rattle.ir_text.specs.Ordered as ordered
 use Rattle.ir_text.specs.Progress.{Leads}
-use Rattle.ir_text.specs.Building.{built, first_refusal}
+use Rattle.ir_text.specs.Building.{first_refusal}
 use Rattle.ir_text.specs.Rules.{rules_of, plain_rules}
 use Rattle.ir_text.specs.Faults.{IsNamed}
 use Rattle.ir_text.specs.Depth.{IsTooDeep}
-use Rattle.ir_text.specs.Scopes.{IsResolved}
-use Rattle.ir_text.specs.Meaning.{renamed}
 use Rattle.ir_print.specs.Pieces.{Values}
 use Rattle.ir_text.specs.ValueFaults.{HasNumberFault, HasNamesFault}
-use Rattle.ir_text.specs.Texts.{Language, IsReading, token_text, HasFault, SaysATree}
+use Rattle.ir_text.specs.Texts.{Language, IsReading, HasFault}
 use Rattle.ir_text.proofs.Depths.{deep_stays, deep_some}
 use Rattle.ir_text.proofs.Ordered.{nothing, passed_none, orders_texts, reading_in_order, text_ends}
 use Rattle.ir_text.proofs.BuiltRefusals.{refusal_is_named}
-use Rattle.ir_text.proofs.BuiltTrees.{one_root, built_ended, built_forest, leads_nests}
 
 -- ---- the order of what is read
 
@@ -67,14 +63,6 @@ module _ (l : Language) (leads : ordered.Leads) (ok : is_ordered leads (rules_of
       let last = r.reads.2.last in
       let found = deep_some last.0 last.2 in
       absurd (none found.0 (inr (inr (inr (inl (subst (λ z. IsTooDeep z found.0) (sym last.1) (deep_stays last.0 (Took ∷ []) found.0 found.1)))))))
-
--- A text without faults says a tree.
-pub says : (l : Language) (cs : List ℕ) (ts : List Token) (names : List ℕ) (stop : Stop) (n : ℕ) (es : List Event) (r : Resolution)
-    → IsReading l cs ts names stop n es → IsNamed (HasFault l cs ts names stop n es) None → Leads at_root [] es at_end [] → IsResolved l.isolated names es r → SaysATree l cs
-says l cs ts names stop n es r reading none leads resolved =
-    let root = (one_root l.values (token_text cs ts) es leads).1 in
-    let forest = built_forest es (leads_nests es at_root [] at_end [] leads) (built_ended es leads) in
-    (renamed (slice_index r.definitions.items) root.0, (ts, names, stop, n, es, (built es).here, root.0, r, reading, none, forest, root.1, resolved, refl))
 
 -- The first refusal is what is named of the faults of values.
 pub values_named : (values : Values) (text : ℕ → List ℕ) (es xs : List Event) (v : Option Fault) → xs ≡ es → IsInOrder es

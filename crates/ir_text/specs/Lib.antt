@@ -23,3 +23,7 @@ pub mod Ordered
 pub mod Progress
 pub mod Opened
 pub mod Frames
+pub mod Worlds
+pub mod Raised
+pub mod Makes
+pub mod Linking

@@ -32,6 +32,7 @@ module _ {D K A T : Type 0} where
     pub parts : f.content.parts.items ≡ []
     pub tokens : f.content.tokens.items ≡ []
     pub names : f.names.items ≡ []
+    pub numbers : f.numbers.items ≡ []
 
   -- one more part stands behind the others
   pub record HasPart (c d : Content D K A T) (part : Part D K A T) (token : ℕ) : Type 0 where
@@ -44,6 +45,7 @@ module _ {D K A T : Type 0} where
     pub first : g.first ≡ f.first
     pub content : HasPart f.content g.content part token
     pub names : g.names.items ≡ []
+    pub numbers : g.numbers ≡ f.numbers
 
   -- one more name of a result stands behind the others
   pub record HasName (f g : Open D K A T) (token : ℕ) : Type 0 where

@@ -47,6 +47,10 @@ OnlyBegins (Did a ∷ es) = (begins_member a ≡ true) × OnlyBegins es
 abbrev pub IsMostly : List Event → List Event → Type 0
 IsMostly es fs = (begun : List Event) × (es ≡ fs ++ begun) × OnlyBegins begun
 
+-- The two lists are one, but for members that begin at the end of each.
+abbrev pub AreAlike : List Event → List Event → Type 0
+AreAlike es fs = (front : List Event) × IsMostly es front × IsMostly fs front
+
 -- This is done at the front by a text that begins with it, and no text that does does more at it: but for members of lists that
 -- begin with the next token, which is none of the front's.
 pub record IsMost (g : Grammar) (root : ℕ) (front : List ℕ) (es : List Event) : Type 0 where

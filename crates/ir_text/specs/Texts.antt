@@ -4,7 +4,13 @@ use Rattle.std.specs.Option.{option_map_or}
 use Rattle.std.specs.Str.{chars}
 use Rattle.ir_names.specs.Tree.{Trees}
 use Rattle.ir_print.specs.Formats.{Formats}
+use Rattle.ir_store.specs.declared.pointer.Ptr.{Ptr}
+use Rattle.ir_store.specs.declared.pointer.Operation.{Operation}
+use Rattle.ir_store.specs.declared.value.Value.{Value}
+use Rattle.ir_store.specs.Views.{ContextView}
 use Rattle.ir_print.specs.Pieces.{Values, Entity, an_entity, no_entity}
+use Rattle.ir_print.specs.Shown.{Saying}
+use Rattle.ir_print.specs.Standing.{StandsOperation, Named, AreDistinct}
 use Rattle.ir_text.specs.declared.grammar.Event.{Event}
 use Rattle.ir_text.specs.declared.grammar.Grammar.{Grammar}
 use Rattle.ir_text.specs.declared.grammar.Stop.{Stop}
@@ -23,7 +29,7 @@ use Rattle.ir_text.specs.Rules.{words_of, rules_of, classes_of, plain_rules, pla
 use Rattle.ir_text.specs.Reading.{Reads}
 use Rattle.ir_text.specs.Faults.{IsNamed}
 use Rattle.ir_text.specs.Depth.{IsTooDeep}
-use Rattle.ir_text.specs.Scopes.{isolated_at, HasScopeFault, IsResolved}
+use Rattle.ir_text.specs.Scopes.{isolated_at, definitions, HasScopeFault, IsResolved}
 use Rattle.ir_text.specs.Forest.{Step, IsForest}
 use Rattle.ir_text.specs.Meaning.{operations_in, renamed}
 use Rattle.ir_text.specs.ValueFaults.{HasNumberFault, HasNamesFault}
@@ -103,6 +109,11 @@ Says l cs tree = (ts : List Token) × (names : List ℕ) × (stop : Stop) × (n 
     × IsForest es forest × (operations_in l.values (token_text cs ts) [] forest ≡ an_entity t no_entity)
     × IsResolved l.isolated names es r × (tree ≡ renamed (slice_index r.definitions.items) t)
 
--- the text has no fault and says a tree
-abbrev pub SaysATree : Language → List ℕ → Type 0
-SaysATree l cs = (tree : Entity ℕ) × Says l cs tree
+-- so many definitions of values stand in what is read of the text
+abbrev pub HasDefinitions : Language → List ℕ → ℕ → Type 0
+HasDefinitions l cs n = (ts : List Token) × (names : List ℕ) × (stop : Stop) × (m : ℕ) × (es : List Event)
+    × IsReading l cs ts names stop m es × (n ≡ length (definitions l.isolated es))
+
+-- The operation of the context is what the text says: it stands for a tree that the text says, whose definitions are values, no two the same.
+abbrev pub IsRead : {K A T : Type 0} → Saying K A T → Language → List ℕ → ContextView K A T → Ptr Operation → Type 0
+IsRead says l cs s root = (tree : Entity ℕ) × (values : List Value) × Says l cs tree × AreDistinct values × StandsOperation says (Named values) s root tree

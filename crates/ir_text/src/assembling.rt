@@ -3,18 +3,19 @@
 //! What was begun waits around what is being read, the innermost last. Types and attributes are made at their ends,
 //! a block at the end of its header, and an operation with its regions at its end. Operands may be defined further on,
 //! so they are linked once all operations are made.
-ghost use Rattle.std.specs.Prelude.{◌≡◌, ◌-◌, ◌+◌, ℕ, false, [], Some, None, Err, OnOk, IfOk, IsSomeAnd};
+ghost use Rattle.std.specs.Prelude.{◌≡◌, ◌-◌, ◌+◌, ◌++◌, ◌^◌, ◌≤◌, ℕ, List, length, false, [], Some, None, Err, OnOk, IfOk, IsSomeAnd};
 ghost use Rattle.ir_store.specs.declared.mark.Mark.{Mark};
-ghost use Rattle.ir_store.specs.Context.{IsLiveOperation};
-ghost use Rattle.ir_store.specs.Marks.{CanRewind, KeepsBelow, KeepsLive};
+ghost use Rattle.ir_store.specs.Context.{IsLiveOperation, LacksNumbers};
+ghost use Rattle.ir_store.specs.Marks.{CanRewind, KeepsBelow, KeepsLive, mark_of};
 ghost use Rattle.ir_text.specs.declared.faults.Fault.{Fault};
-ghost use Rattle.ir_text.specs.declared.opened.AssemblyFault.TheVariants.{Text};
+ghost use Rattle.ir_text.specs.declared.opened.AssemblyFault.TheVariants.{CounterFull, Text};
 ghost use Rattle.ir_text.specs.Building.{Built, after, fault_after, first_refusal};
 ghost use Rattle.ir_text.specs.Frames.{Holds};
 ghost use Rattle.ir_text.specs.Identifiers.{IsSpelt, AreSpelt};
 ghost use Rattle.ir_text.specs.Nesting.{at_root, at_end, Nests, move};
 ghost use Rattle.ir_text.specs.Ordered.{Standing, alone, moved_by};
 ghost use Rattle.ir_text.specs.Progress.{Leads};
+ghost use Rattle.ir_text.specs.Raised.{HasMade, IsAssembled, defined_by, defined_from, mentioned_by};
 ghost use Rattle.ir_text.specs.Texts.{token_text};
 
 use crate::grammar::{Action, Event};
@@ -25,11 +26,11 @@ use ir_print::TextDialect;
 use ir_store::{Context, Mark, Operation, Ptr, Value};
 use std::alloc::Global;
 
-/// An operand of an operation: the token that names it.
-#[derive(Clone, Copy)]
+/// The operands of an operation, by the tokens that name them.
+#[derive(Drop)]
 pub struct Pending {
     pub op: Ptr<Operation>,
-    pub token: usize,
+    pub tokens: Vec<usize>,
 }
 
 /// What a text has become, but for the operands of its operations.
@@ -39,7 +40,7 @@ pub struct Assembly {
     pub root: Option<Ptr<Operation>>,
     /// The value of each definition, in the order of the text.
     pub values: Vec<Option<Value>>,
-    /// The operands of each operation, in their order.
+    /// The operands of each operation, in the order in which operations end.
     pub pending: Vec<Pending>,
 }
 
@@ -57,7 +58,6 @@ pub struct Assembler<D: Dialects> {
 }
 
 impl<D: TextDialect> Assembler<D> {
-    ghost use Rattle.std.specs.Prelude.{List};
     ghost use Rattle.ir_text.specs.declared.opened.Body.TheVariants as body;
     ghost use Rattle.ir_text.specs.Opened.{IsFresh};
 
@@ -65,6 +65,8 @@ impl<D: TextDialect> Assembler<D> {
         ensures here { IsFresh result.here body.Text 0 }
         ensures around { result.around.items ≡ [] }
         ensures taken { result.taken ≡ 0 }
+        ensures values { result.made.values.items ≡ [] }
+        ensures pending { result.made.pending.items ≡ [] }
     {
         Assembler {
             alloc,
@@ -104,6 +106,14 @@ impl<D: TextDialect> Assembler<D> {
             → (f : Fault) → result ≡ Err (Text f) → fault_after D.values (token_text source.entry.chars.now source.entry.tokens.now) b action (self.old.taken - 1) ≡ Some f }
         ensures root { (b : Built) (s : Standing) → Holds D.says D.values (token_text source.entry.chars.now source.entry.tokens.now) ctx.old.types self.old b s
             → moved_by (move s.here action) s.around ≡ Some (alone at_end) → OnOk result (IsSomeAnd self.new.made.root (IsLiveOperation ctx.new)) }
+        ensures raised { (b : Built) (s next : Standing) (counter : ℕ) (tokens mentions : List ℕ) → Holds D.says D.values (token_text source.entry.chars.now source.entry.tokens.now) ctx.old.types self.old b s
+            → HasMade D.says D.values (token_text source.entry.chars.now source.entry.tokens.now) mark counter ctx.old self.old b s tokens mentions
+            → moved_by (move s.here action) s.around ≡ Some next → IsSpelt action (token_text source.entry.chars.now source.entry.tokens.now (self.old.taken - 1))
+            → OnOk result (HasMade D.says D.values (token_text source.entry.chars.now source.entry.tokens.now) mark counter ctx.new self.new (after b action (self.old.taken - 1)) next (tokens ++ defined_by action (self.old.taken - 1)) (mentions ++ mentioned_by action (self.old.taken - 1))) }
+        ensures full { (b : Built) (s next : Standing) (counter : ℕ) (tokens mentions : List ℕ) → Holds D.says D.values (token_text source.entry.chars.now source.entry.tokens.now) ctx.old.types self.old b s
+            → HasMade D.says D.values (token_text source.entry.chars.now source.entry.tokens.now) mark counter ctx.old self.old b s tokens mentions
+            → moved_by (move s.here action) s.around ≡ Some next → IsSpelt action (token_text source.entry.chars.now source.entry.tokens.now (self.old.taken - 1))
+            → result ≡ Err CounterFull → 2 ^ 64 ≤ counter + length tokens }
         ensures taken { self.new.taken ≡ self.old.taken }
         ensures below { KeepsBelow mark ctx.old ctx.new }
         ensures live { KeepsLive ctx.old ctx.new }
@@ -147,6 +157,8 @@ pub fn assemble<D: TextDialect>(
     requires { CanRewind ctx.old mark }
     ensures below { KeepsBelow mark ctx.old ctx.new }
     ensures live { KeepsLive ctx.old ctx.new }
+    ensures made { Leads at_root [] events.now at_end [] → AreSpelt (token_text source.entry.chars.now source.entry.tokens.now) 0 events.now → mark ≡ mark_of ctx.old → IfOk result (λ a. IsAssembled D.says D.values (token_text source.entry.chars.now source.entry.tokens.now) mark ctx.new a events.now) }
+    ensures full { Nests at_root [] events.now → AreSpelt (token_text source.entry.chars.now source.entry.tokens.now) 0 events.now → mark ≡ mark_of ctx.old → result ≡ Err CounterFull → LacksNumbers ctx.old (length (defined_from 0 events.now)) }
     ensures refused { (f : Fault) → Nests at_root [] events.now → AreSpelt (token_text source.entry.chars.now source.entry.tokens.now) 0 events.now → result ≡ Err (Text f) → first_refusal D.values (token_text source.entry.chars.now source.entry.tokens.now) events.now ≡ Some f }
     ensures sound { Nests at_root [] events.now → AreSpelt (token_text source.entry.chars.now source.entry.tokens.now) 0 events.now → OnOk result (first_refusal D.values (token_text source.entry.chars.now source.entry.tokens.now) events.now ≡ None) }
     ensures root { Leads at_root [] events.now at_end [] → AreSpelt (token_text source.entry.chars.now source.entry.tokens.now) 0 events.now → IfOk result (λ a. IsSomeAnd a.root (IsLiveOperation ctx.new)) }

@@ -9,6 +9,7 @@ ghost use Rattle.ir_print.specs.Shown.{IsNumber, IsWidth};
 ghost use Rattle.ir_text.specs.declared.opened.AssemblyFault.TheVariants.{Memory};
 ghost use Rattle.ir_text.specs.declared.opened.OpenOperation.{OpenOperation};
 ghost use Rattle.ir_text.specs.Frames.{Begun, KeepsAround};
+ghost use Rattle.ir_text.specs.Makes.{NamesOne};
 ghost use Rattle.ir_text.specs.Opened.{HasName, HasBody, HasPut};
 ghost use Rattle.ir_text.specs.Meaning.{number_in, width_in};
 
@@ -38,59 +39,69 @@ impl<D: TextDialect> Assembler<D> {
         Ok(())
     }
 
-    pub fn begin_operation(&mut self, kind: u32) -> Result<(), AssemblyFault>
-        ensures begun { OnOk result ((o : OpenOperation) × Begun self.old self.new (body.Operation o) × (o.kind ≡ kind)) }
+    pub fn begin_operation(&mut self, kind: u8) -> Result<(), AssemblyFault>
+        ensures begun { OnOk result ((o : OpenOperation) × Begun self.old self.new (body.Operation o) × (o.kind ≡ kind) × (o.operands.items ≡ []) × (o.regions.items ≡ [])) }
+        ensures made { self.new.made ≡ self.old.made }
         ensures taken { self.new.taken ≡ self.old.taken }
         ensures memory { IfErr result (λ e. e ≡ Memory) }
     {
-        let results = self.here.names.len();
-        let definitions = self.made.values.len();
         self.begin(Body::Operation(OpenOperation {
             kind,
-            first_value: definitions.saturating_sub(results),
             operands: Vec::new(self.alloc),
             regions: Vec::new(self.alloc),
         }))
     }
 
     pub fn begin_block(&mut self) -> Result<(), AssemblyFault>
-        ensures begun { OnOk result ((first : ℕ) × Begun self.old self.new (body.Block (record { first_value = first; block = None }))) }
+        ensures begun { OnOk result (Begun self.old self.new (body.Block (record { block = None }))) }
+        ensures made { self.new.made ≡ self.old.made }
         ensures taken { self.new.taken ≡ self.old.taken }
         ensures memory { IfErr result (λ e. e ≡ Memory) }
     {
-        let first_value = self.made.values.len();
-        self.begin(Body::Block(OpenBlock {
-            first_value,
-            block: None,
-        }))
+        self.begin(Body::Block(OpenBlock { block: None }))
+    }
+
+    /// One more definition is named, which isn't made yet.
+    fn name_definition(&mut self) -> Result<(), AssemblyFault>
+        ensures named { OnOk result (NamesOne self.old self.new) }
+        ensures here { (self.new.here ≡ record self.old.here { numbers = self.new.here.numbers }) }
+        ensures around { KeepsAround self.old self.new }
+        ensures memory { IfErr result (λ e. e ≡ Memory) }
+    {
+        let number = self.made.values.len();
+        self.here.numbers.push(number)?;
+        self.made.values.push(None)?;
+        Ok(())
     }
 
     /// The last token names a result of the operation that comes.
     pub fn result(&mut self) -> Result<(), AssemblyFault>
         ensures name { OnOk result (HasName self.old.here self.new.here (self.old.taken - 1)) }
+        ensures named { OnOk result (NamesOne self.old self.new) }
         ensures around { KeepsAround self.old self.new }
         ensures memory { IfErr result (λ e. e ≡ Memory) }
     {
         let token = self.last();
         self.here.names.push(token)?;
-        self.made.values.push(None)?;
-        Ok(())
+        self.name_definition()
     }
 
     /// The last token names an argument of the block that is being read.
     pub fn argument(&mut self) -> Result<(), AssemblyFault>
         ensures here { HasBody self.old.here self.new.here self.old.here.body }
+        ensures content { self.new.here.content ≡ self.old.here.content }
+        ensures named { OnOk result (NamesOne self.old self.new) }
         ensures around { KeepsAround self.old self.new }
         ensures memory { IfErr result (λ e. e ≡ Memory) }
     {
         self.here.names.clear();
-        self.made.values.push(None)?;
-        Ok(())
+        self.name_definition()
     }
 
     /// The last token names an operand.
     pub fn operand(&mut self) -> Result<(), AssemblyFault>
         ensures here { (ks : Vec ℕ Global) → self.old.here.body ≡ body.Operands ks → OnOk result ((ls : Vec ℕ Global) × (self.new.here ≡ record self.old.here { body = body.Operands ls }) × (ls.items ≡ ks.items ++ (self.old.taken - 1) ∷ [])) }
+        ensures made { self.new.made ≡ self.old.made }
         ensures around { KeepsAround self.old self.new }
         ensures memory { IfErr result (λ e. e ≡ Memory) }
     {
@@ -104,6 +115,7 @@ impl<D: TextDialect> Assembler<D> {
     /// The last token is a part.
     pub fn name(&mut self, text: &[char]) -> Result<(), AssemblyFault>
         ensures here { is_identifier text.now ≡ true → OnOk result ((id : Identifier) × (text_of id ≡ text.now) × HasPut self.old.here self.new.here self.old.here.body (part.Name id) (self.old.taken - 1)) }
+        ensures made { self.new.made ≡ self.old.made }
         ensures around { KeepsAround self.old self.new }
         ensures memory { IfErr result (λ e. e ≡ Memory) }
     {
@@ -118,6 +130,7 @@ impl<D: TextDialect> Assembler<D> {
     pub fn number(&mut self, text: &[char]) -> Result<(), AssemblyFault>
         ensures here { (negative : Bool) (magnitude : ℕ) → number_in text.now ≡ number negative magnitude
             → OnOk result ((o : Option Number) × IsNumber o negative magnitude × HasPut self.old.here self.new.here self.old.here.body (part.Number o) (self.old.taken - 1)) }
+        ensures made { self.new.made ≡ self.old.made }
         ensures around { KeepsAround self.old self.new }
         ensures memory { IfErr result (λ e. e ≡ Memory) }
     {
@@ -129,6 +142,7 @@ impl<D: TextDialect> Assembler<D> {
     pub fn width(&mut self, text: &[char]) -> Result<(), AssemblyFault>
         ensures here { (sign : Signedness) (bits : ℕ) → width_in text.now ≡ width sign bits
             → OnOk result ((o : Option ℕ) × IsWidth o bits × HasPut self.old.here self.new.here self.old.here.body (part.Width sign o) (self.old.taken - 1)) }
+        ensures made { self.new.made ≡ self.old.made }
         ensures around { KeepsAround self.old self.new }
         ensures memory { IfErr result (λ e. e ≡ Memory) }
     {

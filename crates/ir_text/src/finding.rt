@@ -1,6 +1,7 @@
 //! The fault of a text that is named: the first of all that it has.
 ghost use Rattle.std.specs.Prelude.{◌≡◌, ◌⊎◌, ℕ, Bool, List, length, Option, Some, None, Err, OnOk, IfOk, IfErr, IsOk, MatchResult};
 ghost use Rattle.ir_text.specs.declared.faults.Fault.{Fault};
+ghost use Rattle.ir_text.specs.declared.faults.TextFault.TheVariants.{Memory, CounterFull};
 ghost use Rattle.ir_text.specs.declared.grammar.Event.{Event};
 ghost use Rattle.ir_text.specs.declared.opened.AssemblyFault.TheVariants as assembly;
 ghost use Rattle.ir_text.specs.declared.tokens.Token.{Token};
@@ -41,6 +42,7 @@ fn syntax_fault(reading: &Reading, tokens: usize) -> Option<Fault>
 pub fn value_fault(assembled: &Result<Assembly, AssemblyFault>) -> Result<Option<Fault>, TextFault>
     ensures found { (first : Option Fault) → OnOk assembled.now (first ≡ None) → ((f : Fault) → assembled.now ≡ Err (assembly.Text f) → first ≡ Some f) → IfOk result (λ r. r ≡ first) }
     ensures none { IfOk result (λ r. r ≡ None → IsOk assembled.now) }
+    ensures full { result ≡ Err CounterFull → assembled.now ≡ Err assembly.CounterFull }
     ensures memory { (l : Language) (cs : List ℕ) → IfErr result (IsRefusal l cs) }
 {
     match assembled {
@@ -56,6 +58,7 @@ pub fn scope_fault(resolved: &Result<Resolution, ScopeFault>) -> Result<Option<F
     ensures found { (isolated : ℕ → Bool) (names : List ℕ) (es : List Event) → MatchResult resolved.now (IsResolved isolated names es) (IsScopeFault isolated names es)
         → IfOk result (IsNamed (HasScopeFault isolated names es)) }
     ensures none { IfOk result (λ r. r ≡ None → IsOk resolved.now) }
+    ensures out { IfErr result (λ f. f ≡ Memory) }
     ensures memory { (l : Language) (cs : List ℕ) → IfErr result (IsRefusal l cs) }
 {
     match resolved {

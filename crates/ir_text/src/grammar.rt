@@ -13,7 +13,7 @@ pub enum Action {
     /// The name names a result of the operation that comes.
     Result,
     /// The dotted name is the id of an operation of the kind with this number; its body begins.
-    Operation(u32),
+    Operation(u8),
     /// An operation with its body has been read.
     EndOperation,
     /// The brace opens a region.
@@ -29,11 +29,11 @@ pub enum Action {
     /// A block with its operations has been read.
     EndBlock,
     /// A type of the kind with this number begins.
-    BeginType(u32),
+    BeginType(u8),
     /// The type has been read.
     EndType,
     /// An attribute of the kind with this number begins.
-    BeginAttribute(u32),
+    BeginAttribute(u8),
     /// The attribute has been read.
     EndAttribute,
     /// The name is a part of what is being read.

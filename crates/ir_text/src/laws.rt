@@ -1,17 +1,21 @@
 //! Laws of the definitions: a text is read in one way, and its faults are met in the order of its tokens.
-ghost use Rattle.std.specs.Prelude.{◌≡◌, ◌≤◌, ◌+◌, ◌++◌, ◌⊎◌, ℕ, Bool, true, false, List};
+ghost use Rattle.std.specs.Prelude.{◌≡◌, ◌≢◌, ◌≤◌, ◌+◌, ◌++◌, ◌⊎◌, ℕ, Bool, true, false, List, Option, Some, None};
 ghost use Rattle.ir_text.specs.declared.tokens.Token.{Token};
 ghost use Rattle.ir_text.specs.declared.grammar.Grammar.{Grammar};
 ghost use Rattle.ir_text.specs.declared.grammar.Event.{Event};
 ghost use Rattle.ir_text.specs.declared.grammar.Stop.{Stop};
-ghost use Rattle.ir_text.specs.declared.grammar.Stop.TheVariants.{Text};
+ghost use Rattle.ir_text.specs.declared.grammar.Stop.TheVariants.{Text, Deep};
 ghost use Rattle.ir_text.specs.Tokens.{ReadsAs};
 ghost use Rattle.ir_text.specs.Grammar.{IsTextOf};
 ghost use Rattle.ir_text.specs.Table.{CanRead};
+ghost use Rattle.ir_print.specs.Pieces.{Entity};
 ghost use Rattle.ir_text.specs.declared.faults.Fault.{Fault};
+ghost use Rattle.ir_text.specs.declared.faults.TextFault.{TextFault};
 ghost use Rattle.ir_text.specs.Depth.{IsTooDeep};
-ghost use Rattle.ir_text.specs.Reading.{OpensMore, Reads, tooks};
-ghost use Rattle.ir_text.specs.Rules.{plain_rules};
+ghost use Rattle.ir_text.specs.Faults.{IsNamed};
+ghost use Rattle.ir_text.specs.Texts.{Language, HasFault, IsReading, IsTextFault, Says};
+ghost use Rattle.ir_text.specs.Reading.{AreAlike, OpensMore, Reads, tooks};
+ghost use Rattle.ir_text.specs.Rules.{plain_rules, rules_of};
 ghost use Rattle.ir_text.specs.Nesting.{at_root, at_end, FollowTokens};
 ghost use Rattle.ir_text.specs.Ordered.{Leads, is_ordered, IsInOrder, LeadsTo, OrdersTexts};
 ghost use Rattle.ir_text.specs.Identifiers.{AreSpelt};
@@ -76,4 +80,42 @@ pub fn fronts_are_ordered()
 /// Where actions come straight behind their tokens, each name of a value has a token of its own.
 pub fn names_have_tokens()
     ensures { (es : List Event) → FollowTokens false es → OwnTokens false es }
+{}
+
+/// Of the faults of a text one is named, or none.
+pub fn one_fault_is_named()
+    ensures one { (l : Language) (cs : List ℕ) (ts : List Token) (names : List ℕ) (stop : Stop) (n : ℕ) (es : List Event) (f g : Fault)
+        → IsNamed (HasFault l cs ts names stop n es) (Some f) → IsNamed (HasFault l cs ts names stop n es) (Some g) → f ≡ g }
+    ensures either { (l : Language) (cs : List ℕ) (ts : List Token) (names : List ℕ) (stop : Stop) (n : ℕ) (es : List Event) (f : Fault)
+        → IsNamed (HasFault l cs ts names stop n es) (Some f) → IsNamed (HasFault l cs ts names stop n es) None → ⊥ }
+{}
+
+/// What is alike has the same faults.
+pub fn alike_faults()
+    ensures { (l : Language) (cs : List ℕ) (ts : List Token) (names : List ℕ) (stop : Stop) (n : ℕ) (es fs : List Event) → AreAlike es fs
+        → (f : Fault) → HasFault l cs ts names stop n es f → HasFault l cs ts names stop n fs f }
+{}
+
+/// Two readings of one text have the same tokens. Where nothing is too deep, they stop for one reason behind as many tokens, and do
+/// the same but for members of lists that begin with the next token.
+pub fn readings_agree()
+    ensures tokens { (l : Language) (cs : List ℕ) (ts us : List Token) (names numbers : List ℕ) (stop halt : Stop) (n m : ℕ) (es fs : List Event)
+        → IsReading l cs ts names stop n es → IsReading l cs us numbers halt m fs → ts ≡ us }
+    ensures stops { (l : Language) (cs : List ℕ) (ts us : List Token) (names numbers : List ℕ) (stop halt : Stop) (n m : ℕ) (es fs : List Event)
+        → IsReading l cs ts names stop n es → IsReading l cs us numbers halt m fs → stop ≢ Deep → halt ≢ Deep
+        → (stop ≡ halt) × (n ≡ m) × AreAlike es fs }
+{}
+
+/// Where a language is in order, a text has one first fault, or none.
+pub fn one_verdict()
+    ensures { (l : Language) (leads : Leads) → is_ordered leads (rules_of l.formats) ≡ true
+        → (cs : List ℕ) (ts us : List Token) (names numbers : List ℕ) (stop halt : Stop) (n m : ℕ) (es fs : List Event) (f g : Option Fault)
+        → IsReading l cs ts names stop n es → IsReading l cs us numbers halt m fs
+        → IsNamed (HasFault l cs ts names stop n es) f → IsNamed (HasFault l cs us numbers halt m fs) g → f ≡ g }
+{}
+
+/// So it is refused with one fault at most, and with none where it says a tree.
+pub fn texts_have_one_answer()
+    ensures one { (l : Language) (leads : Leads) → is_ordered leads (rules_of l.formats) ≡ true → (cs : List ℕ) (f g : TextFault) → IsTextFault l cs f → IsTextFault l cs g → f ≡ g }
+    ensures either { (l : Language) (leads : Leads) → is_ordered leads (rules_of l.formats) ≡ true → (cs : List ℕ) (f : TextFault) (tree : Entity ℕ) → IsTextFault l cs f → Says l cs tree → ⊥ }
 {}

@@ -1,14 +1,20 @@
 //! What is made of what a text says.
-ghost use Rattle.std.specs.Prelude.{◌≡◌, ℕ, IfOk, None, Some, Err, slice_get};
+ghost use Rattle.std.specs.Prelude.{◌≡◌, ◌+◌, ◌≤◌, ℕ, IfOk, OnOk, None, Some, Err, length, slice_get, true};
+ghost use Rattle.ir_names.specs.declared.identifier.Identifier.{Identifier};
+ghost use Rattle.ir_names.specs.Identifier.{text_of};
+ghost use Rattle.ir_names.specs.Text.{is_identifier};
 ghost use Rattle.ir_names.specs.Tree.{node};
+ghost use Rattle.ir_names.specs.declared.growth.GrowError.TheVariants.{CounterFull};
 ghost use Rattle.ir_print.specs.declared.dialect.MakeFault.TheVariants.{Refused};
 ghost use Rattle.ir_print.specs.Pieces.{Pieces, type_of_kind, attribute_of_kind};
 ghost use Rattle.ir_print.specs.Shown.{ShowsParts, ShowsType, ShowsAttribute, KeepsTypes, Drafts};
 ghost use Rattle.ir_store.specs.declared.mark.Mark.{Mark};
 ghost use Rattle.ir_store.specs.declared.pointer.Ptr.{Ptr};
 ghost use Rattle.ir_store.specs.declared.pointer.Region.{Region};
-ghost use Rattle.ir_store.specs.Context.{IsLiveOperation, IsLiveRegion, regions_of};
-ghost use Rattle.ir_store.specs.Marks.{CanRewind, KeepsBelow, KeepsLive, IsSameTree, IsOperationSince, IsRegionSince, AreRegionsSince};
+ghost use Rattle.ir_store.specs.Context as store;
+ghost use Rattle.ir_store.specs.Context.{IsLiveOperation, IsLiveRegion, IsLiveBlock, LacksNumbers, regions_of, parent_block_of, parent_region_of, next_operation, pointers_from, with_operation, edit_operation, edit_block, stand_in_block};
+ghost use Rattle.ir_store.specs.Marks.{CanRewind, KeepsBelow, KeepsLive, IsSameTree, IsOperationSince, IsRegionSince, IsBlockSince, AreRegionsSince};
+ghost use Rattle.ir_text.specs.Makes.{types_in, put_block, put_blocks, CanPut, CanFill, Fills};
 
 use crate::opened::AssemblyFault;
 use ir_names::{GrowError, Identifier, IdentifierError, TypeHandle};
@@ -20,7 +26,7 @@ use std::alloc::{AllocError, Global};
 pub fn make_type<D: TextDialect>(
     alloc: Global,
     ctx: &mut Context<D>,
-    kind: u32,
+    kind: u8,
     parts: &[Part<D>],
 ) -> Result<TypeHandle, MakeFault>
     ensures live { KeepsLive ctx.old ctx.new }
@@ -42,7 +48,7 @@ pub fn make_type<D: TextDialect>(
 pub fn make_attribute<D: TextDialect>(
     alloc: Global,
     ctx: &mut Context<D>,
-    kind: u32,
+    kind: u8,
     parts: &[Part<D>],
 ) -> Result<D::Attr, MakeFault>
     ensures live { KeepsLive ctx.old ctx.new }
@@ -62,7 +68,7 @@ pub fn make_attribute<D: TextDialect>(
 pub fn draft_of<D: TextDialect>(
     alloc: Global,
     ctx: &mut Context<D>,
-    kind: u32,
+    kind: u8,
     parts: &[Part<D>],
 ) -> Result<(D::OpKind, OperationDraft<D>), MakeFault>
     ensures live { KeepsLive ctx.old ctx.new }
@@ -80,7 +86,9 @@ pub fn draft_of<D: TextDialect>(
 }
 
 /// The label that a token is.
-pub fn label_of(alloc: Global, text: &[char]) -> Result<Option<Identifier>, AllocError> {
+pub fn label_of(alloc: Global, text: &[char]) -> Result<Option<Identifier>, AllocError>
+    ensures { is_identifier text.now ≡ true → IfOk result (λ label. (id : Identifier) × (label ≡ Some id) × (text_of id ≡ text.now)) }
+{
     match Identifier::from_chars(alloc, text) {
         Ok(label) => Ok(Some(label)),
         Err(IdentifierError::Memory) => Err(AllocError),
@@ -92,7 +100,9 @@ pub fn label_of(alloc: Global, text: &[char]) -> Result<Option<Identifier>, Allo
 pub fn types_of<D: TextDialect>(
     alloc: Global,
     parts: &[Part<D>],
-) -> Result<Vec<TypeHandle>, AllocError> {
+) -> Result<Vec<TypeHandle>, AllocError>
+    ensures { IfOk result (λ types. types.items ≡ types_in parts.now) }
+{
     let mut types = Vec::new(alloc);
     for part in parts {
         if let Part::Type(ty) = part {
@@ -129,6 +139,7 @@ pub fn append_block<D: TextDialect>(
     requires rewind { CanRewind ctx.old mark }
     requires region { IsLiveRegion ctx.old region }
     requires since { IsRegionSince mark region }
+    ensures put { IsLiveBlock ctx.old block → IsBlockSince mark block → parent_region_of ctx.old block ≡ None → OnOk result (ctx.new ≡ put_block ctx.old region block) }
     ensures types { ctx.new.types ≡ ctx.old.types }
     ensures below { KeepsBelow mark ctx.old ctx.new }
     ensures live { KeepsLive ctx.old ctx.new }
@@ -152,6 +163,8 @@ pub fn append_operation<D: TextDialect>(
     requires rewind { CanRewind ctx.old mark }
     requires op { IsLiveOperation ctx.old op }
     requires since { IsOperationSince mark op }
+    ensures put { IsLiveBlock ctx.old block → IsBlockSince mark block → parent_block_of ctx.old op ≡ None
+        → OnOk result (ctx.new ≡ edit_operation (edit_block ctx.old block (store.append_operation op)) op (stand_in_block block)) }
     ensures types { ctx.new.types ≡ ctx.old.types }
     ensures below { KeepsBelow mark ctx.old ctx.new }
     ensures live { KeepsLive ctx.old ctx.new }
@@ -175,6 +188,7 @@ fn fill_region<D: TextDialect>(
     requires rewind { CanRewind ctx.old mark }
     requires region { IsLiveRegion ctx.old region }
     requires since { IsRegionSince mark region }
+    ensures put { CanPut mark ctx.old blocks.now → OnOk result (ctx.new ≡ put_blocks ctx.old region blocks.now) }
     ensures types { ctx.new.types ≡ ctx.old.types }
     ensures below { KeepsBelow mark ctx.old ctx.new }
     ensures live { KeepsLive ctx.old ctx.new }
@@ -194,6 +208,7 @@ fn fill_live_region<D: TextDialect>(
 ) -> Result<(), AllocError>
     requires rewind { CanRewind ctx.old mark }
     requires since { IsRegionSince mark region }
+    ensures put { IsLiveRegion ctx.old region → CanPut mark ctx.old blocks.now → OnOk result (ctx.new ≡ put_blocks ctx.old region blocks.now) }
     ensures types { ctx.new.types ≡ ctx.old.types }
     ensures below { KeepsBelow mark ctx.old ctx.new }
     ensures live { KeepsLive ctx.old ctx.new }
@@ -215,6 +230,7 @@ pub fn fill<D: TextDialect>(
     requires rewind { CanRewind ctx.old mark }
     requires op { IsLiveOperation ctx.old op }
     requires since { AreRegionsSince mark (regions_of ctx.old op) }
+    ensures fills { (first : ℕ) → regions_of ctx.old op ≡ pointers_from first (length regions.now) → first + length regions.now ≤ length ctx.old.regions → CanFill mark ctx.old regions.now → OnOk result (Fills ctx.old ctx.new first regions.now) }
     ensures types { ctx.new.types ≡ ctx.old.types }
     ensures below { KeepsBelow mark ctx.old ctx.new }
     ensures live { KeepsLive ctx.old ctx.new }
@@ -238,6 +254,9 @@ pub fn make_operation<D: TextDialect>(
     regions: &[Vec<Ptr<BasicBlock>>],
 ) -> Result<Ptr<Operation>, GrowError>
     requires { CanRewind ctx.old mark }
+    ensures pointer { IfOk result (λ op. op ≡ next_operation ctx.old) }
+    ensures fills { CanFill mark ctx.old regions.now → OnOk result (Fills (with_operation ctx.old kind draft.result_types.items draft.attributes (length regions.now)) ctx.new (length ctx.old.regions) regions.now) }
+    ensures full { result ≡ Err CounterFull → LacksNumbers ctx.old (length draft.result_types.items) }
     ensures made { IfOk result (IsLiveOperation ctx.new) }
     ensures since { IfOk result (IsOperationSince mark) }
     ensures types { ctx.new.types ≡ ctx.old.types }

@@ -65,9 +65,7 @@ pub struct Content<D: Dialects> {
 #[derive(Drop)]
 pub struct OpenOperation {
     /// The number of its kind.
-    pub kind: u32,
-    /// The number of the definition that its first result is.
-    pub first_value: usize,
+    pub kind: u8,
     /// The tokens that name its operands.
     pub operands: Vec<usize>,
     /// The blocks of each of its regions.
@@ -77,8 +75,6 @@ pub struct OpenOperation {
 /// What a block has so far beside the types of its arguments.
 #[derive(Clone, Copy)]
 pub struct OpenBlock {
-    /// The number of the definition that its first argument is.
-    pub first_value: usize,
     /// The block, once its header is read.
     pub block: Option<Ptr<BasicBlock>>,
 }
@@ -88,8 +84,8 @@ pub struct OpenBlock {
 pub enum Body<D: Dialects> {
     /// The whole text.
     Text,
-    Type(u32),
-    Attribute(u32),
+    Type(u8),
+    Attribute(u8),
     /// A list, with its members.
     List(Vec<Vec<Part<D>>>),
     /// A member of a list.
@@ -111,6 +107,8 @@ pub struct Open<D: Dialects> {
     pub content: Content<D>,
     /// The names of results behind all else that was read in it.
     pub names: Vec<usize>,
+    /// The numbers of the definitions that are named in it, and not made yet.
+    pub numbers: Vec<usize>,
 }
 
 impl<D: Dialects> Content<D> {
@@ -155,6 +153,7 @@ impl<D: Dialects> Open<D> {
             first,
             content: Content::new(alloc),
             names: Vec::new(alloc),
+            numbers: Vec::new(alloc),
         }
     }
 

@@ -1,9 +1,11 @@
 //! Reading a text into a context.
-ghost use Rattle.std.specs.Prelude.{◌≡◌, OnOk, OnErr, IfOk, IfErr, IsSomeAnd};
-ghost use Rattle.ir_store.specs.Context.{IsLiveOperation};
+ghost use Rattle.std.specs.Prelude.{◌≡◌, ◌≤◌, ℕ, List, length, Some, None, Err, OnOk, OnErr, IfOk, IfErr, IsSomeAnd};
+ghost use Rattle.ir_store.specs.Context.{IsLiveOperation, LacksNumbers, parent_block_of};
 ghost use Rattle.ir_store.specs.Marks.{CanRewind, KeepsBelow, IsSameTree, mark_of};
-ghost use Rattle.ir_text.specs.declared.faults.TextFault.TheVariants.{Memory};
-ghost use Rattle.ir_text.specs.Texts.{language_of, IsReading, IsRefusal, SaysATree, place_of, tell};
+ghost use Rattle.ir_text.specs.declared.faults.TextFault.TheVariants.{Memory, CounterFull};
+ghost use Rattle.ir_text.specs.Linking.{CanLink, Links};
+ghost use Rattle.ir_text.specs.Raised.{AreWaiting};
+ghost use Rattle.ir_text.specs.Texts.{language_of, HasDefinitions, IsRead, IsReading, IsRefusal, place_of, tell};
 
 use crate::assembling::{Assembly, assemble};
 use crate::depth::DEEPEST;
@@ -55,8 +57,10 @@ pub fn top_level_parse<D: ReadDialect>(
     ensures read { IfOk result (IsLiveOperation ctx.new) }
     ensures kept { OnOk result (KeepsBelow (mark_of ctx.old) ctx.old ctx.new) }
     ensures refused { OnErr result (IsSameTree ctx.old ctx.new) }
-    ensures says { OnOk result (SaysATree (language_of D.formats D.kind_at D.isolated D.values) chars.now) }
+    ensures says { IfOk result (IsRead D.says (language_of D.formats D.kind_at D.isolated D.values) chars.now ctx.new) }
+    ensures apart { IfOk result (λ root. parent_block_of ctx.new root ≡ None) }
     ensures fault { IfErr result (IsRefusal (language_of D.formats D.kind_at D.isolated D.values) chars.now) }
+    ensures full { result ≡ Err CounterFull → (n : ℕ) × HasDefinitions (language_of D.formats D.kind_at D.isolated D.values) chars.now n × LacksNumbers ctx.old n }
 {
     let mark = ctx.mark();
     let outcome = parse(alloc, ctx, chars);
@@ -74,8 +78,10 @@ fn parse<D: ReadDialect>(
     requires { CanRewind ctx.old (mark_of ctx.old) }
     ensures read { IfOk result (IsLiveOperation ctx.new) }
     ensures kept { KeepsBelow (mark_of ctx.old) ctx.old ctx.new }
-    ensures says { OnOk result (SaysATree (language_of D.formats D.kind_at D.isolated D.values) chars.now) }
+    ensures says { IfOk result (IsRead D.says (language_of D.formats D.kind_at D.isolated D.values) chars.now ctx.new) }
+    ensures apart { IfOk result (λ root. parent_block_of ctx.new root ≡ None) }
     ensures fault { IfErr result (IsRefusal (language_of D.formats D.kind_at D.isolated D.values) chars.now) }
+    ensures full { result ≡ Err CounterFull → (n : ℕ) × HasDefinitions (language_of D.formats D.kind_at D.isolated D.values) chars.now n × LacksNumbers ctx.old n }
 {
     let language: DialectGrammar = grammar_of::<D>(alloc)?;
     let tokens = tokens_of(alloc, chars)?;
@@ -99,10 +105,13 @@ fn understand<D: ReadDialect>(
 ) -> Result<Ptr<Operation>, TextFault>
     requires rewind { CanRewind ctx.old (mark_of ctx.old) }
     requires reading { IsReading (language_of D.formats D.kind_at D.isolated D.values) source.chars.now source.tokens.now names.now reading.now.stop reading.now.taken reading.now.events.items }
+    requires named { length source.tokens.now ≤ length names.now }
     ensures read { IfOk result (IsLiveOperation ctx.new) }
     ensures kept { KeepsBelow (mark_of ctx.old) ctx.old ctx.new }
-    ensures says { OnOk result (SaysATree (language_of D.formats D.kind_at D.isolated D.values) source.entry.chars.now) }
+    ensures says { IfOk result (IsRead D.says (language_of D.formats D.kind_at D.isolated D.values) source.entry.chars.now ctx.new) }
+    ensures apart { IfOk result (λ root. parent_block_of ctx.new root ≡ None) }
     ensures fault { IfErr result (IsRefusal (language_of D.formats D.kind_at D.isolated D.values) source.entry.chars.now) }
+    ensures full { result ≡ Err CounterFull → (n : ℕ) × HasDefinitions (language_of D.formats D.kind_at D.isolated D.values) source.entry.chars.now n × LacksNumbers ctx.old n }
 {
     let mark = ctx.mark();
     let assembled = assemble(alloc, ctx, mark, source, &reading.events);
@@ -132,6 +141,9 @@ fn finish<D: TextDialect>(
     requires root { IsSomeAnd assembly.now.root (IsLiveOperation ctx.old) }
     ensures read { IfOk result (IsLiveOperation ctx.new) }
     ensures kept { KeepsBelow mark ctx.old ctx.new }
+    ensures root { IfOk result (λ root. assembly.now.root ≡ Some root) }
+    ensures linked { (mentions : List ℕ) → AreWaiting mark ctx.old assembly.now.pending.items mentions → CanLink ctx.old assembly.now.values.items resolution.now.definitions.items assembly.now.pending.items
+        → OnOk result (Links ctx.old ctx.new assembly.now.values.items resolution.now.definitions.items assembly.now.pending.items) }
     ensures memory { IfErr result (λ f. f ≡ Memory) }
 {
     link(ctx, mark, resolution, assembly)?;

@@ -119,7 +119,7 @@ impl Sort {
     }
 
     /// What is done behind the id of a kind.
-    fn begin(self, number: u32) -> Action
+    fn begin(self, number: u8) -> Action
         ensures { result ≡ begin_of self number }
     {
         match self {
@@ -394,7 +394,7 @@ impl RuleMaker {
     }
 
     /// Adds the rule of a kind: its id, and between two actions what its format says.
-    fn kind(&mut self, sort: Sort, number: u32, kind: KindText) -> Result<(), AllocError>
+    fn kind(&mut self, sort: Sort, number: u8, kind: KindText) -> Result<(), AllocError>
         ensures { OnOk result (AddsMade self.old self.new (kind_made (texts self.old.words.items) sort number (kind_of kind) self.old.next_list)) }
     {
         let mut symbols = Vec::new(self.alloc);
@@ -413,7 +413,7 @@ impl RuleMaker {
             let Some(kind) = kind_at::<D>(sort, number) else {
                 return Ok(());
             };
-            self.kind(sort, number as u32, kind)?;
+            self.kind(sort, number as u8, kind)?;
         }
         Ok(())
     }

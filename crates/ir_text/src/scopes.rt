@@ -206,6 +206,7 @@ fn numbers_of(
         → s.token < length names.now → slice_index r.items s.token ≡ j) }
     ensures mentioned { IfOk result (λ r. AreDistinct sites.now.mentions.items → (i j : ℕ) (m : Site) → slice_get sites.now.mentions.items i ≡ Some m
         → hash.get same_key numbers.now (m.scope, name_of names.now m.token) ≡ Some j → m.token < length names.now → slice_index r.items m.token ≡ j) }
+    ensures many { IfOk result (λ r. length r.items ≡ length names.now) }
 {
     let mut places = vec![in alloc; 0usize; names.len()]?;
     note_definitions(&mut places, &sites.definitions);
@@ -222,7 +223,8 @@ pub fn resolve<D: TextDialect>(
     names: &[usize],
     events: &[Event],
 ) -> Result<Resolution, ScopeFault>
-    ensures { MatchResult result (IsResolved (isolated_at D.kind_at D.isolated) names.now events.now) (IsScopeFault (isolated_at D.kind_at D.isolated) names.now events.now) }
+    ensures resolved { MatchResult result (IsResolved (isolated_at D.kind_at D.isolated) names.now events.now) (IsScopeFault (isolated_at D.kind_at D.isolated) names.now events.now) }
+    ensures many { IfOk result (λ r. length r.definitions.items ≡ length names.now) }
 {
     let sites = sites_of::<D>(alloc, events)?;
     let labels = table_of(alloc, names, &sites.labels)?;

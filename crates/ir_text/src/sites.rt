@@ -76,7 +76,7 @@ fn outside(events: usize) -> Frame
 }
 
 /// Whether operations of the kind with this number are isolated from above.
-fn is_isolated<D: TextDialect>(number: u32) -> bool
+fn is_isolated<D: TextDialect>(number: u8) -> bool
     ensures { result ≡ isolated_at D.kind_at D.isolated number }
 {
     match D::op_kind_at(number as usize) {

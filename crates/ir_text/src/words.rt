@@ -203,6 +203,7 @@ pub fn classify(
 ) -> Result<Classified, AllocError>
     ensures kinds { IfOk result (λ c. c.kinds.items ≡ map (kind_of (spellings words.now) chars.now) tokens.now) }
     ensures names { IfOk result (λ c. AlikeInNumber chars.now tokens.now c.names.items) }
+    ensures many { IfOk result (λ c. length c.names.items ≡ length tokens.now) }
 {
     let mut spellings = Spellings {
         known: IndexSet::new(alloc),

@@ -1,93 +1,131 @@
 -- How a call ends, from how its parts end.
-use Rattle.std.proofs.Common.{◌≡◌, ℕ, ◌^◌, List, Option, Result, Ok, Err, sym, subst}
-use Rattle.std.specs.Prelude.{IsUtf8, IsErrAnd}
-use Rattle.ir_store.specs.Views.{ContextView}
+use Rattle.std.proofs.Common.{◌≡◌, ℕ, ◌+◌, ◌^◌, ◌≤◌, List, Option, None, Result, Ok, Err, refl, sym, ap, subst, ◌∙◌, chars}
+use Rattle.std.specs.Prelude.{IsUtf8, IsErrAnd, IfErr, OnErr}
+use Rattle.ir_store.specs.declared.pointer.Ptr.{Ptr}
+use Rattle.ir_store.specs.declared.pointer.Operation.{Operation}
+use Rattle.ir_store.specs.Context.{parent_block_of}
+use Rattle.ir_print.specs.Pieces.{Entity}
 use Rattle.ir_text.specs.declared.faults.TextFault.{TextFault}
 use Rattle.ir_text.specs.declared.faults.TextFault.TheVariants as text
 use Rattle.kit_dialect.specs.declared.module_rules.RuleFault.{RuleFault}
 use Rattle.kit_dialect.specs.declared.module_rules.RuleFault.TheVariants as rule
-use Rattle.ir_store.specs.Marks.{IsSameTree}
+use Rattle.ir_text.specs.Texts.{IsRefusal, IsRead, Says, HasDefinitions}
+use Rattle.kit_dialect.specs.Shapes.{KitContext}
+use Rattle.kit_dialect.specs.Says.{says}
+use Rattle.kit_dialect.specs.Walks.{IsAnswer, IsExact}
+use Rattle.ir_store.specs.Marks.{IsSameTree, KeepsBelow, mark_of}
 use Rattle.ir_store.proofs.Same.{same_itself}
 use Rattle.irkit.specs.declared.watched.Watched.{Watched}
 use Rattle.irkit.specs.declared.refusal.Refusal.{Refusal}
 use Rattle.irkit.specs.declared.refusal.Refusal.TheVariants.{NotUtf8, Syntax, TooDeep, Scope, Rule, Memory, CounterFull, Read, Write}
 use Rattle.irkit.specs.Refusals.{of_text_fault, of_rule_fault}
-use Rattle.irkit.specs.Outcomes.{Decodes, Understands, EndsReading, EndsLoad, EndsWriting, EndsCall, GaveAll, Refuses}
+use Rattle.irkit.specs.Texts.{kit_language, SaysTree, Overfills}
+use Rattle.irkit.specs.Outcomes.{Loads, Decodes, Understands, EndsReading, EndsLoad, EndsWriting, EndsCall, GivesText, GaveAll, Refuses}
 
 -- what holds at an error holds at a result that is this error
 at_error : {X E : Type 0} (P : Result X E → Type 0) (r : Result X E) (e : E) → IsErrAnd r (λ x. x ≡ e) → P (Err e) → P r
 at_error P (Ok x) e is h = absurd is
 at_error P (Err x) e is h = subst (λ y. P (Err y)) (sym is) h
 
-undecoded_for : {K A T V : Type 0} (X : Type 0) (bytes : List ℕ) (items : V → List ℕ) (ctx : ContextView K A T) (e : Refusal) → Decodes bytes {V = V} items (Err e) → Understands {X = X} bytes ctx ctx (Err e)
-undecoded_for X bytes items ctx (NotUtf8 b) h = (h, same_itself ctx)
-undecoded_for X bytes items ctx (Syntax l k) h = absurd h
-undecoded_for X bytes items ctx (TooDeep l k) h = absurd h
-undecoded_for X bytes items ctx (Scope l k c) h = absurd h
-undecoded_for X bytes items ctx (Rule n p) h = absurd h
-undecoded_for X bytes items ctx Memory h = same_itself ctx
-undecoded_for X bytes items ctx CounterFull h = absurd h
-undecoded_for X bytes items ctx Read h = absurd h
-undecoded_for X bytes items ctx (Write b) h = absurd h
+undecoded_for : {V : Type 0} (bytes : List ℕ) (items : V → List ℕ) (ctx : KitContext) (e : Refusal) → Decodes bytes {V = V} items (Err e) → Understands bytes ctx ctx (Err e)
+undecoded_for bytes items ctx (NotUtf8 b) h = (h, same_itself ctx)
+undecoded_for bytes items ctx (Syntax l k) h = absurd h
+undecoded_for bytes items ctx (TooDeep l k) h = absurd h
+undecoded_for bytes items ctx (Scope l k c) h = absurd h
+undecoded_for bytes items ctx (Rule n p) h = absurd h
+undecoded_for bytes items ctx Memory h = same_itself ctx
+undecoded_for bytes items ctx CounterFull h = absurd h
+undecoded_for bytes items ctx Read h = absurd h
+undecoded_for bytes items ctx (Write b) h = absurd h
 
 -- bytes that aren't decoded aren't understood
-pub undecoded : {K A T V X : Type 0} (bytes : List ℕ) (items : V → List ℕ) (d : Result V Refusal) (ctx : ContextView K A T) (e : Refusal) (r : Result X Refusal)
+pub undecoded : {V : Type 0} (bytes : List ℕ) (items : V → List ℕ) (d : Result V Refusal) (ctx : KitContext) (e : Refusal) (r : Result (Ptr Operation) Refusal)
     → d ≡ Err e → Decodes bytes items d → IsErrAnd r (λ x. x ≡ e) → Understands bytes ctx ctx r
-undecoded {X = X} bytes items d ctx e r was h is = at_error (Understands bytes ctx ctx) r e is (undecoded_for X bytes items ctx e (subst (Decodes bytes items) was h))
+undecoded bytes items d ctx e r was h is = at_error (Understands bytes ctx ctx) r e is (undecoded_for bytes items ctx e (subst (Decodes bytes items) was h))
 
-misread_for : {K A T : Type 0} (X : Type 0) (bytes : List ℕ) (old new : ContextView K A T) (f : TextFault) → IsUtf8 bytes → IsSameTree old new → Understands {X = X} bytes old new (Err (of_text_fault f))
-misread_for X bytes old new text.Memory utf8 same = same
-misread_for X bytes old new text.CounterFull utf8 same = same
-misread_for X bytes old new (text.Syntax l k) utf8 same = (utf8, same)
-misread_for X bytes old new (text.TooDeep l k) utf8 same = (utf8, same)
-misread_for X bytes old new (text.Scope l k c) utf8 same = (utf8, same)
+misread_for : (bytes : List ℕ) (old new : KitContext) (f : TextFault) → IsUtf8 bytes → IsRefusal kit_language (chars bytes) f
+    → (f ≡ text.CounterFull → Overfills old.counter bytes) → IsSameTree old new → Understands bytes old new (Err (of_text_fault f))
+misread_for bytes old new text.Memory utf8 refused full same = same
+misread_for bytes old new text.CounterFull utf8 refused full same = (full refl, same)
+misread_for bytes old new (text.Syntax l k) utf8 refused full same = ((utf8, refused), same)
+misread_for bytes old new (text.TooDeep l k) utf8 refused full same = ((utf8, refused), same)
+misread_for bytes old new (text.Scope l k c) utf8 refused full same = ((utf8, refused), same)
+
+overfilled : (bytes cs : List ℕ) (counter : ℕ) → IsUtf8 bytes → cs ≡ chars bytes → (n : ℕ) × HasDefinitions kit_language cs n × (2 ^ 64 ≤ counter + n) → Overfills counter bytes
+overfilled bytes cs counter utf8 spelt (n, defines, over) = (utf8, n, subst (λ xs. HasDefinitions kit_language xs n) spelt defines, over)
 
 -- a text that isn't read
-pub misread : {K A T X : Type 0} (bytes : List ℕ) (old new : ContextView K A T) (f : TextFault) (r : Result X Refusal)
-    → IsErrAnd r (λ x. x ≡ of_text_fault f) → IsUtf8 bytes → IsSameTree old new → Understands bytes old new r
-misread {X = X} bytes old new f r is utf8 same = at_error (Understands bytes old new) r (of_text_fault f) is (misread_for X bytes old new f utf8 same)
+pub misread : {X : Type 0} (bytes cs : List ℕ) (old new : KitContext) (parsed : Result X TextFault) (f : TextFault) (r : Result (Ptr Operation) Refusal)
+    → parsed ≡ Err f → IsErrAnd r (λ x. x ≡ of_text_fault f) → IsUtf8 bytes → cs ≡ chars bytes → IfErr parsed (IsRefusal kit_language cs)
+    → (parsed ≡ Err text.CounterFull → (n : ℕ) × HasDefinitions kit_language cs n × (2 ^ 64 ≤ old.counter + n)) → OnErr parsed (IsSameTree old new) → Understands bytes old new r
+misread bytes cs old new parsed f r was is utf8 spelt refused full same = at_error (Understands bytes old new) r (of_text_fault f) is
+    (misread_for bytes old new f utf8 (subst (λ xs. IsRefusal kit_language xs f) spelt (subst (λ p. IfErr p (IsRefusal kit_language cs)) was refused))
+    (λ e. overfilled bytes cs old.counter utf8 spelt (full (was ∙ ap Err e)))
+    (subst (λ p. OnErr p (IsSameTree old new)) was same))
 
-misruled_for : {K A T : Type 0} (X : Type 0) (bytes : List ℕ) (old new : ContextView K A T) (f : RuleFault) → IsUtf8 bytes → IsSameTree old new → Understands {X = X} bytes old new (Err (of_rule_fault f))
-misruled_for X bytes old new rule.Memory utf8 same = same
-misruled_for X bytes old new (rule.Broken n p) utf8 same = (utf8, same)
+misruled_for : (bytes : List ℕ) (old new : KitContext) (f : RuleFault) (tree : Entity ℕ) → SaysTree bytes tree → IsAnswer tree (Err f) → IsSameTree old new → Understands bytes old new (Err (of_rule_fault f))
+misruled_for bytes old new rule.Memory tree said answer same = same
+misruled_for bytes old new (rule.Broken n p) tree said answer same = ((tree, said, answer), same)
 
 -- a module that isn't accepted
-pub misruled : {K A T X : Type 0} (bytes : List ℕ) (old new : ContextView K A T) (f : RuleFault) (r : Result X Refusal)
-    → r ≡ Err (of_rule_fault f) → IsUtf8 bytes → IsSameTree old new → Understands bytes old new r
-misruled {X = X} bytes old new f r is utf8 same = subst (Understands bytes old new) (sym is) (misruled_for X bytes old new f utf8 same)
+pub misruled : (bytes cs : List ℕ) (old new read : KitContext) (root : Ptr Operation) (f : RuleFault) (r : Result (Ptr Operation) Refusal)
+    → r ≡ Err (of_rule_fault f) → IsUtf8 bytes → cs ≡ chars bytes → IsRead says kit_language cs read root → IsExact read root (Err f) → IsSameTree old new → Understands bytes old new r
+misruled bytes cs old new read root f r is utf8 spelt (tree, values, said, distinct, stands) exact same = subst (Understands bytes old new) (sym is)
+    (misruled_for bytes old new f tree (utf8, subst (λ xs. Says kit_language xs tree) spelt said) (exact values distinct tree stands) same)
+
+-- a module that is accepted
+pub accepted : (bytes cs : List ℕ) (old new : KitContext) (root : Ptr Operation) (u : Unit {0}) → IsUtf8 bytes → cs ≡ chars bytes → IsRead says kit_language cs new root
+    → IsExact new root (Ok u) → parent_block_of new root ≡ None → KeepsBelow (mark_of old) old new → Loads bytes old new root
+accepted bytes cs old new root u utf8 spelt (tree, values, said, distinct, stands) exact apart kept = record {
+  tree = tree;
+  values = values;
+  accepted = ((utf8, subst (λ xs. Says kit_language xs tree) spelt said), exact values distinct tree stands);
+  distinct = distinct;
+  stands = stands;
+  apart = apart;
+  kept = kept;
+}
 
 module _ {R : Type 0} (remaining : R → Option (List ℕ)) (old new : Watched R) where
-  unread_for : {K A T V : Type 0} (X : Type 0) (items : V → List ℕ) (ctx : ContextView K A T) (e : Refusal) → EndsReading remaining old new {V = V} (2 ^ 40) items (Err e) → EndsLoad remaining old new {X = X} ctx ctx (Err e)
-  unread_for X items ctx (NotUtf8 b) h = absurd h
-  unread_for X items ctx (Syntax l k) h = absurd h
-  unread_for X items ctx (TooDeep l k) h = absurd h
-  unread_for X items ctx (Scope l k c) h = absurd h
-  unread_for X items ctx (Rule n p) h = absurd h
-  unread_for X items ctx Memory h = (h, same_itself ctx)
-  unread_for X items ctx CounterFull h = absurd h
-  unread_for X items ctx Read h = (h, same_itself ctx)
-  unread_for X items ctx (Write b) h = absurd h
+  unread_for : {V : Type 0} (items : V → List ℕ) (ctx : KitContext) (e : Refusal) → EndsReading remaining old new {V = V} (2 ^ 40) items (Err e) → EndsLoad remaining old new ctx ctx (Err e)
+  unread_for items ctx (NotUtf8 b) h = absurd h
+  unread_for items ctx (Syntax l k) h = absurd h
+  unread_for items ctx (TooDeep l k) h = absurd h
+  unread_for items ctx (Scope l k c) h = absurd h
+  unread_for items ctx (Rule n p) h = absurd h
+  unread_for items ctx Memory h = (h, same_itself ctx)
+  unread_for items ctx CounterFull h = absurd h
+  unread_for items ctx Read h = (h, same_itself ctx)
+  unread_for items ctx (Write b) h = absurd h
 
   -- an input that isn't read to its end isn't loaded
-  pub unread : {K A T V X : Type 0} (items : V → List ℕ) (read : Result V Refusal) (ctx : ContextView K A T) (e : Refusal) (r : Result X Refusal)
+  pub unread : {V : Type 0} (items : V → List ℕ) (read : Result V Refusal) (ctx : KitContext) (e : Refusal) (r : Result (Ptr Operation) Refusal)
       → read ≡ Err e → EndsReading remaining old new (2 ^ 40) items read → IsErrAnd r (λ x. x ≡ e) → EndsLoad remaining old new ctx ctx r
-  unread {X = X} items read ctx e r was h is = at_error (EndsLoad remaining old new ctx ctx) r e is (unread_for X items ctx e (subst (EndsReading remaining old new (2 ^ 40) items) was h))
+  unread items read ctx e r was h is = at_error (EndsLoad remaining old new ctx ctx) r e is (unread_for items ctx e (subst (EndsReading remaining old new (2 ^ 40) items) was h))
 
   -- what is made of all bytes that the reader gave
-  pub loaded : {K A T X : Type 0} (bytes : List ℕ) (ctx new_ctx : ContextView K A T) (r : Result X Refusal) → GaveAll remaining old new bytes → Understands bytes ctx new_ctx r → EndsLoad remaining old new ctx new_ctx r
-  loaded bytes ctx new_ctx (Ok root) gave h = (bytes, gave, h.0, h.1)
+  pub loaded : (bytes : List ℕ) (ctx new_ctx : KitContext) (r : Result (Ptr Operation) Refusal) → GaveAll remaining old new bytes → Understands bytes ctx new_ctx r → EndsLoad remaining old new ctx new_ctx r
+  loaded bytes ctx new_ctx (Ok root) gave h = (bytes, gave, h)
   loaded bytes ctx new_ctx (Err (NotUtf8 b)) gave h = ((bytes, gave, h.0), h.1)
   loaded bytes ctx new_ctx (Err (Syntax l k)) gave h = ((bytes, gave, h.0), h.1)
   loaded bytes ctx new_ctx (Err (TooDeep l k)) gave h = ((bytes, gave, h.0), h.1)
   loaded bytes ctx new_ctx (Err (Scope l k c)) gave h = ((bytes, gave, h.0), h.1)
   loaded bytes ctx new_ctx (Err (Rule n p)) gave h = ((bytes, gave, h.0), h.1)
   loaded bytes ctx new_ctx (Err Memory) gave h = (gave.2, h)
-  loaded bytes ctx new_ctx (Err CounterFull) gave h = (gave.2, h)
+  loaded bytes ctx new_ctx (Err CounterFull) gave h = ((bytes, gave, h.0), h.1)
   loaded bytes ctx new_ctx (Err Read) gave h = absurd h.0
   loaded bytes ctx new_ctx (Err (Write b)) gave h = absurd h.0
 
+  -- a load into a context of counter 0 that is refused
+  pub unloaded : (ctx new_ctx : KitContext) (r : Result (Ptr Operation) Refusal) (e : Refusal) → r ≡ Err e → EndsLoad remaining old new ctx new_ctx r → ctx.counter ≡ 0 → Refuses remaining old new 0 e
+  unloaded ctx new_ctx r e was ends fresh = subst (λ k. Refuses remaining old new k e) fresh (subst (EndsLoad remaining old new ctx new_ctx) was ends).0
+
+  -- no text is made then
+  pub untexted : {V : Type 0} (text_of : V → List ℕ) (e : Refusal) (r : Result V Refusal) → IsErrAnd r (λ x. x ≡ e) → Refuses remaining old new 0 e → GivesText remaining old new text_of r
+  untexted text_of e r is refused = at_error (GivesText remaining old new text_of) r e is refused
+
 module _ {R W : Type 0} (remaining : R → Option (List ℕ)) (contents : W → Option (List ℕ)) (input new_input : Watched R) (output new_output : Watched W) where
-  unwritten_for : (X : Type 0) (gives : List ℕ → List ℕ → Type 0) (e : Refusal) → Refuses remaining input new_input e → new_output ≡ output → EndsCall remaining contents input new_input output new_output {X = X} gives (Err e)
+  unwritten_for : (X : Type 0) (gives : List ℕ → List ℕ → Type 0) (e : Refusal) → Refuses remaining input new_input 0 e → new_output ≡ output → EndsCall remaining contents input new_input output new_output {X = X} gives (Err e)
   unwritten_for X gives (NotUtf8 b) h same = (h, same)
   unwritten_for X gives (Syntax l k) h same = (h, same)
   unwritten_for X gives (TooDeep l k) h same = (h, same)
@@ -99,7 +137,7 @@ module _ {R W : Type 0} (remaining : R → Option (List ℕ)) (contents : W → 
   unwritten_for X gives (Write b) h same = absurd h
 
   -- nothing is written where the input is refused
-  pub unwritten : {X : Type 0} (gives : List ℕ → List ℕ → Type 0) (e : Refusal) (r : Result X Refusal) → IsErrAnd r (λ x. x ≡ e) → Refuses remaining input new_input e → new_output ≡ output
+  pub unwritten : {X : Type 0} (gives : List ℕ → List ℕ → Type 0) (e : Refusal) (r : Result X Refusal) → IsErrAnd r (λ x. x ≡ e) → Refuses remaining input new_input 0 e → new_output ≡ output
       → EndsCall remaining contents input new_input output new_output gives r
   unwritten {X = X} gives e r is h same = at_error (EndsCall remaining contents input new_input output new_output gives) r e is (unwritten_for X gives e h same)
 

@@ -1,4 +1,5 @@
 pub mod Streams
+pub mod Texts
 pub mod Refusals
 pub mod Outcomes
 pub mod CommandLine

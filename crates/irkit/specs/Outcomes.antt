@@ -1,13 +1,32 @@
 -- How reading, loading and writing end, each by cases on the whole answer.
 use Rattle.std.specs.Prelude.{◌≡◌, ℕ, ◌^◌, ◌≤◌, ◌<◌, ◌⊎◌, ◌++◌, ◌∷◌, [], true, false, List, Option, Result, Ok, Err, length, take}
-use Rattle.std.specs.Prelude.{IsUtf8, encode_utf8_all}
-use Rattle.ir_store.specs.Views.{ContextView}
+use Rattle.std.specs.Prelude.{None, IsUtf8, chars}
+use Rattle.ir_store.specs.declared.pointer.Ptr.{Ptr}
+use Rattle.ir_store.specs.declared.pointer.Operation.{Operation}
+use Rattle.ir_store.specs.declared.value.Value.{Value}
+use Rattle.ir_store.specs.Context.{parent_block_of}
 use Rattle.ir_store.specs.Marks.{IsSameTree, KeepsBelow, mark_of}
+use Rattle.ir_print.specs.Pieces.{Entity}
+use Rattle.ir_print.specs.Standing.{StandsOperation, Named, AreDistinct}
+use Rattle.kit_dialect.specs.Shapes.{KitContext}
+use Rattle.kit_dialect.specs.Says.{says}
 use Rattle.irkit.specs.declared.watched.Watched.{Watched}
 use Rattle.irkit.specs.declared.refusal.Refusal.{Refusal}
 use Rattle.irkit.specs.declared.refusal.Refusal.TheVariants.{NotUtf8, Memory, CounterFull, Read, Write}
 use Rattle.irkit.specs.Streams.{has_failed, Gave, HasEnded, Took}
+use Rattle.irkit.specs.Texts.{IsAccepted, IsAcceptedAs, Overfills}
 use Rattle.irkit.specs.Refusals.{Deserves}
+
+-- The bytes are accepted as a tree, which this operation of the new context stands for, in no block. All that the old context held stands as it stood.
+pub record Loads (bytes : List ℕ) (ctx new_ctx : KitContext) (root : Ptr Operation) : Type 0 where
+  pub tree : Entity ℕ
+  -- the values of the tree's definitions, by number
+  pub values : List Value
+  pub accepted : IsAcceptedAs bytes tree
+  pub distinct : AreDistinct values
+  pub stands : StandsOperation says (Named values) new_ctx root tree
+  pub apart : parent_block_of new_ctx root ≡ None
+  pub kept : KeepsBelow (mark_of ctx) ctx new_ctx
 
 module _ {R : Type 0} (remaining : R → Option (List ℕ)) (old new : Watched R) where
   -- A call failed, or as many calls as are allowed each gave a byte at least.
@@ -25,31 +44,32 @@ module _ {R : Type 0} (remaining : R → Option (List ℕ)) (old new : Watched R
   EndsReading turns items (Err Memory) = has_failed new ≡ false
   EndsReading turns items (Err _) = ⊥
 
-  -- Why a load may be refused: the reading failed, memory or a counter was refused, or all bytes that were given deserve it.
-  abbrev pub Refuses : Refusal → Type 0
-  Refuses Read = FailsReading (2 ^ 40)
-  Refuses Memory = has_failed new ≡ false
-  Refuses CounterFull = has_failed new ≡ false
-  Refuses (Write b) = ⊥
-  Refuses fault = (bytes : List ℕ) × GaveAll bytes × Deserves bytes fault
+  -- Why a load into a context, whose counter stands here, is refused: the reading failed, memory was refused, or all bytes that were given
+  -- deserve it or overfill the counter.
+  abbrev pub Refuses : ℕ → Refusal → Type 0
+  Refuses counter Read = FailsReading (2 ^ 40)
+  Refuses counter Memory = has_failed new ≡ false
+  Refuses counter CounterFull = (bytes : List ℕ) × GaveAll bytes × Overfills counter bytes
+  Refuses counter (Write b) = ⊥
+  Refuses counter fault = (bytes : List ℕ) × GaveAll bytes × Deserves bytes fault
 
-  -- A load: all that the reader gave is UTF-8, and the context keeps what it held; a refusal leaves what it holds as it was.
-  abbrev pub EndsLoad : {K A T X : Type 0} → ContextView K A T → ContextView K A T → Result X Refusal → Type 0
-  EndsLoad ctx new_ctx (Ok root) = (bytes : List ℕ) × GaveAll bytes × IsUtf8 bytes × KeepsBelow (mark_of ctx) ctx new_ctx
-  EndsLoad ctx new_ctx (Err refusal) = Refuses refusal × IsSameTree ctx new_ctx
+  -- A load: all that the reader gave is accepted, and the root is what it says; a refusal leaves what the context holds as it was.
+  abbrev pub EndsLoad : KitContext → KitContext → Result (Ptr Operation) Refusal → Type 0
+  EndsLoad ctx new_ctx (Ok root) = (bytes : List ℕ) × GaveAll bytes × Loads bytes ctx new_ctx root
+  EndsLoad ctx new_ctx (Err refusal) = Refuses ctx.counter refusal × IsSameTree ctx new_ctx
 
 -- The characters of these bytes, or the first byte that is no part of valid UTF-8.
 abbrev pub Decodes : List ℕ → {V : Type 0} → (V → List ℕ) → Result V Refusal → Type 0
-Decodes bytes items (Ok v) = IsUtf8 bytes × (encode_utf8_all (items v) ≡ bytes)
+Decodes bytes items (Ok v) = IsUtf8 bytes × (items v ≡ chars bytes)
 Decodes bytes items (Err (NotUtf8 b)) = Deserves bytes (NotUtf8 b)
 Decodes bytes items (Err Memory) = Unit {0}
 Decodes bytes items (Err _) = ⊥
 
--- From bytes to a module of the context: a refusal that the bytes deserve, or of memory or a counter, leaves what the context holds as it was.
-abbrev pub Understands : {K A T X : Type 0} → List ℕ → ContextView K A T → ContextView K A T → Result X Refusal → Type 0
-Understands bytes ctx new_ctx (Ok root) = IsUtf8 bytes × KeepsBelow (mark_of ctx) ctx new_ctx
+-- From bytes to a module of the context: a refusal that the bytes deserve, or of memory or a counter that they overfill, leaves what the context holds as it was.
+abbrev pub Understands : List ℕ → KitContext → KitContext → Result (Ptr Operation) Refusal → Type 0
+Understands bytes ctx new_ctx (Ok root) = Loads bytes ctx new_ctx root
 Understands bytes ctx new_ctx (Err Memory) = IsSameTree ctx new_ctx
-Understands bytes ctx new_ctx (Err CounterFull) = IsSameTree ctx new_ctx
+Understands bytes ctx new_ctx (Err CounterFull) = Overfills ctx.counter bytes × IsSameTree ctx new_ctx
 Understands bytes ctx new_ctx (Err fault) = Deserves bytes fault × IsSameTree ctx new_ctx
 
 module _ {W : Type 0} (contents : W → Option (List ℕ)) (old new : Watched W) (text : List ℕ) where
@@ -71,30 +91,31 @@ module _ {W : Type 0} (contents : W → Option (List ℕ)) (old new : Watched W)
 abbrev pub IsLine : List ℕ → Type 0
 IsLine text = (front : List ℕ) × (text ≡ front ++ 10 ∷ [])
 
--- What `run` writes for these bytes: a text that ends in a line end, where they are UTF-8.
+-- What `run` writes for these bytes: a text that ends in a line end, where they are accepted.
 abbrev pub RunGives : List ℕ → List ℕ → Type 0
-RunGives bytes text = IsUtf8 bytes × IsLine text
+RunGives bytes text = IsAccepted bytes × IsLine text
 
 -- the line `ok`
 abbrev pub ok_line : List ℕ
 ok_line = 111 ∷ 107 ∷ 10 ∷ []
 
--- What `check` writes for these bytes: the line `ok`, where they are UTF-8.
+-- What `check` writes for these bytes: the line `ok`, where they are accepted.
 abbrev pub CheckGives : List ℕ → List ℕ → Type 0
-CheckGives bytes text = IsUtf8 bytes × (text ≡ ok_line)
+CheckGives bytes text = IsAccepted bytes × (text ≡ ok_line)
 
 module _ {R : Type 0} (remaining : R → Option (List ℕ)) (old new : Watched R) where
-  -- From all that the reader gave a text was made, as `run` writes it, or it was refused.
+  -- From all that the reader gave a text was made, as `run` writes it, or it was refused as a load into a new context is.
   abbrev pub GivesText : {V : Type 0} → (V → List ℕ) → Result V Refusal → Type 0
   GivesText text_of (Ok text) = (bytes : List ℕ) × GaveAll remaining old new bytes × RunGives bytes (text_of text)
-  GivesText text_of (Err refusal) = Refuses remaining old new refusal
+  GivesText text_of (Err refusal) = Refuses remaining old new 0 refusal
 
 module _ {R W : Type 0} (remaining : R → Option (List ℕ)) (contents : W → Option (List ℕ)) (input new_input : Watched R) (output new_output : Watched W) where
-  -- A call that reads all bytes and writes the one text that it gives for them: at a failed write exactly the first bytes of it, at any other refusal nothing.
+  -- A call that reads all bytes into a new context and writes the one text that it gives for them: at a failed write exactly the first bytes of it, at any
+  -- other refusal, as of a load, nothing.
   abbrev pub EndsCall : {X : Type 0} → (List ℕ → List ℕ → Type 0) → Result X Refusal → Type 0
   EndsCall gives (Ok _) = (bytes text : List ℕ) × GaveAll remaining input new_input bytes × gives bytes text × TookAll contents output new_output text
   EndsCall gives (Err (Write b)) = (bytes text : List ℕ) × GaveAll remaining input new_input bytes × gives bytes text × TookFirst contents output new_output text b
-  EndsCall gives (Err refusal) = Refuses remaining input new_input refusal × (new_output ≡ output)
+  EndsCall gives (Err refusal) = Refuses remaining input new_input 0 refusal × (new_output ≡ output)
 
   -- how `run` ends
   abbrev pub EndsRun : {X : Type 0} → Result X Refusal → Type 0

@@ -7,6 +7,7 @@ use Rattle.kit_dialect.specs.declared.module_rules.RuleFault.{RuleFault}
 use Rattle.kit_dialect.specs.declared.module_rules.RuleFault.TheVariants as rule
 use Rattle.irkit.specs.declared.refusal.Refusal.{Refusal}
 use Rattle.irkit.specs.declared.refusal.Refusal.TheVariants.{NotUtf8, Syntax, TooDeep, Scope, Rule, Memory, CounterFull, Read, Write}
+use Rattle.irkit.specs.Texts.{HasFault, BreaksRule}
 
 -- the number of a refusal, from 1
 abbrev pub number_of : Refusal → ℕ
@@ -20,13 +21,13 @@ number_of CounterFull = 7
 number_of Read = 8
 number_of (Write _) = 9
 
--- The whole input may be refused so: it is no UTF-8 from that byte on, or it is UTF-8 with a fault (of the places, causes and rules nothing is said here).
+-- The whole input is refused so: it is no UTF-8 from that byte on, or this is the first fault of its characters, or they say a tree that breaks this rule.
 abbrev pub Deserves : List ℕ → Refusal → Type 0
 Deserves bytes (NotUtf8 b) = (b ≡ utf8_valid_len bytes) × (IsUtf8 bytes → ⊥)
-Deserves bytes (Syntax line column) = IsUtf8 bytes
-Deserves bytes (TooDeep line column) = IsUtf8 bytes
-Deserves bytes (Scope line column cause) = IsUtf8 bytes
-Deserves bytes (Rule number place) = IsUtf8 bytes
+Deserves bytes (Syntax line column) = HasFault bytes (text.Syntax line column)
+Deserves bytes (TooDeep line column) = HasFault bytes (text.TooDeep line column)
+Deserves bytes (Scope line column cause) = HasFault bytes (text.Scope line column cause)
+Deserves bytes (Rule number place) = BreaksRule bytes number place.children.items
 Deserves bytes Memory = ⊥
 Deserves bytes CounterFull = ⊥
 Deserves bytes Read = ⊥

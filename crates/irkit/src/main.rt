@@ -4,6 +4,7 @@
 mod checking;
 mod command;
 mod driving;
+mod laws;
 mod loading;
 mod reading;
 mod refusal;

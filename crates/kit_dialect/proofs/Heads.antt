@@ -17,7 +17,7 @@ use Rattle.ir_store.specs.Views.{OperationView, RegionView, BlockView}
 use Rattle.ir_store.specs.Context.{results_of, operands_of, attributes_of, kind_of, blocks_of, arguments_of, operations_of}
 use Rattle.ir_print.specs.Pieces.{ValueTree, Pieces, operation, a_region, block, Entity, entity, Entities, no_entity, an_entity}
 use Rattle.ir_print.specs.Shown.{Said, said_type, said_attribute, said_region, said_name, said_operands, leaf, ShowsAll, Pairs}
-use Rattle.ir_print.specs.Standing.{StandsResult, StandsArgument, StandsRegion, StandsBlock, StandsRegions, StandsBlocks, StandsOperations}
+use Rattle.ir_print.specs.Standing.{StandsResult, StandsArgument, StandsRegion, StandsBlock, StandsRegions, StandsBlocks, StandsOperations, Named}
 use Rattle.kit_dialect.specs.declared.kinds.KitOp.{KitOp}
 use Rattle.kit_dialect.specs.declared.kinds.KitOp.TheVariants.{Module, Func, Constant, Return}
 use Rattle.kit_dialect.specs.declared.kinds.IntegerType.{IntegerType}
@@ -29,7 +29,7 @@ use Rattle.kit_dialect.specs.Shapes as at
 use Rattle.kit_dialect.specs.Shapes.{KitContext, number_of}
 use Rattle.kit_dialect.specs.Rules as rules
 use Rattle.kit_dialect.specs.Rules.{Operation, FunctionTree, every, every_pair, integer_type, listed_types, count, each, of_blocks, of_block, of_first}
-use Rattle.kit_dialect.specs.Walks.{Named, IsOwner}
+use Rattle.kit_dialect.specs.Walks.{IsOwner}
 use Rattle.kit_dialect.proofs.Shown.{name_shown, integer_shown, listed_pairs, function_shown, SameFunction, constant_shown}
 
 -- ---- what kinds say

@@ -10,14 +10,14 @@ use Rattle.ir_store.specs.declared.value.Value.{Value}
 use Rattle.ir_store.specs.Views.{OperationView, RegionView, BlockView}
 use Rattle.ir_store.specs.Context.{kind_of, regions_of, blocks_of, operations_of, results_of, arguments_of, result_value, argument_value}
 use Rattle.ir_print.specs.Pieces.{ValueTree, operation, a_region, block, Entity, entity, Entities, no_entity, an_entity}
-use Rattle.ir_print.specs.Standing.{StandsResult, StandsArgument, StandsOperation, StandsRegions, StandsBlocks, StandsOperations}
+use Rattle.ir_print.specs.Standing.{StandsResult, StandsArgument, StandsOperation, StandsRegions, StandsBlocks, StandsOperations, Named, AreDistinct}
 use Rattle.kit_dialect.specs.declared.kinds.KitOp.{KitOp}
 use Rattle.kit_dialect.specs.declared.attributes.KitAttr.{KitAttr}
 use Rattle.kit_dialect.specs.Says.{says}
 use Rattle.kit_dialect.specs.Shapes as at
 use Rattle.kit_dialect.specs.Shapes.{KitContext, integer_at}
 use Rattle.kit_dialect.specs.Rules.{Operation, Standing, Site, sites_of, sites_in_regions, sites_in_region, sites_in_blocks, sites_in_block, values_of, own_tests, integer_type, lookup, define, is_taken, put_first, is_none, sites_in_operations, names_after, define_results, is_symbol, symbol_of}
-use Rattle.kit_dialect.specs.Walks.{Found, Table, Named, IsOwner, AreDistinct, IsTable, note, noted, least, least_standing, root_rule, VisitsOperation, VisitsRegion, VisitsBlock, LeftRegions, LeftBlocks, LeftOperations, Names, AreNames, with_name, same_pointer, same_definer, same_value, defined, symbol_in, standing_rule}
+use Rattle.kit_dialect.specs.Walks.{Found, Table, IsOwner, IsTable, note, noted, least, least_standing, root_rule, VisitsOperation, VisitsRegion, VisitsBlock, LeftRegions, LeftBlocks, LeftOperations, Names, AreNames, with_name, same_pointer, same_definer, same_value, defined, symbol_in, standing_rule}
 use Rattle.std.proofs.lemmas.Bool.Decides.{nat_tests}
 use Rattle.std.proofs.lemmas.Option.{same_Some, slice_get_within}
 use Rattle.std.specs.Str.{bytes_eq}

@@ -9,7 +9,7 @@ use Rattle.ir_store.specs.declared.value.Definition.{Definition}
 use Rattle.ir_store.specs.Context.{results_of, operands_of, regions_of, kind_of}
 use Rattle.ir_print.specs.Pieces.{ValueTree}
 use Rattle.ir_print.specs.Shown.{Pairs}
-use Rattle.ir_print.specs.Standing.{StandsResult, StandsRegions}
+use Rattle.ir_print.specs.Standing.{StandsResult, StandsRegions, Named}
 use Rattle.kit_dialect.specs.declared.kinds.KitOp.{KitOp}
 use Rattle.kit_dialect.specs.declared.kinds.KitOp.TheVariants.{Module, Func, Constant, Return}
 use Rattle.kit_dialect.specs.declared.kinds.FunctionType.{FunctionType}
@@ -19,7 +19,7 @@ use Rattle.kit_dialect.specs.Shapes.{KitContext, number_of}
 use Rattle.kit_dialect.specs.Rules as rules
 use Rattle.kit_dialect.specs.Rules.{Operation, Standing, FunctionTree, every, every_pair, integer_type, count, own_tests, standing_tests, lookup, visible}
 use Rattle.kit_dialect.specs.Walks as walks
-use Rattle.kit_dialect.specs.Walks.{Named, IsOwner, least, Table, Names, IsTable, AreNames}
+use Rattle.kit_dialect.specs.Walks.{IsOwner, least, Table, Names, IsTable, AreNames}
 use Rattle.kit_dialect.proofs.Shown.{listed_every, listed_pairs, SameFunction}
 use Rattle.kit_dialect.proofs.Heads as heads
 

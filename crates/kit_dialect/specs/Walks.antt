@@ -1,5 +1,5 @@
 -- What a walk over the operations of a tree has found.
-use Rattle.std.specs.Prelude.{◌≡◌, ℕ, nat_lt, nat_eq, ◌==◌, ◌&&◌, ◌||◌, not, Bool, true, false, cond, if◌then◌else◌, List, [], ◌∷◌, drop, length, Option, Some, None, Result, Ok, Err, slice_get, option_map, bytes_eq}
+use Rattle.std.specs.Prelude.{◌≡◌, ℕ, nat_lt, nat_eq, ◌==◌, ◌&&◌, ◌||◌, not, Bool, true, false, cond, if◌then◌else◌, List, [], ◌∷◌, drop, length, Option, Some, None, Result, Ok, Err, option_map, bytes_eq}
 use Rattle.std.specs.Borrow.{Bor}
 use Rattle.std.specs.Option.{option_map_or, is_some}
 use Rattle.std.specs.HashMap as hash
@@ -18,7 +18,7 @@ use Rattle.ir_store.specs.declared.value.DefiningEntity.TheVariants.{Op, Block}
 use Rattle.ir_store.specs.Views.{OperationView}
 use Rattle.ir_store.specs.Context.{operation_at, operands_of, regions_of, blocks_of, operations_of}
 use Rattle.ir_print.specs.Pieces.{ValueTree, operation, Entity, entity, Entities}
-use Rattle.ir_print.specs.Standing.{StandsHead, StandsOperation, StandsRegion, StandsBlock, StandsRegions, StandsBlocks, StandsOperations}
+use Rattle.ir_print.specs.Standing.{StandsHead, StandsOperation, StandsRegion, StandsBlock, StandsRegions, StandsBlocks, StandsOperations, Named, AreDistinct}
 use Rattle.kit_dialect.specs.declared.kinds.KitOp.{KitOp}
 use Rattle.kit_dialect.specs.declared.kinds.IntegerType.{IntegerType}
 use Rattle.kit_dialect.specs.declared.attributes.KitAttr.{KitAttr}
@@ -126,14 +126,6 @@ standing_rule s outer owner kind p is_last is_taken earlier entry =
     else (if is_return kind && (is_function outer && not (returns_results s earlier entry owner p)) then 11 else 15)))))
 
 -- ---- what is visited
-
--- the definition with this number is the value
-abbrev pub Named : List Value → Value → ℕ → Type 0
-Named values v n = slice_get values n ≡ Some v
-
--- no value stands at two places
-abbrev pub AreDistinct : List Value → Type 0
-AreDistinct values = (v : Value) (i j : ℕ) → Named values v i → Named values v j → i ≡ j
 
 -- the operation of the context says this, beside its regions
 abbrev pub IsOwner : List Value → KitContext → Ptr store.Operation → Operation → Type 0

@@ -1,11 +1,12 @@
-use Rattle.std.proofs.Common.{◌≤◌, [], drop}
+use Rattle.std.proofs.Common.{◌≤◌, ◌≡◌, [], drop}
 use Rattle.std.specs.Prelude.{IsSomeAnd}
 use Rattle.ir_store.specs.Context.{IsLiveOperation}
-use Rattle.ir_store.specs.Marks.{KeepsBelow, KeepsLive}
+use Rattle.ir_store.specs.Marks.{KeepsBelow, KeepsLive, mark_of}
 use Rattle.ir_text.specs.Nesting.{at_root, Nests}
 use Rattle.ir_text.specs.Identifiers.{AreSpelt}
 use Rattle.ir_text.specs.Texts.{token_text}
 use Rattle.ir_text.proofs.Following.{Follows}
+use Rattle.ir_text.proofs.Gathering.{Gathers}
 use Rattle.ir_text.proofs.assembling.assemble.Given as goal
 
 abbrev pub invariant-loop-event : goal.invariant-loop-event
@@ -16,4 +17,6 @@ invariant-loop-event g l = record {
   follows : Nests at_root [] l.events → AreSpelt (token_text l.source.chars.now l.source.tokens.now) 0 l.events
       → Follows g.D.TextDialect.says g.D.TextDialect.values (token_text l.source.chars.now l.source.tokens.now) l.ctx.types l.assembler l.events (drop l.event-index l.events)
       (IsSomeAnd l.assembler.made.root (IsLiveOperation l.ctx));
+  gathers : Nests at_root [] l.events → AreSpelt (token_text l.source.chars.now l.source.tokens.now) 0 l.events → l.mark ≡ mark_of l.initial.ctx
+      → Gathers g.D.TextDialect.says g.D.TextDialect.values (token_text l.source.chars.now l.source.tokens.now) l.mark l.initial.ctx.counter l.ctx l.assembler l.events (drop l.event-index l.events);
 }

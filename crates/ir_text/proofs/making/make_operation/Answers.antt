@@ -1,4 +1,5 @@
 use Rattle.ir_store.proofs.Below.{keeps_live_both}
+use Rattle.ir_text.proofs.Filling.{fills_made}
 use Rattle.ir_text.proofs.making.make_operation.Goals as goal
 
 pub returns-in_err-fill-clause-live : goal.returns-in_err-fill-clause-live
@@ -9,3 +10,8 @@ returns-clause-made g c = c.fill.ensures.live.operations c.in_ok-op.op c.in_ok-o
 
 pub returns-clause-live : goal.returns-clause-live
 returns-clause-live g c = keeps_live_both _ _ _ c.new_operation.ensures.live c.fill.ensures.live
+
+pub returns-clause-fills : goal.returns-clause-fills
+returns-clause-fills g c can =
+    fills_made c.args.mark c.args.ctx.now c.new_operation.new.self c.fill.new.ctx c.args.kind c.args.draft.result_types.items c.args.draft.attributes c.args.regions.now c.in_ok-op.op
+    (rw c.deref.ensures.value at c.in_ok-op.ensures.made) (rw c.deref.ensures.value at c.in_ok-op.ensures.fresh) can c.in_ok-fill.ensures.fills

@@ -31,4 +31,5 @@ returns c =
           ∙ (ap (λ xs. slice_index xs s.token) first ∙ written apart.definitions j s at (omega (arith, c.deref_mut.ensures.len))));
       mentioned = λ apart i j m at has within.
           ap (λ xs. slice_index xs m.token) last ∙ noted apart i j m at has (omega (arith, ap (λ (xs : List ℕ). length xs) first));
+      many = ap (λ (xs : List ℕ). length xs) last ∙ (long ∙ size);
     }

@@ -5,8 +5,8 @@ use Rattle.ir_text.proofs.Lacking.{is_lacking}
 use Rattle.ir_text.proofs.Resolving.{merged, resolves}
 use Rattle.ir_text.proofs.scopes.resolve.Goals as goal
 
-pub returns-in-Some : goal.returns-in-Some
-returns-in-Some g c =
+pub returns-in-Some-clause-resolved : goal.returns-in-Some-clause-resolved
+returns-in-Some-clause-resolved g c =
     let isolated = isolated_at g.D.TextDialect.kind_at g.D.TextDialect.isolated in
     let names = c.args.names.now in
     let s = c.in_ok-sites.sites in
@@ -22,8 +22,8 @@ returns-in-Some g c =
     (is_lacking names s.definitions.items s.mentions.items values.numbers table lacking are s.closings.items ends (subst (λ xs. IsNamed (EndsAmong lacking xs) ends) c.deref-4.ensures.value c.lacking_fault-unresolved.ensures))
     c.first_of.ensures c.in-Some.ensures
 
-pub returns : goal.returns
-returns g c =
+pub returns-clause-resolved : goal.returns-clause-resolved
+returns-clause-resolved g c =
     let isolated = isolated_at g.D.TextDialect.kind_at g.D.TextDialect.isolated in
     let names = c.args.names.now in
     let s = c.in_ok-sites.sites in

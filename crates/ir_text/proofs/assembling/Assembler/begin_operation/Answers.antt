@@ -4,5 +4,5 @@ use Rattle.ir_text.proofs.assembling.Assembler.begin_operation.Goals as goal
 
 pub returns-clause-begun : goal.returns-clause-begun
 returns-clause-begun g c = on_ok_weaker c.begin.result
-    (λ h. (record { kind = c.args.kind; first_value = c.saturating_sub.result; operands = c.new.result; regions = c.new-2.result }, h, refl))
+    (λ h. (record { kind = c.args.kind; operands = c.new.result; regions = c.new-2.result }, h, refl, c.new.ensures.items, c.new-2.ensures.items))
     c.begin.ensures.begun

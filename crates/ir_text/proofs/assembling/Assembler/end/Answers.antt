@@ -1,4 +1,4 @@
-use Rattle.std.proofs.Common.{ap}
+use Rattle.std.proofs.Common.{[], ◌∷◌, ◌++◌, ap, sym, refl, ◌∙◌}
 use Rattle.ir_text.proofs.Holding.{ends_with, ends_refused, ends_root}
 use Rattle.ir_text.proofs.assembling.Assembler.end.Goals as goal
 
@@ -20,3 +20,13 @@ returns-clause-root g c text b s holds out =
     ends_root _ _ text _ c.args.self.now.here c.in-Some.outer c.replace-ended.result c.replace-ended.new.dest c.args.self.now.around.items c.pop.new.self.items
     c.in-Some.ensures.items c.replace-ended.ensures.value c.replace-ended.ensures.after s.here b.here
     b.around s.around holds out c.end_in.ensures.root
+
+pub returns-clause-raised : goal.returns-clause-raised
+returns-clause-raised g c text b s next counter tokens mentions holds made out may =
+    c.end_in.ensures.raised c.args.self.now text b s next counter tokens mentions (sym c.replace-ended.ensures.value)
+    (c.in-Some.ensures.items ∙ ap (λ x. c.pop.new.self.items ++ x ∷ []) (sym c.replace-ended.ensures.after)) refl holds made out may
+
+pub returns-clause-full : goal.returns-clause-full
+returns-clause-full g c text b s next counter tokens mentions holds made out wrong =
+    c.end_in.ensures.full c.args.self.now text b s next counter tokens mentions (sym c.replace-ended.ensures.value)
+    (c.in-Some.ensures.items ∙ ap (λ x. c.pop.new.self.items ++ x ∷ []) (sym c.replace-ended.ensures.after)) refl holds made out wrong

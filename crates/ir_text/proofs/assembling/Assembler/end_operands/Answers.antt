@@ -9,9 +9,8 @@ pub returns-clause-here : goal.returns-clause-here
 returns-clause-here g c o e = elim c.match-self.branch [
   | in-Operation+in_ok-extend_from_slice w ↦ on_ok_weaker c.put.result
       (λ h. (
-        record { kind = w.in-Operation.open.kind; first_value = w.in-Operation.open.first_value; operands = w.extend_from_slice.new.self; regions = w.in-Operation.open.regions },
+        record { kind = w.in-Operation.open.kind; operands = w.extend_from_slice.new.self; regions = w.in-Operation.open.regions },
         put_with_body _ _ _ _ _ _ _ (ap (λ s. s.here) w.self-is) (ap part.Operands (c.len.ensures ∙ c.args.tokens.ok.0)) h,
-        cc (e, w.in-Operation.is),
         cc (e, w.in-Operation.is),
         cc (e, w.in-Operation.is),
         cc (e, w.in-Operation.is, w.in_ok-extend_from_slice.ensures.items, w.deref.ensures.value),

@@ -1,6 +1,0 @@
-use Rattle.std.proofs.Common.{◌≡◌}
-use Rattle.ir_text.specs.Frames.{KeepsAround}
-use Rattle.ir_text.proofs.assembling.Assembler.define_arguments.Given as goal
-
-abbrev pub invariant-loop-index : goal.invariant-loop-index
-invariant-loop-index g l = (l.self.here ≡ l.fn.self.here) × KeepsAround l.fn.self l.self

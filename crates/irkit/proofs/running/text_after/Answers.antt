@@ -1,0 +1,9 @@
+use Rattle.std.proofs.Common.{ap, string_bytes}
+use Rattle.kit_dialect.specs.Shapes.{KitContext}
+use Rattle.irkit.proofs.Ends.{unloaded, untexted}
+use Rattle.irkit.proofs.running.text_after.Goals as goal
+
+pub returns-in_err-root : goal.returns-in_err-root
+returns-in_err-root g c =
+    untexted g.R.Read.remaining c.args.reader.now c.load.new.reader string_bytes c.in_err-root.field-0.0 c.from_residual.result c.from_residual.ensures.1
+    (unloaded g.R.Read.remaining c.args.reader.now c.load.new.reader c.new-ctx.result c.load.new.ctx c.load.result c.in_err-root.field-0.0 c.in_err-root.was c.load.ensures.ends (ap (λ (s : KitContext). s.counter) c.new-ctx.ensures))
