@@ -18,7 +18,7 @@ pub fn number_types(
     requires { first + length types.now < 2 ^ 64 }
     ensures { IfOk result (λ definitions. definitions.items ≡ numbered first types.now) }
 {
-    let mut definitions = Vec::new(alloc);
+    let mut definitions = Vec::with_capacity(alloc, types.len())?;
     let mut number = first;
     for ty in types {
         definitions.push(Definition { number, ty: *ty })?;
@@ -38,7 +38,7 @@ fn add_regions(
     ensures pointers { IfOk result (λ pointers. pointers.items ≡ pointers_from (length regions.old.items) count) }
     ensures kept { take (length regions.old.items) regions.new.items ≡ regions.old.items }
 {
-    let mut pointers = Vec::new(alloc);
+    let mut pointers = Vec::with_capacity(alloc, count)?;
     for _index in 0..count {
         let region = Ptr::at(regions.len());
         regions.push(RegionRecord::new(alloc, operation))?;

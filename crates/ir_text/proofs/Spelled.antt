@@ -2,7 +2,7 @@
 use Rattle.std.proofs.Common.{◌≡◌, ◌≢◌, ◌⊎◌, inl, inr, get_or, drop, append_assoc, ℕ, zero, suc, ◌+◌, ◌<◌, ◌≤◌, List, [], ◌∷◌, ◌++◌, Bool, true, false, not, ◌||◌, Bor, length, map, refl, sym, ap, ◌∙◌, arith, slice_get, Some, cond}
 use Rattle.std.specs.Prelude.{◌==◌, if◌then◌else◌}
 use Rattle.std.specs.Str.{bytes_eq, chars}
-use Rattle.std.specs.List.{position_or_len, list_any}
+use Rattle.std.specs.List.{position_or_len, list_any, AllByRecursion, IsDistinct}
 use Rattle.std.proofs.lemmas.Bool.{cases_lt, eq-eqb, eqb-true}
 use Rattle.std.proofs.lemmas.Slice.Eq.{bytes_eq-Decides}
 use Rattle.std.proofs.lemmas.List.{map-append, length-append, length-map, append-nil, drop_all}
@@ -135,6 +135,38 @@ numbered_more ws t u n h = more_by ws t u n (number_of ws u == length ws) h
 pub numbered_all : (ws us : List (List ℕ)) (t : List ℕ) (n : ℕ) → IsNumbered ws t n → IsNumbered (with_words ws us) t n
 numbered_all ws [] t n h = h
 numbered_all ws (u ∷ us) t n h = numbered_all (with_word ws u) us t n (numbered_more ws t u n h)
+
+-- a text that is among them is no new one
+pub known_already : (ws : List (List ℕ)) (t : List ℕ) → number_of ws t < length ws → ws ≡ with_word ws t
+known_already ws t lt = ap (λ (b : Bool). if b then ws ++ t ∷ [] else ws) (sym (differ (number_of ws t) (length ws) (λ e. omega arith)))
+
+apart : (a b : List ℕ) → bytes_eq b a ≡ false → bytes_eq a b ≡ false
+apart a b e = go (bytes_eq a b) refl
+  where
+    go : (x : Bool) → bytes_eq a b ≡ x → bytes_eq a b ≡ false
+    go true h = let same : b ≡ a = sym (same_text a b h) in let yes_so = (bytes_eq-Decides b a).1 same in cc
+    go false h = h
+
+-- what stands behind a text isn't equal to it
+later_apart : (k : Bor (List ℕ)) (ks : List (Bor (List ℕ))) (i : ℕ) (u : Bor (List ℕ)) → AllByRecursion (λ (y : Bor (List ℕ)). bytes_eq k.now y.now ≡ false) ks → slice_get ks i ≡ Some u → bytes_eq k.now u.now ≡ false
+later_apart k [] i u all e = cc
+later_apart k (y ∷ ys) zero u all e = let same : y ≡ u = cc in rw (← same) all.0
+later_apart k (y ∷ ys) (suc i) u all e = later_apart k ys i u all.1 e
+
+-- among different texts each has the number of its place
+pub number_here : (ks : List (Bor (List ℕ))) (i : ℕ) (u : Bor (List ℕ)) (t : List ℕ) → IsDistinct (λ (a b : Bor (List ℕ)). bytes_eq a.now b.now) ks → slice_get ks i ≡ Some u → bytes_eq t u.now ≡ true
+    → (i ≡ number_of (texts ks) t) × (i < length (texts ks))
+unfolding IsDistinct
+number_here [] i u t apart_all e same = cc
+number_here (k ∷ ks) zero u t apart_all e same =
+    let first : k ≡ u = cc in
+    let here : bytes_eq t k.now ≡ true = rw first same in
+    (ap (λ (b : Bool). if b then 0 else suc (number_of (texts ks) t)) (sym here), omega arith)
+number_here (k ∷ ks) (suc i) u t apart_all e same =
+    let rest = number_here ks i u t apart_all.1 e same in
+    let is : t ≡ u.now = same_text t u.now same in
+    let other : bytes_eq t k.now ≡ false = apart t k.now (rw is (later_apart k ks i u apart_all.0 e)) in
+    (ap suc rest.0 ∙ ap (λ (b : Bool). if b then 0 else suc (number_of (texts ks) t)) (sym other), omega (arith, rest.1))
 
 -- ---- tokens
 

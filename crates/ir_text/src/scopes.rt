@@ -117,7 +117,7 @@ fn table_of(alloc: Global, names: &[usize], sites: &[Site]) -> Result<Table, All
     ensures numbers { IfOk result (λ t. IsTable names.now sites.now t.numbers) }
     ensures again { IfOk result (λ t. IsNamed (IsAgain names.now sites.now) t.again) }
 {
-    let mut numbers: Numbers = HashMap::new(alloc);
+    let mut numbers: Numbers = HashMap::with_capacity(alloc, sites.len())?;
     let mut again = None;
     for (number, site) in sites.iter().enumerate() {
         let key = key_of(names, *site);

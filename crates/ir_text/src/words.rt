@@ -1,5 +1,5 @@
 //! The kind of each token, and which tokens are spelled alike.
-ghost use Rattle.std.specs.Prelude.{◌≡◌, OnOk, IfOk, length, map, ◌==◌};
+ghost use Rattle.std.specs.Prelude.{◌≡◌, ◌<◌, OnOk, IfOk, IfSome, length, map, ◌==◌};
 ghost use Rattle.std.specs.Str.{chars};
 ghost use Rattle.ir_text.specs.Rules.{texts, number_of, with_word};
 ghost use Rattle.ir_text.specs.Spelling.{known_texts};
@@ -141,16 +141,51 @@ fn name_of<'a>(
     Ok((name, is_new))
 }
 
+/// How many guesses there are.
+const GUESSES: usize = 256;
+
+/// The place of the guess at the number of a text. Texts that come often mostly have places of their own.
+fn guess_place(text: &[char]) -> usize
+    ensures { result < 256 }
+{
+    let length = text.len();
+    if length == 0 {
+        return 0;
+    }
+    let first = text[0] as usize;
+    let last = text[length - 1] as usize;
+    (3 * first + 5 * last + length % GUESSES) % GUESSES
+}
+
+/// The number of a text that is known, where the guess at a place is right.
+fn guessed(
+    known: &IndexSet<&[char]>,
+    guesses: &[usize],
+    place: usize,
+    text: &[char],
+) -> Option<usize>
+    ensures { IfSome result (λ name. (name ≡ number_of (texts known.now.keys) text.now) × (name < length (texts known.now.keys))) }
+{
+    let guess = *guesses.get(place)?;
+    if guess >= known.len() {
+        return None;
+    }
+    let found = *known.get_index(guess)?;
+    if text == found { Some(guess) } else { None }
+}
+
 /// Texts, each with a number, and the number of the word that each is.
 #[derive(Drop)]
 struct Spellings<'a> {
     known: IndexSet<&'a [char]>,
     words: Vec<usize>,
+    /// The number that was looked up last at each place of guesses.
+    guesses: Vec<usize>,
 }
 
 impl<'a> Spellings<'a> {
     /// The number of a text, which is a new one if it hasn't come before, and the number of the word that it is.
-    fn number(
+    fn look_up(
         &mut self,
         words: &[Vec<char>],
         text: &'a [char],
@@ -168,6 +203,37 @@ impl<'a> Spellings<'a> {
             return Ok((name, word));
         }
         Ok((name, self.words[name]))
+    }
+
+    /// Guesses the number at the place from now on.
+    fn note(&mut self, place: usize, name: usize)
+        ensures known { self.new.known ≡ self.old.known }
+        ensures words { self.new.words ≡ self.old.words }
+    {
+        if place < self.guesses.len() {
+            self.guesses[place] = name;
+        }
+    }
+
+    /// The number of a text and that of its word, as `look_up` gives them. Most texts that come often are guessed.
+    fn number(
+        &mut self,
+        words: &[Vec<char>],
+        text: &'a [char],
+    ) -> Result<(usize, usize), AllocError>
+        requires { self.old.words.items ≡ map (number_of (spellings words.now)) (known_texts self.old) }
+        ensures known { OnOk result (known_texts self.new ≡ with_word (known_texts self.old) text.now) }
+        ensures words { OnOk result (self.new.words.items ≡ map (number_of (spellings words.now)) (known_texts self.new)) }
+        ensures name { IfOk result (λ r. r.0 ≡ number_of (known_texts self.old) text.now) }
+        ensures word { IfOk result (λ r. r.1 ≡ number_of (spellings words.now) text.now) }
+    {
+        let place = guess_place(text);
+        if let Some(name) = guessed(&self.known, &self.guesses, place, text) {
+            return Ok((name, self.words[name]));
+        }
+        let (name, word) = self.look_up(words, text)?;
+        self.note(place, name);
+        Ok((name, word))
     }
 
     /// The kind of a token and the number of its text, which is `none` for one that is no word and no name.
@@ -205,9 +271,11 @@ pub fn classify(
     ensures names { IfOk result (λ c. AlikeInNumber chars.now tokens.now c.names.items) }
     ensures many { IfOk result (λ c. length c.names.items ≡ length tokens.now) }
 {
+    // Most texts have more than eight tokens for each name.
     let mut spellings = Spellings {
-        known: IndexSet::new(alloc),
+        known: IndexSet::with_capacity(alloc, tokens.len() / 8)?,
         words: Vec::new(alloc),
+        guesses: vec![in alloc; 0usize; GUESSES]?,
     };
     let mut kinds = Vec::with_capacity(alloc, tokens.len())?;
     let mut names = Vec::with_capacity(alloc, tokens.len())?;

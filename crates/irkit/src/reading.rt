@@ -1,11 +1,11 @@
 // Reading to the end, and from bytes to characters.
-ghost use Rattle.std.specs.Prelude.{◌≡◌, List, ℕ, MatchResult, IsErrAnd, false, encode_utf8_all};
+ghost use Rattle.std.specs.Prelude.{◌≡◌, List, ℕ, MatchResult, IfOk, IsErrAnd, false, encode_utf8_all};
 ghost use Rattle.irkit.specs.Streams.{has_failed};
 ghost use Rattle.irkit.specs.Outcomes.{EndsReading, Decodes};
 
 use crate::refusal::Refusal;
 use crate::watched::Watched;
-use std::alloc::Global;
+use std::alloc::{AllocError, Global};
 use std::io::Read;
 
 const CHUNK: usize = 65536;
@@ -31,12 +31,21 @@ pub fn read_to_end<R: Read>(
     Err(Refusal::Read)
 }
 
+/// The characters of a text, each of one byte or more.
+fn characters(alloc: Global, text: &str) -> Result<Vec<char>, AllocError>
+    ensures { IfOk result (λ v. encode_utf8_all v.items ≡ text.now) }
+{
+    let mut all = Vec::with_capacity(alloc, text.len())?;
+    all.extend(text.chars())?;
+    Ok(all)
+}
+
 /// The characters of these bytes.
 pub fn decode(alloc: Global, bytes: &[u8]) -> Result<Vec<char>, Refusal>
     ensures { Decodes bytes.now (λ v. v.items) result }
 {
     match std::str::from_utf8(bytes) {
-        Ok(text) => Ok(text.chars().collect(alloc)?),
+        Ok(text) => Ok(characters(alloc, text)?),
         Err(e) => Err(Refusal::NotUtf8(e.valid_up_to())),
     }
 }

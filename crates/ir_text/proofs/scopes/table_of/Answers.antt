@@ -8,7 +8,7 @@ use Rattle.ir_text.proofs.scopes.table_of.Goals as goal
 use Rattle.ir_text.proofs.scopes.table_of.Goals.{in-Some, in-None+in_ok-insert-in-None}
 
 pub loop-number-init : goal.loop-number-init
-loop-number-init c = record { numbers = table_empty c.args.names.now c.new-numbers.result c.new-numbers.ensures.empty; again = again_empty c.args.names.now }
+loop-number-init c = record { numbers = table_empty c.args.names.now c.in_ok-numbers.numbers c.in_ok-numbers.ensures.empty; again = again_empty c.args.names.now }
 
 pub loop-number-preserved : goal.loop-number-preserved
 loop-number-preserved c =

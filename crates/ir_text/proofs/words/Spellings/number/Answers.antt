@@ -1,16 +1,11 @@
-use Rattle.std.proofs.Common.{◌∙◌, sym, arith}
-use Rattle.ir_text.specs.Rules.{texts}
+use Rattle.std.proofs.Common.{◌<◌, length, arith}
+use Rattle.ir_text.specs.Rules.{texts, number_of}
 use Rattle.ir_text.specs.Words.{spellings}
-use Rattle.ir_text.proofs.Spelled.{below_of, word_at, length_numbers}
+use Rattle.ir_text.proofs.Spelled.{word_at}
 use Rattle.ir_text.proofs.words.Spellings.number.Goals as goal
 
-pub index-requires : goal.index-requires
-index-requires c =
+pub returns-in-Some-clause-word : goal.returns-in-Some-clause-word
+returns-in-Some-clause-word c =
     let known = texts c.args.self.now.known.keys in
-    let below = below_of known c.args.text.now (sym c.in_ok-name.ensures.is_new ∙ c.if-is_new.false) in
-    omega (arith, below, c.in_ok-name.ensures.number, length_numbers (spellings c.args.words.now) known _ c.requires, c.args.self.now.words.ok.0)
-
-pub returns-clause-word : goal.returns-clause-word
-returns-clause-word c =
-    let known = texts c.args.self.now.known.keys in
-    word_at (spellings c.args.words.now) known _ c.args.text.now _ _ c.requires c.in_ok-name.ensures.number (below_of known c.args.text.now (sym c.in_ok-name.ensures.is_new ∙ c.if-is_new.false)) c.index.ensures
+    let among : number_of known c.args.text.now < length known = omega (arith, c.in-Some.ensures) in
+    word_at (spellings c.args.words.now) known _ c.args.text.now _ _ c.requires c.in-Some.ensures.0 among c.index.ensures
