@@ -1,11 +1,25 @@
 -- What a contract sees of an attribute dictionary: its names, byte by byte, with their attributes, in order.
-use Rattle.std.specs.Prelude.{◌≡◌, ℕ, List, [], ◌∷◌, Option, Some, if◌then◌else◌, map, bytes_eq, String}
+use Rattle.std.specs.Prelude.{◌≡◌, ℕ, List, [], ◌∷◌, Option, Some, None, option_map, if◌then◌else◌, map, bytes_eq, String}
 use Rattle.std.specs.Map.{lookup}
 use Rattle.std.specs.String.{string_bytes}
+use Rattle.ir_names.specs.declared.dictionary.Entry.{Entry}
 
 -- entries with their names as bytes
 abbrev pub named_entries : {X Y : Type 0} → List (String Y × X) → List (List ℕ × X)
 named_entries es = map (λ e. (string_bytes e.0, e.1)) es
+
+-- an entry, with its name as bytes
+abbrev pub named : {D K A T : Type 0} → Entry D K A T → List ℕ × A
+named e = (string_bytes e.name, e.attr)
+
+-- entries behind a first one, if there is one
+abbrev pub with_first : {E : Type 0} → Option E → List E → List E
+with_first None es = es
+with_first (Some e) es = e ∷ es
+
+-- these entries with their names as bytes
+unfoldable pub all_entries : {D K A T Y : Type 0} → Option (Entry D K A T) → List (String Y × A) → List (List ℕ × A)
+all_entries first others = with_first (option_map named first) (named_entries others)
 
 module _ {X : Type 0} where
   -- the attribute under a name

@@ -2,7 +2,7 @@
 use Rattle.std.proofs.Common.{◌≡◌, ◌≤◌, List, take, length, refl, ap, ◌∙◌, subst, sym}
 use Rattle.ir_store.specs.declared.mark.Mark.{Mark}
 use Rattle.ir_store.specs.Views.{OperationView, RegionView, BlockView, ContextView}
-use Rattle.ir_store.specs.Marks.{IsSameTree, CanRewind, KeepsBelow, AreWithin, IsWithin, mark_of}
+use Rattle.ir_store.specs.Marks.{IsSameTree, CanRewind, KeepsBelow, AreWithin, IsWithin}
 
 module _ {K A T : Type 0} where
   -- nothing done leaves them

@@ -1,14 +1,19 @@
 -- A context with one more entity holds only handles of its own.
-use Rattle.std.proofs.Common.{◌≡◌, ℕ, ◌+◌, ◌≤◌, List, [], ◌∷◌, ◌++◌, length, Option, None, refl, sym, subst, arith, length-append}
+use Rattle.std.proofs.Common.{◌≡◌, ℕ, ◌+◌, ◌≤◌, List, [], ◌∷◌, ◌++◌, length, take, Option, None, refl, sym, subst, arith, length-append}
+use Rattle.std.proofs.lemmas.List.{length-take-le}
 use Rattle.ir_names.specs.declared.identifier.Identifier.{Identifier}
 use Rattle.ir_store.specs.declared.mark.Mark.{Mark}
+use Rattle.ir_store.specs.declared.pointer.Ptr.{Ptr}
+use Rattle.ir_store.specs.declared.pointer.Operation.{Operation}
 use Rattle.ir_store.specs.declared.pointer.Region.{Region}
+use Rattle.ir_store.specs.declared.pointer.BasicBlock.{BasicBlock}
+use Rattle.ir_store.specs.declared.value.Value.{Value}
 use Rattle.ir_store.specs.declared.value.Definition.{Definition}
 use Rattle.ir_store.specs.Pointer.{IsAmongFirst, pointer_at}
 use Rattle.ir_store.specs.Views.{OperationView, RegionView, BlockView}
-use Rattle.ir_store.specs.Context.{pointers_from, empty_regions}
-use Rattle.ir_store.specs.Marks.{IsOperationWithin, IsRegionWithin, IsBlockWithin, AreWithin}
-use Rattle.ir_store.proofs.Edits.{all_append, all_map}
+use Rattle.ir_store.specs.Context.{pointers_from, empty_regions, edit_at, append_operand, append_block, append_operation, stand_in_block, stand_in_region}
+use Rattle.ir_store.specs.Marks.{IsWithin, IsDefinerBelow, IsOperationWithin, IsRegionWithin, IsBlockWithin, AreWithin}
+use Rattle.ir_store.proofs.Edits.{all_append, all_map, all_edit, length-edit_at}
 use Rattle.ir_store.proofs.Made.{length-empty_regions}
 use Rattle.ir_store.proofs.Within.{first_more, all_more, pointers_among, empty_regions_within}
 
@@ -48,3 +53,35 @@ module _ {K A : Type 0} (os : List (OperationView K A)) (rs : List RegionView) (
         regions = all_append (IsRegionWithin (counts os1 rs1 bs)) rs (empty_regions (pointer_at (length os)) count) kept.regions (empty_regions_within (counts os1 rs1 bs) (pointer_at (length os)) count (record { slot = omega arith; version = refl }));
         blocks = kept.blocks;
       }))
+
+  -- one more operand
+  pub within_with_operand : (op : Ptr Operation) (v : Value) → IsDefinerBelow (counts os rs bs) v.definer → AreWithin (counts os rs bs) os rs bs → AreWithin (counts (edit_at os op.slot (append_operand v)) rs bs) (edit_at os op.slot (append_operand v)) rs bs
+  within_with_operand op v below h = rw (length-edit_at os op.slot (append_operand v)) (record {
+    operations = all_edit (IsOperationWithin (counts os rs bs)) os op.slot (append_operand v) (λ o k. record { operands = all_append (λ w. IsDefinerBelow (counts os rs bs) w.definer) o.operands (v ∷ []) k.operands (below, tt); regions = k.regions; parent = k.parent }) h.operations;
+    regions = h.regions;
+    blocks = h.blocks;
+  })
+
+  -- a block put into a region
+  pub within_with_block_placed : (region : Ptr Region) (block : Ptr BasicBlock) → IsAmongFirst (length rs) region → IsAmongFirst (length bs) block → AreWithin (counts os rs bs) os rs bs → AreWithin (counts os (edit_at rs region.slot (append_block block)) (edit_at bs block.slot (stand_in_region region))) os (edit_at rs region.slot (append_block block)) (edit_at bs block.slot (stand_in_region region))
+  within_with_block_placed region block r b h = rw (length-edit_at rs region.slot (append_block block), length-edit_at bs block.slot (stand_in_region region)) (record {
+    operations = h.operations;
+    regions = all_edit (IsRegionWithin (counts os rs bs)) rs region.slot (append_block block) (λ x k. record { operation = k.operation; blocks = all_append (IsAmongFirst (length bs)) x.blocks (block ∷ []) k.blocks (b, tt) }) h.regions;
+    blocks = all_edit (IsBlockWithin (counts os rs bs)) bs block.slot (stand_in_region region) (λ x k. record { operations = k.operations; parent = r }) h.blocks;
+  })
+
+  -- an operation put into a block
+  pub within_with_operation_placed : (block : Ptr BasicBlock) (op : Ptr Operation) → IsAmongFirst (length bs) block → IsAmongFirst (length os) op → AreWithin (counts os rs bs) os rs bs → AreWithin (counts (edit_at os op.slot (stand_in_block block)) rs (edit_at bs block.slot (append_operation op))) (edit_at os op.slot (stand_in_block block)) rs (edit_at bs block.slot (append_operation op))
+  within_with_operation_placed block op b o h = rw (length-edit_at os op.slot (stand_in_block block), length-edit_at bs block.slot (append_operation op)) (record {
+    operations = all_edit (IsOperationWithin (counts os rs bs)) os op.slot (stand_in_block block) (λ x k. record { operands = k.operands; regions = k.regions; parent = b }) h.operations;
+    regions = h.regions;
+    blocks = all_edit (IsBlockWithin (counts os rs bs)) bs block.slot (append_operation op) (λ x k. record { operations = all_append (IsAmongFirst (length os)) x.operations (op ∷ []) k.operations (o, tt); parent = k.parent }) h.blocks;
+  })
+
+  -- what is left below a mark
+  pub within_rewound : (m : Mark) → IsWithin m (counts os rs bs) → AreWithin m (take m.operations os) (take m.regions rs) (take m.blocks bs) → AreWithin (counts (take m.operations os) (take m.regions rs) (take m.blocks bs)) (take m.operations os) (take m.regions rs) (take m.blocks bs)
+  within_rewound m w h =
+      let o : length (take m.operations os) ≡ m.operations = length-take-le m.operations os w.operations in
+      let r : length (take m.regions rs) ≡ m.regions = length-take-le m.regions rs w.regions in
+      let b : length (take m.blocks bs) ≡ m.blocks = length-take-le m.blocks bs w.blocks in
+      rw (o, r, b) h

@@ -8,9 +8,9 @@ use Rattle.ir_store.specs.declared.value.Value.{Value}
 use Rattle.ir_store.specs.declared.value.DefiningEntity.{DefiningEntity}
 use Rattle.ir_store.specs.declared.value.DefiningEntity.TheVariants.{Op, Block}
 use Rattle.ir_store.specs.Pointer.{IsAmongFirst}
-use Rattle.ir_store.specs.Views.{OperationView, RegionView, BlockView}
-use Rattle.ir_store.specs.Context.{pointers_from, empty_regions}
-use Rattle.ir_store.specs.Marks.{IsWithin, IsDefinerBelow, IsOperationWithin, IsRegionWithin, IsBlockWithin, AreWithin}
+use Rattle.ir_store.specs.Views.{OperationView, RegionView, BlockView, ContextView}
+use Rattle.ir_store.specs.Context.{pointers_from, empty_regions, IsLiveDefiner}
+use Rattle.ir_store.specs.Marks.{IsWithin, IsDefinerBelow, IsOperationWithin, IsRegionWithin, IsBlockWithin, AreWithin, mark_of}
 use Rattle.ir_store.proofs.Edits.{all_map, some_map}
 
 pub first_more : {E : Type 0} (m n : ℕ) → m ≤ n → (p : Ptr E) → IsAmongFirst m p → IsAmongFirst n p
@@ -19,6 +19,11 @@ first_more m n h p k = let a : p.slot < m = k.slot in record { slot = omega arit
 pub definer_more : (m n : Mark) → IsWithin m n → (d : DefiningEntity) → IsDefinerBelow m d → IsDefinerBelow n d
 definer_more m n w (Op p) h = first_more m.operations n.operations w.operations p h
 definer_more m n w (Block p) h = first_more m.blocks n.blocks w.blocks p h
+
+-- a live definer stands below the context's own mark
+pub definer_live : {K A T : Type 0} (s : ContextView K A T) (d : DefiningEntity) → IsLiveDefiner s d → IsDefinerBelow (mark_of s) d
+definer_live s (Op p) h = h
+definer_live s (Block p) h = h
 
 module _ (m n : Mark) (w : IsWithin m n) where
   pub operation_more : {K A : Type 0} (o : OperationView K A) → IsOperationWithin m o → IsOperationWithin n o

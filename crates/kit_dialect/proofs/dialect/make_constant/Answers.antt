@@ -13,4 +13,4 @@ returns-clause-made c =
     let key = c.in_ok-ty.ensures.key in
     let same : key.0 ≡ keys.Integer c.in-Some.integer.integer = equal_key c.in-Some.integer.integer key.0 key.2 in
     drafted Constant 2 c.args.parts.now c.args.ctx.now.types c.intern.new.self.types _ _ _ _ (constant_made c.args.parts.now c.in-Some.integer c.args.ctx.now.types c.intern.new.self.types c.in_ok-ty.ty (sym c.in-Some.ensures) (key.1 ∙ ap Some same) c.intern.ensures.keeps)
-    (c.draft.ensures.attributes ∙ (c.in_ok-attributes.ensures ∙ ap (λ entries. with_attribute entries constant_value (attrs.Integer c.in-Some.integer)) c.new.ensures)) (ap (λ v. v.items) c.draft.ensures.types ∙ c.in_ok-vec.ensures.items)
+    (c.draft-2.ensures.attributes ∙ (c.in_ok-attributes.ensures ∙ ap (λ entries. with_attribute entries constant_value (attrs.Integer c.in-Some.integer)) c.new.ensures)) (ap (λ v. v.items) c.draft-2.ensures.types ∙ c.in_ok-vec.ensures.items)

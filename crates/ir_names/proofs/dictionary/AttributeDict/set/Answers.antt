@@ -1,13 +1,41 @@
-use Rattle.std.proofs.Common.{sym, ◌∙◌, ap}
-use Rattle.ir_names.specs.Dictionary.{named_entries}
+use Rattle.std.proofs.Common.{◌≡◌, ◌∷◌, false, sym, ◌∙◌, ap, subst}
+use Rattle.std.specs.Str.{bytes_eq}
+use Rattle.std.specs.String.{string_bytes}
+use Rattle.ir_names.specs.Dictionary.{all_entries, named_entries, attribute_at, with_attribute, SetsAttribute}
+use Rattle.ir_names.specs.Identifier.{text_of}
 use Rattle.ir_names.proofs.Entries.{attribute_at-named_entries, named_entries-insert_entry, attribute_at-with_attribute}
 use Rattle.ir_names.proofs.dictionary.AttributeDict.set.Goals as goal
 
-pub returns-clause-old : goal.returns-clause-old
-returns-clause-old g c = rw (← c.self.view_is, ← c.into_string.ensures.text) (c.in_ok-insert.ensures.old ∙ sym (attribute_at-named_entries _ c.self.inside.entries.entries))
+pub returns-in_ok-insert-in-None-clause-old : goal.returns-in_ok-insert-in-None-clause-old
+unfolding all_entries
+returns-in_ok-insert-in-None-clause-old g c = rw (← c.self.view_is, ← c.into_string-in-None.ensures.text, c.in-None.is) (c.in_ok-insert-in-None.ensures.old ∙ sym (attribute_at-named_entries _ c.self.inside.others.entries))
 
-pub returns-clause-entries : goal.returns-clause-entries
-returns-clause-entries g c = rw (← c.self.view_is, ← c.into_string.ensures.text) (ap named_entries c.in_ok-insert.ensures.entries ∙ named_entries-insert_entry _ _ c.self.inside.entries.entries)
+pub returns-in_ok-insert-in-None-clause-entries : goal.returns-in_ok-insert-in-None-clause-entries
+unfolding all_entries
+returns-in_ok-insert-in-None-clause-entries g c = rw (← c.self.view_is, ← c.into_string-in-None.ensures.text, c.in-None.is) (ap named_entries c.in_ok-insert-in-None.ensures.entries ∙ named_entries-insert_entry _ _ c.self.inside.others.entries)
 
-pub returns-clause-set : goal.returns-clause-set
-returns-clause-set g c = rw (returns-clause-entries g c) (attribute_at-with_attribute _ _ _)
+pub returns-in_ok-insert-in-None-clause-set : goal.returns-in_ok-insert-in-None-clause-set
+unfolding all_entries
+returns-in_ok-insert-in-None-clause-set g c = rw (returns-in_ok-insert-in-None-clause-entries g c) (attribute_at-with_attribute _ _ _)
+
+pub returns-in_ok-insert-in-Some-clause-old : goal.returns-in_ok-insert-in-Some-clause-old
+unfolding all_entries
+returns-in_ok-insert-in-Some-clause-old g c =
+    let e : bytes_eq (text_of c.args.key) (string_bytes c.in-Some.entry.name) ≡ false = rw (← c.as_str.ensures.text, ← c.as_str-in-Some.ensures.value) (sym c.eq.ensures ∙ c.if-eq.false) in
+    rw (← c.self.view_is, c.in-Some.is, e)
+    (subst (λ key. c.in_ok-insert-in-Some.field-0 ≡ attribute_at (named_entries c.self.inside.others.entries) key) c.into_string.ensures.text
+    (c.in_ok-insert-in-Some.ensures.old ∙ sym (attribute_at-named_entries _ c.self.inside.others.entries)))
+
+pub returns-in_ok-insert-in-Some-clause-entries : goal.returns-in_ok-insert-in-Some-clause-entries
+unfolding all_entries
+returns-in_ok-insert-in-Some-clause-entries g c =
+    let e : bytes_eq (text_of c.args.key) (string_bytes c.in-Some.entry.name) ≡ false = rw (← c.as_str.ensures.text, ← c.as_str-in-Some.ensures.value) (sym c.eq.ensures ∙ c.if-eq.false) in
+    rw (← c.self.view_is, c.in-Some.is, e)
+    (ap (λ es. (string_bytes c.in-Some.entry.name, c.in-Some.entry.attr) ∷ es)
+    (subst (λ key. named_entries c.insert.new.self.entries ≡ with_attribute (named_entries c.self.inside.others.entries) key c.args.attr) c.into_string.ensures.text
+    (ap named_entries c.in_ok-insert-in-Some.ensures.entries ∙ named_entries-insert_entry _ _ c.self.inside.others.entries)))
+
+pub returns-in_ok-insert-in-Some-clause-set : goal.returns-in_ok-insert-in-Some-clause-set
+unfolding all_entries
+returns-in_ok-insert-in-Some-clause-set g c =
+    subst (λ es. SetsAttribute c.args.self.now es (text_of c.args.key) c.args.attr) (sym (returns-in_ok-insert-in-Some-clause-entries g c)) (attribute_at-with_attribute _ _ _)

@@ -13,3 +13,9 @@ returns-clause-same g c = λ other kept e.
       λ h. both.0 (ap (λ (t : TypeHandle). t.number) (h ∙ c.new.ensures)),
       λ h. let number = both.1 h in (λ j. record { number = number j }) ∙ sym c.new.ensures,
     )
+
+pub returns-in_err-number-clause-live : goal.returns-in_err-number-clause-live
+returns-in_err-number-clause-live g c = rw (← c.self.view_is) record { operations = λ p h. h; regions = λ p h. h; blocks = λ p h. h }
+
+pub returns-clause-live : goal.returns-clause-live
+returns-clause-live g c = rw (← c.self.view_is) record { operations = λ p h. h; regions = λ p h. h; blocks = λ p h. h }

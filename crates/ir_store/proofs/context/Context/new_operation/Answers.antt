@@ -1,4 +1,7 @@
-use Rattle.std.proofs.Common.{length, length-append, arith, ◌≤◌}
+use Rattle.std.proofs.Common.{length, length-append, None, ap, refl, arith, ◌≤◌}
+use Rattle.std.specs.Option.{option_map_or}
+use Rattle.ir_store.proofs.Below.{live_by_counts, keeps_below_more}
+use Rattle.ir_store.proofs.Lookups.{entity_at-append}
 use Rattle.ir_store.proofs.Sound.{within_with_operation}
 use Rattle.ir_store.proofs.Places.{slice_get-last, pointers_from-least}
 use Rattle.ir_store.proofs.Within.{first_more}
@@ -24,3 +27,15 @@ returns-clause-regions_since g c = rw (← c.self.view_is, c.in_ok-op.ensures.po
     let low : m.regions ≤ length c.self.inside.regions.items = h.counts.regions in
     let here : length c.self.inside.regions.items ≤ r.slot = pointers_from-least (length c.self.inside.regions.items) c.args.regions i r e in
     omega arith)
+
+pub returns-in_err-op-clause-live : goal.returns-in_err-op-clause-live
+returns-in_err-op-clause-live g c = rw (← c.self.view_is, c.in_err-op.ensures.operations_err, c.in_err-op.ensures.regions_err) (live_by_counts _ _ (record { operations = omega arith; regions = omega arith; blocks = omega arith }))
+
+pub returns-clause-fresh : goal.returns-clause-fresh
+returns-clause-fresh g c = rw (← c.self.view_is, c.in_ok-op.ensures.pointer, c.in_ok-op.ensures.operations, c.in_ok-results.ensures) (slice_get-last c.self.inside.operations.items _)
+
+pub returns-clause-parent_blocks : goal.returns-clause-parent_blocks
+returns-clause-parent_blocks g c = rw (← c.self.view_is, c.in_ok-op.ensures.operations) (λ p h. ap (λ o. option_map_or (λ x. x.parent) o None) (entity_at-append c.self.inside.operations.items _ p h))
+
+pub returns-clause-below : goal.returns-clause-below
+returns-clause-below g c = rw (← c.self.view_is) (λ m h. keeps_below_more m _ _ _ _ c.in_ok-op.ensures.operations c.in_ok-op.ensures.regions refl h)
