@@ -1,5 +1,5 @@
 -- Which operations, regions and blocks of a context stand for which trees.
-use Rattle.std.specs.Prelude.{◌≡◌, ℕ, List, [], ◌∷◌, Option, Some, None, length, slice_get}
+use Rattle.std.specs.Prelude.{◌≡◌, ◌<◌, ℕ, List, [], ◌∷◌, Option, Some, None, length, slice_get}
 use Rattle.ir_names.specs.declared.identifier.Identifier.{Identifier}
 use Rattle.ir_names.specs.Identifier.{text_of}
 use Rattle.ir_store.specs.declared.pointer.Ptr.{Ptr}
@@ -82,6 +82,10 @@ abbrev mutual
 abbrev pub Named : List Value → Value → ℕ → Type 0
 Named values v n = slice_get values n ≡ Some v
 
--- no value stands at two places
+-- no two definitions have values of one number
 abbrev pub AreDistinct : List Value → Type 0
-AreDistinct values = (v : Value) (i j : ℕ) → Named values v i → Named values v j → i ≡ j
+AreDistinct values = (v w : Value) (i j : ℕ) → Named values v i → Named values w j → v.number ≡ w.number → i ≡ j
+
+-- the values were made before the counter stood here
+abbrev pub AreBelow : ℕ → List Value → Type 0
+AreBelow counter values = (v : Value) (i : ℕ) → Named values v i → v.number < counter

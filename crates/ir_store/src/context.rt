@@ -83,6 +83,20 @@ impl<D: Dialects> Context<D> {
         self.types.get_index(ty.number())
     }
 
+    /// How many values were made in all, also those that were taken out again. It is the number of the next one.
+    pub fn values_made(&self) -> u64
+        ensures { result ≡ self.now.counter }
+    {
+        self.values
+    }
+
+    /// How many blocks were made and not taken out again.
+    pub fn blocks_made(&self) -> usize
+        ensures { result ≡ length self.now.blocks }
+    {
+        self.blocks.len()
+    }
+
     /// A fresh operation with fresh results of these types and fresh empty regions. It has no
     /// operands and stands in no block.
     pub fn new_operation(

@@ -68,7 +68,7 @@ module _ {D K A T : Type 0} (says : Saying K A T) (values : Values) (text : ℕ 
           rise = rw (numbers, none) (omega arith);
           waiting = λ i n h. (let bad : slice_get [] i ≡ Some n = subst (λ (ns : List ℕ). slice_get ns i ≡ Some n) numbers h in cc);
           settled = λ n lt. absurd (omega (arith, lt, ap length none));
-          distinct = λ i j v h k. (let bad : slice_get [] i ≡ Some (Some v) = subst (λ (vs : List (Option Value)). slice_get vs i ≡ Some (Some v)) none h in cc);
+          distinct = λ i j v w h k one. (let bad : slice_get [] i ≡ Some (Some v) = subst (λ (vs : List (Option Value)). slice_get vs i ≡ Some (Some v)) none h in cc);
           live = λ n v h. (let bad : slice_get [] n ≡ Some (Some v) = subst (λ (vs : List (Option Value)). slice_get vs n ≡ Some (Some v)) none h in cc);
           counted = rw (numbers, none, count) refl;
         };
@@ -170,7 +170,7 @@ module _ {D K A T : Type 0} (says : Saying K A T) (values : Values) (text : ℕ 
         many = rw (← defines) definitions.many;
         settled = λ n lt. elim (definitions.settled n lt) [
           | inl x ↦ (let bad : slice_get [] x.0 ≡ Some n = subst (λ (ns : List ℕ). slice_get ns x.0 ≡ Some n) numbers x.1 in cc)
-          | inr x ↦ (x.0, x.1, (definitions.live n x.0 x.1).0)
+          | inr x ↦ (let l = definitions.live n x.0 x.1 in (x.0, x.1, l.0, l.1))
         ];
         distinct = definitions.distinct;
         operands = rw (← says_all) waiting;

@@ -102,6 +102,7 @@ module _ {K A T : Type 0} where
     pub regions : t.regions ≡ s.regions
     pub blocks : t.blocks ≡ s.blocks
     pub types : t.types ≡ s.types
+    pub counter : t.counter ≡ s.counter
     pub operands : (i : ℕ) (x : Pending) → i < n → slice_get ps i ≡ Some x → AreMeant s values numbers (operands_of t x.op) x.tokens.items
     pub rest : (i : ℕ) (x : Pending) → n ≤ i → slice_get ps i ≡ Some x → operation_at t x.op ≡ operation_at s x.op
 
@@ -112,6 +113,7 @@ module _ {K A T : Type 0} where
       regions = refl;
       blocks = refl;
       types = refl;
+      counter = refl;
       operands = λ i x lt at. absurd (omega (arith, lt));
       rest = λ i x le at. refl;
     }
@@ -122,6 +124,7 @@ module _ {K A T : Type 0} where
       regions = h.regions;
       blocks = h.blocks;
       types = h.types;
+      counter = h.counter;
       operands = λ i x at. let lt = get_below ps i x at in h.operands i x (omega (arith, lt, le)) at;
     }
 
@@ -180,6 +183,7 @@ module _ {K A T : Type 0} where
         regions = h.regions;
         blocks = h.blocks;
         types = h.types;
+        counter = h.counter;
         operands = λ i y lt to. let le : i ≤ n = omega (arith, lt) in linked_operands i y (eq-or-lt_of_le le) to;
         rest = λ i y le to. linked_other i y to (λ e. omega (arith, e, le)) ∙ h.rest i y (omega (arith, le)) to;
       }

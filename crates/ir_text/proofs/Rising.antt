@@ -210,7 +210,7 @@ pub record Settled {K A T : Type 0} (s : ContextView K A T) (ns : List ℕ) (val
   pub rise : Rises 0 ns (length values)
   pub waiting : (i n : ℕ) → slice_get ns i ≡ Some n → slice_get values n ≡ Some None
   pub settled : (n : ℕ) → n < length values → ((i : ℕ) × (slice_get ns i ≡ Some n)) ⊎ ((v : Value) × (slice_get values n ≡ Some (Some v)))
-  pub distinct : (m n : ℕ) (v : Value) → slice_get values m ≡ Some (Some v) → slice_get values n ≡ Some (Some v) → m ≡ n
+  pub distinct : (m n : ℕ) (v w : Value) → slice_get values m ≡ Some (Some v) → slice_get values n ≡ Some (Some w) → v.number ≡ w.number → m ≡ n
   pub live : (n : ℕ) (v : Value) → slice_get values n ≡ Some (Some v) → IsLiveDefiner s v.definer × (v.number < s.counter)
   pub counted : s.counter + length ns ≡ counter + length values
 
@@ -257,7 +257,7 @@ module _ {K A T : Type 0} where
       | inl e ↦ elim (h.settled n e) [ inl x ↦ inl (x.0, get_left ns (length values ∷ []) x.0 n x.1) | inr x ↦ inr (x.0, get_left values (None ∷ []) n (Some x.0) x.1) ]
       | inr e ↦ inl (length ns, get_last ns (length values) ∙ ap (λ (m : ℕ). Some m) (sym e))
     ];
-    distinct = λ m n v at to. h.distinct m n v (old m v at) (old n v to);
+    distinct = λ m n v w at to same. h.distinct m n v w (old m v at) (old n w to) same;
     live = λ n v at. h.live n v (old n v at);
     counted = omega (arith, h.counted, length-append ns (length values ∷ []), long);
   }
@@ -292,7 +292,7 @@ module _ {K A T : Type 0} where
       | inl x ↦ elim (get_append ms ns x.0 n x.1) [ inl e ↦ inl (x.0, e) | inr e ↦ inr (given e.0 n e.2) ]
       | inr x ↦ inr (x.0, set_all_keeps ns vs values waits n x.0 x.1)
     ];
-    distinct = λ m n v at to. alike m n v (set_all_from ns vs values m v at) (set_all_from ns vs values n v to);
+    distinct = λ m n v w at to same. alike m n v w (set_all_from ns vs values m v at) (set_all_from ns vs values n w to) same;
     live = λ n v at. elim (set_all_from ns vs values n v at) [
       | inl e ↦ (let x = h.live n v e in (keeps v.definer x.0, omega (arith, x.1, count)))
       | inr e ↦ (let x = fresh e.0 v e.2 in let lt = get_below vs e.0 v e.2 in (x.0, omega (arith, x.1, lt, count)))
@@ -312,15 +312,15 @@ module _ {K A T : Type 0} where
           let x = get_there vs i (omega (arith, lt, many)) in
           (x.0, set_all_at 0 ns (length values) vs values (rises_right 0 ms ns (length values) h.rise) (omega arith) i n x.0 at x.1)
 
-      alike : (m n : ℕ) (v : Value) → (slice_get values m ≡ Some (Some v)) ⊎ ((i : ℕ) × (slice_get ns i ≡ Some m) × (slice_get vs i ≡ Some v))
-          → (slice_get values n ≡ Some (Some v)) ⊎ ((i : ℕ) × (slice_get ns i ≡ Some n) × (slice_get vs i ≡ Some v)) → m ≡ n
-      alike m n v (inl x) (inl y) = h.distinct m n v x y
-      alike m n v (inl x) (inr y) = let old = h.live m v x in let new = fresh y.0 v y.2 in absurd (omega (arith, old.1, new.1))
-      alike m n v (inr x) (inl y) = let new = fresh x.0 v x.2 in let old = h.live n v y in absurd (omega (arith, old.1, new.1))
-      alike m n v (inr x) (inr y) =
+      alike : (m n : ℕ) (v w : Value) → (slice_get values m ≡ Some (Some v)) ⊎ ((i : ℕ) × (slice_get ns i ≡ Some m) × (slice_get vs i ≡ Some v))
+          → (slice_get values n ≡ Some (Some w)) ⊎ ((i : ℕ) × (slice_get ns i ≡ Some n) × (slice_get vs i ≡ Some w)) → v.number ≡ w.number → m ≡ n
+      alike m n v w (inl x) (inl y) one = h.distinct m n v w x y one
+      alike m n v w (inl x) (inr y) one = let old = h.live m v x in let new = fresh y.0 w y.2 in absurd (omega (arith, old.1, new.1, one))
+      alike m n v w (inr x) (inl y) one = let new = fresh x.0 v x.2 in let old = h.live n w y in absurd (omega (arith, old.1, new.1, one))
+      alike m n v w (inr x) (inr y) one =
           let first = fresh x.0 v x.2 in
-          let second = fresh y.0 v y.2 in
-          let same : x.0 ≡ y.0 = omega (arith, first.1, second.1) in
+          let second = fresh y.0 w y.2 in
+          let same : x.0 ≡ y.0 = omega (arith, first.1, second.1, one) in
           some_is m n (sym x.1 ∙ (ap (λ (i : ℕ). slice_get ns i) same ∙ y.1))
 
 -- ---- what is open

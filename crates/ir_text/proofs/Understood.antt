@@ -58,6 +58,9 @@ values_in (Some v ∷ xs) = v ∷ values_in xs
 not_made : {A : Type 0} (v : Value) → Some None ≡ Some (Some v) → A
 not_made v h = let inner : None ≡ Some v = ap (option_and_then (λ x. x)) h in cc
 
+same_made : (v w : Value) → Some (Some v) ≡ Some (Some w) → v ≡ w
+same_made v w h = let inner : Some v ≡ Some w = ap (option_and_then (λ x. x)) h in cc
+
 rest_made : (x : Option Value) (xs : List (Option Value)) → AllMade (x ∷ xs) → AllMade xs
 rest_made x xs all = λ n lt. all (suc n) (omega arith)
 
@@ -199,6 +202,13 @@ module _ (l : Language) (cs : List ℕ) (ts : List Token) (names : List ℕ) (st
             (λ v k m. meant_value s a.values.items r.definitions.items all_made v k m.0) (operands_of t x.op) x.tokens.items (links.operands i x h);
       }
 
+      -- a value that is made has a number below the counter
+      below : (v : Value) (i : ℕ) → slice_get a.values.items i ≡ Some (Some v) → v.number < t.counter
+      below v i at =
+          let p = made.settled i (slice_get_within a.values.items i (Some v) at) in
+          let same : p.0 ≡ v = same_made p.0 v (sym p.1 ∙ at) in
+          subst (λ (n : ℕ). v.number < n) (sym links.counter) (subst (λ (w : Value). w.number < s.counter) same p.3)
+
       -- the root is what the text says
       pub is_read : IsNamed (HasFault l cs ts names stop n es) None → IsRead says l cs t made.root
       unfolding the_end
@@ -208,7 +218,8 @@ module _ (l : Language) (cs : List ℕ) (ts : List Token) (names : List ℕ) (st
             renamed number made.tree,
             values_in a.values.items,
             (ts, names, stop, n, es, (built es).here, made.tree, r, reading, none, forest, made.says_so, resolved, refl),
-            (λ v i j x y. made.distinct i j v (made_back a.values.items all_made i v x) (made_back a.values.items all_made j v y)),
+            (λ v w i j x y. made.distinct i j v w (made_back a.values.items all_made i v x) (made_back a.values.items all_made j w y)),
+            (λ v i x. below v i (made_back a.values.items all_made i v x)),
             renamed_operation says (Named (values_in a.values.items)) number t made.root made.tree (made.made the_end reached),
           )
 

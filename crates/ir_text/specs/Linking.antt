@@ -34,4 +34,5 @@ pub record Links {K A T : Type 0} (s t : ContextView K A T) (values : List (Opti
   pub regions : t.regions ≡ s.regions
   pub blocks : t.blocks ≡ s.blocks
   pub types : t.types ≡ s.types
+  pub counter : t.counter ≡ s.counter
   pub operands : (i : ℕ) (x : Pending) → slice_get ps i ≡ Some x → AreMeant s values numbers (operands_of t x.op) x.tokens.items

@@ -230,13 +230,13 @@ module _ {D K A T : Type 0} where
   abbrev pub world_of : ContextView K A T → Assembler D K A T → List ℕ → List ℕ → World K A T
   world_of s a tokens mentions = record { ctx = s; values = a.made.values.items; tokens = tokens; mentions = mentions; pending = a.made.pending.items }
 
-  -- The definitions: those that are named and not made have no value, and each other has one of its own.
+  -- The definitions: those that are named and not made have no value, and each other has one with a number of its own.
   pub record AreSettled (s : ContextView K A T) (a : Assembler D K A T) (tokens : List ℕ) (counter : ℕ) : Type 0 where
     pub many : length tokens ≡ length a.made.values.items
     pub rise : Rises 0 (numbers_of a) (length a.made.values.items)
     pub waiting : (i n : ℕ) → slice_get (numbers_of a) i ≡ Some n → slice_get a.made.values.items n ≡ Some None
     pub settled : (n : ℕ) → n < length a.made.values.items → ((i : ℕ) × (slice_get (numbers_of a) i ≡ Some n)) ⊎ ((v : Value) × (slice_get a.made.values.items n ≡ Some (Some v)))
-    pub distinct : (m n : ℕ) (v : Value) → slice_get a.made.values.items m ≡ Some (Some v) → slice_get a.made.values.items n ≡ Some (Some v) → m ≡ n
+    pub distinct : (m n : ℕ) (v w : Value) → slice_get a.made.values.items m ≡ Some (Some v) → slice_get a.made.values.items n ≡ Some (Some w) → v.number ≡ w.number → m ≡ n
     pub live : (n : ℕ) (v : Value) → slice_get a.made.values.items n ≡ Some (Some v) → IsLiveDefiner s v.definer × (v.number < s.counter)
     pub counted : s.counter + length (numbers_of a) ≡ counter + length a.made.values.items
 
@@ -254,8 +254,8 @@ pub record HasMade {D K A T : Type 0} (says : Saying K A T) (values : Values) (t
   pub definitions : AreSettled s a tokens counter
   pub operands : AreWaiting m s a.made.pending.items mentions
 
--- What a text has become but for its operands: the root stands for the tree that is built, in no block, each definition has a value of
--- its own, and the operations wait for their operands.
+-- What a text has become but for its operands: the root stands for the tree that is built, in no block, each definition has a value with a
+-- number of its own below the counter, and the operations wait for their operands.
 pub record IsAssembled {K A T : Type 0} (says : Saying K A T) (values : Values) (text : ℕ → List ℕ) (m : Mark) (s : ContextView K A T) (a : Assembly) (es : List Event) : Type 0 where
   pub root : Ptr Operation
   pub tree : Entity ℕ
@@ -264,6 +264,6 @@ pub record IsAssembled {K A T : Type 0} (says : Saying K A T) (values : Values) 
   pub made : IsMade says (record { ctx = s; values = a.values.items; tokens = defined_from 0 es; mentions = mentioned_from 0 es; pending = a.pending.items }) root tree
   pub apart : parent_block_of s root ≡ None
   pub many : length (defined_from 0 es) ≡ length a.values.items
-  pub settled : (n : ℕ) → n < length a.values.items → (v : Value) × (slice_get a.values.items n ≡ Some (Some v)) × IsLiveDefiner s v.definer
-  pub distinct : (i j : ℕ) (v : Value) → slice_get a.values.items i ≡ Some (Some v) → slice_get a.values.items j ≡ Some (Some v) → i ≡ j
+  pub settled : (n : ℕ) → n < length a.values.items → (v : Value) × (slice_get a.values.items n ≡ Some (Some v)) × IsLiveDefiner s v.definer × (v.number < s.counter)
+  pub distinct : (i j : ℕ) (v w : Value) → slice_get a.values.items i ≡ Some (Some v) → slice_get a.values.items j ≡ Some (Some w) → v.number ≡ w.number → i ≡ j
   pub operands : AreWaiting m s a.pending.items (mentioned_from 0 es)

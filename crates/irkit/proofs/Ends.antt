@@ -70,17 +70,18 @@ misruled_for bytes old new (rule.Broken n p) tree said answer same = ((tree, sai
 -- a module that isn't accepted
 pub misruled : (bytes cs : List ℕ) (old new read : KitContext) (root : Ptr Operation) (f : RuleFault) (r : Result (Ptr Operation) Refusal)
     → r ≡ Err (of_rule_fault f) → IsUtf8 bytes → cs ≡ chars bytes → IsRead says kit_language cs read root → IsExact read root (Err f) → IsSameTree old new → Understands bytes old new r
-misruled bytes cs old new read root f r is utf8 spelt (tree, values, said, distinct, stands) exact same = subst (Understands bytes old new) (sym is)
+misruled bytes cs old new read root f r is utf8 spelt (tree, values, said, distinct, below, stands) exact same = subst (Understands bytes old new) (sym is)
     (misruled_for bytes old new f tree (utf8, subst (λ xs. Says kit_language xs tree) spelt said) (exact values distinct tree stands) same)
 
 -- a module that is accepted
 pub accepted : (bytes cs : List ℕ) (old new : KitContext) (root : Ptr Operation) (u : Unit {0}) → IsUtf8 bytes → cs ≡ chars bytes → IsRead says kit_language cs new root
     → IsExact new root (Ok u) → parent_block_of new root ≡ None → KeepsBelow (mark_of old) old new → Loads bytes old new root
-accepted bytes cs old new root u utf8 spelt (tree, values, said, distinct, stands) exact apart kept = record {
+accepted bytes cs old new root u utf8 spelt (tree, values, said, distinct, below, stands) exact apart kept = record {
   tree = tree;
   values = values;
   accepted = ((utf8, subst (λ xs. Says kit_language xs tree) spelt said), exact values distinct tree stands);
   distinct = distinct;
+  below = below;
   stands = stands;
   apart = apart;
   kept = kept;

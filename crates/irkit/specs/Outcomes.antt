@@ -7,7 +7,7 @@ use Rattle.ir_store.specs.declared.value.Value.{Value}
 use Rattle.ir_store.specs.Context.{parent_block_of}
 use Rattle.ir_store.specs.Marks.{IsSameTree, KeepsBelow, mark_of}
 use Rattle.ir_print.specs.Pieces.{Entity}
-use Rattle.ir_print.specs.Standing.{StandsOperation, Named, AreDistinct}
+use Rattle.ir_print.specs.Standing.{StandsOperation, Named, AreDistinct, AreBelow}
 use Rattle.kit_dialect.specs.Shapes.{KitContext}
 use Rattle.kit_dialect.specs.Says.{says}
 use Rattle.irkit.specs.declared.watched.Watched.{Watched}
@@ -24,6 +24,7 @@ pub record Loads (bytes : List ℕ) (ctx new_ctx : KitContext) (root : Ptr Opera
   pub values : List Value
   pub accepted : IsAcceptedAs bytes tree
   pub distinct : AreDistinct values
+  pub below : AreBelow new_ctx.counter values
   pub stands : StandsOperation says (Named values) new_ctx root tree
   pub apart : parent_block_of new_ctx root ≡ None
   pub kept : KeepsBelow (mark_of ctx) ctx new_ctx

@@ -165,7 +165,7 @@ same_named values dist w v m n hw hv = by (n == m) refl (same_value w v) refl
     by true e c f = let same : n ≡ m = grind (arith, nat_tests) in
         let k : w ≡ v = same_Some w v (sym hw ∙ (ap (slice_get values) (sym same) ∙ hv)) in sym f ∙ (ap (λ z. same_value z v) k ∙ value_refl v)
     by false e false f = refl
-    by false e true f = let k = value_same w v f in let same : n ≡ m = dist v n m hv (subst (λ z. Named values z m) k hw) in
+    by false e true f = let k = value_same w v f in let same : n ≡ m = dist v w n m hv hw (ap (λ (z : Value). z.number) (sym k)) in
         let t : (n == m) ≡ true = ap (λ z. z == m) same ∙ eqb_refl m in absurd cc
 
 lookup_more : (b : Bool) (t : ValueTree) (i : Option IntegerType) (o : Option (Option IntegerType)) (l : Option ValueTree) → integer_type t ≡ i → o ≡ option_map integer_type l

@@ -1,4 +1,4 @@
-use Rattle.std.proofs.Common.{sym, ◌∙◌}
+use Rattle.std.proofs.Common.{sym}
 use Rattle.ir_text.proofs.Spelled.{number_here}
 use Rattle.ir_text.proofs.words.guessed.Goals as goal
 
