@@ -6,10 +6,10 @@ use Rattle.ir_print.specs.declared.format.Directive.{Directive, Directive-F, fol
 use Rattle.ir_print.specs.declared.format.Directive as directive
 use Rattle.ir_print.specs.declared.format.Directive.TheVariants.{rolls-List, rolls-Literal, rolls-Operands, rolls-Attribute, rolls-Type, rolls-Region, rolls-SymbolHeader, rolls-Name, rolls-Number, rolls-Width}
 
-pub step_of-Literal : (text : Bor (List ℕ)) → step_of (directive.Literal text) ≡ word (trim text.now)
+pub step_of-Literal : (text : Bor (List ℕ)) → step_of (directive.Literal text) ≡ word text.now (trim text.now)
 step_of-Literal text = ap step_of (sym (rolls-Literal text)) ∙ fold-roll-Directive Step step_by (Directive-F.Literal text)
 
-pub step_of-List : (member : Bor (List Directive)) (text : Bor (List ℕ)) → step_of (directive.List member text) ≡ list_of (steps_of member.now) (trim text.now)
+pub step_of-List : (member : Bor (List Directive)) (text : Bor (List ℕ)) → step_of (directive.List member text) ≡ list_of (steps_of member.now) text.now (trim text.now)
 step_of-List member text = ap step_of (sym (rolls-List member text)) ∙ fold-roll-Directive Step step_by (Directive-F.List member text)
 
 pub step_of-Operands : step_of directive.Operands ≡ operands

@@ -4,9 +4,9 @@ use Rattle.std.specs.Str.{trim}
 use Rattle.ir_print.specs.declared.format.Directive.{Directive, Directive-F, fold-Directive}
 
 mutual
-  -- What a directive stands for in a text. A word has no spaces around it.
+  -- What a directive stands for in a text. A word stands as it is printed, with the spaces around it, and as it is read, without them.
   pub data Step : Type 0 where
-    word : List ℕ → Step
+    word : (printed text : List ℕ) → Step
     operands : Step
     an_attribute : Step
     a_type : Step
@@ -15,7 +15,8 @@ mutual
     a_name : Step
     a_number : Step
     a_width : Step
-    list_of : Steps → List ℕ → Step
+    -- what a member is, and the word between two
+    list_of : Steps → (printed text : List ℕ) → Step
 
   -- What a format stands for: one step after the other.
   pub data Steps : Type 0 where
@@ -29,7 +30,7 @@ steps (s ∷ ss) = step s (steps ss)
 
 -- what a directive stands for, its members' directives being read already
 abbrev pub step_by : Directive-F Step → Step
-step_by (Directive-F.Literal text) = word (trim text.now)
+step_by (Directive-F.Literal text) = word text.now (trim text.now)
 step_by Directive-F.Operands = operands
 step_by Directive-F.Attribute = an_attribute
 step_by Directive-F.«Type» = a_type
@@ -38,7 +39,7 @@ step_by Directive-F.SymbolHeader = symbol_name
 step_by Directive-F.Name = a_name
 step_by Directive-F.Number = a_number
 step_by Directive-F.Width = a_width
-step_by (Directive-F.List member separator) = list_of (steps member.now) (trim separator.now)
+step_by (Directive-F.List member separator) = list_of (steps member.now) separator.now (trim separator.now)
 
 -- what a directive stands for
 abbrev pub step_of : Directive → Step

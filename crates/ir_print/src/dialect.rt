@@ -1,11 +1,14 @@
 //! What a dialect says of its texts.
-ghost use Rattle.std.specs.Prelude.{◌≡◌, ℕ, Bool, List, Option, Some, None, Err, true, slice_get, option_map, IfOk};
-ghost use Rattle.ir_names.specs.Tree.{node};
+ghost use Rattle.std.specs.Prelude.{◌≡◌, ℕ, Bool, List, Option, Some, None, Err, true, length, slice_get, option_map, IfOk};
+ghost use Rattle.ir_names.specs.Tree.{Trees, node};
 ghost use Rattle.ir_print.specs.declared.dialect.MakeFault.TheVariants.{Refused};
 ghost use Rattle.ir_print.specs.Formats.{Formats, Kind, is_small, steps_of};
+ghost use Rattle.ir_print.specs.Nested.{is_nested_little};
 ghost use Rattle.ir_print.specs.Pieces.{Pieces, Values, attribute_of_kind};
-ghost use Rattle.ir_print.specs.Shown.{Saying, ShowsParts, ShowsKey, ShowsAttribute, KeepsTypes, Drafts, IsKindOf};
-ghost use Rattle.ir_store.specs.Context.{IsLiveOperation};
+ghost use Rattle.ir_print.specs.Shapes.{SaysTypes, SaysAttributes, SaysOperations};
+ghost use Rattle.ir_print.specs.Shown.{Said, Saying, ShowsAll, ShowsParts, ShowsKey, ShowsAttribute, KeepsTypes, Drafts, IsKindOf};
+ghost use Rattle.ir_store.specs.Context.{IsLiveOperation, operation_at};
+ghost use Rattle.ir_store.specs.Views.{OperationView};
 ghost use Rattle.ir_store.specs.Marks.{IsSameTree};
 
 use crate::format::{Directive, Part};
@@ -163,25 +166,50 @@ pub trait TextDialect: Dialects {
         ensures refused { (n : ℕ) → (ps : Pieces) → kind_at n ≡ Some kind → ShowsParts says ctx.old.types parts.now ps → (i : ℕ) → result ≡ Err (Refused i) → values.refused_operation n ps ≡ Some i };
 
     /// The parts of a type, as reading its text gives them.
-    fn type_parts(alloc: Global, key: &Self::TypeKey) -> Result<Vec<Part<Self>>, AllocError>;
+    fn type_parts(alloc: Global, key: &Self::TypeKey) -> Result<Vec<Part<Self>>, AllocError>
+        ensures { (types : List Self.TypeKey) → (n : ℕ) → (ps : Pieces) → ShowsKey says types key.now n ps → IfOk result (λ parts. ShowsParts says types parts.items ps) };
 
     fn attr_parts(
         alloc: Global,
         ctx: &Context<Self>,
         attr: &Self::Attr,
-    ) -> Result<Vec<Part<Self>>, AllocError>;
+    ) -> Result<Vec<Part<Self>>, AllocError>
+        ensures { (types : List Self.TypeKey) → (n : ℕ) → (ps : Pieces) → ShowsAttribute says types attr.now (node (attribute_of_kind n) ps) → IfOk result (λ parts. ShowsParts says types parts.items ps) };
 
+    /// The parts of an operation. Operands and regions are given by how many there are of them.
     fn operation_parts(
         alloc: Global,
         ctx: &Context<Self>,
         op: Ptr<Operation>,
     ) -> Result<Vec<Part<Self>>, AllocError>
-        requires live { IsLiveOperation ctx.now op };
+        requires live { IsLiveOperation ctx.now op }
+        ensures { (types : List Self.TypeKey) → (o : OperationView Self.OpKind Self.Attr) → (n : ℕ) → (us : Trees (Said Self.Attr)) → (ps : Pieces) → operation_at ctx.now op ≡ Some o
+            → says.of_operation o.kind o.attributes (length o.operands) ≡ Some (n, us) → ShowsAll says types us ps → IfOk result (λ parts. ShowsParts says types parts.items ps) };
 
     ghost few: { is_small formats ≡ true };
 
+    /// Lists stand in one another at most 64 deep in formats.
+    ghost nested: { is_nested_little formats ≡ true };
+
     /// Equal keys say the same.
     ghost same: { (x y : Self.TypeKey) → Self.TypeKey.eq x y ≡ true → says.of_type x ≡ says.of_type y };
+
+    /// The kinds of operations with numbers have the formats with these numbers.
+    ghost operations: { (n : ℕ) → slice_get formats.operations n ≡ option_map op_text (kind_at n) };
+
+    ghost types: { (n : ℕ) → slice_get formats.types n ≡ option_map type_text (slice_get type_kinds n) };
+
+    ghost attributes: { (n : ℕ) → slice_get formats.attributes n ≡ option_map attr_text (slice_get attr_kinds n) };
+
+    /// What types say has the shape of their formats, and can be read.
+    ghost says_types: { SaysTypes says formats values };
+
+    ghost says_attributes: { SaysAttributes says formats values };
+
+    ghost says_operations: { SaysOperations says formats values };
+
+    /// An operation says the number of its own kind.
+    ghost says_kinds: { (kind : Self.OpKind) (entries : List (List ℕ × Self.Attr)) (count n : ℕ) (us : Trees (Said Self.Attr)) → says.of_operation kind entries count ≡ Some (n, us) → kind_at n ≡ Some kind };
 
     /// Where no kind of types has a number, the first piece is refused.
     ghost unknown_type: { (n : ℕ) (ps : Pieces) → slice_get type_kinds n ≡ None → values.refused_type n ps ≡ Some 0 };

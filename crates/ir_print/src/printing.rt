@@ -1,17 +1,48 @@
 //! The text of an operation.
-ghost use Rattle.ir_store.specs.Context.{IsLiveOperation, IsLiveRegion, IsLiveBlock};
+ghost use Rattle.std.specs.Prelude.{◌≡◌, ℕ, ◌+◌, ◌*◌, ◌<◌, ◌≤◌, ◌^◌, ◌++◌, Bool, List, IfOk, OnOk, length, take, drop};
+ghost use Rattle.std.specs.String.{string_bytes};
+ghost use Rattle.ir_names.specs.Identifier.{text_of};
+ghost use Rattle.ir_store.specs.Context.{IsLiveOperation, IsLiveRegion, IsLiveBlock, label_of, results_of, operands_of, arguments_of};
+ghost use Rattle.ir_store.specs.declared.pointer.Ptr.{Ptr as Pointer};
+ghost use Rattle.ir_store.specs.declared.pointer.Operation.{Operation as Op};
+ghost use Rattle.ir_store.specs.declared.pointer.Region.{Region as Reg};
+ghost use Rattle.std.specs.Str.{trim};
+ghost use Rattle.ir_print.specs.Formats.{step_of, steps_of, list_of};
+ghost use Rattle.ir_print.specs.Layout.{Chunk, a_part, line, gap_of_word, gap_of_part, number_text, width_text, name_on, type_on, piece_on, parts_on, format_on, members_on, names_on, results_on, arguments_on, operation_on, region_on, block_on, AreFlatArguments, AreShallow, layout, IsFlat, AreFlat, IsShallow};
+ghost use Rattle.ir_print.specs.Pieces.{ValueTree, Pieces, Head, Entity, entity, Entities};
+ghost use Rattle.ir_print.specs.Printed.{PrintsOperation, PrintsRegion, PrintsBlock, IsValueName, value_name, block_name, label_front};
+ghost use Rattle.ir_print.specs.Printing.{before_of, Adds, IsReadable, AreReadable};
+ghost use Rattle.ir_print.specs.PartPrinted.{PartPrinted};
+ghost use Rattle.ir_print.specs.Standing.{StandsResult, StandsArgument};
+ghost use Rattle.ir_print.specs.Shown.{IsNumber, IsWidth, ShowsType, ShowsAttribute, ShowsPart, ShowsParts, ShowsMembers, Pairs};
 
 use crate::dialect::TextDialect;
 use crate::format::{Directive, Number, Part};
-use ir_names::{Signedness, TypeHandle};
+use ir_names::{Identifier, Signedness, TypeHandle};
 use ir_store::{BasicBlock, Context, Operation, Ptr, Region, Value};
 use std::alloc::{AllocError, Global};
 
 /// Regions stand in one another at most so deep in a text.
 const DEEPEST: u32 = 64;
 
-/// How many calls of this file may stand in one another below a type or an attribute: some for each level.
-const VALUE_CALLS: u32 = 8 * DEEPEST;
+/// Lists stand in one another at most so deep in a format.
+const LISTS: u32 = 64;
+
+/// At most so many bytes are asked for before anything is printed.
+const FIRST_ROOM: usize = 1 << 16;
+
+/// The bytes to ask for at first: some for each value and each block of the context, up to a bound.
+fn first_room<D: TextDialect>(ctx: &Context<D>) -> usize
+    ensures values { ctx.now.counter < 2 ^ 64 }
+    ensures blocks { length ctx.now.blocks < 2 ^ 64 }
+{
+    let values = ctx.values_made() as usize;
+    let blocks = ctx.blocks_made();
+    values
+        .saturating_add(blocks)
+        .saturating_mul(64)
+        .min(FIRST_ROOM)
+}
 
 /// The text of an operation with all that stands in it, without a line end behind it.
 ///
@@ -22,8 +53,11 @@ pub fn print_root<D: TextDialect>(
     root: Ptr<Operation>,
 ) -> Result<String, AllocError>
     requires { IsLiveOperation ctx.now root }
+    ensures text { (tree : Entity (List ℕ)) → PrintsOperation D.says ctx.now root tree → IsShallow 64 tree → IfOk result (λ text. string_bytes text ≡ layout D.formats tree) }
+    ensures values { ctx.now.counter < 2 ^ 64 }
+    ensures blocks { length ctx.now.blocks < 2 ^ 64 }
 {
-    let mut out = String::new(alloc);
+    let mut out = String::with_capacity(alloc, first_room(ctx))?;
     print_operation(alloc, ctx, &mut out, root, 0, DEEPEST)?;
     Ok(out)
 }
@@ -39,7 +73,9 @@ enum Before {
     Part,
 }
 
-fn print_line(out: &mut String, indent: usize) -> Result<(), AllocError> {
+fn print_line(out: &mut String, indent: usize) -> Result<(), AllocError>
+    ensures { OnOk result (string_bytes out.new ≡ string_bytes out.old ++ line indent) }
+{
     out.push_str("\n")?;
     for _column in 0..indent {
         out.push_str(" ")?;
@@ -47,13 +83,17 @@ fn print_line(out: &mut String, indent: usize) -> Result<(), AllocError> {
     Ok(())
 }
 
-fn print_value(out: &mut String, value: Value) -> Result<(), AllocError> {
+fn print_value(out: &mut String, value: Value) -> Result<(), AllocError>
+    ensures { OnOk result (string_bytes out.new ≡ string_bytes out.old ++ value_name value.number) }
+{
     let number = value.number();
     write!(out, "v{number}")?;
     Ok(())
 }
 
-fn print_number(out: &mut String, number: Option<Number>) -> Result<(), AllocError> {
+fn print_number(out: &mut String, number: Option<Number>) -> Result<(), AllocError>
+    ensures { OnOk result ((negative : Bool) → (magnitude : ℕ) → IsNumber number negative magnitude → magnitude < 2 ^ 64 → string_bytes out.new ≡ string_bytes out.old ++ number_text negative magnitude) }
+{
     let Some(number) = number else {
         return Ok(());
     };
@@ -69,7 +109,9 @@ fn print_width(
     out: &mut String,
     signedness: Signedness,
     width: Option<u32>,
-) -> Result<(), AllocError> {
+) -> Result<(), AllocError>
+    ensures { OnOk result ((bits : ℕ) → IsWidth width bits → bits < 2 ^ 32 → string_bytes out.new ≡ string_bytes out.old ++ width_text signedness bits) }
+{
     let Some(width) = width else {
         return Ok(());
     };
@@ -81,7 +123,9 @@ fn print_width(
     Ok(())
 }
 
-fn print_literal(out: &mut String, before: Before, text: &str) -> Result<(), AllocError> {
+fn print_literal(out: &mut String, before: Before, text: &str) -> Result<(), AllocError>
+    ensures { OnOk result (string_bytes out.new ≡ string_bytes out.old ++ (gap_of_word (before_of before) ++ text.now)) }
+{
     if let Before::Id = before {
         out.push_str(" ")?;
     }
@@ -90,7 +134,9 @@ fn print_literal(out: &mut String, before: Before, text: &str) -> Result<(), All
 }
 
 /// Sets a part off from what stands before it.
-fn print_gap(out: &mut String, before: Before) -> Result<(), AllocError> {
+fn print_gap(out: &mut String, before: Before) -> Result<(), AllocError>
+    ensures { OnOk result (string_bytes out.new ≡ string_bytes out.old ++ gap_of_part (before_of before)) }
+{
     match before {
         Before::Literal => {}
         Before::Id => out.push_str(" ")?,
@@ -99,6 +145,18 @@ fn print_gap(out: &mut String, before: Before) -> Result<(), AllocError> {
     Ok(())
 }
 
+/// A name, with `@` before that of a symbol.
+fn print_name(out: &mut String, directive: Directive, name: &Identifier) -> Result<(), AllocError>
+    ensures { OnOk result ((rest : List Chunk) → Adds (string_bytes out.old) (string_bytes out.new) rest (name_on (step_of directive) (text_of name.now) rest)) }
+{
+    if let Directive::SymbolHeader = directive {
+        out.push_str("@")?;
+    }
+    out.push_str(name.as_str())?;
+    Ok(())
+}
+
+/// A type, where `left` types and attributes may stand in one another from here on.
 #[cycle(values)]
 fn print_type<D: TextDialect>(
     alloc: Global,
@@ -106,7 +164,9 @@ fn print_type<D: TextDialect>(
     out: &mut String,
     ty: TypeHandle,
     left: u32,
-) -> Result<(), AllocError> {
+) -> Result<(), AllocError>
+    ensures { OnOk result ((t : ValueTree) → (rest : List Chunk) → ShowsType D.says ctx.now.types ty t → IsFlat left t → Adds (string_bytes out.old) (string_bytes out.new) rest (type_on D.formats t rest)) }
+{
     let Some(key) = ctx.type_key(ty) else {
         out.push_str("?")?;
         return Ok(());
@@ -125,7 +185,9 @@ fn print_type<D: TextDialect>(
         &parts,
         Before::Id,
         left - 1,
-    )
+        LISTS,
+    )?;
+    Ok(())
 }
 
 #[cycle(values)]
@@ -135,7 +197,9 @@ fn print_attribute<D: TextDialect>(
     out: &mut String,
     attr: &D::Attr,
     left: u32,
-) -> Result<(), AllocError> {
+) -> Result<(), AllocError>
+    ensures { OnOk result ((t : ValueTree) → (rest : List Chunk) → ShowsAttribute D.says ctx.now.types attr.now t → IsFlat left t → Adds (string_bytes out.old) (string_bytes out.new) rest (type_on D.formats t rest)) }
+{
     if left == 0 {
         return Ok(());
     }
@@ -150,10 +214,12 @@ fn print_attribute<D: TextDialect>(
         &parts,
         Before::Id,
         left - 1,
-    )
+        LISTS,
+    )?;
+    Ok(())
 }
 
-/// The parts of a type or an attribute, or of a member of a list in one.
+/// The parts of a type or an attribute, or of a member of a list in one; `lists` lists may stand in one another from here on.
 #[cycle(values)]
 fn print_parts<D: TextDialect>(
     alloc: Global,
@@ -163,7 +229,10 @@ fn print_parts<D: TextDialect>(
     parts: &[Part<D>],
     from: Before,
     left: u32,
-) -> Result<(), AllocError> {
+    lists: u32,
+) -> Result<(), AllocError>
+    ensures { OnOk result ((ts : Pieces) → (rest : List Chunk) → ShowsParts D.says ctx.now.types parts.now ts → AreFlat left ts → AreReadable lists ts → Adds (string_bytes out.old) (string_bytes out.new) rest (format_on (before_of from) (steps_of format.now) (parts_on D.formats ts) rest)) }
+{
     let mut before = from;
     let mut next = 0;
     for directive in format {
@@ -174,7 +243,7 @@ fn print_parts<D: TextDialect>(
         }
         if let Some(part) = parts.get(next) {
             print_gap(out, before)?;
-            print_part(alloc, ctx, out, *directive, part, left)?;
+            print_part(alloc, ctx, out, *directive, part, left, lists)?;
             before = Before::Part;
             next += 1;
         }
@@ -190,24 +259,21 @@ fn print_part<D: TextDialect>(
     directive: Directive,
     part: &Part<D>,
     left: u32,
-) -> Result<(), AllocError> {
-    if left == 0 {
-        return Ok(());
-    }
+    lists: u32,
+) -> Result<(), AllocError>
+    ensures { OnOk result ((t : ValueTree) → (rest : List Chunk) → ShowsPart D.says ctx.now.types part.now t → IsFlat left t → IsReadable lists t → Adds (string_bytes out.old) (string_bytes out.new) rest (piece_on D.formats t (step_of directive) rest)) }
+{
     match part {
         Part::Number(number) => print_number(out, *number)?,
         Part::Width(signedness, width) => print_width(out, *signedness, *width)?,
-        Part::Type(ty) => print_type(alloc, ctx, out, *ty, left - 1)?,
-        Part::Attribute(attr) => print_attribute(alloc, ctx, out, attr, left - 1)?,
-        Part::Name(name) => {
-            if let Directive::SymbolHeader = directive {
-                out.push_str("@")?;
-            }
-            out.push_str(name.as_str())?;
-        }
+        Part::Type(ty) => print_type(alloc, ctx, out, *ty, left)?,
+        Part::Attribute(attr) => print_attribute(alloc, ctx, out, attr, left)?,
+        Part::Name(name) => print_name(out, directive, name)?,
         Part::List(members) => {
             if let Directive::List(member, separator) = directive {
-                print_list(alloc, ctx, out, member, separator, members, left - 1)?;
+                if lists > 0 {
+                    print_list(alloc, ctx, out, member, separator, members, left, lists - 1)?;
+                }
             }
         }
         Part::Operands(_) => {}
@@ -225,17 +291,17 @@ fn print_list<D: TextDialect>(
     separator: &str,
     members: &[Vec<Part<D>>],
     left: u32,
-) -> Result<(), AllocError> {
-    if left == 0 {
-        return Ok(());
-    }
+    lists: u32,
+) -> Result<(), AllocError>
+    ensures { OnOk result ((ts : Pieces) → (rest : List Chunk) → ShowsMembers D.says ctx.now.types members.now ts → AreFlat left ts → AreReadable lists ts → Adds (string_bytes out.old) (string_bytes out.new) rest (members_on (list_of (steps_of member.now) separator.now (trim separator.now)) (parts_on D.formats ts) rest)) }
+{
     let mut is_first = true;
     for parts in members {
         if !is_first {
             out.push_str(separator)?;
         }
         is_first = false;
-        print_parts(alloc, ctx, out, member, parts, Before::Literal, left - 1)?;
+        print_parts(alloc, ctx, out, member, parts, Before::Literal, left, lists)?;
     }
     Ok(())
 }
@@ -247,21 +313,25 @@ fn print_results<D: TextDialect>(
     op: Ptr<Operation>,
 ) -> Result<(), AllocError>
     requires { IsLiveOperation ctx.now op }
+    ensures { OnOk result ((rs : List (List ℕ × ValueTree)) → (rest : List Chunk) → Pairs (StandsResult D.says IsValueName ctx.now op) (results_of ctx.now op) rs → Adds (string_bytes out.old) (string_bytes out.new) rest (results_on rs rest)) }
 {
     let count = op.get_num_results(ctx);
+    if count == 0 {
+        return Ok(());
+    }
+    let mut is_first = true;
     for index in 0..count {
-        if index > 0 {
+        if !is_first {
             out.push_str(", ")?;
         }
+        is_first = false;
         print_value(out, op.get_result(ctx, index))?;
     }
-    if count > 0 {
-        out.push_str(" = ")?;
-    }
+    out.push_str(" = ")?;
     Ok(())
 }
 
-/// So many operands, from this one on.
+/// The operands from one on, up to another.
 fn print_operands<D: TextDialect>(
     ctx: &Context<D>,
     out: &mut String,
@@ -269,15 +339,18 @@ fn print_operands<D: TextDialect>(
     from: usize,
     to: usize,
 ) -> Result<(), AllocError>
-    requires { IsLiveOperation ctx.now op }
+    requires live { IsLiveOperation ctx.now op }
+    requires ordered { from ≤ to }
+    requires within { to ≤ length (operands_of ctx.now op) }
+    ensures { OnOk result ((xs : List (List ℕ)) → (rest : List Chunk) → Pairs IsValueName (drop from (take to (operands_of ctx.now op))) xs → Adds (string_bytes out.old) (string_bytes out.new) rest (names_on xs rest)) }
 {
+    let mut is_first = true;
     for index in from..to {
-        if index > from {
+        if !is_first {
             out.push_str(", ")?;
         }
-        if index < op.get_num_operands(ctx) {
-            print_value(out, op.get_operand(ctx, index))?;
-        }
+        is_first = false;
+        print_value(out, op.get_operand(ctx, index))?;
     }
     Ok(())
 }
@@ -289,12 +362,14 @@ fn print_label<D: TextDialect>(
     block: Ptr<BasicBlock>,
 ) -> Result<(), AllocError>
     requires { IsLiveBlock ctx.now block }
+    ensures { OnOk result (string_bytes out.new ≡ string_bytes out.old ++ block_name (label_front (label_of ctx.now block)) block.slot block.version) }
 {
     if let Some(label) = block.label(ctx) {
         out.push_str(label.as_str())?;
         out.push_str("_")?;
     }
-    let slot = block.slot().saturating_add(1);
+    // A slot may be any usize, and the one behind the last isn't.
+    let slot = block.slot() as u128 + 1;
     let version = block.version();
     write!(out, "block{slot}v{version}")?;
     Ok(())
@@ -305,22 +380,20 @@ fn print_arguments<D: TextDialect>(
     ctx: &Context<D>,
     out: &mut String,
     block: Ptr<BasicBlock>,
+    left: u32,
 ) -> Result<(), AllocError>
     requires { IsLiveBlock ctx.now block }
+    ensures { OnOk result ((xs : List (List ℕ × ValueTree)) → (rest : List Chunk) → Pairs (StandsArgument D.says IsValueName ctx.now block) (arguments_of ctx.now block) xs → AreFlatArguments left xs → Adds (string_bytes out.old) (string_bytes out.new) rest (arguments_on D.formats xs rest)) }
 {
+    let mut is_first = true;
     for index in 0..block.get_num_arguments(ctx) {
-        if index > 0 {
+        if !is_first {
             out.push_str(", ")?;
         }
+        is_first = false;
         print_value(out, block.get_argument(ctx, index))?;
         out.push_str(": ")?;
-        print_type(
-            alloc,
-            ctx,
-            out,
-            block.argument_type(ctx, index),
-            VALUE_CALLS,
-        )?;
+        print_type(alloc, ctx, out, block.argument_type(ctx, index), left)?;
     }
     Ok(())
 }
@@ -334,6 +407,19 @@ struct Progress {
     regions: usize,
 }
 
+/// Behind a part that is printed.
+fn behind_part(operands: usize, regions: usize) -> Progress
+    ensures before { before_of result.before ≡ a_part }
+    ensures operands { result.operands ≡ operands }
+    ensures regions { result.regions ≡ regions }
+{
+    Progress {
+        before: Before::Part,
+        operands,
+        regions,
+    }
+}
+
 #[cycle(operations)]
 fn print_operation<D: TextDialect>(
     alloc: Global,
@@ -343,11 +429,10 @@ fn print_operation<D: TextDialect>(
     indent: usize,
     left: u32,
 ) -> Result<(), AllocError>
-    requires { IsLiveOperation ctx.now op }
+    requires live { IsLiveOperation ctx.now op }
+    requires narrow { indent + 4 * left < 2 ^ 60 }
+    ensures { OnOk result ((t : Entity (List ℕ)) → (rest : List Chunk) → PrintsOperation D.says ctx.now op t → IsShallow left t → Adds (string_bytes out.old) (string_bytes out.new) rest (operation_on D.formats indent t rest)) }
 {
-    if left == 0 {
-        return Ok(());
-    }
     print_results(ctx, out, op)?;
     let kind = op.kind(ctx);
     out.push_str(D::op_id(kind))?;
@@ -362,7 +447,9 @@ fn print_operation<D: TextDialect>(
         if let Directive::Literal(text) = directive {
             print_literal(out, progress.before, text)?;
             progress.before = Before::Literal;
-        } else if let Some(part) = parts.get(next) {
+            continue;
+        }
+        if let Some(part) = parts.get(next) {
             progress = print_operation_part(
                 alloc, ctx, out, op, *directive, part, progress, indent, left,
             )?;
@@ -385,29 +472,34 @@ fn print_operation_part<D: TextDialect>(
     indent: usize,
     left: u32,
 ) -> Result<Progress, AllocError>
-    requires { IsLiveOperation ctx.now op }
+    requires live { IsLiveOperation ctx.now op }
+    requires narrow { indent + 4 * left < 2 ^ 60 }
+    ensures { IfOk result (λ after. PartPrinted D.says D.formats ctx.now op (step_of directive) part.now indent left progress after (string_bytes out.old) (string_bytes out.new)) }
 {
-    let mut after = progress;
+    let regions = progress.regions;
+    let operands = progress.operands;
     if let Part::Operands(count) = part {
-        if *count == 0 {
+        let to = operands
+            .saturating_add(*count)
+            .min(op.get_num_operands(ctx));
+        if operands >= to {
             return Ok(progress);
         }
-        after.operands = progress.operands.saturating_add(*count);
         print_gap(out, progress.before)?;
-        print_operands(ctx, out, op, progress.operands, after.operands)?;
-    } else if let Part::Region = part {
-        print_gap(out, progress.before)?;
-        if left > 0 && progress.regions < op.num_regions(ctx) {
-            let region = op.get_region(ctx, progress.regions);
-            print_region(alloc, ctx, out, region, indent, left - 1)?;
-        }
-        after.regions = progress.regions.saturating_add(1);
-    } else {
-        print_gap(out, progress.before)?;
-        print_part(alloc, ctx, out, directive, part, VALUE_CALLS)?;
+        print_operands(ctx, out, op, operands, to)?;
+        return Ok(behind_part(to, regions));
     }
-    after.before = Before::Part;
-    Ok(after)
+    print_gap(out, progress.before)?;
+    if let Part::Region = part {
+        if left == 0 || regions >= op.num_regions(ctx) {
+            return Ok(behind_part(operands, regions));
+        }
+        let region = op.get_region(ctx, regions);
+        print_region(alloc, ctx, out, region, indent, left - 1)?;
+        return Ok(behind_part(operands, regions + 1));
+    }
+    print_part(alloc, ctx, out, directive, part, left, LISTS)?;
+    Ok(behind_part(operands, regions))
 }
 
 /// A region, from the end of the line on which its operation stands.
@@ -420,14 +512,16 @@ fn print_region<D: TextDialect>(
     indent: usize,
     left: u32,
 ) -> Result<(), AllocError>
-    requires { IsLiveRegion ctx.now region }
+    requires live { IsLiveRegion ctx.now region }
+    requires narrow { indent + 4 * left + 4 < 2 ^ 60 }
+    ensures { OnOk result ((p : Pointer Op) → (h : Head (List ℕ)) → (ts : Entities (List ℕ)) → (rest : List Chunk) → PrintsRegion D.says ctx.now p region (entity h ts) → AreShallow left ts → Adds (string_bytes out.old) (string_bytes out.new) rest (region_on D.formats indent (entity h ts) rest)) }
 {
     print_line(out, indent)?;
     out.push_str("{")?;
     for index in 0..region.num_blocks(ctx) {
+        print_line(out, indent + 2)?;
         let block = region.get_block(ctx, index);
-        print_line(out, indent.saturating_add(2))?;
-        print_block(alloc, ctx, out, block, indent.saturating_add(2), left)?;
+        print_block(alloc, ctx, out, block, indent + 2, left)?;
     }
     print_line(out, indent)?;
     out.push_str("}")?;
@@ -443,21 +537,24 @@ fn print_block<D: TextDialect>(
     indent: usize,
     left: u32,
 ) -> Result<(), AllocError>
-    requires { IsLiveBlock ctx.now block }
+    requires live { IsLiveBlock ctx.now block }
+    requires narrow { indent + 4 * left + 2 < 2 ^ 60 }
+    ensures { OnOk result ((r : Pointer Reg) → (t : Entity (List ℕ)) → (rest : List Chunk) → PrintsBlock D.says ctx.now r block t → IsShallow left t → Adds (string_bytes out.old) (string_bytes out.new) rest (block_on D.formats indent t rest)) }
 {
     out.push_str("^")?;
     print_label(ctx, out, block)?;
     out.push_str("(")?;
-    print_arguments(alloc, ctx, out, block)?;
+    print_arguments(alloc, ctx, out, block, left)?;
     out.push_str("):")?;
-    let inner = indent.saturating_add(2);
+    let mut is_first = true;
     for index in 0..block.num_operations(ctx) {
-        if index > 0 {
+        if !is_first {
             out.push_str(";")?;
         }
-        print_line(out, inner)?;
+        is_first = false;
+        print_line(out, indent + 2)?;
         let op = block.get_operation(ctx, index);
-        print_operation(alloc, ctx, out, op, inner, left)?;
+        print_operation(alloc, ctx, out, op, indent + 2, left)?;
     }
     Ok(())
 }

@@ -73,7 +73,7 @@ several_behind n s member h =
 module _ (ws : List (List ℕ)) where
   mutual
     step_behind : (s : Step) (n : ℕ) → MadeBehindNames (step_made ws s n)
-    step_behind (word w) n = (tt, tt)
+    step_behind (word printed w) n = (tt, tt)
     step_behind operands n = (tt, (tt, ((refl, tt), (tt, ((refl, tt), tt)))))
     step_behind an_attribute n = (tt, tt)
     step_behind a_type n = (tt, tt)
@@ -82,7 +82,7 @@ module _ (ws : List (List ℕ)) where
     step_behind a_name n = ((refl, tt), tt)
     step_behind a_number n = (tt, tt)
     step_behind a_width n = (tt, tt)
-    step_behind (list_of member separator) n =
+    step_behind (list_of member printed separator) n =
         let m = steps_made ws member (up n 2) in
         let inside = steps_behind member (up n 2) in
         (tt, rules_append m.rules _ inside.1 (several_behind n (up (number_of ws separator) 3) (Act act.BeginItem ∷ (m.symbols ++ Act act.EndItem ∷ [])) (behind_append false m.symbols (Act act.EndItem ∷ []) inside.0 tt)))

@@ -73,7 +73,7 @@ module _ (names : ℕ → Bool) where
 -- ---- the tokens of names
 
 -- Each action that keeps a name or names a value comes behind a token of which this holds; n tokens have been taken before.
-abbrev AllAt : (ℕ → Type 0) → ℕ → List Event → Type 0
+abbrev pub AllAt : (ℕ → Type 0) → ℕ → List Event → Type 0
 AllAt P n [] = Unit {0}
 AllAt P n (Took ∷ es) = AllAt P (n + 1) es
 AllAt P n (Did a ∷ es) = (keeps_name a ≡ true → P (n - 1)) × AllAt P n es
@@ -104,7 +104,7 @@ module _ (names : ℕ → Bool) (P : ℕ → Type 0) where
   marked_front (k ∷ ks) n (suc m) h = (h.0, marked_front ks (n + 1) m h.1)
 
 -- the token with this number may be a name
-abbrev SpelledAt : List Token → ℕ → Type 0
+abbrev pub SpelledAt : List Token → ℕ → Type 0
 SpelledAt ts n = (t : Token) × (slice_get ts n ≡ Some t) × (is_spelled t.kind ≡ true)
 
 module _ (names : ℕ → Bool) (kind : Token → ℕ) (ts : List Token) (known : (t : Token) → names (kind t) ≡ true → is_spelled t.kind ≡ true) where
@@ -167,7 +167,7 @@ module _ (g : Grammar) (ok : AreBehindNames (plain_rules g.rules.items)) where
       (v.0, follows_front (accepts g 0) es f.0 false (take n ks ++ v.0) (subst (λ x. FollowNames (accepts g 0) x false (take n ks ++ v.0)) f.1 (follows g ok v.1.1 false tt)), omega (arith, r.took, long))
 
 -- each name of a value or a label comes behind a token that may be a name
-reading_spelled : (l : Language) (cs : List ℕ) (ts : List Token) (names : List ℕ) (stop : Stop) (n : ℕ) (es : List Event) → IsReading l cs ts names stop n es → AllAt (SpelledAt ts) 0 es
+pub reading_spelled : (l : Language) (cs : List ℕ) (ts : List Token) (names : List ℕ) (stop : Stop) (n : ℕ) (es : List Event) → IsReading l cs ts names stop n es → AllAt (SpelledAt ts) 0 es
 reading_spelled l cs ts names stop n es r =
     let s = r.reads in
     let g = s.0 in
@@ -182,28 +182,28 @@ reading_spelled l cs ts names stop n es r =
 no_site : {A : Type 0} (s : Site) → None ≡ Some s → A
 no_site s h = cc
 
-abbrev IsOwn : (Place → Event → List Site) → Type 0
+abbrev pub IsOwn : (Place → Event → List Site) → Type 0
 IsOwn f = (at : Place) (a : Action) (i : ℕ) (s : Site) → slice_get (f at (Did a)) i ≡ Some s → (keeps_name a ≡ true) × (s.token ≡ last_token at)
 
 one_site : (x s : Site) (i : ℕ) → slice_get (x ∷ []) i ≡ Some s → x ≡ s
 one_site x s zero h = cc
 one_site x s (suc i) h = no_site s h
 
-defined_own : IsOwn defined
+pub defined_own : IsOwn defined
 defined_own at act.Result i s h = (refl, ap (λ x. x.token) (sym (one_site _ s i h)))
 defined_own at act.Argument i s h = (refl, ap (λ x. x.token) (sym (one_site _ s i h)))
 defined_own at _ i s h = no_site s h
 
-labelled_own : IsOwn labelled
+pub labelled_own : IsOwn labelled
 labelled_own at act.Label i s h = (refl, ap (λ x. x.token) (sym (one_site _ s i h)))
 labelled_own at _ i s h = no_site s h
 
-mentioned_own : IsOwn mentioned
+pub mentioned_own : IsOwn mentioned
 mentioned_own at act.Operand i s h = (refl, ap (λ x. x.token) (sym (one_site _ s i h)))
 mentioned_own at _ i s h = no_site s h
 
 module _ (isolated : ℕ → Bool) (P : ℕ → Type 0) (f : Place → Event → List Site) (took : (at : Place) → f at Took ≡ []) (own : IsOwn f) where
-  sites_at : (at : Place) (es : List Event) → AllAt P at.tokens es → (i : ℕ) (s : Site) → slice_get (each isolated f at es) i ≡ Some s → P s.token
+  pub sites_at : (at : Place) (es : List Event) → AllAt P at.tokens es → (i : ℕ) (s : Site) → slice_get (each isolated f at es) i ≡ Some s → P s.token
   sites_at at [] all i s h = no_site s h
   sites_at at (Took ∷ es) all i s h =
       sites_at (behind isolated at Took) es all i s (subst (λ xs. slice_get (xs ++ each isolated f (behind isolated at Took) es) i ≡ Some s) (took at) h)

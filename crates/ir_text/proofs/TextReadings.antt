@@ -32,7 +32,7 @@ abbrev around_in : List Position → Option Standing → List Position
 around_in ps None = ps
 around_in ps (Some s) = s.around
 
-leads_along : (es : List Event) (here : Position) (around : List Position) (to : Position) (back : List Position)
+pub leads_along : (es : List Event) (here : Position) (around : List Position) (to : Position) (back : List Position)
     → passed_all (Some (record { here = here; around = around })) es ≡ Some (record { here = to; around = back }) → Leads here around es to back
 leads_along [] here around to back h = (ap (here_in here) h, ap (around_in around) h)
 leads_along (Took ∷ es) here around to back h = leads_along es here around to back h
@@ -48,7 +48,7 @@ leads_along (Did a ∷ es) here around to back h = go (move here a) around h (λ
     go nowhere ps h again = nothing (sym (passed_none es) ∙ h)
 
 module _ (l : Language) (leads : ordered.Leads) (ok : is_ordered leads (rules_of l.formats) ≡ true) (cs : List ℕ) (ts : List Token) (names : List ℕ) (n : ℕ) (es : List Event) where
-  orders : (g : Grammar) → plain_rules g.rules.items ≡ rules_of l.formats → OrdersTexts g
+  pub orders : (g : Grammar) → plain_rules g.rules.items ≡ rules_of l.formats → OrdersTexts g
   orders g same = orders_texts g leads (ap (is_ordered leads) same ∙ ok)
 
   -- what reading does is in order

@@ -1,5 +1,5 @@
 -- A text has one first fault, or none.
-use Rattle.std.proofs.Common.{◌≡◌, ℕ, true, List, Option, Some, None, map, sym, subst, ap, ◌∙◌}
+use Rattle.std.proofs.Common.{length, ◌≤◌, ◌≡◌, ℕ, true, List, Option, Some, None, map, sym, subst, ap, ◌∙◌}
 use Rattle.std.specs.Str.{chars}
 use Rattle.ir_text.specs.declared.grammar.Event.{Event}
 use Rattle.ir_text.specs.declared.grammar.Stop.{Stop}
@@ -21,8 +21,8 @@ use Rattle.ir_text.proofs.Renumbering.{renumbered}
 
 -- the same reading, with other tokens that are the same and other numbers of names
 renamed_reading : (l : Language) (cs : List ℕ) (ts : List Token) (names numbers : List ℕ) (stop : Stop) (n : ℕ) (es : List Event) → IsReading l cs ts names stop n es → AlikeInNumber cs ts numbers
-    → IsReading l cs ts numbers stop n es
-renamed_reading l cs ts names numbers stop n es r alike = record { tokens = r.tokens; alike = alike; reads = r.reads }
+    → length ts ≤ length numbers → IsReading l cs ts numbers stop n es
+renamed_reading l cs ts names numbers stop n es r alike many = record { tokens = r.tokens; numbered = many; alike = alike; reads = r.reads }
 
 -- where the numbers are the same
 near : (l : Language) (leads : Leads) → is_ordered leads (rules_of l.formats) ≡ true → (cs : List ℕ) (ts : List Token) (names : List ℕ) (stop halt : Stop) (n m : ℕ) (es fs : List Event) (f g : Option Fault)
@@ -44,9 +44,9 @@ one_verdict l leads ok cs ts us names numbers stop halt n m es fs f g r s named 
   where
     go : IsReading l cs ts numbers halt m fs → IsNamed (HasFault l cs ts numbers halt m fs) g → f ≡ g
     go q known =
-        near l leads ok cs ts names stop halt n m es fs f g r (renamed_reading l cs ts numbers names halt m fs q r.alike) named
+        near l leads ok cs ts names stop halt n m es fs f g r (renamed_reading l cs ts numbers names halt m fs q r.alike r.numbered) named
         (named_along (HasFault l cs ts numbers halt m fs) (HasFault l cs ts names halt m fs) g (renumbered l cs ts numbers names halt m fs q r.alike)
-        (renumbered l cs ts names numbers halt m fs (renamed_reading l cs ts numbers names halt m fs q r.alike) q.alike) known)
+        (renumbered l cs ts names numbers halt m fs (renamed_reading l cs ts numbers names halt m fs q r.alike r.numbered) q.alike) known)
 
 pub one_told : (l : Language) (leads : Leads) → is_ordered leads (rules_of l.formats) ≡ true → (cs : List ℕ) (f g : TextFault) → IsTextFault l cs f → IsTextFault l cs g → f ≡ g
 one_told l leads ok cs f g (ts, names, stop, n, es, x, r, named, told) (us, numbers, halt, m, fs, y, s, other, also) =

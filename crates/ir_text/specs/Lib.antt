@@ -27,3 +27,7 @@ pub mod Worlds
 pub mod Raised
 pub mod Makes
 pub mod Linking
+pub mod Closed
+pub mod Printable
+pub mod Outer
+pub mod Bare

@@ -41,7 +41,7 @@ frame_words = codes "," ∷ codes "=" ∷ codes "{" ∷ codes "}" ∷ codes ";" 
 abbrev mutual
   -- the words in a step of a format
   pub words_in_step : Step → List (List ℕ)
-  words_in_step (word w) = w ∷ []
+  words_in_step (word printed w) = w ∷ []
   words_in_step operands = codes "," ∷ []
   words_in_step an_attribute = []
   words_in_step a_type = []
@@ -50,7 +50,7 @@ abbrev mutual
   words_in_step a_name = []
   words_in_step a_number = []
   words_in_step a_width = []
-  words_in_step (list_of member separator) = separator ∷ words_in member
+  words_in_step (list_of member printed separator) = separator ∷ words_in member
 
   -- the words in a format
   pub words_in : Steps → List (List ℕ)
@@ -231,7 +231,7 @@ list_made n separator member = record {
 abbrev mutual
   -- what a step makes, n being the part of the next list
   pub step_made : List (List ℕ) → Step → ℕ → Made
-  step_made ws (word w) n = just (sign ws w ∷ []) n
+  step_made ws (word printed w) n = just (sign ws w ∷ []) n
   step_made ws operands n = record {
     symbols = Act act.BeginOperands ∷ Part n ∷ Act act.EndOperands ∷ [];
     rules = several n (sign ws (codes ",")) (name ∷ Act act.Operand ∷ []);
@@ -244,7 +244,7 @@ abbrev mutual
   step_made ws a_name n = just (name ∷ Act act.Name ∷ []) n
   step_made ws a_number n = just (number ∷ Act act.Number ∷ []) n
   step_made ws a_width n = just (width ∷ Act act.Width ∷ []) n
-  step_made ws (list_of member separator) n = list_made n (sign ws separator) (steps_made ws member (up n 2))
+  step_made ws (list_of member printed separator) n = list_made n (sign ws separator) (steps_made ws member (up n 2))
 
   -- what the steps of a format make
   pub steps_made : List (List ℕ) → Steps → ℕ → Made

@@ -1,5 +1,5 @@
 -- Which texts are read, what they say, and how the others are refused.
-use Rattle.std.specs.Prelude.{◌≡◌, ◌<◌, ℕ, List, [], map, length, take, slice_get, slice_index, Option, Some, None, Bool, ◌⊎◌}
+use Rattle.std.specs.Prelude.{◌≡◌, ◌<◌, ◌≤◌, ℕ, List, [], map, length, take, slice_get, slice_index, Option, Some, None, Bool, ◌⊎◌}
 use Rattle.std.specs.Option.{option_map_or}
 use Rattle.std.specs.Str.{chars}
 use Rattle.ir_names.specs.Tree.{Trees}
@@ -27,6 +27,7 @@ use Rattle.ir_text.specs.Tokens.{ReadsAs, place}
 use Rattle.ir_text.specs.Words.{text_of, kind_of, AlikeInNumber}
 use Rattle.ir_text.specs.Rules.{words_of, rules_of, classes_of, plain_rules, plain_classes}
 use Rattle.ir_text.specs.Reading.{Reads}
+use Rattle.ir_text.specs.Table.{CanRead}
 use Rattle.ir_text.specs.Faults.{IsNamed}
 use Rattle.ir_text.specs.Depth.{IsTooDeep}
 use Rattle.ir_text.specs.Scopes.{isolated_at, definitions, HasScopeFault, IsResolved}
@@ -44,19 +45,21 @@ pub record Language : Type 0 where
 abbrev pub language_of : {K : Type 0} → Formats → (ℕ → Option K) → (K → Bool) → Values → Language
 language_of formats kind_at isolated values = record { formats = formats; isolated = isolated_at kind_at isolated; values = values }
 
--- a grammar with the rules and the signs of the formats
+-- A grammar with the rules and the signs of the formats, whose texts can be read.
 pub record IsGrammarOf (f : Formats) (g : Grammar) : Type 0 where
   pub rules : plain_rules g.rules.items ≡ rules_of f
   pub signs : plain_classes g.signs.items ≡ classes_of (words_of f)
+  pub readable : CanRead g 0
 
 -- the characters of the token with this number, none behind the last
 abbrev pub token_text : List ℕ → List Token → ℕ → List ℕ
 token_text cs ts k = option_map_or (text_of cs) (slice_get ts k) []
 
--- A text is these tokens, and reading them in the formats' grammar, with at most 64 parts open, does this up to where it stops. Two
--- names of the text have one number where they are spelled alike.
+-- A text is these tokens, and reading them in the formats' grammar, with at most 64 parts open, does this up to where it stops. Each
+-- token has a number, and two names of the text have one number where they are spelled alike.
 pub record IsReading (l : Language) (cs : List ℕ) (ts : List Token) (names : List ℕ) (stop : Stop) (n : ℕ) (es : List Event) : Type 0 where
   pub tokens : ReadsAs cs 0 ts
+  pub numbered : length ts ≤ length names
   pub alike : AlikeInNumber cs ts names
   pub reads : (g : Grammar) × IsGrammarOf l.formats g × Reads g 0 64 (map (kind_of (map chars (words_of l.formats)) cs) ts) stop n es
 

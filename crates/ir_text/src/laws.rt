@@ -20,7 +20,18 @@ ghost use Rattle.ir_text.specs.Nesting.{at_root, at_end, FollowTokens};
 ghost use Rattle.ir_text.specs.Ordered.{Leads, is_ordered, IsInOrder, LeadsTo, OrdersTexts};
 ghost use Rattle.ir_text.specs.Identifiers.{AreSpelt};
 ghost use Rattle.ir_text.specs.Texts.{Language, IsReading, token_text};
+ghost use Rattle.std.specs.Prelude.{◌<◌, ◌^◌, ◌∷◌, [], length, chars, IsUtf8};
+ghost use Rattle.ir_store.specs.declared.pointer.Ptr.{Ptr};
+ghost use Rattle.ir_store.specs.declared.pointer.Operation.{Operation};
+ghost use Rattle.ir_store.specs.declared.value.Value.{Value};
+ghost use Rattle.ir_store.specs.Views.{ContextView};
+ghost use Rattle.ir_print.specs.Standing.{StandsOperation, Named};
+ghost use Rattle.ir_text.specs.Closed.{IsClosed, IsNumbered, IsSameModule};
+ghost use Rattle.ir_text.specs.Printable.{CanPrint, IsLayoutOf};
+ghost use Rattle.ir_text.specs.Texts.{IsGrammarOf};
 ghost use Rattle.ir_text.specs.Scopes.{HasScopeFault, OwnTokens, AreApart, definitions, mentions};
+
+use ir_print::TextDialect;
 
 /// The characters of a text are one list of tokens.
 pub fn tokens_are_unique()
@@ -118,4 +129,17 @@ pub fn one_verdict()
 pub fn texts_have_one_answer()
     ensures one { (l : Language) (leads : Leads) → is_ordered leads (rules_of l.formats) ≡ true → (cs : List ℕ) (f g : TextFault) → IsTextFault l cs f → IsTextFault l cs g → f ≡ g }
     ensures either { (l : Language) (leads : Leads) → is_ordered leads (rules_of l.formats) ≡ true → (cs : List ℕ) (f : TextFault) (tree : Entity ℕ) → IsTextFault l cs f → Says l cs tree → ⊥ }
+{}
+
+/// The tree of a text, for which an operation of a context stands, is closed, and its definitions are numbered in the order of the text.
+pub fn trees_of_texts_are_closed<D: TextDialect>()
+    ensures { (l : Language) → CanPrint l → l.formats ≡ D.formats → l.values ≡ D.values → (values : List Value) → (s : ContextView D.OpKind D.Attr D.TypeKey) → (root : Ptr Operation)
+        → (cs : List ℕ) → (tree : Entity ℕ) → Says l cs tree → StandsOperation D.says (Named values) s root tree → IsClosed l tree × IsNumbered tree }
+{}
+
+/// What is printed of a closed tree is its characters as bytes, and is read again, as the same tree but for its labels.
+pub fn printed_texts_are_read()
+    ensures bytes { (l : Language) → CanPrint l → (tree : Entity ℕ) → (text : List ℕ) → IsClosed l tree → IsLayoutOf l.formats tree text → IsUtf8 (text ++ 10 ∷ []) × (chars (text ++ 10 ∷ []) ≡ text ++ 10 ∷ []) }
+    ensures read { (l : Language) → CanPrint l → (g : Grammar) → IsGrammarOf l.formats g → (tree : Entity ℕ) → (text : List ℕ) → IsClosed l tree → IsNumbered tree → IsLayoutOf l.formats tree text
+        → length (text ++ 10 ∷ []) < 2 ^ 63 → (again : Entity ℕ) × Says l (text ++ 10 ∷ []) again × IsSameModule again tree }
 {}

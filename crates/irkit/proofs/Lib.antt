@@ -2,3 +2,4 @@ pub mod StreamLemmas
 pub mod Ends
 pub mod Names
 pub mod Mistakes
+pub mod Written

@@ -7,8 +7,12 @@ use Rattle.ir_store.specs.declared.value.Value.{Value}
 use Rattle.ir_store.specs.Context.{parent_block_of}
 use Rattle.ir_store.specs.Marks.{IsSameTree, KeepsBelow, mark_of}
 use Rattle.ir_print.specs.Pieces.{Entity}
+use Rattle.ir_print.specs.Standing.{StandsOperation, Named, AreDistinct}
+use Rattle.ir_text.specs.Closed.{IsSameModule}
+use Rattle.ir_text.specs.Printable.{IsLayoutOf}
 use Rattle.ir_print.specs.Standing.{StandsOperation, Named, AreDistinct, AreBelow}
 use Rattle.kit_dialect.specs.Shapes.{KitContext}
+use Rattle.kit_dialect.specs.Texts.{formats}
 use Rattle.kit_dialect.specs.Says.{says}
 use Rattle.irkit.specs.declared.watched.Watched.{Watched}
 use Rattle.irkit.specs.declared.refusal.Refusal.{Refusal}
@@ -88,13 +92,18 @@ module _ {W : Type 0} (contents : W → Option (List ℕ)) (old new : Watched W)
   EndsWriting (Err (Write b)) = TookFirst b
   EndsWriting (Err _) = ⊥
 
--- a text that ends in a line end
-abbrev pub IsLine : List ℕ → Type 0
-IsLine text = (front : List ℕ) × (text ≡ front ++ 10 ∷ [])
-
--- What `run` writes for these bytes: a text that ends in a line end, where they are accepted.
-abbrev pub RunGives : List ℕ → List ℕ → Type 0
-RunGives bytes text = IsAccepted bytes × IsLine text
+-- What `run` writes for these bytes: a text of the module that they say, and a line end. The text is accepted again, as the same module.
+pub record RunGives (bytes text : List ℕ) : Type 0 where
+  pub tree : Entity ℕ
+  pub accepted : IsAcceptedAs bytes tree
+  -- the text of the module
+  pub front : List ℕ
+  pub laid_out : IsLayoutOf formats tree front
+  pub written : text ≡ front ++ 10 ∷ []
+  -- what the text is accepted as
+  pub again : Entity ℕ
+  pub accepted_again : IsAcceptedAs text again
+  pub same : IsSameModule again tree
 
 -- the line `ok`
 abbrev pub ok_line : List ℕ

@@ -1,5 +1,6 @@
 -- What operations are made with, of their parts.
-use Rattle.std.proofs.Common.{◌≡◌, ℕ, ◌+◌, Bool, true, false, ◌&&◌, ◌⊎◌, inl, inr, List, [], ◌∷◌, Option, Some, None, option_map, option_and_then, nat_lt, ◌^◌, refl, sym, ap, ◌∙◌, subst, arith}
+use Rattle.std.proofs.Common.{◌≡◌, ℕ, ◌+◌, Bool, true, false, ◌&&◌, ◌⊎◌, inl, inr, List, [], ◌∷◌, Option, Some, None, option_map, option_and_then, nat_le, nat_lt, ◌^◌, refl, sym, ap, ◌∙◌, subst, arith}
+use Rattle.std.proofs.lemmas.Bool.{and_parts, leb-true, lt-ltb}
 use Rattle.std.specs.List.{slice_get}
 use Rattle.ir_names.specs.declared.kinds.TypeHandle.{TypeHandle}
 use Rattle.ir_names.specs.declared.kinds.Signedness.{Signedness}
@@ -7,7 +8,7 @@ use Rattle.ir_names.specs.declared.identifier.Identifier.{Identifier}
 use Rattle.ir_names.specs.Identifier.{text_of}
 use Rattle.ir_names.specs.Tree.{Tree, Trees, node, no_tree, a_tree}
 use Rattle.ir_print.specs.declared.format.Part.{Part}
-use Rattle.ir_print.specs.Pieces.{Piece, list, item, number, width, type_of_kind, attribute_of_kind, region, name, operands, ValueTree, Pieces}
+use Rattle.ir_print.specs.Pieces.{list, item, number, width, type_of_kind, attribute_of_kind, region, name, operands, ValueTree, Pieces}
 use Rattle.ir_print.specs.Shown.{Said, said_width, said_type, said_attribute, Shows, Pairs, said_name, said_region, said_operands, leaf, ShowsAll, ShowsPart, ShowsType, Drafts}
 use Rattle.kit_dialect.specs.declared.kinds.KitOp.{KitOp}
 use Rattle.kit_dialect.specs.declared.kinds.KitOp.TheVariants.{Module, Func, Constant, Return}
@@ -20,6 +21,7 @@ use Rattle.kit_dialect.specs.declared.attributes.KitAttr.TheVariants as attrs
 use Rattle.kit_dialect.specs.Parts.{type_part, name_part, region_part, attribute_part, integer_of}
 use Rattle.kit_dialect.specs.Numbers.{printed_number}
 use Rattle.kit_dialect.specs.Says.{says, values, one, two, only, has_values, integer_said, said_of_attribute, integer_types, one_integer, is_attribute, constant_value, symbol_name, function_type, module_name, function_header, one_operands, is_name, is_type, is_region, are_operands, refused_unless, refused_operation, MakesOperation, RefusesOperation}
+use Rattle.kit_dialect.specs.Seen.{seen}
 use Rattle.kit_dialect.proofs.Shapes.{name_shown, not_name, region_shown, not_region, type_shown, not_type, operands_shown, not_operands, one_shown, two_shown, three_shown, not_one, not_two, not_three_pieces, attribute_shown}
 use Rattle.kit_dialect.proofs.Made.{and_false}
 
@@ -59,18 +61,17 @@ an_integer (Some (attrs.Type ty)) a e = cc
 an_integer None a e = cc
 
 -- what an integer that has a text says
-integer_says : (test : Bool) (u : Trees (Said KitAttr)) (n : ℕ) (us : Trees (Said KitAttr)) → only test (Some (0, u)) ≡ Some (n, us) → (0 ≡ n) × (u ≡ us)
-integer_says true u n us e = let same : pair_of 0 u ≡ pair_of n us = cc in (ap (λ v. v.0) same, ap (λ v. v.1) same)
+integer_says : (test : Bool) (u : Trees (Said KitAttr)) (n : ℕ) (us : Trees (Said KitAttr)) → only test (Some (0, u)) ≡ Some (n, us) → (0 ≡ n) × (u ≡ us) × (test ≡ true)
+integer_says true u n us e = let same : pair_of 0 u ≡ pair_of n us = cc in (ap (λ v. v.0) same, ap (λ v. v.1) same, refl)
 integer_says false u n us e = cc
 
 -- the bits are those of a number of the type
 abbrev fits_bits : IntegerAttr → Bool
 fits_bits a = has_values a.integer.width && nat_lt a.bits (2 ^ a.integer.width)
 
--- the piece of a width that is said
-abbrev piece_of : Said KitAttr → Piece
-piece_of (said_width s w) = width s w
-piece_of _ = region
+-- integers that have values have widths of less than 2^32 bits
+fits_width : (a : IntegerAttr) → fits_bits a ≡ true → nat_lt a.integer.width (2 ^ 32) ≡ true
+fits_width a h = let values = and_parts (has_values a.integer.width) (nat_lt a.bits (2 ^ a.integer.width)) h in let most = leb-true a.integer.width 64 (and_parts (nat_le 1 a.integer.width) (nat_le a.integer.width 64) values.0).1 in lt-ltb a.integer.width (2 ^ 32) (omega arith)
 
 -- attributes that say anything are integers
 says_integer : (a : KitAttr) (n : ℕ) (us : Trees (Said KitAttr)) → said_of_attribute a ≡ Some (n, us) → integer_of a ≡ None → ⊥
@@ -99,24 +100,16 @@ mutual
 
 -- a width is that piece
 width_piece : (types : List KitType) (s : Signedness) (w : ℕ) (t : ValueTree) → Shows says types (leaf (said_width s w)) t → (ts : Pieces) × (t ≡ node (width s w) ts)
-width_piece types s w (node (type_of_kind n) ts) h = let e = h.3 in cc
-width_piece types s w (node (attribute_of_kind n) ts) h = let e = h.2 in cc
-width_piece types s w (node list ts) h = let e = h.1 in cc
-width_piece types s w (node item ts) h = let e = h.1 in cc
-width_piece types s w (node (operands n) ts) h = cc
-width_piece types s w (node region ts) h = cc
-width_piece types s w (node (name cs) ts) h = cc
-width_piece types s w (node (number b m) ts) h = cc
-width_piece types s w (node (width sign bits) ts) h = let same : said_width s w ≡ said_width sign bits = cc in (ts, sym (ap (λ (x : Said KitAttr). node (piece_of x) ts) same))
+width_piece types s w t h = seen says types (leaf (said_width s w)) t h
 
 -- the types of what an integer says
-integer_typed : (old new : List KitType) (i : IntegerType) (ty : TypeHandle) (x : Said KitAttr) (ts : Pieces) → slice_get new ty.number ≡ Some (keys.Integer i) → ShowsAll says old (two (leaf x) (leaf (said_width i.signedness i.width))) ts → Pairs (ShowsType says new) (ty ∷ []) (integer_types ts)
-integer_typed old new i ty x no_tree e h = absurd h
-integer_typed old new i ty x (a_tree t no_tree) e h = absurd h.1
-integer_typed old new i ty x (a_tree t (a_tree u (a_tree v vs))) e h = absurd h.1.1
-integer_typed old new i ty x (a_tree t (a_tree u no_tree)) e h = let w = width_piece old i.signedness i.width u h.1.0 in
+integer_typed : (old new : List KitType) (i : IntegerType) (ty : TypeHandle) (x : Said KitAttr) (ts : Pieces) → nat_lt i.width (2 ^ 32) ≡ true → slice_get new ty.number ≡ Some (keys.Integer i) → ShowsAll says old (two (leaf x) (leaf (said_width i.signedness i.width))) ts → Pairs (ShowsType says new) (ty ∷ []) (integer_types ts)
+integer_typed old new i ty x no_tree small e h = absurd h
+integer_typed old new i ty x (a_tree t no_tree) small e h = absurd h.1
+integer_typed old new i ty x (a_tree t (a_tree u (a_tree v vs))) small e h = absurd h.1.1
+integer_typed old new i ty x (a_tree t (a_tree u no_tree)) small e h = let w = width_piece old i.signedness i.width u h.1.0 in
     subst (λ (v : ValueTree). Pairs (ShowsType says new) (ty ∷ []) (integer_types (a_tree t (a_tree v no_tree)))) (sym w.1)
-    ((ty, keys.Integer i, one (leaf (said_width i.signedness i.width)), refl, e, refl, (refl, tt)), tt)
+    ((ty, keys.Integer i, one (leaf (said_width i.signedness i.width)), refl, e, ap (λ (b : Bool). only b (Some (0, one (leaf (said_width i.signedness i.width))))) small, (refl, tt)), tt)
 
 module _ {D : Type 0} where
   no_integer : (types : List KitType) (p : Part D KitOp KitAttr KitType) (t : ValueTree) → option_and_then integer_of (attribute_part p) ≡ None → ShowsPart says types p t → is_attribute t ≡ false
@@ -168,7 +161,7 @@ module _ {D : Type 0} where
           pieces = one (leaf (said_attribute (attrs.Integer a)));
           said = refl;
           shown = ((attrs.Integer a, shown.3.1, refl, sym (ap said_of_attribute attr) ∙ shown.3.3 ∙ ap (λ (n : ℕ). Some (n, shown.3.1)) (sym said.0), all_later old new kept shown.3.1 shown.1 shown.3.4), tt);
-          typed = integer_typed old new a.integer ty _ shown.1 k pieces;
+          typed = integer_typed old new a.integer ty _ shown.1 (fits_width a said.2) k pieces;
         },
       )
 

@@ -12,3 +12,5 @@ pub mod Drafted
 pub mod Keys
 pub mod Integers
 pub mod Numbered
+pub mod Parted
+pub mod Labels

@@ -15,7 +15,7 @@ use Rattle.kit_dialect.specs.declared.kinds.KitType.{KitType}
 use Rattle.kit_dialect.specs.declared.kinds.KitType.TheVariants as keys
 use Rattle.kit_dialect.specs.declared.attributes.KitAttr.{KitAttr}
 use Rattle.kit_dialect.specs.Parts.{list_part}
-use Rattle.kit_dialect.specs.Says.{says, one, two, types_said, one_type, each_type, one_integer_type, is_type, is_small_width, is_type_list, are_types, is_one, are_two, refused_unless, refused_type, MakesType, RefusesType}
+use Rattle.kit_dialect.specs.Says.{says, one, two, only as said_if, types_said, one_type, each_type, one_integer_type, is_type, is_small_width, is_type_list, are_types, is_one, are_two, refused_unless, refused_type, MakesType, RefusesType}
 use Rattle.kit_dialect.proofs.Shapes.{width_shown, not_width, type_shown, not_type, list_shown, one_shown, two_shown, not_one, not_two, a_list}
 
 abbrev Equal : (X : Type 0) → X → X → Type 0
@@ -58,7 +58,7 @@ module _ {D : Type 0} where
       let wide = width_shown says types p i only.0 e only.2 in
       let test : nat_lt i.width (2 ^ 32) ≡ true = grind (arith, nat_tests) in
       subst (λ (qs : Pieces). (refused_type 0 qs ≡ None) × ShowsKey says types (keys.Integer i) 0 qs) (sym (only.1 ∙ ap (λ t. a_tree t no_tree) wide.1))
-      (ap (λ (b : Bool). refused_unless b 0) test, (one (leaf (said_width i.signedness i.width)), refl, (refl, tt)))
+      (ap (λ (b : Bool). refused_unless b 0) test, (one (leaf (said_width i.signedness i.width)), ap (λ (b : Bool). said_if b (Some (0, one (leaf (said_width i.signedness i.width))))) test, (refl, tt)))
 
   pub integer_type_refused : (parts : List (Part D KitOp KitAttr KitType)) → one_integer_type parts ≡ None → RefusesType 0 parts 0
   integer_type_refused parts e = λ types ps h. ap (λ (b : Bool). refused_unless b 0) (not_one says types is_small_width parts ps h (λ p t f s. not_width says types p t (sym (ap one_integer_type f) ∙ e) s))

@@ -15,54 +15,28 @@ use Rattle.kit_dialect.specs.declared.kinds.FunctionType.{FunctionType}
 use Rattle.kit_dialect.specs.declared.attributes.KitAttr.{KitAttr}
 use Rattle.kit_dialect.specs.declared.attributes.KitAttr.TheVariants as attrs
 use Rattle.kit_dialect.specs.Says.{says, one, two, types_said, said_of_type, said_of_attribute, only}
+use Rattle.kit_dialect.specs.Seen.{seen}
 use Rattle.kit_dialect.specs.Shapes.{integer_key, function_key, integer_attr}
 use Rattle.kit_dialect.specs.Rules.{every, every_pair, integer_type, listed_types, function_of_type, FunctionTree, integer_of_constant}
+
+-- what is said where something holds
+only_some : (b : Bool) (x y : ℕ × Trees (Said KitAttr)) → only b (Some x) ≡ Some y → Some x ≡ Some y
+only_some true x y e = e
+only_some false x y e = absurd (none-some _ e)
 
 module _ (tys : List KitType) where
   -- the pieces that show a width, a list, a member, a name, a type, an attribute
   width_shown : (s : Signedness) (w : ℕ) (t : ValueTree) → Shows says tys (leaf (said_width s w)) t → (us : Pieces) × (t ≡ node (width s w) us)
-  width_shown s w (node (width s' w') us) e = (us, cc)
-  width_shown s w (node (type_of_kind n) us) h = let e = h.3 in absurd cc
-  width_shown s w (node (attribute_of_kind n) us) h = let e = h.2 in absurd cc
-  width_shown s w (node list us) h = let e = h.1 in absurd cc
-  width_shown s w (node item us) h = let e = h.1 in absurd cc
-  width_shown s w (node (operands n) us) e = absurd cc
-  width_shown s w (node region us) e = absurd cc
-  width_shown s w (node (name cs) us) e = absurd cc
-  width_shown s w (node (number b m) us) e = absurd cc
+  width_shown s w t h = seen says tys (leaf (said_width s w)) t h
 
   pub name_shown : (text : List ℕ) (t : ValueTree) → Shows says tys (leaf (said_name text)) t → (us : Pieces) × (t ≡ node (name text) us)
-  name_shown text (node (name cs) us) e = (us, cc)
-  name_shown text (node (type_of_kind n) us) h = let e = h.3 in absurd cc
-  name_shown text (node (attribute_of_kind n) us) h = let e = h.2 in absurd cc
-  name_shown text (node list us) h = let e = h.1 in absurd cc
-  name_shown text (node item us) h = let e = h.1 in absurd cc
-  name_shown text (node (operands n) us) e = absurd cc
-  name_shown text (node region us) e = absurd cc
-  name_shown text (node (width s w) us) e = absurd cc
-  name_shown text (node (number b m) us) e = absurd cc
+  name_shown text t h = seen says tys (leaf (said_name text)) t h
 
   list_shown : (xs : Trees (Said KitAttr)) (t : ValueTree) → Shows says tys (node said_list xs) t → (us : Pieces) × (t ≡ node list us) × ShowsAll says tys xs us
-  list_shown xs (node list us) h = let e : xs ≡ h.0 = cc (h.1) in (us, refl, subst (λ (z : Trees (Said KitAttr)). ShowsAll says tys z us) (sym e) h.2)
-  list_shown xs (node (name cs) us) e = absurd cc
-  list_shown xs (node (type_of_kind n) us) h = let e = h.3 in absurd cc
-  list_shown xs (node (attribute_of_kind n) us) h = let e = h.2 in absurd cc
-  list_shown xs (node item us) h = let e = h.1 in absurd cc
-  list_shown xs (node (operands n) us) e = absurd cc
-  list_shown xs (node region us) e = absurd cc
-  list_shown xs (node (width s w) us) e = absurd cc
-  list_shown xs (node (number b m) us) e = absurd cc
+  list_shown xs t h = seen says tys (node said_list xs) t h
 
   item_shown : (xs : Trees (Said KitAttr)) (t : ValueTree) → Shows says tys (node said_item xs) t → (us : Pieces) × (t ≡ node item us) × ShowsAll says tys xs us
-  item_shown xs (node item us) h = let e : xs ≡ h.0 = cc (h.1) in (us, refl, subst (λ (z : Trees (Said KitAttr)). ShowsAll says tys z us) (sym e) h.2)
-  item_shown xs (node (name cs) us) e = absurd cc
-  item_shown xs (node (type_of_kind n) us) h = let e = h.3 in absurd cc
-  item_shown xs (node (attribute_of_kind n) us) h = let e = h.2 in absurd cc
-  item_shown xs (node list us) h = let e = h.1 in absurd cc
-  item_shown xs (node (operands n) us) e = absurd cc
-  item_shown xs (node region us) e = absurd cc
-  item_shown xs (node (width s w) us) e = absurd cc
-  item_shown xs (node (number b m) us) e = absurd cc
+  item_shown xs t h = seen says tys (node said_item xs) t h
 
   -- an integer type says its width
   width_alone : (s : Signedness) (w : ℕ) (us : Pieces) → ShowsAll says tys (one (leaf (said_width s w))) us → integer_type (node (type_of_kind 0) us) ≡ Some (record { signedness = s; width = w })
@@ -71,7 +45,7 @@ module _ (tys : List KitType) where
   width_alone s w (a_tree t no_tree) h = let k = width_shown s w t h.0 in ap (λ (z : ValueTree). integer_type (node (type_of_kind 0) (a_tree z no_tree))) k.1
 
   by_key : (key : KitType) (n : ℕ) (xs : Trees (Said KitAttr)) (us : Pieces) → said_of_type key ≡ Some (n, xs) → ShowsAll says tys xs us → integer_type (node (type_of_kind n) us) ≡ integer_key key
-  by_key (types.Integer i) n xs us e h = let p = some_pair_parts _ _ _ _ e in
+  by_key (types.Integer i) n xs us e h = let p = some_pair_parts _ _ _ _ (only_some _ _ _ e) in
       ap (λ (m : ℕ). integer_type (node (type_of_kind m) us)) (sym p.0) ∙ width_alone i.signedness i.width us (subst (λ (z : Trees (Said KitAttr)). ShowsAll says tys z us) (sym p.1) h)
   by_key (types.Function f) n xs us e h = let p = some_pair_parts _ _ _ _ e in ap (λ (m : ℕ). integer_type (node (type_of_kind m) us)) (sym p.0)
   by_key types.Unit n xs us e h = let p = some_pair_parts _ _ _ _ e in ap (λ (m : ℕ). integer_type (node (type_of_kind m) us)) (sym p.0)
@@ -158,7 +132,7 @@ module _ (tys : List KitType) where
 
   function_by_key : (key : KitType) (n : ℕ) (xs : Trees (Said KitAttr)) (us : Pieces) → said_of_type key ≡ Some (n, xs) → ShowsAll says tys xs us
       → SameFunction (function_key key) (function_of_type (node (type_of_kind n) us))
-  function_by_key (types.Integer i) n xs us e h = let p = some_pair_parts _ _ _ _ e in no_function _ (ap (λ (m : ℕ). function_of_type (node (type_of_kind m) us)) (sym p.0))
+  function_by_key (types.Integer i) n xs us e h = let p = some_pair_parts _ _ _ _ (only_some _ _ _ e) in no_function _ (ap (λ (m : ℕ). function_of_type (node (type_of_kind m) us)) (sym p.0))
   function_by_key types.Unit n xs us e h = let p = some_pair_parts _ _ _ _ e in no_function _ (ap (λ (m : ℕ). function_of_type (node (type_of_kind m) us)) (sym p.0))
   function_by_key (types.Function f) n xs us e h = let p = some_pair_parts _ _ _ _ e in
       subst (λ (m : ℕ). SameFunction (Some f) (function_of_type (node (type_of_kind m) us))) p.0 (lists_shown f us (subst (λ (z : Trees (Said KitAttr)). ShowsAll says tys z us) (sym p.1) h))
@@ -186,10 +160,6 @@ module _ (tys : List KitType) where
   integer_alone x s w (a_tree t (a_tree u (a_tree v us))) h = absurd h.1.1
   integer_alone x s w (a_tree t (a_tree u no_tree)) h = let k = width_shown s w u h.1.0 in
       ap (λ (z : ValueTree). integer_of_constant (a_tree (node (attribute_of_kind 0) (a_tree t (a_tree z no_tree))) no_tree)) k.1
-
-  only_some : (b : Bool) (x y : ℕ × Trees (Said KitAttr)) → only b (Some x) ≡ Some y → Some x ≡ Some y
-  only_some true x y e = e
-  only_some false x y e = absurd (none-some _ e)
 
   constant_by : (attr : KitAttr) (n : ℕ) (xs : Trees (Said KitAttr)) (us : Pieces) → said_of_attribute attr ≡ Some (n, xs) → ShowsAll says tys xs us
       → integer_of_constant (a_tree (node (attribute_of_kind n) us) no_tree) ≡ integer_attr (Some attr)

@@ -1,5 +1,5 @@
 -- Equal types say the same, and where no kind has a number, the first piece is refused.
-use Rattle.std.specs.Prelude.{◌≡◌, ℕ, zero, suc, true, List, [], ◌∷◌, Option, Some, None, is_some, slice_get, ◌==◌, refl}
+use Rattle.std.specs.Prelude.{◌≡◌, ℕ, zero, suc, ◌^◌, nat_lt, true, List, [], ◌∷◌, Option, Some, None, is_some, slice_get, ◌==◌, refl}
 use Rattle.std.proofs.Common.{ap, ◌∙◌}
 use Rattle.std.specs.Cmp.Lexicographic.{pointwise}
 use Rattle.std.proofs.lemmas.Bool.{and_parts, eqb-true, false≢true, true≢false}
@@ -20,7 +20,7 @@ use Rattle.kit_dialect.specs.declared.kinds.FunctionType.{FunctionType}
 use Rattle.kit_dialect.specs.declared.attributes.KitAttr.{KitAttr}
 use Rattle.kit_dialect.specs.declared.kinds.IntegerType.{IntegerType}
 use Rattle.kit_dialect.specs.Kinds.{read_ops, read_types, read_attrs}
-use Rattle.kit_dialect.specs.Says.{one, two, types_said, said_of_type, refused_type, refused_attribute, refused_operation}
+use Rattle.kit_dialect.specs.Says.{one, two, only, types_said, said_of_type, refused_type, refused_attribute, refused_operation}
 
 -- equal signs are the same
 signs : (s t : Signedness) → (of_signs.ghosts).eq s t ≡ true → s ≡ t
@@ -36,7 +36,7 @@ signs Unsigned Unsigned h = refl
 
 -- what the type of integers with a sign and a width says
 abbrev width_said : Signedness → ℕ → Option (ℕ × Trees (Said KitAttr))
-width_said s w = Some (0, one (leaf (said_width s w)))
+width_said s w = only (nat_lt w (2 ^ 32)) (Some (0, one (leaf (said_width s w))))
 
 -- equal integer types say the same
 integers : (i j : IntegerType) → (of_integers.ghosts).eq i j ≡ true → width_said i.signedness i.width ≡ width_said j.signedness j.width

@@ -8,3 +8,6 @@ pub mod Rules
 pub mod Shapes
 pub mod Walks
 pub mod Rows
+pub mod Seen
+pub mod Readable
+pub mod Canonical

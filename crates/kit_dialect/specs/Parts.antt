@@ -1,7 +1,8 @@
 -- The parts of which integers are read, and which are printed.
-use Rattle.std.specs.Prelude.{◌≡◌, ℕ, Vec, List, [], ◌∷◌, Option, Some, None, option_map}
+use Rattle.std.specs.Prelude.{◌≡◌, ℕ, Vec, List, [], ◌∷◌, ◌++◌, map, Option, Some, None, option_map}
 use Rattle.std.specs.Global.{Global}
 use Rattle.ir_names.specs.declared.identifier.Identifier.{Identifier}
+use Rattle.ir_names.specs.Identifier.{text_of}
 use Rattle.ir_names.specs.declared.kinds.TypeHandle.{TypeHandle}
 use Rattle.ir_print.specs.declared.format.Number.{Number}
 use Rattle.ir_print.specs.declared.format.Part.{Part, Part-F, out-Part}
@@ -98,6 +99,28 @@ module _ {D A K T : Type 0} where
   -- the list that a part is
   abbrev pub list_part : Part D A K T → Option (Vec (Vec (Part D A K T) Global) Global)
   list_part p = list_layer (out-Part D A K T p)
+
+  -- the part is a list with a member for each of these types
+  abbrev pub IsTypeList : List TypeHandle → Part D A K T → Type 0
+  IsTypeList tys p = (ms : Vec (Vec (Part D A K T) Global) Global) × (p ≡ parts.List ms) × (map (λ m. m.items) ms.items ≡ map (λ ty. parts.Type ty ∷ []) tys)
+
+  -- the parts are the name that an attribute is, and none where it is no name
+  abbrev pub AreNameParts : Option KitAttr → List (Part D A K T) → Type 0
+  AreNameParts (Some (attrs.Identifier id)) ps = (copy : Identifier) × (text_of copy ≡ text_of id) × (ps ≡ parts.Name copy ∷ [])
+  AreNameParts _ ps = ps ≡ []
+
+  -- the type that an attribute is, as parts
+  abbrev pub type_parts_of : Option KitAttr → List (Part D A K T)
+  type_parts_of (Some (attrs.Type ty)) = parts.Type ty ∷ []
+  type_parts_of _ = []
+
+  -- the parts of a module with this attribute as its name
+  abbrev pub AreModuleParts : Option KitAttr → List (Part D A K T) → Type 0
+  AreModuleParts o ps = (names : List (Part D A K T)) × AreNameParts o names × (ps ≡ names ++ parts.Region ∷ [])
+
+  -- the parts of a function with these attributes as its name and its type
+  abbrev pub AreFunctionParts : Option KitAttr → Option KitAttr → List (Part D A K T) → Type 0
+  AreFunctionParts o p ps = (names : List (Part D A K T)) × AreNameParts o names × (ps ≡ names ++ (type_parts_of p ++ parts.Region ∷ []))
 
   -- an integer's number, and its type
   abbrev pub integer_parts : IntegerAttr → List (Part D A K T)

@@ -42,9 +42,9 @@ abbrev pub types_said : List TypeHandle → Trees (Said KitAttr)
 types_said [] = no_tree
 types_said (ty ∷ tys) = a_tree (node said_item (one (leaf (said_type ty)))) (types_said tys)
 
--- an integer type says its width, a function type its inputs and its results, and the unit type nothing
+-- an integer type says its width, which has less than 2^32 bits, a function type its inputs and its results, and the unit type nothing
 abbrev pub said_of_type : KitType → Option (ℕ × Trees (Said KitAttr))
-said_of_type (types.Integer t) = Some (0, one (leaf (said_width t.signedness t.width)))
+said_of_type (types.Integer t) = only (nat_lt t.width (2 ^ 32)) (Some (0, one (leaf (said_width t.signedness t.width))))
 said_of_type (types.Function f) = Some (1, two (node said_list (types_said f.inputs.items)) (node said_list (types_said f.results.items)))
 said_of_type types.Unit = Some (2, no_tree)
 

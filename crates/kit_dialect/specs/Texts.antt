@@ -13,27 +13,27 @@ use Rattle.kit_dialect.specs.Kinds.{read_ops, read_types, read_attrs, name_of_op
 -- what follows the dotted name of a kind of operations
 abbrev pub format_of_op : KitOp → Steps
 format_of_op Module = steps (symbol_name ∷ a_region ∷ [])
-format_of_op Func = steps (symbol_name ∷ word (codes ":") ∷ a_type ∷ a_region ∷ [])
+format_of_op Func = steps (symbol_name ∷ word (codes ": ") (codes ":") ∷ a_type ∷ a_region ∷ [])
 format_of_op Constant = steps (an_attribute ∷ [])
 format_of_op Return = steps (operands ∷ [])
 
 -- types with commas between them
 abbrev pub type_list : Step
-type_list = list_of (steps (a_type ∷ [])) (codes ",")
+type_list = list_of (steps (a_type ∷ [])) (codes ", ") (codes ",")
 
 -- what follows the dotted name of a kind of types
 abbrev pub format_of_type : KitTypeKind → Steps
 format_of_type type_kinds.Integer = steps (a_width ∷ [])
 format_of_type type_kinds.Function = steps
-    (word (codes "<") ∷ word (codes "(") ∷ type_list ∷ word (codes ")") ∷ word (codes "->")
-    ∷ word (codes "(") ∷ type_list ∷ word (codes ")") ∷ word (codes ">") ∷ [])
+    (word (codes "<") (codes "<") ∷ word (codes "(") (codes "(") ∷ type_list ∷ word (codes ")") (codes ")") ∷ word (codes "->") (codes "->")
+    ∷ word (codes "(") (codes "(") ∷ type_list ∷ word (codes ")") (codes ")") ∷ word (codes ">") (codes ">") ∷ [])
 format_of_type type_kinds.Unit = steps []
 
 -- what follows the dotted name of a kind of attributes
 abbrev pub format_of_attr : KitAttrKind → Steps
 format_of_attr attr_kinds.Identifier = steps (a_name ∷ [])
 format_of_attr attr_kinds.«Type» = steps (a_type ∷ [])
-format_of_attr attr_kinds.Integer = steps (word (codes "<") ∷ a_number ∷ word (codes ":") ∷ a_width ∷ word (codes ">") ∷ [])
+format_of_attr attr_kinds.Integer = steps (word (codes "<") (codes "<") ∷ a_number ∷ word (codes ": ") (codes ":") ∷ a_width ∷ word (codes ">") (codes ">") ∷ [])
 
 -- each kind, with its dotted name
 abbrev pub op_text : KitOp → Kind

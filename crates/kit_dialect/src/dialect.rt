@@ -1,19 +1,24 @@
 //! The dialect and its formats.
-ghost use Rattle.std.specs.Prelude.{◌≡◌, ◌↔◌, ◌⊎◌, ℕ, true, List, Some, None, Err, IsTrue, IfOk, slice_get, option_copied, option_map, refl};
+ghost use Rattle.std.specs.Prelude.{◌≡◌, ◌↔◌, ◌⊎◌, ℕ, true, List, [], ◌∷◌, length, Some, None, Err, IsTrue, IfOk, slice_get, option_copied, option_map, refl};
 ghost use Rattle.ir_names.specs.Text.{is_identifier};
-ghost use Rattle.ir_names.specs.Dictionary.{with_attribute};
-ghost use Rattle.ir_names.specs.Tree.{node};
+ghost use Rattle.ir_names.specs.Dictionary.{attribute_at, with_attribute};
+ghost use Rattle.ir_names.specs.Tree.{Trees, node};
 ghost use Rattle.ir_print.specs.declared.dialect.MakeFault.TheVariants.{Refused};
+ghost use Rattle.ir_print.specs.declared.format.Part.TheVariants.{Attribute};
 ghost use Rattle.ir_print.specs.Pieces.{Pieces, attribute_of_kind};
-ghost use Rattle.ir_print.specs.Shown.{ShowsParts, ShowsAttribute, KeepsTypes};
-ghost use Rattle.ir_store.specs.Context.{IsLiveOperation};
+ghost use Rattle.ir_print.specs.Shown.{Said, ShowsAll, ShowsParts, ShowsKey, ShowsAttribute, KeepsTypes};
+ghost use Rattle.ir_store.specs.Context.{IsLiveOperation, operation_at};
+ghost use Rattle.ir_store.specs.Views.{OperationView};
 ghost use Rattle.ir_store.specs.Marks.{IsSameTree};
 ghost use Rattle.kit_dialect.specs.declared.kinds.KitOp.TheVariants.{Module, Func, Constant, Return};
+ghost use Rattle.kit_dialect.specs.declared.kinds.KitOp.{KitOp};
 ghost use Rattle.kit_dialect.specs.declared.kinds.KitType.{KitType};
+ghost use Rattle.kit_dialect.specs.declared.attributes.KitAttr.{KitAttr};
+ghost use Rattle.kit_dialect.specs.declared.attributes.KitAttr.TheVariants.{Integer};
 ghost use Rattle.kit_dialect.specs.Kinds.{read_ops, is_isolated_kind, read_types, read_attrs, name_of_op, name_of_type, name_of_attr, kind_of_type, kind_of_attr, type_of_attr};
 ghost use Rattle.kit_dialect.specs.Numbers.{HasFittingBits, IsFittingInteger};
-ghost use Rattle.kit_dialect.specs.Parts.{number_part, integer_part, list_part, integer_parts, HasPartsOf, IsSameInteger};
-ghost use Rattle.kit_dialect.specs.Says.{says, one_type, one_integer_type, module_name, function_header, one_integer, one_operands, each_type, MakesType, RefusesType, MakesOperation, RefusesOperation, refused_attribute, canonical};
+ghost use Rattle.kit_dialect.specs.Parts.{number_part, integer_part, list_part, integer_parts, HasPartsOf, IsSameInteger, IsTypeList, AreNameParts, AreModuleParts, AreFunctionParts};
+ghost use Rattle.kit_dialect.specs.Says.{says, symbol_name, function_type, constant_value, one_type, one_integer_type, module_name, function_header, one_integer, one_operands, each_type, MakesType, RefusesType, MakesOperation, RefusesOperation, refused_attribute, canonical};
 ghost use Rattle.kit_dialect.specs.declared.attributes.IntegerAttr.{IntegerAttr};
 
 use crate::attributes::{
@@ -145,8 +150,10 @@ fn types_of(
     Ok(Some(types))
 }
 
-/// A list of types, as parts.
-fn list_of(alloc: Global, types: &[TypeHandle]) -> Result<Part<Kit>, AllocError> {
+/// A list of types, as a part.
+fn list_of(alloc: Global, types: &[TypeHandle]) -> Result<Part<Kit>, AllocError>
+    ensures { IfOk result (λ part. IsTypeList types.now part) }
+{
     let mut members = Vec::with_capacity(alloc, types.len())?;
     for ty in types {
         members.push(vec![in alloc; Part::Type(*ty)]?)?;
@@ -369,6 +376,56 @@ fn make_return(alloc: Global, parts: &[Part<Kit>]) -> Result<OperationDraft<Kit>
     Ok(draft(AttributeDict::new(alloc), Vec::new(alloc)))
 }
 
+/// The name of an operation, as parts: none where it has none.
+fn name_parts(alloc: Global, attributes: &AttributeDict<Kit>) -> Result<Vec<Part<Kit>>, AllocError>
+    ensures { IfOk result (λ parts. AreNameParts (attribute_at attributes.now symbol_name) parts.items) }
+{
+    match attributes.get(SYMBOL_NAME) {
+        Some(KitAttr::Identifier(name)) => Ok(vec![in alloc; Part::Name(name.try_clone()?)]?),
+        _ => Ok(Vec::new(alloc)),
+    }
+}
+
+/// The parts of a module: its name and its region.
+fn module_parts(
+    alloc: Global,
+    attributes: &AttributeDict<Kit>,
+) -> Result<Vec<Part<Kit>>, AllocError>
+    ensures { IfOk result (λ parts. AreModuleParts (attribute_at attributes.now symbol_name) parts.items) }
+{
+    let mut parts = name_parts(alloc, attributes)?;
+    parts.push(Part::Region)?;
+    Ok(parts)
+}
+
+/// The parts of a function: its name, its type and its region.
+fn function_parts(
+    alloc: Global,
+    attributes: &AttributeDict<Kit>,
+) -> Result<Vec<Part<Kit>>, AllocError>
+    ensures { IfOk result (λ parts. AreFunctionParts (attribute_at attributes.now symbol_name) (attribute_at attributes.now function_type) parts.items) }
+{
+    let mut parts = name_parts(alloc, attributes)?;
+    if let Some(KitAttr::Type(ty)) = attributes.get(FUNCTION_TYPE) {
+        parts.push(Part::Type(*ty))?;
+    }
+    parts.push(Part::Region)?;
+    Ok(parts)
+}
+
+/// The parts of a constant: its value.
+fn constant_parts(
+    alloc: Global,
+    attributes: &AttributeDict<Kit>,
+) -> Result<Vec<Part<Kit>>, AllocError>
+    ensures { (a : IntegerAttr) → attribute_at attributes.now constant_value ≡ Some (Integer a) → IfOk result (λ parts. parts.items ≡ Attribute (Integer a) ∷ []) }
+{
+    match attributes.get(CONSTANT_VALUE) {
+        Some(attr) => Ok(vec![in alloc; Part::Attribute(Kit::clone_attr(alloc, attr)?)]?),
+        None => Ok(Vec::new(alloc)),
+    }
+}
+
 impl TextDialect for Kit {
     type TypeKind = KitTypeKind;
 
@@ -377,6 +434,7 @@ impl TextDialect for Kit {
     ghost use Rattle.kit_dialect.specs.Texts as texts;
     ghost use Rattle.kit_dialect.specs.Says as kit;
     ghost use Rattle.kit_dialect.specs.Agree as agree;
+    ghost use Rattle.kit_dialect.specs.Readable as readable;
 
     ghost kind_at = { slice_get read_ops };
 
@@ -563,7 +621,9 @@ impl TextDialect for Kit {
         }
     }
 
-    fn type_parts(alloc: Global, key: &KitType) -> Result<Vec<Part<Kit>>, AllocError> {
+    fn type_parts(alloc: Global, key: &KitType) -> Result<Vec<Part<Kit>>, AllocError>
+        ensures { (types : List KitType) → (n : ℕ) → (ps : Pieces) → ShowsKey says types key.now n ps → IfOk result (λ parts. ShowsParts says types parts.items ps) }
+    {
         match key {
             KitType::Integer(integer) => {
                 Ok(vec![in alloc; Part::Width(integer.signedness, Some(integer.width))]?)
@@ -582,7 +642,8 @@ impl TextDialect for Kit {
         _ctx: &Context<Kit>,
         attr: &KitAttr,
     ) -> Result<Vec<Part<Kit>>, AllocError>
-        ensures { IfOk result (λ parts. HasPartsOf attr.now parts.items) }
+        ensures has { IfOk result (λ parts. HasPartsOf attr.now parts.items) }
+        ensures shown { (types : List KitType) → (n : ℕ) → (ps : Pieces) → ShowsAttribute says types attr.now (node (attribute_of_kind n) ps) → IfOk result (λ parts. ShowsParts says types parts.items ps) }
     {
         match attr {
             KitAttr::Identifier(name) => Ok(vec![in alloc; Part::Name(name.try_clone()?)]?),
@@ -602,28 +663,35 @@ impl TextDialect for Kit {
         op: Ptr<Operation>,
     ) -> Result<Vec<Part<Kit>>, AllocError>
         requires live { IsLiveOperation ctx.now op }
+        ensures { (types : List KitType) → (o : OperationView KitOp KitAttr) → (n : ℕ) → (us : Trees (Said KitAttr)) → (ps : Pieces) → operation_at ctx.now op ≡ Some o
+            → says.of_operation o.kind o.attributes (length o.operands) ≡ Some (n, us) → ShowsAll says types us ps → IfOk result (λ parts. ShowsParts says types parts.items ps) }
     {
         let attributes = op.attributes(ctx);
-        let mut parts = Vec::new(alloc);
-        if let Some(KitAttr::Identifier(name)) = attributes.get(SYMBOL_NAME) {
-            parts.push(Part::Name(name.try_clone()?))?;
-        }
-        if let Some(KitAttr::Type(ty)) = attributes.get(FUNCTION_TYPE) {
-            parts.push(Part::Type(*ty))?;
-        }
-        if let Some(attr) = attributes.get(CONSTANT_VALUE) {
-            parts.push(Part::Attribute(Kit::clone_attr(alloc, attr)?))?;
-        }
         match op.kind(ctx) {
-            KitOp::Module => parts.push(Part::Region)?,
-            KitOp::Func => parts.push(Part::Region)?,
-            KitOp::Constant => {}
-            KitOp::Return => parts.push(Part::Operands(op.get_num_operands(ctx)))?,
+            KitOp::Module => module_parts(alloc, attributes),
+            KitOp::Func => function_parts(alloc, attributes),
+            KitOp::Constant => constant_parts(alloc, attributes),
+            KitOp::Return => Ok(vec![in alloc; Part::Operands(op.get_num_operands(ctx))]?),
         }
-        Ok(parts)
     }
 
     ghost few = { refl };
+
+    ghost nested = { refl };
+
+    ghost operations = { readable.operations };
+
+    ghost types = { readable.type_formats };
+
+    ghost attributes = { readable.attribute_formats };
+
+    ghost says_types = { readable.says_types };
+
+    ghost says_attributes = { readable.says_attributes };
+
+    ghost says_operations = { readable.says_operations };
+
+    ghost says_kinds = { readable.says_kinds };
 
     ghost same = { agree.same_says };
 

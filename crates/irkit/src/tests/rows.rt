@@ -86,6 +86,26 @@ fn nested(alloc: Global, depth: usize) -> Result<String, AllocError> {
     Ok(text)
 }
 
+/// A printed text without the slots and versions in the names of its blocks.
+fn without_slots(alloc: Global, text: &str) -> Result<String, AllocError> {
+    let mut rest = String::from_str(alloc, text)?;
+    for slot in 1..=66 {
+        let own = format!(in alloc; "_block{slot}v1")?;
+        rest = rest.replace(alloc, own.as_str(), "")?;
+    }
+    Ok(rest)
+}
+
+/// What is printed of an accepted text is accepted, and printed again as the same text up to the names of blocks.
+fn is_printed_again(alloc: Global, text: &[u8]) -> Result<bool, AllocError> {
+    let once = ran(alloc, text)?;
+    let twice = ran(alloc, once.as_bytes())?;
+    Ok(
+        once.len() < twice.len()
+            && without_slots(alloc, &once)?.as_str() == without_slots(alloc, &twice)?.as_str(),
+    )
+}
+
 /// A text is accepted, or refused with this fault, however it is called.
 fn ends_with(alloc: Global, text: &[u8], fault: &str) -> Result<bool, AllocError> {
     let (status, said) = driven(alloc, "irkit check", text)?;
@@ -95,7 +115,11 @@ fn ends_with(alloc: Global, text: &[u8], fault: &str) -> Result<bool, AllocError
         format!(in alloc; "error: {fault}\n")?
     };
     let is_loaded = loaded(alloc, text)?.as_str() == fault;
-    let has_run = fault.is_empty() || ran(alloc, text)?.as_str() == fault;
+    let has_run = if fault.is_empty() {
+        is_printed_again(alloc, text)?
+    } else {
+        ran(alloc, text)?.as_str() == fault
+    };
     Ok(is_loaded && has_run && said == line && (status == 0) == fault.is_empty())
 }
 
@@ -351,8 +375,6 @@ fn texts_are_printed(rt: HostRuntime) -> Result<(), Fail> {
         written.as_str(),
         "builtin.module @m \n{\n  ^b_block1v1():\n    builtin.func @f: builtin.function <(builtin.integer i8)->(builtin.integer si64, builtin.integer i8)> \n    {\n      ^e_block2v1(v0: builtin.integer i8):\n        v1 = builtin.constant builtin.integer <-1: i8>;\n        v2 = builtin.constant builtin.integer <-3: si64>;\n        kit.return v2, v0\n    }\n}\n"
     );
-    let again = ran(rt.alloc(), written.as_bytes())?;
-    let third = ran(rt.alloc(), again.as_bytes())?;
-    assert_eq!(rt; third.len().saturating_sub(again.len()), 2 * 9);
+    assert!(rt; is_printed_again(rt.alloc(), text.as_bytes())?);
     Ok(())
 }

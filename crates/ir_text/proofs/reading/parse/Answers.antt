@@ -1,4 +1,4 @@
-use Rattle.std.proofs.Common.{sym, subst, ap, map, ◌≡◌, ◌∙◌}
+use Rattle.std.proofs.Common.{sym, subst, ap, map, length, arith, ◌≡◌, ◌∙◌}
 use Rattle.std.specs.Str.{chars}
 use Rattle.ir_text.specs.Tokens.{ReadsAs}
 use Rattle.ir_text.specs.Words.{spellings, kind_of, AlikeInNumber}
@@ -21,6 +21,7 @@ understand-requires-clause-reading g c =
     c.deref-5.ensures.value ∙ (c.in_ok-classified.ensures.kinds ∙ (ap (λ us. map (kind_of (spellings c.deref-3.result.now) cs) us) same ∙ ap (λ ws. map (kind_of ws cs) ts) words)) in
     record {
       tokens = subst (ReadsAs cs 0) (sym c.deref.ensures.value) c.in_ok-tokens.ensures;
+      numbered = (let many : length c.deref-6.result.now ≡ length ts = ap length c.deref-6.ensures.value ∙ (c.in_ok-classified.ensures.many ∙ ap length same) in omega (arith, many));
       alike = subst (AlikeInNumber cs ts) (sym c.deref-6.ensures.value) (subst (λ us. AlikeInNumber cs us c.in_ok-classified.classified.names.items) same c.in_ok-classified.ensures.names);
-      reads = (grammar, record { rules = known.rules; signs = known.signs }, subst (λ ks. Reads grammar 0 64 ks r.stop r.taken r.events.items) kinds c.in_ok-reading.ensures);
+      reads = (grammar, record { rules = known.rules; signs = known.signs; readable = known.can_read }, subst (λ ks. Reads grammar 0 64 ks r.stop r.taken r.events.items) kinds c.in_ok-reading.ensures);
     }
