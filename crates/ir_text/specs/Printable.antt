@@ -19,7 +19,7 @@ use Rattle.ir_text.specs.Closed.{AllDistinct, definitions_of, IsLabelled, unlabe
 
 -- ---- texts
 
--- the head of a block has a name of a block
+-- The label is the name of a block as it is printed.
 pub record HasBlockName (label : List ℕ) : Type 0 where
   pub given : Option Identifier
   pub slot : ℕ
