@@ -19,8 +19,9 @@ use Rattle.ir_text.specs.Printable.{is_word, less_spaces, is_before_spaces, is_p
 use Rattle.ir_text.specs.Closed.{names_of, FitsHead, FitsTree, FitTrees}
 use Rattle.ir_text.proofs.Marks.{Mark, white, token, word, did, characters, tokens, Marker, part_on, format_on, kind_on, more_members_on, members_on, piece_on, parts_on, type_on, more_names_on, names_on, results_on, operands_on, first_region_on, all_parts_on, operation_head_on, argument_on, more_arguments_on, arguments_on, block_head_on, operation_on, regions_on, region_on, blocks_on, block_on, operations_on, more_operations_on, marks, sort_of, AreIdentifiers, IsSpeltHead, IsSpelt, AreSpelt}
 use Rattle.ir_text.proofs.Lexemes as lexemes
-use Rattle.ir_text.proofs.Lexemes.{both, clash, ended, Lexes, placed_all, lexes_ascii}
+use Rattle.ir_text.proofs.Lexemes.{clash, ended, Lexes, placed_all, lexes_ascii}
 use Rattle.ir_text.proofs.LexedWords.{Opens, Follows, IsLexeme, lexeme_opens, sign_opens, sign_follows, blank_follows, spaces_open, identifier_is, number_is, width_is, word_is, Behind, word_opens, word_clean}
+use Rattle.ir_text.proofs.Booleans.{both_hold}
 
 -- ---- marks
 
@@ -79,12 +80,12 @@ word_next false ms k = k.follows
 -- a word of a format
 format_word : (printed text : List ℕ) (ms : List Mark) → is_printed printed text ≡ true → WordNext (ends_apart printed) ms → IsLexed (word printed text ∷ ms)
 format_word printed text ms h w =
-    let b = both (is_word text) (is_before_spaces text (less_spaces printed)) h in
+    let b = both_hold (is_word text) (is_before_spaces text (less_spaces printed)) h in
     record { opens = word_opens printed text _ _ b.0 b.1 (word_next (ends_apart printed) ms w) }
 
 format_word_next : (printed text : List ℕ) (ms : List Mark) → is_printed printed text ≡ true → begins_apart printed ≡ true → WordNext (ends_apart printed) ms → IsNext (word printed text ∷ ms)
 format_word_next printed text ms h a w =
-    let b = both (is_word text) (is_before_spaces text (less_spaces printed)) h in
+    let b = both_hold (is_word text) (is_before_spaces text (less_spaces printed)) h in
     record { follows = record { opens = word_opens printed text _ _ b.0 b.1 (word_next (ends_apart printed) ms w); clean = word_clean printed text _ b.0 b.1 a } }
 
 -- ---- formats
@@ -173,26 +174,26 @@ lex_format : (before : Before) (edge : Edge) (ss : Steps) (ps : List (Option Mar
     → Owes before edge (format_on before ss ps rest)
 lex_format before edge no_steps ps rest h m k = owes_next before edge rest k
 lex_format before edge (step.step (step.word printed text) ss) ps rest h m k =
-    let b = both (is_printed printed text && may_follow edge printed) (are_steps_apart (behind printed) ss) h in
-    let c = both (is_printed printed text) (may_follow edge printed) b.0 in
+    let b = both_hold (is_printed printed text && may_follow edge printed) (are_steps_apart (behind printed) ss) h in
+    let c = both_hold (is_printed printed text) (may_follow edge printed) b.0 in
     owes_word before edge printed text _ c.0 c.1 (lex_format a_word (behind printed) ss ps rest b.1 m k)
 lex_format before edge (step.step s ss) ps rest h m k =
-    let b = both (may_take edge && is_step_apart s) (are_steps_apart part ss) h in
-    let c = both (may_take edge) (is_step_apart s) b.0 in
+    let b = both_hold (may_take edge && is_step_apart s) (are_steps_apart part ss) h in
+    let c = both_hold (may_take edge) (is_step_apart s) b.0 in
     owes_step before edge s (parts_in ss) ps _ c.0 c.1 m (λ b2 qs g. lex_format b2 part ss qs rest b.1 g k)
 
 -- a kind's id, and what its format says
 lex_kind : (k : Kind) (begins ends : Action) (ps : List (Option Marker)) (rest : List Mark) → is_kind_printable k ≡ true → AreMarked (parts_in k.format) ps → IsNext rest
     → IsLexed (kind_on (Some k) begins ends ps rest)
 lex_kind k begins ends ps rest h m n =
-    let b = both (is_word k.id) (are_steps_apart apart k.format) h in
+    let b = both_hold (is_word k.id) (are_steps_apart apart k.format) h in
     lexeme k.id (word_is k.id b.0) (done (lex_format an_id apart k.format ps _ b.1 m (done n)))
 
 kind_at : (ks : List Kind) (n : ℕ) (k : Kind) → list_all is_kind_printable ks ≡ true → slice_get ks n ≡ Some k → is_kind_printable k ≡ true
 kind_at [] zero k h e = absurd (let t : None ≡ Some k = e in cc)
 kind_at [] (suc n) k h e = absurd (let t : None ≡ Some k = e in cc)
-kind_at (j ∷ ks) zero k h e = let t : Some j ≡ Some k = e in let u : j ≡ k = cc in subst (λ x. is_kind_printable x ≡ true) u (both (is_kind_printable j) (list_all is_kind_printable ks) h).0
-kind_at (j ∷ ks) (suc n) k h e = kind_at ks n k (both (is_kind_printable j) (list_all is_kind_printable ks) h).1 e
+kind_at (j ∷ ks) zero k h e = let t : Some j ≡ Some k = e in let u : j ≡ k = cc in subst (λ x. is_kind_printable x ≡ true) u (both_hold (is_kind_printable j) (list_all is_kind_printable ks) h).0
+kind_at (j ∷ ks) (suc n) k h e = kind_at ks n k (both_hold (is_kind_printable j) (list_all is_kind_printable ks) h).1 e
 
 -- ---- lists
 
@@ -216,9 +217,9 @@ module _ (member : Steps) (printed text : List ℕ) (h : is_printed printed text
 lex_list : (member : Steps) (printed text : List ℕ) (ps : List (Option Marker)) (rest : List Mark) → is_step_apart (step.list_of member printed text) ≡ true
     → EachMarked (step.list_of member printed text) ps → IsNext rest → IsLexed (members_on (step.list_of member printed text) ps rest)
 lex_list member printed text ps rest h m k =
-    let a = both (is_printed printed text && begins_apart printed && ends_apart printed) (are_steps_apart part member) h in
-    let b = both (is_printed printed text && begins_apart printed) (ends_apart printed) a.0 in
-    let c = both (is_printed printed text) (begins_apart printed) b.0 in
+    let a = both_hold (is_printed printed text && begins_apart printed && ends_apart printed) (are_steps_apart part member) h in
+    let b = both_hold (is_printed printed text && begins_apart printed) (ends_apart printed) a.0 in
+    let c = both_hold (is_printed printed text) (begins_apart printed) b.0 in
     lex_members member printed text c.0 c.1 b.1 ps rest m k
 
 -- ---- names
@@ -267,13 +268,13 @@ drop_next (suc n) (r ∷ rs) h = drop_next n rs h.1
 
 module _ (f : Formats) (v : Values) (printable : is_printable f ≡ true) where
   printable_types : list_all is_kind_printable f.types ≡ true
-  printable_types = (both _ (list_all is_kind_printable f.types) (both _ (list_all is_kind_printable f.attributes) printable).0).1
+  printable_types = (both_hold _ (list_all is_kind_printable f.types) (both_hold _ (list_all is_kind_printable f.attributes) printable).0).1
 
   printable_attributes : list_all is_kind_printable f.attributes ≡ true
-  printable_attributes = (both _ (list_all is_kind_printable f.attributes) printable).1
+  printable_attributes = (both_hold _ (list_all is_kind_printable f.attributes) printable).1
 
   printable_operations : list_all is_kind_printable f.operations ≡ true
-  printable_operations = (both _ (list_all is_kind_printable f.operations) (both _ (list_all is_kind_printable f.types) (both _ (list_all is_kind_printable f.attributes) printable).0).0).1
+  printable_operations = (both_hold _ (list_all is_kind_printable f.operations) (both_hold _ (list_all is_kind_printable f.types) (both_hold _ (list_all is_kind_printable f.attributes) printable).0).0).1
 
   lex_found : (found : Option Kind) (k : Kind) (begins ends : Action) (ps : List (Option Marker)) (rest : List Mark) → found ≡ Some k → is_kind_printable k ≡ true
       → AreMarked (parts_in k.format) ps → IsNext rest → IsLexed (kind_on found begins ends ps rest)
@@ -287,7 +288,7 @@ module _ (f : Formats) (v : Values) (printable : is_printable f ≡ true) where
         lex_found _ h.1 (act.BeginAttribute n) act.EndAttribute _ rest h.2 (kind_at f.attributes n h.1 printable_attributes h.2) (lex_pieces ts (parts_in h.1.format) h.3) k
     lex_piece (node list ts) (step.list_of member printed text) h a rest k =
         acted (lex_list member printed text (parts_on f ts) (did act.EndList ∷ rest) a
-        (lex_items ts member printed text h (both (is_printed printed text && begins_apart printed && ends_apart printed) (are_steps_apart part member) a).1) (done k))
+        (lex_items ts member printed text h (both_hold (is_printed printed text && begins_apart printed && ends_apart printed) (are_steps_apart part member) a).1) (done k))
     lex_piece (node list ts) _ h a rest k = absurd h
     lex_piece (node item ts) s h a rest k = absurd h
     lex_piece (node (operands n) ts) s h a rest k = loose k

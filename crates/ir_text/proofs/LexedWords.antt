@@ -17,7 +17,8 @@ use Rattle.ir_print.specs.Layout.{width_text, number_text}
 use Rattle.ir_text.specs.Tokens.{is_letter, is_digit, is_name_char, is_sign}
 use Rattle.ir_text.specs.Words.{is_width}
 use Rattle.ir_text.specs.Printable.{ends_name, is_word, less_spaces, is_before_spaces, begins_apart, ends_apart}
-use Rattle.ir_text.proofs.Lexemes.{both, falls, clash, Lexeme, Word, Dotted, Digits, Negative, Sign, Arrow, text_of, is_name, are_digits, is_spelled, begins, has_front, is_fresh, is_break, is_clean, stops, is_blank, Lexes, skipped, taken}
+use Rattle.ir_text.proofs.Lexemes.{falls, clash, Lexeme, Word, Dotted, Digits, Negative, Sign, Arrow, text_of, is_name, are_digits, is_spelled, begins, has_front, is_fresh, is_break, is_clean, stops, is_blank, Lexes, skipped, taken}
+use Rattle.ir_text.proofs.Booleans.{both_hold}
 
 -- ---- characters and tokens, one after the other
 
@@ -87,18 +88,18 @@ minus_minus c (d ∷ cs) a b h = fails_fourth a b (45 == c) (109 == d) (has_fron
 -- what has no `-` isn't `in-memory>`, whatever stops it
 fresh_word : (x cs : List ℕ) → list_all no_minus x ≡ true → is_clean cs ≡ true → is_fresh (x ++ cs) ≡ true
 fresh_word [] [] h k = refl
-fresh_word [] (c ∷ cs) h k = fails_first (105 == c) _ (break_no_in c (both (is_break c) (not (c == 45 && begins (λ d. 109 == d) cs)) k).0)
+fresh_word [] (c ∷ cs) h k = fails_first (105 == c) _ (break_no_in c (both_hold (is_break c) (not (c == 45 && begins (λ d. 109 == d) cs)) k).0)
 fresh_word (a ∷ []) [] h k = fails_second (105 == a) false false refl
-fresh_word (a ∷ []) (c ∷ cs) h k = fails_second (105 == a) (110 == c) _ (break_no_n c (both (is_break c) (not (c == 45 && begins (λ d. 109 == d) cs)) k).0)
+fresh_word (a ∷ []) (c ∷ cs) h k = fails_second (105 == a) (110 == c) _ (break_no_n c (both_hold (is_break c) (not (c == 45 && begins (λ d. 109 == d) cs)) k).0)
 fresh_word (a ∷ b ∷ []) [] h k = fails_third (105 == a) (110 == b) false false refl
-fresh_word (a ∷ b ∷ []) (c ∷ cs) h k = minus_minus c cs (105 == a) (110 == b) (both (is_break c) (not (c == 45 && begins (λ d. 109 == d) cs)) k).1
+fresh_word (a ∷ b ∷ []) (c ∷ cs) h k = minus_minus c cs (105 == a) (110 == b) (both_hold (is_break c) (not (c == 45 && begins (λ d. 109 == d) cs)) k).1
 fresh_word (a ∷ b ∷ d ∷ x) cs h k = fails_third (105 == a) (110 == b) (45 == d) _
-    (falls (45 == d) (both (no_minus d) (list_all no_minus x) (both (no_minus b) (list_all no_minus (d ∷ x)) (both (no_minus a) (list_all no_minus (b ∷ d ∷ x)) h).1).1).0)
+    (falls (45 == d) (both_hold (no_minus d) (list_all no_minus x) (both_hold (no_minus b) (list_all no_minus (d ∷ x)) (both_hold (no_minus a) (list_all no_minus (b ∷ d ∷ x)) h).1).1).0)
 
 -- each character in a name or a number
 all_from : (p q : ℕ → Bool) → ((c : ℕ) → p c ≡ true → q c ≡ true) → (cs : List ℕ) → list_all p cs ≡ true → list_all q cs ≡ true
 all_from p q f [] h = refl
-all_from p q f (c ∷ cs) h = let b = both (p c) (list_all p cs) h in rw (f c b.0) (all_from p q f cs b.1)
+all_from p q f (c ∷ cs) h = let b = both_hold (p c) (list_all p cs) h in rw (f c b.0) (all_from p q f cs b.1)
 
 letter_in_name : (c : ℕ) → is_letter c ≡ true → is_name_char c ≡ true
 letter_in_name c h = grind (arith, nat_tests)
@@ -114,11 +115,11 @@ digit_without c h = grind (arith, nat_tests)
 
 name_all : (x : List ℕ) → is_name x ≡ true → list_all no_minus x ≡ true
 name_all [] h = refl
-name_all (c ∷ cs) h = let b = both (is_letter c) (list_all is_name_char cs) h in all_from is_name_char no_minus name_without (c ∷ cs) (rw (letter_in_name c b.0) b.1)
+name_all (c ∷ cs) h = let b = both_hold (is_letter c) (list_all is_name_char cs) h in all_from is_name_char no_minus name_without (c ∷ cs) (rw (letter_in_name c b.0) b.1)
 
 all_both : (p : ℕ → Bool) (xs ys : List ℕ) → list_all p xs ≡ true → list_all p ys ≡ true → list_all p (xs ++ ys) ≡ true
 all_both p [] ys h k = k
-all_both p (x ∷ xs) ys h k = let b = both (p x) (list_all p xs) h in rw b.0 (all_both p xs ys b.1 k)
+all_both p (x ∷ xs) ys h k = let b = both_hold (p x) (list_all p xs) h in rw b.0 (all_both p xs ys b.1 k)
 
 digits_all : (x : List ℕ) → are_digits x ≡ true → list_all no_minus x ≡ true
 digits_all [] h = refl
@@ -126,7 +127,7 @@ digits_all (c ∷ cs) h = all_from is_digit no_minus digit_without (c ∷ cs) h
 
 fresh_lexeme : (t : Lexeme) (cs : List ℕ) → is_spelled t ≡ true → is_clean cs ≡ true → is_fresh (text_of t ++ cs) ≡ true
 fresh_lexeme (Word w) cs h k = fresh_word w cs (name_all w h) k
-fresh_lexeme (Dotted f b) cs h k = let s = both (is_name f) (is_name b) h in fresh_word (f ++ 46 ∷ b) cs (all_both no_minus f (46 ∷ b) (name_all f s.0) (name_all b s.1)) k
+fresh_lexeme (Dotted f b) cs h k = let s = both_hold (is_name f) (is_name b) h in fresh_word (f ++ 46 ∷ b) cs (all_both no_minus f (46 ∷ b) (name_all f s.0) (name_all b s.1)) k
 fresh_lexeme (Digits d) cs h k = fresh_word d cs (digits_all d h) k
 fresh_lexeme (Negative d) cs h k = refl
 fresh_lexeme (Sign c) cs h k = fails_first (105 == c) _ (sign_no_in c h)
@@ -253,7 +254,7 @@ no_more_dots (c ∷ d ∷ cs) h = go (c == 46) h (no_more_dots (d ∷ cs))
     go : (x : Bool) → (if x then not true && is_letter d && ends_name true cs else is_name_char c && ends_name true (d ∷ cs)) ≡ true
         → (ends_name true (d ∷ cs) ≡ true → list_all is_name_char (d ∷ cs) ≡ true) → list_all is_name_char (c ∷ d ∷ cs) ≡ true
     go true e more = absurd (let t : false ≡ true = e in cc)
-    go false e more = let b = both (is_name_char c) (ends_name true (d ∷ cs)) e in rw b.0 (more b.1)
+    go false e more = let b = both_hold (is_name_char c) (ends_name true (d ∷ cs)) e in rw b.0 (more b.1)
 
 more_plain : (c : ℕ) (cs : List ℕ) → is_name_char c ≡ true → Tail cs → Tail (c ∷ cs)
 more_plain c cs h (plain k) = plain (rw h k)
@@ -266,8 +267,8 @@ tail_of (c ∷ d ∷ cs) h = go (c == 46) refl h (tail_of (d ∷ cs))
   where
     go : (x : Bool) → (c == 46) ≡ x → (if x then not false && is_letter d && ends_name true cs else is_name_char c && ends_name false (d ∷ cs)) ≡ true
         → (ends_name false (d ∷ cs) ≡ true → Tail (d ∷ cs)) → Tail (c ∷ d ∷ cs)
-    go true s e more = let b = both (is_letter d) (ends_name true cs) e in dotted [] (d ∷ cs) (ap (λ z. z ∷ d ∷ cs) (eq_is c 46 s)) refl (rw b.0 (no_more_dots cs b.1))
-    go false s e more = let b = both (is_name_char c) (ends_name false (d ∷ cs)) e in more_plain c (d ∷ cs) b.0 (more b.1)
+    go true s e more = let b = both_hold (is_letter d) (ends_name true cs) e in dotted [] (d ∷ cs) (ap (λ z. z ∷ d ∷ cs) (eq_is c 46 s)) refl (rw b.0 (no_more_dots cs b.1))
+    go false s e more = let b = both_hold (is_name_char c) (ends_name false (d ∷ cs)) e in more_plain c (d ∷ cs) b.0 (more b.1)
 
 -- names end with a character of names
 names_run_on : (dot : Bool) (c : ℕ) (cs : List ℕ) → is_name_char c ≡ true → ends_name dot cs ≡ true → ends_apart (c ∷ cs) ≡ false
@@ -278,8 +279,8 @@ names_run_on dot c (d ∷ e ∷ cs) n h = go (d == 46) h (names_run_on true e cs
     go : (x : Bool) → (if x then not dot && is_letter e && ends_name true cs else is_name_char d && ends_name dot (e ∷ cs)) ≡ true
         → (is_name_char e ≡ true → ends_name true cs ≡ true → ends_apart (e ∷ cs) ≡ false)
         → (is_name_char d ≡ true → ends_name dot (e ∷ cs) ≡ true → ends_apart (e ∷ cs) ≡ false) → ends_apart (e ∷ cs) ≡ false
-    go true g first second = let b = both (not dot && is_letter e) (ends_name true cs) g in first (letter_in_name e (both (not dot) (is_letter e) b.0).1) b.1
-    go false g first second = let b = both (is_name_char d) (ends_name dot (e ∷ cs)) g in second b.0 b.1
+    go true g first second = let b = both_hold (not dot && is_letter e) (ends_name true cs) g in first (letter_in_name e (both_hold (not dot) (is_letter e) b.0).1) b.1
+    go false g first second = let b = both_hold (is_name_char d) (ends_name dot (e ∷ cs)) g in second b.0 b.1
 
 named_form : (c : ℕ) (cs : List ℕ) → is_letter c ≡ true → Tail cs → IsLexeme (c ∷ cs)
 named_form c cs l (plain h) = record { form = Word (c ∷ cs); same = refl; spelled = rw l h }
@@ -289,14 +290,14 @@ same_text : (a b : List ℕ) → bytes_eq a b ≡ true → a ≡ b
 same_text a b e = (bytes_eq-Decides a b).0 e
 
 form_of : (c : ℕ) (cs : List ℕ) → is_word (c ∷ cs) ≡ true → Form c cs
-form_of c cs h = go (is_letter c && ends_name false cs) (is_sign c && bytes_eq cs []) (bytes_eq (c ∷ cs) (codes "->")) refl refl refl (both (not (is_width (c ∷ cs))) _ h).1
+form_of c cs h = go (is_letter c && ends_name false cs) (is_sign c && bytes_eq cs []) (bytes_eq (c ∷ cs) (codes "->")) refl refl refl (both_hold (not (is_width (c ∷ cs))) _ h).1
   where
     arrowed : c ∷ cs ≡ 45 ∷ 62 ∷ [] → Form c cs
     arrowed e = arrow (let t = e in cc) (let t = e in cc)
 
     go : (x y z : Bool) → (is_letter c && ends_name false cs) ≡ x → (is_sign c && bytes_eq cs []) ≡ y → bytes_eq (c ∷ cs) (codes "->") ≡ z → (x || y || z) ≡ true → Form c cs
-    go true y z e f g k = let b = both (is_letter c) (ends_name false cs) e in named (named_form c cs b.0 (tail_of cs b.1)) b.0 (names_run_on false c cs (letter_in_name c b.0) b.1)
-    go false true z e f g k = let b = both (is_sign c) (bytes_eq cs []) f in sign (same_text cs [] b.1) b.0
+    go true y z e f g k = let b = both_hold (is_letter c) (ends_name false cs) e in named (named_form c cs b.0 (tail_of cs b.1)) b.0 (names_run_on false c cs (letter_in_name c b.0) b.1)
+    go false true z e f g k = let b = both_hold (is_sign c) (bytes_eq cs []) f in sign (same_text cs [] b.1) b.0
     go false false true e f g k = arrowed (same_text (c ∷ cs) (codes "->") g)
     go false false false e f g k = absurd (let t : false ≡ true = k in cc)
 
@@ -327,7 +328,7 @@ pub record IsSpaced (text printed : List ℕ) : Type 0 where
 spaces_only : (printed : List ℕ) → is_before_spaces [] printed ≡ true → IsSpaced [] printed
 spaces_only [] h = record { spaces = 0; spaced = refl }
 spaces_only (c ∷ cs) h =
-    let b = both (c == 32) (is_before_spaces [] cs) h in
+    let b = both_hold (c == 32) (is_before_spaces [] cs) h in
     let r = spaces_only cs b.1 in
     record { spaces = suc r.spaces; spaced = ap (λ z. 32 ∷ z) r.spaced ∙ ap (λ z. z ∷ cs) (sym (eq_is c 32 b.0)) }
 
@@ -335,7 +336,7 @@ spaces_behind : (text printed : List ℕ) → is_before_spaces text printed ≡ 
 spaces_behind [] printed h = spaces_only printed h
 spaces_behind (x ∷ xs) [] h = absurd (let t : false ≡ true = h in cc)
 spaces_behind (x ∷ xs) (c ∷ cs) h =
-    let b = both (x == c) (is_before_spaces xs cs) h in
+    let b = both_hold (x == c) (is_before_spaces xs cs) h in
     let r = spaces_behind xs cs b.1 in
     record { spaces = r.spaces; spaced = ap (λ z. x ∷ z) r.spaced ∙ ap (λ z. z ∷ cs) (eq_is x c b.0) }
 

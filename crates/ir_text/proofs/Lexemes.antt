@@ -17,12 +17,9 @@ use Rattle.ir_text.specs.Words as words
 use Rattle.ir_text.proofs.Marks.{sort_of, has_dot, behind_minus}
 use Rattle.ir_text.proofs.TokenLongest.{name_longest, dotted_longest, digits_longest, negative_longest, arrow_longest, sign_longest}
 use Rattle.ir_text.proofs.TokenSteps.{gap_more, token_more, spells_after}
+use Rattle.ir_text.proofs.Booleans.{both_hold}
 
 -- ---- tests
-
-pub both : (a b : Bool) → a && b ≡ true → (a ≡ true) × (b ≡ true)
-both true b h = (refl, h)
-both false b h = absurd (let t : false ≡ true = h in cc)
 
 pub falls : (b : Bool) → not b ≡ true → b ≡ false
 falls true h = absurd (let t : false ≡ true = h in cc)
@@ -152,7 +149,7 @@ sign_no_minus c h = grind (arith, nat_tests)
 
 no_dots : (cs : List ℕ) → list_all is_name_char cs ≡ true → has_dot cs ≡ false
 no_dots [] h = refl
-no_dots (c ∷ cs) h = let b = both (is_name_char c) (list_all is_name_char cs) h in rw (name_no_dot c b.0) (no_dots cs b.1)
+no_dots (c ∷ cs) h = let b = both_hold (is_name_char c) (list_all is_name_char cs) h in rw (name_no_dot c b.0) (no_dots cs b.1)
 
 or_true : (a b : Bool) → b ≡ true → (a || b) ≡ true
 or_true true b h = refl
@@ -174,19 +171,19 @@ other_sort c cs = if is_digit c then kinds.Digits else (if c == 45 then behind_m
 pub sort_is : (t : Lexeme) → is_spelled t ≡ true → sort_of (text_of t) ≡ kind_of t
 sort_is (Word []) h = absurd (let t : false ≡ true = h in cc)
 sort_is (Word (c ∷ w)) h =
-    let b = both (is_letter c) (list_all is_name_char w) h in
+    let b = both_hold (is_letter c) (list_all is_name_char w) h in
     a_word (is_letter c) (has_dot w) false (other_sort c w) b.0 (no_dots w b.1)
 sort_is (Dotted [] b) h = absurd (let t : false ≡ true = h in cc)
 sort_is (Dotted (c ∷ f) b) h =
-    let l = (both (is_letter c) (list_all is_name_char f) (both (is_name (c ∷ f)) (is_name b) h).0).0 in
+    let l = (both_hold (is_letter c) (list_all is_name_char f) (both_hold (is_name (c ∷ f)) (is_name b) h).0).0 in
     a_word (is_letter c) (has_dot (f ++ 46 ∷ b)) true (other_sort c (f ++ 46 ∷ b)) l (a_dot f b)
 sort_is (Digits []) h = absurd (let t : false ≡ true = h in cc)
 sort_is (Digits (c ∷ d)) h =
-    let g = (both (is_digit c) (list_all is_digit d) h).0 in
+    let g = (both_hold (is_digit c) (list_all is_digit d) h).0 in
     rw (digit_no_letter c g, g) refl
 sort_is (Negative []) h = absurd (let t : false ≡ true = h in cc)
 sort_is (Negative (c ∷ d)) h =
-    let g = (both (is_digit c) (list_all is_digit d) h).0 in
+    let g = (both_hold (is_digit c) (list_all is_digit d) h).0 in
     rw (digit_no_greater c g) refl
 sort_is (Sign c) h = rw (sign_no_letter c h, sign_no_digit c h, sign_no_minus c h) refl
 sort_is Arrow h = refl
@@ -214,8 +211,8 @@ inner whole i x cs r n lt = r.at n ∙ get_or-append x cs 0 n lt
 
 all_at : (p : ℕ → Bool) (x : List ℕ) (n : ℕ) → list_all p x ≡ true → n < length x → p (slice_index x n) ≡ true
 all_at p [] n h lt = absurd (let z : n < 0 = lt in omega arith)
-all_at p (c ∷ cs) zero h lt = (both (p c) (list_all p cs) h).0
-all_at p (c ∷ cs) (suc n) h lt = all_at p cs n (both (p c) (list_all p cs) h).1 (omega arith)
+all_at p (c ∷ cs) zero h lt = (both_hold (p c) (list_all p cs) h).0
+all_at p (c ∷ cs) (suc n) h lt = all_at p cs n (both_hold (p c) (list_all p cs) h).1 (omega arith)
 
 runs_in : (p : ℕ → Bool) (whole : List ℕ) (i : ℕ) (x cs : List ℕ) → IsRest whole i (x ++ cs) → list_all p x ≡ true → (j : ℕ) → j ≡ i + length x → Runs p whole i j
 runs_in p whole i x cs r h j e n lo hi =
@@ -228,7 +225,7 @@ first_in whole i c cs r = let e : i ≡ i + 0 = omega arith in ap (λ n. slice_i
 -- what a clean text begins with is in no name and no number, and is no dot
 clean_break : (c : ℕ) (cs : List ℕ) → is_clean (c ∷ cs) ≡ true → (is_name_char c ≡ false) × ((c == 46) ≡ false)
 clean_break c cs h =
-    let b = both (not (is_name_char c)) (not (c == 46)) (both (is_break c) (not (c == 45 && begins (λ d. 109 == d) cs)) h).0 in
+    let b = both_hold (not (is_name_char c)) (not (c == 46)) (both_hold (is_break c) (not (c == 45 && begins (λ d. 109 == d) cs)) h).0 in
     (falls (is_name_char c) b.0, falls (c == 46) b.1)
 
 stops_name : (whole : List ℕ) (j : ℕ) (cs : List ℕ) → IsRest whole j cs → is_clean cs ≡ true → j < length whole → is_name_char (slice_index whole j) ≡ false
@@ -249,7 +246,7 @@ no_dot whole j (c ∷ cs) r h e l =
 
 name_in : (whole : List ℕ) (i : ℕ) (c : ℕ) (w cs : List ℕ) → IsRest whole i ((c ∷ w) ++ cs) → is_letter c && list_all is_name_char w ≡ true → (j : ℕ) → j ≡ i + length (c ∷ w) → IsName whole i j
 name_in whole i c w cs r h j e =
-    let b = both (is_letter c) (list_all is_name_char w) h in
+    let b = both_hold (is_letter c) (list_all is_name_char w) h in
     ((let l : length (c ∷ w) ≡ suc (length w) = refl in omega arith), rw (first_in whole i c (w ++ cs) r) b.0, runs_in is_name_char whole i (c ∷ w) cs r (rw (letter_name c b.0) b.1) j e)
 
 letter_visible : (c : ℕ) → is_letter c ≡ true → is_whitespace c ≡ false
@@ -263,9 +260,9 @@ sign_visible c h = grind (arith, nat_tests)
 
 front_from : (xs cs : List ℕ) → list_all (λ x. not (x == 0)) xs ≡ true → ((n : ℕ) → n < length xs → slice_index cs n ≡ slice_index xs n) → has_front xs cs ≡ true
 front_from [] cs z h = refl
-front_from (x ∷ xs) [] z h = let e : 0 ≡ x = h 0 (omega arith) in absurd (clash (not (x == 0)) (both (not (x == 0)) (list_all (λ x. not (x == 0)) xs) z).0 (rw (sym e) refl))
+front_from (x ∷ xs) [] z h = let e : 0 ≡ x = h 0 (omega arith) in absurd (clash (not (x == 0)) (both_hold (not (x == 0)) (list_all (λ x. not (x == 0)) xs) z).0 (rw (sym e) refl))
 front_from (x ∷ xs) (c ∷ cs) z h = let e : c ≡ x = h 0 (omega arith) in let t : (x == c) ≡ true = grind (arith, nat_tests) in
-    rw t (front_from xs cs (both (not (x == 0)) (list_all (λ x. not (x == 0)) xs) z).1 (λ n lt. h (suc n) (omega arith)))
+    rw t (front_from xs cs (both_hold (not (x == 0)) (list_all (λ x. not (x == 0)) xs) z).1 (λ n lt. h (suc n) (omega arith)))
 
 -- ---- a token at its place
 
@@ -297,14 +294,14 @@ here whole i (Word (c ∷ w)) cs r s e =
       longest = name_longest whole i (i + length (c ∷ w)) n.1 n.0 n.2 (stops_name whole _ cs q e) (no_dot whole _ cs q e);
     }
 here whole i (Dotted [] b) cs r s e = absurd (let t : false ≡ true = s in cc)
-here whole i (Dotted (c ∷ f) []) cs r s e = absurd (let t : false ≡ true = (both (is_letter c && list_all is_name_char f) false s).1 in cc)
+here whole i (Dotted (c ∷ f) []) cs r s e = absurd (let t : false ≡ true = (both_hold (is_letter c && list_all is_name_char f) false s).1 in cc)
 here whole i (Dotted (c ∷ f) (d ∷ b)) cs r s e =
     let q = past whole i (text_of (Dotted (c ∷ f) (d ∷ b))) cs r in
     let r' = subst (λ x. IsRest whole i x) (append_assoc (c ∷ f) (46 ∷ d ∷ b) cs) r in
     let at_dot = past whole i (c ∷ f) (46 ∷ (d ∷ b) ++ cs) r' in
     let after_dot = past whole (i + length (c ∷ f)) (46 ∷ []) ((d ∷ b) ++ cs) at_dot in
     let dot : slice_index whole (i + length (c ∷ f)) ≡ 46 = first_in whole (i + length (c ∷ f)) 46 ((d ∷ b) ++ cs) at_dot in
-    let w = both (is_letter c && list_all is_name_char f) (is_letter d && list_all is_name_char b) s in
+    let w = both_hold (is_letter c && list_all is_name_char f) (is_letter d && list_all is_name_char b) s in
     let l = dotted_length (c ∷ f) (d ∷ b) in
     let n = name_in whole i c f (46 ∷ (d ∷ b) ++ cs) r' w.0 (i + length (c ∷ f)) refl in
     let m = name_in whole ((i + length (c ∷ f)) + 1) d b cs after_dot w.1 (i + length (text_of (Dotted (c ∷ f) (d ∷ b)))) (omega (arith, l)) in
@@ -317,7 +314,7 @@ here whole i (Digits []) cs r s e = absurd (let t : false ≡ true = s in cc)
 here whole i (Digits (c ∷ d)) cs r s e =
     let q = past whole i (c ∷ d) cs r in
     let runs = runs_in is_digit whole i (c ∷ d) cs r s (i + length (c ∷ d)) refl in
-    let first : is_digit (slice_index whole i) ≡ true = rw (first_in whole i c (d ++ cs) r) (both (is_digit c) (list_all is_digit d) s).0 in
+    let first : is_digit (slice_index whole i) ≡ true = rw (first_in whole i c (d ++ cs) r) (both_hold (is_digit c) (list_all is_digit d) s).0 in
     let l : length (c ∷ d) ≡ suc (length d) = refl in
     let lt : i < i + length (c ∷ d) = omega arith in
     record {
@@ -417,8 +414,8 @@ clean_line (c ∷ cs) h = ap (λ b. is_break c && not (c == 45 && b)) (begins_li
 
 front_line : (xs cs : List ℕ) → list_all (λ x. not (x == 10)) xs ≡ true → has_front xs (cs ++ 10 ∷ []) ≡ has_front xs cs
 front_line [] cs z = refl
-front_line (x ∷ xs) [] z = rw (falls (x == 10) (both (not (x == 10)) (list_all (λ x. not (x == 10)) xs) z).0) refl
-front_line (x ∷ xs) (c ∷ cs) z = ap (λ b. x == c && b) (front_line xs cs (both (not (x == 10)) (list_all (λ x. not (x == 10)) xs) z).1)
+front_line (x ∷ xs) [] z = rw (falls (x == 10) (both_hold (not (x == 10)) (list_all (λ x. not (x == 10)) xs) z).0) refl
+front_line (x ∷ xs) (c ∷ cs) z = ap (λ b. x == c && b) (front_line xs cs (both_hold (not (x == 10)) (list_all (λ x. not (x == 10)) xs) z).1)
 
 fresh_line : (cs : List ℕ) → is_fresh cs ≡ true → is_fresh (cs ++ 10 ∷ []) ≡ true
 fresh_line cs h = ap not (front_line (codes "in-memory>") cs refl) ∙ h
@@ -441,7 +438,7 @@ lined (taken {cs} {xs} t x same s e l) = subst (λ z. Lexes z (x ∷ xs)) (sym (
 
 pub all_ascii : (p : ℕ → Bool) → ((c : ℕ) → p c ≡ true → c < 128) → (cs : List ℕ) → list_all p cs ≡ true → IsAscii cs
 all_ascii p low [] h = IsAscii-nil
-all_ascii p low (c ∷ cs) h = let b = both (p c) (list_all p cs) h in IsAscii-cons c cs (low c b.0) (all_ascii p low cs b.1)
+all_ascii p low (c ∷ cs) h = let b = both_hold (p c) (list_all p cs) h in IsAscii-cons c cs (low c b.0) (all_ascii p low cs b.1)
 
 name_low : (c : ℕ) → is_name_char c ≡ true → c < 128
 name_low c h = grind (arith, nat_tests)
@@ -457,7 +454,7 @@ blank_low c h = grind (arith, nat_tests)
 
 name_ascii : (cs : List ℕ) → is_name cs ≡ true → IsAscii cs
 name_ascii [] h = IsAscii-nil
-name_ascii (c ∷ cs) h = let b = both (is_letter c) (list_all is_name_char cs) h in all_ascii is_name_char name_low (c ∷ cs) (rw (letter_name c b.0) b.1)
+name_ascii (c ∷ cs) h = let b = both_hold (is_letter c) (list_all is_name_char cs) h in all_ascii is_name_char name_low (c ∷ cs) (rw (letter_name c b.0) b.1)
 
 digits_ascii : (cs : List ℕ) → are_digits cs ≡ true → IsAscii cs
 digits_ascii [] h = IsAscii-nil
@@ -465,7 +462,7 @@ digits_ascii (c ∷ cs) h = all_ascii is_digit digit_low (c ∷ cs) h
 
 lexeme_ascii : (t : Lexeme) → is_spelled t ≡ true → IsAscii (text_of t)
 lexeme_ascii (Word w) h = name_ascii w h
-lexeme_ascii (Dotted f b) h = let s = both (is_name f) (is_name b) h in IsAscii-append f (46 ∷ b) (name_ascii f s.0) (IsAscii-cons 46 b (omega arith) (name_ascii b s.1))
+lexeme_ascii (Dotted f b) h = let s = both_hold (is_name f) (is_name b) h in IsAscii-append f (46 ∷ b) (name_ascii f s.0) (IsAscii-cons 46 b (omega arith) (name_ascii b s.1))
 lexeme_ascii (Digits d) h = digits_ascii d h
 lexeme_ascii (Negative d) h = IsAscii-cons 45 d (omega arith) (digits_ascii d h)
 lexeme_ascii (Sign c) h = IsAscii-cons c [] (sign_low c h) IsAscii-nil

@@ -1,3 +1,4 @@
+pub mod Booleans
 pub mod TokenLongest
 pub mod TokenSteps
 pub mod TokenUnique

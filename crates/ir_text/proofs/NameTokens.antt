@@ -20,10 +20,7 @@ use Rattle.ir_text.specs.Words.{text_of, shape_kind, is_spelled, word_kind, kind
 use Rattle.ir_text.specs.Grammar.{accepted}
 use Rattle.ir_text.specs.Rules.{number_of, is_name, may_be_name, takes, class_of, classes_of, plain_classes}
 use Rattle.ir_text.proofs.Spelled.{number_at}
-
-both_hold : (a b : Bool) → a && b ≡ true → (a ≡ true) × (b ≡ true)
-both_hold true b e = (refl, e)
-both_hold false b e = cc
+use Rattle.ir_text.proofs.Booleans.{both_hold}
 
 and_true : (a b : Bool) → a ≡ true → b ≡ true → a && b ≡ true
 and_true true b d e = e

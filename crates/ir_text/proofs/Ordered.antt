@@ -20,10 +20,7 @@ use Rattle.ir_text.specs.Rules.{plain_rule, plain_rules}
 use Rattle.ir_text.specs.Scopes.{names_value, OwnTokens}
 use Rattle.ir_text.specs.Nesting.{Position, at_root, behind_root_results, at_end, in_operation, in_operands, in_region, in_header, in_argument, in_block, behind_results, in_type, in_attribute, in_list, in_item, Move, goes_to, goes_in, goes_out, nowhere, move, Nests, NestsBy, has_own_token, FollowTokens}
 use Rattle.ir_text.specs.Ordered.{Standing, alone, moved_out, moved_by, moved, passed, passed_all, number_of_position, is_same_position, Leads, led_from, placed, led, walked, walked_all, is_alone_at, is_alone, lead_so, follow_signs, is_rule_ordered, are_rules_ordered, is_ordered, LeadsTo, IsInOrder, OrdersTexts}
-
-both_hold : (a b : Bool) → a && b ≡ true → (a ≡ true) × (b ≡ true)
-both_hold true b e = (refl, e)
-both_hold false b e = cc
+use Rattle.ir_text.proofs.Booleans.{both_hold}
 
 pub nothing : {A : Type 0} {C : Type 0} {x : A} → None ≡ Some x → C
 nothing e = cc

@@ -27,7 +27,8 @@ use Rattle.ir_text.specs.Rules.{number_of, up, is_name, takes, class_of, classes
 use Rattle.ir_text.proofs.Marks.{has_dot, behind_minus, sort_of, kind_by}
 use Rattle.ir_text.proofs.Spelled.{number_at}
 use Rattle.ir_text.proofs.Among.{IsAmong, number_below, among_below}
-use Rattle.ir_text.proofs.PlainWords.{both_hold, Tested, is_word_among, not_width, word_spelled}
+use Rattle.ir_text.proofs.PlainWords.{Tested, is_word_among, not_width, word_spelled}
+use Rattle.ir_text.proofs.Booleans.{both_hold}
 
 and_true : (a b : Bool) → a ≡ true → b ≡ true → a && b ≡ true
 and_true true b d e = e

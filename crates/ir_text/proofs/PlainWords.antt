@@ -18,10 +18,7 @@ use Rattle.ir_text.specs.Rules.{words_in_step, words_in, words_of, parts_of, kin
 use Rattle.ir_text.specs.Printable.{ends_name, is_word, less_spaces, is_before_spaces, is_printed, Edge, apart, part, behind, begins_apart, ends_apart, may_follow, may_take, is_step_apart, are_steps_apart, is_kind_printable, is_printable}
 use Rattle.ir_text.proofs.Marks.{has_dot, behind_minus, sort_of}
 use Rattle.ir_text.proofs.Among.{IsAmong, among_either, WordFrom, of_frame, of_kind, word_source}
-
-pub both_hold : (a b : Bool) → a && b ≡ true → (a ≡ true) × (b ≡ true)
-both_hold true b e = (refl, e)
-both_hold false b e = cc
+use Rattle.ir_text.proofs.Booleans.{both_hold}
 
 one_holds : (a b : Bool) → a || b ≡ true → (a ≡ true) ⊎ (b ≡ true)
 one_holds true b e = inl refl

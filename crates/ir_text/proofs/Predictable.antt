@@ -19,12 +19,9 @@ use Rattle.ir_text.specs.Given.{PlainPart, dense, grammar_value}
 use Rattle.ir_text.specs.Rules.{plain_rule, plain_rules, plain_classes, texts, words_of, rules_of, classes_of}
 use Rattle.ir_text.specs.Predicting.{PlainGrammar, plain_facts, sign_row, choice_row, follow_row, plain_closing, plain_solid, plain_cost, all_below, is_number, covers, picks, opening_row, is_fine, is_known, has_rank_below, is_below, plain_has_solid, plain_height, rule_fits, is_other, begins, is_rule_of, goes_on, choice_fits, is_shortest, closing_fits, facts_fit, fits}
 use Rattle.ir_text.proofs.Checks.{chosen_within, closing_within, known_by_cases}
+use Rattle.ir_text.proofs.Booleans.{both_hold}
 
 -- ---- tests
-
-both_hold : (a b : Bool) → a && b ≡ true → (a ≡ true) × (b ≡ true)
-both_hold true b e = (refl, e)
-both_hold false b e = cc
 
 one_holds : (a b : Bool) → a || b ≡ true → (a ≡ true) ⊎ (b ≡ true)
 one_holds true b e = inl refl

@@ -12,10 +12,7 @@ use Rattle.ir_names.specs.declared.identifier.Identifier.{Identifier}
 use Rattle.ir_names.specs.Identifier.{text_of}
 use Rattle.ir_names.specs.Text.{is_first_code, is_later_code, is_identifier}
 use Rattle.ir_print.specs.Printed.{value_name, label_front, block_name}
-
-both : (a b : Bool) → a && b ≡ true → (a ≡ true) × (b ≡ true)
-both true b h = (refl, h)
-both false b h = absurd (let t : false ≡ true = h in cc)
+use Rattle.ir_text.proofs.Booleans.{both_hold}
 
 -- ---- digits
 
@@ -37,7 +34,7 @@ decimal_all n h = all_digits (decimal n) (decimal_is_IsNumeral n h).0.1
 
 later_digits : (ds : List ℕ) → list_all is_digit_code ds ≡ true → list_all is_later_code ds ≡ true
 later_digits [] h = refl
-later_digits (c ∷ cs) h = let b = both (is_digit_code c) (list_all is_digit_code cs) h in rw (digit_later c b.0) (later_digits cs b.1)
+later_digits (c ∷ cs) h = let b = both_hold (is_digit_code c) (list_all is_digit_code cs) h in rw (digit_later c b.0) (later_digits cs b.1)
 
 decimal_later : (n : ℕ) → n < 2 ^ 64 → list_all is_later_code (decimal n) ≡ true
 decimal_later n h = later_digits (decimal n) (decimal_all n h)
@@ -46,11 +43,11 @@ decimal_later n h = later_digits (decimal n) (decimal_all n h)
 
 later_append : (xs ys : List ℕ) → list_all is_later_code xs ≡ true → list_all is_later_code ys ≡ true → list_all is_later_code (xs ++ ys) ≡ true
 later_append [] ys h k = k
-later_append (c ∷ cs) ys h k = let b = both (is_later_code c) (list_all is_later_code cs) h in rw b.0 (later_append cs ys b.1 k)
+later_append (c ∷ cs) ys h k = let b = both_hold (is_later_code c) (list_all is_later_code cs) h in rw b.0 (later_append cs ys b.1 k)
 
 identifier_append : (xs ys : List ℕ) → is_identifier xs ≡ true → list_all is_later_code ys ≡ true → is_identifier (xs ++ ys) ≡ true
 identifier_append [] ys h k = absurd (let t : false ≡ true = h in cc)
-identifier_append (c ∷ cs) ys h k = let b = both (is_first_code c) (list_all is_later_code cs) h in rw b.0 (later_append cs ys b.1 k)
+identifier_append (c ∷ cs) ys h k = let b = both_hold (is_first_code c) (list_all is_later_code cs) h in rw b.0 (later_append cs ys b.1 k)
 
 pub value_name_identifier : (n : ℕ) → n < 2 ^ 64 → is_identifier (value_name n) ≡ true
 value_name_identifier n h = decimal_later n h
@@ -78,7 +75,7 @@ tail_of e = cc
 
 no_k : (xs ds : List ℕ) → list_all is_digit_code (xs ++ 107 ∷ ds) ≡ true → ⊥
 no_k [] ds h = let t : false ≡ true = h in cc
-no_k (x ∷ xs) ds h = no_k xs ds (both (is_digit_code x) (list_all is_digit_code (xs ++ 107 ∷ ds)) h).1
+no_k (x ∷ xs) ds h = no_k xs ds (both_hold (is_digit_code x) (list_all is_digit_code (xs ++ 107 ∷ ds)) h).1
 
 -- what stands after the last `k`
 after_k : (xs ys ds es : List ℕ) → list_all is_digit_code ds ≡ true → list_all is_digit_code es ≡ true → xs ++ 107 ∷ ds ≡ ys ++ 107 ∷ es → ds ≡ es

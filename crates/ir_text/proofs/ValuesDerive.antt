@@ -18,9 +18,10 @@ use Rattle.ir_text.specs.Rules.{up, sign, several, words_of, steps_made, rules_o
 use Rattle.ir_text.specs.Outer.{is_value_step, are_value_steps, is_plain_step, are_plain_steps, has_outer_operands}
 use Rattle.ir_text.proofs.Marks.{Mark, word, did, members_on, more_members_on, piece_on, parts_on}
 use Rattle.ir_text.proofs.Among.{IsAmong, AreAmong, among_front, among_back}
-use Rattle.ir_text.proofs.PlainWords.{Tested, both_hold}
+use Rattle.ir_text.proofs.PlainWords.{Tested}
 use Rattle.ir_text.proofs.PlainKinds.{name_accepted, width_accepted, number_accepted}
 use Rattle.ir_text.proofs.MarkSteps.{DerivesMarks, shift, acted, regroup, expand, Placed, AllPlaced, IsReadAt, AreReadAt, took, took_word, format_reads, kind_reads}
+use Rattle.ir_text.proofs.Booleans.{both_hold}
 
 -- ---- steps that say neither operands nor regions
 
