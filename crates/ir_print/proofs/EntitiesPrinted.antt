@@ -2,6 +2,7 @@
 use Rattle.std.proofs.Common.{◌≡◌, ℕ, ◌+◌, Bool, true, length, List, [], ◌∷◌, ◌++◌, sym, ap, ◌∙◌, subst}
 use Rattle.std.specs.Prelude.{Option, Some, None, slice_get, option_map, codes}
 use Rattle.std.specs.Option.{option_map_or}
+use Rattle.ir_names.specs.declared.kinds.TypeHandle.{TypeHandle}
 use Rattle.ir_names.specs.Tree.{Trees}
 use Rattle.ir_store.specs.declared.pointer.Ptr.{Ptr}
 use Rattle.ir_store.specs.declared.pointer.Operation.{Operation}
@@ -18,7 +19,7 @@ use Rattle.ir_print.specs.Pieces.{ValueTree, Pieces, Values, Head, operation, a_
 use Rattle.ir_print.specs.Printed.{PrintsOperation, PrintsRegion, PrintsBlock, PrintsBlocks, PrintsOperations, PrintsRegions, IsValueName, block_name, label_front}
 use Rattle.ir_print.specs.Printing.{Adds, AreReadable}
 use Rattle.ir_print.specs.Shapes.{SaysOperations}
-use Rattle.ir_print.specs.Shown.{Saying, Said, ShowsAll, ShowsParts, Pairs}
+use Rattle.ir_print.specs.Shown.{Saying, Said, ShowsAll, ShowsParts, Pairs, types_of_results}
 use Rattle.ir_print.specs.Standing.{StandsResult, StandsArgument}
 use Rattle.ir_print.proofs.KindsPrinted.{kind_printed}
 use Rattle.ir_print.proofs.Owed.{Owed, wrote}
@@ -28,20 +29,20 @@ use Rattle.ir_print.proofs.RowsOwed.{Each, ShallowBlock, ShallowOperation, block
 module _ {K A T : Type 0} (says : Saying K A T) (f : Formats) (s : ContextView K A T) (n left : ℕ) where
   -- an operation is printed by its results, its id and its parts
   pub operation_printed : {D : Type 0} (v : Values) (op : Ptr Operation) (kind_at : ℕ → Option K) (text : K → Kind) → is_nested_little f ≡ true → SaysOperations says f v → ((k : ℕ) → slice_get f.operations k ≡ option_map text (kind_at k))
-      → ((kind : K) (entries : List (List ℕ × A)) (count k : ℕ) (us : Trees (Said A)) → says.of_operation kind entries count ≡ Some (k, us) → kind_at k ≡ Some kind)
+      → ((kind : K) (entries : List (List ℕ × A)) (count : ℕ) (tys : List TypeHandle) (k : ℕ) (us : Trees (Said A)) → says.of_operation kind entries count tys ≡ Some (k, us) → kind_at k ≡ Some kind)
       → (kind : K) (parts : List (Part D K A T)) (format : Steps) (a b c d : List ℕ) → kind_of s op ≡ Some kind
       → ((rs : List (List ℕ × ValueTree)) (rest : List Chunk) → Pairs (StandsResult says IsValueName s op) (results_of s op) rs → Adds a b rest (results_on rs rest))
       → c ≡ b ++ (text kind).id → format ≡ (text kind).format
-      → ((types : List T) → (o : OperationView K A) → (k : ℕ) → (us : Trees (Said A)) → (ps : Pieces) → operation_at s op ≡ Some o → says.of_operation o.kind o.attributes (length o.operands) ≡ Some (k, us) → ShowsAll says types us ps → ShowsParts says types parts ps)
+      → ((types : List T) → (o : OperationView K A) → (k : ℕ) → (us : Trees (Said A)) → (ps : Pieces) → operation_at s op ≡ Some o → says.of_operation o.kind o.attributes (length o.operands) (types_of_results o.results) ≡ Some (k, us) → ShowsAll says types us ps → ShowsParts says types parts ps)
       → ((ts : Pieces) (us : List (List ℕ)) (es : Entities (List ℕ)) (rest : List Chunk) → ShowsParts says s.types parts ts → AreFlat left ts → AreReadable 64 ts → AreLeft says s op left 0 0 us es → Adds c d rest (format_on an_id format (all_parts_on f ts us (regions_on f n es)) rest))
       → (t : Entity (List ℕ)) (rest : List Chunk) → PrintsOperation says s op t → IsShallow left t → Adds a d rest (operation_on f n t rest)
   operation_printed v op kind_at text little law tie kinds kind parts format a b c d of results e g shows print (entity (operation k rs used pieces) ts) rest h q =
       let o = h.0 in
       let at : operation_at s op ≡ Some o = h.1 in
       let head = h.2 in
-      let x = law s.types o.kind o.attributes (length o.operands) k head.said pieces head.says_it head.shown in
+      let x = law s.types o.kind o.attributes (length o.operands) (types_of_results o.results) k head.said pieces head.says_it head.shown in
       let ek : Some o.kind ≡ Some kind = sym (ap (option_map (λ y. y.kind)) at) ∙ of in
-      let et : slice_get f.operations k ≡ Some (text kind) = tie k ∙ ap (option_map text) (kinds o.kind o.attributes (length o.operands) k head.said head.says_it ∙ ek) in
+      let et : slice_get f.operations k ≡ Some (text kind) = tie k ∙ ap (option_map text) (kinds o.kind o.attributes (length o.operands) (types_of_results o.results) k head.said head.says_it ∙ ek) in
       let tail = kind_on (slice_get f.operations k) (all_parts_on f pieces used (regions_on f n ts)) rest in
       let left_over : AreLeft says s op left 0 0 used ts = record {
         operands = subst (λ vs. Pairs IsValueName vs used) (sym (ap (λ y. option_map_or (λ z. z.operands) y []) at)) head.mentions;

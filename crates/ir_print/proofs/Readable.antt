@@ -25,6 +25,7 @@ parts_nested : (d : ℕ) (ss : Steps) → are_nested d ss ≡ true → AllNested
 parts_nested d step.no_steps h = tt
 parts_nested d (step.step (step.word printed text) ss) h = parts_nested d ss h
 parts_nested d (step.step step.operands ss) h = (refl, parts_nested d ss h)
+parts_nested d (step.step step.operand ss) h = (refl, parts_nested d ss h)
 parts_nested d (step.step step.an_attribute ss) h = (refl, parts_nested d ss h)
 parts_nested d (step.step step.a_type ss) h = (refl, parts_nested d ss h)
 parts_nested d (step.step step.a_region ss) h = (refl, parts_nested d ss h)

@@ -8,6 +8,8 @@ mutual
   pub data Step : Type 0 where
     word : (printed text : List ℕ) → Step
     operands : Step
+    -- exactly one operand
+    operand : Step
     an_attribute : Step
     a_type : Step
     a_region : Step
@@ -32,6 +34,7 @@ steps (s ∷ ss) = step s (steps ss)
 abbrev pub step_by : Directive-F Step → Step
 step_by (Directive-F.Literal text) = word text.now (trim text.now)
 step_by Directive-F.Operands = operands
+step_by Directive-F.Operand = operand
 step_by Directive-F.Attribute = an_attribute
 step_by Directive-F.«Type» = a_type
 step_by Directive-F.Region = a_region

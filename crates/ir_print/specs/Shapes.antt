@@ -1,5 +1,6 @@
 -- Which trees have the shape of a format.
 use Rattle.std.specs.Prelude.{◌≡◌, ℕ, ◌^◌, ◌<◌, List, [], ◌∷◌, Some, None, true, slice_get}
+use Rattle.ir_names.specs.declared.kinds.TypeHandle.{TypeHandle}
 use Rattle.ir_names.specs.Text.{is_identifier}
 use Rattle.ir_names.specs.Tree.{Tree, Trees, node, no_tree, a_tree}
 use Rattle.ir_print.specs.Formats as step
@@ -24,6 +25,12 @@ TakesName step.a_name = Unit {0}
 TakesName step.symbol_name = Unit {0}
 TakesName _ = ⊥
 
+-- A list of operands takes any number of them, and the step of one operand takes one.
+abbrev pub TakesOperands : Step → ℕ → Type 0
+TakesOperands step.operands n = Unit {0}
+TakesOperands step.operand n = n ≡ 1
+TakesOperands _ n = ⊥
+
 -- ---- what is said
 
 module _ {A : Type 0} where
@@ -34,7 +41,7 @@ module _ {A : Type 0} where
     IsSaidAt s (node (said_attribute a) us) = s ≡ step.an_attribute
     IsSaidAt s (node said_list us) = IsListOf s (λ ss. AreMembersSaidAt ss us)
     IsSaidAt s (node said_item us) = ⊥
-    IsSaidAt s (node (said_operands n) us) = s ≡ step.operands
+    IsSaidAt s (node (said_operands n) us) = TakesOperands s n
     IsSaidAt s (node said_region us) = s ≡ step.a_region
     IsSaidAt s (node (said_name cs) us) = TakesName s × (is_identifier cs ≡ true)
     IsSaidAt s (node (said_number negative magnitude) us) = (s ≡ step.a_number) × (magnitude < 2 ^ 64)
@@ -65,7 +72,7 @@ module _ (f : Formats) (v : Values) where
         × (v.refused_attribute n ts ≡ None) × (v.canonical n ts ≡ ts)
     Fits s (node list ts) = IsListOf s (λ ss. FitMembers ss ts)
     Fits s (node item ts) = ⊥
-    Fits s (node (operands n) ts) = s ≡ step.operands
+    Fits s (node (operands n) ts) = TakesOperands s n
     Fits s (node region ts) = s ≡ step.a_region
     Fits s (node (name cs) ts) = TakesName s × (is_identifier cs ≡ true)
     Fits s (node (number negative magnitude) ts) = (s ≡ step.a_number) × (magnitude < 2 ^ 64)
@@ -125,5 +132,5 @@ module _ {K A T : Type 0} (says : Saying K A T) (f : Formats) (v : Values) where
 
   -- What operations say can be read.
   abbrev pub SaysOperations : Type 0
-  SaysOperations = (types : List T) (kind : K) (entries : List (List ℕ × A)) (count n : ℕ) (us : Trees (Said A)) (ps : Pieces)
-      → says.of_operation kind entries count ≡ Some (n, us) → ShowsAll says types us ps → IsOperationSaid n count us ps
+  SaysOperations = (types : List T) (kind : K) (entries : List (List ℕ × A)) (count : ℕ) (tys : List TypeHandle) (n : ℕ) (us : Trees (Said A)) (ps : Pieces)
+      → says.of_operation kind entries count tys ≡ Some (n, us) → ShowsAll says types us ps → IsOperationSaid n count us ps

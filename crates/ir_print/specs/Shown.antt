@@ -1,11 +1,12 @@
 -- Which types, attributes and operations of a context say what.
-use Rattle.std.specs.Prelude.{◌≡◌, ℕ, ◌+◌, ◌^◌, ◌≤◌, Bool, List, [], ◌∷◌, Option, Some, None, slice_get, Vec}
+use Rattle.std.specs.Prelude.{◌≡◌, ℕ, ◌+◌, ◌^◌, ◌≤◌, Bool, List, [], ◌∷◌, map, Option, Some, None, slice_get, Vec}
 use Rattle.std.specs.Global.{Global}
 use Rattle.ir_names.specs.declared.kinds.TypeHandle.{TypeHandle}
 use Rattle.ir_names.specs.declared.kinds.Signedness.{Signedness}
 use Rattle.ir_names.specs.declared.identifier.Identifier.{Identifier}
 use Rattle.ir_names.specs.Identifier.{text_of}
 use Rattle.ir_names.specs.Tree.{Tree, Trees, node, no_tree, a_tree}
+use Rattle.ir_store.specs.declared.value.Definition.{Definition}
 use Rattle.ir_store.specs.Views.{ContextView}
 use Rattle.ir_store.specs.Context.{key_at}
 use Rattle.ir_print.specs.declared.format.Number.{Number}
@@ -33,8 +34,12 @@ leaf x = node x no_tree
 pub record Saying (K A T : Type 0) : Type 0 where
   pub of_type : T → Option (ℕ × Trees (Said A))
   pub of_attribute : A → Option (ℕ × Trees (Said A))
-  -- an operation of a kind with these attributes, by name, and so many operands
-  pub of_operation : K → List (List ℕ × A) → ℕ → Option (ℕ × Trees (Said A))
+  -- an operation of a kind with these attributes, by name, with so many operands, and with results of these types
+  pub of_operation : K → (entries : List (List ℕ × A)) → (operands : ℕ) → (results : List TypeHandle) → Option (ℕ × Trees (Said A))
+
+-- the types of the results of an operation
+abbrev pub types_of_results : List Definition → List TypeHandle
+types_of_results ds = map (λ d. d.ty) ds
 
 -- the number that is read is this one; none is kept from 2^64 on
 abbrev pub IsNumber : Option Number → Bool → ℕ → Type 0
@@ -123,7 +128,7 @@ operands_said (a_tree (node _ ts) rest) = operands_said rest
 -- An operation of a kind with these attributes, and with the operands of these pieces, says them; its results have these types.
 pub record Drafts {K A T : Type 0} (says : Saying K A T) (types : List T) (values : Values) (kind : K) (n : ℕ) (ps : Pieces) (attributes : List (List ℕ × A)) (result_types : List TypeHandle) : Type 0 where
   pub pieces : Trees (Said A)
-  pub said : says.of_operation kind attributes (operands_said ps) ≡ Some (n, pieces)
+  pub said : says.of_operation kind attributes (operands_said ps) result_types ≡ Some (n, pieces)
   pub shown : ShowsAll says types pieces ps
   pub typed : Pairs (ShowsType says types) result_types (values.result_types n ps)
 

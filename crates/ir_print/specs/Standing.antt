@@ -12,7 +12,7 @@ use Rattle.ir_store.specs.Views.{OperationView, RegionView, BlockView, ContextVi
 use Rattle.ir_store.specs.Context.{operation_at, region_at, block_at, result_value, argument_value}
 use Rattle.ir_names.specs.Tree.{Trees}
 use Rattle.ir_print.specs.Pieces.{ValueTree, Pieces, operation, a_region, block, Entity, entity, Entities, no_entity, an_entity}
-use Rattle.ir_print.specs.Shown.{Said, Saying, Pairs, ShowsAll, ShowsType}
+use Rattle.ir_print.specs.Shown.{Said, Saying, Pairs, ShowsAll, ShowsType, types_of_results}
 
 -- the label of a block is this text
 abbrev pub IsLabel : Option Identifier → List ℕ → Type 0
@@ -31,7 +31,7 @@ module _ {K A T N : Type 0} (says : Saying K A T) (Named : Value → N → Type 
   -- An operation is of this kind, has these results and operands, and says this.
   pub record StandsHead (s : ContextView K A T) (p : Ptr Operation) (o : OperationView K A) (kind : ℕ) (results : List (N × ValueTree)) (operands : List N) (pieces : Pieces) : Type 0 where
     pub said : Trees (Said A)
-    pub says_it : says.of_operation o.kind o.attributes (length o.operands) ≡ Some (kind, said)
+    pub says_it : says.of_operation o.kind o.attributes (length o.operands) (types_of_results o.results) ≡ Some (kind, said)
     pub shown : ShowsAll says s.types said pieces
     pub defines : Pairs (StandsResult s p) o.results results
     pub mentions : Pairs Named o.operands operands

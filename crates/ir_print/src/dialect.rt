@@ -1,12 +1,13 @@
 //! What a dialect says of its texts.
 ghost use Rattle.std.specs.Prelude.{◌≡◌, ℕ, Bool, List, Option, Some, None, Err, true, length, slice_get, option_map, IfOk};
+ghost use Rattle.ir_names.specs.declared.kinds.TypeHandle.{TypeHandle};
 ghost use Rattle.ir_names.specs.Tree.{Trees, node};
 ghost use Rattle.ir_print.specs.declared.dialect.MakeFault.TheVariants.{Refused};
 ghost use Rattle.ir_print.specs.Formats.{Formats, Kind, is_small, steps_of};
 ghost use Rattle.ir_print.specs.Nested.{is_nested_little};
 ghost use Rattle.ir_print.specs.Pieces.{Pieces, Values, attribute_of_kind};
 ghost use Rattle.ir_print.specs.Shapes.{SaysTypes, SaysAttributes, SaysOperations};
-ghost use Rattle.ir_print.specs.Shown.{Said, Saying, ShowsAll, ShowsParts, ShowsKey, ShowsAttribute, KeepsTypes, Drafts, IsKindOf};
+ghost use Rattle.ir_print.specs.Shown.{Said, Saying, ShowsAll, ShowsParts, ShowsKey, ShowsAttribute, KeepsTypes, Drafts, IsKindOf, types_of_results};
 ghost use Rattle.ir_store.specs.Context.{IsLiveOperation, operation_at};
 ghost use Rattle.ir_store.specs.Views.{OperationView};
 ghost use Rattle.ir_store.specs.Marks.{IsSameTree};
@@ -184,7 +185,7 @@ pub trait TextDialect: Dialects {
     ) -> Result<Vec<Part<Self>>, AllocError>
         requires live { IsLiveOperation ctx.now op }
         ensures { (types : List Self.TypeKey) → (o : OperationView Self.OpKind Self.Attr) → (n : ℕ) → (us : Trees (Said Self.Attr)) → (ps : Pieces) → operation_at ctx.now op ≡ Some o
-            → says.of_operation o.kind o.attributes (length o.operands) ≡ Some (n, us) → ShowsAll says types us ps → IfOk result (λ parts. ShowsParts says types parts.items ps) };
+            → says.of_operation o.kind o.attributes (length o.operands) (types_of_results o.results) ≡ Some (n, us) → ShowsAll says types us ps → IfOk result (λ parts. ShowsParts says types parts.items ps) };
 
     ghost few: { is_small formats ≡ true };
 
@@ -209,7 +210,7 @@ pub trait TextDialect: Dialects {
     ghost says_operations: { SaysOperations says formats values };
 
     /// An operation says the number of its own kind.
-    ghost says_kinds: { (kind : Self.OpKind) (entries : List (List ℕ × Self.Attr)) (count n : ℕ) (us : Trees (Said Self.Attr)) → says.of_operation kind entries count ≡ Some (n, us) → kind_at n ≡ Some kind };
+    ghost says_kinds: { (kind : Self.OpKind) (entries : List (List ℕ × Self.Attr)) (count : ℕ) (tys : List TypeHandle) (n : ℕ) (us : Trees (Said Self.Attr)) → says.of_operation kind entries count tys ≡ Some (n, us) → kind_at n ≡ Some kind };
 
     /// Where no kind of types has a number, the first piece is refused.
     ghost unknown_type: { (n : ℕ) (ps : Pieces) → slice_get type_kinds n ≡ None → values.refused_type n ps ≡ Some 0 };

@@ -9,6 +9,8 @@ pub enum Directive {
     Literal(&'static str),
     /// Names of values, none or more, with commas between them.
     Operands,
+    /// The name of one value.
+    Operand,
     /// An attribute with its id.
     Attribute,
     /// A type with its id.

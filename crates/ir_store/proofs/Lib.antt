@@ -6,3 +6,5 @@ pub mod Sound
 pub mod Places
 pub mod Lookups
 pub mod Same
+pub mod FirstEdits
+pub mod Puts

@@ -1,5 +1,5 @@
 -- A context with one more entity holds only handles of its own.
-use Rattle.std.proofs.Common.{◌≡◌, ℕ, ◌+◌, ◌≤◌, List, [], ◌∷◌, ◌++◌, length, take, Option, None, refl, sym, subst, arith, length-append}
+use Rattle.std.proofs.Common.{◌≡◌, ℕ, ◌+◌, ◌≤◌, List, [], ◌∷◌, ◌++◌, length, take, Option, None, IfSome, refl, sym, subst, arith, length-append}
 use Rattle.std.proofs.lemmas.List.{length-take-le}
 use Rattle.ir_names.specs.declared.identifier.Identifier.{Identifier}
 use Rattle.ir_store.specs.declared.mark.Mark.{Mark}
@@ -13,6 +13,7 @@ use Rattle.ir_store.specs.Pointer.{IsAmongFirst, pointer_at}
 use Rattle.ir_store.specs.Views.{OperationView, RegionView, BlockView}
 use Rattle.ir_store.specs.Context.{pointers_from, empty_regions, edit_at, append_operand, append_block, append_operation, stand_in_block, stand_in_region}
 use Rattle.ir_store.specs.Marks.{IsWithin, IsDefinerBelow, IsOperationWithin, IsRegionWithin, IsBlockWithin, AreWithin}
+use Rattle.ir_store.specs.Rewriting.{stand_where}
 use Rattle.ir_store.proofs.Edits.{all_append, all_map, all_edit, length-edit_at}
 use Rattle.ir_store.proofs.Made.{length-empty_regions}
 use Rattle.ir_store.proofs.Within.{first_more, all_more, pointers_among, empty_regions_within}
@@ -76,6 +77,14 @@ module _ {K A : Type 0} (os : List (OperationView K A)) (rs : List RegionView) (
     operations = all_edit (IsOperationWithin (counts os rs bs)) os op.slot (stand_in_block block) (λ x k. record { operands = k.operands; regions = k.regions; parent = b }) h.operations;
     regions = h.regions;
     blocks = all_edit (IsBlockWithin (counts os rs bs)) bs block.slot (append_operation op) (λ x k. record { operations = all_append (IsAmongFirst (length os)) x.operations (op ∷ []) k.operations (o, tt); parent = k.parent }) h.blocks;
+  })
+
+  -- an operation that stands in another block, or in none
+  pub within_with_parent : (op : Ptr Operation) (parent : Option (Ptr BasicBlock)) → IfSome parent (IsAmongFirst (length bs)) → AreWithin (counts os rs bs) os rs bs → AreWithin (counts (edit_at os op.slot (stand_where parent)) rs bs) (edit_at os op.slot (stand_where parent)) rs bs
+  within_with_parent op parent p h = rw (length-edit_at os op.slot (stand_where {K = K} {A = A} parent)) (record {
+    operations = all_edit (IsOperationWithin (counts os rs bs)) os op.slot (stand_where parent) (λ x k. record { operands = k.operands; regions = k.regions; parent = p }) h.operations;
+    regions = h.regions;
+    blocks = h.blocks;
   })
 
   -- what is left below a mark

@@ -12,9 +12,9 @@ use std::marker::Model;
 /// All operations, regions and blocks of a program's tree, and the types that it has.
 #[derive(Drop)]
 pub struct Context<D: Dialects> {
-    operations: Vec<OperationRecord<D>>,
+    pub(crate) operations: Vec<OperationRecord<D>>,
     regions: Vec<RegionRecord>,
-    blocks: Vec<BlockRecord>,
+    pub(crate) blocks: Vec<BlockRecord>,
     types: IndexSet<D::TypeKey>,
     // The number of the next value.
     values: u64,

@@ -8,6 +8,7 @@ mod handles;
 mod mark;
 mod pointer;
 mod records;
+mod rewriting;
 mod value;
 
 pub use context::Context;

@@ -1,5 +1,5 @@
 //! The records of entities, as a context holds them.
-ghost use Rattle.std.specs.Prelude.{◌≡◌, ◌<◌, ◌++◌, ◌∷◌, [], length, slice_get, Some, None, option_copied, OnOk, OnErr};
+ghost use Rattle.std.specs.Prelude.{◌≡◌, ◌<◌, ◌++◌, ◌∷◌, [], length, slice_get, slice_set, Some, None, option_copied, OnOk, OnErr};
 
 use crate::value::Definition;
 use crate::{BasicBlock, Operation, Ptr, Region, Value};
@@ -94,6 +94,19 @@ impl<D: Dialects> OperationRecord<D> {
         ensures { self.new ≡ record self.old { parent = Some block } }
     {
         self.parent = Some(block);
+    }
+
+    pub fn put_parent(&mut self, parent: Option<Ptr<BasicBlock>>)
+        ensures { self.new ≡ record self.old { parent = parent } }
+    {
+        self.parent = parent;
+    }
+
+    pub fn set_operand(&mut self, index: usize, value: Value)
+        requires { index < length self.old.operands }
+        ensures { self.new ≡ record self.old { operands = slice_set self.old.operands index value } }
+    {
+        self.operands[index] = value;
     }
 }
 
@@ -194,6 +207,12 @@ impl BlockRecord {
         ensures { result ≡ self.now.parent }
     {
         self.parent
+    }
+
+    pub fn set_operations(&mut self, operations: Vec<Ptr<Operation>>)
+        ensures { self.new ≡ record self.old { operations = operations.items } }
+    {
+        self.operations = operations;
     }
 
     pub fn push_operation(&mut self, operation: Ptr<Operation>) -> Result<(), AllocError>

@@ -156,7 +156,7 @@ module _ {D K A T : Type 0} (says : Saying K A T) (values : Values) (text : ℕ 
 module _ {D K A T : Type 0} (says : Saying K A T) (values : Values) (text : ℕ → List ℕ) (m : Mark) (counter : ℕ) (s : ContextView K A T) (a : Assembler D K A T) (es : List Event) where
   -- at the end of a whole text the root stands for the tree that is built, and nothing else is open
   whole : (b : Built) (tokens mentions : List ℕ) → built es ≡ b → tokens ≡ defined_from 0 es → mentions ≡ mentioned_from 0 es → AreSettled s a tokens counter → AreWaiting m s a.made.pending.items mentions
-      → (gs : List (Open D K A T)) (os : List building.Open) → reverse a.around.items ≡ gs → RaisesAll says values text (world_of s a tokens mentions) a.made.root a.here at_end b.here gs os [] → IsAssembled says values text m s a.made es
+      → (gs : List (Open D K A T)) (os : List building.Open) → reverse a.around.items ≡ gs → RaisesAll says values text (world_of s a tokens mentions) a.made.root a.here at_end b.here gs os [] → IsAssembled says values text m counter s a.made es
   whole b tokens mentions builds defines says_all definitions waiting [] [] none h =
       let unnamed : a.here.numbers.items ≡ [] = no_numbers (λ n k. slice_get tokens n ≡ Some k) a.here.numbers.items (names_behind [] b.here) h.0.numbered h.2 in
       let numbers : numbers_of a ≡ [] = rw (no_around a.around.items none, unnamed) refl in
@@ -173,13 +173,14 @@ module _ {D K A T : Type 0} (says : Saying K A T) (values : Values) (text : ℕ 
           | inr x ↦ (let l = definitions.live n x.0 x.1 in (x.0, x.1, l.0, l.1))
         ];
         distinct = definitions.distinct;
+        counted = (let count = definitions.counted in let none_left : length (numbers_of a) ≡ 0 = ap (λ (ns : List ℕ). length ns) numbers in omega (arith, count, none_left));
         operands = rw (← says_all) waiting;
       }
   whole b tokens mentions builds defines says_all definitions waiting [] (o ∷ os) none h = absurd h
   whole b tokens mentions builds defines says_all definitions waiting (g ∷ gs) [] none h = absurd h
   whole b tokens mentions builds defines says_all definitions waiting (g ∷ gs) (o ∷ os) none h = absurd h
 
-  pub gathers_last : Leads at_root [] es at_end [] → Gathers says values text m counter s a es [] → IsAssembled says values text m s a.made es
+  pub gathers_last : Leads at_root [] es at_end [] → Gathers says values text m counter s a es [] → IsAssembled says values text m counter s a.made es
   gathers_last all h =
       let done : h.standing ≡ alone at_end = standing_so h.standing (h.leads all) in
       whole h.so_far h.tokens h.mentions h.builds (sym (append-nil h.tokens) ∙ h.defines) (sym (append-nil h.mentions) ∙ h.says_all) h.has.definitions h.has.operands

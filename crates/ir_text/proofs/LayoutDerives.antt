@@ -1,11 +1,12 @@
 -- A layout derives from the formats' grammar.
-use Rattle.std.proofs.Common.{◌≡◌, ℕ, zero, suc, ◌+◌, List, [], ◌∷◌, Some, true, codes, map, length, take, drop, slice_get, refl, sym, subst, ap, ◌∙◌, inl, arith}
+use Rattle.std.proofs.Common.{◌≡◌, ℕ, zero, suc, ◌+◌, List, [], ◌∷◌, Some, true, codes, map, length, take, drop, slice_get, refl, sym, subst, ap, ◌∙◌, ◌≤◌, inl, arith, length-take-le, length-drop}
 use Rattle.ir_names.specs.Text.{is_identifier}
 use Rattle.ir_names.specs.Tree.{node, no_tree, a_tree}
 use Rattle.ir_print.specs.Formats as step
 use Rattle.ir_print.specs.Formats.{Formats, Kind, Step}
 use Rattle.ir_print.specs.Pieces.{operands, region, ValueTree, Pieces, Values, operation, a_region, block, Entity, entity, Entities, no_entity, an_entity}
-use Rattle.ir_print.specs.Shapes.{parts_in, Fits, FitAll, FitArguments}
+use Rattle.ir_print.specs.Shapes.{parts_in, TakesOperands, Fits, FitAll, FitArguments}
+use Rattle.ir_print.specs.Shown.{operands_said}
 use Rattle.ir_text.specs.declared.grammar.Action.TheVariants as act
 use Rattle.ir_text.specs.declared.grammar.Symbol.{Symbol}
 use Rattle.ir_text.specs.declared.grammar.Symbol.TheVariants.{Sign, Part, Act}
@@ -92,20 +93,33 @@ module _ (g : Grammar) (f : Formats) (known : IsGrammarOf f g) (t : Tested f) (v
         acted (several_first g f known t n (codes ",") (Sign 0 ∷ Act act.Operand ∷ []) _ _ several (named x _ _ h.0 (acted (more_operands_read xs n _ _ h.1 several (acted d)))));
   }
 
+  operand_read : (xs : List (List ℕ)) → length xs ≡ 1 → AreIdentifiers xs → IsReadAt g f step.operand (operands_on xs)
+  operand_read [] e h = absurd cc
+  operand_read (x ∷ []) e h = record { reads = λ n ss ms placed d. acted (named x _ _ h.0 (acted (acted d))) }
+  operand_read (x ∷ y ∷ xs) e h = absurd cc
+
+  -- the names for a piece, of which there are as many as it takes
+  operands_at : (s : Step) (n : ℕ) (us : List (List ℕ)) → TakesOperands s n → n ≤ length us → AreIdentifiers us → IsReadAt g f s (operands_on (take n us))
+  operands_at step.operands n us h le spelt = operands_read (take n us) (taken n us spelt)
+  operands_at step.operand n us h le spelt = operand_read (take n us) (length-take-le n us le ∙ h) (taken n us spelt)
+  operands_at _ n us h le spelt = absurd h
+
   region_part : (r : List Mark → List Mark) (rs : List (List Mark → List Mark)) → ReadsRegion g f r → IsReadAt g f step.a_region (Some (first_region_on (r ∷ rs)))
   region_part r rs h = record { reads = λ n ss ms placed d. h.reads ss ms d }
 
-  all_parts_read : (ps : Pieces) (fs : List Step) (us : List (List ℕ)) (rs : List (List Mark → List Mark)) → FitAll f v fs ps → AllPass is_plain_step fs → AreIdentifiers us → regions_said ps ≡ length rs → ReadRegions g f rs
-      → AreReadAt g f fs (all_parts_on f ps us rs)
-  all_parts_read no_tree [] us rs h plain spelt count read = tt
-  all_parts_read no_tree (s ∷ fs) us rs h plain spelt count read = absurd h
-  all_parts_read (a_tree p ps) [] us rs h plain spelt count read = absurd h
-  all_parts_read (a_tree (node (operands n) ts) ps) (s ∷ fs) us rs h plain spelt count read =
-      (subst (λ x. IsReadAt g f x (operands_on (take n us))) (sym h.0) (operands_read (take n us) (taken n us spelt)), all_parts_read ps fs (drop n us) rs h.1 plain.1 (dropped n us spelt) count read)
-  all_parts_read (a_tree (node region ts) ps) (s ∷ fs) us [] h plain spelt count read = cc
-  all_parts_read (a_tree (node region ts) ps) (s ∷ fs) us (r ∷ rs) h plain spelt count read =
-      (subst (λ x. IsReadAt g f x (Some (first_region_on (r ∷ rs)))) (sym h.0) (region_part r rs read.0), all_parts_read ps fs us rs h.1 plain.1 spelt (omega (arith, count)) read.1)
-  all_parts_read (a_tree p ps) (s ∷ fs) us rs h plain spelt count read = (piece_read g f known t v o p s h.0 plain.0 tt, all_parts_read ps fs us rs h.1 plain.1 spelt count read)
+  all_parts_read : (ps : Pieces) (fs : List Step) (us : List (List ℕ)) (rs : List (List Mark → List Mark)) → FitAll f v fs ps → AllPass is_plain_step fs → AreIdentifiers us → operands_said ps ≡ length us → regions_said ps ≡ length rs
+      → ReadRegions g f rs → AreReadAt g f fs (all_parts_on f ps us rs)
+  all_parts_read no_tree [] us rs h plain spelt used count read = tt
+  all_parts_read no_tree (s ∷ fs) us rs h plain spelt used count read = absurd h
+  all_parts_read (a_tree p ps) [] us rs h plain spelt used count read = absurd h
+  all_parts_read (a_tree (node (operands n) ts) ps) (s ∷ fs) us rs h plain spelt used count read =
+      let long : n + operands_said ps ≡ length us = used in
+      let less : operands_said ps ≡ length (drop n us) = omega (arith, long, length-drop n us) in
+      (operands_at s n us h.0 (omega (arith, long)) spelt, all_parts_read ps fs (drop n us) rs h.1 plain.1 (dropped n us spelt) less count read)
+  all_parts_read (a_tree (node region ts) ps) (s ∷ fs) us [] h plain spelt used count read = cc
+  all_parts_read (a_tree (node region ts) ps) (s ∷ fs) us (r ∷ rs) h plain spelt used count read =
+      (subst (λ x. IsReadAt g f x (Some (first_region_on (r ∷ rs)))) (sym h.0) (region_part r rs read.0), all_parts_read ps fs us rs h.1 plain.1 spelt used (omega (arith, count)) read.1)
+  all_parts_read (a_tree p ps) (s ∷ fs) us rs h plain spelt used count read = (piece_read g f known t v o p s h.0 plain.0 tt, all_parts_read ps fs us rs h.1 plain.1 spelt used count read)
 
   -- ---- arguments
 
@@ -117,7 +131,7 @@ module _ (g : Grammar) (f : Formats) (known : IsGrammarOf f g) (t : Tested f) (v
 
   -- a type is no operand and no region
   type_inner : (p : ValueTree) → Fits f v step.a_type p → IsInner p
-  type_inner (node (operands n) ts) h = cc
+  type_inner (node (operands n) ts) h = absurd h
   type_inner (node region ts) h = cc
   type_inner _ h = tt
 
@@ -147,7 +161,7 @@ module _ (g : Grammar) (f : Formats) (known : IsGrammarOf f g) (t : Tested f) (v
         let k = fits.0.0 in
         results_read results ss _ spelt.0.0
         (kind_reads g f known t sort.Operation kind (slice_get f.operations kind) k (all_parts_on f pieces used (regions_on f n ts)) ss ms fits.0.1 fits.0.1
-        (all_parts_read pieces (parts_in k.format) used (regions_on f n ts) fits.0.2 (o.operations kind k fits.0.1) spelt.0.1 (is.1 ∙ sym (many_regions n ts)) (regions_read ts n is.2 fits.1 spelt.1)) d)
+        (all_parts_read pieces (parts_in k.format) used (regions_on f n ts) fits.0.2 (o.operations kind k fits.0.1) spelt.0.1 fits.0.4 (is.1 ∙ sym (many_regions n ts)) (regions_read ts n is.2 fits.1 spelt.1)) d)
     operation_read (entity a_region ts) n ss ms is fits spelt d = absurd is
     operation_read (entity (block label arguments) ts) n ss ms is fits spelt d = absurd is
 

@@ -15,7 +15,7 @@ use Rattle.ir_text.specs.Meaning.{digits, number_in, tail, width_in, head_of, wi
 use Rattle.ir_text.specs.Outer.{is_value_step, is_plain_step, has_outer_operands}
 use Rattle.ir_text.proofs.LayoutValues.{IsPlain, ArePlain}
 use Rattle.ir_text.proofs.LayoutOperations.{IsPlainPart, ArePlainParts, ArePlainArguments, IsPlainTree, ArePlainTrees}
-use Rattle.ir_text.proofs.ValuesDerive.{AllPass, values_in, Outer, outer}
+use Rattle.ir_text.proofs.ValuesDerive.{AllPass, values_in, values_alone, Outer, outer}
 
 -- ---- from formats
 
@@ -37,7 +37,7 @@ module _ (f : Formats) (v : Values) (o : Outer f) where
     value_plain (node (attribute_of_kind n) ts) s p fit bare = values_plain ts (parts_in fit.1.format) (o.attributes n fit.1 fit.2) fit.3 bare
     value_plain (node list ts) s p fit bare = list_plain s ts p fit bare (λ ss q fits b. members_plain ts ss q fits b)
     value_plain (node item ts) s p fit bare = absurd fit
-    value_plain (node (operands n) ts) s p fit bare = let wrong : false ≡ true = ap is_value_step (sym fit) ∙ p in cc
+    value_plain (node (operands n) ts) s p fit bare = absurd (values_alone s n fit p)
     value_plain (node region ts) s p fit bare = let wrong : false ≡ true = ap is_value_step (sym fit) ∙ p in cc
     value_plain (node (name cs) ts) s p fit bare = bare
     value_plain (node (number negative magnitude) ts) s p fit bare = bare

@@ -1,7 +1,7 @@
 -- In the rules of formats each action that keeps a name or names a value comes straight behind the sign of names.
 use Rattle.std.proofs.Common.{◌≡◌, ℕ, zero, suc, ◌==◌, List, [], ◌∷◌, ◌++◌, Some, Bool, true, false, slice_get, refl, subst}
 use Rattle.std.specs.Bool.{MatchBool}
-use Rattle.ir_print.specs.Formats.{Formats, Kind, Step, Steps, word, operands, an_attribute, a_type, a_region, symbol_name, a_name, a_number, a_width, list_of, no_steps, step}
+use Rattle.ir_print.specs.Formats.{Formats, Kind, Step, Steps, word, operands, operand, an_attribute, a_type, a_region, symbol_name, a_name, a_number, a_width, list_of, no_steps, step}
 use Rattle.ir_text.specs.declared.grammar.Action.{Action}
 use Rattle.ir_text.specs.declared.grammar.Action.TheVariants as act
 use Rattle.ir_text.specs.declared.grammar.Symbol.{Symbol}
@@ -75,6 +75,7 @@ module _ (ws : List (List ℕ)) where
     step_behind : (s : Step) (n : ℕ) → MadeBehindNames (step_made ws s n)
     step_behind (word printed w) n = (tt, tt)
     step_behind operands n = (tt, (tt, ((refl, tt), (tt, ((refl, tt), tt)))))
+    step_behind operand n = ((refl, tt), tt)
     step_behind an_attribute n = (tt, tt)
     step_behind a_type n = (tt, tt)
     step_behind a_region n = (tt, tt)

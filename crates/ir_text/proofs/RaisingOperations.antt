@@ -17,7 +17,7 @@ use Rattle.ir_store.specs.declared.mark.Mark.{Mark}
 use Rattle.ir_store.specs.Views.{OperationView, BlockView, ContextView}
 use Rattle.ir_store.specs.Context.{IsLiveBlock, parent_region_of, parent_block_of, next_operation, append_operation, operation_at, region_at, block_at, operands_of, stand_in_region, numbered, result_value, pointers_from}
 use Rattle.ir_print.specs.Pieces.{ValueTree, Pieces, Values, operation, a_region, block, Entity, entity, Entities, no_entity, an_entity}
-use Rattle.ir_print.specs.Shown.{Saying, Pairs, ShowsParts, ShowsType, Drafts, operands_said}
+use Rattle.ir_print.specs.Shown.{Saying, Pairs, ShowsParts, ShowsType, Drafts, operands_said, types_of_results}
 use Rattle.ir_print.specs.Standing.{IsLabel, StandsArgument, StandsOperations, StandsResult, StandsRegions, StandsBlocks}
 use Rattle.ir_text.specs.declared.assembling.Assembler.{Assembler}
 use Rattle.ir_text.specs.declared.assembling.Pending.{Pending}
@@ -48,7 +48,7 @@ use Rattle.ir_text.proofs.LaterWorlds.{reaches_before, world_same, world_both, a
 use Rattle.ir_text.proofs.BuiltBehind.{put_last, operations_behind, arguments_behind_header, has_header_behind, result_names_behind, operands_are_said, operations_put}
 use Rattle.ir_text.proofs.PiecesBehind.{name_behind}
 use Rattle.ir_text.proofs.RaisingBlocks.{gathered_one, gathered_two, around_with, innermost_raised, EndsMade, ends_made, ends_known, nothing_made, same_world_later, settled_same, waiting_same, pairs_none}
-use Rattle.ir_text.proofs.Rising.{get_last, rises_left, rises_right, rises_other, set_all_at, numbered_length, numbers_split, keeps_around}
+use Rattle.ir_text.proofs.Rising.{get_last, rises_left, rises_right, rises_other, set_all_at, numbered_length, numbered_types, numbers_split, keeps_around}
 use Rattle.ir_text.proofs.Settling.{entity_live, ready_free, later_operation, operation_keeps, settled_operation, world_operation, waiting_operation}
 use Rattle.ir_text.proofs.Opening.{as_many}
 use Rattle.ir_text.proofs.ShownLater.{shows_later, all_later}
@@ -137,12 +137,13 @@ module _ {K A T : Type 0} (says : Saying K A T) (values : Values) (text : ℕ �
       let given : operands_of e.ctx op ≡ q.0.operands = ap (λ (o : Option (OperationView K A)). option_map_or (λ p. p.operands) o []) q.1 in
       let mentions : Pairs (Means e) q.0.operands (operands_in ts) =
       subst (λ (ks : List ℕ). Pairs (Means e) q.0.operands ks) uses (subst (λ (vs : List Value). Pairs (Means e) vs used.items) given (r.operands place _ waits)) in
-      let many : length q.0.operands ≡ operands_said (pieces_in values text ts) = as_many (Means e) q.0.operands (operands_in ts) mentions ∙ sym said in (
+      let many : length q.0.operands ≡ operands_said (pieces_in values text ts) = as_many (Means e) q.0.operands (operands_in ts) mentions ∙ sym said in
+      let results : types_of_results q.0.results ≡ tys = ap types_of_results q.2.results ∙ numbered_types counter tys in (
         q.0,
         q.1,
         record {
           said = drafts.pieces;
-          says_it = rw (q.2.kind, q.2.attributes, many) drafts.said;
+          says_it = rw (q.2.kind, q.2.attributes, many, results) drafts.said;
           shown = all_later says v.ctx.types e.ctx.types r.ctx.types drafts.pieces (pieces_in values text ts) drafts.shown;
           defines = subst (λ (ds : List Definition). Pairs (StandsResult says (Means e) e.ctx op) ds (typed names (values.result_types n (pieces_in values text ts)))) (sym q.2.results)
               (results_stand says v e r op counter tys names (values.result_types n (pieces_in values text ts)) named drafts.typed);

@@ -13,7 +13,7 @@ use Rattle.ir_store.specs.declared.value.DefiningEntity.{DefiningEntity}
 use Rattle.ir_store.specs.Views.{ContextView}
 use Rattle.ir_store.specs.Context.{IsLiveDefiner, numbered}
 use Rattle.ir_print.specs.Pieces.{ValueTree}
-use Rattle.ir_print.specs.Shown.{Saying, Pairs, ShowsType}
+use Rattle.ir_print.specs.Shown.{Saying, Pairs, ShowsType, types_of_results}
 use Rattle.ir_text.specs.declared.assembling.Assembler.{Assembler}
 use Rattle.ir_text.specs.declared.opened.Open.{Open}
 use Rattle.ir_text.specs.Meaning.{typed}
@@ -185,6 +185,11 @@ set_all_keeps ns vs values waits k v h = set_all_other ns vs values k (λ i at. 
 pub numbered_length : (n : ℕ) (ts : List TypeHandle) → length (numbered n ts) ≡ length ts
 numbered_length n [] = refl
 numbered_length n (t ∷ ts) = ap suc (numbered_length (n + 1) ts)
+
+-- which are their types
+pub numbered_types : (n : ℕ) (ts : List TypeHandle) → types_of_results (numbered n ts) ≡ ts
+numbered_types n [] = refl
+numbered_types n (t ∷ ts) = ap (λ (us : List TypeHandle). t ∷ us) (numbered_types (n + 1) ts)
 
 pub numbered_at : (n : ℕ) (ts : List TypeHandle) (i : ℕ) (d : Definition) → slice_get (numbered n ts) i ≡ Some d → d.number ≡ n + i
 numbered_at n [] i d h = cc

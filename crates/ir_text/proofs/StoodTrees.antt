@@ -11,7 +11,7 @@ use Rattle.ir_store.specs.Views.{ContextView}
 use Rattle.ir_print.specs.Formats as step
 use Rattle.ir_print.specs.Formats.{Formats, Step}
 use Rattle.ir_print.specs.Pieces.{type_of_kind, attribute_of_kind, list, item, operands, region, name, number, width, ValueTree, Pieces, Values, operation, a_region, block, Entity, entity, Entities, no_entity, an_entity}
-use Rattle.ir_print.specs.Shown.{Said, said_type, leaf, Saying, Pairs, Shows, ShowsAll}
+use Rattle.ir_print.specs.Shown.{Said, said_type, leaf, Saying, Pairs, Shows, ShowsAll, types_of_results}
 use Rattle.ir_print.specs.Shapes.{parts_in, IsListOf, IsSaidAt, AreSaidAt, AreMembersSaidAt, IsMemberSaidAt, Fits, FitAll, FitMembers, FitsMember, FitArguments, SaysTypes, SaysAttributes, SaysOperations}
 use Rattle.ir_print.specs.Standing.{StandsArgument, StandsOperation, StandsRegion, StandsBlock, StandsRegions, StandsBlocks, StandsOperations}
 use Rattle.ir_text.specs.Closed.{FitsTree, FitTrees}
@@ -20,6 +20,7 @@ list_map : (s : Step) (P Q : List Step → Type 0) → ((ss : List Step) → P s
 list_map (step.list_of member printed text) P Q f h = f (parts_in member) h
 list_map (step.word printed text) P Q f h = absurd h
 list_map step.operands P Q f h = absurd h
+list_map step.operand P Q f h = absurd h
 list_map step.an_attribute P Q f h = absurd h
 list_map step.a_type P Q f h = absurd h
 list_map step.a_region P Q f h = absurd h
@@ -89,7 +90,7 @@ module _ {K A T N : Type 0} (says : Saying K A T) (f : Formats) (v : Values) (sa
     stood_fits (entity (operation kind results used pieces) ts) p h =
         let o = h.0 in
         let head = h.2 in
-        let said = say_operations s.types o.kind o.attributes (length o.operands) kind head.said pieces head.says_it head.shown in
+        let said = say_operations s.types o.kind o.attributes (length o.operands) (types_of_results o.results) kind head.said pieces head.says_it head.shown in
         ((said.kind, said.at, all_fit says f v s.types say_types say_attributes pieces (parts_in said.kind.format) head.said said.shaped head.shown, said.read, said.operands ∙ as_many Named o.operands used head.mentions), stood_regions ts p o.regions h.3)
     stood_fits (entity a_region ts) p h = absurd h
     stood_fits (entity (block label arguments) ts) p h = absurd h

@@ -1,5 +1,5 @@
 -- What is assembled of a text stands, once its operands are linked, for what the text says.
-use Rattle.std.proofs.Common.{◌≡◌, ℕ, zero, suc, ◌<◌, ◌≤◌, false, List, [], ◌∷◌, map, length, take, Option, Some, None, option_and_then, slice_get, slice_index, Result, Ok, Err, OnOk, IfOk, refl, sym, subst, ap, cond, ◌∙◌, arith}
+use Rattle.std.proofs.Common.{◌≡◌, ℕ, zero, suc, ◌+◌, ◌<◌, ◌≤◌, false, List, [], ◌∷◌, map, length, take, Option, Some, None, option_and_then, slice_get, slice_index, Result, Ok, Err, OnOk, IfOk, refl, sym, subst, ap, cond, ◌∙◌, arith, inl, inr}
 use Rattle.std.proofs.lemmas.Option.{slice_get-get_or, slice_get_within, get_or_from_slice_get}
 use Rattle.std.proofs.lemmas.List.{length-take-le, length-map}
 use Rattle.std.proofs.lemmas.Bool.{eq-eqb}
@@ -23,6 +23,7 @@ use Rattle.ir_text.specs.declared.grammar.Stop.TheVariants as stops
 use Rattle.ir_text.specs.declared.scopes.Resolution.{Resolution}
 use Rattle.ir_text.specs.declared.tokens.Token.{Token}
 use Rattle.ir_text.specs.Building.{built}
+use Rattle.ir_text.specs.Closed.{definitions_of}
 use Rattle.ir_text.specs.Faults.{IsNamed}
 use Rattle.ir_text.specs.Linking.{value_at, meant, AreMeant, CanLink, Links}
 use Rattle.ir_text.specs.Meaning.{renamed}
@@ -33,15 +34,18 @@ use Rattle.ir_text.specs.Reading.{tooks, through, IsMostly, Reads}
 use Rattle.ir_text.specs.Rules.{words_of}
 use Rattle.ir_text.specs.Words.{kind_of}
 use Rattle.ir_text.specs.Scopes.{OwnTokens, IsResolved, AreApart, definitions, mentions}
-use Rattle.ir_text.specs.Texts.{Language, IsReading, IsRead, token_text, HasFault}
+use Rattle.ir_text.specs.Texts.{Language, IsReading, token_text, HasFault}
+use Rattle.ir_text.specs.Understood.{IsRead}
 use Rattle.ir_text.specs.Worlds.{IsLater, End, Means, Reaches}
 use Rattle.ir_text.proofs.Apart.{are_apart}
 use Rattle.ir_text.proofs.BuiltTrees.{built_ended, built_forest, leads_nests}
 use Rattle.ir_text.proofs.Closings.{mentions_end}
-use Rattle.ir_text.proofs.DefinedTokens.{many_defined, defined_site, mentioned_site, definitions_taken, mentions_taken}
+use Rattle.ir_text.proofs.DefinedTokens.{defined_tokens, many_defined, defined_site, mentioned_site, definitions_taken, mentions_taken}
 use Rattle.ir_text.proofs.Derivations.{tooks_append}
 use Rattle.ir_text.proofs.Identifiers.{through_tooks}
 use Rattle.ir_text.proofs.Renamed.{renamed_operation}
+use Rattle.ir_text.proofs.TreeRenamed.{definitions_renamed}
+use Rattle.ir_text.proofs.TreeScopes.{definition_tokens}
 
 -- ---- lists of values, all made
 
@@ -175,7 +179,7 @@ module _ (l : Language) (cs : List ℕ) (ts : List Token) (names : List ℕ) (st
       let at : slice_get r.definitions.items m.0.token ≡ Some means.0 = slice_get-get_or r.definitions.items m.0.token 0 (omega arith) ∙ ap (λ x. Some x) number in
       (means.0, sym (ap (slice_get r.definitions.items) m.2) ∙ at, (let there = slice_get_within (definitions l.isolated es) means.0 means.1.0 means.1.1 in omega (arith, many_defined l.isolated es)))
 
-  module _ {K A T : Type 0} (says : Saying K A T) (mark : Mark) (s : ContextView K A T) (a : Assembly) (made : IsAssembled says l.values (token_text cs ts) mark s a es) where
+  module _ {K A T : Type 0} (says : Saying K A T) (mark : Mark) (counter : ℕ) (s : ContextView K A T) (a : Assembly) (made : IsAssembled says l.values (token_text cs ts) mark counter s a es) where
     all_made : AllMade a.values.items
     all_made = λ i lt. let p = made.settled i lt in (p.0, p.1)
 
@@ -209,8 +213,20 @@ module _ (l : Language) (cs : List ℕ) (ts : List Token) (names : List ℕ) (st
           let same : p.0 ≡ v = same_made p.0 v (sym p.1 ∙ at) in
           subst (λ (n : ℕ). v.number < n) (sym links.counter) (subst (λ (w : Value). w.number < s.counter) same p.3)
 
+      -- the counter has moved on by the number of the tree's definitions
+      moved_on : IsNamed (HasFault l cs ts names stop n es) None → t.counter ≡ counter + length (definitions_of (renamed (slice_index r.definitions.items) made.tree))
+      moved_on none =
+          let number = slice_index r.definitions.items in
+          let forest = built_forest es (leads_nests es at_root [] at_end [] leads) (built_ended es leads) in
+          let tokens = definition_tokens l.isolated l.values (token_text cs ts) es (built es).here made.tree forest made.says_so leads (λ f h. none f (inr (inr (inl h)))) in
+          let same : definitions_of (renamed number made.tree) ≡ map number (defined_from 0 es) = definitions_renamed number made.tree ∙ ap (map number) (tokens ∙ defined_tokens l.isolated es) in
+          let many : length (definitions_of (renamed number made.tree)) ≡ length (defined_from 0 es) = ap (λ (xs : List ℕ). length xs) same ∙ length-map (defined_from 0 es) number in
+          let before = made.counted in
+          let after = links.counter in
+          omega (arith, before, after, many, made.many)
+
       -- the root is what the text says
-      pub is_read : IsNamed (HasFault l cs ts names stop n es) None → IsRead says l cs t made.root
+      pub is_read : IsNamed (HasFault l cs ts names stop n es) None → IsRead says l cs counter t made.root
       unfolding the_end
       is_read none =
           let number = slice_index r.definitions.items in
@@ -221,6 +237,7 @@ module _ (l : Language) (cs : List ℕ) (ts : List Token) (names : List ℕ) (st
             (λ v w i j x y. made.distinct i j v w (made_back a.values.items all_made i v x) (made_back a.values.items all_made j w y)),
             (λ v i x. below v i (made_back a.values.items all_made i v x)),
             renamed_operation says (Named (values_in a.values.items)) number t made.root made.tree (made.made the_end reached),
+            moved_on none,
           )
 
     root_is : (p : Ptr Operation) → a.root ≡ Some p → made.root ≡ p
@@ -229,11 +246,11 @@ module _ (l : Language) (cs : List ℕ) (ts : List Token) (names : List ℕ) (st
     module _ (t : ContextView K A T) {E : Type 0} (result : Result (Ptr Operation) E) (linked : OnOk result (Links s t a.values.items r.definitions.items a.pending.items))
         (root : IfOk result (λ p. a.root ≡ Some p)) where
       -- what is answered is what the text says
-      pub answers_read : IsNamed (HasFault l cs ts names stop n es) None → IfOk result (IsRead says l cs t)
+      pub answers_read : IsNamed (HasFault l cs ts names stop n es) None → IfOk result (IsRead says l cs counter t)
       answers_read none = go result linked root
         where
-          go : (result : Result (Ptr Operation) E) → OnOk result (Links s t a.values.items r.definitions.items a.pending.items) → IfOk result (λ p. a.root ≡ Some p) → IfOk result (IsRead says l cs t)
-          go (Ok p) links e = subst (IsRead says l cs t) (root_is p e) (is_read t links none)
+          go : (result : Result (Ptr Operation) E) → OnOk result (Links s t a.values.items r.definitions.items a.pending.items) → IfOk result (λ p. a.root ≡ Some p) → IfOk result (IsRead says l cs counter t)
+          go (Ok p) links e = subst (IsRead says l cs counter t) (root_is p e) (is_read t links none)
           go (Err f) links e = tt
 
       -- it stands in no block

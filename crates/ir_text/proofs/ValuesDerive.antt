@@ -7,7 +7,7 @@ use Rattle.ir_print.specs.Formats as step
 use Rattle.ir_print.specs.Formats.{Formats, Kind, Step, Steps, no_steps}
 use Rattle.ir_print.specs.Layout.{a_word}
 use Rattle.ir_print.specs.Pieces.{type_of_kind, attribute_of_kind, list, item, operands, region, name, number, width, ValueTree, Pieces, Values}
-use Rattle.ir_print.specs.Shapes.{parts_in, TakesName, Fits, FitAll, FitMembers, FitsMember}
+use Rattle.ir_print.specs.Shapes.{parts_in, TakesName, TakesOperands, Fits, FitAll, FitMembers, FitsMember}
 use Rattle.ir_text.specs.declared.grammar.Action.TheVariants as act
 use Rattle.ir_text.specs.declared.grammar.Symbol.{Symbol}
 use Rattle.ir_text.specs.declared.grammar.Symbol.TheVariants.{Part, Act}
@@ -43,6 +43,12 @@ plain_in (step.step s fs) h = let t = both_hold (is_plain_step s) (are_plain_ste
 value_plain : (s : Step) → is_value_step s ≡ true → is_plain_step s ≡ true
 value_plain (step.list_of member printed text) h = h
 value_plain _ h = refl
+
+-- the steps of types and attributes take no operands
+pub values_alone : (s : Step) (n : ℕ) → TakesOperands s n → is_value_step s ≡ true → ⊥
+values_alone step.operands n h e = let wrong : false ≡ true = e in cc
+values_alone step.operand n h e = let wrong : false ≡ true = e in cc
+values_alone _ n h e = h
 
 -- the piece is neither operands nor a region
 abbrev pub IsInner : ValueTree → Type 0
@@ -149,7 +155,7 @@ module _ (g : Grammar) (f : Formats) (known : IsGrammarOf f g) (t : Tested f) wh
       parts_read no_tree [] h values = tt
       parts_read no_tree (s ∷ fs) h values = absurd h
       parts_read (a_tree p ps) [] h values = absurd h
-      parts_read (a_tree (node (operands n) ts) ps) (s ∷ fs) h values = let wrong : false ≡ true = sym (ap is_value_step h.0) ∙ values.0 in cc
+      parts_read (a_tree (node (operands n) ts) ps) (s ∷ fs) h values = absurd (values_alone s n h.0 values.0)
       parts_read (a_tree (node region ts) ps) (s ∷ fs) h values = let wrong : false ≡ true = sym (ap is_value_step h.0) ∙ values.0 in cc
       parts_read (a_tree p ps) (s ∷ fs) h values = (piece_read p s h.0 (value_plain s values.0) tt, parts_read ps fs h.1 values.1)
 

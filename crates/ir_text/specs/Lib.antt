@@ -28,6 +28,7 @@ pub mod Raised
 pub mod Makes
 pub mod Linking
 pub mod Closed
+pub mod Understood
 pub mod Printable
 pub mod Outer
 pub mod Bare

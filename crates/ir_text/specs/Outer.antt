@@ -8,6 +8,7 @@ use Rattle.ir_print.specs.Formats.{Formats, Kind, Step, Steps, no_steps}
 abbrev mutual
   pub is_value_step : Step → Bool
   is_value_step step.operands = false
+  is_value_step step.operand = false
   is_value_step step.a_region = false
   is_value_step (step.list_of member printed text) = are_value_steps member
   is_value_step _ = true

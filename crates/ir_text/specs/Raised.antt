@@ -254,9 +254,10 @@ pub record HasMade {D K A T : Type 0} (says : Saying K A T) (values : Values) (t
   pub definitions : AreSettled s a tokens counter
   pub operands : AreWaiting m s a.made.pending.items mentions
 
--- What a text has become but for its operands: the root stands for the tree that is built, in no block, each definition has a value with a
--- number of its own below the counter, and the operations wait for their operands.
-pub record IsAssembled {K A T : Type 0} (says : Saying K A T) (values : Values) (text : ℕ → List ℕ) (m : Mark) (s : ContextView K A T) (a : Assembly) (es : List Event) : Type 0 where
+-- What a text has become but for its operands, since a mark, at which the next value had this number: the root stands for the tree that is built,
+-- in no block, each definition has a value with a number of its own below the counter, which has moved on by their number, and the operations wait
+-- for their operands.
+pub record IsAssembled {K A T : Type 0} (says : Saying K A T) (values : Values) (text : ℕ → List ℕ) (m : Mark) (counter : ℕ) (s : ContextView K A T) (a : Assembly) (es : List Event) : Type 0 where
   pub root : Ptr Operation
   pub tree : Entity ℕ
   pub stands : a.root ≡ Some root
@@ -266,4 +267,5 @@ pub record IsAssembled {K A T : Type 0} (says : Saying K A T) (values : Values) 
   pub many : length (defined_from 0 es) ≡ length a.values.items
   pub settled : (n : ℕ) → n < length a.values.items → (v : Value) × (slice_get a.values.items n ≡ Some (Some v)) × IsLiveDefiner s v.definer × (v.number < s.counter)
   pub distinct : (i j : ℕ) (v w : Value) → slice_get a.values.items i ≡ Some (Some v) → slice_get a.values.items j ≡ Some (Some w) → v.number ≡ w.number → i ≡ j
+  pub counted : s.counter ≡ counter + length a.values.items
   pub operands : AreWaiting m s a.pending.items (mentioned_from 0 es)

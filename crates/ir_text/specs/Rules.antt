@@ -4,7 +4,7 @@ use Rattle.std.specs.Borrow.{Bor}
 use Rattle.std.specs.List.{range_with_len}
 use Rattle.std.specs.Str.{bytes_eq}
 use Rattle.ir_names.specs.Text.{is_identifier}
-use Rattle.ir_print.specs.Formats.{Formats, Kind, Step, Steps, word, operands, an_attribute, a_type, a_region, symbol_name, a_name, a_number, a_width, list_of, no_steps, step}
+use Rattle.ir_print.specs.Formats.{Formats, Kind, Step, Steps, word, operands, operand, an_attribute, a_type, a_region, symbol_name, a_name, a_number, a_width, list_of, no_steps, step}
 use Rattle.ir_text.specs.declared.grammar.Action.{Action}
 use Rattle.ir_text.specs.declared.grammar.Action.TheVariants as act
 use Rattle.ir_text.specs.declared.grammar.Symbol.{Symbol}
@@ -43,6 +43,7 @@ abbrev mutual
   pub words_in_step : Step → List (List ℕ)
   words_in_step (word printed w) = w ∷ []
   words_in_step operands = codes "," ∷ []
+  words_in_step operand = []
   words_in_step an_attribute = []
   words_in_step a_type = []
   words_in_step a_region = []
@@ -237,6 +238,7 @@ abbrev mutual
     rules = several n (sign ws (codes ",")) (name ∷ Act act.Operand ∷ []);
     next = up n 2;
   }
+  step_made ws operand n = just (Act act.BeginOperands ∷ name ∷ Act act.Operand ∷ Act act.EndOperands ∷ []) n
   step_made ws an_attribute n = just (Part attribute ∷ []) n
   step_made ws a_type n = just (Part type_part ∷ []) n
   step_made ws a_region n = just (Part region ∷ []) n

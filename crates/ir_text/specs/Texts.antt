@@ -4,13 +4,7 @@ use Rattle.std.specs.Option.{option_map_or}
 use Rattle.std.specs.Str.{chars}
 use Rattle.ir_names.specs.Tree.{Trees}
 use Rattle.ir_print.specs.Formats.{Formats}
-use Rattle.ir_store.specs.declared.pointer.Ptr.{Ptr}
-use Rattle.ir_store.specs.declared.pointer.Operation.{Operation}
-use Rattle.ir_store.specs.declared.value.Value.{Value}
-use Rattle.ir_store.specs.Views.{ContextView}
 use Rattle.ir_print.specs.Pieces.{Values, Entity, an_entity, no_entity}
-use Rattle.ir_print.specs.Shown.{Saying}
-use Rattle.ir_print.specs.Standing.{StandsOperation, Named, AreDistinct, AreBelow}
 use Rattle.ir_text.specs.declared.grammar.Event.{Event}
 use Rattle.ir_text.specs.declared.grammar.Grammar.{Grammar}
 use Rattle.ir_text.specs.declared.grammar.Stop.{Stop}
@@ -116,8 +110,3 @@ Says l cs tree = (ts : List Token) × (names : List ℕ) × (stop : Stop) × (n 
 abbrev pub HasDefinitions : Language → List ℕ → ℕ → Type 0
 HasDefinitions l cs n = (ts : List Token) × (names : List ℕ) × (stop : Stop) × (m : ℕ) × (es : List Event)
     × IsReading l cs ts names stop m es × (n ≡ length (definitions l.isolated es))
-
--- The operation of the context is what the text says: it stands for a tree that the text says, whose definitions are values, no two of one number
--- and each of a number below the counter.
-abbrev pub IsRead : {K A T : Type 0} → Saying K A T → Language → List ℕ → ContextView K A T → Ptr Operation → Type 0
-IsRead says l cs s root = (tree : Entity ℕ) × (values : List Value) × Says l cs tree × AreDistinct values × AreBelow s.counter values × StandsOperation says (Named values) s root tree

@@ -157,7 +157,7 @@ pub fn assemble<D: TextDialect>(
     requires { CanRewind ctx.old mark }
     ensures below { KeepsBelow mark ctx.old ctx.new }
     ensures live { KeepsLive ctx.old ctx.new }
-    ensures made { Leads at_root [] events.now at_end [] → AreSpelt (token_text source.entry.chars.now source.entry.tokens.now) 0 events.now → mark ≡ mark_of ctx.old → IfOk result (λ a. IsAssembled D.says D.values (token_text source.entry.chars.now source.entry.tokens.now) mark ctx.new a events.now) }
+    ensures made { Leads at_root [] events.now at_end [] → AreSpelt (token_text source.entry.chars.now source.entry.tokens.now) 0 events.now → mark ≡ mark_of ctx.old → IfOk result (λ a. IsAssembled D.says D.values (token_text source.entry.chars.now source.entry.tokens.now) mark ctx.old.counter ctx.new a events.now) }
     ensures full { Nests at_root [] events.now → AreSpelt (token_text source.entry.chars.now source.entry.tokens.now) 0 events.now → mark ≡ mark_of ctx.old → result ≡ Err CounterFull → LacksNumbers ctx.old (length (defined_from 0 events.now)) }
     ensures refused { (f : Fault) → Nests at_root [] events.now → AreSpelt (token_text source.entry.chars.now source.entry.tokens.now) 0 events.now → result ≡ Err (Text f) → first_refusal D.values (token_text source.entry.chars.now source.entry.tokens.now) events.now ≡ Some f }
     ensures sound { Nests at_root [] events.now → AreSpelt (token_text source.entry.chars.now source.entry.tokens.now) 0 events.now → OnOk result (first_refusal D.values (token_text source.entry.chars.now source.entry.tokens.now) events.now ≡ None) }

@@ -5,7 +5,8 @@ ghost use Rattle.ir_store.specs.Marks.{CanRewind, KeepsBelow, IsSameTree, mark_o
 ghost use Rattle.ir_text.specs.declared.faults.TextFault.TheVariants.{Memory, CounterFull};
 ghost use Rattle.ir_text.specs.Linking.{CanLink, Links};
 ghost use Rattle.ir_text.specs.Raised.{AreWaiting};
-ghost use Rattle.ir_text.specs.Texts.{language_of, HasDefinitions, IsRead, IsReading, IsRefusal, place_of, tell};
+ghost use Rattle.ir_text.specs.Texts.{language_of, HasDefinitions, IsReading, IsRefusal, place_of, tell};
+ghost use Rattle.ir_text.specs.Understood.{IsRead};
 
 use crate::assembling::{Assembly, assemble};
 use crate::depth::DEEPEST;
@@ -47,8 +48,9 @@ fn told(source: Source, fault: Fault) -> TextFault
 ///
 /// `chars` is the whole text; only white space may stand behind the operation. The answer is the operation, which
 /// stands in no block, or the fault that is met first: what is no text of the dialect's grammar, what is nested deeper
-/// than 64 levels, and names that are defined twice or not at all. After a fault no operation, region or block is
-/// left of the text. Takes time in proportion to the text.
+/// than 64 levels, and names that are defined twice or not at all. After an operation the context's counter has moved on
+/// by the number of values that the text defines; after a fault no operation, region or block is left of the text. Takes
+/// time in proportion to the text.
 pub fn top_level_parse<D: ReadDialect>(
     alloc: Global,
     ctx: &mut Context<D>,
@@ -57,7 +59,7 @@ pub fn top_level_parse<D: ReadDialect>(
     ensures read { IfOk result (IsLiveOperation ctx.new) }
     ensures kept { OnOk result (KeepsBelow (mark_of ctx.old) ctx.old ctx.new) }
     ensures refused { OnErr result (IsSameTree ctx.old ctx.new) }
-    ensures says { IfOk result (IsRead D.says (language_of D.formats D.kind_at D.isolated D.values) chars.now ctx.new) }
+    ensures says { IfOk result (IsRead D.says (language_of D.formats D.kind_at D.isolated D.values) chars.now ctx.old.counter ctx.new) }
     ensures apart { IfOk result (λ root. parent_block_of ctx.new root ≡ None) }
     ensures fault { IfErr result (IsRefusal (language_of D.formats D.kind_at D.isolated D.values) chars.now) }
     ensures full { result ≡ Err CounterFull → (n : ℕ) × HasDefinitions (language_of D.formats D.kind_at D.isolated D.values) chars.now n × LacksNumbers ctx.old n }
@@ -78,7 +80,7 @@ fn parse<D: ReadDialect>(
     requires { CanRewind ctx.old (mark_of ctx.old) }
     ensures read { IfOk result (IsLiveOperation ctx.new) }
     ensures kept { KeepsBelow (mark_of ctx.old) ctx.old ctx.new }
-    ensures says { IfOk result (IsRead D.says (language_of D.formats D.kind_at D.isolated D.values) chars.now ctx.new) }
+    ensures says { IfOk result (IsRead D.says (language_of D.formats D.kind_at D.isolated D.values) chars.now ctx.old.counter ctx.new) }
     ensures apart { IfOk result (λ root. parent_block_of ctx.new root ≡ None) }
     ensures fault { IfErr result (IsRefusal (language_of D.formats D.kind_at D.isolated D.values) chars.now) }
     ensures full { result ≡ Err CounterFull → (n : ℕ) × HasDefinitions (language_of D.formats D.kind_at D.isolated D.values) chars.now n × LacksNumbers ctx.old n }
@@ -108,7 +110,7 @@ fn understand<D: ReadDialect>(
     requires named { length source.tokens.now ≤ length names.now }
     ensures read { IfOk result (IsLiveOperation ctx.new) }
     ensures kept { KeepsBelow (mark_of ctx.old) ctx.old ctx.new }
-    ensures says { IfOk result (IsRead D.says (language_of D.formats D.kind_at D.isolated D.values) source.entry.chars.now ctx.new) }
+    ensures says { IfOk result (IsRead D.says (language_of D.formats D.kind_at D.isolated D.values) source.entry.chars.now ctx.old.counter ctx.new) }
     ensures apart { IfOk result (λ root. parent_block_of ctx.new root ≡ None) }
     ensures fault { IfErr result (IsRefusal (language_of D.formats D.kind_at D.isolated D.values) source.entry.chars.now) }
     ensures full { result ≡ Err CounterFull → (n : ℕ) × HasDefinitions (language_of D.formats D.kind_at D.isolated D.values) source.entry.chars.now n × LacksNumbers ctx.old n }

@@ -1,6 +1,6 @@
 //! The grammar of a dialect's texts, made from its formats.
 ghost use Rattle.std.specs.Prelude.{◌≡◌, ◌∷◌, [], ◌++◌, OnOk, IfOk, IfSome, length, min, ◌+◌, slice_get, option_map, codes};
-ghost use Rattle.ir_print.specs.Formats.{operands, step_of, steps_of};
+ghost use Rattle.ir_print.specs.Formats.{operand, operands, step_of, steps_of};
 ghost use Rattle.ir_text.specs.Rules.{up, texts, number_of, with_word, with_words, words_in, words_in_step, words_of, words_of_kinds, frame_words, sign, may_be_name, takes, class_of, classes_of, several, step_made, steps_made, kind_made, kinds_made, kinds_of, part_of, begin_of, end_of, operation_rules, region_rules, block_rules, argument_rules, rules_of, parts_of, plain_rule, plain_rules, plain_classes};
 ghost use Rattle.ir_text.specs.Table.{CanRead};
 ghost use Rattle.ir_text.specs.Ordered.{OrdersTexts};
@@ -230,6 +230,7 @@ fn add_directive(words: &mut Vec<&'static str>, directive: Directive) -> Result<
             add_word(words, separator.trim())?;
             add_format(words, member)?;
         }
+        Directive::Operand => {}
         Directive::Attribute => {}
         Directive::Type => {}
         Directive::Region => {}
@@ -346,6 +347,7 @@ impl RuleMaker {
         match directive {
             Directive::Literal(text) => symbols.push(self.sign(text.trim()))?,
             Directive::Operands => self.operands(symbols)?,
+            Directive::Operand => self.operand(symbols)?,
             Directive::Attribute => symbols.push(Symbol::Part(ATTRIBUTE))?,
             Directive::Type => symbols.push(Symbol::Part(TYPE))?,
             Directive::Region => symbols.push(Symbol::Part(REGION))?,
@@ -391,6 +393,17 @@ impl RuleMaker {
         symbols.push(Symbol::Act(Action::EndOperands))?;
         let operand = [Symbol::Sign(NAME_SIGN), Symbol::Act(Action::Operand)];
         self.several(list, self.sign(","), &operand)
+    }
+
+    /// The name of one value, as the only operand between the actions that begin and end operands.
+    fn operand(&self, symbols: &mut Vec<Symbol>) -> Result<(), AllocError>
+        ensures { OnOk result (Adds self.now self.now symbols.old.items symbols.new.items (step_made (texts self.now.words.items) operand self.now.next_list)) }
+    {
+        symbols.push(Symbol::Act(Action::BeginOperands))?;
+        symbols.push(Symbol::Sign(NAME_SIGN))?;
+        symbols.push(Symbol::Act(Action::Operand))?;
+        symbols.push(Symbol::Act(Action::EndOperands))?;
+        Ok(())
     }
 
     /// Adds the rule of a kind: its id, and between two actions what its format says.

@@ -1,5 +1,5 @@
 -- How a call ends, from how its parts end.
-use Rattle.std.proofs.Common.{◌≡◌, ℕ, ◌+◌, ◌^◌, ◌≤◌, List, Option, None, Result, Ok, Err, refl, sym, ap, subst, ◌∙◌, chars}
+use Rattle.std.proofs.Common.{◌≡◌, ℕ, ◌+◌, ◌^◌, ◌≤◌, List, Option, None, Result, Ok, Err, inl, inr, refl, sym, ap, subst, ◌∙◌, chars}
 use Rattle.std.specs.Prelude.{IsUtf8, IsErrAnd, IfErr, OnErr}
 use Rattle.ir_store.specs.declared.pointer.Ptr.{Ptr}
 use Rattle.ir_store.specs.declared.pointer.Operation.{Operation}
@@ -9,7 +9,8 @@ use Rattle.ir_text.specs.declared.faults.TextFault.{TextFault}
 use Rattle.ir_text.specs.declared.faults.TextFault.TheVariants as text
 use Rattle.kit_dialect.specs.declared.module_rules.RuleFault.{RuleFault}
 use Rattle.kit_dialect.specs.declared.module_rules.RuleFault.TheVariants as rule
-use Rattle.ir_text.specs.Texts.{IsRefusal, IsRead, Says, HasDefinitions}
+use Rattle.ir_text.specs.Texts.{IsRefusal, Says, HasDefinitions}
+use Rattle.ir_text.specs.Understood.{IsRead}
 use Rattle.kit_dialect.specs.Shapes.{KitContext}
 use Rattle.kit_dialect.specs.Says.{says}
 use Rattle.kit_dialect.specs.Walks.{IsAnswer, IsExact}
@@ -18,12 +19,16 @@ use Rattle.ir_store.proofs.Same.{same_itself}
 use Rattle.irkit.specs.declared.watched.Watched.{Watched}
 use Rattle.irkit.specs.declared.refusal.Refusal.{Refusal}
 use Rattle.irkit.specs.declared.refusal.Refusal.TheVariants.{NotUtf8, Syntax, TooDeep, Scope, Rule, Memory, CounterFull, Read, Write}
-use Rattle.irkit.specs.Refusals.{of_text_fault, of_rule_fault}
-use Rattle.irkit.specs.Texts.{kit_language, SaysTree, Overfills}
-use Rattle.irkit.specs.Outcomes.{Loads, Decodes, Understands, EndsReading, EndsLoad, EndsWriting, EndsCall, GivesText, GaveAll, Refuses}
+use Rattle.irkit.specs.Refusals.{of_text_fault, of_rule_fault, of_grow_error}
+use Rattle.irkit.specs.Texts.{kit_language, SaysTree, IsAcceptedAs, Overfills}
+use Rattle.irkit.specs.Outcomes.{Loads, Decodes, Understands, EndsReading, EndsLoad, EndsWriting, EndsCall, GivesText, GaveAll, Refuses, RefusesRun}
+use Rattle.irkit.specs.declared.request.KitPass.{KitPass}
+use Rattle.ir_names.specs.declared.growth.GrowError.{GrowError}
+use Rattle.ir_names.specs.declared.growth.GrowError.TheVariants as grow
+use Rattle.irkit.specs.Lists.{EndsPasses}
 
 -- what holds at an error holds at a result that is this error
-at_error : {X E : Type 0} (P : Result X E → Type 0) (r : Result X E) (e : E) → IsErrAnd r (λ x. x ≡ e) → P (Err e) → P r
+pub at_error : {X E : Type 0} (P : Result X E → Type 0) (r : Result X E) (e : E) → IsErrAnd r (λ x. x ≡ e) → P (Err e) → P r
 at_error P (Ok x) e is h = absurd is
 at_error P (Err x) e is h = subst (λ y. P (Err y)) (sym is) h
 
@@ -69,19 +74,20 @@ misruled_for bytes old new (rule.Broken n p) tree said answer same = ((tree, sai
 
 -- a module that isn't accepted
 pub misruled : (bytes cs : List ℕ) (old new read : KitContext) (root : Ptr Operation) (f : RuleFault) (r : Result (Ptr Operation) Refusal)
-    → r ≡ Err (of_rule_fault f) → IsUtf8 bytes → cs ≡ chars bytes → IsRead says kit_language cs read root → IsExact read root (Err f) → IsSameTree old new → Understands bytes old new r
-misruled bytes cs old new read root f r is utf8 spelt (tree, values, said, distinct, below, stands) exact same = subst (Understands bytes old new) (sym is)
+    → r ≡ Err (of_rule_fault f) → IsUtf8 bytes → cs ≡ chars bytes → IsRead says kit_language cs old.counter read root → IsExact read root (Err f) → IsSameTree old new → Understands bytes old new r
+misruled bytes cs old new read root f r is utf8 spelt (tree, values, said, distinct, below, stands, counted) exact same = subst (Understands bytes old new) (sym is)
     (misruled_for bytes old new f tree (utf8, subst (λ xs. Says kit_language xs tree) spelt said) (exact values distinct tree stands) same)
 
 -- a module that is accepted
-pub accepted : (bytes cs : List ℕ) (old new : KitContext) (root : Ptr Operation) (u : Unit {0}) → IsUtf8 bytes → cs ≡ chars bytes → IsRead says kit_language cs new root
+pub accepted : (bytes cs : List ℕ) (old new : KitContext) (root : Ptr Operation) (u : Unit {0}) → IsUtf8 bytes → cs ≡ chars bytes → IsRead says kit_language cs old.counter new root
     → IsExact new root (Ok u) → parent_block_of new root ≡ None → KeepsBelow (mark_of old) old new → Loads bytes old new root
-accepted bytes cs old new root u utf8 spelt (tree, values, said, distinct, below, stands) exact apart kept = record {
+accepted bytes cs old new root u utf8 spelt (tree, values, said, distinct, below, stands, counted) exact apart kept = record {
   tree = tree;
   values = values;
   accepted = ((utf8, subst (λ xs. Says kit_language xs tree) spelt said), exact values distinct tree stands);
   distinct = distinct;
   below = below;
+  counted = counted;
   stands = stands;
   apart = apart;
   kept = kept;
@@ -121,37 +127,60 @@ module _ {R : Type 0} (remaining : R → Option (List ℕ)) (old new : Watched R
   pub unloaded : (ctx new_ctx : KitContext) (r : Result (Ptr Operation) Refusal) (e : Refusal) → r ≡ Err e → EndsLoad remaining old new ctx new_ctx r → ctx.counter ≡ 0 → Refuses remaining old new 0 e
   unloaded ctx new_ctx r e was ends fresh = subst (λ k. Refuses remaining old new k e) fresh (subst (EndsLoad remaining old new ctx new_ctx) was ends).0
 
+  -- so it is of `run`
+  pub unloaded_run : (passes : List KitPass) (e : Refusal) → Refuses remaining old new 0 e → RefusesRun remaining old new passes e
+  unloaded_run passes (NotUtf8 b) h = h
+  unloaded_run passes (Syntax l k) h = h
+  unloaded_run passes (TooDeep l k) h = h
+  unloaded_run passes (Scope l k c) h = h
+  unloaded_run passes (Rule n p) h = h
+  unloaded_run passes Memory h = h
+  unloaded_run passes CounterFull h = inl h
+  unloaded_run passes Read h = h
+  unloaded_run passes (Write b) h = h
+
+  passes_refused : (X : Type 0) (passes : List KitPass) (ctx : KitContext) (root : Ptr Operation) (bytes : List ℕ) (tree : Entity ℕ) (e : GrowError) → GaveAll remaining old new bytes → IsAcceptedAs bytes tree
+      → EndsPasses {X = X} passes ctx root tree (Err e) → RefusesRun remaining old new passes (of_grow_error e)
+  passes_refused X passes ctx root bytes tree grow.Memory gave accepted ends = gave.2
+  passes_refused X passes ctx root bytes tree grow.CounterFull gave accepted ends = inr (bytes, tree, gave, accepted, ends)
+
+  -- passes that are refused
+  pub unpassed : {X : Type 0} (passes : List KitPass) (ctx : KitContext) (root : Ptr Operation) (bytes : List ℕ) (tree : Entity ℕ) (r : Result X GrowError) (e : GrowError) → r ≡ Err e → GaveAll remaining old new bytes
+      → IsAcceptedAs bytes tree → EndsPasses passes ctx root tree r → RefusesRun remaining old new passes (of_grow_error e)
+  unpassed {X = X} passes ctx root bytes tree r e was gave accepted ends = passes_refused X passes ctx root bytes tree e gave accepted (subst (EndsPasses passes ctx root tree) was ends)
+
   -- no text is made then
-  pub untexted : {V : Type 0} (text_of : V → List ℕ) (e : Refusal) (r : Result V Refusal) → IsErrAnd r (λ x. x ≡ e) → Refuses remaining old new 0 e → GivesText remaining old new text_of r
-  untexted text_of e r is refused = at_error (GivesText remaining old new text_of) r e is refused
+  pub untexted : {V : Type 0} (passes : List KitPass) (text_of : V → List ℕ) (e : Refusal) (r : Result V Refusal) → IsErrAnd r (λ x. x ≡ e) → RefusesRun remaining old new passes e → GivesText remaining old new passes text_of r
+  untexted passes text_of e r is refused = at_error (GivesText remaining old new passes text_of) r e is refused
 
 module _ {R W : Type 0} (remaining : R → Option (List ℕ)) (contents : W → Option (List ℕ)) (input new_input : Watched R) (output new_output : Watched W) where
-  unwritten_for : (X : Type 0) (gives : List ℕ → List ℕ → Type 0) (e : Refusal) → Refuses remaining input new_input 0 e → new_output ≡ output → EndsCall remaining contents input new_input output new_output {X = X} gives (Err e)
-  unwritten_for X gives (NotUtf8 b) h same = (h, same)
-  unwritten_for X gives (Syntax l k) h same = (h, same)
-  unwritten_for X gives (TooDeep l k) h same = (h, same)
-  unwritten_for X gives (Scope l k c) h same = (h, same)
-  unwritten_for X gives (Rule n p) h same = (h, same)
-  unwritten_for X gives Memory h same = (h, same)
-  unwritten_for X gives CounterFull h same = (h, same)
-  unwritten_for X gives Read h same = (h, same)
-  unwritten_for X gives (Write b) h same = absurd h
+  unwritten_for : (X : Type 0) (refuses : Refusal → Type 0) (gives : List ℕ → List ℕ → Type 0) (e : Refusal) → ((b : ℕ) → refuses (Write b) → ⊥) → refuses e → new_output ≡ output
+      → EndsCall remaining contents input new_input output new_output {X = X} refuses gives (Err e)
+  unwritten_for X refuses gives (NotUtf8 b) never h same = (h, same)
+  unwritten_for X refuses gives (Syntax l k) never h same = (h, same)
+  unwritten_for X refuses gives (TooDeep l k) never h same = (h, same)
+  unwritten_for X refuses gives (Scope l k c) never h same = (h, same)
+  unwritten_for X refuses gives (Rule n p) never h same = (h, same)
+  unwritten_for X refuses gives Memory never h same = (h, same)
+  unwritten_for X refuses gives CounterFull never h same = (h, same)
+  unwritten_for X refuses gives Read never h same = (h, same)
+  unwritten_for X refuses gives (Write b) never h same = absurd (never b h)
 
   -- nothing is written where the input is refused
-  pub unwritten : {X : Type 0} (gives : List ℕ → List ℕ → Type 0) (e : Refusal) (r : Result X Refusal) → IsErrAnd r (λ x. x ≡ e) → Refuses remaining input new_input 0 e → new_output ≡ output
-      → EndsCall remaining contents input new_input output new_output gives r
-  unwritten {X = X} gives e r is h same = at_error (EndsCall remaining contents input new_input output new_output gives) r e is (unwritten_for X gives e h same)
+  pub unwritten : {X : Type 0} (refuses : Refusal → Type 0) (gives : List ℕ → List ℕ → Type 0) (e : Refusal) (r : Result X Refusal) → IsErrAnd r (λ x. x ≡ e) → ((b : ℕ) → refuses (Write b) → ⊥) → refuses e → new_output ≡ output
+      → EndsCall remaining contents input new_input output new_output refuses gives r
+  unwritten {X = X} refuses gives e r is never h same = at_error (EndsCall remaining contents input new_input output new_output refuses gives) r e is (unwritten_for X refuses gives e never h same)
 
   -- the one text is written, or its first bytes
-  pub written : {X : Type 0} (gives : List ℕ → List ℕ → Type 0) (bytes text : List ℕ) (r : Result X Refusal) → GaveAll remaining input new_input bytes → gives bytes text
-      → EndsWriting contents output new_output text r → EndsCall remaining contents input new_input output new_output gives r
-  written gives bytes text (Ok x) gave given h = (bytes, text, gave, given, h)
-  written gives bytes text (Err (Write b)) gave given h = (bytes, text, gave, given, h)
-  written gives bytes text (Err (NotUtf8 b)) gave given h = absurd h
-  written gives bytes text (Err (Syntax l k)) gave given h = absurd h
-  written gives bytes text (Err (TooDeep l k)) gave given h = absurd h
-  written gives bytes text (Err (Scope l k c)) gave given h = absurd h
-  written gives bytes text (Err (Rule n p)) gave given h = absurd h
-  written gives bytes text (Err Memory) gave given h = absurd h
-  written gives bytes text (Err CounterFull) gave given h = absurd h
-  written gives bytes text (Err Read) gave given h = absurd h
+  pub written : {X : Type 0} (refuses : Refusal → Type 0) (gives : List ℕ → List ℕ → Type 0) (bytes text : List ℕ) (r : Result X Refusal) → GaveAll remaining input new_input bytes → gives bytes text
+      → EndsWriting contents output new_output text r → EndsCall remaining contents input new_input output new_output refuses gives r
+  written refuses gives bytes text (Ok x) gave given h = (bytes, text, gave, given, h)
+  written refuses gives bytes text (Err (Write b)) gave given h = (bytes, text, gave, given, h)
+  written refuses gives bytes text (Err (NotUtf8 b)) gave given h = absurd h
+  written refuses gives bytes text (Err (Syntax l k)) gave given h = absurd h
+  written refuses gives bytes text (Err (TooDeep l k)) gave given h = absurd h
+  written refuses gives bytes text (Err (Scope l k c)) gave given h = absurd h
+  written refuses gives bytes text (Err (Rule n p)) gave given h = absurd h
+  written refuses gives bytes text (Err Memory) gave given h = absurd h
+  written refuses gives bytes text (Err CounterFull) gave given h = absurd h
+  written refuses gives bytes text (Err Read) gave given h = absurd h

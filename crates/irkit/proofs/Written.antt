@@ -15,8 +15,11 @@ use Rattle.kit_dialect.specs.Says.{says}
 use Rattle.kit_dialect.specs.Shapes.{KitContext}
 use Rattle.kit_dialect.specs.Texts.{formats, leads}
 use Rattle.kit_dialect.proofs.Labels.{same_rules}
+use Rattle.irkit.specs.declared.request.KitPass.{KitPass}
+use Rattle.irkit.specs.Lists.{HoldsModule, IsAfter}
 use Rattle.irkit.specs.Outcomes.{Loads, RunGives}
-use Rattle.irkit.specs.Texts.{kit_language}
+use Rattle.irkit.specs.Texts.{kit_language, IsAcceptedAs}
+use Rattle.irkit.proofs.Passed.{after_alike, after_meets}
 
 -- what is printed in the language of `kit` is read as it was printed
 pub can_print : CanPrint kit_language
@@ -29,26 +32,48 @@ can_print = record {
   bare = canonical_bare;
 }
 
--- What is printed of a module that was loaded, with a line end behind it, is what `run` gives.
-pub written : (bytes : List ℕ) (old ctx : KitContext) (root : Ptr Operation) (front text : List ℕ) → Loads bytes old ctx root → ctx.counter < 2 ^ 64 → length ctx.blocks < 2 ^ 64
-    → ((tree : Entity (List ℕ)) → PrintsOperation says ctx root tree → IsShallow 64 tree → front ≡ layout formats tree) → text ≡ front ++ 10 ∷ [] → length text < 2 ^ 63 → RunGives bytes text
-written bytes old ctx root front text loads few_values few_blocks prints ends few =
+-- What was loaded into a context whose counter stood at 0 is held by it.
+pub holds_loaded : (bytes : List ℕ) (old ctx : KitContext) (root : Ptr Operation) (loads : Loads bytes old ctx root) → old.counter ≡ 0 → HoldsModule ctx root loads.tree
+holds_loaded bytes old ctx root loads fresh =
     let said : Says kit_language (chars bytes) loads.tree = loads.accepted.0.1 in
     let closed = stood_closed kit_language can_print says says_types says_attributes says_operations (Named loads.values) ctx root (chars bytes) loads.tree said loads.stands in
-    let printed = stood_printed kit_language says ctx root loads.values loads.tree loads.stands loads.distinct loads.below few_values few_blocks closed.0 closed.1 in
-    let laid : IsLayoutOf formats loads.tree front = subst (IsLayoutOf formats loads.tree) (sym (prints printed.printed printed.prints printed.shallow)) printed.laid_out in
-    let reading = said.8.reads in
-    let again = text_again kit_language can_print loads.tree front closed.0 laid closed.1 reading.0 reading.1 (subst (λ cs. length cs < 2 ^ 63) ends few) in
-    let spelt = text_bytes kit_language can_print loads.tree front closed.0 laid in
     record {
-      tree = loads.tree;
-      accepted = loads.accepted;
+      values = loads.values;
+      stands = loads.stands;
+      distinct = loads.distinct;
+      below = loads.below;
+      counted = let moved = loads.counted in omega (arith, moved, fresh);
+      closed = closed.0;
+      numbered = closed.1;
+      rules = loads.accepted.1;
+    }
+
+-- What is printed of the module after passes, with a line end behind it, is what `run` gives.
+pub written : (bytes : List ℕ) (passes : List KitPass) (tree after : Entity ℕ) (ctx : KitContext) (root : Ptr Operation) (front text : List ℕ) → IsAcceptedAs bytes tree → IsAfter passes tree after → HoldsModule ctx root after
+    → ctx.counter < 2 ^ 64 → length ctx.blocks < 2 ^ 64
+    → ((printed : Entity (List ℕ)) → PrintsOperation says ctx root printed → IsShallow 64 printed → front ≡ layout formats printed) → text ≡ front ++ 10 ∷ [] → length text < 2 ^ 63 → RunGives passes bytes text
+written bytes passes tree after ctx root front text accepted passed holds few_values few_blocks prints ends few =
+    let said : Says kit_language (chars bytes) tree = accepted.0.1 in
+    let printed = stood_printed kit_language says ctx root holds.values after holds.stands holds.distinct holds.below few_values few_blocks holds.closed holds.numbered in
+    let laid : IsLayoutOf formats after front = subst (IsLayoutOf formats after) (sym (prints printed.printed printed.prints printed.shallow)) printed.laid_out in
+    let reading = said.8.reads in
+    let again = text_again kit_language can_print after front holds.closed laid holds.numbered reading.0 reading.1 (subst (λ cs. length cs < 2 ^ 63) ends few) in
+    let spelt = text_bytes kit_language can_print after front holds.closed laid in
+    let alike = after_alike passes tree after passed in
+    record {
+      tree = tree;
+      accepted = accepted;
+      after = after;
+      passed = passed;
+      goal = after_meets passes tree after passed;
+      bound = alike.0;
+      alike = alike.1;
       front = front;
       laid_out = laid;
       written = ends;
       again = again.0;
-      accepted_again = subst (λ cs. Rattle.irkit.specs.Texts.IsAcceptedAs cs again.0) (sym ends)
-          ((spelt.0, subst (λ cs. Says kit_language cs again.0) (sym spelt.1) again.1), same_rules loads.tree again.0 (sym again.2) loads.accepted.1);
+      accepted_again = subst (λ cs. IsAcceptedAs cs again.0) (sym ends)
+          ((spelt.0, subst (λ cs. Says kit_language cs again.0) (sym spelt.1) again.1), same_rules after again.0 (sym again.2) holds.rules);
       same = again.2;
     }
 

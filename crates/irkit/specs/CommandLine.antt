@@ -17,13 +17,29 @@ check_app = new_app (codes "check")
 unfoldable pub optimise_app : App
 optimise_app = with_rule (new_app (codes "opt")) passes_rule
 
+-- --limit N, which is required
+abbrev pub limit_rule : Rule
+limit_rule = record (new_rule (codes "limit")) { long = Some (codes "limit"); value_names = 1; required = true }
+
+-- PATH, which is required
+abbrev pub path_rule : Rule
+path_rule = record (new_rule (codes "path")) { value_names = 1; required = true }
+
+-- [ARG]...: any number of words
+abbrev pub arguments_rule : Rule
+arguments_rule = record (new_rule (codes "arguments")) { action = Some Append; value_names = 1 }
+
+-- the subcommand `run --limit N PATH [ARG]...`
+unfoldable pub run_app : App
+run_app = with_rule (with_rule (with_rule (new_app (codes "run")) limit_rule) path_rule) arguments_rule
+
 -- the program without its subcommands, of which one is required
 abbrev pub program : App
 program = let a = new_app (codes "irkit") in record a { top = record a.top { subcommand_required = true } }
 
 -- the command line of the program
 unfoldable pub irkit : App
-irkit = with_subcommand (with_subcommand program check_app.top) optimise_app.top
+irkit = with_subcommand (with_subcommand (with_subcommand program check_app.top) optimise_app.top) run_app.top
 
 -- The words are a mistake, by the kinds of error that a parse of them may give: there is one, and none is a request for help or of memory.
 abbrev pub IsMistake : Kinds → Type 0

@@ -1,6 +1,9 @@
 pub mod Streams
 pub mod Texts
 pub mod Refusals
+pub mod Lists
+pub mod Paths
+pub mod Reports
 pub mod Outcomes
 pub mod CommandLine
 pub mod Requests

@@ -1,11 +1,17 @@
 -- Refusals, and which bytes deserve which.
 use Rattle.std.specs.Prelude.{◌≡◌, ℕ, List, IsUtf8}
 use Rattle.std.specs.Str.Lossy.{utf8_valid_len}
+use Rattle.ir_names.specs.declared.growth.GrowError.{GrowError}
+use Rattle.ir_names.specs.declared.growth.GrowError.TheVariants as grow
 use Rattle.ir_text.specs.declared.faults.TextFault.{TextFault}
 use Rattle.ir_text.specs.declared.faults.TextFault.TheVariants as text
 use Rattle.kit_dialect.specs.declared.module_rules.RuleFault.{RuleFault}
 use Rattle.kit_dialect.specs.declared.module_rules.RuleFault.TheVariants as rule
+use Rattle.kit_dialect.specs.declared.outcome.ExecFault.{ExecFault}
+use Rattle.kit_dialect.specs.declared.outcome.ExecFault.TheVariants as exec
 use Rattle.irkit.specs.declared.refusal.Refusal.{Refusal}
+use Rattle.irkit.specs.declared.refusal.ExecutionFault.{ExecutionFault}
+use Rattle.irkit.specs.declared.refusal.ExecutionFault.TheVariants.{Refused, WrongPath, WrongArguments}
 use Rattle.irkit.specs.declared.refusal.Refusal.TheVariants.{NotUtf8, Syntax, TooDeep, Scope, Rule, Memory, CounterFull, Read, Write}
 use Rattle.irkit.specs.Texts.{HasFault, BreaksRule}
 
@@ -45,3 +51,14 @@ of_text_fault (text.Scope line column cause) = Scope line column cause
 abbrev pub of_rule_fault : RuleFault → Refusal
 of_rule_fault rule.Memory = Memory
 of_rule_fault (rule.Broken number place) = Rule number place
+
+-- the refusal where nothing grows
+abbrev pub of_grow_error : GrowError → Refusal
+of_grow_error grow.Memory = Memory
+of_grow_error grow.CounterFull = CounterFull
+
+-- the fault of a call that runs a function
+abbrev pub of_exec_fault : ExecFault → ExecutionFault
+of_exec_fault exec.Memory = Refused Memory
+of_exec_fault exec.WrongPath = WrongPath
+of_exec_fault exec.WrongArguments = WrongArguments

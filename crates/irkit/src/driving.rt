@@ -4,23 +4,25 @@ ghost use Rattle.clap.specs.Words.{fault_of, kind_of, subcommand_of, subcommand_
 ghost use Rattle.irkit.specs.Streams.{has_failed};
 ghost use Rattle.irkit.specs.CommandLine.{irkit, IsMistake};
 ghost use Rattle.irkit.specs.Requests.{IsServed};
-ghost use Rattle.irkit.specs.Works.{Complains, Drives, EndsHelp, Helps, Serves, status_of};
+ghost use Rattle.irkit.specs.Works.{Complains, Drives, EndsHelp, Executes, Helps, Serves, run_status, status_of};
 
 use crate::checking::check;
 use crate::command::parse;
-use crate::refusal::Refusal;
-use crate::request::{Request, request_of};
+use crate::executing::execute;
+use crate::refusal::{ExecutionFault, Refusal};
+use crate::request::{Execution, Request, RequestFault, request_of};
 use crate::running::run;
 use crate::telling::{tell, tell_fault};
 use crate::watched::Watched;
 use crate::writing::write_text;
 use clap::error::ErrorKind;
 use clap::{ArgMatches, Error};
+use kit_dialect::Outcome;
 use std::alloc::Global;
 use std::io::{Read, Write};
 
 /// The program on its words, of which the first is its name. It gives the status:
-/// 0 done or help asked, 1 a fault, 2 a mistake in the words.
+/// 0 done or help asked, 1 a fault, 2 a mistake in the words, 3 a run that trapped, 4 one whose steps ran out.
 /// Help goes to the output, a fault's line to the faults; where that can't be written, the status stays.
 pub fn drive<R: Read, W: Write, F: Write>(
     alloc: Global,
@@ -56,20 +58,16 @@ fn answer<R: Read, W: Write, F: Write>(
     ensures { Drives R.remaining W.contents input.old input.new output.old output.new (subcommand_rows_of matches.now) result }
 {
     match request_of(alloc, matches) {
-        Ok(Some(request)) => {
+        Ok(request) => {
             if request.is_served() {
                 return serve(alloc, request, input, output, faults);
             }
             tell_fault(faults, &"pass not available yet");
             2
         }
-        Ok(None) => {
-            tell_fault(faults, &"unknown pass");
-            2
-        }
-        Err(_) => {
-            tell_fault(faults, &Refusal::Memory);
-            1
+        Err(fault) => {
+            tell_fault(faults, &fault);
+            mistake_status(fault)
         }
     }
 }
@@ -87,11 +85,40 @@ fn serve<R: Read, W: Write, F: Write>(
     requires output { has_failed output.old ≡ false }
     ensures { Serves R.remaining W.contents input.old input.new output.old output.new request result }
 {
-    let outcome = match request {
-        Request::Check => check(alloc, input, output),
-        Request::Optimise(passes) => run(alloc, passes.as_slice(), input, output),
-    };
-    status(faults, outcome)
+    match request {
+        Request::Check => {
+            let outcome = check(alloc, input, output);
+            status(faults, outcome)
+        }
+        Request::Optimise(passes) => {
+            let outcome = run(alloc, passes.as_slice(), input, output);
+            status(faults, outcome)
+        }
+        Request::Run(execution) => serve_run(alloc, &execution, input, output, faults),
+    }
+}
+
+/// Runs a function, and gives the status of the run.
+fn serve_run<R: Read, W: Write, F: Write>(
+    alloc: Global,
+    execution: &Execution,
+    input: &mut Watched<R>,
+    output: &mut Watched<W>,
+    faults: &mut Watched<F>,
+) -> u8
+    requires input { has_failed input.old ≡ false }
+    requires output { has_failed output.old ≡ false }
+    ensures { Executes R.remaining W.contents input.old input.new output.old output.new execution.now result }
+{
+    let outcome = execute(
+        alloc,
+        execution.path.as_str(),
+        execution.arguments.as_slice(),
+        execution.limit,
+        input,
+        output,
+    );
+    status_of_run(faults, outcome)
 }
 
 /// The answer to words that a parse doesn't take.
@@ -126,6 +153,32 @@ fn help<W: Write>(alloc: Global, error: &Error, output: &mut Watched<W>) -> Resu
 {
     let text = format!(in alloc; "{error}")?;
     write_text(output, text.as_bytes())
+}
+
+/// The status of words that ask for nothing: 1 where memory was refused, else 2.
+fn mistake_status(fault: RequestFault) -> u8
+    ensures memory { fault ≡ RequestFault.Memory → result ≡ 1 }
+    ensures mistake { fault ≢ RequestFault.Memory → result ≡ 2 }
+{
+    match fault {
+        RequestFault::Memory => 1,
+        _ => 2,
+    }
+}
+
+/// The status of a run. A fault's line is written where it can be.
+fn status_of_run<F: Write>(faults: &mut Watched<F>, outcome: Result<Outcome, ExecutionFault>) -> u8
+    ensures { result ≡ run_status outcome }
+{
+    match outcome {
+        Ok(Outcome::Ended(_, _)) => 0,
+        Ok(Outcome::Trapped(_)) => 3,
+        Ok(Outcome::Limit(_)) => 4,
+        Err(fault) => {
+            tell_fault(faults, &fault);
+            1
+        }
+    }
 }
 
 /// The status of a call. A fault's line is written where it can be.

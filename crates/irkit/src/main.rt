@@ -4,10 +4,12 @@
 mod checking;
 mod command;
 mod driving;
+mod executing;
 mod laws;
 mod loading;
 mod reading;
 mod refusal;
+mod reporting;
 mod request;
 mod running;
 mod telling;

@@ -1,7 +1,7 @@
 //! Why a call of the program is refused.
-use ir_names::Place;
+use ir_names::{GrowError, Place};
 use ir_text::{ScopeCause, TextFault};
-use kit_dialect::RuleFault;
+use kit_dialect::{ExecFault, RuleFault};
 use std::alloc::{AllocError, AllocFailed};
 use thiserror::Error;
 
@@ -79,6 +79,19 @@ impl<T: Drop> From<AllocFailed<T>> for Refusal {
     }
 }
 
+impl From<GrowError> for Refusal {
+    ghost use Rattle.irkit.specs.Refusals.{of_grow_error};
+
+    ghost from_gives = { λ f e. e ≡ of_grow_error f };
+
+    fn from(fault: GrowError) -> Refusal {
+        match fault {
+            GrowError::Memory => Refusal::Memory,
+            GrowError::CounterFull => Refusal::CounterFull,
+        }
+    }
+}
+
 impl From<TextFault> for Refusal {
     ghost use Rattle.irkit.specs.Refusals.{of_text_fault};
 
@@ -104,6 +117,55 @@ impl From<RuleFault> for Refusal {
         match fault {
             RuleFault::Memory => Refusal::Memory,
             RuleFault::Broken(rule, place) => Refusal::Rule(rule, place),
+        }
+    }
+}
+
+/// Why a function wasn't run, or what its run did wasn't written.
+#[derive(Debug, PartialEq, Eq, Drop, Error)]
+pub enum ExecutionFault {
+    /// The module wasn't loaded, memory was refused, or a write failed.
+    #[error("{0}")]
+    Refused(Refusal),
+    /// The path is none, or leads to no function.
+    #[error("wrong path")]
+    WrongPath,
+    /// The function takes another number of arguments, or one is too large for its type.
+    #[error("wrong arguments")]
+    WrongArguments,
+}
+
+impl From<Refusal> for ExecutionFault {
+    ghost use Rattle.irkit.specs.declared.refusal.ExecutionFault.TheVariants.{Refused};
+
+    ghost from_gives = { λ f e. e ≡ Refused f };
+
+    fn from(refusal: Refusal) -> ExecutionFault {
+        ExecutionFault::Refused(refusal)
+    }
+}
+
+impl From<AllocError> for ExecutionFault {
+    ghost use Rattle.irkit.specs.declared.refusal.Refusal.TheVariants.{Memory};
+    ghost use Rattle.irkit.specs.declared.refusal.ExecutionFault.TheVariants.{Refused};
+
+    ghost from_gives = { λ _ e. e ≡ Refused Memory };
+
+    fn from(_e: AllocError) -> ExecutionFault {
+        ExecutionFault::Refused(Refusal::Memory)
+    }
+}
+
+impl From<ExecFault> for ExecutionFault {
+    ghost use Rattle.irkit.specs.Refusals.{of_exec_fault};
+
+    ghost from_gives = { λ f e. e ≡ of_exec_fault f };
+
+    fn from(fault: ExecFault) -> ExecutionFault {
+        match fault {
+            ExecFault::Memory => ExecutionFault::Refused(Refusal::Memory),
+            ExecFault::WrongPath => ExecutionFault::WrongPath,
+            ExecFault::WrongArguments => ExecutionFault::WrongArguments,
         }
     }
 }

@@ -1,8 +1,9 @@
 //! What the words ask for.
-ghost use Rattle.std.specs.Prelude.{◌≡◌, ◌≢◌, ◌↔◌, List, [], codes, IfOk, IsTrue, MatchOption, map, option_map, unwrap_or};
+ghost use Rattle.std.specs.Prelude.{◌≡◌, ◌≢◌, ◌↔◌, ℕ, List, Some, codes, IfOk, IsTrue, MatchOption, map, option_map};
 
 use clap::ArgMatches;
-use std::alloc::{AllocError, Global};
+use std::alloc::{AllocError, AllocFailed, Global};
+use thiserror::Error;
 
 /// A pass over a module.
 #[derive(Clone, Copy, Debug, PartialEq, Eq)]
@@ -12,6 +13,14 @@ pub enum KitPass {
     SimplifyCfg,
 }
 
+/// A run: the word for a function's path, the numbers that it takes, and at most how many steps.
+#[derive(Debug, Drop)]
+pub struct Execution {
+    pub limit: u64,
+    pub path: String,
+    pub arguments: Vec<u64>,
+}
+
 /// What the program is asked to do.
 #[derive(Debug, Drop)]
 pub enum Request {
@@ -19,10 +28,48 @@ pub enum Request {
     Check,
     /// To run these passes in this order over a module, and to write it.
     Optimise(Vec<KitPass>),
+    /// To run a function of a module.
+    Run(Execution),
 }
 
-ghost use Rattle.clap.specs.Words.{found_of, rows_of, subcommand_rows_of, all_of};
-ghost use Rattle.irkit.specs.Requests.{pass_name, AsksAt, AsksFor, IsServed};
+/// Why the words of a parse ask for nothing.
+#[derive(Clone, Copy, Debug, PartialEq, Eq, Error)]
+pub enum RequestFault {
+    /// A request for memory was refused.
+    #[error("memory")]
+    Memory,
+    #[error("no command")]
+    NoCommand,
+    #[error("unknown pass")]
+    UnknownPass,
+    /// A limit or an argument is no number, or one that is too large.
+    #[error("not a number below 2^64")]
+    NoNumber,
+}
+
+impl From<AllocError> for RequestFault {
+    ghost use Rattle.irkit.specs.declared.request.RequestFault.TheVariants.{Memory};
+
+    ghost from_gives = { λ _ e. e ≡ Memory };
+
+    fn from(_e: AllocError) -> RequestFault {
+        RequestFault::Memory
+    }
+}
+
+impl<T: Drop> From<AllocFailed<T>> for RequestFault {
+    ghost use Rattle.irkit.specs.declared.request.RequestFault.TheVariants.{Memory};
+
+    ghost from_gives = { λ _ e. e ≡ Memory };
+
+    fn from(_e: AllocFailed<T>) -> RequestFault {
+        RequestFault::Memory
+    }
+}
+
+ghost use Rattle.clap.specs.Words.{found_of, rows_of, subcommand_rows_of, all_of, first_of};
+ghost use Rattle.irkit.specs.Requests.{pass_name, AsksFor, IsServed, SaysNumber, SayNumbers, words_at};
+ghost use Rattle.irkit.specs.Lists.{AreThere, IsThere};
 
 impl KitPass {
     /// The pass of this name.
@@ -36,18 +83,37 @@ impl KitPass {
             _ => None,
         }
     }
+
+    /// Whether the pass is there.
+    fn is_there(self) -> bool
+        ensures { IsTrue result ↔ IsThere self }
+    {
+        match self {
+            KitPass::Sccp => true,
+            KitPass::Dce => false,
+            KitPass::SimplifyCfg => false,
+        }
+    }
 }
 
 impl Request {
-    /// Whether the program serves it. No pass is available yet.
+    /// Whether the program serves it: all its passes are there.
     pub fn is_served(&self) -> bool
         ensures { IsTrue result ↔ IsServed self.now }
     {
         match self {
             Request::Check => true,
-            Request::Optimise(passes) => passes.is_empty(),
+            Request::Optimise(passes) => are_there(passes.as_slice()),
+            Request::Run(_) => true,
         }
     }
+}
+
+/// Whether there are these passes.
+fn are_there(passes: &[KitPass]) -> bool
+    ensures { IsTrue result ↔ AreThere passes.now }
+{
+    passes.iter().all(|pass| pass.is_there())
 }
 
 /// The passes of these names, or nothing where one is unknown.
@@ -72,34 +138,97 @@ fn entered<'a, 'b>(matches: &'b ArgMatches<'a>) -> Option<(&'a str, &'b ArgMatch
     matches.subcommand()
 }
 
-/// The names of the passes that are asked for.
-fn names_of<'a, 'b>(inner: &'b ArgMatches<'a>) -> Option<&'b [&'a str]>
-    ensures { option_map (λ names. map (λ n. n.now) names.now) result ≡ all_of (codes "passes") (rows_of (found_of inner.now)) }
+/// The words for an argument that may have several.
+fn words_of<'a, 'b>(inner: &'b ArgMatches<'a>, id: &str) -> Option<&'b [&'a str]>
+    ensures { option_map (λ words. map (λ n. n.now) words.now) result ≡ all_of id.now (rows_of (found_of inner.now)) }
 {
-    inner.get_strs("passes")
+    inner.get_strs(id)
+}
+
+/// The word for an argument.
+fn word_of<'a>(inner: &ArgMatches<'a>, id: &str) -> Option<&'a str>
+    ensures { option_map (λ w. w.now) result ≡ first_of id.now (rows_of (found_of inner.now)) }
+{
+    inner.get_str(id)
 }
 
 /// The request for passes.
-fn optimise_of(alloc: Global, inner: &ArgMatches<'_>) -> Result<Option<Request>, AllocError>
-    ensures { IfOk result (λ r. MatchOption r ((ps : List KitPass) → map pass_name ps ≢ unwrap_or (all_of (codes "passes") (rows_of (found_of inner.now))) [])
-        (AsksAt (codes "opt") (rows_of (found_of inner.now)))) }
+fn optimise_of(alloc: Global, inner: &ArgMatches<'_>) -> Result<Request, RequestFault>
+    ensures { AsksFor (Some (codes "opt", rows_of (found_of inner.now))) result }
 {
-    let Some(names) = names_of(inner) else {
-        return Ok(Some(Request::Optimise(Vec::new(alloc))));
+    let Some(names) = words_of(inner, "passes") else {
+        return Ok(Request::Optimise(Vec::new(alloc)));
     };
     match passes_of(alloc, names)? {
-        Some(passes) => Ok(Some(Request::Optimise(passes))),
-        None => Ok(None),
+        Some(passes) => Ok(Request::Optimise(passes)),
+        None => Err(RequestFault::UnknownPass),
     }
 }
 
-/// What a parse asks for, or nothing where it names an unknown pass.
-pub fn request_of(alloc: Global, matches: &ArgMatches<'_>) -> Result<Option<Request>, AllocError>
-    ensures { IfOk result (AsksFor (subcommand_rows_of matches.now)) }
+/// The number that a word is.
+fn number_in(word: &str) -> Option<u64>
+    ensures { MatchOption result ((n : ℕ) → SaysNumber word.now n → ⊥) (SaysNumber word.now) }
+{
+    word.parse().ok()
+}
+
+/// The numbers that words are, or nothing where one is none.
+fn numbers_in(alloc: Global, words: &[&str]) -> Result<Option<Vec<u64>>, AllocError>
+    ensures { IfOk result (λ r. MatchOption r ((ns : List ℕ) → SayNumbers (map (λ w. w.now) words.now) ns → ⊥) (λ v. SayNumbers (map (λ w. w.now) words.now) v.items)) }
+{
+    let mut numbers = Vec::new(alloc);
+    for word in words {
+        match number_in(word) {
+            Some(number) => numbers.push(number)?,
+            None => return Ok(None),
+        }
+    }
+    Ok(Some(numbers))
+}
+
+/// The numbers that a function is run on.
+fn arguments_of(alloc: Global, inner: &ArgMatches<'_>) -> Result<Option<Vec<u64>>, AllocError>
+    ensures { let words = words_at (codes "arguments") (rows_of (found_of inner.now)) in
+        IfOk result (λ r. MatchOption r ((ns : List ℕ) → SayNumbers words ns → ⊥) (λ v. SayNumbers words v.items)) }
+{
+    match words_of(inner, "arguments") {
+        Some(words) => numbers_in(alloc, words),
+        None => Ok(Some(Vec::new(alloc))),
+    }
+}
+
+/// The request for a run.
+fn run_of(alloc: Global, inner: &ArgMatches<'_>) -> Result<Request, RequestFault>
+    ensures { AsksFor (Some (codes "run", rows_of (found_of inner.now))) result }
+{
+    let Some(limit) = word_of(inner, "limit") else {
+        return Err(RequestFault::NoNumber);
+    };
+    let Some(path) = word_of(inner, "path") else {
+        return Err(RequestFault::NoCommand);
+    };
+    let Some(limit) = number_in(limit) else {
+        return Err(RequestFault::NoNumber);
+    };
+    let Some(arguments) = arguments_of(alloc, inner)? else {
+        return Err(RequestFault::NoNumber);
+    };
+    let path = String::from_str(alloc, path)?;
+    Ok(Request::Run(Execution {
+        limit,
+        path,
+        arguments,
+    }))
+}
+
+/// What a parse asks for, or why there is nothing that it asks for.
+pub fn request_of(alloc: Global, matches: &ArgMatches<'_>) -> Result<Request, RequestFault>
+    ensures { AsksFor (subcommand_rows_of matches.now) result }
 {
     match entered(matches) {
-        Some(("check", _)) => Ok(Some(Request::Check)),
+        Some(("check", _)) => Ok(Request::Check),
         Some(("opt", inner)) => optimise_of(alloc, inner),
-        _ => Ok(None),
+        Some(("run", inner)) => run_of(alloc, inner),
+        _ => Err(RequestFault::NoCommand),
     }
 }

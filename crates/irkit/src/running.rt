@@ -1,5 +1,7 @@
 //! From text through passes to text.
-ghost use Rattle.std.specs.Prelude.{◌≡◌, false, [], MatchResult};
+ghost use Rattle.std.specs.Prelude.{◌≡◌, false, [], ◌∷◌};
+ghost use Rattle.ir_store.specs.Context.{IsLiveOperation};
+ghost use Rattle.irkit.specs.Lists.{IsThere, AreThere, RunsPasses};
 ghost use Rattle.std.specs.String.{string_bytes};
 ghost use Rattle.irkit.specs.Streams.{has_failed};
 ghost use Rattle.irkit.specs.Outcomes.{EndsRun, GivesText};
@@ -9,23 +11,25 @@ use crate::refusal::Refusal;
 use crate::request::KitPass;
 use crate::watched::Watched;
 use crate::writing::write_text;
+use ir_names::GrowError;
 use ir_print::print_root;
-use ir_store::Context;
+use ir_store::{Context, Operation, Ptr};
+use kit_dialect::{Kit, sccp};
 use std::alloc::Global;
 use std::io::{Read, Write};
 
-/// Reads a module, runs the passes over it and writes its text and a line end.
-/// The whole text is formatted before the first write. There are no passes yet.
+/// Reads a module, runs the passes over each of its functions, one pass after the other, and writes its text and a line end.
+/// The whole text is formatted before the first write. The passes are those that there are: `sccp`, any number of times.
 pub fn run<R: Read, W: Write>(
     alloc: Global,
     passes: &[KitPass],
     reader: &mut Watched<R>,
     writer: &mut Watched<W>,
 ) -> Result<(), Refusal>
-    requires passes { passes.now ≡ [] }
+    requires passes { AreThere passes.now }
     requires reader { has_failed reader.old ≡ false }
     requires writer { has_failed writer.old ≡ false }
-    ensures { EndsRun R.remaining W.contents reader.old reader.new writer.old writer.new result }
+    ensures { EndsRun R.remaining W.contents reader.old reader.new writer.old writer.new passes.now result }
 {
     let text = text_after(alloc, passes, reader)?;
     write_text(writer, text.as_bytes())
@@ -34,15 +38,54 @@ pub fn run<R: Read, W: Write>(
 /// The text of the module that the reader gives, after the passes, with its line end.
 fn text_after<R: Read>(
     alloc: Global,
-    _passes: &[KitPass],
+    passes: &[KitPass],
     reader: &mut Watched<R>,
 ) -> Result<String, Refusal>
-    requires { has_failed reader.old ≡ false }
-    ensures { GivesText R.remaining reader.old reader.new string_bytes result }
+    requires passes { AreThere passes.now }
+    requires reader { has_failed reader.old ≡ false }
+    ensures { GivesText R.remaining reader.old reader.new passes.now string_bytes result }
 {
     let mut ctx = Context::new(alloc);
     let root = load(alloc, &mut ctx, reader)?;
+    optimise(alloc, &mut ctx, root, passes)?;
     let mut text = print_root(alloc, &ctx, root)?;
     text.push('\n')?;
     Ok(text)
+}
+
+/// Runs passes over a module, one after the other.
+fn optimise(
+    alloc: Global,
+    ctx: &mut Context<Kit>,
+    root: Ptr<Operation>,
+    passes: &[KitPass],
+) -> Result<(), GrowError>
+    requires passes { AreThere passes.now }
+    requires root { IsLiveOperation ctx.old root }
+    ensures runs { RunsPasses passes.now ctx.old ctx.new root result }
+    ensures live { IsLiveOperation ctx.new root }
+{
+    for index in 0..passes.len() {
+        run_pass(alloc, ctx, root, passes[index])?;
+    }
+    Ok(())
+}
+
+/// Runs a pass over each function of a module.
+fn run_pass(
+    alloc: Global,
+    ctx: &mut Context<Kit>,
+    root: Ptr<Operation>,
+    pass: KitPass,
+) -> Result<(), GrowError>
+    requires pass { IsThere pass }
+    requires root { IsLiveOperation ctx.old root }
+    ensures runs { RunsPasses (pass ∷ []) ctx.old ctx.new root result }
+    ensures live { IsLiveOperation ctx.new root }
+{
+    match pass {
+        KitPass::Sccp => sccp(alloc, ctx, root),
+        KitPass::Dce => unreachable!(),
+        KitPass::SimplifyCfg => unreachable!(),
+    }
 }

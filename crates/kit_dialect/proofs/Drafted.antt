@@ -1,5 +1,5 @@
 -- What operations are made with, of their parts.
-use Rattle.std.proofs.Common.{◌≡◌, ℕ, ◌+◌, Bool, true, false, ◌&&◌, ◌⊎◌, inl, inr, List, [], ◌∷◌, Option, Some, None, option_map, option_and_then, nat_le, nat_lt, ◌^◌, refl, sym, ap, ◌∙◌, subst, arith}
+use Rattle.std.proofs.Common.{◌≡◌, ℕ, ◌+◌, Bool, true, false, cond, ◌&&◌, ◌⊎◌, inl, inr, List, [], ◌∷◌, Option, Some, None, option_map, option_and_then, nat_le, nat_lt, ◌^◌, refl, sym, ap, ◌∙◌, subst, arith}
 use Rattle.std.proofs.lemmas.Bool.{and_parts, leb-true, lt-ltb}
 use Rattle.std.specs.List.{slice_get}
 use Rattle.ir_names.specs.declared.kinds.TypeHandle.{TypeHandle}
@@ -11,18 +11,18 @@ use Rattle.ir_print.specs.declared.format.Part.{Part}
 use Rattle.ir_print.specs.Pieces.{list, item, number, width, type_of_kind, attribute_of_kind, region, name, operands, ValueTree, Pieces}
 use Rattle.ir_print.specs.Shown.{Said, said_width, said_type, said_attribute, Shows, Pairs, said_name, said_region, said_operands, leaf, ShowsAll, ShowsPart, ShowsType, Drafts}
 use Rattle.kit_dialect.specs.declared.kinds.KitOp.{KitOp}
-use Rattle.kit_dialect.specs.declared.kinds.KitOp.TheVariants.{Module, Func, Constant, Return}
+use Rattle.kit_dialect.specs.declared.kinds.KitOp.TheVariants.{Module, Func, Constant, Return, Add}
 use Rattle.kit_dialect.specs.declared.kinds.IntegerType.{IntegerType}
 use Rattle.kit_dialect.specs.declared.kinds.KitType.{KitType}
 use Rattle.kit_dialect.specs.declared.kinds.KitType.TheVariants as keys
 use Rattle.kit_dialect.specs.declared.attributes.IntegerAttr.{IntegerAttr}
 use Rattle.kit_dialect.specs.declared.attributes.KitAttr.{KitAttr}
 use Rattle.kit_dialect.specs.declared.attributes.KitAttr.TheVariants as attrs
-use Rattle.kit_dialect.specs.Parts.{type_part, name_part, region_part, attribute_part, integer_of}
+use Rattle.kit_dialect.specs.Parts.{type_part, name_part, region_part, attribute_part, is_one_operand, integer_of}
 use Rattle.kit_dialect.specs.Numbers.{printed_number}
-use Rattle.kit_dialect.specs.Says.{says, values, one, two, only, has_values, integer_said, said_of_attribute, integer_types, one_integer, is_attribute, constant_value, symbol_name, function_type, module_name, function_header, one_operands, is_name, is_type, is_region, are_operands, refused_unless, refused_operation, MakesOperation, RefusesOperation}
+use Rattle.kit_dialect.specs.Says.{says, values, one, two, only, has_values, integer_said, said_of_attribute, integer_types, one_integer, is_attribute, constant_value, symbol_name, function_type, module_name, function_header, one_operands, add_type, is_name, is_type, is_region, are_operands, is_operand, refused_unless, refused_operation, MakesOperation, RefusesOperation}
 use Rattle.kit_dialect.specs.Seen.{seen}
-use Rattle.kit_dialect.proofs.Shapes.{name_shown, not_name, region_shown, not_region, type_shown, not_type, operands_shown, not_operands, one_shown, two_shown, three_shown, not_one, not_two, not_three_pieces, attribute_shown}
+use Rattle.kit_dialect.proofs.Shapes.{name_shown, not_name, region_shown, not_region, type_shown, not_type, operands_shown, not_operands, operand_shown, not_operand, one_shown, two_shown, three_shown, not_one, not_two, not_three_pieces, attribute_shown}
 use Rattle.kit_dialect.proofs.Made.{and_false}
 
 abbrev name_piece : List ℕ → Said KitAttr
@@ -52,6 +52,16 @@ not_three (Some a) (Some b) (Some c) e = cc
 not_three (Some a) (Some b) None e = inr (inr refl)
 not_three (Some a) None q e = inr (inl refl)
 not_three None p q e = inl refl
+
+-- a value where a test holds
+where_true : {X : Type 0} (b : Bool) (o : Option X) (x : X) → cond b o None ≡ Some x → (b ≡ true) × (o ≡ Some x)
+where_true true o x e = (refl, e)
+where_true false o x e = cc
+
+not_where : {X : Type 0} (a b : Bool) (o : Option X) → cond (a && b) o None ≡ None → (a ≡ false) ⊎ ((b ≡ false) ⊎ (o ≡ None))
+not_where false b o e = inl refl
+not_where true false o e = inr (inl refl)
+not_where true true o e = inr (inr e)
 
 -- the integer of an attribute
 an_integer : (o : Option KitAttr) (a : IntegerAttr) → option_and_then integer_of o ≡ Some a → o ≡ Some (attrs.Integer a)
@@ -197,3 +207,24 @@ module _ {D : Type 0} where
 
   pub return_refused : (parts : List (Part D KitOp KitAttr KitType)) (types : List KitType) → one_operands parts ≡ None → RefusesOperation 3 parts types 0
   return_refused parts types e = λ ps h. ap (λ (b : Bool). refused_unless b 0) (not_one says types are_operands parts ps h (λ p t f s. not_operands says types p t (sym (ap one_operands f) ∙ e) s))
+
+  pub add_made : (parts : List (Part D KitOp KitAttr KitType)) (ty : TypeHandle) (types : List KitType) → add_type parts ≡ Some ty → MakesOperation Add 4 parts types types [] (ty ∷ [])
+  add_made [] ty types e = cc
+  add_made (p ∷ []) ty types e = cc
+  add_made (p ∷ q ∷ []) ty types e = cc
+  add_made (p ∷ q ∷ r ∷ s ∷ rs) ty types e = cc
+  add_made (p ∷ q ∷ r ∷ []) ty types e = λ ps h.
+      let pieces = three_shown says types p q r ps h in
+      let parts = where_true (is_one_operand p && is_one_operand q) (type_part r) ty e in
+      let used = and_parts (is_one_operand p) (is_one_operand q) parts.0 in
+      let first = operand_shown says types p pieces.0 used.0 pieces.4 in
+      let second = operand_shown says types q pieces.1 used.1 pieces.5 in
+      let third = type_shown says types r ty pieces.2 parts.1 pieces.6 in
+      subst (λ (qs : Pieces). (refused_operation 4 qs ≡ None) × Drafts says types values Add 4 qs [] (ty ∷ []))
+      (sym (pieces.3 ∙ (ap (λ t. a_tree t (a_tree pieces.1 (a_tree pieces.2 no_tree))) first.1 ∙ (ap (λ t. a_tree (node (operands 1) first.0) (a_tree t (a_tree pieces.2 no_tree))) second.1 ∙ ap (λ t. a_tree (node (operands 1) first.0) (a_tree (node (operands 1) second.0) (a_tree t no_tree))) third.2))))
+      (refl, record { pieces = a_tree (leaf (said_operands 1)) (two (leaf (said_operands 1)) (leaf (said_type ty))); said = refl; shown = (refl, (refl, (third.3, tt))); typed = (third.3, tt) })
+
+  pub add_refused : (parts : List (Part D KitOp KitAttr KitType)) (types : List KitType) → add_type parts ≡ None → RefusesOperation 4 parts types 0
+  add_refused parts types e = λ ps h. ap (λ (b : Bool). refused_unless b 0) (not_three_pieces says types is_operand is_operand is_type parts ps h
+      (λ p q r t u v f s s' s''. and_false (is_operand t) (is_operand u && is_type v) (elim (not_where (is_one_operand p) (is_one_operand q) (type_part r) (sym (ap add_type f) ∙ e))
+      [ inl g ↦ inl (not_operand says types p t g s) | inr g ↦ inr (and_false (is_operand u) (is_type v) (elim g [ inl k ↦ inl (not_operand says types q u k s') | inr k ↦ inr (not_type says types r v k s'') ])) ])))

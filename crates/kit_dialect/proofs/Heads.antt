@@ -16,15 +16,15 @@ use Rattle.ir_store.specs.declared.value.Definition.{Definition}
 use Rattle.ir_store.specs.Views.{OperationView, RegionView, BlockView}
 use Rattle.ir_store.specs.Context.{results_of, operands_of, attributes_of, kind_of, blocks_of, arguments_of, operations_of}
 use Rattle.ir_print.specs.Pieces.{ValueTree, Pieces, operation, a_region, block, Entity, entity, Entities, no_entity, an_entity}
-use Rattle.ir_print.specs.Shown.{Said, said_type, said_attribute, said_region, said_name, said_operands, leaf, ShowsAll, Pairs}
+use Rattle.ir_print.specs.Shown.{Said, said_type, said_attribute, said_region, said_name, said_operands, leaf, ShowsAll, Pairs, types_of_results}
 use Rattle.ir_print.specs.Standing.{StandsResult, StandsArgument, StandsRegion, StandsBlock, StandsRegions, StandsBlocks, StandsOperations, Named}
 use Rattle.kit_dialect.specs.declared.kinds.KitOp.{KitOp}
-use Rattle.kit_dialect.specs.declared.kinds.KitOp.TheVariants.{Module, Func, Constant, Return}
+use Rattle.kit_dialect.specs.declared.kinds.KitOp.TheVariants.{Module, Func, Constant, Return, Add}
 use Rattle.kit_dialect.specs.declared.kinds.IntegerType.{IntegerType}
 use Rattle.kit_dialect.specs.declared.attributes.KitAttr.{KitAttr}
 use Rattle.kit_dialect.specs.declared.attributes.KitAttr.TheVariants as attrs
 use Rattle.kit_dialect.specs.Says as says_of
-use Rattle.kit_dialect.specs.Says.{says, one, two, only, said_of_module, said_of_function, said_of_constant}
+use Rattle.kit_dialect.specs.Says.{says, one, two, only, said_of_module, said_of_function, said_of_constant, said_of_add}
 use Rattle.kit_dialect.specs.Shapes as at
 use Rattle.kit_dialect.specs.Shapes.{KitContext, number_of}
 use Rattle.kit_dialect.specs.Rules as rules
@@ -69,13 +69,13 @@ function_said true (Some (attrs.Identifier id)) (Some (attrs.Integer i)) k said 
 function_said true (Some (attrs.Identifier id)) (Some (attrs.Type ty)) k said e = let p = some_pair_parts _ _ _ _ e in
     record { number = sym p.0; id = id; ty = ty; named = refl; typed = refl; says_it = sym p.1 }
 
-record IsConstant (k : ℕ) (a : Option KitAttr) (said : Saids) : Type 0 where
+pub record IsConstant (k : ℕ) (a : Option KitAttr) (said : Saids) : Type 0 where
   pub number : k ≡ 2
   pub attr : KitAttr
   pub valued : a ≡ Some attr
   pub says_it : said ≡ one (leaf (said_attribute attr))
 
-constant_said : (b : Bool) (a : Option KitAttr) (k : ℕ) (said : Saids) → only b (said_of_constant a) ≡ Some (k, said) → IsConstant k a said
+pub constant_said : (b : Bool) (a : Option KitAttr) (k : ℕ) (said : Saids) → only b (said_of_constant a) ≡ Some (k, said) → IsConstant k a said
 constant_said false a k said e = absurd (none-some _ e)
 constant_said true None k said e = absurd (none-some _ e)
 constant_said true (Some attr) k said e = let p = some_pair_parts _ _ _ _ e in record { number = sym p.0; attr = attr; valued = refl; says_it = sym p.1 }
@@ -84,12 +84,19 @@ return_said : (b : Bool) (n k : ℕ) (said : Saids) → only b (Some (3, one (le
 return_said false n k said e = absurd (none-some _ e)
 return_said true n k said e = let p = some_pair_parts _ _ _ _ e in sym p.0
 
+add_said : (b : Bool) (tys : List TypeHandle) (k : ℕ) (said : Saids) → only b (said_of_add tys) ≡ Some (k, said) → k ≡ 4
+add_said false tys k said e = absurd (none-some _ e)
+add_said true [] k said e = absurd (none-some _ e)
+add_said true (ty ∷ []) k said e = let p = some_pair_parts _ _ _ _ e in sym p.0
+add_said true (ty ∷ other ∷ tys) k said e = absurd (none-some _ e)
+
 -- the number of the kind
-number_said : (kind : KitOp) (as' : List (List ℕ × KitAttr)) (n k : ℕ) (said : Saids) → says_of.said_of_operation kind as' n ≡ Some (k, said) → k ≡ number_of kind
-number_said Module as' n k said e = (module_said _ _ k said e).number
-number_said Func as' n k said e = (function_said _ _ _ k said e).number
-number_said Constant as' n k said e = (constant_said _ _ k said e).number
-number_said Return as' n k said e = return_said _ n k said e
+number_said : (kind : KitOp) (as' : List (List ℕ × KitAttr)) (n : ℕ) (tys : List TypeHandle) (k : ℕ) (said : Saids) → says_of.said_of_operation kind as' n tys ≡ Some (k, said) → k ≡ number_of kind
+number_said Module as' n tys k said e = (module_said _ _ k said e).number
+number_said Func as' n tys k said e = (function_said _ _ _ k said e).number
+number_said Constant as' n tys k said e = (constant_said _ _ k said e).number
+number_said Return as' n tys k said e = return_said _ n k said e
+number_said Add as' n tys k said e = add_said _ tys k said e
 
 -- the first piece is the name
 first_name : (tys : List _) (text : List ℕ) (rest : Saids) (ps : Pieces) → ShowsAll says tys (a_tree (leaf (said_name text)) rest) ps → rules.symbol_of ps ≡ Some text
@@ -104,14 +111,14 @@ module _ (s : KitContext) (values : List Value) where
 
   -- the number of an operation's kind
   pub kind_number : (p : Ptr store.Operation) (op : Operation) (own : IsOwner values s p op) (kind : KitOp) → kind_of s p ≡ Some kind → op.kind ≡ number_of kind
-  kind_number p op own kind e = number_said own.0.kind own.0.attributes _ op.kind own.2.said own.2.says_it ∙ ap number_of (owner_kind p op own kind e)
+  kind_number p op own kind e = number_said own.0.kind own.0.attributes _ _ op.kind own.2.said own.2.says_it ∙ ap number_of (owner_kind p op own kind e)
 
   attributes_are : (p : Ptr store.Operation) (op : Operation) (own : IsOwner values s p op) → attributes_of s p ≡ own.0.attributes
   attributes_are p op own = ap (λ (z : Option (OperationView KitOp KitAttr)). option_map_or (λ x. x.attributes) z []) own.1
 
-  said_as : (p : Ptr store.Operation) (op : Operation) (own : IsOwner values s p op) (kind : KitOp) → kind_of s p ≡ Some kind
-      → says_of.said_of_operation kind (attributes_of s p) (length own.0.operands) ≡ Some (op.kind, own.2.said)
-  said_as p op own kind e = ap₂ (λ k as'. says_of.said_of_operation k as' (length own.0.operands)) (sym (owner_kind p op own kind e)) (attributes_are p op own) ∙ own.2.says_it
+  pub said_as : (p : Ptr store.Operation) (op : Operation) (own : IsOwner values s p op) (kind : KitOp) → kind_of s p ≡ Some kind
+      → says_of.said_of_operation kind (attributes_of s p) (length own.0.operands) (types_of_results own.0.results) ≡ Some (op.kind, own.2.said)
+  said_as p op own kind e = ap₂ (λ k as'. says_of.said_of_operation k as' (length own.0.operands) (types_of_results own.0.results)) (sym (owner_kind p op own kind e)) (attributes_are p op own) ∙ own.2.says_it
 
   -- the name of a module or a function
   pub symbol_stands : (p : Ptr store.Operation) (op : Operation) → IsOwner values s p op → (kind : KitOp) → kind_of s p ≡ Some kind → at.is_symbol kind ≡ true → rules.symbol_of op.pieces ≡ at.symbol_at s p
@@ -121,6 +128,7 @@ module _ (s : KitContext) (values : List Value) where
       first_name s.types (text_of m.id) _ op.pieces (subst (λ (z : Saids). ShowsAll says s.types z op.pieces) m.says_it own.2.shown) ∙ sym (ap at.symbol_attr m.named)
   symbol_stands p op own Constant e h = absurd cc
   symbol_stands p op own Return e h = absurd cc
+  symbol_stands p op own Add e h = absurd cc
 
   -- the type of a function
   second_type : (text : List ℕ) (ty : TypeHandle) (ps : Pieces) → ShowsAll says s.types (a_tree (leaf (said_name text)) (two (leaf (said_type ty)) (leaf said_region))) ps

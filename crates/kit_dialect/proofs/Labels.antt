@@ -3,7 +3,7 @@ use Rattle.std.proofs.Common.{◌≡◌, ℕ, suc, ◌+◌, ◌==◌, ◌&&◌, 
 use Rattle.std.proofs.lemmas.List.{map-append}
 use Rattle.std.specs.Option.{option_map, option_map_or, is_some}
 use Rattle.ir_print.specs.Pieces.{ValueTree, operation, a_region, block, Entity, entity, Entities, no_entity, an_entity}
-use Rattle.kit_dialect.specs.Rules.{FunctionTree, Operation, Standing, Site, Test, every, count, each, of_blocks, of_block, of_first, every_pair, same_integer, integer_type, are_values, has_module_body, has_function_type, has_function_body, has_values_only, has_no_empty_block, has_constant_type, has_numbers, has_taken_name, are_visible, returns_results, function_type, is_module, is_function, is_constant, is_return, is_symbol, same_bool, own_tests, standing_tests, names_after, results_after, define, define_results, values_of, is_none, sites_of, sites_in_regions, sites_in_region, sites_in_blocks, sites_in_block, sites_in_operations, sites, IsAmong, Breaks, IsRuleFault, KeepsRules}
+use Rattle.kit_dialect.specs.Rules.{FunctionTree, Operation, Standing, Site, Test, every, count, each, of_blocks, of_block, of_first, every_pair, same_integer, integer_type, are_values, has_module_body, has_function_type, has_function_body, has_values_only, has_no_empty_block, has_constant_type, has_numbers, has_taken_name, are_visible, has_one_type, returns_results, function_type, is_module, is_function, is_constant, is_return, is_add, is_symbol, same_bool, own_tests, standing_tests, names_after, results_after, define, define_results, values_of, is_none, sites_of, sites_in_regions, sites_in_region, sites_in_blocks, sites_in_block, sites_in_operations, sites, IsAmong, Breaks, IsRuleFault, KeepsRules}
 use Rattle.ir_text.specs.Closed.{unlabelled, all_unlabelled, IsSameModule}
 
 -- an operation, where it stands, and its site, without labels
@@ -81,7 +81,8 @@ abbrev numbers_with : Operation → ℕ → Bool
 numbers_with op n =
     if is_symbol op.kind then length op.results == 0 && length op.operands == 0 && n == 1
     else (if is_constant op.kind then length op.results == 1 && length op.operands == 0 && n == 0
-    else is_return op.kind && length op.results == 0 && n == 0)
+    else (if is_add op.kind then length op.results == 1 && length op.operands == 2 && n == 0
+    else is_return op.kind && length op.results == 0 && n == 0))
 
 same_numbers : (op : Operation) → has_numbers (plain_operation op) ≡ has_numbers op
 same_numbers op = ap (numbers_with op) (same_count op.regions)
@@ -116,6 +117,7 @@ standing_with s op n =
     ∷ (4, is_function s.owner.kind && (is_symbol op.kind || not (n == 0)))
     ∷ (6, is_function s.owner.kind && not (same_bool s.is_last (is_return op.kind)))
     ∷ (7, not (are_visible s op.operands))
+    ∷ (8, is_add op.kind && not (has_one_type s op.operands op.results))
     ∷ (11, is_return op.kind && (is_function s.owner.kind && not (returns_results s op)))
     ∷ []
 

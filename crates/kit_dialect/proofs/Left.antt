@@ -143,7 +143,7 @@ both_true : (a b : Bool) → (a && b) ≡ true → (a ≡ true) × (b ≡ true)
 both_true true b h = (refl, h)
 both_true false b h = absurd cc
 
-value_same : (v w : Value) → same_value v w ≡ true → v ≡ w
+pub value_same : (v w : Value) → same_value v w ≡ true → v ≡ w
 value_same v w h = let k = both_true (same_definer v.definer w.definer) (nat_eq v.number w.number) h in
     let e : v.number ≡ w.number = grind (arith, nat_tests, k.1) in
     ap₂ (λ (d : DefiningEntity) (n : ℕ). record { definer = d; number = n }) (definer_same v.definer w.definer k.0) e
@@ -155,7 +155,7 @@ definer_refl : (d : DefiningEntity) → same_definer d d ≡ true
 definer_refl (Op p) = ap₂ (λ a b. a && b) (eqb_refl p.slot) (eqb_refl p.version)
 definer_refl (Block p) = ap₂ (λ a b. a && b) (eqb_refl p.slot) (eqb_refl p.version)
 
-value_refl : (v : Value) → same_value v v ≡ true
+pub value_refl : (v : Value) → same_value v v ≡ true
 value_refl v = ap₂ (λ a b. a && b) (definer_refl v.definer) (eqb_refl v.number)
 
 same_named : (values : List Value) → AreDistinct values → (w v : Value) (m n : ℕ) → Named values w m → Named values v n → same_value w v ≡ (n == m)

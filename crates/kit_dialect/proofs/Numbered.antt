@@ -9,7 +9,7 @@ use Rattle.ir_names.specs.Tree.{node}
 use Rattle.ir_print.specs.Pieces.{Pieces, attribute_of_kind}
 use Rattle.ir_print.specs.Shown.{ShowsParts, ShowsKey, ShowsAttribute, Drafts}
 use Rattle.kit_dialect.specs.declared.kinds.KitOp.{KitOp}
-use Rattle.kit_dialect.specs.declared.kinds.KitOp.TheVariants.{Module, Func, Constant, Return}
+use Rattle.kit_dialect.specs.declared.kinds.KitOp.TheVariants.{Module, Func, Constant, Return, Add}
 use Rattle.kit_dialect.specs.declared.kinds.KitType.{KitType}
 use Rattle.kit_dialect.specs.declared.kinds.KitTypeKind.{KitTypeKind}
 use Rattle.kit_dialect.specs.declared.kinds.KitTypeKind.TheVariants as type_kinds
@@ -37,13 +37,15 @@ number_of_op Module = 0
 number_of_op Func = 1
 number_of_op Constant = 2
 number_of_op Return = 3
+number_of_op Add = 4
 
 pub op_number : (n : ℕ) (kind : KitOp) → slice_get read_ops n ≡ Some kind → number_of_op kind ≡ n
 op_number zero kind e = let same : kind ≡ Module = cc in ap number_of_op same
 op_number (suc zero) kind e = let same : kind ≡ Func = cc in ap number_of_op same
 op_number (suc (suc zero)) kind e = let same : kind ≡ Constant = cc in ap number_of_op same
 op_number (suc (suc (suc zero))) kind e = let same : kind ≡ Return = cc in ap number_of_op same
-op_number (suc (suc (suc (suc n)))) kind e = cc
+op_number (suc (suc (suc (suc zero)))) kind e = let same : kind ≡ Add = cc in ap number_of_op same
+op_number (suc (suc (suc (suc (suc n))))) kind e = cc
 
 -- the number of the one kind of attributes that is read
 pub attr_number : (n : ℕ) (kind : KitAttrKind) → slice_get read_attrs n ≡ Some kind → (kind ≡ attr_kinds.Integer) × (0 ≡ n)

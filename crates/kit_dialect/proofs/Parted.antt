@@ -2,6 +2,7 @@
 use Rattle.std.proofs.Common.{◌≡◌, ℕ, ◌==◌, ◌&&◌, List, [], ◌∷◌, ◌++◌, map, length, Option, Some, None, Result, Ok, Err, Vec, refl, sym, ap, ◌∙◌, subst}
 use Rattle.std.specs.Result.{IfOk}
 use Rattle.std.specs.Global.{Global}
+use Rattle.std.specs.List.{slice_get}
 use Rattle.std.specs.Option.{option_map, option_map_or}
 use Rattle.std.proofs.lemmas.Option.{none-some, same_Some, some_pair_parts}
 use Rattle.ir_names.specs.declared.kinds.TypeHandle.{TypeHandle}
@@ -11,14 +12,15 @@ use Rattle.ir_names.specs.Identifier.{text_of}
 use Rattle.ir_names.specs.Tree.{Trees, node, no_tree, a_tree}
 use Rattle.ir_store.specs.declared.pointer.Ptr.{Ptr}
 use Rattle.ir_store.specs.declared.pointer.Operation as store
+use Rattle.ir_store.specs.declared.value.Definition.{Definition}
 use Rattle.ir_store.specs.Views.{OperationView}
-use Rattle.ir_store.specs.Context.{operation_at, kind_of, attributes_of}
+use Rattle.ir_store.specs.Context.{operation_at, kind_of, attributes_of, results_of}
 use Rattle.ir_print.specs.declared.format.Part.{Part}
 use Rattle.ir_print.specs.declared.format.Part.TheVariants as part
 use Rattle.ir_print.specs.Pieces.{ValueTree, Pieces}
-use Rattle.ir_print.specs.Shown.{Said, said_type, said_attribute, said_list, said_item, said_region, said_name, leaf, ShowsAll, ShowsPart, ShowsParts, ShowsMember, ShowsMembers, ShowsKey}
+use Rattle.ir_print.specs.Shown.{Said, said_type, said_attribute, said_list, said_item, said_region, said_name, said_operands, leaf, ShowsAll, ShowsPart, ShowsParts, ShowsMember, ShowsMembers, ShowsKey, types_of_results}
 use Rattle.kit_dialect.specs.declared.kinds.KitOp.{KitOp}
-use Rattle.kit_dialect.specs.declared.kinds.KitOp.TheVariants.{Module, Func, Constant}
+use Rattle.kit_dialect.specs.declared.kinds.KitOp.TheVariants.{Module, Func, Constant, Add}
 use Rattle.kit_dialect.specs.declared.kinds.KitType.{KitType}
 use Rattle.kit_dialect.specs.declared.kinds.KitType.TheVariants as keys
 use Rattle.kit_dialect.specs.declared.kinds.FunctionType.{FunctionType}
@@ -26,7 +28,7 @@ use Rattle.kit_dialect.specs.declared.attributes.IntegerAttr.{IntegerAttr}
 use Rattle.kit_dialect.specs.declared.attributes.KitAttr.{KitAttr}
 use Rattle.kit_dialect.specs.declared.attributes.KitAttr.TheVariants as attrs
 use Rattle.kit_dialect.specs.Parts.{IsTypeList, AreModuleParts, AreFunctionParts}
-use Rattle.kit_dialect.specs.Says.{says, one, two, types_said, said_of_operation, said_of_module, said_of_function, said_of_constant, symbol_name, function_type, constant_value}
+use Rattle.kit_dialect.specs.Says.{says, one, two, types_said, said_of_operation, said_of_module, said_of_function, said_of_constant, said_of_add, symbol_name, function_type, constant_value}
 use Rattle.kit_dialect.specs.Shapes.{KitContext}
 use Rattle.kit_dialect.specs.Readable.{said_if}
 use Rattle.kit_dialect.specs.Seen.{Seen, seen, first_seen, one_seen, two_seen, three_seen}
@@ -34,6 +36,15 @@ use Rattle.kit_dialect.specs.Seen.{Seen, seen, first_seen, one_seen, two_seen, t
 -- lists that are equal have equal members
 first_same : {X : Type 0} (x y : X) (xs ys : List X) → x ∷ xs ≡ y ∷ ys → (x ≡ y) × (xs ≡ ys)
 first_same x y xs ys e = (cc, cc)
+
+-- one type of results is that of the first one
+pub one_type : (ds : List Definition) (ty first : TypeHandle) → types_of_results ds ≡ ty ∷ [] → option_map (λ d. d.ty) (slice_get ds 0) ≡ Some first → first ≡ ty
+one_type [] ty first e f = absurd cc
+one_type (d ∷ ds) ty first e f = sym (same_Some d.ty first f) ∙ (first_same d.ty ty (types_of_results ds) [] e).0
+
+pub no_type : (ds : List Definition) (ty : TypeHandle) → types_of_results ds ≡ ty ∷ [] → length ds ≡ 0 → ⊥
+no_type [] ty e f = cc
+no_type (d ∷ ds) ty e f = cc
 
 -- an attribute that is shown is an integer
 shown_integer : (types : List KitType) (attr : KitAttr) (t : ValueTree) → Seen says types (leaf (said_attribute attr)) t → (a : IntegerAttr) × (attr ≡ attrs.Integer a)
@@ -43,11 +54,11 @@ shown_integer types (attrs.Type ty) t s = let e = s.3.2 in let f = s.3.3 in absu
 
 -- what is seen of an operation
 viewed : (s : KitContext) (p : Ptr store.Operation) (kind : KitOp) (entries : List (List ℕ × KitAttr)) (o : OperationView KitOp KitAttr) (n : ℕ) (us : Trees (Said KitAttr)) → kind_of s p ≡ Some kind → entries ≡ attributes_of s p → operation_at s p ≡ Some o →
-    said_of_operation o.kind o.attributes (length o.operands) ≡ Some (n, us) → said_of_operation kind entries (length o.operands) ≡ Some (n, us)
+    said_of_operation o.kind o.attributes (length o.operands) (types_of_results o.results) ≡ Some (n, us) → said_of_operation kind entries (length o.operands) (types_of_results o.results) ≡ Some (n, us)
 viewed s p kind entries o n us is have at e =
     let same : o.kind ≡ kind = same_Some o.kind kind (sym (ap (option_map (λ v. v.kind)) at) ∙ is) in
     let same_entries : entries ≡ o.attributes = have ∙ ap (λ v. option_map_or (λ w. w.attributes) v []) at in
-    subst (λ (k : KitOp). said_of_operation k entries (length o.operands) ≡ Some (n, us)) same (subst (λ es. said_of_operation o.kind es (length o.operands) ≡ Some (n, us)) (sym same_entries) e)
+    subst (λ (k : KitOp). said_of_operation k entries (length o.operands) (types_of_results o.results) ≡ Some (n, us)) same (subst (λ es. said_of_operation o.kind es (length o.operands) (types_of_results o.results) ≡ Some (n, us)) (sym same_entries) e)
 
 module _ (D : Type 0) (types : List KitType) where
   -- the part of what is said shows its piece
@@ -62,6 +73,9 @@ module _ (D : Type 0) (types : List KitType) where
 
   attribute_parted : (attr : KitAttr) (t : ValueTree) → Seen says types (leaf (said_attribute attr)) t → ShowsPart {D = D} says types (part.Attribute attr) t
   attribute_parted attr t s = subst (λ (v : ValueTree). ShowsPart {D = D} says types (part.Attribute attr) v) (sym s.2) (attr, refl, s.3)
+
+  operands_parted : (n : ℕ) (t : ValueTree) → Seen says types (leaf (said_operands n)) t → ShowsPart {D = D} says types (part.Operands n) t
+  operands_parted n t s = subst (λ (v : ValueTree). ShowsPart {D = D} says types (part.Operands n) v) (sym s.1) refl
 
 module _ {D : Type 0} (types : List KitType) where
   abbrev pub items_of : Vec (Part D KitOp KitAttr KitType) Global → List (Part D KitOp KitAttr KitType)
@@ -139,7 +153,7 @@ module _ {D : Type 0} (types : List KitType) where
 
   pub module_operation_parted : {E : Type 0} (s : KitContext) (p : Ptr store.Operation) (entries : List (List ℕ × KitAttr)) (r : Result (Vec (Part D KitOp KitAttr KitType) Global) E) (o : OperationView KitOp KitAttr) (n : ℕ) (us : Trees (Said KitAttr)) (ps : Pieces) →
       kind_of s p ≡ Some Module → entries ≡ attributes_of s p → IfOk r (λ parts. AreModuleParts (attribute_at entries symbol_name) parts.items) →
-      operation_at s p ≡ Some o → said_of_operation o.kind o.attributes (length o.operands) ≡ Some (n, us) → ShowsAll says types us ps → IfOk r (λ parts. ShowsParts says types parts.items ps)
+      operation_at s p ≡ Some o → said_of_operation o.kind o.attributes (length o.operands) (types_of_results o.results) ≡ Some (n, us) → ShowsAll says types us ps → IfOk r (λ parts. ShowsParts says types parts.items ps)
   module_operation_parted s p entries (Ok parts) o n us ps is have are at e h =
       let said = said_if (length entries == 1 && length o.operands == 0) (said_of_module (attribute_at entries symbol_name)) n us (viewed s p Module entries o n us is have at e) in
       module_parted (attribute_at entries symbol_name) parts.items n us ps are said.1 h
@@ -147,7 +161,7 @@ module _ {D : Type 0} (types : List KitType) where
 
   pub function_operation_parted : {E : Type 0} (s : KitContext) (p : Ptr store.Operation) (entries : List (List ℕ × KitAttr)) (r : Result (Vec (Part D KitOp KitAttr KitType) Global) E) (o : OperationView KitOp KitAttr) (n : ℕ) (us : Trees (Said KitAttr)) (ps : Pieces) →
       kind_of s p ≡ Some Func → entries ≡ attributes_of s p → IfOk r (λ parts. AreFunctionParts (attribute_at entries symbol_name) (attribute_at entries function_type) parts.items) →
-      operation_at s p ≡ Some o → said_of_operation o.kind o.attributes (length o.operands) ≡ Some (n, us) → ShowsAll says types us ps → IfOk r (λ parts. ShowsParts says types parts.items ps)
+      operation_at s p ≡ Some o → said_of_operation o.kind o.attributes (length o.operands) (types_of_results o.results) ≡ Some (n, us) → ShowsAll says types us ps → IfOk r (λ parts. ShowsParts says types parts.items ps)
   function_operation_parted s p entries (Ok parts) o n us ps is have are at e h =
       let said = said_if (length entries == 2 && length o.operands == 0) (said_of_function (attribute_at entries symbol_name) (attribute_at entries function_type)) n us (viewed s p Func entries o n us is have at e) in
       function_parted (attribute_at entries symbol_name) (attribute_at entries function_type) parts.items n us ps are said.1 h
@@ -155,8 +169,28 @@ module _ {D : Type 0} (types : List KitType) where
 
   pub constant_operation_parted : {E : Type 0} (s : KitContext) (p : Ptr store.Operation) (entries : List (List ℕ × KitAttr)) (r : Result (Vec (Part D KitOp KitAttr KitType) Global) E) (o : OperationView KitOp KitAttr) (n : ℕ) (us : Trees (Said KitAttr)) (ps : Pieces) →
       kind_of s p ≡ Some Constant → entries ≡ attributes_of s p → ((a : IntegerAttr) → attribute_at entries constant_value ≡ Some (attrs.Integer a) → IfOk r (λ parts. parts.items ≡ part.Attribute (attrs.Integer a) ∷ [])) →
-      operation_at s p ≡ Some o → said_of_operation o.kind o.attributes (length o.operands) ≡ Some (n, us) → ShowsAll says types us ps → IfOk r (λ parts. ShowsParts says types parts.items ps)
+      operation_at s p ≡ Some o → said_of_operation o.kind o.attributes (length o.operands) (types_of_results o.results) ≡ Some (n, us) → ShowsAll says types us ps → IfOk r (λ parts. ShowsParts says types parts.items ps)
   constant_operation_parted s p entries (Ok parts) o n us ps is have are at e h =
       let said = said_if (length entries == 1 && length o.operands == 0) (said_of_constant (attribute_at entries constant_value)) n us (viewed s p Constant entries o n us is have at e) in
       constant_parted (attribute_at entries constant_value) parts.items n us ps are said.1 h
   constant_operation_parted s p entries (Err fault) o n us ps is have are at e h = tt
+
+  -- what an addition says
+  pub add_parted : (tys : List TypeHandle) (parts : List (Part D KitOp KitAttr KitType)) (n : ℕ) (us : Trees (Said KitAttr)) (ps : Pieces) → ((ty : TypeHandle) → tys ≡ ty ∷ [] → parts ≡ part.Operands 1 ∷ part.Operands 1 ∷ part.Type ty ∷ []) → said_of_add tys ≡ Some (n, us) → ShowsAll says types us ps → ShowsParts says types parts ps
+  add_parted [] parts n us ps are e h = absurd (none-some (n, us) e)
+  add_parted (ty ∷ other ∷ tys) parts n us ps are e h = absurd (none-some (n, us) e)
+  add_parted (ty ∷ []) parts n us ps are e h =
+      let same = some_pair_parts 4 n (a_tree (leaf (said_operands 1)) (two (leaf (said_operands 1)) (leaf (said_type ty)))) us e in
+      let shown = subst (λ (vs : Trees (Said KitAttr)). ShowsAll says types vs ps) (sym same.1) h in
+      let pieces = three_seen says types (leaf (said_operands 1)) (leaf (said_operands 1)) (leaf (said_type ty)) ps shown in
+      subst (λ qs. ShowsParts says types qs ps) (sym (are ty refl)) (subst (λ (qs : Pieces). ShowsParts {D = D} says types (part.Operands 1 ∷ part.Operands 1 ∷ part.Type ty ∷ []) qs) (sym pieces.3)
+      (operands_parted D types 1 pieces.0 pieces.4, (operands_parted D types 1 pieces.1 pieces.5, (type_parted D types ty pieces.2 pieces.6, tt))))
+
+  pub add_operation_parted : {E : Type 0} (s : KitContext) (p : Ptr store.Operation) (r : Result (Vec (Part D KitOp KitAttr KitType) Global) E) (o : OperationView KitOp KitAttr) (n : ℕ) (us : Trees (Said KitAttr)) (ps : Pieces) →
+      kind_of s p ≡ Some Add → ((ty : TypeHandle) → types_of_results (results_of s p) ≡ ty ∷ [] → IfOk r (λ parts. parts.items ≡ part.Operands 1 ∷ part.Operands 1 ∷ part.Type ty ∷ [])) →
+      operation_at s p ≡ Some o → said_of_operation o.kind o.attributes (length o.operands) (types_of_results o.results) ≡ Some (n, us) → ShowsAll says types us ps → IfOk r (λ parts. ShowsParts says types parts.items ps)
+  add_operation_parted s p (Ok parts) o n us ps is are at e h =
+      let said = said_if (length (attributes_of s p) == 0 && length o.operands == 2) (said_of_add (types_of_results o.results)) n us (viewed s p Add (attributes_of s p) o n us is refl at e) in
+      let results : types_of_results (results_of s p) ≡ types_of_results o.results = ap (λ v. types_of_results (option_map_or (λ w. w.results) v [])) at in
+      add_parted (types_of_results o.results) parts.items n us ps (λ ty k. are ty (results ∙ k)) said.1 h
+  add_operation_parted s p (Err fault) o n us ps is are at e h = tt

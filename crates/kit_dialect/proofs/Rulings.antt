@@ -11,8 +11,9 @@ use Rattle.ir_print.specs.Pieces.{ValueTree}
 use Rattle.ir_print.specs.Shown.{Pairs}
 use Rattle.ir_print.specs.Standing.{StandsResult, StandsRegions, Named}
 use Rattle.kit_dialect.specs.declared.kinds.KitOp.{KitOp}
-use Rattle.kit_dialect.specs.declared.kinds.KitOp.TheVariants.{Module, Func, Constant, Return}
+use Rattle.kit_dialect.specs.declared.kinds.KitOp.TheVariants.{Module, Func, Constant, Return, Add}
 use Rattle.kit_dialect.specs.declared.kinds.FunctionType.{FunctionType}
+use Rattle.kit_dialect.specs.declared.kinds.IntegerType.{IntegerType}
 use Rattle.kit_dialect.specs.Says.{says}
 use Rattle.kit_dialect.specs.Shapes as at
 use Rattle.kit_dialect.specs.Shapes.{KitContext, number_of}
@@ -28,64 +29,75 @@ module_number Module = refl
 module_number Func = refl
 module_number Constant = refl
 module_number Return = refl
+module_number Add = refl
 
 function_number : (kind : KitOp) → rules.is_function (number_of kind) ≡ at.is_function kind
 function_number Module = refl
 function_number Func = refl
 function_number Constant = refl
 function_number Return = refl
+function_number Add = refl
 
 constant_number : (kind : KitOp) → rules.is_constant (number_of kind) ≡ at.is_constant kind
 constant_number Module = refl
 constant_number Func = refl
 constant_number Constant = refl
 constant_number Return = refl
+constant_number Add = refl
 
 return_number : (kind : KitOp) → rules.is_return (number_of kind) ≡ at.is_return kind
 return_number Module = refl
 return_number Func = refl
 return_number Constant = refl
 return_number Return = refl
+return_number Add = refl
+
+add_number : (kind : KitOp) → rules.is_add (number_of kind) ≡ at.is_add kind
+add_number Module = refl
+add_number Func = refl
+add_number Constant = refl
+add_number Return = refl
+add_number Add = refl
 
 symbol_number : (kind : KitOp) → rules.is_symbol (number_of kind) ≡ at.is_symbol kind
 symbol_number Module = refl
 symbol_number Func = refl
 symbol_number Constant = refl
 symbol_number Return = refl
+symbol_number Add = refl
 
 function_only : (kind : KitOp) → at.is_function kind ≡ true → kind ≡ Func
 function_only Func e = refl
 function_only Module e = absurd cc
 function_only Constant e = absurd cc
 function_only Return e = absurd cc
+function_only Add e = absurd cc
 
 constant_only : (kind : KitOp) → at.is_constant kind ≡ true → kind ≡ Constant
 constant_only Constant e = refl
 constant_only Module e = absurd cc
 constant_only Func e = absurd cc
 constant_only Return e = absurd cc
+constant_only Add e = absurd cc
 
 -- tests under a guard agree where the guard holds
 guarded : (x y a b : Bool) → x ≡ y → (y ≡ true → a ≡ b) → (x && a) ≡ (y && b)
 guarded x true a b e h = ap₂ (λ u v. u && v) e (h refl)
 guarded x false a b e h = ap (λ u. u && a) e
 
-abbrev chain : ℕ → ℕ → ℕ → ℕ → ℕ → ℕ → Bool → Bool → Bool → Bool → Bool → Bool → ℕ
-chain i j k l m n a b c d e f = cond a i (cond b j (cond c k (cond d l (cond e m (cond f n 15)))))
-
-chains : (i j k l m n : ℕ) (a b c d e f a' b' c' d' e' f' : Bool) → a ≡ a' → b ≡ b' → c ≡ c' → d ≡ d' → e ≡ e' → f ≡ f' → chain i j k l m n a b c d e f ≡ chain i j k l m n a' b' c' d' e' f'
-chains i j k l m n a b c d e f a' b' c' d' e' f' p q r s t u =
-    ap (λ z. chain i j k l m n z b c d e f) p ∙ (ap (λ z. chain i j k l m n a' z c d e f) q ∙ (ap (λ z. chain i j k l m n a' b' z d e f) r
-    ∙ (ap (λ z. chain i j k l m n a' b' c' z e f) s ∙ (ap (λ z. chain i j k l m n a' b' c' d' z f) t ∙ ap (λ z. chain i j k l m n a' b' c' d' e' z) u))))
+-- a test, and the tests behind it
+link : (i : ℕ) (a b : Bool) (m n : ℕ) → a ≡ b → m ≡ n → cond a i m ≡ cond b i n
+link i a b m n e f = ap₂ (λ (c : Bool) (k : ℕ). cond c i k) e f
 
 abbrev by_numbers : ℕ → ℕ → ℕ → ℕ → Bool
-by_numbers k x y z = cond (rules.is_symbol k) (x == 0 && y == 0 && z == 1) (cond (rules.is_constant k) (x == 1 && y == 0 && z == 0) (rules.is_return k && x == 0 && z == 0))
+by_numbers k x y z = cond (rules.is_symbol k) (x == 0 && y == 0 && z == 1) (cond (rules.is_constant k) (x == 1 && y == 0 && z == 0) (cond (rules.is_add k) (x == 1 && y == 2 && z == 0) (rules.is_return k && x == 0 && z == 0)))
 
 by_kind : (kind : KitOp) (r n m : ℕ) → by_numbers (number_of kind) r n m ≡ at.has_numbers kind r n m
 by_kind Module r n m = refl
 by_kind Func r n m = refl
 by_kind Constant r n m = refl
 by_kind Return r n m = refl
+by_kind Add r n m = refl
 
 first_map : {X Y : Type 0} (f : X → Y) (a b : Option X) → rules.first_some (option_map f a) (option_map f b) ≡ option_map f (rules.first_some a b)
 first_map f (Some x) b = refl
@@ -129,13 +141,14 @@ module _ (s : KitContext) (values : List Value) where
       → (kind : KitOp) → kind_of s p ≡ Some kind → at.own_rule s kind p ≡ least (own_tests op)
   own_least p op own st kind e =
       let n = heads.kind_number s values p op own kind e in
-      sym (chains 2 3 5 6 12 14 _ _ _ _ _ _ _ _ _ _ _ _
-      (guarded _ _ _ _ (ap rules.is_module n ∙ module_number kind) (λ t. ap not (heads.module_body s values p (regions_of s p) op.regions st)))
-      (guarded _ _ _ _ (ap rules.is_function n ∙ function_number kind) (λ t. ap not (body_same p op own st (at.function_at s p) (rules.function_type op.pieces) (heads.function_stands s values p op own (e ∙ ap Some (function_only kind t))))))
-      (ap not (ap₂ (λ u v. u && v) (heads.are_values s values p op own) (heads.value_regions s values p (regions_of s p) op.regions st)))
-      (guarded _ _ _ _ (ap rules.is_function n ∙ function_number kind) (λ t. ap not (heads.full_regions s values p (regions_of s p) op.regions st)))
-      (guarded _ _ _ _ (ap rules.is_constant n ∙ constant_number kind) (λ t. ap not (constant_same p op own (e ∙ ap Some (constant_only kind t)))))
-      (ap not (numbers_same kind op _ _ _ n (heads.pairs_length s values _ _ _ (heads.results_stand s values p op own)) (heads.pairs_length s values _ _ _ (heads.operands_stand s values p op own)) (heads.regions_count s values p (regions_of s p) op.regions st))))
+      sym
+      (link 2 _ _ _ _ (guarded _ _ _ _ (ap rules.is_module n ∙ module_number kind) (λ t. ap not (heads.module_body s values p (regions_of s p) op.regions st)))
+      (link 3 _ _ _ _ (guarded _ _ _ _ (ap rules.is_function n ∙ function_number kind) (λ t. ap not (body_same p op own st (at.function_at s p) (rules.function_type op.pieces) (heads.function_stands s values p op own (e ∙ ap Some (function_only kind t))))))
+      (link 5 _ _ _ _ (ap not (ap₂ (λ u v. u && v) (heads.are_values s values p op own) (heads.value_regions s values p (regions_of s p) op.regions st)))
+      (link 6 _ _ _ _ (guarded _ _ _ _ (ap rules.is_function n ∙ function_number kind) (λ t. ap not (heads.full_regions s values p (regions_of s p) op.regions st)))
+      (link 12 _ _ _ _ (guarded _ _ _ _ (ap rules.is_constant n ∙ constant_number kind) (λ t. ap not (constant_same p op own (e ∙ ap Some (constant_only kind t)))))
+      (link 14 _ _ _ _
+      (ap not (numbers_same kind op _ _ _ n (heads.pairs_length s values _ _ _ (heads.results_stand s values p op own)) (heads.pairs_length s values _ _ _ (heads.operands_stand s values p op own)) (heads.regions_count s values p (regions_of s p) op.regions st))) refl))))))
 
   seen_visible : (earlier entry : Table) (st : Standing) → IsTable values earlier st.earlier → IsTable values entry st.entry → (v : Value) (n : ℕ) → Named values v n
       → walks.seen earlier entry v ≡ option_map integer_type (visible st n)
@@ -148,6 +161,27 @@ module _ (s : KitContext) (values : List Value) where
   operands_seen earlier entry st a b (v ∷ vs) [] h = absurd h
   operands_seen earlier entry st a b (v ∷ vs) (n ∷ ns) h =
       ap₂ (λ x y. x && y) (sym (ap is_some (seen_visible earlier entry st a b v n h.0) ∙ is_some_map integer_type (visible st n))) (operands_seen earlier entry st a b vs ns h.1)
+
+  -- operands of one type
+  operands_typed : (earlier entry : Table) (st : Standing) → IsTable values earlier st.earlier → IsTable values entry st.entry → (x y : Option IntegerType) → x ≡ y → (vs : List Value) (ns : List ℕ) → Pairs (Named values) vs ns
+      → every (λ n. rules.same_integer (option_and_then integer_type (visible st n)) x) ns ≡ walks.have_type earlier entry vs y
+  operands_typed earlier entry st a b x y e [] [] h = refl
+  operands_typed earlier entry st a b x y e [] (n ∷ ns) h = absurd h
+  operands_typed earlier entry st a b x y e (v ∷ vs) [] h = absurd h
+  operands_typed earlier entry st a b x y e (v ∷ vs) (n ∷ ns) h =
+      ap₂ (λ p q. p && q) (ap₂ rules.same_integer (sym (ap walks.known (seen_visible earlier entry st a b v n h.0) ∙ known_map integer_type (visible st n))) e) (operands_typed earlier entry st a b x y e vs ns h.1)
+
+  one_type_same : (earlier entry : Table) (st : Standing) (p : Ptr store.Operation) (op : Operation) → IsTable values earlier st.earlier → IsTable values entry st.entry → IsOwner values s p op
+      → rules.has_one_type st op.operands op.results ≡ walks.has_one_type s earlier entry p
+  one_type_same earlier entry st p op a b own = by (results_of s p) op.results (heads.results_stand s values p op own)
+    where
+      by : (ds : List Definition) (rs : List (ℕ × ValueTree)) → Pairs (StandsResult says (Named values) s p) ds rs
+          → rules.has_one_type st op.operands rs ≡ option_map_or (λ ty. walks.have_type earlier entry (operands_of s p) (at.integer_at s ty)) (slice_get (at.types_of ds) 0) true
+      by [] [] h = refl
+      by [] (r ∷ rs) h = absurd h
+      by (d ∷ ds) [] h = absurd h
+      by (d ∷ ds) (r ∷ rs) h =
+          operands_typed earlier entry st a b (integer_type r.1) (at.integer_at s d.ty) (heads.result_type s values p d r h.0) (operands_of s p) op.operands (heads.operands_stand s values p op own)
 
   returns_same : (earlier entry : Table) (st : Standing) (p : Ptr store.Operation) (op : Operation) → IsTable values earlier st.earlier → IsTable values entry st.entry → IsOwner values s p op
       → (f : Option FunctionType) (g : Option FunctionTree) → SameFunction s.types f g
@@ -192,14 +226,15 @@ module _ (s : KitContext) (values : List Value) where
       let module_o = ap rules.is_module no ∙ module_number outer in
       let function_o = ap rules.is_function no ∙ function_number outer in
       let symbol = ap rules.is_symbol n ∙ symbol_number kind in
-      sym (chains 2 2 4 6 7 11 _ _ _ _ _ _ _ _ _ _ _ _
-      (guarded _ _ _ _ module_o (λ t. ap not symbol))
-      (guarded _ _ _ _ module_o (λ t. ap (λ z. z && rules.is_taken (rules.symbol_of op.pieces) st.symbols) symbol ∙ (taken_same names st.symbols h p op own kind e (at.is_symbol kind) refl ∙ sym et)))
-      (guarded _ _ _ _ function_o (λ t. ap₂ (λ u v. u || not (v == 0)) symbol (heads.regions_count s values p (regions_of s p) op.regions regions)))
-      (guarded _ _ _ _ function_o (λ t. ap₂ (λ u v. not (rules.same_bool u v)) (sym el) (ap rules.is_return n ∙ return_number kind)))
-      (ap not (operands_seen earlier entry st a b (operands_of s p) op.operands (heads.operands_stand s values p op own)))
-      (guarded _ _ _ _ (ap rules.is_return n ∙ return_number kind) (λ t. guarded _ _ _ _ function_o (λ u.
-      ap not (returns_same earlier entry st p op a b own (at.function_at s po) (rules.function_type st.owner.pieces) (heads.function_stands s values po st.owner own_o (eo ∙ ap Some (function_only outer u))))))))
+      sym
+      (link 2 _ _ _ _ (guarded _ _ _ _ module_o (λ t. ap not symbol))
+      (link 2 _ _ _ _ (guarded _ _ _ _ module_o (λ t. ap (λ z. z && rules.is_taken (rules.symbol_of op.pieces) st.symbols) symbol ∙ (taken_same names st.symbols h p op own kind e (at.is_symbol kind) refl ∙ sym et)))
+      (link 4 _ _ _ _ (guarded _ _ _ _ function_o (λ t. ap₂ (λ u v. u || not (v == 0)) symbol (heads.regions_count s values p (regions_of s p) op.regions regions)))
+      (link 6 _ _ _ _ (guarded _ _ _ _ function_o (λ t. ap₂ (λ u v. not (rules.same_bool u v)) (sym el) (ap rules.is_return n ∙ return_number kind)))
+      (link 7 _ _ _ _ (ap not (operands_seen earlier entry st a b (operands_of s p) op.operands (heads.operands_stand s values p op own)))
+      (link 8 _ _ _ _ (guarded _ _ _ _ (ap rules.is_add n ∙ add_number kind) (λ t. ap not (one_type_same earlier entry st p op a b own)))
+      (link 11 _ _ _ _ (guarded _ _ _ _ (ap rules.is_return n ∙ return_number kind) (λ t. guarded _ _ _ _ function_o (λ u.
+      ap not (returns_same earlier entry st p op a b own (at.function_at s po) (rules.function_type st.owner.pieces) (heads.function_stands s values po st.owner own_o (eo ∙ ap Some (function_only outer u))))))) refl)))))))
 
   -- the same of the root
   pub root_least : (p : Ptr store.Operation) (op : Operation) → IsOwner values s p op → (kind : KitOp) → kind_of s p ≡ Some kind → walks.root_rule s kind p ≡ least (standing_tests None op)

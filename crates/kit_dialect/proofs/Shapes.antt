@@ -1,5 +1,6 @@
 -- Which pieces a part can be, by what the part is.
 use Rattle.std.proofs.Common.{◌≡◌, ℕ, ◌≤◌, ◌^◌, Bool, true, false, ◌&&◌, List, [], ◌∷◌, Option, Some, None, option_map, Vec, refl, sym, ap, ◌∙◌, subst, arith}
+use Rattle.std.proofs.lemmas.Bool.{eqb-true}
 use Rattle.std.proofs.lemmas.Bool.Decides.{nat_tests}
 use Rattle.std.specs.Global.{Global}
 use Rattle.ir_names.specs.declared.kinds.TypeHandle.{TypeHandle}
@@ -14,8 +15,8 @@ use Rattle.ir_print.specs.declared.format.Part.TheVariants as part
 use Rattle.ir_print.specs.Pieces.{Piece, type_of_kind, attribute_of_kind, list, item, operands, region, name, number, width, ValueTree, Pieces}
 use Rattle.ir_print.specs.Shown.{Saying, IsNumber, IsWidth, ShowsType, ShowsAttribute, ShowsPart, ShowsParts, ShowsMembers}
 use Rattle.kit_dialect.specs.declared.kinds.IntegerType.{IntegerType}
-use Rattle.kit_dialect.specs.Parts.{number_part, integer_part, type_part, name_part, region_part, attribute_part, operands_part, list_part}
-use Rattle.kit_dialect.specs.Says.{is_small_width, is_type, is_attribute, is_name, is_region, are_operands, is_one, are_two, are_three}
+use Rattle.kit_dialect.specs.Parts.{number_part, integer_part, type_part, name_part, region_part, attribute_part, operands_part, is_one_operand, list_part}
+use Rattle.kit_dialect.specs.Says.{is_small_width, is_type, is_attribute, is_name, is_region, are_operands, is_operand, is_one, are_two, are_three}
 
 either_false : (b : Bool) → (b && false) ≡ false
 either_false true = refl
@@ -187,6 +188,30 @@ module _ {D K A T : Type 0} (says : Saying K A T) (types : List T) where
   not_operands p (node (name cs) ts) e h = refl
   not_operands p (node (number b m) ts) e h = refl
   not_operands p (node (width sign bits) ts) e h = refl
+
+  -- one operand is that piece
+  pub operand_shown : (p : Part D K A T) (t : ValueTree) → is_one_operand p ≡ true → ShowsPart says types p t → (ts : Pieces) × (t ≡ node (operands 1) ts)
+  operand_shown p (node (type_of_kind n) ts) e h = let f = ap is_one_operand h.1 in cc
+  operand_shown p (node (attribute_of_kind n) ts) e h = let f = ap is_one_operand h.1 in cc
+  operand_shown p (node list ts) e h = let f = ap is_one_operand h.1 in cc
+  operand_shown p (node item ts) e h = absurd h
+  operand_shown p (node (operands n) ts) e h = (ts, ap (λ (i : ℕ). node (operands i) ts) (eqb-true n 1 (sym (ap is_one_operand h) ∙ e)))
+  operand_shown p (node region ts) e h = let f = ap is_one_operand h in cc
+  operand_shown p (node (name cs) ts) e h = let f = ap is_one_operand h.1 in cc
+  operand_shown p (node (number b m) ts) e h = let f = ap is_one_operand h.1 in cc
+  operand_shown p (node (width sign bits) ts) e h = let f = ap is_one_operand h.1 in cc
+
+  -- what is not one operand is no such piece
+  pub not_operand : (p : Part D K A T) (t : ValueTree) → is_one_operand p ≡ false → ShowsPart says types p t → is_operand t ≡ false
+  not_operand p (node (type_of_kind n) ts) e h = refl
+  not_operand p (node (attribute_of_kind n) ts) e h = refl
+  not_operand p (node list ts) e h = refl
+  not_operand p (node item ts) e h = refl
+  not_operand p (node (operands n) ts) e h = sym (ap is_one_operand h) ∙ e
+  not_operand p (node region ts) e h = refl
+  not_operand p (node (name cs) ts) e h = refl
+  not_operand p (node (number b m) ts) e h = refl
+  not_operand p (node (width sign bits) ts) e h = refl
 
   -- a number is that piece
   pub number_shown : (p : Part D K A T) (x : Number) (t : ValueTree) → number_part p ≡ Some x → ShowsPart says types p t → (ts : Pieces) × (t ≡ node (number x.is_negative x.magnitude) ts)

@@ -66,7 +66,7 @@ module _ (tys : List KitType) where
   integer_shown ty (node (width s w) us) e = absurd cc
 
   -- members of a list of types, tests of which go by their integer types
-  member_shown : (ty : TypeHandle) (t : ValueTree) → Shows says tys (node said_item (one (leaf (said_type ty)))) t → (u : ValueTree) × (t ≡ node item (a_tree u no_tree)) × ShowsType says tys ty u
+  pub member_shown : (ty : TypeHandle) (t : ValueTree) → Shows says tys (node said_item (one (leaf (said_type ty)))) t → (u : ValueTree) × (t ≡ node item (a_tree u no_tree)) × ShowsType says tys ty u
   member_shown ty t h = by (item_shown (one (leaf (said_type ty))) t h)
     where
       by : ((us : Pieces) × (t ≡ node item us) × ShowsAll says tys (one (leaf (said_type ty))) us) → (u : ValueTree) × (t ≡ node item (a_tree u no_tree)) × ShowsType says tys ty u

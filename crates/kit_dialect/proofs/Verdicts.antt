@@ -43,7 +43,7 @@ own_ascending op = (omega arith, (omega arith, (omega arith, (omega arith, (omeg
 
 standing_ascending : (s : Option Standing) (op : Operation) → IsAscending 0 (standing_tests s op)
 standing_ascending None op = (omega arith, (omega arith, omega arith))
-standing_ascending (Some s) op = (omega arith, (omega arith, (omega arith, (omega arith, (omega arith, (omega arith, omega arith))))))
+standing_ascending (Some s) op = (omega arith, (omega arith, (omega arith, (omega arith, (omega arith, (omega arith, (omega arith, omega arith)))))))
 
 -- what one more number changes
 record Noted (place : List ℕ) (n : ℕ) (f g : Found) : Type 0 where

@@ -97,4 +97,5 @@ unknown_operation zero ps h = absurd (true≢false (ap is_some h))
 unknown_operation (suc zero) ps h = absurd (true≢false (ap is_some h))
 unknown_operation (suc (suc zero)) ps h = absurd (true≢false (ap is_some h))
 unknown_operation (suc (suc (suc zero))) ps h = absurd (true≢false (ap is_some h))
-unknown_operation (suc (suc (suc (suc n)))) ps h = refl
+unknown_operation (suc (suc (suc (suc zero)))) ps h = absurd (true≢false (ap is_some h))
+unknown_operation (suc (suc (suc (suc (suc n))))) ps h = refl

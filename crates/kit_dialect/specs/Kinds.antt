@@ -2,7 +2,7 @@
 use Rattle.std.specs.Prelude.{ℕ, Bool, true, false, List, [], ◌∷◌, Option, Some, None, codes}
 use Rattle.ir_names.specs.declared.kinds.TypeHandle.{TypeHandle}
 use Rattle.kit_dialect.specs.declared.kinds.KitOp.{KitOp}
-use Rattle.kit_dialect.specs.declared.kinds.KitOp.TheVariants.{Module, Func, Constant, Return}
+use Rattle.kit_dialect.specs.declared.kinds.KitOp.TheVariants.{Module, Func, Constant, Return, Add}
 use Rattle.kit_dialect.specs.declared.kinds.KitType.{KitType}
 use Rattle.kit_dialect.specs.declared.kinds.KitType.TheVariants as types
 use Rattle.kit_dialect.specs.declared.kinds.KitTypeKind.{KitTypeKind}
@@ -14,7 +14,7 @@ use Rattle.kit_dialect.specs.declared.attributes.KitAttrKind.TheVariants as attr
 
 -- the kinds of operations that can be read, by number
 abbrev pub read_ops : List KitOp
-read_ops = Module ∷ Func ∷ Constant ∷ Return ∷ []
+read_ops = Module ∷ Func ∷ Constant ∷ Return ∷ Add ∷ []
 
 -- modules and functions are isolated from above
 abbrev pub is_isolated_kind : KitOp → Bool
@@ -22,6 +22,7 @@ is_isolated_kind Module = true
 is_isolated_kind Func = true
 is_isolated_kind Constant = false
 is_isolated_kind Return = false
+is_isolated_kind Add = false
 
 -- the kinds of types that can be read, by number
 abbrev pub read_types : List KitTypeKind
@@ -37,6 +38,7 @@ name_of_op Module = codes "builtin.module"
 name_of_op Func = codes "builtin.func"
 name_of_op Constant = codes "builtin.constant"
 name_of_op Return = codes "kit.return"
+name_of_op Add = codes "kit.add"
 
 -- the dotted name of a kind of types
 abbrev pub name_of_type : KitTypeKind → List ℕ

@@ -11,3 +11,17 @@ pub mod Rows
 pub mod Seen
 pub mod Readable
 pub mod Canonical
+pub mod Machine
+pub mod Renaming
+pub mod Scopes
+pub mod Facts
+pub mod Constants
+pub mod FlatView
+pub mod Passes
+pub mod Running
+pub mod StraightFacts
+pub mod Folding
+pub mod Code
+pub mod Loading
+pub mod Finding
+pub mod Propagated

@@ -1,5 +1,5 @@
 -- The parts of which integers are read, and which are printed.
-use Rattle.std.specs.Prelude.{◌≡◌, ℕ, Vec, List, [], ◌∷◌, ◌++◌, map, Option, Some, None, option_map}
+use Rattle.std.specs.Prelude.{◌≡◌, ◌==◌, ℕ, Bool, false, Vec, List, [], ◌∷◌, ◌++◌, map, Option, Some, None, option_map}
 use Rattle.std.specs.Global.{Global}
 use Rattle.ir_names.specs.declared.identifier.Identifier.{Identifier}
 use Rattle.ir_names.specs.Identifier.{text_of}
@@ -90,6 +90,17 @@ module _ {D A K T : Type 0} where
   operands_part (parts.Number n) = None
   operands_part (parts.Width s w) = None
   operands_part other = None
+
+  -- the part is one operand
+  abbrev pub is_one_operand : Part D A K T → Bool
+  is_one_operand (parts.Operands n) = n == 1
+  is_one_operand (parts.Attribute a) = false
+  is_one_operand (parts.Type t) = false
+  is_one_operand parts.Region = false
+  is_one_operand (parts.Name n) = false
+  is_one_operand (parts.Number n) = false
+  is_one_operand (parts.Width s w) = false
+  is_one_operand other = false
 
   -- the list that a layer of a part is
   abbrev pub list_layer : Part-F D A K T (Part D A K T) → Option (Vec (Vec (Part D A K T) Global) Global)

@@ -16,7 +16,7 @@ use Rattle.ir_print.specs.Formats.{a_type}
 use Rattle.ir_print.specs.Pieces.{type_of_kind, attribute_of_kind, list, item, operands, region, name, number, width, ValueTree, Pieces}
 use Rattle.ir_print.specs.Shown.{Said, said_type, said_attribute, said_list, said_item, said_operands, said_region, said_name, said_number, said_width, leaf, ShowsAll, operands_said}
 use Rattle.kit_dialect.specs.declared.kinds.KitOp.{KitOp}
-use Rattle.kit_dialect.specs.declared.kinds.KitOp.TheVariants.{Module, Func, Constant, Return}
+use Rattle.kit_dialect.specs.declared.kinds.KitOp.TheVariants.{Module, Func, Constant, Return, Add}
 use Rattle.kit_dialect.specs.declared.kinds.KitType.{KitType}
 use Rattle.kit_dialect.specs.declared.kinds.KitType.TheVariants as types
 use Rattle.kit_dialect.specs.declared.kinds.KitTypeKind.TheVariants as type_kinds
@@ -27,7 +27,7 @@ use Rattle.kit_dialect.specs.declared.attributes.KitAttr.TheVariants as attrs
 use Rattle.kit_dialect.specs.Kinds.{read_ops, read_types, read_attrs}
 use Rattle.kit_dialect.specs.Numbers.{number_modulo, is_signed, is_below_zero, number_of_bits, printed_number}
 use Rattle.kit_dialect.specs.Texts.{formats, op_text, type_text, attr_text}
-use Rattle.kit_dialect.specs.Says.{says, values, one, two, only, types_said, said_of_operation, said_of_module, said_of_function, said_of_constant, symbol_name, function_type, constant_value, has_values, integer_said, refused_unless, is_type_member, are_types, is_number_of, refused_type, refused_attribute, refused_operation, canonical}
+use Rattle.kit_dialect.specs.Says.{says, values, one, two, only, types_said, said_of_operation, said_of_module, said_of_function, said_of_constant, said_of_add, symbol_name, function_type, constant_value, has_values, integer_said, refused_unless, is_type_member, are_types, is_number_of, refused_type, refused_attribute, refused_operation, canonical}
 use Rattle.kit_dialect.specs.Seen.{none_seen, first_seen, one_seen, two_seen, three_seen}
 use Rattle.ir_print.specs.Shapes.{AreMembersSaidAt, IsTypeSaid, IsAttributeSaid, IsOperationSaid, SaysTypes, SaysAttributes, SaysOperations}
 
@@ -206,9 +206,23 @@ return_said count context ps h =
     let piece = one_seen says context (leaf (said_operands count)) ps h in
     let is : ps ≡ a_tree (node (operands count) piece.2.0) no_tree = piece.1 ∙ ap (λ (t : ValueTree). a_tree t no_tree) piece.2.1 in
     let plain : count + 0 ≡ count = omega arith in
-    record { kind = op_text Return; at = refl; shaped = (refl, tt); read = ap (refused_operation 3) is; operands = ap operands_said is ∙ plain }
+    record { kind = op_text Return; at = refl; shaped = (tt, tt); read = ap (refused_operation 3) is; operands = ap operands_said is ∙ plain }
 
--- A fact of each operation is one of modules with a name, of functions with a name and a type, of constants with a value, and of returns.
+-- what an addition says whose result has this type
+abbrev addition : TypeHandle → Trees (Said KitAttr)
+addition ty = a_tree (leaf (said_operands 1)) (two (leaf (said_operands 1)) (leaf (said_type ty)))
+
+add_said : (ty : TypeHandle) → OperationSaid 2 4 (addition ty)
+add_said ty context ps h =
+    let pieces = three_seen says context (leaf (said_operands 1)) (leaf (said_operands 1)) (leaf (said_type ty)) ps h in
+    let is : ps ≡ a_tree (node (operands 1) pieces.4.0) (a_tree (node (operands 1) pieces.5.0) (a_tree (node (type_of_kind pieces.6.0) pieces.6.1) no_tree)) =
+    pieces.3 ∙ (ap (λ (t : ValueTree). a_tree t (a_tree pieces.1 (a_tree pieces.2 no_tree))) pieces.4.1
+    ∙ (ap (λ (t : ValueTree). a_tree (node (operands 1) pieces.4.0) (a_tree t (a_tree pieces.2 no_tree))) pieces.5.1
+    ∙ ap (λ (t : ValueTree). a_tree (node (operands 1) pieces.4.0) (a_tree (node (operands 1) pieces.5.0) (a_tree t no_tree))) pieces.6.2)) in
+    record { kind = op_text Add; at = refl; shaped = (refl, (refl, (refl, tt))); read = ap (refused_operation 4) is; operands = ap operands_said is }
+
+-- A fact of each operation is one of modules with a name, of functions with a name and a type, of constants with a value, of returns, and
+-- of additions with one result.
 module_by : (P : ℕ → Trees (Said KitAttr) → Type 0) → ((id : Identifier) → P 0 (two (leaf (said_name (text_of id))) (leaf said_region))) → (o : Option KitAttr) (n : ℕ) (us : Trees (Said KitAttr)) → said_of_module o ≡ Some (n, us) → P n us
 module_by P k (Some (attrs.Identifier id)) n us e = of_said 0 n (two (leaf (said_name (text_of id))) (leaf said_region)) us P e (k id)
 module_by P k (Some (attrs.Type ty)) n us e = absurd (none-some (n, us) e)
@@ -229,36 +243,50 @@ constant_by : (P : ℕ → Trees (Said KitAttr) → Type 0) → ((attr : KitAttr
 constant_by P k (Some attr) n us e = of_said 2 n (one (leaf (said_attribute attr))) us P e (k attr)
 constant_by P k None n us e = absurd (none-some (n, us) e)
 
+add_by : (P : ℕ → Trees (Said KitAttr) → Type 0) → ((ty : TypeHandle) → P 4 (addition ty)) → (tys : List TypeHandle) (n : ℕ) (us : Trees (Said KitAttr)) → said_of_add tys ≡ Some (n, us) → P n us
+add_by P k [] n us e = absurd (none-some (n, us) e)
+add_by P k (ty ∷ []) n us e = of_said 4 n (addition ty) us P e (k ty)
+add_by P k (ty ∷ other ∷ tys) n us e = absurd (none-some (n, us) e)
+
 -- the number of attributes and of operands is right
 none_used : (many : Bool) (count : ℕ) → (many && count == 0) ≡ true → 0 ≡ count
 none_used many count e = sym (eqb-true count 0 (and_parts many (count == 0) e).1)
 
+two_used : (many : Bool) (count : ℕ) → (many && count == 2) ≡ true → 2 ≡ count
+two_used many count e = sym (eqb-true count 2 (and_parts many (count == 2) e).1)
+
 -- what operations say can be read
 pub says_operations : SaysOperations says formats values
-says_operations context Module entries count n us ps e h =
+says_operations context Module entries count tys n us ps e h =
     let said = said_if (length entries == 1 && count == 0) (said_of_module (attribute_at entries symbol_name)) n us e in
     subst (λ (c : ℕ). IsOperationSaid says formats values n c us ps) (none_used (length entries == 1) count said.0) (module_by (OperationSaid 0) module_said (attribute_at entries symbol_name) n us said.1 context ps h)
-says_operations context Func entries count n us ps e h =
+says_operations context Func entries count tys n us ps e h =
     let said = said_if (length entries == 2 && count == 0) (said_of_function (attribute_at entries symbol_name) (attribute_at entries function_type)) n us e in
     subst (λ (c : ℕ). IsOperationSaid says formats values n c us ps) (none_used (length entries == 2) count said.0) (function_by (OperationSaid 0) function_said (attribute_at entries symbol_name) (attribute_at entries function_type) n us said.1 context ps h)
-says_operations context Constant entries count n us ps e h =
+says_operations context Constant entries count tys n us ps e h =
     let said = said_if (length entries == 1 && count == 0) (said_of_constant (attribute_at entries constant_value)) n us e in
     subst (λ (c : ℕ). IsOperationSaid says formats values n c us ps) (none_used (length entries == 1) count said.0) (constant_by (OperationSaid 0) constant_said (attribute_at entries constant_value) n us said.1 context ps h)
-says_operations context Return entries count n us ps e h =
+says_operations context Return entries count tys n us ps e h =
     let said = said_if (length entries == 0) (Some (3, one (leaf (said_operands count)))) n us e in
     of_said 3 n (one (leaf (said_operands count))) us (OperationSaid count) said.1 (return_said count) context ps h
+says_operations context Add entries count tys n us ps e h =
+    let said = said_if (length entries == 0 && count == 2) (said_of_add tys) n us e in
+    subst (λ (c : ℕ). IsOperationSaid says formats values n c us ps) (two_used (length entries == 0) count said.0) (add_by (OperationSaid 2) add_said tys n us said.1 context ps h)
 
 -- an operation says the number of its own kind
-pub says_kinds : (kind : KitOp) (entries : List (List ℕ × KitAttr)) (count n : ℕ) (us : Trees (Said KitAttr)) → said_of_operation kind entries count ≡ Some (n, us) → slice_get read_ops n ≡ Some kind
-says_kinds Module entries count n us e =
+pub says_kinds : (kind : KitOp) (entries : List (List ℕ × KitAttr)) (count : ℕ) (tys : List TypeHandle) (n : ℕ) (us : Trees (Said KitAttr)) → said_of_operation kind entries count tys ≡ Some (n, us) → slice_get read_ops n ≡ Some kind
+says_kinds Module entries count tys n us e =
     let said = said_if (length entries == 1 && count == 0) (said_of_module (attribute_at entries symbol_name)) n us e in
     module_by (λ m vs. slice_get read_ops m ≡ Some Module) (λ id. refl) (attribute_at entries symbol_name) n us said.1
-says_kinds Func entries count n us e =
+says_kinds Func entries count tys n us e =
     let said = said_if (length entries == 2 && count == 0) (said_of_function (attribute_at entries symbol_name) (attribute_at entries function_type)) n us e in
     function_by (λ m vs. slice_get read_ops m ≡ Some Func) (λ id ty. refl) (attribute_at entries symbol_name) (attribute_at entries function_type) n us said.1
-says_kinds Constant entries count n us e =
+says_kinds Constant entries count tys n us e =
     let said = said_if (length entries == 1 && count == 0) (said_of_constant (attribute_at entries constant_value)) n us e in
     constant_by (λ m vs. slice_get read_ops m ≡ Some Constant) (λ attr. refl) (attribute_at entries constant_value) n us said.1
-says_kinds Return entries count n us e =
+says_kinds Return entries count tys n us e =
     let said = said_if (length entries == 0) (Some (3, one (leaf (said_operands count)))) n us e in
     of_said 3 n (one (leaf (said_operands count))) us (λ m vs. slice_get read_ops m ≡ Some Return) said.1 refl
+says_kinds Add entries count tys n us e =
+    let said = said_if (length entries == 0 && count == 2) (said_of_add tys) n us e in
+    add_by (λ m vs. slice_get read_ops m ≡ Some Add) (λ ty. refl) tys n us said.1

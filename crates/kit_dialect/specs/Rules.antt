@@ -1,5 +1,5 @@
 -- The rules of a module, as predicates on a tree.
-use Rattle.std.specs.Prelude.{◌≡◌, ℕ, zero, suc, ◌+◌, ◌<◌, ◌==◌, ◌&&◌, ◌||◌, not, nat_le, Bool, true, false, cond, if◌then◌else◌, ◌⊎◌, List, [], ◌∷◌, ◌++◌, length, Option, Some, None, option_and_then, bytes_eq}
+use Rattle.std.specs.Prelude.{◌≡◌, ℕ, zero, suc, ◌+◌, ◌<◌, ◌==◌, ◌&&◌, ◌||◌, not, nat_le, Bool, true, false, cond, if◌then◌else◌, ◌⊎◌, List, [], ◌∷◌, ◌++◌, length, slice_get, Option, Some, None, option_and_then, bytes_eq}
 use Rattle.std.specs.Option.{option_map_or, is_some}
 use Rattle.ir_names.specs.declared.kinds.Signedness.{Signedness}
 use Rattle.ir_names.specs.declared.kinds.Signedness.TheVariants.{Signless, Signed, Unsigned}
@@ -95,6 +95,9 @@ is_constant k = k == 2
 abbrev pub is_return : ℕ → Bool
 is_return k = k == 3
 
+abbrev pub is_add : ℕ → Bool
+is_add k = k == 4
+
 -- modules and functions have names
 abbrev pub is_symbol : ℕ → Bool
 is_symbol k = is_module k || is_function k
@@ -169,7 +172,8 @@ abbrev pub has_numbers : Operation → Bool
 has_numbers op =
     if is_symbol op.kind then length op.results == 0 && length op.operands == 0 && count op.regions == 1
     else (if is_constant op.kind then length op.results == 1 && length op.operands == 0 && count op.regions == 0
-    else is_return op.kind && length op.results == 0 && count op.regions == 0)
+    else (if is_add op.kind then length op.results == 1 && length op.operands == 2 && count op.regions == 0
+    else is_return op.kind && length op.results == 0 && count op.regions == 0))
 
 -- ---- rules on where an operation stands
 
@@ -212,6 +216,10 @@ visible s n = first_some (lookup n s.earlier) (lookup n s.entry)
 abbrev pub are_visible : Standing → List ℕ → Bool
 are_visible s ns = every (λ n. is_some (visible s n)) ns
 
+-- 8: Arithmetic has one type throughout: each operand is of the type of the result.
+abbrev pub has_one_type : Standing → List ℕ → List (ℕ × ValueTree) → Bool
+has_one_type s ns ds = option_map_or (λ d. every (λ n. same_integer (option_and_then integer_type (visible s n)) (integer_type d.1)) ns) (slice_get ds 0) true
+
 -- 11: What leaves a function has the types of its results, which are integers.
 abbrev pub returns_results : Standing → Operation → Bool
 returns_results s op = option_map_or (λ f. every_pair (λ n t. same_integer (option_and_then integer_type (visible s n)) (integer_type t)) op.operands f.results)
@@ -236,7 +244,7 @@ own_tests op =
 
 -- The tests of an operation where it stands. The root is a module (1), and there is no value that it may name (7).
 -- A module holds modules and functions (2), with distinct names (2). The blocks of a function hold constants and operations
--- of `kit`, without regions (4), of which the last one, and no other, is a terminator (6).
+-- of `kit`, without regions (4), of which the last one, and no other, is a terminator (6). Arithmetic has one type (8), wherever it stands.
 abbrev pub standing_tests : Option Standing → Operation → List Test
 standing_tests None op = (1, not (is_module op.kind)) ∷ (7, not (length op.operands == 0)) ∷ []
 standing_tests (Some s) op =
@@ -245,6 +253,7 @@ standing_tests (Some s) op =
     ∷ (4, is_function s.owner.kind && (is_symbol op.kind || not (count op.regions == 0)))
     ∷ (6, is_function s.owner.kind && not (same_bool s.is_last (is_return op.kind)))
     ∷ (7, not (are_visible s op.operands))
+    ∷ (8, is_add op.kind && not (has_one_type s op.operands op.results))
     ∷ (11, is_return op.kind && (is_function s.owner.kind && not (returns_results s op)))
     ∷ []
 

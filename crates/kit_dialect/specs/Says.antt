@@ -12,7 +12,7 @@ use Rattle.ir_print.specs.declared.format.Part.{Part}
 use Rattle.ir_print.specs.Pieces.{Piece, type_of_kind, attribute_of_kind, list, item, operands, region, name, number, width, ValueTree, Pieces, Values}
 use Rattle.ir_print.specs.Shown.{Said, said_type, said_attribute, said_list, said_item, said_operands, said_region, said_name, said_number, said_width, leaf, Saying, ShowsParts, ShowsKey, Drafts}
 use Rattle.kit_dialect.specs.declared.kinds.KitOp.{KitOp}
-use Rattle.kit_dialect.specs.declared.kinds.KitOp.TheVariants.{Module, Func, Constant, Return}
+use Rattle.kit_dialect.specs.declared.kinds.KitOp.TheVariants.{Module, Func, Constant, Return, Add}
 use Rattle.kit_dialect.specs.declared.kinds.IntegerType.{IntegerType}
 use Rattle.kit_dialect.specs.declared.kinds.KitType.{KitType}
 use Rattle.kit_dialect.specs.declared.kinds.KitType.TheVariants as types
@@ -20,7 +20,7 @@ use Rattle.kit_dialect.specs.declared.attributes.IntegerAttr.{IntegerAttr}
 use Rattle.kit_dialect.specs.declared.attributes.KitAttr.{KitAttr}
 use Rattle.kit_dialect.specs.declared.attributes.KitAttr.TheVariants as attrs
 use Rattle.kit_dialect.specs.Numbers.{number_of_bits, number_modulo, printed_number}
-use Rattle.kit_dialect.specs.Parts.{type_part, integer_part, list_part, name_part, region_part, attribute_part, operands_part, integer_of}
+use Rattle.kit_dialect.specs.Parts.{type_part, integer_part, list_part, name_part, region_part, attribute_part, operands_part, is_one_operand, integer_of}
 
 -- ---- what is in a context
 
@@ -88,12 +88,18 @@ abbrev pub said_of_constant : Option KitAttr → Option (ℕ × Trees (Said KitA
 said_of_constant (Some attr) = Some (2, one (leaf (said_attribute attr)))
 said_of_constant None = None
 
--- An operation says its own attributes and its operands, if it has no others.
-abbrev pub said_of_operation : KitOp → List (List ℕ × KitAttr) → ℕ → Option (ℕ × Trees (Said KitAttr))
-said_of_operation Module entries n = only (length entries == 1 && n == 0) (said_of_module (attribute_at entries symbol_name))
-said_of_operation Func entries n = only (length entries == 2 && n == 0) (said_of_function (attribute_at entries symbol_name) (attribute_at entries function_type))
-said_of_operation Constant entries n = only (length entries == 1 && n == 0) (said_of_constant (attribute_at entries constant_value))
-said_of_operation Return entries n = only (length entries == 0) (Some (3, one (leaf (said_operands n))))
+-- what an addition says that has one result: two operands, and the type of the result
+abbrev pub said_of_add : List TypeHandle → Option (ℕ × Trees (Said KitAttr))
+said_of_add (ty ∷ []) = Some (4, a_tree (leaf (said_operands 1)) (two (leaf (said_operands 1)) (leaf (said_type ty))))
+said_of_add _ = None
+
+-- An operation says its own attributes and its operands, if it has no others. An addition says the type of its result.
+abbrev pub said_of_operation : KitOp → (entries : List (List ℕ × KitAttr)) → (operands : ℕ) → (results : List TypeHandle) → Option (ℕ × Trees (Said KitAttr))
+said_of_operation Module entries n tys = only (length entries == 1 && n == 0) (said_of_module (attribute_at entries symbol_name))
+said_of_operation Func entries n tys = only (length entries == 2 && n == 0) (said_of_function (attribute_at entries symbol_name) (attribute_at entries function_type))
+said_of_operation Constant entries n tys = only (length entries == 1 && n == 0) (said_of_constant (attribute_at entries constant_value))
+said_of_operation Return entries n tys = only (length entries == 0) (Some (3, one (leaf (said_operands n))))
+said_of_operation Add entries n tys = only (length entries == 0 && n == 2) (said_of_add tys)
 
 -- what the types, attributes and operations of `kit` say
 abbrev pub says : Saying KitOp KitAttr KitType
@@ -135,6 +141,11 @@ is_region _ = false
 abbrev pub are_operands : ValueTree → Bool
 are_operands (node (operands n) _) = true
 are_operands _ = false
+
+-- the piece is one operand
+abbrev pub is_operand : ValueTree → Bool
+is_operand (node (operands n) _) = n == 1
+is_operand _ = false
 
 -- the pieces are one, of which this holds
 abbrev pub is_one : (ValueTree → Bool) → Pieces → Bool
@@ -207,13 +218,14 @@ abbrev pub canonical : ℕ → Pieces → Pieces
 canonical zero (a_tree t (a_tree u no_tree)) = a_tree (node (canonical_number (label_of t) (label_of u)) (below t)) (a_tree u no_tree)
 canonical _ ps = ps
 
--- An operation is refused whose pieces are not those of its format: a name and a region, a name, a type and a region, an attribute, and
--- operands. The attributes that are read are integers.
+-- An operation is refused whose pieces are not those of its format: a name and a region, a name, a type and a region, an attribute,
+-- operands, and an operand, another one and a type. The attributes that are read are integers.
 abbrev pub refused_operation : ℕ → Pieces → Option ℕ
 refused_operation zero ps = refused_unless (are_two is_name is_region ps) 0
 refused_operation (suc zero) ps = refused_unless (are_three is_name is_type is_region ps) 0
 refused_operation (suc (suc zero)) ps = refused_unless (is_one is_attribute ps) 0
 refused_operation (suc (suc (suc zero))) ps = refused_unless (is_one are_operands ps) 0
+refused_operation (suc (suc (suc (suc zero)))) ps = refused_unless (are_three is_operand is_operand is_type ps) 0
 refused_operation _ ps = Some 0
 
 -- the type of the pieces of an integer
@@ -226,9 +238,15 @@ abbrev pub constant_types : Pieces → List ValueTree
 constant_types (a_tree (node (attribute_of_kind zero) ts) no_tree) = integer_types ts
 constant_types _ = []
 
--- A constant has a result, of the type of its value. No other operation has any.
+-- the type that the pieces of an addition end with
+abbrev pub add_types : Pieces → List ValueTree
+add_types (a_tree _ (a_tree _ (a_tree t no_tree))) = t ∷ []
+add_types _ = []
+
+-- A constant has a result, of the type of its value, and an addition one of the type that it says. No other operation has any.
 abbrev pub result_types : ℕ → Pieces → List ValueTree
 result_types (suc (suc zero)) ps = constant_types ps
+result_types (suc (suc (suc (suc zero)))) ps = add_types ps
 result_types _ ps = []
 
 -- what is made of pieces, and what is refused
@@ -272,6 +290,11 @@ module _ {D : Type 0} where
   abbrev pub one_operands : List (Part D KitOp KitAttr KitType) → Option ℕ
   one_operands (p ∷ []) = operands_part p
   one_operands _ = None
+
+  -- the type of parts that are one operand, another one and a type
+  abbrev pub add_type : List (Part D KitOp KitAttr KitType) → Option TypeHandle
+  add_type (p ∷ q ∷ r ∷ []) = cond (is_one_operand p && is_one_operand q) (type_part r) None
+  add_type _ = None
 
   -- the types that the members of a list are, if each is one
   abbrev pub each_type : List (Vec (Part D KitOp KitAttr KitType) Global) → Option (List TypeHandle)

@@ -10,7 +10,7 @@ use Rattle.ir_store.specs.declared.value.Definition.{Definition}
 use Rattle.ir_store.specs.Views.{ContextView}
 use Rattle.ir_store.specs.Context.{key_at, attributes_of, results_of, regions_of, blocks_of, arguments_of, operations_of, operands_of}
 use Rattle.kit_dialect.specs.declared.kinds.KitOp.{KitOp}
-use Rattle.kit_dialect.specs.declared.kinds.KitOp.TheVariants.{Module, Func, Constant, Return}
+use Rattle.kit_dialect.specs.declared.kinds.KitOp.TheVariants.{Module, Func, Constant, Return, Add}
 use Rattle.kit_dialect.specs.declared.kinds.KitType.{KitType}
 use Rattle.kit_dialect.specs.declared.kinds.KitType.TheVariants as types
 use Rattle.kit_dialect.specs.declared.kinds.IntegerType.{IntegerType}
@@ -32,6 +32,7 @@ number_of Module = 0
 number_of Func = 1
 number_of Constant = 2
 number_of Return = 3
+number_of Add = 4
 
 abbrev pub integer_key : KitType → Option IntegerType
 integer_key (types.Integer t) = Some t
@@ -130,36 +131,49 @@ has_numbers Module r o n = r == 0 && o == 0 && n == 1
 has_numbers Func r o n = r == 0 && o == 0 && n == 1
 has_numbers Constant r o n = r == 1 && o == 0 && n == 0
 has_numbers Return r o n = r == 0 && n == 0
+has_numbers Add r o n = r == 1 && o == 2 && n == 0
 
 abbrev pub is_module : KitOp → Bool
 is_module Module = true
 is_module Func = false
 is_module Constant = false
 is_module Return = false
+is_module Add = false
 
 abbrev pub is_function : KitOp → Bool
 is_function Module = false
 is_function Func = true
 is_function Constant = false
 is_function Return = false
+is_function Add = false
 
 abbrev pub is_constant : KitOp → Bool
 is_constant Module = false
 is_constant Func = false
 is_constant Constant = true
 is_constant Return = false
+is_constant Add = false
 
 abbrev pub is_return : KitOp → Bool
 is_return Module = false
 is_return Func = false
 is_return Constant = false
 is_return Return = true
+is_return Add = false
+
+abbrev pub is_add : KitOp → Bool
+is_add Module = false
+is_add Func = false
+is_add Constant = false
+is_add Return = false
+is_add Add = true
 
 abbrev pub is_symbol : KitOp → Bool
 is_symbol Module = true
 is_symbol Func = true
 is_symbol Constant = false
 is_symbol Return = false
+is_symbol Add = false
 
 -- the smallest number of a rule that an operation breaks by itself, 15 if it breaks none
 abbrev pub own_rule : KitContext → KitOp → Ptr store.Operation → ℕ
@@ -170,3 +184,7 @@ own_rule s kind p =
     else (if is_function kind && not (has_full_regions s p) then 6
     else (if is_constant kind && not (has_constant_type s p) then 12
     else (if not (has_numbers kind (length (results_of s p)) (length (operands_of s p)) (length (regions_of s p))) then 14 else 15)))))
+
+-- the first block of an operation's first region
+abbrev pub body_block : KitContext → Ptr store.Operation → Option (Ptr BasicBlock)
+body_block s p = option_and_then (λ r. slice_get (blocks_of s r) 0) (slice_get (regions_of s p) 0)

@@ -1,9 +1,9 @@
 -- The texts of the kinds of `kit`.
 use Rattle.std.specs.Prelude.{[], ◌∷◌, map, codes}
-use Rattle.ir_print.specs.Formats.{Formats, Kind, Step, Steps, steps, word, operands, an_attribute, a_type, a_region, symbol_name, a_name, a_number, a_width, list_of}
+use Rattle.ir_print.specs.Formats.{Formats, Kind, Step, Steps, steps, word, operand, operands, an_attribute, a_type, a_region, symbol_name, a_name, a_number, a_width, list_of}
 use Rattle.ir_text.specs.Ordered.{Leads, leads_with, operands_leads, list_leads}
 use Rattle.kit_dialect.specs.declared.kinds.KitOp.{KitOp}
-use Rattle.kit_dialect.specs.declared.kinds.KitOp.TheVariants.{Module, Func, Constant, Return}
+use Rattle.kit_dialect.specs.declared.kinds.KitOp.TheVariants.{Module, Func, Constant, Return, Add}
 use Rattle.kit_dialect.specs.declared.kinds.KitTypeKind.{KitTypeKind}
 use Rattle.kit_dialect.specs.declared.kinds.KitTypeKind.TheVariants as type_kinds
 use Rattle.kit_dialect.specs.declared.attributes.KitAttrKind.{KitAttrKind}
@@ -16,6 +16,7 @@ format_of_op Module = steps (symbol_name ∷ a_region ∷ [])
 format_of_op Func = steps (symbol_name ∷ word (codes ": ") (codes ":") ∷ a_type ∷ a_region ∷ [])
 format_of_op Constant = steps (an_attribute ∷ [])
 format_of_op Return = steps (operands ∷ [])
+format_of_op Add = steps (operand ∷ word (codes ", ") (codes ",") ∷ operand ∷ word (codes ": ") (codes ":") ∷ a_type ∷ [])
 
 -- types with commas between them
 abbrev pub type_list : Step

@@ -1,5 +1,5 @@
 -- What a walk over the operations of a tree has found.
-use Rattle.std.specs.Prelude.{◌≡◌, ℕ, nat_lt, nat_eq, ◌==◌, ◌&&◌, ◌||◌, not, Bool, true, false, cond, if◌then◌else◌, List, [], ◌∷◌, drop, length, Option, Some, None, Result, Ok, Err, option_map, bytes_eq}
+use Rattle.std.specs.Prelude.{◌≡◌, ℕ, nat_lt, nat_eq, ◌==◌, ◌&&◌, ◌||◌, not, Bool, true, false, cond, if◌then◌else◌, List, [], ◌∷◌, drop, length, slice_get, Option, Some, None, Result, Ok, Err, option_map, bytes_eq}
 use Rattle.std.specs.Borrow.{Bor}
 use Rattle.std.specs.Option.{option_map_or, is_some}
 use Rattle.std.specs.HashMap as hash
@@ -16,7 +16,7 @@ use Rattle.ir_store.specs.declared.value.Definition.{Definition}
 use Rattle.ir_store.specs.declared.value.DefiningEntity.{DefiningEntity}
 use Rattle.ir_store.specs.declared.value.DefiningEntity.TheVariants.{Op, Block}
 use Rattle.ir_store.specs.Views.{OperationView}
-use Rattle.ir_store.specs.Context.{operation_at, operands_of, regions_of, blocks_of, operations_of}
+use Rattle.ir_store.specs.Context.{operation_at, results_of, operands_of, regions_of, blocks_of, operations_of}
 use Rattle.ir_print.specs.Pieces.{ValueTree, operation, Entity, entity, Entities}
 use Rattle.ir_print.specs.Standing.{StandsHead, StandsOperation, StandsRegion, StandsBlock, StandsRegions, StandsBlocks, StandsOperations, Named, AreDistinct}
 use Rattle.kit_dialect.specs.declared.kinds.KitOp.{KitOp}
@@ -25,7 +25,7 @@ use Rattle.kit_dialect.specs.declared.attributes.KitAttr.{KitAttr}
 use Rattle.kit_dialect.specs.declared.module_rules.RuleFault.{RuleFault}
 use Rattle.kit_dialect.specs.declared.module_rules.RuleFault.TheVariants.{Memory, Broken}
 use Rattle.kit_dialect.specs.Says.{says}
-use Rattle.kit_dialect.specs.Shapes.{KitContext, integer_at, symbol_at, function_at, is_module, is_function, is_symbol, is_return}
+use Rattle.kit_dialect.specs.Shapes.{KitContext, integer_at, symbol_at, function_at, types_of, is_module, is_function, is_symbol, is_return, is_add}
 use Rattle.kit_dialect.specs.Rules.{every, every_pair, same_integer, same_bool, first_some, integer_type, lookup, is_taken, values_of, Test, Site, Operation, Standing, own_tests, standing_tests, sites_of, sites_in_region, sites_in_block, sites_in_regions, sites_in_blocks, sites_in_operations, define_results, KeepsRules, IsNamedRule}
 
 -- the smallest number of a broken rule, with the first place where it is broken
@@ -107,9 +107,17 @@ known None = None
 abbrev pub are_seen : KitContext → Table → Table → Ptr store.Operation → Bool
 are_seen s earlier entry p = every (λ v. is_some (seen earlier entry v)) (operands_of s p)
 
+-- each value is of this integer type, or none is of one
+abbrev pub have_type : Table → Table → List Value → Option IntegerType → Bool
+have_type earlier entry vs ty = every (λ v. same_integer (known (seen earlier entry v)) ty) vs
+
 -- the operands have these types, which are integers
 abbrev pub has_operand_types : KitContext → Table → Table → Ptr store.Operation → List TypeHandle → Bool
 has_operand_types s earlier entry p tys = every_pair (λ v ty. same_integer (known (seen earlier entry v)) (integer_at s ty)) (operands_of s p) tys
+
+-- the operands have the type of the first result
+abbrev pub has_one_type : KitContext → Table → Table → Ptr store.Operation → Bool
+has_one_type s earlier entry p = option_map_or (λ ty. have_type earlier entry (operands_of s p) (integer_at s ty)) (slice_get (types_of (results_of s p)) 0) true
 
 -- the operands have the types of the function's results
 abbrev pub returns_results : KitContext → Table → Table → Ptr store.Operation → Ptr store.Operation → Bool
@@ -123,7 +131,8 @@ standing_rule s outer owner kind p is_last is_taken earlier entry =
     else (if is_function outer && (is_symbol kind || not (length (regions_of s p) == 0)) then 4
     else (if is_function outer && not (same_bool is_last (is_return kind)) then 6
     else (if not (are_seen s earlier entry p) then 7
-    else (if is_return kind && (is_function outer && not (returns_results s earlier entry owner p)) then 11 else 15)))))
+    else (if is_add kind && not (has_one_type s earlier entry p) then 8
+    else (if is_return kind && (is_function outer && not (returns_results s earlier entry owner p)) then 11 else 15))))))
 
 -- ---- what is visited
 

@@ -1,24 +1,26 @@
 //! The dialect and its formats.
 ghost use Rattle.std.specs.Prelude.{◌≡◌, ◌↔◌, ◌⊎◌, ℕ, true, List, [], ◌∷◌, length, Some, None, Err, IsTrue, IfOk, slice_get, option_copied, option_map, refl};
+ghost use Rattle.ir_names.specs.declared.kinds.TypeHandle.{TypeHandle};
 ghost use Rattle.ir_names.specs.Text.{is_identifier};
 ghost use Rattle.ir_names.specs.Dictionary.{attribute_at, with_attribute};
 ghost use Rattle.ir_names.specs.Tree.{Trees, node};
 ghost use Rattle.ir_print.specs.declared.dialect.MakeFault.TheVariants.{Refused};
 ghost use Rattle.ir_print.specs.declared.format.Part.TheVariants.{Attribute};
+ghost use Rattle.ir_print.specs.declared.format.Part.TheVariants as part;
 ghost use Rattle.ir_print.specs.Pieces.{Pieces, attribute_of_kind};
-ghost use Rattle.ir_print.specs.Shown.{Said, ShowsAll, ShowsParts, ShowsKey, ShowsAttribute, KeepsTypes};
-ghost use Rattle.ir_store.specs.Context.{IsLiveOperation, operation_at};
+ghost use Rattle.ir_print.specs.Shown.{Said, ShowsAll, ShowsParts, ShowsKey, ShowsAttribute, KeepsTypes, types_of_results};
+ghost use Rattle.ir_store.specs.Context.{IsLiveOperation, operation_at, results_of};
 ghost use Rattle.ir_store.specs.Views.{OperationView};
 ghost use Rattle.ir_store.specs.Marks.{IsSameTree};
-ghost use Rattle.kit_dialect.specs.declared.kinds.KitOp.TheVariants.{Module, Func, Constant, Return};
+ghost use Rattle.kit_dialect.specs.declared.kinds.KitOp.TheVariants.{Module, Func, Constant, Return, Add};
 ghost use Rattle.kit_dialect.specs.declared.kinds.KitOp.{KitOp};
 ghost use Rattle.kit_dialect.specs.declared.kinds.KitType.{KitType};
 ghost use Rattle.kit_dialect.specs.declared.attributes.KitAttr.{KitAttr};
 ghost use Rattle.kit_dialect.specs.declared.attributes.KitAttr.TheVariants.{Integer};
 ghost use Rattle.kit_dialect.specs.Kinds.{read_ops, is_isolated_kind, read_types, read_attrs, name_of_op, name_of_type, name_of_attr, kind_of_type, kind_of_attr, type_of_attr};
 ghost use Rattle.kit_dialect.specs.Numbers.{HasFittingBits, IsFittingInteger};
-ghost use Rattle.kit_dialect.specs.Parts.{number_part, integer_part, list_part, integer_parts, HasPartsOf, IsSameInteger, IsTypeList, AreNameParts, AreModuleParts, AreFunctionParts};
-ghost use Rattle.kit_dialect.specs.Says.{says, symbol_name, function_type, constant_value, one_type, one_integer_type, module_name, function_header, one_integer, one_operands, each_type, MakesType, RefusesType, MakesOperation, RefusesOperation, refused_attribute, canonical};
+ghost use Rattle.kit_dialect.specs.Parts.{number_part, integer_part, list_part, integer_parts, HasPartsOf, IsSameInteger, IsTypeList, AreNameParts, AreModuleParts, AreFunctionParts, is_one_operand};
+ghost use Rattle.kit_dialect.specs.Says.{says, symbol_name, function_type, constant_value, one_type, one_integer_type, module_name, function_header, one_integer, one_operands, add_type, each_type, MakesType, RefusesType, MakesOperation, RefusesOperation, refused_attribute, canonical};
 ghost use Rattle.kit_dialect.specs.declared.attributes.IntegerAttr.{IntegerAttr};
 
 use crate::attributes::{
@@ -46,6 +48,14 @@ const FUNC_FORMAT: &[Directive] = &[
 const ATTRIBUTE_FORMAT: &[Directive] = &[Directive::Attribute];
 
 const OPERANDS_FORMAT: &[Directive] = &[Directive::Operands];
+
+const ADD_FORMAT: &[Directive] = &[
+    Directive::Operand,
+    Directive::Literal(", "),
+    Directive::Operand,
+    Directive::Literal(": "),
+    Directive::Type,
+];
 
 const WIDTH_FORMAT: &[Directive] = &[Directive::Width];
 
@@ -100,7 +110,7 @@ impl Dialects for Kit {
 }
 
 /// The attributes of an operation with one entry.
-fn with_entry(
+pub(crate) fn with_entry(
     alloc: Global,
     mut attributes: AttributeDict<Kit>,
     key: &str,
@@ -318,6 +328,32 @@ fn operands_in(parts: &[Part<Kit>]) -> Option<usize>
     }
 }
 
+/// Whether a part is one operand.
+fn is_operand(part: &Part<Kit>) -> bool
+    ensures { result ≡ is_one_operand part.now }
+{
+    match part {
+        Part::Operands(count) => *count == 1,
+        _ => false,
+    }
+}
+
+/// The type of parts that are one operand, another one and a type.
+fn add_in(parts: &[Part<Kit>]) -> Option<TypeHandle>
+    ensures { result ≡ add_type parts.now }
+{
+    match parts {
+        [left, right, Part::Type(ty)] => {
+            if is_operand(left) && is_operand(right) {
+                Some(*ty)
+            } else {
+                None
+            }
+        }
+        _ => None,
+    }
+}
+
 /// What a module is made with: a name.
 fn make_module(alloc: Global, parts: &[Part<Kit>]) -> Result<OperationDraft<Kit>, MakeFault>
     ensures made { IfOk result (λ draft. (types : List KitType) → MakesOperation Module 0 parts.now types types draft.attributes draft.result_types.items) }
@@ -376,6 +412,17 @@ fn make_return(alloc: Global, parts: &[Part<Kit>]) -> Result<OperationDraft<Kit>
     Ok(draft(AttributeDict::new(alloc), Vec::new(alloc)))
 }
 
+/// What an addition is made with: the type of its result.
+fn make_add(alloc: Global, parts: &[Part<Kit>]) -> Result<OperationDraft<Kit>, MakeFault>
+    ensures made { IfOk result (λ draft. (types : List KitType) → MakesOperation Add 4 parts.now types types draft.attributes draft.result_types.items) }
+    ensures refused { (i : ℕ) → result ≡ Err (Refused i) → (types : List KitType) → RefusesOperation 4 parts.now types i }
+{
+    let Some(ty) = add_in(parts) else {
+        return Err(MakeFault::Refused(0));
+    };
+    Ok(draft(AttributeDict::new(alloc), vec![in alloc; ty]?))
+}
+
 /// The name of an operation, as parts: none where it has none.
 fn name_parts(alloc: Global, attributes: &AttributeDict<Kit>) -> Result<Vec<Part<Kit>>, AllocError>
     ensures { IfOk result (λ parts. AreNameParts (attribute_at attributes.now symbol_name) parts.items) }
@@ -426,6 +473,22 @@ fn constant_parts(
     }
 }
 
+/// The parts of an addition: its operands, and the type of its result.
+fn add_parts(
+    alloc: Global,
+    ctx: &Context<Kit>,
+    op: Ptr<Operation>,
+) -> Result<Vec<Part<Kit>>, AllocError>
+    requires { IsLiveOperation ctx.now op }
+    ensures { (ty : TypeHandle) → types_of_results (results_of ctx.now op) ≡ ty ∷ [] → IfOk result (λ parts. parts.items ≡ part.Operands 1 ∷ part.Operands 1 ∷ part.Type ty ∷ []) }
+{
+    if op.get_num_results(ctx) == 0 {
+        return Ok(Vec::new(alloc));
+    }
+    let ty = op.get_type(ctx, 0);
+    Ok(vec![in alloc; Part::Operands(1), Part::Operands(1), Part::Type(ty)]?)
+}
+
 impl TextDialect for Kit {
     type TypeKind = KitTypeKind;
 
@@ -464,6 +527,7 @@ impl TextDialect for Kit {
             1 => Some(KitOp::Func),
             2 => Some(KitOp::Constant),
             3 => Some(KitOp::Return),
+            4 => Some(KitOp::Add),
             _ => None,
         }
     }
@@ -496,6 +560,7 @@ impl TextDialect for Kit {
             KitOp::Func => "builtin.func",
             KitOp::Constant => "builtin.constant",
             KitOp::Return => "kit.return",
+            KitOp::Add => "kit.add",
         }
     }
 
@@ -525,6 +590,7 @@ impl TextDialect for Kit {
             KitOp::Func => FUNC_FORMAT,
             KitOp::Constant => ATTRIBUTE_FORMAT,
             KitOp::Return => OPERANDS_FORMAT,
+            KitOp::Add => ADD_FORMAT,
         }
     }
 
@@ -552,6 +618,7 @@ impl TextDialect for Kit {
             KitOp::Func => true,
             KitOp::Constant => false,
             KitOp::Return => false,
+            KitOp::Add => false,
         }
     }
 
@@ -618,6 +685,7 @@ impl TextDialect for Kit {
             KitOp::Func => make_function(alloc, parts),
             KitOp::Constant => make_constant(alloc, ctx, parts),
             KitOp::Return => make_return(alloc, parts),
+            KitOp::Add => make_add(alloc, parts),
         }
     }
 
@@ -664,7 +732,7 @@ impl TextDialect for Kit {
     ) -> Result<Vec<Part<Kit>>, AllocError>
         requires live { IsLiveOperation ctx.now op }
         ensures { (types : List KitType) → (o : OperationView KitOp KitAttr) → (n : ℕ) → (us : Trees (Said KitAttr)) → (ps : Pieces) → operation_at ctx.now op ≡ Some o
-            → says.of_operation o.kind o.attributes (length o.operands) ≡ Some (n, us) → ShowsAll says types us ps → IfOk result (λ parts. ShowsParts says types parts.items ps) }
+            → says.of_operation o.kind o.attributes (length o.operands) (types_of_results o.results) ≡ Some (n, us) → ShowsAll says types us ps → IfOk result (λ parts. ShowsParts says types parts.items ps) }
     {
         let attributes = op.attributes(ctx);
         match op.kind(ctx) {
@@ -672,6 +740,7 @@ impl TextDialect for Kit {
             KitOp::Func => function_parts(alloc, attributes),
             KitOp::Constant => constant_parts(alloc, attributes),
             KitOp::Return => Ok(vec![in alloc; Part::Operands(op.get_num_operands(ctx))]?),
+            KitOp::Add => add_parts(alloc, ctx, op),
         }
     }
 

@@ -15,6 +15,8 @@ pub enum KitOp {
     Constant,
     /// Leaves the function with values.
     Return,
+    /// The sum of two integers of one type, modulo 2^w for a type of w bits.
+    Add,
 }
 
 impl KitOp {
@@ -27,6 +29,7 @@ impl KitOp {
             KitOp::Module => false,
             KitOp::Func => false,
             KitOp::Constant => false,
+            KitOp::Add => false,
         }
     }
 }

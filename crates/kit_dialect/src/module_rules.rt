@@ -103,6 +103,7 @@ fn symbol_of<'a>(ctx: &'a Context<Kit>, op: Ptr<Operation>) -> Option<&'a str>
         KitOp::Func => symbol_name(ctx, op),
         KitOp::Constant => None,
         KitOp::Return => None,
+        KitOp::Add => None,
     }
 }
 
@@ -143,6 +144,38 @@ fn known_type(earlier: &Table, entry: &Table, value: Value) -> Option<IntegerTyp
         Some(ty) => ty,
         None => None,
     }
+}
+
+/// Whether each operand of an operation is of this integer type, or none is of one.
+fn have_type(
+    ctx: &Context<Kit>,
+    op: Ptr<Operation>,
+    earlier: &Table,
+    entry: &Table,
+    ty: Option<IntegerType>,
+) -> bool
+    requires { IsLiveOperation ctx.now op }
+    ensures { result ≡ walks.have_type (walks.table_of earlier.now) (walks.table_of entry.now) (operands_of ctx.now op) ty }
+{
+    for index in 0..op.get_num_operands(ctx) {
+        let own = known_type(earlier, entry, op.get_operand(ctx, index));
+        if !is_same_integer(own, ty) {
+            return false;
+        }
+    }
+    true
+}
+
+/// Whether the operands of an operation, if it has a result, have the type of that.
+fn has_one_type(ctx: &Context<Kit>, op: Ptr<Operation>, earlier: &Table, entry: &Table) -> bool
+    requires { IsLiveOperation ctx.now op }
+    ensures { result ≡ walks.has_one_type ctx.now (walks.table_of earlier.now) (walks.table_of entry.now) op }
+{
+    if op.get_num_results(ctx) == 0 {
+        return true;
+    }
+    let ty = integer_type(ctx, op.get_type(ctx, 0));
+    have_type(ctx, op, earlier, entry, ty)
 }
 
 /// Whether an operation has operands of these types, which are integers.
@@ -215,6 +248,8 @@ fn standing_rule(
         6
     } else if !are_seen(ctx, op, earlier, entry) {
         7
+    } else if kind == KitOp::Add && !has_one_type(ctx, op, earlier, entry) {
+        8
     } else if kind == KitOp::Return
         && outer == KitOp::Func
         && !returns_results(ctx, owner, op, earlier, entry)

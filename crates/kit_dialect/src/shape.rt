@@ -220,6 +220,18 @@ fn entry_block(ctx: &Context<Kit>, region: Ptr<Region>) -> Option<Ptr<BasicBlock
     }
 }
 
+/// The block with which an operation's first region is entered.
+pub fn body_block(ctx: &Context<Kit>, op: Ptr<Operation>) -> Option<Ptr<BasicBlock>>
+    requires { IsLiveOperation ctx.now op }
+    ensures first { result ≡ at.body_block ctx.now op }
+    ensures live { IfSome result (λ block. IsLiveBlock ctx.now block) }
+{
+    match first_region(ctx, op) {
+        Some(region) => entry_block(ctx, region),
+        None => None,
+    }
+}
+
 /// A module has one region with one block without arguments.
 fn has_module_body(ctx: &Context<Kit>, op: Ptr<Operation>) -> bool
     requires { IsLiveOperation ctx.now op }
@@ -296,6 +308,7 @@ fn has_numbers(ctx: &Context<Kit>, op: Ptr<Operation>) -> bool
         KitOp::Func => results == 0 && operands == 0 && regions == 1,
         KitOp::Constant => results == 1 && operands == 0 && regions == 0,
         KitOp::Return => results == 0 && regions == 0,
+        KitOp::Add => results == 1 && operands == 2 && regions == 0,
     }
 }
 

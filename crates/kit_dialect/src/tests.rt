@@ -1,8 +1,10 @@
 //! The table of the dialect is the one that is worked out of its formats. Where formats have changed, run this by
 //! `rt try --test table_is_worked_out`, and write what it prints into `table.rt`.
 
-use crate::Kit;
-use ir_text::{Facts, PartTable, ReadDialect, table_of};
+use crate::{Kit, exec};
+use ir_names::Identifier;
+use ir_store::Context;
+use ir_text::{Facts, PartTable, ReadDialect, table_of, top_level_parse};
 use std::alloc::{AllocError, Global};
 
 /// What the table says of a part, as Rust source.
@@ -63,5 +65,61 @@ fn table_is_worked_out(rt: HostRuntime) -> Result<(), AllocError> {
         }
     }
     assert!(rt; !differs, "{text}");
+    Ok(())
+}
+
+/// A function in a module in a module.
+const NESTED: &str = "builtin.module @m {
+  ^b():
+    builtin.module @inner {
+      ^b():
+        builtin.func @twice_and_one: builtin.function <(builtin.integer i8)->(builtin.integer i8, builtin.integer i8)> {
+          ^entry(x: builtin.integer i8):
+            one = builtin.constant builtin.integer <1: i8>;
+            twice = kit.add x, x: builtin.integer i8;
+            sum = kit.add twice, one: builtin.integer i8;
+            kit.return sum, x
+        }
+    }
+}";
+
+/// What running a function of that module answers.
+fn ran(alloc: Global, names: &[&str], arguments: &[u64], limit: u64) -> Result<String, AllocError> {
+    let mut ctx: Context<Kit> = Context::new(alloc);
+    let chars: Vec<char> = NESTED.chars().collect(alloc)?;
+    let mut path = Vec::new(alloc);
+    for name in names {
+        if let Ok(identifier) = Identifier::try_new(alloc, name) {
+            path.push(identifier)?;
+        }
+    }
+    match top_level_parse(alloc, &mut ctx, &chars) {
+        Ok(root) => {
+            let result = exec(alloc, &ctx, root, &path, arguments, limit);
+            format!(in alloc; "{result:?}")
+        }
+        Err(fault) => format!(in alloc; "{fault}"),
+    }
+}
+
+#[test]
+fn runs(rt: HostRuntime) -> Result<(), AllocError> {
+    let alloc = rt.alloc();
+    let ended = "Ok(Ended([145, 200], []))";
+    let path: &[&str] = &["inner", "twice_and_one"];
+    let cases: [(&[&str], &[u64], u64, &str); 8] = [
+        (path, &[200], 4, ended),
+        (path, &[200], u64::MAX, ended),
+        (path, &[200], 3, "Ok(Limit([]))"),
+        (path, &[256], 4, "Err(WrongArguments)"),
+        (path, &[], 4, "Err(WrongArguments)"),
+        (&[], &[200], 4, "Err(WrongPath)"),
+        (&["inner"], &[200], 4, "Err(WrongPath)"),
+        (&["twice_and_one", "inner"], &[], 4, "Err(WrongPath)"),
+    ];
+    for (names, arguments, limit, want) in cases {
+        let answer = ran(alloc, names, arguments, limit)?;
+        assert_eq!(rt; answer.as_str(), want);
+    }
     Ok(())
 }

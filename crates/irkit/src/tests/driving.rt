@@ -101,14 +101,43 @@ fn mistakes_are_refused(rt: HostRuntime) -> Result<(), Fail> {
     for (words, told) in [
         ("irkit", "error: 'irkit' requires a subcommand"),
         ("irkit chec", "error: unrecognized subcommand 'chec'"),
-        ("irkit run", "error: unrecognized subcommand 'run'"),
+        ("irkit ru", "error: unrecognized subcommand 'ru'"),
+        (
+            "irkit run",
+            "error: the following required arguments were not provided",
+        ),
+        (
+            "irkit run f",
+            "error: the following required arguments were not provided",
+        ),
+        (
+            "irkit run --limit 3",
+            "error: the following required arguments were not provided",
+        ),
+        (
+            "irkit run --limit 18446744073709551616 f",
+            "error: not a number below 2^64\n",
+        ),
+        (
+            "irkit run --limit 0x3 f",
+            "error: not a number below 2^64\n",
+        ),
+        (
+            "irkit run --limit 3 f 1 18446744073709551616",
+            "error: not a number below 2^64\n",
+        ),
+        (
+            "irkit run --limit 3 f -1",
+            "error: unexpected argument '-1'",
+        ),
+        ("irkit run --limit -3 f", "error: unexpected argument '-3'"),
         ("irkit -x", "error: unexpected argument '-x'"),
         ("irkit check more", "error: unexpected argument 'more'"),
         ("irkit opt licm", "error: unknown pass\n"),
         ("irkit opt sccp licm", "error: unknown pass\n"),
-        ("irkit opt sccp", "error: pass not available yet\n"),
+        ("irkit opt dce", "error: pass not available yet\n"),
         (
-            "irkit opt dce simplify-cfg",
+            "irkit opt sccp simplify-cfg",
             "error: pass not available yet\n",
         ),
         ("irkit opt --x", "error: unexpected argument '--x'"),
@@ -128,6 +157,7 @@ fn help_goes_to_the_output(rt: HostRuntime) -> Result<(), Fail> {
         "irkit help",
         "irkit opt -h",
         "irkit help check",
+        "irkit run --help",
     ] {
         let did = driven(rt.alloc(), words, b"x", 9999, 9999)?;
         assert_eq!(rt; did.status, 0, "{words}");
@@ -150,6 +180,8 @@ fn a_line_that_is_not_written_changes_no_status(rt: HostRuntime) -> Result<(), F
         ("irkit check", b"\xff", 1),
         ("irkit opt", b"", 1),
         ("irkit opt licm", b"x", 2),
+        ("irkit run --limit x f", b"x", 2),
+        ("irkit run --limit 3 f", b"x", 1),
         ("irkit chec", b"x", 2),
     ] {
         let did = driven(rt.alloc(), words, input, 999, 0)?;

@@ -1,6 +1,9 @@
 //! Readers and writers that give little, take little or fail.
-ghost use Rattle.std.specs.Prelude.{◌≡◌, Some};
+ghost use Rattle.std.specs.Prelude.{◌≡◌, Some, false};
+ghost use Rattle.irkit.specs.Streams.{has_failed};
 
+use crate::watched::Watched;
+use std::alloc::Global;
 use std::io;
 use std::io::{ErrorKind, Read, Write};
 
@@ -49,4 +52,16 @@ impl Write for Narrow {
     fn flush(&mut self) -> io::Result<()> {
         Ok(())
     }
+}
+
+/// A writer with room for all that is written here.
+pub fn wide(alloc: Global) -> Watched<Narrow>
+    ensures { has_failed result ≡ false }
+{
+    Watched::new(Narrow {
+        taken: Vec::new(alloc),
+        step: 99999,
+        room: 99999,
+        fails: true,
+    })
 }

@@ -1,27 +1,12 @@
 //! Texts with what becomes of each, by loading, running and driving.
-ghost use Rattle.std.specs.Prelude.{◌≡◌, false};
-ghost use Rattle.irkit.specs.Streams.{has_failed};
-
 use crate::driving::drive;
 use crate::loading::load;
 use crate::running::run;
-use crate::tests::fakes::Narrow;
+use crate::tests::fakes::wide;
 use crate::watched::Watched;
 use ir_store::Context;
 use std::alloc::{AllocError, Global};
 use std::test::Fail;
-
-/// A writer with room for all that is written here.
-fn wide(alloc: Global) -> Watched<Narrow>
-    ensures { has_failed result ≡ false }
-{
-    Watched::new(Narrow {
-        taken: Vec::new(alloc),
-        step: 99999,
-        room: 99999,
-        fails: true,
-    })
-}
 
 /// The fault with which loading a text ends, or nothing. A refused one leaves nothing in the context.
 fn loaded(alloc: Global, text: &[u8]) -> Result<String, AllocError> {
@@ -48,7 +33,7 @@ fn ran(alloc: Global, text: &[u8]) -> Result<String, AllocError> {
 }
 
 /// What the program does: its status, and what it writes on its output or, where that is nothing, on its faults.
-fn driven(alloc: Global, words: &str, text: &[u8]) -> Result<(u8, String), AllocError> {
+pub fn driven(alloc: Global, words: &str, text: &[u8]) -> Result<(u8, String), AllocError> {
     let mut all = Vec::new(alloc);
     for word in words.split_whitespace() {
         all.push(String::from_str(alloc, word)?)?;
@@ -68,7 +53,7 @@ fn driven(alloc: Global, words: &str, text: &[u8]) -> Result<(u8, String), Alloc
 }
 
 /// A module with one function of this type and body.
-fn function(alloc: Global, ty: &str, body: &str) -> Result<String, AllocError> {
+pub fn function(alloc: Global, ty: &str, body: &str) -> Result<String, AllocError> {
     format!(in alloc;
         "builtin.module @m {{^b(): builtin.func @f: builtin.function <{ty}> {{{body}}}}}"
     )
@@ -167,6 +152,7 @@ fn roots_end_with_their_faults(rt: HostRuntime) -> Result<(), Fail> {
             b"a = builtin.constant builtin.integer <1: i8>",
             "rule 1 at root",
         ),
+        (b"a = kit.add a, a: builtin.integer i8", "rule 1 at root"),
         (b"a = kit.return", "syntax at 1:1"),
         (b"a = kit.return x $", "syntax at 1:1"),
         (b"a = kit.return x, $", "syntax at 1:19"),
@@ -334,8 +320,61 @@ fn bodies_end_with_their_faults(rt: HostRuntime) -> Result<(), Fail> {
             "^e(): a = builtin.constant builtin.integer <1: i8>; kit.return a",
             "rule 11 at 0.0.0.0.0.1",
         ),
+        (
+            "^e(): a = builtin.constant builtin.integer <1: i8>; b = kit.add a, a: builtin.integer i8",
+            "rule 6 at 0.0.0.0.0.1",
+        ),
     ] {
         assert!(rt; body_ends_with(rt.alloc(), body, fault)?, "{fault}");
+    }
+    Ok(())
+}
+
+#[test]
+fn sums_end_with_their_faults(rt: HostRuntime) -> Result<(), Fail> {
+    for (sum, fault) in [
+        ("c = kit.add a, a: builtin.integer i8", ""),
+        (
+            "c = kit.add a, a: builtin.integer i8; d = kit.add c, a: builtin.integer i8",
+            "",
+        ),
+        ("c = kit.add b, b: builtin.integer i16", ""),
+        ("c = kit.add a: builtin.integer i8", "syntax at 1:182"),
+        ("c = kit.add a, a, a: builtin.integer i8", "syntax at 1:185"),
+        ("c = kit.add a, a", "syntax at 1:185"),
+        ("c = kit.add a, a: i8", "syntax at 1:187"),
+        ("kit.add a, a: builtin.integer i8", "syntax at 1:169"),
+        ("c, d = kit.add a, a: builtin.integer i8", "syntax at 1:169"),
+        ("c = kit.add a, a: builtin.unit", "rule 5 at 0.0.0.0.0.2"),
+        (
+            "c = kit.add a, a: builtin.integer i65",
+            "rule 5 at 0.0.0.0.0.2",
+        ),
+        (
+            "c = kit.add a, c: builtin.integer i8",
+            "rule 7 at 0.0.0.0.0.2",
+        ),
+        (
+            "c = kit.add a, b: builtin.integer i8",
+            "rule 8 at 0.0.0.0.0.2",
+        ),
+        (
+            "c = kit.add a, b: builtin.integer i16",
+            "rule 8 at 0.0.0.0.0.2",
+        ),
+        (
+            "c = kit.add a, a: builtin.integer si8",
+            "rule 8 at 0.0.0.0.0.2",
+        ),
+        (
+            "c = kit.add a, a: builtin.integer i8; d = kit.add b, c: builtin.integer i8",
+            "rule 8 at 0.0.0.0.0.3",
+        ),
+    ] {
+        let body = format!(in rt.alloc();
+            "^e(): a = builtin.constant builtin.integer <1: i8>; b = builtin.constant builtin.integer <2: i16>; {sum}; kit.return"
+        )?;
+        assert!(rt; body_ends_with(rt.alloc(), &body, fault)?, "{sum}");
     }
     Ok(())
 }
@@ -376,5 +415,20 @@ fn texts_are_printed(rt: HostRuntime) -> Result<(), Fail> {
         "builtin.module @m \n{\n  ^b_block1v1():\n    builtin.func @f: builtin.function <(builtin.integer i8)->(builtin.integer si64, builtin.integer i8)> \n    {\n      ^e_block2v1(v0: builtin.integer i8):\n        v1 = builtin.constant builtin.integer <-1: i8>;\n        v2 = builtin.constant builtin.integer <-3: si64>;\n        kit.return v2, v0\n    }\n}\n"
     );
     assert!(rt; is_printed_again(rt.alloc(), text.as_bytes())?);
+    Ok(())
+}
+
+#[test]
+fn sums_are_printed(rt: HostRuntime) -> Result<(), Fail> {
+    let text = function(
+        rt.alloc(),
+        "(builtin.integer ui8)->(builtin.integer ui8)",
+        "^e(x: builtin.integer ui8): y=kit.add x,x:builtin.integer ui8; kit.return y",
+    )?;
+    let written = ran(rt.alloc(), text.as_bytes())?;
+    assert_eq!(rt;
+        written.as_str(),
+        "builtin.module @m \n{\n  ^b_block1v1():\n    builtin.func @f: builtin.function <(builtin.integer ui8)->(builtin.integer ui8)> \n    {\n      ^e_block2v1(v0: builtin.integer ui8):\n        v1 = kit.add v0, v0: builtin.integer ui8;\n        kit.return v1\n    }\n}\n"
+    );
     Ok(())
 }

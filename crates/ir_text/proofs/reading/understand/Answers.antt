@@ -103,11 +103,11 @@ returns-clause-says g c =
     let a = c.in-Ok.assembly in
     let mark = c.mark-mark.result in
     let to = subst (λ z. Leads at_root [] z at_end []) (sym c.deref.ensures.value) leads in
-    let made = subst (IsAssembled d.says d.values text mark s a) c.deref.ensures.value
-    (IfOk-at_ok (λ z. IsAssembled d.says d.values text mark s z xs) c.in-Ok.is (c.assemble-assembled.ensures.made to spelt c.mark-mark.ensures.mark)) in
-    let can = can_link l cs ts names r.stop r.taken es resolution c.requires.reading leads own resolved c.requires.named many d.says mark s a made in
+    let made = subst (IsAssembled d.says d.values text mark c.args.ctx.now.counter s a) c.deref.ensures.value
+    (IfOk-at_ok (λ z. IsAssembled d.says d.values text mark c.args.ctx.now.counter s z xs) c.in-Ok.is (c.assemble-assembled.ensures.made to spelt c.mark-mark.ensures.mark)) in
+    let can = can_link l cs ts names r.stop r.taken es resolution c.requires.reading leads own resolved c.requires.named many d.says mark c.args.ctx.now.counter s a made in
     let linked = c.finish.ensures.linked (mentioned_from 0 es) made.operands can in
-    answers_read l cs ts names r.stop r.taken es resolution c.requires.reading leads own resolved c.requires.named many d.says mark s a made c.finish.new.ctx c.finish.result linked c.finish.ensures.root none
+    answers_read l cs ts names r.stop r.taken es resolution c.requires.reading leads own resolved c.requires.named many d.says mark c.args.ctx.now.counter s a made c.finish.new.ctx c.finish.result linked c.finish.ensures.root none
 
 pub returns-clause-apart : goal.returns-clause-apart
 returns-clause-apart g c =
@@ -138,12 +138,12 @@ returns-clause-apart g c =
     let a = c.in-Ok.assembly in
     let mark = c.mark-mark.result in
     let to = subst (λ z. Leads at_root [] z at_end []) (sym c.deref.ensures.value) leads in
-    let made = subst (IsAssembled d.says d.values text mark s a) c.deref.ensures.value
-    (IfOk-at_ok (λ z. IsAssembled d.says d.values text mark s z xs) c.in-Ok.is (c.assemble-assembled.ensures.made to spelt c.mark-mark.ensures.mark)) in
-    let can = can_link l cs ts names r.stop r.taken es resolution c.requires.reading leads own resolved c.requires.named many d.says mark s a made in
+    let made = subst (IsAssembled d.says d.values text mark c.args.ctx.now.counter s a) c.deref.ensures.value
+    (IfOk-at_ok (λ z. IsAssembled d.says d.values text mark c.args.ctx.now.counter s z xs) c.in-Ok.is (c.assemble-assembled.ensures.made to spelt c.mark-mark.ensures.mark)) in
+    let can = can_link l cs ts names r.stop r.taken es resolution c.requires.reading leads own resolved c.requires.named many d.says mark c.args.ctx.now.counter s a made in
     let linked = c.finish.ensures.linked (mentioned_from 0 es) made.operands can in
     let live = IfOk-at_ok (λ z. IsSomeAnd z.root (IsLiveOperation s)) c.in-Ok.is (c.assemble-assembled.ensures.root to spelt) in
-    answers_apart l cs ts names r.stop r.taken es resolution c.requires.reading leads own resolved c.requires.named many d.says mark s a made c.finish.new.ctx c.finish.result linked c.finish.ensures.root live
+    answers_apart l cs ts names r.stop r.taken es resolution c.requires.reading leads own resolved c.requires.named many d.says mark c.args.ctx.now.counter s a made c.finish.new.ctx c.finish.result linked c.finish.ensures.root live
 
 pub returns-in_err-values-clause-full : goal.returns-in_err-values-clause-full
 returns-in_err-values-clause-full g c = λ e.

@@ -2,15 +2,15 @@ use Rattle.std.proofs.Common.{ap, ◌≡◌, ◌∙◌, refl, true, map, string_
 use Rattle.std.proofs.lemmas.Result.{IfErr-weaker, IfOk-weaker}
 use Rattle.clap.specs.Words.{App, FailsBy, fault_of, is_simple, is_simple_and_free, subcommand_of, takes}
 use Rattle.clap.proofs.OnLiterals.{clap_on_literals}
-use Rattle.irkit.specs.CommandLine.{irkit, optimise_app}
+use Rattle.irkit.specs.CommandLine.{irkit, optimise_app, run_app}
 use Rattle.irkit.proofs.command.parse.Goals as goal
 
 is_irkit_simple : is_simple irkit ≡ true
-unfolding clap_on_literals irkit optimise_app
+unfolding clap_on_literals irkit optimise_app run_app
 is_irkit_simple = refl
 
 is_irkit_free : is_simple_and_free irkit ≡ true
-unfolding clap_on_literals irkit optimise_app
+unfolding clap_on_literals irkit optimise_app run_app
 is_irkit_free = refl
 
 pub returns : goal.returns

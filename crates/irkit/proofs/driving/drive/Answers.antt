@@ -9,17 +9,17 @@ pub returns-clause-served : goal.returns-clause-served
 returns-clause-served g c = λ taken.
     let as_given : takes irkit (map string_bytes c.as_slice.result.now) ≡ true = ap (λ ws. takes irkit (map string_bytes ws)) c.as_slice.ensures.value ∙ taken in
     let refused = c.refuse.ensures.memory (c.in-Err.ensures.taken as_given) in
-    memory refused.0 (refl, refused.1)
+    memory refused.0 (refl {a = c.args.input.now}, refused.1)
 
 pub returns-clause-mistaken : goal.returns-clause-mistaken
 returns-clause-mistaken g c = λ mistake.
     let kinds : HasKind (fault_of irkit (map string_bytes c.args.words.items)) c.in-Err.error
     = subst (λ ws. HasKind (fault_of irkit (map string_bytes ws)) c.in-Err.error) c.as_slice.ensures.value c.in-Err.ensures.kinds in
     let ends = complained _ (kind_of c.in-Err.error) c.refuse.result _ kinds mistake c.refuse.ensures.memory c.refuse.ensures.mistake in
-    (ends.0, (refl, ends.1))
+    (ends.0, (refl {a = c.args.input.now}, ends.1))
 
 pub returns-clause-helped : goal.returns-clause-helped
 returns-clause-helped g c = λ help.
     let kinds : HasKind (fault_of irkit (map string_bytes c.args.words.items)) c.in-Err.error
     = subst (λ ws. HasKind (fault_of irkit (map string_bytes ws)) c.in-Err.error) c.as_slice.ensures.value c.in-Err.ensures.kinds in
-    (refl, helped g.W.Write.contents c.args.output.now c.refuse.new.output c.refuse.result _ (kind_of c.in-Err.error) kinds help c.refuse.ensures.memory c.refuse.ensures.help)
+    (refl {a = c.args.input.now}, helped g.W.Write.contents c.args.output.now c.refuse.new.output c.refuse.result _ (kind_of c.in-Err.error) kinds help c.refuse.ensures.memory c.refuse.ensures.help)

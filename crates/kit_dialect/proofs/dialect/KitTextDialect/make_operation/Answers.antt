@@ -1,5 +1,5 @@
 use Rattle.std.proofs.Common.{◌≡◌, ℕ, Some, sym, ap, ◌∙◌, subst}
-use Rattle.kit_dialect.specs.declared.kinds.KitOp.TheVariants.{Func, Constant, Return}
+use Rattle.kit_dialect.specs.declared.kinds.KitOp.TheVariants.{Func, Constant, Return, Add}
 use Rattle.kit_dialect.specs.Says.{refused_operation}
 use Rattle.kit_dialect.proofs.Numbered.{number_of_op, op_number, operation_made, operation_made_of}
 use Rattle.kit_dialect.proofs.dialect.KitTextDialect.make_operation.Goals as goal
@@ -27,3 +27,10 @@ returns-in-Return-clause-made c = λ n ps e h. operation_made_of c.make_return.r
 pub returns-in-Constant-clause-made : goal.returns-in-Constant-clause-made
 returns-in-Constant-clause-made c = λ n ps e h. operation_made c.make_constant.result (λ draft. draft.attributes) (λ draft. draft.result_types.items) Constant 2 c.args.parts.now c.args.ctx.now.types c.make_constant.new.ctx.types c.make_constant.ensures.made
     c.args.kind n ps (sym c.in-Constant.is) (sym (ap number_of_op c.in-Constant.is) ∙ op_number n c.args.kind e) h
+
+pub returns-in-Add-clause-refused : goal.returns-in-Add-clause-refused
+returns-in-Add-clause-refused c = λ n ps e h i f. subst (λ (m : ℕ). refused_operation m ps ≡ Some i) (sym (ap number_of_op c.in-Add.is) ∙ op_number n c.args.kind e) (c.make_add.ensures.refused i f c.args.ctx.now.types ps h)
+
+pub returns-in-Add-clause-made : goal.returns-in-Add-clause-made
+returns-in-Add-clause-made c = λ n ps e h. operation_made_of c.make_add.result (λ draft. draft.attributes) (λ draft. draft.result_types.items) Add 4 c.args.parts.now c.args.ctx.now.types c.make_add.ensures.made
+    c.args.kind n ps (sym c.in-Add.is) (sym (ap number_of_op c.in-Add.is) ∙ op_number n c.args.kind e) h

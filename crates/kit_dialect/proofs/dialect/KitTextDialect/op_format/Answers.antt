@@ -7,3 +7,7 @@ use Rattle.kit_dialect.proofs.dialect.KitTextDialect.op_format.Goals as goal
 pub returns-in-Func : goal.returns-in-Func
 unfolding trim_start trim_end chars encode
 returns-in-Func c = rw c.in-Func.is (simp step_rules refl)
+
+pub returns-in-Add : goal.returns-in-Add
+unfolding trim_start trim_end chars encode
+returns-in-Add c = rw c.in-Add.is (simp step_rules refl)
