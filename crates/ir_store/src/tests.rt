@@ -4,6 +4,7 @@ ghost use Rattle.ir_store.specs.Marks.{IsSameTree};
 use super::*;
 use ir_names::{AttributeDict, Dialects, GrowError, Identifier, TypeHandle};
 use std::alloc::{AllocError, Global};
+use std::collections::HashMap;
 use std::process::Abort;
 use std::test::Fail;
 
@@ -127,5 +128,23 @@ fn interns_types(rt: HostRuntime) -> Result<(), Fail> {
     assert!(rt; first != second);
     assert_eq!(rt; ctx.type_key(second), Some(&8));
     assert_eq!(rt; ctx.type_key(TypeHandle::new(2)), None);
+    Ok(())
+}
+
+#[test]
+fn lists_stay_where_nothing_is_put(rt: HostRuntime) -> Result<(), Fail> {
+    let mut ctx: Context<Tiny> = Context::new(rt.alloc());
+    let function = build(&rt, rt.alloc(), &mut ctx)?;
+    ctx.put_before(rt.alloc(), &HashMap::new(rt.alloc()))?;
+    ctx.replace_operands(&HashMap::new(rt.alloc()));
+    assert!(rt; function.is_live(&ctx));
+    assert_eq!(rt; function.num_regions(&ctx), 1);
+    let region = function.get_region(&ctx, 0);
+    assert_eq!(rt; region.num_blocks(&ctx), 1);
+    let block = region.get_block(&ctx, 0);
+    assert_eq!(rt; block.num_operations(&ctx), 1);
+    let add = block.get_operation(&ctx, 0);
+    assert_eq!(rt; add.get_parent_block(&ctx), Some(block));
+    assert_eq!(rt; add.get_num_operands(&ctx), 2);
     Ok(())
 }

@@ -1,4 +1,4 @@
-//! Sparse conditional constant propagation.
+//! Sparse conditional constant propagation (Wegman and Zadeck, Constant propagation with conditional branches, 1991).
 //!
 //! Of a function whose blocks end with a return, the entry block alone runs. It is gone through once: constants are known,
 //! and so is the sum of known numbers. Each addition with a known sum gets a constant right before it, which all operands
@@ -122,12 +122,12 @@ fn propagate(alloc: Global, ctx: &mut Context<Kit>, root: Ptr<Operation>) -> Res
 }
 
 /// Puts a constant right before each addition of known numbers in the functions at or below an operation, and has all
-/// operands name it in the place of the addition's result.
+/// operands name it in the place of the addition's result. Refused where memory is, or where the counter of values hasn't
+/// room for the constants.
 ///
 /// Takes time in proportion to the context. After an `Err` the context is to be given up.
 pub fn sccp(alloc: Global, ctx: &mut Context<Kit>, root: Ptr<Operation>) -> Result<(), GrowError>
     requires { IsLiveOperation ctx.old root }
-    ensures folds { OnOk result ((fs : List Folded) × folding.FoldsIn ctx.old root fs × (ctx.new ≡ folding.after_folds ctx.old fs)) }
     ensures sccp { OnOk result (RunsSccp ctx.old ctx.new root) }
     ensures full { result ≡ Err CounterFull → FillsBySccp ctx.old root }
     ensures live { KeepsLive ctx.old ctx.new }

@@ -1,11 +1,12 @@
 //! The table of the dialect is the one that is worked out of its formats. Where formats have changed, run this by
 //! `rt try --test table_is_worked_out`, and write what it prints into `table.rt`.
 
-use crate::{Kit, exec};
+use crate::{Kit, exec, sccp};
 use ir_names::Identifier;
 use ir_store::Context;
 use ir_text::{Facts, PartTable, ReadDialect, table_of, top_level_parse};
 use std::alloc::{AllocError, Global};
+use std::test::Fail;
 
 /// What the table says of a part, as Rust source.
 fn source_of(alloc: Global, facts: &Facts) -> Result<String, AllocError> {
@@ -119,6 +120,49 @@ fn runs(rt: HostRuntime) -> Result<(), AllocError> {
     ];
     for (names, arguments, limit, want) in cases {
         let answer = ran(alloc, names, arguments, limit)?;
+        assert_eq!(rt; answer.as_str(), want);
+    }
+    Ok(())
+}
+
+/// A function that returns the sum of two constants.
+const SUM: &str = "builtin.module @m {
+  ^b():
+    builtin.func @f: builtin.function <()->(builtin.integer i8)> {
+      ^entry():
+        a = builtin.constant builtin.integer <255: i8>;
+        b = builtin.constant builtin.integer <1: i8>;
+        s = kit.add a, b: builtin.integer i8;
+        kit.return s
+    }
+}";
+
+/// What running that function answers, as it is read or after constant propagation.
+fn ran_sum(alloc: Global, is_propagated: bool, limit: u64) -> Result<String, Fail> {
+    let mut ctx: Context<Kit> = Context::new(alloc);
+    let chars: Vec<char> = SUM.chars().collect(alloc)?;
+    let mut path = Vec::new(alloc);
+    path.push(Identifier::new(alloc, "f")?)?;
+    let root = top_level_parse(alloc, &mut ctx, &chars)?;
+    if is_propagated {
+        sccp(alloc, &mut ctx, root)?;
+    }
+    if !root.is_live(&ctx) {
+        return Ok(String::from_str(alloc, "the root is gone")?);
+    }
+    let result = exec(alloc, &ctx, root, &path, &[], limit);
+    Ok(format!(in alloc; "{result:?}")?)
+}
+
+#[test]
+fn propagated_sums_are_returned(rt: HostRuntime) -> Result<(), Fail> {
+    for (is_propagated, limit, want) in [
+        (false, 4, "Ok(Ended([0], []))"),
+        (false, 3, "Ok(Limit([]))"),
+        (true, 5, "Ok(Ended([0], []))"),
+        (true, 4, "Ok(Limit([]))"),
+    ] {
+        let answer = ran_sum(rt.alloc(), is_propagated, limit)?;
         assert_eq!(rt; answer.as_str(), want);
     }
     Ok(())
