@@ -34,6 +34,11 @@ pub fn propagation_keeps_rules()
     ensures numbered { (tree after : Entity ℕ) → IsNumbered tree → IsSccp tree after → IsNumbered after }
 {}
 
+/// Constant propagation makes one module of a module.
+pub fn propagation_makes_one_module()
+    ensures { (tree after other : Entity ℕ) → IsClosed kit_language tree → KeepsRules tree → IsSccp tree after → IsSccp tree other → after ≡ other }
+{}
+
 /// A function has one list of most precise facts at most.
 pub fn most_precise_facts_are_unique()
     ensures { (f : Fun ℕ) (k l : Facts ℕ) → IsMostPrecise (Some f) k → IsMostPrecise (Some f) l → k ≡ l }

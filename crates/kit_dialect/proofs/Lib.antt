@@ -90,3 +90,4 @@ pub mod FoldFacts
 pub mod FoldEnd
 pub mod FoldCounts
 pub mod RunsPass
+pub mod PassOne
