@@ -109,3 +109,53 @@ fn clones_attributes(rt: HostRuntime) -> Result<(), Fail> {
     assert_eq!(rt; TinyKind::Define, TinyKind::Define);
     Ok(())
 }
+
+#[test]
+fn legalises_sources(rt: HostRuntime) -> Result<(), Fail> {
+    let mut legaliser = Legaliser::new(rt.alloc());
+    let rows = [
+        ("hello_", "hello_"),
+        ("hello.", "hello__0"),
+        ("hello__0", "hello__0_1"),
+        ("", "_"),
+        ("_", "__2"),
+        ("hello.", "hello__0"),
+        ("7é", "_7_"),
+    ];
+    for (source, name) in rows {
+        assert_eq!(rt; legaliser.legalise(source)?.as_str(), name);
+    }
+    for (source, name) in rows {
+        let name = Identifier::try_new(rt.alloc(), name)?;
+        assert_eq!(rt; legaliser.source_name(&name), Some(source));
+    }
+    let other = Identifier::try_new(rt.alloc(), "hello")?;
+    assert_eq!(rt; legaliser.source_name(&other), None);
+    Ok(())
+}
+
+#[test]
+fn joins_identifiers(rt: HostRuntime) -> Result<(), Fail> {
+    let first = Identifier::try_new(rt.alloc(), "a_")?;
+    let second = Identifier::clean(rt.alloc(), "9-é")?;
+    assert_eq!(rt; second.as_str(), "_9__");
+    let joined = ((first + "1")? + &second)?;
+    assert_eq!(rt; joined.as_str(), "a_1_9__");
+    let same = Identifier::try_from_string(joined.into_string())?;
+    assert_eq!(rt; same, ident(rt.alloc(), "a_1_9__")?);
+    let text = String::from_str(rt.alloc(), "1")?;
+    assert_eq!(rt; Identifier::try_from_string(text), Err(InvalidIdentifier));
+    Ok(())
+}
+
+#[test]
+fn shows_ids(rt: HostRuntime) -> Result<(), Fail> {
+    assert_eq!(rt; OpName::try_new("1"), Err(InvalidIdentifier));
+    let id = OpId {
+        dialect: DialectName::try_new("tiny")?,
+        name: OpName::try_new("define")?,
+    };
+    assert_eq!(rt; format!(in rt.alloc(); "{id}")?.as_str(), "tiny.define");
+    assert_eq!(rt; id.name.to_identifier(rt.alloc())?.as_str(), "define");
+    Ok(())
+}

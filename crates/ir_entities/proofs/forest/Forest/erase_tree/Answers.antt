@@ -1,0 +1,8 @@
+use Rattle.std.proofs.Common.{ℕ, subst}
+use Rattle.ir_entities.specs.Prune.{ErasesInside}
+use Rattle.ir_entities.specs.Shape.{itself}
+use Rattle.ir_entities.specs.declared.forest.Place.TheVariants.{Op}
+use Rattle.ir_entities.proofs.forest.Forest.erase_tree.Goals as goal
+
+pub returns-clause-gone : goal.returns-clause-gone
+returns-clause-gone g c = (subst (λ (k : ℕ). ErasesInside c.args.self.now c.free_op_tree.new.self (Op k)) c.slot.ensures c.free_op_tree.ensures.erased).refused_ops c.args.op c.requires.op itself

@@ -1,0 +1,5 @@
+use Rattle.ir_entities.proofs.Takes.{block_freed_seen}
+use Rattle.ir_entities.proofs.forest.Forest.free_block_at.Goals as goal
+
+pub returns-clause-erased : goal.returns-clause-erased
+returns-clause-erased g c = block_freed_seen _ c.args.self.now c.self.view_is c.args.block c.erase.new.self c.key_of-key.result c.key_of-key.ensures.slot c.key_of-key.ensures.live c.erase.ensures.slot c.requires.bare c.erase.ensures.spent c.erase.ensures.spent_now

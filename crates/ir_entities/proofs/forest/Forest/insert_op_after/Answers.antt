@@ -1,0 +1,5 @@
+use Rattle.ir_entities.proofs.Trees.{later_op}
+use Rattle.ir_entities.proofs.forest.Forest.insert_op_after.Goals as goal
+
+pub invariant_of-self : goal.invariant_of-self
+invariant_of-self g c = later_op _ c.args.self.now c.self.view_is c.self.invariant c.insert_after.new.self c.insert_after.ensures.nodes c.args.mark c.args.op c.requires.op c.requires.apart c.insert_after.ensures.lists

@@ -1,0 +1,13 @@
+pub mod Arena
+pub mod Lends
+pub mod Links
+pub mod Lists
+pub mod Unique
+pub mod Shape
+pub mod Forest
+pub mod Prune
+pub mod Uses
+pub mod Threads
+pub mod Lent
+pub mod Placed
+pub mod Walk
