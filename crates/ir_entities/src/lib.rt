@@ -21,4 +21,6 @@ pub use siblings::{Backward, Ends, Forward, Node, Siblings, Walk};
 pub use uses::{Spot, Uses, UsesOf};
 
 #[cfg(test)]
+mod making_tests;
+#[cfg(test)]
 mod uses_tests;
