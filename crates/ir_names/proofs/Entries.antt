@@ -1,11 +1,14 @@
 -- Look-ups in the entries of an attribute dictionary.
-use Rattle.std.proofs.Common.{◌≡◌, ℕ, Bool, true, false, cond, List, [], ◌∷◌, Option, Some, None, String, refl, ap, ◌∙◌}
-use Rattle.std.specs.Map.{lookup}
+use Rattle.std.proofs.Common.{◌≡◌, ℕ, Bool, true, false, cond, List, [], ◌∷◌, Option, Some, None, String, option_map, refl, ap, ◌∙◌}
+use Rattle.std.specs.Map.{lookup, remove_entry}
+use Rattle.std.proofs.lemmas.Bool.{false≢true}
+use Rattle.std.proofs.lemmas.Map.{lookup-remove_entry}
 use Rattle.std.specs.Str.{bytes_eq}
 use Rattle.std.specs.String.{string_bytes, string_eq}
 use Rattle.std.specs.Cmp.Lexicographic.{nat_list_eq_equiv}
 use Rattle.indexmap.specs.IndexMap.{insert_entry}
-use Rattle.ir_names.specs.Dictionary.{named_entries, attribute_at, with_attribute, SetsAttribute}
+use Rattle.ir_names.specs.declared.dictionary.Entry.{Entry}
+use Rattle.ir_names.specs.Dictionary.{named, named_entries, all_entries, is_under, attribute_at, with_attribute, without_attribute, SetsAttribute, RemovesAttribute, AreNamesDistinct}
 
 -- a look-up by bytes, over the entries as they are held
 pub attribute_at-named_entries : {X Y : Type 0} (key : List ℕ) (es : List (String Y × X)) → attribute_at (named_entries es) key ≡ lookup (λ k. bytes_eq key (string_bytes k)) es
@@ -20,6 +23,13 @@ named-cond {X} false e v es rest done h = ap (λ (r : List (List ℕ × X)). (st
 pub named_entries-insert_entry : {X Y : Type 0} (k : String Y) (v : X) (es : List (String Y × X)) → named_entries (insert_entry string_eq es k v) ≡ with_attribute (named_entries es) (string_bytes k) v
 named_entries-insert_entry k v [] = refl
 named_entries-insert_entry k v (e ∷ es) = named-cond (string_eq k e.0) e v es (insert_entry string_eq es k v) _ (named_entries-insert_entry k v es)
+
+-- an insertion behind a first entry of another name
+pub put_behind : {D K A T Y : Type 0} (first : Entry D K A T) (es new : List (String Y × A)) (k : String Y) (key : List ℕ) (attr : A)
+    → string_bytes k ≡ key → bytes_eq key (string_bytes first.name) ≡ false → new ≡ insert_entry string_eq es k attr
+    → named first ∷ named_entries new ≡ with_attribute (named first ∷ named_entries es) key attr
+put_behind first es new k key attr name other put =
+    rw other (ap (λ es. named first ∷ es) (ap named_entries put ∙ (named_entries-insert_entry k attr es ∙ ap (λ key. with_attribute (named_entries es) key attr) name)))
 
 module _ {V : Type 0} where
   same_test : (p q : Bool) (v w l : V) → p ≡ q → cond q v l ≡ cond p v (cond q w l)
@@ -47,3 +57,41 @@ module _ {X : Type 0} where
       (λ h. nat_list_eq_equiv.congr key e.0 other h ∙ nat_list_eq_equiv.symm e.0 other)
       (λ h k. nat_list_eq_equiv.symm key other ∙ (nat_list_eq_equiv.congr other e.0 key k ∙ (nat_list_eq_equiv.symm e.0 key ∙ h)))
       (attribute_at-with_attribute es key attr other)
+
+-- entries of which one is taken out, seen by the names' bytes
+without_step : {X Y : Type 0} (b : Bool) (e : String Y × X) (es rest : List (String Y × X)) (done : List (List ℕ × X)) → named_entries rest ≡ done → named_entries (cond b es (e ∷ rest)) ≡ cond b (named_entries es) ((string_bytes e.0, e.1) ∷ done)
+without_step true e es rest done h = refl
+without_step {X} false e es rest done h = ap (λ (r : List (List ℕ × X)). (string_bytes e.0, e.1) ∷ r) h
+
+pub named_entries-remove_entry : {X Y : Type 0} (key : List ℕ) (es : List (String Y × X)) → named_entries (remove_entry (λ k. bytes_eq key (string_bytes k)) es) ≡ without_attribute (named_entries es) key
+named_entries-remove_entry key [] = refl
+named_entries-remove_entry key (e ∷ es) = without_step (bytes_eq key (string_bytes e.0)) e es (remove_entry (λ k. bytes_eq key (string_bytes k)) es) _ (named_entries-remove_entry key es)
+
+-- a look-up after an attribute is taken out
+pub attribute_at-without_attribute : {X : Type 0} (es : List (List ℕ × X)) (key : List ℕ) → AreNamesDistinct es → RemovesAttribute es (without_attribute es key) key
+attribute_at-without_attribute es key d other =
+    lookup-remove_entry nat_list_eq_equiv (bytes_eq key) (λ x y h. nat_list_eq_equiv.congr key x y h) other es d
+
+module _ {D K A T Y : Type 0} where
+  -- what is not under the first entry's name is among the others
+  pub attribute_at-others : (first : Option (Entry D K A T)) (es : List (String Y × A)) (key : List ℕ) → is_under first key ≡ false → attribute_at (all_entries first es) key ≡ lookup (λ k. bytes_eq key (string_bytes k)) es
+  unfolding all_entries
+  attribute_at-others None es key h = attribute_at-named_entries key es
+  attribute_at-others (Some e) es key h = rw h (attribute_at-named_entries key es)
+
+  pub without_attribute-others : (first : Option (Entry D K A T)) (es new : List (String Y × A)) (key : List ℕ) → is_under first key ≡ false → new ≡ remove_entry (λ k. bytes_eq key (string_bytes k)) es
+      → all_entries first new ≡ without_attribute (all_entries first es) key
+  unfolding all_entries
+  without_attribute-others None es new key h n = ap named_entries n ∙ named_entries-remove_entry key es
+  without_attribute-others (Some e) es new key h n = rw h (ap (λ es. named e ∷ es) (ap named_entries n ∙ named_entries-remove_entry key es))
+
+  -- what is under it is the first entry's
+  pub attribute_at-first : (first : Option (Entry D K A T)) (es : List (String Y × A)) (key : List ℕ) → is_under first key ≡ true → attribute_at (all_entries first es) key ≡ option_map (λ e. e.attr) first
+  unfolding all_entries
+  attribute_at-first None es key h = absurd (false≢true h)
+  attribute_at-first (Some e) es key h = rw h refl
+
+  pub without_attribute-first : (first : Option (Entry D K A T)) (es : List (String Y × A)) (key : List ℕ) → is_under first key ≡ true → all_entries {D = D} {K = K} {A = A} {T = T} None es ≡ without_attribute (all_entries first es) key
+  unfolding all_entries
+  without_attribute-first None es key h = absurd (false≢true h)
+  without_attribute-first (Some e) es key h = rw h refl

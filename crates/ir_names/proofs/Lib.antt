@@ -1,3 +1,9 @@
+pub mod Copied
 pub mod Entries
+pub mod Equalled
+pub mod HashTotal
 pub mod Identifiers
 pub mod Legalised
+pub mod Lent
+pub mod Ordered
+pub mod WellNamed

@@ -6,3 +6,8 @@ pub mod Names
 pub mod Interfaces
 pub mod Legaliser
 pub mod Paired
+pub mod Lends
+pub mod Equal
+pub mod Members
+pub mod Hashed
+pub mod HashLaw

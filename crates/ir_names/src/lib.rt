@@ -12,7 +12,7 @@ mod names;
 mod place;
 
 pub use dialects::Dialects;
-pub use dictionary::AttributeDict;
+pub use dictionary::{AttributeDict, Attributes};
 pub use growth::GrowError;
 pub use identifier::{Identifier, IdentifierError, InvalidIdentifier, ident};
 pub use interfaces::{AttrInterface, OpInterface, RegionKind, TypeInterface, TypeTest};

@@ -1,0 +1,31 @@
+-- What an attribute dictionary ends as, where a `&mut` to one of its attributes is returned.
+use Rattle.std.specs.Prelude.{ℕ, List, Option, Some, None}
+use Rattle.std.specs.Borrow.{LendsIf, Fml, RattleType, MutBor}
+use Rattle.std.specs.HashMap.Lent.{HashMembers}
+use Rattle.std.specs.declared.fmt.Debug as debug
+use Rattle.std.specs.contracts.option.Option.{the_row as option_row}
+use Rattle.ir_names.specs.declared.dictionary.Entry.{Entry}
+use Rattle.ir_names.specs.contracts.dictionary.AttributeDict.{the_row}
+use Rattle.ir_names.specs.contracts.dictionary.Entry.{the_row as the_entry_row}
+use Rattle.ir_names.specs.Dictionary.{with_attribute}
+
+-- the entry with another attribute, if there is one
+abbrev pub with_first_attribute : {D K A T : Type 0} → Option (Entry D K A T) → A → Option (Entry D K A T)
+with_first_attribute None w = None
+with_first_attribute (Some e) w = Some (record e { attr = w })
+
+module _ (D K A T : RattleType) where
+  -- the entry has the last attribute written through r
+  abbrev pub lends_first : MutBor (Option (Entry D.Denot K.Denot A.Denot T.Denot)) → Option (MutBor A.Denot) → Fml
+  lends_first s r = LendsIf (option_row (the_entry_row D K A T)) A s r (with_first_attribute s.now) s.now
+
+module _ (D K A T : RattleType) (k : HashMembers K.Denot) (kd : debug.Ghosts K.Denot) (a : HashMembers A.Denot) (ad : debug.Ghosts A.Denot) (t : HashMembers T.Denot) (td : debug.Ghosts T.Denot) where
+  -- the dictionary's type, as the logic holds it
+  abbrev pub dictionary_row : RattleType
+  dictionary_row =
+      the_row D K A T (record { eq = k.eq }) (record { hash_input = k.hash_input }) kd (record { eq = a.eq }) (record { hash_input = a.hash_input }) ad
+      (record { eq = t.eq }) (record { hash_input = t.hash_input }) td
+
+  -- the last attribute written through r stands under the name, in the place of what stood there, and at `None` nothing changes
+  abbrev pub lends_attribute : MutBor (List (List ℕ × A.Denot)) → List ℕ → Option (MutBor A.Denot) → Fml
+  lends_attribute s key r = LendsIf dictionary_row A s r (with_attribute s.now key) s.now
