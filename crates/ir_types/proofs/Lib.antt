@@ -1,0 +1,3 @@
+pub mod Places
+pub mod Handles
+pub mod Bodies

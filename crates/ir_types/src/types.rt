@@ -1,0 +1,199 @@
+//! The types of a context, each interned once.
+ghost use Rattle.std.specs.Prelude.{◌≡◌, ◌↔◌, ◌<◌, [], true, false, IsTrue, Ok, Some, IfOk, OnOk, OnErr, length, option_copied};
+ghost use Rattle.std.specs.Borrow.{sem};
+
+use crate::{DialectTables, SavedKey};
+use indexmap::IndexSet;
+use ir_names::{TypeHandle, TypeInterface};
+use std::alloc::{AllocError, Global};
+use std::marker::Model;
+
+/// The types of a context, each with its key, and what the context keeps once beside them.
+///
+/// Equal keys have one handle, and a handle stands for its key for good. A type may have a body
+/// beside its key, which is no part of what makes types equal.
+#[derive(Drop)]
+pub struct Types<D: DialectTables> {
+    keys: IndexSet<D::TypeKey>,
+    // The body at an index is that of the type whose key stands at the index.
+    bodies: Vec<Option<D::TypeBody>>,
+    saved: IndexSet<D::Saved>,
+}
+
+impl<D: DialectTables> Model for Types<D> {
+    ghost use Rattle.std.specs.Prelude.{◌≡◌, length};
+    ghost use Rattle.ir_types.specs.Views.{TypesView};
+
+    ghost Value = { TypesView D.TypeKey D.TypeBody D.Saved };
+
+    ghost view = { λ t. record { keys = t.keys.keys; bodies = t.bodies.items; saved = t.saved.keys } };
+
+    ghost invariant = { λ t. length t.keys.keys ≡ length t.bodies.items };
+}
+
+impl<D: DialectTables> Types<D> {
+    ghost use Rattle.ir_names.specs.declared.kinds.TypeHandle.{TypeHandle};
+    ghost use Rattle.ir_types.specs.declared.saved.SavedKey.{SavedKey};
+    ghost use Rattle.ir_types.specs.Lends.{lends_body};
+    ghost use Rattle.ir_types.specs.Interned.{IsKnown, key_at, body_at, IsSaved, saved_at, KeepsTypes, KeepsSaved, passes, HasDistinctTypes, next_handle, has_key, handle_of, with_type, HasDistinctSaved, next_saved_key, has_saved, saved_key_of, with_saved};
+
+    /// No type and no saved value.
+    pub fn new(alloc: Global) -> Types<D>
+        ensures { result ≡ record { keys = []; bodies = []; saved = [] } }
+    {
+        Types {
+            keys: IndexSet::new(alloc),
+            bodies: Vec::new(alloc),
+            saved: IndexSet::new(alloc),
+        }
+    }
+
+    /// How many types there are.
+    pub fn len(&self) -> usize
+        ensures { result ≡ length self.now.keys }
+    {
+        self.keys.len()
+    }
+
+    /// Whether there is no type.
+    pub fn is_empty(&self) -> bool
+        ensures { IsTrue result ↔ (self.now.keys ≡ []) }
+    {
+        self.keys.is_empty()
+    }
+
+    /// The handle of the type with this key.
+    ///
+    /// Where a type has an equal key, nothing changes and no memory is asked for. A new type comes
+    /// behind the others, and has no body.
+    pub fn intern(&mut self, key: D::TypeKey) -> Result<TypeHandle, AllocError>
+        ensures known { (ty : TypeHandle) → (kept : D.TypeKey) → key_at self.old ty ≡ Some kept → D.TypeKey.eq key kept ≡ true → (result ≡ Ok ty) × (self.new ≡ self.old) }
+        ensures fresh { has_key D.TypeKey.eq self.old key ≡ false → IfOk result (λ ty. ty ≡ next_handle self.old) }
+        ensures handle { IfOk result (λ ty. ty ≡ handle_of D.TypeKey.eq self.old key) }
+        ensures ok { OnOk result (self.new ≡ with_type D.TypeKey.eq self.old key) }
+        ensures key { IfOk result (λ ty. (kept : D.TypeKey) × (key_at self.new ty ≡ Some kept) × (D.TypeKey.eq key kept ≡ true)) }
+        ensures same { IfOk result (λ ty. (other : TypeHandle) → (kept : D.TypeKey) → key_at self.new other ≡ Some kept → ((other ≡ ty) ↔ (D.TypeKey.eq key kept ≡ true))) }
+        ensures keeps { KeepsTypes self.old self.new }
+        ensures err { OnErr result (self.new ≡ self.old) }
+    {
+        // So the handle that is found is the only one of the key.
+        self.know_distinct();
+        if let Some(number) = self.keys.get_index_of(&key) {
+            return Ok(TypeHandle::new(number));
+        }
+        self.bodies.reserve(1)?;
+        let (number, _) = self.keys.insert_full(key)?;
+        self.bodies.push(None)?;
+        Ok(TypeHandle::new(number))
+    }
+
+    /// The key of a type, or `None` for a handle that leads to none.
+    pub fn key(&self, ty: TypeHandle) -> Option<&D::TypeKey>
+        ensures { option_copied result ≡ key_at self.now ty }
+    {
+        self.keys.get_index(ty.number())
+    }
+
+    /// Whether the handle leads to a type.
+    pub fn is_known(&self, ty: TypeHandle) -> bool
+        ensures { IsTrue result ↔ IsKnown self.now ty }
+    {
+        ty.number() < self.keys.len()
+    }
+
+    /// The body of a type that has one. A handle that leads to no type has none.
+    pub fn body(&self, ty: TypeHandle) -> Option<&D::TypeBody>
+        ensures { option_copied result ≡ body_at self.now ty }
+    {
+        self.bodies.get(ty.number())?.as_ref()
+    }
+
+    /// Lends the body of a type, to be given to it, changed or taken.
+    pub fn body_mut(&mut self, ty: TypeHandle) -> &mut Option<D::TypeBody>
+        requires { IsKnown self.old ty }
+
+        // The first three lines name the type of `self`: by the dialect, its types, and what its traits say of them.
+        ensures* lends { sem 𝓛 (lends_body D.row D.TypeKind.row D.AttrKind.row D.TypeBody.row D.Saved.row D.Location.row D.OpKind.row D.Attr.row D.TypeKey.row
+            D.DialectTables.own D.OpKind.PartialEq D.OpKind.Hash.own D.OpKind.Debug D.Attr.PartialEq D.Attr.Hash.own D.Attr.Debug D.TypeKey.PartialEq D.TypeKey.Hash.own D.TypeKey.Debug
+            D.TypeKind.PartialEq D.TypeKind.Hash.own D.TypeKind.Debug D.AttrKind.PartialEq D.AttrKind.Hash.own D.AttrKind.Debug D.Saved.PartialEq D.Saved.Hash.own D.Location.PartialEq D.Location.Hash.own
+            self.entry ty result) }
+        ensures value { result.now ≡ body_at self.old ty }
+    {
+        &mut self.bodies[ty.number()]
+    }
+
+    /// Whether the type is of this kind. A handle that leads to no type is of none.
+    pub fn has_kind(&self, ty: TypeHandle, kind: D::TypeKind) -> bool
+        ensures { result ≡ passes (λ key. D.TypeKind.eq (D.kind_of_type key) kind) self.now ty }
+    {
+        match self.key(ty) {
+            Some(key) => D::type_kind(key) == kind,
+            None => false,
+        }
+    }
+
+    /// Whether the type implements the interface. A handle that leads to no type implements none.
+    pub fn implements(&self, ty: TypeHandle, interface: TypeInterface) -> bool
+        ensures { result ≡ passes (λ key. D.type_has key interface) self.now ty }
+    {
+        match self.key(ty) {
+            Some(key) => D::type_implements(key, interface),
+            None => false,
+        }
+    }
+
+    /// A law: handles are equal exactly where the keys of their types are.
+    pub fn know_distinct(&self)
+        ensures { HasDistinctTypes D.TypeKey.eq self.now }
+    {
+        let _ = self.keys.len();
+    }
+
+    /// A law: each type has a place for its body.
+    pub fn know_bodies(&self)
+        ensures { length self.now.bodies ≡ length self.now.keys }
+    {
+        let _ = self.keys.len();
+    }
+
+    /// Keeps a value, and answers its key.
+    ///
+    /// Where an equal value is kept, nothing changes and no memory is asked for.
+    pub fn save(&mut self, value: D::Saved) -> Result<SavedKey, AllocError>
+        ensures known { (key : SavedKey) → (kept : D.Saved) → saved_at self.old key ≡ Some kept → D.Saved.eq value kept ≡ true → (result ≡ Ok key) × (self.new ≡ self.old) }
+        ensures fresh { has_saved D.Saved.eq self.old value ≡ false → IfOk result (λ key. key ≡ next_saved_key self.old) }
+        ensures key { IfOk result (λ key. key ≡ saved_key_of D.Saved.eq self.old value) }
+        ensures ok { OnOk result (self.new ≡ with_saved D.Saved.eq self.old value) }
+        ensures value { IfOk result (λ key. (kept : D.Saved) × (saved_at self.new key ≡ Some kept) × (D.Saved.eq value kept ≡ true)) }
+        ensures same { IfOk result (λ key. (other : SavedKey) → (kept : D.Saved) → saved_at self.new other ≡ Some kept → ((other ≡ key) ↔ (D.Saved.eq value kept ≡ true))) }
+        ensures keeps { KeepsSaved self.old self.new }
+        ensures err { OnErr result (self.new ≡ self.old) }
+    {
+        // So the key that is found is the only one of the value.
+        self.know_saved_distinct();
+        let (number, _) = self.saved.insert_full(value)?;
+        Ok(SavedKey { number })
+    }
+
+    /// Whether the key leads to a saved value.
+    pub fn is_saved(&self, key: SavedKey) -> bool
+        ensures { IsTrue result ↔ IsSaved self.now key }
+    {
+        key.number < self.saved.len()
+    }
+
+    /// The saved value under a key.
+    pub fn saved(&self, key: SavedKey) -> &D::Saved
+        requires { IsSaved self.now key }
+        ensures { saved_at self.now key ≡ Some result.now }
+    {
+        &self.saved.as_slice()[key.number]
+    }
+
+    /// A law: keys are equal exactly where their saved values are.
+    pub fn know_saved_distinct(&self)
+        ensures { HasDistinctSaved D.Saved.eq self.now }
+    {
+        let _ = self.saved.len();
+    }
+}
