@@ -14,5 +14,6 @@ pub mod Naming
 pub mod Places
 pub mod Spans
 pub mod RowWalks
+pub mod RowEdits
 pub mod Takes
 pub mod Orders

@@ -1,14 +1,11 @@
 -- What is made stands nowhere and holds nothing.
-use Rattle.std.proofs.Common.{◌≡◌, ℕ, ◌≤◌, ◌||◌, true, false, eqb, List, [], ◌∷◌, length, Option, Some, None, IsSome, Result, Ok, Err, IfOk, refl, sym, ap, subst, ◌∙◌}
-use Rattle.std.proofs.lemmas.Bool.{eq-eqb, or_left, both_ways, false_from_ne_true}
+use Rattle.std.proofs.Common.{◌≡◌, ℕ, ◌≤◌, true, false, eqb, List, [], ◌∷◌, length, IsSome, Result, Ok, Err, IfOk, refl, sym, ap, subst, ◌∙◌}
+use Rattle.std.proofs.lemmas.Bool.{eq-eqb, or_left, both_ways}
 use Rattle.ir_entities.specs.Lists.{Lists}
 use Rattle.ir_entities.specs.Links.{has, list_at}
 use Rattle.ir_entities.specs.declared.arena.Slot.{Slot}
 use Rattle.ir_entities.specs.declared.arena.Key.{Key}
 use Rattle.ir_entities.specs.Arena.{held, SetsSlot, ClearsSlot}
-use Rattle.ir_entities.specs.declared.forest.Place.{Place}
-use Rattle.ir_entities.specs.declared.forest.Place.TheVariants.{Op, Block, Region}
-use Rattle.ir_entities.specs.Shape.{IsIn}
 use Rattle.ir_entities.specs.Forest.{Forest, AreMembers, IsForest, shape_of}
 use Rattle.ir_entities.proofs.Trees.{none_is_not_some, grounded_out, less_by_levels}
 

@@ -2,10 +2,10 @@
 use Rattle.std.proofs.Common.{◌≡◌, ◌≢◌, ◌⊎◌, inl, inr, ℕ, zero, suc, ◌-◌, ◌<◌, ◌≤◌, true, false, nat_eq, nat_le, nat_lt, List, [], ◌∷◌, ◌++◌, length, insert, remove, slice_get, Option, Some, None, refl, sym, ap, subst, ◌∙◌, arith}
 use Rattle.std.proofs.lemmas.Bool.{cases_order, eq-eqb, ne_eqb, le-leb, lt-leb, lt-ltb, le-ltb}
 use Rattle.std.proofs.lemmas.Option.{slice_get_within}
-use Rattle.ir_entities.specs.Uses.{Place, at_index}
-use Rattle.ir_entities.specs.Placed.{place_at, IsPlaced, shifted_up, shifted_down, KeepsOtherRows, PushesPlace, InsertsPlace, RemovesPlace, StandsAlike, ClearsRow, Renumbers}
+use Rattle.ir_entities.specs.Uses.{Place}
+use Rattle.ir_entities.specs.Placed.{place_at, IsPlaced, shifted_up, shifted_down, KeepsOtherRows, PushesPlace, InsertsPlace, RemovesPlace, StandsAlike, ClearsRow}
 
-differ : (a b : ℕ) → (a ≡ b) ⊎ (a ≢ b)
+pub differ : (a b : ℕ) → (a ≡ b) ⊎ (a ≢ b)
 differ a b = by (cases_order a b)
   where
     by : (a ≡ b) ⊎ ((a < b) ⊎ (b < a)) → (a ≡ b) ⊎ (a ≢ b)
@@ -13,7 +13,7 @@ differ a b = by (cases_order a b)
     by (inr (inl h)) = inr (λ e. omega arith)
     by (inr (inr h)) = inr (λ e. omega arith)
 
-below_or_not : (a b : ℕ) → (a < b) ⊎ (b ≤ a)
+pub below_or_not : (a b : ℕ) → (a < b) ⊎ (b ≤ a)
 below_or_not a b = by (cases_order a b)
   where
     by : (a ≡ b) ⊎ ((a < b) ⊎ (b < a)) → (a < b) ⊎ (b ≤ a)
@@ -21,7 +21,7 @@ below_or_not a b = by (cases_order a b)
     by (inr (inl h)) = inl h
     by (inr (inr h)) = inr (omega arith)
 
-at_most_or_not : (a b : ℕ) → (a ≤ b) ⊎ (b < a)
+pub at_most_or_not : (a b : ℕ) → (a ≤ b) ⊎ (b < a)
 at_most_or_not a b = by (cases_order a b)
   where
     by : (a ≡ b) ⊎ ((a < b) ⊎ (b < a)) → (a ≤ b) ⊎ (b < a)
@@ -30,19 +30,19 @@ at_most_or_not a b = by (cases_order a b)
     by (inr (inr h)) = inr h
 
 -- what stands in a list before, at and behind the place of an insertion
-insert-before : (xs : List ℕ) (k p j : ℕ) → k ≤ length xs → j < k → slice_get (insert xs k p) j ≡ slice_get xs j
+pub insert-before : (xs : List ℕ) (k p j : ℕ) → k ≤ length xs → j < k → slice_get (insert xs k p) j ≡ slice_get xs j
 insert-before [] k p j h l = absurd (omega arith)
 insert-before (x ∷ xs) zero p j h l = absurd (omega arith)
 insert-before (x ∷ xs) (suc k) p zero h l = refl
 insert-before (x ∷ xs) (suc k) p (suc j) h l = insert-before xs k p j (omega arith) (omega arith)
 
-insert-at : (xs : List ℕ) (k p : ℕ) → k ≤ length xs → slice_get (insert xs k p) k ≡ Some p
+pub insert-at : (xs : List ℕ) (k p : ℕ) → k ≤ length xs → slice_get (insert xs k p) k ≡ Some p
 insert-at [] zero p h = refl
 insert-at [] (suc k) p h = absurd (omega arith)
 insert-at (x ∷ xs) zero p h = refl
 insert-at (x ∷ xs) (suc k) p h = insert-at xs k p (omega arith)
 
-insert-behind : (xs : List ℕ) (k p j : ℕ) → k ≤ length xs → k ≤ j → slice_get (insert xs k p) (suc j) ≡ slice_get xs j
+pub insert-behind : (xs : List ℕ) (k p j : ℕ) → k ≤ length xs → k ≤ j → slice_get (insert xs k p) (suc j) ≡ slice_get xs j
 insert-behind [] zero p j h l = refl
 insert-behind [] (suc k) p j h l = absurd (omega arith)
 insert-behind (x ∷ xs) zero p j h l = refl
@@ -50,14 +50,14 @@ insert-behind (x ∷ xs) (suc k) p zero h l = absurd (omega arith)
 insert-behind (x ∷ xs) (suc k) p (suc j) h l = insert-behind xs k p j (omega arith) (omega arith)
 
 -- what stands in a list before and behind the place of a removal
-remove-before : (xs : List ℕ) (k j : ℕ) → j < k → slice_get (remove xs k) j ≡ slice_get xs j
+pub remove-before : (xs : List ℕ) (k j : ℕ) → j < k → slice_get (remove xs k) j ≡ slice_get xs j
 remove-before [] zero j l = refl
 remove-before [] (suc k) j l = refl
 remove-before (x ∷ xs) zero j l = absurd (omega arith)
 remove-before (x ∷ xs) (suc k) zero l = refl
 remove-before (x ∷ xs) (suc k) (suc j) l = remove-before xs k j (omega arith)
 
-remove-behind : (xs : List ℕ) (k j : ℕ) → k ≤ j → slice_get (remove xs k) j ≡ slice_get xs (suc j)
+pub remove-behind : (xs : List ℕ) (k j : ℕ) → k ≤ j → slice_get (remove xs k) j ≡ slice_get xs (suc j)
 remove-behind [] zero j l = refl
 remove-behind [] (suc k) j l = refl
 remove-behind (x ∷ xs) zero j l = refl
@@ -65,17 +65,17 @@ remove-behind (x ∷ xs) (suc k) zero l = absurd (omega arith)
 remove-behind (x ∷ xs) (suc k) (suc j) l = remove-behind xs k j (omega arith)
 
 -- the end of a list is where an insertion appends
-insert-end : (xs : List ℕ) (p : ℕ) → insert xs (length xs) p ≡ xs ++ p ∷ []
+pub insert-end : (xs : List ℕ) (p : ℕ) → insert xs (length xs) p ≡ xs ++ p ∷ []
 insert-end [] p = refl
 insert-end (x ∷ xs) p = ap (λ (ys : List ℕ). x ∷ ys) (insert-end xs p)
 
-the_place : (x y : Place) → Some x ≡ Some y → x ≡ y
+pub the_place : (x y : Place) → Some x ≡ Some y → x ≡ y
 the_place x y e = cc
 
-no_place : (x : Place) → None ≡ Some x → ⊥
+pub no_place : (x : Place) → None ≡ Some x → ⊥
 no_place x e = cc
 
-the_item : (p q : ℕ) → Some p ≡ Some q → p ≡ q
+pub the_item : (p q : ℕ) → Some p ≡ Some q → p ≡ q
 the_item p q e = cc
 
 module _ (place : ℕ → Option Place) (row : ℕ → List ℕ) (placed : IsPlaced place row) where
@@ -181,22 +181,22 @@ module _ (place : ℕ → Option Place) (row : ℕ → List ℕ) (placed : IsPla
             clears.others q out ∙ e
 
 -- a place that moves keeps its user; behind the insertion its index is one more
-up_other : (i k : ℕ) (x : Place) → x.user ≢ i → shifted_up i k (Some x) ≡ Some x
+pub up_other : (i k : ℕ) (x : Place) → x.user ≢ i → shifted_up i k (Some x) ≡ Some x
 up_other i k x h = let e : nat_eq x.user i ≡ false = ne_eqb x.user i h in rw e refl
 
-up_before : (i k d j : ℕ) → j < k → shifted_up i k (Some (place_at d i j)) ≡ Some (place_at d i j)
+pub up_before : (i k d j : ℕ) → j < k → shifted_up i k (Some (place_at d i j)) ≡ Some (place_at d i j)
 up_before i k d j h = let e : nat_eq i i ≡ true = eq-eqb i i refl in let f : nat_le k j ≡ false = lt-leb k j h in rw (e, f) refl
 
-up_behind : (i k d j : ℕ) → k ≤ j → shifted_up i k (Some (place_at d i j)) ≡ Some (place_at d i (suc j))
+pub up_behind : (i k d j : ℕ) → k ≤ j → shifted_up i k (Some (place_at d i j)) ≡ Some (place_at d i (suc j))
 up_behind i k d j h = let e : nat_eq i i ≡ true = eq-eqb i i refl in let f : nat_le k j ≡ true = le-leb k j h in rw (e, f) refl
 
-down_other : (i k : ℕ) (x : Place) → x.user ≢ i → shifted_down i k (Some x) ≡ Some x
+pub down_other : (i k : ℕ) (x : Place) → x.user ≢ i → shifted_down i k (Some x) ≡ Some x
 down_other i k x h = let e : nat_eq x.user i ≡ false = ne_eqb x.user i h in rw e refl
 
-down_before : (i k d j : ℕ) → j ≤ k → shifted_down i k (Some (place_at d i j)) ≡ Some (place_at d i j)
+pub down_before : (i k d j : ℕ) → j ≤ k → shifted_down i k (Some (place_at d i j)) ≡ Some (place_at d i j)
 down_before i k d j h = let e : nat_eq i i ≡ true = eq-eqb i i refl in let f : nat_lt k j ≡ false = le-ltb k j h in rw (e, f) refl
 
-down_behind : (i k d j : ℕ) → k < j → shifted_down i k (Some (place_at d i j)) ≡ Some (place_at d i (j - 1))
+pub down_behind : (i k d j : ℕ) → k < j → shifted_down i k (Some (place_at d i j)) ≡ Some (place_at d i (j - 1))
 down_behind i k d j h = let e : nat_eq i i ≡ true = eq-eqb i i refl in let f : nat_lt k j ≡ true = lt-ltb k j h in rw (e, f) refl
 
 up_user : (i k : ℕ) (y x : Place) → shifted_up i k (Some y) ≡ Some x → y.user ≡ x.user
@@ -206,13 +206,13 @@ down_user : (i k : ℕ) (y x : Place) → shifted_down i k (Some y) ≡ Some x �
 down_user i k y x f = ap (λ (z : Place). z.user) (the_place _ x f)
 
 -- a place of user i, at its index
-own : (i : ℕ) (y : Place) → y.user ≡ i → y ≡ place_at y.definition i y.index
+pub own : (i : ℕ) (y : Place) → y.user ≡ i → y ≡ place_at y.definition i y.index
 own i y h = ap (λ (u : ℕ). place_at y.definition u y.index) h
 
-user_kept : (x y : Place) → Some x ≡ Some y → x.user ≡ y.user
+pub user_kept : (x y : Place) → Some x ≡ Some y → x.user ≡ y.user
 user_kept x y e = ap (λ (z : Place). z.user) (the_place x y e)
 
-index_kept : (x y : Place) → Some x ≡ Some y → x.index ≡ y.index
+pub index_kept : (x y : Place) → Some x ≡ Some y → x.index ≡ y.index
 index_kept x y e = ap (λ (z : Place). z.index) (the_place x y e)
 
 module _ (place new : ℕ → Option Place) (row rows : ℕ → List ℕ) (placed : IsPlaced place row) where
@@ -396,88 +396,3 @@ module _ (place new : ℕ → Option Place) (row rows : ℕ → List ℕ) (place
 
     pub placed-pushed : IsPlaced new rows
     placed-pushed = placed-inserted i (length (row i)) p d pushed-inserts
-
--- a row whose later places get their indices once another came in or went out
-module _ (place mid new : ℕ → Option Place) (row rows : ℕ → List ℕ) (placed : IsPlaced place row) (i k p : ℕ) (same : (q : ℕ) → q ≢ p → mid q ≡ place q) (rest : KeepsOtherRows row rows i) where
-  own_user : (q j : ℕ) (y : Place) → place q ≡ Some y → slice_get (row i) j ≡ Some q → (y.user ≡ i) × (y.index ≡ j)
-  own_user q j y e s =
-      let its = placed.held i j q s in
-      let one : Some y ≡ Some (place_at its.0 i j) = sym e ∙ its.1 in
-      (user_kept y (place_at its.0 i j) one, index_kept y (place_at its.0 i j) one)
-
-  module _ (d : ℕ) (within : k ≤ length (row i)) (fresh : place p ≡ None) (changed : rows i ≡ insert (row i) k p) (here : mid p ≡ Some (place_at d i k)) (renumbers : Renumbers mid new (rows i) (suc k)) where
-    -- what stands behind the new place stood one index before
-    came_from : (j q : ℕ) → suc k ≤ j → slice_get (rows i) j ≡ Some q → (l : ℕ) × (j ≡ suc l) × (slice_get (row i) l ≡ Some q)
-    came_from zero q h e = absurd (omega arith)
-    came_from (suc l) q h e = (l, refl, sym (insert-behind (row i) k p l within (omega arith)) ∙ (sym (ap (λ (xs : List ℕ). slice_get xs (suc l)) changed) ∙ e))
-
-    stays_in : (o : Option Place) (q : ℕ) → q ≢ p → place q ≡ o → new q ≡ shifted_up i k o
-    stays_in None q n e =
-        let out : (j : ℕ) → suc k ≤ j → slice_get (rows i) j ≡ Some q → ⊥ = λ j h s. let from = came_from j q h s in placed-used place row placed i from.0 q from.2 e in
-        renumbers.others q out ∙ (same q n ∙ e)
-    stays_in (Some y) q n e = by (differ y.user i)
-      where
-        at_rest : ((l : ℕ) → k ≤ l → slice_get (row i) l ≡ Some q → ⊥) → new q ≡ Some y
-        at_rest h =
-            let out : (j : ℕ) → suc k ≤ j → slice_get (rows i) j ≡ Some q → ⊥ = λ j g s. let from = came_from j q g s in let index : j ≡ suc from.0 = from.1 in h from.0 (omega arith) from.2 in
-            renumbers.others q out ∙ (same q n ∙ e)
-
-        step : y.user ≡ i → (y.index < k) ⊎ (k ≤ y.index) → new q ≡ shifted_up i k (Some y)
-        step h (inl l) =
-            let rests : new q ≡ Some y = at_rest (λ j g s. let index : y.index ≡ j = (own_user q j y e s).1 in omega arith) in
-            rests ∙ (ap Some (own i y h) ∙ (sym (up_before i k y.definition y.index l) ∙ ap (λ (z : Place). shifted_up i k (Some z)) (sym (own i y h))))
-        step h (inr l) =
-            let stood : slice_get (row i) y.index ≡ Some q = ap (λ (u : ℕ). slice_get (row u) y.index) (sym h) ∙ placed.all q y e in
-            let stands : slice_get (rows i) (suc y.index) ≡ Some q = ap (λ (xs : List ℕ). slice_get xs (suc y.index)) changed ∙ (insert-behind (row i) k p y.index within l ∙ stood) in
-            renumbers.later (suc y.index) q (omega arith) stands ∙ (ap (at_index (suc y.index)) (same q n ∙ (e ∙ ap Some (own i y h))) ∙ (sym (up_behind i k y.definition y.index l) ∙ ap (λ (z : Place). shifted_up i k (Some z)) (sym (own i y h))))
-
-        by : (y.user ≡ i) ⊎ (y.user ≢ i) → new q ≡ shifted_up i k (Some y)
-        by (inl h) = step h (below_or_not y.index k)
-        by (inr h) = at_rest (λ l g s. h (own_user q l y e s).0) ∙ sym (up_other i k y h)
-
-    -- a place came in at index k, and those behind it got their indices
-    pub renumbered-inserts : InsertsPlace place new row rows i k p d
-    renumbered-inserts = record {
-      within = within;
-      fresh = fresh;
-      changed = changed;
-      rest = rest;
-      here = renumbers.others p (λ j h s. let from = came_from j p h s in placed-used place row placed i from.0 p from.2 fresh) ∙ here;
-      others = λ q n. stays_in (place q) q n refl;
-    }
-
-  module _ (stood : slice_get (row i) k ≡ Some p) (changed : rows i ≡ remove (row i) k) (gone : mid p ≡ None) (renumbers : Renumbers mid new (rows i) k) where
-    -- what stands behind the place of the removal stood one index later
-    went_from : (j q : ℕ) → k ≤ j → slice_get (rows i) j ≡ Some q → slice_get (row i) (suc j) ≡ Some q
-    went_from j q h e = sym (remove-behind (row i) k j h) ∙ (sym (ap (λ (xs : List ℕ). slice_get xs j) changed) ∙ e)
-
-    leaves : (o : Option Place) (q : ℕ) → q ≢ p → place q ≡ o → new q ≡ shifted_down i k o
-    leaves None q n e = renumbers.others q (λ j h s. placed-used place row placed i (suc j) q (went_from j q h s) e) ∙ (same q n ∙ e)
-    leaves (Some y) q n e = by (differ y.user i)
-      where
-        at_rest : ((j : ℕ) → k ≤ j → slice_get (row i) (suc j) ≡ Some q → ⊥) → new q ≡ Some y
-        at_rest h = renumbers.others q (λ j g s. h j g (went_from j q g s)) ∙ (same q n ∙ e)
-
-        step : y.user ≡ i → (y.index ≤ k) ⊎ (k < y.index) → new q ≡ shifted_down i k (Some y)
-        step h (inl l) =
-            let rests : new q ≡ Some y = at_rest (λ j g s. let index : y.index ≡ suc j = (own_user q (suc j) y e s).1 in omega arith) in
-            rests ∙ (ap Some (own i y h) ∙ (sym (down_before i k y.definition y.index l) ∙ ap (λ (z : Place). shifted_down i k (Some z)) (sym (own i y h))))
-        step h (inr l) =
-            let was : slice_get (row i) y.index ≡ Some q = ap (λ (u : ℕ). slice_get (row u) y.index) (sym h) ∙ placed.all q y e in
-            let more : suc (y.index - 1) ≡ y.index = omega arith in
-            let stands : slice_get (rows i) (y.index - 1) ≡ Some q = ap (λ (xs : List ℕ). slice_get xs (y.index - 1)) changed ∙ (remove-behind (row i) k (y.index - 1) (omega arith) ∙ (ap (slice_get (row i)) more ∙ was)) in
-            renumbers.later (y.index - 1) q (omega arith) stands ∙ (ap (at_index (y.index - 1)) (same q n ∙ (e ∙ ap Some (own i y h))) ∙ (sym (down_behind i k y.definition y.index l) ∙ ap (λ (z : Place). shifted_down i k (Some z)) (sym (own i y h))))
-
-        by : (y.user ≡ i) ⊎ (y.user ≢ i) → new q ≡ shifted_down i k (Some y)
-        by (inl h) = step h (at_most_or_not y.index k)
-        by (inr h) = at_rest (λ j g s. h (own_user q (suc j) y e s).0) ∙ sym (down_other i k y h)
-
-    -- the place at index k went out, and those behind it got their indices
-    pub renumbered-removes : RemovesPlace place new row rows i k p
-    renumbered-removes = record {
-      stood = stood;
-      changed = changed;
-      rest = rest;
-      gone = renumbers.others p (λ j h s. let twice : k ≡ suc j = (placed-distinct place row placed i i k (suc j) p stood (went_from j p h s)).1 in omega arith) ∙ gone;
-      others = λ q n. leaves (place q) q n refl;
-    }

@@ -1,5 +1,5 @@
 -- What the edits of each level keep.
-use Rattle.std.proofs.Common.{◌≡◌, ◌≢◌, ℕ, ◌<◌, ◌||◌, ◌++◌, ◌⊎◌, inl, inr, ⊎_elim, Bool, true, false, cond, eqb, List, [], ◌∷◌, map, length, IsSome, refl, sym, ap, subst, ◌∙◌, arith, set}
+use Rattle.std.proofs.Common.{◌≡◌, ◌≢◌, ℕ, ◌<◌, ◌||◌, ◌++◌, ◌⊎◌, inl, inr, ⊎_elim, Bool, true, false, cond, eqb, List, [], ◌∷◌, map, length, IsSome, refl, sym, subst, ◌∙◌, arith, set}
 use Rattle.std.proofs.lemmas.List.{length-set, length-map, get_or-set_same, get_or-set_other}
 use Rattle.std.proofs.lemmas.Bool.{eqb-true, or_cases, or_left, or_right, cases_eq, both_ways}
 use Rattle.ir_entities.specs.Lists.{Lists}
@@ -9,7 +9,7 @@ use Rattle.ir_entities.specs.Arena.{held, get}
 use Rattle.ir_entities.specs.declared.forest.Place.{Place}
 use Rattle.ir_entities.specs.declared.forest.Place.TheVariants.{Op, Block, Region}
 use Rattle.ir_entities.specs.Shape.{Shape, IsIn, IsInside, itself, deeper, IsGrounded, below}
-use Rattle.ir_entities.specs.Forest.{Forest, AreMembers, IsForest, shape_of}
+use Rattle.ir_entities.specs.Forest.{Forest, IsForest, shape_of}
 use Rattle.ir_entities.proofs.Segments.{has-append}
 use Rattle.ir_entities.proofs.Trees.{list_at-map, held_is, members_kept, more_ops, more_blocks}
 use Rattle.ir_entities.proofs.Climb.{used_below, inside_trans}

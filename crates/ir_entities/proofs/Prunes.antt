@@ -266,7 +266,7 @@ pub cut_live : {O B R : Type 0} (old mid : Forest O B R) (g : Place) → IsCut o
 cut_live old mid g cut = rw (cut.ops, cut.blocks, cut.regions) refl
 
 -- what stands in a place outside x is outside x, where x stands nowhere
-outside_in : {O B R : Type 0} (f : Forest O B R) → StandInOne (shape_of f) → (x : Place) → StandsNowhere f x → (e c : Place) → IsIn (shape_of f) e c → (IsInside (shape_of f) x c → ⊥) → IsInside (shape_of f) x e → ⊥
+pub outside_in : {O B R : Type 0} (f : Forest O B R) → StandInOne (shape_of f) → (x : Place) → StandsNowhere f x → (e c : Place) → IsIn (shape_of f) e c → (IsInside (shape_of f) x c → ⊥) → IsInside (shape_of f) x e → ⊥
 outside_in f one x root _ c i out itself = nowhere_in f x c root i
 outside_in f one x root _ c i out (deeper e d j w) = out (subst (λ (k : Place). IsInside (shape_of f) x k) (one e d c j i) w)
 

@@ -1,9 +1,9 @@
 -- What is left between two nodes of a list, as either end moves.
-use Rattle.std.proofs.Common.{◌≡◌, ◌≢◌, ℕ, ◌<◌, ◌||◌, ⊎_elim, Bool, true, false, cond, eqb, List, [], ◌∷◌, ◌++◌, length, reverse, Option, Some, None, refl, sym, ap, subst, ◌∙◌}
-use Rattle.std.proofs.lemmas.Bool.{eqb-true, eqb-false, eq-eqb, ne_eqb, or_cases, or_left, or_right, cases_Bool, both_ways, false_from_ne_true}
+use Rattle.std.proofs.Common.{◌≡◌, ◌≢◌, ℕ, ◌<◌, ◌||◌, ⊎_elim, Bool, true, false, cond, eqb, List, [], ◌∷◌, ◌++◌, length, reverse, Some, refl, sym, ap, subst, ◌∙◌}
+use Rattle.std.proofs.lemmas.Bool.{eqb-true, or_cases, or_left, or_right, both_ways}
 use Rattle.std.proofs.lemmas.List.{reverse-reverse, reverse-append}
 use Rattle.ir_entities.specs.declared.siblings.Span.{Span}
-use Rattle.ir_entities.specs.Links.{has, AreDistinct, list_at, drop_to, take_to, items_from, items_back, items_between, IsSpan, IsWithin}
+use Rattle.ir_entities.specs.Links.{has, AreDistinct, list_at, drop_to, take_to, IsSpan, IsWithin}
 
 pub has_dropped : (f b : ℕ) (xs : List ℕ) → has b (drop_to f xs) ≡ true → (has f xs ≡ true) × (has b xs ≡ true)
 has_dropped f b [] h = absurd (both_ways false refl h)

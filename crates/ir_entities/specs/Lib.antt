@@ -10,4 +10,5 @@ pub mod Uses
 pub mod Threads
 pub mod Lent
 pub mod Placed
+pub mod Rows
 pub mod Walk

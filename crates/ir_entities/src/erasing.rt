@@ -21,7 +21,7 @@ impl<O, B, R> Forest<O, B, R> {
     }
 
     /// Takes an operation out of its block.
-    pub fn cut_op(&mut self, op: usize)
+    fn cut_op(&mut self, op: usize)
         requires linked { IsLinked self.old.in_blocks.lists op }
         ensures cut { IsCut self.old self.new (Op op) }
         ensures lists { self.new.in_blocks.lists ≡ map (without op) self.old.in_blocks.lists }
@@ -34,7 +34,7 @@ impl<O, B, R> Forest<O, B, R> {
     }
 
     /// Takes a block out of its region.
-    pub fn cut_block(&mut self, block: usize)
+    fn cut_block(&mut self, block: usize)
         requires linked { IsLinked self.old.in_regions.lists block }
         ensures cut { IsCut self.old self.new (Block block) }
         ensures lists { self.new.in_regions.lists ≡ map (without block) self.old.in_regions.lists }
@@ -47,7 +47,7 @@ impl<O, B, R> Forest<O, B, R> {
     }
 
     /// Takes a region out of its operation.
-    pub fn cut_region(&mut self, region: usize)
+    fn cut_region(&mut self, region: usize)
         requires linked { IsLinked self.old.in_ops.lists region }
         ensures cut { IsCut self.old self.new (Region region) }
         ensures lists { self.new.in_ops.lists ≡ map (without region) self.old.in_ops.lists }
@@ -60,7 +60,7 @@ impl<O, B, R> Forest<O, B, R> {
     }
 
     /// Takes out an operation that stands in no block and holds no region.
-    pub fn free_op_at(&mut self, op: usize) -> O
+    fn free_op_at(&mut self, op: usize) -> O
     where
         O: Drop,
         requires used { IsSome (held self.old.ops op) }
@@ -79,7 +79,7 @@ impl<O, B, R> Forest<O, B, R> {
     }
 
     /// Takes out a block that stands in no region and holds no operation.
-    pub fn free_block_at(&mut self, block: usize) -> B
+    fn free_block_at(&mut self, block: usize) -> B
     where
         B: Drop,
         requires used { IsSome (held self.old.blocks block) }
@@ -98,7 +98,7 @@ impl<O, B, R> Forest<O, B, R> {
     }
 
     /// Takes out a region that stands in no operation and holds no block.
-    pub fn free_region_at(&mut self, region: usize) -> R
+    fn free_region_at(&mut self, region: usize) -> R
     where
         R: Drop,
         requires used { IsSome (held self.old.regions region) }
@@ -133,7 +133,7 @@ impl<O, B, R> Forest<O, B, R> {
     }
 
     /// Takes out a region that holds no block.
-    pub fn take_region(&mut self, region: usize) -> R
+    fn take_region(&mut self, region: usize) -> R
     where
         R: Drop,
         requires linked { IsLinked self.old.in_ops.lists region }
@@ -157,7 +157,7 @@ impl<O, B, R> Forest<O, B, R> {
     }
 
     /// Takes out a block that holds no operation.
-    pub fn take_block(&mut self, block: usize) -> B
+    fn take_block(&mut self, block: usize) -> B
     where
         B: Drop,
         requires linked { IsLinked self.old.in_regions.lists block }
@@ -181,7 +181,7 @@ impl<O, B, R> Forest<O, B, R> {
     }
 
     /// Takes out an operation inside `x`, which stands nowhere. Its regions go to the end of those of `x`.
-    pub fn take_op(&mut self, x: usize, op: usize) -> O
+    fn take_op(&mut self, x: usize, op: usize) -> O
     where
         O: Drop,
         requires root { StandsNowhere self.old (Op x) }
@@ -211,7 +211,7 @@ impl<O, B, R> Forest<O, B, R> {
     }
 
     /// What goes first of the things in operation `x`.
-    pub fn first_inner(&self, x: usize) -> Option<Place>
+    fn first_inner(&self, x: usize) -> Option<Place>
         requires used { IsSome (held self.now.ops x) }
         ensures none { IsNone result ↔ IsBare self.now (Op x) }
         ensures first { IfSome result (λ e. IsFirstInner self.now x e) }
@@ -256,7 +256,7 @@ impl<O, B, R> Forest<O, B, R> {
     }
 
     /// Takes out an operation that stands in no block, with all that stands in it.
-    pub fn free_op_tree(&mut self, op: usize) -> O
+    fn free_op_tree(&mut self, op: usize) -> O
     where
         O: Drop,
         B: Drop,
@@ -298,7 +298,7 @@ impl<O, B, R> Forest<O, B, R> {
     }
 
     /// Takes out a block that stands in no region, with all that stands in it.
-    pub fn free_block_tree(&mut self, block: usize) -> B
+    fn free_block_tree(&mut self, block: usize) -> B
     where
         O: Drop,
         B: Drop,
@@ -340,7 +340,7 @@ impl<O, B, R> Forest<O, B, R> {
     }
 
     /// Takes out a region that stands in no operation, with all that stands in it.
-    pub fn free_region_tree(&mut self, region: usize) -> R
+    fn free_region_tree(&mut self, region: usize) -> R
     where
         O: Drop,
         B: Drop,

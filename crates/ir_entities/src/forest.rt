@@ -61,7 +61,9 @@ impl<O, B, R> Model for Forest<O, B, R> {
 impl<O, B, R> Forest<O, B, R> {
     /// No operation, no block and no region.
     pub fn new(alloc: Global) -> Self
-        ensures { result.ops ≡ [] }
+        ensures ops { result.ops ≡ [] }
+        ensures blocks { result.blocks ≡ [] }
+        ensures regions { result.regions ≡ [] }
     {
         Forest {
             ops: Arena::new(alloc),

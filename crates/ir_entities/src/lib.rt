@@ -16,11 +16,13 @@ mod walking;
 
 pub use arena::{Arena, Key, Slot};
 pub use forest::{Forest, Place};
-pub use rows::{release, renumber};
+pub use rows::{clear_row, insert_place, push_place, release, remove_place, renumber};
 pub use siblings::{Backward, Ends, Forward, Node, Siblings, Walk};
 pub use uses::{Spot, Uses, UsesOf};
 
 #[cfg(test)]
 mod making_tests;
+#[cfg(test)]
+mod rows_tests;
 #[cfg(test)]
 mod uses_tests;

@@ -1,6 +1,6 @@
 //! What is where, read only, and the data of operations and blocks.
 
-ghost use Rattle.std.specs.Prelude.{◌≡◌, ℕ, true, Some, None, IsSome, IsNone, IfSome, is_some};
+ghost use Rattle.std.specs.Prelude.{◌≡◌, ◌<◌, ◌^◌, ℕ, length, true, Some, None, IsSome, IsNone, IfSome, is_some};
 ghost use Rattle.std.specs.Borrow.{sem};
 ghost use Rattle.ir_entities.specs.Arena.{get, held};
 ghost use Rattle.ir_entities.specs.Links.{AreApart, AreDistinct, first_or, has, items_between, items_from, last_or, list_at, next_in, prev_in};
@@ -33,6 +33,14 @@ impl<O, B, R> Forest<O, B, R> {
         self.in_blocks.know_members();
         self.in_regions.know_members();
         self.in_ops.know_members();
+    }
+
+    /// Tells that the number of an operation's regions fits; it does nothing.
+    pub fn know_short(&self)
+        ensures { (c : ℕ) → length (list_at self.now.in_ops.lists c) < 2 ^ 64 }
+    {
+        self.in_ops.know_members();
+        let _nodes = self.in_ops.nodes();
     }
 
     /// The data of an operation.

@@ -1,6 +1,6 @@
 use Rattle.ir_entities.specs.Links.{list_at}
 use Rattle.ir_entities.proofs.Spans.{has_dropped, distinct_here, one_between, last_alone, last_within, last_goes}
-use Rattle.std.proofs.Common.{◌≡◌, ap, ◌∷◌, [], ◌∙◌}
+use Rattle.std.proofs.Common.{ap, ◌∷◌, [], ◌∙◌}
 use Rattle.ir_entities.proofs.siblings.Siblings.without_last.Goals as goal
 
 pub prev_of-before-requires : goal.prev_of-before-requires
