@@ -1,0 +1,5 @@
+use Rattle.ir_program.proofs.ForgetSteps.{ForgetsTo}
+use Rattle.ir_program.proofs.forgetting.forget_all.Given as goal
+
+abbrev pub invariant-loop-definition : goal.invariant-loop-definition
+invariant-loop-definition l = ForgetsTo l.fn.values l.values l.definitions l.definition-index

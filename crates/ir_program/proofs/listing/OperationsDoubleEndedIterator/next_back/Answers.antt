@@ -1,0 +1,8 @@
+use Rattle.ir_program.proofs.Held.{last_held_slot, rest_held_slots}
+use Rattle.ir_program.proofs.listing.OperationsDoubleEndedIterator.next_back.Goals as goal
+
+pub operation_in-requires : goal.operation_in-requires
+operation_in-requires g c = last_held_slot c.self.inside.program.now.forest.ops _ _ c.in_ok-slot.slot c.in_ok-slot.ensures.steps c.self.invariant
+
+pub invariant_of-self-2 : goal.invariant_of-self-2
+invariant_of-self-2 g c = rest_held_slots c.self.inside.program.now.forest.ops _ _ c.in_ok-slot.slot c.in_ok-slot.ensures.steps c.self.invariant

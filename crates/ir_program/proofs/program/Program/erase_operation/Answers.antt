@@ -1,0 +1,5 @@
+use Rattle.ir_program.proofs.Unlinks.{free_erased}
+use Rattle.ir_program.proofs.program.Program.erase_operation.Goals as goal
+
+pub returns-in-None : goal.returns-in-None
+returns-in-None g c = free_erased c.args.self.now c.erase_unlinked_operation.new.self c.args.op c.know_listed.ensures c.in-None.ensures.parent c.erase_unlinked_operation.ensures

@@ -1,0 +1,20 @@
+use Rattle.ir_program.specs.declared.handles.IRNode.TheVariants.{Operation as OperationNode, BasicBlock as BlockNode}
+use Rattle.ir_program.proofs.Inside.{outside_by_slots}
+use Rattle.ir_program.proofs.MovingOperations.{op_unlinked, ops_still_program, put_first}
+use Rattle.ir_program.proofs.Rearranged.{types_stay}
+use Rattle.ir_program.proofs.program.Program.insert_operation_at_front.Goals as goal
+
+pub insert_op_at_front-requires-clause-root : goal.insert_op_at_front-requires-clause-root
+insert_op_at_front-requires-clause-root g c = op_unlinked _ c.args.self.now c.self.view_is c.know_listed.ensures c.args.op c.requires.op c.requires.unlinked
+
+pub insert_op_at_front-requires-clause-apart : goal.insert_op_at_front-requires-clause-apart
+insert_op_at_front-requires-clause-apart g c = outside_by_slots _ c.args.self.now c.self.view_is c.know_listed.ensures (OperationNode c.args.op) (BlockNode c.args.block) c.requires.op c.requires.block c.requires.apart
+
+pub invariant_of-self : goal.invariant_of-self
+invariant_of-self g c = ops_still_program _ c.args.self.now c.self.view_is c.know_listed.ensures c.insert_op_at_front.new.self c.insert_op_at_front.ensures.rest c.self.invariant
+
+pub returns-clause-edited : goal.returns-clause-edited
+returns-clause-edited g c = put_first _ c.args.self.now c.self.view_is c.know_listed.ensures c.insert_op_at_front.new.self c.insert_op_at_front.ensures.rest c.args.op c.requires.op c.args.block c.requires.block c.insert_op_at_front.ensures.lists
+
+pub returns-clause-types : goal.returns-clause-types
+returns-clause-types g c = types_stay _ c.args.self.now c.self.view_is c.insert_op_at_front.new.self.in_blocks c.self.inside.forest.in_regions c.self.inside.forest.in_ops c.insert_op_at_front.new.self c.insert_op_at_front.ensures.rest

@@ -1,0 +1,6 @@
+use Rattle.ir_program.proofs.Stands.{result-read, result-live}
+use Rattle.ir_program.proofs.program.Program.result.Goals as goal
+
+pub returns-clause-typed : goal.returns-clause-typed
+returns-clause-typed g c = result-live _ _ c.self.view_is c.self.invariant c.args.op c.args.index c.index-definition.result.now
+    (result-read _ _ c.self.view_is c.args.op c.op.result.now c.op.ensures c.args.index c.requires.within c.index-definition.result.now c.index-definition.ensures) c.new.result c.new.ensures

@@ -1,0 +1,25 @@
+//! What holds of every program.
+ghost use Rattle.std.specs.Prelude.{◌≡◌, ℕ, ◌<◌, Some};
+ghost use Rattle.ir_names.specs.declared.kinds.TypeHandle.{TypeHandle};
+ghost use Rattle.ir_program.specs.Program.{type_at, value_in, type_in, IsLiveValue};
+ghost use Rattle.ir_program.specs.Uses.{IsUsed};
+ghost use Rattle.ir_program.specs.Definers.{StandsAtDefiner, values_at};
+ghost use Rattle.ir_program.specs.declared.handles.Value.{Value};
+ghost use Rattle.ir_program.specs.declared.handles.DefiningEntity.{DefiningEntity};
+
+use crate::Program;
+
+impl<O, B> Program<O, B> {
+    /// What holds of values: the values with a type are those that stand among the results and arguments, each once, at
+    /// its definer and with its type; their numbers have been given; and what operations take are such values. It does
+    /// nothing.
+    pub fn know_values(&self)
+        ensures definer { (e : DefiningEntity) (k : ℕ) (v : Value) → value_in (values_at self.now e) k ≡ Some v → v.definer ≡ e }
+        ensures typed { (e : DefiningEntity) (k : ℕ) (v : Value) → value_in (values_at self.now e) k ≡ Some v → type_at self.now v ≡ type_in (values_at self.now e) k }
+        ensures stands { (v : Value) (ty : TypeHandle) → type_at self.now v ≡ Some ty → StandsAtDefiner self.now v ty }
+        ensures given { (v : Value) → IsLiveValue self.now v → v.number < self.now.counter }
+        ensures used { (v : Value) → IsUsed self.now v → IsLiveValue self.now v }
+    {
+        self.values.know_named();
+    }
+}

@@ -1,0 +1,36 @@
+//! Operations, regions, blocks and values, whatever payload operations and blocks carry: what stands
+//! where, and which places name which values and blocks. It knows no dialect.
+#![tactic(auto)]
+
+mod adding;
+mod arguments;
+mod building;
+mod definitions;
+mod dropping;
+mod edges;
+mod erasing;
+mod forgetting;
+mod handles;
+mod laws;
+mod listing;
+mod making;
+mod moving;
+mod operands;
+mod payloads;
+mod program;
+mod reading;
+mod records;
+mod replacing;
+mod results;
+mod retargeting;
+mod successors;
+mod users;
+mod uses;
+mod values;
+
+pub use edges::BlockUses;
+pub use handles::{BasicBlock, DefiningEntity, IRNode, Operation, Ptr, Region, Use, Value};
+pub use listing::{Blocks, Operations, Regions};
+pub use program::Program;
+pub use records::{BlockRecord, Definition, OperationRecord};
+pub use uses::ValueUses;

@@ -1,0 +1,78 @@
+//! Making operations, blocks and regions.
+ghost use Rattle.std.specs.Prelude.{◌≡◌, Err, IsSome, IfOk, OnErr};
+ghost use Rattle.ir_names.specs.declared.growth.GrowError.TheVariants.{CounterFull};
+ghost use Rattle.ir_program.specs.Program.{operation_at};
+ghost use Rattle.ir_program.specs.Edits.{IsUnchanged};
+ghost use Rattle.ir_program.specs.Lists.{IsUnlinkedOperation, IsUnlinkedBlock};
+ghost use Rattle.ir_program.specs.Made.{MakesOperation, MakesBlock, MakesRegion, HasFullOperationSlot, HasFullBlockSlot, HasFullRegionSlot};
+
+use crate::records::{BlockRecord, OperationRecord, RegionRecord};
+use crate::{BasicBlock, Operation, Program, Ptr, Region};
+use ir_names::GrowError;
+use std::alloc::Global;
+
+impl<O: Drop, B: Drop> Program<O, B> {
+    /// Makes an operation that stands in no block, with no result, operand, successor or region.
+    ///
+    /// # Errors
+    /// `Memory`, and `CounterFull` where the vacant slot that comes next had as many operations as it can name.
+    pub fn new_operation(&mut self, alloc: Global, payload: O) -> Result<Ptr<Operation>, GrowError>
+        ensures made { IfOk result (λ p. MakesOperation self.old self.new p payload) }
+        ensures unlinked { IfOk result (λ p. IsUnlinkedOperation self.new p) }
+        ensures err { OnErr result (IsUnchanged self.old self.new) }
+        ensures full { result ≡ Err CounterFull → HasFullOperationSlot self.old }
+    {
+        self.forest.know();
+        let key = self.forest.new_op(OperationRecord {
+            payload,
+            results: Vec::new(alloc),
+            operands: Vec::new(alloc),
+            successors: Vec::new(alloc),
+        })?;
+        self.forest.know();
+        Ok(Ptr::new(key))
+    }
+
+    /// Makes a block that stands in no region, with no argument and no operation.
+    ///
+    /// # Errors
+    /// `Memory`, and `CounterFull` where the vacant slot that comes next had as many blocks as it can name.
+    pub fn new_block(&mut self, alloc: Global, payload: B) -> Result<Ptr<BasicBlock>, GrowError>
+        ensures made { IfOk result (λ p. MakesBlock self.old self.new p payload) }
+        ensures unlinked { IfOk result (λ p. IsUnlinkedBlock self.new p) }
+        ensures err { OnErr result (IsUnchanged self.old self.new) }
+        ensures full { result ≡ Err CounterFull → HasFullBlockSlot self.old }
+    {
+        self.forest.know();
+        self.targets.know_named();
+        let key = self.forest.new_block(BlockRecord {
+            payload,
+            arguments: Vec::new(alloc),
+            thread: 0,
+        })?;
+        let Ok(thread) = self.targets.define(Ptr::new(key)) else {
+            self.forest.free_block(key);
+            return Err(GrowError::Memory);
+        };
+        self.forest.block_mut(key).thread = thread;
+        self.forest.know();
+        Ok(Ptr::new(key))
+    }
+
+    /// Makes a region with no block, the last of an operation.
+    ///
+    /// # Errors
+    /// `Memory`, and `CounterFull` where the vacant slot that comes next had as many regions as it can name.
+    pub fn add_region(&mut self, op: Ptr<Operation>) -> Result<Ptr<Region>, GrowError>
+        requires { IsSome (operation_at self.old op) }
+        ensures made { IfOk result (λ r. MakesRegion self.old self.new op r) }
+        ensures err { OnErr result (IsUnchanged self.old self.new) }
+        ensures full { result ≡ Err CounterFull → HasFullRegionSlot self.old }
+    {
+        self.forest.know();
+        let key = self.forest.new_region(RegionRecord)?;
+        self.forest.know();
+        self.forest.insert_region_at_back(op.key, key);
+        Ok(Ptr::new(key))
+    }
+}

@@ -1,0 +1,106 @@
+//! Other values in place of operands: at all uses of a value, at one, or at those that a predicate chooses.
+ghost use Rattle.std.specs.Prelude.{◌≡◌, ◌≢◌, ◌+◌, ℕ, true, Bool, cond, Some, OnOk, OnErr, IfOk, map, slice_set};
+ghost use Rattle.ir_entities.specs.Links.{has};
+ghost use Rattle.ir_entities.specs.Uses.{key_of, place_of, naming, IsDefined, IsPlace, Names};
+ghost use Rattle.ir_program.specs.Program.{type_at, IsLiveValue};
+ghost use Rattle.ir_program.specs.Rows.{operands_at};
+ghost use Rattle.ir_program.specs.Spots.{operand_use};
+ghost use Rattle.ir_program.specs.Uses.{IsUse, IsUsed, IsUseCount};
+ghost use Rattle.ir_program.specs.Edits.{EditsOperation, EditsOperations, IsUnchanged};
+ghost use Rattle.ir_program.specs.Replacing.{replacing, with_chosen, Answers, Chooses};
+ghost use Rattle.ir_program.specs.declared.handles.Use.{Use};
+ghost use Rattle.ir_program.specs.declared.handles.Value.{Value};
+
+use crate::program::Program;
+use crate::{Use, Value};
+use ir_entities::Uses;
+use std::alloc::{AllocError, Global};
+
+impl<O, B> Program<O, B> {
+    /// Puts another value in place of each operand that is the value. No memory is asked for.
+    pub fn replace_all_uses(&mut self, value: Value, other: Value)
+        requires value { IsLiveValue self.old value }
+        requires other { IsLiveValue self.old other }
+        ensures replaced { EditsOperations self.old self.new (λ _ o. record o { operands = map (replacing value other) o.operands }) }
+        ensures unused { value ≢ other → IsUsed self.new value → ⊥ }
+        ensures count { value ≢ other → (m n : ℕ) → IsUseCount self.old value m → IsUseCount self.old other n → IsUseCount self.new other (m + n) }
+        ensures types { (v : _) → type_at self.new v ≡ type_at self.old v }
+        ensures counter { self.new.counter ≡ self.old.counter }
+    {
+        self.values.know_named();
+        let from = self.thread(value);
+        let to = self.thread(other);
+        self.values.replace_all(from, to);
+    }
+
+    /// Puts another value in place of the operand at one use. No memory is asked for.
+    pub fn replace_use(&mut self, place: Use<Value>, other: Value)
+        requires place { IsUse self.old place }
+        requires other { IsLiveValue self.old other }
+        ensures replaced { EditsOperation self.old self.new place.user_op (λ o. record o { operands = slice_set o.operands place.index other }) }
+        ensures counter { self.new.counter ≡ self.old.counter }
+    {
+        self.replace_operand(place.user_op, place.index, other);
+    }
+
+    /// Puts another value in place of the operands that are the value, at those of its uses for which
+    /// the predicate answers true. It is asked once about each use, before anything is changed.
+    ///
+    /// # Errors
+    /// Without memory nothing is changed.
+    pub fn replace_some_uses<F: Fn(&Program<O, B>, &Use<Value>) -> bool>(
+        &mut self,
+        alloc: Global,
+        value: Value,
+        other: Value,
+        predicate: F,
+    ) -> Result<(), AllocError>
+        requires value { IsLiveValue self.old value }
+        requires other { IsLiveValue self.old other }
+        requires callable { F.IsAlwaysCallable predicate }
+        ensures replaced { OnOk result ((chosen : Use Value → Bool) × Chooses (operands_at self.old) (Answers F.Fn predicate self.old) value chosen × EditsOperations self.old self.new (λ p o. record o { operands = with_chosen chosen other p 0 o.operands })) }
+        ensures err { OnErr result (IsUnchanged self.old self.new) }
+        ensures types { (v : _) → type_at self.new v ≡ type_at self.old v }
+        ensures counter { self.new.counter ≡ self.old.counter }
+    {
+        self.values.know_named();
+        let from = self.thread(value);
+        let to = self.thread(other);
+        let chosen = self.choose_operands(alloc, from, &predicate)?;
+        rename_each(&mut self.values, &chosen, to);
+        Ok(())
+    }
+
+    /// The places of operands in a thread for which the predicate answers true.
+    fn choose_operands<F: Fn(&Program<O, B>, &Use<Value>) -> bool>(
+        &self,
+        alloc: Global,
+        thread: usize,
+        predicate: &F,
+    ) -> Result<Vec<usize>, AllocError>
+        requires thread { IsDefined self.now.values thread }
+        requires callable { F.IsAlwaysCallable predicate.now }
+        ensures among { IfOk result (λ qs. (q : ℕ) → has q qs.items ≡ true → Names self.now.values q thread) }
+        ensures answered { IfOk result (λ qs. (q : ℕ) → Names self.now.values q thread → Answers F.Fn predicate.now self.now (operand_use self.now q) (has q qs.items)) }
+    {
+        let mut chosen = Vec::new(alloc);
+        for place in self.values.iter(thread) {
+            if predicate(self, &self.operand_use(place)) {
+                chosen.push(place)?;
+            }
+        }
+        Ok(chosen)
+    }
+}
+
+/// Makes each of these places name the definition.
+pub(crate) fn rename_each<K: Copy>(uses: &mut Uses<K>, places: &[usize], definition: usize)
+    requires places { (q : ℕ) → has q places.now ≡ true → IsPlace uses.old q }
+    requires definition { IsDefined uses.old definition }
+    ensures renamed { (q : ℕ) → place_of uses.new q ≡ cond (has q places.now) (naming definition (place_of uses.old q)) (place_of uses.old q) }
+    ensures definitions { uses.new.definitions ≡ uses.old.definitions }
+{
+    for place in places {
+        uses.rename(*place, definition);
+    }
+}

@@ -1,0 +1,98 @@
+//! Other blocks in place of successors: at all edges to a block, at one, or at those that a predicate chooses.
+ghost use Rattle.std.specs.Prelude.{◌≡◌, ◌≢◌, ◌+◌, ℕ, true, Bool, Some, IsSome, OnOk, OnErr, IfOk, map, slice_set};
+ghost use Rattle.ir_entities.specs.Links.{has};
+ghost use Rattle.ir_entities.specs.Uses.{IsDefined, Names};
+ghost use Rattle.ir_program.specs.Program.{block_at, type_at};
+ghost use Rattle.ir_program.specs.Rows.{successors_at};
+ghost use Rattle.ir_program.specs.Spots.{successor_use};
+ghost use Rattle.ir_program.specs.Uses.{IsBlockUse, HasPredecessor, IsPredecessorCount};
+ghost use Rattle.ir_program.specs.Edits.{EditsOperation, EditsOperations, IsUnchanged};
+ghost use Rattle.ir_program.specs.Replacing.{retargeting, with_chosen, Answers, Chooses};
+ghost use Rattle.ir_program.specs.declared.handles.Ptr.{Ptr};
+ghost use Rattle.ir_program.specs.declared.handles.BasicBlock.{BasicBlock};
+ghost use Rattle.ir_program.specs.declared.handles.Use.{Use};
+
+use crate::program::Program;
+use crate::replacing::rename_each;
+use crate::{BasicBlock, Ptr, Use};
+use std::alloc::{AllocError, Global};
+
+impl<O, B> Program<O, B> {
+    /// Makes each edge to a block lead to another. No memory is asked for.
+    pub fn retarget_all(&mut self, block: Ptr<BasicBlock>, other: Ptr<BasicBlock>)
+        requires block { IsSome (block_at self.old block) }
+        requires other { IsSome (block_at self.old other) }
+        ensures retargeted { EditsOperations self.old self.new (λ _ o. record o { successors = map (retargeting block other) o.successors }) }
+        ensures unused { block ≢ other → HasPredecessor self.new block → ⊥ }
+        ensures count { block ≢ other → (m n : ℕ) → IsPredecessorCount self.old block m → IsPredecessorCount self.old other n → IsPredecessorCount self.new other (m + n) }
+        ensures types { (v : _) → type_at self.new v ≡ type_at self.old v }
+        ensures counter { self.new.counter ≡ self.old.counter }
+    {
+        self.targets.know_named();
+        let from = self.edge_thread(block);
+        let to = self.edge_thread(other);
+        self.targets.replace_all(from, to);
+    }
+
+    /// Makes one edge lead to another block. No memory is asked for.
+    pub fn retarget(&mut self, place: Use<Ptr<BasicBlock>>, other: Ptr<BasicBlock>)
+        requires place { IsBlockUse self.old place }
+        requires other { IsSome (block_at self.old other) }
+        ensures retargeted { EditsOperation self.old self.new place.user_op (λ o. record o { successors = slice_set o.successors place.index other }) }
+        ensures types { (v : _) → type_at self.new v ≡ type_at self.old v }
+        ensures counter { self.new.counter ≡ self.old.counter }
+    {
+        let thread = self.edge_thread(other);
+        let target = self.forest.op(place.user_op.key).successors[place.index];
+        self.targets.rename(target, thread);
+    }
+
+    /// Makes the edges to a block lead to another, those for which the predicate answers true. It is
+    /// asked once about each edge, before anything is changed.
+    ///
+    /// # Errors
+    /// Without memory nothing is changed.
+    pub fn retarget_some<F: Fn(&Program<O, B>, &Use<Ptr<BasicBlock>>) -> bool>(
+        &mut self,
+        alloc: Global,
+        block: Ptr<BasicBlock>,
+        other: Ptr<BasicBlock>,
+        predicate: F,
+    ) -> Result<(), AllocError>
+        requires block { IsSome (block_at self.old block) }
+        requires other { IsSome (block_at self.old other) }
+        requires callable { F.IsAlwaysCallable predicate }
+        ensures retargeted { OnOk result ((chosen : Use (Ptr BasicBlock) → Bool) × Chooses (successors_at self.old) (Answers F.Fn predicate self.old) block chosen × EditsOperations self.old self.new (λ p o. record o { successors = with_chosen chosen other p 0 o.successors })) }
+        ensures err { OnErr result (IsUnchanged self.old self.new) }
+        ensures types { (v : _) → type_at self.new v ≡ type_at self.old v }
+        ensures counter { self.new.counter ≡ self.old.counter }
+    {
+        self.targets.know_named();
+        let from = self.edge_thread(block);
+        let to = self.edge_thread(other);
+        let chosen = self.choose_successors(alloc, from, &predicate)?;
+        rename_each(&mut self.targets, &chosen, to);
+        Ok(())
+    }
+
+    /// The places of successors in a thread for which the predicate answers true.
+    fn choose_successors<F: Fn(&Program<O, B>, &Use<Ptr<BasicBlock>>) -> bool>(
+        &self,
+        alloc: Global,
+        thread: usize,
+        predicate: &F,
+    ) -> Result<Vec<usize>, AllocError>
+        requires thread { IsDefined self.now.targets thread }
+        requires callable { F.IsAlwaysCallable predicate.now }
+        ensures among { IfOk result (λ qs. (q : ℕ) → has q qs.items ≡ true → Names self.now.targets q thread) }
+        ensures answered { IfOk result (λ qs. (q : ℕ) → Names self.now.targets q thread → Answers F.Fn predicate.now self.now (successor_use self.now q) (has q qs.items)) }
+    {
+        let mut chosen = Vec::new(alloc);
+        for place in self.targets.iter(thread) {
+            if predicate(self, &self.successor_use(place)) {
+                chosen.push(place)?;
+            }
+        }
+        Ok(chosen)
+    }
+}
