@@ -1,0 +1,3 @@
+pub mod KnownTypes
+pub mod SameHandle
+pub mod ErasedTypes

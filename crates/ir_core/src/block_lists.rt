@@ -1,0 +1,132 @@
+//! Blocks in the lists of regions.
+ghost use Rattle.std.specs.Prelude.{◌≡◌, ◌↔◌, ◌+◌, ◌++◌, ◌∷◌, [], ℕ, None, Some, IsSome, IfSome, IsTrue, slice_get, insert, remove};
+ghost use Rattle.ir_program.specs.declared.handles.Ptr.{Ptr};
+ghost use Rattle.ir_program.specs.declared.handles.BasicBlock.{BasicBlock};
+ghost use Rattle.ir_program.specs.declared.handles.Region.{Region};
+ghost use Rattle.ir_program.specs.declared.handles.Value.{Value};
+ghost use Rattle.ir_program.specs.declared.handles.IRNode.{IRNode};
+ghost use Rattle.ir_program.specs.declared.handles.IRNode.TheVariants.{BasicBlock as BlockNode, Region as RegionNode};
+ghost use Rattle.ir_program.specs.Program.{block_at, region_at, type_at};
+ghost use Rattle.ir_program.specs.Lists.{blocks_in, StandsInRegion, IsLinkedBlock, IsUnlinkedBlock, StandsInside};
+ghost use Rattle.ir_program.specs.Edits.{EditsRegion};
+
+use crate::Context;
+use ir_program::{BasicBlock, Ptr, Region};
+use ir_types::DialectTables;
+
+/// A block in the list of the region that it stands in.
+pub trait BlockLists {
+    /// The handle of the block.
+    ghost block: { Self → Ptr BasicBlock };
+
+    /// Whether the block stands in a region.
+    fn is_linked<D: DialectTables>(self, ctx: &Context<D>) -> bool
+        requires { IsSome (block_at ctx.now.program (block self)) }
+        ensures linked { IsTrue result ↔ IsLinkedBlock ctx.now.program (block self) };
+
+    /// The block that stands right after this one in its region.
+    fn get_next<D: DialectTables>(self, ctx: &Context<D>) -> Option<Ptr<BasicBlock>>
+        requires { IsSome (block_at ctx.now.program (block self)) }
+        ensures next { (region : Ptr Region) (k : ℕ) → slice_get (blocks_in ctx.now.program region) k ≡ Some (block self) → result ≡ slice_get (blocks_in ctx.now.program region) (k + 1) }
+        ensures unlinked { IsUnlinkedBlock ctx.now.program (block self) → result ≡ None }
+        ensures live { IfSome result (λ next. IsSome (block_at ctx.now.program next)) };
+
+    /// The block that stands right before this one in its region.
+    fn get_prev<D: DialectTables>(self, ctx: &Context<D>) -> Option<Ptr<BasicBlock>>
+        requires { IsSome (block_at ctx.now.program (block self)) }
+        ensures previous { (region : Ptr Region) (k : ℕ) → slice_get (blocks_in ctx.now.program region) (k + 1) ≡ Some (block self) → result ≡ slice_get (blocks_in ctx.now.program region) k }
+        ensures first { (region : Ptr Region) → slice_get (blocks_in ctx.now.program region) 0 ≡ Some (block self) → result ≡ None }
+        ensures unlinked { IsUnlinkedBlock ctx.now.program (block self) → result ≡ None }
+        ensures live { IfSome result (λ previous. IsSome (block_at ctx.now.program previous)) };
+
+    /// Puts the block, which stands in no region, right after `mark`, which stands in one.
+    fn insert_after<D: DialectTables>(self, ctx: &mut Context<D>, mark: Ptr<BasicBlock>)
+        requires mark { IsLinkedBlock ctx.old.program mark }
+        requires block { IsSome (block_at ctx.old.program (block self)) }
+        requires unlinked { IsUnlinkedBlock ctx.old.program (block self) }
+        requires apart { StandsInside ctx.old.program (BlockNode (block self)) (BlockNode mark) → ⊥ }
+        ensures edited { (region : Ptr Region) (k : ℕ) → slice_get (blocks_in ctx.old.program region) k ≡ Some mark → EditsRegion ctx.old.program ctx.new.program region (λ v. record v { blocks = insert v.blocks (k + 1) (block self) }) }
+        ensures values { (v : Value) → type_at ctx.new.program v ≡ type_at ctx.old.program v }
+        ensures counter { ctx.new.program.counter ≡ ctx.old.program.counter }
+        ensures types { ctx.new.types ≡ ctx.old.types };
+
+    /// Puts the block, which stands in no region, right before `mark`, which stands in one.
+    fn insert_before<D: DialectTables>(self, ctx: &mut Context<D>, mark: Ptr<BasicBlock>)
+        requires mark { IsLinkedBlock ctx.old.program mark }
+        requires block { IsSome (block_at ctx.old.program (block self)) }
+        requires unlinked { IsUnlinkedBlock ctx.old.program (block self) }
+        requires apart { StandsInside ctx.old.program (BlockNode (block self)) (BlockNode mark) → ⊥ }
+        ensures edited { (region : Ptr Region) (k : ℕ) → slice_get (blocks_in ctx.old.program region) k ≡ Some mark → EditsRegion ctx.old.program ctx.new.program region (λ v. record v { blocks = insert v.blocks k (block self) }) }
+        ensures values { (v : Value) → type_at ctx.new.program v ≡ type_at ctx.old.program v }
+        ensures counter { ctx.new.program.counter ≡ ctx.old.program.counter }
+        ensures types { ctx.new.types ≡ ctx.old.types };
+
+    /// Puts the block, which stands in no region, before all blocks of a region.
+    fn insert_at_front<D: DialectTables>(self, ctx: &mut Context<D>, container: Ptr<Region>)
+        requires region { IsSome (region_at ctx.old.program container) }
+        requires block { IsSome (block_at ctx.old.program (block self)) }
+        requires unlinked { IsUnlinkedBlock ctx.old.program (block self) }
+        requires apart { StandsInside ctx.old.program (BlockNode (block self)) (RegionNode container) → ⊥ }
+        ensures edited { EditsRegion ctx.old.program ctx.new.program container (λ v. record v { blocks = block self ∷ v.blocks }) }
+        ensures values { (v : Value) → type_at ctx.new.program v ≡ type_at ctx.old.program v }
+        ensures counter { ctx.new.program.counter ≡ ctx.old.program.counter }
+        ensures types { ctx.new.types ≡ ctx.old.types };
+
+    /// Puts the block, which stands in no region, after all blocks of a region.
+    fn insert_at_back<D: DialectTables>(self, ctx: &mut Context<D>, container: Ptr<Region>)
+        requires region { IsSome (region_at ctx.old.program container) }
+        requires block { IsSome (block_at ctx.old.program (block self)) }
+        requires unlinked { IsUnlinkedBlock ctx.old.program (block self) }
+        requires apart { StandsInside ctx.old.program (BlockNode (block self)) (RegionNode container) → ⊥ }
+        ensures edited { EditsRegion ctx.old.program ctx.new.program container (λ v. record v { blocks = v.blocks ++ block self ∷ [] }) }
+        ensures values { (v : Value) → type_at ctx.new.program v ≡ type_at ctx.old.program v }
+        ensures counter { ctx.new.program.counter ≡ ctx.old.program.counter }
+        ensures types { ctx.new.types ≡ ctx.old.types };
+
+    /// Takes the block out of the region that it stands in. It keeps all that it holds.
+    fn unlink<D: DialectTables>(self, ctx: &mut Context<D>)
+        requires { IsLinkedBlock ctx.old.program (block self) }
+        ensures edited { (region : Ptr Region) (k : ℕ) → slice_get (blocks_in ctx.old.program region) k ≡ Some (block self) → EditsRegion ctx.old.program ctx.new.program region (λ v. record v { blocks = remove v.blocks k }) }
+        ensures unlinked { IsUnlinkedBlock ctx.new.program (block self) }
+        // Nothing stands inside what it did not stand in.
+        ensures inside { (outer inner : IRNode) → StandsInside ctx.new.program outer inner → StandsInside ctx.old.program outer inner }
+        ensures values { (v : Value) → type_at ctx.new.program v ≡ type_at ctx.old.program v }
+        ensures counter { ctx.new.program.counter ≡ ctx.old.program.counter }
+        ensures types { ctx.new.types ≡ ctx.old.types };
+}
+
+impl BlockLists for Ptr<BasicBlock> {
+    ghost block = { λ p. p };
+
+    fn is_linked<D: DialectTables>(self, ctx: &Context<D>) -> bool {
+        ctx.program.parent_region(self).is_some()
+    }
+
+    fn get_next<D: DialectTables>(self, ctx: &Context<D>) -> Option<Ptr<BasicBlock>> {
+        ctx.program.next_block(self)
+    }
+
+    fn get_prev<D: DialectTables>(self, ctx: &Context<D>) -> Option<Ptr<BasicBlock>> {
+        ctx.program.previous_block(self)
+    }
+
+    fn insert_after<D: DialectTables>(self, ctx: &mut Context<D>, mark: Ptr<BasicBlock>) {
+        ctx.program.insert_block_after(mark, self);
+    }
+
+    fn insert_before<D: DialectTables>(self, ctx: &mut Context<D>, mark: Ptr<BasicBlock>) {
+        ctx.program.insert_block_before(mark, self);
+    }
+
+    fn insert_at_front<D: DialectTables>(self, ctx: &mut Context<D>, container: Ptr<Region>) {
+        ctx.program.insert_block_at_front(container, self);
+    }
+
+    fn insert_at_back<D: DialectTables>(self, ctx: &mut Context<D>, container: Ptr<Region>) {
+        ctx.program.insert_block_at_back(container, self);
+    }
+
+    fn unlink<D: DialectTables>(self, ctx: &mut Context<D>) {
+        ctx.program.unlink_block(self);
+    }
+}

@@ -1,0 +1,132 @@
+//! Operations in the lists of blocks.
+ghost use Rattle.std.specs.Prelude.{◌≡◌, ◌↔◌, ◌+◌, ◌++◌, ◌∷◌, [], ℕ, None, Some, IsSome, IfSome, IsTrue, slice_get, insert, remove};
+ghost use Rattle.ir_program.specs.declared.handles.Ptr.{Ptr};
+ghost use Rattle.ir_program.specs.declared.handles.Operation.{Operation};
+ghost use Rattle.ir_program.specs.declared.handles.BasicBlock.{BasicBlock};
+ghost use Rattle.ir_program.specs.declared.handles.Value.{Value};
+ghost use Rattle.ir_program.specs.declared.handles.IRNode.{IRNode};
+ghost use Rattle.ir_program.specs.declared.handles.IRNode.TheVariants.{Operation as OperationNode, BasicBlock as BlockNode};
+ghost use Rattle.ir_program.specs.Program.{operation_at, block_at, type_at};
+ghost use Rattle.ir_program.specs.Lists.{operations_in, StandsInBlock, IsLinkedOperation, IsUnlinkedOperation, StandsInside};
+ghost use Rattle.ir_program.specs.Edits.{EditsBlock};
+
+use crate::Context;
+use ir_program::{BasicBlock, Operation, Ptr};
+use ir_types::DialectTables;
+
+/// An operation in the list of the block that it stands in.
+pub trait OperationLists {
+    /// The handle of the operation.
+    ghost op: { Self → Ptr Operation };
+
+    /// Whether the operation stands in a block.
+    fn is_linked<D: DialectTables>(self, ctx: &Context<D>) -> bool
+        requires { IsSome (operation_at ctx.now.program (op self)) }
+        ensures linked { IsTrue result ↔ IsLinkedOperation ctx.now.program (op self) };
+
+    /// The operation that stands right after this one in its block.
+    fn get_next<D: DialectTables>(self, ctx: &Context<D>) -> Option<Ptr<Operation>>
+        requires { IsSome (operation_at ctx.now.program (op self)) }
+        ensures next { (block : Ptr BasicBlock) (k : ℕ) → slice_get (operations_in ctx.now.program block) k ≡ Some (op self) → result ≡ slice_get (operations_in ctx.now.program block) (k + 1) }
+        ensures unlinked { IsUnlinkedOperation ctx.now.program (op self) → result ≡ None }
+        ensures live { IfSome result (λ next. IsSome (operation_at ctx.now.program next)) };
+
+    /// The operation that stands right before this one in its block.
+    fn get_prev<D: DialectTables>(self, ctx: &Context<D>) -> Option<Ptr<Operation>>
+        requires { IsSome (operation_at ctx.now.program (op self)) }
+        ensures previous { (block : Ptr BasicBlock) (k : ℕ) → slice_get (operations_in ctx.now.program block) (k + 1) ≡ Some (op self) → result ≡ slice_get (operations_in ctx.now.program block) k }
+        ensures first { (block : Ptr BasicBlock) → slice_get (operations_in ctx.now.program block) 0 ≡ Some (op self) → result ≡ None }
+        ensures unlinked { IsUnlinkedOperation ctx.now.program (op self) → result ≡ None }
+        ensures live { IfSome result (λ previous. IsSome (operation_at ctx.now.program previous)) };
+
+    /// Puts the operation, which stands in no block, right after `mark`, which stands in one.
+    fn insert_after<D: DialectTables>(self, ctx: &mut Context<D>, mark: Ptr<Operation>)
+        requires mark { IsLinkedOperation ctx.old.program mark }
+        requires op { IsSome (operation_at ctx.old.program (op self)) }
+        requires unlinked { IsUnlinkedOperation ctx.old.program (op self) }
+        requires apart { StandsInside ctx.old.program (OperationNode (op self)) (OperationNode mark) → ⊥ }
+        ensures edited { (block : Ptr BasicBlock) (k : ℕ) → slice_get (operations_in ctx.old.program block) k ≡ Some mark → EditsBlock ctx.old.program ctx.new.program block (λ v. record v { operations = insert v.operations (k + 1) (op self) }) }
+        ensures values { (v : Value) → type_at ctx.new.program v ≡ type_at ctx.old.program v }
+        ensures counter { ctx.new.program.counter ≡ ctx.old.program.counter }
+        ensures types { ctx.new.types ≡ ctx.old.types };
+
+    /// Puts the operation, which stands in no block, right before `mark`, which stands in one.
+    fn insert_before<D: DialectTables>(self, ctx: &mut Context<D>, mark: Ptr<Operation>)
+        requires mark { IsLinkedOperation ctx.old.program mark }
+        requires op { IsSome (operation_at ctx.old.program (op self)) }
+        requires unlinked { IsUnlinkedOperation ctx.old.program (op self) }
+        requires apart { StandsInside ctx.old.program (OperationNode (op self)) (OperationNode mark) → ⊥ }
+        ensures edited { (block : Ptr BasicBlock) (k : ℕ) → slice_get (operations_in ctx.old.program block) k ≡ Some mark → EditsBlock ctx.old.program ctx.new.program block (λ v. record v { operations = insert v.operations k (op self) }) }
+        ensures values { (v : Value) → type_at ctx.new.program v ≡ type_at ctx.old.program v }
+        ensures counter { ctx.new.program.counter ≡ ctx.old.program.counter }
+        ensures types { ctx.new.types ≡ ctx.old.types };
+
+    /// Puts the operation, which stands in no block, before all operations of a block.
+    fn insert_at_front<D: DialectTables>(self, ctx: &mut Context<D>, container: Ptr<BasicBlock>)
+        requires block { IsSome (block_at ctx.old.program container) }
+        requires op { IsSome (operation_at ctx.old.program (op self)) }
+        requires unlinked { IsUnlinkedOperation ctx.old.program (op self) }
+        requires apart { StandsInside ctx.old.program (OperationNode (op self)) (BlockNode container) → ⊥ }
+        ensures edited { EditsBlock ctx.old.program ctx.new.program container (λ v. record v { operations = op self ∷ v.operations }) }
+        ensures values { (v : Value) → type_at ctx.new.program v ≡ type_at ctx.old.program v }
+        ensures counter { ctx.new.program.counter ≡ ctx.old.program.counter }
+        ensures types { ctx.new.types ≡ ctx.old.types };
+
+    /// Puts the operation, which stands in no block, after all operations of a block.
+    fn insert_at_back<D: DialectTables>(self, ctx: &mut Context<D>, container: Ptr<BasicBlock>)
+        requires block { IsSome (block_at ctx.old.program container) }
+        requires op { IsSome (operation_at ctx.old.program (op self)) }
+        requires unlinked { IsUnlinkedOperation ctx.old.program (op self) }
+        requires apart { StandsInside ctx.old.program (OperationNode (op self)) (BlockNode container) → ⊥ }
+        ensures edited { EditsBlock ctx.old.program ctx.new.program container (λ v. record v { operations = v.operations ++ op self ∷ [] }) }
+        ensures values { (v : Value) → type_at ctx.new.program v ≡ type_at ctx.old.program v }
+        ensures counter { ctx.new.program.counter ≡ ctx.old.program.counter }
+        ensures types { ctx.new.types ≡ ctx.old.types };
+
+    /// Takes the operation out of the block that it stands in. It keeps all that it holds.
+    fn unlink<D: DialectTables>(self, ctx: &mut Context<D>)
+        requires { IsLinkedOperation ctx.old.program (op self) }
+        ensures edited { (block : Ptr BasicBlock) (k : ℕ) → slice_get (operations_in ctx.old.program block) k ≡ Some (op self) → EditsBlock ctx.old.program ctx.new.program block (λ v. record v { operations = remove v.operations k }) }
+        ensures unlinked { IsUnlinkedOperation ctx.new.program (op self) }
+        // Nothing stands inside what it did not stand in.
+        ensures inside { (outer inner : IRNode) → StandsInside ctx.new.program outer inner → StandsInside ctx.old.program outer inner }
+        ensures values { (v : Value) → type_at ctx.new.program v ≡ type_at ctx.old.program v }
+        ensures counter { ctx.new.program.counter ≡ ctx.old.program.counter }
+        ensures types { ctx.new.types ≡ ctx.old.types };
+}
+
+impl OperationLists for Ptr<Operation> {
+    ghost op = { λ p. p };
+
+    fn is_linked<D: DialectTables>(self, ctx: &Context<D>) -> bool {
+        ctx.program.parent_block(self).is_some()
+    }
+
+    fn get_next<D: DialectTables>(self, ctx: &Context<D>) -> Option<Ptr<Operation>> {
+        ctx.program.next_operation(self)
+    }
+
+    fn get_prev<D: DialectTables>(self, ctx: &Context<D>) -> Option<Ptr<Operation>> {
+        ctx.program.previous_operation(self)
+    }
+
+    fn insert_after<D: DialectTables>(self, ctx: &mut Context<D>, mark: Ptr<Operation>) {
+        ctx.program.insert_operation_after(mark, self);
+    }
+
+    fn insert_before<D: DialectTables>(self, ctx: &mut Context<D>, mark: Ptr<Operation>) {
+        ctx.program.insert_operation_before(mark, self);
+    }
+
+    fn insert_at_front<D: DialectTables>(self, ctx: &mut Context<D>, container: Ptr<BasicBlock>) {
+        ctx.program.insert_operation_at_front(container, self);
+    }
+
+    fn insert_at_back<D: DialectTables>(self, ctx: &mut Context<D>, container: Ptr<BasicBlock>) {
+        ctx.program.insert_operation_at_back(container, self);
+    }
+
+    fn unlink<D: DialectTables>(self, ctx: &mut Context<D>) {
+        ctx.program.unlink_operation(self);
+    }
+}
