@@ -1,0 +1,2 @@
+pub mod OperandRows
+pub mod Orders

@@ -1,0 +1,62 @@
+//! The phases, one after the other.
+ghost use Rattle.std.specs.Prelude.{◌≡◌, IfOk};
+
+use crate::erasing::erase_operations;
+use crate::making::make_operations;
+use crate::moving::link_again;
+use crate::operands::{give_operands, remove_operands, replace_operands};
+use crate::uses::{count_uses, replace_uses};
+use crate::walking::{count_operands, count_operations};
+use ir_names::GrowError;
+use ir_program::Program;
+use std::alloc::Global;
+
+/// How much each phase did.
+#[derive(Clone, Copy, Debug)]
+pub struct Counts {
+    pub made: u32,
+    pub given: u64,
+    pub used: usize,
+    pub moved: usize,
+    pub walked: u64,
+    pub counted: u64,
+    pub replaced: u64,
+    pub removed: u64,
+    pub linked: u64,
+    pub erased: u64,
+}
+
+/// Makes a program of `size` operations, and runs each phase on it.
+///
+/// # Errors
+/// `Memory`, and `CounterFull` where there are more operations or values than can be named.
+pub fn run(alloc: Global, size: u32) -> Result<Counts, GrowError>
+    ensures made { IfOk result (λ c. c.made ≡ size) }
+    ensures linked { IfOk result (λ c. c.linked ≡ size) }
+{
+    let mut program = Program::new(alloc);
+    let block = program.new_block(alloc, 0u32)?;
+    let program = &mut program;
+    make_operations(alloc, program, block, size)?;
+    let given = give_operands(program, block, size)?;
+    let used = count_uses(program, block);
+    let moved = replace_uses(program, block);
+    let walked = count_operations(program, block);
+    let counted = count_operands(program, block);
+    let replaced = replace_operands(program, block, size);
+    let removed = remove_operands(program, block, size);
+    let linked = link_again(program, block, size);
+    let erased = erase_operations(program, block, size);
+    Ok(Counts {
+        made: size,
+        given,
+        used,
+        moved,
+        walked,
+        counted,
+        replaced,
+        removed,
+        linked,
+        erased,
+    })
+}
