@@ -1,16 +1,17 @@
 //! What a dialect says of its kinds.
-ghost use Rattle.std.specs.Prelude.{◌≡◌, ◌↔◌, ℕ, Bool, true, List, Option, IfOk};
+ghost use Rattle.std.specs.Prelude.{◌≡◌, ◌↔◌, ℕ, Bool, true, List, Option, IfOk, map, option_map};
 ghost use Rattle.ir_names.specs.declared.interfaces.AttrInterface.{AttrInterface};
 ghost use Rattle.ir_names.specs.declared.interfaces.OpInterface.{OpInterface};
 ghost use Rattle.ir_names.specs.declared.interfaces.RegionKind.{RegionKind};
 ghost use Rattle.ir_names.specs.declared.interfaces.TypeInterface.{TypeInterface};
 ghost use Rattle.ir_names.specs.declared.kinds.TypeHandle.{TypeHandle};
 ghost use Rattle.ir_names.specs.Interfaces.{ImplementsParents, ImplementsParentsOfAttr};
+ghost use Rattle.ir_names.specs.Identifier.{text_of};
 ghost use Rattle.ir_names.specs.Names.{op_id_text, type_id_text, attr_id_text};
 ghost use Rattle.ir_names.specs.Text.{is_identifier};
 
 use ir_names::{
-    AttrId, AttrInterface, Dialects, OpId, OpInterface, RegionKind, TypeHandle, TypeId,
+    AttrId, AttrInterface, Dialects, Identifier, OpId, OpInterface, RegionKind, TypeHandle, TypeId,
     TypeInterface,
 };
 use std::alloc::{AllocError, Global};
@@ -74,6 +75,10 @@ pub trait DialectTables: Dialects {
     /// The name of the attribute that holds the names of results and arguments.
     ghost names: { List ℕ };
 
+    /// The names that an attribute holds, if it holds names: the text of each, and `None` in the place of one that was
+    /// not given.
+    ghost names_in: { Self.Attr → Option (List (Option (List ℕ))) };
+
     /// The location of what comes from no source.
     fn unknown_location() -> Self::Location
         ensures { result ≡ nowhere };
@@ -122,6 +127,10 @@ pub trait DialectTables: Dialects {
     fn names_key() -> &'static str
         ensures { result.now ≡ names };
 
+    /// The names that an attribute holds for results and arguments, in their order, if it holds names.
+    fn names_of(attr: &Self::Attr) -> Option<&[Option<Identifier>]>
+        ensures { option_map (λ held. map (option_map text_of) held.now) result ≡ names_in attr.now };
+
     /// A key that equals the given one.
     fn clone_type_key(alloc: Global, key: &Self::TypeKey) -> Result<Self::TypeKey, AllocError>
         ensures { IfOk result (λ copy. Self.TypeKey.eq copy key.now ≡ true) };
@@ -156,6 +165,9 @@ pub trait DialectTables: Dialects {
 
     /// Equal attributes implement the same interfaces.
     ghost same_attr_interfaces: { (x y : Self.Attr) → Self.Attr.eq x y ≡ true → (interface : AttrInterface) → attr_has x interface ≡ attr_has y interface };
+
+    /// Equal attributes hold the same names.
+    ghost same_attr_names: { (x y : Self.Attr) → Self.Attr.eq x y ≡ true → names_in x ≡ names_in y };
 
     /// Operations that implement an interface implement those that it stands on.
     ghost op_parents: { (kind : Self.OpKind) → ImplementsParents (op_has kind) };

@@ -1,8 +1,8 @@
 //! A dialect with two kinds of each sort.
 use crate::DialectTables;
 use ir_names::{
-    AttrId, AttrInterface, AttrName, DialectName, Dialects, OpId, OpInterface, OpName, RegionKind,
-    TypeHandle, TypeId, TypeInterface, TypeName,
+    AttrId, AttrInterface, AttrName, DialectName, Dialects, Identifier, OpId, OpInterface, OpName,
+    RegionKind, TypeHandle, TypeId, TypeInterface, TypeName,
 };
 use std::alloc::{AllocError, Global};
 
@@ -139,6 +139,8 @@ impl DialectTables for Tiny {
 
     ghost names = { codes "names" };
 
+    ghost names_in = { λ _. None };
+
     fn unknown_location() -> TinyLocation {
         TinyLocation::Unknown
     }
@@ -229,6 +231,10 @@ impl DialectTables for Tiny {
         "names"
     }
 
+    fn names_of(_attr: &TinyAttr) -> Option<&[Option<Identifier>]> {
+        None
+    }
+
     fn clone_type_key(_alloc: Global, key: &TinyType) -> Result<TinyType, AllocError> {
         match key {
             TinyType::Integer(width) => Ok(TinyType::Integer(*width)),
@@ -282,6 +288,8 @@ impl DialectTables for Tiny {
       | attrs.Number x ↦ elim [ attrs.Number y ↦ λ _ _. refl | attrs.«Type» y ↦ λ e _. absurd (true≢false (sym e)) ]
       | attrs.«Type» x ↦ elim [ attrs.Number y ↦ λ e _. absurd (true≢false (sym e)) | attrs.«Type» y ↦ λ _ _. refl ]
     ] };
+
+    ghost same_attr_names = { λ _ _ _. refl };
 
     ghost op_parents = { elim [
       | ops.Graph ↦ λ _ e. absurd (true≢false (sym e))
