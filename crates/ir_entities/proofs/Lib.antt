@@ -17,3 +17,4 @@ pub mod RowWalks
 pub mod RowEdits
 pub mod Takes
 pub mod Orders
+pub mod Vacant

@@ -46,6 +46,10 @@ module _ {T : Type 0} where
     pub cleared : held new x ≡ None
     pub others : (i : ℕ) → i ≢ x → slot_at new i ≡ slot_at old i
 
+  -- no key leads to a value
+  abbrev pub IsVacant : List (Slot T) → Type 0
+  IsVacant slots = (p : Key) → get slots p ≡ None
+
   -- some slot that is vacant has had its greatest version
   pub record HasFullSlot (slots : List (Slot T)) : Type 0 where
     pub slot : ℕ

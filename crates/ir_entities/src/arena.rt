@@ -1,6 +1,7 @@
 //! Values under keys that no later value gets.
-ghost use Rattle.std.specs.Prelude.{◌≡◌, ◌≢◌, ℕ, ◌+◌, ◌<◌, ◌≤◌, [], IfOk, Err, OnOk, OnErr, IfErr, Some, None, IsSome, is_some, length, option_copied};
-ghost use Rattle.ir_entities.specs.Arena.{get, held, Updates, SetsSlot, ClearsSlot, IsSpent, KeepsSpent, HasFullSlot};
+ghost use Rattle.std.specs.Prelude.{◌≡◌, ◌≢◌, ◌↔◌, IsTrue, ℕ, ◌+◌, ◌<◌, ◌≤◌, [], IfOk, Err, OnOk, OnErr, IfErr, Some, None, IsSome, is_some, is_none, length, option_copied};
+ghost use Rattle.std.specs.List.{list_all};
+ghost use Rattle.ir_entities.specs.Arena.{get, held, IsVacant, Updates, SetsSlot, ClearsSlot, IsSpent, KeepsSpent, HasFullSlot};
 ghost use Rattle.ir_names.specs.declared.growth.GrowError.TheVariants.{CounterFull};
 ghost use Rattle.std.specs.Borrow.{sem};
 
@@ -87,6 +88,20 @@ impl<T> Arena<T> {
         ensures { result ≡ length self.now }
     {
         self.slots.len()
+    }
+
+    /// Whether each slot is vacant.
+    fn has_no_value(&self) -> bool
+        ensures { result ≡ list_all (λ s. is_none s.value) self.now }
+    {
+        self.slots.iter().all(|slot| slot.value.is_none())
+    }
+
+    /// Whether no key leads to a value.
+    pub fn is_vacant(&self) -> bool
+        ensures { IsTrue result ↔ IsVacant self.now }
+    {
+        self.has_no_value()
     }
 
     /// Whether the key leads to a value.

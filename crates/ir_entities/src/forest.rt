@@ -2,7 +2,7 @@
 
 ghost use Rattle.std.specs.Prelude.{List, ◌≡◌, ◌≢◌, ℕ, Bool, true, false, ◌+◌, ◌<◌, ◌≤◌, ◌++◌, ◌∷◌, [], map, IfOk, OnOk, OnErr, IfSome, IfNone, IsNone, IsSome, IsTrue, ◌↔◌, MatchOption, length, Some, None};
 ghost use Rattle.ir_entities.specs.declared.arena.Key.{Key};
-ghost use Rattle.ir_entities.specs.Arena.{get, held, slot_at, ClearsSlot, Updates, KeepsSpent, IsSpent};
+ghost use Rattle.ir_entities.specs.Arena.{get, held, slot_at, IsVacant, ClearsSlot, Updates, KeepsSpent, IsSpent};
 ghost use Rattle.ir_entities.specs.Links.{IsLinked, list_at, has};
 ghost use Rattle.ir_entities.specs.Shape.{IsInside, IsIn};
 ghost use Rattle.ir_entities.specs.Forest.{ops_in, blocks_in, regions_in, IsRootOp, IsUsed, shape_of};
@@ -73,6 +73,13 @@ impl<O, B, R> Forest<O, B, R> {
             in_regions: Siblings::new(alloc),
             in_ops: Siblings::new(alloc),
         }
+    }
+
+    /// Whether there is no operation, no block and no region.
+    pub fn is_vacant(&self) -> bool
+        ensures { IsTrue result ↔ (IsVacant self.now.ops × IsVacant self.now.blocks × IsVacant self.now.regions) }
+    {
+        self.ops.is_vacant() && self.blocks.is_vacant() && self.regions.is_vacant()
     }
 
     /// What this place stands in.
