@@ -13,11 +13,11 @@ use Rattle.ir_program.specs.declared.handles.DefiningEntity.{DefiningEntity}
 use Rattle.ir_program.specs.declared.handles.DefiningEntity.TheVariants.{Op as ByOp, Block as ByBlock}
 use Rattle.ir_program.proofs.Slotted.{map_of_some}
 
-map-then : {X : Type 0} (f g h : X → X) → ((x : X) → g (f x) ≡ h x) → (o : Option X) → option_map g (option_map f o) ≡ option_map h o
+pub map-then : {X : Type 0} (f g h : X → X) → ((x : X) → g (f x) ≡ h x) → (o : Option X) → option_map g (option_map f o) ≡ option_map h o
 map-then f g h same None = refl
 map-then f g h same (Some x) = ap Some (same x)
 
-map-same_as : {X : Type 0} (f : X → X) → ((x : X) → x ≡ f x) → (o : Option X) → o ≡ option_map f o
+pub map-same_as : {X : Type 0} (f : X → X) → ((x : X) → x ≡ f x) → (o : Option X) → o ≡ option_map f o
 map-same_as f same None = refl
 map-same_as f same (Some x) = ap Some (same x)
 

@@ -3,7 +3,7 @@ use Rattle.std.proofs.Common.{◌≡◌, ◌≢◌, ◌↔◌, ℕ, ◌⊎◌, i
 use Rattle.std.proofs.lemmas.Bool.{both_ways, cases_eq, eq-eqb, ne_eqb}
 use Rattle.ir_entities.specs.declared.arena.Key.{Key}
 use Rattle.ir_entities.specs.declared.arena.Slot.{Slot}
-use Rattle.ir_entities.specs.Arena.{get, held, same, SetsSlot, Updates, IsSpent, KeepsSpent}
+use Rattle.ir_entities.specs.Arena.{get, held, same, SetsSlot, Updates, HasFullSlot, IsSpent, KeepsSpent}
 use Rattle.ir_entities.specs.Links.{list_at, has}
 use Rattle.ir_entities.specs.Forest.{Forest, IsForest}
 use Rattle.ir_entities.specs.Uses.{key_of, place_of}
@@ -29,6 +29,7 @@ use Rattle.ir_program.proofs.InBlocks.{in_blocks}
 use Rattle.ir_program.specs.Listed.{AreListed}
 use Rattle.ir_program.specs.Lists.{IsUnlinkedOperation, operations_in}
 use Rattle.ir_program.specs.Made.{MakesOperation}
+use Rattle.ir_program.proofs.OwnNumbers.{own-same}
 
 module _ {O B : Type 0} (c : Program O B) (f : Forest (OperationRecord O) (BlockRecord B) RegionRecord) where
   -- the program with another forest
@@ -46,6 +47,7 @@ module _ {O B : Type 0} (c : Program O B) (f : Forest (OperationRecord O) (Block
     values = λ v t. subst (λ ds. (option_map (λ (d : Definition). d.thread) (numbered v.number ds) ≡ Some t) ↔ (key_of c.values t ≡ Some v)) (sym (definitions v.definer)) (inv.values v t);
     blocks = λ p t. subst (λ o. (o ≡ Some t) ↔ (key_of c.targets t ≡ Some p)) (sym (blocks p)) (inv.blocks p t);
     numbers = λ e. subst (AreNumbered c.counter) (sym (definitions e)) (inv.numbers e);
+    own = own-same (definitions_of c) (definitions_of in_forest) inv.own definitions;
     homes = homes;
   }
 
@@ -150,6 +152,7 @@ module _ {O B : Type 0} (c : Program O B) (f : Forest (OperationRecord O) (Block
     regions = λ q. ap (λ s. option_map (λ _. region_of (in_forest c f) q) (get s q.key)) regions ∙ option_map-same _ _ _ (λ r e. rw (blocks, in_regions) refl);
     erased = record { operations = kept; blocks = λ k s. rw blocks s; regions = λ k s. rw regions s };
     counter = refl;
+    region_slots = λ h. subst HasFullSlot regions h;
   }
 
 -- an operation whose slot no list has stands in no block

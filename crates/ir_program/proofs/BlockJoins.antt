@@ -7,7 +7,7 @@ use Rattle.ir_entities.specs.Links.{AreDistinct}
 use Rattle.ir_entities.specs.Uses.{Uses, key_of, place_of, Names, IsDefined}
 use Rattle.ir_entities.proofs.Placed.{placed-same}
 use Rattle.ir_program.specs.Program.{Program, BlockView, typed_value, operation_of, block_of, definitions_of, numbered, value_named, type_at, value_in, arguments_at, argument_count}
-use Rattle.ir_program.specs.Sound.{IsProgram, IsThreaded, AreNumbered, operand_row, thread_of_block}
+use Rattle.ir_program.specs.Sound.{IsProgram, IsThreaded, AreNumbered, HaveOwnNumbers, operand_row, thread_of_block}
 use Rattle.ir_program.specs.Edits.{EditsBlock, IsUnchanged}
 use Rattle.ir_program.specs.Making.{InsertsDefinition, RemovesDefinition}
 use Rattle.ir_program.specs.Uses.{IsUsed}
@@ -25,6 +25,7 @@ use Rattle.ir_program.proofs.Joins.{found, threaded-joined, threaded-left, map-i
 use Rattle.ir_program.proofs.Numbers.{numbers_of, numbered-joined, numbered-later, numbered-removed}
 use Rattle.ir_program.proofs.Stands.{value_for, arguments-of, argument-shown, type-gone}
 use Rattle.ir_program.proofs.Leaves.{IsFreeAt, free-argument, thread-defined, thread-unnamed, names-left}
+use Rattle.ir_program.proofs.OwnNumbers.{own-same, own-joined, own-left}
 
 -- a block whose arguments change and whose thread doesn't
 module _ {O B : Type 0} (c : Program O B) (p : Ptr BasicBlock) (b w : BlockRecord B) (here : get c.forest.blocks p.key ≡ Some b) (thread : w.thread ≡ b.thread) where
@@ -38,9 +39,9 @@ module _ {O B : Type 0} (c : Program O B) (p : Ptr BasicBlock) (b w : BlockRecor
   -- all is sound where threads and numbers are
   pub arguments-sound : (u : Uses Value) (n : ℕ) → IsProgram c → u.places ≡ c.values.places → c.counter ≤ n
       → IsThreaded (found (definitions_of (with_block c p b w here u c.targets n))) u
-      → AreNumbered n w.arguments.items
+      → AreNumbered n w.arguments.items → HaveOwnNumbers (definitions_of (with_block c p b w here u c.targets n))
       → IsProgram (with_block c p b w here u c.targets n)
-  arguments-sound u n inv places later threads numbers = record {
+  arguments-sound u n inv places later threads numbers own = record {
     operands = placed-same (place_of c.values) (operand_row c) inv.operands (place_of u) (operand_row c) (λ q. ap (λ ps. place_of (record u { places = ps }) q) places) (λ i. refl);
     successors = inv.successors;
     values = threads;
@@ -49,6 +50,7 @@ module _ {O B : Type 0} (c : Program O B) (p : Ptr BasicBlock) (b w : BlockRecor
         (λ (q : e ≡ ByBlock p). subst (AreNumbered n) (sym (ap (definitions_of (with_block c p b w here u c.targets n)) q ∙ arguments-here c p b w here u c.targets n)) numbers)
         (λ ne. subst (AreNumbered n) (sym (arguments-elsewhere c p b w here u c.targets n e ne)) (numbered-later c.counter n (definitions_of c e) later (inv.numbers e)))
         (same_definer e (ByBlock p));
+    own = own;
     homes = inv.homes;
   }
 
@@ -76,7 +78,8 @@ module _ {O B : Type 0} (c : Program O B) (p : Ptr BasicBlock) (b w : BlockRecor
   pub same-block-sound : (u : Uses Value) → u ≡ c.values → IsProgram c → w.arguments.items ≡ b.arguments.items → IsProgram (with_block c p b w here u c.targets c.counter)
   same-block-sound u is inv same = subst (λ x. IsProgram (with_block c p b w here x c.targets c.counter)) (sym is) (arguments-sound c.values c.counter inv refl (omega arith)
       (λ v t. subst (λ ds. (option_map (λ (d : Definition). d.thread) (numbered v.number ds) ≡ Some t) ↔ (key_of c.values t ≡ Some v)) (sym (same-definitions c.values c.counter same v.definer)) (inv.values v t))
-      (subst (AreNumbered c.counter) (arguments-of c p b here ∙ sym same) (inv.numbers (ByBlock p))))
+      (subst (AreNumbered c.counter) (arguments-of c p b here ∙ sym same) (inv.numbers (ByBlock p)))
+      (own-same (definitions_of c) (definitions_of (with_block c p b w here c.values c.targets c.counter)) inv.own (same-definitions c.values c.counter same)))
 
   pub same-block : (u : Uses Value) → u ≡ c.values → w.payload ≡ b.payload → w.arguments.items ≡ b.arguments.items → IsUnchanged c (with_block c p b w here u c.targets c.counter)
   same-block u is payload same =
@@ -98,6 +101,7 @@ module _ {O B : Type 0} (c : Program O B) (p : Ptr BasicBlock) (b w : BlockRecor
         (rw (arguments-of c p b here, arguments-here c p b w here u c.targets n) joins)
         inv.values)
         (rw (joins.inserted, is) (numbered-joined c.counter b.arguments.items k _ within refl was))
+        (own-joined (definitions_of c) (definitions_of (with_block c p b w here u c.targets n)) inv.own (ByBlock p) c.counter inv.numbers (λ f ne. arguments-elsewhere c p b w here u c.targets n f ne) k (record { number = c.counter; ty = ty; thread = joins.thread }) (arguments-here c p b w here u c.targets n ∙ joins.inserted ∙ ap (λ l. insert l k (record { number = c.counter; ty = ty; thread = joins.thread })) (sym (arguments-of c p b here))) refl)
 
     pub argument-joined-seen : (n : ℕ) → w.payload ≡ b.payload → ((q d : ℕ) → Names c.values q d → IsDefined c.values d)
         → EditsBlock c (with_block c p b w here u c.targets n) p (λ x. record x { arguments = insert x.arguments k (record { value = v; ty = ty }) })
@@ -117,6 +121,7 @@ module _ {O B : Type 0} (c : Program O B) (p : Ptr BasicBlock) (b w : BlockRecor
         (rw (arguments-of c p b here, arguments-here c p b w here u c.targets c.counter) left)
         inv.values)
         (rw left.removed (numbered-removed c.counter b.arguments.items k was))
+        (own-left (definitions_of c) (definitions_of (with_block c p b w here u c.targets c.counter)) inv.own (ByBlock p) c.counter inv.numbers (λ f ne. arguments-elsewhere c p b w here u c.targets c.counter f ne) k (arguments-here c p b w here u c.targets c.counter ∙ left.removed ∙ ap (λ l. remove l k) (sym (arguments-of c p b here))))
 
     pub argument-left-seen : w.payload ≡ b.payload → IsFreeAt c (ByBlock p) k → EditsBlock c (with_block c p b w here u c.targets c.counter) p (λ x. record x { arguments = remove x.arguments k })
     argument-left-seen payload free = arguments-seen u c.counter _ left.places

@@ -1,51 +1,76 @@
 -- An operation or a block that is being made: what it has come to, and that nothing else changed.
-use Rattle.std.proofs.Common.{◌≡◌, ◌≢◌, ℕ, ◌<◌, ◌+◌, ⊎_elim, List, [], ◌++◌, length, Option, Some, None, IsSome, option_map, unwrap_or, slice_get, take, Result, Ok, Err, OnErr, refl, sym, ap, ◌∙◌, subst}
+use Rattle.std.proofs.Common.{◌≡◌, ◌≢◌, ℕ, ◌<◌, ◌+◌, ⊎_elim, List, [], ◌++◌, length, Option, Some, None, IsSome, option_map, unwrap_or, slice_get, take, Result, Ok, Err, OnOk, OnErr, refl, sym, ap, ◌∙◌, subst}
 use Rattle.ir_names.specs.declared.kinds.TypeHandle.{TypeHandle}
 use Rattle.ir_program.specs.Program.{Program, OperationView, BlockView, operation_at, results_at, type_at, IsLiveValue}
 use Rattle.ir_program.specs.Rows.{operands_at}
 use Rattle.ir_program.specs.Uses.{IsUsed}
 use Rattle.ir_program.specs.Lists.{regions_in, IsUnlinkedOperation}
-use Rattle.ir_program.specs.Edits.{IsUnchanged}
+use Rattle.ir_program.specs.Edits.{EditsOperation, IsUnchanged}
 use Rattle.ir_program.specs.Definers.{values_at}
-use Rattle.ir_program.specs.Adds.{SomeCame, FillsSome, numbered_values, AreLiveValues, AreLiveBlocks, AddsResults, AddsOperands, AddsSuccessors, FillsOperation}
-use Rattle.ir_program.specs.Made.{MakesOperation, BuildsOperation, TakesBackOperation}
+use Rattle.ir_program.specs.Adds.{SomeCame, numbered_values, AreLiveValues, AreLiveBlocks, AddsResults, AddsOperands, AddsSuccessors}
+use Rattle.ir_program.specs.Made.{MakesOperation, MakesRegions, AddsRegions, AddsRegionCount, AddsFewerRegions, FillsOperation, FillsSome, HasBareRegions, BuildsOperation, TakesBackOperation}
 use Rattle.ir_program.specs.declared.handles.Ptr.{Ptr}
 use Rattle.ir_program.specs.declared.handles.Operation.{Operation}
 use Rattle.ir_program.specs.declared.handles.BasicBlock.{BasicBlock}
+use Rattle.ir_program.specs.declared.handles.Region.{Region}
 use Rattle.ir_program.specs.declared.handles.Value.{Value}
 use Rattle.ir_program.specs.declared.handles.DefiningEntity.{DefiningEntity}
 use Rattle.ir_program.specs.declared.handles.DefiningEntity.TheVariants.{Op as ByOp, Block as ByBlock}
 use Rattle.ir_program.proofs.Frames.{same_or_not}
 use Rattle.ir_program.proofs.KeptTypes.{types-kept}
-use Rattle.ir_program.proofs.AddSteps.{erased-then, edit-then, successors-none, results-none}
+use Rattle.ir_program.proofs.AddSteps.{map-then, erased-then, edit-then, operands-none, successors-none, results-none}
+use Rattle.ir_program.proofs.RegionSteps.{one_or_none}
 use Rattle.ir_program.proofs.TakeBacks.{no-result}
 
 module _ {O B : Type 0} where
-  -- operands, successors and results, added in turn, fill an operation
-  pub filled : (a b c d : Program O B) (p : Ptr Operation) (tys : List TypeHandle) (vs : List Value) (bs : List (Ptr BasicBlock)) → AddsOperands a b p vs → AddsSuccessors b c p bs → AddsResults c d p tys → FillsOperation a d p tys vs bs
-  filled a b c d p tys vs bs operands successors results = record {
-    edited = edit-then a c d p _ _ _ (λ o. ap (λ (n : ℕ). record o { results = o.results ++ numbered_values (ByOp p) n tys; operands = o.operands ++ vs; successors = o.successors ++ bs }) counter)
-        (edit-then a b c p _ _ (λ (o : OperationView O). record o { operands = o.operands ++ vs; successors = o.successors ++ bs }) (λ o. refl) operands.edited successors.edited) results.edited;
-    others = λ v ne. results.others v ne ∙ successors.types v ∙ operands.types v;
-    earlier = λ v lt. results.earlier v (subst (λ (n : ℕ). v.number < n) (sym counter) lt) ∙ successors.types v ∙ operands.types v;
+  -- regions, operands, successors and results, added in turn, fill an operation
+  pub filled : (a r b c d : Program O B) (p : Ptr Operation) (tys : List TypeHandle) (vs : List Value) (bs : List (Ptr BasicBlock)) (rs : List (Ptr Region))
+      → AddsRegions a r p rs → AddsOperands r b p vs → AddsSuccessors b c p bs → AddsResults c d p tys → FillsOperation a d p tys vs bs rs
+  filled a r b c d p tys vs bs rs regions operands successors results = record {
+    edited = whole.edited ∙ ap (option_map _) regions.holder ∙ map-then _ _ _ (λ (o : OperationView O). refl) (operation_at a p);
+    others = λ q ne. whole.others q ne ∙ regions.operations q ne;
+    blocks = λ q. whole.blocks q ∙ regions.blocks q;
+    regions = record {
+      fresh = regions.regions.fresh;
+      unspent = regions.regions.unspent;
+      distinct = regions.regions.distinct;
+      made = λ k q h. whole.regions q ∙ regions.regions.made k q h;
+      others = λ q none. whole.regions q ∙ regions.regions.others q none;
+    };
+    types = λ v ne. results.others v ne ∙ successors.types v ∙ operands.types v ∙ regions.types v;
+    erased = erased-then a r d regions.erased whole.erased;
     counter = results.counter ∙ ap (λ (n : ℕ). n + length tys) counter;
   }
     where
       counter : c.counter ≡ a.counter
-      counter = successors.counter ∙ operands.counter
+      counter = successors.counter ∙ operands.counter ∙ regions.counter
+
+      whole : EditsOperation r d p (λ (o : OperationView O). record o { results = o.results ++ numbered_values (ByOp p) a.counter tys; operands = o.operands ++ vs; successors = o.successors ++ bs })
+      whole = edit-then r c d p _ _ _ (λ o. ap (λ (n : ℕ). record o { results = o.results ++ numbered_values (ByOp p) n tys; operands = o.operands ++ vs; successors = o.successors ++ bs }) counter)
+          (edit-then r b c p _ _ (λ (o : OperationView O). record o { operands = o.operands ++ vs; successors = o.successors ++ bs }) (λ o. refl) operands.edited successors.edited) results.edited
+
+  pub all-filled : {T E : Type 0} (x : Result T E) (a r b c d : Program O B) (p : Ptr Operation) (tys : List TypeHandle) (vs : List Value) (bs : List (Ptr BasicBlock)) (n : ℕ)
+      → AddsRegionCount a r p n → AddsOperands r b p vs → AddsSuccessors b c p bs → OnOk x (AddsResults c d p tys) → OnOk x ((rs : List (Ptr Region)) × (length rs ≡ n) × FillsOperation a d p tys vs bs rs)
+  all-filled (Ok t) a r b c d p tys vs bs n regions operands successors results = (regions.0, regions.1, filled a r b c d p tys vs bs regions.0 regions.2 operands successors results)
+  all-filled (Err e) a r b c d p tys vs bs n regions operands successors results = tt
 
   -- what came before an error fills an operation too
-  pub operands-came : {T E : Type 0} (r : Result T E) (a b : Program O B) (p : Ptr Operation) (vs : List Value) → SomeCame vs (AddsOperands a b p) → OnErr r (FillsSome a b p)
-  operands-came (Ok x) a b p vs came = tt
-  operands-came (Err e) a b p vs came = ([], take came.0 vs, [], filled a b b b p [] (take came.0 vs) [] came.2 (successors-none b p) (results-none b p))
+  pub regions-came : {T E : Type 0} (x : Result T E) (a r : Program O B) (p : Ptr Operation) (n : ℕ) → AddsFewerRegions a r p n → OnErr x (FillsSome a r p)
+  regions-came (Ok t) a r p n came = tt
+  regions-came (Err e) a r p n came = ([], [], [], came.0, filled a r r r r p [] [] [] came.0 came.2 (operands-none r p) (successors-none r p) (results-none r p))
 
-  pub successors-came : {T E : Type 0} (r : Result T E) (a b c : Program O B) (p : Ptr Operation) (vs : List Value) (bs : List (Ptr BasicBlock)) → AddsOperands a b p vs → SomeCame bs (AddsSuccessors b c p) → OnErr r (FillsSome a c p)
-  successors-came (Ok x) a b c p vs bs operands came = tt
-  successors-came (Err e) a b c p vs bs operands came = ([], vs, take came.0 bs, filled a b c c p [] vs (take came.0 bs) operands came.2 (results-none c p))
+  pub operands-came : {T E : Type 0} (x : Result T E) (a r b : Program O B) (p : Ptr Operation) (rs : List (Ptr Region)) (vs : List Value) → AddsRegions a r p rs → SomeCame vs (AddsOperands r b p) → OnErr x (FillsSome a b p)
+  operands-came (Ok t) a r b p rs vs regions came = tt
+  operands-came (Err e) a r b p rs vs regions came = ([], take came.0 vs, [], rs, filled a r b b b p [] (take came.0 vs) [] rs regions came.2 (successors-none b p) (results-none b p))
 
-  pub results-came : {T E : Type 0} (r : Result T E) (a b c d : Program O B) (p : Ptr Operation) (tys : List TypeHandle) (vs : List Value) (bs : List (Ptr BasicBlock)) → AddsOperands a b p vs → AddsSuccessors b c p bs → OnErr r (SomeCame tys (AddsResults c d p)) → OnErr r (FillsSome a d p)
-  results-came (Ok x) a b c d p tys vs bs operands successors came = tt
-  results-came (Err e) a b c d p tys vs bs operands successors came = (take came.0 tys, vs, bs, filled a b c d p (take came.0 tys) vs bs operands successors came.2)
+  pub successors-came : {T E : Type 0} (x : Result T E) (a r b c : Program O B) (p : Ptr Operation) (rs : List (Ptr Region)) (vs : List Value) (bs : List (Ptr BasicBlock)) → AddsRegions a r p rs → AddsOperands r b p vs → SomeCame bs (AddsSuccessors b c p) → OnErr x (FillsSome a c p)
+  successors-came (Ok t) a r b c p rs vs bs regions operands came = tt
+  successors-came (Err e) a r b c p rs vs bs regions operands came = ([], vs, take came.0 bs, rs, filled a r b c c p [] vs (take came.0 bs) rs regions operands came.2 (results-none c p))
+
+  pub results-came : {T E : Type 0} (x : Result T E) (a r b c d : Program O B) (p : Ptr Operation) (rs : List (Ptr Region)) (tys : List TypeHandle) (vs : List Value) (bs : List (Ptr BasicBlock))
+      → AddsRegions a r p rs → AddsOperands r b p vs → AddsSuccessors b c p bs → OnErr x (SomeCame tys (AddsResults c d p)) → OnErr x (FillsSome a d p)
+  results-came (Ok t) a r b c d p rs tys vs bs regions operands successors came = tt
+  results-came (Err e) a r b c d p rs tys vs bs regions operands successors came = (take came.0 tys, vs, bs, rs, filled a r b c d p (take came.0 tys) vs bs rs regions operands successors came.2)
 
   -- what an operation takes is used
   pub takes-used : (c : Program O B) (p : Ptr Operation) (k : ℕ) (v : Value) → slice_get (operands_at c p) k ≡ Some v → IsUsed c v
@@ -75,30 +100,33 @@ module _ {O B : Type 0} where
     pub made-blocks : (bs : List (Ptr BasicBlock)) → AreLiveBlocks a bs → AreLiveBlocks b bs
     made-blocks bs live k x h = subst IsSome (sym (makes.blocks x)) (live k x h)
 
-    module _ (d : Program O B) (tys : List TypeHandle) (vs : List Value) (bs : List (Ptr BasicBlock)) (fills : FillsOperation b d p tys vs bs) where
-      now : operation_at d p ≡ Some (record { payload = payload; results = numbered_values (ByOp p) b.counter tys; operands = vs; successors = bs; regions = [] })
-      now = fills.edited.edited ∙ ap (option_map (λ (o : OperationView O). record o { results = o.results ++ numbered_values (ByOp p) b.counter tys; operands = o.operands ++ vs; successors = o.successors ++ bs })) makes.made
+    module _ (d : Program O B) (tys : List TypeHandle) (vs : List Value) (bs : List (Ptr BasicBlock)) (rs : List (Ptr Region)) (fills : FillsOperation b d p tys vs bs rs) where
+      now : operation_at d p ≡ Some (record { payload = payload; results = numbered_values (ByOp p) b.counter tys; operands = vs; successors = bs; regions = rs })
+      now = fills.edited ∙ ap (option_map (λ (o : OperationView O). record o { results = o.results ++ numbered_values (ByOp p) b.counter tys; operands = o.operands ++ vs; successors = o.successors ++ bs; regions = o.regions ++ rs })) makes.made
+
+      regions_are : regions_in d p ≡ rs
+      regions_are = ap (λ x. unwrap_or (option_map (λ (o : OperationView O). o.regions) x) []) now
 
       pub filled-there : IsSome (operation_at d p)
       filled-there = subst IsSome (sym now) refl
 
-      pub filled-bare : regions_in d p ≡ []
-      filled-bare = ap (λ x. unwrap_or (option_map (λ (o : OperationView O). o.regions) x) []) now
+      pub filled-bare : HasBareRegions d p
+      filled-bare k r h = fills.regions.made k r (ap (λ l. slice_get l k) (sym regions_are) ∙ h)
 
       pub filled-unlinked : IsUnlinkedOperation b p → IsUnlinkedOperation d p
       filled-unlinked unlinked block s = unlinked block (record {
         operation = made-there;
-        block = subst IsSome (fills.edited.blocks block) s.block;
+        block = subst IsSome (fills.blocks block) s.block;
         index = s.index;
-        here = sym (ap (λ x. slice_get (unwrap_or (option_map (λ (v : BlockView B). v.operations) x) []) s.index) (fills.edited.blocks block)) ∙ s.here;
+        here = sym (ap (λ x. slice_get (unwrap_or (option_map (λ (v : BlockView B). v.operations) x) []) s.index) (fills.blocks block)) ∙ s.here;
       })
 
       pub filled-types : (v : Value) → v.definer ≢ ByOp p → type_at d v ≡ type_at a v
-      filled-types v ne = fills.others v ne ∙ made-types v
+      filled-types v ne = fills.types v ne ∙ made-types v
 
       pub filled-unused : ((v : Value) → IsUsed a v → IsLiveValue a v) → (q : Ptr Operation) (k : ℕ) (v : Value) → q ≢ p → slice_get (operands_at d q) k ≡ Some v → v.definer ≢ ByOp p
       filled-unused used q k v ne takes is =
-          let was : operands_at d q ≡ operands_at a q = ap (λ x. unwrap_or (option_map (λ (o : OperationView O). o.operands) x) []) (fills.edited.others q ne ∙ makes.others q ne) in
+          let was : operands_at d q ≡ operands_at a q = ap (λ x. unwrap_or (option_map (λ (o : OperationView O). o.operands) x) []) (fills.others q ne ∙ makes.others q ne) in
           let live : IsSome (type_at a v) = used v (takes-used a q k v (sym (ap (λ l. slice_get l k) was) ∙ takes)) in
           let none : type_at a v ≡ None = no-result a p makes.fresh v is in
           cc
@@ -106,25 +134,39 @@ module _ {O B : Type 0} where
       pub filled-numbers : ((v : Value) → IsLiveValue a v → v.number < a.counter) → (v : Value) → v.definer ≢ ByOp p → IsLiveValue d v → v.number < a.counter
       filled-numbers given v ne live = given v (subst IsSome (filled-types v ne) live)
 
-      pub built : IsUnlinkedOperation b p → BuildsOperation a d p payload tys vs bs
-      built unlinked = record {
+      new_regions : MakesRegions a d rs
+      new_regions = record {
+        fresh = λ k r h. sym (makes.regions r) ∙ fills.regions.fresh k r h;
+        unspent = λ k r h s. fills.regions.unspent k r h (makes.erased.regions r.key s);
+        distinct = fills.regions.distinct;
+        made = fills.regions.made;
+        others = λ q none. fills.regions.others q none ∙ makes.regions q;
+      }
+
+      pub built : (n : ℕ) → length rs ≡ n → IsUnlinkedOperation b p → BuildsOperation a d p payload tys vs bs n
+      built n count unlinked = record {
+        handles = rs;
+        count = count;
+        regions = new_regions;
         fresh = makes.fresh;
         unspent = makes.unspent;
-        made = now ∙ ap (λ (n : ℕ). Some (record { payload = payload; results = numbered_values (ByOp p) n tys; operands = vs; successors = bs; regions = [] })) makes.counter;
+        made = now ∙ ap (λ (m : ℕ). Some (record { payload = payload; results = numbered_values (ByOp p) m tys; operands = vs; successors = bs; regions = rs })) makes.counter;
         unlinked = filled-unlinked unlinked;
-        others = λ q ne. fills.edited.others q ne ∙ makes.others q ne;
-        blocks = λ q. fills.edited.blocks q ∙ makes.blocks q;
-        regions = λ q. fills.edited.regions q ∙ makes.regions q;
+        others = λ q ne. fills.others q ne ∙ makes.others q ne;
+        blocks = λ q. fills.blocks q ∙ makes.blocks q;
         types = filled-types;
-        erased = erased-then a b d makes.erased fills.edited.erased;
-        counter = fills.counter ∙ ap (λ (n : ℕ). n + length tys) makes.counter;
+        erased = erased-then a b d makes.erased fills.erased;
+        counter = fills.counter ∙ ap (λ (m : ℕ). m + length tys) makes.counter;
       }
 
       pub undone : (e : Program O B) → TakesBackOperation d e p a.counter → IsUnchanged a e
       undone e takes = record {
-        operations = λ q. ⊎_elim (λ (is : q ≡ p). subst (λ x. operation_at e x ≡ operation_at a x) (sym is) (takes.gone ∙ sym makes.fresh)) (λ ne. takes.others q ne ∙ fills.edited.others q ne ∙ makes.others q ne) (same_or_not q p);
-        blocks = λ q. takes.blocks q ∙ fills.edited.blocks q ∙ makes.blocks q;
-        regions = λ q. takes.regions q ∙ fills.edited.regions q ∙ makes.regions q;
-        erased = erased-then a d e (erased-then a b d makes.erased fills.edited.erased) takes.erased;
+        operations = λ q. ⊎_elim (λ (is : q ≡ p). subst (λ x. operation_at e x ≡ operation_at a x) (sym is) (takes.gone ∙ sym makes.fresh)) (λ ne. takes.others q ne ∙ fills.others q ne ∙ makes.others q ne) (same_or_not q p);
+        blocks = λ q. takes.blocks q ∙ fills.blocks q ∙ makes.blocks q;
+        regions = λ q. ⊎_elim
+            (λ at. takes.gone_regions at.0 q (ap (λ l. slice_get l at.0) regions_are ∙ at.1) ∙ sym (new_regions.fresh at.0 q at.1))
+            (λ none. takes.regions q (λ k h. none k (ap (λ l. slice_get l k) (sym regions_are) ∙ h)) ∙ new_regions.others q none)
+            (one_or_none rs q);
+        erased = erased-then a d e (erased-then a b d makes.erased fills.erased) takes.erased;
         counter = takes.counter;
       }

@@ -37,5 +37,6 @@ module _ {O B : Type 0} (c : Program O B) (o : c.forest.ops ≡ []) (b : c.fores
     values = λ v t. (λ h. let e : thread_of_value c v ≡ None = ap (option_map (λ d. d.thread)) (no_definition v) in cc, λ h. let e : key_of c.values t ≡ None = rw vd refl in cc);
     blocks = λ p t. (λ h. let e : thread_of_block c p ≡ None = ap (option_map (λ b. b.thread)) (get_empty c.forest.blocks p.key b) in cc, λ h. let e : key_of c.targets t ≡ None = rw td refl in cc);
     numbers = λ e. subst (AreNumbered c.counter) (sym (no_definitions e)) (record { distinct = record {}; below = λ i d h. cc });
+    own = λ e f j k d g h. let none : slice_get (definitions_of c e) j ≡ None = ap (λ l. slice_get l j) (no_definitions e) in cc;
     homes = λ i h. let e : held c.forest.regions i ≡ None = held_empty c.forest.regions i r in cc;
   }

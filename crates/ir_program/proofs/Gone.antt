@@ -1,5 +1,5 @@
 -- A program once an entity has gone with all that stands in it.
-use Rattle.std.proofs.Common.{◌≡◌, ℕ, ⊎_elim, ◌⊎◌, cond, eqb, List, [], Option, Some, None, IsSome, option_map, unwrap_or, refl, sym, ap, ◌∙◌, subst}
+use Rattle.std.proofs.Common.{slice_get, ◌≡◌, ℕ, ⊎_elim, ◌⊎◌, cond, eqb, List, [], Option, Some, None, IsSome, option_map, unwrap_or, refl, sym, ap, ◌∙◌, subst}
 use Rattle.ir_entities.specs.declared.arena.Key.{Key}
 use Rattle.ir_entities.specs.declared.arena.Slot.{Slot}
 use Rattle.ir_entities.specs.declared.forest.Place.{Place}
@@ -16,7 +16,7 @@ use Rattle.ir_entities.proofs.Placed.{placed-same}
 use Rattle.ir_entities.proofs.Prunes.{outside_in}
 use Rattle.ir_program.specs.Handles.{handle}
 use Rattle.ir_program.specs.Program.{Program, handles_of, operation_of, operation_at, block_of, block_at, region_of, region_at, definitions_of, numbered, value_named, block_named}
-use Rattle.ir_program.specs.Sound.{IsProgram, IsThreaded, AreNumbered, operand_row, successor_row, thread_of_value, thread_of_block}
+use Rattle.ir_program.specs.Sound.{IsProgram, IsThreaded, AreNumbered, HaveOwnNumbers, operand_row, successor_row, thread_of_value, thread_of_block}
 use Rattle.ir_program.specs.Erases.{ForgetsInside, NoneNames, value_place, block_place, definer_place}
 use Rattle.ir_program.specs.Edits.{KeepsErased}
 use Rattle.ir_program.specs.declared.handles.Ptr.{Ptr}
@@ -33,6 +33,7 @@ use Rattle.ir_program.specs.declared.records.RegionRecord.{RegionRecord}
 use Rattle.ir_program.proofs.Empty.{either}
 use Rattle.ir_program.proofs.Frames.{option_map-same, map-same, names-kept}
 use Rattle.ir_program.proofs.Slotted.{at_has}
+use Rattle.ir_program.proofs.OwnNumbers.{own-within}
 
 -- a vacant slot is led to by no key
 pub vacant-get : {T : Type 0} (slots : List (Slot T)) (k : Key) → held slots k.slot ≡ None → get slots k ≡ None
@@ -83,10 +84,11 @@ pub record IsSoundBut {O B : Type 0} (c : Program O B) (x : Place) : Type 0 wher
   pub values : IsThreaded (thread_of_value c) c.values
   pub blocks : IsThreaded (thread_of_block c) c.targets
   pub numbers : (e : DefiningEntity) → AreNumbered c.counter (definitions_of c e)
+  pub own : HaveOwnNumbers (definitions_of c)
   pub homes : (i : ℕ) → IsSome (held c.forest.regions i) → (IsInside (shape_of c.forest) x (RegionPlace i) → ⊥) → IsLinked c.forest.in_ops.lists i
 
 pub sound-but : {O B : Type 0} (c : Program O B) (x : Place) → IsProgram c → IsSoundBut c x
-sound-but c x inv = record { operands = inv.operands; successors = inv.successors; values = inv.values; blocks = inv.blocks; numbers = inv.numbers; homes = λ i used out. inv.homes i used }
+sound-but c x inv = record { operands = inv.operands; successors = inv.successors; values = inv.values; blocks = inv.blocks; numbers = inv.numbers; own = inv.own; homes = λ i used out. inv.homes i used }
 
 module _ {O B : Type 0} (c : Program O B) (f : Forest (OperationRecord O) (BlockRecord B) RegionRecord) (u : Uses Value) (w : Uses (Ptr BasicBlock)) (x : Place)
     (inv : IsSoundBut c x) (decide : (e : Place) → IsInside (shape_of c.forest) x e ⊎ (IsInside (shape_of c.forest) x e → ⊥))
@@ -146,6 +148,10 @@ module _ {O B : Type 0} (c : Program O B) (f : Forest (OperationRecord O) (Block
         (λ inside. subst (AreNumbered c.counter) (sym (definitions_gone e inside)) (no_numbers c.counter))
         (λ out. subst (AreNumbered c.counter) (sym (definitions_left e out)) (inv.numbers e))
         (decide (definer_place e));
+    own = own-within (definitions_of c) (definitions_of left) inv.own (λ e i d h. ⊎_elim
+        (λ inside. let none : slice_get (definitions_of left e) i ≡ None = ap (λ l. slice_get l i) (definitions_gone e inside) in cc)
+        (λ out. (i, ap (λ l. slice_get l i) (sym (definitions_left e out)) ∙ h))
+        (decide (definer_place e)));
     homes = λ i used. ⊎_elim
         (λ inside. absurd (erases.vacant (RegionPlace i) inside used))
         (λ out.

@@ -8,7 +8,7 @@ use Rattle.ir_entities.specs.Links.{AreDistinct}
 use Rattle.ir_entities.specs.Uses.{Uses, key_of, place_of, Names, IsDefined}
 use Rattle.ir_entities.proofs.Placed.{placed-same}
 use Rattle.ir_program.specs.Program.{result_count, Program, OperationView, typed_value, operation_of, definitions_of, numbered, value_named}
-use Rattle.ir_program.specs.Sound.{IsProgram, IsThreaded, AreNumbered, operand_row, successor_row}
+use Rattle.ir_program.specs.Sound.{IsProgram, IsThreaded, AreNumbered, HaveOwnNumbers, operand_row, successor_row}
 use Rattle.ir_program.specs.Edits.{EditsOperation, IsUnchanged}
 use Rattle.ir_program.specs.Making.{InsertsDefinition, RemovesDefinition}
 use Rattle.ir_program.specs.declared.handles.Ptr.{Ptr}
@@ -22,6 +22,7 @@ use Rattle.ir_program.proofs.Lent.{held-was, held-lent, held-lent_other}
 use Rattle.ir_program.proofs.Frames.{edited-to-same, with_operation, operation-edited, definitions-here, definitions-elsewhere, names-kept, map-same}
 use Rattle.ir_program.proofs.Numbers.{numbered-joined, numbered-later, numbers_of}
 use Rattle.ir_program.proofs.Arrivals.{same_definer, same_value, joined-here, joined-fresh, joined-others, left-was, left-nowhere, left-others}
+use Rattle.ir_program.proofs.OwnNumbers.{own-same, own-joined}
 
 -- the definitions of each entity, as a function, and the value that a definer and a number make
 abbrev pub found : (DefiningEntity → List Definition) → Value → Option ℕ
@@ -136,9 +137,9 @@ module _ {O B : Type 0} (c : Program O B) (p : Ptr Operation) (o w : OperationRe
   -- all is sound where threads and numbers are
   pub results-sound : (u : Uses Value) (n : ℕ) → IsProgram c → u.places ≡ c.values.places → c.counter ≤ n
       → IsThreaded (found (definitions_of (with_operation c p o w here u c.targets n))) u
-      → AreNumbered n w.results.items
+      → AreNumbered n w.results.items → HaveOwnNumbers (definitions_of (with_operation c p o w here u c.targets n))
       → IsProgram (with_operation c p o w here u c.targets n)
-  results-sound u n inv places later threads numbers = record {
+  results-sound u n inv places later threads numbers own = record {
     operands = placed-same (place_of c.values) (operand_row c) inv.operands (place_of u) (operand_row (with_operation c p o w here u c.targets n)) (λ q. ap (λ ps. place_of (record u { places = ps }) q) places) (operand_rows u n);
     successors = placed-same (place_of c.targets) (successor_row c) inv.successors (place_of c.targets) (successor_row (with_operation c p o w here u c.targets n)) (λ q. refl) (successor_rows u n);
     values = threads;
@@ -147,6 +148,7 @@ module _ {O B : Type 0} (c : Program O B) (p : Ptr Operation) (o w : OperationRe
         (λ (q : e ≡ ByOp p). subst (AreNumbered n) (sym (ap (definitions_of (with_operation c p o w here u c.targets n)) q ∙ definitions-here c p o w here u c.targets n)) numbers)
         (λ ne. subst (AreNumbered n) (sym (definitions-elsewhere c p o w here u c.targets n e ne)) (numbered-later c.counter n (definitions_of c e) later (inv.numbers e)))
         (same_definer e (ByOp p));
+    own = own;
     homes = inv.homes;
   }
 
@@ -174,7 +176,8 @@ module _ {O B : Type 0} (c : Program O B) (p : Ptr Operation) (o w : OperationRe
   pub same-record-sound : (u : Uses Value) → u ≡ c.values → IsProgram c → w.results.items ≡ o.results.items → IsProgram (with_operation c p o w here u c.targets c.counter)
   same-record-sound u is inv same = subst (λ x. IsProgram (with_operation c p o w here x c.targets c.counter)) (sym is) (results-sound c.values c.counter inv refl (omega arith)
       (λ v t. subst (λ ds. (option_map (λ (d : Definition). d.thread) (numbered v.number ds) ≡ Some t) ↔ (key_of c.values t ≡ Some v)) (sym (same-definitions c.values c.counter same v.definer)) (inv.values v t))
-      (subst (AreNumbered c.counter) (ap (λ x. unwrap_or (option_map (λ (r : OperationRecord O). r.results.items) x) []) here ∙ sym same) (inv.numbers (ByOp p))))
+      (subst (AreNumbered c.counter) (ap (λ x. unwrap_or (option_map (λ (r : OperationRecord O). r.results.items) x) []) here ∙ sym same) (inv.numbers (ByOp p)))
+      (own-same (definitions_of c) (definitions_of (with_operation c p o w here c.values c.targets c.counter)) inv.own (same-definitions c.values c.counter same)))
 
   pub same-record : (u : Uses Value) → u ≡ c.values → w.payload ≡ o.payload → w.results.items ≡ o.results.items → IsUnchanged c (with_operation c p o w here u c.targets c.counter)
   same-record u is payload same =
@@ -199,6 +202,7 @@ module _ {O B : Type 0} (c : Program O B) (p : Ptr Operation) (o w : OperationRe
         (rw (was-results, definitions-here c p o w here u c.targets n) joins)
         inv.values)
         (rw (joins.inserted, is) (numbered-joined c.counter o.results.items k _ within refl was))
+        (own-joined (definitions_of c) (definitions_of (with_operation c p o w here u c.targets n)) inv.own (ByOp p) c.counter inv.numbers (λ f ne. definitions-elsewhere c p o w here u c.targets n f ne) k (record { number = c.counter; ty = ty; thread = joins.thread }) (definitions-here c p o w here u c.targets n ∙ joins.inserted ∙ ap (λ l. insert l k (record { number = c.counter; ty = ty; thread = joins.thread })) (sym was-results)) refl)
 
     pub result-joined-seen : (n : ℕ) → w.payload ≡ o.payload → ((q d : ℕ) → Names c.values q d → IsDefined c.values d)
         → EditsOperation c (with_operation c p o w here u c.targets n) p (λ x. record x { results = insert x.results k (record { value = v; ty = ty }) })

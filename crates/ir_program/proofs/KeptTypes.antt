@@ -1,5 +1,5 @@
 -- The types of values are those that are seen at their definers, so they stay where what is seen stays.
-use Rattle.std.proofs.Common.{◌≡◌, ⊎_elim, ℕ, Bool, true, false, cond, eqb, List, [], ◌∷◌, map, Option, Some, None, option_map, unwrap_or, refl, sym, ap, ◌∙◌, subst}
+use Rattle.std.proofs.Common.{◌≡◌, ⊎_elim, ℕ, Bool, true, false, cond, eqb, List, [], ◌∷◌, ◌++◌, ◌≢◌, map, Option, Some, None, option_map, unwrap_or, refl, sym, ap, ◌∙◌, subst}
 use Rattle.ir_names.specs.declared.kinds.TypeHandle.{TypeHandle}
 use Rattle.ir_program.specs.Program.{Program, OperationView, BlockView, TypedValue, typed_value, operation_at, block_at, results_at, arguments_at, definitions_of, numbered, type_at}
 use Rattle.ir_program.specs.Definers.{values_at}
@@ -7,6 +7,7 @@ use Rattle.ir_program.specs.Edits.{EditsOperation, EditsBlock, IsUnchanged}
 use Rattle.ir_program.specs.declared.handles.Ptr.{Ptr}
 use Rattle.ir_program.specs.declared.handles.Operation.{Operation}
 use Rattle.ir_program.specs.declared.handles.BasicBlock.{BasicBlock}
+use Rattle.ir_program.specs.declared.handles.Region.{Region}
 use Rattle.ir_program.specs.declared.handles.Value.{Value}
 use Rattle.ir_program.specs.declared.handles.DefiningEntity.{DefiningEntity}
 use Rattle.ir_program.specs.declared.handles.DefiningEntity.TheVariants.{Op as ByOp, Block as ByBlock}
@@ -75,3 +76,19 @@ module _ {O B : Type 0} where
         kept : (e : DefiningEntity) → values_at d e ≡ values_at c e
         kept (ByOp q) = ap (λ x. unwrap_or (option_map (λ (o : OperationView O). o.results) x) []) (same.operations q)
         kept (ByBlock q) = ap (λ x. unwrap_or (option_map (λ (b : BlockView B). b.arguments) x) []) (same.blocks q)
+
+    -- more regions are no other results
+    pub regions_more-types : (p : Ptr Operation) (rs : List (Ptr Region)) → operation_at d p ≡ option_map (λ (o : OperationView O). record o { regions = o.regions ++ rs }) (operation_at c p)
+        → ((q : Ptr Operation) → q ≢ p → operation_at d q ≡ operation_at c q) → ((q : Ptr BasicBlock) → block_at d q ≡ block_at c q) → (v : Value) → type_at d v ≡ type_at c v
+    regions_more-types p rs holder others blocks = types-kept kept
+      where
+        here : (x : Option (OperationView O)) → unwrap_or (option_map (λ (o : OperationView O). o.results) (option_map (λ (o : OperationView O). record o { regions = o.regions ++ rs }) x)) [] ≡ unwrap_or (option_map (λ (o : OperationView O). o.results) x) []
+        here None = refl
+        here (Some o) = refl
+
+        kept : (e : DefiningEntity) → values_at d e ≡ values_at c e
+        kept (ByBlock q) = ap (λ x. unwrap_or (option_map (λ (b : BlockView B). b.arguments) x) []) (blocks q)
+        kept (ByOp q) = ⊎_elim
+            (λ (e : q ≡ p). subst (λ x. results_at d x ≡ results_at c x) (sym e) (ap (λ x. unwrap_or (option_map (λ (o : OperationView O). o.results) x) []) holder ∙ here (operation_at c p)))
+            (λ ne. ap (λ x. unwrap_or (option_map (λ (o : OperationView O). o.results) x) []) (others q ne))
+            (same_or_not q p)

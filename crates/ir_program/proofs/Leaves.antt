@@ -20,6 +20,7 @@ use Rattle.ir_program.proofs.Frames.{with_operation, definitions-here, definitio
 use Rattle.ir_program.proofs.Joins.{threaded-left, map-remove, results-sound, results-seen}
 use Rattle.ir_program.proofs.Numbers.{numbers_of, numbered-removed}
 use Rattle.ir_program.proofs.Stands.{value_for, value-seen, results-of, result-shown, results-seen_as, arguments-seen_as, thread-stands, named-used, type-gone}
+use Rattle.ir_program.proofs.OwnNumbers.{own-left}
 
 -- no operation takes the value at index k
 abbrev pub IsFreeAt : {O B : Type 0} → Program O B → DefiningEntity → ℕ → Type 0
@@ -74,6 +75,7 @@ module _ {O B : Type 0} (c : Program O B) (p : Ptr Operation) (o w : OperationRe
       (rw (was-results, definitions-here c p o w here u c.targets c.counter) left)
       inv.values)
       (rw left.removed (numbered-removed c.counter o.results.items k was))
+      (own-left (definitions_of c) (definitions_of (with_operation c p o w here u c.targets c.counter)) inv.own (ByOp p) c.counter inv.numbers (λ f ne. definitions-elsewhere c p o w here u c.targets c.counter f ne) k (definitions-here c p o w here u c.targets c.counter ∙ left.removed ∙ ap (λ l. remove l k) (sym was-results)))
 
   pub result-left-seen : w.payload ≡ o.payload → IsFreeAt c (ByOp p) k → EditsOperation c (with_operation c p o w here u c.targets c.counter) p (λ x. record x { results = remove x.results k })
   result-left-seen payload free = results-seen c p o w here operands successors u c.counter _ left.places

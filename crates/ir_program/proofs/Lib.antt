@@ -1,5 +1,6 @@
 pub mod Empty
 pub mod Numbers
+pub mod OwnNumbers
 pub mod Lent
 pub mod Frames
 pub mod Joins
@@ -31,6 +32,7 @@ pub mod Clears
 pub mod DropWalks
 pub mod Gone
 pub mod Inside
+pub mod Preorders
 pub mod Kept
 pub mod Standing
 pub mod KeptTypes
@@ -52,9 +54,12 @@ pub mod Consequences
 pub mod Counts
 pub mod AddSteps
 pub mod TakeBacks
+pub mod RegionSteps
 pub mod BuildSteps
 pub mod BlockBuilds
 pub mod DroppedUses
 pub mod UserWalks
 pub mod UserHandles
 pub mod RegionErasures
+pub mod Vacant
+pub mod ReplacedUses

@@ -31,6 +31,7 @@ use Rattle.ir_program.proofs.Alike.{in_forest, forest-sound, pointers-stay, same
 use Rattle.ir_program.proofs.Slotted.{at_has}
 use Rattle.ir_program.proofs.Levels.{has_slot}
 use Rattle.ir_program.proofs.InRegions.{in_regions}
+use Rattle.ir_program.proofs.OwnNumbers.{own-same}
 
 -- the slot of a new value lends it, and has another value
 module _ {T : Type 0} (old mid : List (Slot T)) (k : Key) (v w : T) (updates : Updates old mid k (Some v)) (sets : SetsSlot old mid k.slot v) where
@@ -155,6 +156,7 @@ module _ {O B : Type 0} (c : Program O B) (f : Forest (OperationRecord O) (Block
       values = λ v t. subst (λ ds. (option_map (λ (d : Definition). d.thread) (numbered v.number ds) ≡ Some t) ↔ (key_of c.values t ≡ Some v)) (sym (definitions-joined v.definer)) (inv.values v t);
       blocks = threads-joined inv.blocks;
       numbers = λ e. subst (AreNumbered c.counter) (sym (definitions-joined e)) (inv.numbers e);
+      own = own-same (definitions_of c) (definitions_of with_new_block) inv.own definitions-joined;
       homes = λ i h. let home = inv.homes i (subst (λ s. IsSome (held s i)) regions h) in (home.0, ap (λ l. has i (list_at l.lists home.0)) in_ops ∙ home.1);
     }
 

@@ -1,12 +1,12 @@
 -- A region that is new, the last of its operation.
-use Rattle.std.proofs.Common.{◌≡◌, ◌≢◌, ℕ, ◌++◌, ⊎_elim, true, false, eqb, List, [], ◌∷◌, Option, Some, None, IsSome, option_map, unwrap_or, refl, sym, ap, ◌∙◌, subst}
-use Rattle.std.proofs.lemmas.Bool.{both_ways, cases_eq, eq-eqb, or_left, or_right, or_cases}
+use Rattle.std.proofs.Common.{◌≡◌, ◌≢◌, ℕ, zero, suc, ◌≤◌, ◌-◌, ◌^◌, ◌++◌, ⊎_elim, true, false, eqb, List, [], ◌∷◌, length, arith, Option, Some, None, IsSome, option_map, unwrap_or, refl, sym, ap, ◌∙◌, subst}
+use Rattle.std.proofs.lemmas.Bool.{both_ways, cases_eq, cases_lt, eq-eqb, or_left, or_right, or_cases}
 use Rattle.std.proofs.lemmas.List.{map-append}
 use Rattle.ir_entities.specs.declared.arena.Key.{Key}
 use Rattle.ir_entities.specs.declared.arena.Slot.{Slot}
 use Rattle.ir_entities.specs.declared.forest.Place.{Place}
 use Rattle.ir_entities.specs.declared.forest.Place.TheVariants.{Op, Block, Region as RegionPlace}
-use Rattle.ir_entities.specs.Arena.{get, held, SetsSlot, Updates, IsSpent, KeepsSpent}
+use Rattle.ir_entities.specs.Arena.{get, held, slot_at, SetsSlot, Updates, HasFullSlot, IsSpent, KeepsSpent}
 use Rattle.ir_entities.specs.Links.{list_at, has}
 use Rattle.ir_entities.specs.Shape.{Shape, IsIn, IsInside, itself, deeper}
 use Rattle.ir_entities.specs.Forest.{Forest, IsForest, pointer_to}
@@ -49,6 +49,24 @@ has_last x (y ∷ xs) = or_right (eqb x y) (has x (xs ++ x ∷ [])) (has_last x 
 has_more : (x y : ℕ) (xs : List ℕ) → has x xs ≡ true → has x (xs ++ y ∷ []) ≡ true
 has_more x y (z ∷ xs) h = ⊎_elim (λ t. or_left (eqb x z) (has x (xs ++ y ∷ [])) t) (λ t. or_right (eqb x z) (has x (xs ++ y ∷ [])) (has_more x y xs t)) (or_cases (eqb x z) (has x xs) h)
 has_more x y [] h = absurd (both_ways false refl h)
+
+no_version : {T : Type 0} (slots : List (Slot T)) (i : ℕ) → length slots ≤ i → (slot_at slots i).version ≡ 0
+no_version [] i h = refl
+no_version (s ∷ ss) zero h = absurd (omega arith)
+no_version (s ∷ ss) (suc i) h = no_version ss i (omega arith)
+
+-- a slot that is set is not full, and the others are as full as they were
+set_full : {T : Type 0} (old new : List (Slot T)) (x : ℕ) (u : T) → SetsSlot old new x u → HasFullSlot new → HasFullSlot old
+set_full {T} old new x u sets full =
+    let ne : full.slot ≢ x = λ e. (let some : held new x ≡ Some u = sets.set in let none : held new x ≡ None = ap (held new) (sym e) ∙ full.vacant in cc) in
+    let here : slot_at new full.slot ≡ slot_at old full.slot = sets.others full.slot ne in
+    let version : (slot_at old full.slot).version ≡ 2 ^ 64 - 1 = ap (λ (s : Slot T). s.version) (sym here) ∙ full.greatest in
+    record {
+      slot = full.slot;
+      within = ⊎_elim (λ lt. lt) (λ le. let none : (slot_at old full.slot).version ≡ 0 = no_version old full.slot le in absurd (omega (arith, none, version))) (cases_lt full.slot (length old));
+      vacant = ap (λ (s : Slot T). s.value) (sym here) ∙ full.vacant;
+      greatest = version;
+    }
 
 module _ {O B : Type 0} (c : Program O B) (f : Forest (OperationRecord O) (BlockRecord B) RegionRecord) (p : Ptr Operation) (r : Ptr Region) (u : RegionRecord)
     (live : IsSome (get c.forest.ops p.key))
@@ -107,6 +125,7 @@ module _ {O B : Type 0} (c : Program O B) (f : Forest (OperationRecord O) (Block
     blocks = λ q. ap (λ s. option_map (block_of (in_forest c f) q) (get s q.key)) blocks ∙ option_map-same _ _ _ (λ b e. rw (ops, in_blocks) refl);
     erased = record { operations = λ x s. rw ops s; blocks = λ x s. rw blocks s; regions = kept };
     counter = refl;
+    region_slots = set_full c.forest.regions f.regions r.key.slot u sets;
   }
     where
       last : handle {E = Region} (pointer_to f.regions r.key.slot) ≡ r

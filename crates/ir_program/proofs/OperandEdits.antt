@@ -22,6 +22,7 @@ use Rattle.ir_program.proofs.Frames.{with_operation, operation-edited, edited-to
 use Rattle.ir_program.proofs.RowNames.{KeepsNames, others-named, pushed-keeps, inserted-keeps, removed-keeps, renamed-keeps, pushed-named, inserted-named, removed-named, renamed-named, named-alike}
 use Rattle.ir_program.proofs.RowFrames.{same_results, other_slot, threaded-same}
 use Rattle.ir_program.proofs.RowReads.{operand-row}
+use Rattle.ir_program.proofs.OwnNumbers.{own-same}
 
 module _ {O B : Type 0} (c : Program O B) (p : Ptr Operation) (o : OperationRecord O) (here : get c.forest.ops p.key ≡ Some o) (rows : Vec ℕ) where
   -- the operation with these places of operands
@@ -64,6 +65,7 @@ module _ {O B : Type 0} (c : Program O B) (p : Ptr Operation) (o : OperationReco
       values = threaded-same (thread_of_value c) (thread_of_value edited) c.values u keys (λ v. ap (λ ds. option_map (λ (d : Definition). d.thread) (numbered v.number ds)) (definitions-same v.definer)) inv.values;
       blocks = inv.blocks;
       numbers = λ e. subst (AreNumbered c.counter) (sym (definitions-same e)) (inv.numbers e);
+      own = own-same (definitions_of c) (definitions_of edited) inv.own definitions-same;
       homes = inv.homes;
     }
 
@@ -147,6 +149,7 @@ module _ {O B : Type 0} (c : Program O B) (p : Ptr Operation) (o : OperationReco
     successors = inv.successors;
     blocks = inv.blocks;
     numbers = inv.numbers;
+    own = inv.own;
     homes = inv.homes;
     operands = placed-renamed (place_of c.values) (operand_row c) inv.operands (place_of u) (named-alike c.values u q d sets);
     values = threaded-same (thread_of_value c) (thread_of_value renamed) c.values u keys (λ x. refl) inv.values;

@@ -14,6 +14,7 @@ use Rattle.ir_program.specs.declared.records.Definition.{Definition}
 use Rattle.ir_program.specs.declared.records.OperationRecord.{OperationRecord}
 use Rattle.ir_program.specs.declared.records.BlockRecord.{BlockRecord}
 use Rattle.ir_program.specs.declared.records.RegionRecord.{RegionRecord}
+use Rattle.ir_program.proofs.OwnNumbers.{own-same}
 
 module _ {O B : Type 0} where
   -- the program with other lists
@@ -38,6 +39,7 @@ module _ {O B : Type 0} where
       values = λ v t. let were : (thread_of_value c v ≡ Some t → key_of c.values t ≡ Some v) × (key_of c.values t ≡ Some v → thread_of_value c v ≡ Some t) = kept.values v t in (λ h. were.0 (sym (same_thread v) ∙ h), λ h. same_thread v ∙ were.1 h);
       blocks = kept.blocks;
       numbers = λ e. subst (AreNumbered c.counter) (sym (same_definitions e)) (kept.numbers e);
+      own = own-same (definitions_of c) (definitions_of (rearranged c in_blocks in_regions in_ops)) kept.own same_definitions;
       homes = homes;
     }
 

@@ -42,6 +42,7 @@ use Rattle.ir_program.proofs.MovingRegions.{with_in_ops, kept_without, operation
 use Rattle.ir_program.proofs.Rearranged.{same_definitions}
 use Rattle.ir_program.proofs.Slotted.{of_slot, one_handle, map_of_some, map-remove, SetsList, without_list}
 use Rattle.ir_program.proofs.There.{operation_got, block_got, region_got, operation_there, block_there}
+use Rattle.ir_program.proofs.OwnNumbers.{own-same}
 
 module _ {O B : Type 0} (old mid : Program O B) (r : Ptr Region) (inv : IsProgram mid) (live : IsSome (region_at old r)) (listed : AreListed old) (apart : IsApart old (RegionNode r))
     (decide_old : (e : Place) → IsInside (shape_of old.forest) (RegionPlace r.key.slot) e ⊎ (IsInside (shape_of old.forest) (RegionPlace r.key.slot) e → ⊥))
@@ -120,6 +121,7 @@ module _ {O B : Type 0} (old mid : Program O B) (r : Ptr Region) (inv : IsProgra
     values = λ v t. (λ h. (inv.values v t).0 (sym (same_thread v) ∙ h), λ h. same_thread v ∙ (inv.values v t).1 h);
     blocks = inv.blocks;
     numbers = λ e. subst (AreNumbered mid.counter) (sym (same e)) (inv.numbers e);
+    own = own-same (definitions_of mid) (definitions_of cut) inv.own same;
     homes = λ i used out. let home = inv.homes i used in (home.0, rest (RegionPlace i) (Op home.0) home.1 (λ s. out (subst (λ z. IsInside (shape_of cut.forest) x z) (sym s) itself)));
   }
 

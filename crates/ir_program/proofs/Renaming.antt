@@ -91,6 +91,7 @@ module _ {O B : Type 0} (c : Program O B) (inv : IsProgram c) where
       successors = inv.successors;
       blocks = inv.blocks;
       numbers = inv.numbers;
+      own = inv.own;
       homes = inv.homes;
       operands = placed-renamed (place_of c.values) (operand_row c) inv.operands (place_of w) alike;
       values = threaded-same (thread_of_value c) (thread_of_value (record c { values = w })) c.values w keys (λ x. refl) inv.values;
@@ -113,6 +114,7 @@ module _ {O B : Type 0} (c : Program O B) (inv : IsProgram c) where
       operands = inv.operands;
       values = inv.values;
       numbers = inv.numbers;
+      own = inv.own;
       homes = inv.homes;
       successors = placed-renamed (place_of c.targets) (successor_row c) inv.successors (place_of w) alike;
       blocks = threaded-same (thread_of_block c) (thread_of_block (record c { targets = w })) c.targets w keys (λ x. refl) inv.blocks;

@@ -78,3 +78,18 @@ module _ {O B : Type 0} (c : Program O B) where
       by : (o : Option Definition) → definition_at c v ≡ o → v.number < c.counter
       by None none = let e : IsSome (option_map (λ (x : Definition). x.ty) (definition_at c v)) = live in let f : option_map (λ (x : Definition). x.ty) (definition_at c v) ≡ None = ap (option_map (λ (x : Definition). x.ty)) none in cc
       by (Some d) some = let at : Found v d = found-at v d some in subst (λ n. n < c.counter) at.2 ((inv.numbers v.definer).below at.0 d at.1)
+
+  -- values with one number are the same
+  pub live-own : IsProgram c → (v w : Value) → IsLiveValue c v → IsLiveValue c w → v.number ≡ w.number → v ≡ w
+  live-own inv v w v-live w-live same =
+      let d = at-live v v-live in
+      let g = at-live w w-live in
+      let definers : v.definer ≡ w.definer = inv.own v.definer w.definer d.1.0 g.1.0 d.0 g.0 d.1.1 g.1.1 (d.1.2 ∙ same ∙ sym g.1.2) in
+      rw (definers, same) refl
+    where
+      at-live : (x : Value) → IsLiveValue c x → (d : Definition) × Found x d
+      at-live x live = by (definition_at c x) refl
+        where
+          by : (o : Option Definition) → definition_at c x ≡ o → (d : Definition) × Found x d
+          by None none = let e : IsSome (option_map (λ (y : Definition). y.ty) (definition_at c x)) = live in let f : option_map (λ (y : Definition). y.ty) (definition_at c x) ≡ None = ap (option_map (λ (y : Definition). y.ty)) none in cc
+          by (Some d) some = (d, found-at x d some)

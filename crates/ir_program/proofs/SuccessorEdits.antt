@@ -23,6 +23,7 @@ use Rattle.ir_program.proofs.Frames.{with_operation, operation-edited, edited-to
 use Rattle.ir_program.proofs.RowNames.{KeepsNames, others-named, pushed-keeps, inserted-keeps, removed-keeps, renamed-keeps, pushed-named, inserted-named, removed-named, renamed-named, named-alike}
 use Rattle.ir_program.proofs.RowFrames.{same_results, other_slot, threaded-same}
 use Rattle.ir_program.proofs.RowReads.{successor-row}
+use Rattle.ir_program.proofs.OwnNumbers.{own-same}
 
 module _ {O B : Type 0} (c : Program O B) (p : Ptr Operation) (o : OperationRecord O) (here : get c.forest.ops p.key ≡ Some o) (rows : Vec ℕ) where
   -- the operation with these places of successors
@@ -65,6 +66,7 @@ module _ {O B : Type 0} (c : Program O B) (p : Ptr Operation) (o : OperationReco
       values = threaded-same (thread_of_value c) (thread_of_value edited) c.values c.values refl (λ v. ap (λ ds. option_map (λ (d : Definition). d.thread) (numbered v.number ds)) (definitions-same v.definer)) inv.values;
       blocks = threaded-same (thread_of_block c) (thread_of_block edited) c.targets u keys (λ b. refl) inv.blocks;
       numbers = λ e. subst (AreNumbered c.counter) (sym (definitions-same e)) (inv.numbers e);
+      own = own-same (definitions_of c) (definitions_of edited) inv.own definitions-same;
       homes = inv.homes;
     }
 
@@ -148,6 +150,7 @@ module _ {O B : Type 0} (c : Program O B) (p : Ptr Operation) (o : OperationReco
     operands = inv.operands;
     values = inv.values;
     numbers = inv.numbers;
+    own = inv.own;
     homes = inv.homes;
     successors = placed-renamed (place_of c.targets) (successor_row c) inv.successors (place_of u) (named-alike c.targets u q d sets);
     blocks = threaded-same (thread_of_block c) (thread_of_block renamed) c.targets u keys (λ x. refl) inv.blocks;

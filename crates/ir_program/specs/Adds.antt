@@ -50,17 +50,6 @@ module _ {O B : Type 0} where
     pub types : (v : Value) → type_at new v ≡ type_at old v
     pub counter : new.counter ≡ old.counter
 
-  -- operation p has results of these types, these operands and these successors more, each behind its others; nothing else changes
-  pub record FillsOperation (old new : Program O B) (p : Ptr Operation) (tys : List TypeHandle) (vs : List Value) (bs : List (Ptr BasicBlock)) : Type 0 where
-    pub edited : EditsOperation old new p (λ (o : OperationView O). record o { results = o.results ++ numbered_values (ByOp p) old.counter tys; operands = o.operands ++ vs; successors = o.successors ++ bs })
-    pub others : (v : Value) → v.definer ≢ ByOp p → type_at new v ≡ type_at old v
-    pub earlier : (v : Value) → v.number < old.counter → type_at new v ≡ type_at old v
-    pub counter : new.counter ≡ old.counter + length tys
-
-  -- operation p has some results, operands and successors more; nothing else changes
-  abbrev pub FillsSome : Program O B → Program O B → Ptr Operation → Type 0
-  FillsSome old new p = (tys : List TypeHandle) × (vs : List Value) × (bs : List (Ptr BasicBlock)) × FillsOperation old new p tys vs bs
-
 -- some of the list came, from the first on, but not all
 abbrev pub SomeCame : {X : Type 0} → List X → (List X → Type 0) → Type 0
 SomeCame xs Came = (n : ℕ) × (n < length xs) × Came (take n xs)

@@ -2,6 +2,7 @@ pub mod Handles
 pub mod Program
 pub mod Sound
 pub mod Lists
+pub mod Preorder
 pub mod Listed
 pub mod Edits
 pub mod Making
@@ -18,3 +19,4 @@ pub mod Definers
 pub mod Spots
 pub mod Replacing
 pub mod UsersInside
+pub mod Among

@@ -1,5 +1,5 @@
 -- What stands where: the operations of each block, the blocks of each region and the regions of each operation.
-use Rattle.std.specs.Prelude.{◌≡◌, ℕ, List, [], Some, IsSome, option_map, unwrap_or, slice_get}
+use Rattle.std.specs.Prelude.{◌≡◌, ℕ, List, [], Some, None, IsSome, option_map, unwrap_or, slice_get}
 use Rattle.ir_entities.specs.declared.forest.Place.{Place}
 use Rattle.ir_entities.specs.declared.forest.Place.TheVariants.{Op, Block, Region as RegionPlace}
 use Rattle.ir_program.specs.Program.{Program, OperationView, BlockView, RegionView, operation_at, block_at, region_at}
@@ -71,6 +71,12 @@ module _ {O B : Type 0} where
   IsLiveNode c (OperationNode p) = IsSome (operation_at c p)
   IsLiveNode c (RegionNode p) = IsSome (region_at c p)
   IsLiveNode c (BlockNode p) = IsSome (block_at c p)
+
+  -- no handle leads to an operation, a region or a block
+  pub record IsEmptyProgram (c : Program O B) : Type 0 where
+    pub operations : (p : Ptr Operation) → operation_at c p ≡ None
+    pub regions : (p : Ptr Region) → region_at c p ≡ None
+    pub blocks : (p : Ptr BasicBlock) → block_at c p ≡ None
 
   -- the inner is the outer, or stands in it, however far down
   pub data StandsInside (c : Program O B) (outer : IRNode) : IRNode → Type 0 where

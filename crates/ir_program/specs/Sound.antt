@@ -22,6 +22,10 @@ pub record AreNumbered (counter : ℕ) (ds : List Definition) : Type 0 where
   pub distinct : AreDistinct (map (λ (d : Definition). d.number) ds)
   pub below : (i : ℕ) (d : Definition) → slice_get ds i ≡ Some d → d.number < counter
 
+-- no two entities have definitions with one number
+abbrev pub HaveOwnNumbers : (DefiningEntity → List Definition) → Type 0
+HaveOwnNumbers ds = (e f : DefiningEntity) (j k : ℕ) (d g : Definition) → slice_get (ds e) j ≡ Some d → slice_get (ds f) k ≡ Some g → d.number ≡ g.number → e ≡ f
+
 module _ {O B : Type 0} where
   -- the places of the operands of the operation in a slot
   abbrev pub operand_row : Program O B → ℕ → List ℕ
@@ -43,4 +47,5 @@ module _ {O B : Type 0} where
     pub values : IsThreaded (thread_of_value c) c.values
     pub blocks : IsThreaded (thread_of_block c) c.targets
     pub numbers : (e : DefiningEntity) → AreNumbered c.counter (definitions_of c e)
+    pub own : HaveOwnNumbers (definitions_of c)
     pub homes : (i : ℕ) → IsSome (held c.forest.regions i) → IsLinked c.forest.in_ops.lists i

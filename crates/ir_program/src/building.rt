@@ -1,14 +1,15 @@
 //! Making operations and blocks with all that they have.
-ghost use Rattle.std.specs.Prelude.{◌≡◌, ◌≢◌, ◌⊎◌, ℕ, ◌<◌, ◌≤◌, ◌+◌, ◌^◌, [], Some, Err, IsSome, IfOk, OnOk, OnErr, length, slice_get};
+ghost use Rattle.std.specs.Prelude.{◌≡◌, ◌≢◌, ◌⊎◌, ℕ, ◌<◌, ◌≤◌, ◌+◌, ◌^◌, [], List, Some, Err, IsSome, IfOk, OnOk, OnErr, length, slice_get};
 ghost use Rattle.ir_names.specs.declared.growth.GrowError.TheVariants.{CounterFull};
 ghost use Rattle.ir_program.specs.Program.{operation_at, block_at, type_at, IsLiveValue};
-ghost use Rattle.ir_program.specs.Lists.{IsUnlinkedOperation, IsUnlinkedBlock, regions_in, operations_in};
+ghost use Rattle.ir_program.specs.Lists.{IsUnlinkedOperation, IsUnlinkedBlock, operations_in};
 ghost use Rattle.ir_program.specs.Rows.{operands_at, successors_at};
 ghost use Rattle.ir_program.specs.Edits.{IsUnchanged};
-ghost use Rattle.ir_program.specs.Adds.{AreLiveValues, AreLiveBlocks, FillsOperation, FillsSome};
-ghost use Rattle.ir_program.specs.Made.{BuildsOperation, BuildsBlock, TakesBackOperation, TakesBackBlock, HasFullOperationSlot, HasFullBlockSlot};
+ghost use Rattle.ir_program.specs.Adds.{AreLiveValues, AreLiveBlocks};
+ghost use Rattle.ir_program.specs.Made.{FillsOperation, FillsSome, BuildsOperation, BuildsBlock, TakesBackOperation, TakesBackBlock, HasBareRegions, HasFullOperationSlot, HasFullBlockSlot, HasFullRegionSlot};
 ghost use Rattle.ir_program.specs.declared.handles.Ptr.{Ptr};
 ghost use Rattle.ir_program.specs.declared.handles.Operation.{Operation};
+ghost use Rattle.ir_program.specs.declared.handles.Region.{Region};
 ghost use Rattle.ir_program.specs.declared.handles.Value.{Value};
 ghost use Rattle.ir_program.specs.declared.handles.DefiningEntity.TheVariants.{Op as ByOp, Block as ByBlock};
 
@@ -31,38 +32,42 @@ impl<O, B> Program<O, B> {
     {
         self.counter = counter;
     }
+}
 
-    /// Gives an operation these results, operands and successors, in order and behind its others.
+impl<O: Drop, B: Drop> Program<O, B> {
+    /// Gives an operation so many new regions with no block, and these results, operands and successors, in order and
+    /// behind its others.
     ///
     /// # Errors
-    /// `Memory`, and `CounterFull` where there are not so many numbers left. Some of them came then.
+    /// `Memory`, and `CounterFull` where there are not so many numbers left, or where the vacant slot that comes next for
+    /// a region had as many regions as it can name. Some of them came then.
     fn fill_operation(
         &mut self,
         op: Ptr<Operation>,
         results: &[TypeHandle],
         operands: &[Value],
         successors: &[Ptr<BasicBlock>],
+        regions: usize,
     ) -> Result<(), GrowError>
         requires operation { IsSome (operation_at self.old op) }
         requires operands { AreLiveValues self.old operands.now }
         requires successors { AreLiveBlocks self.old successors.now }
-        ensures filled { OnOk result (FillsOperation self.old self.new op results.now operands.now successors.now) }
+        ensures filled { OnOk result ((rs : List (Ptr Region)) × (length rs ≡ regions) × FillsOperation self.old self.new op results.now operands.now successors.now rs) }
         ensures err { OnErr result (FillsSome self.old self.new op) }
-        ensures full { result ≡ Err CounterFull → 2 ^ 64 ≤ self.old.counter + length results.now }
+        ensures full { result ≡ Err CounterFull → HasFullRegionSlot self.old ⊎ (2 ^ 64 ≤ self.old.counter + length results.now) }
     {
+        self.add_regions(op, regions)?;
         self.add_operands(op, operands)?;
         self.add_successors(op, successors)?;
         self.add_results(op, results)
     }
-}
 
-impl<O: Drop, B: Drop> Program<O, B> {
-    /// Erases an operation that stands in no block and has no region, whose results no other operation takes, and sets
-    /// the number of the next value back. No memory is asked for.
+    /// Erases an operation that stands in no block and whose regions have no block, whose results no other operation
+    /// takes, and sets the number of the next value back. No memory is asked for.
     fn take_back_operation(&mut self, op: Ptr<Operation>, counter: u64)
         requires operation { IsSome (operation_at self.old op) }
         requires unlinked { IsUnlinkedOperation self.old op }
-        requires bare { regions_in self.old op ≡ [] }
+        requires bare { HasBareRegions self.old op }
         requires unused { (q : Ptr Operation) (k : ℕ) (v : Value) → q ≢ op → slice_get (operands_at self.old q) k ≡ Some v → v.definer ≢ ByOp op }
         requires numbers { (v : Value) → v.definer ≢ ByOp op → IsLiveValue self.old v → v.number < counter }
         ensures { TakesBackOperation self.old self.new op counter }
@@ -72,11 +77,11 @@ impl<O: Drop, B: Drop> Program<O, B> {
     }
 
     /// Makes an operation that stands in no block, with results of these types, these operands and these successors, and
-    /// no region.
+    /// so many regions, each with no block.
     ///
     /// # Errors
     /// `Memory`, and `CounterFull` where there are not so many numbers left for values, or where the vacant slot that comes
-    /// next had as many operations as it can name. Nothing is changed then.
+    /// next for an operation or a region had as many of them as it can name. Nothing is changed then.
     pub fn build_operation(
         &mut self,
         alloc: Global,
@@ -84,18 +89,19 @@ impl<O: Drop, B: Drop> Program<O, B> {
         results: &[TypeHandle],
         operands: &[Value],
         successors: &[Ptr<BasicBlock>],
+        regions: usize,
     ) -> Result<Ptr<Operation>, GrowError>
         requires operands { AreLiveValues self.old operands.now }
         requires successors { AreLiveBlocks self.old successors.now }
-        ensures built { IfOk result (λ p. BuildsOperation self.old self.new p payload results.now operands.now successors.now) }
+        ensures built { IfOk result (λ p. BuildsOperation self.old self.new p payload results.now operands.now successors.now regions) }
         ensures err { OnErr result (IsUnchanged self.old self.new) }
         ensures err_types { OnErr result ((v : Value) → type_at self.new v ≡ type_at self.old v) }
-        ensures full { result ≡ Err CounterFull → HasFullOperationSlot self.old ⊎ (2 ^ 64 ≤ self.old.counter + length results.now) }
+        ensures full { result ≡ Err CounterFull → HasFullOperationSlot self.old ⊎ (HasFullRegionSlot self.old ⊎ (2 ^ 64 ≤ self.old.counter + length results.now)) }
     {
         self.know_values();
         let counter = self.next_number();
         let op = self.new_operation(alloc, payload)?;
-        match self.fill_operation(op, results, operands, successors) {
+        match self.fill_operation(op, results, operands, successors, regions) {
             Ok(()) => Ok(op),
             Err(error) => {
                 self.take_back_operation(op, counter);

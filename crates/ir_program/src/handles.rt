@@ -32,6 +32,20 @@ impl<T> Ptr<T> {
             of: PhantomData,
         }
     }
+
+    /// The slot that the entity has while it is there.
+    pub fn slot(self) -> usize
+        ensures { result ≡ self.key.slot }
+    {
+        self.key.slot
+    }
+
+    /// Which of the entities that have the slot in turn it is.
+    pub fn version(self) -> u64
+        ensures { result ≡ self.key.version }
+    {
+        self.key.version
+    }
 }
 
 /// The entity that defines a value.

@@ -23,10 +23,12 @@ mod records;
 mod replacing;
 mod results;
 mod retargeting;
+mod some_uses;
 mod successors;
 mod users;
 mod uses;
 mod values;
+mod walking;
 
 pub use edges::BlockUses;
 pub use handles::{BasicBlock, DefiningEntity, IRNode, Operation, Ptr, Region, Use, Value};
@@ -34,3 +36,4 @@ pub use listing::{Blocks, Operations, Regions};
 pub use program::Program;
 pub use records::{BlockRecord, Definition, OperationRecord};
 pub use uses::ValueUses;
+pub use walking::NodesInside;

@@ -1,10 +1,10 @@
 //! Making operations, blocks and regions.
-ghost use Rattle.std.specs.Prelude.{◌≡◌, Err, IsSome, IfOk, OnErr};
+ghost use Rattle.std.specs.Prelude.{◌≡◌, Err, IsSome, IfOk, OnOk, OnErr};
 ghost use Rattle.ir_names.specs.declared.growth.GrowError.TheVariants.{CounterFull};
 ghost use Rattle.ir_program.specs.Program.{operation_at};
 ghost use Rattle.ir_program.specs.Edits.{IsUnchanged};
 ghost use Rattle.ir_program.specs.Lists.{IsUnlinkedOperation, IsUnlinkedBlock};
-ghost use Rattle.ir_program.specs.Made.{MakesOperation, MakesBlock, MakesRegion, HasFullOperationSlot, HasFullBlockSlot, HasFullRegionSlot};
+ghost use Rattle.ir_program.specs.Made.{MakesOperation, MakesBlock, MakesRegion, AddsRegionCount, AddsFewerRegions, HasFullOperationSlot, HasFullBlockSlot, HasFullRegionSlot};
 
 use crate::records::{BlockRecord, OperationRecord, RegionRecord};
 use crate::{BasicBlock, Operation, Program, Ptr, Region};
@@ -74,5 +74,22 @@ impl<O: Drop, B: Drop> Program<O, B> {
         self.forest.know();
         self.forest.insert_region_at_back(op.key, key);
         Ok(Ptr::new(key))
+    }
+
+    /// Gives an operation so many regions, each with no block, behind its others.
+    ///
+    /// # Errors
+    /// `Memory`, and `CounterFull` where the vacant slot that comes next had as many regions as it can name. Only the first
+    /// of the regions came then.
+    pub fn add_regions(&mut self, op: Ptr<Operation>, count: usize) -> Result<(), GrowError>
+        requires { IsSome (operation_at self.old op) }
+        ensures added { OnOk result (AddsRegionCount self.old self.new op count) }
+        ensures err { OnErr result (AddsFewerRegions self.old self.new op count) }
+        ensures full { result ≡ Err CounterFull → HasFullRegionSlot self.old }
+    {
+        for _made in 0..count {
+            self.add_region(op)?;
+        }
+        Ok(())
     }
 }

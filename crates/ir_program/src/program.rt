@@ -2,6 +2,7 @@
 ghost use Rattle.std.specs.Prelude.{◌≡◌, ◌↔◌, ◌<◌, ℕ, [], Some, None, IsSome, IsTrue, is_some, option_map, MatchOption, IfOk, OnOk, OnErr};
 ghost use Rattle.ir_entities.specs.Arena.{get};
 ghost use Rattle.ir_program.specs.Program.{operation_at, block_at, region_at, type_at, IsLiveValue};
+ghost use Rattle.ir_program.specs.Lists.{IsEmptyProgram};
 
 use crate::records::{BlockRecord, Definition, OperationRecord, RegionRecord};
 use crate::{BasicBlock, DefiningEntity, Operation, Ptr, Region, Value};
@@ -48,6 +49,13 @@ impl<O, B> Program<O, B> {
             targets: Uses::new(alloc),
             counter: 0,
         }
+    }
+
+    /// Whether there is no operation, no region and no block.
+    pub fn is_empty(&self) -> bool
+        ensures { IsTrue result ↔ IsEmptyProgram self.now }
+    {
+        self.forest.is_vacant()
     }
 
     /// Whether the handle leads to an operation.

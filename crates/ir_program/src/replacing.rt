@@ -38,6 +38,7 @@ impl<O, B> Program<O, B> {
         requires place { IsUse self.old place }
         requires other { IsLiveValue self.old other }
         ensures replaced { EditsOperation self.old self.new place.user_op (λ o. record o { operands = slice_set o.operands place.index other }) }
+        ensures types { (v : _) → type_at self.new v ≡ type_at self.old v }
         ensures counter { self.new.counter ≡ self.old.counter }
     {
         self.replace_operand(place.user_op, place.index, other);

@@ -12,19 +12,19 @@ pub fill_operation-requires-clause-operands : goal.fill_operation-requires-claus
 fill_operation-requires-clause-operands g c = made-values c.args.self.now c.new_operation.new.self c.in_ok-op.op c.args.payload c.in_ok-op.ensures.made c.args.operands.now c.requires.operands
 
 pub take_back_operation-requires-clause-unlinked : goal.take_back_operation-requires-clause-unlinked
-take_back_operation-requires-clause-unlinked g c = filled-unlinked c.args.self.now c.new_operation.new.self c.in_ok-op.op c.args.payload c.in_ok-op.ensures.made c.fill_operation.new.self c.in-Err.ensures.err.0 c.in-Err.ensures.err.1 c.in-Err.ensures.err.2 c.in-Err.ensures.err.3 c.in_ok-op.ensures.unlinked
+take_back_operation-requires-clause-unlinked g c = filled-unlinked c.args.self.now c.new_operation.new.self c.in_ok-op.op c.args.payload c.in_ok-op.ensures.made c.fill_operation.new.self c.in-Err.ensures.err.0 c.in-Err.ensures.err.1 c.in-Err.ensures.err.2 c.in-Err.ensures.err.3 c.in-Err.ensures.err.4 c.in_ok-op.ensures.unlinked
 
 pub take_back_operation-requires-clause-unused : goal.take_back_operation-requires-clause-unused
-take_back_operation-requires-clause-unused g c = filled-unused c.args.self.now c.new_operation.new.self c.in_ok-op.op c.args.payload c.in_ok-op.ensures.made c.fill_operation.new.self c.in-Err.ensures.err.0 c.in-Err.ensures.err.1 c.in-Err.ensures.err.2 c.in-Err.ensures.err.3 c.know_values.ensures.used
+take_back_operation-requires-clause-unused g c = filled-unused c.args.self.now c.new_operation.new.self c.in_ok-op.op c.args.payload c.in_ok-op.ensures.made c.fill_operation.new.self c.in-Err.ensures.err.0 c.in-Err.ensures.err.1 c.in-Err.ensures.err.2 c.in-Err.ensures.err.3 c.in-Err.ensures.err.4 c.know_values.ensures.used
 
 pub take_back_operation-requires-clause-numbers : goal.take_back_operation-requires-clause-numbers
-take_back_operation-requires-clause-numbers g c = λ v ne live. subst (λ (n : ℕ). v.number < n) (sym c.next_number-counter.ensures) (filled-numbers c.args.self.now c.new_operation.new.self c.in_ok-op.op c.args.payload c.in_ok-op.ensures.made c.fill_operation.new.self c.in-Err.ensures.err.0 c.in-Err.ensures.err.1 c.in-Err.ensures.err.2 c.in-Err.ensures.err.3 c.know_values.ensures.given v ne live)
+take_back_operation-requires-clause-numbers g c = λ v ne live. subst (λ (n : ℕ). v.number < n) (sym c.next_number-counter.ensures) (filled-numbers c.args.self.now c.new_operation.new.self c.in_ok-op.op c.args.payload c.in_ok-op.ensures.made c.fill_operation.new.self c.in-Err.ensures.err.0 c.in-Err.ensures.err.1 c.in-Err.ensures.err.2 c.in-Err.ensures.err.3 c.in-Err.ensures.err.4 c.know_values.ensures.given v ne live)
 
 pub returns-in-Ok-clause-built : goal.returns-in-Ok-clause-built
-returns-in-Ok-clause-built g c = built c.args.self.now c.new_operation.new.self c.in_ok-op.op c.args.payload c.in_ok-op.ensures.made c.fill_operation.new.self c.args.results.now c.args.operands.now c.args.successors.now c.in-Ok.ensures.filled c.in_ok-op.ensures.unlinked
+returns-in-Ok-clause-built g c = built c.args.self.now c.new_operation.new.self c.in_ok-op.op c.args.payload c.in_ok-op.ensures.made c.fill_operation.new.self c.args.results.now c.args.operands.now c.args.successors.now c.in-Ok.ensures.filled.0 c.in-Ok.ensures.filled.2 c.args.regions c.in-Ok.ensures.filled.1 c.in_ok-op.ensures.unlinked
 
 pub returns-in-Err-clause-err : goal.returns-in-Err-clause-err
-returns-in-Err-clause-err g c = undone c.args.self.now c.new_operation.new.self c.in_ok-op.op c.args.payload c.in_ok-op.ensures.made c.fill_operation.new.self c.in-Err.ensures.err.0 c.in-Err.ensures.err.1 c.in-Err.ensures.err.2 c.in-Err.ensures.err.3 c.take_back_operation.new.self (subst (TakesBackOperation c.fill_operation.new.self c.take_back_operation.new.self c.in_ok-op.op) c.next_number-counter.ensures c.take_back_operation.ensures)
+returns-in-Err-clause-err g c = undone c.args.self.now c.new_operation.new.self c.in_ok-op.op c.args.payload c.in_ok-op.ensures.made c.fill_operation.new.self c.in-Err.ensures.err.0 c.in-Err.ensures.err.1 c.in-Err.ensures.err.2 c.in-Err.ensures.err.3 c.in-Err.ensures.err.4 c.take_back_operation.new.self (subst (TakesBackOperation c.fill_operation.new.self c.take_back_operation.new.self c.in_ok-op.op) c.next_number-counter.ensures c.take_back_operation.ensures)
 
 pub returns-in-Err-clause-err_types : goal.returns-in-Err-clause-err_types
-returns-in-Err-clause-err_types g c = unchanged-types c.args.self.now c.take_back_operation.new.self (undone c.args.self.now c.new_operation.new.self c.in_ok-op.op c.args.payload c.in_ok-op.ensures.made c.fill_operation.new.self c.in-Err.ensures.err.0 c.in-Err.ensures.err.1 c.in-Err.ensures.err.2 c.in-Err.ensures.err.3 c.take_back_operation.new.self (subst (TakesBackOperation c.fill_operation.new.self c.take_back_operation.new.self c.in_ok-op.op) c.next_number-counter.ensures c.take_back_operation.ensures))
+returns-in-Err-clause-err_types g c = unchanged-types c.args.self.now c.take_back_operation.new.self (undone c.args.self.now c.new_operation.new.self c.in_ok-op.op c.args.payload c.in_ok-op.ensures.made c.fill_operation.new.self c.in-Err.ensures.err.0 c.in-Err.ensures.err.1 c.in-Err.ensures.err.2 c.in-Err.ensures.err.3 c.in-Err.ensures.err.4 c.take_back_operation.new.self (subst (TakesBackOperation c.fill_operation.new.self c.take_back_operation.new.self c.in_ok-op.op) c.next_number-counter.ensures c.take_back_operation.ensures))

@@ -1,4 +1,4 @@
-use Rattle.ir_program.proofs.Standing.{seen-definer, seen-typed, live-stands, live-given}
+use Rattle.ir_program.proofs.Standing.{seen-definer, seen-typed, live-stands, live-given, live-own}
 use Rattle.ir_program.proofs.Kept.{used-live}
 use Rattle.ir_program.proofs.program.Program.know_values.Goals as goal
 
@@ -16,3 +16,6 @@ returns-clause-given g c = rw (← c.self.view_is) (live-given _ c.self.invarian
 
 pub returns-clause-used : goal.returns-clause-used
 returns-clause-used g c = rw (← c.self.view_is) (used-live _ c.self.invariant c.know_named.ensures)
+
+pub returns-clause-own : goal.returns-clause-own
+returns-clause-own g c = rw (← c.self.view_is) (live-own _ c.self.invariant)
