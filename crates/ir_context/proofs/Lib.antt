@@ -1,0 +1,5 @@
+pub mod KnownTypes
+pub mod SameHandle
+pub mod ErasedTypes
+pub mod GrownTypes
+pub mod ChosenPlaces

@@ -1,0 +1,4 @@
+use Rattle.ir_context.proofs.blocks.PtrBasicBlockBlockCalls.get_parent_block.Goals as goal
+
+pub returns-clause-only : goal.returns-clause-only
+returns-clause-only g c = rw (← c.ctx.view_is) c.parent_of_block.ensures.only

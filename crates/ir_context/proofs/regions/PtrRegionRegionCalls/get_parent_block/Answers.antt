@@ -1,0 +1,4 @@
+use Rattle.ir_context.proofs.regions.PtrRegionRegionCalls.get_parent_block.Goals as goal
+
+pub returns-clause-only : goal.returns-clause-only
+returns-clause-only g c = rw (← c.ctx.view_is) c.block_of_region.ensures.only

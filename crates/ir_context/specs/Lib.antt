@@ -1,0 +1,8 @@
+pub mod Views
+pub mod Known
+pub mod Holders
+pub mod Kept
+pub mod Refusals
+pub mod Lends
+pub mod KnownLists
+pub mod Chosen

@@ -1,0 +1,153 @@
+//! The operands of operations.
+ghost use Rattle.std.specs.Prelude.{◌≡◌, ℕ, ◌++◌, ◌∷◌, [], ◌<◌, ◌≤◌, Some, IsNone, IsOk, IsSome, MatchOption, OnOk, OnErr, length, insert, remove, slice_get, slice_set};
+ghost use Rattle.ir_program.specs.Program.{operation_at, type_at, IsLiveValue};
+ghost use Rattle.ir_program.specs.Rows.{operands_at};
+ghost use Rattle.ir_program.specs.Edits.{EditsOperation, IsUnchanged};
+ghost use Rattle.ir_program.specs.declared.handles.Ptr.{Ptr};
+ghost use Rattle.ir_program.specs.declared.handles.Operation.{Operation};
+
+use crate::Context;
+use ir_program::{Operation, Ptr, Value};
+use ir_types::DialectTables;
+use std::alloc::{AllocError, Global};
+
+/// The operands of an operation: the values that it takes.
+pub trait OperandCalls {
+    /// The handle of the operation.
+    ghost op: { Self → Ptr Operation };
+
+    /// How many operands the operation has.
+    fn get_num_operands<D: DialectTables>(self, ctx: &Context<D>) -> usize
+        requires { IsSome (operation_at ctx.now.program (op self)) }
+        ensures { result ≡ length (operands_at ctx.now.program (op self)) };
+
+    /// The operand at an index.
+    fn get_operand<D: DialectTables>(self, ctx: &Context<D>, i: usize) -> Value
+        requires { i < length (operands_at ctx.now.program (op self)) }
+        ensures exact { slice_get (operands_at ctx.now.program (op self)) i ≡ Some result }
+        ensures live { IsLiveValue ctx.now.program result };
+
+    /// Gives the operation one operand more, behind the others.
+    ///
+    /// # Errors
+    /// Without memory nothing is changed.
+    fn push_operand<D: DialectTables>(
+        self,
+        _alloc: Global,
+        ctx: &mut Context<D>,
+        value: Value,
+    ) -> Result<(), AllocError>
+        requires operation { IsSome (operation_at ctx.old.program (op self)) }
+        requires value { IsLiveValue ctx.old.program value }
+        ensures pushed { OnOk result (EditsOperation ctx.old.program ctx.new.program (op self) (λ o. record o { operands = o.operands ++ value ∷ [] })) }
+        ensures err { OnErr result (IsUnchanged ctx.old.program ctx.new.program) }
+        ensures values { (v : _) → type_at ctx.new.program v ≡ type_at ctx.old.program v }
+        ensures counter { ctx.new.program.counter ≡ ctx.old.program.counter }
+        ensures types { ctx.new.types ≡ ctx.old.types };
+
+    /// Puts an operand at an index. Those that stood there and behind move back by one.
+    ///
+    /// # Errors
+    /// Without memory nothing is changed.
+    fn insert_operand<D: DialectTables>(
+        self,
+        _alloc: Global,
+        ctx: &mut Context<D>,
+        i: usize,
+        value: Value,
+    ) -> Result<(), AllocError>
+        requires operation { IsSome (operation_at ctx.old.program (op self)) }
+        requires within { i ≤ length (operands_at ctx.old.program (op self)) }
+        requires value { IsLiveValue ctx.old.program value }
+        ensures inserted { OnOk result (EditsOperation ctx.old.program ctx.new.program (op self) (λ o. record o { operands = insert o.operands i value })) }
+        ensures err { OnErr result (IsUnchanged ctx.old.program ctx.new.program) }
+        ensures values { (v : _) → type_at ctx.new.program v ≡ type_at ctx.old.program v }
+        ensures counter { ctx.new.program.counter ≡ ctx.old.program.counter }
+        ensures types { ctx.new.types ≡ ctx.old.types };
+
+    /// Takes away the last operand, if there is one.
+    fn pop_operand<D: DialectTables>(self, ctx: &mut Context<D>) -> Option<Value>
+        requires { IsSome (operation_at ctx.old.program (op self)) }
+        ensures value { MatchOption result (operands_at ctx.old.program (op self) ≡ []) (λ v. operands_at ctx.old.program (op self) ≡ operands_at ctx.new.program (op self) ++ v ∷ []) }
+        ensures popped { EditsOperation ctx.old.program ctx.new.program (op self) (λ o. record o { operands = operands_at ctx.new.program (op self) }) }
+        ensures none { IsNone result → IsUnchanged ctx.old.program ctx.new.program }
+        ensures values { (v : _) → type_at ctx.new.program v ≡ type_at ctx.old.program v }
+        ensures counter { ctx.new.program.counter ≡ ctx.old.program.counter }
+        ensures types { ctx.new.types ≡ ctx.old.types };
+
+    /// Takes away the operand at an index. Those behind it move up by one.
+    fn remove_operand<D: DialectTables>(self, ctx: &mut Context<D>, i: usize) -> Value
+        requires { i < length (operands_at ctx.old.program (op self)) }
+        ensures value { slice_get (operands_at ctx.old.program (op self)) i ≡ Some result }
+        ensures removed { EditsOperation ctx.old.program ctx.new.program (op self) (λ o. record o { operands = remove o.operands i }) }
+        ensures values { (v : _) → type_at ctx.new.program v ≡ type_at ctx.old.program v }
+        ensures counter { ctx.new.program.counter ≡ ctx.old.program.counter }
+        ensures types { ctx.new.types ≡ ctx.old.types };
+
+    /// Puts another value in place of the operand at an index. The parameter stays for callers that allocate; no memory
+    /// is asked for.
+    fn replace_operand<D: DialectTables>(
+        self,
+        _alloc: Global,
+        ctx: &mut Context<D>,
+        i: usize,
+        value: Value,
+    ) -> Result<(), AllocError>
+        requires within { i < length (operands_at ctx.old.program (op self)) }
+        requires value { IsLiveValue ctx.old.program value }
+        ensures succeeds { IsOk result }
+        ensures replaced { EditsOperation ctx.old.program ctx.new.program (op self) (λ o. record o { operands = slice_set o.operands i value }) }
+        ensures values { (v : _) → type_at ctx.new.program v ≡ type_at ctx.old.program v }
+        ensures counter { ctx.new.program.counter ≡ ctx.old.program.counter }
+        ensures types { ctx.new.types ≡ ctx.old.types };
+}
+
+impl OperandCalls for Ptr<Operation> {
+    ghost op = { λ p. p };
+
+    fn get_num_operands<D: DialectTables>(self, ctx: &Context<D>) -> usize {
+        ctx.program.operand_count(self)
+    }
+
+    fn get_operand<D: DialectTables>(self, ctx: &Context<D>, i: usize) -> Value {
+        ctx.program.operand(self, i)
+    }
+
+    fn push_operand<D: DialectTables>(
+        self,
+        _alloc: Global,
+        ctx: &mut Context<D>,
+        value: Value,
+    ) -> Result<(), AllocError> {
+        ctx.program.push_operand(self, value)
+    }
+
+    fn insert_operand<D: DialectTables>(
+        self,
+        _alloc: Global,
+        ctx: &mut Context<D>,
+        i: usize,
+        value: Value,
+    ) -> Result<(), AllocError> {
+        ctx.program.insert_operand(self, i, value)
+    }
+
+    fn pop_operand<D: DialectTables>(self, ctx: &mut Context<D>) -> Option<Value> {
+        ctx.program.pop_operand(self)
+    }
+
+    fn remove_operand<D: DialectTables>(self, ctx: &mut Context<D>, i: usize) -> Value {
+        ctx.program.remove_operand(self, i)
+    }
+
+    fn replace_operand<D: DialectTables>(
+        self,
+        _alloc: Global,
+        ctx: &mut Context<D>,
+        i: usize,
+        value: Value,
+    ) -> Result<(), AllocError> {
+        ctx.program.replace_operand(self, i, value);
+        Ok(())
+    }
+}

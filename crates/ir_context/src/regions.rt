@@ -1,0 +1,99 @@
+//! What is asked of regions.
+ghost use Rattle.std.specs.Prelude.{◌≡◌, ◌≢◌, ◌++◌, ◌∷◌, [], ℕ, Some, IsSome, IfSome, is_some, slice_get, remove};
+ghost use Rattle.ir_program.specs.declared.handles.Ptr.{Ptr};
+ghost use Rattle.ir_program.specs.declared.handles.Operation.{Operation};
+ghost use Rattle.ir_program.specs.declared.handles.BasicBlock.{BasicBlock};
+ghost use Rattle.ir_program.specs.declared.handles.Region.{Region};
+ghost use Rattle.ir_program.specs.declared.handles.Value.{Value};
+ghost use Rattle.ir_program.specs.declared.handles.IRNode.TheVariants.{Operation as OperationNode, Region as RegionNode};
+ghost use Rattle.ir_program.specs.Program.{operation_at, region_at, type_at};
+ghost use Rattle.ir_program.specs.Lists.{blocks_in, regions_in, StandsInRegion, StandsInOperation, StandsInside};
+ghost use Rattle.ir_program.specs.Edits.{EditsOperation, MovesRegion};
+ghost use Rattle.ir_context.specs.Holders.{HasBlock, HasParentRegion};
+
+use crate::Context;
+use crate::parents::{block_of_region, parent_of_region};
+use ir_program::{BasicBlock, Operation, Ptr, Region};
+use ir_types::DialectTables;
+
+/// What is asked of a region, and how it is moved.
+pub trait RegionCalls {
+    /// The handle of the region.
+    ghost region: { Self → Ptr Region };
+
+    /// Whether the handle leads to a region.
+    fn is_live<D: DialectTables>(self, ctx: &Context<D>) -> bool
+        ensures { result ≡ is_some (region_at ctx.now.program (region self)) };
+
+    /// The operation that the region stands in. Each region stands in one.
+    fn get_parent_op<D: DialectTables>(self, ctx: &Context<D>) -> Option<Ptr<Operation>>
+        requires { IsSome (region_at ctx.now.program (region self)) }
+        ensures stands { (op : Ptr Operation) × (result ≡ Some op) × StandsInOperation ctx.now.program (region self) op }
+        ensures only { (op : Ptr Operation) → StandsInOperation ctx.now.program (region self) op → result ≡ Some op };
+
+    /// The block that this operation stands in.
+    fn get_parent_block<D: DialectTables>(self, ctx: &Context<D>) -> Option<Ptr<BasicBlock>>
+        requires { IsSome (region_at ctx.now.program (region self)) }
+        ensures found { IfSome result (λ block. HasBlock ctx.now.program (region self) block) }
+        ensures only { (block : Ptr BasicBlock) → HasBlock ctx.now.program (region self) block → result ≡ Some block };
+
+    /// The region that this block stands in.
+    fn get_parent_region<D: DialectTables>(self, ctx: &Context<D>) -> Option<Ptr<Region>>
+        requires { IsSome (region_at ctx.now.program (region self)) }
+        ensures found { IfSome result (λ parent. HasParentRegion ctx.now.program (region self) parent) }
+        ensures only { (parent : Ptr Region) → HasParentRegion ctx.now.program (region self) parent → result ≡ Some parent };
+
+    /// The first of its blocks.
+    fn get_entry_block<D: DialectTables>(self, ctx: &Context<D>) -> Option<Ptr<BasicBlock>>
+        requires { IsSome (region_at ctx.now.program (region self)) }
+        ensures first { result ≡ slice_get (blocks_in ctx.now.program (region self)) 0 }
+        ensures stands { IfSome result (λ block. StandsInRegion ctx.now.program block (region self)) };
+
+    /// Its index among the regions of its operation.
+    fn find_index_in_parent<D: DialectTables>(self, ctx: &Context<D>) -> usize
+        requires { IsSome (region_at ctx.now.program (region self)) }
+        ensures { (op : Ptr Operation) (k : ℕ) → slice_get (regions_in ctx.now.program op) k ≡ Some (region self) → result ≡ k };
+
+    /// Moves the region out of its operation, behind the regions of `op`, which may be the same one.
+    fn move_to_op<D: DialectTables>(self, ctx: &mut Context<D>, op: Ptr<Operation>)
+        requires region { IsSome (region_at ctx.old.program (region self)) }
+        requires op { IsSome (operation_at ctx.old.program op) }
+        requires apart { StandsInside ctx.old.program (RegionNode (region self)) (OperationNode op) → ⊥ }
+        ensures elsewhere { (from : Ptr Operation) (k : ℕ) → slice_get (regions_in ctx.old.program from) k ≡ Some (region self) → from ≢ op → MovesRegion ctx.old.program ctx.new.program (region self) from k op }
+        ensures within { (k : ℕ) → slice_get (regions_in ctx.old.program op) k ≡ Some (region self) → EditsOperation ctx.old.program ctx.new.program op (λ v. record v { regions = remove v.regions k ++ region self ∷ [] }) }
+        ensures values { (v : Value) → type_at ctx.new.program v ≡ type_at ctx.old.program v }
+        ensures counter { ctx.new.program.counter ≡ ctx.old.program.counter }
+        ensures types { ctx.new.types ≡ ctx.old.types };
+}
+
+impl RegionCalls for Ptr<Region> {
+    ghost region = { λ r. r };
+
+    fn is_live<D: DialectTables>(self, ctx: &Context<D>) -> bool {
+        ctx.program.has_region(self)
+    }
+
+    fn get_parent_op<D: DialectTables>(self, ctx: &Context<D>) -> Option<Ptr<Operation>> {
+        Some(ctx.program.parent_operation(self))
+    }
+
+    fn get_parent_block<D: DialectTables>(self, ctx: &Context<D>) -> Option<Ptr<BasicBlock>> {
+        block_of_region(&ctx.program, self)
+    }
+
+    fn get_parent_region<D: DialectTables>(self, ctx: &Context<D>) -> Option<Ptr<Region>> {
+        parent_of_region(&ctx.program, self)
+    }
+
+    fn get_entry_block<D: DialectTables>(self, ctx: &Context<D>) -> Option<Ptr<BasicBlock>> {
+        ctx.program.first_block(self)
+    }
+
+    fn find_index_in_parent<D: DialectTables>(self, ctx: &Context<D>) -> usize {
+        ctx.program.region_index(self)
+    }
+
+    fn move_to_op<D: DialectTables>(self, ctx: &mut Context<D>, op: Ptr<Operation>) {
+        ctx.program.move_region(self, op);
+    }
+}

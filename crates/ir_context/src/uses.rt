@@ -1,0 +1,335 @@
+//! Where values and blocks are used, and others in their place.
+ghost use Rattle.std.specs.Prelude.{◌≡◌, ◌≢◌, ◌↔◌, ◌+◌, ℕ, IfOk, IsOk, IsSome, IsTrue, map, slice_set};
+ghost use Rattle.ir_program.specs.Program.{block_at, type_at, IsLiveValue};
+ghost use Rattle.ir_program.specs.Uses.{IsUse, IsUsed, IsUseCount, IsBlockUse, HasPredecessor, IsPredecessorCount};
+ghost use Rattle.ir_program.specs.Edits.{EditsOperation, EditsOperations};
+ghost use Rattle.ir_program.specs.Replacing.{replacing, retargeting, with_chosen, Chooses};
+ghost use Rattle.ir_program.specs.Among.{is_among};
+ghost use Rattle.ir_program.specs.Rows.{operands_at, successors_at};
+ghost use Rattle.ir_context.specs.Chosen.{AreUsesNaming, Says};
+ghost use Rattle.ir_program.specs.declared.handles.Ptr.{Ptr};
+ghost use Rattle.ir_program.specs.declared.handles.BasicBlock.{BasicBlock};
+ghost use Rattle.ir_program.specs.declared.handles.Value.{Value};
+
+use crate::Context;
+use ir_program::{BasicBlock, Program, Ptr, Use, Value};
+use ir_types::DialectTables;
+use std::alloc::{AllocError, Global};
+
+/// The uses of a value: the operands that are the value.
+pub trait UseCalls {
+    /// The value.
+    ghost used: { Self → Value };
+
+    /// How many operands are the value. An operation that takes it twice counts twice.
+    fn num_uses<D: DialectTables>(self, ctx: &Context<D>) -> usize
+        requires { IsLiveValue ctx.now.program (used self) }
+        ensures count { IsUseCount ctx.now.program (used self) result }
+        ensures only { (n : ℕ) → IsUseCount ctx.now.program (used self) n → n ≡ result };
+
+    /// Whether some operation takes the value.
+    fn is_used<D: DialectTables>(self, ctx: &Context<D>) -> bool
+        requires { IsLiveValue ctx.now.program (used self) }
+        ensures { IsTrue result ↔ IsUsed ctx.now.program (used self) };
+
+    /// Puts another value in place of each operand that is the value. The parameter stays for callers that allocate; no
+    /// memory is asked for.
+    fn replace_all_uses_with<D: DialectTables>(
+        self,
+        _alloc: Global,
+        ctx: &mut Context<D>,
+        other: Value,
+    ) -> Result<(), AllocError>
+        requires value { IsLiveValue ctx.old.program (used self) }
+        requires other { IsLiveValue ctx.old.program other }
+        ensures succeeds { IsOk result }
+        ensures replaced { EditsOperations ctx.old.program ctx.new.program (λ _ o. record o { operands = map (replacing (used self) other) o.operands }) }
+        ensures unused { used self ≢ other → IsUsed ctx.new.program (used self) → ⊥ }
+        ensures count { used self ≢ other → (m n : ℕ) → IsUseCount ctx.old.program (used self) m → IsUseCount ctx.old.program other n → IsUseCount ctx.new.program other (m + n) }
+        ensures values { (v : _) → type_at ctx.new.program v ≡ type_at ctx.old.program v }
+        ensures counter { ctx.new.program.counter ≡ ctx.old.program.counter }
+        ensures types { ctx.new.types ≡ ctx.old.types };
+
+    /// Puts another value in place of the operand at one use of the value. The parameter stays for callers that allocate;
+    /// no memory is asked for.
+    fn replace_use_with<D: DialectTables>(
+        self,
+        _alloc: Global,
+        ctx: &mut Context<D>,
+        place: Use<Value>,
+        other: Value,
+    ) -> Result<(), AllocError>
+        requires place { IsUse ctx.old.program place }
+        requires names { place.def ≡ used self }
+        requires other { IsLiveValue ctx.old.program other }
+        ensures succeeds { IsOk result }
+        ensures replaced { EditsOperation ctx.old.program ctx.new.program place.user_op (λ o. record o { operands = slice_set o.operands place.index other }) }
+        ensures values { (v : _) → type_at ctx.new.program v ≡ type_at ctx.old.program v }
+        ensures counter { ctx.new.program.counter ≡ ctx.old.program.counter }
+        ensures types { ctx.new.types ≡ ctx.old.types };
+
+    /// Its uses for which the predicate answers true. It is asked once about each use, and may look at the context.
+    ///
+    /// # Errors
+    /// Without memory.
+    fn chosen_uses<D: DialectTables, F: Fn(&Use<Value>) -> bool>(
+        self,
+        alloc: Global,
+        ctx: &Context<D>,
+        predicate: F,
+    ) -> Result<Vec<Use<Value>>, AllocError>
+        requires live { IsLiveValue ctx.now.program (used self) }
+        requires callable { F.IsAlwaysCallable predicate }
+        ensures stand { IfOk result (λ places. AreUsesNaming (operands_at ctx.now.program) (used self) places.items) }
+        ensures chosen { IfOk result (λ places. Chooses (operands_at ctx.now.program) (Says F.Fn predicate) (used self) (is_among places.items)) };
+
+    /// Puts another value in place of the operand at each of these uses of the value. The parameter stays for callers that
+    /// allocate; no memory is asked for.
+    fn replace_uses_with<D: DialectTables>(
+        self,
+        _alloc: Global,
+        ctx: &mut Context<D>,
+        places: &[Use<Value>],
+        other: Value,
+    ) -> Result<(), AllocError>
+        requires stand { AreUsesNaming (operands_at ctx.old.program) (used self) places.now }
+        requires other { IsLiveValue ctx.old.program other }
+        ensures succeeds { IsOk result }
+        ensures replaced { EditsOperations ctx.old.program ctx.new.program (λ p o. record o { operands = with_chosen (is_among places.now) other p 0 o.operands }) }
+        ensures values { (v : _) → type_at ctx.new.program v ≡ type_at ctx.old.program v }
+        ensures counter { ctx.new.program.counter ≡ ctx.old.program.counter }
+        ensures types { ctx.new.types ≡ ctx.old.types };
+}
+
+impl UseCalls for Value {
+    ghost used = { λ v. v };
+
+    fn num_uses<D: DialectTables>(self, ctx: &Context<D>) -> usize {
+        ctx.program.use_count(self)
+    }
+
+    fn is_used<D: DialectTables>(self, ctx: &Context<D>) -> bool {
+        ctx.program.is_used(self)
+    }
+
+    fn replace_all_uses_with<D: DialectTables>(
+        self,
+        _alloc: Global,
+        ctx: &mut Context<D>,
+        other: Value,
+    ) -> Result<(), AllocError> {
+        ctx.program.replace_all_uses(self, other);
+        Ok(())
+    }
+
+    fn replace_use_with<D: DialectTables>(
+        self,
+        _alloc: Global,
+        ctx: &mut Context<D>,
+        place: Use<Value>,
+        other: Value,
+    ) -> Result<(), AllocError> {
+        ctx.program.replace_use(place, other);
+        Ok(())
+    }
+
+    fn chosen_uses<D: DialectTables, F: Fn(&Use<Value>) -> bool>(
+        self,
+        alloc: Global,
+        ctx: &Context<D>,
+        predicate: F,
+    ) -> Result<Vec<Use<Value>>, AllocError> {
+        choose_uses(&ctx.program, alloc, self, &predicate)
+    }
+
+    fn replace_uses_with<D: DialectTables>(
+        self,
+        _alloc: Global,
+        ctx: &mut Context<D>,
+        places: &[Use<Value>],
+        other: Value,
+    ) -> Result<(), AllocError> {
+        ctx.program.replace_uses(places, other);
+        Ok(())
+    }
+}
+
+/// The uses of a value for which the predicate answers true. It is asked once about each.
+fn choose_uses<O, B, F: Fn(&Use<Value>) -> bool>(
+    program: &Program<O, B>,
+    alloc: Global,
+    used: Value,
+    predicate: &F,
+) -> Result<Vec<Use<Value>>, AllocError>
+    requires used { IsLiveValue program.now used }
+    requires callable { F.IsAlwaysCallable predicate.now }
+    ensures stand { IfOk result (λ places. AreUsesNaming (operands_at program.now) used places.items) }
+    ensures chosen { IfOk result (λ places. Chooses (operands_at program.now) (Says F.Fn predicate.now) used (is_among places.items)) }
+{
+    let mut chosen = Vec::new(alloc);
+    for place in program.uses_of(used) {
+        if predicate(&place) {
+            chosen.push(place)?;
+        }
+    }
+    Ok(chosen)
+}
+
+/// The edges that lead to a block: the successors that are the block.
+pub trait PredecessorCalls {
+    /// The handle of the block.
+    ghost target: { Self → Ptr BasicBlock };
+
+    /// How many edges lead to the block. An operation with two of them counts twice.
+    fn num_preds<D: DialectTables>(self, ctx: &Context<D>) -> usize
+        requires { IsSome (block_at ctx.now.program (target self)) }
+        ensures count { IsPredecessorCount ctx.now.program (target self) result }
+        ensures only { (n : ℕ) → IsPredecessorCount ctx.now.program (target self) n → n ≡ result };
+
+    /// Whether an edge leads to the block.
+    fn has_pred<D: DialectTables>(self, ctx: &Context<D>) -> bool
+        requires { IsSome (block_at ctx.now.program (target self)) }
+        ensures { IsTrue result ↔ HasPredecessor ctx.now.program (target self) };
+
+    /// Makes each edge to the block lead to another. The parameter stays for callers that allocate; no memory is asked
+    /// for.
+    fn retarget_all_preds_to<D: DialectTables>(
+        self,
+        _alloc: Global,
+        ctx: &mut Context<D>,
+        other: Ptr<BasicBlock>,
+    ) -> Result<(), AllocError>
+        requires block { IsSome (block_at ctx.old.program (target self)) }
+        requires other { IsSome (block_at ctx.old.program other) }
+        ensures succeeds { IsOk result }
+        ensures retargeted { EditsOperations ctx.old.program ctx.new.program (λ _ o. record o { successors = map (retargeting (target self) other) o.successors }) }
+        ensures unused { target self ≢ other → HasPredecessor ctx.new.program (target self) → ⊥ }
+        ensures count { target self ≢ other → (m n : ℕ) → IsPredecessorCount ctx.old.program (target self) m → IsPredecessorCount ctx.old.program other n → IsPredecessorCount ctx.new.program other (m + n) }
+        ensures values { (v : _) → type_at ctx.new.program v ≡ type_at ctx.old.program v }
+        ensures counter { ctx.new.program.counter ≡ ctx.old.program.counter }
+        ensures types { ctx.new.types ≡ ctx.old.types };
+
+    /// Makes one edge to the block lead to another. The parameter stays for callers that allocate; no memory is asked for.
+    fn retarget_pred_to<D: DialectTables>(
+        self,
+        _alloc: Global,
+        ctx: &mut Context<D>,
+        place: Use<Ptr<BasicBlock>>,
+        other: Ptr<BasicBlock>,
+    ) -> Result<(), AllocError>
+        requires place { IsBlockUse ctx.old.program place }
+        requires names { place.def ≡ target self }
+        requires other { IsSome (block_at ctx.old.program other) }
+        ensures succeeds { IsOk result }
+        ensures retargeted { EditsOperation ctx.old.program ctx.new.program place.user_op (λ o. record o { successors = slice_set o.successors place.index other }) }
+        ensures values { (v : _) → type_at ctx.new.program v ≡ type_at ctx.old.program v }
+        ensures counter { ctx.new.program.counter ≡ ctx.old.program.counter }
+        ensures types { ctx.new.types ≡ ctx.old.types };
+
+    /// The edges to the block for which the predicate answers true. It is asked once about each edge, and may look at the
+    /// context.
+    ///
+    /// # Errors
+    /// Without memory.
+    fn chosen_preds<D: DialectTables, F: Fn(&Use<Ptr<BasicBlock>>) -> bool>(
+        self,
+        alloc: Global,
+        ctx: &Context<D>,
+        predicate: F,
+    ) -> Result<Vec<Use<Ptr<BasicBlock>>>, AllocError>
+        requires live { IsSome (block_at ctx.now.program (target self)) }
+        requires callable { F.IsAlwaysCallable predicate }
+        ensures stand { IfOk result (λ places. AreUsesNaming (successors_at ctx.now.program) (target self) places.items) }
+        ensures chosen { IfOk result (λ places. Chooses (successors_at ctx.now.program) (Says F.Fn predicate) (target self) (is_among places.items)) };
+
+    /// Makes each of these edges to the block lead to another. The parameter stays for callers that allocate; no memory is
+    /// asked for.
+    fn retarget_preds_to<D: DialectTables>(
+        self,
+        _alloc: Global,
+        ctx: &mut Context<D>,
+        places: &[Use<Ptr<BasicBlock>>],
+        other: Ptr<BasicBlock>,
+    ) -> Result<(), AllocError>
+        requires stand { AreUsesNaming (successors_at ctx.old.program) (target self) places.now }
+        requires other { IsSome (block_at ctx.old.program other) }
+        ensures succeeds { IsOk result }
+        ensures retargeted { EditsOperations ctx.old.program ctx.new.program (λ p o. record o { successors = with_chosen (is_among places.now) other p 0 o.successors }) }
+        ensures values { (v : _) → type_at ctx.new.program v ≡ type_at ctx.old.program v }
+        ensures counter { ctx.new.program.counter ≡ ctx.old.program.counter }
+        ensures types { ctx.new.types ≡ ctx.old.types };
+}
+
+impl PredecessorCalls for Ptr<BasicBlock> {
+    ghost target = { λ p. p };
+
+    fn num_preds<D: DialectTables>(self, ctx: &Context<D>) -> usize {
+        ctx.program.predecessor_count(self)
+    }
+
+    fn has_pred<D: DialectTables>(self, ctx: &Context<D>) -> bool {
+        ctx.program.has_predecessor(self)
+    }
+
+    fn retarget_all_preds_to<D: DialectTables>(
+        self,
+        _alloc: Global,
+        ctx: &mut Context<D>,
+        other: Ptr<BasicBlock>,
+    ) -> Result<(), AllocError> {
+        ctx.program.retarget_all(self, other);
+        Ok(())
+    }
+
+    fn retarget_pred_to<D: DialectTables>(
+        self,
+        _alloc: Global,
+        ctx: &mut Context<D>,
+        place: Use<Ptr<BasicBlock>>,
+        other: Ptr<BasicBlock>,
+    ) -> Result<(), AllocError> {
+        ctx.program.retarget(place, other);
+        Ok(())
+    }
+
+    fn chosen_preds<D: DialectTables, F: Fn(&Use<Ptr<BasicBlock>>) -> bool>(
+        self,
+        alloc: Global,
+        ctx: &Context<D>,
+        predicate: F,
+    ) -> Result<Vec<Use<Ptr<BasicBlock>>>, AllocError> {
+        choose_edges(&ctx.program, alloc, self, &predicate)
+    }
+
+    fn retarget_preds_to<D: DialectTables>(
+        self,
+        _alloc: Global,
+        ctx: &mut Context<D>,
+        places: &[Use<Ptr<BasicBlock>>],
+        other: Ptr<BasicBlock>,
+    ) -> Result<(), AllocError> {
+        ctx.program.retarget_uses(places, other);
+        Ok(())
+    }
+}
+
+/// The edges to a block for which the predicate answers true. It is asked once about each.
+fn choose_edges<O, B, F: Fn(&Use<Ptr<BasicBlock>>) -> bool>(
+    program: &Program<O, B>,
+    alloc: Global,
+    used: Ptr<BasicBlock>,
+    predicate: &F,
+) -> Result<Vec<Use<Ptr<BasicBlock>>>, AllocError>
+    requires used { IsSome (block_at program.now used) }
+    requires callable { F.IsAlwaysCallable predicate.now }
+    ensures stand { IfOk result (λ places. AreUsesNaming (successors_at program.now) used places.items) }
+    ensures chosen { IfOk result (λ places. Chooses (successors_at program.now) (Says F.Fn predicate.now) used (is_among places.items)) }
+{
+    let mut chosen = Vec::new(alloc);
+    for place in program.block_uses(used) {
+        if predicate(&place) {
+            chosen.push(place)?;
+        }
+    }
+    Ok(chosen)
+}

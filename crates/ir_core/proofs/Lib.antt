@@ -1,3 +1,0 @@
-pub mod KnownTypes
-pub mod SameHandle
-pub mod ErasedTypes

@@ -1,4 +1,0 @@
-use Rattle.ir_core.proofs.block_lists.PtrBasicBlockBlockLists.insert_after.Goals as goal
-
-pub insert_block_after-requires-clause-unlinked : goal.insert_block_after-requires-clause-unlinked
-insert_block_after-requires-clause-unlinked g c = rw (← c.ctx.view_is) at c.requires.unlinked

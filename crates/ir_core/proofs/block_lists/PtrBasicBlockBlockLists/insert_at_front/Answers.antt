@@ -1,4 +1,0 @@
-use Rattle.ir_core.proofs.block_lists.PtrBasicBlockBlockLists.insert_at_front.Goals as goal
-
-pub insert_block_at_front-requires-clause-unlinked : goal.insert_block_at_front-requires-clause-unlinked
-insert_block_at_front-requires-clause-unlinked g c = rw (← c.ctx.view_is) at c.requires.unlinked

@@ -1,4 +1,0 @@
-use Rattle.ir_core.proofs.blocks.PtrBasicBlockBlockCalls.get_parent_op.Goals as goal
-
-pub returns-clause-only : goal.returns-clause-only
-returns-clause-only g c = rw (← c.ctx.view_is) c.operation_of_block.ensures.only

@@ -1,5 +1,0 @@
-use Rattle.ir_core.proofs.KnownTypes.{kept_types}
-use Rattle.ir_core.proofs.operands.PtrOperationOperandCalls.pop_operand.Goals as goal
-
-pub invariant_of-ctx : goal.invariant_of-ctx
-invariant_of-ctx g c = kept_types c.ctx.inside.types c.ctx.inside.program c.pop_operand.new.self c.ctx.invariant c.pop_operand.ensures.types

@@ -1,4 +1,0 @@
-use Rattle.ir_core.proofs.operation_lists.PtrOperationOperationLists.get_prev.Goals as goal
-
-pub returns-clause-unlinked : goal.returns-clause-unlinked
-returns-clause-unlinked g c = rw (← c.ctx.view_is) (c.previous_operation.ensures.unlinked)

@@ -1,4 +1,0 @@
-use Rattle.ir_core.proofs.operations.PtrOperationOperationCalls.get_parent_op.Goals as goal
-
-pub returns-clause-only : goal.returns-clause-only
-returns-clause-only g c = rw (← c.ctx.view_is) c.parent_of_operation.ensures.only

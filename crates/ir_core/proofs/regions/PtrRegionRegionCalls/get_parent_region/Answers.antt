@@ -1,4 +1,0 @@
-use Rattle.ir_core.proofs.regions.PtrRegionRegionCalls.get_parent_region.Goals as goal
-
-pub returns-clause-only : goal.returns-clause-only
-returns-clause-only g c = rw (← c.ctx.view_is) c.parent_of_region.ensures.only

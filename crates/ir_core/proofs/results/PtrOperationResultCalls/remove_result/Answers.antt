@@ -1,4 +1,0 @@
-use Rattle.ir_core.proofs.results.PtrOperationResultCalls.remove_result.Goals as goal
-
-pub remove_result-requires-clause-unused : goal.remove_result-requires-clause-unused
-remove_result-requires-clause-unused g c = rw (← c.ctx.view_is) at c.requires.unused

@@ -1,4 +1,0 @@
-use Rattle.ir_core.proofs.uses.PtrBasicBlockPredecessorCalls.num_preds.Goals as goal
-
-pub returns-clause-only : goal.returns-clause-only
-returns-clause-only g c = rw (← c.ctx.view_is) c.predecessor_count.ensures.only

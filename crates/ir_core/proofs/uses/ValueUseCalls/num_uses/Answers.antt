@@ -1,4 +1,0 @@
-use Rattle.ir_core.proofs.uses.ValueUseCalls.num_uses.Goals as goal
-
-pub returns-clause-only : goal.returns-clause-only
-returns-clause-only g c = rw (← c.ctx.view_is) c.use_count.ensures.only

@@ -1,7 +1,0 @@
-pub mod Views
-pub mod Known
-pub mod Holders
-pub mod Kept
-pub mod Refusals
-pub mod Lends
-pub mod KnownLists
