@@ -1,0 +1,4 @@
+pub mod Standing
+pub mod Held
+pub mod Splits
+pub mod OwnNames
