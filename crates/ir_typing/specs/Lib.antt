@@ -1,0 +1,5 @@
+pub mod Parts
+pub mod TypedHandles
+pub mod Kept
+pub mod Subjects
+pub mod Lookups
