@@ -1,0 +1,6 @@
+use Rattle.std.proofs.Common.{◌≢◌, ℕ, ◌<◌, Some}
+use Rattle.ir_program.specs.Program.{results_at, value_in}
+use Rattle.ir_queries.proofs.finding.index_in_results.Given as goal
+
+abbrev pub invariant-loop-i : goal.invariant-loop-i
+invariant-loop-i g l = (k : ℕ) → k < l.i → value_in (results_at l.program l.op) k ≢ Some l.value

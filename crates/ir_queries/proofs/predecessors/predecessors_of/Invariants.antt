@@ -1,0 +1,10 @@
+use Rattle.std.proofs.Common.{◌++◌}
+use Rattle.ir_program.specs.Uses.{AreBlockUses}
+use Rattle.ir_queries.specs.Predecessors.{AreUserBlocks}
+use Rattle.ir_queries.proofs.predecessors.predecessors_of.Given as goal
+
+abbrev pub invariant-loop-edge : goal.invariant-loop-edge
+invariant-loop-edge g l = record {
+  edges : AreBlockUses l.program l.fn.block (l.yielded ++ l.edge-iterator);
+  stand : AreUserBlocks l.program l.yielded l.predecessors.items;
+}

@@ -1,0 +1,6 @@
+use Rattle.std.proofs.Common.{◌≡◌, take}
+use Rattle.ir_program.specs.Rows.{operands_at}
+use Rattle.ir_queries.proofs.rows.operands_of.Given as goal
+
+abbrev pub invariant-loop-i : goal.invariant-loop-i
+invariant-loop-i g l = l.operands.items ≡ take l.i (operands_at l.program l.op)

@@ -1,0 +1,7 @@
+use Rattle.std.proofs.Common.{◌≡◌, take}
+use Rattle.ir_program.specs.Program.{results_at}
+use Rattle.ir_queries.specs.Rows.{types_of}
+use Rattle.ir_queries.proofs.rows.result_types_of.Given as goal
+
+abbrev pub invariant-loop-i : goal.invariant-loop-i
+invariant-loop-i g l = l.types.items ≡ take l.i (types_of (results_at l.program l.op))

@@ -1,0 +1,80 @@
+//! Where a value is used, and its index at its definer.
+ghost use Rattle.std.specs.Prelude.{◌≡◌, ◌↔◌, None, Some, IsErr, IfOk, IfErr};
+ghost use Rattle.ir_program.specs.declared.handles.Value.{Value};
+ghost use Rattle.ir_program.specs.Program.{type_at, value_in, IsLiveValue};
+ghost use Rattle.ir_program.specs.Definers.{values_at};
+ghost use Rattle.ir_program.specs.Uses.{AreUsesOf};
+ghost use Rattle.ir_queries.specs.Refused.{refusal_by};
+
+use crate::finding::index_of;
+use crate::uses::uses_of_value;
+use ir_context::{Context, ValueError};
+use ir_program::{DefiningEntity, Use, Value};
+use ir_types::DialectTables;
+use std::alloc::{AllocError, Global};
+
+/// Where a value is used, and where it stands.
+pub trait ValueUses {
+    /// The value.
+    ghost value: { Self → Value };
+
+    /// The operands that are the value, each once, in no promised order.
+    fn uses<D: DialectTables>(
+        self,
+        alloc: Global,
+        ctx: &Context<D>,
+    ) -> Result<Vec<Use<Value>>, AllocError>
+        requires { IsLiveValue ctx.now.program (value self) }
+        ensures { IfOk result (λ r. AreUsesOf ctx.now.program (value self) r.items) };
+
+    /// Its index among the results or arguments of its definer.
+    ///
+    /// # Errors
+    /// Refused exactly where the value does not stand at its definer: `NotInOpResult` where that is an operation,
+    /// `NotInBlockArgument` where it is a block.
+    fn try_find_index<D: DialectTables>(self, ctx: &Context<D>) -> Result<usize, ValueError>
+        ensures found { IfOk result (λ i. value_in (values_at ctx.now.program (value self).definer) i ≡ Some (value self)) }
+        ensures refused { IsErr result ↔ (type_at ctx.now.program (value self) ≡ None) }
+        ensures error { IfErr result (λ e. e ≡ refusal_by (value self).definer) };
+
+    /// Its index among the results or arguments of its definer, at which it stands.
+    fn find_index<D: DialectTables>(self, ctx: &Context<D>) -> usize
+        requires { IsLiveValue ctx.now.program (value self) }
+        ensures { value_in (values_at ctx.now.program (value self).definer) result ≡ Some (value self) };
+}
+
+impl ValueUses for Value {
+    ghost value = { λ v. v };
+
+    fn uses<D: DialectTables>(
+        self,
+        alloc: Global,
+        ctx: &Context<D>,
+    ) -> Result<Vec<Use<Value>>, AllocError> {
+        uses_of_value(ctx.program(), alloc, self)
+    }
+
+    fn try_find_index<D: DialectTables>(self, ctx: &Context<D>) -> Result<usize, ValueError> {
+        match index_of(ctx.program(), self) {
+            Some(index) => Ok(index),
+            None => Err(refusal(self)),
+        }
+    }
+
+    fn find_index<D: DialectTables>(self, ctx: &Context<D>) -> usize {
+        match index_of(ctx.program(), self) {
+            Some(index) => index,
+            None => unreachable!(),
+        }
+    }
+}
+
+/// Why a value that does not stand at its definer is refused.
+fn refusal(value: Value) -> ValueError
+    ensures { result ≡ refusal_by value.definer }
+{
+    match value.definer() {
+        DefiningEntity::Op(_) => ValueError::NotInOpResult,
+        DefiningEntity::Block(_) => ValueError::NotInBlockArgument,
+    }
+}
