@@ -1,0 +1,5 @@
+pub mod Early
+pub mod Passed
+pub mod Flaws
+pub mod Asked
+pub mod Answered

@@ -1,0 +1,4 @@
+pub mod Dialect
+pub mod Endings
+pub mod Tests
+pub mod Verified
