@@ -7,7 +7,7 @@ use Rattle.std.proofs.lemmas.Bool.{eqb-true, ne_eqb, or_right, cases_eq, cases_l
 use Rattle.ir_entities.specs.Links.{has, list_at, AreApart, without, IsUnlinked}
 use Rattle.ir_entities.proofs.Segments.{has_here, has-append}
 use Rattle.ir_entities.specs.Uses.{Uses, place_of}
-use Rattle.ir_entities.specs.Threads.{thread_from, thread_of, place_in, places_from, key_in, counted, definition_at, keys_of, AreThreads}
+use Rattle.ir_entities.specs.Threads.{thread_from, thread_of, place_in, places_from, threads_from, key_in, counted, definition_at, keys_of, AreThreads}
 use Rattle.ir_entities.specs.declared.uses.Spot.{Spot}
 use Rattle.ir_entities.specs.declared.uses.Defined.{Defined}
 
@@ -52,6 +52,12 @@ thread_same ls ms p apart same = by_cases (thread_of ls p) refl where
 pub place_none : (t : Option ℕ) → place_in t None ≡ None
 place_none None = refl
 place_none (Some d) = refl
+
+-- the thread of a definition is listed
+pub listed_at : {X : Type 0} (k : ℕ) (ls : List (List ℕ)) (ds : List (Option X)) (d : ℕ) → IsSome (get_or ds d None) → get_or (threads_from k ls ds) d [] ≡ list_at ls (k + d)
+listed_at k ls [] d h = cc
+listed_at k ls (x ∷ ds) zero h = rw (add-zero k) refl
+listed_at k ls (x ∷ ds) (suc d) h = let e : k + suc d ≡ suc k + d = omega arith in rw e (listed_at (suc k) ls ds d h)
 
 places_at : (k : ℕ) (ls : List (List ℕ)) (ss : List (Option Spot)) (p : ℕ) → get_or (places_from k ls ss) p None ≡ place_in (thread_of ls (k + p)) (get_or ss p None)
 places_at k ls [] p = sym (place_none (thread_of ls (k + p)))
@@ -165,7 +171,7 @@ module _ {K : Type 0} where
 
   -- what the tables show
   abbrev pub shown : List (Option (Defined K)) → List (Option Spot) → List (List ℕ) → Uses K
-  shown ds ss ls = record { definitions = keys_of ds; places = places_from 0 ls ss }
+  shown ds ss ls = record { definitions = keys_of ds; places = places_from 0 ls ss; threads = threads_from 0 ls ds }
 
   pub place_at : (ds : List (Option (Defined K))) (ss : List (Option Spot)) (ls : List (List ℕ)) (p : ℕ) → place_of (shown ds ss ls) p ≡ place_in (thread_of ls p) (get_or ss p None)
   place_at ds ss ls p = places_at 0 ls ss p ∙ ap (λ q. place_in (thread_of ls q) (get_or ss p None)) (zero-add p)

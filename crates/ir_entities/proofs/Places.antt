@@ -1,13 +1,13 @@
 -- What a contract sees of the tables, and what the edits do to it.
-use Rattle.std.proofs.Common.{◌≡◌, ◌≢◌, ℕ, ◌<◌, ◌≤◌, ◌||◌, ⊎_elim, true, false, cond, eqb, List, [], ◌∷◌, length, Option, Some, None, is_some, IsSome, MatchOption, refl, sym, ap, subst, ◌∙◌, arith, get_or}
+use Rattle.std.proofs.Common.{◌≡◌, ◌≢◌, ℕ, ◌<◌, ◌≤◌, ◌||◌, ⊎_elim, true, false, cond, eqb, List, [], ◌∷◌, length, Option, Some, None, is_some, IsSome, MatchOption, refl, sym, ap, subst, ◌∙◌, arith, get_or, suc, zero-add}
 use Rattle.std.proofs.lemmas.Bool.{eq-eqb, ne_eqb, or_cases, or_left, or_right, cases_eq, both_ways, false_from_ne_true}
 use Rattle.ir_entities.specs.Links.{has, list_at, AreApart, AreDistinct, first_or, IsLinked, IsUnlinked}
 use Rattle.ir_entities.proofs.Segments.{has_here}
-use Rattle.ir_entities.specs.Uses.{Uses, Place, key_of, place_of, named_of, spot_of, IsDefined, IsPlace, Names, SetsKey, SetsPlace, AreUsesOf, naming, at_index, renamed}
-use Rattle.ir_entities.specs.Threads.{thread_of, place_in, places_from, key_in, definition_at, keys_of, AreThreads, ArePlaces}
+use Rattle.ir_entities.specs.Uses.{Uses, Place, listed_of, key_of, place_of, named_of, spot_of, IsDefined, IsPlace, Names, SetsKey, SetsPlace, AreUsesOf, naming, at_index, renamed}
+use Rattle.ir_entities.specs.Threads.{thread_of, place_in, places_from, threads_from, key_in, definition_at, keys_of, AreThreads, ArePlaces}
 use Rattle.ir_entities.specs.declared.uses.Spot.{Spot}
 use Rattle.ir_entities.specs.declared.uses.Defined.{Defined}
-use Rattle.ir_entities.proofs.Naming.{none_in, thread_has, no_thread, thread_is, thread_same, places_same, key_some, key_at, shown, place_at}
+use Rattle.ir_entities.proofs.Naming.{none_in, thread_has, no_thread, thread_is, thread_same, places_same, key_some, key_at, shown, place_at, listed_at}
 
 -- what one place shows
 spot_some : (t : Option ℕ) (s : Option Spot) → IsSome (place_in t s) → IsSome s
@@ -81,9 +81,15 @@ module _ (ls ms : List (List ℕ)) (same : (c : ℕ) → list_at ms c ≡ list_a
   pub same_shown : (ss : List (Option Spot)) → AreApart ls → places_from 0 ms ss ≡ places_from 0 ls ss
   same_shown ss apart = places_same 0 ls ms ss (λ p. thread_same ls ms p (same_apart apart) (λ c. ap (has p) (same c)))
 
+  same_listed : {X : Type 0} (k : ℕ) (ds : List X) → threads_from k ms ds ≡ threads_from k ls ds
+  same_listed k [] = refl
+  same_listed k (d ∷ ds) = rw (same k, same_listed (suc k) ds) refl
+
   pub same_view : {K : Type 0} (ds es : List (Option (Defined K))) (ss : List (Option Spot)) → AreApart ls → es ≡ ds → shown es ss ms ≡ shown ds ss ls
   same_view {K} ds es ss apart is =
-      ap (λ ks. shown {K = K} ks ss ms) is ∙ ap (λ (ps : List (Option Place)). record { definitions = keys_of ds; places = ps }) (same_shown ss apart)
+      ap (λ ks. shown {K = K} ks ss ms) is
+      ∙ ap (λ (ps : List (Option Place)). record { definitions = keys_of ds; places = ps; threads = threads_from 0 ms ds }) (same_shown ss apart)
+      ∙ ap (λ (ts : List (List ℕ)). record { definitions = keys_of ds; places = places_from 0 ls ss; threads = ts }) (same_listed 0 ds)
 
   pub same_threads : {K : Type 0} (ds : List (Option (Defined K))) → length ls ≤ length ms → AreThreads ds ls → AreThreads ds ms
   same_threads ds longer t =
@@ -140,6 +146,9 @@ module _ {K : Type 0} where
 
     pub seen_key : (d : ℕ) → key_of v d ≡ key_in (definition_at ds d)
     seen_key d = ap (λ (u : Uses K). key_of u d) (sym seen) ∙ key_at ds d
+
+    pub seen_listed : (d : ℕ) → IsSome (definition_at ds d) → listed_of v d ≡ list_at ls d
+    seen_listed d h = ap (λ (u : Uses K). listed_of u d) (sym seen) ∙ listed_at 0 ls ds d h ∙ ap (list_at ls) (zero-add d)
 
     pub is_defined : (d : ℕ) → IsDefined v d → IsSome (definition_at ds d)
     is_defined d h = sym (key_some (definition_at ds d)) ∙ sym (ap is_some (seen_key d)) ∙ h

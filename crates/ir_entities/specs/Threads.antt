@@ -25,6 +25,11 @@ abbrev pub places_from : ℕ → List (List ℕ) → List (Option Spot) → List
 places_from k ls [] = []
 places_from k ls (s ∷ ss) = place_in (thread_of ls k) s ∷ places_from (suc k) ls ss
 
+-- the threads of the definitions, from number k on
+abbrev pub threads_from : {X : Type 0} → ℕ → List (List ℕ) → List X → List (List ℕ)
+threads_from k ls [] = []
+threads_from k ls (d ∷ ds) = list_at ls k ∷ threads_from (suc k) ls ds
+
 module _ {K : Type 0} where
   abbrev pub key_in : Option (Defined K) → Option K
   key_in None = None

@@ -1,5 +1,5 @@
 -- What a contract sees of the uses of definitions.
-use Rattle.std.specs.Prelude.{◌≡◌, ◌≢◌, ◌↔◌, ℕ, true, cond, eqb, List, length, Option, Some, None, IsSome, slice_index_or}
+use Rattle.std.specs.Prelude.{◌≡◌, ◌≢◌, ◌↔◌, ℕ, true, cond, eqb, List, [], length, Option, Some, None, IsSome, slice_index_or}
 use Rattle.ir_entities.specs.Links.{has, AreDistinct}
 use Rattle.ir_entities.specs.declared.uses.Spot.{Spot}
 
@@ -9,10 +9,11 @@ pub record Place : Type 0 where
   pub user : ℕ
   pub index : ℕ
 
--- the key of each definition in use, and each place in use, by their numbers
+-- the key of each definition in use, each place in use, and the places that name each definition in the order in which they are listed, by their numbers
 pub record Uses (K : Type 0) : Type 0 where
   pub definitions : List (Option K)
   pub places : List (Option Place)
+  pub threads : List (List ℕ)
 
 -- the definition that a place names
 abbrev pub named_of : Option Place → Option ℕ
@@ -32,6 +33,10 @@ module _ {K : Type 0} where
   -- the place with a number
   abbrev pub place_of : Uses K → ℕ → Option Place
   place_of u p = slice_index_or u.places p None
+
+  -- the places that name a definition, in the order in which they are listed
+  abbrev pub listed_of : Uses K → ℕ → List ℕ
+  listed_of u d = slice_index_or u.threads d []
 
   -- the number is that of a definition in use
   abbrev pub IsDefined : Uses K → ℕ → Type 0

@@ -7,7 +7,7 @@
 ghost use Rattle.std.specs.Prelude.{◌≡◌, ◌≢◌, ◌↔◌, ◌^◌, ◌<◌, ◌≤◌, ◌||◌, ℕ, true, false, [], Some, None, IfOk, OnOk, OnErr, IsTrue, MatchOption, length, slice_set};
 ghost use Rattle.slab.specs.Slab.{ContainsKey, HasRoomFor};
 ghost use Rattle.ir_entities.specs.Links.{has, list_at, IsLinked, IsUnlinked};
-ghost use Rattle.ir_entities.specs.Uses.{key_of, place_of, spot_of, IsDefined, IsPlace, Names, SetsKey, SetsPlace, AreUsesOf, IsCountOf, naming, at_index, renamed};
+ghost use Rattle.ir_entities.specs.Uses.{key_of, listed_of, place_of, spot_of, IsDefined, IsPlace, Names, SetsKey, SetsPlace, AreUsesOf, IsCountOf, naming, at_index, renamed};
 ghost use Rattle.ir_entities.specs.Threads.{AreThreads, counted, definition_at, keys_of};
 
 use crate::siblings::{Forward, Siblings};
@@ -40,11 +40,11 @@ pub struct Uses<K> {
 
 impl<K> Model for Uses<K> {
     ghost use Rattle.ir_entities.specs.Uses.{Uses as Named};
-    ghost use Rattle.ir_entities.specs.Threads.{AreThreads, ArePlaces, keys_of, places_from};
+    ghost use Rattle.ir_entities.specs.Threads.{AreThreads, ArePlaces, keys_of, places_from, threads_from};
 
     ghost Value = { Named K };
 
-    ghost view = { λ u. record { definitions = keys_of u.definitions.slots; places = places_from 0 u.threads.lists u.places.slots } };
+    ghost view = { λ u. record { definitions = keys_of u.definitions.slots; places = places_from 0 u.threads.lists u.places.slots; threads = threads_from 0 u.threads.lists u.definitions.slots } };
 
     ghost invariant = { λ u. AreThreads u.definitions.slots u.threads.lists × ArePlaces u.places.slots u.threads.lists };
 }
@@ -118,6 +118,14 @@ impl<K: Copy> Uses<K> {
         ensures { (p d : ℕ) → Names self.now p d → IsDefined self.now d }
     {
         let _places = &self.places;
+    }
+
+    /// Tells that the numbers of places in use are below some number that a `usize` holds. It does nothing.
+    pub fn know_few(&self)
+        ensures { (n : ℕ) × (n < 2 ^ 64) × ((p : ℕ) → IsPlace self.now p → p < n) }
+    {
+        self.threads.know_members();
+        let _nodes = self.threads.nodes();
     }
 
     /// The key of a definition.
@@ -208,7 +216,8 @@ impl<K: Copy> Uses<K> {
     /// How many places name a definition, in constant time.
     pub fn count(&self, definition: usize) -> usize
         requires { IsDefined self.now definition }
-        ensures { IsCountOf self.now definition result }
+        ensures count { IsCountOf self.now definition result }
+        ensures listed { result ≡ length (listed_of self.now definition) }
     {
         self.threads.know_members();
         self.definitions[definition].uses
@@ -230,10 +239,11 @@ impl<K: Copy> Uses<K> {
         self.threads.head(definition)
     }
 
-    /// The places that name a definition, each once.
+    /// The places that name a definition, each once, in an order that stays while the uses do.
     pub fn iter(&self, definition: usize) -> UsesOf<'_>
         requires { IsDefined self.now definition }
         ensures uses { AreUsesOf self.now definition result }
+        ensures order { result ≡ listed_of self.now definition }
         ensures fits { length result < 2 ^ 64 }
     {
         self.threads.know_members();

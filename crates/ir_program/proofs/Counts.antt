@@ -19,7 +19,7 @@ length-taken (x ∷ xs) zero w e = refl
 length-taken (x ∷ xs) (suc j) w e = ap suc (length-taken xs j w e)
 
 -- a list in which nothing stands twice is no longer than one in which all of it stands
-no_longer : {X : Type 0} (us vs : List X) → ((i j : ℕ) (u : X) → slice_get us i ≡ Some u → slice_get us j ≡ Some u → i ≡ j) → ((i : ℕ) (u : X) → slice_get us i ≡ Some u → (k : ℕ) × (slice_get vs k ≡ Some u)) → length us ≤ length vs
+pub no_longer : {X : Type 0} (us vs : List X) → ((i j : ℕ) (u : X) → slice_get us i ≡ Some u → slice_get us j ≡ Some u → i ≡ j) → ((i : ℕ) (u : X) → slice_get us i ≡ Some u → (k : ℕ) × (slice_get vs k ≡ Some u)) → length us ≤ length vs
 no_longer [] vs once among = omega arith
 no_longer (u ∷ us) vs once among =
     let at = among 0 u refl in

@@ -63,3 +63,6 @@ pub mod UserHandles
 pub mod RegionErasures
 pub mod Vacant
 pub mod ReplacedUses
+pub mod FewUses
+pub mod ListedUses
+pub mod Returns

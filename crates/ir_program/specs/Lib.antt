@@ -20,3 +20,6 @@ pub mod Spots
 pub mod Replacing
 pub mod UsersInside
 pub mod Among
+pub mod Few
+pub mod Order
+pub mod Returns

@@ -2,6 +2,7 @@
 ghost use Rattle.std.specs.Prelude.{◌≡◌, ◌↔◌, ◌<◌, ◌^◌, ℕ, length, Some, IsSome, IsTrue};
 ghost use Rattle.ir_entities.specs.Uses.{IsPlace, key_of};
 ghost use Rattle.ir_program.specs.Program.{block_at};
+ghost use Rattle.ir_program.specs.Order.{edges_listed};
 ghost use Rattle.ir_program.specs.Spots.{successor_use};
 ghost use Rattle.ir_program.specs.Uses.{HasPredecessor, IsPredecessorCount, AreBlockUses};
 
@@ -52,6 +53,7 @@ impl<O, B> Program<O, B> {
         requires { IsSome (block_at self.now block) }
         ensures count { IsPredecessorCount self.now block result }
         ensures only { (n : ℕ) → IsPredecessorCount self.now block n → n ≡ result }
+        ensures listed { result ≡ length (edges_listed self.now block) }
     {
         self.targets.know_named();
         self.targets.count(self.edge_thread(block))
@@ -66,10 +68,11 @@ impl<O, B> Program<O, B> {
         self.targets.is_used(self.edge_thread(block))
     }
 
-    /// The edges that lead to the block, each once, in no promised order.
+    /// The edges that lead to the block, each once, in an order that stays while the program does.
     pub fn block_uses(&self, block: Ptr<BasicBlock>) -> BlockUses<O, B>
         requires { IsSome (block_at self.now block) }
         ensures uses { AreBlockUses self.now block result }
+        ensures order { result ≡ edges_listed self.now block }
         ensures fits { length result < 2 ^ 64 }
     {
         self.targets.know_named();

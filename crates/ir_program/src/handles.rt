@@ -102,3 +102,12 @@ pub struct Use<T> {
     pub index: usize,
     pub def: T,
 }
+
+impl<T> Use<T> {
+    /// The operation that names the definition.
+    pub fn user_op(&self) -> Ptr<Operation>
+        ensures { result ≡ self.now.user_op }
+    {
+        self.user_op
+    }
+}

@@ -2,6 +2,8 @@
 ghost use Rattle.std.specs.Prelude.{◌≡◌, ◌↔◌, ◌<◌, ◌^◌, ℕ, IsTrue, length};
 ghost use Rattle.ir_entities.specs.Uses.{IsPlace};
 ghost use Rattle.ir_program.specs.Program.{IsLiveValue};
+ghost use Rattle.ir_program.specs.Few.{HasFewUses};
+ghost use Rattle.ir_program.specs.Order.{uses_listed};
 ghost use Rattle.ir_program.specs.Spots.{operand_use};
 ghost use Rattle.ir_program.specs.Uses.{IsUsed, IsUseCount, AreUsesOf};
 
@@ -51,6 +53,7 @@ impl<O, B> Program<O, B> {
         requires { IsLiveValue self.now value }
         ensures count { IsUseCount self.now value result }
         ensures only { (n : ℕ) → IsUseCount self.now value n → n ≡ result }
+        ensures listed { result ≡ length (uses_listed self.now value) }
     {
         self.values.know_named();
         self.values.count(self.thread(value))
@@ -65,10 +68,11 @@ impl<O, B> Program<O, B> {
         self.values.is_used(self.thread(value))
     }
 
-    /// The operands that are the value, each once, in no promised order.
+    /// The operands that are the value, each once, in an order that stays while the program does.
     pub fn uses_of(&self, value: Value) -> ValueUses<O, B>
         requires { IsLiveValue self.now value }
         ensures uses { AreUsesOf self.now value result }
+        ensures order { result ≡ uses_listed self.now value }
         ensures fits { length result < 2 ^ 64 }
     {
         self.values.know_named();
@@ -76,6 +80,13 @@ impl<O, B> Program<O, B> {
             program: self,
             places: self.values.iter(self.thread(value)),
         }
+    }
+
+    /// Tells that the uses of values, of all of them together, can be counted. It does nothing.
+    pub fn know_few_uses(&self)
+        ensures { HasFewUses self.now }
+    {
+        self.values.know_few();
     }
 
     /// The use at a place of operands.

@@ -1,7 +1,7 @@
-use Rattle.std.proofs.Common.{◌<◌, ◌≤◌, sym, subst, length, arith}
+use Rattle.std.proofs.Common.{◌∙◌, ◌<◌, ◌≤◌, sym, subst, length, arith}
 use Rattle.ir_entities.specs.Links.{list_at}
 use Rattle.ir_entities.specs.Uses.{AreUsesOf}
-use Rattle.ir_entities.proofs.Places.{is_defined, uses_of}
+use Rattle.ir_entities.proofs.Places.{is_defined, seen_listed, uses_of}
 use Rattle.ir_entities.proofs.uses.Uses.iter.Goals as goal
 
 pub forward-requires : goal.forward-requires
@@ -18,3 +18,8 @@ returns-clause-fits g c =
     let lt : c.args.definition < length c.self.inside.threads.lists = c.self.invariant.0.known c.args.definition (is_defined c.self.inside.definitions.slots c.self.inside.places.slots c.self.inside.threads.lists c.args.self.now c.self.view_is c.args.definition c.requires) in
     let short : length (list_at c.self.inside.threads.lists c.args.definition) ≤ c.self.inside.threads.nodes = c.know_members.ensures.short c.args.definition lt in
     rw c.forward.ensures (omega arith)
+
+pub returns-clause-order : goal.returns-clause-order
+returns-clause-order g c =
+    c.forward.ensures
+    ∙ sym (seen_listed c.self.inside.definitions.slots c.self.inside.places.slots c.self.inside.threads.lists c.args.self.now c.self.view_is c.args.definition (is_defined c.self.inside.definitions.slots c.self.inside.places.slots c.self.inside.threads.lists c.args.self.now c.self.view_is c.args.definition c.requires))

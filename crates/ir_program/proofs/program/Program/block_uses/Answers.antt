@@ -1,5 +1,6 @@
 use Rattle.std.proofs.Common.{ℕ, ◌<◌, ◌^◌, subst, sym}
 use Rattle.std.proofs.lemmas.List.{length-map}
+use Rattle.ir_program.proofs.ListedUses.{listed-edges}
 use Rattle.ir_program.proofs.SeenUses.{block-uses}
 use Rattle.ir_program.proofs.program.Program.block_uses.Goals as goal
 
@@ -8,3 +9,6 @@ returns-clause-uses g c = block-uses _ c.args.self.now c.self.view_is c.self.inv
 
 pub returns-clause-fits : goal.returns-clause-fits
 returns-clause-fits g c = subst (λ (n : ℕ). n < 2 ^ 64) (sym (length-map c.iter.result _)) c.iter.ensures.fits
+
+pub returns-clause-order : goal.returns-clause-order
+returns-clause-order g c = listed-edges _ c.args.self.now c.self.view_is c.self.invariant c.edge_thread.result c.args.block c.edge_thread.ensures c.iter.result c.iter.ensures.order

@@ -1,5 +1,6 @@
 use Rattle.std.proofs.Common.{ℕ, ◌<◌, ◌^◌, subst, sym}
 use Rattle.std.proofs.lemmas.List.{length-map}
+use Rattle.ir_program.proofs.ListedUses.{listed-uses}
 use Rattle.ir_program.proofs.SeenUses.{value-uses}
 use Rattle.ir_program.proofs.program.Program.uses_of.Goals as goal
 
@@ -8,3 +9,6 @@ returns-clause-uses g c = value-uses _ c.args.self.now c.self.view_is c.self.inv
 
 pub returns-clause-fits : goal.returns-clause-fits
 returns-clause-fits g c = subst (λ (n : ℕ). n < 2 ^ 64) (sym (length-map c.iter.result _)) c.iter.ensures.fits
+
+pub returns-clause-order : goal.returns-clause-order
+returns-clause-order g c = listed-uses _ c.args.self.now c.self.view_is c.self.invariant c.thread.result c.args.value c.thread.ensures c.iter.result c.iter.ensures.order
