@@ -1,5 +1,5 @@
 //! Blocks in the lists of regions.
-ghost use Rattle.std.specs.Prelude.{◌≡◌, ◌↔◌, ◌+◌, ◌++◌, ◌∷◌, [], ℕ, None, Some, IsSome, IfSome, IsTrue, slice_get, insert, remove};
+ghost use Rattle.std.specs.Prelude.{◌≡◌, ◌↔◌, ◌+◌, ◌++◌, ◌∷◌, [], ℕ, None, Some, IsSome, IfSome, IsTrue, MatchOption, slice_get, insert, remove};
 ghost use Rattle.ir_program.specs.declared.handles.Ptr.{Ptr};
 ghost use Rattle.ir_program.specs.declared.handles.BasicBlock.{BasicBlock};
 ghost use Rattle.ir_program.specs.declared.handles.Region.{Region};
@@ -23,6 +23,12 @@ pub trait BlockLists {
     fn is_linked<D: DialectTables>(self, ctx: &Context<D>) -> bool
         requires { IsSome (block_at ctx.now.program (block self)) }
         ensures linked { IsTrue result ↔ IsLinkedBlock ctx.now.program (block self) };
+
+    /// The region that the block stands in, in whose list it is.
+    fn get_container<D: DialectTables>(self, ctx: &Context<D>) -> Option<Ptr<Region>>
+        requires { IsSome (block_at ctx.now.program (block self)) }
+        ensures container { MatchOption result (IsUnlinkedBlock ctx.now.program (block self)) (λ container. StandsInRegion ctx.now.program (block self) container) }
+        ensures only { (container : Ptr Region) → StandsInRegion ctx.now.program (block self) container → result ≡ Some container };
 
     /// The block that stands right after this one in its region.
     fn get_next<D: DialectTables>(self, ctx: &Context<D>) -> Option<Ptr<BasicBlock>>
@@ -100,6 +106,10 @@ impl BlockLists for Ptr<BasicBlock> {
 
     fn is_linked<D: DialectTables>(self, ctx: &Context<D>) -> bool {
         ctx.program.parent_region(self).is_some()
+    }
+
+    fn get_container<D: DialectTables>(self, ctx: &Context<D>) -> Option<Ptr<Region>> {
+        ctx.program.parent_region(self)
     }
 
     fn get_next<D: DialectTables>(self, ctx: &Context<D>) -> Option<Ptr<BasicBlock>> {

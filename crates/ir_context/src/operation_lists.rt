@@ -1,5 +1,5 @@
 //! Operations in the lists of blocks.
-ghost use Rattle.std.specs.Prelude.{◌≡◌, ◌↔◌, ◌+◌, ◌++◌, ◌∷◌, [], ℕ, None, Some, IsSome, IfSome, IsTrue, slice_get, insert, remove};
+ghost use Rattle.std.specs.Prelude.{◌≡◌, ◌↔◌, ◌+◌, ◌++◌, ◌∷◌, [], ℕ, None, Some, IsSome, IfSome, IsTrue, MatchOption, slice_get, insert, remove};
 ghost use Rattle.ir_program.specs.declared.handles.Ptr.{Ptr};
 ghost use Rattle.ir_program.specs.declared.handles.Operation.{Operation};
 ghost use Rattle.ir_program.specs.declared.handles.BasicBlock.{BasicBlock};
@@ -23,6 +23,12 @@ pub trait OperationLists {
     fn is_linked<D: DialectTables>(self, ctx: &Context<D>) -> bool
         requires { IsSome (operation_at ctx.now.program (op self)) }
         ensures linked { IsTrue result ↔ IsLinkedOperation ctx.now.program (op self) };
+
+    /// The block that the operation stands in, in whose list it is.
+    fn get_container<D: DialectTables>(self, ctx: &Context<D>) -> Option<Ptr<BasicBlock>>
+        requires { IsSome (operation_at ctx.now.program (op self)) }
+        ensures container { MatchOption result (IsUnlinkedOperation ctx.now.program (op self)) (λ container. StandsInBlock ctx.now.program (op self) container) }
+        ensures only { (container : Ptr BasicBlock) → StandsInBlock ctx.now.program (op self) container → result ≡ Some container };
 
     /// The operation that stands right after this one in its block.
     fn get_next<D: DialectTables>(self, ctx: &Context<D>) -> Option<Ptr<Operation>>
@@ -100,6 +106,10 @@ impl OperationLists for Ptr<Operation> {
 
     fn is_linked<D: DialectTables>(self, ctx: &Context<D>) -> bool {
         ctx.program.parent_block(self).is_some()
+    }
+
+    fn get_container<D: DialectTables>(self, ctx: &Context<D>) -> Option<Ptr<BasicBlock>> {
+        ctx.program.parent_block(self)
     }
 
     fn get_next<D: DialectTables>(self, ctx: &Context<D>) -> Option<Ptr<Operation>> {

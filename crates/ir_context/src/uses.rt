@@ -1,7 +1,8 @@
 //! Where values and blocks are used, and others in their place.
-ghost use Rattle.std.specs.Prelude.{◌≡◌, ◌≢◌, ◌↔◌, ◌+◌, ℕ, IfOk, IsOk, IsSome, IsTrue, map, slice_set};
+ghost use Rattle.std.specs.Prelude.{◌≡◌, ◌≢◌, ◌↔◌, ◌+◌, ℕ, Bool, IfOk, OnOk, OnErr, IsOk, IsSome, IsTrue, length, map, slice_set};
 ghost use Rattle.ir_program.specs.Program.{block_at, type_at, IsLiveValue};
 ghost use Rattle.ir_program.specs.Uses.{IsUse, IsUsed, IsUseCount, IsBlockUse, HasPredecessor, IsPredecessorCount};
+ghost use Rattle.ir_program.specs.Order.{edges_listed, uses_listed};
 ghost use Rattle.ir_program.specs.Edits.{EditsOperation, EditsOperations};
 ghost use Rattle.ir_program.specs.Replacing.{replacing, retargeting, with_chosen, Chooses};
 ghost use Rattle.ir_program.specs.Among.{is_among};
@@ -10,6 +11,7 @@ ghost use Rattle.ir_context.specs.Chosen.{AreUsesNaming, Says};
 ghost use Rattle.ir_program.specs.declared.handles.Ptr.{Ptr};
 ghost use Rattle.ir_program.specs.declared.handles.BasicBlock.{BasicBlock};
 ghost use Rattle.ir_program.specs.declared.handles.Value.{Value};
+ghost use Rattle.ir_program.specs.declared.handles.Use.{Use};
 
 use crate::Context;
 use ir_program::{BasicBlock, Program, Ptr, Use, Value};
@@ -25,7 +27,8 @@ pub trait UseCalls {
     fn num_uses<D: DialectTables>(self, ctx: &Context<D>) -> usize
         requires { IsLiveValue ctx.now.program (used self) }
         ensures count { IsUseCount ctx.now.program (used self) result }
-        ensures only { (n : ℕ) → IsUseCount ctx.now.program (used self) n → n ≡ result };
+        ensures only { (n : ℕ) → IsUseCount ctx.now.program (used self) n → n ≡ result }
+        ensures listed { result ≡ length (uses_listed ctx.now.program (used self)) };
 
     /// Whether some operation takes the value.
     fn is_used<D: DialectTables>(self, ctx: &Context<D>) -> bool
@@ -64,6 +67,27 @@ pub trait UseCalls {
         requires other { IsLiveValue ctx.old.program other }
         ensures succeeds { IsOk result }
         ensures replaced { EditsOperation ctx.old.program ctx.new.program place.user_op (λ o. record o { operands = slice_set o.operands place.index other }) }
+        ensures values { (v : _) → type_at ctx.new.program v ≡ type_at ctx.old.program v }
+        ensures counter { ctx.new.program.counter ≡ ctx.old.program.counter }
+        ensures types { ctx.new.types ≡ ctx.old.types };
+
+    /// Puts another value in place of the value at those of its uses for which the predicate answers true. It is asked once
+    /// about each use, before any is changed. One that looks at the context is for `chosen_uses` and `replace_uses_with`.
+    ///
+    /// # Errors
+    /// Without memory. Nothing is changed then.
+    fn replace_some_uses_with<D: DialectTables, F: Fn(&Use<Value>) -> bool>(
+        self,
+        alloc: Global,
+        ctx: &mut Context<D>,
+        predicate: F,
+        other: Value,
+    ) -> Result<(), AllocError>
+        requires value { IsLiveValue ctx.old.program (used self) }
+        requires other { IsLiveValue ctx.old.program other }
+        requires callable { F.IsAlwaysCallable predicate }
+        ensures replaced { OnOk result ((chosen : Use Value → Bool) × Chooses (operands_at ctx.old.program) (Says F.Fn predicate) (used self) chosen × EditsOperations ctx.old.program ctx.new.program (λ p o. record o { operands = with_chosen chosen other p 0 o.operands })) }
+        ensures err { OnErr result (ctx.new ≡ ctx.old) }
         ensures values { (v : _) → type_at ctx.new.program v ≡ type_at ctx.old.program v }
         ensures counter { ctx.new.program.counter ≡ ctx.old.program.counter }
         ensures types { ctx.new.types ≡ ctx.old.types };
@@ -133,6 +157,18 @@ impl UseCalls for Value {
         Ok(())
     }
 
+    fn replace_some_uses_with<D: DialectTables, F: Fn(&Use<Value>) -> bool>(
+        self,
+        alloc: Global,
+        ctx: &mut Context<D>,
+        predicate: F,
+        other: Value,
+    ) -> Result<(), AllocError> {
+        let chosen = choose_uses(&ctx.program, alloc, self, &predicate)?;
+        ctx.program.replace_uses(&chosen, other);
+        Ok(())
+    }
+
     fn chosen_uses<D: DialectTables, F: Fn(&Use<Value>) -> bool>(
         self,
         alloc: Global,
@@ -184,7 +220,8 @@ pub trait PredecessorCalls {
     fn num_preds<D: DialectTables>(self, ctx: &Context<D>) -> usize
         requires { IsSome (block_at ctx.now.program (target self)) }
         ensures count { IsPredecessorCount ctx.now.program (target self) result }
-        ensures only { (n : ℕ) → IsPredecessorCount ctx.now.program (target self) n → n ≡ result };
+        ensures only { (n : ℕ) → IsPredecessorCount ctx.now.program (target self) n → n ≡ result }
+        ensures listed { result ≡ length (edges_listed ctx.now.program (target self)) };
 
     /// Whether an edge leads to the block.
     fn has_pred<D: DialectTables>(self, ctx: &Context<D>) -> bool
@@ -222,6 +259,27 @@ pub trait PredecessorCalls {
         requires other { IsSome (block_at ctx.old.program other) }
         ensures succeeds { IsOk result }
         ensures retargeted { EditsOperation ctx.old.program ctx.new.program place.user_op (λ o. record o { successors = slice_set o.successors place.index other }) }
+        ensures values { (v : _) → type_at ctx.new.program v ≡ type_at ctx.old.program v }
+        ensures counter { ctx.new.program.counter ≡ ctx.old.program.counter }
+        ensures types { ctx.new.types ≡ ctx.old.types };
+
+    /// Makes those edges to the block lead to another for which the predicate answers true. It is asked once about each
+    /// edge, before any is changed. One that looks at the context is for `chosen_preds` and `retarget_preds_to`.
+    ///
+    /// # Errors
+    /// Without memory. Nothing is changed then.
+    fn retarget_some_preds_to<D: DialectTables, F: Fn(&Use<Ptr<BasicBlock>>) -> bool>(
+        self,
+        alloc: Global,
+        ctx: &mut Context<D>,
+        predicate: F,
+        other: Ptr<BasicBlock>,
+    ) -> Result<(), AllocError>
+        requires block { IsSome (block_at ctx.old.program (target self)) }
+        requires other { IsSome (block_at ctx.old.program other) }
+        requires callable { F.IsAlwaysCallable predicate }
+        ensures retargeted { OnOk result ((chosen : Use (Ptr BasicBlock) → Bool) × Chooses (successors_at ctx.old.program) (Says F.Fn predicate) (target self) chosen × EditsOperations ctx.old.program ctx.new.program (λ p o. record o { successors = with_chosen chosen other p 0 o.successors })) }
+        ensures err { OnErr result (ctx.new ≡ ctx.old) }
         ensures values { (v : _) → type_at ctx.new.program v ≡ type_at ctx.old.program v }
         ensures counter { ctx.new.program.counter ≡ ctx.old.program.counter }
         ensures types { ctx.new.types ≡ ctx.old.types };
@@ -289,6 +347,18 @@ impl PredecessorCalls for Ptr<BasicBlock> {
         other: Ptr<BasicBlock>,
     ) -> Result<(), AllocError> {
         ctx.program.retarget(place, other);
+        Ok(())
+    }
+
+    fn retarget_some_preds_to<D: DialectTables, F: Fn(&Use<Ptr<BasicBlock>>) -> bool>(
+        self,
+        alloc: Global,
+        ctx: &mut Context<D>,
+        predicate: F,
+        other: Ptr<BasicBlock>,
+    ) -> Result<(), AllocError> {
+        let chosen = choose_edges(&ctx.program, alloc, self, &predicate)?;
+        ctx.program.retarget_uses(&chosen, other);
         Ok(())
     }
 
