@@ -1,5 +1,7 @@
 -- Half way through a list.
-use Rattle.std.proofs.Common.{◌≡◌, ◌⊎◌, inl, inr, ⊎_elim, ℕ, zero, suc, ◌+◌, List, [], ◌∷◌, ◌++◌, length, Some, slice_get, refl, sym, ap, ◌∙◌, subst, append_assoc, arith}
+use Rattle.std.proofs.Common.{◌≡◌, ◌⊎◌, inl, inr, ⊎_elim, ℕ, zero, suc, ◌+◌, ◌<◌, List, [], ◌∷◌, ◌++◌, length, Option, None, Some, slice_get, refl, sym, ap, ◌∙◌, subst, append_assoc, arith}
+use Rattle.std.specs.Iterator.{SkipsThenYields, YieldsFirst}
+use Rattle.std.proofs.lemmas.Iterator.Consumers.{nth_from_yields_List, YieldsList-from_first}
 use Rattle.std.proofs.lemmas.Option.{same_Some}
 
 pub get-middle : {X : Type 0} (done rest : List X) (x : X) → slice_get (done ++ x ∷ rest) (length done) ≡ Some x
@@ -40,3 +42,14 @@ nothing-behind (d ∷ done) = ap (λ r. d ∷ r) (nothing-behind done)
 
 pub ended : {X : Type 0} (P : List X → Type 0) (done rest : List X) → rest ≡ [] → P (done ++ rest) → P done
 ended P done rest e h = subst P (ap (λ r. done ++ r) e ∙ nothing-behind done) h
+
+-- at an index within the list something stands
+pub get-within : {X : Type 0} (xs : List X) (i : ℕ) → i < length xs → (x : X) × (slice_get xs i ≡ Some x)
+get-within [] i lt = absurd (omega arith)
+get-within (x ∷ xs) zero lt = (x, refl)
+get-within (x ∷ xs) (suc i) lt = let less : i < length xs = omega arith in get-within xs i less
+
+-- what `nth` gives of an iterator that shows what is left is what stands at that index
+pub nth-is : {X : Type 0} (all : List X) (r : Option X) (rest : List X) (n : ℕ) → SkipsThenYields (YieldsFirst (λ (s : List X). s)) all n r rest → r ≡ slice_get all n
+nth-is all None rest n h = nth_from_yields_List None rest n h (YieldsList-from_first (λ x. x) (λ s. s) all refl)
+nth-is all (Some x) rest n h = nth_from_yields_List (Some x) rest n h (YieldsList-from_first (λ x. x) (λ s. s) all refl)

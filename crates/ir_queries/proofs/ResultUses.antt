@@ -1,18 +1,21 @@
 -- The uses of the results of an operation, result by result.
-use Rattle.std.proofs.Common.{◌≡◌, ◌⊎◌, inl, inr, ⊎_elim, ℕ, ◌<◌, ◌≤◌, ◌+◌, List, ◌++◌, length, Option, Some, None, IsSome, option_map, slice_get, refl, sym, ap, ◌∙◌, subst, arith}
+use Rattle.std.proofs.Common.{◌≡◌, ◌⊎◌, inl, inr, ⊎_elim, ℕ, ◌<◌, ◌≤◌, ◌+◌, ◌^◌, List, [], ◌++◌, length, Option, Some, None, IsSome, option_map, slice_get, refl, sym, ap, ◌∙◌, subst, arith}
 use Rattle.std.proofs.lemmas.Bool.{cases_eq}
+use Rattle.std.proofs.lemmas.List.{length-append}
 use Rattle.std.proofs.lemmas.Option.{same_Some, slice_get_within}
 use Rattle.ir_names.specs.declared.kinds.TypeHandle.{TypeHandle}
 use Rattle.ir_program.specs.Program.{Program, TypedValue, results_at, value_in, type_at, IsLiveValue}
 use Rattle.ir_program.specs.Definers.{values_at, StandsAtDefiner}
-use Rattle.ir_program.specs.Uses.{AreUsesOf}
+use Rattle.ir_program.specs.Few.{HasFewUses}
+use Rattle.ir_program.specs.Uses.{AreUsesOf, IsUseCount}
 use Rattle.ir_program.specs.declared.handles.DefiningEntity.{DefiningEntity}
 use Rattle.ir_program.specs.declared.handles.DefiningEntity.TheVariants.{Op}
 use Rattle.ir_program.specs.declared.handles.Ptr.{Ptr}
 use Rattle.ir_program.specs.declared.handles.Operation.{Operation}
 use Rattle.ir_program.specs.declared.handles.Value.{Value}
 use Rattle.ir_program.specs.declared.handles.Use.{Use}
-use Rattle.ir_queries.specs.Results.{AreUsesWhere, IsResultOf}
+use Rattle.ir_program.proofs.Counts.{no_longer}
+use Rattle.ir_queries.specs.Results.{AreUsesWhere, IsResultOf, IsResultUseCount}
 use Rattle.ir_queries.proofs.Partway.{get-split, get-front, get-back}
 
 -- the index of a value is within the list
@@ -62,6 +65,13 @@ module _ {O B : Type 0} (c : Program O B) where
     abbrev pub IsResultBelow : ℕ → Value → Type 0
     IsResultBelow i v = (k : ℕ) × (k < i) × (value_in (results_at c p) k ≡ Some v)
 
+    -- so many uses have the results before index i
+    abbrev pub IsCountBelow : ℕ → ℕ → Type 0
+    IsCountBelow i n = (us : List (Use Value)) × AreUsesWhere c (IsResultBelow i) us × (length us ≡ n)
+
+    pub none_below : IsCountBelow 0 0
+    none_below = ([], record { once = λ i j u e f. cc; sound = λ i u e. cc; all = λ u given below. absurd (omega (arith, below.1)) }, refl)
+
     -- the uses of the results up to and with index i
     next_uses : (i : ℕ) (v : Value) → value_in (results_at c p) i ≡ Some v → ((k : ℕ) → value_in (results_at c p) k ≡ Some v → k ≡ i) → (us vs : List (Use Value)) → AreUsesWhere c (IsResultBelow i) us → AreUsesOf c v vs → AreUsesWhere c (IsResultBelow (i + 1)) (us ++ vs)
     next_uses i v at only us vs these those = joined (IsResultBelow i) (λ w. w ≡ v) (IsResultBelow (i + 1))
@@ -81,6 +91,10 @@ module _ {O B : Type 0} (c : Program O B) where
         (λ v is. (is.0, (let within : is.0 < length (results_at c p) = value_within (results_at c p) is.0 v is.1 in omega arith), is.1))
         us uses
 
+    -- so many uses all of them have
+    pub all_counted : (n m : ℕ) → length (results_at c p) ≤ n → IsCountBelow n m → IsResultUseCount c p m
+    all_counted n m enough (us, uses, long) = (us, all_uses n enough us uses, long)
+
     module _ (definer : (e : DefiningEntity) (k : ℕ) (v : Value) → value_in (values_at c e) k ≡ Some v → v.definer ≡ e)
         (stands : (v : Value) (ty : TypeHandle) → type_at c v ≡ Some ty → StandsAtDefiner c v ty) where
       -- a result stands at one index only
@@ -98,3 +112,17 @@ module _ {O B : Type 0} (c : Program O B) where
 
       pub uses_step : (i : ℕ) (v : Value) → value_in (results_at c p) i ≡ Some v → IsLiveValue c v → (us new : List (Use Value)) → AreUsesWhere c (IsResultBelow i) us → (vs : List (Use Value)) × AreUsesOf c v vs × (new ≡ us ++ vs) → AreUsesWhere c (IsResultBelow (i + 1)) new
       uses_step i v at live us new these more = subst (AreUsesWhere c (IsResultBelow (i + 1))) (sym more.2) (next_uses i v at (only_index i v at live) us more.0 these more.1)
+
+      pub count_step : (i : ℕ) (v : Value) → value_in (results_at c p) i ≡ Some v → IsLiveValue c v → (m n : ℕ) → IsCountBelow i m → IsUseCount c v n → IsCountBelow (i + 1) (m + n)
+      count_step i v at live m n (us, these, long) (vs, those, more) = (us ++ vs, next_uses i v at (only_index i v at live) us vs these those, length-append us vs ∙ ap (λ k. k + length vs) long ∙ ap (λ k. m + k) more)
+
+  -- there are not too many uses to be counted
+  pub count_fits : HasFewUses c → (P : Value → Type 0) (n : ℕ) → (us : List (Use Value)) × AreUsesWhere c P us × (length us ≡ n) → n < 2 ^ 64
+  count_fits few P n (us, these, long) = let small : length us < 2 ^ 64 = few us these.once (λ i u e. (these.sound i u e).0) in omega arith
+
+  -- the uses have one count
+  pub one_count : (P : Value → Type 0) (m n : ℕ) → (us : List (Use Value)) × AreUsesWhere c P us × (length us ≡ m) → (us : List (Use Value)) × AreUsesWhere c P us × (length us ≡ n) → m ≡ n
+  one_count P m n (us, mine, is) (vs, theirs, too) =
+      let to : length us ≤ length vs = no_longer us vs mine.once (λ i u e. let s = mine.sound i u e in theirs.all u s.0 s.1) in
+      let from : length vs ≤ length us = no_longer vs us theirs.once (λ i u e. let s = theirs.sound i u e in mine.all u s.0 s.1) in
+      omega (arith, is, too)

@@ -9,7 +9,7 @@ use Rattle.ir_program.specs.declared.handles.Ptr.{Ptr}
 use Rattle.ir_program.specs.declared.handles.BasicBlock.{BasicBlock}
 use Rattle.ir_program.specs.declared.handles.Use.{Use}
 use Rattle.ir_queries.specs.Predecessors.{AreUserBlocks}
-use Rattle.ir_queries.proofs.Partway.{get-last}
+use Rattle.ir_queries.proofs.Partway.{get-last, get-within}
 
 module _ {O B : Type 0} (c : Program O B) where
   -- the operation of a use that stands is there
@@ -43,3 +43,11 @@ module _ {O B : Type 0} (c : Program O B) where
       (λ (old : slice_get us k ≡ Some v). so_far k v old stands)
       (λ (new : (k ≡ length us) × (v ≡ u)). not (subst (λ x. StandsInBlock c x.user_op from) new.1 stands))
       (get-last us u k v e)
+
+  -- the only block in which the operation of a use stands is at the index of the use
+  pub block-at : (us : List (Use (Ptr BasicBlock))) (bs : List (Ptr BasicBlock)) (i : ℕ) (u : Use (Ptr BasicBlock)) (b : Ptr BasicBlock) → slice_get us i ≡ Some u → ((d : Ptr BasicBlock) → StandsInBlock c u.user_op d → d ≡ b) → AreUserBlocks c us bs → slice_get bs i ≡ Some b
+  block-at us bs i u b at only are =
+      let within : i < length us = slice_get_within us i u at in
+      let less : i < length bs = omega (arith, are.count) in
+      let there = get-within bs i less in
+      there.1 ∙ ap Some (only there.0 (are.stand i u there.0 at there.1))

@@ -2,6 +2,7 @@
 use Rattle.std.specs.Prelude.{◌≡◌, ℕ, List, length, Some, slice_get}
 use Rattle.ir_program.specs.Program.{Program}
 use Rattle.ir_program.specs.Lists.{StandsInBlock, IsLinkedOperation}
+use Rattle.ir_program.specs.Order.{edges_listed}
 use Rattle.ir_program.specs.Uses.{IsBlockUse, AreBlockUses}
 use Rattle.ir_program.specs.declared.handles.Ptr.{Ptr}
 use Rattle.ir_program.specs.declared.handles.BasicBlock.{BasicBlock}
@@ -29,3 +30,7 @@ module _ {O B : Type 0} where
     pub edges : List (Use (Ptr BasicBlock))
     pub uses : AreBlockUses c block edges
     pub blocks : AreUserBlocks c edges bs
+
+  -- the blocks from which the edges to a block lead, one for each edge, in the order in which the program lists the edges
+  abbrev pub ListsPredecessors : Program O B → Ptr BasicBlock → List (Ptr BasicBlock) → Type 0
+  ListsPredecessors c block bs = AreUserBlocks c (edges_listed c block) bs

@@ -1,15 +1,16 @@
 //! The blocks that a block may go on to, and those that may go on to it.
-ghost use Rattle.std.specs.Prelude.{◌≡◌, ◌↔◌, ◌<◌, IsSome, IsTrue, IfOk, IfSome, Some, Contains, length, slice_get};
+ghost use Rattle.std.specs.Prelude.{◌≡◌, ◌↔◌, ◌<◌, List, IsSome, IsTrue, IfOk, IfSome, Some, Contains, length, slice_get};
 ghost use Rattle.ir_program.specs.declared.handles.Ptr.{Ptr};
 ghost use Rattle.ir_program.specs.declared.handles.BasicBlock.{BasicBlock};
 ghost use Rattle.ir_program.specs.Program.{block_at, arguments_at};
 ghost use Rattle.ir_program.specs.Lists.{StandsInBlock};
+ghost use Rattle.ir_program.specs.Order.{edges_listed};
 ghost use Rattle.ir_program.specs.Uses.{AreBlockUses};
 ghost use Rattle.ir_queries.specs.Rows.{values_of};
 ghost use Rattle.ir_queries.specs.Edges.{terminator_of, edges_of};
-ghost use Rattle.ir_queries.specs.Predecessors.{IsPredecessor, HasLinkedUsers, ArePredecessors};
+ghost use Rattle.ir_queries.specs.Predecessors.{IsPredecessor, HasLinkedUsers, ArePredecessors, ListsPredecessors};
 
-use crate::predecessors::{is_predecessor, predecessors_of};
+use crate::predecessors::{is_predecessor, predecessor_at, predecessors_of};
 use crate::rows::{arguments_of, has_successor, successors_of};
 use crate::uses::uses_of_block;
 use ir_context::{Context, OperationCalls};
@@ -74,17 +75,18 @@ pub trait BlockEdges {
         requires { IsSome (block_at ctx.now.program other) }
         ensures { IsTrue result ↔ Contains (edges_of D.op_has ctx.now.program other) (block self) };
 
-    /// The successors that are the block, each once, in no promised order.
+    /// The successors that are the block, each once, in an order that stays while the program does.
     fn uses<D: DialectTables>(
         self,
         alloc: Global,
         ctx: &Context<D>,
     ) -> Result<Vec<Use<Ptr<BasicBlock>>>, AllocError>
         requires { IsSome (block_at ctx.now.program (block self)) }
-        ensures { IfOk result (λ r. AreBlockUses ctx.now.program (block self) r.items) };
+        ensures uses { IfOk result (λ r. AreBlockUses ctx.now.program (block self) r.items) }
+        ensures order { IfOk result (λ r. r.items ≡ edges_listed ctx.now.program (block self)) };
 
-    /// The blocks of the operations that have it as a successor, one for each time that they have it. Each of these
-    /// operations stands in a block.
+    /// The blocks of the operations that have it as a successor, one for each time that they have it, in the order in
+    /// which `uses` lists these times. Each of these operations stands in a block.
     fn preds<D: DialectTables>(
         self,
         alloc: Global,
@@ -92,7 +94,17 @@ pub trait BlockEdges {
     ) -> Result<Vec<Ptr<BasicBlock>>, AllocError>
         requires block { IsSome (block_at ctx.now.program (block self)) }
         requires linked { HasLinkedUsers ctx.now.program (block self) }
-        ensures { IfOk result (λ r. ArePredecessors ctx.now.program (block self) r.items) };
+        ensures predecessors { IfOk result (λ r. ArePredecessors ctx.now.program (block self) r.items) }
+        ensures order { IfOk result (λ r. ListsPredecessors ctx.now.program (block self) r.items) };
+
+    /// The block at an index, below `num_preds`, of those that `preds` lists. It asks for no memory.
+    fn get_pred<D: DialectTables>(self, ctx: &Context<D>, i: usize) -> Ptr<BasicBlock>
+        requires block { IsSome (block_at ctx.now.program (block self)) }
+        requires linked { HasLinkedUsers ctx.now.program (block self) }
+        requires within { i < length (edges_listed ctx.now.program (block self)) }
+        ensures exact { (listed : List (Ptr BasicBlock)) → ListsPredecessors ctx.now.program (block self) listed → slice_get listed i ≡ Some result }
+        ensures edge { IfSome (slice_get (edges_listed ctx.now.program (block self)) i) (λ u. StandsInBlock ctx.now.program u.user_op result) }
+        ensures predecessor { IsPredecessor ctx.now.program (block self) result };
 
     /// Whether an operation of `other` has it as a successor.
     fn is_pred<D: DialectTables>(self, ctx: &Context<D>, other: Ptr<BasicBlock>) -> bool
@@ -173,6 +185,10 @@ impl BlockEdges for Ptr<BasicBlock> {
         ctx: &Context<D>,
     ) -> Result<Vec<Ptr<BasicBlock>>, AllocError> {
         predecessors_of(ctx.program(), alloc, self)
+    }
+
+    fn get_pred<D: DialectTables>(self, ctx: &Context<D>, i: usize) -> Ptr<BasicBlock> {
+        predecessor_at(ctx.program(), self, i)
     }
 
     fn is_pred<D: DialectTables>(self, ctx: &Context<D>, other: Ptr<BasicBlock>) -> bool {

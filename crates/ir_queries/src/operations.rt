@@ -1,5 +1,5 @@
 //! The rows of an operation, and the uses of its results.
-ghost use Rattle.std.specs.Prelude.{◌≡◌, ◌↔◌, ◌<◌, IsSome, IsTrue, IfOk, IfSome, length, option_map, slice_get, Some};
+ghost use Rattle.std.specs.Prelude.{◌≡◌, ◌↔◌, ◌<◌, ℕ, IsSome, IsTrue, IfOk, IfSome, length, option_map, slice_get, Some};
 ghost use Rattle.ir_program.specs.declared.handles.Ptr.{Ptr};
 ghost use Rattle.ir_program.specs.declared.handles.Operation.{Operation};
 ghost use Rattle.ir_program.specs.Program.{operation_at, results_at};
@@ -7,13 +7,13 @@ ghost use Rattle.ir_program.specs.Rows.{operands_at, successors_at};
 ghost use Rattle.ir_program.specs.Lists.{regions_in};
 ghost use Rattle.ir_context.specs.Kept.{kind_at};
 ghost use Rattle.ir_queries.specs.Rows.{values_of, types_of, AreTypesOf, ArePlacesOf, place_at};
-ghost use Rattle.ir_queries.specs.Results.{HasUsedResult, AreResultUses};
+ghost use Rattle.ir_queries.specs.Results.{HasUsedResult, AreResultUses, IsResultUseCount};
 
 use crate::rows::{
     operand_places, operand_types_of, operands_of, regions_of, result_types_of, results_of,
     successor_places, successors_of,
 };
-use crate::uses::{has_used_result, uses_of_results};
+use crate::uses::{count_of_result_uses, has_used_result, uses_of_results};
 use ir_context::{Context, OperationCalls};
 use ir_names::TypeHandle;
 use ir_program::{BasicBlock, Operation, Ptr, Region, Use, Value};
@@ -122,6 +122,12 @@ pub trait OperationRows {
         requires { IsSome (operation_at ctx.now.program (op self)) }
         ensures { IsTrue result ↔ HasUsedResult ctx.now.program (op self) };
 
+    /// How many operands are results of it. An operation that takes a result twice counts twice.
+    fn num_uses<D: DialectTables>(self, ctx: &Context<D>) -> usize
+        requires { IsSome (operation_at ctx.now.program (op self)) }
+        ensures count { IsResultUseCount ctx.now.program (op self) result }
+        ensures only { (n : ℕ) → IsResultUseCount ctx.now.program (op self) n → n ≡ result };
+
     /// The uses of its results, each once, in no promised order.
     fn uses<D: DialectTables>(
         self,
@@ -227,6 +233,10 @@ impl OperationRows for Ptr<Operation> {
 
     fn has_use<D: DialectTables>(self, ctx: &Context<D>) -> bool {
         has_used_result(ctx.program(), self)
+    }
+
+    fn num_uses<D: DialectTables>(self, ctx: &Context<D>) -> usize {
+        count_of_result_uses(ctx.program(), self)
     }
 
     fn uses<D: DialectTables>(

@@ -3,6 +3,7 @@ ghost use Rattle.std.specs.Prelude.{◌≡◌, ◌↔◌, None, Some, IsErr, IfO
 ghost use Rattle.ir_program.specs.declared.handles.Value.{Value};
 ghost use Rattle.ir_program.specs.Program.{type_at, value_in, IsLiveValue};
 ghost use Rattle.ir_program.specs.Definers.{values_at};
+ghost use Rattle.ir_program.specs.Order.{uses_listed};
 ghost use Rattle.ir_program.specs.Uses.{AreUsesOf};
 ghost use Rattle.ir_queries.specs.Refused.{refusal_by};
 
@@ -18,14 +19,15 @@ pub trait ValueUses {
     /// The value.
     ghost value: { Self → Value };
 
-    /// The operands that are the value, each once, in no promised order.
+    /// The operands that are the value, each once, in an order that stays while the program does.
     fn uses<D: DialectTables>(
         self,
         alloc: Global,
         ctx: &Context<D>,
     ) -> Result<Vec<Use<Value>>, AllocError>
         requires { IsLiveValue ctx.now.program (value self) }
-        ensures { IfOk result (λ r. AreUsesOf ctx.now.program (value self) r.items) };
+        ensures uses { IfOk result (λ r. AreUsesOf ctx.now.program (value self) r.items) }
+        ensures order { IfOk result (λ r. r.items ≡ uses_listed ctx.now.program (value self)) };
 
     /// Its index among the results or arguments of its definer.
     ///

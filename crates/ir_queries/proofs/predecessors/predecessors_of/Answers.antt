@@ -1,4 +1,5 @@
-use Rattle.std.proofs.Common.{◌++◌, ◌∷◌, [], length, sym, subst}
+use Rattle.std.proofs.Common.{◌≡◌, ◌++◌, ◌∷◌, [], length, sym, subst}
+use Rattle.ir_program.specs.Order.{edges_listed}
 use Rattle.ir_program.specs.Uses.{AreBlockUses}
 use Rattle.ir_queries.specs.Predecessors.{AreUserBlocks}
 use Rattle.ir_queries.proofs.Partway.{get-middle, moved, ended}
@@ -19,12 +20,16 @@ block_of-requires-clause-linked g c =
 pub loop-edge-preserved : goal.loop-edge-preserved
 loop-edge-preserved g c = record {
   edges = moved (AreBlockUses c.args.program.now c.args.block) c.loop-edge.yielded _ _ c.in-Some.edge c.in-Some.ensures.steps c.loop-edge.invariant.edges;
-  stand = subst (AreUserBlocks c.args.program.now (c.loop-edge.yielded ++ c.in-Some.edge ∷ [])) (sym c.in_ok-push.ensures.items) (next_user c.args.program.now c.loop-edge.yielded c.loop-edge.predecessors.items c.in-Some.edge c.block_of.result c.loop-edge.invariant.stand c.block_of.ensures);
+  listed = moved (λ es. es ≡ edges_listed c.args.program.now c.args.block) c.loop-edge.yielded _ _ c.in-Some.edge c.in-Some.ensures.steps c.loop-edge.invariant.listed;
+  stand = subst (AreUserBlocks c.args.program.now (c.loop-edge.yielded ++ c.in-Some.edge ∷ [])) (sym c.in_ok-push.ensures.items) (next_user c.args.program.now c.loop-edge.yielded c.loop-edge.predecessors.items c.in-Some.edge c.block_of.result c.loop-edge.invariant.stand c.block_of.ensures.stands);
 }
 
-pub returns : goal.returns
-returns g c = record {
+pub returns-clause-predecessors : goal.returns-clause-predecessors
+returns-clause-predecessors g c = record {
   edges = c.loop-edge.yielded;
   uses = ended (AreBlockUses c.args.program.now c.args.block) c.loop-edge.yielded _ c.in-None.ensures.steps.0 c.loop-edge.invariant.edges;
   blocks = c.loop-edge.invariant.stand;
 }
+
+pub returns-clause-order : goal.returns-clause-order
+returns-clause-order g c = subst (λ es. AreUserBlocks c.args.program.now es c.loop-edge.predecessors.items) (ended (λ es. es ≡ edges_listed c.args.program.now c.args.block) c.loop-edge.yielded _ c.in-None.ensures.steps.0 c.loop-edge.invariant.listed) c.loop-edge.invariant.stand
