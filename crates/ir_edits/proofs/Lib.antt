@@ -1,0 +1,7 @@
+pub mod Asked
+pub mod Lists
+pub mod Named
+pub mod Running
+pub mod Makings
+pub mod Listing
+pub mod Kept

@@ -1,0 +1,24 @@
+use Rattle.std.proofs.Common.{◌≡◌, ◌<◌, Some, length, refl, sym, ◌∙◌, arith}
+use Rattle.std.proofs.lemmas.Option.{slice_get-get_or, slice_get_within}
+use Rattle.ir_program.specs.declared.handles.Ptr.{Ptr}
+use Rattle.ir_program.specs.declared.handles.Operation.{Operation}
+use Rattle.ir_edits.specs.declared.edit.PlaceAt.{PlaceAt}
+use Rattle.ir_edits.specs.Naming.{operation_named}
+use Rattle.ir_edits.proofs.Lists.{one-more}
+use Rattle.ir_edits.proofs.listed_uses.are_named.Goals as goal
+
+pub returns-then-not-names_operation : goal.returns-then-not-names_operation
+returns-then-not-names_operation c = (
+  λ h. cc,
+  λ all. sym c.if-not-names_operation.true ∙ c.names_operation.ensures.1 (all c.loop-place.place-index _ (slice_get-get_or _ _ _ c.loop-place-test.true)),
+)
+
+pub loop-place-preserved : goal.loop-place-preserved
+loop-place-preserved c = one-more (λ (place : PlaceAt). (p : Ptr Operation) × (operation_named c.args.made.now place.user_op ≡ Some p) × Unit {0}) c.args.places.now c.loop-place.place-index _ (slice_get-get_or _ _ _ c.loop-place-test.true)
+    (c.names_operation.ensures.0 c.if-not-names_operation.false) c.loop-place.invariant
+
+pub returns : goal.returns
+returns c = (
+  λ h k x at. let lt : k < length c.args.places.now = slice_get_within c.args.places.now k x at in c.loop-place.invariant k x (omega arith) at,
+  λ all. refl,
+)

@@ -1,0 +1,13 @@
+pub mod Naming
+pub mod Answered
+pub mod Same
+pub mod OperandEdits
+pub mod SuccessorEdits
+pub mod ResultEdits
+pub mod ArgumentEdits
+pub mod HolderEdits
+pub mod OperationListEdits
+pub mod BlockListEdits
+pub mod UseEdits
+pub mod MakingEdits
+pub mod Steps

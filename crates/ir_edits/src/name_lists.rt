@@ -1,0 +1,136 @@
+//! Lists of names: whether each stands for something, and for what.
+ghost use Rattle.std.specs.Prelude.{◌≡◌, ◌↔◌, Some, IsSome, IsTrue, IfOk};
+ghost use Rattle.ir_program.specs.Program.{block_at, IsLiveValue};
+ghost use Rattle.ir_program.specs.declared.handles.Ptr.{Ptr};
+ghost use Rattle.ir_program.specs.declared.handles.Operation.{Operation};
+ghost use Rattle.ir_program.specs.declared.handles.BasicBlock.{BasicBlock};
+ghost use Rattle.ir_program.specs.declared.handles.Value.{Value};
+ghost use Rattle.ir_context.specs.KnownLists.{AreKnown};
+ghost use Rattle.ir_edits.specs.Naming.{block_named, value_named, NameEach, AreNamed};
+
+use crate::naming::{block, value};
+use crate::{At, Entity, ValueAt};
+use ir_context::{BlockCalls, Context, TypeCalls, ValueCalls};
+use ir_names::TypeHandle;
+use ir_program::{BasicBlock, Ptr, Value};
+use ir_types::DialectTables;
+use std::alloc::{AllocError, Global};
+
+/// Whether each of the handles leads to a type.
+pub fn are_known<D: DialectTables>(ctx: &Context<D>, types: &[TypeHandle]) -> bool
+    ensures { IsTrue result ↔ AreKnown ctx.now.types types.now }
+{
+    for ty in types {
+        if !ty.is_live(ctx) {
+            return false;
+        }
+    }
+    true
+}
+
+/// Whether the name stands for a value that stands at its definer.
+fn names_live_value<D: DialectTables>(
+    ctx: &Context<D>,
+    made: &[Option<Entity>],
+    name: ValueAt,
+) -> bool
+    ensures { IsTrue result ↔ ((v : Value) × (value_named ctx.now.program made.now name ≡ Some v) × IsLiveValue ctx.now.program v) }
+{
+    match value(ctx, made, name) {
+        Ok(value) => value.is_live(ctx),
+        Err(_) => false,
+    }
+}
+
+/// Whether each of the names stands for a value that stands at its definer.
+pub fn name_live_values<D: DialectTables>(
+    ctx: &Context<D>,
+    made: &[Option<Entity>],
+    names: &[ValueAt],
+) -> bool
+    ensures { IsTrue result ↔ NameEach (value_named ctx.now.program made.now) (IsLiveValue ctx.now.program) names.now }
+{
+    for name in names {
+        if !names_live_value(ctx, made, *name) {
+            return false;
+        }
+    }
+    true
+}
+
+/// The values that the names stand for.
+///
+/// # Errors
+/// Where there is no memory.
+pub fn values<D: DialectTables>(
+    alloc: Global,
+    ctx: &Context<D>,
+    made: &[Option<Entity>],
+    names: &[ValueAt],
+) -> Result<Vec<Value>, AllocError>
+    requires { NameEach (value_named ctx.now.program made.now) (IsLiveValue ctx.now.program) names.now }
+    ensures { IfOk result (λ vs. AreNamed (value_named ctx.now.program made.now) names.now vs.items) }
+{
+    let mut values = Vec::new(alloc);
+    for name in names {
+        match value(ctx, made, *name) {
+            Ok(value) => values.push(value)?,
+            Err(_) => unreachable!(),
+        }
+    }
+    Ok(values)
+}
+
+/// Whether the name stands for a block that is there.
+fn names_live_block<D: DialectTables>(
+    ctx: &Context<D>,
+    made: &[Option<Entity>],
+    name: At<Ptr<BasicBlock>>,
+) -> bool
+    ensures { IsTrue result ↔ ((b : Ptr BasicBlock) × (block_named made.now name ≡ Some b) × IsSome (block_at ctx.now.program b)) }
+{
+    match block(made, name) {
+        Ok(block) => block.is_live(ctx),
+        Err(_) => false,
+    }
+}
+
+/// Whether each of the names stands for a block that is there.
+pub fn name_live_blocks<D: DialectTables>(
+    ctx: &Context<D>,
+    made: &[Option<Entity>],
+    names: &[At<Ptr<BasicBlock>>],
+) -> bool
+    ensures { IsTrue result ↔ NameEach (block_named made.now) (λ b. IsSome (block_at ctx.now.program b)) names.now }
+{
+    for name in names {
+        if !names_live_block(ctx, made, *name) {
+            return false;
+        }
+    }
+    true
+}
+
+/// The blocks that the names stand for.
+///
+/// # Errors
+/// Where there is no memory.
+pub fn blocks<D: DialectTables>(
+    alloc: Global,
+    ctx: &Context<D>,
+    made: &[Option<Entity>],
+    names: &[At<Ptr<BasicBlock>>],
+) -> Result<Vec<Ptr<BasicBlock>>, AllocError>
+    requires { NameEach (block_named made.now) (λ b. IsSome (block_at ctx.now.program b)) names.now }
+    ensures { IfOk result (λ bs. AreNamed (block_named made.now) names.now bs.items) }
+{
+    let _program = ctx.program();
+    let mut blocks = Vec::new(alloc);
+    for name in names {
+        match block(made, *name) {
+            Ok(block) => blocks.push(block)?,
+            Err(_) => unreachable!(),
+        }
+    }
+    Ok(blocks)
+}

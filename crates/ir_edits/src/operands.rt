@@ -1,0 +1,84 @@
+//! Edits of operands.
+ghost use Rattle.ir_edits.specs.OperandEdits.{PushesOperand, PopsOperand, InsertsOperand, RemovesOperand, ReplacesOperand};
+
+use crate::Entity;
+use ir_context::{Context, CoreError, OperandCalls, OperationCalls, ValueCalls};
+use ir_program::{Operation, Ptr, Value};
+use ir_types::DialectTables;
+
+/// Gives an operation one operand more, behind the others.
+pub fn push_operand<D: DialectTables>(
+    ctx: &mut Context<D>,
+    op: Ptr<Operation>,
+    value: Value,
+) -> Result<Option<Entity>, CoreError>
+    ensures { PushesOperand ctx.old op value ctx.new result }
+{
+    if !op.is_live(ctx) || !value.is_live(ctx) {
+        return Err(CoreError::EditNotAllowed);
+    }
+    op.push_operand(ctx.allocator(), ctx, value)?;
+    Ok(None)
+}
+
+/// Takes away the last operand of an operation, if there is one.
+#[tactic(auto, using(crate::proofs::Asked::operand_popped))]
+pub fn pop_operand<D: DialectTables>(
+    ctx: &mut Context<D>,
+    op: Ptr<Operation>,
+) -> Result<Option<Entity>, CoreError>
+    ensures { PopsOperand ctx.old op ctx.new result }
+{
+    if !op.is_live(ctx) {
+        return Err(CoreError::EditNotAllowed);
+    }
+    op.pop_operand(ctx);
+    Ok(None)
+}
+
+/// Puts an operand at an index.
+pub fn insert_operand<D: DialectTables>(
+    ctx: &mut Context<D>,
+    op: Ptr<Operation>,
+    index: usize,
+    value: Value,
+) -> Result<Option<Entity>, CoreError>
+    ensures { InsertsOperand ctx.old op index value ctx.new result }
+{
+    if !op.is_live(ctx) || index > op.get_num_operands(ctx) || !value.is_live(ctx) {
+        return Err(CoreError::EditNotAllowed);
+    }
+    op.insert_operand(ctx.allocator(), ctx, index, value)?;
+    Ok(None)
+}
+
+/// Takes away the operand at an index.
+pub fn remove_operand<D: DialectTables>(
+    ctx: &mut Context<D>,
+    op: Ptr<Operation>,
+    index: usize,
+) -> Result<Option<Entity>, CoreError>
+    ensures { RemovesOperand ctx.old op index ctx.new result }
+{
+    if !op.is_live(ctx) || index >= op.get_num_operands(ctx) {
+        return Err(CoreError::EditNotAllowed);
+    }
+    op.remove_operand(ctx, index);
+    Ok(None)
+}
+
+/// Puts another value in place of the operand at an index.
+pub fn replace_operand<D: DialectTables>(
+    ctx: &mut Context<D>,
+    op: Ptr<Operation>,
+    index: usize,
+    value: Value,
+) -> Result<Option<Entity>, CoreError>
+    ensures { ReplacesOperand ctx.old op index value ctx.new result }
+{
+    if !op.is_live(ctx) || index >= op.get_num_operands(ctx) || !value.is_live(ctx) {
+        return Err(CoreError::EditNotAllowed);
+    }
+    let _succeeds = op.replace_operand(ctx.allocator(), ctx, index, value);
+    Ok(None)
+}
