@@ -1,4 +1,21 @@
 //! What no clause says: that calls succeed where memory is ample, and worked examples of what they answer.
-mod marked;
+mod building;
+mod cast;
+mod chosen;
+mod edges;
+mod erased;
+mod holder_edits;
+mod joined;
+mod list_edits;
+mod lists;
+mod looking;
 mod markers;
+mod names;
+mod refusals;
+mod row_edits;
+mod rows;
+mod standing;
 mod tiny;
+mod types;
+mod uses;
+mod verified;

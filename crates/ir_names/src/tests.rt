@@ -252,3 +252,16 @@ fn shows_ids(rt: HostRuntime) -> Result<(), Fail> {
     assert_eq!(rt; id.name.to_identifier(rt.alloc())?.as_str(), "define");
     Ok(())
 }
+
+#[test]
+fn names_are_identifiers(rt: HostRuntime) -> Result<(), Fail> {
+    let name = Identifier::new(rt.alloc(), "a1")?;
+    assert_eq!(rt; name.as_str(), "a1");
+    let dialect = DialectName::try_new("tiny")?;
+    assert_eq!(rt; dialect.to_identifier(rt.alloc())?.as_str(), "tiny");
+    let attr = AttrName::try_new("value")?;
+    assert_eq!(rt; attr.to_identifier(rt.alloc())?.as_str(), "value");
+    let ty = TypeName::try_new("integer")?;
+    assert_eq!(rt; ty.to_identifier(rt.alloc())?.as_str(), "integer");
+    Ok(())
+}

@@ -4,7 +4,7 @@ ghost use Rattle.ir_types.specs.Interned.{IsKnown};
 ghost use Rattle.ir_types.specs.Lends.{with_body};
 
 use super::*;
-use crate::tiny::{Tiny, TinyAttr, TinyOp, TinyType, TinyTypeKind};
+use crate::tiny::{Tiny, TinyAttr, TinyLocation, TinyOp, TinyType, TinyTypeKind};
 use ir_names::{AttrInterface, OpInterface, TypeHandle, TypeInterface};
 use std::test::Fail;
 
@@ -95,6 +95,8 @@ fn asks_a_dialect(rt: HostRuntime) -> Result<(), Fail> {
     assert!(rt; !Tiny::attr_implements(&attr, AttrInterface::TypedAttr));
     let copy = Tiny::clone_type_key(rt.alloc(), &TinyType::Integer(3))?;
     assert_eq!(rt; copy, TinyType::Integer(3));
+    let line = Tiny::clone_location(rt.alloc(), &TinyLocation::Line(4))?;
+    assert_eq!(rt; line, TinyLocation::Line(4));
     let id = Tiny::op_id(TinyOp::Graph);
     assert_eq!(rt; format!(in rt.alloc(); "{id}")?.as_str(), "tiny.graph");
     let found = Tiny::type_id(TinyTypeKind::Named);

@@ -10,6 +10,8 @@ mod asserted;
 #[cfg(test)]
 mod erasing_tests;
 #[cfg(test)]
+mod growing_tests;
+#[cfg(test)]
 mod rows_tests;
 
 /// The type that the tests give to values.
