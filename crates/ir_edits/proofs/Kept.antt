@@ -1,6 +1,5 @@
 -- What was erased stays erased, whatever edit is made, and whatever list of edits.
 use Rattle.std.proofs.Common.{◌≡◌, ◌≢◌, ◌⊎◌, inl, inr, ℕ, List, [], ◌∷◌, ◌++◌, Option, Some, None, MatchOption, Result, Ok, Err, remove, ⊎_elim, sym, ap, ◌∙◌, subst, slice_get}
-use Rattle.std.proofs.lemmas.Bool.{cases_eq}
 use Rattle.ir_program.specs.Program.{Program, OperationView, BlockView}
 use Rattle.ir_program.specs.Edits.{KeepsErased, EditsOperation, EditsBlock, MovesRegion}
 use Rattle.ir_program.specs.Lists.{regions_in, StandsInOperation}
@@ -10,6 +9,8 @@ use Rattle.ir_program.specs.declared.handles.Region.{Region}
 use Rattle.ir_program.specs.declared.handles.BasicBlock.{BasicBlock}
 use Rattle.ir_program.specs.declared.handles.Value.{Value}
 use Rattle.ir_program.proofs.AddSteps.{kept-erased, erased-then}
+use Rattle.ir_program.proofs.Alike.{key_or_not}
+use Rattle.ir_program.proofs.Frames.{same_handle}
 use Rattle.ir_context.specs.Views.{ContextView}
 use Rattle.ir_context.specs.declared.errors.CoreError.{CoreError}
 use Rattle.ir_context.specs.declared.notes.OperationData.{OperationData}
@@ -24,10 +25,7 @@ use Rattle.ir_edits.specs.Steps.{Named, step, Runs, ends, goes_on, stops}
 
 -- operations are the same or not
 same_operation : (p q : Ptr Operation) → (p ≡ q) ⊎ (p ≢ q)
-same_operation p q = ⊎_elim
-    (λ (s : p.key.slot ≡ q.key.slot). ⊎_elim (λ (v : p.key.version ≡ q.key.version). inl (λ t. record { key = record { slot = s t; version = v t }; of = record {} })) (λ nv. inr (λ h. nv (ap (λ (x : Ptr Operation). x.key.version) h))) (cases_eq p.key.version q.key.version))
-    (λ ns. inr (λ h. ns (ap (λ (x : Ptr Operation). x.key.slot) h)))
-    (cases_eq p.key.slot q.key.slot)
+same_operation p q = ⊎_elim (λ e. inl (same_handle p q e)) (λ ne. inr (λ h. ne (ap (λ (x : Ptr Operation). x.key) h))) (key_or_not p.key q.key)
 
 -- a region that moves to an operation
 pub moved_erased : {O B : Type 0} (c n : Program O B) (q : Ptr Region) (p from : Ptr Operation) → StandsInOperation c q from
