@@ -4,3 +4,9 @@ pub mod Standing
 pub mod ResultUses
 pub mod UserBlocks
 pub mod EdgeRows
+pub mod DefinerLemmas
+pub mod DigitLemmas
+pub mod Held
+pub mod Splits
+pub mod OwnNames
+pub mod SkippedCopies

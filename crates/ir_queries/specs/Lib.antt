@@ -3,3 +3,9 @@ pub mod Results
 pub mod Refused
 pub mod Edges
 pub mod Predecessors
+pub mod Naming
+pub mod Parts
+pub mod TypedHandles
+pub mod Kept
+pub mod Subjects
+pub mod Lookups

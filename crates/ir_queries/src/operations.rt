@@ -9,6 +9,7 @@ ghost use Rattle.ir_context.specs.Kept.{kind_at};
 ghost use Rattle.ir_queries.specs.Rows.{values_of, types_of, AreTypesOf, ArePlacesOf, place_at};
 ghost use Rattle.ir_queries.specs.Results.{HasUsedResult, AreResultUses, IsResultUseCount};
 
+use crate::OpMarker;
 use crate::rows::{
     operand_places, operand_types_of, operands_of, regions_of, result_types_of, results_of,
     successor_places, successors_of,
@@ -18,7 +19,6 @@ use ir_context::{Context, OperationCalls};
 use ir_names::TypeHandle;
 use ir_program::{BasicBlock, Operation, Ptr, Region, Use, Value};
 use ir_types::DialectTables;
-use ir_typing::OpMarker;
 use std::alloc::{AllocError, Global};
 
 /// The rows of an operation, and where its results are used.

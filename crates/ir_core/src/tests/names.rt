@@ -43,7 +43,7 @@ fn a_block_without_a_label_is_called_by_its_id_in(
     ctx: &mut Context<Tiny>,
 ) -> Result<(), Fail> {
     let block = labelled(rt, ctx, None)?;
-    let (slot, version) = (block.slot(), block.version());
+    let (slot, version) = (block.slot() as u128 + 1, block.version());
     let expected = format!(in alloc; "block{slot}v{version}")?;
     let (given, id, unique) = names_of_block(rt, alloc, ctx, block)?;
     assert_eq!(rt; given, None);
@@ -67,7 +67,7 @@ fn a_block_is_called_by_its_label_and_its_id_in(
     ctx: &mut Context<Tiny>,
 ) -> Result<(), Fail> {
     let block = labelled(rt, ctx, Some(ident(alloc, "entry")?))?;
-    let (slot, version) = (block.slot(), block.version());
+    let (slot, version) = (block.slot() as u128 + 1, block.version());
     let expected = format!(in alloc; "entry_block{slot}v{version}")?;
     let (given, _, unique) = names_of_block(rt, alloc, ctx, block)?;
     assert_eq!(rt; given, Some(ident(alloc, "entry")?));
@@ -79,6 +79,27 @@ fn a_block_is_called_by_its_label_and_its_id_in(
 fn a_block_is_called_by_its_label_and_its_id(rt: HostRuntime) -> Result<(), Fail> {
     let mut ctx: Context<Tiny> = Context::new(rt.alloc());
     let outcome = a_block_is_called_by_its_label_and_its_id_in(&rt, rt.alloc(), &mut ctx);
+    finish(ctx);
+    outcome
+}
+
+/// The test of the same name, in a new context.
+fn the_first_block_has_the_number_one_in(
+    rt: &impl Abort,
+    alloc: Global,
+    ctx: &mut Context<Tiny>,
+) -> Result<(), Fail> {
+    let block = labelled(rt, ctx, Some(ident(alloc, "entry")?))?;
+    let (_, id, unique) = names_of_block(rt, alloc, ctx, block)?;
+    assert_eq!(rt; id.as_str(), "block1v1");
+    assert_eq!(rt; unique.as_str(), "entry_block1v1");
+    Ok(())
+}
+
+#[test]
+fn the_first_block_has_the_number_one(rt: HostRuntime) -> Result<(), Fail> {
+    let mut ctx: Context<Tiny> = Context::new(rt.alloc());
+    let outcome = the_first_block_has_the_number_one_in(&rt, rt.alloc(), &mut ctx);
     finish(ctx);
     outcome
 }

@@ -1,4 +1,0 @@
-pub mod Standing
-pub mod Held
-pub mod Splits
-pub mod OwnNames
