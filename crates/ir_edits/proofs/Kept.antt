@@ -18,10 +18,13 @@ use Rattle.ir_context.specs.declared.notes.BlockNotes.{BlockNotes}
 use Rattle.ir_edits.specs.declared.edit.Entity.{Entity}
 use Rattle.ir_edits.specs.declared.edit.Edit.{Edit}
 use Rattle.ir_edits.specs.declared.edit.Edit.TheVariants as edit
-use Rattle.ir_edits.specs.Naming.{operation_named, block_named, region_named, value_named}
+use Rattle.ir_edits.specs.declared.direct_edit.DirectEdit.{DirectEdit}
+use Rattle.ir_edits.specs.declared.direct_edit.DirectEdit.TheVariants as direct
+use Rattle.ir_edits.specs.Naming.{block_named, value_named}
+use Rattle.ir_edits.specs.Resolving.{resolved}
 use Rattle.ir_edits.specs.Answered.{Answered}
 use Rattle.ir_edits.specs.Same.{IsSame}
-use Rattle.ir_edits.specs.Steps.{Named, step, Runs, ends, goes_on, stops}
+use Rattle.ir_edits.specs.Steps.{Named, does, step, Runs, ends, goes_on, stops}
 
 -- operations are the same or not
 same_operation : (p q : Ptr Operation) → (p ≡ q) ⊎ (p ≢ q)
@@ -57,57 +60,60 @@ module _ {O B K T S : Type 0} (c n : ContextView O B K T S) where
   popped_block None b f F same = subst (KeepsErased c.program) (sym same) (kept-erased c.program)
   popped_block (Some v) b f F h = h.0.erased
 
+  -- an edit of what is there
+  does_kept : (d : DirectEdit) (r : Result (Option Entity) CoreError) → does c d n r → KeepsErased c.program n.program
+  does_kept (direct.PushResult p ty) r h = answered_kept r _ _ _ _ h (λ m v d. d.4.erased)
+  does_kept (direct.PopResult p) r h = answered_kept r _ _ _ _ h (λ m v d. popped_operation _ _ _ _ d.1)
+  does_kept (direct.InsertResult p i ty) r h = answered_kept r _ _ _ _ h (λ m v d. d.4.erased)
+  does_kept (direct.RemoveResult p i) r h = answered_kept r _ _ _ _ h (λ m v d. d.1.erased)
+  does_kept (direct.PushArgument b ty) r h = answered_kept r _ _ _ _ h (λ m v d. d.4.erased)
+  does_kept (direct.PopArgument b) r h = answered_kept r _ _ _ _ h (λ m v d. popped_block _ _ _ _ d.1)
+  does_kept (direct.InsertArgument b i ty) r h = answered_kept r _ _ _ _ h (λ m v d. d.4.erased)
+  does_kept (direct.RemoveArgument b i) r h = answered_kept r _ _ _ _ h (λ m v d. d.1.erased)
+  does_kept (direct.PushOperand p v) r h = answered_kept r _ _ _ _ h (λ m v d. d.1.erased)
+  does_kept (direct.PopOperand p) r h = answered_kept r _ _ _ _ h (λ m v d. d.1.erased)
+  does_kept (direct.InsertOperand p i v) r h = answered_kept r _ _ _ _ h (λ m v d. d.1.erased)
+  does_kept (direct.RemoveOperand p i) r h = answered_kept r _ _ _ _ h (λ m v d. d.1.erased)
+  does_kept (direct.ReplaceOperand p i v) r h = answered_kept r _ _ _ _ h (λ m v d. d.1.erased)
+  does_kept (direct.PushSuccessor p b) r h = answered_kept r _ _ _ _ h (λ m v d. d.1.erased)
+  does_kept (direct.PopSuccessor p) r h = answered_kept r _ _ _ _ h (λ m v d. d.1.erased)
+  does_kept (direct.InsertSuccessor p i b) r h = answered_kept r _ _ _ _ h (λ m v d. d.1.erased)
+  does_kept (direct.RemoveSuccessor p i) r h = answered_kept r _ _ _ _ h (λ m v d. d.1.erased)
+  does_kept (direct.ReplaceSuccessor p i b) r h = answered_kept r _ _ _ _ h (λ m v d. d.1.erased)
+  does_kept (direct.AddRegion p) r h = answered_kept r _ _ _ _ h (λ m v d. d.2.erased)
+  does_kept (direct.EraseRegion p i) r h = answered_kept r _ _ _ _ h (λ m v d. (d.1 m.0 m.1).erased)
+  does_kept (direct.EraseOperation p) r h = answered_kept r _ _ _ _ h (λ m v d. d.1.erased)
+  does_kept (direct.EraseBlock b) r h = answered_kept r _ _ _ _ h (λ m v d. d.1.erased)
+  does_kept (direct.MoveRegionToOp q p) r h = answered_kept r _ _ _ _ h (λ m v d. d.3)
+  does_kept (direct.DropAllUses x) r h = answered_kept r _ _ _ _ h (λ m v d. d.1.erased)
+  does_kept (direct.InsertOperationAfter p m) r h = answered_kept r _ _ _ _ h (λ m v d. (d.1 m.2.0 m.2.1.index m.2.1.here).erased)
+  does_kept (direct.InsertOperationBefore p m) r h = answered_kept r _ _ _ _ h (λ m v d. (d.1 m.2.0 m.2.1.index m.2.1.here).erased)
+  does_kept (direct.InsertOperationAtFront p b) r h = answered_kept r _ _ _ _ h (λ m v d. d.1.erased)
+  does_kept (direct.InsertOperationAtBack p b) r h = answered_kept r _ _ _ _ h (λ m v d. d.1.erased)
+  does_kept (direct.UnlinkOperation p) r h = answered_kept r _ _ _ _ h (λ m v d. (d.1 m.0 m.1.index m.1.here).erased)
+  does_kept (direct.AppendOperations b to) r h = answered_kept r _ _ _ _ h (λ m v d. d.1.erased)
+  does_kept (direct.InsertBlockAfter b to) r h = answered_kept r _ _ _ _ h (λ m v d. (d.1 m.2.0 m.2.1.index m.2.1.here).erased)
+  does_kept (direct.InsertBlockBefore b to) r h = answered_kept r _ _ _ _ h (λ m v d. (d.1 m.2.0 m.2.1.index m.2.1.here).erased)
+  does_kept (direct.InsertBlockAtFront b q) r h = answered_kept r _ _ _ _ h (λ m v d. d.1.erased)
+  does_kept (direct.InsertBlockAtBack b q) r h = answered_kept r _ _ _ _ h (λ m v d. d.1.erased)
+  does_kept (direct.UnlinkBlock b) r h = answered_kept r _ _ _ _ h (λ m v d. (d.1 m.0 m.1.index m.1.here).erased)
+  does_kept (direct.AppendBlocks q from) r h = answered_kept r _ _ _ _ h (λ m v d. d.1.erased)
+  does_kept (direct.ReplaceAllUsesWith v w) r h = answered_kept r _ _ _ _ h (λ m v d. d.1.erased)
+  does_kept (direct.ReplaceUseWith v p i w) r h = answered_kept r _ _ _ _ h (λ m v d. d.1.erased)
+  does_kept (direct.RetargetAllPredsTo b to) r h = answered_kept r _ _ _ _ h (λ m v d. d.1.erased)
+  does_kept (direct.RetargetPredTo b p i to) r h = answered_kept r _ _ _ _ h (λ m v d. d.1.erased)
+
 -- a dialect and its types
 module _ {D TypeKind AttrKind TypeBody Saved Location OpKind Attr TypeKey K T S : Type 0} (nowhere : Location) where
+  -- any edit
   step_kept : (c : ContextView (OperationData D TypeKind AttrKind TypeBody Saved Location OpKind Attr TypeKey) (BlockNotes D TypeKind AttrKind TypeBody Saved Location OpKind Attr TypeKey) K T S) (made : List (Option Entity)) (e : Edit OpKind)
       (n : ContextView (OperationData D TypeKind AttrKind TypeBody Saved Location OpKind Attr TypeKey) (BlockNotes D TypeKind AttrKind TypeBody Saved Location OpKind Attr TypeKey) K T S) (r : Result (Option Entity) CoreError)
       → step nowhere c made e n r → KeepsErased c.program n.program
-  step_kept c made (edit.PushResult op ty) n r h = named_kept c n (operation_named made op) r _ h (λ x1 h1. answered_kept c n r _ _ _ _ h1 (λ m v d. d.4.erased))
-  step_kept c made (edit.PopResult op) n r h = named_kept c n (operation_named made op) r _ h (λ x1 h1. answered_kept c n r _ _ _ _ h1 (λ m v d. popped_operation c n _ _ _ _ d.1))
-  step_kept c made (edit.InsertResult op i ty) n r h = named_kept c n (operation_named made op) r _ h (λ x1 h1. answered_kept c n r _ _ _ _ h1 (λ m v d. d.4.erased))
-  step_kept c made (edit.RemoveResult op i) n r h = named_kept c n (operation_named made op) r _ h (λ x1 h1. answered_kept c n r _ _ _ _ h1 (λ m v d. d.1.erased))
-  step_kept c made (edit.PushOperand op value) n r h = named_kept c n (operation_named made op) r _ h (λ x1 h1. named_kept c n (value_named c.program made value) r _ h1 (λ x2 h2. answered_kept c n r _ _ _ _ h2 (λ m v d. d.1.erased)))
-  step_kept c made (edit.PopOperand op) n r h = named_kept c n (operation_named made op) r _ h (λ x1 h1. answered_kept c n r _ _ _ _ h1 (λ m v d. d.1.erased))
-  step_kept c made (edit.InsertOperand op i value) n r h = named_kept c n (operation_named made op) r _ h (λ x1 h1. named_kept c n (value_named c.program made value) r _ h1 (λ x2 h2. answered_kept c n r _ _ _ _ h2 (λ m v d. d.1.erased)))
-  step_kept c made (edit.RemoveOperand op i) n r h = named_kept c n (operation_named made op) r _ h (λ x1 h1. answered_kept c n r _ _ _ _ h1 (λ m v d. d.1.erased))
-  step_kept c made (edit.ReplaceOperand op i value) n r h = named_kept c n (operation_named made op) r _ h (λ x1 h1. named_kept c n (value_named c.program made value) r _ h1 (λ x2 h2. answered_kept c n r _ _ _ _ h2 (λ m v d. d.1.erased)))
-  step_kept c made (edit.PushSuccessor op block) n r h = named_kept c n (operation_named made op) r _ h (λ x1 h1. named_kept c n (block_named made block) r _ h1 (λ x2 h2. answered_kept c n r _ _ _ _ h2 (λ m v d. d.1.erased)))
-  step_kept c made (edit.PopSuccessor op) n r h = named_kept c n (operation_named made op) r _ h (λ x1 h1. answered_kept c n r _ _ _ _ h1 (λ m v d. d.1.erased))
-  step_kept c made (edit.InsertSuccessor op i block) n r h = named_kept c n (operation_named made op) r _ h (λ x1 h1. named_kept c n (block_named made block) r _ h1 (λ x2 h2. answered_kept c n r _ _ _ _ h2 (λ m v d. d.1.erased)))
-  step_kept c made (edit.RemoveSuccessor op i) n r h = named_kept c n (operation_named made op) r _ h (λ x1 h1. answered_kept c n r _ _ _ _ h1 (λ m v d. d.1.erased))
-  step_kept c made (edit.ReplaceSuccessor op i block) n r h = named_kept c n (operation_named made op) r _ h (λ x1 h1. named_kept c n (block_named made block) r _ h1 (λ x2 h2. answered_kept c n r _ _ _ _ h2 (λ m v d. d.1.erased)))
-  step_kept c made (edit.AddRegion op) n r h = named_kept c n (operation_named made op) r _ h (λ x1 h1. answered_kept c n r _ _ _ _ h1 (λ m v d. d.2.erased))
-  step_kept c made (edit.EraseRegion op i) n r h = named_kept c n (operation_named made op) r _ h (λ x1 h1. answered_kept c n r _ _ _ _ h1 (λ m v d. (d.1 m.0 m.1).erased))
-  step_kept c made (edit.OperationDropAllUses op) n r h = named_kept c n (operation_named made op) r _ h (λ x1 h1. answered_kept c n r _ _ _ _ h1 (λ m v d. d.1.erased))
-  step_kept c made (edit.EraseOperation op) n r h = named_kept c n (operation_named made op) r _ h (λ x1 h1. answered_kept c n r _ _ _ _ h1 (λ m v d. d.1.erased))
-  step_kept c made (edit.MoveRegionToOp region op) n r h = named_kept c n (region_named c.program made region) r _ h (λ x1 h1. named_kept c n (operation_named made op) r _ h1 (λ x2 h2. answered_kept c n r _ _ _ _ h2 (λ m v d. d.3)))
-  step_kept c made (edit.RegionDropAllUses region) n r h = named_kept c n (region_named c.program made region) r _ h (λ x1 h1. answered_kept c n r _ _ _ _ h1 (λ m v d. d.1.erased))
-  step_kept c made (edit.PushArgument block ty) n r h = named_kept c n (block_named made block) r _ h (λ x1 h1. answered_kept c n r _ _ _ _ h1 (λ m v d. d.4.erased))
-  step_kept c made (edit.PopArgument block) n r h = named_kept c n (block_named made block) r _ h (λ x1 h1. answered_kept c n r _ _ _ _ h1 (λ m v d. popped_block c n _ _ _ _ d.1))
-  step_kept c made (edit.InsertArgument block i ty) n r h = named_kept c n (block_named made block) r _ h (λ x1 h1. answered_kept c n r _ _ _ _ h1 (λ m v d. d.4.erased))
-  step_kept c made (edit.RemoveArgument block i) n r h = named_kept c n (block_named made block) r _ h (λ x1 h1. answered_kept c n r _ _ _ _ h1 (λ m v d. d.1.erased))
-  step_kept c made (edit.BlockDropAllUses block) n r h = named_kept c n (block_named made block) r _ h (λ x1 h1. answered_kept c n r _ _ _ _ h1 (λ m v d. d.1.erased))
-  step_kept c made (edit.EraseBlock block) n r h = named_kept c n (block_named made block) r _ h (λ x1 h1. answered_kept c n r _ _ _ _ h1 (λ m v d. d.1.erased))
-  step_kept c made (edit.RetargetSomePredsTo block places other) n r h = named_kept c n (block_named made block) r _ h (λ x1 h1. named_kept c n (block_named made other) r _ h1 (λ x2 h2. answered_kept c n r _ _ _ _ h2 (λ m v d. d.3.erased)))
-  step_kept c made (edit.RetargetAllPredsTo block other) n r h = named_kept c n (block_named made block) r _ h (λ x1 h1. named_kept c n (block_named made other) r _ h1 (λ x2 h2. answered_kept c n r _ _ _ _ h2 (λ m v d. d.1.erased)))
-  step_kept c made (edit.RetargetPredTo block place other) n r h = named_kept c n (block_named made block) r _ h (λ x1 h1. named_kept c n (operation_named made place.user_op) r _ h1 (λ x2 h2. named_kept c n (block_named made other) r _ h2 (λ x3 h3. answered_kept c n r _ _ _ _ h3 (λ m v d. d.1.erased))))
-  step_kept c made (edit.ReplaceSomeUsesWith value places other) n r h = named_kept c n (value_named c.program made value) r _ h (λ x1 h1. named_kept c n (value_named c.program made other) r _ h1 (λ x2 h2. answered_kept c n r _ _ _ _ h2 (λ m v d. d.3.erased)))
-  step_kept c made (edit.ReplaceAllUsesWith value other) n r h = named_kept c n (value_named c.program made value) r _ h (λ x1 h1. named_kept c n (value_named c.program made other) r _ h1 (λ x2 h2. answered_kept c n r _ _ _ _ h2 (λ m v d. d.1.erased)))
-  step_kept c made (edit.ReplaceUseWith value place other) n r h = named_kept c n (value_named c.program made value) r _ h (λ x1 h1. named_kept c n (operation_named made place.user_op) r _ h1 (λ x2 h2. named_kept c n (value_named c.program made other) r _ h2 (λ x3 h3. answered_kept c n r _ _ _ _ h3 (λ m v d. d.1.erased))))
-  step_kept c made (edit.InsertOperationAfter op mark) n r h = named_kept c n (operation_named made op) r _ h (λ x1 h1. named_kept c n (operation_named made mark) r _ h1 (λ x2 h2. answered_kept c n r _ _ _ _ h2 (λ m v d. (d.1 m.2.0 m.2.1.index m.2.1.here).erased)))
-  step_kept c made (edit.InsertOperationBefore op mark) n r h = named_kept c n (operation_named made op) r _ h (λ x1 h1. named_kept c n (operation_named made mark) r _ h1 (λ x2 h2. answered_kept c n r _ _ _ _ h2 (λ m v d. (d.1 m.2.0 m.2.1.index m.2.1.here).erased)))
-  step_kept c made (edit.InsertOperationAtFront op block) n r h = named_kept c n (operation_named made op) r _ h (λ x1 h1. named_kept c n (block_named made block) r _ h1 (λ x2 h2. answered_kept c n r _ _ _ _ h2 (λ m v d. d.1.erased)))
-  step_kept c made (edit.InsertOperationAtBack op block) n r h = named_kept c n (operation_named made op) r _ h (λ x1 h1. named_kept c n (block_named made block) r _ h1 (λ x2 h2. answered_kept c n r _ _ _ _ h2 (λ m v d. d.1.erased)))
-  step_kept c made (edit.UnlinkOperation op) n r h = named_kept c n (operation_named made op) r _ h (λ x1 h1. answered_kept c n r _ _ _ _ h1 (λ m v d. (d.1 m.0 m.1.index m.1.here).erased))
-  step_kept c made (edit.InsertBlockAfter block mark) n r h = named_kept c n (block_named made block) r _ h (λ x1 h1. named_kept c n (block_named made mark) r _ h1 (λ x2 h2. answered_kept c n r _ _ _ _ h2 (λ m v d. (d.1 m.2.0 m.2.1.index m.2.1.here).erased)))
-  step_kept c made (edit.InsertBlockBefore block mark) n r h = named_kept c n (block_named made block) r _ h (λ x1 h1. named_kept c n (block_named made mark) r _ h1 (λ x2 h2. answered_kept c n r _ _ _ _ h2 (λ m v d. (d.1 m.2.0 m.2.1.index m.2.1.here).erased)))
-  step_kept c made (edit.InsertBlockAtFront block region) n r h = named_kept c n (block_named made block) r _ h (λ x1 h1. named_kept c n (region_named c.program made region) r _ h1 (λ x2 h2. answered_kept c n r _ _ _ _ h2 (λ m v d. d.1.erased)))
-  step_kept c made (edit.InsertBlockAtBack block region) n r h = named_kept c n (block_named made block) r _ h (λ x1 h1. named_kept c n (region_named c.program made region) r _ h1 (λ x2 h2. answered_kept c n r _ _ _ _ h2 (λ m v d. d.1.erased)))
-  step_kept c made (edit.UnlinkBlock block) n r h = named_kept c n (block_named made block) r _ h (λ x1 h1. answered_kept c n r _ _ _ _ h1 (λ m v d. (d.1 m.0 m.1.index m.1.here).erased))
-  step_kept c made (edit.AppendOperations donee donor) n r h = named_kept c n (block_named made donee) r _ h (λ x1 h1. named_kept c n (block_named made donor) r _ h1 (λ x2 h2. answered_kept c n r _ _ _ _ h2 (λ m v d. d.1.erased)))
-  step_kept c made (edit.AppendBlocks donee donor) n r h = named_kept c n (region_named c.program made donee) r _ h (λ x1 h1. named_kept c n (region_named c.program made donor) r _ h1 (λ x2 h2. answered_kept c n r _ _ _ _ h2 (λ m v d. d.1.erased)))
   step_kept c made (edit.NewOperation kind result_types operands successors num_regions) n r h = answered_kept c n r _ _ _ _ h (λ m v d. d.6.erased)
   step_kept c made (edit.NewBlock label argument_types) n r h = answered_kept c n r _ _ _ _ h (λ m v d. d.4.erased)
+  step_kept c made (edit.RetargetSomePredsTo block places other) n r h = named_kept c n (block_named made block) r _ h (λ x1 h1. named_kept c n (block_named made other) r _ h1 (λ x2 h2. answered_kept c n r _ _ _ _ h2 (λ m v d. d.3.erased)))
+  step_kept c made (edit.ReplaceSomeUsesWith value places other) n r h = named_kept c n (value_named c.program made value) r _ h (λ x1 h1. named_kept c n (value_named c.program made other) r _ h1 (λ x2 h2. answered_kept c n r _ _ _ _ h2 (λ m v d. d.3.erased)))
+  step_kept c made e n r h = named_kept c n (resolved c.program made e) r _ h (λ d h1. does_kept c n d r h1)
 
   -- a list of edits
   pub runs_kept : (c : ContextView (OperationData D TypeKind AttrKind TypeBody Saved Location OpKind Attr TypeKey) (BlockNotes D TypeKind AttrKind TypeBody Saved Location OpKind Attr TypeKey) K T S) (made : List (Option Entity)) (es : List (Edit OpKind))

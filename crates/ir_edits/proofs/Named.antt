@@ -1,40 +1,44 @@
 -- What is named, and what is refused where a name stands for nothing.
-use Rattle.std.proofs.Common.{◌≡◌, Bool, true, false, true≢false, Option, Some, None, is_some, MatchOption, Result, Ok, Err, sym, ap, ◌∙◌, subst}
+use Rattle.std.proofs.Common.{◌≡◌, true≢false, refl, List, Option, Some, None, is_some, MatchOption, Result, Err, sym, ap, ◌∙◌, subst}
 use Rattle.ir_context.specs.Views.{ContextView}
 use Rattle.ir_context.specs.declared.errors.CoreError.{CoreError}
 use Rattle.ir_context.specs.declared.errors.CoreError.TheVariants.{EditNotAllowed}
+use Rattle.ir_context.specs.declared.notes.OperationData.{OperationData}
+use Rattle.ir_context.specs.declared.notes.BlockNotes.{BlockNotes}
+use Rattle.ir_edits.specs.declared.edit.Entity.{Entity}
+use Rattle.ir_edits.specs.declared.edit.Edit.{Edit}
+use Rattle.ir_edits.specs.declared.edit.Edit.TheVariants as edit
+use Rattle.ir_edits.specs.Resolving.{resolved}
 use Rattle.ir_edits.specs.Same.{IsSame}
-use Rattle.ir_edits.specs.Steps.{Named}
+use Rattle.ir_edits.specs.Steps.{Named, does, step}
 
--- an answer is missing refusal, and something is not nothing
-abbrev is_refusal : {X E : Type 0} → Result X E → Bool
-is_refusal (Ok x) = false
-is_refusal (Err e) = true
-
-pub ok_no_err : {X E : Type 0} (x : X) (e : E) → Ok x ≡ Err e → ⊥
-ok_no_err x e h = true≢false (sym (ap is_refusal h))
-
+-- something is not nothing
 pub none_no_some : {X : Type 0} (x : X) → None ≡ Some x → ⊥
 none_no_some x h = true≢false (sym (ap is_some h))
 
--- where the name was found
-pub named_ok : {X O B K T S R : Type 0} (c n : ContextView O B K T S) (r : Result R CoreError) (P : X → Type 0) (o : Option X) (answer : Result X CoreError) (x : X)
-    → MatchOption o (answer ≡ Err EditNotAllowed) (λ y. answer ≡ Ok y) → answer ≡ Ok x → P x → Named o c n r P
-named_ok c n r P None answer x missing answered h = absurd (ok_no_err x EditNotAllowed (sym answered ∙ missing))
-named_ok c n r P (Some y) answer x found answered h = let e : Ok x ≡ Ok y = sym answered ∙ found in let q : x ≡ y = cc in subst P q h
+module _ {X O B K T S R : Type 0} (c n : ContextView O B K T S) (r : Result R CoreError) (P : X → Type 0) where
+  -- where the name stands for something
+  pub named_some : (o found : Option X) (x : X) → found ≡ o → found ≡ Some x → P x → Named o c n r P
+  named_some None found x same here h = absurd (none_no_some x (sym same ∙ here))
+  named_some (Some y) found x same here h = let e : Some x ≡ Some y = sym here ∙ same in let q : x ≡ y = cc in subst P q h
 
--- where it was not
-pub named_err : {X O B K T S R : Type 0} (c n : ContextView O B K T S) (r : Result R CoreError) (P : X → Type 0) (o : Option X) (answer : Result X CoreError) (e : CoreError)
-    → MatchOption o (answer ≡ Err EditNotAllowed) (λ y. answer ≡ Ok y) → answer ≡ Err e → r ≡ Err e → IsSame c n → Named o c n r P
-named_err c n r P None answer e missing refusal refused same = let s : Err e ≡ Err EditNotAllowed = sym refusal ∙ missing in let q : e ≡ EditNotAllowed = cc in (refused ∙ ap Err q, same)
-named_err c n r P (Some y) answer e found refusal refused same = absurd (ok_no_err y e (sym found ∙ refusal))
+  -- where it does not
+  pub named_none : (o found : Option X) → found ≡ o → found ≡ None → r ≡ Err EditNotAllowed → IsSame c n → Named o c n r P
+  named_none None found same none refused still = (refused, still)
+  named_none (Some y) found same none refused still = absurd (none_no_some y (sym none ∙ same))
 
--- what was found is what is named
-pub was_named : {X : Type 0} (o : Option X) (answer : Result X CoreError) (x : X) → MatchOption o (answer ≡ Err EditNotAllowed) (λ y. answer ≡ Ok y) → answer ≡ Ok x → o ≡ Some x
-was_named None answer x missing answered = absurd (ok_no_err x EditNotAllowed (sym answered ∙ missing))
-was_named (Some y) answer x found answered = let e : Ok y ≡ Ok x = sym found ∙ answered in let q : y ≡ x = cc in ap Some q
-
--- what is named is found
-pub not_refused : {X : Type 0} (o : Option X) (answer : Result X CoreError) (x : X) (e : CoreError) → o ≡ Some x → MatchOption o (answer ≡ Err EditNotAllowed) (λ y. answer ≡ Ok y) → answer ≡ Err e → ⊥
-not_refused None answer x e here missing refusal = none_no_some x here
-not_refused (Some y) answer x e here found refusal = ok_no_err y e (sym found ∙ refusal)
+-- a dialect and its types
+module _ {D TypeKind AttrKind TypeBody Saved Location OpKind Attr TypeKey K T S : Type 0} (nowhere : Location) where
+  -- an edit without lists is made of what its names stand for
+  pub of_names : (c : ContextView (OperationData D TypeKind AttrKind TypeBody Saved Location OpKind Attr TypeKey) (BlockNotes D TypeKind AttrKind TypeBody Saved Location OpKind Attr TypeKey) K T S) (made : List (Option Entity)) (e : Edit OpKind)
+      (n : ContextView (OperationData D TypeKind AttrKind TypeBody Saved Location OpKind Attr TypeKey) (BlockNotes D TypeKind AttrKind TypeBody Saved Location OpKind Attr TypeKey) K T S) (r : Result (Option Entity) CoreError)
+      → ((kind : _) (tys : _) (operands : _) (successors : _) (count : _) → e ≡ edit.NewOperation kind tys operands successors count → ⊥)
+      → ((label : _) (tys : _) → e ≡ edit.NewBlock label tys → ⊥)
+      → ((block : _) (places : _) (other : _) → e ≡ edit.RetargetSomePredsTo block places other → ⊥)
+      → ((value : _) (places : _) (other : _) → e ≡ edit.ReplaceSomeUsesWith value places other → ⊥)
+      → Named (resolved c.program made e) c n r (λ d. does c d n r) → step nowhere c made e n r
+  of_names c made (edit.NewOperation kind tys operands successors count) n r never _ _ _ h = absurd (never kind tys operands successors count refl)
+  of_names c made (edit.NewBlock label tys) n r _ never _ _ h = absurd (never label tys refl)
+  of_names c made (edit.RetargetSomePredsTo block places other) n r _ _ never _ h = absurd (never block places other refl)
+  of_names c made (edit.ReplaceSomeUsesWith value places other) n r _ _ _ never h = absurd (never value places other refl)
+  of_names c made e n r _ _ _ _ h = h

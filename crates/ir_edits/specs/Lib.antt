@@ -1,4 +1,5 @@
 pub mod Naming
+pub mod Resolving
 pub mod Answered
 pub mod Same
 pub mod OperandEdits

@@ -1,9 +1,11 @@
 //! One edit, whichever it is.
-ghost use Rattle.ir_edits.specs.Steps.{step};
+ghost use Rattle.ir_edits.specs.Steps.{does, step};
 
+use crate::direct_edit::DirectEdit;
+use crate::resolve::resolve;
 use crate::{
-    Edit, Entity, argument_edits, block_list_edits, holder_edits, making, operand_edits,
-    operation_list_edits, result_edits, successor_edits, use_edits,
+    Edit, Entity, arguments, block_lists, holders, listed_uses, making, naming, operands,
+    operation_lists, results, successors, uses,
 };
 use ir_context::{Context, CoreError};
 use ir_types::DialectTables;
@@ -40,99 +42,114 @@ pub fn apply<D: DialectTables>(
             label,
             argument_types,
         } => making::new_block(ctx, label, argument_types),
-        Edit::PushOperand(op, value) => operand_edits::push_operand(ctx, made, *op, *value),
-        Edit::PopOperand(op) => operand_edits::pop_operand(ctx, made, *op),
-        Edit::InsertOperand(op, index, value) => operand_edits::insert_operand(
-            ctx, made, *op, *index, *value,
+        Edit::RetargetSomePredsTo(block, places, other) => {
+            let Some(block) = naming::block(made, *block) else {
+                return Err(CoreError::EditNotAllowed);
+            };
+            let Some(other) = naming::block(made, *other) else {
+                return Err(CoreError::EditNotAllowed);
+            };
+            listed_uses::retarget_some(ctx, made, block, places, other)
+        }
+        Edit::ReplaceSomeUsesWith(value, places, other) => {
+            let Some(value) = naming::value(ctx, made, *value) else {
+                return Err(CoreError::EditNotAllowed);
+            };
+            let Some(other) = naming::value(ctx, made, *other) else {
+                return Err(CoreError::EditNotAllowed);
+            };
+            listed_uses::replace_some_uses(ctx, made, value, places, other)
+        }
+        _ => match resolve(ctx.program(), made, edit) {
+            Some(direct) => apply_direct(ctx, direct),
+            None => Err(CoreError::EditNotAllowed),
+        },
+    }
+}
+
+/// Makes an edit of what is there.
+///
+/// # Errors
+/// `EditNotAllowed` where the edit may not be made, `Memory` and `CounterFull` as the call that it stands for. Nothing is
+/// changed then.
+fn apply_direct<D: DialectTables>(
+    ctx: &mut Context<D>,
+    edit: DirectEdit,
+) -> Result<Option<Entity>, CoreError>
+    ensures { does ctx.old edit ctx.new result }
+{
+    match edit {
+        DirectEdit::PushResult(op, ty) => results::push_result(ctx, op, ty),
+        DirectEdit::PopResult(op) => results::pop_result(ctx, op),
+        DirectEdit::InsertResult(op, index, ty) => results::insert_result(ctx, op, index, ty),
+        DirectEdit::RemoveResult(op, index) => results::remove_result(ctx, op, index),
+        DirectEdit::PushArgument(block, ty) => arguments::push_argument(ctx, block, ty),
+        DirectEdit::PopArgument(block) => arguments::pop_argument(ctx, block),
+        DirectEdit::InsertArgument(block, index, ty) => arguments::insert_argument(
+            ctx, block, index, ty,
         ),
-        Edit::RemoveOperand(op, index) => operand_edits::remove_operand(ctx, made, *op, *index),
-        Edit::ReplaceOperand(op, index, value) => operand_edits::replace_operand(
-            ctx, made, *op, *index, *value,
+        DirectEdit::RemoveArgument(block, index) => arguments::remove_argument(ctx, block, index),
+        DirectEdit::PushOperand(op, value) => operands::push_operand(ctx, op, value),
+        DirectEdit::PopOperand(op) => operands::pop_operand(ctx, op),
+        DirectEdit::InsertOperand(op, index, value) => operands::insert_operand(
+            ctx, op, index, value,
         ),
-        Edit::PushSuccessor(op, block) => successor_edits::push_successor(ctx, made, *op, *block),
-        Edit::PopSuccessor(op) => successor_edits::pop_successor(ctx, made, *op),
-        Edit::InsertSuccessor(op, index, block) => successor_edits::insert_successor(
-            ctx, made, *op, *index, *block,
+        DirectEdit::RemoveOperand(op, index) => operands::remove_operand(ctx, op, index),
+        DirectEdit::ReplaceOperand(op, index, value) => operands::replace_operand(
+            ctx, op, index, value,
         ),
-        Edit::RemoveSuccessor(op, index) => successor_edits::remove_successor(
-            ctx, made, *op, *index,
+        DirectEdit::PushSuccessor(op, block) => successors::push_successor(ctx, op, block),
+        DirectEdit::PopSuccessor(op) => successors::pop_successor(ctx, op),
+        DirectEdit::InsertSuccessor(op, index, block) => successors::insert_successor(
+            ctx, op, index, block,
         ),
-        Edit::ReplaceSuccessor(op, index, block) => successor_edits::replace_successor(
-            ctx, made, *op, *index, *block,
+        DirectEdit::RemoveSuccessor(op, index) => successors::remove_successor(ctx, op, index),
+        DirectEdit::ReplaceSuccessor(op, index, block) => successors::replace_successor(
+            ctx, op, index, block,
         ),
-        Edit::PushResult(op, ty) => result_edits::push_result(ctx, made, *op, *ty),
-        Edit::PopResult(op) => result_edits::pop_result(ctx, made, *op),
-        Edit::InsertResult(op, index, ty) => result_edits::insert_result(
-            ctx, made, *op, *index, *ty,
+        DirectEdit::AddRegion(op) => holders::add_region(ctx, op),
+        DirectEdit::EraseRegion(op, index) => holders::erase_region(ctx, op, index),
+        DirectEdit::EraseOperation(op) => holders::erase_operation(ctx, op),
+        DirectEdit::EraseBlock(block) => holders::erase_block(ctx, block),
+        DirectEdit::MoveRegionToOp(region, op) => holders::move_region_to_op(ctx, region, op),
+        DirectEdit::DropAllUses(node) => holders::drop_all_uses(ctx, node),
+        DirectEdit::InsertOperationAfter(op, mark) => operation_lists::insert_operation_after(
+            ctx, op, mark,
         ),
-        Edit::RemoveResult(op, index) => result_edits::remove_result(ctx, made, *op, *index),
-        Edit::PushArgument(block, ty) => argument_edits::push_argument(ctx, made, *block, *ty),
-        Edit::PopArgument(block) => argument_edits::pop_argument(ctx, made, *block),
-        Edit::InsertArgument(block, index, ty) => argument_edits::insert_argument(
-            ctx, made, *block, *index, *ty,
+        DirectEdit::InsertOperationBefore(op, mark) => operation_lists::insert_operation_before(
+            ctx, op, mark,
         ),
-        Edit::RemoveArgument(block, index) => argument_edits::remove_argument(
-            ctx, made, *block, *index,
+        DirectEdit::InsertOperationAtFront(op, block) => operation_lists::insert_operation_at_front(
+            ctx, op, block,
         ),
-        Edit::AddRegion(op) => holder_edits::add_region(ctx, made, *op),
-        Edit::EraseRegion(op, index) => holder_edits::erase_region(ctx, made, *op, *index),
-        Edit::OperationDropAllUses(op) => holder_edits::drop_operation_uses(ctx, made, *op),
-        Edit::EraseOperation(op) => holder_edits::erase_operation(ctx, made, *op),
-        Edit::MoveRegionToOp(region, op) => holder_edits::move_region_to_op(
-            ctx, made, *region, *op,
+        DirectEdit::InsertOperationAtBack(op, block) => operation_lists::insert_operation_at_back(
+            ctx, op, block,
         ),
-        Edit::RegionDropAllUses(region) => holder_edits::drop_region_uses(ctx, made, *region),
-        Edit::BlockDropAllUses(block) => holder_edits::drop_block_uses(ctx, made, *block),
-        Edit::EraseBlock(block) => holder_edits::erase_block(ctx, made, *block),
-        Edit::InsertOperationAfter(op, mark) => operation_list_edits::insert_operation_after(
-            ctx, made, *op, *mark,
+        DirectEdit::UnlinkOperation(op) => operation_lists::unlink_operation(ctx, op),
+        DirectEdit::AppendOperations(donee, donor) => operation_lists::append_operations(
+            ctx, donee, donor,
         ),
-        Edit::InsertOperationBefore(op, mark) => operation_list_edits::insert_operation_before(
-            ctx, made, *op, *mark,
+        DirectEdit::InsertBlockAfter(block, mark) => block_lists::insert_block_after(
+            ctx, block, mark,
         ),
-        Edit::InsertOperationAtFront(op, block) => operation_list_edits::insert_operation_at_front(
-            ctx, made, *op, *block,
+        DirectEdit::InsertBlockBefore(block, mark) => block_lists::insert_block_before(
+            ctx, block, mark,
         ),
-        Edit::InsertOperationAtBack(op, block) => operation_list_edits::insert_operation_at_back(
-            ctx, made, *op, *block,
+        DirectEdit::InsertBlockAtFront(block, region) => block_lists::insert_block_at_front(
+            ctx, block, region,
         ),
-        Edit::UnlinkOperation(op) => operation_list_edits::unlink_operation(ctx, made, *op),
-        Edit::AppendOperations(donee, donor) => operation_list_edits::append_operations(
-            ctx, made, *donee, *donor,
+        DirectEdit::InsertBlockAtBack(block, region) => block_lists::insert_block_at_back(
+            ctx, block, region,
         ),
-        Edit::InsertBlockAfter(block, mark) => block_list_edits::insert_block_after(
-            ctx, made, *block, *mark,
+        DirectEdit::UnlinkBlock(block) => block_lists::unlink_block(ctx, block),
+        DirectEdit::AppendBlocks(donee, donor) => block_lists::append_blocks(ctx, donee, donor),
+        DirectEdit::ReplaceAllUsesWith(value, other) => uses::replace_all_uses(ctx, value, other),
+        DirectEdit::ReplaceUseWith(value, op, index, other) => uses::replace_use(
+            ctx, value, op, index, other,
         ),
-        Edit::InsertBlockBefore(block, mark) => block_list_edits::insert_block_before(
-            ctx, made, *block, *mark,
-        ),
-        Edit::InsertBlockAtFront(block, region) => block_list_edits::insert_block_at_front(
-            ctx, made, *block, *region,
-        ),
-        Edit::InsertBlockAtBack(block, region) => block_list_edits::insert_block_at_back(
-            ctx, made, *block, *region,
-        ),
-        Edit::UnlinkBlock(block) => block_list_edits::unlink_block(ctx, made, *block),
-        Edit::AppendBlocks(donee, donor) => block_list_edits::append_blocks(
-            ctx, made, *donee, *donor,
-        ),
-        Edit::RetargetAllPredsTo(block, other) => use_edits::retarget_all(
-            ctx, made, *block, *other,
-        ),
-        Edit::ReplaceAllUsesWith(value, other) => use_edits::replace_all_uses(
-            ctx, made, *value, *other,
-        ),
-        Edit::RetargetPredTo(block, place, other) => use_edits::retarget_one(
-            ctx, made, *block, *place, *other,
-        ),
-        Edit::ReplaceUseWith(value, place, other) => use_edits::replace_use(
-            ctx, made, *value, *place, *other,
-        ),
-        Edit::RetargetSomePredsTo(block, places, other) => use_edits::retarget_some(
-            ctx, made, *block, places, *other,
-        ),
-        Edit::ReplaceSomeUsesWith(value, places, other) => use_edits::replace_some_uses(
-            ctx, made, *value, places, *other,
+        DirectEdit::RetargetAllPredsTo(block, other) => uses::retarget_all(ctx, block, other),
+        DirectEdit::RetargetPredTo(block, op, index, other) => uses::retarget_one(
+            ctx, block, op, index, other,
         ),
     }
 }

@@ -3,27 +3,21 @@
 #![tactic(auto)]
 
 mod apply;
-mod argument_edits;
 mod arguments;
-mod block_list_edits;
 mod block_lists;
+mod direct_edit;
 mod edit;
-mod holder_edits;
 mod holders;
 mod listed_uses;
 mod making;
 mod name_lists;
 mod naming;
-mod operand_edits;
 mod operands;
-mod operation_list_edits;
 mod operation_lists;
-mod result_edits;
+mod resolve;
 mod results;
 mod run;
-mod successor_edits;
 mod successors;
-mod use_edits;
 mod uses;
 
 pub use edit::{At, Edit, Entity, PlaceAt, RegionAt, ValueAt};

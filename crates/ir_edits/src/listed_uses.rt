@@ -8,7 +8,7 @@ ghost use Rattle.ir_edits.specs.Naming.{operation_named, NameEach};
 ghost use Rattle.ir_edits.specs.UseEdits.{AreListedUses, ReplacesSomeUses, RetargetsSome};
 
 use crate::uses::{is_operand, is_successor};
-use crate::{At, Entity, PlaceAt, naming};
+use crate::{Entity, PlaceAt, naming};
 use ir_context::{BlockCalls, Context, CoreError, PredecessorCalls, UseCalls, ValueCalls};
 use ir_program::{BasicBlock, Operation, Ptr, Use, Value};
 use ir_types::DialectTables;
@@ -24,24 +24,14 @@ fn push_found<T: Drop>(uses: &mut Vec<T>, found: Option<T>) -> Result<(), AllocE
     Ok(())
 }
 
-/// Whether the name stands for an operation.
-fn names_operation(made: &[Option<Entity>], name: At<Ptr<Operation>>) -> bool
-    ensures { IsTrue result ↔ ((p : Ptr Operation) × (operation_named made.now name ≡ Some p) × Unit {0}) }
-{
-    match naming::operation(made, name) {
-        Ok(_) => true,
-        Err(_) => false,
-    }
-}
-
 /// Whether the operation of each place is named.
 fn are_named(made: &[Option<Entity>], places: &[PlaceAt]) -> bool
     ensures { IsTrue result ↔ NameEach (λ (at : PlaceAt). operation_named made.now at.user_op) (λ _. Unit {0}) places.now }
 {
     for place in places {
-        if !names_operation(made, place.user_op) {
+        let Some(_) = naming::operation(made, place.user_op) else {
             return false;
-        }
+        };
     }
     true
 }
@@ -56,9 +46,7 @@ fn operand_use<D: DialectTables>(
     ensures found { IfSome result (λ u. (operation_named made.now place.user_op ≡ Some u.user_op) × (u.index ≡ place.index) × (u.def ≡ value) × (slice_get (operands_at ctx.now.program u.user_op) u.index ≡ Some value)) }
     ensures none { IfNone result ((p : Ptr Operation) → operation_named made.now place.user_op ≡ Some p → slice_get (operands_at ctx.now.program p) place.index ≡ Some value → ⊥) }
 {
-    let Ok(user_op) = naming::operation(made, place.user_op) else {
-        return None;
-    };
+    let user_op = naming::operation(made, place.user_op)?;
     if !is_operand(ctx, user_op, place.index, value) {
         return None;
     }
@@ -119,9 +107,7 @@ fn successor_use<D: DialectTables>(
     ensures found { IfSome result (λ u. (operation_named made.now place.user_op ≡ Some u.user_op) × (u.index ≡ place.index) × (u.def ≡ block) × (slice_get (successors_at ctx.now.program u.user_op) u.index ≡ Some block)) }
     ensures none { IfNone result ((p : Ptr Operation) → operation_named made.now place.user_op ≡ Some p → slice_get (successors_at ctx.now.program p) place.index ≡ Some block → ⊥) }
 {
-    let Ok(user_op) = naming::operation(made, place.user_op) else {
-        return None;
-    };
+    let user_op = naming::operation(made, place.user_op)?;
     if !is_successor(ctx, user_op, place.index, block) {
         return None;
     }

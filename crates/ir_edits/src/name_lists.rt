@@ -28,20 +28,6 @@ pub fn are_known<D: DialectTables>(ctx: &Context<D>, types: &[TypeHandle]) -> bo
     true
 }
 
-/// Whether the name stands for a value that stands at its definer.
-fn names_live_value<D: DialectTables>(
-    ctx: &Context<D>,
-    made: &[Option<Entity>],
-    name: ValueAt,
-) -> bool
-    ensures { IsTrue result ↔ ((v : Value) × (value_named ctx.now.program made.now name ≡ Some v) × IsLiveValue ctx.now.program v) }
-{
-    match value(ctx, made, name) {
-        Ok(value) => value.is_live(ctx),
-        Err(_) => false,
-    }
-}
-
 /// Whether each of the names stands for a value that stands at its definer.
 pub fn name_live_values<D: DialectTables>(
     ctx: &Context<D>,
@@ -51,7 +37,10 @@ pub fn name_live_values<D: DialectTables>(
     ensures { IsTrue result ↔ NameEach (value_named ctx.now.program made.now) (IsLiveValue ctx.now.program) names.now }
 {
     for name in names {
-        if !names_live_value(ctx, made, *name) {
+        let Some(value) = value(ctx, made, *name) else {
+            return false;
+        };
+        if !value.is_live(ctx) {
             return false;
         }
     }
@@ -74,25 +63,11 @@ pub fn values<D: DialectTables>(
     let mut values = Vec::new(alloc);
     for name in names {
         match value(ctx, made, *name) {
-            Ok(value) => values.push(value)?,
-            Err(_) => unreachable!(),
+            Some(value) => values.push(value)?,
+            None => unreachable!(),
         }
     }
     Ok(values)
-}
-
-/// Whether the name stands for a block that is there.
-fn names_live_block<D: DialectTables>(
-    ctx: &Context<D>,
-    made: &[Option<Entity>],
-    name: At<Ptr<BasicBlock>>,
-) -> bool
-    ensures { IsTrue result ↔ ((b : Ptr BasicBlock) × (block_named made.now name ≡ Some b) × IsSome (block_at ctx.now.program b)) }
-{
-    match block(made, name) {
-        Ok(block) => block.is_live(ctx),
-        Err(_) => false,
-    }
 }
 
 /// Whether each of the names stands for a block that is there.
@@ -104,7 +79,10 @@ pub fn name_live_blocks<D: DialectTables>(
     ensures { IsTrue result ↔ NameEach (block_named made.now) (λ b. IsSome (block_at ctx.now.program b)) names.now }
 {
     for name in names {
-        if !names_live_block(ctx, made, *name) {
+        let Some(block) = block(made, *name) else {
+            return false;
+        };
+        if !block.is_live(ctx) {
             return false;
         }
     }
@@ -128,8 +106,8 @@ pub fn blocks<D: DialectTables>(
     let mut blocks = Vec::new(alloc);
     for name in names {
         match block(made, *name) {
-            Ok(block) => blocks.push(block)?,
-            Err(_) => unreachable!(),
+            Some(block) => blocks.push(block)?,
+            None => unreachable!(),
         }
     }
     Ok(blocks)

@@ -1,13 +1,12 @@
 //! What the names in a list of edits stand for.
-ghost use Rattle.std.specs.Prelude.{◌≡◌, Ok, Err, MatchOption, slice_get};
+ghost use Rattle.std.specs.Prelude.{◌≡◌, slice_get};
 ghost use Rattle.ir_program.specs.Program.{results_at, arguments_at, value_in};
 ghost use Rattle.ir_program.specs.Lists.{regions_in};
-ghost use Rattle.ir_context.specs.declared.errors.CoreError.TheVariants.{EditNotAllowed};
 ghost use Rattle.ir_edits.specs.Naming.{made_by, operation_named, block_named, region_named, value_named};
 
 use crate::{At, Entity, RegionAt, ValueAt};
-use ir_context::{ArgumentCalls, BlockCalls, Context, CoreError, OperationCalls, ResultCalls};
-use ir_program::{BasicBlock, Operation, Ptr, Region, Value};
+use ir_context::Context;
+use ir_program::{BasicBlock, Operation, Program, Ptr, Region, Value};
 use ir_types::DialectTables;
 
 /// What the edit with this number made, if it is an earlier one that made something.
@@ -20,122 +19,106 @@ fn made_by(made: &[Option<Entity>], number: usize) -> Option<Entity>
     }
 }
 
-/// The operation that is named.
-///
-/// # Errors
-/// `EditNotAllowed` where the name stands for none.
-pub fn operation(
+/// The operation that is named, if the name stands for one.
+pub fn operation(made: &[Option<Entity>], at: At<Ptr<Operation>>) -> Option<Ptr<Operation>>
+    ensures { result ≡ operation_named made.now at }
+{
+    match at {
+        At::Handle(op) => Some(op),
+        At::Made(number) => match made_by(made, number) {
+            Some(Entity::Operation(op)) => Some(op),
+            _ => None,
+        },
+    }
+}
+
+/// The block that is named, if the name stands for one.
+pub fn block(made: &[Option<Entity>], at: At<Ptr<BasicBlock>>) -> Option<Ptr<BasicBlock>>
+    ensures { result ≡ block_named made.now at }
+{
+    match at {
+        At::Handle(block) => Some(block),
+        At::Made(number) => match made_by(made, number) {
+            Some(Entity::Block(block)) => Some(block),
+            _ => None,
+        },
+    }
+}
+
+/// The result at an index of an operation's results, if it has so many.
+fn result_of<O, B>(program: &Program<O, B>, op: Ptr<Operation>, index: usize) -> Option<Value>
+    ensures { result ≡ value_in (results_at program.now op) index }
+{
+    if !program.has_operation(op) || index >= program.result_count(op) {
+        return None;
+    }
+    Some(program.result(op, index))
+}
+
+/// The argument at an index of a block's arguments, if it has so many.
+fn argument_of<O, B>(program: &Program<O, B>, block: Ptr<BasicBlock>, index: usize) -> Option<Value>
+    ensures { result ≡ value_in (arguments_at program.now block) index }
+{
+    if !program.has_block(block) || index >= program.argument_count(block) {
+        return None;
+    }
+    Some(program.argument(block, index))
+}
+
+/// The value that is named, if the name stands for one.
+pub fn value_in_program<O, B>(
+    program: &Program<O, B>,
     made: &[Option<Entity>],
-    at: At<Ptr<Operation>>,
-) -> Result<Ptr<Operation>, CoreError>
-    ensures { MatchOption (operation_named made.now at) (result ≡ Err EditNotAllowed) (λ p. result ≡ Ok p) }
+    at: ValueAt,
+) -> Option<Value>
+    ensures { result ≡ value_named program.now made.now at }
 {
     match at {
-        At::Handle(op) => Ok(op),
-        At::Made(number) => match made_by(made, number) {
-            Some(Entity::Operation(op)) => Ok(op),
-            _ => Err(CoreError::EditNotAllowed),
+        ValueAt::Handle(value) => Some(value),
+        ValueAt::Made(number) => match made_by(made, number) {
+            Some(Entity::Value(value)) => Some(value),
+            _ => None,
         },
+        ValueAt::ResultOf(at, index) => result_of(program, operation(made, at)?, index),
+        ValueAt::ArgumentOf(at, index) => argument_of(program, block(made, at)?, index),
     }
 }
 
-/// The block that is named.
-///
-/// # Errors
-/// `EditNotAllowed` where the name stands for none.
-pub fn block(made: &[Option<Entity>], at: At<Ptr<BasicBlock>>) -> Result<Ptr<BasicBlock>, CoreError>
-    ensures { MatchOption (block_named made.now at) (result ≡ Err EditNotAllowed) (λ b. result ≡ Ok b) }
-{
-    match at {
-        At::Handle(block) => Ok(block),
-        At::Made(number) => match made_by(made, number) {
-            Some(Entity::Block(block)) => Ok(block),
-            _ => Err(CoreError::EditNotAllowed),
-        },
-    }
-}
-
-/// The result at an index of an operation's results.
-fn result_of<D: DialectTables>(
-    ctx: &Context<D>,
-    op: Ptr<Operation>,
-    index: usize,
-) -> Result<Value, CoreError>
-    ensures { MatchOption (value_in (results_at ctx.now.program op) index) (result ≡ Err EditNotAllowed) (λ v. result ≡ Ok v) }
-{
-    if !op.is_live(ctx) || index >= op.get_num_results(ctx) {
-        return Err(CoreError::EditNotAllowed);
-    }
-    Ok(op.get_result(ctx, index))
-}
-
-/// The argument at an index of a block's arguments.
-fn argument_of<D: DialectTables>(
-    ctx: &Context<D>,
-    block: Ptr<BasicBlock>,
-    index: usize,
-) -> Result<Value, CoreError>
-    ensures { MatchOption (value_in (arguments_at ctx.now.program block) index) (result ≡ Err EditNotAllowed) (λ v. result ≡ Ok v) }
-{
-    if !block.is_live(ctx) || index >= block.get_num_arguments(ctx) {
-        return Err(CoreError::EditNotAllowed);
-    }
-    Ok(block.get_argument(ctx, index))
-}
-
-/// The value that is named.
-///
-/// # Errors
-/// `EditNotAllowed` where the name stands for none.
+/// The value that is named in a context, if the name stands for one.
 pub fn value<D: DialectTables>(
     ctx: &Context<D>,
     made: &[Option<Entity>],
     at: ValueAt,
-) -> Result<Value, CoreError>
-    ensures { MatchOption (value_named ctx.now.program made.now at) (result ≡ Err EditNotAllowed) (λ v. result ≡ Ok v) }
+) -> Option<Value>
+    ensures { result ≡ value_named ctx.now.program made.now at }
 {
-    match at {
-        ValueAt::Handle(value) => Ok(value),
-        ValueAt::Made(number) => match made_by(made, number) {
-            Some(Entity::Value(value)) => Ok(value),
-            _ => Err(CoreError::EditNotAllowed),
-        },
-        ValueAt::ResultOf(at, index) => result_of(ctx, operation(made, at)?, index),
-        ValueAt::ArgumentOf(at, index) => argument_of(ctx, block(made, at)?, index),
-    }
+    value_in_program(ctx.program(), made, at)
 }
 
-/// The region that is named.
-///
-/// # Errors
-/// `EditNotAllowed` where the name stands for none.
-pub fn region<D: DialectTables>(
-    ctx: &Context<D>,
+/// The region that is named, if the name stands for one.
+pub fn region<O, B>(
+    program: &Program<O, B>,
     made: &[Option<Entity>],
     at: RegionAt,
-) -> Result<Ptr<Region>, CoreError>
-    ensures { MatchOption (region_named ctx.now.program made.now at) (result ≡ Err EditNotAllowed) (λ r. result ≡ Ok r) }
+) -> Option<Ptr<Region>>
+    ensures { result ≡ region_named program.now made.now at }
 {
     match at {
-        RegionAt::Handle(region) => Ok(region),
+        RegionAt::Handle(region) => Some(region),
         RegionAt::Made(number) => match made_by(made, number) {
-            Some(Entity::Region(region)) => Ok(region),
-            _ => Err(CoreError::EditNotAllowed),
+            Some(Entity::Region(region)) => Some(region),
+            _ => None,
         },
-        RegionAt::RegionOf(at, index) => region_of(ctx, operation(made, at)?, index),
+        RegionAt::RegionOf(at, index) => region_of(program, operation(made, at)?, index),
     }
 }
 
-/// The region at an index of an operation's regions.
-fn region_of<D: DialectTables>(
-    ctx: &Context<D>,
-    op: Ptr<Operation>,
-    index: usize,
-) -> Result<Ptr<Region>, CoreError>
-    ensures { MatchOption (slice_get (regions_in ctx.now.program op) index) (result ≡ Err EditNotAllowed) (λ r. result ≡ Ok r) }
+/// The region at an index of an operation's regions, if it has so many.
+fn region_of<O, B>(program: &Program<O, B>, op: Ptr<Operation>, index: usize) -> Option<Ptr<Region>>
+    ensures { result ≡ slice_get (regions_in program.now op) index }
 {
-    if !op.is_live(ctx) || index >= op.num_regions(ctx) {
-        return Err(CoreError::EditNotAllowed);
+    if !program.has_operation(op) {
+        return None;
     }
-    Ok(op.get_region(ctx, index))
+    program.region(op, index)
 }

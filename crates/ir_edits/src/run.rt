@@ -31,7 +31,8 @@ pub trait RunEdits<D: DialectTables> {
         &mut self,
         edits: Vec<Edit<D::OpKind>>,
     ) -> Result<Vec<Option<Entity>>, (usize, CoreError)>
-        ensures { Runs D.nowhere (context self.old) [] edits.items (context self.new) (listed result) ⊎ ((result ≡ Err (0, Memory)) × (context self.new ≡ context self.old)) };
+        ensures runs { Runs D.nowhere (context self.old) [] edits.items (context self.new) (listed result) ⊎ ((result ≡ Err (0, Memory)) × (context self.new ≡ context self.old)) }
+        ensures erased { KeepsErased (context self.old).program (context self.new).program };
 }
 
 impl<D: DialectTables> RunEdits<D> for Context<D> {
@@ -41,7 +42,8 @@ impl<D: DialectTables> RunEdits<D> for Context<D> {
         &mut self,
         edits: Vec<Edit<D::OpKind>>,
     ) -> Result<Vec<Option<Entity>>, (usize, CoreError)>
-        ensures { Runs D.nowhere self.old [] edits.items self.new (listed result) ⊎ ((result ≡ Err (0, Memory)) × (self.new ≡ self.old)) }
+        ensures runs { Runs D.nowhere self.old [] edits.items self.new (listed result) ⊎ ((result ≡ Err (0, Memory)) × (self.new ≡ self.old)) }
+        ensures erased { KeepsErased self.old.program self.new.program }
     {
         let Ok(mut made) = room_for(self.allocator(), edits.len()) else {
             return Err((0, CoreError::Memory));
@@ -72,6 +74,7 @@ fn run_all<D: DialectTables>(
     requires { length made.old.items ≡ length edits.now }
     ensures all { OnOk result (Runs D.nowhere ctx.old [] edits.now ctx.new (Ok made.new.items)) }
     ensures refused { IfErr result (λ e. Runs D.nowhere ctx.old [] edits.now ctx.new (Err e)) }
+    ensures erased { KeepsErased ctx.old.program ctx.new.program }
 {
     for index in 0..edits.len() {
         match apply(ctx, &made[..index], &edits[index]) {

@@ -7,15 +7,16 @@ use Rattle.ir_edits.specs.Naming.{operation_named}
 use Rattle.ir_edits.proofs.Lists.{one-more}
 use Rattle.ir_edits.proofs.listed_uses.are_named.Goals as goal
 
-pub returns-then-not-names_operation : goal.returns-then-not-names_operation
-returns-then-not-names_operation c = (
+-- the place's operation is named by nothing
+pub returns-in_default : goal.returns-in_default
+returns-in_default c = (
   λ h. cc,
-  λ all. sym c.if-not-names_operation.true ∙ c.names_operation.ensures.1 (all c.loop-place.place-index _ (slice_get-get_or _ _ _ c.loop-place-test.true)),
+  λ all. let h = all c.loop-place.place-index _ (slice_get-get_or _ _ _ c.loop-place-test.true) in absurd (c.in_default.not-Some h.0 (c.operation.ensures ∙ h.1)),
 )
 
 pub loop-place-preserved : goal.loop-place-preserved
 loop-place-preserved c = one-more (λ (place : PlaceAt). (p : Ptr Operation) × (operation_named c.args.made.now place.user_op ≡ Some p) × Unit {0}) c.args.places.now c.loop-place.place-index _ (slice_get-get_or _ _ _ c.loop-place-test.true)
-    (c.names_operation.ensures.0 c.if-not-names_operation.false) c.loop-place.invariant
+    (c.in-Some.field-0, sym c.operation.ensures ∙ c.in-Some.is, tt) c.loop-place.invariant
 
 pub returns : goal.returns
 returns c = (

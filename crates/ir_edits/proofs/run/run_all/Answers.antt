@@ -1,7 +1,8 @@
-use Rattle.std.proofs.Common.{◌≡◌, ◌<◌, length, take, drop, Some, Ok, Err, subst, ap, ◌∙◌, sym, arith}
+use Rattle.std.proofs.Common.{◌≡◌, ◌<◌, [], length, take, drop, Some, Ok, Err, subst, ap, ◌∙◌, sym, arith}
 use Rattle.std.proofs.lemmas.List.{length-set}
 use Rattle.std.proofs.lemmas.Option.{slice_get-get_or}
 use Rattle.ir_edits.specs.Steps.{step}
+use Rattle.ir_edits.proofs.Kept.{runs_kept}
 use Rattle.ir_edits.proofs.Running.{ComesTo, came, stopped, ended}
 use Rattle.ir_edits.proofs.run.run_all.Goals as goal
 
@@ -13,6 +14,9 @@ returns-in-Err-clause-refused g c =
     lt
     (subst (λ made. step g.D.DialectTables.nowhere c.loop-index.ctx (take c.loop-index.index made) c.index-edits-index.result c.apply.new.ctx (Err c.in-Err.refusal)) c.deref.ensures.value c.in-Err.ensures)
     c.loop-index.invariant.1
+
+pub returns-in-Err-clause-erased : goal.returns-in-Err-clause-erased
+returns-in-Err-clause-erased g c = runs_kept g.D.DialectTables.nowhere c.args.ctx.now [] c.args.edits.now c.apply.new.ctx (Err (c.loop-index.index, c.in-Err.refusal)) (returns-in-Err-clause-refused g c)
 
 pub loop-index-preserved : goal.loop-index-preserved
 loop-index-preserved g c =
@@ -30,3 +34,6 @@ returns-clause-all g c =
     let done : c.loop-index.index ≡ length c.args.edits.now = omega (arith, c.loop-index-test.false, c.loop-index.auto.index-end) in
     ended g.D.DialectTables.nowhere c.args.ctx.now c.loop-index.ctx c.args.edits.now c.loop-index.made.items c.loop-index.invariant.0
     (subst (λ k. ComesTo g.D.DialectTables.nowhere c.args.ctx.now c.args.edits.now c.loop-index.ctx (take k c.loop-index.made.items) (drop k c.args.edits.now)) done c.loop-index.invariant.1)
+
+pub returns-clause-erased : goal.returns-clause-erased
+returns-clause-erased g c = runs_kept g.D.DialectTables.nowhere c.args.ctx.now [] c.args.edits.now c.loop-index.ctx (Ok c.loop-index.made.items) (returns-clause-all g c)
