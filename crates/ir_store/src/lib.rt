@@ -15,6 +15,3 @@ pub use context::Context;
 pub use mark::Mark;
 pub use pointer::{BasicBlock, Operation, Ptr, Region};
 pub use value::{DefiningEntity, Definition, Value};
-
-#[cfg(test)]
-mod tests;

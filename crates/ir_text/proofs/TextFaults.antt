@@ -1,17 +1,19 @@
 -- The faults of a text, and how it is refused.
-use Rattle.std.proofs.Common.{◌≡◌, ℕ, List, length, Option, Some, None, Result, Ok, Err, OnOk, IfErr, IsOk, refl, sym, subst, ◌∙◌, ◌⊎◌, inl, inr}
-use Rattle.ir_text.specs.declared.grammar.Event.{Event}
-use Rattle.ir_text.specs.declared.grammar.Stop.{Stop}
-use Rattle.ir_text.specs.declared.tokens.Token.{Token}
-use Rattle.ir_text.specs.declared.faults.Fault.{Fault}
-use Rattle.ir_text.specs.declared.faults.TextFault.{TextFault}
-use Rattle.ir_text.specs.declared.faults.TextFault.TheVariants as told
-use Rattle.ir_text.specs.Faults.{IsFirstOf, IsNamed}
-use Rattle.ir_text.specs.Depth.{IsTooDeep}
-use Rattle.ir_text.specs.Scopes.{HasScopeFault}
-use Rattle.ir_text.specs.ValueFaults.{HasNumberFault, HasNamesFault}
-use Rattle.ir_text.specs.Texts.{Language, token_text, IsSyntaxFault, HasFault, IsTextFault, IsRefusal}
-use Rattle.ir_text.proofs.FirstFault.{first_of_law}
+use Rattle.std.proofs.Common.{◌≡◌, ℕ, List, length, Option, Some, None, Result, Ok, Err, IfErr, IsOk, refl, sym, subst, ◌∙◌, ◌⊎◌, inl, inr}
+use Rattle.ir_grammar.specs.declared.grammar.Event.{Event}
+use Rattle.ir_grammar.specs.declared.grammar.Stop.{Stop}
+use Rattle.ir_tokens.specs.declared.tokens.Token.{Token}
+use Rattle.ir_tokens.specs.declared.faults.Fault.{Fault}
+use Rattle.ir_tokens.specs.declared.faults.TextFault.{TextFault}
+use Rattle.ir_tokens.specs.declared.faults.TextFault.TheVariants as told
+use Rattle.ir_tokens.specs.Faults.{IsFirstOf, IsNamed}
+use Rattle.ir_scopes.specs.Depth.{IsTooDeep}
+use Rattle.ir_scopes.specs.Scopes.{HasScopeFault}
+use Rattle.ir_forest.specs.ValueFaults.{HasNumberFault, HasNamesFault}
+use Rattle.ir_verdicts.specs.Texts.{IsSyntaxFault, HasFault, IsTextFault, IsRefusal}
+use Rattle.ir_formats.specs.Words.{token_text}
+use Rattle.ir_forest.specs.Language.{Language}
+use Rattle.ir_tokens.proofs.FirstFault.{first_of_law}
 
 -- ---- the first fault
 
@@ -68,10 +70,6 @@ refusal l cs (told.TooDeep line column) h = h
 refusal l cs (told.Scope line column cause) h = h
 
 -- ---- what is known whatever is answered
-
-pub always_ok : {T E : Type 0} (r : Result T E) (P : Type 0) → P → OnOk r P
-always_ok (Ok x) P p = p
-always_ok (Err e) P p = tt
 
 pub never_wrong : {T E : Type 0} (r : Result T E) (e : E) → IsOk r → r ≡ Err e → ⊥
 never_wrong (Ok x) e is w = let wrong : Ok x ≡ Err e = w in cc

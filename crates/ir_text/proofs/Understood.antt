@@ -1,11 +1,10 @@
 -- What is assembled of a text stands, once its operands are linked, for what the text says.
-use Rattle.std.proofs.Common.{◌≡◌, ℕ, zero, suc, ◌+◌, ◌<◌, ◌≤◌, false, List, [], ◌∷◌, map, length, take, Option, Some, None, option_and_then, slice_get, slice_index, Result, Ok, Err, OnOk, IfOk, refl, sym, subst, ap, cond, ◌∙◌, arith, inl, inr}
+use Rattle.std.proofs.Common.{◌≡◌, ℕ, zero, suc, ◌+◌, ◌<◌, ◌≤◌, false, List, [], ◌∷◌, map, length, Option, Some, None, option_and_then, slice_get, slice_index, Result, Ok, Err, OnOk, IfOk, refl, sym, subst, ap, cond, ◌∙◌, arith, inl, inr}
 use Rattle.std.proofs.lemmas.Option.{slice_get-get_or, slice_get_within, get_or_from_slice_get}
-use Rattle.std.proofs.lemmas.List.{length-take-le, length-map}
+use Rattle.std.proofs.lemmas.List.{length-map}
 use Rattle.std.proofs.lemmas.Bool.{eq-eqb}
 use Rattle.std.specs.Option.{option_map_or}
 use Rattle.std.specs.Prelude.{IsSomeAnd}
-use Rattle.std.specs.Str.{chars}
 use Rattle.ir_store.specs.declared.mark.Mark.{Mark}
 use Rattle.ir_store.specs.declared.pointer.Ptr.{Ptr}
 use Rattle.ir_store.specs.declared.pointer.Operation.{Operation}
@@ -14,38 +13,36 @@ use Rattle.ir_store.specs.Views.{ContextView, OperationView}
 use Rattle.ir_store.specs.Context.{entity_at, operation_at, operands_of, parent_block_of, IsLiveOperation, IsLiveDefiner}
 use Rattle.ir_print.specs.Shown.{Saying, Pairs}
 use Rattle.ir_print.specs.Standing.{Named}
-use Rattle.ir_text.specs.declared.assembling.Assembly.{Assembly}
-use Rattle.ir_text.specs.declared.assembling.Pending.{Pending}
-use Rattle.ir_text.specs.declared.grammar.Event.{Event}
-use Rattle.ir_text.specs.declared.grammar.Grammar.{Grammar}
-use Rattle.ir_text.specs.declared.grammar.Stop.{Stop}
-use Rattle.ir_text.specs.declared.grammar.Stop.TheVariants as stops
-use Rattle.ir_text.specs.declared.scopes.Resolution.{Resolution}
-use Rattle.ir_text.specs.declared.tokens.Token.{Token}
-use Rattle.ir_text.specs.Building.{built}
-use Rattle.ir_text.specs.Closed.{definitions_of}
-use Rattle.ir_text.specs.Faults.{IsNamed}
-use Rattle.ir_text.specs.Linking.{value_at, meant, AreMeant, CanLink, Links}
-use Rattle.ir_text.specs.Meaning.{renamed}
-use Rattle.ir_text.specs.Nesting.{at_root, at_end}
-use Rattle.ir_text.specs.Progress.{Leads}
-use Rattle.ir_text.specs.Raised.{defined_from, mentioned_from, IsAssembled}
-use Rattle.ir_text.specs.Reading.{tooks, through, IsMostly, Reads}
-use Rattle.ir_text.specs.Rules.{words_of}
-use Rattle.ir_text.specs.Words.{kind_of}
-use Rattle.ir_text.specs.Scopes.{OwnTokens, IsResolved, AreApart, definitions, mentions}
-use Rattle.ir_text.specs.Texts.{Language, IsReading, token_text, HasFault}
+use Rattle.ir_building.specs.declared.assembly.Assembly.{Assembly}
+use Rattle.ir_building.specs.declared.assembly.Pending.{Pending}
+use Rattle.ir_grammar.specs.declared.grammar.Event.{Event}
+use Rattle.ir_grammar.specs.declared.grammar.Stop.{Stop}
+use Rattle.ir_scopes.specs.declared.scopes.Resolution.{Resolution}
+use Rattle.ir_tokens.specs.declared.tokens.Token.{Token}
+use Rattle.ir_forest.specs.Building.{built}
+use Rattle.ir_forest.specs.Closed.{definitions_of}
+use Rattle.ir_tokens.specs.Faults.{IsNamed}
+use Rattle.ir_building.specs.Linking.{value_at, meant, AreMeant, CanLink, Links}
+use Rattle.ir_forest.specs.Meaning.{renamed}
+use Rattle.ir_grammar.specs.Nesting.{at_root, at_end, OwnTokens}
+use Rattle.ir_forest.specs.Progress.{Leads}
+use Rattle.ir_building.specs.Raised.{IsAssembled}
+use Rattle.ir_scopes.specs.Naming.{defined_from, mentioned_from}
+use Rattle.ir_grammar.specs.Reading.{tooks}
+use Rattle.ir_scopes.specs.Scopes.{IsResolved, AreApart, definitions, mentions}
+use Rattle.ir_verdicts.specs.Texts.{IsReading, HasFault}
+use Rattle.ir_formats.specs.Words.{token_text}
+use Rattle.ir_forest.specs.Language.{Language}
 use Rattle.ir_text.specs.Understood.{IsRead}
-use Rattle.ir_text.specs.Worlds.{IsLater, End, Means, Reaches}
-use Rattle.ir_text.proofs.Apart.{are_apart}
-use Rattle.ir_text.proofs.BuiltTrees.{built_ended, built_forest, leads_nests}
-use Rattle.ir_text.proofs.Closings.{mentions_end}
-use Rattle.ir_text.proofs.DefinedTokens.{defined_tokens, many_defined, defined_site, mentioned_site, definitions_taken, mentions_taken}
-use Rattle.ir_text.proofs.Derivations.{tooks_append}
-use Rattle.ir_text.proofs.Identifiers.{through_tooks}
-use Rattle.ir_text.proofs.Renamed.{renamed_operation}
-use Rattle.ir_text.proofs.TreeRenamed.{definitions_renamed}
-use Rattle.ir_text.proofs.TreeScopes.{definition_tokens}
+use Rattle.ir_building.specs.Worlds.{IsLater, End, Means, Reaches}
+use Rattle.ir_scopes.proofs.Apart.{are_apart}
+use Rattle.ir_forest.proofs.BuiltTrees.{built_ended, built_forest, leads_nests}
+use Rattle.ir_trees.proofs.Closings.{mentions_end}
+use Rattle.ir_trees.proofs.DefinedTokens.{defined_tokens, many_defined, defined_site, mentioned_site, definitions_taken, mentions_taken}
+use Rattle.ir_trees.proofs.Renamed.{renamed_operation}
+use Rattle.ir_trees.proofs.TreeRenamed.{definitions_renamed}
+use Rattle.ir_trees.proofs.TreeScopes.{definition_tokens}
+use Rattle.ir_verdicts.proofs.TokensTaken.{reading_taken}
 
 -- ---- lists of values, all made
 
@@ -134,23 +131,6 @@ module _ {K A T : Type 0} (s t : ContextView K A T) (values : List (Option Value
       go None e =
           let there : operation_at s p ≡ slice_get s.operations p.slot = ap (λ b. cond b (slice_get s.operations p.slot) None) (eq-eqb p.version 1 live.version) in
           absurd (nothing s.operations p.slot live.slot (sym there ∙ e))
-
--- ---- how many tokens reading takes
-
-most_taken : (front : List ℕ) (all es : List Event) → IsMostly (through all (length front)) es → tooks es ≤ length front
-most_taken front all es m = omega (arith, through_tooks all (length front), tooks_append es m.0, ap tooks m.1)
-
-reads_taken : (g : Grammar) (many n : ℕ) (ks : List ℕ) (stop : Stop) (es : List Event) → Reads g 0 many ks stop n es → tooks es ≤ length ks
-reads_taken g many n ks stops.Text es r = let few = most_taken (take n ks) r.1.some.1 es r.1.some.3 in omega (arith, length-take-le n ks r.0.within, r.0.within)
-reads_taken g many n ks stops.Stuck es r = let few = most_taken (take n ks) r.1.some.1 es r.1.some.3 in omega (arith, length-take-le n ks r.0.within, r.0.within)
-reads_taken g many n ks stops.Deep es r = omega (arith, r.took, r.within)
-
--- reading takes no more tokens than there are
-pub reading_taken : (l : Language) (cs : List ℕ) (ts : List Token) (names : List ℕ) (stop : Stop) (n : ℕ) (es : List Event) → IsReading l cs ts names stop n es → tooks es ≤ length ts
-reading_taken l cs ts names stop n es r =
-    let kind : Token → ℕ = kind_of (map chars (words_of l.formats)) cs in
-    let few = reads_taken r.reads.0 64 n (map kind ts) stop es r.reads.2 in
-    omega (arith, few, length-map ts kind)
 
 -- ---- the whole text
 

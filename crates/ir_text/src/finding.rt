@@ -1,21 +1,23 @@
 //! The fault of a text that is named: the first of all that it has.
 ghost use Rattle.std.specs.Prelude.{◌≡◌, ◌⊎◌, ℕ, Bool, List, length, Option, Some, None, Err, OnOk, IfOk, IfErr, IsOk, MatchResult};
-ghost use Rattle.ir_text.specs.declared.faults.Fault.{Fault};
-ghost use Rattle.ir_text.specs.declared.faults.TextFault.TheVariants.{Memory, CounterFull};
-ghost use Rattle.ir_text.specs.declared.grammar.Event.{Event};
-ghost use Rattle.ir_text.specs.declared.opened.AssemblyFault.TheVariants as assembly;
-ghost use Rattle.ir_text.specs.declared.tokens.Token.{Token};
-ghost use Rattle.ir_text.specs.Faults.{IsNamed};
-ghost use Rattle.ir_text.specs.Scopes.{HasScopeFault, IsResolved, IsScopeFault};
-ghost use Rattle.ir_text.specs.Texts.{Language, token_text, IsSyntaxFault, HasFault, IsRefusal};
-ghost use Rattle.ir_text.specs.ValueFaults.{HasNumberFault, HasNamesFault};
+ghost use Rattle.ir_tokens.specs.declared.faults.Fault.{Fault};
+ghost use Rattle.ir_tokens.specs.declared.faults.TextFault.TheVariants.{Memory, CounterFull};
+ghost use Rattle.ir_grammar.specs.declared.grammar.Event.{Event};
+ghost use Rattle.ir_building.specs.declared.opened.AssemblyFault.TheVariants as assembly;
+ghost use Rattle.ir_tokens.specs.declared.tokens.Token.{Token};
+ghost use Rattle.ir_tokens.specs.Faults.{IsNamed};
+ghost use Rattle.ir_scopes.specs.Scopes.{HasScopeFault, IsResolved, IsScopeFault};
+ghost use Rattle.ir_verdicts.specs.Texts.{IsSyntaxFault, HasFault, IsRefusal};
+ghost use Rattle.ir_formats.specs.Words.{token_text};
+ghost use Rattle.ir_forest.specs.Language.{Language};
+ghost use Rattle.ir_forest.specs.ValueFaults.{HasNumberFault, HasNamesFault};
 
-use crate::assembling::Assembly;
-use crate::depth::too_deep;
-use crate::faults::{Fault, FaultKind, TextFault, first_of};
-use crate::grammar::{Reading, Stop};
-use crate::opened::AssemblyFault;
-use crate::scopes::{Resolution, ScopeFault};
+use ir_building::assembly::Assembly;
+use ir_building::opened::AssemblyFault;
+use ir_grammar::grammar::{Reading, Stop};
+use ir_scopes::depth::too_deep;
+use ir_scopes::scopes::{Resolution, ScopeFault};
+use ir_tokens::faults::{Fault, FaultKind, TextFault, first_of};
 
 /// The fault that no text of the grammar goes on with the next token, of so many.
 fn syntax_fault(reading: &Reading, tokens: usize) -> Option<Fault>

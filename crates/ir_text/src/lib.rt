@@ -14,35 +14,12 @@
 //! read one list of events.
 #![tactic(auto)]
 
-mod assembling;
-mod beginning;
-pub mod building_laws;
-mod check;
-mod depth;
-mod ending;
-mod faults;
 mod finding;
-mod given;
-pub mod grammar;
 pub mod laws;
-mod linking;
-mod making;
-mod opened;
 mod reading;
-mod rules;
-mod scan;
-mod scopes;
-mod sites;
-mod source;
-mod table;
-#[cfg(test)]
-mod tests;
-pub mod tokens;
-mod words;
 
-pub use faults::{ScopeCause, TextFault};
-pub use given::{PartTable, ReadDialect};
-pub use grammar::{Action, Class, Event, Facts, Grammar, Reading, Rule, Stop, Symbol};
+pub use ir_forest::laws as building_laws;
+pub use ir_formats::{PartTable, ReadDialect, table_of};
+pub use ir_grammar::{Action, Class, Event, Facts, Grammar, Reading, Rule, Stop, Symbol, grammar};
+pub use ir_tokens::{ScopeCause, TextFault, Token, TokenKind, place_after, tokens, tokens_of};
 pub use reading::top_level_parse;
-pub use rules::table_of;
-pub use tokens::{Token, TokenKind, place_after, tokens_of};

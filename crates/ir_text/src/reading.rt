@@ -2,26 +2,27 @@
 ghost use Rattle.std.specs.Prelude.{◌≡◌, ◌≤◌, ℕ, List, length, Some, None, Err, OnOk, OnErr, IfOk, IfErr, IsSomeAnd};
 ghost use Rattle.ir_store.specs.Context.{IsLiveOperation, LacksNumbers, parent_block_of};
 ghost use Rattle.ir_store.specs.Marks.{CanRewind, KeepsBelow, IsSameTree, mark_of};
-ghost use Rattle.ir_text.specs.declared.faults.TextFault.TheVariants.{Memory, CounterFull};
-ghost use Rattle.ir_text.specs.Linking.{CanLink, Links};
-ghost use Rattle.ir_text.specs.Raised.{AreWaiting};
-ghost use Rattle.ir_text.specs.Texts.{language_of, HasDefinitions, IsReading, IsRefusal, place_of, tell};
+ghost use Rattle.ir_tokens.specs.declared.faults.TextFault.TheVariants.{Memory, CounterFull};
+ghost use Rattle.ir_building.specs.Linking.{CanLink, Links};
+ghost use Rattle.ir_building.specs.Raised.{AreWaiting};
+ghost use Rattle.ir_verdicts.specs.Texts.{language_of, HasDefinitions, IsReading, IsRefusal, place_of, tell};
 ghost use Rattle.ir_text.specs.Understood.{IsRead};
 
-use crate::assembling::{Assembly, assemble};
-use crate::depth::DEEPEST;
-use crate::faults::{Fault, FaultKind, ScopeCause, TextFault};
 use crate::finding::{fault_of, scope_fault, value_fault};
-use crate::given::ReadDialect;
-use crate::grammar::Reading;
-use crate::linking::link;
-use crate::rules::{DialectGrammar, grammar_of};
-use crate::scopes::{Resolution, resolve};
-use crate::source::Source;
-use crate::tokens::{place_after, tokens_of};
-use crate::words::{classify, spelled};
+use ir_assembling::assembling::assemble;
+use ir_building::assembly::Assembly;
+use ir_building::linking::link;
+use ir_building::source::Source;
+use ir_formats::given::ReadDialect;
+use ir_formats::rules::{DialectGrammar, grammar_of};
+use ir_formats::words::{classify, spelled};
+use ir_grammar::grammar::Reading;
 use ir_print::TextDialect;
+use ir_scopes::depth::DEEPEST;
+use ir_scopes::scopes::{Resolution, resolve};
 use ir_store::{Context, Mark, Operation, Ptr};
+use ir_tokens::faults::{Fault, FaultKind, ScopeCause, TextFault};
+use ir_tokens::tokens::{place_after, tokens_of};
 use std::alloc::Global;
 
 /// A fault as users see it, with its line and column.

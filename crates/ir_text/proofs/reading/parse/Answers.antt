@@ -1,9 +1,9 @@
 use Rattle.std.proofs.Common.{sym, subst, ap, map, length, arith, ◌≡◌, ◌∙◌}
 use Rattle.std.specs.Str.{chars}
-use Rattle.ir_text.specs.Tokens.{ReadsAs}
-use Rattle.ir_text.specs.Words.{spellings, kind_of, AlikeInNumber}
-use Rattle.ir_text.specs.Rules.{texts, words_of}
-use Rattle.ir_text.specs.Reading.{Reads}
+use Rattle.ir_tokens.specs.Tokens.{ReadsAs}
+use Rattle.ir_formats.specs.Words.{spellings, kind_of, AlikeInNumber}
+use Rattle.ir_formats.specs.Rules.{texts, words_of}
+use Rattle.ir_grammar.specs.Reading.{Reads}
 use Rattle.ir_text.proofs.reading.parse.Goals as goal
 
 pub understand-requires-clause-reading : goal.understand-requires-clause-reading

@@ -2,21 +2,23 @@ use Rattle.std.proofs.Common.{◌≡◌, length, refl, subst, sym, ap, ◌∙◌
 use Rattle.std.proofs.lemmas.Result.{err_from_is_err_and, IfOk-at_ok, MatchResult-at_ok}
 use Rattle.std.specs.Prelude.{IsSomeAnd}
 use Rattle.ir_store.specs.Context.{IsLiveOperation, LacksNumbers}
-use Rattle.ir_text.specs.declared.faults.TextFault.TheVariants.{CounterFull}
-use Rattle.ir_text.specs.Nesting.{at_root, at_end, Nests}
-use Rattle.ir_text.specs.Progress.{Leads}
-use Rattle.ir_text.specs.Identifiers.{AreSpelt}
-use Rattle.ir_text.specs.Building.{first_refusal}
-use Rattle.ir_text.specs.Faults.{IsNamed}
-use Rattle.ir_text.specs.Raised.{defined_from, mentioned_from, IsAssembled}
-use Rattle.ir_text.specs.Scopes.{definitions, HasScopeFault, IsResolved, IsScopeFault}
-use Rattle.ir_text.specs.Texts.{language_of, token_text, HasFault}
-use Rattle.ir_text.proofs.DefinedTokens.{many_defined}
+use Rattle.ir_tokens.specs.declared.faults.TextFault.TheVariants.{CounterFull}
+use Rattle.ir_grammar.specs.Nesting.{at_root, at_end, Nests}
+use Rattle.ir_forest.specs.Progress.{Leads}
+use Rattle.ir_forest.specs.Identifiers.{AreSpelt}
+use Rattle.ir_forest.specs.Building.{first_refusal}
+use Rattle.ir_tokens.specs.Faults.{IsNamed}
+use Rattle.ir_building.specs.Raised.{IsAssembled}
+use Rattle.ir_scopes.specs.Naming.{defined_from, mentioned_from}
+use Rattle.ir_scopes.specs.Scopes.{definitions, HasScopeFault, IsResolved, IsScopeFault}
+use Rattle.ir_verdicts.specs.Texts.{language_of, HasFault}
+use Rattle.ir_formats.specs.Words.{token_text}
+use Rattle.ir_trees.proofs.DefinedTokens.{many_defined}
 use Rattle.ir_text.proofs.Understood.{can_link, answers_read, answers_apart}
-use Rattle.ir_text.proofs.Ordered.{own_tokens}
-use Rattle.ir_text.proofs.Identifiers.{reading_spelt}
+use Rattle.ir_formats.proofs.Ordered.{own_tokens}
+use Rattle.ir_verdicts.proofs.Identifiers.{reading_spelt}
 use Rattle.ir_text.proofs.TextFaults.{refusal}
-use Rattle.ir_text.proofs.TextReadings.{read_in_order, read_whole, values_named}
+use Rattle.ir_verdicts.proofs.TextReadings.{read_in_order, read_whole, values_named}
 use Rattle.ir_text.proofs.reading.understand.Goals as goal
 
 pub returns-in_err-values-clause-fault : goal.returns-in_err-values-clause-fault

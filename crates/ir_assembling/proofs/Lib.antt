@@ -1,0 +1,13 @@
+pub mod Following
+pub mod Stepping
+pub mod Operating
+pub mod RaisingBlocks
+pub mod RaisingOperations
+pub mod RaisingBegins
+pub mod RaisingLeaves
+pub mod Gathering
+pub mod Settling
+pub mod RaisingValues
+pub mod RaisingHeaders
+pub mod RaisingSteps
+pub mod SettledDefinitions

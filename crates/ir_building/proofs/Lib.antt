@@ -1,0 +1,15 @@
+pub mod PlacingGrowth
+pub mod Growing
+pub mod ShownLater
+pub mod Digits
+pub mod Framing
+pub mod Ended
+pub mod Holding
+pub mod Opening
+pub mod Moving
+pub mod Defining
+pub mod Filling
+pub mod LaterWorlds
+pub mod BuiltBehind
+pub mod Rising
+pub mod Linked

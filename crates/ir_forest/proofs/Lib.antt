@@ -1,0 +1,5 @@
+pub mod BuiltSteps
+pub mod BuiltTrees
+pub mod BuiltEnds
+pub mod BuiltRefusals
+pub mod PiecesBehind

@@ -1,0 +1,9 @@
+pub mod Forest
+pub mod Identifiers
+pub mod Meaning
+pub mod ValueFaults
+pub mod Building
+pub mod Progress
+pub mod Closed
+pub mod Bare
+pub mod Language

@@ -1,0 +1,58 @@
+-- Faults of the types, attributes and operations of a text.
+use Rattle.std.specs.Prelude.{◌≡◌, ◌≢◌, ℕ, zero, suc, List, [], ◌∷◌, ◌++◌, map, length, Option, Some, None}
+use Rattle.ir_names.specs.Tree.{Trees, node, no_tree, a_tree}
+use Rattle.ir_print.specs.Pieces.{Pieces, Values}
+use Rattle.ir_grammar.specs.declared.grammar.Action.{Action}
+use Rattle.ir_grammar.specs.declared.grammar.Action.TheVariants as act
+use Rattle.ir_grammar.specs.declared.grammar.Event.{Event}
+use Rattle.ir_tokens.specs.declared.faults.Fault.{Fault}
+use Rattle.ir_tokens.specs.declared.faults.FaultKind.TheVariants as kinds
+use Rattle.ir_forest.specs.Forest.{Deed, deeds, Step, deeds_of, AreWhole, HasTree}
+use Rattle.ir_forest.specs.Meaning.{pieces_in}
+
+-- the number of the first piece that is refused in what an action begins
+abbrev pub refused : Values → Action → Pieces → Option ℕ
+refused values (act.BeginType kind) ps = values.refused_type kind ps
+refused values (act.BeginAttribute kind) ps = values.refused_attribute kind ps
+refused values (act.Operation kind) ps = values.refused_operation kind ps
+refused values _ ps = None
+
+-- the token of the step with a number, or of the end (the last argument) where there are fewer
+abbrev pub piece_token : Trees Step → ℕ → ℕ → ℕ
+piece_token no_tree i last = last
+piece_token (a_tree (node s ts) rest) zero last = s.first
+piece_token (a_tree (node s ts) rest) (suc i) last = piece_token rest i last
+
+-- nothing is refused in these steps, at any depth
+abbrev pub AreSound : Values → (ℕ → List ℕ) → Trees Step → Type 0
+AreSound values text no_tree = Unit {0}
+AreSound values text (a_tree (node s ts) rest) =
+    (refused values s.action (pieces_in values text ts) ≡ None) × AreSound values text ts × AreSound values text rest
+
+-- A number is out of range: what it is in ends, and is refused for it, and nothing within that is refused. It is placed there, or
+-- at the end where there is no such piece.
+abbrev pub HasNumberFault : Values → (ℕ → List ℕ) → List Event → Fault → Type 0
+HasNumberFault values text es f = (s : Step) × (ts : Trees Step) × (i : ℕ)
+    × HasTree es (node s ts) × AreSound values text ts × (refused values s.action (pieces_in values text ts) ≡ Some i)
+    × (f ≡ record { kind = kinds.Number; met = s.last; place = piece_token ts i s.last })
+
+-- names of results, at these tokens
+abbrev pub results : List ℕ → List Deed
+results ks = map (λ k. (act.Result, k)) ks
+
+-- the last of these deeds names a result
+abbrev pub EndsInResult : List Deed → Type 0
+EndsInResult ds = (front : List Deed) × (k : ℕ) × (ds ≡ front ++ (act.Result, k) ∷ [])
+
+-- the first token of an operation whose results have these names
+abbrev pub first_token : List ℕ → ℕ → ℕ
+first_token [] first = first
+first_token (k ∷ ks) first = k
+
+-- An operation has more or fewer results than names before it. This is met at its end, and placed where it begins.
+abbrev pub HasNamesFault : Values → (ℕ → List ℕ) → List Event → Fault → Type 0
+HasNamesFault values text es f = (names : List ℕ) × (kind : ℕ) × (s : Step) × (ts : Trees Step) × (before : List Deed) × (after : List Deed)
+    × AreWhole (a_tree (node s ts) no_tree)
+    × (deeds es ≡ before ++ (results names ++ (deeds_of (node s ts) ++ after))) × (EndsInResult before → ⊥)
+    × (s.action ≡ act.Operation kind) × (length names ≢ length (values.result_types kind (pieces_in values text ts)))
+    × (f ≡ record { kind = kinds.ResultNames; met = s.last; place = first_token names s.first })

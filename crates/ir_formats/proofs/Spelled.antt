@@ -1,0 +1,326 @@
+-- Numbers of texts.
+use Rattle.std.proofs.Common.{◌≡◌, ◌≢◌, ◌⊎◌, inl, inr, get_or, drop, append_assoc, ℕ, zero, suc, ◌+◌, ◌<◌, ◌≤◌, List, [], ◌∷◌, ◌++◌, Bool, true, false, not, ◌||◌, Bor, length, map, refl, sym, ap, ◌∙◌, arith, slice_get, Some, cond}
+use Rattle.std.specs.Prelude.{◌==◌, if◌then◌else◌, Vec}
+use Rattle.std.specs.Str.{bytes_eq, chars}
+use Rattle.std.specs.List.{position_or_len, list_any, AllByRecursion, IsDistinct}
+use Rattle.std.proofs.lemmas.Bool.{cases_lt, eq-eqb, eqb-true}
+use Rattle.std.proofs.lemmas.Slice.Eq.{bytes_eq-Decides}
+use Rattle.std.proofs.lemmas.List.{map-append, length-append, length-map, append-nil, drop_all}
+use Rattle.ir_tokens.specs.declared.tokens.Token.{Token}
+use Rattle.std.specs.Global.{Global}
+use Rattle.ir_formats.specs.Words.{spellings, text_of, is_spelled, spelled_texts, name_number, known_with, kind_of, AlikeInNumber}
+use Rattle.ir_formats.proofs.Makes.{drop_item}
+use Rattle.ir_formats.specs.Rules.{texts, number_of, with_word, with_words}
+
+differ : (a b : ℕ) → a ≢ b → (a == b) ≡ false
+differ a b h = go (a == b) refl
+  where
+    go : (x : Bool) → (a == b) ≡ x → (a == b) ≡ false
+    go true e = absurd (h (eqb-true a b e))
+    go false e = e
+
+next_same : (a b : ℕ) → (suc a == suc b) ≡ (a == b)
+next_same a b = go (a == b) refl
+  where
+    go : (x : Bool) → (a == b) ≡ x → (suc a == suc b) ≡ (a == b)
+    go true e = eq-eqb (suc a) (suc b) (ap suc (eqb-true a b e)) ∙ sym e
+    go false e = differ (suc a) (suc b) (λ h. let same : a ≡ b = omega arith in let f = eq-eqb a b same in cc) ∙ sym e
+
+first_more : (b : Bool) (m n : ℕ) → m ≡ n → cond (not b) (1 + m) 0 ≡ (if b then 0 else suc n)
+first_more true m n e = refl
+first_more false m n e = omega arith
+
+-- the number of a text among others is its place
+pub number_is : (ks : List (Bor (List ℕ))) (t : List ℕ) → position_or_len (λ (k : Bor (List ℕ)). bytes_eq t k.now) ks ≡ number_of (texts ks) t
+number_is [] t = refl
+number_is (k ∷ ks) t = first_more (bytes_eq t k.now) _ _ (number_is ks t)
+
+any_more : (b c : Bool) (m n : ℕ) → c ≡ not (m == n) → (b || c) ≡ not ((if b then 0 else suc m) == suc n)
+any_more true c m n e = ap not (sym (differ 0 (suc n) (λ h. omega arith)))
+any_more false c m n e = e ∙ ap not (sym (next_same m n))
+
+-- a text is among others where its number is below theirs
+pub any_is : (ks : List (Bor (List ℕ))) (t : List ℕ) → list_any (λ (k : Bor (List ℕ)). bytes_eq t k.now) ks ≡ not (number_of (texts ks) t == length (texts ks))
+any_is [] t = refl
+any_is (k ∷ ks) t = any_more (bytes_eq t k.now) _ _ _ (any_is ks t)
+
+not_not : (b c : Bool) → c ≡ not b → not c ≡ b
+not_not true c e = ap not e
+not_not false c e = ap not e
+
+-- whether a text is a new one
+pub new_is : (ks : List (Bor (List ℕ))) (t : List ℕ) → not (list_any (λ (k : Bor (List ℕ)). bytes_eq t k.now) ks) ≡ (number_of (texts ks) t == length (texts ks))
+new_is ks t = not_not (number_of (texts ks) t == length (texts ks)) _ (any_is ks t)
+
+added_by : (b c : Bool) (ks : List (Bor (List ℕ))) (t : Bor (List ℕ)) → c ≡ not b → texts (if c then ks else ks ++ t ∷ []) ≡ (if b then texts ks ++ t.now ∷ [] else texts ks)
+added_by true c ks t e = rw e (map-append (λ (w : Bor (List ℕ)). w.now) ks (t ∷ []))
+added_by false c ks t e = rw e refl
+
+-- the texts with one more
+pub added_is : (ks : List (Bor (List ℕ))) (t : Bor (List ℕ)) → texts (if list_any (λ (k : Bor (List ℕ)). bytes_eq t.now k.now) ks then ks else ks ++ t ∷ []) ≡ with_word (texts ks) t.now
+added_is ks t = added_by (number_of (texts ks) t.now == length (texts ks)) _ ks t (any_is ks t.now)
+
+-- numbers are at most the number of texts
+pub number_le : (ws : List (List ℕ)) (t : List ℕ) → number_of ws t ≤ length ws
+number_le [] t = omega arith
+number_le (w ∷ ws) t = go (bytes_eq t w) (number_le ws t)
+  where
+    go : (b : Bool) → number_of ws t ≤ length ws → (if b then 0 else suc (number_of ws t)) ≤ suc (length ws)
+    go true h = omega arith
+    go false h = omega arith
+
+same_text : (a b : List ℕ) → bytes_eq a b ≡ true → a ≡ b
+same_text a b e = (bytes_eq-Decides a b).0 e
+
+-- what stands at the number of a text that is among them is that text
+pub number_at : (ws : List (List ℕ)) (t : List ℕ) → number_of ws t < length ws → slice_get ws (number_of ws t) ≡ Some t
+number_at [] t lt = absurd (omega arith)
+number_at (w ∷ ws) t lt = go (bytes_eq t w) refl lt (number_at ws t)
+  where
+    go : (b : Bool) → bytes_eq t w ≡ b → (if b then 0 else suc (number_of ws t)) < suc (length ws) → (number_of ws t < length ws → slice_get ws (number_of ws t) ≡ Some t)
+        → slice_get (w ∷ ws) (if b then 0 else suc (number_of ws t)) ≡ Some t
+    go true e lt rest = ap Some (sym (same_text t w e))
+    go false e lt rest = rest (omega arith)
+
+-- texts that are put behind others don't change the numbers of these
+keeps_number : (ws more : List (List ℕ)) (t : List ℕ) → number_of ws t < length ws → number_of (ws ++ more) t ≡ number_of ws t
+keeps_number [] more t lt = absurd (omega arith)
+keeps_number (w ∷ ws) more t lt = go (bytes_eq t w) lt (keeps_number ws more t)
+  where
+    go : (b : Bool) → (if b then 0 else suc (number_of ws t)) < suc (length ws) → (number_of ws t < length ws → number_of (ws ++ more) t ≡ number_of ws t)
+        → (if b then 0 else suc (number_of (ws ++ more) t)) ≡ (if b then 0 else suc (number_of ws t))
+    go true lt rest = refl
+    go false lt rest = ap suc (rest (omega arith))
+
+-- a new text has the number behind the others
+new_number : (ws : List (List ℕ)) (t : List ℕ) → number_of ws t ≡ length ws → number_of (ws ++ t ∷ []) t ≡ length ws
+new_number [] t e = ap (λ (b : Bool). if b then 0 else 1) ((bytes_eq-Decides t t).1 refl)
+new_number (w ∷ ws) t e = go (bytes_eq t w) e (new_number ws t)
+  where
+    go : (b : Bool) → (if b then 0 else suc (number_of ws t)) ≡ suc (length ws) → (number_of ws t ≡ length ws → number_of (ws ++ t ∷ []) t ≡ length ws)
+        → (if b then 0 else suc (number_of (ws ++ t ∷ []) t)) ≡ suc (length ws)
+    go true e rest = absurd (omega arith)
+    go false e rest = ap suc (rest (omega arith))
+
+-- Text t is among these, with number n.
+pub record IsNumbered (ws : List (List ℕ)) (t : List ℕ) (n : ℕ) : Type 0 where
+  pub is : number_of ws t ≡ n
+  pub among : n < length ws
+
+-- a text that is no new one has a lower number
+pub below_of : (ws : List (List ℕ)) (t : List ℕ) → (number_of ws t == length ws) ≡ false → number_of ws t < length ws
+below_of ws t e = go (cases_lt (number_of ws t) (length ws))
+  where
+    go : (number_of ws t < length ws) ⊎ (length ws ≤ number_of ws t) → number_of ws t < length ws
+    go (inl less) = less
+    go (inr more) = let le = number_le ws t in let same : number_of ws t ≡ length ws = omega arith in let yes_so = eq-eqb (number_of ws t) (length ws) same in cc
+
+with_by : (ws : List (List ℕ)) (t : List ℕ) (b : Bool) → (number_of ws t == length ws) ≡ b → IsNumbered (if b then ws ++ t ∷ [] else ws) t (number_of ws t)
+with_by ws t true e = let n = eqb-true (number_of ws t) (length ws) e in record { is = new_number ws t n ∙ sym n; among = omega (arith, length-append ws (t ∷ []), n) }
+with_by ws t false e = record { is = refl; among = below_of ws t e }
+
+-- a text that is put at the end, if it is a new one, is among them
+pub numbered_with : (ws : List (List ℕ)) (t : List ℕ) → IsNumbered (with_word ws t) t (number_of ws t)
+numbered_with ws t = with_by ws t (number_of ws t == length ws) refl
+
+more_by : (ws : List (List ℕ)) (t u : List ℕ) (n : ℕ) (b : Bool) → IsNumbered ws t n → IsNumbered (if b then ws ++ u ∷ [] else ws) t n
+more_by ws t u n true h = let lt : number_of ws t < length ws = omega (arith, h.is, h.among) in record { is = keeps_number ws (u ∷ []) t lt ∙ h.is; among = omega (arith, length-append ws (u ∷ []), h.among) }
+more_by ws t u n false h = h
+
+-- further texts don't change that
+numbered_more : (ws : List (List ℕ)) (t u : List ℕ) (n : ℕ) → IsNumbered ws t n → IsNumbered (with_word ws u) t n
+numbered_more ws t u n h = more_by ws t u n (number_of ws u == length ws) h
+
+pub numbered_all : (ws us : List (List ℕ)) (t : List ℕ) (n : ℕ) → IsNumbered ws t n → IsNumbered (with_words ws us) t n
+numbered_all ws [] t n h = h
+numbered_all ws (u ∷ us) t n h = numbered_all (with_word ws u) us t n (numbered_more ws t u n h)
+
+-- a text that is among them is no new one
+pub known_already : (ws : List (List ℕ)) (t : List ℕ) → number_of ws t < length ws → ws ≡ with_word ws t
+known_already ws t lt = ap (λ (b : Bool). if b then ws ++ t ∷ [] else ws) (sym (differ (number_of ws t) (length ws) (λ e. omega arith)))
+
+apart : (a b : List ℕ) → bytes_eq b a ≡ false → bytes_eq a b ≡ false
+apart a b e = go (bytes_eq a b) refl
+  where
+    go : (x : Bool) → bytes_eq a b ≡ x → bytes_eq a b ≡ false
+    go true h = let same : b ≡ a = sym (same_text a b h) in let yes_so = (bytes_eq-Decides b a).1 same in cc
+    go false h = h
+
+-- what stands behind a text isn't equal to it
+later_apart : (k : Bor (List ℕ)) (ks : List (Bor (List ℕ))) (i : ℕ) (u : Bor (List ℕ)) → AllByRecursion (λ (y : Bor (List ℕ)). bytes_eq k.now y.now ≡ false) ks → slice_get ks i ≡ Some u → bytes_eq k.now u.now ≡ false
+later_apart k [] i u all e = cc
+later_apart k (y ∷ ys) zero u all e = let same : y ≡ u = cc in rw (← same) all.0
+later_apart k (y ∷ ys) (suc i) u all e = later_apart k ys i u all.1 e
+
+-- among different texts each has the number of its place
+pub number_here : (ks : List (Bor (List ℕ))) (i : ℕ) (u : Bor (List ℕ)) (t : List ℕ) → IsDistinct (λ (a b : Bor (List ℕ)). bytes_eq a.now b.now) ks → slice_get ks i ≡ Some u → bytes_eq t u.now ≡ true
+    → (i ≡ number_of (texts ks) t) × (i < length (texts ks))
+unfolding IsDistinct
+number_here [] i u t apart_all e same = cc
+number_here (k ∷ ks) zero u t apart_all e same =
+    let first : k ≡ u = cc in
+    let here : bytes_eq t k.now ≡ true = rw first same in
+    (ap (λ (b : Bool). if b then 0 else suc (number_of (texts ks) t)) (sym here), omega arith)
+number_here (k ∷ ks) (suc i) u t apart_all e same =
+    let rest = number_here ks i u t apart_all.1 e same in
+    let is : t ≡ u.now = same_text t u.now same in
+    let other : bytes_eq t k.now ≡ false = apart t k.now (rw is (later_apart k ks i u apart_all.0 e)) in
+    (ap suc rest.0 ∙ ap (λ (b : Bool). if b then 0 else suc (number_of (texts ks) t)) (sym other), omega (arith, rest.1))
+
+-- ---- tokens
+
+among_here : (cs : List ℕ) (ws : List (List ℕ)) (ts : List Token) (t : Token) (b : Bool) → b ≡ true
+    → number_of (with_words ws (if b then text_of cs t ∷ spelled_texts cs ts else spelled_texts cs ts)) (text_of cs t) < length (with_words ws (if b then text_of cs t ∷ spelled_texts cs ts else spelled_texts cs ts))
+among_here cs ws ts t true e = let h = numbered_all (with_word ws (text_of cs t)) (spelled_texts cs ts) (text_of cs t) (number_of ws (text_of cs t)) (numbered_with ws (text_of cs t)) in rw h.is h.among
+among_here cs ws ts t false e = cc
+
+among_later : (cs : List ℕ) (ws : List (List ℕ)) (ts : List Token) (u t : Token) (b : Bool)
+    → number_of (with_words (with_word ws (text_of cs u)) (spelled_texts cs ts)) (text_of cs t) < length (with_words (with_word ws (text_of cs u)) (spelled_texts cs ts))
+    → number_of (with_words ws (spelled_texts cs ts)) (text_of cs t) < length (with_words ws (spelled_texts cs ts))
+    → number_of (with_words ws (if b then text_of cs u ∷ spelled_texts cs ts else spelled_texts cs ts)) (text_of cs t) < length (with_words ws (if b then text_of cs u ∷ spelled_texts cs ts else spelled_texts cs ts))
+among_later cs ws ts u t true h k = h
+among_later cs ws ts u t false h k = k
+
+-- the texts of tokens that may be words or names are among all of these
+among_all : (cs : List ℕ) (ws : List (List ℕ)) (ts : List Token) (i : ℕ) (t : Token) → slice_get ts i ≡ Some t → is_spelled t.kind ≡ true
+    → number_of (with_words ws (spelled_texts cs ts)) (text_of cs t) < length (with_words ws (spelled_texts cs ts))
+among_all cs ws [] i t e h = cc
+among_all cs ws (u ∷ us) zero t e h = let same : u ≡ t = cc in rw same (among_here cs ws us t (is_spelled t.kind) h)
+among_all cs ws (u ∷ us) (suc i) t e h = among_later cs ws us u t (is_spelled u.kind) (among_all cs (with_word ws (text_of cs u)) us i t e h) (among_all cs ws us i t e h)
+
+read_map : {A : Type 0} (f : A → ℕ) (xs : List A) (i : ℕ) (x : A) → slice_get xs i ≡ Some x → get_or (map f xs) i 0 ≡ f x
+read_map f [] i x e = cc
+read_map f (y ∷ ys) zero x e = ap f (same_item y x e)
+  where
+    same_item : {A : Type 0} (y x : A) → Some y ≡ Some x → y ≡ x
+    same_item y x e = cc
+read_map f (y ∷ ys) (suc i) x e = read_map f ys i x e
+
+number_read : (cs : List ℕ) (ts : List Token) (all : List (List ℕ)) (none : ℕ) (ns : List ℕ) → ns ≡ map (name_number all none cs) ts → (i : ℕ) (t : Token) → slice_get ts i ≡ Some t → is_spelled t.kind ≡ true → get_or ns i 0 ≡ number_of all (text_of cs t)
+number_read cs ts all none ns e i t at h = rw e (read_map (name_number all none cs) ts i t at ∙ ap (λ (b : Bool). if b then number_of all (text_of cs t) else none) h)
+
+one_text : (ws : List (List ℕ)) (a b : List ℕ) → number_of ws a ≡ number_of ws b → number_of ws a < length ws → number_of ws b < length ws → a ≡ b
+one_text ws a b e lt_a lt_b = same a b (sym (number_at ws a lt_a) ∙ (ap (slice_get ws) e ∙ number_at ws b lt_b))
+  where
+    same : (a b : List ℕ) → Some a ≡ Some b → a ≡ b
+    same a b e = cc
+
+-- tokens that are numbered by their texts have one number where they are spelled alike
+pub alike_by : (cs : List ℕ) (ts : List Token) (none : ℕ) (ns : List ℕ) → ns ≡ map (name_number (with_words [] (spelled_texts cs ts)) none cs) ts → AlikeInNumber cs ts ns
+alike_by cs ts none ns e i j s t at_i at_j spelled_s spelled_t =
+    let all = with_words [] (spelled_texts cs ts) in
+    let a = number_read cs ts all none ns e i s at_i spelled_s in
+    let b = number_read cs ts all none ns e j t at_j spelled_t in (
+      λ same. one_text all (text_of cs s) (text_of cs t) (sym a ∙ (same ∙ b)) (among_all cs [] ts i s at_i spelled_s) (among_all cs [] ts j t at_j spelled_t),
+      λ same. a ∙ (ap (number_of all) same ∙ sym b),
+    )
+
+-- ---- the words of texts
+
+pub length_numbers : (ws ks : List (List ℕ)) (ns : List ℕ) → ns ≡ map (number_of ws) ks → length ns ≡ length ks
+length_numbers ws ks ns e = ap length e ∙ length-map ks (number_of ws)
+
+read_text : (ws ks : List (List ℕ)) (i : ℕ) (t : List ℕ) (d : ℕ) → slice_get ks i ≡ Some t → get_or (map (number_of ws) ks) i d ≡ number_of ws t
+read_text ws [] i t d e = cc
+read_text ws (k ∷ ks) zero t d e = let same : k ≡ t = cc in ap (number_of ws) same
+read_text ws (k ∷ ks) (suc i) t d e = read_text ws ks i t d e
+
+-- the word of a text that is known
+pub word_at : (ws ks : List (List ℕ)) (ns : List ℕ) (t : List ℕ) (name word : ℕ) → ns ≡ map (number_of ws) ks → name ≡ number_of ks t → number_of ks t < length ks → word ≡ get_or ns name word → word ≡ number_of ws t
+word_at ws ks ns t name word all is lt at = at ∙ (rw (all, is) (read_text ws ks (number_of ks t) t word (number_at ks t lt)))
+
+-- ---- steps of the loop over tokens
+
+-- one token more that may be a word or a name
+spelled_more : (cs : List ℕ) (ts : List Token) (i : ℕ) (t : Token) (ws ws' all : List (List ℕ)) → i < length ts → t ≡ get_or ts i t → is_spelled t.kind ≡ true
+    → with_words ws (spelled_texts cs (drop i ts)) ≡ all → ws' ≡ with_word ws (text_of cs t) → with_words ws' (spelled_texts cs (drop (i + 1) ts)) ≡ all
+spelled_more cs ts i t ws ws' all lt at h e more =
+    rw more (ap (λ (us : List (List ℕ)). with_words ws us) (sym (ap (λ (b : Bool). if b then text_of cs t ∷ spelled_texts cs (drop (i + 1) ts) else spelled_texts cs (drop (i + 1) ts)) h))
+    ∙ (ap (λ us. with_words ws (spelled_texts cs us)) (sym (drop_item ts i t lt at)) ∙ e))
+
+-- the number of that token among all texts
+spelled_number : (cs : List ℕ) (ts : List Token) (i : ℕ) (t : Token) (ws all : List (List ℕ)) → i < length ts → t ≡ get_or ts i t → is_spelled t.kind ≡ true
+    → with_words ws (spelled_texts cs (drop i ts)) ≡ all → number_of all (text_of cs t) ≡ number_of ws (text_of cs t)
+spelled_number cs ts i t ws all lt at h e =
+    let rest = spelled_texts cs (drop (i + 1) ts) in
+    let whole = spelled_more cs ts i t ws (with_word ws (text_of cs t)) all lt at h e refl in
+    rw (← whole) (numbered_all (with_word ws (text_of cs t)) rest (text_of cs t) (number_of ws (text_of cs t)) (numbered_with ws (text_of cs t))).is
+
+-- one token more that is no word and no name
+unspelled_more : (cs : List ℕ) (ts : List Token) (i : ℕ) (t : Token) (ws all : List (List ℕ)) → i < length ts → t ≡ get_or ts i t → is_spelled t.kind ≡ false
+    → with_words ws (spelled_texts cs (drop i ts)) ≡ all → with_words ws (spelled_texts cs (drop (i + 1) ts)) ≡ all
+unspelled_more cs ts i t ws all lt at h e =
+    ap (λ (us : List (List ℕ)). with_words ws us) (sym (ap (λ (b : Bool). if b then text_of cs t ∷ spelled_texts cs (drop (i + 1) ts) else spelled_texts cs (drop (i + 1) ts)) h))
+    ∙ (ap (λ us. with_words ws (spelled_texts cs us)) (sym (drop_item ts i t lt at)) ∙ e)
+
+known_by : (cs : List ℕ) (ts : List Token) (i : ℕ) (t : Token) (ws all : List (List ℕ)) (b : Bool) → is_spelled t.kind ≡ b → i < length ts → t ≡ get_or ts i t
+    → with_words ws (spelled_texts cs (drop i ts)) ≡ all → with_words (if b then with_word ws (text_of cs t) else ws) (spelled_texts cs (drop (i + 1) ts)) ≡ all
+known_by cs ts i t ws all true h lt at e = spelled_more cs ts i t ws (with_word ws (text_of cs t)) all lt at h e refl
+known_by cs ts i t ws all false h lt at e = unspelled_more cs ts i t ws all lt at h e
+
+-- one token more
+pub known_more : (cs : List ℕ) (ts : List Token) (i : ℕ) (t : Token) (ws ws' all : List (List ℕ)) → i < length ts → t ≡ get_or ts i t
+    → with_words ws (spelled_texts cs (drop i ts)) ≡ all → ws' ≡ known_with ws cs t → with_words ws' (spelled_texts cs (drop (i + 1) ts)) ≡ all
+known_more cs ts i t ws ws' all lt at e more = rw more (known_by cs ts i t ws all (is_spelled t.kind) refl lt at e)
+
+name_by : (cs : List ℕ) (ts : List Token) (i : ℕ) (t : Token) (ws all : List (List ℕ)) (none : ℕ) (b : Bool) → is_spelled t.kind ≡ b → i < length ts → t ≡ get_or ts i t
+    → with_words ws (spelled_texts cs (drop i ts)) ≡ all → (if b then number_of ws (text_of cs t) else none) ≡ (if b then number_of all (text_of cs t) else none)
+name_by cs ts i t ws all none true h lt at e = sym (spelled_number cs ts i t ws all lt at h e)
+name_by cs ts i t ws all none false h lt at e = refl
+
+-- its number stays
+pub name_stays : (cs : List ℕ) (ts : List Token) (i : ℕ) (t : Token) (ws all : List (List ℕ)) (none : ℕ) → i < length ts → t ≡ get_or ts i t
+    → with_words ws (spelled_texts cs (drop i ts)) ≡ all → name_number ws none cs t ≡ name_number all none cs t
+name_stays cs ts i t ws all none lt at e = name_by cs ts i t ws all none (is_spelled t.kind) refl lt at e
+
+-- one value more behind those of the tokens before
+pub value_more : (f : Token → ℕ) (ts : List Token) (i : ℕ) (t : Token) (xs ys : List ℕ) (v : ℕ) → i < length ts → t ≡ get_or ts i t → xs ++ map f (drop i ts) ≡ map f ts → v ≡ f t → ys ≡ xs ++ v ∷ []
+    → ys ++ map f (drop (i + 1) ts) ≡ map f ts
+value_more f ts i t xs ys v lt at e is more =
+    rw more (append_assoc xs (v ∷ []) (map f (drop (i + 1) ts)) ∙ (ap (λ (y : ℕ). xs ++ (y ∷ map f (drop (i + 1) ts))) is ∙ (ap (λ us. xs ++ map f us) (sym (drop_item ts i t lt at)) ∙ e)))
+
+-- After i tokens: the texts that are known, with their words, and the kinds and the numbers of these tokens.
+pub record Numbering (words : List (List ℕ)) (cs : List ℕ) (ts : List Token) (i : ℕ) (known : List (List ℕ)) (found kinds names : List ℕ) : Type 0 where
+  pub texts_left : with_words known (spelled_texts cs (drop i ts)) ≡ with_words [] (spelled_texts cs ts)
+  pub words_found : found ≡ map (number_of words) known
+  pub kinds_left : kinds ++ map (kind_of words cs) (drop i ts) ≡ map (kind_of words cs) ts
+  pub names_left : names ++ map (name_number (with_words [] (spelled_texts cs ts)) (length ts) cs) (drop i ts) ≡ map (name_number (with_words [] (spelled_texts cs ts)) (length ts) cs) ts
+
+pub numbering_more : (words : List (List ℕ)) (cs : List ℕ) (ts : List Token) (i : ℕ) (t : Token) (known known' : List (List ℕ)) (found found' kinds kinds' names names' : List ℕ) (kind name : ℕ)
+    → i < length ts → t ≡ get_or ts i t → Numbering words cs ts i known found kinds names
+    → known' ≡ known_with known cs t → found' ≡ map (number_of words) known' → kind ≡ kind_of words cs t → name ≡ name_number known (length ts) cs t → kinds' ≡ kinds ++ kind ∷ [] → names' ≡ names ++ name ∷ []
+    → Numbering words cs ts (i + 1) known' found' kinds' names'
+numbering_more words cs ts i t known known' found found' kinds kinds' names names' kind name lt at h know find is_kind is_name more_kinds more_names =
+    let all = with_words [] (spelled_texts cs ts) in
+    record {
+      texts_left = known_more cs ts i t known known' all lt at h.texts_left know;
+      words_found = find;
+      kinds_left = value_more (kind_of words cs) ts i t kinds kinds' kind lt at h.kinds_left is_kind more_kinds;
+      names_left = value_more (name_number all (length ts) cs) ts i t names names' name lt at h.names_left (is_name ∙ name_stays cs ts i t known all (length ts) lt at h.texts_left) more_names;
+    }
+
+-- all tokens have their kinds and numbers
+pub numbering_done : (words : List (List ℕ)) (cs : List ℕ) (ts : List Token) (i : ℕ) (known : List (List ℕ)) (found kinds names : List ℕ) → length ts ≤ i → Numbering words cs ts i known found kinds names
+    → (kinds ≡ map (kind_of words cs) ts) × AlikeInNumber cs ts names
+numbering_done words cs ts i known found kinds names le h =
+    let all = with_words [] (spelled_texts cs ts) in
+    let left = drop_all i ts le in
+    let kinds_done : kinds ++ [] ≡ map (kind_of words cs) ts = ap (λ (us : List Token). kinds ++ map (kind_of words cs) us) (sym left) ∙ h.kinds_left in
+    let names_done : names ++ [] ≡ map (name_number all (length ts) cs) ts = ap (λ (us : List Token). names ++ map (name_number all (length ts) cs) us) (sym left) ∙ h.names_left in
+    (sym (append-nil kinds) ∙ kinds_done, alike_by cs ts (length ts) names (sym (append-nil names) ∙ names_done))
+
+-- within a list what is read doesn't hang on the default
+pub any_default : {A : Type 0} (xs : List A) (i : ℕ) (a b : A) → i < length xs → get_or xs i a ≡ get_or xs i b
+any_default [] i a b lt = absurd (omega arith)
+any_default (x ∷ xs) zero a b lt = refl
+any_default (x ∷ xs) (suc i) a b lt = any_default xs i a b (omega arith)
+
+-- ---- the characters of words
+
+-- one word more is spelled
+pub word_spelled : (ws : List (Bor (List ℕ))) (i : ℕ) (w : Bor (List ℕ)) (xs ys : List (Vec ℕ Global)) (v : Vec ℕ Global) (all : List (List ℕ)) → i < length ws → w ≡ get_or ws i w → spellings xs ++ map chars (texts (drop i ws)) ≡ all
+    → v.items ≡ chars w.now → ys ≡ xs ++ v ∷ [] → spellings ys ++ map chars (texts (drop (i + 1) ws)) ≡ all
+word_spelled ws i w xs ys v all lt at e is more =
+    let rest = map chars (texts (drop (i + 1) ws)) in
+    rw (more, map-append (λ (u : Vec ℕ Global). u.items) xs (v ∷ [])) (append_assoc (spellings xs) (v.items ∷ []) rest
+    ∙ (ap (λ (t : List ℕ). spellings xs ++ (t ∷ rest)) is ∙ (ap (λ us. spellings xs ++ map chars (texts us)) (sym (drop_item ws i w lt at)) ∙ e)))

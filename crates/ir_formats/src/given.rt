@@ -1,0 +1,110 @@
+//! The table by which the texts of a dialect are read, as the dialect gives it.
+ghost use Rattle.std.specs.Prelude.{◌≡◌, IfOk, map, true};
+ghost use Rattle.ir_formats.specs.Predicting.{fits, plain_facts};
+ghost use Rattle.ir_formats.specs.Given.{grammar_value, plain_part, dense, rule_at, is_in};
+ghost use Rattle.ir_formats.specs.Rules.{rules_of};
+ghost use Rattle.ir_formats.specs.Ordered.{Leads, is_ordered};
+
+use ir_grammar::grammar::Facts;
+use ir_print::TextDialect;
+use std::alloc::{AllocError, Global};
+
+/// What a table knows of a part of the grammar. Column 0 is the end of the text, and column k + 1 a token of kind k.
+#[derive(Clone, Copy, Debug, PartialEq, Eq)]
+pub struct PartTable {
+    /// Columns, each with the rule to take there.
+    pub choices: &'static [(usize, usize)],
+    /// The columns before which the part may stand.
+    pub follows: &'static [usize],
+    /// The rule to take where no token goes on with the part.
+    pub closing: Option<usize>,
+    /// More than the number of rules and actions that are taken for the part before a token is.
+    pub cost: u32,
+    /// A rule whose parts have lower ranks.
+    pub shortest: usize,
+    /// Less than this are the ranks of the parts in `shortest`.
+    pub rank: u32,
+}
+
+/// A dialect whose texts can be read: the next token decides each step.
+pub trait ReadDialect: TextDialect {
+    /// Where each part of that grammar may stand, and where it leads to.
+    ghost leads: { Leads };
+
+    /// The table of the grammar that the dialect's formats make, as [`table_of`](crate::table_of) writes it.
+    fn table() -> &'static [PartTable]
+        ensures { fits (grammar_value Self.formats (map plain_part result.now)) ≡ true };
+
+    ghost ordered: { is_ordered leads (rules_of Self.formats) ≡ true };
+}
+
+/// The rule for a column.
+fn rule_at(choices: &[(usize, usize)], column: usize) -> Option<usize>
+    ensures { result ≡ rule_at choices.now column }
+{
+    for choice in choices {
+        if choice.0 == column {
+            return Some(choice.1);
+        }
+    }
+    None
+}
+
+/// Whether the column is one of these.
+fn is_in(columns: &[usize], column: usize) -> bool
+    ensures { result ≡ is_in columns.now column }
+{
+    for known in columns {
+        if *known == column {
+            return true;
+        }
+    }
+    false
+}
+
+fn choices(
+    alloc: Global,
+    part: &PartTable,
+    columns: usize,
+) -> Result<Vec<Option<usize>>, AllocError>
+    ensures { IfOk result (λ v. v.items ≡ (dense columns (plain_part part.now)).choices) }
+{
+    let mut choices = Vec::new(alloc);
+    for column in 0..columns {
+        choices.push(rule_at(part.choices, column))?;
+    }
+    Ok(choices)
+}
+
+fn follows(alloc: Global, part: &PartTable, columns: usize) -> Result<Vec<bool>, AllocError>
+    ensures { IfOk result (λ v. v.items ≡ (dense columns (plain_part part.now)).follows) }
+{
+    let mut follows = Vec::new(alloc);
+    for column in 0..columns {
+        follows.push(is_in(part.follows, column))?;
+    }
+    Ok(follows)
+}
+
+/// What the table knows of each part, with a place for each of so many columns.
+pub fn facts_of(
+    alloc: Global,
+    table: &[PartTable],
+    columns: usize,
+) -> Result<Vec<Facts>, AllocError>
+    ensures { IfOk result (λ v. map plain_facts v.items ≡ map (dense columns) (map plain_part table.now)) }
+{
+    let mut all = Vec::new(alloc);
+    for part in table {
+        let facts = Facts {
+            choices: choices(alloc, part, columns)?,
+            follows: follows(alloc, part, columns)?,
+            closing: part.closing,
+            cost: part.cost,
+            shortest: part.shortest,
+            rank: part.rank,
+        };
+        all.push(facts)?;
+    }
+    Ok(all)
+}

@@ -1,0 +1,618 @@
+//! The grammar of a dialect's texts, made from its formats.
+ghost use Rattle.std.specs.Prelude.{◌≡◌, ◌∷◌, [], ◌++◌, OnOk, IfOk, IfSome, length, min, ◌+◌, slice_get, option_map, codes};
+ghost use Rattle.ir_print.specs.Formats.{operand, operands, step_of, steps_of};
+ghost use Rattle.ir_formats.specs.Rules.{up, texts, number_of, with_word, with_words, words_in, words_in_step, words_of, words_of_kinds, frame_words, sign, may_be_name, takes, class_of, classes_of, several, step_made, steps_made, kind_made, kinds_made, kinds_of, part_of, begin_of, end_of, operation_rules, region_rules, block_rules, argument_rules, rules_of, parts_of, plain_rule, plain_rules, plain_classes};
+ghost use Rattle.ir_grammar.specs.Table.{CanRead};
+ghost use Rattle.ir_formats.specs.Ordered.{OrdersTexts};
+ghost use Rattle.ir_formats.specs.Words.{shape_number};
+ghost use Rattle.ir_formats.specs.Making.{kind_of, Adds, AddsRules, AddsMade};
+
+use crate::given::{ReadDialect, facts_of};
+use ir_grammar::grammar::{Action, Class, Facts, Grammar, Rule, Symbol};
+use ir_names::Identifier;
+use ir_print::{Directive, TextDialect};
+use std::alloc::{AllocError, Global};
+
+/// What a token is by its shape alone. A word that the grammar knows has a kind of its own, behind these.
+#[derive(Clone, Copy, Debug, PartialEq, Eq)]
+pub enum Shape {
+    Name,
+    /// A name that is a width too.
+    Width,
+    Digits,
+    Negative,
+    /// A token that no text of the grammar has.
+    Other,
+}
+
+/// The number of shapes, and so the kind of the first word.
+pub const SHAPES: usize = 5;
+
+impl Shape {
+    /// The kind of tokens of this shape.
+    pub fn kind(self) -> u32
+        ensures { result ≡ shape_number self }
+    {
+        match self {
+            Shape::Name => 0,
+            Shape::Width => 1,
+            Shape::Digits => 2,
+            Shape::Negative => 3,
+            Shape::Other => 4,
+        }
+    }
+}
+
+/// The signs that stand for tokens of several kinds.
+const NAME_SIGN: u32 = 0;
+
+const WIDTH_SIGN: u32 = 1;
+
+const NUMBER_SIGN: u32 = 2;
+
+/// The sign of the first word; each word has one.
+const FIRST_WORD_SIGN: u32 = 3;
+
+/// The parts of each dialect's grammar. Lists have further ones.
+const ROOT: u32 = 0;
+
+const OPERATION: u32 = 1;
+
+const MORE_RESULTS: u32 = 2;
+
+const BODY: u32 = 3;
+
+const REGION: u32 = 4;
+
+const BLOCKS: u32 = 5;
+
+const BLOCK: u32 = 6;
+
+const ARGUMENTS: u32 = 7;
+
+const MORE_ARGUMENTS: u32 = 8;
+
+const ARGUMENT: u32 = 9;
+
+const OPERATIONS: u32 = 10;
+
+const MORE_OPERATIONS: u32 = 11;
+
+const TYPE: u32 = 12;
+
+const ATTRIBUTE: u32 = 13;
+
+/// The first part of a list.
+const FIRST_LIST: u32 = 14;
+
+/// The words that no format gives.
+const FRAME_WORDS: [&str; 9] = [",", "=", "{", "}", ";", "^", "(", ")", ":"];
+
+/// A dialect has at most so many kinds of operations, types or attributes that can be read.
+const KINDS: usize = 256;
+
+/// The grammar of a dialect's texts, with its words. Its root is part 0.
+#[derive(Drop)]
+pub struct DialectGrammar {
+    pub grammar: Grammar,
+    /// Word number i has the kind `SHAPES` + i.
+    pub words: Vec<&'static str>,
+}
+
+/// What is read by formats.
+#[derive(Clone, Copy, PartialEq, Eq)]
+pub enum Sort {
+    Operation,
+    Type,
+    Attribute,
+}
+
+impl Sort {
+    fn part(self) -> u32
+        ensures { result ≡ part_of self }
+    {
+        match self {
+            Sort::Operation => BODY,
+            Sort::Type => TYPE,
+            Sort::Attribute => ATTRIBUTE,
+        }
+    }
+
+    /// What is done behind the id of a kind.
+    fn begin(self, number: u8) -> Action
+        ensures { result ≡ begin_of self number }
+    {
+        match self {
+            Sort::Operation => Action::Operation(number),
+            Sort::Type => Action::BeginType(number),
+            Sort::Attribute => Action::BeginAttribute(number),
+        }
+    }
+
+    /// What is done at the end of a text of a kind.
+    fn end(self) -> Action
+        ensures { result ≡ end_of self }
+    {
+        match self {
+            Sort::Operation => Action::EndOperation,
+            Sort::Type => Action::EndType,
+            Sort::Attribute => Action::EndAttribute,
+        }
+    }
+}
+
+/// What the texts of a kind are made of.
+#[derive(Clone, Copy)]
+struct KindText {
+    id: &'static str,
+    format: &'static [Directive],
+}
+
+/// The kind of a sort with this number, from 0 on.
+fn kind_at<D: TextDialect>(sort: Sort, number: usize) -> Option<KindText>
+    ensures { option_map kind_of result ≡ slice_get (kinds_of D.formats sort) number }
+{
+    match sort {
+        Sort::Operation => {
+            let kind = D::op_kind_at(number)?;
+            Some(KindText {
+                id: D::op_id(kind),
+                format: D::op_format(kind),
+            })
+        }
+        Sort::Type => {
+            let kind = D::type_kind_at(number)?;
+            Some(KindText {
+                id: D::type_id(kind),
+                format: D::type_format(kind),
+            })
+        }
+        Sort::Attribute => {
+            let kind = D::attr_kind_at(number)?;
+            Some(KindText {
+                id: D::attr_id(kind),
+                format: D::attr_format(kind),
+            })
+        }
+    }
+}
+
+/// The place of a word among words, or their number where it is none of them.
+fn number_of(words: &[&'static str], text: &str) -> usize
+    ensures { result ≡ number_of (texts words.now) text.now }
+{
+    for index in 0..words.len() {
+        if text == words[index] {
+            return index;
+        }
+    }
+    words.len()
+}
+
+fn add_word(words: &mut Vec<&'static str>, text: &'static str) -> Result<(), AllocError>
+    ensures { OnOk result (texts words.new.items ≡ with_word (texts words.old.items) text.now) }
+{
+    if number_of(words, text) == words.len() {
+        words.push(text)?;
+    }
+    Ok(())
+}
+
+fn add_words(words: &mut Vec<&'static str>, more: &[&'static str]) -> Result<(), AllocError>
+    ensures { OnOk result (texts words.new.items ≡ with_words (texts words.old.items) (texts more.now)) }
+{
+    for word in more {
+        add_word(words, word)?;
+    }
+    Ok(())
+}
+
+/// Adds the words of a format.
+#[cycle(words)]
+fn add_format(words: &mut Vec<&'static str>, format: &[Directive]) -> Result<(), AllocError>
+    ensures { OnOk result (texts words.new.items ≡ with_words (texts words.old.items) (words_in (steps_of format.now))) }
+{
+    for directive in format {
+        add_directive(words, *directive)?;
+    }
+    Ok(())
+}
+
+#[cycle(words)]
+fn add_directive(words: &mut Vec<&'static str>, directive: Directive) -> Result<(), AllocError>
+    ensures { OnOk result (texts words.new.items ≡ with_words (texts words.old.items) (words_in_step (step_of directive))) }
+{
+    match directive {
+        Directive::Literal(text) => add_word(words, text.trim())?,
+        Directive::Operands => add_word(words, ",")?,
+        Directive::SymbolHeader => add_word(words, "@")?,
+        Directive::List(member, separator) => {
+            add_word(words, separator.trim())?;
+            add_format(words, member)?;
+        }
+        Directive::Operand => {}
+        Directive::Attribute => {}
+        Directive::Type => {}
+        Directive::Region => {}
+        Directive::Name => {}
+        Directive::Number => {}
+        Directive::Width => {}
+    }
+    Ok(())
+}
+
+/// Adds the ids of the kinds of a sort, and the words of their formats.
+fn add_kinds<D: TextDialect>(words: &mut Vec<&'static str>, sort: Sort) -> Result<(), AllocError>
+    ensures { OnOk result (texts words.new.items ≡ with_words (texts words.old.items) (words_of_kinds (kinds_of D.formats sort))) }
+{
+    for number in 0..KINDS {
+        let Some(kind) = kind_at::<D>(sort, number) else {
+            return Ok(());
+        };
+        add_word(words, kind.id)?;
+        add_format(words, kind.format)?;
+    }
+    Ok(())
+}
+
+/// The words of a dialect's grammar, each once.
+fn words_of<D: TextDialect>(alloc: Global) -> Result<Vec<&'static str>, AllocError>
+    ensures { IfOk result (λ words. texts words.items ≡ words_of D.formats) }
+{
+    let mut words: Vec<&'static str> = Vec::new(alloc);
+    add_words(&mut words, &FRAME_WORDS)?;
+    add_kinds::<D>(&mut words, Sort::Operation)?;
+    add_kinds::<D>(&mut words, Sort::Type)?;
+    add_kinds::<D>(&mut words, Sort::Attribute)?;
+    Ok(words)
+}
+
+/// Rules in the making.
+#[derive(Drop)]
+struct RuleMaker {
+    alloc: Global,
+    words: Vec<&'static str>,
+    rules: Vec<Rule>,
+    /// The part of the next list.
+    next_list: u32,
+}
+
+impl RuleMaker {
+    /// The sign of a word.
+    fn sign(&self, word: &str) -> Symbol
+        ensures { result ≡ sign (texts self.now.words.items) word.now }
+    {
+        let number = number_of(&self.words, word);
+        let most = (u32::MAX - FIRST_WORD_SIGN) as usize;
+        if number < most {
+            Symbol::Sign(number as u32 + FIRST_WORD_SIGN)
+        } else {
+            Symbol::Sign(u32::MAX)
+        }
+    }
+
+    fn rule(&mut self, part: u32, symbols: &[Symbol]) -> Result<(), AllocError>
+        ensures { OnOk result (AddsRules self.old self.new ((part, symbols.now) ∷ []) self.old.next_list) }
+    {
+        let body = Vec::from_slice(self.alloc, symbols)?;
+        self.rules.push(Rule { part, body })?;
+        Ok(())
+    }
+
+    /// The part of the next list; what follows a member of it has the part behind it.
+    fn list_part(&mut self) -> u32
+        ensures part { result ≡ self.old.next_list }
+        ensures next { AddsRules self.old self.new [] (up self.old.next_list 2) }
+    {
+        let list = self.next_list;
+        self.next_list = list.saturating_add(2);
+        list
+    }
+
+    /// Adds the rules of a list of members, none or more, with a separator between two.
+    fn several(&mut self, list: u32, separator: Symbol, member: &[Symbol]) -> Result<(), AllocError>
+        ensures { OnOk result (AddsRules self.old self.new (several list separator member.now) self.old.next_list) }
+    {
+        let more = list.saturating_add(1);
+        let mut symbols = Vec::new(self.alloc);
+        symbols.push(separator)?;
+        symbols.extend_from_slice(member)?;
+        symbols.push(Symbol::Part(more))?;
+        self.rule(list, &[])?;
+        self.rule(list, &symbols[1..])?;
+        self.rule(more, &[])?;
+        self.rule(more, &symbols)
+    }
+
+    /// Puts what a format stands for behind these symbols.
+    #[cycle(formats)]
+    fn format(&mut self, symbols: &mut Vec<Symbol>, format: &[Directive]) -> Result<(), AllocError>
+        ensures { OnOk result (Adds self.old self.new symbols.old.items symbols.new.items (steps_made (texts self.old.words.items) (steps_of format.now) self.old.next_list)) }
+    {
+        for directive in format {
+            self.directive(symbols, *directive)?;
+        }
+        Ok(())
+    }
+
+    #[cycle(formats)]
+    fn directive(
+        &mut self,
+        symbols: &mut Vec<Symbol>,
+        directive: Directive,
+    ) -> Result<(), AllocError>
+        ensures { OnOk result (Adds self.old self.new symbols.old.items symbols.new.items (step_made (texts self.old.words.items) (step_of directive) self.old.next_list)) }
+    {
+        let name = Symbol::Sign(NAME_SIGN);
+        match directive {
+            Directive::Literal(text) => symbols.push(self.sign(text.trim()))?,
+            Directive::Operands => self.operands(symbols)?,
+            Directive::Operand => self.operand(symbols)?,
+            Directive::Attribute => symbols.push(Symbol::Part(ATTRIBUTE))?,
+            Directive::Type => symbols.push(Symbol::Part(TYPE))?,
+            Directive::Region => symbols.push(Symbol::Part(REGION))?,
+            Directive::SymbolHeader => {
+                symbols.push(self.sign("@"))?;
+                symbols.push(name)?;
+                symbols.push(Symbol::Act(Action::Name))?;
+            }
+            Directive::Name => {
+                symbols.push(name)?;
+                symbols.push(Symbol::Act(Action::Name))?;
+            }
+            Directive::Number => {
+                symbols.push(Symbol::Sign(NUMBER_SIGN))?;
+                symbols.push(Symbol::Act(Action::Number))?;
+            }
+            Directive::Width => {
+                symbols.push(Symbol::Sign(WIDTH_SIGN))?;
+                symbols.push(Symbol::Act(Action::Width))?;
+            }
+            Directive::List(member, separator) => {
+                let list = self.list_part();
+                symbols.push(Symbol::Act(Action::BeginList))?;
+                symbols.push(Symbol::Part(list))?;
+                symbols.push(Symbol::Act(Action::EndList))?;
+                let mut inner = Vec::new(self.alloc);
+                inner.push(Symbol::Act(Action::BeginItem))?;
+                self.format(&mut inner, member)?;
+                inner.push(Symbol::Act(Action::EndItem))?;
+                self.several(list, self.sign(separator.trim()), &inner)?;
+            }
+        }
+        Ok(())
+    }
+
+    /// Names of values, none or more, with commas between them.
+    fn operands(&mut self, symbols: &mut Vec<Symbol>) -> Result<(), AllocError>
+        ensures { OnOk result (Adds self.old self.new symbols.old.items symbols.new.items (step_made (texts self.old.words.items) operands self.old.next_list)) }
+    {
+        let list = self.list_part();
+        symbols.push(Symbol::Act(Action::BeginOperands))?;
+        symbols.push(Symbol::Part(list))?;
+        symbols.push(Symbol::Act(Action::EndOperands))?;
+        let operand = [Symbol::Sign(NAME_SIGN), Symbol::Act(Action::Operand)];
+        self.several(list, self.sign(","), &operand)
+    }
+
+    /// The name of one value, as the only operand between the actions that begin and end operands.
+    fn operand(&self, symbols: &mut Vec<Symbol>) -> Result<(), AllocError>
+        ensures { OnOk result (Adds self.now self.now symbols.old.items symbols.new.items (step_made (texts self.now.words.items) operand self.now.next_list)) }
+    {
+        symbols.push(Symbol::Act(Action::BeginOperands))?;
+        symbols.push(Symbol::Sign(NAME_SIGN))?;
+        symbols.push(Symbol::Act(Action::Operand))?;
+        symbols.push(Symbol::Act(Action::EndOperands))?;
+        Ok(())
+    }
+
+    /// Adds the rule of a kind: its id, and between two actions what its format says.
+    fn kind(&mut self, sort: Sort, number: u8, kind: KindText) -> Result<(), AllocError>
+        ensures { OnOk result (AddsMade self.old self.new (kind_made (texts self.old.words.items) sort number (kind_of kind) self.old.next_list)) }
+    {
+        let mut symbols = Vec::new(self.alloc);
+        symbols.push(self.sign(kind.id))?;
+        symbols.push(Symbol::Act(sort.begin(number)))?;
+        self.format(&mut symbols, kind.format)?;
+        symbols.push(Symbol::Act(sort.end()))?;
+        self.rule(sort.part(), &symbols)
+    }
+
+    /// Adds the rules of the kinds of a sort, each under its number.
+    fn kinds<D: TextDialect>(&mut self, sort: Sort) -> Result<(), AllocError>
+        ensures { OnOk result (AddsMade self.old self.new (kinds_made (texts self.old.words.items) sort 0 (kinds_of D.formats sort) self.old.next_list)) }
+    {
+        for number in 0..KINDS {
+            let Some(kind) = kind_at::<D>(sort, number) else {
+                return Ok(());
+            };
+            self.kind(sort, number as u8, kind)?;
+        }
+        Ok(())
+    }
+
+    /// An operation with its results, whatever its kind.
+    fn operation_rules(&mut self) -> Result<(), AllocError>
+        ensures { OnOk result (AddsRules self.old self.new (operation_rules (texts self.old.words.items)) self.old.next_list) }
+    {
+        let name = Symbol::Sign(NAME_SIGN);
+        let result = Symbol::Act(Action::Result);
+        let more = Symbol::Part(MORE_RESULTS);
+        let comma = self.sign(",");
+        let equals = self.sign("=");
+        let body = Symbol::Part(BODY);
+        self.rule(ROOT, &[Symbol::Part(OPERATION)])?;
+        self.rule(OPERATION, &[body])?;
+        self.rule(OPERATION, &[name, result, more, equals, body])?;
+        self.rule(MORE_RESULTS, &[])?;
+        self.rule(MORE_RESULTS, &[comma, name, result, more])
+    }
+
+    /// Regions, blocks and their operations.
+    fn region_rules(&mut self) -> Result<(), AllocError>
+        ensures { OnOk result (AddsRules self.old self.new (region_rules (texts self.old.words.items)) self.old.next_list) }
+    {
+        let open = self.sign("{");
+        let close = self.sign("}");
+        let semicolon = self.sign(";");
+        let blocks = Symbol::Part(BLOCKS);
+        let operations = Symbol::Part(OPERATIONS);
+        let begin = Symbol::Act(Action::BeginRegion);
+        let end = Symbol::Act(Action::EndRegion);
+        self.rule(REGION, &[open, begin, blocks, close, end])?;
+        self.rule(BLOCKS, &[])?;
+        self.rule(BLOCKS, &[Symbol::Part(BLOCK), blocks])?;
+        self.rule(OPERATIONS, &[])?;
+        let more = Symbol::Part(MORE_OPERATIONS);
+        self.rule(OPERATIONS, &[Symbol::Part(OPERATION), more])?;
+        self.rule(MORE_OPERATIONS, &[])?;
+        self.rule(MORE_OPERATIONS, &[semicolon, operations])
+    }
+
+    /// A block: its header, and its operations.
+    fn block_rules(&mut self) -> Result<(), AllocError>
+        ensures { OnOk result (AddsRules self.old self.new (block_rules (texts self.old.words.items)) self.old.next_list) }
+    {
+        let caret = self.sign("^");
+        let open = self.sign("(");
+        let close = self.sign(")");
+        let colon = self.sign(":");
+        let name = Symbol::Sign(NAME_SIGN);
+        let label = Symbol::Act(Action::Label);
+        let header = Symbol::Act(Action::Header);
+        let arguments = Symbol::Part(ARGUMENTS);
+        let operations = Symbol::Part(OPERATIONS);
+        let end = Symbol::Act(Action::EndBlock);
+        self.rule(
+            BLOCK,
+            &[
+                caret, name, label, open, arguments, close, colon, header, operations, end,
+            ],
+        )
+    }
+
+    /// The arguments of a block, with their types.
+    fn argument_rules(&mut self) -> Result<(), AllocError>
+        ensures { OnOk result (AddsRules self.old self.new (argument_rules (texts self.old.words.items)) self.old.next_list) }
+    {
+        let colon = self.sign(":");
+        let comma = self.sign(",");
+        let name = Symbol::Sign(NAME_SIGN);
+        let argument = Symbol::Part(ARGUMENT);
+        let more = Symbol::Part(MORE_ARGUMENTS);
+        let defines = Symbol::Act(Action::Argument);
+        self.rule(ARGUMENT, &[name, defines, colon, Symbol::Part(TYPE)])?;
+        self.rule(ARGUMENTS, &[])?;
+        self.rule(ARGUMENTS, &[argument, more])?;
+        self.rule(MORE_ARGUMENTS, &[])?;
+        self.rule(MORE_ARGUMENTS, &[comma, argument, more])
+    }
+}
+
+/// Whether a name may be a token of this kind.
+fn may_be_name(words: &[&'static str], kind: usize) -> bool
+    ensures { result ≡ may_be_name (texts words.now) kind }
+{
+    if kind < SHAPES {
+        return kind == 0 || kind == 1;
+    }
+    let number = kind - SHAPES;
+    if number < words.len() {
+        Identifier::is_valid(words[number])
+    } else {
+        false
+    }
+}
+
+/// Whether tokens of a kind may stand where a sign does.
+fn is_taken(words: &[&'static str], sign: usize, kind: usize) -> bool
+    ensures { result ≡ takes (texts words.now) sign kind }
+{
+    match sign {
+        0 => may_be_name(words, kind),
+        1 => kind == 1,
+        2 => kind == 2 || kind == 3,
+        _ => kind >= SHAPES && kind - SHAPES == sign - 3,
+    }
+}
+
+/// The kinds that a sign takes, as a mark for each kind.
+fn class(alloc: Global, words: &[&'static str], sign: usize) -> Result<Class, AllocError>
+    ensures { IfOk result (λ c. c.kinds.items ≡ class_of (texts words.now) sign) }
+{
+    let mut kinds = Vec::new(alloc);
+    for kind in 0..words.len() + SHAPES {
+        kinds.push(is_taken(words, sign, kind))?;
+    }
+    Ok(Class { kinds })
+}
+
+/// The signs of a grammar with these words.
+fn signs(alloc: Global, words: &[&'static str]) -> Result<Vec<Class>, AllocError>
+    ensures { IfOk result (λ cs. plain_classes cs.items ≡ classes_of (texts words.now)) }
+{
+    let mut signs = Vec::new(alloc);
+    for sign in 0..words.len() + 3 {
+        signs.push(class(alloc, words, sign)?)?;
+    }
+    Ok(signs)
+}
+
+/// The rules of a dialect's grammar, with so many parts.
+fn rules<D: TextDialect>(alloc: Global, words: Vec<&'static str>) -> Result<RuleMaker, AllocError>
+    requires { texts words.items ≡ words_of D.formats }
+    ensures rules { IfOk result (λ m. plain_rules m.rules.items ≡ rules_of D.formats) }
+    ensures parts { IfOk result (λ m. m.next_list ≡ parts_of D.formats) }
+    ensures words { IfOk result (λ m. texts m.words.items ≡ words_of D.formats) }
+{
+    let mut maker = RuleMaker {
+        alloc,
+        words,
+        rules: Vec::new(alloc),
+        next_list: FIRST_LIST,
+    };
+    maker.operation_rules()?;
+    maker.region_rules()?;
+    maker.block_rules()?;
+    maker.argument_rules()?;
+    maker.kinds::<D>(Sort::Operation)?;
+    maker.kinds::<D>(Sort::Type)?;
+    maker.kinds::<D>(Sort::Attribute)?;
+    Ok(maker)
+}
+
+/// The table of the grammar that a dialect's formats make, worked out of its rules: what a
+/// [`ReadDialect`](crate::ReadDialect) gives. If the next token doesn't decide each step, none fits.
+pub fn table_of<D: TextDialect>(alloc: Global) -> Result<Vec<Facts>, AllocError> {
+    let words = words_of::<D>(alloc)?;
+    let maker = rules::<D>(alloc, words)?;
+    let signs = signs(alloc, &maker.words)?;
+    let columns = maker.words.len() + SHAPES + 1;
+    let RuleMaker {
+        rules,
+        next_list,
+        ..
+    } = maker;
+    let Grammar { parts, .. } = Grammar::new(alloc, signs, rules, next_list as usize, columns)?;
+    Ok(parts)
+}
+
+/// The grammar of a dialect's texts.
+pub fn grammar_of<D: ReadDialect>(alloc: Global) -> Result<DialectGrammar, AllocError>
+    ensures words { IfOk result (λ g. texts g.words.items ≡ words_of D.formats) }
+    ensures rules { IfOk result (λ g. plain_rules g.grammar.rules.items ≡ rules_of D.formats) }
+    ensures signs { IfOk result (λ g. plain_classes g.grammar.signs.items ≡ classes_of (words_of D.formats)) }
+    ensures can_read { IfOk result (λ g. CanRead g.grammar 0) }
+    ensures ordered { IfOk result (λ g. OrdersTexts g.grammar) }
+{
+    let words = words_of::<D>(alloc)?;
+    let RuleMaker { rules, words, .. } = rules::<D>(alloc, words)?;
+    let signs = signs(alloc, &words)?;
+    let parts = facts_of(alloc, D::table(), words.len() + SHAPES + 1)?;
+    let grammar = Grammar {
+        signs,
+        rules,
+        parts,
+    };
+    Ok(DialectGrammar { grammar, words })
+}

@@ -1,0 +1,288 @@
+//! The kind of each token, and which tokens are spelled alike.
+ghost use Rattle.std.specs.Prelude.{◌≡◌, ◌<◌, OnOk, IfOk, IfSome, length, map, ◌==◌};
+ghost use Rattle.std.specs.Str.{chars};
+ghost use Rattle.ir_formats.specs.Rules.{texts, number_of, with_word};
+ghost use Rattle.ir_formats.specs.Spelling.{known_texts};
+ghost use Rattle.ir_formats.specs.Words.{spellings, text_of, is_width, are_digits, shape_kind, is_spelled, word_kind, kind_of, known_with, name_number, AlikeInNumber};
+
+use crate::rules::{SHAPES, Shape};
+use indexmap::IndexSet;
+use ir_tokens::scan::is_digit;
+use ir_tokens::tokens::{Token, TokenKind};
+use std::alloc::{AllocError, Global};
+
+/// What the grammar knows of the tokens of a text.
+#[derive(Drop)]
+pub struct Classified {
+    /// The kind of each token, as the grammar's signs take it.
+    pub kinds: Vec<u32>,
+    /// A number for each token that may be a word or a name: two have the same where they are spelled alike.
+    pub names: Vec<usize>,
+}
+
+fn characters(alloc: Global, word: &str) -> Result<Vec<char>, AllocError>
+    ensures { IfOk result (λ v. v.items ≡ chars word.now) }
+{
+    word.chars().collect(alloc)
+}
+
+/// The characters of the words of a grammar.
+pub fn spelled(alloc: Global, words: &[&'static str]) -> Result<Vec<Vec<char>>, AllocError>
+    ensures { IfOk result (λ v. spellings v.items ≡ map chars (texts words.now)) }
+{
+    let mut all = Vec::new(alloc);
+    for word in words {
+        all.push(characters(alloc, word)?)?;
+    }
+    Ok(all)
+}
+
+/// Whether these are digits, one or more.
+fn are_digits(text: &[char]) -> bool
+    ensures { result ≡ are_digits text.now }
+{
+    for c in text {
+        if !is_digit(*c) {
+            return false;
+        }
+    }
+    !text.is_empty()
+}
+
+/// Whether these characters are `i`, `si` or `ui` with digits behind it.
+fn is_width(name: &[char]) -> bool
+    ensures { result ≡ is_width name.now }
+{
+    match name {
+        ['i', digits @ ..] => are_digits(digits),
+        ['s', 'i', digits @ ..] => are_digits(digits),
+        ['u', 'i', digits @ ..] => are_digits(digits),
+        _ => false,
+    }
+}
+
+/// The kind of a token that is no word of the grammar.
+fn shape_of(kind: TokenKind, text: &[char]) -> u32
+    ensures { result ≡ shape_kind kind text.now }
+{
+    let shape = match kind {
+        TokenKind::Name => {
+            if is_width(text) {
+                Shape::Width
+            } else {
+                Shape::Name
+            }
+        }
+        TokenKind::Digits => Shape::Digits,
+        TokenKind::Negative => Shape::Negative,
+        _ => Shape::Other,
+    };
+    shape.kind()
+}
+
+/// The characters of a token of the text.
+pub fn text_of<'a>(chars: &'a [char], token: Token) -> &'a [char]
+    ensures { result.now ≡ text_of chars.now token }
+{
+    if token.start <= token.end && token.end <= chars.len() {
+        &chars[token.start..token.end]
+    } else {
+        &[]
+    }
+}
+
+/// Whether the token may be a word of the grammar or a name.
+fn is_spelled(kind: TokenKind) -> bool
+    ensures { result ≡ is_spelled kind }
+{
+    match kind {
+        TokenKind::Digits => false,
+        TokenKind::Negative => false,
+        TokenKind::Mark => false,
+        TokenKind::Text => false,
+        _ => true,
+    }
+}
+
+/// The place of a word among words, or their number where it is none of them.
+fn word_number(words: &[Vec<char>], text: &[char]) -> usize
+    ensures { result ≡ number_of (spellings words.now) text.now }
+{
+    for index in 0..words.len() {
+        if text == words[index].as_slice() {
+            return index;
+        }
+    }
+    words.len()
+}
+
+/// The kind of a token that may be the word of this number, of so many. Words past the last kind have none of their own.
+fn word_kind(number: usize, words: usize, shape: u32) -> u32
+    ensures { result ≡ word_kind number words shape }
+{
+    let most = u32::MAX as usize - SHAPES;
+    if number < words && number < most {
+        (number + SHAPES) as u32
+    } else {
+        shape
+    }
+}
+
+/// The number of a text among those that came before, and whether it is a new one, which is added.
+fn name_of<'a>(
+    known: &mut IndexSet<&'a [char]>,
+    text: &'a [char],
+) -> Result<(usize, bool), AllocError>
+    ensures known { OnOk result (texts known.new.keys ≡ with_word (texts known.old.keys) text.now) }
+    ensures number { IfOk result (λ r. r.0 ≡ number_of (texts known.old.keys) text.now) }
+    ensures is_new { IfOk result (λ r. r.1 ≡ (number_of (texts known.old.keys) text.now == length (texts known.old.keys))) }
+{
+    let (name, is_new) = known.insert_full(text)?;
+    Ok((name, is_new))
+}
+
+/// How many guesses there are.
+const GUESSES: usize = 256;
+
+/// The place of the guess at the number of a text. Texts that come often mostly have places of their own.
+fn guess_place(text: &[char]) -> usize
+    ensures { result < 256 }
+{
+    let length = text.len();
+    if length == 0 {
+        return 0;
+    }
+    let first = text[0] as usize;
+    let last = text[length - 1] as usize;
+    (3 * first + 5 * last + length % GUESSES) % GUESSES
+}
+
+/// The number of a text that is known, where the guess at a place is right.
+fn guessed(
+    known: &IndexSet<&[char]>,
+    guesses: &[usize],
+    place: usize,
+    text: &[char],
+) -> Option<usize>
+    ensures { IfSome result (λ name. (name ≡ number_of (texts known.now.keys) text.now) × (name < length (texts known.now.keys))) }
+{
+    let guess = *guesses.get(place)?;
+    if guess >= known.len() {
+        return None;
+    }
+    let found = *known.get_index(guess)?;
+    if text == found { Some(guess) } else { None }
+}
+
+/// Texts, each with a number, and the number of the word that each is.
+#[derive(Drop)]
+struct Spellings<'a> {
+    known: IndexSet<&'a [char]>,
+    words: Vec<usize>,
+    /// The number that was looked up last at each place of guesses.
+    guesses: Vec<usize>,
+}
+
+impl<'a> Spellings<'a> {
+    /// The number of a text, which is a new one if it hasn't come before, and the number of the word that it is.
+    fn look_up(
+        &mut self,
+        words: &[Vec<char>],
+        text: &'a [char],
+    ) -> Result<(usize, usize), AllocError>
+        requires { self.old.words.items ≡ map (number_of (spellings words.now)) (known_texts self.old) }
+        ensures known { OnOk result (known_texts self.new ≡ with_word (known_texts self.old) text.now) }
+        ensures words { OnOk result (self.new.words.items ≡ map (number_of (spellings words.now)) (known_texts self.new)) }
+        ensures name { IfOk result (λ r. r.0 ≡ number_of (known_texts self.old) text.now) }
+        ensures word { IfOk result (λ r. r.1 ≡ number_of (spellings words.now) text.now) }
+    {
+        let (name, is_new) = name_of(&mut self.known, text)?;
+        if is_new {
+            let word = word_number(words, text);
+            self.words.push(word)?;
+            return Ok((name, word));
+        }
+        Ok((name, self.words[name]))
+    }
+
+    /// Guesses the number at the place from now on.
+    fn note(&mut self, place: usize, name: usize)
+        ensures known { self.new.known ≡ self.old.known }
+        ensures words { self.new.words ≡ self.old.words }
+    {
+        if place < self.guesses.len() {
+            self.guesses[place] = name;
+        }
+    }
+
+    /// The number of a text and that of its word, as `look_up` gives them. Most texts that come often are guessed.
+    fn number(
+        &mut self,
+        words: &[Vec<char>],
+        text: &'a [char],
+    ) -> Result<(usize, usize), AllocError>
+        requires { self.old.words.items ≡ map (number_of (spellings words.now)) (known_texts self.old) }
+        ensures known { OnOk result (known_texts self.new ≡ with_word (known_texts self.old) text.now) }
+        ensures words { OnOk result (self.new.words.items ≡ map (number_of (spellings words.now)) (known_texts self.new)) }
+        ensures name { IfOk result (λ r. r.0 ≡ number_of (known_texts self.old) text.now) }
+        ensures word { IfOk result (λ r. r.1 ≡ number_of (spellings words.now) text.now) }
+    {
+        let place = guess_place(text);
+        if let Some(name) = guessed(&self.known, &self.guesses, place, text) {
+            return Ok((name, self.words[name]));
+        }
+        let (name, word) = self.look_up(words, text)?;
+        self.note(place, name);
+        Ok((name, word))
+    }
+
+    /// The kind of a token and the number of its text, which is `none` for one that is no word and no name.
+    fn token(
+        &mut self,
+        words: &[Vec<char>],
+        chars: &'a [char],
+        token: Token,
+        none: usize,
+    ) -> Result<(u32, usize), AllocError>
+        requires { self.old.words.items ≡ map (number_of (spellings words.now)) (known_texts self.old) }
+        ensures known { OnOk result (known_texts self.new ≡ known_with (known_texts self.old) chars.now token) }
+        ensures words { OnOk result (self.new.words.items ≡ map (number_of (spellings words.now)) (known_texts self.new)) }
+        ensures kind { IfOk result (λ r. r.0 ≡ kind_of (spellings words.now) chars.now token) }
+        ensures name { IfOk result (λ r. r.1 ≡ name_number (known_texts self.old) none chars.now token) }
+    {
+        let text = text_of(chars, token);
+        let shape = shape_of(token.kind, text);
+        if !is_spelled(token.kind) {
+            return Ok((shape, none));
+        }
+        let (name, word) = self.number(words, text)?;
+        Ok((word_kind(word, words.len(), shape), name))
+    }
+}
+
+/// The kinds and names of the tokens of a text. The words come as `spelled` gives them.
+pub fn classify(
+    alloc: Global,
+    words: &[Vec<char>],
+    chars: &[char],
+    tokens: &[Token],
+) -> Result<Classified, AllocError>
+    ensures kinds { IfOk result (λ c. c.kinds.items ≡ map (kind_of (spellings words.now) chars.now) tokens.now) }
+    ensures names { IfOk result (λ c. AlikeInNumber chars.now tokens.now c.names.items) }
+    ensures many { IfOk result (λ c. length c.names.items ≡ length tokens.now) }
+{
+    // Most texts have more than eight tokens for each name.
+    let mut spellings = Spellings {
+        known: IndexSet::with_capacity(alloc, tokens.len() / 8)?,
+        words: Vec::new(alloc),
+        guesses: vec![in alloc; 0usize; GUESSES]?,
+    };
+    let mut kinds = Vec::with_capacity(alloc, tokens.len())?;
+    let mut names = Vec::with_capacity(alloc, tokens.len())?;
+    for token in tokens {
+        let (kind, name) = spellings.token(words, chars, *token, tokens.len())?;
+        kinds.push(kind)?;
+        names.push(name)?;
+    }
+    Ok(Classified { kinds, names })
+}

@@ -1,0 +1,5 @@
+pub mod Derivations
+pub mod Closing
+pub mod Steps
+pub mod Ends
+pub mod Checks

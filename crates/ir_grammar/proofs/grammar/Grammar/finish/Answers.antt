@@ -1,0 +1,91 @@
+use Rattle.std.proofs.Common.{◌≡◌, [], ◌∷◌, ◌++◌, Some, slice_get, reverse, refl, sym, ap, ◌∙◌, arith}
+use Rattle.std.proofs.lemmas.List.{nil_from_length}
+use Rattle.std.proofs.lemmas.Option.{slice_get_read}
+use Rattle.ir_grammar.specs.declared.grammar.Symbol.TheVariants.{Sign, Part, Act}
+use Rattle.ir_grammar.proofs.Closing.{closes_acted, closes_expanded, stops_sign, stops_part, closes_all}
+use Rattle.ir_grammar.proofs.Steps.{reverse_top, closing_at, closing_within, step_fine, step_known, step_lower}
+use Rattle.ir_grammar.proofs.grammar.Grammar.finish.Goals as goal
+use Rattle.ir_grammar.proofs.grammar.Grammar.finish.Goals.{In-Sign, In-Part, In-Act, In_ok-push_all-in-Some-closing, In_default}
+
+-- what is taken from the stack
+signed : (c : In-Sign) → reverse c.loop-symbol.stack.items ≡ Sign c.in-Sign.field-0 ∷ reverse c.pop.new.self.items
+signed c = reverse_top _ _ _ c.in-Some.ensures.items ∙ ap (λ x. x ∷ reverse c.pop.new.self.items) c.in-Sign.is
+
+popped : (c : In-Part) → reverse c.loop-symbol.stack.items ≡ Part c.in-Part.part ∷ reverse c.pop.new.self.items
+popped c = reverse_top _ _ _ c.in-Some.ensures.items ∙ ap (λ x. x ∷ reverse c.pop.new.self.items) c.in-Part.is
+
+acted : (c : In-Act) → reverse c.loop-symbol.stack.items ≡ Act c.in-Act.action ∷ reverse c.pop.new.self.items
+acted c = reverse_top _ _ _ c.in-Some.ensures.items ∙ ap (λ x. x ∷ reverse c.pop.new.self.items) c.in-Act.is
+
+pub returns-in-Sign-clause-ends : goal.returns-in-Sign-clause-ends
+returns-in-Sign-clause-ends c root done l =
+    let top = signed (goal.at.returns-in-Sign-clause-ends c).In-Sign in
+    let known = rw top at c.loop-symbol.invariant.known in
+    let closes = rw top at (c.loop-symbol.invariant.closes root done l) in
+    stops_sign c.args.self.now c.requires.predictive root done _ _ _ known closes
+
+pub loop-symbol-preserved-in-Continue-1 : goal.loop-symbol-preserved-in-Continue-1
+loop-symbol-preserved-in-Continue-1 c =
+    let top = acted (goal.at.loop-symbol-preserved-in-Continue-1 c).In-Act in
+    let fine = rw top at c.loop-symbol.invariant.fine in
+    let known = rw top at c.loop-symbol.invariant.known in
+    record {
+      closes = λ root done l. let closes = rw top at (c.loop-symbol.invariant.closes root done l) in
+          rw c.in_ok-push-in-Act.ensures.items (closes_acted c.args.self.now c.requires.predictive root done _ _ _ closes);
+      fine = fine;
+      known = known;
+    }
+
+pub returns-in-None-clause-ends : goal.returns-in-None-clause-ends
+returns-in-None-clause-ends c root done l =
+    let top = popped (goal.at.returns-in-None-clause-ends c).In-Part in
+    let fine = rw top at c.loop-symbol.invariant.fine in
+    let known = rw top at c.loop-symbol.invariant.known in
+    let closes = rw top at (c.loop-symbol.invariant.closes root done l) in
+    stops_part c.args.self.now c.requires.predictive root done _ _ _ fine known (sym c.in-None.ensures) closes
+
+pub index-requires : goal.index-requires
+index-requires c =
+    let w = closing_within c.args.self.now c.requires.predictive _ c.in-Some-closing.p (sym c.in-Some-closing.ensures) in
+    omega (arith, w, c.args.self.now.rules.ok.0)
+
+-- the rule that was read
+read : (c : In_ok-push_all-in-Some-closing) → slice_get c.args.self.now.rules.items c.in-Some-closing.p ≡ Some c.index.result.now
+read c =
+    let g = c.args.self.now in
+    let w = closing_within g c.requires.predictive _ c.in-Some-closing.p (sym c.in-Some-closing.ensures) in
+    slice_get_read g.rules.items _ c.in-Some-closing.p c.index.result.now refl w c.index.ensures
+
+-- the stack with its body
+next : (c : In_ok-push_all-in-Some-closing) → reverse c.push_all.new.stack.items ≡ c.index.result.now.body.items ++ reverse c.pop.new.self.items
+next c = c.in_ok-push_all-in-Some-closing.ensures ∙ ap (λ x. x ++ reverse c.pop.new.self.items) c.deref.ensures.value
+
+of : (c : In_ok-push_all-in-Some-closing) → c.index.result.now.part ≡ c.in-Part.part
+of c = closing_at c.args.self.now c.requires.predictive _ _ _ (sym c.in-Some-closing.ensures) (read c)
+
+pub loop-symbol-smaller : goal.loop-symbol-smaller
+loop-symbol-smaller c =
+    let d = (goal.at.loop-symbol-smaller c).In_ok-push_all-in-Some-closing in
+    step_lower c.args.self.now c.requires.predictive _ _ _ _ _ _ (popped (goal.at.loop-symbol-smaller c).In-Part) (of d) (read d) (next d)
+
+pub loop-symbol-preserved : goal.loop-symbol-preserved
+loop-symbol-preserved c =
+    let g = c.args.self.now in
+    let d = (goal.at.loop-symbol-preserved c).In_ok-push_all-in-Some-closing in
+    let top = popped (goal.at.loop-symbol-preserved c).In-Part in
+    let fine = c.loop-symbol.invariant.fine in
+    let fine' = rw top at fine in
+    record {
+      closes = λ root done l. let closes = rw top at (c.loop-symbol.invariant.closes root done l) in
+          rw (next d) (closes_expanded g c.requires.predictive root done _ _ _ _ _ fine' (sym c.in-Some-closing.ensures) (read d) (of d) closes);
+      fine = step_fine g c.requires.predictive _ _ _ _ _ _ top (of d) (read d) (next d) fine;
+      known = step_known g c.requires.predictive _ _ _ _ _ _ top (read d) (next d) c.loop-symbol.invariant.known;
+    }
+
+empty : (c : In_default) → reverse c.loop-symbol.stack.items ≡ []
+empty c = ap reverse (nil_from_length _ (sym c.loop-symbol.stack.ok.0 ∙ c.in_default.ensures.cases.0))
+
+pub returns-clause-ends : goal.returns-clause-ends
+returns-clause-ends c root done l =
+    let closes = rw (empty (goal.at.returns-clause-ends c).In_default) at (c.loop-symbol.invariant.closes root done l) in
+    closes_all c.args.self.now c.requires.predictive root done _ closes

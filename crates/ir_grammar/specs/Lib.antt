@@ -1,0 +1,5 @@
+pub mod Grammar
+pub mod Table
+pub mod Reading
+pub mod Run
+pub mod Nesting

@@ -1,0 +1,372 @@
+//! A grammar that is data, and a reader over it that decides each step by the next token.
+ghost use Rattle.std.specs.Prelude.{◌≡◌, ℕ, List, ◌++◌, reverse, take, length, slice_get, IfOk, OnOk, IsTrue, MatchOption, ◌≤◌};
+ghost use Rattle.ir_grammar.specs.Grammar.{accepts};
+ghost use Rattle.ir_grammar.specs.Table.{pick, closing_of, IsFine, IsKnown, IsPredictive, CanRead};
+ghost use Rattle.ir_grammar.specs.Run.{Leads, Closes, Advances, Ends, Grows};
+ghost use Rattle.ir_grammar.specs.Reading.{Reads, OpensMore, depth_after, opens, closes, begins_member};
+
+use std::alloc::{AllocError, Global};
+
+/// Something that reading does at the token before it.
+#[derive(Clone, Copy, Debug, PartialEq, Eq)]
+pub enum Action {
+    /// The name names a result of the operation that comes.
+    Result,
+    /// The dotted name is the id of an operation of the kind with this number; its body begins.
+    Operation(u8),
+    /// An operation with its body has been read.
+    EndOperation,
+    /// The brace opens a region.
+    BeginRegion,
+    /// The brace closes the region.
+    EndRegion,
+    /// The name is the label of a block.
+    Label,
+    /// The name is that of a block's argument.
+    Argument,
+    /// The header of a block has been read.
+    Header,
+    /// A block with its operations has been read.
+    EndBlock,
+    /// A type of the kind with this number begins.
+    BeginType(u8),
+    /// The type has been read.
+    EndType,
+    /// An attribute of the kind with this number begins.
+    BeginAttribute(u8),
+    /// The attribute has been read.
+    EndAttribute,
+    /// The name is a part of what is being read.
+    Name,
+    /// The number is a part of what is being read.
+    Number,
+    /// The width is a part of what is being read.
+    Width,
+    /// A list of operands begins behind this token.
+    BeginOperands,
+    /// The name mentions a value.
+    Operand,
+    /// The operands have been read.
+    EndOperands,
+    /// A list begins behind this token.
+    BeginList,
+    /// A member of the list begins with the next token.
+    BeginItem,
+    /// The member has been read.
+    EndItem,
+    /// The list has been read.
+    EndList,
+}
+
+/// What stands in the body of a rule.
+#[derive(Clone, Copy, Debug, PartialEq, Eq)]
+pub enum Symbol {
+    /// A token of one of the kinds of the sign with this number.
+    Sign(u32),
+    /// What one of the rules for the part with this number says.
+    Part(u32),
+    /// No token, but something that is done at the token before.
+    Act(Action),
+}
+
+/// What reading does.
+#[derive(Clone, Copy, Debug, PartialEq, Eq)]
+pub enum Event {
+    /// A token was taken.
+    Took,
+    /// An action of a rule was met, at the last token that was taken.
+    Did(Action),
+}
+
+/// A sign: the kinds of token that it stands for. The kind with number k is one of them where `kinds[k]` holds.
+#[derive(Drop)]
+pub struct Class {
+    pub kinds: Vec<bool>,
+}
+
+/// One way to write a part of a text: the symbols of its body, one after the other.
+#[derive(Drop)]
+pub struct Rule {
+    pub part: u32,
+    pub body: Vec<Symbol>,
+}
+
+/// What the table knows of a part. Column 0 is the end of the text, and column k + 1 a token of kind k.
+#[derive(Drop)]
+pub struct Facts {
+    /// The rule to take at each column.
+    pub choices: Vec<Option<usize>>,
+    /// Whether the part may stand before each column.
+    pub follows: Vec<bool>,
+    /// The rule to take where no token goes on with the part. A part without one has a token in each of its texts.
+    pub closing: Option<usize>,
+    /// More than the number of rules and actions that are taken for the part before a token is.
+    pub cost: u32,
+    /// A rule whose parts have lower ranks.
+    pub shortest: usize,
+    /// Less than this are the ranks of the parts in `shortest`.
+    pub rank: u32,
+}
+
+/// Why reading stopped.
+#[derive(Clone, Copy, Debug, PartialEq, Eq)]
+pub enum Stop {
+    /// What was taken is a whole text, and no longer front begins a text.
+    Text,
+    /// What was taken is no whole text, and no longer front begins a text.
+    Stuck,
+    /// More parts are open than may be.
+    Deep,
+}
+
+/// What was read of the front of some tokens.
+#[derive(Drop)]
+pub struct Reading {
+    /// Why reading stopped.
+    pub stop: Stop,
+    /// How many tokens were taken.
+    pub taken: usize,
+    /// What reading did, with all that may end at the last token unless too much is open.
+    pub events: Vec<Event>,
+}
+
+/// Rules with the table by which they are read.
+#[derive(Drop)]
+pub struct Grammar {
+    /// The signs, by number.
+    pub signs: Vec<Class>,
+    /// The rules, by number.
+    pub rules: Vec<Rule>,
+    /// What the table knows of each part, by number.
+    pub parts: Vec<Facts>,
+}
+
+impl Action {
+    /// Whether a part begins that counts for the depth: a region, a type or an attribute.
+    pub fn opens(self) -> bool
+        ensures { result ≡ opens self }
+    {
+        match self {
+            Action::BeginRegion | Action::BeginType(_) | Action::BeginAttribute(_) => true,
+            _ => false,
+        }
+    }
+
+    /// Whether a member of a list begins, with the next token.
+    pub fn begins_member(self) -> bool
+        ensures { result ≡ begins_member self }
+    {
+        match self {
+            Action::BeginItem => true,
+            _ => false,
+        }
+    }
+
+    /// Whether a part ends that counts for the depth.
+    pub fn closes(self) -> bool
+        ensures { result ≡ closes self }
+    {
+        match self {
+            Action::EndRegion | Action::EndType | Action::EndAttribute => true,
+            _ => false,
+        }
+    }
+}
+
+impl Grammar {
+    /// Whether a token of this kind may stand where the sign does.
+    pub fn accepts(&self, sign: u32, kind: usize) -> bool
+        ensures { result ≡ accepts self.now sign kind }
+    {
+        match self.signs.get(sign as usize) {
+            None => false,
+            Some(class) => match class.kinds.get(kind) {
+                None => false,
+                Some(yes) => *yes,
+            },
+        }
+    }
+
+    /// The rule to take where no token goes on with the part.
+    pub fn closing(&self, part: u32) -> Option<usize>
+        ensures { result ≡ closing_of (slice_get self.now.parts.items part) }
+    {
+        match self.parts.get(part as usize) {
+            None => None,
+            Some(facts) => facts.closing,
+        }
+    }
+
+    /// The rule to take for the part at the column.
+    pub fn pick(&self, part: u32, column: usize) -> Option<usize>
+        ensures { result ≡ pick self.now part column }
+    {
+        match self.parts.get(part as usize) {
+            None => None,
+            Some(facts) => match facts.choices.get(column) {
+                None => None,
+                Some(choice) => *choice,
+            },
+        }
+    }
+
+    /// Takes a token, if one of its kind may come next. Else parts may be closed.
+    fn advance(
+        &self,
+        stack: &mut Vec<Symbol>,
+        events: &mut Vec<Event>,
+        kind: u32,
+    ) -> Result<bool, AllocError>
+        requires predictive { IsPredictive self.now }
+        requires fine { IsFine self.now (reverse stack.old.items) }
+        requires known { IsKnown self.now (reverse stack.old.items) }
+        ensures advanced { IfOk result (λ yes. (root : ℕ) (done : List ℕ)
+            → Leads self.now root done events.old.items (reverse stack.old.items)
+            → Advances self.now root done kind yes events.new.items (reverse stack.new.items)) }
+        ensures grows { IfOk result (λ yes. IsTrue yes → Grows events.old.items events.new.items) }
+        ensures fine { OnOk result (IsFine self.now (reverse stack.new.items)) }
+        ensures known { OnOk result (IsKnown self.now (reverse stack.new.items)) }
+    {
+        while let Some(symbol) = stack.pop() {
+            match symbol {
+                Symbol::Sign(sign) => {
+                    if self.accepts(sign, kind as usize) {
+                        events.push(Event::Took)?;
+                        return Ok(true);
+                    }
+                    stack.push(Symbol::Sign(sign))?;
+                    return Ok(false);
+                }
+                Symbol::Act(action) => events.push(Event::Did(action))?,
+                Symbol::Part(part) => match self.pick(part, kind as usize + 1) {
+                    None => {
+                        stack.push(Symbol::Part(part))?;
+                        return Ok(false);
+                    }
+                    Some(p) => push_all(stack, &self.rules[p].body)?,
+                },
+            }
+        }
+        Ok(false)
+    }
+
+    /// Closes each part that may end, where no further token is taken.
+    fn finish(
+        &self,
+        mut stack: Vec<Symbol>,
+        mut events: Vec<Event>,
+        taken: usize,
+    ) -> Result<Reading, AllocError>
+        requires predictive { IsPredictive self.now }
+        requires fine { IsFine self.now (reverse stack.items) }
+        requires known { IsKnown self.now (reverse stack.items) }
+        ensures ends { IfOk result (λ r. (root : ℕ) (done : List ℕ)
+            → Closes self.now root done events.items (reverse stack.items)
+            → Ends self.now root done r.stop r.events.items) }
+        ensures taken { IfOk result (λ r. r.taken ≡ taken) }
+    {
+        while let Some(symbol) = stack.pop() {
+            match symbol {
+                Symbol::Sign(_) => {
+                    return Ok(Reading {
+                        stop: Stop::Stuck,
+                        taken,
+                        events,
+                    });
+                }
+                Symbol::Act(action) => events.push(Event::Did(action))?,
+                Symbol::Part(part) => match self.closing(part) {
+                    None => {
+                        return Ok(Reading {
+                            stop: Stop::Stuck,
+                            taken,
+                            events,
+                        });
+                    }
+                    Some(p) => push_all(&mut stack, &self.rules[p].body)?,
+                },
+            }
+        }
+        Ok(Reading {
+            stop: Stop::Text,
+            taken,
+            events,
+        })
+    }
+
+    /// Reads the longest front of tokens that begins a text of the part `root`, or up to where too many parts are open.
+    ///
+    /// In come the kinds of the tokens, by number, and how many regions, types and attributes may be open at once. Out
+    /// comes what stopped the reading, the number of tokens taken and the events, one [`Event::Took`] for each of them.
+    /// [`Stop::Deep`] is answered one token after the first token of the part that is too deep. The only error is
+    /// that memory is refused.
+    pub fn read(
+        &self,
+        alloc: Global,
+        root: u32,
+        deepest: usize,
+        kinds: &[u32],
+    ) -> Result<Reading, AllocError>
+        requires { CanRead self.now root }
+        ensures { IfOk result (λ r. Reads self.now root deepest kinds.now r.stop r.taken r.events.items) }
+    {
+        let mut stack = Vec::new(alloc);
+        stack.push(Symbol::Part(root))?;
+        // Reading does less than one thing more at a token, in most texts, than to take it.
+        let mut events = Vec::with_capacity(alloc, kinds.len().saturating_mul(2))?;
+        let mut depth = 0;
+        for taken in 0..kinds.len() {
+            let mark = events.len();
+            if !self.advance(&mut stack, &mut events, kinds[taken])? {
+                return self.finish(stack, events, taken);
+            }
+            match depth_after(&events[mark..], depth, deepest) {
+                None => {
+                    return Ok(Reading {
+                        stop: Stop::Deep,
+                        taken: taken + 1,
+                        events,
+                    });
+                }
+                Some(after) => depth = after,
+            }
+        }
+        self.finish(stack, events, kinds.len())
+    }
+}
+
+/// How many parts are open after events, if they are never too many.
+fn depth_after(events: &[Event], depth: usize, deepest: usize) -> Option<usize>
+    requires { depth ≤ deepest }
+    ensures { MatchOption result (OpensMore deepest depth events.now) (λ after. (after ≤ deepest) × (after ≡ depth_after depth events.now)) }
+{
+    let mut opened = depth;
+    for event in events {
+        match event {
+            Event::Took => {}
+            Event::Did(action) => {
+                if action.opens() {
+                    if opened >= deepest {
+                        return None;
+                    }
+                    opened += 1;
+                } else if action.closes() {
+                    opened = opened.saturating_sub(1);
+                }
+            }
+        }
+    }
+    Some(opened)
+}
+
+/// Puts the symbols on the stack, the first on top.
+fn push_all(stack: &mut Vec<Symbol>, body: &[Symbol]) -> Result<(), AllocError>
+    ensures { OnOk result (reverse stack.new.items ≡ body.now ++ reverse stack.old.items) }
+{
+    let mut left = body.len();
+    while left > 0 {
+        left -= 1;
+        stack.push(body[left])?;
+    }
+    Ok(())
+}

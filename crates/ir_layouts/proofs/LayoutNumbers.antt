@@ -1,0 +1,52 @@
+-- The numbers that decimal digits write are read again.
+use Rattle.std.proofs.Common.{◌≡◌, ℕ, ◌+◌, ◌-◌, ◌*◌, ◌%◌, ◌<◌, ◌≤◌, ◌^◌, ◌==◌, List, [], ◌∷◌, ◌++◌, Bool, true, false, if◌then◌else◌, arith, refl, ap, ◌∙◌}
+use Rattle.std.proofs.lemmas.Fmt.{decimal_by_steps}
+use Rattle.std.proofs.lemmas.Bool.{eqb-true}
+use Rattle.std.specs.Fmt.{decimal}
+use Rattle.ir_names.specs.declared.kinds.Signedness.{Signedness}
+use Rattle.ir_names.specs.declared.kinds.Signedness.TheVariants.{Signless, Signed, Unsigned}
+use Rattle.ir_print.specs.Layout.{width_text, number_text}
+use Rattle.ir_print.specs.Pieces.{number, width}
+use Rattle.ir_forest.specs.Meaning.{digits_from, digits, number_in, width_in}
+
+digits_append : (xs ys : List ℕ) (v : ℕ) → digits_from v (xs ++ ys) ≡ digits_from (digits_from v xs) ys
+digits_append [] ys v = refl
+digits_append (x ∷ xs) ys v = digits_append xs ys (10 * v + (x - 48))
+
+-- the first character is no `-` (45)
+abbrev BeginsPlain : List ℕ → Type 0
+BeginsPlain [] = ⊥
+BeginsPlain (c ∷ cs) = 48 ≤ c
+
+begins_append : (xs ys : List ℕ) → BeginsPlain xs → BeginsPlain (xs ++ ys)
+begins_append [] ys h = absurd h
+begins_append (x ∷ xs) ys h = h
+
+-- the digits write this number
+abbrev IsDecimal : ℕ → List ℕ → Type 0
+IsDecimal n cs = (digits cs ≡ n) × BeginsPlain cs
+
+decimal_is : (n : ℕ) → n < 2 ^ 64 → IsDecimal n (decimal n)
+decimal_is n h = decimal_by_steps IsDecimal
+    (λ n h. (omega arith, omega arith))
+    (λ n ds h d. (digits_append ds ((48 + n % 10) ∷ []) 0 ∙ (ap (λ z. 10 * z + (48 + n % 10 - 48)) d.0 ∙ omega (arith, h)), begins_append ds ((48 + n % 10) ∷ []) d.1))
+    n h
+
+plain_number : (cs : List ℕ) (n : ℕ) → IsDecimal n cs → number_in cs ≡ number false n
+plain_number [] n h = absurd h.1
+plain_number (c ∷ cs) n h =
+    let other : (c == 45) ≡ false = go (c == 45) refl in
+    ap (λ (b : Bool). if b then number true (digits cs) else number false (digits (c ∷ cs))) other ∙ ap (number false) h.0
+  where
+    go : (x : Bool) → (c == 45) ≡ x → (c == 45) ≡ false
+    go true e = let same = eqb-true c 45 e in let low : 48 ≤ c = h.1 in absurd (omega (arith, same, low))
+    go false e = e
+
+pub number_again : (negative : Bool) (n : ℕ) → n < 2 ^ 64 → number_in (number_text negative n) ≡ number negative n
+number_again true n h = ap (number true) (decimal_is n h).0
+number_again false n h = plain_number (decimal n) n (decimal_is n h)
+
+pub width_again : (sign : Signedness) (n : ℕ) → n < 2 ^ 32 → width_in (width_text sign n) ≡ width sign n
+width_again Signless n h = ap (width Signless) (decimal_is n (omega (arith, h))).0
+width_again Signed n h = ap (width Signed) (decimal_is n (omega (arith, h))).0
+width_again Unsigned n h = ap (width Unsigned) (decimal_is n (omega (arith, h))).0

@@ -1,0 +1,86 @@
+-- From tables of names to what a text has.
+use Rattle.std.proofs.Common.{◌≡◌, ℕ, ◌<◌, Bool, List, length, Option, Some, None, slice_get, slice_index, refl, sym, subst, ◌∙◌, ◌⊎◌, inl, inr}
+use Rattle.std.proofs.lemmas.Bool.{cases_order}
+use Rattle.std.specs.HashMap as hash
+use Rattle.std.specs.HashMap.{HashMap}
+use Rattle.ir_tokens.specs.declared.faults.Fault.{Fault}
+use Rattle.ir_grammar.specs.declared.grammar.Event.{Event}
+use Rattle.ir_scopes.specs.declared.scopes.Resolution.{Resolution}
+use Rattle.ir_scopes.specs.declared.sites.Site.{Site}
+use Rattle.ir_scopes.specs.declared.sites.Sites.{Sites}
+use Rattle.ir_tokens.specs.Faults.{IsFirstOf, IsNamed}
+use Rattle.ir_scopes.specs.Scopes.{name_of, Names, Means, IsAgain, IsLacking, IsTable, AreDistinct, AreApart, AreSites, HasScopeFault, Resolves, same_key, fault_again, definitions, labels, mentions, closings}
+use Rattle.ir_tokens.proofs.FirstFault.{first_of_law}
+use Rattle.ir_scopes.proofs.Lacking.{meant, is_meant}
+
+-- a name that isn't defined twice has one number
+one_number : (names : List ℕ) (ds : List Site) → IsNamed (IsAgain names ds) None → (scope name i j : ℕ) → Names names ds scope name i → Names names ds scope name j → i ≡ j
+one_number names ds none scope name i j a b = go (cases_order i j)
+  where
+    again : (i j : ℕ) → i < j → Names names ds scope name i → Names names ds scope name j → ⊥
+    again i j lt a b =
+        let at : Names names ds b.0.scope (name_of names b.0.token) i
+        = subst (λ n. Names names ds b.0.scope n i) (sym b.2.1) (subst (λ n. Names names ds n name i) (sym b.2.0) a) in
+        none (fault_again b.0.token) (i, j, b.0, lt, b.1, at, refl)
+
+    go : (i ≡ j) ⊎ ((i < j) ⊎ (j < i)) → i ≡ j
+    go (inl e) = e
+    go (inr (inl lt)) = absurd (again i j lt a b)
+    go (inr (inr lt)) = absurd (again j i lt b a)
+
+module _ (isolated : ℕ → Bool) (names : List ℕ) (es : List Event) (s : Sites) (are : AreSites isolated es s) where
+  -- the first fault of three rows
+  pub merged : (v l u w r : Option Fault) → IsNamed (IsAgain names s.definitions.items) v → IsNamed (IsAgain names s.labels.items) l
+      → IsNamed (IsLacking names s.definitions.items s.mentions.items s.closings.items) u → IsFirstOf l u w → IsFirstOf v w r → IsNamed (HasScopeFault isolated names es) r
+  merged v l u w r hv hl hu first second =
+      let Labels : Fault → Type 0 = IsAgain names (labels isolated es) in
+      let Values : Fault → Type 0 = IsAgain names (definitions isolated es) in
+      let Lacking : Fault → Type 0 = IsLacking names (definitions isolated es) (mentions isolated es) (closings isolated es) in
+      let lacking : IsNamed Lacking u
+      = subst (λ ds. IsNamed (IsLacking names ds (mentions isolated es) (closings isolated es)) u) are.definitions
+      (subst (λ ms. IsNamed (IsLacking names s.definitions.items ms (closings isolated es)) u) are.mentions
+      (subst (λ cs. IsNamed (IsLacking names s.definitions.items s.mentions.items cs) u) are.closings hu)) in
+      first_of_law Values (λ f. Labels f ⊎ Lacking f) (HasScopeFault isolated names es) v w r (λ f x. x) (λ f x. inl x) (λ f x. inr x)
+      (subst (λ ds. IsNamed (IsAgain names ds) v) are.definitions hv)
+      (first_of_law Labels Lacking (λ f. Labels f ⊎ Lacking f) l u w (λ f x. x) (λ f x. inl x) (λ f x. inr x) (subst (λ ls. IsNamed (IsAgain names ls) l) are.labels hl) lacking first)
+      second
+
+  module _ {S : Type 0} (table : HashMap (ℕ × ℕ) ℕ S) (all : IsTable names s.definitions.items table) (none : IsNamed (HasScopeFault isolated names es) None) where
+    resolves_here : (r : Resolution) → r.count ≡ length s.definitions.items
+        → (AreApart s.definitions.items s.mentions.items → (j : ℕ) (d : Site) → slice_get s.definitions.items j ≡ Some d → d.token < length names → slice_index r.definitions.items d.token ≡ j)
+        → (AreDistinct s.mentions.items → (i j : ℕ) (m : Site) → slice_get s.mentions.items i ≡ Some m → hash.get same_key table (m.scope, name_of names m.token) ≡ Some j
+        → m.token < length names → slice_index r.definitions.items m.token ≡ j)
+        → Resolves names s.definitions.items s.mentions.items s.closings.items r
+    resolves_here r count defined mentioned = record {
+      count = count;
+      defined = defined;
+      mentioned = λ apart i j m at means within. number apart i j m at means within (hash.get same_key table (m.scope, name_of names m.token)) refl;
+      resolved = is_meant names s.definitions.items s.mentions.items table all s.closings.items no_lacking;
+    }
+      where
+        no_again : IsNamed (IsAgain names s.definitions.items) None
+        no_again = subst (λ ds. IsNamed (IsAgain names ds) None) (sym are.definitions) (λ f h. none f (inl h))
+
+        no_lacking : IsNamed (IsLacking names s.definitions.items s.mentions.items s.closings.items) None
+        no_lacking =
+            subst (λ cs. IsNamed (IsLacking names s.definitions.items s.mentions.items cs) None) (sym are.closings)
+            (subst (λ ms. IsNamed (IsLacking names s.definitions.items ms (closings isolated es)) None) (sym are.mentions)
+            (subst (λ ds. IsNamed (IsLacking names ds (mentions isolated es) (closings isolated es)) None) (sym are.definitions) (λ f h. none f (inr (inr h)))))
+
+        number : AreApart s.definitions.items s.mentions.items → (i j : ℕ) (m : Site) → slice_get s.mentions.items i ≡ Some m → Means names s.definitions.items m j → m.token < length names
+            → (o : Option ℕ) → hash.get same_key table (m.scope, name_of names m.token) ≡ o → slice_index r.definitions.items m.token ≡ j
+        number apart i j m at means within None e = absurd (meant names s.definitions.items s.mentions.items table all m None e j means)
+        number apart i j m at means within (Some k) e =
+            mentioned apart.mentions i k m at e within
+            ∙ one_number names s.definitions.items no_again m.scope (name_of names m.token) k j (meant names s.definitions.items s.mentions.items table all m (Some k) e) means
+
+    pub resolves : (r : Resolution) → r.count ≡ length s.definitions.items
+        → (AreApart s.definitions.items s.mentions.items → (j : ℕ) (d : Site) → slice_get s.definitions.items j ≡ Some d → d.token < length names → slice_index r.definitions.items d.token ≡ j)
+        → (AreDistinct s.mentions.items → (i j : ℕ) (m : Site) → slice_get s.mentions.items i ≡ Some m → hash.get same_key table (m.scope, name_of names m.token) ≡ Some j
+        → m.token < length names → slice_index r.definitions.items m.token ≡ j)
+        → Resolves names (definitions isolated es) (mentions isolated es) (closings isolated es) r
+    resolves r count defined mentioned =
+        subst (λ cs. Resolves names (definitions isolated es) (mentions isolated es) cs r) are.closings
+        (subst (λ ms. Resolves names (definitions isolated es) ms s.closings.items r) are.mentions
+        (subst (λ ds. Resolves names ds s.mentions.items s.closings.items r) are.definitions
+        (resolves_here r count defined mentioned)))

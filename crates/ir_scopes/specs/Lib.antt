@@ -1,0 +1,3 @@
+pub mod Scopes
+pub mod Depth
+pub mod Naming

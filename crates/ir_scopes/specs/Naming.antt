@@ -1,0 +1,28 @@
+-- Which tokens name definitions of values, and which mention values.
+use Rattle.std.specs.Prelude.{ℕ, ◌+◌, ◌-◌, List, [], ◌∷◌, ◌++◌}
+use Rattle.ir_grammar.specs.declared.grammar.Action.{Action}
+use Rattle.ir_grammar.specs.declared.grammar.Action.TheVariants as act
+use Rattle.ir_grammar.specs.declared.grammar.Event.{Event}
+use Rattle.ir_grammar.specs.declared.grammar.Event.TheVariants.{Took, Did}
+
+-- the token of an action, if it names a definition
+abbrev pub defined_by : Action → ℕ → List ℕ
+defined_by act.Result k = k ∷ []
+defined_by act.Argument k = k ∷ []
+defined_by _ k = []
+
+-- the tokens that name definitions among events, so many tokens having been taken before
+abbrev pub defined_from : ℕ → List Event → List ℕ
+defined_from n [] = []
+defined_from n (Took ∷ es) = defined_from (n + 1) es
+defined_from n (Did a ∷ es) = defined_by a (n - 1) ++ defined_from n es
+
+-- the same of the tokens that mention values
+abbrev pub mentioned_by : Action → ℕ → List ℕ
+mentioned_by act.Operand k = k ∷ []
+mentioned_by _ k = []
+
+abbrev pub mentioned_from : ℕ → List Event → List ℕ
+mentioned_from n [] = []
+mentioned_from n (Took ∷ es) = mentioned_from (n + 1) es
+mentioned_from n (Did a ∷ es) = mentioned_by a (n - 1) ++ mentioned_from n es

@@ -1,0 +1,267 @@
+-- Where the names of a text stand, what they mean, and the faults of names.
+use Rattle.std.specs.Prelude.{◌≡◌, ℕ, ◌+◌, ◌-◌, ◌<◌, ◌==◌, List, [], ◌∷◌, ◌++◌, Option, Some, None, MatchOption, Bool, true, false, cond, ◌&&◌, nat_eq, ◌⊎◌, slice_get, slice_index, length, reverse}
+use Rattle.std.specs.Bool.{MatchBool}
+use Rattle.std.specs.HashMap as hash
+use Rattle.std.specs.HashMap.{HashMap}
+use Rattle.std.specs.HashSet as bag
+use Rattle.std.specs.HashSet.{HashSet}
+use Rattle.ir_grammar.specs.declared.grammar.Action.{Action}
+use Rattle.ir_grammar.specs.declared.grammar.Action.TheVariants.{Result, Argument, Label, Operand, Operation, EndOperation, BeginRegion, EndRegion}
+use Rattle.ir_grammar.specs.declared.grammar.Event.{Event}
+use Rattle.ir_grammar.specs.declared.grammar.Event.TheVariants.{Took, Did}
+use Rattle.ir_tokens.specs.declared.faults.Fault.{Fault}
+use Rattle.ir_tokens.specs.declared.faults.FaultKind.TheVariants.{MultipleDefinitions, UnresolvedReference}
+use Rattle.ir_scopes.specs.declared.scopes.Resolution.{Resolution}
+use Rattle.ir_scopes.specs.declared.scopes.ScopeFault.{ScopeFault}
+use Rattle.ir_scopes.specs.declared.scopes.ScopeFault.TheVariants.{Memory, Text}
+use Rattle.ir_scopes.specs.declared.sites.Frame.{Frame}
+use Rattle.ir_scopes.specs.declared.sites.Site.{Site}
+use Rattle.ir_scopes.specs.declared.sites.Closing.{Closing}
+use Rattle.ir_scopes.specs.declared.sites.Sites.{Sites}
+use Rattle.ir_scopes.specs.declared.sites.Walker.{Walker}
+use Rattle.ir_tokens.specs.Faults.{IsNamed}
+
+-- whether operations of the kind with a number are isolated: not where there is no such kind
+abbrev pub is_isolated_kind : {K : Type 0} → (K → Bool) → Option K → Bool
+is_isolated_kind isolated None = false
+is_isolated_kind isolated (Some kind) = isolated kind
+
+-- whether operations of the kind with this number are isolated
+abbrev pub isolated_at : {K : Type 0} → (ℕ → Option K) → (K → Bool) → ℕ → Bool
+isolated_at kind_at isolated n = is_isolated_kind isolated (kind_at n)
+
+-- ---- what is open
+
+-- A place among events: how many events and tokens stand before it, the innermost operation or region that it stands in, and
+-- those around that, the inner ones first. A scope is given by the number of events that stand before it.
+pub record Place : Type 0 where
+  pub events : ℕ
+  pub tokens : ℕ
+  pub here : Frame
+  pub around : List Frame
+
+-- outside of all operations, behind so many events
+abbrev pub outside : ℕ → Frame
+outside n = record { isolated = false; labels = n; values = n; opened = 0 }
+
+-- where a text begins
+abbrev pub beginning : Place
+beginning = record { events = 0; tokens = 0; here = outside 0; around = [] }
+
+-- the token before a place
+abbrev pub last_token : Place → ℕ
+last_token at = at.tokens - 1
+
+-- in an operation names mean what they mean around it
+abbrev pub operation_frame : Bool → Frame → Frame
+operation_frame isolated f = record { isolated = isolated; labels = f.labels; values = f.values; opened = f.opened }
+
+-- a region is a scope of labels, and that of an isolated operation one of values too
+abbrev pub region_frame : Place → Frame
+region_frame at = record {
+  isolated = false;
+  labels = at.events + 1;
+  values = cond at.here.isolated (at.events + 1) at.here.values;
+  opened = cond at.here.isolated (last_token at) at.here.opened;
+}
+
+-- behind the end of an operation; that of the root, around which there is none, ends the scope outside of all operations
+abbrev pub here_behind_operation : ℕ → List Frame → Frame
+here_behind_operation n [] = outside (n + 1)
+here_behind_operation n (f ∷ []) = outside (n + 1)
+here_behind_operation n (f ∷ g ∷ fs) = f
+
+-- behind the end of a region
+abbrev pub here_behind_region : Frame → List Frame → Frame
+here_behind_region here [] = here
+here_behind_region here (f ∷ fs) = f
+
+-- what is around the innermost of what is around
+abbrev pub rest : List Frame → List Frame
+rest [] = []
+rest (f ∷ fs) = fs
+
+-- the innermost of what is open behind an action
+abbrev pub here_after : (ℕ → Bool) → Place → Action → Frame
+here_after isolated at (Operation n) = operation_frame (isolated n) at.here
+here_after isolated at EndOperation = here_behind_operation at.events at.around
+here_after isolated at BeginRegion = region_frame at
+here_after isolated at EndRegion = here_behind_region at.here at.around
+here_after isolated at _ = at.here
+
+-- what is open around it
+abbrev pub around_after : Place → Action → List Frame
+around_after at (Operation n) = at.here ∷ at.around
+around_after at EndOperation = rest at.around
+around_after at BeginRegion = at.here ∷ at.around
+around_after at EndRegion = rest at.around
+around_after at _ = at.around
+
+-- the place behind an event
+abbrev pub behind : (ℕ → Bool) → Place → Event → Place
+behind isolated at Took = record { events = at.events + 1; tokens = at.tokens + 1; here = at.here; around = at.around }
+behind isolated at (Did a) = record { events = at.events + 1; tokens = at.tokens; here = here_after isolated at a; around = around_after at a }
+
+-- ---- the names
+
+-- the definitions of values that an event makes: results and arguments
+abbrev pub defined : Place → Event → List Site
+defined at (Did Result) = record { scope = at.here.values; token = last_token at } ∷ []
+defined at (Did Argument) = record { scope = at.here.values; token = last_token at } ∷ []
+defined at _ = []
+
+-- the labels that it makes
+abbrev pub labelled : Place → Event → List Site
+labelled at (Did Label) = record { scope = at.here.labels; token = last_token at } ∷ []
+labelled at _ = []
+
+-- the values that it mentions
+abbrev pub mentioned : Place → Event → List Site
+mentioned at (Did Operand) = record { scope = at.here.values; token = last_token at } ∷ []
+mentioned at _ = []
+
+-- the scope of one frame ends where what follows stands in another
+abbrev pub ended : ℕ → Frame → Frame → List Closing
+ended met before after = cond (after.values == before.values) [] (record { scope = before.values; met = met; place = before.opened } ∷ [])
+
+-- the ends of operations and regions may end scopes
+abbrev pub may_end : Event → Bool
+may_end (Did EndOperation) = true
+may_end (Did EndRegion) = true
+may_end _ = false
+
+-- the scope of values that an event ends
+abbrev pub closed : (ℕ → Bool) → Place → Event → List Closing
+closed isolated at e = cond (may_end e) (ended (last_token at) at.here (behind isolated at e).here) []
+
+-- what events make, each at its place, in their order
+abbrev pub each : {A : Type 0} → (ℕ → Bool) → (Place → Event → List A) → Place → List Event → List A
+each isolated f at [] = []
+each isolated f at (e ∷ es) = f at e ++ each isolated f (behind isolated at e) es
+
+-- the definitions of values, in the order of the text
+abbrev pub definitions : (ℕ → Bool) → List Event → List Site
+definitions isolated es = each isolated defined beginning es
+
+-- the labels, in the order of the text
+abbrev pub labels : (ℕ → Bool) → List Event → List Site
+labels isolated es = each isolated labelled beginning es
+
+-- the mentions of values, in the order of the text
+abbrev pub mentions : (ℕ → Bool) → List Event → List Site
+mentions isolated es = each isolated mentioned beginning es
+
+-- the ends of scopes of values, in the order of the text
+abbrev pub closings : (ℕ → Bool) → List Event → List Closing
+closings isolated es = each isolated (closed isolated) beginning es
+
+-- these are the names of events
+pub record AreSites (isolated : ℕ → Bool) (es : List Event) (s : Sites) : Type 0 where
+  pub definitions : s.definitions.items ≡ definitions isolated es
+  pub labels : s.labels.items ≡ labels isolated es
+  pub mentions : s.mentions.items ≡ mentions isolated es
+  pub closings : s.closings.items ≡ closings isolated es
+
+-- where a walk over events has come to
+abbrev pub place_of : Walker → Place
+place_of w = record { events = w.events; tokens = w.tokens; here = w.here; around = reverse w.around.items }
+
+-- ---- what they mean
+
+-- the number of a token's name
+abbrev pub name_of : List ℕ → ℕ → ℕ
+name_of names k = slice_index names k
+
+-- the name at a site is this one of this scope
+abbrev pub IsOf : List ℕ → ℕ → ℕ → Site → Type 0
+IsOf names scope name s = (s.scope ≡ scope) × (name_of names s.token ≡ name)
+
+-- the site with this number is of this name in this scope
+abbrev pub Names : List ℕ → List Site → ℕ → ℕ → ℕ → Type 0
+Names names ss scope name j = (s : Site) × (slice_get ss j ≡ Some s) × IsOf names scope name s
+
+-- the mention means the definition with this number: it is of the same name in the same scope
+abbrev pub Means : List ℕ → List Site → Site → ℕ → Type 0
+Means names ds m j = Names names ds m.scope (name_of names m.token) j
+
+-- ---- the faults
+
+-- a second definition is met at its name
+abbrev pub fault_again : ℕ → Fault
+fault_again k = record { kind = MultipleDefinitions; met = k; place = k }
+
+-- The name at a site is that of an earlier site, in the same scope.
+abbrev pub IsAgain : List ℕ → List Site → Fault → Type 0
+IsAgain names ss f = (i : ℕ) × (j : ℕ) × (s : Site) × (i < j) × (slice_get ss j ≡ Some s) × Names names ss s.scope (name_of names s.token) i × (f ≡ fault_again s.token)
+
+-- what is mentioned has no definition in its scope
+abbrev pub IsUnresolved : List ℕ → List Site → Site → Type 0
+IsUnresolved names ds m = (j : ℕ) → Means names ds m j → ⊥
+
+-- a name without definition is met where its scope ends, and placed where that begins
+abbrev pub fault_unresolved : Closing → Fault
+fault_unresolved c = record { kind = UnresolvedReference; met = c.met; place = c.place }
+
+-- some name is mentioned in this scope that has no definition there
+abbrev pub LacksName : List ℕ → List Site → List Site → ℕ → Type 0
+LacksName names ds ms scope = (i : ℕ) × (m : Site) × (slice_get ms i ≡ Some m) × (m.scope ≡ scope) × IsUnresolved names ds m
+
+-- A scope ends, and a name that is mentioned in it has no definition there.
+abbrev pub IsLacking : List ℕ → List Site → List Site → List Closing → Fault → Type 0
+IsLacking names ds ms cs f = (i : ℕ) × (c : Closing) × (slice_get cs i ≡ Some c) × LacksName names ds ms c.scope × (f ≡ fault_unresolved c)
+
+-- the faults of names: values or labels that are defined twice, and values that have no definition
+abbrev pub HasScopeFault : (ℕ → Bool) → List ℕ → List Event → Fault → Type 0
+HasScopeFault isolated names es f =
+    IsAgain names (definitions isolated es) f ⊎ (IsAgain names (labels isolated es) f ⊎ IsLacking names (definitions isolated es) (mentions isolated es) (closings isolated es) f)
+
+-- ---- tables
+
+-- two keys, each a scope and a name, are the same
+abbrev pub same_key : ℕ × ℕ → ℕ × ℕ → Bool
+same_key x y = nat_eq x.0 y.0 && nat_eq x.1 y.1
+
+-- the table has a number of each name in each scope that some site has
+abbrev pub IsTable : {S : Type 0} → List ℕ → List Site → HashMap (ℕ × ℕ) ℕ S → Type 0
+IsTable names ss table = (scope name : ℕ) → MatchOption (hash.get same_key table (scope, name)) ((j : ℕ) → Names names ss scope name j → ⊥) (Names names ss scope name)
+
+-- some name is mentioned in this scope that the table doesn't have there
+abbrev pub LacksEntry : {S : Type 0} → List ℕ → HashMap (ℕ × ℕ) ℕ S → List Site → ℕ → Type 0
+LacksEntry names table ms scope = (i : ℕ) × (m : Site) × (slice_get ms i ≡ Some m) × (m.scope ≡ scope) × (hash.get same_key table (m.scope, name_of names m.token) ≡ None)
+
+-- the set has the scopes in which a name is mentioned that the table doesn't have there
+abbrev pub AreLacking : {S T : Type 0} → List ℕ → HashMap (ℕ × ℕ) ℕ S → List Site → HashSet ℕ T → Type 0
+AreLacking names table ms set = (scope : ℕ) → MatchBool (bag.contains nat_eq set scope) (LacksEntry names table ms scope) (LacksEntry names table ms scope → ⊥)
+
+-- a scope that is in the set ends
+abbrev pub EndsAmong : {T : Type 0} → HashSet ℕ T → List Closing → Fault → Type 0
+EndsAmong set cs f = (i : ℕ) × (c : Closing) × (slice_get cs i ≡ Some c) × (bag.contains nat_eq set c.scope ≡ true) × (f ≡ fault_unresolved c)
+
+-- ---- what looking up answers
+
+-- no two of the sites have one token
+abbrev pub AreDistinct : List Site → Type 0
+AreDistinct ss = (i j : ℕ) (s t : Site) → slice_get ss i ≡ Some s → slice_get ss j ≡ Some t → s.token ≡ t.token → i ≡ j
+
+-- each token names at most one value
+pub record AreApart (ds ms : List Site) : Type 0 where
+  pub definitions : AreDistinct ds
+  pub mentions : AreDistinct ms
+  pub both : (i j : ℕ) (s t : Site) → slice_get ds i ≡ Some s → slice_get ms j ≡ Some t → s.token ≡ t.token → ⊥
+
+-- None of these definitions, labels, mentions and ends of scopes is at fault. Definitions have the numbers 0, 1, .. in the
+-- order of the text; at the token of each, and of each mention that means it, stands its number.
+pub record Resolves (names : List ℕ) (ds ms : List Site) (cs : List Closing) (r : Resolution) : Type 0 where
+  pub count : r.count ≡ length ds
+  pub defined : AreApart ds ms → (j : ℕ) (s : Site) → slice_get ds j ≡ Some s → s.token < length names → slice_index r.definitions.items s.token ≡ j
+  pub mentioned : AreApart ds ms → (i j : ℕ) (m : Site) → slice_get ms i ≡ Some m → Means names ds m j → m.token < length names → slice_index r.definitions.items m.token ≡ j
+  pub resolved : (i k : ℕ) (m : Site) (c : Closing) → slice_get ms i ≡ Some m → slice_get cs k ≡ Some c → c.scope ≡ m.scope → (j : ℕ) × Means names ds m j
+
+-- what reading did has no fault of names, and its names are looked up
+abbrev pub IsResolved : (ℕ → Bool) → List ℕ → List Event → Resolution → Type 0
+IsResolved isolated names es r = IsNamed (HasScopeFault isolated names es) None × Resolves names (definitions isolated es) (mentions isolated es) (closings isolated es) r
+
+-- the fault is the first of those that it has
+abbrev pub IsScopeFault : (ℕ → Bool) → List ℕ → List Event → ScopeFault → Type 0
+IsScopeFault isolated names es Memory = Unit {0}
+IsScopeFault isolated names es (Text f) = IsNamed (HasScopeFault isolated names es) (Some f)

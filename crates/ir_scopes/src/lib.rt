@@ -1,0 +1,9 @@
+//! The names of a text: where they stand, what they mean, and the first fault of names; and how deep its parts stand.
+//!
+//! All is over the events that reading gives. [`resolve`](scopes::resolve) looks up values and labels in their scopes, and
+//! [`too_deep`](depth::too_deep) finds the first part below 64 others.
+#![tactic(auto)]
+
+pub mod depth;
+pub mod scopes;
+pub mod sites;

@@ -1,0 +1,241 @@
+//! Which definition each name of a text means.
+//!
+//! All definitions of a scope count, wherever they stand in it, so first all names are collected, and then those that
+//! were mentioned are looked up.
+ghost use Rattle.std.specs.Prelude.{◌≡◌, ◌↔◌, ◌<◌, ℕ, Option, Some, IfOk, OnOk, MatchResult, true, length, nat_eq, slice_get, slice_set, slice_index};
+ghost use Rattle.std.specs.HashMap as hash;
+ghost use Rattle.std.specs.HashMap.{Updates};
+ghost use Rattle.std.specs.HashSet as bag;
+ghost use Rattle.ir_scopes.specs.declared.sites.Site.{Site};
+ghost use Rattle.ir_tokens.specs.Faults.{IsNamed};
+ghost use Rattle.ir_scopes.specs.Scopes.{isolated_at, name_of, same_key, fault_again, fault_unresolved, IsAgain, IsTable, AreLacking, EndsAmong, AreDistinct, AreApart, IsResolved, IsScopeFault};
+
+use crate::sites::{Closing, Site, Sites, sites_of};
+use ir_grammar::grammar::Event;
+use ir_print::TextDialect;
+use ir_tokens::faults::{Fault, FaultKind, first_of};
+use std::alloc::{AllocError, AllocFailed, Global};
+use std::collections::{HashMap, HashSet};
+
+/// What the names of a text mean.
+#[derive(Drop)]
+pub struct Resolution {
+    /// For each token that names a value, the number of its definition, in the order of the text from 0 on.
+    pub definitions: Vec<usize>,
+    /// How many definitions there are.
+    pub count: usize,
+}
+
+/// Why names aren't looked up.
+#[derive(Clone, Copy, Debug, PartialEq, Eq)]
+pub enum ScopeFault {
+    Memory,
+    Text(Fault),
+}
+
+impl From<AllocError> for ScopeFault {
+    ghost use Rattle.std.specs.Prelude.{◌≡◌};
+    ghost use Rattle.ir_scopes.specs.declared.scopes.ScopeFault.TheVariants.{Memory};
+
+    ghost from_gives = { λ _ e. e ≡ Memory };
+
+    fn from(_error: AllocError) -> ScopeFault {
+        ScopeFault::Memory
+    }
+}
+
+impl<T: Drop> From<AllocFailed<T>> for ScopeFault {
+    ghost use Rattle.std.specs.Prelude.{◌≡◌};
+    ghost use Rattle.ir_scopes.specs.declared.scopes.ScopeFault.TheVariants.{Memory};
+
+    ghost from_gives = { λ _ e. e ≡ Memory };
+
+    fn from(_error: AllocFailed<T>) -> ScopeFault {
+        ScopeFault::Memory
+    }
+}
+
+/// A number of each name in each scope.
+type Numbers = HashMap<(usize, usize), usize>;
+
+/// The names at some sites.
+#[derive(Drop)]
+struct Table {
+    /// The number of the first site of each name in each scope.
+    numbers: Numbers,
+    /// That a site has the name of an earlier one.
+    again: Option<Fault>,
+}
+
+/// The number of the token's name.
+fn name_of(names: &[usize], token: usize) -> usize
+    ensures { result ≡ name_of names.now token }
+{
+    match names.get(token) {
+        Some(name) => *name,
+        None => 0,
+    }
+}
+
+/// The scope and the name of a site.
+fn key_of(names: &[usize], site: Site) -> (usize, usize)
+    ensures scope { result.0 ≡ site.scope }
+    ensures name { result.1 ≡ name_of names.now site.token }
+{
+    (site.scope, name_of(names, site.token))
+}
+
+/// The number that a table has.
+fn number_of(numbers: &Numbers, key: (usize, usize)) -> Option<usize>
+    ensures { result ≡ hash.get same_key numbers.now key }
+{
+    numbers.get(&key).copied()
+}
+
+fn fault_again(token: usize) -> Fault
+    ensures { result ≡ fault_again token }
+{
+    Fault {
+        kind: FaultKind::MultipleDefinitions,
+        met: token,
+        place: token,
+    }
+}
+
+fn fault_unresolved(closing: Closing) -> Fault
+    ensures { result ≡ fault_unresolved closing }
+{
+    Fault {
+        kind: FaultKind::UnresolvedReference,
+        met: closing.met,
+        place: closing.place,
+    }
+}
+
+/// The names at the sites, with the first fault that one stands at two of them in one scope.
+fn table_of(alloc: Global, names: &[usize], sites: &[Site]) -> Result<Table, AllocError>
+    ensures numbers { IfOk result (λ t. IsTable names.now sites.now t.numbers) }
+    ensures again { IfOk result (λ t. IsNamed (IsAgain names.now sites.now) t.again) }
+{
+    let mut numbers: Numbers = HashMap::with_capacity(alloc, sites.len())?;
+    let mut again = None;
+    for (number, site) in sites.iter().enumerate() {
+        let key = key_of(names, *site);
+        match number_of(&numbers, key) {
+            Some(_) => again = first_of(again, Some(fault_again(site.token))),
+            None => {
+                numbers.insert(key, number)?;
+            }
+        }
+    }
+    Ok(Table { numbers, again })
+}
+
+/// The scopes in which a name is mentioned that the table doesn't have.
+fn lacking_scopes(
+    alloc: Global,
+    names: &[usize],
+    mentions: &[Site],
+    numbers: &Numbers,
+) -> Result<HashSet<usize>, AllocError>
+    ensures { IfOk result (AreLacking names.now numbers.now mentions.now) }
+{
+    let mut lacking = HashSet::new(alloc);
+    for site in mentions {
+        let key = key_of(names, *site);
+        if number_of(numbers, key).is_none() {
+            lacking.insert(key.0)?;
+        }
+    }
+    Ok(lacking)
+}
+
+/// The first fault that one of these scopes ends.
+fn lacking_fault(closings: &[Closing], lacking: &HashSet<usize>) -> Option<Fault>
+    ensures { IsNamed (EndsAmong lacking.now closings.now) result }
+{
+    let mut fault = None;
+    for closing in closings {
+        if lacking.contains(&closing.scope) {
+            fault = first_of(fault, Some(fault_unresolved(*closing)));
+        }
+    }
+    fault
+}
+
+/// Writes a number to the place of a token, if it has one.
+fn note(places: &mut [usize], token: usize, number: usize)
+    ensures { places.new ≡ slice_set places.old token number }
+{
+    if token < places.len() {
+        places[token] = number;
+    }
+}
+
+/// Writes the number of each definition to the place of its token.
+fn note_definitions(places: &mut [usize], definitions: &[Site])
+    ensures { AreDistinct definitions.now → (j : ℕ) (s : Site) → slice_get definitions.now j ≡ Some s → s.token < length places.old → slice_index places.new s.token ≡ j }
+{
+    for (number, site) in definitions.iter().enumerate() {
+        note(places, site.token, number);
+    }
+}
+
+/// Writes what the table has for each mention to the place of its token.
+fn note_mentions(places: &mut [usize], names: &[usize], mentions: &[Site], numbers: &Numbers)
+    ensures noted { AreDistinct mentions.now → (i j : ℕ) (m : Site) → slice_get mentions.now i ≡ Some m → hash.get same_key numbers.now (m.scope, name_of names.now m.token) ≡ Some j
+        → m.token < length places.old → slice_index places.new m.token ≡ j }
+    ensures kept { (k : ℕ) → ((i : ℕ) (m : Site) → slice_get mentions.now i ≡ Some m → m.token ≡ k → ⊥) → slice_index places.new k ≡ slice_index places.old k }
+{
+    for site in mentions {
+        match number_of(numbers, key_of(names, *site)) {
+            Some(number) => note(places, site.token, number),
+            None => {}
+        }
+    }
+}
+
+/// For each token that names a value, the number of its definition.
+fn numbers_of(
+    alloc: Global,
+    names: &[usize],
+    sites: &Sites,
+    numbers: &Numbers,
+) -> Result<Vec<usize>, AllocError>
+    ensures defined { IfOk result (λ r. AreApart sites.now.definitions.items sites.now.mentions.items → (j : ℕ) (s : Site) → slice_get sites.now.definitions.items j ≡ Some s
+        → s.token < length names.now → slice_index r.items s.token ≡ j) }
+    ensures mentioned { IfOk result (λ r. AreDistinct sites.now.mentions.items → (i j : ℕ) (m : Site) → slice_get sites.now.mentions.items i ≡ Some m
+        → hash.get same_key numbers.now (m.scope, name_of names.now m.token) ≡ Some j → m.token < length names.now → slice_index r.items m.token ≡ j) }
+    ensures many { IfOk result (λ r. length r.items ≡ length names.now) }
+{
+    let mut places = vec![in alloc; 0usize; names.len()]?;
+    note_definitions(&mut places, &sites.definitions);
+    note_mentions(&mut places, names, &sites.mentions, numbers);
+    Ok(places)
+}
+
+/// What the names of a text mean, of which reading did this, or the first fault of its names.
+///
+/// `names` has a number for each token; two have the same where they are spelled alike. The text may be unfinished:
+/// then the scopes that are still open have no fault yet.
+pub fn resolve<D: TextDialect>(
+    alloc: Global,
+    names: &[usize],
+    events: &[Event],
+) -> Result<Resolution, ScopeFault>
+    ensures resolved { MatchResult result (IsResolved (isolated_at D.kind_at D.isolated) names.now events.now) (IsScopeFault (isolated_at D.kind_at D.isolated) names.now events.now) }
+    ensures many { IfOk result (λ r. length r.definitions.items ≡ length names.now) }
+{
+    let sites = sites_of::<D>(alloc, events)?;
+    let labels = table_of(alloc, names, &sites.labels)?;
+    let values = table_of(alloc, names, &sites.definitions)?;
+    let lacking = lacking_scopes(alloc, names, &sites.mentions, &values.numbers)?;
+    let unresolved = lacking_fault(&sites.closings, &lacking);
+    match first_of(values.again, first_of(labels.again, unresolved)) {
+        Some(fault) => Err(ScopeFault::Text(fault)),
+        None => Ok(Resolution {
+            definitions: numbers_of(alloc, names, &sites, &values.numbers)?,
+            count: sites.definitions.len(),
+        }),
+    }
+}

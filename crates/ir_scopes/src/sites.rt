@@ -1,0 +1,295 @@
+//! Where the names of a text stand.
+//!
+//! A region of an operation that is isolated from above opens a scope of values, each region one of labels. A scope
+//! is given by a number: that of the events before it.
+ghost use Rattle.std.specs.Prelude.{◌≡◌, [], ◌∷◌, ◌++◌, ◌+◌, ◌<◌, ◌≤◌, ◌^◌, OnOk, IfOk, reverse};
+ghost use Rattle.ir_scopes.specs.Scopes.{isolated_at, beginning, outside, last_token, behind, here_after, around_after, here_behind_operation, here_behind_region, rest, region_frame, place_of, defined, labelled, mentioned, ended, may_end, AreSites};
+
+use ir_grammar::grammar::{Action, Event};
+use ir_print::TextDialect;
+use std::alloc::{AllocError, Global};
+
+/// An operation or a region that is being read, as far as names in it are concerned.
+#[derive(Clone, Copy, Debug, PartialEq, Eq)]
+pub struct Frame {
+    /// Whether it is an operation whose regions are scopes of values.
+    pub isolated: bool,
+    /// The scope of labels in it.
+    pub labels: usize,
+    /// The scope of values in it.
+    pub values: usize,
+    /// The token that opens the scope of values.
+    pub opened: usize,
+}
+
+/// A name in a text.
+#[derive(Clone, Copy, Debug, PartialEq, Eq)]
+pub struct Site {
+    /// The scope in which it stands.
+    pub scope: usize,
+    pub token: usize,
+}
+
+/// The end of a scope of values.
+#[derive(Clone, Copy, Debug, PartialEq, Eq)]
+pub struct Closing {
+    pub scope: usize,
+    /// The token at which it ends.
+    pub met: usize,
+    /// The token that opens it.
+    pub place: usize,
+}
+
+/// The names of a text, each list in the order of the text.
+#[derive(Drop)]
+pub struct Sites {
+    /// The definitions of values.
+    pub definitions: Vec<Site>,
+    pub labels: Vec<Site>,
+    /// The mentions of values.
+    pub mentions: Vec<Site>,
+    /// The ends of scopes of values.
+    pub closings: Vec<Closing>,
+}
+
+/// A walk over events: how many events and tokens have passed, and what is open.
+#[derive(Drop)]
+pub struct Walker {
+    pub events: usize,
+    pub tokens: usize,
+    /// The innermost of what is open.
+    pub here: Frame,
+    /// What is open around it, the inner ones last.
+    pub around: Vec<Frame>,
+}
+
+/// Outside of all operations, behind so many events.
+fn outside(events: usize) -> Frame
+    ensures { result ≡ outside events }
+{
+    Frame {
+        isolated: false,
+        labels: events,
+        values: events,
+        opened: 0,
+    }
+}
+
+/// Whether operations of the kind with this number are isolated from above.
+fn is_isolated<D: TextDialect>(number: u8) -> bool
+    ensures { result ≡ isolated_at D.kind_at D.isolated number }
+{
+    match D::op_kind_at(number as usize) {
+        Some(kind) => D::is_isolated(kind),
+        None => false,
+    }
+}
+
+impl Walker {
+    fn new(alloc: Global) -> Walker
+        ensures { place_of result ≡ beginning }
+    {
+        Walker {
+            events: 0,
+            tokens: 0,
+            here: outside(0),
+            around: Vec::new(alloc),
+        }
+    }
+
+    /// The token that was taken last.
+    fn last(&self) -> usize
+        ensures { result ≡ last_token (place_of self.now) }
+    {
+        self.tokens.saturating_sub(1)
+    }
+
+    /// A region that begins here.
+    fn region(&self) -> Frame
+        requires { self.now.events < 2 ^ 63 }
+        ensures { result ≡ region_frame (place_of self.now) }
+    {
+        let opens = self.here.isolated;
+        Frame {
+            isolated: false,
+            labels: self.events + 1,
+            values: if opens {
+                self.events + 1
+            } else {
+                self.here.values
+            },
+            opened: if opens { self.last() } else { self.here.opened },
+        }
+    }
+
+    fn enter(&mut self, frame: Frame) -> Result<(), AllocError>
+        ensures here { OnOk result (self.new.here ≡ frame) }
+        ensures around { OnOk result (reverse self.new.around.items ≡ self.old.here ∷ reverse self.old.around.items) }
+        ensures counts { (self.new.events ≡ self.old.events) × (self.new.tokens ≡ self.old.tokens) }
+    {
+        self.around.push(self.here)?;
+        self.here = frame;
+        Ok(())
+    }
+
+    /// Leaves an operation. Behind the root all is as in the beginning.
+    fn leave_operation(&mut self)
+        requires { self.old.events < 2 ^ 63 }
+        ensures here { self.new.here ≡ here_behind_operation self.old.events (reverse self.old.around.items) }
+        ensures around { reverse self.new.around.items ≡ rest (reverse self.old.around.items) }
+        ensures counts { (self.new.events ≡ self.old.events) × (self.new.tokens ≡ self.old.tokens) }
+    {
+        let outer = self.around.pop();
+        let is_root = self.around.is_empty();
+        self.here = match outer {
+            None => outside(self.events + 1),
+            Some(frame) => {
+                if is_root {
+                    outside(self.events + 1)
+                } else {
+                    frame
+                }
+            }
+        };
+    }
+
+    fn leave_region(&mut self)
+        ensures here { self.new.here ≡ here_behind_region self.old.here (reverse self.old.around.items) }
+        ensures around { reverse self.new.around.items ≡ rest (reverse self.old.around.items) }
+        ensures counts { (self.new.events ≡ self.old.events) × (self.new.tokens ≡ self.old.tokens) }
+    {
+        if let Some(frame) = self.around.pop() {
+            self.here = frame;
+        }
+    }
+
+    fn act<D: TextDialect>(&mut self, action: Action) -> Result<(), AllocError>
+        requires { self.old.events < 2 ^ 63 }
+        ensures here { OnOk result (self.new.here ≡ here_after (isolated_at D.kind_at D.isolated) (place_of self.old) action) }
+        ensures around { OnOk result (reverse self.new.around.items ≡ around_after (place_of self.old) action) }
+        ensures counts { (self.new.events ≡ self.old.events) × (self.new.tokens ≡ self.old.tokens) }
+    {
+        match action {
+            Action::Operation(number) => {
+                let isolated = is_isolated::<D>(number);
+                self.enter(Frame {
+                    isolated,
+                    ..self.here
+                })
+            }
+            Action::EndOperation => {
+                self.leave_operation();
+                Ok(())
+            }
+            Action::BeginRegion => self.enter(self.region()),
+            Action::EndRegion => {
+                self.leave_region();
+                Ok(())
+            }
+            _ => Ok(()),
+        }
+    }
+
+    /// Goes behind an event.
+    fn pass<D: TextDialect>(&mut self, event: Event) -> Result<(), AllocError>
+        requires events { self.old.events < 2 ^ 63 }
+        requires tokens { self.old.tokens < 2 ^ 63 }
+        ensures { OnOk result (place_of self.new ≡ behind (isolated_at D.kind_at D.isolated) (place_of self.old) event) }
+    {
+        match event {
+            Event::Took => self.tokens += 1,
+            Event::Did(action) => self.act::<D>(action)?,
+        }
+        self.events += 1;
+        Ok(())
+    }
+
+    /// A name of the scope that stands at the last token.
+    fn site(&self, scope: usize) -> Site
+        ensures { result ≡ record { scope = scope; token = last_token (place_of self.now) } }
+    {
+        Site {
+            scope,
+            token: self.last(),
+        }
+    }
+}
+
+impl Sites {
+    fn new(alloc: Global) -> Sites
+        ensures definitions { result.definitions.items ≡ [] }
+        ensures labels { result.labels.items ≡ [] }
+        ensures mentions { result.mentions.items ≡ [] }
+        ensures closings { result.closings.items ≡ [] }
+    {
+        Sites {
+            definitions: Vec::new(alloc),
+            labels: Vec::new(alloc),
+            mentions: Vec::new(alloc),
+            closings: Vec::new(alloc),
+        }
+    }
+
+    /// Adds the names that the event makes at the place to which the walk has come.
+    fn add(&mut self, at: &Walker, event: Event) -> Result<(), AllocError>
+        ensures definitions { OnOk result (self.new.definitions.items ≡ self.old.definitions.items ++ defined (place_of at.now) event) }
+        ensures labels { OnOk result (self.new.labels.items ≡ self.old.labels.items ++ labelled (place_of at.now) event) }
+        ensures mentions { OnOk result (self.new.mentions.items ≡ self.old.mentions.items ++ mentioned (place_of at.now) event) }
+        ensures closings { OnOk result (self.new.closings.items ≡ self.old.closings.items) }
+    {
+        match event {
+            Event::Did(Action::Result) => self.definitions.push(at.site(at.here.values))?,
+            Event::Did(Action::Argument) => self.definitions.push(at.site(at.here.values))?,
+            Event::Did(Action::Label) => self.labels.push(at.site(at.here.labels))?,
+            Event::Did(Action::Operand) => self.mentions.push(at.site(at.here.values))?,
+            _ => {}
+        }
+        Ok(())
+    }
+
+    /// Adds the scope of values that ends at a token between one frame and the next, if one does.
+    fn add_end(&mut self, met: usize, before: Frame, after: Frame) -> Result<(), AllocError>
+        ensures closings { OnOk result (self.new.closings.items ≡ self.old.closings.items ++ ended met before after) }
+        ensures definitions { self.new.definitions.items ≡ self.old.definitions.items }
+        ensures labels { self.new.labels.items ≡ self.old.labels.items }
+        ensures mentions { self.new.mentions.items ≡ self.old.mentions.items }
+    {
+        if after.values != before.values {
+            self.closings.push(Closing {
+                scope: before.values,
+                met,
+                place: before.opened,
+            })?;
+        }
+        Ok(())
+    }
+}
+
+/// Whether the event may end a scope of values.
+fn may_end(event: Event) -> bool
+    ensures { result ≡ may_end event }
+{
+    match event {
+        Event::Did(Action::EndOperation) => true,
+        Event::Did(Action::EndRegion) => true,
+        _ => false,
+    }
+}
+
+/// The names of a text, of which reading did this. The only error is that memory is refused.
+pub fn sites_of<D: TextDialect>(alloc: Global, events: &[Event]) -> Result<Sites, AllocError>
+    ensures { IfOk result (AreSites (isolated_at D.kind_at D.isolated) events.now) }
+{
+    let mut walker = Walker::new(alloc);
+    let mut sites = Sites::new(alloc);
+    for event in events {
+        sites.add(&walker, *event)?;
+        let met = walker.last();
+        let before = walker.here;
+        walker.pass::<D>(*event)?;
+        if may_end(*event) {
+            sites.add_end(met, before, walker.here)?;
+        }
+    }
+    Ok(sites)
+}

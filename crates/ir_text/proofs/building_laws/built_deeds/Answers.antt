@@ -1,5 +1,0 @@
-use Rattle.ir_text.proofs.BuiltTrees.{built_deeds, built_forest}
-use Rattle.ir_text.proofs.building_laws.built_deeds.Goals as goal
-
-pub returns : goal.returns
-returns c = record { deeds = built_deeds; forest = built_forest }

@@ -1,6 +1,0 @@
-use Rattle.ir_text.proofs.BuiltSteps.{built_by_deeds}
-use Rattle.ir_text.proofs.BuiltTrees.{run_tree, forest_is_built}
-use Rattle.ir_text.proofs.building_laws.built_tree.Goals as goal
-
-pub returns : goal.returns
-returns c = record { runs = built_by_deeds; tree = run_tree; forest = forest_is_built }

@@ -1,5 +1,0 @@
-use Rattle.ir_text.proofs.BuiltRefusals.{refusal_is_named}
-use Rattle.ir_text.proofs.building_laws.first_refusal_is_named.Goals as goal
-
-pub returns : goal.returns
-returns c = refusal_is_named

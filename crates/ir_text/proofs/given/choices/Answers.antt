@@ -1,6 +1,0 @@
-use Rattle.ir_text.specs.Given.{rule_at}
-use Rattle.ir_text.proofs.Makes.{marks_more}
-use Rattle.ir_text.proofs.given.choices.Goals as goal
-
-pub loop-column-preserved : goal.loop-column-preserved
-loop-column-preserved c = marks_more (rule_at c.args.part.now.choices.now) c.loop-column.column _ _ _ c.loop-column.invariant c.rule_at.ensures c.in_ok-push.ensures.items

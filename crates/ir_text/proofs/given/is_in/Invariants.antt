@@ -1,6 +1,0 @@
-use Rattle.std.proofs.Common.{◌≡◌, drop}
-use Rattle.ir_text.specs.Given.{is_in}
-use Rattle.ir_text.proofs.given.is_in.Given as goal
-
-abbrev pub invariant-loop-known : goal.invariant-loop-known
-invariant-loop-known l = is_in (drop l.known-index l.columns) l.column ≡ is_in l.columns l.column

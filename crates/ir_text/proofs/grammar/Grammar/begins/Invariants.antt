@@ -1,6 +1,0 @@
-use Rattle.std.proofs.Common.{drop}
-use Rattle.ir_text.specs.Table.{Begins}
-use Rattle.ir_text.proofs.grammar.Grammar.begins.Given as goal
-
-abbrev pub invariant-loop-symbol : goal.invariant-loop-symbol
-invariant-loop-symbol l = Begins l.self (drop l.symbol-index l.body) l.column → Begins l.self l.body l.column

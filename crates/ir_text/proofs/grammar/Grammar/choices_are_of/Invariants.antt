@@ -1,6 +1,0 @@
-use Rattle.std.proofs.Common.{◌≡◌, ℕ, ◌<◌, Some, None, get_or}
-use Rattle.ir_text.specs.Table.{IsChoice}
-use Rattle.ir_text.proofs.grammar.Grammar.choices_are_of.Given as goal
-
-abbrev pub invariant-loop-column : goal.invariant-loop-column
-invariant-loop-column l = (c p : ℕ) → c < l.column → get_or l.choices c None ≡ Some p → IsChoice l.self l.part c p

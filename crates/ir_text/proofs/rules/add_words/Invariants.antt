@@ -1,6 +1,0 @@
-use Rattle.std.proofs.Common.{◌≡◌, drop}
-use Rattle.ir_text.specs.Rules.{texts, with_words}
-use Rattle.ir_text.proofs.rules.add_words.Given as goal
-
-abbrev pub invariant-loop-word : goal.invariant-loop-word
-invariant-loop-word l = with_words (texts l.words.items) (texts (drop l.word-index l.more)) ≡ with_words (texts l.fn.words.items) (texts l.more)

@@ -1,6 +1,0 @@
-use Rattle.std.proofs.Common.{◌≡◌, ◌≤◌, ◌+◌, drop}
-use Rattle.ir_text.specs.Tokens.{place, place_from}
-use Rattle.ir_text.proofs.tokens.place_after.Given as goal
-
-abbrev pub invariant-loop-c : goal.invariant-loop-c
-invariant-loop-c l = (place_from l.line l.column (drop l.c-index l.front) ≡ place l.front) × (l.line ≤ l.c-index + 1) × (l.column ≤ l.c-index + 1)

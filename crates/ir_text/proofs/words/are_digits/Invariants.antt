@@ -1,7 +1,0 @@
-use Rattle.std.proofs.Common.{◌≡◌, drop}
-use Rattle.std.specs.List.{list_all}
-use Rattle.ir_text.specs.Tokens.{is_digit}
-use Rattle.ir_text.proofs.words.are_digits.Given as goal
-
-abbrev pub invariant-loop-c : goal.invariant-loop-c
-invariant-loop-c l = list_all is_digit (drop l.c-index l.text) ≡ list_all is_digit l.text

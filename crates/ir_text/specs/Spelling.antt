@@ -1,8 +1,0 @@
--- The texts that were numbered.
-use Rattle.std.specs.Prelude.{ℕ, List}
-use Rattle.ir_text.specs.declared.words.Spellings.{Spellings}
-use Rattle.ir_text.specs.Rules.{texts}
-
--- the texts that have a number, by their numbers
-abbrev pub known_texts : Spellings → List (List ℕ)
-known_texts s = texts s.known.keys

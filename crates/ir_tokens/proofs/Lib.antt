@@ -1,0 +1,4 @@
+pub mod TokenLongest
+pub mod TokenSteps
+pub mod TokenUnique
+pub mod FirstFault

@@ -1,0 +1,10 @@
+use Rattle.std.proofs.Common.{◌≤◌, ◌-◌, ◌++◌, List, length}
+use Rattle.ir_tokens.specs.declared.tokens.Token.{Token}
+use Rattle.ir_tokens.specs.Tokens.{ReadsAs}
+use Rattle.ir_tokens.proofs.tokens.tokens_of.Given as goal
+
+abbrev pub invariant-reading : goal.invariant-reading
+invariant-reading l = (l.at ≤ length l.chars) × ((more : List Token) → ReadsAs l.chars l.at more → ReadsAs l.chars 0 (l.tokens.items ++ more))
+
+abbrev pub decreases-reading : goal.decreases-reading
+decreases-reading l = length l.chars - l.at

@@ -1,0 +1,17 @@
+pub mod DefinedTokens
+pub mod Renamed
+pub mod Closings
+pub mod TreePlaces
+pub mod TreeCounts
+pub mod TreeSites
+pub mod TreeParts
+pub mod TreeRenamed
+pub mod TreeWalks
+pub mod TreeScopes
+pub mod TreeAlike
+pub mod TreeClosed
+pub mod TreeAgain
+pub mod TreeNumbers
+pub mod TreeKinds
+pub mod TreeRegions
+pub mod TreeLabels

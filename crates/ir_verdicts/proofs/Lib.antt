@@ -1,0 +1,10 @@
+pub mod NameSigns
+pub mod NameTokens
+pub mod Identifiers
+pub mod TextReadings
+pub mod Agreeing
+pub mod AlikeFaults
+pub mod DeepReadings
+pub mod Renumbering
+pub mod Verdicts
+pub mod TokensTaken
