@@ -1,27 +1,12 @@
-//! The dialect `kit`: its kinds, types and attributes, their formats, and the rules of its modules.
+//! The dialect `kit` by one name: its kinds, types and attributes, the rules of its modules, the machine, and constant
+//! propagation.
 #![tactic(auto)]
 
-mod attributes;
-mod dialect;
-mod executing;
-mod folding;
-mod kinds;
-pub mod laws;
-mod loading;
-mod machine;
-mod module_rules;
-mod outcome;
-mod propagation;
-mod shape;
-mod table;
-
-pub use attributes::{IntegerAttr, KitAttr, KitAttrKind, reread_bits};
-pub use dialect::Kit;
-pub use executing::exec;
-pub use kinds::{FunctionType, IntegerType, KitOp, KitType, KitTypeKind};
-pub use module_rules::{RuleFault, rules};
-pub use outcome::{ExecFault, Outcome};
-pub use propagation::sccp;
-
-#[cfg(test)]
-mod tests;
+pub use kit_formats::Kit;
+pub use kit_machine::{ExecFault, Outcome, exec};
+pub use kit_opts::sccp;
+pub use kit_rules::{RuleFault, laws, rules};
+pub use kit_types::{
+    FunctionType, IntegerAttr, IntegerType, KitAttr, KitAttrKind, KitOp, KitType, KitTypeKind,
+    reread_bits,
+};

@@ -1,0 +1,11 @@
+pub mod Kinds
+pub mod Parts
+pub mod Texts
+pub mod Says
+pub mod Agree
+pub mod Shapes
+pub mod Seen
+pub mod Readable
+pub mod Canonical
+pub use Rattle.kit_types.specs.Numbers
+pub use Rattle.kit_types.specs.Rules

@@ -1,0 +1,16 @@
+pub mod Labels
+pub mod KeptTo
+pub mod PassAlike
+pub mod PassConstants
+pub mod PassFits
+pub mod PassFunctions
+pub mod PassKept
+pub mod PassMade
+pub mod PassScopes
+pub mod PassTyped
+pub mod PassValues
+pub mod PassView
+pub mod PassTypes
+pub mod PassClosed
+pub mod PassSizes
+pub mod PassOne

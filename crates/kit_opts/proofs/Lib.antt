@@ -1,0 +1,16 @@
+pub mod Folds
+pub mod Makings
+pub mod FoldTables
+pub mod FoldEdits
+pub mod FoldedTrees
+pub mod FoldWalks
+pub mod FoldSteps
+pub mod FoldModules
+pub mod FoldNames
+pub mod NamedStanding
+pub mod FoldNumbers
+pub mod FoldStands
+pub mod FoldFacts
+pub mod FoldEnd
+pub mod FoldCounts
+pub mod RunsPass

@@ -1,0 +1,11 @@
+pub mod Kept
+pub mod FunctionScopes
+pub mod KeptFrom
+pub mod KeptFunctions
+pub mod KeptPrograms
+pub mod PassDefinitions
+pub mod PassNames
+pub mod PassNumbers
+pub mod Tested
+pub mod EditedTrees
+pub mod PutSame
