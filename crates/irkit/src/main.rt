@@ -1,23 +1,7 @@
-//! The program: its words and the standard streams go to the driver, and its answer is the status.
+//! The program: its words and the standard streams go to [`drive`], whose answer is the exit status.
 #![tactic(auto)]
 
-mod checking;
-mod command;
-mod driving;
-mod executing;
-mod laws;
-mod loading;
-mod reading;
-mod refusal;
-mod reporting;
-mod request;
-mod running;
-mod telling;
-mod watched;
-mod writing;
-
-use crate::driving::drive;
-use crate::watched::Watched;
+use irkit_driver::{Watched, drive};
 use std::env;
 use std::process::ExitCode;
 
@@ -34,6 +18,3 @@ fn main(rt: HostRuntime) -> ExitCode {
     let mut faults = Watched::new(rt.stderr());
     ExitCode::from(drive(alloc, words, &mut input, &mut output, &mut faults))
 }
-
-#[cfg(test)]
-mod tests;

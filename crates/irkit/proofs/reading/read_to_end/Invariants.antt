@@ -1,6 +1,0 @@
-use Rattle.std.proofs.Common.{◌≡◌, ◌≤◌, false, length}
-use Rattle.irkit.specs.Streams.{has_failed, Gave}
-use Rattle.irkit.proofs.reading.read_to_end.Given as goal
-
-abbrev pub invariant-reading : goal.invariant-reading
-invariant-reading g l = Gave g.R.Read.remaining l.fn.reader l.reader l.bytes.items × (l._turn ≤ length l.bytes.items) × (has_failed l.reader ≡ false)

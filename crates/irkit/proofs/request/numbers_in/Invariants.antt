@@ -1,6 +1,0 @@
-use Rattle.std.proofs.Common.{map, take}
-use Rattle.irkit.specs.Requests.{SayNumbers}
-use Rattle.irkit.proofs.request.numbers_in.Given as goal
-
-abbrev pub invariant-loop-word : goal.invariant-loop-word
-invariant-loop-word l = SayNumbers (map (λ w. w.now) (take l.word-index l.words)) l.numbers.items

@@ -1,5 +1,0 @@
-use Rattle.irkit.proofs.Names.{unknown_name}
-use Rattle.irkit.proofs.request.passes_of.Goals as goal
-
-pub returns-in-None : goal.returns-in-None
-returns-in-None c = unknown_name c.args.names.now c.loop-name.name-index _ c.loop-name-test.true c.in-None.ensures

@@ -1,0 +1,11 @@
+use Rattle.std.proofs.Common.{refl, chars}
+use Rattle.ir_verdicts.proofs.Verdicts.{one_told, no_fault_said}
+use Rattle.kit_dialect.specs.Texts.{leads}
+use Rattle.irkit_driver.specs.Texts.{kit_language}
+use Rattle.irkit_driver.proofs.laws.inputs_have_one_answer.Goals as goal
+
+pub returns : goal.returns
+returns c = record {
+  one = λ bytes f g h k. one_told kit_language leads refl (chars bytes) f g h.1 k.1;
+  either = λ bytes f tree h k. no_fault_said kit_language leads refl (chars bytes) f tree h.1 k.1;
+}

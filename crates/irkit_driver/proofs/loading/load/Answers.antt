@@ -1,0 +1,11 @@
+use Rattle.irkit_driver.proofs.EndLemmas.{unread, loaded}
+use Rattle.irkit_driver.proofs.loading.load.Goals as goal
+
+pub returns-in_err-bytes-clause-ends : goal.returns-in_err-bytes-clause-ends
+returns-in_err-bytes-clause-ends g c =
+    unread g.R.Read.remaining c.args.reader.now c.read_to_end.new.reader _ c.read_to_end.result c.args.ctx.now _ _ c.in_err-bytes.was c.read_to_end.ensures c.from_residual.ensures.1
+
+pub returns-clause-ends : goal.returns-clause-ends
+returns-clause-ends g c =
+    loaded g.R.Read.remaining c.args.reader.now c.read_to_end.new.reader c.in_ok-bytes.bytes.items c.args.ctx.now c.understand.new.ctx c.understand.result
+    c.in_ok-bytes.ensures (rw c.as_slice.ensures.value at c.understand.ensures.understands)

@@ -1,0 +1,111 @@
+//! Running a function of a module.
+ghost use Rattle.std.specs.Prelude.{◌≡◌, false, true, map, IfOk, MatchOption, None, Some, reverse};
+ghost use Rattle.std.specs.List.{list_all};
+ghost use Rattle.ir_names.specs.Identifier.{text_of};
+ghost use Rattle.ir_names.specs.Text.{is_identifier};
+ghost use Rattle.ir_store.specs.Context.{IsLiveOperation};
+ghost use Rattle.irkit_streams.specs.Streams.{has_failed};
+ghost use Rattle.irkit_driver.specs.Outcomes.{EndsExecution, GivesOutcome, RunsIn};
+ghost use Rattle.irkit_driver.specs.Paths.{names_in, path_in};
+
+use crate::loading::load;
+use crate::refusal::ExecutionFault;
+use crate::reporting::report;
+use ir_names::{Identifier, IdentifierError};
+use ir_store::{Context, Operation, Ptr};
+use irkit_streams::Watched;
+use kit_dialect::{ExecFault, Kit, Outcome, exec};
+use std::alloc::{AllocError, Global};
+use std::io::{Read, Write};
+
+/// Reads a module as [`load`] does, runs its function at this path on these numbers for at most so many steps, and
+/// writes what the run did as [`report`] does. The path has the outermost name first, and `/` between names.
+///
+/// `WrongPath` where the path is none or leads to no function, and `WrongArguments` where the function takes another
+/// number of arguments or one is too large for its type. Nothing is written then, nor at any refusal but `Write`.
+pub fn execute<R: Read, W: Write>(
+    alloc: Global,
+    path: &str,
+    arguments: &[u64],
+    limit: u64,
+    reader: &mut Watched<R>,
+    writer: &mut Watched<W>,
+) -> Result<Outcome, ExecutionFault>
+    requires reader { has_failed reader.old ≡ false }
+    requires writer { has_failed writer.old ≡ false }
+    ensures { EndsExecution R.remaining W.contents reader.old reader.new writer.old writer.new
+        path.now arguments.now limit result }
+{
+    let outcome = outcome_of(alloc, path, arguments, limit, reader)?;
+    report(alloc, &outcome, writer)?;
+    Ok(outcome)
+}
+
+/// What the run does of the module that the reader gives.
+fn outcome_of<R: Read>(
+    alloc: Global,
+    path: &str,
+    arguments: &[u64],
+    limit: u64,
+    reader: &mut Watched<R>,
+) -> Result<Outcome, ExecutionFault>
+    requires { has_failed reader.old ≡ false }
+    ensures { GivesOutcome R.remaining reader.old reader.new path.now arguments.now limit result }
+{
+    let mut ctx = Context::new(alloc);
+    let root = load(alloc, &mut ctx, reader)?;
+    let outcome = outcome_in(alloc, &ctx, root, path, arguments, limit)?;
+    Ok(outcome)
+}
+
+/// What the run does of a module of the context.
+fn outcome_in(
+    alloc: Global,
+    ctx: &Context<Kit>,
+    root: Ptr<Operation>,
+    path: &str,
+    arguments: &[u64],
+    limit: u64,
+) -> Result<Outcome, ExecFault>
+    requires { IsLiveOperation ctx.now root }
+    ensures { RunsIn ctx.now root path.now arguments.now limit result }
+{
+    match names_of_path(alloc, path) {
+        Ok(Some(names)) => exec(alloc, ctx, root, names.as_slice(), arguments, limit),
+        Ok(None) => Err(ExecFault::WrongPath),
+        Err(_) => Err(ExecFault::Memory),
+    }
+}
+
+/// The names of a path, outermost first, or nothing where one is empty or no identifier.
+fn names_of_path(alloc: Global, path: &str) -> Result<Option<Vec<Identifier>>, AllocError>
+    ensures { IfOk result (λ r. MatchOption r (path_in path.now ≡ None)
+        (λ v. path_in path.now ≡ Some (reverse (map text_of v.items)))) }
+{
+    let parts = parts_of(alloc, path)?;
+    identifiers(alloc, parts.as_slice())
+}
+
+/// The parts of a path between slashes.
+fn parts_of(alloc: Global, path: &str) -> Result<Vec<&str>, AllocError>
+    ensures { IfOk result (λ v. map (λ part. part.now) v.items ≡ names_in path.now) }
+{
+    path.split('/').collect(alloc)
+}
+
+/// The identifiers with these texts, or nothing where one is none.
+fn identifiers(alloc: Global, texts: &[&str]) -> Result<Option<Vec<Identifier>>, AllocError>
+    ensures { let all = list_all is_identifier (map (λ t. t.now) texts.now) in
+        IfOk result (λ r. MatchOption r (all ≡ false)
+        (λ v. (all ≡ true) × (map text_of v.items ≡ map (λ t. t.now) texts.now))) }
+{
+    let mut names = Vec::new(alloc);
+    for text in texts {
+        match Identifier::try_new(alloc, text) {
+            Ok(name) => names.push(name)?,
+            Err(IdentifierError::Invalid(_)) => return Ok(None),
+            Err(IdentifierError::Memory) => return Err(AllocError),
+        }
+    }
+    Ok(Some(names))
+}

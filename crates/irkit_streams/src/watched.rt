@@ -1,0 +1,87 @@
+//! A reader or a writer that remembers whether one of its calls failed.
+ghost use Rattle.std.specs.Prelude.{◌≡◌, ◌||◌, ◌==◌, is_err, MatchResult, true, false};
+ghost use Rattle.std.specs.Io.{ReadsAtMost, WritesAtMost};
+ghost use Rattle.std.specs.Io.KnownBytes.{Keeps, ReadConsumes, WriteAppends};
+ghost use Rattle.irkit_streams.specs.Streams.{has_failed, inner_of};
+
+use std::io;
+use std::io::{Read, Write};
+
+/// Wraps a reader or a writer, and tells whether a call has failed or a write has taken none.
+#[derive(Drop)]
+pub struct Watched<T> {
+    inner: T,
+    failed: bool,
+}
+
+impl<T> Watched<T> {
+    /// Watches this from here on: no call has failed yet.
+    pub fn new(inner: T) -> Self
+        ensures inner { inner_of result ≡ inner }
+        ensures fresh { has_failed result ≡ false }
+    {
+        Watched {
+            inner,
+            failed: false,
+        }
+    }
+
+    /// Whether one of its calls has failed, or a write has taken none.
+    pub fn has_failed(&self) -> bool
+        ensures { result ≡ has_failed self.now }
+    {
+        self.failed
+    }
+
+    /// What it watches.
+    pub fn inner(&self) -> &T
+        ensures { result.now ≡ inner_of self.now }
+    {
+        &self.inner
+    }
+}
+
+impl<T: Read> Read for Watched<T> {
+    ghost remaining = { λ w. T.remaining (inner_of w) };
+
+    fn read(&mut self, buf: &mut [u8]) -> io::Result<usize>
+        ensures bound { ReadsAtMost result buf.new }
+        ensures bytes { ReadConsumes (T.remaining (inner_of self.old)) (T.remaining (inner_of self.new))
+            result buf.new }
+        ensures watched { has_failed self.new ≡ (has_failed self.old || is_err result) }
+    {
+        let outcome = self.inner.read(buf);
+        if outcome.is_err() {
+            self.failed = true;
+        }
+        outcome
+    }
+}
+
+impl<T: Write> Write for Watched<T> {
+    ghost contents = { λ w. T.contents (inner_of w) };
+
+    fn write(&mut self, buf: &[u8]) -> io::Result<usize>
+        ensures bound { WritesAtMost result buf.now }
+        ensures bytes { WriteAppends (T.contents (inner_of self.old)) (T.contents (inner_of self.new)) result buf.now }
+        ensures watched { MatchResult result (λ n. has_failed self.new ≡ (has_failed self.old || n == 0))
+            (λ _. has_failed self.new ≡ true) }
+    {
+        let outcome = self.inner.write(buf);
+        if let Ok(1..) = outcome {} else {
+            self.failed = true;
+        }
+        outcome
+    }
+
+    fn flush(&mut self) -> io::Result<()>
+        ensures bytes { Keeps (T.contents (inner_of self.old)) (T.contents (inner_of self.new)) }
+        ensures watched { has_failed self.new ≡ (has_failed self.old || is_err result) }
+    {
+        let outcome = self.inner.flush();
+        if outcome.is_err() {
+            self.failed = true;
+        }
+        outcome
+    }
+}

@@ -1,0 +1,29 @@
+//! Tests of `irkit_driver` and of the crates below it by their public calls. They stand here so that each of those is
+//! proved once. What is tested is what no clause says: printed texts, lines with statuses, whole texts with answers that
+//! were worked out by hand, and that calls succeed where memory is ample.
+#![tactic(auto)]
+
+#[cfg(test)]
+mod calls;
+#[cfg(test)]
+mod command_line;
+#[cfg(test)]
+mod fakes;
+#[cfg(test)]
+mod grammars;
+#[cfg(test)]
+mod machine;
+#[cfg(test)]
+mod passes;
+#[cfg(test)]
+mod reports;
+#[cfg(test)]
+mod runs;
+#[cfg(test)]
+mod store;
+#[cfg(test)]
+mod streams;
+#[cfg(test)]
+mod table;
+#[cfg(test)]
+mod texts;
