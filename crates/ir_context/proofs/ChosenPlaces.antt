@@ -11,7 +11,7 @@ use Rattle.ir_program.specs.declared.handles.Ptr.{Ptr}
 use Rattle.ir_program.specs.declared.handles.Operation.{Operation}
 use Rattle.ir_program.specs.declared.handles.Use.{Use}
 use Rattle.ir_context.specs.Chosen.{AreUsesNaming, Says}
-use Rattle.ir_program.proofs.ReplacedUses.{place-here, place-is, among-new, among-old}
+use Rattle.ir_program.proofs.used.ReplacedUses.{place-here, place-is, among-new, among-old}
 
 or_false_left : (a b : Bool) → (a || b) ≡ false → a ≡ false
 or_false_left true b e = e

@@ -17,8 +17,8 @@ use Rattle.ir_program.specs.declared.handles.Operation.{Operation}
 use Rattle.ir_program.specs.declared.handles.BasicBlock.{BasicBlock}
 use Rattle.ir_program.specs.declared.handles.Region.{Region}
 use Rattle.ir_program.specs.declared.handles.Value.{Value}
-use Rattle.ir_program.proofs.Arrivals.{same_definer}
-use Rattle.ir_program.proofs.KeptTypes.{types-kept, unchanged-types}
+use Rattle.ir_program.proofs.defined.Arrivals.{same_definer}
+use Rattle.ir_program.proofs.defined.KeptTypes.{types-kept, unchanged-types}
 use Rattle.ir_types.specs.Interned.{IsKnown}
 use Rattle.ir_types.specs.Views.{TypesView}
 use Rattle.ir_context.specs.KnownLists.{AreKnown}

@@ -2,6 +2,7 @@
 use Rattle.std.proofs.Common.{true≢false, ⊎_elim, subst, Result, Ok, Err, IfOk, OnErr, IfSome, IfNone, ◌≢◌, ◌≡◌, [], Option, None, Some, IsTrue, MatchOption, ◌↔◌, is_some, option_map, unwrap_or, slice_get, sym, ap, ◌∙◌, refl}
 use Rattle.ir_names.specs.declared.kinds.TypeHandle.{TypeHandle}
 use Rattle.ir_program.specs.Program.{Program, OperationView, BlockView, operation_at, block_at, type_at}
+use Rattle.ir_program.specs.Edits.{KeepsValues}
 use Rattle.ir_program.specs.Definers.{StandsAtDefiner, DefinesValue, ForgetsValue, values_at}
 use Rattle.ir_program.specs.declared.handles.DefiningEntity.{DefiningEntity}
 use Rattle.ir_program.specs.declared.handles.DefiningEntity.TheVariants.{Op, Block}
@@ -9,7 +10,7 @@ use Rattle.ir_program.specs.declared.handles.Ptr.{Ptr}
 use Rattle.ir_program.specs.declared.handles.Operation.{Operation}
 use Rattle.ir_program.specs.declared.handles.BasicBlock.{BasicBlock}
 use Rattle.ir_program.specs.declared.handles.Value.{Value}
-use Rattle.ir_program.proofs.Arrivals.{same_value}
+use Rattle.ir_program.proofs.defined.Arrivals.{same_value}
 use Rattle.ir_types.specs.Interned.{IsKnown}
 use Rattle.ir_types.specs.Views.{TypesView}
 
@@ -19,6 +20,12 @@ pub kept_types : {O B K T S : Type 0} (types : TypesView K T S) (old new : Progr
     → ((v : Value) → type_at new v ≡ type_at old v)
     → (v : Value) (ty : TypeHandle) → type_at new v ≡ Some ty → IsKnown types ty
 kept_types types old new known same v ty e = known v ty (sym (same v) ∙ e)
+
+pub kept_known : {O B K T S : Type 0} (types : TypesView K T S) (old new : Program O B)
+    → ((v : Value) (ty : TypeHandle) → type_at old v ≡ Some ty → IsKnown types ty)
+    → KeepsValues old new
+    → (v : Value) (ty : TypeHandle) → type_at new v ≡ Some ty → IsKnown types ty
+kept_known types old new known keeps = kept_types types old new known keeps.types
 
 module _ {O B : Type 0} (c : Program O B) (operations : (p : Ptr Operation) → operation_at c p ≡ None) (blocks : (p : Ptr BasicBlock) → block_at c p ≡ None) where
   no_values : (e : DefiningEntity) → values_at c e ≡ []

@@ -3,3 +3,4 @@ pub mod SameHandle
 pub mod ErasedTypes
 pub mod GrownTypes
 pub mod ChosenPlaces
+pub mod Appending

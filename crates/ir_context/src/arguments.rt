@@ -1,14 +1,15 @@
 //! The arguments of blocks.
-ghost use Rattle.std.specs.Prelude.{◌≡◌, ℕ, ◌≤◌, ◌<◌, ◌+◌, ◌-◌, ◌^◌, length, Some, None, Err, IsSome, IfOk, IfSome, IfNone, OnSome, OnOk, OnErr, ◌++◌, ◌∷◌, [], insert, remove};
+ghost use Rattle.std.specs.Prelude.{◌≡◌, ◌≤◌, ◌<◌, ◌+◌, ◌-◌, ◌^◌, Some, None, Err, IsSome, IfOk, IfSome, IfNone, OnSome, OnOk, OnErr};
 ghost use Rattle.ir_names.specs.declared.growth.GrowError.TheVariants.{CounterFull};
 ghost use Rattle.ir_program.specs.Program.{block_at, type_at, arguments_at, argument_count, value_in, type_in};
 ghost use Rattle.ir_program.specs.Uses.{IsUsed};
 ghost use Rattle.ir_program.specs.Definers.{DefinesValue, ForgetsValue};
 ghost use Rattle.ir_program.specs.declared.handles.Value.{Value};
-ghost use Rattle.ir_program.specs.Edits.{EditsBlock, IsUnchanged};
+ghost use Rattle.ir_program.specs.Edits.{IsUnchanged};
 ghost use Rattle.ir_program.specs.declared.handles.DefiningEntity.TheVariants.{Block};
 ghost use Rattle.ir_program.specs.declared.handles.Ptr.{Ptr};
 ghost use Rattle.ir_program.specs.declared.handles.BasicBlock.{BasicBlock};
+ghost use Rattle.ir_program.specs.ValueEdits.{PushesArgument, InsertsArgument, PopsArgument, RemovesArgument};
 ghost use Rattle.ir_types.specs.Interned.{IsKnown};
 
 use crate::Context;
@@ -50,7 +51,7 @@ pub trait ArgumentCalls {
         ensures value { IfOk result (λ v. v ≡ record { definer = Block (block self); number = ctx.old.program.counter }) }
         ensures defined { IfOk result (λ v. DefinesValue ctx.old.program ctx.new.program v ty) }
         ensures counter { OnOk result (ctx.new.program.counter ≡ ctx.old.program.counter + 1) }
-        ensures pushed { IfOk result (λ v. EditsBlock ctx.old.program ctx.new.program (block self) (λ b. record b { arguments = b.arguments ++ (record { value = v; ty = ty }) ∷ [] })) }
+        ensures pushed { IfOk result (λ v. PushesArgument ctx.old.program ctx.new.program (block self) v ty) }
         ensures err { OnErr result (IsUnchanged ctx.old.program ctx.new.program) }
         ensures err_values { OnErr result ((v : Value) → type_at ctx.new.program v ≡ type_at ctx.old.program v) }
         ensures full { result ≡ Err CounterFull → ctx.old.program.counter ≡ 2 ^ 64 - 1 }
@@ -74,7 +75,7 @@ pub trait ArgumentCalls {
         ensures value { IfOk result (λ v. v ≡ record { definer = Block (block self); number = ctx.old.program.counter }) }
         ensures defined { IfOk result (λ v. DefinesValue ctx.old.program ctx.new.program v ty) }
         ensures counter { OnOk result (ctx.new.program.counter ≡ ctx.old.program.counter + 1) }
-        ensures inserted { IfOk result (λ v. EditsBlock ctx.old.program ctx.new.program (block self) (λ b. record b { arguments = insert b.arguments i (record { value = v; ty = ty }) })) }
+        ensures inserted { IfOk result (λ v. InsertsArgument ctx.old.program ctx.new.program (block self) i v ty) }
         ensures err { OnErr result (IsUnchanged ctx.old.program ctx.new.program) }
         ensures err_values { OnErr result ((v : Value) → type_at ctx.new.program v ≡ type_at ctx.old.program v) }
         ensures full { result ≡ Err CounterFull → ctx.old.program.counter ≡ 2 ^ 64 - 1 }
@@ -86,7 +87,7 @@ pub trait ArgumentCalls {
         requires block { IsSome (block_at ctx.old.program (block self)) }
         requires unused { (v : Value) → value_in (arguments_at ctx.old.program (block self)) (argument_count ctx.old.program (block self) - 1) ≡ Some v → IsUsed ctx.old.program v → ⊥ }
         ensures value { result ≡ value_in (arguments_at ctx.old.program (block self)) (argument_count ctx.old.program (block self) - 1) }
-        ensures popped { OnSome result (EditsBlock ctx.old.program ctx.new.program (block self) (λ b. record b { arguments = remove b.arguments (length b.arguments - 1) })) }
+        ensures popped { OnSome result (PopsArgument ctx.old.program ctx.new.program (block self)) }
         ensures forgotten { IfSome result (λ v. ForgetsValue ctx.old.program ctx.new.program v) }
         ensures none { IfNone result (ctx.new.program ≡ ctx.old.program) }
         ensures counter { ctx.new.program.counter ≡ ctx.old.program.counter }
@@ -99,7 +100,7 @@ pub trait ArgumentCalls {
         requires within { i < argument_count ctx.old.program (block self) }
         requires unused { (v : Value) → value_in (arguments_at ctx.old.program (block self)) i ≡ Some v → IsUsed ctx.old.program v → ⊥ }
         ensures value { value_in (arguments_at ctx.old.program (block self)) i ≡ Some result }
-        ensures removed { EditsBlock ctx.old.program ctx.new.program (block self) (λ b. record b { arguments = remove b.arguments i }) }
+        ensures removed { RemovesArgument ctx.old.program ctx.new.program (block self) i }
         ensures forgotten { ForgetsValue ctx.old.program ctx.new.program result }
         ensures counter { ctx.new.program.counter ≡ ctx.old.program.counter }
         ensures types { ctx.new.types ≡ ctx.old.types };

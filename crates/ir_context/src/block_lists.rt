@@ -1,14 +1,14 @@
 //! Blocks in the lists of regions.
-ghost use Rattle.std.specs.Prelude.{◌≡◌, ◌↔◌, ◌+◌, ◌++◌, ◌∷◌, [], ℕ, None, Some, IsSome, IfSome, IsTrue, MatchOption, slice_get, insert, remove};
+ghost use Rattle.std.specs.Prelude.{◌≡◌, ◌↔◌, ◌+◌, ℕ, None, Some, IsSome, IfSome, IsTrue, MatchOption, slice_get};
 ghost use Rattle.ir_program.specs.declared.handles.Ptr.{Ptr};
 ghost use Rattle.ir_program.specs.declared.handles.BasicBlock.{BasicBlock};
 ghost use Rattle.ir_program.specs.declared.handles.Region.{Region};
-ghost use Rattle.ir_program.specs.declared.handles.Value.{Value};
 ghost use Rattle.ir_program.specs.declared.handles.IRNode.{IRNode};
 ghost use Rattle.ir_program.specs.declared.handles.IRNode.TheVariants.{BasicBlock as BlockNode, Region as RegionNode};
-ghost use Rattle.ir_program.specs.Program.{block_at, region_at, type_at};
+ghost use Rattle.ir_program.specs.Program.{block_at, region_at};
 ghost use Rattle.ir_program.specs.Lists.{blocks_in, StandsInRegion, IsLinkedBlock, IsUnlinkedBlock, StandsInside};
-ghost use Rattle.ir_program.specs.Edits.{EditsRegion};
+ghost use Rattle.ir_program.specs.Edits.{KeepsValues};
+ghost use Rattle.ir_program.specs.ListEdits.{PutsBlockAfter, PutsBlockBefore, TakesOutBlock, PutsBlockFirst, PutsBlockLast};
 
 use crate::Context;
 use ir_program::{BasicBlock, Ptr, Region};
@@ -51,9 +51,8 @@ pub trait BlockLists {
         requires block { IsSome (block_at ctx.old.program (block self)) }
         requires unlinked { IsUnlinkedBlock ctx.old.program (block self) }
         requires apart { StandsInside ctx.old.program (BlockNode (block self)) (BlockNode mark) → ⊥ }
-        ensures edited { (region : Ptr Region) (k : ℕ) → slice_get (blocks_in ctx.old.program region) k ≡ Some mark → EditsRegion ctx.old.program ctx.new.program region (λ v. record v { blocks = insert v.blocks (k + 1) (block self) }) }
-        ensures values { (v : Value) → type_at ctx.new.program v ≡ type_at ctx.old.program v }
-        ensures counter { ctx.new.program.counter ≡ ctx.old.program.counter }
+        ensures edited { PutsBlockAfter ctx.old.program ctx.new.program mark (block self) }
+        ensures values { KeepsValues ctx.old.program ctx.new.program }
         ensures types { ctx.new.types ≡ ctx.old.types };
 
     /// Puts the block, which stands in no region, right before `mark`, which stands in one.
@@ -62,9 +61,8 @@ pub trait BlockLists {
         requires block { IsSome (block_at ctx.old.program (block self)) }
         requires unlinked { IsUnlinkedBlock ctx.old.program (block self) }
         requires apart { StandsInside ctx.old.program (BlockNode (block self)) (BlockNode mark) → ⊥ }
-        ensures edited { (region : Ptr Region) (k : ℕ) → slice_get (blocks_in ctx.old.program region) k ≡ Some mark → EditsRegion ctx.old.program ctx.new.program region (λ v. record v { blocks = insert v.blocks k (block self) }) }
-        ensures values { (v : Value) → type_at ctx.new.program v ≡ type_at ctx.old.program v }
-        ensures counter { ctx.new.program.counter ≡ ctx.old.program.counter }
+        ensures edited { PutsBlockBefore ctx.old.program ctx.new.program mark (block self) }
+        ensures values { KeepsValues ctx.old.program ctx.new.program }
         ensures types { ctx.new.types ≡ ctx.old.types };
 
     /// Puts the block, which stands in no region, before all blocks of a region.
@@ -73,9 +71,8 @@ pub trait BlockLists {
         requires block { IsSome (block_at ctx.old.program (block self)) }
         requires unlinked { IsUnlinkedBlock ctx.old.program (block self) }
         requires apart { StandsInside ctx.old.program (BlockNode (block self)) (RegionNode container) → ⊥ }
-        ensures edited { EditsRegion ctx.old.program ctx.new.program container (λ v. record v { blocks = block self ∷ v.blocks }) }
-        ensures values { (v : Value) → type_at ctx.new.program v ≡ type_at ctx.old.program v }
-        ensures counter { ctx.new.program.counter ≡ ctx.old.program.counter }
+        ensures edited { PutsBlockFirst ctx.old.program ctx.new.program container (block self) }
+        ensures values { KeepsValues ctx.old.program ctx.new.program }
         ensures types { ctx.new.types ≡ ctx.old.types };
 
     /// Puts the block, which stands in no region, after all blocks of a region.
@@ -84,20 +81,18 @@ pub trait BlockLists {
         requires block { IsSome (block_at ctx.old.program (block self)) }
         requires unlinked { IsUnlinkedBlock ctx.old.program (block self) }
         requires apart { StandsInside ctx.old.program (BlockNode (block self)) (RegionNode container) → ⊥ }
-        ensures edited { EditsRegion ctx.old.program ctx.new.program container (λ v. record v { blocks = v.blocks ++ block self ∷ [] }) }
-        ensures values { (v : Value) → type_at ctx.new.program v ≡ type_at ctx.old.program v }
-        ensures counter { ctx.new.program.counter ≡ ctx.old.program.counter }
+        ensures edited { PutsBlockLast ctx.old.program ctx.new.program container (block self) }
+        ensures values { KeepsValues ctx.old.program ctx.new.program }
         ensures types { ctx.new.types ≡ ctx.old.types };
 
     /// Takes the block out of the region that it stands in. It keeps all that it holds.
     fn unlink<D: DialectTables>(self, ctx: &mut Context<D>)
         requires { IsLinkedBlock ctx.old.program (block self) }
-        ensures edited { (region : Ptr Region) (k : ℕ) → slice_get (blocks_in ctx.old.program region) k ≡ Some (block self) → EditsRegion ctx.old.program ctx.new.program region (λ v. record v { blocks = remove v.blocks k }) }
+        ensures edited { TakesOutBlock ctx.old.program ctx.new.program (block self) }
         ensures unlinked { IsUnlinkedBlock ctx.new.program (block self) }
         // Nothing stands inside what it did not stand in.
         ensures inside { (outer inner : IRNode) → StandsInside ctx.new.program outer inner → StandsInside ctx.old.program outer inner }
-        ensures values { (v : Value) → type_at ctx.new.program v ≡ type_at ctx.old.program v }
-        ensures counter { ctx.new.program.counter ≡ ctx.old.program.counter }
+        ensures values { KeepsValues ctx.old.program ctx.new.program }
         ensures types { ctx.new.types ≡ ctx.old.types };
 }
 

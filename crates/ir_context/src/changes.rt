@@ -1,12 +1,11 @@
 //! Changing where operations and blocks come from, and what blocks are called.
 ghost use Rattle.std.specs.Prelude.{◌≡◌, Some, IsSome};
-ghost use Rattle.ir_program.specs.Program.{operation_at, block_at, type_at};
-ghost use Rattle.ir_program.specs.Edits.{EditsOperation, EditsBlock};
+ghost use Rattle.ir_program.specs.Program.{operation_at, block_at};
+ghost use Rattle.ir_program.specs.Edits.{EditsOperation, EditsBlock, KeepsValues};
 ghost use Rattle.ir_program.specs.Lent.{block_payload_at};
 ghost use Rattle.ir_program.specs.declared.handles.Ptr.{Ptr};
 ghost use Rattle.ir_program.specs.declared.handles.Operation.{Operation};
 ghost use Rattle.ir_program.specs.declared.handles.BasicBlock.{BasicBlock};
-ghost use Rattle.ir_program.specs.declared.handles.Value.{Value};
 ghost use Rattle.ir_context.specs.Kept.{notes_at};
 
 use crate::Context;
@@ -23,8 +22,7 @@ pub trait OperationChanges {
     fn set_loc<D: DialectTables>(self, ctx: &mut Context<D>, loc: D::Location)
         requires { IsSome (operation_at ctx.old.program (op self)) }
         ensures edited { (n : _) → notes_at ctx.old.program (op self) ≡ Some n → EditsOperation ctx.old.program ctx.new.program (op self) (λ o. record o { payload = record o.payload { notes = record n { loc = loc } } }) }
-        ensures values { (v : Value) → type_at ctx.new.program v ≡ type_at ctx.old.program v }
-        ensures counter { ctx.new.program.counter ≡ ctx.old.program.counter }
+        ensures values { KeepsValues ctx.old.program ctx.new.program }
         ensures types { ctx.new.types ≡ ctx.old.types };
 }
 
@@ -45,16 +43,14 @@ pub trait BlockChanges {
     fn set_label<D: DialectTables>(self, ctx: &mut Context<D>, label: Option<Identifier>)
         requires { IsSome (block_at ctx.old.program (block self)) }
         ensures edited { (n : _) → block_payload_at ctx.old.program (block self) ≡ Some n → EditsBlock ctx.old.program ctx.new.program (block self) (λ b. record b { payload = record n { label = label } }) }
-        ensures values { (v : Value) → type_at ctx.new.program v ≡ type_at ctx.old.program v }
-        ensures counter { ctx.new.program.counter ≡ ctx.old.program.counter }
+        ensures values { KeepsValues ctx.old.program ctx.new.program }
         ensures types { ctx.new.types ≡ ctx.old.types };
 
     /// Says where the block comes from.
     fn set_loc<D: DialectTables>(self, ctx: &mut Context<D>, loc: D::Location)
         requires { IsSome (block_at ctx.old.program (block self)) }
         ensures edited { (n : _) → block_payload_at ctx.old.program (block self) ≡ Some n → EditsBlock ctx.old.program ctx.new.program (block self) (λ b. record b { payload = record n { loc = loc } }) }
-        ensures values { (v : Value) → type_at ctx.new.program v ≡ type_at ctx.old.program v }
-        ensures counter { ctx.new.program.counter ≡ ctx.old.program.counter }
+        ensures values { KeepsValues ctx.old.program ctx.new.program }
         ensures types { ctx.new.types ≡ ctx.old.types };
 }
 

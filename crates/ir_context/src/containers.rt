@@ -1,18 +1,17 @@
 //! What stands in blocks and in regions, in order.
-ghost use Rattle.std.specs.Prelude.{◌≡◌, ◌≢◌, ◌-◌, IsSome, IfSome, All, length, slice_get};
+ghost use Rattle.std.specs.Prelude.{◌≡◌, ◌≢◌, ◌↔◌, ◌-◌, IsTrue, IsSome, IfSome, All, length, slice_get};
 ghost use Rattle.ir_program.specs.declared.handles.Ptr.{Ptr};
 ghost use Rattle.ir_program.specs.declared.handles.Operation.{Operation};
 ghost use Rattle.ir_program.specs.declared.handles.BasicBlock.{BasicBlock};
 ghost use Rattle.ir_program.specs.declared.handles.Region.{Region};
-ghost use Rattle.ir_program.specs.declared.handles.Value.{Value};
 ghost use Rattle.ir_program.specs.declared.handles.IRNode.TheVariants.{Operation as OperationNode, BasicBlock as BlockNode, Region as RegionNode};
-ghost use Rattle.ir_program.specs.Program.{block_at, region_at, type_at};
-ghost use Rattle.ir_program.specs.Lists.{operations_in, blocks_in, StandsInBlock, StandsInRegion, StandsInside};
-ghost use Rattle.ir_program.specs.Edits.{AppendsBlock, AppendsRegion};
+ghost use Rattle.ir_program.specs.Program.{block_at, region_at};
+ghost use Rattle.ir_program.specs.Lists.{operations_in, blocks_in, StandsInBlock, StandsInRegion, StandsInside, CanAppendOperations, CanAppendBlocks};
+ghost use Rattle.ir_program.specs.Edits.{AppendsBlock, AppendsRegion, KeepsValues};
 
 use crate::Context;
 use crate::notes::{BlockNotes, OperationData};
-use ir_program::{BasicBlock, Blocks, Operation, Operations, Ptr, Region};
+use ir_program::{BasicBlock, Blocks, IRNode, Operation, Operations, Ptr, Region};
 use ir_types::DialectTables;
 
 /// A block and the operations that stand in it.
@@ -41,6 +40,12 @@ pub trait ContainsOperations {
         ensures list { result ≡ operations_in ctx.now.program (block self) }
         ensures stand { All (λ op. StandsInBlock ctx.now.program op (block self)) (operations_in ctx.now.program (block self)) };
 
+    /// Whether all operations of `donor` can be moved behind its own: `donor` is another block, and this one is inside none of them.
+    fn can_append<D: DialectTables>(self, ctx: &Context<D>, donor: Ptr<BasicBlock>) -> bool
+        requires donee { IsSome (block_at ctx.now.program (block self)) }
+        requires donor { IsSome (block_at ctx.now.program donor) }
+        ensures { IsTrue result ↔ CanAppendOperations ctx.now.program (block self) donor };
+
     /// Moves all operations of `donor` behind its own.
     fn append_linked_list<D: DialectTables>(self, ctx: &mut Context<D>, donor: Ptr<BasicBlock>)
         requires donee { IsSome (block_at ctx.old.program (block self)) }
@@ -48,8 +53,7 @@ pub trait ContainsOperations {
         requires differ { block self ≢ donor }
         requires apart { (op : Ptr Operation) → StandsInBlock ctx.old.program op donor → StandsInside ctx.old.program (OperationNode op) (BlockNode (block self)) → ⊥ }
         ensures edited { AppendsBlock ctx.old.program ctx.new.program (block self) donor }
-        ensures values { (v : Value) → type_at ctx.new.program v ≡ type_at ctx.old.program v }
-        ensures counter { ctx.new.program.counter ≡ ctx.old.program.counter }
+        ensures values { KeepsValues ctx.old.program ctx.new.program }
         ensures types { ctx.new.types ≡ ctx.old.types };
 }
 
@@ -69,6 +73,11 @@ impl ContainsOperations for Ptr<BasicBlock> {
         ctx: &Context<D>,
     ) -> Operations<'_, OperationData<D>, BlockNotes<D>> {
         ctx.program.operations(self)
+    }
+
+    fn can_append<D: DialectTables>(self, ctx: &Context<D>, donor: Ptr<BasicBlock>) -> bool {
+        let (inner, outer) = (IRNode::BasicBlock(self), IRNode::BasicBlock(donor));
+        !ctx.program.is_inside(inner, outer)
     }
 
     fn append_linked_list<D: DialectTables>(self, ctx: &mut Context<D>, donor: Ptr<BasicBlock>) {
@@ -99,6 +108,12 @@ pub trait ContainsBlocks {
         ensures list { result ≡ blocks_in ctx.now.program (region self) }
         ensures stand { All (λ block. StandsInRegion ctx.now.program block (region self)) (blocks_in ctx.now.program (region self)) };
 
+    /// Whether all blocks of `donor` can be moved behind its own: `donor` is another region, and this one is inside none of them.
+    fn can_append<D: DialectTables>(self, ctx: &Context<D>, donor: Ptr<Region>) -> bool
+        requires donee { IsSome (region_at ctx.now.program (region self)) }
+        requires donor { IsSome (region_at ctx.now.program donor) }
+        ensures { IsTrue result ↔ CanAppendBlocks ctx.now.program (region self) donor };
+
     /// Moves all blocks of `donor` behind its own.
     fn append_linked_list<D: DialectTables>(self, ctx: &mut Context<D>, donor: Ptr<Region>)
         requires donee { IsSome (region_at ctx.old.program (region self)) }
@@ -106,8 +121,7 @@ pub trait ContainsBlocks {
         requires differ { region self ≢ donor }
         requires apart { (block : Ptr BasicBlock) → StandsInRegion ctx.old.program block donor → StandsInside ctx.old.program (BlockNode block) (RegionNode (region self)) → ⊥ }
         ensures edited { AppendsRegion ctx.old.program ctx.new.program (region self) donor }
-        ensures values { (v : Value) → type_at ctx.new.program v ≡ type_at ctx.old.program v }
-        ensures counter { ctx.new.program.counter ≡ ctx.old.program.counter }
+        ensures values { KeepsValues ctx.old.program ctx.new.program }
         ensures types { ctx.new.types ≡ ctx.old.types };
 }
 
@@ -127,6 +141,11 @@ impl ContainsBlocks for Ptr<Region> {
         ctx: &Context<D>,
     ) -> Blocks<'_, OperationData<D>, BlockNotes<D>> {
         ctx.program.blocks(self)
+    }
+
+    fn can_append<D: DialectTables>(self, ctx: &Context<D>, donor: Ptr<Region>) -> bool {
+        let (inner, outer) = (IRNode::Region(self), IRNode::Region(donor));
+        !ctx.program.is_inside(inner, outer)
     }
 
     fn append_linked_list<D: DialectTables>(self, ctx: &mut Context<D>, donor: Ptr<Region>) {

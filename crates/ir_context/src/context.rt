@@ -1,6 +1,7 @@
 //! The context in which a dialect's programs stand.
 ghost use Rattle.std.specs.Prelude.{◌≡◌, ◌↔◌, [], None, IsTrue, option_copied};
 ghost use Rattle.ir_program.specs.Program.{operation_at, block_at, region_at};
+ghost use Rattle.ir_program.specs.Made.{HasRoom};
 ghost use Rattle.ir_program.specs.Lists.{IsEmptyProgram, IsLiveNode, StandsInside};
 ghost use Rattle.ir_types.specs.Interned.{key_at};
 
@@ -20,7 +21,6 @@ pub struct Context<D: DialectTables> {
 }
 
 impl<D: DialectTables> Model for Context<D> {
-    ghost use Rattle.std.specs.Prelude.{ℕ};
     ghost use Rattle.ir_context.specs.Views.{ContextView};
     ghost use Rattle.ir_context.specs.declared.notes.OperationData.{OperationData};
     ghost use Rattle.ir_context.specs.declared.notes.BlockNotes.{BlockNotes};
@@ -44,6 +44,7 @@ impl<D: DialectTables> Context<D> {
         ensures blocks { (p : _) → block_at result.program p ≡ None }
         ensures regions { (p : _) → region_at result.program p ≡ None }
         ensures counter { result.program.counter ≡ 0 }
+        ensures room { HasRoom result.program }
         ensures types { result.types ≡ record { keys = []; bodies = []; saved = [] } }
     {
         let program = Program::new(alloc);

@@ -1,6 +1,6 @@
 //! The context of a dialect: its operations, regions, blocks and values, with their attributes,
 //! locations and types, and the calls on them.
-#![tactic(auto, using(crate::proofs::KnownTypes::kept_types))]
+#![tactic(auto, using(crate::proofs::KnownTypes::kept_types, crate::proofs::KnownTypes::kept_known))]
 
 mod arguments;
 mod block_lists;

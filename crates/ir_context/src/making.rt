@@ -2,7 +2,7 @@
 ghost use Rattle.std.specs.Prelude.{◌≡◌, ◌⊎◌, ◌≤◌, ◌+◌, ◌^◌, Err, IsSome, IfOk, OnErr, length};
 ghost use Rattle.ir_names.specs.declared.growth.GrowError.TheVariants.{CounterFull};
 ghost use Rattle.ir_program.specs.Program.{operation_at, type_at};
-ghost use Rattle.ir_program.specs.Edits.{IsUnchanged};
+ghost use Rattle.ir_program.specs.Edits.{IsRestored, IsUnchanged};
 ghost use Rattle.ir_program.specs.Adds.{AreLiveValues, AreLiveBlocks};
 ghost use Rattle.ir_program.specs.Made.{BuildsOperation, BuildsBlock, MakesRegion, HasFullOperationSlot, HasFullBlockSlot, HasFullRegionSlot};
 ghost use Rattle.ir_program.specs.declared.handles.Value.{Value};
@@ -21,7 +21,7 @@ impl<D: DialectTables> Context<D> {
     ///
     /// # Errors
     /// `Memory`, and `CounterFull` where there are not so many numbers left for values, or where the vacant slot that comes
-    /// next for an operation or a region had as many of them as it can name. Nothing is changed then.
+    /// next for an operation or a region had as many of them as it can name. Each handle leads to what it led to then.
     #[tactic(auto, using(crate::proofs::ErasedTypes::built_operation_known))]
     pub fn new_operation(
         &mut self,
@@ -36,7 +36,7 @@ impl<D: DialectTables> Context<D> {
         requires operands { AreLiveValues self.old.program operands.now }
         requires successors { AreLiveBlocks self.old.program successors.now }
         ensures built { IfOk result (λ p. BuildsOperation self.old.program self.new.program p payload results.now operands.now successors.now regions) }
-        ensures err { OnErr result (IsUnchanged self.old.program self.new.program) }
+        ensures err { OnErr result (IsRestored self.old.program self.new.program) }
         ensures err_values { OnErr result ((v : Value) → type_at self.new.program v ≡ type_at self.old.program v) }
         ensures full { result ≡ Err CounterFull → HasFullOperationSlot self.old.program ⊎ (HasFullRegionSlot self.old.program ⊎ (2 ^ 64 ≤ self.old.program.counter + length results.now)) }
         ensures types { self.new.types ≡ self.old.types }
@@ -53,7 +53,7 @@ impl<D: DialectTables> Context<D> {
     ///
     /// # Errors
     /// `Memory`, and `CounterFull` where there are not so many numbers left for values, or where the vacant slot that comes
-    /// next had as many blocks as it can name. Nothing is changed then.
+    /// next had as many blocks as it can name. Each handle leads to what it led to then.
     #[tactic(auto, using(crate::proofs::ErasedTypes::built_block_known))]
     pub fn new_block(
         &mut self,
@@ -63,7 +63,7 @@ impl<D: DialectTables> Context<D> {
     ) -> Result<Ptr<BasicBlock>, GrowError>
         requires known { AreKnown self.old.types arguments.now }
         ensures built { IfOk result (λ p. BuildsBlock self.old.program self.new.program p notes arguments.now) }
-        ensures err { OnErr result (IsUnchanged self.old.program self.new.program) }
+        ensures err { OnErr result (IsRestored self.old.program self.new.program) }
         ensures err_values { OnErr result ((v : Value) → type_at self.new.program v ≡ type_at self.old.program v) }
         ensures full { result ≡ Err CounterFull → HasFullBlockSlot self.old.program ⊎ (2 ^ 64 ≤ self.old.program.counter + length arguments.now) }
         ensures types { self.new.types ≡ self.old.types }

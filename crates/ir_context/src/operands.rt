@@ -1,10 +1,11 @@
 //! The operands of operations.
-ghost use Rattle.std.specs.Prelude.{◌≡◌, ℕ, ◌++◌, ◌∷◌, [], ◌<◌, ◌≤◌, Some, IsNone, IsOk, IsSome, MatchOption, OnOk, OnErr, length, insert, remove, slice_get, slice_set};
-ghost use Rattle.ir_program.specs.Program.{operation_at, type_at, IsLiveValue};
+ghost use Rattle.std.specs.Prelude.{◌≡◌, ◌++◌, ◌∷◌, [], ◌<◌, ◌≤◌, Some, IsNone, IsOk, IsSome, MatchOption, OnOk, OnErr, length, slice_get};
+ghost use Rattle.ir_program.specs.Program.{operation_at, IsLiveValue};
 ghost use Rattle.ir_program.specs.Rows.{operands_at};
-ghost use Rattle.ir_program.specs.Edits.{EditsOperation, IsUnchanged};
+ghost use Rattle.ir_program.specs.Edits.{IsUnchanged, KeepsValues};
 ghost use Rattle.ir_program.specs.declared.handles.Ptr.{Ptr};
 ghost use Rattle.ir_program.specs.declared.handles.Operation.{Operation};
+ghost use Rattle.ir_program.specs.RowEdits.{PushesOperand, InsertsOperand, RemovesOperand, ReplacesOperand, ChangesOperands};
 
 use crate::Context;
 use ir_program::{Operation, Ptr, Value};
@@ -39,10 +40,9 @@ pub trait OperandCalls {
     ) -> Result<(), AllocError>
         requires operation { IsSome (operation_at ctx.old.program (op self)) }
         requires value { IsLiveValue ctx.old.program value }
-        ensures pushed { OnOk result (EditsOperation ctx.old.program ctx.new.program (op self) (λ o. record o { operands = o.operands ++ value ∷ [] })) }
+        ensures pushed { OnOk result (PushesOperand ctx.old.program ctx.new.program (op self) value) }
         ensures err { OnErr result (IsUnchanged ctx.old.program ctx.new.program) }
-        ensures values { (v : _) → type_at ctx.new.program v ≡ type_at ctx.old.program v }
-        ensures counter { ctx.new.program.counter ≡ ctx.old.program.counter }
+        ensures values { KeepsValues ctx.old.program ctx.new.program }
         ensures types { ctx.new.types ≡ ctx.old.types };
 
     /// Puts an operand at an index. Those that stood there and behind move back by one.
@@ -59,29 +59,26 @@ pub trait OperandCalls {
         requires operation { IsSome (operation_at ctx.old.program (op self)) }
         requires within { i ≤ length (operands_at ctx.old.program (op self)) }
         requires value { IsLiveValue ctx.old.program value }
-        ensures inserted { OnOk result (EditsOperation ctx.old.program ctx.new.program (op self) (λ o. record o { operands = insert o.operands i value })) }
+        ensures inserted { OnOk result (InsertsOperand ctx.old.program ctx.new.program (op self) i value) }
         ensures err { OnErr result (IsUnchanged ctx.old.program ctx.new.program) }
-        ensures values { (v : _) → type_at ctx.new.program v ≡ type_at ctx.old.program v }
-        ensures counter { ctx.new.program.counter ≡ ctx.old.program.counter }
+        ensures values { KeepsValues ctx.old.program ctx.new.program }
         ensures types { ctx.new.types ≡ ctx.old.types };
 
     /// Takes away the last operand, if there is one.
     fn pop_operand<D: DialectTables>(self, ctx: &mut Context<D>) -> Option<Value>
         requires { IsSome (operation_at ctx.old.program (op self)) }
         ensures value { MatchOption result (operands_at ctx.old.program (op self) ≡ []) (λ v. operands_at ctx.old.program (op self) ≡ operands_at ctx.new.program (op self) ++ v ∷ []) }
-        ensures popped { EditsOperation ctx.old.program ctx.new.program (op self) (λ o. record o { operands = operands_at ctx.new.program (op self) }) }
+        ensures popped { ChangesOperands ctx.old.program ctx.new.program (op self) }
         ensures none { IsNone result → IsUnchanged ctx.old.program ctx.new.program }
-        ensures values { (v : _) → type_at ctx.new.program v ≡ type_at ctx.old.program v }
-        ensures counter { ctx.new.program.counter ≡ ctx.old.program.counter }
+        ensures values { KeepsValues ctx.old.program ctx.new.program }
         ensures types { ctx.new.types ≡ ctx.old.types };
 
     /// Takes away the operand at an index. Those behind it move up by one.
     fn remove_operand<D: DialectTables>(self, ctx: &mut Context<D>, i: usize) -> Value
         requires { i < length (operands_at ctx.old.program (op self)) }
         ensures value { slice_get (operands_at ctx.old.program (op self)) i ≡ Some result }
-        ensures removed { EditsOperation ctx.old.program ctx.new.program (op self) (λ o. record o { operands = remove o.operands i }) }
-        ensures values { (v : _) → type_at ctx.new.program v ≡ type_at ctx.old.program v }
-        ensures counter { ctx.new.program.counter ≡ ctx.old.program.counter }
+        ensures removed { RemovesOperand ctx.old.program ctx.new.program (op self) i }
+        ensures values { KeepsValues ctx.old.program ctx.new.program }
         ensures types { ctx.new.types ≡ ctx.old.types };
 
     /// Puts another value in place of the operand at an index. The parameter stays for callers that allocate; no memory
@@ -96,9 +93,8 @@ pub trait OperandCalls {
         requires within { i < length (operands_at ctx.old.program (op self)) }
         requires value { IsLiveValue ctx.old.program value }
         ensures succeeds { IsOk result }
-        ensures replaced { EditsOperation ctx.old.program ctx.new.program (op self) (λ o. record o { operands = slice_set o.operands i value }) }
-        ensures values { (v : _) → type_at ctx.new.program v ≡ type_at ctx.old.program v }
-        ensures counter { ctx.new.program.counter ≡ ctx.old.program.counter }
+        ensures replaced { ReplacesOperand ctx.old.program ctx.new.program (op self) i value }
+        ensures values { KeepsValues ctx.old.program ctx.new.program }
         ensures types { ctx.new.types ≡ ctx.old.types };
 }
 

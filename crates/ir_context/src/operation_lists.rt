@@ -1,14 +1,14 @@
 //! Operations in the lists of blocks.
-ghost use Rattle.std.specs.Prelude.{◌≡◌, ◌↔◌, ◌+◌, ◌++◌, ◌∷◌, [], ℕ, None, Some, IsSome, IfSome, IsTrue, MatchOption, slice_get, insert, remove};
+ghost use Rattle.std.specs.Prelude.{◌≡◌, ◌↔◌, ◌+◌, ℕ, None, Some, IsSome, IfSome, IsTrue, MatchOption, slice_get};
 ghost use Rattle.ir_program.specs.declared.handles.Ptr.{Ptr};
 ghost use Rattle.ir_program.specs.declared.handles.Operation.{Operation};
 ghost use Rattle.ir_program.specs.declared.handles.BasicBlock.{BasicBlock};
-ghost use Rattle.ir_program.specs.declared.handles.Value.{Value};
 ghost use Rattle.ir_program.specs.declared.handles.IRNode.{IRNode};
 ghost use Rattle.ir_program.specs.declared.handles.IRNode.TheVariants.{Operation as OperationNode, BasicBlock as BlockNode};
-ghost use Rattle.ir_program.specs.Program.{operation_at, block_at, type_at};
+ghost use Rattle.ir_program.specs.Program.{operation_at, block_at};
 ghost use Rattle.ir_program.specs.Lists.{operations_in, StandsInBlock, IsLinkedOperation, IsUnlinkedOperation, StandsInside};
-ghost use Rattle.ir_program.specs.Edits.{EditsBlock};
+ghost use Rattle.ir_program.specs.Edits.{KeepsValues};
+ghost use Rattle.ir_program.specs.ListEdits.{PutsOperationAfter, PutsOperationBefore, TakesOutOperation, PutsOperationFirst, PutsOperationLast};
 
 use crate::Context;
 use ir_program::{BasicBlock, Operation, Ptr};
@@ -51,9 +51,8 @@ pub trait OperationLists {
         requires op { IsSome (operation_at ctx.old.program (op self)) }
         requires unlinked { IsUnlinkedOperation ctx.old.program (op self) }
         requires apart { StandsInside ctx.old.program (OperationNode (op self)) (OperationNode mark) → ⊥ }
-        ensures edited { (block : Ptr BasicBlock) (k : ℕ) → slice_get (operations_in ctx.old.program block) k ≡ Some mark → EditsBlock ctx.old.program ctx.new.program block (λ v. record v { operations = insert v.operations (k + 1) (op self) }) }
-        ensures values { (v : Value) → type_at ctx.new.program v ≡ type_at ctx.old.program v }
-        ensures counter { ctx.new.program.counter ≡ ctx.old.program.counter }
+        ensures edited { PutsOperationAfter ctx.old.program ctx.new.program mark (op self) }
+        ensures values { KeepsValues ctx.old.program ctx.new.program }
         ensures types { ctx.new.types ≡ ctx.old.types };
 
     /// Puts the operation, which stands in no block, right before `mark`, which stands in one.
@@ -62,9 +61,8 @@ pub trait OperationLists {
         requires op { IsSome (operation_at ctx.old.program (op self)) }
         requires unlinked { IsUnlinkedOperation ctx.old.program (op self) }
         requires apart { StandsInside ctx.old.program (OperationNode (op self)) (OperationNode mark) → ⊥ }
-        ensures edited { (block : Ptr BasicBlock) (k : ℕ) → slice_get (operations_in ctx.old.program block) k ≡ Some mark → EditsBlock ctx.old.program ctx.new.program block (λ v. record v { operations = insert v.operations k (op self) }) }
-        ensures values { (v : Value) → type_at ctx.new.program v ≡ type_at ctx.old.program v }
-        ensures counter { ctx.new.program.counter ≡ ctx.old.program.counter }
+        ensures edited { PutsOperationBefore ctx.old.program ctx.new.program mark (op self) }
+        ensures values { KeepsValues ctx.old.program ctx.new.program }
         ensures types { ctx.new.types ≡ ctx.old.types };
 
     /// Puts the operation, which stands in no block, before all operations of a block.
@@ -73,9 +71,8 @@ pub trait OperationLists {
         requires op { IsSome (operation_at ctx.old.program (op self)) }
         requires unlinked { IsUnlinkedOperation ctx.old.program (op self) }
         requires apart { StandsInside ctx.old.program (OperationNode (op self)) (BlockNode container) → ⊥ }
-        ensures edited { EditsBlock ctx.old.program ctx.new.program container (λ v. record v { operations = op self ∷ v.operations }) }
-        ensures values { (v : Value) → type_at ctx.new.program v ≡ type_at ctx.old.program v }
-        ensures counter { ctx.new.program.counter ≡ ctx.old.program.counter }
+        ensures edited { PutsOperationFirst ctx.old.program ctx.new.program container (op self) }
+        ensures values { KeepsValues ctx.old.program ctx.new.program }
         ensures types { ctx.new.types ≡ ctx.old.types };
 
     /// Puts the operation, which stands in no block, after all operations of a block.
@@ -84,20 +81,18 @@ pub trait OperationLists {
         requires op { IsSome (operation_at ctx.old.program (op self)) }
         requires unlinked { IsUnlinkedOperation ctx.old.program (op self) }
         requires apart { StandsInside ctx.old.program (OperationNode (op self)) (BlockNode container) → ⊥ }
-        ensures edited { EditsBlock ctx.old.program ctx.new.program container (λ v. record v { operations = v.operations ++ op self ∷ [] }) }
-        ensures values { (v : Value) → type_at ctx.new.program v ≡ type_at ctx.old.program v }
-        ensures counter { ctx.new.program.counter ≡ ctx.old.program.counter }
+        ensures edited { PutsOperationLast ctx.old.program ctx.new.program container (op self) }
+        ensures values { KeepsValues ctx.old.program ctx.new.program }
         ensures types { ctx.new.types ≡ ctx.old.types };
 
     /// Takes the operation out of the block that it stands in. It keeps all that it holds.
     fn unlink<D: DialectTables>(self, ctx: &mut Context<D>)
         requires { IsLinkedOperation ctx.old.program (op self) }
-        ensures edited { (block : Ptr BasicBlock) (k : ℕ) → slice_get (operations_in ctx.old.program block) k ≡ Some (op self) → EditsBlock ctx.old.program ctx.new.program block (λ v. record v { operations = remove v.operations k }) }
+        ensures edited { TakesOutOperation ctx.old.program ctx.new.program (op self) }
         ensures unlinked { IsUnlinkedOperation ctx.new.program (op self) }
         // Nothing stands inside what it did not stand in.
         ensures inside { (outer inner : IRNode) → StandsInside ctx.new.program outer inner → StandsInside ctx.old.program outer inner }
-        ensures values { (v : Value) → type_at ctx.new.program v ≡ type_at ctx.old.program v }
-        ensures counter { ctx.new.program.counter ≡ ctx.old.program.counter }
+        ensures values { KeepsValues ctx.old.program ctx.new.program }
         ensures types { ctx.new.types ≡ ctx.old.types };
 }
 

@@ -4,11 +4,10 @@ ghost use Rattle.ir_program.specs.declared.handles.Ptr.{Ptr};
 ghost use Rattle.ir_program.specs.declared.handles.Operation.{Operation};
 ghost use Rattle.ir_program.specs.declared.handles.BasicBlock.{BasicBlock};
 ghost use Rattle.ir_program.specs.declared.handles.Region.{Region};
-ghost use Rattle.ir_program.specs.declared.handles.Value.{Value};
 ghost use Rattle.ir_program.specs.declared.handles.IRNode.TheVariants.{Operation as OperationNode, Region as RegionNode};
-ghost use Rattle.ir_program.specs.Program.{operation_at, region_at, type_at};
+ghost use Rattle.ir_program.specs.Program.{operation_at, region_at};
 ghost use Rattle.ir_program.specs.Lists.{blocks_in, regions_in, StandsInRegion, StandsInOperation, StandsInside};
-ghost use Rattle.ir_program.specs.Edits.{EditsOperation, MovesRegion};
+ghost use Rattle.ir_program.specs.Edits.{EditsOperation, MovesRegion, KeepsValues};
 ghost use Rattle.ir_context.specs.Holders.{HasBlock, HasParentRegion};
 
 use crate::Context;
@@ -61,8 +60,7 @@ pub trait RegionCalls {
         requires apart { StandsInside ctx.old.program (RegionNode (region self)) (OperationNode op) → ⊥ }
         ensures elsewhere { (from : Ptr Operation) (k : ℕ) → slice_get (regions_in ctx.old.program from) k ≡ Some (region self) → from ≢ op → MovesRegion ctx.old.program ctx.new.program (region self) from k op }
         ensures within { (k : ℕ) → slice_get (regions_in ctx.old.program op) k ≡ Some (region self) → EditsOperation ctx.old.program ctx.new.program op (λ v. record v { regions = remove v.regions k ++ region self ∷ [] }) }
-        ensures values { (v : Value) → type_at ctx.new.program v ≡ type_at ctx.old.program v }
-        ensures counter { ctx.new.program.counter ≡ ctx.old.program.counter }
+        ensures values { KeepsValues ctx.old.program ctx.new.program }
         ensures types { ctx.new.types ≡ ctx.old.types };
 }
 

@@ -1,14 +1,15 @@
 //! The results of operations.
-ghost use Rattle.std.specs.Prelude.{◌≡◌, ℕ, ◌≤◌, ◌<◌, ◌+◌, ◌-◌, ◌^◌, length, Some, None, Err, IsSome, IfOk, IfSome, IfNone, OnSome, OnOk, OnErr, ◌++◌, ◌∷◌, [], insert, remove};
+ghost use Rattle.std.specs.Prelude.{◌≡◌, ◌≤◌, ◌<◌, ◌+◌, ◌-◌, ◌^◌, Some, None, Err, IsSome, IfOk, IfSome, IfNone, OnSome, OnOk, OnErr};
 ghost use Rattle.ir_names.specs.declared.growth.GrowError.TheVariants.{CounterFull};
 ghost use Rattle.ir_program.specs.Program.{operation_at, type_at, results_at, result_count, value_in, type_in};
 ghost use Rattle.ir_program.specs.Uses.{IsUsed};
 ghost use Rattle.ir_program.specs.Definers.{DefinesValue, ForgetsValue};
 ghost use Rattle.ir_program.specs.declared.handles.Value.{Value};
-ghost use Rattle.ir_program.specs.Edits.{EditsOperation, IsUnchanged};
+ghost use Rattle.ir_program.specs.Edits.{IsUnchanged};
 ghost use Rattle.ir_program.specs.declared.handles.DefiningEntity.TheVariants.{Op};
 ghost use Rattle.ir_program.specs.declared.handles.Ptr.{Ptr};
 ghost use Rattle.ir_program.specs.declared.handles.Operation.{Operation};
+ghost use Rattle.ir_program.specs.ValueEdits.{PushesResult, InsertsResult, PopsResult, RemovesResult};
 ghost use Rattle.ir_types.specs.Interned.{IsKnown};
 
 use crate::Context;
@@ -56,7 +57,7 @@ pub trait ResultCalls {
         ensures value { IfOk result (λ v. v ≡ record { definer = Op (op self); number = ctx.old.program.counter }) }
         ensures defined { IfOk result (λ v. DefinesValue ctx.old.program ctx.new.program v ty) }
         ensures counter { OnOk result (ctx.new.program.counter ≡ ctx.old.program.counter + 1) }
-        ensures pushed { IfOk result (λ v. EditsOperation ctx.old.program ctx.new.program (op self) (λ o. record o { results = o.results ++ (record { value = v; ty = ty }) ∷ [] })) }
+        ensures pushed { IfOk result (λ v. PushesResult ctx.old.program ctx.new.program (op self) v ty) }
         ensures err { OnErr result (IsUnchanged ctx.old.program ctx.new.program) }
         ensures err_values { OnErr result ((v : Value) → type_at ctx.new.program v ≡ type_at ctx.old.program v) }
         ensures full { result ≡ Err CounterFull → ctx.old.program.counter ≡ 2 ^ 64 - 1 }
@@ -80,7 +81,7 @@ pub trait ResultCalls {
         ensures value { IfOk result (λ v. v ≡ record { definer = Op (op self); number = ctx.old.program.counter }) }
         ensures defined { IfOk result (λ v. DefinesValue ctx.old.program ctx.new.program v ty) }
         ensures counter { OnOk result (ctx.new.program.counter ≡ ctx.old.program.counter + 1) }
-        ensures inserted { IfOk result (λ v. EditsOperation ctx.old.program ctx.new.program (op self) (λ o. record o { results = insert o.results i (record { value = v; ty = ty }) })) }
+        ensures inserted { IfOk result (λ v. InsertsResult ctx.old.program ctx.new.program (op self) i v ty) }
         ensures err { OnErr result (IsUnchanged ctx.old.program ctx.new.program) }
         ensures err_values { OnErr result ((v : Value) → type_at ctx.new.program v ≡ type_at ctx.old.program v) }
         ensures full { result ≡ Err CounterFull → ctx.old.program.counter ≡ 2 ^ 64 - 1 }
@@ -92,7 +93,7 @@ pub trait ResultCalls {
         requires operation { IsSome (operation_at ctx.old.program (op self)) }
         requires unused { (v : Value) → value_in (results_at ctx.old.program (op self)) (result_count ctx.old.program (op self) - 1) ≡ Some v → IsUsed ctx.old.program v → ⊥ }
         ensures value { result ≡ value_in (results_at ctx.old.program (op self)) (result_count ctx.old.program (op self) - 1) }
-        ensures popped { OnSome result (EditsOperation ctx.old.program ctx.new.program (op self) (λ o. record o { results = remove o.results (length o.results - 1) })) }
+        ensures popped { OnSome result (PopsResult ctx.old.program ctx.new.program (op self)) }
         ensures forgotten { IfSome result (λ v. ForgetsValue ctx.old.program ctx.new.program v) }
         ensures none { IfNone result (ctx.new.program ≡ ctx.old.program) }
         ensures counter { ctx.new.program.counter ≡ ctx.old.program.counter }
@@ -105,7 +106,7 @@ pub trait ResultCalls {
         requires within { i < result_count ctx.old.program (op self) }
         requires unused { (v : Value) → value_in (results_at ctx.old.program (op self)) i ≡ Some v → IsUsed ctx.old.program v → ⊥ }
         ensures value { value_in (results_at ctx.old.program (op self)) i ≡ Some result }
-        ensures removed { EditsOperation ctx.old.program ctx.new.program (op self) (λ o. record o { results = remove o.results i }) }
+        ensures removed { RemovesResult ctx.old.program ctx.new.program (op self) i }
         ensures forgotten { ForgetsValue ctx.old.program ctx.new.program result }
         ensures counter { ctx.new.program.counter ≡ ctx.old.program.counter }
         ensures types { ctx.new.types ≡ ctx.old.types };

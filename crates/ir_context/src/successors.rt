@@ -1,10 +1,11 @@
 //! The successors of operations.
-ghost use Rattle.std.specs.Prelude.{◌≡◌, ℕ, ◌++◌, ◌∷◌, [], ◌<◌, ◌≤◌, Some, IsNone, IsOk, IsSome, MatchOption, OnOk, OnErr, length, insert, remove, slice_get, slice_set};
-ghost use Rattle.ir_program.specs.Program.{block_at, operation_at, type_at};
+ghost use Rattle.std.specs.Prelude.{◌≡◌, ◌++◌, ◌∷◌, [], ◌<◌, ◌≤◌, Some, IsNone, IsOk, IsSome, MatchOption, OnOk, OnErr, length, slice_get};
+ghost use Rattle.ir_program.specs.Program.{block_at, operation_at};
 ghost use Rattle.ir_program.specs.Rows.{successors_at};
-ghost use Rattle.ir_program.specs.Edits.{EditsOperation, IsUnchanged};
+ghost use Rattle.ir_program.specs.Edits.{IsUnchanged, KeepsValues};
 ghost use Rattle.ir_program.specs.declared.handles.Ptr.{Ptr};
 ghost use Rattle.ir_program.specs.declared.handles.Operation.{Operation};
+ghost use Rattle.ir_program.specs.RowEdits.{PushesSuccessor, InsertsSuccessor, RemovesSuccessor, ReplacesSuccessor, ChangesSuccessors};
 
 use crate::Context;
 use ir_program::{BasicBlock, Operation, Ptr};
@@ -39,10 +40,9 @@ pub trait SuccessorCalls {
     ) -> Result<(), AllocError>
         requires operation { IsSome (operation_at ctx.old.program (op self)) }
         requires block { IsSome (block_at ctx.old.program block) }
-        ensures pushed { OnOk result (EditsOperation ctx.old.program ctx.new.program (op self) (λ o. record o { successors = o.successors ++ block ∷ [] })) }
+        ensures pushed { OnOk result (PushesSuccessor ctx.old.program ctx.new.program (op self) block) }
         ensures err { OnErr result (IsUnchanged ctx.old.program ctx.new.program) }
-        ensures values { (v : _) → type_at ctx.new.program v ≡ type_at ctx.old.program v }
-        ensures counter { ctx.new.program.counter ≡ ctx.old.program.counter }
+        ensures values { KeepsValues ctx.old.program ctx.new.program }
         ensures types { ctx.new.types ≡ ctx.old.types };
 
     /// Puts a successor at an index. Those that stood there and behind move back by one.
@@ -59,29 +59,26 @@ pub trait SuccessorCalls {
         requires operation { IsSome (operation_at ctx.old.program (op self)) }
         requires within { i ≤ length (successors_at ctx.old.program (op self)) }
         requires block { IsSome (block_at ctx.old.program block) }
-        ensures inserted { OnOk result (EditsOperation ctx.old.program ctx.new.program (op self) (λ o. record o { successors = insert o.successors i block })) }
+        ensures inserted { OnOk result (InsertsSuccessor ctx.old.program ctx.new.program (op self) i block) }
         ensures err { OnErr result (IsUnchanged ctx.old.program ctx.new.program) }
-        ensures values { (v : _) → type_at ctx.new.program v ≡ type_at ctx.old.program v }
-        ensures counter { ctx.new.program.counter ≡ ctx.old.program.counter }
+        ensures values { KeepsValues ctx.old.program ctx.new.program }
         ensures types { ctx.new.types ≡ ctx.old.types };
 
     /// Takes away the last successor, if there is one.
     fn pop_successor<D: DialectTables>(self, ctx: &mut Context<D>) -> Option<Ptr<BasicBlock>>
         requires { IsSome (operation_at ctx.old.program (op self)) }
         ensures block { MatchOption result (successors_at ctx.old.program (op self) ≡ []) (λ b. successors_at ctx.old.program (op self) ≡ successors_at ctx.new.program (op self) ++ b ∷ []) }
-        ensures popped { EditsOperation ctx.old.program ctx.new.program (op self) (λ o. record o { successors = successors_at ctx.new.program (op self) }) }
+        ensures popped { ChangesSuccessors ctx.old.program ctx.new.program (op self) }
         ensures none { IsNone result → IsUnchanged ctx.old.program ctx.new.program }
-        ensures values { (v : _) → type_at ctx.new.program v ≡ type_at ctx.old.program v }
-        ensures counter { ctx.new.program.counter ≡ ctx.old.program.counter }
+        ensures values { KeepsValues ctx.old.program ctx.new.program }
         ensures types { ctx.new.types ≡ ctx.old.types };
 
     /// Takes away the successor at an index. Those behind it move up by one.
     fn remove_successor<D: DialectTables>(self, ctx: &mut Context<D>, i: usize) -> Ptr<BasicBlock>
         requires { i < length (successors_at ctx.old.program (op self)) }
         ensures block { slice_get (successors_at ctx.old.program (op self)) i ≡ Some result }
-        ensures removed { EditsOperation ctx.old.program ctx.new.program (op self) (λ o. record o { successors = remove o.successors i }) }
-        ensures values { (v : _) → type_at ctx.new.program v ≡ type_at ctx.old.program v }
-        ensures counter { ctx.new.program.counter ≡ ctx.old.program.counter }
+        ensures removed { RemovesSuccessor ctx.old.program ctx.new.program (op self) i }
+        ensures values { KeepsValues ctx.old.program ctx.new.program }
         ensures types { ctx.new.types ≡ ctx.old.types };
 
     /// Puts another block in place of the successor at an index. The parameter stays for callers that allocate; no memory
@@ -96,9 +93,8 @@ pub trait SuccessorCalls {
         requires within { i < length (successors_at ctx.old.program (op self)) }
         requires block { IsSome (block_at ctx.old.program block) }
         ensures succeeds { IsOk result }
-        ensures replaced { EditsOperation ctx.old.program ctx.new.program (op self) (λ o. record o { successors = slice_set o.successors i block }) }
-        ensures values { (v : _) → type_at ctx.new.program v ≡ type_at ctx.old.program v }
-        ensures counter { ctx.new.program.counter ≡ ctx.old.program.counter }
+        ensures replaced { ReplacesSuccessor ctx.old.program ctx.new.program (op self) i block }
+        ensures values { KeepsValues ctx.old.program ctx.new.program }
         ensures types { ctx.new.types ≡ ctx.old.types };
 }
 

@@ -1,10 +1,10 @@
 //! Where values and blocks are used, and others in their place.
-ghost use Rattle.std.specs.Prelude.{◌≡◌, ◌≢◌, ◌↔◌, ◌+◌, ℕ, Bool, IfOk, OnOk, OnErr, IsOk, IsSome, IsTrue, length, map, slice_set};
-ghost use Rattle.ir_program.specs.Program.{block_at, type_at, IsLiveValue};
+ghost use Rattle.std.specs.Prelude.{◌≡◌, ◌≢◌, ◌↔◌, ◌+◌, ℕ, Bool, IfOk, OnOk, OnErr, IsOk, IsSome, IsTrue, length};
+ghost use Rattle.ir_program.specs.Program.{block_at, IsLiveValue};
 ghost use Rattle.ir_program.specs.Uses.{IsUse, IsUsed, IsUseCount, IsBlockUse, HasPredecessor, IsPredecessorCount};
 ghost use Rattle.ir_program.specs.Order.{edges_listed, uses_listed};
-ghost use Rattle.ir_program.specs.Edits.{EditsOperation, EditsOperations};
-ghost use Rattle.ir_program.specs.Replacing.{replacing, retargeting, with_chosen, Chooses};
+ghost use Rattle.ir_program.specs.Edits.{KeepsValues};
+ghost use Rattle.ir_program.specs.Replacing.{Chooses};
 ghost use Rattle.ir_program.specs.Among.{is_among};
 ghost use Rattle.ir_program.specs.Rows.{operands_at, successors_at};
 ghost use Rattle.ir_context.specs.Chosen.{AreUsesNaming, Says};
@@ -12,6 +12,8 @@ ghost use Rattle.ir_program.specs.declared.handles.Ptr.{Ptr};
 ghost use Rattle.ir_program.specs.declared.handles.BasicBlock.{BasicBlock};
 ghost use Rattle.ir_program.specs.declared.handles.Value.{Value};
 ghost use Rattle.ir_program.specs.declared.handles.Use.{Use};
+ghost use Rattle.ir_program.specs.RowEdits.{ReplacesOperand, ReplacesSuccessor};
+ghost use Rattle.ir_program.specs.UseEdits.{ReplacesValue, ReplacesChosen, RetargetsBlock, RetargetsChosen};
 
 use crate::Context;
 use ir_program::{BasicBlock, Program, Ptr, Use, Value};
@@ -46,11 +48,10 @@ pub trait UseCalls {
         requires value { IsLiveValue ctx.old.program (used self) }
         requires other { IsLiveValue ctx.old.program other }
         ensures succeeds { IsOk result }
-        ensures replaced { EditsOperations ctx.old.program ctx.new.program (λ _ o. record o { operands = map (replacing (used self) other) o.operands }) }
+        ensures replaced { ReplacesValue ctx.old.program ctx.new.program (used self) other }
         ensures unused { used self ≢ other → IsUsed ctx.new.program (used self) → ⊥ }
         ensures count { used self ≢ other → (m n : ℕ) → IsUseCount ctx.old.program (used self) m → IsUseCount ctx.old.program other n → IsUseCount ctx.new.program other (m + n) }
-        ensures values { (v : _) → type_at ctx.new.program v ≡ type_at ctx.old.program v }
-        ensures counter { ctx.new.program.counter ≡ ctx.old.program.counter }
+        ensures values { KeepsValues ctx.old.program ctx.new.program }
         ensures types { ctx.new.types ≡ ctx.old.types };
 
     /// Puts another value in place of the operand at one use of the value. The parameter stays for callers that allocate;
@@ -66,9 +67,8 @@ pub trait UseCalls {
         requires names { place.def ≡ used self }
         requires other { IsLiveValue ctx.old.program other }
         ensures succeeds { IsOk result }
-        ensures replaced { EditsOperation ctx.old.program ctx.new.program place.user_op (λ o. record o { operands = slice_set o.operands place.index other }) }
-        ensures values { (v : _) → type_at ctx.new.program v ≡ type_at ctx.old.program v }
-        ensures counter { ctx.new.program.counter ≡ ctx.old.program.counter }
+        ensures replaced { ReplacesOperand ctx.old.program ctx.new.program place.user_op place.index other }
+        ensures values { KeepsValues ctx.old.program ctx.new.program }
         ensures types { ctx.new.types ≡ ctx.old.types };
 
     /// Puts another value in place of the value at those of its uses for which the predicate answers true. It is asked once
@@ -86,10 +86,9 @@ pub trait UseCalls {
         requires value { IsLiveValue ctx.old.program (used self) }
         requires other { IsLiveValue ctx.old.program other }
         requires callable { F.IsAlwaysCallable predicate }
-        ensures replaced { OnOk result ((chosen : Use Value → Bool) × Chooses (operands_at ctx.old.program) (Says F.Fn predicate) (used self) chosen × EditsOperations ctx.old.program ctx.new.program (λ p o. record o { operands = with_chosen chosen other p 0 o.operands })) }
+        ensures replaced { OnOk result ((chosen : Use Value → Bool) × Chooses (operands_at ctx.old.program) (Says F.Fn predicate) (used self) chosen × ReplacesChosen ctx.old.program ctx.new.program chosen other) }
         ensures err { OnErr result (ctx.new ≡ ctx.old) }
-        ensures values { (v : _) → type_at ctx.new.program v ≡ type_at ctx.old.program v }
-        ensures counter { ctx.new.program.counter ≡ ctx.old.program.counter }
+        ensures values { KeepsValues ctx.old.program ctx.new.program }
         ensures types { ctx.new.types ≡ ctx.old.types };
 
     /// Its uses for which the predicate answers true. It is asked once about each use, and may look at the context.
@@ -119,9 +118,8 @@ pub trait UseCalls {
         requires stand { AreUsesNaming (operands_at ctx.old.program) (used self) places.now }
         requires other { IsLiveValue ctx.old.program other }
         ensures succeeds { IsOk result }
-        ensures replaced { EditsOperations ctx.old.program ctx.new.program (λ p o. record o { operands = with_chosen (is_among places.now) other p 0 o.operands }) }
-        ensures values { (v : _) → type_at ctx.new.program v ≡ type_at ctx.old.program v }
-        ensures counter { ctx.new.program.counter ≡ ctx.old.program.counter }
+        ensures replaced { ReplacesChosen ctx.old.program ctx.new.program (is_among places.now) other }
+        ensures values { KeepsValues ctx.old.program ctx.new.program }
         ensures types { ctx.new.types ≡ ctx.old.types };
 }
 
@@ -239,11 +237,10 @@ pub trait PredecessorCalls {
         requires block { IsSome (block_at ctx.old.program (target self)) }
         requires other { IsSome (block_at ctx.old.program other) }
         ensures succeeds { IsOk result }
-        ensures retargeted { EditsOperations ctx.old.program ctx.new.program (λ _ o. record o { successors = map (retargeting (target self) other) o.successors }) }
+        ensures retargeted { RetargetsBlock ctx.old.program ctx.new.program (target self) other }
         ensures unused { target self ≢ other → HasPredecessor ctx.new.program (target self) → ⊥ }
         ensures count { target self ≢ other → (m n : ℕ) → IsPredecessorCount ctx.old.program (target self) m → IsPredecessorCount ctx.old.program other n → IsPredecessorCount ctx.new.program other (m + n) }
-        ensures values { (v : _) → type_at ctx.new.program v ≡ type_at ctx.old.program v }
-        ensures counter { ctx.new.program.counter ≡ ctx.old.program.counter }
+        ensures values { KeepsValues ctx.old.program ctx.new.program }
         ensures types { ctx.new.types ≡ ctx.old.types };
 
     /// Makes one edge to the block lead to another. The parameter stays for callers that allocate; no memory is asked for.
@@ -258,9 +255,8 @@ pub trait PredecessorCalls {
         requires names { place.def ≡ target self }
         requires other { IsSome (block_at ctx.old.program other) }
         ensures succeeds { IsOk result }
-        ensures retargeted { EditsOperation ctx.old.program ctx.new.program place.user_op (λ o. record o { successors = slice_set o.successors place.index other }) }
-        ensures values { (v : _) → type_at ctx.new.program v ≡ type_at ctx.old.program v }
-        ensures counter { ctx.new.program.counter ≡ ctx.old.program.counter }
+        ensures retargeted { ReplacesSuccessor ctx.old.program ctx.new.program place.user_op place.index other }
+        ensures values { KeepsValues ctx.old.program ctx.new.program }
         ensures types { ctx.new.types ≡ ctx.old.types };
 
     /// Makes those edges to the block lead to another for which the predicate answers true. It is asked once about each
@@ -278,10 +274,9 @@ pub trait PredecessorCalls {
         requires block { IsSome (block_at ctx.old.program (target self)) }
         requires other { IsSome (block_at ctx.old.program other) }
         requires callable { F.IsAlwaysCallable predicate }
-        ensures retargeted { OnOk result ((chosen : Use (Ptr BasicBlock) → Bool) × Chooses (successors_at ctx.old.program) (Says F.Fn predicate) (target self) chosen × EditsOperations ctx.old.program ctx.new.program (λ p o. record o { successors = with_chosen chosen other p 0 o.successors })) }
+        ensures retargeted { OnOk result ((chosen : Use (Ptr BasicBlock) → Bool) × Chooses (successors_at ctx.old.program) (Says F.Fn predicate) (target self) chosen × RetargetsChosen ctx.old.program ctx.new.program chosen other) }
         ensures err { OnErr result (ctx.new ≡ ctx.old) }
-        ensures values { (v : _) → type_at ctx.new.program v ≡ type_at ctx.old.program v }
-        ensures counter { ctx.new.program.counter ≡ ctx.old.program.counter }
+        ensures values { KeepsValues ctx.old.program ctx.new.program }
         ensures types { ctx.new.types ≡ ctx.old.types };
 
     /// The edges to the block for which the predicate answers true. It is asked once about each edge, and may look at the
@@ -312,9 +307,8 @@ pub trait PredecessorCalls {
         requires stand { AreUsesNaming (successors_at ctx.old.program) (target self) places.now }
         requires other { IsSome (block_at ctx.old.program other) }
         ensures succeeds { IsOk result }
-        ensures retargeted { EditsOperations ctx.old.program ctx.new.program (λ p o. record o { successors = with_chosen (is_among places.now) other p 0 o.successors }) }
-        ensures values { (v : _) → type_at ctx.new.program v ≡ type_at ctx.old.program v }
-        ensures counter { ctx.new.program.counter ≡ ctx.old.program.counter }
+        ensures retargeted { RetargetsChosen ctx.old.program ctx.new.program (is_among places.now) other }
+        ensures values { KeepsValues ctx.old.program ctx.new.program }
         ensures types { ctx.new.types ≡ ctx.old.types };
 }
 

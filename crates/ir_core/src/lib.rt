@@ -117,6 +117,3 @@ pub use ir_verify::verify_attr;
 pub use ir_verify::verify_op;
 pub use ir_verify::verify_operation;
 pub use ir_verify::verify_type;
-
-#[cfg(test)]
-mod tests;

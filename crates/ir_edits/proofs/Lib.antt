@@ -5,3 +5,4 @@ pub mod Running
 pub mod Makings
 pub mod Listing
 pub mod Kept
+pub mod Refused

@@ -20,7 +20,7 @@ use Rattle.ir_edits.specs.declared.edit.At.{At}
 use Rattle.ir_edits.specs.declared.edit.ValueAt.{ValueAt}
 use Rattle.ir_edits.specs.Naming.{value_named, block_named, NameEach, AreNamed}
 use Rattle.ir_edits.specs.Answered.{Answered}
-use Rattle.ir_edits.specs.Same.{IsSame}
+use Rattle.ir_edits.specs.Same.{IsPutBack}
 
 -- a dialect and its types
 module _ {D TypeKind AttrKind TypeBody Saved Location OpKind Attr TypeKey K T S : Type 0} where
@@ -35,7 +35,7 @@ module _ {D TypeKind AttrKind TypeBody Saved Location OpKind Attr TypeKey K T S 
       (HasFullOperationSlot c.program ⊎ (HasFullRegionSlot c.program ⊎ (2 ^ 64 ≤ c.program.counter + length tys)))
       (λ e. (p : Ptr Operation) × (vs : List Value) × (bs : List (Ptr BasicBlock)) × (e ≡ Some (OperationEntity p)) × AreNamed (value_named c.program made) operands vs × AreNamed (block_named made) successors bs
       × BuildsOperation c.program n.program p (record { kind = kind; notes = record { attributes = []; loc = nowhere } }) tys vs bs count × (n.types ≡ c.types))
-      (IsSame c n) r
+      (IsPutBack c n) r
 
   -- a block that comes from no source and has no attributes, with a label of this text and arguments of these types
   abbrev pub BuildsNewBlock : Location
@@ -48,4 +48,4 @@ module _ {D TypeKind AttrKind TypeBody Saved Location OpKind Attr TypeKey K T S 
       (HasFullBlockSlot c.program ⊎ (2 ^ 64 ≤ c.program.counter + length tys))
       (λ e. (b : Ptr BasicBlock) × (copy : Option Identifier) × (e ≡ Some (BlockEntity b)) × (option_map text_of copy ≡ option_map text_of label)
       × BuildsBlock c.program n.program b (record { attributes = []; loc = nowhere; label = copy }) tys × (n.types ≡ c.types))
-      (IsSame c n) r
+      (IsPutBack c n) r

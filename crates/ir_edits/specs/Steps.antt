@@ -14,14 +14,14 @@ use Rattle.ir_edits.specs.Naming.{block_named, value_named}
 use Rattle.ir_edits.specs.Resolving.{resolved}
 use Rattle.ir_edits.specs.Same.{IsSame}
 use Rattle.ir_edits.specs.MakingEdits.{BuildsNewOperation, BuildsNewBlock}
-use Rattle.ir_edits.specs.OperandEdits.{PushesOperand, PopsOperand, InsertsOperand, RemovesOperand, ReplacesOperand}
-use Rattle.ir_edits.specs.SuccessorEdits.{PushesSuccessor, PopsSuccessor, InsertsSuccessor, RemovesSuccessor, ReplacesSuccessor}
-use Rattle.ir_edits.specs.ResultEdits.{PushesResult, PopsResult, InsertsResult, RemovesResult}
-use Rattle.ir_edits.specs.ArgumentEdits.{PushesArgument, PopsArgument, InsertsArgument, RemovesArgument}
-use Rattle.ir_edits.specs.HolderEdits.{AddsRegion, ErasesRegionOf, ErasesOperationAt, ErasesBlockAt, DropsUsesOf, MovesRegionTo}
-use Rattle.ir_edits.specs.OperationListEdits.{PutsOperationAfter, PutsOperationBefore, PutsOperationFirst, PutsOperationLast, TakesOperationOut, JoinsOperations}
-use Rattle.ir_edits.specs.BlockListEdits.{PutsBlockAfter, PutsBlockBefore, PutsBlockFirst, PutsBlockLast, TakesBlockOut, JoinsBlocks}
-use Rattle.ir_edits.specs.UseEdits.{ReplacesAllUses, ReplacesUse, ReplacesSomeUses, RetargetsAll, RetargetsOne, RetargetsSome}
+use Rattle.ir_edits.specs.OperandEdits.{AnswersPushOperand, AnswersPopOperand, AnswersInsertOperand, AnswersRemoveOperand, AnswersReplaceOperand}
+use Rattle.ir_edits.specs.SuccessorEdits.{AnswersPushSuccessor, AnswersPopSuccessor, AnswersInsertSuccessor, AnswersRemoveSuccessor, AnswersReplaceSuccessor}
+use Rattle.ir_edits.specs.ResultEdits.{AnswersPushResult, AnswersPopResult, AnswersInsertResult, AnswersRemoveResult}
+use Rattle.ir_edits.specs.ArgumentEdits.{AnswersPushArgument, AnswersPopArgument, AnswersInsertArgument, AnswersRemoveArgument}
+use Rattle.ir_edits.specs.HolderEdits.{AnswersAddRegion, AnswersEraseRegion, AnswersEraseOperation, AnswersEraseBlock, AnswersDropAllUses, AnswersMoveRegionToOp}
+use Rattle.ir_edits.specs.OperationListEdits.{AnswersInsertOperationAfter, AnswersInsertOperationBefore, AnswersInsertOperationAtFront, AnswersInsertOperationAtBack, AnswersUnlinkOperation, AnswersAppendOperations}
+use Rattle.ir_edits.specs.BlockListEdits.{AnswersInsertBlockAfter, AnswersInsertBlockBefore, AnswersInsertBlockAtFront, AnswersInsertBlockAtBack, AnswersUnlinkBlock, AnswersAppendBlocks}
+use Rattle.ir_edits.specs.UseEdits.{AnswersReplaceAllUsesWith, AnswersReplaceUseWith, ReplacesSomeUses, AnswersRetargetAllPredsTo, AnswersRetargetPredTo, RetargetsSome}
 
 -- what is said of the entity that is named; where the name stands for nothing, the edit is refused and all is the same
 abbrev pub Named : {X O B K T S R : Type 0} → Option X → ContextView O B K T S → ContextView O B K T S → Result R CoreError → (X → Type 0) → Type 0
@@ -35,46 +35,46 @@ listed (Err e) = Err e
 module _ {O B K T S : Type 0} where
   -- from the context c to n an edit of what is there answers r
   abbrev pub does : ContextView O B K T S → DirectEdit → ContextView O B K T S → Result (Option Entity) CoreError → Type 0
-  does c (direct.PushResult p ty) n r = PushesResult c p ty n r
-  does c (direct.PopResult p) n r = PopsResult c p n r
-  does c (direct.InsertResult p i ty) n r = InsertsResult c p i ty n r
-  does c (direct.RemoveResult p i) n r = RemovesResult c p i n r
-  does c (direct.PushArgument b ty) n r = PushesArgument c b ty n r
-  does c (direct.PopArgument b) n r = PopsArgument c b n r
-  does c (direct.InsertArgument b i ty) n r = InsertsArgument c b i ty n r
-  does c (direct.RemoveArgument b i) n r = RemovesArgument c b i n r
-  does c (direct.PushOperand p v) n r = PushesOperand c p v n r
-  does c (direct.PopOperand p) n r = PopsOperand c p n r
-  does c (direct.InsertOperand p i v) n r = InsertsOperand c p i v n r
-  does c (direct.RemoveOperand p i) n r = RemovesOperand c p i n r
-  does c (direct.ReplaceOperand p i v) n r = ReplacesOperand c p i v n r
-  does c (direct.PushSuccessor p b) n r = PushesSuccessor c p b n r
-  does c (direct.PopSuccessor p) n r = PopsSuccessor c p n r
-  does c (direct.InsertSuccessor p i b) n r = InsertsSuccessor c p i b n r
-  does c (direct.RemoveSuccessor p i) n r = RemovesSuccessor c p i n r
-  does c (direct.ReplaceSuccessor p i b) n r = ReplacesSuccessor c p i b n r
-  does c (direct.AddRegion p) n r = AddsRegion c p n r
-  does c (direct.EraseRegion p i) n r = ErasesRegionOf c p i n r
-  does c (direct.EraseOperation p) n r = ErasesOperationAt c p n r
-  does c (direct.EraseBlock b) n r = ErasesBlockAt c b n r
-  does c (direct.MoveRegionToOp q p) n r = MovesRegionTo c q p n r
-  does c (direct.DropAllUses x) n r = DropsUsesOf c x n r
-  does c (direct.InsertOperationAfter p m) n r = PutsOperationAfter c p m n r
-  does c (direct.InsertOperationBefore p m) n r = PutsOperationBefore c p m n r
-  does c (direct.InsertOperationAtFront p b) n r = PutsOperationFirst c p b n r
-  does c (direct.InsertOperationAtBack p b) n r = PutsOperationLast c p b n r
-  does c (direct.UnlinkOperation p) n r = TakesOperationOut c p n r
-  does c (direct.AppendOperations b to) n r = JoinsOperations c b to n r
-  does c (direct.InsertBlockAfter b to) n r = PutsBlockAfter c b to n r
-  does c (direct.InsertBlockBefore b to) n r = PutsBlockBefore c b to n r
-  does c (direct.InsertBlockAtFront b q) n r = PutsBlockFirst c b q n r
-  does c (direct.InsertBlockAtBack b q) n r = PutsBlockLast c b q n r
-  does c (direct.UnlinkBlock b) n r = TakesBlockOut c b n r
-  does c (direct.AppendBlocks q from) n r = JoinsBlocks c q from n r
-  does c (direct.ReplaceAllUsesWith v w) n r = ReplacesAllUses c v w n r
-  does c (direct.ReplaceUseWith v p i w) n r = ReplacesUse c v p i w n r
-  does c (direct.RetargetAllPredsTo b to) n r = RetargetsAll c b to n r
-  does c (direct.RetargetPredTo b p i to) n r = RetargetsOne c b p i to n r
+  does c (direct.PushResult p ty) n r = AnswersPushResult c p ty n r
+  does c (direct.PopResult p) n r = AnswersPopResult c p n r
+  does c (direct.InsertResult p i ty) n r = AnswersInsertResult c p i ty n r
+  does c (direct.RemoveResult p i) n r = AnswersRemoveResult c p i n r
+  does c (direct.PushArgument b ty) n r = AnswersPushArgument c b ty n r
+  does c (direct.PopArgument b) n r = AnswersPopArgument c b n r
+  does c (direct.InsertArgument b i ty) n r = AnswersInsertArgument c b i ty n r
+  does c (direct.RemoveArgument b i) n r = AnswersRemoveArgument c b i n r
+  does c (direct.PushOperand p v) n r = AnswersPushOperand c p v n r
+  does c (direct.PopOperand p) n r = AnswersPopOperand c p n r
+  does c (direct.InsertOperand p i v) n r = AnswersInsertOperand c p i v n r
+  does c (direct.RemoveOperand p i) n r = AnswersRemoveOperand c p i n r
+  does c (direct.ReplaceOperand p i v) n r = AnswersReplaceOperand c p i v n r
+  does c (direct.PushSuccessor p b) n r = AnswersPushSuccessor c p b n r
+  does c (direct.PopSuccessor p) n r = AnswersPopSuccessor c p n r
+  does c (direct.InsertSuccessor p i b) n r = AnswersInsertSuccessor c p i b n r
+  does c (direct.RemoveSuccessor p i) n r = AnswersRemoveSuccessor c p i n r
+  does c (direct.ReplaceSuccessor p i b) n r = AnswersReplaceSuccessor c p i b n r
+  does c (direct.AddRegion p) n r = AnswersAddRegion c p n r
+  does c (direct.EraseRegion p i) n r = AnswersEraseRegion c p i n r
+  does c (direct.EraseOperation p) n r = AnswersEraseOperation c p n r
+  does c (direct.EraseBlock b) n r = AnswersEraseBlock c b n r
+  does c (direct.MoveRegionToOp q p) n r = AnswersMoveRegionToOp c q p n r
+  does c (direct.DropAllUses x) n r = AnswersDropAllUses c x n r
+  does c (direct.InsertOperationAfter p m) n r = AnswersInsertOperationAfter c p m n r
+  does c (direct.InsertOperationBefore p m) n r = AnswersInsertOperationBefore c p m n r
+  does c (direct.InsertOperationAtFront p b) n r = AnswersInsertOperationAtFront c p b n r
+  does c (direct.InsertOperationAtBack p b) n r = AnswersInsertOperationAtBack c p b n r
+  does c (direct.UnlinkOperation p) n r = AnswersUnlinkOperation c p n r
+  does c (direct.AppendOperations b to) n r = AnswersAppendOperations c b to n r
+  does c (direct.InsertBlockAfter b to) n r = AnswersInsertBlockAfter c b to n r
+  does c (direct.InsertBlockBefore b to) n r = AnswersInsertBlockBefore c b to n r
+  does c (direct.InsertBlockAtFront b q) n r = AnswersInsertBlockAtFront c b q n r
+  does c (direct.InsertBlockAtBack b q) n r = AnswersInsertBlockAtBack c b q n r
+  does c (direct.UnlinkBlock b) n r = AnswersUnlinkBlock c b n r
+  does c (direct.AppendBlocks q from) n r = AnswersAppendBlocks c q from n r
+  does c (direct.ReplaceAllUsesWith v w) n r = AnswersReplaceAllUsesWith c v w n r
+  does c (direct.ReplaceUseWith v p i w) n r = AnswersReplaceUseWith c v p i w n r
+  does c (direct.RetargetAllPredsTo b to) n r = AnswersRetargetAllPredsTo c b to n r
+  does c (direct.RetargetPredTo b p i to) n r = AnswersRetargetPredTo c b p i to n r
 
 -- a dialect and its types
 module _ {D TypeKind AttrKind TypeBody Saved Location OpKind Attr TypeKey K T S : Type 0} where

@@ -1,19 +1,19 @@
 -- What edits of uses do and answer.
-use Rattle.std.specs.Prelude.{◌≡◌, ℕ, List, Option, Some, None, IsSome, Result, map, slice_get, slice_set}
+use Rattle.std.specs.Prelude.{◌≡◌, ℕ, List, Option, Some, None, IsSome, Result, slice_get}
 use Rattle.ir_program.specs.Program.{block_at, IsLiveValue}
 use Rattle.ir_program.specs.Rows.{operands_at, successors_at}
-use Rattle.ir_program.specs.Edits.{EditsOperation, EditsOperations}
 use Rattle.ir_program.specs.Uses.{IsUseIn}
 use Rattle.ir_program.specs.Among.{is_among}
-use Rattle.ir_program.specs.Replacing.{replacing, retargeting, with_chosen}
 use Rattle.ir_program.specs.declared.handles.Ptr.{Ptr}
 use Rattle.ir_program.specs.declared.handles.Operation.{Operation}
 use Rattle.ir_program.specs.declared.handles.BasicBlock.{BasicBlock}
 use Rattle.ir_program.specs.declared.handles.Value.{Value}
 use Rattle.ir_program.specs.declared.handles.Use.{Use}
+use Rattle.ir_program.specs.RowEdits.{ReplacesOperand, ReplacesSuccessor}
+use Rattle.ir_program.specs.UseEdits.{ReplacesValue, ReplacesChosen, RetargetsBlock, RetargetsChosen}
 use Rattle.ir_edits.specs.declared.edit.PlaceAt.{PlaceAt}
 use Rattle.ir_edits.specs.Naming.{operation_named, NameEach, IsListed}
-use Rattle.ir_edits.specs.Same.{KeepsValues, IsSame}
+use Rattle.ir_edits.specs.Same.{KeepsValuesAndTypes, IsSame}
 use Rattle.ir_context.specs.Views.{ContextView}
 use Rattle.ir_context.specs.declared.errors.CoreError.{CoreError}
 use Rattle.ir_edits.specs.declared.edit.Entity.{Entity}
@@ -26,43 +26,43 @@ pub record AreListedUses {X : Type 0} (made : List (Option Entity)) (places : Li
 
 module _ {O B K T S : Type 0} where
   -- another value in place of each operand that is the value
-  abbrev pub ReplacesAllUses : ContextView O B K T S → Value → Value → ContextView O B K T S → Result (Option Entity) CoreError → Type 0
-  ReplacesAllUses c v w n r =
+  abbrev pub AnswersReplaceAllUsesWith : ContextView O B K T S → Value → Value → ContextView O B K T S → Result (Option Entity) CoreError → Type 0
+  AnswersReplaceAllUsesWith c v w n r =
       Answered (IsLiveValue c.program v × IsLiveValue c.program w) ⊥ ⊥
-      (λ e. (e ≡ None) × EditsOperations c.program n.program (λ _ o. record o { operands = map (replacing v w) o.operands }) × KeepsValues c n)
+      (λ e. (e ≡ None) × ReplacesValue c.program n.program v w × KeepsValuesAndTypes c n)
       (IsSame c n) r
 
   -- another value in place of the value, at one of its uses
-  abbrev pub ReplacesUse : ContextView O B K T S → Value → Ptr Operation → ℕ → Value → ContextView O B K T S → Result (Option Entity) CoreError → Type 0
-  ReplacesUse c v p i w n r =
+  abbrev pub AnswersReplaceUseWith : ContextView O B K T S → Value → Ptr Operation → ℕ → Value → ContextView O B K T S → Result (Option Entity) CoreError → Type 0
+  AnswersReplaceUseWith c v p i w n r =
       Answered ((slice_get (operands_at c.program p) i ≡ Some v) × IsLiveValue c.program w) ⊥ ⊥
-      (λ e. (e ≡ None) × EditsOperation c.program n.program p (λ o. record o { operands = slice_set o.operands i w }) × KeepsValues c n)
+      (λ e. (e ≡ None) × ReplacesOperand c.program n.program p i w × KeepsValuesAndTypes c n)
       (IsSame c n) r
 
   -- another value in place of the value, at those of its uses that stand in the list
   abbrev pub ReplacesSomeUses : ContextView O B K T S → Value → List (Option Entity) → List PlaceAt → Value → ContextView O B K T S → Result (Option Entity) CoreError → Type 0
   ReplacesSomeUses c v made places w n r =
       Answered (IsLiveValue c.program v × IsLiveValue c.program w × NameEach (λ (at : PlaceAt). operation_named made at.user_op) (λ _. Unit {0}) places) (Unit {0}) ⊥
-      (λ e. (e ≡ None) × (us : List (Use Value)) × AreListedUses made places (operands_at c.program) v us × EditsOperations c.program n.program (λ p o. record o { operands = with_chosen (is_among us) w p 0 o.operands }) × KeepsValues c n)
+      (λ e. (e ≡ None) × (us : List (Use Value)) × AreListedUses made places (operands_at c.program) v us × ReplacesChosen c.program n.program (is_among us) w × KeepsValuesAndTypes c n)
       (IsSame c n) r
 
   -- each edge to a block leads to another
-  abbrev pub RetargetsAll : ContextView O B K T S → Ptr BasicBlock → Ptr BasicBlock → ContextView O B K T S → Result (Option Entity) CoreError → Type 0
-  RetargetsAll c b other n r =
+  abbrev pub AnswersRetargetAllPredsTo : ContextView O B K T S → Ptr BasicBlock → Ptr BasicBlock → ContextView O B K T S → Result (Option Entity) CoreError → Type 0
+  AnswersRetargetAllPredsTo c b other n r =
       Answered (IsSome (block_at c.program b) × IsSome (block_at c.program other)) ⊥ ⊥
-      (λ e. (e ≡ None) × EditsOperations c.program n.program (λ _ o. record o { successors = map (retargeting b other) o.successors }) × KeepsValues c n)
+      (λ e. (e ≡ None) × RetargetsBlock c.program n.program b other × KeepsValuesAndTypes c n)
       (IsSame c n) r
 
   -- the edge to a block at one place leads to another
-  abbrev pub RetargetsOne : ContextView O B K T S → Ptr BasicBlock → Ptr Operation → ℕ → Ptr BasicBlock → ContextView O B K T S → Result (Option Entity) CoreError → Type 0
-  RetargetsOne c b p i other n r =
+  abbrev pub AnswersRetargetPredTo : ContextView O B K T S → Ptr BasicBlock → Ptr Operation → ℕ → Ptr BasicBlock → ContextView O B K T S → Result (Option Entity) CoreError → Type 0
+  AnswersRetargetPredTo c b p i other n r =
       Answered ((slice_get (successors_at c.program p) i ≡ Some b) × IsSome (block_at c.program other)) ⊥ ⊥
-      (λ e. (e ≡ None) × EditsOperation c.program n.program p (λ o. record o { successors = slice_set o.successors i other }) × KeepsValues c n)
+      (λ e. (e ≡ None) × ReplacesSuccessor c.program n.program p i other × KeepsValuesAndTypes c n)
       (IsSame c n) r
 
   -- the edges to a block lead to another, those that stand in the list
   abbrev pub RetargetsSome : ContextView O B K T S → Ptr BasicBlock → List (Option Entity) → List PlaceAt → Ptr BasicBlock → ContextView O B K T S → Result (Option Entity) CoreError → Type 0
   RetargetsSome c b made places other n r =
       Answered (IsSome (block_at c.program b) × IsSome (block_at c.program other) × NameEach (λ (at : PlaceAt). operation_named made at.user_op) (λ _. Unit {0}) places) (Unit {0}) ⊥
-      (λ e. (e ≡ None) × (us : List (Use (Ptr BasicBlock))) × AreListedUses made places (successors_at c.program) b us × EditsOperations c.program n.program (λ p o. record o { successors = with_chosen (is_among us) other p 0 o.successors }) × KeepsValues c n)
+      (λ e. (e ≡ None) × (us : List (Use (Ptr BasicBlock))) × AreListedUses made places (successors_at c.program) b us × RetargetsChosen c.program n.program (is_among us) other × KeepsValuesAndTypes c n)
       (IsSame c n) r

@@ -3,7 +3,7 @@ ghost use Rattle.std.specs.Prelude.{◌≡◌, ◌↔◌, ◌<◌, ◌-◌, Some
 ghost use Rattle.ir_program.specs.Program.{block_at, arguments_at, argument_count, value_in};
 ghost use Rattle.ir_program.specs.Uses.{IsUsed};
 ghost use Rattle.ir_program.specs.declared.handles.Value.{Value};
-ghost use Rattle.ir_edits.specs.ArgumentEdits.{PushesArgument, PopsArgument, InsertsArgument, RemovesArgument};
+ghost use Rattle.ir_edits.specs.ArgumentEdits.{AnswersPushArgument, AnswersPopArgument, AnswersInsertArgument, AnswersRemoveArgument};
 
 use crate::Entity;
 use ir_context::{ArgumentCalls, BlockCalls, Context, CoreError, TypeCalls, UseCalls};
@@ -17,7 +17,7 @@ pub fn push_argument<D: DialectTables>(
     block: Ptr<BasicBlock>,
     ty: TypeHandle,
 ) -> Result<Option<Entity>, CoreError>
-    ensures { PushesArgument ctx.old block ty ctx.new result }
+    ensures { AnswersPushArgument ctx.old block ty ctx.new result }
 {
     if !block.is_live(ctx) || !ty.is_live(ctx) {
         return Err(CoreError::EditNotAllowed);
@@ -31,7 +31,7 @@ pub fn pop_argument<D: DialectTables>(
     ctx: &mut Context<D>,
     block: Ptr<BasicBlock>,
 ) -> Result<Option<Entity>, CoreError>
-    ensures { PopsArgument ctx.old block ctx.new result }
+    ensures { AnswersPopArgument ctx.old block ctx.new result }
 {
     if !block.is_live(ctx) || has_used_last_argument(ctx, block) {
         return Err(CoreError::EditNotAllowed);
@@ -47,7 +47,7 @@ pub fn insert_argument<D: DialectTables>(
     index: usize,
     ty: TypeHandle,
 ) -> Result<Option<Entity>, CoreError>
-    ensures { InsertsArgument ctx.old block index ty ctx.new result }
+    ensures { AnswersInsertArgument ctx.old block index ty ctx.new result }
 {
     if !block.is_live(ctx) || index > block.get_num_arguments(ctx) || !ty.is_live(ctx) {
         return Err(CoreError::EditNotAllowed);
@@ -62,7 +62,7 @@ pub fn remove_argument<D: DialectTables>(
     block: Ptr<BasicBlock>,
     index: usize,
 ) -> Result<Option<Entity>, CoreError>
-    ensures { RemovesArgument ctx.old block index ctx.new result }
+    ensures { AnswersRemoveArgument ctx.old block index ctx.new result }
 {
     if !block.is_live(ctx)
         || index >= block.get_num_arguments(ctx)

@@ -2,7 +2,7 @@
 ghost use Rattle.std.specs.Prelude.{◌↔◌, IsSome, IsTrue};
 ghost use Rattle.ir_program.specs.Program.{block_at};
 ghost use Rattle.ir_program.specs.Lists.{IsUnlinkedBlock};
-ghost use Rattle.ir_edits.specs.BlockListEdits.{PutsBlockAfter, PutsBlockBefore, PutsBlockFirst, PutsBlockLast, TakesBlockOut, JoinsBlocks};
+ghost use Rattle.ir_edits.specs.BlockListEdits.{AnswersInsertBlockAfter, AnswersInsertBlockBefore, AnswersInsertBlockAtFront, AnswersInsertBlockAtBack, AnswersUnlinkBlock, AnswersAppendBlocks};
 
 use crate::Entity;
 use ir_context::{BlockCalls, BlockLists, ContainsBlocks, Context, CoreError, RegionCalls};
@@ -15,7 +15,7 @@ pub fn insert_block_after<D: DialectTables>(
     block: Ptr<BasicBlock>,
     mark: Ptr<BasicBlock>,
 ) -> Result<Option<Entity>, CoreError>
-    ensures { PutsBlockAfter ctx.old block mark ctx.new result }
+    ensures { AnswersInsertBlockAfter ctx.old block mark ctx.new result }
 {
     if !can_stand(ctx, block) || !mark.is_live(ctx) || !mark.is_linked(ctx) {
         return Err(CoreError::EditNotAllowed);
@@ -33,7 +33,7 @@ pub fn insert_block_before<D: DialectTables>(
     block: Ptr<BasicBlock>,
     mark: Ptr<BasicBlock>,
 ) -> Result<Option<Entity>, CoreError>
-    ensures { PutsBlockBefore ctx.old block mark ctx.new result }
+    ensures { AnswersInsertBlockBefore ctx.old block mark ctx.new result }
 {
     if !can_stand(ctx, block) || !mark.is_live(ctx) || !mark.is_linked(ctx) {
         return Err(CoreError::EditNotAllowed);
@@ -51,7 +51,7 @@ pub fn insert_block_at_front<D: DialectTables>(
     block: Ptr<BasicBlock>,
     region: Ptr<Region>,
 ) -> Result<Option<Entity>, CoreError>
-    ensures { PutsBlockFirst ctx.old block region ctx.new result }
+    ensures { AnswersInsertBlockAtFront ctx.old block region ctx.new result }
 {
     if !can_stand(ctx, block) || !region.is_live(ctx) {
         return Err(CoreError::EditNotAllowed);
@@ -69,7 +69,7 @@ pub fn insert_block_at_back<D: DialectTables>(
     block: Ptr<BasicBlock>,
     region: Ptr<Region>,
 ) -> Result<Option<Entity>, CoreError>
-    ensures { PutsBlockLast ctx.old block region ctx.new result }
+    ensures { AnswersInsertBlockAtBack ctx.old block region ctx.new result }
 {
     if !can_stand(ctx, block) || !region.is_live(ctx) {
         return Err(CoreError::EditNotAllowed);
@@ -86,7 +86,7 @@ pub fn unlink_block<D: DialectTables>(
     ctx: &mut Context<D>,
     block: Ptr<BasicBlock>,
 ) -> Result<Option<Entity>, CoreError>
-    ensures { TakesBlockOut ctx.old block ctx.new result }
+    ensures { AnswersUnlinkBlock ctx.old block ctx.new result }
 {
     if !block.is_live(ctx) || !block.is_linked(ctx) {
         return Err(CoreError::EditNotAllowed);
@@ -102,7 +102,7 @@ pub fn append_blocks<D: DialectTables>(
     donee: Ptr<Region>,
     donor: Ptr<Region>,
 ) -> Result<Option<Entity>, CoreError>
-    ensures { JoinsBlocks ctx.old donee donor ctx.new result }
+    ensures { AnswersAppendBlocks ctx.old donee donor ctx.new result }
 {
     if !donee.is_live(ctx) || !donor.is_live(ctx) {
         return Err(CoreError::EditNotAllowed);

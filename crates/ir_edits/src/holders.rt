@@ -1,7 +1,7 @@
 //! Edits of regions, erasing, and dropping uses.
 ghost use Rattle.std.specs.Prelude.{◌↔◌, IsTrue};
 ghost use Rattle.ir_program.specs.Lists.{IsLiveNode};
-ghost use Rattle.ir_edits.specs.HolderEdits.{AddsRegion, ErasesRegionOf, ErasesOperationAt, ErasesBlockAt, DropsUsesOf, MovesRegionTo};
+ghost use Rattle.ir_edits.specs.HolderEdits.{AnswersAddRegion, AnswersEraseRegion, AnswersEraseOperation, AnswersEraseBlock, AnswersDropAllUses, AnswersMoveRegionToOp};
 
 use crate::Entity;
 use ir_context::{BlockCalls, Context, CoreError, OperationCalls, RegionCalls};
@@ -13,7 +13,7 @@ pub fn add_region<D: DialectTables>(
     ctx: &mut Context<D>,
     op: Ptr<Operation>,
 ) -> Result<Option<Entity>, CoreError>
-    ensures { AddsRegion ctx.old op ctx.new result }
+    ensures { AnswersAddRegion ctx.old op ctx.new result }
 {
     if !op.is_live(ctx) {
         return Err(CoreError::EditNotAllowed);
@@ -28,7 +28,7 @@ pub fn erase_region<D: DialectTables>(
     op: Ptr<Operation>,
     index: usize,
 ) -> Result<Option<Entity>, CoreError>
-    ensures { ErasesRegionOf ctx.old op index ctx.new result }
+    ensures { AnswersEraseRegion ctx.old op index ctx.new result }
 {
     if !op.is_live(ctx) || index >= op.num_regions(ctx) {
         return Err(CoreError::EditNotAllowed);
@@ -46,7 +46,7 @@ pub fn erase_operation<D: DialectTables>(
     ctx: &mut Context<D>,
     op: Ptr<Operation>,
 ) -> Result<Option<Entity>, CoreError>
-    ensures { ErasesOperationAt ctx.old op ctx.new result }
+    ensures { AnswersEraseOperation ctx.old op ctx.new result }
 {
     if !op.is_live(ctx) || !ctx.can_erase(IRNode::Operation(op)) {
         return Err(CoreError::EditNotAllowed);
@@ -60,7 +60,7 @@ pub fn erase_block<D: DialectTables>(
     ctx: &mut Context<D>,
     block: Ptr<BasicBlock>,
 ) -> Result<Option<Entity>, CoreError>
-    ensures { ErasesBlockAt ctx.old block ctx.new result }
+    ensures { AnswersEraseBlock ctx.old block ctx.new result }
 {
     if !block.is_live(ctx) || !ctx.can_erase(IRNode::BasicBlock(block)) {
         return Err(CoreError::EditNotAllowed);
@@ -85,7 +85,7 @@ pub fn drop_all_uses<D: DialectTables>(
     ctx: &mut Context<D>,
     node: IRNode,
 ) -> Result<Option<Entity>, CoreError>
-    ensures { DropsUsesOf ctx.old node ctx.new result }
+    ensures { AnswersDropAllUses ctx.old node ctx.new result }
 {
     if !is_live_node(ctx, node) {
         return Err(CoreError::EditNotAllowed);
@@ -100,7 +100,7 @@ pub fn move_region_to_op<D: DialectTables>(
     region: Ptr<Region>,
     op: Ptr<Operation>,
 ) -> Result<Option<Entity>, CoreError>
-    ensures { MovesRegionTo ctx.old region op ctx.new result }
+    ensures { AnswersMoveRegionToOp ctx.old region op ctx.new result }
 {
     if !region.is_live(ctx) || !op.is_live(ctx) {
         return Err(CoreError::EditNotAllowed);

@@ -1,5 +1,5 @@
 //! Edits of operands.
-ghost use Rattle.ir_edits.specs.OperandEdits.{PushesOperand, PopsOperand, InsertsOperand, RemovesOperand, ReplacesOperand};
+ghost use Rattle.ir_edits.specs.OperandEdits.{AnswersPushOperand, AnswersPopOperand, AnswersInsertOperand, AnswersRemoveOperand, AnswersReplaceOperand};
 
 use crate::Entity;
 use ir_context::{Context, CoreError, OperandCalls, OperationCalls, ValueCalls};
@@ -12,7 +12,7 @@ pub fn push_operand<D: DialectTables>(
     op: Ptr<Operation>,
     value: Value,
 ) -> Result<Option<Entity>, CoreError>
-    ensures { PushesOperand ctx.old op value ctx.new result }
+    ensures { AnswersPushOperand ctx.old op value ctx.new result }
 {
     if !op.is_live(ctx) || !value.is_live(ctx) {
         return Err(CoreError::EditNotAllowed);
@@ -27,7 +27,7 @@ pub fn pop_operand<D: DialectTables>(
     ctx: &mut Context<D>,
     op: Ptr<Operation>,
 ) -> Result<Option<Entity>, CoreError>
-    ensures { PopsOperand ctx.old op ctx.new result }
+    ensures { AnswersPopOperand ctx.old op ctx.new result }
 {
     if !op.is_live(ctx) {
         return Err(CoreError::EditNotAllowed);
@@ -43,7 +43,7 @@ pub fn insert_operand<D: DialectTables>(
     index: usize,
     value: Value,
 ) -> Result<Option<Entity>, CoreError>
-    ensures { InsertsOperand ctx.old op index value ctx.new result }
+    ensures { AnswersInsertOperand ctx.old op index value ctx.new result }
 {
     if !op.is_live(ctx) || index > op.get_num_operands(ctx) || !value.is_live(ctx) {
         return Err(CoreError::EditNotAllowed);
@@ -58,7 +58,7 @@ pub fn remove_operand<D: DialectTables>(
     op: Ptr<Operation>,
     index: usize,
 ) -> Result<Option<Entity>, CoreError>
-    ensures { RemovesOperand ctx.old op index ctx.new result }
+    ensures { AnswersRemoveOperand ctx.old op index ctx.new result }
 {
     if !op.is_live(ctx) || index >= op.get_num_operands(ctx) {
         return Err(CoreError::EditNotAllowed);
@@ -74,7 +74,7 @@ pub fn replace_operand<D: DialectTables>(
     index: usize,
     value: Value,
 ) -> Result<Option<Entity>, CoreError>
-    ensures { ReplacesOperand ctx.old op index value ctx.new result }
+    ensures { AnswersReplaceOperand ctx.old op index value ctx.new result }
 {
     if !op.is_live(ctx) || index >= op.get_num_operands(ctx) || !value.is_live(ctx) {
         return Err(CoreError::EditNotAllowed);

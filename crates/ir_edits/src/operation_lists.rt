@@ -2,7 +2,7 @@
 ghost use Rattle.std.specs.Prelude.{◌↔◌, IsSome, IsTrue};
 ghost use Rattle.ir_program.specs.Program.{operation_at};
 ghost use Rattle.ir_program.specs.Lists.{IsUnlinkedOperation};
-ghost use Rattle.ir_edits.specs.OperationListEdits.{PutsOperationAfter, PutsOperationBefore, PutsOperationFirst, PutsOperationLast, TakesOperationOut, JoinsOperations};
+ghost use Rattle.ir_edits.specs.OperationListEdits.{AnswersInsertOperationAfter, AnswersInsertOperationBefore, AnswersInsertOperationAtFront, AnswersInsertOperationAtBack, AnswersUnlinkOperation, AnswersAppendOperations};
 
 use crate::Entity;
 use ir_context::{
@@ -17,7 +17,7 @@ pub fn insert_operation_after<D: DialectTables>(
     op: Ptr<Operation>,
     mark: Ptr<Operation>,
 ) -> Result<Option<Entity>, CoreError>
-    ensures { PutsOperationAfter ctx.old op mark ctx.new result }
+    ensures { AnswersInsertOperationAfter ctx.old op mark ctx.new result }
 {
     if !can_stand(ctx, op) || !mark.is_live(ctx) || !mark.is_linked(ctx) {
         return Err(CoreError::EditNotAllowed);
@@ -35,7 +35,7 @@ pub fn insert_operation_before<D: DialectTables>(
     op: Ptr<Operation>,
     mark: Ptr<Operation>,
 ) -> Result<Option<Entity>, CoreError>
-    ensures { PutsOperationBefore ctx.old op mark ctx.new result }
+    ensures { AnswersInsertOperationBefore ctx.old op mark ctx.new result }
 {
     if !can_stand(ctx, op) || !mark.is_live(ctx) || !mark.is_linked(ctx) {
         return Err(CoreError::EditNotAllowed);
@@ -53,7 +53,7 @@ pub fn insert_operation_at_front<D: DialectTables>(
     op: Ptr<Operation>,
     block: Ptr<BasicBlock>,
 ) -> Result<Option<Entity>, CoreError>
-    ensures { PutsOperationFirst ctx.old op block ctx.new result }
+    ensures { AnswersInsertOperationAtFront ctx.old op block ctx.new result }
 {
     if !can_stand(ctx, op) || !block.is_live(ctx) {
         return Err(CoreError::EditNotAllowed);
@@ -71,7 +71,7 @@ pub fn insert_operation_at_back<D: DialectTables>(
     op: Ptr<Operation>,
     block: Ptr<BasicBlock>,
 ) -> Result<Option<Entity>, CoreError>
-    ensures { PutsOperationLast ctx.old op block ctx.new result }
+    ensures { AnswersInsertOperationAtBack ctx.old op block ctx.new result }
 {
     if !can_stand(ctx, op) || !block.is_live(ctx) {
         return Err(CoreError::EditNotAllowed);
@@ -88,7 +88,7 @@ pub fn unlink_operation<D: DialectTables>(
     ctx: &mut Context<D>,
     op: Ptr<Operation>,
 ) -> Result<Option<Entity>, CoreError>
-    ensures { TakesOperationOut ctx.old op ctx.new result }
+    ensures { AnswersUnlinkOperation ctx.old op ctx.new result }
 {
     if !op.is_live(ctx) || !op.is_linked(ctx) {
         return Err(CoreError::EditNotAllowed);
@@ -104,7 +104,7 @@ pub fn append_operations<D: DialectTables>(
     donee: Ptr<BasicBlock>,
     donor: Ptr<BasicBlock>,
 ) -> Result<Option<Entity>, CoreError>
-    ensures { JoinsOperations ctx.old donee donor ctx.new result }
+    ensures { AnswersAppendOperations ctx.old donee donor ctx.new result }
 {
     if !donee.is_live(ctx) || !donor.is_live(ctx) {
         return Err(CoreError::EditNotAllowed);

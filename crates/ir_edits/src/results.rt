@@ -3,7 +3,7 @@ ghost use Rattle.std.specs.Prelude.{◌≡◌, ◌↔◌, ◌<◌, ◌-◌, Some
 ghost use Rattle.ir_program.specs.Program.{operation_at, results_at, result_count, value_in};
 ghost use Rattle.ir_program.specs.Uses.{IsUsed};
 ghost use Rattle.ir_program.specs.declared.handles.Value.{Value};
-ghost use Rattle.ir_edits.specs.ResultEdits.{PushesResult, PopsResult, InsertsResult, RemovesResult};
+ghost use Rattle.ir_edits.specs.ResultEdits.{AnswersPushResult, AnswersPopResult, AnswersInsertResult, AnswersRemoveResult};
 
 use crate::Entity;
 use ir_context::{Context, CoreError, OperationCalls, ResultCalls, TypeCalls, UseCalls};
@@ -17,7 +17,7 @@ pub fn push_result<D: DialectTables>(
     op: Ptr<Operation>,
     ty: TypeHandle,
 ) -> Result<Option<Entity>, CoreError>
-    ensures { PushesResult ctx.old op ty ctx.new result }
+    ensures { AnswersPushResult ctx.old op ty ctx.new result }
 {
     if !op.is_live(ctx) || !ty.is_live(ctx) {
         return Err(CoreError::EditNotAllowed);
@@ -31,7 +31,7 @@ pub fn pop_result<D: DialectTables>(
     ctx: &mut Context<D>,
     op: Ptr<Operation>,
 ) -> Result<Option<Entity>, CoreError>
-    ensures { PopsResult ctx.old op ctx.new result }
+    ensures { AnswersPopResult ctx.old op ctx.new result }
 {
     if !op.is_live(ctx) || has_used_last_result(ctx, op) {
         return Err(CoreError::EditNotAllowed);
@@ -47,7 +47,7 @@ pub fn insert_result<D: DialectTables>(
     index: usize,
     ty: TypeHandle,
 ) -> Result<Option<Entity>, CoreError>
-    ensures { InsertsResult ctx.old op index ty ctx.new result }
+    ensures { AnswersInsertResult ctx.old op index ty ctx.new result }
 {
     if !op.is_live(ctx) || index > op.get_num_results(ctx) || !ty.is_live(ctx) {
         return Err(CoreError::EditNotAllowed);
@@ -62,7 +62,7 @@ pub fn remove_result<D: DialectTables>(
     op: Ptr<Operation>,
     index: usize,
 ) -> Result<Option<Entity>, CoreError>
-    ensures { RemovesResult ctx.old op index ctx.new result }
+    ensures { AnswersRemoveResult ctx.old op index ctx.new result }
 {
     if !op.is_live(ctx) || index >= op.get_num_results(ctx) || has_used_result(ctx, op, index) {
         return Err(CoreError::EditNotAllowed);

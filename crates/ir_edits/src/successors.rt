@@ -1,5 +1,5 @@
 //! Edits of successors.
-ghost use Rattle.ir_edits.specs.SuccessorEdits.{PushesSuccessor, PopsSuccessor, InsertsSuccessor, RemovesSuccessor, ReplacesSuccessor};
+ghost use Rattle.ir_edits.specs.SuccessorEdits.{AnswersPushSuccessor, AnswersPopSuccessor, AnswersInsertSuccessor, AnswersRemoveSuccessor, AnswersReplaceSuccessor};
 
 use crate::Entity;
 use ir_context::{BlockCalls, Context, CoreError, OperationCalls, SuccessorCalls};
@@ -12,7 +12,7 @@ pub fn push_successor<D: DialectTables>(
     op: Ptr<Operation>,
     block: Ptr<BasicBlock>,
 ) -> Result<Option<Entity>, CoreError>
-    ensures { PushesSuccessor ctx.old op block ctx.new result }
+    ensures { AnswersPushSuccessor ctx.old op block ctx.new result }
 {
     if !op.is_live(ctx) || !block.is_live(ctx) {
         return Err(CoreError::EditNotAllowed);
@@ -27,7 +27,7 @@ pub fn pop_successor<D: DialectTables>(
     ctx: &mut Context<D>,
     op: Ptr<Operation>,
 ) -> Result<Option<Entity>, CoreError>
-    ensures { PopsSuccessor ctx.old op ctx.new result }
+    ensures { AnswersPopSuccessor ctx.old op ctx.new result }
 {
     if !op.is_live(ctx) {
         return Err(CoreError::EditNotAllowed);
@@ -43,7 +43,7 @@ pub fn insert_successor<D: DialectTables>(
     index: usize,
     block: Ptr<BasicBlock>,
 ) -> Result<Option<Entity>, CoreError>
-    ensures { InsertsSuccessor ctx.old op index block ctx.new result }
+    ensures { AnswersInsertSuccessor ctx.old op index block ctx.new result }
 {
     if !op.is_live(ctx) || index > op.get_num_successors(ctx) || !block.is_live(ctx) {
         return Err(CoreError::EditNotAllowed);
@@ -58,7 +58,7 @@ pub fn remove_successor<D: DialectTables>(
     op: Ptr<Operation>,
     index: usize,
 ) -> Result<Option<Entity>, CoreError>
-    ensures { RemovesSuccessor ctx.old op index ctx.new result }
+    ensures { AnswersRemoveSuccessor ctx.old op index ctx.new result }
 {
     if !op.is_live(ctx) || index >= op.get_num_successors(ctx) {
         return Err(CoreError::EditNotAllowed);
@@ -74,7 +74,7 @@ pub fn replace_successor<D: DialectTables>(
     index: usize,
     block: Ptr<BasicBlock>,
 ) -> Result<Option<Entity>, CoreError>
-    ensures { ReplacesSuccessor ctx.old op index block ctx.new result }
+    ensures { AnswersReplaceSuccessor ctx.old op index block ctx.new result }
 {
     if !op.is_live(ctx) || index >= op.get_num_successors(ctx) || !block.is_live(ctx) {
         return Err(CoreError::EditNotAllowed);

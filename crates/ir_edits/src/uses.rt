@@ -1,7 +1,7 @@
 //! Edits of the uses of values and of the edges to blocks.
 ghost use Rattle.std.specs.Prelude.{◌≡◌, ◌↔◌, Some, IsTrue, slice_get};
 ghost use Rattle.ir_program.specs.Rows.{operands_at, successors_at};
-ghost use Rattle.ir_edits.specs.UseEdits.{ReplacesAllUses, ReplacesUse, RetargetsAll, RetargetsOne};
+ghost use Rattle.ir_edits.specs.UseEdits.{AnswersReplaceAllUsesWith, AnswersReplaceUseWith, AnswersRetargetAllPredsTo, AnswersRetargetPredTo};
 
 use crate::Entity;
 use ir_context::{
@@ -17,7 +17,7 @@ pub fn replace_all_uses<D: DialectTables>(
     value: Value,
     other: Value,
 ) -> Result<Option<Entity>, CoreError>
-    ensures { ReplacesAllUses ctx.old value other ctx.new result }
+    ensures { AnswersReplaceAllUsesWith ctx.old value other ctx.new result }
 {
     if !value.is_live(ctx) || !other.is_live(ctx) {
         return Err(CoreError::EditNotAllowed);
@@ -46,7 +46,7 @@ pub fn replace_use<D: DialectTables>(
     index: usize,
     other: Value,
 ) -> Result<Option<Entity>, CoreError>
-    ensures { ReplacesUse ctx.old value op index other ctx.new result }
+    ensures { AnswersReplaceUseWith ctx.old value op index other ctx.new result }
 {
     if !is_operand(ctx, op, index, value) || !other.is_live(ctx) {
         return Err(CoreError::EditNotAllowed);
@@ -61,7 +61,7 @@ pub fn retarget_all<D: DialectTables>(
     block: Ptr<BasicBlock>,
     other: Ptr<BasicBlock>,
 ) -> Result<Option<Entity>, CoreError>
-    ensures { RetargetsAll ctx.old block other ctx.new result }
+    ensures { AnswersRetargetAllPredsTo ctx.old block other ctx.new result }
 {
     if !block.is_live(ctx) || !other.is_live(ctx) {
         return Err(CoreError::EditNotAllowed);
@@ -90,7 +90,7 @@ pub fn retarget_one<D: DialectTables>(
     index: usize,
     other: Ptr<BasicBlock>,
 ) -> Result<Option<Entity>, CoreError>
-    ensures { RetargetsOne ctx.old block op index other ctx.new result }
+    ensures { AnswersRetargetPredTo ctx.old block op index other ctx.new result }
 {
     if !is_successor(ctx, op, index, block) || !other.is_live(ctx) {
         return Err(CoreError::EditNotAllowed);

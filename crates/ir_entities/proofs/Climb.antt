@@ -6,8 +6,8 @@ use Rattle.std.proofs.lemmas.Bool.{eqb-true, or_cases, or_parts, cases_lt, both_
 use Rattle.std.proofs.lemmas.Map.Steps.{length-le_from_distinct_below}
 use Rattle.std.specs.List.{list_any}
 use Rattle.ir_entities.specs.Links.{has, AreDistinct}
-use Rattle.ir_entities.specs.declared.arena.Slot.{Slot}
-use Rattle.ir_entities.specs.Arena.{held, no_slot}
+use Rattle.ir_arena.specs.declared.arena.Slot.{Slot}
+use Rattle.ir_arena.specs.Arena.{held, no_slot}
 use Rattle.ir_entities.specs.declared.forest.Place.{Place}
 use Rattle.ir_entities.specs.declared.forest.Place.TheVariants.{Op, Block, Region}
 use Rattle.ir_entities.specs.Shape.{Shape, IsIn, IsInside, itself, deeper, IsGrounded, below}

@@ -3,7 +3,6 @@ pub mod Edits
 pub mod Writes
 pub mod Appends
 pub mod Walks
-pub mod Slots
 pub mod Trees
 pub mod Climb
 pub mod Prunes
@@ -17,4 +16,3 @@ pub mod RowWalks
 pub mod RowEdits
 pub mod Takes
 pub mod Orders
-pub mod Vacant

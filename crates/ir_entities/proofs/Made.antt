@@ -3,9 +3,9 @@ use Rattle.std.proofs.Common.{◌≡◌, ℕ, ◌≤◌, true, false, eqb, List,
 use Rattle.std.proofs.lemmas.Bool.{eq-eqb, or_left, both_ways}
 use Rattle.ir_entities.specs.Lists.{Lists}
 use Rattle.ir_entities.specs.Links.{has, list_at}
-use Rattle.ir_entities.specs.declared.arena.Slot.{Slot}
-use Rattle.ir_entities.specs.declared.arena.Key.{Key}
-use Rattle.ir_entities.specs.Arena.{held, SetsSlot, ClearsSlot}
+use Rattle.ir_arena.specs.declared.arena.Slot.{Slot}
+use Rattle.ir_arena.specs.declared.arena.Key.{Key}
+use Rattle.ir_arena.specs.Arena.{held, SetsSlot, ClearsSlot}
 use Rattle.ir_entities.specs.Forest.{Forest, AreMembers, IsForest, shape_of}
 use Rattle.ir_entities.proofs.Trees.{none_is_not_some, grounded_out, less_by_levels}
 

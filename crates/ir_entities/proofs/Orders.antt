@@ -4,7 +4,7 @@ use Rattle.std.proofs.lemmas.List.{get_or_past}
 use Rattle.std.proofs.lemmas.Bool.{eqb-true, eq-eqb, or_cases, or_right, cases_lt, both_ways, false_from_ne_true}
 use Rattle.ir_entities.proofs.Segments.{has_here}
 use Rattle.ir_entities.specs.Links.{has, list_at, first_or, next_in, AreDistinct}
-use Rattle.ir_entities.specs.Arena.{held}
+use Rattle.ir_arena.specs.Arena.{held}
 use Rattle.std.specs.Prelude.{⊤}
 use Rattle.ir_entities.specs.declared.forest.Place.{Place}
 use Rattle.ir_entities.specs.declared.forest.Place.TheVariants.{Op, Block, Region}

@@ -4,8 +4,8 @@ use Rattle.std.proofs.lemmas.List.{length-set, length-map, get_or-set_same, get_
 use Rattle.std.proofs.lemmas.Bool.{eqb-true, or_cases, or_left, or_right, cases_eq, both_ways}
 use Rattle.ir_entities.specs.Lists.{Lists}
 use Rattle.ir_entities.specs.Links.{has, list_at, put_before}
-use Rattle.ir_entities.specs.declared.arena.Key.{Key}
-use Rattle.ir_entities.specs.Arena.{held, get}
+use Rattle.ir_arena.specs.declared.arena.Key.{Key}
+use Rattle.ir_arena.specs.Arena.{held, get}
 use Rattle.ir_entities.specs.declared.forest.Place.{Place}
 use Rattle.ir_entities.specs.declared.forest.Place.TheVariants.{Op, Block, Region}
 use Rattle.ir_entities.specs.Shape.{Shape, IsIn, IsInside, itself, deeper, IsGrounded, below}

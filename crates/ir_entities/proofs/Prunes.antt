@@ -2,9 +2,9 @@
 use Rattle.std.proofs.Common.{◌≡◌, ℕ, inl, inr, ⊎_elim, true, false, List, [], IsSome, refl, sym, ap, subst, ◌∙◌, map}
 use Rattle.std.proofs.lemmas.Bool.{cases_eq, both_ways, false_from_ne_true}
 use Rattle.ir_entities.specs.Links.{has, list_at}
-use Rattle.ir_entities.specs.declared.arena.Slot.{Slot}
-use Rattle.ir_entities.specs.declared.arena.Key.{Key}
-use Rattle.ir_entities.specs.Arena.{held, get, value_at, slot_at, ClearsSlot, IsSpent, KeepsSpent}
+use Rattle.ir_arena.specs.declared.arena.Slot.{Slot}
+use Rattle.ir_arena.specs.declared.arena.Key.{Key}
+use Rattle.ir_arena.specs.Arena.{held, get, value_at, slot_at, ClearsSlot, IsSpent, KeepsSpent}
 use Rattle.ir_entities.specs.declared.forest.Place.{Place}
 use Rattle.ir_entities.specs.declared.forest.Place.TheVariants.{Op, Block, Region}
 use Rattle.ir_entities.specs.Shape.{Shape, IsIn, IsInside, itself, deeper}

@@ -6,9 +6,9 @@ use Rattle.ir_entities.proofs.Segments.{has-append}
 use Rattle.ir_entities.proofs.Appends.{first_has}
 use Rattle.ir_entities.specs.Lists.{Lists}
 use Rattle.ir_entities.specs.Links.{has, list_at, without, first_or}
-use Rattle.ir_entities.specs.declared.arena.Slot.{Slot}
-use Rattle.ir_entities.specs.declared.arena.Key.{Key}
-use Rattle.ir_entities.specs.Arena.{held, get, slot_at, no_slot, ClearsSlot, IsSpent, KeepsSpent}
+use Rattle.ir_arena.specs.declared.arena.Slot.{Slot}
+use Rattle.ir_arena.specs.declared.arena.Key.{Key}
+use Rattle.ir_arena.specs.Arena.{held, get, slot_at, no_slot, ClearsSlot, IsSpent, KeepsSpent}
 use Rattle.ir_entities.specs.declared.forest.Place.{Place}
 use Rattle.ir_entities.specs.declared.forest.Place.TheVariants.{Op, Block, Region}
 use Rattle.ir_entities.specs.Shape.{Shape, IsIn, IsInside, itself, deeper, IsGrounded, below}

@@ -1,8 +1,8 @@
 -- Operations in blocks, blocks in regions, regions in operations.
 use Rattle.std.specs.Prelude.{◌≡◌, ℕ, ◌≤◌, true, false, List, length, map, IsSome}
-use Rattle.ir_entities.specs.declared.arena.Key.{Key}
-use Rattle.ir_entities.specs.declared.arena.Slot.{Slot}
-use Rattle.ir_entities.specs.Arena.{held, slot_at}
+use Rattle.ir_arena.specs.declared.arena.Key.{Key}
+use Rattle.ir_arena.specs.declared.arena.Slot.{Slot}
+use Rattle.ir_arena.specs.Arena.{held, slot_at}
 use Rattle.ir_entities.specs.Lists.{Lists}
 use Rattle.ir_entities.specs.Links.{has, list_at}
 use Rattle.ir_entities.specs.declared.forest.Place.{Place}

@@ -1,8 +1,8 @@
 -- What a forest ends as, where a `&mut` to the data of an operation or a block is returned.
 use Rattle.std.specs.Borrow.{Lends, Fml, RattleType, MutBor}
-use Rattle.ir_entities.specs.declared.arena.Key.{Key}
+use Rattle.ir_arena.specs.declared.arena.Key.{Key}
 use Rattle.ir_entities.specs.contracts.forest.Forest.{the_row}
-use Rattle.ir_entities.specs.Lends.{with_value}
+use Rattle.ir_arena.specs.Lends.{with_value}
 use Rattle.ir_entities.specs.Forest.{Forest}
 
 module _ (O B R : RattleType) where

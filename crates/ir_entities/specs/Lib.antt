@@ -1,5 +1,4 @@
-pub mod Arena
-pub mod Lends
+pub use Rattle.ir_arena.specs.Arena
 pub mod Links
 pub mod Lists
 pub mod Unique

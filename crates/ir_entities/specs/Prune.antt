@@ -1,8 +1,8 @@
 -- What it means to take things out of a place, and to take out a place with all that stands in it.
 use Rattle.std.specs.Prelude.{◌≡◌, ℕ, ◌+◌, ◌⊎◌, false, cond, List, [], ◌∷◌, IsSome, is_some}
-use Rattle.ir_entities.specs.declared.arena.Key.{Key}
-use Rattle.ir_entities.specs.declared.arena.Slot.{Slot}
-use Rattle.ir_entities.specs.Arena.{held, slot_at, get, IsSpent, KeepsSpent}
+use Rattle.ir_arena.specs.declared.arena.Key.{Key}
+use Rattle.ir_arena.specs.declared.arena.Slot.{Slot}
+use Rattle.ir_arena.specs.Arena.{held, slot_at, get, IsSpent, KeepsSpent}
 use Rattle.ir_entities.specs.Links.{has, list_at, first_or}
 use Rattle.std.specs.Prelude.{Some, None}
 use Rattle.ir_entities.specs.declared.forest.Place.{Place}

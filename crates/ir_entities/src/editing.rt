@@ -1,14 +1,14 @@
 //! Changes of what stands where: operations in blocks, blocks in regions, regions in operations.
 
 ghost use Rattle.std.specs.Prelude.{◌≡◌, ◌≢◌, ℕ, true, ◌++◌, ◌∷◌, [], map, IsSome, slice_set};
-ghost use Rattle.ir_entities.specs.Arena.{get};
+ghost use Rattle.ir_arena.specs.Arena.{get};
 ghost use Rattle.ir_entities.specs.Links.{IsLinked, list_at, has, put_after, put_before, without};
 ghost use Rattle.ir_entities.specs.Shape.{IsInside};
 ghost use Rattle.ir_entities.specs.Forest.{IsRootOp, IsRootBlock, IsRootRegion, shape_of};
 ghost use Rattle.ir_entities.specs.declared.forest.Place.TheVariants.{Op, Block, Region};
 
-use crate::arena::Key;
 use crate::forest::Forest;
+use ir_arena::Key;
 
 impl<O, B, R> Forest<O, B, R> {
     /// Puts an operation before all others of a block.

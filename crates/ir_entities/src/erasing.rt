@@ -1,7 +1,7 @@
 //! Taking things out of a forest, one at a time or with all that stands in them. No memory is asked for.
 
 ghost use Rattle.std.specs.Prelude.{◌≡◌, ◌≢◌, ℕ, ◌<◌, ◌++◌, [], map, slice_set, IfSome, IsNone, IsSome, ◌↔◌, false, Some, None};
-ghost use Rattle.ir_entities.specs.Arena.{get, held, ClearsSlot, Updates, KeepsSpent, IsSpent};
+ghost use Rattle.ir_arena.specs.Arena.{get, held, ClearsSlot, Updates, KeepsSpent, IsSpent};
 ghost use Rattle.ir_entities.specs.Links.{IsLinked, list_at, first_or, without};
 ghost use Rattle.ir_entities.specs.Prune.{live_in, StandsNowhere, IsBare, IsFirstInner, IsCut, IsPruned, ErasesInside};
 ghost use Rattle.ir_entities.specs.Shape.{IsInside};
@@ -9,8 +9,8 @@ ghost use Rattle.ir_entities.specs.Forest.{IsForest, shape_of, pointer_to};
 ghost use Rattle.ir_entities.specs.declared.forest.Place.{Place};
 ghost use Rattle.ir_entities.specs.declared.forest.Place.TheVariants.{Op, Block, Region};
 
-use crate::arena::Key;
 use crate::forest::{Forest, Place};
+use ir_arena::Key;
 
 impl<O, B, R> Forest<O, B, R> {
     /// Tells what holds of every forest; it does nothing.

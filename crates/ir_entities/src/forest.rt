@@ -1,16 +1,16 @@
 //! Operations in blocks, blocks in regions, regions in operations, whatever their data is.
 
 ghost use Rattle.std.specs.Prelude.{List, ◌≡◌, ◌≢◌, ℕ, Bool, true, false, ◌+◌, ◌<◌, ◌≤◌, ◌++◌, ◌∷◌, [], map, IfOk, OnOk, OnErr, IfSome, IfNone, IsNone, IsSome, IsTrue, ◌↔◌, MatchOption, length, Some, None};
-ghost use Rattle.ir_entities.specs.declared.arena.Key.{Key};
-ghost use Rattle.ir_entities.specs.Arena.{get, held, slot_at, IsVacant, ClearsSlot, Updates, KeepsSpent, IsSpent};
+ghost use Rattle.ir_arena.specs.declared.arena.Key.{Key};
+ghost use Rattle.ir_arena.specs.Arena.{get, held, slot_at, IsVacant, ClearsSlot, Updates, KeepsSpent, IsSpent};
 ghost use Rattle.ir_entities.specs.Links.{IsLinked, list_at, has};
 ghost use Rattle.ir_entities.specs.Shape.{IsInside, IsIn};
 ghost use Rattle.ir_entities.specs.Forest.{ops_in, blocks_in, regions_in, IsRootOp, IsUsed, shape_of};
 ghost use Rattle.ir_entities.specs.declared.forest.Place.{Place};
 ghost use Rattle.ir_entities.specs.declared.forest.Place.TheVariants.{Op, Block, Region};
 
-use crate::arena::{Arena, Key};
 use crate::siblings::Siblings;
+use ir_arena::{Arena, Key};
 use ir_names::GrowError;
 use std::alloc::{AllocError, Global};
 use std::marker::Model;

@@ -3,7 +3,6 @@
 //! which definitions. None of it knows a dialect.
 #![tactic(auto)]
 
-mod arena;
 mod editing;
 mod erasing;
 mod forest;
@@ -14,15 +13,8 @@ mod siblings;
 mod uses;
 mod walking;
 
-pub use arena::{Arena, Key, Slot};
 pub use forest::{Forest, Place};
+pub use ir_arena::{Arena, Key, Slot};
 pub use rows::{clear_row, insert_place, push_place, release, remove_place, renumber};
 pub use siblings::{Backward, Ends, Forward, Node, Siblings, Walk};
 pub use uses::{Spot, Uses, UsesOf};
-
-#[cfg(test)]
-mod making_tests;
-#[cfg(test)]
-mod rows_tests;
-#[cfg(test)]
-mod uses_tests;

@@ -1,14 +1,14 @@
 //! Making operations, blocks and regions, and taking them out.
 
 ghost use Rattle.std.specs.Prelude.{◌≡◌, ℕ, ◌<◌, ◌≤◌, length, [], Some, None, Err, IsSome, IfOk, OnOk, OnErr};
-ghost use Rattle.ir_entities.specs.Arena.{get, ClearsSlot, HasFullSlot, IsSpent, KeepsSpent, SetsSlot, Updates};
+ghost use Rattle.ir_arena.specs.Arena.{get, ClearsSlot, HasFullSlot, IsSpent, KeepsSpent, SetsSlot, Updates};
 ghost use Rattle.ir_entities.specs.Links.{list_at};
 ghost use Rattle.ir_entities.specs.Forest.{IsRootOp, IsRootBlock, IsRootRegion};
 ghost use Rattle.ir_names.specs.declared.growth.GrowError.TheVariants.{CounterFull};
 
-use crate::arena::Key;
 use crate::forest::Forest;
 use crate::siblings::Siblings;
+use ir_arena::Key;
 use ir_names::GrowError;
 use std::alloc::AllocError;
 

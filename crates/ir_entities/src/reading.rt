@@ -2,15 +2,15 @@
 
 ghost use Rattle.std.specs.Prelude.{◌≡◌, ◌<◌, ◌^◌, ℕ, length, true, Some, None, IsSome, IsNone, IfSome, is_some};
 ghost use Rattle.std.specs.Borrow.{sem};
-ghost use Rattle.ir_entities.specs.Arena.{get, held};
+ghost use Rattle.ir_arena.specs.Arena.{get, held};
 ghost use Rattle.ir_entities.specs.Links.{AreApart, AreDistinct, first_or, has, items_between, items_from, last_or, list_at, next_in, prev_in};
 ghost use Rattle.ir_entities.specs.declared.forest.Place.{Place};
 ghost use Rattle.ir_entities.specs.Shape.{IsIn, IsInside};
 ghost use Rattle.ir_entities.specs.Forest.{IsForest, IsRootOp, IsRootBlock, IsRootRegion, shape_of};
 
-use crate::arena::Key;
 use crate::forest::Forest;
 use crate::siblings::{Forward, Walk};
+use ir_arena::Key;
 
 impl<O, B, R> Forest<O, B, R> {
     ghost use Rattle.ir_entities.specs.Lent.{lends_op, lends_block};

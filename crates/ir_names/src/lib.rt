@@ -20,6 +20,3 @@ pub use kinds::{Signedness, TypeHandle};
 pub use legaliser::Legaliser;
 pub use names::{AttrId, AttrName, DialectName, OpId, OpName, TypeId, TypeName};
 pub use place::Place;
-
-#[cfg(test)]
-mod tests;

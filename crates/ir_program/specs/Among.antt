@@ -1,7 +1,7 @@
 -- Whether a use stands where one of several does.
 use Rattle.std.specs.Prelude.{◌≡◌, ℕ, Bool, eqb, ◌&&◌, List, Some, slice_get}
 use Rattle.std.specs.List.{list_any}
-use Rattle.ir_entities.specs.Arena.{same}
+use Rattle.ir_arena.specs.Arena.{same}
 use Rattle.ir_program.specs.Uses.{IsUseIn}
 use Rattle.ir_program.specs.declared.handles.Ptr.{Ptr}
 use Rattle.ir_program.specs.declared.handles.Operation.{Operation}

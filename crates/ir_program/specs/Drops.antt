@@ -1,13 +1,13 @@
 -- Operations that name no value and no block any more.
 use Rattle.std.specs.Prelude.{◌≡◌, ◌≢◌, ℕ, [], option_map, is_some, length}
-use Rattle.ir_entities.specs.Arena.{held, slot_at}
+use Rattle.ir_arena.specs.Arena.{held, slot_at}
 use Rattle.ir_entities.specs.Forest.{shape_of, pointer_to}
 use Rattle.ir_entities.specs.Shape.{IsInside}
 use Rattle.ir_entities.specs.declared.forest.Place.{Place}
 use Rattle.ir_entities.specs.declared.forest.Place.TheVariants.{Op}
 use Rattle.ir_program.specs.Program.{Program, OperationView, operation_at, block_at, region_at, type_at, definitions_of}
 use Rattle.ir_program.specs.Lists.{StandsInside}
-use Rattle.ir_program.specs.Edits.{EditsOperation, KeepsErased}
+use Rattle.ir_program.specs.Edits.{EditsOperation, KeepsErased, KeepsRoom}
 use Rattle.ir_program.specs.Handles.{handle}
 use Rattle.ir_program.specs.declared.handles.Ptr.{Ptr}
 use Rattle.ir_program.specs.declared.handles.Operation.{Operation}
@@ -35,6 +35,7 @@ module _ {O B : Type 0} where
     pub blocks : (q : Ptr BasicBlock) → block_at new q ≡ block_at old q
     pub regions : (q : Ptr Region) → region_at new q ≡ region_at old q
     pub erased : KeepsErased old new
+    pub room : KeepsRoom old new
     pub counter : new.counter ≡ old.counter
 
   -- the operations inside x have no operands and no successors, and all else is as it was
@@ -57,4 +58,5 @@ module _ {O B : Type 0} where
     pub regions : (r : Ptr Region) → region_at new r ≡ region_at old r
     pub types : (v : Value) → type_at new v ≡ type_at old v
     pub erased : KeepsErased old new
+    pub room : KeepsRoom old new
     pub counter : new.counter ≡ old.counter

@@ -1,6 +1,6 @@
 -- What erasing an entity takes away, and when it may.
 use Rattle.std.specs.Prelude.{◌≡◌, ℕ, Some, None, option_map, slice_get, remove}
-use Rattle.ir_entities.specs.Arena.{IsSpent}
+use Rattle.ir_arena.specs.Arena.{IsSpent}
 use Rattle.ir_program.specs.Program.{Program, OperationView, BlockView, RegionView, operation_at, block_at, region_at, type_at}
 use Rattle.ir_program.specs.Rows.{operands_at, successors_at}
 use Rattle.ir_program.specs.Lists.{StandsInside, StandsInBlock, StandsInRegion, StandsInOperation, IsLiveNode, operations_in, blocks_in, regions_in}

@@ -1,6 +1,6 @@
 -- The threads of what stands at a place, and what takes threads out of use.
 use Rattle.std.specs.Prelude.{◌≡◌, ℕ, true, false, List, [], ◌∷◌, map, None, option_map, unwrap_or}
-use Rattle.ir_entities.specs.Arena.{held}
+use Rattle.ir_arena.specs.Arena.{held}
 use Rattle.ir_entities.specs.Forest.{Forest}
 use Rattle.ir_entities.specs.Links.{has, AreDistinct}
 use Rattle.ir_entities.specs.Uses.{Uses, key_of, Names, IsDefined}

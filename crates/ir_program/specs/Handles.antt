@@ -1,5 +1,5 @@
 -- What contracts say of handles.
-use Rattle.ir_entities.specs.declared.arena.Key.{Key}
+use Rattle.ir_arena.specs.declared.arena.Key.{Key}
 use Rattle.ir_program.specs.declared.handles.Ptr.{Ptr}
 
 -- the handle with this key

@@ -1,10 +1,10 @@
 -- What a program ends as, where a `&mut` to a payload is returned.
 use Rattle.std.specs.Prelude.{List, Option, Some, None, option_map}
 use Rattle.std.specs.Borrow.{Lends, Fml, RattleType, MutBor}
-use Rattle.ir_entities.specs.declared.arena.Key.{Key}
-use Rattle.ir_entities.specs.declared.arena.Slot.{Slot}
-use Rattle.ir_entities.specs.Arena.{get}
-use Rattle.ir_entities.specs.Lends.{with_value}
+use Rattle.ir_arena.specs.declared.arena.Key.{Key}
+use Rattle.ir_arena.specs.declared.arena.Slot.{Slot}
+use Rattle.ir_arena.specs.Arena.{get}
+use Rattle.ir_arena.specs.Lends.{with_value}
 use Rattle.ir_program.specs.Program.{Program, OperationView, BlockView, operation_at, block_at}
 use Rattle.ir_program.specs.contracts.program.Program.{the_row}
 use Rattle.ir_program.specs.declared.handles.Ptr.{Ptr}

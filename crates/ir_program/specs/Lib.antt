@@ -5,6 +5,7 @@ pub mod Lists
 pub mod Preorder
 pub mod Listed
 pub mod Edits
+pub mod ListEdits
 pub mod Making
 pub mod Adds
 pub mod Made
@@ -13,11 +14,14 @@ pub mod Erases
 pub mod Erased
 pub mod Forgets
 pub mod Rows
+pub mod RowEdits
+pub mod ValueEdits
 pub mod Uses
 pub mod Lent
 pub mod Definers
 pub mod Spots
 pub mod Replacing
+pub mod UseEdits
 pub mod UsersInside
 pub mod Among
 pub mod Few

@@ -1,7 +1,7 @@
 -- What the lists of every program keep, by slots. No public clause cites this module.
 use Rattle.std.specs.Prelude.{◌≡◌, ℕ, true, List, IsSome}
-use Rattle.ir_entities.specs.declared.arena.Slot.{Slot}
-use Rattle.ir_entities.specs.Arena.{held}
+use Rattle.ir_arena.specs.declared.arena.Slot.{Slot}
+use Rattle.ir_arena.specs.Arena.{held}
 use Rattle.ir_entities.specs.Links.{has, AreDistinct, AreApart, list_at}
 use Rattle.ir_entities.specs.Forest.{IsForest}
 use Rattle.ir_program.specs.Program.{Program}

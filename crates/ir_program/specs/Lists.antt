@@ -1,5 +1,5 @@
 -- What stands where: the operations of each block, the blocks of each region and the regions of each operation.
-use Rattle.std.specs.Prelude.{◌≡◌, ℕ, List, [], Some, None, IsSome, option_map, unwrap_or, slice_get}
+use Rattle.std.specs.Prelude.{◌≡◌, ◌≢◌, ℕ, List, [], Some, None, IsSome, option_map, unwrap_or, slice_get}
 use Rattle.ir_entities.specs.declared.forest.Place.{Place}
 use Rattle.ir_entities.specs.declared.forest.Place.TheVariants.{Op, Block, Region as RegionPlace}
 use Rattle.ir_program.specs.Program.{Program, OperationView, BlockView, RegionView, operation_at, block_at, region_at}
@@ -84,6 +84,15 @@ module _ {O B : Type 0} where
     in_block : (p : Ptr Operation) (b : Ptr BasicBlock) → StandsInBlock c p b → StandsInside c outer (BlockNode b) → StandsInside c outer (OperationNode p)
     in_region : (b : Ptr BasicBlock) (r : Ptr Region) → StandsInRegion c b r → StandsInside c outer (RegionNode r) → StandsInside c outer (BlockNode b)
     in_operation : (r : Ptr Region) (p : Ptr Operation) → StandsInOperation c r p → StandsInside c outer (OperationNode p) → StandsInside c outer (RegionNode r)
+
+module _ {O B : Type 0} where
+  -- the operations of the block donor can be moved behind those of the block donee: these are two, and none of the operations has donee inside it
+  abbrev pub CanAppendOperations : Program O B → Ptr BasicBlock → Ptr BasicBlock → Type 0
+  CanAppendOperations c donee donor = (donee ≢ donor) × ((op : Ptr Operation) → StandsInBlock c op donor → StandsInside c (OperationNode op) (BlockNode donee) → ⊥)
+
+  -- so of the blocks of the region donor
+  abbrev pub CanAppendBlocks : Program O B → Ptr Region → Ptr Region → Type 0
+  CanAppendBlocks c donee donor = (donee ≢ donor) × ((block : Ptr BasicBlock) → StandsInRegion c block donor → StandsInside c (BlockNode block) (RegionNode donee) → ⊥)
 
 -- no handle is in two of the lists, or twice in one
 abbrev pub StandOnce : {E F : Type 0} → (Ptr F → List (Ptr E)) → Type 0

@@ -1,6 +1,6 @@
 -- The order in which a program lists where a value or a block is used. No edit promises which order that is; it is one and the same as long as the program is.
 use Rattle.std.specs.Prelude.{List, [], map, option_map, unwrap_or}
-use Rattle.ir_entities.specs.Arena.{get}
+use Rattle.ir_arena.specs.Arena.{get}
 use Rattle.ir_entities.specs.Uses.{listed_of}
 use Rattle.ir_program.specs.Program.{Program, definition_at}
 use Rattle.ir_program.specs.Spots.{operand_use, successor_use}

@@ -3,7 +3,7 @@ use Rattle.std.specs.Prelude.{◌≡◌, ◌≢◌, ℕ, suc, Bool, false, cond,
 use Rattle.std.specs.Fn.{FnReturns}
 use denote.Param.Members.{Shared}
 use denote.Ref.{Bor}
-use Rattle.ir_entities.specs.Arena.{same}
+use Rattle.ir_arena.specs.Arena.{same}
 use Rattle.ir_program.specs.Uses.{IsUseIn}
 use Rattle.ir_program.specs.declared.handles.Ptr.{Ptr}
 use Rattle.ir_program.specs.declared.handles.Operation.{Operation}

@@ -1,6 +1,6 @@
 -- What every program keeps. No public clause cites this module.
 use Rattle.std.specs.Prelude.{◌≡◌, ◌↔◌, ℕ, ◌<◌, List, [], map, Option, Some, IsSome, option_map, unwrap_or, slice_get}
-use Rattle.ir_entities.specs.Arena.{get, held}
+use Rattle.ir_arena.specs.Arena.{get, held}
 use Rattle.ir_entities.specs.Links.{AreDistinct, IsLinked}
 use Rattle.ir_entities.specs.Placed.{IsPlaced}
 use Rattle.ir_entities.specs.Uses.{Uses, key_of, place_of}

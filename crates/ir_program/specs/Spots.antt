@@ -1,6 +1,6 @@
 -- Which use stands at a place. No public clause cites this module but through `Order`, for the order in which uses are listed.
 use Rattle.std.specs.Prelude.{◌≡◌, ℕ, true, List, Option, Some, None}
-use Rattle.ir_entities.specs.declared.arena.Slot.{Slot}
+use Rattle.ir_arena.specs.declared.arena.Slot.{Slot}
 use Rattle.ir_entities.specs.Forest.{pointer_to}
 use Rattle.ir_entities.specs.Links.{has}
 use Rattle.ir_entities.specs.Uses.{Uses, Place, place_of, IsPlace}

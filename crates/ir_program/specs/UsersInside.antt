@@ -1,6 +1,6 @@
 -- Whether those that use what stands inside an entity stand in it too, by slots.
 use Rattle.std.specs.Prelude.{◌≡◌, ℕ, true, Some, IsSome}
-use Rattle.ir_entities.specs.Arena.{held}
+use Rattle.ir_arena.specs.Arena.{held}
 use Rattle.ir_entities.specs.Forest.{Forest, shape_of}
 use Rattle.ir_entities.specs.Links.{has}
 use Rattle.ir_entities.specs.Placed.{place_at}

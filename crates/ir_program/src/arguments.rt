@@ -1,12 +1,13 @@
 //! The arguments of blocks.
-ghost use Rattle.std.specs.Prelude.{◌≡◌, ℕ, ◌≤◌, ◌<◌, ◌+◌, ◌-◌, ◌^◌, length, Some, None, Err, IsSome, IfOk, IfSome, IfNone, OnSome, OnOk, OnErr, ◌++◌, ◌∷◌, [], insert, remove};
+ghost use Rattle.std.specs.Prelude.{◌≡◌, ◌≤◌, ◌<◌, ◌+◌, ◌-◌, ◌^◌, Some, None, Err, IsSome, IfOk, IfSome, IfNone, OnSome, OnOk, OnErr};
 ghost use Rattle.ir_names.specs.declared.growth.GrowError.TheVariants.{CounterFull};
 ghost use Rattle.ir_program.specs.Program.{block_at, type_at, arguments_at, argument_count, value_in, type_in};
 ghost use Rattle.ir_program.specs.Uses.{IsUsed};
 ghost use Rattle.ir_program.specs.Definers.{DefinesValue, ForgetsValue};
 ghost use Rattle.ir_program.specs.declared.handles.Value.{Value};
-ghost use Rattle.ir_program.specs.Edits.{EditsBlock, IsUnchanged};
+ghost use Rattle.ir_program.specs.Edits.{IsUnchanged};
 ghost use Rattle.ir_program.specs.declared.handles.DefiningEntity.TheVariants.{Block};
+ghost use Rattle.ir_program.specs.ValueEdits.{PushesArgument, InsertsArgument, PopsArgument, RemovesArgument};
 
 use crate::definitions::{insert_definition, remove_definition};
 use crate::{BasicBlock, DefiningEntity, Program, Ptr, Value};
@@ -29,7 +30,7 @@ impl<O, B> Program<O, B> {
         ensures value { IfOk result (λ v. v ≡ record { definer = Block block; number = self.old.counter }) }
         ensures defined { IfOk result (λ v. DefinesValue self.old self.new v ty) }
         ensures counter { OnOk result (self.new.counter ≡ self.old.counter + 1) }
-        ensures inserted { IfOk result (λ v. EditsBlock self.old self.new block (λ b. record b { arguments = insert b.arguments index (record { value = v; ty = ty }) })) }
+        ensures inserted { IfOk result (λ v. InsertsArgument self.old self.new block index v ty) }
         ensures err { OnErr result (IsUnchanged self.old self.new) }
         ensures err_types { OnErr result ((v : Value) → type_at self.new v ≡ type_at self.old v) }
         ensures full { result ≡ Err CounterFull → self.old.counter ≡ 2 ^ 64 - 1 }
@@ -59,7 +60,7 @@ impl<O, B> Program<O, B> {
         ensures value { IfOk result (λ v. v ≡ record { definer = Block block; number = self.old.counter }) }
         ensures defined { IfOk result (λ v. DefinesValue self.old self.new v ty) }
         ensures counter { OnOk result (self.new.counter ≡ self.old.counter + 1) }
-        ensures pushed { IfOk result (λ v. EditsBlock self.old self.new block (λ b. record b { arguments = b.arguments ++ (record { value = v; ty = ty }) ∷ [] })) }
+        ensures pushed { IfOk result (λ v. PushesArgument self.old self.new block v ty) }
         ensures err { OnErr result (IsUnchanged self.old self.new) }
         ensures err_types { OnErr result ((v : Value) → type_at self.new v ≡ type_at self.old v) }
         ensures full { result ≡ Err CounterFull → self.old.counter ≡ 2 ^ 64 - 1 }
@@ -103,7 +104,7 @@ impl<O, B> Program<O, B> {
         requires within { index < argument_count self.old block }
         requires unused { (v : Value) → value_in (arguments_at self.old block) index ≡ Some v → IsUsed self.old v → ⊥ }
         ensures value { value_in (arguments_at self.old block) index ≡ Some result }
-        ensures removed { EditsBlock self.old self.new block (λ b. record b { arguments = remove b.arguments index }) }
+        ensures removed { RemovesArgument self.old self.new block index }
         ensures forgotten { ForgetsValue self.old self.new result }
         ensures counter { self.new.counter ≡ self.old.counter }
     {
@@ -118,7 +119,7 @@ impl<O, B> Program<O, B> {
         requires block { IsSome (block_at self.old block) }
         requires unused { (v : Value) → value_in (arguments_at self.old block) (argument_count self.old block - 1) ≡ Some v → IsUsed self.old v → ⊥ }
         ensures value { result ≡ value_in (arguments_at self.old block) (argument_count self.old block - 1) }
-        ensures popped { OnSome result (EditsBlock self.old self.new block (λ b. record b { arguments = remove b.arguments (length b.arguments - 1) })) }
+        ensures popped { OnSome result (PopsArgument self.old self.new block) }
         ensures forgotten { IfSome result (λ v. ForgetsValue self.old self.new v) }
         ensures none { IfNone result (self.new ≡ self.old) }
         ensures counter { self.new.counter ≡ self.old.counter }

@@ -4,7 +4,7 @@ ghost use Rattle.ir_names.specs.declared.growth.GrowError.TheVariants.{CounterFu
 ghost use Rattle.ir_program.specs.Program.{operation_at, block_at, type_at, IsLiveValue};
 ghost use Rattle.ir_program.specs.Lists.{IsUnlinkedOperation, IsUnlinkedBlock, operations_in};
 ghost use Rattle.ir_program.specs.Rows.{operands_at, successors_at};
-ghost use Rattle.ir_program.specs.Edits.{IsUnchanged};
+ghost use Rattle.ir_program.specs.Edits.{IsRestored};
 ghost use Rattle.ir_program.specs.Adds.{AreLiveValues, AreLiveBlocks};
 ghost use Rattle.ir_program.specs.Made.{FillsOperation, FillsSome, BuildsOperation, BuildsBlock, TakesBackOperation, TakesBackBlock, HasBareRegions, HasFullOperationSlot, HasFullBlockSlot, HasFullRegionSlot};
 ghost use Rattle.ir_program.specs.declared.handles.Ptr.{Ptr};
@@ -94,7 +94,7 @@ impl<O: Drop, B: Drop> Program<O, B> {
         requires operands { AreLiveValues self.old operands.now }
         requires successors { AreLiveBlocks self.old successors.now }
         ensures built { IfOk result (λ p. BuildsOperation self.old self.new p payload results.now operands.now successors.now regions) }
-        ensures err { OnErr result (IsUnchanged self.old self.new) }
+        ensures err { OnErr result (IsRestored self.old self.new) }
         ensures err_types { OnErr result ((v : Value) → type_at self.new v ≡ type_at self.old v) }
         ensures full { result ≡ Err CounterFull → HasFullOperationSlot self.old ⊎ (HasFullRegionSlot self.old ⊎ (2 ^ 64 ≤ self.old.counter + length results.now)) }
     {
@@ -137,7 +137,7 @@ impl<O: Drop, B: Drop> Program<O, B> {
         arguments: &[TypeHandle],
     ) -> Result<Ptr<BasicBlock>, GrowError>
         ensures built { IfOk result (λ p. BuildsBlock self.old self.new p payload arguments.now) }
-        ensures err { OnErr result (IsUnchanged self.old self.new) }
+        ensures err { OnErr result (IsRestored self.old self.new) }
         ensures err_types { OnErr result ((v : Value) → type_at self.new v ≡ type_at self.old v) }
         ensures full { result ≡ Err CounterFull → HasFullBlockSlot self.old ⊎ (2 ^ 64 ≤ self.old.counter + length arguments.now) }
     {

@@ -1,5 +1,5 @@
 //! Handles of entities, and values.
-ghost use Rattle.std.specs.Prelude.{◌≡◌, ℕ};
+ghost use Rattle.std.specs.Prelude.{◌≡◌};
 ghost use Rattle.ir_program.specs.Handles.{handle};
 
 use ir_entities::Key;

@@ -2,7 +2,7 @@
 ghost use Rattle.std.specs.Prelude.{◌≡◌, Err, IsSome, IfOk, OnOk, OnErr};
 ghost use Rattle.ir_names.specs.declared.growth.GrowError.TheVariants.{CounterFull};
 ghost use Rattle.ir_program.specs.Program.{operation_at};
-ghost use Rattle.ir_program.specs.Edits.{IsUnchanged};
+ghost use Rattle.ir_program.specs.Edits.{IsRestored, IsUnchanged};
 ghost use Rattle.ir_program.specs.Lists.{IsUnlinkedOperation, IsUnlinkedBlock};
 ghost use Rattle.ir_program.specs.Made.{MakesOperation, MakesBlock, MakesRegion, AddsRegionCount, AddsFewerRegions, HasFullOperationSlot, HasFullBlockSlot, HasFullRegionSlot};
 
@@ -40,7 +40,7 @@ impl<O: Drop, B: Drop> Program<O, B> {
     pub fn new_block(&mut self, alloc: Global, payload: B) -> Result<Ptr<BasicBlock>, GrowError>
         ensures made { IfOk result (λ p. MakesBlock self.old self.new p payload) }
         ensures unlinked { IfOk result (λ p. IsUnlinkedBlock self.new p) }
-        ensures err { OnErr result (IsUnchanged self.old self.new) }
+        ensures err { OnErr result (IsRestored self.old self.new) }
         ensures full { result ≡ Err CounterFull → HasFullBlockSlot self.old }
     {
         self.forest.know();

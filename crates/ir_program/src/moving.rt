@@ -1,15 +1,14 @@
 //! Putting operations into blocks and taking them out, and so for blocks in regions and regions in operations.
-ghost use Rattle.std.specs.Prelude.{◌≡◌, ◌≢◌, ◌+◌, ◌++◌, ◌∷◌, [], ℕ, Some, IsSome, slice_get, insert, remove};
+ghost use Rattle.std.specs.Prelude.{◌≡◌, ◌≢◌, ◌++◌, ◌∷◌, [], ℕ, Some, IsSome, slice_get, remove};
 ghost use Rattle.ir_program.specs.declared.handles.Ptr.{Ptr};
 ghost use Rattle.ir_program.specs.declared.handles.Operation.{Operation};
 ghost use Rattle.ir_program.specs.declared.handles.BasicBlock.{BasicBlock};
-ghost use Rattle.ir_program.specs.declared.handles.Region.{Region};
-ghost use Rattle.ir_program.specs.declared.handles.Value.{Value};
 ghost use Rattle.ir_program.specs.declared.handles.IRNode.{IRNode};
 ghost use Rattle.ir_program.specs.declared.handles.IRNode.TheVariants.{Operation as OperationNode, BasicBlock as BlockNode, Region as RegionNode};
-ghost use Rattle.ir_program.specs.Program.{operation_at, block_at, region_at, type_at};
-ghost use Rattle.ir_program.specs.Lists.{operations_in, blocks_in, regions_in, StandsInBlock, StandsInRegion, IsLinkedOperation, IsUnlinkedOperation, IsLinkedBlock, IsUnlinkedBlock, StandsInside};
-ghost use Rattle.ir_program.specs.Edits.{EditsOperation, EditsBlock, EditsRegion, MovesRegion, AppendsBlock, AppendsRegion};
+ghost use Rattle.ir_program.specs.Program.{operation_at, block_at, region_at};
+ghost use Rattle.ir_program.specs.Lists.{regions_in, StandsInBlock, StandsInRegion, IsLinkedOperation, IsUnlinkedOperation, IsLinkedBlock, IsUnlinkedBlock, StandsInside};
+ghost use Rattle.ir_program.specs.Edits.{EditsOperation, MovesRegion, AppendsBlock, AppendsRegion, KeepsValues};
+ghost use Rattle.ir_program.specs.ListEdits.{PutsOperationAfter, PutsOperationBefore, TakesOutOperation, PutsOperationFirst, PutsOperationLast, PutsBlockAfter, PutsBlockBefore, TakesOutBlock, PutsBlockFirst, PutsBlockLast};
 
 use crate::program::Program;
 use crate::{BasicBlock, Operation, Ptr, Region};
@@ -21,9 +20,8 @@ impl<O, B> Program<O, B> {
         requires op { IsSome (operation_at self.old op) }
         requires unlinked { IsUnlinkedOperation self.old op }
         requires apart { StandsInside self.old (OperationNode op) (BlockNode block) → ⊥ }
-        ensures edited { EditsBlock self.old self.new block (λ v. record v { operations = op ∷ v.operations }) }
-        ensures types { (v : Value) → type_at self.new v ≡ type_at self.old v }
-        ensures counter { self.new.counter ≡ self.old.counter }
+        ensures edited { PutsOperationFirst self.old self.new block op }
+        ensures values { KeepsValues self.old self.new }
     {
         self.know_listed();
         self.forest.insert_op_at_front(block.key, op.key);
@@ -35,9 +33,8 @@ impl<O, B> Program<O, B> {
         requires op { IsSome (operation_at self.old op) }
         requires unlinked { IsUnlinkedOperation self.old op }
         requires apart { StandsInside self.old (OperationNode op) (BlockNode block) → ⊥ }
-        ensures edited { EditsBlock self.old self.new block (λ v. record v { operations = v.operations ++ op ∷ [] }) }
-        ensures types { (v : Value) → type_at self.new v ≡ type_at self.old v }
-        ensures counter { self.new.counter ≡ self.old.counter }
+        ensures edited { PutsOperationLast self.old self.new block op }
+        ensures values { KeepsValues self.old self.new }
     {
         self.know_listed();
         self.forest.insert_op_at_back(block.key, op.key);
@@ -49,9 +46,8 @@ impl<O, B> Program<O, B> {
         requires op { IsSome (operation_at self.old op) }
         requires unlinked { IsUnlinkedOperation self.old op }
         requires apart { StandsInside self.old (OperationNode op) (OperationNode mark) → ⊥ }
-        ensures edited { (block : Ptr BasicBlock) (k : ℕ) → slice_get (operations_in self.old block) k ≡ Some mark → EditsBlock self.old self.new block (λ v. record v { operations = insert v.operations (k + 1) op }) }
-        ensures types { (v : Value) → type_at self.new v ≡ type_at self.old v }
-        ensures counter { self.new.counter ≡ self.old.counter }
+        ensures edited { PutsOperationAfter self.old self.new mark op }
+        ensures values { KeepsValues self.old self.new }
     {
         self.know_listed();
         self.forest.insert_op_after(mark.key, op.key);
@@ -63,9 +59,8 @@ impl<O, B> Program<O, B> {
         requires op { IsSome (operation_at self.old op) }
         requires unlinked { IsUnlinkedOperation self.old op }
         requires apart { StandsInside self.old (OperationNode op) (OperationNode mark) → ⊥ }
-        ensures edited { (block : Ptr BasicBlock) (k : ℕ) → slice_get (operations_in self.old block) k ≡ Some mark → EditsBlock self.old self.new block (λ v. record v { operations = insert v.operations k op }) }
-        ensures types { (v : Value) → type_at self.new v ≡ type_at self.old v }
-        ensures counter { self.new.counter ≡ self.old.counter }
+        ensures edited { PutsOperationBefore self.old self.new mark op }
+        ensures values { KeepsValues self.old self.new }
     {
         self.know_listed();
         self.forest.insert_op_before(mark.key, op.key);
@@ -74,12 +69,11 @@ impl<O, B> Program<O, B> {
     /// Takes an operation out of the block that it stands in. It keeps all that it holds.
     pub fn unlink_operation(&mut self, op: Ptr<Operation>)
         requires { IsLinkedOperation self.old op }
-        ensures edited { (block : Ptr BasicBlock) (k : ℕ) → slice_get (operations_in self.old block) k ≡ Some op → EditsBlock self.old self.new block (λ v. record v { operations = remove v.operations k }) }
+        ensures edited { TakesOutOperation self.old self.new op }
         ensures unlinked { IsUnlinkedOperation self.new op }
         // Nothing stands inside what it did not stand in.
         ensures inside { (outer inner : IRNode) → StandsInside self.new outer inner → StandsInside self.old outer inner }
-        ensures types { (v : Value) → type_at self.new v ≡ type_at self.old v }
-        ensures counter { self.new.counter ≡ self.old.counter }
+        ensures values { KeepsValues self.old self.new }
     {
         self.know_listed();
         self.forest.unlink_op(op.key);
@@ -92,8 +86,7 @@ impl<O, B> Program<O, B> {
         requires differ { donee ≢ donor }
         requires apart { (op : Ptr Operation) → StandsInBlock self.old op donor → StandsInside self.old (OperationNode op) (BlockNode donee) → ⊥ }
         ensures edited { AppendsBlock self.old self.new donee donor }
-        ensures types { (v : Value) → type_at self.new v ≡ type_at self.old v }
-        ensures counter { self.new.counter ≡ self.old.counter }
+        ensures values { KeepsValues self.old self.new }
     {
         self.know_listed();
         self.forest.append_ops(donee.key, donor.key);
@@ -105,9 +98,8 @@ impl<O, B> Program<O, B> {
         requires block { IsSome (block_at self.old block) }
         requires unlinked { IsUnlinkedBlock self.old block }
         requires apart { StandsInside self.old (BlockNode block) (RegionNode region) → ⊥ }
-        ensures edited { EditsRegion self.old self.new region (λ v. record v { blocks = block ∷ v.blocks }) }
-        ensures types { (v : Value) → type_at self.new v ≡ type_at self.old v }
-        ensures counter { self.new.counter ≡ self.old.counter }
+        ensures edited { PutsBlockFirst self.old self.new region block }
+        ensures values { KeepsValues self.old self.new }
     {
         self.know_listed();
         self.forest.insert_block_at_front(region.key, block.key);
@@ -119,9 +111,8 @@ impl<O, B> Program<O, B> {
         requires block { IsSome (block_at self.old block) }
         requires unlinked { IsUnlinkedBlock self.old block }
         requires apart { StandsInside self.old (BlockNode block) (RegionNode region) → ⊥ }
-        ensures edited { EditsRegion self.old self.new region (λ v. record v { blocks = v.blocks ++ block ∷ [] }) }
-        ensures types { (v : Value) → type_at self.new v ≡ type_at self.old v }
-        ensures counter { self.new.counter ≡ self.old.counter }
+        ensures edited { PutsBlockLast self.old self.new region block }
+        ensures values { KeepsValues self.old self.new }
     {
         self.know_listed();
         self.forest.insert_block_at_back(region.key, block.key);
@@ -133,9 +124,8 @@ impl<O, B> Program<O, B> {
         requires block { IsSome (block_at self.old block) }
         requires unlinked { IsUnlinkedBlock self.old block }
         requires apart { StandsInside self.old (BlockNode block) (BlockNode mark) → ⊥ }
-        ensures edited { (region : Ptr Region) (k : ℕ) → slice_get (blocks_in self.old region) k ≡ Some mark → EditsRegion self.old self.new region (λ v. record v { blocks = insert v.blocks (k + 1) block }) }
-        ensures types { (v : Value) → type_at self.new v ≡ type_at self.old v }
-        ensures counter { self.new.counter ≡ self.old.counter }
+        ensures edited { PutsBlockAfter self.old self.new mark block }
+        ensures values { KeepsValues self.old self.new }
     {
         self.know_listed();
         self.forest.insert_block_after(mark.key, block.key);
@@ -147,9 +137,8 @@ impl<O, B> Program<O, B> {
         requires block { IsSome (block_at self.old block) }
         requires unlinked { IsUnlinkedBlock self.old block }
         requires apart { StandsInside self.old (BlockNode block) (BlockNode mark) → ⊥ }
-        ensures edited { (region : Ptr Region) (k : ℕ) → slice_get (blocks_in self.old region) k ≡ Some mark → EditsRegion self.old self.new region (λ v. record v { blocks = insert v.blocks k block }) }
-        ensures types { (v : Value) → type_at self.new v ≡ type_at self.old v }
-        ensures counter { self.new.counter ≡ self.old.counter }
+        ensures edited { PutsBlockBefore self.old self.new mark block }
+        ensures values { KeepsValues self.old self.new }
     {
         self.know_listed();
         self.forest.insert_block_before(mark.key, block.key);
@@ -158,12 +147,11 @@ impl<O, B> Program<O, B> {
     /// Takes a block out of the region that it stands in. It keeps all that it holds.
     pub fn unlink_block(&mut self, block: Ptr<BasicBlock>)
         requires { IsLinkedBlock self.old block }
-        ensures edited { (region : Ptr Region) (k : ℕ) → slice_get (blocks_in self.old region) k ≡ Some block → EditsRegion self.old self.new region (λ v. record v { blocks = remove v.blocks k }) }
+        ensures edited { TakesOutBlock self.old self.new block }
         ensures unlinked { IsUnlinkedBlock self.new block }
         // Nothing stands inside what it did not stand in.
         ensures inside { (outer inner : IRNode) → StandsInside self.new outer inner → StandsInside self.old outer inner }
-        ensures types { (v : Value) → type_at self.new v ≡ type_at self.old v }
-        ensures counter { self.new.counter ≡ self.old.counter }
+        ensures values { KeepsValues self.old self.new }
     {
         self.know_listed();
         self.forest.unlink_block(block.key);
@@ -176,8 +164,7 @@ impl<O, B> Program<O, B> {
         requires differ { donee ≢ donor }
         requires apart { (block : Ptr BasicBlock) → StandsInRegion self.old block donor → StandsInside self.old (BlockNode block) (RegionNode donee) → ⊥ }
         ensures edited { AppendsRegion self.old self.new donee donor }
-        ensures types { (v : Value) → type_at self.new v ≡ type_at self.old v }
-        ensures counter { self.new.counter ≡ self.old.counter }
+        ensures values { KeepsValues self.old self.new }
     {
         self.know_listed();
         self.forest.append_blocks(donee.key, donor.key);
@@ -190,8 +177,7 @@ impl<O, B> Program<O, B> {
         requires apart { StandsInside self.old (RegionNode region) (OperationNode op) → ⊥ }
         ensures elsewhere { (from : Ptr Operation) (k : ℕ) → slice_get (regions_in self.old from) k ≡ Some region → from ≢ op → MovesRegion self.old self.new region from k op }
         ensures within { (k : ℕ) → slice_get (regions_in self.old op) k ≡ Some region → EditsOperation self.old self.new op (λ v. record v { regions = remove v.regions k ++ region ∷ [] }) }
-        ensures types { (v : Value) → type_at self.new v ≡ type_at self.old v }
-        ensures counter { self.new.counter ≡ self.old.counter }
+        ensures values { KeepsValues self.old self.new }
     {
         self.know_listed();
         self.forest.unlink_region(region.key);

@@ -1,8 +1,9 @@
 //! The operands of operations: the values that they take.
-ghost use Rattle.std.specs.Prelude.{◌≡◌, ℕ, ◌++◌, ◌∷◌, [], ◌<◌, ◌≤◌, Some, IsNone, IsSome, MatchOption, OnOk, OnErr, length, insert, remove, slice_get, slice_set};
-ghost use Rattle.ir_program.specs.Program.{operation_at, type_at, IsLiveValue};
+ghost use Rattle.std.specs.Prelude.{◌≡◌, ℕ, ◌++◌, ◌∷◌, [], ◌<◌, ◌≤◌, Some, IsNone, IsSome, MatchOption, OnOk, OnErr, length, slice_get};
+ghost use Rattle.ir_program.specs.Program.{operation_at, IsLiveValue};
 ghost use Rattle.ir_program.specs.Rows.{operands_at};
-ghost use Rattle.ir_program.specs.Edits.{EditsOperation, IsUnchanged};
+ghost use Rattle.ir_program.specs.Edits.{IsUnchanged, KeepsValues};
+ghost use Rattle.ir_program.specs.RowEdits.{PushesOperand, InsertsOperand, RemovesOperand, ReplacesOperand, ChangesOperands};
 
 use crate::{Operation, Program, Ptr, Value};
 use ir_entities::{insert_place, push_place, remove_place};
@@ -41,10 +42,9 @@ impl<O, B> Program<O, B> {
     pub fn push_operand(&mut self, op: Ptr<Operation>, value: Value) -> Result<(), AllocError>
         requires operation { IsSome (operation_at self.old op) }
         requires value { IsLiveValue self.old value }
-        ensures pushed { OnOk result (EditsOperation self.old self.new op (λ o. record o { operands = o.operands ++ value ∷ [] })) }
+        ensures pushed { OnOk result (PushesOperand self.old self.new op value) }
         ensures err { OnErr result (IsUnchanged self.old self.new) }
-        ensures types { (v : _) → type_at self.new v ≡ type_at self.old v }
-        ensures counter { self.new.counter ≡ self.old.counter }
+        ensures values { KeepsValues self.old self.new }
     {
         let thread = self.thread(value);
         let record = self.forest.op_mut(op.key);
@@ -64,10 +64,9 @@ impl<O, B> Program<O, B> {
         requires operation { IsSome (operation_at self.old op) }
         requires within { index ≤ length (operands_at self.old op) }
         requires value { IsLiveValue self.old value }
-        ensures inserted { OnOk result (EditsOperation self.old self.new op (λ o. record o { operands = insert o.operands index value })) }
+        ensures inserted { OnOk result (InsertsOperand self.old self.new op index value) }
         ensures err { OnErr result (IsUnchanged self.old self.new) }
-        ensures types { (v : _) → type_at self.new v ≡ type_at self.old v }
-        ensures counter { self.new.counter ≡ self.old.counter }
+        ensures values { KeepsValues self.old self.new }
     {
         let thread = self.thread(value);
         let record = self.forest.op_mut(op.key);
@@ -84,9 +83,8 @@ impl<O, B> Program<O, B> {
     pub fn remove_operand(&mut self, op: Ptr<Operation>, index: usize) -> Value
         requires { index < length (operands_at self.old op) }
         ensures value { slice_get (operands_at self.old op) index ≡ Some result }
-        ensures removed { EditsOperation self.old self.new op (λ o. record o { operands = remove o.operands index }) }
-        ensures types { (v : _) → type_at self.new v ≡ type_at self.old v }
-        ensures counter { self.new.counter ≡ self.old.counter }
+        ensures removed { RemovesOperand self.old self.new op index }
+        ensures values { KeepsValues self.old self.new }
     {
         let value = self.operand(op, index);
         let record = self.forest.op_mut(op.key);
@@ -98,10 +96,9 @@ impl<O, B> Program<O, B> {
     pub fn pop_operand(&mut self, op: Ptr<Operation>) -> Option<Value>
         requires { IsSome (operation_at self.old op) }
         ensures value { MatchOption result (operands_at self.old op ≡ []) (λ v. operands_at self.old op ≡ operands_at self.new op ++ v ∷ []) }
-        ensures popped { EditsOperation self.old self.new op (λ o. record o { operands = operands_at self.new op }) }
+        ensures popped { ChangesOperands self.old self.new op }
         ensures none { IsNone result → IsUnchanged self.old self.new }
-        ensures types { (v : _) → type_at self.new v ≡ type_at self.old v }
-        ensures counter { self.new.counter ≡ self.old.counter }
+        ensures values { KeepsValues self.old self.new }
     {
         let last = self.operand_count(op).checked_sub(1)?;
         Some(self.remove_operand(op, last))
@@ -111,9 +108,8 @@ impl<O, B> Program<O, B> {
     pub fn replace_operand(&mut self, op: Ptr<Operation>, index: usize, value: Value)
         requires within { index < length (operands_at self.old op) }
         requires value { IsLiveValue self.old value }
-        ensures replaced { EditsOperation self.old self.new op (λ o. record o { operands = slice_set o.operands index value }) }
-        ensures types { (v : _) → type_at self.new v ≡ type_at self.old v }
-        ensures counter { self.new.counter ≡ self.old.counter }
+        ensures replaced { ReplacesOperand self.old self.new op index value }
+        ensures values { KeepsValues self.old self.new }
     {
         let thread = self.thread(value);
         let place = self.forest.op(op.key).operands[index];

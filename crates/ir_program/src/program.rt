@@ -1,8 +1,9 @@
 //! Operations, regions, blocks and values.
-ghost use Rattle.std.specs.Prelude.{◌≡◌, ◌↔◌, ◌<◌, ℕ, [], Some, None, IsSome, IsTrue, is_some, option_map, MatchOption, IfOk, OnOk, OnErr};
-ghost use Rattle.ir_entities.specs.Arena.{get};
-ghost use Rattle.ir_program.specs.Program.{operation_at, block_at, region_at, type_at, IsLiveValue};
+ghost use Rattle.std.specs.Prelude.{◌≡◌, ◌↔◌, ◌<◌, None, IsSome, IsTrue, is_some, option_map, MatchOption, IfOk, OnOk, OnErr};
+ghost use Rattle.ir_arena.specs.Arena.{get};
+ghost use Rattle.ir_program.specs.Program.{operation_at, block_at, region_at, IsLiveValue};
 ghost use Rattle.ir_program.specs.Lists.{IsEmptyProgram};
+ghost use Rattle.ir_program.specs.Made.{HasRoom};
 
 use crate::records::{BlockRecord, Definition, OperationRecord, RegionRecord};
 use crate::{BasicBlock, DefiningEntity, Operation, Ptr, Region, Value};
@@ -36,18 +37,30 @@ impl<O, B> Model for Program<O, B> {
 }
 
 impl<O, B> Program<O, B> {
-    /// No operation, no region and no block.
+    /// No operation, no region and no block. Values are numbered from 0 on.
     pub fn new(alloc: Global) -> Program<O, B>
         ensures operations { (p : _) → operation_at result p ≡ None }
         ensures blocks { (p : _) → block_at result p ≡ None }
         ensures regions { (p : _) → region_at result p ≡ None }
         ensures counter { result.counter ≡ 0 }
+        ensures room { HasRoom result }
+    {
+        Program::counting_from(alloc, 0)
+    }
+
+    /// The same, with values that are numbered from this number on, as behind those of another program.
+    pub fn counting_from(alloc: Global, counter: u64) -> Program<O, B>
+        ensures operations { (p : _) → operation_at result p ≡ None }
+        ensures blocks { (p : _) → block_at result p ≡ None }
+        ensures regions { (p : _) → region_at result p ≡ None }
+        ensures counter { result.counter ≡ counter }
+        ensures room { HasRoom result }
     {
         Program {
             forest: Forest::new(alloc),
             values: Uses::new(alloc),
             targets: Uses::new(alloc),
-            counter: 0,
+            counter,
         }
     }
 

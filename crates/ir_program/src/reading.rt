@@ -1,6 +1,6 @@
 //! What stands where: the operations of a block, the blocks of a region and the regions of an operation.
 ghost use Rattle.std.specs.Prelude.{◌≡◌, ◌+◌, ◌-◌, ◌↔◌, ℕ, length, Some, None, IsSome, IfSome, IsTrue, MatchOption, option_map, slice_get};
-ghost use Rattle.ir_entities.specs.Arena.{held};
+ghost use Rattle.ir_arena.specs.Arena.{held};
 ghost use Rattle.ir_entities.specs.Forest.{pointer_to};
 ghost use Rattle.ir_program.specs.Handles.{handle};
 ghost use Rattle.ir_program.specs.Program.{operation_at, block_at, region_at};

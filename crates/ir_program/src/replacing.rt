@@ -1,15 +1,17 @@
 //! Other values in place of operands: at all uses of a value, at one, or at those that a predicate chooses.
-ghost use Rattle.std.specs.Prelude.{◌≡◌, ◌≢◌, ◌+◌, ℕ, true, Bool, cond, Some, OnOk, OnErr, IfOk, map, slice_set};
+ghost use Rattle.std.specs.Prelude.{◌≡◌, ◌≢◌, ◌+◌, ℕ, true, Bool, cond, OnOk, OnErr, IfOk};
 ghost use Rattle.ir_entities.specs.Links.{has};
 ghost use Rattle.ir_entities.specs.Uses.{key_of, place_of, naming, IsDefined, IsPlace, Names};
-ghost use Rattle.ir_program.specs.Program.{type_at, IsLiveValue};
+ghost use Rattle.ir_program.specs.Program.{IsLiveValue};
 ghost use Rattle.ir_program.specs.Rows.{operands_at};
 ghost use Rattle.ir_program.specs.Spots.{operand_use};
 ghost use Rattle.ir_program.specs.Uses.{IsUse, IsUsed, IsUseCount};
-ghost use Rattle.ir_program.specs.Edits.{EditsOperation, EditsOperations, IsUnchanged};
-ghost use Rattle.ir_program.specs.Replacing.{replacing, with_chosen, Answers, Chooses};
+ghost use Rattle.ir_program.specs.Edits.{IsUnchanged, KeepsValues};
+ghost use Rattle.ir_program.specs.Replacing.{Answers, Chooses};
 ghost use Rattle.ir_program.specs.declared.handles.Use.{Use};
 ghost use Rattle.ir_program.specs.declared.handles.Value.{Value};
+ghost use Rattle.ir_program.specs.RowEdits.{ReplacesOperand};
+ghost use Rattle.ir_program.specs.UseEdits.{ReplacesValue, ReplacesChosen};
 
 use crate::program::Program;
 use crate::{Use, Value};
@@ -21,11 +23,10 @@ impl<O, B> Program<O, B> {
     pub fn replace_all_uses(&mut self, value: Value, other: Value)
         requires value { IsLiveValue self.old value }
         requires other { IsLiveValue self.old other }
-        ensures replaced { EditsOperations self.old self.new (λ _ o. record o { operands = map (replacing value other) o.operands }) }
+        ensures replaced { ReplacesValue self.old self.new value other }
         ensures unused { value ≢ other → IsUsed self.new value → ⊥ }
         ensures count { value ≢ other → (m n : ℕ) → IsUseCount self.old value m → IsUseCount self.old other n → IsUseCount self.new other (m + n) }
-        ensures types { (v : _) → type_at self.new v ≡ type_at self.old v }
-        ensures counter { self.new.counter ≡ self.old.counter }
+        ensures values { KeepsValues self.old self.new }
     {
         self.values.know_named();
         let from = self.thread(value);
@@ -37,9 +38,8 @@ impl<O, B> Program<O, B> {
     pub fn replace_use(&mut self, place: Use<Value>, other: Value)
         requires place { IsUse self.old place }
         requires other { IsLiveValue self.old other }
-        ensures replaced { EditsOperation self.old self.new place.user_op (λ o. record o { operands = slice_set o.operands place.index other }) }
-        ensures types { (v : _) → type_at self.new v ≡ type_at self.old v }
-        ensures counter { self.new.counter ≡ self.old.counter }
+        ensures replaced { ReplacesOperand self.old self.new place.user_op place.index other }
+        ensures values { KeepsValues self.old self.new }
     {
         self.replace_operand(place.user_op, place.index, other);
     }
@@ -59,10 +59,9 @@ impl<O, B> Program<O, B> {
         requires value { IsLiveValue self.old value }
         requires other { IsLiveValue self.old other }
         requires callable { F.IsAlwaysCallable predicate }
-        ensures replaced { OnOk result ((chosen : Use Value → Bool) × Chooses (operands_at self.old) (Answers F.Fn predicate self.old) value chosen × EditsOperations self.old self.new (λ p o. record o { operands = with_chosen chosen other p 0 o.operands })) }
+        ensures replaced { OnOk result ((chosen : Use Value → Bool) × Chooses (operands_at self.old) (Answers F.Fn predicate self.old) value chosen × ReplacesChosen self.old self.new chosen other) }
         ensures err { OnErr result (IsUnchanged self.old self.new) }
-        ensures types { (v : _) → type_at self.new v ≡ type_at self.old v }
-        ensures counter { self.new.counter ≡ self.old.counter }
+        ensures values { KeepsValues self.old self.new }
     {
         self.values.know_named();
         let from = self.thread(value);

@@ -1,12 +1,13 @@
 //! The results of operations.
-ghost use Rattle.std.specs.Prelude.{◌≡◌, ℕ, ◌≤◌, ◌<◌, ◌+◌, ◌-◌, ◌^◌, length, Some, None, Err, IsSome, IfOk, IfSome, IfNone, OnSome, OnOk, OnErr, ◌++◌, ◌∷◌, [], insert, remove};
+ghost use Rattle.std.specs.Prelude.{◌≡◌, ◌≤◌, ◌<◌, ◌+◌, ◌-◌, ◌^◌, Some, None, Err, IsSome, IfOk, IfSome, IfNone, OnSome, OnOk, OnErr};
 ghost use Rattle.ir_names.specs.declared.growth.GrowError.TheVariants.{CounterFull};
 ghost use Rattle.ir_program.specs.Program.{operation_at, type_at, results_at, result_count, value_in, type_in};
 ghost use Rattle.ir_program.specs.Uses.{IsUsed};
 ghost use Rattle.ir_program.specs.Definers.{DefinesValue, ForgetsValue};
 ghost use Rattle.ir_program.specs.declared.handles.Value.{Value};
-ghost use Rattle.ir_program.specs.Edits.{EditsOperation, IsUnchanged};
+ghost use Rattle.ir_program.specs.Edits.{IsUnchanged};
 ghost use Rattle.ir_program.specs.declared.handles.DefiningEntity.TheVariants.{Op};
+ghost use Rattle.ir_program.specs.ValueEdits.{PushesResult, InsertsResult, PopsResult, RemovesResult};
 
 use crate::definitions::{insert_definition, remove_definition};
 use crate::{DefiningEntity, Operation, Program, Ptr, Value};
@@ -29,7 +30,7 @@ impl<O, B> Program<O, B> {
         ensures value { IfOk result (λ v. v ≡ record { definer = Op op; number = self.old.counter }) }
         ensures defined { IfOk result (λ v. DefinesValue self.old self.new v ty) }
         ensures counter { OnOk result (self.new.counter ≡ self.old.counter + 1) }
-        ensures inserted { IfOk result (λ v. EditsOperation self.old self.new op (λ o. record o { results = insert o.results index (record { value = v; ty = ty }) })) }
+        ensures inserted { IfOk result (λ v. InsertsResult self.old self.new op index v ty) }
         ensures err { OnErr result (IsUnchanged self.old self.new) }
         ensures err_types { OnErr result ((v : Value) → type_at self.new v ≡ type_at self.old v) }
         ensures full { result ≡ Err CounterFull → self.old.counter ≡ 2 ^ 64 - 1 }
@@ -55,7 +56,7 @@ impl<O, B> Program<O, B> {
         ensures value { IfOk result (λ v. v ≡ record { definer = Op op; number = self.old.counter }) }
         ensures defined { IfOk result (λ v. DefinesValue self.old self.new v ty) }
         ensures counter { OnOk result (self.new.counter ≡ self.old.counter + 1) }
-        ensures pushed { IfOk result (λ v. EditsOperation self.old self.new op (λ o. record o { results = o.results ++ (record { value = v; ty = ty }) ∷ [] })) }
+        ensures pushed { IfOk result (λ v. PushesResult self.old self.new op v ty) }
         ensures err { OnErr result (IsUnchanged self.old self.new) }
         ensures err_types { OnErr result ((v : Value) → type_at self.new v ≡ type_at self.old v) }
         ensures full { result ≡ Err CounterFull → self.old.counter ≡ 2 ^ 64 - 1 }
@@ -99,7 +100,7 @@ impl<O, B> Program<O, B> {
         requires within { index < result_count self.old op }
         requires unused { (v : Value) → value_in (results_at self.old op) index ≡ Some v → IsUsed self.old v → ⊥ }
         ensures value { value_in (results_at self.old op) index ≡ Some result }
-        ensures removed { EditsOperation self.old self.new op (λ o. record o { results = remove o.results index }) }
+        ensures removed { RemovesResult self.old self.new op index }
         ensures forgotten { ForgetsValue self.old self.new result }
         ensures counter { self.new.counter ≡ self.old.counter }
     {
@@ -114,7 +115,7 @@ impl<O, B> Program<O, B> {
         requires operation { IsSome (operation_at self.old op) }
         requires unused { (v : Value) → value_in (results_at self.old op) (result_count self.old op - 1) ≡ Some v → IsUsed self.old v → ⊥ }
         ensures value { result ≡ value_in (results_at self.old op) (result_count self.old op - 1) }
-        ensures popped { OnSome result (EditsOperation self.old self.new op (λ o. record o { results = remove o.results (length o.results - 1) })) }
+        ensures popped { OnSome result (PopsResult self.old self.new op) }
         ensures forgotten { IfSome result (λ v. ForgetsValue self.old self.new v) }
         ensures none { IfNone result (self.new ≡ self.old) }
         ensures counter { self.new.counter ≡ self.old.counter }

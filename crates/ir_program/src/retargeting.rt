@@ -1,16 +1,18 @@
 //! Other blocks in place of successors: at all edges to a block, at one, or at those that a predicate chooses.
-ghost use Rattle.std.specs.Prelude.{◌≡◌, ◌≢◌, ◌+◌, ℕ, true, Bool, Some, IsSome, OnOk, OnErr, IfOk, map, slice_set};
+ghost use Rattle.std.specs.Prelude.{◌≡◌, ◌≢◌, ◌+◌, ℕ, true, Bool, IsSome, OnOk, OnErr, IfOk};
 ghost use Rattle.ir_entities.specs.Links.{has};
 ghost use Rattle.ir_entities.specs.Uses.{IsDefined, Names};
-ghost use Rattle.ir_program.specs.Program.{block_at, type_at};
+ghost use Rattle.ir_program.specs.Program.{block_at};
 ghost use Rattle.ir_program.specs.Rows.{successors_at};
 ghost use Rattle.ir_program.specs.Spots.{successor_use};
 ghost use Rattle.ir_program.specs.Uses.{IsBlockUse, HasPredecessor, IsPredecessorCount};
-ghost use Rattle.ir_program.specs.Edits.{EditsOperation, EditsOperations, IsUnchanged};
-ghost use Rattle.ir_program.specs.Replacing.{retargeting, with_chosen, Answers, Chooses};
+ghost use Rattle.ir_program.specs.Edits.{IsUnchanged, KeepsValues};
+ghost use Rattle.ir_program.specs.Replacing.{Answers, Chooses};
 ghost use Rattle.ir_program.specs.declared.handles.Ptr.{Ptr};
 ghost use Rattle.ir_program.specs.declared.handles.BasicBlock.{BasicBlock};
 ghost use Rattle.ir_program.specs.declared.handles.Use.{Use};
+ghost use Rattle.ir_program.specs.RowEdits.{ReplacesSuccessor};
+ghost use Rattle.ir_program.specs.UseEdits.{RetargetsBlock, RetargetsChosen};
 
 use crate::program::Program;
 use crate::replacing::rename_each;
@@ -22,11 +24,10 @@ impl<O, B> Program<O, B> {
     pub fn retarget_all(&mut self, block: Ptr<BasicBlock>, other: Ptr<BasicBlock>)
         requires block { IsSome (block_at self.old block) }
         requires other { IsSome (block_at self.old other) }
-        ensures retargeted { EditsOperations self.old self.new (λ _ o. record o { successors = map (retargeting block other) o.successors }) }
+        ensures retargeted { RetargetsBlock self.old self.new block other }
         ensures unused { block ≢ other → HasPredecessor self.new block → ⊥ }
         ensures count { block ≢ other → (m n : ℕ) → IsPredecessorCount self.old block m → IsPredecessorCount self.old other n → IsPredecessorCount self.new other (m + n) }
-        ensures types { (v : _) → type_at self.new v ≡ type_at self.old v }
-        ensures counter { self.new.counter ≡ self.old.counter }
+        ensures values { KeepsValues self.old self.new }
     {
         self.targets.know_named();
         let from = self.edge_thread(block);
@@ -38,9 +39,8 @@ impl<O, B> Program<O, B> {
     pub fn retarget(&mut self, place: Use<Ptr<BasicBlock>>, other: Ptr<BasicBlock>)
         requires place { IsBlockUse self.old place }
         requires other { IsSome (block_at self.old other) }
-        ensures retargeted { EditsOperation self.old self.new place.user_op (λ o. record o { successors = slice_set o.successors place.index other }) }
-        ensures types { (v : _) → type_at self.new v ≡ type_at self.old v }
-        ensures counter { self.new.counter ≡ self.old.counter }
+        ensures retargeted { ReplacesSuccessor self.old self.new place.user_op place.index other }
+        ensures values { KeepsValues self.old self.new }
     {
         let thread = self.edge_thread(other);
         let target = self.forest.op(place.user_op.key).successors[place.index];
@@ -62,10 +62,9 @@ impl<O, B> Program<O, B> {
         requires block { IsSome (block_at self.old block) }
         requires other { IsSome (block_at self.old other) }
         requires callable { F.IsAlwaysCallable predicate }
-        ensures retargeted { OnOk result ((chosen : Use (Ptr BasicBlock) → Bool) × Chooses (successors_at self.old) (Answers F.Fn predicate self.old) block chosen × EditsOperations self.old self.new (λ p o. record o { successors = with_chosen chosen other p 0 o.successors })) }
+        ensures retargeted { OnOk result ((chosen : Use (Ptr BasicBlock) → Bool) × Chooses (successors_at self.old) (Answers F.Fn predicate self.old) block chosen × RetargetsChosen self.old self.new chosen other) }
         ensures err { OnErr result (IsUnchanged self.old self.new) }
-        ensures types { (v : _) → type_at self.new v ≡ type_at self.old v }
-        ensures counter { self.new.counter ≡ self.old.counter }
+        ensures values { KeepsValues self.old self.new }
     {
         self.targets.know_named();
         let from = self.edge_thread(block);

@@ -1,10 +1,10 @@
 //! Another in place of what is used at each of several uses.
 ghost use Rattle.std.specs.Prelude.{◌≡◌, IsSome};
-ghost use Rattle.ir_program.specs.Program.{block_at, type_at, IsLiveValue};
+ghost use Rattle.ir_program.specs.Program.{block_at, IsLiveValue};
 ghost use Rattle.ir_program.specs.Rows.{operands_at, successors_at};
 ghost use Rattle.ir_program.specs.Among.{is_among, AreUseIn};
-ghost use Rattle.ir_program.specs.Edits.{EditsOperations};
-ghost use Rattle.ir_program.specs.Replacing.{with_chosen};
+ghost use Rattle.ir_program.specs.Edits.{KeepsValues};
+ghost use Rattle.ir_program.specs.UseEdits.{ReplacesChosen, RetargetsChosen};
 
 use crate::program::Program;
 use crate::{BasicBlock, Ptr, Use, Value};
@@ -14,9 +14,8 @@ impl<O, B> Program<O, B> {
     pub fn replace_uses(&mut self, places: &[Use<Value>], other: Value)
         requires places { AreUseIn (operands_at self.old) places.now }
         requires other { IsLiveValue self.old other }
-        ensures replaced { EditsOperations self.old self.new (λ p o. record o { operands = with_chosen (is_among places.now) other p 0 o.operands }) }
-        ensures types { (v : _) → type_at self.new v ≡ type_at self.old v }
-        ensures counter { self.new.counter ≡ self.old.counter }
+        ensures replaced { ReplacesChosen self.old self.new (is_among places.now) other }
+        ensures values { KeepsValues self.old self.new }
     {
         for place in places {
             self.replace_operand(place.user_op, place.index, other);
@@ -27,9 +26,8 @@ impl<O, B> Program<O, B> {
     pub fn retarget_uses(&mut self, places: &[Use<Ptr<BasicBlock>>], other: Ptr<BasicBlock>)
         requires places { AreUseIn (successors_at self.old) places.now }
         requires other { IsSome (block_at self.old other) }
-        ensures retargeted { EditsOperations self.old self.new (λ p o. record o { successors = with_chosen (is_among places.now) other p 0 o.successors }) }
-        ensures types { (v : _) → type_at self.new v ≡ type_at self.old v }
-        ensures counter { self.new.counter ≡ self.old.counter }
+        ensures retargeted { RetargetsChosen self.old self.new (is_among places.now) other }
+        ensures values { KeepsValues self.old self.new }
     {
         for place in places {
             self.replace_successor(place.user_op, place.index, other);

@@ -1,9 +1,10 @@
 //! The successors of operations: the blocks that they may go on to.
-ghost use Rattle.std.specs.Prelude.{◌≡◌, ℕ, ◌++◌, ◌∷◌, [], ◌<◌, ◌≤◌, Some, IsNone, IsSome, MatchOption, OnOk, OnErr, length, insert, remove, slice_get, slice_set};
+ghost use Rattle.std.specs.Prelude.{◌≡◌, ℕ, ◌++◌, ◌∷◌, [], ◌<◌, ◌≤◌, Some, IsNone, IsSome, MatchOption, OnOk, OnErr, length, slice_get};
 ghost use Rattle.ir_entities.specs.Uses.{key_of};
-ghost use Rattle.ir_program.specs.Program.{block_at, operation_at, type_at};
+ghost use Rattle.ir_program.specs.Program.{block_at, operation_at};
 ghost use Rattle.ir_program.specs.Rows.{successors_at};
-ghost use Rattle.ir_program.specs.Edits.{EditsOperation, IsUnchanged};
+ghost use Rattle.ir_program.specs.Edits.{IsUnchanged, KeepsValues};
+ghost use Rattle.ir_program.specs.RowEdits.{PushesSuccessor, InsertsSuccessor, RemovesSuccessor, ReplacesSuccessor, ChangesSuccessors};
 
 use crate::{BasicBlock, Operation, Program, Ptr};
 use ir_entities::{insert_place, push_place, remove_place};
@@ -46,10 +47,9 @@ impl<O, B> Program<O, B> {
     ) -> Result<(), AllocError>
         requires operation { IsSome (operation_at self.old op) }
         requires block { IsSome (block_at self.old block) }
-        ensures pushed { OnOk result (EditsOperation self.old self.new op (λ o. record o { successors = o.successors ++ block ∷ [] })) }
+        ensures pushed { OnOk result (PushesSuccessor self.old self.new op block) }
         ensures err { OnErr result (IsUnchanged self.old self.new) }
-        ensures types { (v : _) → type_at self.new v ≡ type_at self.old v }
-        ensures counter { self.new.counter ≡ self.old.counter }
+        ensures values { KeepsValues self.old self.new }
     {
         let thread = self.block_thread(block);
         let record = self.forest.op_mut(op.key);
@@ -74,10 +74,9 @@ impl<O, B> Program<O, B> {
         requires operation { IsSome (operation_at self.old op) }
         requires within { index ≤ length (successors_at self.old op) }
         requires block { IsSome (block_at self.old block) }
-        ensures inserted { OnOk result (EditsOperation self.old self.new op (λ o. record o { successors = insert o.successors index block })) }
+        ensures inserted { OnOk result (InsertsSuccessor self.old self.new op index block) }
         ensures err { OnErr result (IsUnchanged self.old self.new) }
-        ensures types { (v : _) → type_at self.new v ≡ type_at self.old v }
-        ensures counter { self.new.counter ≡ self.old.counter }
+        ensures values { KeepsValues self.old self.new }
     {
         let thread = self.block_thread(block);
         let record = self.forest.op_mut(op.key);
@@ -94,9 +93,8 @@ impl<O, B> Program<O, B> {
     pub fn remove_successor(&mut self, op: Ptr<Operation>, index: usize) -> Ptr<BasicBlock>
         requires { index < length (successors_at self.old op) }
         ensures block { slice_get (successors_at self.old op) index ≡ Some result }
-        ensures removed { EditsOperation self.old self.new op (λ o. record o { successors = remove o.successors index }) }
-        ensures types { (v : _) → type_at self.new v ≡ type_at self.old v }
-        ensures counter { self.new.counter ≡ self.old.counter }
+        ensures removed { RemovesSuccessor self.old self.new op index }
+        ensures values { KeepsValues self.old self.new }
     {
         let block = self.successor(op, index);
         let record = self.forest.op_mut(op.key);
@@ -113,10 +111,9 @@ impl<O, B> Program<O, B> {
     pub fn pop_successor(&mut self, op: Ptr<Operation>) -> Option<Ptr<BasicBlock>>
         requires { IsSome (operation_at self.old op) }
         ensures block { MatchOption result (successors_at self.old op ≡ []) (λ b. successors_at self.old op ≡ successors_at self.new op ++ b ∷ []) }
-        ensures popped { EditsOperation self.old self.new op (λ o. record o { successors = successors_at self.new op }) }
+        ensures popped { ChangesSuccessors self.old self.new op }
         ensures none { IsNone result → IsUnchanged self.old self.new }
-        ensures types { (v : _) → type_at self.new v ≡ type_at self.old v }
-        ensures counter { self.new.counter ≡ self.old.counter }
+        ensures values { KeepsValues self.old self.new }
     {
         let last = self.successor_count(op).checked_sub(1)?;
         Some(self.remove_successor(op, last))
@@ -126,9 +123,8 @@ impl<O, B> Program<O, B> {
     pub fn replace_successor(&mut self, op: Ptr<Operation>, index: usize, block: Ptr<BasicBlock>)
         requires within { index < length (successors_at self.old op) }
         requires block { IsSome (block_at self.old block) }
-        ensures replaced { EditsOperation self.old self.new op (λ o. record o { successors = slice_set o.successors index block }) }
-        ensures types { (v : _) → type_at self.new v ≡ type_at self.old v }
-        ensures counter { self.new.counter ≡ self.old.counter }
+        ensures replaced { ReplacesSuccessor self.old self.new op index block }
+        ensures values { KeepsValues self.old self.new }
     {
         let thread = self.block_thread(block);
         let place = self.forest.op(op.key).successors[index];

@@ -4,8 +4,8 @@ use Rattle.ir_program.specs.Program.{Program, IsLiveValue}
 use Rattle.ir_program.specs.declared.handles.Ptr.{Ptr}
 use Rattle.ir_program.specs.declared.handles.BasicBlock.{BasicBlock}
 use Rattle.ir_program.specs.declared.handles.Value.{Value}
-use Rattle.ir_program.proofs.Frames.{same_handle}
-use Rattle.ir_program.proofs.Lent.{same_key}
+use Rattle.ir_program.proofs.made.Frames.{same_handle}
+use Rattle.ir_program.proofs.made.Lent.{same_key}
 use Rattle.ir_context.specs.declared.notes.OperationData.{OperationData}
 use Rattle.ir_context.specs.declared.notes.BlockNotes.{BlockNotes}
 use Rattle.ir_queries.specs.Naming.{value, block, IsInRange, id_text, with_id, HaveOwnNames}

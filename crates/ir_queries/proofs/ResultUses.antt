@@ -14,7 +14,7 @@ use Rattle.ir_program.specs.declared.handles.Ptr.{Ptr}
 use Rattle.ir_program.specs.declared.handles.Operation.{Operation}
 use Rattle.ir_program.specs.declared.handles.Value.{Value}
 use Rattle.ir_program.specs.declared.handles.Use.{Use}
-use Rattle.ir_program.proofs.Counts.{no_longer}
+use Rattle.ir_program.proofs.used.Counts.{no_longer}
 use Rattle.ir_queries.specs.Results.{AreUsesWhere, IsResultOf, IsResultUseCount}
 use Rattle.ir_queries.proofs.Partway.{get-split, get-front, get-back}
 

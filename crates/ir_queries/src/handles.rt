@@ -1,7 +1,7 @@
 //! Handles of types of which something is known.
 ghost use Rattle.std.specs.Prelude.{◌≡◌, ◌↔◌, true, Some, IfOk, IfErr, IsOk};
 ghost use Rattle.ir_names.specs.Names.{type_id_text};
-ghost use Rattle.ir_types.specs.Interned.{passes};
+ghost use Rattle.ir_types.specs.Interned.{IsKnown, key_at, passes};
 ghost use Rattle.ir_queries.specs.Parts.{part_at, kind_text_at, unknown_text};
 
 use crate::{TypeInterfaceMarker, TypeMarker, type_impls};
@@ -125,6 +125,14 @@ impl<I: TypeInterfaceMarker> TypeInterfaceHandle<I> {
         ensures { result ≡ plain self }
     {
         self.handle
+    }
+
+    /// The key of the type.
+    pub fn deref<D: DialectTables>(self, ctx: &Context<D>) -> &D::TypeKey
+        requires { IsKnown ctx.now.types (plain self) }
+        ensures { key_at ctx.now.types (plain self) ≡ Some result.now }
+    {
+        ctx.type_key(self.handle).unwrap()
     }
 }
 

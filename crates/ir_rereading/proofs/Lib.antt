@@ -1,3 +1,6 @@
+pub mod verdicts
+pub mod layouts
+pub mod trees
 pub mod DerivedReads
 pub mod StoodTrees
 pub mod ReadBack

@@ -14,20 +14,20 @@ use Rattle.ir_print.specs.Standing.{StandsOperation, Named, AreDistinct, AreBelo
 use Rattle.ir_grammar.specs.declared.grammar.Grammar.{Grammar}
 use Rattle.ir_forest.specs.Closed.{IsClosed, IsNumbered, AllDistinct, definitions_of, unlabelled, IsSameModule}
 use Rattle.ir_forest.specs.Meaning.{renamed}
-use Rattle.ir_layouts.specs.Printable.{IsLayoutOf, CanPrint}
-use Rattle.ir_verdicts.specs.Texts.{Says}
+use Rattle.ir_rereading.specs.Printable.{IsLayoutOf, CanPrint}
+use Rattle.ir_rereading.specs.Texts.{Says}
 use Rattle.ir_formats.specs.Rules.{IsGrammarOf}
 use Rattle.ir_forest.specs.Language.{Language}
-use Rattle.ir_layouts.proofs.LayoutCharacters.{layout_characters}
-use Rattle.ir_layouts.proofs.LayoutPlain.{printed_bare}
-use Rattle.ir_layouts.proofs.LayoutTokens.{layout_utf8, layout_chars}
-use Rattle.ir_layouts.proofs.Marks.{characters, marks, IsSpelt}
-use Rattle.ir_layouts.proofs.PrintedDefinitions.{defined_unlabelled, defined_renamed, operation_has, names_distinct, number_small, printed_spelt}
-use Rattle.ir_layouts.proofs.PrintedTrees.{number_at, name_at, name_operation, prints_operation, same_operation, blocks_named, labelled_operation}
+use Rattle.ir_rereading.proofs.layouts.LayoutCharacters.{layout_characters}
+use Rattle.ir_rereading.proofs.layouts.LayoutPlain.{printed_bare}
+use Rattle.ir_rereading.proofs.layouts.LayoutTokens.{layout_utf8, layout_chars}
+use Rattle.ir_rereading.proofs.layouts.Marks.{characters, marks, IsSpelt}
+use Rattle.ir_rereading.proofs.layouts.PrintedDefinitions.{defined_unlabelled, defined_renamed, operation_has, names_distinct, number_small, printed_spelt}
+use Rattle.ir_rereading.proofs.layouts.PrintedTrees.{number_at, name_at, name_operation, prints_operation, same_operation, blocks_named, labelled_operation}
 use Rattle.ir_rereading.proofs.ReadBack.{read_again}
 use Rattle.ir_rereading.proofs.ReadClosed.{read_closed}
 use Rattle.ir_rereading.proofs.StoodTrees.{stood_fits}
-use Rattle.ir_trees.proofs.TreeClosed.{closed_renamed}
+use Rattle.ir_rereading.proofs.trees.TreeClosed.{closed_renamed}
 
 -- The tree of a text, for which an operation stands, is closed, and its definitions are numbered.
 pub stood_closed : {K A T : Type 0} (l : Language) → CanPrint l → (says : Saying K A T) → SaysTypes says l.formats l.values → SaysAttributes says l.formats l.values → SaysOperations says l.formats l.values

@@ -19,35 +19,35 @@ use Rattle.ir_forest.specs.Meaning.{operations_in, renamed}
 use Rattle.ir_grammar.specs.Nesting.{at_root, at_end}
 use Rattle.ir_formats.specs.Ordered as ordered
 use Rattle.ir_formats.specs.Ordered.{is_ordered}
-use Rattle.ir_layouts.specs.Outer.{has_outer_operands}
-use Rattle.ir_layouts.specs.Printable.{is_printable}
+use Rattle.ir_rereading.specs.Outer.{has_outer_operands}
+use Rattle.ir_rereading.specs.Printable.{is_printable}
 use Rattle.ir_forest.specs.Progress.{Leads}
 use Rattle.ir_grammar.specs.Reading.{Reads}
 use Rattle.ir_formats.specs.Rules.{words_of, rules_of, with_words, IsGrammarOf}
 use Rattle.ir_scopes.specs.Scopes.{definitions, mentions, labels, closings, AreApart, Means, Resolves, IsAgain, IsLacking}
-use Rattle.ir_verdicts.specs.Texts.{IsReading, HasFault, Says}
+use Rattle.ir_rereading.specs.Texts.{IsReading, HasFault, Says}
 use Rattle.ir_formats.specs.Words.{token_text, text_of, kind_of, name_number, spelled_texts, AlikeInNumber}
 use Rattle.ir_forest.specs.Language.{Language}
 use Rattle.ir_tokens.specs.Faults.{IsNamed}
 use Rattle.ir_tokens.specs.Tokens.{ReadsAs, Spells, ClosesText, closing, plain, escaped, LastIfBad}
 use Rattle.ir_tokens.specs.declared.tokens.TokenKind.TheVariants as kinds
 use Rattle.ir_rereading.proofs.DerivedReads.{derived_reads}
-use Rattle.ir_layouts.proofs.LayoutDerives.{layout_derives}
-use Rattle.ir_layouts.proofs.LayoutFaults.{no_number_fault, no_names_fault, no_deep_fault}
-use Rattle.ir_layouts.proofs.LayoutOperations.{IsPlainTree}
-use Rattle.ir_layouts.proofs.LayoutPlain.{plain_tree, printed_bare}
-use Rattle.ir_layouts.proofs.LayoutTokens.{layout_tokens}
-use Rattle.ir_layouts.proofs.LayoutTrees.{layout_tree}
-use Rattle.ir_layouts.proofs.Marks.{Mark, characters, tokens, events, marks, IsSpelt, sort_of, kind_by}
+use Rattle.ir_rereading.proofs.layouts.LayoutDerives.{layout_derives}
+use Rattle.ir_rereading.proofs.layouts.LayoutFaults.{no_number_fault, no_names_fault, no_deep_fault}
+use Rattle.ir_rereading.proofs.layouts.LayoutOperations.{IsPlainTree}
+use Rattle.ir_rereading.proofs.layouts.LayoutPlain.{plain_tree, printed_bare}
+use Rattle.ir_rereading.proofs.layouts.LayoutTokens.{layout_tokens}
+use Rattle.ir_rereading.proofs.layouts.LayoutTrees.{layout_tree}
+use Rattle.ir_rereading.proofs.layouts.Marks.{Mark, characters, tokens, events, marks, IsSpelt, sort_of, kind_by}
 use Rattle.ir_formats.proofs.Ordered.{text_ends}
-use Rattle.ir_layouts.proofs.PlainWords.{words_plain}
+use Rattle.ir_rereading.proofs.layouts.PlainWords.{words_plain}
 use Rattle.ir_formats.proofs.Spelled.{alike_by}
-use Rattle.ir_verdicts.proofs.TextReadings.{orders, leads_along, read_in_order}
-use Rattle.ir_trees.proofs.TreeAgain.{tree_again}
-use Rattle.ir_trees.proofs.TreeClosed.{closed_renamed}
-use Rattle.ir_trees.proofs.TreeLabels.{labels_apart, labelled_renamed}
-use Rattle.ir_trees.proofs.TreeNumbers.{resolution}
-use Rattle.ir_trees.proofs.TreeScopes.{definition_tokens, mention_tokens}
+use Rattle.ir_rereading.proofs.verdicts.TextReadings.{orders, leads_along, read_in_order}
+use Rattle.ir_rereading.proofs.trees.TreeAgain.{tree_again}
+use Rattle.ir_rereading.proofs.trees.TreeClosed.{closed_renamed}
+use Rattle.ir_rereading.proofs.trees.TreeLabels.{labels_apart, labelled_renamed}
+use Rattle.ir_rereading.proofs.trees.TreeNumbers.{resolution}
+use Rattle.ir_rereading.proofs.trees.TreeScopes.{definition_tokens, mention_tokens}
 use Rattle.ir_rereading.proofs.TreeTexts.{value_spelled, label_spelled, spelled_alike, names_apart, definitions_within, mentions_within, text_none_again, text_none_lacking, text_means}
 
 -- ---- kinds of tokens

@@ -7,14 +7,14 @@ use Rattle.ir_forest.specs.Closed.{IsOperation, IsScopedRoot, IsNumbered, IsLabe
 use Rattle.ir_formats.specs.Ordered as ordered
 use Rattle.ir_formats.specs.Ordered.{is_ordered}
 use Rattle.ir_formats.specs.Rules.{rules_of}
-use Rattle.ir_verdicts.specs.Texts.{Says}
+use Rattle.ir_rereading.specs.Texts.{Says}
 use Rattle.ir_formats.specs.Words.{token_text}
 use Rattle.ir_forest.specs.Language.{Language}
-use Rattle.ir_layouts.proofs.LayoutPlain.{read_bare, bare_renamed}
+use Rattle.ir_rereading.proofs.layouts.LayoutPlain.{read_bare, bare_renamed}
 use Rattle.ir_rereading.proofs.ReadDepths.{says_shallow}
 use Rattle.ir_rereading.proofs.ReadTrees.{says_operation}
-use Rattle.ir_verdicts.proofs.TextReadings.{read_in_order}
-use Rattle.ir_trees.proofs.TreeLabels.{tree_labelled, renamed_labelled}
+use Rattle.ir_rereading.proofs.verdicts.TextReadings.{read_in_order}
+use Rattle.ir_rereading.proofs.trees.TreeLabels.{tree_labelled, renamed_labelled}
 use Rattle.ir_rereading.proofs.TreeTexts.{text_scoped, label_spelled, numbered_alike}
 
 module _ (l : Language) (lead : ordered.Leads) (ok : is_ordered lead (rules_of l.formats) ≡ true) (flat : (n d : ℕ) (ps : Pieces) → AreFlat d ps → AreFlat d (l.values.canonical n ps)) (keeps : KeepsBare l.values)

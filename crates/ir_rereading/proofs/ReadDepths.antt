@@ -18,7 +18,7 @@ use Rattle.ir_forest.specs.Closed.{IsOperation}
 use Rattle.ir_formats.specs.Ordered.{is_ordered}
 use Rattle.ir_formats.specs.Ordered as ordered
 use Rattle.ir_formats.specs.Rules.{rules_of}
-use Rattle.ir_verdicts.specs.Texts.{Says}
+use Rattle.ir_rereading.specs.Texts.{Says}
 use Rattle.ir_formats.specs.Words.{token_text}
 use Rattle.ir_forest.specs.Language.{Language}
 use Rattle.ir_rereading.proofs.ReadTrees.{number_so, width_so, step_of, says_operation}

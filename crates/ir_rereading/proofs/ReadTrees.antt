@@ -17,12 +17,12 @@ use Rattle.ir_grammar.specs.Nesting.{Position, at_root, behind_root_results, at_
 use Rattle.ir_formats.specs.Ordered.{is_ordered}
 use Rattle.ir_formats.specs.Ordered as ordered
 use Rattle.ir_formats.specs.Rules.{rules_of}
-use Rattle.ir_verdicts.specs.Texts.{IsReading, HasFault, Says}
+use Rattle.ir_rereading.specs.Texts.{IsReading, HasFault, Says}
 use Rattle.ir_formats.specs.Words.{token_text}
 use Rattle.ir_forest.specs.Language.{Language}
-use Rattle.ir_verdicts.proofs.TextReadings.{read_whole}
-use Rattle.ir_trees.proofs.TreeCounts.{CountsAt, Counts, forest_counts}
-use Rattle.ir_trees.proofs.TreePlaces.{PlacedBy, Placed, forest_placed}
+use Rattle.ir_rereading.proofs.verdicts.TextReadings.{read_whole}
+use Rattle.ir_rereading.proofs.trees.TreeCounts.{CountsAt, Counts, forest_counts}
+use Rattle.ir_rereading.proofs.trees.TreePlaces.{PlacedBy, Placed, forest_placed}
 
 -- ---- names beside types
 

@@ -20,18 +20,18 @@ use Rattle.ir_formats.specs.Ordered.{is_ordered}
 use Rattle.ir_forest.specs.Progress.{Leads}
 use Rattle.ir_formats.specs.Rules.{rules_of}
 use Rattle.ir_scopes.specs.Scopes.{beginning, definitions, labels, mentions, closings, defined, labelled, mentioned, name_of, Means, IsAgain, IsLacking, AreApart, IsResolved}
-use Rattle.ir_verdicts.specs.Texts.{IsReading, HasFault}
+use Rattle.ir_rereading.specs.Texts.{IsReading, HasFault}
 use Rattle.ir_formats.specs.Words.{token_text, text_of}
 use Rattle.ir_forest.specs.Language.{Language}
 use Rattle.ir_forest.specs.ValueFaults.{HasNamesFault}
 use Rattle.ir_scopes.proofs.Apart.{are_apart}
-use Rattle.ir_trees.proofs.DefinedTokens.{definitions_taken, mentions_taken}
+use Rattle.ir_rereading.proofs.trees.DefinedTokens.{definitions_taken, mentions_taken}
 use Rattle.ir_formats.proofs.Ordered.{orders_texts, text_ends, own_tokens}
-use Rattle.ir_verdicts.proofs.Renumbering.{SpelledAt, reading_spelled, sites_at, defined_own, labelled_own, mentioned_own}
-use Rattle.ir_verdicts.proofs.TextReadings.{leads_along, read_in_order, read_whole}
-use Rattle.ir_trees.proofs.TreeScopes.{NamesValue, numbers_scoped, numbers_numbered, mention_means, none_again, none_lacking}
-use Rattle.ir_trees.proofs.TreeSites.{In}
-use Rattle.ir_verdicts.proofs.TokensTaken.{reading_taken}
+use Rattle.ir_rereading.proofs.verdicts.Renumbering.{SpelledAt, reading_spelled, sites_at, defined_own, labelled_own, mentioned_own}
+use Rattle.ir_rereading.proofs.verdicts.TextReadings.{leads_along, read_in_order, read_whole}
+use Rattle.ir_rereading.proofs.trees.TreeScopes.{NamesValue, numbers_scoped, numbers_numbered, mention_means, none_again, none_lacking}
+use Rattle.ir_rereading.proofs.trees.TreeSites.{In}
+use Rattle.ir_rereading.proofs.verdicts.TokensTaken.{reading_taken}
 
 module _ (l : Language) (cs : List ℕ) (ts : List Token) (names : List ℕ) (stop : Stop) (n : ℕ) (es : List Event) (reading : IsReading l cs ts names stop n es) where
   -- the tokens that name values may be names

@@ -10,7 +10,7 @@ use Rattle.ir_tokens.specs.Faults.{IsFirstOf, IsNamed}
 use Rattle.ir_scopes.specs.Depth.{IsTooDeep}
 use Rattle.ir_scopes.specs.Scopes.{HasScopeFault}
 use Rattle.ir_forest.specs.ValueFaults.{HasNumberFault, HasNamesFault}
-use Rattle.ir_verdicts.specs.Texts.{IsSyntaxFault, HasFault, IsTextFault, IsRefusal}
+use Rattle.ir_rereading.specs.Texts.{IsSyntaxFault, HasFault, IsTextFault, IsRefusal}
 use Rattle.ir_formats.specs.Words.{token_text}
 use Rattle.ir_forest.specs.Language.{Language}
 use Rattle.ir_tokens.proofs.FirstFault.{first_of_law}

@@ -30,19 +30,19 @@ use Rattle.ir_building.specs.Raised.{IsAssembled}
 use Rattle.ir_scopes.specs.Naming.{defined_from, mentioned_from}
 use Rattle.ir_grammar.specs.Reading.{tooks}
 use Rattle.ir_scopes.specs.Scopes.{IsResolved, AreApart, definitions, mentions}
-use Rattle.ir_verdicts.specs.Texts.{IsReading, HasFault}
+use Rattle.ir_rereading.specs.Texts.{IsReading, HasFault}
 use Rattle.ir_formats.specs.Words.{token_text}
 use Rattle.ir_forest.specs.Language.{Language}
 use Rattle.ir_text.specs.Understood.{IsRead}
 use Rattle.ir_building.specs.Worlds.{IsLater, End, Means, Reaches}
 use Rattle.ir_scopes.proofs.Apart.{are_apart}
 use Rattle.ir_forest.proofs.BuiltTrees.{built_ended, built_forest, leads_nests}
-use Rattle.ir_trees.proofs.Closings.{mentions_end}
-use Rattle.ir_trees.proofs.DefinedTokens.{defined_tokens, many_defined, defined_site, mentioned_site, definitions_taken, mentions_taken}
-use Rattle.ir_trees.proofs.Renamed.{renamed_operation}
-use Rattle.ir_trees.proofs.TreeRenamed.{definitions_renamed}
-use Rattle.ir_trees.proofs.TreeScopes.{definition_tokens}
-use Rattle.ir_verdicts.proofs.TokensTaken.{reading_taken}
+use Rattle.ir_rereading.proofs.trees.Closings.{mentions_end}
+use Rattle.ir_rereading.proofs.trees.DefinedTokens.{defined_tokens, many_defined, defined_site, mentioned_site, definitions_taken, mentions_taken}
+use Rattle.ir_rereading.proofs.trees.Renamed.{renamed_operation}
+use Rattle.ir_rereading.proofs.trees.TreeRenamed.{definitions_renamed}
+use Rattle.ir_rereading.proofs.trees.TreeScopes.{definition_tokens}
+use Rattle.ir_rereading.proofs.verdicts.TokensTaken.{reading_taken}
 
 -- ---- lists of values, all made
 

@@ -31,7 +31,7 @@ pub use Rattle.ir_building.specs.Raised
 pub use Rattle.ir_building.specs.Makes
 pub use Rattle.ir_building.specs.Linking
 pub use Rattle.ir_assembling.specs.Assembling
-pub use Rattle.ir_verdicts.specs.Texts
-pub use Rattle.ir_layouts.specs.Printable
-pub use Rattle.ir_layouts.specs.Outer
+pub use Rattle.ir_rereading.specs.Texts
+pub use Rattle.ir_rereading.specs.Printable
+pub use Rattle.ir_rereading.specs.Outer
 pub mod Understood

@@ -8,7 +8,7 @@ use Rattle.ir_print.specs.Pieces.{Entity}
 use Rattle.ir_print.specs.Shown.{Saying}
 use Rattle.ir_print.specs.Standing.{StandsOperation, Named, AreDistinct, AreBelow}
 use Rattle.ir_forest.specs.Closed.{definitions_of}
-use Rattle.ir_verdicts.specs.Texts.{Says}
+use Rattle.ir_rereading.specs.Texts.{Says}
 use Rattle.ir_forest.specs.Language.{Language}
 
 -- The operation of the context is what the text says: it stands for a tree that the text says, whose definitions are values, no two of one number

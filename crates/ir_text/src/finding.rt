@@ -7,7 +7,7 @@ ghost use Rattle.ir_building.specs.declared.opened.AssemblyFault.TheVariants as 
 ghost use Rattle.ir_tokens.specs.declared.tokens.Token.{Token};
 ghost use Rattle.ir_tokens.specs.Faults.{IsNamed};
 ghost use Rattle.ir_scopes.specs.Scopes.{HasScopeFault, IsResolved, IsScopeFault};
-ghost use Rattle.ir_verdicts.specs.Texts.{IsSyntaxFault, HasFault, IsRefusal};
+ghost use Rattle.ir_rereading.specs.Texts.{IsSyntaxFault, HasFault, IsRefusal};
 ghost use Rattle.ir_formats.specs.Words.{token_text};
 ghost use Rattle.ir_forest.specs.Language.{Language};
 ghost use Rattle.ir_forest.specs.ValueFaults.{HasNumberFault, HasNamesFault};

@@ -5,7 +5,7 @@ ghost use Rattle.ir_store.specs.Marks.{CanRewind, KeepsBelow, IsSameTree, mark_o
 ghost use Rattle.ir_tokens.specs.declared.faults.TextFault.TheVariants.{Memory, CounterFull};
 ghost use Rattle.ir_building.specs.Linking.{CanLink, Links};
 ghost use Rattle.ir_building.specs.Raised.{AreWaiting};
-ghost use Rattle.ir_verdicts.specs.Texts.{language_of, HasDefinitions, IsReading, IsRefusal, place_of, tell};
+ghost use Rattle.ir_rereading.specs.Texts.{language_of, HasDefinitions, IsReading, IsRefusal, place_of, tell};
 ghost use Rattle.ir_text.specs.Understood.{IsRead};
 
 use crate::finding::{fault_of, scope_fault, value_fault};

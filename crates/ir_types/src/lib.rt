@@ -10,8 +10,3 @@ pub use dialect::DialectTables;
 pub use errors::{TypeInterfaceHandleErr, TypedHandleErr};
 pub use saved::SavedKey;
 pub use types::Types;
-
-#[cfg(test)]
-mod tests;
-#[cfg(test)]
-mod tiny;

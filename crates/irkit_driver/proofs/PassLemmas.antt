@@ -13,7 +13,7 @@ use Rattle.std.proofs.Common.{◌≤◌, append-nil}
 use Rattle.kit_dialect.specs.Machine.{State, Going, Ended, Trapped, Program, run, start, Shown, FollowsWithin}
 use Rattle.kit_dialect.specs.FlatView.{program_of}
 use Rattle.kit_dialect.specs.Passes.{AreAlike, size}
-use Rattle.kit_flow.proofs.Composed.{alike_trans}
+use Rattle.kit_programs.proofs.flow.Composed.{alike_trans}
 use Rattle.irkit_words.specs.declared.request.KitPass.{KitPass}
 use Rattle.irkit_driver.specs.Lists.{Meets, MeetsLast, IsAfter, HoldsAfter, FillsCounter, EndsPasses}
 

@@ -18,9 +18,9 @@ use Rattle.kit_dialect.specs.Passes.{IsSccp}
 use Rattle.kit_dialect.specs.Propagated.{HasValues, RunsSccp, FillsBySccp}
 use Rattle.kit_programs.proofs.Kept.{KeptModule}
 use Rattle.kit_programs.proofs.KeptFrom.{kept_module}
-use Rattle.kit_laws.proofs.KeptTo.{keeps_rules}
-use Rattle.kit_laws.proofs.PassAlike.{module_alike, module_goal, module_kept_after, module_numbered}
-use Rattle.kit_laws.proofs.PassClosed.{after_closed}
+use Rattle.kit_programs.proofs.sccp.KeptTo.{keeps_rules}
+use Rattle.kit_programs.proofs.sccp.PassAlike.{module_alike, module_goal, module_kept_after, module_numbered}
+use Rattle.kit_programs.proofs.sccp.PassClosed.{after_closed}
 use Rattle.irkit_words.specs.declared.request.KitPass.TheVariants.{Sccp}
 use Rattle.irkit_driver.specs.Lists.{IsAfter, HoldsModule, HoldsAfter, FillsCounter, EndsPasses}
 use Rattle.irkit_driver.specs.Texts.{kit_language}

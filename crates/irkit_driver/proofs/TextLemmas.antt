@@ -14,7 +14,7 @@ use Rattle.kit_dialect.specs.Readable.{says_types, says_attributes, says_operati
 use Rattle.kit_dialect.specs.Says.{says}
 use Rattle.kit_dialect.specs.Shapes.{KitContext}
 use Rattle.kit_dialect.specs.Texts.{formats, leads}
-use Rattle.kit_laws.proofs.Labels.{same_rules}
+use Rattle.kit_programs.proofs.sccp.Labels.{same_rules}
 use Rattle.irkit_words.specs.declared.request.KitPass.{KitPass}
 use Rattle.irkit_driver.specs.Lists.{HoldsModule, IsAfter}
 use Rattle.irkit_driver.specs.Outcomes.{Loads, RunGives}

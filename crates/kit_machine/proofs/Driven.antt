@@ -11,7 +11,7 @@ use Rattle.ir_print.specs.Shown.{Pairs}
 use Rattle.kit_machine.specs.declared.machine.Instruction.{Instruction}
 use Rattle.kit_machine.specs.declared.machine.Instruction.TheVariants as instructions
 use Rattle.kit_machine.specs.declared.machine.Code.{Code}
-use Rattle.kit_flow.specs.Machine.{Op, Const, Calc, Add, Leave, Block, Fun, Path, Program, Env, Frame, State, Going, Ended, bind, bind_all, ops_left, left_in, takes_in, deed, done, step, run}
+use Rattle.kit_programs.specs.Machine.{Op, Const, Calc, Add, Leave, Block, Fun, Path, Program, Env, Frame, State, Going, Ended, bind, bind_all, ops_left, left_in, takes_in, deed, done, step, run}
 use Rattle.kit_machine.specs.Code.{Slots, AreApart, HaveSlots, env_of, IsCode, at_operation, Binds, Drives, RunsCode}
 use Rattle.kit_machine.specs.Running.{OutcomeShows}
 use Rattle.kit_machine.specs.declared.outcome.Outcome.{Outcome}

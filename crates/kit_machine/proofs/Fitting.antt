@@ -21,7 +21,7 @@ use Rattle.kit_types.specs.declared.kinds.FunctionType.{FunctionType}
 use Rattle.kit_machine.specs.declared.machine.Code.{Code}
 use Rattle.kit_machine.specs.declared.outcome.Outcome.{Outcome}
 use Rattle.kit_machine.specs.declared.outcome.ExecFault.TheVariants.{WrongPath, WrongArguments}
-use Rattle.kit_flow.specs.Machine.{Fun}
+use Rattle.kit_programs.specs.Machine.{Fun}
 use Rattle.kit_machine.specs.Code.{IsFunction, RunsCode}
 use Rattle.kit_formats.specs.Says.{says, types_said}
 use Rattle.kit_formats.specs.Shapes as at

@@ -26,7 +26,7 @@ use Rattle.kit_types.specs.Rules as rules
 use Rattle.kit_types.specs.Rules.{Operation, FunctionTree, integer_type, listed_types}
 use Rattle.kit_rules.specs.Walks.{IsOwner}
 use Rattle.kit_programs.specs.FlatView.{is_name, is_named, first, body_of, module_at, function_at, fun_of, blocks_of}
-use Rattle.kit_flow.specs.Machine.{Path}
+use Rattle.kit_programs.specs.Machine.{Path}
 use Rattle.kit_machine.specs.Finding.{has_number, is_named_at, IsFound, FindsMember, LeftMembers, FindsModule, FindsFunction, LoadsFunction}
 use Rattle.kit_machine.specs.declared.machine.Code.{Code}
 use Rattle.kit_machine.specs.Code.{Slots, HaveSlots, IsCode, IsFunction}

@@ -24,7 +24,7 @@ use Rattle.kit_types.specs.declared.attributes.KitAttr.TheVariants as attrs
 use Rattle.kit_machine.specs.declared.machine.Instruction.{Instruction}
 use Rattle.kit_machine.specs.declared.machine.Instruction.TheVariants as instructions
 use Rattle.kit_machine.specs.declared.machine.Code.{Code}
-use Rattle.kit_flow.specs.Machine.{Op, Const, Calc, Add, Leave}
+use Rattle.kit_programs.specs.Machine.{Op, Const, Calc, Add, Leave}
 use Rattle.kit_programs.specs.FlatView.{width_of, constant_op, add_op, op_of, ops_of}
 use Rattle.kit_machine.specs.Code.{Slots, AreApart, HaveSlots, IsInstruction, IsWithin, AreWithin}
 use Rattle.kit_formats.specs.Says.{says, constant_value}

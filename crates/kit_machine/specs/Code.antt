@@ -7,7 +7,7 @@ use Rattle.kit_machine.specs.declared.machine.Instruction.{Instruction}
 use Rattle.kit_machine.specs.declared.machine.Instruction.TheVariants as instructions
 use Rattle.kit_machine.specs.declared.machine.Code.{Code}
 use Rattle.kit_machine.specs.declared.outcome.Outcome.{Outcome}
-use Rattle.kit_flow.specs.Machine.{Op, Const, Calc, Add, Leave, Fun, Path, Program, Env, State, Going, bind_all, left_in, takes_in, run, start}
+use Rattle.kit_programs.specs.Machine.{Op, Const, Calc, Add, Leave, Fun, Path, Program, Env, State, Going, bind_all, left_in, takes_in, run, start}
 use Rattle.kit_machine.specs.Running.{OutcomeShows}
 
 -- the slots of values; not all values need one

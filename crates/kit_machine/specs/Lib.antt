@@ -5,6 +5,6 @@ pub mod Finding
 pub use Rattle.kit_types.specs.Rules
 pub use Rattle.kit_formats.specs.Says
 pub use Rattle.kit_formats.specs.Shapes
-pub use Rattle.kit_flow.specs.Machine
+pub use Rattle.kit_programs.specs.Machine
 pub use Rattle.kit_rules.specs.Walks
 pub use Rattle.kit_programs.specs.FlatView

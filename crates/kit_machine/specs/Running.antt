@@ -13,7 +13,7 @@ use Rattle.kit_machine.specs.declared.outcome.Outcome.{Outcome}
 use Rattle.kit_machine.specs.declared.outcome.Outcome.TheVariants as outcomes
 use Rattle.kit_machine.specs.declared.outcome.ExecFault.{ExecFault}
 use Rattle.kit_machine.specs.declared.outcome.ExecFault.TheVariants.{Memory, WrongPath, WrongArguments}
-use Rattle.kit_flow.specs.Machine.{Frame, State, Going, Ended, Trapped, Path, run, start}
+use Rattle.kit_programs.specs.Machine.{Frame, State, Going, Ended, Trapped, Path, run, start}
 use Rattle.kit_programs.specs.FlatView.{function_at, type_at, width_of, program_of}
 use Rattle.kit_types.specs.Rules.{FunctionTree}
 

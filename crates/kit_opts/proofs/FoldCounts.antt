@@ -11,18 +11,18 @@ use Rattle.ir_print.specs.Pieces.{ValueTree, Pieces, operation, a_region, block,
 use Rattle.ir_print.specs.Shown.{Pairs}
 use Rattle.ir_print.specs.Standing.{StandsOperation, Named, AreDistinct, AreBelow}
 use Rattle.ir_text.specs.Closed.{names_of, definitions_of, all_definitions_of, IsNumbered}
-use Rattle.ir_layouts.proofs.PrintedDefinitions.{HaveValues, operation_has}
+use Rattle.ir_rereading.proofs.layouts.PrintedDefinitions.{HaveValues, operation_has}
 use Rattle.kit_opts.specs.declared.propagation.Folded.{Folded}
 use Rattle.kit_formats.specs.Shapes.{KitContext}
 use Rattle.kit_formats.specs.Says.{says}
-use Rattle.kit_flow.specs.Scopes.{In, AllIn, defs, all_defs}
-use Rattle.kit_flow.specs.Machine as machine
-use Rattle.kit_flow.specs.Machine.{bit, Const, Calc, Emit, Call, Go, Leave}
+use Rattle.kit_programs.specs.Scopes.{In, AllIn, defs, all_defs}
+use Rattle.kit_programs.specs.Machine as machine
+use Rattle.kit_programs.specs.Machine.{bit, Const, Calc, Emit, Call, Go, Leave}
 use Rattle.kit_programs.specs.FlatView.{ops_of, op_of, constant_op, add_op}
 use Rattle.kit_types.specs.Rules.{is_function, is_constant, is_add}
-use Rattle.kit_flow.specs.Constants.{Name, Old, New}
-use Rattle.kit_flow.proofs.FactsMade.{number_of_calc}
-use Rattle.kit_flow.proofs.Distinct.{NoTwice, none_twice}
+use Rattle.kit_programs.specs.Constants.{Name, Old, New}
+use Rattle.kit_programs.proofs.flow.FactsMade.{number_of_calc}
+use Rattle.kit_programs.proofs.flow.Distinct.{NoTwice, none_twice}
 use Rattle.kit_programs.proofs.PassNames.{times, times_append, news, numbered_once}
 use Rattle.kit_opts.proofs.FoldWalks.{Known, known_behind, own_pair, a_pair, pairs_over, FoldIs}
 use Rattle.kit_opts.proofs.FoldModules.{entry_ops, all_entry_ops}

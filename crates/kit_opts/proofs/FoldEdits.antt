@@ -18,7 +18,7 @@ use Rattle.kit_types.specs.declared.attributes.IntegerAttr.{IntegerAttr}
 use Rattle.kit_opts.specs.declared.propagation.Folded.{Folded}
 use Rattle.kit_formats.specs.Shapes.{KitContext, integer_at}
 use Rattle.kit_types.specs.Rules.{has_values}
-use Rattle.kit_flow.specs.Constants.{Made}
+use Rattle.kit_programs.specs.Constants.{Made}
 use Rattle.kit_opts.specs.Folding.{Numbers, Folds, folds_none, folds_more, folded, folds_at, sum_by, sum_of, numbers_after}
 use Rattle.kit_opts.proofs.FoldTables.{hit, later, folds_op, gives_value}
 

@@ -12,16 +12,16 @@ use Rattle.ir_store.specs.Pointer.{pointer_at}
 use Rattle.ir_print.specs.Pieces.{ValueTree, operation, a_region, block, Entity, entity, Entities, no_entity, an_entity}
 use Rattle.ir_print.specs.Standing.{StandsOperation, Named, AreDistinct, AreBelow}
 use Rattle.ir_text.specs.Closed.{names_of, definitions_of, all_definitions_of, IsNumbered}
-use Rattle.ir_trees.proofs.Renamed.{renamed_operation}
+use Rattle.ir_rereading.proofs.trees.Renamed.{renamed_operation}
 use Rattle.kit_opts.specs.declared.propagation.Folded.{Folded}
 use Rattle.kit_formats.specs.Shapes.{KitContext}
 use Rattle.kit_formats.specs.Says.{says}
-use Rattle.kit_flow.specs.Scopes.{In}
-use Rattle.kit_flow.specs.Constants.{Name, Old, New, Made}
+use Rattle.kit_programs.specs.Scopes.{In}
+use Rattle.kit_programs.specs.Constants.{Name, Old, New, Made}
 use Rattle.kit_types.specs.Rules.{is_add}
 use Rattle.kit_programs.specs.Passes.{put_one, put_results, old_values, FactsOf, with_constants_in, numbered_again, place_among}
 use Rattle.kit_opts.specs.Folding.{none_instead, after_folds}
-use Rattle.kit_flow.proofs.Distinct.{place_in, in_place, in_either}
+use Rattle.kit_programs.proofs.flow.Distinct.{place_in, in_place, in_either}
 use Rattle.kit_programs.proofs.PassNames.{olds}
 use Rattle.kit_programs.proofs.PassDefinitions.{olds_kept, constants_distinct}
 use Rattle.kit_programs.proofs.PassNumbers.{place_at, place_there, after_length}

@@ -23,11 +23,11 @@ use Rattle.kit_types.specs.declared.kinds.KitOp.TheVariants as kinds
 use Rattle.kit_types.specs.declared.kinds.IntegerType.{IntegerType}
 use Rattle.kit_types.specs.declared.attributes.KitAttr.{KitAttr}
 use Rattle.kit_opts.specs.declared.propagation.Folded.{Folded}
-use Rattle.kit_flow.specs.Machine as machine
-use Rattle.kit_flow.specs.Machine.{Path, Const, Calc, Emit, Call, Go, Leave, left_in, takes_in}
-use Rattle.kit_flow.specs.Scopes as scopes
-use Rattle.kit_flow.specs.Scopes.{In, all_defs, defs, entry_values, HasDistinctValues}
-use Rattle.kit_flow.specs.Constants.{calc_results, made_of}
+use Rattle.kit_programs.specs.Machine as machine
+use Rattle.kit_programs.specs.Machine.{Path, Const, Calc, Emit, Call, Go, Leave, left_in, takes_in}
+use Rattle.kit_programs.specs.Scopes as scopes
+use Rattle.kit_programs.specs.Scopes.{In, all_defs, defs, entry_values, HasDistinctValues}
+use Rattle.kit_programs.specs.Constants.{calc_results, made_of}
 use Rattle.kit_formats.specs.Says as says_of
 use Rattle.kit_formats.specs.Says.{says, one, only, constant_value, said_of_constant}
 use Rattle.kit_formats.specs.Shapes.{KitContext, is_symbol, number_of}
@@ -36,12 +36,12 @@ use Rattle.kit_types.specs.Rules.{is_module, is_function, has_values, integer_ty
 use Rattle.kit_rules.specs.Walks.{IsOwner}
 use Rattle.kit_programs.specs.FlatView as flat
 use Rattle.kit_programs.specs.FlatView.{is_named, first, body_of, module_at, function_at, ops_of, blocks_of, fun_of, width_of}
-use Rattle.kit_flow.specs.StraightFacts.{facts_of}
+use Rattle.kit_programs.specs.StraightFacts.{facts_of}
 use Rattle.kit_opts.specs.Folding as folding
 use Rattle.kit_opts.specs.Folding.{Straight, in_function, in_module, in_other, StraightAll, in_none, in_more, body_operations, bits_at, FoldsIn}
 use Rattle.kit_rules.proofs.Heads.{kind_number, results_stand, operands_stand, result_type}
 use Rattle.kit_programs.proofs.Kept.{IsValueType, KeptOperation, a_constant, an_addition, a_return, KeptOperations, KeptBody, KeptFunction, KeptModule, KeptMembers}
-use Rattle.kit_flow.proofs.Distinct.{NoTwice, Apart, in_front, in_back, none_twice, twice_none, front_once, back_once, once_apart}
+use Rattle.kit_programs.proofs.flow.Distinct.{NoTwice, Apart, in_front, in_back, none_twice, twice_none, front_once, back_once, once_apart}
 use Rattle.kit_programs.proofs.KeptFunctions.{body_kept, module_kept_at, function_kept_at, module_once, function_once, results_defined, values_defined}
 use Rattle.kit_programs.proofs.KeptPrograms.{numbered_distinct}
 use Rattle.kit_programs.proofs.FunctionScopes.{function_straight, function_uses}

@@ -19,7 +19,7 @@ use Rattle.kit_opts.specs.declared.propagation.Folded.{Folded}
 use Rattle.kit_formats.specs.Shapes.{KitContext, number_of, is_symbol}
 use Rattle.kit_formats.specs.Says.{says}
 use Rattle.kit_types.specs.Rules.{FunctionTree, is_function, results_after, is_none, names_after}
-use Rattle.kit_flow.specs.Machine as machine
+use Rattle.kit_programs.specs.Machine as machine
 use Rattle.kit_programs.specs.FlatView.{ops_of}
 use Rattle.kit_opts.specs.Folding.{Numbers, Folds, folds_none, Straight, StraightAll, in_function, in_module, in_other, in_none, in_more, body_operations, no_numbers, FoldsIn}
 use Rattle.kit_programs.proofs.Kept.{KeptOperation, a_constant, an_addition, a_return, KeptOperations, KeptBody, KeptFunction, KeptModule, KeptMembers}

@@ -21,11 +21,11 @@ use Rattle.kit_types.specs.declared.attributes.KitAttr.{KitAttr}
 use Rattle.kit_opts.specs.declared.propagation.Folded.{Folded}
 use Rattle.kit_formats.specs.Shapes.{KitContext}
 use Rattle.kit_formats.specs.Says.{says}
-use Rattle.kit_flow.specs.Scopes.{In}
-use Rattle.kit_flow.specs.Constants.{Name, New, Made}
+use Rattle.kit_programs.specs.Scopes.{In}
+use Rattle.kit_programs.specs.Constants.{Name, New, Made}
 use Rattle.kit_programs.specs.Passes.{put_one, put_results, old_values}
 use Rattle.kit_types.specs.Rules.{is_add}
-use Rattle.kit_flow.proofs.Distinct.{in_front, in_back, in_either}
+use Rattle.kit_programs.proofs.flow.Distinct.{in_front, in_back, in_either}
 use Rattle.kit_rules.proofs.Heads.{kind_number}
 use Rattle.kit_programs.proofs.EditedTrees.{own, put_everywhere, all_put_everywhere}
 use Rattle.kit_opts.proofs.FoldTables.{hit, hit_is, gives_value}

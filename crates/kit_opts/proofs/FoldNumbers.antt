@@ -1,14 +1,14 @@
 -- Which sums a table of numbers tells of operations that are gone through in order, and that they are the facts of a function without branches.
 use Rattle.std.proofs.Common.{◌≡◌, ℕ, Bool, true, false, nat_eq, if◌then◌else◌, ◌⊎◌, inl, inr, List, [], ◌∷◌, ◌++◌, Option, Some, None, refl, sym, ap, ap₂, ◌∙◌, subst, eqb-true, eq-eqb}
-use Rattle.kit_flow.specs.Machine.{Arith, Op, Const, Calc, Emit, Call, Go, Leave, Fun, left_in, takes_in}
-use Rattle.kit_flow.specs.Facts.{Known, Unknown, folds_to, number_of}
-use Rattle.kit_flow.specs.Scopes.{In, AllIn, defs, all_defs, entry_values, HasDistinctValues, OpsWith, BlocksWith, operands}
-use Rattle.kit_flow.specs.Constants.{calc_results, is_among, made_of}
+use Rattle.kit_programs.specs.Machine.{Arith, Op, Const, Calc, Emit, Call, Go, Leave, Fun, left_in, takes_in}
+use Rattle.kit_programs.specs.Facts.{Known, Unknown, folds_to, number_of}
+use Rattle.kit_programs.specs.Scopes.{In, AllIn, defs, all_defs, entry_values, HasDistinctValues, OpsWith, BlocksWith, operands}
+use Rattle.kit_programs.specs.Constants.{calc_results, is_among, made_of}
 use Rattle.kit_types.specs.Rules.{first_some}
-use Rattle.kit_flow.specs.StraightFacts.{AreStraight, IsStraight, KnownSoFar, note, after_arguments, after_operations, nothing_known, facts_of}
-use Rattle.kit_flow.proofs.Distinct.{NoTwice, Apart, in_front, in_back, in_either, back_once, once_apart, apart_later}
-use Rattle.kit_flow.proofs.BestFacts.{stays_past, entry_once}
-use Rattle.kit_flow.proofs.FactsMade.{number_of_calc, numbers_step, among_in, in_among, result_made, others_unmade}
+use Rattle.kit_programs.specs.StraightFacts.{AreStraight, IsStraight, KnownSoFar, note, after_arguments, after_operations, nothing_known, facts_of}
+use Rattle.kit_programs.proofs.flow.Distinct.{NoTwice, Apart, in_front, in_back, in_either, back_once, once_apart, apart_later}
+use Rattle.kit_programs.proofs.flow.BestFacts.{stays_past, entry_once}
+use Rattle.kit_programs.proofs.flow.FactsMade.{number_of_calc, numbers_step, among_in, in_among, result_made, others_unmade}
 
 -- ---- tables
 

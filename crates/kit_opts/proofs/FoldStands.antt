@@ -24,8 +24,8 @@ use Rattle.kit_types.specs.declared.attributes.IntegerAttr.{IntegerAttr}
 use Rattle.kit_types.specs.declared.attributes.KitAttr.{KitAttr}
 use Rattle.kit_types.specs.declared.attributes.KitAttr.TheVariants as attrs
 use Rattle.kit_opts.specs.declared.propagation.Folded.{Folded}
-use Rattle.kit_flow.specs.Machine as machine
-use Rattle.kit_flow.specs.Machine.{Const, Calc, Emit, Call, Go, Leave}
+use Rattle.kit_programs.specs.Machine as machine
+use Rattle.kit_programs.specs.Machine.{Const, Calc, Emit, Call, Go, Leave}
 use Rattle.kit_types.specs.Numbers.{printed_number, HasFittingBits}
 use Rattle.kit_formats.specs.Says as says_of
 use Rattle.kit_formats.specs.Says.{says, one, two, only, integer_said, constant_value, said_of_constant}
@@ -36,7 +36,7 @@ use Rattle.kit_programs.specs.FlatView as flat
 use Rattle.kit_opts.specs.Folding as folding
 use Rattle.kit_opts.specs.Folding.{Numbers, Folds, folds_none, folds_more, folded, folds_at, gives_at, sum_at, sum_by, sum_of, bits_at, noted, numbers_after}
 use Rattle.kit_formats.proofs.Printed.{printed_modulo}
-use Rattle.kit_flow.proofs.FactsMade.{number_of_calc}
+use Rattle.kit_programs.proofs.flow.FactsMade.{number_of_calc}
 use Rattle.kit_opts.proofs.FoldTables.{hit, later, gives_value}
 use Rattle.kit_opts.proofs.FoldEdits.{number_for}
 use Rattle.kit_opts.proofs.FoldNumbers.{Table, sum_given, behind, sums, first_none}

@@ -30,12 +30,12 @@ use Rattle.kit_formats.specs.Says as says_of
 use Rattle.kit_formats.specs.Says.{says, one, two, only, constant_value, said_of_constant, said_of_attribute, integer_said}
 use Rattle.kit_formats.specs.Seen.{one_seen, two_seen}
 use Rattle.kit_types.specs.Rules.{has_values, integer_type}
-use Rattle.kit_flow.specs.Machine as machine
-use Rattle.kit_flow.specs.Machine.{Const, Calc, Leave}
+use Rattle.kit_programs.specs.Machine as machine
+use Rattle.kit_programs.specs.Machine.{Const, Calc, Leave}
 use Rattle.kit_programs.specs.FlatView.{ops_of, width_of}
 use Rattle.kit_programs.specs.FlatView as flat
 use Rattle.kit_opts.specs.Folding.{Numbers, Folds, folded, folds_at, gives_at, bits_at, bits_of, sum_by, sum_of, noted, numbers_after}
-use Rattle.kit_flow.proofs.FactsMade.{number_of_calc}
+use Rattle.kit_programs.proofs.flow.FactsMade.{number_of_calc}
 use Rattle.kit_programs.proofs.Kept.{IsValueType}
 use Rattle.kit_rules.proofs.Heads.{kind_number}
 use Rattle.kit_rules.proofs.Shown.{integer_shown}

@@ -14,10 +14,10 @@ use Rattle.ir_print.specs.Standing.{Named, AreDistinct}
 use Rattle.kit_types.specs.declared.kinds.KitOp.{KitOp}
 use Rattle.kit_opts.specs.declared.propagation.Folded.{Folded}
 use Rattle.kit_formats.specs.Shapes.{KitContext}
-use Rattle.kit_flow.specs.Machine as machine
-use Rattle.kit_flow.specs.Machine.{Const, Calc, Emit, Call, Go, Leave}
+use Rattle.kit_programs.specs.Machine as machine
+use Rattle.kit_programs.specs.Machine.{Const, Calc, Emit, Call, Go, Leave}
 use Rattle.kit_opts.specs.Folding.{Numbers, Folds, folds_more, folded, folds_at, noted, numbers_after}
-use Rattle.kit_flow.proofs.FactsMade.{number_of_calc}
+use Rattle.kit_programs.proofs.flow.FactsMade.{number_of_calc}
 use Rattle.kit_opts.proofs.FoldEdits.{same_handle}
 
 -- ---- numbers of the tree

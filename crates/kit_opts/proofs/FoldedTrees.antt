@@ -28,7 +28,7 @@ use Rattle.kit_formats.specs.Says as says_of
 use Rattle.kit_formats.specs.Says.{says, one, integer_said, only}
 use Rattle.kit_formats.specs.Shapes.{KitContext}
 use Rattle.kit_types.specs.Rules.{has_values, integer_type, is_add}
-use Rattle.kit_flow.specs.Constants.{Name, Old, New, Made, use_of, constant_of}
+use Rattle.kit_programs.specs.Constants.{Name, Old, New, Made, use_of, constant_of}
 use Rattle.kit_programs.specs.Passes.{put_results, put_one, a_constant, constant_pieces, integer_pieces}
 use Rattle.kit_opts.specs.Folding.{none_instead, none_made, after_folds}
 use Rattle.kit_rules.proofs.Shown.{integer_shown}

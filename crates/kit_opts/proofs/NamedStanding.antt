@@ -12,12 +12,12 @@ use Rattle.ir_print.specs.Pieces.{type_of_kind, attribute_of_kind, list, item, o
 use Rattle.ir_print.specs.Shown.{types_of_results}
 use Rattle.ir_print.specs.Standing.{StandsOperation, StandsRegions, StandsBlocks, StandsOperations}
 use Rattle.ir_text.specs.Closed.{FitsTree, FitTrees, IsNumbered, definitions_of}
-use Rattle.kit_flow.specs.Machine.{Path}
-use Rattle.kit_flow.specs.Scopes.{In}
-use Rattle.kit_flow.specs.Constants.{Made, made_of}
+use Rattle.kit_programs.specs.Machine.{Path}
+use Rattle.kit_programs.specs.Scopes.{In}
+use Rattle.kit_programs.specs.Constants.{Made, made_of}
 use Rattle.kit_programs.specs.FlatView.{function_at, fun_of}
 use Rattle.kit_programs.specs.Passes.{with_constants_in}
-use Rattle.kit_flow.specs.StraightFacts.{facts_of}
+use Rattle.kit_programs.specs.StraightFacts.{facts_of}
 use Rattle.kit_types.specs.Rules.{is_symbol, symbol_of}
 use Rattle.kit_formats.specs.Shapes.{KitContext}
 use Rattle.kit_formats.specs.Says.{says, values, refused_unless, refused_operation, is_name, is_type, is_region, are_two, are_three}

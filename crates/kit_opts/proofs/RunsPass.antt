@@ -11,10 +11,10 @@ use Rattle.ir_text.specs.Closed.{definitions_of, IsNumbered}
 use Rattle.kit_opts.specs.declared.propagation.Folded.{Folded}
 use Rattle.kit_formats.specs.Shapes.{KitContext}
 use Rattle.kit_formats.specs.Says.{says, values}
-use Rattle.kit_flow.specs.Scopes.{In}
-use Rattle.kit_flow.specs.Constants.{Name, New}
+use Rattle.kit_programs.specs.Scopes.{In}
+use Rattle.kit_programs.specs.Constants.{Name, New}
 use Rattle.kit_opts.specs.Folding.{FoldsIn, no_numbers, after_folds}
-use Rattle.kit_flow.specs.StraightFacts.{facts_of}
+use Rattle.kit_programs.specs.StraightFacts.{facts_of}
 use Rattle.kit_programs.specs.Passes.{IsSccp, with_constants_in, numbered_again}
 use Rattle.kit_opts.specs.Propagated.{HasValues, RunsSccp, FillsBySccp}
 use Rattle.kit_programs.proofs.Kept.{KeptModule}

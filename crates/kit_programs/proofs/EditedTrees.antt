@@ -13,7 +13,7 @@ use Rattle.ir_store.specs.Rewriting.{with_operands, with_put, put_in, put_one}
 use Rattle.ir_print.specs.Pieces.{ValueTree, Pieces, operation, a_region, block, Entity, entity, Entities, no_entity, an_entity}
 use Rattle.ir_print.specs.Shown.{Saying, Pairs, ShowsAll, ShowsType, types_of_results}
 use Rattle.ir_print.specs.Standing.{StandsHead, StandsLabel, StandsResult, StandsArgument, StandsOperation, StandsRegion, StandsBlock, StandsRegions, StandsBlocks, StandsOperations}
-use Rattle.kit_flow.specs.Constants.{Name, Old, Made, use_of}
+use Rattle.kit_programs.specs.Constants.{Name, Old, Made, use_of}
 use Rattle.kit_types.specs.Rules.{is_add}
 use Rattle.kit_programs.specs.Passes.{put_results, old_values}
 

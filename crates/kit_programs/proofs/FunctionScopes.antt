@@ -7,15 +7,15 @@ use Rattle.ir_print.specs.Pieces.{attribute_of_kind, number, width, ValueTree, P
 use Rattle.ir_text.specs.Closed.{all_definitions_of, names_of}
 use Rattle.kit_types.specs.declared.kinds.IntegerType.{IntegerType}
 use Rattle.kit_types.specs.Numbers.{number_modulo}
-use Rattle.kit_flow.specs.Machine.{Op, Const, Calc, Emit, Call, Go, Leave, Fun, left_in, takes_in}
-use Rattle.kit_flow.specs.Scopes as scopes
-use Rattle.kit_flow.specs.Scopes.{In, AllIn, defs, all_defs, entry_values, at_start, OpScoped, OpsWith, BlocksWith}
+use Rattle.kit_programs.specs.Machine.{Op, Const, Calc, Emit, Call, Go, Leave, Fun, left_in, takes_in}
+use Rattle.kit_programs.specs.Scopes as scopes
+use Rattle.kit_programs.specs.Scopes.{In, AllIn, defs, all_defs, entry_values, at_start, OpScoped, OpsWith, BlocksWith}
 use Rattle.kit_types.specs.Rules.{FunctionTree, same_integer, has_values, integer_type, integer_of_constant, lookup, first_some, define, define_results, results_after, values_of, is_none}
 use Rattle.kit_programs.specs.FlatView.{bits_of, ops_of, blocks_of, fun_of}
-use Rattle.kit_flow.specs.StraightFacts.{AreStraight, IsStraight, FitWords, HasWords}
+use Rattle.kit_programs.specs.StraightFacts.{AreStraight, IsStraight, FitWords, HasWords}
 use Rattle.kit_programs.proofs.Kept.{Sees, SeesAll, KeptOperation, a_constant, an_addition, a_return, KeptOperations, KeptBlock, KeptBlocks, KeptBody, KeptFunction}
 use Rattle.kit_programs.proofs.Tested.{first_holds, second_holds}
-use Rattle.kit_flow.proofs.Distinct.{in_front, in_back}
+use Rattle.kit_programs.proofs.flow.Distinct.{in_front, in_back}
 use Rattle.kit_programs.proofs.KeptFunctions.{results_defined}
 
 -- ---- straight functions

@@ -2,13 +2,13 @@
 use Rattle.std.proofs.Common.{◌≡◌, ℕ, Bool, true, false, if◌then◌else◌, ◌⊎◌, inl, inr, List, [], ◌∷◌, ◌++◌, Option, Some, None, option_and_then, refl, sym, ap, ◌∙◌, subst, append-nil}
 use Rattle.ir_print.specs.Pieces.{ValueTree, operation, a_region, block, Entity, entity, Entities, no_entity, an_entity}
 use Rattle.ir_text.specs.Closed.{definitions_of, all_definitions_of, names_of}
-use Rattle.kit_flow.specs.Machine.{Path}
-use Rattle.kit_flow.specs.Scopes as scopes
-use Rattle.kit_flow.specs.Scopes.{In, AllIn, defs, all_defs, HasDistinctValues, entry_values, at_start, OpScoped, OpsWith, BlocksWith}
+use Rattle.kit_programs.specs.Machine.{Path}
+use Rattle.kit_programs.specs.Scopes as scopes
+use Rattle.kit_programs.specs.Scopes.{In, AllIn, defs, all_defs, HasDistinctValues, entry_values, at_start, OpScoped, OpsWith, BlocksWith}
 use Rattle.kit_types.specs.Rules.{FunctionTree, is_module, is_function, define, names_after, results_after, values_of, is_none}
 use Rattle.kit_programs.specs.FlatView.{body_of, is_named, first, module_at, function_at, type_of_function, type_at, ops_of, blocks_of, fun_of}
 use Rattle.kit_programs.proofs.Kept.{KeptOperation, a_constant, an_addition, a_return, KeptOperations, KeptBlock, KeptBlocks, KeptBody, KeptFunction, KeptModule, KeptMembers}
-use Rattle.kit_flow.proofs.Distinct.{NoTwice, front_once, back_once}
+use Rattle.kit_programs.proofs.flow.Distinct.{NoTwice, front_once, back_once}
 
 -- ---- where functions stand
 

@@ -2,17 +2,17 @@
 use Rattle.std.proofs.Common.{◌≡◌, ℕ, [], Option, Some, None, option_map, refl, sym, ap, ◌∙◌, subst}
 use Rattle.ir_print.specs.Pieces.{operation, a_region, block, Entity, entity, Entities, no_entity, an_entity}
 use Rattle.ir_text.specs.Closed.{definitions_of, AllDistinct, IsNumbered}
-use Rattle.kit_flow.specs.Machine.{Fun, Path}
-use Rattle.kit_flow.specs.Scopes.{AllIn, HasDistinctValues, OpScoped, BlocksWith, operands}
+use Rattle.kit_programs.specs.Machine.{Fun, Path}
+use Rattle.kit_programs.specs.Scopes.{AllIn, HasDistinctValues, OpScoped, BlocksWith, operands}
 use Rattle.kit_programs.specs.FlatView.{function_at, fun_of, program_of, blocks_of}
-use Rattle.kit_flow.specs.Facts.{IsMostPrecise}
+use Rattle.kit_programs.specs.Facts.{IsMostPrecise}
 use Rattle.kit_programs.specs.Passes.{AreBest}
-use Rattle.kit_flow.specs.StraightFacts.{IsStraight, HasWords, facts_of}
+use Rattle.kit_programs.specs.StraightFacts.{IsStraight, HasWords, facts_of}
 use Rattle.kit_programs.proofs.Kept.{KeptFunction, KeptModule, KeptBody}
-use Rattle.kit_flow.proofs.Distinct.{NoTwice, none_twice, twice_none, numbers_distinct}
+use Rattle.kit_programs.proofs.flow.Distinct.{NoTwice, none_twice, twice_none, numbers_distinct}
 use Rattle.kit_programs.proofs.KeptFunctions.{function_kept_at, function_once, values_defined}
 use Rattle.kit_programs.proofs.FunctionScopes.{function_straight, function_fits, function_uses, function_scoped}
-use Rattle.kit_flow.proofs.BestFacts.{best_facts}
+use Rattle.kit_programs.proofs.flow.BestFacts.{best_facts}
 
 -- a function of the program is that of an entity
 found_function : (o : Option (Entity ℕ)) (f : Fun ℕ) → option_map fun_of o ≡ Some f → (t : Entity ℕ) × (o ≡ Some t) × (fun_of t ≡ f)

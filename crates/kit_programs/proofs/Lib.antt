@@ -1,3 +1,5 @@
+pub mod sccp
+pub mod flow
 pub mod Kept
 pub mod FunctionScopes
 pub mod KeptFrom

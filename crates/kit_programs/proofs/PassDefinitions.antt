@@ -4,9 +4,9 @@ use Rattle.std.proofs.lemmas.List.{map-append}
 use Rattle.ir_print.specs.Pieces.{ValueTree, Pieces, operation, a_region, block, Entity, entity, Entities, no_entity, an_entity}
 use Rattle.ir_text.specs.Meaning.{renamed, all_renamed}
 use Rattle.ir_text.specs.Closed.{AllDistinct, names_of, definitions_of, all_definitions_of, IsNumbered}
-use Rattle.ir_trees.proofs.TreeRenamed.{definitions_renamed, all_definitions_renamed}
-use Rattle.kit_flow.specs.Machine.{bit}
-use Rattle.kit_flow.specs.Constants.{Name, Old, Made, use_of, made_of}
+use Rattle.ir_rereading.proofs.trees.TreeRenamed.{definitions_renamed, all_definitions_renamed}
+use Rattle.kit_programs.specs.Machine.{bit}
+use Rattle.kit_programs.specs.Constants.{Name, Old, Made, use_of, made_of}
 use Rattle.kit_types.specs.Rules.{is_function, is_add}
 use Rattle.kit_programs.specs.FlatView.{fun_of}
 use Rattle.kit_programs.specs.Passes.{FactsOf, put_one, put_results, put_arguments, old_values, put_operations, put_blocks, put_regions, with_constants_in, all_with_constants}

@@ -4,10 +4,10 @@ use Rattle.std.specs.List.{range_with_len}
 use Rattle.std.proofs.lemmas.Bool.{eq-eqb, eqb-true}
 use Rattle.ir_print.specs.Pieces.{Entity}
 use Rattle.ir_text.specs.Closed.{AllDistinct, definitions_of, IsNumbered}
-use Rattle.ir_trees.proofs.TreeRenamed.{definitions_renamed}
-use Rattle.kit_flow.specs.Renaming.{StaysApart}
-use Rattle.kit_flow.specs.Scopes.{In}
-use Rattle.kit_flow.specs.Constants.{Name, Old, New, same_name}
+use Rattle.ir_rereading.proofs.trees.TreeRenamed.{definitions_renamed}
+use Rattle.kit_programs.specs.Renaming.{StaysApart}
+use Rattle.kit_programs.specs.Scopes.{In}
+use Rattle.kit_programs.specs.Constants.{Name, Old, New, same_name}
 use Rattle.kit_programs.specs.Passes.{FactsOf, with_constants_in, place_among, numbered_again}
 use Rattle.kit_programs.proofs.PassNames.{news}
 use Rattle.kit_programs.proofs.PassDefinitions.{constants_distinct, constants_counted}

@@ -3,17 +3,17 @@ use Rattle.std.proofs.Common.{◌≡◌, ℕ, ◌==◌, eqb-true, ◌&&◌, ◌|
 use Rattle.std.proofs.lemmas.Slice.Eq.{bytes_eq-Decides}
 use Rattle.ir_print.specs.Pieces.{ValueTree, Pieces, operation, a_region, block, Entity, entity, Entities, no_entity, an_entity}
 use Rattle.ir_text.specs.Closed.{names_of, definitions_of, all_definitions_of, AllDistinct}
-use Rattle.kit_flow.specs.Machine.{Op, Const, Calc, Emit, Call, Go, Leave, Path}
-use Rattle.kit_flow.specs.Scopes.{In, all_defs}
-use Rattle.kit_flow.specs.Constants.{Name, Old, Made, constant_of, use_of, calc_results, made_of}
+use Rattle.kit_programs.specs.Machine.{Op, Const, Calc, Emit, Call, Go, Leave, Path}
+use Rattle.kit_programs.specs.Scopes.{In, all_defs}
+use Rattle.kit_programs.specs.Constants.{Name, Old, Made, constant_of, use_of, calc_results, made_of}
 use Rattle.kit_types.specs.Rules.{FunctionTree, lookup, first_some, is_module, is_function, is_symbol, is_add, symbol_of, is_taken, put_first, define, results_after, names_after, define_results, values_of, is_none}
 use Rattle.kit_programs.specs.FlatView.{body_of, is_name, is_named, first, module_at, function_at, ops_of, blocks_of, fun_of}
 use Rattle.kit_programs.specs.Passes.{put_one, put_results, put_arguments, old_values, put_operations, put_blocks, with_constants_in, all_with_constants}
-use Rattle.kit_flow.specs.StraightFacts.{facts_of}
+use Rattle.kit_programs.specs.StraightFacts.{facts_of}
 use Rattle.kit_programs.proofs.Kept.{Sees, SeesAll, KeptOperation, a_constant, an_addition, a_return, KeptOperations, KeptBlock, KeptBlocks, KeptBody, KeptFunction, IsFreshIn, KeptModule, KeptMembers}
-use Rattle.kit_flow.proofs.Distinct.{NoTwice, none_twice, twice_none, front_once, back_once, once_apart, in_front, in_back}
+use Rattle.kit_programs.proofs.flow.Distinct.{NoTwice, none_twice, twice_none, front_once, back_once, once_apart, in_front, in_back}
 use Rattle.kit_programs.proofs.KeptFunctions.{results_defined, body_defined}
-use Rattle.kit_flow.proofs.FactsMade.{others_unmade}
+use Rattle.kit_programs.proofs.flow.FactsMade.{others_unmade}
 use Rattle.kit_programs.proofs.EditedTrees.{own_of, put_everywhere, all_put_everywhere}
 
 -- ---- numbers that are the same

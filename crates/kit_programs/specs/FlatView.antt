@@ -3,7 +3,7 @@ use Rattle.std.specs.Prelude.{ℕ, zero, ◌&&◌, Bool, false, List, [], ◌∷
 use Rattle.std.specs.Option.{option_map_or}
 use Rattle.ir_names.specs.Tree.{node, no_tree, a_tree}
 use Rattle.ir_print.specs.Pieces.{attribute_of_kind, number, width, ValueTree, Pieces, operation, a_region, block, Entity, entity, Entities, no_entity, an_entity}
-use Rattle.kit_flow.specs.Machine.{Op, Const, Calc, Add, Leave, Fun, Path, Program}
+use Rattle.kit_programs.specs.Machine.{Op, Const, Calc, Add, Leave, Fun, Path, Program}
 use Rattle.kit_types.specs.Numbers.{number_modulo}
 use Rattle.kit_types.specs.Rules.{FunctionTree, is_module, is_function, is_constant, is_add, integer_type, symbol_of, function_type}
 

@@ -1,7 +1,10 @@
+pub mod Machine
+pub mod Renaming
+pub mod Scopes
+pub mod Facts
+pub mod Constants
+pub mod StraightFacts
 pub mod FlatView
 pub mod Passes
 pub use Rattle.kit_types.specs.Numbers
 pub use Rattle.kit_types.specs.Rules
-pub use Rattle.kit_flow.specs.Constants
-pub use Rattle.kit_flow.specs.Facts
-pub use Rattle.kit_flow.specs.Machine

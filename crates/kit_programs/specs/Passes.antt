@@ -6,9 +6,9 @@ use Rattle.ir_print.specs.Pieces.{attribute_of_kind, number, width, ValueTree, P
 use Rattle.ir_text.specs.Closed.{definitions_of}
 use Rattle.ir_text.specs.Meaning.{renamed_head, renamed, all_renamed}
 use Rattle.kit_types.specs.declared.kinds.IntegerType.{IntegerType}
-use Rattle.kit_flow.specs.Machine.{Fun, Path, Alike}
-use Rattle.kit_flow.specs.Facts.{Facts, IsMostPrecise}
-use Rattle.kit_flow.specs.Constants.{Name, Old, New, same_name, Made, use_of, made_of, UsesConstants}
+use Rattle.kit_programs.specs.Machine.{Fun, Path, Alike}
+use Rattle.kit_programs.specs.Facts.{Facts, IsMostPrecise}
+use Rattle.kit_programs.specs.Constants.{Name, Old, New, same_name, Made, use_of, made_of, UsesConstants}
 use Rattle.kit_types.specs.Numbers.{number_of_bits}
 use Rattle.kit_types.specs.Rules.{is_function, is_add, integer_type}
 use Rattle.kit_programs.specs.FlatView.{fun_of, program_of, type_at}

@@ -7,4 +7,4 @@ insert_after-requires-clause-unlinked g c = (c.can_stand.ensures.0 c.if-not-can_
 pub returns : goal.returns
 returns g c =
     let stands = c.can_stand.ensures.0 c.if-not-can_stand.false in
-    ((stands.0, stands.1, c.is_linked.ensures.linked.0 c.if-not-is_linked.false, λ s. true≢false (sym (c.is_inside.ensures.1 s) ∙ c.if-is_inside.false)), (refl, c.insert_after.ensures.edited, record { values = c.insert_after.ensures.values; counter = c.insert_after.ensures.counter; types = c.insert_after.ensures.types }))
+    ((stands.0, stands.1, c.is_linked.ensures.linked.0 c.if-not-is_linked.false, λ s. true≢false (sym (c.is_inside.ensures.1 s) ∙ c.if-is_inside.false)), (refl, c.insert_after.ensures.edited, record { values = c.insert_after.ensures.values; types = c.insert_after.ensures.types }))

@@ -7,4 +7,4 @@ insert_at_front-requires-clause-unlinked g c = (c.can_stand.ensures.0 c.if-not-c
 pub returns : goal.returns
 returns g c =
     let stands = c.can_stand.ensures.0 c.if-not-can_stand.false in
-    ((stands.0, stands.1, sym c.is_live.ensures ∙ c.if-not-is_live.false, λ s. true≢false (sym (c.is_inside.ensures.1 s) ∙ c.if-is_inside.false)), (refl, c.insert_at_front.ensures.edited, record { values = c.insert_at_front.ensures.values; counter = c.insert_at_front.ensures.counter; types = c.insert_at_front.ensures.types }))
+    ((stands.0, stands.1, sym c.is_live.ensures ∙ c.if-not-is_live.false, λ s. true≢false (sym (c.is_inside.ensures.1 s) ∙ c.if-is_inside.false)), (refl, c.insert_at_front.ensures.edited, record { values = c.insert_at_front.ensures.values; types = c.insert_at_front.ensures.types }))

@@ -10,6 +10,6 @@ returns g c = (
     c.move_to_op.ensures.elsewhere,
     c.move_to_op.ensures.within,
     moved_erased c.args.ctx.now.program c.move_to_op.new.ctx.program c.args.region c.args.op c.get_parent_op-holder.ensures.stands.0 c.get_parent_op-holder.ensures.stands.2 c.move_to_op.ensures.elsewhere c.move_to_op.ensures.within,
-    record { values = c.move_to_op.ensures.values; counter = c.move_to_op.ensures.counter; types = c.move_to_op.ensures.types },
+    record { values = c.move_to_op.ensures.values; types = c.move_to_op.ensures.types },
   ),
 )

@@ -28,7 +28,6 @@ returns g c = (
         c.replace_uses_with-succeeds.ensures.replaced,
     record {
       values = c.replace_uses_with-succeeds.ensures.values;
-      counter = c.replace_uses_with-succeeds.ensures.counter;
       types = c.replace_uses_with-succeeds.ensures.types;
     },
   ),

@@ -28,7 +28,6 @@ returns g c = (
         c.retarget_preds_to-succeeds.ensures.retargeted,
     record {
       values = c.retarget_preds_to-succeeds.ensures.values;
-      counter = c.retarget_preds_to-succeeds.ensures.counter;
       types = c.retarget_preds_to-succeeds.ensures.types;
     },
   ),

@@ -1,6 +1,6 @@
 use Rattle.std.proofs.Common.{◌≡◌, length, arith, subst}
 use Rattle.std.proofs.lemmas.Option.{slice_get-get_or}
-use Rattle.ir_program.proofs.ForgetSteps.{forget-defined, forget-unnamed, forget-next, forget-begins, forget-over, ForgetsTo}
+use Rattle.ir_program.proofs.erased.ForgetSteps.{forget-defined, forget-unnamed, forget-next, forget-begins, forget-over, ForgetsTo}
 use Rattle.ir_program.proofs.forgetting.forget_all.Goals as goal
 
 pub loop-definition-init : goal.loop-definition-init

@@ -1,4 +1,4 @@
-use Rattle.ir_program.proofs.ForgetSteps.{ForgetsTo}
+use Rattle.ir_program.proofs.erased.ForgetSteps.{ForgetsTo}
 use Rattle.ir_program.proofs.forgetting.forget_all.Given as goal
 
 abbrev pub invariant-loop-definition : goal.invariant-loop-definition

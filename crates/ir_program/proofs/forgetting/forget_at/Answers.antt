@@ -1,4 +1,4 @@
-use Rattle.ir_program.proofs.ForgetThreads.{block-thread-in}
+use Rattle.ir_program.proofs.erased.ForgetThreads.{block-thread-in}
 use Rattle.ir_program.proofs.forgetting.forget_at.Goals as goal
 
 pub forget-requires-clause-unused : goal.forget-requires-clause-unused

@@ -1,6 +1,6 @@
 use Rattle.ir_program.specs.Erases.{value_place, block_place}
-use Rattle.ir_program.proofs.ForgetThreads.{values-at, blocks-at}
-use Rattle.ir_program.proofs.ForgetWalks.{at-first, all-first, at-next, at-less, unnamed-here, step-here, forgets-begins}
+use Rattle.ir_program.proofs.erased.ForgetThreads.{values-at, blocks-at}
+use Rattle.ir_program.proofs.erased.ForgetWalks.{at-first, all-first, at-next, at-less, unnamed-here, step-here, forgets-begins}
 use Rattle.ir_program.proofs.forgetting.forget_inside.Goals as goal
 
 pub places-init : goal.places-init

@@ -2,7 +2,7 @@ use Rattle.std.proofs.Common.{length}
 use Rattle.ir_entities.specs.Forest.{shape_of}
 use Rattle.ir_entities.specs.Walk.{places_from, walk_of}
 use Rattle.ir_program.specs.Erases.{value_place, block_place}
-use Rattle.ir_program.proofs.ForgetWalks.{IsAt, ForgetsUpTo}
+use Rattle.ir_program.proofs.erased.ForgetWalks.{IsAt, ForgetsUpTo}
 use Rattle.ir_program.proofs.forgetting.forget_inside.Given as goal
 
 abbrev pub invariant-places : goal.invariant-places

@@ -2,8 +2,8 @@ use Rattle.std.proofs.Common.{◌∙◌, IsSome, get_or, sym, subst}
 use Rattle.std.proofs.lemmas.List.{take_more}
 use Rattle.std.proofs.lemmas.Option.{slice_get-get_or}
 use Rattle.ir_entities.specs.Uses.{place_of}
-use Rattle.ir_program.proofs.Slotted.{at_has}
-use Rattle.ir_program.proofs.Renames.{RenamesEach, still_place, rename-one}
+use Rattle.ir_program.proofs.lists.Slotted.{at_has}
+use Rattle.ir_program.proofs.used.Renames.{RenamesEach, still_place, rename-one}
 use Rattle.ir_program.proofs.replacing.rename_each.Goals as goal
 
 pub rename-requires-clause-place : goal.rename-requires-clause-place

@@ -1,6 +1,6 @@
 use Rattle.std.proofs.Common.{◌≡◌, take}
 use Rattle.ir_entities.specs.Uses.{place_of}
-use Rattle.ir_program.proofs.Renames.{RenamesEach}
+use Rattle.ir_program.proofs.used.Renames.{RenamesEach}
 use Rattle.ir_program.proofs.replacing.rename_each.Given as goal
 
 abbrev pub invariant-loop-place : goal.invariant-loop-place

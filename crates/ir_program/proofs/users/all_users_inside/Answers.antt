@@ -3,8 +3,8 @@ use Rattle.std.proofs.lemmas.Option.{slice_get-get_or}
 use Rattle.ir_entities.specs.Forest.{shape_of}
 use Rattle.ir_program.specs.UsersInside.{AreUsersInside}
 use Rattle.ir_program.specs.declared.records.Definition.{Definition}
-use Rattle.ir_program.proofs.ForgetSteps.{has-thread}
-use Rattle.ir_program.proofs.UserWalks.{each-thread, one-more}
+use Rattle.ir_program.proofs.erased.ForgetSteps.{has-thread}
+use Rattle.ir_program.proofs.used.UserWalks.{each-thread, one-more}
 use Rattle.ir_program.proofs.users.all_users_inside.Goals as goal
 
 pub users_inside-requires-clause-defined : goal.users_inside-requires-clause-defined

@@ -1,5 +1,5 @@
-use Rattle.ir_program.proofs.ForgetWalks.{at-first, at-next, at-less}
-use Rattle.ir_program.proofs.UserWalks.{apart-begins, apart-next}
+use Rattle.ir_program.proofs.erased.ForgetWalks.{at-first, at-next, at-less}
+use Rattle.ir_program.proofs.used.UserWalks.{apart-begins, apart-next}
 use Rattle.ir_program.proofs.users.is_apart.Goals as goal
 
 pub places-init : goal.places-init

@@ -1,7 +1,7 @@
 use Rattle.std.proofs.Common.{length}
 use Rattle.ir_entities.specs.Walk.{places_from, walk_of}
-use Rattle.ir_program.proofs.UserWalks.{IsApartUpTo}
-use Rattle.ir_program.proofs.ForgetWalks.{IsAt}
+use Rattle.ir_program.proofs.used.UserWalks.{IsApartUpTo}
+use Rattle.ir_program.proofs.erased.ForgetWalks.{IsAt}
 use Rattle.ir_program.proofs.users.is_apart.Given as goal
 
 abbrev pub invariant-places : goal.invariant-places

@@ -1,8 +1,8 @@
 use Rattle.std.proofs.Common.{◌≡◌, ◌∙◌, true, sym, subst, ap}
 use Rattle.ir_entities.specs.Links.{has}
 use Rattle.ir_program.specs.Forgets.{threads_of, value_threads_in}
-use Rattle.ir_program.proofs.ForgetThreads.{block-thread-in}
-use Rattle.ir_program.proofs.UserWalks.{value-users, target-users, result-threads, argument-threads, value-defined, block-defined}
+use Rattle.ir_program.proofs.erased.ForgetThreads.{block-thread-in}
+use Rattle.ir_program.proofs.used.UserWalks.{value-users, target-users, result-threads, argument-threads, value-defined, block-defined}
 use Rattle.ir_program.proofs.users.is_apart_at.Goals as goal
 
 pub all_users_inside-requires-clause-defined : goal.all_users_inside-requires-clause-defined

@@ -1,5 +1,5 @@
 use Rattle.ir_entities.specs.Forest.{shape_of}
-use Rattle.ir_program.proofs.UserWalks.{AreSeen}
+use Rattle.ir_program.proofs.used.UserWalks.{AreSeen}
 use Rattle.ir_program.proofs.users.users_inside.Given as goal
 
 abbrev pub invariant-loop-place : goal.invariant-loop-place

@@ -5,7 +5,7 @@ use Rattle.std.proofs.lemmas.List.Sorted.{answers_always}
 use Rattle.std.proofs.lemmas.Map.Lookups.{exact_unsigned}
 use Rattle.std.proofs.lemmas.Option.{slice_get-get_or}
 use Rattle.ir_program.specs.declared.records.Definition.{Definition}
-use Rattle.ir_program.proofs.Found.{numbered-at, numbered-find}
+use Rattle.ir_program.proofs.defined.Found.{numbered-at, numbered-find}
 use Rattle.ir_program.proofs.values.numbered.Goals as goal
 
 pub returns-in-Ok : goal.returns-in-Ok

@@ -1,7 +1,7 @@
 use Rattle.std.proofs.Common.{subst, sym}
 use Rattle.ir_tokens.specs.Faults.{IsNamed}
 use Rattle.ir_scopes.specs.Depth.{IsTooDeep}
-use Rattle.ir_verdicts.specs.Texts.{IsSyntaxFault}
+use Rattle.ir_rereading.specs.Texts.{IsSyntaxFault}
 use Rattle.ir_text.proofs.TextFaults.{faults_merge}
 use Rattle.ir_text.proofs.finding.fault_of.Goals as goal
 

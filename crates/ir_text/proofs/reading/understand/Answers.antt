@@ -11,14 +11,14 @@ use Rattle.ir_tokens.specs.Faults.{IsNamed}
 use Rattle.ir_building.specs.Raised.{IsAssembled}
 use Rattle.ir_scopes.specs.Naming.{defined_from, mentioned_from}
 use Rattle.ir_scopes.specs.Scopes.{definitions, HasScopeFault, IsResolved, IsScopeFault}
-use Rattle.ir_verdicts.specs.Texts.{language_of, HasFault}
+use Rattle.ir_rereading.specs.Texts.{language_of, HasFault}
 use Rattle.ir_formats.specs.Words.{token_text}
-use Rattle.ir_trees.proofs.DefinedTokens.{many_defined}
+use Rattle.ir_rereading.proofs.trees.DefinedTokens.{many_defined}
 use Rattle.ir_text.proofs.Understood.{can_link, answers_read, answers_apart}
 use Rattle.ir_formats.proofs.Ordered.{own_tokens}
-use Rattle.ir_verdicts.proofs.Identifiers.{reading_spelt}
+use Rattle.ir_rereading.proofs.verdicts.Identifiers.{reading_spelt}
 use Rattle.ir_text.proofs.TextFaults.{refusal}
-use Rattle.ir_verdicts.proofs.TextReadings.{read_in_order, read_whole, values_named}
+use Rattle.ir_rereading.proofs.verdicts.TextReadings.{read_in_order, read_whole, values_named}
 use Rattle.ir_text.proofs.reading.understand.Goals as goal
 
 pub returns-in_err-values-clause-fault : goal.returns-in_err-values-clause-fault

@@ -1,4 +1,4 @@
-use Rattle.kit_flow.proofs.FoldedFacts.{kept_value, kept_block}
+use Rattle.kit_programs.proofs.flow.FoldedFacts.{kept_value, kept_block}
 use Rattle.irkit_driver.proofs.laws.facts_are_kept.Goals as goal
 
 pub returns : goal.returns

@@ -1,5 +1,5 @@
 use Rattle.std.proofs.Common.{refl, chars}
-use Rattle.ir_verdicts.proofs.Verdicts.{one_told, no_fault_said}
+use Rattle.ir_rereading.proofs.verdicts.Verdicts.{one_told, no_fault_said}
 use Rattle.kit_dialect.specs.Texts.{leads}
 use Rattle.irkit_driver.specs.Texts.{kit_language}
 use Rattle.irkit_driver.proofs.laws.inputs_have_one_answer.Goals as goal

@@ -1,5 +1,5 @@
 use Rattle.std.proofs.Common.{Some}
-use Rattle.kit_flow.proofs.Best.{one_best}
+use Rattle.kit_programs.proofs.flow.Best.{one_best}
 use Rattle.irkit_driver.proofs.laws.most_precise_facts_are_unique.Goals as goal
 
 pub returns : goal.returns

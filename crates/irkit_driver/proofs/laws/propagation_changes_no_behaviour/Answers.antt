@@ -1,6 +1,6 @@
 use Rattle.kit_dialect.specs.Says.{values}
 use Rattle.kit_programs.proofs.KeptFrom.{kept_module}
-use Rattle.kit_laws.proofs.PassAlike.{module_alike}
+use Rattle.kit_programs.proofs.sccp.PassAlike.{module_alike}
 use Rattle.irkit_driver.proofs.laws.propagation_changes_no_behaviour.Goals as goal
 
 pub returns : goal.returns

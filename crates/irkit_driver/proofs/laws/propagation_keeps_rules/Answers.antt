@@ -1,7 +1,7 @@
 use Rattle.kit_dialect.specs.Says.{values}
 use Rattle.kit_programs.proofs.KeptFrom.{kept_module}
-use Rattle.kit_laws.proofs.KeptTo.{keeps_rules}
-use Rattle.kit_laws.proofs.PassAlike.{module_kept_after, module_numbered}
+use Rattle.kit_programs.proofs.sccp.KeptTo.{keeps_rules}
+use Rattle.kit_programs.proofs.sccp.PassAlike.{module_kept_after, module_numbered}
 use Rattle.irkit_driver.proofs.laws.propagation_keeps_rules.Goals as goal
 
 pub returns : goal.returns

@@ -1,5 +1,5 @@
 use Rattle.std.proofs.Common.{◌≡◌, ℕ, List, length, drop, nat_eq}
-use Rattle.kit_flow.specs.Machine.{bind_all}
+use Rattle.kit_programs.specs.Machine.{bind_all}
 use Rattle.kit_machine.specs.Code.{Slots, AreApart, HaveSlots, env_of}
 use Rattle.kit_machine.proofs.machine.bind.Given as goal
 

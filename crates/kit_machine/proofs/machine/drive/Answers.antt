@@ -1,6 +1,6 @@
 use Rattle.std.proofs.Common.{◌≡◌, ◌<◌, ◌+◌, ◌%◌, ◌^◌, ◌∙◌, sym, ap, subst, arith, ℕ, List, [], ◌∷◌, length, map, get_or, set, Vec, Global}
 use Rattle.std.proofs.lemmas.List.{get_or_read, length-set}
-use Rattle.kit_flow.specs.Machine.{Ended, Going}
+use Rattle.kit_programs.specs.Machine.{Ended, Going}
 use Rattle.kit_machine.specs.Code.{env_of}
 use Rattle.kit_machine.proofs.Driven.{standing, constant_step, add_step, return_step, no_step}
 use Rattle.kit_machine.proofs.machine.drive.Goals.{in-Constant, in-Add}

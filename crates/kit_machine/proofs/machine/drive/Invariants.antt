@@ -1,5 +1,5 @@
 use Rattle.std.proofs.Common.{◌≡◌, ◌-◌, ℕ, length, nat_eq}
-use Rattle.kit_flow.specs.Machine.{Path, Program, run}
+use Rattle.kit_programs.specs.Machine.{Path, Program, run}
 use Rattle.kit_machine.specs.Code.{Slots, AreApart, IsCode, env_of, at_operation}
 use Rattle.kit_machine.proofs.machine.drive.Given as goal
 

@@ -1,4 +1,4 @@
-use Rattle.ir_program.proofs.Held.{last_held_slot, rest_held_slots}
+use Rattle.ir_program.proofs.made.Held.{last_held_slot, rest_held_slots}
 use Rattle.ir_program.proofs.listing.RegionsDoubleEndedIterator.next_back.Goals as goal
 
 pub region_in-requires : goal.region_in-requires

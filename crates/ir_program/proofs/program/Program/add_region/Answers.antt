@@ -1,16 +1,16 @@
 use Rattle.std.proofs.Common.{◌≡◌, ◌<◌, ◌≤◌, ◌++◌, ◌∷◌, [], length, Some, IsSome, ap, ◌∙◌, sym, subst, arith}
-use Rattle.ir_entities.specs.Arena.{get, SetsSlot, Updates, KeepsSpent}
+use Rattle.ir_arena.specs.Arena.{get, SetsSlot, Updates, KeepsSpent}
 use Rattle.ir_entities.specs.Links.{list_at}
-use Rattle.ir_entities.proofs.Slots.{Live, live_slot}
+use Rattle.ir_arena.proofs.Slots.{Live, live_slot}
 use Rattle.ir_entities.specs.Lists.{Lists}
 use Rattle.ir_entities.specs.Forest.{Forest, shape_of}
 use Rattle.ir_program.specs.Program.{Program}
-use Rattle.ir_program.proofs.There.{operation_got}
+use Rattle.ir_program.proofs.lists.There.{operation_got}
 use Rattle.ir_program.specs.Handles.{handle}
 use Rattle.ir_program.specs.declared.handles.Region.{Region}
-use Rattle.ir_program.proofs.Alike.{grown-sound}
-use Rattle.ir_program.proofs.Slotted.{SetsList, set_list}
-use Rattle.ir_program.proofs.NewRegions.{outside_bare, region-made-sound, region-made}
+use Rattle.ir_program.proofs.made.Alike.{grown-sound}
+use Rattle.ir_program.proofs.lists.Slotted.{SetsList, set_list}
+use Rattle.ir_program.proofs.made.NewRegions.{outside_bare, region-made-sound, region-made}
 use Rattle.ir_program.proofs.program.Program.add_region.Goals as goal
 
 pub invariant_of-self : goal.invariant_of-self

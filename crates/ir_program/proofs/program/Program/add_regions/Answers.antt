@@ -1,5 +1,5 @@
 use Rattle.std.proofs.Common.{[], refl}
-use Rattle.ir_program.proofs.RegionSteps.{regions-none, count-next, fewer-came}
+use Rattle.ir_program.proofs.made.RegionSteps.{regions-none, count-next, fewer-came}
 use Rattle.ir_program.proofs.program.Program.add_regions.Goals as goal
 
 pub loop-made-init : goal.loop-made-init
@@ -8,7 +8,7 @@ loop-made-init g c = record { added = ([], refl, regions-none c.args.self.now c.
 pub loop-made-preserved : goal.loop-made-preserved
 loop-made-preserved g c = record {
   added = count-next c.args.self.now _ c.add_region.new.self c.args.op c.loop-made._made c.in_ok-add_region.field-0 c.loop-made.invariant.added c.in_ok-add_region.ensures.made;
-  slots = λ h. c.loop-made.invariant.slots (c.in_ok-add_region.ensures.made.region_slots h);
+  slots = λ h. c.loop-made.invariant.slots (c.in_ok-add_region.ensures.made.room.regions h);
 }
 
 pub returns-in_err-add_region-clause-err : goal.returns-in_err-add_region-clause-err

@@ -1,7 +1,7 @@
 use Rattle.std.proofs.Common.{subst}
 use Rattle.std.proofs.lemmas.Option.{slice_get-get_or}
 use Rattle.ir_program.specs.Adds.{AddsResults}
-use Rattle.ir_program.proofs.AddSteps.{some-came, take-next, results-next, results-still}
+use Rattle.ir_program.proofs.made.AddSteps.{some-came, take-next, results-next, results-still}
 use Rattle.ir_program.proofs.program.Program.add_results.Goals as goal
 
 pub returns-in_err-push_result-clause-err : goal.returns-in_err-push_result-clause-err

@@ -1,4 +1,4 @@
-use Rattle.ir_program.proofs.Stands.{argument-read, argument-live}
+use Rattle.ir_program.proofs.defined.Stands.{argument-read, argument-live}
 use Rattle.ir_program.proofs.program.Program.argument.Goals as goal
 
 pub returns-clause-typed : goal.returns-clause-typed

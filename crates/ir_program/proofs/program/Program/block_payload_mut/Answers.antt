@@ -1,6 +1,6 @@
 use Rattle.std.proofs.Common.{refl}
-use Rattle.ir_program.proofs.Carried.{block_payload-sound, block_payload-is, block_payload-seen, block_payload-edits}
-use Rattle.ir_program.proofs.KeptTypes.{block_edit-types}
+use Rattle.ir_program.proofs.made.Carried.{block_payload-sound, block_payload-is, block_payload-seen, block_payload-edits}
+use Rattle.ir_program.proofs.defined.KeptTypes.{block_edit-types}
 use Rattle.ir_program.proofs.program.Program.block_payload_mut.Goals as goal
 
 pub invariant_of-self-lent : goal.invariant_of-self-lent

@@ -1,5 +1,5 @@
 use Rattle.std.proofs.Common.{sym}
-use Rattle.ir_program.proofs.RowReads.{block-thread}
+use Rattle.ir_program.proofs.rows.RowReads.{block-thread}
 use Rattle.ir_program.proofs.program.Program.block_thread.Goals as goal
 
 pub returns : goal.returns

@@ -1,7 +1,7 @@
 use Rattle.std.proofs.Common.{ℕ, ◌<◌, ◌^◌, subst, sym}
 use Rattle.std.proofs.lemmas.List.{length-map}
-use Rattle.ir_program.proofs.ListedUses.{listed-edges}
-use Rattle.ir_program.proofs.SeenUses.{block-uses}
+use Rattle.ir_program.proofs.used.ListedUses.{listed-edges}
+use Rattle.ir_program.proofs.used.SeenUses.{block-uses}
 use Rattle.ir_program.proofs.program.Program.block_uses.Goals as goal
 
 pub returns-clause-uses : goal.returns-clause-uses

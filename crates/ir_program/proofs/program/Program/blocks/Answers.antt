@@ -1,4 +1,4 @@
-use Rattle.ir_program.proofs.InRegions.{all_blocks_stand}
+use Rattle.ir_program.proofs.lists.InRegions.{all_blocks_stand}
 use Rattle.ir_program.proofs.program.Program.blocks.Goals as goal
 
 pub returns-clause-stand : goal.returns-clause-stand

@@ -1,4 +1,4 @@
-use Rattle.ir_program.proofs.UserHandles.{apart-told}
+use Rattle.ir_program.proofs.used.UserHandles.{apart-told}
 use Rattle.ir_program.proofs.program.Program.can_erase.Goals as goal
 
 pub returns : goal.returns

@@ -4,7 +4,7 @@ use Rattle.ir_program.specs.Replacing.{Answers}
 use Rattle.ir_program.specs.Spots.{operand_use}
 use Rattle.ir_program.specs.declared.handles.Use.{Use}
 use Rattle.ir_program.specs.declared.handles.Value.{Value}
-use Rattle.ir_program.proofs.Choices.{IsChoosing, choosing-taken, answers-called}
+use Rattle.ir_program.proofs.used.Choices.{IsChoosing, choosing-taken, answers-called}
 use Rattle.ir_program.proofs.program.Program.choose_operands.Goals as goal
 
 pub loop-place-preserved-in-Continue-1 : goal.loop-place-preserved-in-Continue-1

@@ -1,6 +1,6 @@
 use Rattle.ir_program.specs.Replacing.{Answers}
 use Rattle.ir_program.specs.Spots.{operand_use}
-use Rattle.ir_program.proofs.Choices.{IsChoosing}
+use Rattle.ir_program.proofs.used.Choices.{IsChoosing}
 use Rattle.ir_program.proofs.program.Program.choose_operands.Given as goal
 
 abbrev pub invariant-loop-place : goal.invariant-loop-place

@@ -5,7 +5,7 @@ use Rattle.ir_program.specs.Spots.{successor_use}
 use Rattle.ir_program.specs.declared.handles.Use.{Use}
 use Rattle.ir_program.specs.declared.handles.Ptr.{Ptr}
 use Rattle.ir_program.specs.declared.handles.BasicBlock.{BasicBlock}
-use Rattle.ir_program.proofs.Choices.{IsChoosing, choosing-taken, answers-called}
+use Rattle.ir_program.proofs.used.Choices.{IsChoosing, choosing-taken, answers-called}
 use Rattle.ir_program.proofs.program.Program.choose_successors.Goals as goal
 
 pub loop-place-preserved-in-Continue-1 : goal.loop-place-preserved-in-Continue-1

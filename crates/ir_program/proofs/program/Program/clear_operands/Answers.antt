@@ -1,8 +1,8 @@
 use Rattle.ir_program.specs.Program.{Program}
 use Rattle.ir_entities.specs.Uses.{place_of}
 use Rattle.ir_entities.proofs.RowEdits.{row-distinct}
-use Rattle.ir_program.proofs.RowReads.{row-place, operand-row}
-use Rattle.ir_program.proofs.Clears.{operands-cleared-sound, operands-cleared, operands-frame}
+use Rattle.ir_program.proofs.rows.RowReads.{row-place, operand-row}
+use Rattle.ir_program.proofs.erased.Clears.{operands-cleared-sound, operands-cleared, operands-frame}
 use Rattle.ir_program.proofs.program.Program.clear_operands.Goals as goal
 
 pub clear_row-requires-clause-distinct : goal.clear_row-requires-clause-distinct

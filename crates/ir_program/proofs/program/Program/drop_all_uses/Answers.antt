@@ -2,9 +2,9 @@ use Rattle.std.proofs.Common.{ap, subst}
 use Rattle.ir_program.specs.Program.{Program}
 use Rattle.ir_program.specs.Drops.{DropsInside}
 use Rattle.ir_program.specs.Lists.{place_of_node}
-use Rattle.ir_program.proofs.DropWalks.{frame-same}
-use Rattle.ir_program.proofs.Erasures.{decided}
-use Rattle.ir_program.proofs.DroppedUses.{dropped-seen}
+use Rattle.ir_program.proofs.erased.DropWalks.{frame-same}
+use Rattle.ir_program.proofs.erased.Erasures.{decided}
+use Rattle.ir_program.proofs.erased.DroppedUses.{dropped-seen}
 use Rattle.ir_program.proofs.program.Program.drop_all_uses.Goals as goal
 
 pub returns : goal.returns

@@ -1,6 +1,6 @@
 use Rattle.std.proofs.Common.{ap}
 use Rattle.ir_program.specs.Program.{Program}
-use Rattle.ir_program.proofs.DropWalks.{come-first, come-next, come-less}
+use Rattle.ir_program.proofs.erased.DropWalks.{come-first, come-next, come-less}
 use Rattle.ir_program.proofs.program.Program.drop_inside.Goals as goal
 
 pub places-init : goal.places-init

@@ -1,6 +1,6 @@
 use Rattle.std.proofs.Common.{length}
 use Rattle.ir_entities.specs.Walk.{places_from, walk_of}
-use Rattle.ir_program.proofs.DropWalks.{HasCome}
+use Rattle.ir_program.proofs.erased.DropWalks.{HasCome}
 use Rattle.ir_program.proofs.program.Program.drop_inside.Given as goal
 
 abbrev pub invariant-places : goal.invariant-places

@@ -1,5 +1,5 @@
 use Rattle.std.proofs.Common.{sym}
-use Rattle.ir_program.proofs.SeenUses.{edge-key}
+use Rattle.ir_program.proofs.used.SeenUses.{edge-key}
 use Rattle.ir_program.proofs.program.Program.edge_thread.Goals as goal
 
 pub returns : goal.returns

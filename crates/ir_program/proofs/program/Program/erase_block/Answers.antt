@@ -1,4 +1,4 @@
-use Rattle.ir_program.proofs.BlockUnlinks.{free_erased}
+use Rattle.ir_program.proofs.lists.BlockUnlinks.{free_erased}
 use Rattle.ir_program.proofs.program.Program.erase_block.Goals as goal
 
 pub returns-in-None : goal.returns-in-None

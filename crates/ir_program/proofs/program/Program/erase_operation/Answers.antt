@@ -1,4 +1,4 @@
-use Rattle.ir_program.proofs.Unlinks.{free_erased}
+use Rattle.ir_program.proofs.lists.Unlinks.{free_erased}
 use Rattle.ir_program.proofs.program.Program.erase_operation.Goals as goal
 
 pub returns-in-None : goal.returns-in-None

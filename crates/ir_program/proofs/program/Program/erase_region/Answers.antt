@@ -8,9 +8,9 @@ use Rattle.ir_entities.specs.Walk.{StandInOne}
 use Rattle.ir_program.specs.Program.{Program}
 use Rattle.ir_program.specs.Drops.{DropsInside}
 use Rattle.ir_program.specs.declared.handles.IRNode.TheVariants.{Region as RegionNode}
-use Rattle.ir_program.proofs.Apart.{values-unnamed, blocks-unnamed}
-use Rattle.ir_program.proofs.Erasures.{decided}
-use Rattle.ir_program.proofs.RegionErasures.{region_erased-sound, region_erased-seen}
+use Rattle.ir_program.proofs.erased.Apart.{values-unnamed, blocks-unnamed}
+use Rattle.ir_program.proofs.erased.Erasures.{decided}
+use Rattle.ir_program.proofs.erased.RegionErasures.{region_erased-sound, region_erased-seen}
 use Rattle.ir_program.proofs.program.Program.erase_region.Goals as goal
 
 pub forget_inside-requires-clause-values : goal.forget_inside-requires-clause-values

@@ -7,9 +7,9 @@ use Rattle.ir_entities.specs.Shape.{IsInside}
 use Rattle.ir_program.specs.Program.{Program}
 use Rattle.ir_program.specs.Drops.{DropsInside}
 use Rattle.ir_program.specs.declared.handles.IRNode.TheVariants.{Operation as OperationNode}
-use Rattle.ir_program.proofs.InBlocks.{in_blocks, unlinked_operation}
-use Rattle.ir_program.proofs.Apart.{values-unnamed, blocks-unnamed}
-use Rattle.ir_program.proofs.Erasures.{decided, erased-sound, erased-seen}
+use Rattle.ir_program.proofs.lists.InBlocks.{in_blocks, unlinked_operation}
+use Rattle.ir_program.proofs.erased.Apart.{values-unnamed, blocks-unnamed}
+use Rattle.ir_program.proofs.erased.Erasures.{decided, erased-sound, erased-seen}
 use Rattle.ir_program.proofs.program.Program.erase_unlinked_operation.Goals as goal
 
 pub forget_inside-requires-clause-values : goal.forget_inside-requires-clause-values

@@ -1,4 +1,4 @@
-use Rattle.ir_program.proofs.BuildSteps.{regions-came, operands-came, successors-came, results-came, all-filled}
+use Rattle.ir_program.proofs.made.BuildSteps.{regions-came, operands-came, successors-came, results-came, all-filled}
 use Rattle.ir_program.proofs.program.Program.fill_operation.Goals as goal
 
 pub returns-in_err-add_regions-clause-err : goal.returns-in_err-add_regions-clause-err

@@ -1,5 +1,5 @@
 use Rattle.std.proofs.Common.{◌∙◌}
-use Rattle.ir_program.proofs.InRegions.{first_block_held, first_block_is, blocks_stand}
+use Rattle.ir_program.proofs.lists.InRegions.{first_block_held, first_block_is, blocks_stand}
 use Rattle.ir_program.proofs.program.Program.first_block.Goals as goal
 
 pub block_if-requires : goal.block_if-requires

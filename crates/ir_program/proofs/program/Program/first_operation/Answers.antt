@@ -1,5 +1,5 @@
 use Rattle.std.proofs.Common.{◌∙◌}
-use Rattle.ir_program.proofs.InBlocks.{first_op_held, first_op_is, ops_stand}
+use Rattle.ir_program.proofs.lists.InBlocks.{first_op_held, first_op_is, ops_stand}
 use Rattle.ir_program.proofs.program.Program.first_operation.Goals as goal
 
 pub operation_if-requires : goal.operation_if-requires

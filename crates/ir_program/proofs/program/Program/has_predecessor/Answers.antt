@@ -1,4 +1,4 @@
-use Rattle.ir_program.proofs.SeenUses.{block-used}
+use Rattle.ir_program.proofs.used.SeenUses.{block-used}
 use Rattle.ir_program.proofs.program.Program.has_predecessor.Goals as goal
 
 pub returns : goal.returns

@@ -1,8 +1,8 @@
 use Rattle.std.proofs.Common.{refl}
-use Rattle.ir_program.proofs.BlockJoins.{same-block-sound, same-block, argument-joined-sound, argument-joined-seen, arguments-within}
-use Rattle.ir_program.proofs.Frames.{on_err}
-use Rattle.ir_program.proofs.Kept.{argument-defined_now}
-use Rattle.ir_program.proofs.KeptTypes.{unchanged-types}
+use Rattle.ir_program.proofs.defined.BlockJoins.{same-block-sound, same-block, argument-joined-sound, argument-joined-seen, arguments-within}
+use Rattle.ir_program.proofs.made.Frames.{on_err}
+use Rattle.ir_program.proofs.defined.Kept.{argument-defined_now}
+use Rattle.ir_program.proofs.defined.KeptTypes.{unchanged-types}
 use Rattle.ir_program.proofs.program.Program.insert_argument.Goals as goal
 
 pub invariant_of-self : goal.invariant_of-self

@@ -1,7 +1,9 @@
+use Rattle.std.proofs.Common.{ap}
 use Rattle.ir_program.specs.declared.handles.IRNode.TheVariants.{BasicBlock as BlockNode}
-use Rattle.ir_program.proofs.Inside.{outside_by_slots}
-use Rattle.ir_program.proofs.MovingBlocks.{block_linked, block_unlinked, blocks_still_program, put_behind}
-use Rattle.ir_program.proofs.Rearranged.{types_stay}
+use Rattle.ir_program.specs.Program.{Program}
+use Rattle.ir_program.proofs.lists.Inside.{outside_by_slots}
+use Rattle.ir_program.proofs.lists.MovingBlocks.{block_linked, block_unlinked, blocks_still_program, put_behind}
+use Rattle.ir_program.proofs.lists.Rearranged.{types_stay}
 use Rattle.ir_program.proofs.program.Program.insert_block_after.Goals as goal
 
 pub insert_block_after-requires-clause-linked : goal.insert_block_after-requires-clause-linked
@@ -19,5 +21,8 @@ invariant_of-self g c = blocks_still_program _ c.args.self.now c.self.view_is c.
 pub returns-clause-edited : goal.returns-clause-edited
 returns-clause-edited g c region k h = put_behind _ c.args.self.now c.self.view_is c.know_listed.ensures c.insert_block_after.new.self c.insert_block_after.ensures.rest c.args.block c.requires.block c.args.mark region k h c.insert_block_after.ensures.lists
 
-pub returns-clause-types : goal.returns-clause-types
-returns-clause-types g c = types_stay _ c.args.self.now c.self.view_is c.self.inside.forest.in_blocks c.insert_block_after.new.self.in_regions c.self.inside.forest.in_ops c.insert_block_after.new.self c.insert_block_after.ensures.rest
+pub returns-clause-values : goal.returns-clause-values
+returns-clause-values g c = record {
+  types = types_stay _ c.args.self.now c.self.view_is c.self.inside.forest.in_blocks c.insert_block_after.new.self.in_regions c.self.inside.forest.in_ops c.insert_block_after.new.self c.insert_block_after.ensures.rest;
+  counter = ap (λ (w : Program _ _). w.counter) c.self.view_is;
+}

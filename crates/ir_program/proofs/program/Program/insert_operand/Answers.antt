@@ -1,9 +1,9 @@
-use Rattle.std.proofs.Common.{◌≡◌, Some, sym, subst}
+use Rattle.std.proofs.Common.{◌≡◌, Some, sym, subst, ap}
 use Rattle.ir_entities.specs.Uses.{key_of}
 use Rattle.ir_program.specs.Program.{Program}
-use Rattle.ir_program.proofs.RowFrames.{on_ok, on_err, either_way}
-use Rattle.ir_program.proofs.RowReads.{operand-row}
-use Rattle.ir_program.proofs.OperandEdits.{types-same, kept-sound, operands-unchanged, inserted-sound, inserted-seen}
+use Rattle.ir_program.proofs.rows.RowFrames.{on_ok, on_err, either_way}
+use Rattle.ir_program.proofs.rows.RowReads.{operand-row}
+use Rattle.ir_program.proofs.rows.OperandEdits.{types-same, kept-sound, operands-unchanged, inserted-sound, inserted-seen}
 use Rattle.ir_program.proofs.program.Program.insert_operand.Goals as goal
 
 pub insert_place-requires-clause-row : goal.insert_place-requires-clause-row
@@ -32,7 +32,10 @@ returns-clause-err g c =
     rw (← c.self.view_is) (on_err c.insert_place.result c.insert_place.ensures.err c.insert_place.ensures.row_err
     (λ same rows. operands-unchanged was c.args.op c.op_mut-record.result.now c.op_mut-record.ensures.value c.insert_place.new.row c.insert_place.new.uses c.self.invariant same rows))
 
-pub returns-clause-types : goal.returns-clause-types
-returns-clause-types g c =
+pub returns-clause-values : goal.returns-clause-values
+returns-clause-values g c =
     let was : Program g.row.O.Denot g.row.B.Denot = record { forest = c.self.inside.forest; values = c.self.inside.values; targets = c.self.inside.targets; counter = c.self.inside.counter } in
-    rw (← c.self.view_is) (types-same was c.args.op c.op_mut-record.result.now c.op_mut-record.ensures.value c.insert_place.new.row c.insert_place.new.uses)
+    record {
+      types = rw (← c.self.view_is) (types-same was c.args.op c.op_mut-record.result.now c.op_mut-record.ensures.value c.insert_place.new.row c.insert_place.new.uses);
+      counter = ap (λ (w : Program _ _). w.counter) c.self.view_is;
+    }

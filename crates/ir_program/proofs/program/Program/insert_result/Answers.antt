@@ -1,8 +1,8 @@
 use Rattle.std.proofs.Common.{refl}
-use Rattle.ir_program.proofs.Joins.{same-record-sound, same-record, result-joined-sound, result-joined-seen, results-within}
-use Rattle.ir_program.proofs.Frames.{on_err}
-use Rattle.ir_program.proofs.Kept.{result-defined_now}
-use Rattle.ir_program.proofs.KeptTypes.{unchanged-types}
+use Rattle.ir_program.proofs.defined.Joins.{same-record-sound, same-record, result-joined-sound, result-joined-seen, results-within}
+use Rattle.ir_program.proofs.made.Frames.{on_err}
+use Rattle.ir_program.proofs.defined.Kept.{result-defined_now}
+use Rattle.ir_program.proofs.defined.KeptTypes.{unchanged-types}
 use Rattle.ir_program.proofs.program.Program.insert_result.Goals as goal
 
 pub invariant_of-self : goal.invariant_of-self

@@ -1,5 +1,5 @@
 use Rattle.ir_program.specs.Program.{Program}
-use Rattle.ir_program.proofs.Vacant.{empty_exactly}
+use Rattle.ir_program.proofs.made.Vacant.{empty_exactly}
 use Rattle.ir_program.proofs.program.Program.is_empty.Goals as goal
 
 pub returns : goal.returns

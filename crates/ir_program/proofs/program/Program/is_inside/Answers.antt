@@ -1,4 +1,4 @@
-use Rattle.ir_program.proofs.Inside.{slots_inside, handles_inside}
+use Rattle.ir_program.proofs.lists.Inside.{slots_inside, handles_inside}
 use Rattle.ir_program.proofs.program.Program.is_inside.Goals as goal
 
 pub returns : goal.returns

@@ -1,4 +1,4 @@
-use Rattle.ir_program.proofs.SeenUses.{value-used}
+use Rattle.ir_program.proofs.used.SeenUses.{value-used}
 use Rattle.ir_program.proofs.program.Program.is_used.Goals as goal
 
 pub returns : goal.returns

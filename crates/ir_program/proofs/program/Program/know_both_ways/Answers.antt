@@ -1,5 +1,5 @@
 use Rattle.ir_program.specs.Lists.{operations_in, blocks_in, regions_in}
-use Rattle.ir_program.proofs.Returns.{both-ways}
+use Rattle.ir_program.proofs.lists.Returns.{both-ways}
 use Rattle.ir_program.proofs.program.Program.know_both_ways.Goals as goal
 
 pub returns-clause-operations : goal.returns-clause-operations

@@ -1,4 +1,4 @@
-use Rattle.ir_program.proofs.FewUses.{few_uses}
+use Rattle.ir_program.proofs.used.FewUses.{few_uses}
 use Rattle.ir_program.proofs.program.Program.know_few_uses.Goals as goal
 
 pub returns : goal.returns

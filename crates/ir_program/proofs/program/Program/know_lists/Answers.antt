@@ -1,9 +1,9 @@
 use Rattle.ir_program.specs.Lists.{operations_in, blocks_in, regions_in}
-use Rattle.ir_program.proofs.Levels.{one_holder, one_index}
-use Rattle.ir_program.proofs.InBlocks.{in_blocks, stands_in_block}
-use Rattle.ir_program.proofs.InRegions.{in_regions, stands_in_region}
-use Rattle.ir_program.proofs.InOperations.{in_ops, stands_in_operation}
-use Rattle.ir_program.proofs.Inside.{operation_not_around, block_not_around, region_not_around}
+use Rattle.ir_program.proofs.lists.Levels.{one_holder, one_index}
+use Rattle.ir_program.proofs.lists.InBlocks.{in_blocks, stands_in_block}
+use Rattle.ir_program.proofs.lists.InRegions.{in_regions, stands_in_region}
+use Rattle.ir_program.proofs.lists.InOperations.{in_ops, stands_in_operation}
+use Rattle.ir_program.proofs.lists.Inside.{operation_not_around, block_not_around, region_not_around}
 use Rattle.ir_program.proofs.program.Program.know_lists.Goals as goal
 
 pub returns-clause-operations_once : goal.returns-clause-operations_once

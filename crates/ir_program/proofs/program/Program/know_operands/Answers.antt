@@ -1,4 +1,4 @@
-use Rattle.ir_program.proofs.RowReads.{operand-live}
+use Rattle.ir_program.proofs.rows.RowReads.{operand-live}
 use Rattle.ir_program.proofs.program.Program.know_operands.Goals as goal
 
 pub returns : goal.returns

@@ -1,4 +1,4 @@
-use Rattle.ir_program.proofs.Returns.{returns-operations, returns-blocks}
+use Rattle.ir_program.proofs.lists.Returns.{returns-operations, returns-blocks}
 use Rattle.ir_program.proofs.program.Program.know_returns.Goals as goal
 
 pub returns-clause-operations : goal.returns-clause-operations

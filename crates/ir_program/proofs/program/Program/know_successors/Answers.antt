@@ -1,4 +1,4 @@
-use Rattle.ir_program.proofs.RowReads.{successor-live}
+use Rattle.ir_program.proofs.rows.RowReads.{successor-live}
 use Rattle.ir_program.proofs.program.Program.know_successors.Goals as goal
 
 pub returns : goal.returns

@@ -1,5 +1,5 @@
-use Rattle.ir_program.proofs.Standing.{seen-definer, seen-typed, live-stands, live-given, live-own}
-use Rattle.ir_program.proofs.Kept.{used-live}
+use Rattle.ir_program.proofs.defined.Standing.{seen-definer, seen-typed, live-stands, live-given, live-own}
+use Rattle.ir_program.proofs.defined.Kept.{used-live}
 use Rattle.ir_program.proofs.program.Program.know_values.Goals as goal
 
 pub returns-clause-definer : goal.returns-clause-definer

@@ -1,5 +1,5 @@
 use Rattle.std.proofs.Common.{◌∙◌}
-use Rattle.ir_program.proofs.InRegions.{last_block_held, last_block_is, blocks_stand}
+use Rattle.ir_program.proofs.lists.InRegions.{last_block_held, last_block_is, blocks_stand}
 use Rattle.ir_program.proofs.program.Program.last_block.Goals as goal
 
 pub block_if-requires : goal.block_if-requires

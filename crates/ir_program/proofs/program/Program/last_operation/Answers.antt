@@ -1,5 +1,5 @@
 use Rattle.std.proofs.Common.{◌∙◌}
-use Rattle.ir_program.proofs.InBlocks.{last_op_held, last_op_is, ops_stand}
+use Rattle.ir_program.proofs.lists.InBlocks.{last_op_held, last_op_is, ops_stand}
 use Rattle.ir_program.proofs.program.Program.last_operation.Goals as goal
 
 pub operation_if-requires : goal.operation_if-requires

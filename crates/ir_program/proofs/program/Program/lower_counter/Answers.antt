@@ -1,7 +1,7 @@
 use Rattle.std.proofs.Common.{◌<◌, sym, subst}
 use Rattle.ir_program.specs.Program.{Program, IsLiveValue}
 use Rattle.ir_program.specs.declared.handles.Value.{Value}
-use Rattle.ir_program.proofs.TakeBacks.{counter-lowered}
+use Rattle.ir_program.proofs.made.TakeBacks.{counter-lowered}
 use Rattle.ir_program.proofs.program.Program.lower_counter.Goals as goal
 
 pub invariant_of-self : goal.invariant_of-self

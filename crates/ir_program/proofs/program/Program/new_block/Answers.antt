@@ -4,11 +4,11 @@ use Rattle.ir_entities.specs.Links.{list_at}
 use Rattle.ir_entities.specs.Lists.{Lists}
 use Rattle.ir_entities.specs.Forest.{Forest}
 use Rattle.ir_program.specs.Handles.{handle}
-use Rattle.ir_entities.specs.Lends.{with_value}
+use Rattle.ir_arena.specs.Lends.{with_value}
 use Rattle.ir_program.specs.declared.records.BlockRecord.{BlockRecord}
 use Rattle.ir_program.specs.declared.handles.BasicBlock.{BasicBlock}
-use Rattle.ir_program.proofs.Alike.{grown-sound}
-use Rattle.ir_program.proofs.NewBlocks.{block-back-sound, block-back, block-made-sound, block-made, updates-rewritten, rewritten-here, slot-rewritten, spent-rewritten, rewritten-first, the_same, unlinked_block_where}
+use Rattle.ir_program.proofs.made.Alike.{grown-sound}
+use Rattle.ir_program.proofs.made.NewBlocks.{block-back-sound, block-back, block-made-sound, block-made, updates-rewritten, rewritten-here, slot-rewritten, spent-rewritten, rewritten-first, the_same, unlinked_block_where}
 use Rattle.ir_program.proofs.program.Program.new_block.Goals as goal
 
 pub invariant_of-self : goal.invariant_of-self

@@ -3,7 +3,7 @@ use Rattle.ir_entities.specs.Links.{list_at}
 use Rattle.ir_entities.specs.Lists.{Lists}
 use Rattle.ir_program.specs.Handles.{handle}
 use Rattle.ir_program.specs.declared.handles.Operation.{Operation}
-use Rattle.ir_program.proofs.Alike.{grown-sound, operation-made-sound, operation-made, unlinked_where}
+use Rattle.ir_program.proofs.made.Alike.{grown-sound, operation-made-sound, operation-made, unlinked_where}
 use Rattle.ir_program.proofs.program.Program.new_operation.Goals as goal
 
 pub invariant_of-self : goal.invariant_of-self

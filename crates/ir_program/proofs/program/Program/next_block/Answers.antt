@@ -1,5 +1,5 @@
 use Rattle.std.proofs.Common.{◌∙◌}
-use Rattle.ir_program.proofs.InRegions.{next_block_held, next_block_is, no_block_at_root, block_answer_live}
+use Rattle.ir_program.proofs.lists.InRegions.{next_block_held, next_block_is, no_block_at_root, block_answer_live}
 use Rattle.ir_program.proofs.program.Program.next_block.Goals as goal
 
 pub block_if-requires : goal.block_if-requires

@@ -1,5 +1,5 @@
 use Rattle.std.proofs.Common.{◌∙◌}
-use Rattle.ir_program.proofs.InBlocks.{next_op_held, next_op_is, no_op_at_root, op_answer_live}
+use Rattle.ir_program.proofs.lists.InBlocks.{next_op_held, next_op_is, no_op_at_root, op_answer_live}
 use Rattle.ir_program.proofs.program.Program.next_operation.Goals as goal
 
 pub operation_if-requires : goal.operation_if-requires

@@ -4,7 +4,7 @@ use Rattle.ir_entities.specs.Shape.{itself, IsInside}
 use Rattle.ir_entities.specs.Forest.{IsUsed, shape_of}
 use Rattle.ir_entities.specs.Walk.{walk_of, places_from, AreOnce, IsOneOf}
 use Rattle.ir_program.specs.Program.{Program}
-use Rattle.ir_program.proofs.Preorders.{place_used, in-order, are-inside, once-each, from-first}
+use Rattle.ir_program.proofs.lists.Preorders.{place_used, in-order, are-inside, once-each, from-first}
 use Rattle.ir_program.proofs.program.Program.nodes_inside.Goals as goal
 
 pub invariant_of-result : goal.invariant_of-result

@@ -1,7 +1,7 @@
 use Rattle.std.proofs.Common.{◌<◌, sym, subst, length}
 use Rattle.ir_program.specs.Program.{Program, IsLiveValue}
 use Rattle.ir_program.specs.Rows.{operands_at}
-use Rattle.ir_program.proofs.RowReads.{row-place, operand-named, operand-row, operand-stood, known-value}
+use Rattle.ir_program.proofs.rows.RowReads.{row-place, operand-named, operand-row, operand-stood, known-value}
 use Rattle.ir_program.proofs.program.Program.operand.Goals as goal
 
 pub definition-requires : goal.definition-requires

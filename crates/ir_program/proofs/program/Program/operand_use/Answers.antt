@@ -1,4 +1,4 @@
-use Rattle.ir_program.proofs.SeenUses.{operand-held}
+use Rattle.ir_program.proofs.used.SeenUses.{operand-held}
 use Rattle.ir_program.proofs.program.Program.operand_use.Goals as goal
 
 pub operation_in-requires : goal.operation_in-requires

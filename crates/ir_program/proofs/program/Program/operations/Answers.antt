@@ -1,4 +1,4 @@
-use Rattle.ir_program.proofs.InBlocks.{all_operations_stand}
+use Rattle.ir_program.proofs.lists.InBlocks.{all_operations_stand}
 use Rattle.ir_program.proofs.program.Program.operations.Goals as goal
 
 pub returns-clause-stand : goal.returns-clause-stand

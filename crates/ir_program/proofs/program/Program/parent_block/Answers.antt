@@ -1,5 +1,5 @@
 use Rattle.std.proofs.Common.{◌∙◌}
-use Rattle.ir_program.proofs.InBlocks.{parent_block_is, only_parent_block}
+use Rattle.ir_program.proofs.lists.InBlocks.{parent_block_is, only_parent_block}
 use Rattle.ir_program.proofs.program.Program.parent_block.Goals as goal
 
 pub returns-clause-parent : goal.returns-clause-parent

@@ -2,7 +2,7 @@ use Rattle.std.proofs.Common.{subst, sym}
 use Rattle.ir_program.specs.Lists.{StandsInOperation}
 use Rattle.ir_program.specs.declared.handles.Ptr.{Ptr}
 use Rattle.ir_program.specs.declared.handles.Operation.{Operation}
-use Rattle.ir_program.proofs.InOperations.{parent_op_stands, only_parent_op}
+use Rattle.ir_program.proofs.lists.InOperations.{parent_op_stands, only_parent_op}
 use Rattle.ir_program.proofs.program.Program.parent_operation.Goals as goal
 
 pub returns-clause-stands : goal.returns-clause-stands

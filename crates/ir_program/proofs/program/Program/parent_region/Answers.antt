@@ -1,5 +1,5 @@
 use Rattle.std.proofs.Common.{◌∙◌}
-use Rattle.ir_program.proofs.InRegions.{parent_region_is, only_parent_region}
+use Rattle.ir_program.proofs.lists.InRegions.{parent_region_is, only_parent_region}
 use Rattle.ir_program.proofs.program.Program.parent_region.Goals as goal
 
 pub returns-clause-parent : goal.returns-clause-parent

@@ -1,6 +1,6 @@
 use Rattle.std.proofs.Common.{refl}
-use Rattle.ir_program.proofs.Carried.{payload-sound, payload-is, payload-seen, payload-edits}
-use Rattle.ir_program.proofs.KeptTypes.{operation_edit-types}
+use Rattle.ir_program.proofs.made.Carried.{payload-sound, payload-is, payload-seen, payload-edits}
+use Rattle.ir_program.proofs.defined.KeptTypes.{operation_edit-types}
 use Rattle.ir_program.proofs.program.Program.payload_mut.Goals as goal
 
 pub invariant_of-self-lent : goal.invariant_of-self-lent

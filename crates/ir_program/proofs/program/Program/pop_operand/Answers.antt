@@ -1,7 +1,7 @@
 use Rattle.std.proofs.Common.{◌≡◌, ◌≤◌, ◌-◌, ◌∙◌, sym, ap, ◌++◌, [], ◌∷◌, List, length, remove, arith}
 use Rattle.ir_program.specs.Rows.{operands_at}
 use Rattle.ir_program.specs.declared.handles.Value.{Value}
-use Rattle.ir_program.proofs.RowReads.{edited-operands, remove-last}
+use Rattle.ir_program.proofs.rows.RowReads.{edited-operands, remove-last}
 use Rattle.ir_program.proofs.program.Program.pop_operand.Goals as goal
 
 pub returns-clause-value : goal.returns-clause-value

@@ -2,7 +2,7 @@ use Rattle.std.proofs.Common.{◌≡◌, ◌≤◌, ◌-◌, ◌∙◌, sym, ap,
 use Rattle.ir_program.specs.Rows.{successors_at}
 use Rattle.ir_program.specs.declared.handles.Ptr.{Ptr}
 use Rattle.ir_program.specs.declared.handles.BasicBlock.{BasicBlock}
-use Rattle.ir_program.proofs.RowReads.{edited-successors, remove-last}
+use Rattle.ir_program.proofs.rows.RowReads.{edited-successors, remove-last}
 use Rattle.ir_program.proofs.program.Program.pop_successor.Goals as goal
 
 pub returns-clause-block : goal.returns-clause-block

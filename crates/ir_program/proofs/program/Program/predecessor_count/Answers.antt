@@ -1,7 +1,7 @@
 use Rattle.ir_program.specs.Rows.{successors_at}
-use Rattle.ir_program.proofs.Counts.{one-count}
-use Rattle.ir_program.proofs.ListedUses.{counted-edges}
-use Rattle.ir_program.proofs.SeenUses.{block-count}
+use Rattle.ir_program.proofs.used.Counts.{one-count}
+use Rattle.ir_program.proofs.used.ListedUses.{counted-edges}
+use Rattle.ir_program.proofs.used.SeenUses.{block-count}
 use Rattle.ir_program.proofs.program.Program.predecessor_count.Goals as goal
 
 pub returns-clause-count : goal.returns-clause-count

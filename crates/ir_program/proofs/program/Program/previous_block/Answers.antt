@@ -1,5 +1,5 @@
 use Rattle.std.proofs.Common.{◌∙◌}
-use Rattle.ir_program.proofs.InRegions.{prev_block_held, prev_block_is, prev_block_none, no_block_at_root, block_answer_live}
+use Rattle.ir_program.proofs.lists.InRegions.{prev_block_held, prev_block_is, prev_block_none, no_block_at_root, block_answer_live}
 use Rattle.ir_program.proofs.program.Program.previous_block.Goals as goal
 
 pub block_if-requires : goal.block_if-requires

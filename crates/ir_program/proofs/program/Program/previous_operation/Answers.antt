@@ -1,5 +1,5 @@
 use Rattle.std.proofs.Common.{◌∙◌}
-use Rattle.ir_program.proofs.InBlocks.{prev_op_held, prev_op_is, prev_op_none, no_op_at_root, op_answer_live}
+use Rattle.ir_program.proofs.lists.InBlocks.{prev_op_held, prev_op_is, prev_op_none, no_op_at_root, op_answer_live}
 use Rattle.ir_program.proofs.program.Program.previous_operation.Goals as goal
 
 pub operation_if-requires : goal.operation_if-requires

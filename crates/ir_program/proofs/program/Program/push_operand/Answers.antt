@@ -1,8 +1,8 @@
-use Rattle.std.proofs.Common.{◌≡◌, Some, sym, subst}
+use Rattle.std.proofs.Common.{◌≡◌, Some, sym, subst, ap}
 use Rattle.ir_entities.specs.Uses.{key_of}
 use Rattle.ir_program.specs.Program.{Program}
-use Rattle.ir_program.proofs.RowFrames.{on_ok, on_err, either_way}
-use Rattle.ir_program.proofs.OperandEdits.{types-same, kept-sound, operands-unchanged, pushed-sound, pushed-seen}
+use Rattle.ir_program.proofs.rows.RowFrames.{on_ok, on_err, either_way}
+use Rattle.ir_program.proofs.rows.OperandEdits.{types-same, kept-sound, operands-unchanged, pushed-sound, pushed-seen}
 use Rattle.ir_program.proofs.program.Program.push_operand.Goals as goal
 
 pub invariant_of-self : goal.invariant_of-self
@@ -26,7 +26,10 @@ returns-clause-err g c =
     rw (← c.self.view_is) (on_err c.push_place.result c.push_place.ensures.err c.push_place.ensures.row_err
     (λ same rows. operands-unchanged was c.args.op c.op_mut-record.result.now c.op_mut-record.ensures.value c.push_place.new.row c.push_place.new.uses c.self.invariant same rows))
 
-pub returns-clause-types : goal.returns-clause-types
-returns-clause-types g c =
+pub returns-clause-values : goal.returns-clause-values
+returns-clause-values g c =
     let was : Program g.row.O.Denot g.row.B.Denot = record { forest = c.self.inside.forest; values = c.self.inside.values; targets = c.self.inside.targets; counter = c.self.inside.counter } in
-    rw (← c.self.view_is) (types-same was c.args.op c.op_mut-record.result.now c.op_mut-record.ensures.value c.push_place.new.row c.push_place.new.uses)
+    record {
+      types = rw (← c.self.view_is) (types-same was c.args.op c.op_mut-record.result.now c.op_mut-record.ensures.value c.push_place.new.row c.push_place.new.uses);
+      counter = ap (λ (w : Program _ _). w.counter) c.self.view_is;
+    }

@@ -2,7 +2,7 @@ use Rattle.std.proofs.Common.{◌∙◌, sym}
 use Rattle.std.proofs.lemmas.Iterator.Adapters.{option_map_id}
 use Rattle.std.proofs.lemmas.Iterator.Consumers.{nth_from_yields_List, YieldsList-from_first}
 use Rattle.ir_program.specs.Lists.{regions_in}
-use Rattle.ir_program.proofs.InOperations.{region_stands}
+use Rattle.ir_program.proofs.lists.InOperations.{region_stands}
 use Rattle.ir_program.proofs.program.Program.region.Goals as goal
 
 pub returns-clause-region : goal.returns-clause-region

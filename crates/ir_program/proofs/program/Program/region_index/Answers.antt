@@ -2,8 +2,8 @@ use Rattle.std.proofs.Common.{◌≡◌, ◌≢◌, rules, tests}
 use Rattle.std.proofs.lemmas.Iterator.{IsFirst-from_position}
 use Rattle.std.proofs.lemmas.Iterator.Consumers.{YieldsList-from_first}
 use Rattle.ir_program.specs.Lists.{regions_in}
-use Rattle.ir_program.proofs.Slotted.{not_found, found_at}
-use Rattle.ir_program.proofs.InOperations.{only_region_index}
+use Rattle.ir_program.proofs.lists.Slotted.{not_found, found_at}
+use Rattle.ir_program.proofs.lists.InOperations.{only_region_index}
 use Rattle.ir_program.proofs.program.Program.region_index.Goals as goal
 
 pub unreachable-requires : goal.unreachable-requires

@@ -1,4 +1,4 @@
-use Rattle.ir_program.proofs.InOperations.{all_regions_stand}
+use Rattle.ir_program.proofs.lists.InOperations.{all_regions_stand}
 use Rattle.ir_program.proofs.program.Program.regions.Goals as goal
 
 pub returns-clause-stand : goal.returns-clause-stand

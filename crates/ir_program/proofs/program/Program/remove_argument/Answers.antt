@@ -1,7 +1,7 @@
 use Rattle.std.proofs.Common.{refl}
-use Rattle.ir_program.proofs.Leaves.{free-argument}
-use Rattle.ir_program.proofs.BlockJoins.{argument-defined, argument-unnamed, argument-left_value, argument-left-sound, argument-left-seen}
-use Rattle.ir_program.proofs.Kept.{argument-forgotten}
+use Rattle.ir_program.proofs.defined.Leaves.{free-argument}
+use Rattle.ir_program.proofs.defined.BlockJoins.{argument-defined, argument-unnamed, argument-left_value, argument-left-sound, argument-left-seen}
+use Rattle.ir_program.proofs.defined.Kept.{argument-forgotten}
 use Rattle.ir_program.proofs.program.Program.remove_argument.Goals as goal
 
 pub remove_definition-definition-requires-clause-defined : goal.remove_definition-definition-requires-clause-defined

@@ -1,6 +1,6 @@
 use Rattle.std.proofs.Common.{refl}
-use Rattle.ir_program.proofs.Leaves.{free-result, result-defined, result-unnamed, result-left_value, result-left-sound, result-left-seen}
-use Rattle.ir_program.proofs.Kept.{result-forgotten}
+use Rattle.ir_program.proofs.defined.Leaves.{free-result, result-defined, result-unnamed, result-left_value, result-left-sound, result-left-seen}
+use Rattle.ir_program.proofs.defined.Kept.{result-forgotten}
 use Rattle.ir_program.proofs.program.Program.remove_result.Goals as goal
 
 pub remove_definition-definition-requires-clause-defined : goal.remove_definition-definition-requires-clause-defined

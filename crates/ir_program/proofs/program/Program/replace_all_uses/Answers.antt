@@ -1,5 +1,5 @@
-use Rattle.ir_program.proofs.Consequences.{value-unused, value-counts}
-use Rattle.ir_program.proofs.Renaming.{replaced-sound, replaced-seen}
+use Rattle.ir_program.proofs.used.Consequences.{value-unused, value-counts}
+use Rattle.ir_program.proofs.used.Renaming.{replaced-sound, replaced-seen}
 use Rattle.ir_program.proofs.program.Program.replace_all_uses.Goals as goal
 
 pub invariant_of-self : goal.invariant_of-self

@@ -2,8 +2,8 @@ use Rattle.std.proofs.Common.{◌≡◌, ◌<◌, Some, length, sym, subst}
 use Rattle.ir_entities.specs.Uses.{key_of}
 use Rattle.ir_program.specs.Program.{Program}
 use Rattle.ir_program.specs.Rows.{operands_at}
-use Rattle.ir_program.proofs.RowReads.{row-place, operand-row, operand-stood}
-use Rattle.ir_program.proofs.OperandEdits.{renamed-sound, renamed-seen}
+use Rattle.ir_program.proofs.rows.RowReads.{row-place, operand-row, operand-stood}
+use Rattle.ir_program.proofs.rows.OperandEdits.{renamed-sound, renamed-seen}
 use Rattle.ir_program.proofs.program.Program.replace_operand.Goals as goal
 
 pub rename-requires-clause-place : goal.rename-requires-clause-place

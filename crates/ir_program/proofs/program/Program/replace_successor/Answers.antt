@@ -2,8 +2,8 @@ use Rattle.std.proofs.Common.{◌≡◌, ◌<◌, Some, length, sym, subst}
 use Rattle.ir_entities.specs.Uses.{key_of}
 use Rattle.ir_program.specs.Program.{Program}
 use Rattle.ir_program.specs.Rows.{successors_at}
-use Rattle.ir_program.proofs.RowReads.{row-place, successor-row, successor-stood}
-use Rattle.ir_program.proofs.SuccessorEdits.{renamed-sound, renamed-seen}
+use Rattle.ir_program.proofs.rows.RowReads.{row-place, successor-row, successor-stood}
+use Rattle.ir_program.proofs.rows.SuccessorEdits.{renamed-sound, renamed-seen}
 use Rattle.ir_program.proofs.program.Program.replace_successor.Goals as goal
 
 pub rename-requires-clause-place : goal.rename-requires-clause-place

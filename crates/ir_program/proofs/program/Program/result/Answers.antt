@@ -1,4 +1,4 @@
-use Rattle.ir_program.proofs.Stands.{result-read, result-live}
+use Rattle.ir_program.proofs.defined.Stands.{result-read, result-live}
 use Rattle.ir_program.proofs.program.Program.result.Goals as goal
 
 pub returns-clause-typed : goal.returns-clause-typed

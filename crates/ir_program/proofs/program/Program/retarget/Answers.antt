@@ -1,5 +1,5 @@
 use Rattle.std.proofs.Common.{sym}
-use Rattle.ir_program.proofs.Renaming.{edge-place, edge-sound, edge-seen}
+use Rattle.ir_program.proofs.used.Renaming.{edge-place, edge-sound, edge-seen}
 use Rattle.ir_program.proofs.program.Program.retarget.Goals as goal
 
 pub rename-requires-clause-place : goal.rename-requires-clause-place

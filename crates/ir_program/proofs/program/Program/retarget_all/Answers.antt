@@ -1,5 +1,5 @@
-use Rattle.ir_program.proofs.Consequences.{block-unused, block-counts}
-use Rattle.ir_program.proofs.Renaming.{retargeted-sound, retargeted-seen}
+use Rattle.ir_program.proofs.used.Consequences.{block-unused, block-counts}
+use Rattle.ir_program.proofs.used.Renaming.{retargeted-sound, retargeted-seen}
 use Rattle.ir_program.proofs.program.Program.retarget_all.Goals as goal
 
 pub invariant_of-self : goal.invariant_of-self

@@ -2,7 +2,7 @@ use Rattle.std.proofs.Common.{◌≡◌, ℕ, List, cond, subst}
 use Rattle.ir_entities.specs.Links.{has}
 use Rattle.ir_entities.specs.Uses.{place_of, naming}
 use Rattle.ir_program.specs.Replacing.{Answers}
-use Rattle.ir_program.proofs.Renaming.{edges-sound, edges-seen}
+use Rattle.ir_program.proofs.used.Renaming.{edges-sound, edges-seen}
 use Rattle.ir_program.proofs.program.Program.retarget_some.Goals as goal
 
 pub invariant_of-self : goal.invariant_of-self

@@ -7,8 +7,8 @@ use Rattle.ir_program.specs.Among.{is_among}
 use Rattle.ir_program.specs.declared.handles.Use.{Use}
 use Rattle.ir_program.specs.declared.handles.Ptr.{Ptr}
 use Rattle.ir_program.specs.declared.handles.BasicBlock.{BasicBlock}
-use Rattle.ir_program.proofs.AddSteps.{take-next}
-use Rattle.ir_program.proofs.ReplacedUses.{edits-none, edits-within, edits-next}
+use Rattle.ir_program.proofs.made.AddSteps.{take-next}
+use Rattle.ir_program.proofs.used.ReplacedUses.{edits-none, edits-within, edits-next}
 use Rattle.ir_program.proofs.program.Program.retarget_uses.Goals as goal
 
 -- what a list of uses has past its end
@@ -40,6 +40,6 @@ loop-place-preserved g c =
           (take-next c.args.places.now c.loop-place.place-index place here)
           (edits-next (λ (o : OperationView _). o.successors) (λ o xs. record o { successors = xs }) (λ o xs. refl) (λ o xs ys. refl) (λ o. refl) c.args.other c.args.self.now c.loop-place.self c.replace_successor.new.self
           (take c.loop-place.place-index c.args.places.now) place (c.requires.places c.loop-place.place-index place here) c.loop-place.invariant.edited c.replace_successor.ensures.replaced);
-      types = λ v. c.replace_successor.ensures.types v ∙ c.loop-place.invariant.types v;
-      counter = c.replace_successor.ensures.counter ∙ c.loop-place.invariant.counter;
+      types = λ v. c.replace_successor.ensures.values.types v ∙ c.loop-place.invariant.types v;
+      counter = c.replace_successor.ensures.values.counter ∙ c.loop-place.invariant.counter;
     }

@@ -1,7 +1,7 @@
 use Rattle.std.proofs.Common.{◌<◌, sym, subst, length, IsSome}
 use Rattle.ir_program.specs.Program.{Program, block_at}
 use Rattle.ir_program.specs.Rows.{successors_at}
-use Rattle.ir_program.proofs.RowReads.{row-place, successor-named, successor-row, successor-stood, known-block}
+use Rattle.ir_program.proofs.rows.RowReads.{row-place, successor-named, successor-row, successor-stood, known-block}
 use Rattle.ir_program.proofs.program.Program.successor.Goals as goal
 
 pub definition-requires : goal.definition-requires

@@ -1,6 +1,6 @@
 use Rattle.std.proofs.Common.{sym, subst}
 use Rattle.ir_program.specs.Made.{TakesBackBlock}
-use Rattle.ir_program.proofs.TakeBacks.{block-apart, block_left-below, block-taken_back}
+use Rattle.ir_program.proofs.made.TakeBacks.{block-apart, block_left-below, block-taken_back}
 use Rattle.ir_program.proofs.program.Program.take_back_block.Goals as goal
 
 pub erase_block-requires-clause-apart : goal.erase_block-requires-clause-apart

@@ -1,6 +1,6 @@
 use Rattle.std.proofs.Common.{sym, subst}
 use Rattle.ir_program.specs.Made.{TakesBackOperation}
-use Rattle.ir_program.proofs.TakeBacks.{operation-apart, operation_left-below, operation-taken_back}
+use Rattle.ir_program.proofs.made.TakeBacks.{operation-apart, operation_left-below, operation-taken_back}
 use Rattle.ir_program.proofs.program.Program.take_back_operation.Goals as goal
 
 pub erase_operation-requires-clause-apart : goal.erase_operation-requires-clause-apart

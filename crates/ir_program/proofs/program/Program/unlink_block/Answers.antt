@@ -1,5 +1,7 @@
-use Rattle.ir_program.proofs.MovingBlocks.{block_linked, blocks_still_program, nothing_further_inside, stands_nowhere, taken_out}
-use Rattle.ir_program.proofs.Rearranged.{types_stay}
+use Rattle.std.proofs.Common.{ap}
+use Rattle.ir_program.specs.Program.{Program}
+use Rattle.ir_program.proofs.lists.MovingBlocks.{block_linked, blocks_still_program, nothing_further_inside, stands_nowhere, taken_out}
+use Rattle.ir_program.proofs.lists.Rearranged.{types_stay}
 use Rattle.ir_program.proofs.program.Program.unlink_block.Goals as goal
 
 pub unlink_block-requires-clause-linked : goal.unlink_block-requires-clause-linked
@@ -17,5 +19,8 @@ returns-clause-unlinked g c = stands_nowhere _ c.args.block c.unlink_block.ensur
 pub returns-clause-inside : goal.returns-clause-inside
 returns-clause-inside g c = nothing_further_inside _ c.args.self.now c.self.view_is c.know_listed.ensures c.unlink_block.new.self c.unlink_block.ensures.rest c.args.block c.unlink_block.ensures.lists
 
-pub returns-clause-types : goal.returns-clause-types
-returns-clause-types g c = types_stay _ c.args.self.now c.self.view_is c.self.inside.forest.in_blocks c.unlink_block.new.self.in_regions c.self.inside.forest.in_ops c.unlink_block.new.self c.unlink_block.ensures.rest
+pub returns-clause-values : goal.returns-clause-values
+returns-clause-values g c = record {
+  types = types_stay _ c.args.self.now c.self.view_is c.self.inside.forest.in_blocks c.unlink_block.new.self.in_regions c.self.inside.forest.in_ops c.unlink_block.new.self c.unlink_block.ensures.rest;
+  counter = ap (λ (w : Program _ _). w.counter) c.self.view_is;
+}

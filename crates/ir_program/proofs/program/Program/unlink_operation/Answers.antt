@@ -1,5 +1,7 @@
-use Rattle.ir_program.proofs.MovingOperations.{op_linked, ops_still_program, nothing_further_inside, stands_nowhere, taken_out}
-use Rattle.ir_program.proofs.Rearranged.{types_stay}
+use Rattle.std.proofs.Common.{ap}
+use Rattle.ir_program.specs.Program.{Program}
+use Rattle.ir_program.proofs.lists.MovingOperations.{op_linked, ops_still_program, nothing_further_inside, stands_nowhere, taken_out}
+use Rattle.ir_program.proofs.lists.Rearranged.{types_stay}
 use Rattle.ir_program.proofs.program.Program.unlink_operation.Goals as goal
 
 pub unlink_op-requires-clause-linked : goal.unlink_op-requires-clause-linked
@@ -17,5 +19,8 @@ returns-clause-unlinked g c = stands_nowhere _ c.args.op c.unlink_op.ensures.roo
 pub returns-clause-inside : goal.returns-clause-inside
 returns-clause-inside g c = nothing_further_inside _ c.args.self.now c.self.view_is c.know_listed.ensures c.unlink_op.new.self c.unlink_op.ensures.rest c.args.op c.unlink_op.ensures.lists
 
-pub returns-clause-types : goal.returns-clause-types
-returns-clause-types g c = types_stay _ c.args.self.now c.self.view_is c.unlink_op.new.self.in_blocks c.self.inside.forest.in_regions c.self.inside.forest.in_ops c.unlink_op.new.self c.unlink_op.ensures.rest
+pub returns-clause-values : goal.returns-clause-values
+returns-clause-values g c = record {
+  types = types_stay _ c.args.self.now c.self.view_is c.unlink_op.new.self.in_blocks c.self.inside.forest.in_regions c.self.inside.forest.in_ops c.unlink_op.new.self c.unlink_op.ensures.rest;
+  counter = ap (λ (w : Program _ _). w.counter) c.self.view_is;
+}

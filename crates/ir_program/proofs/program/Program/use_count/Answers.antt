@@ -1,7 +1,7 @@
 use Rattle.ir_program.specs.Rows.{operands_at}
-use Rattle.ir_program.proofs.Counts.{one-count}
-use Rattle.ir_program.proofs.ListedUses.{counted-uses}
-use Rattle.ir_program.proofs.SeenUses.{value-count}
+use Rattle.ir_program.proofs.used.Counts.{one-count}
+use Rattle.ir_program.proofs.used.ListedUses.{counted-uses}
+use Rattle.ir_program.proofs.used.SeenUses.{value-count}
 use Rattle.ir_program.proofs.program.Program.use_count.Goals as goal
 
 pub returns-clause-count : goal.returns-clause-count

@@ -1,7 +1,7 @@
 use Rattle.std.proofs.Common.{ℕ, ◌<◌, ◌^◌, subst, sym}
 use Rattle.std.proofs.lemmas.List.{length-map}
-use Rattle.ir_program.proofs.ListedUses.{listed-uses}
-use Rattle.ir_program.proofs.SeenUses.{value-uses}
+use Rattle.ir_program.proofs.used.ListedUses.{listed-uses}
+use Rattle.ir_program.proofs.used.SeenUses.{value-uses}
 use Rattle.ir_program.proofs.program.Program.uses_of.Goals as goal
 
 pub returns-clause-uses : goal.returns-clause-uses

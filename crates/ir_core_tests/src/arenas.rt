@@ -1,0 +1,34 @@
+//! What is made where memory is ample.
+use ir_entities::{Arena, Forest, Siblings};
+use std::test::Fail;
+
+#[test]
+fn a_slot_is_used_again(rt: HostRuntime) -> Result<(), Fail> {
+    let mut arena: Arena<u8> = Arena::new(rt.alloc());
+    let old = arena.alloc(7)?;
+    assert_eq!(rt; arena.erase(old), 7);
+    let new = arena.alloc(8)?;
+    assert_eq!(rt; new.slot(), 0);
+    assert!(rt; !arena.is_live(old));
+    assert_eq!(rt; arena.try_deref(new), Some(&8));
+    Ok(())
+}
+
+#[test]
+fn tables_of_siblings_grow(rt: HostRuntime) -> Result<(), Fail> {
+    let mut siblings = Siblings::new(rt.alloc());
+    siblings.add_list()?;
+    siblings.add_node()?;
+    assert_eq!(rt; siblings.lists(), 1);
+    assert_eq!(rt; siblings.nodes(), 1);
+    Ok(())
+}
+
+#[test]
+fn a_forest_grows(rt: HostRuntime) -> Result<(), Fail> {
+    let mut forest: Forest<u8, u8, u8> = Forest::new(rt.alloc());
+    assert!(rt; forest.new_op(1).is_ok());
+    assert!(rt; forest.new_block(2).is_ok());
+    assert!(rt; forest.new_region(3).is_ok());
+    Ok(())
+}

@@ -1,0 +1,63 @@
+//! Making in a fresh context, where no counter is full: what is refused is refused for want of memory.
+ghost use Rattle.std.specs.Prelude.{◌≡◌, IfOk, OnOk, IsSome};
+ghost use Rattle.ir_program.specs.Program.{operation_at};
+ghost use Rattle.ir_program.specs.Made.{HasRoom};
+
+use crate::tiny::{Tiny, TinyOp};
+use ir_core::{BasicBlock, Context, GrowError, NewBlock, NewOperation, Operation, Ptr, Region};
+use std::alloc::{AllocError, Global};
+use std::test::Fail;
+
+/// An operation without results, operands, successors and regions.
+fn make_operation(alloc: Global, ctx: &mut Context<Tiny>) -> Result<Ptr<Operation>, AllocError>
+    requires room { HasRoom ctx.old.program }
+    requires numbers { ctx.old.program.counter ≡ 0 }
+    ensures there { IfOk result (λ op. IsSome (operation_at ctx.new.program op)) }
+    ensures room { OnOk result (HasRoom ctx.new.program) }
+    ensures numbers { OnOk result (ctx.new.program.counter ≡ 0) }
+{
+    match Operation::new(alloc, ctx, TinyOp::Def, &[], &[], &[], 0) {
+        Ok(op) => Ok(op),
+        Err(GrowError::Memory) => Err(AllocError),
+        Err(GrowError::CounterFull) => unreachable!(),
+    }
+}
+
+/// A region of an operation.
+fn make_region(ctx: &mut Context<Tiny>, op: Ptr<Operation>) -> Result<Ptr<Region>, AllocError>
+    requires op { IsSome (operation_at ctx.old.program op) }
+    requires room { HasRoom ctx.old.program }
+    requires numbers { ctx.old.program.counter ≡ 0 }
+    ensures room { OnOk result (HasRoom ctx.new.program) }
+    ensures numbers { OnOk result (ctx.new.program.counter ≡ 0) }
+{
+    match ctx.add_region(op) {
+        Ok(region) => Ok(region),
+        Err(GrowError::Memory) => Err(AllocError),
+        Err(GrowError::CounterFull) => unreachable!(),
+    }
+}
+
+/// A block without a label and arguments.
+fn make_block(alloc: Global, ctx: &mut Context<Tiny>) -> Result<Ptr<BasicBlock>, AllocError>
+    requires room { HasRoom ctx.old.program }
+    requires numbers { ctx.old.program.counter ≡ 0 }
+    ensures room { OnOk result (HasRoom ctx.new.program) }
+    ensures numbers { OnOk result (ctx.new.program.counter ≡ 0) }
+{
+    match BasicBlock::new(alloc, ctx, None, &[]) {
+        Ok(block) => Ok(block),
+        Err(GrowError::Memory) => Err(AllocError),
+        Err(GrowError::CounterFull) => unreachable!(),
+    }
+}
+
+#[test]
+fn a_fresh_context_has_room(rt: HostRuntime) -> Result<(), Fail> {
+    let mut ctx: Context<Tiny> = Context::new(rt.alloc());
+    let op = make_operation(rt.alloc(), &mut ctx)?;
+    make_region(&mut ctx, op)?;
+    make_block(rt.alloc(), &mut ctx)?;
+    make_operation(rt.alloc(), &mut ctx)?;
+    Ok(())
+}

@@ -1,0 +1,28 @@
+//! Rows of places that grow where memory is ample.
+use ir_entities::{Spot, Uses, insert_place, push_place};
+use std::test::Fail;
+
+#[test]
+fn a_place_is_pushed(rt: HostRuntime) -> Result<(), Fail> {
+    let mut uses: Uses<u64> = Uses::new(rt.alloc());
+    let mut row = Vec::new(rt.alloc());
+    let definition = uses.define(70)?;
+    push_place(&mut uses, &mut row, 5, definition)?;
+    push_place(&mut uses, &mut row, 5, definition)?;
+    assert_eq!(rt; row.len(), 2);
+    assert_eq!(rt; uses.spot(row[1]), Spot { user: 5, index: 1 });
+    assert_eq!(rt; uses.count(definition), 2);
+    Ok(())
+}
+
+#[test]
+fn a_place_is_inserted(rt: HostRuntime) -> Result<(), Fail> {
+    let mut uses: Uses<u64> = Uses::new(rt.alloc());
+    let mut row = Vec::new(rt.alloc());
+    let definition = uses.define(70)?;
+    insert_place(&mut uses, &mut row, 5, 0, definition)?;
+    assert_eq!(rt; row.len(), 1);
+    assert_eq!(rt; uses.spot(row[0]), Spot { user: 5, index: 0 });
+    assert_eq!(rt; uses.count(definition), 1);
+    Ok(())
+}

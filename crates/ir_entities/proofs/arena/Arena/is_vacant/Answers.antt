@@ -1,5 +1,0 @@
-use Rattle.ir_entities.proofs.Vacant.{vacant_exactly}
-use Rattle.ir_entities.proofs.arena.Arena.is_vacant.Goals as goal
-
-pub returns : goal.returns
-returns g c = vacant_exactly c.args.self.now c.has_no_value.result c.has_no_value.ensures

@@ -1,0 +1,11 @@
+pub mod Numbers
+pub mod OwnNumbers
+pub mod Joins
+pub mod Found
+pub mod Stands
+pub mod Leaves
+pub mod BlockJoins
+pub mod Kept
+pub mod Standing
+pub mod KeptTypes
+pub mod Arrivals

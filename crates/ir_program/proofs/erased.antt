@@ -1,0 +1,10 @@
+pub mod Clears
+pub mod DropWalks
+pub mod Gone
+pub mod Apart
+pub mod Erasures
+pub mod ForgetSteps
+pub mod ForgetThreads
+pub mod ForgetWalks
+pub mod DroppedUses
+pub mod RegionErasures

@@ -1,0 +1,15 @@
+pub mod Slotted
+pub mod Levels
+pub mod InBlocks
+pub mod Rearranged
+pub mod MovingOperations
+pub mod There
+pub mod InRegions
+pub mod MovingBlocks
+pub mod InOperations
+pub mod MovingRegions
+pub mod Inside
+pub mod Preorders
+pub mod Unlinks
+pub mod BlockUnlinks
+pub mod Returns

@@ -1,0 +1,15 @@
+pub mod Empty
+pub mod Lent
+pub mod Frames
+pub mod Alike
+pub mod Held
+pub mod NewBlocks
+pub mod FullSlots
+pub mod NewRegions
+pub mod Carried
+pub mod AddSteps
+pub mod TakeBacks
+pub mod RegionSteps
+pub mod BuildSteps
+pub mod BlockBuilds
+pub mod Vacant

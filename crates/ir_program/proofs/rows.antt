@@ -1,0 +1,5 @@
+pub mod RowNames
+pub mod RowFrames
+pub mod OperandEdits
+pub mod SuccessorEdits
+pub mod RowReads

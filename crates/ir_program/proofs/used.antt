@@ -1,0 +1,13 @@
+pub mod NamedUses
+pub mod SeenUses
+pub mod Renames
+pub mod Renaming
+pub mod Choices
+pub mod ChosenUses
+pub mod Consequences
+pub mod Counts
+pub mod UserWalks
+pub mod UserHandles
+pub mod ReplacedUses
+pub mod FewUses
+pub mod ListedUses

@@ -1,0 +1,409 @@
+-- The characters of a layout are its tokens.
+use Rattle.std.proofs.Common.{◌≡◌, ℕ, zero, suc, ◌+◌, Bool, true, false, ◌&&◌, ◌||◌, List, [], ◌∷◌, ◌++◌, map, take, drop, Option, Some, None, slice_get, refl, sym, subst}
+use Rattle.std.specs.List.{list_all}
+use Rattle.std.specs.Str.{IsAscii, IsUtf8, chars}
+use Rattle.std.proofs.lemmas.Str.{IsUtf8-from_ascii, chars-IsAscii}
+use Rattle.ir_names.specs.Tree.{node, no_tree, a_tree}
+use Rattle.ir_names.specs.Text.{is_identifier}
+use Rattle.ir_print.specs.Formats as step
+use Rattle.ir_print.specs.Formats.{Formats, Kind, Step, Steps, no_steps}
+use Rattle.ir_print.specs.Layout.{Before, an_id, a_word, a_part, gap_of_word, gap_of_part, line}
+use Rattle.ir_print.specs.Pieces.{type_of_kind, attribute_of_kind, list, item, operands, region, name, number, width, ValueTree, Pieces, Values, Head, operation, a_region, block, Entity, entity, Entities, no_entity, an_entity}
+use Rattle.ir_print.specs.Shapes.{parts_in, Fits, FitAll, FitMembers, FitsMember, FitArguments}
+use Rattle.ir_grammar.specs.declared.grammar.Action.{Action}
+use Rattle.ir_grammar.specs.declared.grammar.Action.TheVariants as act
+use Rattle.ir_tokens.specs.declared.tokens.Token.{Token}
+use Rattle.ir_tokens.specs.Tokens.{is_sign, ReadsAs}
+use Rattle.ir_formats.specs.Words.{text_of}
+use Rattle.ir_rereading.specs.Printable.{is_word, less_spaces, is_before_spaces, is_printed, begins_apart, ends_apart, Edge, apart, behind, part, may_follow, may_take, is_step_apart, are_steps_apart, is_kind_printable, is_printable}
+use Rattle.ir_forest.specs.Closed.{names_of, FitsHead, FitsTree, FitTrees}
+use Rattle.ir_rereading.proofs.layouts.Marks.{Mark, white, token, word, did, characters, tokens, Marker, part_on, format_on, kind_on, more_members_on, members_on, piece_on, parts_on, type_on, more_names_on, names_on, results_on, operands_on, first_region_on, all_parts_on, operation_head_on, argument_on, more_arguments_on, arguments_on, block_head_on, operation_on, regions_on, region_on, blocks_on, block_on, operations_on, more_operations_on, marks, sort_of, AreIdentifiers, IsSpeltHead, IsSpelt, AreSpelt}
+use Rattle.ir_rereading.proofs.layouts.Lexemes as lexemes
+use Rattle.ir_rereading.proofs.layouts.Lexemes.{clash, ended, Lexes, placed_all, lexes_ascii}
+use Rattle.ir_rereading.proofs.layouts.LexedWords.{Opens, Follows, IsLexeme, lexeme_opens, sign_opens, sign_follows, blank_follows, spaces_open, identifier_is, number_is, width_is, word_is, Behind, word_opens, word_clean}
+use Rattle.ir_formats.proofs.Booleans.{both_hold}
+
+-- ---- marks
+
+-- The characters of the marks are their tokens.
+pub record IsLexed (ms : List Mark) : Type 0 where
+  pub opens : Opens (characters ms) (tokens ms)
+
+-- The same, and they stop every token.
+pub record IsNext (ms : List Mark) : Type 0 where
+  pub follows : Follows (characters ms) (tokens ms)
+
+loose : {ms : List Mark} → IsNext ms → IsLexed ms
+loose k = record { opens = k.follows.opens }
+
+done : {a : Action} {ms : List Mark} → IsNext ms → IsNext (did a ∷ ms)
+done k = record { follows = k.follows }
+
+acted : {a : Action} {ms : List Mark} → IsLexed ms → IsLexed (did a ∷ ms)
+acted l = record { opens = l.opens }
+
+lexeme : (x : List ℕ) {ms : List Mark} → IsLexeme x → IsNext ms → IsLexed (token x ∷ ms)
+lexeme x t k = record { opens = lexeme_opens x t k.follows }
+
+signed : (c : ℕ) {ms : List Mark} → is_sign c ≡ true → IsLexed ms → IsNext (token (c ∷ []) ∷ ms)
+signed c h l = record { follows = sign_follows c h l.opens }
+
+spaced : {ms : List Mark} → IsLexed ms → IsNext (white (32 ∷ []) ∷ ms)
+spaced l = record { follows = blank_follows 32 refl l.opens }
+
+lined : (n : ℕ) {ms : List Mark} → IsLexed ms → IsNext (white (line n) ∷ ms)
+lined n l = record { follows = blank_follows 10 refl (spaces_open n l.opens) }
+
+unset : {ms : List Mark} → IsLexed ms → IsLexed (white [] ∷ ms)
+unset l = record { opens = l.opens }
+
+unset_next : {ms : List Mark} → IsNext ms → IsNext (white [] ∷ ms)
+unset_next k = record { follows = k.follows }
+
+-- a sign with a space behind it, as it is printed between two
+sign_word : (c : ℕ) {ms : List Mark} → is_sign c ≡ true → IsLexed ms → IsNext (word (c ∷ 32 ∷ []) (c ∷ []) ∷ ms)
+sign_word c h l = record { follows = sign_follows c h (blank_follows 32 refl l.opens).opens }
+
+-- a sign with spaces around it
+set_word : (c : ℕ) {ms : List Mark} → is_sign c ≡ true → IsLexed ms → IsNext (word (32 ∷ c ∷ 32 ∷ []) (c ∷ []) ∷ ms)
+set_word c h l = record { follows = blank_follows 32 refl (sign_opens c h (blank_follows 32 refl l.opens).opens) }
+
+-- what has to follow a word
+abbrev WordNext : Bool → List Mark → Type 0
+WordNext true ms = IsLexed ms
+WordNext false ms = IsNext ms
+
+word_next : (b : Bool) (ms : List Mark) → WordNext b ms → Behind b (characters ms) (tokens ms)
+word_next true ms l = l.opens
+word_next false ms k = k.follows
+
+-- a word of a format
+format_word : (printed text : List ℕ) (ms : List Mark) → is_printed printed text ≡ true → WordNext (ends_apart printed) ms → IsLexed (word printed text ∷ ms)
+format_word printed text ms h w =
+    let b = both_hold (is_word text) (is_before_spaces text (less_spaces printed)) h in
+    record { opens = word_opens printed text _ _ b.0 b.1 (word_next (ends_apart printed) ms w) }
+
+format_word_next : (printed text : List ℕ) (ms : List Mark) → is_printed printed text ≡ true → begins_apart printed ≡ true → WordNext (ends_apart printed) ms → IsNext (word printed text ∷ ms)
+format_word_next printed text ms h a w =
+    let b = both_hold (is_word text) (is_before_spaces text (less_spaces printed)) h in
+    record { follows = record { opens = word_opens printed text _ _ b.0 b.1 (word_next (ends_apart printed) ms w); clean = word_clean printed text _ b.0 b.1 a } }
+
+-- ---- formats
+
+-- What is printed for a part is its tokens, before what stops every token.
+abbrev pub IsMarked : Step → Option Marker → Type 0
+IsMarked s None = Unit {0}
+IsMarked s (Some p) = is_step_apart s ≡ true → (rest : List Mark) → IsNext rest → IsLexed (p s rest)
+
+-- The same of parts at their steps, one each.
+abbrev pub AreMarked : List Step → List (Option Marker) → Type 0
+AreMarked [] [] = Unit {0}
+AreMarked (s ∷ ss) (p ∷ ps) = IsMarked s p × AreMarked ss ps
+AreMarked _ _ = ⊥
+
+-- What has to come next in a format: behind a token that runs on it stops every token.
+abbrev Owes : Before → Edge → List Mark → Type 0
+Owes an_id e ms = IsNext ms
+Owes a_part part ms = IsNext ms
+Owes a_part _ ms = IsLexed ms
+Owes a_word (behind p) ms = WordNext (ends_apart p) ms
+Owes a_word _ ms = IsLexed ms
+
+word_of_next : (b : Bool) (ms : List Mark) → IsNext ms → WordNext b ms
+word_of_next true ms k = loose k
+word_of_next false ms k = k
+
+owes_next : (before : Before) (edge : Edge) (ms : List Mark) → IsNext ms → Owes before edge ms
+owes_next an_id edge ms k = k
+owes_next a_part apart ms k = loose k
+owes_next a_part (behind p) ms k = loose k
+owes_next a_part part ms k = k
+owes_next a_word apart ms k = loose k
+owes_next a_word (behind p) ms k = word_of_next (ends_apart p) ms k
+owes_next a_word part ms k = loose k
+
+take_after : (b : Bool) (ms : List Mark) → b ≡ true → IsLexed ms → WordNext b ms
+take_after true ms h l = l
+take_after false ms h l = absurd (let t : false ≡ true = h in cc)
+
+-- a part that may stand here
+owes_part : (before : Before) (edge : Edge) (ms : List Mark) → may_take edge ≡ true → IsLexed ms → Owes before edge (white (gap_of_part before) ∷ ms)
+owes_part an_id edge ms h l = spaced l
+owes_part a_part apart ms h l = loose (spaced l)
+owes_part a_part (behind p) ms h l = loose (spaced l)
+owes_part a_part part ms h l = spaced l
+owes_part a_word apart ms h l = unset l
+owes_part a_word (behind p) ms h l = take_after (ends_apart p) _ h (unset l)
+owes_part a_word part ms h l = unset l
+
+-- no operands, where a part may stand
+owes_none : (before : Before) (edge : Edge) (ms : List Mark) → may_take edge ≡ true → Owes before part ms → Owes before edge (did act.BeginOperands ∷ did act.EndOperands ∷ ms)
+owes_none an_id edge ms h k = done (done k)
+owes_none a_part apart ms h k = loose (done (done k))
+owes_none a_part (behind p) ms h k = loose (done (done k))
+owes_none a_part part ms h k = done (done k)
+owes_none a_word apart ms h l = acted (acted l)
+owes_none a_word (behind p) ms h l = take_after (ends_apart p) _ h (acted (acted l))
+owes_none a_word part ms h l = acted (acted l)
+
+follow_after : (e b : Bool) (ms : List Mark) → (e || b) ≡ true → IsLexed ms → (b ≡ true → IsNext ms) → WordNext e ms
+follow_after true b ms h l k = l
+follow_after false b ms h l k = k h
+
+-- a word that may stand here
+owes_word : (before : Before) (edge : Edge) (printed text : List ℕ) (ms : List Mark) → is_printed printed text ≡ true → may_follow edge printed ≡ true → WordNext (ends_apart printed) ms
+    → Owes before edge (white (gap_of_word before) ∷ word printed text ∷ ms)
+owes_word an_id edge printed text ms h m w = spaced (format_word printed text ms h w)
+owes_word a_part apart printed text ms h m w = unset (format_word printed text ms h w)
+owes_word a_part (behind p) printed text ms h m w = unset (format_word printed text ms h w)
+owes_word a_part part printed text ms h m w = unset_next (format_word_next printed text ms h m w)
+owes_word a_word apart printed text ms h m w = unset (format_word printed text ms h w)
+owes_word a_word (behind p) printed text ms h m w =
+    follow_after (ends_apart p) (begins_apart printed) _ m (unset (format_word printed text ms h w)) (λ b. unset_next (format_word_next printed text ms h b w))
+owes_word a_word part printed text ms h m w = unset (format_word printed text ms h w)
+
+-- the next part, or none
+owes_step : (before : Before) (edge : Edge) (s : Step) (ss : List Step) (ps : List (Option Marker)) (more : Before → List (Option Marker) → List Mark) → may_take edge ≡ true → is_step_apart s ≡ true
+    → AreMarked (s ∷ ss) ps → ((b : Before) (qs : List (Option Marker)) → AreMarked ss qs → Owes b part (more b qs)) → Owes before edge (part_on before s ps more)
+owes_step before edge s ss [] more h a m k = absurd m
+owes_step before edge s ss (None ∷ ps) more h a m k = owes_none before edge _ h (k before ps m.1)
+owes_step before edge s ss (Some p ∷ ps) more h a m k = owes_part before edge _ h (m.0 a _ (k a_part ps m.1))
+
+-- what a format says
+lex_format : (before : Before) (edge : Edge) (ss : Steps) (ps : List (Option Marker)) (rest : List Mark) → are_steps_apart edge ss ≡ true → AreMarked (parts_in ss) ps → IsNext rest
+    → Owes before edge (format_on before ss ps rest)
+lex_format before edge no_steps ps rest h m k = owes_next before edge rest k
+lex_format before edge (step.step (step.word printed text) ss) ps rest h m k =
+    let b = both_hold (is_printed printed text && may_follow edge printed) (are_steps_apart (behind printed) ss) h in
+    let c = both_hold (is_printed printed text) (may_follow edge printed) b.0 in
+    owes_word before edge printed text _ c.0 c.1 (lex_format a_word (behind printed) ss ps rest b.1 m k)
+lex_format before edge (step.step s ss) ps rest h m k =
+    let b = both_hold (may_take edge && is_step_apart s) (are_steps_apart part ss) h in
+    let c = both_hold (may_take edge) (is_step_apart s) b.0 in
+    owes_step before edge s (parts_in ss) ps _ c.0 c.1 m (λ b2 qs g. lex_format b2 part ss qs rest b.1 g k)
+
+-- a kind's id, and what its format says
+lex_kind : (k : Kind) (begins ends : Action) (ps : List (Option Marker)) (rest : List Mark) → is_kind_printable k ≡ true → AreMarked (parts_in k.format) ps → IsNext rest
+    → IsLexed (kind_on (Some k) begins ends ps rest)
+lex_kind k begins ends ps rest h m n =
+    let b = both_hold (is_word k.id) (are_steps_apart apart k.format) h in
+    lexeme k.id (word_is k.id b.0) (done (lex_format an_id apart k.format ps _ b.1 m (done n)))
+
+kind_at : (ks : List Kind) (n : ℕ) (k : Kind) → list_all is_kind_printable ks ≡ true → slice_get ks n ≡ Some k → is_kind_printable k ≡ true
+kind_at [] zero k h e = absurd (let t : None ≡ Some k = e in cc)
+kind_at [] (suc n) k h e = absurd (let t : None ≡ Some k = e in cc)
+kind_at (j ∷ ks) zero k h e = let t : Some j ≡ Some k = e in let u : j ≡ k = cc in subst (λ x. is_kind_printable x ≡ true) u (both_hold (is_kind_printable j) (list_all is_kind_printable ks) h).0
+kind_at (j ∷ ks) (suc n) k h e = kind_at ks n k (both_hold (is_kind_printable j) (list_all is_kind_printable ks) h).1 e
+
+-- ---- lists
+
+-- each member is printed as its tokens
+abbrev EachMarked : Step → List (Option Marker) → Type 0
+EachMarked s [] = Unit {0}
+EachMarked s (None ∷ ps) = EachMarked s ps
+EachMarked s (Some p ∷ ps) = ((rest : List Mark) → IsNext rest → IsLexed (p s rest)) × EachMarked s ps
+
+module _ (member : Steps) (printed text : List ℕ) (h : is_printed printed text ≡ true) (begins : begins_apart printed ≡ true) (ends : ends_apart printed ≡ true) where
+  lex_more_members : (ps : List (Option Marker)) (rest : List Mark) → EachMarked (step.list_of member printed text) ps → IsNext rest → IsNext (more_members_on (step.list_of member printed text) ps rest)
+  lex_more_members [] rest m k = k
+  lex_more_members (None ∷ ps) rest m k = format_word_next printed text _ h begins (take_after (ends_apart printed) _ ends (loose (lex_more_members ps rest m k)))
+  lex_more_members (Some p ∷ ps) rest m k = format_word_next printed text _ h begins (take_after (ends_apart printed) _ ends (m.0 _ (lex_more_members ps rest m.1 k)))
+
+  lex_members : (ps : List (Option Marker)) (rest : List Mark) → EachMarked (step.list_of member printed text) ps → IsNext rest → IsLexed (members_on (step.list_of member printed text) ps rest)
+  lex_members [] rest m k = loose k
+  lex_members (None ∷ ps) rest m k = loose (lex_more_members ps rest m k)
+  lex_members (Some p ∷ ps) rest m k = m.0 _ (lex_more_members ps rest m.1 k)
+
+lex_list : (member : Steps) (printed text : List ℕ) (ps : List (Option Marker)) (rest : List Mark) → is_step_apart (step.list_of member printed text) ≡ true
+    → EachMarked (step.list_of member printed text) ps → IsNext rest → IsLexed (members_on (step.list_of member printed text) ps rest)
+lex_list member printed text ps rest h m k =
+    let a = both_hold (is_printed printed text && begins_apart printed && ends_apart printed) (are_steps_apart part member) h in
+    let b = both_hold (is_printed printed text && begins_apart printed) (ends_apart printed) a.0 in
+    let c = both_hold (is_printed printed text) (begins_apart printed) b.0 in
+    lex_members member printed text c.0 c.1 b.1 ps rest m k
+
+-- ---- names
+
+lex_more_names : (a : Action) (xs : List (List ℕ)) (rest : List Mark) → AreIdentifiers xs → IsNext rest → IsNext (more_names_on a xs rest)
+lex_more_names a [] rest h k = k
+lex_more_names a (x ∷ xs) rest h k = sign_word 44 refl (lexeme x (identifier_is x h.0) (done (lex_more_names a xs rest h.1 k)))
+
+lex_names : (a : Action) (xs : List (List ℕ)) (rest : List Mark) → AreIdentifiers xs → IsNext rest → IsLexed (names_on a xs rest)
+lex_names a [] rest h k = loose k
+lex_names a (x ∷ xs) rest h k = lexeme x (identifier_is x h.0) (done (lex_more_names a xs rest h.1 k))
+
+lex_results : (rs : List (List ℕ × ValueTree)) (rest : List Mark) → AreIdentifiers (names_of rs) → IsLexed rest → IsLexed (results_on rs rest)
+lex_results [] rest h l = l
+lex_results (r ∷ rs) rest h l = lex_names act.Result (names_of (r ∷ rs)) _ h (set_word 61 refl l)
+
+lex_operands : (s : Step) (xs : List (List ℕ)) → AreIdentifiers xs → IsMarked s (operands_on xs)
+lex_operands s [] h = tt
+lex_operands s (x ∷ xs) h = λ a rest k. acted (lex_names act.Operand (x ∷ xs) _ h (done k))
+
+take_names : (n : ℕ) (xs : List (List ℕ)) → AreIdentifiers xs → AreIdentifiers (take n xs)
+take_names zero xs h = tt
+take_names (suc n) [] h = tt
+take_names (suc n) (x ∷ xs) h = (h.0, take_names n xs h.1)
+
+drop_names : (n : ℕ) (xs : List (List ℕ)) → AreIdentifiers xs → AreIdentifiers (drop n xs)
+drop_names zero xs h = h
+drop_names (suc n) [] h = tt
+drop_names (suc n) (x ∷ xs) h = drop_names n xs h.1
+
+-- each of these is printed as its tokens, behind anything
+abbrev AllNext : List (List Mark → List Mark) → Type 0
+AllNext [] = Unit {0}
+AllNext (r ∷ rs) = ((rest : List Mark) → IsNext rest → IsNext (r rest)) × AllNext rs
+
+lex_first : (s : Step) (rs : List (List Mark → List Mark)) → AllNext rs → IsMarked s (Some (first_region_on rs))
+lex_first s [] h = λ a rest k. loose k
+lex_first s (r ∷ rs) h = λ a rest k. loose (h.0 rest k)
+
+drop_next : (n : ℕ) (rs : List (List Mark → List Mark)) → AllNext rs → AllNext (drop n rs)
+drop_next zero rs h = h
+drop_next (suc n) [] h = tt
+drop_next (suc n) (r ∷ rs) h = drop_next n rs h.1
+
+-- ---- pieces
+
+module _ (f : Formats) (v : Values) (printable : is_printable f ≡ true) where
+  printable_types : list_all is_kind_printable f.types ≡ true
+  printable_types = (both_hold _ (list_all is_kind_printable f.types) (both_hold _ (list_all is_kind_printable f.attributes) printable).0).1
+
+  printable_attributes : list_all is_kind_printable f.attributes ≡ true
+  printable_attributes = (both_hold _ (list_all is_kind_printable f.attributes) printable).1
+
+  printable_operations : list_all is_kind_printable f.operations ≡ true
+  printable_operations = (both_hold _ (list_all is_kind_printable f.operations) (both_hold _ (list_all is_kind_printable f.types) (both_hold _ (list_all is_kind_printable f.attributes) printable).0).0).1
+
+  lex_found : (found : Option Kind) (k : Kind) (begins ends : Action) (ps : List (Option Marker)) (rest : List Mark) → found ≡ Some k → is_kind_printable k ≡ true
+      → AreMarked (parts_in k.format) ps → IsNext rest → IsLexed (kind_on found begins ends ps rest)
+  lex_found found k begins ends ps rest e h m n = subst (λ o. IsLexed (kind_on o begins ends ps rest)) (sym e) (lex_kind k begins ends ps rest h m n)
+
+  mutual
+    lex_piece : (t : ValueTree) (s : Step) → Fits f v s t → IsMarked s (Some (piece_on f t))
+    lex_piece (node (type_of_kind n) ts) s h a rest k =
+        lex_found _ h.1 (act.BeginType n) act.EndType _ rest h.2 (kind_at f.types n h.1 printable_types h.2) (lex_pieces ts (parts_in h.1.format) h.3) k
+    lex_piece (node (attribute_of_kind n) ts) s h a rest k =
+        lex_found _ h.1 (act.BeginAttribute n) act.EndAttribute _ rest h.2 (kind_at f.attributes n h.1 printable_attributes h.2) (lex_pieces ts (parts_in h.1.format) h.3) k
+    lex_piece (node list ts) (step.list_of member printed text) h a rest k =
+        acted (lex_list member printed text (parts_on f ts) (did act.EndList ∷ rest) a
+        (lex_items ts member printed text h (both_hold (is_printed printed text && begins_apart printed && ends_apart printed) (are_steps_apart part member) a).1) (done k))
+    lex_piece (node list ts) _ h a rest k = absurd h
+    lex_piece (node item ts) s h a rest k = absurd h
+    lex_piece (node (operands n) ts) s h a rest k = loose k
+    lex_piece (node region ts) s h a rest k = loose k
+    lex_piece (node (name cs) ts) step.symbol_name h a rest k = loose (signed 64 refl (lexeme cs (identifier_is cs h.1) (done k)))
+    lex_piece (node (name cs) ts) step.a_name h a rest k = lexeme cs (identifier_is cs h.1) (done k)
+    lex_piece (node (name cs) ts) _ h a rest k = absurd h.0
+    lex_piece (node (number negative magnitude) ts) s h a rest k = lexeme _ (number_is negative magnitude h.1) (done k)
+    lex_piece (node (width sign bits) ts) s h a rest k = lexeme _ (width_is sign bits h.1) (done k)
+
+    lex_pieces : (ts : Pieces) (ss : List Step) → FitAll f v ss ts → AreMarked ss (parts_on f ts)
+    lex_pieces no_tree [] h = tt
+    lex_pieces no_tree (s ∷ ss) h = absurd h
+    lex_pieces (a_tree t ts) [] h = absurd h
+    lex_pieces (a_tree t ts) (s ∷ ss) h = (lex_piece t s h.0, lex_pieces ts ss h.1)
+
+    lex_items : (ts : Pieces) (member : Steps) (printed text : List ℕ) → FitMembers f v (parts_in member) ts → are_steps_apart part member ≡ true
+        → EachMarked (step.list_of member printed text) (parts_on f ts)
+    lex_items no_tree member printed text h a = tt
+    lex_items (a_tree t ts) member printed text h a = (lex_item t member printed text h.0 a, lex_items ts member printed text h.1 a)
+
+    lex_item : (t : ValueTree) (member : Steps) (printed text : List ℕ) → FitsMember f v (parts_in member) t → are_steps_apart part member ≡ true
+        → (rest : List Mark) → IsNext rest → IsLexed (piece_on f t (step.list_of member printed text) rest)
+    lex_item (node item ts) member printed text h a rest k = acted (lex_format a_word part member (parts_on f ts) (did act.EndItem ∷ rest) a (lex_pieces ts (parts_in member) h) (done k))
+    lex_item (node _ ts) member printed text h a rest k = absurd h
+
+  lex_type : (t : ValueTree) (rest : List Mark) → Fits f v step.a_type t → IsNext rest → IsLexed (type_on f t rest)
+  lex_type t rest h k = lex_piece t step.a_type h refl rest k
+
+  -- ---- heads
+
+  lex_all_parts : (ts : Pieces) (ss : List Step) (us : List (List ℕ)) (rs : List (List Mark → List Mark)) → FitAll f v ss ts → AreIdentifiers us → AllNext rs → AreMarked ss (all_parts_on f ts us rs)
+  lex_all_parts no_tree [] us rs h u r = tt
+  lex_all_parts no_tree (s ∷ ss) us rs h u r = absurd h
+  lex_all_parts (a_tree t ts) [] us rs h u r = absurd h
+  lex_all_parts (a_tree (node (operands n) x) ts) (s ∷ ss) us rs h u r = (lex_operands s (take n us) (take_names n us u), lex_all_parts ts ss (drop n us) rs h.1 (drop_names n us u) r)
+  lex_all_parts (a_tree (node region x) ts) (s ∷ ss) us rs h u r = (lex_first s rs r, lex_all_parts ts ss us (drop 1 rs) h.1 u (drop_next 1 rs r))
+  lex_all_parts (a_tree (node p x) ts) (s ∷ ss) us rs h u r = (lex_piece (node p x) s h.0, lex_all_parts ts ss us rs h.1 u r)
+
+  lex_argument : (x : List ℕ × ValueTree) (rest : List Mark) → is_identifier x.0 ≡ true → Fits f v step.a_type x.1 → IsNext rest → IsLexed (argument_on f x rest)
+  lex_argument x rest h g k = lexeme x.0 (identifier_is x.0 h) (done (sign_word 58 refl (lex_type x.1 rest g k)))
+
+  lex_more_arguments : (xs : List (List ℕ × ValueTree)) (rest : List Mark) → AreIdentifiers (names_of xs) → FitArguments f v xs → IsNext rest → IsNext (more_arguments_on f xs rest)
+  lex_more_arguments [] rest h g k = k
+  lex_more_arguments (x ∷ xs) rest h g k = sign_word 44 refl (lex_argument x _ h.0 g.0 (lex_more_arguments xs rest h.1 g.1 k))
+
+  lex_arguments : (xs : List (List ℕ × ValueTree)) (rest : List Mark) → AreIdentifiers (names_of xs) → FitArguments f v xs → IsNext rest → IsLexed (arguments_on f xs rest)
+  lex_arguments [] rest h g k = loose k
+  lex_arguments (x ∷ xs) rest h g k = lex_argument x _ h.0 g.0 (lex_more_arguments xs rest h.1 g.1 k)
+
+  lex_operation_head : (h : Head (List ℕ)) (rs : List (List Mark → List Mark)) (rest : List Mark) → FitsHead f v h → IsSpeltHead h → AllNext rs → IsNext rest → IsLexed (operation_head_on f h rs rest)
+  lex_operation_head (operation kind results used pieces) rs rest g s r k =
+      lex_results results _ s.0 (lex_found _ g.0 (act.Operation kind) act.EndOperation _ rest g.1 (kind_at f.operations kind g.0 printable_operations g.1)
+      (lex_all_parts pieces (parts_in g.0.format) used rs g.2 s.1 r) k)
+  lex_operation_head a_region rs rest g s r k = loose k
+  lex_operation_head (block label arguments) rs rest g s r k = loose k
+
+  lex_block_head : (h : Head (List ℕ)) (inner : List Mark → List Mark) (rest : List Mark) → FitsHead f v h → IsSpeltHead h → ((r : List Mark) → IsNext r → IsNext (inner r)) → IsNext rest
+      → IsLexed (block_head_on f h inner rest)
+  lex_block_head (operation kind results used pieces) inner rest g s i k = loose (i rest k)
+  lex_block_head a_region inner rest g s i k = loose (i rest k)
+  lex_block_head (block label arguments) inner rest g s i k =
+      loose (signed 94 refl (lexeme label (identifier_is label s.0) (done (signed 40 refl (lex_arguments arguments _ s.1 g
+      (signed 41 refl (loose (signed 58 refl (acted (loose (i _ (done k))))))))))))
+
+  -- ---- operations, regions and blocks
+
+  mutual
+    lex_operation : (t : Entity (List ℕ)) (n : ℕ) (rest : List Mark) → FitsTree f v t → IsSpelt t → IsNext rest → IsLexed (operation_on f n t rest)
+    lex_operation (entity h ts) n rest g s k = lex_operation_head h (regions_on f n ts) rest g.0 s.0 (lex_regions ts n g.1 s.1) k
+
+    lex_regions : (ts : Entities (List ℕ)) (n : ℕ) → FitTrees f v ts → AreSpelt ts → AllNext (regions_on f n ts)
+    lex_regions no_entity n g s = tt
+    lex_regions (an_entity t ts) n g s = (λ rest k. lex_region t n rest g.0 s.0 k, lex_regions ts n g.1 s.1)
+
+    lex_region : (t : Entity (List ℕ)) (n : ℕ) (rest : List Mark) → FitsTree f v t → IsSpelt t → IsNext rest → IsNext (region_on f n t rest)
+    lex_region (entity h ts) n rest g s k = lined n (loose (signed 123 refl (acted (loose (lex_blocks ts (n + 2) _ g.1 s.1 (lined n (loose (signed 125 refl (acted (loose k))))))))))
+
+    lex_blocks : (ts : Entities (List ℕ)) (n : ℕ) (rest : List Mark) → FitTrees f v ts → AreSpelt ts → IsNext rest → IsNext (blocks_on f n ts rest)
+    lex_blocks no_entity n rest g s k = k
+    lex_blocks (an_entity t ts) n rest g s k = lined n (lex_block t n _ g.0 s.0 (lex_blocks ts n rest g.1 s.1 k))
+
+    lex_block : (t : Entity (List ℕ)) (n : ℕ) (rest : List Mark) → FitsTree f v t → IsSpelt t → IsNext rest → IsLexed (block_on f n t rest)
+    lex_block (entity h ts) n rest g s k = lex_block_head h (operations_on f (n + 2) ts) rest g.0 s.0 (λ r m. lex_operations ts (n + 2) r g.1 s.1 m) k
+
+    lex_operations : (ts : Entities (List ℕ)) (n : ℕ) (rest : List Mark) → FitTrees f v ts → AreSpelt ts → IsNext rest → IsNext (operations_on f n ts rest)
+    lex_operations no_entity n rest g s k = k
+    lex_operations (an_entity t ts) n rest g s k = lined n (lex_operation t n _ g.0 s.0 (lex_more_operations ts n rest g.1 s.1 k))
+
+    lex_more_operations : (ts : Entities (List ℕ)) (n : ℕ) (rest : List Mark) → FitTrees f v ts → AreSpelt ts → IsNext rest → IsNext (more_operations_on f n ts rest)
+    lex_more_operations no_entity n rest g s k = k
+    lex_more_operations (an_entity t ts) n rest g s k = signed 59 refl (loose (lined n (lex_operation t n _ g.0 s.0 (lex_more_operations ts n rest g.1 s.1 k))))
+
+  -- the characters of a layout are its tokens
+  pub lex_marks : (t : Entity (List ℕ)) → FitsTree f v t → IsSpelt t → IsLexed (marks f t)
+  lex_marks t g s = lex_operation t 0 [] g s (record { follows = record { opens = record { read = ended; fresh = refl }; clean = refl } })
+
+-- ---- layouts
+
+-- The tokens of a layout, each with its characters and of its kind.
+pub layout_tokens : (f : Formats) (v : Values) (t : Entity (List ℕ)) → is_printable f ≡ true → FitsTree f v t → IsSpelt t
+    → let ms = marks f t in let cs = characters ms ++ 10 ∷ [] in
+    (ts : List Token) × ReadsAs cs 0 ts × (map (text_of cs) ts ≡ tokens ms) × (map (λ (x : Token). x.kind) ts ≡ map sort_of (tokens ms))
+layout_tokens f v t p g s =
+    let a = placed_all (lexemes.lined (lex_marks f v p t g s).opens.read) in
+    (a.found, a.read, a.texts, a.sorts)
+
+-- A layout has ASCII characters alone.
+pub layout_ascii : (f : Formats) (v : Values) (t : Entity (List ℕ)) → is_printable f ≡ true → FitsTree f v t → IsSpelt t → IsAscii (characters (marks f t))
+layout_ascii f v t p g s = lexes_ascii (lex_marks f v p t g s).opens.read
+
+-- So its text is its bytes, with the line end behind it.
+pub layout_utf8 : (f : Formats) (v : Values) (t : Entity (List ℕ)) → is_printable f ≡ true → FitsTree f v t → IsSpelt t → IsUtf8 (characters (marks f t) ++ 10 ∷ [])
+layout_utf8 f v t p g s = IsUtf8-from_ascii _ (lexes_ascii (lexemes.lined (lex_marks f v p t g s).opens.read))
+
+pub layout_chars : (f : Formats) (v : Values) (t : Entity (List ℕ)) → is_printable f ≡ true → FitsTree f v t → IsSpelt t
+    → chars (characters (marks f t) ++ 10 ∷ []) ≡ characters (marks f t) ++ 10 ∷ []
+layout_chars f v t p g s = chars-IsAscii _ (lexes_ascii (lexemes.lined (lex_marks f v p t g s).opens.read))

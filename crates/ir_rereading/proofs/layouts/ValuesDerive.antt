@@ -1,0 +1,181 @@
+-- What types, attributes and operations say derives from the formats' grammar.
+use Rattle.std.proofs.Common.{◌≡◌, ℕ, zero, suc, List, [], ◌∷◌, ◌++◌, Some, Bool, true, false, ◌&&◌, codes, slice_get, refl, sym, subst, ap, ◌∙◌, inl, inr}
+use Rattle.std.specs.List.{list_all}
+use Rattle.ir_names.specs.Text.{is_identifier}
+use Rattle.ir_names.specs.Tree.{node, no_tree, a_tree}
+use Rattle.ir_print.specs.Formats as step
+use Rattle.ir_print.specs.Formats.{Formats, Kind, Step, Steps, no_steps}
+use Rattle.ir_print.specs.Layout.{a_word}
+use Rattle.ir_print.specs.Pieces.{type_of_kind, attribute_of_kind, list, item, operands, region, name, number, width, ValueTree, Pieces, Values}
+use Rattle.ir_print.specs.Shapes.{parts_in, TakesName, TakesOperands, Fits, FitAll, FitMembers, FitsMember}
+use Rattle.ir_grammar.specs.declared.grammar.Action.TheVariants as act
+use Rattle.ir_grammar.specs.declared.grammar.Symbol.{Symbol}
+use Rattle.ir_grammar.specs.declared.grammar.Symbol.TheVariants.{Part, Act}
+use Rattle.ir_grammar.specs.declared.grammar.Grammar.{Grammar}
+use Rattle.ir_formats.specs.declared.rules.Sort.TheVariants as sort
+use Rattle.ir_formats.specs.Rules.{IsGrammarOf, up, sign, several, words_of, steps_made, rules_of}
+use Rattle.ir_rereading.specs.Outer.{is_value_step, are_value_steps, is_plain_step, are_plain_steps, has_outer_operands}
+use Rattle.ir_rereading.proofs.layouts.Marks.{Mark, word, did, members_on, more_members_on, piece_on, parts_on}
+use Rattle.ir_rereading.proofs.layouts.Among.{IsAmong, AreAmong, among_front, among_back}
+use Rattle.ir_rereading.proofs.layouts.PlainWords.{Tested}
+use Rattle.ir_rereading.proofs.layouts.PlainKinds.{name_accepted, width_accepted, number_accepted}
+use Rattle.ir_rereading.proofs.layouts.MarkSteps.{DerivesMarks, shift, acted, regroup, expand, Placed, AllPlaced, IsReadAt, AreReadAt, took, took_word, format_reads, kind_reads}
+use Rattle.ir_formats.proofs.Booleans.{both_hold}
+
+-- ---- steps that say neither operands nor regions
+
+-- each step passes the test
+abbrev pub AllPass : (Step → Bool) → List Step → Type 0
+AllPass p [] = Unit {0}
+AllPass p (s ∷ ss) = (p s ≡ true) × AllPass p ss
+
+pub values_in : (fs : Steps) → are_value_steps fs ≡ true → AllPass is_value_step (parts_in fs)
+values_in no_steps h = tt
+values_in (step.step (step.word printed text) fs) h = values_in fs h
+values_in (step.step s fs) h = let t = both_hold (is_value_step s) (are_value_steps fs) h in (t.0, values_in fs t.1)
+
+pub plain_in : (fs : Steps) → are_plain_steps fs ≡ true → AllPass is_plain_step (parts_in fs)
+plain_in no_steps h = tt
+plain_in (step.step (step.word printed text) fs) h = plain_in fs h
+plain_in (step.step s fs) h = let t = both_hold (is_plain_step s) (are_plain_steps fs) h in (t.0, plain_in fs t.1)
+
+value_plain : (s : Step) → is_value_step s ≡ true → is_plain_step s ≡ true
+value_plain (step.list_of member printed text) h = h
+value_plain _ h = refl
+
+-- the steps of types and attributes take no operands
+pub values_alone : (s : Step) (n : ℕ) → TakesOperands s n → is_value_step s ≡ true → ⊥
+values_alone step.operands n h e = let wrong : false ≡ true = e in cc
+values_alone step.operand n h e = let wrong : false ≡ true = e in cc
+values_alone _ n h e = h
+
+-- the piece is neither operands nor a region
+abbrev pub IsInner : ValueTree → Type 0
+IsInner (node (operands n) ts) = ⊥
+IsInner (node region ts) = ⊥
+IsInner _ = Unit {0}
+
+-- what is tested of the formats of types and attributes
+pub record Outer (f : Formats) : Type 0 where
+  pub types : (n : ℕ) (k : Kind) → slice_get f.types n ≡ Some k → AllPass is_value_step (parts_in k.format)
+  pub attributes : (n : ℕ) (k : Kind) → slice_get f.attributes n ≡ Some k → AllPass is_value_step (parts_in k.format)
+  pub operations : (n : ℕ) (k : Kind) → slice_get f.operations n ≡ Some k → AllPass is_plain_step (parts_in k.format)
+
+tested_at : (p : Kind → Bool) (ks : List Kind) (n : ℕ) (k : Kind) → list_all p ks ≡ true → slice_get ks n ≡ Some k → p k ≡ true
+tested_at p [] n k h e = cc
+tested_at p (j ∷ ks) zero k h e = let same : j ≡ k = let t : Some j ≡ Some k = e in cc in subst (λ x. p x ≡ true) same (both_hold (p j) (list_all p ks) h).0
+tested_at p (j ∷ ks) (suc n) k h e = tested_at p ks n k (both_hold (p j) (list_all p ks) h).1 e
+
+three_tests : (a b c : Bool) → a && b && c ≡ true → (a ≡ true) × (b ≡ true) × (c ≡ true)
+three_tests true true c h = (refl, refl, h)
+three_tests true false c h = cc
+three_tests false b c h = cc
+
+pub outer : (f : Formats) → has_outer_operands f ≡ true → Outer f
+outer f h =
+    let t = three_tests (list_all (λ k. are_plain_steps k.format) f.operations) (list_all (λ k. are_value_steps k.format) f.types) (list_all (λ k. are_value_steps k.format) f.attributes) h in
+    record {
+      types = λ n k e. values_in k.format (tested_at (λ x. are_value_steps x.format) f.types n k t.1 e);
+      attributes = λ n k e. values_in k.format (tested_at (λ x. are_value_steps x.format) f.attributes n k t.2 e);
+      operations = λ n k e. plain_in k.format (tested_at (λ x. are_plain_steps x.format) f.operations n k t.0 e);
+    }
+
+-- ---- lists
+
+-- The grammar has the rules of a list at this part, with this separator between members.
+pub record HasSeveral (f : Formats) (n : ℕ) (w : List ℕ) (member : List Symbol) : Type 0 where
+  pub rules : AreAmong (several n (sign (words_of f) w) member) (rules_of f)
+  pub word : IsAmong w (words_of f)
+
+module _ (g : Grammar) (f : Formats) (known : IsGrammarOf f g) (t : Tested f) where
+  pub several_none : (n : ℕ) (w : List ℕ) (member ss : List Symbol) (ms : List Mark) → HasSeveral f n w member → DerivesMarks g f ss ms → DerivesMarks g f (Part n ∷ ss) ms
+  several_none n w member ss ms h d = expand known n [] (h.rules.among (n, []) (inl refl)) d
+
+  pub several_first : (n : ℕ) (w : List ℕ) (member ss : List Symbol) (ms : List Mark) → HasSeveral f n w member → DerivesMarks g f (member ++ Part (up n 1) ∷ ss) ms → DerivesMarks g f (Part n ∷ ss) ms
+  several_first n w member ss ms h d = expand known n (member ++ Part (up n 1) ∷ []) (h.rules.among (n, member ++ Part (up n 1) ∷ []) (inr (inl refl))) (regroup member (Part (up n 1) ∷ []) ss d)
+
+  pub several_last : (n : ℕ) (w : List ℕ) (member ss : List Symbol) (ms : List Mark) → HasSeveral f n w member → DerivesMarks g f ss ms → DerivesMarks g f (Part (up n 1) ∷ ss) ms
+  several_last n w member ss ms h d = expand known (up n 1) [] (h.rules.among (up n 1, []) (inr (inr (inl refl)))) d
+
+  pub several_more : (n : ℕ) (w : List ℕ) (member ss : List Symbol) (printed : List ℕ) (ms : List Mark) → HasSeveral f n w member → DerivesMarks g f (member ++ Part (up n 1) ∷ ss) ms
+      → DerivesMarks g f (Part (up n 1) ∷ ss) (word printed w ∷ ms)
+  several_more n w member ss printed ms h d =
+      let body = sign (words_of f) w ∷ (member ++ Part (up n 1) ∷ []) in
+      expand known (up n 1) body (h.rules.among (up n 1, body) (inr (inr (inr (inl refl)))))
+      (took_word g f known t w ((member ++ Part (up n 1) ∷ []) ++ ss) printed ms h.word (regroup member (Part (up n 1) ∷ []) ss d))
+
+  -- ---- values
+
+  module _ (v : Values) (o : Outer f) where
+    name_read : (s : Step) (cs : List ℕ) → TakesName s → is_identifier cs ≡ true → IsReadAt g f s (Some (piece_on f (node (name cs) no_tree)))
+    name_read step.a_name cs h e = record { reads = λ n ss ms placed d. shift (name_accepted g f known.signs t cs e) (acted d) }
+    name_read step.symbol_name cs h e =
+        record { reads = λ n ss ms placed d. took g f known t (codes "@") _ _ (placed.words.among (codes "@") (inl refl)) (shift (name_accepted g f known.signs t cs e) (acted d)) }
+    name_read _ cs h e = absurd h
+
+    list_several : (member : Steps) (printed text : List ℕ) (n : ℕ) → Placed f (step.list_of member printed text) n
+        → HasSeveral f n text (Act act.BeginItem ∷ ((steps_made (words_of f) member (up n 2)).symbols ++ Act act.EndItem ∷ [])) × AllPlaced f member (up n 2)
+    list_several member printed text n placed =
+        let m = steps_made (words_of f) member (up n 2) in
+        let all = several n (sign (words_of f) text) (Act act.BeginItem ∷ (m.symbols ++ Act act.EndItem ∷ [])) in (
+          record { rules = record { among = λ r i. placed.rules.among r (among_back r m.rules all i) }; word = placed.words.among text (inl refl) },
+          record { rules = record { among = λ r i. placed.rules.among r (among_front r m.rules all i) }; words = record { among = λ w i. placed.words.among w (inr i) } },
+        )
+
+    mutual
+      -- a piece derives from its step
+      pub piece_read : (p : ValueTree) (s : Step) → Fits f v s p → is_plain_step s ≡ true → IsInner p → IsReadAt g f s (Some (piece_on f p))
+      piece_read (node (type_of_kind n) ts) s h plain inner =
+          let k = h.1 in
+          subst (λ x. IsReadAt g f x (Some (piece_on f (node (type_of_kind n) ts)))) (sym h.0)
+          (record { reads = λ m ss ms placed d. kind_reads g f known t sort.«Type» n (slice_get f.types n) k (parts_on f ts) ss ms h.2 h.2 (parts_read ts (parts_in k.format) h.3 (o.types n k h.2)) d })
+      piece_read (node (attribute_of_kind n) ts) s h plain inner =
+          let k = h.1 in
+          subst (λ x. IsReadAt g f x (Some (piece_on f (node (attribute_of_kind n) ts)))) (sym h.0)
+          (record { reads = λ m ss ms placed d. kind_reads g f known t sort.Attribute n (slice_get f.attributes n) k (parts_on f ts) ss ms h.2 h.2 (parts_read ts (parts_in k.format) h.3 (o.attributes n k h.2)) d })
+      piece_read (node list ts) (step.list_of member printed text) h plain inner =
+          record {
+            reads = λ n ss ms placed d.
+                let r = list_several member printed text n placed in
+                acted (members_read ts member printed text n _ _ h (values_in member plain) r.0 r.1 (acted d));
+          }
+      piece_read (node list ts) s h plain inner = absurd h
+      piece_read (node item ts) s h plain inner = absurd h
+      piece_read (node (operands n) ts) s h plain inner = absurd inner
+      piece_read (node region ts) s h plain inner = absurd inner
+      piece_read (node (name cs) ts) s h plain inner = name_read s cs h.0 h.1
+      piece_read (node (number negative magnitude) ts) s h plain inner =
+          subst (λ x. IsReadAt g f x (Some (piece_on f (node (number negative magnitude) ts)))) (sym h.0)
+          (record { reads = λ n ss ms placed d. shift (number_accepted g f known.signs t negative magnitude h.1) (acted d) })
+      piece_read (node (width sign bits) ts) s h plain inner =
+          subst (λ x. IsReadAt g f x (Some (piece_on f (node (width sign bits) ts)))) (sym h.0) (record { reads = λ n ss ms placed d. shift (width_accepted g f known.signs t sign bits h.1) (acted d) })
+
+      parts_read : (ps : Pieces) (fs : List Step) → FitAll f v fs ps → AllPass is_value_step fs → AreReadAt g f fs (parts_on f ps)
+      parts_read no_tree [] h values = tt
+      parts_read no_tree (s ∷ fs) h values = absurd h
+      parts_read (a_tree p ps) [] h values = absurd h
+      parts_read (a_tree (node (operands n) ts) ps) (s ∷ fs) h values = absurd (values_alone s n h.0 values.0)
+      parts_read (a_tree (node region ts) ps) (s ∷ fs) h values = let wrong : false ≡ true = sym (ap is_value_step h.0) ∙ values.0 in cc
+      parts_read (a_tree p ps) (s ∷ fs) h values = (piece_read p s h.0 (value_plain s values.0) tt, parts_read ps fs h.1 values.1)
+
+      members_read : (ps : Pieces) (member : Steps) (printed text : List ℕ) (n : ℕ) (ss : List Symbol) (ms : List Mark) → FitMembers f v (parts_in member) ps → AllPass is_value_step (parts_in member)
+          → HasSeveral f n text (Act act.BeginItem ∷ ((steps_made (words_of f) member (up n 2)).symbols ++ Act act.EndItem ∷ [])) → AllPlaced f member (up n 2) → DerivesMarks g f ss ms
+          → DerivesMarks g f (Part n ∷ ss) (members_on (step.list_of member printed text) (parts_on f ps) ms)
+      members_read no_tree member printed text n ss ms h values rules placed d = several_none n text _ ss ms rules d
+      members_read (a_tree p ps) member printed text n ss ms h values rules placed d =
+          several_first n text _ ss _ rules (member_read p member printed text n _ _ h.0 values placed (more_members_read ps member printed text n ss ms h.1 values rules placed d))
+
+      more_members_read : (ps : Pieces) (member : Steps) (printed text : List ℕ) (n : ℕ) (ss : List Symbol) (ms : List Mark) → FitMembers f v (parts_in member) ps → AllPass is_value_step (parts_in member)
+          → HasSeveral f n text (Act act.BeginItem ∷ ((steps_made (words_of f) member (up n 2)).symbols ++ Act act.EndItem ∷ [])) → AllPlaced f member (up n 2) → DerivesMarks g f ss ms
+          → DerivesMarks g f (Part (up n 1) ∷ ss) (more_members_on (step.list_of member printed text) (parts_on f ps) ms)
+      more_members_read no_tree member printed text n ss ms h values rules placed d = several_last n text _ ss ms rules d
+      more_members_read (a_tree p ps) member printed text n ss ms h values rules placed d =
+          several_more n text _ ss printed _ rules (member_read p member printed text n _ _ h.0 values placed (more_members_read ps member printed text n ss ms h.1 values rules placed d))
+
+      member_read : (p : ValueTree) (member : Steps) (printed text : List ℕ) (n : ℕ) (ss : List Symbol) (ms : List Mark) → FitsMember f v (parts_in member) p → AllPass is_value_step (parts_in member)
+          → AllPlaced f member (up n 2) → DerivesMarks g f ss ms
+          → DerivesMarks g f ((Act act.BeginItem ∷ ((steps_made (words_of f) member (up n 2)).symbols ++ Act act.EndItem ∷ [])) ++ ss) (piece_on f p (step.list_of member printed text) ms)
+      member_read (node item ts) member printed text n ss ms h values placed d =
+          acted (regroup (steps_made (words_of f) member (up n 2)).symbols (Act act.EndItem ∷ []) ss
+          (format_reads g f known t member a_word (up n 2) (parts_on f ts) (Act act.EndItem ∷ ss) (did act.EndItem ∷ ms) placed (parts_read ts (parts_in member) h values) (acted d)))
+      member_read (node _ ts) member printed text n ss ms h values placed d = absurd h

@@ -1,0 +1,219 @@
+-- The tree of a printed text is the tree that was printed.
+use Rattle.std.proofs.Common.{◌≡◌, ℕ, zero, suc, ◌+◌, ◌<◌, Bool, true, false, List, [], ◌∷◌, ◌++◌, map, length, Some, None, slice_get, slice_index, refl, sym, subst, ap, ◌∙◌, arith, ◌⊎◌, inl, inr, if◌then◌else◌}
+use Rattle.std.specs.List.{range_with_len}
+use Rattle.ir_print.specs.Pieces.{Values, Head, operation, a_region, block, Entity, entity, Entities, no_entity, an_entity}
+use Rattle.ir_print.specs.Shown.{Pairs}
+use Rattle.ir_scopes.specs.declared.scopes.Resolution.{Resolution}
+use Rattle.ir_scopes.specs.declared.sites.Closing.{Closing}
+use Rattle.ir_scopes.specs.declared.sites.Site.{Site}
+use Rattle.ir_forest.specs.Meaning.{renamed}
+use Rattle.ir_scopes.specs.Scopes.{name_of, Means, AreApart, Resolves}
+use Rattle.ir_forest.specs.Closed.{AllDistinct, names_of, head_defines, is_isolated_head, in_scope, defined_by, all_defined, mentioned_by, all_mentioned, definitions_of, all_definitions_of, IsScope, IsScoped, AreScoped, IsScopedRoot, unlabelled, IsOperation, AreRegions, AreBlocks, IsBlock, AreOperations, IsNumbered}
+use Rattle.ir_rereading.proofs.trees.TreeSites.{In, in_left, in_right, in_either, in_none}
+use Rattle.ir_rereading.proofs.trees.TreeRenamed.{operands_of, all_operands_of}
+use Rattle.ir_rereading.proofs.trees.TreeAlike.{Alike, pairs_first, pairs_second, pairs_along, alike_from, alike_left, alike_to, alike_definitions, alike_operands, alike_rebuild}
+
+-- ---- what is mentioned is defined
+
+module _ {N : Type 0} (isolated : ℕ → Bool) (x : N) where
+  in_scope_too : (h : Head N) (xs : List N) → In x (in_scope isolated h xs) → In x xs
+  in_scope_too h xs i = go (is_isolated_head isolated h) i
+    where
+      go : (b : Bool) → In x (if b then [] else xs) → In x xs
+      go true i = in_none x i
+      go false i = i
+
+  mutual
+    -- what is defined in a scope is defined in the tree
+    defined_too : (t : Entity N) → In x (defined_by isolated t) → In x (definitions_of t)
+    defined_too (entity h ts) i = elim (in_either x (head_defines h) (in_scope isolated h (all_defined isolated ts)) i) [
+      | inl e ↦ in_left x (head_defines h) (all_definitions_of ts) e
+      | inr e ↦ in_right x (head_defines h) (all_definitions_of ts) (all_defined_too ts (in_scope_too h (all_defined isolated ts) e))
+    ]
+
+    all_defined_too : (ts : Entities N) → In x (all_defined isolated ts) → In x (all_definitions_of ts)
+    all_defined_too no_entity i = in_none x i
+    all_defined_too (an_entity t ts) i = elim (in_either x (defined_by isolated t) (all_defined isolated ts) i) [
+      | inl e ↦ in_left x (definitions_of t) (all_definitions_of ts) (defined_too t e)
+      | inr e ↦ in_right x (definitions_of t) (all_definitions_of ts) (all_defined_too ts e)
+    ]
+
+  -- it is mentioned in the scope around, or defined in the tree
+  abbrev Found : Entity N → Type 0
+  Found t = In x (mentioned_by isolated t) ⊎ In x (definitions_of t)
+
+  abbrev AllFound : Entities N → Type 0
+  AllFound ts = In x (all_mentioned isolated ts) ⊎ In x (all_definitions_of ts)
+
+  -- the same of regions: no scope is around those of an isolated operation
+  abbrev RegionsFound : Bool → Entities N → Type 0
+  RegionsFound inner ts = ((inner ≡ false) × In x (all_mentioned isolated ts)) ⊎ In x (all_definitions_of ts)
+
+  found_first : (t : Entity N) (ts : Entities N) → Found t → AllFound (an_entity t ts)
+  found_first t ts (inl i) = inl (in_left x (mentioned_by isolated t) (all_mentioned isolated ts) i)
+  found_first t ts (inr i) = inr (in_left x (definitions_of t) (all_definitions_of ts) i)
+
+  found_more : (t : Entity N) (ts : Entities N) → AllFound ts → AllFound (an_entity t ts)
+  found_more t ts (inl i) = inl (in_right x (mentioned_by isolated t) (all_mentioned isolated ts) i)
+  found_more t ts (inr i) = inr (in_right x (definitions_of t) (all_definitions_of ts) i)
+
+  region_first : (b : Bool) (ts us : Entities N) → RegionsFound b ts → RegionsFound b (an_entity (entity a_region ts) us)
+  region_first b ts us (inl i) = inl (i.0, in_left x (all_mentioned isolated ts) (all_mentioned isolated us) i.1)
+  region_first b ts us (inr i) = inr (in_left x (all_definitions_of ts) (all_definitions_of us) i)
+
+  region_more : (b : Bool) (ts us : Entities N) → RegionsFound b us → RegionsFound b (an_entity (entity a_region ts) us)
+  region_more b ts us (inl i) = inl (i.0, in_right x (all_mentioned isolated ts) (all_mentioned isolated us) i.1)
+  region_more b ts us (inr i) = inr (in_right x (all_definitions_of ts) (all_definitions_of us) i)
+
+  -- a region is a scope in an isolated operation
+  region_scope : (b : Bool) (ts : Entities N) → IsScope isolated b a_region ts → AllFound ts → RegionsFound b ts
+  region_scope b ts s (inr i) = inr i
+  region_scope true ts s (inl i) = inr (all_defined_too ts (s i.0 x i.1))
+  region_scope false ts s (inl i) = inl (refl, i)
+
+  operation_scope : (kind : ℕ) (defined used : List N) (ts : Entities N) → RegionsFound (isolated kind) ts
+      → In x (used ++ (if isolated kind then [] else all_mentioned isolated ts)) ⊎ In x (defined ++ all_definitions_of ts)
+  operation_scope kind defined used ts (inr i) = inr (in_right x defined (all_definitions_of ts) i)
+  operation_scope kind defined used ts (inl i) = inl (in_right x used (if isolated kind then [] else all_mentioned isolated ts)
+      (subst (λ (b : Bool). In x (if b then [] else all_mentioned isolated ts)) (sym i.0) i.1))
+
+  module _ (v : Values) where
+    mutual
+      operation_found : (t : Entity N) (inner : Bool) → IsOperation v t → IsScoped isolated inner t → In x (operands_of t) → Found t
+      operation_found (entity (operation kind results used pieces) ts) inner h s i = elim (in_either x used (all_operands_of ts) i) [
+        | inl e ↦ inl (in_left x used (in_scope isolated (operation kind results used pieces) (all_mentioned isolated ts)) e)
+        | inr e ↦ operation_scope kind (names_of results) used ts (regions_found ts (isolated kind) h.2 s.1 e)
+      ]
+      operation_found (entity a_region ts) inner h s i = absurd h
+      operation_found (entity (block label arguments) ts) inner h s i = absurd h
+
+      regions_found : (ts : Entities N) (inner : Bool) → AreRegions v ts → AreScoped isolated inner ts → In x (all_operands_of ts) → RegionsFound inner ts
+      regions_found no_entity inner h s i = in_none x i
+      regions_found (an_entity (entity a_region us) ts) inner h s i = elim (in_either x (all_operands_of us) (all_operands_of ts) i) [
+        | inl e ↦ region_first inner us ts (region_scope inner us s.0.0 (blocks_found us h.0 s.0.1 e))
+        | inr e ↦ region_more inner us ts (regions_found ts inner h.1 s.1 e)
+      ]
+      regions_found (an_entity (entity (operation kind results used pieces) us) ts) inner h s i = absurd h.0
+      regions_found (an_entity (entity (block label arguments) us) ts) inner h s i = absurd h.0
+
+      blocks_found : (ts : Entities N) → AreBlocks v ts → AreScoped isolated false ts → In x (all_operands_of ts) → AllFound ts
+      blocks_found no_entity h s i = in_none x i
+      blocks_found (an_entity t ts) h s i = elim (in_either x (operands_of t) (all_operands_of ts) i) [
+        | inl e ↦ found_first t ts (block_found t h.0 s.0 e)
+        | inr e ↦ found_more t ts (blocks_found ts h.1 s.1 e)
+      ]
+
+      block_found : (t : Entity N) → IsBlock v t → IsScoped isolated false t → In x (operands_of t) → Found t
+      block_found (entity (block label arguments) ts) h s i = elim (operations_found ts h s.1 i) [
+        | inl e ↦ inl e
+        | inr e ↦ inr (in_right x (names_of arguments) (all_definitions_of ts) e)
+      ]
+      block_found (entity a_region ts) h s i = absurd h
+      block_found (entity (operation kind results used pieces) ts) h s i = absurd h
+
+      operations_found : (ts : Entities N) → AreOperations v ts → AreScoped isolated false ts → In x (all_operands_of ts) → AllFound ts
+      operations_found no_entity h s i = in_none x i
+      operations_found (an_entity t ts) h s i = elim (in_either x (operands_of t) (all_operands_of ts) i) [
+        | inl e ↦ found_first t ts (operation_found t false h.0 s.0 e)
+        | inr e ↦ found_more t ts (operations_found ts h.1 s.1 e)
+      ]
+
+    -- each operand in a tree whose scopes define what they mention has a definition
+    pub operand_defined : (t : Entity N) → IsOperation v t → IsScopedRoot isolated t → In x (operands_of t) → In x (definitions_of t)
+    operand_defined t h s i = elim (operation_found t false h s.1 i) [
+      | inl e ↦ defined_too t (s.0 e.0 x e.1)
+      | inr e ↦ e
+    ]
+
+-- ---- numbers of definitions
+
+range_at : (a m i n : ℕ) → slice_get (range_with_len a m) i ≡ Some n → n ≡ a + i
+range_at a zero i n h = let wrong : None ≡ Some n = h in cc
+range_at a (suc m) zero n h = let same : a ≡ n = cc in omega arith
+range_at a (suc m) (suc i) n h = omega (arith, range_at (a + 1) m i n h)
+
+-- each number is where it is defined
+pub numbered_at : (t : Entity ℕ) → IsNumbered t → (i n : ℕ) → slice_get (definitions_of t) i ≡ Some n → n ≡ i
+numbered_at t h i n at = omega (arith, range_at 0 (length (definitions_of t)) i n (ap (λ (xs : List ℕ). slice_get xs i) (sym h) ∙ at))
+
+site_at : (ss : List Site) (i k : ℕ) → slice_get (map (λ s. s.token) ss) i ≡ Some k → (s : Site) × (slice_get ss i ≡ Some s) × (s.token ≡ k)
+site_at [] i k h = let wrong : None ≡ Some k = h in cc
+site_at (s ∷ ss) zero k h = (s, refl, (let same : Some s.token ≡ Some k = h in cc))
+site_at (s ∷ ss) (suc i) k h = site_at ss i k h
+
+token_at : (ss : List Site) (i : ℕ) (s : Site) → slice_get ss i ≡ Some s → slice_get (map (λ s. s.token) ss) i ≡ Some s.token
+token_at [] i s h = let wrong : None ≡ Some s = h in cc
+token_at (x ∷ ss) zero s h = let same : x ≡ s = cc in ap (λ (y : Site). Some y.token) same
+token_at (x ∷ ss) (suc i) s h = token_at ss i s h
+
+-- ---- the tree again
+
+module _ (isolated : ℕ → Bool) (v : Values) (names : List ℕ) (ds ms : List Site) (cs : List Closing) (r : Resolution) (text ν : ℕ → List ℕ) (tree t : Entity ℕ) where
+  -- the number that the name at a token is looked up as
+  abbrev number : ℕ → ℕ
+  number k = slice_index r.definitions.items k
+
+  -- the token is spelled as the name of a value
+  abbrev Spelled : ℕ → ℕ → Type 0
+  Spelled k n = text k ≡ ν n
+
+  -- the token has the number of a value
+  abbrev Numbered : ℕ → ℕ → Type 0
+  Numbered k n = number k ≡ n
+
+  -- A text whose tokens are the names of a tree, each definition at its own name, says the tree again: each name is looked up as the
+  -- number that it stands for.
+  pub tree_again : unlabelled (renamed text tree) ≡ unlabelled (renamed ν t) → IsOperation v t → IsNumbered t → IsScopedRoot isolated t → AllDistinct (definitions_of (renamed text tree))
+      → definitions_of tree ≡ map (λ s. s.token) ds → ((k : ℕ) → In k (operands_of tree) → (m : Site) × In m ms × (m.token ≡ k))
+      → Resolves names ds ms cs r → AreApart ds ms → ((m : Site) → In m ms → (j : ℕ) × Means names ds m j)
+      → ((s : Site) → In s ds → s.token < length names) → ((m : Site) → In m ms → m.token < length names)
+      → ((s m : Site) → In s ds → In m ms → name_of names s.token ≡ name_of names m.token → text s.token ≡ text m.token)
+      → unlabelled (renamed (slice_index r.definitions.items) tree) ≡ unlabelled t
+  tree_again same whole numbered scoped distinct tokens operands resolves apart meant here within alike =
+      alike_to number tree t (alike_rebuild Spelled Numbered tree t spelled defines mentions)
+    where
+      printed : Alike (λ x n. x ≡ ν n) (renamed text tree) t
+      printed = alike_from ν (renamed text tree) t same
+
+      spelled : Alike Spelled tree t
+      spelled = alike_left (λ x n. x ≡ ν n) text tree t printed
+
+      definitions : Pairs Spelled (definitions_of tree) (definitions_of t)
+      definitions = alike_definitions Spelled tree t spelled
+
+      names_printed : Pairs (λ x n. x ≡ ν n) (definitions_of (renamed text tree)) (definitions_of t)
+      names_printed = alike_definitions (λ x n. x ≡ ν n) (renamed text tree) t printed
+
+      -- a definition has its number
+      defines : Pairs Numbered (definitions_of tree) (definitions_of t)
+      defines = pairs_along Spelled Numbered (definitions_of tree) (definitions_of t) definitions go
+        where
+          go : (i k n : ℕ) → slice_get (definitions_of tree) i ≡ Some k → slice_get (definitions_of t) i ≡ Some n → Spelled k n → Numbered k n
+          go i k n at there e =
+              let s = site_at ds i k (ap (λ (xs : List ℕ). slice_get xs i) (sym tokens) ∙ at) in
+              let found : number s.0.token ≡ i = resolves.defined apart i s.0 s.1 (here s.0 (i, s.1)) in
+              ap number (sym s.2) ∙ found ∙ sym (numbered_at t numbered i n there)
+
+      -- the definition at a name is the only one
+      one : (j i n : ℕ) (s : Site) → slice_get ds j ≡ Some s → slice_get (definitions_of t) i ≡ Some n → text s.token ≡ ν n → j ≡ i
+      one j i n s at there e =
+          let first = pairs_first Spelled (definitions_of tree) (definitions_of t) definitions j s.token (ap (λ (xs : List ℕ). slice_get xs j) tokens ∙ token_at ds j s at) in
+          let x = pairs_second (λ x n. x ≡ ν n) (definitions_of (renamed text tree)) (definitions_of t) names_printed j first.0 first.1 in
+          let y = pairs_second (λ x n. x ≡ ν n) (definitions_of (renamed text tree)) (definitions_of t) names_printed i n there in
+          let equal : x.0 ≡ y.0 = x.2 ∙ (sym first.2 ∙ (e ∙ sym y.2)) in
+          distinct j i y.0 (x.1 ∙ ap (λ (z : List ℕ). Some z) equal) y.1
+
+      -- an operand has the number of its definition
+      mentions : Pairs Numbered (operands_of tree) (operands_of t)
+      mentions = pairs_along Spelled Numbered (operands_of tree) (operands_of t) (alike_operands Spelled tree t spelled) go
+        where
+          go : (i k n : ℕ) → slice_get (operands_of tree) i ≡ Some k → slice_get (operands_of t) i ≡ Some n → Spelled k n → Numbered k n
+          go i k n at there e =
+              let m = operands k (i, at) in
+              let defined = operand_defined isolated n v t whole scoped (i, there) in
+              let means = meant m.0 m.1 in
+              let s = means.1.0 in
+              let spelling : text s.token ≡ ν n = alike s m.0 (means.0, means.1.1) m.1 means.1.2.1 ∙ (ap text m.2 ∙ e) in
+              let j : means.0 ≡ defined.0 = one means.0 defined.0 n s means.1.1 defined.1 spelling in
+              let found : number m.0.token ≡ means.0 = resolves.mentioned apart m.1.0 means.0 m.0 m.1.1 means.1 (within m.0 m.1) in
+              ap number (sym m.2) ∙ (found ∙ (j ∙ sym (numbered_at t numbered defined.0 n defined.1)))

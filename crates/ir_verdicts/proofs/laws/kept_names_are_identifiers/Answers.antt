@@ -1,5 +1,0 @@
-use Rattle.ir_verdicts.proofs.Identifiers.{reading_spelt}
-use Rattle.ir_verdicts.proofs.laws.kept_names_are_identifiers.Goals as goal
-
-pub returns : goal.returns
-returns c = reading_spelt

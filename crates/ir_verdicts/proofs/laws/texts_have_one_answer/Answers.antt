@@ -1,5 +1,0 @@
-use Rattle.ir_verdicts.proofs.Verdicts.{one_told, no_fault_said}
-use Rattle.ir_verdicts.proofs.laws.texts_have_one_answer.Goals as goal
-
-pub returns : goal.returns
-returns c = record { one = one_told; either = no_fault_said }
