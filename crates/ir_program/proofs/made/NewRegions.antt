@@ -1,12 +1,12 @@
 -- A region that is new, the last of its operation.
-use Rattle.std.proofs.Common.{◌≡◌, ◌≢◌, ℕ, zero, suc, ◌≤◌, ◌-◌, ◌^◌, ◌++◌, ⊎_elim, true, false, eqb, List, [], ◌∷◌, length, arith, Option, Some, None, IsSome, option_map, unwrap_or, refl, sym, ap, ◌∙◌, subst}
-use Rattle.std.proofs.lemmas.Bool.{both_ways, cases_eq, cases_lt, eq-eqb, or_left, or_right, or_cases}
+use Rattle.std.proofs.Common.{◌≡◌, ◌≢◌, ℕ, ◌++◌, ⊎_elim, true, false, eqb, List, [], ◌∷◌, Option, Some, None, IsSome, option_map, unwrap_or, refl, sym, ap, ◌∙◌, subst}
+use Rattle.std.proofs.lemmas.Bool.{both_ways, cases_eq, eq-eqb, or_left, or_right, or_cases}
 use Rattle.std.proofs.lemmas.List.{map-append}
 use Rattle.ir_arena.specs.declared.arena.Key.{Key}
 use Rattle.ir_arena.specs.declared.arena.Slot.{Slot}
 use Rattle.ir_entities.specs.declared.forest.Place.{Place}
 use Rattle.ir_entities.specs.declared.forest.Place.TheVariants.{Op, Block, Region as RegionPlace}
-use Rattle.ir_arena.specs.Arena.{get, held, slot_at, SetsSlot, Updates, HasFullSlot, IsSpent, KeepsSpent}
+use Rattle.ir_arena.specs.Arena.{get, held, SetsSlot, Updates, HasFullSlot, IsSpent, KeepsSpent}
 use Rattle.ir_entities.specs.Links.{list_at, has}
 use Rattle.ir_entities.specs.Shape.{Shape, IsIn, IsInside, itself, deeper}
 use Rattle.ir_entities.specs.Forest.{Forest, IsForest, pointer_to}
