@@ -2,10 +2,10 @@
 ghost use Rattle.std.specs.Prelude.{◌≡◌, ◌≢◌, ◌↔◌, IsTrue, ℕ, ◌+◌, ◌<◌, ◌≤◌, [], IfOk, Err, OnOk, OnErr, IfErr, Some, None, IsSome, is_some, is_none, length, option_copied};
 ghost use Rattle.std.specs.List.{list_all};
 ghost use Rattle.ir_arena.specs.Arena.{get, held, IsVacant, Updates, SetsSlot, ClearsSlot, IsSpent, KeepsSpent, HasFullSlot};
-ghost use Rattle.ir_names.specs.declared.growth.GrowError.TheVariants.{CounterFull};
+ghost use Rattle.ir_base.specs.declared.growth.GrowError.TheVariants.{CounterFull};
 ghost use Rattle.std.specs.Borrow.{sem};
 
-use ir_names::GrowError;
+use ir_base::GrowError;
 use std::alloc::Global;
 use std::marker::Model;
 

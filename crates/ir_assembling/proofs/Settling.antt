@@ -6,7 +6,7 @@ use Rattle.std.specs.Global.{Global}
 use Rattle.std.specs.List.{concat}
 use Rattle.std.specs.Option.{option_map_or}
 use Rattle.ir_names.specs.declared.identifier.Identifier.{Identifier}
-use Rattle.ir_names.specs.declared.kinds.TypeHandle.{TypeHandle}
+use Rattle.ir_base.specs.declared.types.TypeHandle.{TypeHandle}
 use Rattle.ir_store.specs.declared.mark.Mark.{Mark}
 use Rattle.ir_store.specs.declared.pointer.Ptr.{Ptr}
 use Rattle.ir_store.specs.declared.pointer.BasicBlock.{BasicBlock}

@@ -12,7 +12,7 @@ use Rattle.ir_building.specs.Opened.{IsFresh, KeepsKeys}
 use Rattle.std.specs.Global.{Global}
 use Rattle.std.specs.List.{concat}
 use Rattle.ir_names.specs.declared.identifier.Identifier.{Identifier}
-use Rattle.ir_names.specs.declared.kinds.TypeHandle.{TypeHandle}
+use Rattle.ir_base.specs.declared.types.TypeHandle.{TypeHandle}
 use Rattle.ir_names.specs.Identifier.{text_of}
 use Rattle.ir_store.specs.declared.mark.Mark.{Mark}
 use Rattle.ir_store.specs.declared.pointer.Ptr.{Ptr}

@@ -2,7 +2,7 @@
 ghost use Rattle.std.specs.Prelude.{◌≡◌, ◌+◌, ◌-◌, ◌^◌, ◌≤◌, ◌∷◌, ◌++◌, [], ℕ, Vec, List, map, length, slice_get, Some, None, Err, OnOk, IfErr, MatchOption, IsSomeAnd, true};
 ghost use Rattle.std.specs.Option.{option_map_or};
 ghost use Rattle.ir_names.specs.Tree.{Trees, node};
-ghost use Rattle.ir_names.specs.declared.kinds.TypeHandle.{TypeHandle};
+ghost use Rattle.ir_base.specs.declared.types.TypeHandle.{TypeHandle};
 ghost use Rattle.ir_print.specs.Pieces.{Pieces, type_of_kind, attribute_of_kind};
 ghost use Rattle.ir_print.specs.Shown.{ShowsParts, ShowsType, ShowsAttribute};
 ghost use Rattle.ir_store.specs.declared.mark.Mark.{Mark};

@@ -4,7 +4,7 @@ use Rattle.std.specs.Option.{option_map_or}
 use Rattle.std.specs.Prelude.{Vec}
 use Rattle.std.specs.Global.{Global}
 use Rattle.ir_names.specs.Tree.{Trees, node, no_tree, a_tree, join, count}
-use Rattle.ir_names.specs.declared.kinds.TypeHandle.{TypeHandle}
+use Rattle.ir_base.specs.declared.types.TypeHandle.{TypeHandle}
 use Rattle.ir_print.specs.declared.format.Part.{Part}
 use Rattle.ir_print.specs.declared.format.Part.TheVariants as part
 use Rattle.ir_print.specs.Pieces.{Pieces, Values, ValueTree, type_of_kind, attribute_of_kind, list, item, operands, region}

@@ -1,7 +1,7 @@
 -- Numbers that rise, and values that are set at them.
 use Rattle.std.proofs.Common.{◌≡◌, ℕ, zero, suc, ◌+◌, ◌<◌, ◌≤◌, ◌⊎◌, inl, inr, List, [], ◌∷◌, ◌++◌, map, length, Option, Some, None, slice_get, slice_set, refl, sym, ap, subst, ◌∙◌, arith}
 use Rattle.std.proofs.lemmas.List.{length-set, length-map}
-use Rattle.ir_names.specs.declared.kinds.TypeHandle.{TypeHandle}
+use Rattle.ir_base.specs.declared.types.TypeHandle.{TypeHandle}
 use Rattle.ir_store.specs.declared.value.Value.{Value}
 use Rattle.ir_store.specs.declared.value.Definition.{Definition}
 use Rattle.ir_store.specs.declared.value.DefiningEntity.{DefiningEntity}

@@ -1,7 +1,7 @@
 -- What becomes of what is open while a text is assembled.
 use Rattle.std.specs.Prelude.{◌≡◌, ℕ, List, [], ◌∷◌, ◌++◌, Some, slice_get}
-use Rattle.ir_names.specs.declared.growth.GrowError.{GrowError}
-use Rattle.ir_names.specs.declared.growth.GrowError.TheVariants as growth
+use Rattle.ir_base.specs.declared.growth.GrowError.{GrowError}
+use Rattle.ir_base.specs.declared.growth.GrowError.TheVariants as growth
 use Rattle.ir_print.specs.declared.format.Part.{Part}
 use Rattle.ir_building.specs.declared.opened.AssemblyFault.{AssemblyFault}
 use Rattle.ir_building.specs.declared.opened.AssemblyFault.TheVariants.{Memory, CounterFull, Text}

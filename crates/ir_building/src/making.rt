@@ -4,7 +4,7 @@ ghost use Rattle.ir_names.specs.declared.identifier.Identifier.{Identifier};
 ghost use Rattle.ir_names.specs.Identifier.{text_of};
 ghost use Rattle.ir_names.specs.Text.{is_identifier};
 ghost use Rattle.ir_names.specs.Tree.{node};
-ghost use Rattle.ir_names.specs.declared.growth.GrowError.TheVariants.{CounterFull};
+ghost use Rattle.ir_base.specs.declared.growth.GrowError.TheVariants.{CounterFull};
 ghost use Rattle.ir_print.specs.declared.dialect.MakeFault.TheVariants.{Refused};
 ghost use Rattle.ir_print.specs.Pieces.{Pieces, type_of_kind, attribute_of_kind};
 ghost use Rattle.ir_print.specs.Shown.{ShowsParts, ShowsType, ShowsAttribute, KeepsTypes, Drafts};

@@ -1,6 +1,6 @@
 -- The types of values stay known where operations and blocks are made and erased.
 use Rattle.std.proofs.Common.{⊎_elim, subst, Result, Ok, Err, IfOk, OnErr, ◌≢◌, ◌≡◌, ℕ, zero, suc, List, [], ◌∷◌, Option, None, Some, IsSome, option_map, unwrap_or, slice_get, ◌++◌, sym, ap, ◌∙◌, refl}
-use Rattle.ir_names.specs.declared.kinds.TypeHandle.{TypeHandle}
+use Rattle.ir_base.specs.declared.types.TypeHandle.{TypeHandle}
 use Rattle.ir_program.specs.Program.{Program, TypedValue, OperationView, BlockView, operation_at, type_at}
 use Rattle.ir_program.specs.Definers.{StandsAtDefiner, values_at}
 use Rattle.ir_program.specs.Adds.{numbered_values}

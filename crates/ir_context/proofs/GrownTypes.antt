@@ -1,7 +1,7 @@
 -- The types of values stay known where types and saved values come.
 use Rattle.std.proofs.Common.{◌≡◌, ◌<◌, Bool, true, false, Some, Result, Ok, Err, OnOk, OnErr, ⊎_elim, length, sym, ap, subst, ◌∙◌, refl, arith}
 use Rattle.std.proofs.lemmas.Option.{slice_get_cases, slice_get_within}
-use Rattle.ir_names.specs.declared.kinds.TypeHandle.{TypeHandle}
+use Rattle.ir_base.specs.declared.types.TypeHandle.{TypeHandle}
 use Rattle.ir_program.specs.Program.{Program, type_at}
 use Rattle.ir_program.specs.declared.handles.Value.{Value}
 use Rattle.ir_types.specs.Interned.{IsKnown, KeepsTypes, has_saved, with_saved}

@@ -1,6 +1,6 @@
 -- The types of values stay known.
 use Rattle.std.proofs.Common.{true≢false, ⊎_elim, subst, Result, Ok, Err, IfOk, OnErr, IfSome, IfNone, ◌≢◌, ◌≡◌, [], Option, None, Some, IsTrue, MatchOption, ◌↔◌, is_some, option_map, unwrap_or, slice_get, sym, ap, ◌∙◌, refl}
-use Rattle.ir_names.specs.declared.kinds.TypeHandle.{TypeHandle}
+use Rattle.ir_base.specs.declared.types.TypeHandle.{TypeHandle}
 use Rattle.ir_program.specs.Program.{Program, OperationView, BlockView, operation_at, block_at, type_at}
 use Rattle.ir_program.specs.Edits.{KeepsValues}
 use Rattle.ir_program.specs.Definers.{StandsAtDefiner, DefinesValue, ForgetsValue, values_at}

@@ -1,6 +1,6 @@
 -- What holds of every context.
 use Rattle.std.specs.Prelude.{◌≡◌, Some}
-use Rattle.ir_names.specs.declared.kinds.TypeHandle.{TypeHandle}
+use Rattle.ir_base.specs.declared.types.TypeHandle.{TypeHandle}
 use Rattle.ir_program.specs.Program.{type_at}
 use Rattle.ir_program.specs.declared.handles.Value.{Value}
 use Rattle.ir_types.specs.Interned.{IsKnown}

@@ -1,6 +1,6 @@
 -- What contracts ask of the types of several values.
 use Rattle.std.specs.Prelude.{◌≡◌, ℕ, List, Some, slice_get}
-use Rattle.ir_names.specs.declared.kinds.TypeHandle.{TypeHandle}
+use Rattle.ir_base.specs.declared.types.TypeHandle.{TypeHandle}
 use Rattle.ir_types.specs.Interned.{IsKnown}
 use Rattle.ir_types.specs.Views.{TypesView}
 

@@ -1,7 +1,7 @@
 -- Which refusals there are.
 use Rattle.std.specs.Prelude.{ℕ}
-use Rattle.ir_names.specs.declared.growth.GrowError.{GrowError}
-use Rattle.ir_names.specs.declared.growth.GrowError.TheVariants as growth
+use Rattle.ir_base.specs.declared.growth.GrowError.{GrowError}
+use Rattle.ir_base.specs.declared.growth.GrowError.TheVariants as growth
 use Rattle.ir_context.specs.declared.errors.ValueError.{ValueError}
 use Rattle.ir_context.specs.declared.errors.ValueError.TheVariants as value
 use Rattle.ir_context.specs.declared.errors.CoreError.{CoreError}

@@ -1,6 +1,6 @@
 //! The arguments of blocks.
 ghost use Rattle.std.specs.Prelude.{◌≡◌, ◌≤◌, ◌<◌, ◌+◌, ◌-◌, ◌^◌, Some, None, Err, IsSome, IfOk, IfSome, IfNone, OnSome, OnOk, OnErr};
-ghost use Rattle.ir_names.specs.declared.growth.GrowError.TheVariants.{CounterFull};
+ghost use Rattle.ir_base.specs.declared.growth.GrowError.TheVariants.{CounterFull};
 ghost use Rattle.ir_program.specs.Program.{block_at, type_at, arguments_at, argument_count, value_in, type_in};
 ghost use Rattle.ir_program.specs.Uses.{IsUsed};
 ghost use Rattle.ir_program.specs.Definers.{DefinesValue, ForgetsValue};

@@ -1,6 +1,6 @@
 //! Making operations, blocks and regions.
 ghost use Rattle.std.specs.Prelude.{◌≡◌, ◌⊎◌, ◌≤◌, ◌+◌, ◌^◌, Err, IsSome, IfOk, OnErr, length};
-ghost use Rattle.ir_names.specs.declared.growth.GrowError.TheVariants.{CounterFull};
+ghost use Rattle.ir_base.specs.declared.growth.GrowError.TheVariants.{CounterFull};
 ghost use Rattle.ir_program.specs.Program.{operation_at, type_at};
 ghost use Rattle.ir_program.specs.Edits.{IsRestored, IsUnchanged};
 ghost use Rattle.ir_program.specs.Adds.{AreLiveValues, AreLiveBlocks};

@@ -1,6 +1,6 @@
 //! Making operations and blocks that come from no source and have no attributes.
 ghost use Rattle.std.specs.Prelude.{◌≡◌, ◌⊎◌, ◌≤◌, ◌+◌, ◌^◌, [], Err, IfOk, OnErr, length};
-ghost use Rattle.ir_names.specs.declared.growth.GrowError.TheVariants.{CounterFull};
+ghost use Rattle.ir_base.specs.declared.growth.GrowError.TheVariants.{CounterFull};
 ghost use Rattle.ir_program.specs.Program.{type_at};
 ghost use Rattle.ir_program.specs.Edits.{IsRestored};
 ghost use Rattle.ir_program.specs.Adds.{AreLiveValues, AreLiveBlocks};

@@ -1,6 +1,6 @@
 //! The results of operations.
 ghost use Rattle.std.specs.Prelude.{◌≡◌, ◌≤◌, ◌<◌, ◌+◌, ◌-◌, ◌^◌, Some, None, Err, IsSome, IfOk, IfSome, IfNone, OnSome, OnOk, OnErr};
-ghost use Rattle.ir_names.specs.declared.growth.GrowError.TheVariants.{CounterFull};
+ghost use Rattle.ir_base.specs.declared.growth.GrowError.TheVariants.{CounterFull};
 ghost use Rattle.ir_program.specs.Program.{operation_at, type_at, results_at, result_count, value_in, type_in};
 ghost use Rattle.ir_program.specs.Uses.{IsUsed};
 ghost use Rattle.ir_program.specs.Definers.{DefinesValue, ForgetsValue};

@@ -1,7 +1,7 @@
 //! The types of a context: what is asked of them, and how they and saved values come.
 ghost use Rattle.std.specs.Prelude.{◌≡◌, ◌↔◌, true, false, IsTrue, Ok, Some, IfOk, OnOk, OnErr, option_copied};
 ghost use Rattle.std.specs.Borrow.{sem};
-ghost use Rattle.ir_names.specs.declared.kinds.TypeHandle.{TypeHandle};
+ghost use Rattle.ir_base.specs.declared.types.TypeHandle.{TypeHandle};
 ghost use Rattle.ir_types.specs.Interned.{IsKnown, key_at, body_at};
 
 use crate::Context;

@@ -3,8 +3,6 @@
 #![tactic(auto)]
 
 #[cfg(test)]
-mod arenas;
-#[cfg(test)]
 mod building;
 #[cfg(test)]
 mod cast;
@@ -33,16 +31,6 @@ mod looking;
 #[cfg(test)]
 mod markers;
 #[cfg(test)]
-mod place_rows;
-#[cfg(test)]
-mod program_asserted;
-#[cfg(test)]
-mod program_erasing;
-#[cfg(test)]
-mod program_growing;
-#[cfg(test)]
-mod program_rows;
-#[cfg(test)]
 mod refusals;
 #[cfg(test)]
 mod row_edits;
@@ -56,8 +44,6 @@ mod tiny;
 mod types;
 #[cfg(test)]
 mod unique_names;
-#[cfg(test)]
-mod use_tables;
 #[cfg(test)]
 mod uses;
 #[cfg(test)]

@@ -1,7 +1,7 @@
 -- What was tested of the arguments of edits that make operations and blocks.
 use Rattle.std.proofs.Common.{◌≡◌, ◌↔◌, ℕ, zero, suc, ◌<◌, Bool, true, List, [], ◌∷◌, Option, Some, IsSome, IsTrue, length, slice_get, refl, sym, ◌∙◌, subst, arith}
 use Rattle.std.proofs.lemmas.Option.{slice_get_within}
-use Rattle.ir_names.specs.declared.kinds.TypeHandle.{TypeHandle}
+use Rattle.ir_base.specs.declared.types.TypeHandle.{TypeHandle}
 use Rattle.ir_types.specs.Interned.{IsKnown}
 use Rattle.ir_types.specs.Views.{TypesView}
 use Rattle.ir_context.specs.KnownLists.{AreKnown}

@@ -1,7 +1,7 @@
 -- Why an edit that grows may be refused, and what popping took.
 use Rattle.std.proofs.Common.{◌≡◌, Result, Ok, Err, IsErr, Option, Some, None, IfSome, IfNone, OnSome, MatchOption, refl, sym, subst}
-use Rattle.ir_names.specs.declared.growth.GrowError.{GrowError}
-use Rattle.ir_names.specs.declared.growth.GrowError.TheVariants as growth
+use Rattle.ir_base.specs.declared.growth.GrowError.{GrowError}
+use Rattle.ir_base.specs.declared.growth.GrowError.TheVariants as growth
 use Rattle.ir_context.specs.declared.errors.CoreError.{CoreError}
 use Rattle.ir_context.specs.Refusals.{refusal_of_growth}
 use Rattle.std.specs.Result.{IsErrAnd}

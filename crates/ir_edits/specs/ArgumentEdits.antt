@@ -1,6 +1,6 @@
 -- What edits of arguments do and answer.
 use Rattle.std.specs.Prelude.{◌≡◌, ℕ, ◌<◌, ◌≤◌, ◌+◌, ◌-◌, ◌^◌, Option, Some, None, IsSome, IfSome, MatchOption, Result}
-use Rattle.ir_names.specs.declared.kinds.TypeHandle.{TypeHandle}
+use Rattle.ir_base.specs.declared.types.TypeHandle.{TypeHandle}
 use Rattle.ir_program.specs.Program.{block_at, arguments_at, argument_count, value_in}
 use Rattle.ir_program.specs.Uses.{IsUsed}
 use Rattle.ir_program.specs.Definers.{DefinesValue, ForgetsValue}

@@ -2,7 +2,7 @@
 use Rattle.std.specs.Prelude.{◌≡◌, ℕ, ◌+◌, ◌^◌, ◌≤◌, ◌⊎◌, List, [], Option, Some, IsSome, Result, option_map, length}
 use Rattle.ir_names.specs.Identifier.{text_of}
 use Rattle.ir_names.specs.declared.identifier.Identifier.{Identifier}
-use Rattle.ir_names.specs.declared.kinds.TypeHandle.{TypeHandle}
+use Rattle.ir_base.specs.declared.types.TypeHandle.{TypeHandle}
 use Rattle.ir_program.specs.Program.{block_at, IsLiveValue}
 use Rattle.ir_program.specs.Made.{BuildsOperation, BuildsBlock, HasFullOperationSlot, HasFullBlockSlot, HasFullRegionSlot}
 use Rattle.ir_program.specs.declared.handles.Ptr.{Ptr}

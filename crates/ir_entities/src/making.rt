@@ -4,12 +4,12 @@ ghost use Rattle.std.specs.Prelude.{◌≡◌, ℕ, ◌<◌, ◌≤◌, length, 
 ghost use Rattle.ir_arena.specs.Arena.{get, ClearsSlot, HasFullSlot, IsSpent, KeepsSpent, SetsSlot, Updates};
 ghost use Rattle.ir_entities.specs.Links.{list_at};
 ghost use Rattle.ir_entities.specs.Forest.{IsRootOp, IsRootBlock, IsRootRegion};
-ghost use Rattle.ir_names.specs.declared.growth.GrowError.TheVariants.{CounterFull};
+ghost use Rattle.ir_base.specs.declared.growth.GrowError.TheVariants.{CounterFull};
 
 use crate::forest::Forest;
 use crate::siblings::Siblings;
 use ir_arena::Key;
-use ir_names::GrowError;
+use ir_base::GrowError;
 use std::alloc::AllocError;
 
 impl<O, B, R> Forest<O, B, R> {

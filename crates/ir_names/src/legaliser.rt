@@ -2,7 +2,7 @@
 ghost use Rattle.std.specs.Prelude.{◌≡◌, ℕ, ◌≤◌, ◌<◌, ◌^◌, ◌-◌, ◌↔◌, List, [], true, false, Some, None, Err, IfOk, OnOk, OnErr, MatchOption, option_map, option_copied, length};
 ghost use Rattle.std.specs.Str.{chars};
 ghost use Rattle.std.specs.String.{string_bytes};
-ghost use Rattle.ir_names.specs.declared.growth.GrowError.TheVariants.{CounterFull};
+ghost use Rattle.ir_base.specs.declared.growth.GrowError.TheVariants.{CounterFull};
 ghost use Rattle.ir_names.specs.Identifier.{text_of};
 ghost use Rattle.ir_names.specs.Text.{clean_text};
 ghost use Rattle.ir_names.specs.Legaliser.{Legalised, name_of, source_of, is_taken, IsOneToOne, numbered, AreTaken, IsNumbered, IsFresh, IsFull, with_name};

@@ -3,7 +3,6 @@
 
 mod dialects;
 mod dictionary;
-mod growth;
 mod identifier;
 mod interfaces;
 mod kinds;
@@ -13,10 +12,10 @@ mod place;
 
 pub use dialects::Dialects;
 pub use dictionary::{AttributeDict, Attributes};
-pub use growth::GrowError;
 pub use identifier::{Identifier, IdentifierError, InvalidIdentifier, ident};
 pub use interfaces::{AttrInterface, OpInterface, RegionKind, TypeInterface, TypeTest};
-pub use kinds::{Signedness, TypeHandle};
+pub use ir_base::{GrowError, TypeHandle};
+pub use kinds::Signedness;
 pub use legaliser::Legaliser;
 pub use names::{AttrId, AttrName, DialectName, OpId, OpName, TypeId, TypeName};
 pub use place::Place;

@@ -2,7 +2,7 @@
 use Rattle.std.proofs.Common.{◌≡◌, ℕ, suc, zero, ◌-◌, ◌<◌, List, ◌++◌, sym, ap, ◌∙◌, subst, arith}
 use Rattle.std.specs.Prelude.{true, Option, Some, slice_get, option_map, Vec}
 use Rattle.std.specs.Global.{Global}
-use Rattle.ir_names.specs.declared.kinds.TypeHandle.{TypeHandle}
+use Rattle.ir_base.specs.declared.types.TypeHandle.{TypeHandle}
 use Rattle.ir_names.specs.Tree.{Tree, Trees, node, label_of}
 use Rattle.ir_print.specs.Formats.{Formats, Kind, Step, Steps, list_of}
 use Rattle.ir_print.specs.Layout.{Chunk, spell, an_id, Printer, piece_on, type_on, parts_on, format_on, kind_on, members_on, Deeper, IsFlat, AreFlat}

@@ -1,6 +1,6 @@
 -- Which trees have the shape of a format.
 use Rattle.std.specs.Prelude.{◌≡◌, ℕ, ◌^◌, ◌<◌, List, [], ◌∷◌, Some, None, true, slice_get}
-use Rattle.ir_names.specs.declared.kinds.TypeHandle.{TypeHandle}
+use Rattle.ir_base.specs.declared.types.TypeHandle.{TypeHandle}
 use Rattle.ir_names.specs.Text.{is_identifier}
 use Rattle.ir_names.specs.Tree.{Tree, Trees, node, no_tree, a_tree}
 use Rattle.ir_print.specs.Formats as step

@@ -1,6 +1,6 @@
 -- What adding several results, arguments, operands or successors at once makes.
 use Rattle.std.specs.Prelude.{◌≡◌, ◌≢◌, ℕ, suc, ◌<◌, ◌+◌, List, [], ◌∷◌, ◌++◌, Some, IsSome, length, take, slice_get}
-use Rattle.ir_names.specs.declared.kinds.TypeHandle.{TypeHandle}
+use Rattle.ir_base.specs.declared.types.TypeHandle.{TypeHandle}
 use Rattle.ir_program.specs.Program.{Program, TypedValue, OperationView, BlockView, block_at, type_at, IsLiveValue}
 use Rattle.ir_program.specs.Edits.{EditsOperation, EditsBlock}
 use Rattle.ir_program.specs.declared.handles.Ptr.{Ptr}

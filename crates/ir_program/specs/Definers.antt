@@ -1,6 +1,6 @@
 -- What contracts say of the values that operations and blocks define, and of values that come and go.
 use Rattle.std.specs.Prelude.{◌≡◌, ◌≢◌, ℕ, List, Some, None, slice_get}
-use Rattle.ir_names.specs.declared.kinds.TypeHandle.{TypeHandle}
+use Rattle.ir_base.specs.declared.types.TypeHandle.{TypeHandle}
 use Rattle.ir_program.specs.Program.{Program, TypedValue, results_at, arguments_at, value_in, type_at}
 use Rattle.ir_program.specs.Uses.{IsUsed}
 use Rattle.ir_program.specs.declared.handles.Value.{Value}

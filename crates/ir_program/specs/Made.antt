@@ -1,7 +1,7 @@
 -- What making an operation, a block or a region adds.
 use Rattle.std.specs.Prelude.{◌≡◌, ◌≢◌, ℕ, ◌<◌, ◌+◌, length, ◌++◌, List, [], ◌∷◌, Some, None, option_map, slice_get}
 use Rattle.ir_arena.specs.Arena.{HasFullSlot, IsSpent}
-use Rattle.ir_names.specs.declared.kinds.TypeHandle.{TypeHandle}
+use Rattle.ir_base.specs.declared.types.TypeHandle.{TypeHandle}
 use Rattle.ir_program.specs.Program.{Program, OperationView, operation_at, block_at, region_at, type_at}
 use Rattle.ir_program.specs.Lists.{IsUnlinkedOperation, IsUnlinkedBlock, regions_in}
 use Rattle.ir_program.specs.Adds.{numbered_values}

@@ -1,6 +1,6 @@
 -- What making and taking away does to definitions.
 use Rattle.std.specs.Prelude.{◌≡◌, ℕ, List, Some, None, slice_get, insert, remove}
-use Rattle.ir_names.specs.declared.kinds.TypeHandle.{TypeHandle}
+use Rattle.ir_base.specs.declared.types.TypeHandle.{TypeHandle}
 use Rattle.ir_entities.specs.Uses.{Uses, key_of, SetsKey}
 use Rattle.ir_program.specs.declared.handles.Value.{Value}
 use Rattle.ir_program.specs.declared.records.Definition.{Definition}

@@ -1,6 +1,6 @@
 -- What a contract sees of a program: each operation, block and region by its handle, and the type of each value.
 use Rattle.std.specs.Prelude.{ℕ, List, [], ◌∷◌, map, Option, Some, None, IsSome, option_map, unwrap_or, cond, eqb, slice_get, length}
-use Rattle.ir_names.specs.declared.kinds.TypeHandle.{TypeHandle}
+use Rattle.ir_base.specs.declared.types.TypeHandle.{TypeHandle}
 use Rattle.ir_arena.specs.declared.arena.Slot.{Slot}
 use Rattle.ir_arena.specs.Arena.{get}
 use Rattle.ir_entities.specs.Links.{list_at}

@@ -1,6 +1,6 @@
 -- What edits of an operation's results and a block's arguments make.
 use Rattle.std.specs.Prelude.{ℕ, ◌-◌, [], ◌∷◌, ◌++◌, length, insert, remove}
-use Rattle.ir_names.specs.declared.kinds.TypeHandle.{TypeHandle}
+use Rattle.ir_base.specs.declared.types.TypeHandle.{TypeHandle}
 use Rattle.ir_program.specs.Program.{Program}
 use Rattle.ir_program.specs.Edits.{EditsOperation, EditsBlock}
 use Rattle.ir_program.specs.declared.handles.Ptr.{Ptr}

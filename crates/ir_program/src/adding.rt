@@ -1,11 +1,11 @@
 //! Giving operations and blocks several values, operands or successors at once.
 ghost use Rattle.std.specs.Prelude.{◌≡◌, ◌≤◌, ◌+◌, ◌^◌, Err, IsSome, OnOk, OnErr, length};
-ghost use Rattle.ir_names.specs.declared.growth.GrowError.TheVariants.{CounterFull};
+ghost use Rattle.ir_base.specs.declared.growth.GrowError.TheVariants.{CounterFull};
 ghost use Rattle.ir_program.specs.Program.{operation_at, block_at};
 ghost use Rattle.ir_program.specs.Adds.{AreLiveValues, AreLiveBlocks, AddsResults, AddsArguments, AddsOperands, AddsSuccessors, SomeCame};
 
 use crate::{BasicBlock, Operation, Program, Ptr, Value};
-use ir_names::{GrowError, TypeHandle};
+use ir_base::{GrowError, TypeHandle};
 use std::alloc::AllocError;
 
 impl<O, B> Program<O, B> {

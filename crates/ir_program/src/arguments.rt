@@ -1,6 +1,6 @@
 //! The arguments of blocks.
 ghost use Rattle.std.specs.Prelude.{◌≡◌, ◌≤◌, ◌<◌, ◌+◌, ◌-◌, ◌^◌, Some, None, Err, IsSome, IfOk, IfSome, IfNone, OnSome, OnOk, OnErr};
-ghost use Rattle.ir_names.specs.declared.growth.GrowError.TheVariants.{CounterFull};
+ghost use Rattle.ir_base.specs.declared.growth.GrowError.TheVariants.{CounterFull};
 ghost use Rattle.ir_program.specs.Program.{block_at, type_at, arguments_at, argument_count, value_in, type_in};
 ghost use Rattle.ir_program.specs.Uses.{IsUsed};
 ghost use Rattle.ir_program.specs.Definers.{DefinesValue, ForgetsValue};
@@ -11,7 +11,7 @@ ghost use Rattle.ir_program.specs.ValueEdits.{PushesArgument, InsertsArgument, P
 
 use crate::definitions::{insert_definition, remove_definition};
 use crate::{BasicBlock, DefiningEntity, Program, Ptr, Value};
-use ir_names::{GrowError, TypeHandle};
+use ir_base::{GrowError, TypeHandle};
 
 impl<O, B> Program<O, B> {
     /// Gives a block one argument more, at an index of its arguments: a value that no place names, with a number that

@@ -1,6 +1,6 @@
 //! Making operations and blocks with all that they have.
 ghost use Rattle.std.specs.Prelude.{◌≡◌, ◌≢◌, ◌⊎◌, ℕ, ◌<◌, ◌≤◌, ◌+◌, ◌^◌, [], List, Some, Err, IsSome, IfOk, OnOk, OnErr, length, slice_get};
-ghost use Rattle.ir_names.specs.declared.growth.GrowError.TheVariants.{CounterFull};
+ghost use Rattle.ir_base.specs.declared.growth.GrowError.TheVariants.{CounterFull};
 ghost use Rattle.ir_program.specs.Program.{operation_at, block_at, type_at, IsLiveValue};
 ghost use Rattle.ir_program.specs.Lists.{IsUnlinkedOperation, IsUnlinkedBlock, operations_in};
 ghost use Rattle.ir_program.specs.Rows.{operands_at, successors_at};
@@ -14,7 +14,7 @@ ghost use Rattle.ir_program.specs.declared.handles.Value.{Value};
 ghost use Rattle.ir_program.specs.declared.handles.DefiningEntity.TheVariants.{Op as ByOp, Block as ByBlock};
 
 use crate::{BasicBlock, Operation, Program, Ptr, Value};
-use ir_names::{GrowError, TypeHandle};
+use ir_base::{GrowError, TypeHandle};
 use std::alloc::Global;
 
 impl<O, B> Program<O, B> {

@@ -5,8 +5,8 @@ ghost use Rattle.ir_program.specs.Making.{InsertsDefinition, RemovesDefinition};
 
 use crate::Value;
 use crate::records::Definition;
+use ir_base::TypeHandle;
 use ir_entities::Uses;
-use ir_names::TypeHandle;
 use std::alloc::AllocError;
 
 /// Defines a value, and puts its definition at an index of its definer's.

@@ -1,6 +1,6 @@
 //! Making operations, blocks and regions.
 ghost use Rattle.std.specs.Prelude.{◌≡◌, Err, IsSome, IfOk, OnOk, OnErr};
-ghost use Rattle.ir_names.specs.declared.growth.GrowError.TheVariants.{CounterFull};
+ghost use Rattle.ir_base.specs.declared.growth.GrowError.TheVariants.{CounterFull};
 ghost use Rattle.ir_program.specs.Program.{operation_at};
 ghost use Rattle.ir_program.specs.Edits.{IsRestored, IsUnchanged};
 ghost use Rattle.ir_program.specs.Lists.{IsUnlinkedOperation, IsUnlinkedBlock};
@@ -8,7 +8,7 @@ ghost use Rattle.ir_program.specs.Made.{MakesOperation, MakesBlock, MakesRegion,
 
 use crate::records::{BlockRecord, OperationRecord, RegionRecord};
 use crate::{BasicBlock, Operation, Program, Ptr, Region};
-use ir_names::GrowError;
+use ir_base::GrowError;
 use std::alloc::Global;
 
 impl<O: Drop, B: Drop> Program<O, B> {

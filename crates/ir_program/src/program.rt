@@ -7,8 +7,8 @@ ghost use Rattle.ir_program.specs.Made.{HasRoom};
 
 use crate::records::{BlockRecord, Definition, OperationRecord, RegionRecord};
 use crate::{BasicBlock, DefiningEntity, Operation, Ptr, Region, Value};
+use ir_base::TypeHandle;
 use ir_entities::{Forest, Uses};
-use ir_names::TypeHandle;
 use std::alloc::Global;
 use std::marker::Model;
 

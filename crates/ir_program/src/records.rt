@@ -1,7 +1,7 @@
 //! What a program keeps of an operation and of a block, besides what stands where.
 ghost use Rattle.std.specs.Prelude.{◌≡◌};
 
-use ir_names::TypeHandle;
+use ir_base::TypeHandle;
 
 /// A result or an argument: its number at its definer, its type, and the number of its thread among
 /// the uses of values.

@@ -1,6 +1,6 @@
 //! The results of operations.
 ghost use Rattle.std.specs.Prelude.{◌≡◌, ◌≤◌, ◌<◌, ◌+◌, ◌-◌, ◌^◌, Some, None, Err, IsSome, IfOk, IfSome, IfNone, OnSome, OnOk, OnErr};
-ghost use Rattle.ir_names.specs.declared.growth.GrowError.TheVariants.{CounterFull};
+ghost use Rattle.ir_base.specs.declared.growth.GrowError.TheVariants.{CounterFull};
 ghost use Rattle.ir_program.specs.Program.{operation_at, type_at, results_at, result_count, value_in, type_in};
 ghost use Rattle.ir_program.specs.Uses.{IsUsed};
 ghost use Rattle.ir_program.specs.Definers.{DefinesValue, ForgetsValue};
@@ -11,7 +11,7 @@ ghost use Rattle.ir_program.specs.ValueEdits.{PushesResult, InsertsResult, PopsR
 
 use crate::definitions::{insert_definition, remove_definition};
 use crate::{DefiningEntity, Operation, Program, Ptr, Value};
-use ir_names::{GrowError, TypeHandle};
+use ir_base::{GrowError, TypeHandle};
 
 impl<O, B> Program<O, B> {
     /// Gives an operation one result more, at an index of its results: a value that no place names, with a number that

@@ -8,7 +8,7 @@ ghost use Rattle.ir_program.specs.Program.{definition_at, definitions_of, number
 use crate::program::Program;
 use crate::records::Definition;
 use crate::{DefiningEntity, Value};
-use ir_names::TypeHandle;
+use ir_base::TypeHandle;
 
 impl<O, B> Program<O, B> {
     /// Whether the value stands at its definer.

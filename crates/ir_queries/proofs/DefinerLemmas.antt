@@ -1,6 +1,6 @@
 -- What defines a value that stands at its definer is there.
 use Rattle.std.proofs.Common.{◌≡◌, ℕ, ◌∙◌, [], Option, Some, None, IsSome, option_map, unwrap_or, slice_get, refl, sym, ap, subst}
-use Rattle.ir_names.specs.declared.kinds.TypeHandle.{TypeHandle}
+use Rattle.ir_base.specs.declared.types.TypeHandle.{TypeHandle}
 use Rattle.ir_program.specs.Program.{Program, OperationView, BlockView, TypedValue, operation_at, block_at, type_at, value_in, IsLiveValue}
 use Rattle.ir_program.specs.Lists.{IsLiveNode}
 use Rattle.ir_program.specs.Definers.{values_at, StandsAtDefiner}

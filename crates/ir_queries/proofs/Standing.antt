@@ -1,6 +1,6 @@
 -- Which values and uses stand.
 use Rattle.std.proofs.Common.{◌≡◌, ◌≢◌, ℕ, List, true, Option, Some, None, MatchOption, is_some, option_map, slice_get, refl, sym, ap, ◌∙◌, subst}
-use Rattle.ir_names.specs.declared.kinds.TypeHandle.{TypeHandle}
+use Rattle.ir_base.specs.declared.types.TypeHandle.{TypeHandle}
 use Rattle.ir_program.specs.Program.{Program, TypedValue, type_at, value_in, type_in}
 use Rattle.ir_program.specs.Definers.{values_at, StandsAtDefiner}
 use Rattle.ir_program.specs.declared.handles.Value.{Value}

@@ -1,7 +1,7 @@
 -- What contracts say of types by their kinds, whatever a dialect calls its kinds.
 use Rattle.std.specs.Prelude.{ℕ, List, codes, Option, option_and_then}
 use Rattle.std.specs.Option.{option_map_or}
-use Rattle.ir_names.specs.declared.kinds.TypeHandle.{TypeHandle}
+use Rattle.ir_base.specs.declared.types.TypeHandle.{TypeHandle}
 use Rattle.ir_types.specs.Interned.{key_at}
 use Rattle.ir_types.specs.Views.{TypesView}
 

@@ -1,6 +1,6 @@
 -- What has a type.
 use Rattle.std.specs.Prelude.{Option, Some}
-use Rattle.ir_names.specs.declared.kinds.TypeHandle.{TypeHandle}
+use Rattle.ir_base.specs.declared.types.TypeHandle.{TypeHandle}
 use Rattle.ir_program.specs.Program.{Program, type_at}
 use Rattle.ir_program.specs.declared.handles.Value.{Value}
 

@@ -1,5 +1,5 @@
 -- What contracts see of handles of types of which something is known.
-use Rattle.ir_names.specs.declared.kinds.TypeHandle.{TypeHandle}
+use Rattle.ir_base.specs.declared.types.TypeHandle.{TypeHandle}
 use Rattle.ir_queries.specs.declared.handles.TypedHandle.{TypedHandle}
 use Rattle.ir_queries.specs.declared.handles.TypeInterfaceHandle.{TypeInterfaceHandle}
 

@@ -1,6 +1,6 @@
 //! Making types of what they are made of.
 ghost use Rattle.std.specs.Prelude.{◌≡◌, ◌↔◌, true, false, Ok, Some, IfOk, OnOk, OnErr};
-ghost use Rattle.ir_names.specs.declared.kinds.TypeHandle.{TypeHandle};
+ghost use Rattle.ir_base.specs.declared.types.TypeHandle.{TypeHandle};
 ghost use Rattle.ir_types.specs.Interned.{key_at, passes, KeepsTypes, next_handle, has_key, handle_of, with_type};
 ghost use Rattle.ir_queries.specs.TypedHandles.{typed_handle, untyped};
 

@@ -3,7 +3,7 @@ use Rattle.std.specs.Prelude.{◌≡◌, ◌≢◌, ℕ, suc, zero, ◌+◌, ◌
 use Rattle.std.specs.List.{find}
 use Rattle.std.specs.Option.{option_map_or}
 use Rattle.ir_names.specs.declared.identifier.Identifier.{Identifier}
-use Rattle.ir_names.specs.declared.kinds.TypeHandle.{TypeHandle}
+use Rattle.ir_base.specs.declared.types.TypeHandle.{TypeHandle}
 use Rattle.ir_store.specs.declared.pointer.Ptr.{Ptr}
 use Rattle.ir_store.specs.declared.pointer.Operation.{Operation}
 use Rattle.ir_store.specs.declared.pointer.Region.{Region}

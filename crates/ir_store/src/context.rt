@@ -33,7 +33,7 @@ impl<D: Dialects> Model for Context<D> {
 }
 
 impl<D: Dialects> Context<D> {
-    ghost use Rattle.ir_names.specs.declared.growth.GrowError.TheVariants.{CounterFull};
+    ghost use Rattle.ir_base.specs.declared.growth.GrowError.TheVariants.{CounterFull};
     ghost use Rattle.ir_store.specs.Pointer.{pointer_at};
     ghost use Rattle.ir_store.specs.Views.{ContextView};
     ghost use Rattle.ir_store.specs.Context.{operation_at, region_at, block_at, IsLiveOperation, IsLiveRegion, IsLiveBlock, IsLiveDefiner, IsEmptyTree, parent_block_of, parent_region_of, key_at, edit_operation, edit_region, edit_block, append_operand, stand_in_block, append_block, stand_in_region, append_operation, next_operation, next_block, regions_of, fresh_operation, fresh_block, with_operation, with_block, LacksNumbers, with_type, KeepsParentBlocks, KeepsParentRegions, KeepsOtherParentBlocks, KeepsOtherParentRegions};

@@ -1,6 +1,6 @@
 -- What a body that was lent leaves, for callers of `body_mut`.
 use Rattle.std.proofs.Common.{◌≡◌, ◌≢◌, ℕ, zero, suc, ◌<◌, List, [], ◌∷◌, length, slice_get, slice_set, Option, Some, option_and_then, refl, ap, arith}
-use Rattle.ir_names.specs.declared.kinds.TypeHandle.{TypeHandle}
+use Rattle.ir_base.specs.declared.types.TypeHandle.{TypeHandle}
 use Rattle.ir_types.specs.Views.{TypesView}
 use Rattle.ir_types.specs.Interned.{body_at}
 use Rattle.ir_types.specs.Lends.{with_body}

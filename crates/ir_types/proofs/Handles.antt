@@ -2,7 +2,7 @@
 use Rattle.std.proofs.Common.{false, position, true≢false, ◌≡◌, ◌↔◌, ℕ, ◌<◌, Bool, true, List, [], ◌∷◌, ◌++◌, length, slice_get, Option, Some, None, option_and_then, sym, ap, subst, ◌∙◌, arith}
 use Rattle.std.specs.List.{list_any}
 use Rattle.std.specs.Cmp.{IsEquivalence}
-use Rattle.ir_names.specs.declared.kinds.TypeHandle.{TypeHandle}
+use Rattle.ir_base.specs.declared.types.TypeHandle.{TypeHandle}
 use Rattle.ir_types.specs.declared.saved.SavedKey.{SavedKey}
 use Rattle.ir_types.proofs.Places.{found, stored_there, IsOnce, place-of_key, slice_get-append_within}
 use Rattle.ir_types.specs.Views.{TypesView}

@@ -5,7 +5,7 @@ use Rattle.std.specs.contracts.option.Option as option
 use Rattle.std.specs.declared.cmp.PartialEq as eq
 use Rattle.std.specs.declared.hash.Hash as hash
 use Rattle.std.specs.declared.fmt.Debug as debug
-use Rattle.ir_names.specs.declared.kinds.TypeHandle.{TypeHandle}
+use Rattle.ir_base.specs.declared.types.TypeHandle.{TypeHandle}
 use Rattle.ir_types.specs.declared.dialect.DialectTables as tables
 use Rattle.ir_types.specs.contracts.types.Types.{the_row}
 use Rattle.ir_types.specs.Views.{TypesView}

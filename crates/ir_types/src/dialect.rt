@@ -4,7 +4,7 @@ ghost use Rattle.ir_names.specs.declared.interfaces.AttrInterface.{AttrInterface
 ghost use Rattle.ir_names.specs.declared.interfaces.OpInterface.{OpInterface};
 ghost use Rattle.ir_names.specs.declared.interfaces.RegionKind.{RegionKind};
 ghost use Rattle.ir_names.specs.declared.interfaces.TypeInterface.{TypeInterface};
-ghost use Rattle.ir_names.specs.declared.kinds.TypeHandle.{TypeHandle};
+ghost use Rattle.ir_base.specs.declared.types.TypeHandle.{TypeHandle};
 ghost use Rattle.ir_names.specs.Interfaces.{ImplementsParents, ImplementsParentsOfAttr};
 ghost use Rattle.ir_names.specs.Identifier.{text_of};
 ghost use Rattle.ir_names.specs.Names.{op_id_text, type_id_text, attr_id_text};

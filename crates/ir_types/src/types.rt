@@ -32,7 +32,7 @@ impl<D: DialectTables> Model for Types<D> {
 }
 
 impl<D: DialectTables> Types<D> {
-    ghost use Rattle.ir_names.specs.declared.kinds.TypeHandle.{TypeHandle};
+    ghost use Rattle.ir_base.specs.declared.types.TypeHandle.{TypeHandle};
     ghost use Rattle.ir_types.specs.declared.saved.SavedKey.{SavedKey};
     ghost use Rattle.ir_types.specs.Lends.{lends_body};
     ghost use Rattle.ir_types.specs.Interned.{IsKnown, key_at, body_at, IsSaved, saved_at, KeepsTypes, KeepsSaved, passes, HasDistinctTypes, next_handle, has_key, handle_of, with_type, HasDistinctSaved, next_saved_key, has_saved, saved_key_of, with_saved};

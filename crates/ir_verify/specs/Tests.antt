@@ -1,7 +1,7 @@
 -- What is tested of a program, and in which order.
 use Rattle.std.specs.Prelude.{List, [], ◌∷◌, ◌++◌, map, option_map, unwrap_or}
 use Rattle.std.specs.List.{flat_map}
-use Rattle.ir_names.specs.declared.kinds.TypeHandle.{TypeHandle}
+use Rattle.ir_base.specs.declared.types.TypeHandle.{TypeHandle}
 use Rattle.ir_program.specs.Lent.{block_payload_at}
 use Rattle.ir_program.specs.Lists.{IsLiveNode}
 use Rattle.ir_program.specs.Preorder.{nodes_inside}

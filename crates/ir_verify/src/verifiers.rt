@@ -1,6 +1,6 @@
 //! The tests of a dialect.
 ghost use Rattle.std.specs.Prelude.{◌↔◌, IsOk, IsSome, IfErr};
-ghost use Rattle.ir_names.specs.declared.kinds.TypeHandle.{TypeHandle};
+ghost use Rattle.ir_base.specs.declared.types.TypeHandle.{TypeHandle};
 ghost use Rattle.ir_program.specs.declared.handles.Ptr.{Ptr};
 ghost use Rattle.ir_program.specs.declared.handles.Operation.{Operation};
 ghost use Rattle.ir_program.specs.Program.{operation_at};

@@ -29,8 +29,8 @@ use Rattle.irkit_driver.specs.Refusals.{of_read_fault, of_decode_fault, of_write
 use Rattle.irkit_driver.specs.Texts.{kit_language, SaysTree, IsAcceptedAs, Overfills}
 use Rattle.irkit_driver.specs.Outcomes.{Loads, Understands, EndsLoad, EndsCall, GivesText, Refuses, RefusesRun}
 use Rattle.irkit_words.specs.declared.request.KitPass.{KitPass}
-use Rattle.ir_names.specs.declared.growth.GrowError.{GrowError}
-use Rattle.ir_names.specs.declared.growth.GrowError.TheVariants as grow
+use Rattle.ir_base.specs.declared.growth.GrowError.{GrowError}
+use Rattle.ir_base.specs.declared.growth.GrowError.TheVariants as grow
 use Rattle.irkit_driver.specs.Lists.{EndsPasses}
 
 -- what holds at an error holds at a result that is this error

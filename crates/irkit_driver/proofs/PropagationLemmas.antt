@@ -1,8 +1,8 @@
 -- Constant propagation as a pass of a list.
 use Rattle.std.proofs.Common.{◌≡◌, ℕ, List, [], ◌∷◌, Result, Ok, Err, refl, sym, subst}
 use Rattle.std.specs.Prelude.{OnOk}
-use Rattle.ir_names.specs.declared.growth.GrowError.{GrowError}
-use Rattle.ir_names.specs.declared.growth.GrowError.TheVariants.{Memory, CounterFull}
+use Rattle.ir_base.specs.declared.growth.GrowError.{GrowError}
+use Rattle.ir_base.specs.declared.growth.GrowError.TheVariants.{Memory, CounterFull}
 use Rattle.ir_store.specs.declared.pointer.Ptr.{Ptr}
 use Rattle.ir_store.specs.declared.pointer.Operation.{Operation}
 use Rattle.ir_store.specs.declared.value.Value.{Value}

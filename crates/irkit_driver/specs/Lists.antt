@@ -1,7 +1,7 @@
 -- Lists of passes: what they make of a module, and what holds then.
 use Rattle.std.specs.Prelude.{◌≡◌, ◌≤◌, ◌^◌, ℕ, suc, ◌+◌, ◌++◌, List, [], ◌∷◌, length, Result, Ok, Err}
-use Rattle.ir_names.specs.declared.growth.GrowError.{GrowError}
-use Rattle.ir_names.specs.declared.growth.GrowError.TheVariants.{Memory, CounterFull}
+use Rattle.ir_base.specs.declared.growth.GrowError.{GrowError}
+use Rattle.ir_base.specs.declared.growth.GrowError.TheVariants.{Memory, CounterFull}
 use Rattle.ir_store.specs.declared.pointer.Ptr.{Ptr}
 use Rattle.ir_store.specs.declared.pointer.Operation.{Operation}
 use Rattle.ir_store.specs.declared.value.Value.{Value}

@@ -1,7 +1,7 @@
 -- Refusals, and which bytes deserve which.
 use Rattle.std.specs.Prelude.{ℕ, List}
-use Rattle.ir_names.specs.declared.growth.GrowError.{GrowError}
-use Rattle.ir_names.specs.declared.growth.GrowError.TheVariants as grow
+use Rattle.ir_base.specs.declared.growth.GrowError.{GrowError}
+use Rattle.ir_base.specs.declared.growth.GrowError.TheVariants as grow
 use Rattle.ir_tokens.specs.declared.faults.TextFault.{TextFault}
 use Rattle.ir_tokens.specs.declared.faults.TextFault.TheVariants as text
 use Rattle.kit_rules.specs.declared.module_rules.RuleFault.{RuleFault}

@@ -2,7 +2,7 @@
 use Rattle.std.proofs.Common.{◌≡◌, ℕ, zero, suc, List, Some, None, Result, Ok, Err, ap, subst, refl}
 use Rattle.std.specs.List.{slice_get}
 use Rattle.std.specs.Result.{IfOk}
-use Rattle.ir_names.specs.declared.kinds.TypeHandle.{TypeHandle}
+use Rattle.ir_base.specs.declared.types.TypeHandle.{TypeHandle}
 use Rattle.ir_print.specs.declared.dialect.MakeFault.{MakeFault}
 use Rattle.ir_print.specs.declared.format.Part.{Part}
 use Rattle.ir_names.specs.Tree.{node}

@@ -3,7 +3,7 @@ use Rattle.std.proofs.Common.{◌≡◌, ℕ, ◌≤◌, ◌^◌, Bool, true, fa
 use Rattle.std.proofs.lemmas.Bool.{eqb-true}
 use Rattle.std.proofs.lemmas.Bool.Decides.{nat_tests}
 use Rattle.std.specs.Global.{Global}
-use Rattle.ir_names.specs.declared.kinds.TypeHandle.{TypeHandle}
+use Rattle.ir_base.specs.declared.types.TypeHandle.{TypeHandle}
 use Rattle.ir_names.specs.declared.kinds.Signedness.{Signedness}
 use Rattle.ir_names.specs.declared.identifier.Identifier.{Identifier}
 use Rattle.ir_names.specs.Identifier.{text_of}

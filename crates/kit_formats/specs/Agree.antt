@@ -3,10 +3,10 @@ use Rattle.std.specs.Prelude.{◌≡◌, ℕ, zero, suc, ◌^◌, nat_lt, true, 
 use Rattle.std.proofs.Common.{ap, ◌∙◌}
 use Rattle.std.specs.Cmp.Lexicographic.{pointwise}
 use Rattle.std.proofs.lemmas.Bool.{and_parts, eqb-true, false≢true, true≢false}
-use Rattle.ir_names.specs.declared.kinds.TypeHandle.{TypeHandle}
+use Rattle.ir_base.specs.declared.types.TypeHandle.{TypeHandle}
 use Rattle.ir_names.specs.declared.kinds.Signedness.{Signedness}
 use Rattle.ir_names.specs.declared.kinds.Signedness.TheVariants.{Signless, Signed, Unsigned}
-use Rattle.ir_names.specs.contracts.kinds.TypeHandlePartialEq.TheImpl as of_handles
+use Rattle.ir_base.specs.contracts.types.TypeHandlePartialEq.TheImpl as of_handles
 use Rattle.ir_names.specs.contracts.kinds.SignednessPartialEq.TheImpl as of_signs
 use Rattle.ir_names.specs.Tree.{Trees, node, a_tree}
 use Rattle.ir_print.specs.Pieces.{Pieces}

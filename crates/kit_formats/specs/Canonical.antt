@@ -10,7 +10,7 @@ use Rattle.kit_types.specs.Numbers.{number_modulo, number_of_bits}
 use Rattle.kit_formats.specs.Says.{has_values, is_number_of, refused_unless, refused_integer, refused_attribute, canonical, canonical_number}
 use Rattle.kit_formats.specs.Readable.{in_range, same_bits, high}
 use Rattle.ir_print.specs.Layout.{IsFlat, AreFlat}
-use Rattle.ir_text.specs.Bare.{IsBare, AreBare}
+use Rattle.ir_forest.specs.Bare.{IsBare, AreBare}
 
 -- a number modulo p is below p
 modulo_low : (p : ℕ) → 0 < p → (b : Bool) (m : ℕ) → cond b ((p - m) % p) (m % p) < p

@@ -1,6 +1,6 @@
 -- The kinds of `kit`, in the order of their numbers, and what each is of.
 use Rattle.std.specs.Prelude.{ℕ, Bool, true, false, List, [], ◌∷◌, Option, Some, None, codes}
-use Rattle.ir_names.specs.declared.kinds.TypeHandle.{TypeHandle}
+use Rattle.ir_base.specs.declared.types.TypeHandle.{TypeHandle}
 use Rattle.kit_types.specs.declared.kinds.KitOp.{KitOp}
 use Rattle.kit_types.specs.declared.kinds.KitOp.TheVariants.{Module, Func, Constant, Return, Add}
 use Rattle.kit_types.specs.declared.kinds.KitType.{KitType}

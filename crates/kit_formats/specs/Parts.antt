@@ -3,7 +3,7 @@ use Rattle.std.specs.Prelude.{◌≡◌, ◌==◌, ℕ, Bool, false, Vec, List, 
 use Rattle.std.specs.Global.{Global}
 use Rattle.ir_names.specs.declared.identifier.Identifier.{Identifier}
 use Rattle.ir_names.specs.Identifier.{text_of}
-use Rattle.ir_names.specs.declared.kinds.TypeHandle.{TypeHandle}
+use Rattle.ir_base.specs.declared.types.TypeHandle.{TypeHandle}
 use Rattle.ir_print.specs.declared.format.Number.{Number}
 use Rattle.ir_print.specs.declared.format.Part.{Part, Part-F, out-Part}
 use Rattle.ir_print.specs.declared.format.Part.TheVariants as parts

@@ -1,7 +1,7 @@
 -- What the operations of a context look like, by the types and attributes that it has for them.
 use Rattle.std.specs.Option.{option_map_or, is_some}
 use Rattle.std.specs.Prelude.{ℕ, List, map, length, ◌==◌, ◌&&◌, not, Bool, true, false, if◌then◌else◌, slice_get, Option, Some, None, option_and_then}
-use Rattle.ir_names.specs.declared.kinds.TypeHandle.{TypeHandle}
+use Rattle.ir_base.specs.declared.types.TypeHandle.{TypeHandle}
 use Rattle.ir_names.specs.Dictionary.{attribute_at}
 use Rattle.ir_names.specs.Identifier.{text_of}
 use Rattle.ir_store.specs.declared.pointer.Ptr.{Ptr}

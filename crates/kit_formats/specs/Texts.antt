@@ -1,7 +1,7 @@
 -- The texts of the kinds of `kit`.
 use Rattle.std.specs.Prelude.{[], ◌∷◌, map, codes}
 use Rattle.ir_print.specs.Formats.{Formats, Kind, Step, Steps, steps, word, operand, operands, an_attribute, a_type, a_region, symbol_name, a_name, a_number, a_width, list_of}
-use Rattle.ir_text.specs.Ordered.{Leads, leads_with, operands_leads, list_leads}
+use Rattle.ir_formats.specs.Ordered.{Leads, leads_with, operands_leads, list_leads}
 use Rattle.kit_types.specs.declared.kinds.KitOp.{KitOp}
 use Rattle.kit_types.specs.declared.kinds.KitOp.TheVariants.{Module, Func, Constant, Return, Add}
 use Rattle.kit_types.specs.declared.kinds.KitTypeKind.{KitTypeKind}

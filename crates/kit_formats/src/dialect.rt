@@ -1,6 +1,6 @@
 //! The dialect and its formats.
 ghost use Rattle.std.specs.Prelude.{◌≡◌, ◌↔◌, ◌⊎◌, ℕ, true, List, [], ◌∷◌, length, Some, None, Err, IsTrue, IfOk, slice_get, option_copied, option_map, refl};
-ghost use Rattle.ir_names.specs.declared.kinds.TypeHandle.{TypeHandle};
+ghost use Rattle.ir_base.specs.declared.types.TypeHandle.{TypeHandle};
 ghost use Rattle.ir_names.specs.Text.{is_identifier};
 ghost use Rattle.ir_names.specs.Dictionary.{attribute_at, with_attribute};
 ghost use Rattle.ir_names.specs.Tree.{Trees, node};

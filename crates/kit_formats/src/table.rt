@@ -2,7 +2,7 @@
 ghost use Rattle.std.specs.Prelude.{refl};
 
 use crate::dialect::Kit;
-use ir_text::{PartTable, ReadDialect};
+use ir_formats::{PartTable, ReadDialect};
 
 const TABLE: &[PartTable] = &[
     PartTable {

@@ -6,7 +6,7 @@ use Rattle.std.specs.Option.{option_map, option_and_then, option_map_or}
 use Rattle.std.proofs.lemmas.Option.{slice_get_within, get_or_from_slice_get, slice_get-get_or}
 use Rattle.std.proofs.lemmas.List.{length-map}
 use Rattle.ir_names.specs.declared.identifier.Identifier.{Identifier}
-use Rattle.ir_names.specs.declared.kinds.TypeHandle.{TypeHandle}
+use Rattle.ir_base.specs.declared.types.TypeHandle.{TypeHandle}
 use Rattle.ir_names.specs.Identifier.{text_of}
 use Rattle.ir_names.specs.Tree.{no_tree, a_tree}
 use Rattle.ir_store.specs.declared.pointer.Ptr.{Ptr}

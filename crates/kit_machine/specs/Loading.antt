@@ -11,7 +11,7 @@ use Rattle.ir_print.specs.Shown.{Pairs}
 use Rattle.ir_print.specs.Standing.{StandsBlock, Named, AreDistinct}
 use Rattle.kit_machine.specs.declared.machine.Instruction.{Instruction}
 use Rattle.kit_machine.specs.declared.machine.Code.{Code}
-use Rattle.ir_names.specs.declared.kinds.TypeHandle.{TypeHandle}
+use Rattle.ir_base.specs.declared.types.TypeHandle.{TypeHandle}
 use Rattle.kit_types.specs.declared.kinds.KitOp.{KitOp}
 use Rattle.kit_types.specs.declared.kinds.KitOp.TheVariants.{Module, Func, Constant, Return, Add}
 use Rattle.kit_formats.specs.Says.{says}

@@ -11,7 +11,7 @@ use Rattle.ir_store.specs.declared.pointer.Operation as store
 use Rattle.ir_store.specs.Pointer.{pointer_at}
 use Rattle.ir_print.specs.Pieces.{ValueTree, operation, a_region, block, Entity, entity, Entities, no_entity, an_entity}
 use Rattle.ir_print.specs.Standing.{StandsOperation, Named, AreDistinct, AreBelow}
-use Rattle.ir_text.specs.Closed.{names_of, definitions_of, all_definitions_of, IsNumbered}
+use Rattle.ir_forest.specs.Closed.{names_of, definitions_of, all_definitions_of, IsNumbered}
 use Rattle.ir_rereading.proofs.trees.Renamed.{renamed_operation}
 use Rattle.kit_opts.specs.declared.propagation.Folded.{Folded}
 use Rattle.kit_formats.specs.Shapes.{KitContext}

@@ -17,7 +17,7 @@ use Rattle.ir_store.specs.Context.{operation_at, region_at, block_at, kind_of, r
 use Rattle.ir_print.specs.Pieces.{ValueTree, Pieces, operation, a_region, block, Entity, entity, Entities, no_entity, an_entity}
 use Rattle.ir_print.specs.Shown.{Said, ShowsAll, Pairs, types_of_results}
 use Rattle.ir_print.specs.Standing.{StandsResult, StandsRegions, StandsBlocks, StandsOperation, StandsOperations, Named, AreDistinct}
-use Rattle.ir_text.specs.Closed.{definitions_of, all_definitions_of, names_of, AllDistinct, IsNumbered}
+use Rattle.ir_forest.specs.Closed.{definitions_of, all_definitions_of, names_of, AllDistinct, IsNumbered}
 use Rattle.kit_types.specs.declared.kinds.KitOp.{KitOp}
 use Rattle.kit_types.specs.declared.kinds.KitOp.TheVariants as kinds
 use Rattle.kit_types.specs.declared.kinds.IntegerType.{IntegerType}

@@ -14,7 +14,7 @@ use Rattle.ir_store.specs.Rewriting.{same_value}
 use Rattle.ir_print.specs.Pieces.{ValueTree, Pieces, operation, a_region, block, entity, Entities, no_entity, an_entity}
 use Rattle.ir_print.specs.Shown.{Pairs}
 use Rattle.ir_print.specs.Standing.{StandsHead, StandsResult, StandsArgument, StandsOperation, StandsRegions, StandsBlocks, StandsOperations, Named}
-use Rattle.ir_text.specs.Closed.{names_of, definitions_of, all_definitions_of}
+use Rattle.ir_forest.specs.Closed.{names_of, definitions_of, all_definitions_of}
 use Rattle.kit_types.specs.declared.kinds.KitOp.{KitOp}
 use Rattle.kit_types.specs.declared.kinds.KitOp.TheVariants.{Add}
 use Rattle.kit_types.specs.declared.attributes.KitAttr.{KitAttr}

@@ -6,7 +6,7 @@ use Rattle.std.proofs.lemmas.Option.{same_Some, none-some}
 use Rattle.std.proofs.lemmas.Bool.{ltb-true, leb-true}
 use Rattle.ir_names.specs.Tree.{Trees, node, no_tree, a_tree}
 use Rattle.ir_names.specs.Dictionary.{attribute_at}
-use Rattle.ir_names.specs.declared.kinds.TypeHandle.{TypeHandle}
+use Rattle.ir_base.specs.declared.types.TypeHandle.{TypeHandle}
 use Rattle.ir_store.specs.declared.value.Value.{Value}
 use Rattle.ir_store.specs.declared.value.Definition.{Definition}
 use Rattle.ir_store.specs.declared.pointer.Ptr.{Ptr}

@@ -5,7 +5,7 @@ use Rattle.std.specs.Option.{option_map_or}
 use Rattle.std.specs.List.{AllByRecursion}
 use Rattle.std.proofs.lemmas.Bool.{lt-ltb}
 use Rattle.ir_names.specs.Tree.{no_tree}
-use Rattle.ir_names.specs.declared.kinds.TypeHandle.{TypeHandle}
+use Rattle.ir_base.specs.declared.types.TypeHandle.{TypeHandle}
 use Rattle.ir_store.specs.declared.value.Value.{Value}
 use Rattle.ir_store.specs.declared.value.Definition.{Definition}
 use Rattle.ir_store.specs.declared.pointer.Ptr.{Ptr}

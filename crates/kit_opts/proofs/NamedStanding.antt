@@ -11,7 +11,7 @@ use Rattle.ir_print.specs.Formats.{Formats}
 use Rattle.ir_print.specs.Pieces.{type_of_kind, attribute_of_kind, list, item, operands, region, name, number, width, ValueTree, Pieces, operation, a_region, block, Entity, entity, Entities, no_entity, an_entity}
 use Rattle.ir_print.specs.Shown.{types_of_results}
 use Rattle.ir_print.specs.Standing.{StandsOperation, StandsRegions, StandsBlocks, StandsOperations}
-use Rattle.ir_text.specs.Closed.{FitsTree, FitTrees, IsNumbered, definitions_of}
+use Rattle.ir_forest.specs.Closed.{FitsTree, FitTrees, IsNumbered, definitions_of}
 use Rattle.kit_programs.specs.Machine.{Path}
 use Rattle.kit_programs.specs.Scopes.{In}
 use Rattle.kit_programs.specs.Constants.{Made, made_of}

@@ -7,7 +7,7 @@ use Rattle.ir_store.specs.declared.pointer.Ptr.{Ptr}
 use Rattle.ir_store.specs.declared.pointer.Operation as store
 use Rattle.ir_print.specs.Pieces.{ValueTree, operation, a_region, block, Entity, entity, Entities, no_entity, an_entity}
 use Rattle.ir_print.specs.Standing.{StandsOperation, Named}
-use Rattle.ir_text.specs.Closed.{definitions_of, IsNumbered}
+use Rattle.ir_forest.specs.Closed.{definitions_of, IsNumbered}
 use Rattle.kit_opts.specs.declared.propagation.Folded.{Folded}
 use Rattle.kit_formats.specs.Shapes.{KitContext}
 use Rattle.kit_formats.specs.Says.{says, values}

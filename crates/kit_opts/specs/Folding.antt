@@ -3,7 +3,7 @@ use Rattle.std.specs.Prelude.{◌≡◌, ℕ, ◌+◌, ◌%◌, ◌^◌, ◌++�
 use Rattle.std.specs.Option.{option_map_or}
 use Rattle.std.specs.HashMap as hash
 use Rattle.std.specs.HashMap.{HashMap}
-use Rattle.ir_names.specs.declared.kinds.TypeHandle.{TypeHandle}
+use Rattle.ir_base.specs.declared.types.TypeHandle.{TypeHandle}
 use Rattle.ir_names.specs.Dictionary.{attribute_at}
 use Rattle.ir_store.specs.declared.pointer.Ptr.{Ptr}
 use Rattle.ir_store.specs.declared.pointer.Operation as store

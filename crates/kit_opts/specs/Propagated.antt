@@ -5,7 +5,7 @@ use Rattle.ir_store.specs.declared.pointer.Ptr.{Ptr}
 use Rattle.ir_store.specs.declared.pointer.Operation.{Operation}
 use Rattle.ir_print.specs.Pieces.{Entity}
 use Rattle.ir_print.specs.Standing.{StandsOperation, Named, AreDistinct, AreBelow}
-use Rattle.ir_text.specs.Closed.{definitions_of, IsOperation, IsNumbered}
+use Rattle.ir_forest.specs.Closed.{definitions_of, IsOperation, IsNumbered}
 use Rattle.kit_formats.specs.Shapes.{KitContext}
 use Rattle.kit_formats.specs.Says.{says, values}
 use Rattle.kit_types.specs.Rules.{KeepsRules}

@@ -4,7 +4,7 @@
 //! and so is the sum of known numbers. Each addition with a known sum gets a constant right before it, which all operands
 //! name in the place of its result.
 ghost use Rattle.std.specs.Prelude.{◌≡◌, ◌+◌, ◌^◌, ◌≤◌, ◌<◌, List, IfOk, OnOk, Err, Some, length, cond};
-ghost use Rattle.ir_names.specs.declared.growth.GrowError.TheVariants.{CounterFull};
+ghost use Rattle.ir_base.specs.declared.growth.GrowError.TheVariants.{CounterFull};
 ghost use Rattle.ir_store.specs.Marks.{KeepsLive};
 ghost use Rattle.ir_store.specs.Rewriting.{operation_in, value_in, same_pointer, same_value};
 ghost use Rattle.ir_store.specs.declared.pointer.Ptr.{Ptr};

@@ -4,7 +4,7 @@ use Rattle.std.specs.Option.{option_map_or}
 use Rattle.std.proofs.lemmas.Bool.Decides.{nat_tests}
 use Rattle.ir_names.specs.Tree.{node, no_tree, a_tree}
 use Rattle.ir_print.specs.Pieces.{attribute_of_kind, number, width, ValueTree, Pieces, operation, a_region, block, Entity, entity, Entities, no_entity, an_entity}
-use Rattle.ir_text.specs.Closed.{all_definitions_of, names_of}
+use Rattle.ir_forest.specs.Closed.{all_definitions_of, names_of}
 use Rattle.kit_types.specs.declared.kinds.IntegerType.{IntegerType}
 use Rattle.kit_types.specs.Numbers.{number_modulo}
 use Rattle.kit_programs.specs.Machine.{Op, Const, Calc, Emit, Call, Go, Leave, Fun, left_in, takes_in}

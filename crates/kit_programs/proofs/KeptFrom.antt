@@ -3,7 +3,7 @@ use Rattle.std.proofs.Common.{◌≡◌, ℕ, ◌+◌, Bool, true, false, cond, 
 use Rattle.std.specs.Option.{option_map_or, is_some}
 use Rattle.std.proofs.lemmas.Bool.Decides.{nat_tests}
 use Rattle.ir_print.specs.Pieces.{ValueTree, Pieces, Values, operation, a_region, block, Entity, entity, Entities, no_entity, an_entity}
-use Rattle.ir_text.specs.Closed.{IsOperation, AreRegions, AreBlocks, IsBlock, AreOperations}
+use Rattle.ir_forest.specs.Closed.{IsOperation, AreRegions, AreBlocks, IsBlock, AreOperations}
 use Rattle.kit_types.specs.Rules.{FunctionTree, every, every_pair, has_values, same_integer, same_bool, integer_type, function_type, integer_of_constant, symbol_of, is_taken, define, names_after, values_of, is_none, Operation, Standing, is_module, is_function, is_constant, is_return, is_add, is_symbol, count, each, of_block, of_first, are_values, has_values_only, has_no_empty_block, has_numbers, has_constant_type, has_function_type, has_function_body, has_module_body, visible, are_visible, has_one_type, returns_results, own_tests, standing_tests, sites_of, sites_in_region, sites_in_blocks, sites_in_block, sites_in_operations, KeepsRules}
 use Rattle.kit_programs.proofs.Kept.{AreValues, SeesAll, KeptOperation, a_constant, an_addition, a_return, KeptOperations, KeptBlock, KeptBlocks, KeptBody, KeptFunction, IsEnteredWith, KeptModule, KeptMembers}
 use Rattle.kit_programs.proofs.Tested.{AllPass, EachPasses, kept_passes, passes_front, passes_back, met, met_where, not_under, first_holds, second_holds, neither_first}

@@ -1,7 +1,7 @@
 -- The functions of a module that keeps the rules, as the machine sees them.
 use Rattle.std.proofs.Common.{◌≡◌, ℕ, Bool, true, false, if◌then◌else◌, ◌⊎◌, inl, inr, List, [], ◌∷◌, ◌++◌, Option, Some, None, option_and_then, refl, sym, ap, ◌∙◌, subst, append-nil}
 use Rattle.ir_print.specs.Pieces.{ValueTree, operation, a_region, block, Entity, entity, Entities, no_entity, an_entity}
-use Rattle.ir_text.specs.Closed.{definitions_of, all_definitions_of, names_of}
+use Rattle.ir_forest.specs.Closed.{definitions_of, all_definitions_of, names_of}
 use Rattle.kit_programs.specs.Machine.{Path}
 use Rattle.kit_programs.specs.Scopes as scopes
 use Rattle.kit_programs.specs.Scopes.{In, AllIn, defs, all_defs, HasDistinctValues, entry_values, at_start, OpScoped, OpsWith, BlocksWith}

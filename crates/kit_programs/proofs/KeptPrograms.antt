@@ -1,7 +1,7 @@
 -- The functions of the program that a module is which keeps the rules.
 use Rattle.std.proofs.Common.{◌≡◌, ℕ, [], Option, Some, None, option_map, refl, sym, ap, ◌∙◌, subst}
 use Rattle.ir_print.specs.Pieces.{operation, a_region, block, Entity, entity, Entities, no_entity, an_entity}
-use Rattle.ir_text.specs.Closed.{definitions_of, AllDistinct, IsNumbered}
+use Rattle.ir_forest.specs.Closed.{definitions_of, AllDistinct, IsNumbered}
 use Rattle.kit_programs.specs.Machine.{Fun, Path}
 use Rattle.kit_programs.specs.Scopes.{AllIn, HasDistinctValues, OpScoped, BlocksWith, operands}
 use Rattle.kit_programs.specs.FlatView.{function_at, fun_of, program_of, blocks_of}

@@ -2,8 +2,8 @@
 use Rattle.std.proofs.Common.{◌≡◌, ℕ, ◌+◌, ◌≤◌, nat_eq, Bool, true, false, if◌then◌else◌, List, [], ◌∷◌, ◌++◌, map, length, Option, Some, None, refl, sym, ap, ap₂, subst, ◌∙◌, arith}
 use Rattle.std.proofs.lemmas.List.{map-append}
 use Rattle.ir_print.specs.Pieces.{ValueTree, Pieces, operation, a_region, block, Entity, entity, Entities, no_entity, an_entity}
-use Rattle.ir_text.specs.Meaning.{renamed, all_renamed}
-use Rattle.ir_text.specs.Closed.{AllDistinct, names_of, definitions_of, all_definitions_of, IsNumbered}
+use Rattle.ir_forest.specs.Meaning.{renamed, all_renamed}
+use Rattle.ir_forest.specs.Closed.{AllDistinct, names_of, definitions_of, all_definitions_of, IsNumbered}
 use Rattle.ir_rereading.proofs.trees.TreeRenamed.{definitions_renamed, all_definitions_renamed}
 use Rattle.kit_programs.specs.Machine.{bit}
 use Rattle.kit_programs.specs.Constants.{Name, Old, Made, use_of, made_of}

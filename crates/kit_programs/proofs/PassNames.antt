@@ -3,7 +3,7 @@ use Rattle.std.proofs.Common.{◌≡◌, ℕ, zero, suc, ◌+◌, ◌≤◌, ◌
 use Rattle.std.specs.List.{range_with_len}
 use Rattle.std.proofs.lemmas.Bool.{eq-eqb, eqb-true}
 use Rattle.ir_print.specs.Pieces.{Entity}
-use Rattle.ir_text.specs.Closed.{AllDistinct, definitions_of, IsNumbered}
+use Rattle.ir_forest.specs.Closed.{AllDistinct, definitions_of, IsNumbered}
 use Rattle.kit_programs.specs.Machine.{bit}
 use Rattle.kit_programs.specs.Constants.{Name, Old, New}
 

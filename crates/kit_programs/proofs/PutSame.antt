@@ -2,7 +2,7 @@
 use Rattle.std.proofs.Common.{◌≡◌, ℕ, ◌==◌, eqb-true, ◌&&◌, ◌||◌, cond, bytes_eq, Bool, true, false, ◌⊎◌, inl, inr, List, [], ◌∷◌, ◌++◌, map, Option, Some, None, option_and_then, if◌then◌else◌, refl, sym, ap, ap₂, subst, ◌∙◌}
 use Rattle.std.proofs.lemmas.Slice.Eq.{bytes_eq-Decides}
 use Rattle.ir_print.specs.Pieces.{ValueTree, Pieces, operation, a_region, block, Entity, entity, Entities, no_entity, an_entity}
-use Rattle.ir_text.specs.Closed.{names_of, definitions_of, all_definitions_of, AllDistinct}
+use Rattle.ir_forest.specs.Closed.{names_of, definitions_of, all_definitions_of, AllDistinct}
 use Rattle.kit_programs.specs.Machine.{Op, Const, Calc, Emit, Call, Go, Leave, Path}
 use Rattle.kit_programs.specs.Scopes.{In, all_defs}
 use Rattle.kit_programs.specs.Constants.{Name, Old, Made, constant_of, use_of, calc_results, made_of}

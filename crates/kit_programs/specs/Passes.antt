@@ -3,8 +3,8 @@ use Rattle.std.specs.Prelude.{◌≡◌, ℕ, suc, ◌+◌, List, [], ◌∷◌,
 use Rattle.std.specs.Option.{option_map_or}
 use Rattle.ir_names.specs.Tree.{node, no_tree, a_tree}
 use Rattle.ir_print.specs.Pieces.{attribute_of_kind, number, width, ValueTree, Pieces, operation, a_region, block, Entity, entity, Entities, no_entity, an_entity}
-use Rattle.ir_text.specs.Closed.{definitions_of}
-use Rattle.ir_text.specs.Meaning.{renamed_head, renamed, all_renamed}
+use Rattle.ir_forest.specs.Closed.{definitions_of}
+use Rattle.ir_forest.specs.Meaning.{renamed_head, renamed, all_renamed}
 use Rattle.kit_types.specs.declared.kinds.IntegerType.{IntegerType}
 use Rattle.kit_programs.specs.Machine.{Fun, Path, Alike}
 use Rattle.kit_programs.specs.Facts.{Facts, IsMostPrecise}

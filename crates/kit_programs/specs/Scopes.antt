@@ -1,6 +1,6 @@
 -- Which values are in scope where, and what operations define and use.
 use Rattle.std.specs.Prelude.{◌≡◌, ◌⊎◌, ℕ, zero, suc, List, [], ◌∷◌, ◌++◌, Option}
-use Rattle.ir_text.specs.Closed.{AllDistinct}
+use Rattle.ir_forest.specs.Closed.{AllDistinct}
 use Rattle.kit_programs.specs.Machine.{AllEdges, Edge, Op, Const, Calc, Emit, Call, Go, Leave, Fun, left_in, takes_in}
 
 -- x is one of these

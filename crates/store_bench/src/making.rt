@@ -4,7 +4,7 @@ ghost use Rattle.ir_program.specs.Program.{operation_at};
 ghost use Rattle.ir_program.specs.Lists.{operations_in, IsUnlinkedOperation};
 ghost use Rattle.store_bench.specs.Flat.{IsFlat};
 
-use ir_names::{GrowError, TypeHandle};
+use ir_base::{GrowError, TypeHandle};
 use ir_program::{BasicBlock, Operation, Program, Ptr};
 use std::alloc::Global;
 

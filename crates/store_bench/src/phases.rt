@@ -7,7 +7,7 @@ use crate::moving::link_again;
 use crate::operands::{give_operands, remove_operands, replace_operands};
 use crate::uses::{count_uses, replace_uses};
 use crate::walking::{count_operands, count_operations};
-use ir_names::GrowError;
+use ir_base::GrowError;
 use ir_program::Program;
 use std::alloc::Global;
 

@@ -1,7 +1,7 @@
 -- A value joins the arguments of a block, or leaves them.
 use Rattle.std.proofs.Common.{◌≡◌, ◌↔◌, ℕ, ◌≤◌, ◌+◌, ⊎_elim, List, [], map, length, Some, None, IsSome, option_map, unwrap_or, refl, sym, ap, ◌∙◌, subst, arith, slice_get, insert, remove}
 use Rattle.std.proofs.lemmas.List.{length-map}
-use Rattle.ir_names.specs.declared.kinds.TypeHandle.{TypeHandle}
+use Rattle.ir_base.specs.declared.types.TypeHandle.{TypeHandle}
 use Rattle.ir_arena.specs.Arena.{get}
 use Rattle.ir_entities.specs.Links.{AreDistinct}
 use Rattle.ir_entities.specs.Uses.{Uses, key_of, place_of, Names, IsDefined}

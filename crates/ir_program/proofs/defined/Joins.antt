@@ -2,7 +2,7 @@
 use Rattle.std.proofs.Common.{◌≡◌, ◌≢◌, ◌↔◌, ℕ, zero, suc, ◌≤◌, ◌+◌, ⊎_elim, List, [], ◌∷◌, length, map, Option, Some, None, IsSome, option_map, unwrap_or, refl, sym, ap, ◌∙◌, subst, arith, insert, remove}
 use Rattle.std.proofs.lemmas.Bool.{cases_eq}
 use Rattle.std.proofs.lemmas.List.{length-map}
-use Rattle.ir_names.specs.declared.kinds.TypeHandle.{TypeHandle}
+use Rattle.ir_base.specs.declared.types.TypeHandle.{TypeHandle}
 use Rattle.ir_arena.specs.Arena.{get}
 use Rattle.ir_entities.specs.Links.{AreDistinct}
 use Rattle.ir_entities.specs.Uses.{Uses, key_of, place_of, Names, IsDefined}

@@ -1,7 +1,7 @@
 -- What is known of values once one has come or gone.
 use Rattle.std.proofs.Common.{◌≡◌, ◌≢◌, ⊎_elim, ℕ, ◌≤◌, [], map, length, Option, Some, None, IsSome, option_map, unwrap_or, refl, sym, ap, ◌∙◌, subst, slice_get, insert, remove}
 use Rattle.std.proofs.lemmas.Option.{slice_get-map}
-use Rattle.ir_names.specs.declared.kinds.TypeHandle.{TypeHandle}
+use Rattle.ir_base.specs.declared.types.TypeHandle.{TypeHandle}
 use Rattle.ir_arena.specs.Arena.{get}
 use Rattle.ir_entities.specs.Placed.{place_at}
 use Rattle.ir_entities.specs.Uses.{Uses, key_of, place_of, named_of, Names, IsDefined}

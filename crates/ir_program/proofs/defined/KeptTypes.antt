@@ -1,6 +1,6 @@
 -- The types of values are those that are seen at their definers, so they stay where what is seen stays.
 use Rattle.std.proofs.Common.{◌≡◌, ⊎_elim, ℕ, Bool, true, false, cond, eqb, List, [], ◌∷◌, ◌++◌, ◌≢◌, map, Option, Some, None, option_map, unwrap_or, refl, sym, ap, ◌∙◌, subst}
-use Rattle.ir_names.specs.declared.kinds.TypeHandle.{TypeHandle}
+use Rattle.ir_base.specs.declared.types.TypeHandle.{TypeHandle}
 use Rattle.ir_program.specs.Program.{Program, OperationView, BlockView, TypedValue, typed_value, operation_at, block_at, results_at, arguments_at, definitions_of, numbered, type_at}
 use Rattle.ir_program.specs.Definers.{values_at}
 use Rattle.ir_program.specs.Edits.{EditsOperation, EditsBlock, IsRestored, IsUnchanged}

@@ -1,6 +1,6 @@
 -- An edit after an edit, and what a loop that adds one at a time has added.
 use Rattle.std.proofs.Common.{◌≡◌, ℕ, zero, suc, ◌+◌, ◌<◌, List, [], ◌∷◌, ◌++◌, length, take, Option, Some, None, IsSome, option_map, slice_get, Result, Ok, Err, OnErr, refl, sym, ap, ◌∙◌, subst, arith, append_assoc, append-nil, length-append}
-use Rattle.ir_names.specs.declared.kinds.TypeHandle.{TypeHandle}
+use Rattle.ir_base.specs.declared.types.TypeHandle.{TypeHandle}
 use Rattle.ir_program.specs.Program.{Program, OperationView, BlockView, operation_at, block_at, type_at}
 use Rattle.ir_program.specs.Edits.{EditsOperation, EditsBlock, KeepsErased, KeepsRoom, IsUnchanged, IsRestored}
 use Rattle.ir_program.specs.Definers.{DefinesValue}

@@ -1,6 +1,6 @@
 -- An operation or a block that is being made: what it has come to, and that nothing else changed.
 use Rattle.std.proofs.Common.{◌≡◌, ◌≢◌, ℕ, ◌<◌, ◌+◌, ⊎_elim, List, [], ◌++◌, length, Option, Some, None, IsSome, option_map, unwrap_or, slice_get, take, Result, Ok, Err, OnOk, OnErr, refl, sym, ap, ◌∙◌, subst}
-use Rattle.ir_names.specs.declared.kinds.TypeHandle.{TypeHandle}
+use Rattle.ir_base.specs.declared.types.TypeHandle.{TypeHandle}
 use Rattle.ir_program.specs.Program.{Program, OperationView, BlockView, operation_at, results_at, type_at, IsLiveValue}
 use Rattle.ir_program.specs.Rows.{operands_at}
 use Rattle.ir_program.specs.Uses.{IsUsed}

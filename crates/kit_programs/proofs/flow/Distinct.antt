@@ -1,7 +1,7 @@
 -- Lists in which no member stands twice.
 use Rattle.std.proofs.Common.{◌≡◌, ℕ, zero, suc, ◌+◌, ◌⊎◌, inl, inr, List, [], ◌∷◌, ◌++◌, length, Some, None, refl, sym, ap, subst, arith}
 use Rattle.std.specs.List.{slice_get, range_with_len}
-use Rattle.ir_text.specs.Closed.{AllDistinct}
+use Rattle.ir_forest.specs.Closed.{AllDistinct}
 use Rattle.kit_programs.specs.Scopes.{In, AllIn}
 
 -- no member stands twice, one after the other

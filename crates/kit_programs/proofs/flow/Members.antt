@@ -2,7 +2,7 @@
 use Rattle.std.proofs.Common.{◌≡◌, ◌⊎◌, ⊎_elim, inl, inr, ℕ, zero, suc, Bool, true, false, List, [], ◌∷◌, ◌++◌, Some, refl, sym, ap, ◌∙◌, subst, arith}
 use Rattle.std.specs.Prelude.{map, slice_get, nat_eq, ◌||◌}
 use Rattle.std.proofs.lemmas.Bool.{eqb-true, eq-eqb}
-use Rattle.ir_text.specs.Closed.{AllDistinct}
+use Rattle.ir_forest.specs.Closed.{AllDistinct}
 use Rattle.kit_programs.specs.Scopes.{In, AllIn}
 use Rattle.kit_programs.specs.Constants.{is_among}
 

@@ -1,7 +1,7 @@
 -- The values of a function: which block defines a value, and that values with constants are no results of constants or calls.
 use Rattle.std.proofs.Common.{◌≡◌, ◌⊎◌, ⊎_elim, inl, inr, ℕ, zero, suc, ◌+◌, Bool, true, false, List, [], ◌∷◌, ◌++◌, sym, ap, ◌∙◌, subst, arith}
 use Rattle.std.specs.Prelude.{slice_get, if◌then◌else◌}
-use Rattle.ir_text.specs.Closed.{AllDistinct}
+use Rattle.ir_forest.specs.Closed.{AllDistinct}
 use Rattle.kit_programs.specs.Machine.{Op, Const, Calc, Emit, Call, Go, Leave, Block, Fun, ops_left, takes_of}
 use Rattle.kit_programs.specs.Scopes.{In, all_defs, values_of}
 use Rattle.kit_programs.specs.Constants.{calc_results, folded_in_block, folded_from}

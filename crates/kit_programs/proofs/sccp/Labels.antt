@@ -4,7 +4,7 @@ use Rattle.std.proofs.lemmas.List.{map-append}
 use Rattle.std.specs.Option.{option_map, option_map_or, is_some}
 use Rattle.ir_print.specs.Pieces.{ValueTree, operation, a_region, block, Entity, entity, Entities, no_entity, an_entity}
 use Rattle.kit_types.specs.Rules.{FunctionTree, Operation, Standing, Site, Test, every, count, each, of_blocks, of_block, of_first, every_pair, same_integer, integer_type, are_values, has_module_body, has_function_type, has_function_body, has_values_only, has_no_empty_block, has_constant_type, has_numbers, has_taken_name, are_visible, has_one_type, returns_results, function_type, is_module, is_function, is_constant, is_return, is_add, is_symbol, same_bool, own_tests, standing_tests, names_after, results_after, define, define_results, values_of, is_none, sites_of, sites_in_regions, sites_in_region, sites_in_blocks, sites_in_block, sites_in_operations, sites, IsAmong, Breaks, IsRuleFault, KeepsRules}
-use Rattle.ir_text.specs.Closed.{unlabelled, all_unlabelled, IsSameModule}
+use Rattle.ir_forest.specs.Closed.{unlabelled, all_unlabelled, IsSameModule}
 
 -- an operation, where it stands, and its site, without labels
 abbrev plain_operation : Operation → Operation

@@ -2,7 +2,7 @@
 use Rattle.std.proofs.Common.{◌≡◌, ℕ, zero, suc, ◌<◌, ◌+◌, true, List, [], ◌∷◌, map, length, Option, Some, None, option_and_then, nat_eq, refl, sym, ap, subst, ◌∙◌, arith}
 use Rattle.std.specs.Prelude.{slice_get}
 use Rattle.ir_print.specs.Pieces.{Entity}
-use Rattle.ir_text.specs.Closed.{definitions_of, IsNumbered}
+use Rattle.ir_forest.specs.Closed.{definitions_of, IsNumbered}
 use Rattle.kit_programs.specs.Machine.{Op, Fun, Path, Program, ops_left, left_in, Alike, BlocksBelow}
 use Rattle.kit_programs.specs.Renaming.{rename_op, same_block, rename_block, rename, renamed, replace, StaysApart}
 use Rattle.kit_programs.specs.Scopes.{OpScoped, BlocksWith, HasDistinctValues, IsValueOf}

@@ -2,10 +2,10 @@
 use Rattle.std.proofs.Common.{◌≡◌, ◌⊎◌, inl, inr, ℕ, zero, suc, Bool, true, false, if◌then◌else◌, List, [], ◌∷◌, map, Option, Some, None, slice_get, refl, sym, ap, subst, ◌∙◌}
 use Rattle.ir_print.specs.Pieces.{ValueTree, Pieces, Values, operation, a_region, block, Entity, entity, Entities, no_entity, an_entity}
 use Rattle.ir_print.specs.Layout.{IsFlat, AreFlatArguments, IsShallow, AreShallow}
-use Rattle.ir_text.specs.Meaning.{renamed_head, renamed}
-use Rattle.ir_text.specs.Bare.{IsBare, AreBareArguments, IsBareTree, AreBareTrees}
-use Rattle.ir_text.specs.Texts.{language_of}
-use Rattle.ir_text.specs.Closed.{AllDistinct, labels_of, IsLabelled, AreLabelled, IsOperation, AreBlocks, AreOperations, IsNumbered, FitsTree, IsClosed, definitions_of}
+use Rattle.ir_forest.specs.Meaning.{renamed_head, renamed}
+use Rattle.ir_forest.specs.Bare.{IsBare, AreBareArguments, IsBareTree, AreBareTrees}
+use Rattle.ir_rereading.specs.Texts.{language_of}
+use Rattle.ir_forest.specs.Closed.{AllDistinct, labels_of, IsLabelled, AreLabelled, IsOperation, AreBlocks, AreOperations, IsNumbered, FitsTree, IsClosed, definitions_of}
 use Rattle.ir_rereading.proofs.trees.TreeAlike.{Alike, alike_flip, alike_from}
 use Rattle.ir_rereading.proofs.trees.TreeClosed.{operation_alike, shallow_alike}
 use Rattle.ir_rereading.proofs.trees.TreeLabels.{renamed_labelled}

@@ -2,8 +2,8 @@
 use Rattle.std.proofs.Common.{◌≡◌, ℕ, ◌<◌, ◌^◌, Bool, true, false, if◌then◌else◌, List, [], ◌∷◌, map, Option, Some, None, option_map, option_and_then, refl, sym, ap, ap₂, subst, ◌∙◌}
 use Rattle.std.proofs.lemmas.Bool.{eqb-true}
 use Rattle.ir_print.specs.Pieces.{ValueTree, Head, operation, a_region, block, Entity, entity, Entities, no_entity, an_entity}
-use Rattle.ir_text.specs.Meaning.{renamed_head}
-use Rattle.ir_text.specs.Closed.{definitions_of}
+use Rattle.ir_forest.specs.Meaning.{renamed_head}
+use Rattle.ir_forest.specs.Closed.{definitions_of}
 use Rattle.kit_programs.specs.Machine.{Op, Const, Calc, Add, Leave, Block, Fun, Path}
 use Rattle.kit_programs.specs.Renaming.{rename, replace_op, replace_block}
 use Rattle.kit_programs.specs.Constants.{Name, Old, New, Made, put_if, put_args, old, put_ops, put_block, use_of, made_of, with_facts}

@@ -1,7 +1,7 @@
 -- By the most precise facts, the constants that are put in are numbers of the types of their values.
 use Rattle.std.proofs.Common.{◌≡◌, ℕ, ◌+◌, ◌<◌, ◌^◌, inl, inr, List, [], ◌∷◌, ◌++◌, Option, Some, None, option_map, refl, sym, ap, ◌∙◌, subst, mod-lt, pow_pos}
 use Rattle.ir_print.specs.Pieces.{ValueTree, operation, a_region, block, Entity, entity, Entities, no_entity, an_entity}
-use Rattle.ir_text.specs.Closed.{names_of, all_definitions_of, IsNumbered}
+use Rattle.ir_forest.specs.Closed.{names_of, all_definitions_of, IsNumbered}
 use Rattle.kit_programs.specs.Machine.{Add, Fun}
 use Rattle.kit_programs.specs.Facts.{Fact, Undetermined, Known, Unknown, AtOrBelow, folds_to, number_of, Facts, IsMostPrecise}
 use Rattle.kit_programs.specs.Scopes as scopes

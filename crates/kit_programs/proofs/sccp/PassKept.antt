@@ -6,8 +6,8 @@ use Rattle.ir_names.specs.declared.kinds.Signedness.{Signedness}
 use Rattle.ir_names.specs.declared.kinds.Signedness.TheVariants.{Signless, Signed, Unsigned}
 use Rattle.ir_names.specs.Tree.{no_tree}
 use Rattle.ir_print.specs.Pieces.{ValueTree, Pieces, operation, a_region, block, Entity, entity, Entities, no_entity, an_entity}
-use Rattle.ir_text.specs.Meaning.{renamed_head, renamed, all_renamed}
-use Rattle.ir_text.specs.Closed.{names_of, definitions_of, all_definitions_of, IsNumbered}
+use Rattle.ir_forest.specs.Meaning.{renamed_head, renamed, all_renamed}
+use Rattle.ir_forest.specs.Closed.{names_of, definitions_of, all_definitions_of, IsNumbered}
 use Rattle.kit_types.specs.declared.kinds.IntegerType.{IntegerType}
 use Rattle.kit_programs.specs.Machine.{bit}
 use Rattle.kit_programs.specs.Scopes.{In}

@@ -2,7 +2,7 @@
 use Rattle.std.proofs.Common.{◌≡◌, ℕ, suc, ◌+◌, ◌≤◌, ◌||◌, nat_eq, Bool, true, false, if◌then◌else◌, List, [], ◌∷◌, ◌++◌, None, refl, ap, arith}
 use Rattle.std.specs.List.{list_any}
 use Rattle.ir_print.specs.Pieces.{ValueTree, Pieces, operation, a_region, block, entity, Entities, no_entity, an_entity}
-use Rattle.ir_text.specs.Closed.{names_of, all_definitions_of}
+use Rattle.ir_forest.specs.Closed.{names_of, all_definitions_of}
 use Rattle.kit_programs.specs.Machine.{bit, Op, Const, Calc, Emit, Call, Go, Leave}
 use Rattle.kit_programs.specs.Facts.{Facts, number_of}
 use Rattle.kit_programs.specs.Constants.{calc_results, folded_from, folded_in, made_of}

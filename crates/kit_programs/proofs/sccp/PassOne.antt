@@ -1,7 +1,7 @@
 -- Constant propagation makes one module of a module.
 use Rattle.std.proofs.Common.{◌≡◌, ℕ, Bool, true, false, if◌then◌else◌, Some, option_map, refl, sym, ap, ◌∙◌}
 use Rattle.ir_print.specs.Pieces.{operation, a_region, block, Entity, entity, Entities, no_entity, an_entity}
-use Rattle.ir_text.specs.Meaning.{renamed_head}
+use Rattle.ir_forest.specs.Meaning.{renamed_head}
 use Rattle.kit_programs.specs.Machine.{Path}
 use Rattle.kit_programs.specs.Facts.{Facts}
 use Rattle.kit_programs.specs.Constants.{Old, made_of}

@@ -1,7 +1,7 @@
 -- A module that keeps the rules defines in each scope what it mentions there.
 use Rattle.std.proofs.Common.{◌≡◌, ◌⊎◌, inl, inr, ℕ, zero, suc, Bool, true, false, if◌then◌else◌, List, [], ◌∷◌, ◌++◌, Some, None, slice_get, refl, sym, ap, ap₂, subst, ◌∙◌}
 use Rattle.ir_print.specs.Pieces.{ValueTree, Pieces, operation, a_region, block, Entity, entity, Entities, no_entity, an_entity}
-use Rattle.ir_text.specs.Closed.{AreIn, names_of, in_scope, defined_by, all_defined, mentioned_by, all_mentioned, IsScoped, AreScoped, IsScopedRoot}
+use Rattle.ir_forest.specs.Closed.{AreIn, names_of, in_scope, defined_by, all_defined, mentioned_by, all_mentioned, IsScoped, AreScoped, IsScopedRoot}
 use Rattle.kit_programs.specs.Scopes.{In}
 use Rattle.kit_types.specs.Rules.{FunctionTree, define, results_after, define_results, values_of, is_none, names_after}
 use Rattle.kit_programs.proofs.Kept.{Sees, SeesAll, KeptOperation, a_constant, an_addition, a_return, KeptOperations, KeptBlock, KeptBlocks, KeptBody, KeptFunction, KeptModule, KeptMembers}

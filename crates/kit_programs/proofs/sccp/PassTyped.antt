@@ -2,7 +2,7 @@
 use Rattle.std.proofs.Common.{◌≡◌, ◌⊎◌, inl, inr, ℕ, ◌≤◌, ◌==◌, nat_eq, Bool, true, false, if◌then◌else◌, List, [], ◌∷◌, ◌++◌, Option, Some, None, refl, sym, ap, ap₂, subst, ◌∙◌, arith}
 use Rattle.std.proofs.lemmas.Bool.{eq-eqb, eqb-true}
 use Rattle.ir_print.specs.Pieces.{ValueTree, Head, operation, a_region, block, Entity, entity, Entities, no_entity, an_entity}
-use Rattle.ir_text.specs.Closed.{names_of, definitions_of, all_definitions_of, IsNumbered}
+use Rattle.ir_forest.specs.Closed.{names_of, definitions_of, all_definitions_of, IsNumbered}
 use Rattle.kit_programs.specs.Machine.{bit}
 use Rattle.kit_programs.specs.Scopes.{In}
 use Rattle.kit_types.specs.Rules.{lookup, first_some}

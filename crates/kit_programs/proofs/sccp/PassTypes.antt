@@ -4,8 +4,8 @@ use Rattle.std.specs.Option.{option_map_or}
 use Rattle.ir_names.specs.Tree.{node, no_tree, a_tree}
 use Rattle.ir_print.specs.Pieces.{type_of_kind, attribute_of_kind, width, ValueTree, Pieces, Values}
 use Rattle.ir_print.specs.Layout.{IsFlat, AreFlat, Deeper}
-use Rattle.ir_text.specs.Bare.{IsBare, AreBare}
-use Rattle.ir_text.specs.Closed.{regions_said}
+use Rattle.ir_forest.specs.Bare.{IsBare, AreBare}
+use Rattle.ir_forest.specs.Closed.{regions_said}
 use Rattle.kit_types.specs.declared.kinds.IntegerType.{IntegerType}
 use Rattle.kit_formats.specs.Says.{integer_types, constant_types, add_types, result_types, values}
 use Rattle.kit_types.specs.Rules.{has_values, integer_type}

@@ -2,7 +2,7 @@
 use Rattle.std.proofs.Common.{◌≡◌, ℕ, zero, suc, Bool, true, false, List, [], ◌∷◌, ◌++◌, Option, Some, None, option_map, option_and_then, ◌⊎◌, inl, inr, refl, sym, ap, subst, ◌∙◌, if◌then◌else◌}
 use Rattle.std.specs.Prelude.{slice_get}
 use Rattle.ir_print.specs.Pieces.{ValueTree, Pieces, operation, a_region, block, Entity, entity, Entities, no_entity, an_entity}
-use Rattle.ir_text.specs.Closed.{definitions_of, all_definitions_of, head_defines, names_of}
+use Rattle.ir_forest.specs.Closed.{definitions_of, all_definitions_of, head_defines, names_of}
 use Rattle.kit_programs.specs.Machine.{Op, Block, Fun, Path, ops_left, left_in, takes_of, takes_in}
 use Rattle.kit_programs.specs.Scopes.{In, defs, all_defs, IsValueOf}
 use Rattle.kit_types.specs.Rules.{is_module, is_function, is_constant, is_add}

@@ -4,7 +4,7 @@ use Rattle.std.specs.Option.{option_map_or}
 use Rattle.std.proofs.Math.Nat.{mod-eq_of_lt}
 use Rattle.ir_names.specs.Tree.{no_tree}
 use Rattle.ir_print.specs.Pieces.{ValueTree, Pieces, operation, a_region, block, Entity, entity, Entities, no_entity, an_entity}
-use Rattle.ir_text.specs.Meaning.{renamed, all_renamed}
+use Rattle.ir_forest.specs.Meaning.{renamed, all_renamed}
 use Rattle.kit_types.specs.declared.kinds.IntegerType.{IntegerType}
 use Rattle.kit_types.specs.Numbers.{is_below_zero}
 use Rattle.kit_programs.specs.Machine.{Op, Leave, Block, Fun, Path}

@@ -1,5 +1,5 @@
 use Rattle.std.proofs.Common.{sym, subst, List, refl}
-use Rattle.ir_names.specs.declared.kinds.TypeHandle.{TypeHandle}
+use Rattle.ir_base.specs.declared.types.TypeHandle.{TypeHandle}
 use Rattle.kit_machine.specs.Finding.{AreFittingAt}
 use Rattle.kit_machine.proofs.Fitting.{arguments_refused, code_ran}
 use Rattle.kit_machine.proofs.executing.exec.Goals as goal

@@ -5,7 +5,7 @@ use Rattle.kit_types.specs.Rules as rules
 use Rattle.kit_formats.specs.Shapes as at
 use Rattle.kit_rules.proofs.Every.{pairs_false, pairs_true}
 use Rattle.std.proofs.Common.{true, false, ◌<◌, get_or}
-use Rattle.ir_names.specs.declared.kinds.TypeHandle.{TypeHandle}
+use Rattle.ir_base.specs.declared.types.TypeHandle.{TypeHandle}
 use Rattle.kit_rules.proofs.shape.has_argument_types.Goals as goal
 
 pub returns-then-not-is_same_integer : goal.returns-then-not-is_same_integer

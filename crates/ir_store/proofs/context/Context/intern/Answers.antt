@@ -1,5 +1,5 @@
 use Rattle.std.proofs.Common.{◌∙◌, sym, ap}
-use Rattle.ir_names.specs.declared.kinds.TypeHandle.{TypeHandle}
+use Rattle.ir_base.specs.declared.types.TypeHandle.{TypeHandle}
 use Rattle.ir_store.proofs.Places.{slice_get-insert_key, place-of_key}
 use Rattle.ir_store.proofs.context.Context.intern.Goals as goal
 

@@ -1,5 +1,5 @@
 use Rattle.std.proofs.Common.{ap}
-use Rattle.ir_names.specs.declared.kinds.TypeHandle.{TypeHandle}
+use Rattle.ir_base.specs.declared.types.TypeHandle.{TypeHandle}
 use Rattle.ir_types.proofs.Places.{once_from_distinct, same_place}
 use Rattle.ir_types.proofs.types.Types.know_distinct.Goals as goal
 

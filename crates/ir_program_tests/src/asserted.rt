@@ -1,7 +1,7 @@
 //! Edits of a program, each after assertions of what it requires.
 ghost use Rattle.std.specs.Prelude.{◌≡◌};
 
-use ir_names::{GrowError, TypeHandle};
+use ir_base::{GrowError, TypeHandle};
 use ir_program::{BasicBlock, Operation, Program, Ptr, Value};
 use std::alloc::AllocError;
 use std::process::Abort;

@@ -2,8 +2,8 @@
 ghost use Rattle.std.specs.Prelude.{◌≡◌, ◌≢◌, None, IsSome, IfOk};
 ghost use Rattle.ir_program.specs.Program.{operation_at};
 
-use crate::program_asserted::test_type;
-use ir_names::GrowError;
+use crate::asserted::test_type;
+use ir_base::GrowError;
 use ir_program::{Operation, Program, Ptr};
 use std::alloc::Global;
 use std::process::Abort;

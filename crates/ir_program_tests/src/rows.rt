@@ -1,6 +1,6 @@
 //! The results of operations.
-use crate::program_asserted::{assert_results, insert_result, push_result, result_count};
-use ir_names::GrowError;
+use crate::asserted::{assert_results, insert_result, push_result, result_count};
+use ir_base::GrowError;
 use ir_program::Program;
 use std::alloc::Global;
 use std::process::Abort;

@@ -1,10 +1,10 @@
 //! Operations and blocks that get more of each sort, and such as are made with all that they have.
-use crate::program_asserted::{
+use crate::asserted::{
     add_operand, add_successor, add_three_regions, add_two_arguments, add_two_results, argument,
     argument_count, insert_argument, insert_operand, insert_successor, operand, push_argument,
     push_operand, push_successor, region_count, result_count, successor, test_type,
 };
-use ir_names::GrowError;
+use ir_base::GrowError;
 use ir_program::Program;
 use std::alloc::Global;
 use std::process::Abort;

@@ -16,7 +16,7 @@ pub enum GrowError {
 }
 
 impl From<AllocError> for GrowError {
-    ghost use Rattle.ir_names.specs.declared.growth.GrowError.TheVariants.{Memory};
+    ghost use Rattle.ir_base.specs.declared.growth.GrowError.TheVariants.{Memory};
 
     ghost from_gives = { λ _ e. e ≡ Memory };
 
@@ -26,7 +26,7 @@ impl From<AllocError> for GrowError {
 }
 
 impl<T: Drop> From<AllocFailed<T>> for GrowError {
-    ghost use Rattle.ir_names.specs.declared.growth.GrowError.TheVariants.{Memory};
+    ghost use Rattle.ir_base.specs.declared.growth.GrowError.TheVariants.{Memory};
 
     ghost from_gives = { λ _ e. e ≡ Memory };
 

@@ -1,0 +1,18 @@
+//! Tests of the store by its public calls: that calls succeed where memory is ample, and worked examples of what they answer. They stand
+//! here so that each crate of the store is proved once.
+#![tactic(auto)]
+
+#[cfg(test)]
+mod arenas;
+#[cfg(test)]
+mod asserted;
+#[cfg(test)]
+mod erasing;
+#[cfg(test)]
+mod growing;
+#[cfg(test)]
+mod place_rows;
+#[cfg(test)]
+mod rows;
+#[cfg(test)]
+mod use_tables;
