@@ -1,0 +1,11 @@
+pub mod Counting
+pub mod Gathering
+pub mod Marking
+pub mod Parting
+pub mod Reversing
+pub mod Running
+pub mod Searching
+pub mod Segments
+pub mod Unique
+pub mod Visiting
+pub mod Walking

@@ -1,0 +1,10 @@
+pub mod Counts
+pub mod Gathers
+pub mod Graph
+pub mod Marks
+pub mod Orders
+pub mod Sccs
+pub mod Searches
+pub mod Transpose
+pub mod Visits
+pub mod Work

@@ -1,0 +1,4 @@
+mod Named
+mod NamedOrders
+mod Numbers
+mod Rows
