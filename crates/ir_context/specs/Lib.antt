@@ -4,5 +4,4 @@ pub mod Holders
 pub mod Kept
 pub mod Refusals
 pub mod Lends
-pub mod KnownLists
 pub mod Chosen

@@ -10,12 +10,11 @@ ghost use Rattle.ir_program.specs.declared.handles.DefiningEntity.TheVariants.{B
 ghost use Rattle.ir_program.specs.declared.handles.Ptr.{Ptr};
 ghost use Rattle.ir_program.specs.declared.handles.BasicBlock.{BasicBlock};
 ghost use Rattle.ir_program.specs.ValueEdits.{PushesArgument, InsertsArgument, PopsArgument, RemovesArgument};
-ghost use Rattle.ir_types.specs.Interned.{IsKnown};
+ghost use Rattle.ir_context.specs.Known.{IsKnownIn};
 
-use crate::Context;
+use crate::{TypeTable, TypedProgram};
 use ir_names::{GrowError, TypeHandle};
 use ir_program::{BasicBlock, Ptr, Value};
-use ir_types::DialectTables;
 use std::alloc::Global;
 
 /// The arguments of a block.
@@ -24,12 +23,12 @@ pub trait ArgumentCalls {
     ghost block: { Self → Ptr BasicBlock };
 
     /// How many arguments the block has.
-    fn get_num_arguments<D: DialectTables>(self, ctx: &Context<D>) -> usize
+    fn get_num_arguments<O, B, T: TypeTable>(self, ctx: &TypedProgram<O, B, T>) -> usize
         requires { IsSome (block_at ctx.now.program (block self)) }
         ensures { result ≡ argument_count ctx.now.program (block self) };
 
     /// The argument at an index of the block's arguments.
-    fn get_argument<D: DialectTables>(self, ctx: &Context<D>, i: usize) -> Value
+    fn get_argument<O, B, T: TypeTable>(self, ctx: &TypedProgram<O, B, T>, i: usize) -> Value
         requires block { IsSome (block_at ctx.now.program (block self)) }
         requires within { i < argument_count ctx.now.program (block self) }
         ensures value { value_in (arguments_at ctx.now.program (block self)) i ≡ Some result }
@@ -40,14 +39,14 @@ pub trait ArgumentCalls {
     ///
     /// # Errors
     /// `Memory`, and `CounterFull` where each number has been given.
-    fn push_argument<D: DialectTables>(
+    fn push_argument<O, B, T: TypeTable>(
         self,
         _alloc: Global,
-        ctx: &mut Context<D>,
+        ctx: &mut TypedProgram<O, B, T>,
         ty: TypeHandle,
     ) -> Result<Value, GrowError>
         requires block { IsSome (block_at ctx.old.program (block self)) }
-        requires known { IsKnown ctx.old.types ty }
+        requires known { IsKnownIn (T.type_count ctx.old.types) ty }
         ensures value { IfOk result (λ v. v ≡ record { definer = Block (block self); number = ctx.old.program.counter }) }
         ensures defined { IfOk result (λ v. DefinesValue ctx.old.program ctx.new.program v ty) }
         ensures counter { OnOk result (ctx.new.program.counter ≡ ctx.old.program.counter + 1) }
@@ -62,16 +61,16 @@ pub trait ArgumentCalls {
     ///
     /// # Errors
     /// `Memory`, and `CounterFull` where each number has been given.
-    fn insert_argument<D: DialectTables>(
+    fn insert_argument<O, B, T: TypeTable>(
         self,
         _alloc: Global,
-        ctx: &mut Context<D>,
+        ctx: &mut TypedProgram<O, B, T>,
         i: usize,
         ty: TypeHandle,
     ) -> Result<Value, GrowError>
         requires block { IsSome (block_at ctx.old.program (block self)) }
         requires within { i ≤ argument_count ctx.old.program (block self) }
-        requires known { IsKnown ctx.old.types ty }
+        requires known { IsKnownIn (T.type_count ctx.old.types) ty }
         ensures value { IfOk result (λ v. v ≡ record { definer = Block (block self); number = ctx.old.program.counter }) }
         ensures defined { IfOk result (λ v. DefinesValue ctx.old.program ctx.new.program v ty) }
         ensures counter { OnOk result (ctx.new.program.counter ≡ ctx.old.program.counter + 1) }
@@ -83,7 +82,7 @@ pub trait ArgumentCalls {
 
     /// Takes the last argument, which no operation takes, out of the block's arguments, if it has one, and answers it. No
     /// memory is asked for.
-    fn pop_argument<D: DialectTables>(self, ctx: &mut Context<D>) -> Option<Value>
+    fn pop_argument<O, B, T: TypeTable>(self, ctx: &mut TypedProgram<O, B, T>) -> Option<Value>
         requires block { IsSome (block_at ctx.old.program (block self)) }
         requires unused { (v : Value) → value_in (arguments_at ctx.old.program (block self)) (argument_count ctx.old.program (block self) - 1) ≡ Some v → IsUsed ctx.old.program v → ⊥ }
         ensures value { result ≡ value_in (arguments_at ctx.old.program (block self)) (argument_count ctx.old.program (block self) - 1) }
@@ -95,7 +94,7 @@ pub trait ArgumentCalls {
 
     /// Takes an argument that no operation takes out of the block's arguments, and answers it. It is no value of the
     /// program any more. No memory is asked for.
-    fn remove_argument<D: DialectTables>(self, ctx: &mut Context<D>, i: usize) -> Value
+    fn remove_argument<O, B, T: TypeTable>(self, ctx: &mut TypedProgram<O, B, T>, i: usize) -> Value
         requires block { IsSome (block_at ctx.old.program (block self)) }
         requires within { i < argument_count ctx.old.program (block self) }
         requires unused { (v : Value) → value_in (arguments_at ctx.old.program (block self)) i ≡ Some v → IsUsed ctx.old.program v → ⊥ }
@@ -109,27 +108,27 @@ pub trait ArgumentCalls {
 impl ArgumentCalls for Ptr<BasicBlock> {
     ghost block = { λ p. p };
 
-    fn get_num_arguments<D: DialectTables>(self, ctx: &Context<D>) -> usize {
+    fn get_num_arguments<O, B, T: TypeTable>(self, ctx: &TypedProgram<O, B, T>) -> usize {
         ctx.program.argument_count(self)
     }
 
-    fn get_argument<D: DialectTables>(self, ctx: &Context<D>, i: usize) -> Value {
+    fn get_argument<O, B, T: TypeTable>(self, ctx: &TypedProgram<O, B, T>, i: usize) -> Value {
         ctx.program.argument(self, i)
     }
 
-    fn push_argument<D: DialectTables>(
+    fn push_argument<O, B, T: TypeTable>(
         self,
         _alloc: Global,
-        ctx: &mut Context<D>,
+        ctx: &mut TypedProgram<O, B, T>,
         ty: TypeHandle,
     ) -> Result<Value, GrowError> {
         ctx.program.push_argument(self, ty)
     }
 
-    fn insert_argument<D: DialectTables>(
+    fn insert_argument<O, B, T: TypeTable>(
         self,
         _alloc: Global,
-        ctx: &mut Context<D>,
+        ctx: &mut TypedProgram<O, B, T>,
         i: usize,
         ty: TypeHandle,
     ) -> Result<Value, GrowError> {
@@ -137,12 +136,16 @@ impl ArgumentCalls for Ptr<BasicBlock> {
     }
 
     #[tactic(auto, using(crate::proofs::KnownTypes::popped_known))]
-    fn pop_argument<D: DialectTables>(self, ctx: &mut Context<D>) -> Option<Value> {
+    fn pop_argument<O, B, T: TypeTable>(self, ctx: &mut TypedProgram<O, B, T>) -> Option<Value> {
         ctx.program.pop_argument(self)
     }
 
     #[tactic(auto, using(crate::proofs::KnownTypes::forgotten_known))]
-    fn remove_argument<D: DialectTables>(self, ctx: &mut Context<D>, i: usize) -> Value {
+    fn remove_argument<O, B, T: TypeTable>(
+        self,
+        ctx: &mut TypedProgram<O, B, T>,
+        i: usize,
+    ) -> Value {
         ctx.program.remove_argument(self, i)
     }
 }

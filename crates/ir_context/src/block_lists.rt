@@ -10,9 +10,8 @@ ghost use Rattle.ir_program.specs.Lists.{blocks_in, StandsInRegion, IsLinkedBloc
 ghost use Rattle.ir_program.specs.Edits.{KeepsValues};
 ghost use Rattle.ir_program.specs.ListEdits.{PutsBlockAfter, PutsBlockBefore, TakesOutBlock, PutsBlockFirst, PutsBlockLast};
 
-use crate::Context;
+use crate::{TypeTable, TypedProgram};
 use ir_program::{BasicBlock, Ptr, Region};
-use ir_types::DialectTables;
 
 /// A block in the list of the region that it stands in.
 pub trait BlockLists {
@@ -20,25 +19,25 @@ pub trait BlockLists {
     ghost block: { Self → Ptr BasicBlock };
 
     /// Whether the block stands in a region.
-    fn is_linked<D: DialectTables>(self, ctx: &Context<D>) -> bool
+    fn is_linked<O, B, T: TypeTable>(self, ctx: &TypedProgram<O, B, T>) -> bool
         requires { IsSome (block_at ctx.now.program (block self)) }
         ensures linked { IsTrue result ↔ IsLinkedBlock ctx.now.program (block self) };
 
     /// The region that the block stands in, in whose list it is.
-    fn get_container<D: DialectTables>(self, ctx: &Context<D>) -> Option<Ptr<Region>>
+    fn get_container<O, B, T: TypeTable>(self, ctx: &TypedProgram<O, B, T>) -> Option<Ptr<Region>>
         requires { IsSome (block_at ctx.now.program (block self)) }
         ensures container { MatchOption result (IsUnlinkedBlock ctx.now.program (block self)) (λ container. StandsInRegion ctx.now.program (block self) container) }
         ensures only { (container : Ptr Region) → StandsInRegion ctx.now.program (block self) container → result ≡ Some container };
 
     /// The block that stands right after this one in its region.
-    fn get_next<D: DialectTables>(self, ctx: &Context<D>) -> Option<Ptr<BasicBlock>>
+    fn get_next<O, B, T: TypeTable>(self, ctx: &TypedProgram<O, B, T>) -> Option<Ptr<BasicBlock>>
         requires { IsSome (block_at ctx.now.program (block self)) }
         ensures next { (region : Ptr Region) (k : ℕ) → slice_get (blocks_in ctx.now.program region) k ≡ Some (block self) → result ≡ slice_get (blocks_in ctx.now.program region) (k + 1) }
         ensures unlinked { IsUnlinkedBlock ctx.now.program (block self) → result ≡ None }
         ensures live { IfSome result (λ next. IsSome (block_at ctx.now.program next)) };
 
     /// The block that stands right before this one in its region.
-    fn get_prev<D: DialectTables>(self, ctx: &Context<D>) -> Option<Ptr<BasicBlock>>
+    fn get_prev<O, B, T: TypeTable>(self, ctx: &TypedProgram<O, B, T>) -> Option<Ptr<BasicBlock>>
         requires { IsSome (block_at ctx.now.program (block self)) }
         ensures previous { (region : Ptr Region) (k : ℕ) → slice_get (blocks_in ctx.now.program region) (k + 1) ≡ Some (block self) → result ≡ slice_get (blocks_in ctx.now.program region) k }
         ensures first { (region : Ptr Region) → slice_get (blocks_in ctx.now.program region) 0 ≡ Some (block self) → result ≡ None }
@@ -46,7 +45,11 @@ pub trait BlockLists {
         ensures live { IfSome result (λ previous. IsSome (block_at ctx.now.program previous)) };
 
     /// Puts the block, which stands in no region, right after `mark`, which stands in one.
-    fn insert_after<D: DialectTables>(self, ctx: &mut Context<D>, mark: Ptr<BasicBlock>)
+    fn insert_after<O, B, T: TypeTable>(
+        self,
+        ctx: &mut TypedProgram<O, B, T>,
+        mark: Ptr<BasicBlock>,
+    )
         requires mark { IsLinkedBlock ctx.old.program mark }
         requires block { IsSome (block_at ctx.old.program (block self)) }
         requires unlinked { IsUnlinkedBlock ctx.old.program (block self) }
@@ -56,7 +59,11 @@ pub trait BlockLists {
         ensures types { ctx.new.types ≡ ctx.old.types };
 
     /// Puts the block, which stands in no region, right before `mark`, which stands in one.
-    fn insert_before<D: DialectTables>(self, ctx: &mut Context<D>, mark: Ptr<BasicBlock>)
+    fn insert_before<O, B, T: TypeTable>(
+        self,
+        ctx: &mut TypedProgram<O, B, T>,
+        mark: Ptr<BasicBlock>,
+    )
         requires mark { IsLinkedBlock ctx.old.program mark }
         requires block { IsSome (block_at ctx.old.program (block self)) }
         requires unlinked { IsUnlinkedBlock ctx.old.program (block self) }
@@ -66,7 +73,11 @@ pub trait BlockLists {
         ensures types { ctx.new.types ≡ ctx.old.types };
 
     /// Puts the block, which stands in no region, before all blocks of a region.
-    fn insert_at_front<D: DialectTables>(self, ctx: &mut Context<D>, container: Ptr<Region>)
+    fn insert_at_front<O, B, T: TypeTable>(
+        self,
+        ctx: &mut TypedProgram<O, B, T>,
+        container: Ptr<Region>,
+    )
         requires region { IsSome (region_at ctx.old.program container) }
         requires block { IsSome (block_at ctx.old.program (block self)) }
         requires unlinked { IsUnlinkedBlock ctx.old.program (block self) }
@@ -76,7 +87,11 @@ pub trait BlockLists {
         ensures types { ctx.new.types ≡ ctx.old.types };
 
     /// Puts the block, which stands in no region, after all blocks of a region.
-    fn insert_at_back<D: DialectTables>(self, ctx: &mut Context<D>, container: Ptr<Region>)
+    fn insert_at_back<O, B, T: TypeTable>(
+        self,
+        ctx: &mut TypedProgram<O, B, T>,
+        container: Ptr<Region>,
+    )
         requires region { IsSome (region_at ctx.old.program container) }
         requires block { IsSome (block_at ctx.old.program (block self)) }
         requires unlinked { IsUnlinkedBlock ctx.old.program (block self) }
@@ -86,7 +101,7 @@ pub trait BlockLists {
         ensures types { ctx.new.types ≡ ctx.old.types };
 
     /// Takes the block out of the region that it stands in. It keeps all that it holds.
-    fn unlink<D: DialectTables>(self, ctx: &mut Context<D>)
+    fn unlink<O, B, T: TypeTable>(self, ctx: &mut TypedProgram<O, B, T>)
         requires { IsLinkedBlock ctx.old.program (block self) }
         ensures edited { TakesOutBlock ctx.old.program ctx.new.program (block self) }
         ensures unlinked { IsUnlinkedBlock ctx.new.program (block self) }
@@ -99,39 +114,55 @@ pub trait BlockLists {
 impl BlockLists for Ptr<BasicBlock> {
     ghost block = { λ p. p };
 
-    fn is_linked<D: DialectTables>(self, ctx: &Context<D>) -> bool {
+    fn is_linked<O, B, T: TypeTable>(self, ctx: &TypedProgram<O, B, T>) -> bool {
         ctx.program.parent_region(self).is_some()
     }
 
-    fn get_container<D: DialectTables>(self, ctx: &Context<D>) -> Option<Ptr<Region>> {
+    fn get_container<O, B, T: TypeTable>(self, ctx: &TypedProgram<O, B, T>) -> Option<Ptr<Region>> {
         ctx.program.parent_region(self)
     }
 
-    fn get_next<D: DialectTables>(self, ctx: &Context<D>) -> Option<Ptr<BasicBlock>> {
+    fn get_next<O, B, T: TypeTable>(self, ctx: &TypedProgram<O, B, T>) -> Option<Ptr<BasicBlock>> {
         ctx.program.next_block(self)
     }
 
-    fn get_prev<D: DialectTables>(self, ctx: &Context<D>) -> Option<Ptr<BasicBlock>> {
+    fn get_prev<O, B, T: TypeTable>(self, ctx: &TypedProgram<O, B, T>) -> Option<Ptr<BasicBlock>> {
         ctx.program.previous_block(self)
     }
 
-    fn insert_after<D: DialectTables>(self, ctx: &mut Context<D>, mark: Ptr<BasicBlock>) {
+    fn insert_after<O, B, T: TypeTable>(
+        self,
+        ctx: &mut TypedProgram<O, B, T>,
+        mark: Ptr<BasicBlock>,
+    ) {
         ctx.program.insert_block_after(mark, self);
     }
 
-    fn insert_before<D: DialectTables>(self, ctx: &mut Context<D>, mark: Ptr<BasicBlock>) {
+    fn insert_before<O, B, T: TypeTable>(
+        self,
+        ctx: &mut TypedProgram<O, B, T>,
+        mark: Ptr<BasicBlock>,
+    ) {
         ctx.program.insert_block_before(mark, self);
     }
 
-    fn insert_at_front<D: DialectTables>(self, ctx: &mut Context<D>, container: Ptr<Region>) {
+    fn insert_at_front<O, B, T: TypeTable>(
+        self,
+        ctx: &mut TypedProgram<O, B, T>,
+        container: Ptr<Region>,
+    ) {
         ctx.program.insert_block_at_front(container, self);
     }
 
-    fn insert_at_back<D: DialectTables>(self, ctx: &mut Context<D>, container: Ptr<Region>) {
+    fn insert_at_back<O, B, T: TypeTable>(
+        self,
+        ctx: &mut TypedProgram<O, B, T>,
+        container: Ptr<Region>,
+    ) {
         ctx.program.insert_block_at_back(container, self);
     }
 
-    fn unlink<D: DialectTables>(self, ctx: &mut Context<D>) {
+    fn unlink<O, B, T: TypeTable>(self, ctx: &mut TypedProgram<O, B, T>) {
         ctx.program.unlink_block(self);
     }
 }

@@ -11,7 +11,7 @@ ghost use Rattle.ir_context.specs.Holders.{HasOperation, HasParentBlock};
 ghost use Rattle.ir_context.specs.Kept.{block_location_at, label_at};
 
 use crate::parents::{operation_of_block, parent_of_block};
-use crate::{BlockNotes, Context, DanglingPtrDerefError};
+use crate::{BlockNotes, Context, DanglingPtrDerefError, TypeTable, TypedProgram};
 use ir_names::Identifier;
 use ir_program::{BasicBlock, Operation, Ptr, Region};
 use ir_types::DialectTables;
@@ -22,23 +22,32 @@ pub trait BlockCalls {
     ghost block: { Self → Ptr BasicBlock };
 
     /// Whether the handle leads to a block.
-    fn is_live<D: DialectTables>(self, ctx: &Context<D>) -> bool
+    fn is_live<O, B, T: TypeTable>(self, ctx: &TypedProgram<O, B, T>) -> bool
         ensures { result ≡ is_some (block_at ctx.now.program (block self)) };
 
     /// The region that the block stands in.
-    fn get_parent_region<D: DialectTables>(self, ctx: &Context<D>) -> Option<Ptr<Region>>
+    fn get_parent_region<O, B, T: TypeTable>(
+        self,
+        ctx: &TypedProgram<O, B, T>,
+    ) -> Option<Ptr<Region>>
         requires { IsSome (block_at ctx.now.program (block self)) }
         ensures parent { MatchOption result (IsUnlinkedBlock ctx.now.program (block self)) (λ region. StandsInRegion ctx.now.program (block self) region) }
         ensures only { (region : Ptr Region) → StandsInRegion ctx.now.program (block self) region → result ≡ Some region };
 
     /// The operation that its region stands in.
-    fn get_parent_op<D: DialectTables>(self, ctx: &Context<D>) -> Option<Ptr<Operation>>
+    fn get_parent_op<O, B, T: TypeTable>(
+        self,
+        ctx: &TypedProgram<O, B, T>,
+    ) -> Option<Ptr<Operation>>
         requires { IsSome (block_at ctx.now.program (block self)) }
         ensures found { IfSome result (λ op. HasOperation ctx.now.program (block self) op) }
         ensures only { (op : Ptr Operation) → HasOperation ctx.now.program (block self) op → result ≡ Some op };
 
     /// The block that this operation stands in.
-    fn get_parent_block<D: DialectTables>(self, ctx: &Context<D>) -> Option<Ptr<BasicBlock>>
+    fn get_parent_block<O, B, T: TypeTable>(
+        self,
+        ctx: &TypedProgram<O, B, T>,
+    ) -> Option<Ptr<BasicBlock>>
         requires { IsSome (block_at ctx.now.program (block self)) }
         ensures found { IfSome result (λ parent. HasParentBlock ctx.now.program (block self) parent) }
         ensures only { (parent : Ptr BasicBlock) → HasParentBlock ctx.now.program (block self) parent → result ≡ Some parent };
@@ -73,19 +82,28 @@ pub trait BlockCalls {
 impl BlockCalls for Ptr<BasicBlock> {
     ghost block = { λ b. b };
 
-    fn is_live<D: DialectTables>(self, ctx: &Context<D>) -> bool {
+    fn is_live<O, B, T: TypeTable>(self, ctx: &TypedProgram<O, B, T>) -> bool {
         ctx.program.has_block(self)
     }
 
-    fn get_parent_region<D: DialectTables>(self, ctx: &Context<D>) -> Option<Ptr<Region>> {
+    fn get_parent_region<O, B, T: TypeTable>(
+        self,
+        ctx: &TypedProgram<O, B, T>,
+    ) -> Option<Ptr<Region>> {
         ctx.program.parent_region(self)
     }
 
-    fn get_parent_op<D: DialectTables>(self, ctx: &Context<D>) -> Option<Ptr<Operation>> {
+    fn get_parent_op<O, B, T: TypeTable>(
+        self,
+        ctx: &TypedProgram<O, B, T>,
+    ) -> Option<Ptr<Operation>> {
         operation_of_block(&ctx.program, self)
     }
 
-    fn get_parent_block<D: DialectTables>(self, ctx: &Context<D>) -> Option<Ptr<BasicBlock>> {
+    fn get_parent_block<O, B, T: TypeTable>(
+        self,
+        ctx: &TypedProgram<O, B, T>,
+    ) -> Option<Ptr<BasicBlock>> {
         parent_of_block(&ctx.program, self)
     }
 

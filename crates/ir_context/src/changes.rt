@@ -30,7 +30,7 @@ impl OperationChanges for Ptr<Operation> {
     ghost op = { λ o. o };
 
     fn set_loc<D: DialectTables>(self, ctx: &mut Context<D>, loc: D::Location) {
-        ctx.operation_notes_mut(self).loc = loc;
+        ctx.payload_mut(self).notes.loc = loc;
     }
 }
 
@@ -58,10 +58,10 @@ impl BlockChanges for Ptr<BasicBlock> {
     ghost block = { λ b. b };
 
     fn set_label<D: DialectTables>(self, ctx: &mut Context<D>, label: Option<Identifier>) {
-        ctx.block_notes_mut(self).label = label;
+        ctx.block_payload_mut(self).label = label;
     }
 
     fn set_loc<D: DialectTables>(self, ctx: &mut Context<D>, loc: D::Location) {
-        ctx.block_notes_mut(self).loc = loc;
+        ctx.block_payload_mut(self).loc = loc;
     }
 }

@@ -9,10 +9,8 @@ ghost use Rattle.ir_program.specs.Program.{block_at, region_at};
 ghost use Rattle.ir_program.specs.Lists.{operations_in, blocks_in, StandsInBlock, StandsInRegion, StandsInside, CanAppendOperations, CanAppendBlocks};
 ghost use Rattle.ir_program.specs.Edits.{AppendsBlock, AppendsRegion, KeepsValues};
 
-use crate::Context;
-use crate::notes::{BlockNotes, OperationData};
+use crate::{TypeTable, TypedProgram};
 use ir_program::{BasicBlock, Blocks, IRNode, Operation, Operations, Ptr, Region};
-use ir_types::DialectTables;
 
 /// A block and the operations that stand in it.
 pub trait ContainsOperations {
@@ -20,34 +18,39 @@ pub trait ContainsOperations {
     ghost block: { Self → Ptr BasicBlock };
 
     /// The first of its operations.
-    fn get_head<D: DialectTables>(self, ctx: &Context<D>) -> Option<Ptr<Operation>>
+    fn get_head<O, B, T: TypeTable>(self, ctx: &TypedProgram<O, B, T>) -> Option<Ptr<Operation>>
         requires { IsSome (block_at ctx.now.program (block self)) }
         ensures first { result ≡ slice_get (operations_in ctx.now.program (block self)) 0 }
         ensures stands { IfSome result (λ op. StandsInBlock ctx.now.program op (block self)) };
 
     /// The last of its operations.
-    fn get_tail<D: DialectTables>(self, ctx: &Context<D>) -> Option<Ptr<Operation>>
+    fn get_tail<O, B, T: TypeTable>(self, ctx: &TypedProgram<O, B, T>) -> Option<Ptr<Operation>>
         requires { IsSome (block_at ctx.now.program (block self)) }
         ensures last { result ≡ slice_get (operations_in ctx.now.program (block self)) (length (operations_in ctx.now.program (block self)) - 1) }
         ensures stands { IfSome result (λ op. StandsInBlock ctx.now.program op (block self)) };
 
     /// Its operations, first to last, to be taken from either end.
-    fn iter<D: DialectTables>(
-        self,
-        ctx: &Context<D>,
-    ) -> Operations<'_, OperationData<D>, BlockNotes<D>>
+    fn iter<O, B, T: TypeTable>(self, ctx: &TypedProgram<O, B, T>) -> Operations<'_, O, B>
         requires { IsSome (block_at ctx.now.program (block self)) }
         ensures list { result ≡ operations_in ctx.now.program (block self) }
         ensures stand { All (λ op. StandsInBlock ctx.now.program op (block self)) (operations_in ctx.now.program (block self)) };
 
     /// Whether all operations of `donor` can be moved behind its own: `donor` is another block, and this one is inside none of them.
-    fn can_append<D: DialectTables>(self, ctx: &Context<D>, donor: Ptr<BasicBlock>) -> bool
+    fn can_append<O, B, T: TypeTable>(
+        self,
+        ctx: &TypedProgram<O, B, T>,
+        donor: Ptr<BasicBlock>,
+    ) -> bool
         requires donee { IsSome (block_at ctx.now.program (block self)) }
         requires donor { IsSome (block_at ctx.now.program donor) }
         ensures { IsTrue result ↔ CanAppendOperations ctx.now.program (block self) donor };
 
     /// Moves all operations of `donor` behind its own.
-    fn append_linked_list<D: DialectTables>(self, ctx: &mut Context<D>, donor: Ptr<BasicBlock>)
+    fn append_linked_list<O, B, T: TypeTable>(
+        self,
+        ctx: &mut TypedProgram<O, B, T>,
+        donor: Ptr<BasicBlock>,
+    )
         requires donee { IsSome (block_at ctx.old.program (block self)) }
         requires donor { IsSome (block_at ctx.old.program donor) }
         requires differ { block self ≢ donor }
@@ -60,27 +63,32 @@ pub trait ContainsOperations {
 impl ContainsOperations for Ptr<BasicBlock> {
     ghost block = { λ p. p };
 
-    fn get_head<D: DialectTables>(self, ctx: &Context<D>) -> Option<Ptr<Operation>> {
+    fn get_head<O, B, T: TypeTable>(self, ctx: &TypedProgram<O, B, T>) -> Option<Ptr<Operation>> {
         ctx.program.first_operation(self)
     }
 
-    fn get_tail<D: DialectTables>(self, ctx: &Context<D>) -> Option<Ptr<Operation>> {
+    fn get_tail<O, B, T: TypeTable>(self, ctx: &TypedProgram<O, B, T>) -> Option<Ptr<Operation>> {
         ctx.program.last_operation(self)
     }
 
-    fn iter<D: DialectTables>(
-        self,
-        ctx: &Context<D>,
-    ) -> Operations<'_, OperationData<D>, BlockNotes<D>> {
+    fn iter<O, B, T: TypeTable>(self, ctx: &TypedProgram<O, B, T>) -> Operations<'_, O, B> {
         ctx.program.operations(self)
     }
 
-    fn can_append<D: DialectTables>(self, ctx: &Context<D>, donor: Ptr<BasicBlock>) -> bool {
+    fn can_append<O, B, T: TypeTable>(
+        self,
+        ctx: &TypedProgram<O, B, T>,
+        donor: Ptr<BasicBlock>,
+    ) -> bool {
         let (inner, outer) = (IRNode::BasicBlock(self), IRNode::BasicBlock(donor));
         !ctx.program.is_inside(inner, outer)
     }
 
-    fn append_linked_list<D: DialectTables>(self, ctx: &mut Context<D>, donor: Ptr<BasicBlock>) {
+    fn append_linked_list<O, B, T: TypeTable>(
+        self,
+        ctx: &mut TypedProgram<O, B, T>,
+        donor: Ptr<BasicBlock>,
+    ) {
         ctx.program.append_operations(self, donor);
     }
 }
@@ -91,31 +99,35 @@ pub trait ContainsBlocks {
     ghost region: { Self → Ptr Region };
 
     /// The first of its blocks.
-    fn get_head<D: DialectTables>(self, ctx: &Context<D>) -> Option<Ptr<BasicBlock>>
+    fn get_head<O, B, T: TypeTable>(self, ctx: &TypedProgram<O, B, T>) -> Option<Ptr<BasicBlock>>
         requires { IsSome (region_at ctx.now.program (region self)) }
         ensures first { result ≡ slice_get (blocks_in ctx.now.program (region self)) 0 }
         ensures stands { IfSome result (λ block. StandsInRegion ctx.now.program block (region self)) };
 
     /// The last of its blocks.
-    fn get_tail<D: DialectTables>(self, ctx: &Context<D>) -> Option<Ptr<BasicBlock>>
+    fn get_tail<O, B, T: TypeTable>(self, ctx: &TypedProgram<O, B, T>) -> Option<Ptr<BasicBlock>>
         requires { IsSome (region_at ctx.now.program (region self)) }
         ensures last { result ≡ slice_get (blocks_in ctx.now.program (region self)) (length (blocks_in ctx.now.program (region self)) - 1) }
         ensures stands { IfSome result (λ block. StandsInRegion ctx.now.program block (region self)) };
 
     /// Its blocks, first to last, to be taken from either end.
-    fn iter<D: DialectTables>(self, ctx: &Context<D>) -> Blocks<'_, OperationData<D>, BlockNotes<D>>
+    fn iter<O, B, T: TypeTable>(self, ctx: &TypedProgram<O, B, T>) -> Blocks<'_, O, B>
         requires { IsSome (region_at ctx.now.program (region self)) }
         ensures list { result ≡ blocks_in ctx.now.program (region self) }
         ensures stand { All (λ block. StandsInRegion ctx.now.program block (region self)) (blocks_in ctx.now.program (region self)) };
 
     /// Whether all blocks of `donor` can be moved behind its own: `donor` is another region, and this one is inside none of them.
-    fn can_append<D: DialectTables>(self, ctx: &Context<D>, donor: Ptr<Region>) -> bool
+    fn can_append<O, B, T: TypeTable>(self, ctx: &TypedProgram<O, B, T>, donor: Ptr<Region>) -> bool
         requires donee { IsSome (region_at ctx.now.program (region self)) }
         requires donor { IsSome (region_at ctx.now.program donor) }
         ensures { IsTrue result ↔ CanAppendBlocks ctx.now.program (region self) donor };
 
     /// Moves all blocks of `donor` behind its own.
-    fn append_linked_list<D: DialectTables>(self, ctx: &mut Context<D>, donor: Ptr<Region>)
+    fn append_linked_list<O, B, T: TypeTable>(
+        self,
+        ctx: &mut TypedProgram<O, B, T>,
+        donor: Ptr<Region>,
+    )
         requires donee { IsSome (region_at ctx.old.program (region self)) }
         requires donor { IsSome (region_at ctx.old.program donor) }
         requires differ { region self ≢ donor }
@@ -128,27 +140,32 @@ pub trait ContainsBlocks {
 impl ContainsBlocks for Ptr<Region> {
     ghost region = { λ p. p };
 
-    fn get_head<D: DialectTables>(self, ctx: &Context<D>) -> Option<Ptr<BasicBlock>> {
+    fn get_head<O, B, T: TypeTable>(self, ctx: &TypedProgram<O, B, T>) -> Option<Ptr<BasicBlock>> {
         ctx.program.first_block(self)
     }
 
-    fn get_tail<D: DialectTables>(self, ctx: &Context<D>) -> Option<Ptr<BasicBlock>> {
+    fn get_tail<O, B, T: TypeTable>(self, ctx: &TypedProgram<O, B, T>) -> Option<Ptr<BasicBlock>> {
         ctx.program.last_block(self)
     }
 
-    fn iter<D: DialectTables>(
-        self,
-        ctx: &Context<D>,
-    ) -> Blocks<'_, OperationData<D>, BlockNotes<D>> {
+    fn iter<O, B, T: TypeTable>(self, ctx: &TypedProgram<O, B, T>) -> Blocks<'_, O, B> {
         ctx.program.blocks(self)
     }
 
-    fn can_append<D: DialectTables>(self, ctx: &Context<D>, donor: Ptr<Region>) -> bool {
+    fn can_append<O, B, T: TypeTable>(
+        self,
+        ctx: &TypedProgram<O, B, T>,
+        donor: Ptr<Region>,
+    ) -> bool {
         let (inner, outer) = (IRNode::Region(self), IRNode::Region(donor));
         !ctx.program.is_inside(inner, outer)
     }
 
-    fn append_linked_list<D: DialectTables>(self, ctx: &mut Context<D>, donor: Ptr<Region>) {
+    fn append_linked_list<O, B, T: TypeTable>(
+        self,
+        ctx: &mut TypedProgram<O, B, T>,
+        donor: Ptr<Region>,
+    ) {
         ctx.program.append_blocks(self, donor);
     }
 }

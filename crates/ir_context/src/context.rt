@@ -1,71 +1,53 @@
 //! The context in which a dialect's programs stand.
 ghost use Rattle.std.specs.Prelude.{◌≡◌, ◌↔◌, [], None, IsTrue, option_copied};
+ghost use Rattle.ir_base.specs.declared.types.TypeHandle.{TypeHandle};
 ghost use Rattle.ir_program.specs.Program.{operation_at, block_at, region_at};
 ghost use Rattle.ir_program.specs.Made.{HasRoom};
 ghost use Rattle.ir_program.specs.Lists.{IsEmptyProgram, IsLiveNode, StandsInside};
 ghost use Rattle.ir_types.specs.Interned.{key_at};
+ghost use Rattle.ir_context.specs.Known.{HasKnownTypes};
 
 use crate::notes::{BlockNotes, OperationData};
+use crate::type_table::TypeTable;
 use ir_names::TypeHandle;
 use ir_program::{IRNode, Program};
 use ir_types::{DialectTables, Types};
 use std::alloc::Global;
 use std::marker::Model;
 
-/// The operations, regions, blocks and values of a dialect, and the types that they have.
+/// Operations, regions, blocks and values, and a table of the types that the values have. Operations carry a payload of
+/// type `O`, blocks one of type `B`. The type of each value is one of the table's.
 #[derive(Drop)]
-pub struct Context<D: DialectTables> {
-    pub(crate) program: Program<OperationData<D>, BlockNotes<D>>,
-    pub(crate) types: Types<D>,
+pub struct TypedProgram<O, B, T: TypeTable> {
+    pub(crate) program: Program<O, B>,
+    pub(crate) types: T,
     alloc: Global,
 }
 
-impl<D: DialectTables> Model for Context<D> {
-    ghost use Rattle.ir_context.specs.Views.{ContextView};
-    ghost use Rattle.ir_context.specs.declared.notes.OperationData.{OperationData};
-    ghost use Rattle.ir_context.specs.declared.notes.BlockNotes.{BlockNotes};
+/// The operations, regions, blocks and values of a dialect, and the types that they have.
+pub type Context<D> = TypedProgram<OperationData<D>, BlockNotes<D>, Types<D>>;
 
-    ghost Value = { ContextView (OperationData D D.TypeKind D.AttrKind D.TypeBody D.Saved D.Location D.OpKind D.Attr D.TypeKey) (BlockNotes D D.TypeKind D.AttrKind D.TypeBody D.Saved D.Location D.OpKind D.Attr D.TypeKey) D.TypeKey D.TypeBody D.Saved };
+impl<O, B, T: TypeTable> Model for TypedProgram<O, B, T> {
+    ghost use Rattle.ir_context.specs.Views.{ContextView};
+    ghost use Rattle.ir_context.specs.Known.{HasKnownTypes};
+
+    ghost Value = { ContextView O B T };
 
     ghost view = { λ c. record { program = c.program; types = c.types } };
 
-    ghost use Rattle.ir_context.specs.Known.{HasKnownTypes};
-
-    ghost invariant = { λ c. HasKnownTypes (record { program = c.program; types = c.types }) };
+    ghost invariant = { λ c. HasKnownTypes (T.type_count c.types) c.program };
 }
 
-impl<D: DialectTables> Context<D> {
-    ghost use Rattle.ir_context.specs.Known.{HasKnownTypes};
-
-    /// No operation, region, block, type or saved value.
-    #[tactic(auto, using(crate::proofs::KnownTypes::none_known))]
-    pub fn new(alloc: Global) -> Context<D>
-        ensures operations { (p : _) → operation_at result.program p ≡ None }
-        ensures blocks { (p : _) → block_at result.program p ≡ None }
-        ensures regions { (p : _) → region_at result.program p ≡ None }
-        ensures counter { result.program.counter ≡ 0 }
-        ensures room { HasRoom result.program }
-        ensures types { result.types ≡ record { keys = []; bodies = []; saved = [] } }
-    {
-        let program = Program::new(alloc);
-        // So there is no value whose type could be unknown.
-        program.know_values();
-        Context {
-            program,
-            types: Types::new(alloc),
-            alloc,
-        }
-    }
-
-    /// Tells that the type of each value is one of the context's types. It does nothing.
+impl<O, B, T: TypeTable> TypedProgram<O, B, T> {
+    /// Tells that the type of each value is one of the table's. It does nothing.
     pub fn know_types(&self)
-        ensures { HasKnownTypes self.now }
+        ensures { HasKnownTypes (T.type_count self.now.types) self.now.program }
     {
         let _types = &self.types;
     }
 
     /// Its operations, regions, blocks and values, to be asked.
-    pub fn program(&self) -> &Program<OperationData<D>, BlockNotes<D>>
+    pub fn program(&self) -> &Program<O, B>
         ensures { result.now ≡ self.now.program }
     {
         &self.program
@@ -87,16 +69,38 @@ impl<D: DialectTables> Context<D> {
         self.program.is_inside(inner, outer)
     }
 
-    /// Its types and what it saves, to be asked.
-    pub fn types(&self) -> &Types<D>
+    /// Its table of types, to be asked.
+    pub fn types(&self) -> &T
         ensures { result.now ≡ self.now.types }
     {
         &self.types
     }
 
-    /// Where the context takes its memory from.
+    /// Where it takes its memory from.
     pub fn allocator(&self) -> Global {
         self.alloc
+    }
+}
+
+impl<D: DialectTables> TypedProgram<OperationData<D>, BlockNotes<D>, Types<D>> {
+    /// No operation, region, block, type or saved value.
+    #[tactic(auto, using(crate::proofs::KnownTypes::none_known))]
+    pub fn new(alloc: Global) -> Context<D>
+        ensures operations { (p : _) → operation_at result.program p ≡ None }
+        ensures blocks { (p : _) → block_at result.program p ≡ None }
+        ensures regions { (p : _) → region_at result.program p ≡ None }
+        ensures counter { result.program.counter ≡ 0 }
+        ensures room { HasRoom result.program }
+        ensures types { result.types ≡ record { keys = []; bodies = []; saved = [] } }
+    {
+        let program = Program::new(alloc);
+        // So there is no value whose type could be unknown.
+        program.know_values();
+        TypedProgram {
+            program,
+            types: Types::new(alloc),
+            alloc,
+        }
     }
 
     /// The key of a type, or `None` for a handle that leads to none.

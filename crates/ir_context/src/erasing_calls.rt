@@ -10,9 +10,8 @@ ghost use Rattle.ir_program.specs.Lists.{regions_in};
 ghost use Rattle.ir_program.specs.Drops.{DropsUses};
 ghost use Rattle.ir_program.specs.Erased.{IsApart, ErasesBlock, ErasesOperation, ErasesRegion};
 
-use crate::Context;
+use crate::{TypeTable, TypedProgram};
 use ir_program::{BasicBlock, IRNode, Operation, Ptr, Region};
-use ir_types::DialectTables;
 
 /// Erasing an operation, and taking away what it uses.
 pub trait OperationErasing {
@@ -20,14 +19,14 @@ pub trait OperationErasing {
     ghost op: { Self → Ptr Operation };
 
     /// Takes all operands and successors of the operation, and of all operations inside it, away. No memory is asked for.
-    fn drop_all_uses<D: DialectTables>(self, ctx: &mut Context<D>)
+    fn drop_all_uses<O, B, T: TypeTable>(self, ctx: &mut TypedProgram<O, B, T>)
         requires { IsSome (operation_at ctx.old.program (op self)) }
         ensures dropped { DropsUses ctx.old.program ctx.new.program (OperationNode (op self)) }
         ensures types { ctx.new.types ≡ ctx.old.types };
 
     /// Erases the operation with all that stands in it: its handle, and those of all that stood in it, lead nowhere for
     /// good. No operation outside it takes a value or goes on to a block that is inside. No memory is asked for.
-    fn erase<D: DialectTables>(self, ctx: &mut Context<D>)
+    fn erase<O: Drop, B: Drop, T: TypeTable>(self, ctx: &mut TypedProgram<O, B, T>)
         requires operation { IsSome (operation_at ctx.old.program (op self)) }
         requires apart { IsApart ctx.old.program (OperationNode (op self)) }
         ensures erased { ErasesOperation ctx.old.program ctx.new.program (op self) }
@@ -35,7 +34,7 @@ pub trait OperationErasing {
 
     /// Erases the region at an index of the operation's regions, with all that stands in it. No operation outside it
     /// takes a value or goes on to a block that is inside. No memory is asked for.
-    fn erase_region<D: DialectTables>(self, ctx: &mut Context<D>, i: usize)
+    fn erase_region<O: Drop, B: Drop, T: TypeTable>(self, ctx: &mut TypedProgram<O, B, T>, i: usize)
         requires operation { IsSome (operation_at ctx.old.program (op self)) }
         requires within { i < length (regions_in ctx.old.program (op self)) }
         requires apart { (region : Ptr Region) → slice_get (regions_in ctx.old.program (op self)) i ≡ Some region → IsApart ctx.old.program (RegionNode region) }
@@ -46,15 +45,21 @@ pub trait OperationErasing {
 impl OperationErasing for Ptr<Operation> {
     ghost op = { λ p. p };
 
-    fn drop_all_uses<D: DialectTables>(self, ctx: &mut Context<D>) {
+    fn drop_all_uses<O, B, T: TypeTable>(self, ctx: &mut TypedProgram<O, B, T>) {
         ctx.drop_all_uses(IRNode::Operation(self));
     }
 
-    fn erase<D: DialectTables>(self, ctx: &mut Context<D>) {
-        ctx.erase_operation(self);
+    fn erase<O: Drop, B: Drop, T: TypeTable>(self, ctx: &mut TypedProgram<O, B, T>) {
+        ctx.program.erase_operation(self);
+        // So each value that is left stands at an entity that is left.
+        ctx.program.know_values();
     }
 
-    fn erase_region<D: DialectTables>(self, ctx: &mut Context<D>, i: usize) {
+    fn erase_region<O: Drop, B: Drop, T: TypeTable>(
+        self,
+        ctx: &mut TypedProgram<O, B, T>,
+        i: usize,
+    ) {
         match ctx.program.region(self, i) {
             Some(region) => ctx.erase_region(region),
             None => unreachable!(),
@@ -68,14 +73,14 @@ pub trait BlockErasing {
     ghost block: { Self → Ptr BasicBlock };
 
     /// Takes all operands and successors of all operations inside the block away. No memory is asked for.
-    fn drop_all_uses<D: DialectTables>(self, ctx: &mut Context<D>)
+    fn drop_all_uses<O, B, T: TypeTable>(self, ctx: &mut TypedProgram<O, B, T>)
         requires { IsSome (block_at ctx.old.program (block self)) }
         ensures dropped { DropsUses ctx.old.program ctx.new.program (BlockNode (block self)) }
         ensures types { ctx.new.types ≡ ctx.old.types };
 
     /// Erases the block with all that stands in it: its handle, and those of all that stood in it, lead nowhere for good.
     /// No operation outside it takes a value or goes on to a block that is inside. No memory is asked for.
-    fn erase<D: DialectTables>(self, ctx: &mut Context<D>)
+    fn erase<O: Drop, B: Drop, T: TypeTable>(self, ctx: &mut TypedProgram<O, B, T>)
         requires block { IsSome (block_at ctx.old.program (block self)) }
         requires apart { IsApart ctx.old.program (BlockNode (block self)) }
         ensures erased { ErasesBlock ctx.old.program ctx.new.program (block self) }
@@ -85,12 +90,14 @@ pub trait BlockErasing {
 impl BlockErasing for Ptr<BasicBlock> {
     ghost block = { λ p. p };
 
-    fn drop_all_uses<D: DialectTables>(self, ctx: &mut Context<D>) {
+    fn drop_all_uses<O, B, T: TypeTable>(self, ctx: &mut TypedProgram<O, B, T>) {
         ctx.drop_all_uses(IRNode::BasicBlock(self));
     }
 
-    fn erase<D: DialectTables>(self, ctx: &mut Context<D>) {
-        ctx.erase_block(self);
+    fn erase<O: Drop, B: Drop, T: TypeTable>(self, ctx: &mut TypedProgram<O, B, T>) {
+        ctx.program.erase_block(self);
+        // So each value that is left stands at an entity that is left.
+        ctx.program.know_values();
     }
 }
 
@@ -100,7 +107,7 @@ pub trait RegionErasing {
     ghost region: { Self → Ptr Region };
 
     /// Takes all operands and successors of all operations inside the region away. No memory is asked for.
-    fn drop_all_uses<D: DialectTables>(self, ctx: &mut Context<D>)
+    fn drop_all_uses<O, B, T: TypeTable>(self, ctx: &mut TypedProgram<O, B, T>)
         requires { IsSome (region_at ctx.old.program (region self)) }
         ensures dropped { DropsUses ctx.old.program ctx.new.program (RegionNode (region self)) }
         ensures types { ctx.new.types ≡ ctx.old.types };
@@ -109,7 +116,7 @@ pub trait RegionErasing {
 impl RegionErasing for Ptr<Region> {
     ghost region = { λ p. p };
 
-    fn drop_all_uses<D: DialectTables>(self, ctx: &mut Context<D>) {
+    fn drop_all_uses<O, B, T: TypeTable>(self, ctx: &mut TypedProgram<O, B, T>) {
         ctx.drop_all_uses(IRNode::Region(self));
     }
 }

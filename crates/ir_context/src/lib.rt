@@ -22,6 +22,7 @@ mod plain;
 mod regions;
 mod results;
 mod successors;
+mod type_table;
 mod types;
 mod uses;
 mod values;
@@ -31,7 +32,7 @@ pub use block_lists::BlockLists;
 pub use blocks::BlockCalls;
 pub use changes::{BlockChanges, OperationChanges};
 pub use containers::{ContainsBlocks, ContainsOperations};
-pub use context::Context;
+pub use context::{Context, TypedProgram};
 pub use erasing_calls::{BlockErasing, OperationErasing, RegionErasing};
 pub use errors::{
     AttrInterfaceCastErr, CoreError, DanglingPtrDerefError, DefUseVerifyErr, ValueError,
@@ -44,6 +45,7 @@ pub use plain::{NewBlock, NewOperation};
 pub use regions::RegionCalls;
 pub use results::ResultCalls;
 pub use successors::SuccessorCalls;
+pub use type_table::TypeTable;
 pub use types::TypeCalls;
 pub use uses::{PredecessorCalls, UseCalls};
 pub use values::ValueCalls;

@@ -6,33 +6,30 @@ ghost use Rattle.ir_program.specs.Edits.{IsRestored, IsUnchanged};
 ghost use Rattle.ir_program.specs.Adds.{AreLiveValues, AreLiveBlocks};
 ghost use Rattle.ir_program.specs.Made.{BuildsOperation, BuildsBlock, MakesRegion, HasFullOperationSlot, HasFullBlockSlot, HasFullRegionSlot};
 ghost use Rattle.ir_program.specs.declared.handles.Value.{Value};
-ghost use Rattle.ir_context.specs.KnownLists.{AreKnown};
+ghost use Rattle.ir_context.specs.Known.{AreKnownIn};
 
-use crate::Context;
-use crate::notes::{BlockNotes, OperationData};
+use crate::{TypeTable, TypedProgram};
 use ir_names::{GrowError, TypeHandle};
 use ir_program::{BasicBlock, Operation, Ptr, Region, Value};
-use ir_types::DialectTables;
 use std::alloc::Global;
 
-impl<D: DialectTables> Context<D> {
-    /// Makes an operation that stands in no block, with this kind and these notes, results of these types, these operands
+impl<O: Drop, B: Drop, T: TypeTable> TypedProgram<O, B, T> {
+    /// Makes an operation that stands in no block, with this payload, results of these types, these operands
     /// and these successors, and so many regions, each with no block.
     ///
     /// # Errors
     /// `Memory`, and `CounterFull` where there are not so many numbers left for values, or where the vacant slot that comes
     /// next for an operation or a region had as many of them as it can name. Each handle leads to what it led to then.
-    #[tactic(auto, using(crate::proofs::ErasedTypes::built_operation_known))]
     pub fn new_operation(
         &mut self,
         alloc: Global,
-        payload: OperationData<D>,
+        payload: O,
         results: &[TypeHandle],
         operands: &[Value],
         successors: &[Ptr<BasicBlock>],
         regions: usize,
     ) -> Result<Ptr<Operation>, GrowError>
-        requires known { AreKnown self.old.types results.now }
+        requires known { AreKnownIn (T.type_count self.old.types) results.now }
         requires operands { AreLiveValues self.old.program operands.now }
         requires successors { AreLiveBlocks self.old.program successors.now }
         ensures built { IfOk result (λ p. BuildsOperation self.old.program self.new.program p payload results.now operands.now successors.now regions) }
@@ -49,26 +46,25 @@ impl<D: DialectTables> Context<D> {
         made
     }
 
-    /// Makes a block that stands in no region, with these notes and arguments of these types, and no operation.
+    /// Makes a block that stands in no region, with this payload and arguments of these types, and no operation.
     ///
     /// # Errors
     /// `Memory`, and `CounterFull` where there are not so many numbers left for values, or where the vacant slot that comes
     /// next had as many blocks as it can name. Each handle leads to what it led to then.
-    #[tactic(auto, using(crate::proofs::ErasedTypes::built_block_known))]
     pub fn new_block(
         &mut self,
         alloc: Global,
-        notes: BlockNotes<D>,
+        payload: B,
         arguments: &[TypeHandle],
     ) -> Result<Ptr<BasicBlock>, GrowError>
-        requires known { AreKnown self.old.types arguments.now }
-        ensures built { IfOk result (λ p. BuildsBlock self.old.program self.new.program p notes arguments.now) }
+        requires known { AreKnownIn (T.type_count self.old.types) arguments.now }
+        ensures built { IfOk result (λ p. BuildsBlock self.old.program self.new.program p payload arguments.now) }
         ensures err { OnErr result (IsRestored self.old.program self.new.program) }
         ensures err_values { OnErr result ((v : Value) → type_at self.new.program v ≡ type_at self.old.program v) }
         ensures full { result ≡ Err CounterFull → HasFullBlockSlot self.old.program ⊎ (2 ^ 64 ≤ self.old.program.counter + length arguments.now) }
         ensures types { self.new.types ≡ self.old.types }
     {
-        let made = self.program.build_block(alloc, notes, arguments);
+        let made = self.program.build_block(alloc, payload, arguments);
         // So each value of the new block has one of these types.
         self.program.know_values();
         made
@@ -79,7 +75,7 @@ impl<D: DialectTables> Context<D> {
     /// # Errors
     /// `Memory`, and `CounterFull` where the vacant slot that comes next had as many regions as it can name. Nothing is
     /// changed then.
-    #[tactic(auto, using(crate::proofs::ErasedTypes::added_region_types, crate::proofs::ErasedTypes::added_region_known))]
+    #[tactic(auto, using(crate::proofs::ErasedTypes::added_region_types))]
     pub fn add_region(&mut self, op: Ptr<Operation>) -> Result<Ptr<Region>, GrowError>
         requires { IsSome (operation_at self.old.program op) }
         ensures made { IfOk result (λ r. MakesRegion self.old.program self.new.program op r) }

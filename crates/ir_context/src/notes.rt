@@ -23,7 +23,7 @@ pub struct BlockNotes<D: DialectTables> {
 #[derive(Drop)]
 pub struct OperationData<D: DialectTables> {
     pub(crate) kind: D::OpKind,
-    pub(crate) notes: OperationNotes<D>,
+    pub notes: OperationNotes<D>,
 }
 
 impl<D: DialectTables> OperationData<D> {

@@ -7,9 +7,8 @@ ghost use Rattle.ir_program.specs.declared.handles.Ptr.{Ptr};
 ghost use Rattle.ir_program.specs.declared.handles.Operation.{Operation};
 ghost use Rattle.ir_program.specs.RowEdits.{PushesOperand, InsertsOperand, RemovesOperand, ReplacesOperand, ChangesOperands};
 
-use crate::Context;
+use crate::{TypeTable, TypedProgram};
 use ir_program::{Operation, Ptr, Value};
-use ir_types::DialectTables;
 use std::alloc::{AllocError, Global};
 
 /// The operands of an operation: the values that it takes.
@@ -18,12 +17,12 @@ pub trait OperandCalls {
     ghost op: { Self → Ptr Operation };
 
     /// How many operands the operation has.
-    fn get_num_operands<D: DialectTables>(self, ctx: &Context<D>) -> usize
+    fn get_num_operands<O, B, T: TypeTable>(self, ctx: &TypedProgram<O, B, T>) -> usize
         requires { IsSome (operation_at ctx.now.program (op self)) }
         ensures { result ≡ length (operands_at ctx.now.program (op self)) };
 
     /// The operand at an index.
-    fn get_operand<D: DialectTables>(self, ctx: &Context<D>, i: usize) -> Value
+    fn get_operand<O, B, T: TypeTable>(self, ctx: &TypedProgram<O, B, T>, i: usize) -> Value
         requires { i < length (operands_at ctx.now.program (op self)) }
         ensures exact { slice_get (operands_at ctx.now.program (op self)) i ≡ Some result }
         ensures live { IsLiveValue ctx.now.program result };
@@ -32,10 +31,10 @@ pub trait OperandCalls {
     ///
     /// # Errors
     /// Without memory nothing is changed.
-    fn push_operand<D: DialectTables>(
+    fn push_operand<O, B, T: TypeTable>(
         self,
         _alloc: Global,
-        ctx: &mut Context<D>,
+        ctx: &mut TypedProgram<O, B, T>,
         value: Value,
     ) -> Result<(), AllocError>
         requires operation { IsSome (operation_at ctx.old.program (op self)) }
@@ -49,10 +48,10 @@ pub trait OperandCalls {
     ///
     /// # Errors
     /// Without memory nothing is changed.
-    fn insert_operand<D: DialectTables>(
+    fn insert_operand<O, B, T: TypeTable>(
         self,
         _alloc: Global,
-        ctx: &mut Context<D>,
+        ctx: &mut TypedProgram<O, B, T>,
         i: usize,
         value: Value,
     ) -> Result<(), AllocError>
@@ -65,7 +64,7 @@ pub trait OperandCalls {
         ensures types { ctx.new.types ≡ ctx.old.types };
 
     /// Takes away the last operand, if there is one.
-    fn pop_operand<D: DialectTables>(self, ctx: &mut Context<D>) -> Option<Value>
+    fn pop_operand<O, B, T: TypeTable>(self, ctx: &mut TypedProgram<O, B, T>) -> Option<Value>
         requires { IsSome (operation_at ctx.old.program (op self)) }
         ensures value { MatchOption result (operands_at ctx.old.program (op self) ≡ []) (λ v. operands_at ctx.old.program (op self) ≡ operands_at ctx.new.program (op self) ++ v ∷ []) }
         ensures popped { ChangesOperands ctx.old.program ctx.new.program (op self) }
@@ -74,7 +73,7 @@ pub trait OperandCalls {
         ensures types { ctx.new.types ≡ ctx.old.types };
 
     /// Takes away the operand at an index. Those behind it move up by one.
-    fn remove_operand<D: DialectTables>(self, ctx: &mut Context<D>, i: usize) -> Value
+    fn remove_operand<O, B, T: TypeTable>(self, ctx: &mut TypedProgram<O, B, T>, i: usize) -> Value
         requires { i < length (operands_at ctx.old.program (op self)) }
         ensures value { slice_get (operands_at ctx.old.program (op self)) i ≡ Some result }
         ensures removed { RemovesOperand ctx.old.program ctx.new.program (op self) i }
@@ -83,10 +82,10 @@ pub trait OperandCalls {
 
     /// Puts another value in place of the operand at an index. The parameter stays for callers that allocate; no memory
     /// is asked for.
-    fn replace_operand<D: DialectTables>(
+    fn replace_operand<O, B, T: TypeTable>(
         self,
         _alloc: Global,
-        ctx: &mut Context<D>,
+        ctx: &mut TypedProgram<O, B, T>,
         i: usize,
         value: Value,
     ) -> Result<(), AllocError>
@@ -101,45 +100,49 @@ pub trait OperandCalls {
 impl OperandCalls for Ptr<Operation> {
     ghost op = { λ p. p };
 
-    fn get_num_operands<D: DialectTables>(self, ctx: &Context<D>) -> usize {
+    fn get_num_operands<O, B, T: TypeTable>(self, ctx: &TypedProgram<O, B, T>) -> usize {
         ctx.program.operand_count(self)
     }
 
-    fn get_operand<D: DialectTables>(self, ctx: &Context<D>, i: usize) -> Value {
+    fn get_operand<O, B, T: TypeTable>(self, ctx: &TypedProgram<O, B, T>, i: usize) -> Value {
         ctx.program.operand(self, i)
     }
 
-    fn push_operand<D: DialectTables>(
+    fn push_operand<O, B, T: TypeTable>(
         self,
         _alloc: Global,
-        ctx: &mut Context<D>,
+        ctx: &mut TypedProgram<O, B, T>,
         value: Value,
     ) -> Result<(), AllocError> {
         ctx.program.push_operand(self, value)
     }
 
-    fn insert_operand<D: DialectTables>(
+    fn insert_operand<O, B, T: TypeTable>(
         self,
         _alloc: Global,
-        ctx: &mut Context<D>,
+        ctx: &mut TypedProgram<O, B, T>,
         i: usize,
         value: Value,
     ) -> Result<(), AllocError> {
         ctx.program.insert_operand(self, i, value)
     }
 
-    fn pop_operand<D: DialectTables>(self, ctx: &mut Context<D>) -> Option<Value> {
+    fn pop_operand<O, B, T: TypeTable>(self, ctx: &mut TypedProgram<O, B, T>) -> Option<Value> {
         ctx.program.pop_operand(self)
     }
 
-    fn remove_operand<D: DialectTables>(self, ctx: &mut Context<D>, i: usize) -> Value {
+    fn remove_operand<O, B, T: TypeTable>(
+        self,
+        ctx: &mut TypedProgram<O, B, T>,
+        i: usize,
+    ) -> Value {
         ctx.program.remove_operand(self, i)
     }
 
-    fn replace_operand<D: DialectTables>(
+    fn replace_operand<O, B, T: TypeTable>(
         self,
         _alloc: Global,
-        ctx: &mut Context<D>,
+        ctx: &mut TypedProgram<O, B, T>,
         i: usize,
         value: Value,
     ) -> Result<(), AllocError> {

@@ -11,7 +11,7 @@ ghost use Rattle.ir_context.specs.Holders.{HasRegion, HasParent};
 ghost use Rattle.ir_context.specs.Kept.{kind_at, notes_at, location_at};
 
 use crate::parents::{parent_of_operation, region_of_operation};
-use crate::{Context, DanglingPtrDerefError, OperationNotes};
+use crate::{Context, DanglingPtrDerefError, OperationNotes, TypeTable, TypedProgram};
 use ir_names::OpId;
 use ir_program::{BasicBlock, Operation, Ptr, Region};
 use ir_types::DialectTables;
@@ -22,23 +22,32 @@ pub trait OperationCalls {
     ghost op: { Self → Ptr Operation };
 
     /// Whether the handle leads to an operation.
-    fn is_live<D: DialectTables>(self, ctx: &Context<D>) -> bool
+    fn is_live<O, B, T: TypeTable>(self, ctx: &TypedProgram<O, B, T>) -> bool
         ensures { result ≡ is_some (operation_at ctx.now.program (op self)) };
 
     /// The block that the operation stands in.
-    fn get_parent_block<D: DialectTables>(self, ctx: &Context<D>) -> Option<Ptr<BasicBlock>>
+    fn get_parent_block<O, B, T: TypeTable>(
+        self,
+        ctx: &TypedProgram<O, B, T>,
+    ) -> Option<Ptr<BasicBlock>>
         requires { IsSome (operation_at ctx.now.program (op self)) }
         ensures parent { MatchOption result (IsUnlinkedOperation ctx.now.program (op self)) (λ block. StandsInBlock ctx.now.program (op self) block) }
         ensures only { (block : Ptr BasicBlock) → StandsInBlock ctx.now.program (op self) block → result ≡ Some block };
 
     /// The region that its block stands in.
-    fn get_parent_region<D: DialectTables>(self, ctx: &Context<D>) -> Option<Ptr<Region>>
+    fn get_parent_region<O, B, T: TypeTable>(
+        self,
+        ctx: &TypedProgram<O, B, T>,
+    ) -> Option<Ptr<Region>>
         requires { IsSome (operation_at ctx.now.program (op self)) }
         ensures found { IfSome result (λ region. HasRegion ctx.now.program (op self) region) }
         ensures only { (region : Ptr Region) → HasRegion ctx.now.program (op self) region → result ≡ Some region };
 
     /// The operation that this region stands in.
-    fn get_parent_op<D: DialectTables>(self, ctx: &Context<D>) -> Option<Ptr<Operation>>
+    fn get_parent_op<O, B, T: TypeTable>(
+        self,
+        ctx: &TypedProgram<O, B, T>,
+    ) -> Option<Ptr<Operation>>
         requires { IsSome (operation_at ctx.now.program (op self)) }
         ensures found { IfSome result (λ parent. HasParent ctx.now.program (op self) parent) }
         ensures only { (parent : Ptr Operation) → HasParent ctx.now.program (op self) parent → result ≡ Some parent };
@@ -75,12 +84,12 @@ pub trait OperationCalls {
         ensures { location_at ctx.now.program (op self) ≡ Some result.now };
 
     /// How many regions it has.
-    fn num_regions<D: DialectTables>(self, ctx: &Context<D>) -> usize
+    fn num_regions<O, B, T: TypeTable>(self, ctx: &TypedProgram<O, B, T>) -> usize
         requires { IsSome (operation_at ctx.now.program (op self)) }
         ensures { result ≡ length (regions_in ctx.now.program (op self)) };
 
     /// The region at an index of its regions.
-    fn get_region<D: DialectTables>(self, ctx: &Context<D>, i: usize) -> Ptr<Region>
+    fn get_region<O, B, T: TypeTable>(self, ctx: &TypedProgram<O, B, T>, i: usize) -> Ptr<Region>
         requires operation { IsSome (operation_at ctx.now.program (op self)) }
         requires within { i < length (regions_in ctx.now.program (op self)) }
         ensures region { slice_get (regions_in ctx.now.program (op self)) i ≡ Some result }
@@ -90,19 +99,28 @@ pub trait OperationCalls {
 impl OperationCalls for Ptr<Operation> {
     ghost op = { λ o. o };
 
-    fn is_live<D: DialectTables>(self, ctx: &Context<D>) -> bool {
+    fn is_live<O, B, T: TypeTable>(self, ctx: &TypedProgram<O, B, T>) -> bool {
         ctx.program.has_operation(self)
     }
 
-    fn get_parent_block<D: DialectTables>(self, ctx: &Context<D>) -> Option<Ptr<BasicBlock>> {
+    fn get_parent_block<O, B, T: TypeTable>(
+        self,
+        ctx: &TypedProgram<O, B, T>,
+    ) -> Option<Ptr<BasicBlock>> {
         ctx.program.parent_block(self)
     }
 
-    fn get_parent_region<D: DialectTables>(self, ctx: &Context<D>) -> Option<Ptr<Region>> {
+    fn get_parent_region<O, B, T: TypeTable>(
+        self,
+        ctx: &TypedProgram<O, B, T>,
+    ) -> Option<Ptr<Region>> {
         region_of_operation(&ctx.program, self)
     }
 
-    fn get_parent_op<D: DialectTables>(self, ctx: &Context<D>) -> Option<Ptr<Operation>> {
+    fn get_parent_op<O, B, T: TypeTable>(
+        self,
+        ctx: &TypedProgram<O, B, T>,
+    ) -> Option<Ptr<Operation>> {
         parent_of_operation(&ctx.program, self)
     }
 
@@ -132,11 +150,11 @@ impl OperationCalls for Ptr<Operation> {
         &ctx.program.payload(self).notes.loc
     }
 
-    fn num_regions<D: DialectTables>(self, ctx: &Context<D>) -> usize {
+    fn num_regions<O, B, T: TypeTable>(self, ctx: &TypedProgram<O, B, T>) -> usize {
         ctx.program.region_count(self)
     }
 
-    fn get_region<D: DialectTables>(self, ctx: &Context<D>, i: usize) -> Ptr<Region> {
+    fn get_region<O, B, T: TypeTable>(self, ctx: &TypedProgram<O, B, T>, i: usize) -> Ptr<Region> {
         match ctx.program.region(self, i) {
             Some(region) => region,
             None => unreachable!(),

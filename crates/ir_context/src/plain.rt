@@ -6,7 +6,7 @@ ghost use Rattle.ir_program.specs.Edits.{IsRestored};
 ghost use Rattle.ir_program.specs.Adds.{AreLiveValues, AreLiveBlocks};
 ghost use Rattle.ir_program.specs.Made.{BuildsOperation, BuildsBlock, HasFullOperationSlot, HasFullBlockSlot, HasFullRegionSlot};
 ghost use Rattle.ir_program.specs.declared.handles.Value.{Value};
-ghost use Rattle.ir_context.specs.KnownLists.{AreKnown};
+ghost use Rattle.ir_context.specs.Known.{AreKnownIn};
 
 use crate::Context;
 use crate::notes::{BlockNotes, OperationData, OperationNotes};
@@ -31,7 +31,7 @@ pub trait NewOperation {
         successors: &[Ptr<BasicBlock>],
         num_regions: usize,
     ) -> Result<Ptr<Operation>, GrowError>
-        requires known { AreKnown ctx.old.types result_types.now }
+        requires known { AreKnownIn (length ctx.old.types.keys) result_types.now }
         requires operands { AreLiveValues ctx.old.program operands.now }
         requires successors { AreLiveBlocks ctx.old.program successors.now }
         ensures built { IfOk result (λ p. BuildsOperation ctx.old.program ctx.new.program p (record { kind = kind; notes = record { attributes = []; loc = D.nowhere } }) result_types.now operands.now successors.now num_regions) }
@@ -80,7 +80,7 @@ pub trait NewBlock {
         label: Option<Identifier>,
         argument_types: &[TypeHandle],
     ) -> Result<Ptr<BasicBlock>, GrowError>
-        requires known { AreKnown ctx.old.types argument_types.now }
+        requires known { AreKnownIn (length ctx.old.types.keys) argument_types.now }
         ensures built { IfOk result (λ p. BuildsBlock ctx.old.program ctx.new.program p (record { attributes = []; loc = D.nowhere; label = label }) argument_types.now) }
         ensures err { OnErr result (IsRestored ctx.old.program ctx.new.program) }
         ensures err_values { OnErr result ((v : Value) → type_at ctx.new.program v ≡ type_at ctx.old.program v) }

@@ -10,10 +10,9 @@ ghost use Rattle.ir_program.specs.Lists.{blocks_in, regions_in, StandsInRegion, 
 ghost use Rattle.ir_program.specs.Edits.{EditsOperation, MovesRegion, KeepsValues};
 ghost use Rattle.ir_context.specs.Holders.{HasBlock, HasParentRegion};
 
-use crate::Context;
 use crate::parents::{block_of_region, parent_of_region};
+use crate::{TypeTable, TypedProgram};
 use ir_program::{BasicBlock, Operation, Ptr, Region};
-use ir_types::DialectTables;
 
 /// What is asked of a region, and how it is moved.
 pub trait RegionCalls {
@@ -21,40 +20,52 @@ pub trait RegionCalls {
     ghost region: { Self → Ptr Region };
 
     /// Whether the handle leads to a region.
-    fn is_live<D: DialectTables>(self, ctx: &Context<D>) -> bool
+    fn is_live<O, B, T: TypeTable>(self, ctx: &TypedProgram<O, B, T>) -> bool
         ensures { result ≡ is_some (region_at ctx.now.program (region self)) };
 
     /// The operation that the region stands in. Each region stands in one.
-    fn get_parent_op<D: DialectTables>(self, ctx: &Context<D>) -> Option<Ptr<Operation>>
+    fn get_parent_op<O, B, T: TypeTable>(
+        self,
+        ctx: &TypedProgram<O, B, T>,
+    ) -> Option<Ptr<Operation>>
         requires { IsSome (region_at ctx.now.program (region self)) }
         ensures stands { (op : Ptr Operation) × (result ≡ Some op) × StandsInOperation ctx.now.program (region self) op }
         ensures only { (op : Ptr Operation) → StandsInOperation ctx.now.program (region self) op → result ≡ Some op };
 
     /// The block that this operation stands in.
-    fn get_parent_block<D: DialectTables>(self, ctx: &Context<D>) -> Option<Ptr<BasicBlock>>
+    fn get_parent_block<O, B, T: TypeTable>(
+        self,
+        ctx: &TypedProgram<O, B, T>,
+    ) -> Option<Ptr<BasicBlock>>
         requires { IsSome (region_at ctx.now.program (region self)) }
         ensures found { IfSome result (λ block. HasBlock ctx.now.program (region self) block) }
         ensures only { (block : Ptr BasicBlock) → HasBlock ctx.now.program (region self) block → result ≡ Some block };
 
     /// The region that this block stands in.
-    fn get_parent_region<D: DialectTables>(self, ctx: &Context<D>) -> Option<Ptr<Region>>
+    fn get_parent_region<O, B, T: TypeTable>(
+        self,
+        ctx: &TypedProgram<O, B, T>,
+    ) -> Option<Ptr<Region>>
         requires { IsSome (region_at ctx.now.program (region self)) }
         ensures found { IfSome result (λ parent. HasParentRegion ctx.now.program (region self) parent) }
         ensures only { (parent : Ptr Region) → HasParentRegion ctx.now.program (region self) parent → result ≡ Some parent };
 
     /// The first of its blocks.
-    fn get_entry_block<D: DialectTables>(self, ctx: &Context<D>) -> Option<Ptr<BasicBlock>>
+    fn get_entry_block<O, B, T: TypeTable>(
+        self,
+        ctx: &TypedProgram<O, B, T>,
+    ) -> Option<Ptr<BasicBlock>>
         requires { IsSome (region_at ctx.now.program (region self)) }
         ensures first { result ≡ slice_get (blocks_in ctx.now.program (region self)) 0 }
         ensures stands { IfSome result (λ block. StandsInRegion ctx.now.program block (region self)) };
 
     /// Its index among the regions of its operation.
-    fn find_index_in_parent<D: DialectTables>(self, ctx: &Context<D>) -> usize
+    fn find_index_in_parent<O, B, T: TypeTable>(self, ctx: &TypedProgram<O, B, T>) -> usize
         requires { IsSome (region_at ctx.now.program (region self)) }
         ensures { (op : Ptr Operation) (k : ℕ) → slice_get (regions_in ctx.now.program op) k ≡ Some (region self) → result ≡ k };
 
     /// Moves the region out of its operation, behind the regions of `op`, which may be the same one.
-    fn move_to_op<D: DialectTables>(self, ctx: &mut Context<D>, op: Ptr<Operation>)
+    fn move_to_op<O, B, T: TypeTable>(self, ctx: &mut TypedProgram<O, B, T>, op: Ptr<Operation>)
         requires region { IsSome (region_at ctx.old.program (region self)) }
         requires op { IsSome (operation_at ctx.old.program op) }
         requires apart { StandsInside ctx.old.program (RegionNode (region self)) (OperationNode op) → ⊥ }
@@ -67,31 +78,43 @@ pub trait RegionCalls {
 impl RegionCalls for Ptr<Region> {
     ghost region = { λ r. r };
 
-    fn is_live<D: DialectTables>(self, ctx: &Context<D>) -> bool {
+    fn is_live<O, B, T: TypeTable>(self, ctx: &TypedProgram<O, B, T>) -> bool {
         ctx.program.has_region(self)
     }
 
-    fn get_parent_op<D: DialectTables>(self, ctx: &Context<D>) -> Option<Ptr<Operation>> {
+    fn get_parent_op<O, B, T: TypeTable>(
+        self,
+        ctx: &TypedProgram<O, B, T>,
+    ) -> Option<Ptr<Operation>> {
         Some(ctx.program.parent_operation(self))
     }
 
-    fn get_parent_block<D: DialectTables>(self, ctx: &Context<D>) -> Option<Ptr<BasicBlock>> {
+    fn get_parent_block<O, B, T: TypeTable>(
+        self,
+        ctx: &TypedProgram<O, B, T>,
+    ) -> Option<Ptr<BasicBlock>> {
         block_of_region(&ctx.program, self)
     }
 
-    fn get_parent_region<D: DialectTables>(self, ctx: &Context<D>) -> Option<Ptr<Region>> {
+    fn get_parent_region<O, B, T: TypeTable>(
+        self,
+        ctx: &TypedProgram<O, B, T>,
+    ) -> Option<Ptr<Region>> {
         parent_of_region(&ctx.program, self)
     }
 
-    fn get_entry_block<D: DialectTables>(self, ctx: &Context<D>) -> Option<Ptr<BasicBlock>> {
+    fn get_entry_block<O, B, T: TypeTable>(
+        self,
+        ctx: &TypedProgram<O, B, T>,
+    ) -> Option<Ptr<BasicBlock>> {
         ctx.program.first_block(self)
     }
 
-    fn find_index_in_parent<D: DialectTables>(self, ctx: &Context<D>) -> usize {
+    fn find_index_in_parent<O, B, T: TypeTable>(self, ctx: &TypedProgram<O, B, T>) -> usize {
         ctx.program.region_index(self)
     }
 
-    fn move_to_op<D: DialectTables>(self, ctx: &mut Context<D>, op: Ptr<Operation>) {
+    fn move_to_op<O, B, T: TypeTable>(self, ctx: &mut TypedProgram<O, B, T>, op: Ptr<Operation>) {
         ctx.program.move_region(self, op);
     }
 }

@@ -10,12 +10,11 @@ ghost use Rattle.ir_program.specs.declared.handles.DefiningEntity.TheVariants.{O
 ghost use Rattle.ir_program.specs.declared.handles.Ptr.{Ptr};
 ghost use Rattle.ir_program.specs.declared.handles.Operation.{Operation};
 ghost use Rattle.ir_program.specs.ValueEdits.{PushesResult, InsertsResult, PopsResult, RemovesResult};
-ghost use Rattle.ir_types.specs.Interned.{IsKnown};
+ghost use Rattle.ir_context.specs.Known.{IsKnownIn};
 
-use crate::Context;
+use crate::{TypeTable, TypedProgram};
 use ir_names::{GrowError, TypeHandle};
 use ir_program::{Operation, Ptr, Value};
-use ir_types::DialectTables;
 use std::alloc::Global;
 
 /// The results of an operation.
@@ -24,19 +23,19 @@ pub trait ResultCalls {
     ghost op: { Self → Ptr Operation };
 
     /// How many results the operation has.
-    fn get_num_results<D: DialectTables>(self, ctx: &Context<D>) -> usize
+    fn get_num_results<O, B, T: TypeTable>(self, ctx: &TypedProgram<O, B, T>) -> usize
         requires { IsSome (operation_at ctx.now.program (op self)) }
         ensures { result ≡ result_count ctx.now.program (op self) };
 
     /// The result at an index of the operation's results.
-    fn get_result<D: DialectTables>(self, ctx: &Context<D>, i: usize) -> Value
+    fn get_result<O, B, T: TypeTable>(self, ctx: &TypedProgram<O, B, T>, i: usize) -> Value
         requires operation { IsSome (operation_at ctx.now.program (op self)) }
         requires within { i < result_count ctx.now.program (op self) }
         ensures value { value_in (results_at ctx.now.program (op self)) i ≡ Some result }
         ensures typed { type_at ctx.now.program result ≡ type_in (results_at ctx.now.program (op self)) i };
 
     /// The type of the result at an index of the operation's results.
-    fn get_type<D: DialectTables>(self, ctx: &Context<D>, i: usize) -> TypeHandle
+    fn get_type<O, B, T: TypeTable>(self, ctx: &TypedProgram<O, B, T>, i: usize) -> TypeHandle
         requires operation { IsSome (operation_at ctx.now.program (op self)) }
         requires within { i < result_count ctx.now.program (op self) }
         ensures { type_in (results_at ctx.now.program (op self)) i ≡ Some result };
@@ -46,14 +45,14 @@ pub trait ResultCalls {
     ///
     /// # Errors
     /// `Memory`, and `CounterFull` where each number has been given.
-    fn push_result<D: DialectTables>(
+    fn push_result<O, B, T: TypeTable>(
         self,
         _alloc: Global,
-        ctx: &mut Context<D>,
+        ctx: &mut TypedProgram<O, B, T>,
         ty: TypeHandle,
     ) -> Result<Value, GrowError>
         requires operation { IsSome (operation_at ctx.old.program (op self)) }
-        requires known { IsKnown ctx.old.types ty }
+        requires known { IsKnownIn (T.type_count ctx.old.types) ty }
         ensures value { IfOk result (λ v. v ≡ record { definer = Op (op self); number = ctx.old.program.counter }) }
         ensures defined { IfOk result (λ v. DefinesValue ctx.old.program ctx.new.program v ty) }
         ensures counter { OnOk result (ctx.new.program.counter ≡ ctx.old.program.counter + 1) }
@@ -68,16 +67,16 @@ pub trait ResultCalls {
     ///
     /// # Errors
     /// `Memory`, and `CounterFull` where each number has been given.
-    fn insert_result<D: DialectTables>(
+    fn insert_result<O, B, T: TypeTable>(
         self,
         _alloc: Global,
-        ctx: &mut Context<D>,
+        ctx: &mut TypedProgram<O, B, T>,
         i: usize,
         ty: TypeHandle,
     ) -> Result<Value, GrowError>
         requires operation { IsSome (operation_at ctx.old.program (op self)) }
         requires within { i ≤ result_count ctx.old.program (op self) }
-        requires known { IsKnown ctx.old.types ty }
+        requires known { IsKnownIn (T.type_count ctx.old.types) ty }
         ensures value { IfOk result (λ v. v ≡ record { definer = Op (op self); number = ctx.old.program.counter }) }
         ensures defined { IfOk result (λ v. DefinesValue ctx.old.program ctx.new.program v ty) }
         ensures counter { OnOk result (ctx.new.program.counter ≡ ctx.old.program.counter + 1) }
@@ -89,7 +88,7 @@ pub trait ResultCalls {
 
     /// Takes the last result, which no operation takes, out of the operation's results, if it has one, and answers it. No
     /// memory is asked for.
-    fn pop_result<D: DialectTables>(self, ctx: &mut Context<D>) -> Option<Value>
+    fn pop_result<O, B, T: TypeTable>(self, ctx: &mut TypedProgram<O, B, T>) -> Option<Value>
         requires operation { IsSome (operation_at ctx.old.program (op self)) }
         requires unused { (v : Value) → value_in (results_at ctx.old.program (op self)) (result_count ctx.old.program (op self) - 1) ≡ Some v → IsUsed ctx.old.program v → ⊥ }
         ensures value { result ≡ value_in (results_at ctx.old.program (op self)) (result_count ctx.old.program (op self) - 1) }
@@ -101,7 +100,7 @@ pub trait ResultCalls {
 
     /// Takes a result that no operation takes out of the operation's results, and answers it. It is no value of the
     /// program any more. No memory is asked for.
-    fn remove_result<D: DialectTables>(self, ctx: &mut Context<D>, i: usize) -> Value
+    fn remove_result<O, B, T: TypeTable>(self, ctx: &mut TypedProgram<O, B, T>, i: usize) -> Value
         requires operation { IsSome (operation_at ctx.old.program (op self)) }
         requires within { i < result_count ctx.old.program (op self) }
         requires unused { (v : Value) → value_in (results_at ctx.old.program (op self)) i ≡ Some v → IsUsed ctx.old.program v → ⊥ }
@@ -115,31 +114,31 @@ pub trait ResultCalls {
 impl ResultCalls for Ptr<Operation> {
     ghost op = { λ p. p };
 
-    fn get_num_results<D: DialectTables>(self, ctx: &Context<D>) -> usize {
+    fn get_num_results<O, B, T: TypeTable>(self, ctx: &TypedProgram<O, B, T>) -> usize {
         ctx.program.result_count(self)
     }
 
-    fn get_result<D: DialectTables>(self, ctx: &Context<D>, i: usize) -> Value {
+    fn get_result<O, B, T: TypeTable>(self, ctx: &TypedProgram<O, B, T>, i: usize) -> Value {
         ctx.program.result(self, i)
     }
 
-    fn get_type<D: DialectTables>(self, ctx: &Context<D>, i: usize) -> TypeHandle {
+    fn get_type<O, B, T: TypeTable>(self, ctx: &TypedProgram<O, B, T>, i: usize) -> TypeHandle {
         ctx.program.result_type(self, i)
     }
 
-    fn push_result<D: DialectTables>(
+    fn push_result<O, B, T: TypeTable>(
         self,
         _alloc: Global,
-        ctx: &mut Context<D>,
+        ctx: &mut TypedProgram<O, B, T>,
         ty: TypeHandle,
     ) -> Result<Value, GrowError> {
         ctx.program.push_result(self, ty)
     }
 
-    fn insert_result<D: DialectTables>(
+    fn insert_result<O, B, T: TypeTable>(
         self,
         _alloc: Global,
-        ctx: &mut Context<D>,
+        ctx: &mut TypedProgram<O, B, T>,
         i: usize,
         ty: TypeHandle,
     ) -> Result<Value, GrowError> {
@@ -147,12 +146,12 @@ impl ResultCalls for Ptr<Operation> {
     }
 
     #[tactic(auto, using(crate::proofs::KnownTypes::popped_known))]
-    fn pop_result<D: DialectTables>(self, ctx: &mut Context<D>) -> Option<Value> {
+    fn pop_result<O, B, T: TypeTable>(self, ctx: &mut TypedProgram<O, B, T>) -> Option<Value> {
         ctx.program.pop_result(self)
     }
 
     #[tactic(auto, using(crate::proofs::KnownTypes::forgotten_known))]
-    fn remove_result<D: DialectTables>(self, ctx: &mut Context<D>, i: usize) -> Value {
+    fn remove_result<O, B, T: TypeTable>(self, ctx: &mut TypedProgram<O, B, T>, i: usize) -> Value {
         ctx.program.remove_result(self, i)
     }
 }

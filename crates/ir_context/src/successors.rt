@@ -7,9 +7,8 @@ ghost use Rattle.ir_program.specs.declared.handles.Ptr.{Ptr};
 ghost use Rattle.ir_program.specs.declared.handles.Operation.{Operation};
 ghost use Rattle.ir_program.specs.RowEdits.{PushesSuccessor, InsertsSuccessor, RemovesSuccessor, ReplacesSuccessor, ChangesSuccessors};
 
-use crate::Context;
+use crate::{TypeTable, TypedProgram};
 use ir_program::{BasicBlock, Operation, Ptr};
-use ir_types::DialectTables;
 use std::alloc::{AllocError, Global};
 
 /// The successors of an operation: the blocks that it may go on to.
@@ -18,12 +17,16 @@ pub trait SuccessorCalls {
     ghost op: { Self → Ptr Operation };
 
     /// How many successors the operation has.
-    fn get_num_successors<D: DialectTables>(self, ctx: &Context<D>) -> usize
+    fn get_num_successors<O, B, T: TypeTable>(self, ctx: &TypedProgram<O, B, T>) -> usize
         requires { IsSome (operation_at ctx.now.program (op self)) }
         ensures { result ≡ length (successors_at ctx.now.program (op self)) };
 
     /// The successor at an index.
-    fn get_successor<D: DialectTables>(self, ctx: &Context<D>, i: usize) -> Ptr<BasicBlock>
+    fn get_successor<O, B, T: TypeTable>(
+        self,
+        ctx: &TypedProgram<O, B, T>,
+        i: usize,
+    ) -> Ptr<BasicBlock>
         requires { i < length (successors_at ctx.now.program (op self)) }
         ensures exact { slice_get (successors_at ctx.now.program (op self)) i ≡ Some result }
         ensures live { IsSome (block_at ctx.now.program result) };
@@ -32,10 +35,10 @@ pub trait SuccessorCalls {
     ///
     /// # Errors
     /// Without memory nothing is changed.
-    fn push_successor<D: DialectTables>(
+    fn push_successor<O, B, T: TypeTable>(
         self,
         _alloc: Global,
-        ctx: &mut Context<D>,
+        ctx: &mut TypedProgram<O, B, T>,
         block: Ptr<BasicBlock>,
     ) -> Result<(), AllocError>
         requires operation { IsSome (operation_at ctx.old.program (op self)) }
@@ -49,10 +52,10 @@ pub trait SuccessorCalls {
     ///
     /// # Errors
     /// Without memory nothing is changed.
-    fn insert_successor<D: DialectTables>(
+    fn insert_successor<O, B, T: TypeTable>(
         self,
         _alloc: Global,
-        ctx: &mut Context<D>,
+        ctx: &mut TypedProgram<O, B, T>,
         i: usize,
         block: Ptr<BasicBlock>,
     ) -> Result<(), AllocError>
@@ -65,7 +68,10 @@ pub trait SuccessorCalls {
         ensures types { ctx.new.types ≡ ctx.old.types };
 
     /// Takes away the last successor, if there is one.
-    fn pop_successor<D: DialectTables>(self, ctx: &mut Context<D>) -> Option<Ptr<BasicBlock>>
+    fn pop_successor<O, B, T: TypeTable>(
+        self,
+        ctx: &mut TypedProgram<O, B, T>,
+    ) -> Option<Ptr<BasicBlock>>
         requires { IsSome (operation_at ctx.old.program (op self)) }
         ensures block { MatchOption result (successors_at ctx.old.program (op self) ≡ []) (λ b. successors_at ctx.old.program (op self) ≡ successors_at ctx.new.program (op self) ++ b ∷ []) }
         ensures popped { ChangesSuccessors ctx.old.program ctx.new.program (op self) }
@@ -74,7 +80,11 @@ pub trait SuccessorCalls {
         ensures types { ctx.new.types ≡ ctx.old.types };
 
     /// Takes away the successor at an index. Those behind it move up by one.
-    fn remove_successor<D: DialectTables>(self, ctx: &mut Context<D>, i: usize) -> Ptr<BasicBlock>
+    fn remove_successor<O, B, T: TypeTable>(
+        self,
+        ctx: &mut TypedProgram<O, B, T>,
+        i: usize,
+    ) -> Ptr<BasicBlock>
         requires { i < length (successors_at ctx.old.program (op self)) }
         ensures block { slice_get (successors_at ctx.old.program (op self)) i ≡ Some result }
         ensures removed { RemovesSuccessor ctx.old.program ctx.new.program (op self) i }
@@ -83,10 +93,10 @@ pub trait SuccessorCalls {
 
     /// Puts another block in place of the successor at an index. The parameter stays for callers that allocate; no memory
     /// is asked for.
-    fn replace_successor<D: DialectTables>(
+    fn replace_successor<O, B, T: TypeTable>(
         self,
         _alloc: Global,
-        ctx: &mut Context<D>,
+        ctx: &mut TypedProgram<O, B, T>,
         i: usize,
         block: Ptr<BasicBlock>,
     ) -> Result<(), AllocError>
@@ -101,45 +111,56 @@ pub trait SuccessorCalls {
 impl SuccessorCalls for Ptr<Operation> {
     ghost op = { λ p. p };
 
-    fn get_num_successors<D: DialectTables>(self, ctx: &Context<D>) -> usize {
+    fn get_num_successors<O, B, T: TypeTable>(self, ctx: &TypedProgram<O, B, T>) -> usize {
         ctx.program.successor_count(self)
     }
 
-    fn get_successor<D: DialectTables>(self, ctx: &Context<D>, i: usize) -> Ptr<BasicBlock> {
+    fn get_successor<O, B, T: TypeTable>(
+        self,
+        ctx: &TypedProgram<O, B, T>,
+        i: usize,
+    ) -> Ptr<BasicBlock> {
         ctx.program.successor(self, i)
     }
 
-    fn push_successor<D: DialectTables>(
+    fn push_successor<O, B, T: TypeTable>(
         self,
         _alloc: Global,
-        ctx: &mut Context<D>,
+        ctx: &mut TypedProgram<O, B, T>,
         block: Ptr<BasicBlock>,
     ) -> Result<(), AllocError> {
         ctx.program.push_successor(self, block)
     }
 
-    fn insert_successor<D: DialectTables>(
+    fn insert_successor<O, B, T: TypeTable>(
         self,
         _alloc: Global,
-        ctx: &mut Context<D>,
+        ctx: &mut TypedProgram<O, B, T>,
         i: usize,
         block: Ptr<BasicBlock>,
     ) -> Result<(), AllocError> {
         ctx.program.insert_successor(self, i, block)
     }
 
-    fn pop_successor<D: DialectTables>(self, ctx: &mut Context<D>) -> Option<Ptr<BasicBlock>> {
+    fn pop_successor<O, B, T: TypeTable>(
+        self,
+        ctx: &mut TypedProgram<O, B, T>,
+    ) -> Option<Ptr<BasicBlock>> {
         ctx.program.pop_successor(self)
     }
 
-    fn remove_successor<D: DialectTables>(self, ctx: &mut Context<D>, i: usize) -> Ptr<BasicBlock> {
+    fn remove_successor<O, B, T: TypeTable>(
+        self,
+        ctx: &mut TypedProgram<O, B, T>,
+        i: usize,
+    ) -> Ptr<BasicBlock> {
         ctx.program.remove_successor(self, i)
     }
 
-    fn replace_successor<D: DialectTables>(
+    fn replace_successor<O, B, T: TypeTable>(
         self,
         _alloc: Global,
-        ctx: &mut Context<D>,
+        ctx: &mut TypedProgram<O, B, T>,
         i: usize,
         block: Ptr<BasicBlock>,
     ) -> Result<(), AllocError> {

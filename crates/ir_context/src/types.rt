@@ -3,10 +3,12 @@ ghost use Rattle.std.specs.Prelude.{◌≡◌, ◌↔◌, true, false, IsTrue, O
 ghost use Rattle.std.specs.Borrow.{sem};
 ghost use Rattle.ir_base.specs.declared.types.TypeHandle.{TypeHandle};
 ghost use Rattle.ir_types.specs.Interned.{IsKnown, key_at, body_at};
+ghost use Rattle.ir_context.specs.Known.{IsKnownIn};
 
-use crate::Context;
+use crate::notes::{BlockNotes, OperationData};
+use crate::{Context, TypeTable, TypedProgram};
 use ir_names::TypeHandle;
-use ir_types::{DialectTables, SavedKey};
+use ir_types::{DialectTables, SavedKey, Types};
 use std::alloc::{AllocError, Global};
 
 /// What is asked of a type.
@@ -15,8 +17,8 @@ pub trait TypeCalls {
     ghost handle: { Self → TypeHandle };
 
     /// Whether the handle leads to a type.
-    fn is_live<D: DialectTables>(self, ctx: &Context<D>) -> bool
-        ensures { IsTrue result ↔ IsKnown ctx.now.types (handle self) };
+    fn is_live<O, B, T: TypeTable>(self, ctx: &TypedProgram<O, B, T>) -> bool
+        ensures { IsTrue result ↔ IsKnownIn (T.type_count ctx.now.types) (handle self) };
 
     /// Its key.
     fn deref<D: DialectTables>(self, ctx: &Context<D>) -> &D::TypeKey
@@ -31,7 +33,7 @@ pub trait TypeCalls {
 impl TypeCalls for TypeHandle {
     ghost handle = { λ ty. ty };
 
-    fn is_live<D: DialectTables>(self, ctx: &Context<D>) -> bool {
+    fn is_live<O, B, T: TypeTable>(self, ctx: &TypedProgram<O, B, T>) -> bool {
         ctx.types.is_known(self)
     }
 
@@ -47,7 +49,7 @@ impl TypeCalls for TypeHandle {
     }
 }
 
-impl<D: DialectTables> Context<D> {
+impl<D: DialectTables> TypedProgram<OperationData<D>, BlockNotes<D>, Types<D>> {
     ghost use Rattle.ir_types.specs.declared.saved.SavedKey.{SavedKey};
     ghost use Rattle.ir_types.specs.Interned.{IsSaved, saved_at, KeepsTypes, KeepsSaved, HasDistinctTypes, HasDistinctSaved, next_handle, has_key, handle_of, with_type, next_saved_key, has_saved, saved_key_of, with_saved};
 

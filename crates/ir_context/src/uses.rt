@@ -15,9 +15,8 @@ ghost use Rattle.ir_program.specs.declared.handles.Use.{Use};
 ghost use Rattle.ir_program.specs.RowEdits.{ReplacesOperand, ReplacesSuccessor};
 ghost use Rattle.ir_program.specs.UseEdits.{ReplacesValue, ReplacesChosen, RetargetsBlock, RetargetsChosen};
 
-use crate::Context;
+use crate::{TypeTable, TypedProgram};
 use ir_program::{BasicBlock, Program, Ptr, Use, Value};
-use ir_types::DialectTables;
 use std::alloc::{AllocError, Global};
 
 /// The uses of a value: the operands that are the value.
@@ -26,23 +25,23 @@ pub trait UseCalls {
     ghost used: { Self → Value };
 
     /// How many operands are the value. An operation that takes it twice counts twice.
-    fn num_uses<D: DialectTables>(self, ctx: &Context<D>) -> usize
+    fn num_uses<O, B, T: TypeTable>(self, ctx: &TypedProgram<O, B, T>) -> usize
         requires { IsLiveValue ctx.now.program (used self) }
         ensures count { IsUseCount ctx.now.program (used self) result }
         ensures only { (n : ℕ) → IsUseCount ctx.now.program (used self) n → n ≡ result }
         ensures listed { result ≡ length (uses_listed ctx.now.program (used self)) };
 
     /// Whether some operation takes the value.
-    fn is_used<D: DialectTables>(self, ctx: &Context<D>) -> bool
+    fn is_used<O, B, T: TypeTable>(self, ctx: &TypedProgram<O, B, T>) -> bool
         requires { IsLiveValue ctx.now.program (used self) }
         ensures { IsTrue result ↔ IsUsed ctx.now.program (used self) };
 
     /// Puts another value in place of each operand that is the value. The parameter stays for callers that allocate; no
     /// memory is asked for.
-    fn replace_all_uses_with<D: DialectTables>(
+    fn replace_all_uses_with<O, B, T: TypeTable>(
         self,
         _alloc: Global,
-        ctx: &mut Context<D>,
+        ctx: &mut TypedProgram<O, B, T>,
         other: Value,
     ) -> Result<(), AllocError>
         requires value { IsLiveValue ctx.old.program (used self) }
@@ -56,10 +55,10 @@ pub trait UseCalls {
 
     /// Puts another value in place of the operand at one use of the value. The parameter stays for callers that allocate;
     /// no memory is asked for.
-    fn replace_use_with<D: DialectTables>(
+    fn replace_use_with<O, B, T: TypeTable>(
         self,
         _alloc: Global,
-        ctx: &mut Context<D>,
+        ctx: &mut TypedProgram<O, B, T>,
         place: Use<Value>,
         other: Value,
     ) -> Result<(), AllocError>
@@ -76,10 +75,10 @@ pub trait UseCalls {
     ///
     /// # Errors
     /// Without memory. Nothing is changed then.
-    fn replace_some_uses_with<D: DialectTables, F: Fn(&Use<Value>) -> bool>(
+    fn replace_some_uses_with<O, B, T: TypeTable, F: Fn(&Use<Value>) -> bool>(
         self,
         alloc: Global,
-        ctx: &mut Context<D>,
+        ctx: &mut TypedProgram<O, B, T>,
         predicate: F,
         other: Value,
     ) -> Result<(), AllocError>
@@ -95,10 +94,10 @@ pub trait UseCalls {
     ///
     /// # Errors
     /// Without memory.
-    fn chosen_uses<D: DialectTables, F: Fn(&Use<Value>) -> bool>(
+    fn chosen_uses<O, B, T: TypeTable, F: Fn(&Use<Value>) -> bool>(
         self,
         alloc: Global,
-        ctx: &Context<D>,
+        ctx: &TypedProgram<O, B, T>,
         predicate: F,
     ) -> Result<Vec<Use<Value>>, AllocError>
         requires live { IsLiveValue ctx.now.program (used self) }
@@ -108,10 +107,10 @@ pub trait UseCalls {
 
     /// Puts another value in place of the operand at each of these uses of the value. The parameter stays for callers that
     /// allocate; no memory is asked for.
-    fn replace_uses_with<D: DialectTables>(
+    fn replace_uses_with<O, B, T: TypeTable>(
         self,
         _alloc: Global,
-        ctx: &mut Context<D>,
+        ctx: &mut TypedProgram<O, B, T>,
         places: &[Use<Value>],
         other: Value,
     ) -> Result<(), AllocError>
@@ -126,28 +125,28 @@ pub trait UseCalls {
 impl UseCalls for Value {
     ghost used = { λ v. v };
 
-    fn num_uses<D: DialectTables>(self, ctx: &Context<D>) -> usize {
+    fn num_uses<O, B, T: TypeTable>(self, ctx: &TypedProgram<O, B, T>) -> usize {
         ctx.program.use_count(self)
     }
 
-    fn is_used<D: DialectTables>(self, ctx: &Context<D>) -> bool {
+    fn is_used<O, B, T: TypeTable>(self, ctx: &TypedProgram<O, B, T>) -> bool {
         ctx.program.is_used(self)
     }
 
-    fn replace_all_uses_with<D: DialectTables>(
+    fn replace_all_uses_with<O, B, T: TypeTable>(
         self,
         _alloc: Global,
-        ctx: &mut Context<D>,
+        ctx: &mut TypedProgram<O, B, T>,
         other: Value,
     ) -> Result<(), AllocError> {
         ctx.program.replace_all_uses(self, other);
         Ok(())
     }
 
-    fn replace_use_with<D: DialectTables>(
+    fn replace_use_with<O, B, T: TypeTable>(
         self,
         _alloc: Global,
-        ctx: &mut Context<D>,
+        ctx: &mut TypedProgram<O, B, T>,
         place: Use<Value>,
         other: Value,
     ) -> Result<(), AllocError> {
@@ -155,10 +154,10 @@ impl UseCalls for Value {
         Ok(())
     }
 
-    fn replace_some_uses_with<D: DialectTables, F: Fn(&Use<Value>) -> bool>(
+    fn replace_some_uses_with<O, B, T: TypeTable, F: Fn(&Use<Value>) -> bool>(
         self,
         alloc: Global,
-        ctx: &mut Context<D>,
+        ctx: &mut TypedProgram<O, B, T>,
         predicate: F,
         other: Value,
     ) -> Result<(), AllocError> {
@@ -167,19 +166,19 @@ impl UseCalls for Value {
         Ok(())
     }
 
-    fn chosen_uses<D: DialectTables, F: Fn(&Use<Value>) -> bool>(
+    fn chosen_uses<O, B, T: TypeTable, F: Fn(&Use<Value>) -> bool>(
         self,
         alloc: Global,
-        ctx: &Context<D>,
+        ctx: &TypedProgram<O, B, T>,
         predicate: F,
     ) -> Result<Vec<Use<Value>>, AllocError> {
         choose_uses(&ctx.program, alloc, self, &predicate)
     }
 
-    fn replace_uses_with<D: DialectTables>(
+    fn replace_uses_with<O, B, T: TypeTable>(
         self,
         _alloc: Global,
-        ctx: &mut Context<D>,
+        ctx: &mut TypedProgram<O, B, T>,
         places: &[Use<Value>],
         other: Value,
     ) -> Result<(), AllocError> {
@@ -215,23 +214,23 @@ pub trait PredecessorCalls {
     ghost target: { Self → Ptr BasicBlock };
 
     /// How many edges lead to the block. An operation with two of them counts twice.
-    fn num_preds<D: DialectTables>(self, ctx: &Context<D>) -> usize
+    fn num_preds<O, B, T: TypeTable>(self, ctx: &TypedProgram<O, B, T>) -> usize
         requires { IsSome (block_at ctx.now.program (target self)) }
         ensures count { IsPredecessorCount ctx.now.program (target self) result }
         ensures only { (n : ℕ) → IsPredecessorCount ctx.now.program (target self) n → n ≡ result }
         ensures listed { result ≡ length (edges_listed ctx.now.program (target self)) };
 
     /// Whether an edge leads to the block.
-    fn has_pred<D: DialectTables>(self, ctx: &Context<D>) -> bool
+    fn has_pred<O, B, T: TypeTable>(self, ctx: &TypedProgram<O, B, T>) -> bool
         requires { IsSome (block_at ctx.now.program (target self)) }
         ensures { IsTrue result ↔ HasPredecessor ctx.now.program (target self) };
 
     /// Makes each edge to the block lead to another. The parameter stays for callers that allocate; no memory is asked
     /// for.
-    fn retarget_all_preds_to<D: DialectTables>(
+    fn retarget_all_preds_to<O, B, T: TypeTable>(
         self,
         _alloc: Global,
-        ctx: &mut Context<D>,
+        ctx: &mut TypedProgram<O, B, T>,
         other: Ptr<BasicBlock>,
     ) -> Result<(), AllocError>
         requires block { IsSome (block_at ctx.old.program (target self)) }
@@ -244,10 +243,10 @@ pub trait PredecessorCalls {
         ensures types { ctx.new.types ≡ ctx.old.types };
 
     /// Makes one edge to the block lead to another. The parameter stays for callers that allocate; no memory is asked for.
-    fn retarget_pred_to<D: DialectTables>(
+    fn retarget_pred_to<O, B, T: TypeTable>(
         self,
         _alloc: Global,
-        ctx: &mut Context<D>,
+        ctx: &mut TypedProgram<O, B, T>,
         place: Use<Ptr<BasicBlock>>,
         other: Ptr<BasicBlock>,
     ) -> Result<(), AllocError>
@@ -264,10 +263,10 @@ pub trait PredecessorCalls {
     ///
     /// # Errors
     /// Without memory. Nothing is changed then.
-    fn retarget_some_preds_to<D: DialectTables, F: Fn(&Use<Ptr<BasicBlock>>) -> bool>(
+    fn retarget_some_preds_to<O, B, T: TypeTable, F: Fn(&Use<Ptr<BasicBlock>>) -> bool>(
         self,
         alloc: Global,
-        ctx: &mut Context<D>,
+        ctx: &mut TypedProgram<O, B, T>,
         predicate: F,
         other: Ptr<BasicBlock>,
     ) -> Result<(), AllocError>
@@ -284,10 +283,10 @@ pub trait PredecessorCalls {
     ///
     /// # Errors
     /// Without memory.
-    fn chosen_preds<D: DialectTables, F: Fn(&Use<Ptr<BasicBlock>>) -> bool>(
+    fn chosen_preds<O, B, T: TypeTable, F: Fn(&Use<Ptr<BasicBlock>>) -> bool>(
         self,
         alloc: Global,
-        ctx: &Context<D>,
+        ctx: &TypedProgram<O, B, T>,
         predicate: F,
     ) -> Result<Vec<Use<Ptr<BasicBlock>>>, AllocError>
         requires live { IsSome (block_at ctx.now.program (target self)) }
@@ -297,10 +296,10 @@ pub trait PredecessorCalls {
 
     /// Makes each of these edges to the block lead to another. The parameter stays for callers that allocate; no memory is
     /// asked for.
-    fn retarget_preds_to<D: DialectTables>(
+    fn retarget_preds_to<O, B, T: TypeTable>(
         self,
         _alloc: Global,
-        ctx: &mut Context<D>,
+        ctx: &mut TypedProgram<O, B, T>,
         places: &[Use<Ptr<BasicBlock>>],
         other: Ptr<BasicBlock>,
     ) -> Result<(), AllocError>
@@ -315,28 +314,28 @@ pub trait PredecessorCalls {
 impl PredecessorCalls for Ptr<BasicBlock> {
     ghost target = { λ p. p };
 
-    fn num_preds<D: DialectTables>(self, ctx: &Context<D>) -> usize {
+    fn num_preds<O, B, T: TypeTable>(self, ctx: &TypedProgram<O, B, T>) -> usize {
         ctx.program.predecessor_count(self)
     }
 
-    fn has_pred<D: DialectTables>(self, ctx: &Context<D>) -> bool {
+    fn has_pred<O, B, T: TypeTable>(self, ctx: &TypedProgram<O, B, T>) -> bool {
         ctx.program.has_predecessor(self)
     }
 
-    fn retarget_all_preds_to<D: DialectTables>(
+    fn retarget_all_preds_to<O, B, T: TypeTable>(
         self,
         _alloc: Global,
-        ctx: &mut Context<D>,
+        ctx: &mut TypedProgram<O, B, T>,
         other: Ptr<BasicBlock>,
     ) -> Result<(), AllocError> {
         ctx.program.retarget_all(self, other);
         Ok(())
     }
 
-    fn retarget_pred_to<D: DialectTables>(
+    fn retarget_pred_to<O, B, T: TypeTable>(
         self,
         _alloc: Global,
-        ctx: &mut Context<D>,
+        ctx: &mut TypedProgram<O, B, T>,
         place: Use<Ptr<BasicBlock>>,
         other: Ptr<BasicBlock>,
     ) -> Result<(), AllocError> {
@@ -344,10 +343,10 @@ impl PredecessorCalls for Ptr<BasicBlock> {
         Ok(())
     }
 
-    fn retarget_some_preds_to<D: DialectTables, F: Fn(&Use<Ptr<BasicBlock>>) -> bool>(
+    fn retarget_some_preds_to<O, B, T: TypeTable, F: Fn(&Use<Ptr<BasicBlock>>) -> bool>(
         self,
         alloc: Global,
-        ctx: &mut Context<D>,
+        ctx: &mut TypedProgram<O, B, T>,
         predicate: F,
         other: Ptr<BasicBlock>,
     ) -> Result<(), AllocError> {
@@ -356,19 +355,19 @@ impl PredecessorCalls for Ptr<BasicBlock> {
         Ok(())
     }
 
-    fn chosen_preds<D: DialectTables, F: Fn(&Use<Ptr<BasicBlock>>) -> bool>(
+    fn chosen_preds<O, B, T: TypeTable, F: Fn(&Use<Ptr<BasicBlock>>) -> bool>(
         self,
         alloc: Global,
-        ctx: &Context<D>,
+        ctx: &TypedProgram<O, B, T>,
         predicate: F,
     ) -> Result<Vec<Use<Ptr<BasicBlock>>>, AllocError> {
         choose_edges(&ctx.program, alloc, self, &predicate)
     }
 
-    fn retarget_preds_to<D: DialectTables>(
+    fn retarget_preds_to<O, B, T: TypeTable>(
         self,
         _alloc: Global,
-        ctx: &mut Context<D>,
+        ctx: &mut TypedProgram<O, B, T>,
         places: &[Use<Ptr<BasicBlock>>],
         other: Ptr<BasicBlock>,
     ) -> Result<(), AllocError> {

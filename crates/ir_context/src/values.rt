@@ -6,12 +6,11 @@ ghost use Rattle.ir_program.specs.declared.handles.BasicBlock.{BasicBlock};
 ghost use Rattle.ir_program.specs.declared.handles.Value.{Value};
 ghost use Rattle.ir_program.specs.declared.handles.DefiningEntity.TheVariants.{Op, Block};
 ghost use Rattle.ir_program.specs.Program.{type_at, IsLiveValue};
-ghost use Rattle.ir_types.specs.Interned.{IsKnown};
+ghost use Rattle.ir_context.specs.Known.{IsKnownIn};
 
-use crate::Context;
+use crate::{TypeTable, TypedProgram};
 use ir_names::TypeHandle;
 use ir_program::{BasicBlock, DefiningEntity, Operation, Ptr, Value};
-use ir_types::DialectTables;
 
 /// What is asked of a value.
 pub trait ValueCalls {
@@ -31,14 +30,14 @@ pub trait ValueCalls {
         ensures { MatchOption result ((op : Ptr Operation) × ((value self).definer ≡ Op op)) (λ block. (value self).definer ≡ Block block) };
 
     /// Whether the value stands at its definer.
-    fn is_live<D: DialectTables>(self, ctx: &Context<D>) -> bool
+    fn is_live<O, B, T: TypeTable>(self, ctx: &TypedProgram<O, B, T>) -> bool
         ensures { result ≡ is_some (type_at ctx.now.program (value self)) };
 
     /// Its type, which is one of the context's types.
-    fn get_type<D: DialectTables>(self, ctx: &Context<D>) -> TypeHandle
+    fn get_type<O, B, T: TypeTable>(self, ctx: &TypedProgram<O, B, T>) -> TypeHandle
         requires { IsLiveValue ctx.now.program (value self) }
         ensures exact { type_at ctx.now.program (value self) ≡ Some result }
-        ensures known { IsKnown ctx.now.types result };
+        ensures known { IsKnownIn (T.type_count ctx.now.types) result };
 }
 
 impl ValueCalls for Value {
@@ -62,11 +61,11 @@ impl ValueCalls for Value {
         }
     }
 
-    fn is_live<D: DialectTables>(self, ctx: &Context<D>) -> bool {
+    fn is_live<O, B, T: TypeTable>(self, ctx: &TypedProgram<O, B, T>) -> bool {
         ctx.program.has_value(self)
     }
 
-    fn get_type<D: DialectTables>(self, ctx: &Context<D>) -> TypeHandle {
+    fn get_type<O, B, T: TypeTable>(self, ctx: &TypedProgram<O, B, T>) -> TypeHandle {
         ctx.program.value_type(self)
     }
 }

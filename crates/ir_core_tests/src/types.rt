@@ -3,8 +3,8 @@ use crate::building::{finish, integer, named};
 use crate::markers::{Function, Jump, Terminator, TypedAttribute};
 use crate::tiny::{IntegerType, Tiny, TinyAttr, TinyOp, TinyType};
 use ir_core::{
-    AttributeDict, AttributeLookups, Context, CoreError, Identifier, IdentifierError,
-    InvalidIdentifier, Type, TypeCalls, TypeHandle, TypeInterfaceHandle, TypedHandle, Uniqued,
+    AttributeDict, AttributeLookups, Context, CoreError, Identifier, IdentifierError, Instantiate,
+    InvalidIdentifier, TypeCalls, TypeHandle, TypeInterfaceHandle, TypedHandle, Uniqued,
     attr_impls, attr_type, ident, op_impls, op_impls_static, type_impls,
 };
 use std::alloc::{AllocError, Global};

@@ -1,5 +1,5 @@
 -- What was erased stays erased, whatever edit is made, and whatever list of edits.
-use Rattle.std.proofs.Common.{◌≡◌, ◌≢◌, ◌⊎◌, inl, inr, ℕ, List, [], ◌∷◌, ◌++◌, Option, Some, None, MatchOption, Result, Ok, Err, remove, ⊎_elim, sym, ap, ◌∙◌, subst, slice_get}
+use Rattle.std.proofs.Common.{◌≡◌, ◌≢◌, ◌⊎◌, inl, inr, ℕ, List, [], ◌∷◌, ◌++◌, Option, Some, None, MatchOption, Result, Ok, Err, remove, ⊎_elim, sym, ap, ◌∙◌, subst, slice_get, length}
 use Rattle.ir_program.specs.Program.{Program, OperationView, BlockView}
 use Rattle.ir_program.specs.Edits.{KeepsErased, EditsOperation, EditsBlock, MovesRegion}
 use Rattle.ir_program.specs.Lists.{regions_in, StandsInOperation}
@@ -12,6 +12,7 @@ use Rattle.ir_program.proofs.made.AddSteps.{kept-erased, erased-then}
 use Rattle.ir_program.proofs.made.Alike.{key_or_not}
 use Rattle.ir_program.proofs.made.Frames.{same_handle}
 use Rattle.ir_context.specs.Views.{ContextView}
+use Rattle.ir_types.specs.Views.{TypesView}
 use Rattle.ir_context.specs.declared.errors.CoreError.{CoreError}
 use Rattle.ir_context.specs.declared.notes.OperationData.{OperationData}
 use Rattle.ir_context.specs.declared.notes.BlockNotes.{BlockNotes}
@@ -40,7 +41,7 @@ moved_erased c n q p from stands elsewhere within = ⊎_elim
     (λ ne. (elsewhere from stands.index stands.here ne).erased)
     (same_operation from p)
 
-module _ {O B K T S : Type 0} (c n : ContextView O B K T S) where
+module _ {O B T : Type 0} (c n : ContextView O B T) where
   -- an edit of what a name stands for
   named_kept : {X R : Type 0} (x : Option X) (r : Result R CoreError) (P : X → Type 0) → Named x c n r P → ((y : X) → P y → KeepsErased c.program n.program) → KeepsErased c.program n.program
   named_kept None r P h kept = h.1.program.erased
@@ -66,63 +67,63 @@ module _ {O B K T S : Type 0} (c n : ContextView O B K T S) where
   popped_block (Some v) b f F h = h.0.erased
 
   -- an edit of what is there
-  does_kept : (d : DirectEdit) (r : Result (Option Entity) CoreError) → does c d n r → KeepsErased c.program n.program
-  does_kept (direct.PushResult p ty) r h = answered_kept r _ _ _ _ h (λ m v d. d.4.erased)
-  does_kept (direct.PopResult p) r h = answered_kept r _ _ _ _ h (λ m v d. popped_operation _ _ _ _ d.1)
-  does_kept (direct.InsertResult p i ty) r h = answered_kept r _ _ _ _ h (λ m v d. d.4.erased)
-  does_kept (direct.RemoveResult p i) r h = answered_kept r _ _ _ _ h (λ m v d. d.1.erased)
-  does_kept (direct.PushArgument b ty) r h = answered_kept r _ _ _ _ h (λ m v d. d.4.erased)
-  does_kept (direct.PopArgument b) r h = answered_kept r _ _ _ _ h (λ m v d. popped_block _ _ _ _ d.1)
-  does_kept (direct.InsertArgument b i ty) r h = answered_kept r _ _ _ _ h (λ m v d. d.4.erased)
-  does_kept (direct.RemoveArgument b i) r h = answered_kept r _ _ _ _ h (λ m v d. d.1.erased)
-  does_kept (direct.PushOperand p v) r h = answered_kept r _ _ _ _ h (λ m v d. d.1.erased)
-  does_kept (direct.PopOperand p) r h = answered_kept r _ _ _ _ h (λ m v d. d.1.erased)
-  does_kept (direct.InsertOperand p i v) r h = answered_kept r _ _ _ _ h (λ m v d. d.1.erased)
-  does_kept (direct.RemoveOperand p i) r h = answered_kept r _ _ _ _ h (λ m v d. d.1.erased)
-  does_kept (direct.ReplaceOperand p i v) r h = answered_kept r _ _ _ _ h (λ m v d. d.1.erased)
-  does_kept (direct.PushSuccessor p b) r h = answered_kept r _ _ _ _ h (λ m v d. d.1.erased)
-  does_kept (direct.PopSuccessor p) r h = answered_kept r _ _ _ _ h (λ m v d. d.1.erased)
-  does_kept (direct.InsertSuccessor p i b) r h = answered_kept r _ _ _ _ h (λ m v d. d.1.erased)
-  does_kept (direct.RemoveSuccessor p i) r h = answered_kept r _ _ _ _ h (λ m v d. d.1.erased)
-  does_kept (direct.ReplaceSuccessor p i b) r h = answered_kept r _ _ _ _ h (λ m v d. d.1.erased)
-  does_kept (direct.AddRegion p) r h = answered_kept r _ _ _ _ h (λ m v d. d.2.erased)
-  does_kept (direct.EraseRegion p i) r h = answered_kept r _ _ _ _ h (λ m v d. (d.1 m.0 m.1).erased)
-  does_kept (direct.EraseOperation p) r h = answered_kept r _ _ _ _ h (λ m v d. d.1.erased)
-  does_kept (direct.EraseBlock b) r h = answered_kept r _ _ _ _ h (λ m v d. d.1.erased)
-  does_kept (direct.MoveRegionToOp q p) r h = answered_kept r _ _ _ _ h (λ m v d. d.3)
-  does_kept (direct.DropAllUses x) r h = answered_kept r _ _ _ _ h (λ m v d. d.1.erased)
-  does_kept (direct.InsertOperationAfter p m) r h = answered_kept r _ _ _ _ h (λ m v d. (d.1 m.2.0 m.2.1.index m.2.1.here).erased)
-  does_kept (direct.InsertOperationBefore p m) r h = answered_kept r _ _ _ _ h (λ m v d. (d.1 m.2.0 m.2.1.index m.2.1.here).erased)
-  does_kept (direct.InsertOperationAtFront p b) r h = answered_kept r _ _ _ _ h (λ m v d. d.1.erased)
-  does_kept (direct.InsertOperationAtBack p b) r h = answered_kept r _ _ _ _ h (λ m v d. d.1.erased)
-  does_kept (direct.UnlinkOperation p) r h = answered_kept r _ _ _ _ h (λ m v d. (d.1 m.0 m.1.index m.1.here).erased)
-  does_kept (direct.AppendOperations b to) r h = answered_kept r _ _ _ _ h (λ m v d. d.1.erased)
-  does_kept (direct.InsertBlockAfter b to) r h = answered_kept r _ _ _ _ h (λ m v d. (d.1 m.2.0 m.2.1.index m.2.1.here).erased)
-  does_kept (direct.InsertBlockBefore b to) r h = answered_kept r _ _ _ _ h (λ m v d. (d.1 m.2.0 m.2.1.index m.2.1.here).erased)
-  does_kept (direct.InsertBlockAtFront b q) r h = answered_kept r _ _ _ _ h (λ m v d. d.1.erased)
-  does_kept (direct.InsertBlockAtBack b q) r h = answered_kept r _ _ _ _ h (λ m v d. d.1.erased)
-  does_kept (direct.UnlinkBlock b) r h = answered_kept r _ _ _ _ h (λ m v d. (d.1 m.0 m.1.index m.1.here).erased)
-  does_kept (direct.AppendBlocks q from) r h = answered_kept r _ _ _ _ h (λ m v d. d.1.erased)
-  does_kept (direct.ReplaceAllUsesWith v w) r h = answered_kept r _ _ _ _ h (λ m v d. d.1.erased)
-  does_kept (direct.ReplaceUseWith v p i w) r h = answered_kept r _ _ _ _ h (λ m v d. d.1.erased)
-  does_kept (direct.RetargetAllPredsTo b to) r h = answered_kept r _ _ _ _ h (λ m v d. d.1.erased)
-  does_kept (direct.RetargetPredTo b p i to) r h = answered_kept r _ _ _ _ h (λ m v d. d.1.erased)
+  does_kept : (count : T → ℕ) (d : DirectEdit) (r : Result (Option Entity) CoreError) → does count c d n r → KeepsErased c.program n.program
+  does_kept count (direct.PushResult p ty) r h = answered_kept r _ _ _ _ h (λ m v d. d.4.erased)
+  does_kept count (direct.PopResult p) r h = answered_kept r _ _ _ _ h (λ m v d. popped_operation _ _ _ _ d.1)
+  does_kept count (direct.InsertResult p i ty) r h = answered_kept r _ _ _ _ h (λ m v d. d.4.erased)
+  does_kept count (direct.RemoveResult p i) r h = answered_kept r _ _ _ _ h (λ m v d. d.1.erased)
+  does_kept count (direct.PushArgument b ty) r h = answered_kept r _ _ _ _ h (λ m v d. d.4.erased)
+  does_kept count (direct.PopArgument b) r h = answered_kept r _ _ _ _ h (λ m v d. popped_block _ _ _ _ d.1)
+  does_kept count (direct.InsertArgument b i ty) r h = answered_kept r _ _ _ _ h (λ m v d. d.4.erased)
+  does_kept count (direct.RemoveArgument b i) r h = answered_kept r _ _ _ _ h (λ m v d. d.1.erased)
+  does_kept count (direct.PushOperand p v) r h = answered_kept r _ _ _ _ h (λ m v d. d.1.erased)
+  does_kept count (direct.PopOperand p) r h = answered_kept r _ _ _ _ h (λ m v d. d.1.erased)
+  does_kept count (direct.InsertOperand p i v) r h = answered_kept r _ _ _ _ h (λ m v d. d.1.erased)
+  does_kept count (direct.RemoveOperand p i) r h = answered_kept r _ _ _ _ h (λ m v d. d.1.erased)
+  does_kept count (direct.ReplaceOperand p i v) r h = answered_kept r _ _ _ _ h (λ m v d. d.1.erased)
+  does_kept count (direct.PushSuccessor p b) r h = answered_kept r _ _ _ _ h (λ m v d. d.1.erased)
+  does_kept count (direct.PopSuccessor p) r h = answered_kept r _ _ _ _ h (λ m v d. d.1.erased)
+  does_kept count (direct.InsertSuccessor p i b) r h = answered_kept r _ _ _ _ h (λ m v d. d.1.erased)
+  does_kept count (direct.RemoveSuccessor p i) r h = answered_kept r _ _ _ _ h (λ m v d. d.1.erased)
+  does_kept count (direct.ReplaceSuccessor p i b) r h = answered_kept r _ _ _ _ h (λ m v d. d.1.erased)
+  does_kept count (direct.AddRegion p) r h = answered_kept r _ _ _ _ h (λ m v d. d.2.erased)
+  does_kept count (direct.EraseRegion p i) r h = answered_kept r _ _ _ _ h (λ m v d. (d.1 m.0 m.1).erased)
+  does_kept count (direct.EraseOperation p) r h = answered_kept r _ _ _ _ h (λ m v d. d.1.erased)
+  does_kept count (direct.EraseBlock b) r h = answered_kept r _ _ _ _ h (λ m v d. d.1.erased)
+  does_kept count (direct.MoveRegionToOp q p) r h = answered_kept r _ _ _ _ h (λ m v d. d.3)
+  does_kept count (direct.DropAllUses x) r h = answered_kept r _ _ _ _ h (λ m v d. d.1.erased)
+  does_kept count (direct.InsertOperationAfter p m) r h = answered_kept r _ _ _ _ h (λ m v d. (d.1 m.2.0 m.2.1.index m.2.1.here).erased)
+  does_kept count (direct.InsertOperationBefore p m) r h = answered_kept r _ _ _ _ h (λ m v d. (d.1 m.2.0 m.2.1.index m.2.1.here).erased)
+  does_kept count (direct.InsertOperationAtFront p b) r h = answered_kept r _ _ _ _ h (λ m v d. d.1.erased)
+  does_kept count (direct.InsertOperationAtBack p b) r h = answered_kept r _ _ _ _ h (λ m v d. d.1.erased)
+  does_kept count (direct.UnlinkOperation p) r h = answered_kept r _ _ _ _ h (λ m v d. (d.1 m.0 m.1.index m.1.here).erased)
+  does_kept count (direct.AppendOperations b to) r h = answered_kept r _ _ _ _ h (λ m v d. d.1.erased)
+  does_kept count (direct.InsertBlockAfter b to) r h = answered_kept r _ _ _ _ h (λ m v d. (d.1 m.2.0 m.2.1.index m.2.1.here).erased)
+  does_kept count (direct.InsertBlockBefore b to) r h = answered_kept r _ _ _ _ h (λ m v d. (d.1 m.2.0 m.2.1.index m.2.1.here).erased)
+  does_kept count (direct.InsertBlockAtFront b q) r h = answered_kept r _ _ _ _ h (λ m v d. d.1.erased)
+  does_kept count (direct.InsertBlockAtBack b q) r h = answered_kept r _ _ _ _ h (λ m v d. d.1.erased)
+  does_kept count (direct.UnlinkBlock b) r h = answered_kept r _ _ _ _ h (λ m v d. (d.1 m.0 m.1.index m.1.here).erased)
+  does_kept count (direct.AppendBlocks q from) r h = answered_kept r _ _ _ _ h (λ m v d. d.1.erased)
+  does_kept count (direct.ReplaceAllUsesWith v w) r h = answered_kept r _ _ _ _ h (λ m v d. d.1.erased)
+  does_kept count (direct.ReplaceUseWith v p i w) r h = answered_kept r _ _ _ _ h (λ m v d. d.1.erased)
+  does_kept count (direct.RetargetAllPredsTo b to) r h = answered_kept r _ _ _ _ h (λ m v d. d.1.erased)
+  does_kept count (direct.RetargetPredTo b p i to) r h = answered_kept r _ _ _ _ h (λ m v d. d.1.erased)
 
 -- a dialect and its types
 module _ {D TypeKind AttrKind TypeBody Saved Location OpKind Attr TypeKey K T S : Type 0} (nowhere : Location) where
   -- any edit
-  step_kept : (c : ContextView (OperationData D TypeKind AttrKind TypeBody Saved Location OpKind Attr TypeKey) (BlockNotes D TypeKind AttrKind TypeBody Saved Location OpKind Attr TypeKey) K T S) (made : List (Option Entity)) (e : Edit OpKind)
-      (n : ContextView (OperationData D TypeKind AttrKind TypeBody Saved Location OpKind Attr TypeKey) (BlockNotes D TypeKind AttrKind TypeBody Saved Location OpKind Attr TypeKey) K T S) (r : Result (Option Entity) CoreError)
+  step_kept : (c : ContextView (OperationData D TypeKind AttrKind TypeBody Saved Location OpKind Attr TypeKey) (BlockNotes D TypeKind AttrKind TypeBody Saved Location OpKind Attr TypeKey) (TypesView K T S)) (made : List (Option Entity)) (e : Edit OpKind)
+      (n : ContextView (OperationData D TypeKind AttrKind TypeBody Saved Location OpKind Attr TypeKey) (BlockNotes D TypeKind AttrKind TypeBody Saved Location OpKind Attr TypeKey) (TypesView K T S)) (r : Result (Option Entity) CoreError)
       → step nowhere c made e n r → KeepsErased c.program n.program
   step_kept c made (edit.NewOperation kind result_types operands successors num_regions) n r h = making_kept c n r _ _ _ _ h (λ m v d. d.6.erased)
   step_kept c made (edit.NewBlock label argument_types) n r h = making_kept c n r _ _ _ _ h (λ m v d. d.4.erased)
   step_kept c made (edit.RetargetSomePredsTo block places other) n r h = named_kept c n (block_named made block) r _ h (λ x1 h1. named_kept c n (block_named made other) r _ h1 (λ x2 h2. answered_kept c n r _ _ _ _ h2 (λ m v d. d.3.erased)))
   step_kept c made (edit.ReplaceSomeUsesWith value places other) n r h = named_kept c n (value_named c.program made value) r _ h (λ x1 h1. named_kept c n (value_named c.program made other) r _ h1 (λ x2 h2. answered_kept c n r _ _ _ _ h2 (λ m v d. d.3.erased)))
-  step_kept c made e n r h = named_kept c n (resolved c.program made e) r _ h (λ d h1. does_kept c n d r h1)
+  step_kept c made e n r h = named_kept c n (resolved c.program made e) r _ h (λ d h1. does_kept c n (λ types. length types.keys) d r h1)
 
   -- a list of edits
-  pub runs_kept : (c : ContextView (OperationData D TypeKind AttrKind TypeBody Saved Location OpKind Attr TypeKey) (BlockNotes D TypeKind AttrKind TypeBody Saved Location OpKind Attr TypeKey) K T S) (made : List (Option Entity)) (es : List (Edit OpKind))
-      (n : ContextView (OperationData D TypeKind AttrKind TypeBody Saved Location OpKind Attr TypeKey) (BlockNotes D TypeKind AttrKind TypeBody Saved Location OpKind Attr TypeKey) K T S) (answer : Result (List (Option Entity)) (ℕ × CoreError))
+  pub runs_kept : (c : ContextView (OperationData D TypeKind AttrKind TypeBody Saved Location OpKind Attr TypeKey) (BlockNotes D TypeKind AttrKind TypeBody Saved Location OpKind Attr TypeKey) (TypesView K T S)) (made : List (Option Entity)) (es : List (Edit OpKind))
+      (n : ContextView (OperationData D TypeKind AttrKind TypeBody Saved Location OpKind Attr TypeKey) (BlockNotes D TypeKind AttrKind TypeBody Saved Location OpKind Attr TypeKey) (TypesView K T S)) (answer : Result (List (Option Entity)) (ℕ × CoreError))
       → Runs nowhere c made es n answer → KeepsErased c.program n.program
   runs_kept c made [] _ _ (ends _ _) = kept-erased c.program
   runs_kept c made (e ∷ es) n answer (goes_on _ mid _ _ _ _ m _ s rest) = erased-then c.program mid.program n.program (step_kept c made e mid (Ok m) s) (runs_kept mid (made ++ m ∷ []) es n answer rest)

@@ -2,9 +2,7 @@
 use Rattle.std.proofs.Common.{◌≡◌, ◌↔◌, ℕ, zero, suc, ◌<◌, Bool, true, List, [], ◌∷◌, Option, Some, IsSome, IsTrue, length, slice_get, refl, sym, ◌∙◌, subst, arith}
 use Rattle.std.proofs.lemmas.Option.{slice_get_within}
 use Rattle.ir_base.specs.declared.types.TypeHandle.{TypeHandle}
-use Rattle.ir_types.specs.Interned.{IsKnown}
-use Rattle.ir_types.specs.Views.{TypesView}
-use Rattle.ir_context.specs.KnownLists.{AreKnown}
+use Rattle.ir_context.specs.Known.{IsKnownIn, AreKnownIn}
 use Rattle.ir_program.specs.Program.{Program, block_at, IsLiveValue}
 use Rattle.ir_program.specs.declared.handles.Ptr.{Ptr}
 use Rattle.ir_program.specs.declared.handles.BasicBlock.{BasicBlock}
@@ -23,8 +21,8 @@ use Rattle.ir_context.specs.Views.{ContextView}
 use Rattle.ir_edits.specs.Same.{IsSame, IsPutBack}
 use Rattle.ir_program.specs.Made.{BuildsOperation}
 
-pub known_where : {K B S : Type 0} (types : TypesView K B S) (tys : List TypeHandle) (b : Bool) → (IsTrue b ↔ AreKnown types tys) → b ≡ true → (k : ℕ) (ty : TypeHandle) → slice_get tys k ≡ Some ty → IsKnown types ty
-known_where types tys b l e = l.0 e
+pub known_where : (count : ℕ) (tys : List TypeHandle) (b : Bool) → (IsTrue b ↔ AreKnownIn count tys) → b ≡ true → (k : ℕ) (ty : TypeHandle) → slice_get tys k ≡ Some ty → IsKnownIn count ty
+known_where count tys b l e = l.0 e
 
 module _ {O B : Type 0} (c : Program O B) (made : List (Option Entity)) where
   pub values_where : (names : List ValueAt) (b : Bool) → (IsTrue b ↔ NameEach (value_named c made) (IsLiveValue c) names) → b ≡ true
@@ -60,12 +58,12 @@ pub listed_stand : {X : Type 0} (made : List (Option Entity)) (places : List Pla
     → (k : ℕ) (u : Use X) → slice_get us k ≡ Some u → IsUseIn rows u × (u.def ≡ x)
 listed_stand made places rows x us listed k u e = let s = listed.sound k u e in (s.0, s.1)
 
-module _ {O B K T S : Type 0} where
+module _ {O B T : Type 0} where
   -- nothing has changed
-  pub same_still : (c : ContextView O B K T S) → IsSame c c
+  pub same_still : (c : ContextView O B T) → IsSame c c
   same_still c = record { program = record { operations = λ p. refl; blocks = λ p. refl; regions = λ p. refl; erased = kept-erased c.program; room = kept-room c.program; counter = refl }; values = λ v. refl; types = refl }
 
-  pub back_still : (c : ContextView O B K T S) → IsPutBack c c
+  pub back_still : (c : ContextView O B T) → IsPutBack c c
   back_still c = record { program = restored c.program c.program (same_still c).program; values = λ v. refl; types = refl }
 
 -- what is built of the same parts

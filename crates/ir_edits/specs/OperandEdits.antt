@@ -12,37 +12,37 @@ use Rattle.ir_context.specs.declared.errors.CoreError.{CoreError}
 use Rattle.ir_edits.specs.declared.edit.Entity.{Entity}
 use Rattle.ir_edits.specs.Answered.{Answered}
 
-module _ {O B K T S : Type 0} where
+module _ {O B T : Type 0} where
   -- one operand more, behind the others: of an operation that is there, by a value that stands at its definer
-  abbrev pub AnswersPushOperand : ContextView O B K T S → Ptr Operation → Value → ContextView O B K T S → Result (Option Entity) CoreError → Type 0
+  abbrev pub AnswersPushOperand : ContextView O B T → Ptr Operation → Value → ContextView O B T → Result (Option Entity) CoreError → Type 0
   AnswersPushOperand c p v n r =
       Answered (IsSome (operation_at c.program p) × IsLiveValue c.program v) (Unit {0}) ⊥
       (λ e. (e ≡ None) × PushesOperand c.program n.program p v × KeepsValuesAndTypes c n)
       (IsSame c n) r
 
   -- without the last operand, if there is one
-  abbrev pub AnswersPopOperand : ContextView O B K T S → Ptr Operation → ContextView O B K T S → Result (Option Entity) CoreError → Type 0
+  abbrev pub AnswersPopOperand : ContextView O B T → Ptr Operation → ContextView O B T → Result (Option Entity) CoreError → Type 0
   AnswersPopOperand c p n r =
       Answered (IsSome (operation_at c.program p)) ⊥ ⊥
       (λ e. (e ≡ None) × ChangesOperands c.program n.program p × IsPopped (operands_at c.program p) (operands_at n.program p) × KeepsValuesAndTypes c n)
       (IsSame c n) r
 
   -- one operand more, at an index
-  abbrev pub AnswersInsertOperand : ContextView O B K T S → Ptr Operation → ℕ → Value → ContextView O B K T S → Result (Option Entity) CoreError → Type 0
+  abbrev pub AnswersInsertOperand : ContextView O B T → Ptr Operation → ℕ → Value → ContextView O B T → Result (Option Entity) CoreError → Type 0
   AnswersInsertOperand c p i v n r =
       Answered (IsSome (operation_at c.program p) × (i ≤ length (operands_at c.program p)) × IsLiveValue c.program v) (Unit {0}) ⊥
       (λ e. (e ≡ None) × InsertsOperand c.program n.program p i v × KeepsValuesAndTypes c n)
       (IsSame c n) r
 
   -- without the operand at an index
-  abbrev pub AnswersRemoveOperand : ContextView O B K T S → Ptr Operation → ℕ → ContextView O B K T S → Result (Option Entity) CoreError → Type 0
+  abbrev pub AnswersRemoveOperand : ContextView O B T → Ptr Operation → ℕ → ContextView O B T → Result (Option Entity) CoreError → Type 0
   AnswersRemoveOperand c p i n r =
       Answered (i < length (operands_at c.program p)) ⊥ ⊥
       (λ e. (e ≡ None) × RemovesOperand c.program n.program p i × KeepsValuesAndTypes c n)
       (IsSame c n) r
 
   -- another value in place of the operand at an index
-  abbrev pub AnswersReplaceOperand : ContextView O B K T S → Ptr Operation → ℕ → Value → ContextView O B K T S → Result (Option Entity) CoreError → Type 0
+  abbrev pub AnswersReplaceOperand : ContextView O B T → Ptr Operation → ℕ → Value → ContextView O B T → Result (Option Entity) CoreError → Type 0
   AnswersReplaceOperand c p i v n r =
       Answered ((i < length (operands_at c.program p)) × IsLiveValue c.program v) ⊥ ⊥
       (λ e. (e ≡ None) × ReplacesOperand c.program n.program p i v × KeepsValuesAndTypes c n)

@@ -1,6 +1,7 @@
 -- What an edit does and answers, and what a list of edits comes to.
 use Rattle.std.specs.Prelude.{◌≡◌, ℕ, List, [], ◌∷◌, ◌++◌, Option, MatchOption, Result, Ok, Err, Vec, length}
 use Rattle.ir_context.specs.Views.{ContextView}
+use Rattle.ir_types.specs.Views.{TypesView}
 use Rattle.ir_context.specs.declared.errors.CoreError.{CoreError}
 use Rattle.ir_context.specs.declared.errors.CoreError.TheVariants.{EditNotAllowed}
 use Rattle.ir_context.specs.declared.notes.OperationData.{OperationData}
@@ -24,7 +25,7 @@ use Rattle.ir_edits.specs.BlockListEdits.{AnswersInsertBlockAfter, AnswersInsert
 use Rattle.ir_edits.specs.UseEdits.{AnswersReplaceAllUsesWith, AnswersReplaceUseWith, ReplacesSomeUses, AnswersRetargetAllPredsTo, AnswersRetargetPredTo, RetargetsSome}
 
 -- what is said of the entity that is named; where the name stands for nothing, the edit is refused and all is the same
-abbrev pub Named : {X O B K T S R : Type 0} → Option X → ContextView O B K T S → ContextView O B K T S → Result R CoreError → (X → Type 0) → Type 0
+abbrev pub Named : {X O B T R : Type 0} → Option X → ContextView O B T → ContextView O B T → Result R CoreError → (X → Type 0) → Type 0
 Named x c n r P = MatchOption x ((r ≡ Err EditNotAllowed) × IsSame c n) P
 
 -- the answer of a list of edits, with the list of what they made
@@ -32,17 +33,18 @@ abbrev pub listed : {Z E : Type 0} → Result (Vec (Option Entity) Z) E → Resu
 listed (Ok made) = Ok made.items
 listed (Err e) = Err e
 
-module _ {O B K T S : Type 0} where
+-- `count` says how many types a table has
+module _ {O B T : Type 0} (count : T → ℕ) where
   -- from the context c to n an edit of what is there answers r
-  abbrev pub does : ContextView O B K T S → DirectEdit → ContextView O B K T S → Result (Option Entity) CoreError → Type 0
-  does c (direct.PushResult p ty) n r = AnswersPushResult c p ty n r
-  does c (direct.PopResult p) n r = AnswersPopResult c p n r
-  does c (direct.InsertResult p i ty) n r = AnswersInsertResult c p i ty n r
-  does c (direct.RemoveResult p i) n r = AnswersRemoveResult c p i n r
-  does c (direct.PushArgument b ty) n r = AnswersPushArgument c b ty n r
-  does c (direct.PopArgument b) n r = AnswersPopArgument c b n r
-  does c (direct.InsertArgument b i ty) n r = AnswersInsertArgument c b i ty n r
-  does c (direct.RemoveArgument b i) n r = AnswersRemoveArgument c b i n r
+  abbrev pub does : ContextView O B T → DirectEdit → ContextView O B T → Result (Option Entity) CoreError → Type 0
+  does c (direct.PushResult p ty) n r = AnswersPushResult count c p ty n r
+  does c (direct.PopResult p) n r = AnswersPopResult count c p n r
+  does c (direct.InsertResult p i ty) n r = AnswersInsertResult count c p i ty n r
+  does c (direct.RemoveResult p i) n r = AnswersRemoveResult count c p i n r
+  does c (direct.PushArgument b ty) n r = AnswersPushArgument count c b ty n r
+  does c (direct.PopArgument b) n r = AnswersPopArgument count c b n r
+  does c (direct.InsertArgument b i ty) n r = AnswersInsertArgument count c b i ty n r
+  does c (direct.RemoveArgument b i) n r = AnswersRemoveArgument count c b i n r
   does c (direct.PushOperand p v) n r = AnswersPushOperand c p v n r
   does c (direct.PopOperand p) n r = AnswersPopOperand c p n r
   does c (direct.InsertOperand p i v) n r = AnswersInsertOperand c p i v n r
@@ -80,21 +82,21 @@ module _ {O B K T S : Type 0} where
 module _ {D TypeKind AttrKind TypeBody Saved Location OpKind Attr TypeKey K T S : Type 0} where
   -- from the context c to n an edit answers r, where `made` is what the edits before it made and `nowhere` is the location of what comes from no source: what its names stand for is found first, and then it is an edit of what is there
   abbrev pub step : Location
-      → ContextView (OperationData D TypeKind AttrKind TypeBody Saved Location OpKind Attr TypeKey) (BlockNotes D TypeKind AttrKind TypeBody Saved Location OpKind Attr TypeKey) K T S
+      → ContextView (OperationData D TypeKind AttrKind TypeBody Saved Location OpKind Attr TypeKey) (BlockNotes D TypeKind AttrKind TypeBody Saved Location OpKind Attr TypeKey) (TypesView K T S)
       → List (Option Entity) → Edit OpKind
-      → ContextView (OperationData D TypeKind AttrKind TypeBody Saved Location OpKind Attr TypeKey) (BlockNotes D TypeKind AttrKind TypeBody Saved Location OpKind Attr TypeKey) K T S
+      → ContextView (OperationData D TypeKind AttrKind TypeBody Saved Location OpKind Attr TypeKey) (BlockNotes D TypeKind AttrKind TypeBody Saved Location OpKind Attr TypeKey) (TypesView K T S)
       → Result (Option Entity) CoreError → Type 0
   step nowhere c made (edit.NewOperation kind result_types operands successors num_regions) n r = BuildsNewOperation nowhere c made kind result_types.items operands.items successors.items num_regions n r
   step nowhere c made (edit.NewBlock label argument_types) n r = BuildsNewBlock nowhere c label argument_types.items n r
   step nowhere c made (edit.RetargetSomePredsTo block places other) n r = Named (block_named made block) c n r (λ b. Named (block_named made other) c n r (λ to. RetargetsSome c b made places.items to n r))
   step nowhere c made (edit.ReplaceSomeUsesWith value places other) n r = Named (value_named c.program made value) c n r (λ v. Named (value_named c.program made other) c n r (λ w. ReplacesSomeUses c v made places.items w n r))
-  step nowhere c made e n r = Named (resolved c.program made e) c n r (λ d. does c d n r)
+  step nowhere c made e n r = Named (resolved c.program made e) c n r (λ d. does (λ types. length types.keys) c d n r)
 
   -- from the context c to n a list of edits answers so, where `made` is what the edits before it made: each edit is made in turn, up to the first that is refused, of which the number and the refusal are answered
   pub data Runs (nowhere : Location) :
-      ContextView (OperationData D TypeKind AttrKind TypeBody Saved Location OpKind Attr TypeKey) (BlockNotes D TypeKind AttrKind TypeBody Saved Location OpKind Attr TypeKey) K T S
+      ContextView (OperationData D TypeKind AttrKind TypeBody Saved Location OpKind Attr TypeKey) (BlockNotes D TypeKind AttrKind TypeBody Saved Location OpKind Attr TypeKey) (TypesView K T S)
       → List (Option Entity) → List (Edit OpKind)
-      → ContextView (OperationData D TypeKind AttrKind TypeBody Saved Location OpKind Attr TypeKey) (BlockNotes D TypeKind AttrKind TypeBody Saved Location OpKind Attr TypeKey) K T S
+      → ContextView (OperationData D TypeKind AttrKind TypeBody Saved Location OpKind Attr TypeKey) (BlockNotes D TypeKind AttrKind TypeBody Saved Location OpKind Attr TypeKey) (TypesView K T S)
       → Result (List (Option Entity)) (ℕ × CoreError) → Type 0 where
     ends : (c : _) (made : List (Option Entity)) → Runs nowhere c made [] c (Ok made)
     goes_on : (c mid n : _) (made : List (Option Entity)) (e : Edit OpKind) (es : List (Edit OpKind)) (m : Option Entity) (answer : _) → step nowhere c made e mid (Ok m) → Runs nowhere mid (made ++ m ∷ []) es n answer → Runs nowhere c made (e ∷ es) n answer

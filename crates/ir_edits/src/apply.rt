@@ -7,7 +7,7 @@ use crate::{
     Edit, Entity, arguments, block_lists, holders, listed_uses, making, naming, operands,
     operation_lists, results, successors, uses,
 };
-use ir_context::{Context, CoreError};
+use ir_context::{Context, CoreError, TypeTable, TypedProgram};
 use ir_types::DialectTables;
 
 /// Makes an edit. What the edits before it made is in `made`.
@@ -72,11 +72,11 @@ pub fn apply<D: DialectTables>(
 /// # Errors
 /// `EditNotAllowed` where the edit may not be made, `Memory` and `CounterFull` as the call that it stands for. Nothing is
 /// changed then.
-fn apply_direct<D: DialectTables>(
-    ctx: &mut Context<D>,
+fn apply_direct<O: Drop, B: Drop, T: TypeTable>(
+    ctx: &mut TypedProgram<O, B, T>,
     edit: DirectEdit,
 ) -> Result<Option<Entity>, CoreError>
-    ensures { does ctx.old edit ctx.new result }
+    ensures { does T.type_count ctx.old edit ctx.new result }
 {
     match edit {
         DirectEdit::PushResult(op, ty) => results::push_result(ctx, op, ty),

@@ -6,18 +6,19 @@ ghost use Rattle.ir_program.specs.declared.handles.Value.{Value};
 ghost use Rattle.ir_edits.specs.ArgumentEdits.{AnswersPushArgument, AnswersPopArgument, AnswersInsertArgument, AnswersRemoveArgument};
 
 use crate::Entity;
-use ir_context::{ArgumentCalls, BlockCalls, Context, CoreError, TypeCalls, UseCalls};
+use ir_context::{
+    ArgumentCalls, BlockCalls, CoreError, TypeCalls, TypeTable, TypedProgram, UseCalls,
+};
 use ir_names::TypeHandle;
 use ir_program::{BasicBlock, Ptr};
-use ir_types::DialectTables;
 
 /// Gives a block one argument more, behind the others.
-pub fn push_argument<D: DialectTables>(
-    ctx: &mut Context<D>,
+pub fn push_argument<O, B, T: TypeTable>(
+    ctx: &mut TypedProgram<O, B, T>,
     block: Ptr<BasicBlock>,
     ty: TypeHandle,
 ) -> Result<Option<Entity>, CoreError>
-    ensures { AnswersPushArgument ctx.old block ty ctx.new result }
+    ensures { AnswersPushArgument T.type_count ctx.old block ty ctx.new result }
 {
     if !block.is_live(ctx) || !ty.is_live(ctx) {
         return Err(CoreError::EditNotAllowed);
@@ -27,11 +28,11 @@ pub fn push_argument<D: DialectTables>(
 }
 
 /// Takes away the last argument of a block, if there is one.
-pub fn pop_argument<D: DialectTables>(
-    ctx: &mut Context<D>,
+pub fn pop_argument<O, B, T: TypeTable>(
+    ctx: &mut TypedProgram<O, B, T>,
     block: Ptr<BasicBlock>,
 ) -> Result<Option<Entity>, CoreError>
-    ensures { AnswersPopArgument ctx.old block ctx.new result }
+    ensures { AnswersPopArgument T.type_count ctx.old block ctx.new result }
 {
     if !block.is_live(ctx) || has_used_last_argument(ctx, block) {
         return Err(CoreError::EditNotAllowed);
@@ -41,13 +42,13 @@ pub fn pop_argument<D: DialectTables>(
 }
 
 /// Gives a block one argument more, at an index.
-pub fn insert_argument<D: DialectTables>(
-    ctx: &mut Context<D>,
+pub fn insert_argument<O, B, T: TypeTable>(
+    ctx: &mut TypedProgram<O, B, T>,
     block: Ptr<BasicBlock>,
     index: usize,
     ty: TypeHandle,
 ) -> Result<Option<Entity>, CoreError>
-    ensures { AnswersInsertArgument ctx.old block index ty ctx.new result }
+    ensures { AnswersInsertArgument T.type_count ctx.old block index ty ctx.new result }
 {
     if !block.is_live(ctx) || index > block.get_num_arguments(ctx) || !ty.is_live(ctx) {
         return Err(CoreError::EditNotAllowed);
@@ -57,12 +58,12 @@ pub fn insert_argument<D: DialectTables>(
 }
 
 /// Takes away the argument at an index.
-pub fn remove_argument<D: DialectTables>(
-    ctx: &mut Context<D>,
+pub fn remove_argument<O, B, T: TypeTable>(
+    ctx: &mut TypedProgram<O, B, T>,
     block: Ptr<BasicBlock>,
     index: usize,
 ) -> Result<Option<Entity>, CoreError>
-    ensures { AnswersRemoveArgument ctx.old block index ctx.new result }
+    ensures { AnswersRemoveArgument T.type_count ctx.old block index ctx.new result }
 {
     if !block.is_live(ctx)
         || index >= block.get_num_arguments(ctx)
@@ -75,8 +76,8 @@ pub fn remove_argument<D: DialectTables>(
 }
 
 /// Whether some operation takes the argument at an index.
-fn has_used_argument<D: DialectTables>(
-    ctx: &Context<D>,
+fn has_used_argument<O, B, T: TypeTable>(
+    ctx: &TypedProgram<O, B, T>,
     block: Ptr<BasicBlock>,
     index: usize,
 ) -> bool
@@ -88,7 +89,10 @@ fn has_used_argument<D: DialectTables>(
 }
 
 /// Whether some operation takes the last argument, if there is one.
-fn has_used_last_argument<D: DialectTables>(ctx: &Context<D>, block: Ptr<BasicBlock>) -> bool
+fn has_used_last_argument<O, B, T: TypeTable>(
+    ctx: &TypedProgram<O, B, T>,
+    block: Ptr<BasicBlock>,
+) -> bool
     requires { IsSome (block_at ctx.now.program block) }
     ensures { IsTrue result ↔ ((v : Value) × (value_in (arguments_at ctx.now.program block) (argument_count ctx.now.program block - 1) ≡ Some v) × IsUsed ctx.now.program v) }
 {

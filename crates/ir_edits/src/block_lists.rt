@@ -5,13 +5,14 @@ ghost use Rattle.ir_program.specs.Lists.{IsUnlinkedBlock};
 ghost use Rattle.ir_edits.specs.BlockListEdits.{AnswersInsertBlockAfter, AnswersInsertBlockBefore, AnswersInsertBlockAtFront, AnswersInsertBlockAtBack, AnswersUnlinkBlock, AnswersAppendBlocks};
 
 use crate::Entity;
-use ir_context::{BlockCalls, BlockLists, ContainsBlocks, Context, CoreError, RegionCalls};
+use ir_context::{
+    BlockCalls, BlockLists, ContainsBlocks, CoreError, RegionCalls, TypeTable, TypedProgram,
+};
 use ir_program::{BasicBlock, IRNode, Ptr, Region};
-use ir_types::DialectTables;
 
 /// Puts a block right after another.
-pub fn insert_block_after<D: DialectTables>(
-    ctx: &mut Context<D>,
+pub fn insert_block_after<O, B, T: TypeTable>(
+    ctx: &mut TypedProgram<O, B, T>,
     block: Ptr<BasicBlock>,
     mark: Ptr<BasicBlock>,
 ) -> Result<Option<Entity>, CoreError>
@@ -28,8 +29,8 @@ pub fn insert_block_after<D: DialectTables>(
 }
 
 /// Puts a block right before another.
-pub fn insert_block_before<D: DialectTables>(
-    ctx: &mut Context<D>,
+pub fn insert_block_before<O, B, T: TypeTable>(
+    ctx: &mut TypedProgram<O, B, T>,
     block: Ptr<BasicBlock>,
     mark: Ptr<BasicBlock>,
 ) -> Result<Option<Entity>, CoreError>
@@ -46,8 +47,8 @@ pub fn insert_block_before<D: DialectTables>(
 }
 
 /// Puts a block first in a region.
-pub fn insert_block_at_front<D: DialectTables>(
-    ctx: &mut Context<D>,
+pub fn insert_block_at_front<O, B, T: TypeTable>(
+    ctx: &mut TypedProgram<O, B, T>,
     block: Ptr<BasicBlock>,
     region: Ptr<Region>,
 ) -> Result<Option<Entity>, CoreError>
@@ -64,8 +65,8 @@ pub fn insert_block_at_front<D: DialectTables>(
 }
 
 /// Puts a block last in a region.
-pub fn insert_block_at_back<D: DialectTables>(
-    ctx: &mut Context<D>,
+pub fn insert_block_at_back<O, B, T: TypeTable>(
+    ctx: &mut TypedProgram<O, B, T>,
     block: Ptr<BasicBlock>,
     region: Ptr<Region>,
 ) -> Result<Option<Entity>, CoreError>
@@ -82,8 +83,8 @@ pub fn insert_block_at_back<D: DialectTables>(
 }
 
 /// Takes a block out of its region.
-pub fn unlink_block<D: DialectTables>(
-    ctx: &mut Context<D>,
+pub fn unlink_block<O, B, T: TypeTable>(
+    ctx: &mut TypedProgram<O, B, T>,
     block: Ptr<BasicBlock>,
 ) -> Result<Option<Entity>, CoreError>
     ensures { AnswersUnlinkBlock ctx.old block ctx.new result }
@@ -97,8 +98,8 @@ pub fn unlink_block<D: DialectTables>(
 
 /// Moves the blocks of one region behind those of another.
 #[tactic(auto, using(crate::proofs::Asked::region_elsewhere))]
-pub fn append_blocks<D: DialectTables>(
-    ctx: &mut Context<D>,
+pub fn append_blocks<O, B, T: TypeTable>(
+    ctx: &mut TypedProgram<O, B, T>,
     donee: Ptr<Region>,
     donor: Ptr<Region>,
 ) -> Result<Option<Entity>, CoreError>
@@ -116,7 +117,7 @@ pub fn append_blocks<D: DialectTables>(
 }
 
 /// Whether the block is there and stands in no region, so that it may be put into one.
-fn can_stand<D: DialectTables>(ctx: &Context<D>, block: Ptr<BasicBlock>) -> bool
+fn can_stand<O, B, T: TypeTable>(ctx: &TypedProgram<O, B, T>, block: Ptr<BasicBlock>) -> bool
     ensures { IsTrue result ↔ (IsSome (block_at ctx.now.program block) × IsUnlinkedBlock ctx.now.program block) }
 {
     block.is_live(ctx) && !block.is_linked(ctx)

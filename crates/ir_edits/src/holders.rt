@@ -4,13 +4,15 @@ ghost use Rattle.ir_program.specs.Lists.{IsLiveNode};
 ghost use Rattle.ir_edits.specs.HolderEdits.{AnswersAddRegion, AnswersEraseRegion, AnswersEraseOperation, AnswersEraseBlock, AnswersDropAllUses, AnswersMoveRegionToOp};
 
 use crate::Entity;
-use ir_context::{BlockCalls, Context, CoreError, OperationCalls, RegionCalls};
+use ir_context::{
+    BlockCalls, BlockErasing, CoreError, OperationCalls, OperationErasing, RegionCalls, TypeTable,
+    TypedProgram,
+};
 use ir_program::{BasicBlock, IRNode, Operation, Ptr, Region};
-use ir_types::DialectTables;
 
 /// Gives an operation one region more, with no block.
-pub fn add_region<D: DialectTables>(
-    ctx: &mut Context<D>,
+pub fn add_region<O: Drop, B: Drop, T: TypeTable>(
+    ctx: &mut TypedProgram<O, B, T>,
     op: Ptr<Operation>,
 ) -> Result<Option<Entity>, CoreError>
     ensures { AnswersAddRegion ctx.old op ctx.new result }
@@ -23,8 +25,8 @@ pub fn add_region<D: DialectTables>(
 }
 
 /// Erases the region at an index of an operation with all that stands in it.
-pub fn erase_region<D: DialectTables>(
-    ctx: &mut Context<D>,
+pub fn erase_region<O: Drop, B: Drop, T: TypeTable>(
+    ctx: &mut TypedProgram<O, B, T>,
     op: Ptr<Operation>,
     index: usize,
 ) -> Result<Option<Entity>, CoreError>
@@ -42,8 +44,8 @@ pub fn erase_region<D: DialectTables>(
 }
 
 /// Erases an operation with all that stands in it.
-pub fn erase_operation<D: DialectTables>(
-    ctx: &mut Context<D>,
+pub fn erase_operation<O: Drop, B: Drop, T: TypeTable>(
+    ctx: &mut TypedProgram<O, B, T>,
     op: Ptr<Operation>,
 ) -> Result<Option<Entity>, CoreError>
     ensures { AnswersEraseOperation ctx.old op ctx.new result }
@@ -51,13 +53,13 @@ pub fn erase_operation<D: DialectTables>(
     if !op.is_live(ctx) || !ctx.can_erase(IRNode::Operation(op)) {
         return Err(CoreError::EditNotAllowed);
     }
-    ctx.erase_operation(op);
+    op.erase(ctx);
     Ok(None)
 }
 
 /// Erases a block with all that stands in it.
-pub fn erase_block<D: DialectTables>(
-    ctx: &mut Context<D>,
+pub fn erase_block<O: Drop, B: Drop, T: TypeTable>(
+    ctx: &mut TypedProgram<O, B, T>,
     block: Ptr<BasicBlock>,
 ) -> Result<Option<Entity>, CoreError>
     ensures { AnswersEraseBlock ctx.old block ctx.new result }
@@ -65,12 +67,12 @@ pub fn erase_block<D: DialectTables>(
     if !block.is_live(ctx) || !ctx.can_erase(IRNode::BasicBlock(block)) {
         return Err(CoreError::EditNotAllowed);
     }
-    ctx.erase_block(block);
+    block.erase(ctx);
     Ok(None)
 }
 
 /// Whether the handle leads to an operation, a region or a block.
-fn is_live_node<D: DialectTables>(ctx: &Context<D>, node: IRNode) -> bool
+fn is_live_node<O, B, T: TypeTable>(ctx: &TypedProgram<O, B, T>, node: IRNode) -> bool
     ensures { IsTrue result ↔ IsLiveNode ctx.now.program node }
 {
     match node {
@@ -81,8 +83,8 @@ fn is_live_node<D: DialectTables>(ctx: &Context<D>, node: IRNode) -> bool
 }
 
 /// Takes away the operands and successors of all operations inside an entity, itself counted.
-pub fn drop_all_uses<D: DialectTables>(
-    ctx: &mut Context<D>,
+pub fn drop_all_uses<O, B, T: TypeTable>(
+    ctx: &mut TypedProgram<O, B, T>,
     node: IRNode,
 ) -> Result<Option<Entity>, CoreError>
     ensures { AnswersDropAllUses ctx.old node ctx.new result }
@@ -95,8 +97,8 @@ pub fn drop_all_uses<D: DialectTables>(
 }
 
 /// Moves a region behind the regions of an operation.
-pub fn move_region_to_op<D: DialectTables>(
-    ctx: &mut Context<D>,
+pub fn move_region_to_op<O, B, T: TypeTable>(
+    ctx: &mut TypedProgram<O, B, T>,
     region: Ptr<Region>,
     op: Ptr<Operation>,
 ) -> Result<Option<Entity>, CoreError>

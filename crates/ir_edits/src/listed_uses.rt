@@ -9,9 +9,10 @@ ghost use Rattle.ir_edits.specs.UseEdits.{AreListedUses, ReplacesSomeUses, Retar
 
 use crate::uses::{is_operand, is_successor};
 use crate::{Entity, PlaceAt, naming};
-use ir_context::{BlockCalls, Context, CoreError, PredecessorCalls, UseCalls, ValueCalls};
+use ir_context::{
+    BlockCalls, CoreError, PredecessorCalls, TypeTable, TypedProgram, UseCalls, ValueCalls,
+};
 use ir_program::{BasicBlock, Operation, Ptr, Use, Value};
-use ir_types::DialectTables;
 use std::alloc::{AllocError, Global};
 
 /// Puts what was found, if anything was, behind the others.
@@ -37,8 +38,8 @@ fn are_named(made: &[Option<Entity>], places: &[PlaceAt]) -> bool
 }
 
 /// The place as a use, where the value is there.
-fn operand_use<D: DialectTables>(
-    ctx: &Context<D>,
+fn operand_use<O, B, T: TypeTable>(
+    ctx: &TypedProgram<O, B, T>,
     made: &[Option<Entity>],
     place: PlaceAt,
     value: Value,
@@ -61,9 +62,9 @@ fn operand_use<D: DialectTables>(
 ///
 /// # Errors
 /// Where there is no memory.
-fn listed_operands<D: DialectTables>(
+fn listed_operands<O, B, T: TypeTable>(
     alloc: Global,
-    ctx: &Context<D>,
+    ctx: &TypedProgram<O, B, T>,
     made: &[Option<Entity>],
     places: &[PlaceAt],
     value: Value,
@@ -78,8 +79,8 @@ fn listed_operands<D: DialectTables>(
 }
 
 /// Puts another value in place of the value, at those of its uses that stand in the list.
-pub fn replace_some_uses<D: DialectTables>(
-    ctx: &mut Context<D>,
+pub fn replace_some_uses<O, B, T: TypeTable>(
+    ctx: &mut TypedProgram<O, B, T>,
     made: &[Option<Entity>],
     value: Value,
     places: &[PlaceAt],
@@ -98,8 +99,8 @@ pub fn replace_some_uses<D: DialectTables>(
 }
 
 /// The place as a use, where the block is there.
-fn successor_use<D: DialectTables>(
-    ctx: &Context<D>,
+fn successor_use<O, B, T: TypeTable>(
+    ctx: &TypedProgram<O, B, T>,
     made: &[Option<Entity>],
     place: PlaceAt,
     block: Ptr<BasicBlock>,
@@ -122,9 +123,9 @@ fn successor_use<D: DialectTables>(
 ///
 /// # Errors
 /// Where there is no memory.
-fn listed_successors<D: DialectTables>(
+fn listed_successors<O, B, T: TypeTable>(
     alloc: Global,
-    ctx: &Context<D>,
+    ctx: &TypedProgram<O, B, T>,
     made: &[Option<Entity>],
     places: &[PlaceAt],
     block: Ptr<BasicBlock>,
@@ -139,8 +140,8 @@ fn listed_successors<D: DialectTables>(
 }
 
 /// Makes the edges to a block lead to another, those that stand in the list.
-pub fn retarget_some<D: DialectTables>(
-    ctx: &mut Context<D>,
+pub fn retarget_some<O, B, T: TypeTable>(
+    ctx: &mut TypedProgram<O, B, T>,
     made: &[Option<Entity>],
     block: Ptr<BasicBlock>,
     places: &[PlaceAt],

@@ -5,20 +5,19 @@ ghost use Rattle.ir_program.specs.declared.handles.Ptr.{Ptr};
 ghost use Rattle.ir_program.specs.declared.handles.Operation.{Operation};
 ghost use Rattle.ir_program.specs.declared.handles.BasicBlock.{BasicBlock};
 ghost use Rattle.ir_program.specs.declared.handles.Value.{Value};
-ghost use Rattle.ir_context.specs.KnownLists.{AreKnown};
+ghost use Rattle.ir_context.specs.Known.{AreKnownIn};
 ghost use Rattle.ir_edits.specs.Naming.{block_named, value_named, NameEach, AreNamed};
 
 use crate::naming::{block, value};
 use crate::{At, Entity, ValueAt};
-use ir_context::{BlockCalls, Context, TypeCalls, ValueCalls};
+use ir_context::{BlockCalls, TypeCalls, TypeTable, TypedProgram, ValueCalls};
 use ir_names::TypeHandle;
 use ir_program::{BasicBlock, Ptr, Value};
-use ir_types::DialectTables;
 use std::alloc::{AllocError, Global};
 
 /// Whether each of the handles leads to a type.
-pub fn are_known<D: DialectTables>(ctx: &Context<D>, types: &[TypeHandle]) -> bool
-    ensures { IsTrue result ↔ AreKnown ctx.now.types types.now }
+pub fn are_known<O, B, T: TypeTable>(ctx: &TypedProgram<O, B, T>, types: &[TypeHandle]) -> bool
+    ensures { IsTrue result ↔ AreKnownIn (T.type_count ctx.now.types) types.now }
 {
     for ty in types {
         if !ty.is_live(ctx) {
@@ -29,8 +28,8 @@ pub fn are_known<D: DialectTables>(ctx: &Context<D>, types: &[TypeHandle]) -> bo
 }
 
 /// Whether each of the names stands for a value that stands at its definer.
-pub fn name_live_values<D: DialectTables>(
-    ctx: &Context<D>,
+pub fn name_live_values<O, B, T: TypeTable>(
+    ctx: &TypedProgram<O, B, T>,
     made: &[Option<Entity>],
     names: &[ValueAt],
 ) -> bool
@@ -51,9 +50,9 @@ pub fn name_live_values<D: DialectTables>(
 ///
 /// # Errors
 /// Where there is no memory.
-pub fn values<D: DialectTables>(
+pub fn values<O, B, T: TypeTable>(
     alloc: Global,
-    ctx: &Context<D>,
+    ctx: &TypedProgram<O, B, T>,
     made: &[Option<Entity>],
     names: &[ValueAt],
 ) -> Result<Vec<Value>, AllocError>
@@ -71,8 +70,8 @@ pub fn values<D: DialectTables>(
 }
 
 /// Whether each of the names stands for a block that is there.
-pub fn name_live_blocks<D: DialectTables>(
-    ctx: &Context<D>,
+pub fn name_live_blocks<O, B, T: TypeTable>(
+    ctx: &TypedProgram<O, B, T>,
     made: &[Option<Entity>],
     names: &[At<Ptr<BasicBlock>>],
 ) -> bool
@@ -93,9 +92,9 @@ pub fn name_live_blocks<D: DialectTables>(
 ///
 /// # Errors
 /// Where there is no memory.
-pub fn blocks<D: DialectTables>(
+pub fn blocks<O, B, T: TypeTable>(
     alloc: Global,
-    ctx: &Context<D>,
+    ctx: &TypedProgram<O, B, T>,
     made: &[Option<Entity>],
     names: &[At<Ptr<BasicBlock>>],
 ) -> Result<Vec<Ptr<BasicBlock>>, AllocError>

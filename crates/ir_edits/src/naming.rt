@@ -5,9 +5,8 @@ ghost use Rattle.ir_program.specs.Lists.{regions_in};
 ghost use Rattle.ir_edits.specs.Naming.{made_by, operation_named, block_named, region_named, value_named};
 
 use crate::{At, Entity, RegionAt, ValueAt};
-use ir_context::Context;
+use ir_context::{TypeTable, TypedProgram};
 use ir_program::{BasicBlock, Operation, Program, Ptr, Region, Value};
-use ir_types::DialectTables;
 
 /// What the edit with this number made, if it is an earlier one that made something.
 fn made_by(made: &[Option<Entity>], number: usize) -> Option<Entity>
@@ -85,8 +84,8 @@ pub fn value_in_program<O, B>(
 }
 
 /// The value that is named in a context, if the name stands for one.
-pub fn value<D: DialectTables>(
-    ctx: &Context<D>,
+pub fn value<O, B, T: TypeTable>(
+    ctx: &TypedProgram<O, B, T>,
     made: &[Option<Entity>],
     at: ValueAt,
 ) -> Option<Value>

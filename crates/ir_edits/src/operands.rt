@@ -2,13 +2,12 @@
 ghost use Rattle.ir_edits.specs.OperandEdits.{AnswersPushOperand, AnswersPopOperand, AnswersInsertOperand, AnswersRemoveOperand, AnswersReplaceOperand};
 
 use crate::Entity;
-use ir_context::{Context, CoreError, OperandCalls, OperationCalls, ValueCalls};
+use ir_context::{CoreError, OperandCalls, OperationCalls, TypeTable, TypedProgram, ValueCalls};
 use ir_program::{Operation, Ptr, Value};
-use ir_types::DialectTables;
 
 /// Gives an operation one operand more, behind the others.
-pub fn push_operand<D: DialectTables>(
-    ctx: &mut Context<D>,
+pub fn push_operand<O, B, T: TypeTable>(
+    ctx: &mut TypedProgram<O, B, T>,
     op: Ptr<Operation>,
     value: Value,
 ) -> Result<Option<Entity>, CoreError>
@@ -23,8 +22,8 @@ pub fn push_operand<D: DialectTables>(
 
 /// Takes away the last operand of an operation, if there is one.
 #[tactic(auto, using(crate::proofs::Asked::operand_popped))]
-pub fn pop_operand<D: DialectTables>(
-    ctx: &mut Context<D>,
+pub fn pop_operand<O, B, T: TypeTable>(
+    ctx: &mut TypedProgram<O, B, T>,
     op: Ptr<Operation>,
 ) -> Result<Option<Entity>, CoreError>
     ensures { AnswersPopOperand ctx.old op ctx.new result }
@@ -37,8 +36,8 @@ pub fn pop_operand<D: DialectTables>(
 }
 
 /// Puts an operand at an index.
-pub fn insert_operand<D: DialectTables>(
-    ctx: &mut Context<D>,
+pub fn insert_operand<O, B, T: TypeTable>(
+    ctx: &mut TypedProgram<O, B, T>,
     op: Ptr<Operation>,
     index: usize,
     value: Value,
@@ -53,8 +52,8 @@ pub fn insert_operand<D: DialectTables>(
 }
 
 /// Takes away the operand at an index.
-pub fn remove_operand<D: DialectTables>(
-    ctx: &mut Context<D>,
+pub fn remove_operand<O, B, T: TypeTable>(
+    ctx: &mut TypedProgram<O, B, T>,
     op: Ptr<Operation>,
     index: usize,
 ) -> Result<Option<Entity>, CoreError>
@@ -68,8 +67,8 @@ pub fn remove_operand<D: DialectTables>(
 }
 
 /// Puts another value in place of the operand at an index.
-pub fn replace_operand<D: DialectTables>(
-    ctx: &mut Context<D>,
+pub fn replace_operand<O, B, T: TypeTable>(
+    ctx: &mut TypedProgram<O, B, T>,
     op: Ptr<Operation>,
     index: usize,
     value: Value,

@@ -6,14 +6,14 @@ ghost use Rattle.ir_edits.specs.OperationListEdits.{AnswersInsertOperationAfter,
 
 use crate::Entity;
 use ir_context::{
-    BlockCalls, ContainsOperations, Context, CoreError, OperationCalls, OperationLists,
+    BlockCalls, ContainsOperations, CoreError, OperationCalls, OperationLists, TypeTable,
+    TypedProgram,
 };
 use ir_program::{BasicBlock, IRNode, Operation, Ptr};
-use ir_types::DialectTables;
 
 /// Puts an operation right after another.
-pub fn insert_operation_after<D: DialectTables>(
-    ctx: &mut Context<D>,
+pub fn insert_operation_after<O, B, T: TypeTable>(
+    ctx: &mut TypedProgram<O, B, T>,
     op: Ptr<Operation>,
     mark: Ptr<Operation>,
 ) -> Result<Option<Entity>, CoreError>
@@ -30,8 +30,8 @@ pub fn insert_operation_after<D: DialectTables>(
 }
 
 /// Puts an operation right before another.
-pub fn insert_operation_before<D: DialectTables>(
-    ctx: &mut Context<D>,
+pub fn insert_operation_before<O, B, T: TypeTable>(
+    ctx: &mut TypedProgram<O, B, T>,
     op: Ptr<Operation>,
     mark: Ptr<Operation>,
 ) -> Result<Option<Entity>, CoreError>
@@ -48,8 +48,8 @@ pub fn insert_operation_before<D: DialectTables>(
 }
 
 /// Puts an operation first in a block.
-pub fn insert_operation_at_front<D: DialectTables>(
-    ctx: &mut Context<D>,
+pub fn insert_operation_at_front<O, B, T: TypeTable>(
+    ctx: &mut TypedProgram<O, B, T>,
     op: Ptr<Operation>,
     block: Ptr<BasicBlock>,
 ) -> Result<Option<Entity>, CoreError>
@@ -66,8 +66,8 @@ pub fn insert_operation_at_front<D: DialectTables>(
 }
 
 /// Puts an operation last in a block.
-pub fn insert_operation_at_back<D: DialectTables>(
-    ctx: &mut Context<D>,
+pub fn insert_operation_at_back<O, B, T: TypeTable>(
+    ctx: &mut TypedProgram<O, B, T>,
     op: Ptr<Operation>,
     block: Ptr<BasicBlock>,
 ) -> Result<Option<Entity>, CoreError>
@@ -84,8 +84,8 @@ pub fn insert_operation_at_back<D: DialectTables>(
 }
 
 /// Takes an operation out of its block.
-pub fn unlink_operation<D: DialectTables>(
-    ctx: &mut Context<D>,
+pub fn unlink_operation<O, B, T: TypeTable>(
+    ctx: &mut TypedProgram<O, B, T>,
     op: Ptr<Operation>,
 ) -> Result<Option<Entity>, CoreError>
     ensures { AnswersUnlinkOperation ctx.old op ctx.new result }
@@ -99,8 +99,8 @@ pub fn unlink_operation<D: DialectTables>(
 
 /// Moves the operations of one block behind those of another.
 #[tactic(auto, using(crate::proofs::Asked::block_elsewhere))]
-pub fn append_operations<D: DialectTables>(
-    ctx: &mut Context<D>,
+pub fn append_operations<O, B, T: TypeTable>(
+    ctx: &mut TypedProgram<O, B, T>,
     donee: Ptr<BasicBlock>,
     donor: Ptr<BasicBlock>,
 ) -> Result<Option<Entity>, CoreError>
@@ -118,7 +118,7 @@ pub fn append_operations<D: DialectTables>(
 }
 
 /// Whether the operation is there and stands in no block, so that it may be put into one.
-fn can_stand<D: DialectTables>(ctx: &Context<D>, op: Ptr<Operation>) -> bool
+fn can_stand<O, B, T: TypeTable>(ctx: &TypedProgram<O, B, T>, op: Ptr<Operation>) -> bool
     ensures { IsTrue result ↔ (IsSome (operation_at ctx.now.program op) × IsUnlinkedOperation ctx.now.program op) }
 {
     op.is_live(ctx) && !op.is_linked(ctx)

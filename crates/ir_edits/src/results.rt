@@ -6,18 +6,19 @@ ghost use Rattle.ir_program.specs.declared.handles.Value.{Value};
 ghost use Rattle.ir_edits.specs.ResultEdits.{AnswersPushResult, AnswersPopResult, AnswersInsertResult, AnswersRemoveResult};
 
 use crate::Entity;
-use ir_context::{Context, CoreError, OperationCalls, ResultCalls, TypeCalls, UseCalls};
+use ir_context::{
+    CoreError, OperationCalls, ResultCalls, TypeCalls, TypeTable, TypedProgram, UseCalls,
+};
 use ir_names::TypeHandle;
 use ir_program::{Operation, Ptr};
-use ir_types::DialectTables;
 
 /// Gives an operation one result more, behind the others.
-pub fn push_result<D: DialectTables>(
-    ctx: &mut Context<D>,
+pub fn push_result<O, B, T: TypeTable>(
+    ctx: &mut TypedProgram<O, B, T>,
     op: Ptr<Operation>,
     ty: TypeHandle,
 ) -> Result<Option<Entity>, CoreError>
-    ensures { AnswersPushResult ctx.old op ty ctx.new result }
+    ensures { AnswersPushResult T.type_count ctx.old op ty ctx.new result }
 {
     if !op.is_live(ctx) || !ty.is_live(ctx) {
         return Err(CoreError::EditNotAllowed);
@@ -27,11 +28,11 @@ pub fn push_result<D: DialectTables>(
 }
 
 /// Takes away the last result of an operation, if there is one.
-pub fn pop_result<D: DialectTables>(
-    ctx: &mut Context<D>,
+pub fn pop_result<O, B, T: TypeTable>(
+    ctx: &mut TypedProgram<O, B, T>,
     op: Ptr<Operation>,
 ) -> Result<Option<Entity>, CoreError>
-    ensures { AnswersPopResult ctx.old op ctx.new result }
+    ensures { AnswersPopResult T.type_count ctx.old op ctx.new result }
 {
     if !op.is_live(ctx) || has_used_last_result(ctx, op) {
         return Err(CoreError::EditNotAllowed);
@@ -41,13 +42,13 @@ pub fn pop_result<D: DialectTables>(
 }
 
 /// Gives an operation one result more, at an index.
-pub fn insert_result<D: DialectTables>(
-    ctx: &mut Context<D>,
+pub fn insert_result<O, B, T: TypeTable>(
+    ctx: &mut TypedProgram<O, B, T>,
     op: Ptr<Operation>,
     index: usize,
     ty: TypeHandle,
 ) -> Result<Option<Entity>, CoreError>
-    ensures { AnswersInsertResult ctx.old op index ty ctx.new result }
+    ensures { AnswersInsertResult T.type_count ctx.old op index ty ctx.new result }
 {
     if !op.is_live(ctx) || index > op.get_num_results(ctx) || !ty.is_live(ctx) {
         return Err(CoreError::EditNotAllowed);
@@ -57,12 +58,12 @@ pub fn insert_result<D: DialectTables>(
 }
 
 /// Takes away the result at an index.
-pub fn remove_result<D: DialectTables>(
-    ctx: &mut Context<D>,
+pub fn remove_result<O, B, T: TypeTable>(
+    ctx: &mut TypedProgram<O, B, T>,
     op: Ptr<Operation>,
     index: usize,
 ) -> Result<Option<Entity>, CoreError>
-    ensures { AnswersRemoveResult ctx.old op index ctx.new result }
+    ensures { AnswersRemoveResult T.type_count ctx.old op index ctx.new result }
 {
     if !op.is_live(ctx) || index >= op.get_num_results(ctx) || has_used_result(ctx, op, index) {
         return Err(CoreError::EditNotAllowed);
@@ -72,7 +73,11 @@ pub fn remove_result<D: DialectTables>(
 }
 
 /// Whether some operation takes the result at an index.
-fn has_used_result<D: DialectTables>(ctx: &Context<D>, op: Ptr<Operation>, index: usize) -> bool
+fn has_used_result<O, B, T: TypeTable>(
+    ctx: &TypedProgram<O, B, T>,
+    op: Ptr<Operation>,
+    index: usize,
+) -> bool
     requires there { IsSome (operation_at ctx.now.program op) }
     requires within { index < result_count ctx.now.program op }
     ensures { IsTrue result ↔ ((v : Value) × (value_in (results_at ctx.now.program op) index ≡ Some v) × IsUsed ctx.now.program v) }
@@ -81,7 +86,7 @@ fn has_used_result<D: DialectTables>(ctx: &Context<D>, op: Ptr<Operation>, index
 }
 
 /// Whether some operation takes the last result, if there is one.
-fn has_used_last_result<D: DialectTables>(ctx: &Context<D>, op: Ptr<Operation>) -> bool
+fn has_used_last_result<O, B, T: TypeTable>(ctx: &TypedProgram<O, B, T>, op: Ptr<Operation>) -> bool
     requires { IsSome (operation_at ctx.now.program op) }
     ensures { IsTrue result ↔ ((v : Value) × (value_in (results_at ctx.now.program op) (result_count ctx.now.program op - 1) ≡ Some v) × IsUsed ctx.now.program v) }
 {

@@ -1,6 +1,7 @@
 //! Lists of edits.
 ghost use Rattle.std.specs.Prelude.{◌≡◌, ◌⊎◌, [], Ok, Err, IfOk, IfErr, OnOk, length};
 ghost use Rattle.ir_context.specs.Views.{ContextView};
+ghost use Rattle.ir_types.specs.Views.{TypesView};
 ghost use Rattle.ir_context.specs.declared.errors.CoreError.TheVariants.{Memory};
 ghost use Rattle.ir_context.specs.declared.notes.OperationData.{OperationData};
 ghost use Rattle.ir_context.specs.declared.notes.BlockNotes.{BlockNotes};
@@ -16,7 +17,7 @@ use std::alloc::{AllocError, Global};
 /// Running lists of edits on a context.
 pub trait RunEdits<D: DialectTables> {
     /// What contracts see of the context.
-    ghost context: { Self → ContextView (OperationData D D.TypeKind D.AttrKind D.TypeBody D.Saved D.Location D.OpKind D.Attr D.TypeKey) (BlockNotes D D.TypeKind D.AttrKind D.TypeBody D.Saved D.Location D.OpKind D.Attr D.TypeKey) D.TypeKey D.TypeBody D.Saved };
+    ghost context: { Self → ContextView (OperationData D D.TypeKind D.AttrKind D.TypeBody D.Saved D.Location D.OpKind D.Attr D.TypeKey) (BlockNotes D D.TypeKind D.AttrKind D.TypeBody D.Saved D.Location D.OpKind D.Attr D.TypeKey) (TypesView D.TypeKey D.TypeBody D.Saved) };
 
     /// Makes the edits in order, up to the first that is refused. Those before it stand, and the rest is dropped. A handle
     /// that was given out and leads nowhere leads nowhere for good.

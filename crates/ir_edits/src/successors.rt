@@ -2,13 +2,12 @@
 ghost use Rattle.ir_edits.specs.SuccessorEdits.{AnswersPushSuccessor, AnswersPopSuccessor, AnswersInsertSuccessor, AnswersRemoveSuccessor, AnswersReplaceSuccessor};
 
 use crate::Entity;
-use ir_context::{BlockCalls, Context, CoreError, OperationCalls, SuccessorCalls};
+use ir_context::{BlockCalls, CoreError, OperationCalls, SuccessorCalls, TypeTable, TypedProgram};
 use ir_program::{BasicBlock, Operation, Ptr};
-use ir_types::DialectTables;
 
 /// Gives an operation one successor more, behind the others.
-pub fn push_successor<D: DialectTables>(
-    ctx: &mut Context<D>,
+pub fn push_successor<O, B, T: TypeTable>(
+    ctx: &mut TypedProgram<O, B, T>,
     op: Ptr<Operation>,
     block: Ptr<BasicBlock>,
 ) -> Result<Option<Entity>, CoreError>
@@ -23,8 +22,8 @@ pub fn push_successor<D: DialectTables>(
 
 /// Takes away the last successor of an operation, if there is one.
 #[tactic(auto, using(crate::proofs::Asked::successor_popped))]
-pub fn pop_successor<D: DialectTables>(
-    ctx: &mut Context<D>,
+pub fn pop_successor<O, B, T: TypeTable>(
+    ctx: &mut TypedProgram<O, B, T>,
     op: Ptr<Operation>,
 ) -> Result<Option<Entity>, CoreError>
     ensures { AnswersPopSuccessor ctx.old op ctx.new result }
@@ -37,8 +36,8 @@ pub fn pop_successor<D: DialectTables>(
 }
 
 /// Puts a successor at an index.
-pub fn insert_successor<D: DialectTables>(
-    ctx: &mut Context<D>,
+pub fn insert_successor<O, B, T: TypeTable>(
+    ctx: &mut TypedProgram<O, B, T>,
     op: Ptr<Operation>,
     index: usize,
     block: Ptr<BasicBlock>,
@@ -53,8 +52,8 @@ pub fn insert_successor<D: DialectTables>(
 }
 
 /// Takes away the successor at an index.
-pub fn remove_successor<D: DialectTables>(
-    ctx: &mut Context<D>,
+pub fn remove_successor<O, B, T: TypeTable>(
+    ctx: &mut TypedProgram<O, B, T>,
     op: Ptr<Operation>,
     index: usize,
 ) -> Result<Option<Entity>, CoreError>
@@ -68,8 +67,8 @@ pub fn remove_successor<D: DialectTables>(
 }
 
 /// Puts another block in place of the successor at an index.
-pub fn replace_successor<D: DialectTables>(
-    ctx: &mut Context<D>,
+pub fn replace_successor<O, B, T: TypeTable>(
+    ctx: &mut TypedProgram<O, B, T>,
     op: Ptr<Operation>,
     index: usize,
     block: Ptr<BasicBlock>,

@@ -5,15 +5,14 @@ ghost use Rattle.ir_edits.specs.UseEdits.{AnswersReplaceAllUsesWith, AnswersRepl
 
 use crate::Entity;
 use ir_context::{
-    BlockCalls, Context, CoreError, OperandCalls, OperationCalls, PredecessorCalls, SuccessorCalls,
-    UseCalls, ValueCalls,
+    BlockCalls, CoreError, OperandCalls, OperationCalls, PredecessorCalls, SuccessorCalls,
+    TypeTable, TypedProgram, UseCalls, ValueCalls,
 };
 use ir_program::{BasicBlock, Operation, Ptr, Value};
-use ir_types::DialectTables;
 
 /// Puts another value in place of each operand that is the value.
-pub fn replace_all_uses<D: DialectTables>(
-    ctx: &mut Context<D>,
+pub fn replace_all_uses<O, B, T: TypeTable>(
+    ctx: &mut TypedProgram<O, B, T>,
     value: Value,
     other: Value,
 ) -> Result<Option<Entity>, CoreError>
@@ -27,8 +26,8 @@ pub fn replace_all_uses<D: DialectTables>(
 }
 
 /// Whether the operand of an operation at an index is the value.
-pub fn is_operand<D: DialectTables>(
-    ctx: &Context<D>,
+pub fn is_operand<O, B, T: TypeTable>(
+    ctx: &TypedProgram<O, B, T>,
     op: Ptr<Operation>,
     index: usize,
     value: Value,
@@ -39,8 +38,8 @@ pub fn is_operand<D: DialectTables>(
 }
 
 /// Puts another value in place of the value, at one of its uses.
-pub fn replace_use<D: DialectTables>(
-    ctx: &mut Context<D>,
+pub fn replace_use<O, B, T: TypeTable>(
+    ctx: &mut TypedProgram<O, B, T>,
     value: Value,
     op: Ptr<Operation>,
     index: usize,
@@ -56,8 +55,8 @@ pub fn replace_use<D: DialectTables>(
 }
 
 /// Makes each edge to a block lead to another.
-pub fn retarget_all<D: DialectTables>(
-    ctx: &mut Context<D>,
+pub fn retarget_all<O, B, T: TypeTable>(
+    ctx: &mut TypedProgram<O, B, T>,
     block: Ptr<BasicBlock>,
     other: Ptr<BasicBlock>,
 ) -> Result<Option<Entity>, CoreError>
@@ -71,8 +70,8 @@ pub fn retarget_all<D: DialectTables>(
 }
 
 /// Whether the successor of an operation at an index is the block.
-pub fn is_successor<D: DialectTables>(
-    ctx: &Context<D>,
+pub fn is_successor<O, B, T: TypeTable>(
+    ctx: &TypedProgram<O, B, T>,
     op: Ptr<Operation>,
     index: usize,
     block: Ptr<BasicBlock>,
@@ -83,8 +82,8 @@ pub fn is_successor<D: DialectTables>(
 }
 
 /// Makes the edge to a block at one place lead to another.
-pub fn retarget_one<D: DialectTables>(
-    ctx: &mut Context<D>,
+pub fn retarget_one<O, B, T: TypeTable>(
+    ctx: &mut TypedProgram<O, B, T>,
     block: Ptr<BasicBlock>,
     op: Ptr<Operation>,
     index: usize,

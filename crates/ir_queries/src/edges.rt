@@ -13,7 +13,7 @@ ghost use Rattle.ir_queries.specs.Predecessors.{IsPredecessor, HasLinkedUsers, A
 use crate::predecessors::{is_predecessor, predecessor_at, predecessors_of};
 use crate::rows::{arguments_of, has_successor, successors_of};
 use crate::uses::uses_of_block;
-use ir_context::{Context, OperationCalls};
+use ir_context::{Context, OperationCalls, TypeTable, TypedProgram};
 use ir_names::OpInterface;
 use ir_program::{BasicBlock, Operation, Ptr, Use, Value};
 use ir_types::DialectTables;
@@ -25,10 +25,10 @@ pub trait BlockEdges {
     ghost block: { Self → Ptr BasicBlock };
 
     /// Its arguments, in order.
-    fn arguments<D: DialectTables>(
+    fn arguments<O, B, T: TypeTable>(
         self,
         alloc: Global,
-        ctx: &Context<D>,
+        ctx: &TypedProgram<O, B, T>,
     ) -> Result<Vec<Value>, AllocError>
         requires { IsSome (block_at ctx.now.program (block self)) }
         ensures { IfOk result (λ r. r.items ≡ values_of (arguments_at ctx.now.program (block self))) };
@@ -76,10 +76,10 @@ pub trait BlockEdges {
         ensures { IsTrue result ↔ Contains (edges_of D.op_has ctx.now.program other) (block self) };
 
     /// The successors that are the block, each once, in an order that stays while the program does.
-    fn uses<D: DialectTables>(
+    fn uses<O, B, T: TypeTable>(
         self,
         alloc: Global,
-        ctx: &Context<D>,
+        ctx: &TypedProgram<O, B, T>,
     ) -> Result<Vec<Use<Ptr<BasicBlock>>>, AllocError>
         requires { IsSome (block_at ctx.now.program (block self)) }
         ensures uses { IfOk result (λ r. AreBlockUses ctx.now.program (block self) r.items) }
@@ -87,10 +87,10 @@ pub trait BlockEdges {
 
     /// The blocks of the operations that have it as a successor, one for each time that they have it, in the order in
     /// which `uses` lists these times. Each of these operations stands in a block.
-    fn preds<D: DialectTables>(
+    fn preds<O, B, T: TypeTable>(
         self,
         alloc: Global,
-        ctx: &Context<D>,
+        ctx: &TypedProgram<O, B, T>,
     ) -> Result<Vec<Ptr<BasicBlock>>, AllocError>
         requires block { IsSome (block_at ctx.now.program (block self)) }
         requires linked { HasLinkedUsers ctx.now.program (block self) }
@@ -98,7 +98,7 @@ pub trait BlockEdges {
         ensures order { IfOk result (λ r. ListsPredecessors ctx.now.program (block self) r.items) };
 
     /// The block at an index, below `num_preds`, of those that `preds` lists. It asks for no memory.
-    fn get_pred<D: DialectTables>(self, ctx: &Context<D>, i: usize) -> Ptr<BasicBlock>
+    fn get_pred<O, B, T: TypeTable>(self, ctx: &TypedProgram<O, B, T>, i: usize) -> Ptr<BasicBlock>
         requires block { IsSome (block_at ctx.now.program (block self)) }
         requires linked { HasLinkedUsers ctx.now.program (block self) }
         requires within { i < length (edges_listed ctx.now.program (block self)) }
@@ -107,7 +107,11 @@ pub trait BlockEdges {
         ensures predecessor { IsPredecessor ctx.now.program (block self) result };
 
     /// Whether an operation of `other` has it as a successor.
-    fn is_pred<D: DialectTables>(self, ctx: &Context<D>, other: Ptr<BasicBlock>) -> bool
+    fn is_pred<O, B, T: TypeTable>(
+        self,
+        ctx: &TypedProgram<O, B, T>,
+        other: Ptr<BasicBlock>,
+    ) -> bool
         requires { IsSome (block_at ctx.now.program (block self)) }
         ensures { IsTrue result ↔ IsPredecessor ctx.now.program (block self) other };
 }
@@ -115,10 +119,10 @@ pub trait BlockEdges {
 impl BlockEdges for Ptr<BasicBlock> {
     ghost block = { λ b. b };
 
-    fn arguments<D: DialectTables>(
+    fn arguments<O, B, T: TypeTable>(
         self,
         alloc: Global,
-        ctx: &Context<D>,
+        ctx: &TypedProgram<O, B, T>,
     ) -> Result<Vec<Value>, AllocError> {
         arguments_of(ctx.program(), alloc, self)
     }
@@ -171,27 +175,35 @@ impl BlockEdges for Ptr<BasicBlock> {
         other.is_succ(ctx, self)
     }
 
-    fn uses<D: DialectTables>(
+    fn uses<O, B, T: TypeTable>(
         self,
         alloc: Global,
-        ctx: &Context<D>,
+        ctx: &TypedProgram<O, B, T>,
     ) -> Result<Vec<Use<Ptr<BasicBlock>>>, AllocError> {
         uses_of_block(ctx.program(), alloc, self)
     }
 
-    fn preds<D: DialectTables>(
+    fn preds<O, B, T: TypeTable>(
         self,
         alloc: Global,
-        ctx: &Context<D>,
+        ctx: &TypedProgram<O, B, T>,
     ) -> Result<Vec<Ptr<BasicBlock>>, AllocError> {
         predecessors_of(ctx.program(), alloc, self)
     }
 
-    fn get_pred<D: DialectTables>(self, ctx: &Context<D>, i: usize) -> Ptr<BasicBlock> {
+    fn get_pred<O, B, T: TypeTable>(
+        self,
+        ctx: &TypedProgram<O, B, T>,
+        i: usize,
+    ) -> Ptr<BasicBlock> {
         predecessor_at(ctx.program(), self, i)
     }
 
-    fn is_pred<D: DialectTables>(self, ctx: &Context<D>, other: Ptr<BasicBlock>) -> bool {
+    fn is_pred<O, B, T: TypeTable>(
+        self,
+        ctx: &TypedProgram<O, B, T>,
+        other: Ptr<BasicBlock>,
+    ) -> bool {
         is_predecessor(ctx.program(), self, other)
     }
 }

@@ -41,6 +41,6 @@ pub use tables::{
     attr_impls, attr_should_outline, attr_type, op_impls, op_impls_static, type_impls,
 };
 pub use typed::Typed;
-pub use types::Type;
+pub use types::{Instantiate, Type};
 pub use uniqued::{Uniqued, UniquedKey};
 pub use values::ValueUses;

@@ -2,10 +2,9 @@
 ghost use Rattle.std.specs.Prelude.{◌≡◌, Some, IsSome};
 ghost use Rattle.ir_queries.specs.Subjects.{Subject, OfType, OfValue, type_of};
 
-use ir_context::Context;
+use ir_context::{TypeTable, TypedProgram};
 use ir_names::TypeHandle;
 use ir_program::Value;
-use ir_types::DialectTables;
 
 /// What has a type.
 pub trait Typed {
@@ -13,7 +12,7 @@ pub trait Typed {
     ghost subject: { Self → Subject };
 
     /// Its type. A type is its own; a value has one where it stands at its definer.
-    fn get_type<D: DialectTables>(&self, ctx: &Context<D>) -> TypeHandle
+    fn get_type<O, B, T: TypeTable>(&self, ctx: &TypedProgram<O, B, T>) -> TypeHandle
         requires { IsSome (type_of ctx.now.program (subject self.now)) }
         ensures { type_of ctx.now.program (subject self.now) ≡ Some result };
 }
@@ -21,7 +20,7 @@ pub trait Typed {
 impl Typed for TypeHandle {
     ghost subject = { OfType };
 
-    fn get_type<D: DialectTables>(&self, _ctx: &Context<D>) -> TypeHandle {
+    fn get_type<O, B, T: TypeTable>(&self, _ctx: &TypedProgram<O, B, T>) -> TypeHandle {
         *self
     }
 }
@@ -29,7 +28,7 @@ impl Typed for TypeHandle {
 impl Typed for Value {
     ghost subject = { OfValue };
 
-    fn get_type<D: DialectTables>(&self, ctx: &Context<D>) -> TypeHandle {
+    fn get_type<O, B, T: TypeTable>(&self, ctx: &TypedProgram<O, B, T>) -> TypeHandle {
         ctx.program().value_type(*self)
     }
 }

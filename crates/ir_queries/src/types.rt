@@ -19,6 +19,12 @@ pub trait Type<D: DialectTables>: TypeMarker<D> + Sized {
     fn into_key(self) -> D::TypeKey
         ensures { result ≡ key self };
 
+    /// The type that is made of it is made of it.
+    ghost part_of_key: { (x : Self) → Self.part (key x) ≡ Some x };
+}
+
+/// Making types of what they are made of.
+pub trait Instantiate<D: DialectTables>: Type<D> {
     /// The handle of the type that is made of it.
     ///
     /// Where the context has an equal type, nothing changes and no memory is asked for.
@@ -30,24 +36,28 @@ pub trait Type<D: DialectTables>: TypeMarker<D> + Sized {
         alloc: Global,
         ctx: &mut Context<D>,
     ) -> Result<TypedHandle<Self>, AllocError>
-        ensures known { (ty : TypeHandle) → (kept : D.TypeKey) → key_at ctx.old.types ty ≡ Some kept → D.TypeKey.eq (key self) kept ≡ true → (result ≡ Ok (typed_handle ty)) × (ctx.new ≡ ctx.old) }
-        ensures fresh { has_key D.TypeKey.eq ctx.old.types (key self) ≡ false → IfOk result (λ h. untyped h ≡ next_handle ctx.old.types) }
-        ensures handle { IfOk result (λ h. untyped h ≡ handle_of D.TypeKey.eq ctx.old.types (key self)) }
-        ensures ok { OnOk result (ctx.new.types ≡ with_type D.TypeKey.eq ctx.old.types (key self)) }
-        ensures key { IfOk result (λ h. (kept : D.TypeKey) × (key_at ctx.new.types (untyped h) ≡ Some kept) × (D.TypeKey.eq (key self) kept ≡ true)) }
-        ensures same { IfOk result (λ h. (other : TypeHandle) → (kept : D.TypeKey) → key_at ctx.new.types other ≡ Some kept → ((other ≡ untyped h) ↔ (D.TypeKey.eq (key self) kept ≡ true))) }
+        ensures known { (ty : TypeHandle) → (kept : D.TypeKey) → key_at ctx.old.types ty ≡ Some kept → D.TypeKey.eq (Self.key self) kept ≡ true → (result ≡ Ok (typed_handle ty)) × (ctx.new ≡ ctx.old) }
+        ensures fresh { has_key D.TypeKey.eq ctx.old.types (Self.key self) ≡ false → IfOk result (λ h. untyped h ≡ next_handle ctx.old.types) }
+        ensures handle { IfOk result (λ h. untyped h ≡ handle_of D.TypeKey.eq ctx.old.types (Self.key self)) }
+        ensures ok { OnOk result (ctx.new.types ≡ with_type D.TypeKey.eq ctx.old.types (Self.key self)) }
+        ensures key { IfOk result (λ h. (kept : D.TypeKey) × (key_at ctx.new.types (untyped h) ≡ Some kept) × (D.TypeKey.eq (Self.key self) kept ≡ true)) }
+        ensures same { IfOk result (λ h. (other : TypeHandle) → (kept : D.TypeKey) → key_at ctx.new.types other ≡ Some kept → ((other ≡ untyped h) ↔ (D.TypeKey.eq (Self.key self) kept ≡ true))) }
         ensures kind { IfOk result (λ h. passes (λ kept. D.TypeKind.eq (D.kind_of_type kept) Self.KIND) ctx.new.types (untyped h) ≡ true) }
         ensures keeps { KeepsTypes ctx.old.types ctx.new.types }
         ensures err { OnErr result (ctx.new ≡ ctx.old) }
-        ensures program { ctx.new.program ≡ ctx.old.program }
-    {
+        ensures program { ctx.new.program ≡ ctx.old.program };
+}
+
+impl<D: DialectTables, S: Type<D>> Instantiate<D> for S {
+    fn instantiate(
+        self,
+        alloc: Global,
+        ctx: &mut Context<D>,
+    ) -> Result<TypedHandle<Self>, AllocError> {
         let handle = ctx.instantiate_key(alloc, self.into_key())?;
         Ok(TypedHandle {
             handle,
             of: PhantomData,
         })
     }
-
-    /// The type that is made of it is made of it.
-    ghost part_of_key: { (x : Self) → Self.part (key x) ≡ Some x };
 }

@@ -77,6 +77,6 @@ impl<S> Uniqued<S> {
     pub fn know_distinct<D: DialectTables<Saved = S>>(ctx: &Context<D>)
         ensures { AreKeptOnce S.eq ctx.now.types }
     {
-        ctx.types().know_saved_distinct();
+        ctx.know_distinct();
     }
 }

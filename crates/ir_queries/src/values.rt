@@ -9,9 +9,8 @@ ghost use Rattle.ir_queries.specs.Refused.{refusal_by};
 
 use crate::finding::index_of;
 use crate::uses::uses_of_value;
-use ir_context::{Context, ValueError};
+use ir_context::{TypeTable, TypedProgram, ValueError};
 use ir_program::{DefiningEntity, Use, Value};
-use ir_types::DialectTables;
 use std::alloc::{AllocError, Global};
 
 /// Where a value is used, and where it stands.
@@ -20,10 +19,10 @@ pub trait ValueUses {
     ghost value: { Self → Value };
 
     /// The operands that are the value, each once, in an order that stays while the program does.
-    fn uses<D: DialectTables>(
+    fn uses<O, B, T: TypeTable>(
         self,
         alloc: Global,
-        ctx: &Context<D>,
+        ctx: &TypedProgram<O, B, T>,
     ) -> Result<Vec<Use<Value>>, AllocError>
         requires { IsLiveValue ctx.now.program (value self) }
         ensures uses { IfOk result (λ r. AreUsesOf ctx.now.program (value self) r.items) }
@@ -34,13 +33,16 @@ pub trait ValueUses {
     /// # Errors
     /// Refused exactly where the value does not stand at its definer: `NotInOpResult` where that is an operation,
     /// `NotInBlockArgument` where it is a block.
-    fn try_find_index<D: DialectTables>(self, ctx: &Context<D>) -> Result<usize, ValueError>
+    fn try_find_index<O, B, T: TypeTable>(
+        self,
+        ctx: &TypedProgram<O, B, T>,
+    ) -> Result<usize, ValueError>
         ensures found { IfOk result (λ i. value_in (values_at ctx.now.program (value self).definer) i ≡ Some (value self)) }
         ensures refused { IsErr result ↔ (type_at ctx.now.program (value self) ≡ None) }
         ensures error { IfErr result (λ e. e ≡ refusal_by (value self).definer) };
 
     /// Its index among the results or arguments of its definer, at which it stands.
-    fn find_index<D: DialectTables>(self, ctx: &Context<D>) -> usize
+    fn find_index<O, B, T: TypeTable>(self, ctx: &TypedProgram<O, B, T>) -> usize
         requires { IsLiveValue ctx.now.program (value self) }
         ensures { value_in (values_at ctx.now.program (value self).definer) result ≡ Some (value self) };
 }
@@ -48,22 +50,25 @@ pub trait ValueUses {
 impl ValueUses for Value {
     ghost value = { λ v. v };
 
-    fn uses<D: DialectTables>(
+    fn uses<O, B, T: TypeTable>(
         self,
         alloc: Global,
-        ctx: &Context<D>,
+        ctx: &TypedProgram<O, B, T>,
     ) -> Result<Vec<Use<Value>>, AllocError> {
         uses_of_value(ctx.program(), alloc, self)
     }
 
-    fn try_find_index<D: DialectTables>(self, ctx: &Context<D>) -> Result<usize, ValueError> {
+    fn try_find_index<O, B, T: TypeTable>(
+        self,
+        ctx: &TypedProgram<O, B, T>,
+    ) -> Result<usize, ValueError> {
         match index_of(ctx.program(), self) {
             Some(index) => Ok(index),
             None => Err(refusal(self)),
         }
     }
 
-    fn find_index<D: DialectTables>(self, ctx: &Context<D>) -> usize {
+    fn find_index<O, B, T: TypeTable>(self, ctx: &TypedProgram<O, B, T>) -> usize {
         match index_of(ctx.program(), self) {
             Some(index) => index,
             None => unreachable!(),

@@ -1,5 +1,6 @@
 -- What a context of a dialect looks like to contracts.
 use Rattle.ir_context.specs.Views.{ContextView}
+use Rattle.ir_types.specs.Views.{TypesView}
 use Rattle.ir_context.specs.declared.notes.OperationData.{OperationData}
 use Rattle.ir_context.specs.declared.notes.BlockNotes.{BlockNotes}
 use Rattle.ir_program.specs.Program.{Program}
@@ -11,4 +12,4 @@ module _ (D TypeKind AttrKind TypeBody Saved Location OpKind Attr TypeKey : Type
 
   -- a context of the dialect
   abbrev pub DialectContext : Type 0
-  DialectContext = ContextView (OperationData D TypeKind AttrKind TypeBody Saved Location OpKind Attr TypeKey) (BlockNotes D TypeKind AttrKind TypeBody Saved Location OpKind Attr TypeKey) TypeKey TypeBody Saved
+  DialectContext = ContextView (OperationData D TypeKind AttrKind TypeBody Saved Location OpKind Attr TypeKey) (BlockNotes D TypeKind AttrKind TypeBody Saved Location OpKind Attr TypeKey) (TypesView TypeKey TypeBody Saved)

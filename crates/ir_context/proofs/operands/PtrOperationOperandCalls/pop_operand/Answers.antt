@@ -2,4 +2,4 @@ use Rattle.ir_context.proofs.KnownTypes.{kept_known}
 use Rattle.ir_context.proofs.operands.PtrOperationOperandCalls.pop_operand.Goals as goal
 
 pub invariant_of-ctx : goal.invariant_of-ctx
-invariant_of-ctx g c = kept_known c.ctx.inside.types c.ctx.inside.program c.pop_operand.new.self c.ctx.invariant c.pop_operand.ensures.values
+invariant_of-ctx g c = kept_known _ c.ctx.inside.program c.pop_operand.new.self c.ctx.invariant c.pop_operand.ensures.values

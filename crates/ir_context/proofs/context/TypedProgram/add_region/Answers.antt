@@ -1,0 +1,5 @@
+use Rattle.ir_context.proofs.ErasedTypes.{added_region_known}
+use Rattle.ir_context.proofs.context.TypedProgram.add_region.Goals as goal
+
+pub invariant_of-self : goal.invariant_of-self
+invariant_of-self g c = added_region_known c.self.inside.program c.add_region.new.self _ c.self.invariant c.args.op c.add_region.result c.add_region.ensures.made c.add_region.ensures.err
