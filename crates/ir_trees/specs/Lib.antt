@@ -1,0 +1,6 @@
+pub mod Names
+pub mod Trees
+pub mod Renames
+pub mod Searched
+pub mod Stands
+pub mod Rewrites
