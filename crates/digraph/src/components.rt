@@ -10,7 +10,7 @@ use crate::worklist::Worklist;
 use std::alloc::{AllocError, Global};
 
 /// A strongly connected component: nodes that reach each other.
-#[derive(Drop)]
+#[derive(Clone, Debug, Drop)]
 pub struct Scc<N> {
     /// Its nodes, each once, in an open order.
     pub nodes: Vec<N>,

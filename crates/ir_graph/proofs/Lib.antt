@@ -1,4 +1,10 @@
+mod Descending
 mod Named
 mod NamedOrders
+mod NamedParts
+mod NamedSccs
 mod Numbers
+mod Parts
+mod Paths
+mod Places
 mod Rows

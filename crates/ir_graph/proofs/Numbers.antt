@@ -1,12 +1,13 @@
 -- Numbers of nodes.
-use Rattle.std.proofs.Common.{◌≡◌, ◌⊎◌, inl, inr, ⊎_elim, ℕ, zero, suc, ◌+◌, ◌<◌, ◌≤◌, List, [], ◌∷◌, ◌++◌, Some, Bool, true, false, length, get_or, take, refl, sym, ap, ◌∙◌, subst, arith}
-use Rattle.std.specs.Prelude.{Contains, map, slice_get, if◌then◌else◌}
+use Rattle.std.proofs.Common.{◌≡◌, ◌⊎◌, inl, inr, ⊎_elim, ℕ, zero, suc, ◌+◌, ◌<◌, ◌≤◌, List, [], ◌∷◌, ◌++◌, Some, Bool, true, false, length, get_or, take, refl, sym, ap, ◌∙◌, subst, arith, rules}
+use Rattle.std.specs.Prelude.{Contains, IsTrue, ◌↔◌, map, slice_get, if◌then◌else◌}
 use Rattle.std.specs.List.{position, list_any}
 use Rattle.std.proofs.lemmas.Option.{slice_get-get_or, slice_get_read, slice_get_within, none-some, same_Some}
 use Rattle.std.proofs.lemmas.List.{length-append, map-append, take_more}
 use Rattle.std.proofs.lemmas.List.Folds.{list_any_at}
 use Rattle.std.proofs.lemmas.List.Quantifiers.{position-Some}
 use Rattle.std.proofs.lemmas.List.Elements.{Contains-push_cases, Contains-append_cases, Contains-append_right}
+use Rattle.std.proofs.lemmas.Map.Views.{Contains-from_any}
 use Rattle.std.specs.declared.vec.Vec.{Vec}
 use Rattle.std.specs.declared.alloc.Global.{Global}
 use Rattle.digraph.specs.Graph.{successors, InRange}
@@ -19,7 +20,7 @@ has_number eq keys n r c e = let t = list_any_at (eq n) keys c.0 n c.1 (ap (eq n
 pub number_is : {X : Type 0} (eq : X → X → Bool) (keys : List X) (n : X) (i : ℕ) → ((a b : X) → eq a b ≡ true → a ≡ b) → Some i ≡ position (eq n) keys → slice_get keys i ≡ Some n
 number_is eq keys n i same e = let h = position-Some (eq n) keys i n (sym e) in slice_get-get_or keys i n h.0 ∙ ap Some (sym (same n (get_or keys i n) h.1))
 
-first_or : {Y : Type 0} (n : Y) (ns : List Y) (x : Y) → Contains (n ∷ ns) x → (n ≡ x) ⊎ Contains ns x
+pub first_or : {Y : Type 0} (n : Y) (ns : List Y) (x : Y) → Contains (n ∷ ns) x → (n ≡ x) ⊎ Contains ns x
 first_or n ns x h = ⊎_elim (λ a. ⊎_elim (λ b. absurd (omega (arith, b.1))) (λ e. inl e) (Contains-push_cases [] n x a)) (λ b. inr b) (Contains-append_cases (n ∷ []) ns x h)
 
 earlier_row : (rows : List (Vec ℕ Global)) (v : Vec ℕ Global) (j : ℕ) → j < length rows → successors (rows ++ v ∷ []) j ≡ successors rows j
@@ -74,7 +75,7 @@ module _ {X : Type 0} where
   one_naming (x ∷ xs) [] e = absurd (cc)
   one_naming (x ∷ xs) (y ∷ ys) e = let a : x ≡ y = cc in let b : map Some xs ≡ map Some ys = cc in ap (λ z. z ∷ xs) a ∙ ap (λ zs. y ∷ zs) (one_naming xs ys b)
 
-  first : (n : X) (ns : List X) → Contains (n ∷ ns) n
+  pub first : (n : X) (ns : List X) → Contains (n ∷ ns) n
   first n ns = (0, omega arith, refl)
 
   module _ (keys : List X) where
@@ -95,6 +96,13 @@ module _ {X : Type 0} where
         let a : slice_get keys x ≡ Some y = cc in
         let b : AreNamed keys xs ys = cc in
         ⊎_elim (λ q. (x, (0, omega arith, refl), a ∙ ap Some q)) (λ d. let h = number_of xs ys b z d in (h.0, Contains-append_right (x ∷ []) xs h.0 h.1, h.2)) (first_or y ys z c)
+
+    -- the number of the node at a place
+    pub number_there : (ids : List ℕ) (ns : List X) → AreNamed keys ids ns → (i : ℕ) (n : X) → slice_get ns i ≡ Some n → (x : ℕ) × (slice_get ids i ≡ Some x) × (slice_get keys x ≡ Some n)
+    number_there ids [] e i n h = absurd (none-some n h)
+    number_there [] (m ∷ ns) e i n h = absurd (cc)
+    number_there (x ∷ ids) (m ∷ ns) e zero n h = let a : slice_get keys x ≡ Some m = cc in (x, refl, a ∙ h)
+    number_there (x ∷ ids) (m ∷ ns) e (suc i) n h = let b : AreNamed keys ids ns = cc in number_there ids ns b i n h
 
     -- a number that names a node is within the nodes
     pub named_within : (xs : List ℕ) (ys : List X) → AreNamed keys xs ys → (k d : ℕ) → k < length xs → get_or xs k d < length keys
@@ -155,3 +163,8 @@ module _ {X : Type 0} where
       row_within [] i b h = absurd (omega (arith, h.1))
       row_within (r ∷ rs) zero b h = omega arith
       row_within (r ∷ rs) (suc i) b h = let q = row_within rs i b h in omega (arith, q)
+
+-- a test of equality tells whether a node is there
+pub any_or_none : {X : Type 0} (eq : X → X → Bool) → ((a b : X) → eq a b ≡ true → a ≡ b) → (n : X) (keys : List X) (b : Bool) → eq n n ≡ true → b ≡ list_any (eq n) keys → IsTrue b ↔ Contains keys n
+any_or_none eq same n keys true r e = ((λ h. Contains-from_any same n keys (sym e)), (λ c. search rules))
+any_or_none eq same n keys false r e = ((λ h. search rules), (λ c. absurd (has_number eq keys n r c e)))

@@ -3,6 +3,7 @@ use Rattle.std.specs.Prelude.{◌≡◌, ℕ, List, Some, length, map, slice_get
 use Rattle.std.specs.declared.vec.Vec.{Vec}
 use Rattle.std.specs.declared.alloc.Global.{Global}
 use Rattle.digraph.specs.Graph.{successors}
+use Rattle.digraph.specs.declared.components.Scc.{Scc}
 
 module _ {X : Type 0} where
   -- nothing is in the list twice
@@ -12,6 +13,15 @@ module _ {X : Type 0} where
   -- the numbers are those of these nodes, one by one
   abbrev pub AreNamed : List X → List ℕ → List X → Type 0
   AreNamed nodes numbers named = map (slice_get nodes) numbers ≡ map Some named
+
+  -- the same, list by list
+  abbrev pub AreNamedParts : List X → List (List ℕ) → List (List X) → Type 0
+  AreNamedParts nodes parts named = map (map (slice_get nodes)) parts ≡ map (map Some) named
+
+  -- the same, component by component
+  pub record AreNamedSccs (nodes : List X) (parts : List (Scc ℕ)) (named : List (Scc X)) : Type 0 where
+    pub members : AreNamedParts nodes (map (λ (s : Scc ℕ). s.nodes.items) parts) (map (λ (s : Scc X). s.nodes.items) named)
+    pub cyclic : map (λ (s : Scc ℕ). s.is_cyclic) parts ≡ map (λ (s : Scc X). s.is_cyclic) named
 
   -- the nodes of a graph, the number of each, and for each the numbers of its successors
   pub record IsNumbering (next : X → List X) (nodes kept : List X) (numbers : List ℕ) (rows : List (Vec ℕ Global)) : Type 0 where

@@ -1,1 +1,3 @@
+pub mod EdgeKinds
 pub mod Graphs
+pub mod Orders

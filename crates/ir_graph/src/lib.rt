@@ -1,9 +1,16 @@
 //! Graphs of control flow: orders, components and traversals of any graph that a context holds.
 #![tactic(auto)]
 
+mod components;
 mod graph;
 mod numbering;
 mod orders;
+mod traversal;
 
+pub use components::sccs_in_topological_order;
+pub use digraph::Scc;
 pub use graph::{ControlFlowGraph, HasLabel};
-pub use orders::post_order;
+pub use orders::{
+    post_order, post_order_by_component, topological_order, topological_order_by_component,
+};
+pub use traversal::{DFSEdgeKind, DFSTraversal};

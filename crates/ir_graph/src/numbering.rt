@@ -16,7 +16,10 @@ pub(crate) struct Numbering<N> {
 }
 
 /// The set of some nodes, in their order.
-fn set_of<N: Copy + Eq + Hash + Drop>(alloc: Global, nodes: &[N]) -> Result<IndexSet<N>, AllocError>
+pub(crate) fn set_of<N: Copy + Eq + Hash + Drop>(
+    alloc: Global,
+    nodes: &[N],
+) -> Result<IndexSet<N>, AllocError>
     requires same { (a b : N) → N.eq a b ≡ true → a ≡ b }
     requires distinct { AreDistinct nodes.now }
     ensures { IfOk result (λ set. set.keys ≡ nodes.now) }
@@ -29,7 +32,7 @@ fn set_of<N: Copy + Eq + Hash + Drop>(alloc: Global, nodes: &[N]) -> Result<Inde
 }
 
 /// The numbers of some nodes.
-fn number_row<N: Copy + Eq + Hash + Drop>(
+pub(crate) fn number_row<N: Copy + Eq + Hash + Drop>(
     alloc: Global,
     set: &IndexSet<N>,
     row: &[N],
