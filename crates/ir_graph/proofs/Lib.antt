@@ -3,8 +3,10 @@ mod Named
 mod NamedOrders
 mod NamedParts
 mod NamedSccs
+mod NamedSinks
 mod Numbers
 mod Parts
 mod Paths
 mod Places
 mod Rows
+mod Sinking

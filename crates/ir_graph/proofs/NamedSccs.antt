@@ -14,12 +14,12 @@ use Rattle.ir_graph.proofs.Numbers.{node_at, number_of, number_there, first}
 use Rattle.ir_graph.proofs.Places.{place_of, stands_in}
 use Rattle.ir_graph.proofs.Paths.{to_numbers, node_path, number_path, number_edge, on_cycle}
 
-module _ {X : Type 0} (keys : List X) where
-  some_node : (ks : List X) (i : ℕ) → i < length ks → (n : X) × (slice_get ks i ≡ Some n)
-  some_node [] i h = absurd (omega (arith, h))
-  some_node (x ∷ ks) zero h = (x, refl)
-  some_node (x ∷ ks) (suc i) h = some_node ks i (omega (arith, h))
+pub some_node : {X : Type 0} (ks : List X) (i : ℕ) → i < length ks → (n : X) × (slice_get ks i ≡ Some n)
+some_node [] i h = absurd (omega (arith, h))
+some_node (x ∷ ks) zero h = (x, refl)
+some_node (x ∷ ks) (suc i) h = some_node ks i (omega (arith, h))
 
+module _ {X : Type 0} (keys : List X) where
   -- numbers below the count of the nodes name some
   pub names_of : (ids : List ℕ) → ((i : ℕ) → Contains ids i → i < length keys) → (named : List X) × AreNamed keys ids named
   names_of [] h = ([], refl)

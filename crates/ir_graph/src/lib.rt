@@ -5,6 +5,8 @@ mod components;
 mod graph;
 mod numbering;
 mod orders;
+mod reverse;
+mod sinks;
 mod traversal;
 
 pub use components::sccs_in_topological_order;
@@ -13,4 +15,5 @@ pub use graph::{ControlFlowGraph, HasLabel};
 pub use orders::{
     post_order, post_order_by_component, topological_order, topological_order_by_component,
 };
+pub use reverse::{ReverseGraph, ReverseNode};
 pub use traversal::{DFSEdgeKind, DFSTraversal};
