@@ -7,6 +7,6 @@ mod NamedSinks
 mod Numbers
 mod Parts
 mod Paths
-mod Places
+pub mod Places
 mod Rows
 mod Sinking

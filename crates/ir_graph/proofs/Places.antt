@@ -38,7 +38,7 @@ module _ {X : Type 0} where
       let a : x ≡ y = cc in
       let b : xs ++ us ≡ ys ++ vs = cc in ap (λ z. z ∷ xs) a ∙ ap (λ zs. y ∷ zs) (same_front xs ys us vs (omega (arith, h)) b)
 
-  push_cases : (xs : List X) (y x : X) (i : ℕ) → slice_get (xs ++ y ∷ []) i ≡ Some x → (slice_get xs i ≡ Some x) ⊎ ((i ≡ length xs) × (y ≡ x))
+  pub push_cases : (xs : List X) (y x : X) (i : ℕ) → slice_get (xs ++ y ∷ []) i ≡ Some x → (slice_get xs i ≡ Some x) ⊎ ((i ≡ length xs) × (y ≡ x))
   push_cases [] y x zero e = inr (refl, same_Some y x e)
   push_cases [] y x (suc i) e = absurd (none-some x e)
   push_cases (z ∷ xs) y x zero e = inl e
