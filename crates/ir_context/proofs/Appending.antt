@@ -1,5 +1,5 @@
 -- When the members of one list can be moved behind those of another.
-use Rattle.std.proofs.Common.{◌≡◌, ◌↔◌, ◌⊎◌, inl, inr, ⊎_elim, Bool, true, false, true≢false, not, IsTrue, refl, sym, ap, ◌∙◌, subst}
+use Rattle.std.proofs.Common.{◌≡◌, ◌↔◌, ◌⊎◌, inl, inr, ⊎_elim, Bool, true, false, true≢false, not, IsTrue, refl, sym, subst}
 use Rattle.ir_program.specs.Program.{Program}
 use Rattle.ir_program.specs.Lists.{StandsInBlock, StandsInRegion, StandsInside, itself, in_block, in_region, in_operation, CanAppendOperations, CanAppendBlocks}
 use Rattle.ir_program.specs.declared.handles.Ptr.{Ptr}

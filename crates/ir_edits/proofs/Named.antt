@@ -1,5 +1,5 @@
 -- What is named, and what is refused where a name stands for nothing.
-use Rattle.std.proofs.Common.{◌≡◌, true≢false, refl, List, Option, Some, None, is_some, MatchOption, Result, Err, sym, ap, ◌∙◌, subst, length}
+use Rattle.std.proofs.Common.{◌≡◌, true≢false, refl, List, Option, Some, None, is_some, Result, Err, sym, ap, ◌∙◌, subst, length}
 use Rattle.ir_context.specs.Views.{ContextView}
 use Rattle.ir_types.specs.Views.{TypesView}
 use Rattle.ir_context.specs.declared.errors.CoreError.{CoreError}
