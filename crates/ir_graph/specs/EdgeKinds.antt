@@ -1,5 +1,6 @@
 -- Kinds of edges in a depth-first search.
-use Rattle.std.specs.Prelude.{◌≡◌, List, ◌∷◌, ◌++◌, Contains}
+use Rattle.std.specs.Prelude.{◌≡◌, ◌↔◌, List, ◌∷◌, ◌++◌, Contains}
+use Rattle.digraph.specs.Visits.{Traversal, empty, Visits}
 use Rattle.ir_graph.specs.declared.traversal.DFSEdgeKind.{DFSEdgeKind}
 use Rattle.ir_graph.specs.declared.traversal.DFSEdgeKind.TheVariants.{Forward, Back, Cross}
 
@@ -19,3 +20,12 @@ module _ {X : Type 0} (next : X → List X) where
   IsEdgeKind order a b Back = Descends order b a
   IsEdgeKind order a b Forward = Descends order a b × (a ≡ b → ⊥)
   IsEdgeKind order a b Cross = (Descends order a b → ⊥) × (Descends order b a → ⊥)
+
+module _ {X : Type 0} (t : Traversal X) (a b : X) where
+  -- b is a or descends from it, in every graph of which this is a search
+  abbrev pub DescendsIf : Type 0 → Type 0
+  DescendsIf P = (next : X → List X) (roots : List X) → Visits next empty roots t → P ↔ Descends next t.seen a b
+
+  -- an edge from a to b is of this kind, in every graph of which this is a search
+  abbrev pub HasEdgeKind : DFSEdgeKind → Type 0
+  HasEdgeKind kind = (next : X → List X) (roots : List X) → Visits next empty roots t → IsEdgeKind next t.seen a b kind

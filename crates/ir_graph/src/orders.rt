@@ -1,5 +1,5 @@
 //! Depth-first orders.
-ghost use Rattle.std.specs.Prelude.{◌≡◌, IfOk, OnOk, map, reverse};
+ghost use Rattle.std.specs.Prelude.{◌≡◌, IfOk, map, reverse};
 ghost use Rattle.digraph.specs.Visits.{joined, IsPostOrder, IsPostOrderApart};
 ghost use Rattle.ir_graph.specs.Graphs.{AreNamedParts};
 ghost use Rattle.ir_graph.specs.Orders.{lists_of, IsTopologicalOrder, IsTopologicalOrderApart};

@@ -1,6 +1,5 @@
 //! A graph with its edges turned round, entered by one more node.
-ghost use Rattle.std.specs.Prelude.{◌≡◌, ◌↔◌, ℕ, List, None, Some, IfOk, IsTrue, Contains, codes, option_copied};
-ghost use Rattle.std.specs.String.{string_bytes};
+ghost use Rattle.std.specs.Prelude.{◌≡◌, ◌↔◌, IfOk, IsTrue, option_copied};
 ghost use Rattle.ir_graph.specs.Reverse.{CanReverse};
 
 use crate::numbering::{nodes_at, number, set_of};

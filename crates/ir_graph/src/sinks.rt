@@ -1,5 +1,5 @@
 //! The last numbers of the components that no edge leaves.
-ghost use Rattle.std.specs.Prelude.{◌≡◌, ◌⊎◌, ℕ, ◌<◌, ◌≤◌, ◌↔◌, All, Contains, IfOk, IsTrue, MatchOption, OnOk, length};
+ghost use Rattle.std.specs.Prelude.{◌≡◌, ◌<◌, ◌≤◌, ◌↔◌, All, Contains, IfOk, IsTrue, MatchOption, OnOk, length};
 ghost use Rattle.digraph.specs.Graph.{InRange, successors};
 ghost use Rattle.digraph.specs.Sccs.{AreSccs};
 ghost use Rattle.ir_graph.specs.Sinks.{AddsEnd, AnyMarked, AreSinkEnds, LeadsOut, MarksAll};

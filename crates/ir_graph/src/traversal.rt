@@ -1,7 +1,7 @@
 //! A depth-first search from the entry of a graph, with numbers of the nodes and kinds of the edges.
-ghost use Rattle.std.specs.Prelude.{◌≡◌, ℕ, true, Some, List, All, Contains, IfOk, IsTrue, ◌↔◌, option_to_list, reverse, slice_get};
+ghost use Rattle.std.specs.Prelude.{◌≡◌, true, Some, All, Contains, IfOk, IsTrue, ◌↔◌, option_to_list, reverse, slice_get};
 ghost use Rattle.digraph.specs.Visits.{empty, Visits};
-ghost use Rattle.ir_graph.specs.EdgeKinds.{Descends, IsEdgeKind};
+ghost use Rattle.ir_graph.specs.EdgeKinds.{DescendsIf, HasEdgeKind};
 ghost use Rattle.ir_graph.specs.Graphs.{AreDistinct, AreNamed};
 
 use crate::ControlFlowGraph;
@@ -189,7 +189,7 @@ impl<N: Copy + Eq + Hash + Drop> DFSTraversal<N> {
     fn descends(&self, from: &N, to: &N) -> bool
         requires from { Contains self.now.seen from.now }
         requires to { Contains self.now.seen to.now }
-        ensures { (next : N → List N) (roots : List N) → Visits next empty roots self.now → IsTrue result ↔ Descends next self.now.seen from.now to.now }
+        ensures { DescendsIf self.now from.now to.now (IsTrue result) }
     {
         let is_seen_later = self.pre_order_number(from) <= self.pre_order_number(to);
         let is_left_earlier = self.post_order_number(to) <= self.post_order_number(from);
@@ -203,7 +203,7 @@ impl<N: Copy + Eq + Hash + Drop> DFSTraversal<N> {
     pub fn edge_kind(&self, from: &N, to: &N) -> DFSEdgeKind
         requires from { Contains self.now.seen from.now }
         requires to { Contains self.now.seen to.now }
-        ensures { (next : N → List N) (roots : List N) → Visits next empty roots self.now → IsEdgeKind next self.now.seen from.now to.now result }
+        ensures { HasEdgeKind self.now from.now to.now result }
     {
         if self.descends(to, from) {
             DFSEdgeKind::Back

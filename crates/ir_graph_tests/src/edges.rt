@@ -1,8 +1,7 @@
 //! Graphs as lists of edges between the numbers below a count.
-ghost use Rattle.std.specs.Prelude.{◌≡◌, ℕ, ◌<◌, IfOk, OnOk, length};
+ghost use Rattle.std.specs.Prelude.{◌<◌, IfOk, OnOk, length};
 ghost use Rattle.digraph.specs.Graph.{InRange};
 ghost use Rattle.digraph.specs.Transpose.{AreTransposed, IsEmptyRows};
-ghost use Rattle.std.specs.String.{string_bytes};
 
 use digraph::transposed;
 use ir_graph::{ControlFlowGraph, HasLabel};

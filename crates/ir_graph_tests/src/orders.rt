@@ -96,3 +96,15 @@ fn a_component_is_cyclic_alone(rt: HostRuntime) -> Result<(), Fail> {
     }
     Ok(())
 }
+
+#[test]
+fn a_component_is_copied_and_shown(rt: HostRuntime) -> Result<(), Fail> {
+    let alloc = rt.alloc();
+    let graph = graph_of(alloc, 1, &[])?;
+    for part in &sccs_in_topological_order(alloc, &Nothing {}, &graph)? {
+        let copy = part.clone()?;
+        let text = format!(in alloc; "{copy:?}")?;
+        assert_eq!(rt; text.as_str(), "Scc { nodes: [0], is_cyclic: false }");
+    }
+    Ok(())
+}
