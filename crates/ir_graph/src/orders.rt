@@ -75,7 +75,7 @@ fn reverse_each<N: Copy + Drop>(parts: &mut Vec<Vec<N>>)
 }
 
 /// The parts of `post_order_by_component`, in the same order, each turned round: a part begins with the node from which
-/// the others in it were reached. Within a part without cycles, edges lead from earlier nodes to later ones.
+/// the others in it were reached.
 ///
 /// In time linear in nodes and edges.
 ///

@@ -71,7 +71,7 @@ impl<C, N: HasLabel<C>> HasLabel<C> for ReverseNode<N> {
 }
 
 /// A graph with its edges turned round, and one more node, the sentinel, which is its entry. It leads to the last node, in
-/// the order of nodes, of each component that no edge of the original graph leaves: so all nodes are reached from it.
+/// the order of nodes, of each component that no edge of the original graph leaves.
 #[derive(Drop)]
 pub struct ReverseGraph<'a, G, N: Copy + Eq + Hash + Drop> {
     original: &'a G,
