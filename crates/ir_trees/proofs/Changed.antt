@@ -14,11 +14,9 @@ use Rattle.ir_trees.specs.Trees.{Head, Label, Sort, Operations, Blocks, Regions,
 use Rattle.ir_trees.specs.Stands.{by_handle, in_program, Handles, head_of, label_of, AreTree, no_operations, no_blocks, no_regions, first_operation, first_block, first_region, StandsFor}
 use Rattle.ir_trees.specs.Rewrites.{changed, changed_root, ChangesInside, KeepsInside}
 
-same_operation : (p q : Ptr Operation) → (p ≡ q) ⊎ (p ≢ q)
-same_operation p q = ⊎_elim (λ e. inl (same_handle p q e)) (λ ne. inr (λ h. ne (ap (λ (x : Ptr Operation). x.key) h))) (key_or_not p.key q.key)
-
-same_block : (p q : Ptr BasicBlock) → (p ≡ q) ⊎ (p ≢ q)
-same_block p q = ⊎_elim (λ e. inl (same_handle p q e)) (λ ne. inr (λ h. ne (ap (λ (x : Ptr BasicBlock). x.key) h))) (key_or_not p.key q.key)
+-- handles are the same or not
+same_or_not : {E : Type 0} (p q : Ptr E) → (p ≡ q) ⊎ (p ≢ q)
+same_or_not {E} p q = ⊎_elim (λ e. inl (same_handle p q e)) (λ ne. inr (λ h. ne (ap (λ (x : Ptr E). x.key) h))) (key_or_not p.key q.key)
 
 is_there : {X : Type 0} (o : Option X) (x : X) → o ≡ Some x → IsSome o
 is_there o x e = subst IsSome (sym e) refl
@@ -119,7 +117,7 @@ module _ {O B : Type 0} where
           (says v).1,
         ))
         (λ (other : q ≢ p). (v, edits.others q other ∙ there, sym (others (head_of q v) other), refl))
-        (same_operation q p);
+        (same_or_not q p);
     blocks = λ b v inside there. (v, edits.blocks b ∙ there, refl, refl);
     regions = λ r inside. edits.regions r;
   }) t stands
@@ -138,6 +136,6 @@ module _ {O B : Type 0} where
           (says v).1,
         ))
         (λ (other : q ≢ b). (v, edits.others q other ∙ there, sym (others (label_of q v) other), refl))
-        (same_block q b);
+        (same_or_not q b);
     regions = λ r inside. edits.regions r;
   }) t stands
