@@ -141,40 +141,43 @@ module _ {O B : Type 0} where
         pub blocks_distinct : StandOnceEach ns → AreDistinct (block_names t)
         blocks_distinct once = once_at (block_names t) (subst Once (root_called ns order) (blocks_once ns (once_of ns once)))
 
+        -- an operation of the tree is inside, and its handle leads to what its head says
+        abbrev Leads : Head by_handle (in_program O B) → Ptr Operation → Type 0
+        Leads h p = (v : OperationView O) × (operation_at c p ≡ Some v) × (h ≡ head_of p v)
+
+        user_inside : (h : Head by_handle (in_program O B)) → Lists (heads_of t) h → (p : Ptr Operation) → h.name ≡ p → StandsInside c (OperationNode op) (OperationNode p) × Leads h p
+        user_inside h listed p name =
+            let has = at_has (heads_of t) listed.0 h listed.1 in
+            let r = root_record op t stands h has in (
+              (operations_inside p).0 (has_at (operation_names t) p (subst (λ q. Has q (operation_names t)) name (has_map named (heads_of t) h has))),
+              subst (Leads h) name r,
+            )
+
+        -- an operation inside is one of the tree
+        inside_user : (p : Ptr Operation) → StandsInside c (OperationNode op) (OperationNode p) → (h : Head by_handle (in_program O B)) × Lists (heads_of t) h × (h.name ≡ p)
+        inside_user p inside =
+            let l = (operations_inside p).1 inside in
+            let m = has_made named (heads_of t) p (at_has (operation_names t) l.0 p l.1) in
+            (m.0, has_at (heads_of t) m.0 m.1, sym m.2)
+
+        operands_are : (h : Head by_handle (in_program O B)) (p : Ptr Operation) → Leads h p → operands_at c p ≡ h.operands
+        operands_are h p r = ap (λ o. unwrap_or (option_map (λ (y : OperationView O). y.operands) o) []) r.1 ∙ sym (ap (λ (g : Head by_handle (in_program O B)). g.operands) r.2)
+
+        successors_are : (h : Head by_handle (in_program O B)) (p : Ptr Operation) → Leads h p → successors_at c p ≡ h.successors
+        successors_are h p r = ap (λ o. unwrap_or (option_map (λ (y : OperationView O). y.successors) o) []) r.1 ∙ sym (ap (λ (g : Head by_handle (in_program O B)). g.successors) r.2)
+
         pub values_used : (x : Value) (p : Ptr Operation) (i : ℕ) → UsesValue t x p i ↔ (StandsInside c (OperationNode op) (OperationNode p) × (slice_get (operands_at c p) i ≡ Some x))
         values_used x p i = (
-          (λ u. let h = at_has (heads_of t) u.stands.0 u.head u.stands.1 in
-              let r = root_record op t stands u.head h in
-              let l : Has p (operation_names t) = subst (λ q. Has q (operation_names t)) u.named (has_map named (heads_of t) u.head h) in (
-                (operations_inside p).0 (has_at (operation_names t) p l),
-                ap (λ l. slice_get l i) (sym (ap (λ q. operands_at c q) u.named) ∙ ap (λ o. unwrap_or (option_map (λ (y : OperationView O). y.operands) o) []) r.1 ∙ sym (ap (λ (g : Head by_handle (in_program O B)). g.operands) r.2)) ∙ u.operand,
-              )),
-          (λ s. let l = (operations_inside p).1 s.0 in
-              let m = has_made named (heads_of t) p (at_has (operation_names t) l.0 p l.1) in
-              let r = root_record op t stands m.0 m.1 in
-              record {
-                head = m.0;
-                stands = has_at (heads_of t) m.0 m.1;
-                named = sym m.2;
-                operand = ap (λ l. slice_get l i) (ap (λ (g : Head by_handle (in_program O B)). g.operands) r.2 ∙ sym (ap (λ o. unwrap_or (option_map (λ (y : OperationView O). y.operands) o) []) r.1) ∙ sym (ap (λ q. operands_at c q) m.2)) ∙ s.1;
-              }),
+          (λ u. let r = user_inside u.head u.stands p u.named in (r.0, ap (λ l. slice_get l i) (operands_are u.head p r.1) ∙ u.operand)),
+          (λ s. let m = inside_user p s.0 in
+              let r = user_inside m.0 m.1 p m.2 in
+              record { head = m.0; stands = m.1; named = m.2; operand = ap (λ l. slice_get l i) (sym (operands_are m.0 p r.1)) ∙ s.1 }),
         )
 
         pub blocks_used : (x : Ptr BasicBlock) (p : Ptr Operation) (i : ℕ) → UsesBlock t x p i ↔ (StandsInside c (OperationNode op) (OperationNode p) × (slice_get (successors_at c p) i ≡ Some x))
         blocks_used x p i = (
-          (λ u. let h = at_has (heads_of t) u.stands.0 u.head u.stands.1 in
-              let r = root_record op t stands u.head h in
-              let l : Has p (operation_names t) = subst (λ q. Has q (operation_names t)) u.named (has_map named (heads_of t) u.head h) in (
-                (operations_inside p).0 (has_at (operation_names t) p l),
-                ap (λ l. slice_get l i) (sym (ap (λ q. successors_at c q) u.named) ∙ ap (λ o. unwrap_or (option_map (λ (y : OperationView O). y.successors) o) []) r.1 ∙ sym (ap (λ (g : Head by_handle (in_program O B)). g.successors) r.2)) ∙ u.successor,
-              )),
-          (λ s. let l = (operations_inside p).1 s.0 in
-              let m = has_made named (heads_of t) p (at_has (operation_names t) l.0 p l.1) in
-              let r = root_record op t stands m.0 m.1 in
-              record {
-                head = m.0;
-                stands = has_at (heads_of t) m.0 m.1;
-                named = sym m.2;
-                successor = ap (λ l. slice_get l i) (ap (λ (g : Head by_handle (in_program O B)). g.successors) r.2 ∙ sym (ap (λ o. unwrap_or (option_map (λ (y : OperationView O). y.successors) o) []) r.1) ∙ sym (ap (λ q. successors_at c q) m.2)) ∙ s.1;
-              }),
+          (λ u. let r = user_inside u.head u.stands p u.named in (r.0, ap (λ l. slice_get l i) (successors_are u.head p r.1) ∙ u.successor)),
+          (λ s. let m = inside_user p s.0 in
+              let r = user_inside m.0 m.1 p m.2 in
+              record { head = m.0; stands = m.1; named = m.2; successor = ap (λ l. slice_get l i) (sym (successors_are m.0 p r.1)) ∙ s.1 }),
         )
