@@ -1,4 +1,5 @@
 mod Descending
+mod LocalEdges
 mod Named
 mod NamedOrders
 mod NamedParts
@@ -8,5 +9,7 @@ mod Numbers
 mod Parts
 mod Paths
 pub mod Places
+mod RegionEdges
 mod Rows
 mod Sinking
+pub mod Walks

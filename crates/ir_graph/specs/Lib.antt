@@ -1,6 +1,8 @@
 pub mod EdgeKinds
 pub mod Graphs
 pub mod Orders
+pub mod Regions
+pub mod RegionLaws
 pub mod Reverse
 pub mod ReverseLaws
 pub mod ReverseNodes

@@ -2,8 +2,6 @@
 #![tactic(auto)]
 
 #[cfg(test)]
-mod edges;
-#[cfg(test)]
 mod orders;
 #[cfg(test)]
 mod reverse;

@@ -1,5 +1,5 @@
 //! Searches from the entry.
-use crate::edges::{Nothing, graph_of};
+use edge_graphs::{Nothing, graph_of};
 use ir_graph::{DFSEdgeKind, DFSTraversal};
 use std::alloc::{AllocError, Global};
 use std::test::Fail;

@@ -10,6 +10,7 @@ pub mod InOperations
 pub mod MovingRegions
 pub mod Inside
 pub mod Preorders
+pub mod WaysUp
 pub mod Unlinks
 pub mod BlockUnlinks
 pub mod Returns

@@ -3,6 +3,7 @@ pub mod Program
 pub mod Sound
 pub mod Lists
 pub mod Preorder
+pub mod Around
 pub mod Listed
 pub mod Edits
 pub mod ListEdits

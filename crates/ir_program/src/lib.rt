@@ -5,6 +5,7 @@
 mod adding;
 mod arguments;
 mod building;
+mod climbing;
 mod definitions;
 mod dropping;
 mod edges;
@@ -30,6 +31,7 @@ mod uses;
 mod values;
 mod walking;
 
+pub use climbing::NodesAround;
 pub use edges::BlockUses;
 pub use handles::{BasicBlock, DefiningEntity, IRNode, Operation, Ptr, Region, Use, Value};
 pub use listing::{Blocks, Operations, Regions};

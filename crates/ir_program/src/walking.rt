@@ -53,7 +53,7 @@ impl<'a, O, B> Iterator for NodesInside<'a, O, B> {
 
 impl<O, B> Program<O, B> {
     /// What is in this slot.
-    fn node_in(&self, place: Place) -> IRNode
+    pub(crate) fn node_in(&self, place: Place) -> IRNode
         requires { IsUsed self.now.forest place }
         ensures { result ≡ node_at self.now place }
     {

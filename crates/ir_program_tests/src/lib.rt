@@ -5,14 +5,8 @@
 #[cfg(test)]
 mod arenas;
 #[cfg(test)]
-mod asserted;
-#[cfg(test)]
-mod erasing;
-#[cfg(test)]
-mod growing;
+mod numbers;
 #[cfg(test)]
 mod place_rows;
-#[cfg(test)]
-mod rows;
 #[cfg(test)]
 mod use_tables;

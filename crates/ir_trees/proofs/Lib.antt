@@ -5,3 +5,8 @@ pub mod Picked
 pub mod Named
 pub mod Rewritten
 pub mod Changed
+pub mod Renamed
+pub mod RenamedRewrites
+pub mod Alike
+pub mod Same
+pub mod Placed

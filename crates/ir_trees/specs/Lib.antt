@@ -4,3 +4,4 @@ pub mod Renames
 pub mod Searched
 pub mod Stands
 pub mod Rewrites
+pub mod Places

@@ -51,12 +51,12 @@ module _ {O B : Type 0} (c : Program O B) where
   place_back (Block i) = refl
   place_back (RegionPlace i) = refl
 
-  node_back : (e : IRNode) → IsLiveNode c e → node_at c (place_of_node e) ≡ e
+  pub node_back : (e : IRNode) → IsLiveNode c e → node_at c (place_of_node e) ≡ e
   node_back (OperationNode p) live = ap OperationNode (handle_is c.forest.ops p (operation_got c p live))
   node_back (BlockNode p) live = ap BlockNode (handle_is c.forest.blocks p (block_got c p live))
   node_back (RegionNode p) live = ap RegionNode (handle_is c.forest.regions p (region_got c p live))
 
-  node_live : (e : Place) → IsUsed c.forest e → IsLiveNode c (node_at c e)
+  pub node_live : (e : Place) → IsUsed c.forest e → IsLiveNode c (node_at c e)
   node_live (Op i) used = operation_there c (handle (pointer_to c.forest.ops i)) (pointer_live c.forest.ops i used)
   node_live (Block i) used = block_there c (handle (pointer_to c.forest.blocks i)) (pointer_live c.forest.blocks i used)
   node_live (RegionPlace i) used = region_there c (handle (pointer_to c.forest.regions i)) (pointer_live c.forest.regions i used)

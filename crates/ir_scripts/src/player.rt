@@ -1,0 +1,240 @@
+//! Scripts, line by line.
+use crate::argument::Argument;
+use crate::asking::{ask, ask_about, call};
+use crate::edits::edit;
+use crate::names::Names;
+use crate::parts::entity_of;
+use crate::picture::picture;
+use crate::tiny::{IntegerType, NamedType, Tiny, TinyOp, TinyType};
+use ir_core::{Context, CoreError, Edit, Entity, RunEdits, TypeCalls};
+use std::alloc::{AllocError, Global};
+use std::mem;
+
+/// A line that was answered otherwise than it says.
+#[derive(Debug, PartialEq, Eq, Drop)]
+pub struct Surprise {
+    pub line: String,
+    pub answer: String,
+}
+
+/// A script while it is played: its names, and the edits that are still to be made.
+#[derive(Drop)]
+pub struct Player<'a> {
+    alloc: Global,
+    names: Names<'a>,
+    edits: Vec<Edit<TinyOp>>,
+}
+
+/// Plays a script in a new context. Answers the first line that was answered otherwise than it says.
+///
+/// # Errors
+/// Without memory.
+pub fn play<'a>(alloc: Global, script: &'a str) -> Result<Option<Surprise>, AllocError> {
+    let mut ctx: Context<Tiny> = Context::new(alloc);
+    let outcome = play_in(alloc, &mut ctx, script);
+    finish(ctx);
+    outcome
+}
+
+/// Lets a context go.
+fn finish(_ctx: Context<Tiny>) {}
+
+/// Plays a script in a context.
+fn play_in<'a>(
+    alloc: Global,
+    ctx: &mut Context<Tiny>,
+    script: &'a str,
+) -> Result<Option<Surprise>, AllocError> {
+    let mut player = make_player(alloc, ctx)?;
+    for line in script.lines() {
+        let (words, expected) = line.split_once("=>").unwrap_or((line, ""));
+        let answer = player.answer(ctx, words)?;
+        if answer.trim() != expected.trim() {
+            let line = String::from_str(alloc, line.trim())?;
+            return Ok(Some(Surprise { line, answer }));
+        }
+    }
+    Ok(None)
+}
+
+/// A player without names, in a context that has the types.
+fn make_player<'a>(alloc: Global, ctx: &mut Context<Tiny>) -> Result<Player<'a>, AllocError> {
+    let integer = ctx.instantiate_key(alloc, TinyType::Integer(IntegerType { width: 32 }))?;
+    let named = ctx.instantiate_key(alloc, TinyType::Named(NamedType { name: 1 }))?;
+    Ok(Player {
+        alloc,
+        names: Names::new(alloc, [integer, named]),
+        edits: Vec::new(alloc),
+    })
+}
+
+impl<'a> Player<'a> {
+    /// What a line is answered.
+    fn answer(&mut self, ctx: &mut Context<Tiny>, line: &'a str) -> Result<String, AllocError> {
+        let words: Vec<&'a str> = line.split_whitespace().collect(self.alloc)?;
+        match words.as_slice() {
+            [] => Ok(String::new(self.alloc)),
+            [name, "=", command, arguments @ ..] => {
+                self.names.promise(name, self.edits.len(), command)?;
+                self.tell(ctx, command, arguments)
+            }
+            [name, "is", word] => self.name(ctx, name, word),
+            ["run"] => self.run(ctx),
+            ["refuse", command, arguments @ ..] => self.refuse(ctx, command, arguments),
+            [command, arguments @ ..] => self.tell(ctx, command, arguments),
+        }
+    }
+
+    /// Puts an edit behind the others of the list, or asks a question after they are made.
+    fn tell(
+        &mut self,
+        ctx: &mut Context<Tiny>,
+        command: &str,
+        words: &[&str],
+    ) -> Result<String, AllocError> {
+        let arguments = self.arguments(words)?;
+        match edit(self.alloc, command, &arguments)? {
+            Some(edit) => {
+                self.edits.push(edit)?;
+                Ok(String::new(self.alloc))
+            }
+            None => self.question(ctx, command, words),
+        }
+    }
+
+    /// What words stand for. A word that stands for nothing is left out.
+    fn arguments(&self, words: &[&str]) -> Result<Vec<Argument>, AllocError> {
+        let mut arguments = Vec::new(self.alloc);
+        for word in words {
+            if let Some(argument) = self.names.argument(word) {
+                arguments.push(argument)?;
+            }
+        }
+        Ok(arguments)
+    }
+
+    /// Makes the edits of the list. The answer is empty, or says which was refused and why.
+    fn run(&mut self, ctx: &mut Context<Tiny>) -> Result<String, AllocError> {
+        let edits = mem::replace(&mut self.edits, Vec::new(self.alloc));
+        match ctx.run(edits) {
+            Ok(made) => {
+                self.names.keep(&made)?;
+                Ok(String::new(self.alloc))
+            }
+            Err((number, refusal)) => {
+                self.names.promised.clear();
+                format!(in self.alloc; "{refusal:?} at {number}")
+            }
+        }
+    }
+
+    /// Names what a word stands for.
+    fn name(
+        &mut self,
+        ctx: &mut Context<Tiny>,
+        name: &'a str,
+        word: &str,
+    ) -> Result<String, AllocError> {
+        let refusal = self.run(ctx)?;
+        let Some(argument) = self.names.argument(word) else {
+            return String::from_str(self.alloc, "it stands for nothing");
+        };
+        match entity_of(ctx, argument) {
+            Some(entity) => {
+                self.names.known.push((name, entity))?;
+                Ok(refusal)
+            }
+            None => String::from_str(self.alloc, "it is not there"),
+        }
+    }
+
+    /// Makes an edit alone, which is to be refused and to leave everything as it was.
+    fn refuse(
+        &mut self,
+        ctx: &mut Context<Tiny>,
+        command: &str,
+        words: &[&str],
+    ) -> Result<String, AllocError> {
+        let before = self.run(ctx)?;
+        if !before.is_empty() {
+            return Ok(before);
+        }
+        let before = picture(self.alloc, ctx, &self.names)?;
+        let arguments = self.arguments(words)?;
+        let refusal = self.make_alone(ctx, command, &arguments)?;
+        if picture(self.alloc, ctx, &self.names)? != before {
+            return String::from_str(self.alloc, "something changed");
+        }
+        Ok(refusal)
+    }
+
+    /// Makes an edit alone. The answer is empty where it is refused as not allowed.
+    fn make_alone(
+        &mut self,
+        ctx: &mut Context<Tiny>,
+        command: &str,
+        arguments: &[Argument],
+    ) -> Result<String, AllocError> {
+        let Some(edit) = edit(self.alloc, command, arguments)? else {
+            return String::from_str(self.alloc, "no edit");
+        };
+        let answer = match ctx.run(vec![in self.alloc; edit]?) {
+            Err((0, CoreError::EditNotAllowed)) => "",
+            Err(_) => "another refusal",
+            Ok(_) => "allowed",
+        };
+        String::from_str(self.alloc, answer)
+    }
+
+    /// What a question is answered, after the edits of the list are made.
+    fn question(
+        &mut self,
+        ctx: &mut Context<Tiny>,
+        question: &str,
+        words: &[&str],
+    ) -> Result<String, AllocError> {
+        let refusal = self.run(ctx)?;
+        if !refusal.is_empty() {
+            return Ok(refusal);
+        }
+        match self.reply(ctx, question, words)? {
+            Some(answer) => Ok(answer),
+            None => String::from_str(self.alloc, "no edit and no question"),
+        }
+    }
+
+    /// What a question about what is there is answered.
+    fn reply(
+        &mut self,
+        ctx: &mut Context<Tiny>,
+        question: &str,
+        words: &[&str],
+    ) -> Result<Option<String>, AllocError> {
+        let (entities, index) = self.entities(words)?;
+        match (question, entities.as_slice()) {
+            ("is_ir_empty", _) => Ok(Some(format!(in self.alloc; "{}", ctx.is_ir_empty())?)),
+            (_, [entity]) if words.len() == 1 => {
+                ask(self.alloc, ctx, &self.names, question, *entity)
+            }
+            _ => match call(self.alloc, ctx, question, &entities, index)? {
+                Some(answer) => Ok(Some(answer)),
+                None => ask_about(self.alloc, ctx, &self.names, question, &entities, index),
+            },
+        }
+    }
+
+    /// What is there under words, and the last number among them.
+    fn entities(&self, words: &[&str]) -> Result<(Vec<Entity>, usize), AllocError> {
+        let mut entities = Vec::new(self.alloc);
+        let mut index = 0;
+        for word in words {
+            if let Ok(number) = word.parse() {
+                index = number;
+            }
+            if let Some(entity) = self.names.entity(word) {
+                entities.push(entity)?;
+            }
+        }
+        Ok((entities, index))
+    }
+}
