@@ -3,8 +3,8 @@ ghost use Rattle.std.specs.Prelude.{◌≡◌, IfOk, OnOk, IsSome};
 ghost use Rattle.ir_program.specs.Program.{operation_at};
 ghost use Rattle.ir_program.specs.Made.{HasRoom};
 
-use crate::tiny::{Tiny, TinyOp};
 use ir_core::{BasicBlock, Context, GrowError, NewBlock, NewOperation, Operation, Ptr, Region};
+use ir_scripts::tiny::{Tiny, TinyOp};
 use std::alloc::{AllocError, Global};
 use std::test::Fail;
 
@@ -52,12 +52,22 @@ fn make_block(alloc: Global, ctx: &mut Context<Tiny>) -> Result<Ptr<BasicBlock>,
     }
 }
 
+/// One thing of each sort after the other, in a context that has room.
+fn make_each(alloc: Global, ctx: &mut Context<Tiny>) -> Result<(), AllocError>
+    requires room { HasRoom ctx.old.program }
+    requires numbers { ctx.old.program.counter ≡ 0 }
+{
+    let op = make_operation(alloc, ctx)?;
+    make_region(ctx, op)?;
+    make_block(alloc, ctx)?;
+    make_operation(alloc, ctx)?;
+    Ok(())
+}
+
 #[test]
 fn a_fresh_context_has_room(rt: HostRuntime) -> Result<(), Fail> {
     let mut ctx: Context<Tiny> = Context::new(rt.alloc());
-    let op = make_operation(rt.alloc(), &mut ctx)?;
-    make_region(&mut ctx, op)?;
-    make_block(rt.alloc(), &mut ctx)?;
-    make_operation(rt.alloc(), &mut ctx)?;
+    let outcome = make_each(rt.alloc(), &mut ctx);
+    assert!(rt; outcome.is_ok());
     Ok(())
 }

@@ -1,174 +1,124 @@
-//! Tests of what no clause says.
-use crate::tiny::{Tiny, TinyAttr, TinyOp};
+//! Tests of identifiers and names. What a test looks at comes as an argument, so that proofs compute nothing of it.
 use ir_names::{
-    AttrName, AttributeDict, DialectName, Dialects, GrowError, Identifier, IdentifierError,
-    InvalidIdentifier, Legaliser, OpId, OpName, Place, TypeHandle, TypeName, ident,
+    AttrName, DialectName, Dialects, GrowError, Identifier, IdentifierError, InvalidIdentifier,
+    Legaliser, OpId, OpName, Place, TypeHandle, TypeName,
 };
+use ir_scripts::tiny::{Tiny, TinyAttr};
 use std::alloc::{AllocError, Global};
-use std::hash::{FoldHasher, Hash, Hasher};
+use std::process::Abort;
 use std::test::Fail;
+
+/// Asserts that a text is what a name is, is shown as, and what its copy is.
+fn assert_name(
+    rt: &impl Abort,
+    alloc: Global,
+    name: &Identifier,
+    text: &str,
+) -> Result<(), AllocError> {
+    assert_eq!(rt; name.as_str(), text);
+    assert_eq!(rt; format!(in alloc; "{name}")?.as_str(), text);
+    assert_eq!(rt; name.try_clone()?.as_str(), text);
+    Ok(())
+}
+
+/// Asserts that a text is an identifier.
+fn assert_valid(rt: &impl Abort, alloc: Global, text: &str) -> Result<(), Fail> {
+    assert!(rt; Identifier::is_valid(text), "{text}");
+    let name = Identifier::try_new(alloc, text)?;
+    assert_name(rt, alloc, &name, text)?;
+    let chars: Vec<char> = text.chars().collect(alloc)?;
+    let name = Identifier::from_chars(alloc, &chars)?;
+    assert_name(rt, alloc, &name, text)?;
+    Ok(())
+}
+
+/// Asserts that a text is no identifier.
+fn assert_invalid(rt: &impl Abort, alloc: Global, text: &str) -> Result<(), Fail> {
+    assert!(rt; !Identifier::is_valid(text), "{text}");
+    let made = Identifier::try_new(alloc, text);
+    assert_eq!(rt; made, Err(IdentifierError::Invalid(InvalidIdentifier)));
+    let chars: Vec<char> = text.chars().collect(alloc)?;
+    let made = Identifier::from_chars(alloc, &chars);
+    assert_eq!(rt; made, Err(IdentifierError::Invalid(InvalidIdentifier)));
+    Ok(())
+}
 
 #[test]
 fn tells_identifiers(rt: HostRuntime) -> Result<(), Fail> {
     for text in ["_", "a1", "Z", "a_B_9"] {
-        assert!(rt; Identifier::is_valid(text), "{text}");
-        let name = Identifier::try_new(rt.alloc(), text)?;
-        assert_eq!(rt; name.as_str(), text);
-        assert_eq!(rt; name.try_clone()?, name);
-        assert_eq!(rt; format!(in rt.alloc(); "{name}")?.as_str(), text);
-        let chars: Vec<char> = text.chars().collect(rt.alloc())?;
-        assert_eq!(rt;
-            Identifier::from_chars(rt.alloc(), chars.as_slice())?.as_str(),
-            text
-        );
+        assert_valid(&rt, rt.alloc(), text)?;
     }
     for text in ["", "a-b", "1a", "é", "a ", "-"] {
-        assert!(rt; !Identifier::is_valid(text), "{text}");
-        assert!(rt;
-            matches!(
-                Identifier::try_new(rt.alloc(), text),
-                Err(IdentifierError::Invalid(_))
-            )
-        );
-        let chars: Vec<char> = text.chars().collect(rt.alloc())?;
-        let made = Identifier::from_chars(rt.alloc(), chars.as_slice());
-        assert!(rt; matches!(made, Err(IdentifierError::Invalid(_))));
+        assert_invalid(&rt, rt.alloc(), text)?;
     }
+    Ok(())
+}
+
+/// Asserts how a place is shown.
+fn assert_place(
+    rt: &impl Abort,
+    alloc: Global,
+    children: &[usize],
+    text: &str,
+) -> Result<(), AllocError> {
+    let place = Place {
+        children: children.to_vec(alloc)?,
+    };
+    assert_eq!(rt; format!(in alloc; "{place}")?.as_str(), text);
     Ok(())
 }
 
 #[test]
 fn shows_places(rt: HostRuntime) -> Result<(), Fail> {
-    let mut place = Place {
-        children: Vec::new(rt.alloc()),
-    };
-    assert_eq!(rt; format!(in rt.alloc(); "{place}")?.as_str(), "root");
-    place.children.push(0)?;
-    place.children.push(12)?;
-    place.children.push(3)?;
-    assert_eq!(rt; format!(in rt.alloc(); "{place}")?.as_str(), "0.12.3");
+    assert_place(&rt, rt.alloc(), &[], "root")?;
+    assert_place(&rt, rt.alloc(), &[0, 12, 3], "0.12.3")?;
     Ok(())
 }
 
-#[test]
-fn holds_attributes(rt: HostRuntime) -> Result<(), Fail> {
-    let mut dict: AttributeDict<Tiny> = AttributeDict::new(rt.alloc());
-    assert!(rt; dict.is_empty());
-    let old = dict.set(Identifier::try_new(rt.alloc(), "b")?, TinyAttr::Number(3))?;
-    assert_eq!(rt; old, None);
-    let old = dict.set(Identifier::try_new(rt.alloc(), "a")?, TinyAttr::Number(4))?;
-    assert_eq!(rt; old, None);
-    let old = dict.set(Identifier::try_new(rt.alloc(), "b")?, TinyAttr::Number(5))?;
-    assert_eq!(rt; old, Some(TinyAttr::Number(3)));
-    assert_eq!(rt; dict.len(), 2);
-    assert_eq!(rt; dict.get("b"), Some(&TinyAttr::Number(5)));
-    assert_eq!(rt; dict.get("c"), None);
-    assert_eq!(rt; dict.entry(1), Some(("a", &TinyAttr::Number(4))));
-    assert_eq!(rt; dict.entry(2), None);
-    Ok(())
-}
-
-/// A dictionary of two numbers, under these names in this order.
-fn pair(
+/// Asserts that a copy of an attribute is the attribute, and says its type.
+fn assert_copied(
+    rt: &impl Abort,
     alloc: Global,
-    first: (&str, u64),
-    second: (&str, u64),
-) -> Result<AttributeDict<Tiny>, IdentifierError> {
-    let mut dict = AttributeDict::new(alloc);
-    dict.set(
-        Identifier::try_new(alloc, first.0)?,
-        TinyAttr::Number(first.1),
-    )?;
-    dict.set(
-        Identifier::try_new(alloc, second.0)?,
-        TinyAttr::Number(second.1),
-    )?;
-    Ok(dict)
-}
-
-#[test]
-fn removes_attributes(rt: HostRuntime) -> Result<(), Fail> {
-    let mut dict = pair(rt.alloc(), ("b", 3), ("a", 4))?;
-    assert_eq!(rt; dict.remove("b"), Some(TinyAttr::Number(3)));
-    assert_eq!(rt; dict.remove("b"), None);
-    assert_eq!(rt; dict.get("a"), Some(&TinyAttr::Number(4)));
-    assert_eq!(rt; dict.remove("a"), Some(TinyAttr::Number(4)));
-    assert!(rt; dict.is_empty());
-    Ok(())
-}
-
-#[test]
-fn lends_attributes(rt: HostRuntime) -> Result<(), Fail> {
-    let mut dict = pair(rt.alloc(), ("b", 3), ("a", 4))?;
-    if let Some(attr) = dict.get_mut("a") {
-        *attr = TinyAttr::Number(9);
-    }
-    if let Some(attr) = dict.get_mut("b") {
-        *attr = TinyAttr::Number(8);
-    }
-    assert!(rt; dict.get_mut("c").is_none());
-    let mut left = dict.iter();
-    assert_eq!(rt; left.next(), Some(("b", &TinyAttr::Number(8))));
-    assert_eq!(rt; left.next(), Some(("a", &TinyAttr::Number(9))));
-    assert_eq!(rt; left.next(), None);
-    Ok(())
-}
-
-#[test]
-fn compares_dictionaries(rt: HostRuntime) -> Result<(), Fail> {
-    let dict = pair(rt.alloc(), ("b", 3), ("a_1", 4))?;
-    assert!(rt; pair(rt.alloc(), ("a_1", 4), ("b", 3))? == dict);
-    assert!(rt; pair(rt.alloc(), ("b", 3), ("a_1", 5))? != dict);
-    assert!(rt; pair(rt.alloc(), ("b", 3), ("a", 4))? != dict);
-    assert!(rt; AttributeDict::new(rt.alloc()) != dict);
-    Ok(())
-}
-
-/// What a dictionary hashes to.
-fn hash_of(dict: &AttributeDict<Tiny>) -> u64 {
-    let mut hasher = FoldHasher::default();
-    dict.hash(&mut hasher);
-    hasher.finish()
-}
-
-#[test]
-fn hashes_dictionaries(rt: HostRuntime) -> Result<(), Fail> {
-    let hash = hash_of(&pair(rt.alloc(), ("b", 3), ("a_1", 4))?);
-    assert_eq!(rt; hash_of(&pair(rt.alloc(), ("a_1", 4), ("b", 3))?), hash);
-    assert_ne!(rt; hash_of(&pair(rt.alloc(), ("b", 3), ("a_1", 5))?), hash);
-    assert_ne!(rt; hash_of(&pair(rt.alloc(), ("b", 4), ("a_1", 3))?), hash);
-    assert_ne!(rt; hash_of(&AttributeDict::new(rt.alloc())), hash);
-    Ok(())
-}
-
-#[test]
-fn copies_dictionaries(rt: HostRuntime) -> Result<(), Fail> {
-    let dict = pair(rt.alloc(), ("b", 3), ("a", 4))?;
-    let copy = dict.clone(rt.alloc())?;
-    assert_eq!(rt; copy.entry(0), Some(("b", &TinyAttr::Number(3))));
-    assert_eq!(rt; copy.entry(1), Some(("a", &TinyAttr::Number(4))));
-    assert_eq!(rt; copy.len(), 2);
-    assert!(rt; copy == dict);
-    Ok(())
-}
-
-#[test]
-fn orders_names(rt: HostRuntime) -> Result<(), Fail> {
-    let dict = pair(rt.alloc(), ("b", 3), ("a_1", 4))?;
-    let names = dict.keys_in_order(rt.alloc())?;
-    assert_eq!(rt; names.as_slice(), ["a_1", "b"].as_slice());
+    attr: &TinyAttr,
+    ty: Option<TypeHandle>,
+) -> Result<(), AllocError> {
+    let copy = Tiny::clone_attr(alloc, attr)?;
+    assert_eq!(rt; copy, *attr);
+    assert_eq!(rt; Tiny::attr_type(&copy), ty);
     Ok(())
 }
 
 #[test]
 fn clones_attributes(rt: HostRuntime) -> Result<(), Fail> {
-    let attr = TinyAttr::Type(TypeHandle::new(2));
-    let copy = Tiny::clone_attr(rt.alloc(), &attr)?;
-    assert_eq!(rt; copy, attr);
-    assert_eq!(rt; Tiny::attr_type(&copy), Some(TypeHandle::new(2)));
-    assert_eq!(rt; TypeHandle::new(2).number(), 2);
+    let ty = TypeHandle::new(2);
+    assert_eq!(rt; ty.number(), 2);
+    assert_copied(&rt, rt.alloc(), &TinyAttr::Type(ty), Some(ty))?;
+    assert_copied(&rt, rt.alloc(), &TinyAttr::Number(2), None)?;
     assert_eq!(rt; GrowError::from(AllocError), GrowError::Memory);
-    assert_eq!(rt; TinyOp::Def, TinyOp::Def);
+    Ok(())
+}
+
+/// Asserts what name a source gets.
+fn assert_legalised(
+    rt: &impl Abort,
+    legaliser: &mut Legaliser,
+    source: &str,
+    name: &str,
+) -> Result<(), GrowError> {
+    assert_eq!(rt; legaliser.legalise(source)?.as_str(), name);
+    Ok(())
+}
+
+/// Asserts which source got a name.
+fn assert_source(
+    rt: &impl Abort,
+    alloc: Global,
+    legaliser: &Legaliser,
+    name: &str,
+    source: Option<&str>,
+) -> Result<(), IdentifierError> {
+    let name = Identifier::try_new(alloc, name)?;
+    assert_eq!(rt; legaliser.source_name(&name), source);
     Ok(())
 }
 
@@ -185,28 +135,83 @@ fn legalises_sources(rt: HostRuntime) -> Result<(), Fail> {
         ("7é", "_7_"),
     ];
     for (source, name) in rows {
-        assert_eq!(rt; legaliser.legalise(source)?.as_str(), name);
+        assert_legalised(&rt, &mut legaliser, source, name)?;
     }
     for (source, name) in rows {
-        let name = Identifier::try_new(rt.alloc(), name)?;
-        assert_eq!(rt; legaliser.source_name(&name), Some(source));
+        assert_source(&rt, rt.alloc(), &legaliser, name, Some(source))?;
     }
-    let other = Identifier::try_new(rt.alloc(), "hello")?;
-    assert_eq!(rt; legaliser.source_name(&other), None);
+    assert_source(&rt, rt.alloc(), &legaliser, "hello", None)?;
+    Ok(())
+}
+
+/// Asserts that a source gets no name since the counter is full.
+fn assert_full(rt: &impl Abort, legaliser: &mut Legaliser, source: &str) {
+    assert_eq!(rt; legaliser.legalise(source), Err(GrowError::CounterFull));
+}
+
+/// A legaliser that has one number left.
+fn last_number(alloc: Global) -> Legaliser {
+    Legaliser::counting_from(alloc, u64::MAX - 1)
+}
+
+#[test]
+fn refuses_a_full_counter(rt: HostRuntime) -> Result<(), Fail> {
+    let mut legaliser = last_number(rt.alloc());
+    let numbered = "a__18446744073709551614";
+    assert_legalised(&rt, &mut legaliser, "a_", "a_")?;
+    assert_legalised(&rt, &mut legaliser, "a.", numbered)?;
+    assert_full(&rt, &mut legaliser, "a-");
+    assert_legalised(&rt, &mut legaliser, "a.", numbered)?;
+    assert_legalised(&rt, &mut legaliser, "b", "b")?;
+    Ok(())
+}
+
+/// Asserts that a name with `1` and another name behind it is this.
+fn assert_joined(
+    rt: &impl Abort,
+    first: Identifier,
+    second: &Identifier,
+    expected: &str,
+) -> Result<(), IdentifierError> {
+    let joined = ((first + "1")? + second)?;
+    assert_eq!(rt; joined.as_str(), expected);
+    let same = Identifier::try_from_string(joined.into_string());
+    assert!(rt; same.is_ok());
+    Ok(())
+}
+
+/// Asserts what a text is when it is cleaned.
+fn assert_cleaned(
+    rt: &impl Abort,
+    alloc: Global,
+    text: &str,
+    name: &str,
+) -> Result<(), AllocError> {
+    assert_eq!(rt; Identifier::clean(alloc, text)?.as_str(), name);
+    Ok(())
+}
+
+/// Asserts that a text isn't taken as an identifier.
+fn assert_not_taken(rt: &impl Abort, alloc: Global, text: &str) -> Result<(), AllocError> {
+    let text = String::from_str(alloc, text)?;
+    assert_eq!(rt; Identifier::try_from_string(text), Err(InvalidIdentifier));
     Ok(())
 }
 
 #[test]
 fn joins_identifiers(rt: HostRuntime) -> Result<(), Fail> {
-    let first = Identifier::try_new(rt.alloc(), "a_")?;
-    let second = Identifier::clean(rt.alloc(), "9-é")?;
-    assert_eq!(rt; second.as_str(), "_9__");
-    let joined = ((first + "1")? + &second)?;
-    assert_eq!(rt; joined.as_str(), "a_1_9__");
-    let same = Identifier::try_from_string(joined.into_string())?;
-    assert_eq!(rt; same, ident(rt.alloc(), "a_1_9__")?);
-    let text = String::from_str(rt.alloc(), "1")?;
-    assert_eq!(rt; Identifier::try_from_string(text), Err(InvalidIdentifier));
+    let alloc = rt.alloc();
+    assert_cleaned(&rt, alloc, "9-é", "_9__")?;
+    let first = Identifier::try_new(alloc, "a_")?;
+    let second = Identifier::try_new(alloc, "_9__")?;
+    assert_joined(&rt, first, &second, "a_1_9__")?;
+    assert_not_taken(&rt, alloc, "1")?;
+    Ok(())
+}
+
+/// Asserts how the id of an operation is shown.
+fn assert_id(rt: &impl Abort, alloc: Global, id: OpId, text: &str) -> Result<(), AllocError> {
+    assert_eq!(rt; format!(in alloc; "{id}")?.as_str(), text);
     Ok(())
 }
 
@@ -217,32 +222,38 @@ fn shows_ids(rt: HostRuntime) -> Result<(), Fail> {
         dialect: DialectName::try_new("tiny")?,
         name: OpName::try_new("define")?,
     };
-    assert_eq!(rt; format!(in rt.alloc(); "{id}")?.as_str(), "tiny.define");
-    assert_eq!(rt; id.name.to_identifier(rt.alloc())?.as_str(), "define");
+    assert_id(&rt, rt.alloc(), id, "tiny.define")?;
     Ok(())
+}
+
+/// Asserts that a name is a text.
+fn assert_text(rt: &impl Abort, name: &Identifier, text: &str) {
+    assert_eq!(rt; name.as_str(), text);
 }
 
 #[test]
 fn names_are_identifiers(rt: HostRuntime) -> Result<(), Fail> {
-    let name = Identifier::new(rt.alloc(), "a1")?;
-    assert_eq!(rt; name.as_str(), "a1");
-    let dialect = DialectName::try_new("tiny")?;
-    assert_eq!(rt; dialect.to_identifier(rt.alloc())?.as_str(), "tiny");
-    let attr = AttrName::try_new("value")?;
-    assert_eq!(rt; attr.to_identifier(rt.alloc())?.as_str(), "value");
-    let ty = TypeName::try_new("integer")?;
-    assert_eq!(rt; ty.to_identifier(rt.alloc())?.as_str(), "integer");
-    Ok(())
-}
-
-#[test]
-fn refuses_a_full_counter(rt: HostRuntime) -> Result<(), Fail> {
-    let mut legaliser = Legaliser::counting_from(rt.alloc(), u64::MAX - 1);
-    assert_eq!(rt; legaliser.legalise("a_")?.as_str(), "a_");
-    let numbered = legaliser.legalise("a.")?;
-    assert_eq!(rt; numbered.as_str(), "a__18446744073709551614");
-    assert_eq!(rt; legaliser.legalise("a-"), Err(GrowError::CounterFull));
-    assert_eq!(rt; legaliser.legalise("a."), Ok(numbered));
-    assert_eq!(rt; legaliser.legalise("b")?.as_str(), "b");
+    let alloc = rt.alloc();
+    assert_text(&rt, &Identifier::new(alloc, "a1")?, "a1");
+    assert_text(
+        &rt,
+        &DialectName::try_new("tiny")?.to_identifier(alloc)?,
+        "tiny",
+    );
+    assert_text(
+        &rt,
+        &OpName::try_new("define")?.to_identifier(alloc)?,
+        "define",
+    );
+    assert_text(
+        &rt,
+        &AttrName::try_new("value")?.to_identifier(alloc)?,
+        "value",
+    );
+    assert_text(
+        &rt,
+        &TypeName::try_new("integer")?.to_identifier(alloc)?,
+        "integer",
+    );
     Ok(())
 }

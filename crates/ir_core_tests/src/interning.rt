@@ -3,11 +3,13 @@ ghost use Rattle.std.specs.Prelude.{◌≡◌, Some};
 ghost use Rattle.ir_types.specs.Interned.{IsKnown};
 ghost use Rattle.ir_types.specs.Lends.{with_body};
 
-use crate::tiny::{
+use ir_names::{AttrInterface, OpInterface, TypeHandle, TypeInterface};
+use ir_scripts::tiny::{
     IntegerType, NamedType, Tiny, TinyAttr, TinyLocation, TinyOp, TinyType, TinyTypeKind,
 };
-use ir_names::{AttrInterface, OpInterface, TypeHandle, TypeInterface};
 use ir_types::{DialectTables, TypeInterfaceHandleErr, TypedHandleErr, Types};
+use std::alloc::{AllocError, Global};
+use std::process::Abort;
 use std::test::Fail;
 
 #[test]
@@ -97,31 +99,88 @@ fn saves_values(rt: HostRuntime) -> Result<(), Fail> {
     Ok(())
 }
 
+/// Asserts whether a kind implements an interface.
+fn assert_implements(rt: &impl Abort, kind: TinyOp, interface: OpInterface, answer: bool) {
+    assert_eq!(rt; Tiny::op_implements(kind, interface), answer);
+}
+
+/// Asserts what copies of a key of types and of a location are.
+fn assert_copies(
+    rt: &impl Abort,
+    alloc: Global,
+    key: &TinyType,
+    location: &TinyLocation,
+) -> Result<(), AllocError> {
+    assert_eq!(rt; Tiny::clone_type_key(alloc, key)?, *key);
+    assert_eq!(rt; Tiny::clone_location(alloc, location)?, *location);
+    Ok(())
+}
+
+/// Asserts that an attribute has no type and implements nothing that has one.
+fn assert_untyped(rt: &impl Abort, attr: &TinyAttr) {
+    assert_eq!(rt; Tiny::type_of(attr), None);
+    assert!(rt; !Tiny::attr_implements(attr, AttrInterface::TypedAttr));
+}
+
 #[test]
 fn asks_a_dialect(rt: HostRuntime) -> Result<(), Fail> {
-    assert!(rt; Tiny::op_implements(TinyOp::Jump, OpInterface::IsTerminator));
-    assert!(rt; !Tiny::op_implements(TinyOp::Graph, OpInterface::IsTerminator));
-    let attr = TinyAttr::Number(3);
-    assert_eq!(rt; Tiny::type_of(&attr), None);
-    assert!(rt; !Tiny::attr_implements(&attr, AttrInterface::TypedAttr));
-    let copy = Tiny::clone_type_key(rt.alloc(), &TinyType::Integer(IntegerType { width: 3 }))?;
-    assert_eq!(rt; copy, TinyType::Integer(IntegerType { width: 3 }));
-    let line = Tiny::clone_location(rt.alloc(), &TinyLocation::Line(4))?;
-    assert_eq!(rt; line, TinyLocation::Line(4));
-    let id = Tiny::op_id(TinyOp::Graph);
-    assert_eq!(rt; format!(in rt.alloc(); "{id}")?.as_str(), "tiny.graph");
-    let found = Tiny::type_id(TinyTypeKind::Named);
-    let expected = Tiny::type_id(TinyTypeKind::Integer);
+    assert_implements(&rt, TinyOp::Jump, OpInterface::IsTerminator, true);
+    assert_implements(&rt, TinyOp::Graph, OpInterface::IsTerminator, false);
+    assert_untyped(&rt, &TinyAttr::Number(3));
+    let key = TinyType::Integer(IntegerType { width: 3 });
+    assert_copies(&rt, rt.alloc(), &key, &TinyLocation::Line(4))?;
+    Ok(())
+}
+
+/// Asserts how the id of a kind of operations is shown.
+fn assert_shown(
+    rt: &impl Abort,
+    alloc: Global,
+    kind: TinyOp,
+    text: &str,
+) -> Result<(), AllocError> {
+    let id = Tiny::op_id(kind);
+    assert_eq!(rt; format!(in alloc; "{id}")?.as_str(), text);
+    Ok(())
+}
+
+/// Asserts how it is shown that a type is of another kind.
+fn assert_other_kind(
+    rt: &impl Abort,
+    alloc: Global,
+    expected: TinyTypeKind,
+    found: TinyTypeKind,
+    text: &str,
+) -> Result<(), AllocError> {
+    let expected = Tiny::type_id(expected);
+    let found = Tiny::type_id(found);
     let error = TypedHandleErr { expected, found };
-    assert_eq!(rt;
-        format!(in rt.alloc(); "{error}")?.as_str(),
-        "expected a type tiny.integer, found tiny.named"
-    );
-    let interface = TypeInterface::FunctionType;
+    assert_eq!(rt; format!(in alloc; "{error}")?.as_str(), text);
+    Ok(())
+}
+
+/// Asserts how it is shown that a type lacks an interface.
+fn assert_lacks(
+    rt: &impl Abort,
+    alloc: Global,
+    interface: TypeInterface,
+    found: TinyTypeKind,
+    text: &str,
+) -> Result<(), AllocError> {
+    let found = Tiny::type_id(found);
     let error = TypeInterfaceHandleErr { interface, found };
-    assert_eq!(rt;
-        format!(in rt.alloc(); "{error}")?.as_str(),
-        "type tiny.named does not implement FunctionType"
-    );
+    assert_eq!(rt; format!(in alloc; "{error}")?.as_str(), text);
+    Ok(())
+}
+
+#[test]
+fn shows_kinds_and_refusals(rt: HostRuntime) -> Result<(), Fail> {
+    let alloc = rt.alloc();
+    assert_shown(&rt, alloc, TinyOp::Graph, "tiny.graph")?;
+    let (integer, named) = (TinyTypeKind::Integer, TinyTypeKind::Named);
+    let text = "expected a type tiny.integer, found tiny.named";
+    assert_other_kind(&rt, alloc, integer, named, text)?;
+    let text = "type tiny.named does not implement FunctionType";
+    assert_lacks(&rt, alloc, TypeInterface::FunctionType, named, text)?;
     Ok(())
 }

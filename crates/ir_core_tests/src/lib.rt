@@ -3,15 +3,9 @@
 #![tactic(auto)]
 
 #[cfg(test)]
-mod building;
+mod around;
 #[cfg(test)]
-mod cast;
-#[cfg(test)]
-mod chosen;
-#[cfg(test)]
-mod edges;
-#[cfg(test)]
-mod erased;
+mod dictionaries;
 #[cfg(test)]
 mod fresh;
 #[cfg(test)]
@@ -27,19 +21,19 @@ mod list_edits;
 #[cfg(test)]
 mod lists;
 #[cfg(test)]
-mod looking;
-#[cfg(test)]
-mod markers;
+mod playing;
 #[cfg(test)]
 mod refusals;
+#[cfg(test)]
+mod regions;
+#[cfg(test)]
+mod replaced;
 #[cfg(test)]
 mod row_edits;
 #[cfg(test)]
 mod rows;
 #[cfg(test)]
 mod standing;
-#[cfg(test)]
-mod tiny;
 #[cfg(test)]
 mod types;
 #[cfg(test)]

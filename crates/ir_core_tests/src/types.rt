@@ -1,15 +1,27 @@
 //! Types, saved values, and what their markers say.
-use crate::building::{finish, integer, named};
-use crate::markers::{Function, Jump, Terminator, TypedAttribute};
-use crate::tiny::{IntegerType, Tiny, TinyAttr, TinyOp, TinyType};
 use ir_core::{
     AttributeDict, AttributeLookups, Context, CoreError, Identifier, IdentifierError, Instantiate,
     InvalidIdentifier, TypeCalls, TypeHandle, TypeInterfaceHandle, TypedHandle, Uniqued,
     attr_impls, attr_type, ident, op_impls, op_impls_static, type_impls,
 };
+use ir_scripts::markers::{Function, Jump, Terminator, TypedAttribute};
+use ir_scripts::tiny::{IntegerType, NamedType, Tiny, TinyAttr, TinyOp, TinyType};
 use std::alloc::{AllocError, Global};
 use std::process::Abort;
 use std::test::Fail;
+
+/// Lets a context go. It stands in a function of its own so that it is proved once.
+fn finish(_ctx: Context<Tiny>) {}
+
+/// The type of integers of 32 bits.
+fn integer(alloc: Global, ctx: &mut Context<Tiny>) -> Result<TypeHandle, AllocError> {
+    ctx.instantiate_key(alloc, TinyType::Integer(IntegerType { width: 32 }))
+}
+
+/// The type with a name, one of functions.
+fn named(alloc: Global, ctx: &mut Context<Tiny>) -> Result<TypeHandle, AllocError> {
+    ctx.instantiate_key(alloc, TinyType::Named(NamedType { name: 1 }))
+}
 
 /// The type of integers of a width, and the width that it has.
 fn instantiated(

@@ -1,0 +1,90 @@
+//! The blocks of a region as a graph.
+use crate::playing::plays;
+use std::test::Fail;
+
+#[test]
+fn blocks_are_a_graph_where_edges_are_local(rt: HostRuntime) -> Result<(), Fail> {
+    plays(
+        &rt,
+        rt.alloc(),
+        "
+            o = def 1
+            a = block
+            b = block
+            c = block
+            d = block
+            insert_block_at_back a o.region.0
+            insert_block_at_back b o.region.0
+            insert_block_at_back c o.region.0
+            insert_block_at_back d o.region.0
+            r is o.region.0
+            x = jump b c
+            y = jump d
+            z = jump d
+            insert_operation_at_back x a
+            insert_operation_at_back y b
+            insert_operation_at_back z c
+            nodes r => a b c d
+            entry_node r => a
+            post_order r => d b c a
+            topological_order r => a c b d
+            pre_sentinels r => d
+            shown a => block1v1
+        ",
+    )
+}
+
+#[test]
+fn an_empty_region_is_a_graph(rt: HostRuntime) -> Result<(), Fail> {
+    plays(
+        &rt,
+        rt.alloc(),
+        "
+            o = def 1
+            r is o.region.0
+            nodes r =>
+            entry_node r => none
+            post_order r =>
+            pre_sentinels r =>
+        ",
+    )
+}
+
+#[test]
+fn edges_that_are_not_local_are_told(rt: HostRuntime) -> Result<(), Fail> {
+    plays(
+        &rt,
+        rt.alloc(),
+        "
+            o = def 1
+            a = block
+            b = block
+            c = block
+            d = block
+            insert_block_at_back a o.region.0
+            insert_block_at_back b o.region.0
+            insert_block_at_back c o.region.0
+            insert_block_at_back d o.region.0
+            r is o.region.0
+            x = jump b
+            insert_operation_at_back x a
+            nodes r => a b c d
+            t = block
+            push_successor x t
+            nodes r => edges lead out of it or into it
+            pop_successor x
+            nodes r => a b c d
+            u = jump c
+            nodes r => edges lead out of it or into it
+            erase_operation u
+            nodes r => a b c d
+            v = def
+            insert_operation_at_back v a
+            nodes r => edges lead out of it or into it
+            unlink_operation v
+            w = def d
+            insert_operation_at_back w b
+            nodes r => edges lead out of it or into it
+        ",
+    )
+}
