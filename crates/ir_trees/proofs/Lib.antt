@@ -10,3 +10,10 @@ pub mod RenamedRewrites
 pub mod Alike
 pub mod Same
 pub mod Placed
+pub mod HandleTests
+pub mod ListMembers
+pub mod ListEdited
+pub mod ListErased
+pub mod ListJoined
+pub mod UseEdited
+pub mod ListGrown

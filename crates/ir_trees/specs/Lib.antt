@@ -5,3 +5,4 @@ pub mod Searched
 pub mod Stands
 pub mod Rewrites
 pub mod Places
+pub mod ListRewrites
