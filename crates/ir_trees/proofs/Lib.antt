@@ -17,3 +17,4 @@ pub mod ListErased
 pub mod ListJoined
 pub mod UseEdited
 pub mod ListGrown
+pub mod SeenTrees

@@ -6,3 +6,4 @@ pub mod Stands
 pub mod Rewrites
 pub mod Places
 pub mod ListRewrites
+pub mod Seen
