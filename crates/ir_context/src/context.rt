@@ -39,6 +39,26 @@ impl<O, B, T: TypeTable> Model for TypedProgram<O, B, T> {
 }
 
 impl<O, B, T: TypeTable> TypedProgram<O, B, T> {
+    /// No operation, region or block, beside a table of types.
+    #[tactic(auto, using(crate::proofs::KnownTypes::none_known))]
+    pub fn with_types(alloc: Global, types: T) -> TypedProgram<O, B, T>
+        ensures operations { (p : _) → operation_at result.program p ≡ None }
+        ensures blocks { (p : _) → block_at result.program p ≡ None }
+        ensures regions { (p : _) → region_at result.program p ≡ None }
+        ensures counter { result.program.counter ≡ 0 }
+        ensures room { HasRoom result.program }
+        ensures types { result.types ≡ types }
+    {
+        let program = Program::new(alloc);
+        // So there is no value whose type could be unknown.
+        program.know_values();
+        TypedProgram {
+            program,
+            types,
+            alloc,
+        }
+    }
+
     /// Tells that the type of each value is one of the table's. It does nothing.
     pub fn know_types(&self)
         ensures { HasKnownTypes (T.type_count self.now.types) self.now.program }
@@ -84,7 +104,6 @@ impl<O, B, T: TypeTable> TypedProgram<O, B, T> {
 
 impl<D: DialectTables> TypedProgram<OperationData<D>, BlockNotes<D>, Types<D>> {
     /// No operation, region, block, type or saved value.
-    #[tactic(auto, using(crate::proofs::KnownTypes::none_known))]
     pub fn new(alloc: Global) -> Context<D>
         ensures operations { (p : _) → operation_at result.program p ≡ None }
         ensures blocks { (p : _) → block_at result.program p ≡ None }
@@ -93,14 +112,7 @@ impl<D: DialectTables> TypedProgram<OperationData<D>, BlockNotes<D>, Types<D>> {
         ensures room { HasRoom result.program }
         ensures types { result.types ≡ record { keys = []; bodies = []; saved = [] } }
     {
-        let program = Program::new(alloc);
-        // So there is no value whose type could be unknown.
-        program.know_values();
-        TypedProgram {
-            program,
-            types: Types::new(alloc),
-            alloc,
-        }
+        TypedProgram::with_types(alloc, Types::new(alloc))
     }
 
     /// The key of a type, or `None` for a handle that leads to none.

@@ -34,4 +34,11 @@ impl<D: DialectTables> OperationData<D> {
     {
         OperationData { kind, notes }
     }
+
+    /// The kind of the operation.
+    pub fn kind(&self) -> D::OpKind
+        ensures { result ≡ self.now.kind }
+    {
+        self.kind
+    }
 }

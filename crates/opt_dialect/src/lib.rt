@@ -1,0 +1,10 @@
+//! What the three optimisations ask of a dialect, and what they answer.
+#![tactic(auto)]
+
+mod dialect;
+mod status;
+
+pub use dialect::{
+    BlockArgRemoval, BranchOpFoldInterface, ConstFoldInterface, Meanings, OptDialect, SideEffects,
+};
+pub use status::{IRStatus, OptError};

@@ -1,0 +1,11 @@
+pub mod Around
+pub mod Spots
+pub mod Walked
+pub mod Closed
+pub mod Reached
+pub mod Values
+pub mod Nested
+pub mod Added
+pub mod Among
+pub mod Ordered
+pub mod Counting

@@ -1,0 +1,4 @@
+pub mod Occurring
+pub mod Numbered
+pub mod Edges
+pub mod Outside

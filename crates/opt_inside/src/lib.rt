@@ -1,0 +1,8 @@
+//! What is inside an operation: its operations, blocks and values by numbers, and in its tree.
+#![tactic(auto)]
+
+mod laws;
+mod numbering;
+
+pub use laws::know_occurrences;
+pub use numbering::{Inside, number_inside};

@@ -1,0 +1,4 @@
+pub mod Known
+pub mod Facts
+pub mod Dead
+pub mod Chains

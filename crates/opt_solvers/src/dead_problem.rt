@@ -1,0 +1,61 @@
+//! Operations and block arguments as dead code elimination sees them, by numbers.
+
+/// What defines a value.
+#[derive(Clone, Copy, Debug, PartialEq, Eq)]
+pub enum Definer {
+    /// The operation with this number, of which it is a result.
+    Result(usize),
+    /// It is the argument with this number.
+    Argument(usize),
+    /// It comes from outside.
+    Outside,
+}
+
+/// An operand.
+#[derive(Clone, Copy, Debug, PartialEq, Eq)]
+pub struct Operand {
+    /// What defines the value that it names.
+    pub definer: Definer,
+    /// The argument that it is forwarded to.
+    pub argument: Option<usize>,
+}
+
+/// An operation.
+#[derive(Drop)]
+pub struct Candidate {
+    /// Whether nothing but uses keeps it.
+    pub may_go: bool,
+    /// The operation that it is in, if that is none of the root's own.
+    pub around: Option<usize>,
+    /// Its operands.
+    pub operands: Vec<Operand>,
+}
+
+/// A block argument.
+#[derive(Clone, Copy, Debug, PartialEq, Eq)]
+pub struct Argument {
+    /// Whether nothing but uses keeps it.
+    pub may_go: bool,
+    /// The operation that its block is in, if that is not the root.
+    pub around: Option<usize>,
+}
+
+/// All operations and block arguments below a root.
+#[derive(Drop)]
+pub struct DeadProblem {
+    /// The operations, each behind those that it is in.
+    pub operations: Vec<Candidate>,
+    /// The arguments of all blocks.
+    pub arguments: Vec<Argument>,
+    /// What defines the values that are used from outside or by the root itself.
+    pub kept: Vec<Definer>,
+}
+
+/// What is dead.
+#[derive(Drop)]
+pub struct DeadItems {
+    /// Of each operation, whether it is dead.
+    pub operations: Vec<bool>,
+    /// Of each argument, whether it is dead.
+    pub arguments: Vec<bool>,
+}

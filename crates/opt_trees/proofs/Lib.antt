@@ -1,0 +1,11 @@
+pub mod Lists
+pub mod Trees
+pub mod Best
+pub mod FactsRenamed
+pub mod SccpRenamed
+pub mod NoneDead
+pub mod One
+pub mod DceRenamed
+pub mod SimplifyRenamed
+pub mod Placing
+pub mod Reached
