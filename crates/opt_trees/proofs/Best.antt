@@ -24,6 +24,10 @@ true_both true b f g = sym (f refl)
 true_both false true f g = g refl
 true_both false false f g = refl
 
+pub not_true : (b : Bool) → (b ≡ true → ⊥) → b ≡ false
+not_true true f = absurd (f refl)
+not_true false f = refl
+
 pub best_unique : {N : Names} {S : Contents} {A : Type 0} (d : Dialect S A) (t : Root N S) (k l : Facts N A) → IsMostPrecise d t k → IsMostPrecise d t l → k ≡ l
 best_unique d t k l a b =
     let x = a.best l b.closed in

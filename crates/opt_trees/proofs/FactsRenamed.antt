@@ -15,15 +15,15 @@ use Rattle.opt_trees.proofs.Lists.{map-map, at-map, length-map, picks-map, has-m
 use Rattle.opt_trees.proofs.Trees.{operations_renamed, blocks_renamed, values_renamed}
 
 -- the types of definitions under other names
-types-map : {V W T : Type 0} (f : V → W) (vs : List (Defined V T)) → types_of (map (rename_defined f) vs) ≡ types_of vs
+pub types-map : {V W T : Type 0} (f : V → W) (vs : List (Defined V T)) → types_of (map (rename_defined f) vs) ≡ types_of vs
 types-map f [] = refl
 types-map f (v ∷ vs) = ap (λ l. v.holds ∷ l) (types-map f vs)
 
-any_under : {V W T A : Type 0} (f : V → W) (g : W → Known A) (vs : List (Defined V T)) → AllAny g (names_of (map (rename_defined f) vs)) ≡ AllAny (λ v. g (f v)) (names_of vs)
+pub any_under : {V W T A : Type 0} (f : V → W) (g : W → Known A) (vs : List (Defined V T)) → AllAny g (names_of (map (rename_defined f) vs)) ≡ AllAny (λ v. g (f v)) (names_of vs)
 any_under f g [] = refl
 any_under f g (v ∷ vs) = λ i. (g (f v.name) ≡ Any) × any_under f g vs i
 
-below_under : {V W T A : Type 0} (f : V → W) (g : W → Known A) (vs : List (Defined V T)) (ys : List (Known A)) → AllBelow g (names_of (map (rename_defined f) vs)) ys ≡ AllBelow (λ v. g (f v)) (names_of vs) ys
+pub below_under : {V W T A : Type 0} (f : V → W) (g : W → Known A) (vs : List (Defined V T)) (ys : List (Known A)) → AllBelow g (names_of (map (rename_defined f) vs)) ys ≡ AllBelow (λ v. g (f v)) (names_of vs) ys
 below_under f g [] ys = refl
 below_under f g (v ∷ vs) [] = refl
 below_under f g (v ∷ vs) (y ∷ ys) = λ i. AtOrBelow (g (f v.name)) y × below_under f g vs ys i
@@ -64,7 +64,7 @@ module _ {N M : Names} {S : Contents} {A : Type 0} (d : Dialect S A) (r : Renami
       ap (λ ts. AllBelow l.of (names_of (map (rename_defined r.value.to) h.results)) (map answer (d.fold h.content ts xs))) (types-map r.value.to h.results)
       ∙ below_under r.value.to l.of h.results (map answer (d.fold h.content (types_of h.results) xs))
 
-  asked_under : (l : Facts M A) (h : Head N S) → asked (map l.of (map r.value.to h.operands)) ≡ asked (map (pulled l).of h.operands)
+  pub asked_under : (l : Facts M A) (h : Head N S) → asked (map l.of (map r.value.to h.operands)) ≡ asked (map (pulled l).of h.operands)
   asked_under l h = ap asked (map-map l.of r.value.to h.operands)
 
   pub forwarded_under : (h : Head N S) (i : ℕ) → forwarded d (rename_head m h) i ≡ map r.value.to (forwarded d h i)

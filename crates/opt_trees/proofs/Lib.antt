@@ -9,3 +9,14 @@ pub mod DceRenamed
 pub mod SimplifyRenamed
 pub mod Placing
 pub mod Reached
+pub mod Defined
+pub mod Put
+pub mod FactsKept
+pub mod ConstantsNamed
+pub mod Orderly
+pub mod Homes
+pub mod Chains
+pub mod Covered
+pub mod Simplified
+pub mod FactsAfter
+pub mod RefusalsRenamed

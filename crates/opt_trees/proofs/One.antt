@@ -67,7 +67,7 @@ module _ {N : Names} {S : Contents} {A : Type 0} (d : Dialect S A) where
   -- simplify
 
   module _ (r : Root N S) (o : IsOrderly r) where
-    leads_one : (b t u : N.block) → Joinable d r b t → Joinable d r b u → t ≡ u
+    pub leads_one : (b t u : N.block) → Joinable d r b t → Joinable d r b u → t ≡ u
     leads_one b t u j k =
         let same = o.ends j.last k.last t u j.stands k.stands (j.in_block ∙ sym k.in_block) (subst (Has t) (sym j.leads) (inl refl)) (subst (Has u) (sym k.leads) (inl refl)) in
         head_same t u (sym j.leads ∙ ap (λ x. x.head.successors) same ∙ k.leads)

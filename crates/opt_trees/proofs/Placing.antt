@@ -9,11 +9,12 @@ use Rattle.opt_trees.specs.Dialect.{Dialect}
 use Rattle.opt_trees.specs.Sccp.{Name, Old, New, fresh, rename_name, IsSccp}
 use Rattle.opt_trees.proofs.Lists.{none_some, some_same}
 use Rattle.opt_trees.specs.Dce.{Around, Agree, IsDce}
-use Rattle.opt_trees.specs.Simplify.{IsCut, decided, IsSimplify, IsOrderly}
+use Rattle.opt_trees.specs.Simplify.{IsSimplify, IsOrderly}
 use Rattle.opt_trees.proofs.SccpRenamed.{sccp_unique, sccp_renamed}
 use Rattle.opt_trees.proofs.DceRenamed.{dce_renamed}
 use Rattle.opt_trees.proofs.SimplifyRenamed.{simplify_renamed}
 use Rattle.opt_trees.proofs.One.{dce_unique, simplify_unique}
+use Rattle.opt_trees.proofs.Orderly.{phases_orderly, phases_apart, renamed_orderly}
 
 -- names of what sccp makes stay apart too
 abbrev pub name_back : {X Y V W : Type 0} → (Y → Option X) → (W → Option V) → Name Y W → Option (Name X V)
@@ -51,5 +52,9 @@ module _ {N M P : Names} {S : Contents} {A : Type 0} (d : Dialect S A) (f : Rena
     pub dce_same : (a : Root N S) (b : Root M S) → IsDce d v t a → IsDce d w u b → rename_root (maps f) a ≡ rename_root (maps g) b
     dce_same a b x y = dce_unique d z (rename_root (maps g) u) (rename_root (maps f) a) (rename_root (maps g) b) (subst (λ q. IsDce d z q (rename_root (maps f) a)) same (dce_renamed d f t v z e a x)) (dce_renamed d g u w z h b y)
 
-    pub simplify_same : (a : Root N S) (b : Root M S) → ((q : Root N S) → IsCut d (decided d v t) q → IsOrderly q) → ((q : Root M S) → IsCut d (decided d w u) q → IsOrderly q) → ((q : Root P S) → IsCut d (decided d z (rename_root (maps g) u)) q → IsOrderly q) → IsSimplify d v t a → IsSimplify d w u b → rename_root (maps f) a ≡ rename_root (maps g) b
-    simplify_same a b i j k x y = simplify_unique d z (rename_root (maps g) u) (rename_root (maps f) a) (rename_root (maps g) b) k (subst (λ q. IsSimplify d z q (rename_root (maps f) a)) same (simplify_renamed d f t a v z e (λ q c. (i q c).operations) x)) (simplify_renamed d g u b w z h (λ q c. (j q c).operations) y)
+    pub simplify_same : (a : Root N S) (b : Root M S) → IsOrderly t → IsOrderly u → IsSimplify d v t a → IsSimplify d w u b → rename_root (maps f) a ≡ rename_root (maps g) b
+    simplify_same a b o p x y =
+        simplify_unique d z (rename_root (maps g) u) (rename_root (maps f) a) (rename_root (maps g) b)
+        (λ q c. phases_orderly d z (rename_root (maps g) u) q c (renamed_orderly g u p))
+        (subst (λ q. IsSimplify d z q (rename_root (maps f) a)) same (simplify_renamed d f t a v z e (λ q c. phases_apart d v t q c o.operations) x))
+        (simplify_renamed d g u b w z h (λ q c. phases_apart d w u q c p.operations) y)

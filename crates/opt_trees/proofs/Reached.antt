@@ -239,7 +239,7 @@ module _ {N : Names} {S : Contents} where
   held_in : {xs ys : List (BlockOccurrence N S)} {o : Occurrence N S} → ((x : BlockOccurrence N S) → Has x xs → Has x ys) → Holder xs o → Holder ys o
   held_in f h = record { it = h.it; stands = f h.it h.stands; spot = h.spot; label = h.label }
 
-  holder : {s : Sort} (t : Tree N S s) (c : Inside N S s) (o : Occurrence N S) → Has o (occurrences_in t c) → IsOwn N S s c o ⊎ Holder (block_occurrences_in t c) o
+  pub holder : {s : Sort} (t : Tree N S s) (c : Inside N S s) (o : Occurrence N S) → Has o (occurrences_in t c) → IsOwn N S s c o ⊎ Holder (block_occurrences_in t c) o
   holder end c o h = absurd h
   holder (operation x rs rest) c o h = ⊎_elim
       (λ z. inl (ap (λ y. y.site) z))

@@ -9,7 +9,7 @@ use Rattle.opt_trees.specs.Occurrences.{Has, cons_if, Spot, rename_spot, rename_
 use Rattle.opt_trees.specs.Dialect.{Dialect}
 use Rattle.opt_trees.specs.Facts.{forwarded}
 use Rattle.opt_trees.specs.Dce.{Around, Agree}
-use Rattle.opt_trees.specs.Simplify.{is_empty, is_end, is_bare, along_edge, decide_head, decide, decided, IsReached, entry, further, IsEntered, IsVisited, of_root, of_inner, IsVisitedSsa, IsUnreached, keep, IsCut, Joinable, IsGiven, Follows, stops, goes_on, use_instead, but_last, append, Joins, ends, operations, regions, taken, first, chain_ends, chain_goes_on, IsJoined, IsSimplify}
+use Rattle.opt_trees.specs.Simplify.{is_empty, is_end, is_bare, along_edge, decide_head, decide, decided, IsReached, entry, further, IsEntered, IsVisited, of_root, of_inner, IsVisitedSsa, IsUnreached, keep, IsCut, Joinable, IsGiven, Follows, stops, goes_on, use_instead, but_last, append, Joins, ends, operations, regions, taken, first, chain_ends, chain_goes_on, IsJoined, IsSimplify, Chases, goes, goes_by, ComesBack}
 use Rattle.opt_trees.proofs.Lists.{map-map, names-map, at-map, cons_if-map, has-map, has-from_map, has-apart, apart, at-to, from_some, none_some}
 use Rattle.opt_trees.proofs.FactsRenamed.{forwarded_under}
 use Rattle.opt_trees.proofs.DceRenamed.{rt, operation_to, operation_from, block_to, block_from}
@@ -191,7 +191,7 @@ module _ {N M : Names} {S : Contents} {A : Type 0} (d : Dialect S A) (r : Renami
       no_two : (a b c : M.block) (l : List M.block) → a ∷ b ∷ l ≡ c ∷ [] → ⊥
       no_two a b c l e = cc e
 
-  module _ (t : Root N S) (o : OperationsApart t) where
+  module _ (t : Root N S) where
     joinable_to : (b c : N.block) → Joinable d t b c → Joinable d (rt r t) (r.block.to b) (r.block.to c)
     joinable_to b c j = record {
       last = rename_occurrence (maps r) j.last;
@@ -211,6 +211,26 @@ module _ {N M : Names} {S : Contents} {A : Type 0} (d : Dialect S A) (r : Renami
           sym q.is ∙ ap (rename_occurrence (maps r)) (j.single q.it q.stands (has-apart r.block c q.it.head.successors (subst (λ z. Has (r.block.to c) z.head.successors) (sym q.is) k)));
     }
 
+    given_to : (v u : N.value) → IsGiven d t v u → IsGiven d (rt r t) (r.value.to v) (r.value.to u)
+    unfolding joinable_to
+    given_to v u g = record {
+      from = r.block.to g.from;
+      to = r.block.to g.to;
+      joins = joinable_to g.from g.to g.joins;
+      place = g.place;
+      takes = ap (λ l. slice_get l g.place) (names-map r.value.to g.joins.target.label.arguments) ∙ at-to r.value (names_of g.joins.target.label.arguments) g.place v g.takes;
+      gives = ap (λ l. slice_get l g.place) (forwarded_under d r g.joins.last.head 0) ∙ at-to r.value (forwarded d g.joins.last.head 0) g.place u g.gives;
+    }
+
+    -- what comes back comes back
+    chases_to : (v u : N.value) → Chases d t v u → Chases d (rt r t) (r.value.to v) (r.value.to u)
+    chases_to _ _ (goes v u g) = goes (r.value.to v) (r.value.to u) (given_to v u g)
+    chases_to _ _ (goes_by v u x g c) = goes_by (r.value.to v) (r.value.to u) (r.value.to x) (given_to v u g) (chases_to u x c)
+
+    pub back_renamed : ComesBack d t → ComesBack d (rename_root (maps r) t)
+    back_renamed b = record { argument = r.value.to b.argument; loop = chases_to b.argument b.argument b.loop }
+
+  module _ (t : Root N S) (o : OperationsApart t) where
     -- with the origins of its last operation and its target
     record From (b' c' : M.block) (j' : Joinable d (rt r t) b' c') : Type 0 where
       pub b : N.block
@@ -255,17 +275,6 @@ module _ {N M : Names} {S : Contents} {A : Type 0} (d : Dialect S A) (r : Renami
           target_is = x.is;
         }
 
-    given_to : (v u : N.value) → IsGiven d t v u → IsGiven d (rt r t) (r.value.to v) (r.value.to u)
-    unfolding joinable_to
-    given_to v u g = record {
-      from = r.block.to g.from;
-      to = r.block.to g.to;
-      joins = joinable_to g.from g.to g.joins;
-      place = g.place;
-      takes = ap (λ l. slice_get l g.place) (names-map r.value.to g.joins.target.label.arguments) ∙ at-to r.value (names_of g.joins.target.label.arguments) g.place v g.takes;
-      gives = ap (λ l. slice_get l g.place) (forwarded_under d r g.joins.last.head 0) ∙ at-to r.value (forwarded d g.joins.last.head 0) g.place u g.gives;
-    }
-
     given_from : (v' u' : M.value) → IsGiven d (rt r t) v' u' → (v u : N.value) × (r.value.to v ≡ v') × (r.value.to u ≡ u') × IsGiven d t v u
     given_from v' u' g =
         let f = joinable_from g.from g.to g.joins in
@@ -277,7 +286,7 @@ module _ {N M : Names} {S : Contents} {A : Type 0} (d : Dialect S A) (r : Renami
 
     follows_to : (v u : N.value) → Follows d t v u → Follows d (rt r t) (r.value.to v) (r.value.to u)
     follows_to _ _ (stops v n) = stops (r.value.to v) (λ u' g. let q = given_from (r.value.to v) u' g in n q.1 (subst (λ z. IsGiven d t z q.1) (apart r.value q.0 v q.2) q.4))
-    follows_to _ _ (goes_on v u x g f) = goes_on (r.value.to v) (r.value.to u) (r.value.to x) (given_to v u g) (follows_to u x f)
+    follows_to _ _ (goes_on v u x g f) = goes_on (r.value.to v) (r.value.to u) (r.value.to x) (given_to t v u g) (follows_to u x f)
 
     abbrev name_at : (N.value → N.value) → M.value → Option N.value → M.value
     name_at f w None = w
@@ -300,11 +309,11 @@ module _ {N M : Names} {S : Contents} {A : Type 0} (d : Dialect S A) (r : Renami
     joins_to _ _ _ _ (ends s) = ends s
     joins_to _ _ _ _ (operations h rs qs rest more x y) = operations (rename_head (maps r) h) (rename (maps r) rs) (rename (maps r) qs) (rename (maps r) rest) (rename (maps r) more) (joins_to None Regions rs qs x) (joins_to None Operations rest more y)
     joins_to _ _ _ _ (regions bs cs rest more x y) = regions (rename (maps r) bs) (rename (maps r) cs) (rename (maps r) rest) (rename (maps r) more) (joins_to None Blocks bs cs x) (joins_to None Regions rest more y)
-    joins_to _ _ _ _ (taken l ops rest more b j x) = taken (rename_label (maps r) l) (rename (maps r) ops) (rename (maps r) rest) (rename (maps r) more) (r.block.to b) (joinable_to b l.name j) (joins_to None Blocks rest more x)
+    joins_to _ _ _ _ (taken l ops rest more b j x) = taken (rename_label (maps r) l) (rename (maps r) ops) (rename (maps r) rest) (rename (maps r) more) (r.block.to b) (joinable_to t b l.name j) (joins_to None Blocks rest more x)
     joins_to _ _ _ _ (first l ops all rest more n x y) = first (rename_label (maps r) l) (rename (maps r) ops) (rename (maps r) all) (rename (maps r) rest) (rename (maps r) more) (not_joined_to l.name n) (joins_to (Some l.name) Operations ops all x) (joins_to None Blocks rest more y)
     joins_to _ _ _ _ (chain_ends b ops own n x) = chain_ends (r.block.to b) (rename (maps r) ops) (rename (maps r) own) (not_joinable_to b n) (joins_to None Operations ops own x)
     joins_to _ _ _ _ (chain_goes_on b z ops own others all j h x y e) =
-        chain_goes_on (r.block.to b) (rename_block_occurrence (maps r) z) (rename (maps r) ops) (rename (maps r) own) (rename (maps r) others) (rename (maps r) all) (joinable_to b z.label.name j) (block_to r t z h)
+        chain_goes_on (r.block.to b) (rename_block_occurrence (maps r) z) (rename (maps r) ops) (rename (maps r) own) (rename (maps r) others) (rename (maps r) all) (joinable_to t b z.label.name j) (block_to r t z h)
         (subst (λ q. Joins d (rt r t) None Operations q (rename (maps r) own)) (sym (but_last_under ops)) (joins_to None Operations (but_last ops) own x))
         (joins_to (Some z.label.name) Operations z.operations others y)
         (ap (rename (maps r)) e ∙ sym (append_under own others))

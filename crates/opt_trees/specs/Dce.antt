@@ -1,7 +1,8 @@
 -- What is dead under a root, as the least set, and the root without it.
--- Source: Cytron, Ferrante, Rosen, Wegman and Zadeck, Efficiently computing static single assignment form and the control dependence
--- graph, 1991, section on dead code. Unlike there a terminator is never dead; dead is the least set, so values
--- that use but each other in a circle stay; block arguments die as operations do, and an operation dies with all that it holds.
+-- Source: Cytron, Ferrante, Rosen, Wegman and Zadeck, Efficiently computing static single assignment form and the
+-- control dependence graph, 1991, section on dead code. Unlike there a terminator is never dead; dead is the least
+-- set, so operations that use but each other in a circle stay; block arguments die as operations do, and an
+-- operation dies with all that it holds.
 use Rattle.std.specs.Prelude.{◌≡◌, ◌⊎◌, ℕ, Bool, true, false, ◌∷◌, length, Option, Some, None, if◌then◌else◌}
 use Rattle.std.specs.Prelude.{slice_get}
 use Rattle.ir_trees.specs.Names.{Names, Contents}

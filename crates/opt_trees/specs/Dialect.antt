@@ -11,11 +11,13 @@ pub record Dialect (S : Contents) (A : Type 0) : Type 0 where
   -- by the types of its results and by what is known of its operands, what each result folds to
   pub fold : S.of_operation → List S.of_value → List (Option A) → List (Option A)
   pub is_branch : S.of_operation → Bool
-  -- whether the successor at this index is feasible, by what is known of the operands; each is, where the kind doesn't tell
+  -- whether the successor at this index is feasible, by what is known of the operands;
+  -- each is, where the kind doesn't tell
   pub feasible : S.of_operation → List (Option A) → ℕ → Bool
   -- the edge that known operands pick
   pub edge : S.of_operation → List (Option A) → Option ℕ
-  -- of so many operands, the indices of those that are forwarded to the successor at this index, in the order of its arguments
+  -- of so many operands, the indices of those that are forwarded to the successor at this index,
+  -- in the order of its arguments
   pub forwards : S.of_operation → ℕ → ℕ → List ℕ
   pub is_terminator : S.of_operation → Bool
   -- it does more than give its results
@@ -25,7 +27,8 @@ pub record Dialect (S : Contents) (A : Type 0) : Type 0 where
   -- the unconditional branch, if there is one, and whether an operation is of its kind
   pub plain : Option S.of_operation
   pub is_plain : S.of_operation → Bool
-  -- the operation that makes an attribute, if there is one, its result's type, and whether an operation makes an attribute
+  -- the operation that makes an attribute, if there is one, its result's type,
+  -- and whether an operation makes an attribute
   pub constant : A → Option S.of_operation
   pub constant_type : A → S.of_value
   pub is_constant : S.of_operation → Bool
@@ -66,7 +69,8 @@ pub record Lawful {S : Contents} {A : Type 0} (d : Dialect S A) : Type 0 where
       KnowsMore xs ys → KnowsMore (d.fold c ts xs) (d.fold c ts ys)
   pub feasible_less : (c : S.of_operation) (xs ys : List (Option A)) (i : ℕ) →
       KnowsMore xs ys → d.feasible c ys i ≡ true → d.feasible c xs i ≡ true
-  pub edge_feasible : (c : S.of_operation) (xs : List (Option A)) (i : ℕ) → d.edge c xs ≡ Some i → d.feasible c xs i ≡ true
+  pub edge_feasible : (c : S.of_operation) (xs : List (Option A)) (i : ℕ) →
+      d.edge c xs ≡ Some i → d.feasible c xs i ≡ true
   -- folding and branching exclude each other, and a branch ends its block
   pub exclude : (c : S.of_operation) → d.is_foldable c ≡ true → d.is_branch c ≡ true → ⊥
   pub branch_ends : (c : S.of_operation) → d.is_branch c ≡ true → d.is_terminator c ≡ true
@@ -92,7 +96,7 @@ pub record Lawful {S : Contents} {A : Type 0} (d : Dialect S A) : Type 0 where
   pub drop_effects : (c : S.of_operation) (p : ℕ → Bool) → d.has_effects (d.drop_operands c p) ≡ d.has_effects c
   pub drop_removes : (c : S.of_operation) (p : ℕ → Bool) (region : ℕ) (first : Bool) →
       d.can_remove (d.drop_operands c p) region first ≡ d.can_remove c region first
-  pub drop_forwards : (c : S.of_operation) (p : ℕ → Bool) (xs : List ℕ) (s : ℕ) →
-      PicksForwarded d c (length xs) p → d.forwards (d.drop_operands c p) (length (drop p xs)) s ≡ renumber p (d.forwards c (length xs) s)
+  pub drop_forwards : (c : S.of_operation) (p : ℕ → Bool) (xs : List ℕ) (s : ℕ) → PicksForwarded d c (length xs) p →
+      d.forwards (d.drop_operands c p) (length (drop p xs)) s ≡ renumber p (d.forwards c (length xs) s)
   pub drop_no_operands : (c : S.of_operation) → d.drop_operands c (λ i. false) ≡ c
   pub drop_no_names : (c : S.of_block) → d.drop_names c (λ i. false) ≡ c

@@ -1,6 +1,7 @@
--- What is known of the values under a root before it runs: facts that are closed under what operations do, and the most precise of them.
--- Source: Wegman and Zadeck, Constant propagation with conditional branches, 1991, sparse conditional constant propagation;
--- here by what holds of the solution, not by its computation, and for nested regions.
+-- What is known of the values under a root before it runs: facts that are closed under what operations do,
+-- and the most precise of them.
+-- Source: Wegman and Zadeck, Constant propagation with conditional branches, 1991, sparse conditional constant
+-- propagation; here by what holds of the solution, not by its computation, and for nested regions.
 use Rattle.std.specs.Prelude.{◌≡◌, ◌⊎◌, ℕ, Bool, true, false, List, map, length, Option, Some, None}
 use Rattle.std.specs.Prelude.{slice_get}
 use Rattle.ir_trees.specs.Names.{Names, Contents}
@@ -25,7 +26,8 @@ module _ {N : Names} {S : Contents} {A : Type 0} (d : Dialect S A) where
   abbrev pub FoldClosed : (N.value → Known A) → Head N S → Bool → Asked A → Type 0
   FoldClosed f h false q = AllAny f (names_of h.results)
   FoldClosed f h true None = Unit {0}
-  FoldClosed f h true (Some xs) = AllBelow f (names_of h.results) (map answer (d.fold h.content (types_of h.results) xs))
+  FoldClosed f h true (Some xs) =
+      AllBelow f (names_of h.results) (map answer (d.fold h.content (types_of h.results) xs))
 
   -- the block is the target of a feasible edge: one edge to it is enough for all
   abbrev pub IsFeasible : Head N S → List (Option A) → N.block → Type 0
@@ -36,9 +38,9 @@ module _ {N : Names} {S : Contents} {A : Type 0} (d : Dialect S A) where
   forwarded h i = picks h.operands (d.forwards h.content (length h.operands) i)
 
   -- the edge's target runs, and its arguments lie at or below what is forwarded
-  pub record EdgeClosed (bs : List (BlockOccurrence N S)) (k : Facts N A) (h : Head N S) (i : ℕ) (b : N.block) : Type 0 where
+  pub record EdgeClosed (xs : List (BlockOccurrence N S)) (k : Facts N A) (h : Head N S) (i : ℕ) (b : N.block) : Type 0 where
     pub target : k.runs b ≡ true
-    pub arguments : (x : BlockOccurrence N S) → Has x bs → x.label.name ≡ b →
+    pub arguments : (x : BlockOccurrence N S) → Has x xs → x.label.name ≡ b →
         AllBelow k.of (names_of x.label.arguments) (map k.of (forwarded h i))
 
   -- each edge of a branch whose target is feasible

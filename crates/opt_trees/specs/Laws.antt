@@ -5,10 +5,10 @@ use Rattle.ir_trees.specs.Trees.{Root}
 use Rattle.ir_trees.specs.Renames.{rename_root}
 use Rattle.opt_trees.specs.Occurrences.{Renaming, maps, OperationsApart, Has, BlockOccurrence, block_occurrences_of}
 use Rattle.opt_trees.specs.Dialect.{Dialect, Lawful}
-use Rattle.opt_trees.specs.Facts.{Facts, IsMostPrecise}
-use Rattle.opt_trees.specs.Sccp.{fresh, fresh_maps, IsSccp}
+use Rattle.opt_trees.specs.Facts.{Facts, IsMostPrecise, IsLacking}
+use Rattle.opt_trees.specs.Sccp.{fresh, fresh_maps, IsSccp, KeepsFacts, facts_after, CanTell, NamesConstants}
 use Rattle.opt_trees.specs.Dce.{Around, Item, IsDead, IsDce, IsWell, Agree}
-use Rattle.opt_trees.specs.Simplify.{IsReached, IsVisitedSsa, IsLocal, ComesBack, IsJoined, IsCut, IsSimplify, IsOrderly, decided}
+use Rattle.opt_trees.specs.Simplify.{IsReached, IsVisitedSsa, IsLocal, BranchesLast, IsSimplified, LosesUse, ComesBack, IsJoined, IsCut, IsSimplify, IsOrderly, decided}
 
 module _ (N : Names) (S : Contents) (A : Type 0) where
   -- there is one list of most precise facts at most
@@ -18,6 +18,22 @@ module _ (N : Names) (S : Contents) (A : Type 0) where
   -- constants are put in in one way
   abbrev pub OneSccp : Type 0
   OneSccp = (d : Dialect S A) (t : Root N S) (a b : Root (fresh N) S) → IsSccp d t a → IsSccp d t b → a ≡ b
+
+  -- the most precise facts afterwards are those before
+  abbrev pub FactsKept : Type 0
+  FactsKept = (d : Dialect S A) (t : Root N S) (after : Root (fresh N) S) (k : Facts N A) (l : Facts (fresh N) A) →
+      Lawful d → IsSccp d t after → IsMostPrecise d t k → IsMostPrecise d after l → KeepsFacts d t k l
+
+  -- there are most precise facts afterwards, the old ones extended;
+  -- of two attributes it must be told whether they are the same
+  abbrev pub FactsExtend : Type 0
+  FactsExtend = (d : Dialect S A) (t : Root N S) (after : Root (fresh N) S) →
+      Lawful d → CanTell A → (p : IsSccp d t after) → IsMostPrecise d after (facts_after p.facts p.made)
+
+  -- afterwards what is known to be a constant names one; of two values it must be told whether they are the same
+  abbrev pub SccpGoal : Type 0
+  SccpGoal = (d : Dialect S A) (t : Root N S) (after : Root (fresh N) S) →
+      Lawful d → CanTell N.value → IsSccp d t after → NamesConstants d after
 
   -- the dead goes in one way
   abbrev pub OneDce : Type 0
@@ -33,19 +49,33 @@ module _ (N : Names) (S : Contents) (A : Type 0) where
   DceTwice = (d : Dialect S A) (w : Around N A) (t after again : Root N S) →
       Lawful d → IsWell d t → IsDce d w t after → IsDce d w after again → again ≡ after
 
-  -- what is cut in the second phase is orderly
-  abbrev pub IsOrderlyCut : Dialect S A → Around N A → Root N S → Type 0
-  IsOrderlyCut d w t = (u : Root N S) → IsCut d (decided d w t) u → IsOrderly u
+  -- what the first two phases make of an orderly tree is orderly, and of a local one local
+  abbrev pub CutOrderly : Type 0
+  CutOrderly = (d : Dialect S A) (w : Around N A) (t cut : Root N S) →
+      IsCut d (decided d w t) cut → IsOrderly t → IsOrderly cut
 
-  -- branches are decided, blocks cut and chains joined in one way, where what is joined is orderly
+  abbrev pub CutLocal : Type 0
+  CutLocal = (d : Dialect S A) (w : Around N A) (t cut : Root N S) →
+      IsCut d (decided d w t) cut → IsLocal t → IsLocal cut
+
+  abbrev pub CutLast : Type 0
+  CutLast = (d : Dialect S A) (w : Around N A) (t cut : Root N S) →
+      IsCut d (decided d w t) cut → BranchesLast t → BranchesLast cut
+
+  -- branches are decided, blocks cut and chains joined in one way
   abbrev pub OneSimplify : Type 0
   OneSimplify = (d : Dialect S A) (w : Around N A) (t a b : Root N S) →
-      IsOrderlyCut d w t → IsSimplify d w t a → IsSimplify d w t b → a ≡ b
+      IsOrderly t → IsSimplify d w t a → IsSimplify d w t b → a ≡ b
 
   -- each block of a visited SSA region that is left is reached
   abbrev pub CutGoal : Type 0
   CutGoal = (d : Dialect S A) (t after : Root N S) → IsLocal t → IsCut d t after → (x : BlockOccurrence N S) →
       Has x (block_occurrences_of after) → IsVisitedSsa d after x.spot → IsReached after x.label.name
+
+  -- each block of a visited SSA region that simplify leaves is reached, and no two can be joined
+  abbrev pub SimplifyGoal : Type 0
+  SimplifyGoal = (d : Dialect S A) (w : Around N A) (t after : Root N S) →
+      IsOrderly t → IsLocal t → BranchesLast t → IsSimplify d w t after → IsSimplified d after
 
   -- where following what was forwarded comes back nothing is joined
   abbrev pub BackRefuses : Type 0
@@ -58,14 +88,34 @@ module _ (N M : Names) (S : Contents) (A : Type 0) where
   SccpRenames = (d : Dialect S A) (r : Renaming N M) (t : Root N S) (a : Root (fresh N) S) → IsSccp d t a →
       IsSccp d (rename_root (maps r) t) (rename_root (fresh_maps {N = N} {M = M} (maps r)) a)
 
+  -- the goal of sccp, too: the names that a result gets in the end don't matter
+  abbrev pub ConstantsRename : Type 0
+  ConstantsRename = (d : Dialect S A) (r : Renaming N M) (t : Root N S) (k : Facts N A) →
+      IsMostPrecise d t k → NamesConstants d t → NamesConstants d (rename_root (maps r) t)
+
   abbrev pub DceRenames : Type 0
   DceRenames = (d : Dialect S A) (r : Renaming N M) (t after : Root N S) (w : Around N A) (w' : Around M A) →
       Agree r w w' → IsDce d w t after → IsDce d w' (rename_root (maps r) t) (rename_root (maps r) after)
 
   abbrev pub SimplifyRenames : Type 0
   SimplifyRenames = (d : Dialect S A) (r : Renaming N M) (t after : Root N S) (w : Around N A) (w' : Around M A) →
-      Agree r w w' → ((u : Root N S) → IsCut d (decided d w t) u → OperationsApart u) → IsSimplify d w t after →
+      Agree r w w' → OperationsApart t → IsSimplify d w t after →
       IsSimplify d w' (rename_root (maps r) t) (rename_root (maps r) after)
+
+  -- and the same is refused
+
+  abbrev pub LackingRenames : Type 0
+  LackingRenames = (d : Dialect S A) (r : Renaming N M) (t : Root N S) (k : Facts N A) (l : Facts M A) →
+      IsMostPrecise d t k → IsMostPrecise d (rename_root (maps r) t) l →
+      IsLacking d t k → IsLacking d (rename_root (maps r) t) l
+
+  abbrev pub BackRenames : Type 0
+  BackRenames = (d : Dialect S A) (r : Renaming N M) (t : Root N S) →
+      ComesBack d t → ComesBack d (rename_root (maps r) t)
+
+  abbrev pub LosesRenames : Type 0
+  LosesRenames = (r : Renaming N M) (t after : Root N S) (w : Around N A) (w' : Around M A) → Agree r w w' →
+      LosesUse w t after → LosesUse w' (rename_root (maps r) t) (rename_root (maps r) after)
 
 -- trees that are the same under two renamings into common names are made into trees that are the same under them
 
@@ -85,8 +135,8 @@ module _ (N M P : Names) (S : Contents) (A : Type 0) where
       (a : Root N S) (b : Root M S) → IsDce d v t a → IsDce d w u b → AreSame f g a b
 
   abbrev pub SameSimplify : Type 0
-  SameSimplify = (d : Dialect S A) (f : Renaming N P) (g : Renaming M P) (t : Root N S) (u : Root M S) → AreSame f g t u →
+  SameSimplify = (d : Dialect S A) (f : Renaming N P) (g : Renaming M P) (t : Root N S) (u : Root M S) →
+      AreSame f g t u →
       (v : Around N A) (w : Around M A) (z : Around P A) → Agree f v z → Agree g w z →
-      (a : Root N S) (b : Root M S) →
-      IsOrderlyCut N S A d v t → IsOrderlyCut M S A d w u → IsOrderlyCut P S A d z (rename_root (maps g) u) →
-      IsSimplify d v t a → IsSimplify d w u b → AreSame f g a b
+      (a : Root N S) (b : Root M S) → IsOrderly t → IsOrderly u → IsSimplify d v t a → IsSimplify d w u b →
+      AreSame f g a b

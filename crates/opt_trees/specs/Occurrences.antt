@@ -23,8 +23,8 @@ abbrev pub picks : {X : Type 0} → List X → List ℕ → List X
 picks xs [] = []
 picks xs (i ∷ is) = cons_if (slice_get xs i) (picks xs is)
 
--- where a block stands: the operation that holds its region, the operations and the blocks below the root that it is in,
--- nearest first, the region's index, and whether the block is the entry of its region
+-- where a block stands: the operation that holds its region, the operations and the blocks below the root that it
+-- is in, nearest first, the region's index, and whether the block is the entry of its region
 pub record Spot (N : Names) (S : Contents) : Type 0 where
   pub owner : Head N S
   pub around : List N.operation
@@ -70,7 +70,13 @@ module _ {N : Names} {S : Contents} where
   next_block c = record { owner = c.owner; around = c.around; within = c.within; region = c.region; first = false }
 
   abbrev pub next_region : Spot N S → Spot N S
-  next_region c = record { owner = c.owner; around = c.around; within = c.within; region = suc c.region; first = c.first }
+  next_region c = record {
+    owner = c.owner;
+    around = c.around;
+    within = c.within;
+    region = suc c.region;
+    first = c.first;
+  }
 
   -- every operation, at any depth, in preorder
   abbrev pub occurrences_in : {s : Sort} → Tree N S s → Inside N S s → List (Occurrence N S)

@@ -1,12 +1,14 @@
 -- Constants put in for known values.
--- Source: Wegman and Zadeck, Constant propagation with conditional branches, 1991: what is done with the facts once they are found.
-use Rattle.std.specs.Prelude.{◌≡◌, ◌⊎◌, Bool, true, false, List, [], ◌∷◌, map, Option, Some, None}
+-- Source: Wegman and Zadeck, Constant propagation with conditional branches, 1991: what is done with the facts.
+use Rattle.std.specs.Prelude.{◌≡◌, ◌≢◌, ◌⊎◌, ℕ, Bool, true, false, List, [], ◌∷◌, map, Option, Some, None}
 use Rattle.ir_trees.specs.Names.{Names, Contents}
 use Rattle.ir_trees.specs.Renames.{Maps, rename_defined, names_of}
 use Rattle.ir_trees.specs.Trees.{Defined, Head, Label, Sort, Operations, Tree, end, operation, block, region, Root}
-use Rattle.opt_trees.specs.Occurrences.{Has, Occurrence, BlockOccurrence, occurrences_of, block_occurrences_of}
+use Rattle.opt_trees.specs.Occurrences.{Has, Occurrence, BlockOccurrence, occurrences_of, block_occurrences_of, Use}
 use Rattle.opt_trees.specs.Dialect.{Dialect}
 use Rattle.opt_solvers.specs.declared.known.Known.TheVariants.{One}
+use Rattle.opt_solvers.specs.Known.{FactsOf, answer}
+use Rattle.opt_solvers.specs.declared.known.Known.{Known}
 use Rattle.opt_trees.specs.Facts.{Facts, IsMostPrecise}
 
 -- names for what stood there, and for what is made for it
@@ -22,7 +24,11 @@ rename_name f g (Old x) = Old (f x)
 rename_name f g (New v) = New (g v)
 
 abbrev pub fresh_maps : {N M : Names} → Maps N M → Maps (fresh N) (fresh M)
-fresh_maps r = record { operation = rename_name r.operation r.value; block = r.block; value = rename_name r.value r.value }
+fresh_maps r = record {
+  operation = rename_name r.operation r.value;
+  block = r.block;
+  value = rename_name r.value r.value;
+}
 
 module _ {N : Names} {S : Contents} {A : Type 0} (d : Dialect S A) (t : Root N S) (k : Facts N A) where
   -- a result of a foldable operation, no constant itself, in a block that runs
@@ -60,7 +66,8 @@ used_as v None = Old v
 used_as v (Some a) = New v
 
 -- the operation that makes an attribute, its name and its result's name new
-abbrev pub constant_head : {N : Names} {S : Contents} {A : Type 0} → Dialect S A → N.value → A → S.of_operation → Head (fresh N) S
+abbrev pub constant_head : {N : Names} {S : Contents} {A : Type 0} →
+    Dialect S A → N.value → A → S.of_operation → Head (fresh N) S
 constant_head d v a c = record {
   name = New v;
   content = c;
@@ -70,7 +77,8 @@ constant_head d v a c = record {
 }
 
 module _ {N : Names} {S : Contents} {A : Type 0} (d : Dialect S A) where
-  abbrev pub constant_before : N.value → A → Option S.of_operation → Tree (fresh N) S Operations → Tree (fresh N) S Operations
+  abbrev pub constant_before : N.value → A → Option S.of_operation →
+      Tree (fresh N) S Operations → Tree (fresh N) S Operations
   constant_before v a None rest = rest
   constant_before v a (Some c) rest = operation (constant_head {N = N} d v a c) end rest
 
@@ -85,7 +93,8 @@ module _ {N : Names} {S : Contents} {A : Type 0} (d : Dialect S A) (made : N.val
   put_results (v ∷ vs) rest = put_one {N = N} d v.name (made v.name) (put_results vs rest)
 
   -- one for each argument, the last argument's first, at the start of the block
-  abbrev pub put_arguments : List (Defined N.value S.of_value) → Tree (fresh N) S Operations → Tree (fresh N) S Operations
+  abbrev pub put_arguments : List (Defined N.value S.of_value) →
+      Tree (fresh N) S Operations → Tree (fresh N) S Operations
   put_arguments [] rest = rest
   put_arguments (v ∷ vs) rest = put_arguments vs (put_one {N = N} d v.name (made v.name) rest)
 
@@ -120,3 +129,37 @@ module _ {N : Names} {S : Contents} {A : Type 0} (d : Dialect S A) where
     pub made : N.value → Option A
     pub is_made : IsMade d t facts made
     pub is : after ≡ put_root {N = N} d made t
+
+  -- of what stood there as much is known as before, and a new value is known to be its constant
+  pub record KeepsFacts (t : Root N S) (k : Facts N A) (l : Facts (fresh N) A) : Type 0 where
+    pub runs : (b : N.block) → l.runs b ≡ k.runs b
+    pub of : (v : N.value) → l.of (Old v) ≡ k.of v
+    pub made : (v : N.value) (a : A) → Gets d t k v a → l.of (New v) ≡ One a
+
+-- what is known afterwards: the old facts of what stood there, and of a new value its constant
+
+abbrev pub known_after : {V A : Type 0} → (V → Known A) → (V → Option A) → Name V V → Known A
+known_after of made (Old v) = of v
+known_after of made (New v) = answer (made v)
+
+abbrev pub facts_after : {B V A : Type 0} → FactsOf B V A → (V → Option A) → FactsOf B (Name V V) A
+facts_after k made = record { runs = k.runs; of = known_after k.of made }
+
+-- of two it can be told whether they are the same
+abbrev pub CanTell : Type 0 → Type 0
+CanTell X = (x y : X) → (x ≡ y) ⊎ (x ≢ y)
+
+module _ {N : Names} {S : Contents} {A : Type 0} (d : Dialect S A) (t : Root N S) where
+  -- the value is the result of a constant
+  pub record IsOfConstant (v : N.value) : Type 0 where
+    pub definer : Occurrence N S
+    pub stands : Has definer (occurrences_of t)
+    pub constant : d.is_constant definer.head.content ≡ true
+    pub result : Has v (names_of definer.head.results)
+
+  -- where the most precise facts know a value that an operation uses to be a constant that can be made,
+  -- the value is the result of a constant
+  abbrev pub NamesConstants : Type 0
+  NamesConstants = (k : Facts N A) → IsMostPrecise d t k →
+      (v : N.value) (user : Occurrence N S) (i : ℕ) (a : A) (c : S.of_operation) →
+      Use t v user i → k.of v ≡ One a → d.constant a ≡ Some c → IsOfConstant v

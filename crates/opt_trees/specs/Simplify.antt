@@ -1,6 +1,6 @@
 -- Branches that are decided, blocks that are not reached, and chains of blocks.
--- Source: Muchnick, Advanced compiler design and implementation, 1997, 18.1 (unreachable code) and 18.2 (straightening);
--- here in every SSA region that is visited, and with block arguments in place of phi functions.
+-- Source: Muchnick, Advanced compiler design and implementation, 1997, 18.1 (unreachable-code elimination) and
+-- 18.2 (straightening); here in every SSA region that is visited, with block arguments in place of phi functions.
 use Rattle.std.specs.Prelude.{◌≡◌, ◌⊎◌, ℕ, Bool, true, false, not, ◌&&◌, List, [], ◌∷◌, map, Option, Some, None, if◌then◌else◌}
 use Rattle.std.specs.Prelude.{slice_get}
 use Rattle.ir_trees.specs.Names.{Names, Contents}
@@ -65,7 +65,8 @@ module _ {N : Names} {S : Contents} (t : Root N S) where
     further : (o : Occurrence N S) (b : N.block) →
         Has o (occurrences_of t) → IsReached o.site.label.name → Has b o.head.successors → IsReached b
 
-  -- what is in a visited region is visited where this holds of its block: in an SSA region it is reached, else it is the entry
+  -- what is in a visited region is visited where this holds of its block:
+  -- in an SSA region it is reached, else it is the entry
   abbrev pub IsEntered : Spot N S → N.block → Bool → Type 0
   IsEntered c b true = IsReached b
   IsEntered c b false = c.first ≡ true
@@ -228,6 +229,12 @@ module _ {N : Names} {S : Contents} {A : Type 0} (d : Dialect S A) (w : Around N
     pub is_cut : IsCut d (decided d w t) cut
     pub is_joined : IsJoined d cut after
 
+-- the list's last operation has this head and these regions
+abbrev pub EndsIn : {N : Names} {S : Contents} → Tree N S Operations → Head N S → Tree N S Regions → Type 0
+EndsIn end h rs = ⊥
+EndsIn (operation g qs end) h rs = (g ≡ h) × (qs ≡ rs)
+EndsIn (operation g qs (operation k ps rest)) h rs = EndsIn (operation k ps rest) h rs
+
 module _ {N : Names} {S : Contents} (t : Root N S) where
   -- a value is an argument of one block at most, at one index
   abbrev pub ArgumentsApart : Type 0
@@ -253,3 +260,15 @@ module _ {N : Names} {S : Contents} (t : Root N S) where
   pub record IsLocal : Type 0 where
     pub blocks : BlocksApart t
     pub edges : EdgesLocal t
+
+  -- an operation that names successors is the last of its block
+  abbrev pub BranchesLast : Type 0
+  BranchesLast = (o : Occurrence N S) (x : BlockOccurrence N S) (b : N.block) →
+      Has o (occurrences_of t) → Has x (block_occurrences_of t) → o.site.label.name ≡ x.label.name →
+      Has b o.head.successors → EndsIn x.operations o.head o.regions
+
+-- what simplify leaves: each block of a visited SSA region is reached, and no two blocks can be joined
+pub record IsSimplified {N : Names} {S : Contents} {A : Type 0} (d : Dialect S A) (t : Root N S) : Type 0 where
+  pub reached : (x : BlockOccurrence N S) →
+      Has x (block_occurrences_of t) → IsVisitedSsa d t x.spot → IsReached t x.label.name
+  pub joined : (b c : N.block) → Joinable d t b c → ⊥

@@ -4,6 +4,7 @@
 mod laws;
 
 pub use laws::{
-    back_refuses, cut_goal, dce_goal, dce_renames, dce_twice, one_best, one_dce, one_sccp,
-    one_simplify, same_results, sccp_renames, simplify_renames,
+    back_refuses, cut_goal, cut_orderly, dce_goal, dce_renames, dce_twice, facts_kept, one_best,
+    one_dce, one_sccp, one_simplify, refusals_rename, same_results, sccp_goal, sccp_renames,
+    simplify_goal, simplify_renames,
 };
