@@ -1,5 +1,5 @@
 -- Chains of blocks that are joined, and values that are followed to what they stand for, over numbers.
-use Rattle.std.specs.Prelude.{◌≡◌, ℕ, Bool, false, List, Option, Some, None, slice_get}
+use Rattle.std.specs.Prelude.{◌≡◌, ℕ, false, List, Option, Some, slice_get}
 use Rattle.opt_solvers.specs.declared.chains.ChainBlock.{ChainBlock}
 
 -- the block a goes on to b alone, another block, which is no entry and which nothing else leads to

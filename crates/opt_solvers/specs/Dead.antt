@@ -1,6 +1,6 @@
 -- What is dead, as the least set, over numbered operations and arguments.
 -- Source: Cytron and others, Efficiently computing static single assignment form, 1991, section on dead code; here as the least set, nested operations and block arguments too.
-use Rattle.std.specs.Prelude.{◌≡◌, ◌⊎◌, ◌<◌, ℕ, Bool, true, List, length, Option, Some, slice_get, Contains}
+use Rattle.std.specs.Prelude.{◌≡◌, ◌⊎◌, ◌<◌, ℕ, true, length, Some, slice_get, Contains}
 use Rattle.opt_solvers.specs.declared.dead_problem.Definer.{Definer}
 use Rattle.opt_solvers.specs.declared.dead_problem.Definer.TheVariants.{Result, Argument as ByArgument, Outside}
 use Rattle.opt_solvers.specs.declared.dead_problem.Operand.{Operand}

@@ -1,4 +1,9 @@
 pub mod Known
+pub mod KnownFalls
 pub mod Facts
+pub mod FactsFound
+pub mod FactsTables
+pub mod FactsLaw
+pub mod FactsSolving
 pub mod Dead
 pub mod Chains

@@ -1,0 +1,146 @@
+-- What a solver begins with, and that there is one solution.
+use Rattle.std.proofs.Common.{zero, ◌≡◌, inl, inr, ⊎_elim, ℕ, suc, ◌+◌, ◌<◌, List, [], ◌∷◌, ◌++◌, Option, Some, None, Bool, true, false, length, get_or, take, replicate, refl, sym, ap, ◌∙◌, subst, arith}
+use Rattle.std.specs.Prelude.{Contains, slice_get, unwrap_or, option_map}
+use Rattle.std.specs.declared.vec.Vec.{Vec}
+use Rattle.std.specs.declared.alloc.Global.{Global}
+use Rattle.std.proofs.lemmas.Option.{slice_get_within, none-some, same_Some}
+use Rattle.std.proofs.lemmas.List.{length-append, length-replicate}
+use Rattle.opt_solvers.specs.declared.known.Known.{Known}
+use Rattle.opt_solvers.specs.declared.known.Known.TheVariants.{Undetermined, One, Any}
+use Rattle.opt_solvers.specs.declared.facts_problem.Row.{Row}
+use Rattle.opt_solvers.specs.declared.facts_problem.FactsProblem.{FactsProblem}
+use Rattle.opt_solvers.specs.declared.facts_seen.Seen.{Seen}
+use Rattle.opt_solvers.specs.declared.facts_found.Found.{Found}
+use Rattle.opt_solvers.specs.declared.facts_solver.Solver.{Solver}
+use Rattle.opt_solvers.specs.Known.{AtOrBelow, AllAny}
+use Rattle.opt_solvers.specs.Facts.{Answers, NumberedFacts, Enters, IsMostPrecise}
+use Rattle.opt_solvers.specs.FactsFound.{facts_of, Meets, IsNothing}
+use Rattle.opt_solvers.specs.FactsSolving.{seen_of, IsTaken, IsSolving, IsWaiting, AreUnseen, AreUntaken, Begins}
+use Rattle.opt_solvers.proofs.FactsFalling.{at_top}
+use Rattle.opt_solvers.proofs.FactsEntering.{next_of, enters_stays}
+use Rattle.opt_solvers.proofs.FactsTabling.{contains_get, get_push_last, get_push_cases}
+
+get_replicate : {X : Type 0} (n i : ℕ) (x y : X) → slice_get (replicate n x) i ≡ Some y → y ≡ x
+get_replicate zero i x y e = absurd (none-some y e)
+get_replicate (suc n) zero x y e = same_Some y x (sym e)
+get_replicate (suc n) (suc i) x y e = get_replicate n i x y e
+
+true_both : (a b : Bool) → (a ≡ true → b ≡ true) → (b ≡ true → a ≡ true) → a ≡ b
+true_both true b f g = sym (f refl)
+true_both false true f g = g refl
+true_both false false f g = refl
+
+get_push_before : {X : Type 0} (xs : List X) (y : X) (i : ℕ) → i < length xs → slice_get (xs ++ y ∷ []) i ≡ slice_get xs i
+get_push_before [] y i h = absurd (omega arith)
+get_push_before (x ∷ xs) y zero h = refl
+get_push_before (x ∷ xs) y (suc i) h = get_push_before xs y i (omega arith)
+
+-- one more row of a table whose rows are known
+pushed_each : {X Y R : Type 0} (f : X → List Y) (want : R → List Y) (rs : List R) (xs : List X) (r : R) (x : X) → length xs ≡ length rs → ((i : ℕ) (q : R) → slice_get rs i ≡ Some q → unwrap_or (option_map f (slice_get xs i)) [] ≡ want q) → f x ≡ want r → (i : ℕ) (q : R) → slice_get (rs ++ r ∷ []) i ≡ Some q → unwrap_or (option_map f (slice_get (xs ++ x ∷ []) i)) [] ≡ want q
+pushed_each f want rs xs r x l h e i q t = ⊎_elim
+    (λ s. ap (λ o. unwrap_or (option_map f o) []) (get_push_before xs x i (let k = slice_get_within rs i q s in omega (arith, k, l))) ∙ h i q s)
+    (λ s. ap (λ o. unwrap_or (option_map f o) []) (ap (slice_get (xs ++ x ∷ [])) (s.0 ∙ sym l) ∙ get_push_last xs x) ∙ (e ∙ ap want s.1))
+    (get_push_cases rs r q i t)
+
+module _ {A : Type 0} where
+  pub unseen_none : (rows : List Row) → AreUnseen {A = A} (take 0 rows) []
+  unseen_none rows = record { len = refl; each = λ i r e. absurd (none-some r e) }
+
+  pub unseen_more : (rows : List Row) (n : ℕ) (r : Row) (ss us : List (Seen A)) (s : Seen A) → n < length rows → r ≡ get_or rows n r → us ≡ ss ++ s ∷ [] → s.known.items ≡ replicate (length r.operands.items) Undetermined → AreUnseen (take n rows) ss → AreUnseen (take (n + 1) rows) us
+  unseen_more rows n r ss us s h e q k d = subst (λ xs. AreUnseen (take (n + 1) rows) xs) (sym q) (subst (λ rs. AreUnseen rs (ss ++ s ∷ [])) (sym (next_of rows n r h e)) (record {
+    len = let a = length-append ss (s ∷ []) in let b = length-append (take n rows) (r ∷ []) in omega (arith, a, b, d.len);
+    each = pushed_each (λ (x : Seen A). x.known.items) (λ (x : Row). replicate (length x.operands.items) Undetermined) (take n rows) ss r s d.len d.each k;
+  }))
+
+pub untaken_none : (rows : List Row) → AreUntaken (take 0 rows) []
+untaken_none rows = record { len = refl; each = λ i r e. absurd (none-some r e) }
+
+pub untaken_more : (rows : List Row) (n : ℕ) (r : Row) (ts us : List (Vec Bool Global)) (t : Vec Bool Global) → n < length rows → r ≡ get_or rows n r → us ≡ ts ++ t ∷ [] → t.items ≡ replicate (length r.edges.items) false → AreUntaken (take n rows) ts → AreUntaken (take (n + 1) rows) us
+untaken_more rows n r ts us t h e q k d = subst (λ xs. AreUntaken (take (n + 1) rows) xs) (sym q) (subst (λ rs. AreUntaken rs (ts ++ t ∷ [])) (sym (next_of rows n r h e)) (record {
+  len = let a = length-append ts (t ∷ []) in let b = length-append (take n rows) (r ∷ []) in omega (arith, a, b, d.len);
+  each = pushed_each (λ (x : Vec Bool Global). x.items) (λ (x : Row). replicate (length x.edges.items) false) (take n rows) ts r t d.len d.each k;
+}))
+
+module _ {A : Type 0} where
+  all_any_from : (f : ℕ → Known A) (vs : List ℕ) → ((v : ℕ) → Contains vs v → f v ≡ Any) → AllAny f vs
+  all_any_from f [] h = tt
+  all_any_from f (v ∷ vs) h = (h v (0, omega arith, refl), all_any_from f vs (λ u c. h u (suc c.0, omega (arith, c.1), c.2)))
+
+  all_any_at : (f : ℕ → Known A) (vs : List ℕ) (v : ℕ) → AllAny f vs → (i : ℕ) → slice_get vs i ≡ Some v → f v ≡ Any
+  all_any_at f [] v h i e = absurd (none-some v e)
+  all_any_at f (u ∷ vs) v h zero e = subst (λ w. f w ≡ Any) (same_Some u v e) h.0
+  all_any_at f (u ∷ vs) v h (suc i) e = all_any_at f vs v h.1 i e
+
+  -- the entries were entered, and the values from outside given up
+  pub begun : (p : FactsProblem) (a b c : Found A) (blocks values : List ℕ) (seen : Vec (Seen A) Global) (taken : Vec (Vec Bool Global) Global) (marks : Vec (Option ℕ) Global) → blocks ≡ p.entries.items → values ≡ p.outside.items → IsNothing a (length p.arguments.items) p.values → Meets (λ l. (n : ℕ) → Contains blocks n → Enters p l n) a b → Meets (λ l. AllAny l.of values) b c
+      → AreUnseen p.rows.items seen.items → AreUntaken p.rows.items taken.items → marks.items ≡ replicate (length p.arguments.items) None → Begins p (record { found = c; seen = seen; taken = taken; marks = marks })
+  begun p a b c blocks values seen taken marks x y n f g s t m = record {
+    blocks_len = g.steps.blocks_len ∙ (f.steps.blocks_len ∙ n.blocks_len);
+    values_len = g.steps.values_len ∙ (f.steps.values_len ∙ n.values_len);
+    entered = record {
+      entries = λ e k. enters_stays p e (facts_of b) (facts_of c) g.steps.falls (f.holds e (subst (λ xs. Contains xs e) (sym x) k));
+      outside = subst (AllAny (facts_of c).of) y g.holds;
+    };
+    best = λ l h. g.steps.best l (subst (AllAny l.of) (sym y) h.outside) (f.steps.best l (λ e k. h.entries e (subst (λ xs. Contains xs e) x k))
+        (record { fewer = λ e k. absurd (n.none e k); above = λ v. subst (AtOrBelow (l.of v)) (sym (n.undetermined v)) (at_top (l.of v)) }));
+    blocks_wait = λ e k. ⊎_elim
+        (λ o. ⊎_elim (λ z. absurd (n.none e z)) (λ z. g.steps.keeps_blocks e z) (f.steps.block_waits e o))
+        (λ o. o)
+        (g.steps.block_waits e k);
+    values_wait = λ v. ⊎_elim
+        (λ o. ⊎_elim (λ z. inl (o ∙ (z ∙ n.undetermined v))) (λ z. inr (g.steps.keeps_values v z)) (f.steps.value_waits v))
+        (λ o. inr o)
+        (g.steps.value_waits v);
+    seen = s;
+    taken = t;
+    marks = m;
+  }
+
+  module _ (ask : Answers A) (p : FactsProblem) (s : Solver A) (b : Begins p s) where
+    nothing_taken : (i n : ℕ) (r : Row) → slice_get p.rows.items i ≡ Some r → IsTaken s.taken.items i n → ⊥
+    nothing_taken i n r a t = let e : true ≡ false = get_replicate (length r.edges.items) n false true (sym (ap (λ xs. slice_get xs n) (b.taken.each i r a)) ∙ t) in cc
+
+    nothing_seen : (i j : ℕ) (r : Row) (x : Known A) → slice_get p.rows.items i ≡ Some r → slice_get (seen_of s.seen.items i) j ≡ Some x → x ≡ Undetermined
+    nothing_seen i j r x a e = get_replicate (length r.operands.items) j Undetermined x (sym (ap (λ xs. slice_get xs j) (b.seen.each i r a)) ∙ e)
+
+    pub begins_solving : IsSolving ask p s []
+    begins_solving = record {
+      blocks_len = b.blocks_len;
+      values_len = b.values_len;
+      marks_len = ap length b.marks ∙ length-replicate (length p.arguments.items) None;
+      seen_len = b.seen.len;
+      taken_len = b.taken.len;
+      operands_len = λ i r a. ap length (b.seen.each i r a) ∙ length-replicate (length r.operands.items) Undetermined;
+      edges_len = λ i r a. ap length (b.taken.each i r a) ∙ length-replicate (length r.edges.items) false;
+      best = λ l c. b.best l (record { entries = c.entries; outside = all_any_from l.of p.outside.items c.outside });
+      marks_best = λ l c i r a n e q k. absurd (none-some i (sym (get_replicate (length p.arguments.items) e.target None (Some i) (sym (ap (λ ms. slice_get ms e.target) b.marks) ∙ k))));
+      taken_best = λ l c i n r e a q t. absurd (nothing_taken i n r a t);
+      above = λ i j v r x a q e. subst (AtOrBelow ((facts_of s.found).of v)) (sym (nothing_seen i j r x a e)) (at_top ((facts_of s.found).of v));
+      edges = λ i n r e a q t. absurd (nothing_taken i n r a t);
+    }
+
+    pub begins_waiting : IsWaiting ask p s [] []
+    begins_waiting = record {
+      entries = b.entered.entries;
+      outside = λ v c. all_any_at (facts_of s.found).of p.outside.items v b.entered.outside (contains_get p.outside.items v c).0 (contains_get p.outside.items v c).1;
+      rows = λ i r a e. inr (inl (b.blocks_wait r.block e));
+      seen = λ i j v r x a q e. ⊎_elim (λ o. inl (o ∙ sym (nothing_seen i j r x a e))) (λ o. inr (inl o)) (b.values_wait v);
+    }
+
+  at_both : (x y : Known A) → AtOrBelow x y → AtOrBelow y x → x ≡ y
+  at_both Undetermined Undetermined a b = refl
+  at_both Undetermined (One d) a b = absurd a
+  at_both Undetermined Any a b = absurd a
+  at_both (One c) Undetermined a b = absurd b
+  at_both (One c) (One d) a b = ap (λ z. One z) a
+  at_both (One c) Any a b = absurd a
+  at_both Any Undetermined a b = absurd b
+  at_both Any (One d) a b = absurd b
+  at_both Any Any a b = refl
+
+  -- most precise facts are the same
+  pub one_facts : (ask : Answers A) (p : FactsProblem) (k l : NumberedFacts A) → IsMostPrecise ask p k → IsMostPrecise ask p l → k ≡ l
+  one_facts ask p k l f g = λ i. record { runs = λ b. same_runs b i; of = λ v. at_both (k.of v) (l.of v) ((g.best k f.closed).above v) ((f.best l g.closed).above v) i }
+    where
+      same_runs : (b : ℕ) → k.runs b ≡ l.runs b
+      same_runs b = true_both (k.runs b) (l.runs b) ((f.best l g.closed).fewer b) ((g.best k f.closed).fewer b)

@@ -1,0 +1,10 @@
+pub mod FactsSeeing
+pub mod FactsFalling
+pub mod FactsEntering
+pub mod FactsTabling
+pub mod FactsEdging
+pub mod FactsAsking
+pub mod FactsVisiting
+pub mod FactsTelling
+pub mod FactsStepping
+pub mod FactsBeginning

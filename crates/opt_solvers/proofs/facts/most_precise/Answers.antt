@@ -1,0 +1,13 @@
+use Rattle.std.proofs.Common.{◌≡◌, false, rules}
+use Rattle.opt_solvers.proofs.FactsBeginning.{begins_solving, begins_waiting}
+use Rattle.opt_solvers.proofs.FactsStepping.{solved}
+use Rattle.opt_solvers.proofs.facts.most_precise.Goals as goal
+
+pub steps-init : goal.steps-init
+steps-init g c = (begins_solving _ c.args.problem.now c.in_ok-solver.solver c.in_ok-solver.ensures, begins_waiting _ c.args.problem.now c.in_ok-solver.solver c.in_ok-solver.ensures)
+
+pub returns : goal.returns
+returns g c =
+    let s = c.in_ok-more.ensures in
+    let e : c.in_ok-more.more ≡ false = search rules in
+    solved _ c.args.problem.now c.step.new.solver s.solving s.waiting (s.no_blocks e) (s.no_values e)

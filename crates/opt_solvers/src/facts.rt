@@ -1,0 +1,141 @@
+//! The most precise facts of a problem: constant propagation along edges that are feasible.
+//!
+//! Source: Wegman and Zadeck, Constant propagation with conditional branches, 1991, by two lists: blocks that began to
+//! run, and values of which less is known than those that look at them saw.
+ghost use Rattle.std.specs.Prelude.{ℕ, ◌≡◌, true, length, IfOk, Some, slice_get, []};
+ghost use Rattle.opt_solvers.specs.declared.facts_problem.Row.{Row};
+ghost use Rattle.opt_solvers.specs.Facts.{IsProblem, IsMostPrecise, as_facts};
+ghost use Rattle.opt_solvers.specs.FactsLaw.{OneMostPrecise};
+ghost use Rattle.opt_solvers.specs.FactsTables.{AreTables};
+ghost use Rattle.opt_solvers.specs.FactsSolving.{AreUnseen, AreUntaken, Begins};
+ghost use Rattle.opt_solvers.specs.FactsSolving.{CanAskRows, IsSolving, IsWaiting, IsStep};
+
+use crate::facts_found::Found;
+use crate::facts_problem::{FactsProblem, Folding, Row};
+use crate::facts_rows::visit_block;
+use crate::facts_seen::Seen;
+use crate::facts_solver::Solver;
+use crate::facts_tables::{Tables, tables_of};
+use crate::facts_values::tell_value;
+use crate::known::Known;
+use std::alloc::{AllocError, Global};
+
+/// What is known of a problem's blocks and values.
+#[derive(Drop)]
+pub struct Solution<K> {
+    /// Of each block, whether it may run.
+    pub runs: Vec<bool>,
+    /// What is known of each value.
+    pub known: Vec<Known<K>>,
+}
+
+/// Nothing is seen of any operand.
+fn unseen<K: Copy>(alloc: Global, rows: &[Row]) -> Result<Vec<Seen<K>>, AllocError>
+    ensures { IfOk result (λ seen. AreUnseen rows.now seen.items) }
+{
+    let mut seen = Vec::new(alloc);
+    for row in rows {
+        seen.push(Seen::new(alloc, row.operands.len())?)?;
+    }
+    Ok(seen)
+}
+
+/// No edge is taken.
+fn untaken(alloc: Global, rows: &[Row]) -> Result<Vec<Vec<bool>>, AllocError>
+    ensures { IfOk result (λ taken. AreUntaken rows.now taken.items) }
+{
+    let mut taken = Vec::new(alloc);
+    for row in rows {
+        taken.push(vec![in alloc; false; row.edges.len()]?)?;
+    }
+    Ok(taken)
+}
+
+/// The entry blocks of the root run, nothing is known of the values from outside, and nothing else is found.
+fn begin<K: Copy + Eq>(alloc: Global, problem: &FactsProblem) -> Result<Solver<K>, AllocError>
+    requires problem { IsProblem problem.now }
+    requires same { (x y : K) → K.eq x y ≡ true → x ≡ y }
+    ensures { IfOk result (Begins problem.now) }
+{
+    let mut found = Found::new(alloc, problem.arguments.len(), problem.values)?;
+    found.enter_all(problem, &problem.entries)?;
+    found.give_up(&problem.outside)?;
+    Ok(Solver {
+        found,
+        seen: unseen(alloc, &problem.rows)?,
+        taken: untaken(alloc, &problem.rows)?,
+        marks: vec![in alloc; None; problem.arguments.len()]?,
+    })
+}
+
+/// Looks at what one block that began to run, or one value of which less is known, asks. Says whether there was one.
+fn step<F: Folding>(
+    alloc: Global,
+    problem: &FactsProblem,
+    folding: &F,
+    tables: &Tables,
+    solver: &mut Solver<F::Constant>,
+) -> Result<bool, AllocError>
+    requires problem { IsProblem problem.now }
+    requires tables { AreTables problem.now tables.now }
+    requires asks { CanAskRows (F.can_ask folding.now) problem.now }
+    requires solving { IsSolving (F.answers folding.now) problem.now solver.old [] }
+    requires waiting { IsWaiting (F.answers folding.now) problem.now solver.old [] [] }
+    ensures { IfOk result (IsStep (F.answers folding.now) problem.now solver.old solver.new) }
+{
+    if let Some(block) = solver.found.take_block() {
+        visit_block(alloc, problem, folding, tables, block, solver)?;
+        return Ok(true);
+    }
+    if let Some(value) = solver.found.take_value() {
+        tell_value(alloc, problem, folding, tables, value, solver)?;
+        return Ok(true);
+    }
+    Ok(false)
+}
+
+/// The most precise facts of a problem that are closed under what its operations do.
+///
+/// Each block is visited once, and each value falls twice at most. When a value falls, each place that reads it is
+/// told, and each argument that it is forwarded to along an edge that is taken is lowered. An operation is asked again
+/// where a place was told and none of its operands is undetermined. So the time is linear in the size of the problem,
+/// beside what is asked: an operation once for each fall of an operand, and then all of its edges.
+///
+/// # Errors
+/// There may be no memory.
+pub fn most_precise<F: Folding>(
+    alloc: Global,
+    problem: &FactsProblem,
+    folding: &F,
+) -> Result<Solution<F::Constant>, AllocError>
+    requires problem { IsProblem problem.now }
+    requires asks { (i : ℕ) (r : Row) → slice_get problem.now.rows.items i ≡ Some r → F.can_ask folding.now i (length r.operands.items) }
+    ensures { IfOk result (λ s. IsMostPrecise (F.answers folding.now) problem.now (as_facts s.runs.items s.known.items)) }
+{
+    let tables = tables_of(alloc, problem)?;
+    let mut solver = begin(alloc, problem)?;
+    'steps: loop {
+        let more = step(alloc, problem, folding, &tables, &mut solver)?;
+        if !more {
+            break 'steps;
+        }
+    }
+    let Solver {
+        found,
+        seen: _,
+        taken: _,
+        marks: _,
+    } = solver;
+    let Found {
+        runs,
+        known,
+        blocks: _,
+        values: _,
+    } = found;
+    Ok(Solution { runs, known })
+}
+
+/// There is one solution: most precise facts of one problem are the same, whatever is answered.
+pub fn one_most_precise<K>()
+    ensures { OneMostPrecise K }
+{}

@@ -1,0 +1,17 @@
+//! How far a solver of facts has come.
+
+use crate::facts_found::Found;
+use crate::facts_seen::Seen;
+
+/// What has been found so far, and what operations and their edges have seen of it.
+#[derive(Drop)]
+pub struct Solver<K> {
+    /// What has been found.
+    pub found: Found<K>,
+    /// What each operation has seen of its operands.
+    pub seen: Vec<Seen<K>>,
+    /// Of each operation, which of its edges are taken: their targets are feasible.
+    pub taken: Vec<Vec<bool>>,
+    /// Of each block, the operation that was the last to find one of its edges to it feasible.
+    pub marks: Vec<Option<usize>>,
+}

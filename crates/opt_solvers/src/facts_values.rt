@@ -1,0 +1,90 @@
+//! Values of which less is known, told to those that look at them.
+ghost use Rattle.std.specs.Prelude.{ℕ, ◌≡◌, ◌<◌, ◌∷◌, true, [], length, OnOk, Contains};
+ghost use Rattle.opt_solvers.specs.declared.facts_tables.Slot.{Slot};
+ghost use Rattle.opt_solvers.specs.Facts.{IsProblem};
+ghost use Rattle.opt_solvers.specs.FactsFound.{Meets};
+ghost use Rattle.opt_solvers.specs.FactsTables.{row_of, Reads, AreTables};
+ghost use Rattle.opt_solvers.specs.FactsSolving.{CanAskRows, SlotsBelow, IsSolving, IsWaiting, Sees, Tells};
+
+use crate::facts_found::Found;
+use crate::facts_problem::{FactsProblem, Folding};
+use crate::facts_rows::refresh_row;
+use crate::facts_solver::Solver;
+use crate::facts_tables::{Place, Slot, Tables};
+use crate::known::Known;
+use std::alloc::{AllocError, Global};
+
+/// Lowers the arguments that a value is forwarded to along edges which are taken.
+fn forward<K: Copy + Eq>(
+    slots: &[Slot],
+    taken: &[Vec<bool>],
+    fact: Known<K>,
+    found: &mut Found<K>,
+) -> Result<(), AllocError>
+    requires arguments { (x : Slot) → Contains slots.now x → x.argument < length found.old.known.items }
+    requires rows { (x : Slot) → Contains slots.now x → x.row < length taken.now }
+    requires edges { (x : Slot) → Contains slots.now x → x.edge < length (row_of taken.now x.row) }
+    requires same { (x y : K) → K.eq x y ≡ true → x ≡ y }
+    ensures { OnOk result (Meets (SlotsBelow taken.now slots.now fact) found.old found.new) }
+{
+    for slot in slots {
+        if taken[slot.row][slot.edge] {
+            found.lower(slot.argument, fact)?;
+        }
+    }
+    Ok(())
+}
+
+/// Lets a place see what is known of the value that it reads, and looks at its operation, if its block runs.
+fn see_place<F: Folding>(
+    alloc: Global,
+    problem: &FactsProblem,
+    folding: &F,
+    value: usize,
+    place: Place,
+    solver: &mut Solver<F::Constant>,
+) -> Result<(), AllocError>
+    requires problem { IsProblem problem.now }
+    requires asks { CanAskRows (F.can_ask folding.now) problem.now }
+    requires reads { Reads problem.now.rows.items value place }
+    requires solving { IsSolving (F.answers folding.now) problem.now solver.old [] }
+    ensures { OnOk result (Sees (F.answers folding.now) problem.now solver.old solver.new value place) }
+{
+    let fact = solver.found.known[value];
+    solver.seen[place.row].see(place.operand, fact);
+    if solver.found.runs[problem.rows[place.row].block] {
+        refresh_row(alloc, problem, folding, place.row, solver)?;
+    }
+    Ok(())
+}
+
+/// Tells what is known of a value to the places that read it, each once, and lowers the arguments that it is forwarded
+/// to, each alone.
+///
+/// # Errors
+/// There may be no memory.
+pub fn tell_value<F: Folding>(
+    alloc: Global,
+    problem: &FactsProblem,
+    folding: &F,
+    tables: &Tables,
+    value: usize,
+    solver: &mut Solver<F::Constant>,
+) -> Result<(), AllocError>
+    requires problem { IsProblem problem.now }
+    requires tables { AreTables problem.now tables.now }
+    requires in_range { value < problem.now.values }
+    requires asks { CanAskRows (F.can_ask folding.now) problem.now }
+    requires solving { IsSolving (F.answers folding.now) problem.now solver.old (value ∷ []) }
+    requires waiting { let places = row_of tables.now.readers.items value in
+        IsWaiting (F.answers folding.now) problem.now solver.old [] places }
+    ensures { OnOk result (Tells (F.answers folding.now) problem.now solver.old.found solver.new []) }
+{
+    let fact = solver.found.known[value];
+    forward(&tables.slots[value], &solver.taken, fact, &mut solver.found)?;
+    let places = tables.readers[value].as_slice();
+    for place in places {
+        see_place(alloc, problem, folding, value, *place, solver)?;
+    }
+    Ok(())
+}
