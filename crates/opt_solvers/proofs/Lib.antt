@@ -8,3 +8,14 @@ pub mod FactsVisiting
 pub mod FactsTelling
 pub mod FactsStepping
 pub mod FactsBeginning
+pub mod ChainsJoining
+pub mod ChainsFollowing
+pub mod DeadLists
+pub mod DeadPlacing
+pub mod DeadCrossing
+pub mod DeadKeeping
+pub mod DeadNoting
+pub mod DeadCounting
+pub mod DeadReleasing
+pub mod DeadCases
+pub mod DeadDying

@@ -7,3 +7,10 @@ pub mod FactsLaw
 pub mod FactsSolving
 pub mod Dead
 pub mod Chains
+pub mod ChainsJoined
+pub mod ChainsFollowed
+pub mod DeadPlaces
+pub mod DeadRows
+pub mod DeadUses
+pub mod DeadRelease
+pub mod DeadItems

@@ -2,7 +2,15 @@
 #![tactic(auto)]
 
 mod chains;
+mod chains_followed;
+mod chains_joined;
+mod dead_items;
+mod dead_kept;
+mod dead_places;
 mod dead_problem;
+mod dead_release;
+mod dead_rows;
+mod dead_uses;
 mod facts;
 mod facts_edges;
 mod facts_found;
@@ -15,6 +23,9 @@ mod facts_values;
 mod known;
 
 pub use chains::ChainBlock;
+pub use chains_followed::followed;
+pub use chains_joined::joined;
+pub use dead_items::dead;
 pub use dead_problem::{Argument, Candidate, DeadItems, DeadProblem, Definer, Operand};
 pub use facts::{Solution, most_precise, one_most_precise};
 pub use facts_problem::{Edge, FactsProblem, Folding, Role, Row};

@@ -1,0 +1,15 @@
+pub mod Lists
+pub mod Places
+pub mod ValueTests
+pub mod Entries
+pub mod Edges
+pub mod Below
+pub mod Occurs
+pub mod Agree
+pub mod Members
+pub mod Setting
+pub mod RowsClosed
+pub mod Transport
+pub mod InRange
+pub mod Asking
+pub mod LacksBelow

@@ -1,0 +1,4 @@
+pub mod ByNumber
+pub mod Problem
+pub mod Folds
+pub mod Lacks

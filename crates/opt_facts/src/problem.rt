@@ -1,0 +1,73 @@
+//! The problem of the most precise facts of what is inside an operation.
+ghost use Rattle.std.specs.Prelude.{◌≡◌, IfOk, IsSome};
+ghost use Rattle.ir_program.specs.Program.{operation_at, block_at};
+ghost use Rattle.ir_program.specs.Lists.{IsLinkedOperation};
+ghost use Rattle.ir_trees.specs.Searched.{Lists};
+ghost use Rattle.opt_inside.specs.Numbered.{NumbersInside, numbers_of};
+ghost use Rattle.opt_facts.specs.Problem.{AreArguments, AreRows, IsProblemOf, Pairs};
+
+use crate::numbers::{argument_numbers, entry_numbers};
+use crate::rows::row_of;
+use ir_program::{Operation, Program, Ptr};
+use opt_dialect::OptDialect;
+use opt_inside::Inside;
+use opt_solvers::{FactsProblem, Row};
+use std::alloc::{AllocError, Global};
+
+/// The rows of the operations inside, in their order.
+fn rows_of<D: OptDialect>(
+    alloc: Global,
+    program: &Program<D::Operation, D::Block>,
+    inside: &Inside,
+) -> Result<Vec<Row>, AllocError>
+    requires { (p : _) → Lists inside.now.operations.keys p → IsLinkedOperation program.now p }
+    ensures { IfOk result (λ rows. AreRows D.meaning program.now (numbers_of inside.now) inside.now.operations.keys rows.items) }
+{
+    let mut rows = Vec::new(alloc);
+    for op in inside.operations.as_slice() {
+        rows.push(row_of::<D>(alloc, program, inside, *op)?)?;
+    }
+    Ok(rows)
+}
+
+/// The arguments of the blocks inside, in their order.
+fn arguments_of_blocks<O, B>(
+    alloc: Global,
+    program: &Program<O, B>,
+    inside: &Inside,
+) -> Result<Vec<Vec<usize>>, AllocError>
+    requires { (b : _) → Lists inside.now.blocks.keys b → IsSome (block_at program.now b) }
+    ensures { IfOk result (λ arguments. Pairs (AreArguments program.now (numbers_of inside.now)) inside.now.blocks.keys arguments.items) }
+{
+    let mut arguments = Vec::new(alloc);
+    for block in inside.blocks.as_slice() {
+        arguments.push(argument_numbers(alloc, program, inside, *block)?)?;
+    }
+    Ok(arguments)
+}
+
+/// The problem of what is inside an operation. All values from outside have one number, behind those inside: each may be
+/// any value.
+pub(crate) fn problem_of<D: OptDialect>(
+    alloc: Global,
+    program: &Program<D::Operation, D::Block>,
+    op: Ptr<Operation>,
+    inside: &Inside,
+) -> Result<FactsProblem, AllocError>
+    requires live { IsSome (operation_at program.now op) }
+    requires numbered { NumbersInside program.now op (numbers_of inside.now) }
+    ensures { IfOk result (λ problem. IsProblemOf D.meaning program.now op (numbers_of inside.now) problem) }
+{
+    let rows = rows_of::<D>(alloc, program, inside)?;
+    let arguments = arguments_of_blocks(alloc, program, inside)?;
+    let entries = entry_numbers(alloc, program, inside, op)?;
+    let count = inside.values.as_slice().len();
+    let outside = vec![in alloc; count]?;
+    Ok(FactsProblem {
+        rows,
+        arguments,
+        values: count + 1,
+        entries,
+        outside,
+    })
+}

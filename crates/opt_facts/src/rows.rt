@@ -1,0 +1,107 @@
+//! The row of an operation in the problem of the most precise facts.
+ghost use Rattle.std.specs.Prelude.{◌≡◌, IfOk, IsSome};
+ghost use Rattle.ir_program.specs.Program.{operation_at};
+ghost use Rattle.ir_program.specs.Lists.{IsLinkedOperation};
+ghost use Rattle.opt_inside.specs.Numbered.{numbers_of};
+ghost use Rattle.opt_facts.specs.Problem.{role_of, AreForwarded, IsEdgeCount, AreEdges, IsRowOf};
+
+use crate::numbers::{entry_numbers, number_of_block, operand_numbers, result_numbers};
+use ir_program::{Operation, Program, Ptr};
+use opt_dialect::OptDialect;
+use opt_inside::Inside;
+use opt_solvers::{Edge, Role, Row};
+use std::alloc::{AllocError, Global};
+
+/// What an operation is asked.
+fn role_of_operation<D: OptDialect>(payload: &D::Operation) -> Role
+    ensures { result ≡ role_of (D.meaning.is_foldable payload.now) (D.meaning.is_branch payload.now) }
+{
+    if D::is_foldable(payload) {
+        Role::Folds
+    } else if D::is_branch(payload) {
+        Role::Branches
+    } else {
+        Role::Other
+    }
+}
+
+/// The indices of the operands that the operation forwards to its successor with this index; an index behind the last
+/// operand forwards nothing.
+fn forwarded_operands<D: OptDialect>(
+    alloc: Global,
+    program: &Program<D::Operation, D::Block>,
+    op: Ptr<Operation>,
+    successor: usize,
+) -> Result<Vec<usize>, AllocError>
+    requires { IsSome (operation_at program.now op) }
+    ensures { IfOk result (λ indices. AreForwarded D.meaning program.now op successor indices.items) }
+{
+    let count = program.operand_count(op);
+    let indices = D::successor_operands(alloc, program.payload(op), count, successor)?;
+    indices
+        .iter()
+        .copied()
+        .filter(|i| *i < count)
+        .collect(alloc)
+}
+
+/// How many edges an operation has: none, where it is no branch.
+fn edge_count<D: OptDialect>(program: &Program<D::Operation, D::Block>, op: Ptr<Operation>) -> usize
+    requires { IsSome (operation_at program.now op) }
+    ensures { IsEdgeCount D.meaning program.now op result }
+{
+    if D::is_branch(program.payload(op)) {
+        program.successor_count(op)
+    } else {
+        0
+    }
+}
+
+/// The edges of an operation.
+fn edges_of<D: OptDialect>(
+    alloc: Global,
+    program: &Program<D::Operation, D::Block>,
+    inside: &Inside,
+    op: Ptr<Operation>,
+) -> Result<Vec<Edge>, AllocError>
+    requires { IsSome (operation_at program.now op) }
+    ensures { IfOk result (λ edges. AreEdges D.meaning program.now (numbers_of inside.now) op edges.items) }
+{
+    let mut edges = Vec::new(alloc);
+    for i in 0..edge_count::<D>(program, op) {
+        let target = number_of_block(inside, program.successor(op, i));
+        let forwards = forwarded_operands::<D>(alloc, program, op, i)?;
+        edges.push(Edge { target, forwards })?;
+    }
+    Ok(edges)
+}
+
+/// The row of an operation that stands in a block.
+pub(crate) fn row_of<D: OptDialect>(
+    alloc: Global,
+    program: &Program<D::Operation, D::Block>,
+    inside: &Inside,
+    op: Ptr<Operation>,
+) -> Result<Row, AllocError>
+    requires live { IsSome (operation_at program.now op) }
+    requires linked { IsLinkedOperation program.now op }
+    ensures { IfOk result (λ row. IsRowOf D.meaning program.now (numbers_of inside.now) op row) }
+{
+    let block = match program.parent_block(op) {
+        Some(block) => number_of_block(inside, block),
+        None => unreachable!(),
+    };
+    let role = role_of_operation::<D>(program.payload(op));
+    let operands = operand_numbers(alloc, program, inside, op)?;
+    let results = result_numbers(alloc, program, inside, op)?;
+    let edges = edges_of::<D>(alloc, program, inside, op)?;
+    let entries = entry_numbers(alloc, program, inside, op)?;
+    Ok(Row {
+        block,
+        role,
+        operands,
+        results,
+        edges,
+        entries,
+    })
+}

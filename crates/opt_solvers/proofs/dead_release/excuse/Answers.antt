@@ -1,0 +1,27 @@
+use Rattle.std.proofs.Common.{◌≡◌, ◌∙◌, false, get_or, sym, ap, subst, arith}
+use Rattle.digraph.specs.Marks.{IsMarked}
+use Rattle.digraph.specs.Graph.{successors}
+use Rattle.digraph.proofs.Searching.{successors_at}
+use Rattle.digraph.proofs.Marking.{marked_read, only_one}
+use Rattle.opt_solvers.specs.DeadRelease.{IsReleasable, Releases}
+use Rattle.opt_solvers.proofs.DeadReleasing.{releasable, place_excused, nothing_excused}
+use Rattle.opt_solvers.proofs.dead_release.excuse.Goals as goal
+
+pub release_all-requires : goal.release_all-requires
+release_all-requires c =
+    let e : successors c.args.keeps.now c.args.place ≡ c.deref.result.now = successors_at c.args.keeps.now c.args.place c.index-keeps-place.result c.requires.place c.index-keeps-place.is ∙ sym c.deref.ensures.value in
+    let f : get_or c.args.counts.now.excused.items c.args.place false ≡ false = ap (get_or c.args.counts.now.excused.items c.args.place) (sym c.if-not-index.true) ∙ sym c.index.ensures ∙ c.if-not-index.true in
+    subst (λ xs. IsReleasable xs c.args.counts.now.uses.items c.args.counts.now.work) e (releasable c.args.keeps.now c.args.counts.now.excused.items c.args.counts.now.uses.items c.args.counts.now.work c.requires.counts c.args.place c.requires.place f)
+
+pub returns-in_ok-release_all : goal.returns-in_ok-release_all
+returns-in_ok-release_all c =
+    let e : successors c.args.keeps.now c.args.place ≡ c.deref.result.now = successors_at c.args.keeps.now c.args.place c.index-keeps-place.result c.requires.place c.index-keeps-place.is ∙ sym c.deref.ensures.value in
+    let f : get_or c.args.counts.now.excused.items c.args.place false ≡ false = ap (get_or c.args.counts.now.excused.items c.args.place) (sym c.if-not-index.true) ∙ sym c.index.ensures ∙ c.if-not-index.true in
+    place_excused c.args.keeps.now c.args.counts.now.excused.items c.args.counts.now.uses.items c.args.counts.now.work c.requires.counts c.args.place _ _ c.requires.place f
+    (subst (λ xs. Releases xs c.args.counts.now.uses.items c.release_all.new.uses.items c.args.counts.now.work c.release_all.new.work) (sym e) c.in_ok-release_all.ensures)
+
+pub returns-else-not-index : goal.returns-else-not-index
+returns-else-not-index c =
+    let l = c.requires.counts.places in let h = c.requires.place in
+    let m = marked_read c.args.counts.now.excused.items c.args.place c.index.result.now (omega (arith, l, h)) c.index.ensures c.if-not-index.false in
+    nothing_excused c.args.keeps.now c.args.counts.now.excused.items c.args.counts.now.uses.items c.args.counts.now.work c.requires.counts _ (λ k c'. subst (IsMarked c.args.counts.now.excused.items) (sym (only_one c.args.place k c')) m)

@@ -1,0 +1,6 @@
+use Rattle.opt_solvers.specs.DeadPlaces.{items}
+use Rattle.opt_solvers.proofs.DeadNoting.{FromInside, AreNoted}
+use Rattle.opt_solvers.proofs.dead_rows.inner_rows.Given as goal
+
+abbrev pub invariant-loop-number : goal.invariant-loop-number
+invariant-loop-number l = AreNoted (FromInside l.problem) (items l.problem) l.number l.rows.items

@@ -1,0 +1,124 @@
+-- The uses of values, and the items that each of them keeps.
+use Rattle.std.specs.Prelude.{◌≡◌, ◌⊎◌, ◌<◌, ◌≤◌, ◌+◌, ℕ, List, length, Option, Some, None, slice_get, Contains, ◌↔◌}
+use Rattle.std.specs.declared.vec.Vec.{Vec}
+use Rattle.std.specs.declared.alloc.Global.{Global}
+use Rattle.digraph.specs.Graph.{successors}
+use Rattle.digraph.specs.Counts.{count_of}
+use Rattle.opt_solvers.specs.declared.dead_problem.Definer.{Definer}
+use Rattle.opt_solvers.specs.declared.dead_problem.Definer.TheVariants.{Result, Argument as ByArgument, Outside}
+use Rattle.opt_solvers.specs.declared.dead_problem.Operand.{Operand}
+use Rattle.opt_solvers.specs.declared.dead_problem.Candidate.{Candidate}
+use Rattle.opt_solvers.specs.declared.dead_problem.Argument.{Argument}
+use Rattle.opt_solvers.specs.declared.dead_problem.DeadProblem.{DeadProblem}
+use Rattle.opt_solvers.specs.declared.dead_places.Place.{Place}
+use Rattle.opt_solvers.specs.Dead.{HasOperand, IsIn}
+
+-- the place of an operand
+abbrev pub operand_place : ℕ → Operand → Place
+operand_place user o = record { user = Some user; operand = o }
+
+-- the place of a use from outside or by the root
+abbrev pub kept_place : Definer → Place
+kept_place d = record { user = None; operand = record { definer = d; argument = None } }
+
+-- an operand of an operation
+abbrev pub IsOperandPlace : DeadProblem → Place → Type 0
+IsOperandPlace p q = (i : ℕ) × (q.user ≡ Some i) × HasOperand p i q.operand
+
+-- a use from outside or by the root, which is forwarded to no argument
+abbrev pub IsKeptPlace : DeadProblem → Place → Type 0
+IsKeptPlace p q = (q.user ≡ None) × (q.operand.argument ≡ None) × Contains p.kept.items q.operand.definer
+
+-- a use of a value
+abbrev pub IsPlace : DeadProblem → Place → Type 0
+IsPlace p q = IsOperandPlace p q ⊎ IsKeptPlace p q
+
+-- what an entry of the tables says that it is directly in
+abbrev pub around_of : Option Candidate → Option ℕ
+around_of None = None
+around_of (Some c) = c.around
+
+abbrev pub around_of_argument : Option Argument → Option ℕ
+around_of_argument None = None
+around_of_argument (Some c) = c.around
+
+-- the operation that an operation, or the block of an argument, is directly in
+abbrev pub around_operation : DeadProblem → ℕ → Option ℕ
+around_operation p i = around_of (slice_get p.operations.items i)
+
+abbrev pub around_argument : DeadProblem → ℕ → Option ℕ
+around_argument p v = around_of_argument (slice_get p.arguments.items v)
+
+-- the operation that the definition of a value is directly in
+abbrev pub around_definer : DeadProblem → Definer → Option ℕ
+around_definer p (Result b) = around_operation p b
+around_definer p (ByArgument v) = around_argument p v
+around_definer p Outside = None
+
+-- the operation that a user is directly in
+abbrev pub around_user : DeadProblem → Option ℕ → Option ℕ
+around_user p None = None
+around_user p (Some i) = around_operation p i
+
+-- the number of an argument among the items: operations come first
+abbrev pub slot : DeadProblem → ℕ → ℕ
+slot p v = length p.operations.items + v
+
+-- how many items there are
+abbrev pub items : DeadProblem → ℕ
+items p = length p.operations.items + length p.arguments.items
+
+-- the number of the item that a value is a result of, or is
+abbrev pub maker : DeadProblem → Definer → Option ℕ
+maker p (Result b) = Some b
+maker p (ByArgument v) = Some (slot p v)
+maker p Outside = None
+
+-- the operation a is the one given, or around it
+abbrev pub IsAround : DeadProblem → Option ℕ → ℕ → Type 0
+IsAround p from a = (j : ℕ) × (from ≡ Some j) × IsIn p a j
+
+-- the operation is around the first, and not around the second
+abbrev pub IsBetween : DeadProblem → Option ℕ → Option ℕ → ℕ → Type 0
+IsBetween p inner outer x = IsAround p inner x × (IsAround p outer x → ⊥)
+
+-- the place keeps the item that makes the value, and what is around this and not around the user
+abbrev pub Keeps : DeadProblem → Place → ℕ → Type 0
+Keeps p q x = (maker p q.operand.definer ≡ Some x) ⊎ IsBetween p (around_definer p q.operand.definer) (around_user p q.user) x
+
+-- the items that a place keeps, each once
+pub record KeepsRow (p : DeadProblem) (q : Place) (row : List ℕ) : Type 0 where
+  pub exact : (x : ℕ) → Contains row x ↔ Keeps p q x
+  pub within : (x : ℕ) → Contains row x → x < items p
+  pub once : (x : ℕ) → count_of x row ≤ 1
+
+-- the number of an operation that there is
+abbrev pub IsNumber : DeadProblem → Option ℕ → Type 0
+IsNumber p o = (j : ℕ) → o ≡ Some j → j < length p.operations.items
+
+-- the number of what defines a value is that of an operation or an argument
+abbrev pub IsKnown : DeadProblem → Definer → Type 0
+IsKnown p (Result b) = b < length p.operations.items
+IsKnown p (ByArgument v) = v < length p.arguments.items
+IsKnown p Outside = Unit {0}
+
+-- outwards from an operation to one that is not above a limit: of the operations up to the limit the same are around it
+pub record GoesOut (p : DeadProblem) (from : Option ℕ) (limit : ℕ) (to : Option ℕ) : Type 0 where
+  pub number : IsNumber p to
+  pub low : (j : ℕ) → to ≡ Some j → j ≤ limit
+  pub around : (a : ℕ) → a ≤ limit → IsAround p from a ↔ IsAround p to a
+
+-- the row has numbers above that of the operation alone, each once
+pub record IsBehind (from : Option ℕ) (row : List ℕ) : Type 0 where
+  pub behind : (x j : ℕ) → Contains row x → from ≡ Some j → j < x
+  pub once : (x : ℕ) → count_of x row ≤ 1
+
+-- a row has more: what is around the one operation, and not around the other
+pub record Crosses (p : DeadProblem) (inner outer : Option ℕ) (old new : List ℕ) : Type 0 where
+  pub exact : (x : ℕ) → Contains new x ↔ Contains old x ⊎ IsBetween p inner outer x
+  pub once : (x : ℕ) → count_of x new ≤ 1
+
+-- row by row, the items that each place keeps
+pub record AreKept (p : DeadProblem) (places : List Place) (rows : List (Vec ℕ Global)) : Type 0 where
+  pub len : length rows ≡ length places
+  pub row : (k : ℕ) (q : Place) → slice_get places k ≡ Some q → KeepsRow p q (successors rows k)

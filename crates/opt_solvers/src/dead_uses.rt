@@ -1,0 +1,65 @@
+//! How many uses keep each item.
+ghost use Rattle.std.specs.Prelude.{ℕ, ◌≡◌, ◌<◌, ◌≤◌, ◌+◌, ◌^◌, IfOk, Contains, length, slice_index};
+ghost use Rattle.digraph.specs.Counts.{count_of};
+ghost use Rattle.digraph.specs.Graph.{successors};
+ghost use Rattle.opt_solvers.specs.DeadUses.{held, first_uses, kept_by, CountsItems};
+
+use crate::dead_problem::DeadProblem;
+use std::alloc::{AllocError, Global};
+
+/// A use that never goes, of an item that may not go.
+fn held(may_go: bool) -> usize
+    ensures { result ≡ held may_go }
+{
+    if may_go { 0 } else { 1 }
+}
+
+/// The uses that never go, of all items.
+fn first_uses(alloc: Global, problem: &DeadProblem) -> Result<Vec<usize>, AllocError>
+    ensures { IfOk result (λ uses. uses.items ≡ first_uses problem.now) }
+{
+    let operations = problem.operations.iter().map(|item| held(item.may_go));
+    let arguments = problem.arguments.iter().map(|item| held(item.may_go));
+    operations.chain(arguments).collect(alloc)
+}
+
+/// One use more of each of some items.
+fn count_items(uses: &mut Vec<usize>, items: &[usize])
+    requires within { (x : ℕ) → Contains items.now x → x < length uses.old.items }
+    requires fits { (x : ℕ) → slice_index uses.old.items x + count_of x items.now < 2 ^ 64 }
+    ensures { CountsItems (λ x. count_of x items.now) uses.old.items uses.new.items }
+{
+    for item in items {
+        uses[*item] += 1;
+    }
+}
+
+/// One use more of each item for each row that it is in.
+fn count_rows(uses: &mut Vec<usize>, rows: &[Vec<usize>])
+    requires within { (k x : ℕ) → Contains (successors rows.now k) x → x < length uses.old.items }
+    requires fits { (x : ℕ) → slice_index uses.old.items x + kept_by rows.now x < 2 ^ 64 }
+    ensures { CountsItems (kept_by rows.now) uses.old.items uses.new.items }
+{
+    for row in rows {
+        count_items(uses, row);
+    }
+}
+
+/// The number of uses of each item, one more for an item that may not go. `rows` are the items that each use keeps.
+///
+/// # Errors
+/// There may be no memory.
+pub fn count_uses(
+    alloc: Global,
+    problem: &DeadProblem,
+    rows: &[Vec<usize>],
+) -> Result<Vec<usize>, AllocError>
+    requires within { (k x : ℕ) → Contains (successors rows.now k) x → x < length (first_uses problem.now) }
+    requires fits { length rows.now + 1 < 2 ^ 64 }
+    requires once { (k x : ℕ) → count_of x (successors rows.now k) ≤ 1 }
+    ensures { IfOk result (λ uses. CountsItems (kept_by rows.now) (first_uses problem.now) uses.items) }
+{
+    let mut uses = first_uses(alloc, problem)?;
+    count_rows(&mut uses, rows);
+    Ok(uses)
+}
