@@ -1,0 +1,115 @@
+-- The edges below an operation stay in their regions exactly where they do at each operation and each block there.
+use Rattle.std.proofs.Common.{◌≡◌, ◌≢◌, ℕ, zero, suc, ◌+◌, Bool, true, List, [], ◌∷◌, length, Option, Some, None, IsSome, slice_get, refl, sym, ◌∙◌, subst, arith}
+use Rattle.std.proofs.lemmas.Option.{same_Some, slice_get_past}
+use Rattle.ir_program.specs.Program.{Program, OperationView, operation_at}
+use Rattle.ir_program.specs.Lists.{StandsInBlock, StandsInRegion, operations_in, StandsInside, itself, in_block, in_region, in_operation}
+use Rattle.ir_program.specs.Rows.{successors_at}
+use Rattle.ir_program.specs.declared.handles.IRNode.{IRNode}
+use Rattle.ir_program.specs.declared.handles.IRNode.TheVariants.{Operation as OperationNode, Region as RegionNode, BasicBlock as BlockNode}
+use Rattle.ir_program.specs.declared.handles.Ptr.{Ptr}
+use Rattle.ir_program.specs.declared.handles.Operation.{Operation}
+use Rattle.ir_program.specs.declared.handles.Region.{Region}
+use Rattle.ir_program.specs.declared.handles.BasicBlock.{BasicBlock}
+use Rattle.ir_trees.specs.Searched.{Lists}
+use Rattle.opt_inside.specs.Edges.{HasLocalEdgesBelow}
+use Rattle.opt_inside.specs.Occurring.{IsBelowRoot, IsBlockBelow}
+use Rattle.opt_inside.proofs.Around.{HasLists, not_root}
+use Rattle.opt_edges.specs.Local.{IsLocalEdge, HasLocalEdgesAt}
+
+-- what an option that isn't empty has
+something : {X : Type 0} (o : Option X) → IsSome o → (x : X) × (o ≡ Some x)
+something (Some x) h = (x, refl)
+something None h = cc
+
+-- behind the last one of a list there is none
+at_end : {X : Type 0} (xs : List X) (k : ℕ) → k + 1 ≡ length xs → slice_get xs (k + 1) ≡ None
+at_end xs k e = slice_get_past xs (k + 1) (omega arith)
+
+-- one with none behind it is the last
+is_last : {X : Type 0} (xs : List X) (k : ℕ) (x : X) → slice_get xs k ≡ Some x → slice_get xs (k + 1) ≡ None → k + 1 ≡ length xs
+is_last [] k x here none = cc
+is_last (y ∷ []) zero x here none = omega arith
+is_last (y ∷ z ∷ xs) zero x here none = cc
+is_last (y ∷ xs) (suc k) x here none =
+    let at : slice_get xs (k + 1) ≡ None = (let e : suc k + 1 ≡ suc (k + 1) = omega arith in subst (λ n. slice_get (y ∷ xs) n ≡ None) e none) in
+    let less : k + 1 ≡ length xs = is_last xs k x here at in omega arith
+
+module _ {O B : Type 0} (is_terminator : O → Bool) (c : Program O B) (op : Ptr Operation) where
+  -- the edges at each operation and at each block below the root stay in their regions
+  pub record IsLocalAtEach : Type 0 where
+    pub operations : (p : Ptr Operation) → IsBelowRoot c op p → HasLocalEdgesAt is_terminator c (OperationNode p)
+    pub blocks : (b : Ptr BasicBlock) → IsBlockBelow c op b → HasLocalEdgesAt is_terminator c (BlockNode b)
+
+  -- an operation below the root is in a block there
+  around_operation : (e : IRNode) (p : Ptr Operation) → StandsInside c (OperationNode op) e → e ≡ OperationNode p → p ≢ op → (b : Ptr BasicBlock) × StandsInBlock c p b × StandsInside c (OperationNode op) (BlockNode b)
+  around_operation _ p itself same other = let e : p ≡ op = cc in absurd (other e)
+  around_operation _ p (in_block q b s i) same other = let e : q ≡ p = cc in (b, subst (λ z. StandsInBlock c z b) e s, i)
+  around_operation _ p (in_region b r s i) same other = cc
+  around_operation _ p (in_operation r q s i) same other = cc
+
+  -- a block below the root is in a region there
+  around_block : (e : IRNode) (b : Ptr BasicBlock) → StandsInside c (OperationNode op) e → e ≡ BlockNode b → (r : Ptr Region) × StandsInRegion c b r × StandsInside c (OperationNode op) (RegionNode r)
+  around_block _ b itself same = cc
+  around_block _ b (in_region a r s i) same = let e : a ≡ b = cc in (r, subst (λ z. StandsInRegion c z r) e s, i)
+  around_block _ b (in_block q a s i) same = cc
+  around_block _ b (in_operation r q s i) same = cc
+
+  -- where edges stay in their regions below the root, an edge from an operation there does
+  edge_local : HasLocalEdgesBelow is_terminator c op → (p : Ptr Operation) (s : Ptr BasicBlock) → IsBelowRoot c op p → Lists (successors_at c p) s → IsLocalEdge is_terminator c p s
+  edge_local h p s below edge =
+      let b = around_operation (OperationNode p) p below.inside refl below.other in
+      let r = around_block (BlockNode b.0) b.0 b.2 refl in
+      let v = something (operation_at c p) b.1.operation in
+      record {
+        block = b.0;
+        in_block = b.1;
+        last = at_end (operations_in c b.0) b.1.index (h.last p s b.0 b.1.index below edge b.1.here);
+        view = v.0;
+        there = v.1;
+        terminator = h.terminators p s v.0 below edge v.1;
+        siblings = record { region = r.0; first = r.1; second = h.leaving p s b.0 r.0 below edge b.1 r.1 };
+      }
+
+  -- from all together to each
+  pub local_at_each : HasLocalEdgesBelow is_terminator c op → IsLocalAtEach
+  local_at_each h = record {
+    operations = λ p below s k edge. edge_local h p s below (k, edge);
+    blocks = λ s inside p k edge. edge_local h p s (h.entering p s (k, edge) inside) (k, edge);
+  }
+
+  module _ (lists : HasLists c) where
+    -- an operation with an edge that stays in the region of a block below the root is below the root
+    user_below : (p : Ptr Operation) (s : Ptr BasicBlock) → IsLocalEdge is_terminator c p s → IsBlockBelow c op s → IsBelowRoot c op p
+    user_below p s edge inside =
+        let r = around_block (BlockNode s) s inside refl in
+        let same : r.0 ≡ edge.siblings.region = (lists.blocks_once s r.0 edge.siblings.region r.1.index edge.siblings.second.index r.1.here edge.siblings.second.here).0 in
+        let there : StandsInside c (OperationNode op) (BlockNode edge.block) = in_region edge.block edge.siblings.region edge.siblings.first (subst (λ z. StandsInside c (OperationNode op) (RegionNode z)) same r.2) in
+        record { inside = in_block p edge.block edge.in_block there; other = not_root c lists op p edge.block edge.in_block there }
+
+    -- what an edge that stays in its region says of whatever block and region its operation is in
+    stays_beside : (p : Ptr Operation) (s b : Ptr BasicBlock) (r : Ptr Region) → IsLocalEdge is_terminator c p s → StandsInBlock c p b → StandsInRegion c b r → StandsInRegion c s r
+    stays_beside p s b r edge in_b in_r =
+        let block : edge.block ≡ b = (lists.operations_once p edge.block b edge.in_block.index in_b.index edge.in_block.here in_b.here).0 in
+        let first : StandsInRegion c b edge.siblings.region = subst (λ z. StandsInRegion c z edge.siblings.region) block edge.siblings.first in
+        let region : edge.siblings.region ≡ r = (lists.blocks_once b edge.siblings.region r first.index in_r.index first.here in_r.here).0 in
+        subst (StandsInRegion c s) region edge.siblings.second
+
+    leaves_last : (p : Ptr Operation) (s b : Ptr BasicBlock) (k : ℕ) → IsLocalEdge is_terminator c p s → slice_get (operations_in c b) k ≡ Some p → k + 1 ≡ length (operations_in c b)
+    leaves_last p s b k edge here =
+        let same = lists.operations_once p edge.block b edge.in_block.index k edge.in_block.here here in
+        let none : slice_get (operations_in c b) (edge.in_block.index + 1) ≡ None = subst (λ z. slice_get (operations_in c z) (edge.in_block.index + 1) ≡ None) same.0 edge.last in
+        is_last (operations_in c b) k p here (subst (λ n. slice_get (operations_in c b) (n + 1) ≡ None) same.1 none)
+
+    is_terminator_of : (p : Ptr Operation) (s : Ptr BasicBlock) (v : OperationView O) → IsLocalEdge is_terminator c p s → operation_at c p ≡ Some v → is_terminator v.payload ≡ true
+    is_terminator_of p s v edge there =
+        let same : edge.view ≡ v = same_Some edge.view v (sym edge.there ∙ there) in
+        subst (λ (w : OperationView O). is_terminator w.payload ≡ true) same edge.terminator
+
+    -- from each to all together
+    pub local_below : IsLocalAtEach → HasLocalEdgesBelow is_terminator c op
+    local_below each = record {
+      leaving = λ p s b r below edge in_b in_r. stays_beside p s b r (each.operations p below s edge.0 edge.1) in_b in_r;
+      entering = λ p s edge inside. user_below p s (each.blocks s inside p edge.0 edge.1) inside;
+      last = λ p s b k below edge here. leaves_last p s b k (each.operations p below s edge.0 edge.1) here;
+      terminators = λ p s v below edge there. is_terminator_of p s v (each.operations p below s edge.0 edge.1) there;
+    }

@@ -1,0 +1,5 @@
+pub mod Partway
+pub mod Terminators
+pub mod Users
+pub mod Below
+pub mod Checked
