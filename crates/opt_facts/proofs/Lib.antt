@@ -11,5 +11,3 @@ pub mod Setting
 pub mod RowsClosed
 pub mod Transport
 pub mod InRange
-pub mod Asking
-pub mod LacksBelow

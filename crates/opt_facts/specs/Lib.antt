@@ -1,4 +1,3 @@
 pub mod ByNumber
 pub mod Problem
 pub mod Folds
-pub mod Lacks

@@ -1,0 +1,5 @@
+pub mod Puts
+pub mod Made
+pub mod Placed
+pub mod Wanted
+pub mod Sccp
