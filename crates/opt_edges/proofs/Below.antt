@@ -70,6 +70,13 @@ module _ {O B : Type 0} (is_terminator : O → Bool) (c : Program O B) (op : Ptr
         siblings = record { region = r.0; first = r.1; second = h.leaving p s b.0 r.0 below edge b.1 r.1 };
       }
 
+  -- an edge from an operation below the root leads to a block there
+  pub leads_below : HasLocalEdgesBelow is_terminator c op → (p : Ptr Operation) (s : Ptr BasicBlock) → IsBelowRoot c op p → Lists (successors_at c p) s → IsBlockBelow c op s
+  leads_below h p s below edge =
+      let b = around_operation (OperationNode p) p below.inside refl below.other in
+      let r = around_block (BlockNode b.0) b.0 b.2 refl in
+      in_region s r.0 (h.leaving p s b.0 r.0 below edge b.1 r.1) r.2
+
   -- from all together to each
   pub local_at_each : HasLocalEdgesBelow is_terminator c op → IsLocalAtEach
   local_at_each h = record {

@@ -3,7 +3,13 @@ ghost use Rattle.std.specs.Prelude.{◌↔◌, IsSome, IsTrue};
 ghost use Rattle.ir_program.specs.Lists.{IsLiveNode};
 ghost use Rattle.ir_program.specs.Program.{block_at, operation_at};
 ghost use Rattle.ir_program.specs.declared.handles.IRNode.TheVariants.{Operation as OperationNode, BasicBlock as BlockNode};
+ghost use Rattle.ir_program.specs.Rows.{successors_at};
+ghost use Rattle.ir_program.specs.declared.handles.BasicBlock.{BasicBlock};
+ghost use Rattle.ir_program.specs.declared.handles.Operation.{Operation};
+ghost use Rattle.ir_program.specs.declared.handles.Ptr.{Ptr};
+ghost use Rattle.ir_trees.specs.Searched.{Lists};
 ghost use Rattle.opt_inside.specs.Edges.{HasLocalEdgesBelow};
+ghost use Rattle.opt_inside.specs.Occurring.{IsBelowRoot, IsBlockBelow};
 ghost use Rattle.opt_edges.specs.Local.{AreSiblings, HasLocalEdgesAt, IsLocalEdge};
 
 use ir_program::{BasicBlock, IRNode, Operation, Program, Ptr};
@@ -93,7 +99,9 @@ pub fn has_local_edges_below<D: Meanings>(
     op: Ptr<Operation>,
 ) -> bool
     requires { IsSome (operation_at program.now op) }
-    ensures { IsTrue result ↔ HasLocalEdgesBelow D.meaning.is_terminator program.now op }
+    ensures exact { IsTrue result ↔ HasLocalEdgesBelow D.meaning.is_terminator program.now op }
+    // So what is below leads to blocks below.
+    ensures leads { IsTrue result → (p : Ptr Operation) (s : Ptr BasicBlock) → IsBelowRoot program.now op p → Lists (successors_at program.now p) s → IsBlockBelow program.now op s }
 {
     program.know_lists();
     let mut nodes = program.nodes_inside(IRNode::Operation(op));

@@ -296,6 +296,27 @@ cond_forward first n s k i e = step (nat_eq s 0) (nat_eq s 1) refl refl e
     step false true z y e = let r = range_at (1 + first) (n - (1 + first)) k i e in inr (grind arith, r.0)
     step false false z y e = cc
 
+forwards_within : (c : Kind) (first n s k i : ℕ) → slice_get (forwards_of c first n s) k ≡ Some i → i < n
+forwards_within Br first n s k i e = step (nat_eq s 0) e
+  where
+    step : (b : Bool) → slice_get (if b then range 0 n else []) k ≡ Some i → i < n
+    step true e = let r = range_at 0 n k i e in let a : i ≡ 0 + k = r.0 in let b : k < n = r.1 in omega arith
+    step false e = cc
+forwards_within Cond first n s k i e = step (nat_eq s 0) (nat_eq s 1) e
+  where
+    step : (b c : Bool) → slice_get (if b then range 1 (min first (n - 1)) else (if c then range (1 + first) (n - (1 + first)) else [])) k ≡ Some i → i < n
+    step true c e = let r = range_at 1 (min first (n - 1)) k i e in let a : i ≡ 1 + k = r.0 in let b : k < min first (n - 1) = r.1 in omega arith
+    step false true e = let r = range_at (1 + first) (n - (1 + first)) k i e in let a : i ≡ (1 + first) + k = r.0 in let b : k < n - (1 + first) = r.1 in omega arith
+    step false false e = cc
+forwards_within Constant first n s k i e = cc
+forwards_within Id first n s k i e = cc
+forwards_within Add first n s k i e = cc
+forwards_within Box first n s k i e = cc
+forwards_within Pure first n s k i e = cc
+forwards_within Def first n s k i e = cc
+forwards_within Use first n s k i e = cc
+forwards_within Ret first n s k i e = cc
+
 forwards_once : (c : Kind) (first n s k u j i : ℕ) → slice_get (forwards_of c first n s) k ≡ Some i → slice_get (forwards_of c first n u) j ≡ Some i → (s ≡ u) × (k ≡ j)
 forwards_once Br first n s k u j i e f = let a = br_forward first n s k i e in let b = br_forward first n u j i f in (a.0 ∙ sym b.0, sym a.1 ∙ b.1)
 forwards_once Cond first n s k u j i e f =
@@ -384,6 +405,7 @@ tiny_lawful = record {
   constant_folds = λ c a e. let f : payload Constant a ≡ c = cc in subst (λ z. (is_constant z.kind ≡ true) × (is_foldable z.kind ≡ true) × (answers (fold_of z.kind z.number []) (record { number = 0 } ∷ []) ≡ Some a ∷ [])) f (refl, refl, refl);
   plain_is = λ c e. let f : payload Br 0 ≡ c = cc in subst (λ z. (is_br z.kind ≡ true) × (is_branch z.kind ≡ true)) f (refl, refl);
   plain_forwards = plain_forwards;
+  forwards_within = λ c n s k i e. forwards_within c.kind c.first n s k i e;
   forwards_once = λ c n s k u j i e f. forwards_once c.kind c.first n s k u j i e f;
   drop_branch = λ c p. ap is_branch (same_kind c.kind c p);
   drop_terminator = λ c p. ap is_terminator (same_kind c.kind c p);

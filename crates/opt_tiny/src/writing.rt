@@ -103,6 +103,9 @@ impl Order {
         if payload.kind == Kind::Constant || payload.kind == Kind::Def {
             write_number(text, " ", payload.number)?;
         }
+        if payload.kind == Kind::Cond {
+            write_number(text, " /", payload.first)?;
+        }
         for i in 0..program.operand_count(op) {
             self.value(text, program.operand(op, i))?;
         }

@@ -1,5 +1,5 @@
 -- What a dialect says of an operation by its head alone, and what it must keep.
-use Rattle.std.specs.Prelude.{◌≡◌, ℕ, zero, suc, Bool, true, false, List, [], ◌∷◌, length, Option, Some, if◌then◌else◌, slice_get}
+use Rattle.std.specs.Prelude.{◌≡◌, ◌<◌, ℕ, zero, suc, Bool, true, false, List, [], ◌∷◌, length, Option, Some, if◌then◌else◌, slice_get}
 use Rattle.ir_trees.specs.Names.{Contents}
 use Rattle.opt_solvers.specs.Known.{KnowsMore}
 
@@ -86,6 +86,8 @@ pub record Lawful {S : Contents} {A : Type 0} (d : Dialect S A) : Type 0 where
   pub plain_is : (c : S.of_operation) → d.plain ≡ Some c → (d.is_plain c ≡ true) × (d.is_branch c ≡ true)
   pub plain_forwards : (c : S.of_operation) (xs : List ℕ) →
       d.plain ≡ Some c → d.forwards c (length xs) 0 ≡ indices_from 0 xs
+  -- only operands are forwarded
+  pub forwards_within : (c : S.of_operation) (n s k i : ℕ) → slice_get (d.forwards c n s) k ≡ Some i → i < n
   -- an operand is forwarded to one place at most
   pub forwards_once : (c : S.of_operation) (n s k u j i : ℕ) →
       slice_get (d.forwards c n s) k ≡ Some i → slice_get (d.forwards c n u) j ≡ Some i → (s ≡ u) × (k ≡ j)
