@@ -1,0 +1,4 @@
+pub mod Phases
+pub mod Unreached
+pub mod Removed
+pub mod Refusals
