@@ -1,0 +1,13 @@
+mod Picking
+mod Among
+mod BlockLists
+mod Dropped
+mod Turns
+mod Lost
+mod LostArguments
+mod Detached
+mod Trees
+mod Thinned
+mod Gone
+mod Outcomes
+mod Erased

@@ -1,0 +1,10 @@
+use Rattle.std.proofs.Common.{◌≡◌, ◌<◌, ℕ, length}
+use Rattle.std.specs.Prelude.{◌↔◌}
+use Rattle.opt_dead.specs.Taken.{IsMarked, OperandGoes}
+use Rattle.opt_dead.proofs.taking.lost_marks.Given as goal
+
+abbrev pub invariant-loop-operand : goal.invariant-loop-operand
+invariant-loop-operand l = record {
+  len : length l.marks.items ≡ l.operand-index;
+  goes : (i : ℕ) → IsMarked l.marks.items i ↔ ((i < length l.marks.items) × OperandGoes l.row l.arguments i);
+}

@@ -1,0 +1,16 @@
+//! What is dead inside an operation, for dead code elimination.
+#![tactic(auto)]
+
+mod candidates;
+mod closing;
+mod dead;
+mod definers;
+mod forwarding;
+mod keeping;
+mod numbers;
+mod plan;
+mod problem;
+mod taking;
+
+pub use dead::dead_plan;
+pub use plan::{DeadArguments, DeadPlan, LostOperands};
