@@ -1,0 +1,139 @@
+//! Constant propagation.
+use crate::playing::{Pass, after, program_of};
+use opt_dialect::{IRStatus, OptError};
+use std::test::Fail;
+
+const OWN_OPERAND: &str = "box {
+^b
+x = id x
+ret
+}";
+
+const DIAMOND: &str = "box {
+^a
+c = const 1
+cond c ^b ^d
+^b
+x = const 5
+br ^e x
+^d
+y = const 7
+br ^e y
+^e z
+use z
+ret
+}";
+
+const DIAMOND_AFTER: &str = "box {
+^a
+c = const 1
+cond c ^b ^d
+^b
+x = const 5
+br ^e x
+^d
+y = const 7
+br ^e y
+^e z
+k = const 5
+use k
+ret
+}";
+
+const TWO_EDGES: &str = "box {
+^a
+c = const 1
+p = const 3
+q = const 4
+cond c ^e p ^e q
+^e z
+use z
+ret
+}";
+
+const LOOP: &str = "box {
+^a
+one = const 1
+br ^l one
+^l i
+c = def 0
+cond c ^l i ^x
+^x
+use i
+ret
+}";
+
+const LOOP_AFTER: &str = "box {
+^a
+one = const 1
+br ^l one
+^l i
+k = const 1
+c = def 0
+cond c ^l k ^x
+^x
+use k
+ret
+}";
+
+const SUMS: &str = "box {
+^a x y
+two = const 2
+four = add two two
+six = add four two
+use six
+br ^b six x
+^b u v
+use u
+use v
+ret
+}";
+
+const SUMS_AFTER: &str = "box {
+^a x y
+two = const 2
+k = const 4
+four = add two two
+m = const 6
+six = add k two
+use m
+br ^b m x
+^b u v
+n = const 6
+use n
+use v
+ret
+}";
+
+#[test]
+fn nothing_is_found_out_of_an_operand_that_waits_for_itself(rt: HostRuntime) -> Result<(), Fail> {
+    let alloc = rt.alloc();
+    let played = after(alloc, Pass::Sccp, OWN_OPERAND)?;
+    assert_eq!(rt; played.answer, Err(OptError::UndeterminedOperand));
+    assert_eq!(rt; played.text, program_of(alloc, OWN_OPERAND)?);
+    Ok(())
+}
+
+#[test]
+fn constants_come_in_for_known_values(rt: HostRuntime) -> Result<(), Fail> {
+    let alloc = rt.alloc();
+    for (text, expected) in [
+        (DIAMOND, DIAMOND_AFTER),
+        (LOOP, LOOP_AFTER),
+        (SUMS, SUMS_AFTER),
+    ] {
+        let played = after(alloc, Pass::Sccp, text)?;
+        assert_eq!(rt; played.answer, Ok(IRStatus::Changed));
+        assert_eq!(rt; played.text, program_of(alloc, expected)?);
+    }
+    Ok(())
+}
+
+#[test]
+fn both_edges_to_a_block_forward_to_it(rt: HostRuntime) -> Result<(), Fail> {
+    let alloc = rt.alloc();
+    let played = after(alloc, Pass::Sccp, TWO_EDGES)?;
+    assert_eq!(rt; played.answer, Ok(IRStatus::Unchanged));
+    assert_eq!(rt; played.text, program_of(alloc, TWO_EDGES)?);
+    Ok(())
+}

@@ -1,0 +1,135 @@
+//! Dead code elimination.
+use crate::playing::{Pass, after, program_of};
+use opt_dialect::IRStatus;
+use opt_tiny::Unread;
+use std::alloc::{AllocError, Global};
+use std::test::Fail;
+
+const USED_OUTSIDE: &str = "box {
+^b
+pure {
+^c
+x = def 1
+ret
+}
+use x
+ret
+}";
+
+const IN_A_CIRCLE: &str = "box {
+^b
+x = id y
+y = id x
+ret
+}";
+
+const NESTED: &str = "box {
+^b
+a = const 1
+pure {
+^c
+pure {
+^d
+use a
+y = id z
+ret
+}
+z = id y
+ret
+}
+ret
+}";
+
+const EMPTY: &str = "box {
+^b
+ret
+}";
+
+const CARRIED: &str = "box {
+^a
+i = const 1
+n = const 2
+br ^b i n
+^b x u
+y = id x
+use u
+br ^c x u
+^c z w
+use w
+ret
+}";
+
+const CARRIED_AFTER: &str = "box {
+^a
+n = const 2
+br ^b n
+^b u
+use u
+br ^c u
+^c w
+use w
+ret
+}";
+
+/// The least set of the dead has no circle.
+const CARRIED_ROUND: &str = "box {
+^a
+i = const 1
+br ^b i
+^b x
+c = def 0
+cond c ^b x ^c
+^c
+ret
+}";
+
+/// Operations without effects, so many in each other, that use a value of the outermost block.
+fn nest(alloc: Global, depth: usize) -> Result<String, AllocError> {
+    let mut text = String::from_str(alloc, "box {\n^b\na = const 1\n")?;
+    for _ in 0..depth {
+        text.push_str("pure {\n^c\nu = id a\n")?;
+    }
+    for _ in 0..depth {
+        text.push_str("}\n")?;
+    }
+    text.push_str("ret\n}")?;
+    Ok(text)
+}
+
+#[test]
+fn what_is_used_stays(rt: HostRuntime) -> Result<(), Fail> {
+    let alloc = rt.alloc();
+    for text in [
+        USED_OUTSIDE,
+        IN_A_CIRCLE,
+        CARRIED_ROUND,
+        CARRIED_AFTER,
+        EMPTY,
+    ] {
+        let played = after(alloc, Pass::Dce, text)?;
+        assert_eq!(rt; played.answer, Ok(IRStatus::Unchanged));
+        assert_eq!(rt; played.text, program_of(alloc, text)?);
+    }
+    Ok(())
+}
+
+#[test]
+fn what_the_dead_alone_use_goes(rt: HostRuntime) -> Result<(), Fail> {
+    let alloc = rt.alloc();
+    for (text, expected) in [(NESTED, EMPTY), (CARRIED, CARRIED_AFTER)] {
+        let played = after(alloc, Pass::Dce, text)?;
+        assert_eq!(rt; played.answer, Ok(IRStatus::Changed));
+        assert_eq!(rt; played.text, program_of(alloc, expected)?);
+    }
+    Ok(())
+}
+
+#[test]
+fn a_thousand_nested_operations_go(rt: HostRuntime) -> Result<(), Fail> {
+    let alloc = rt.alloc();
+    let text = nest(alloc, 1_000)?;
+    let played = after(alloc, Pass::Dce, &text)?;
+    assert_eq!(rt; played.answer, Ok(IRStatus::Changed));
+    assert_eq!(rt; played.text, program_of(alloc, EMPTY)?);
+    Ok(())
+}
