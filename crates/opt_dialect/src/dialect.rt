@@ -112,11 +112,7 @@ pub trait ConstFoldInterface: Meanings {
 pub trait BranchOpFoldInterface: Meanings {
     /// Whether the successor with this index is feasible, by what is known of the operands; always, where the kind
     /// doesn't tell.
-    fn is_feasible(
-        op: &Self::Operation,
-        known: &[Option<Self::Constant>],
-        successor: usize,
-    ) -> bool
+    fn is_feasible(op: &Self::Operation, known: &[Option<Self::Constant>], successor: usize) -> bool
         ensures { result ≡ Self.meaning.feasible op.now known.now successor };
 
     /// The index of the successor that known operands pick, if they pick one.
@@ -136,9 +132,7 @@ pub trait BranchOpFoldInterface: Meanings {
 }
 
 /// A dialect that can be optimised.
-pub trait OptDialect:
-    SideEffects + BlockArgRemoval + ConstFoldInterface + BranchOpFoldInterface
-{
+pub trait OptDialect: SideEffects + BlockArgRemoval + ConstFoldInterface + BranchOpFoldInterface {
     /// What its kinds mean is lawful.
     ghost lawful: { Lawful Self.meaning };
 

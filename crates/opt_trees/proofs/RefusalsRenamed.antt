@@ -43,8 +43,8 @@ module _ {N M : Names} {S : Contents} {A : Type 0} (r : Renaming N M) (t after :
     was = value_to r t h.value t.regions h.was;
     went = λ m. h.went (same_value r after h.value after.regions m);
     named =
-      ⊎_elim
-      (λ u. inl (used_renamed h.value u))
-      (λ u. inr (⊎_elim (λ o. inl (has-map r.value.to h.value t.head.operands o)) (λ p. inr (agree.pins h.value ∙ p)) u))
-      h.named;
+        ⊎_elim
+        (λ u. inl (used_renamed h.value u))
+        (λ u. inr (⊎_elim (λ o. inl (has-map r.value.to h.value t.head.operands o)) (λ p. inr (agree.pins h.value ∙ p)) u))
+        h.named;
   }
