@@ -1,0 +1,11 @@
+pub mod BareOperations
+pub mod Carried
+pub mod DecidedTrees
+pub mod DecisionLists
+pub mod Filled
+pub mod Folded
+pub mod Found
+pub mod NewBranches
+pub mod Swapped
+pub mod TreesDecided
+pub mod TurnedHeads

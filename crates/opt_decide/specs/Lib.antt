@@ -1,0 +1,4 @@
+pub mod Decides
+pub mod Phase
+pub mod Planned
+pub mod Replaced

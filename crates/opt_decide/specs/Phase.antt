@@ -1,0 +1,61 @@
+-- Decisions that are carried out one after the other.
+use Rattle.std.specs.Prelude.{◌≡◌, ◌≢◌, ◌↔◌, ℕ, List, [], map, Some, None, option_map, take}
+use Rattle.ir_program.specs.Erased.{IsGone}
+use Rattle.ir_program.specs.Program.{Program, OperationView, BlockView, operation_at, block_at, region_at}
+use Rattle.ir_program.specs.declared.handles.IRNode.TheVariants.{Operation as OperationNode}
+use Rattle.ir_program.specs.declared.handles.Ptr.{Ptr}
+use Rattle.ir_program.specs.declared.handles.Operation.{Operation}
+use Rattle.ir_program.specs.declared.handles.Region.{Region}
+use Rattle.ir_program.specs.declared.handles.BasicBlock.{BasicBlock}
+use Rattle.ir_trees.specs.Searched.{Lists}
+use Rattle.ir_trees.specs.Stands.{by_handle, in_program, ProgramTree, StandsFor}
+use Rattle.ir_trees.specs.Renames.{Maps, rename_root}
+use Rattle.opt_trees.specs.Dialect.{Dialect}
+use Rattle.opt_trees.specs.Simplify.{decide}
+use Rattle.opt_dialect.specs.declared.status.IRStatus.{IRStatus}
+use Rattle.opt_dialect.specs.declared.status.IRStatus.TheVariants.{Unchanged}
+use Rattle.opt_decide.specs.Planned.{AreDecisions, known_alone}
+use Rattle.opt_decide.specs.Replaced.{along}
+use Rattle.opt_decide.specs.declared.plan.Decision.{Decision}
+
+-- the operation is of none of the decisions
+abbrev pub IsUndecided : List Decision → Ptr Operation → Type 0
+IsUndecided ds p = (x : Decision) → Lists ds x → x.op ≢ p
+
+-- q, which led nowhere, is the unconditional branch of the decision now
+pub record IsDone {O B A : Type 0} (d : Dialect (in_program O B) A) (old new : Program O B) (x : Decision) (q : Ptr Operation) : Type 0 where
+  pub payload : O
+  pub plain : d.plain ≡ Some payload
+  pub view : OperationView O
+  pub there : operation_at old x.op ≡ Some view
+  pub fresh : operation_at old q ≡ None
+  pub made : operation_at new q ≡ Some (along d view x.edge payload)
+  pub gone : IsGone new (OperationNode x.op)
+
+-- the branches of these decisions are unconditional ones, under names of their own, where they stood; all else is as it was
+pub record HasDecided {O B A : Type 0} (d : Dialect (in_program O B) A) (old new : Program O B) (ds : List Decision) : Type 0 where
+  pub names : Ptr Operation → Ptr Operation
+  pub same : (p : Ptr Operation) → IsUndecided ds p → names p ≡ p
+  pub done : (x : Decision) → Lists ds x → IsDone d old new x (names x.op)
+  pub apart : (x y : Decision) → Lists ds x → Lists ds y → names x.op ≡ names y.op → x.op ≡ y.op
+  pub others : (p : Ptr Operation) (v : OperationView O) → operation_at old p ≡ Some v → IsUndecided ds p → operation_at new p ≡ Some v
+  pub blocks : (b : Ptr BasicBlock) → block_at new b ≡ option_map (λ (l : BlockView B). record l { operations = map names l.operations }) (block_at old b)
+  pub regions : (r : Ptr Region) → region_at new r ≡ region_at old r
+
+-- some of the decisions were carried out, the first of the list
+abbrev pub HasDecidedSome : {O B A : Type 0} → Dialect (in_program O B) A → Program O B → Program O B → List Decision → Type 0
+HasDecidedSome d old new ds = (n : ℕ) × HasDecided d old new (take n ds)
+
+-- other names of operations alone
+abbrev pub maps_of : (Ptr Operation → Ptr Operation) → Maps by_handle by_handle
+maps_of names = record { operation = names; block = λ b. b; value = λ v. v }
+
+-- all decisions below the root are carried out, and `Unchanged` is answered exactly where there are none
+pub record CarriesOut {O B A : Type 0} (d : Dialect (in_program O B) A) (old new : Program O B) (op : Ptr Operation) (status : IRStatus) : Type 0 where
+  pub decisions : List Decision
+  pub are : AreDecisions d old op decisions
+  pub decided : HasDecided d old new decisions
+  pub exact : (status ≡ Unchanged) ↔ (decisions ≡ [])
+  -- the root stands for its tree with the branches decided, under their new names
+  pub stands : (t : ProgramTree O B) → StandsFor old op t
+      → StandsFor new op (rename_root (maps_of decided.names) (record { head = t.head; regions = decide d (known_alone d old) t.regions }))

@@ -1,0 +1,143 @@
+//! One decided branch, made unconditional.
+ghost use Rattle.std.specs.Prelude.{◌≡◌, ◌≢◌, [], Some, IfErr, IfOk, IsSome, OnErr, length, slice_get};
+ghost use Rattle.ir_program.specs.Lists.{IsLinkedOperation, IsUnlinkedOperation, regions_in};
+ghost use Rattle.ir_program.specs.Program.{OperationView, operation_at, results_at};
+ghost use Rattle.ir_program.specs.Rows.{operands_at, successors_at};
+ghost use Rattle.opt_decide.specs.Replaced.{BuildsBranch, DecidesBranch, IsShortage, LeadsAlike, SwapsIn};
+ghost use Rattle.opt_trees.specs.Occurrences.{cons_if, picks};
+
+use crate::Decision;
+use ir_context::{OperationErasing, OperationLists, TypeTable, TypedProgram};
+use ir_program::{BasicBlock, Operation, Program, Ptr, Value};
+use opt_dialect::{OptDialect, OptError};
+use std::alloc::{AllocError, Global};
+
+/// The operands of an operation at these indices, in the order of the indices; behind the last one there is none.
+fn picked_operands<O, B>(
+    alloc: Global,
+    program: &Program<O, B>,
+    op: Ptr<Operation>,
+    indices: &[usize],
+) -> Result<Vec<Value>, AllocError>
+    requires { IsSome (operation_at program.now op) }
+    ensures { IfOk result (λ values. values.items ≡ picks (operands_at program.now op) indices.now) }
+{
+    let count = program.operand_count(op);
+    let mut values = Vec::new(alloc);
+    for index in indices {
+        if *index < count {
+            values.push(program.operand(op, *index))?;
+        }
+    }
+    Ok(values)
+}
+
+/// The operands that an operation forwards along an edge.
+fn forwarded_operands<D: OptDialect>(
+    alloc: Global,
+    program: &Program<D::Operation, D::Block>,
+    op: Ptr<Operation>,
+    edge: usize,
+) -> Result<Vec<Value>, AllocError>
+    requires { IsSome (operation_at program.now op) }
+    ensures { IfOk result (λ values. (v : OperationView D.Operation) → operation_at program.now op ≡ Some v
+        → values.items ≡ picks v.operands (D.meaning.forwards v.payload (length v.operands) edge)) }
+{
+    let count = program.operand_count(op);
+    let indices = D::successor_operands(alloc, program.payload(op), count, edge)?;
+    let values = picked_operands(alloc, program, op, &indices)?;
+    Ok(values)
+}
+
+/// The block that an edge leads to, if there is such an edge.
+fn target_of<O, B>(
+    alloc: Global,
+    program: &Program<O, B>,
+    op: Ptr<Operation>,
+    edge: usize,
+) -> Result<Vec<Ptr<BasicBlock>>, AllocError>
+    requires { IsSome (operation_at program.now op) }
+    ensures { IfOk result (λ targets. targets.items ≡ cons_if (slice_get (successors_at program.now op) edge) []) }
+{
+    let mut targets = Vec::new(alloc);
+    if edge < program.successor_count(op) {
+        targets.push(program.successor(op, edge))?;
+    }
+    Ok(targets)
+}
+
+/// Makes the unconditional branch along the edge of a decision. It stands in no block.
+///
+/// # Errors
+/// `Memory`, and `CounterFull` where no handle is left. Each handle leads to what it led to then.
+fn new_branch<D: OptDialect, T: TypeTable>(
+    alloc: Global,
+    ctx: &mut TypedProgram<D::Operation, D::Block, T>,
+    decision: Decision,
+) -> Result<Ptr<Operation>, OptError>
+    requires there { IsSome (operation_at ctx.old.program decision.op) }
+    requires plain { IsSome D.meaning.plain }
+    ensures built { IfOk result (λ branch. BuildsBranch D.meaning ctx.old.program ctx.new.program decision branch) }
+    ensures same { OnErr result (LeadsAlike ctx.old.program ctx.new.program) }
+    ensures refused { IfErr result IsShortage }
+    ensures types { ctx.new.types ≡ ctx.old.types }
+{
+    let program = ctx.program();
+    program.know_operands();
+    program.know_successors();
+    let Some(payload) = D::unconditional(alloc)? else {
+        unreachable!()
+    };
+    let operands = forwarded_operands::<D>(alloc, ctx.program(), decision.op, decision.edge)?;
+    let successors = target_of(alloc, ctx.program(), decision.op, decision.edge)?;
+    let branch = ctx.new_operation(alloc, payload, &[], &operands, &successors, 0)?;
+    Ok(branch)
+}
+
+/// Puts an operation that stands in no block in place of another, which is erased. Neither has regions, and the other one
+/// has no results.
+fn put_in_place<O: Drop, B: Drop, T: TypeTable>(
+    ctx: &mut TypedProgram<O, B, T>,
+    op: Ptr<Operation>,
+    other: Ptr<Operation>,
+)
+    requires linked { IsLinkedOperation ctx.old.program op }
+    requires results { results_at ctx.old.program op ≡ [] }
+    requires regions { regions_in ctx.old.program op ≡ [] }
+    requires live { IsSome (operation_at ctx.old.program other) }
+    requires unlinked { IsUnlinkedOperation ctx.old.program other }
+    requires bare { regions_in ctx.old.program other ≡ [] }
+    requires two { op ≢ other }
+    ensures swaps { SwapsIn ctx.old.program ctx.new.program op other }
+    ensures types { ctx.new.types ≡ ctx.old.types }
+{
+    ctx.program().know_lists();
+    other.insert_before(ctx, op);
+    ctx.program().know_values();
+    ctx.program().know_operands();
+    op.erase(ctx);
+}
+
+/// Makes a decided branch the unconditional branch along its edge: a new operation in its place, which forwards what the
+/// old one forwarded along that edge. The time is linear in the operands.
+///
+/// # Errors
+/// `Memory`, and `CounterFull` where no handle is left. Each handle leads to what it led to then.
+pub(crate) fn decide_branch<D: OptDialect, T: TypeTable>(
+    alloc: Global,
+    ctx: &mut TypedProgram<D::Operation, D::Block, T>,
+    decision: Decision,
+) -> Result<Ptr<Operation>, OptError>
+    requires linked { IsLinkedOperation ctx.old.program decision.op }
+    requires results { results_at ctx.old.program decision.op ≡ [] }
+    requires regions { regions_in ctx.old.program decision.op ≡ [] }
+    requires plain { IsSome D.meaning.plain }
+    ensures decided { IfOk result (λ branch. DecidesBranch D.meaning ctx.old.program ctx.new.program decision branch) }
+    ensures same { OnErr result (LeadsAlike ctx.old.program ctx.new.program) }
+    ensures refused { IfErr result IsShortage }
+    ensures types { ctx.new.types ≡ ctx.old.types }
+{
+    let branch = new_branch::<D, T>(alloc, ctx, decision)?;
+    put_in_place(ctx, decision.op, branch);
+    Ok(branch)
+}
