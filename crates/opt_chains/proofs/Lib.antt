@@ -1,0 +1,16 @@
+pub mod MergeLists
+pub mod MergePairs
+pub mod MergeSteps
+pub mod MergeTrees
+pub mod MergeValues
+pub mod MergeWhole
+pub mod ChainExits
+pub mod ChainRows
+pub mod ChainApart
+pub mod ChainHandles
+pub mod ChainsFound
+pub mod ChainPaths
+pub mod ChainFirsts
+pub mod ChainNames
+pub mod ChainBare
+pub mod ChainGlue

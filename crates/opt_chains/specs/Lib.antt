@@ -1,0 +1,7 @@
+pub mod Phases
+pub mod Merging
+pub mod MergedValues
+pub mod Chained
+pub mod Exits
+pub mod ChainSteps
+pub mod NamedSteps
