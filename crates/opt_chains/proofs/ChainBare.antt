@@ -12,7 +12,7 @@ use Rattle.ir_trees.specs.Trees.{Regions, Tree}
 use Rattle.opt_inside.specs.Edges.{HasLocalEdgesBelow}
 use Rattle.opt_inside.specs.Occurring.{EachFound, IsOccurrence}
 use Rattle.opt_trees.specs.Dialect.{Dialect}
-use Rattle.opt_trees.specs.Simplify.{Joinable, is_bare, is_empty, is_end}
+use Rattle.opt_trees.specs.Simplify.{Place, Joinable, is_bare, is_empty, is_end}
 use Rattle.opt_chains.specs.Exits.{IsBareExit}
 use Rattle.opt_chains.proofs.ChainExits.{with_last}
 
@@ -28,8 +28,8 @@ no_handles : {O B : Type 0} (c : Program O B) (rs : List (Ptr Region)) (t : Tree
 no_handles c _ _ no_regions e = refl
 no_handles c _ _ (first_region r rs v blocks rest there inner more) e = let f : false ≡ true = e in cc
 
-module _ {O B A : Type 0} (d : Dialect (in_program O B) A) (c : Program O B) (op : Ptr Operation) (t : ProgramTree O B) (edges : HasLocalEdgesBelow d.is_terminator c op) (sound : EachFound t (IsOccurrence c op)) where
-  pub joinable_exit : (x y : Ptr BasicBlock) (joins : Joinable d t x y) → IsBareExit d c x joins.last.head.name y
+module _ {O B A : Type 0} (d : Dialect (in_program O B) A) (place : Place by_handle) (c : Program O B) (op : Ptr Operation) (t : ProgramTree O B) (edges : HasLocalEdgesBelow d.is_terminator c op) (sound : EachFound t (IsOccurrence c op)) where
+  pub joinable_exit : (x y : Ptr BasicBlock) (joins : Joinable d place t x y) → IsBareExit d c x joins.last.head.name y
   joinable_exit x y joins =
       let i = sound joins.last joins.stands in
       let bare : is_bare d (head_of {B = B} joins.last.head.name i.view) joins.last.regions ≡ true = ap (λ (h : ProgramHead O B). is_bare d h joins.last.regions) (sym i.head) ∙ joins.bare in

@@ -14,7 +14,7 @@ use Rattle.opt_inside.specs.Edges.{HasLocalEdgesBelow}
 use Rattle.opt_inside.specs.Occurring.{Found, EachFound, EachBlock, BlocksApart, IsBelowRoot, IsFound, IsOccurrence, IsBlockOccurrence}
 use Rattle.opt_trees.specs.Dialect.{Dialect}
 use Rattle.opt_trees.specs.Occurrences.{BlockOccurrence, occurrences_of}
-use Rattle.opt_trees.specs.Simplify.{Joinable, IsReached, entry, further}
+use Rattle.opt_trees.specs.Simplify.{Place, Joinable, IsReached, entry, further}
 use Rattle.opt_chains.specs.ChainSteps.{IsFirst, IsBehind, itself, later, AreLinks}
 use Rattle.opt_chains.specs.Exits.{IsBareExit}
 use Rattle.opt_chains.specs.Merging.{AreTogether}
@@ -42,31 +42,31 @@ leads_or_not (o ∷ next) n = ⊎_elim
     at_each ne none zero h = let s : Some o ≡ Some (Some n) = h in let q : o ≡ Some n = cc in ne q
     at_each ne none (suc k) h = none k h
 
-module _ {O B A : Type 0} (d : Dialect (in_program O B) A) (c : Program O B) (op : Ptr Operation) (t : ProgramTree O B) (edges : HasLocalEdgesBelow d.is_terminator c op) (sound : EachFound t (IsOccurrence c op)) (found : (p : Ptr Operation) → IsBelowRoot c op p → IsFound t p) (blocks : EachBlock t (IsBlockOccurrence c op)) where
+module _ {O B A : Type 0} (d : Dialect (in_program O B) A) (place : Place by_handle) (c : Program O B) (op : Ptr Operation) (t : ProgramTree O B) (edges : HasLocalEdgesBelow d.is_terminator c op) (sound : EachFound t (IsOccurrence c op)) (found : (p : Ptr Operation) → IsBelowRoot c op p → IsFound t p) (blocks : EachBlock t (IsBlockOccurrence c op)) where
   -- the successors of an operation that is found
   successors_of : (o : Found O B) → Has o (occurrences_of t) → successors_at c o.head.name ≡ o.head.successors
   successors_of o stands =
       let i = sound o stands in
       ap (λ x. unwrap_or (option_map (λ (v : OperationView O). v.successors) x) []) i.there ∙ sym (ap (λ (h : ProgramHead O B). h.successors) i.head)
 
-  target_below : (x y : Ptr BasicBlock) → Joinable d t x y → StandsInside c (OperationNode op) (BlockNode y)
+  target_below : (x y : Ptr BasicBlock) → Joinable d place t x y → StandsInside c (OperationNode op) (BlockNode y)
   target_below x y joins = subst (λ b. StandsInside c (OperationNode op) (BlockNode b)) joins.target_name (blocks joins.target joins.target_stands).below
 
   -- what leads to the second of two joinable blocks is the last operation of the first
-  only_last : (x y : Ptr BasicBlock) (joins : Joinable d t x y) (q : Ptr Operation) (k : ℕ) → slice_get (successors_at c q) k ≡ Some y → q ≡ joins.last.head.name
+  only_last : (x y : Ptr BasicBlock) (joins : Joinable d place t x y) (q : Ptr Operation) (k : ℕ) → slice_get (successors_at c q) k ≡ Some y → q ≡ joins.last.head.name
   only_last x y joins q k h =
       let below = edges.entering q y (k, h) (target_below x y joins) in
       let f = found q below in
       let row : slice_get f.0.head.successors k ≡ Some y = ap (λ l. slice_get l k) (sym (successors_of f.0 f.1) ∙ ap (successors_at c) f.2) ∙ h in
       sym f.2 ∙ ap (λ (o : Found O B). o.head.name) (joins.single f.0 f.1 (at_has f.0.head.successors k y row))
 
-  pub single_branch : (x y : Ptr BasicBlock) (p : Ptr Operation) → Joinable d t x y → IsBareExit d c x p y → (q : Ptr Operation) (k : ℕ) → slice_get (successors_at c q) k ≡ Some y → q ≡ p
+  pub single_branch : (x y : Ptr BasicBlock) (p : Ptr Operation) → Joinable d place t x y → IsBareExit d c x p y → (q : Ptr Operation) (k : ℕ) → slice_get (successors_at c q) k ≡ Some y → q ≡ p
   single_branch x y p joins exit q k h =
       let row : slice_get (successors_at c p) 0 ≡ Some y = ap (λ l. slice_get l 0) (ap (λ o. unwrap_or (option_map (λ (v : OperationView O). v.successors) o) []) exit.there ∙ exit.successors) in
       only_last x y joins q k h ∙ sym (only_last x y joins p 0 row)
 
   -- joinable blocks are in one region
-  pub joinable_together : (x y : Ptr BasicBlock) → Joinable d t x y → AreTogether c x y
+  pub joinable_together : (x y : Ptr BasicBlock) → Joinable d place t x y → AreTogether c x y
   joinable_together x y joins =
       let i = sound joins.last joins.stands in
       let leads : slice_get (successors_at c joins.last.head.name) 0 ≡ Some y = ap (λ l. slice_get l 0) (successors_of joins.last joins.stands ∙ joins.leads) in
@@ -74,14 +74,14 @@ module _ {O B A : Type 0} (d : Dialect (in_program O B) A) (c : Program O B) (op
       (i.spot.region, here, edges.leaving joins.last.head.name y x i.spot.region i.below (zero, leads) (subst (StandsInBlock c joins.last.head.name) joins.in_block i.in_block) here)
 
   -- a block is joinable to one other alone
-  pub one_before : (x w y : Ptr BasicBlock) → Joinable d t x y → Joinable d t w y → x ≡ w
+  pub one_before : (x w y : Ptr BasicBlock) → Joinable d place t x y → Joinable d place t w y → x ≡ w
   one_before x w y a b =
       let row : Has y b.last.head.successors = subst (Has y) (sym b.leads) (inl refl) in
       let same = a.single b.last b.stands row in
       sym a.in_block ∙ ap (λ (o : Found O B). o.site.label.name) (sym same) ∙ b.in_block
 
   module _ (apart : BlocksApart t) (keys : List (Ptr BasicBlock)) (once : AreDistinct keys) (next : List (Option ℕ)) (len : length next ≡ length keys)
-      (named : (n m : ℕ) → slice_get next n ≡ Some (Some m) → (x : Ptr BasicBlock) × (y : Ptr BasicBlock) × (slice_get keys n ≡ Some x) × (slice_get keys m ≡ Some y) × Joinable d t x y) where
+      (named : (n m : ℕ) → slice_get next n ≡ Some (Some m) → (x : Ptr BasicBlock) × (y : Ptr BasicBlock) × (slice_get keys n ≡ Some x) × (slice_get keys m ≡ Some y) × Joinable d place t x y) where
     in_length : {X : Type 0} (xs : List X) (k : ℕ) (x : X) → slice_get xs k ≡ Some x → k < length xs
     in_length [] k x h = absurd (none_listed k x h)
     in_length (y ∷ xs) zero x h = omega arith
@@ -97,7 +97,7 @@ module _ {O B A : Type 0} (d : Dialect (in_program O B) A) (c : Program O B) (op
           let a = named n k e in
           let b = named m k f in
           let y : b.1 ≡ a.1 = same_some (slice_get keys k) b.1 a.1 b.3 a.3 in
-          let x : a.0 ≡ b.0 = one_before a.0 b.0 a.1 a.4 (subst (Joinable d t b.0) y b.4) in
+          let x : a.0 ≡ b.0 = one_before a.0 b.0 a.1 a.4 (subst (Joinable d place t b.0) y b.4) in
           once n m a.0 a.2 (b.2 ∙ ap Some (sym x));
     }
 

@@ -11,10 +11,10 @@ use Rattle.ir_program.specs.declared.handles.BasicBlock.{BasicBlock}
 use Rattle.ir_program.proofs.made.Frames.{same_or_not}
 use Rattle.ir_trees.proofs.HandleTests.{block_no}
 use Rattle.ir_trees.specs.Searched.{AreDistinct}
-use Rattle.ir_trees.specs.Stands.{in_program, ProgramTree}
+use Rattle.ir_trees.specs.Stands.{by_handle, in_program, ProgramTree}
 use Rattle.opt_inside.proofs.Around.{HasLists}
 use Rattle.opt_trees.specs.Dialect.{Dialect}
-use Rattle.opt_trees.specs.Simplify.{Joinable}
+use Rattle.opt_trees.specs.Simplify.{Place, Joinable}
 use Rattle.opt_chains.specs.Chained.{AreChains}
 use Rattle.opt_chains.specs.ChainSteps.{behind, end_of, IsFirst, IsBehind, AreLinks, AreSteps, no_steps, one_step, AreWalked}
 use Rattle.opt_chains.specs.Exits.{IsBareExit}
@@ -61,24 +61,24 @@ pub rows_taken : (next : List (Option ℕ)) (ss : List ChainStep) → AreSteps n
 rows_taken next ss steps k f = rows next (take k ss) (steps_taken next ss steps k) f
 
 -- what is known of the numbers of blocks, of what they lead to, and of the steps
-pub record AreNamed {O B A : Type 0} (d : Dialect (in_program O B) A) (c : Program O B) (t : ProgramTree O B) (keys : List (Ptr BasicBlock)) (next : List (Option ℕ)) (ss : List ChainStep) (js : List Join) : Type 0 where
+pub record AreNamed {O B A : Type 0} (d : Dialect (in_program O B) A) (place : Place by_handle) (c : Program O B) (t : ProgramTree O B) (keys : List (Ptr BasicBlock)) (next : List (Option ℕ)) (ss : List ChainStep) (js : List Join) : Type 0 where
   pub once : AreDistinct keys
   pub len : length next ≡ length keys
   pub links : AreLinks next
   pub walked : AreWalked next ss
   pub matched : AreMatched keys once ss js
   -- the numbers lead where blocks are joinable
-  pub named : (n m : ℕ) → slice_get next n ≡ Some (Some m) → (x : Ptr BasicBlock) × (y : Ptr BasicBlock) × (slice_get keys n ≡ Some x) × (slice_get keys m ≡ Some y) × Joinable d t x y
-  pub all : (x y : Ptr BasicBlock) → Joinable d t x y → (n : ℕ) × (m : ℕ) × (slice_get keys n ≡ Some x) × (slice_get keys m ≡ Some y) × (slice_get next n ≡ Some (Some m))
+  pub named : (n m : ℕ) → slice_get next n ≡ Some (Some m) → (x : Ptr BasicBlock) × (y : Ptr BasicBlock) × (slice_get keys n ≡ Some x) × (slice_get keys m ≡ Some y) × Joinable d place t x y
+  pub all : (x y : Ptr BasicBlock) → Joinable d place t x y → (n : ℕ) × (m : ℕ) × (slice_get keys n ≡ Some x) × (slice_get keys m ≡ Some y) × (slice_get next n ≡ Some (Some m))
   -- each number that leads somewhere is behind a first
   pub from_first : (n m : ℕ) → slice_get next n ≡ Some (Some m) → (f : ℕ) × (f < length next) × IsFirst next f × IsBehind next f n
   -- each step has the branch at the end of the block before
   pub exits : (k : ℕ) (j : Join) (s : ChainStep) (z : Ptr BasicBlock) → slice_get js k ≡ Some j → slice_get ss k ≡ Some s → slice_get keys s.before ≡ Some z → IsBareExit d c z j.branch j.block
   -- of the program: nothing else leads to a block that is joinable, and it is in the region of the one before
-  pub single : (x y : Ptr BasicBlock) (p : Ptr Operation) → Joinable d t x y → IsBareExit d c x p y → (q : Ptr Operation) (k : ℕ) → slice_get (successors_at c q) k ≡ Some y → q ≡ p
-  pub beside : (x y : Ptr BasicBlock) → Joinable d t x y → AreTogether c x y
+  pub single : (x y : Ptr BasicBlock) (p : Ptr Operation) → Joinable d place t x y → IsBareExit d c x p y → (q : Ptr Operation) (k : ℕ) → slice_get (successors_at c q) k ≡ Some y → q ≡ p
+  pub beside : (x y : Ptr BasicBlock) → Joinable d place t x y → AreTogether c x y
 
-module _ {O B A : Type 0} (d : Dialect (in_program O B) A) (c : Program O B) (t : ProgramTree O B) (lists : HasLists c) (keys : List (Ptr BasicBlock)) (next : List (Option ℕ)) (ss : List ChainStep) (js : List Join) (by : AreNamed d c t keys next ss js) where
+module _ {O B A : Type 0} (d : Dialect (in_program O B) A) (place : Place by_handle) (c : Program O B) (t : ProgramTree O B) (lists : HasLists c) (keys : List (Ptr BasicBlock)) (next : List (Option ℕ)) (ss : List ChainStep) (js : List Join) (by : AreNamed d place c t keys next ss js) where
   steps : AreSteps next ss
   steps = by.walked.steps
 
@@ -88,16 +88,16 @@ module _ {O B A : Type 0} (d : Dialect (in_program O B) A) (c : Program O B) (t 
       ap (slice_get keys) (step_at next ss steps k s here).from
       ∙ end_key keys by.once s.first j.first (behind (take k ss) s.first) (held (take k js) j.first) first (held_keys keys by.once (take k ss) (take k js) (matched_taken keys by.once ss js by.matched k) s.first j.first first)
 
-  sound : (k : ℕ) (j : Join) → slice_get js k ≡ Some j → Joinable d t (last_of j.first (held (take k js) j.first)) j.block
+  sound : (k : ℕ) (j : Join) → slice_get js k ≡ Some j → Joinable d place t (last_of j.first (held (take k js) j.first)) j.block
   sound k j here =
       let m = matched_at keys by.once ss js by.matched k j here in
       let i = step_at next ss steps k m.0 m.1 in
       let n = by.named m.0.before m.0.to i.leads in
       let a = same_some (slice_get keys m.0.before) n.0 (last_of j.first (held (take k js) j.first)) n.2 (before_is k j m.0 m.1 m.2) in
       let b = same_some (slice_get keys m.0.to) n.1 j.block n.3 m.3 in
-      subst (λ x. Joinable d t x j.block) a (subst (Joinable d t n.0) b n.4)
+      subst (λ x. Joinable d place t x j.block) a (subst (Joinable d place t n.0) b n.4)
 
-  every : (a b : Ptr BasicBlock) → Joinable d t a b → is_taken js b ≡ true
+  every : (a b : Ptr BasicBlock) → Joinable d place t a b → is_taken js b ≡ true
   every a b joins =
       let n = by.all a b joins in
       let f = by.from_first n.0 n.1 n.4 in
@@ -111,14 +111,14 @@ module _ {O B A : Type 0} (d : Dialect (in_program O B) A) (c : Program O B) (t 
       (λ (ne : j.first ≢ b). ⊎_elim (λ none. inl (ap (λ x. if x then j.block ∷ held is b else held is b) (block_no j.first b ne) ∙ none)) (λ r. inr r) (first_key us is rest b))
       (same_or_not j.first b)
 
-  ends : (b x : Ptr BasicBlock) → is_taken js b ≡ false → Joinable d t (last_of b (held js b)) x → ⊥
+  ends : (b x : Ptr BasicBlock) → is_taken js b ≡ false → Joinable d place t (last_of b (held js b)) x → ⊥
   ends b x left joins =
       let n = by.all (last_of b (held js b)) x joins in
       let f = ⊎_elim {C = (f : ℕ) × (slice_get keys f ≡ Some b)} (λ (none : held js b ≡ []). (n.0, n.2 ∙ ap (λ l. Some (last_of b l)) none)) (λ r. r) (first_key ss js by.matched b) in
       let first : IsFirst next f.0 = λ a e.
       let m = by.named a f.0 e in
       let same = same_some (slice_get keys f.0) m.1 b m.3 f.1 in
-      let y : is_taken js b ≡ true = every m.0 b (subst (Joinable d t m.0) same m.4) in
+      let y : is_taken js b ≡ true = every m.0 b (subst (Joinable d place t m.0) same m.4) in
       let g : true ≡ false = sym y ∙ left in cc in
       let within : f.0 < length next = subst (λ l. f.0 < l) (sym by.len) (in_length keys f.0 b f.1) in
       let end = end_key keys by.once f.0 b (behind ss f.0) (held js b) f.1 (held_keys keys by.once ss js by.matched f.0 b f.1) in
@@ -140,7 +140,7 @@ module _ {O B A : Type 0} (d : Dialect (in_program O B) A) (c : Program O B) (t 
     abbrev z : Ptr BasicBlock
     z = last_of j.first (held (take k js) j.first)
 
-    joins : Joinable d t z j.block
+    joins : Joinable d place t z j.block
     joins = sound k j here
 
     abbrev it : (s : ChainStep) × (slice_get ss k ≡ Some s) × (slice_get keys s.first ≡ Some j.first) × (slice_get keys s.to ≡ Some j.block)
@@ -216,5 +216,5 @@ module _ {O B A : Type 0} (d : Dialect (in_program O B) A) (c : Program O B) (t 
   }
 
   -- so these are all chains
-  pub chains_found : AreChains d c t js
+  pub chains_found : AreChains d place c t js
   chains_found = record { joins = can_join; sound = sound; all = every; ends = ends }

@@ -14,7 +14,7 @@ use Rattle.ir_trees.specs.Trees.{Sort, Operations, Blocks, Regions, Tree, end, o
 use Rattle.opt_inside.specs.Occurring.{FoundBlock}
 use Rattle.opt_trees.specs.Dialect.{Dialect}
 use Rattle.opt_trees.specs.Occurrences.{block_occurrences_of}
-use Rattle.opt_trees.specs.Simplify.{Joinable, Joins, ends, operations, regions, taken, first, chain_ends, chain_goes_on, use_head, use_instead, but_last, append}
+use Rattle.opt_trees.specs.Simplify.{Place, Joinable, Joins, ends, operations, regions, taken, first, chain_ends, chain_goes_on, use_head, use_instead, but_last, append}
 use Rattle.opt_chains.specs.Merging.{front, without, along}
 
 -- what is known of the blocks of a tree and of its program after they were joined: which blocks are joined behind each
@@ -24,18 +24,18 @@ pub record IsMerged {O B A : Type 0} (d : Dialect (in_program O B) A) (old new :
   pub block : (b : Ptr BasicBlock) (v : BlockView B) → gone b ≡ false → block_at old b ≡ Some v → block_at new b ≡ Some (record v { operations = along old v.operations (behind b) })
   pub region : (r : Ptr Region) (v : RegionView) → region_at old r ≡ Some v → (w : RegionView) × (region_at new r ≡ Some w) × (w.blocks ≡ without gone v.blocks)
 
-module _ {O B A : Type 0} (d : Dialect (in_program O B) A) (old : Program O B) (t : ProgramTree O B) where
+module _ {O B A : Type 0} (d : Dialect (in_program O B) A) (place : Place by_handle) (old : Program O B) (t : ProgramTree O B) where
   -- the blocks are a chain behind b, to its end, and only the last of them has a last operation that is left
   pub data IsChain (is_left : Ptr Operation → Type 0) : Ptr BasicBlock → List (Ptr BasicBlock) → Type 0 where
-    at_end : (b : Ptr BasicBlock) → ((c : Ptr BasicBlock) → Joinable d t b c → ⊥) → ((p : Ptr Operation) → Has p (operations_in old b) → is_left p) → IsChain is_left b []
-    before : (b c : Ptr BasicBlock) (cs : List (Ptr BasicBlock)) → Joinable d t b c → ((p : Ptr Operation) → Has p (front (operations_in old b)) → is_left p) → IsChain is_left c cs → IsChain is_left b (c ∷ cs)
+    at_end : (b : Ptr BasicBlock) → ((c : Ptr BasicBlock) → Joinable d place t b c → ⊥) → ((p : Ptr Operation) → Has p (operations_in old b) → is_left p) → IsChain is_left b []
+    before : (b c : Ptr BasicBlock) (cs : List (Ptr BasicBlock)) → Joinable d place t b c → ((p : Ptr Operation) → Has p (front (operations_in old b)) → is_left p) → IsChain is_left c cs → IsChain is_left b (c ∷ cs)
 
-module _ {O B A : Type 0} (d : Dialect (in_program O B) A) (old new : Program O B) (t : ProgramTree O B) (names : Value → Value) (is_left : Ptr Operation → Type 0) where
+module _ {O B A : Type 0} (d : Dialect (in_program O B) A) (place : Place by_handle) (old new : Program O B) (t : ProgramTree O B) (names : Value → Value) (is_left : Ptr Operation → Type 0) where
   -- operations of one block with what is below them, joined
   data OwnOf : List (Ptr Operation) → Tree by_handle (in_program O B) Operations → Tree by_handle (in_program O B) Operations → Type 0 where
     no_own : OwnOf [] end end
     one_own : (p : Ptr Operation) (ps : List (Ptr Operation)) (v : OperationView O) (rs qs : Tree by_handle (in_program O B) Regions) (rest more : Tree by_handle (in_program O B) Operations)
-        → operation_at old p ≡ Some v → Joins d t None Regions rs qs → AreTree new Regions v.regions (use_instead names qs) → OwnOf ps rest more → OwnOf (p ∷ ps) (operation (head_of p v) rs rest) (operation (head_of p v) qs more)
+        → operation_at old p ≡ Some v → Joins d place t None Regions rs qs → AreTree new Regions v.regions (use_instead names qs) → OwnOf ps rest more → OwnOf (p ∷ ps) (operation (head_of p v) rs rest) (operation (head_of p v) qs more)
 
   -- blocks of one region, each with its operations joined
   data BlocksOf : List (Ptr BasicBlock) → Tree by_handle (in_program O B) Blocks → Type 0 where
@@ -43,7 +43,7 @@ module _ {O B A : Type 0} (d : Dialect (in_program O B) A) (old new : Program O 
     one_block : (b : Ptr BasicBlock) (bs : List (Ptr BasicBlock)) (v : BlockView B) (ops own : Tree by_handle (in_program O B) Operations) (rest : Tree by_handle (in_program O B) Blocks)
         → block_at old b ≡ Some v → AreTree old Operations v.operations ops → OwnOf v.operations ops own → BlocksOf bs rest → BlocksOf (b ∷ bs) (block (label_of b v) ops rest)
 
-  own_joins : (ps : List (Ptr Operation)) (ops own : Tree by_handle (in_program O B) Operations) → OwnOf ps ops own → Joins d t None Operations ops own
+  own_joins : (ps : List (Ptr Operation)) (ops own : Tree by_handle (in_program O B) Operations) → OwnOf ps ops own → Joins d place t None Operations ops own
   own_joins _ _ _ no_own = ends Operations
   own_joins _ _ _ (one_own p ps v rs qs rest more there inner tree rests) = operations (head_of p v) rs qs rest more inner (own_joins ps rest more rests)
 
@@ -81,11 +81,11 @@ module _ {O B A : Type 0} (d : Dialect (in_program O B) A) (old new : Program O 
 
     -- all operations of a chain, from one of its blocks on
     module _ (all : List (Ptr BasicBlock)) (u : Tree by_handle (in_program O B) Blocks) (whole : BlocksOf all u)
-        (beside : (b c : Ptr BasicBlock) → Has b all → Joinable d t b c → Has c all)
-        (found : (b c : Ptr BasicBlock) (v : BlockView B) (ops : Tree by_handle (in_program O B) Operations) → Joinable d t b c → block_at old c ≡ Some v → AreTree old Operations v.operations ops
+        (beside : (b c : Ptr BasicBlock) → Has b all → Joinable d place t b c → Has c all)
+        (found : (b c : Ptr BasicBlock) (v : BlockView B) (ops : Tree by_handle (in_program O B) Operations) → Joinable d place t b c → block_at old c ≡ Some v → AreTree old Operations v.operations ops
         → (x : FoundBlock O B) × Has x (block_occurrences_of t) × (x.label.name ≡ c) × (x.operations ≡ ops)) where
-      chain_joined : (b : Ptr BasicBlock) (cs : List (Ptr BasicBlock)) (v : BlockView B) (ops own : Tree by_handle (in_program O B) Operations) → IsChain d old t is_left b cs → Has b all → block_at old b ≡ Some v → OwnOf v.operations ops own
-          → (every : Tree by_handle (in_program O B) Operations) × Joins d t (Some b) Operations ops every × AreTree new Operations (along old v.operations cs) (use_instead names every)
+      chain_joined : (b : Ptr BasicBlock) (cs : List (Ptr BasicBlock)) (v : BlockView B) (ops own : Tree by_handle (in_program O B) Operations) → IsChain d place old t is_left b cs → Has b all → block_at old b ≡ Some v → OwnOf v.operations ops own
+          → (every : Tree by_handle (in_program O B) Operations) × Joins d place t (Some b) Operations ops every × AreTree new Operations (along old v.operations cs) (use_instead names every)
       chain_joined b _ v ops own (at_end _ none left) has there owns = (
         own,
         chain_ends b ops own none (own_joins v.operations ops own owns),
@@ -100,8 +100,8 @@ module _ {O B A : Type 0} (d : Dialect (in_program O B) A) (old new : Program O 
           let shorter = own_front v.operations ops own owns in (
             append (but_last own) rest.0,
             chain_goes_on b x.0 ops (but_last own) rest.0 (append (but_last own) rest.0)
-                (subst (Joinable d t b) (sym x.2) joins) x.1 (own_joins (front v.operations) (but_last ops) (but_last own) shorter)
-                (subst (λ n. Joins d t (Some n) Operations x.0.operations rest.0) (sym x.2) (subst (λ o. Joins d t (Some c) Operations o rest.0) (sym x.3) rest.1)) refl,
+                (subst (Joinable d place t b) (sym x.2) joins) x.1 (own_joins (front v.operations) (but_last ops) (but_last own) shorter)
+                (subst (λ n. Joins d place t (Some n) Operations x.0.operations rest.0) (sym x.2) (subst (λ o. Joins d place t (Some c) Operations o rest.0) (sym x.3) rest.1)) refl,
             subst (λ (w : Tree by_handle (in_program O B) Operations). AreTree new Operations (front v.operations ++ along old (operations_in old c) cs) w) (sym (use_append (but_last own) rest.0))
                 (trees_append (front v.operations) (along old (operations_in old c) cs) (use_instead names (but_last own)) (use_instead names rest.0)
                 (own_tree (front v.operations) (but_last ops) (but_last own) shorter (subst (λ l. (p : Ptr Operation) → Has p (front l) → is_left p) (ap (λ o. unwrap_or (option_map (λ (y : BlockView B). y.operations) o) []) there) left))
@@ -109,13 +109,13 @@ module _ {O B A : Type 0} (d : Dialect (in_program O B) A) (old new : Program O 
           )
 
       -- which blocks begin a chain, and which are in one
-      module _ (is_first : (b : Ptr BasicBlock) → gone b ≡ false → ((a : Ptr BasicBlock) → Joinable d t a b → ⊥) × IsChain d old t is_left b (behind b))
-          (is_taken : (b : Ptr BasicBlock) → gone b ≡ true → (a : Ptr BasicBlock) × Joinable d t a b) where
+      module _ (is_first : (b : Ptr BasicBlock) → gone b ≡ false → ((a : Ptr BasicBlock) → Joinable d place t a b → ⊥) × IsChain d place old t is_left b (behind b))
+          (is_taken : (b : Ptr BasicBlock) → gone b ≡ true → (a : Ptr BasicBlock) × Joinable d place t a b) where
         blocks_joined : (bs : List (Ptr BasicBlock)) (w : Tree by_handle (in_program O B) Blocks) → BlocksOf bs w → ((b : Ptr BasicBlock) → Has b bs → Has b all)
-            → (after : Tree by_handle (in_program O B) Blocks) × Joins d t None Blocks w after × AreTree new Blocks (without gone bs) (use_instead names after)
+            → (after : Tree by_handle (in_program O B) Blocks) × Joins d place t None Blocks w after × AreTree new Blocks (without gone bs) (use_instead names after)
         blocks_joined _ _ no_more sub = (end, ends Blocks, no_blocks)
         blocks_joined _ _ (one_block b bs v ops own rest there tree owns rests) sub = by_case (blocks_joined bs rest rests (λ c h. sub c (inr h))) (gone b) refl where
-          by_case : ((after : Tree by_handle (in_program O B) Blocks) × Joins d t None Blocks rest after × AreTree new Blocks (without gone bs) (use_instead names after)) → (s : Bool) → gone b ≡ s → (after : Tree by_handle (in_program O B) Blocks) × Joins d t None Blocks (block (label_of b v) ops rest) after × AreTree new Blocks (if s then without gone bs else b ∷ without gone bs) (use_instead names after)
+          by_case : ((after : Tree by_handle (in_program O B) Blocks) × Joins d place t None Blocks rest after × AreTree new Blocks (without gone bs) (use_instead names after)) → (s : Bool) → gone b ≡ s → (after : Tree by_handle (in_program O B) Blocks) × Joins d place t None Blocks (block (label_of b v) ops rest) after × AreTree new Blocks (if s then without gone bs else b ∷ without gone bs) (use_instead names after)
           by_case later true e = let a = is_taken b e in (later.0, taken (label_of b v) ops rest later.0 a.0 a.1 later.1, later.2)
           by_case later false e =
               let f = is_first b e in
@@ -129,14 +129,14 @@ module _ {O B A : Type 0} (d : Dialect (in_program O B) A) (old new : Program O 
   abbrev MadeOf : (s : Sort) → Handles s → Tree by_handle (in_program O B) s → Type 0
   MadeOf Operations ps ops = (own : Tree by_handle (in_program O B) Operations) × OwnOf ps ops own
   MadeOf Blocks bs u = BlocksOf bs u
-  MadeOf Regions rs u = (qs : Tree by_handle (in_program O B) Regions) × Joins d t None Regions u qs × AreTree new Regions rs (use_instead names qs)
+  MadeOf Regions rs u = (qs : Tree by_handle (in_program O B) Regions) × Joins d place t None Regions u qs × AreTree new Regions rs (use_instead names qs)
 
   module _ (behind : Ptr BasicBlock → List (Ptr BasicBlock)) (gone : Ptr BasicBlock → Bool) (merged : IsMerged d old new t names behind gone is_left)
-      (together : (b c : Ptr BasicBlock) → Joinable d t b c → (r : Ptr Region) (v : RegionView) → region_at old r ≡ Some v → Has b v.blocks → Has c v.blocks)
-      (found : (b c : Ptr BasicBlock) (v : BlockView B) (ops : Tree by_handle (in_program O B) Operations) → Joinable d t b c → block_at old c ≡ Some v → AreTree old Operations v.operations ops
+      (together : (b c : Ptr BasicBlock) → Joinable d place t b c → (r : Ptr Region) (v : RegionView) → region_at old r ≡ Some v → Has b v.blocks → Has c v.blocks)
+      (found : (b c : Ptr BasicBlock) (v : BlockView B) (ops : Tree by_handle (in_program O B) Operations) → Joinable d place t b c → block_at old c ≡ Some v → AreTree old Operations v.operations ops
       → (x : FoundBlock O B) × Has x (block_occurrences_of t) × (x.label.name ≡ c) × (x.operations ≡ ops))
-      (is_first : (b : Ptr BasicBlock) → gone b ≡ false → ((a : Ptr BasicBlock) → Joinable d t a b → ⊥) × IsChain d old t is_left b (behind b))
-      (is_taken : (b : Ptr BasicBlock) → gone b ≡ true → (a : Ptr BasicBlock) × Joinable d t a b) where
+      (is_first : (b : Ptr BasicBlock) → gone b ≡ false → ((a : Ptr BasicBlock) → Joinable d place t a b → ⊥) × IsChain d place old t is_left b (behind b))
+      (is_taken : (b : Ptr BasicBlock) → gone b ≡ true → (a : Ptr BasicBlock) × Joinable d place t a b) where
     all_made : (s : Sort) (hs : Handles s) (u : Tree by_handle (in_program O B) s) → AreTree old s hs u → MadeOf s hs u
     all_made _ _ _ no_operations = (end, no_own)
     all_made _ _ _ no_blocks = no_more
@@ -159,7 +159,7 @@ module _ {O B A : Type 0} (d : Dialect (in_program O B) A) (old new : Program O 
         )
 
     -- the root with its chains joined
-    pub merged_tree : (op : Ptr Operation) → is_left op → StandsFor old op t → (qs : Tree by_handle (in_program O B) Regions) × Joins d t None Regions t.regions qs × StandsFor new op (record { head = use_head names t.head; regions = use_instead names qs })
+    pub merged_tree : (op : Ptr Operation) → is_left op → StandsFor old op t → (qs : Tree by_handle (in_program O B) Regions) × Joins d place t None Regions t.regions qs × StandsFor new op (record { head = use_head names t.head; regions = use_instead names qs })
     merged_tree op left stands =
         let made = all_made Regions stands.view.regions t.regions stands.regions in
         (made.0, made.1, record { view = record stands.view { operands = map names stands.view.operands }; there = merged.operation op stands.view left stands.there; head = ap (use_head names) stands.head; regions = made.2 })

@@ -27,7 +27,7 @@ use Rattle.opt_inside.specs.Occurring.{FoundBlock, EachFound, EachBlock, IsOccur
 use Rattle.opt_inside.specs.Outside.{ChangesOperandsOutside}
 use Rattle.opt_trees.specs.Dialect.{Dialect}
 use Rattle.opt_trees.specs.Occurrences.{block_occurrences_of}
-use Rattle.opt_trees.specs.Simplify.{Joinable, IsGiven, Follows, stops, use_instead}
+use Rattle.opt_trees.specs.Simplify.{Place, Joinable, IsGiven, Follows, stops, use_head, use_instead}
 use Rattle.opt_chains.specs.Chained.{AreChains, AreStandIns}
 use Rattle.opt_chains.specs.MergedValues.{standing, TakesInstead}
 use Rattle.opt_chains.specs.Merging.{front, without, held, is_taken, last_of, along, TakesNoArgument, AreJoins, HasJoined}
@@ -88,18 +88,18 @@ at_index [] k le = absurd (omega arith)
 at_index (x ∷ xs) zero le = (x, refl)
 at_index (x ∷ xs) (suc k) le = at_index xs k (omega arith)
 
-module _ {O B A : Type 0} (d : Dialect (in_program O B) A) (t : ProgramTree O B) where
+module _ {O B A : Type 0} (d : Dialect (in_program O B) A) (place : Place by_handle) (t : ProgramTree O B) where
   -- each is joinable behind the one before
   abbrev IsRow : Ptr BasicBlock → List (Ptr BasicBlock) → Type 0
   IsRow b [] = Unit {0}
-  IsRow b (c ∷ cs) = Joinable d t b c × IsRow c cs
+  IsRow b (c ∷ cs) = Joinable d place t b c × IsRow c cs
 
-  row_more : (b : Ptr BasicBlock) (cs : List (Ptr BasicBlock)) (c : Ptr BasicBlock) → IsRow b cs → Joinable d t (last_of b cs) c → IsRow b (cs ++ c ∷ [])
+  row_more : (b : Ptr BasicBlock) (cs : List (Ptr BasicBlock)) (c : Ptr BasicBlock) → IsRow b cs → Joinable d place t (last_of b cs) c → IsRow b (cs ++ c ∷ [])
   row_more b [] c row joins = (joins, tt)
   row_more b (a ∷ cs) c row joins = (row.0, row_more a cs c row.1 joins)
 
   -- what is held behind each block is a row
-  rows_held : (js : List Join) → ((k : ℕ) (j : Join) → slice_get js k ≡ Some j → Joinable d t (last_of j.first (held (take k js) j.first)) j.block) → (k : ℕ) → k ≤ length js → (b : Ptr BasicBlock) → IsRow b (held (take k js) b)
+  rows_held : (js : List Join) → ((k : ℕ) (j : Join) → slice_get js k ≡ Some j → Joinable d place t (last_of j.first (held (take k js) j.first)) j.block) → (k : ℕ) → k ≤ length js → (b : Ptr BasicBlock) → IsRow b (held (take k js) b)
   rows_held js sound zero le b = tt
   rows_held js sound (suc k) le b =
       let j = at_index js k le in
@@ -107,18 +107,18 @@ module _ {O B A : Type 0} (d : Dialect (in_program O B) A) (t : ProgramTree O B)
       let more : take (suc k) js ≡ take k js ++ j.0 ∷ [] = ap (λ n. take n js) (sym (add-one k)) ∙ take_more js k j.0 j.1 in
       subst (λ l. IsRow b (held l b)) (sym more) (one_more (take k js) j.0 b (λ c. rows_held js sound k le_k c) (sound k j.0 j.1))
     where
-      one_more : (done : List Join) (j : Join) (c : Ptr BasicBlock) → ((x : Ptr BasicBlock) → IsRow x (held done x)) → Joinable d t (last_of j.first (held done j.first)) j.block → IsRow c (held (done ++ j ∷ []) c)
+      one_more : (done : List Join) (j : Join) (c : Ptr BasicBlock) → ((x : Ptr BasicBlock) → IsRow x (held done x)) → Joinable d place t (last_of j.first (held done j.first)) j.block → IsRow c (held (done ++ j ∷ []) c)
       one_more done j c rows joins = ⊎_elim
           (λ (e : c ≡ j.first). subst (λ x. IsRow x (held (done ++ j ∷ []) x)) (sym e) (subst (IsRow j.first) (sym (held_first done j)) (row_more j.first (held done j.first) j.block (rows j.first) joins)))
           (λ (ne : c ≢ j.first). subst (IsRow c) (sym (held_more done j c ne)) (rows c))
           (same_or_not c j.first)
 
   -- what a value is followed to
-  followed : (ss : List StandIn) (v : Value) → ((s : StandIn) → Has s ss → Follows d t s.argument s.value) → ((u : Value) → IsGiven d t v u → (s : StandIn) × Has s ss × (s.argument ≡ v)) → Follows d t v (standing ss v)
+  followed : (ss : List StandIn) (v : Value) → ((s : StandIn) → Has s ss → Follows d place t s.argument s.value) → ((u : Value) → IsGiven d place t v u → (s : StandIn) × Has s ss × (s.argument ≡ v)) → Follows d place t v (standing ss v)
   followed [] v each given = stops v (λ u g. (given u g).1)
   followed (s ∷ ss) v each given = ⊎_elim
-      (λ (e : v ≡ s.argument). subst (Follows d t v) (sym (ap (λ b. cond b s.value (standing ss v)) (value-test.yes v s.argument e))) (subst (λ x. Follows d t x s.value) (sym e) (each s (inl refl))))
-      (λ (ne : v ≢ s.argument). subst (Follows d t v) (sym (ap (λ b. cond b s.value (standing ss v)) (value-test.no v s.argument ne)))
+      (λ (e : v ≡ s.argument). subst (Follows d place t v) (sym (ap (λ b. cond b s.value (standing ss v)) (value-test.yes v s.argument e))) (subst (λ x. Follows d place t x s.value) (sym e) (each s (inl refl))))
+      (λ (ne : v ≢ s.argument). subst (Follows d place t v) (sym (ap (λ b. cond b s.value (standing ss v)) (value-test.no v s.argument ne)))
       (followed ss v (λ x h. each x (inr h)) (λ u g. let f = given u g in (f.0, ⊎_elim (λ (e : f.0 ≡ s). absurd (ne (sym f.2 ∙ ap (λ (x : StandIn). x.argument) e))) (λ r. r) f.1, f.2))))
       (value-test.decide v s.argument)
 
@@ -144,7 +144,7 @@ pub record IsKnown {O B A : Type 0} (d : Dialect (in_program O B) A) (old : Prog
   pub used : (v : Value) → IsUsed old v → IsLiveValue old v
   pub stands : (v : Value) (ty : TypeHandle) → type_at old v ≡ Some ty → StandsAtDefiner old v ty
 
-module _ {O B A : Type 0} (d : Dialect (in_program O B) A) (old mid : Program O B) (op : Ptr Operation) (t : ProgramTree O B) (known : IsKnown d old op t) (js : List Join) (ss : List StandIn) (chains : AreChains d old t js) (ins : AreStandIns d old t js ss) (takes : TakesInstead old mid (standing ss)) where
+module _ {O B A : Type 0} (d : Dialect (in_program O B) A) (place : Place by_handle) (old mid : Program O B) (op : Ptr Operation) (t : ProgramTree O B) (known : IsKnown d old op t) (js : List Join) (ss : List StandIn) (chains : AreChains d place old t js) (ins : AreStandIns d place old t js ss) (takes : TakesInstead old mid (standing ss)) where
   lists : HasLists old
   lists = known.lists
 
@@ -211,7 +211,7 @@ module _ {O B A : Type 0} (d : Dialect (in_program O B) A) (old mid : Program O 
       (standing_is ss u.0)
 
   -- a joined block, the first of its chain and its branch are below the root
-  target_below : (a b : Ptr BasicBlock) → Joinable d t a b → StandsInside old (OperationNode op) (BlockNode b)
+  target_below : (a b : Ptr BasicBlock) → Joinable d place t a b → StandsInside old (OperationNode op) (BlockNode b)
   target_below a b joins = subst (λ x. StandsInside old (OperationNode op) (BlockNode x)) joins.target_name (known.blocks_found joins.target joins.target_stands).below
 
   beside_below : (a b : Ptr BasicBlock) (r : Ptr Region) → StandsInRegion old a r → StandsInRegion old b r → StandsInside old (OperationNode op) (BlockNode b) → StandsInside old (OperationNode op) (BlockNode a)
@@ -223,7 +223,7 @@ module _ {O B A : Type 0} (d : Dialect (in_program O B) A) (old mid : Program O 
   first_below : (k : ℕ) (j : Join) → slice_get js k ≡ Some j → StandsInside old (OperationNode op) (BlockNode j.first)
   first_below k j here = let n = chains.joins k j here in beside_below j.first j.block n.together.0 n.together.1 n.together.2 (block_below k j here)
 
-  source_below : (a b : Ptr BasicBlock) → Joinable d t a b → StandsInside old (OperationNode op) (BlockNode a)
+  source_below : (a b : Ptr BasicBlock) → Joinable d place t a b → StandsInside old (OperationNode op) (BlockNode a)
   source_below a b joins = let f = known.found joins.last joins.stands in
       let below : StandsInside old (OperationNode op) (OperationNode joins.last.head.name) = f.below.inside in
       subst (λ x. StandsInside old (OperationNode op) (BlockNode x)) joins.in_block (⊎_elim
@@ -246,8 +246,8 @@ module _ {O B A : Type 0} (d : Dialect (in_program O B) A) (old mid : Program O 
       let s = branch_in k j here in
       (lists.operations_once j.branch (last_of j.first (held (take k js) j.first)) b s.index at.0 s.here (at.1 ∙ ap Some (sym e))).0
 
-  left_at_end : (b : Ptr BasicBlock) → ((c : Ptr BasicBlock) → Joinable d t b c → ⊥) → (p : Ptr Operation) → Has p (operations_in old b) → IsLeft p
-  left_at_end b none p has k j here e = none j.block (subst (λ x. Joinable d t x j.block) (of_block b p has k j here e) (chains.sound k j here))
+  left_at_end : (b : Ptr BasicBlock) → ((c : Ptr BasicBlock) → Joinable d place t b c → ⊥) → (p : Ptr Operation) → Has p (operations_in old b) → IsLeft p
+  left_at_end b none p has k j here e = none j.block (subst (λ x. Joinable d place t x j.block) (of_block b p has k j here e) (chains.sound k j here))
 
   left_before : (b : Ptr BasicBlock) (p : Ptr Operation) → Has p (front (operations_in old b)) → IsLeft p
   left_before b p has k j here e =
@@ -257,21 +257,21 @@ module _ {O B A : Type 0} (d : Dialect (in_program O B) A) (old mid : Program O 
       not_before (front (operations_in old b)) j.branch (subst Once ends once) (subst (λ x. Has x (front (operations_in old b))) (sym e) has)
 
   -- rows to their end are chains
-  to_chain : (b : Ptr BasicBlock) (cs : List (Ptr BasicBlock)) → IsRow d t b cs → ((c : Ptr BasicBlock) → Joinable d t (last_of b cs) c → ⊥) → IsChain d old t IsLeft b cs
+  to_chain : (b : Ptr BasicBlock) (cs : List (Ptr BasicBlock)) → IsRow d place t b cs → ((c : Ptr BasicBlock) → Joinable d place t (last_of b cs) c → ⊥) → IsChain d place old t IsLeft b cs
   to_chain b [] row none = at_end b none (left_at_end b none)
   to_chain b (c ∷ cs) row none = before b c cs row.0 (left_before b) (to_chain c cs row.1 none)
 
-  row_held : (b : Ptr BasicBlock) → IsRow d t b (held js b)
-  row_held b = subst (λ l. IsRow d t b (held l b)) (whole_taken js) (rows_held d t js chains.sound (length js) (omega arith) b)
+  row_held : (b : Ptr BasicBlock) → IsRow d place t b (held js b)
+  row_held b = subst (λ l. IsRow d place t b (held l b)) (whole_taken js) (rows_held d place t js chains.sound (length js) (omega arith) b)
 
-  is_first : (b : Ptr BasicBlock) → is_taken js b ≡ false → ((a : Ptr BasicBlock) → Joinable d t a b → ⊥) × IsChain d old t IsLeft b (held js b)
+  is_first : (b : Ptr BasicBlock) → is_taken js b ≡ false → ((a : Ptr BasicBlock) → Joinable d place t a b → ⊥) × IsChain d place old t IsLeft b (held js b)
   is_first b left = (λ a joins. let f : true ≡ false = sym (chains.all a b joins) ∙ left in cc, to_chain b (held js b) (row_held b) (λ c joins. chains.ends b c left joins))
 
-  was_taken : (b : Ptr BasicBlock) → is_taken js b ≡ true → (a : Ptr BasicBlock) × Joinable d t a b
-  was_taken b h = let s = taken_by js b h in (last_of s.1.first (held (take s.0 js) s.1.first), subst (Joinable d t (last_of s.1.first (held (take s.0 js) s.1.first))) s.3 (chains.sound s.0 s.1 s.2))
+  was_taken : (b : Ptr BasicBlock) → is_taken js b ≡ true → (a : Ptr BasicBlock) × Joinable d place t a b
+  was_taken b h = let s = taken_by js b h in (last_of s.1.first (held (take s.0 js) s.1.first), subst (Joinable d place t (last_of s.1.first (held (take s.0 js) s.1.first))) s.3 (chains.sound s.0 s.1 s.2))
 
   -- joinable blocks are in one region
-  together : (b c : Ptr BasicBlock) → Joinable d t b c → (r : Ptr Region) (v : RegionView) → region_at old r ≡ Some v → Has b v.blocks → Has c v.blocks
+  together : (b c : Ptr BasicBlock) → Joinable d place t b c → (r : Ptr Region) (v : RegionView) → region_at old r ≡ Some v → Has b v.blocks → Has c v.blocks
   together b c joins r v there has =
       let f = known.found joins.last joins.stands in
       let in_list : blocks_in old r ≡ v.blocks = ap (λ o. unwrap_or (option_map (λ (x : RegionView). x.blocks) o) []) there in
@@ -281,7 +281,7 @@ module _ {O B A : Type 0} (d : Dialect (in_program O B) A) (old mid : Program O 
       let sc = known.edges.leaving joins.last.head.name c b r f.below (zero, ap (λ l. slice_get l zero) named) (subst (StandsInBlock old joins.last.head.name) joins.in_block f.in_block) sb in
       subst (Has c) in_list (at_has (blocks_in old r) sc.index c sc.here)
 
-  found : (b c : Ptr BasicBlock) (v : BlockView B) (ops : Tree by_handle (in_program O B) Operations) → Joinable d t b c → block_at old c ≡ Some v → AreTree old Operations v.operations ops
+  found : (b c : Ptr BasicBlock) (v : BlockView B) (ops : Tree by_handle (in_program O B) Operations) → Joinable d place t b c → block_at old c ≡ Some v → AreTree old Operations v.operations ops
       → (x : FoundBlock O B) × Has x (block_occurrences_of t) × (x.label.name ≡ c) × (x.operations ≡ ops)
   found b c v ops joins there tree =
       let f = known.blocks_found joins.target joins.target_stands in
@@ -335,14 +335,14 @@ module _ {O B A : Type 0} (d : Dialect (in_program O B) A) (old mid : Program O 
     }
 
     -- all in all
-    pub merges_blocks : StandsFor old op t → MergesBlocks d old new op t
+    pub merges_blocks : StandsFor old op t → MergesBlocks d place old new op t
     merges_blocks stands =
-        let tree = merged_tree d old new t (standing ss) IsLeft (held js) (is_taken js) merged together found is_first was_taken op root_left stands in
+        let tree = merged_tree d place old new t (standing ss) IsLeft (held js) (is_taken js) merged together found is_first was_taken op root_left stands in
         record {
-          after = record { head = t.head; regions = use_instead (standing ss) tree.0 };
+          after = record { head = use_head (standing ss) t.head; regions = use_instead (standing ss) tree.0 };
           joined = record {
             names = standing ss;
-            follows = λ v. followed d t ss v (λ s h. ins.follows s (has_at ss s h)) (ins.given v);
+            follows = λ v. followed d place t ss v (λ s h. ins.follows s (has_at ss s h)) (ins.given v);
             regions = tree.0;
             joins = tree.1;
             is = refl;
@@ -352,10 +352,10 @@ module _ {O B A : Type 0} (d : Dialect (in_program O B) A) (old mid : Program O 
         }
 
 -- where there is nothing to join, the program is merged as it is
-pub nothing_merged : {O B A : Type 0} (d : Dialect (in_program O B) A) (old : Program O B) (op : Ptr Operation) (t : ProgramTree O B) → IsKnown d old op t → (js : List Join) → AreChains d old t js → js ≡ [] → StandsFor old op t → MergesBlocks d old old op t
-nothing_merged d old op t known js chains none stands =
-    let empty : AreChains d old t [] = subst (AreChains d old t) none chains in
-    merges_blocks d old old op t known [] [] empty (record {
+pub nothing_merged : {O B A : Type 0} (d : Dialect (in_program O B) A) (place : Place by_handle) (old : Program O B) (op : Ptr Operation) (t : ProgramTree O B) → IsKnown d old op t → (js : List Join) → AreChains d place old t js → js ≡ [] → StandsFor old op t → MergesBlocks d place old old op t
+nothing_merged d place old op t known js chains none stands =
+    let empty : AreChains d place old t [] = subst (AreChains d place old t) none chains in
+    merges_blocks d place old old op t known [] [] empty (record {
       there = λ s h. absurd (none_listed h.0 s h.1);
       fixed = λ s u h g e. none_listed h.0 s h.1;
       follows = λ s h. absurd (none_listed h.0 s h.1);
@@ -364,12 +364,12 @@ nothing_merged d old op t known js chains none stands =
     }) (none_instead old) old (none_joined old) stands
 
 -- where there is no step, no blocks are joinable; where there is one, two are
-pub none_joinable : {O B A : Type 0} (d : Dialect (in_program O B) A) (c : Program O B) (t : ProgramTree O B) (js : List Join) → AreChains d c t js → js ≡ [] → (a b : Ptr BasicBlock) → Joinable d t a b → ⊥
-none_joinable d c t js chains none a b joins = let f : false ≡ true = (subst (AreChains d c t) none chains).all a b joins in cc
+pub none_joinable : {O B A : Type 0} (d : Dialect (in_program O B) A) (place : Place by_handle) (c : Program O B) (t : ProgramTree O B) (js : List Join) → AreChains d place c t js → js ≡ [] → (a b : Ptr BasicBlock) → Joinable d place t a b → ⊥
+none_joinable d place c t js chains none a b joins = let f : false ≡ true = (subst (AreChains d place c t) none chains).all a b joins in cc
 
-pub some_joinable : {O B A : Type 0} (d : Dialect (in_program O B) A) (c : Program O B) (t : ProgramTree O B) (js : List Join) → AreChains d c t js → (js ≡ [] → ⊥) → ((a b : Ptr BasicBlock) → Joinable d t a b → ⊥) → ⊥
-some_joinable d c t [] chains some none = some refl
-some_joinable d c t (j ∷ js) chains some none = none j.first j.block (chains.sound zero j refl)
+pub some_joinable : {O B A : Type 0} (d : Dialect (in_program O B) A) (place : Place by_handle) (c : Program O B) (t : ProgramTree O B) (js : List Join) → AreChains d place c t js → (js ≡ [] → ⊥) → ((a b : Ptr BasicBlock) → Joinable d place t a b → ⊥) → ⊥
+some_joinable d place c t [] chains some none = some refl
+some_joinable d place c t (j ∷ js) chains some none = none j.first j.block (chains.sound zero j refl)
 
 pub empty_list : {X : Type 0} (xs : List X) → length xs ≡ 0 → xs ≡ []
 empty_list [] e = refl

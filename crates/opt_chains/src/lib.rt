@@ -10,7 +10,7 @@ mod merge_plan;
 mod merge_values;
 mod merging;
 
-pub use chain_joins::find_joins;
+pub use chain_joins::joins_along;
 pub use merge_plan::apply_plan;
 pub use merge_values::StandIn;
 pub use merging::Join;

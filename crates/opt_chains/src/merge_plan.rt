@@ -1,9 +1,11 @@
 //! Joining all chains of blocks.
 ghost use Rattle.std.specs.Prelude.{◌≡◌, IsSome};
 ghost use Rattle.ir_program.specs.Program.{operation_at};
-ghost use Rattle.ir_trees.specs.Stands.{ProgramTree, StandsFor};
+ghost use Rattle.ir_trees.specs.Stands.{ProgramTree, StandsFor, by_handle};
 ghost use Rattle.opt_inside.specs.Edges.{HasLocalEdgesBelow};
-ghost use Rattle.opt_chains.specs.Chained.{IsPlan};
+ghost use Rattle.opt_reach.specs.Starts.{IsStartIn};
+ghost use Rattle.opt_trees.specs.Simplify.{Place};
+ghost use Rattle.opt_chains.specs.Chained.{Begins, IsPlan};
 ghost use Rattle.opt_chains.specs.Phases.{MergesBlocks};
 
 use crate::merge_values::{StandIn, replace_arguments};
@@ -13,20 +15,27 @@ use ir_program::{Operation, Ptr};
 use ir_trees::know_tree;
 use opt_dialect::Meanings;
 use opt_inside::know_occurrences;
+use opt_reach::Start;
 use std::alloc::Global;
 
 /// Joins all chains of blocks below an operation. No memory is asked for.
 pub fn apply_plan<D: Meanings, T: TypeTable>(
     alloc: Global,
     op: Ptr<Operation>,
+    _start: Start,
     ctx: &mut TypedProgram<D::Operation, D::Block, T>,
     stand_ins: &[StandIn],
     joins: &[Join],
 )
     requires live { IsSome (operation_at ctx.old.program op) }
     requires edges { HasLocalEdgesBelow D.meaning.is_terminator ctx.old.program op }
-    requires plan { (t : ProgramTree D.Operation D.Block) → StandsFor ctx.old.program op t → IsPlan D.meaning ctx.old.program op t joins.now stand_ins.now }
-    ensures merged { (t : ProgramTree D.Operation D.Block) → StandsFor ctx.old.program op t → MergesBlocks D.meaning ctx.old.program ctx.new.program op t }
+    requires begins { Begins ctx.old.program _start }
+    requires plan { (p : Place by_handle) → IsStartIn ctx.old.program _start p
+        → (t : ProgramTree D.Operation D.Block) → StandsFor ctx.old.program op t
+        → IsPlan D.meaning p ctx.old.program t joins.now stand_ins.now }
+    ensures merged { (p : Place by_handle) → IsStartIn ctx.old.program _start p
+        → (t : ProgramTree D.Operation D.Block) → StandsFor ctx.old.program op t
+        → MergesBlocks D.meaning p ctx.old.program ctx.new.program op t }
     ensures types { ctx.new.types ≡ ctx.old.types }
 {
     ctx.program().know_lists();

@@ -9,3 +9,4 @@ pub mod Added
 pub mod Among
 pub mod Ordered
 pub mod Counting
+pub mod Told

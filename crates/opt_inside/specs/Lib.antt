@@ -2,3 +2,4 @@ pub mod Occurring
 pub mod Numbered
 pub mod Edges
 pub mod Outside
+pub mod Around

@@ -1,13 +1,14 @@
-//! What is found below the root of the tree that an operation stands for.
+//! What is found below the root of the tree that an operation stands for, and what is taken outside it.
 ghost use Rattle.std.specs.Prelude.{IsSome};
 ghost use Rattle.ir_program.specs.Program.{operation_at};
 ghost use Rattle.ir_program.specs.declared.handles.BasicBlock.{BasicBlock};
 ghost use Rattle.ir_program.specs.declared.handles.Operation.{Operation};
 ghost use Rattle.ir_program.specs.declared.handles.Ptr.{Ptr};
 ghost use Rattle.opt_trees.specs.Occurrences.{OperationsApart};
+ghost use Rattle.opt_inside.specs.Around.{CanTellTaken};
 ghost use Rattle.opt_inside.specs.Occurring.{BlocksApart, DefinesAllBelow, EachBlock, EachFound, IsBelowRoot, IsBlockBelow, IsBlockFound, IsBlockOccurrence, IsFound, IsNestedIn, IsOccurrence, IsSiteOf, OfItsTree, OperationsFound, RegionsTogether};
 
-use ir_program::{Operation, Program, Ptr};
+use ir_program::{IRNode, Operation, Program, Ptr};
 use ir_trees::know_handles;
 
 /// Tells what is found below the root of the tree that an operation stands for: the operations and blocks inside it, each
@@ -29,4 +30,12 @@ pub fn know_occurrences<O, B>(program: &Program<O, B>, op: Ptr<Operation>)
 {
     program.know_lists();
     know_handles(program, op);
+}
+
+/// Tells which values are taken by operations that aren't inside an operation. It does nothing.
+pub fn know_taken<O, B>(program: &Program<O, B>, op: Ptr<Operation>)
+    requires { IsSome (operation_at program.now op) }
+    ensures { CanTellTaken program.now op }
+{
+    let _inside = program.nodes_inside(IRNode::Operation(op));
 }

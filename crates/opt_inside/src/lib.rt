@@ -4,5 +4,5 @@
 mod laws;
 mod numbering;
 
-pub use laws::know_occurrences;
+pub use laws::{know_occurrences, know_taken};
 pub use numbering::{Inside, number_inside};

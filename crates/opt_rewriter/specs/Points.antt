@@ -2,7 +2,7 @@
 use Rattle.std.specs.Prelude.{◌≡◌, IsSome}
 use Rattle.ir_program.specs.ListEdits.{PutsOperationAfter, PutsOperationBefore, PutsOperationFirst, PutsOperationLast}
 use Rattle.ir_program.specs.Lists.{IsLinkedOperation, StandsInside}
-use Rattle.ir_program.specs.Program.{Program, block_at}
+use Rattle.ir_program.specs.Program.{Program, block_at, operation_at}
 use Rattle.ir_program.specs.declared.handles.IRNode.{IRNode}
 use Rattle.ir_program.specs.declared.handles.IRNode.TheVariants.{Operation as OperationNode, BasicBlock as BlockNode}
 use Rattle.ir_program.specs.declared.handles.Ptr.{Ptr}
@@ -27,6 +27,14 @@ module _ {O B : Type 0} where
   IsIn c x (BeforeOperation p) = StandsInside c x (OperationNode p)
   IsIn c x (AfterOperation p) = StandsInside c x (OperationNode p)
 
+  -- the place's block or operation is there no more
+  abbrev pub IsErasedPoint : Program O B → OpInsertionPoint → Type 0
+  IsErasedPoint c Unset = ⊥
+  IsErasedPoint c (AtBlockStart b) = IsSome (block_at c b) → ⊥
+  IsErasedPoint c (AtBlockEnd b) = IsSome (block_at c b) → ⊥
+  IsErasedPoint c (BeforeOperation p) = IsSome (operation_at c p) → ⊥
+  IsErasedPoint c (AfterOperation p) = IsSome (operation_at c p) → ⊥
+
   -- the operation is put at the place
   abbrev pub PutsAt : Program O B → Program O B → OpInsertionPoint → Ptr Operation → Type 0
   PutsAt old new Unset op = ⊥
@@ -39,3 +47,8 @@ module _ {O B : Type 0} where
   pub record LeavesPoint (c : Program O B) (x : IRNode) (old new : OpInsertionPoint) : Type 0 where
     pub lost : IsIn c x old → new ≡ Unset
     pub kept : (IsIn c x old → ⊥) → new ≡ old
+
+  -- what a point becomes where entities were erased: it stays, but where its block or operation is gone
+  pub record LeavesErased (c : Program O B) (old new : OpInsertionPoint) : Type 0 where
+    pub lost : IsErasedPoint c old → new ≡ Unset
+    pub kept : (IsErasedPoint c old → ⊥) → new ≡ old

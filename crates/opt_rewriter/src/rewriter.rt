@@ -7,7 +7,7 @@ ghost use Rattle.ir_program.specs.Lists.{IsLinkedOperation, IsLiveNode, IsUnlink
 ghost use Rattle.ir_program.specs.Program.{Program, block_at, operation_at, IsLiveValue};
 ghost use Rattle.ir_program.specs.UseEdits.{ReplacesValue};
 ghost use Rattle.ir_program.specs.declared.handles.IRNode.TheVariants.{Operation as OperationNode, BasicBlock as BlockNode};
-ghost use Rattle.opt_rewriter.specs.Points.{IsIn, IsPlace, LeavesPoint, PutsAt};
+ghost use Rattle.opt_rewriter.specs.Points.{IsErasedPoint, IsIn, IsPlace, LeavesErased, LeavesPoint, PutsAt};
 ghost use Rattle.opt_rewriter.specs.declared.point.OpInsertionPoint.TheVariants as point;
 
 use crate::point::OpInsertionPoint;
@@ -63,6 +63,21 @@ fn is_in<O, B, T: TypeTable>(
         }
         OpInsertionPoint::BeforeOperation(op) | OpInsertionPoint::AfterOperation(op) => {
             op.is_live(ctx) && ctx.is_inside(IRNode::Operation(op), outer)
+        }
+    }
+}
+
+/// Whether the place's block or operation is there no more.
+fn is_erased<O, B, T: TypeTable>(ctx: &TypedProgram<O, B, T>, point: OpInsertionPoint) -> bool
+    ensures { IsTrue result ↔ IsErasedPoint ctx.now.program point }
+{
+    match point {
+        OpInsertionPoint::Unset => false,
+        OpInsertionPoint::AtBlockStart(block) | OpInsertionPoint::AtBlockEnd(block) => {
+            !block.is_live(ctx)
+        }
+        OpInsertionPoint::BeforeOperation(op) | OpInsertionPoint::AfterOperation(op) => {
+            !op.is_live(ctx)
         }
     }
 }
@@ -216,5 +231,14 @@ impl Rewriter {
     {
         self.leave(ctx, IRNode::BasicBlock(block));
         block.erase(ctx);
+    }
+
+    /// Unsets the point where its block or operation has been erased.
+    pub fn leave_erased<O, B, T: TypeTable>(&mut self, ctx: &TypedProgram<O, B, T>)
+        ensures point { LeavesErased ctx.now.program self.old.point self.new.point }
+    {
+        if is_erased(ctx, self.point) {
+            self.point = OpInsertionPoint::Unset;
+        }
     }
 }

@@ -1,5 +1,5 @@
 -- Blocks that are unreached stand in no other, and edges to them start in them.
-use Rattle.std.proofs.Common.{◌≡◌, ⊎_elim, ℕ, Bool, true, false, [], ◌∷◌, Some, IsSome, is_some, slice_get, option_map, unwrap_or, refl, sym, ap, ◌∙◌, subst}
+use Rattle.std.proofs.Common.{◌≡◌, ◌⊎◌, inl, inr, ⊎_elim, ℕ, Bool, true, false, [], ◌∷◌, Some, IsSome, is_some, slice_get, option_map, unwrap_or, refl, sym, ap, ◌∙◌, subst}
 use Rattle.std.specs.Prelude.{◌↔◌}
 use Rattle.ir_program.specs.Lists.{StandsInRegion, StandsInside, itself, in_block, in_region, IsLiveNode}
 use Rattle.ir_program.specs.Program.{Program, OperationView, block_at}
@@ -14,27 +14,26 @@ use Rattle.ir_trees.specs.Searched.{Lists}
 use Rattle.ir_trees.specs.Stands.{by_handle, in_program, ProgramTree}
 use Rattle.opt_trees.specs.Dialect.{Dialect}
 use Rattle.opt_trees.specs.Occurrences.{Has, Spot, occurrences_of, block_occurrences_of}
-use Rattle.opt_trees.specs.Simplify.{IsReached, further, IsVisited, of_root, of_inner, IsVisitedSsa, IsUnreached}
+use Rattle.opt_trees.specs.Simplify.{Place, BeginsAt, IsReached, further, IsVisited, of_place, of_inner, IsVisitedSsa, IsUnreached}
 use Rattle.opt_inside.specs.Edges.{HasLocalEdgesBelow}
 use Rattle.opt_inside.specs.Numbered.{Numbers, NumbersInside}
 use Rattle.opt_inside.specs.Occurring.{Found, FoundBlock, AreBeside, IsBlockBelow}
 use Rattle.opt_inside.proofs.Around.{HasLists, inside_both, around_block}
-use Rattle.opt_simplify.specs.Unreached.{IsEnteredThere}
+use Rattle.opt_reach.specs.Fates.{IsEnteredThere}
+use Rattle.opt_reach.specs.Starts.{IsStartIn}
+use Rattle.opt_reach.specs.declared.starts.Start.{Start}
+use Rattle.opt_simplify.proofs.RemovedStarts.{around_owner, block_below_start, starts_apart}
 use Rattle.opt_simplify.specs.Removed.{IsWithin, ArePickedApart, NamesWithin, TakesWithin}
-use Rattle.opt_simplify.proofs.UnreachedMembers.{lists_has}
-use Rattle.opt_simplify.proofs.UnreachedOccurs.{Occurs, not_the_root}
-use Rattle.opt_simplify.proofs.UnreachedFates.{spot_entered, not_both}
+use Rattle.opt_reach.proofs.Members.{lists_has}
+use Rattle.opt_reach.proofs.Occurs.{Occurs, not_the_root}
+use Rattle.opt_reach.proofs.Judged.{spot_entered, not_both}
 
-module _ {O B A : Type 0} (d : Dialect (in_program O B) A) (c : Program O B) (lists : HasLists c) (op : Ptr Operation) (n : Numbers) (numbered : NumbersInside c op n) (t : ProgramTree O B) (occurs : Occurs c op t) where
-  -- each block around a visited region is entered
-  around_entered : (q : Ptr Operation) (i : ℕ) → IsVisited d t q i → (x : FoundBlock O B) → Has x (block_occurrences_of t) → x.spot.owner.name ≡ q → (a : Ptr BasicBlock) → Has a x.spot.within
-      → (y : FoundBlock O B) × Has y (block_occurrences_of t) × (y.label.name ≡ a) × IsEnteredThere d t y
-  around_entered _ _ (of_root i) x has name a m = ⊎_elim
-      (λ (r : (x.spot.owner ≡ t.head) × (x.spot.around ≡ []) × (x.spot.within ≡ [])). let none : Has a [] = subst (Has a) r.2 m in absurd none)
-      (λ (r : (p : Found O B) × Has p (occurrences_of t) × (x.spot.owner ≡ p.head) × (x.spot.around ≡ p.head.name ∷ p.site.spot.around) × (x.spot.within ≡ p.site.label.name ∷ p.site.spot.within)).
-      absurd (not_the_root c lists op t occurs r.0 r.1 (sym (ap (λ (g : Head by_handle (in_program O B)). g.name) r.2) ∙ name)))
-      (occurs.nested x has)
-  around_entered _ _ (of_inner o i o_has visited entered) x has name a m = ⊎_elim
+module _ {O B A : Type 0} (d : Dialect (in_program O B) A) (place : Place by_handle) (c : Program O B) (lists : HasLists c) (op : Ptr Operation) (n : Numbers) (numbered : NumbersInside c op n) (t : ProgramTree O B) (occurs : Occurs c op t) where
+  -- each block around a visited region is entered, or is around an operation where looking begins
+  around_entered : (q : Ptr Operation) (i : ℕ) → IsVisited d place t q i → (x : FoundBlock O B) → Has x (block_occurrences_of t) → x.spot.owner.name ≡ q → x.spot.region ≡ i → (a : Ptr BasicBlock) → Has a x.spot.within
+      → ((y : FoundBlock O B) × Has y (block_occurrences_of t) × (y.label.name ≡ a) × IsEnteredThere d place t y) ⊎ ((b : Ptr Operation) × (k : ℕ) × BeginsAt place b k × StandsInside c (BlockNode a) (OperationNode b))
+  around_entered _ _ (of_place q i begins) x has name index a m = inr (q, i, begins, subst (λ b. StandsInside c (BlockNode a) (OperationNode b)) name (around_owner c lists op t occurs x has a m))
+  around_entered _ _ (of_inner o i o_has visited entered) x has name index a m = ⊎_elim
       (λ (r : (x.spot.owner ≡ t.head) × (x.spot.around ≡ []) × (x.spot.within ≡ [])). absurd (not_the_root c lists op t occurs o o_has (sym name ∙ ap (λ (g : Head by_handle (in_program O B)). g.name) r.0)))
       (λ (r : (p : Found O B) × Has p (occurrences_of t) × (x.spot.owner ≡ p.head) × (x.spot.around ≡ p.head.name ∷ p.site.spot.around) × (x.spot.within ≡ p.site.label.name ∷ p.site.spot.within)).
       let same : r.0 ≡ o = occurs.one r.0 o r.1 o_has (sym (ap (λ (g : Head by_handle (in_program O B)). g.name) r.2) ∙ name) in
@@ -42,13 +41,13 @@ module _ {O B A : Type 0} (d : Dialect (in_program O B) A) (c : Program O B) (li
       let site = occurs.site o o_has in
       ⊎_elim
       (λ (e : a ≡ o.site.label.name).
-      (site.block, site.found, ap (λ (l : Label by_handle (in_program O B)). l.name) site.label ∙ sym e, spot_entered d c lists op n numbered t occurs site.block o.site.label o.site.spot site.label site.spot visited entered))
+      inl (site.block, site.found, ap (λ (l : Label by_handle (in_program O B)). l.name) site.label ∙ sym e, spot_entered d place c lists op n numbered t occurs site.block o.site.label o.site.spot site.label site.spot visited entered))
       (λ (w : Has a o.site.spot.within).
-      around_entered o.site.spot.owner.name o.site.spot.region visited site.block site.found (ap (λ (s : Spot by_handle (in_program O B)). s.owner.name) site.spot) a (subst (λ (s : Spot by_handle (in_program O B)). Has a s.within) (sym site.spot) w))
+      around_entered o.site.spot.owner.name o.site.spot.region visited site.block site.found (ap (λ (s : Spot by_handle (in_program O B)). s.owner.name) site.spot) (ap (λ (s : Spot by_handle (in_program O B)). s.region) site.spot) a (subst (λ (s : Spot by_handle (in_program O B)). Has a s.within) (sym site.spot) w))
       around)
       (occurs.nested x has)
 
-  module _ (picks : Ptr BasicBlock → Bool) (unreached : (b : Ptr BasicBlock) → (picks b ≡ true) ↔ IsUnreached d t b) where
+  module _ (picks : Ptr BasicBlock → Bool) (unreached : (b : Ptr BasicBlock) → (picks b ≡ true) ↔ IsUnreached d place t b) where
     pub picked_below : (b : Ptr BasicBlock) → picks b ≡ true → IsBlockBelow c op b
     picked_below b h = let u = (unreached b).0 h in subst (IsBlockBelow c op) u.name (occurs.blocks_sound u.it u.stands).below
 
@@ -57,17 +56,22 @@ module _ {O B A : Type 0} (d : Dialect (in_program O B) A) (c : Program O B) (li
         let u = (unreached b).0 h in
         subst (λ x. IsSome (block_at c x)) u.name (ap is_some (occurs.blocks_sound u.it u.stands).there)
 
-    pub picked_apart : ArePickedApart c picks
-    picked_apart a b pa pb inside = ⊎_elim
+    pub picked_apart : (start : Start) → IsStartIn c start place → ArePickedApart c picks
+    picked_apart start is_start a b pa pb inside = ⊎_elim
         (λ e. e)
         (λ ne.
         let ua = (unreached a).0 pa in
         let ub = (unreached b).0 pb in
         let spot = (occurs.blocks_sound ub.it ub.stands).spot in
         let m : Has a ub.it.spot.within = (spot.within a).1 (picked_below a pa, λ e. ne (e ∙ ub.name), subst (λ x. StandsInside c (BlockNode a) (BlockNode x)) (sym ub.name) inside) in
-        let y = around_entered ub.it.spot.owner.name ub.it.spot.region ub.visited.visited ub.it ub.stands refl a m in
+        ⊎_elim
+        (λ (y : (y : FoundBlock O B) × Has y (block_occurrences_of t) × (y.label.name ≡ a) × IsEnteredThere d place t y).
         let same : y.0 ≡ ua.it = occurs.blocks_one y.0 ua.it y.1 ua.stands (y.2 ∙ sym ua.name) in
-        absurd (not_both d c lists op n numbered t occurs ua.it (subst (IsEnteredThere d t) same y.3) (ua.visited, λ r. ua.unreached (subst (IsReached t) ua.name r))))
+        absurd (not_both d place c lists op n numbered t occurs ua.it (subst (IsEnteredThere d place t) same y.3) (ua.visited, λ r. ua.unreached (subst (IsReached t) ua.name r))))
+        (λ (h : (q : Ptr Operation) × (k : ℕ) × BeginsAt place q k × StandsInside c (BlockNode a) (OperationNode q)).
+        let g = block_below_start c lists op t occurs d place ua.it ua.stands ua.visited.visited in
+        absurd (starts_apart c lists place start is_start h.0 g.0 h.1 g.1 h.2 g.2 a (subst (λ x. StandsInside c (OperationNode g.0) (BlockNode x)) ua.name g.3) h.3))
+        (around_entered ub.it.spot.owner.name ub.it.spot.region ub.visited.visited ub.it ub.stands refl refl a m))
         (same_or_not a b)
 
     module _ (is_terminator : O → Bool) (edges : HasLocalEdgesBelow is_terminator c op) where
@@ -82,8 +86,8 @@ module _ {O B A : Type 0} (d : Dialect (in_program O B) A) (c : Program O B) (li
           let name : site.block.label.name ≡ o.site.label.name = ap (λ (m : Label by_handle (in_program O B)). m.name) site.label in
           let beside : AreBeside u.it.spot site.block.spot = occurs.beside u.it site.block u.stands site.found is.spot.region
           (subst (λ x. StandsInRegion c x is.spot.region) (sym u.name) in_r) (subst (λ x. StandsInRegion c x is.spot.region) (sym name) is.spot.in_region) in
-          let visited : IsVisitedSsa d t site.block.spot = record {
-            visited = subst (IsVisited d t site.block.spot.owner.name) beside.region (subst (λ (g : Head by_handle (in_program O B)). IsVisited d t g.name u.it.spot.region) beside.owner u.visited.visited);
+          let visited : IsVisitedSsa d place t site.block.spot = record {
+            visited = subst (IsVisited d place t site.block.spot.owner.name) beside.region (subst (λ (g : Head by_handle (in_program O B)). IsVisited d place t g.name u.it.spot.region) beside.owner u.visited.visited);
             ssa = (λ i. d.is_ssa (sym beside.owner i).content (sym beside.region i)) ∙ u.visited.ssa;
           } in
           let goes : picks o.site.label.name ≡ true = (unreached o.site.label.name).1 (record {

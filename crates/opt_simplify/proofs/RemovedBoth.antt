@@ -1,5 +1,5 @@
 -- Taking uses away, and then erasing.
-use Rattle.std.proofs.Common.{◌≡◌, ⊎_elim, ℕ, Bool, [], Option, Some, None, option_map, unwrap_or, slice_get, ap, ◌∙◌, subst}
+use Rattle.std.proofs.Common.{◌≡◌, ⊎_elim, ℕ, Bool, true, [], Option, Some, None, option_map, unwrap_or, slice_get, ap, ◌∙◌, subst}
 use Rattle.std.proofs.lemmas.Option.{none-some}
 use Rattle.ir_program.specs.Drops.{without_uses}
 use Rattle.ir_program.specs.Erased.{definer_node}
@@ -11,7 +11,7 @@ use Rattle.ir_program.specs.declared.handles.IRNode.TheVariants.{Operation as Op
 use Rattle.ir_program.specs.declared.handles.Ptr.{Ptr}
 use Rattle.ir_program.specs.declared.handles.BasicBlock.{BasicBlock}
 use Rattle.ir_program.specs.declared.handles.Value.{Value}
-use Rattle.opt_simplify.specs.Removed.{without, IsWithin, ArePickedApart, DropsPicked, ErasesPicked, NamesNone, NamesWithin, LosesBlocks}
+use Rattle.opt_simplify.specs.Removed.{without, IsWithin, ArePickedApart, DropsPicked, ErasesPicked, NamesNone, NamesWithin}
 use Rattle.opt_simplify.proofs.RemovedDropped.{KeepsPlaces, drops_kept, kept_back, inside_kept, within_kept}
 
 module _ {O B : Type 0} (old mid : Program O B) (picks : Ptr BasicBlock → Bool) (drops : DropsPicked old mid picks) where
@@ -53,8 +53,10 @@ module _ {O B : Type 0} (old mid : Program O B) (picks : Ptr BasicBlock → Bool
         (drops.either p);
   }
 
-  pub both_lose : (new : Program O B) → ErasesPicked mid new picks → LosesBlocks old new picks
-  both_lose new erases = record {
+  pub both_erase : ((b : Ptr BasicBlock) → picks b ≡ true → IsLiveNode old (BlockNode b)) → (new : Program O B) → ErasesPicked mid new picks → ErasesPicked old new picks
+  both_erase there new erases = record {
+    there = there;
+    decided = λ e live. erases.decided e (live_kept e live);
     operations = λ p out. erases.operations p (λ h. out (was_within (OperationNode p) h)) ∙ drops.outside p out;
     blocks = λ b out. erases.blocks b (λ h. out (was_within (BlockNode b) h)) ∙ drops.blocks b;
     regions = λ r out. erases.regions r (λ h. out (was_within (RegionNode r) h)) ∙ ap (option_map (λ (v : RegionView). record v { blocks = without picks v.blocks })) (drops.regions r);

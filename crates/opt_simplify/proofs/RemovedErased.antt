@@ -91,14 +91,14 @@ left_out a (p ∷ ps) (suc k) once h =
     rw (block_no p a (λ e. once.0 (subst (λ x. Has x ps) (sym e) (at_has ps k a h)))) (ap (λ l. p ∷ l) (left_out a ps k once.1 h))
 
 -- members of a list without those that are picked
-was_there : (picks : Ptr BasicBlock → Bool) (ps : List (Ptr BasicBlock)) (p : Ptr BasicBlock) → Has p (without picks ps) → Has p ps
+pub was_there : (picks : Ptr BasicBlock → Bool) (ps : List (Ptr BasicBlock)) (p : Ptr BasicBlock) → Has p (without picks ps) → Has p ps
 was_there picks [] p h = h
 was_there picks (q ∷ ps) p h = by_case (picks q) (was_there picks ps p) h where
   by_case : (b : Bool) → (Has p (without picks ps) → Has p ps) → Has p (if b then without picks ps else q ∷ without picks ps) → Has p (q ∷ ps)
   by_case true ih h = inr (ih h)
   by_case false ih h = ⊎_elim (λ e. inl e) (λ r. inr (ih r)) h
 
-is_left : (picks : Ptr BasicBlock → Bool) (ps : List (Ptr BasicBlock)) (p : Ptr BasicBlock) → picks p ≡ false → Has p ps → Has p (without picks ps)
+pub is_left : (picks : Ptr BasicBlock → Bool) (ps : List (Ptr BasicBlock)) (p : Ptr BasicBlock) → picks p ≡ false → Has p ps → Has p (without picks ps)
 is_left picks [] p out h = h
 is_left picks (q ∷ ps) p out h = by_case (picks q) refl (is_left picks ps p out) h where
   by_case : (b : Bool) → picks q ≡ b → (Has p ps → Has p (without picks ps)) → Has p (q ∷ ps) → Has p (if b then without picks ps else q ∷ without picks ps)
@@ -143,7 +143,7 @@ module _ {O B : Type 0} where
     pub live_outside : (e : IRNode) → IsLiveNode mid e → IsWithin old picks e → ⊥
     live_outside e live h = no_longer mid e (done.gone e (was_live e h) h) live
 
-    still_live : (e : IRNode) → (IsWithin old picks e → ⊥) → IsLiveNode old e → IsLiveNode mid e
+    pub still_live : (e : IRNode) → (IsWithin old picks e → ⊥) → IsLiveNode old e → IsLiveNode mid e
     still_live (OperationNode p) out live = subst IsSome (sym (done.operations p out)) live
     still_live (BlockNode b) out live = subst IsSome (sym (done.blocks b out)) live
     still_live (RegionNode r) out live = subst IsSome (sym (done.regions r out)) (mapped (region_at old r) live) where
@@ -152,20 +152,20 @@ module _ {O B : Type 0} where
       mapped (Some v) h = h
 
     -- what the lists of what is left were
-    blocks_were : (r : Ptr Region) → (IsWithin old picks (RegionNode r) → ⊥) → blocks_in mid r ≡ without picks (blocks_in old r)
+    pub blocks_were : (r : Ptr Region) → (IsWithin old picks (RegionNode r) → ⊥) → blocks_in mid r ≡ without picks (blocks_in old r)
     blocks_were r out = ap (λ o. unwrap_or (option_map (λ (v : RegionView). v.blocks) o) []) (done.regions r out) ∙ listed (region_at old r) where
       listed : (o : Option RegionView) → unwrap_or (option_map (λ (v : RegionView). v.blocks) (option_map (λ (v : RegionView). record v { blocks = without picks v.blocks }) o)) [] ≡ without picks (unwrap_or (option_map (λ (v : RegionView). v.blocks) o) [])
       listed None = refl
       listed (Some v) = refl
 
-    operations_were : (b : Ptr BasicBlock) → (IsWithin old picks (BlockNode b) → ⊥) → operations_in mid b ≡ operations_in old b
+    pub operations_were : (b : Ptr BasicBlock) → (IsWithin old picks (BlockNode b) → ⊥) → operations_in mid b ≡ operations_in old b
     operations_were b out = ap (λ o. unwrap_or (option_map (λ (v : BlockView B). v.operations) o) []) (done.blocks b out)
 
     regions_were : (p : Ptr Operation) → (IsWithin old picks (OperationNode p) → ⊥) → regions_in mid p ≡ regions_in old p
     regions_were p out = ap (λ o. unwrap_or (option_map (λ (v : OperationView O). v.regions) o) []) (done.operations p out)
 
     -- so what is inside something was inside it
-    was_inside : (x e : IRNode) → StandsInside mid x e → StandsInside old x e
+    pub was_inside : (x e : IRNode) → StandsInside mid x e → StandsInside old x e
     was_inside x _ itself = itself
     was_inside x _ (in_block p b s i) =
         let out = live_outside (BlockNode b) s.block in
@@ -179,7 +179,7 @@ module _ {O B : Type 0} where
         in_operation r p (lists.regions p s.index r (ap (λ ps. slice_get ps s.index) (sym (regions_were p out)) ∙ s.here)) (was_inside x (OperationNode p) i)
 
     -- and what was inside something, and is left, is inside it
-    is_inside : (x e : IRNode) → (IsWithin old picks e → ⊥) → StandsInside old x e → StandsInside mid x e
+    pub is_inside : (x e : IRNode) → (IsWithin old picks e → ⊥) → StandsInside old x e → StandsInside mid x e
     is_inside x _ out itself = itself
     is_inside x _ out (in_block p b s i) =
         let above : IsWithin old picks (BlockNode b) → ⊥ = λ h. out (h.0, h.1, in_block p b s h.2) in

@@ -14,11 +14,11 @@ use Rattle.ir_program.specs.declared.handles.Operation.{Operation}
 use Rattle.ir_program.specs.declared.handles.BasicBlock.{BasicBlock}
 use Rattle.ir_program.specs.declared.handles.Value.{Value}
 use Rattle.ir_trees.specs.Searched.{Lists, AreDistinct}
-use Rattle.ir_trees.specs.Stands.{in_program, ProgramTree, StandsFor}
+use Rattle.ir_trees.specs.Stands.{by_handle, in_program, ProgramTree, StandsFor}
 use Rattle.ir_trees.proofs.Members.{has_at, at_has}
 use Rattle.opt_trees.specs.Dialect.{Dialect}
 use Rattle.opt_trees.specs.Occurrences.{Has}
-use Rattle.opt_trees.specs.Simplify.{IsUnreached}
+use Rattle.opt_trees.specs.Simplify.{Place, IsUnreached}
 use Rattle.opt_inside.specs.Edges.{HasLocalEdgesBelow}
 use Rattle.opt_inside.specs.Numbered.{Numbers, NumbersInside, values_in}
 use Rattle.opt_inside.specs.Occurring.{IsBlockBelow}
@@ -27,29 +27,31 @@ use Rattle.opt_inside.proofs.Among.{results_are, arguments_are}
 use Rattle.opt_inside.proofs.Around.{HasLists, inside_both, is_root}
 use Rattle.opt_simplify.specs.Refusals.{AreUnreached}
 use Rattle.opt_simplify.specs.Removed.{is_listed, IsWithin}
-use Rattle.opt_simplify.specs.Unreached.{HasReachTest}
+use Rattle.opt_reach.specs.Fates.{HasReachTest}
+use Rattle.opt_reach.specs.Starts.{IsStartIn}
+use Rattle.opt_reach.specs.declared.starts.Start.{Start}
 use Rattle.opt_simplify.proofs.RemovedAmong.{among_has, has_among}
 use Rattle.opt_simplify.proofs.RemovedApart.{picked_below, picked_there, picked_apart, edges_within}
-use Rattle.opt_simplify.proofs.UnreachedOccurs.{Occurs}
+use Rattle.opt_reach.proofs.Occurs.{Occurs}
 
 module _ {O B A : Type 0} (d : Dialect (in_program O B) A) (c : Program O B) (lists : HasLists c) (op : Ptr Operation) (edges : HasLocalEdgesBelow d.is_terminator c op) (n : Numbers) (numbered : NumbersInside c op n)
-    (t : ProgramTree O B) (stands : StandsFor c op t) (occurs : (u : ProgramTree O B) → StandsFor c op u → Occurs c op u) (row : List (Ptr BasicBlock))
-    (unreached : (u : ProgramTree O B) → StandsFor c op u → (b : Ptr BasicBlock) → Lists row b ↔ IsUnreached d u b) where
-  listed : (u : ProgramTree O B) → StandsFor c op u → (b : Ptr BasicBlock) → (is_listed row b ≡ true) ↔ IsUnreached d u b
-  listed u s b = (
-    λ h. (unreached u s b).0 (has_at row b (among_has row b h)),
-    λ h. let l = (unreached u s b).1 h in has_among row b (at_has row l.0 b l.1),
+    (start : Start) (place : Place by_handle) (is_start : IsStartIn c start place) (t : ProgramTree O B) (stands : StandsFor c op t) (occurs : (u : ProgramTree O B) → StandsFor c op u → Occurs c op u) (row : List (Ptr BasicBlock))
+    (unreached : (p : Place by_handle) → IsStartIn c start p → (u : ProgramTree O B) → StandsFor c op u → (b : Ptr BasicBlock) → Lists row b ↔ IsUnreached d p u b) where
+  listed : (p : Place by_handle) → IsStartIn c start p → (u : ProgramTree O B) → StandsFor c op u → (b : Ptr BasicBlock) → (is_listed row b ≡ true) ↔ IsUnreached d p u b
+  listed p is u s b = (
+    λ h. (unreached p is u s b).0 (has_at row b (among_has row b h)),
+    λ h. let l = (unreached p is u s b).1 h in has_among row b (at_has row l.0 b l.1),
   )
 
-  pub are_unreached : AreDistinct row → ((u : ProgramTree O B) → StandsFor c op u → HasReachTest u) → AreUnreached d c op row
+  pub are_unreached : AreDistinct row → ((u : ProgramTree O B) → StandsFor c op u → HasReachTest u) → AreUnreached d c op start row
   are_unreached once reached = record {
     unreached = listed;
     reached = reached;
     once = once;
-    there = picked_there d c lists op n numbered t (occurs t stands) (is_listed row) (listed t stands);
-    below = picked_below d c lists op n numbered t (occurs t stands) (is_listed row) (listed t stands);
-    apart = picked_apart d c lists op n numbered t (occurs t stands) (is_listed row) (listed t stands);
-    edges = edges_within d c lists op n numbered t (occurs t stands) (is_listed row) (listed t stands) d.is_terminator edges;
+    there = picked_there d place c lists op n numbered t (occurs t stands) (is_listed row) (listed place is_start t stands);
+    below = picked_below d place c lists op n numbered t (occurs t stands) (is_listed row) (listed place is_start t stands);
+    apart = picked_apart d place c lists op n numbered t (occurs t stands) (is_listed row) (listed place is_start t stands) start is_start;
+    edges = edges_within d place c lists op n numbered t (occurs t stands) (is_listed row) (listed place is_start t stands) d.is_terminator edges;
   }
 
 something : {X : Type 0} (o : Option X) → IsSome o → (x : X) × (o ≡ Some x)

@@ -8,7 +8,7 @@ use Rattle.ir_trees.proofs.Members.{has_front, has_back, has_either}
 use Rattle.opt_trees.specs.Occurrences.{Has, Site, Spot, Occurrence, BlockOccurrence, Inside, inner, next_block, next_region, occurrences_in, block_occurrences_in, occurrences_of, block_occurrences_of, at_root, defined_in}
 use Rattle.opt_trees.specs.Simplify.{keep}
 use Rattle.opt_simplify.proofs.RemovedValues.{defined_by_found, result_defined, argument_defined}
-use Rattle.opt_simplify.proofs.UnreachedOrder.{Around}
+use Rattle.opt_reach.proofs.Order.{Around}
 
 -- none of the list goes
 abbrev pub Clear : {X : Type 0} → (X → Bool) → List X → Type 0

@@ -22,20 +22,20 @@ use Rattle.ir_trees.proofs.Members.{has_at, at_has}
 use Rattle.opt_trees.specs.Dialect.{Dialect}
 use Rattle.opt_trees.specs.Dce.{Around}
 use Rattle.opt_trees.specs.Occurrences.{Has, occurrences_of, block_occurrences_of, defined_in, at_root}
-use Rattle.opt_trees.specs.Simplify.{IsUnreached, IsCut, LosesUse, IsUsedBelow}
+use Rattle.opt_trees.specs.Simplify.{Place, IsUnreached, IsCut, LosesUse, IsUsedBelow}
 use Rattle.opt_inside.specs.Numbered.{Numbers, NumbersInside, values_in}
 use Rattle.opt_inside.specs.Occurring.{Found, FoundBlock, IsBlockBelow, IsDefinedBelow}
 use Rattle.opt_inside.proofs.Added.{HasValues, at_value}
 use Rattle.opt_inside.proofs.Among.{results_are, arguments_are}
 use Rattle.opt_inside.proofs.Around.{HasLists, inside_both, around_operation, is_root}
-use Rattle.opt_simplify.specs.Phases.{SaysAround}
-use Rattle.opt_simplify.specs.Unreached.{HasReachTest}
+use Rattle.opt_inside.specs.Around.{SaysAround}
+use Rattle.opt_reach.specs.Fates.{HasReachTest}
 use Rattle.opt_simplify.specs.Removed.{IsWithin, TakesWithin, IsTakenOutside}
 use Rattle.opt_simplify.proofs.RemovedFound.{live_numbered}
 use Rattle.opt_simplify.proofs.RemovedKept.{Clear, over, over_block, cut_root, operation_kept, operation_was, result_kept, argument_kept, defined_clear}
 use Rattle.opt_simplify.proofs.RemovedPicking.{not_true}
 use Rattle.opt_simplify.proofs.RemovedValues.{defined_by_found}
-use Rattle.opt_simplify.proofs.UnreachedOccurs.{Occurs}
+use Rattle.opt_reach.proofs.Occurs.{Occurs}
 
 same_truth : (a b : Bool) → (a ≡ true → b ≡ true) → (b ≡ true → a ≡ true) → a ≡ b
 same_truth true b f g = sym (f refl)
@@ -170,8 +170,8 @@ module _ {O B : Type 0} (c : Program O B) (lists : HasLists c) (op : Ptr Operati
         more)
         named
 
-    pub loses_none : ((b : Ptr BasicBlock) → (picks b ≡ true) ↔ IsUnreached d t b) → TakesWithin c picks → (after : ProgramTree O B) → IsCut d t after → LosesUse w t after → ⊥
-    loses_none exact takes after cut loses =
+    pub loses_none : (place : Place by_handle) → ((b : Ptr BasicBlock) → (picks b ≡ true) ↔ IsUnreached d place t b) → TakesWithin c picks → (after : ProgramTree O B) → IsCut d place t after → LosesUse w t after → ⊥
+    loses_none place exact takes after cut loses =
         let same : cut.gone ≡ picks = λ i b. same_truth (cut.gone b) (picks b) (λ h. (exact b).1 (cut.there b h)) (λ h. cut.all b ((exact b).0 h)) i in
         let is : after ≡ cut_root picks t = cut.is ∙ ap (λ g. cut_root g t) same in
         let here : LosesUse w t (cut_root picks t) = subst (λ (a : Root by_handle (in_program O B)). LosesUse w t a) is loses in
@@ -179,8 +179,8 @@ module _ {O B : Type 0} (c : Program O B) (lists : HasLists c) (op : Ptr Operati
         here.went (stays_outside here.value here.was none)
 
 -- the tree without the blocks that are unreached
-pub cut_is : {O B A : Type 0} (d : Dialect (in_program O B) A) (c : Program O B) (picks : Ptr BasicBlock → Bool) (t : ProgramTree O B) → ((b : Ptr BasicBlock) → (picks b ≡ true) ↔ IsUnreached d t b) → HasReachTest t → IsCut d t (cut_root picks t)
-cut_is d c picks t exact reach = record {
+pub cut_is : {O B A : Type 0} (d : Dialect (in_program O B) A) (place : Place by_handle) (c : Program O B) (picks : Ptr BasicBlock → Bool) (t : ProgramTree O B) → ((b : Ptr BasicBlock) → (picks b ≡ true) ↔ IsUnreached d place t b) → HasReachTest t → IsCut d place t (cut_root picks t)
+cut_is d place c picks t exact reach = record {
   reach = reach.0;
   reached = λ b. (reach.1 b).0;
   all_reached = λ b. (reach.1 b).1;

@@ -19,13 +19,13 @@ use Rattle.ir_trees.proofs.ListEdited.{AreOrderly, all_operations}
 use Rattle.ir_trees.proofs.Rewritten.{rewritten_tree}
 use Rattle.opt_trees.specs.Occurrences.{Has}
 use Rattle.opt_trees.specs.Dialect.{Dialect}
-use Rattle.opt_trees.specs.Simplify.{keep, IsUnreached, IsCut}
+use Rattle.opt_trees.specs.Simplify.{Place, keep, IsUnreached, IsCut}
 use Rattle.opt_inside.specs.Occurring.{IsBlockBelow}
 use Rattle.opt_inside.specs.Outside.{KeepsOutside}
 use Rattle.opt_inside.proofs.Around.{HasLists, inside_both, around_operation, around_block, around_region, is_root}
 use Rattle.opt_simplify.specs.Phases.{RemovesBlocks}
-use Rattle.opt_simplify.specs.Removed.{without, IsWithin, LosesBlocks}
-use Rattle.opt_simplify.specs.Unreached.{HasReachTest}
+use Rattle.opt_simplify.specs.Removed.{without, IsWithin, ErasesPicked}
+use Rattle.opt_reach.specs.Fates.{HasReachTest}
 use Rattle.opt_simplify.proofs.RemovedPicking.{not_true, without_none}
 
 picked : {X : Type 0} (b : Bool) (x y : X) → cond (not b) x y ≡ (if b then y else x)
@@ -56,7 +56,7 @@ module _ {O B : Type 0} (picks : Ptr BasicBlock → Bool) where
       let later = cut Regions rest in
       λ i. region (inner i) (later i)
 
-module _ {O B : Type 0} (old new : Program O B) (lists : HasLists old) (op : Ptr Operation) (picks : Ptr BasicBlock → Bool) (below : (b : Ptr BasicBlock) → picks b ≡ true → IsBlockBelow old op b) (loses : LosesBlocks old new picks) where
+module _ {O B : Type 0} (old new : Program O B) (lists : HasLists old) (op : Ptr Operation) (picks : Ptr BasicBlock → Bool) (below : (b : Ptr BasicBlock) → picks b ≡ true → IsBlockBelow old op b) (loses : ErasesPicked old new picks) where
   -- what is inside a block that goes is below the root
   under_root : (e : IRNode) → IsWithin old picks e → StandsInside old (OperationNode op) e
   under_root e h = inside_both old (OperationNode op) (BlockNode h.0) e (below h.0 h.1) h.2
@@ -133,8 +133,8 @@ module _ {O B : Type 0} (old new : Program O B) (lists : HasLists old) (op : Ptr
         ∙ ap (λ bs. Some (record v { blocks = bs })) (without_none picks v.blocks (none_goes r v out there));
   }
 
-  module _ {A : Type 0} (d : Dialect (in_program O B) A) (t : ProgramTree O B) (stands : StandsFor old op t) (unreached : (b : Ptr BasicBlock) → (picks b ≡ true) ↔ IsUnreached d t b) (reach : HasReachTest t) where
-    abbrev pub is_cut : IsCut d t (record { head = t.head; regions = keep picks t.regions })
+  module _ {A : Type 0} (d : Dialect (in_program O B) A) (place : Place by_handle) (t : ProgramTree O B) (stands : StandsFor old op t) (unreached : (b : Ptr BasicBlock) → (picks b ≡ true) ↔ IsUnreached d place t b) (reach : HasReachTest t) where
+    abbrev pub is_cut : IsCut d place t (record { head = t.head; regions = keep picks t.regions })
     is_cut = record {
       reach = reach.0;
       reached = λ b. (reach.1 b).0;
@@ -145,7 +145,7 @@ module _ {O B : Type 0} (old new : Program O B) (lists : HasLists old) (op : Ptr
       is = refl;
     }
 
-    pub blocks_removed : RemovesBlocks d old new op t
+    pub blocks_removed : RemovesBlocks d place old new op t
     blocks_removed = record {
       after = record { head = t.head; regions = keep picks t.regions };
       cut = is_cut;
@@ -155,12 +155,14 @@ module _ {O B : Type 0} (old new : Program O B) (lists : HasLists old) (op : Ptr
     }
 
 -- nothing is lost where nothing is picked
-pub none_lost : {O B : Type 0} (c : Program O B) (picks : Ptr BasicBlock → Bool) → ((b : Ptr BasicBlock) → picks b ≡ false) → LosesBlocks c c picks
+pub none_lost : {O B : Type 0} (c : Program O B) (picks : Ptr BasicBlock → Bool) → ((b : Ptr BasicBlock) → picks b ≡ false) → ErasesPicked c c picks
 none_lost {O} {B} c picks none = record {
   operations = λ p out. refl;
   blocks = λ b out. refl;
   regions = λ r out. all_left (region_at c r);
   gone = λ e live h. let f : true ≡ false = sym h.1 ∙ none h.0 in cc;
+  there = λ b h. let f : true ≡ false = sym h ∙ none b in cc;
+  decided = λ e live. inl live;
 } where
   all_left : (o : Option RegionView) → o ≡ option_map (λ (v : RegionView). record v { blocks = without picks v.blocks }) o
   all_left None = refl

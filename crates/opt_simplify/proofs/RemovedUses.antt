@@ -25,8 +25,8 @@ use Rattle.opt_simplify.specs.Removed.{Gains, IsTakenBy, IsTakenOutside, IsWithi
 use Rattle.ir_trees.proofs.Members.{Has, at_has}
 use Rattle.opt_simplify.proofs.RemovedErased.{node_found}
 use Rattle.opt_simplify.proofs.RemovedAmong.{among_more, also_it, also_picked, it_or_picked}
-use Rattle.opt_simplify.proofs.UnreachedLists.{get_last, get_end, get_front, take_all}
-use Rattle.opt_simplify.proofs.UnreachedMembers.{contains_lists}
+use Rattle.opt_reach.proofs.Lists.{get_last, get_end, get_front, take_all}
+use Rattle.opt_reach.proofs.Members.{contains_lists}
 
 module _ {X : Type 0} where
   pub lists_more : (xs : List X) (x y : X) → Lists (xs ++ x ∷ []) y ↔ (Lists xs y ⊎ (y ≡ x))

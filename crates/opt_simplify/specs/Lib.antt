@@ -1,4 +1,3 @@
 pub mod Phases
-pub mod Unreached
 pub mod Removed
 pub mod Refusals

@@ -73,13 +73,6 @@ module _ {O B : Type 0} where
     pub values : (p : Ptr Operation) (k : ℕ) (v : Value) → slice_get (operands_at c p) k ≡ Some v → IsWithin c picks (definer_node v.definer) → IsWithin c picks (OperationNode p)
     pub blocks : (p : Ptr Operation) (k : ℕ) (b : Ptr BasicBlock) → slice_get (successors_at c p) k ≡ Some b → IsWithin c picks (BlockNode b) → IsWithin c picks (OperationNode p)
 
-  -- the blocks that are picked are erased with all that is in them, and each other operation, block and region is as it was, without them
-  pub record LosesBlocks (old new : Program O B) (picks : Ptr BasicBlock → Bool) : Type 0 where
-    pub operations : (p : Ptr Operation) → (IsWithin old picks (OperationNode p) → ⊥) → operation_at new p ≡ operation_at old p
-    pub blocks : (b : Ptr BasicBlock) → (IsWithin old picks (BlockNode b) → ⊥) → block_at new b ≡ block_at old b
-    pub regions : (r : Ptr Region) → (IsWithin old picks (RegionNode r) → ⊥) → region_at new r ≡ option_map (λ (v : RegionView). record v { blocks = without picks v.blocks }) (region_at old r)
-    pub gone : (e : IRNode) → IsLiveNode old e → IsWithin old picks e → IsErased new e
-
   -- an operation outside these blocks takes a value that is defined in them
   pub record IsTakenOutside (c : Program O B) (picks : Ptr BasicBlock → Bool) : Type 0 where
     pub user : Ptr Operation

@@ -6,7 +6,7 @@ ghost use Rattle.ir_program.specs.declared.handles.BasicBlock.{BasicBlock};
 ghost use Rattle.ir_program.specs.declared.handles.IRNode.TheVariants.{BasicBlock as BlockNode};
 ghost use Rattle.ir_program.specs.declared.handles.Ptr.{Ptr};
 ghost use Rattle.ir_trees.specs.Searched.{AreDistinct};
-ghost use Rattle.opt_simplify.specs.Removed.{ArePickedApart, DecidesInside, DropsPicked, ErasesPicked, LosesBlocks, NamesNone, NamesWithin, is_listed};
+ghost use Rattle.opt_simplify.specs.Removed.{ArePickedApart, DecidesInside, DropsPicked, ErasesPicked, NamesNone, NamesWithin, is_listed};
 
 use ir_context::{BlockErasing, TypeTable, TypedProgram};
 use ir_program::{BasicBlock, IRNode, Program, Ptr};
@@ -61,7 +61,7 @@ pub(crate) fn remove_blocks<O: Drop, B: Drop, T: TypeTable>(
     requires once { AreDistinct blocks.now }
     requires apart { ArePickedApart ctx.old.program (is_listed blocks.now) }
     requires named { NamesWithin ctx.old.program (is_listed blocks.now) }
-    ensures removed { LosesBlocks ctx.old.program ctx.new.program (is_listed blocks.now) }
+    ensures removed { ErasesPicked ctx.old.program ctx.new.program (is_listed blocks.now) }
     ensures types { ctx.new.types ≡ ctx.old.types }
 {
     drop_uses(ctx, blocks);

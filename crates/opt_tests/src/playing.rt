@@ -4,6 +4,7 @@ use ir_program::{Operation, Ptr};
 use opt_dce::dce;
 use opt_dialect::{IRStatus, OptError};
 use opt_edges::has_local_edges_below;
+use opt_reach::Start;
 use opt_sccp::sccp;
 use opt_simplify::remove_unreached;
 use opt_tiny::{OneType, Tiny, Tree, Unread, read, written};
@@ -49,7 +50,10 @@ fn run(
     match pass {
         Pass::Sccp => Ok(sccp::<Tiny, OneType>(alloc, op, ctx)),
         Pass::Dce => Ok(dce::<Tiny, OneType>(alloc, op, ctx)),
-        Pass::RemoveUnreached => Ok(remove_unreached::<Tiny, OneType>(alloc, op, ctx)),
+        Pass::RemoveUnreached => {
+            let start = Start::Operation(op);
+            Ok(remove_unreached::<Tiny, OneType>(alloc, op, start, ctx))
+        },
     }
 }
 

@@ -4,16 +4,16 @@ use Rattle.ir_trees.specs.Names.{Names, Contents}
 use Rattle.ir_trees.specs.Trees.{Head, Label, Sort, Operations, Blocks, Regions, Tree, block, Root}
 use Rattle.opt_trees.specs.Occurrences.{Has, Occurrence, BlockOccurrence, Site, Spot, Inside, inner, next_block, next_region, occurrences_in, block_occurrences_in, occurrences_of, block_occurrences_of, at_root}
 use Rattle.opt_trees.specs.Dialect.{Dialect}
-use Rattle.opt_trees.specs.Simplify.{is_end, Joinable, use_head, use_instead, but_last, Joins, ends, operations, regions, taken, first, chain_ends, chain_goes_on, IsOrderly, IsLocal}
+use Rattle.opt_trees.specs.Simplify.{Place, is_end, Joinable, use_head, use_instead, but_last, Joins, ends, operations, regions, taken, first, chain_ends, chain_goes_on, IsOrderly, IsLocal}
 use Rattle.opt_trees.proofs.NoneDead.{has-append, true_false}
 use Rattle.opt_trees.proofs.Reached.{holder}
 use Rattle.opt_trees.proofs.Homes.{IsPart, part_regions, part_rest, part_block, part_blocks, part_region, part_more, part_part, block_inside, but_last_inside, appended, blocks_appended, use_append, owner_same}
 
-module _ {N : Names} {S : Contents} {A : Type 0} (d : Dialect S A) (r : Root N S) where
+module _ {N : Names} {S : Contents} {A : Type 0} (d : Dialect S A) (start : Place N) (r : Root N S) where
   -- the chain from the first block, which nothing is joined to, goes to the second
   pub data InChain : N.block → N.block → Type 0 where
-    itself : (b : N.block) → ((a : N.block) → Joinable d r a b → ⊥) → InChain b b
-    next : (f a b : N.block) → InChain f a → Joinable d r a b → InChain f b
+    itself : (b : N.block) → ((a : N.block) → Joinable d start r a b → ⊥) → InChain b b
+    next : (f a b : N.block) → InChain f a → Joinable d start r a b → InChain f b
 
   -- the spot afterwards, and the one before
   pub record LikeSpot (c e : Spot N S) : Type 0 where
@@ -70,29 +70,29 @@ module _ {N : Names} {S : Contents} {A : Type 0} (d : Dialect S A) (r : Root N S
   pub like_skip : (c e : Spot N S) → c.first ≡ false → LikeBlock c e → LikeBlock (next_block c) e
   like_skip c e f l = record { spot = record { name = l.spot.name; content = l.spot.content; region = l.spot.region }; first = l.first ∙ f }
 
-  pub like_first : (c e : Spot N S) (l : Label N S) → ((a : N.block) → Joinable d r a l.name → ⊥) → LikeBlock c e → LikeSite (record { spot = c; label = l }) (record { spot = e; label = l })
+  pub like_first : (c e : Spot N S) (l : Label N S) → ((a : N.block) → Joinable d start r a l.name → ⊥) → LikeBlock c e → LikeSite (record { spot = c; label = l }) (record { spot = e; label = l })
   like_first c e l n k = record { spot = k.spot; first = λ x. k.first; chain = itself l.name n }
 
   module _ (orderly : IsOrderly r) (local : IsLocal r) where
     -- the one block of its name
-    pub target_is : (a b : N.block) (j : Joinable d r a b) (x : BlockOccurrence N S) → Has x (block_occurrences_of r) → x.label.name ≡ b → j.target ≡ x
+    pub target_is : (a b : N.block) (j : Joinable d start r a b) (x : BlockOccurrence N S) → Has x (block_occurrences_of r) → x.label.name ≡ b → j.target ≡ x
     target_is a b j x h e = orderly.blocks j.target x j.target_stands h (j.target_name ∙ sym e)
 
-    pub leads_to : (a b : N.block) (j : Joinable d r a b) → Has b j.last.head.successors
+    pub leads_to : (a b : N.block) (j : Joinable d start r a b) → Has b j.last.head.successors
     leads_to a b j = subst (Has b) (sym j.leads) (inl refl)
 
     pub holder_of : (o : Occurrence N S) → Has o (occurrences_of r) → AtHome o.site
     holder_of o h = ⊎_elim (λ z. absurd z) (λ p. record { it = p.it; stands = p.stands; spot = p.spot; label = p.label }) (holder r.regions (at_root r) o h)
 
     -- the last operation of a block stands in it
-    last_home : (a b : N.block) (j : Joinable d r a b) (c : Site N S) → AtHome c → c.label.name ≡ a → j.last.site.spot ≡ c.spot
+    last_home : (a b : N.block) (j : Joinable d start r a b) (c : Site N S) → AtHome c → c.label.name ≡ a → j.last.site.spot ≡ c.spot
     last_home a b j c h e =
         let p = holder_of j.last j.stands in
         let same = orderly.blocks p.it h.it p.stands h.stands (ap (λ l. l.name) p.label ∙ j.in_block ∙ sym e ∙ ap (λ l. l.name) (sym h.label)) in
         sym p.spot ∙ ap (λ x. x.spot) same ∙ h.spot
 
     -- the next block of a chain is in the same region
-    pub next_like : (a : N.block) (x : BlockOccurrence N S) (j : Joinable d r a x.label.name) → Has x (block_occurrences_of r) → (c e : Site N S) → AtHome c → c.label.name ≡ a → LikeSite c e → LikeSite (record { spot = x.spot; label = x.label }) e
+    pub next_like : (a : N.block) (x : BlockOccurrence N S) (j : Joinable d start r a x.label.name) → Has x (block_occurrences_of r) → (c e : Site N S) → AtHome c → c.label.name ≡ a → LikeSite c e → LikeSite (record { spot = x.spot; label = x.label }) e
     next_like a x j h c e home n k =
         let last = last_home a x.label.name j c home n in
         let region = local.edges j.last x j.stands h (leads_to a x.label.name j) in
@@ -106,10 +106,10 @@ module _ {N : Names} {S : Contents} {A : Type 0} (d : Dialect S A) (r : Root N S
         }
 
     -- a list that is joined is as empty as it was
-    pub end_same : (rs qs : Tree N S Regions) → Joins d r None Regions rs qs → (f : N.value → N.value) → is_end (use_instead f qs) ≡ is_end rs
+    pub end_same : (rs qs : Tree N S Regions) → Joins d start r None Regions rs qs → (f : N.value → N.value) → is_end (use_instead f qs) ≡ is_end rs
     end_same rs qs j f = by_case None Regions rs qs j refl refl
       where
-        by_case : (q : Option N.block) (s : Sort) (x u : Tree N S s) → Joins d r q s x u → q ≡ None → s ≡ Regions → is_end (use_instead f u) ≡ is_end x
+        by_case : (q : Option N.block) (s : Sort) (x u : Tree N S s) → Joins d start r q s x u → q ≡ None → s ≡ Regions → is_end (use_instead f u) ≡ is_end x
         by_case _ _ _ _ (ends s) e m = refl
         by_case _ _ _ _ (operations h rs qs rest more x y) e m = refl
         by_case _ _ _ _ (regions bs cs rest more x y) e m = refl
@@ -135,17 +135,17 @@ module _ {N : Names} {S : Contents} {A : Type 0} (d : Dialect S A) (r : Root N S
         pub stands : Has it (block_occurrences_of r)
         pub spot : LikeBlock it.spot y.spot
         pub label : y.label ≡ it.label
-        pub is_first : (a : N.block) → Joinable d r a it.label.name → ⊥
+        pub is_first : (a : N.block) → Joinable d start r a it.label.name → ⊥
 
       own_home : (l : Label N S) (ops : Tree N S Operations) (rest : Tree N S Blocks) (c : Spot N S) → InTree (block l ops rest) c → AtHome (record { spot = c; label = l })
       own_home l ops rest c i = record { it = record { spot = c; label = l; operations = ops }; stands = i.blocks (record { spot = c; label = l; operations = ops }) (inl refl); spot = refl; label = refl }
 
-      pub taken_later : (l : Label N S) (ops : Tree N S Operations) (rest : Tree N S Blocks) (c : Spot N S) → InTree (block l ops rest) c → (b : N.block) → Joinable d r b l.name → c.first ≡ false
+      pub taken_later : (l : Label N S) (ops : Tree N S Operations) (rest : Tree N S Blocks) (c : Spot N S) → InTree (block l ops rest) c → (b : N.block) → Joinable d start r b l.name → c.first ≡ false
       taken_later l ops rest c i b j =
           let own : BlockOccurrence N S = record { spot = c; label = l; operations = ops } in
           sym (ap (λ x. x.spot.first) (target_is b l.name j own (i.blocks own (inl refl)) refl)) ∙ j.not_entry
 
-      pub operation_was : (q : Option N.block) (s : Sort) (x u : Tree N S s) → Joins d r q s x u → (c e : Inside N S s) → LikeInside s c e → HomeOf s c → IsNamed q s c → InTree x c → (p : Occurrence N S) → Has p (occurrences_in (use_instead names u) e) → WasMoved p
+      pub operation_was : (q : Option N.block) (s : Sort) (x u : Tree N S s) → Joins d start r q s x u → (c e : Inside N S s) → LikeInside s c e → HomeOf s c → IsNamed q s c → InTree x c → (p : Occurrence N S) → Has p (occurrences_in (use_instead names u) e) → WasMoved p
       operation_was _ _ _ _ (ends s) c e k m n i p h = absurd h
       operation_was _ _ _ _ (operations g rs qs rest more x y) c e k m n i p h = ⊎_elim
           (λ z. record {
@@ -172,7 +172,7 @@ module _ {N : Names} {S : Contents} {A : Type 0} (d : Dialect S A) (r : Root N S
           (λ w. operation_was (Some z.label.name) Operations z.operations others y (record { spot = z.spot; label = z.label }) e (next_like b z j s c e m n k) (record { it = z; stands = s; spot = refl; label = refl }) refl (block_inside r.regions (at_root r) z s) p w)
           (appended (use_instead names own) (use_instead names others) e p (subst (λ u. Has p (occurrences_in u e)) (ap (use_instead names) q ∙ use_append names own others) h))
 
-      pub block_was : (q : Option N.block) (s : Sort) (x u : Tree N S s) → Joins d r q s x u → (c e : Inside N S s) → LikeInside s c e → HomeOf s c → IsNamed q s c → InTree x c → (p : BlockOccurrence N S) → Has p (block_occurrences_in (use_instead names u) e) → WasFirst p
+      pub block_was : (q : Option N.block) (s : Sort) (x u : Tree N S s) → Joins d start r q s x u → (c e : Inside N S s) → LikeInside s c e → HomeOf s c → IsNamed q s c → InTree x c → (p : BlockOccurrence N S) → Has p (block_occurrences_in (use_instead names u) e) → WasFirst p
       block_was _ _ _ _ (ends s) c e k m n i p h = absurd h
       block_was _ _ _ _ (operations g rs qs rest more x y) c e k m n i p h = ⊎_elim
           (λ w. block_was None Regions rs qs x (inner g c) (inner (use_head names g) e) (like_inner names g c e) tt tt (part_regions (occurrences_of r) (block_occurrences_of r) g rs rest c i) p w)

@@ -5,7 +5,7 @@ use Rattle.ir_trees.specs.Names.{Names, Contents}
 use Rattle.ir_trees.specs.Trees.{Head, Label, Sort, Operations, Blocks, Regions, Tree, end, operation, block, region, Root}
 use Rattle.opt_trees.specs.Occurrences.{Has, Occurrence, BlockOccurrence, Site, Spot, Inside, inner, next_block, next_region, occurrences_in, block_occurrences_in, occurrences_of, block_occurrences_of}
 use Rattle.opt_trees.specs.Dialect.{Dialect}
-use Rattle.opt_trees.specs.Simplify.{is_end, IsReached, entry, further, Joinable, use_head, use_instead, but_last, append, Joins, ends, operations, regions, taken, first, chain_ends, chain_goes_on, EndsIn, IsOrderly, IsLocal, BranchesLast}
+use Rattle.opt_trees.specs.Simplify.{Place, is_end, IsReached, entry, further, Joinable, use_head, use_instead, but_last, append, Joins, ends, operations, regions, taken, first, chain_ends, chain_goes_on, EndsIn, IsOrderly, IsLocal, BranchesLast}
 use Rattle.opt_trees.proofs.NoneDead.{has-append, has-left, has-right, true_false}
 use Rattle.opt_trees.proofs.One.{leads_one}
 use Rattle.opt_trees.proofs.Homes.{direct, no_direct, direct_there, direct_spot, Part, part_regions, part_rest, part_block, part_blocks, part_region, part_more, part_part, append_left, append_right, use_append, operation_level}
@@ -24,28 +24,28 @@ no_blocks_in : {N : Names} {S : Contents} (rs : Tree N S Regions) (c : Spot N S)
 no_blocks_in end c x e h = h
 no_blocks_in (region bs rest) c x e h = absurd (cc e)
 
-module _ {N : Names} {S : Contents} {A : Type 0} (d : Dialect S A) (r : Root N S) where
+module _ {N : Names} {S : Contents} {A : Type 0} (d : Dialect S A) (start : Place N) (r : Root N S) where
   -- how a list was joined
 
   pub record OperationJoined (h : Head N S) (rs : Tree N S Regions) (rest u : Tree N S Operations) : Type 0 where
     pub inside : Tree N S Regions
     pub more : Tree N S Operations
-    pub joins : Joins d r None Regions rs inside
-    pub joins_rest : Joins d r None Operations rest more
+    pub joins : Joins d start r None Regions rs inside
+    pub joins_rest : Joins d start r None Operations rest more
     pub is : u ≡ operation h inside more
 
   pub record ChainEnds (b : N.block) (ops u : Tree N S Operations) : Type 0 where
-    pub none : (t : N.block) → Joinable d r b t → ⊥
-    pub joins : Joins d r None Operations ops u
+    pub none : (t : N.block) → Joinable d start r b t → ⊥
+    pub joins : Joins d start r None Operations ops u
 
   pub record ChainGoesOn (b : N.block) (ops u : Tree N S Operations) : Type 0 where
     pub to : BlockOccurrence N S
     pub stands : Has to (block_occurrences_of r)
-    pub link : Joinable d r b to.label.name
+    pub link : Joinable d start r b to.label.name
     pub own : Tree N S Operations
     pub others : Tree N S Operations
-    pub joins : Joins d r None Operations (but_last ops) own
-    pub joins_rest : Joins d r (Some to.label.name) Operations to.operations others
+    pub joins : Joins d start r None Operations (but_last ops) own
+    pub joins_rest : Joins d start r (Some to.label.name) Operations to.operations others
     pub is : u ≡ append own others
 
   abbrev pub Inverted : Option N.block → (s : Sort) → Tree N S s → Tree N S s → Type 0
@@ -57,7 +57,7 @@ module _ {N : Names} {S : Contents} {A : Type 0} (d : Dialect S A) (r : Root N S
   Inverted (Some b) Blocks x u = Unit {0}
   Inverted (Some b) Regions x u = Unit {0}
 
-  inverted : (q : Option N.block) (s : Sort) (x u : Tree N S s) → Joins d r q s x u → Inverted q s x u
+  inverted : (q : Option N.block) (s : Sort) (x u : Tree N S s) → Joins d start r q s x u → Inverted q s x u
   inverted _ _ _ _ (ends s) = tt
   inverted _ _ _ _ (operations h rs qs rest more x y) = record { inside = qs; more = more; joins = x; joins_rest = y; is = refl }
   inverted _ _ _ _ (regions bs cs rest more x y) = tt
@@ -69,12 +69,12 @@ module _ {N : Names} {S : Contents} {A : Type 0} (d : Dialect S A) (r : Root N S
   -- something is joined to it
   pub record IsTaken (b : N.block) : Type 0 where
     pub from : N.block
-    pub link : Joinable d r from b
+    pub link : Joinable d start r from b
 
   -- the branch along a chain
   pub record IsDropped (o : Occurrence N S) : Type 0 where
     pub target : N.block
-    pub link : Joinable d r o.site.label.name target
+    pub link : Joinable d start r o.site.label.name target
     pub leads : o.head.successors ≡ target ∷ []
 
   module _ (orderly : IsOrderly r) (local : IsLocal r) (names : N.value → N.value) (ps : List (Occurrence N S)) (ys : List (BlockOccurrence N S)) where
@@ -84,12 +84,12 @@ module _ {N : Names} {S : Contents} {A : Type 0} (d : Dialect S A) (r : Root N S
     pub record IsMoved (o : Occurrence N S) : Type 0 where
       pub it : Occurrence N S
       pub stands : Has it ps
-      pub is : Moved d r orderly local names o it
+      pub is : Moved d start r orderly local names o it
 
     pub record IsFirst (x : BlockOccurrence N S) : Type 0 where
       pub it : BlockOccurrence N S
       pub stands : Has it ys
-      pub spot : LikeBlock d r x.spot it.spot
+      pub spot : LikeBlock d start r x.spot it.spot
       pub label : it.label ≡ x.label
 
     abbrev pub site_of : BlockOccurrence N S → Site N S
@@ -98,28 +98,28 @@ module _ {N : Names} {S : Contents} {A : Type 0} (d : Dialect S A) (r : Root N S
     -- the operations of the block's chain, from it on, stand there
     pub record Holds (x : BlockOccurrence N S) : Type 0 where
       pub all : Tree N S Operations
-      pub joins : Joins d r (Some x.label.name) Operations x.operations all
+      pub joins : Joins d start r (Some x.label.name) Operations x.operations all
       pub site : Site N S
-      pub like : LikeSite d r (record { spot = x.spot; label = x.label }) site
+      pub like : LikeSite d start r (record { spot = x.spot; label = x.label }) site
       pub part : Part (use_instead names all) site ps ys
 
     -- each block of a list is taken, or its chain stands there
-    pub level : (q : Option N.block) (s : Sort) (x u : Tree N S s) → Joins d r q s x u → (c e : Inside N S s) → LikeInside d r s c e → InTree d r x c → PartAfter u e → (z : BlockOccurrence N S) → Has z (direct x c) → IsTaken z.label.name ⊎ (Holds z × IsFirst z)
+    pub level : (q : Option N.block) (s : Sort) (x u : Tree N S s) → Joins d start r q s x u → (c e : Inside N S s) → LikeInside d start r s c e → InTree d start r x c → PartAfter u e → (z : BlockOccurrence N S) → Has z (direct x c) → IsTaken z.label.name ⊎ (Holds z × IsFirst z)
     level _ _ _ _ (ends s) c e k i p z h = absurd h
     level _ _ _ _ (operations g rs qs rest more x y) c e k i p z h = absurd h
     level _ _ _ _ (regions bs cs rest more x y) c e k i p z h = ⊎_elim
         (λ w. level None Blocks bs cs x c e k (part_region (occurrences_of r) (block_occurrences_of r) bs rest c i) (part_region ps ys (use_instead names cs) (use_instead names more) e p) z w)
-        (λ w. level None Regions rest more y (next_region c) (next_region e) (like_region d r c e k) (part_more (occurrences_of r) (block_occurrences_of r) bs rest c i) (part_more ps ys (use_instead names cs) (use_instead names more) e p) z w)
+        (λ w. level None Regions rest more y (next_region c) (next_region e) (like_region d start r c e k) (part_more (occurrences_of r) (block_occurrences_of r) bs rest c i) (part_more ps ys (use_instead names cs) (use_instead names more) e p) z w)
         (has-append z (direct bs c) (direct rest (next_region c)) h)
     level _ _ _ _ (taken l ops rest more b j x) c e k i p z h = ⊎_elim
-        (λ w. inl (record { from = b; link = subst (λ y. Joinable d r b y.label.name) (sym w) j }))
-        (λ w. level None Blocks rest more x (next_block c) e (like_skip d r c e (taken_later d r orderly local names l ops rest c i b j) k) (part_blocks (occurrences_of r) (block_occurrences_of r) l ops rest c i) p z w) h
+        (λ w. inl (record { from = b; link = subst (λ y. Joinable d start r b y.label.name) (sym w) j }))
+        (λ w. level None Blocks rest more x (next_block c) e (like_skip d start r c e (taken_later d start r orderly local names l ops rest c i b j) k) (part_blocks (occurrences_of r) (block_occurrences_of r) l ops rest c i) p z w) h
     level _ _ _ _ (first l ops all rest more f x y) c e k i p z h = ⊎_elim
         (λ w. inr (
-          subst Holds (sym w) (record { all = all; joins = x; site = record { spot = e; label = l }; like = like_first d r c e l f k; part = part_block ps ys l (use_instead names all) (use_instead names more) e p }),
+          subst Holds (sym w) (record { all = all; joins = x; site = record { spot = e; label = l }; like = like_first d start r c e l f k; part = part_block ps ys l (use_instead names all) (use_instead names more) e p }),
           subst IsFirst (sym w) (record { it = record { spot = e; label = l; operations = use_instead names all }; stands = p.blocks (record { spot = e; label = l; operations = use_instead names all }) (inl refl); spot = k; label = refl }),
         ))
-        (λ w. level None Blocks rest more y (next_block c) (next_block e) (like_next d r c e k) (part_blocks (occurrences_of r) (block_occurrences_of r) l ops rest c i) (part_blocks ps ys l (use_instead names all) (use_instead names more) e p) z w) h
+        (λ w. level None Blocks rest more y (next_block c) (next_block e) (like_next d start r c e k) (part_blocks (occurrences_of r) (block_occurrences_of r) l ops rest c i) (part_blocks ps ys l (use_instead names all) (use_instead names more) e p) z w) h
     level _ _ _ _ (chain_ends b ops own f x) c e k i p z h = absurd (no_direct ops c z h)
     level _ _ _ _ (chain_goes_on b y ops own others all j s x q m) c e k i p z h = absurd (no_direct ops c z h)
 
@@ -130,74 +130,74 @@ module _ {N : Names} {S : Contents} {A : Type 0} (d : Dialect S A) (r : Root N S
     own_part : (u own others : Tree N S Operations) (e : Site N S) → u ≡ append own others → PartAfter u e → PartAfter own e
     own_part u own others e q p = part_part (append_left (use_instead names own) (use_instead names others) e) (subst (λ w. Part w e ps ys) (ap (use_instead names) q ∙ use_append names own others) p)
 
-    follow : (w z : BlockOccurrence N S) → Has w (block_occurrences_of r) → Holds w → Has z (block_occurrences_of r) → Joinable d r w.label.name z.label.name → Holds z
+    follow : (w z : BlockOccurrence N S) → Has w (block_occurrences_of r) → Holds w → Has z (block_occurrences_of r) → Joinable d start r w.label.name z.label.name → Holds z
     follow w z s h m j = ⊎_elim
         (λ f. absurd (f.none z.label.name j))
         (λ g.
-        let same : g.to ≡ z = orderly.blocks g.to z g.stands m (leads_one d r orderly w.label.name g.to.label.name z.label.name g.link j) in
+        let same : g.to ≡ z = orderly.blocks g.to z g.stands m (leads_one d start r orderly w.label.name g.to.label.name z.label.name g.link j) in
         subst Holds same (record {
           all = g.others;
           joins = g.joins_rest;
           site = h.site;
-          like = next_like d r orderly local w.label.name g.to g.link g.stands (record { spot = w.spot; label = w.label }) h.site (record { it = w; stands = s; spot = refl; label = refl }) refl h.like;
+          like = next_like d start r orderly local w.label.name g.to g.link g.stands (record { spot = w.spot; label = w.label }) h.site (record { it = w; stands = s; spot = refl; label = refl }) refl h.like;
           part = rest_part h.all g.own g.others h.site g.is h.part;
         }))
         (inverted (Some w.label.name) Operations w.operations h.all h.joins)
 
     -- the blocks of regions, all of one holder
-    module _ (rs : Tree N S Regions) (k : Spot N S) (choice : (z : BlockOccurrence N S) → Has z (direct rs k) → IsTaken z.label.name ⊎ (Holds z × IsFirst z)) (inside : InTree d r rs k) (same_level : (z : BlockOccurrence N S) → Has z (block_occurrences_of r) → z.spot.around ≡ k.around → Has z (direct rs k)) where
+    module _ (rs : Tree N S Regions) (k : Spot N S) (choice : (z : BlockOccurrence N S) → Has z (direct rs k) → IsTaken z.label.name ⊎ (Holds z × IsFirst z)) (inside : InTree d start r rs k) (same_level : (z : BlockOccurrence N S) → Has z (block_occurrences_of r) → z.spot.around ≡ k.around → Has z (direct rs k)) where
       there : (z : BlockOccurrence N S) → Has z (direct rs k) → Has z (block_occurrences_of r)
       there z m = inside.blocks z (direct_there rs k z m)
 
       -- what leads there stands there
-      from_here : (o : Occurrence N S) (h : Has o (occurrences_of r)) (x : BlockOccurrence N S) → Has x (direct rs k) → Has x.label.name o.head.successors → Has (holder_of d r orderly local o h).it (direct rs k)
+      from_here : (o : Occurrence N S) (h : Has o (occurrences_of r)) (x : BlockOccurrence N S) → Has x (direct rs k) → Has x.label.name o.head.successors → Has (holder_of d start r orderly local o h).it (direct rs k)
       from_here o h x m s =
-          let own = holder_of d r orderly local o h in
+          let own = holder_of d start r orderly local o h in
           same_level own.it own.stands (ap (λ y. y.around) own.spot ∙ sym (local.edges o x h (there x m) s).around ∙ (direct_spot rs k x m).around)
 
       holds : (b : N.block) → IsReached r b → (x : BlockOccurrence N S) → Has x (direct rs k) → x.label.name ≡ b → Holds x
       holds _ (entry y h f) x m e = ⊎_elim
           (λ t.
-          let at = target_is d r orderly local t.from x.label.name t.link x (there x m) refl in
+          let at = target_is d start r orderly local t.from x.label.name t.link x (there x m) refl in
           let same = orderly.blocks x y (there x m) h e in
           absurd (true_false y.spot.first f (ap (λ z. z.spot.first) (sym same) ∙ ap (λ z. z.spot.first) (sym at) ∙ t.link.not_entry)))
           (λ p. p.0) (choice x m)
       holds _ (further o b h p s) x m e =
           let leads = subst (λ z. Has z o.head.successors) (sym e) s in
-          let own = holder_of d r orderly local o h in
+          let own = holder_of d start r orderly local o h in
           let own_holds = holds o.site.label.name p own.it (from_here o h x m leads) (ap (λ l. l.name) own.label) in
           ⊎_elim
           (λ t.
           let from : t.from ≡ own.it.label.name = sym t.link.in_block ∙ ap (λ q. q.site.label.name) (sym (t.link.single o h leads)) ∙ ap (λ l. l.name) (sym own.label) in
-          follow own.it x own.stands own_holds (there x m) (subst (λ a. Joinable d r a x.label.name) from t.link))
+          follow own.it x own.stands own_holds (there x m) (subst (λ a. Joinable d start r a x.label.name) from t.link))
           (λ q. q.0) (choice x m)
 
       pub hold : (x : BlockOccurrence N S) → Has x (direct rs k) → Holds x × (IsTaken x.label.name ⊎ IsFirst x)
       hold x m = ⊎_elim
           (λ t.
-          let own = holder_of d r orderly local t.link.last t.link.stands in
+          let own = holder_of d start r orderly local t.link.last t.link.stands in
           let from : own.it.label.name ≡ t.from = ap (λ l. l.name) own.label ∙ t.link.in_block in
-          let h = holds t.from t.link.reached own.it (from_here t.link.last t.link.stands x m (leads_to d r orderly local t.from x.label.name t.link)) from in
-          (follow own.it x own.stands h (there x m) (subst (λ a. Joinable d r a x.label.name) (sym from) t.link), inl t))
+          let h = holds t.from t.link.reached own.it (from_here t.link.last t.link.stands x m (leads_to d start r orderly local t.from x.label.name t.link)) from in
+          (follow own.it x own.stands h (there x m) (subst (λ a. Joinable d start r a x.label.name) (sym from) t.link), inl t))
           (λ p. (p.0, inr p.1)) (choice x m)
 
     module _ (last : BranchesLast r) where
       -- operations that are joined, all, or all but the branch to the next block
       pub record Whole (t : Tree N S Operations) (c : Site N S) : Type 0 where
         pub own : Tree N S Operations
-        pub joins : Joins d r None Operations t own
+        pub joins : Joins d start r None Operations t own
         pub site : Site N S
-        pub like : LikeSite d r c site
+        pub like : LikeSite d start r c site
         pub part : Part (use_instead names own) site ps ys
 
       pub record ButLast (t : Tree N S Operations) (c : Site N S) : Type 0 where
         pub own : Tree N S Operations
-        pub joins : Joins d r None Operations (but_last t) own
+        pub joins : Joins d start r None Operations (but_last t) own
         pub site : Site N S
-        pub like : LikeSite d r c site
+        pub like : LikeSite d start r c site
         pub part : Part (use_instead names own) site ps ys
         pub target : N.block
-        pub link : Joinable d r c.label.name target
+        pub link : Joinable d start r c.label.name target
         pub is_last : EndsIn t link.last.head link.last.regions
 
       abbrev pub Given : (s : Sort) → Tree N S s → Inside N S s → Type 0
@@ -206,7 +206,7 @@ module _ {N : Names} {S : Contents} {A : Type 0} (d : Dialect S A) (r : Root N S
       Given Regions t c = (x : BlockOccurrence N S) → Has x (direct t c) → Holds x × (IsTaken x.label.name ⊎ IsFirst x)
 
       -- the operations of a block
-      of_block : (l : Label N S) (ops : Tree N S Operations) (rest : Tree N S Blocks) (c : Spot N S) → InTree d r (block l ops rest) c → Holds (record { spot = c; label = l; operations = ops }) → Given Operations ops (record { spot = c; label = l })
+      of_block : (l : Label N S) (ops : Tree N S Operations) (rest : Tree N S Blocks) (c : Spot N S) → InTree d start r (block l ops rest) c → Holds (record { spot = c; label = l; operations = ops }) → Given Operations ops (record { spot = c; label = l })
       of_block l ops rest c i h = ⊎_elim
           (λ f. inl (record { own = h.all; joins = f.joins; site = h.site; like = h.like; part = h.part }))
           (λ g. inr (record {
@@ -217,23 +217,23 @@ module _ {N : Names} {S : Contents} {A : Type 0} (d : Dialect S A) (r : Root N S
             part = own_part h.all g.own g.others h.site g.is h.part;
             target = g.to.label.name;
             link = g.link;
-            is_last = last g.link.last (record { spot = c; label = l; operations = ops }) g.to.label.name g.link.stands (i.blocks (record { spot = c; label = l; operations = ops }) (inl refl)) g.link.in_block (leads_to d r orderly local l.name g.to.label.name g.link);
+            is_last = last g.link.last (record { spot = c; label = l; operations = ops }) g.to.label.name g.link.stands (i.blocks (record { spot = c; label = l; operations = ops }) (inl refl)) g.link.in_block (leads_to d start r orderly local l.name g.to.label.name g.link);
           }))
           (inverted (Some l.name) Operations ops h.all h.joins)
 
       -- the regions of an operation that stands there
-      pub of_regions : (h : Head N S) (rs qs : Tree N S Regions) (c e : Site N S) → Has (record { site = c; head = h; regions = rs }) (occurrences_of r) → InTree d r rs (inner h c) → Joins d r None Regions rs qs → PartAfter qs (inner (use_head names h) e) → Given Regions rs (inner h c)
-      of_regions h rs qs c e s i j p = hold rs (inner h c) (level None Regions rs qs j (inner h c) (inner (use_head names h) e) (like_inner d r names h c e) i p) i (λ z m q. operation_level r orderly.operations (record { site = c; head = h; regions = rs }) s z m q)
+      pub of_regions : (h : Head N S) (rs qs : Tree N S Regions) (c e : Site N S) → Has (record { site = c; head = h; regions = rs }) (occurrences_of r) → InTree d start r rs (inner h c) → Joins d start r None Regions rs qs → PartAfter qs (inner (use_head names h) e) → Given Regions rs (inner h c)
+      of_regions h rs qs c e s i j p = hold rs (inner h c) (level None Regions rs qs j (inner h c) (inner (use_head names h) e) (like_inner d start r names h c e) i p) i (λ z m q. operation_level r orderly.operations (record { site = c; head = h; regions = rs }) s z m q)
 
-      moved : (h : Head N S) (rs qs : Tree N S Regions) (more : Tree N S Operations) (c e : Site N S) → LikeSite d r c e → Joins d r None Regions rs qs → PartAfter (operation h qs more) e → IsMoved (record { site = c; head = h; regions = rs })
+      moved : (h : Head N S) (rs qs : Tree N S Regions) (more : Tree N S Operations) (c e : Site N S) → LikeSite d start r c e → Joins d start r None Regions rs qs → PartAfter (operation h qs more) e → IsMoved (record { site = c; head = h; regions = rs })
       moved h rs qs more c e k j p = record {
         it = record { site = e; head = use_head names h; regions = use_instead names qs };
         stands = p.operations (record { site = e; head = use_head names h; regions = use_instead names qs }) (inl refl);
-        is = record { site = k; head = refl; bare = end_same d r orderly local rs qs j names };
+        is = record { site = k; head = refl; bare = end_same d start r orderly local rs qs j names };
       }
 
       -- an operation is there, or was dropped
-      pub cover : {s : Sort} (t : Tree N S s) (c : Inside N S s) → Given s t c → InTree d r t c → (o : Occurrence N S) → Has o (occurrences_in t c) → IsDropped o ⊎ IsMoved o
+      pub cover : {s : Sort} (t : Tree N S s) (c : Inside N S s) → Given s t c → InTree d start r t c → (o : Occurrence N S) → Has o (occurrences_in t c) → IsDropped o ⊎ IsMoved o
       cover end c w i o m = absurd m
       cover (operation h rs rest) c (inl w) i o m =
           let v = inverted None Operations (operation h rs rest) w.own w.joins in
@@ -273,7 +273,7 @@ module _ {N : Names} {S : Contents} {A : Type 0} (d : Dialect S A) (r : Root N S
           (has-append o (occurrences_in bs c) (occurrences_in rest (next_region c)) m)
 
       -- a block is there, or was taken
-      pub cover_block : {s : Sort} (t : Tree N S s) (c : Inside N S s) → Given s t c → InTree d r t c → (o : BlockOccurrence N S) → Has o (block_occurrences_in t c) → IsTaken o.label.name ⊎ IsFirst o
+      pub cover_block : {s : Sort} (t : Tree N S s) (c : Inside N S s) → Given s t c → InTree d start r t c → (o : BlockOccurrence N S) → Has o (block_occurrences_in t c) → IsTaken o.label.name ⊎ IsFirst o
       cover_block end c w i o m = absurd m
       cover_block (operation h rs rest) c (inl w) i o m =
           let v = inverted None Operations (operation h rs rest) w.own w.joins in

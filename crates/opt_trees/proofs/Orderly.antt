@@ -7,7 +7,7 @@ use Rattle.ir_trees.specs.Trees.{Head, Sort, Operations, Regions, Tree, end, ope
 use Rattle.opt_trees.specs.Occurrences.{Has, cons_if, Occurrence, BlockOccurrence, Site, Spot, Inside, inner, next_block, next_region, occurrences_in, block_occurrences_in, occurrences_of, block_occurrences_of, at_root, rename_occurrence, rename_block_occurrence, Renaming, maps, OperationsApart}
 use Rattle.opt_trees.specs.Dialect.{Dialect}
 use Rattle.opt_trees.specs.Dce.{Around}
-use Rattle.opt_trees.specs.Simplify.{is_bare, is_empty, along_edge, decide_head, decide, decided, entry, keep, EndsIn, BranchesLast, IsCut, IsOrderly, IsLocal}
+use Rattle.opt_trees.specs.Simplify.{Place, is_bare, is_empty, along_edge, decide_head, decide, decided, entry, keep, EndsIn, BranchesLast, IsCut, IsOrderly, IsLocal}
 use Rattle.opt_trees.proofs.Lists.{none_some, some_same, map-append, has-from_map, Preimage, names-map, at-map, from_some, apart}
 use Rattle.opt_trees.proofs.Trees.{operations_renamed, blocks_renamed}
 use Rattle.opt_trees.proofs.NoneDead.{has-append, has-left, has-right, true_false}
@@ -286,7 +286,8 @@ module _ {N : Names} {S : Contents} {A : Type 0} (d : Dialect S A) (w : Around N
   pub decided_last : BranchesLast t → BranchesLast (decided d w t)
   decided_last = last_made (decide_occurrence d w.alone) (decide_block d w.alone) (decide_turns d w.alone) decide_turns_blocks t (decided d w t) decided_made (λ o x e. decide_last d w.alone x.operations o.head o.regions e)
 
-module _ {N : Names} {S : Contents} {A : Type 0} (d : Dialect S A) (t u : Root N S) (cut : IsCut d t u) where
+module _ {N : Names} {S : Contents} {A : Type 0} (d : Dialect S A) (start : Place N)
+    (t u : Root N S) (cut : IsCut d start t u) where
   entries_kept : EntriesKept cut.gone (block_occurrences_of t)
   entries_kept y h f = not_true (cut.gone y.label.name) (λ e. (cut.there y.label.name e).unreached (entry y h f))
 
@@ -305,18 +306,18 @@ module _ {N : Names} {S : Contents} {A : Type 0} (d : Dialect S A) (t u : Root N
   pub cut_last : BranchesLast t → BranchesLast u
   cut_last = last_made (keep_occurrence cut.gone) (keep_block cut.gone) (keep_turns cut.gone) (keep_turns_blocks cut.gone) t u cut_made (λ o x e. keep_last cut.gone x.operations o.head o.regions e)
 
-module _ {N : Names} {S : Contents} {A : Type 0} (d : Dialect S A) (w : Around N A) (t u : Root N S) (cut : IsCut d (decided d w t) u) where
+module _ {N : Names} {S : Contents} {A : Type 0} (d : Dialect S A) (start : Place N) (w : Around N A) (t u : Root N S) (cut : IsCut d start (decided d w t) u) where
   pub phases_orderly : IsOrderly t → IsOrderly u
-  phases_orderly o = cut_orderly d (decided d w t) u cut (decided_orderly d w t o)
+  phases_orderly o = cut_orderly d start (decided d w t) u cut (decided_orderly d w t o)
 
   pub phases_local : IsLocal t → IsLocal u
-  phases_local l = cut_local d (decided d w t) u cut (decided_local d w t l)
+  phases_local l = cut_local d start (decided d w t) u cut (decided_local d w t l)
 
   pub phases_last : BranchesLast t → BranchesLast u
-  phases_last l = cut_last d (decided d w t) u cut (decided_last d w t l)
+  phases_last l = cut_last d start (decided d w t) u cut (decided_last d w t l)
 
   pub phases_apart : OperationsApart t → OperationsApart u
-  phases_apart a = cut_apart d (decided d w t) u cut (decided_apart d w t a)
+  phases_apart a = cut_apart d start (decided d w t) u cut (decided_apart d w t a)
 
 -- other names
 

@@ -9,7 +9,7 @@ use Rattle.opt_trees.specs.Dialect.{Dialect}
 use Rattle.opt_trees.specs.Sccp.{Name, Old, New, fresh, rename_name, IsSccp}
 use Rattle.opt_trees.proofs.Lists.{none_some, some_same}
 use Rattle.opt_trees.specs.Dce.{Around, Agree, IsDce}
-use Rattle.opt_trees.specs.Simplify.{IsSimplify, IsOrderly}
+use Rattle.opt_trees.specs.Simplify.{all_of, IsSimplify, IsOrderly}
 use Rattle.opt_trees.proofs.SccpRenamed.{sccp_unique, sccp_renamed}
 use Rattle.opt_trees.proofs.DceRenamed.{dce_renamed}
 use Rattle.opt_trees.proofs.SimplifyRenamed.{simplify_renamed}
@@ -55,6 +55,7 @@ module _ {N M P : Names} {S : Contents} {A : Type 0} (d : Dialect S A) (f : Rena
     pub simplify_same : (a : Root N S) (b : Root M S) → IsOrderly t → IsOrderly u → IsSimplify d v t a → IsSimplify d w u b → rename_root (maps f) a ≡ rename_root (maps g) b
     simplify_same a b o p x y =
         simplify_unique d z (rename_root (maps g) u) (rename_root (maps f) a) (rename_root (maps g) b)
-        (λ q c. phases_orderly d z (rename_root (maps g) u) q c (renamed_orderly g u p))
-        (subst (λ q. IsSimplify d z q (rename_root (maps f) a)) same (simplify_renamed d f t a v z e (λ q c. phases_apart d v t q c o.operations) x))
-        (simplify_renamed d g u b w z h (λ q c. phases_apart d w u q c p.operations) y)
+        (λ q c.
+        phases_orderly d (all_of (rename_root (maps g) u)) z (rename_root (maps g) u) q c (renamed_orderly g u p))
+        (subst (λ q. IsSimplify d z q (rename_root (maps f) a)) same (simplify_renamed d f t a v z e (λ q c. phases_apart d (all_of t) v t q c o.operations) x))
+        (simplify_renamed d g u b w z h (λ q c. phases_apart d (all_of u) w u q c p.operations) y)

@@ -5,7 +5,7 @@ use Rattle.ir_trees.specs.Names.{Names, Contents}
 use Rattle.ir_trees.specs.Trees.{Head, Sort, Operations, Blocks, Regions, Tree, end, operation, block, region, Root}
 use Rattle.opt_trees.specs.Occurrences.{Has, Occurrence, BlockOccurrence, Site, Spot, Inside, inner, next_block, next_region, occurrences_in, block_occurrences_in, block_occurrences_of, at_root}
 use Rattle.opt_trees.specs.Dialect.{Dialect}
-use Rattle.opt_trees.specs.Simplify.{IsReached, entry, further, IsEntered, IsVisited, of_root, of_inner, IsVisitedSsa, keep, IsCut, IsLocal}
+use Rattle.opt_trees.specs.Simplify.{Place, IsReached, entry, further, IsEntered, IsVisited, of_place, of_inner, IsVisitedSsa, keep, IsCut, IsLocal}
 use Rattle.opt_trees.proofs.NoneDead.{has-append, has-left, has-right, true_false}
 
 abbrev pub blocks_round : (N : Names) (S : Contents) (s : Sort) → Inside N S s → List N.block
@@ -258,7 +258,7 @@ module _ {N : Names} {S : Contents} where
       (λ y. inr (⊎_elim (λ q. absurd q) (λ q. held_in (λ z w. has-right z (block_occurrences_in bs c) (block_occurrences_in rest (next_region c)) w) q) (holder rest (next_region c) o y)))
       (has-append o (occurrences_in bs c) (occurrences_in rest (next_region c)) h)
 
-module _ {N : Names} {S : Contents} {A : Type 0} (d : Dialect S A) (t after : Root N S) (cut : IsCut d t after) (local : IsLocal t) where
+module _ {N : Names} {S : Contents} {A : Type 0} (d : Dialect S A) (start : Place N) (t after : Root N S) (cut : IsCut d start t after) (local : IsLocal t) where
   abbrev g : N.block → Bool
   g = cut.gone
 
@@ -286,14 +286,14 @@ module _ {N : Names} {S : Contents} {A : Type 0} (d : Dialect S A) (t after : Ro
       let q = operation_was g t.regions (at_root t) (at_root u) root_like tt entries o h in
       further q.it b q.stands (subst (IsReached t) (ap (λ l. l.name) q.like.label) (reached_before o.site.label.name p)) (subst (λ z. Has b z.successors) q.like.head s)
 
-  visited_before : (o : N.operation) (i : ℕ) → IsVisited d u o i → IsVisited d t o i
-  visited_before _ _ (of_root i) = of_root i
+  visited_before : (o : N.operation) (i : ℕ) → IsVisited d start u o i → IsVisited d start t o i
+  visited_before _ _ (of_place o i x) = of_place o i x
   visited_before _ _ (of_inner p i h v e) =
       let q = operation_was g t.regions (at_root t) (at_root u) root_like tt entries p h in
       let same : d.is_ssa p.site.spot.owner.content p.site.spot.region ≡ d.is_ssa q.it.site.spot.owner.content q.it.site.spot.region = λ j. d.is_ssa (q.like.spot.owner j).content (q.like.spot.region j) in
-      subst (λ z. IsVisited d t z.name i) (sym q.like.head)
+      subst (λ z. IsVisited d start t z.name i) (sym q.like.head)
       (of_inner q.it i q.stands
-      (subst (λ z. IsVisited d t q.it.site.spot.owner.name z) q.like.spot.region (subst (λ z. IsVisited d t z.name p.site.spot.region) q.like.spot.owner (visited_before p.site.spot.owner.name p.site.spot.region v)))
+      (subst (λ z. IsVisited d start t q.it.site.spot.owner.name z) q.like.spot.region (subst (λ z. IsVisited d start t z.name p.site.spot.region) q.like.spot.owner (visited_before p.site.spot.owner.name p.site.spot.region v)))
       (subst (IsEntered t q.it.site.spot q.it.site.label.name) same (entered p.site.spot q.it.site.spot p.site.label.name q.it.site.label.name (d.is_ssa p.site.spot.owner.content p.site.spot.region) (q.like.spot.was_first) (λ r. subst (IsReached t) (ap (λ l. l.name) q.like.label) (reached_before p.site.label.name r)) e)))
     where
       entered : (c k : Spot N S) (a b : N.block) (f : Bool) → (c.first ≡ true → k.first ≡ true) → (IsReached u a → IsReached t b) → IsEntered u c a f → IsEntered t k b f
@@ -312,19 +312,19 @@ module _ {N : Names} {S : Contents} {A : Type 0} (d : Dialect S A) (t after : Ro
       let there = reached_after o.site.label.name p own.it own.stands (ap (λ l. l.name) own.label) (subst (λ c. AllKept g c.within) (sym own.spot) round) in
       further q.it b q.stands (subst (IsReached u) (ap (λ l. l.name) (sym q.like.label)) there) (subst (λ z. Has b z.successors) (sym q.like.head) s)
 
-  cut_reaches : (x : BlockOccurrence N S) → Has x (block_occurrences_of u) → IsVisitedSsa d u x.spot → IsReached u x.label.name
+  cut_reaches : (x : BlockOccurrence N S) → Has x (block_occurrences_of u) → IsVisitedSsa d start u x.spot → IsReached u x.label.name
   cut_reaches x h v =
       let q = block_was g t.regions (at_root t) (at_root u) root_like tt entries x h in
-      let visited : IsVisitedSsa d t q.it.spot = record {
-        visited = subst (λ z. IsVisited d t q.it.spot.owner.name z) q.spot.region (subst (λ z. IsVisited d t z.name x.spot.region) q.spot.owner (visited_before x.spot.owner.name x.spot.region v.visited));
+      let visited : IsVisitedSsa d start t q.it.spot = record {
+        visited = subst (λ z. IsVisited d start t q.it.spot.owner.name z) q.spot.region (subst (λ z. IsVisited d start t z.name x.spot.region) q.spot.owner (visited_before x.spot.owner.name x.spot.region v.visited));
         ssa = (λ j. d.is_ssa (sym q.spot.owner j).content (sym q.spot.region j)) ∙ v.ssa;
       } in
       subst (IsReached u) (ap (λ l. l.name) (sym q.label)) (by_test q visited (cut.reach q.it.label.name) refl)
     where
-      by_test : (q : BlockWas g (block_occurrences_of t) x) → IsVisitedSsa d t q.it.spot → (b : Bool) → cut.reach q.it.label.name ≡ b → IsReached u q.it.label.name
+      by_test : (q : BlockWas g (block_occurrences_of t) x) → IsVisitedSsa d start t q.it.spot → (b : Bool) → cut.reach q.it.label.name ≡ b → IsReached u q.it.label.name
       by_test q v true e = reached_after q.it.label.name (cut.reached q.it.label.name e) q.it q.stands refl q.kept.1
       by_test q v false e = absurd (true_false (g q.it.label.name) (cut.all q.it.label.name (record { it = q.it; stands = q.stands; name = refl; visited = v; unreached = λ r. true_false (cut.reach q.it.label.name) (cut.all_reached q.it.label.name r) e })) q.kept.0)
 
   -- each block of a visited SSA region that is left is reached
-  pub cut_goal : (x : BlockOccurrence N S) → Has x (block_occurrences_of after) → IsVisitedSsa d after x.spot → IsReached after x.label.name
-  cut_goal = subst (λ z. (x : BlockOccurrence N S) → Has x (block_occurrences_of z) → IsVisitedSsa d z x.spot → IsReached z x.label.name) (sym cut.is) cut_reaches
+  pub cut_goal : (x : BlockOccurrence N S) → Has x (block_occurrences_of after) → IsVisitedSsa d start after x.spot → IsReached after x.label.name
+  cut_goal = subst (λ z. (x : BlockOccurrence N S) → Has x (block_occurrences_of z) → IsVisitedSsa d start z x.spot → IsReached z x.label.name) (sym cut.is) cut_reaches

@@ -9,7 +9,7 @@ use Rattle.opt_trees.specs.Occurrences.{Has, cons_if, Spot, rename_spot, rename_
 use Rattle.opt_trees.specs.Dialect.{Dialect}
 use Rattle.opt_trees.specs.Facts.{forwarded}
 use Rattle.opt_trees.specs.Dce.{Around, Agree}
-use Rattle.opt_trees.specs.Simplify.{is_empty, is_end, is_bare, along_edge, decide_head, decide, decided, IsReached, entry, further, IsEntered, IsVisited, of_root, of_inner, IsVisitedSsa, IsUnreached, keep, IsCut, Joinable, IsGiven, Follows, stops, goes_on, use_instead, but_last, append, Joins, ends, operations, regions, taken, first, chain_ends, chain_goes_on, IsJoined, IsSimplify, Chases, goes, goes_by, ComesBack}
+use Rattle.opt_trees.specs.Simplify.{Place, OfOperations, OfRegion, BeginsAt, all_of, rename_place, use_head, is_empty, is_end, is_bare, along_edge, decide_head, decide, decided, IsReached, entry, further, IsEntered, IsVisited, of_place, of_inner, IsVisitedSsa, IsUnreached, keep, IsCut, Joinable, IsGiven, Follows, stops, goes_on, use_instead, but_last, append, Joins, ends, operations, regions, taken, first, chain_ends, chain_goes_on, IsJoined, IsSimplify, Chases, goes, goes_by, ComesBack}
 use Rattle.opt_trees.proofs.Lists.{map-map, names-map, at-map, cons_if-map, has-map, has-from_map, has-apart, apart, at-to, from_some, none_some}
 use Rattle.opt_trees.proofs.FactsRenamed.{forwarded_under}
 use Rattle.opt_trees.proofs.DceRenamed.{rt, operation_to, operation_from, block_to, block_from}
@@ -60,7 +60,21 @@ module _ {N M : Names} {S : Contents} {A : Type 0} (d : Dialect S A) (r : Renami
     pub decided_renamed : (t : Root N S) → decided d w' (rename_root (maps r) t) ≡ rename_root (maps r) (decided d w t)
     decided_renamed t = λ i. record { head = rename_head (maps r) t.head; regions = decide_under t.regions i }
 
+module _ {N M : Names} {S : Contents} {A : Type 0} (d : Dialect S A) (r : Renaming N M) (start : Place N) where
   -- 2. blocks
+
+  abbrev new_start : Place M
+  new_start = rename_place (maps r) start
+
+  begins_to : (p : Place N) (o : N.operation) (i : ℕ) →
+      BeginsAt p o i → BeginsAt (rename_place (maps r) p) (r.operation.to o) i
+  begins_to (OfOperations os) o i h = has-map r.operation.to o os h
+  begins_to (OfRegion a k) o i h = (ap r.operation.to h.0, h.1)
+
+  begins_from : (p : Place N) (o : N.operation) (i : ℕ) →
+      BeginsAt (rename_place (maps r) p) (r.operation.to o) i → BeginsAt p o i
+  begins_from (OfOperations os) o i h = has-apart r.operation o os h
+  begins_from (OfRegion a k) o i h = (apart r.operation o a h.0, h.1)
 
   module _ (t : Root N S) where
     reached_to : (b : N.block) → IsReached t b → IsReached (rt r t) (r.block.to b)
@@ -91,32 +105,35 @@ module _ {N M : Names} {S : Contents} {A : Type 0} (d : Dialect S A) (r : Renami
     entered_from c b true h = reached_from (r.block.to b) h b refl
     entered_from c b false h = h
 
-    visited_to : (o : N.operation) (i : ℕ) → IsVisited d t o i → IsVisited d (rt r t) (r.operation.to o) i
-    visited_to _ _ (of_root i) = of_root i
+    visited_to : (o : N.operation) (i : ℕ) →
+        IsVisited d start t o i → IsVisited d new_start (rt r t) (r.operation.to o) i
+    visited_to _ _ (of_place o i h) = of_place (r.operation.to o) i (begins_to start o i h)
     visited_to _ _ (of_inner o i h v e) = of_inner (rename_occurrence (maps r) o) i (operation_to r t o h) (visited_to o.site.spot.owner.name o.site.spot.region v) (entered_to o.site.spot o.site.label.name (d.is_ssa o.site.spot.owner.content o.site.spot.region) e)
 
-    visited_from : (p : M.operation) (i : ℕ) → IsVisited d (rt r t) p i → (o : N.operation) (j : ℕ) → r.operation.to o ≡ p → j ≡ i → IsVisited d t o j
-    visited_from _ _ (of_root i) o j e f = subst (λ z. IsVisited d t z j) (apart r.operation t.head.name o (sym e)) (of_root j)
+    visited_from : (p : M.operation) (i : ℕ) → IsVisited d new_start (rt r t) p i → (o : N.operation) (j : ℕ) → r.operation.to o ≡ p → j ≡ i → IsVisited d start t o j
+    visited_from _ _ (of_place p i h) o j e f = of_place o j (begins_from start o j
+        (subst (λ z. BeginsAt new_start z j) (sym e) (subst (BeginsAt new_start p) (sym f) h)))
     visited_from _ _ (of_inner p i h v g) o j e f =
         let q = operation_from r t p h in
         let g' = entered_from q.it.site.spot q.it.site.label.name (d.is_ssa q.it.site.spot.owner.content q.it.site.spot.region) (subst (λ z. IsEntered (rt r t) z.site.spot z.site.label.name (d.is_ssa z.site.spot.owner.content z.site.spot.region)) (sym q.is) g) in
-        subst (λ z. IsVisited d t z j) (apart r.operation q.it.head.name o (ap (λ z. z.head.name) q.is ∙ sym e))
+        subst (λ z. IsVisited d start t z j) (apart r.operation q.it.head.name o (ap (λ z. z.head.name) q.is ∙ sym e))
         (of_inner q.it j q.stands (visited_from p.site.spot.owner.name p.site.spot.region v q.it.site.spot.owner.name q.it.site.spot.region (ap (λ z. z.site.spot.owner.name) q.is) (ap (λ z. z.site.spot.region) q.is)) g')
 
-    ssa_to : (c : Spot N S) → IsVisitedSsa d t c → IsVisitedSsa d (rt r t) (rename_spot (maps r) c)
+    ssa_to : (c : Spot N S) → IsVisitedSsa d start t c → IsVisitedSsa d new_start (rt r t) (rename_spot (maps r) c)
     ssa_to c v = record { visited = visited_to c.owner.name c.region v.visited; ssa = v.ssa }
 
-    ssa_from : (c : Spot N S) → IsVisitedSsa d (rt r t) (rename_spot (maps r) c) → IsVisitedSsa d t c
+    ssa_from : (c : Spot N S) → IsVisitedSsa d new_start (rt r t) (rename_spot (maps r) c) → IsVisitedSsa d start t c
     ssa_from c v = record { visited = visited_from (r.operation.to c.owner.name) c.region v.visited c.owner.name c.region refl refl; ssa = v.ssa }
 
-    unreached_to : (b : N.block) → IsUnreached d t b → IsUnreached d (rt r t) (r.block.to b)
+    unreached_to : (b : N.block) → IsUnreached d start t b → IsUnreached d new_start (rt r t) (r.block.to b)
     unreached_to b u = record { it = rename_block_occurrence (maps r) u.it; stands = block_to r t u.it u.stands; name = ap r.block.to u.name; visited = ssa_to u.it.spot u.visited; unreached = λ h. u.unreached (reached_from (r.block.to b) h b refl) }
 
-    unreached_from : (c : M.block) → IsUnreached d (rt r t) c → (b : N.block) × (r.block.to b ≡ c) × IsUnreached d t b
+    unreached_from : (c : M.block) → IsUnreached d new_start (rt r t) c →
+        (b : N.block) × (r.block.to b ≡ c) × IsUnreached d start t b
     unreached_from c u =
         let q = block_from r t u.it u.stands in
         let is : r.block.to q.it.label.name ≡ c = ap (λ z. z.label.name) q.is ∙ u.name in
-        (q.it.label.name, is, record { it = q.it; stands = q.stands; name = refl; visited = ssa_from q.it.spot (subst (λ z. IsVisitedSsa d (rt r t) z.spot) (sym q.is) u.visited); unreached = λ h. u.unreached (subst (IsReached (rt r t)) is (reached_to q.it.label.name h)) })
+        (q.it.label.name, is, record { it = q.it; stands = q.stands; name = refl; visited = ssa_from q.it.spot (subst (λ z. IsVisitedSsa d new_start (rt r t) z.spot) (sym q.is) u.visited); unreached = λ h. u.unreached (subst (IsReached (rt r t)) is (reached_to q.it.label.name h)) })
 
     abbrev gone_at : (N.block → Bool) → Option N.block → Bool
     gone_at g None = false
@@ -137,7 +154,7 @@ module _ {N M : Names} {S : Contents} {A : Type 0} (d : Dialect S A) (r : Renami
         by_test false x y = λ i. block (rename_label (maps r) l) (x i) (y i)
     keep_under g (region bs rest) = λ i. region (keep_under g bs i) (keep_under g rest i)
 
-    pub cut_renamed : (after : Root N S) → IsCut d t after → IsCut d (rename_root (maps r) t) (rename_root (maps r) after)
+    pub cut_renamed : (after : Root N S) → IsCut d start t after → IsCut d new_start (rename_root (maps r) t) (rename_root (maps r) after)
     cut_renamed after p = record {
       reach = gone_pushed p.reach;
       reached = λ c e. reach c e (r.block.back c) refl;
@@ -156,15 +173,29 @@ module _ {N M : Names} {S : Contents} {A : Type 0} (d : Dialect S A) (r : Renami
         all c h None k = let o = origin c h in absurd (none_some o.0 (sym k ∙ ap r.block.back (sym o.1) ∙ r.block.there o.0))
         all c h (Some b) k = ap (gone_at p.reach) k ∙ p.all_reached b (reached_from c h b (r.block.from c b k))
 
-        there : (c : M.block) → gone_pushed p.gone c ≡ true → (q : Option N.block) → r.block.back c ≡ q → IsUnreached d (rt r t) c
+        there : (c : M.block) → gone_pushed p.gone c ≡ true → (q : Option N.block) → r.block.back c ≡ q → IsUnreached d new_start (rt r t) c
         there c e None k = absurd (no_true (ap (gone_at p.gone) (sym k) ∙ e))
-        there c e (Some b) k = subst (IsUnreached d (rt r t)) (r.block.from c b k) (unreached_to b (p.there b (ap (gone_at p.gone) (sym k) ∙ e)))
+        there c e (Some b) k = subst (IsUnreached d new_start (rt r t)) (r.block.from c b k) (unreached_to b (p.there b (ap (gone_at p.gone) (sym k) ∙ e)))
 
   -- 3. chains
 
+  use_head_under : (f : N.value → N.value) (f' : M.value → M.value) →
+      ((v : N.value) → f' (r.value.to v) ≡ r.value.to (f v)) → (h : Head N S) →
+      use_head f' (rename_head (maps r) h) ≡ rename_head (maps r) (use_head f h)
+  use_head_under f f' agree h = λ i. record {
+    name = r.operation.to h.name;
+    content = h.content;
+    results = map (rename_defined r.value.to) h.results;
+    operands = (map-map f' r.value.to h.operands
+        ∙ (λ j. map (λ v. agree v j) h.operands)
+        ∙ sym (map-map r.value.to f h.operands)) i;
+    successors = map r.block.to h.successors;
+  }
+
   use_under : {s : Sort} (f : N.value → N.value) (f' : M.value → M.value) → ((v : N.value) → f' (r.value.to v) ≡ r.value.to (f v)) → (x : Tree N S s) → use_instead f' (rename (maps r) x) ≡ rename (maps r) (use_instead f x)
   use_under f f' agree end = refl
-  use_under f f' agree (operation h rs rest) = λ i. operation (record { name = r.operation.to h.name; content = h.content; results = map (rename_defined r.value.to) h.results; operands = (map-map f' r.value.to h.operands ∙ (λ j. map (λ v. agree v j) h.operands) ∙ sym (map-map r.value.to f h.operands)) i; successors = map r.block.to h.successors }) (use_under f f' agree rs i) (use_under f f' agree rest i)
+  use_under f f' agree (operation h rs rest) = λ i. operation (use_head_under f f' agree h i)
+      (use_under f f' agree rs i) (use_under f f' agree rest i)
   use_under f f' agree (block l ops rest) = λ i. block (rename_label (maps r) l) (use_under f f' agree ops i) (use_under f f' agree rest i)
   use_under f f' agree (region bs rest) = λ i. region (use_under f f' agree bs i) (use_under f f' agree rest i)
 
@@ -192,14 +223,14 @@ module _ {N M : Names} {S : Contents} {A : Type 0} (d : Dialect S A) (r : Renami
       no_two a b c l e = cc e
 
   module _ (t : Root N S) where
-    joinable_to : (b c : N.block) → Joinable d t b c → Joinable d (rt r t) (r.block.to b) (r.block.to c)
+    joinable_to : (b c : N.block) → Joinable d start t b c → Joinable d new_start (rt r t) (r.block.to b) (r.block.to c)
     joinable_to b c j = record {
       last = rename_occurrence (maps r) j.last;
       stands = operation_to r t j.last j.stands;
       in_block = ap r.block.to j.in_block;
       visited = ssa_to t j.last.site.spot j.visited;
       reached = reached_to t b j.reached;
-      bare = bare_under j.last.head j.last.regions ∙ j.bare;
+      bare = bare_under d r j.last.head j.last.regions ∙ j.bare;
       leads = ap (map r.block.to) j.leads;
       target = rename_block_occurrence (maps r) j.target;
       target_stands = block_to r t j.target j.target_stands;
@@ -211,7 +242,7 @@ module _ {N M : Names} {S : Contents} {A : Type 0} (d : Dialect S A) (r : Renami
           sym q.is ∙ ap (rename_occurrence (maps r)) (j.single q.it q.stands (has-apart r.block c q.it.head.successors (subst (λ z. Has (r.block.to c) z.head.successors) (sym q.is) k)));
     }
 
-    given_to : (v u : N.value) → IsGiven d t v u → IsGiven d (rt r t) (r.value.to v) (r.value.to u)
+    given_to : (v u : N.value) → IsGiven d start t v u → IsGiven d new_start (rt r t) (r.value.to v) (r.value.to u)
     unfolding joinable_to
     given_to v u g = record {
       from = r.block.to g.from;
@@ -223,25 +254,25 @@ module _ {N M : Names} {S : Contents} {A : Type 0} (d : Dialect S A) (r : Renami
     }
 
     -- what comes back comes back
-    chases_to : (v u : N.value) → Chases d t v u → Chases d (rt r t) (r.value.to v) (r.value.to u)
+    chases_to : (v u : N.value) → Chases d start t v u → Chases d new_start (rt r t) (r.value.to v) (r.value.to u)
     chases_to _ _ (goes v u g) = goes (r.value.to v) (r.value.to u) (given_to v u g)
     chases_to _ _ (goes_by v u x g c) = goes_by (r.value.to v) (r.value.to u) (r.value.to x) (given_to v u g) (chases_to u x c)
 
-    pub back_renamed : ComesBack d t → ComesBack d (rename_root (maps r) t)
+    pub back_renamed : ComesBack d start t → ComesBack d new_start (rename_root (maps r) t)
     back_renamed b = record { argument = r.value.to b.argument; loop = chases_to b.argument b.argument b.loop }
 
   module _ (t : Root N S) (o : OperationsApart t) where
     -- with the origins of its last operation and its target
-    record From (b' c' : M.block) (j' : Joinable d (rt r t) b' c') : Type 0 where
+    record From (b' c' : M.block) (j' : Joinable d new_start (rt r t) b' c') : Type 0 where
       pub b : N.block
       pub c : N.block
       pub b_is : r.block.to b ≡ b'
       pub c_is : r.block.to c ≡ c'
-      pub j : Joinable d t b c
+      pub j : Joinable d start t b c
       pub last_is : rename_occurrence (maps r) j.last ≡ j'.last
       pub target_is : rename_block_occurrence (maps r) j.target ≡ j'.target
 
-    joinable_from : (b' c' : M.block) (j' : Joinable d (rt r t) b' c') → From b' c' j'
+    joinable_from : (b' c' : M.block) (j' : Joinable d new_start (rt r t) b' c') → From b' c' j'
     joinable_from b' c' j' =
         let q = operation_from r t j'.last j'.stands in
         let x = block_from r t j'.target j'.target_stands in
@@ -258,9 +289,9 @@ module _ {N M : Names} {S : Contents} {A : Type 0} (d : Dialect S A) (r : Renami
             last = q.it;
             stands = q.stands;
             in_block = refl;
-            visited = ssa_from t q.it.site.spot (subst (λ z. IsVisitedSsa d (rt r t) z.site.spot) (sym q.is) j'.visited);
+            visited = ssa_from t q.it.site.spot (subst (λ z. IsVisitedSsa d new_start (rt r t) z.site.spot) (sym q.is) j'.visited);
             reached = reached_from t b' j'.reached q.it.site.label.name b_is;
-            bare = sym (bare_under q.it.head q.it.regions) ∙ ap (λ z. is_bare d z.head z.regions) q.is ∙ j'.bare;
+            bare = sym (bare_under d r q.it.head q.it.regions) ∙ ap (λ z. is_bare d z.head z.regions) q.is ∙ j'.bare;
             leads = one.2 ∙ ap (λ z. z ∷ []) same;
             target = x.it;
             target_stands = x.stands;
@@ -275,7 +306,7 @@ module _ {N M : Names} {S : Contents} {A : Type 0} (d : Dialect S A) (r : Renami
           target_is = x.is;
         }
 
-    given_from : (v' u' : M.value) → IsGiven d (rt r t) v' u' → (v u : N.value) × (r.value.to v ≡ v') × (r.value.to u ≡ u') × IsGiven d t v u
+    given_from : (v' u' : M.value) → IsGiven d new_start (rt r t) v' u' → (v u : N.value) × (r.value.to v ≡ v') × (r.value.to u ≡ u') × IsGiven d start t v u
     given_from v' u' g =
         let f = joinable_from g.from g.to g.joins in
         let a = from_some r.value.to (slice_get (names_of f.j.target.label.arguments) g.place) v'
@@ -284,8 +315,8 @@ module _ {N M : Names} {S : Contents} {A : Type 0} (d : Dialect S A) (r : Renami
         (sym (at-map r.value.to (forwarded d f.j.last.head 0) g.place) ∙ ap (λ l. slice_get l g.place) (sym (forwarded_under d r f.j.last.head 0)) ∙ ap (λ z. slice_get (forwarded d z.head 0) g.place) f.last_is ∙ g.gives) in
         (a.it, b.it, a.is, b.is, record { from = f.b; to = f.c; joins = f.j; place = g.place; takes = a.some; gives = b.some })
 
-    follows_to : (v u : N.value) → Follows d t v u → Follows d (rt r t) (r.value.to v) (r.value.to u)
-    follows_to _ _ (stops v n) = stops (r.value.to v) (λ u' g. let q = given_from (r.value.to v) u' g in n q.1 (subst (λ z. IsGiven d t z q.1) (apart r.value q.0 v q.2) q.4))
+    follows_to : (v u : N.value) → Follows d start t v u → Follows d new_start (rt r t) (r.value.to v) (r.value.to u)
+    follows_to _ _ (stops v n) = stops (r.value.to v) (λ u' g. let q = given_from (r.value.to v) u' g in n q.1 (subst (λ z. IsGiven d start t z q.1) (apart r.value q.0 v q.2) q.4))
     follows_to _ _ (goes_on v u x g f) = goes_on (r.value.to v) (r.value.to u) (r.value.to x) (given_to t v u g) (follows_to u x f)
 
     abbrev name_at : (N.value → N.value) → M.value → Option N.value → M.value
@@ -299,13 +330,13 @@ module _ {N M : Names} {S : Contents} {A : Type 0} (d : Dialect S A) (r : Renami
     block_at None = None
     block_at (Some b) = Some (r.block.to b)
 
-    not_joinable_to : (b : N.block) → ((c : N.block) → Joinable d t b c → ⊥) → (c' : M.block) → Joinable d (rt r t) (r.block.to b) c' → ⊥
-    not_joinable_to b n c' j' = let f = joinable_from (r.block.to b) c' j' in n f.c (subst (λ z. Joinable d t z f.c) (apart r.block f.b b f.b_is) f.j)
+    not_joinable_to : (b : N.block) → ((c : N.block) → Joinable d start t b c → ⊥) → (c' : M.block) → Joinable d new_start (rt r t) (r.block.to b) c' → ⊥
+    not_joinable_to b n c' j' = let f = joinable_from (r.block.to b) c' j' in n f.c (subst (λ z. Joinable d start t z f.c) (apart r.block f.b b f.b_is) f.j)
 
-    not_joined_to : (c : N.block) → ((b : N.block) → Joinable d t b c → ⊥) → (b' : M.block) → Joinable d (rt r t) b' (r.block.to c) → ⊥
-    not_joined_to c n b' j' = let f = joinable_from b' (r.block.to c) j' in n f.b (subst (λ z. Joinable d t f.b z) (apart r.block f.c c f.c_is) f.j)
+    not_joined_to : (c : N.block) → ((b : N.block) → Joinable d start t b c → ⊥) → (b' : M.block) → Joinable d new_start (rt r t) b' (r.block.to c) → ⊥
+    not_joined_to c n b' j' = let f = joinable_from b' (r.block.to c) j' in n f.b (subst (λ z. Joinable d start t f.b z) (apart r.block f.c c f.c_is) f.j)
 
-    joins_to : (c : Option N.block) (s : Sort) (x y : Tree N S s) → Joins d t c s x y → Joins d (rt r t) (block_at c) s (rename (maps r) x) (rename (maps r) y)
+    joins_to : (c : Option N.block) (s : Sort) (x y : Tree N S s) → Joins d start t c s x y → Joins d new_start (rt r t) (block_at c) s (rename (maps r) x) (rename (maps r) y)
     joins_to _ _ _ _ (ends s) = ends s
     joins_to _ _ _ _ (operations h rs qs rest more x y) = operations (rename_head (maps r) h) (rename (maps r) rs) (rename (maps r) qs) (rename (maps r) rest) (rename (maps r) more) (joins_to None Regions rs qs x) (joins_to None Operations rest more y)
     joins_to _ _ _ _ (regions bs cs rest more x y) = regions (rename (maps r) bs) (rename (maps r) cs) (rename (maps r) rest) (rename (maps r) more) (joins_to None Blocks bs cs x) (joins_to None Regions rest more y)
@@ -314,27 +345,34 @@ module _ {N M : Names} {S : Contents} {A : Type 0} (d : Dialect S A) (r : Renami
     joins_to _ _ _ _ (chain_ends b ops own n x) = chain_ends (r.block.to b) (rename (maps r) ops) (rename (maps r) own) (not_joinable_to b n) (joins_to None Operations ops own x)
     joins_to _ _ _ _ (chain_goes_on b z ops own others all j h x y e) =
         chain_goes_on (r.block.to b) (rename_block_occurrence (maps r) z) (rename (maps r) ops) (rename (maps r) own) (rename (maps r) others) (rename (maps r) all) (joinable_to t b z.label.name j) (block_to r t z h)
-        (subst (λ q. Joins d (rt r t) None Operations q (rename (maps r) own)) (sym (but_last_under ops)) (joins_to None Operations (but_last ops) own x))
+        (subst (λ q. Joins d new_start (rt r t) None Operations q (rename (maps r) own)) (sym (but_last_under ops)) (joins_to None Operations (but_last ops) own x))
         (joins_to (Some z.label.name) Operations z.operations others y)
         (ap (rename (maps r)) e ∙ sym (append_under own others))
 
-    pub joined_renamed : (after : Root N S) → IsJoined d t after → IsJoined d (rename_root (maps r) t) (rename_root (maps r) after)
+    pub joined_renamed : (after : Root N S) → IsJoined d start t after → IsJoined d new_start (rename_root (maps r) t) (rename_root (maps r) after)
     joined_renamed after p = record {
       names = names_pushed p.names;
       follows = λ w. by_case w (r.value.back w) refl;
       regions = rename (maps r) p.regions;
       joins = joins_to None Regions t.regions p.regions p.joins;
-      is = ap (rename_root (maps r)) p.is ∙ λ i. record { head = rename_head (maps r) t.head; regions = sym (use_under p.names (names_pushed p.names) (λ v. ap (name_at p.names (r.value.to v)) (r.value.there v)) p.regions) i };
+      is = ap (rename_root (maps r)) p.is ∙ λ i. record {
+        head = sym (use_head_under p.names (names_pushed p.names) agree t.head) i;
+        regions = sym (use_under p.names (names_pushed p.names) agree p.regions) i;
+      };
     }
       where
-        by_case : (w : M.value) (q : Option N.value) → r.value.back w ≡ q → Follows d (rt r t) w (name_at p.names w (r.value.back w))
-        by_case w None e = subst (λ q. Follows d (rt r t) w (name_at p.names w q)) (sym e) (stops w (λ u' g. let a = given_from w u' g in none_some a.0 (sym e ∙ ap r.value.back (sym a.2) ∙ r.value.there a.0)))
-        by_case w (Some v) e = subst (λ q. Follows d (rt r t) w (name_at p.names w q)) (sym e) (subst (λ z. Follows d (rt r t) z (r.value.to (p.names v))) (r.value.from w v e) (follows_to v (p.names v) (p.follows v)))
+        agree : (v : N.value) → names_pushed p.names (r.value.to v) ≡ r.value.to (p.names v)
+        agree v = ap (name_at p.names (r.value.to v)) (r.value.there v)
 
+        by_case : (w : M.value) (q : Option N.value) → r.value.back w ≡ q → Follows d new_start (rt r t) w (name_at p.names w (r.value.back w))
+        by_case w None e = subst (λ q. Follows d new_start (rt r t) w (name_at p.names w q)) (sym e) (stops w (λ u' g. let a = given_from w u' g in none_some a.0 (sym e ∙ ap r.value.back (sym a.2) ∙ r.value.there a.0)))
+        by_case w (Some v) e = subst (λ q. Follows d new_start (rt r t) w (name_at p.names w q)) (sym e) (subst (λ z. Follows d new_start (rt r t) z (r.value.to (p.names v))) (r.value.from w v e) (follows_to v (p.names v) (p.follows v)))
+
+module _ {N M : Names} {S : Contents} {A : Type 0} (d : Dialect S A) (r : Renaming N M) where
   -- what simplify makes of the tree under other names is what it makes of the tree, under those names
-  pub simplify_renamed : (t after : Root N S) (w : Around N A) (w' : Around M A) → Agree r w w' → ((u : Root N S) → IsCut d (decided d w t) u → OperationsApart u) → IsSimplify d w t after → IsSimplify d w' (rename_root (maps r) t) (rename_root (maps r) after)
+  pub simplify_renamed : (t after : Root N S) (w : Around N A) (w' : Around M A) → Agree r w w' → ((u : Root N S) → IsCut d (all_of t) (decided d w t) u → OperationsApart u) → IsSimplify d w t after → IsSimplify d w' (rename_root (maps r) t) (rename_root (maps r) after)
   simplify_renamed t after w w' agree o p = record {
     cut = rename_root (maps r) p.cut;
-    is_cut = subst (λ z. IsCut d z (rename_root (maps r) p.cut)) (sym (decided_renamed w w' agree t)) (cut_renamed (decided d w t) p.cut p.is_cut);
-    is_joined = joined_renamed p.cut (o p.cut p.is_cut) after p.is_joined;
+    is_cut = subst (λ z. IsCut d (rename_place (maps r) (all_of t)) z (rename_root (maps r) p.cut)) (sym (decided_renamed d r w w' agree t)) (cut_renamed d r (all_of t) (decided d w t) p.cut p.is_cut);
+    is_joined = joined_renamed d r (all_of t) p.cut (o p.cut p.is_cut) after p.is_joined;
   }

@@ -8,7 +8,7 @@ use Rattle.opt_trees.specs.Dialect.{Dialect, Lawful}
 use Rattle.opt_trees.specs.Facts.{Facts, IsMostPrecise, IsLacking}
 use Rattle.opt_trees.specs.Sccp.{fresh, fresh_maps, IsSccp, KeepsFacts, facts_after, CanTell, NamesConstants}
 use Rattle.opt_trees.specs.Dce.{Around, Item, IsDead, IsDce, IsWell, Agree}
-use Rattle.opt_trees.specs.Simplify.{IsReached, IsVisitedSsa, IsLocal, BranchesLast, IsSimplified, LosesUse, ComesBack, IsJoined, IsCut, IsSimplify, IsOrderly, decided}
+use Rattle.opt_trees.specs.Simplify.{Place, rename_place, IsReached, IsVisitedSsa, IsLocal, BranchesLast, IsSimplified, LosesUse, ComesBack, IsJoined, IsCut, IsSimplify, IsOrderly, decided}
 
 module _ (N : Names) (S : Contents) (A : Type 0) where
   -- there is one list of most precise facts at most
@@ -51,16 +51,16 @@ module _ (N : Names) (S : Contents) (A : Type 0) where
 
   -- what the first two phases make of an orderly tree is orderly, and of a local one local
   abbrev pub CutOrderly : Type 0
-  CutOrderly = (d : Dialect S A) (w : Around N A) (t cut : Root N S) →
-      IsCut d (decided d w t) cut → IsOrderly t → IsOrderly cut
+  CutOrderly = (d : Dialect S A) (p : Place N) (w : Around N A) (t cut : Root N S) →
+      IsCut d p (decided d w t) cut → IsOrderly t → IsOrderly cut
 
   abbrev pub CutLocal : Type 0
-  CutLocal = (d : Dialect S A) (w : Around N A) (t cut : Root N S) →
-      IsCut d (decided d w t) cut → IsLocal t → IsLocal cut
+  CutLocal = (d : Dialect S A) (p : Place N) (w : Around N A) (t cut : Root N S) →
+      IsCut d p (decided d w t) cut → IsLocal t → IsLocal cut
 
   abbrev pub CutLast : Type 0
-  CutLast = (d : Dialect S A) (w : Around N A) (t cut : Root N S) →
-      IsCut d (decided d w t) cut → BranchesLast t → BranchesLast cut
+  CutLast = (d : Dialect S A) (p : Place N) (w : Around N A) (t cut : Root N S) →
+      IsCut d p (decided d w t) cut → BranchesLast t → BranchesLast cut
 
   -- branches are decided, blocks cut and chains joined in one way
   abbrev pub OneSimplify : Type 0
@@ -69,8 +69,9 @@ module _ (N : Names) (S : Contents) (A : Type 0) where
 
   -- each block of a visited SSA region that is left is reached
   abbrev pub CutGoal : Type 0
-  CutGoal = (d : Dialect S A) (t after : Root N S) → IsLocal t → IsCut d t after → (x : BlockOccurrence N S) →
-      Has x (block_occurrences_of after) → IsVisitedSsa d after x.spot → IsReached after x.label.name
+  CutGoal = (d : Dialect S A) (p : Place N) (t after : Root N S) →
+      IsLocal t → IsCut d p t after → (x : BlockOccurrence N S) →
+      Has x (block_occurrences_of after) → IsVisitedSsa d p after x.spot → IsReached after x.label.name
 
   -- each block of a visited SSA region that simplify leaves is reached, and no two can be joined
   abbrev pub SimplifyGoal : Type 0
@@ -79,7 +80,8 @@ module _ (N : Names) (S : Contents) (A : Type 0) where
 
   -- where following what was forwarded comes back nothing is joined
   abbrev pub BackRefuses : Type 0
-  BackRefuses = (d : Dialect S A) (t after : Root N S) → IsOrderly t → ComesBack d t → IsJoined d t after → ⊥
+  BackRefuses = (d : Dialect S A) (p : Place N) (t after : Root N S) →
+      IsOrderly t → ComesBack d p t → IsJoined d p t after → ⊥
 
 -- under other names the same is made of a tree
 
@@ -110,8 +112,8 @@ module _ (N M : Names) (S : Contents) (A : Type 0) where
       IsLacking d t k → IsLacking d (rename_root (maps r) t) l
 
   abbrev pub BackRenames : Type 0
-  BackRenames = (d : Dialect S A) (r : Renaming N M) (t : Root N S) →
-      ComesBack d t → ComesBack d (rename_root (maps r) t)
+  BackRenames = (d : Dialect S A) (r : Renaming N M) (p : Place N) (t : Root N S) →
+      ComesBack d p t → ComesBack d (rename_place (maps r) p) (rename_root (maps r) t)
 
   abbrev pub LosesRenames : Type 0
   LosesRenames = (r : Renaming N M) (t after : Root N S) (w : Around N A) (w' : Around M A) → Agree r w w' →

@@ -4,7 +4,7 @@
 use Rattle.std.specs.Prelude.{◌≡◌, ◌⊎◌, ℕ, Bool, true, false, not, ◌&&◌, List, [], ◌∷◌, map, Option, Some, None, if◌then◌else◌}
 use Rattle.std.specs.Prelude.{slice_get}
 use Rattle.ir_trees.specs.Names.{Names, Contents}
-use Rattle.ir_trees.specs.Renames.{names_of}
+use Rattle.ir_trees.specs.Renames.{Maps, names_of}
 use Rattle.ir_trees.specs.Trees.{Head, Label, Sort, Operations, Blocks, Regions, Tree, end, operation, block, region, Root}
 use Rattle.opt_trees.specs.Occurrences.{Has, cons_if, Occurrence, BlockOccurrence, Spot, occurrences_of, block_occurrences_of, defined_in, Use, OperationsApart, BlocksApart, EdgesLocal}
 use Rattle.opt_trees.specs.Dialect.{Dialect}
@@ -71,10 +71,28 @@ module _ {N : Names} {S : Contents} (t : Root N S) where
   IsEntered c b true = IsReached b
   IsEntered c b false = c.first ≡ true
 
-module _ {N : Names} {S : Contents} {A : Type 0} (d : Dialect S A) (t : Root N S) where
+-- where looking begins: at all regions of these operations, or at one region of one operation
+pub data Place (N : Names) : Type 0 where
+  OfOperations : (os : List N.operation) → Place N
+  OfRegion : (o : N.operation) (i : ℕ) → Place N
+
+-- looking begins at the region at this index of the operation
+abbrev pub BeginsAt : {N : Names} → Place N → N.operation → ℕ → Type 0
+BeginsAt (OfOperations os) a i = Has a os
+BeginsAt (OfRegion o k) a i = (a ≡ o) × (i ≡ k)
+
+-- all regions of the root
+abbrev pub all_of : {N : Names} {S : Contents} → Root N S → Place N
+all_of t = OfOperations (t.head.name ∷ [])
+
+abbrev pub rename_place : {N M : Names} → Maps N M → Place N → Place M
+rename_place r (OfOperations os) = OfOperations (map r.operation os)
+rename_place r (OfRegion o i) = OfRegion (r.operation o) i
+
+module _ {N : Names} {S : Contents} {A : Type 0} (d : Dialect S A) (p : Place N) (t : Root N S) where
   -- the region at this index of the operation of this name is visited
   pub data IsVisited : N.operation → ℕ → Type 0 where
-    of_root : (i : ℕ) → IsVisited t.head.name i
+    of_place : (a : N.operation) (i : ℕ) → BeginsAt p a i → IsVisited a i
     of_inner : (o : Occurrence N S) (i : ℕ) → Has o (occurrences_of t) →
         IsVisited o.site.spot.owner.name o.site.spot.region →
         IsEntered t o.site.spot o.site.label.name (d.is_ssa o.site.spot.owner.content o.site.spot.region) →
@@ -99,26 +117,26 @@ keep g (operation h rs rest) = operation h (keep g rs) (keep g rest)
 keep g (block l ops rest) = if g l.name then keep g rest else block l (keep g ops) (keep g rest)
 keep g (region bs rest) = region (keep g bs) (keep g rest)
 
-module _ {N : Names} {S : Contents} {A : Type 0} (d : Dialect S A) where
+module _ {N : Names} {S : Contents} {A : Type 0} (d : Dialect S A) (p : Place N) where
   pub record IsCut (t after : Root N S) : Type 0 where
     pub reach : N.block → Bool
     pub reached : (b : N.block) → reach b ≡ true → IsReached t b
     pub all_reached : (b : N.block) → IsReached t b → reach b ≡ true
     pub gone : N.block → Bool
-    pub there : (b : N.block) → gone b ≡ true → IsUnreached d t b
-    pub all : (b : N.block) → IsUnreached d t b → gone b ≡ true
+    pub there : (b : N.block) → gone b ≡ true → IsUnreached d p t b
+    pub all : (b : N.block) → IsUnreached d p t b → gone b ≡ true
     pub is : after ≡ record { head = t.head; regions = keep gone t.regions }
 
 -- 3. chains
 
-module _ {N : Names} {S : Contents} {A : Type 0} (d : Dialect S A) (r : Root N S) where
+module _ {N : Names} {S : Contents} {A : Type 0} (d : Dialect S A) (p : Place N) (r : Root N S) where
   -- in a visited SSA region b, which is reached, ends in a bare branch whose one successor is t,
   -- another block, not the entry, that nothing else leads to
   pub record Joinable (b t : N.block) : Type 0 where
     pub last : Occurrence N S
     pub stands : Has last (occurrences_of r)
     pub in_block : last.site.label.name ≡ b
-    pub visited : IsVisitedSsa d r last.site.spot
+    pub visited : IsVisitedSsa d p r last.site.spot
     pub reached : IsReached r b
     pub bare : is_bare d last.head last.regions ≡ true
     pub leads : last.head.successors ≡ t ∷ []
@@ -169,7 +187,7 @@ module _ {N : Names} {S : Contents} where
   append end ys = ys
   append (operation h rs rest) ys = operation h rs (append rest ys)
 
-module _ {N : Names} {S : Contents} {A : Type 0} (d : Dialect S A) (r : Root N S) where
+module _ {N : Names} {S : Contents} {A : Type 0} (d : Dialect S A) (p : Place N) (r : Root N S) where
   -- each chain joined at its first: all under a tree, or, from the block b on, the operations of its chain
   pub data Joins : Option N.block → (s : Sort) → Tree N S s → Tree N S s → Type 0 where
     ends : (s : Sort) → Joins None s end end
@@ -179,24 +197,25 @@ module _ {N : Names} {S : Contents} {A : Type 0} (d : Dialect S A) (r : Root N S
     regions : (bs cs : Tree N S Blocks) (rest more : Tree N S Regions) →
         Joins None Blocks bs cs → Joins None Regions rest more → Joins None Regions (region bs rest) (region cs more)
     taken : (l : Label N S) (ops : Tree N S Operations) (rest more : Tree N S Blocks) (b : N.block) →
-        Joinable d r b l.name → Joins None Blocks rest more → Joins None Blocks (block l ops rest) more
+        Joinable d p r b l.name → Joins None Blocks rest more → Joins None Blocks (block l ops rest) more
     first : (l : Label N S) (ops all : Tree N S Operations) (rest more : Tree N S Blocks) →
-        ((b : N.block) → Joinable d r b l.name → ⊥) → Joins (Some l.name) Operations ops all →
+        ((b : N.block) → Joinable d p r b l.name → ⊥) → Joins (Some l.name) Operations ops all →
         Joins None Blocks rest more → Joins None Blocks (block l ops rest) (block l all more)
     chain_ends : (b : N.block) (ops own : Tree N S Operations) →
-        ((t : N.block) → Joinable d r b t → ⊥) → Joins None Operations ops own → Joins (Some b) Operations ops own
+        ((t : N.block) → Joinable d p r b t → ⊥) → Joins None Operations ops own → Joins (Some b) Operations ops own
     chain_goes_on : (b : N.block) (x : BlockOccurrence N S) (ops own others all : Tree N S Operations) →
-        Joinable d r b x.label.name → Has x (block_occurrences_of r) → Joins None Operations (but_last ops) own →
+        Joinable d p r b x.label.name → Has x (block_occurrences_of r) → Joins None Operations (but_last ops) own →
         Joins (Some x.label.name) Operations x.operations others → all ≡ append own others →
         Joins (Some b) Operations ops all
 
-module _ {N : Names} {S : Contents} {A : Type 0} (d : Dialect S A) where
+module _ {N : Names} {S : Contents} {A : Type 0} (d : Dialect S A) (p : Place N) where
+  -- the root may itself use an argument of a block below it
   pub record IsJoined (t after : Root N S) : Type 0 where
     pub names : N.value → N.value
-    pub follows : (v : N.value) → Follows d t v (names v)
+    pub follows : (v : N.value) → Follows d p t v (names v)
     pub regions : Tree N S Regions
-    pub joins : Joins d t None Regions t.regions regions
-    pub is : after ≡ record { head = t.head; regions = use_instead names regions }
+    pub joins : Joins d p t None Regions t.regions regions
+    pub is : after ≡ record { head = use_head names t.head; regions = use_instead names regions }
 
 -- an operand below the root that names a value
 pub record IsUsedBelow {N : Names} {S : Contents} (t : Root N S) (v : N.value) : Type 0 where
@@ -211,11 +230,11 @@ pub record LosesUse {N : Names} {S : Contents} {A : Type 0} (w : Around N A) (t 
   pub went : Has value (defined_in after.regions) → ⊥
   pub named : IsUsedBelow after value ⊎ (Has value t.head.operands ⊎ (w.is_pinned value ≡ true))
 
-module _ {N : Names} {S : Contents} {A : Type 0} (d : Dialect S A) (r : Root N S) where
+module _ {N : Names} {S : Contents} {A : Type 0} (d : Dialect S A) (p : Place N) (r : Root N S) where
   -- following what was forwarded leads from the one value to the other
   pub data Chases : N.value → N.value → Type 0 where
-    goes : (v u : N.value) → IsGiven d r v u → Chases v u
-    goes_by : (v u x : N.value) → IsGiven d r v u → Chases u x → Chases v x
+    goes : (v u : N.value) → IsGiven d p r v u → Chases v u
+    goes_by : (v u x : N.value) → IsGiven d p r v u → Chases u x → Chases v x
 
   -- the second refusal: it comes back
   pub record ComesBack : Type 0 where
@@ -226,8 +245,8 @@ module _ {N : Names} {S : Contents} {A : Type 0} (d : Dialect S A) (w : Around N
   -- the pass
   pub record IsSimplify (t after : Root N S) : Type 0 where
     pub cut : Root N S
-    pub is_cut : IsCut d (decided d w t) cut
-    pub is_joined : IsJoined d cut after
+    pub is_cut : IsCut d (all_of t) (decided d w t) cut
+    pub is_joined : IsJoined d (all_of t) cut after
 
 -- the list's last operation has this head and these regions
 abbrev pub EndsIn : {N : Names} {S : Contents} → Tree N S Operations → Head N S → Tree N S Regions → Type 0
@@ -270,5 +289,5 @@ module _ {N : Names} {S : Contents} (t : Root N S) where
 -- what simplify leaves: each block of a visited SSA region is reached, and no two blocks can be joined
 pub record IsSimplified {N : Names} {S : Contents} {A : Type 0} (d : Dialect S A) (t : Root N S) : Type 0 where
   pub reached : (x : BlockOccurrence N S) →
-      Has x (block_occurrences_of t) → IsVisitedSsa d t x.spot → IsReached t x.label.name
-  pub joined : (b c : N.block) → Joinable d t b c → ⊥
+      Has x (block_occurrences_of t) → IsVisitedSsa d (all_of t) t x.spot → IsReached t x.label.name
+  pub joined : (b c : N.block) → Joinable d (all_of t) t b c → ⊥

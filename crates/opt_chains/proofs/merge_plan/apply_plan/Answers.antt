@@ -13,19 +13,19 @@ use Rattle.opt_chains.proofs.merge_plan.apply_plan.Goals as goal
 pub replace_arguments-requires-clause-live : goal.replace_arguments-requires-clause-live
 replace_arguments-requires-clause-live g c =
     let tree = subst (λ p. (t : ProgramTree g.row.D-Operation.Denot g.row.D-Block.Denot) × StandsFor p c.args.op t) c.program-4.ensures c.know_tree.ensures in
-    let plan = c.requires.plan tree.0 tree.1 in
+    let plan = c.requires.plan c.requires.begins.0 c.requires.begins.1 tree.0 tree.1 in
     plan.stand_ins.there
 
 pub replace_arguments-requires-clause-fixed : goal.replace_arguments-requires-clause-fixed
 replace_arguments-requires-clause-fixed g c =
     let tree = subst (λ p. (t : ProgramTree g.row.D-Operation.Denot g.row.D-Block.Denot) × StandsFor p c.args.op t) c.program-4.ensures c.know_tree.ensures in
-    let plan = c.requires.plan tree.0 tree.1 in
+    let plan = c.requires.plan c.requires.begins.0 c.requires.begins.1 tree.0 tree.1 in
     plan.stand_ins.fixed
 
 pub join_all-requires-clause-can : goal.join_all-requires-clause-can
 join_all-requires-clause-can g c =
     let tree = subst (λ p. (t : ProgramTree g.row.D-Operation.Denot g.row.D-Block.Denot) × StandsFor p c.args.op t) c.program-4.ensures c.know_tree.ensures in
-    let plan = c.requires.plan tree.0 tree.1 in
+    let plan = c.requires.plan c.requires.begins.0 c.requires.begins.1 tree.0 tree.1 in
     let lists : HasLists c.program.result.now = assumption c.know_lists.ensures in
     let known : IsKnown g.D.Meanings.meaning c.args.ctx.now.program c.args.op tree.0 = record {
       lists = subst HasLists c.program.ensures lists;
@@ -35,12 +35,12 @@ join_all-requires-clause-can g c =
       used = subst (λ p. (v : Value) → IsUsed p v → IsLiveValue p v) c.program-2.ensures c.know_values.ensures.used;
       stands = subst (λ p. (v : Value) (ty : TypeHandle) → type_at p v ≡ Some ty → StandsAtDefiner p v ty) c.program-2.ensures c.know_values.ensures.stands;
     } in
-    joins_now g.D.Meanings.meaning c.args.ctx.now.program c.replace_arguments.new.ctx.program c.args.op tree.0 known c.args.joins.now c.args.stand_ins.now plan.chains plan.stand_ins c.replace_arguments.ensures.replaced
+    joins_now g.D.Meanings.meaning c.requires.begins.0 c.args.ctx.now.program c.replace_arguments.new.ctx.program c.args.op tree.0 known c.args.joins.now c.args.stand_ins.now plan.chains plan.stand_ins c.replace_arguments.ensures.replaced
 
 pub join_all-requires-clause-unused : goal.join_all-requires-clause-unused
 join_all-requires-clause-unused g c =
     let tree = subst (λ p. (t : ProgramTree g.row.D-Operation.Denot g.row.D-Block.Denot) × StandsFor p c.args.op t) c.program-4.ensures c.know_tree.ensures in
-    let plan = c.requires.plan tree.0 tree.1 in
+    let plan = c.requires.plan c.requires.begins.0 c.requires.begins.1 tree.0 tree.1 in
     let lists : HasLists c.program.result.now = assumption c.know_lists.ensures in
     let known : IsKnown g.D.Meanings.meaning c.args.ctx.now.program c.args.op tree.0 = record {
       lists = subst HasLists c.program.ensures lists;
@@ -50,11 +50,11 @@ join_all-requires-clause-unused g c =
       used = subst (λ p. (v : Value) → IsUsed p v → IsLiveValue p v) c.program-2.ensures c.know_values.ensures.used;
       stands = subst (λ p. (v : Value) (ty : TypeHandle) → type_at p v ≡ Some ty → StandsAtDefiner p v ty) c.program-2.ensures c.know_values.ensures.stands;
     } in
-    unused_now g.D.Meanings.meaning c.args.ctx.now.program c.replace_arguments.new.ctx.program c.args.op tree.0 known c.args.joins.now c.args.stand_ins.now plan.chains plan.stand_ins c.replace_arguments.ensures.replaced
+    unused_now g.D.Meanings.meaning c.requires.begins.0 c.args.ctx.now.program c.replace_arguments.new.ctx.program c.args.op tree.0 known c.args.joins.now c.args.stand_ins.now plan.chains plan.stand_ins c.replace_arguments.ensures.replaced
 
 pub returns-clause-merged : goal.returns-clause-merged
-returns-clause-merged g c t stands =
-    let plan = c.requires.plan t stands in
+returns-clause-merged g c p begins t stands =
+    let plan = c.requires.plan p begins t stands in
     let lists : HasLists c.program.result.now = assumption c.know_lists.ensures in
     let known : IsKnown g.D.Meanings.meaning c.args.ctx.now.program c.args.op t = record {
       lists = subst HasLists c.program.ensures lists;
@@ -64,4 +64,4 @@ returns-clause-merged g c t stands =
       used = subst (λ p. (v : Value) → IsUsed p v → IsLiveValue p v) c.program-2.ensures c.know_values.ensures.used;
       stands = subst (λ p. (v : Value) (ty : TypeHandle) → type_at p v ≡ Some ty → StandsAtDefiner p v ty) c.program-2.ensures c.know_values.ensures.stands;
     } in
-    merges_blocks g.D.Meanings.meaning c.args.ctx.now.program c.replace_arguments.new.ctx.program c.args.op t known c.args.joins.now c.args.stand_ins.now plan.chains plan.stand_ins c.replace_arguments.ensures.replaced c.join_all.new.ctx.program c.join_all.ensures.joined stands
+    merges_blocks g.D.Meanings.meaning p c.args.ctx.now.program c.replace_arguments.new.ctx.program c.args.op t known c.args.joins.now c.args.stand_ins.now plan.chains plan.stand_ins c.replace_arguments.ensures.replaced c.join_all.new.ctx.program c.join_all.ensures.joined stands

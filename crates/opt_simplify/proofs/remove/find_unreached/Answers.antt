@@ -14,15 +14,15 @@ use Rattle.opt_simplify.specs.Refusals.{AreUnreached}
 use Rattle.opt_simplify.specs.Removed.{is_listed, IsTakenOutside, IsWithin, TakesWithin}
 use Rattle.opt_simplify.proofs.RemovedKept.{cut_root}
 use Rattle.opt_simplify.proofs.RemovedLoses.{loses_use, loses_none, cut_is}
-use Rattle.opt_simplify.proofs.UnreachedOccurs.{Occurs}
+use Rattle.opt_reach.proofs.Occurs.{Occurs}
 use Rattle.opt_simplify.proofs.RemovedFound.{are_unreached, numbered_live, live_numbered}
 use Rattle.opt_simplify.proofs.remove.find_unreached.Goals as goal
 
 pub is_taken_outside-requires-clause-there : goal.is_taken_outside-requires-clause-there
 is_taken_outside-requires-clause-there g c =
     let lists : HasLists c.args.program.now = assumption c.know_lists.ensures in
-    let all : AreUnreached g.D.Meanings.meaning c.args.program.now c.args.op c.in_ok-blocks.blocks.items = are_unreached g.D.Meanings.meaning c.args.program.now lists c.args.op c.requires.edges (numbers_of c.in_ok-inside.inside) c.in_ok-inside.ensures
-    c.know_tree.ensures.0 c.know_tree.ensures.1 (λ t stands. record {
+    let all : AreUnreached g.D.Meanings.meaning c.args.program.now c.args.op c.args.start c.in_ok-blocks.blocks.items = are_unreached g.D.Meanings.meaning c.args.program.now lists c.args.op c.requires.edges (numbers_of c.in_ok-inside.inside) c.in_ok-inside.ensures
+    c.args.start c.requires.start.0 c.requires.start.1 c.know_tree.ensures.0 c.know_tree.ensures.1 (λ t stands. record {
       stands = stands;
       sound = c.know_occurrences.ensures.sound t stands;
       found = c.know_occurrences.ensures.found t stands;
@@ -45,8 +45,8 @@ is_taken_outside-requires-clause-values g c =
 pub is_taken_outside-requires-clause-all : goal.is_taken_outside-requires-clause-all
 is_taken_outside-requires-clause-all g c =
     let lists : HasLists c.args.program.now = assumption c.know_lists.ensures in
-    let all : AreUnreached g.D.Meanings.meaning c.args.program.now c.args.op c.in_ok-blocks.blocks.items = are_unreached g.D.Meanings.meaning c.args.program.now lists c.args.op c.requires.edges (numbers_of c.in_ok-inside.inside) c.in_ok-inside.ensures
-    c.know_tree.ensures.0 c.know_tree.ensures.1 (λ t stands. record {
+    let all : AreUnreached g.D.Meanings.meaning c.args.program.now c.args.op c.args.start c.in_ok-blocks.blocks.items = are_unreached g.D.Meanings.meaning c.args.program.now lists c.args.op c.requires.edges (numbers_of c.in_ok-inside.inside) c.in_ok-inside.ensures
+    c.args.start c.requires.start.0 c.requires.start.1 c.know_tree.ensures.0 c.know_tree.ensures.1 (λ t stands. record {
       stands = stands;
       sound = c.know_occurrences.ensures.sound t stands;
       found = c.know_occurrences.ensures.found t stands;
@@ -66,8 +66,8 @@ is_taken_outside-requires-clause-all g c =
 pub returns-clause-found : goal.returns-clause-found
 returns-clause-found g c =
     let lists : HasLists c.args.program.now = assumption c.know_lists.ensures in
-    let all : AreUnreached g.D.Meanings.meaning c.args.program.now c.args.op c.in_ok-blocks.blocks.items = are_unreached g.D.Meanings.meaning c.args.program.now lists c.args.op c.requires.edges (numbers_of c.in_ok-inside.inside) c.in_ok-inside.ensures
-    c.know_tree.ensures.0 c.know_tree.ensures.1 (λ t stands. record {
+    let all : AreUnreached g.D.Meanings.meaning c.args.program.now c.args.op c.args.start c.in_ok-blocks.blocks.items = are_unreached g.D.Meanings.meaning c.args.program.now lists c.args.op c.requires.edges (numbers_of c.in_ok-inside.inside) c.in_ok-inside.ensures
+    c.args.start c.requires.start.0 c.requires.start.1 c.know_tree.ensures.0 c.know_tree.ensures.1 (λ t stands. record {
       stands = stands;
       sound = c.know_occurrences.ensures.sound t stands;
       found = c.know_occurrences.ensures.found t stands;
@@ -82,10 +82,10 @@ returns-clause-found g c =
     all
 
 pub returns-clause-taken : goal.returns-clause-taken
-returns-clause-taken g c = λ h t stands.
+returns-clause-taken g c = λ h p is_start t stands.
     let lists : HasLists c.args.program.now = assumption c.know_lists.ensures in
-    let all : AreUnreached g.D.Meanings.meaning c.args.program.now c.args.op c.in_ok-blocks.blocks.items = are_unreached g.D.Meanings.meaning c.args.program.now lists c.args.op c.requires.edges (numbers_of c.in_ok-inside.inside) c.in_ok-inside.ensures
-    c.know_tree.ensures.0 c.know_tree.ensures.1 (λ t stands. record {
+    let all : AreUnreached g.D.Meanings.meaning c.args.program.now c.args.op c.args.start c.in_ok-blocks.blocks.items = are_unreached g.D.Meanings.meaning c.args.program.now lists c.args.op c.requires.edges (numbers_of c.in_ok-inside.inside) c.in_ok-inside.ensures
+    c.args.start c.requires.start.0 c.requires.start.1 c.know_tree.ensures.0 c.know_tree.ensures.1 (λ t stands. record {
       stands = stands;
       sound = c.know_occurrences.ensures.sound t stands;
       found = c.know_occurrences.ensures.found t stands;
@@ -114,15 +114,15 @@ returns-clause-taken g c = λ h t stands.
     let picks = is_listed c.in_ok-blocks.blocks.items in
     let taken = subst (λ (bs : List (Ptr BasicBlock)). IsTakenOutside c.args.program.now (is_listed bs)) c.deref.ensures.value (c.in_ok-is_taken.ensures.taken h) in (
       cut_root picks t,
-      cut_is d c.args.program.now picks t (all.unreached t stands) (all.reached t stands),
+      cut_is d p c.args.program.now picks t (all.unreached p is_start t stands) (all.reached t stands),
       λ w says. loses_use c.args.program.now lists c.args.op t occurs values picks all.below d w says (numbers_of c.in_ok-inside.inside) c.in_ok-inside.ensures c.know_values.ensures.used (c.know_occurrences.ensures.defined t stands) c.know_within.ensures taken,
     )
 
 pub returns-clause-not_taken : goal.returns-clause-not_taken
-returns-clause-not_taken g c = λ h t after w stands says cut.
+returns-clause-not_taken g c = λ h p is_start t after w stands says cut.
     let lists : HasLists c.args.program.now = assumption c.know_lists.ensures in
-    let all : AreUnreached g.D.Meanings.meaning c.args.program.now c.args.op c.in_ok-blocks.blocks.items = are_unreached g.D.Meanings.meaning c.args.program.now lists c.args.op c.requires.edges (numbers_of c.in_ok-inside.inside) c.in_ok-inside.ensures
-    c.know_tree.ensures.0 c.know_tree.ensures.1 (λ t stands. record {
+    let all : AreUnreached g.D.Meanings.meaning c.args.program.now c.args.op c.args.start c.in_ok-blocks.blocks.items = are_unreached g.D.Meanings.meaning c.args.program.now lists c.args.op c.requires.edges (numbers_of c.in_ok-inside.inside) c.in_ok-inside.ensures
+    c.args.start c.requires.start.0 c.requires.start.1 c.know_tree.ensures.0 c.know_tree.ensures.1 (λ t stands. record {
       stands = stands;
       sound = c.know_occurrences.ensures.sound t stands;
       found = c.know_occurrences.ensures.found t stands;
@@ -148,7 +148,7 @@ returns-clause-not_taken g c = λ h t after w stands says cut.
       nested = c.know_occurrences.ensures.nested t stands;
     } in
     let within = subst (λ (bs : List (Ptr BasicBlock)). TakesWithin c.args.program.now (is_listed bs)) c.deref.ensures.value (c.in_ok-is_taken.ensures.within h) in
-    loses_none c.args.program.now lists c.args.op t occurs values (is_listed c.in_ok-blocks.blocks.items) all.below g.D.Meanings.meaning w says (all.unreached t stands) within after cut
+    loses_none c.args.program.now lists c.args.op t occurs values (is_listed c.in_ok-blocks.blocks.items) all.below g.D.Meanings.meaning w says p (all.unreached p is_start t stands) within after cut
 
 pub returns-clause-within : goal.returns-clause-within
 returns-clause-within g c = λ h. subst (λ (bs : List (Ptr BasicBlock)). TakesWithin c.args.program.now (is_listed bs)) c.deref.ensures.value (c.in_ok-is_taken.ensures.within h)

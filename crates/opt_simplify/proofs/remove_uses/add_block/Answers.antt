@@ -1,7 +1,7 @@
 use Rattle.std.proofs.Common.{◌≡◌, ◌∙◌}
 use Rattle.ir_program.specs.Preorder.{nodes_inside}
 use Rattle.ir_program.specs.declared.handles.IRNode.TheVariants.{BasicBlock as BlockNode}
-use Rattle.opt_simplify.proofs.UnreachedLists.{moved}
+use Rattle.opt_reach.proofs.Lists.{moved}
 use Rattle.opt_simplify.proofs.RemovedUses.{begun, node_gained, block_gained, whole}
 use Rattle.opt_simplify.proofs.remove_uses.add_block.Goals as goal
 

@@ -5,7 +5,7 @@ use Rattle.ir_program.specs.declared.handles.IRNode.TheVariants.{Operation as Op
 use Rattle.ir_program.specs.declared.handles.Use.{Use}
 use Rattle.ir_program.specs.declared.handles.Value.{Value}
 use Rattle.ir_trees.specs.Searched.{Lists}
-use Rattle.opt_simplify.proofs.UnreachedLists.{moved}
+use Rattle.opt_reach.proofs.Lists.{moved}
 use Rattle.opt_simplify.proofs.RemovedUses.{taken_here, taken_nowhere, lists_more, none_yet, whole}
 use Rattle.opt_simplify.proofs.remove_uses.is_taken_by_others.Goals as goal
 

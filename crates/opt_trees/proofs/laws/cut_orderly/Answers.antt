@@ -3,7 +3,7 @@ use Rattle.opt_trees.proofs.laws.cut_orderly.Goals as goal
 
 pub returns : goal.returns
 returns g c = record {
-  orderly = λ d w t u cut o. phases_orderly d w t u cut o;
-  local = λ d w t u cut l. phases_local d w t u cut l;
-  last = λ d w t u cut l. phases_last d w t u cut l;
+  orderly = λ d p w t u cut o. phases_orderly d p w t u cut o;
+  local = λ d p w t u cut l. phases_local d p w t u cut l;
+  last = λ d p w t u cut l. phases_last d p w t u cut l;
 }

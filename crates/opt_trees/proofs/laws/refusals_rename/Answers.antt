@@ -6,5 +6,5 @@ pub returns : goal.returns
 returns g c = record {
   lacks = λ d r t k l a b h. lacking_renamed d r t k l a b h;
   loses = λ r t after w w' agree h. loses_renamed r t after w w' agree h;
-  comes_back = λ d r t h. back_renamed d r t h;
+  comes_back = λ d r p t h. back_renamed d r p t h;
 }

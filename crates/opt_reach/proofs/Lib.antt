@@ -1,0 +1,11 @@
+pub mod Lists
+pub mod Members
+pub mod Places
+pub mod Occurs
+pub mod PathGraph
+pub mod Order
+pub mod Begins
+pub mod Judged
+pub mod Marks
+pub mod Runs
+pub mod Ends

@@ -1,0 +1,9 @@
+//! Blocks that paths from the entries of their regions lead to, and what becomes of each block inside an operation.
+#![tactic(auto)]
+
+mod fates;
+mod paths;
+mod starts;
+
+pub use fates::{Fate, find_fates, unreached_among};
+pub use starts::{Start, has_start};
