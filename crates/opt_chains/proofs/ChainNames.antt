@@ -17,7 +17,7 @@ use Rattle.opt_chains.proofs.ChainHandles.{AreMatched, none_matched, one_matched
 use Rattle.opt_chains.proofs.MergeLists.{none_listed, same_some}
 
 -- what is at an index of a list with one more behind it, and where that is
-at_more : {X : Type 0} (xs : List X) (x y : X) (k : ℕ) → slice_get (xs ++ x ∷ []) k ≡ Some y → (slice_get xs k ≡ Some y) ⊎ ((y ≡ x) × (k ≡ length xs))
+pub at_more : {X : Type 0} (xs : List X) (x y : X) (k : ℕ) → slice_get (xs ++ x ∷ []) k ≡ Some y → (slice_get xs k ≡ Some y) ⊎ ((y ≡ x) × (k ≡ length xs))
 at_more [] x y zero h = let s : Some x ≡ Some y = h in let e : y ≡ x = cc in inr (e, refl)
 at_more [] x y (suc k) h = absurd (none_listed k y h)
 at_more (z ∷ xs) x y zero h = inl h

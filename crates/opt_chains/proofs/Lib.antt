@@ -14,3 +14,6 @@ pub mod ChainFirsts
 pub mod ChainNames
 pub mod ChainBare
 pub mod ChainGlue
+pub mod NextBlock
+pub mod NextJoinable
+pub mod NextElsewhere

@@ -3,5 +3,6 @@ pub mod Merging
 pub mod MergedValues
 pub mod Chained
 pub mod Exits
+pub mod NextBlocks
 pub mod ChainSteps
 pub mod NamedSteps

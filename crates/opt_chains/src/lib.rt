@@ -9,8 +9,9 @@ mod chain_steps;
 mod merge_plan;
 mod merge_values;
 mod merging;
+mod next_blocks;
 
-pub use chain_joins::joins_along;
+pub use chain_joins::find_joins;
 pub use merge_plan::apply_plan;
 pub use merge_values::StandIn;
 pub use merging::Join;
