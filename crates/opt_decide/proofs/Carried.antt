@@ -44,7 +44,7 @@ front_or_last [] y x (suc k) h = cc
 front_or_last (z ∷ xs) y x zero h = inl (zero, h)
 front_or_last (z ∷ xs) y x (suc k) h = ⊎_elim (λ l. inl (suc l.0, l.1)) (λ e. inr e) (front_or_last xs y x k h)
 
-in_front : {X : Type 0} (xs : List X) (y x : X) (k : ℕ) → slice_get xs k ≡ Some x → Lists (xs ++ y ∷ []) x
+pub in_front : {X : Type 0} (xs : List X) (y x : X) (k : ℕ) → slice_get xs k ≡ Some x → Lists (xs ++ y ∷ []) x
 in_front [] y x k h = cc
 in_front (z ∷ xs) y x zero h = (zero, h)
 in_front (z ∷ xs) y x (suc k) h = let l = in_front xs y x k h in (suc l.0, l.1)
@@ -53,7 +53,7 @@ at_last : {X : Type 0} (xs : List X) (y : X) → Lists (xs ++ y ∷ []) y
 at_last [] y = (zero, refl)
 at_last (z ∷ xs) y = let l = at_last xs y in (suc l.0, l.1)
 
-among_or_not : (ds : List Decision) (p : Ptr Operation) → ((x : Decision) × Lists ds x × (x.op ≡ p)) ⊎ IsUndecided ds p
+pub among_or_not : (ds : List Decision) (p : Ptr Operation) → ((x : Decision) × Lists ds x × (x.op ≡ p)) ⊎ IsUndecided ds p
 among_or_not [] p = inr (λ x l e. let s = l.1 in cc)
 among_or_not (y ∷ ds) p = ⊎_elim
     (λ (e : y.op ≡ p). inl (y, (zero, refl), e))
@@ -73,6 +73,7 @@ module _ {O B A : Type 0} (d : Dialect (in_program O B) A) (old : Program O B) w
     done = λ x l. let s = l.1 in cc;
     apart = λ x y l m e. let s = l.1 in cc;
     others = λ p v there none. there;
+    came = λ p v there. inl there;
     blocks = λ b. blocks (block_at old b);
     regions = λ r. refl;
   }
@@ -179,6 +180,20 @@ module _ {O B A : Type 0} (d : Dialect (in_program O B) A) (old mid new : Progra
   other : (p : Ptr Operation) → IsUndecided (ds ++ x ∷ []) p → p ≢ x.op
   other p none_of e = none_of x (at_last ds x) (sym e)
 
+  -- what is there was there, or is a new branch
+  came_all : (p : Ptr Operation) (u : OperationView O) → operation_at new p ≡ Some u
+      → (operation_at old p ≡ Some u) ⊎ ((y : Decision) × Lists (ds ++ x ∷ []) y × (renamed y.op ≡ p))
+  came_all p u there = ⊎_elim
+      (λ (e : p ≡ q). inr (x, at_last ds x, here ∙ sym e))
+      (λ (no : p ≢ q). ⊎_elim
+      (λ (e : p ≡ x.op). let n : Some u ≡ None = sym there ∙ ap (operation_at new) e ∙ step.puts.gone.0 in cc)
+      (λ (ne : p ≢ x.op). ⊎_elim
+      (λ was_there. inl was_there)
+      (λ h. inr (h.0, in_front ds x h.0 h.1.0 h.1.1, kept h.0 h.1 ∙ h.2))
+      (has.came p u (sym (step.puts.others p ne no) ∙ there)))
+      (same_or_not p x.op))
+      (same_or_not p q)
+
   pub one_more_decided : HasDecided d old new (ds ++ x ∷ [])
   one_more_decided = record {
     names = renamed;
@@ -188,6 +203,7 @@ module _ {O B A : Type 0} (d : Dialect (in_program O B) A) (old mid new : Progra
     others = λ p u there none_of.
         let now = has.others p u there (undecided p none_of) in
         step.puts.others p (other p none_of) (λ e. let n : Some u ≡ None = sym now ∙ ap (operation_at mid) e ∙ step.puts.fresh in cc) ∙ now;
+    came = came_all;
     blocks = λ b. step.puts.blocks b ∙ ap (option_map (λ (l : BlockView B). record l { operations = map (in_place_of x.op q) l.operations })) (has.blocks b) ∙ both_lists (block_at old b);
     regions = λ r. step.puts.regions r ∙ has.regions r;
   }
@@ -208,6 +224,7 @@ carried_alike d old mid new ds has alike = record {
   };
   apart = has.apart;
   others = λ p v there none. alike.operations p ∙ has.others p v there none;
+  came = λ p v there. has.came p v (sym (alike.operations p) ∙ there);
   blocks = λ b. alike.blocks b ∙ has.blocks b;
   regions = λ r. alike.regions r ∙ has.regions r;
 }
@@ -218,7 +235,7 @@ module _ {O B A : Type 0} (d : Dialect (in_program O B) A) (old : Program O B) (
   plain_if true o e = (refl, e)
   plain_if false o e = cc
 
-  both_true : (a b : Bool) → (a && b) ≡ true → (a ≡ true) × (b ≡ true)
+  pub both_true : (a b : Bool) → (a && b) ≡ true → (a ≡ true) × (b ≡ true)
   both_true true b e = (refl, e)
   both_true false b e = cc
 

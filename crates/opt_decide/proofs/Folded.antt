@@ -10,7 +10,7 @@ use Rattle.ir_program.specs.declared.handles.Value.{Value}
 use Rattle.ir_program.specs.declared.handles.DefiningEntity.TheVariants.{Op as ByOp}
 use Rattle.ir_trees.specs.Stands.{in_program}
 use Rattle.opt_trees.specs.Dialect.{Dialect}
-use Rattle.opt_decide.specs.Decides.{or_none, folded_alone}
+use Rattle.opt_inside.specs.Around.{or_none, folded_alone}
 use Rattle.opt_decide.specs.Planned.{found_among, folded_if}
 use Rattle.opt_decide.proofs.Found.{found_nothing, found_index, not_found}
 
@@ -47,7 +47,7 @@ module _ {O B A : Type 0} (d : Dialect (in_program O B) A) where
       ∙ ap (λ b. if b then or_none (slice_get (d.fold u.payload (map (λ (r : TypedValue). r.ty) u.results) (map (λ (w : Value). None) u.operands)) k) else None) (sym yes)
       ∙ sym (found_index (folded_alone d u) v u.results (λ i. i) k h)
 
-there_with : {O : Type 0} (o : Option (OperationView O)) (i : ℕ) (x : TypedValue) → slice_get (unwrap_or (option_map (λ (u : OperationView O). u.results) o) []) i ≡ Some x → IsSome o
+pub there_with : {O : Type 0} (o : Option (OperationView O)) (i : ℕ) (x : TypedValue) → slice_get (unwrap_or (option_map (λ (u : OperationView O). u.results) o) []) i ≡ Some x → IsSome o
 there_with None i x h = cc
 there_with (Some u) i x h = refl
 

@@ -2,10 +2,16 @@ pub mod BareOperations
 pub mod Carried
 pub mod DecidedTrees
 pub mod DecisionLists
+pub mod EdgesDecided
 pub mod Filled
 pub mod Folded
 pub mod Found
+pub mod Ground
+pub mod InsideDecided
+pub mod NamesDecided
 pub mod NewBranches
+pub mod NoneDecided
+pub mod SaidAround
 pub mod Swapped
 pub mod TreesDecided
 pub mod TurnedHeads

@@ -1,6 +1,5 @@
 -- Where decisions are carried out, the root stands for the tree in which its branches are decided, under their new names.
 use Rattle.std.proofs.Common.{◌≡◌, ℕ, List, [], ◌∷◌, map, Option, Some, None, refl, sym, ap, ◌∙◌, subst}
-use Rattle.std.specs.Prelude.{is_some, if◌then◌else◌}
 use Rattle.ir_base.specs.declared.types.TypeHandle.{TypeHandle}
 use Rattle.ir_program.specs.Lists.{itself}
 use Rattle.ir_program.specs.Program.{Program, OperationView, operation_at}
@@ -22,7 +21,7 @@ use Rattle.opt_decide.specs.declared.plan.Decision.{Decision}
 use Rattle.opt_decide.proofs.Carried.{none_decided, bare_branch}
 use Rattle.opt_decide.proofs.DecidedTrees.{tree_now, regions_below}
 use Rattle.opt_decide.proofs.Folded.{same_some}
-use Rattle.opt_decide.proofs.TurnedHeads.{head_turned}
+use Rattle.opt_decide.proofs.TurnedHeads.{head_stays, head_turned}
 
 same_all : {X : Type 0} (xs : List X) → map (λ x. x) xs ≡ xs
 same_all [] = refl
@@ -40,12 +39,6 @@ module _ {O B A : Type 0} (d : Dialect (in_program O B) A) (old new : Program O 
   not_decided : (p : Ptr Operation) → decided_edge d old p ≡ None → IsUndecided ds p
   not_decided p none x l e = let n : Some x.edge ≡ None = sym (are.sound x l) ∙ ap (decided_edge d old) e ∙ none in cc
 
-  -- nothing decided: the head stays
-  stays : (o : Option ℕ) (c : Option O) (h : ProgramHead O B) → (if is_some c then o else None) ≡ None → along_edge d h o c ≡ h
-  stays None c h e = refl
-  stays (Some i) None h e = refl
-  stays (Some i) (Some c) h e = cc
-
   abbrev Turned : Ptr Operation → OperationView O → Tree by_handle (in_program O B) Regions → Type 0
   Turned p v rs = (u : OperationView O) × (operation_at new (has.names p) ≡ Some u)
       × (head_of {B = B} (has.names p) u ≡ rename_head (maps_of has.names) (decide_head d (known_alone d old) (head_of {B = B} p v) rs))
@@ -55,7 +48,7 @@ module _ {O B A : Type 0} (d : Dialect (in_program O B) A) (old new : Program O 
       → (o : Option ℕ) → decided_edge d old p ≡ o → Turned p v rs
   turned_by p v rs below there inner None e =
       let h : ProgramHead O B = head_of {B = B} p v in
-      let kept : decide_head d (known_alone d old) h rs ≡ h = head_turned d old p v rs there inner ∙ stays (picked_edge d old p) d.plain h e in (
+      let kept : decide_head d (known_alone d old) h rs ≡ h = head_turned d old p v rs there inner ∙ head_stays d (picked_edge d old p) d.plain h e in (
         v,
         ap (operation_at new) (has.same p (not_decided p e)) ∙ has.others p v there (not_decided p e),
         sym (ap (rename_head (maps_of has.names)) kept ∙ renamed_head h),

@@ -1,6 +1,6 @@
 -- What deciding makes of the head of an operation.
 use Rattle.std.proofs.Common.{◌≡◌, ℕ, Bool, true, false, List, [], ◌∷◌, map, Option, Some, None, unwrap_or, option_map, refl, sym, ap, ◌∙◌}
-use Rattle.std.specs.Prelude.{not, ◌&&◌, if◌then◌else◌}
+use Rattle.std.specs.Prelude.{is_some, not, ◌&&◌, if◌then◌else◌}
 use Rattle.ir_program.specs.Program.{Program, TypedValue, OperationView, operation_at}
 use Rattle.ir_program.specs.declared.handles.Ptr.{Ptr}
 use Rattle.ir_program.specs.declared.handles.Operation.{Operation}
@@ -23,6 +23,12 @@ reordered false b c e = refl
 empty_too : (ts : List TypedValue) → is_empty (map defined_by ts) ≡ is_empty ts
 empty_too [] = refl
 empty_too (t ∷ ts) = refl
+
+-- nothing decided: the head stays
+pub head_stays : {O B A : Type 0} (d : Dialect (in_program O B) A) (o : Option ℕ) (c : Option O) (h : ProgramHead O B) → (if is_some c then o else None) ≡ None → along_edge d h o c ≡ h
+head_stays d None c h e = refl
+head_stays d (Some i) None h e = refl
+head_stays d (Some i) (Some c) h e = cc
 
 module _ {O B A : Type 0} (d : Dialect (in_program O B) A) (old : Program O B) where
   end_too : (rs : List (Ptr Region)) (t : Tree by_handle (in_program O B) Regions) → AreTree old Regions rs t → is_end t ≡ is_empty rs

@@ -1,4 +1,3 @@
-pub mod Decides
 pub mod Phase
 pub mod Planned
 pub mod Replaced

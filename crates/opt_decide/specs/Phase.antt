@@ -1,5 +1,5 @@
 -- Decisions that are carried out one after the other.
-use Rattle.std.specs.Prelude.{◌≡◌, ◌≢◌, ◌↔◌, ℕ, List, [], map, Some, None, option_map, take}
+use Rattle.std.specs.Prelude.{◌≡◌, ◌≢◌, ◌↔◌, ◌⊎◌, ℕ, List, [], map, Some, None, option_map, take}
 use Rattle.ir_program.specs.Erased.{IsGone}
 use Rattle.ir_program.specs.Program.{Program, OperationView, BlockView, operation_at, block_at, region_at}
 use Rattle.ir_program.specs.declared.handles.IRNode.TheVariants.{Operation as OperationNode}
@@ -7,14 +7,18 @@ use Rattle.ir_program.specs.declared.handles.Ptr.{Ptr}
 use Rattle.ir_program.specs.declared.handles.Operation.{Operation}
 use Rattle.ir_program.specs.declared.handles.Region.{Region}
 use Rattle.ir_program.specs.declared.handles.BasicBlock.{BasicBlock}
+use Rattle.ir_program.specs.declared.handles.Value.{Value}
 use Rattle.ir_trees.specs.Searched.{Lists}
 use Rattle.ir_trees.specs.Stands.{by_handle, in_program, ProgramTree, StandsFor}
-use Rattle.ir_trees.specs.Renames.{Maps, rename_root}
+use Rattle.ir_trees.specs.Renames.{Maps, IsOneToOne, rename_root}
+use Rattle.opt_trees.specs.Dce.{Around}
 use Rattle.opt_trees.specs.Dialect.{Dialect}
-use Rattle.opt_trees.specs.Simplify.{decide}
+use Rattle.opt_trees.specs.Simplify.{decide, decided}
 use Rattle.opt_dialect.specs.declared.status.IRStatus.{IRStatus}
 use Rattle.opt_dialect.specs.declared.status.IRStatus.TheVariants.{Unchanged}
-use Rattle.opt_decide.specs.Planned.{AreDecisions, known_alone}
+use Rattle.opt_inside.specs.Around.{SaysAround}
+use Rattle.opt_inside.specs.Outside.{KeepsOutside}
+use Rattle.opt_decide.specs.Planned.{AreDecisions, AreSomeDecisions, known_alone}
 use Rattle.opt_decide.specs.Replaced.{along}
 use Rattle.opt_decide.specs.declared.plan.Decision.{Decision}
 
@@ -39,6 +43,8 @@ pub record HasDecided {O B A : Type 0} (d : Dialect (in_program O B) A) (old new
   pub done : (x : Decision) → Lists ds x → IsDone d old new x (names x.op)
   pub apart : (x y : Decision) → Lists ds x → Lists ds y → names x.op ≡ names y.op → x.op ≡ y.op
   pub others : (p : Ptr Operation) (v : OperationView O) → operation_at old p ≡ Some v → IsUndecided ds p → operation_at new p ≡ Some v
+  pub came : (p : Ptr Operation) (v : OperationView O) → operation_at new p ≡ Some v
+      → (operation_at old p ≡ Some v) ⊎ ((x : Decision) × Lists ds x × (names x.op ≡ p))
   pub blocks : (b : Ptr BasicBlock) → block_at new b ≡ option_map (λ (l : BlockView B). record l { operations = map names l.operations }) (block_at old b)
   pub regions : (r : Ptr Region) → region_at new r ≡ region_at old r
 
@@ -59,3 +65,29 @@ pub record CarriesOut {O B A : Type 0} (d : Dialect (in_program O B) A) (old new
   -- the root stands for its tree with the branches decided, under their new names
   pub stands : (t : ProgramTree O B) → StandsFor old op t
       → StandsFor new op (rename_root (maps_of decided.names) (record { head = t.head; regions = decide d (known_alone d old) t.regions }))
+
+-- some of the decisions below the root are carried out, each whole
+pub record CarriesOutPart {O B A : Type 0} (d : Dialect (in_program O B) A) (old new : Program O B)
+    (op : Ptr Operation) : Type 0 where
+  pub decisions : List Decision
+  pub are : AreSomeDecisions d old op decisions
+  pub decided : HasDecided d old new decisions
+
+-- the branches that their operands decide are unconditional ones, under handles that led nowhere; all else keeps its
+-- handle
+pub record DecidesBranches {O B A : Type 0} (d : Dialect (in_program O B) A) (old new : Program O B)
+    (op : Ptr Operation) (t : ProgramTree O B) : Type 0 where
+  pub around : Around by_handle A
+  pub says : SaysAround d old op around
+  pub names : Maps by_handle by_handle
+  pub operations : (p : Ptr Operation) → (names.operation p ≡ p) ⊎ (operation_at old (names.operation p) ≡ None)
+  pub blocks : (b : Ptr BasicBlock) → names.block b ≡ b
+  pub values : (v : Value) → names.value v ≡ v
+  pub one_to_one : IsOneToOne names t
+  pub stands : StandsFor new op (rename_root names (decided d around t))
+  pub outside : KeepsOutside old new op
+
+-- no branch below the root is decided: deciding leaves its tree as it is
+abbrev pub HasNoneDecided : {O B A : Type 0} → Dialect (in_program O B) A → Program O B → Ptr Operation → Type 0
+HasNoneDecided {O} {B} {A} d c op = (w : Around by_handle A) (t : ProgramTree O B)
+    → SaysAround d c op w → StandsFor c op t → decided d w t ≡ t

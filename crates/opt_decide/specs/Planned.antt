@@ -13,8 +13,8 @@ use Rattle.ir_trees.specs.Stands.{in_program}
 use Rattle.opt_trees.specs.Dialect.{Dialect}
 use Rattle.opt_trees.specs.Occurrences.{cons_if}
 use Rattle.opt_trees.specs.Simplify.{is_empty}
+use Rattle.opt_inside.specs.Around.{folded_alone}
 use Rattle.opt_inside.specs.Occurring.{IsBelowRoot}
-use Rattle.opt_decide.specs.Decides.{folded_alone}
 use Rattle.opt_decide.specs.declared.plan.Decision.{Decision}
 
 -- what is said of the index of a value among definitions; nothing, where it is none of them
@@ -57,6 +57,13 @@ module _ {O B A : Type 0} (d : Dialect (in_program O B) A) where
     -- the edge along which an operation goes on, where the dialect has an unconditional branch to say so
     abbrev pub decided_edge : Ptr Operation → Option ℕ
     decided_edge p = if is_some d.plain then picked_edge p else None
+
+    -- these are decisions below the root, each operation once
+    pub record AreSomeDecisions (op : Ptr Operation) (ds : List Decision) : Type 0 where
+      pub below : (x : Decision) → Lists ds x → IsBelowRoot c op x.op
+      pub sound : (x : Decision) → Lists ds x → decided_edge x.op ≡ Some x.edge
+      pub once : (j k : ℕ) (x y : Decision) → slice_get ds j ≡ Some x → slice_get ds k ≡ Some y → x.op ≡ y.op
+          → j ≡ k
 
     -- these are all decisions below the root, each operation once
     pub record AreDecisions (op : Ptr Operation) (ds : List Decision) : Type 0 where

@@ -3,7 +3,7 @@ ghost use Rattle.std.specs.Prelude.{◌≡◌, None, Some, IfOk, IsSome, map, sl
 ghost use Rattle.ir_program.specs.Program.{TypedValue, operation_at, results_at, IsLiveValue};
 ghost use Rattle.ir_program.specs.Rows.{operands_at};
 ghost use Rattle.ir_program.specs.declared.handles.Value.{Value};
-ghost use Rattle.opt_decide.specs.Decides.{or_none};
+ghost use Rattle.opt_inside.specs.Around.{or_none};
 ghost use Rattle.opt_decide.specs.Planned.{folded_if, found_among, known_alone};
 
 use ir_base::TypeHandle;

@@ -1,8 +1,10 @@
 //! Deciding branches.
-ghost use Rattle.std.specs.Prelude.{◌≡◌, Ok, IfErr, IfOk, IsSome, OnErr, OnOk};
+ghost use Rattle.std.specs.Prelude.{◌≡◌, ◌↔◌, Ok, IfErr, IfOk, IsSome, OnErr, OnOk};
 ghost use Rattle.ir_program.specs.Program.{operation_at};
+ghost use Rattle.ir_trees.specs.Stands.{ProgramTree, StandsFor};
 ghost use Rattle.opt_dialect.specs.declared.status.IRStatus.TheVariants.{Unchanged};
-ghost use Rattle.opt_decide.specs.Phase.{CarriesOut, HasDecided, HasDecidedSome};
+ghost use Rattle.opt_inside.specs.Edges.{FitsEdgesBelow, HasLocalEdgesBelow};
+ghost use Rattle.opt_decide.specs.Phase.{CarriesOut, CarriesOutPart, DecidesBranches, HasDecided, HasDecidedSome, HasNoneDecided};
 ghost use Rattle.opt_decide.specs.Planned.{AreDecisions};
 ghost use Rattle.opt_decide.specs.Replaced.{IsShortage};
 
@@ -11,7 +13,9 @@ use crate::plan::decided_branches;
 use crate::replacing::decide_branch;
 use ir_context::{TypeTable, TypedProgram};
 use ir_program::{Operation, Ptr};
+use ir_trees::know_tree;
 use opt_dialect::{IRStatus, OptDialect, OptError};
+use opt_inside::{know_occurrences, know_taken};
 use std::alloc::Global;
 
 /// Carries decisions out, one after the other.
@@ -49,13 +53,27 @@ pub fn decide_branches<D: OptDialect, T: TypeTable>(
     ctx: &mut TypedProgram<D::Operation, D::Block, T>,
 ) -> Result<IRStatus, OptError>
     requires live { IsSome (operation_at ctx.old.program op) }
+    ensures decided { IfOk result (λ status. (t : ProgramTree D.Operation D.Block) → StandsFor ctx.old.program op t
+        → DecidesBranches D.meaning ctx.old.program ctx.new.program op t) }
+    ensures exact { IfOk result (λ status. (status ≡ Unchanged) ↔ HasNoneDecided D.meaning ctx.old.program op) }
+    ensures part { OnErr result (CarriesOutPart D.meaning ctx.old.program ctx.new.program op) }
+    ensures local { IfOk result (λ status. HasLocalEdgesBelow D.meaning.is_terminator ctx.old.program op
+        → HasLocalEdgesBelow D.meaning.is_terminator ctx.new.program op) }
+    ensures fits { IfOk result (λ status. FitsEdgesBelow D.meaning ctx.old.program op
+        → FitsEdgesBelow D.meaning ctx.new.program op) }
     ensures carried { IfOk result (λ status. CarriesOut D.meaning ctx.old.program ctx.new.program op status) }
     ensures unchanged { result ≡ Ok Unchanged → ctx.new ≡ ctx.old }
     ensures error { IfErr result IsShortage }
     ensures types { ctx.new.types ≡ ctx.old.types }
 {
-    ctx.program().know_lists();
-    let decisions = decided_branches::<D>(alloc, ctx.program(), op)?;
+    let program = ctx.program();
+    program.know_lists();
+    program.know_values();
+    program.know_operands();
+    know_tree(program, op);
+    know_occurrences(program, op);
+    know_taken(program, op);
+    let decisions = decided_branches::<D>(alloc, program, op)?;
     if decisions.is_empty() {
         return Ok(IRStatus::Unchanged);
     }
