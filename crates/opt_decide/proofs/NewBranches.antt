@@ -1,5 +1,5 @@
 -- What making an unconditional branch and putting it in place of a decided one did.
-use Rattle.std.proofs.Common.{◌≡◌, ◌≢◌, ℕ, zero, suc, ◌≤◌, ◌+◌, List, [], ◌∷◌, ◌++◌, map, length, take, Option, Some, None, option_map, unwrap_or, slice_get, refl, sym, ap, ◌∙◌, subst, arith}
+use Rattle.std.proofs.Common.{◌≡◌, ◌≢◌, ℕ, zero, suc, ◌≤◌, List, [], ◌∷◌, map, length, Option, Some, None, option_map, unwrap_or, slice_get, refl, sym, ap, ◌∙◌, subst, arith}
 use Rattle.std.specs.Prelude.{IsSome}
 use Rattle.ir_program.specs.Adds.{AreLiveValues, AreLiveBlocks}
 use Rattle.ir_program.specs.Lists.{regions_in, IsLinkedOperation}
@@ -15,43 +15,17 @@ use Rattle.opt_trees.specs.Dialect.{Dialect}
 use Rattle.opt_trees.specs.Occurrences.{cons_if, picks}
 use Rattle.opt_decide.specs.Replaced.{in_place_of, along, SwapsIn, BuildsBranch, DecidesBranch}
 use Rattle.opt_decide.specs.declared.plan.Decision.{Decision}
-use Rattle.opt_decide.proofs.Filled.{take_next, take_all}
 
 nothing_long : {X : Type 0} (xs : List X) → length xs ≡ 0 → xs ≡ []
 nothing_long [] e = refl
 nothing_long (x ∷ xs) e = cc
 
--- picks, one index after the other
+-- what is picked, and what isn't
 module _ {X : Type 0} (xs : List X) where
-  picks_both : (is js : List ℕ) → picks xs (is ++ js) ≡ picks xs is ++ picks xs js
-  picks_both [] js = refl
-  picks_both (i ∷ is) js = ap (λ r. cons_if (slice_get xs i) r) (picks_both is js) ∙ front (slice_get xs i) (picks xs is) (picks xs js)
-    where
-      front : (o : Option X) (ys zs : List X) → cons_if o (ys ++ zs) ≡ cons_if o ys ++ zs
-      front None ys zs = refl
-      front (Some x) ys zs = refl
-
-  nothing_behind : (ys : List X) → ys ++ [] ≡ ys
-  nothing_behind [] = refl
-  nothing_behind (x ∷ ys) = ap (λ zs. x ∷ zs) (nothing_behind ys)
-
-  pub picked_more : (is : List ℕ) (j i : ℕ) (x : X) (row row' : List X) → slice_get is j ≡ Some i → slice_get xs i ≡ Some x → row' ≡ row ++ x ∷ [] → row ≡ picks xs (take j is) → row' ≡ picks xs (take (j + 1) is)
-  picked_more is j i x row row' at there pushed done =
-      pushed ∙ ap (λ r. r ++ x ∷ []) done ∙ ap (λ o. picks xs (take j is) ++ cons_if o []) (sym there)
-      ∙ sym (picks_both (take j is) (i ∷ [])) ∙ ap (picks xs) (sym (take_next is j i at))
-
   behind_all : (ys : List X) (i : ℕ) → length ys ≤ i → slice_get ys i ≡ None
   behind_all [] i h = refl
   behind_all (y ∷ ys) zero h = absurd (omega (arith, h))
   behind_all (y ∷ ys) (suc i) h = behind_all ys i (omega (arith, h))
-
-  pub picked_none : (is : List ℕ) (j i : ℕ) (row : List X) → slice_get is j ≡ Some i → length xs ≤ i → row ≡ picks xs (take j is) → row ≡ picks xs (take (j + 1) is)
-  picked_none is j i row at past done =
-      done ∙ sym (nothing_behind (picks xs (take j is))) ∙ ap (λ o. picks xs (take j is) ++ cons_if o []) (sym (behind_all xs i past))
-      ∙ sym (picks_both (take j is) (i ∷ [])) ∙ ap (picks xs) (sym (take_next is j i at))
-
-  pub picked_all : (is : List ℕ) (j : ℕ) (row : List X) → length is ≤ j → row ≡ picks xs (take j is) → row ≡ picks xs is
-  picked_all is j row h done = done ∙ ap (picks xs) (take_all is j h)
 
   pub none_there : (i : ℕ) → length xs ≤ i → cons_if (slice_get xs i) [] ≡ []
   none_there i h = ap (λ o. cons_if o []) (behind_all xs i h)

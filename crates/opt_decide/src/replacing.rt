@@ -1,53 +1,17 @@
 //! One decided branch, made unconditional.
-ghost use Rattle.std.specs.Prelude.{◌≡◌, ◌≢◌, [], Some, IfErr, IfOk, IsSome, OnErr, length, slice_get};
+ghost use Rattle.std.specs.Prelude.{◌≡◌, ◌≢◌, [], IfErr, IfOk, IsSome, OnErr, slice_get};
 ghost use Rattle.ir_program.specs.Lists.{IsLinkedOperation, IsUnlinkedOperation, regions_in};
-ghost use Rattle.ir_program.specs.Program.{OperationView, operation_at, results_at};
-ghost use Rattle.ir_program.specs.Rows.{operands_at, successors_at};
+ghost use Rattle.ir_program.specs.Program.{operation_at, results_at};
+ghost use Rattle.ir_program.specs.Rows.{successors_at};
 ghost use Rattle.opt_decide.specs.Replaced.{BuildsBranch, DecidesBranch, IsShortage, LeadsAlike, SwapsIn};
-ghost use Rattle.opt_trees.specs.Occurrences.{cons_if, picks};
+ghost use Rattle.opt_trees.specs.Occurrences.{cons_if};
 
 use crate::Decision;
 use ir_context::{OperationErasing, OperationLists, TypeTable, TypedProgram};
-use ir_program::{BasicBlock, Operation, Program, Ptr, Value};
+use ir_program::{BasicBlock, Operation, Program, Ptr};
 use opt_dialect::{OptDialect, OptError};
+use opt_edges::forwarded_operands;
 use std::alloc::{AllocError, Global};
-
-/// The operands of an operation at these indices, in the order of the indices; behind the last one there is none.
-fn picked_operands<O, B>(
-    alloc: Global,
-    program: &Program<O, B>,
-    op: Ptr<Operation>,
-    indices: &[usize],
-) -> Result<Vec<Value>, AllocError>
-    requires { IsSome (operation_at program.now op) }
-    ensures { IfOk result (λ values. values.items ≡ picks (operands_at program.now op) indices.now) }
-{
-    let count = program.operand_count(op);
-    let mut values = Vec::new(alloc);
-    for index in indices {
-        if *index < count {
-            values.push(program.operand(op, *index))?;
-        }
-    }
-    Ok(values)
-}
-
-/// The operands that an operation forwards along an edge.
-fn forwarded_operands<D: OptDialect>(
-    alloc: Global,
-    program: &Program<D::Operation, D::Block>,
-    op: Ptr<Operation>,
-    edge: usize,
-) -> Result<Vec<Value>, AllocError>
-    requires { IsSome (operation_at program.now op) }
-    ensures { IfOk result (λ values. (v : OperationView D.Operation) → operation_at program.now op ≡ Some v
-        → values.items ≡ picks v.operands (D.meaning.forwards v.payload (length v.operands) edge)) }
-{
-    let count = program.operand_count(op);
-    let indices = D::successor_operands(alloc, program.payload(op), count, edge)?;
-    let values = picked_operands(alloc, program, op, &indices)?;
-    Ok(values)
-}
 
 /// The block that an edge leads to, if there is such an edge.
 fn target_of<O, B>(

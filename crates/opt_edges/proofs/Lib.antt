@@ -3,3 +3,4 @@ pub mod Terminators
 pub mod Users
 pub mod Below
 pub mod Checked
+pub mod Picked

@@ -1,6 +1,8 @@
-//! Whether edges stay in their regions.
+//! Edges: whether they stay in their regions, and what is forwarded along them.
 #![tactic(auto)]
 
+mod forwarded;
 mod local;
 
+pub use forwarded::forwarded_operands;
 pub use local::has_local_edges_below;

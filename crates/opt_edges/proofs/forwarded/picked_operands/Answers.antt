@@ -1,9 +1,9 @@
 use Rattle.std.proofs.Common.{ap, ◌∙◌, get_or, arith}
 use Rattle.std.proofs.lemmas.Option.{slice_get-get_or}
 use Rattle.ir_program.specs.Rows.{operands_at}
-use Rattle.opt_decide.proofs.NewBranches.{picked_more, picked_none, picked_all}
-use Rattle.opt_decide.proofs.replacing.picked_operands.Goals as goal
-use Rattle.opt_decide.proofs.replacing.picked_operands.Goals.{then-index-count+in_ok-push, else-index-count}
+use Rattle.opt_edges.proofs.Picked.{picked_more, picked_none, picked_all}
+use Rattle.opt_edges.proofs.forwarded.picked_operands.Goals as goal
+use Rattle.opt_edges.proofs.forwarded.picked_operands.Goals.{then-index-count+in_ok-push, else-index-count}
 
 pub loop-index-preserved : goal.loop-index-preserved
 loop-index-preserved g c =
