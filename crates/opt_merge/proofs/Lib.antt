@@ -1,0 +1,3 @@
+pub mod NoneJoined
+pub mod PlanFound
+pub mod SomeJoined

@@ -1,0 +1,7 @@
+//! Joining chains of blocks.
+#![tactic(auto)]
+
+mod merge;
+mod plan;
+
+pub use merge::merge_chains;
