@@ -15,6 +15,8 @@ use Rattle.opt_dialect.specs.declared.status.OptError.TheVariants.{LiveUse, Memo
 use Rattle.opt_reach.specs.Starts.{IsStartIn}
 use Rattle.opt_reach.specs.declared.starts.Start.{Start}
 use Rattle.opt_reach.specs.declared.starts.Start.TheVariants.{Operation as AtOperation, Block as AtBlock, Region as AtRegion}
+use Rattle.opt_chains.specs.Phases.{MergesBlocks}
+use Rattle.opt_merge.specs.Answers.{HasCircle, HasNoCircle, HasNoneJoinable}
 use Rattle.opt_simplify.specs.Phases.{RemovesBlocks}
 use Rattle.opt_simplify.specs.Refusals.{HasNoneUnreached, LosesNone, LosesUses}
 
@@ -36,4 +38,13 @@ module _ {O B A : Type 0} (d : Dialect (in_program O B) A) (old new : Program O 
     pub unchanged : IfOk result (λ status. (status ≡ Unchanged) ↔ HasNoneUnreached d old op start)
     pub same : result ≡ Ok Unchanged → new ≡ old
     pub refused : IfErr result (λ e. (e ≡ Memory) ⊎ ((e ≡ LiveUse) × LosesUses d old op start))
+    pub kept : OnErr result (new ≡ old)
+
+  -- the chains of blocks are joined, unless following what is forwarded to an argument comes back to it
+  pub record AnswersMerging (result : Result IRStatus OptError) : Type 0 where
+    pub merged : OnOk result (OfPlaces (λ p t. MergesBlocks d p old new op t))
+    pub accepted : OnOk result (HasNoCircle d old op start)
+    pub unchanged : IfOk result (λ status. (status ≡ Unchanged) ↔ HasNoneJoinable d old op start)
+    pub same : result ≡ Ok Unchanged → new ≡ old
+    pub refused : IfErr result (λ e. (e ≡ Memory) ⊎ ((e ≡ LiveUse) × HasCircle d old op start))
     pub kept : OnErr result (new ≡ old)

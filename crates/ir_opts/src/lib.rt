@@ -1,8 +1,12 @@
 //! The optimisations, for every dialect that is lawful.
 #![tactic(auto)]
 
+mod control_flow;
+mod merging;
 mod places;
 
+pub use control_flow::simplify_cfg;
+pub use merging::{merge_inside_block, merge_inside_op, merge_inside_region};
 pub use opt_dce::dce;
 pub use opt_dialect::{
     BlockArgRemoval, BranchOpFoldInterface, ConstFoldInterface, IRStatus, Meanings, OptDialect,

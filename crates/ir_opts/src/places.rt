@@ -59,8 +59,8 @@ fn remove_from<D: OptDialect, T: TypeTable>(
     result
 }
 
-/// Removes the blocks of visited SSA regions that no path from the entry of their region reaches, where the regions of an operation
-/// are visited first. A rewriter's point is unset where its place is gone.
+/// Removes the blocks of visited SSA regions that no path from the entry of their region reaches, where the regions of
+/// an operation are visited first. A rewriter's point is unset where its place is gone.
 ///
 /// # Errors
 /// `Memory`, and `LiveUse` where what would stay takes a value of what would go. Nothing has changed then.
@@ -81,8 +81,9 @@ pub fn remove_blocks_inside_op<D: OptDialect, T: TypeTable>(
     remove_from::<D, T>(alloc, op, Start::Operation(op), ctx, rewriter)
 }
 
-/// Removes the blocks of visited SSA regions that no path from the entry of their region reaches, where the regions of the operations in a block, which stands in a region
-/// are visited first. A rewriter's point is unset where its place is gone.
+/// Removes the blocks of visited SSA regions that no path from the entry of their region reaches, where the regions of
+/// the operations in a block, which is in a region, are visited first. A rewriter's point is unset where its place is
+/// gone.
 ///
 /// # Errors
 /// `Memory`, and `LiveUse` where what would stay takes a value of what would go. Nothing has changed then.
