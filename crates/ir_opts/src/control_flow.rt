@@ -11,7 +11,7 @@ use ir_trees::know_tree;
 use opt_decide::decide_branches;
 use opt_dialect::{IRStatus, OptDialect, OptError};
 use opt_merge::merge_chains;
-use opt_reach::Start;
+use opt_reach::{Start, know_edges_under};
 use opt_simplify::remove_unreached;
 use std::alloc::Global;
 
@@ -44,6 +44,7 @@ pub fn simplify_cfg<D: OptDialect, T: TypeTable>(
 {
     know_tree(ctx.program(), op);
     let mut status = decide_branches::<D, T>(alloc, op, ctx)?;
+    know_edges_under::<D>(ctx.program(), op);
     status |= remove_unreached::<D, T>(alloc, op, Start::Operation(op), ctx)?;
     status |= merge_chains::<D, T>(alloc, op, Start::Operation(op), ctx)?;
     Ok(status)

@@ -12,7 +12,7 @@ pub use opt_dialect::{
     BlockArgRemoval, BranchOpFoldInterface, ConstFoldInterface, IRStatus, Meanings, OptDialect,
     OptError, SideEffects,
 };
-pub use opt_edges::has_local_edges_below;
+pub use opt_edges::{has_local_edges_below, has_local_edges_from};
 pub use opt_rewriter::{OpInsertionPoint, Rewriter};
 pub use opt_sccp::sccp;
 pub use places::{

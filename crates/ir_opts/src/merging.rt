@@ -5,7 +5,7 @@ ghost use Rattle.ir_program.specs.Program.{operation_at, region_at};
 ghost use Rattle.ir_program.specs.declared.handles.Operation.{Operation};
 ghost use Rattle.ir_program.specs.declared.handles.Ptr.{Ptr};
 ghost use Rattle.ir_opts.specs.Places.{AnswersMerging, IsRootOf};
-ghost use Rattle.opt_inside.specs.Edges.{FitsEdgesBelow, HasLocalEdgesBelow};
+ghost use Rattle.opt_reach.specs.Edges.{FitsEdgesFrom, HasLocalEdgesFrom};
 ghost use Rattle.opt_reach.specs.declared.starts.Start.TheVariants as start;
 ghost use Rattle.opt_rewriter.specs.Points.{LeavesErased};
 
@@ -27,8 +27,8 @@ fn merge_from<D: OptDialect, T: TypeTable>(
     rewriter: &mut Rewriter,
 ) -> Result<IRStatus, OptError>
     requires live { IsSome (operation_at ctx.old.program root) }
-    requires edges { HasLocalEdgesBelow D.meaning.is_terminator ctx.old.program root }
-    requires fits { FitsEdgesBelow D.meaning ctx.old.program root }
+    requires edges { HasLocalEdgesFrom D.meaning.is_terminator ctx.old.program start }
+    requires fits { FitsEdgesFrom D.meaning ctx.old.program start }
     ensures answer { AnswersMerging D.meaning ctx.old.program ctx.new.program start root result }
     ensures point { LeavesErased ctx.new.program rewriter.old.point rewriter.new.point }
     ensures types { ctx.new.types ≡ ctx.old.types }
@@ -52,10 +52,8 @@ pub fn merge_inside_op<D: OptDialect, T: TypeTable>(
     rewriter: &mut Rewriter,
 ) -> Result<IRStatus, OptError>
     requires live { IsSome (operation_at ctx.old.program op) }
-    requires edges { (q : Ptr Operation) → IsRootOf ctx.old.program (start.Operation op) q
-        → HasLocalEdgesBelow D.meaning.is_terminator ctx.old.program q }
-    requires fits { (q : Ptr Operation) → IsRootOf ctx.old.program (start.Operation op) q
-        → FitsEdgesBelow D.meaning ctx.old.program q }
+    requires edges { HasLocalEdgesFrom D.meaning.is_terminator ctx.old.program (start.Operation op) }
+    requires fits { FitsEdgesFrom D.meaning ctx.old.program (start.Operation op) }
     ensures answer { (q : Ptr Operation) → IsRootOf ctx.old.program (start.Operation op) q
         → AnswersMerging D.meaning ctx.old.program ctx.new.program (start.Operation op) q result }
     ensures point { LeavesErased ctx.new.program rewriter.old.point rewriter.new.point }
@@ -78,10 +76,8 @@ pub fn merge_inside_block<D: OptDialect, T: TypeTable>(
     rewriter: &mut Rewriter,
 ) -> Result<IRStatus, OptError>
     requires linked { IsLinkedBlock ctx.old.program block }
-    requires edges { (q : Ptr Operation) → IsRootOf ctx.old.program (start.Block block) q
-        → HasLocalEdgesBelow D.meaning.is_terminator ctx.old.program q }
-    requires fits { (q : Ptr Operation) → IsRootOf ctx.old.program (start.Block block) q
-        → FitsEdgesBelow D.meaning ctx.old.program q }
+    requires edges { HasLocalEdgesFrom D.meaning.is_terminator ctx.old.program (start.Block block) }
+    requires fits { FitsEdgesFrom D.meaning ctx.old.program (start.Block block) }
     ensures answer { (q : Ptr Operation) → IsRootOf ctx.old.program (start.Block block) q
         → AnswersMerging D.meaning ctx.old.program ctx.new.program (start.Block block) q result }
     ensures point { LeavesErased ctx.new.program rewriter.old.point rewriter.new.point }
@@ -105,10 +101,8 @@ pub fn merge_inside_region<D: OptDialect, T: TypeTable>(
     rewriter: &mut Rewriter,
 ) -> Result<IRStatus, OptError>
     requires live { IsSome (region_at ctx.old.program region) }
-    requires edges { (q : Ptr Operation) → IsRootOf ctx.old.program (start.Region region) q
-        → HasLocalEdgesBelow D.meaning.is_terminator ctx.old.program q }
-    requires fits { (q : Ptr Operation) → IsRootOf ctx.old.program (start.Region region) q
-        → FitsEdgesBelow D.meaning ctx.old.program q }
+    requires edges { HasLocalEdgesFrom D.meaning.is_terminator ctx.old.program (start.Region region) }
+    requires fits { FitsEdgesFrom D.meaning ctx.old.program (start.Region region) }
     ensures answer { (q : Ptr Operation) → IsRootOf ctx.old.program (start.Region region) q
         → AnswersMerging D.meaning ctx.old.program ctx.new.program (start.Region region) q result }
     ensures point { LeavesErased ctx.new.program rewriter.old.point rewriter.new.point }

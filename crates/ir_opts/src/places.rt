@@ -5,7 +5,7 @@ ghost use Rattle.ir_program.specs.Program.{block_at, operation_at, region_at};
 ghost use Rattle.ir_program.specs.declared.handles.Operation.{Operation};
 ghost use Rattle.ir_program.specs.declared.handles.Ptr.{Ptr};
 ghost use Rattle.ir_opts.specs.Places.{AnswersRemoval, IsRootOf};
-ghost use Rattle.opt_inside.specs.Edges.{HasLocalEdgesBelow};
+ghost use Rattle.opt_reach.specs.Edges.{HasLocalEdgesFrom};
 ghost use Rattle.opt_reach.specs.declared.starts.Start.TheVariants as start;
 ghost use Rattle.opt_rewriter.specs.Points.{LeavesErased};
 
@@ -49,7 +49,7 @@ fn remove_from<D: OptDialect, T: TypeTable>(
     rewriter: &mut Rewriter,
 ) -> Result<IRStatus, OptError>
     requires live { IsSome (operation_at ctx.old.program root) }
-    requires edges { HasLocalEdgesBelow D.meaning.is_terminator ctx.old.program root }
+    requires edges { HasLocalEdgesFrom D.meaning.is_terminator ctx.old.program start }
     ensures answer { AnswersRemoval D.meaning ctx.old.program ctx.new.program start root result }
     ensures point { LeavesErased ctx.new.program rewriter.old.point rewriter.new.point }
     ensures types { ctx.new.types ≡ ctx.old.types }
@@ -71,8 +71,7 @@ pub fn remove_blocks_inside_op<D: OptDialect, T: TypeTable>(
     rewriter: &mut Rewriter,
 ) -> Result<IRStatus, OptError>
     requires live { IsSome (operation_at ctx.old.program op) }
-    requires edges { (q : Ptr Operation) → IsRootOf ctx.old.program (start.Operation op) q
-        → HasLocalEdgesBelow D.meaning.is_terminator ctx.old.program q }
+    requires edges { HasLocalEdgesFrom D.meaning.is_terminator ctx.old.program (start.Operation op) }
     ensures answer { (q : Ptr Operation) → IsRootOf ctx.old.program (start.Operation op) q
         → AnswersRemoval D.meaning ctx.old.program ctx.new.program (start.Operation op) q result }
     ensures point { LeavesErased ctx.new.program rewriter.old.point rewriter.new.point }
@@ -94,8 +93,7 @@ pub fn remove_blocks_inside_block<D: OptDialect, T: TypeTable>(
     rewriter: &mut Rewriter,
 ) -> Result<IRStatus, OptError>
     requires linked { IsLinkedBlock ctx.old.program block }
-    requires edges { (q : Ptr Operation) → IsRootOf ctx.old.program (start.Block block) q
-        → HasLocalEdgesBelow D.meaning.is_terminator ctx.old.program q }
+    requires edges { HasLocalEdgesFrom D.meaning.is_terminator ctx.old.program (start.Block block) }
     ensures answer { (q : Ptr Operation) → IsRootOf ctx.old.program (start.Block block) q
         → AnswersRemoval D.meaning ctx.old.program ctx.new.program (start.Block block) q result }
     ensures point { LeavesErased ctx.new.program rewriter.old.point rewriter.new.point }
@@ -117,8 +115,7 @@ pub fn remove_blocks_inside_region<D: OptDialect, T: TypeTable>(
     rewriter: &mut Rewriter,
 ) -> Result<IRStatus, OptError>
     requires live { IsSome (region_at ctx.old.program region) }
-    requires edges { (q : Ptr Operation) → IsRootOf ctx.old.program (start.Region region) q
-        → HasLocalEdgesBelow D.meaning.is_terminator ctx.old.program q }
+    requires edges { HasLocalEdgesFrom D.meaning.is_terminator ctx.old.program (start.Region region) }
     ensures answer { (q : Ptr Operation) → IsRootOf ctx.old.program (start.Region region) q
         → AnswersRemoval D.meaning ctx.old.program ctx.new.program (start.Region region) q result }
     ensures point { LeavesErased ctx.new.program rewriter.old.point rewriter.new.point }

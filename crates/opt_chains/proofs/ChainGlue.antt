@@ -8,10 +8,12 @@ use Rattle.ir_program.specs.declared.handles.BasicBlock.{BasicBlock}
 use Rattle.ir_trees.specs.Searched.{AreDistinct}
 use Rattle.ir_trees.specs.Stands.{by_handle, in_program, ProgramTree}
 use Rattle.opt_inside.proofs.Around.{HasLists}
-use Rattle.opt_inside.specs.Edges.{HasLocalEdgesBelow}
 use Rattle.opt_inside.specs.Occurring.{EachFound, EachBlock, BlocksApart, IsBelowRoot, IsFound, IsOccurrence, IsBlockOccurrence}
 use Rattle.opt_trees.specs.Dialect.{Dialect}
 use Rattle.opt_trees.specs.Simplify.{Place}
+use Rattle.opt_reach.specs.Edges.{HasLocalEdgesFrom}
+use Rattle.opt_reach.specs.Starts.{IsStartIn}
+use Rattle.opt_reach.specs.declared.starts.Start.{Start}
 use Rattle.opt_chains.specs.Chained.{AreChains, LeadsWhereJoinable}
 use Rattle.opt_chains.specs.ChainSteps.{behind, end_of, AreSteps, AreWalked}
 use Rattle.opt_chains.specs.NamedSteps.{HasExit, AreNamedSteps}
@@ -24,7 +26,7 @@ use Rattle.opt_chains.proofs.ChainPaths.{links_named, from_first_named, single_b
 use Rattle.opt_chains.proofs.ChainRows.{IsRow}
 use Rattle.opt_chains.proofs.ChainsFound.{rows_taken, chains_found}
 
-module _ {O B A : Type 0} (d : Dialect (in_program O B) A) (place : Place by_handle) (c : Program O B) (op : Ptr Operation) (t : ProgramTree O B) (lists : HasLists c) (edges : HasLocalEdgesBelow d.is_terminator c op)
+module _ {O B A : Type 0} (d : Dialect (in_program O B) A) (place : Place by_handle) (c : Program O B) (op : Ptr Operation) (t : ProgramTree O B) (lists : HasLists c) (start : Start) (is_start : IsStartIn c start place) (edges : HasLocalEdgesFrom d.is_terminator c start)
     (sound : EachFound t (IsOccurrence c op)) (found : (p : Ptr Operation) → IsBelowRoot c op p → IsFound t p) (blocks : EachBlock t (IsBlockOccurrence c op)) (apart : BlocksApart t)
     (keys : List (Ptr BasicBlock)) (once : AreDistinct keys) (next : List (Option ℕ)) (leads : LeadsWhereJoinable d place t keys next) (ss : List ChainStep) where
   -- the first of a row that leads on, or ends where something leads on, has a block
@@ -48,7 +50,7 @@ module _ {O B A : Type 0} (d : Dialect (in_program O B) A) (place : Place by_han
         target = i.1;
         target_is = i.3;
         branch = i.4.last.head.name;
-        exit = joinable_exit d place c op t edges sound i.0 i.1 i.4;
+        exit = joinable_exit d place c op t lists start is_start edges sound i.0 i.1 i.4;
       }
 
   -- and the steps on blocks join all chains
@@ -56,13 +58,13 @@ module _ {O B A : Type 0} (d : Dialect (in_program O B) A) (place : Place by_han
   chains_of_steps walked js names = chains_found d place c t lists keys next ss js (record {
     once = once;
     len = leads.len;
-    links = links_named d place c op t edges sound found blocks apart keys once next leads.len leads.named;
+    links = links_named d place c op t lists start is_start edges sound found blocks apart keys once next leads.len leads.named;
     walked = walked;
     matched = matched_steps d c keys once ss js names;
     named = leads.named;
     all = leads.all;
-    from_first = from_first_named d place c op t edges sound found blocks apart keys once next leads.len leads.named;
+    from_first = from_first_named d place c op t lists start is_start edges sound found blocks apart keys once next leads.len leads.named;
     exits = λ k j s z a b e. (names.each k s j b a).exit z e;
-    single = single_branch d place c op t edges sound found blocks;
-    beside = joinable_together d place c op t edges sound found blocks;
+    single = single_branch d place c op t lists start is_start edges sound found blocks;
+    beside = joinable_together d place c op t lists start is_start edges sound found blocks;
   })

@@ -10,14 +10,19 @@ use Rattle.ir_program.specs.declared.handles.BasicBlock.{BasicBlock}
 use Rattle.ir_trees.proofs.Members.{Has, at_has}
 use Rattle.ir_trees.specs.Searched.{AreDistinct}
 use Rattle.ir_trees.specs.Stands.{by_handle, in_program, ProgramTree, ProgramHead}
-use Rattle.opt_inside.specs.Edges.{HasLocalEdgesBelow}
+use Rattle.opt_inside.proofs.Around.{HasLists}
 use Rattle.opt_inside.specs.Occurring.{Found, EachFound, EachBlock, BlocksApart, IsBelowRoot, IsFound, IsOccurrence, IsBlockOccurrence}
 use Rattle.opt_trees.specs.Dialect.{Dialect}
 use Rattle.opt_trees.specs.Occurrences.{BlockOccurrence, occurrences_of}
 use Rattle.opt_trees.specs.Simplify.{Place, Joinable, IsReached, entry, further}
+use Rattle.opt_reach.specs.Edges.{IsBlockUnder, HasLocalEdgesFrom}
+use Rattle.opt_reach.specs.Starts.{IsStartIn}
+use Rattle.opt_reach.specs.declared.starts.Start.{Start}
+use Rattle.opt_reach.proofs.Under.{beside_under, entering_below}
 use Rattle.opt_chains.specs.ChainSteps.{IsFirst, IsBehind, itself, later, AreLinks}
 use Rattle.opt_chains.specs.Exits.{IsBareExit}
 use Rattle.opt_chains.specs.Merging.{AreTogether}
+use Rattle.opt_chains.proofs.ChainBare.{source_under, last_under}
 use Rattle.opt_chains.proofs.MergeLists.{none_listed, same_some}
 
 -- something leads to a number, or nothing does
@@ -42,7 +47,8 @@ leads_or_not (o ∷ next) n = ⊎_elim
     at_each ne none zero h = let s : Some o ≡ Some (Some n) = h in let q : o ≡ Some n = cc in ne q
     at_each ne none (suc k) h = none k h
 
-module _ {O B A : Type 0} (d : Dialect (in_program O B) A) (place : Place by_handle) (c : Program O B) (op : Ptr Operation) (t : ProgramTree O B) (edges : HasLocalEdgesBelow d.is_terminator c op) (sound : EachFound t (IsOccurrence c op)) (found : (p : Ptr Operation) → IsBelowRoot c op p → IsFound t p) (blocks : EachBlock t (IsBlockOccurrence c op)) where
+module _ {O B A : Type 0} (d : Dialect (in_program O B) A) (place : Place by_handle) (c : Program O B) (op : Ptr Operation) (t : ProgramTree O B) (lists : HasLists c) (start : Start) (is_start : IsStartIn c start place) (edges : HasLocalEdgesFrom d.is_terminator c start)
+    (sound : EachFound t (IsOccurrence c op)) (found : (p : Ptr Operation) → IsBelowRoot c op p → IsFound t p) (blocks : EachBlock t (IsBlockOccurrence c op)) where
   -- the successors of an operation that is found
   successors_of : (o : Found O B) → Has o (occurrences_of t) → successors_at c o.head.name ≡ o.head.successors
   successors_of o stands =
@@ -52,10 +58,23 @@ module _ {O B A : Type 0} (d : Dialect (in_program O B) A) (place : Place by_han
   target_below : (x y : Ptr BasicBlock) → Joinable d place t x y → StandsInside c (OperationNode op) (BlockNode y)
   target_below x y joins = subst (λ b. StandsInside c (OperationNode op) (BlockNode b)) joins.target_name (blocks joins.target joins.target_stands).below
 
+  -- joinable blocks are in one region
+  pub joinable_together : (x y : Ptr BasicBlock) → Joinable d place t x y → AreTogether c x y
+  joinable_together x y joins =
+      let i = sound joins.last joins.stands in
+      let leads : slice_get (successors_at c joins.last.head.name) 0 ≡ Some y = ap (λ l. slice_get l 0) (successors_of joins.last joins.stands ∙ joins.leads) in
+      let here : StandsInRegion c x i.spot.region = subst (λ b. StandsInRegion c b i.spot.region) joins.in_block i.spot.in_region in
+      (i.spot.region, here, edges.leaving joins.last.head.name y x i.spot.region (last_under d place c op t lists start is_start edges sound x y joins) (zero, leads) (subst (StandsInBlock c joins.last.head.name) joins.in_block i.in_block) here)
+
+  target_under : (x y : Ptr BasicBlock) → Joinable d place t x y → IsBlockUnder c start y
+  target_under x y joins =
+      let h = joinable_together x y joins in
+      beside_under c start lists x y h.0 h.1 h.2 (source_under d place c op t lists start is_start edges sound x y joins)
+
   -- what leads to the second of two joinable blocks is the last operation of the first
   only_last : (x y : Ptr BasicBlock) (joins : Joinable d place t x y) (q : Ptr Operation) (k : ℕ) → slice_get (successors_at c q) k ≡ Some y → q ≡ joins.last.head.name
   only_last x y joins q k h =
-      let below = edges.entering q y (k, h) (target_below x y joins) in
+      let below = entering_below c start lists d.is_terminator edges op q y (k, h) (target_under x y joins) (target_below x y joins) in
       let f = found q below in
       let row : slice_get f.0.head.successors k ≡ Some y = ap (λ l. slice_get l k) (sym (successors_of f.0 f.1) ∙ ap (successors_at c) f.2) ∙ h in
       sym f.2 ∙ ap (λ (o : Found O B). o.head.name) (joins.single f.0 f.1 (at_has f.0.head.successors k y row))
@@ -64,14 +83,6 @@ module _ {O B A : Type 0} (d : Dialect (in_program O B) A) (place : Place by_han
   single_branch x y p joins exit q k h =
       let row : slice_get (successors_at c p) 0 ≡ Some y = ap (λ l. slice_get l 0) (ap (λ o. unwrap_or (option_map (λ (v : OperationView O). v.successors) o) []) exit.there ∙ exit.successors) in
       only_last x y joins q k h ∙ sym (only_last x y joins p 0 row)
-
-  -- joinable blocks are in one region
-  pub joinable_together : (x y : Ptr BasicBlock) → Joinable d place t x y → AreTogether c x y
-  joinable_together x y joins =
-      let i = sound joins.last joins.stands in
-      let leads : slice_get (successors_at c joins.last.head.name) 0 ≡ Some y = ap (λ l. slice_get l 0) (successors_of joins.last joins.stands ∙ joins.leads) in
-      let here : StandsInRegion c x i.spot.region = subst (λ b. StandsInRegion c b i.spot.region) joins.in_block i.spot.in_region in
-      (i.spot.region, here, edges.leaving joins.last.head.name y x i.spot.region i.below (zero, leads) (subst (StandsInBlock c joins.last.head.name) joins.in_block i.in_block) here)
 
   -- a block is joinable to one other alone
   pub one_before : (x w y : Ptr BasicBlock) → Joinable d place t x y → Joinable d place t w y → x ≡ w

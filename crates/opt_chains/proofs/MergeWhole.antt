@@ -22,18 +22,21 @@ use Rattle.ir_trees.specs.Searched.{Lists}
 use Rattle.ir_trees.specs.Stands.{by_handle, in_program, ProgramTree, ProgramHead, AreTree, StandsFor}
 use Rattle.ir_trees.specs.Trees.{Operations, Tree}
 use Rattle.opt_inside.proofs.Around.{HasLists, around_operation, around_block, not_root}
-use Rattle.opt_inside.specs.Edges.{HasLocalEdgesBelow}
 use Rattle.opt_inside.specs.Occurring.{FoundBlock, EachFound, EachBlock, IsOccurrence, IsBlockOccurrence}
 use Rattle.opt_inside.specs.Outside.{ChangesOperandsOutside}
 use Rattle.opt_trees.specs.Dialect.{Dialect}
 use Rattle.opt_trees.specs.Occurrences.{block_occurrences_of}
 use Rattle.opt_trees.specs.Simplify.{Place, Joinable, IsGiven, Follows, stops, use_head, use_instead}
+use Rattle.opt_reach.specs.Edges.{HasLocalEdgesFrom}
+use Rattle.opt_reach.specs.Starts.{IsStartIn}
+use Rattle.opt_reach.specs.declared.starts.Start.{Start}
 use Rattle.opt_chains.specs.Chained.{AreChains, AreStandIns}
 use Rattle.opt_chains.specs.MergedValues.{standing, TakesInstead}
 use Rattle.opt_chains.specs.Merging.{front, without, held, is_taken, last_of, along, TakesNoArgument, AreJoins, HasJoined}
 use Rattle.opt_chains.specs.Phases.{MergesBlocks}
 use Rattle.opt_chains.specs.declared.merging.Join.{Join}
 use Rattle.opt_chains.specs.declared.merge_values.StandIn.{StandIn}
+use Rattle.opt_chains.proofs.ChainBare.{last_under}
 use Rattle.opt_chains.proofs.MergeLists.{none_listed, something, same_some, not_true, last_at, in_front, without_none}
 use Rattle.opt_chains.proofs.MergePairs.{is_used}
 use Rattle.opt_chains.proofs.MergeSteps.{held_more, held_first, take_more, none_joined}
@@ -136,15 +139,17 @@ standing_is (s ∷ ss) v = ⊎_elim
     (value-test.decide v s.argument)
 
 -- what is known of a program before its blocks are joined
-pub record IsKnown {O B A : Type 0} (d : Dialect (in_program O B) A) (old : Program O B) (op : Ptr Operation) (t : ProgramTree O B) : Type 0 where
+pub record IsKnown {O B A : Type 0} (d : Dialect (in_program O B) A) (place : Place by_handle) (old : Program O B) (op : Ptr Operation) (t : ProgramTree O B) : Type 0 where
   pub lists : HasLists old
-  pub edges : HasLocalEdgesBelow d.is_terminator old op
+  pub start : Start
+  pub is_start : IsStartIn old start place
+  pub edges : HasLocalEdgesFrom d.is_terminator old start
   pub found : EachFound t (IsOccurrence old op)
   pub blocks_found : EachBlock t (IsBlockOccurrence old op)
   pub used : (v : Value) → IsUsed old v → IsLiveValue old v
   pub stands : (v : Value) (ty : TypeHandle) → type_at old v ≡ Some ty → StandsAtDefiner old v ty
 
-module _ {O B A : Type 0} (d : Dialect (in_program O B) A) (place : Place by_handle) (old mid : Program O B) (op : Ptr Operation) (t : ProgramTree O B) (known : IsKnown d old op t) (js : List Join) (ss : List StandIn) (chains : AreChains d place old t js) (ins : AreStandIns d place old t js ss) (takes : TakesInstead old mid (standing ss)) where
+module _ {O B A : Type 0} (d : Dialect (in_program O B) A) (place : Place by_handle) (old mid : Program O B) (op : Ptr Operation) (t : ProgramTree O B) (known : IsKnown d place old op t) (js : List Join) (ss : List StandIn) (chains : AreChains d place old t js) (ins : AreStandIns d place old t js ss) (takes : TakesInstead old mid (standing ss)) where
   lists : HasLists old
   lists = known.lists
 
@@ -278,7 +283,7 @@ module _ {O B A : Type 0} (d : Dialect (in_program O B) A) (place : Place by_han
       let at = has_at v.blocks b has in
       let sb : StandsInRegion old b r = lists.blocks r at.0 b (ap (λ l. slice_get l at.0) in_list ∙ at.1) in
       let named : successors_at old joins.last.head.name ≡ c ∷ [] = ap (λ o. unwrap_or (option_map (λ (x : OperationView O). x.successors) o) []) f.there ∙ sym (ap (λ (h : ProgramHead O B). h.successors) f.head) ∙ joins.leads in
-      let sc = known.edges.leaving joins.last.head.name c b r f.below (zero, ap (λ l. slice_get l zero) named) (subst (StandsInBlock old joins.last.head.name) joins.in_block f.in_block) sb in
+      let sc = known.edges.leaving joins.last.head.name c b r (last_under d place old op t lists known.start known.is_start known.edges known.found b c joins) (zero, ap (λ l. slice_get l zero) named) (subst (StandsInBlock old joins.last.head.name) joins.in_block f.in_block) sb in
       subst (Has c) in_list (at_has (blocks_in old r) sc.index c sc.here)
 
   found : (b c : Ptr BasicBlock) (v : BlockView B) (ops : Tree by_handle (in_program O B) Operations) → Joinable d place t b c → block_at old c ≡ Some v → AreTree old Operations v.operations ops
@@ -352,7 +357,7 @@ module _ {O B A : Type 0} (d : Dialect (in_program O B) A) (place : Place by_han
         }
 
 -- where there is nothing to join, the program is merged as it is
-pub nothing_merged : {O B A : Type 0} (d : Dialect (in_program O B) A) (place : Place by_handle) (old : Program O B) (op : Ptr Operation) (t : ProgramTree O B) → IsKnown d old op t → (js : List Join) → AreChains d place old t js → js ≡ [] → StandsFor old op t → MergesBlocks d place old old op t
+pub nothing_merged : {O B A : Type 0} (d : Dialect (in_program O B) A) (place : Place by_handle) (old : Program O B) (op : Ptr Operation) (t : ProgramTree O B) → IsKnown d place old op t → (js : List Join) → AreChains d place old t js → js ≡ [] → StandsFor old op t → MergesBlocks d place old old op t
 nothing_merged d place old op t known js chains none stands =
     let empty : AreChains d place old t [] = subst (AreChains d place old t) none chains in
     merges_blocks d place old old op t known [] [] empty (record {

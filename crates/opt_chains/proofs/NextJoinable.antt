@@ -13,7 +13,6 @@ use Rattle.ir_trees.proofs.Members.{Has, has_at}
 use Rattle.ir_trees.specs.Stands.{by_handle, in_program, ProgramTree, ProgramHead, ProgramLabel, AreTree, no_regions, first_region, defined_by}
 use Rattle.ir_trees.specs.Trees.{Regions, Tree}
 use Rattle.opt_inside.proofs.Around.{HasLists}
-use Rattle.opt_inside.specs.Edges.{HasLocalEdgesBelow}
 use Rattle.opt_inside.specs.Numbered.{Numbers, NumbersInside}
 use Rattle.opt_inside.specs.Occurring.{Found, FoundBlock, EachFound, EachBlock, BlocksApart, IsBelowRoot, IsBlockBelow, IsFound, IsBlockFound, IsOccurrence, IsBlockOccurrence, IsSiteOf, OperationsFound}
 use Rattle.opt_solvers.specs.Chains.{IsJoinedTo}
@@ -22,9 +21,12 @@ use Rattle.opt_solvers.specs.declared.chains.ChainBlock.{ChainBlock}
 use Rattle.opt_trees.specs.Dialect.{Dialect}
 use Rattle.opt_trees.specs.Occurrences.{OperationsApart, occurrences_of, block_occurrences_of}
 use Rattle.opt_trees.specs.Simplify.{Place, Joinable, IsReached, IsVisited, IsEntered, is_bare, is_empty, is_end}
+use Rattle.opt_reach.specs.Edges.{HasLocalEdgesFrom}
 use Rattle.opt_reach.specs.Fates.{IsEnteredThere, IsFate, AreFates}
 use Rattle.opt_reach.specs.declared.fates.Fate.{Fate}
 use Rattle.opt_reach.specs.declared.fates.Fate.TheVariants.{Entered, Unreached, Unvisited}
+use Rattle.opt_reach.specs.Starts.{IsStartIn}
+use Rattle.opt_reach.specs.declared.starts.Start.{Start}
 use Rattle.opt_chains.specs.Chained.{LeadsWhereJoinable}
 use Rattle.opt_chains.specs.Exits.{IsBareExit}
 use Rattle.opt_chains.specs.Merging.{front}
@@ -77,7 +79,8 @@ ends_there c _ _ (first_region r rs v blocks rest there inner more) e = cc
 none_left : (ts : List TypedValue) → ts ≡ [] → is_empty (map defined_by ts) ≡ true
 none_left ts e = ap (λ l. is_empty (map defined_by l)) e
 
-module _ {O B A : Type 0} (d : Dialect (in_program O B) A) (place : Place by_handle) (c : Program O B) (op : Ptr Operation) (t : ProgramTree O B) (lists : HasLists c) (edges : HasLocalEdgesBelow d.is_terminator c op) (by : Occurs c op t) where
+module _ {O B A : Type 0} (d : Dialect (in_program O B) A) (place : Place by_handle) (c : Program O B) (op : Ptr Operation) (t : ProgramTree O B) (lists : HasLists c) (start : Start) (is_start : IsStartIn c start place) (edges : HasLocalEdgesFrom d.is_terminator c start)
+    (by : Occurs c op t) where
   successors_of : (o : Found O B) → Has o (occurrences_of t) → successors_at c o.head.name ≡ o.head.successors
   successors_of o stands =
       let i = by.sound o stands in
@@ -207,12 +210,12 @@ module _ {O B A : Type 0} (d : Dialect (in_program O B) A) (place : Place by_han
     edge_alone x y joins us uses =
         let name = joins.last.head.name in
         let row : successors_at c name ≡ y ∷ [] = successors_of joins.last joins.stands ∙ joins.leads in
-        let exit = joinable_exit d place c op t edges by.sound x y joins in
+        let exit = joinable_exit d place c op t lists start is_start edges by.sound x y joins in
         let here = uses.all (record { user_op = name; index = 0; def = y }) (ap (λ l. slice_get l 0) row) refl in
         length_one us (record { user_op = name; index = 0; def = y }) here.0 here.1 uses.once (λ i u h.
         let is = uses.sound i u h in
         let at : slice_get (successors_at c u.user_op) u.index ≡ Some y = is.0 ∙ ap Some is.1 in
-        let user : u.user_op ≡ name = single_branch d place c op t edges by.sound by.found by.blocks_sound x y name joins exit u.user_op u.index at in
+        let user : u.user_op ≡ name = single_branch d place c op t lists start is_start edges by.sound by.found by.blocks_sound x y name joins exit u.user_op u.index at in
         let short = below_length (y ∷ []) u.index y (ap (λ l. slice_get l u.index) (sym row ∙ ap (successors_at c) (sym user)) ∙ at) in
         let index : u.index ≡ 0 = omega (arith, short) in
         λ k. record { user_op = user k; index = index k; def = is.1 k })
@@ -245,7 +248,7 @@ module _ {O B A : Type 0} (d : Dialect (in_program O B) A) (place : Place by_han
             ssa = subst (StandsInSsa d c) name (ssa_in_program site.block site.found ssa);
             branch = joins.last.head.name;
             target = y;
-            exit = joinable_exit d place c op t edges by.sound x y joins;
+            exit = joinable_exit d place c op t lists start is_start edges by.sound x y joins;
             target_is = b.1;
           });
           to = xb.0;

@@ -6,8 +6,8 @@ ghost use Rattle.ir_program.specs.declared.handles.BasicBlock.{BasicBlock};
 ghost use Rattle.ir_program.specs.declared.handles.Ptr.{Ptr};
 ghost use Rattle.ir_trees.specs.Searched.{Lists};
 ghost use Rattle.ir_trees.specs.Stands.{ProgramTree, StandsFor, by_handle};
-ghost use Rattle.opt_inside.specs.Edges.{HasLocalEdgesBelow};
 ghost use Rattle.opt_inside.specs.Numbered.{NumbersInside, numbers_of};
+ghost use Rattle.opt_reach.specs.Edges.{HasLocalEdgesFrom};
 ghost use Rattle.opt_reach.specs.Starts.{IsStartIn};
 ghost use Rattle.opt_trees.specs.Simplify.{Place};
 ghost use Rattle.opt_chains.specs.Chained.{AreChains, Begins, LeadsWhereJoinable};
@@ -80,7 +80,7 @@ fn joins_along<D: Meanings>(
     next: &[Option<usize>],
 ) -> Result<Vec<Join>, AllocError>
     requires live { IsSome (operation_at program.now op) }
-    requires edges { HasLocalEdgesBelow D.meaning.is_terminator program.now op }
+    requires edges { HasLocalEdgesFrom D.meaning.is_terminator program.now _start }
     requires numbered { NumbersInside program.now op (numbers_of inside.now) }
     requires begins { Begins program.now _start }
     requires next { (p : Place by_handle) → IsStartIn program.now _start p
@@ -111,7 +111,7 @@ pub fn find_joins<D: Meanings>(
     inside: &Inside,
 ) -> Result<Vec<Join>, AllocError>
     requires live { IsSome (operation_at program.now op) }
-    requires edges { HasLocalEdgesBelow D.meaning.is_terminator program.now op }
+    requires edges { HasLocalEdgesFrom D.meaning.is_terminator program.now start }
     requires numbered { NumbersInside program.now op (numbers_of inside.now) }
     ensures chains { IfOk result (λ joins. (p : Place by_handle) → IsStartIn program.now start p
         → (t : ProgramTree D.Operation D.Block) → StandsFor program.now op t

@@ -2,7 +2,7 @@
 ghost use Rattle.std.specs.Prelude.{◌≡◌, IsSome};
 ghost use Rattle.ir_program.specs.Program.{operation_at};
 ghost use Rattle.ir_trees.specs.Stands.{ProgramTree, StandsFor, by_handle};
-ghost use Rattle.opt_inside.specs.Edges.{HasLocalEdgesBelow};
+ghost use Rattle.opt_reach.specs.Edges.{HasLocalEdgesFrom};
 ghost use Rattle.opt_reach.specs.Starts.{IsStartIn};
 ghost use Rattle.opt_trees.specs.Simplify.{Place};
 ghost use Rattle.opt_chains.specs.Chained.{Begins, IsPlan};
@@ -28,7 +28,7 @@ pub fn apply_plan<D: Meanings, T: TypeTable>(
     joins: &[Join],
 )
     requires live { IsSome (operation_at ctx.old.program op) }
-    requires edges { HasLocalEdgesBelow D.meaning.is_terminator ctx.old.program op }
+    requires edges { HasLocalEdgesFrom D.meaning.is_terminator ctx.old.program _start }
     requires begins { Begins ctx.old.program _start }
     requires plan { (p : Place by_handle) → IsStartIn ctx.old.program _start p
         → (t : ProgramTree D.Operation D.Block) → StandsFor ctx.old.program op t

@@ -7,8 +7,8 @@ ghost use Rattle.ir_program.specs.declared.handles.Ptr.{Ptr};
 ghost use Rattle.ir_program.specs.declared.handles.Region.{Region};
 ghost use Rattle.ir_trees.specs.Searched.{AreDistinct};
 ghost use Rattle.ir_trees.specs.Stands.{ProgramTree, StandsFor, by_handle};
-ghost use Rattle.opt_inside.specs.Edges.{HasLocalEdgesBelow};
 ghost use Rattle.opt_inside.specs.Numbered.{NumbersInside, numbers_of};
+ghost use Rattle.opt_reach.specs.Edges.{HasLocalEdgesFrom};
 ghost use Rattle.opt_reach.specs.Starts.{IsStartIn};
 ghost use Rattle.opt_trees.specs.Simplify.{Place};
 ghost use Rattle.opt_chains.specs.Chained.{LeadsWhereJoinable};
@@ -131,7 +131,7 @@ pub(crate) fn next_blocks<D: Meanings>(
     inside: &Inside,
 ) -> Result<Vec<Option<usize>>, AllocError>
     requires live { IsSome (operation_at program.now op) }
-    requires edges { HasLocalEdgesBelow D.meaning.is_terminator program.now op }
+    requires edges { HasLocalEdgesFrom D.meaning.is_terminator program.now start }
     requires numbered { NumbersInside program.now op (numbers_of inside.now) }
     ensures { IfOk result (λ next. (p : Place by_handle) → IsStartIn program.now start p
         → (t : ProgramTree D.Operation D.Block) → StandsFor program.now op t

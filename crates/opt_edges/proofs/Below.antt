@@ -17,12 +17,12 @@ use Rattle.opt_inside.proofs.Around.{HasLists, not_root}
 use Rattle.opt_edges.specs.Local.{IsLocalEdge, HasLocalEdgesAt}
 
 -- what an option that isn't empty has
-something : {X : Type 0} (o : Option X) → IsSome o → (x : X) × (o ≡ Some x)
+pub something : {X : Type 0} (o : Option X) → IsSome o → (x : X) × (o ≡ Some x)
 something (Some x) h = (x, refl)
 something None h = cc
 
 -- behind the last one of a list there is none
-at_end : {X : Type 0} (xs : List X) (k : ℕ) → k + 1 ≡ length xs → slice_get xs (k + 1) ≡ None
+pub at_end : {X : Type 0} (xs : List X) (k : ℕ) → k + 1 ≡ length xs → slice_get xs (k + 1) ≡ None
 at_end xs k e = slice_get_past xs (k + 1) (omega arith)
 
 -- one with none behind it is the last
@@ -94,20 +94,20 @@ module _ {O B : Type 0} (is_terminator : O → Bool) (c : Program O B) (op : Ptr
         record { inside = in_block p edge.block edge.in_block there; other = not_root c lists op p edge.block edge.in_block there }
 
     -- what an edge that stays in its region says of whatever block and region its operation is in
-    stays_beside : (p : Ptr Operation) (s b : Ptr BasicBlock) (r : Ptr Region) → IsLocalEdge is_terminator c p s → StandsInBlock c p b → StandsInRegion c b r → StandsInRegion c s r
+    pub stays_beside : (p : Ptr Operation) (s b : Ptr BasicBlock) (r : Ptr Region) → IsLocalEdge is_terminator c p s → StandsInBlock c p b → StandsInRegion c b r → StandsInRegion c s r
     stays_beside p s b r edge in_b in_r =
         let block : edge.block ≡ b = (lists.operations_once p edge.block b edge.in_block.index in_b.index edge.in_block.here in_b.here).0 in
         let first : StandsInRegion c b edge.siblings.region = subst (λ z. StandsInRegion c z edge.siblings.region) block edge.siblings.first in
         let region : edge.siblings.region ≡ r = (lists.blocks_once b edge.siblings.region r first.index in_r.index first.here in_r.here).0 in
         subst (StandsInRegion c s) region edge.siblings.second
 
-    leaves_last : (p : Ptr Operation) (s b : Ptr BasicBlock) (k : ℕ) → IsLocalEdge is_terminator c p s → slice_get (operations_in c b) k ≡ Some p → k + 1 ≡ length (operations_in c b)
+    pub leaves_last : (p : Ptr Operation) (s b : Ptr BasicBlock) (k : ℕ) → IsLocalEdge is_terminator c p s → slice_get (operations_in c b) k ≡ Some p → k + 1 ≡ length (operations_in c b)
     leaves_last p s b k edge here =
         let same = lists.operations_once p edge.block b edge.in_block.index k edge.in_block.here here in
         let none : slice_get (operations_in c b) (edge.in_block.index + 1) ≡ None = subst (λ z. slice_get (operations_in c z) (edge.in_block.index + 1) ≡ None) same.0 edge.last in
         is_last (operations_in c b) k p here (subst (λ n. slice_get (operations_in c b) (n + 1) ≡ None) same.1 none)
 
-    is_terminator_of : (p : Ptr Operation) (s : Ptr BasicBlock) (v : OperationView O) → IsLocalEdge is_terminator c p s → operation_at c p ≡ Some v → is_terminator v.payload ≡ true
+    pub is_terminator_of : (p : Ptr Operation) (s : Ptr BasicBlock) (v : OperationView O) → IsLocalEdge is_terminator c p s → operation_at c p ≡ Some v → is_terminator v.payload ≡ true
     is_terminator_of p s v edge there =
         let same : edge.view ≡ v = same_Some edge.view v (sym edge.there ∙ there) in
         subst (λ (w : OperationView O). is_terminator w.payload ≡ true) same edge.terminator

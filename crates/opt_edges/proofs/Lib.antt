@@ -4,3 +4,5 @@ pub mod Users
 pub mod Below
 pub mod Checked
 pub mod Picked
+pub mod Above
+pub mod EachUnder

@@ -3,6 +3,8 @@
 
 mod forwarded;
 mod local;
+mod under;
 
 pub use forwarded::forwarded_operands;
 pub use local::has_local_edges_below;
+pub use under::has_local_edges_from;

@@ -80,7 +80,10 @@ fn is_entered_locally<D: Meanings>(
 }
 
 /// Whether the edges at an operation or a block stay in its region.
-fn has_local_edges_at<D: Meanings>(program: &Program<D::Operation, D::Block>, node: IRNode) -> bool
+pub(crate) fn has_local_edges_at<D: Meanings>(
+    program: &Program<D::Operation, D::Block>,
+    node: IRNode,
+) -> bool
     requires { IsLiveNode program.now node }
     ensures { IsTrue result ↔ HasLocalEdgesAt D.meaning.is_terminator program.now node }
 {

@@ -5,8 +5,8 @@ ghost use Rattle.ir_trees.specs.Stands.{ProgramTree, StandsFor, by_handle};
 ghost use Rattle.opt_chains.specs.Phases.{MergesBlocks};
 ghost use Rattle.opt_dialect.specs.declared.status.IRStatus.TheVariants.{Unchanged};
 ghost use Rattle.opt_dialect.specs.declared.status.OptError.TheVariants.{LiveUse, Memory};
-ghost use Rattle.opt_inside.specs.Edges.{FitsEdgesBelow, HasLocalEdgesBelow};
 ghost use Rattle.opt_merge.specs.Answers.{HasCircle, HasNoCircle, HasNoneJoinable};
+ghost use Rattle.opt_reach.specs.Edges.{FitsEdgesFrom, HasLocalEdgesFrom};
 ghost use Rattle.opt_reach.specs.Starts.{IsStartIn};
 ghost use Rattle.opt_trees.specs.Simplify.{Place};
 
@@ -31,8 +31,8 @@ pub fn merge_chains<D: OptDialect, T: TypeTable>(
     ctx: &mut TypedProgram<D::Operation, D::Block, T>,
 ) -> Result<IRStatus, OptError>
     requires live { IsSome (operation_at ctx.old.program op) }
-    requires edges { HasLocalEdgesBelow D.meaning.is_terminator ctx.old.program op }
-    requires fits { FitsEdgesBelow D.meaning ctx.old.program op }
+    requires edges { HasLocalEdgesFrom D.meaning.is_terminator ctx.old.program start }
+    requires fits { FitsEdgesFrom D.meaning ctx.old.program start }
     ensures merged { OnOk result ((p : Place by_handle) → IsStartIn ctx.old.program start p
         → (t : ProgramTree D.Operation D.Block) → StandsFor ctx.old.program op t
         → MergesBlocks D.meaning p ctx.old.program ctx.new.program op t) }

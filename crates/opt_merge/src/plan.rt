@@ -2,9 +2,9 @@
 ghost use Rattle.std.specs.Prelude.{◌≡◌, ◌⊎◌, IfErr, IfOk, IsSome};
 ghost use Rattle.ir_program.specs.Program.{operation_at};
 ghost use Rattle.opt_dialect.specs.declared.status.OptError.TheVariants.{LiveUse, Memory};
-ghost use Rattle.opt_inside.specs.Edges.{FitsEdgesBelow, HasLocalEdgesBelow};
 ghost use Rattle.opt_merge.specs.Answers.{HasCircle};
 ghost use Rattle.opt_merge.specs.Plans.{FindsPlan};
+ghost use Rattle.opt_reach.specs.Edges.{FitsEdgesFrom, HasLocalEdgesFrom};
 
 use ir_program::{Operation, Program, Ptr};
 use ir_trees::know_tree;
@@ -36,8 +36,8 @@ pub(crate) fn find_plan<D: OptDialect>(
     start: Start,
 ) -> Result<Option<MergePlan>, OptError>
     requires live { IsSome (operation_at program.now op) }
-    requires edges { HasLocalEdgesBelow D.meaning.is_terminator program.now op }
-    requires fits { FitsEdgesBelow D.meaning program.now op }
+    requires edges { HasLocalEdgesFrom D.meaning.is_terminator program.now start }
+    requires fits { FitsEdgesFrom D.meaning program.now start }
     ensures found { IfOk result (FindsPlan D.meaning program.now op start) }
     ensures refused { IfErr result (λ e. (e ≡ Memory) ⊎ ((e ≡ LiveUse) × HasCircle D.meaning program.now op start)) }
 {

@@ -22,34 +22,34 @@ use Rattle.ir_trees.specs.Searched.{Lists}
 use Rattle.ir_trees.specs.Stands.{by_handle, in_program, ProgramTree, StandsFor}
 use Rattle.opt_trees.specs.Dialect.{Dialect}
 use Rattle.opt_trees.specs.Simplify.{Place, IsReached, IsUnreached}
-use Rattle.opt_inside.specs.Edges.{HasLocalEdgesBelow}
 use Rattle.opt_inside.specs.Numbered.{Numbers, NumbersInside}
 use Rattle.opt_inside.specs.Occurring.{IsBlockBelow}
 use Rattle.opt_inside.proofs.Around.{HasLists}
-use Rattle.opt_reach.specs.Fates.{IsJudged, IsLeftOut, IsFate, AreFates, HasReachTest}
+use Rattle.opt_reach.specs.Edges.{IsBlockUnder, HasLocalEdgesFrom}
+use Rattle.opt_reach.specs.Fates.{IsJudged, IsLeftOut, IsFate, AreFates}
 use Rattle.opt_reach.specs.Paths.{number_in, exits_of, IsPathGraph}
 use Rattle.opt_reach.specs.Starts.{IsStartIn}
 use Rattle.opt_reach.specs.declared.fates.Fate.{Fate}
 use Rattle.opt_reach.specs.declared.fates.Fate.TheVariants.{Unreached}
 use Rattle.opt_reach.specs.declared.starts.Start.{Start}
 use Rattle.opt_reach.proofs.Lists.{get_last}
-use Rattle.opt_reach.proofs.Marks.{earlier, is_noted, noted_marked, marked_noted}
+use Rattle.opt_reach.proofs.Marks.{earlier}
 use Rattle.opt_reach.proofs.Members.{made_of, contains_lists}
 use Rattle.opt_reach.proofs.Places.{place_within}
 use Rattle.opt_reach.proofs.Occurs.{Occurs}
-use Rattle.opt_reach.proofs.PathGraph.{reached_below, reached_exactly}
+use Rattle.opt_reach.proofs.PathGraph.{reached_exactly}
 use Rattle.opt_reach.proofs.Judged.{within, fate_there, left_out_fate}
 
 module _ {O B A : Type 0} (d : Dialect (in_program O B) A) (place : Place by_handle) (c : Program O B) (lists : HasLists c) (op : Ptr Operation) (n : Numbers) (numbered : NumbersInside c op n) (t : ProgramTree O B) (occurs : Occurs c op t) where
   -- one block more
-  pub fates_more : (start : Start) → IsStartIn c start place → (fates fates' : List Fate) (b : Ptr BasicBlock) (reach : Bool) (f : Fate) → slice_get n.blocks (length fates) ≡ Some b → (reach ≡ true) ↔ IsReached t b → IsJudged d c start n.blocks fates b reach f
+  pub fates_more : (start : Start) → IsStartIn c start place → (fates fates' : List Fate) (b : Ptr BasicBlock) (reach : Bool) (f : Fate) → slice_get n.blocks (length fates) ≡ Some b → (IsBlockUnder c start b → (reach ≡ true) ↔ IsReached t b) → IsJudged d c start n.blocks fates b reach f
       → fates' ≡ fates ++ f ∷ [] → AreFates d place t n.blocks fates → AreFates d place t n.blocks fates'
   fates_more start is_start fates fates' b reach f here reached judged e known k g x at has named = ⊎_elim
       (λ (h : slice_get fates k ≡ Some g). known k g x h has named)
       (λ (h : (k ≡ length fates) × (g ≡ f)).
       let name : b ≡ x.label.name = same_Some b x.label.name (sym here ∙ ap (slice_get n.blocks) (sym h.0) ∙ named) in
       subst (IsFate d place t x) (sym h.1) (fate_there d place c lists op n numbered t occurs start is_start fates known k (sym h.0) x has named reach
-      (subst (λ a. (reach ≡ true) ↔ IsReached t a) name reached) f (subst (λ a. IsJudged d c start n.blocks fates a reach f) name judged)))
+      (subst (λ a. IsBlockUnder c start a → (reach ≡ true) ↔ IsReached t a) name reached) f (subst (λ a. IsJudged d c start n.blocks fates a reach f) name judged)))
       (get_last fates f k g (ap (λ fs. slice_get fs k) (sym e) ∙ at))
 
   pub unreached_are : (fates : List Fate) → length fates ≡ length n.blocks → AreFates d place t n.blocks fates → (row : List (Ptr BasicBlock)) → ((b : Ptr BasicBlock) → Lists row b ↔ ((k : ℕ) × (slice_get n.blocks k ≡ Some b) × (slice_get fates k ≡ Some Unreached)))
@@ -67,18 +67,6 @@ module _ {O B A : Type 0} (d : Dialect (in_program O B) A) (place : Place by_han
         let f = within fates k.0 (omega (arith, short, len)) in
         let is : IsFate d place t u.it f.0 = known k.0 f.0 u.it f.1 u.stands (k.1 ∙ ap Some (sym u.name)) in
         (listed b).1 (k.0, k.1, f.1 ∙ ap Some (left_out_fate d place c lists op n numbered t occurs u.it f.0 is (u.visited, λ r. u.unreached (subst (IsReached t) u.name r)))),
-  )
-
-module _ {O B : Type 0} (c : Program O B) (lists : HasLists c) (op : Ptr Operation) (n : Numbers) (numbered : NumbersInside c op n) (t : ProgramTree O B) (occurs : Occurs c op t) where
-  pub reach_test : (is_terminator : O → Bool) → HasLocalEdgesBelow is_terminator c op → (marks : List Bool) → ((k : ℕ) (b : Ptr BasicBlock) → slice_get n.blocks k ≡ Some b → IsMarked marks k ↔ IsReached t b) → HasReachTest t
-  reach_test is_terminator edges marks reached = (
-    is_noted n.blocks marks,
-    λ b. (
-      λ h. let m = noted_marked n.blocks marks b h in (reached m.0 b m.1).0 m.2,
-      λ r.
-          let k = (numbered.blocks b).1 (reached_below c lists op is_terminator edges n numbered t occurs b r) in
-          marked_noted n.blocks marks b numbered.blocks_once k.0 k.1 ((reached k.0 b k.1).1 r),
-    ),
   )
 
 module _ {O B : Type 0} (c : Program O B) (lists : HasLists c) (op : Ptr Operation) (n : Numbers) (numbered : NumbersInside c op n) where
@@ -119,13 +107,14 @@ pub one_longer : {X : Type 0} (xs : List X) (x : X) → length (xs ++ x ∷ []) 
 one_longer [] x = refl
 one_longer (y ∷ xs) x = let h = one_longer xs x in omega (arith, h)
 
-module _ {O B : Type 0} (c : Program O B) (lists : HasLists c) (op : Ptr Operation) (is_terminator : O → Bool) (edges : HasLocalEdgesBelow is_terminator c op) (n : Numbers) (numbered : NumbersInside c op n) where
+module _ {O B : Type 0} (c : Program O B) (lists : HasLists c) (op : Ptr Operation) (is_terminator : O → Bool) (n : Numbers) (numbered : NumbersInside c op n) where
   pub marks_are : ((t : ProgramTree O B) → StandsFor c op t → Occurs c op t) → (rows : List (Vec ℕ Global)) → IsPathGraph c n.blocks rows → (graph : List (Vec ℕ Global)) → graph ≡ rows → (entry : ℕ) → entry ≡ length n.blocks
       → (found : Result (Vec Bool Global) AllocError) → IfOk found (λ marks. (k : ℕ) → IsMarked marks.items k ↔ Reaches (successors graph) entry k)
-      → IfOk found (λ marks. (t : ProgramTree O B) → StandsFor c op t → (k : ℕ) (b : Ptr BasicBlock) → slice_get n.blocks k ≡ Some b → IsMarked marks.items k ↔ IsReached t b)
+      → IfOk found (λ marks. (start : Start) → HasLocalEdgesFrom is_terminator c start → (t : ProgramTree O B) → StandsFor c op t → (k : ℕ) (b : Ptr BasicBlock) → slice_get n.blocks k ≡ Some b → IsBlockUnder c start b
+      → IsMarked marks.items k ↔ IsReached t b)
   marks_are occurs rows is graph same entry at (Err e) h = h
-  marks_are occurs rows is graph same entry at (Ok marks) h = λ t stands k b here.
-      let path = reached_exactly c lists op is_terminator edges n numbered t (occurs t stands) rows is k b here in
+  marks_are occurs rows is graph same entry at (Ok marks) h = λ start edges t stands k b here under.
+      let path = reached_exactly c lists op n numbered t (occurs t stands) rows is start is_terminator edges k b here under in
       let mark : IsMarked marks.items k ↔ Reaches (successors rows) (length n.blocks) k = subst (λ i. IsMarked marks.items k ↔ Reaches (successors rows) i k) at (subst (λ g. IsMarked marks.items k ↔ Reaches (successors g) entry k) same (h k)) in
       (λ m. path.0 (mark.0 m), λ r. mark.1 (path.1 r))
 

@@ -16,6 +16,7 @@ use Rattle.opt_trees.specs.Simplify.{Place, IsReached, IsVisited, of_place, of_i
 use Rattle.opt_inside.specs.Numbered.{Numbers, NumbersInside}
 use Rattle.opt_inside.specs.Occurring.{Found, FoundBlock}
 use Rattle.opt_inside.proofs.Around.{HasLists}
+use Rattle.opt_reach.specs.Edges.{IsBlockUnder}
 use Rattle.opt_reach.specs.Fates.{IsEnteredThere, IsLeftOut, IsFate, AreFates, HasVisit, fate, IsJudged}
 use Rattle.opt_reach.specs.Starts.{IsStartIn, BeginsAtRegion}
 use Rattle.opt_reach.specs.declared.fates.Fate.{Fate}
@@ -25,6 +26,7 @@ use Rattle.opt_reach.proofs.Begins.{begins_exactly}
 use Rattle.opt_reach.proofs.Members.{lists_has}
 use Rattle.opt_reach.proofs.Occurs.{Occurs, below_block, site_is, not_the_root, spot_region, spot_owner}
 use Rattle.opt_reach.proofs.Order.{block_name, comes_before}
+use Rattle.opt_reach.proofs.Under.{spot_under}
 
 -- what stands at an index within a list
 pub within : {X : Type 0} (xs : List X) (j : ℕ) → j < length xs → (x : X) × (slice_get xs j ≡ Some x)
@@ -108,7 +110,7 @@ module _ {O B A : Type 0} (d : Dialect (in_program O B) A) (place : Place by_han
               let is = known j f.0 site.block f.1 site.found (number ∙ ap (λ (m : Label by_handle (in_program O B)). Some m.name) (sym site.label)) in
               f.1 ∙ ap Some (entered_fate site.block f.0 is (spot_entered site.block o.site.label o.site.spot site.label site.spot visited entered))
 
-      module _ (reach : Bool) (reached : (reach ≡ true) ↔ IsReached t x.label.name) (f : Fate) (judged : IsJudged d c start n.blocks fates x.label.name reach f) where
+      module _ (reach : Bool) (reached : IsBlockUnder c start x.label.name → (reach ≡ true) ↔ IsReached t x.label.name) (f : Fate) (judged : IsJudged d c start n.blocks fates x.label.name reach f) where
         owner_here : slice_get (regions_in c judged.owner) judged.index ≡ Some judged.region
         owner_here = ap (λ o. slice_get (unwrap_or (option_map (λ (v : OperationView O). v.regions) o) []) judged.index) judged.there ∙ judged.here
 
@@ -138,12 +140,16 @@ module _ {O B A : Type 0} (d : Dialect (in_program O B) A) (place : Place by_han
               λ e. judged.entry.1 (ap (λ q. slice_get (blocks_in c q) 0) (sym r) ∙ p.first.0 e),
             )
 
+        -- what is visited is under the place
+        reach_there : judged.visited ≡ true → (reach ≡ true) ↔ IsReached t x.label.name
+        reach_there e = reached (spot_under d place c lists start is_start op t occurs.sound x.label.name x.spot (occurs.blocks_sound x has).spot (visits.0 e))
+
         by_table : (r s e g : Bool) → judged.visited ≡ r → d.is_ssa x.spot.owner.content x.spot.region ≡ s → reach ≡ e → judged.first ≡ g → IsFate d place t x (fate r s e g)
         by_table false s e g a b h k = (λ v. no (visits.1 v.0), λ l. no (visits.1 l.0.visited)) where
           no : judged.visited ≡ true → ⊥
           no y = let w : true ≡ false = sym y ∙ a in cc
-        by_table true true true g a b h k = (visits.0 a, subst (IsEntered t x.spot x.label.name) (sym b) (reached.0 h))
-        by_table true true false g a b h k = (record { visited = visits.0 a; ssa = b }, λ y. let w : true ≡ false = sym (reached.1 y) ∙ h in cc)
+        by_table true true true g a b h k = (visits.0 a, subst (IsEntered t x.spot x.label.name) (sym b) ((reach_there a).0 h))
+        by_table true true false g a b h k = (record { visited = visits.0 a; ssa = b }, λ y. let w : true ≡ false = sym ((reach_there a).1 y) ∙ h in cc)
         by_table true false e true a b h k = (visits.0 a, subst (IsEntered t x.spot x.label.name) (sym b) (first.0 k))
         by_table true false e false a b h k = (
           λ v. let y : judged.first ≡ true = first.1 (subst (IsEntered t x.spot x.label.name) b v.1) in let w : true ≡ false = sym y ∙ k in cc,

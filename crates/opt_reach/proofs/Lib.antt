@@ -2,9 +2,12 @@ pub mod Lists
 pub mod Members
 pub mod Places
 pub mod Occurs
+pub mod Begins
+pub mod Under
+pub mod FromBelow
+pub mod ReachTest
 pub mod PathGraph
 pub mod Order
-pub mod Begins
 pub mod Judged
 pub mod Marks
 pub mod Runs

@@ -1,17 +1,13 @@
 -- What is gathered one by one from lists, by indices.
-use Rattle.std.proofs.Common.{◌≡◌, ◌⊎◌, inl, inr, ⊎_elim, ℕ, zero, suc, ◌+◌, ◌<◌, ◌≤◌, Bool, true, false, cond, List, [], ◌∷◌, ◌++◌, length, map, Some, slice_get, refl, sym, ap, ◌∙◌, subst, arith}
+use Rattle.std.proofs.Common.{◌≡◌, ◌⊎◌, inl, inr, ⊎_elim, ℕ, zero, suc, ◌+◌, ◌<◌, ◌≤◌, Bool, true, false, List, [], ◌∷◌, ◌++◌, length, map, Some, slice_get, refl, sym, ap, ◌∙◌, subst, arith}
 use Rattle.std.specs.Prelude.{◌↔◌, Contains}
 use Rattle.std.specs.declared.vec.Vec.{Vec}
 use Rattle.std.specs.declared.alloc.Global.{Global}
 use Rattle.std.proofs.lemmas.Option.{none-some, same_Some, slice_get_within}
 use Rattle.digraph.specs.Graph.{successors}
-use Rattle.digraph.specs.Marks.{IsMarked}
 use Rattle.ir_program.specs.Program.{Program}
-use Rattle.ir_program.specs.Replacing.{same_block}
 use Rattle.ir_program.specs.declared.handles.Ptr.{Ptr}
 use Rattle.ir_program.specs.declared.handles.BasicBlock.{BasicBlock}
-use Rattle.ir_program.proofs.made.Frames.{same_or_not}
-use Rattle.ir_trees.proofs.HandleTests.{block_yes, block_no}
 use Rattle.ir_trees.specs.Searched.{Lists, AreDistinct}
 use Rattle.opt_reach.specs.Paths.{items_if, number_in, exits_of, IsEntry, IsPathGraph}
 use Rattle.opt_reach.specs.declared.fates.Fate.{Fate}
@@ -79,28 +75,6 @@ distinct_if row row' x false e new once = subst AreDistinct (sym e) once
 
 pub distinct_none : {X : Type 0} (row : List X) → row ≡ [] → AreDistinct row
 distinct_none row e j k y a b = absurd (none-some y (sym (ap (λ r. slice_get r j) e) ∙ a))
-
--- the block has a marked number
-abbrev pub is_noted : List (Ptr BasicBlock) → List Bool → Ptr BasicBlock → Bool
-is_noted [] marks b = false
-is_noted (k ∷ keys) [] b = false
-is_noted (k ∷ keys) (m ∷ marks) b = cond (same_block b k) m (is_noted keys marks b)
-
-pub noted_marked : (keys : List (Ptr BasicBlock)) (marks : List Bool) (b : Ptr BasicBlock) → is_noted keys marks b ≡ true → (k : ℕ) × (slice_get keys k ≡ Some b) × IsMarked marks k
-noted_marked [] marks b h = let f : false ≡ true = h in cc
-noted_marked (k ∷ keys) [] b h = let f : false ≡ true = h in cc
-noted_marked (k ∷ keys) (m ∷ marks) b h = ⊎_elim
-    (λ (e : b ≡ k). (zero, ap Some (sym e), ap Some (sym (ap (λ s. cond s m (is_noted keys marks b)) (block_yes b k e)) ∙ h)))
-    (λ ne. let r = noted_marked keys marks b (sym (ap (λ s. cond s m (is_noted keys marks b)) (block_no b k ne)) ∙ h) in (suc r.0, r.1, r.2))
-    (same_or_not b k)
-
-pub marked_noted : (keys : List (Ptr BasicBlock)) (marks : List Bool) (b : Ptr BasicBlock) → AreDistinct keys → (k : ℕ) → slice_get keys k ≡ Some b → IsMarked marks k → is_noted keys marks b ≡ true
-marked_noted [] marks b once k h m = absurd (none-some b h)
-marked_noted (x ∷ keys) [] b once k h m = absurd (none-some true m)
-marked_noted (x ∷ keys) (y ∷ marks) b once zero h m = ap (λ s. cond s y (is_noted keys marks b)) (block_yes b x (sym (same_Some x b h))) ∙ same_Some y true m
-marked_noted (x ∷ keys) (y ∷ marks) b once (suc k) h m =
-    ap (λ s. cond s y (is_noted keys marks b)) (block_no b x (λ e. let f : zero ≡ suc k = once zero (suc k) b (ap Some (sym e)) h in omega (arith, f)))
-    ∙ marked_noted keys marks b (λ i j z p q. let f : suc i ≡ suc j = once (suc i) (suc j) z p q in omega (arith, f)) k h m
 
 -- the rows of the graph of paths, one by one
 module _ {O B : Type 0} (c : Program O B) (keys : List (Ptr BasicBlock)) where

@@ -11,7 +11,6 @@ use Rattle.ir_program.specs.Replacing.{same_block}
 use Rattle.ir_program.specs.Rows.{successors_at}
 use Rattle.ir_program.specs.declared.handles.Ptr.{Ptr}
 use Rattle.ir_program.specs.declared.handles.Operation.{Operation}
-use Rattle.ir_program.specs.declared.handles.Region.{Region}
 use Rattle.ir_program.specs.declared.handles.BasicBlock.{BasicBlock}
 use Rattle.ir_program.proofs.used.Renaming.{block-test}
 use Rattle.ir_trees.specs.Trees.{Head, Label}
@@ -19,16 +18,18 @@ use Rattle.ir_trees.specs.Searched.{Lists}
 use Rattle.ir_trees.specs.Stands.{by_handle, in_program, ProgramTree}
 use Rattle.opt_trees.specs.Occurrences.{Has}
 use Rattle.opt_trees.specs.Simplify.{IsReached, entry, further}
-use Rattle.opt_inside.specs.Edges.{HasLocalEdgesBelow}
 use Rattle.opt_inside.specs.Numbered.{Numbers, NumbersInside}
 use Rattle.opt_inside.specs.Occurring.{IsBlockBelow}
 use Rattle.opt_inside.proofs.Around.{HasLists}
+use Rattle.opt_reach.specs.Edges.{IsUnder, IsBlockUnder, HasLocalEdgesFrom}
 use Rattle.opt_reach.specs.Paths.{number_in, exits_by, exits_of, IsEntry, IsPathGraph}
+use Rattle.opt_reach.specs.declared.starts.Start.{Start}
 use Rattle.opt_reach.proofs.Members.{has_lists, lists_has, made_of, made_in}
-use Rattle.opt_reach.proofs.Places.{placed, own_place}
-use Rattle.opt_reach.proofs.Occurs.{Occurs, below_block, beside_below, site_is, spot_region}
+use Rattle.opt_reach.proofs.Places.{placed, unplaced, listed_or_not, own_place}
+use Rattle.opt_reach.proofs.Occurs.{Occurs, below_block, site_is, spot_region}
+use Rattle.opt_reach.proofs.Under.{block_under}
 
-module _ {O B : Type 0} (c : Program O B) (lists : HasLists c) (op : Ptr Operation) (is_terminator : O → Bool) (edges : HasLocalEdgesBelow is_terminator c op) (n : Numbers) (numbered : NumbersInside c op n) where
+module _ {O B : Type 0} (c : Program O B) (lists : HasLists c) (op : Ptr Operation) (n : Numbers) (numbered : NumbersInside c op n) where
   -- the operation that leads on from a block is its last one
   leads_on : (b s : Ptr BasicBlock) → Has s (exits_of c b) → (p : Ptr Operation) × StandsInBlock c p b × Lists (successors_at c p) s
   leads_on b s h = by_last (slice_get (operations_in c b) (length (operations_in c b) - 1)) refl h where
@@ -36,28 +37,10 @@ module _ {O B : Type 0} (c : Program O B) (lists : HasLists c) (op : Ptr Operati
     by_last None e m = absurd m
     by_last (Some p) e m = (p, lists.operations b (length (operations_in c b) - 1) p e, has_lists (successors_at c p) s m)
 
-  pub leads_to : (b s : Ptr BasicBlock) (p : Ptr Operation) → IsBlockBelow c op b → StandsInBlock c p b → Lists (successors_at c p) s → Has s (exits_of c b)
-  leads_to b s p below stands l =
-      let k = edges.last p s b stands.index (below_block c lists op p b stands below) l stands.here in
-      let last : stands.index ≡ length (operations_in c b) - 1 = omega (arith, k) in
-      subst (λ o. Has s (exits_by c o)) (sym stands.here ∙ ap (slice_get (operations_in c b)) last) (lists_has (successors_at c p) s l.0 l.1)
-
-  -- what is next in its region is below the root, too
-  pub next_below : (b s : Ptr BasicBlock) (p : Ptr Operation) → IsBlockBelow c op b → StandsInBlock c p b → Lists (successors_at c p) s → (r : Ptr Region) → StandsInRegion c b r → IsBlockBelow c op s
-  next_below b s p below stands l r in_r = beside_below c lists op b s r in_r (edges.leaving p s b r (below_block c lists op p b stands below) l stands in_r) below
-
-  -- what is reached is below the root
-  pub reached_below : (t : ProgramTree O B) → Occurs c op t → (b : Ptr BasicBlock) → IsReached t b → IsBlockBelow c op b
-  reached_below t occurs _ (entry x has first) = (occurs.blocks_sound x has).below
-  reached_below t occurs _ (further o b has reach edge) =
-      let is = occurs.sound o has in
-      let below = reached_below t occurs o.site.label.name reach in
-      let row : successors_at c o.head.name ≡ o.head.successors = ap (λ v. unwrap_or (option_map (λ (w : OperationView O). w.successors) v) []) is.there ∙ sym (ap (λ (g : Head by_handle (in_program O B)). g.successors) is.head) in
-      next_below o.site.label.name b o.head.name below is.in_block (has_lists (successors_at c o.head.name) b (subst (Has b) (sym row) edge)) is.spot.region is.spot.in_region
-
   module _ (t : ProgramTree O B) (occurs : Occurs c op t) (rows : List (Vec ℕ Global)) (graph : IsPathGraph c n.blocks rows) where
-    abbrev start : ℕ
-    start = length n.blocks
+    -- the node that leads to the entries
+    abbrev origin : ℕ
+    origin = length n.blocks
 
     numbered_below : (k : ℕ) (b : Ptr BasicBlock) → slice_get n.blocks k ≡ Some b → IsBlockBelow c op b
     numbered_below k b h = (numbered.blocks b).0 (k, h)
@@ -80,45 +63,55 @@ module _ {O B : Type 0} (c : Program O B) (lists : HasLists c) (op : Ptr Operati
         let row : successors_at c l.0 ≡ o.0.head.successors = ap (λ v. unwrap_or (option_map (λ (w : OperationView O). w.successors) v) []) view ∙ sym (ap (λ (g : Head by_handle (in_program O B)). g.successors) is.head) in
         further o.0 s o.1 (subst (IsReached t) (sym at) reach) (lists_has o.0.head.successors s l.2.0 (ap (λ ss. slice_get ss l.2.0) (sym row) ∙ l.2.1))
 
+    -- paths lead to blocks that are reached alone; what has no number leads back to where all begins
     abbrev Found : ℕ → Type 0
-    Found m = (m ≡ start) ⊎ ((b : Ptr BasicBlock) × (slice_get n.blocks m ≡ Some b) × IsReached t b)
+    Found m = (m ≡ origin) ⊎ ((b : Ptr BasicBlock) × (slice_get n.blocks m ≡ Some b) × IsReached t b)
 
-    pub path_reaches : (m : ℕ) → Reaches (successors rows) start m → Found m
+    path_reaches : (m : ℕ) → Reaches (successors rows) origin m → Found m
     path_reaches _ Here = inl refl
     path_reaches m (Along {b = j} path e) = ⊎_elim
-        (λ (s : j ≡ start).
+        (λ (s : j ≡ origin).
         let g = (graph.entries m).0 (subst (λ i. Contains (successors rows i) m) s e) in
         inr (g.0, g.1, entry_reached g.0 (numbered_below m g.0 g.1) g.2))
         (λ (f : (b : Ptr BasicBlock) × (slice_get n.blocks j ≡ Some b) × IsReached t b).
         let below = numbered_below j f.0 f.1 in
         let g = made_of (number_in n.blocks) (exits_of c f.0) (successors rows j) m (graph.blocks j f.0 f.1) e in
-        let l = leads_on f.0 g.0 g.1 in
-        let x = occurs.blocks_found f.0 below in
-        let in_r = subst (λ y. StandsInRegion c y (occurs.blocks_sound x.0 x.1).spot.region) x.2 (occurs.blocks_sound x.0 x.1).spot.in_region in
-        let s_below = next_below f.0 g.0 l.0 below l.1 l.2 (occurs.blocks_sound x.0 x.1).spot.region in_r in
-        inr (g.0, ap (slice_get n.blocks) (sym g.2) ∙ placed same_block block-test n.blocks g.0 ((numbered.blocks g.0).1 s_below), step_reached f.0 g.0 below f.2 g.1))
+        ⊎_elim
+        (λ (l : Lists n.blocks g.0). inr (g.0, ap (slice_get n.blocks) (sym g.2) ∙ placed same_block block-test n.blocks g.0 l, step_reached f.0 g.0 below f.2 g.1))
+        (λ (out : Lists n.blocks g.0 → ⊥). inl (sym g.2 ∙ unplaced same_block block-test n.blocks g.0 out))
+        (listed_or_not same_block block-test n.blocks g.0))
         (path_reaches j path)
 
-    pub reached_path : (b : Ptr BasicBlock) → IsReached t b → (k : ℕ) → slice_get n.blocks k ≡ Some b → Reaches (successors rows) start k
-    reached_path b (entry x has first) k h =
-        let p = occurs.blocks_sound x has in
-        Along Here ((graph.entries k).1 (x.label.name, h, (p.spot.region, p.spot.first.0 first)))
-    reached_path b (further o _ has reach edge) k h =
-        let is = occurs.sound o has in
-        let site = occurs.site o has in
-        let below : IsBlockBelow c op o.site.label.name = subst (IsBlockBelow c op) (ap (λ (l : Label by_handle (in_program O B)). l.name) site.label) (occurs.blocks_sound site.block site.found).below in
-        let j = (numbered.blocks o.site.label.name).1 below in
-        let row : successors_at c o.head.name ≡ o.head.successors = ap (λ v. unwrap_or (option_map (λ (w : OperationView O). w.successors) v) []) is.there ∙ sym (ap (λ (g : Head by_handle (in_program O B)). g.successors) is.head) in
-        let out = leads_to o.site.label.name b o.head.name below is.in_block (has_lists (successors_at c o.head.name) b (subst (Has b) (sym row) edge)) in
-        let at : number_in n.blocks b ≡ k = own_place same_block block-test n.blocks numbered.blocks_once k b h in
-        Along (reached_path o.site.label.name reach j.0 j.1)
-        (subst (Contains (successors rows j.0)) at (made_in (number_in n.blocks) (exits_of c o.site.label.name) (successors rows j.0) b (graph.blocks j.0 o.site.label.name j.1) out))
+    pub path_sound : (k : ℕ) (b : Ptr BasicBlock) → slice_get n.blocks k ≡ Some b → Reaches (successors rows) origin k → IsReached t b
+    path_sound k b h path = ⊎_elim
+        (λ (e : k ≡ origin). let l = slice_get_within n.blocks k b h in absurd (omega (arith, e, l)))
+        (λ (f : (a : Ptr BasicBlock) × (slice_get n.blocks k ≡ Some a) × IsReached t a). subst (IsReached t) (same_Some f.0 b (sym f.1 ∙ h)) f.2)
+        (path_reaches k path)
 
-    pub reached_exactly : (k : ℕ) (b : Ptr BasicBlock) → slice_get n.blocks k ≡ Some b → Reaches (successors rows) start k ↔ IsReached t b
-    reached_exactly k b h = (
-      λ path. ⊎_elim
-          (λ (e : k ≡ start). let l = slice_get_within n.blocks k b h in absurd (omega (arith, e, l)))
-          (λ (f : (a : Ptr BasicBlock) × (slice_get n.blocks k ≡ Some a) × IsReached t a). subst (IsReached t) (same_Some f.0 b (sym f.1 ∙ h)) f.2)
-          (path_reaches k path),
-      λ reach. reached_path b reach k h,
-    )
+    -- they lead to all of these that are under a place where edges are local
+    module _ (start : Start) (is_terminator : O → Bool) (edges : HasLocalEdgesFrom is_terminator c start) where
+      leads_to : (b s : Ptr BasicBlock) (p : Ptr Operation) → IsUnder c start p → StandsInBlock c p b → Lists (successors_at c p) s → Has s (exits_of c b)
+      leads_to b s p under stands l =
+          let k = edges.last p s b stands.index under l stands.here in
+          let last : stands.index ≡ length (operations_in c b) - 1 = omega (arith, k) in
+          subst (λ o. Has s (exits_by c o)) (sym stands.here ∙ ap (slice_get (operations_in c b)) last) (lists_has (successors_at c p) s l.0 l.1)
+
+      reached_path : (b : Ptr BasicBlock) → IsReached t b → IsBlockUnder c start b → (k : ℕ) → slice_get n.blocks k ≡ Some b → Reaches (successors rows) origin k
+      reached_path b (entry x has first) under k h =
+          let p = occurs.blocks_sound x has in
+          Along Here ((graph.entries k).1 (x.label.name, h, (p.spot.region, p.spot.first.0 first)))
+      reached_path b (further o _ has reach edge) under k h =
+          let is = occurs.sound o has in
+          let site = occurs.site o has in
+          let below : IsBlockBelow c op o.site.label.name = subst (IsBlockBelow c op) (ap (λ (l : Label by_handle (in_program O B)). l.name) site.label) (occurs.blocks_sound site.block site.found).below in
+          let j = (numbered.blocks o.site.label.name).1 below in
+          let row : successors_at c o.head.name ≡ o.head.successors = ap (λ v. unwrap_or (option_map (λ (w : OperationView O). w.successors) v) []) is.there ∙ sym (ap (λ (g : Head by_handle (in_program O B)). g.successors) is.head) in
+          let named : Lists (successors_at c o.head.name) b = has_lists (successors_at c o.head.name) b (subst (Has b) (sym row) edge) in
+          let o_under = edges.entering o.head.name b named under in
+          let out = leads_to o.site.label.name b o.head.name o_under is.in_block named in
+          let at : number_in n.blocks b ≡ k = own_place same_block block-test n.blocks numbered.blocks_once k b h in
+          Along (reached_path o.site.label.name reach (block_under c start lists o.head.name o.site.label.name is.in_block o_under) j.0 j.1)
+          (subst (Contains (successors rows j.0)) at (made_in (number_in n.blocks) (exits_of c o.site.label.name) (successors rows j.0) b (graph.blocks j.0 o.site.label.name j.1) out))
+
+      pub reached_exactly : (k : ℕ) (b : Ptr BasicBlock) → slice_get n.blocks k ≡ Some b → IsBlockUnder c start b → Reaches (successors rows) origin k ↔ IsReached t b
+      reached_exactly k b h under = (λ path. path_sound k b h path, λ reach. reached_path b reach under k h)

@@ -1,3 +1,4 @@
 pub mod Starts
+pub mod Edges
 pub mod Paths
 pub mod Fates

@@ -7,10 +7,10 @@ ghost use Rattle.ir_program.specs.declared.handles.BasicBlock.{BasicBlock};
 ghost use Rattle.ir_program.specs.declared.handles.Ptr.{Ptr};
 ghost use Rattle.ir_trees.specs.Searched.{AreDistinct, Lists};
 ghost use Rattle.ir_trees.specs.Stands.{ProgramTree, StandsFor, by_handle};
-ghost use Rattle.opt_inside.specs.Edges.{HasLocalEdgesBelow};
 ghost use Rattle.opt_inside.specs.Numbered.{NumbersInside, numbers_of};
 ghost use Rattle.opt_trees.specs.Simplify.{IsReached, Place};
 ghost use Rattle.opt_reach.specs.declared.fates.Fate.TheVariants.{Entered, Unreached};
+ghost use Rattle.opt_reach.specs.Edges.{HasLocalEdgesFrom, IsBlockUnder};
 ghost use Rattle.opt_reach.specs.Fates.{AreFates, HasReachTest, HasVisit, IsJudged, fate};
 ghost use Rattle.opt_reach.specs.Starts.{IsStartIn};
 
@@ -127,7 +127,7 @@ fn judge_all<D: Meanings>(
     requires live { IsSome (operation_at program.now op) }
     requires numbered { NumbersInside program.now op (numbers_of inside.now) }
     requires reached { (t : ProgramTree D.Operation D.Block) → StandsFor program.now op t
-        → (k : ℕ) (b : Ptr BasicBlock) → slice_get inside.now.blocks.keys k ≡ Some b
+        → (k : ℕ) (b : Ptr BasicBlock) → slice_get inside.now.blocks.keys k ≡ Some b → IsBlockUnder program.now start b
         → IsMarked is_reached.now k ↔ IsReached t b }
     ensures len { IfOk result (λ fates. length fates.items ≡ length inside.now.blocks.keys) }
     ensures fates { IfOk result (λ fates. (p : Place by_handle) → IsStartIn program.now start p
@@ -157,7 +157,7 @@ pub fn find_fates<D: Meanings>(
     inside: &Inside,
 ) -> Result<Vec<Fate>, AllocError>
     requires live { IsSome (operation_at program.now op) }
-    requires edges { HasLocalEdgesBelow D.meaning.is_terminator program.now op }
+    requires edges { HasLocalEdgesFrom D.meaning.is_terminator program.now start }
     requires numbered { NumbersInside program.now op (numbers_of inside.now) }
     ensures len { IfOk result (λ fates. length fates.items ≡ length inside.now.blocks.keys) }
     ensures fates { IfOk result (λ fates. (p : Place by_handle) → IsStartIn program.now start p
@@ -165,8 +165,6 @@ pub fn find_fates<D: Meanings>(
         → AreFates D.meaning p t inside.now.blocks.keys fates.items) }
     ensures reached { IfOk result (λ fates. (t : ProgramTree D.Operation D.Block) → StandsFor program.now op t → HasReachTest t) }
 {
-    program.know_lists();
-    know_occurrences(program, op);
     let marks = reached_blocks::<D>(alloc, program, op, inside)?;
     judge_all::<D>(alloc, program, op, start, inside, &marks)
 }

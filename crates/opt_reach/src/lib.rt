@@ -2,8 +2,10 @@
 #![tactic(auto)]
 
 mod fates;
+mod laws;
 mod paths;
 mod starts;
 
 pub use fates::{Fate, find_fates, unreached_among};
+pub use laws::know_edges_under;
 pub use starts::{Start, has_start};

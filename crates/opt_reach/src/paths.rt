@@ -8,9 +8,10 @@ ghost use Rattle.ir_program.specs.declared.handles.BasicBlock.{BasicBlock};
 ghost use Rattle.ir_program.specs.declared.handles.Ptr.{Ptr};
 ghost use Rattle.ir_trees.specs.Searched.{Lists};
 ghost use Rattle.ir_trees.specs.Stands.{ProgramTree, StandsFor};
-ghost use Rattle.opt_inside.specs.Edges.{HasLocalEdgesBelow};
 ghost use Rattle.opt_inside.specs.Numbered.{NumbersInside, numbers_of};
 ghost use Rattle.opt_trees.specs.Simplify.{IsReached};
+ghost use Rattle.opt_reach.specs.Edges.{HasLocalEdgesFrom, IsBlockUnder};
+ghost use Rattle.opt_reach.specs.declared.starts.Start.{Start};
 ghost use Rattle.opt_reach.specs.Paths.{IsEntry, IsPathGraph, exits_of, items_if, number_in};
 
 use digraph::reached;
@@ -137,8 +138,8 @@ fn path_rows<O, B>(
     Ok(rows)
 }
 
-/// Marks the numbers of the blocks inside an operation that paths lead to from the entries of their regions. The time is
-/// linear in what is inside.
+/// Marks the numbers of the blocks inside an operation that paths lead to from the entries of their regions: of the blocks
+/// under a place where edges stay in their region exactly the reached ones. The time is linear in what is inside.
 ///
 /// # Errors
 /// There may be no memory.
@@ -149,9 +150,11 @@ pub(crate) fn reached_blocks<D: Meanings>(
     inside: &Inside,
 ) -> Result<Vec<bool>, AllocError>
     requires live { IsSome (operation_at program.now op) }
-    requires edges { HasLocalEdgesBelow D.meaning.is_terminator program.now op }
     requires numbered { NumbersInside program.now op (numbers_of inside.now) }
-    ensures { IfOk result (λ marks. (t : ProgramTree D.Operation D.Block) → StandsFor program.now op t → (k : ℕ) (b : Ptr BasicBlock) → slice_get inside.now.blocks.keys k ≡ Some b → IsMarked marks.items k ↔ IsReached t b) }
+    ensures { IfOk result (λ marks. (start : Start) → HasLocalEdgesFrom D.meaning.is_terminator program.now start
+        → (t : ProgramTree D.Operation D.Block) → StandsFor program.now op t
+        → (k : ℕ) (b : Ptr BasicBlock) → slice_get inside.now.blocks.keys k ≡ Some b → IsBlockUnder program.now start b
+        → IsMarked marks.items k ↔ IsReached t b) }
 {
     program.know_lists();
     know_occurrences(program, op);

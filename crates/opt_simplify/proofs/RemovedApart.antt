@@ -15,10 +15,10 @@ use Rattle.ir_trees.specs.Stands.{by_handle, in_program, ProgramTree}
 use Rattle.opt_trees.specs.Dialect.{Dialect}
 use Rattle.opt_trees.specs.Occurrences.{Has, Spot, occurrences_of, block_occurrences_of}
 use Rattle.opt_trees.specs.Simplify.{Place, BeginsAt, IsReached, further, IsVisited, of_place, of_inner, IsVisitedSsa, IsUnreached}
-use Rattle.opt_inside.specs.Edges.{HasLocalEdgesBelow}
 use Rattle.opt_inside.specs.Numbered.{Numbers, NumbersInside}
 use Rattle.opt_inside.specs.Occurring.{Found, FoundBlock, AreBeside, IsBlockBelow}
 use Rattle.opt_inside.proofs.Around.{HasLists, inside_both, around_block}
+use Rattle.opt_reach.specs.Edges.{IsBlockUnder, HasLocalEdgesFrom}
 use Rattle.opt_reach.specs.Fates.{IsEnteredThere}
 use Rattle.opt_reach.specs.Starts.{IsStartIn}
 use Rattle.opt_reach.specs.declared.starts.Start.{Start}
@@ -27,6 +27,7 @@ use Rattle.opt_simplify.specs.Removed.{IsWithin, ArePickedApart, NamesWithin, Ta
 use Rattle.opt_reach.proofs.Members.{lists_has}
 use Rattle.opt_reach.proofs.Occurs.{Occurs, not_the_root}
 use Rattle.opt_reach.proofs.Judged.{spot_entered, not_both}
+use Rattle.opt_reach.proofs.Under.{under_into, entering_below, spot_under}
 
 module _ {O B A : Type 0} (d : Dialect (in_program O B) A) (place : Place by_handle) (c : Program O B) (lists : HasLists c) (op : Ptr Operation) (n : Numbers) (numbered : NumbersInside c op n) (t : ProgramTree O B) (occurs : Occurs c op t) where
   -- each block around a visited region is entered, or is around an operation where looking begins
@@ -74,7 +75,12 @@ module _ {O B A : Type 0} (d : Dialect (in_program O B) A) (place : Place by_han
         (around_entered ub.it.spot.owner.name ub.it.spot.region ub.visited.visited ub.it ub.stands refl refl a m))
         (same_or_not a b)
 
-    module _ (is_terminator : O → Bool) (edges : HasLocalEdgesBelow is_terminator c op) where
+    module _ (start : Start) (is_start : IsStartIn c start place) (is_terminator : O → Bool) (edges : HasLocalEdgesFrom is_terminator c start) where
+      picked_under : (b : Ptr BasicBlock) → picks b ≡ true → IsBlockUnder c start b
+      picked_under b h =
+          let u = (unreached b).0 h in
+          subst (IsBlockUnder c start) u.name (spot_under d place c lists start is_start op t occurs.sound u.it.label.name u.it.spot (occurs.blocks_sound u.it u.stands).spot u.visited.visited)
+
       -- an edge to it from a block that stays would reach it
       edge_from : (o : Found O B) → Has o (occurrences_of t) → (b : Ptr BasicBlock) → picks b ≡ true → Lists (successors_at c o.head.name) b → picks o.site.label.name ≡ false → ⊥
       edge_from o has b pb l stays =
@@ -82,7 +88,7 @@ module _ {O B A : Type 0} (d : Dialect (in_program O B) A) (place : Place by_han
           let site = occurs.site o has in
           let u = (unreached b).0 pb in
           let row : successors_at c o.head.name ≡ o.head.successors = ap (λ v. unwrap_or (option_map (λ (w : OperationView O). w.successors) v) []) is.there ∙ sym (ap (λ (g : Head by_handle (in_program O B)). g.successors) is.head) in
-          let in_r : StandsInRegion c b is.spot.region = edges.leaving o.head.name b o.site.label.name is.spot.region is.below l is.in_block is.spot.in_region in
+          let in_r : StandsInRegion c b is.spot.region = edges.leaving o.head.name b o.site.label.name is.spot.region (edges.entering o.head.name b l (picked_under b pb)) l is.in_block is.spot.in_region in
           let name : site.block.label.name ≡ o.site.label.name = ap (λ (m : Label by_handle (in_program O B)). m.name) site.label in
           let beside : AreBeside u.it.spot site.block.spot = occurs.beside u.it site.block u.stands site.found is.spot.region
           (subst (λ x. StandsInRegion c x is.spot.region) (sym u.name) in_r) (subst (λ x. StandsInRegion c x is.spot.region) (sym name) is.spot.in_region) in
@@ -102,10 +108,11 @@ module _ {O B A : Type 0} (d : Dialect (in_program O B) A) (place : Place by_han
       pub edges_within : (p : Ptr Operation) (k : ℕ) (s : Ptr BasicBlock) → slice_get (successors_at c p) k ≡ Some s → IsWithin c picks (BlockNode s) → IsWithin c picks (OperationNode p)
       edges_within p k s h w =
           let s_below : IsBlockBelow c op s = inside_both c (OperationNode op) (BlockNode w.0) (BlockNode s) (picked_below w.0 w.1) w.2 in
-          let o = occurs.found p (edges.entering p s (k, h) s_below) in
+          let s_under = under_into c start (BlockNode w.0) (BlockNode s) (picked_under w.0 w.1) w.2 in
+          let o = occurs.found p (entering_below c start lists is_terminator edges op p s (k, h) s_under s_below) in
           let is = occurs.sound o.0 o.1 in
           let row : slice_get (successors_at c o.0.head.name) k ≡ Some s = ap (λ q. slice_get (successors_at c q) k) o.2 ∙ h in
-          let in_r : StandsInRegion c s is.spot.region = edges.leaving o.0.head.name s o.0.site.label.name is.spot.region is.below (k, row) is.in_block is.spot.in_region in
+          let in_r : StandsInRegion c s is.spot.region = edges.leaving o.0.head.name s o.0.site.label.name is.spot.region (edges.entering o.0.head.name s (k, row) s_under) (k, row) is.in_block is.spot.in_region in
           subst (λ q. IsWithin c picks (OperationNode q)) o.2 (⊎_elim
           (λ (e : BlockNode w.0 ≡ BlockNode s).
           let same : w.0 ≡ s = cc in

@@ -161,7 +161,7 @@ module _ {O B : Type 0} where
     pub operations_were : (b : Ptr BasicBlock) → (IsWithin old picks (BlockNode b) → ⊥) → operations_in mid b ≡ operations_in old b
     operations_were b out = ap (λ o. unwrap_or (option_map (λ (v : BlockView B). v.operations) o) []) (done.blocks b out)
 
-    regions_were : (p : Ptr Operation) → (IsWithin old picks (OperationNode p) → ⊥) → regions_in mid p ≡ regions_in old p
+    pub regions_were : (p : Ptr Operation) → (IsWithin old picks (OperationNode p) → ⊥) → regions_in mid p ≡ regions_in old p
     regions_were p out = ap (λ o. unwrap_or (option_map (λ (v : OperationView O). v.regions) o) []) (done.operations p out)
 
     -- so what is inside something was inside it

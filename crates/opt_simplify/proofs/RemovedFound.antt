@@ -19,7 +19,6 @@ use Rattle.ir_trees.proofs.Members.{has_at, at_has}
 use Rattle.opt_trees.specs.Dialect.{Dialect}
 use Rattle.opt_trees.specs.Occurrences.{Has}
 use Rattle.opt_trees.specs.Simplify.{Place, IsUnreached}
-use Rattle.opt_inside.specs.Edges.{HasLocalEdgesBelow}
 use Rattle.opt_inside.specs.Numbered.{Numbers, NumbersInside, values_in}
 use Rattle.opt_inside.specs.Occurring.{IsBlockBelow}
 use Rattle.opt_inside.proofs.Added.{HasValues, value_at, at_value}
@@ -27,6 +26,7 @@ use Rattle.opt_inside.proofs.Among.{results_are, arguments_are}
 use Rattle.opt_inside.proofs.Around.{HasLists, inside_both, is_root}
 use Rattle.opt_simplify.specs.Refusals.{AreUnreached}
 use Rattle.opt_simplify.specs.Removed.{is_listed, IsWithin}
+use Rattle.opt_reach.specs.Edges.{HasLocalEdgesFrom}
 use Rattle.opt_reach.specs.Fates.{HasReachTest}
 use Rattle.opt_reach.specs.Starts.{IsStartIn}
 use Rattle.opt_reach.specs.declared.starts.Start.{Start}
@@ -34,8 +34,8 @@ use Rattle.opt_simplify.proofs.RemovedAmong.{among_has, has_among}
 use Rattle.opt_simplify.proofs.RemovedApart.{picked_below, picked_there, picked_apart, edges_within}
 use Rattle.opt_reach.proofs.Occurs.{Occurs}
 
-module _ {O B A : Type 0} (d : Dialect (in_program O B) A) (c : Program O B) (lists : HasLists c) (op : Ptr Operation) (edges : HasLocalEdgesBelow d.is_terminator c op) (n : Numbers) (numbered : NumbersInside c op n)
-    (start : Start) (place : Place by_handle) (is_start : IsStartIn c start place) (t : ProgramTree O B) (stands : StandsFor c op t) (occurs : (u : ProgramTree O B) → StandsFor c op u → Occurs c op u) (row : List (Ptr BasicBlock))
+module _ {O B A : Type 0} (d : Dialect (in_program O B) A) (c : Program O B) (lists : HasLists c) (op : Ptr Operation) (n : Numbers) (numbered : NumbersInside c op n)
+    (start : Start) (edges : HasLocalEdgesFrom d.is_terminator c start) (place : Place by_handle) (is_start : IsStartIn c start place) (t : ProgramTree O B) (stands : StandsFor c op t) (occurs : (u : ProgramTree O B) → StandsFor c op u → Occurs c op u) (row : List (Ptr BasicBlock))
     (unreached : (p : Place by_handle) → IsStartIn c start p → (u : ProgramTree O B) → StandsFor c op u → (b : Ptr BasicBlock) → Lists row b ↔ IsUnreached d p u b) where
   listed : (p : Place by_handle) → IsStartIn c start p → (u : ProgramTree O B) → StandsFor c op u → (b : Ptr BasicBlock) → (is_listed row b ≡ true) ↔ IsUnreached d p u b
   listed p is u s b = (
@@ -51,7 +51,7 @@ module _ {O B A : Type 0} (d : Dialect (in_program O B) A) (c : Program O B) (li
     there = picked_there d place c lists op n numbered t (occurs t stands) (is_listed row) (listed place is_start t stands);
     below = picked_below d place c lists op n numbered t (occurs t stands) (is_listed row) (listed place is_start t stands);
     apart = picked_apart d place c lists op n numbered t (occurs t stands) (is_listed row) (listed place is_start t stands) start is_start;
-    edges = edges_within d place c lists op n numbered t (occurs t stands) (is_listed row) (listed place is_start t stands) d.is_terminator edges;
+    edges = edges_within d place c lists op n numbered t (occurs t stands) (is_listed row) (listed place is_start t stands) start is_start d.is_terminator edges;
   }
 
 something : {X : Type 0} (o : Option X) → IsSome o → (x : X) × (o ≡ Some x)

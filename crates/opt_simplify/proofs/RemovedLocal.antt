@@ -1,9 +1,10 @@
--- Edges below an operation where blocks are gone that are named in what went alone.
+-- Edges below an operation, and under a place, where blocks are gone that are named in what went alone.
 use Rattle.std.proofs.Common.{◌≡◌, ℕ, Bool, false, is_some, length, Option, None, Some, IsSome, [], option_map, unwrap_or, slice_get, refl, sym, ap, ◌∙◌}
 use Rattle.std.proofs.lemmas.Option.{none-some}
-use Rattle.ir_program.specs.Lists.{StandsInBlock, StandsInRegion, itself, IsLiveNode, operations_in, blocks_in}
+use Rattle.ir_program.specs.Lists.{StandsInBlock, StandsInRegion, itself, in_block, in_operation, IsLiveNode, operations_in, blocks_in}
 use Rattle.ir_program.specs.Program.{Program, OperationView, BlockView, operation_at, block_at}
 use Rattle.ir_program.specs.Rows.{successors_at}
+use Rattle.ir_program.specs.declared.handles.IRNode.{IRNode}
 use Rattle.ir_program.specs.declared.handles.IRNode.TheVariants.{Operation as OperationNode, Region as RegionNode, BasicBlock as BlockNode}
 use Rattle.ir_program.specs.declared.handles.Ptr.{Ptr}
 use Rattle.ir_program.specs.declared.handles.Operation.{Operation}
@@ -15,9 +16,13 @@ use Rattle.ir_trees.proofs.Members.{at_has, has_at}
 use Rattle.opt_trees.specs.Dialect.{Dialect}
 use Rattle.opt_inside.specs.Edges.{HasLocalEdgesBelow, FitsEdgesBelow}
 use Rattle.opt_inside.specs.Occurring.{IsBelowRoot}
-use Rattle.opt_inside.proofs.Around.{HasLists}
+use Rattle.opt_inside.proofs.Around.{HasLists, inside_both}
+use Rattle.opt_reach.specs.Edges.{IsNodeUnder, HasLocalEdgesFrom, FitsEdgesFrom}
+use Rattle.opt_reach.specs.Starts.{BeginsAtRegion}
+use Rattle.opt_reach.specs.declared.starts.Start.{Start}
+use Rattle.opt_reach.specs.declared.starts.Start.TheVariants.{Operation as AtOperation, Block as AtBlock, Region as AtRegion}
 use Rattle.opt_simplify.specs.Removed.{without, IsWithin, ErasesPicked}
-use Rattle.opt_simplify.proofs.RemovedErased.{was_there, is_left, live_outside, still_live, blocks_were, operations_were, was_inside, is_inside, successors_were}
+use Rattle.opt_simplify.proofs.RemovedErased.{was_there, is_left, live_outside, still_live, blocks_were, operations_were, regions_were, was_inside, is_inside, successors_were}
 use Rattle.opt_simplify.proofs.RemovedPicking.{not_true}
 
 module _ {O B : Type 0} (old new : Program O B) (lists : HasLists old) (op : Ptr Operation) (picks : Ptr BasicBlock → Bool) (done : ErasesPicked old new picks)
@@ -85,3 +90,73 @@ module _ {O B : Type 0} (old new : Program O B) (lists : HasLists old) (op : Ptr
       let edge : slice_get (successors_at old p) i ≡ Some b = ap (λ o. slice_get (unwrap_or (option_map (λ (w : OperationView O). w.successors) o) []) i) was ∙ at in
       fits p v i b (was_below p below) was branch at
       ∙ ap (λ o. length (unwrap_or (option_map (λ (w : BlockView B). w.arguments) o) [])) (sym (done.blocks b (λ w. out (named p i b edge w))))
+
+  -- looking begins where it began, and what is under the place was so
+  begins_was : (start : Start) (q : Ptr Operation) (r : Ptr Region) → BeginsAtRegion new start q r → BeginsAtRegion old start q r
+  begins_was (AtOperation o) q r h = h
+  begins_was (AtBlock b) q r h = block_was q b h
+  begins_was (AtRegion f) q r h = h
+
+  begins_is : (start : Start) (q : Ptr Operation) (r : Ptr Region) → (IsWithin old picks (OperationNode q) → ⊥) → BeginsAtRegion old start q r → BeginsAtRegion new start q r
+  begins_is (AtOperation o) q r out h = h
+  begins_is (AtBlock b) q r out h =
+      let above : IsWithin old picks (BlockNode b) → ⊥ = λ w. out (w.0, w.1, in_block q b h w.2) in
+      record {
+        operation = still_live old new lists picks done (OperationNode q) out h.operation;
+        block = still_live old new lists picks done (BlockNode b) above h.block;
+        index = h.index;
+        here = ap (λ ps. slice_get ps h.index) (operations_were old new lists picks done b above) ∙ h.here;
+      }
+  begins_is (AtRegion f) q r out h = h
+
+  module _ (start : Start) where
+    was_under : (e : IRNode) → IsNodeUnder new start e → IsNodeUnder old start e
+    was_under e u =
+        let s = u.of_operation in
+        let out = live_outside old new lists picks done (OperationNode u.operation) s.operation in
+        record {
+          operation = u.operation;
+          region = u.region;
+          begins = begins_was start u.operation u.region u.begins;
+          of_operation = lists.regions u.operation s.index u.region (ap (λ rs. slice_get rs s.index) (sym (regions_were old new lists picks done u.operation out)) ∙ s.here);
+          inside = was_inside old new lists picks done (RegionNode u.region) e u.inside;
+        }
+
+    is_under : (e : IRNode) → (IsWithin old picks e → ⊥) → IsNodeUnder old start e → IsNodeUnder new start e
+    is_under e out u =
+        let s = u.of_operation in
+        let region_out : IsWithin old picks (RegionNode u.region) → ⊥ = λ w. out (w.0, w.1, inside_both old (BlockNode w.0) (RegionNode u.region) e w.2 u.inside) in
+        let owner_out : IsWithin old picks (OperationNode u.operation) → ⊥ = λ w. region_out (w.0, w.1, in_operation u.region u.operation s w.2) in
+        record {
+          operation = u.operation;
+          region = u.region;
+          begins = begins_is start u.operation u.region owner_out u.begins;
+          of_operation = record {
+            region = still_live old new lists picks done (RegionNode u.region) region_out s.region;
+            operation = still_live old new lists picks done (OperationNode u.operation) owner_out s.operation;
+            index = s.index;
+            here = ap (λ rs. slice_get rs s.index) (regions_were old new lists picks done u.operation owner_out) ∙ s.here;
+          };
+          inside = is_inside old new lists picks done (RegionNode u.region) e out u.inside;
+        }
+
+    pub still_local_under : (is_terminator : O → Bool) → HasLocalEdgesFrom is_terminator old start → HasLocalEdgesFrom is_terminator new start
+    still_local_under is_terminator edges = record {
+      leaving = λ p s b r u l in_b in_r.
+          let out = op_out p (names_live p s l) in
+          let was = named_was p s l in
+          region_is s r (λ w. out (named p was.0 s was.1 w)) in_r.region (edges.leaving p s b r (was_under (OperationNode p) u) was (block_was p b in_b) (region_was b r in_r));
+      entering = λ p s l u. is_under (OperationNode p) (op_out p (names_live p s l)) (edges.entering p s (named_was p s l) (was_under (BlockNode s) u));
+      last = λ p s b k u l here.
+          let e = operations_were old new lists picks done b (live_outside old new lists picks done (BlockNode b) (has_live b k p here)) in
+          edges.last p s b k (was_under (OperationNode p) u) (named_was p s l) (ap (λ ps. slice_get ps k) (sym e) ∙ here) ∙ ap length (sym e);
+      terminators = λ p s v u l there. edges.terminators p s v (was_under (OperationNode p) u) (named_was p s l) (sym (done.operations p (op_out p (names_live p s l))) ∙ there);
+    }
+
+    pub still_fits_under : {A : Type 0} (d : Dialect (in_program O B) A) → FitsEdgesFrom d old start → FitsEdgesFrom d new start
+    still_fits_under d fits p v i b u there branch at =
+        let out = op_out p (ap is_some there) in
+        let was : operation_at old p ≡ Some v = sym (done.operations p out) ∙ there in
+        let edge : slice_get (successors_at old p) i ≡ Some b = ap (λ o. slice_get (unwrap_or (option_map (λ (w : OperationView O). w.successors) o) []) i) was ∙ at in
+        fits p v i b (was_under (OperationNode p) u) was branch at
+        ∙ ap (λ o. length (unwrap_or (option_map (λ (w : BlockView B). w.arguments) o) [])) (sym (done.blocks b (λ w. out (named p i b edge w))))

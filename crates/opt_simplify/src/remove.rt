@@ -9,6 +9,7 @@ ghost use Rattle.opt_dialect.specs.declared.status.IRStatus.TheVariants.{Unchang
 ghost use Rattle.opt_dialect.specs.declared.status.OptError.TheVariants.{LiveUse, Memory};
 ghost use Rattle.opt_inside.specs.Edges.{FitsEdgesBelow, HasLocalEdgesBelow};
 ghost use Rattle.opt_inside.specs.Numbered.{NumbersInside, numbers_of};
+ghost use Rattle.opt_reach.specs.Edges.{FitsEdgesFrom, HasLocalEdgesFrom};
 ghost use Rattle.opt_reach.specs.Fates.{HasReachTest};
 ghost use Rattle.opt_reach.specs.Starts.{IsStartIn};
 ghost use Rattle.opt_trees.specs.Simplify.{IsUnreached, Place};
@@ -52,7 +53,7 @@ fn unreached_blocks<D: Meanings>(
     inside: &Inside,
 ) -> Result<Vec<Ptr<BasicBlock>>, AllocError>
     requires live { IsSome (operation_at program.now op) }
-    requires edges { HasLocalEdgesBelow D.meaning.is_terminator program.now op }
+    requires edges { HasLocalEdgesFrom D.meaning.is_terminator program.now start }
     requires numbered { NumbersInside program.now op (numbers_of inside.now) }
     ensures unreached { IfOk result (λ unreached. (p : Place by_handle) → IsStartIn program.now start p
         → (t : ProgramTree D.Operation D.Block) → StandsFor program.now op t
@@ -75,7 +76,7 @@ fn find_unreached<D: Meanings>(
 ) -> Result<Unreached, AllocError>
     requires live { IsSome (operation_at program.now op) }
     requires start { (p : Place by_handle) × IsStartIn program.now start p }
-    requires edges { HasLocalEdgesBelow D.meaning.is_terminator program.now op }
+    requires edges { HasLocalEdgesFrom D.meaning.is_terminator program.now start }
     ensures found { IfOk result (λ u. AreUnreached D.meaning program.now op start u.blocks.items) }
     ensures taken { IfOk result (λ u. u.is_taken ≡ true → LosesUses D.meaning program.now op start) }
     ensures not_taken { IfOk result (λ u. u.is_taken ≡ false → LosesNone D.meaning program.now op start) }
@@ -109,7 +110,7 @@ pub fn remove_unreached<D: OptDialect, T: TypeTable>(
     ctx: &mut TypedProgram<D::Operation, D::Block, T>,
 ) -> Result<IRStatus, OptError>
     requires live { IsSome (operation_at ctx.old.program op) }
-    requires edges { HasLocalEdgesBelow D.meaning.is_terminator ctx.old.program op }
+    requires edges { HasLocalEdgesFrom D.meaning.is_terminator ctx.old.program start }
     ensures removed { OnOk result ((p : Place by_handle) → IsStartIn ctx.old.program start p
         → (t : ProgramTree D.Operation D.Block) → StandsFor ctx.old.program op t
         → RemovesBlocks D.meaning p ctx.old.program ctx.new.program op t) }
@@ -118,8 +119,11 @@ pub fn remove_unreached<D: OptDialect, T: TypeTable>(
     ensures accepted { IfOk result (λ status. LosesNone D.meaning ctx.old.program op start) }
     ensures refused { IfErr result (λ error. (error ≡ Memory)
         ⊎ ((error ≡ LiveUse) × LosesUses D.meaning ctx.old.program op start)) }
-    ensures local { IfOk result (λ status. HasLocalEdgesBelow D.meaning.is_terminator ctx.new.program op) }
+    ensures local { IfOk result (λ status. HasLocalEdgesBelow D.meaning.is_terminator ctx.old.program op
+        → HasLocalEdgesBelow D.meaning.is_terminator ctx.new.program op) }
     ensures fits { IfOk result (λ status. FitsEdgesBelow D.meaning ctx.old.program op → FitsEdgesBelow D.meaning ctx.new.program op) }
+    ensures local_under { IfOk result (λ status. HasLocalEdgesFrom D.meaning.is_terminator ctx.new.program start) }
+    ensures fits_under { IfOk result (λ status. FitsEdgesFrom D.meaning ctx.old.program start → FitsEdgesFrom D.meaning ctx.new.program start) }
     ensures types { ctx.new.types ≡ ctx.old.types }
     ensures kept { OnErr result (ctx.new ≡ ctx.old) }
 {

@@ -20,12 +20,15 @@ use Rattle.ir_trees.specs.Stands.{by_handle, in_program, ProgramTree, ProgramHea
 use Rattle.opt_chains.specs.Chained.{AreChains}
 use Rattle.opt_chains.specs.Merging.{held, is_taken, last_of}
 use Rattle.opt_chains.specs.declared.merging.Join.{Join}
-use Rattle.opt_chains.proofs.ChainBare.{joinable_exit}
+use Rattle.opt_chains.proofs.ChainBare.{joinable_exit, last_under}
 use Rattle.opt_chains.proofs.MergePairs.{is_used}
 use Rattle.opt_chains.proofs.NextJoinable.{Occurs}
-use Rattle.opt_inside.specs.Edges.{FitsEdgesBelow, HasLocalEdgesBelow}
+use Rattle.opt_inside.proofs.Around.{HasLists}
 use Rattle.opt_inside.specs.Numbered.{Numbers, NumbersInside}
 use Rattle.opt_inside.specs.Occurring.{Found, FoundBlock}
+use Rattle.opt_reach.specs.Edges.{FitsEdgesFrom, HasLocalEdgesFrom}
+use Rattle.opt_reach.specs.Starts.{IsStartIn}
+use Rattle.opt_reach.specs.declared.starts.Start.{Start}
 use Rattle.opt_trees.specs.Dialect.{Dialect, Lawful}
 use Rattle.opt_trees.specs.Facts.{forwarded}
 use Rattle.opt_trees.specs.Occurrences.{cons_if, picks, occurrences_of, block_occurrences_of}
@@ -175,18 +178,18 @@ module _ {O B A : Type 0} (d : Dialect (in_program O B) A) (place : Place by_han
           let row : value_in i.view.arguments f.2.0 ≡ Some v = ap (λ o. value_in (unwrap_or (option_map (λ (w : BlockView B). w.arguments) o) []) f.2.0) (sym i.there) ∙ at in
           (numbered.values v).1 (inr (joins.target.label.name, i.view, i.below, i.there, at_has (names_of (map defined_by i.view.arguments)) f.2.0 v (names_defined i.view.arguments f.2.0 ∙ row)))
 
-    module _ (edges : HasLocalEdgesBelow d.is_terminator c op) (fits : FitsEdgesBelow d c op) (lawful : Lawful d) where
+    module _ (lists : HasLists c) (start : Start) (is_start : IsStartIn c start place) (edges : HasLocalEdgesFrom d.is_terminator c start) (fits : FitsEdgesFrom d c start) (lawful : Lawful d) where
       -- something is forwarded to each argument of a block that is joined
       pub each_forwarded : (j : Join) → Lists js j → (k : ℕ) (v : Value) → value_in (arguments_at c j.block) k ≡ Some v → (u : Value) × IsForwarded d c js v u
       each_forwarded j listed k v at =
           let joins = joins_at listed.0 j listed.1 in
           let from = last_of j.first (held (take listed.0 js) j.first) in
-          let exit = joinable_exit d place c op t edges occurs.sound from j.block joins in
-          let i = occurs.sound joins.last joins.stands in
+          let exit = joinable_exit d place c op t lists start is_start edges occurs.sound from j.block joins in
+          let under = last_under d place c op t lists start is_start edges occurs.sound from j.block joins in
           let branch = branch_is listed.0 j listed.1 from j.block joins refl in
           let operands = exit.view.operands in
           let indices = d.forwards exit.view.payload (length operands) 0 in
-          let many : length indices ≡ length (arguments_at c j.block) = fits joins.last.head.name exit.view 0 j.block i.below exit.there exit.branches (ap (λ l. slice_get l 0) exit.successors) in
+          let many : length indices ≡ length (arguments_at c j.block) = fits joins.last.head.name exit.view 0 j.block under exit.there exit.branches (ap (λ l. slice_get l 0) exit.successors) in
           let count : length (picks operands indices) ≡ length indices = picked_count operands indices (λ m o h. lawful.forwards_within exit.view.payload (length operands) 0 m o h) in
           let within = value_within (arguments_at c j.block) k v at in
           let u = element (picks operands indices) k (omega (arith, within, many, count)) in

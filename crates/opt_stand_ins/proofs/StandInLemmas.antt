@@ -15,8 +15,11 @@ use Rattle.opt_chains.specs.Chained.{AreChains, AreStandIns, IsPlan}
 use Rattle.opt_chains.specs.declared.merging.Join.{Join}
 use Rattle.opt_chains.specs.declared.merge_values.StandIn.{StandIn}
 use Rattle.opt_chains.proofs.NextJoinable.{Occurs}
-use Rattle.opt_inside.specs.Edges.{FitsEdgesBelow, HasLocalEdgesBelow}
+use Rattle.opt_inside.proofs.Around.{HasLists}
 use Rattle.opt_inside.specs.Numbered.{Numbers, NumbersInside}
+use Rattle.opt_reach.specs.Edges.{FitsEdgesFrom, HasLocalEdgesFrom}
+use Rattle.opt_reach.specs.Starts.{IsStartIn}
+use Rattle.opt_reach.specs.declared.starts.Start.{Start}
 use Rattle.opt_solvers.specs.Chains.{Chases as ChasesNumbers}
 use Rattle.opt_solvers.specs.ChainsFollowed.{Answers}
 use Rattle.opt_trees.specs.Dialect.{Dialect, Lawful}
@@ -55,7 +58,7 @@ module _ {O B A : Type 0} (d : Dialect (in_program O B) A) (place : Place by_han
   pub circle_found : (k : ℕ) → ChasesNumbers next k k → ComesBack d place t
   circle_found = comes_back d place t n.values given given_table one_given given_numbered next numbers
 
-  module _ (edges : HasLocalEdgesBelow d.is_terminator c op) (fits : FitsEdgesBelow d c op) (lawful : Lawful d) (finals : List ℕ) (answers : Answers next finals) (ss : List StandIn) (found : AreFollowed n.values given finals ss) where
+  module _ (lists : HasLists c) (start : Start) (is_start : IsStartIn c start place) (edges : HasLocalEdgesFrom d.is_terminator c start) (fits : FitsEdgesFrom d c start) (lawful : Lawful d) (finals : List ℕ) (answers : Answers next finals) (ss : List StandIn) (found : AreFollowed n.values given finals ss) where
     -- what stands for an argument is what it is followed to
     follows : (s : StandIn) → Lists ss s → Follows d place t s.argument s.value
     follows s listed =
@@ -93,7 +96,7 @@ module _ {O B A : Type 0} (d : Dialect (in_program O B) A) (place : Place by_han
       follows = follows;
       given = λ v u g. let f = stands_for v u g in (f.0, at_has ss f.1.0 f.0 f.1.1, f.2);
       arguments = λ j listed k v at.
-          let u = each_forwarded d place c op t occurs js chains edges fits lawful j listed k v at in
+          let u = each_forwarded d place c op t occurs js chains lists start is_start edges fits lawful j listed k v at in
           let f = stands_for v u.0 (to_given v u.0 u.1) in
           (f.0, at_has ss f.1.0 f.0 f.1.1, f.2);
     }

@@ -6,8 +6,8 @@ ghost use Rattle.ir_program.specs.Program.{operation_at};
 ghost use Rattle.ir_trees.specs.Stands.{ProgramTree, StandsFor, by_handle};
 ghost use Rattle.opt_chains.specs.Chained.{AreChains, Begins, IsPlan};
 ghost use Rattle.opt_chains.specs.declared.merge_values.StandIn.{StandIn as AStandIn};
-ghost use Rattle.opt_inside.specs.Edges.{FitsEdgesBelow, HasLocalEdgesBelow};
 ghost use Rattle.opt_inside.specs.Numbered.{NumbersInside, numbers_of};
+ghost use Rattle.opt_reach.specs.Edges.{FitsEdgesFrom, HasLocalEdgesFrom};
 ghost use Rattle.opt_reach.specs.Starts.{IsStartIn};
 ghost use Rattle.opt_trees.specs.Simplify.{ComesBack, Place};
 
@@ -37,8 +37,8 @@ pub fn find_stand_ins<D: OptDialect>(
     joins: &[Join],
 ) -> Result<Option<Vec<StandIn>>, AllocError>
     requires live { IsSome (operation_at program.now op) }
-    requires edges { HasLocalEdgesBelow D.meaning.is_terminator program.now op }
-    requires fits { FitsEdgesBelow D.meaning program.now op }
+    requires edges { HasLocalEdgesFrom D.meaning.is_terminator program.now _start }
+    requires fits { FitsEdgesFrom D.meaning program.now _start }
     requires numbered { NumbersInside program.now op (numbers_of inside.now) }
     requires begins { Begins program.now _start }
     requires chains { (p : Place by_handle) → IsStartIn program.now _start p
@@ -52,6 +52,7 @@ pub fn find_stand_ins<D: OptDialect>(
         → (t : ProgramTree D.Operation D.Block) → StandsFor program.now op t
         → ComesBack D.meaning p t }
 {
+    program.know_lists();
     program.know_values();
     know_occurrences(program, op);
     know_tree(program, op);

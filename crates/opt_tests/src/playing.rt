@@ -4,7 +4,7 @@ use ir_program::{Operation, Ptr};
 use opt_dce::dce;
 use opt_dialect::{IRStatus, OptError};
 use opt_edges::has_local_edges_below;
-use opt_reach::Start;
+use opt_reach::{Start, know_edges_under};
 use opt_sccp::sccp;
 use opt_simplify::remove_unreached;
 use opt_tiny::{OneType, Tiny, Tree, Unread, read, written};
@@ -51,6 +51,7 @@ fn run(
         Pass::Sccp => Ok(sccp::<Tiny, OneType>(alloc, op, ctx)),
         Pass::Dce => Ok(dce::<Tiny, OneType>(alloc, op, ctx)),
         Pass::RemoveUnreached => {
+            know_edges_under::<Tiny>(ctx.program(), op);
             let start = Start::Operation(op);
             Ok(remove_unreached::<Tiny, OneType>(alloc, op, start, ctx))
         },

@@ -2,6 +2,9 @@
 use Rattle.std.proofs.Common.{Ok, ap, ◌∙◌, subst}
 use Rattle.ir_trees.specs.Stands.{ProgramTree, StandsFor}
 use Rattle.opt_dialect.specs.Statuses.{either}
+use Rattle.opt_inside.specs.Edges.{FitsEdgesBelow, HasLocalEdgesBelow}
+use Rattle.opt_reach.specs.Edges.{FitsEdgesFrom, HasLocalEdgesFrom}
+use Rattle.opt_reach.specs.declared.starts.Start.TheVariants.{Operation as AtOperation}
 use Rattle.ir_opts.proofs.ThreePhases.{is_there, begins, nothing_done, removing_stops, joining_stops}
 use Rattle.ir_opts.proofs.control_flow.simplify_cfg.Goals as goal
 
@@ -13,6 +16,13 @@ remove_unreached-requires-clause-live g c =
     c.program.ensures c.know_tree.ensures in
     let first = c.in_ok-status.ensures.decided tree.0 tree.1 in
     is_there c.decide_branches.new.ctx.program op _ first.stands
+
+pub remove_unreached-requires-clause-edges : goal.remove_unreached-requires-clause-edges
+remove_unreached-requires-clause-edges g c =
+    let t = g.D.Meanings.meaning.is_terminator in
+    let under = subst (λ p. HasLocalEdgesBelow t p c.args.op → HasLocalEdgesFrom t p (AtOperation c.args.op))
+    c.program-2.ensures c.know_edges_under.ensures.local in
+    under (c.in_ok-status.ensures.local c.requires.edges)
 
 pub returns-in_err-remove_unreached-clause-error : goal.returns-in_err-remove_unreached-clause-error
 returns-in_err-remove_unreached-clause-error g c =
@@ -33,9 +43,15 @@ merge_chains-requires-clause-live g c =
     let second = c.in_ok-remove_unreached.ensures.removed _ (begins decided op _ first.stands) _ first.stands in
     is_there cut op second.after second.stands
 
+pub merge_chains-requires-clause-edges : goal.merge_chains-requires-clause-edges
+merge_chains-requires-clause-edges g c = c.in_ok-remove_unreached.ensures.local_under
+
 pub merge_chains-requires-clause-fits : goal.merge_chains-requires-clause-fits
 merge_chains-requires-clause-fits g c =
-    c.in_ok-remove_unreached.ensures.fits (c.in_ok-status.ensures.fits c.requires.fits)
+    let d = g.D.Meanings.meaning in
+    let under = subst (λ p. FitsEdgesBelow d p c.args.op → FitsEdgesFrom d p (AtOperation c.args.op))
+    c.program-2.ensures c.know_edges_under.ensures.fits in
+    c.in_ok-remove_unreached.ensures.fits_under (under (c.in_ok-status.ensures.fits c.requires.fits))
 
 pub returns-in_err-merge_chains-clause-error : goal.returns-in_err-merge_chains-clause-error
 returns-in_err-merge_chains-clause-error g c =

@@ -6,10 +6,7 @@ use Rattle.opt_reach.specs.declared.starts.Start.TheVariants.{Region as AtRegion
 use Rattle.ir_opts.proofs.merging.merge_inside_region.Goals as goal
 
 pub merge_from-requires-clause-fits : goal.merge_from-requires-clause-fits
-merge_from-requires-clause-fits g c =
-    let root = c.root_of_region-root.result in
-    c.requires.fits root
-    (subst (λ m. IsRootOf m (AtRegion c.args.region) root) c.program.ensures c.root_of_region-root.ensures.root)
+merge_from-requires-clause-fits g c = c.requires.fits
 
 pub returns-clause-answer : goal.returns-clause-answer
 returns-clause-answer g c = λ q h.

@@ -19,7 +19,7 @@ firsts-requires g c =
     let lists : HasLists c.args.program.now = assumption c.know_lists.ensures in
     let leads = c.requires.next c.requires.begins.0 c.requires.begins.1 c.know_tree.ensures.0 c.know_tree.ensures.1 in
     let once : AreDistinct c.args.inside.now.blocks.keys = c.requires.numbered.blocks_once in
-    let links : AreLinks c.args.next.now = links_named g.D.Meanings.meaning c.requires.begins.0 c.args.program.now c.args.op c.know_tree.ensures.0 c.requires.edges (c.know_occurrences.ensures.sound c.know_tree.ensures.0 c.know_tree.ensures.1) (c.know_occurrences.ensures.found c.know_tree.ensures.0 c.know_tree.ensures.1) (c.know_occurrences.ensures.blocks_sound c.know_tree.ensures.0 c.know_tree.ensures.1) (c.know_occurrences.ensures.blocks_one c.know_tree.ensures.0 c.know_tree.ensures.1) c.args.inside.now.blocks.keys once c.args.next.now leads.len leads.named in
+    let links : AreLinks c.args.next.now = links_named g.D.Meanings.meaning c.requires.begins.0 c.args.program.now c.args.op c.know_tree.ensures.0 lists c.args._start c.requires.begins.1 c.requires.edges (c.know_occurrences.ensures.sound c.know_tree.ensures.0 c.know_tree.ensures.1) (c.know_occurrences.ensures.found c.know_tree.ensures.0 c.know_tree.ensures.1) (c.know_occurrences.ensures.blocks_sound c.know_tree.ensures.0 c.know_tree.ensures.1) (c.know_occurrences.ensures.blocks_one c.know_tree.ensures.0 c.know_tree.ensures.1) c.args.inside.now.blocks.keys once c.args.next.now leads.len leads.named in
     record { within = links.within }
 
 pub chain_steps-requires-clause-links : goal.chain_steps-requires-clause-links
@@ -27,7 +27,7 @@ chain_steps-requires-clause-links g c =
     let lists : HasLists c.args.program.now = assumption c.know_lists.ensures in
     let leads = c.requires.next c.requires.begins.0 c.requires.begins.1 c.know_tree.ensures.0 c.know_tree.ensures.1 in
     let once : AreDistinct c.args.inside.now.blocks.keys = c.requires.numbered.blocks_once in
-    let links : AreLinks c.args.next.now = links_named g.D.Meanings.meaning c.requires.begins.0 c.args.program.now c.args.op c.know_tree.ensures.0 c.requires.edges (c.know_occurrences.ensures.sound c.know_tree.ensures.0 c.know_tree.ensures.1) (c.know_occurrences.ensures.found c.know_tree.ensures.0 c.know_tree.ensures.1) (c.know_occurrences.ensures.blocks_sound c.know_tree.ensures.0 c.know_tree.ensures.1) (c.know_occurrences.ensures.blocks_one c.know_tree.ensures.0 c.know_tree.ensures.1) c.args.inside.now.blocks.keys once c.args.next.now leads.len leads.named in
+    let links : AreLinks c.args.next.now = links_named g.D.Meanings.meaning c.requires.begins.0 c.args.program.now c.args.op c.know_tree.ensures.0 lists c.args._start c.requires.begins.1 c.requires.edges (c.know_occurrences.ensures.sound c.know_tree.ensures.0 c.know_tree.ensures.1) (c.know_occurrences.ensures.found c.know_tree.ensures.0 c.know_tree.ensures.1) (c.know_occurrences.ensures.blocks_sound c.know_tree.ensures.0 c.know_tree.ensures.1) (c.know_occurrences.ensures.blocks_one c.know_tree.ensures.0 c.know_tree.ensures.1) c.args.inside.now.blocks.keys once c.args.next.now leads.len leads.named in
     links
 
 pub chain_steps-requires-clause-len : goal.chain_steps-requires-clause-len
@@ -43,7 +43,7 @@ name_steps-requires g c k s here =
     let once : AreDistinct c.args.inside.now.blocks.keys = c.requires.numbered.blocks_once in
     let walked : AreWalked c.args.next.now c.in_ok-steps.steps.items = c.in_ok-steps.ensures in
     subst (λ l. HasExit g.D.Meanings.meaning c.args.program.now l s) (sym c.as_slice-2.ensures.keys)
-    (exits_of_steps g.D.Meanings.meaning c.requires.begins.0 c.args.program.now c.args.op c.know_tree.ensures.0 lists c.requires.edges (c.know_occurrences.ensures.sound c.know_tree.ensures.0 c.know_tree.ensures.1) (c.know_occurrences.ensures.found c.know_tree.ensures.0 c.know_tree.ensures.1) (c.know_occurrences.ensures.blocks_sound c.know_tree.ensures.0 c.know_tree.ensures.1) (c.know_occurrences.ensures.blocks_one c.know_tree.ensures.0 c.know_tree.ensures.1) c.args.inside.now.blocks.keys once c.args.next.now leads c.in_ok-steps.steps.items walked.steps k s (ap (λ l. slice_get l k) (sym c.as_slice-3.ensures.value) ∙ here))
+    (exits_of_steps g.D.Meanings.meaning c.requires.begins.0 c.args.program.now c.args.op c.know_tree.ensures.0 lists c.args._start c.requires.begins.1 c.requires.edges (c.know_occurrences.ensures.sound c.know_tree.ensures.0 c.know_tree.ensures.1) (c.know_occurrences.ensures.found c.know_tree.ensures.0 c.know_tree.ensures.1) (c.know_occurrences.ensures.blocks_sound c.know_tree.ensures.0 c.know_tree.ensures.1) (c.know_occurrences.ensures.blocks_one c.know_tree.ensures.0 c.know_tree.ensures.1) c.args.inside.now.blocks.keys once c.args.next.now leads c.in_ok-steps.steps.items walked.steps k s (ap (λ l. slice_get l k) (sym c.as_slice-3.ensures.value) ∙ here))
 
 mapped : {X E : Type 0} (r : Result X E) (P Q : X → Type 0) → ((x : X) → P x → Q x) → IfOk r P → IfOk r Q
 mapped (Ok x) P Q f h = f x h
@@ -58,5 +58,5 @@ returns g c = mapped c.name_steps.result (λ (joins : Vec Join Global). AreNamed
     let once : AreDistinct c.args.inside.now.blocks.keys = c.requires.numbered.blocks_once in
     let walked : AreWalked c.args.next.now c.in_ok-steps.steps.items = c.in_ok-steps.ensures in
     let named = subst (λ l. AreNamedSteps g.D.Meanings.meaning c.args.program.now l c.in_ok-steps.steps.items joins.items) c.as_slice-2.ensures.keys (subst (λ l. AreNamedSteps g.D.Meanings.meaning c.args.program.now c.as_slice-2.result.now l joins.items) c.as_slice-3.ensures.value names) in
-    chains_of_steps g.D.Meanings.meaning p c.args.program.now c.args.op t lists c.requires.edges (c.know_occurrences.ensures.sound t stands) (c.know_occurrences.ensures.found t stands) (c.know_occurrences.ensures.blocks_sound t stands) (c.know_occurrences.ensures.blocks_one t stands) c.args.inside.now.blocks.keys once c.args.next.now leads c.in_ok-steps.steps.items walked joins.items named)
+    chains_of_steps g.D.Meanings.meaning p c.args.program.now c.args.op t lists c.args._start begins c.requires.edges (c.know_occurrences.ensures.sound t stands) (c.know_occurrences.ensures.found t stands) (c.know_occurrences.ensures.blocks_sound t stands) (c.know_occurrences.ensures.blocks_one t stands) c.args.inside.now.blocks.keys once c.args.next.now leads c.in_ok-steps.steps.items walked joins.items named)
     c.name_steps.ensures

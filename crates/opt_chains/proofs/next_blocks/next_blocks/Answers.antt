@@ -39,6 +39,6 @@ returns g c = mapped c.joined.result (λ (next : Vec (Option ℕ) Global). AreJo
       operations = c.know_occurrences.ensures.operations t stands;
     } in
     let seen = subst (λ (fs : List Fate). AreChainBlocks g.D.Meanings.meaning c.args.program.now c.args.inside.now.blocks.keys fs c.in_ok-seen.seen.items) c.as_slice.ensures.value c.in_ok-seen.ensures in
-    leads_where_joinable g.D.Meanings.meaning p c.args.program.now c.args.op t lists c.requires.edges occurs (numbers_of c.args.inside.now) c.requires.numbered c.in_ok-fates.fates.items c.in_ok-fates.ensures.len (c.in_ok-fates.ensures.fates p begins t stands)
+    leads_where_joinable g.D.Meanings.meaning p c.args.program.now c.args.op t lists c.args.start begins c.requires.edges occurs (numbers_of c.args.inside.now) c.requires.numbered c.in_ok-fates.fates.items c.in_ok-fates.ensures.len (c.in_ok-fates.ensures.fates p begins t stands)
     c.in_ok-seen.seen.items seen next.items (subst (λ bs. AreJoined bs next.items) c.as_slice-2.ensures.value joined))
     c.joined.ensures

@@ -2,6 +2,7 @@ use Rattle.std.proofs.Common.{List, refl, sym, subst}
 use Rattle.opt_chains.specs.Chained.{IsPlan}
 use Rattle.opt_chains.specs.declared.merge_values.StandIn.{StandIn}
 use Rattle.opt_chains.specs.declared.merging.Join.{Join}
+use Rattle.opt_reach.specs.Edges.{FitsEdgesFrom}
 use Rattle.opt_merge.proofs.NoneJoined.{none_merged, none_circles}
 use Rattle.opt_merge.proofs.PlanFound.{none_found, plan_found}
 use Rattle.opt_merge.proofs.merge.merge_chains.Goals as goal
@@ -23,6 +24,9 @@ returns-in_default-clause-unchanged g c =
     let none = none_found g.D.Meanings.meaning c.program.result.now c.args.ctx.now.program c.program.ensures
     c.args.op c.args.start c.in_ok-plan.field-0 c.in_ok-plan.ensures.found c.in_default.is in
     (λ h. none, λ h. refl)
+
+pub find_plan-requires-clause-fits : goal.find_plan-requires-clause-fits
+find_plan-requires-clause-fits g c = subst (λ z. FitsEdgesFrom g.D.Meanings.meaning z c.args.start) (sym c.program.ensures) c.requires.fits
 
 pub apply_plan-requires-clause-plan : goal.apply_plan-requires-clause-plan
 apply_plan-requires-clause-plan g c p is t stands =

@@ -45,7 +45,7 @@ returns g c =
       operation_apart = c.know_lists.ensures.operation_apart;
       block_apart = c.know_lists.ensures.block_apart;
     } in
-    marks_are c.args.program.now lists c.args.op (g.D.Meanings.meaning.is_terminator) c.requires.edges (numbers_of c.args.inside.now) c.requires.numbered
+    marks_are c.args.program.now lists c.args.op (g.D.Meanings.meaning.is_terminator) (numbers_of c.args.inside.now) c.requires.numbered
     (λ t stands. record {
       stands = stands;
       sound = c.know_occurrences.ensures.sound t stands;

@@ -21,8 +21,8 @@ use Rattle.opt_simplify.proofs.remove.find_unreached.Goals as goal
 pub is_taken_outside-requires-clause-there : goal.is_taken_outside-requires-clause-there
 is_taken_outside-requires-clause-there g c =
     let lists : HasLists c.args.program.now = assumption c.know_lists.ensures in
-    let all : AreUnreached g.D.Meanings.meaning c.args.program.now c.args.op c.args.start c.in_ok-blocks.blocks.items = are_unreached g.D.Meanings.meaning c.args.program.now lists c.args.op c.requires.edges (numbers_of c.in_ok-inside.inside) c.in_ok-inside.ensures
-    c.args.start c.requires.start.0 c.requires.start.1 c.know_tree.ensures.0 c.know_tree.ensures.1 (λ t stands. record {
+    let all : AreUnreached g.D.Meanings.meaning c.args.program.now c.args.op c.args.start c.in_ok-blocks.blocks.items = are_unreached g.D.Meanings.meaning c.args.program.now lists c.args.op (numbers_of c.in_ok-inside.inside) c.in_ok-inside.ensures
+    c.args.start c.requires.edges c.requires.start.0 c.requires.start.1 c.know_tree.ensures.0 c.know_tree.ensures.1 (λ t stands. record {
       stands = stands;
       sound = c.know_occurrences.ensures.sound t stands;
       found = c.know_occurrences.ensures.found t stands;
@@ -45,8 +45,8 @@ is_taken_outside-requires-clause-values g c =
 pub is_taken_outside-requires-clause-all : goal.is_taken_outside-requires-clause-all
 is_taken_outside-requires-clause-all g c =
     let lists : HasLists c.args.program.now = assumption c.know_lists.ensures in
-    let all : AreUnreached g.D.Meanings.meaning c.args.program.now c.args.op c.args.start c.in_ok-blocks.blocks.items = are_unreached g.D.Meanings.meaning c.args.program.now lists c.args.op c.requires.edges (numbers_of c.in_ok-inside.inside) c.in_ok-inside.ensures
-    c.args.start c.requires.start.0 c.requires.start.1 c.know_tree.ensures.0 c.know_tree.ensures.1 (λ t stands. record {
+    let all : AreUnreached g.D.Meanings.meaning c.args.program.now c.args.op c.args.start c.in_ok-blocks.blocks.items = are_unreached g.D.Meanings.meaning c.args.program.now lists c.args.op (numbers_of c.in_ok-inside.inside) c.in_ok-inside.ensures
+    c.args.start c.requires.edges c.requires.start.0 c.requires.start.1 c.know_tree.ensures.0 c.know_tree.ensures.1 (λ t stands. record {
       stands = stands;
       sound = c.know_occurrences.ensures.sound t stands;
       found = c.know_occurrences.ensures.found t stands;
@@ -66,8 +66,8 @@ is_taken_outside-requires-clause-all g c =
 pub returns-clause-found : goal.returns-clause-found
 returns-clause-found g c =
     let lists : HasLists c.args.program.now = assumption c.know_lists.ensures in
-    let all : AreUnreached g.D.Meanings.meaning c.args.program.now c.args.op c.args.start c.in_ok-blocks.blocks.items = are_unreached g.D.Meanings.meaning c.args.program.now lists c.args.op c.requires.edges (numbers_of c.in_ok-inside.inside) c.in_ok-inside.ensures
-    c.args.start c.requires.start.0 c.requires.start.1 c.know_tree.ensures.0 c.know_tree.ensures.1 (λ t stands. record {
+    let all : AreUnreached g.D.Meanings.meaning c.args.program.now c.args.op c.args.start c.in_ok-blocks.blocks.items = are_unreached g.D.Meanings.meaning c.args.program.now lists c.args.op (numbers_of c.in_ok-inside.inside) c.in_ok-inside.ensures
+    c.args.start c.requires.edges c.requires.start.0 c.requires.start.1 c.know_tree.ensures.0 c.know_tree.ensures.1 (λ t stands. record {
       stands = stands;
       sound = c.know_occurrences.ensures.sound t stands;
       found = c.know_occurrences.ensures.found t stands;
@@ -84,8 +84,8 @@ returns-clause-found g c =
 pub returns-clause-taken : goal.returns-clause-taken
 returns-clause-taken g c = λ h p is_start t stands.
     let lists : HasLists c.args.program.now = assumption c.know_lists.ensures in
-    let all : AreUnreached g.D.Meanings.meaning c.args.program.now c.args.op c.args.start c.in_ok-blocks.blocks.items = are_unreached g.D.Meanings.meaning c.args.program.now lists c.args.op c.requires.edges (numbers_of c.in_ok-inside.inside) c.in_ok-inside.ensures
-    c.args.start c.requires.start.0 c.requires.start.1 c.know_tree.ensures.0 c.know_tree.ensures.1 (λ t stands. record {
+    let all : AreUnreached g.D.Meanings.meaning c.args.program.now c.args.op c.args.start c.in_ok-blocks.blocks.items = are_unreached g.D.Meanings.meaning c.args.program.now lists c.args.op (numbers_of c.in_ok-inside.inside) c.in_ok-inside.ensures
+    c.args.start c.requires.edges c.requires.start.0 c.requires.start.1 c.know_tree.ensures.0 c.know_tree.ensures.1 (λ t stands. record {
       stands = stands;
       sound = c.know_occurrences.ensures.sound t stands;
       found = c.know_occurrences.ensures.found t stands;
@@ -121,8 +121,8 @@ returns-clause-taken g c = λ h p is_start t stands.
 pub returns-clause-not_taken : goal.returns-clause-not_taken
 returns-clause-not_taken g c = λ h p is_start t after w stands says cut.
     let lists : HasLists c.args.program.now = assumption c.know_lists.ensures in
-    let all : AreUnreached g.D.Meanings.meaning c.args.program.now c.args.op c.args.start c.in_ok-blocks.blocks.items = are_unreached g.D.Meanings.meaning c.args.program.now lists c.args.op c.requires.edges (numbers_of c.in_ok-inside.inside) c.in_ok-inside.ensures
-    c.args.start c.requires.start.0 c.requires.start.1 c.know_tree.ensures.0 c.know_tree.ensures.1 (λ t stands. record {
+    let all : AreUnreached g.D.Meanings.meaning c.args.program.now c.args.op c.args.start c.in_ok-blocks.blocks.items = are_unreached g.D.Meanings.meaning c.args.program.now lists c.args.op (numbers_of c.in_ok-inside.inside) c.in_ok-inside.ensures
+    c.args.start c.requires.edges c.requires.start.0 c.requires.start.1 c.know_tree.ensures.0 c.know_tree.ensures.1 (λ t stands. record {
       stands = stands;
       sound = c.know_occurrences.ensures.sound t stands;
       found = c.know_occurrences.ensures.found t stands;

@@ -3,6 +3,7 @@ use Rattle.std.specs.Prelude.{MatchOption}
 use Rattle.opt_chains.proofs.NextJoinable.{Occurs}
 use Rattle.opt_chains.specs.Chained.{IsPlan}
 use Rattle.opt_chains.specs.declared.merge_values.StandIn.{StandIn}
+use Rattle.opt_inside.proofs.Around.{HasLists}
 use Rattle.opt_inside.specs.Numbered.{numbers_of}
 use Rattle.opt_solvers.specs.Chains.{Chases}
 use Rattle.opt_solvers.specs.ChainsFollowed.{Answers, IsInRange}
@@ -62,6 +63,7 @@ returns-in_default-clause-circle g c e p begins t stands =
 
 pub returns-clause-plan : goal.returns-clause-plan
 returns-clause-plan g c found e p begins t stands =
+    let lists : HasLists c.args.program.now = assumption c.know_lists.ensures in
     let keys = c.args.inside.now.values.keys in
     let given = c.in_ok-given.given.items in
     let next = c.in_ok-next.next.items in
@@ -87,4 +89,4 @@ returns-clause-plan g c found e p begins t stands =
     let same : c.in_ok-found.found ≡ found = cc in
     subst (λ (x : Vec StandIn Global). IsPlan g.D.Meanings.meaning p c.args.program.now t c.args.joins.now x.items) same
     (plan_found g.D.Meanings.meaning p c.args.program.now c.args.op t occurs values (numbers_of c.args.inside.now) c.requires.numbered c.args.joins.now (c.requires.chains p begins t stands) given table next numbers
-    c.requires.edges c.requires.fits g.met.D.OptDialect.lawful finals answers c.in_ok-found.found.items followed)
+    lists c.args._start begins c.requires.edges c.requires.fits g.met.D.OptDialect.lawful finals answers c.in_ok-found.found.items followed)
