@@ -1,1 +1,5 @@
 mod ThreePhases
+mod Involutions
+mod SimplifiedNames
+mod SimplifiedTrees
+mod WholeTrees

@@ -1,7 +1,9 @@
 //! Simplification of control flow.
 ghost use Rattle.std.specs.Prelude.{◌≡◌, ◌↔◌, Ok, IfErr, IfOk, IsSome, OnOk};
 ghost use Rattle.ir_program.specs.Program.{operation_at};
+ghost use Rattle.ir_trees.specs.Stands.{ProgramTree, StandsFor};
 ghost use Rattle.ir_opts.specs.Simplified.{HasNothingToDo, Simplifies, StopsAt};
+ghost use Rattle.ir_opts.specs.SimplifiedTree.{SimplifiesTree};
 ghost use Rattle.opt_dialect.specs.declared.status.IRStatus.TheVariants.{Unchanged};
 ghost use Rattle.opt_inside.specs.Edges.{FitsEdgesBelow, HasLocalEdgesBelow};
 
@@ -37,6 +39,8 @@ pub fn simplify_cfg<D: OptDialect, T: TypeTable>(
     requires edges { HasLocalEdgesBelow D.meaning.is_terminator ctx.old.program op }
     requires fits { FitsEdgesBelow D.meaning ctx.old.program op }
     ensures simplified { OnOk result (Simplifies D.meaning ctx.old.program ctx.new.program op) }
+    ensures tree { OnOk result ((t : ProgramTree D.Operation D.Block) → StandsFor ctx.old.program op t
+        → SimplifiesTree D.meaning ctx.old.program ctx.new.program op t) }
     ensures unchanged { IfOk result (λ status. (status ≡ Unchanged) ↔ HasNothingToDo D.meaning ctx.old.program op) }
     ensures same { result ≡ Ok Unchanged → ctx.new ≡ ctx.old }
     ensures error { IfErr result (StopsAt D.meaning ctx.old.program ctx.new.program op) }

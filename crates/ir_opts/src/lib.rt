@@ -12,7 +12,8 @@ pub use opt_dialect::{
     BlockArgRemoval, BranchOpFoldInterface, ConstFoldInterface, IRStatus, Meanings, OptDialect,
     OptError, SideEffects,
 };
-pub use opt_edges::{has_local_edges_below, has_local_edges_from};
+pub use opt_edges::{fits_edges_from, has_local_edges_below, has_local_edges_from};
+pub use opt_reach::{Start, know_edges_under};
 pub use opt_rewriter::{OpInsertionPoint, Rewriter};
 pub use opt_sccp::sccp;
 pub use places::{

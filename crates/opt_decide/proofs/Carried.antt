@@ -53,16 +53,26 @@ at_last : {X : Type 0} (xs : List X) (y : X) → Lists (xs ++ y ∷ []) y
 at_last [] y = (zero, refl)
 at_last (z ∷ xs) y = let l = at_last xs y in (suc l.0, l.1)
 
-pub among_or_not : (ds : List Decision) (p : Ptr Operation) → ((x : Decision) × Lists ds x × (x.op ≡ p)) ⊎ IsUndecided ds p
-among_or_not [] p = inr (λ x l e. let s = l.1 in cc)
-among_or_not (y ∷ ds) p = ⊎_elim
-    (λ (e : y.op ≡ p). inl (y, (zero, refl), e))
-    (λ (ne : y.op ≢ p). ⊎_elim (λ h. inl (h.0, (suc h.1.0, h.1.1), h.2)) (λ none. inr (λ x l e. first_or_later x l.0 l.1 ne none e)) (among_or_not ds p))
-    (same_or_not y.op p)
+-- a decision of which f makes this, or none
+pub found_or_not : (f : Decision → Ptr Operation) (ds : List Decision) (p : Ptr Operation)
+    → ((x : Decision) × Lists ds x × (f x ≡ p)) ⊎ ((x : Decision) → Lists ds x → f x ≢ p)
+found_or_not f [] p = inr (λ x l e. let s = l.1 in cc)
+found_or_not f (y ∷ ds) p = ⊎_elim
+    (λ (e : f y ≡ p). inl (y, (zero, refl), e))
+    (λ (ne : f y ≢ p). ⊎_elim
+    (λ h. inl (h.0, (suc h.1.0, h.1.1), h.2))
+    (λ none. inr (λ x l e. first_or_later x l.0 l.1 ne none e))
+    (found_or_not f ds p))
+    (same_or_not (f y) p)
   where
-    first_or_later : (x : Decision) (k : ℕ) → slice_get (y ∷ ds) k ≡ Some x → y.op ≢ p → IsUndecided ds p → x.op ≡ p → ⊥
-    first_or_later x zero h ne none e = let s : Some y ≡ Some x = h in let q : y ≡ x = cc in ne (ap (λ (z : Decision). z.op) q ∙ e)
+    first_or_later : (x : Decision) (k : ℕ) → slice_get (y ∷ ds) k ≡ Some x → f y ≢ p
+        → ((z : Decision) → Lists ds z → f z ≢ p) → f x ≡ p → ⊥
+    first_or_later x zero h ne none e = let s : Some y ≡ Some x = h in let q : y ≡ x = cc in ne (ap f q ∙ e)
     first_or_later x (suc k) h ne none e = none x (k, h) e
+
+-- a decision of this operation, or none
+pub among_or_not : (ds : List Decision) (p : Ptr Operation) → ((x : Decision) × Lists ds x × (x.op ≡ p)) ⊎ IsUndecided ds p
+among_or_not ds p = found_or_not (λ x. x.op) ds p
 
 module _ {O B A : Type 0} (d : Dialect (in_program O B) A) (old : Program O B) where
   -- nothing carried out

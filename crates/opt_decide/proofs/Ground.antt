@@ -18,10 +18,11 @@ use Rattle.opt_decide.specs.Planned.{AreDecisions}
 use Rattle.opt_decide.specs.declared.plan.Decision.{Decision}
 use Rattle.opt_decide.proofs.Carried.{none_decided}
 use Rattle.opt_decide.proofs.EdgesDecided.{local_still, fits_still}
-use Rattle.opt_decide.proofs.NamesDecided.{free_or_same, names_apart, outside_kept}
+use Rattle.opt_decide.proofs.ExchangedNames.{exchanged, exchanged_twice, free_or_kept, root_kept, exchanged_apart, stands_exchanged}
+use Rattle.opt_decide.proofs.InsideDecided.{none_came}
+use Rattle.opt_decide.proofs.NamesDecided.{outside_kept}
 use Rattle.opt_decide.proofs.NoneDecided.{none_decided_then, some_decided_then}
 use Rattle.opt_decide.proofs.SaidAround.{HasValues, around_root, says_known}
-use Rattle.opt_decide.proofs.TreesDecided.{stands_decided}
 
 pub record Ground {O B A : Type 0} (d : Dialect (in_program O B) A) (c : Program O B) (op : Ptr Operation) : Type 0 where
   pub law : Lawful d
@@ -66,13 +67,16 @@ module _ {O B A : Type 0} (d : Dialect (in_program O B) A) (old new : Program O 
     branches_decided t stands = record {
       around = around_root d old ground.values op ground.told;
       says = says_known d old ground.values op ground.told;
-      names = maps_of has.names;
-      operations = free_or_same d old new op ds are has;
+      names = maps_of (exchanged d old new op ds are has);
+      operations = free_or_kept d old new op ds are has;
+      twice = exchanged_twice d old new op ds are has;
+      root = root_kept d old new op ds are has ground.root;
       blocks = λ b. refl;
       values = λ v. refl;
-      one_to_one = names_apart d old new op ds are has t stands;
-      stands = stands_decided d old new op ds are has ground.lists t stands;
+      one_to_one = exchanged_apart d old new op ds are has t;
+      stands = stands_exchanged d old new op ds are has ground.lists t stands;
       outside = outside_kept d old new op ds are has ground.lists;
+      inside = none_came d old new op ds are has ground.lists ground.root;
     }
 
     pub edges_local : HasLocalEdgesBelow d.is_terminator old op → HasLocalEdgesBelow d.is_terminator new op

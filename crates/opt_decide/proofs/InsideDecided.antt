@@ -13,13 +13,13 @@ use Rattle.ir_trees.specs.Stands.{in_program}
 use Rattle.opt_trees.specs.Dialect.{Dialect}
 use Rattle.opt_inside.specs.Occurring.{IsBelowRoot}
 use Rattle.opt_inside.proofs.Around.{HasLists}
-use Rattle.opt_decide.specs.Phase.{HasDecided}
+use Rattle.opt_decide.specs.Phase.{HasDecided, BringsNoneInside}
 use Rattle.opt_decide.specs.Planned.{AreDecisions}
 use Rattle.opt_decide.specs.Replaced.{along}
 use Rattle.opt_decide.specs.declared.plan.Decision.{Decision}
 use Rattle.opt_decide.proofs.DecisionLists.{below_there}
 use Rattle.opt_decide.proofs.Folded.{something}
-use Rattle.opt_decide.proofs.NamesDecided.{now_at, IsKept, IsBranched, apart, root_same}
+use Rattle.opt_decide.proofs.NamesDecided.{not_none, now_at, IsKept, IsBranched, apart, root_same, free_or_same}
 
 there_if : {X Y : Type 0} (f : X → Y) (o : Option X) → IsSome o → IsSome (option_map f o)
 there_if f None h = cc
@@ -131,6 +131,16 @@ module _ {O B A : Type 0} (d : Dialect (in_program O B) A) (old new : Program O 
       let live = inside_there (OperationNode p.0) p.2 p.0 refl in
       let at : slice_get (regions_in old p.0) s.index ≡ Some r = ap (λ xs. slice_get xs s.index) (sym (regions_same p.0 live)) ∙ ap (λ z. slice_get (regions_in new z) s.index) p.1 ∙ s.here in
       in_operation r p.0 (lists.regions p.0 s.index r at) p.2
+
+  pub none_came : BringsNoneInside old new op
+  none_came (OperationNode q) live i =
+      let p = inside_was (OperationNode q) i in
+      ⊎_elim
+      (λ (e : has.names p.0 ≡ p.0). subst (λ z. StandsInside old (OperationNode op) (OperationNode z)) (sym e ∙ p.1) p.2)
+      (λ (none : operation_at old (has.names p.0) ≡ None). absurd (not_none (operation_at old q) live (ap (operation_at old) (sym p.1) ∙ none)))
+      (free_or_same d old new op ds are has p.0)
+  none_came (BlockNode b) live i = inside_was (BlockNode b) i
+  none_came (RegionNode r) live i = inside_was (RegionNode r) i
 
   pub below_now : (p : Ptr Operation) → IsBelowRoot old op p → IsBelowRoot new op (has.names p)
   below_now p low = record {

@@ -3,6 +3,7 @@ pub mod Carried
 pub mod DecidedTrees
 pub mod DecisionLists
 pub mod EdgesDecided
+pub mod ExchangedNames
 pub mod Filled
 pub mod Folded
 pub mod Found

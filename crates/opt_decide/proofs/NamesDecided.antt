@@ -6,22 +6,21 @@ use Rattle.ir_program.specs.declared.handles.IRNode.TheVariants.{Operation as Op
 use Rattle.ir_program.specs.declared.handles.Ptr.{Ptr}
 use Rattle.ir_program.specs.declared.handles.Operation.{Operation}
 use Rattle.ir_program.specs.declared.handles.BasicBlock.{BasicBlock}
-use Rattle.ir_trees.specs.Renames.{IsOneToOne}
-use Rattle.ir_trees.specs.Searched.{Lists, heads_in, heads_of, operation_names}
-use Rattle.ir_trees.specs.Stands.{by_handle, in_program, ProgramHead, ProgramTree, Handles, head_of, AreTree, no_operations, no_blocks, no_regions, first_operation, first_block, first_region, StandsFor}
+use Rattle.ir_trees.specs.Searched.{Lists, heads_in}
+use Rattle.ir_trees.specs.Stands.{by_handle, in_program, ProgramHead, Handles, head_of, AreTree, no_operations, no_blocks, no_regions, first_operation, first_block, first_region}
 use Rattle.ir_trees.specs.Trees.{Sort, Operations, Blocks, Regions, Tree}
-use Rattle.ir_trees.proofs.Members.{Has, at_has, has_at, has_either, has_made}
+use Rattle.ir_trees.proofs.Members.{Has, has_at, has_either}
 use Rattle.opt_trees.specs.Dialect.{Dialect}
 use Rattle.opt_inside.specs.Outside.{KeepsOutside}
 use Rattle.opt_inside.proofs.Around.{HasLists, around_operation}
-use Rattle.opt_decide.specs.Phase.{IsUndecided, HasDecided, maps_of}
+use Rattle.opt_decide.specs.Phase.{IsUndecided, HasDecided}
 use Rattle.opt_decide.specs.Planned.{AreDecisions}
 use Rattle.opt_decide.specs.Replaced.{along}
 use Rattle.opt_decide.specs.declared.plan.Decision.{Decision}
 use Rattle.opt_decide.proofs.Carried.{among_or_not, bare_branch, both_true}
 use Rattle.opt_decide.proofs.Folded.{same_some}
 
-not_none : {X : Type 0} (o : Option X) → IsSome o → o ≡ None → ⊥
+pub not_none : {X : Type 0} (o : Option X) → IsSome o → o ≡ None → ⊥
 not_none None h e = cc
 not_none (Some x) h e = cc
 
@@ -30,7 +29,7 @@ map_on f [] same = refl
 map_on f (x ∷ xs) same = let e = same x (inl refl) in let s = map_on f xs (λ y h. same y (inr h)) in λ i. e i ∷ s i
 
 -- the operations that a tree is of are there
-heads_there : {O B : Type 0} (c : Program O B) (s : Sort) (hs : Handles s) (t : Tree by_handle (in_program O B) s) → AreTree c s hs t
+pub heads_there : {O B : Type 0} (c : Program O B) (s : Sort) (hs : Handles s) (t : Tree by_handle (in_program O B) s) → AreTree c s hs t
     → (h : ProgramHead O B) → Has h (heads_in t) → IsSome (operation_at c h.name)
 heads_there c _ _ _ no_operations h has = absurd has
 heads_there c _ _ _ no_blocks h has = absurd has
@@ -106,21 +105,6 @@ module _ {O B A : Type 0} (d : Dialect (in_program O B) A) (old new : Program O 
       (λ neither. sym (has.same p none) ∙ e ∙ has.same q neither)
       (among_or_not ds q))
       (among_or_not ds p)
-
-  name_there : (t : ProgramTree O B) → StandsFor old op t → (p : Ptr Operation) → Lists (operation_names t) p → IsSome (operation_at old p)
-  name_there t s p l =
-      let g = has_made (λ (h : ProgramHead O B). h.name) (heads_of t) p (at_has (operation_names t) l.0 p l.1) in
-      subst (λ z. IsSome (operation_at old z)) (sym g.2) (⊎_elim
-      (λ (e : g.0 ≡ t.head). subst (λ (z : ProgramHead O B). IsSome (operation_at old z.name)) (sym (e ∙ s.head)) (subst IsSome (sym s.there) refl))
-      (λ more. heads_there old Regions s.view.regions t.regions s.regions g.0 more)
-      g.1)
-
-  pub names_apart : (t : ProgramTree O B) → StandsFor old op t → IsOneToOne (maps_of has.names) t
-  names_apart t s = record {
-    operations = λ p q l m e. apart p q (name_there t s p l) (name_there t s q m) e;
-    blocks = λ x y l m e. e;
-    values = λ x y l m e. e;
-  }
 
   module _ (lists : HasLists old) where
     in_kept : (b : Ptr BasicBlock) (v : BlockView B) → (StandsInside old (OperationNode op) (BlockNode b) → ⊥) → block_at old b ≡ Some v → (p : Ptr Operation) → Has p v.operations → has.names p ≡ p

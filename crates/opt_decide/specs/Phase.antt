@@ -1,7 +1,9 @@
 -- Decisions that are carried out one after the other.
-use Rattle.std.specs.Prelude.{◌≡◌, ◌≢◌, ◌↔◌, ◌⊎◌, ℕ, List, [], map, Some, None, option_map, take}
+use Rattle.std.specs.Prelude.{◌≡◌, ◌≢◌, ◌↔◌, ◌⊎◌, ℕ, List, [], map, Some, None, IsSome, option_map, take}
 use Rattle.ir_program.specs.Erased.{IsGone}
+use Rattle.ir_program.specs.Lists.{StandsInside, IsLiveNode}
 use Rattle.ir_program.specs.Program.{Program, OperationView, BlockView, operation_at, block_at, region_at}
+use Rattle.ir_program.specs.declared.handles.IRNode.{IRNode}
 use Rattle.ir_program.specs.declared.handles.IRNode.TheVariants.{Operation as OperationNode}
 use Rattle.ir_program.specs.declared.handles.Ptr.{Ptr}
 use Rattle.ir_program.specs.declared.handles.Operation.{Operation}
@@ -73,19 +75,28 @@ pub record CarriesOutPart {O B A : Type 0} (d : Dialect (in_program O B) A) (old
   pub are : AreSomeDecisions d old op decisions
   pub decided : HasDecided d old new decisions
 
--- the branches that their operands decide are unconditional ones, under handles that led nowhere; all else keeps its
--- handle
+-- what is inside the operation was so, unless it is new
+abbrev pub BringsNoneInside : {O B : Type 0} → Program O B → Program O B → Ptr Operation → Type 0
+BringsNoneInside old new op = (e : IRNode) → IsLiveNode old e
+    → StandsInside new (OperationNode op) e → StandsInside old (OperationNode op) e
+
+-- the branches that their operands decide are unconditional ones: the handle of each and one that led nowhere change
+-- places, and all else keeps its handle
 pub record DecidesBranches {O B A : Type 0} (d : Dialect (in_program O B) A) (old new : Program O B)
     (op : Ptr Operation) (t : ProgramTree O B) : Type 0 where
   pub around : Around by_handle A
   pub says : SaysAround d old op around
   pub names : Maps by_handle by_handle
-  pub operations : (p : Ptr Operation) → (names.operation p ≡ p) ⊎ (operation_at old (names.operation p) ≡ None)
+  pub operations : (p : Ptr Operation) → IsSome (operation_at old p)
+      → (names.operation p ≡ p) ⊎ (operation_at old (names.operation p) ≡ None)
+  pub twice : (p : Ptr Operation) → names.operation (names.operation p) ≡ p
+  pub root : names.operation op ≡ op
   pub blocks : (b : Ptr BasicBlock) → names.block b ≡ b
   pub values : (v : Value) → names.value v ≡ v
   pub one_to_one : IsOneToOne names t
   pub stands : StandsFor new op (rename_root names (decided d around t))
   pub outside : KeepsOutside old new op
+  pub inside : BringsNoneInside old new op
 
 -- no branch below the root is decided: deciding leaves its tree as it is
 abbrev pub HasNoneDecided : {O B A : Type 0} → Dialect (in_program O B) A → Program O B → Ptr Operation → Type 0

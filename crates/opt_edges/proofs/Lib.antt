@@ -1,8 +1,9 @@
 pub mod Partway
 pub mod Terminators
 pub mod Users
-pub mod Below
-pub mod Checked
+pub mod Staying
 pub mod Picked
 pub mod Above
+pub mod SeenUnder
 pub mod EachUnder
+pub mod Fitting

@@ -12,8 +12,10 @@ ghost use Rattle.opt_inside.specs.Edges.{HasLocalEdgesBelow};
 ghost use Rattle.opt_inside.specs.Occurring.{IsBelowRoot, IsBlockBelow};
 ghost use Rattle.opt_edges.specs.Local.{AreSiblings, HasLocalEdgesAt, IsLocalEdge};
 
+use crate::under::has_local_edges_from;
 use ir_program::{BasicBlock, IRNode, Operation, Program, Ptr};
 use opt_dialect::Meanings;
+use opt_reach::{Start, know_edges_under};
 
 /// Whether two blocks are in one region.
 fn are_siblings<O, B>(
@@ -106,14 +108,6 @@ pub fn has_local_edges_below<D: Meanings>(
     // So what is below leads to blocks below.
     ensures leads { IsTrue result → (p : Ptr Operation) (s : Ptr BasicBlock) → IsBelowRoot program.now op p → Lists (successors_at program.now p) s → IsBlockBelow program.now op s }
 {
-    program.know_lists();
-    let mut nodes = program.nodes_inside(IRNode::Operation(op));
-    // The first one is the operation itself, whose own edges may lead out.
-    let _root = nodes.next();
-    for node in nodes {
-        if !has_local_edges_at::<D>(program, node) {
-            return false;
-        }
-    }
-    true
+    know_edges_under::<D>(program, op);
+    has_local_edges_from::<D>(program, Start::Operation(op))
 }

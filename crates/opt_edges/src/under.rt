@@ -13,7 +13,7 @@ use opt_dialect::Meanings;
 use opt_reach::Start;
 
 /// The operation, the block or the region where looking begins, if it is there.
-fn start_node<O, B>(program: &Program<O, B>, start: Start) -> Option<IRNode>
+pub(crate) fn start_node<O, B>(program: &Program<O, B>, start: Start) -> Option<IRNode>
     ensures there { IfSome result (λ node. IsStartNode program.now start node) }
     ensures nowhere { result ≡ None → (e : IRNode) → IsNodeUnder program.now start e → ⊥ }
 {
@@ -41,7 +41,7 @@ fn is_in_block<O, B>(program: &Program<O, B>, op: Ptr<Operation>, block: Ptr<Bas
 }
 
 /// Whether something holds regions where looking begins, and isn't in one.
-fn is_above<O, B>(program: &Program<O, B>, start: Start, node: IRNode) -> bool
+pub(crate) fn is_above<O, B>(program: &Program<O, B>, start: Start, node: IRNode) -> bool
     requires { IsLiveNode program.now node }
     ensures { IsTrue result ↔ IsAbove program.now start node }
 {

@@ -1,17 +1,18 @@
--- Edges that are local, or fit, below an operation are so under a place of this operation.
-use Rattle.std.proofs.Common.{◌≡◌, ◌⊎◌, inl, inr, ⊎_elim, Bool, refl, subst}
+-- Edges are local, or fit, below an operation exactly where they are so under a place of this operation.
+use Rattle.std.proofs.Common.{◌≡◌, ◌⊎◌, ◌↔◌, inl, inr, ⊎_elim, Bool, refl, subst}
 use Rattle.ir_program.specs.Program.{Program}
 use Rattle.ir_program.specs.Lists.{StandsInOperation, StandsInside, itself, in_block, in_region, in_operation}
 use Rattle.ir_program.specs.declared.handles.IRNode.{IRNode}
 use Rattle.ir_program.specs.declared.handles.IRNode.TheVariants.{Operation as OperationNode, Region as RegionNode, BasicBlock as BlockNode}
 use Rattle.ir_program.specs.declared.handles.Ptr.{Ptr}
 use Rattle.ir_program.specs.declared.handles.Operation.{Operation}
+use Rattle.ir_program.specs.declared.handles.BasicBlock.{BasicBlock}
 use Rattle.ir_trees.specs.Stands.{in_program}
 use Rattle.opt_trees.specs.Dialect.{Dialect}
 use Rattle.opt_inside.specs.Edges.{HasLocalEdgesBelow, FitsEdgesBelow}
-use Rattle.opt_inside.specs.Occurring.{IsBelowRoot}
+use Rattle.opt_inside.specs.Occurring.{IsBelowRoot, IsBlockBelow}
 use Rattle.opt_inside.proofs.Around.{HasLists, inside_both}
-use Rattle.opt_reach.specs.Edges.{IsNodeUnder, IsUnder, HasLocalEdgesFrom, FitsEdgesFrom}
+use Rattle.opt_reach.specs.Edges.{IsNodeUnder, IsUnder, IsBlockUnder, HasLocalEdgesFrom, FitsEdgesFrom}
 use Rattle.opt_reach.specs.declared.starts.Start.TheVariants.{Operation as AtOperation}
 use Rattle.opt_reach.proofs.Occurs.{below_block}
 use Rattle.opt_reach.proofs.Under.{under_home, block_under}
@@ -51,13 +52,24 @@ module _ {O B : Type 0} (c : Program O B) (op : Ptr Operation) where
         (λ u. u)
         (root_or_under (OperationNode p) b.inside)
 
-    pub local_from_below : (is_terminator : O → Bool) → HasLocalEdgesBelow is_terminator c op → HasLocalEdgesFrom is_terminator c (AtOperation op)
-    local_from_below is_terminator edges = record {
-      leaving = λ p s b r u. edges.leaving p s b r (under_below p u);
-      entering = λ p s l u. below_under p (edges.entering p s l (under_inside (BlockNode s) u));
-      last = λ p s b k u. edges.last p s b k (under_below p u);
-      terminators = λ p s v u. edges.terminators p s v (under_below p u);
-    }
+    block_below_under : (s : Ptr BasicBlock) → IsBlockBelow c op s → IsBlockUnder c (AtOperation op) s
+    block_below_under s i = ⊎_elim (λ (e : BlockNode s ≡ OperationNode op). cc) (λ u. u) (root_or_under (BlockNode s) i)
 
-    pub fits_from_below : {A : Type 0} (d : Dialect (in_program O B) A) → FitsEdgesBelow d c op → FitsEdgesFrom d c (AtOperation op)
-    fits_from_below d fits p v i b u = fits p v i b (under_below p u)
+    pub local_from_below : (is_terminator : O → Bool) → HasLocalEdgesBelow is_terminator c op ↔ HasLocalEdgesFrom is_terminator c (AtOperation op)
+    local_from_below is_terminator = (
+      λ edges. record {
+        leaving = λ p s b r u. edges.leaving p s b r (under_below p u);
+        entering = λ p s l u. below_under p (edges.entering p s l (under_inside (BlockNode s) u));
+        last = λ p s b k u edge. edges.last p s b k (under_below p u) edge;
+        terminators = λ p s v u. edges.terminators p s v (under_below p u);
+      },
+      λ edges. record {
+        leaving = λ p s b r u. edges.leaving p s b r (below_under p u);
+        entering = λ p s l u. under_below p (edges.entering p s l (block_below_under s u));
+        last = λ p s b k u edge. edges.last p s b k (below_under p u) edge;
+        terminators = λ p s v u. edges.terminators p s v (below_under p u);
+      },
+    )
+
+    pub fits_from_below : {A : Type 0} (d : Dialect (in_program O B) A) → FitsEdgesBelow d c op ↔ FitsEdgesFrom d c (AtOperation op)
+    fits_from_below d = (λ fits p v i b u. fits p v i b (under_below p u), λ fits p v i b u. fits p v i b (below_under p u))

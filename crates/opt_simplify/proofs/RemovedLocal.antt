@@ -21,6 +21,7 @@ use Rattle.opt_reach.specs.Edges.{IsNodeUnder, HasLocalEdgesFrom, FitsEdgesFrom}
 use Rattle.opt_reach.specs.Starts.{BeginsAtRegion}
 use Rattle.opt_reach.specs.declared.starts.Start.{Start}
 use Rattle.opt_reach.specs.declared.starts.Start.TheVariants.{Operation as AtOperation, Block as AtBlock, Region as AtRegion}
+use Rattle.opt_simplify.specs.Phases.{KeepsEdges}
 use Rattle.opt_simplify.specs.Removed.{without, IsWithin, ErasesPicked}
 use Rattle.opt_simplify.proofs.RemovedErased.{was_there, is_left, live_outside, still_live, blocks_were, operations_were, regions_were, was_inside, is_inside, successors_were}
 use Rattle.opt_simplify.proofs.RemovedPicking.{not_true}
@@ -160,3 +161,15 @@ module _ {O B : Type 0} (old new : Program O B) (lists : HasLists old) (op : Ptr
         let edge : slice_get (successors_at old p) i ≡ Some b = ap (λ o. slice_get (unwrap_or (option_map (λ (w : OperationView O). w.successors) o) []) i) was ∙ at in
         fits p v i b (was_under (OperationNode p) u) was branch at
         ∙ ap (λ o. length (unwrap_or (option_map (λ (w : BlockView B). w.arguments) o) [])) (sym (done.blocks b (λ w. out (named p i b edge w))))
+
+    pub edges_kept : {A : Type 0} (d : Dialect (in_program O B) A) → HasLocalEdgesFrom d.is_terminator old start → KeepsEdges d old new op start
+    edges_kept d edges = record {
+      local_under = still_local_under d.is_terminator edges;
+      local_below = still_local d.is_terminator;
+      fits_under = still_fits_under d;
+      fits_below = still_fits d;
+    }
+
+-- so they are where nothing has changed
+pub edges_alike : {O B A : Type 0} (d : Dialect (in_program O B) A) (c : Program O B) (op : Ptr Operation) (start : Start) → HasLocalEdgesFrom d.is_terminator c start → KeepsEdges d c c op start
+edges_alike d c op start edges = record { local_under = edges; local_below = λ h. h; fits_under = λ h. h; fits_below = λ h. h }

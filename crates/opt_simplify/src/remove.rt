@@ -7,13 +7,12 @@ ghost use Rattle.ir_trees.specs.Searched.{AreDistinct, Lists};
 ghost use Rattle.ir_trees.specs.Stands.{ProgramTree, StandsFor, by_handle};
 ghost use Rattle.opt_dialect.specs.declared.status.IRStatus.TheVariants.{Unchanged};
 ghost use Rattle.opt_dialect.specs.declared.status.OptError.TheVariants.{LiveUse, Memory};
-ghost use Rattle.opt_inside.specs.Edges.{FitsEdgesBelow, HasLocalEdgesBelow};
 ghost use Rattle.opt_inside.specs.Numbered.{NumbersInside, numbers_of};
-ghost use Rattle.opt_reach.specs.Edges.{FitsEdgesFrom, HasLocalEdgesFrom};
+ghost use Rattle.opt_reach.specs.Edges.{HasLocalEdgesFrom};
 ghost use Rattle.opt_reach.specs.Fates.{HasReachTest};
 ghost use Rattle.opt_reach.specs.Starts.{IsStartIn};
 ghost use Rattle.opt_trees.specs.Simplify.{IsUnreached, Place};
-ghost use Rattle.opt_simplify.specs.Phases.{RemovesBlocks};
+ghost use Rattle.opt_simplify.specs.Phases.{KeepsEdges, RemovesBlocks};
 ghost use Rattle.opt_simplify.specs.Refusals.{AreUnreached, HasNoneUnreached, LosesNone, LosesUses};
 ghost use Rattle.opt_simplify.specs.Removed.{DecidesWithin, TakesWithin, is_listed};
 
@@ -119,11 +118,7 @@ pub fn remove_unreached<D: OptDialect, T: TypeTable>(
     ensures accepted { IfOk result (λ status. LosesNone D.meaning ctx.old.program op start) }
     ensures refused { IfErr result (λ error. (error ≡ Memory)
         ⊎ ((error ≡ LiveUse) × LosesUses D.meaning ctx.old.program op start)) }
-    ensures local { IfOk result (λ status. HasLocalEdgesBelow D.meaning.is_terminator ctx.old.program op
-        → HasLocalEdgesBelow D.meaning.is_terminator ctx.new.program op) }
-    ensures fits { IfOk result (λ status. FitsEdgesBelow D.meaning ctx.old.program op → FitsEdgesBelow D.meaning ctx.new.program op) }
-    ensures local_under { IfOk result (λ status. HasLocalEdgesFrom D.meaning.is_terminator ctx.new.program start) }
-    ensures fits_under { IfOk result (λ status. FitsEdgesFrom D.meaning ctx.old.program start → FitsEdgesFrom D.meaning ctx.new.program start) }
+    ensures edges { OnOk result (KeepsEdges D.meaning ctx.old.program ctx.new.program op start) }
     ensures types { ctx.new.types ≡ ctx.old.types }
     ensures kept { OnErr result (ctx.new ≡ ctx.old) }
 {

@@ -1,6 +1,6 @@
 //! Constant propagation.
 use crate::playing::{Pass, after, program_of};
-use opt_dialect::{IRStatus, OptError};
+use ir_opts::{IRStatus, OptError};
 use std::test::Fail;
 
 const OWN_OPERAND: &str = "box {

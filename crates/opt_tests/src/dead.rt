@@ -1,6 +1,6 @@
 //! Dead code elimination.
 use crate::playing::{Pass, after, program_of};
-use opt_dialect::IRStatus;
+use ir_opts::IRStatus;
 use opt_tiny::Unread;
 use std::alloc::{AllocError, Global};
 use std::test::Fail;

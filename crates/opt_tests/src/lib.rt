@@ -1,5 +1,5 @@
-//! Tests of the three optimisations on programs of a small dialect: that calls succeed where memory is ample, and worked
-//! examples of what they make.
+//! Tests of the optimisations on programs of a small dialect: that calls succeed where memory is ample, and worked examples
+//! of what they make.
 #![tactic(auto)]
 
 #[cfg(test)]
@@ -7,6 +7,12 @@ mod constants;
 #[cfg(test)]
 mod dead;
 #[cfg(test)]
-mod playing;
+mod flow;
 #[cfg(test)]
-mod unreached;
+mod little;
+#[cfg(test)]
+mod phases;
+#[cfg(test)]
+mod places;
+#[cfg(test)]
+mod playing;

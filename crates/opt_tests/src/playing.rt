@@ -1,31 +1,37 @@
 //! What the optimisations make of texts.
-use ir_context::OperationCalls;
+use crate::places::{Place, start_at, test_below, test_block, test_op, test_region};
+use ir_opts::{
+    IRStatus, OptError, Rewriter, Start, dce, merge_inside_block, merge_inside_op,
+    merge_inside_region, remove_blocks_inside_block, remove_blocks_inside_op,
+    remove_blocks_inside_region, sccp, simplify_cfg,
+};
 use ir_program::{Operation, Ptr};
-use opt_dce::dce;
-use opt_dialect::{IRStatus, OptError};
-use opt_edges::has_local_edges_below;
-use opt_reach::{Start, know_edges_under};
-use opt_sccp::sccp;
-use opt_simplify::remove_unreached;
 use opt_tiny::{OneType, Tiny, Tree, Unread, read, written};
 use std::alloc::{AllocError, Global};
 
 /// An optimisation.
-#[derive(Clone, Copy, Debug, PartialEq, Eq)]
+#[derive(Clone, Copy)]
 pub enum Pass {
     /// Constant propagation.
     Sccp,
     /// Dead code elimination.
     Dce,
-    /// Removal of blocks that no path reaches.
-    RemoveUnreached,
+    /// Simplification of control flow.
+    SimplifyCfg,
+    /// Removal of blocks that no path reaches, from a place on.
+    RemoveBlocks(Place),
+    /// Joining of chains of blocks, from a place on.
+    Merge(Place),
 }
+
+/// What an optimisation answers.
+pub type Answer = Result<IRStatus, OptError>;
 
 /// What an optimisation answered, and the program afterwards.
 #[derive(Drop)]
 pub struct Played {
     /// Its answer.
-    pub answer: Result<IRStatus, OptError>,
+    pub answer: Answer,
     /// The program, as `written` writes it.
     pub text: String,
 }
@@ -37,24 +43,59 @@ pub fn program_of(alloc: Global, text: &str) -> Result<String, Unread> {
     Ok(written(alloc, &ctx, op)?)
 }
 
+/// Removes blocks that no path reaches, from a place on.
+fn remove_blocks(alloc: Global, start: Start, ctx: &mut Tree) -> Result<Answer, Unread> {
+    let mut rewriter = Rewriter::new();
+    Ok(match start {
+        Start::Operation(op) => {
+            test_op(alloc, ctx, op)?;
+            remove_blocks_inside_op::<Tiny, OneType>(alloc, op, ctx, &mut rewriter)
+        }
+        Start::Block(block) => {
+            test_block(alloc, ctx, block)?;
+            remove_blocks_inside_block::<Tiny, OneType>(alloc, block, ctx, &mut rewriter)
+        }
+        Start::Region(region) => {
+            test_region(alloc, ctx, region)?;
+            remove_blocks_inside_region::<Tiny, OneType>(alloc, region, ctx, &mut rewriter)
+        }
+    })
+}
+
+/// Joins chains of blocks, from a place on.
+fn merge(alloc: Global, start: Start, ctx: &mut Tree) -> Result<Answer, Unread> {
+    let mut rewriter = Rewriter::new();
+    Ok(match start {
+        Start::Operation(op) => {
+            test_op(alloc, ctx, op)?;
+            merge_inside_op::<Tiny, OneType>(alloc, op, ctx, &mut rewriter)
+        }
+        Start::Block(block) => {
+            test_block(alloc, ctx, block)?;
+            merge_inside_block::<Tiny, OneType>(alloc, block, ctx, &mut rewriter)
+        }
+        Start::Region(region) => {
+            test_region(alloc, ctx, region)?;
+            merge_inside_region::<Tiny, OneType>(alloc, region, ctx, &mut rewriter)
+        }
+    })
+}
+
 /// Runs an optimisation where its conditions hold.
-fn run(
-    alloc: Global,
-    pass: Pass,
-    ctx: &mut Tree,
-    op: Ptr<Operation>,
-) -> Result<Result<IRStatus, OptError>, Unread> {
-    if !op.is_live(ctx) || !has_local_edges_below::<Tiny>(ctx.program(), op) {
-        return Err(Unread::Text);
-    }
+fn run(alloc: Global, pass: Pass, ctx: &mut Tree, op: Ptr<Operation>) -> Result<Answer, Unread> {
+    test_below::<Tiny>(alloc, ctx, op)?;
     match pass {
         Pass::Sccp => Ok(sccp::<Tiny, OneType>(alloc, op, ctx)),
         Pass::Dce => Ok(dce::<Tiny, OneType>(alloc, op, ctx)),
-        Pass::RemoveUnreached => {
-            know_edges_under::<Tiny>(ctx.program(), op);
-            let start = Start::Operation(op);
-            Ok(remove_unreached::<Tiny, OneType>(alloc, op, start, ctx))
-        },
+        Pass::SimplifyCfg => Ok(simplify_cfg::<Tiny, OneType>(alloc, op, ctx)),
+        Pass::RemoveBlocks(place) => {
+            let start = start_at(ctx, op, place)?;
+            remove_blocks(alloc, start, ctx)
+        }
+        Pass::Merge(place) => {
+            let start = start_at(ctx, op, place)?;
+            merge(alloc, start, ctx)
+        }
     }
 }
 

@@ -1,2 +1,4 @@
 pub mod Meaning
 pub mod Lawful
+pub mod Sparse
+pub mod Lone

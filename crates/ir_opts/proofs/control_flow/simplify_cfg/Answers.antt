@@ -1,11 +1,12 @@
 -- The phases one after the other.
-use Rattle.std.proofs.Common.{Ok, ap, ◌∙◌, subst}
+use Rattle.std.proofs.Common.{◌↔◌, Ok, ap, ◌∙◌, subst}
 use Rattle.ir_trees.specs.Stands.{ProgramTree, StandsFor}
 use Rattle.opt_dialect.specs.Statuses.{either}
 use Rattle.opt_inside.specs.Edges.{FitsEdgesBelow, HasLocalEdgesBelow}
 use Rattle.opt_reach.specs.Edges.{FitsEdgesFrom, HasLocalEdgesFrom}
 use Rattle.opt_reach.specs.declared.starts.Start.TheVariants.{Operation as AtOperation}
 use Rattle.ir_opts.proofs.ThreePhases.{is_there, begins, nothing_done, removing_stops, joining_stops}
+use Rattle.ir_opts.proofs.WholeTrees.{tree_simplified}
 use Rattle.ir_opts.proofs.control_flow.simplify_cfg.Goals as goal
 
 pub remove_unreached-requires-clause-live : goal.remove_unreached-requires-clause-live
@@ -20,9 +21,9 @@ remove_unreached-requires-clause-live g c =
 pub remove_unreached-requires-clause-edges : goal.remove_unreached-requires-clause-edges
 remove_unreached-requires-clause-edges g c =
     let t = g.D.Meanings.meaning.is_terminator in
-    let under = subst (λ p. HasLocalEdgesBelow t p c.args.op → HasLocalEdgesFrom t p (AtOperation c.args.op))
+    let under = subst (λ p. HasLocalEdgesBelow t p c.args.op ↔ HasLocalEdgesFrom t p (AtOperation c.args.op))
     c.program-2.ensures c.know_edges_under.ensures.local in
-    under (c.in_ok-status.ensures.local c.requires.edges)
+    under.0 (c.in_ok-status.ensures.local c.requires.edges)
 
 pub returns-in_err-remove_unreached-clause-error : goal.returns-in_err-remove_unreached-clause-error
 returns-in_err-remove_unreached-clause-error g c =
@@ -44,14 +45,14 @@ merge_chains-requires-clause-live g c =
     is_there cut op second.after second.stands
 
 pub merge_chains-requires-clause-edges : goal.merge_chains-requires-clause-edges
-merge_chains-requires-clause-edges g c = c.in_ok-remove_unreached.ensures.local_under
+merge_chains-requires-clause-edges g c = c.in_ok-remove_unreached.ensures.edges.local_under
 
 pub merge_chains-requires-clause-fits : goal.merge_chains-requires-clause-fits
 merge_chains-requires-clause-fits g c =
     let d = g.D.Meanings.meaning in
-    let under = subst (λ p. FitsEdgesBelow d p c.args.op → FitsEdgesFrom d p (AtOperation c.args.op))
+    let under = subst (λ p. FitsEdgesBelow d p c.args.op ↔ FitsEdgesFrom d p (AtOperation c.args.op))
     c.program-2.ensures c.know_edges_under.ensures.fits in
-    c.in_ok-remove_unreached.ensures.fits_under (under (c.in_ok-status.ensures.fits c.requires.fits))
+    c.in_ok-remove_unreached.ensures.edges.fits_under (under.0 (c.in_ok-status.ensures.fits c.requires.fits))
 
 pub returns-in_err-merge_chains-clause-error : goal.returns-in_err-merge_chains-clause-error
 returns-in_err-merge_chains-clause-error g c =
@@ -87,3 +88,8 @@ returns-clause-unchanged g c =
     c.in_ok-remove_unreached.ensures.unchanged (λ e. ap (λ x. x.program) (c.in_ok-remove_unreached.ensures.same e))
     c.in_ok-merge_chains.ensures.unchanged
     (c.bitor_assign-2.ensures ∙ ap (λ s. either s c.in_ok-merge_chains.field-0) c.bitor_assign.ensures)
+
+pub returns-clause-tree : goal.returns-clause-tree
+returns-clause-tree g c =
+    tree_simplified g.D.Meanings.meaning c.args.ctx.now.program c.merge_chains.new.ctx.program c.args.op
+    (returns-clause-simplified g c)

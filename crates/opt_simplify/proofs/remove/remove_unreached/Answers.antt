@@ -12,7 +12,7 @@ use Rattle.opt_reach.specs.Starts.{IsStartIn}
 use Rattle.opt_simplify.specs.Refusals.{AreUnreached, LosesNone, LosesUses}
 use Rattle.opt_simplify.specs.Removed.{is_listed, ArePickedApart, NamesWithin, ErasesPicked, TakesWithin}
 use Rattle.opt_simplify.proofs.RemovedEnds.{unchanged_removed, none_unreached, some_unreached, all_removed, emptied, not_emptied}
-use Rattle.opt_simplify.proofs.RemovedLocal.{still_local, still_fits, still_local_under, still_fits_under}
+use Rattle.opt_simplify.proofs.RemovedLocal.{edges_alike, edges_kept}
 use Rattle.opt_simplify.proofs.remove.remove_unreached.Goals as goal
 
 pub returns-then-is_empty-clause-removed : goal.returns-then-is_empty-clause-removed
@@ -77,34 +77,18 @@ returns-then-is_empty-clause-accepted g c = subst (λ p. LosesNone g.D.Meanings.
 pub returns-clause-accepted : goal.returns-clause-accepted
 returns-clause-accepted g c = subst (λ p. LosesNone g.D.Meanings.meaning p c.args.op c.args.start) c.program-4.ensures (c.in_ok-unreached.ensures.not_taken c.if-unreached.false)
 
-pub returns-clause-local : goal.returns-clause-local
-returns-clause-local g c =
-    let lists_2 : HasLists c.program-2.result.now = assumption c.know_lists.ensures in
-    let lists : HasLists c.args.ctx.now.program = subst HasLists c.program-2.ensures lists_2 in
-    let all : AreUnreached g.D.Meanings.meaning c.args.ctx.now.program c.args.op c.args.start c.in_ok-unreached.unreached.blocks.items = subst (λ p. AreUnreached g.D.Meanings.meaning p c.args.op c.args.start c.in_ok-unreached.unreached.blocks.items) c.program-4.ensures c.in_ok-unreached.ensures.found in
-    still_local c.args.ctx.now.program c.remove_blocks.new.ctx.program lists c.args.op (is_listed c.in_ok-unreached.unreached.blocks.items)
-    (subst (λ (bs : List (Ptr BasicBlock)). ErasesPicked c.args.ctx.now.program c.remove_blocks.new.ctx.program (is_listed bs)) c.deref.ensures.value c.remove_blocks.ensures.removed) all.edges g.D.Meanings.meaning.is_terminator
+pub returns-then-not-has_start-clause-edges : goal.returns-then-not-has_start-clause-edges
+returns-then-not-has_start-clause-edges g c =
+    edges_alike g.D.Meanings.meaning c.args.ctx.now.program c.args.op c.args.start c.requires.edges
 
-pub returns-clause-fits : goal.returns-clause-fits
-returns-clause-fits g c =
-    let lists_2 : HasLists c.program-2.result.now = assumption c.know_lists.ensures in
-    let lists : HasLists c.args.ctx.now.program = subst HasLists c.program-2.ensures lists_2 in
-    let all : AreUnreached g.D.Meanings.meaning c.args.ctx.now.program c.args.op c.args.start c.in_ok-unreached.unreached.blocks.items = subst (λ p. AreUnreached g.D.Meanings.meaning p c.args.op c.args.start c.in_ok-unreached.unreached.blocks.items) c.program-4.ensures c.in_ok-unreached.ensures.found in
-    still_fits c.args.ctx.now.program c.remove_blocks.new.ctx.program lists c.args.op (is_listed c.in_ok-unreached.unreached.blocks.items)
-    (subst (λ (bs : List (Ptr BasicBlock)). ErasesPicked c.args.ctx.now.program c.remove_blocks.new.ctx.program (is_listed bs)) c.deref.ensures.value c.remove_blocks.ensures.removed) all.edges g.D.Meanings.meaning
+pub returns-then-is_empty-clause-edges : goal.returns-then-is_empty-clause-edges
+returns-then-is_empty-clause-edges g c =
+    edges_alike g.D.Meanings.meaning c.args.ctx.now.program c.args.op c.args.start c.requires.edges
 
-pub returns-clause-local_under : goal.returns-clause-local_under
-returns-clause-local_under g c =
+pub returns-clause-edges : goal.returns-clause-edges
+returns-clause-edges g c =
     let lists_2 : HasLists c.program-2.result.now = assumption c.know_lists.ensures in
     let lists : HasLists c.args.ctx.now.program = subst HasLists c.program-2.ensures lists_2 in
     let all : AreUnreached g.D.Meanings.meaning c.args.ctx.now.program c.args.op c.args.start c.in_ok-unreached.unreached.blocks.items = subst (λ p. AreUnreached g.D.Meanings.meaning p c.args.op c.args.start c.in_ok-unreached.unreached.blocks.items) c.program-4.ensures c.in_ok-unreached.ensures.found in
-    still_local_under c.args.ctx.now.program c.remove_blocks.new.ctx.program lists c.args.op (is_listed c.in_ok-unreached.unreached.blocks.items)
-    (subst (λ (bs : List (Ptr BasicBlock)). ErasesPicked c.args.ctx.now.program c.remove_blocks.new.ctx.program (is_listed bs)) c.deref.ensures.value c.remove_blocks.ensures.removed) all.edges c.args.start g.D.Meanings.meaning.is_terminator c.requires.edges
-
-pub returns-clause-fits_under : goal.returns-clause-fits_under
-returns-clause-fits_under g c =
-    let lists_2 : HasLists c.program-2.result.now = assumption c.know_lists.ensures in
-    let lists : HasLists c.args.ctx.now.program = subst HasLists c.program-2.ensures lists_2 in
-    let all : AreUnreached g.D.Meanings.meaning c.args.ctx.now.program c.args.op c.args.start c.in_ok-unreached.unreached.blocks.items = subst (λ p. AreUnreached g.D.Meanings.meaning p c.args.op c.args.start c.in_ok-unreached.unreached.blocks.items) c.program-4.ensures c.in_ok-unreached.ensures.found in
-    still_fits_under c.args.ctx.now.program c.remove_blocks.new.ctx.program lists c.args.op (is_listed c.in_ok-unreached.unreached.blocks.items)
-    (subst (λ (bs : List (Ptr BasicBlock)). ErasesPicked c.args.ctx.now.program c.remove_blocks.new.ctx.program (is_listed bs)) c.deref.ensures.value c.remove_blocks.ensures.removed) all.edges c.args.start g.D.Meanings.meaning
+    edges_kept c.args.ctx.now.program c.remove_blocks.new.ctx.program lists c.args.op (is_listed c.in_ok-unreached.unreached.blocks.items)
+    (subst (λ (bs : List (Ptr BasicBlock)). ErasesPicked c.args.ctx.now.program c.remove_blocks.new.ctx.program (is_listed bs)) c.deref.ensures.value c.remove_blocks.ensures.removed) all.edges c.args.start g.D.Meanings.meaning c.requires.edges

@@ -1,0 +1,109 @@
+//! The optimisations of dialects that give them little to go by.
+use crate::places::test_below;
+use crate::playing::{Answer, Pass, Played, program_of};
+use ir_context::TypedProgram;
+use ir_opts::{IRStatus, dce, sccp, simplify_cfg};
+use ir_program::{Operation, Ptr};
+use opt_tiny::{Bare, Lone, OneType, Sparse, Tree, Unread, read, written};
+use std::alloc::Global;
+use std::test::Fail;
+
+/// The condition of the branch is a constant, but nothing folds, and there is no other branch to put in its place; in the
+/// graph region blocks are neither removed nor joined, and a graph region may have no block.
+const LITTLE: &str = "box {
+^a p
+c = const 1
+cond c ^b ^d p
+^b
+x = id c
+use x
+ret
+^d z
+pure {
+^i
+u = id v
+v = id u
+br ^j
+^j
+use u
+ret
+^k
+br ^j
+}
+pure {
+}
+ret
+}";
+
+/// What is dead is so without folds, but no argument may be removed.
+const LITTLE_AFTER: &str = "box {
+^a p
+c = const 1
+cond c ^b ^d p
+^b
+x = id c
+use x
+ret
+^d z
+ret
+}";
+
+/// Runs one of the three optimisations of the dialect that says little.
+fn run(alloc: Global, pass: Pass, ctx: &mut Tree, op: Ptr<Operation>) -> Result<Answer, Unread> {
+    test_below::<Sparse>(alloc, ctx, op)?;
+    match pass {
+        Pass::Sccp => Ok(sccp::<Sparse, OneType>(alloc, op, ctx)),
+        Pass::Dce => Ok(dce::<Sparse, OneType>(alloc, op, ctx)),
+        Pass::SimplifyCfg => Ok(simplify_cfg::<Sparse, OneType>(alloc, op, ctx)),
+        Pass::RemoveBlocks(_) | Pass::Merge(_) => Err(Unread::Text),
+    }
+}
+
+/// What an optimisation of that dialect makes of the program of a text.
+fn after(alloc: Global, pass: Pass, text: &str) -> Result<Played, Unread> {
+    let mut ctx: Tree = Tree::with_types(alloc, OneType);
+    let op = read(alloc, &mut ctx, text)?;
+    let answer = run(alloc, pass, &mut ctx, op)?;
+    Ok(Played {
+        answer,
+        text: written(alloc, &ctx, op)?,
+    })
+}
+
+/// What the three optimisations answer of an operation of one kind, without a block in its region.
+fn answers_of_one_kind(alloc: Global) -> Result<[Answer; 3], Unread> {
+    let mut ctx: TypedProgram<Bare, Bare, OneType> = TypedProgram::with_types(alloc, OneType);
+    let op = ctx.new_operation(alloc, Bare, &[], &[], &[], 1)?;
+    test_below::<Lone>(alloc, &ctx, op)?;
+    let propagated = sccp::<Lone, OneType>(alloc, op, &mut ctx);
+    test_below::<Lone>(alloc, &ctx, op)?;
+    let thinned = dce::<Lone, OneType>(alloc, op, &mut ctx);
+    test_below::<Lone>(alloc, &ctx, op)?;
+    let simple = simplify_cfg::<Lone, OneType>(alloc, op, &mut ctx);
+    Ok([propagated, thinned, simple])
+}
+
+#[test]
+fn little_is_done_where_little_is_said(rt: HostRuntime) -> Result<(), Fail> {
+    let alloc = rt.alloc();
+    for (pass, status, expected) in [
+        (Pass::Sccp, IRStatus::Unchanged, LITTLE),
+        (Pass::SimplifyCfg, IRStatus::Unchanged, LITTLE),
+        (Pass::Dce, IRStatus::Changed, LITTLE_AFTER),
+    ] {
+        let played = after(alloc, pass, LITTLE)?;
+        assert_eq!(rt; played.answer, Ok(status));
+        assert_eq!(rt; played.text, program_of(alloc, expected)?);
+    }
+    Ok(())
+}
+
+#[test]
+fn one_kind_alone_stays_as_it_is(rt: HostRuntime) -> Result<(), Fail> {
+    let unchanged = Ok(IRStatus::Unchanged);
+    assert_eq!(rt;
+        answers_of_one_kind(rt.alloc())?,
+        [unchanged, unchanged, unchanged]
+    );
+    Ok(())
+}

@@ -1,0 +1,12 @@
+use Rattle.std.proofs.Common.{◌∙◌, sym, subst}
+use Rattle.opt_inside.specs.Edges.{FitsEdgesBelow}
+use Rattle.opt_reach.specs.Edges.{FitsEdgesFrom}
+use Rattle.opt_reach.specs.declared.starts.Start.TheVariants.{Operation as AtOperation}
+use Rattle.opt_tiny.specs.Meaning.{tiny}
+use Rattle.opts_bench.proofs.passes.test.Goals as goal
+
+pub returns-clause-fits : goal.returns-clause-fits
+returns-clause-fits c =
+    let fits = c.in_ok-fits_edges_from.ensures.0 c.if-not-branch.false in
+    subst (λ p. FitsEdgesBelow tiny p c.args.op) c.program-2.ensures
+    (c.know_edges_under.ensures.fits.1 (subst (λ p. FitsEdgesFrom tiny p (AtOperation c.args.op)) (c.program-3.ensures ∙ sym c.program-2.ensures) fits))
