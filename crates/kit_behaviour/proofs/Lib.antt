@@ -1,0 +1,11 @@
+pub mod Behaviour
+pub mod Numbering
+pub mod Lattice
+pub mod Propagation
+pub mod DeadCode
+pub mod ControlFlow
+pub mod FiniteLemmas
+pub mod FaceLemmas
+pub mod PassListLemmas
+pub mod WorkedExamples
+pub mod SwitchExamples

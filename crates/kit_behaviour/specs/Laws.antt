@@ -1,0 +1,220 @@
+-- The laws: what the passes do to the behaviour of programs, to the rules, and what they leave. Programs have their
+-- values named by their places, but where Name or another type is named.
+use Rattle.std.specs.Prelude.{◌≡◌, ◌≤◌, ℕ, suc, List, ◌++◌, Bool, true, Option}
+use Rattle.kit_behaviour.specs.Machine.{Fun, Program, Alike, left_in, size}
+use Rattle.kit_behaviour.specs.Facts.{Facts, Undetermined, Known, IsClosed, IsMostPrecise}
+use Rattle.kit_behaviour.specs.Scopes.{In, OpsWith, at_start}
+use Rattle.kit_behaviour.specs.Replacement.{replaced}
+use Rattle.kit_behaviour.specs.Rules.{Rules, BlocksBelow, OperationsWithin}
+use Rattle.kit_behaviour.specs.InsertedConstants.{Name, Old, Made, same_name, with_constants, use_of, InsertsKnown}
+use Rattle.kit_behaviour.specs.InsertedConstants.{FewPut}
+use Rattle.kit_behaviour.specs.ConstantPropagation.{Wants, WantsUsed, used_wanted, IsSccp, propagated, FactsKept}
+use Rattle.kit_behaviour.specs.ConstantPropagation.{with_facts, made_of}
+use Rattle.kit_behaviour.specs.KnownOperands.{NamesConstant, IsPropagated}
+use Rattle.kit_behaviour.specs.RemovedValues.{MayGo, FewGo, thinned}
+use Rattle.kit_behaviour.specs.DeadValues.{NoneDead, IsDead, IsDce}
+use Rattle.kit_behaviour.specs.DecidedBranches.{decided}
+use Rattle.kit_behaviour.specs.ForwardedArguments.{MayForward}
+use Rattle.kit_behaviour.specs.JoinedBlocks.{Joins}
+use Rattle.kit_behaviour.specs.SimplifiedBlocks.{IsSimplify, IsSimplified}
+use Rattle.kit_behaviour.specs.PassLists.{Pass, IsPass, IsAfter, Fit, IsFinite, Goal, SameFaces}
+use Rattle.kit_behaviour.specs.Renaming.{rename_fun}
+use Rattle.kit_behaviour.specs.Numbering.{place_fun}
+use Rattle.kit_behaviour.specs.Places.{Place, same_place}
+
+-- the two behave alike within c
+abbrev pub AlikeWithin : ℕ → Program Place → Program Place → Type 0
+AlikeWithin c p q = Alike same_place same_place c p q
+
+-- each function keeps the rules
+abbrev pub KeepsRules : Program Place → Type 0
+KeepsRules p = (path : List ℕ) → Rules (p path)
+
+-- 1. passes
+
+-- constant propagation keeps behaviour, whichever known values get constants; neither run is more than c times as
+-- long as the other, where no block of the result has c operations or more
+abbrev pub SccpAlike : Type 0
+SccpAlike =
+    (want : Wants) (p q : Program Place) (c : ℕ) → KeepsRules p → IsSccp want p q → BlocksBelow c q → AlikeWithin c p q
+
+-- removal of dead values keeps behaviour; neither run is more than c times as long as the other, where no block of the
+-- program before has c operations or more
+abbrev pub DceAlike : Type 0
+DceAlike = (p q : Program Place) (c : ℕ) → KeepsRules p → IsDce p q → BlocksBelow c p → AlikeWithin c p q
+
+-- the pass on control flow keeps behaviour; neither run is more than c + 1 times as long as the other, where no
+-- function of the program before has more than c blocks
+abbrev pub SimplifyAlike : Type 0
+SimplifyAlike =
+    (p q : Program Place) (c : ℕ) → KeepsRules p → IsSimplify p q → ((path : List ℕ) → size (p path) ≤ c)
+    → AlikeWithin (suc c) p q
+
+-- one bound for the three: neither run is more than c + 1 times as long as the other, where no function of either
+-- program has more than c operations; so c may be the number of operations of both programs together
+abbrev pub PassAlike : Type 0
+PassAlike =
+    (x : Pass) (p q : Program Place) (c : ℕ) → KeepsRules p → IsPass x p q → OperationsWithin c p → OperationsWithin c q
+    → AlikeWithin (suc c) p q
+
+-- 2. lists of passes: of the first program alone the rules are asked
+
+-- a program of finitely many functions that keep the rules is fit
+abbrev pub FiniteIsFit : Type 0
+FiniteIsFit = (p : Program Place) → KeepsRules p → IsFinite p → Fit p
+
+-- any list of passes keeps behaviour, within some factor
+abbrev pub PassesAlike : Type 0
+PassesAlike = (xs : List Pass) (p r : Program Place) → Fit p → IsAfter xs p r → (c : ℕ) × AlikeWithin c p r
+
+-- any list of passes keeps the rules
+abbrev pub PassesKeepRules : Type 0
+PassesKeepRules = (xs : List Pass) (p r : Program Place) → KeepsRules p → IsAfter xs p r → KeepsRules r
+
+-- and that there are bounds
+abbrev pub PassesKeepBounds : Type 0
+PassesKeepBounds = (xs : List Pass) (p r : Program Place) → Fit p → IsAfter xs p r → Fit r
+
+-- any list of passes keeps the paths of functions, and how many arguments each takes
+abbrev pub PassesKeepFaces : Type 0
+PassesKeepFaces = (xs : List Pass) (p r : Program Place) → KeepsRules p → IsAfter xs p r → SameFaces p r
+
+-- each list of passes makes a program of a program that keeps the rules
+abbrev pub PassesExist : Type 0
+PassesExist = (xs : List Pass) (p : Program Place) → KeepsRules p → (r : Program Place) × IsAfter xs p r
+
+-- a list of passes makes one program of a program
+abbrev pub OneResult : Type 0
+OneResult = (xs : List Pass) (p r s : Program Place) → KeepsRules p → IsAfter xs p r → IsAfter xs p s → r ≡ s
+
+-- a list may be cut: the rest of it, on what its beginning made, makes what the whole list makes
+abbrev pub ListsCut : Type 0
+ListsCut =
+    (xs ys : List Pass) (p n r s : Program Place) → KeepsRules p → IsAfter xs p n → IsAfter (xs ++ ys) p r
+    → IsAfter ys n s → r ≡ s
+
+-- 3. goals: what the passes leave
+
+-- after constant propagation with constants for used values at least, the result has most precise facts, and in
+-- blocks that they know to run each operand that they know to be a number is the result of a constant
+abbrev pub SccpGoal : Type 0
+SccpGoal =
+    (want : Wants) → WantsUsed want → (p q : Program Place) → KeepsRules p → IsSccp want p q → (path : List ℕ)
+    → IsPropagated (q path)
+
+-- after removal of dead values nothing is dead
+abbrev pub DceGoal : Type 0
+DceGoal = (p q : Program Place) → KeepsRules p → IsDce p q → (path : List ℕ) → NoneDead (q path)
+
+-- after the pass on control flow each block is reached, and no block may be joined behind another
+abbrev pub SimplifyGoal : Type 0
+SimplifyGoal = (p q : Program Place) → KeepsRules p → IsSimplify p q → (path : List ℕ) → IsSimplified (q path)
+
+-- after a list of passes the goal of its last is met
+abbrev pub PassesGoal : Type 0
+PassesGoal = (xs : List Pass) (p r : Program Place) → KeepsRules p → IsAfter xs p r → Goal xs p r
+
+-- a second removal of dead values changes nothing
+abbrev pub DceSettles : Type 0
+DceSettles = (p q r : Program Place) → KeepsRules p → IsDce p q → IsDce q r → r ≡ q
+
+-- constant propagation with constants for used values alone: a second one changes nothing
+abbrev pub LeanSccpSettles : Type 0
+LeanSccpSettles =
+    (p q r : Program Place) → KeepsRules p → IsSccp used_wanted p q → IsSccp used_wanted q r → r ≡ q
+
+-- 4. facts
+
+-- a function that keeps the rules has most precise facts
+abbrev pub BestExists : Type 0
+BestExists = (f : Option (Fun Place)) → Rules f → (k : Facts Place) × IsMostPrecise f k
+
+-- a function has a set of dead values
+abbrev pub DeadExists : Type 0
+DeadExists = (f : Option (Fun Place)) → (d : Place → Bool) × IsDead same_place f d
+
+-- there is one most precise list of facts at most
+abbrev pub OneBest : Type 0
+OneBest = (f : Option (Fun Place)) (k l : Facts Place) → IsMostPrecise f k → IsMostPrecise f l → k ≡ l
+
+-- the most precise facts leave no value undetermined that is in scope in a block known to run
+abbrev pub ScopesDetermined : Type 0
+ScopesDetermined =
+    (f : Option (Fun Place)) (k : Facts Place) → Rules f → IsMostPrecise f k → (b : ℕ) → k.runs b ≡ true
+    → OpsWith (λ a op. (x : Place) → In x a → k.of x ≡ Undetermined → ⊥) (at_start f b) (left_in f b 0)
+
+-- the most precise facts of what constant propagation makes say of each block, and of each value that was there, what
+-- the most precise facts said before
+abbrev pub FactsStay : Type 0
+FactsStay =
+    (want : Wants) (f : Option (Fun Place)) (k l : Facts Place) → Rules f → IsMostPrecise f k
+    → IsMostPrecise (propagated want f k) l → FactsKept want f k l
+
+-- the most precise facts of what constant propagation makes, before values are named by their places again: of each
+-- value that was there what they were before
+abbrev pub ValueFactsKept : Type 0
+ValueFactsKept =
+    (want : Wants) (f : Option (Fun Place)) (k : Facts Place) (l : Facts (Name Place)) → Rules f → IsMostPrecise f k
+    → IsMostPrecise (with_facts want f k) l → (v : Place) → l.of (Old v) ≡ k.of v
+
+-- and of each block
+abbrev pub BlockFactsKept : Type 0
+BlockFactsKept =
+    (want : Wants) (f : Option (Fun Place)) (k : Facts Place) (l : Facts (Name Place)) → Rules f → IsMostPrecise f k
+    → IsMostPrecise (with_facts want f k) l → (b : ℕ) → l.runs b ≡ k.runs b
+
+-- the use of x, after constants are put in by these facts, names a constant
+abbrev pub IsNamed : Wants → Option (Fun Place) → Facts Place → Place → Type 0
+IsNamed want f k x = NamesConstant (with_facts want f k) (use_of (made_of want f k) (Old x))
+
+-- before values are named by their places again: in a block known to run, the use of each value in scope that is
+-- wanted and whose number is known names a constant
+abbrev pub KnownAreNamed : Type 0
+KnownAreNamed =
+    (want : Wants) (f : Option (Fun Place)) (k : Facts Place) → Rules f → IsMostPrecise f k → (b : ℕ) → k.runs b ≡ true
+    → OpsWith (λ a op. (x : Place) → In x a → want f x ≡ true → (n : ℕ) → k.of x ≡ Known n → IsNamed want f k x)
+    (at_start f b) (left_in f b 0)
+
+-- 5. numbering
+
+-- values named by their places: a function is the same, whatever its names were, as long as distinct names stay so
+abbrev pub NumberingForgetsNames : (V W : Type 0) → Type 0
+NumberingForgetsNames V W =
+    (same : V → V → Bool) (same' : W → W → Bool) (r : V → W) → ((x y : V) → same' (r x) (r y) ≡ same x y)
+    → (f : Option (Fun V)) → place_fun same' (rename_fun r f) ≡ place_fun same f
+
+-- a function that keeps the rules is its own numbering
+abbrev pub NumberingStays : Type 0
+NumberingStays = (f : Option (Fun Place)) → Rules f → place_fun same_place f ≡ f
+
+-- 6. steps, of which the passes are made, under their own premises
+
+-- constants put in for values that closed facts know, and uses that name them; c bounds the constants of a block
+abbrev pub ConstantsAlike : Type 0
+ConstantsAlike =
+    (p : Program Place) (k : List ℕ → Facts Place) (m : List ℕ → Made Place) (c : ℕ) → InsertsKnown p k m → FewPut c m p
+    → Alike same_place (same_name same_place) c p (with_constants m p)
+
+-- a set of values removed that nothing needs that stays; c bounds the operations that go from a block
+abbrev pub RemovalAlike : Type 0
+RemovalAlike =
+    (p : Program Place) (d : List ℕ → Place → Bool) (c : ℕ) → ((path : List ℕ) → MayGo (d path) (p path)) → FewGo c d p
+    → AlikeWithin c p (thinned d p)
+
+-- branches decided by closed facts
+abbrev pub DecisionsAlike : Type 0
+DecisionsAlike =
+    (p : Program Place) (k : List ℕ → Facts Place) → ((path : List ℕ) → IsClosed (p path) (k path)) → KeepsRules p
+    → AlikeWithin 1 p (decided k p)
+
+-- uses of arguments replaced by what was forwarded to them
+abbrev pub ForwardingAlike : Type 0
+ForwardingAlike =
+    (p : Program Place) (s : List ℕ → Place → Place) (start : List ℕ → ℕ → List Place)
+    → ((path : List ℕ) → MayForward (s path) (start path) (p path)) → AlikeWithin 1 p (replaced s p)
+
+-- blocks joined in chains of at most c further blocks
+abbrev pub JoiningAlike : Type 0
+JoiningAlike =
+    (p q : Program Place) (j : List ℕ → ℕ → Bool) (c : ℕ) → ((path : List ℕ) → Joins (j path) c (p path) (q path))
+    → AlikeWithin (suc c) p q

@@ -1,0 +1,5 @@
+pub mod Counted
+pub mod Equal
+pub mod Lessened
+pub mod Moved
+pub mod Widths

@@ -1,0 +1,47 @@
+//! The kinds of operations of `kit`.
+
+/// The operations of arithmetic on two integers of one type, whose result is modulo 2^w for a type of w bits.
+#[derive(Clone, Copy, Debug, PartialEq, Eq, Hash)]
+pub enum Arithmetic {
+    Add,
+    Sub,
+    Mul,
+    /// The quotient of unsigned numbers; it traps where the divisor is 0.
+    Div,
+}
+
+/// Comparisons of two integers of one type, as unsigned numbers. The result is one bit.
+#[derive(Clone, Copy, Debug, PartialEq, Eq, Hash)]
+pub enum Comparison {
+    Equal,
+    NotEqual,
+    Less,
+    LessOrEqual,
+}
+
+/// The kinds of operations.
+#[derive(Clone, Copy, Debug, PartialEq, Eq, Hash)]
+pub enum KitOp {
+    /// Holds modules and functions under distinct names.
+    Module,
+    /// A function: blocks of which the first is entered with the arguments.
+    Func,
+    /// A known value.
+    Constant,
+    /// What stands for a value that isn't defined yet.
+    ForwardRef,
+    /// The result of arithmetic.
+    Arithmetic(Arithmetic),
+    /// The result of a comparison.
+    Comparison(Comparison),
+    /// Goes on to a block.
+    Br,
+    /// Goes on to one of two blocks, as a condition says.
+    CondBr,
+    /// Calls a function by its name.
+    Call,
+    /// Emits a number.
+    Emit,
+    /// Leaves the function with values.
+    Return,
+}
