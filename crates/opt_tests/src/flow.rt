@@ -76,6 +76,16 @@ cond c ^c ^c
 ret
 }";
 
+/// A block that nothing reaches leads to another beside the one before.
+const LEFT_BESIDE: &str = "box {
+^b
+br ^c
+^u
+br ^c
+^c
+ret
+}";
+
 /// No chain begins at `^a`, but one does at `^b`.
 const SECOND_CHAIN: &str = "box {
 ^a
@@ -231,6 +241,16 @@ use p
 ret
 }";
 
+/// What stays takes a value of the block that nothing reaches.
+const LIVE_VALUE: &str = "box {
+^b
+use v
+ret
+^u
+v = id v
+ret
+}";
+
 const ROUND_ARGUMENTS: &str = "box {
 ^a
 br ^b q
@@ -269,6 +289,7 @@ fn branches_are_decided_and_blocks_cut_and_joined(rt: HostRuntime) -> Result<(),
         (DECIDED, DECIDED_AFTER),
         (SECOND_EDGE, SECOND_EDGE_AFTER),
         (LEFT_OUT, LONE),
+        (LEFT_BESIDE, LONE),
         (SECOND_CHAIN, SECOND_CHAIN_AFTER),
         (ROUND, ROUND_AFTER),
     ] {
@@ -304,7 +325,9 @@ fn a_phase_that_is_refused_changes_nothing(rt: HostRuntime) -> Result<(), Fail> 
     let alloc = rt.alloc();
     for (text, expected) in [
         (LOST_VALUE, LOST_VALUE_AFTER),
+        (LIVE_VALUE, LIVE_VALUE),
         (OWN_ARGUMENT, OWN_ARGUMENT_AFTER),
+        (OWN_ARGUMENT_AFTER, OWN_ARGUMENT_AFTER),
         (ROUND_ARGUMENTS, ROUND_ARGUMENTS),
     ] {
         let played = after(alloc, Pass::SimplifyCfg, text)?;
