@@ -1,0 +1,16 @@
+pub mod Order
+pub mod Down
+pub mod Finding
+pub mod Handles
+pub mod Upward
+pub mod Indexed
+pub mod Searched
+pub mod Owners
+pub mod Trees
+pub mod Everys
+pub mod Passed
+pub mod Local
+pub mod Combined
+pub mod Widths
+pub mod Alike
+pub mod Contents

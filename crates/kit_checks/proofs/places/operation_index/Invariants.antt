@@ -1,0 +1,7 @@
+use Rattle.ir_program.specs.Lists.{operations_in}
+use Rattle.kit_checks.proofs.Finding.{IsPast}
+use Rattle.kit_checks.proofs.places.operation_index.Given as goal
+
+-- the one that is looked for isn't among those that were seen, and so many were
+abbrev pub invariant-loop-other : goal.invariant-loop-other
+invariant-loop-other g l = IsPast (operations_in l.program l.fn.block) l.fn.op l.other-iterator l.index

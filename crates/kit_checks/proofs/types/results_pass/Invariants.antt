@@ -1,0 +1,10 @@
+use Rattle.std.proofs.Common.{map}
+use Rattle.ir_program.specs.Program.{TypedValue, results_at}
+use Rattle.kit_checks.specs.World.{world_of}
+use Rattle.kit_checks.specs.Passing.{TypePasses}
+use Rattle.kit_checks.proofs.Everys.{EveryBelow}
+use Rattle.kit_checks.proofs.types.results_pass.Given as goal
+
+-- those that were seen pass the test
+abbrev pub invariant-loop-index : goal.invariant-loop-index
+invariant-loop-index g l = EveryBelow (TypePasses (world_of l.ctx) l.test) (map (λ (t : TypedValue). t.ty) (results_at l.ctx.program l.op)) l.index

@@ -1,0 +1,10 @@
+pub mod World
+pub mod Sites
+pub mod Words
+pub mod Rules
+pub mod Numbers
+pub mod Faults
+pub mod Located
+pub mod Searching
+pub mod Reading
+pub mod Passing

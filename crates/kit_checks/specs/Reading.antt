@@ -1,0 +1,47 @@
+-- What is read of an operation of a program, said of the tree that it stands for, and of its site.
+use Rattle.std.specs.Prelude.{◌≡◌, ◌≢◌, ◌↔◌, ◌+◌, ◌<◌, ◌^◌, true, Option, Some, None, [], length}
+use Rattle.ir_program.specs.Program.{Program}
+use Rattle.ir_program.specs.declared.handles.Ptr.{Ptr}
+use Rattle.ir_program.specs.declared.handles.Operation.{Operation}
+use Rattle.ir_trees.specs.Stands.{ProgramTree, StandsFor}
+use Rattle.kit_ops.specs.declared.attributes.IntegerAttr.{IntegerAttr}
+use Rattle.kit_ops.specs.declared.kinds.KitOp.{KitOp}
+use Rattle.kit_ops.specs.declared.kinds.KitOp.TheVariants as ops
+use Rattle.kit_checks.specs.World.{World}
+use Rattle.kit_checks.specs.Words.{Every, bodies_of, integer_type, is_terminator, kind_of}
+use Rattle.kit_checks.specs.Rules.{InKind}
+use Rattle.kit_checks.specs.Sites.{Around, Body, Site, operation_list}
+use Rattle.kit_checks.specs.Located.{IsSiteOf}
+
+module _ {O B : Type 0} (c : Program O B) where
+  -- it holds of the tree that the operation stands for
+  abbrev pub OfTree : Ptr Operation → (ProgramTree O B → Type 0) → Type 0
+  OfTree op P = (u : ProgramTree O B) → StandsFor c op u → P u
+
+  -- it holds of the site of the operation
+  abbrev pub OfSite : Ptr Operation → Ptr Operation → (Site O B → Type 0) → Type 0
+  OfSite root op P = (s : Site O B) → IsSiteOf c root op s → P s
+
+  -- the operation that owns the region that another is in, or none where that one is the root
+  abbrev pub IsOwner : Option (Around O B) → Option (Ptr Operation) → Type 0
+  IsOwner None None = Unit {0}
+  IsOwner None (Some owner) = ⊥
+  IsOwner (Some a) None = ⊥
+  IsOwner (Some a) (Some owner) = StandsFor c owner a.owner
+
+-- the operation is in a region of an operation of this kind
+abbrev pub IsInKind : {O B : Type 0} → World O B → Site O B → KitOp → Type 0
+IsInKind {O} {B} w s k = (a : Around O B) × InKind w s k a
+
+module _ {O B : Type 0} (w : World O B) where
+  -- the two clauses of the rule on the ends of blocks: of an operation in a function, and of the blocks of a function
+  abbrev pub EndsWell : Site O B → Type 0
+  EndsWell s = (a : Around O B) → InKind w s ops.Func a → (is_terminator (kind_of w s.op) ≡ true) ↔ (a.index + 1 ≡ length (operation_list a.body.operations))
+
+  abbrev pub HasFilledBlocks : ProgramTree O B → Type 0
+  HasFilledBlocks u = kind_of w u ≡ ops.Func → Every (λ (b : Body O B). operation_list b.operations ≢ []) (bodies_of u)
+
+-- the attribute is a number of the type that it says it has: of this integer type, and below 2 to the power of its width
+pub record IsIntegerOf {O B : Type 0} (w : World O B) (value : IntegerAttr) : Type 0 where
+  pub is_type : integer_type w value.ty ≡ Some value.integer
+  pub in_range : value.bits < 2 ^ value.integer.width

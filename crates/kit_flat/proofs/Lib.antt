@@ -1,0 +1,8 @@
+pub mod Cuts
+pub mod Binds
+pub mod Places
+pub mod Steps
+pub mod Runs
+pub mod Renamed
+pub mod Natural
+pub mod Fitting

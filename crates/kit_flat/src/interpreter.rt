@@ -1,0 +1,309 @@
+//! The machine: steps over the flat form, with the frames on a stack of their own.
+ghost use Rattle.std.specs.Prelude.{◌≡◌, ◌<◌, Some, length, map, nat_eq, slice_get, option_copied, option_map, IfOk, OnOk};
+ghost use Rattle.kit_flat.specs.Machine.{bind_all, arguments_of, first_frame, resumed, step, run, start};
+ghost use Rattle.kit_flat.specs.View.{numbers_of, block_view, block_in, flat_code, frame_view, state_view};
+ghost use Rattle.kit_flat.specs.Sound.{EdgeFits, ArgumentsFit, Fetched, results_named, IsSound, IsActive, IsWaiting, IsRunning};
+ghost use Rattle.kit_flat.specs.Shows.{TurnShows, Follows, OutcomeShows};
+
+use crate::flat::{FlatEdge, FlatFunction, FlatModule, Instruction};
+use crate::frames::{FlatFrame, bind_list, gather};
+use crate::numbers::{arithmetic, comparison};
+use crate::outcome::Outcome;
+use std::alloc::{AllocError, Global};
+use std::mem;
+
+/// A run that goes on: the frame of the innermost call, those that wait, the innermost last, and what was emitted.
+#[derive(Drop)]
+pub struct Running {
+    top: FlatFrame,
+    waiting: Vec<FlatFrame>,
+    emissions: Vec<u64>,
+    /// Numbers on their way from values to values.
+    scratch: Vec<u64>,
+}
+
+/// What a step led to.
+#[derive(Drop)]
+pub enum Turn {
+    /// The run goes on.
+    On,
+    /// The first function returned these values.
+    Over(Vec<u64>),
+    /// An operation trapped.
+    Failed,
+    /// There is no next operation.
+    Lost,
+}
+
+/// Binds the arguments of a block to numbers.
+fn bind_arguments(values: &mut Vec<u64>, function: &FlatFunction, target: usize, numbers: &[u64])
+    requires { ArgumentsFit (length values.old.items) function.now }
+    ensures bound { numbers_of values.new.items ≡ bind_all nat_eq (numbers_of values.old.items)
+        (arguments_of (option_map block_view (block_in (Some function.now) target))) numbers.now }
+    ensures len { length values.new.items ≡ length values.old.items }
+{
+    if let Some(block) = function.blocks.get(target) {
+        bind_list(values, block.arguments.as_slice(), numbers);
+    }
+}
+
+/// Binds the arguments of a block to what a branch forwards, all at once.
+fn forward(
+    values: &mut Vec<u64>,
+    function: &FlatFunction,
+    edge: &FlatEdge,
+    scratch: &mut Vec<u64>,
+) -> Result<(), AllocError>
+    requires edge { EdgeFits (length values.old.items) edge.now }
+    requires arguments { ArgumentsFit (length values.old.items) function.now }
+    ensures bound { OnOk result (numbers_of values.new.items ≡ bind_all nat_eq (numbers_of values.old.items)
+        (arguments_of (option_map block_view (block_in (Some function.now) edge.now.target)))
+        (map (numbers_of values.old.items) edge.now.operands.items)) }
+    ensures len { length values.new.items ≡ length values.old.items }
+{
+    gather(scratch, values.as_slice(), edge.operands.as_slice())?;
+    bind_arguments(values, function, edge.target, scratch.as_slice());
+    Ok(())
+}
+
+/// The frame of a call.
+fn enter(
+    alloc: Global,
+    code: &FlatModule,
+    function: usize,
+    arguments: &[u64],
+) -> Result<FlatFrame, AllocError>
+    requires sound { IsSound code.now.functions.items }
+    requires within { function < length code.now.functions.items }
+    ensures enters { IfOk result (λ a. frame_view a ≡ first_frame nat_eq (flat_code code.now.functions.items)
+        function arguments.now 0) }
+    ensures active { IfOk result (IsActive code.now.functions.items) }
+{
+    let called = &code.functions[function];
+    let mut values = vec![in alloc; 0u64; called.values]?;
+    bind_arguments(&mut values, called, 0, arguments);
+    Ok(FlatFrame {
+        function,
+        block: 0,
+        index: 0,
+        values,
+    })
+}
+
+/// The instruction at which a frame is.
+fn fetch<'a>(code: &'a FlatModule, top: &FlatFrame) -> Option<&'a Instruction>
+    requires sound { IsSound code.now.functions.items }
+    requires active { IsActive code.now.functions.items top.now }
+    ensures { Fetched code.now.functions.items top.now (option_copied result) }
+{
+    let function = &code.functions[top.function];
+    match function.blocks.get(top.block) {
+        None => None,
+        Some(block) => match block.instructions.get(top.index) {
+            None => None,
+            Some(instruction) => Some(instruction),
+        },
+    }
+}
+
+/// The results that a call names.
+fn results_in(instruction: &Instruction) -> &[usize]
+    ensures { result.now ≡ results_named instruction.now }
+{
+    match instruction {
+        Instruction::Call { results, .. } => results.as_slice(),
+        _ => &[],
+    }
+}
+
+/// Binds what a call returned in the frame that waits for it.
+fn resume(top: &mut FlatFrame, code: &FlatModule, numbers: &[u64])
+    requires sound { IsSound code.now.functions.items }
+    requires waiting { IsWaiting code.now.functions.items top.old }
+    ensures resumes { frame_view top.new ≡ resumed nat_eq (flat_code code.now.functions.items) (frame_view top.old)
+        numbers.now }
+    ensures active { IsActive code.now.functions.items top.new }
+{
+    match fetch(code, top) {
+        Some(instruction) => {
+            bind_list(&mut top.values, results_in(instruction), numbers);
+            top.index += 1;
+        }
+        None => unreachable!(),
+    }
+}
+
+impl Running {
+    /// One step.
+    fn step(&mut self, alloc: Global, code: &FlatModule) -> Result<Turn, AllocError>
+        requires sound { IsSound code.now.functions.items }
+        requires running { IsRunning code.now.functions.items self.old }
+        ensures { IfOk result (TurnShows code.now.functions.items
+            (step nat_eq (flat_code code.now.functions.items) (state_view self.old)) self.new) }
+    {
+        let instruction = match fetch(code, &self.top) {
+            Some(instruction) => instruction,
+            None => return Ok(Turn::Lost),
+        };
+        match instruction {
+            Instruction::Constant { result, number } => {
+                self.top.values[*result] = *number;
+                self.top.index += 1;
+                Ok(Turn::On)
+            }
+            Instruction::Calculate {
+                function,
+                width,
+                result,
+                left,
+                right,
+            } => {
+                match arithmetic(
+                    *function,
+                    *width,
+                    self.top.values[*left],
+                    self.top.values[*right],
+                ) {
+                    None => Ok(Turn::Failed),
+                    Some(number) => {
+                        self.top.values[*result] = number;
+                        self.top.index += 1;
+                        Ok(Turn::On)
+                    }
+                }
+            }
+            Instruction::Compare {
+                function,
+                result,
+                left,
+                right,
+            } => {
+                self.top.values[*result] = comparison(
+                    *function,
+                    self.top.values[*left],
+                    self.top.values[*right],
+                );
+                self.top.index += 1;
+                Ok(Turn::On)
+            }
+            Instruction::Emit(value) => {
+                self.emissions.push(self.top.values[*value])?;
+                self.top.index += 1;
+                Ok(Turn::On)
+            }
+            Instruction::Call {
+                callee,
+                operands,
+                ..
+            } => {
+                gather(
+                    &mut self.scratch,
+                    self.top.values.as_slice(),
+                    operands.as_slice(),
+                )?;
+                let entered = enter(alloc, code, *callee, self.scratch.as_slice())?;
+                let caller = mem::replace(&mut self.top, entered);
+                self.waiting.push(caller)?;
+                Ok(Turn::On)
+            }
+            Instruction::Br(edge) => {
+                self.follow(code, edge)?;
+                Ok(Turn::On)
+            }
+            Instruction::CondBr {
+                condition,
+                taken,
+                otherwise,
+            } => {
+                if self.top.values[*condition] == 0 {
+                    self.follow(code, otherwise)?;
+                    return Ok(Turn::On);
+                }
+                self.follow(code, taken)?;
+                Ok(Turn::On)
+            }
+            Instruction::Return(values) => {
+                gather(
+                    &mut self.scratch,
+                    self.top.values.as_slice(),
+                    values.as_slice(),
+                )?;
+                match self.waiting.pop() {
+                    None => {
+                        let numbers = Vec::from_slice(alloc, self.scratch.as_slice())?;
+                        Ok(Turn::Over(numbers))
+                    }
+                    Some(caller) => {
+                        self.top = caller;
+                        resume(&mut self.top, code, self.scratch.as_slice());
+                        Ok(Turn::On)
+                    }
+                }
+            }
+        }
+    }
+
+    /// To the first instruction of the block that a branch leads to.
+    fn follow(&mut self, code: &FlatModule, edge: &FlatEdge) -> Result<(), AllocError>
+        requires sound { IsSound code.now.functions.items }
+        requires running { IsRunning code.now.functions.items self.old }
+        requires edge { EdgeFits (length self.old.top.values.items) edge.now }
+        ensures { OnOk result (Follows code.now.functions.items self.old self.new edge.now) }
+    {
+        let function = &code.functions[self.top.function];
+        forward(&mut self.top.values, function, edge, &mut self.scratch)?;
+        self.top.block = edge.target;
+        self.top.index = 0;
+        Ok(())
+    }
+}
+
+/// At most `limit` steps.
+fn drive(
+    alloc: Global,
+    code: &FlatModule,
+    mut running: Running,
+    limit: u64,
+) -> Result<Outcome, AllocError>
+    requires sound { IsSound code.now.functions.items }
+    requires running { IsRunning code.now.functions.items running }
+    ensures { IfOk result (OutcomeShows (run nat_eq (flat_code code.now.functions.items) limit (state_view running))) }
+{
+    let mut left = limit;
+    while left > 0 {
+        left -= 1;
+        match running.step(alloc, code)? {
+            Turn::On => {}
+            Turn::Over(values) => return Ok(Outcome::Ended(values, running.emissions)),
+            Turn::Failed => return Ok(Outcome::Trapped(running.emissions)),
+            Turn::Lost => return Ok(Outcome::Limit(running.emissions)),
+        }
+    }
+    Ok(Outcome::Limit(running.emissions))
+}
+
+/// What a function does with numbers, after at most `limit` steps of the machine.
+///
+/// # Errors
+/// `AllocError` if there is no memory for the frames or for what was emitted.
+pub fn interpret(
+    alloc: Global,
+    code: &FlatModule,
+    function: usize,
+    arguments: &[u64],
+    limit: u64,
+) -> Result<Outcome, AllocError>
+    requires sound { IsSound code.now.functions.items }
+    requires within { function < length code.now.functions.items }
+    ensures { IfOk result (OutcomeShows (run nat_eq (flat_code code.now.functions.items) limit
+        (start nat_eq (flat_code code.now.functions.items) function arguments.now))) }
+{
+    let top = enter(alloc, code, function, arguments)?;
+    let running = Running {
+        top,
+        waiting: Vec::new(alloc),
+        emissions: Vec::new(alloc),
+        scratch: Vec::new(alloc),
+    };
+    drive(alloc, code, running, limit)
+}

@@ -1,0 +1,33 @@
+use Rattle.std.proofs.Common.{◌∙◌, sym, ap, subst, refl, arith, length, ◌+◌}
+use Rattle.std.proofs.lemmas.List.{length-append}
+use Rattle.std.proofs.lemmas.Option.{slice_get_read, get_or_from_slice_get}
+use Rattle.ir_program.specs.Program.{no_handle}
+use Rattle.ir_program.specs.declared.handles.Ptr.{Ptr}
+use Rattle.ir_program.specs.declared.handles.Operation.{Operation}
+use Rattle.kit_interpreter.specs.Numbers.{operation_with}
+use Rattle.kit_interpreter.specs.Lowering.{LowersFunction}
+use Rattle.kit_interpreter.proofs.Sets.{next_each}
+use Rattle.kit_interpreter.proofs.lowering.lower_module.Goals as goal
+
+pub lower_function-requires-clause-can_run : goal.lower_function-requires-clause-can_run
+lower_function-requires-clause-can_run c =
+    let at = slice_get_read c.args.functions.now.handles.items _ c.loop-i.i c.index.result.now refl (omega arith)
+    c.index.ensures in
+    let named = c.requires.table.back c.loop-i.i c.index.result.now at in
+    c.requires.can_run named.0 c.index.result.now named.1
+
+pub loop-i-preserved : goal.loop-i-preserved
+loop-i-preserved c =
+    let handles = c.args.functions.now.handles.items in
+    let at = slice_get_read handles _ c.loop-i.i c.index.result.now refl (omega arith) c.index.ensures in
+    let is = ap (operation_with handles) c.loop-i.invariant.len
+    ∙ get_or_from_slice_get handles c.loop-i.i c.index.result.now no_handle at in
+    record {
+      len = ap length c.in_ok-push.ensures.items ∙ length-append c.loop-i.lowered.items _
+          ∙ ap (λ n. n + 1) c.loop-i.invariant.len;
+      each = next_each (λ i x. LowersFunction c.args.ctx.now c.args.functions.now.outer handles
+          (operation_with handles i) x) c.loop-i.lowered.items _ c.in_ok-lower_function.field-0
+          c.in_ok-push.ensures.items c.loop-i.invariant.each
+          (subst (λ (f : Ptr Operation). LowersFunction c.args.ctx.now c.args.functions.now.outer handles f
+          c.in_ok-lower_function.field-0) (sym is) c.in_ok-lower_function.ensures);
+    }

@@ -1,0 +1,4 @@
+pub mod Numbers
+pub mod Store
+pub mod Lowering
+pub mod Running

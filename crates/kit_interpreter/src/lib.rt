@@ -1,0 +1,10 @@
+//! Running the functions of a module of `kit`.
+#![tactic(auto)]
+
+mod executing;
+mod functions;
+mod lowering;
+mod numbering;
+mod reading;
+
+pub use executing::{ExecFault, exec};
