@@ -1,0 +1,58 @@
+use Rattle.std.proofs.Common.{ap}
+use Rattle.kit_texts.specs.Forms.{NamedRegion, TypedRegion, Value, TwoOperands, OneOperand, AnyOperands, form_of}
+use Rattle.kit_texts.proofs.Numbered.{operation_made, operation_made_of, operation_refused, unread_refused}
+use Rattle.kit_texts.proofs.operations.make_operation.Goals as goal
+
+pub returns-in-Module-clause-made : goal.returns-in-Module-clause-made
+returns-in-Module-clause-made g c = operation_made_of c.make_module.result (λ d. d.attributes) (λ d. d.result_types.items) c.args.kind NamedRegion c.args.parts.now c.args.ctx.now.types.keys (ap form_of c.in-Module.is) c.make_module.ensures.made
+
+pub returns-in-Module-clause-refused : goal.returns-in-Module-clause-refused
+returns-in-Module-clause-refused g c = λ i f. operation_refused c.args.kind NamedRegion c.args.parts.now c.args.ctx.now.types.keys i (ap form_of c.in-Module.is) (c.make_module.ensures.refused i f c.args.ctx.now.types.keys)
+
+pub returns-in-Func-clause-made : goal.returns-in-Func-clause-made
+returns-in-Func-clause-made g c = operation_made_of c.make_function.result (λ d. d.attributes) (λ d. d.result_types.items) c.args.kind TypedRegion c.args.parts.now c.args.ctx.now.types.keys (ap form_of c.in-Func.is) c.make_function.ensures.made
+
+pub returns-in-Func-clause-refused : goal.returns-in-Func-clause-refused
+returns-in-Func-clause-refused g c = λ i f. operation_refused c.args.kind TypedRegion c.args.parts.now c.args.ctx.now.types.keys i (ap form_of c.in-Func.is) (c.make_function.ensures.refused i f c.args.ctx.now.types.keys)
+
+pub returns-in-Arithmetic-clause-made : goal.returns-in-Arithmetic-clause-made
+returns-in-Arithmetic-clause-made g c = operation_made_of c.make_of_pair.result (λ d. d.attributes) (λ d. d.result_types.items) c.args.kind TwoOperands c.args.parts.now c.args.ctx.now.types.keys (ap form_of c.in-Arithmetic.is) c.make_of_pair.ensures.made
+
+pub returns-in-Arithmetic-clause-refused : goal.returns-in-Arithmetic-clause-refused
+returns-in-Arithmetic-clause-refused g c = λ i f. operation_refused c.args.kind TwoOperands c.args.parts.now c.args.ctx.now.types.keys i (ap form_of c.in-Arithmetic.is) (c.make_of_pair.ensures.refused i f c.args.ctx.now.types.keys)
+
+pub returns-in-Comparison-clause-made : goal.returns-in-Comparison-clause-made
+returns-in-Comparison-clause-made g c = operation_made_of c.make_of_pair-in-Comparison.result (λ d. d.attributes) (λ d. d.result_types.items) c.args.kind TwoOperands c.args.parts.now c.args.ctx.now.types.keys (ap form_of c.in-Comparison.is) c.make_of_pair-in-Comparison.ensures.made
+
+pub returns-in-Comparison-clause-refused : goal.returns-in-Comparison-clause-refused
+returns-in-Comparison-clause-refused g c = λ i f. operation_refused c.args.kind TwoOperands c.args.parts.now c.args.ctx.now.types.keys i (ap form_of c.in-Comparison.is) (c.make_of_pair-in-Comparison.ensures.refused i f c.args.ctx.now.types.keys)
+
+pub returns-in-Emit-clause-made : goal.returns-in-Emit-clause-made
+returns-in-Emit-clause-made g c = operation_made_of c.make_of_operand.result (λ d. d.attributes) (λ d. d.result_types.items) c.args.kind OneOperand c.args.parts.now c.args.ctx.now.types.keys (ap form_of c.in-Emit.is) c.make_of_operand.ensures.made
+
+pub returns-in-Emit-clause-refused : goal.returns-in-Emit-clause-refused
+returns-in-Emit-clause-refused g c = λ i f. operation_refused c.args.kind OneOperand c.args.parts.now c.args.ctx.now.types.keys i (ap form_of c.in-Emit.is) (c.make_of_operand.ensures.refused i f c.args.ctx.now.types.keys)
+
+pub returns-in-Return-clause-made : goal.returns-in-Return-clause-made
+returns-in-Return-clause-made g c = operation_made_of c.make_of_operands.result (λ d. d.attributes) (λ d. d.result_types.items) c.args.kind AnyOperands c.args.parts.now c.args.ctx.now.types.keys (ap form_of c.in-Return.is) c.make_of_operands.ensures.made
+
+pub returns-in-Return-clause-refused : goal.returns-in-Return-clause-refused
+returns-in-Return-clause-refused g c = λ i f. operation_refused c.args.kind AnyOperands c.args.parts.now c.args.ctx.now.types.keys i (ap form_of c.in-Return.is) (c.make_of_operands.ensures.refused i f c.args.ctx.now.types.keys)
+
+pub returns-in-Constant-clause-made : goal.returns-in-Constant-clause-made
+returns-in-Constant-clause-made g c = operation_made c.make_constant.result (λ d. d.attributes) (λ d. d.result_types.items) c.args.kind Value c.args.parts.now c.args.ctx.now.types.keys c.make_constant.new.ctx.types.keys (ap form_of c.in-Constant.is) c.make_constant.ensures.made
+
+pub returns-in-Constant-clause-refused : goal.returns-in-Constant-clause-refused
+returns-in-Constant-clause-refused g c = λ i f. operation_refused c.args.kind Value c.args.parts.now c.args.ctx.now.types.keys i (ap form_of c.in-Constant.is) (c.make_constant.ensures.refused i f)
+
+pub returns-in-ForwardRef-clause-refused : goal.returns-in-ForwardRef-clause-refused
+returns-in-ForwardRef-clause-refused g c = λ i f. unread_refused c.args.kind c.args.parts.now c.args.ctx.now.types.keys i (ap form_of c.in-ForwardRef.is) f
+
+pub returns-in-Br-clause-refused : goal.returns-in-Br-clause-refused
+returns-in-Br-clause-refused g c = λ i f. unread_refused c.args.kind c.args.parts.now c.args.ctx.now.types.keys i (ap form_of c.in-Br.is) f
+
+pub returns-in-CondBr-clause-refused : goal.returns-in-CondBr-clause-refused
+returns-in-CondBr-clause-refused g c = λ i f. unread_refused c.args.kind c.args.parts.now c.args.ctx.now.types.keys i (ap form_of c.in-CondBr.is) f
+
+pub returns-in-Call-clause-refused : goal.returns-in-Call-clause-refused
+returns-in-Call-clause-refused g c = λ i f. unread_refused c.args.kind c.args.parts.now c.args.ctx.now.types.keys i (ap form_of c.in-Call.is) f

@@ -1,0 +1,116 @@
+-- Which kinds of `kit` can be read, in the order of their numbers, and what follows the dotted name of each: its form.
+use Rattle.std.specs.Prelude.{ℕ, List, [], ◌∷◌, map, codes, Option, Some, None}
+use Rattle.ir_print.specs.Formats.{Formats, Kind, Step, Steps, no_steps, steps, word, operand, operands, an_attribute, a_type, a_region, symbol_name, a_number, a_width, list_of}
+use Rattle.text_dialect.specs.Ids.{dotted}
+use Rattle.kit_ops.specs.declared.kinds.Arithmetic.TheVariants.{Add, Sub, Mul, Div}
+use Rattle.kit_ops.specs.declared.kinds.Comparison.TheVariants.{Equal, NotEqual, Less, LessOrEqual}
+use Rattle.kit_ops.specs.declared.kinds.KitOp.{KitOp}
+use Rattle.kit_ops.specs.declared.kinds.KitOp.TheVariants as ops
+use Rattle.kit_ops.specs.declared.types.KitTypeKind.{KitTypeKind}
+use Rattle.kit_ops.specs.declared.types.KitTypeKind.TheVariants as type_kinds
+use Rattle.kit_ops.specs.declared.attributes.KitAttrKind.{KitAttrKind}
+use Rattle.kit_ops.specs.declared.attributes.KitAttrKind.TheVariants as attr_kinds
+use Rattle.kit_ops.specs.Kinds.{op_names, type_names, attr_names}
+
+-- what follows the dotted name of an operation
+pub data OpForm : Type 0 where
+  -- a symbol and a region; a symbol, a type and a region
+  NamedRegion TypedRegion : OpForm
+  -- an attribute
+  Value : OpForm
+  -- two operands and the type of the result; one operand; any number of them
+  TwoOperands OneOperand AnyOperands : OpForm
+
+-- the form of a kind that can be read
+abbrev pub form_of : KitOp → Option OpForm
+form_of ops.Module = Some NamedRegion
+form_of ops.Func = Some TypedRegion
+form_of ops.Constant = Some Value
+form_of (ops.Arithmetic a) = Some TwoOperands
+form_of (ops.Comparison c) = Some TwoOperands
+form_of ops.Emit = Some OneOperand
+form_of ops.Return = Some AnyOperands
+form_of ops.ForwardRef = None
+form_of ops.Br = None
+form_of ops.CondBr = None
+form_of ops.Call = None
+
+-- the kinds of operations that can be read, by number
+abbrev pub read_ops : List KitOp
+read_ops = ops.Module ∷ ops.Func ∷ ops.Constant ∷ ops.Return ∷ ops.Arithmetic Add ∷ ops.Arithmetic Sub ∷ ops.Arithmetic Mul ∷ ops.Arithmetic Div
+    ∷ ops.Comparison Equal ∷ ops.Comparison NotEqual ∷ ops.Comparison Less ∷ ops.Comparison LessOrEqual ∷ ops.Emit ∷ []
+
+-- the number of a kind that can be read
+abbrev pub number_of : KitOp → Option ℕ
+number_of ops.Module = Some 0
+number_of ops.Func = Some 1
+number_of ops.Constant = Some 2
+number_of ops.Return = Some 3
+number_of (ops.Arithmetic Add) = Some 4
+number_of (ops.Arithmetic Sub) = Some 5
+number_of (ops.Arithmetic Mul) = Some 6
+number_of (ops.Arithmetic Div) = Some 7
+number_of (ops.Comparison Equal) = Some 8
+number_of (ops.Comparison NotEqual) = Some 9
+number_of (ops.Comparison Less) = Some 10
+number_of (ops.Comparison LessOrEqual) = Some 11
+number_of ops.Emit = Some 12
+number_of ops.ForwardRef = None
+number_of ops.Br = None
+number_of ops.CondBr = None
+number_of ops.Call = None
+
+-- the kinds of types that can be read, by number
+abbrev pub read_types : List KitTypeKind
+read_types = type_kinds.Integer ∷ type_kinds.Function ∷ type_kinds.Unit ∷ []
+
+-- the kinds of attributes that can be read, by number
+abbrev pub read_attrs : List KitAttrKind
+read_attrs = attr_kinds.Integer ∷ []
+
+-- ---- formats
+
+-- the steps of a form
+abbrev pub steps_in : OpForm → Steps
+steps_in NamedRegion = steps (symbol_name ∷ a_region ∷ [])
+steps_in TypedRegion = steps (symbol_name ∷ word (codes ": ") (codes ":") ∷ a_type ∷ a_region ∷ [])
+steps_in Value = steps (an_attribute ∷ [])
+steps_in TwoOperands = steps (operand ∷ word (codes ", ") (codes ",") ∷ operand ∷ word (codes ": ") (codes ":") ∷ a_type ∷ [])
+steps_in OneOperand = steps (operand ∷ [])
+steps_in AnyOperands = steps (operands ∷ [])
+
+-- the steps of a kind; none of one that can't be read
+abbrev pub steps_of_form : Option OpForm → Steps
+steps_of_form None = no_steps
+steps_of_form (Some form) = steps_in form
+
+-- types with commas between them
+abbrev pub type_list : Step
+type_list = list_of (steps (a_type ∷ [])) (codes ", ") (codes ",")
+
+-- what follows the dotted name of a kind of types
+abbrev pub steps_of_type : KitTypeKind → Steps
+steps_of_type type_kinds.Integer = steps (a_width ∷ [])
+steps_of_type type_kinds.Function = steps
+    (word (codes "<") (codes "<") ∷ word (codes "(") (codes "(") ∷ type_list ∷ word (codes ")") (codes ")") ∷ word (codes "->") (codes "->")
+    ∷ word (codes "(") (codes "(") ∷ type_list ∷ word (codes ")") (codes ")") ∷ word (codes ">") (codes ">") ∷ [])
+steps_of_type type_kinds.Unit = steps []
+
+-- what follows the dotted name of a kind of attributes; integers alone can be read
+abbrev pub steps_of_attr : KitAttrKind → Steps
+steps_of_attr attr_kinds.Integer = steps (word (codes "<") (codes "<") ∷ a_number ∷ word (codes ": ") (codes ":") ∷ a_width ∷ word (codes ">") (codes ">") ∷ [])
+steps_of_attr _ = no_steps
+
+-- each kind, with its dotted name
+abbrev pub op_kind : KitOp → Kind
+op_kind kind = record { id = dotted (op_names kind); format = steps_of_form (form_of kind) }
+
+abbrev pub type_form : KitTypeKind → Kind
+type_form kind = record { id = dotted (type_names kind); format = steps_of_type kind }
+
+abbrev pub attr_form : KitAttrKind → Kind
+attr_form kind = record { id = dotted (attr_names kind); format = steps_of_attr kind }
+
+-- the kinds that can be read, by their numbers
+abbrev pub formats : Formats
+formats = record { operations = map op_kind read_ops; types = map type_form read_types; attributes = map attr_form read_attrs }

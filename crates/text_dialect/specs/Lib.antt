@@ -1,0 +1,5 @@
+pub mod Seen
+pub mod Standing
+pub mod Printed
+pub mod Making
+pub mod Ids

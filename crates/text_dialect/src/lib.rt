@@ -1,0 +1,9 @@
+//! What a dialect says of its texts, on the contexts in which programs stand.
+//!
+//! A dialect says of each kind of operation, type and attribute how its text is made, as a list of
+//! directives; printing and reading both follow these lists, and know no dialect.
+#![tactic(auto)]
+
+mod dialect;
+
+pub use dialect::{MakeFault, OperationDraft, TextDialect};
