@@ -19,8 +19,8 @@ use Rattle.ir_context.specs.declared.notes.OperationData.{OperationData}
 use Rattle.ir_context.specs.declared.notes.OperationNotes.{OperationNotes}
 use Rattle.ir_context.specs.declared.notes.BlockNotes.{BlockNotes}
 use Rattle.kit_ops.specs.Keys.{symbol_name, constant_value, segment_sizes, callee}
-use Rattle.kit_ops.specs.declared.dialect.Kit.{Kit}
-use Rattle.kit_ops.specs.declared.dialect.Unused.{Unused}
+use Rattle.kit.specs.declared.dialect.Kit.{Kit}
+use Rattle.kit.specs.declared.dialect.Unused.{Unused}
 use Rattle.kit_ops.specs.declared.kinds.KitOp.{KitOp}
 use Rattle.kit_ops.specs.declared.kinds.KitOp.TheVariants as ops
 use Rattle.kit_ops.specs.declared.types.KitType.{KitType}

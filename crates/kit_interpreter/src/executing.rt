@@ -17,8 +17,8 @@ use crate::reading::{entry, find_function, find_module, width};
 use ir_context::{ArgumentCalls, Context, ValueCalls};
 use ir_names::Identifier;
 use ir_program::{BasicBlock, Operation, Ptr};
+use kit::Kit;
 use kit_flat::{Outcome, interpret};
-use kit_ops::Kit;
 use std::alloc::{AllocError, AllocFailed, Global};
 
 /// Why a function isn't run.

@@ -12,7 +12,8 @@ use crate::reading::{attribute, entry};
 use indexmap::IndexMap;
 use ir_context::{Context, OperationCalls};
 use ir_program::{BasicBlock, Operation, Ptr};
-use kit_ops::{Kit, KitAttr, KitOp, keys};
+use kit::Kit;
+use kit_ops::{KitAttr, KitOp, keys};
 use std::alloc::{AllocError, Global};
 
 /// The functions of a module, and their numbers by their names. Of several functions of one name it has the first.

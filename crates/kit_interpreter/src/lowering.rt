@@ -18,8 +18,9 @@ use crate::reading::{attribute, result_width};
 use indexmap::IndexSet;
 use ir_context::{Context, OperationCalls};
 use ir_program::{BasicBlock, Operation, Ptr, Value};
+use kit::Kit;
 use kit_flat::{FlatBlock, FlatForm, FlatFunction, FlatModule, Instruction, instruction};
-use kit_ops::{Kit, KitAttr, KitOp, keys};
+use kit_ops::{KitAttr, KitOp, keys};
 use opt_inside::number_inside;
 use std::alloc::{AllocError, Global};
 

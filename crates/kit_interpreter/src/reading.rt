@@ -9,7 +9,8 @@ ghost use Rattle.kit_interpreter.specs.Store.{attribute_of, width_at, body_of, f
 use ir_context::{Context, OperationCalls, ResultCalls};
 use ir_names::TypeHandle;
 use ir_program::{BasicBlock, Operation, Ptr};
-use kit_ops::{Kit, KitAttr, KitOp, KitType, keys};
+use kit::Kit;
+use kit_ops::{KitAttr, KitOp, KitType, keys};
 
 /// The attribute of an operation under a key.
 pub(crate) fn attribute<'a>(

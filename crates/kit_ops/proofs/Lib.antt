@@ -1,5 +1,1 @@
-pub mod Counted
-pub mod Equal
-pub mod Lessened
-pub mod Moved
 pub mod Widths

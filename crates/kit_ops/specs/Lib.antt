@@ -1,16 +1,4 @@
-pub mod Alike
 pub mod Arithmetic
-pub mod Dropped
-pub mod Entries
-pub mod Folded
-pub mod Forwarded
-pub mod Ids
 pub mod Keys
 pub mod Kinds
-pub mod Lawful
-pub mod Meaning
-pub mod Names
-pub mod Parents
-pub mod Ranges
-pub mod Same
 pub mod Table

@@ -1,0 +1,4 @@
+pub mod Counted
+pub mod Equal
+pub mod Lessened
+pub mod Moved

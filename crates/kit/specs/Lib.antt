@@ -1,0 +1,12 @@
+pub mod Alike
+pub mod Dropped
+pub mod Entries
+pub mod Folded
+pub mod Forwarded
+pub mod Ids
+pub mod Lawful
+pub mod Meaning
+pub mod Names
+pub mod Parents
+pub mod Ranges
+pub mod Same

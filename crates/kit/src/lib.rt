@@ -1,0 +1,9 @@
+//! The dialect `kit`: what its kinds are to contexts, to texts and to the optimisations.
+#![tactic(auto)]
+
+mod dialect;
+mod dropping;
+mod meaning;
+mod texts;
+
+pub use dialect::{Kit, Unused};

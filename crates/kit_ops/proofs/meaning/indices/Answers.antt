@@ -1,6 +1,0 @@
-use Rattle.std.proofs.Common.{arith}
-use Rattle.kit_ops.proofs.Counted.{range_end}
-use Rattle.kit_ops.proofs.meaning.indices.Goals as goal
-
-pub loop-i-preserved : goal.loop-i-preserved
-loop-i-preserved c = let e = range_end c.args.start c.loop-i.i in grind (arith, e)
