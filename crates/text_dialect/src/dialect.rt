@@ -135,8 +135,10 @@ pub trait TextDialect: DialectTables {
     ) -> Result<Self::Attr, MakeFault>
         ensures program { ctx.new.program ≡ ctx.old.program }
         ensures types { KeepsTypes ctx.old.types ctx.new.types }
-        ensures made { IfOk result (MakesAttribute says values attr_kinds kind ctx.old.types.keys ctx.new.types.keys parts.now) }
-        ensures refused { (i : ℕ) → result ≡ Err (Refused i) → RefusesAttribute says values attr_kinds kind ctx.old.types.keys parts.now i };
+        ensures made { IfOk result (MakesAttribute says values attr_kinds kind
+            ctx.old.types.keys ctx.new.types.keys parts.now) }
+        ensures refused { (i : ℕ) → result ≡ Err (Refused i) →
+            RefusesAttribute says values attr_kinds kind ctx.old.types.keys parts.now i };
 
     /// What an operation of these parts is made with, or the first part that is refused. Types may be interned.
     fn make_operation(
@@ -147,16 +149,21 @@ pub trait TextDialect: DialectTables {
     ) -> Result<OperationDraft<Self>, MakeFault>
         ensures program { ctx.new.program ≡ ctx.old.program }
         ensures types { KeepsTypes ctx.old.types ctx.new.types }
-        ensures made { IfOk result (λ d. MakesOperation says values kind_at kind ctx.old.types.keys ctx.new.types.keys parts.now d.attributes d.result_types.items) }
-        ensures refused { (i : ℕ) → result ≡ Err (Refused i) → RefusesOperation says values kind_at kind ctx.old.types.keys parts.now i };
+        ensures made { IfOk result (λ d. MakesOperation says values kind_at kind
+            ctx.old.types.keys ctx.new.types.keys parts.now d.attributes d.result_types.items) }
+        ensures refused { (i : ℕ) → result ≡ Err (Refused i) →
+            RefusesOperation says values kind_at kind ctx.old.types.keys parts.now i };
 
     /// The parts of a type, as reading its text gives them.
     fn type_parts(alloc: Global, key: &Self::TypeKey) -> Result<Vec<Part<Self>>, AllocError>
-        ensures { (types : List Self.TypeKey) → (n : ℕ) → (ps : Pieces) → ShowsKey says types key.now n ps → IfOk result (λ parts. ShowsParts says types parts.items ps) };
+        ensures { (types : List Self.TypeKey) → (n : ℕ) → (ps : Pieces) → ShowsKey says types key.now n ps →
+            IfOk result (λ parts. ShowsParts says types parts.items ps) };
 
     /// The parts of an attribute.
     fn attr_parts(alloc: Global, attr: &Self::Attr) -> Result<Vec<Part<Self>>, AllocError>
-        ensures { (types : List Self.TypeKey) → (n : ℕ) → (ps : Pieces) → ShowsAttribute says types attr.now (node (attribute_of_kind n) ps) → IfOk result (λ parts. ShowsParts says types parts.items ps) };
+        ensures { (types : List Self.TypeKey) → (n : ℕ) → (ps : Pieces) →
+            ShowsAttribute says types attr.now (node (attribute_of_kind n) ps) →
+            IfOk result (λ parts. ShowsParts says types parts.items ps) };
 
     /// The parts of an operation. Operands and regions are given by how many there are of them.
     fn operation_parts(
@@ -165,8 +172,10 @@ pub trait TextDialect: DialectTables {
         op: Ptr<Operation>,
     ) -> Result<Vec<Part<Self>>, AllocError>
         requires live { IsSome (operation_at ctx.now.program op) }
-        ensures { (types : List Self.TypeKey) → (o : SeenOperation Self.OpKind Self.Attr) → (n : ℕ) → (us : Trees (Said Self.Attr)) → (ps : Pieces) → (seen ctx.now).operation op ≡ Some o
-            → says.of_operation o.kind o.attributes (length o.operands) (types_of o.results) ≡ Some (n, us) → ShowsAll says types us ps → IfOk result (λ parts. ShowsParts says types parts.items ps) };
+        ensures { (types : List Self.TypeKey) → (o : SeenOperation Self.OpKind Self.Attr) → (n : ℕ) →
+            (us : Trees (Said Self.Attr)) → (ps : Pieces) → (seen ctx.now).operation op ≡ Some o →
+            says.of_operation o.kind o.attributes (length o.operands) (types_of o.results) ≡ Some (n, us) →
+            ShowsAll says types us ps → IfOk result (λ parts. ShowsParts says types parts.items ps) };
 
     /// Kinds are printed and read by their ids.
     ghost op_ids_printed: { (kind : Self.OpKind) → (op_kind kind).id ≡ dotted (Self.DialectTables.op_text kind) };
@@ -194,19 +203,24 @@ pub trait TextDialect: DialectTables {
     ghost says_operations: { SaysOperations says formats values };
 
     /// An operation says the number of its own kind.
-    ghost says_kinds: { (kind : Self.OpKind) (entries : List (List ℕ × Self.Attr)) (count : ℕ) (tys : List TypeHandle) (n : ℕ) (us : Trees (Said Self.Attr)) → says.of_operation kind entries count tys ≡ Some (n, us) → kind_at n ≡ Some kind };
+    ghost says_kinds: { (kind : Self.OpKind) (entries : List (List ℕ × Self.Attr)) (count : ℕ) (tys : List TypeHandle)
+        (n : ℕ) (us : Trees (Said Self.Attr)) →
+        says.of_operation kind entries count tys ≡ Some (n, us) → kind_at n ≡ Some kind };
 
     /// So does a type.
-    ghost says_type_kinds: { (key : Self.TypeKey) (n : ℕ) (us : Trees (Said Self.Attr)) → says.of_type key ≡ Some (n, us) → slice_get type_kinds n ≡ Some (Self.DialectTables.kind_of_type key) };
+    ghost says_type_kinds: { (key : Self.TypeKey) (n : ℕ) (us : Trees (Said Self.Attr)) →
+        says.of_type key ≡ Some (n, us) → slice_get type_kinds n ≡ Some (Self.DialectTables.kind_of_type key) };
 
     /// So does an attribute.
-    ghost says_attr_kinds: { (attr : Self.Attr) (n : ℕ) (us : Trees (Said Self.Attr)) → says.of_attribute attr ≡ Some (n, us) → slice_get attr_kinds n ≡ Some (Self.DialectTables.kind_of_attr attr) };
+    ghost says_attr_kinds: { (attr : Self.Attr) (n : ℕ) (us : Trees (Said Self.Attr)) →
+        says.of_attribute attr ≡ Some (n, us) → slice_get attr_kinds n ≡ Some (Self.DialectTables.kind_of_attr attr) };
 
     /// Where no kind of types has a number, the first piece is refused.
     ghost unknown_type: { (n : ℕ) (ps : Pieces) → slice_get type_kinds n ≡ None → values.refused_type n ps ≡ Some 0 };
 
     /// Where no kind of attributes has a number, the first piece is refused.
-    ghost unknown_attribute: { (n : ℕ) (ps : Pieces) → slice_get attr_kinds n ≡ None → values.refused_attribute n ps ≡ Some 0 };
+    ghost unknown_attribute: { (n : ℕ) (ps : Pieces) → slice_get attr_kinds n ≡ None →
+        values.refused_attribute n ps ≡ Some 0 };
 
     /// Where no kind of operations has a number, the first piece is refused.
     ghost unknown_operation: { (n : ℕ) (ps : Pieces) → kind_at n ≡ None → values.refused_operation n ps ≡ Some 0 };

@@ -1,0 +1,43 @@
+-- What each directive stands for.
+use Rattle.std.proofs.Common.{◌≡◌, ap, sym, ◌∙◌, List, ℕ, Bor}
+use Rattle.std.specs.Str.{trim}
+use Rattle.ir_print.specs.Formats.{steps_of, step_of, Step, step_by, word, operands, operand, an_attribute, a_type, a_region, symbol_name, a_name, a_number, a_width, list_of}
+use Rattle.ir_print.specs.declared.format.Directive.{Directive, Directive-F, fold-Directive, fold-roll-Directive}
+use Rattle.ir_print.specs.declared.format.Directive as directive
+use Rattle.ir_print.specs.declared.format.Directive.TheVariants.{rolls-List, rolls-Literal, rolls-Operands, rolls-Operand, rolls-Attribute, rolls-Type, rolls-Region, rolls-SymbolHeader, rolls-Name, rolls-Number, rolls-Width}
+
+pub step_of-Literal : (text : Bor (List ℕ)) → step_of (directive.Literal text) ≡ word text.now (trim text.now)
+step_of-Literal text = ap step_of (sym (rolls-Literal text)) ∙ fold-roll-Directive Step step_by (Directive-F.Literal text)
+
+pub step_of-List : (member : Bor (List Directive)) (text : Bor (List ℕ)) → step_of (directive.List member text) ≡ list_of (steps_of member.now) text.now (trim text.now)
+step_of-List member text = ap step_of (sym (rolls-List member text)) ∙ fold-roll-Directive Step step_by (Directive-F.List member text)
+
+pub step_of-Operands : step_of directive.Operands ≡ operands
+step_of-Operands = ap step_of (sym rolls-Operands) ∙ fold-roll-Directive Step step_by Directive-F.Operands
+
+pub step_of-Operand : step_of directive.Operand ≡ operand
+step_of-Operand = ap step_of (sym rolls-Operand) ∙ fold-roll-Directive Step step_by Directive-F.Operand
+
+pub step_of-Attribute : step_of directive.Attribute ≡ an_attribute
+step_of-Attribute = ap step_of (sym rolls-Attribute) ∙ fold-roll-Directive Step step_by Directive-F.Attribute
+
+pub step_of-Type : step_of directive.«Type» ≡ a_type
+step_of-Type = ap step_of (sym rolls-Type) ∙ fold-roll-Directive Step step_by Directive-F.«Type»
+
+pub step_of-Region : step_of directive.Region ≡ a_region
+step_of-Region = ap step_of (sym rolls-Region) ∙ fold-roll-Directive Step step_by Directive-F.Region
+
+pub step_of-SymbolHeader : step_of directive.SymbolHeader ≡ symbol_name
+step_of-SymbolHeader = ap step_of (sym rolls-SymbolHeader) ∙ fold-roll-Directive Step step_by Directive-F.SymbolHeader
+
+pub step_of-Name : step_of directive.Name ≡ a_name
+step_of-Name = ap step_of (sym rolls-Name) ∙ fold-roll-Directive Step step_by Directive-F.Name
+
+pub step_of-Number : step_of directive.Number ≡ a_number
+step_of-Number = ap step_of (sym rolls-Number) ∙ fold-roll-Directive Step step_by Directive-F.Number
+
+pub step_of-Width : step_of directive.Width ≡ a_width
+step_of-Width = ap step_of (sym rolls-Width) ∙ fold-roll-Directive Step step_by Directive-F.Width
+
+-- what the directives of a format stand for
+pub ruleset step_rules = (step_of-Literal, step_of-List, step_of-Operands, step_of-Operand, step_of-Attribute, step_of-Type, step_of-Region, step_of-SymbolHeader, step_of-Name, step_of-Number, step_of-Width)

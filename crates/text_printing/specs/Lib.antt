@@ -1,0 +1,3 @@
+pub mod Printing
+pub mod Added
+pub mod PartPrinted

@@ -1,0 +1,54 @@
+-- What the parts of printing say of themselves.
+use Rattle.std.specs.Prelude.{◌≡◌, ℕ, ◌<◌, ◌^◌, Bool, List, ◌++◌, Option}
+use Rattle.ir_names.specs.Tree.{node, no_tree, a_tree}
+use Rattle.ir_names.specs.declared.kinds.Signedness.{Signedness}
+use Rattle.ir_print.specs.declared.format.Number.{Number}
+use Rattle.ir_print.specs.Formats.{Step}
+use Rattle.ir_print.specs.Layout.{Chunk, spell, Before, an_id, a_word, a_part, Deeper, name_on, number_text, width_text}
+use Rattle.ir_print.specs.Pieces.{type_of_kind, attribute_of_kind, list, item, operands, region, name, number, width, ValueTree, Pieces}
+use Rattle.ir_print.specs.Shown.{IsNumber, IsWidth}
+use Rattle.text_printing.specs.declared.words.Before as code
+use Rattle.text_printing.specs.declared.words.Before.TheVariants as code_before
+
+-- what stands before a step of a format, as the layout has it
+abbrev pub before_of : code.Before → Before
+before_of code_before.Id = an_id
+before_of code_before.Literal = a_word
+before_of code_before.Part = a_part
+
+-- a text that was written, where these chunks stand for the rest
+abbrev pub Adds : (old new : List ℕ) → List Chunk → List Chunk → Type 0
+Adds old new rest whole = new ++ spell rest ≡ old ++ spell whole
+
+-- a name was written, at this step of a format
+abbrev pub AddsName : Step → List ℕ → (old new : List ℕ) → Type 0
+AddsName s cs old new = (rest : List Chunk) → Adds old new rest (name_on s cs rest)
+
+-- a number was written, where 64 bits hold it
+abbrev pub AddsNumber : Option Number → (old new : List ℕ) → Type 0
+AddsNumber n old new =
+    (negative : Bool) (magnitude : ℕ) → IsNumber n negative magnitude → magnitude < 2 ^ 64 →
+    new ≡ old ++ number_text negative magnitude
+
+-- a width was written, where 32 bits hold it
+abbrev pub AddsWidth : Signedness → Option ℕ → (old new : List ℕ) → Type 0
+AddsWidth sign w old new =
+    (bits : ℕ) → IsWidth w bits → bits < 2 ^ 32 → new ≡ old ++ width_text sign bits
+
+abbrev mutual
+  -- Numbers and widths are those that can be read, and at most so many lists stand in one another. What a type or an attribute
+  -- says isn't looked at.
+  pub IsReadable : ℕ → ValueTree → Type 0
+  IsReadable d (node (type_of_kind n) ts) = Unit {0}
+  IsReadable d (node (attribute_of_kind n) ts) = Unit {0}
+  IsReadable d (node list ts) = Deeper d (λ e. AreReadable e ts)
+  IsReadable d (node item ts) = AreReadable d ts
+  IsReadable d (node (operands n) ts) = Unit {0}
+  IsReadable d (node region ts) = Unit {0}
+  IsReadable d (node (name cs) ts) = Unit {0}
+  IsReadable d (node (number negative magnitude) ts) = magnitude < 2 ^ 64
+  IsReadable d (node (width sign bits) ts) = bits < 2 ^ 32
+
+  pub AreReadable : ℕ → Pieces → Type 0
+  AreReadable d no_tree = Unit {0}
+  AreReadable d (a_tree t ts) = IsReadable d t × AreReadable d ts

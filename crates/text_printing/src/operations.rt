@@ -1,0 +1,315 @@
+//! The texts of operations, with the regions and blocks in them.
+ghost use Rattle.std.specs.Prelude.{◌≡◌, ◌+◌, ◌*◌, ◌<◌, ◌≤◌, ◌^◌, ◌++◌, IsSome, IfSome, IfOk, OnOk, List, ℕ, length, take, drop};
+ghost use Rattle.std.specs.String.{string_bytes};
+ghost use Rattle.ir_context.specs.Kept.{label_at};
+ghost use Rattle.ir_print.specs.Formats.{step_of};
+ghost use Rattle.ir_print.specs.Layout.{a_part, layout, IsShallow};
+ghost use Rattle.ir_print.specs.Pieces.{Entity};
+ghost use Rattle.ir_program.specs.Lists.{regions_in};
+ghost use Rattle.ir_program.specs.Program.{operation_at, block_at, region_at, results_at, arguments_at};
+ghost use Rattle.ir_program.specs.Rows.{operands_at};
+ghost use Rattle.text_dialect.specs.Printed.{PrintsAs, block_name, label_front};
+ghost use Rattle.text_dialect.specs.Seen.{seen};
+ghost use Rattle.text_printing.specs.Added.{AddsResults, AddsOperands, AddsArguments, AddsOperation, AddsRegion, AddsBlock};
+ghost use Rattle.text_printing.specs.PartPrinted.{PartPrinted};
+ghost use Rattle.text_printing.specs.Printing.{before_of};
+
+use crate::values::{LISTS, print_part, print_type};
+use crate::words::{Before, print_gap, print_line, print_literal, print_value};
+use ir_context::{
+    BlockCalls, ContainsBlocks, ContainsOperations, Context, OperandCalls, OperationCalls,
+};
+use ir_print::{Directive, Part};
+use ir_program::{BasicBlock, Operation, Ptr, Region};
+use std::alloc::{AllocError, Global};
+use text_dialect::TextDialect;
+
+/// Regions, types and attributes stand in one another at most so deep in a text.
+const DEEPEST: u32 = 64;
+
+/// The text of an operation with all that stands in it, without a line end behind it.
+///
+/// What stands deeper than 64 regions, types and attributes in one another may be left out, as no text has it. Nothing is
+/// promised of an operation that has no tree of texts, as one with successors.
+///
+/// # Errors
+/// Without memory.
+pub fn print_root<D: TextDialect>(
+    alloc: Global,
+    ctx: &Context<D>,
+    root: Ptr<Operation>,
+) -> Result<String, AllocError>
+    requires { IsSome (operation_at ctx.now.program root) }
+    ensures text { (tree : Entity (List ℕ)) → PrintsAs D.says (seen ctx.now) root tree → IsShallow 64 tree →
+        IfOk result (λ text. string_bytes text ≡ layout D.formats tree) }
+{
+    let mut out = String::new(alloc);
+    print_operation(alloc, ctx, &mut out, root, 0, DEEPEST)?;
+    Ok(out)
+}
+
+/// The results of an operation, and the sign that sets them off from its id.
+fn print_results<D: TextDialect>(
+    ctx: &Context<D>,
+    out: &mut String,
+    op: Ptr<Operation>,
+) -> Result<(), AllocError>
+    requires { IsSome (operation_at ctx.now.program op) }
+    ensures { OnOk result (AddsResults D.says D.formats ctx.now.types.keys (results_at ctx.now.program op)
+        (string_bytes out.old) (string_bytes out.new)) }
+{
+    let program = ctx.program();
+    let count = program.result_count(op);
+    if count == 0 {
+        return Ok(());
+    }
+    let mut is_first = true;
+    for index in 0..count {
+        if !is_first {
+            out.push_str(", ")?;
+        }
+        is_first = false;
+        print_value(out, program.result(op, index))?;
+    }
+    out.push_str(" = ")?;
+    Ok(())
+}
+
+/// The operands from one on, up to another.
+fn print_operands<D: TextDialect>(
+    ctx: &Context<D>,
+    out: &mut String,
+    op: Ptr<Operation>,
+    from: usize,
+    to: usize,
+) -> Result<(), AllocError>
+    requires live { IsSome (operation_at ctx.now.program op) }
+    requires ordered { from ≤ to }
+    requires within { to ≤ length (operands_at ctx.now.program op) }
+    ensures { OnOk result (AddsOperands (drop from (take to (operands_at ctx.now.program op)))
+        (string_bytes out.old) (string_bytes out.new)) }
+{
+    let program = ctx.program();
+    let mut is_first = true;
+    for index in from..to {
+        if !is_first {
+            out.push_str(", ")?;
+        }
+        is_first = false;
+        print_value(out, program.operand(op, index))?;
+    }
+    Ok(())
+}
+
+/// `LABEL_block1v1`: the label, where there is one, the slot from 1 and its version.
+fn print_label<D: TextDialect>(
+    ctx: &Context<D>,
+    out: &mut String,
+    block: Ptr<BasicBlock>,
+) -> Result<(), AllocError>
+    requires { IsSome (block_at ctx.now.program block) }
+    ensures { OnOk result (IfSome (label_at ctx.now.program block) (λ label.
+        string_bytes out.new ≡ string_bytes out.old ++ block_name (label_front label) block.key.slot block.key.version)) }
+{
+    if let Some(label) = block.label(ctx) {
+        out.push_str(label.as_str())?;
+        out.push_str("_")?;
+    }
+    // A slot may be any usize, and the one behind the last isn't.
+    let slot = block.slot() as u128 + 1;
+    let version = block.version();
+    write!(out, "block{slot}v{version}")?;
+    Ok(())
+}
+
+/// The arguments of a block, with their types.
+fn print_arguments<D: TextDialect>(
+    alloc: Global,
+    ctx: &Context<D>,
+    out: &mut String,
+    block: Ptr<BasicBlock>,
+    left: u32,
+) -> Result<(), AllocError>
+    requires { IsSome (block_at ctx.now.program block) }
+    ensures { OnOk result (AddsArguments D.says D.formats ctx.now.types.keys left (arguments_at ctx.now.program block)
+        (string_bytes out.old) (string_bytes out.new)) }
+{
+    let program = ctx.program();
+    let mut is_first = true;
+    for index in 0..program.argument_count(block) {
+        if !is_first {
+            out.push_str(", ")?;
+        }
+        is_first = false;
+        print_value(out, program.argument(block, index))?;
+        out.push_str(": ")?;
+        print_type(alloc, ctx, out, program.argument_type(block, index), left)?;
+    }
+    Ok(())
+}
+
+/// How far the format of an operation has been printed.
+#[derive(Clone, Copy)]
+struct Progress {
+    before: Before,
+    /// So many operands and regions have been printed.
+    operands: usize,
+    regions: usize,
+}
+
+/// Behind a part that is printed.
+fn behind_part(operands: usize, regions: usize) -> Progress
+    ensures before { before_of result.before ≡ a_part }
+    ensures operands { result.operands ≡ operands }
+    ensures regions { result.regions ≡ regions }
+{
+    Progress {
+        before: Before::Part,
+        operands,
+        regions,
+    }
+}
+
+/// An operation, from where its line begins, where `left` regions, types and attributes may stand in one another.
+#[cycle(operations)]
+fn print_operation<D: TextDialect>(
+    alloc: Global,
+    ctx: &Context<D>,
+    out: &mut String,
+    op: Ptr<Operation>,
+    indent: usize,
+    left: u32,
+) -> Result<(), AllocError>
+    requires live { IsSome (operation_at ctx.now.program op) }
+    requires narrow { indent + 4 * left < 2 ^ 60 }
+    ensures { OnOk result (AddsOperation D.says (seen ctx.now) D.formats indent left op
+        (string_bytes out.old) (string_bytes out.new)) }
+{
+    print_results(ctx, out, op)?;
+    let kind = op.kind(ctx);
+    out.push_str(D::op_name(kind))?;
+    let parts = D::operation_parts(alloc, ctx, op)?;
+    let mut progress = Progress {
+        before: Before::Id,
+        operands: 0,
+        regions: 0,
+    };
+    let mut next = 0;
+    for directive in D::op_format(kind) {
+        if let Directive::Literal(text) = directive {
+            print_literal(out, progress.before, text)?;
+            progress.before = Before::Literal;
+            continue;
+        }
+        if let Some(part) = parts.get(next) {
+            progress = print_operation_part(
+                alloc, ctx, out, op, *directive, part, progress, indent, left,
+            )?;
+            next += 1;
+        }
+    }
+    Ok(())
+}
+
+/// A part of an operation, and how far its format has been printed then.
+#[cycle(operations)]
+fn print_operation_part<D: TextDialect>(
+    alloc: Global,
+    ctx: &Context<D>,
+    out: &mut String,
+    op: Ptr<Operation>,
+    directive: Directive,
+    part: &Part<D>,
+    progress: Progress,
+    indent: usize,
+    left: u32,
+) -> Result<Progress, AllocError>
+    requires live { IsSome (operation_at ctx.now.program op) }
+    requires narrow { indent + 4 * left < 2 ^ 60 }
+    ensures { IfOk result (λ after. PartPrinted D.says (seen ctx.now)
+        (operands_at ctx.now.program op) (regions_in ctx.now.program op) left D.formats indent
+        (step_of directive) part.now progress after (string_bytes out.old) (string_bytes out.new)) }
+{
+    let regions = progress.regions;
+    let operands = progress.operands;
+    if let Part::Operands(count) = part {
+        let to = operands
+            .saturating_add(*count)
+            .min(op.get_num_operands(ctx));
+        if operands >= to {
+            return Ok(progress);
+        }
+        print_gap(out, progress.before)?;
+        print_operands(ctx, out, op, operands, to)?;
+        return Ok(behind_part(to, regions));
+    }
+    print_gap(out, progress.before)?;
+    if let Part::Region = part {
+        if left == 0 || regions >= op.num_regions(ctx) {
+            return Ok(behind_part(operands, regions));
+        }
+        let region = op.get_region(ctx, regions);
+        print_region(alloc, ctx, out, region, indent, left - 1)?;
+        return Ok(behind_part(operands, regions + 1));
+    }
+    print_part(alloc, ctx, out, directive, part, left, LISTS)?;
+    Ok(behind_part(operands, regions))
+}
+
+/// A region, from the end of the line on which its operation stands.
+#[cycle(operations)]
+fn print_region<D: TextDialect>(
+    alloc: Global,
+    ctx: &Context<D>,
+    out: &mut String,
+    region: Ptr<Region>,
+    indent: usize,
+    left: u32,
+) -> Result<(), AllocError>
+    requires live { IsSome (region_at ctx.now.program region) }
+    requires narrow { indent + 4 * left + 4 < 2 ^ 60 }
+    ensures { OnOk result (AddsRegion D.says (seen ctx.now) D.formats indent left region
+        (string_bytes out.old) (string_bytes out.new)) }
+{
+    print_line(out, indent)?;
+    out.push_str("{")?;
+    for block in region.iter(ctx) {
+        print_line(out, indent + 2)?;
+        print_block(alloc, ctx, out, block, indent + 2, left)?;
+    }
+    print_line(out, indent)?;
+    out.push_str("}")?;
+    Ok(())
+}
+
+/// A block, from where its line begins.
+#[cycle(operations)]
+fn print_block<D: TextDialect>(
+    alloc: Global,
+    ctx: &Context<D>,
+    out: &mut String,
+    block: Ptr<BasicBlock>,
+    indent: usize,
+    left: u32,
+) -> Result<(), AllocError>
+    requires live { IsSome (block_at ctx.now.program block) }
+    requires narrow { indent + 4 * left + 2 < 2 ^ 60 }
+    ensures { OnOk result (AddsBlock D.says (seen ctx.now) D.formats indent left block
+        (string_bytes out.old) (string_bytes out.new)) }
+{
+    out.push_str("^")?;
+    print_label(ctx, out, block)?;
+    out.push_str("(")?;
+    print_arguments(alloc, ctx, out, block, left)?;
+    out.push_str("):")?;
+    let mut is_first = true;
+    for op in block.iter(ctx) {
+        if !is_first {
+            out.push_str(";")?;
+        }
+        is_first = false;
+        print_line(out, indent + 2)?;
+        print_operation(alloc, ctx, out, op, indent + 2, left)?;
+    }
+    Ok(())
+}

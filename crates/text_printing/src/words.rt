@@ -1,0 +1,116 @@
+//! The words of which texts are made: names, numbers, and what stands between two parts.
+ghost use Rattle.std.specs.Prelude.{◌≡◌, ◌++◌, OnOk};
+ghost use Rattle.std.specs.String.{string_bytes};
+ghost use Rattle.ir_names.specs.Identifier.{text_of};
+ghost use Rattle.ir_print.specs.Formats.{step_of};
+ghost use Rattle.ir_print.specs.Layout.{line, gap_of_word, gap_of_part};
+ghost use Rattle.text_dialect.specs.Printed.{value_name};
+ghost use Rattle.text_printing.specs.Printing.{before_of, AddsName, AddsNumber, AddsWidth};
+
+use ir_names::{Identifier, Signedness};
+use ir_print::{Directive, Number};
+use ir_program::Value;
+use std::alloc::AllocError;
+
+/// What stands before the next part of a text.
+#[derive(Clone, Copy)]
+pub(crate) enum Before {
+    /// The id: any text is set off from it.
+    Id,
+    /// A literal, which brings its own spaces.
+    Literal,
+    /// A part: another one is set off from it.
+    Part,
+}
+
+/// The end of a line, and the spaces before the next one.
+pub(crate) fn print_line(out: &mut String, indent: usize) -> Result<(), AllocError>
+    ensures { OnOk result (string_bytes out.new ≡ string_bytes out.old ++ line indent) }
+{
+    out.push_str("\n")?;
+    for _column in 0..indent {
+        out.push_str(" ")?;
+    }
+    Ok(())
+}
+
+/// The name of a value: `v` and its number.
+pub(crate) fn print_value(out: &mut String, value: Value) -> Result<(), AllocError>
+    ensures { OnOk result (string_bytes out.new ≡ string_bytes out.old ++ value_name value.number) }
+{
+    let number = value.number();
+    write!(out, "v{number}")?;
+    Ok(())
+}
+
+/// A number, which 64 bits hold.
+pub(crate) fn print_number(out: &mut String, number: Option<Number>) -> Result<(), AllocError>
+    ensures { OnOk result (AddsNumber number (string_bytes out.old) (string_bytes out.new)) }
+{
+    let Some(number) = number else {
+        return Ok(());
+    };
+    if number.is_negative {
+        out.push_str("-")?;
+    }
+    let magnitude = number.magnitude;
+    write!(out, "{magnitude}")?;
+    Ok(())
+}
+
+/// The width of an integer: `i`, `si` or `ui`, and the number of bits.
+pub(crate) fn print_width(
+    out: &mut String,
+    signedness: Signedness,
+    width: Option<u32>,
+) -> Result<(), AllocError>
+    ensures { OnOk result (AddsWidth signedness width (string_bytes out.old) (string_bytes out.new)) }
+{
+    let Some(width) = width else {
+        return Ok(());
+    };
+    match signedness {
+        Signedness::Signless => write!(out, "i{width}")?,
+        Signedness::Signed => write!(out, "si{width}")?,
+        Signedness::Unsigned => write!(out, "ui{width}")?,
+    }
+    Ok(())
+}
+
+/// A literal, set off from an id before it.
+pub(crate) fn print_literal(out: &mut String, before: Before, text: &str) -> Result<(), AllocError>
+    ensures { OnOk result (string_bytes out.new ≡ string_bytes out.old ++ (gap_of_word (before_of before) ++ text.now)) }
+{
+    if let Before::Id = before {
+        out.push_str(" ")?;
+    }
+    out.push_str(text)?;
+    Ok(())
+}
+
+/// Sets a part off from what stands before it.
+pub(crate) fn print_gap(out: &mut String, before: Before) -> Result<(), AllocError>
+    ensures { OnOk result (string_bytes out.new ≡ string_bytes out.old ++ gap_of_part (before_of before)) }
+{
+    match before {
+        Before::Literal => {}
+        Before::Id => out.push_str(" ")?,
+        Before::Part => out.push_str(" ")?,
+    }
+    Ok(())
+}
+
+/// A name, with `@` before that of a symbol.
+pub(crate) fn print_name(
+    out: &mut String,
+    directive: Directive,
+    name: &Identifier,
+) -> Result<(), AllocError>
+    ensures { OnOk result (AddsName (step_of directive) (text_of name.now) (string_bytes out.old) (string_bytes out.new)) }
+{
+    if let Directive::SymbolHeader = directive {
+        out.push_str("@")?;
+    }
+    out.push_str(name.as_str())?;
+    Ok(())
+}
