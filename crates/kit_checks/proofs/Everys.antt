@@ -1,5 +1,5 @@
 -- What holds of each member of a list, found out one after the other.
-use Rattle.std.proofs.Common.{◌≡◌, ◌↔◌, ℕ, ◌<◌, ◌+◌, true, false, List, length, Some, slice_get, refl, sym, ◌∙◌, subst, arith, IsTrue, zero, suc, [], ◌∷◌}
+use Rattle.std.proofs.Common.{◌≡◌, ◌↔◌, ℕ, ◌<◌, ◌≤◌, ◌+◌, true, false, List, length, Some, slice_get, refl, sym, ◌∙◌, subst, arith, IsTrue, zero, suc, [], ◌∷◌}
 use Rattle.std.proofs.lemmas.Bool.{false≢true}
 use Rattle.std.proofs.lemmas.Option.{slice_get_within}
 use Rattle.std.proofs.Common.{below_more}
@@ -21,6 +21,9 @@ module _ {X : Type 0} (P : X → Type 0) (xs : List X) where
 
   pub every_all : (n : ℕ) → length xs ≡ n → EveryBelow n → Every P xs
   every_all n many every k x here = every k x (let w : k < length xs = slice_get_within xs k x here in omega arith) here
+
+  pub every_end : (n : ℕ) → length xs ≤ n → EveryBelow n → Every P xs
+  every_end n many every k x here = every k x (let w : k < length xs = slice_get_within xs k x here in omega arith) here
 
 -- a test of each member that fails at one
 pub not_every : {X : Type 0} (P : X → Type 0) (xs ys : List X) (k : ℕ) (x : X) → xs ≡ ys → slice_get ys k ≡ Some x → (P x → ⊥) → IsTrue false ↔ Every P xs

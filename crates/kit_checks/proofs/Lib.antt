@@ -14,3 +14,10 @@ pub mod Combined
 pub mod Widths
 pub mod Alike
 pub mod Contents
+pub mod Rows
+pub mod Entries
+pub mod Handed
+pub mod Walk
+pub mod Named
+pub mod Signed
+pub mod Somewhere

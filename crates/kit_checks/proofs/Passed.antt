@@ -47,14 +47,14 @@ every_has P xs every x has = let at = has_at xs x has in every at.0 x at.1
 pub has_every : {X : Type 0} (P : X → Type 0) (xs : List X) → ((x : X) → Has x xs → P x) → Every P xs
 has_every P xs all k x here = all x (at_has xs k x here)
 
-in_joined : {X Y : Type 0} (f : X → List Y) (xs : List X) (x : X) (y : Y) → Has x xs → Has y (f x) → Has y (joined (map f xs))
+pub in_joined : {X Y : Type 0} (f : X → List Y) (xs : List X) (x : X) (y : Y) → Has x xs → Has y (f x) → Has y (joined (map f xs))
 in_joined f [] x y a b = absurd a
 in_joined f (z ∷ xs) x y a b = ⊎_elim
     (λ same. has_front (f z) (joined (map f xs)) y (subst (λ w. Has y (f w)) same b))
     (λ rest. has_back (f z) (joined (map f xs)) y (in_joined f xs x y rest b))
     a
 
-from_joined : {X Y : Type 0} (f : X → List Y) (xs : List X) (y : Y) → Has y (joined (map f xs)) → (x : X) × Has x xs × Has y (f x)
+pub from_joined : {X Y : Type 0} (f : X → List Y) (xs : List X) (y : Y) → Has y (joined (map f xs)) → (x : X) × Has x xs × Has y (f x)
 from_joined f [] y h = absurd h
 from_joined f (z ∷ xs) y h = ⊎_elim
     (λ here. (z, inl refl, here))

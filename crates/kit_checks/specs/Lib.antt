@@ -8,3 +8,5 @@ pub mod Located
 pub mod Searching
 pub mod Reading
 pub mod Passing
+pub mod Handing
+pub mod Naming

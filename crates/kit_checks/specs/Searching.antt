@@ -59,10 +59,14 @@ module _ {O B : Type 0} (w : World O B) (c : Program O B) (root : Ptr Operation)
 -- the rules that are tested so far
 abbrev pub IsTested : Rule → Type 0
 IsTested rule.RootIsModule = Unit {0}
+IsTested rule.FunctionHasType = Unit {0}
 IsTested rule.FunctionHolds = Unit {0}
 IsTested rule.ValuesAreIntegers = Unit {0}
 IsTested rule.BlocksEnd = Unit {0}
+IsTested rule.OperandsAreVisible = Unit {0}
 IsTested rule.TypesAgree = Unit {0}
+IsTested rule.EdgesFit = Unit {0}
+IsTested rule.ReturnsFit = Unit {0}
 IsTested rule.ConstantsFit = Unit {0}
 IsTested rule.AttributesAreKnown = Unit {0}
 IsTested rule.FitsFormat = Unit {0}

@@ -46,7 +46,7 @@ fn is_cond_br(kind: KitOp) -> bool
 }
 
 /// The type of the operand at an index.
-fn operand_type<D: DialectTables<OpKind = KitOp, Attr = KitAttr, TypeKey = KitType>>(
+pub(crate) fn operand_type<D: DialectTables<OpKind = KitOp, Attr = KitAttr, TypeKey = KitType>>(
     ctx: &Context<D>,
     op: Ptr<Operation>,
     index: usize,

@@ -94,7 +94,7 @@ fn is_operation(node: IRNode, op: Ptr<Operation>) -> bool
 ///
 /// # Errors
 /// No memory.
-pub(crate) fn place_of<O, B>(
+pub fn place_of<O, B>(
     alloc: Global,
     program: &Program<O, B>,
     root: Ptr<Operation>,

@@ -51,10 +51,10 @@ pub(crate) fn integer_type<D: DialectTables<OpKind = KitOp, Attr = KitAttr, Type
 }
 
 /// The function type that a type is, if it is one.
-pub(crate) fn function_type<
-    'a,
-    D: DialectTables<OpKind = KitOp, Attr = KitAttr, TypeKey = KitType>,
->(ctx: &'a Context<D>, ty: TypeHandle) -> Option<&'a FunctionType>
+pub fn function_type<'a, D: DialectTables<OpKind = KitOp, Attr = KitAttr, TypeKey = KitType>>(
+    ctx: &'a Context<D>,
+    ty: TypeHandle,
+) -> Option<&'a FunctionType>
     ensures { function_type (world_of ctx.now) ty ≡ option_copied result }
 {
     match ctx.type_key(ty) {
@@ -112,7 +112,7 @@ pub(crate) fn is_bit<D: DialectTables<OpKind = KitOp, Attr = KitAttr, TypeKey = 
 }
 
 /// Whether an operation is a module.
-pub(crate) fn is_module(kind: KitOp) -> bool
+pub fn is_module(kind: KitOp) -> bool
     ensures { IsTrue result ↔ (kind ≡ Module) }
 {
     match kind {
@@ -122,7 +122,7 @@ pub(crate) fn is_module(kind: KitOp) -> bool
 }
 
 /// Whether an operation is a function.
-pub(crate) fn is_function(kind: KitOp) -> bool
+pub fn is_function(kind: KitOp) -> bool
     ensures { IsTrue result ↔ (kind ≡ Func) }
 {
     match kind {
@@ -132,7 +132,7 @@ pub(crate) fn is_function(kind: KitOp) -> bool
 }
 
 /// Whether an operation of this kind has a name.
-pub(crate) fn is_symbol(kind: KitOp) -> bool
+pub fn is_symbol(kind: KitOp) -> bool
     ensures { result ≡ is_symbol kind }
 {
     match kind {

@@ -28,7 +28,7 @@ pub(crate) fn owner_of<D: DialectTables<OpKind = KitOp, Attr = KitAttr, TypeKey 
 }
 
 /// Whether an operation is in a module that is inside the root.
-pub(crate) fn is_in_module<D: DialectTables<OpKind = KitOp, Attr = KitAttr, TypeKey = KitType>>(
+pub fn is_in_module<D: DialectTables<OpKind = KitOp, Attr = KitAttr, TypeKey = KitType>>(
     ctx: &Context<D>,
     root: Ptr<Operation>,
     op: Ptr<Operation>,

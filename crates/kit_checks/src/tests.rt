@@ -1,10 +1,13 @@
 //! Whether an operation keeps a rule where it is.
 ghost use Rattle.std.specs.Prelude.{◌≡◌, ◌+◌, ◌↔◌, ℕ, true, length, slice_get, IsSome, IsTrue, Some};
-ghost use Rattle.ir_program.specs.Lists.{operations_in};
+ghost use Rattle.ir_program.specs.Lists.{StandsInside, operations_in};
 ghost use Rattle.ir_program.specs.Program.{operation_at};
 ghost use Rattle.ir_program.specs.declared.handles.BasicBlock.{BasicBlock};
+ghost use Rattle.ir_program.specs.declared.handles.IRNode.TheVariants.{Operation as OperationNode};
 ghost use Rattle.ir_program.specs.declared.handles.Operation.{Operation};
 ghost use Rattle.ir_program.specs.declared.handles.Ptr.{Ptr};
+ghost use Rattle.opt_inside.specs.Numbered.{numbers_of};
+ghost use Rattle.kit_checks.specs.Naming.{IsOrderFor};
 ghost use Rattle.kit_checks.specs.Reading.{EndsWell, HasFilledBlocks, OfSite, OfTree};
 ghost use Rattle.kit_checks.specs.Rules.{AttributesAreKnown, BlocksEnd, FunctionHolds, RootIsModule, ValuesAreIntegers};
 ghost use Rattle.kit_checks.specs.Searching.{IsTested, Tells};
@@ -16,16 +19,20 @@ use crate::attributes::{has_known_attributes, is_forward_ref};
 use crate::blocks::{BlockTest, blocks_pass};
 use crate::constants::constants_fit;
 use crate::counts::has_regions;
+use crate::edges::edges_fit;
 use crate::format::fits_format;
+use crate::naming::operands_are_visible;
 use crate::operands::types_agree;
 use crate::reading::{is_function, is_instruction, is_module, is_terminator, kind_of};
 use crate::rule::Rule;
+use crate::signatures::{function_has_type, returns_fit};
 use crate::sites::is_in_function;
 use crate::types::{TypeTest, results_pass};
 use ir_context::{Context, OperationCalls, OperationLists, TypeTable, TypedProgram};
 use ir_program::{Operation, Ptr};
 use ir_types::DialectTables;
 use kit_ops::{KitAttr, KitOp, KitType};
+use opt_inside::Inside;
 
 /// Whether an operation is a module if it is the root.
 fn root_is_module<D: DialectTables<OpKind = KitOp, Attr = KitAttr, TypeKey = KitType>>(
@@ -167,18 +174,25 @@ pub(crate) fn keeps<D: DialectTables<OpKind = KitOp, Attr = KitAttr, TypeKey = K
     ctx: &Context<D>,
     root: Ptr<Operation>,
     rule: Rule,
+    order: &Inside,
     op: Ptr<Operation>,
 ) -> bool
     requires tested { IsTested rule }
+    requires order { IsOrderFor ctx.now.program rule root (numbers_of order.now).operations }
+    requires inside { StandsInside ctx.now.program (OperationNode root) (OperationNode op) }
     requires op { IsSome (operation_at ctx.now.program op) }
     ensures { Tells (world_of ctx.now) ctx.now.program root rule op result }
 {
     match rule {
         Rule::RootIsModule => root_is_module(ctx, root, op),
+        Rule::FunctionHasType => function_has_type(ctx, op),
         Rule::FunctionHolds => function_holds(ctx, root, op),
         Rule::ValuesAreIntegers => values_are_integers(ctx, root, op),
         Rule::BlocksEnd => blocks_end(ctx, root, op),
+        Rule::OperandsAreVisible => operands_are_visible(ctx, root, order, op),
         Rule::TypesAgree => types_agree(ctx, op),
+        Rule::EdgesFit => edges_fit(ctx, root, op),
+        Rule::ReturnsFit => returns_fit(ctx, root, op),
         Rule::ConstantsFit => constants_fit(ctx, op),
         Rule::AttributesAreKnown => attributes_are_known(ctx, root, op),
         Rule::FitsFormat => fits_format(ctx, op),

@@ -57,7 +57,7 @@ pub(crate) fn results_pass<D: DialectTables<OpKind = KitOp, Attr = KitAttr, Type
 }
 
 /// How many arguments a block has.
-fn argument_count<D: DialectTables<OpKind = KitOp, Attr = KitAttr, TypeKey = KitType>>(
+pub(crate) fn argument_count<D: DialectTables<OpKind = KitOp, Attr = KitAttr, TypeKey = KitType>>(
     ctx: &Context<D>,
     block: Ptr<BasicBlock>,
 ) -> usize
@@ -68,7 +68,7 @@ fn argument_count<D: DialectTables<OpKind = KitOp, Attr = KitAttr, TypeKey = Kit
 }
 
 /// The type of the argument of a block at an index.
-fn argument_type<D: DialectTables<OpKind = KitOp, Attr = KitAttr, TypeKey = KitType>>(
+pub(crate) fn argument_type<D: DialectTables<OpKind = KitOp, Attr = KitAttr, TypeKey = KitType>>(
     ctx: &Context<D>,
     block: Ptr<BasicBlock>,
     index: usize,

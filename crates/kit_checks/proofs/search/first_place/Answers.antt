@@ -26,7 +26,7 @@ returns-in-None g c =
     found_nowhere (world_of c.args.ctx.now) c.args.ctx.now.program c.args.root c.args.rule
     (subst (λ x. AreInside x (OperationNode c.args.root) (nodes_inside x (OperationNode c.args.root))) p c.nodes_inside-inside.ensures.inside)
     (subst HasLists p lists)
-    (subst (IsSearched (world_of c.args.ctx.now) c.args.ctx.now.program c.args.root c.args.rule) c.in-None.is c.first_operation.ensures)
+    (subst (IsSearched (world_of c.args.ctx.now) c.args.ctx.now.program c.args.root c.args.rule) c.in-None.is c.in_ok-found.ensures)
 
 pub returns-in_ok-place-in-Some : goal.returns-in_ok-place-in-Some
 returns-in_ok-place-in-Some g c =
@@ -47,7 +47,7 @@ returns-in_ok-place-in-Some g c =
     (subst (λ x. StandOnceEach (nodes_inside x (OperationNode c.args.root))) p c.nodes_inside-inside.ensures.once)
     (subst (λ x. IsPreorder x (OperationNode c.args.root ∷ []) (nodes_inside x (OperationNode c.args.root))) p c.nodes_inside-inside.ensures.order)
     c.in-Some.op c.in_ok-place-in-Some.place.children.items
-    (subst (IsSearched (world_of c.args.ctx.now) c.args.ctx.now.program c.args.root c.args.rule) c.in-Some.is c.first_operation.ensures)
+    (subst (IsSearched (world_of c.args.ctx.now) c.args.ctx.now.program c.args.root c.args.rule) c.in-Some.is c.in_ok-found.ensures)
     (subst (λ x. IsPlaceOf x c.args.root c.in-Some.op c.in_ok-place-in-Some.place.children.items) p c.in_ok-place-in-Some.ensures)
 
 pub place_of-requires-clause-inside : goal.place_of-requires-clause-inside
@@ -56,4 +56,4 @@ place_of-requires-clause-inside g c =
     subst (λ x. StandsInside x (OperationNode c.args.root) (OperationNode c.in-Some.op)) (sym p)
     (found_inside (world_of c.args.ctx.now) c.args.ctx.now.program c.args.root c.args.rule
     (subst (λ x. AreInside x (OperationNode c.args.root) (nodes_inside x (OperationNode c.args.root))) p c.nodes_inside-inside.ensures.inside)
-    c.in-Some.op (subst (IsSearched (world_of c.args.ctx.now) c.args.ctx.now.program c.args.root c.args.rule) c.in-Some.is c.first_operation.ensures))
+    c.in-Some.op (subst (IsSearched (world_of c.args.ctx.now) c.args.ctx.now.program c.args.root c.args.rule) c.in-Some.is c.in_ok-found.ensures))

@@ -26,3 +26,15 @@ returns-in-FitsFormat g c = subst (λ r. Tells (world_of c.args.ctx.now) c.args.
 
 pub returns-in-AttributesAreKnown : goal.returns-in-AttributesAreKnown
 returns-in-AttributesAreKnown g c = subst (λ r. Tells (world_of c.args.ctx.now) c.args.ctx.now.program c.args.root r c.args.op c.attributes_are_known.result) (sym c.in-AttributesAreKnown.is) c.attributes_are_known.ensures
+
+pub returns-in-FunctionHasType : goal.returns-in-FunctionHasType
+returns-in-FunctionHasType g c = subst (λ r. Tells (world_of c.args.ctx.now) c.args.ctx.now.program c.args.root r c.args.op c.function_has_type.result) (sym c.in-FunctionHasType.is) (λ s at. c.function_has_type.ensures s.op at.tree)
+
+pub returns-in-OperandsAreVisible : goal.returns-in-OperandsAreVisible
+returns-in-OperandsAreVisible g c = subst (λ r. Tells (world_of c.args.ctx.now) c.args.ctx.now.program c.args.root r c.args.op c.operands_are_visible.result) (sym c.in-OperandsAreVisible.is) c.operands_are_visible.ensures
+
+pub returns-in-EdgesFit : goal.returns-in-EdgesFit
+returns-in-EdgesFit g c = subst (λ r. Tells (world_of c.args.ctx.now) c.args.ctx.now.program c.args.root r c.args.op c.edges_fit.result) (sym c.in-EdgesFit.is) c.edges_fit.ensures
+
+pub returns-in-ReturnsFit : goal.returns-in-ReturnsFit
+returns-in-ReturnsFit g c = subst (λ r. Tells (world_of c.args.ctx.now) c.args.ctx.now.program c.args.root r c.args.op c.returns_fit.result) (sym c.in-ReturnsFit.is) c.returns_fit.ensures

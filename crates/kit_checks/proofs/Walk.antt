@@ -1,0 +1,172 @@
+-- Operations of one block come in walk order as they stand in the block.
+use Rattle.std.proofs.Common.{◌≡◌, inl, inr, ⊎_elim, ℕ, zero, suc, ◌<◌, ◌+◌, List, [], ◌∷◌, ◌++◌, length, Some, option_map, slice_get, refl, sym, ap, ◌∙◌, subst, arith}
+use Rattle.std.proofs.lemmas.Option.{slice_get-map}
+use Rattle.ir_program.specs.Lists.{StandsInBlock, operations_in}
+use Rattle.ir_program.specs.Preorder.{nodes_in, AreInside, IsPreorder, nothing, more}
+use Rattle.ir_program.specs.Program.{Program}
+use Rattle.ir_program.specs.declared.handles.IRNode.{IRNode}
+use Rattle.ir_program.specs.declared.handles.IRNode.TheVariants.{Operation as OperationNode, BasicBlock as BlockNode}
+use Rattle.ir_program.specs.declared.handles.Ptr.{Ptr}
+use Rattle.ir_program.specs.declared.handles.Operation.{Operation}
+use Rattle.ir_trees.specs.Stands.{ProgramTree, StandsFor}
+use Rattle.ir_trees.proofs.Members.{Has, at_has, has_at, has_back, has_either}
+use Rattle.ir_trees.proofs.Picked.{operations_among, operations_joined, operation_picked}
+use Rattle.opt_inside.specs.Numbered.{Numbers, NumbersInside}
+use Rattle.opt_inside.proofs.Around.{HasLists, not_root}
+use Rattle.opt_inside.proofs.Ordered.{in_preorder}
+use Rattle.kit_checks.specs.Naming.{IsEarlier, AreInWalkOrder}
+use Rattle.kit_checks.proofs.Finding.{get-middle}
+
+-- the first is among those that come before the second
+module _ {X : Type 0} where
+  pub record IsBeforeIn (xs : List X) (x y : X) : Type 0 where
+    pub front : List X
+    pub back : List X
+    pub parts : xs ≡ front ++ y ∷ back
+    pub among : Has x front
+
+  part_at : (xs : List X) (k : ℕ) (y : X) → slice_get xs k ≡ Some y → (front : List X) × (back : List X) × (xs ≡ front ++ y ∷ back) × (length front ≡ k)
+  part_at [] k y here = cc
+  part_at (x ∷ xs) zero y here = let e : x ≡ y = cc in ([], xs, ap (λ z. z ∷ xs) e, refl)
+  part_at (x ∷ xs) (suc k) y here = let r = part_at xs k y here in (x ∷ r.0, r.1, ap (λ l. x ∷ l) r.2, ap suc r.3)
+
+  in_front : (front rest : List X) (k : ℕ) (x : X) → slice_get (front ++ rest) k ≡ Some x → k < length front → Has x front
+  in_front [] rest k x here below = absurd (omega arith)
+  in_front (y ∷ front) rest zero x here below = let e : x ≡ y = cc in inl e
+  in_front (y ∷ front) rest (suc k) x here below = inr (in_front front rest k x here (omega arith))
+
+  front_get : (front rest : List X) (k : ℕ) (x : X) → slice_get front k ≡ Some x → (slice_get (front ++ rest) k ≡ Some x) × (k < length front)
+  front_get [] rest k x here = cc
+  front_get (y ∷ front) rest zero x here = (here, omega arith)
+  front_get (y ∷ front) rest (suc k) x here = let r = front_get front rest k x here in let less = r.1 in (r.0, omega arith)
+
+  -- by index, and by parts
+  pub before_of : (xs : List X) (x y : X) → IsEarlier xs x y → IsBeforeIn xs x y
+  before_of xs x y e =
+      let p = part_at xs e.second y e.there in
+      let size = p.3 in
+      let less = e.before in
+      record { front = p.0; back = p.1; parts = p.2; among = in_front p.0 (y ∷ p.1) e.first x (subst (λ l. slice_get l e.first ≡ Some x) p.2 e.here) (omega arith) }
+
+  pub earlier_of : (xs : List X) (x y : X) → IsBeforeIn xs x y → IsEarlier xs x y
+  earlier_of xs x y h =
+      let k = has_at h.front x h.among in
+      let r = front_get h.front (y ∷ h.back) k.0 x k.1 in
+      record {
+        first = k.0;
+        second = length h.front;
+        here = subst (λ l. slice_get l k.0 ≡ Some x) (sym h.parts) r.0;
+        there = subst (λ l. slice_get l (length h.front) ≡ Some y) (sym h.parts) (get-middle h.front h.back y);
+        before = r.1;
+      }
+
+  -- in a longer list
+  before_inner : (xs ys : List X) (x y : X) → IsEarlier xs x y → IsEarlier (xs ++ ys) x y
+  before_inner xs ys x y e = record {
+    first = e.first;
+    second = e.second;
+    here = (front_get xs ys e.first x e.here).0;
+    there = (front_get xs ys e.second y e.there).0;
+    before = e.before;
+  }
+
+  behind_get : (front rest : List X) (k : ℕ) (x : X) → slice_get rest k ≡ Some x → slice_get (front ++ rest) (length front + k) ≡ Some x
+  behind_get [] rest k x here = let z : k ≡ 0 + k = omega arith in subst (λ j. slice_get rest j ≡ Some x) z here
+  behind_get (y ∷ front) rest k x here =
+      let z : suc (length front + k) ≡ suc (length front) + k = omega arith in
+      subst (λ j. slice_get (y ∷ (front ++ rest)) j ≡ Some x) z (behind_get front rest k x here)
+
+  before_behind : (xs ys : List X) (x y : X) → IsEarlier ys x y → IsEarlier (xs ++ ys) x y
+  before_behind xs ys x y e =
+      let less = e.before in
+      record {
+        first = length xs + e.first;
+        second = length xs + e.second;
+        here = behind_get xs ys e.first x e.here;
+        there = behind_get xs ys e.second y e.there;
+        before = omega arith;
+      }
+
+  -- a member of the first part and one of the second
+  before_across : (xs ys : List X) (x y : X) → Has x xs → Has y ys → IsEarlier (xs ++ ys) x y
+  before_across xs ys x y a b =
+      let j = has_at xs x a in
+      let k = has_at ys y b in
+      let r = front_get xs ys j.0 x j.1 in
+      let less = r.1 in
+      record { first = j.0; second = length xs + k.0; here = r.0; there = behind_get xs ys k.0 y k.1; before = omega arith }
+
+  without_first : (z : X) (xs : List X) (x y : X) → (x ≡ z → ⊥) → IsEarlier (z ∷ xs) x y → IsEarlier xs x y
+  without_first z xs x y other e = by e.first e.second e.here e.there e.before
+    where
+      by : (i j : ℕ) → slice_get (z ∷ xs) i ≡ Some x → slice_get (z ∷ xs) j ≡ Some y → i < j → IsEarlier xs x y
+      by zero j here there less = let q : x ≡ z = cc in absurd (other q)
+      by (suc i) zero here there less = absurd (omega arith)
+      by (suc i) (suc j) here there less = record { first = i; second = j; here = here; there = there; before = omega arith }
+
+module _ {O B : Type 0} (c : Program O B) where
+  -- entities of the list are among those of its preorder, in the same order
+  all_there : (es ns : List IRNode) → IsPreorder c es ns → (e : IRNode) → Has e es → Has e ns
+  all_there _ _ nothing e h = h
+  all_there _ _ (more d es inner rest below behind) e h = ⊎_elim inl (λ r. inr (has_back inner rest e (all_there es rest behind e r))) h
+
+  same_order : (es ns : List IRNode) → IsPreorder c es ns → (x y : IRNode) (i j : ℕ) → slice_get es i ≡ Some x → slice_get es j ≡ Some y → i < j → IsEarlier ns x y
+  same_order _ _ nothing x y i j here there less = cc
+  same_order _ _ (more d es inner rest below behind) x y i zero here there less = absurd (omega arith)
+  same_order _ _ (more d es inner rest below behind) x y zero (suc j) here there less =
+      let first : x ≡ d = cc in
+      before_across (d ∷ []) (inner ++ rest) x y (inl first) (has_back inner rest y (all_there es rest behind y (at_has es j y there)))
+  same_order _ _ (more d es inner rest below behind) x y (suc i) (suc j) here there less =
+      before_behind (d ∷ inner) rest x y (same_order es rest behind x y i j here there (omega arith))
+
+  -- so are those that stand in one of them
+  inner_order : (es ns : List IRNode) → IsPreorder c es ns → (e x y : IRNode) → Has e ns → IsEarlier (nodes_in c e) x y → IsEarlier ns x y
+  inner_order _ _ nothing e x y h b = absurd h
+  inner_order _ _ (more d es inner rest below behind) e x y h b = ⊎_elim
+      (λ same. before_behind (d ∷ []) (inner ++ rest) x y (before_inner inner rest x y
+      (let b2 : IsEarlier (nodes_in c d) x y = subst (λ z. IsEarlier (nodes_in c z) x y) same b in same_order (nodes_in c d) inner below x y b2.first b2.second b2.here b2.there b2.before)))
+      (λ more. ⊎_elim
+      (λ within. before_behind (d ∷ []) (inner ++ rest) x y (before_inner inner rest x y (inner_order (nodes_in c d) inner below e x y within b)))
+      (λ later. before_behind (d ∷ inner) rest x y (inner_order es rest behind e x y later b))
+      (has_either inner rest e more))
+      h
+
+-- operations among entities keep their order
+picked_order : (ns : List IRNode) (p q : Ptr Operation) → IsEarlier ns (OperationNode p) (OperationNode q) → IsEarlier (operations_among ns) p q
+picked_order ns p q e =
+    let b = before_of ns (OperationNode p) (OperationNode q) e in
+    let parts : operations_among ns ≡ operations_among b.front ++ q ∷ operations_among b.back = ap operations_among b.parts ∙ operations_joined b.front (OperationNode q ∷ b.back) in
+    earlier_of (operations_among ns) p q (record { front = operations_among b.front; back = operations_among b.back; parts = parts; among = operation_picked b.front p b.among })
+
+module _ {O B : Type 0} (c : Program O B) (lists : HasLists c) (root : Ptr Operation) (all : List IRNode) (within : AreInside c (OperationNode root) all) (order : IsPreorder c (OperationNode root ∷ []) all)
+    (t : ProgramTree O B) (stands : StandsFor c root t) (n : Numbers) (numbers : NumbersInside c root n) where
+  after_root : (es ns : List IRNode) → IsPreorder c es ns → es ≡ OperationNode root ∷ [] → (rest : List IRNode) × (ns ≡ OperationNode root ∷ rest)
+  after_root _ _ nothing is = cc
+  after_root _ _ (more e es inner rest below behind) is = let first : e ≡ OperationNode root = cc in (inner ++ rest, ap (λ x. x ∷ (inner ++ rest)) first)
+
+  behind_root : (rest : List IRNode) × (all ≡ OperationNode root ∷ rest)
+  behind_root = after_root (OperationNode root ∷ []) all order refl
+
+  numbered : operations_among all ≡ root ∷ n.operations
+  numbered =
+      let found = in_preorder c root behind_root.0 (subst (IsPreorder c (OperationNode root ∷ [])) behind_root.1 order) t stands in
+      let told = numbers.in_preorder t stands in
+      ap operations_among behind_root.1 ∙ ap (λ l. root ∷ l) (found.operations ∙ sym told.operations)
+
+  -- the numbers are in walk order
+  pub walk_order : AreInWalkOrder c root n.operations
+  walk_order block inside = record {
+    once = numbers.operations_once;
+    earlier = λ p q e.
+        let in_b : StandsInBlock c p block = lists.operations block e.first p e.here in
+        let here = within.all (BlockNode block) inside in
+        let nodes : IsEarlier (nodes_in c (BlockNode block)) (OperationNode p) (OperationNode q) = record {
+          first = e.first;
+          second = e.second;
+          here = slice_get-map OperationNode (operations_in c block) e.first ∙ ap (option_map OperationNode) e.here;
+          there = slice_get-map OperationNode (operations_in c block) e.second ∙ ap (option_map OperationNode) e.there;
+          before = e.before;
+        } in
+        let walked = inner_order c (OperationNode root ∷ []) all order (BlockNode block) (OperationNode p) (OperationNode q) (at_has all here.0 (BlockNode block) here.1) nodes in
+        without_first root n.operations p q (not_root c lists root p block in_b inside) (subst (λ l. IsEarlier l p q) numbered (picked_order all p q walked));
+  }

@@ -1,0 +1,197 @@
+//! Which values an operation may name.
+ghost use Rattle.std.specs.Prelude.{◌≡◌, ◌≢◌, ◌↔◌, IfOk, IfSome, IsNone, IsSome, IsTrue, None};
+ghost use Rattle.ir_program.specs.Lists.{StandsInside};
+ghost use Rattle.ir_program.specs.Program.{operation_at, IsLiveValue};
+ghost use Rattle.ir_program.specs.Rows.{operands_at};
+ghost use Rattle.ir_program.specs.declared.handles.DefiningEntity.TheVariants.{Op as ByOp};
+ghost use Rattle.ir_program.specs.declared.handles.IRNode.TheVariants.{Operation as OperationNode};
+ghost use Rattle.ir_trees.specs.Searched.{AreDistinct};
+ghost use Rattle.opt_inside.specs.Numbered.{NumbersInside, numbers_of};
+ghost use Rattle.kit_checks.specs.Naming.{AreInWalkOrder, IsBehind, IsEarlier, IsIndexOf, IsOrderFor, IsOrderOf, IsSpotOf, MayName, MayNameFrom};
+ghost use Rattle.kit_checks.specs.Reading.{OfSite};
+ghost use Rattle.kit_checks.specs.Rules.{OperandsAreVisible};
+ghost use Rattle.kit_checks.specs.Words.{Every};
+ghost use Rattle.kit_checks.specs.World.{world_of};
+
+use crate::rule::Rule;
+use indexmap::IndexSet;
+use ir_context::{Context, OperandCalls};
+use ir_program::{BasicBlock, DefiningEntity, IRNode, Operation, Program, Ptr, Value};
+use ir_trees::know_tree;
+use ir_types::DialectTables;
+use kit_ops::{KitAttr, KitOp, KitType};
+use opt_inside::{Inside, number_inside};
+use std::alloc::{AllocError, Global};
+
+/// Where an operation is: its block, and the first block of the region.
+#[derive(Clone, Copy, Debug)]
+pub(crate) struct Spot {
+    block: Ptr<BasicBlock>,
+    entry: Ptr<BasicBlock>,
+}
+
+/// Tells that numbers inside an operation are in walk order. It does nothing.
+fn know_order<O, B>(program: &Program<O, B>, root: Ptr<Operation>, inside: &Inside)
+    requires root { IsSome (operation_at program.now root) }
+    requires numbers { NumbersInside program.now root (numbers_of inside.now) }
+    ensures { AreInWalkOrder program.now root (numbers_of inside.now).operations }
+{
+    program.know_lists();
+    know_tree(program, root);
+    let _inside = program.nodes_inside(IRNode::Operation(root));
+}
+
+/// The order of the operations inside a root, by their numbers, for the test of a rule: it is only made for the rule
+/// that reads it.
+///
+/// # Errors
+/// No memory.
+pub(crate) fn order_for<O, B>(
+    alloc: Global,
+    program: &Program<O, B>,
+    root: Ptr<Operation>,
+    rule: Rule,
+) -> Result<Inside, AllocError>
+    requires { IsSome (operation_at program.now root) }
+    ensures { IfOk result (λ order. IsOrderFor program.now rule root (numbers_of order).operations) }
+{
+    match rule {
+        Rule::OperandsAreVisible => {
+            let inside = number_inside(alloc, program, root)?;
+            know_order(program, root, &inside);
+            Ok(inside)
+        }
+        _ => Ok(Inside {
+            operations: IndexSet::new(alloc),
+            blocks: IndexSet::new(alloc),
+            values: IndexSet::new(alloc),
+        }),
+    }
+}
+
+/// The number of an operation, if it has one.
+fn number_of(order: &Inside, op: Ptr<Operation>) -> Option<usize>
+    ensures { IsIndexOf (numbers_of order.now).operations op result }
+{
+    order.operations.get_index_of(&op)
+}
+
+/// Whether the number of an operation is above this one.
+fn is_above(order: &Inside, op: Ptr<Operation>, number: usize) -> bool
+    requires { AreDistinct (numbers_of order.now).operations }
+    ensures { IsTrue result ↔ IsBehind (numbers_of order.now).operations op number }
+{
+    match number_of(order, op) {
+        Some(own) => number < own,
+        None => false,
+    }
+}
+
+/// Whether an operation comes before another one.
+fn is_earlier(order: &Inside, op: Ptr<Operation>, other: Ptr<Operation>) -> bool
+    requires { AreDistinct (numbers_of order.now).operations }
+    ensures { IsTrue result ↔ IsEarlier (numbers_of order.now).operations op other }
+{
+    match number_of(order, op) {
+        Some(number) => is_above(order, other, number),
+        None => false,
+    }
+}
+
+/// Where an operation inside the root is; the root is nowhere.
+fn spot_of<O, B>(program: &Program<O, B>, root: Ptr<Operation>, op: Ptr<Operation>) -> Option<Spot>
+    requires { IsSome (operation_at program.now op) }
+    ensures spot { IfSome result (λ spot. (op ≢ root) × IsSpotOf program.now op spot) }
+    ensures root { OfSite program.now root op (λ s. IsNone result ↔ (s.around ≡ None)) }
+{
+    if op == root {
+        return None;
+    }
+    let block = program.parent_block(op)?;
+    let region = program.parent_region(block)?;
+    let entry = program.first_block(region)?;
+    Some(Spot { block, entry })
+}
+
+/// Whether an operation may name the results of another one: that comes before it in its block or, outside the entry,
+/// is in the entry.
+fn may_name_results<O, B>(
+    program: &Program<O, B>,
+    order: &Inside,
+    op: Ptr<Operation>,
+    spot: Spot,
+    definer: Ptr<Operation>,
+) -> bool
+    requires definer { IsSome (operation_at program.now definer) }
+    requires spot { IsSpotOf program.now op spot }
+    requires order { IsOrderOf program.now spot.block (numbers_of order.now).operations }
+    ensures { IsTrue result ↔ MayNameFrom program.now op spot (ByOp definer) }
+{
+    match program.parent_block(definer) {
+        Some(home) => {
+            if home == spot.block {
+                return is_earlier(order, definer, op);
+            }
+            home == spot.entry
+        }
+        None => false,
+    }
+}
+
+/// Whether an operation may name a value: an earlier one of its block or, outside the entry, one of the entry.
+fn may_name<O, B>(
+    program: &Program<O, B>,
+    order: &Inside,
+    op: Ptr<Operation>,
+    spot: Spot,
+    value: Value,
+) -> bool
+    requires value { IsLiveValue program.now value }
+    requires spot { IsSpotOf program.now op spot }
+    requires order { IsOrderOf program.now spot.block (numbers_of order.now).operations }
+    ensures { IsTrue result ↔ MayName program.now op spot value }
+{
+    program.know_values();
+    match value.definer() {
+        DefiningEntity::Block(block) => block == spot.block || block == spot.entry,
+        DefiningEntity::Op(definer) => may_name_results(program, order, op, spot, definer),
+    }
+}
+
+/// Whether an operation may name each of its operands.
+fn names_visible<O, B>(
+    program: &Program<O, B>,
+    order: &Inside,
+    op: Ptr<Operation>,
+    spot: Spot,
+) -> bool
+    requires spot { IsSpotOf program.now op spot }
+    requires order { IsOrderOf program.now spot.block (numbers_of order.now).operations }
+    ensures { IsTrue result ↔ Every (MayName program.now op spot) (operands_at program.now op) }
+{
+    for index in 0..program.operand_count(op) {
+        if !may_name(program, order, op, spot, program.operand(op, index)) {
+            return false;
+        }
+    }
+    true
+}
+
+/// Whether each operand of an operation inside the root is a value that it may name; the root has to have none.
+pub(crate) fn operands_are_visible<
+    D: DialectTables<OpKind = KitOp, Attr = KitAttr, TypeKey = KitType>,
+>(ctx: &Context<D>, root: Ptr<Operation>, order: &Inside, op: Ptr<Operation>) -> bool
+    requires inside { StandsInside ctx.now.program (OperationNode root) (OperationNode op) }
+    requires op { IsSome (operation_at ctx.now.program op) }
+    requires order { AreInWalkOrder ctx.now.program root (numbers_of order.now).operations }
+    ensures { OfSite ctx.now.program root op (λ s. IsTrue result ↔ OperandsAreVisible (world_of ctx.now) s) }
+{
+    let program = ctx.program();
+    program.know_lists();
+    program.know_values();
+    program.know_operands();
+    match spot_of(program, root, op) {
+        Some(spot) => names_visible(program, order, op, spot),
+        None => program.operand_count(op) == 0,
+    }
+}

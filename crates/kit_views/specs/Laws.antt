@@ -1,0 +1,83 @@
+-- The statements of the laws.
+use Rattle.std.specs.Prelude.{◌≡◌, ◌⊎◌, ◌↔◌, ℕ, Bool, true, List, Option, Some, map}
+use Rattle.ir_base.specs.declared.types.TypeHandle.{TypeHandle}
+use Rattle.ir_trees.specs.Names.{Names, Contents}
+use Rattle.ir_trees.specs.Renames.{names_of}
+use Rattle.ir_trees.specs.Trees.{Root}
+use Rattle.opt_trees.specs.Dialect.{Dialect}
+use Rattle.opt_trees.specs.Facts as trees
+use Rattle.opt_trees.specs.Sccp.{fresh, IsSccp}
+use Rattle.opt_trees.specs.Simplify.{decided}
+use Rattle.opt_trees.specs.Occurrences.{Has, Occurrence, occurrences_of, defined_in}
+use Rattle.opt_trees.specs.Dce.{Around, Whole, Slot, IsDead, IsDce}
+use Rattle.kit_ops.specs.declared.attributes.IntegerAttr.{IntegerAttr}
+use Rattle.kit_ops.specs.declared.types.KitType.{KitType}
+use Rattle.kit.specs.Meaning.{kit}
+use Rattle.kit_behaviour.specs.DecidedBranches.{decide_block}
+use Rattle.kit_behaviour.specs.Facts as facts
+use Rattle.kit_behaviour.specs.Machine.{Fun}
+use Rattle.kit_behaviour.specs.RemovedValues.{thin}
+use Rattle.kit_behaviour.specs.DeadValues as flat
+use Rattle.kit_views.specs.Reading.{Reading, kit_contents, kit_reading}
+use Rattle.kit_views.specs.FlatView.{IsSameness, IsFlat, names_in}
+use Rattle.kit_views.specs.FlatFacts.{AreFlatly}
+use Rattle.kit_views.specs.FlatConstants.{IsPropagated}
+use Rattle.kit_views.specs.FlatBranches.{KnowsConstants, AreConstants}
+use Rattle.kit_views.specs.Typed.{IsTyped}
+
+-- no value that is defined below the root is named from outside it
+abbrev pub NothingPinned : {N : Names} {S : Contents} {A : Type 0} → Around N A → Root N S → Type 0
+NothingPinned {N} w t = (v : N.value) → Has v (defined_in t.regions) → w.is_pinned v ≡ true → ⊥
+
+module _ {N : Names} {S : Contents} {A : Type 0} (d : Dialect S A) (w : Around N A) (t : Root N S) where
+  -- a result of a dead operation
+  pub record IsOfDead (v : N.value) : Type 0 where
+    pub definer : Occurrence N S
+    pub stands : Has definer (occurrences_of t)
+    pub result : Has v (names_of definer.head.results)
+    pub dead : IsDead d w t (Whole definer.head.name)
+
+  -- what is left of the tree has as its flat view what is left of the flat view f, without f's dead values
+  pub record IsThinned (same : N.value → N.value → Bool) (r : Reading S) (f : Fun N.value) (after : Root N S)
+      : Type 0 where
+    -- dead arguments, and results of dead operations
+    pub dead : N.value → Bool
+    pub are : (v : N.value) → (dead v ≡ true) ↔ (IsDead d w t (Slot v) ⊎ IsOfDead v)
+    -- these are the dead values of the flat view
+    pub is_dead : flat.IsDead same (Some f) dead
+    pub rest : Fun N.value
+    pub is : thin dead (Some f) ≡ Some rest
+    pub is_view : IsFlat r after rest
+
+-- removal of dead values on the tree of a function is removal of dead values on its flat view
+abbrev pub FlatDce : Names → Type 0
+FlatDce N = (same : N.value → N.value → Bool) (leads : TypeHandle → Option KitType) (numbered : List ℕ → ℕ)
+    (w : Around N IntegerAttr) (t after : Root N kit_contents) (f : Fun N.value) →
+    IsSameness same → IsFlat (kit_reading leads numbered) t f → NothingPinned w t → IsDce kit w t after →
+    IsThinned kit w t same (kit_reading leads numbered) f after
+
+-- the most precise facts of the tree of a typed function say what the most precise facts of its flat view say
+abbrev pub FlatFacts : Names → Type 0
+FlatFacts N = (same : N.value → N.value → Bool) (same_block : N.block → N.block → Bool)
+    (leads : TypeHandle → Option KitType) (numbered : List ℕ → ℕ) (type_at : N.value → TypeHandle)
+    (t : Root N kit_contents) (f : Fun N.value) (k : trees.Facts N IntegerAttr) →
+    IsSameness same → IsSameness same_block → (is_flat : IsFlat (kit_reading leads numbered) t f) →
+    IsTyped leads {N = N} type_at t → trees.IsMostPrecise kit t k →
+    (l : facts.Facts N.value) × facts.IsMostPrecise (Some f) l
+    × AreFlatly leads type_at t (names_in is_flat.view.blocks) k l
+
+-- constants put into the tree of a typed function are constants put into its flat view
+abbrev pub FlatSccp : Names → Type 0
+FlatSccp N = (same : N.value → N.value → Bool) (same_block : N.block → N.block → Bool)
+    (leads : TypeHandle → Option KitType) (numbered : List ℕ → ℕ) (type_at : N.value → TypeHandle)
+    (t : Root N kit_contents) (after : Root (fresh N) kit_contents) (f : Fun N.value) →
+    IsSameness same → IsSameness same_block → IsFlat (kit_reading leads numbered) t f →
+    IsTyped leads {N = N} type_at t → IsSccp kit t after → IsPropagated {N = N} leads numbered f after
+
+-- branches that constants decide, decided in the tree of a typed function, are decided in its flat view
+abbrev pub FlatDecided : Names → Type 0
+FlatDecided N = (leads : TypeHandle → Option KitType) (numbered : List ℕ → ℕ) (type_at : N.value → TypeHandle)
+    (w : Around N IntegerAttr) (t : Root N kit_contents) (f : Fun N.value) →
+    IsFlat (kit_reading leads numbered) t f → IsTyped leads {N = N} type_at t → KnowsConstants w t →
+    (k : facts.Facts N.value) × AreConstants f k
+    × IsFlat (kit_reading leads numbered) (decided kit w t) (map (decide_block k) f)
