@@ -1,0 +1,10 @@
+pub mod Sets
+pub mod Keys
+pub mod Read
+pub mod Repeated
+pub mod Held
+pub mod Bodies
+pub mod Climbed
+pub mod Called
+pub mod Typed
+pub mod Verdicts

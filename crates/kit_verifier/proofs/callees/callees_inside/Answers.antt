@@ -1,0 +1,34 @@
+use Rattle.std.proofs.Common.{◌∙◌, [], ap, subst, sym}
+use Rattle.ir_program.specs.Preorder.{AreInside, nodes_inside}
+use Rattle.ir_program.specs.declared.handles.IRNode.TheVariants.{Operation as OperationNode}
+use Rattle.kit_checks.specs.World.{world_of}
+use Rattle.kit_verifier.specs.Callees.{callables_of, IsCallableAt}
+use Rattle.kit_verifier.proofs.Sets.{Collected, all_done, collected_all, collected_more, collected_none, is_live, next_of, one_further}
+use Rattle.kit_verifier.proofs.callees.callees_inside.Goals as goal
+
+pub loop-node-init : goal.loop-node-init
+loop-node-init g c = record {
+  listed = c.into_iter-node-iterator.ensures.into_iter_gives ∙ c.nodes_inside-node-items.ensures.list ∙ ap (λ p. nodes_inside p (OperationNode c.args.root)) c.program-program.ensures;
+  collected = subst (λ l. Collected (IsCallableAt (world_of c.args.ctx.now) c.args.ctx.now.program) [] (callables_of l)) (sym c.new-callees.ensures.empty) (collected_none (IsCallableAt (world_of c.args.ctx.now) c.args.ctx.now.program));
+}
+
+pub add_callee_at-requires : goal.add_callee_at-requires
+add_callee_at-requires g c =
+    let all = nodes_inside c.args.ctx.now.program (OperationNode c.args.root) in
+    is_live c.args.ctx.now.program (OperationNode c.args.root) (IsCallableAt (world_of c.args.ctx.now) c.args.ctx.now.program) all
+    (subst (λ p. AreInside p (OperationNode c.args.root) (nodes_inside p (OperationNode c.args.root))) c.program-program.ensures c.nodes_inside-node-items.ensures.inside)
+    c.in-Some.node (next_of all c.loop-node.yielded c.loop-node.node-iterator c.next.new.self c.in-Some.node c.in-Some.ensures.steps c.loop-node.invariant.listed)
+
+pub loop-node-preserved : goal.loop-node-preserved
+loop-node-preserved g c = record {
+  listed = one_further (nodes_inside c.args.ctx.now.program (OperationNode c.args.root)) c.loop-node.yielded c.loop-node.node-iterator c.next.new.self c.in-Some.node c.in-Some.ensures.steps c.loop-node.invariant.listed;
+  collected = collected_more (IsCallableAt (world_of c.args.ctx.now) c.args.ctx.now.program) c.loop-node.yielded c.in-Some.node (callables_of c.loop-node.callees.keys) (callables_of c.add_callee_at.new.callees.keys) c.in_ok-add_callee_at.ensures c.loop-node.invariant.collected;
+}
+
+pub returns : goal.returns
+returns g c =
+    let all = nodes_inside c.args.ctx.now.program (OperationNode c.args.root) in
+    let done = all_done all c.loop-node.yielded c.loop-node.node-iterator c.in-None.ensures.steps.0 c.loop-node.invariant.listed in
+    collected_all c.args.ctx.now.program (OperationNode c.args.root) (IsCallableAt (world_of c.args.ctx.now) c.args.ctx.now.program) all
+    (subst (λ p. AreInside p (OperationNode c.args.root) (nodes_inside p (OperationNode c.args.root))) c.program-program.ensures c.nodes_inside-node-items.ensures.inside)
+    (callables_of c.loop-node.callees.keys) (subst (λ l. Collected (IsCallableAt (world_of c.args.ctx.now) c.args.ctx.now.program) l (callables_of c.loop-node.callees.keys)) done c.loop-node.invariant.collected)

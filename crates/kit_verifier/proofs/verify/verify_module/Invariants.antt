@@ -1,0 +1,7 @@
+use Rattle.kit_checks.specs.World.{world_of}
+use Rattle.kit_verifier.proofs.Verdicts.{KeptUpTo}
+use Rattle.kit_verifier.proofs.verify.verify_module.Given as goal
+
+-- the rules that were tested are kept everywhere
+abbrev pub invariant-loop-rule : goal.invariant-loop-rule
+invariant-loop-rule g l = KeptUpTo (world_of l.ctx) l.ctx.program l.root l.rule-index

@@ -1,0 +1,6 @@
+pub mod Sets
+pub mod Reading
+pub mod Repeats
+pub mod Callees
+pub mod Scopes
+pub mod Tables

@@ -1,0 +1,96 @@
+//! Whether a call calls a function that is there.
+ghost use Rattle.std.specs.Prelude.{◌≡◌, ◌↔◌, IsSome, IsTrue, Some, option_map};
+ghost use Rattle.ir_program.specs.Lists.{StandsInside};
+ghost use Rattle.ir_program.specs.Program.{operation_at};
+ghost use Rattle.ir_program.specs.declared.handles.IRNode.TheVariants.{Operation as OperationNode};
+ghost use Rattle.kit_checks.specs.Reading.{OfSite};
+ghost use Rattle.kit_checks.specs.Rules.{CallsFit};
+ghost use Rattle.kit_checks.specs.World.{world_of};
+ghost use Rattle.kit_ops.specs.declared.kinds.KitOp.TheVariants.{Call};
+ghost use Rattle.kit_verifier.specs.Callees.{AreCallees, Calls, CallsOne, Callable, callable_of, callables_of};
+ghost use Rattle.kit_verifier.specs.Reading.{kind_at};
+
+use crate::callees::{Callee, callee_from, has_callee};
+use crate::reading::{kind_of, text_under, type_under};
+use crate::scopes::nearest_module;
+use crate::signatures::has_signature;
+use indexmap::IndexSet;
+use ir_context::Context;
+use ir_program::{Operation, Ptr};
+use ir_types::DialectTables;
+use kit_ops::{KitAttr, KitOp, KitType, keys};
+
+/// Whether operations of this kind are calls.
+fn is_call(kind: KitOp) -> bool
+    ensures { IsTrue result ↔ (kind ≡ Call) }
+{
+    match kind {
+        KitOp::Call => true,
+        _ => false,
+    }
+}
+
+/// What a call calls: a function of the nearest module that the call is in, by the name and the type that it says.
+fn called_by<'a, D: DialectTables<OpKind = KitOp, Attr = KitAttr, TypeKey = KitType>>(
+    ctx: &'a Context<D>,
+    root: Ptr<Operation>,
+    op: Ptr<Operation>,
+) -> Option<Callee<'a>>
+    requires root { IsSome (operation_at ctx.now.program root) }
+    requires inside { StandsInside ctx.now.program (OperationNode root) (OperationNode op) }
+    requires op { IsSome (operation_at ctx.now.program op) }
+    requires call { kind_at (world_of ctx.now) ctx.now.program op ≡ Some Call }
+    ensures { OfSite ctx.now.program root op (λ s. (q : Callable) → (option_map callable_of result ≡ Some q) ↔
+        Calls (world_of ctx.now) ctx.now.program s q) }
+{
+    callee_from(
+        nearest_module(ctx, root, op),
+        text_under(ctx, op, keys::CALLEE),
+        type_under(ctx, op, keys::CALLEE_TYPE),
+    )
+}
+
+/// Whether a call calls a function that is there, and has its type.
+fn calls_function<'a, D: DialectTables<OpKind = KitOp, Attr = KitAttr, TypeKey = KitType>>(
+    ctx: &'a Context<D>,
+    root: Ptr<Operation>,
+    callees: &IndexSet<Callee<'a>>,
+    op: Ptr<Operation>,
+) -> bool
+    requires root { IsSome (operation_at ctx.now.program root) }
+    requires inside { StandsInside ctx.now.program (OperationNode root) (OperationNode op) }
+    requires op { IsSome (operation_at ctx.now.program op) }
+    requires call { kind_at (world_of ctx.now) ctx.now.program op ≡ Some Call }
+    requires table { AreCallees (world_of ctx.now) ctx.now.program root (callables_of callees.now.keys) }
+    ensures { OfSite ctx.now.program root op (λ s. IsTrue result ↔ CallsOne (world_of ctx.now) s) }
+{
+    ctx.program().know_lists();
+    match called_by(ctx, root, op) {
+        Some(callee) => {
+            if !has_callee(callees, callee) {
+                return false;
+            }
+            has_signature(ctx, op, callee.ty)
+        }
+        None => false,
+    }
+}
+
+/// Whether an operation, if it is a call, calls a function that is there, and has its type.
+pub(crate) fn calls_fit<'a, D: DialectTables<OpKind = KitOp, Attr = KitAttr, TypeKey = KitType>>(
+    ctx: &'a Context<D>,
+    root: Ptr<Operation>,
+    callees: &IndexSet<Callee<'a>>,
+    op: Ptr<Operation>,
+) -> bool
+    requires root { IsSome (operation_at ctx.now.program root) }
+    requires inside { StandsInside ctx.now.program (OperationNode root) (OperationNode op) }
+    requires op { IsSome (operation_at ctx.now.program op) }
+    requires table { AreCallees (world_of ctx.now) ctx.now.program root (callables_of callees.now.keys) }
+    ensures { OfSite ctx.now.program root op (λ s. IsTrue result ↔ CallsFit (world_of ctx.now) s) }
+{
+    if !is_call(kind_of(ctx, op)) {
+        return true;
+    }
+    calls_function(ctx, root, callees, op)
+}
