@@ -1,0 +1,11 @@
+pub mod Reached
+pub mod First
+pub mod Words
+pub mod Bodies
+pub mod Values
+pub mod Shapes
+pub mod Executed
+pub mod Safe
+pub mod Functions
+pub mod Moves
+pub mod Paths

@@ -1,0 +1,2 @@
+pub mod Obeying
+pub mod Moving
