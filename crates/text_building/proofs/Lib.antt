@@ -1,0 +1,15 @@
+pub mod Options
+pub mod Members
+pub mod Numbers
+pub mod Apart
+pub mod Opened
+pub mod Filled
+pub mod Built
+pub mod Linked
+pub mod Insides
+pub mod Discarded
+pub mod Stood
+pub mod ShownLater
+pub mod Later
+pub mod Trees
+pub mod Came

@@ -1,0 +1,35 @@
+-- What one context leaves of another.
+use Rattle.std.specs.Prelude.{◌≡◌, ℕ, ◌+◌, List, Some, slice_get}
+use Rattle.ir_program.specs.Edits.{KeepsErased, KeepsRoom}
+use Rattle.ir_program.specs.Program.{Program}
+use Rattle.ir_program.specs.declared.handles.Ptr.{Ptr}
+use Rattle.ir_program.specs.declared.handles.Operation.{Operation}
+use Rattle.ir_program.specs.declared.handles.Region.{Region}
+use Rattle.ir_program.specs.declared.handles.BasicBlock.{BasicBlock}
+use Rattle.text_dialect.specs.Seen.{SeenOperation, SeenBlock, Seen}
+
+-- types keep their keys, and there may be more of them
+abbrev pub KeepsKeys : {T : Type 0} → List T → List T → Type 0
+KeepsKeys {T} old new = (n : ℕ) (key : T) → slice_get old n ≡ Some key → slice_get new n ≡ Some key
+
+module _ {K A T : Type 0} (old new : Seen K A T) where
+  -- what led somewhere leads to the same, and types keep their keys
+  pub record Keeps : Type 0 where
+    pub operations : (p : Ptr Operation) (o : SeenOperation K A) → old.operation p ≡ Some o → new.operation p ≡ Some o
+    pub blocks : (b : Ptr BasicBlock) (v : SeenBlock) → old.block b ≡ Some v → new.block b ≡ Some v
+    pub regions : (r : Ptr Region) (bs : List (Ptr BasicBlock)) → old.region r ≡ Some bs → new.region r ≡ Some bs
+    pub types : KeepsKeys old.types new.types
+
+  -- each handle leads to what it led to, and types keep their keys
+  pub record SameSeen : Type 0 where
+    pub operations : (p : Ptr Operation) → new.operation p ≡ old.operation p
+    pub blocks : (b : Ptr BasicBlock) → new.block b ≡ old.block b
+    pub regions : (r : Ptr Region) → new.region r ≡ old.region r
+    pub types : KeepsKeys old.types new.types
+
+-- n values more have got their numbers, no slot has come to be full, and a handle that was given out and leads
+-- nowhere leads nowhere still
+pub record GivesNumbers {O B : Type 0} (old new : Program O B) (n : ℕ) : Type 0 where
+  pub counter : new.counter ≡ old.counter + n
+  pub room : KeepsRoom old new
+  pub erased : KeepsErased old new
