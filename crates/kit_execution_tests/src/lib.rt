@@ -1,0 +1,7 @@
+//! Tests of running functions of modules of `kit` that keep the rules.
+#![tactic(auto)]
+
+#[cfg(test)]
+mod reading;
+#[cfg(test)]
+mod runs;
