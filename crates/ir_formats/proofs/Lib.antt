@@ -1,5 +1,6 @@
 pub mod Booleans
 pub mod Makes
+pub mod Numbered
 pub mod Predictable
 pub mod Spelled
 pub mod Ordered

@@ -1,14 +1,23 @@
 -- What the making of rules does to those that are there.
-use Rattle.std.specs.Prelude.{ℕ, List, ◌≡◌, ◌++◌}
-use Rattle.ir_print.specs.Formats.{Kind, steps_of}
+use Rattle.std.specs.Prelude.{ℕ, List, ◌≡◌, ◌++◌, map}
+use Rattle.ir_print.specs.Formats.{Formats, Kind, steps_of}
 use Rattle.ir_grammar.specs.declared.grammar.Symbol.{Symbol}
 use Rattle.ir_formats.specs.declared.rules.KindText.{KindText}
+use Rattle.ir_formats.specs.declared.rules.KindTexts.{KindTexts}
 use Rattle.ir_formats.specs.declared.rules.RuleMaker.{RuleMaker}
 use Rattle.ir_formats.specs.Rules.{Made, PlainRule, plain_rules}
 
 -- a kind as a value
 abbrev pub kind_of : KindText → Kind
 kind_of k = record { id = k.id.now; format = steps_of k.format.now }
+
+-- kinds, each by its number, as values
+abbrev pub formats_of : KindTexts → Formats
+formats_of k = record {
+  operations = map kind_of k.operations.items;
+  types = map kind_of k.types.items;
+  attributes = map kind_of k.attributes.items;
+}
 
 -- The maker has these rules behind those it had, this part for the next list, and the same words.
 pub record AddsRules (old new : RuleMaker) (added : List PlainRule) (part : ℕ) : Type 0 where

@@ -1,13 +1,15 @@
 //! The grammar of a dialect's texts, made from its formats.
-ghost use Rattle.std.specs.Prelude.{◌≡◌, ◌∷◌, [], ◌++◌, OnOk, IfOk, IfSome, length, min, ◌+◌, slice_get, option_map, codes};
-ghost use Rattle.ir_print.specs.Formats.{operand, operands, step_of, steps_of};
+ghost use Rattle.std.specs.Prelude.{◌≡◌, ◌∷◌, [], ◌++◌, OnOk, IfOk, IfSome, length, map, min, ◌+◌, ◌≤◌, slice_get, option_map, codes, true};
+ghost use Rattle.ir_print.specs.Formats.{is_small, operand, operands, step_of, steps_of};
 ghost use Rattle.ir_formats.specs.Rules.{up, texts, number_of, with_word, with_words, words_in, words_in_step, words_of, words_of_kinds, frame_words, sign, may_be_name, takes, class_of, classes_of, several, step_made, steps_made, kind_made, kinds_made, kinds_of, part_of, begin_of, end_of, operation_rules, region_rules, block_rules, argument_rules, rules_of, parts_of, plain_rule, plain_rules, plain_classes};
 ghost use Rattle.ir_grammar.specs.Table.{CanRead};
-ghost use Rattle.ir_formats.specs.Ordered.{OrdersTexts};
+ghost use Rattle.ir_formats.specs.Given.{grammar_value, plain_part};
+ghost use Rattle.ir_formats.specs.Ordered.{Leads, OrdersTexts, is_ordered};
+ghost use Rattle.ir_formats.specs.Predicting.{fits};
 ghost use Rattle.ir_formats.specs.Words.{shape_number};
-ghost use Rattle.ir_formats.specs.Making.{kind_of, Adds, AddsRules, AddsMade};
+ghost use Rattle.ir_formats.specs.Making.{kind_of, formats_of, Adds, AddsRules, AddsMade};
 
-use crate::given::{ReadDialect, facts_of};
+use crate::given::{PartTable, ReadDialect, facts_of};
 use ir_grammar::grammar::{Action, Class, Facts, Grammar, Rule, Symbol};
 use ir_names::Identifier;
 use ir_print::{Directive, TextDialect};
@@ -143,38 +145,19 @@ impl Sort {
 
 /// What the texts of a kind are made of.
 #[derive(Clone, Copy)]
-struct KindText {
-    id: &'static str,
-    format: &'static [Directive],
+pub struct KindText {
+    /// The dotted name with which they begin.
+    pub id: &'static str,
+    /// What follows the name.
+    pub format: &'static [Directive],
 }
 
-/// The kind of a sort with this number, from 0 on.
-fn kind_at<D: TextDialect>(sort: Sort, number: usize) -> Option<KindText>
-    ensures { option_map kind_of result ≡ slice_get (kinds_of D.formats sort) number }
-{
-    match sort {
-        Sort::Operation => {
-            let kind = D::op_kind_at(number)?;
-            Some(KindText {
-                id: D::op_id(kind),
-                format: D::op_format(kind),
-            })
-        }
-        Sort::Type => {
-            let kind = D::type_kind_at(number)?;
-            Some(KindText {
-                id: D::type_id(kind),
-                format: D::type_format(kind),
-            })
-        }
-        Sort::Attribute => {
-            let kind = D::attr_kind_at(number)?;
-            Some(KindText {
-                id: D::attr_id(kind),
-                format: D::attr_format(kind),
-            })
-        }
-    }
+/// What the texts of the kinds of a dialect are made of, each by its number.
+#[derive(Drop)]
+pub struct KindTexts {
+    pub operations: Vec<KindText>,
+    pub types: Vec<KindText>,
+    pub attributes: Vec<KindText>,
 }
 
 /// The place of a word among words, or their number where it is none of them.
@@ -241,29 +224,26 @@ fn add_directive(words: &mut Vec<&'static str>, directive: Directive) -> Result<
     Ok(())
 }
 
-/// Adds the ids of the kinds of a sort, and the words of their formats.
-fn add_kinds<D: TextDialect>(words: &mut Vec<&'static str>, sort: Sort) -> Result<(), AllocError>
-    ensures { OnOk result (texts words.new.items ≡ with_words (texts words.old.items) (words_of_kinds (kinds_of D.formats sort))) }
+/// Adds the ids of kinds, and the words of their formats.
+fn add_kinds(words: &mut Vec<&'static str>, kinds: &[KindText]) -> Result<(), AllocError>
+    ensures { OnOk result (texts words.new.items ≡ with_words (texts words.old.items) (words_of_kinds (map kind_of kinds.now))) }
 {
-    for number in 0..KINDS {
-        let Some(kind) = kind_at::<D>(sort, number) else {
-            return Ok(());
-        };
+    for kind in kinds {
         add_word(words, kind.id)?;
         add_format(words, kind.format)?;
     }
     Ok(())
 }
 
-/// The words of a dialect's grammar, each once.
-fn words_of<D: TextDialect>(alloc: Global) -> Result<Vec<&'static str>, AllocError>
-    ensures { IfOk result (λ words. texts words.items ≡ words_of D.formats) }
+/// The words of a grammar of these kinds, each once.
+fn words_of(alloc: Global, kinds: &KindTexts) -> Result<Vec<&'static str>, AllocError>
+    ensures { IfOk result (λ words. texts words.items ≡ words_of (formats_of kinds.now)) }
 {
     let mut words: Vec<&'static str> = Vec::new(alloc);
     add_words(&mut words, &FRAME_WORDS)?;
-    add_kinds::<D>(&mut words, Sort::Operation)?;
-    add_kinds::<D>(&mut words, Sort::Type)?;
-    add_kinds::<D>(&mut words, Sort::Attribute)?;
+    add_kinds(&mut words, &kinds.operations)?;
+    add_kinds(&mut words, &kinds.types)?;
+    add_kinds(&mut words, &kinds.attributes)?;
     Ok(words)
 }
 
@@ -419,14 +399,12 @@ impl RuleMaker {
     }
 
     /// Adds the rules of the kinds of a sort, each under its number.
-    fn kinds<D: TextDialect>(&mut self, sort: Sort) -> Result<(), AllocError>
-        ensures { OnOk result (AddsMade self.old self.new (kinds_made (texts self.old.words.items) sort 0 (kinds_of D.formats sort) self.old.next_list)) }
+    fn kinds(&mut self, sort: Sort, kinds: &[KindText]) -> Result<(), AllocError>
+        requires { length kinds.now ≤ 256 }
+        ensures { OnOk result (AddsMade self.old self.new (kinds_made (texts self.old.words.items) sort 0 (map kind_of kinds.now) self.old.next_list)) }
     {
-        for number in 0..KINDS {
-            let Some(kind) = kind_at::<D>(sort, number) else {
-                return Ok(());
-            };
-            self.kind(sort, number as u8, kind)?;
+        for (number, kind) in kinds.iter().enumerate() {
+            self.kind(sort, number as u8, *kind)?;
         }
         Ok(())
     }
@@ -558,12 +536,17 @@ fn signs(alloc: Global, words: &[&'static str]) -> Result<Vec<Class>, AllocError
     Ok(signs)
 }
 
-/// The rules of a dialect's grammar, with so many parts.
-fn rules<D: TextDialect>(alloc: Global, words: Vec<&'static str>) -> Result<RuleMaker, AllocError>
-    requires { texts words.items ≡ words_of D.formats }
-    ensures rules { IfOk result (λ m. plain_rules m.rules.items ≡ rules_of D.formats) }
-    ensures parts { IfOk result (λ m. m.next_list ≡ parts_of D.formats) }
-    ensures words { IfOk result (λ m. texts m.words.items ≡ words_of D.formats) }
+/// The rules of a grammar of these kinds, with so many parts.
+fn rules(
+    alloc: Global,
+    words: Vec<&'static str>,
+    kinds: &KindTexts,
+) -> Result<RuleMaker, AllocError>
+    requires words { texts words.items ≡ words_of (formats_of kinds.now) }
+    requires few { is_small (formats_of kinds.now) ≡ true }
+    ensures rules { IfOk result (λ m. plain_rules m.rules.items ≡ rules_of (formats_of kinds.now)) }
+    ensures parts { IfOk result (λ m. m.next_list ≡ parts_of (formats_of kinds.now)) }
+    ensures words { IfOk result (λ m. texts m.words.items ≡ words_of (formats_of kinds.now)) }
 {
     let mut maker = RuleMaker {
         alloc,
@@ -575,17 +558,19 @@ fn rules<D: TextDialect>(alloc: Global, words: Vec<&'static str>) -> Result<Rule
     maker.region_rules()?;
     maker.block_rules()?;
     maker.argument_rules()?;
-    maker.kinds::<D>(Sort::Operation)?;
-    maker.kinds::<D>(Sort::Type)?;
-    maker.kinds::<D>(Sort::Attribute)?;
+    maker.kinds(Sort::Operation, &kinds.operations)?;
+    maker.kinds(Sort::Type, &kinds.types)?;
+    maker.kinds(Sort::Attribute, &kinds.attributes)?;
     Ok(maker)
 }
 
-/// The table of the grammar that a dialect's formats make, worked out of its rules: what a
-/// [`ReadDialect`](crate::ReadDialect) gives. If the next token doesn't decide each step, none fits.
-pub fn table_of<D: TextDialect>(alloc: Global) -> Result<Vec<Facts>, AllocError> {
-    let words = words_of::<D>(alloc)?;
-    let maker = rules::<D>(alloc, words)?;
+/// The table of the grammar that these kinds make, worked out of its rules. If the next token doesn't decide each step,
+/// none fits.
+pub fn table_of_kinds(alloc: Global, kinds: &KindTexts) -> Result<Vec<Facts>, AllocError>
+    requires { is_small (formats_of kinds.now) ≡ true }
+{
+    let words = words_of(alloc, kinds)?;
+    let maker = rules(alloc, words, kinds)?;
     let signs = signs(alloc, &maker.words)?;
     let columns = maker.words.len() + SHAPES + 1;
     let RuleMaker {
@@ -597,6 +582,96 @@ pub fn table_of<D: TextDialect>(alloc: Global) -> Result<Vec<Facts>, AllocError>
     Ok(parts)
 }
 
+/// The grammar that these kinds make, with a table that fits it.
+pub fn grammar_of_kinds(
+    alloc: Global,
+    kinds: &KindTexts,
+    table: &[PartTable],
+) -> Result<DialectGrammar, AllocError>
+    requires few { is_small (formats_of kinds.now) ≡ true }
+    requires table { fits (grammar_value (formats_of kinds.now) (map plain_part table.now)) ≡ true }
+    ensures words { IfOk result (λ g. texts g.words.items ≡ words_of (formats_of kinds.now)) }
+    ensures rules { IfOk result (λ g. plain_rules g.grammar.rules.items ≡ rules_of (formats_of kinds.now)) }
+    ensures signs { IfOk result (λ g. plain_classes g.grammar.signs.items ≡ classes_of (words_of (formats_of kinds.now))) }
+    ensures can_read { IfOk result (λ g. CanRead g.grammar 0) }
+    ensures ordered { IfOk result (λ g. (leads : Leads) → is_ordered leads (rules_of (formats_of kinds.now)) ≡ true → OrdersTexts g.grammar) }
+{
+    let words = words_of(alloc, kinds)?;
+    let RuleMaker { rules, words, .. } = rules(alloc, words, kinds)?;
+    let signs = signs(alloc, &words)?;
+    let parts = facts_of(alloc, table, words.len() + SHAPES + 1)?;
+    let grammar = Grammar {
+        signs,
+        rules,
+        parts,
+    };
+    Ok(DialectGrammar { grammar, words })
+}
+
+/// The kind of a sort with this number, from 0 on.
+fn kind_at<D: TextDialect>(sort: Sort, number: usize) -> Option<KindText>
+    ensures { option_map kind_of result ≡ slice_get (kinds_of D.formats sort) number }
+{
+    match sort {
+        Sort::Operation => {
+            let kind = D::op_kind_at(number)?;
+            Some(KindText {
+                id: D::op_id(kind),
+                format: D::op_format(kind),
+            })
+        }
+        Sort::Type => {
+            let kind = D::type_kind_at(number)?;
+            Some(KindText {
+                id: D::type_id(kind),
+                format: D::type_format(kind),
+            })
+        }
+        Sort::Attribute => {
+            let kind = D::attr_kind_at(number)?;
+            Some(KindText {
+                id: D::attr_id(kind),
+                format: D::attr_format(kind),
+            })
+        }
+    }
+}
+
+/// The kinds of a sort that can be read, each at its number.
+fn kinds_of<D: TextDialect>(alloc: Global, sort: Sort) -> Result<Vec<KindText>, AllocError>
+    ensures { IfOk result (λ v. map kind_of v.items ≡ kinds_of D.formats sort) }
+{
+    let mut kinds = Vec::new(alloc);
+    for number in 0..KINDS {
+        let Some(kind) = kind_at::<D>(sort, number) else {
+            return Ok(kinds);
+        };
+        kinds.push(kind)?;
+    }
+    Ok(kinds)
+}
+
+/// What the texts of a dialect's kinds are made of.
+fn kind_texts<D: TextDialect>(alloc: Global) -> Result<KindTexts, AllocError>
+    ensures { IfOk result (λ k. formats_of k ≡ D.formats) }
+{
+    let operations = kinds_of::<D>(alloc, Sort::Operation)?;
+    let types = kinds_of::<D>(alloc, Sort::Type)?;
+    let attributes = kinds_of::<D>(alloc, Sort::Attribute)?;
+    Ok(KindTexts {
+        operations,
+        types,
+        attributes,
+    })
+}
+
+/// The table of the grammar that a dialect's formats make, worked out of its rules: what a
+/// [`ReadDialect`](crate::ReadDialect) gives. If the next token doesn't decide each step, none fits.
+pub fn table_of<D: TextDialect>(alloc: Global) -> Result<Vec<Facts>, AllocError> {
+    let kinds = kind_texts::<D>(alloc)?;
+    table_of_kinds(alloc, &kinds)
+}
+
 /// The grammar of a dialect's texts.
 pub fn grammar_of<D: ReadDialect>(alloc: Global) -> Result<DialectGrammar, AllocError>
     ensures words { IfOk result (λ g. texts g.words.items ≡ words_of D.formats) }
@@ -605,14 +680,6 @@ pub fn grammar_of<D: ReadDialect>(alloc: Global) -> Result<DialectGrammar, Alloc
     ensures can_read { IfOk result (λ g. CanRead g.grammar 0) }
     ensures ordered { IfOk result (λ g. OrdersTexts g.grammar) }
 {
-    let words = words_of::<D>(alloc)?;
-    let RuleMaker { rules, words, .. } = rules::<D>(alloc, words)?;
-    let signs = signs(alloc, &words)?;
-    let parts = facts_of(alloc, D::table(), words.len() + SHAPES + 1)?;
-    let grammar = Grammar {
-        signs,
-        rules,
-        parts,
-    };
-    Ok(DialectGrammar { grammar, words })
+    let kinds = kind_texts::<D>(alloc)?;
+    grammar_of_kinds(alloc, &kinds, D::table())
 }

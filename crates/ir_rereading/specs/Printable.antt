@@ -24,7 +24,7 @@ pub record HasBlockName (label : List ℕ) : Type 0 where
   pub given : Option Identifier
   pub slot : ℕ
   pub version : ℕ
-  pub small : (slot + 1 < 2 ^ 64) × (version < 2 ^ 64)
+  pub small : (slot < 2 ^ 64) × (version < 2 ^ 64)
   pub named : label ≡ block_name (label_front given) slot version
 
 abbrev pub HasLabelName : {N : Type 0} → Head N → Type 0

@@ -1,5 +1,6 @@
 pub mod Depths
 pub mod Lacking
+pub mod Marks
 pub mod Places
 pub mod Resolving
 pub mod Tables

@@ -1,5 +1,5 @@
 -- Where the names of a text stand, what they mean, and the faults of names.
-use Rattle.std.specs.Prelude.{◌≡◌, ℕ, ◌+◌, ◌-◌, ◌<◌, ◌==◌, List, [], ◌∷◌, ◌++◌, Option, Some, None, MatchOption, Bool, true, false, cond, ◌&&◌, nat_eq, ◌⊎◌, slice_get, slice_index, length, reverse}
+use Rattle.std.specs.Prelude.{◌≡◌, ℕ, ◌+◌, ◌-◌, ◌<◌, ◌==◌, List, [], ◌∷◌, ◌++◌, Option, Some, None, MatchOption, Bool, true, false, cond, ◌&&◌, nat_eq, ◌⊎◌, slice_get, slice_index, slice_index_or, length, reverse}
 use Rattle.std.specs.Bool.{MatchBool}
 use Rattle.std.specs.HashMap as hash
 use Rattle.std.specs.HashMap.{HashMap}
@@ -29,6 +29,10 @@ is_isolated_kind isolated (Some kind) = isolated kind
 -- whether operations of the kind with this number are isolated
 abbrev pub isolated_at : {K : Type 0} → (ℕ → Option K) → (K → Bool) → ℕ → Bool
 isolated_at kind_at isolated n = is_isolated_kind isolated (kind_at n)
+
+-- the kind with this number is marked; one behind the last mark isn't
+abbrev pub is_marked : List Bool → ℕ → Bool
+is_marked marks n = slice_index_or marks n false
 
 -- ---- what is open
 

@@ -3,10 +3,9 @@
 //! A region of an operation that is isolated from above opens a scope of values, each region one of labels. A scope
 //! is given by a number: that of the events before it.
 ghost use Rattle.std.specs.Prelude.{◌≡◌, [], ◌∷◌, ◌++◌, ◌+◌, ◌<◌, ◌≤◌, ◌^◌, OnOk, IfOk, reverse};
-ghost use Rattle.ir_scopes.specs.Scopes.{isolated_at, beginning, outside, last_token, behind, here_after, around_after, here_behind_operation, here_behind_region, rest, region_frame, place_of, defined, labelled, mentioned, ended, may_end, AreSites};
+ghost use Rattle.ir_scopes.specs.Scopes.{is_marked, beginning, outside, last_token, behind, here_after, around_after, here_behind_operation, here_behind_region, rest, region_frame, place_of, defined, labelled, mentioned, ended, may_end, AreSites};
 
 use ir_grammar::grammar::{Action, Event};
-use ir_print::TextDialect;
 use std::alloc::{AllocError, Global};
 
 /// An operation or a region that is being read, as far as names in it are concerned.
@@ -75,12 +74,12 @@ fn outside(events: usize) -> Frame
     }
 }
 
-/// Whether operations of the kind with this number are isolated from above.
-fn is_isolated<D: TextDialect>(number: u8) -> bool
-    ensures { result ≡ isolated_at D.kind_at D.isolated number }
+/// Whether operations of the kind with this number are isolated from above, given that of each kind.
+fn is_isolated(isolated: &[bool], number: u8) -> bool
+    ensures { result ≡ is_marked isolated.now number }
 {
-    match D::op_kind_at(number as usize) {
-        Some(kind) => D::is_isolated(kind),
+    match isolated.get(number as usize) {
+        Some(mark) => *mark,
         None => false,
     }
 }
@@ -163,17 +162,16 @@ impl Walker {
         }
     }
 
-    fn act<D: TextDialect>(&mut self, action: Action) -> Result<(), AllocError>
+    fn act(&mut self, action: Action, isolated: &[bool]) -> Result<(), AllocError>
         requires { self.old.events < 2 ^ 63 }
-        ensures here { OnOk result (self.new.here ≡ here_after (isolated_at D.kind_at D.isolated) (place_of self.old) action) }
+        ensures here { OnOk result (self.new.here ≡ here_after (is_marked isolated.now) (place_of self.old) action) }
         ensures around { OnOk result (reverse self.new.around.items ≡ around_after (place_of self.old) action) }
         ensures counts { (self.new.events ≡ self.old.events) × (self.new.tokens ≡ self.old.tokens) }
     {
         match action {
             Action::Operation(number) => {
-                let isolated = is_isolated::<D>(number);
                 self.enter(Frame {
-                    isolated,
+                    isolated: is_isolated(isolated, number),
                     ..self.here
                 })
             }
@@ -191,14 +189,14 @@ impl Walker {
     }
 
     /// Goes behind an event.
-    fn pass<D: TextDialect>(&mut self, event: Event) -> Result<(), AllocError>
+    fn pass(&mut self, event: Event, isolated: &[bool]) -> Result<(), AllocError>
         requires events { self.old.events < 2 ^ 63 }
         requires tokens { self.old.tokens < 2 ^ 63 }
-        ensures { OnOk result (place_of self.new ≡ behind (isolated_at D.kind_at D.isolated) (place_of self.old) event) }
+        ensures { OnOk result (place_of self.new ≡ behind (is_marked isolated.now) (place_of self.old) event) }
     {
         match event {
             Event::Took => self.tokens += 1,
-            Event::Did(action) => self.act::<D>(action)?,
+            Event::Did(action) => self.act(action, isolated)?,
         }
         self.events += 1;
         Ok(())
@@ -276,9 +274,14 @@ fn may_end(event: Event) -> bool
     }
 }
 
-/// The names of a text, of which reading did this. The only error is that memory is refused.
-pub fn sites_of<D: TextDialect>(alloc: Global, events: &[Event]) -> Result<Sites, AllocError>
-    ensures { IfOk result (AreSites (isolated_at D.kind_at D.isolated) events.now) }
+/// The names of a text, of which reading did this; `isolated` has for each kind of operations whether it is isolated from above.
+/// The only error is that memory is refused.
+pub fn sites_of(
+    alloc: Global,
+    events: &[Event],
+    isolated: &[bool],
+) -> Result<Sites, AllocError>
+    ensures { IfOk result (AreSites (is_marked isolated.now) events.now) }
 {
     let mut walker = Walker::new(alloc);
     let mut sites = Sites::new(alloc);
@@ -286,7 +289,7 @@ pub fn sites_of<D: TextDialect>(alloc: Global, events: &[Event]) -> Result<Sites
         sites.add(&walker, *event)?;
         let met = walker.last();
         let before = walker.here;
-        walker.pass::<D>(*event)?;
+        walker.pass(*event, isolated)?;
         if may_end(*event) {
             sites.add_end(met, before, walker.here)?;
         }

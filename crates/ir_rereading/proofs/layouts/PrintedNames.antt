@@ -1,12 +1,12 @@
 -- Names of values and blocks as they are printed.
-use Rattle.std.proofs.Common.{◌≡◌, ℕ, ◌+◌, ◌<◌, ◌^◌, Bool, true, false, ◌&&◌, nat_le, List, [], ◌∷◌, ◌++◌, Option, Some, None, refl, sym, subst, ◌∙◌, arith}
+use Rattle.std.proofs.Common.{◌≡◌, ℕ, ◌+◌, ◌<◌, ◌^◌, Bool, true, false, ◌&&◌, nat_le, List, [], ◌∷◌, ◌++◌, Option, Some, None, refl, sym, ap, subst, ◌∙◌, arith}
 use Rattle.std.specs.Prelude.{codes}
 use Rattle.std.specs.Char.{digit_value}
 use Rattle.std.specs.List.{list_all}
 use Rattle.std.specs.Fmt.{decimal}
-use Rattle.std.specs.Str.Parse.{AllDigits}
+use Rattle.std.specs.Str.Parse.{AllDigits, digits_value}
 use Rattle.std.proofs.lemmas.Bool.Decides.{nat_tests}
-use Rattle.std.proofs.lemmas.Fmt.{decimal_injective, decimal_is_IsNumeral}
+use Rattle.std.proofs.lemmas.Fmt.{decimal_injective, decimal_is_IsNumeral, decimal_is_IsNumeral_wide}
 use Rattle.std.proofs.lemmas.List.{append_assoc, append_cancel_right}
 use Rattle.ir_names.specs.declared.identifier.Identifier.{Identifier}
 use Rattle.ir_names.specs.Identifier.{text_of}
@@ -32,6 +32,16 @@ all_digits (c ∷ cs) h = rw (digit_is c h.0) (all_digits cs h.1)
 pub decimal_all : (n : ℕ) → n < 2 ^ 64 → list_all is_digit_code (decimal n) ≡ true
 decimal_all n h = all_digits (decimal n) (decimal_is_IsNumeral n h).0.1
 
+-- the same of a slot that is counted from 1
+slot_all : (slot : ℕ) → slot < 2 ^ 64 → list_all is_digit_code (decimal (slot + 1)) ≡ true
+slot_all slot h = all_digits (decimal (slot + 1)) (decimal_is_IsNumeral_wide (slot + 1) (omega (arith, h))).0.1
+
+slot_injective : (slot other : ℕ) → slot < 2 ^ 64 → other < 2 ^ 64 → decimal (slot + 1) ≡ decimal (other + 1) → slot ≡ other
+slot_injective slot other h k e =
+    let one : slot + 1 ≡ other + 1 =
+    sym (decimal_is_IsNumeral_wide (slot + 1) (omega (arith, h))).1 ∙ ap (digits_value 10) e ∙ (decimal_is_IsNumeral_wide (other + 1) (omega (arith, k))).1 in
+    omega (arith, one)
+
 later_digits : (ds : List ℕ) → list_all is_digit_code ds ≡ true → list_all is_later_code ds ≡ true
 later_digits [] h = refl
 later_digits (c ∷ cs) h = let b = both_hold (is_digit_code c) (list_all is_digit_code cs) h in rw (digit_later c b.0) (later_digits cs b.1)
@@ -56,10 +66,10 @@ value_name_identifier n h = decimal_later n h
 abbrev own_name : ℕ → ℕ → List ℕ
 own_name slot version = codes "block" ++ (decimal (slot + 1) ++ (codes "v" ++ decimal version))
 
-own_later : (slot version : ℕ) → slot + 1 < 2 ^ 64 → version < 2 ^ 64 → list_all is_later_code (decimal (slot + 1) ++ (codes "v" ++ decimal version)) ≡ true
-own_later slot version h k = later_append (decimal (slot + 1)) (codes "v" ++ decimal version) (decimal_later (slot + 1) h) (decimal_later version k)
+own_later : (slot version : ℕ) → slot < 2 ^ 64 → version < 2 ^ 64 → list_all is_later_code (decimal (slot + 1) ++ (codes "v" ++ decimal version)) ≡ true
+own_later slot version h k = later_append (decimal (slot + 1)) (codes "v" ++ decimal version) (later_digits (decimal (slot + 1)) (slot_all slot h)) (decimal_later version k)
 
-pub block_name_identifier : (given : Option Identifier) (slot version : ℕ) → slot + 1 < 2 ^ 64 → version < 2 ^ 64 → is_identifier (block_name (label_front given) slot version) ≡ true
+pub block_name_identifier : (given : Option Identifier) (slot version : ℕ) → slot < 2 ^ 64 → version < 2 ^ 64 → is_identifier (block_name (label_front given) slot version) ≡ true
 block_name_identifier None slot version h k = own_later slot version h k
 block_name_identifier (Some id) slot version h k =
     subst (λ cs. is_identifier cs ≡ true) (sym (append_assoc (text_of id) (codes "_") (own_name slot version)))
@@ -90,10 +100,9 @@ name_split front slot version =
     ∙ append_assoc front (codes "bloc") (107 ∷ (decimal (slot + 1) ++ (codes "v" ++ decimal version))))
 
 -- with one version, blocks of one name are in one slot
-pub block_name_injective : (front back : List ℕ) (slot other version : ℕ) → slot + 1 < 2 ^ 64 → other + 1 < 2 ^ 64 → block_name front slot version ≡ block_name back other version → slot ≡ other
+pub block_name_injective : (front back : List ℕ) (slot other version : ℕ) → slot < 2 ^ 64 → other < 2 ^ 64 → block_name front slot version ≡ block_name back other version → slot ≡ other
 block_name_injective front back slot other version h k e =
     let fronts : (front ++ codes "bloc") ++ 107 ∷ decimal (slot + 1) ≡ (back ++ codes "bloc") ++ 107 ∷ decimal (other + 1) =
     append_cancel_right _ _ (codes "v" ++ decimal version) (sym (name_split front slot version) ∙ e ∙ name_split back other version) in
-    let numbers : slot + 1 ≡ other + 1 = decimal_injective (slot + 1) (other + 1) h k
-    (after_k (front ++ codes "bloc") (back ++ codes "bloc") (decimal (slot + 1)) (decimal (other + 1)) (decimal_all (slot + 1) h) (decimal_all (other + 1) k) fronts) in
-    omega (arith, numbers)
+    slot_injective slot other h k
+    (after_k (front ++ codes "bloc") (back ++ codes "bloc") (decimal (slot + 1)) (decimal (other + 1)) (slot_all slot h) (slot_all other k) fronts)

@@ -206,7 +206,7 @@ module _ {K A T : Type 0} (says : Saying K A T) (s : ContextView K A T) (values 
       at true is h = (eqb-true b.version 1 is, h)
       at false is h = absurd (cc)
 
-  slot_below : (b : Ptr BasicBlock) (v : BlockView) → block_at s b ≡ Some v → b.slot + 1 < 2 ^ 64
+  slot_below : (b : Ptr BasicBlock) (v : BlockView) → block_at s b ≡ Some v → b.slot < 2 ^ 64
   slot_below b v e = let w = slice_get_within s.blocks b.slot v (live_block b v e).1 in omega (arith, w, few)
 
   block_named : (b : Ptr BasicBlock) (v : BlockView) → block_at s b ≡ Some v → HasBlockName (block_label s values b)

@@ -1,10 +1,18 @@
-use Rattle.std.proofs.Common.{sym}
-use Rattle.ir_formats.specs.Rules.{kinds_of}
+use Rattle.std.proofs.Common.{map}
+use Rattle.ir_formats.specs.Making.{kind_of}
+use Rattle.ir_formats.proofs.Numbered.{kind_here, no_kind_left}
 use Rattle.ir_formats.proofs.Makes.{kind_words_more, kind_words_done}
 use Rattle.ir_formats.proofs.rules.add_kinds.Goals as goal
 
-pub returns-in_default : goal.returns-in_default
-returns-in_default g c = kind_words_done (kinds_of g.D.TextDialect.formats c.args.sort) c.loop-number.number _ _ (sym c.in_default.ensures) c.loop-number.invariant
+pub returns : goal.returns
+returns c =
+    let ks = c.args.kinds.now in
+    let i = c.loop-kind.kind-index in
+    kind_words_done (map kind_of ks) i _ _ (no_kind_left ks i c.loop-kind-test.false) c.loop-kind.invariant
 
-pub loop-number-preserved : goal.loop-number-preserved
-loop-number-preserved g c = kind_words_more (kinds_of g.D.TextDialect.formats c.args.sort) c.loop-number.number _ _ _ _ _ (sym c.in-Some.ensures) c.loop-number.invariant c.in_ok-add_word.ensures c.in_ok-add_format.ensures
+pub loop-kind-preserved : goal.loop-kind-preserved
+loop-kind-preserved c =
+    let ks = c.args.kinds.now in
+    let i = c.loop-kind.kind-index in
+    kind_words_more (map kind_of ks) i _ _ _ _ _ (kind_here ks i _ c.loop-kind-test.true) c.loop-kind.invariant
+    c.in_ok-add_word.ensures c.in_ok-add_format.ensures

@@ -1,13 +1,13 @@
 use Rattle.std.proofs.Common.{◌++◌, get_or, sym, ◌∙◌, ap, arith}
 use Rattle.ir_grammar.specs.declared.grammar.Event.TheVariants.{Took}
-use Rattle.ir_scopes.specs.Scopes.{isolated_at, defined, labelled, mentioned, closed, ended, place_of}
+use Rattle.ir_scopes.specs.Scopes.{is_marked, defined, labelled, mentioned, closed, ended, place_of}
 use Rattle.ir_scopes.proofs.Walks.{each_step, each_all, events_behind, tokens_behind, closed_yes, closed_no}
 use Rattle.ir_scopes.proofs.sites.sites_of.Goals as goal
 use Rattle.ir_scopes.proofs.sites.sites_of.Goals.{then-may_end+in_ok-add_end, else-may_end}
 
 pub loop-event-preserved : goal.loop-event-preserved
-loop-event-preserved g c =
-    let isolated = isolated_at g.D.TextDialect.kind_at g.D.TextDialect.isolated in
+loop-event-preserved c =
+    let isolated = is_marked c.args.isolated.now in
     let es = c.args.events.now in
     let i = c.loop-event.event-index in
     let old = c.loop-event.sites in
@@ -49,8 +49,8 @@ loop-event-preserved g c =
     ]
 
 pub returns : goal.returns
-returns g c =
-    let isolated = isolated_at g.D.TextDialect.kind_at g.D.TextDialect.isolated in
+returns c =
+    let isolated = is_marked c.args.isolated.now in
     let es = c.args.events.now in
     let i = c.loop-event.event-index in
     let at = place_of c.loop-event.walker in

@@ -1,9 +1,9 @@
 use Rattle.std.proofs.Common.{◌≡◌, ◌≤◌, ◌++◌, drop}
-use Rattle.ir_scopes.specs.Scopes.{isolated_at, definitions, labels, mentions, closings, defined, labelled, mentioned, closed, each, place_of}
+use Rattle.ir_scopes.specs.Scopes.{is_marked, definitions, labels, mentions, closings, defined, labelled, mentioned, closed, each, place_of}
 use Rattle.ir_scopes.proofs.sites.sites_of.Given as goal
 
 abbrev pub invariant-loop-event : goal.invariant-loop-event
-invariant-loop-event g l = let isolated = isolated_at g.D.TextDialect.kind_at g.D.TextDialect.isolated in record {
+invariant-loop-event l = let isolated = is_marked l.isolated in record {
   events : l.walker.events ≤ l.event-index;
   tokens : l.walker.tokens ≤ l.event-index;
   definitions : l.sites.definitions.items ++ each isolated defined (place_of l.walker) (drop l.event-index l.events) ≡ definitions isolated l.events;

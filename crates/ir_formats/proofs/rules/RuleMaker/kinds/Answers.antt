@@ -1,10 +1,17 @@
-use Rattle.std.proofs.Common.{sym}
-use Rattle.ir_formats.specs.Rules.{kinds_of}
+use Rattle.std.proofs.Common.{map}
+use Rattle.ir_formats.specs.Making.{kind_of}
+use Rattle.ir_formats.proofs.Numbered.{kind_here, no_kind_left}
 use Rattle.ir_formats.proofs.Makes.{kinds_more, kinds_done}
 use Rattle.ir_formats.proofs.rules.RuleMaker.kinds.Goals as goal
 
-pub returns-in_default : goal.returns-in_default
-returns-in_default g c = kinds_done c.args.sort (kinds_of g.D.TextDialect.formats c.args.sort) c.loop-number.number _ _ _ (sym c.in_default.ensures) c.loop-number.invariant
+pub returns : goal.returns
+returns c =
+    let ks = c.args.kinds.now in
+    let i = c.loop-number.number in
+    kinds_done c.args.sort (map kind_of ks) i _ _ _ (no_kind_left ks i c.loop-number-test.false) c.loop-number.invariant
 
 pub loop-number-preserved : goal.loop-number-preserved
-loop-number-preserved g c = kinds_more c.args.sort (kinds_of g.D.TextDialect.formats c.args.sort) c.loop-number.number _ _ _ _ _ (sym c.in-Some.ensures) c.loop-number.invariant c.in_ok-kind.ensures
+loop-number-preserved c =
+    let ks = c.args.kinds.now in
+    let i = c.loop-number.number in
+    kinds_more c.args.sort (map kind_of ks) i _ _ _ _ _ (kind_here ks i _ c.loop-number-test.true) c.loop-number.invariant c.in_ok-kind.ensures

@@ -1,0 +1,6 @@
+//! Printing of modules, as texts that are read again.
+#![tactic(auto)]
+
+mod printing;
+
+pub use printing::print_module;

@@ -1,0 +1,6 @@
+pub mod Opened
+pub mod Frames
+pub mod Worlds
+pub mod Raised
+pub mod Makes
+pub mod Linking

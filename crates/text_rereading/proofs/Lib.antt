@@ -1,0 +1,9 @@
+pub mod Fits
+pub mod BlockNames
+pub mod InPlace
+pub mod NamedTrees
+pub mod Labels
+pub mod Definitions
+pub mod KnownPlaces
+pub mod SmallNumbers
+pub mod PrintAndRead

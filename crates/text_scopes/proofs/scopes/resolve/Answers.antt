@@ -1,0 +1,10 @@
+use Rattle.std.proofs.Common.{MatchResult, subst, ap, ◌∙◌}
+use Rattle.ir_scopes.specs.Scopes.{is_marked, IsResolved, IsScopeFault}
+use Rattle.text_scopes.proofs.scopes.resolve.Goals as goal
+
+pub returns-clause-resolved : goal.returns-clause-resolved
+returns-clause-resolved g c =
+    let names = c.args.names.now in
+    let events = c.args.events.now in
+    subst (λ isolated. MatchResult c.look_up.result (IsResolved isolated names events) (IsScopeFault isolated names events))
+    (ap is_marked c.deref.ensures.value ∙ c.in_ok-isolated.ensures) c.look_up.ensures.resolved
