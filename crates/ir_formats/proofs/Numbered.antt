@@ -1,5 +1,6 @@
 -- Kinds in a list, each at its number.
-use Rattle.std.proofs.Common.{◌≡◌, ℕ, ◌+◌, ◌<◌, ◌≤◌, List, [], ◌∷◌, ◌++◌, length, map, take, get_or, Some, None, Bool, true, false, ◌&&◌, slice_get, Result, Ok, Err, IfOk, refl, sym, ap, ◌∙◌, arith, inl, inr}
+use Rattle.std.proofs.Common.{◌≡◌, ℕ, ◌+◌, ◌<◌, ◌≤◌, List, [], ◌∷◌, ◌++◌, length, map, take, get_or, slice_get}
+use Rattle.std.proofs.Common.{Some, None, Bool, true, ◌&&◌, Result, Ok, Err, IfOk, sym, ap, ◌∙◌, arith, inl, inr}
 use Rattle.std.specs.Prelude.{nat_le}
 use Rattle.std.specs.Option.{option_map}
 use Rattle.std.proofs.lemmas.Bool.{leb-true}
@@ -15,7 +16,8 @@ use Rattle.ir_formats.specs.Rules.{kinds_of}
 use Rattle.ir_formats.proofs.Booleans.{both_hold}
 
 -- the kind at a place within
-pub kind_here : (ks : List KindText) (i : ℕ) (d : KindText) → i < length ks → slice_get (map kind_of ks) i ≡ Some (kind_of (get_or ks i d))
+pub kind_here : (ks : List KindText) (i : ℕ) (d : KindText) → i < length ks
+    → slice_get (map kind_of ks) i ≡ Some (kind_of (get_or ks i d))
 kind_here ks i d lt = slice_get-map kind_of ks i ∙ ap (option_map kind_of) (slice_get-get_or ks i d lt)
 
 pub no_kind_left : (ks : List KindText) (i : ℕ) → length ks ≤ i → slice_get (map kind_of ks) i ≡ None
@@ -24,31 +26,35 @@ no_kind_left ks i le = slice_get_past (map kind_of ks) i (omega (arith, length-m
 -- ---- kinds that are asked for one after the other
 
 module _ (ks : List Kind) (i : ℕ) where
-  pub kinds_taken : (xs ys : List KindText) (x : KindText) → slice_get ks i ≡ Some (kind_of x) → map kind_of xs ≡ take i ks
-      → ys ≡ xs ++ x ∷ [] → map kind_of ys ≡ take (i + 1) ks
+  pub kinds_taken : (xs ys : List KindText) (x : KindText) → Some (kind_of x) ≡ slice_get ks i
+      → map kind_of xs ≡ take i ks → ys ≡ xs ++ x ∷ [] → map kind_of ys ≡ take (i + 1) ks
   kinds_taken xs ys x at all one =
-      let more : take (i + 1) ks ≡ take i ks ++ kind_of x ∷ []
-      = take_more ks i (kind_of x) (slice_get_within ks i (kind_of x) at) ∙ ap (λ k. take i ks ++ k ∷ []) (get_or_from_slice_get ks i (kind_of x) (kind_of x) at) in
-      ap (map kind_of) one ∙ (map-append kind_of xs (x ∷ []) ∙ (ap (λ zs. zs ++ kind_of x ∷ []) all ∙ sym more))
+      let k = kind_of x in
+      let here : get_or ks i k ≡ k = get_or_from_slice_get ks i k k (sym at) in
+      let more = take_more ks i k (slice_get_within ks i k (sym at)) ∙ ap (λ j. take i ks ++ j ∷ []) here in
+      ap (map kind_of) one ∙ (map-append kind_of xs (x ∷ []) ∙ (ap (λ zs. zs ++ k ∷ []) all ∙ sym more))
 
-  pub no_more_kinds : slice_get ks i ≡ None → length ks ≤ i
+  pub no_more_kinds : None ≡ slice_get ks i → length ks ≤ i
   no_more_kinds e = elim (slice_get_cases ks i).1 [
-    | inl p ↦ absurd (let wrong : Some p.0 ≡ None = sym p.2 ∙ e in cc)
+    | inl p ↦ absurd (let wrong : None ≡ Some p.0 = e ∙ p.2 in cc)
     | inr p ↦ p.0
   ]
 
   pub all_taken : (xs : List KindText) → length ks ≤ i → map kind_of xs ≡ take i ks → map kind_of xs ≡ ks
   all_taken xs le all = all ∙ take_all i ks le
 
+abbrev are_few : List Kind → Bool
+are_few ks = nat_le (length ks) 256
+
 -- kinds of each sort are few
 pub few_of : (f : Formats) → is_small f ≡ true → (s : Sort) → length (kinds_of f s) ≤ 256
 few_of f e = go
   where
-    outer : (nat_le (length f.operations) 256 && nat_le (length f.types) 256 ≡ true) × (nat_le (length f.attributes) 256 ≡ true)
-    outer = both_hold (nat_le (length f.operations) 256 && nat_le (length f.types) 256) (nat_le (length f.attributes) 256) e
+    outer : (are_few f.operations && are_few f.types ≡ true) × (are_few f.attributes ≡ true)
+    outer = both_hold (are_few f.operations && are_few f.types) (are_few f.attributes) e
 
-    inner : (nat_le (length f.operations) 256 ≡ true) × (nat_le (length f.types) 256 ≡ true)
-    inner = both_hold (nat_le (length f.operations) 256) (nat_le (length f.types) 256) outer.0
+    inner : (are_few f.operations ≡ true) × (are_few f.types ≡ true)
+    inner = both_hold (are_few f.operations) (are_few f.types) outer.0
 
     go : (s : Sort) → length (kinds_of f s) ≤ 256
     go sort.Operation = leb-true (length f.operations) 256 inner.0
@@ -56,11 +62,13 @@ few_of f e = go
     go sort.Attribute = leb-true (length f.attributes) 256 outer.1
 
 -- kinds of each sort are those of the formats
-pub formats_are : (k : KindTexts) (f : Formats) → map kind_of k.operations.items ≡ f.operations → map kind_of k.types.items ≡ f.types
-    → map kind_of k.attributes.items ≡ f.attributes → formats_of k ≡ f
+pub formats_are : (k : KindTexts) (f : Formats) → map kind_of k.operations.items ≡ f.operations
+    → map kind_of k.types.items ≡ f.types → map kind_of k.attributes.items ≡ f.attributes → formats_of k ≡ f
 formats_are k f a b c =
-    ap (λ x. record { operations = x; types = map kind_of k.types.items; attributes = map kind_of k.attributes.items }) a
-    ∙ (ap (λ x. record { operations = f.operations; types = x; attributes = map kind_of k.attributes.items }) b
+    let types = map kind_of k.types.items in
+    let attributes = map kind_of k.attributes.items in
+    ap (λ x. record { operations = x; types = types; attributes = attributes }) a
+    ∙ (ap (λ x. record { operations = f.operations; types = x; attributes = attributes }) b
     ∙ ap (λ x. record { operations = f.operations; types = f.types; attributes = x }) c)
 
 -- what follows of a value where there is one

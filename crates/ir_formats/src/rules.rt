@@ -226,7 +226,8 @@ fn add_directive(words: &mut Vec<&'static str>, directive: Directive) -> Result<
 
 /// Adds the ids of kinds, and the words of their formats.
 fn add_kinds(words: &mut Vec<&'static str>, kinds: &[KindText]) -> Result<(), AllocError>
-    ensures { OnOk result (texts words.new.items ≡ with_words (texts words.old.items) (words_of_kinds (map kind_of kinds.now))) }
+    ensures { OnOk result (texts words.new.items
+        ≡ with_words (texts words.old.items) (words_of_kinds (map kind_of kinds.now))) }
 {
     for kind in kinds {
         add_word(words, kind.id)?;
@@ -401,7 +402,8 @@ impl RuleMaker {
     /// Adds the rules of the kinds of a sort, each under its number.
     fn kinds(&mut self, sort: Sort, kinds: &[KindText]) -> Result<(), AllocError>
         requires { length kinds.now ≤ 256 }
-        ensures { OnOk result (AddsMade self.old self.new (kinds_made (texts self.old.words.items) sort 0 (map kind_of kinds.now) self.old.next_list)) }
+        ensures { OnOk result (AddsMade self.old self.new
+            (kinds_made (texts self.old.words.items) sort 0 (map kind_of kinds.now) self.old.next_list)) }
     {
         for (number, kind) in kinds.iter().enumerate() {
             self.kind(sort, number as u8, *kind)?;
@@ -592,9 +594,11 @@ pub fn grammar_of_kinds(
     requires table { fits (grammar_value (formats_of kinds.now) (map plain_part table.now)) ≡ true }
     ensures words { IfOk result (λ g. texts g.words.items ≡ words_of (formats_of kinds.now)) }
     ensures rules { IfOk result (λ g. plain_rules g.grammar.rules.items ≡ rules_of (formats_of kinds.now)) }
-    ensures signs { IfOk result (λ g. plain_classes g.grammar.signs.items ≡ classes_of (words_of (formats_of kinds.now))) }
+    ensures signs { IfOk result (λ g. plain_classes g.grammar.signs.items
+        ≡ classes_of (words_of (formats_of kinds.now))) }
     ensures can_read { IfOk result (λ g. CanRead g.grammar 0) }
-    ensures ordered { IfOk result (λ g. (leads : Leads) → is_ordered leads (rules_of (formats_of kinds.now)) ≡ true → OrdersTexts g.grammar) }
+    ensures ordered { IfOk result (λ g. (leads : Leads) → is_ordered leads (rules_of (formats_of kinds.now)) ≡ true
+        → OrdersTexts g.grammar) }
 {
     let words = words_of(alloc, kinds)?;
     let RuleMaker { rules, words, .. } = rules(alloc, words, kinds)?;

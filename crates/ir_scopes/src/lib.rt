@@ -1,7 +1,7 @@
 //! The names of a text: where they stand, what they mean, and the first fault of names; and how deep its parts stand.
 //!
-//! All is over the events that reading gives. [`look_up`](scopes::look_up) looks up values and labels in their scopes, and
-//! [`too_deep`](depth::too_deep) finds the first part below 64 others.
+//! All is over the events that reading gives. [`look_up`](scopes::look_up) looks up values and labels in their scopes,
+//! and [`too_deep`](depth::too_deep) finds the first part below 64 others.
 #![tactic(auto)]
 
 pub mod depth;

@@ -219,9 +219,9 @@ fn numbers_of(
 
 /// What the names of a text mean, of which reading did this, or the first fault of its names.
 ///
-/// `names` has a number for each token; two have the same where they are spelled alike. `isolated` has for each kind of
-/// operations whether it is isolated from above. The text may be unfinished: then the scopes that are still open have no
-/// fault yet.
+/// `names` has a number for each token; two have the same where they are spelled alike. `isolated` has for each kind
+/// of operations whether it is isolated from above. The text may be unfinished: then the scopes that are still open
+/// have no fault yet.
 pub fn look_up(
     alloc: Global,
     names: &[usize],
@@ -266,7 +266,9 @@ pub fn resolve<D: TextDialect>(
     names: &[usize],
     events: &[Event],
 ) -> Result<Resolution, ScopeFault>
-    ensures resolved { MatchResult result (IsResolved (isolated_at D.kind_at D.isolated) names.now events.now) (IsScopeFault (isolated_at D.kind_at D.isolated) names.now events.now) }
+    ensures resolved { MatchResult result
+        (IsResolved (isolated_at D.kind_at D.isolated) names.now events.now)
+        (IsScopeFault (isolated_at D.kind_at D.isolated) names.now events.now) }
     ensures many { IfOk result (λ r. length r.definitions.items ≡ length names.now) }
 {
     let isolated = isolated_kinds::<D>(alloc)?;

@@ -274,13 +274,10 @@ fn may_end(event: Event) -> bool
     }
 }
 
-/// The names of a text, of which reading did this; `isolated` has for each kind of operations whether it is isolated from above.
-/// The only error is that memory is refused.
-pub fn sites_of(
-    alloc: Global,
-    events: &[Event],
-    isolated: &[bool],
-) -> Result<Sites, AllocError>
+/// The names of a text, of which reading did this. The only error is that memory is refused.
+///
+/// `isolated` has for each kind of operations whether it is isolated from above.
+pub fn sites_of(alloc: Global, events: &[Event], isolated: &[bool]) -> Result<Sites, AllocError>
     ensures { IfOk result (AreSites (is_marked isolated.now) events.now) }
 {
     let mut walker = Walker::new(alloc);

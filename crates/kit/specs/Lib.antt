@@ -5,6 +5,7 @@ pub mod Folded
 pub mod Forwarded
 pub mod Ids
 pub mod Lawful
+pub mod Leads
 pub mod Meaning
 pub mod Names
 pub mod Parents

@@ -4,6 +4,7 @@
 mod dialect;
 mod dropping;
 mod meaning;
+mod table;
 mod texts;
 
 pub use dialect::{Kit, Unused};

@@ -1,4 +1,5 @@
 -- Branches decided, blocks dropped, chains joined.
+pub mod PlacesJoined
 pub mod DecisionRules
 pub mod KeptBlocks
 pub mod ChainLemmas
@@ -14,3 +15,10 @@ pub mod NoChainRemains
 pub mod JoiningRules
 pub mod SimplifyRules
 pub mod SimplifyExists
+pub mod NamedChains
+pub mod NamedCommuting
+pub mod NamedPlacing
+pub mod NamedMerging
+pub mod NamedSimplifying
+pub mod NamedExists
+pub mod NamedDefined

@@ -9,7 +9,8 @@ use Rattle.kit_behaviour.specs.ConstantPropagation.{Wants, with_facts, IsSccp}
 use Rattle.kit_behaviour.specs.RemovedValues.{live, thin, AllLive}
 use Rattle.kit_behaviour.specs.DeadValues.{IsDce}
 use Rattle.kit_behaviour.specs.Numbering.{place_fun}
-use Rattle.kit_behaviour.specs.SimplifiedBlocks.{constants, keep, join_fun, replaced_args, branched, IsSimplify}
+use Rattle.kit_behaviour.specs.SimplifiedBlocks.{constants, keep, join_fun, branched}
+use Rattle.kit_behaviour.proofs.ControlFlow.PlacesJoined.{replaced_args, IsSimplify}
 use Rattle.kit_behaviour.specs.PassLists.{is_there, SameFaces}
 use Rattle.kit_behaviour.specs.Places.{Place, same_place}
 use Rattle.kit_behaviour.proofs.Behaviour.SizeLemmas.{length_map}

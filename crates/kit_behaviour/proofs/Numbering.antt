@@ -6,3 +6,4 @@ pub mod NumberingRules
 pub mod NumberingForgetsNames
 pub mod NumberingStays
 pub mod RuleLemmas
+pub mod DefinedUnderNames

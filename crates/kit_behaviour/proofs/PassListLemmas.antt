@@ -9,14 +9,15 @@ use Rattle.kit_behaviour.specs.ConstantPropagation.{Wants, all_wanted, used_want
 use Rattle.kit_behaviour.specs.DeadValues.{IsDead, IsDce}
 use Rattle.kit_behaviour.specs.Numbering.{place_fun, placed}
 use Rattle.kit_behaviour.specs.Places.{Place, same_place}
-use Rattle.kit_behaviour.specs.SimplifiedBlocks.{constants, Reached, IsReached, between, retarget_block, keep_blocks, keep, IsTaken, Depth, Follows, forward, join_block, join_fun, replaced_args, merged, IsMerged, branched, Simplifies, IsSimplify, IsSimplified}
+use Rattle.kit_behaviour.specs.SimplifiedBlocks.{constants, Reached, IsReached, between, retarget_block, keep_blocks, keep, IsTaken, Depth, join_block, join_fun, branched, IsSimplified, IsSimplify}
+use Rattle.kit_behaviour.proofs.ControlFlow.PlacesJoined.{Follows, forward, replaced_args, merged, IsMerged, Simplifies}
 use Rattle.kit_behaviour.specs.PassLists.{SameFaces, LeanSccpPass, Pass, SccpPass, DcePass, SimplifyPass, IsPass, IsAfter, Fit, GoalOf, Goal}
 use Rattle.kit_behaviour.proofs.FaceLemmas.{sccp_faces, dce_faces, simplify_faces, faces_trans}
 use Rattle.kit_behaviour.proofs.DeadCode.DeadMayGo.{dead_may_go}
 use Rattle.kit_behaviour.proofs.Numbering.PlaceEquality.{place_law}
 use Rattle.kit_behaviour.proofs.Propagation.BestFactsExist.{sccp_exists}
 use Rattle.kit_behaviour.proofs.DeadCode.DeadExists.{dce_exists}
-use Rattle.kit_behaviour.proofs.ControlFlow.SimplifyExists.{simplify_all}
+use Rattle.kit_behaviour.proofs.ControlFlow.NamedExists.{as_old_pass, as_old_all, simplify_all}
 use Rattle.kit_behaviour.proofs.ControlFlow.AllReached.{simplified_reached}
 use Rattle.kit_behaviour.proofs.ControlFlow.NoChainRemains.{simplified_joined}
 use Rattle.kit_behaviour.proofs.DeadCode.NoneDeadByPlace.{dce_none}
@@ -53,13 +54,13 @@ pass_alike : (x : Pass) (p q : Program Place) → IsPass x p q → Fit p → Fit
 pass_alike SccpPass p q h a b = (b.most, sccp_is_alike all_wanted p q b.most a.rules h b.below)
 pass_alike LeanSccpPass p q h a b = (b.most, sccp_is_alike used_wanted p q b.most a.rules h b.below)
 pass_alike DcePass p q h a b = (a.most, dce_is_alike p q a.most a.rules h a.below)
-pass_alike SimplifyPass p q h a b = (suc a.most, simplify_is_alike p q a.most a.rules h a.few)
+pass_alike SimplifyPass p q h a b = (suc a.most, simplify_is_alike p q a.most a.rules (as_old_all p q a.rules h) a.few)
 
 pass_fit : (x : Pass) (p q : Program Place) → IsPass x p q → Fit p → Fit q
 pass_fit SccpPass p q h a = sccp_fit all_wanted p q a h
 pass_fit LeanSccpPass p q h a = sccp_fit used_wanted p q a h
 pass_fit DcePass p q h a = dce_fit p q a h
-pass_fit SimplifyPass p q h a = simplify_fit p q a h
+pass_fit SimplifyPass p q h a = simplify_fit p q a (as_old_all p q a.rules h)
 
 abbrev KeepRules : Program Place → Type 0
 KeepRules p = (path : List ℕ) → Rules (p path)
@@ -68,7 +69,7 @@ pass_rules : (x : Pass) (p q : Program Place) → IsPass x p q → KeepRules p �
 pass_rules SccpPass p q h r path = subst Rules (sym (h.is path)) (sccp_rules all_wanted (p path) (h.facts path) (r path))
 pass_rules LeanSccpPass p q h r path = subst Rules (sym (h.is path)) (sccp_rules used_wanted (p path) (h.facts path) (r path))
 pass_rules DcePass p q h r path = subst Rules (sym (h.is path)) (thin_rules (p path) (h.set path) (dead_may_go same_place place_law (p path) (h.set path) (h.dead path)) (r path))
-pass_rules SimplifyPass p q h r path = simplify_rules (p path) (q path) (r path) (h.each path)
+pass_rules SimplifyPass p q h r path = simplify_rules (p path) (q path) (r path) (as_old_pass (p path) (q path) (r path) (h.each path))
 
 pub after_rules : (xs : List Pass) (p r : Program Place) → KeepRules p → IsAfter xs p r → KeepRules r
 after_rules [] p r f h = subst KeepRules h f
@@ -163,7 +164,7 @@ pass_one : (x : Pass) (p q r : Program Place) → KeepRules p → IsPass x p q �
 pass_one SccpPass p q r f a b = sccp_one all_wanted p q r a b
 pass_one LeanSccpPass p q r f a b = sccp_one used_wanted p q r a b
 pass_one DcePass p q r f a b = dce_one p q r a b
-pass_one SimplifyPass p q r f a b = λ i path. simplifies_one (p path) (q path) (r path) (f path) (a.each path) (b.each path) i
+pass_one SimplifyPass p q r f a b = λ i path. simplifies_one (p path) (q path) (r path) (f path) (as_old_pass (p path) (q path) (f path) (a.each path)) (as_old_pass (p path) (r path) (f path) (b.each path)) i
 
 pub after_one : (xs : List Pass) (p r s : Program Place) → KeepRules p → IsAfter xs p r → IsAfter xs p s → r ≡ s
 after_one [] p r s f h g = sym h ∙ g
@@ -183,8 +184,8 @@ after_cut xs ys p n r s f h w g = after_one (xs ++ ys) p r s f w (after_append x
 pub simplified : (p q : Program Place) → ((path : List ℕ) → Rules (p path)) → IsSimplify p q → (path : List ℕ) → IsSimplified (q path)
 simplified p q rules is path =
     record {
-      reached = λ b l. simplified_reached (p path) (q path) (rules path) (is.each path) b l;
-      joined = λ b t h. simplified_joined (p path) (q path) (rules path) (is.each path) b t h;
+      reached = λ b l. simplified_reached (p path) (q path) (rules path) (as_old_pass (p path) (q path) (rules path) (is.each path)) b l;
+      joined = λ b t h. simplified_joined (p path) (q path) (rules path) (as_old_pass (p path) (q path) (rules path) (is.each path)) b t h;
     }
 
 pass_goal : (x : Pass) (p q : Program Place) → KeepRules p → IsPass x p q → GoalOf x q
@@ -233,7 +234,7 @@ pub pass_within : (x : Pass) (p q : Program Place) (c : ℕ) → ((path : List �
 pass_within LeanSccpPass p q c rules h before after = sccp_is_alike used_wanted p q (suc c) rules h (λ path b. omega (arith, left_count (q path) b, after path))
 pass_within SccpPass p q c rules h before after = sccp_is_alike all_wanted p q (suc c) rules h (λ path b. omega (arith, left_count (q path) b, after path))
 pass_within DcePass p q c rules h before after = dce_is_alike p q (suc c) rules h (λ path b. omega (arith, left_count (p path) b, before path))
-pass_within SimplifyPass p q c rules h before after = simplify_is_alike p q c rules h (λ path. omega (arith, size_count (p path) (rules path), before path))
+pass_within SimplifyPass p q c rules h before after = simplify_is_alike p q c rules (as_old_all p q rules h) (λ path. omega (arith, size_count (p path) (rules path), before path))
 
 -- each pass has a result
 
@@ -256,7 +257,7 @@ pass_faces : (x : Pass) (p q : Program Place) → KeepRules p → IsPass x p q �
 pass_faces SccpPass p q f h = sccp_faces all_wanted p q f h
 pass_faces LeanSccpPass p q f h = sccp_faces used_wanted p q f h
 pass_faces DcePass p q f h = dce_faces p q h
-pass_faces SimplifyPass p q f h = simplify_faces p q f h
+pass_faces SimplifyPass p q f h = simplify_faces p q f (as_old_all p q f h)
 
 pub after_faces : (xs : List Pass) (p r : Program Place) → KeepRules p → IsAfter xs p r → SameFaces p r
 after_faces [] p r f h = subst (SameFaces p) h (record { there = λ path. refl; entry = λ path. refl })

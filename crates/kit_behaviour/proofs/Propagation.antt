@@ -11,3 +11,5 @@ pub mod FactsByPlace
 pub mod FactsExist
 pub mod BestFactsExist
 pub mod SecondPropagation
+pub mod NamedInsertion
+pub mod NamedPropagation

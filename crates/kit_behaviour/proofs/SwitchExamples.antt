@@ -3,7 +3,8 @@ use Rattle.std.proofs.Common.{◌≡◌, ℕ, zero, suc, Bool, true, false, [], 
 use Rattle.kit_behaviour.specs.Machine.{Cases, Const, Branch, Return, Fun, Ended, Program, start, run}
 use Rattle.kit_behaviour.specs.Numbering.{place_fun}
 use Rattle.kit_behaviour.specs.Places.{Place, Arg, Res, same_place}
-use Rattle.kit_behaviour.specs.SimplifiedBlocks.{branched, keep, merged}
+use Rattle.kit_behaviour.specs.SimplifiedBlocks.{branched, keep}
+use Rattle.kit_behaviour.proofs.ControlFlow.PlacesJoined.{merged}
 
 -- v chooses between no case, 0 and 7
 abbrev switch : ℕ → Fun Place

@@ -66,6 +66,12 @@ pub record IsSccp (want : Wants) (p q : Program Place) : Type 0 where
 abbrev pub propagated : Wants → Option (Fun Place) → Facts Place → Option (Fun Place)
 propagated want f k = place_fun (same_name same_place) (with_facts want f k)
 
+-- g is what the pass makes of the function f: by its most precise facts
+pub record Propagates (want : Wants) (f g : Option (Fun Place)) : Type 0 where
+  pub facts : Facts Place
+  pub best : IsMostPrecise f facts
+  pub is : g ≡ propagated want f facts
+
 -- where a value that was there is after the pass
 abbrev pub new_place : Wants → Option (Fun Place) → Facts Place → Place → Place
 new_place want f k v = place_in (same_name same_place) (with_facts want f k) (Old v)

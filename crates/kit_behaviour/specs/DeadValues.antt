@@ -3,10 +3,10 @@ use Rattle.std.specs.Prelude.{◌≡◌, ℕ, Bool, true, false, List, [], ◌�
 use Rattle.std.specs.Prelude.{◌&&◌}
 use Rattle.kit_behaviour.specs.Machine.{Edge, Op, Const, Calc, Emit, Call, Branch, Return, Block, Fun, Program}
 use Rattle.kit_behaviour.specs.Machine.{arguments_in}
-use Rattle.kit_behaviour.specs.RemovedValues.{may_trap, thinned}
+use Rattle.kit_behaviour.specs.RemovedValues.{may_trap, thin, thinned}
 use Rattle.kit_behaviour.specs.Scopes.{is_in}
 use Rattle.kit_behaviour.specs.Places.{Place, same_place}
-use Rattle.kit_behaviour.specs.Numbering.{placed}
+use Rattle.kit_behaviour.specs.Numbering.{placed, place_fun}
 
 -- of the values gs forwarded to the arguments ts, v is forwarded to arguments of the set d alone
 abbrev pub forwards_dead : {V : Type 0} → (V → V → Bool) → (V → Bool) → V → List V → List V → Bool
@@ -78,6 +78,12 @@ pub record IsDce (p q : Program Place) : Type 0 where
   pub set : List ℕ → Place → Bool
   pub dead : (path : List ℕ) → IsDead same_place (p path) (set path)
   pub is : (path : List ℕ) → q path ≡ placed same_place (thinned set p) path
+
+-- g is what the pass makes of the function f
+pub record Removes (f g : Option (Fun Place)) : Type 0 where
+  pub set : Place → Bool
+  pub dead : IsDead same_place f set
+  pub is : g ≡ place_fun same_place (thin set f)
 
 -- what the pass leaves: nothing is dead, so the empty set holds all that it has to
 abbrev pub NoneDead : Option (Fun Place) → Type 0

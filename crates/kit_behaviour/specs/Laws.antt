@@ -1,25 +1,27 @@
 -- The laws: what the passes do to the behaviour of programs, to the rules, and what they leave. Programs have their
 -- values named by their places, but where Name or another type is named.
-use Rattle.std.specs.Prelude.{◌≡◌, ◌≤◌, ℕ, suc, List, ◌++◌, Bool, true, Option}
+use Rattle.std.specs.Prelude.{◌≡◌, ◌≤◌, ◌<◌, ℕ, suc, List, ◌++◌, Bool, true, Option}
 use Rattle.kit_behaviour.specs.Machine.{Fun, Program, Alike, left_in, size}
 use Rattle.kit_behaviour.specs.Facts.{Facts, Undetermined, Known, IsClosed, IsMostPrecise}
 use Rattle.kit_behaviour.specs.Scopes.{In, OpsWith, at_start}
 use Rattle.kit_behaviour.specs.Replacement.{replaced}
-use Rattle.kit_behaviour.specs.Rules.{Rules, BlocksBelow, OperationsWithin}
+use Rattle.kit_behaviour.specs.Rules.{Rules, EndsWell, AllEdgesFit, BlocksBelow, OperationsWithin}
 use Rattle.kit_behaviour.specs.InsertedConstants.{Name, Old, Made, same_name, with_constants, use_of, InsertsKnown}
 use Rattle.kit_behaviour.specs.InsertedConstants.{FewPut}
 use Rattle.kit_behaviour.specs.ConstantPropagation.{Wants, WantsUsed, used_wanted, IsSccp, propagated, FactsKept}
-use Rattle.kit_behaviour.specs.ConstantPropagation.{with_facts, made_of}
+use Rattle.kit_behaviour.specs.ConstantPropagation.{with_facts, made_of, all_wanted, Propagates}
 use Rattle.kit_behaviour.specs.KnownOperands.{NamesConstant, IsPropagated}
 use Rattle.kit_behaviour.specs.RemovedValues.{MayGo, FewGo, thinned}
-use Rattle.kit_behaviour.specs.DeadValues.{NoneDead, IsDead, IsDce}
+use Rattle.kit_behaviour.specs.DeadValues.{NoneDead, IsDead, Removes, IsDce}
 use Rattle.kit_behaviour.specs.DecidedBranches.{decided}
 use Rattle.kit_behaviour.specs.ForwardedArguments.{MayForward}
 use Rattle.kit_behaviour.specs.JoinedBlocks.{Joins}
-use Rattle.kit_behaviour.specs.SimplifiedBlocks.{IsSimplify, IsSimplified}
+use Rattle.kit_behaviour.specs.SimplifiedBlocks.{Merges, IsMerged, Simplifies, IsSimplify, IsSimplified}
+use Rattle.kit_behaviour.specs.SimplifiedNames.{AreApart, SimplifiesNamed}
+use Rattle.kit_behaviour.specs.NamedPasses.{RemovesNamed, PropagatesNamed}
 use Rattle.kit_behaviour.specs.PassLists.{Pass, IsPass, IsAfter, Fit, IsFinite, Goal, SameFaces}
 use Rattle.kit_behaviour.specs.Renaming.{rename_fun}
-use Rattle.kit_behaviour.specs.Numbering.{place_fun}
+use Rattle.kit_behaviour.specs.Numbering.{place_fun, HasPlace, IsDefined}
 use Rattle.kit_behaviour.specs.Places.{Place, same_place}
 
 -- the two behave alike within c
@@ -183,6 +185,13 @@ NumberingForgetsNames V W =
     (same : V → V → Bool) (same' : W → W → Bool) (r : V → W) → ((x y : V) → same' (r x) (r y) ≡ same x y)
     → (f : Option (Fun V)) → place_fun same' (rename_fun r f) ≡ place_fun same f
 
+-- the same of names that are told apart as before where they are defined
+abbrev pub NumberingForgetsDefined : (V W : Type 0) → Type 0
+NumberingForgetsDefined V W =
+    (same : V → V → Bool) (same' : W → W → Bool) (r : V → W) (f : Option (Fun V)) → IsDefined same f
+    → ((x y : V) → HasPlace same f x → HasPlace same f y → same' (r x) (r y) ≡ same x y)
+    → place_fun same' (rename_fun r f) ≡ place_fun same f
+
 -- a function that keeps the rules is its own numbering
 abbrev pub NumberingStays : Type 0
 NumberingStays = (f : Option (Fun Place)) → Rules f → place_fun same_place f ≡ f
@@ -218,3 +227,61 @@ abbrev pub JoiningAlike : Type 0
 JoiningAlike =
     (p q : Program Place) (j : List ℕ → ℕ → Bool) (c : ℕ) → ((path : List ℕ) → Joins (j path) c (p path) (q path))
     → AlikeWithin (suc c) p q
+
+-- 7. the passes, whatever the names of values are
+
+-- removal of dead values from a function whose names are defined, and which keeps the rules once its values are named
+-- by their places, is the removal by places
+abbrev pub RemovalByPlace : Type 0 → Type 0
+RemovalByPlace V =
+    (same : V → V → Bool) → ((x y : V) → same x y ≡ true → x ≡ y) → ((x : V) → same x x ≡ true)
+    → (f g : Option (Fun V)) → IsDefined same f → Rules (place_fun same f) → RemovesNamed same f g
+    → Removes (place_fun same f) (place_fun same g)
+
+-- the names that are left are defined
+abbrev pub RemovalDefines : Type 0 → Type 0
+RemovalDefines V =
+    (same : V → V → Bool) → ((x y : V) → same x y ≡ true → x ≡ y) → ((x : V) → same x x ≡ true)
+    → (f g : Option (Fun V)) → IsDefined same f → Rules (place_fun same f) → RemovesNamed same f g
+    → IsDefined same g
+
+-- the same of constant propagation: by places it puts in constants for all known values
+abbrev pub PropagationByPlace : Type 0 → Type 0
+PropagationByPlace V =
+    (same : V → V → Bool) → ((x y : V) → same x y ≡ true → x ≡ y) → ((x : V) → same x x ≡ true)
+    → (f : Option (Fun V)) (g : Option (Fun (Name V))) → IsDefined same f → Rules (place_fun same f)
+    → PropagatesNamed f g → Propagates all_wanted (place_fun same f) (place_fun (same_name same) g)
+
+-- the names afterwards are defined, those of constants too
+abbrev pub PropagationDefines : Type 0 → Type 0
+PropagationDefines V =
+    (same : V → V → Bool) → ((x y : V) → same x y ≡ true → x ≡ y) → ((x : V) → same x x ≡ true)
+    → (f : Option (Fun V)) (g : Option (Fun (Name V))) → IsDefined same f → Rules (place_fun same f)
+    → PropagatesNamed f g → IsDefined (same_name same) g
+
+-- what joining makes of a function whose names are defined, and which keeps the rules once its values are named by
+-- their places, is by places what joining makes of it by places
+abbrev pub MergingByPlace : Type 0 → Type 0
+MergingByPlace V =
+    (same : V → V → Bool) → ((x y : V) → same x y ≡ true → x ≡ y) → ((x : V) → same x x ≡ true)
+    → (f g : Option (Fun V)) → IsDefined same f → Rules (place_fun same f) → Merges f g
+    → IsMerged (place_fun same f) (place_fun same g)
+
+-- the same of the pass on control flow
+abbrev pub SimplifyingByPlace : Type 0 → Type 0
+SimplifyingByPlace V =
+    (same : V → V → Bool) → ((x y : V) → same x y ≡ true → x ≡ y) → ((x : V) → same x x ≡ true)
+    → (f g : Option (Fun V)) → IsDefined same f → Rules (place_fun same f) → SimplifiesNamed f g
+    → Simplifies (place_fun same f) (place_fun same g)
+
+-- the names that are left are defined
+abbrev pub SimplifyingDefines : Type 0 → Type 0
+SimplifyingDefines V =
+    (same : V → V → Bool) → ((x y : V) → same x y ≡ true → x ≡ y) → ((x : V) → same x x ≡ true)
+    → (f g : Option (Fun V)) → IsDefined same f → Rules (place_fun same f) → SimplifiesNamed f g → IsDefined same g
+
+-- edges fit after joining
+abbrev pub MergingFits : Type 0 → Type 0
+MergingFits V =
+    (f g : Option (Fun V)) → AreApart f → ((b : ℕ) → b < size f → EndsWell (left_in f b 0))
+    → ((b : ℕ) → AllEdgesFit f (left_in f b 0)) → Merges f g → (b : ℕ) → AllEdgesFit g (left_in g b 0)

@@ -14,6 +14,8 @@ pub mod DecidedBranches
 pub mod Rules
 pub mod DeadValues
 pub mod SimplifiedBlocks
+pub mod SimplifiedNames
+pub mod NamedPasses
 pub mod PassLists
 pub mod KnownOperands
 pub mod Laws

@@ -1,11 +1,12 @@
 -- The pass on control flow: branches that constants decide, blocks that are not reached, and chains of blocks.
-use Rattle.std.specs.Prelude.{◌≡◌, ◌⊎◌, ◌≤◌, ◌<◌, ℕ, zero, suc, Bool, true, false, not, List, [], ◌∷◌, ◌++◌, map}
-use Rattle.std.specs.Prelude.{Option, Some, None, if◌then◌else◌, slice_get, unwrap_or, nat_eq}
+use Rattle.std.specs.Prelude.{◌≡◌, ◌⊎◌, ◌↔◌, ◌≤◌, ◌<◌, ℕ, zero, suc, Bool, true, false, not, List, [], ◌∷◌, ◌++◌, map}
+use Rattle.std.specs.Prelude.{Option, Some, None, if◌then◌else◌, slice_get, nat_eq}
 use Rattle.kit_behaviour.specs.Machine.{Edge, Op, Const, Calc, Emit, Call, Branch, Return, Block, Fun, Program, left_in}
-use Rattle.kit_behaviour.specs.Machine.{size}
+use Rattle.kit_behaviour.specs.Machine.{arguments_in, size}
 use Rattle.kit_behaviour.specs.Facts.{Fact, Known, Unknown, Facts}
 use Rattle.kit_behaviour.specs.Replacement.{replace}
 use Rattle.kit_behaviour.specs.RemovedValues.{thin}
+use Rattle.kit_behaviour.specs.Scopes.{In}
 use Rattle.kit_behaviour.specs.JoinedBlocks.{joined}
 use Rattle.kit_behaviour.specs.DecidedBranches.{decide}
 use Rattle.kit_behaviour.specs.Numbering.{place_fun}
@@ -153,21 +154,24 @@ abbrev pub forwarded_to : {V : Type 0} → ℕ → List (Edge V) → List V
 forwarded_to t [] = []
 forwarded_to t (e ∷ es) = if nat_eq e.target t then e.forwards else forwarded_to t es
 
--- what an argument of a chain's later block stands for: what the one edge to that block forwards to it; of any other
--- value nothing
-abbrev pub forward : (ℕ → Bool) → Option (Fun Place) → Place → Option Place
-forward j f (Res b o i) = None
-forward j f (Arg t i) = if j t then Some (unwrap_or (slice_get (forwarded_to t (edges_in f)) i) (Arg 0 0)) else None
+module _ {V : Type 0} (j : ℕ → Bool) (f : Option (Fun V)) where
+  -- v is an argument of a chain's later block (j is the set of these), and u is what the one edge to that block
+  -- forwards to it
+  pub record IsGiven (v u : V) : Type 0 where
+    pub block : ℕ
+    pub later : j block ≡ true
+    pub place : ℕ
+    pub takes : slice_get (arguments_in f block) place ≡ Some v
+    pub gives : slice_get (forwarded_to block (edges_in f)) place ≡ Some u
 
--- v stands for u: followed until it is no argument of such a block
-pub data Follows (n : Place → Option Place) : Place → Place → Type 0 where
-  stop : (v u : Place) → n v ≡ None → u ≡ v → Follows n v u
-  more : (v w u : Place) → n v ≡ Some w → Follows n w u → Follows n v u
+  -- v stands for u: followed until nothing is given
+  pub data StandsFor : V → V → Type 0 where
+    itself : (v u : V) → ((w : V) → IsGiven v w → ⊥) → u ≡ v → StandsFor v u
+    passed_on : (v w u : V) → IsGiven v w → StandsFor w u → StandsFor v u
 
--- the arguments of chains' later blocks
-abbrev pub taken_arg : (ℕ → Bool) → Place → Bool
-taken_arg j (Arg t i) = j t
-taken_arg j (Res b o i) = false
+  -- v is an argument of a chain's later block
+  abbrev pub IsLaterArgument : V → Type 0
+  IsLaterArgument v = (b : ℕ) × (j b ≡ true) × In v (arguments_in f b)
 
 -- a block with those of its chain joined behind it
 abbrev pub join_block : {V : Type 0} → (ℕ → Bool) → Option (Fun V) → ℕ → Block V → Block V
@@ -178,25 +182,29 @@ abbrev pub join_fun : {V : Type 0} → (ℕ → Bool) → ℕ → Option (Fun V)
 join_fun j k None = None
 join_fun j k (Some f) = Some (map (join_block j (Some f) k) f)
 
--- the arguments of chains' later blocks replaced by what they stand for, and removed
-abbrev pub replaced_args : (ℕ → Bool) → (Place → Place) → Option (Fun Place) → Option (Fun Place)
-replaced_args j s f = thin (taken_arg j) (replace s f)
+-- the arguments of chains' later blocks replaced by what they stand for, and removed; then each chain joined at its
+-- first block, and the later blocks dropped; k is at least the number of further blocks of each chain
+abbrev pub merged : {V : Type 0} → (ℕ → Bool) → (V → Bool) → (V → V) → ℕ → Option (Fun V) → Option (Fun V)
+merged j gone s k f = keep (λ b. not (j b)) (join_fun j k (thin gone (replace s f)))
 
--- each chain joined at its first block, and the later blocks dropped; k is at least the number of further blocks of
--- each chain
-abbrev pub merged : (ℕ → Bool) → (Place → Place) → ℕ → Option (Fun Place) → Option (Fun Place)
-merged j s k f = keep (λ b. not (j b)) (join_fun j k (replaced_args j s f))
-
--- g is what joining makes of f. Any count that is enough for every chain gives the same g; where following an
--- argument comes back to it there is no g
-pub record IsMerged (f g : Option (Fun Place)) : Type 0 where
-  pub taken : ℕ → Bool
-  pub names : Place → Place
+-- g is what joining makes of f, whatever the names of values are: they stay. Any count that is enough for every chain
+-- gives the same g; where following an argument comes back to it there is no g
+pub record Merges {V : Type 0} (f g : Option (Fun V)) : Type 0 where
+  pub later : ℕ → Bool
+  pub is_later : IsTaken f later
+  pub gone : V → Bool
+  pub is_gone : (v : V) → (gone v ≡ true) ↔ IsLaterArgument later f v
+  pub names : V → V
+  pub follows : (v : V) → StandsFor later f v (names v)
   pub most : ℕ
-  pub is_taken : IsTaken f taken
-  pub follows : (v : Place) → Follows (forward taken f) v (names v)
-  pub long : (b n : ℕ) → Depth f taken b n → n ≤ most
-  pub is : g ≡ place_fun same_place (merged taken names most f)
+  pub long : (b n : ℕ) → Depth f later b n → n ≤ most
+  pub is : g ≡ merged later gone names most f
+
+-- g is what joining makes of f, its values named by their places again
+pub record IsMerged (f g : Option (Fun Place)) : Type 0 where
+  pub left : Option (Fun Place)
+  pub merges : Merges f left
+  pub is : g ≡ place_fun same_place left
 
 -- the branches that constants decide, decided
 abbrev pub branched : Option (Fun Place) → Option (Fun Place)

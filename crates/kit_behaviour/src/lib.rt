@@ -8,7 +8,10 @@ ghost use Rattle.kit_behaviour.specs.Laws.{ListsCut, SccpGoal, DceGoal, Simplify
 ghost use Rattle.kit_behaviour.specs.Laws.{LeanSccpSettles, BestExists, DeadExists, OneBest, ScopesDetermined};
 ghost use Rattle.kit_behaviour.specs.Laws.{FactsStay, ValueFactsKept, BlockFactsKept, KnownAreNamed};
 ghost use Rattle.kit_behaviour.specs.Laws.{NumberingForgetsNames, NumberingStays, ConstantsAlike, RemovalAlike};
-ghost use Rattle.kit_behaviour.specs.Laws.{DecisionsAlike, ForwardingAlike, JoiningAlike};
+ghost use Rattle.kit_behaviour.specs.Laws.{DecisionsAlike, ForwardingAlike, JoiningAlike, MergingByPlace};
+ghost use Rattle.kit_behaviour.specs.Laws.{SimplifyingByPlace, MergingFits, NumberingForgetsDefined};
+ghost use Rattle.kit_behaviour.specs.Laws.{RemovalByPlace, RemovalDefines, PropagationByPlace, PropagationDefines};
+ghost use Rattle.kit_behaviour.specs.Laws.{SimplifyingDefines};
 
 /// Constant propagation keeps behaviour, on programs that keep the rules: all functions at once, calls and recursion
 /// included; a bound on the length of runs, both ways.
@@ -135,6 +138,12 @@ pub fn numbering_forgets_names<T, U>()
     ensures { NumberingForgetsNames T U }
 {}
 
+/// So it is where names are told apart as before, as far as they are defined in the function: names of other functions
+/// don't matter.
+pub fn numbering_forgets_defined<T, U>()
+    ensures { NumberingForgetsDefined T U }
+{}
+
 /// A function that keeps the rules is its own numbering.
 pub fn numbering_stays()
     ensures { NumberingStays }
@@ -163,4 +172,38 @@ pub fn forwarding_alike()
 /// A step: blocks joined behind the blocks before them, in chains.
 pub fn joining_alike()
     ensures { JoiningAlike }
+{}
+
+/// Chains of blocks joined under any names of values are joined by places, once values are named by their places.
+pub fn merging_by_place<T>()
+    ensures { MergingByPlace T }
+{}
+
+/// The pass on control flow under any names of values is the pass by places, once values are named by their places.
+pub fn simplifying_by_place<T>()
+    ensures { SimplifyingByPlace T }
+{}
+
+/// After the pass on control flow under any names of values the names that are left are defined.
+pub fn simplifying_defines<T>()
+    ensures { SimplifyingDefines T }
+{}
+
+/// Removal of dead values under any names of values is the removal by places, once values are named by their places;
+/// and the names that are left are defined.
+pub fn removal_by_place<T>()
+    ensures places { RemovalByPlace T }
+    ensures defined { RemovalDefines T }
+{}
+
+/// Constant propagation under any names of values is constant propagation by places, with constants for all known
+/// values, once values are named by their places; and the names afterwards are defined.
+pub fn propagation_by_place<T>()
+    ensures places { PropagationByPlace T }
+    ensures defined { PropagationDefines T }
+{}
+
+/// Whatever the names of values are: after chains of blocks are joined each edge fits.
+pub fn merging_fits<T>()
+    ensures { MergingFits T }
 {}

@@ -19,9 +19,9 @@ use Rattle.kit_ops.specs.declared.types.KitType.{KitType}
 use Rattle.kit.specs.Meaning.{kit, is_br, edge_of, picked_by}
 use Rattle.kit_ops.specs.Table.{has_interface}
 use Rattle.kit_views.specs.Reading.{kit_contents, kit_reading, integer_of}
-use Rattle.kit_views.specs.FlatBranches.{KnowsConstants}
 use Rattle.kit_views.specs.FlatView.{kind_of, IsOp, names_in}
 use Rattle.kit_views.specs.Typed.{number_as, width_at, IsBit, TypesFit, IsTyped}
+use Rattle.kit_views.proofs.OwnConstants.{KnowsExactly}
 use Rattle.kit_views.proofs.Read.{kit_reads}
 use Rattle.kit_views.proofs.Excused.{arith_branch}
 use Rattle.kit_views.proofs.Forwarded.{IsForwarding, from_branch}
@@ -53,7 +53,7 @@ among_two e e2 zero h = refl
 among_two e e2 (suc zero) h = refl
 among_two e e2 (suc (suc n)) h = absurd (omega (arith, h))
 
-module _ {N : Names} (leads : TypeHandle → Option KitType) (numbered : List ℕ → ℕ) (h : Head N kit_contents) (bs : Tree N kit_contents Blocks) (f : Fun N.value) (given : Given (kit_reading leads numbered) h bs f) (type_at : N.value → TypeHandle) (typed : IsTyped leads {N = N} type_at (whole (kit_reading leads numbered) h bs f)) (w : Around N IntegerAttr) (constants : KnowsConstants w (whole (kit_reading leads numbered) h bs f)) where
+module _ {N : Names} (leads : TypeHandle → Option KitType) (numbered : List ℕ → ℕ) (h : Head N kit_contents) (bs : Tree N kit_contents Blocks) (f : Fun N.value) (given : Given (kit_reading leads numbered) h bs f) (type_at : N.value → TypeHandle) (typed : IsTyped leads {N = N} type_at (whole (kit_reading leads numbered) h bs f)) (w : Around N IntegerAttr) (constants : KnowsExactly w (whole (kit_reading leads numbered) h bs f)) where
   abbrev Whole : Occurrence N kit_contents → Type 0
   Whole o = Has o (occurrences_of (whole (kit_reading leads numbered) h bs f))
 

@@ -17,7 +17,8 @@ use Rattle.kit_behaviour.specs.DecidedBranches.{single, branch_by, decide_op, de
 use Rattle.kit_behaviour.specs.Facts.{Unknown, Known, Facts, Knows, Lacks, Numbers, Open, knows}
 use Rattle.kit_behaviour.specs.Machine.{AllEdges, Edge, Select, Plain, Nonzero, Cases, nth, edge_at, chosen, Op, Const, Calc, Emit, Call, Branch, Return, Block, Fun, ops_left, left_in, arguments_of, arguments_in}
 use Rattle.kit_behaviour.specs.Rules.{EdgeFits, EdgesFit, AllEdgesFit}
-use Rattle.kit_behaviour.specs.Scopes.{SameLength}
+use Rattle.kit_behaviour.specs.Scopes.{In, SameLength}
+use Rattle.kit_behaviour.specs.SimplifiedNames.{IsConstantIn, AreConstants}
 use Rattle.kit_ops.specs.declared.attributes.IntegerAttr.{IntegerAttr}
 use Rattle.kit_ops.specs.declared.attributes.KitAttr.TheVariants as attrs
 use Rattle.kit_ops.specs.declared.kinds.KitOp.TheVariants as ops
@@ -25,9 +26,10 @@ use Rattle.kit_ops.specs.declared.types.KitType.{KitType}
 use Rattle.kit_ops.specs.Keys.{constant_value}
 use Rattle.kit.specs.Meaning.{KitOperation, kit, is_constant}
 use Rattle.kit_views.specs.Reading.{kit_contents, kit_reading, number_in}
-use Rattle.kit_views.specs.FlatBranches.{KnowsConstants, IsConstantIn, AreConstants}
-use Rattle.kit_views.specs.FlatView.{IsBranch, IsOp, AreOps, AreBlocks, names_in, IsFlat}
+use Rattle.kit_views.specs.FlatView.{IsSameness, IsBranch, IsOp, AreOps, AreBlocks, names_in, IsFlat}
 use Rattle.kit_views.specs.Typed.{number_as, TypesFit, IsTyped}
+use Rattle.kit_views.specs.FlatBranches.{KnowsConstants}
+use Rattle.kit_views.proofs.OwnConstants.{own_alone, KnowsExactly, decided_own}
 use Rattle.kit_views.proofs.Uses.{true_false}
 use Rattle.kit_views.proofs.PutIn.{length_map}
 use Rattle.kit_views.proofs.Standing.{whole, Given, root_spot, pair, back}
@@ -126,7 +128,35 @@ module _ {V : Type 0} (k : Facts V) (f : Fun V) where
       step None g = tt
       step (Some j) g = ops_fit j.ops g
 
-module _ {N : Names} (leads : TypeHandle → Option KitType) (numbered : List ℕ → ℕ) (h : Head N kit_contents) (bs : Tree N kit_contents Blocks) (f : Fun N.value) (given : Given (kit_reading leads numbered) h bs f) (type_at : N.value → TypeHandle) (typed : IsTyped leads {N = N} type_at (whole (kit_reading leads numbered) h bs f)) (w : Around N IntegerAttr) (constants : KnowsConstants w (whole (kit_reading leads numbered) h bs f)) where
+-- results of constants, by the numbers of their blocks
+
+-- the value is the result of a constant of this block
+record StandsAt {V : Type 0} (f : Fun V) (v : V) (n : ℕ) : Type 0 where
+  b : ℕ
+  block : Block V
+  stands : slice_get f b ≡ Some block
+  constant : Has (Const v n) block.ops
+
+module _ {V : Type 0} where
+  has_in : (p : Op V) (ps : List (Op V)) → Has p ps → In p ps
+  has_in p [] h = h
+  has_in p (q ∷ ps) h = ⊎_elim (λ e. inl e) (λ k. inr (has_in p ps k)) h
+
+  in_has : (p : Op V) (ps : List (Op V)) → In p ps → Has p ps
+  in_has p [] h = h
+  in_has p (q ∷ ps) h = ⊎_elim (λ e. inl e) (λ k. inr (in_has p ps k)) h
+
+  constant_there : (f : Fun V) (v : V) (n : ℕ) → StandsAt f v n → IsConstantIn (Some f) v n
+  constant_there f v n c = (c.b, subst (λ o. In (Const v n) (ops_left o 0)) (sym c.stands) (has_in (Const v n) c.block.ops c.constant))
+
+  constant_back : (f : Fun V) (v : V) (n : ℕ) → IsConstantIn (Some f) v n → StandsAt f v n
+  constant_back f v n c = by_block (slice_get f c.0) refl c.1
+    where
+      by_block : (o : Option (Block V)) → slice_get f c.0 ≡ o → In (Const v n) (ops_left o 0) → StandsAt f v n
+      by_block None e i = absurd i
+      by_block (Some k) e i = record { b = c.0; block = k; stands = e; constant = in_has (Const v n) k.ops i }
+
+module _ {N : Names} (leads : TypeHandle → Option KitType) (numbered : List ℕ → ℕ) (h : Head N kit_contents) (bs : Tree N kit_contents Blocks) (f : Fun N.value) (given : Given (kit_reading leads numbered) h bs f) (type_at : N.value → TypeHandle) (typed : IsTyped leads {N = N} type_at (whole (kit_reading leads numbered) h bs f)) (w : Around N IntegerAttr) (constants : KnowsExactly w (whole (kit_reading leads numbered) h bs f)) where
   abbrev Whole : Occurrence N kit_contents → Type 0
   Whole o = Has o (occurrences_of (whole (kit_reading leads numbered) h bs f))
 
@@ -183,7 +213,7 @@ module _ {N : Names} (leads : TypeHandle → Option KitType) (numbered : List �
       branch_makes (Cases ns) xs x es is = absurd is
   as_constant o v a (Return xs) is e i q = absurd (true_false (is_constant o.head.content.kind) (ap is_constant e) (ap is_constant is.kind))
 
-  known_there : (v : N.value) (n : ℕ) (o : Option IntegerAttr) → w.alone v ≡ o → fact_of o ≡ Known n → IsConstantIn f v n
+  known_there : (v : N.value) (n : ℕ) (o : Option IntegerAttr) → w.alone v ≡ o → fact_of o ≡ Known n → StandsAt f v n
   known_there v n None e q = absurd (cc q)
   known_there v n (Some a) e q =
       let m : a.bits ≡ n = cc q in
@@ -192,7 +222,7 @@ module _ {N : Names} (leads : TypeHandle → Option KitType) (numbered : List �
       let s = as_constant c.definer v a p.op p.is c.constant c.result c.value in
       record { b = p.place; block = p.k; stands = p.at; constant = subst (λ z. Has z p.k.ops) (s ∙ ap (Const v) m) p.stands }
 
-  known_back : (v : N.value) (n : ℕ) → IsConstantIn f v n → (facts_of w).of v ≡ Known n
+  known_back : (v : N.value) (n : ℕ) → StandsAt f v n → (facts_of w).of v ≡ Known n
   known_back v n c =
       let o = back (kit_reading leads numbered) h bs f given c.b c.block (Const v n) c.stands c.constant in
       let has = subst (Has v) (sym o.is.0.results) (inl refl) in
@@ -200,24 +230,35 @@ module _ {N : Names} (leads : TypeHandle → Option KitType) (numbered : List �
       let m : t.0 ≡ n = sym (ap number_in t.1) ∙ o.is.1 in
       ap fact_of ((constants v (number_as leads (type_at v) t.0)).1 (record { definer = o.it; stands = o.stands; constant = o.is.0.kind; result = has; value = t.1 })) ∙ ap Known m
 
-  constants_are : AreConstants f (facts_of w)
+  constants_are : AreConstants (Some f) (facts_of w)
   constants_are = record {
-    known = λ v n. (known_there v n (w.alone v) refl, known_back v n);
+    known = λ v n. (λ e. constant_there f v n (known_there v n (w.alone v) refl e), λ c. known_back v n (constant_back f v n c));
     unknown = λ v none. step v none (w.alone v) refl;
   }
     where
-      step : (v : N.value) → ((n : ℕ) → IsConstantIn f v n → ⊥) → (o : Option IntegerAttr) → w.alone v ≡ o → fact_of (w.alone v) ≡ Unknown
+      step : (v : N.value) → ((n : ℕ) → IsConstantIn (Some f) v n → ⊥) → (o : Option IntegerAttr) → w.alone v ≡ o → fact_of (w.alone v) ≡ Unknown
       step v none None e = ap fact_of e
-      step v none (Some a) e = absurd (none a.bits (known_there v a.bits (Some a) e refl))
+      step v none (Some a) e = absurd (none a.bits (constant_there f v a.bits (known_there v a.bits (Some a) e refl)))
 
-pub branches_decided : {N : Names} (leads : TypeHandle → Option KitType) (numbered : List ℕ → ℕ) (type_at : N.value → TypeHandle) (w : Around N IntegerAttr) (t : Root N kit_contents) (f : Fun N.value) → IsFlat (kit_reading leads numbered) t f → IsTyped leads {N = N} type_at t → KnowsConstants w t → (k : Facts N.value) × AreConstants f k × IsFlat (kit_reading leads numbered) (decided kit w t) (map (decide_block k) f)
+pub branches_decided : {N : Names} (leads : TypeHandle → Option KitType) (numbered : List ℕ → ℕ) (type_at : N.value → TypeHandle) (w : Around N IntegerAttr) (t : Root N kit_contents) (f : Fun N.value) → IsFlat (kit_reading leads numbered) t f → IsTyped leads {N = N} type_at t → KnowsExactly w t → (k : Facts N.value) × AreConstants (Some f) k × IsFlat (kit_reading leads numbered) (decided kit w t) (map (decide_block k) f)
 branches_decided {N} leads numbered type_at w t f is_flat typed constants =
     let bs : Tree N kit_contents Blocks = is_flat.view.blocks in
     let given : Given (kit_reading leads numbered) t.head bs f = given_of (kit_reading leads numbered) t f is_flat in
     let e : t ≡ whole (kit_reading leads numbered) t.head bs f = λ i. record { head = t.head; regions = is_flat.view.region i } in
     let types = subst (IsTyped leads {N = N} type_at) e typed in
-    let known = subst (KnowsConstants w) e constants in (
+    let known = subst (KnowsExactly w) e constants in (
       facts_of w,
       constants_are leads numbered t.head bs f given type_at types w known,
       subst (λ z. IsFlat (kit_reading leads numbered) (decided kit w z) (map (decide_block (facts_of w)) f)) (sym e) (decided_flat leads numbered t.head bs f given type_at types w known),
     )
+
+-- the same, where of the values of the tree exactly the results of constants are known alone
+pub decided_by_own : {N : Names} (same : N.value → N.value → Bool) (leads : TypeHandle → Option KitType)
+    (numbered : List ℕ → ℕ) (type_at : N.value → TypeHandle) (w : Around N IntegerAttr) (t : Root N kit_contents)
+    (f : Fun N.value) → IsSameness same → IsFlat (kit_reading leads numbered) t f → IsTyped leads {N = N} type_at t →
+    KnowsConstants w t → (k : Facts N.value) × AreConstants (Some f) k
+    × IsFlat (kit_reading leads numbered) (decided kit w t) (map (decide_block k) f)
+decided_by_own same leads numbered type_at w t f sameness is_flat typed constants =
+    let own = decided_own same leads type_at w t sameness typed constants in
+    let d = branches_decided leads numbered type_at (own_alone same t w) t f is_flat typed own.0 in
+    (d.0, d.1, subst (λ z. IsFlat (kit_reading leads numbered) z (map (decide_block d.0) f)) own.1 d.2)

@@ -29,7 +29,11 @@ use Rattle.kit.specs.Meaning.{kit, is_constant, operation_of}
 use Rattle.kit_ops.specs.Table.{has_interface}
 use Rattle.kit_views.specs.Reading.{kit_contents, kit_reading}
 use Rattle.kit_views.specs.FlatView.{IsSameness, kind_of, IsOp, AreBlocks, names_in, IsFlat}
-use Rattle.kit_views.specs.FlatConstants.{IsCalculated, Gets, IsPropagated}
+use Rattle.kit_behaviour.specs.InsertedConstants.{put_block, use_of}
+use Rattle.kit_behaviour.specs.NamedPasses.{Gets}
+use Rattle.kit_behaviour.specs.Replacement.{replace_block}
+use Rattle.kit_views.specs.FlatConstants.{IsPropagated}
+use Rattle.kit_views.proofs.Calculated.{IsCalculated, GetsIn, gets_both}
 use Rattle.kit_views.specs.FlatFacts.{IsKnownAs, AreFlatly}
 use Rattle.kit_views.specs.Typed.{number_as, IsTyped}
 use Rattle.kit_views.proofs.Lists.{to_distinct, from_distinct}
@@ -91,17 +95,17 @@ module _ {N : Names} (leads : TypeHandle → Option KitType) (numbered : List �
   makes_of h names v (Return xs) is c = absurd c
 
   module _ (h : Head N kit_contents) (bs : Tree N kit_contents Blocks) (f : Fun N.value) (given : Given (kit_reading leads numbered) h bs f) (k : trees.Facts N IntegerAttr) (l : flat.Facts N.value) (agree : AreFlatly leads {N = N} type_at (whole (kit_reading leads numbered) h bs f) (names_in bs) k l) (made : N.value → Option IntegerAttr) (is_made : IsMade kit (whole (kit_reading leads numbered) h bs f) k made) where
-    result_gets : (v : N.value) (q : IsResult kit (whole (kit_reading leads numbered) h bs f) k v) (n : ℕ) → l.of v ≡ flat.Known n → Gets f l v n
+    result_gets : (v : N.value) (q : IsResult kit (whole (kit_reading leads numbered) h bs f) k v) (n : ℕ) → l.of v ≡ flat.Known n → GetsIn f l v n
     result_gets v q n e =
         let p = pair (kit_reading leads numbered) h bs f given q.definer q.stands in
         record { known = e; b = p.place; runs = agree.runs p.place q.definer.site.label.name p.name ∙ q.runs; block = p.k; stands = p.at; place = inr (p.op, p.stands, calculated q.definer.head (names_in bs) v p.op p.is q.folds q.no_constant q.result) }
 
-    argument_gets : (v : N.value) (q : IsArgument (whole (kit_reading leads numbered) h bs f) k.runs v) (n : ℕ) → l.of v ≡ flat.Known n → Gets f l v n
+    argument_gets : (v : N.value) (q : IsArgument (whole (kit_reading leads numbered) h bs f) k.runs v) (n : ℕ) → l.of v ≡ flat.Known n → GetsIn f l v n
     argument_gets v q n e =
         let p = block_pair (kit_reading leads numbered) h bs f given q.definer q.stands in
         record { known = e; b = p.place; runs = agree.runs p.place q.definer.label.name p.same.name ∙ q.in_run; block = p.k; stands = p.at; place = inl (subst (Has v) p.same.arguments q.argument) }
 
-    there : (v : N.value) (n : ℕ) (o : Option IntegerAttr) → made v ≡ o → option_map (λ (a : IntegerAttr). a.bits) o ≡ Some n → Gets f l v n
+    there : (v : N.value) (n : ℕ) (o : Option IntegerAttr) → made v ≡ o → option_map (λ (a : IntegerAttr). a.bits) o ≡ Some n → GetsIn f l v n
     there v n None e q = absurd (none_some n q)
     there v n (Some a) e q =
         let g = is_made.gets v a e in
@@ -116,7 +120,7 @@ module _ {N : Names} (leads : TypeHandle → Option KitType) (numbered : List �
         let is = subst (IsKnownAs leads (type_at v) (k.of v)) e (agree.of v i) in
         ap (option_map (λ (a : IntegerAttr). a.bits)) (is_made.all v (number_as leads (type_at v) n) (record { known = is.0; maker = operation_of ops.Constant ((constant_value, attrs.Integer (number_as leads (type_at v) n)) ∷ []); made_by = refl; place = place }))
 
-    back_again : (v : N.value) (n : ℕ) → Gets f l v n → numbers made v ≡ Some n
+    back_again : (v : N.value) (n : ℕ) → GetsIn f l v n → numbers made v ≡ Some n
     back_again v n g = ⊎_elim
         (λ i.
         let x = block_back (kit_reading leads numbered) h bs f given g.b g.block g.stands in
@@ -158,8 +162,11 @@ module _ {N : Names} (leads : TypeHandle → Option KitType) (numbered : List �
       edges = rest_fits made f given.edges;
     }
 
-    pub made_exactly : (v : N.value) (n : ℕ) → (numbers made v ≡ Some n) ↔ Gets f l v n
-    made_exactly v n = (there v n (made v) refl, back_again v n)
+    pub made_exactly : (v : N.value) (n : ℕ) → (numbers made v ≡ Some n) ↔ Gets (Some f) l v n
+    made_exactly v n = (
+      λ e. (gets_both f l v n).0 (there v n (made v) refl e),
+      λ g. back_again v n ((gets_both f l v n).1 g),
+    )
 
 module _ {N : Names} (leads : TypeHandle → Option KitType) (numbered : List ℕ → ℕ) (same : N.value → N.value → Bool) (sameness : IsSameness same) (same_block : N.block → N.block → Bool) (block_law : IsSameness same_block) (type_at : N.value → TypeHandle) where
   pub propagated : (t : Root N kit_contents) (after : Root (fresh N) kit_contents) (f : Fun N.value) → IsFlat (kit_reading leads numbered) t f → IsTyped leads {N = N} type_at t → IsSccp kit t after → IsPropagated {N = N} leads numbered f after
@@ -172,11 +179,13 @@ module _ {N : Names} (leads : TypeHandle → Option KitType) (numbered : List �
       let is_made = subst (λ z. IsMade kit z pass.facts pass.made) e pass.is_made in
       let is : after ≡ put_root {N = N} kit pass.made (whole (kit_reading leads numbered) t.head bs f) = pass.is ∙ ap (put_root {N = N} kit pass.made) e in
       record {
-        facts = best.0;
-        best = best.1;
-        made = numbers pass.made;
-        is_made = made_exactly leads numbered type_at t.head bs f given pass.facts best.0 agree pass.made is_made;
-        rest = rest pass.made f;
-        is = refl;
+        put = map (replace_block (use_of (numbers pass.made))) (map (put_block (numbers pass.made)) f);
+        propagates = record {
+          facts = best.0;
+          best = best.1;
+          made = numbers pass.made;
+          gets = made_exactly leads numbered type_at t.head bs f given pass.facts best.0 agree pass.made is_made;
+          is = refl;
+        };
         is_view = subst (λ z. IsFlat {N = fresh N} (kit_reading leads numbered) z (rest pass.made f)) (sym is) (put_flat leads numbered type_at t.head bs f given pass.facts best.0 agree pass.made is_made);
       }

@@ -21,14 +21,14 @@ first_false zero = refl
 first_false (suc n) = refl
 
 module _ {N : Names} {S : Contents} (r : Reading S) (names : List N.block) where
-  record OpPair (c : Site N S) (o : Occurrence N S) (ps : List (Op N.value)) : Type 0 where
-    op : Op N.value
-    stands : Has op ps
-    is : IsOp r names o.head op
-    where_it_is : o.site ≡ c
-    regions : o.regions ≡ end
+  pub record OpPair (c : Site N S) (o : Occurrence N S) (ps : List (Op N.value)) : Type 0 where
+    pub op : Op N.value
+    pub stands : Has op ps
+    pub is : IsOp r names o.head op
+    pub where_it_is : o.site ≡ c
+    pub regions : o.regions ≡ end
 
-  op_pairs : (os : Tree N S Operations) (ps : List (Op N.value)) (c : Site N S) → AreOps r names os ps → (o : Occurrence N S) → Has o (occurrences_in os c) → OpPair c o ps
+  pub op_pairs : (os : Tree N S Operations) (ps : List (Op N.value)) (c : Site N S) → AreOps r names os ps → (o : Occurrence N S) → Has o (occurrences_in os c) → OpPair c o ps
   op_pairs end [] c a o h = absurd h
   op_pairs end (p ∷ ps) c a o h = absurd a
   op_pairs (operation h rs more) [] c a o i = absurd a
@@ -56,7 +56,7 @@ module _ {N : Names} {S : Contents} (r : Reading S) (names : List N.block) where
       (λ e. record { it = record { site = c; head = h; regions = rs }; stands = inl refl; is = subst (λ z. IsOp r names h z) (sym e) a.1; where_it_is = refl; regions = a.0 })
       (λ x. let q = op_backs more ps c a.2 p x in record { it = q.it; stands = inr (has-right q.it (occurrences_in rs (inner h c)) (occurrences_in more c) q.stands); is = q.is; where_it_is = q.where_it_is; regions = q.regions }) i
 
-  no_blocks : (os : Tree N S Operations) (ps : List (Op N.value)) (c : Site N S) → AreOps r names os ps → (x : BlockOccurrence N S) → Has x (block_occurrences_in os c) → ⊥
+  pub no_blocks : (os : Tree N S Operations) (ps : List (Op N.value)) (c : Site N S) → AreOps r names os ps → (x : BlockOccurrence N S) → Has x (block_occurrences_in os c) → ⊥
   no_blocks end ps c a x h = h
   no_blocks (operation h rs more) [] c a x i = a
   no_blocks (operation h rs more) (p ∷ ps) c a x i =

@@ -22,7 +22,8 @@ use Rattle.kit_ops.specs.declared.types.KitType.{KitType}
 use Rattle.kit.specs.Meaning.{kit}
 use Rattle.kit_views.specs.Reading.{kit_contents, kit_reading}
 use Rattle.kit_views.specs.FlatView.{IsOp, AreOps, AreBlocks, names_in}
-use Rattle.kit_views.specs.FlatConstants.{as_name, IsCalculated}
+use Rattle.kit_views.specs.FlatConstants.{as_name}
+use Rattle.kit_views.proofs.Calculated.{IsCalculated}
 use Rattle.kit_views.proofs.PutIn.{numbers, after_op, after_edge, old_edge, after_ops, olds_same, old_op, length_map}
 
 module _ {N : Names} (leads : TypeHandle → Option KitType) (numbered : List ℕ → ℕ) (names : List N.block) (made : N.value → Option IntegerAttr) where

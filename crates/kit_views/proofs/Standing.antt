@@ -20,7 +20,7 @@ use Rattle.kit_views.proofs.Definers.{Definer, ByOp, ByBlock, makes, definers, a
 use Rattle.kit_views.proofs.Pairs.{Pair, pairs, Back, backs, BlockPair, block_pairs, BlockBack, block_backs}
 use Rattle.kit_views.proofs.Forwarded.{start, IsForwarding, range_get, range_at, get_below}
 
-strip : {X : Type 0} (x : X) (xs : List X) → Has x (xs ++ []) → Has x xs
+pub strip : {X : Type 0} (x : X) (xs : List X) → Has x (xs ++ []) → Has x xs
 strip x xs h = ⊎_elim (λ i. i) (λ i. absurd i) (has-append x xs [] h)
 
 module _ {N : Names} {S : Contents} (r : Reading S) (h : Head N S) (bs : Tree N S Blocks) (f : Fun N.value) where

@@ -1,5 +1,5 @@
 -- The statements of the laws.
-use Rattle.std.specs.Prelude.{◌≡◌, ◌⊎◌, ◌↔◌, ℕ, Bool, true, List, Option, Some, map}
+use Rattle.std.specs.Prelude.{◌≡◌, ◌⊎◌, ◌↔◌, ◌<◌, ℕ, Bool, true, List, length, Option, Some, map}
 use Rattle.ir_base.specs.declared.types.TypeHandle.{TypeHandle}
 use Rattle.ir_trees.specs.Names.{Names, Contents}
 use Rattle.ir_trees.specs.Renames.{names_of}
@@ -7,7 +7,7 @@ use Rattle.ir_trees.specs.Trees.{Root}
 use Rattle.opt_trees.specs.Dialect.{Dialect}
 use Rattle.opt_trees.specs.Facts as trees
 use Rattle.opt_trees.specs.Sccp.{fresh, IsSccp}
-use Rattle.opt_trees.specs.Simplify.{decided}
+use Rattle.opt_trees.specs.Simplify.{decided, all_of, IsCut, IsJoined, IsSimplify}
 use Rattle.opt_trees.specs.Occurrences.{Has, Occurrence, occurrences_of, defined_in}
 use Rattle.opt_trees.specs.Dce.{Around, Whole, Slot, IsDead, IsDce}
 use Rattle.kit_ops.specs.declared.attributes.IntegerAttr.{IntegerAttr}
@@ -15,14 +15,17 @@ use Rattle.kit_ops.specs.declared.types.KitType.{KitType}
 use Rattle.kit.specs.Meaning.{kit}
 use Rattle.kit_behaviour.specs.DecidedBranches.{decide_block}
 use Rattle.kit_behaviour.specs.Facts as facts
-use Rattle.kit_behaviour.specs.Machine.{Fun}
+use Rattle.kit_behaviour.specs.Machine.{Fun, left_in}
 use Rattle.kit_behaviour.specs.RemovedValues.{thin}
+use Rattle.kit_behaviour.specs.SimplifiedNames.{AreConstants, SimplifiesNamed}
+use Rattle.kit_behaviour.specs.Rules.{EndsWell}
+use Rattle.kit_behaviour.specs.SimplifiedBlocks.{Reached, IsReached, keep, Merges}
 use Rattle.kit_behaviour.specs.DeadValues as flat
 use Rattle.kit_views.specs.Reading.{Reading, kit_contents, kit_reading}
 use Rattle.kit_views.specs.FlatView.{IsSameness, IsFlat, names_in}
 use Rattle.kit_views.specs.FlatFacts.{AreFlatly}
 use Rattle.kit_views.specs.FlatConstants.{IsPropagated}
-use Rattle.kit_views.specs.FlatBranches.{KnowsConstants, AreConstants}
+use Rattle.kit_views.specs.FlatBranches.{KnowsConstants}
 use Rattle.kit_views.specs.Typed.{IsTyped}
 
 -- no value that is defined below the root is named from outside it
@@ -76,8 +79,55 @@ FlatSccp N = (same : N.value → N.value → Bool) (same_block : N.block → N.b
 
 -- branches that constants decide, decided in the tree of a typed function, are decided in its flat view
 abbrev pub FlatDecided : Names → Type 0
-FlatDecided N = (leads : TypeHandle → Option KitType) (numbered : List ℕ → ℕ) (type_at : N.value → TypeHandle)
-    (w : Around N IntegerAttr) (t : Root N kit_contents) (f : Fun N.value) →
-    IsFlat (kit_reading leads numbered) t f → IsTyped leads {N = N} type_at t → KnowsConstants w t →
-    (k : facts.Facts N.value) × AreConstants f k
+FlatDecided N = (same : N.value → N.value → Bool) (leads : TypeHandle → Option KitType) (numbered : List ℕ → ℕ)
+    (type_at : N.value → TypeHandle) (w : Around N IntegerAttr) (t : Root N kit_contents) (f : Fun N.value) →
+    IsSameness same → IsFlat (kit_reading leads numbered) t f → IsTyped leads {N = N} type_at t → KnowsConstants w t →
+    (k : facts.Facts N.value) × AreConstants (Some f) k
     × IsFlat (kit_reading leads numbered) (decided kit w t) (map (decide_block k) f)
+
+-- the tree without the blocks that are not reached has as its flat view the blocks of f that are reached, numbered
+-- again
+pub record IsCutFlat {N : Names} {S : Contents} (r : Reading S) (f : Fun N.value) (after : Root N S) : Type 0 where
+  pub reach : ℕ → Bool
+  pub is_reach : IsReached (Some f) reach
+  pub rest : Fun N.value
+  pub is : keep reach (Some f) ≡ Some rest
+  pub is_view : IsFlat r after rest
+
+-- blocks that are not reached, removed from the tree of a function, are removed from its flat view
+abbrev pub FlatReached : Names → Type 0
+FlatReached N = (leads : TypeHandle → Option KitType) (numbered : List ℕ → ℕ) (t after : Root N kit_contents)
+    (f : Fun N.value) → IsFlat (kit_reading leads numbered) t f → IsCut kit (all_of t) t after →
+    IsCutFlat (kit_reading leads numbered) f after
+
+-- each block ends in a branch or a return, and has no other
+abbrev pub EndWell : {V : Type 0} → Fun V → Type 0
+EndWell f = (b : ℕ) → b < length f → EndsWell (left_in (Some f) b 0)
+
+-- the tree with chains of blocks joined has as its flat view what joining makes of f
+pub record IsMergedFlat {N : Names} {S : Contents} (r : Reading S) (f : Fun N.value) (after : Root N S) : Type 0 where
+  pub rest : Fun N.value
+  pub merges : Merges (Some f) (Some rest)
+  pub is_view : IsFlat r after rest
+
+-- chains of blocks joined in the tree of a function each of whose blocks is reached are joined in its flat view
+abbrev pub FlatMerged : Names → Type 0
+FlatMerged N = (same : N.value → N.value → Bool) (leads : TypeHandle → Option KitType) (numbered : List ℕ → ℕ)
+    (t after : Root N kit_contents) (f : Fun N.value) → IsSameness same → IsFlat (kit_reading leads numbered) t f →
+    EndWell f → ((b : ℕ) → b < length f → Reached (Some f) b) → IsJoined kit (all_of t) t after →
+    IsMergedFlat (kit_reading leads numbered) f after
+
+-- what the pass on control flow makes of the tree has as its flat view what it makes of f: branches that constants
+-- decide are decided, then blocks that are not reached go, then chains of blocks are joined
+pub record IsSimplifiedFlat {N : Names} {S : Contents} (r : Reading S) (f : Fun N.value) (after : Root N S)
+    : Type 0 where
+  pub rest : Fun N.value
+  pub simplifies : SimplifiesNamed (Some f) (Some rest)
+  pub is_view : IsFlat r after rest
+
+-- the pass on control flow on the tree of a typed function is the pass on its flat view
+abbrev pub FlatSimplify : Names → Type 0
+FlatSimplify N = (same : N.value → N.value → Bool) (leads : TypeHandle → Option KitType) (numbered : List ℕ → ℕ)
+    (type_at : N.value → TypeHandle) (w : Around N IntegerAttr) (t after : Root N kit_contents) (f : Fun N.value) →
+    IsSameness same → IsFlat (kit_reading leads numbered) t f → IsTyped leads {N = N} type_at t →
+    KnowsConstants w t → EndWell f → IsSimplify kit w t after → IsSimplifiedFlat (kit_reading leads numbered) f after

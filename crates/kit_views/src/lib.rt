@@ -3,7 +3,8 @@
 #![tactic(auto)]
 
 ghost use Rattle.ir_trees.specs.Renames.{named};
-ghost use Rattle.kit_views.specs.Laws.{FlatDce, FlatFacts, FlatSccp, FlatDecided};
+ghost use Rattle.kit_views.specs.Laws.{FlatDce, FlatFacts, FlatSccp, FlatDecided, FlatReached, FlatMerged};
+ghost use Rattle.kit_views.specs.Laws.{FlatSimplify};
 
 /// Removal of dead values on the tree of a function is removal of dead values on its flat view.
 pub fn flat_dce<O, B, V>()
@@ -23,4 +24,19 @@ pub fn flat_sccp<O, B, V>()
 /// Branches that constants decide, decided in the tree of a typed function, are decided in its flat view.
 pub fn flat_decided<O, B, V>()
     ensures { FlatDecided (named O B V) }
+{}
+
+/// Blocks that are not reached, removed from the tree of a function, are removed from its flat view.
+pub fn flat_reached<O, B, V>()
+    ensures { FlatReached (named O B V) }
+{}
+
+/// Chains of blocks joined in the tree of a function are joined in its flat view.
+pub fn flat_merged<O, B, V>()
+    ensures { FlatMerged (named O B V) }
+{}
+
+/// The pass on control flow on the tree of a typed function is the pass on its flat view.
+pub fn flat_simplify<O, B, V>()
+    ensures { FlatSimplify (named O B V) }
 {}

@@ -1,7 +1,7 @@
 //! The grammar of a dialect's texts, made from its formats.
 //!
-//! A dialect gives the table by which its texts are read ([`ReadDialect`]). What is made of its kinds, and of the table, knows no
-//! dialect: `ir_formats` makes it.
+//! A dialect gives the table by which its texts are read ([`ReadDialect`]). What is made of its kinds and of the table
+//! knows no dialect: `ir_formats` makes it.
 #![tactic(auto)]
 
 mod given;

@@ -5,7 +5,8 @@ use Rattle.std.proofs.lemmas.Bool.{eq-eqb}
 use Rattle.kit_behaviour.specs.Machine.{Edge, Op, Const, Calc, Emit, Call, Branch, Return, Block, Fun, ops_left, left_in}
 use Rattle.kit_behaviour.specs.Scopes.{In, defs, all_defs, EdgeScoped, OpScoped, OpsWith}
 use Rattle.kit_behaviour.specs.Places.{Place}
-use Rattle.kit_behaviour.specs.SimplifiedBlocks.{edges_of, all_edges, LeadsTo, Reached, first, further, lone, last_edge, count_to, blocks_edges, edges_in, Joinable, IsTaken, Depth, top, below, forwarded_to, Follows, stop, more}
+use Rattle.kit_behaviour.specs.SimplifiedBlocks.{edges_of, all_edges, LeadsTo, Reached, first, further, lone, last_edge, count_to, blocks_edges, edges_in, Joinable, IsTaken, Depth, top, below, forwarded_to}
+use Rattle.kit_behaviour.proofs.ControlFlow.PlacesJoined.{Follows, stop, more}
 use Rattle.kit_behaviour.proofs.Propagation.ScopeLemmas.{in_append, in_split}
 
 module _ {V : Type 0} (t : ℕ) where

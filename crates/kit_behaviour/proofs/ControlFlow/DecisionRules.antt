@@ -108,7 +108,7 @@ module _ {V : Type 0} (k : Facts V) where
   term_decided (Branch s xs e es) = term_by (knows (map k.of xs)) s xs e es
   term_decided (Return xs) = refl
 
-  ends_decided : (ops : List (Op V)) → EndsWell ops → EndsWell (map (decide_op k) ops)
+  pub ends_decided : (ops : List (Op V)) → EndsWell ops → EndsWell (map (decide_op k) ops)
   ends_decided [] e = e
   ends_decided (op ∷ []) e = term_decided op ∙ e
   ends_decided (op ∷ next ∷ ops) e = (term_decided op ∙ e.0, ends_decided (next ∷ ops) e.1)
@@ -135,7 +135,7 @@ module _ {V : Type 0} (k : Facts V) where
   sees_decided a (Branch s xs e es) h = sees_by a (knows (map k.of xs)) s xs e es h
   sees_decided a (Return xs) h = h
 
-  ops_see : (a : List V) (ops : List (Op V)) → OpsWith (λ a op. AllIn (operands op) a) a ops → OpsWith (λ a op. AllIn (operands op) a) a (map (decide_op k) ops)
+  pub ops_see : (a : List V) (ops : List (Op V)) → OpsWith (λ a op. AllIn (operands op) a) a ops → OpsWith (λ a op. AllIn (operands op) a) a (map (decide_op k) ops)
   ops_see a [] h = tt
   ops_see a (op ∷ ops) h = (sees_decided a op h.0, subst (λ l. OpsWith (λ a op. AllIn (operands op) a) (l ++ a) (map (decide_op k) ops)) (sym (defs_decided op)) (ops_see (defs op ++ a) ops h.1))
 
@@ -172,7 +172,7 @@ module _ {V : Type 0} (k : Facts V) where
     ops_fit [] h = tt
     ops_fit (op ∷ ops) h = (fits_decided op h.0, ops_fit ops h.1)
 
-    start_decided : (b : ℕ) → at_start (decide k f) b ≡ at_start f b
+    pub start_decided : (b : ℕ) → at_start (decide k f) b ≡ at_start f b
     start_decided zero = decide_takes k f 0
     start_decided (suc b) =
         ap (λ l. l ++ entry_values (decide k f)) (decide_takes k f (suc b))

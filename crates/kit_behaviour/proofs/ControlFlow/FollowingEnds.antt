@@ -5,7 +5,8 @@ use Rattle.kit_behaviour.specs.Machine.{Fun, left_in, arguments_in}
 use Rattle.kit_behaviour.specs.Scopes.{In, AllIn, all_defs, entry_values, at_start, SameLength}
 use Rattle.kit_behaviour.specs.Rules.{Rules}
 use Rattle.kit_behaviour.specs.Places.{Place, Arg, Res}
-use Rattle.kit_behaviour.specs.SimplifiedBlocks.{Reached, edges_in, IsTaken, Depth, top, below, forwarded_to, forward, Follows, stop, more}
+use Rattle.kit_behaviour.specs.SimplifiedBlocks.{Reached, edges_in, IsTaken, Depth, top, below, forwarded_to}
+use Rattle.kit_behaviour.proofs.ControlFlow.PlacesJoined.{forward, Follows, stop, more}
 use Rattle.kit_behaviour.proofs.Propagation.ScopeLemmas.{in_split}
 use Rattle.kit_behaviour.proofs.Numbering.NumberingRules.{slice_in}
 use Rattle.kit_behaviour.proofs.Numbering.RuleLemmas.{rules_scoped}

@@ -6,7 +6,8 @@ use Rattle.kit_behaviour.specs.Scopes.{In, AllIn, defs, all_defs, entry_values, 
 use Rattle.kit_behaviour.specs.ForwardedArguments.{Untouched, Forwarded, EdgeKeeps, OpKeeps, MayForward}
 use Rattle.kit_behaviour.specs.Rules.{from, OpsPlaced, Rules}
 use Rattle.kit_behaviour.specs.Places.{Place, Arg, Res}
-use Rattle.kit_behaviour.specs.SimplifiedBlocks.{edges_of, all_edges, Reached, count_to, edges_in, Joinable, IsTaken, Depth, top, below, forwarded_to, forward, Follows, stop, more, taken_arg}
+use Rattle.kit_behaviour.specs.SimplifiedBlocks.{edges_of, all_edges, Reached, count_to, edges_in, Joinable, IsTaken, Depth, top, below, forwarded_to}
+use Rattle.kit_behaviour.proofs.ControlFlow.PlacesJoined.{forward, Follows, stop, more, taken_arg}
 use Rattle.kit_behaviour.proofs.Propagation.ScopeLemmas.{in_append, in_split}
 use Rattle.kit_behaviour.proofs.Numbering.RuleLemmas.{rules_scoped}
 use Rattle.kit_behaviour.proofs.ControlFlow.ChainLemmas.{gives_unique, last_in, last_scope, edge_in, entry_free, depth_one, reached_depth, ends_none, ends_at, follows_on}

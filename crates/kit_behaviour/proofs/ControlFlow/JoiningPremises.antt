@@ -9,7 +9,8 @@ use Rattle.kit_behaviour.specs.Scopes.{In, defs, all_defs}
 use Rattle.kit_behaviour.specs.Replacement.{replace_edge, replace_op, replace}
 use Rattle.kit_behaviour.specs.Rules.{from, Rules}
 use Rattle.kit_behaviour.specs.Places.{Place, Arg}
-use Rattle.kit_behaviour.specs.SimplifiedBlocks.{edges_of, all_edges, LeadsTo, Reached, lone, last_edge, count_to, Joinable, IsTaken, Depth, top, below, forward, Follows, taken_arg, join_block, join_fun, replaced_args}
+use Rattle.kit_behaviour.specs.SimplifiedBlocks.{edges_of, all_edges, LeadsTo, Reached, lone, last_edge, count_to, Joinable, IsTaken, Depth, top, below, join_block, join_fun}
+use Rattle.kit_behaviour.proofs.ControlFlow.PlacesJoined.{forward, Follows, taken_arg, replaced_args}
 use Rattle.kit_behaviour.proofs.Behaviour.EdgeLemmas.{edges_map}
 use Rattle.kit_behaviour.proofs.Lattice.ReplacementBehaviour.{replace_left, replace_takes}
 use Rattle.kit_behaviour.proofs.DeadCode.RemovalBehaviour.{thin_left, thin_takes}

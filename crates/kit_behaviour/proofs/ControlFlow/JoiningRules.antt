@@ -9,7 +9,8 @@ use Rattle.kit_behaviour.specs.Replacement.{replace_op, replace}
 use Rattle.kit_behaviour.specs.Rules.{is_terminator, EndsWell, EdgeFits, EdgesFit, AllEdgesFit, Rules}
 use Rattle.kit_behaviour.specs.Places.{Place, Arg, Res, same_place}
 use Rattle.kit_behaviour.specs.Numbering.{place_fun}
-use Rattle.kit_behaviour.specs.SimplifiedBlocks.{edges_of, all_edges, Reached, Joinable, IsTaken, Depth, forward, Follows, taken_arg, join_fun, replaced_args, keep}
+use Rattle.kit_behaviour.specs.SimplifiedBlocks.{edges_of, all_edges, Reached, Joinable, IsTaken, Depth, join_fun, keep}
+use Rattle.kit_behaviour.proofs.ControlFlow.PlacesJoined.{forward, Follows, taken_arg, replaced_args}
 use Rattle.kit_behaviour.proofs.Numbering.PlaceEquality.{place_law}
 use Rattle.kit_behaviour.proofs.Behaviour.SizeLemmas.{has_block, replace_size, thin_size}
 use Rattle.kit_behaviour.proofs.Numbering.NumberingBehaviour.{name_op}

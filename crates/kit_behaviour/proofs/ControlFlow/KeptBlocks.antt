@@ -76,7 +76,7 @@ module _ {V : Type 0} (k : ℕ → ℕ) where
   terminator_kept (Branch s xs e es) = refl
   terminator_kept (Return xs) = refl
 
-  ends_kept : (ops : List (Op V)) → EndsWell ops → EndsWell (map (retarget k) ops)
+  pub ends_kept : (ops : List (Op V)) → EndsWell ops → EndsWell (map (retarget k) ops)
   ends_kept [] e = e
   ends_kept (op ∷ []) e = terminator_kept op ∙ e
   ends_kept (op ∷ next ∷ ops) e = (terminator_kept op ∙ e.0, ends_kept (next ∷ ops) e.1)
@@ -280,6 +280,10 @@ module _ {V : Type 0} (r : ℕ → Bool) where
         subst (λ c. P (at_start (keep r f) c) (left_in (keep r f) c 0)) (sym w.is)
         (subst (λ a. P a (left_in (keep r f) ((at r) w.old) 0)) (sym (start_kept w.old w.kept)) (subst (P (at_start f w.old)) (sym (keep_left f w.old w.kept)) (some w.old w.kept))))
         (was f b')
+
+    -- each edge fits that is left
+    pub keep_fits : ((b : ℕ) → r b ≡ true → AllEdgesFit f (left_in f b 0)) → (b' : ℕ) → AllEdgesFit (keep r f) (left_in (keep r f) b' 0)
+    keep_fits s = each_left (λ a ops. AllEdgesFit (keep r f) ops) (λ a. tt) (λ b e. ops_fit (left_in f b 0) (stays b e) (s b e))
 
     pub keep_sees : ((b : ℕ) → r b ≡ true → OpsWith (λ a op. AllIn (operands op) a) (at_start f b) (left_in f b 0)) → BlocksWith (keep r f) (λ a op. AllIn (operands op) a)
     keep_sees s = each_left (OpsWith (λ a op. AllIn (operands op) a)) (λ a. tt) (λ b e. sees_kept (at r) (at_start f b) (left_in f b 0) (s b e))

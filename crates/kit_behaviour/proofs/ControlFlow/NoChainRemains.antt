@@ -12,7 +12,8 @@ use Rattle.kit_behaviour.specs.Replacement.{replace_edge, replace_op, replace}
 use Rattle.kit_behaviour.specs.Rules.{is_terminator, EndsWell, Rules}
 use Rattle.kit_behaviour.specs.Numbering.{place_fun}
 use Rattle.kit_behaviour.specs.Places.{Place, same_place}
-use Rattle.kit_behaviour.specs.SimplifiedBlocks.{constants, edges_of, all_edges, LeadsTo, Reached, between, retarget_edge, retarget, keep, lone, last_edge, count_to, blocks_edges, edges_in, Joinable, IsTaken, Depth, top, below, forward, Follows, taken_arg, join_fun, replaced_args, branched, Simplifies}
+use Rattle.kit_behaviour.specs.SimplifiedBlocks.{constants, edges_of, all_edges, LeadsTo, Reached, between, retarget_edge, retarget, keep, lone, last_edge, count_to, blocks_edges, edges_in, Joinable, IsTaken, Depth, top, below, join_fun, branched}
+use Rattle.kit_behaviour.proofs.ControlFlow.PlacesJoined.{forward, Follows, taken_arg, replaced_args, Simplifies}
 use Rattle.kit_behaviour.proofs.Numbering.PlaceEquality.{place_law}
 use Rattle.kit_behaviour.proofs.Numbering.NumberingBehaviour.{place_name, place_left}
 use Rattle.kit_behaviour.proofs.ControlFlow.KeptBlocks.{at, keep_left, stood}

@@ -11,7 +11,8 @@ use Rattle.kit_behaviour.specs.Facts.{all_forwarded}
 use Rattle.kit_behaviour.specs.Rules.{operands, is_terminator, EndsWell, Rules}
 use Rattle.kit_behaviour.specs.Numbering.{HasPlace, AnyBlock, IsDefined}
 use Rattle.kit_behaviour.specs.Places.{Place, Arg}
-use Rattle.kit_behaviour.specs.SimplifiedBlocks.{all_edges, Reached, edges_in, IsTaken, Depth, forward, Follows, taken_arg, join_fun, replaced_args}
+use Rattle.kit_behaviour.specs.SimplifiedBlocks.{all_edges, Reached, edges_in, IsTaken, Depth, join_fun}
+use Rattle.kit_behaviour.proofs.ControlFlow.PlacesJoined.{forward, Follows, taken_arg, replaced_args}
 use Rattle.kit_behaviour.proofs.Behaviour.SizeLemmas.{some_end}
 use Rattle.kit_behaviour.proofs.Behaviour.FrameLemmas.{IsSameness}
 use Rattle.kit_behaviour.proofs.Propagation.ScopeLemmas.{in_append, in_split, all_append, all_front, all_back}

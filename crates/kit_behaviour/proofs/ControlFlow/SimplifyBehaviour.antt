@@ -13,7 +13,8 @@ use Rattle.kit_behaviour.specs.Rules.{Rules}
 use Rattle.kit_behaviour.specs.DecidedBranches.{decide_block}
 use Rattle.kit_behaviour.specs.Numbering.{place_of, place_block, place_fun, placed}
 use Rattle.kit_behaviour.specs.Places.{Place, same_place}
-use Rattle.kit_behaviour.specs.SimplifiedBlocks.{constants, edges_of, all_edges, LeadsTo, Reached, first, further, IsReached, between, retarget_edge, retarget, retarget_block, keep_blocks, keep, last_edge, IsTaken, Depth, top, below, taken_arg, join_fun, IsMerged, branched, IsSimplify}
+use Rattle.kit_behaviour.specs.SimplifiedBlocks.{constants, edges_of, all_edges, LeadsTo, Reached, first, further, IsReached, between, retarget_edge, retarget, retarget_block, keep_blocks, keep, last_edge, IsTaken, Depth, top, below, join_fun, branched}
+use Rattle.kit_behaviour.proofs.ControlFlow.PlacesJoined.{taken_arg, IsMerged, IsSimplify}
 use Rattle.kit_behaviour.proofs.Numbering.PlaceEquality.{place_law}
 use Rattle.kit_behaviour.proofs.Numbering.NumberingBehaviour.{place_name, place_left, place_takes, placed_alike}
 use Rattle.kit_behaviour.proofs.Propagation.PropagationBehaviour.{alike_trans}

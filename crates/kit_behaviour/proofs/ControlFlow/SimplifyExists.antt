@@ -1,22 +1,18 @@
 -- The pass on control flow has a result on each function that keeps the rules.
-use Rattle.std.proofs.Common.{◌≡◌, ◌⊎◌, ⊎_elim, inl, inr, ℕ, zero, suc, ◌<◌, Bool, true, false, List, [], ◌∷◌, length, Option, Some, None, refl, sym, ap, ◌∙◌, subst, arith}
+use Rattle.std.proofs.Common.{◌≡◌, ⊎_elim, inl, inr, ℕ, zero, suc, ◌<◌, Bool, true, false, List, [], ◌∷◌, length, Option, Some, None, refl, sym, ap, ◌∙◌, subst, arith}
 use Rattle.std.specs.Prelude.{if◌then◌else◌, not, ◌&&◌, nat_eq}
 use Rattle.std.proofs.lemmas.Bool.{eqb-true, eq-eqb}
-use Rattle.kit_behaviour.specs.Machine.{Edge, Op, Fun, Program, left_in, arguments_in, size}
+use Rattle.kit_behaviour.specs.Machine.{Edge, Op, Fun, left_in, size}
 use Rattle.kit_behaviour.specs.Scopes.{In}
 use Rattle.kit_behaviour.specs.Rules.{Rules}
-use Rattle.kit_behaviour.specs.Numbering.{place_fun}
-use Rattle.kit_behaviour.specs.Places.{Place, same_place}
-use Rattle.kit_behaviour.specs.SimplifiedBlocks.{constants, all_edges, LeadsTo, Reached, first, further, IsReached, keep, last_edge, count_to, edges_in, Joinable, IsTaken, merged, IsMerged, branched, Simplifies, IsSimplify}
+use Rattle.kit_behaviour.specs.Places.{Place}
+use Rattle.kit_behaviour.specs.SimplifiedBlocks.{all_edges, LeadsTo, Reached, first, further, IsReached, last_edge, count_to, edges_in, Joinable, IsTaken}
 use Rattle.kit_behaviour.proofs.Behaviour.FiniteLists.{below_other, upto, in_upto}
 use Rattle.kit_behaviour.proofs.Behaviour.SizeLemmas.{has_block}
 use Rattle.kit_behaviour.proofs.Behaviour.Iteration.{after_steps, still_after}
 use Rattle.kit_behaviour.proofs.Propagation.FactsAfterwards.{and_true, and_first, and_second}
-use Rattle.kit_behaviour.proofs.ControlFlow.DecisionRules.{decide_rules}
-use Rattle.kit_behaviour.proofs.ControlFlow.SimplifyBehaviour.{depth_few, kept_lives, kept_rules}
 use Rattle.kit_behaviour.proofs.ControlFlow.NoChainRemains.{leads_range}
 use Rattle.kit_behaviour.proofs.ControlFlow.JoiningRules.{edge_fits_in}
-use Rattle.kit_behaviour.proofs.ControlFlow.FollowingEnds.{follow_ends}
 
 -- tests below a bound
 
@@ -200,31 +196,3 @@ module _ {V : Type 0} (h : Option (Fun V)) where
       back = λ b t q. any_full (size h) (joins_test t) b (has_block h b (last_some (left_in h b 0) q.edge q.last)) (joins_full b t q);
     },
   )
-
--- the pass
-
-pub merged_exists : (f : Option (Fun Place)) → Rules f → ((b : ℕ) → (arguments_in f b ≡ []) ⊎ Reached f b) → (g : Option (Fun Place)) × IsMerged f g
-merged_exists f rules lives =
-    let j = taken_exists f in
-    let names = λ (v : Place). follow_ends f rules j.0 j.1 lives v in (
-      place_fun same_place (merged j.0 (λ v. (names v).0) (size f) f),
-      record {
-        taken = j.0;
-        names = λ v. (names v).0;
-        most = size f;
-        is_taken = j.1;
-        follows = λ v. (names v).1;
-        long = λ b n d. depth_few f j.0 j.1 b n d;
-        is = refl;
-      },
-    )
-
-pub simplify_exists : (f : Option (Fun Place)) → Rules f → (g : Option (Fun Place)) × Simplifies f g
-simplify_exists f rules =
-    let decided = decide_rules (constants f) f rules in
-    let r = reached_exists (branched f) decided in
-    let m = merged_exists (place_fun same_place (keep r.0 (branched f))) (kept_rules (branched f) r.0 r.1 decided) (kept_lives (branched f) r.0 r.1) in
-    (m.0, record { reach = r.0; reached = r.1; merges = m.1 })
-
-pub simplify_all : (p : Program Place) → ((path : List ℕ) → Rules (p path)) → (q : Program Place) × IsSimplify p q
-simplify_all p rules = (λ path. (simplify_exists (p path) (rules path)).0, record { each = λ path. (simplify_exists (p path) (rules path)).1 })

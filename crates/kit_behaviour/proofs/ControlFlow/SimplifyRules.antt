@@ -9,7 +9,8 @@ use Rattle.kit_behaviour.specs.Rules.{Rules}
 use Rattle.kit_behaviour.specs.DecidedBranches.{decide_op}
 use Rattle.kit_behaviour.specs.Numbering.{place_fun}
 use Rattle.kit_behaviour.specs.Places.{Place, same_place}
-use Rattle.kit_behaviour.specs.SimplifiedBlocks.{constants, Reached, retarget, keep, taken_arg, join_fun, replaced_args, IsMerged, branched, Simplifies, IsSimplify}
+use Rattle.kit_behaviour.specs.SimplifiedBlocks.{constants, Reached, retarget, keep, join_fun, branched}
+use Rattle.kit_behaviour.proofs.ControlFlow.PlacesJoined.{taken_arg, replaced_args, IsMerged, Simplifies, IsSimplify}
 use Rattle.kit_behaviour.specs.PassLists.{Fit}
 use Rattle.kit_behaviour.proofs.Behaviour.SizeLemmas.{length_map, place_size}
 use Rattle.kit_behaviour.proofs.Numbering.PlaceEquality.{place_law}

@@ -30,7 +30,7 @@ ops_twice : {U V W : Type 0} (g : V → W) (r : U → V) (ops : List (Op U)) →
 ops_twice g r [] = refl
 ops_twice g r (op ∷ ops) = ap (λ o. o ∷ map (rename_op g same_block) (map (rename_op r same_block) ops)) (rename_twice g r op) ∙ ap (λ l. rename_op (λ x. g (r x)) same_block op ∷ l) (ops_twice g r ops)
 
-blocks_twice : {U V : Type 0} (g : V → Place) (r : U → V) (ks : List (Block U)) → map (place_block g) (map (rename_block r) ks) ≡ map (place_block (λ x. g (r x))) ks
+pub blocks_twice : {U V : Type 0} (g : V → Place) (r : U → V) (ks : List (Block U)) → map (place_block g) (map (rename_block r) ks) ≡ map (place_block (λ x. g (r x))) ks
 blocks_twice g r [] = refl
 blocks_twice g r (k ∷ ks) =
     ap (λ l. record { arguments = l; ops = map (rename_op g same_block) (map (rename_op r same_block) k.ops) } ∷ map (place_block g) (map (rename_block r) ks)) (map-map g r k.arguments)

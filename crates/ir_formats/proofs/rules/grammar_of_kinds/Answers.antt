@@ -11,9 +11,11 @@ pub returns-clause-can_read : goal.returns-clause-can_read
 returns-clause-can_read c =
     let words = c.in_ok-words-2.field-0.words.items in
     let spelled = c.in_ok-words-2.ensures.words in
-    let signs : plain_classes c.in_ok-signs.signs.items ≡ classes_of (texts words) = rw c.deref.ensures.value at c.in_ok-signs.ensures in
-    can_read_given _ (formats_of c.args.kinds.now) words (map plain_part c.args.table.now) _ c.in_ok-words-2.ensures.rules (signs ∙ ap classes_of spelled)
-    c.in_ok-parts.ensures spelled (omega (arith, c.len.ensures)) c.requires.table
+    let table = map plain_part c.args.table.now in
+    let signs : plain_classes c.in_ok-signs.signs.items ≡ classes_of (texts words)
+    = rw c.deref.ensures.value at c.in_ok-signs.ensures in
+    can_read_given _ (formats_of c.args.kinds.now) words table _ c.in_ok-words-2.ensures.rules
+    (signs ∙ ap classes_of spelled) c.in_ok-parts.ensures spelled (omega (arith, c.len.ensures)) c.requires.table
 
 pub returns-clause-ordered : goal.returns-clause-ordered
 returns-clause-ordered c leads so = orders_texts _ leads (ap (is_ordered leads) c.in_ok-words-2.ensures.rules ∙ so)

@@ -4,5 +4,9 @@ use Rattle.text_formats.proofs.rules.kind_texts.Goals as goal
 
 pub returns : goal.returns
 returns g c =
-    let made : KindTexts = record { operations = c.in_ok-operations.operations; types = c.in_ok-types.types; attributes = c.in_ok-attributes.attributes } in
+    let made : KindTexts = record {
+      operations = c.in_ok-operations.operations;
+      types = c.in_ok-types.types;
+      attributes = c.in_ok-attributes.attributes;
+    } in
     formats_are made g.D.TextDialect.formats c.in_ok-operations.ensures c.in_ok-types.ensures c.in_ok-attributes.ensures

@@ -6,4 +6,5 @@ use Rattle.text_scopes.proofs.scopes.isolated_kinds.Given as goal
 
 abbrev pub invariant-loop-number : goal.invariant-loop-number
 invariant-loop-number g l =
-    l.isolated.items ≡ map (isolated_at g.D.TextDialect.kind_at (is_isolated g.D.DialectTables.op_has)) (range_with_len 0 l.number)
+    let isolated = isolated_at g.D.TextDialect.kind_at (is_isolated g.D.DialectTables.op_has) in
+    l.isolated.items ≡ map isolated (range_with_len 0 l.number)

@@ -6,5 +6,6 @@ pub returns-clause-resolved : goal.returns-clause-resolved
 returns-clause-resolved g c =
     let names = c.args.names.now in
     let events = c.args.events.now in
-    subst (λ isolated. MatchResult c.look_up.result (IsResolved isolated names events) (IsScopeFault isolated names events))
-    (ap is_marked c.deref.ensures.value ∙ c.in_ok-isolated.ensures) c.look_up.ensures.resolved
+    let same = ap is_marked c.deref.ensures.value ∙ c.in_ok-isolated.ensures in
+    subst (λ test. MatchResult c.look_up.result (IsResolved test names events) (IsScopeFault test names events)) same
+    c.look_up.ensures.resolved

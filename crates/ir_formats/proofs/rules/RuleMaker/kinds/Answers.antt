@@ -14,4 +14,5 @@ pub loop-number-preserved : goal.loop-number-preserved
 loop-number-preserved c =
     let ks = c.args.kinds.now in
     let i = c.loop-number.number in
-    kinds_more c.args.sort (map kind_of ks) i _ _ _ _ _ (kind_here ks i _ c.loop-number-test.true) c.loop-number.invariant c.in_ok-kind.ensures
+    let here = kind_here ks i _ c.loop-number-test.true in
+    kinds_more c.args.sort (map kind_of ks) i _ _ _ _ _ here c.loop-number.invariant c.in_ok-kind.ensures

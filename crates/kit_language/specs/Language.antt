@@ -1,0 +1,12 @@
+-- The language of `kit`.
+use Rattle.std.specs.Prelude.{slice_get}
+use Rattle.ir_forest.specs.Language.{Language}
+use Rattle.ir_rereading.specs.Texts.{language_of}
+use Rattle.kit_ops.specs.Table.{has_interface}
+use Rattle.kit_texts.specs.Forms.{formats, read_ops}
+use Rattle.kit_texts.specs.Says.{values}
+use Rattle.text_scopes.specs.Isolated.{is_isolated}
+
+-- the formats of the kinds that can be read, which of them are isolated, and what is made of pieces
+abbrev pub kit_language : Language
+kit_language = language_of formats (slice_get read_ops) (is_isolated has_interface) values
