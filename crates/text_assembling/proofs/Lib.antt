@@ -1,0 +1,17 @@
+pub mod Lists
+pub mod Held
+pub mod SettledDefinitions
+pub mod Settling
+pub mod Stepping
+pub mod RaisingBegins
+pub mod RaisingLeaves
+pub mod RaisingBlocks
+pub mod RaisingValues
+pub mod RaisingHeaders
+pub mod RaisingOperations
+pub mod RaisingSteps
+pub mod Stepped
+pub mod Gathering
+pub mod Undone
+pub mod Taking
+pub mod Operating

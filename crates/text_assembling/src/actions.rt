@@ -1,0 +1,64 @@
+//! What an action asks for.
+ghost use Rattle.std.specs.Prelude.{◌≡◌, Err, OnErr, OnOk};
+ghost use Rattle.ir_formats.specs.Words.{token_text};
+ghost use Rattle.ir_program.specs.Edits.{KeepsErased, KeepsRoom};
+ghost use Rattle.ir_tokens.specs.declared.faults.Fault.{Fault};
+ghost use Rattle.text_frames.specs.declared.opened.AssemblyFault.TheVariants.{CounterFull, Text};
+ghost use Rattle.text_assembling.specs.Steps.{DoesStep, LacksRoom, MayStep, RefusesStep, UndoesStep};
+
+use crate::assembling::Assembler;
+use ir_context::Context;
+use ir_grammar::grammar::Action;
+use text_dialect::TextDialect;
+use text_frames::opened::{AssemblyFault, Body};
+use text_frames::source::Source;
+
+impl<D: TextDialect> Assembler<D> {
+    /// Does what an action asks for.
+    #[tactic(auto, using(crate::proofs::Undone::erased_same, crate::proofs::Undone::room_same, crate::proofs::Undone::undoes_same))]
+    pub fn step(
+        &mut self,
+        ctx: &mut Context<D>,
+        source: Source,
+        action: Action,
+    ) -> Result<(), AssemblyFault>
+        requires going { MayStep D.says D.values (token_text source.chars.now source.tokens.now)
+            ctx.old self.old action }
+        ensures went { OnOk result (DoesStep D.says D.values
+            (token_text source.entry.chars.now source.entry.tokens.now) ctx.old ctx.new self.old self.new action) }
+        ensures refused { (f : Fault) → result ≡ Err (Text f) → RefusesStep D.says D.values
+            (token_text source.entry.chars.now source.entry.tokens.now) ctx.old self.old action f }
+        ensures full { result ≡ Err CounterFull → LacksRoom D.says D.values
+            (token_text source.entry.chars.now source.entry.tokens.now) ctx.old self.old action }
+        ensures undone { OnErr result (UndoesStep ctx.old ctx.new self.old self.new) }
+        ensures taken { self.new.taken ≡ self.old.taken }
+        ensures erased { KeepsErased ctx.old.program ctx.new.program }
+        ensures room { OnOk result (KeepsRoom ctx.old.program ctx.new.program) }
+    {
+        match action {
+            Action::Result => self.result(),
+            Action::Operation(kind) => self.begin_operation(kind),
+            Action::BeginRegion => self.begin(Body::Region(Vec::new(self.alloc))),
+            Action::Label => self.begin_block(),
+            Action::Argument => self.argument(),
+            Action::Header => self.header(ctx, source),
+            Action::BeginType(kind) => self.begin(Body::Type(kind)),
+            Action::BeginAttribute(kind) => self.begin(Body::Attribute(kind)),
+            Action::Name => self.name(source.text(self.last())),
+            Action::Number => self.number(source.text(self.last())),
+            Action::Width => self.width(source.text(self.last())),
+            Action::BeginOperands => self.begin(Body::Operands(Vec::new(self.alloc))),
+            Action::Operand => self.operand(),
+            Action::BeginList => self.begin(Body::List(Vec::new(self.alloc))),
+            Action::BeginItem => self.begin(Body::Item),
+            Action::EndOperation
+            | Action::EndRegion
+            | Action::EndBlock
+            | Action::EndType
+            | Action::EndAttribute
+            | Action::EndOperands
+            | Action::EndItem
+            | Action::EndList => self.end(ctx),
+        }
+    }
+}

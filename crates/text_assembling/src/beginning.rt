@@ -1,0 +1,162 @@
+//! What begins in a text, and what stands alone in it.
+ghost use Rattle.std.specs.Prelude.{◌≡◌, ◌-◌, ◌∷◌, ◌++◌, [], ℕ, List, Bool, None, OnOk, IfErr, true};
+ghost use Rattle.ir_names.specs.declared.kinds.Signedness.{Signedness};
+ghost use Rattle.ir_names.specs.declared.identifier.Identifier.{Identifier};
+ghost use Rattle.ir_names.specs.Identifier.{text_of};
+ghost use Rattle.ir_names.specs.Text.{is_identifier};
+ghost use Rattle.ir_print.specs.Pieces.{number, width};
+ghost use Rattle.ir_print.specs.Shown.{IsNumber, IsWidth};
+ghost use Rattle.text_frames.specs.declared.opened.AssemblyFault.TheVariants.{Memory};
+ghost use Rattle.text_frames.specs.declared.opened.OpenOperation.{OpenOperation};
+ghost use Rattle.text_assembling.specs.Assembling.{Begun, KeepsAround, NamesOne};
+ghost use Rattle.text_frames.specs.Opened.{HasName, HasBody, HasPut};
+ghost use Rattle.ir_forest.specs.Meaning.{number_in, width_in};
+
+use crate::assembling::Assembler;
+use ir_names::{Identifier, IdentifierError};
+use ir_print::Part;
+use text_dialect::TextDialect;
+use text_frames::opened::{AssemblyFault, Body, Open, OpenBlock, OpenOperation};
+use text_frames::source::{number_of, width_of};
+
+impl<D: TextDialect> Assembler<D> {
+    ghost use Rattle.ir_print.specs.declared.format.Number.{Number};
+    ghost use Rattle.ir_print.specs.declared.format.Part.TheVariants as part;
+    ghost use Rattle.text_frames.specs.declared.opened.Body.TheVariants as body;
+    ghost use Rattle.std.specs.Prelude.{Option, Vec};
+    ghost use Rattle.std.specs.Global.{Global};
+
+    /// Something begins at the last token.
+    pub fn begin(&mut self, body: Body<D>) -> Result<(), AssemblyFault>
+        ensures begun { OnOk result (Begun self.old self.new body) }
+        ensures taken { self.new.taken ≡ self.old.taken }
+        ensures made { self.new.made ≡ self.old.made }
+        ensures memory { IfErr result (λ e. e ≡ Memory) }
+    {
+        let inner = Open::new(self.alloc, body, self.last());
+        let outer = std::mem::replace(&mut self.here, inner);
+        self.around.push(outer)?;
+        Ok(())
+    }
+
+    pub fn begin_operation(&mut self, kind: u8) -> Result<(), AssemblyFault>
+        ensures begun { OnOk result ((o : OpenOperation) × Begun self.old self.new (body.Operation o)
+            × (o.kind ≡ kind) × (o.operands.items ≡ []) × (o.regions.items ≡ [])) }
+        ensures made { self.new.made ≡ self.old.made }
+        ensures taken { self.new.taken ≡ self.old.taken }
+        ensures memory { IfErr result (λ e. e ≡ Memory) }
+    {
+        self.begin(Body::Operation(OpenOperation {
+            kind,
+            operands: Vec::new(self.alloc),
+            regions: Vec::new(self.alloc),
+        }))
+    }
+
+    pub fn begin_block(&mut self) -> Result<(), AssemblyFault>
+        ensures begun { OnOk result (Begun self.old self.new (body.Block (record { block = None }))) }
+        ensures made { self.new.made ≡ self.old.made }
+        ensures taken { self.new.taken ≡ self.old.taken }
+        ensures memory { IfErr result (λ e. e ≡ Memory) }
+    {
+        self.begin(Body::Block(OpenBlock { block: None }))
+    }
+
+    /// One more definition is named, which isn't made yet.
+    fn name_definition(&mut self) -> Result<(), AssemblyFault>
+        ensures named { OnOk result (NamesOne self.old self.new) }
+        ensures loose { self.new.made.loose ≡ self.old.made.loose }
+        ensures here { (self.new.here ≡ record self.old.here { numbers = self.new.here.numbers }) }
+        ensures around { KeepsAround self.old self.new }
+        ensures memory { IfErr result (λ e. e ≡ Memory) }
+    {
+        let number = self.made.values.len();
+        self.here.numbers.push(number)?;
+        self.made.values.push(None)?;
+        Ok(())
+    }
+
+    /// The last token names a result of the operation that comes.
+    pub fn result(&mut self) -> Result<(), AssemblyFault>
+        ensures name { OnOk result (HasName self.old.here self.new.here (self.old.taken - 1)) }
+        ensures named { OnOk result (NamesOne self.old self.new) }
+        ensures loose { self.new.made.loose ≡ self.old.made.loose }
+        ensures around { KeepsAround self.old self.new }
+        ensures memory { IfErr result (λ e. e ≡ Memory) }
+    {
+        let token = self.last();
+        self.here.names.push(token)?;
+        self.name_definition()
+    }
+
+    /// The last token names an argument of the block that is being read.
+    pub fn argument(&mut self) -> Result<(), AssemblyFault>
+        ensures here { HasBody self.old.here self.new.here self.old.here.body }
+        ensures content { self.new.here.content ≡ self.old.here.content }
+        ensures named { OnOk result (NamesOne self.old self.new) }
+        ensures loose { self.new.made.loose ≡ self.old.made.loose }
+        ensures around { KeepsAround self.old self.new }
+        ensures memory { IfErr result (λ e. e ≡ Memory) }
+    {
+        self.here.names.clear();
+        self.name_definition()
+    }
+
+    /// The last token names an operand.
+    pub fn operand(&mut self) -> Result<(), AssemblyFault>
+        ensures here { (ks : Vec ℕ Global) → self.old.here.body ≡ body.Operands ks → OnOk result ((ls : Vec ℕ Global)
+            × (self.new.here ≡ record self.old.here { body = body.Operands ls })
+            × (ls.items ≡ ks.items ++ (self.old.taken - 1) ∷ [])) }
+        ensures made { self.new.made ≡ self.old.made }
+        ensures around { KeepsAround self.old self.new }
+        ensures memory { IfErr result (λ e. e ≡ Memory) }
+    {
+        let token = self.last();
+        if let Body::Operands(tokens) = &mut self.here.body {
+            tokens.push(token)?;
+        }
+        Ok(())
+    }
+
+    /// The last token is a part.
+    pub fn name(&mut self, text: &[char]) -> Result<(), AssemblyFault>
+        ensures here { is_identifier text.now ≡ true → OnOk result ((id : Identifier)
+            × (text_of id ≡ text.now) × HasPut self.old.here self.new.here self.old.here.body (part.Name id) (self.old.taken - 1)) }
+        ensures made { self.new.made ≡ self.old.made }
+        ensures around { KeepsAround self.old self.new }
+        ensures memory { IfErr result (λ e. e ≡ Memory) }
+    {
+        let token = self.last();
+        match Identifier::from_chars(self.alloc, text) {
+            Ok(name) => self.here.put(Part::Name(name), token),
+            Err(IdentifierError::Memory) => Err(AssemblyFault::Memory),
+            Err(_) => Ok(()),
+        }
+    }
+
+    pub fn number(&mut self, text: &[char]) -> Result<(), AssemblyFault>
+        ensures here { (negative : Bool) (magnitude : ℕ) → number_in text.now ≡ number negative magnitude
+            → OnOk result ((o : Option Number) × IsNumber o negative magnitude
+            × HasPut self.old.here self.new.here self.old.here.body (part.Number o) (self.old.taken - 1)) }
+        ensures made { self.new.made ≡ self.old.made }
+        ensures around { KeepsAround self.old self.new }
+        ensures memory { IfErr result (λ e. e ≡ Memory) }
+    {
+        let token = self.last();
+        let number = number_of(text);
+        self.here.put(Part::Number(number), token)
+    }
+
+    pub fn width(&mut self, text: &[char]) -> Result<(), AssemblyFault>
+        ensures here { (sign : Signedness) (bits : ℕ) → width_in text.now ≡ width sign bits
+            → OnOk result ((o : Option ℕ) × IsWidth o bits
+            × HasPut self.old.here self.new.here self.old.here.body (part.Width sign o) (self.old.taken - 1)) }
+        ensures made { self.new.made ≡ self.old.made }
+        ensures around { KeepsAround self.old self.new }
+        ensures memory { IfErr result (λ e. e ≡ Memory) }
+    {
+        let token = self.last();
+        let (signedness, width) = width_of(text);
+        self.here.put(Part::Width(signedness, width), token)
+    }
+}

@@ -1,0 +1,4 @@
+pub mod Judged
+pub mod Renamed
+pub mod TextFaults
+pub mod Understood

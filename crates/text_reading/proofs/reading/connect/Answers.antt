@@ -1,0 +1,27 @@
+use Rattle.std.proofs.Common.{sym, subst}
+use Rattle.text_dialect.specs.Seen.{seen}
+use Rattle.text_building.specs.Inside.{AreLoose, AreUsedInside, CameSince}
+use Rattle.text_building.proofs.Discarded.{used_since}
+use Rattle.text_reading.proofs.reading.connect.Goals as goal
+
+pub discard-requires-clause-loose : goal.discard-requires-clause-loose
+discard-requires-clause-loose g c =
+    let w = c.requires.waiting in
+    let held = c.link.ensures.held w.0 w.1 c.args.assembly.now.loose.items w.2 w.3 in
+    subst (AreLoose (seen c.link.new.ctx)) (sym c.deref.ensures.value) held.loose
+
+pub discard-requires-clause-used : goal.discard-requires-clause-used
+discard-requires-clause-used g c =
+    let w = c.requires.waiting in
+    let held = c.link.ensures.held w.0 w.1 c.args.assembly.now.loose.items w.2 w.3 in
+    subst (AreUsedInside (seen c.link.new.ctx)) (sym c.deref.ensures.value)
+    (used_since w.0 (seen c.link.new.ctx) c.args.assembly.now.loose.items held.came)
+
+pub returns-then-is_err-clause-undone : goal.returns-then-is_err-clause-undone
+returns-then-is_err-clause-undone g c = λ start mentions waiting holds.
+    let held = c.link.ensures.held start mentions c.args.assembly.now.loose.items waiting holds in
+    c.discard.ensures.undone start (subst (CameSince start (seen c.link.new.ctx)) (sym c.deref.ensures.value) held.came)
+
+pub returns-clause-held : goal.returns-clause-held
+returns-clause-held g c = λ start mentions waiting holds.
+    c.link.ensures.held start mentions c.args.assembly.now.loose.items waiting holds

@@ -1,0 +1,236 @@
+use Rattle.std.proofs.Common.{◌≡◌, ◌∙◌, ◌≤◌, ◌+◌, ◌^◌, length, refl, sym, ap, subst, [], Err}
+use Rattle.ir_tokens.specs.declared.faults.TextFault.TheVariants.{CounterFull}
+use Rattle.std.proofs.lemmas.Result.{IfOk-at_ok, MatchResult-at_ok}
+use Rattle.text_dialect.specs.Seen.{seen}
+use Rattle.ir_grammar.specs.Nesting.{at_root, at_end, Nests}
+use Rattle.ir_forest.specs.Progress.{Leads}
+use Rattle.ir_forest.specs.Identifiers.{AreSpelt}
+use Rattle.ir_formats.specs.Words.{token_text}
+use Rattle.ir_formats.proofs.Ordered.{own_tokens}
+use Rattle.ir_scopes.specs.Naming.{defined_from, mentioned_from}
+use Rattle.ir_scopes.specs.Scopes.{definitions, IsResolved, IsScopeFault}
+use Rattle.ir_rereading.specs.Texts.{language_of}
+use Rattle.ir_rereading.proofs.trees.DefinedTokens.{many_defined}
+use Rattle.ir_rereading.proofs.verdicts.Identifiers.{reading_spelt}
+use Rattle.ir_rereading.proofs.verdicts.TextReadings.{read_in_order, read_whole}
+use Rattle.text_scopes.specs.Isolated.{is_isolated}
+use Rattle.text_frames.specs.Raised.{HoldsAllNew, IsAssembled}
+use Rattle.text_reading.proofs.Judged.{judged_so, last_apart}
+use Rattle.text_reading.proofs.Understood.{can_link_all, answers_read}
+use Rattle.text_reading.proofs.reading.understand.Goals as goal
+
+pub assemble-assembled-requires-clause-nests : goal.assemble-assembled-requires-clause-nests
+assemble-assembled-requires-clause-nests g c =
+    let d = g.D.TextDialect in
+    let l = language_of d.formats d.kind_at (is_isolated g.D.DialectTables.op_has) d.values in
+    let cs = c.args.source.chars.now in
+    let ts = c.args.source.tokens.now in
+    let names = c.args.names.now in
+    let r = c.args.reading.now in
+    let es = r.events.items in
+    let text = token_text cs ts in
+    let order = read_in_order l g.D.ReadDialect.leads g.met.D.ReadDialect.ordered cs ts names r.taken es r.stop c.requires.reading in
+    subst (λ z. Nests at_root [] z) (sym c.deref.ensures.value) order.nests
+
+pub assemble-assembled-requires-clause-spelt : goal.assemble-assembled-requires-clause-spelt
+assemble-assembled-requires-clause-spelt g c =
+    let d = g.D.TextDialect in
+    let l = language_of d.formats d.kind_at (is_isolated g.D.DialectTables.op_has) d.values in
+    let cs = c.args.source.chars.now in
+    let ts = c.args.source.tokens.now in
+    let names = c.args.names.now in
+    let r = c.args.reading.now in
+    let es = r.events.items in
+    let text = token_text cs ts in
+    subst (λ z. AreSpelt text 0 z) (sym c.deref.ensures.value) (reading_spelt l cs ts names r.stop r.taken es c.requires.reading)
+
+pub undo-requires : goal.undo-requires
+undo-requires g c = record { held = (seen c.args.ctx.now, c.assemble-assembled.ensures.held) }
+
+pub returns-in-Err-clause-fault : goal.returns-in-Err-clause-fault
+returns-in-Err-clause-fault g c =
+    let d = g.D.TextDialect in
+    let l = language_of d.formats d.kind_at (is_isolated g.D.DialectTables.op_has) d.values in
+    let cs = c.args.source.chars.now in
+    let ts = c.args.source.tokens.now in
+    let names = c.args.names.now in
+    let r = c.args.reading.now in
+    let es = r.events.items in
+    let text = token_text cs ts in
+    let judged = judged_so l g.D.ReadDialect.leads g.met.D.ReadDialect.ordered cs ts names r c.deref.result.now c.deref-2.result.now c.assemble-assembled.result c.resolve-resolved.result
+    c.deref.ensures.value c.deref-2.ensures.value c.requires.reading c.assemble-assembled.ensures.sound c.assemble-assembled.ensures.refused c.resolve-resolved.ensures.resolved in
+    c.in-Err.ensures.fault l names judged
+
+pub returns-in-Err-clause-full : goal.returns-in-Err-clause-full
+returns-in-Err-clause-full g c = λ e.
+    let d = g.D.TextDialect in
+    let l = language_of d.formats d.kind_at (is_isolated g.D.DialectTables.op_has) d.values in
+    let cs = c.args.source.chars.now in
+    let ts = c.args.source.tokens.now in
+    let names = c.args.names.now in
+    let r = c.args.reading.now in
+    let es = r.events.items in
+    let text = token_text cs ts in
+    let same : c.in-Err.fault ≡ CounterFull = cc in
+    let full = c.assemble-assembled.ensures.full (c.in-Err.ensures.full (ap (λ x. Err x) same)) in
+    let n = length (definitions l.isolated es) in
+    let many : length (defined_from 0 c.deref.result.now) ≡ n = ap (λ z. length (defined_from 0 z)) c.deref.ensures.value ∙ many_defined l.isolated es in
+    last_apart (λ lacks. (n, (ts, names, r.stop, r.taken, es, c.requires.reading, refl), subst (λ z. 2 ^ 64 ≤ c.args.ctx.now.program.counter + z) many lacks)) full
+
+pub connect-requires-clause-waiting : goal.connect-requires-clause-waiting
+connect-requires-clause-waiting g c =
+    let d = g.D.TextDialect in
+    let l = language_of d.formats d.kind_at (is_isolated g.D.DialectTables.op_has) d.values in
+    let cs = c.args.source.chars.now in
+    let ts = c.args.source.tokens.now in
+    let names = c.args.names.now in
+    let r = c.args.reading.now in
+    let es = r.events.items in
+    let text = token_text cs ts in
+    let judged = judged_so l g.D.ReadDialect.leads g.met.D.ReadDialect.ordered cs ts names r c.deref.result.now c.deref-2.result.now c.assemble-assembled.result c.resolve-resolved.result
+    c.deref.ensures.value c.deref-2.ensures.value c.requires.reading c.assemble-assembled.ensures.sound c.assemble-assembled.ensures.refused c.resolve-resolved.ensures.resolved in
+    let none = c.in_default.ensures.none l names judged in
+    let leads = read_whole l g.D.ReadDialect.leads g.met.D.ReadDialect.ordered cs ts names r.taken es r.stop c.requires.reading none in
+    let order = read_in_order l g.D.ReadDialect.leads g.met.D.ReadDialect.ordered cs ts names r.taken es r.stop c.requires.reading in
+    let own = own_tokens es order.follows in
+    let resolution = c.in-Ok-resolved.resolution in
+    let resolved = subst (λ z. IsResolved l.isolated names z resolution) c.deref-2.ensures.value
+    (MatchResult-at_ok (IsResolved l.isolated names c.deref-2.result.now) (IsScopeFault l.isolated names c.deref-2.result.now) resolution c.in-Ok-resolved.is c.resolve-resolved.ensures.resolved) in
+    let many = IfOk-at_ok (λ z. length z.definitions.items ≡ length names) c.in-Ok-resolved.is c.resolve-resolved.ensures.many in
+    let start = seen c.args.ctx.now in
+    let s = seen c.assemble-assembled.new.ctx in
+    let first = c.args.ctx.now.program.counter in
+    let next = c.assemble-assembled.new.ctx.program.counter in
+    let a = c.in-Ok.assembly in
+    let to = subst (λ z. Leads at_root [] z at_end []) (sym c.deref.ensures.value) leads in
+    let made = subst (IsAssembled d.says d.values text start s first next a) c.deref.ensures.value
+    (IfOk-at_ok (λ z. IsAssembled d.says d.values text start s first next z c.deref.result.now) c.in-Ok.is (c.assemble-assembled.ensures.made to)) in
+    let held = IfOk-at_ok (λ z. HoldsAllNew start s z.loose.items) c.in-Ok.is c.assemble-assembled.ensures.held in
+    (start, mentioned_from 0 es, made.operands, held)
+
+pub connect-requires-clause-meant : goal.connect-requires-clause-meant
+connect-requires-clause-meant g c =
+    let d = g.D.TextDialect in
+    let l = language_of d.formats d.kind_at (is_isolated g.D.DialectTables.op_has) d.values in
+    let cs = c.args.source.chars.now in
+    let ts = c.args.source.tokens.now in
+    let names = c.args.names.now in
+    let r = c.args.reading.now in
+    let es = r.events.items in
+    let text = token_text cs ts in
+    let judged = judged_so l g.D.ReadDialect.leads g.met.D.ReadDialect.ordered cs ts names r c.deref.result.now c.deref-2.result.now c.assemble-assembled.result c.resolve-resolved.result
+    c.deref.ensures.value c.deref-2.ensures.value c.requires.reading c.assemble-assembled.ensures.sound c.assemble-assembled.ensures.refused c.resolve-resolved.ensures.resolved in
+    let none = c.in_default.ensures.none l names judged in
+    let leads = read_whole l g.D.ReadDialect.leads g.met.D.ReadDialect.ordered cs ts names r.taken es r.stop c.requires.reading none in
+    let order = read_in_order l g.D.ReadDialect.leads g.met.D.ReadDialect.ordered cs ts names r.taken es r.stop c.requires.reading in
+    let own = own_tokens es order.follows in
+    let resolution = c.in-Ok-resolved.resolution in
+    let resolved = subst (λ z. IsResolved l.isolated names z resolution) c.deref-2.ensures.value
+    (MatchResult-at_ok (IsResolved l.isolated names c.deref-2.result.now) (IsScopeFault l.isolated names c.deref-2.result.now) resolution c.in-Ok-resolved.is c.resolve-resolved.ensures.resolved) in
+    let many = IfOk-at_ok (λ z. length z.definitions.items ≡ length names) c.in-Ok-resolved.is c.resolve-resolved.ensures.many in
+    let start = seen c.args.ctx.now in
+    let s = seen c.assemble-assembled.new.ctx in
+    let first = c.args.ctx.now.program.counter in
+    let next = c.assemble-assembled.new.ctx.program.counter in
+    let a = c.in-Ok.assembly in
+    let to = subst (λ z. Leads at_root [] z at_end []) (sym c.deref.ensures.value) leads in
+    let made = subst (IsAssembled d.says d.values text start s first next a) c.deref.ensures.value
+    (IfOk-at_ok (λ z. IsAssembled d.says d.values text start s first next z c.deref.result.now) c.in-Ok.is (c.assemble-assembled.ensures.made to)) in
+    let held = IfOk-at_ok (λ z. HoldsAllNew start s z.loose.items) c.in-Ok.is c.assemble-assembled.ensures.held in
+    can_link_all l cs ts names r.stop r.taken es resolution c.requires.reading leads own resolved c.requires.named many d.says start s first next a made
+
+pub connect-requires-clause-root : goal.connect-requires-clause-root
+connect-requires-clause-root g c =
+    let d = g.D.TextDialect in
+    let l = language_of d.formats d.kind_at (is_isolated g.D.DialectTables.op_has) d.values in
+    let cs = c.args.source.chars.now in
+    let ts = c.args.source.tokens.now in
+    let names = c.args.names.now in
+    let r = c.args.reading.now in
+    let es = r.events.items in
+    let text = token_text cs ts in
+    let judged = judged_so l g.D.ReadDialect.leads g.met.D.ReadDialect.ordered cs ts names r c.deref.result.now c.deref-2.result.now c.assemble-assembled.result c.resolve-resolved.result
+    c.deref.ensures.value c.deref-2.ensures.value c.requires.reading c.assemble-assembled.ensures.sound c.assemble-assembled.ensures.refused c.resolve-resolved.ensures.resolved in
+    let none = c.in_default.ensures.none l names judged in
+    let leads = read_whole l g.D.ReadDialect.leads g.met.D.ReadDialect.ordered cs ts names r.taken es r.stop c.requires.reading none in
+    let order = read_in_order l g.D.ReadDialect.leads g.met.D.ReadDialect.ordered cs ts names r.taken es r.stop c.requires.reading in
+    let own = own_tokens es order.follows in
+    let resolution = c.in-Ok-resolved.resolution in
+    let resolved = subst (λ z. IsResolved l.isolated names z resolution) c.deref-2.ensures.value
+    (MatchResult-at_ok (IsResolved l.isolated names c.deref-2.result.now) (IsScopeFault l.isolated names c.deref-2.result.now) resolution c.in-Ok-resolved.is c.resolve-resolved.ensures.resolved) in
+    let many = IfOk-at_ok (λ z. length z.definitions.items ≡ length names) c.in-Ok-resolved.is c.resolve-resolved.ensures.many in
+    let start = seen c.args.ctx.now in
+    let s = seen c.assemble-assembled.new.ctx in
+    let first = c.args.ctx.now.program.counter in
+    let next = c.assemble-assembled.new.ctx.program.counter in
+    let a = c.in-Ok.assembly in
+    let to = subst (λ z. Leads at_root [] z at_end []) (sym c.deref.ensures.value) leads in
+    let made = subst (IsAssembled d.says d.values text start s first next a) c.deref.ensures.value
+    (IfOk-at_ok (λ z. IsAssembled d.says d.values text start s first next z c.deref.result.now) c.in-Ok.is (c.assemble-assembled.ensures.made to)) in
+    let held = IfOk-at_ok (λ z. HoldsAllNew start s z.loose.items) c.in-Ok.is c.assemble-assembled.ensures.held in
+    rw made.stands refl
+
+pub returns-clause-read : goal.returns-clause-read
+returns-clause-read g c =
+    let d = g.D.TextDialect in
+    let l = language_of d.formats d.kind_at (is_isolated g.D.DialectTables.op_has) d.values in
+    let cs = c.args.source.chars.now in
+    let ts = c.args.source.tokens.now in
+    let names = c.args.names.now in
+    let r = c.args.reading.now in
+    let es = r.events.items in
+    let text = token_text cs ts in
+    let judged = judged_so l g.D.ReadDialect.leads g.met.D.ReadDialect.ordered cs ts names r c.deref.result.now c.deref-2.result.now c.assemble-assembled.result c.resolve-resolved.result
+    c.deref.ensures.value c.deref-2.ensures.value c.requires.reading c.assemble-assembled.ensures.sound c.assemble-assembled.ensures.refused c.resolve-resolved.ensures.resolved in
+    let none = c.in_default.ensures.none l names judged in
+    let leads = read_whole l g.D.ReadDialect.leads g.met.D.ReadDialect.ordered cs ts names r.taken es r.stop c.requires.reading none in
+    let order = read_in_order l g.D.ReadDialect.leads g.met.D.ReadDialect.ordered cs ts names r.taken es r.stop c.requires.reading in
+    let own = own_tokens es order.follows in
+    let resolution = c.in-Ok-resolved.resolution in
+    let resolved = subst (λ z. IsResolved l.isolated names z resolution) c.deref-2.ensures.value
+    (MatchResult-at_ok (IsResolved l.isolated names c.deref-2.result.now) (IsScopeFault l.isolated names c.deref-2.result.now) resolution c.in-Ok-resolved.is c.resolve-resolved.ensures.resolved) in
+    let many = IfOk-at_ok (λ z. length z.definitions.items ≡ length names) c.in-Ok-resolved.is c.resolve-resolved.ensures.many in
+    let start = seen c.args.ctx.now in
+    let s = seen c.assemble-assembled.new.ctx in
+    let first = c.args.ctx.now.program.counter in
+    let next = c.assemble-assembled.new.ctx.program.counter in
+    let a = c.in-Ok.assembly in
+    let to = subst (λ z. Leads at_root [] z at_end []) (sym c.deref.ensures.value) leads in
+    let made = subst (IsAssembled d.says d.values text start s first next a) c.deref.ensures.value
+    (IfOk-at_ok (λ z. IsAssembled d.says d.values text start s first next z c.deref.result.now) c.in-Ok.is (c.assemble-assembled.ensures.made to)) in
+    let held = IfOk-at_ok (λ z. HoldsAllNew start s z.loose.items) c.in-Ok.is c.assemble-assembled.ensures.held in
+    let linked = c.connect.ensures.linked in
+    answers_read l cs ts names r.stop r.taken es resolution c.requires.reading leads own resolved c.requires.named many d.says start s first next a made
+    (seen c.connect.new.ctx) c.connect.new.ctx.program.counter c.connect.result linked c.connect.ensures.root
+    (c.connect.ensures.held start (mentioned_from 0 es) made.operands held) c.connect.ensures.counter none
+
+pub returns-clause-refused : goal.returns-clause-refused
+returns-clause-refused g c =
+    let d = g.D.TextDialect in
+    let l = language_of d.formats d.kind_at (is_isolated g.D.DialectTables.op_has) d.values in
+    let cs = c.args.source.chars.now in
+    let ts = c.args.source.tokens.now in
+    let names = c.args.names.now in
+    let r = c.args.reading.now in
+    let es = r.events.items in
+    let text = token_text cs ts in
+    let judged = judged_so l g.D.ReadDialect.leads g.met.D.ReadDialect.ordered cs ts names r c.deref.result.now c.deref-2.result.now c.assemble-assembled.result c.resolve-resolved.result
+    c.deref.ensures.value c.deref-2.ensures.value c.requires.reading c.assemble-assembled.ensures.sound c.assemble-assembled.ensures.refused c.resolve-resolved.ensures.resolved in
+    let none = c.in_default.ensures.none l names judged in
+    let leads = read_whole l g.D.ReadDialect.leads g.met.D.ReadDialect.ordered cs ts names r.taken es r.stop c.requires.reading none in
+    let order = read_in_order l g.D.ReadDialect.leads g.met.D.ReadDialect.ordered cs ts names r.taken es r.stop c.requires.reading in
+    let own = own_tokens es order.follows in
+    let resolution = c.in-Ok-resolved.resolution in
+    let resolved = subst (λ z. IsResolved l.isolated names z resolution) c.deref-2.ensures.value
+    (MatchResult-at_ok (IsResolved l.isolated names c.deref-2.result.now) (IsScopeFault l.isolated names c.deref-2.result.now) resolution c.in-Ok-resolved.is c.resolve-resolved.ensures.resolved) in
+    let many = IfOk-at_ok (λ z. length z.definitions.items ≡ length names) c.in-Ok-resolved.is c.resolve-resolved.ensures.many in
+    let start = seen c.args.ctx.now in
+    let s = seen c.assemble-assembled.new.ctx in
+    let first = c.args.ctx.now.program.counter in
+    let next = c.assemble-assembled.new.ctx.program.counter in
+    let a = c.in-Ok.assembly in
+    let to = subst (λ z. Leads at_root [] z at_end []) (sym c.deref.ensures.value) leads in
+    let made = subst (IsAssembled d.says d.values text start s first next a) c.deref.ensures.value
+    (IfOk-at_ok (λ z. IsAssembled d.says d.values text start s first next z c.deref.result.now) c.in-Ok.is (c.assemble-assembled.ensures.made to)) in
+    let held = IfOk-at_ok (λ z. HoldsAllNew start s z.loose.items) c.in-Ok.is c.assemble-assembled.ensures.held in
+    c.connect.ensures.undone start (mentioned_from 0 es) made.operands held

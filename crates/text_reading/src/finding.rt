@@ -1,0 +1,138 @@
+//! The fault of a text that is named: the first of all that it has.
+ghost use Rattle.std.specs.Prelude.{◌≡◌, ◌⊎◌, ℕ, Bool, List, length, Option, Some, None, Err, OnOk, IfOk, IfErr, IsOk, MatchResult};
+ghost use Rattle.ir_tokens.specs.declared.faults.Fault.{Fault};
+ghost use Rattle.ir_tokens.specs.declared.faults.TextFault.TheVariants.{Memory, CounterFull};
+ghost use Rattle.ir_grammar.specs.declared.grammar.Event.{Event};
+ghost use Rattle.text_frames.specs.declared.opened.AssemblyFault.TheVariants as assembly;
+ghost use Rattle.ir_tokens.specs.declared.tokens.Token.{Token};
+ghost use Rattle.ir_tokens.specs.Faults.{IsNamed};
+ghost use Rattle.ir_scopes.specs.Scopes.{HasScopeFault, IsResolved, IsScopeFault};
+ghost use Rattle.ir_rereading.specs.Texts.{IsSyntaxFault, HasFault, IsRefusal, place_of, tell};
+ghost use Rattle.text_reading.specs.Judged.{IsJudged};
+ghost use Rattle.ir_formats.specs.Words.{token_text};
+ghost use Rattle.ir_forest.specs.Language.{Language};
+ghost use Rattle.ir_forest.specs.ValueFaults.{HasNumberFault, HasNamesFault};
+
+use ir_grammar::grammar::{Reading, Stop};
+use ir_scopes::depth::too_deep;
+use ir_scopes::scopes::{Resolution, ScopeFault};
+use ir_tokens::faults::{Fault, FaultKind, ScopeCause, TextFault, first_of};
+use ir_tokens::tokens::place_after;
+use text_frames::assembly::Assembly;
+use text_frames::opened::AssemblyFault;
+use text_frames::source::Source;
+
+/// The fault that no text of the grammar goes on with the next token, of so many.
+fn syntax_fault(reading: &Reading, tokens: usize) -> Option<Fault>
+    ensures { IsNamed (IsSyntaxFault reading.now.stop reading.now.taken tokens) result }
+{
+    let token = reading.taken;
+    let stands = match reading.stop {
+        Stop::Text => token < tokens,
+        Stop::Stuck => true,
+        Stop::Deep => false,
+    };
+    if stands {
+        Some(Fault {
+            kind: FaultKind::Syntax,
+            met: token,
+            place: token,
+        })
+    } else {
+        None
+    }
+}
+
+/// The first fault of the values of a text, if it isn't assembled.
+fn value_fault(assembled: &Result<Assembly, AssemblyFault>) -> Result<Option<Fault>, TextFault>
+    ensures found { (first : Option Fault) → OnOk assembled.now (first ≡ None) → ((f : Fault) → assembled.now ≡ Err (assembly.Text f) → first ≡ Some f) → IfOk result (λ r. r ≡ first) }
+    ensures none { IfOk result (λ r. r ≡ None → IsOk assembled.now) }
+    ensures full { result ≡ Err CounterFull → assembled.now ≡ Err assembly.CounterFull }
+    ensures memory { (l : Language) (cs : List ℕ) → IfErr result (IsRefusal l cs) }
+{
+    match assembled {
+        Ok(_) => Ok(None),
+        Err(AssemblyFault::Text(fault)) => Ok(Some(*fault)),
+        Err(AssemblyFault::Memory) => Err(TextFault::Memory),
+        Err(AssemblyFault::CounterFull) => Err(TextFault::CounterFull),
+    }
+}
+
+/// The first fault of the scopes of a text, if its names aren't looked up.
+fn scope_fault(resolved: &Result<Resolution, ScopeFault>) -> Result<Option<Fault>, TextFault>
+    ensures found { (isolated : ℕ → Bool) (names : List ℕ) (es : List Event) → MatchResult resolved.now (IsResolved isolated names es) (IsScopeFault isolated names es)
+        → IfOk result (IsNamed (HasScopeFault isolated names es)) }
+    ensures none { IfOk result (λ r. r ≡ None → IsOk resolved.now) }
+    ensures out { IfErr result (λ f. f ≡ Memory) }
+    ensures memory { (l : Language) (cs : List ℕ) → IfErr result (IsRefusal l cs) }
+{
+    match resolved {
+        Ok(_) => Ok(None),
+        Err(ScopeFault::Text(fault)) => Ok(Some(*fault)),
+        Err(ScopeFault::Memory) => Err(TextFault::Memory),
+    }
+}
+
+/// The first fault of a text with so many tokens, of which reading did this. In come the first fault of its values and
+/// that of its scopes.
+fn fault_of(
+    reading: &Reading,
+    tokens: usize,
+    values: Option<Fault>,
+    scopes: Option<Fault>,
+) -> Option<Fault>
+    ensures first { (l : Language) (cs : List ℕ) (ts : List Token) (names : List ℕ) → length ts ≡ tokens
+        → IsNamed (λ f. HasNumberFault l.values (token_text cs ts) reading.now.events.items f ⊎ HasNamesFault l.values (token_text cs ts) reading.now.events.items f) values
+        → IsNamed (HasScopeFault l.isolated names reading.now.events.items) scopes
+        → IsNamed (HasFault l cs ts names reading.now.stop reading.now.taken reading.now.events.items) result }
+    ensures none { result ≡ None → (values ≡ None) × (scopes ≡ None) }
+{
+    let early = first_of(syntax_fault(reading, tokens), too_deep(&reading.events));
+    let late = first_of(values, scopes);
+    first_of(early, late)
+}
+
+/// A fault as users see it, with its line and column.
+fn told(source: Source, fault: Fault) -> TextFault
+    ensures { result ≡ tell fault.kind (place_of source.entry.chars.now source.entry.tokens.now fault.place) }
+{
+    let (line, column) = match source.tokens.get(fault.place) {
+        Some(token) => place_after(source.front(token.start)),
+        None => place_after(source.chars),
+    };
+    match fault.kind {
+        FaultKind::TooDeep => TextFault::TooDeep(line, column),
+        FaultKind::MultipleDefinitions => {
+            TextFault::Scope(line, column, ScopeCause::MultipleDefinitions)
+        }
+        FaultKind::UnresolvedReference => {
+            TextFault::Scope(line, column, ScopeCause::UnresolvedReference)
+        }
+        _ => TextFault::Syntax(line, column),
+    }
+}
+
+/// That a text has no fault, of which reading did this, or its first one. Its values were made, or not, and its names looked
+/// up, or not.
+pub fn verdict(
+    source: Source,
+    reading: &Reading,
+    assembled: &Result<Assembly, AssemblyFault>,
+    resolved: &Result<Resolution, ScopeFault>,
+) -> Result<(), TextFault>
+    ensures fault { (l : Language) (names : List ℕ) → IsJudged l source.entry.chars.now source.entry.tokens.now names reading.now
+        assembled.now resolved.now → IfErr result (IsRefusal l source.entry.chars.now) }
+    ensures none { (l : Language) (names : List ℕ) → IsJudged l source.entry.chars.now source.entry.tokens.now names reading.now
+        assembled.now resolved.now → OnOk result (IsNamed (HasFault l source.entry.chars.now source.entry.tokens.now names
+        reading.now.stop reading.now.taken reading.now.events.items) None) }
+    ensures made { OnOk result (IsOk assembled.now) }
+    ensures looked_up { OnOk result (IsOk resolved.now) }
+    ensures full { result ≡ Err CounterFull → assembled.now ≡ Err assembly.CounterFull }
+{
+    let values = value_fault(assembled)?;
+    let scopes = scope_fault(resolved)?;
+    match fault_of(reading, source.tokens.len(), values, scopes) {
+        Some(fault) => Err(told(source, fault)),
+        None => Ok(()),
+    }
+}

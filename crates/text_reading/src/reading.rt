@@ -1,0 +1,152 @@
+//! Reading a text into a context.
+ghost use Rattle.std.specs.Prelude.{◌≡◌, ◌≤◌, ◌⊎◌, ◌+◌, ◌^◌, ℕ, List, length, Some, Err, OnErr, OnOk, IfOk, IfErr, IsSome};
+ghost use Rattle.ir_program.specs.declared.handles.IRNode.{IRNode};
+ghost use Rattle.ir_tokens.specs.declared.faults.TextFault.TheVariants.{Memory, CounterFull};
+ghost use Rattle.ir_rereading.specs.Texts.{language_of, HasDefinitions, IsReading, IsRefusal};
+ghost use Rattle.text_building.specs.Kept.{SameSeen};
+ghost use Rattle.text_dialect.specs.Seen.{Seen, seen};
+ghost use Rattle.text_frames.specs.Linking.{CanLink, Links};
+ghost use Rattle.text_frames.specs.Raised.{AreWaiting, HoldsAllNew};
+ghost use Rattle.text_scopes.specs.Isolated.{is_isolated};
+ghost use Rattle.text_reading.specs.Understood.{IsRead, IsSlotFull};
+
+use crate::finding::verdict;
+use ir_context::Context;
+use ir_formats::rules::DialectGrammar;
+use ir_formats::words::{classify, spelled};
+use ir_grammar::grammar::Reading;
+use ir_program::{Operation, Ptr};
+use ir_scopes::depth::DEEPEST;
+use ir_scopes::scopes::Resolution;
+use ir_tokens::faults::TextFault;
+use ir_tokens::tokens::tokens_of;
+use std::alloc::Global;
+use text_assembling::assembling::assemble;
+use text_building::discard;
+use text_dialect::TextDialect;
+use text_formats::{ReadDialect, grammar_of};
+use text_frames::assembly::Assembly;
+use text_frames::linking::link;
+use text_frames::opened::AssemblyFault;
+use text_frames::source::Source;
+use text_scopes::resolve;
+
+/// Reads one operation with all that stands in it, into a context.
+///
+/// `chars` is the whole text; only white space may stand behind the operation. The answer is the operation, which
+/// is in no block, or the fault that is met first: what is no text of the dialect's grammar, what is nested deeper
+/// than 64 levels, and names that are defined twice or not at all. After an operation the context's counter has moved on
+/// by the number of values that the text defines; after a fault each handle leads to what it led to. Takes time in
+/// proportion to the text.
+///
+/// # Errors
+/// Besides the faults of the text `Memory`, and `CounterFull` where the text defines more values than there are numbers
+/// left, or where the vacant slot that comes next had as many operations, regions or blocks as it can name.
+pub fn top_level_parse<D: ReadDialect>(
+    alloc: Global,
+    ctx: &mut Context<D>,
+    chars: &[char],
+) -> Result<Ptr<Operation>, TextFault>
+    ensures read { IfOk result (IsRead D.says (language_of D.formats D.kind_at (is_isolated D.op_has) D.values) chars.now
+        (seen ctx.old) (seen ctx.new) ctx.old.program.counter ctx.new.program.counter) }
+    ensures refused { OnErr result (SameSeen (seen ctx.old) (seen ctx.new)) }
+    ensures fault { IfErr result (IsRefusal (language_of D.formats D.kind_at (is_isolated D.op_has) D.values) chars.now) }
+    ensures full { result ≡ Err CounterFull → IsSlotFull ctx.old.program
+        ⊎ ((n : ℕ) × HasDefinitions (language_of D.formats D.kind_at (is_isolated D.op_has) D.values) chars.now n
+        × (2 ^ 64 ≤ ctx.old.program.counter + n)) }
+{
+    let language: DialectGrammar = grammar_of::<D>(alloc)?;
+    let tokens = tokens_of(alloc, chars)?;
+    let source = Source {
+        chars,
+        tokens: &tokens,
+    };
+    let words = spelled(alloc, &language.words)?;
+    let classified = classify(alloc, &words, chars, &tokens)?;
+    let reading = language.grammar.read(alloc, 0, DEEPEST, &classified.kinds)?;
+    understand(alloc, ctx, source, &classified.names, &reading)
+}
+
+/// Puts what reading a source gave into a context, or names the first fault.
+fn understand<D: ReadDialect>(
+    alloc: Global,
+    ctx: &mut Context<D>,
+    source: Source,
+    names: &[usize],
+    reading: &Reading,
+) -> Result<Ptr<Operation>, TextFault>
+    requires reading { IsReading (language_of D.formats D.kind_at (is_isolated D.op_has) D.values) source.chars.now source.tokens.now
+        names.now reading.now.stop reading.now.taken reading.now.events.items }
+    requires named { length source.tokens.now ≤ length names.now }
+    ensures read { IfOk result (IsRead D.says (language_of D.formats D.kind_at (is_isolated D.op_has) D.values)
+        source.entry.chars.now (seen ctx.old) (seen ctx.new) ctx.old.program.counter ctx.new.program.counter) }
+    ensures refused { OnErr result (SameSeen (seen ctx.old) (seen ctx.new)) }
+    ensures fault { IfErr result (IsRefusal (language_of D.formats D.kind_at (is_isolated D.op_has) D.values) source.entry.chars.now) }
+    ensures full { result ≡ Err CounterFull → IsSlotFull ctx.old.program
+        ⊎ ((n : ℕ) × HasDefinitions (language_of D.formats D.kind_at (is_isolated D.op_has) D.values) source.entry.chars.now n
+        × (2 ^ 64 ≤ ctx.old.program.counter + n)) }
+{
+    let assembled = assemble(alloc, ctx, source, &reading.events);
+    let resolved = resolve::<D>(alloc, names, &reading.events);
+    if let Err(fault) = verdict(source, reading, &assembled, &resolved) {
+        undo(ctx, &assembled);
+        return Err(fault);
+    }
+    let Ok(assembly) = assembled else {
+        unreachable!()
+    };
+    let Ok(resolution) = resolved else {
+        unreachable!()
+    };
+    connect(alloc, ctx, &resolution, &assembly)
+}
+
+/// Takes out of the context what was made of a text.
+fn undo<D: TextDialect>(ctx: &mut Context<D>, assembled: &Result<Assembly, AssemblyFault>)
+    requires held { (start : Seen D.OpKind D.Attr D.TypeKey)
+        × IfOk assembled.now (λ a. HoldsAllNew start (seen ctx.old) a.loose.items) }
+    ensures undone { (start : Seen D.OpKind D.Attr D.TypeKey)
+        → IfOk assembled.now (λ a. HoldsAllNew start (seen ctx.old) a.loose.items)
+        → OnErr assembled.now (SameSeen start (seen ctx.old)) → SameSeen start (seen ctx.new) }
+{
+    if let Ok(assembly) = assembled {
+        discard(ctx, &assembly.loose);
+    }
+}
+
+/// The operation that a text has become, with operands. Without memory all that was made of the text goes.
+fn connect<D: TextDialect>(
+    alloc: Global,
+    ctx: &mut Context<D>,
+    resolution: &Resolution,
+    assembly: &Assembly,
+) -> Result<Ptr<Operation>, TextFault>
+    requires waiting { (start : Seen D.OpKind D.Attr D.TypeKey) × (mentions : List ℕ)
+        × AreWaiting start (seen ctx.old) assembly.now.pending.items mentions
+        × HoldsAllNew start (seen ctx.old) assembly.now.loose.items }
+    requires meant { CanLink (seen ctx.old) assembly.now.values.items resolution.now.definitions.items
+        assembly.now.pending.items }
+    requires root { IsSome assembly.now.root }
+    ensures root { IfOk result (λ root. assembly.now.root ≡ Some root) }
+    ensures linked { OnOk result (Links (seen ctx.old) (seen ctx.new) assembly.now.values.items
+        resolution.now.definitions.items assembly.now.pending.items) }
+    ensures held { (start : Seen D.OpKind D.Attr D.TypeKey) (mentions : List ℕ)
+        → AreWaiting start (seen ctx.old) assembly.now.pending.items mentions
+        → HoldsAllNew start (seen ctx.old) assembly.now.loose.items
+        → OnOk result (HoldsAllNew start (seen ctx.new) assembly.now.loose.items) }
+    ensures undone { (start : Seen D.OpKind D.Attr D.TypeKey) (mentions : List ℕ)
+        → AreWaiting start (seen ctx.old) assembly.now.pending.items mentions
+        → HoldsAllNew start (seen ctx.old) assembly.now.loose.items
+        → OnErr result (SameSeen start (seen ctx.new)) }
+    ensures memory { IfErr result (λ f. f ≡ Memory) }
+    ensures counter { OnOk result (ctx.new.program.counter ≡ ctx.old.program.counter) }
+{
+    if link(alloc, ctx, resolution, assembly).is_err() {
+        discard(ctx, &assembly.loose);
+        return Err(TextFault::Memory);
+    }
+    match assembly.root {
+        Some(root) => Ok(root),
+        None => unreachable!(),
+    }
+}
