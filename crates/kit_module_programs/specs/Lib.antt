@@ -1,0 +1,5 @@
+pub mod Paths
+pub mod Programs
+pub mod Sound
+pub mod TreePasses
+pub mod Laws
