@@ -19,7 +19,7 @@ use Rattle.opt_decide.specs.declared.plan.Decision.{Decision}
 use Rattle.opt_decide.proofs.Carried.{none_decided}
 use Rattle.opt_decide.proofs.EdgesDecided.{local_still, fits_still}
 use Rattle.opt_decide.proofs.ExchangedNames.{exchanged, exchanged_twice, free_or_kept, root_kept, exchanged_apart, stands_exchanged}
-use Rattle.opt_decide.proofs.InsideDecided.{none_came}
+use Rattle.opt_decide.proofs.InsideDecided.{none_came, none_outside}
 use Rattle.opt_decide.proofs.NamesDecided.{outside_kept}
 use Rattle.opt_decide.proofs.NoneDecided.{none_decided_then, some_decided_then}
 use Rattle.opt_decide.proofs.SaidAround.{HasValues, around_root, says_known}
@@ -77,6 +77,7 @@ module _ {O B A : Type 0} (d : Dialect (in_program O B) A) (old new : Program O 
       stands = stands_exchanged d old new op ds are has ground.lists t stands;
       outside = outside_kept d old new op ds are has ground.lists;
       inside = none_came d old new op ds are has ground.lists ground.root;
+      around_it = none_outside d old new op ds are has ground.lists ground.root;
     }
 
     pub edges_local : HasLocalEdgesBelow d.is_terminator old op → HasLocalEdgesBelow d.is_terminator new op

@@ -9,14 +9,17 @@ use Rattle.ir_program.specs.declared.handles.Ptr.{Ptr}
 use Rattle.ir_program.specs.declared.handles.Operation.{Operation}
 use Rattle.ir_program.specs.declared.handles.Region.{Region}
 use Rattle.ir_program.specs.declared.handles.BasicBlock.{BasicBlock}
+use Rattle.ir_program.specs.Erased.{IsGone}
+use Rattle.ir_trees.specs.Searched.{Lists}
 use Rattle.ir_trees.specs.Stands.{in_program}
 use Rattle.opt_trees.specs.Dialect.{Dialect}
 use Rattle.opt_inside.specs.Occurring.{IsBelowRoot}
 use Rattle.opt_inside.proofs.Around.{HasLists}
-use Rattle.opt_decide.specs.Phase.{HasDecided, BringsNoneInside}
+use Rattle.opt_decide.specs.Phase.{HasDecided, BringsNoneInside, BringsNoneOutside}
 use Rattle.opt_decide.specs.Planned.{AreDecisions}
 use Rattle.opt_decide.specs.Replaced.{along}
 use Rattle.opt_decide.specs.declared.plan.Decision.{Decision}
+use Rattle.opt_decide.proofs.Carried.{among_or_not}
 use Rattle.opt_decide.proofs.DecisionLists.{below_there}
 use Rattle.opt_decide.proofs.Folded.{something}
 use Rattle.opt_decide.proofs.NamesDecided.{not_none, now_at, IsKept, IsBranched, apart, root_same, free_or_same}
@@ -141,6 +144,24 @@ module _ {O B A : Type 0} (d : Dialect (in_program O B) A) (old new : Program O 
       (free_or_same d old new op ds are has p.0)
   none_came (BlockNode b) live i = inside_was (BlockNode b) i
   none_came (RegionNode r) live i = inside_was (RegionNode r) i
+
+  pub none_outside : BringsNoneOutside old new op
+  none_outside p v out there = (
+    λ i. ⊎_elim
+        (λ (h : (x : Decision) × Lists ds x × (x.op ≡ p)).
+        let gone : IsGone new (OperationNode h.0.op) = (has.done h.0 h.1).gone in
+        let at : operation_at new h.0.op ≡ Some v = ap (operation_at new) h.2 ∙ there in
+        not_none (operation_at new h.0.op) (there_by (operation_at new h.0.op) v at) gone.0)
+        (λ none. out (subst (λ z. StandsInside new (OperationNode op) (OperationNode z)) (has.same p none)
+        (inside_now (OperationNode p) i)))
+        (among_or_not ds p),
+    ⊎_elim
+        (λ same. same)
+        (λ (x : (x : Decision) × Lists ds x × (has.names x.op ≡ p)). absurd (out
+        (subst (λ z. StandsInside new (OperationNode op) (OperationNode z)) x.2
+        (inside_now (OperationNode x.0.op) (are.below x.0 x.1).inside))))
+        (has.came p v there),
+  )
 
   pub below_now : (p : Ptr Operation) → IsBelowRoot old op p → IsBelowRoot new op (has.names p)
   below_now p low = record {

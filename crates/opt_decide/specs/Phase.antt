@@ -80,6 +80,12 @@ abbrev pub BringsNoneInside : {O B : Type 0} → Program O B → Program O B →
 BringsNoneInside old new op = (e : IRNode) → IsLiveNode old e
     → StandsInside new (OperationNode op) e → StandsInside old (OperationNode op) e
 
+-- what isn't inside the operation now was as it is, and wasn't inside it
+abbrev pub BringsNoneOutside : {O B : Type 0} → Program O B → Program O B → Ptr Operation → Type 0
+BringsNoneOutside {O} old new op = (p : Ptr Operation) (v : OperationView O)
+    → (StandsInside new (OperationNode op) (OperationNode p) → ⊥) → operation_at new p ≡ Some v
+    → (StandsInside old (OperationNode op) (OperationNode p) → ⊥) × (operation_at old p ≡ Some v)
+
 -- the branches that their operands decide are unconditional ones: the handle of each and one that led nowhere change
 -- places, and all else keeps its handle
 pub record DecidesBranches {O B A : Type 0} (d : Dialect (in_program O B) A) (old new : Program O B)
@@ -97,6 +103,7 @@ pub record DecidesBranches {O B A : Type 0} (d : Dialect (in_program O B) A) (ol
   pub stands : StandsFor new op (rename_root names (decided d around t))
   pub outside : KeepsOutside old new op
   pub inside : BringsNoneInside old new op
+  pub around_it : BringsNoneOutside old new op
 
 -- no branch below the root is decided: deciding leaves its tree as it is
 abbrev pub HasNoneDecided : {O B A : Type 0} → Dialect (in_program O B) A → Program O B → Ptr Operation → Type 0

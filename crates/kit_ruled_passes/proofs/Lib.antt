@@ -1,0 +1,14 @@
+pub mod InsideOrNot
+pub mod RuledSites
+pub mod EdgeLengths
+pub mod LocalEdges
+pub mod Scopes
+pub mod ScopesAfter
+pub mod ScopeUses
+pub mod ScopesOfRules
+pub mod NoCircles
+pub mod Homes
+pub mod KeptScopes
+pub mod OrderedScopes
+pub mod Determined
+pub mod FittingEdges
