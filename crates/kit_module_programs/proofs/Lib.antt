@@ -8,7 +8,6 @@ pub mod Located
 pub mod Restricted
 pub mod FlatDefined
 pub mod DceOnPrograms
-pub mod ListsOnTrees
 pub mod FactsInside
 pub mod SccpInside
 pub mod PropagationByPlace
@@ -17,5 +16,13 @@ pub mod PutLocated
 pub mod MadeByPlace
 pub mod NamesKept
 pub mod SccpOnPrograms
+pub mod RuledScopes
 pub mod RuledSound
 pub mod SoundFlat
+pub mod ShallowFunctions
+pub mod CutInside
+pub mod ChainsInside
+pub mod SimplifyLocated
+pub mod FlatShallow
+pub mod SimplifyOnPrograms
+pub mod ListsOnTrees

@@ -13,6 +13,7 @@ use Rattle.kit_module_programs.specs.Programs.{IsProgramOf}
 use Rattle.kit_module_programs.specs.TreePasses.{IsTreePass, IsSoundTree, IsTreeAfter}
 use Rattle.kit_module_programs.proofs.DceOnPrograms.{dce_on_programs}
 use Rattle.kit_module_programs.proofs.SccpOnPrograms.{sccp_on_programs}
+use Rattle.kit_module_programs.proofs.SimplifyOnPrograms.{simplify_on_programs}
 use Rattle.kit_module_programs.proofs.ProgramsOfTrees.{one_program}
 
 module _ {N : Names} (told : AreTold N) (leads : TypeHandle → Option KitType) (numbered : List ℕ → ℕ) where
@@ -22,7 +23,7 @@ module _ {N : Names} (told : AreTold N) (leads : TypeHandle → Option KitType) 
   pass_on DcePass t u p sound pass is = dce_on_programs told leads numbered sound.0 t sound.1 u pass p is
   pass_on SccpPass t u p sound pass is = sccp_on_programs told leads numbered sound.0 t sound.1 u pass p is
   pass_on LeanSccpPass t u p sound pass is = absurd pass
-  pass_on SimplifyPass t u p sound pass is = absurd pass
+  pass_on SimplifyPass t u p sound pass is = simplify_on_programs told leads numbered sound.0 t sound.1 u pass p is
 
   pub list_on : (xs : List Pass) (t r : Root N kit_contents) (p : Program Place) →
       IsTreeAfter {N = N} leads numbered xs t r → IsProgramOf {N = N} told.value leads numbered t p →

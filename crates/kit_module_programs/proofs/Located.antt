@@ -1,7 +1,8 @@
 -- Where paths lead in a tree, and in the tree without what goes.
-use Rattle.std.proofs.Common.{◌≡◌, ◌⊎◌, inl, inr, ℕ, Bool, true, false, List, [], ◌∷◌, Option, Some, None}
+use Rattle.std.proofs.Common.{◌≡◌, ◌⊎◌, ⊎_elim, inl, inr, ℕ, Bool, true, false, List, [], ◌∷◌, Option, Some, None}
 use Rattle.std.proofs.Common.{refl, sym, ap, ◌∙◌}
 use Rattle.std.specs.Prelude.{◌&&◌, option_and_then, option_map, if◌then◌else◌}
+use Rattle.ir_names.specs.declared.interfaces.OpInterface.TheVariants as op
 use Rattle.ir_names.specs.Dictionary.{attribute_at}
 use Rattle.ir_trees.specs.Names.{Names}
 use Rattle.ir_trees.specs.Trees.{Head, Operations, Regions, Tree, end, operation, block, region, Root}
@@ -12,6 +13,7 @@ use Rattle.opt_trees.proofs.NoneDead.{has-left, has-right}
 use Rattle.kit_ops.specs.declared.kinds.KitOp.{KitOp}
 use Rattle.kit_ops.specs.declared.kinds.KitOp.TheVariants as ops
 use Rattle.kit_ops.specs.Keys.{symbol_name}
+use Rattle.kit_ops.specs.Table.{has_interface}
 use Rattle.kit.specs.Meaning.{KitOperation, Entries, kit, is_function, is_module, dropped_of}
 use Rattle.kit_views.specs.Reading.{kit_contents}
 use Rattle.kit_module_programs.specs.Paths.{is_name, is_function_named, is_module_named, first_with}
@@ -47,6 +49,11 @@ module_kind ops.Return b e = absurd (cc e)
 
 abbrev pub IsHolding : KitOperation → Type 0
 IsHolding c = (c.kind ≡ ops.Func) ⊎ (c.kind ≡ ops.Module)
+
+-- what holds does not branch
+pub holder_no_branch : (k : KitOp) → (k ≡ ops.Func) ⊎ (k ≡ ops.Module) → has_interface k op.Branch ≡ false
+holder_no_branch k e =
+    ⊎_elim (λ z. ap (λ x. has_interface x op.Branch) z) (λ z. ap (λ x. has_interface x op.Branch) z) e
 
 -- a test of functions or modules by their names, which operands don't matter to
 pub record Tests (test : KitOperation → Bool) : Type 0 where
@@ -84,13 +91,13 @@ module _ (numbered : List ℕ → ℕ) (n : ℕ) where
   module_stable ops.Emit p es = refl
   module_stable ops.Return p es = refl
 
-  function_tests : Tests (is_function_named numbered n)
+  pub function_tests : Tests (is_function_named numbered n)
   function_tests = record {
     holds = λ c e. inl (function_kind c.kind (is_name numbered n (attribute_at c.notes.attributes symbol_name)) e);
     stable = λ c p. function_stable c.kind p c.notes.attributes;
   }
 
-  module_tests : Tests (is_module_named numbered n)
+  pub module_tests : Tests (is_module_named numbered n)
   module_tests = record {
     holds = λ c e. inr (module_kind c.kind (is_name numbered n (attribute_at c.notes.attributes symbol_name)) e);
     stable = λ c p. module_stable c.kind p c.notes.attributes;
@@ -100,6 +107,11 @@ pub function_kind_of : (numbered : List ℕ → ℕ) (n : ℕ) (c : KitOperation
     c.kind ≡ ops.Func
 function_kind_of numbered n c e =
     function_kind c.kind (is_name numbered n (attribute_at c.notes.attributes symbol_name)) e
+
+pub module_kind_of : (numbered : List ℕ → ℕ) (n : ℕ) (c : KitOperation) → is_module_named numbered n c ≡ true →
+    c.kind ≡ ops.Module
+module_kind_of numbered n c e =
+    module_kind c.kind (is_name numbered n (attribute_at c.notes.attributes symbol_name)) e
 
 module _ {N : Names} where
   -- what is found stands there

@@ -65,7 +65,7 @@ pub right_true : (a b : Bool) → a && b ≡ true → b ≡ true
 right_true true b e = e
 right_true false b e = absurd (cc e)
 
-and_is : (a b : Bool) → b ≡ true → a ≡ a && b
+pub and_is : (a b : Bool) → b ≡ true → a ≡ a && b
 and_is true b e = sym e
 and_is false b e = refl
 

@@ -34,6 +34,7 @@ use Rattle.kit_ruled_views.proofs.FunctionTypes.{typed_function}
 use Rattle.kit_ruled_views.proofs.FunctionViews.{flat_view}
 use Rattle.kit_module_programs.specs.Sound.{tree_of, IsHolder, IsInFunction, IsSound}
 use Rattle.kit_module_programs.proofs.Lifted.{lift, lift_block, lifted, lifted_blocks, inside_there, blocks_inside}
+use Rattle.kit_module_programs.proofs.RuledScopes.{ruled_ends, ruled_sees}
 
 -- ---- parts of lists
 
@@ -356,6 +357,8 @@ module _ (leads : TypeHandle → Option KitType) (typed : Value → Option TypeH
           kind = kind;
           flat = view.0;
           is_flat = view.1;
+          ends = ruled_ends leads typed numbered u ruled view.0 view.1;
+          sees = ruled_sees leads typed numbered u ruled view.0 view.1;
           is_typed = typed_function leads typed u ruled names.blocks (types_inside have o stands);
         };
     others = λ o stands. (fine o stands).stands_in;

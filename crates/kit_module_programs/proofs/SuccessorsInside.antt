@@ -22,7 +22,7 @@ use Rattle.kit_module_programs.proofs.Inside.{Function, function_at, up, up_bloc
 use Rattle.kit_module_programs.proofs.Inside.{block_pair}
 
 -- a block of each name
-named_block : {N : Names} (bs : Tree N kit_contents Blocks) (c : Spot N kit_contents) (b : N.block) →
+pub named_block : {N : Names} (bs : Tree N kit_contents Blocks) (c : Spot N kit_contents) (b : N.block) →
     Has b (names_in bs) → (x : BlockOccurrence N kit_contents) × Has x (block_occurrences_in bs c) × (x.label.name ≡ b)
 named_block end c b h = absurd h
 named_block (block l os more) c b h =

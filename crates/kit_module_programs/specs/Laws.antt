@@ -12,15 +12,16 @@ use Rattle.kit_ruled_views.specs.Ruled.{KitTree, kit_world, HasOwnNames, HaveTyp
 use Rattle.kit_behaviour.specs.Machine.{Program}
 use Rattle.kit_behaviour.specs.ConstantPropagation as constants
 use Rattle.kit_behaviour.specs.ConstantPropagation.{all_wanted}
-use Rattle.kit_behaviour.specs.DeadValues as flat
+use Rattle.kit_behaviour.specs.DeadValues as dead
 use Rattle.kit_behaviour.specs.Laws.{AlikeWithin, KeepsRules}
 use Rattle.kit_behaviour.specs.PassLists.{Pass, IsAfter, Fit, Goal, SameFaces}
 use Rattle.kit_behaviour.specs.Places.{Place}
+use Rattle.kit_behaviour.specs.SimplifiedBlocks as blocks
 use Rattle.kit_views.specs.FlatView.{IsSameness}
 use Rattle.kit_views.specs.Reading.{kit_contents}
 use Rattle.kit_module_programs.specs.Programs.{IsProgramOf, FunctionsAreFlat}
 use Rattle.kit_module_programs.specs.Sound.{IsSound}
-use Rattle.kit_module_programs.specs.TreePasses.{IsDceAlone, IsSccpNamed, IsTreeAfter}
+use Rattle.kit_module_programs.specs.TreePasses.{IsDceAlone, IsSccpNamed, IsSimplifiedAlone, IsTreeAfter}
 
 -- a module's tree whose functions have flat views has a program
 abbrev pub ProgramsExist : Names → Type 0
@@ -64,11 +65,15 @@ IsPassOn N Tree Flat = (told : AreTold N) (leads : TypeHandle → Option KitType
 
 -- removal of dead values on the tree of a module is removal of dead values on its program
 abbrev pub DceIsDce : Names → Type 0
-DceIsDce N = IsPassOn N IsDceAlone flat.IsDce
+DceIsDce N = IsPassOn N IsDceAlone dead.IsDce
 
 -- constants put into the tree of a module are constants put into its program, for all known values that may get one
 abbrev pub SccpIsSccp : Names → Type 0
 SccpIsSccp N = IsPassOn N IsSccpNamed (constants.IsSccp all_wanted)
+
+-- control flow simplified on the tree of a module is control flow simplified on its program
+abbrev pub SimplifyIsSimplify : Names → Type 0
+SimplifyIsSimplify N = IsPassOn N IsSimplifiedAlone blocks.IsSimplify
 
 -- of what a list of passes makes of a tree the program is what the list makes of the tree's program
 abbrev pub ListsAreLists : Names → Type 0

@@ -1,5 +1,5 @@
 -- What is asked of the tree of a module: what the rules of the dialect say of it, as far as the passes need it.
-use Rattle.std.specs.Prelude.{◌≡◌, ◌⊎◌, ℕ, List, [], Option}
+use Rattle.std.specs.Prelude.{◌≡◌, ◌⊎◌, ℕ, List, [], Option, Some}
 use Rattle.ir_base.specs.declared.types.TypeHandle.{TypeHandle}
 use Rattle.ir_trees.specs.Names.{Names}
 use Rattle.ir_trees.specs.Trees.{Root}
@@ -7,7 +7,10 @@ use Rattle.opt_trees.specs.Occurrences.{Has, Occurrence, occurrences_in, occurre
 use Rattle.kit_ops.specs.declared.kinds.KitOp.TheVariants as ops
 use Rattle.kit_ops.specs.declared.types.KitType.{KitType}
 use Rattle.kit_behaviour.specs.Machine.{Fun}
+use Rattle.kit_behaviour.specs.Rules.{operands}
+use Rattle.kit_behaviour.specs.Scopes.{AllIn, BlocksWith}
 use Rattle.kit_views.specs.FlatView.{IsFlat}
+use Rattle.kit_views.specs.Laws.{EndWell}
 use Rattle.kit_views.specs.Reading.{kit_contents, kit_reading}
 use Rattle.kit_views.specs.Typed.{IsTyped}
 use Rattle.kit_ruled_views.specs.Ruled.{HasOwnNames}
@@ -31,11 +34,13 @@ pub record IsInFunction {N : Names} (t : Root N kit_contents) (p : Occurrence N 
 
 module _ {N : Names} (leads : TypeHandle → Option KitType) (numbered : List ℕ → ℕ) (type_at : N.value → TypeHandle)
   where
-    -- the operation is a function, it has a flat view, and is typed
+    -- the operation is a function, it has a flat view, whose blocks end well and name values in scope, and is typed
     pub record IsSoundFunction (o : Occurrence N kit_contents) : Type 0 where
       pub kind : o.head.content.kind ≡ ops.Func
       pub flat : Fun N.value
       pub is_flat : IsFlat (kit_reading leads numbered) (tree_of o) flat
+      pub ends : EndWell flat
+      pub sees : BlocksWith (Some flat) (λ a op. AllIn (operands op) a)
       pub is_typed : IsTyped leads {N = N} type_at (tree_of o)
 
     -- names are distinct; each function is sound; every other operation is a module, or stands in a function

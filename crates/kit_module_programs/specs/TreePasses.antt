@@ -6,9 +6,11 @@ use Rattle.ir_trees.specs.Renames.{Maps, IsOneToOne, rename_root}
 use Rattle.ir_trees.specs.Trees.{Root}
 use Rattle.opt_trees.specs.Dce.{Around, IsDce}
 use Rattle.opt_trees.specs.Sccp.{fresh, IsSccp}
+use Rattle.opt_trees.specs.Simplify.{IsSimplify}
 use Rattle.kit_ops.specs.declared.attributes.IntegerAttr.{IntegerAttr}
 use Rattle.kit_ops.specs.declared.types.KitType.{KitType}
 use Rattle.kit.specs.Meaning.{kit}
+use Rattle.kit_views.specs.FlatBranches.{KnowsConstants}
 use Rattle.kit_views.specs.Laws.{NothingPinned}
 use Rattle.kit_views.specs.Reading.{kit_contents}
 use Rattle.kit_behaviour.specs.PassLists.{Pass, SccpPass, LeanSccpPass, DcePass, SimplifyPass}
@@ -28,12 +30,27 @@ pub record IsDceAlone {N : Names} (t after : Root N kit_contents) : Type 0 where
   pub unpinned : NothingPinned around t
   pub is : IsDce kit around t after
 
--- the pass on trees that is this pass on programs; of the others there is none here
+-- other names of operations alone
+abbrev pub maps_of : {N : Names} → (N.operation → N.operation) → Maps N N
+maps_of names = record { operation = names; block = λ b. b; value = λ v. v }
+
+-- control flow is simplified, where of values exactly constants are known alone; operations may have other names, kept
+-- apart
+pub record IsSimplifiedAlone {N : Names} (t after : Root N kit_contents) : Type 0 where
+  pub around : Around N IntegerAttr
+  pub known : KnowsConstants around t
+  pub simplified : Root N kit_contents
+  pub is : IsSimplify kit around t simplified
+  pub names : N.operation → N.operation
+  pub apart : (o p : N.operation) → names o ≡ names p → o ≡ p
+  pub same : after ≡ rename_root (maps_of names) simplified
+
+-- the pass on trees that is this pass on programs; there is none here of constants for used values alone
 abbrev pub IsTreePass : {N : Names} → Pass → Root N kit_contents → Root N kit_contents → Type 0
 IsTreePass SccpPass t after = IsSccpNamed t after
 IsTreePass LeanSccpPass t after = ⊥
 IsTreePass DcePass t after = IsDceAlone t after
-IsTreePass SimplifyPass t after = ⊥
+IsTreePass SimplifyPass t after = IsSimplifiedAlone t after
 
 module _ {N : Names} (leads : TypeHandle → Option KitType) (numbered : List ℕ → ℕ) where
   -- the tree is sound, whatever types its values have

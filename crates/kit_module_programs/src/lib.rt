@@ -3,8 +3,9 @@
 #![tactic(auto)]
 
 ghost use Rattle.ir_trees.specs.Renames.{named};
-ghost use Rattle.kit_module_programs.specs.Laws.{ProgramsExist, OneProgram, DceIsDce, SccpIsSccp, ListsAreLists};
-ghost use Rattle.kit_module_programs.specs.Laws.{RulesMakeSound, SoundIsFlat, TreesAlike, TreesGoal, TreesKeepFaces, TreeListsCut};
+ghost use Rattle.kit_module_programs.specs.Laws.{ProgramsExist, OneProgram, DceIsDce, SccpIsSccp, SimplifyIsSimplify};
+ghost use Rattle.kit_module_programs.specs.Laws.{RulesMakeSound, SoundIsFlat, ListsAreLists, TreesAlike, TreesGoal};
+ghost use Rattle.kit_module_programs.specs.Laws.{TreesKeepFaces, TreeListsCut};
 
 /// The tree of a module whose functions have flat views has a program.
 pub fn programs_exist<O, B, V>()
@@ -24,6 +25,11 @@ pub fn dce_is_dce<O, B, V>()
 /// Constants put into the tree of a module are constants put into its program.
 pub fn sccp_is_sccp<O, B, V>()
     ensures { SccpIsSccp (named O B V) }
+{}
+
+/// Control flow simplified on the tree of a module is control flow simplified on its program.
+pub fn simplify_is_simplify<O, B, V>()
+    ensures { SimplifyIsSimplify (named O B V) }
 {}
 
 /// A list of passes on the tree of a module is the list of passes on its program.

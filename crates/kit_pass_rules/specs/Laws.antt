@@ -15,7 +15,7 @@ use Rattle.kit_pass_rules.specs.Worlds.{KitTree, kit_world, AreApart, IsTypedIn,
 use Rattle.opt_trees.specs.Dce.{Around, IsDce}
 use Rattle.opt_trees.specs.Sccp.{IsSccp, fresh}
 use Rattle.kit_pass_rules.specs.Names.{maps_of}
-use Rattle.opt_trees.specs.Simplify.{IsCut, IsJoined, IsSimplify, all_of, decided}
+use Rattle.opt_trees.specs.Simplify.{IsCut, all_of, decided}
 
 -- the tree keeps the rules in a world of these types, where its values are as it says, under handles that are apart
 pub record IsGood (leads : TypeHandle → Option KitType) (typed : Value → Option TypeHandle)
@@ -45,7 +45,7 @@ pub record IsSccpNamed (t after : KitTree) : Type 0 where
 abbrev pub SccpKeepsRules : Type 0
 SccpKeepsRules = StaysGood IsSccpNamed
 
--- each phase of simplifying control flow, up to handles of operations: branches decided, blocks cut, chains joined
+-- the first two phases of simplifying control flow, up to handles of operations: branches decided, and blocks cut
 abbrev pub IsNamed : (KitTree → KitTree → Type 0) → KitTree → KitTree → Type 0
 IsNamed Makes t after = (made : KitTree) × Makes t made × (names : Ptr Operation → Ptr Operation)
     × (after ≡ rename_root (maps_of names) made)
@@ -55,10 +55,3 @@ DecidedKeepsRules = (w : Around by_handle IntegerAttr) → StaysGood (IsNamed (�
 
 abbrev pub CutKeepsRules : Type 0
 CutKeepsRules = StaysGood (λ t after. IsCut kit (all_of t) t after)
-
-abbrev pub JoinedKeepsRules : Type 0
-JoinedKeepsRules = StaysGood (λ t after. IsJoined kit (all_of t) t after)
-
--- and all three
-abbrev pub SimplifyKeepsRules : Type 0
-SimplifyKeepsRules = (w : Around by_handle IntegerAttr) → StaysGood (IsNamed (IsSimplify kit w))

@@ -16,7 +16,7 @@ use Rattle.opt_trees.specs.Dialect.{Dialect}
 use Rattle.opt_trees.specs.Sccp.{used_as}
 use Rattle.opt_inside.specs.Occurring.{IsBelowRoot, IsBlockBelow}
 use Rattle.opt_sccp.specs.Made.{made_of, IsPutList}
-use Rattle.opt_sccp.specs.Placed.{Placed, PlacedFor, placed_for, renamed, constant_if, for_results, for_arguments, puts_constants, HasPut}
+use Rattle.opt_sccp.specs.Placed.{Placed, PlacedFor, placed_for, used_for, renamed, constant_if, for_results, for_arguments, puts_constants, HasPut}
 use Rattle.opt_inside.specs.Outside.{ChangesOperandsOutside}
 use Rattle.opt_sccp.specs.Puts.{PutsConstants}
 use Rattle.opt_sccp.proofs.Definitions.{AreDefined, index_name, result_at, argument_at, block_around}
@@ -104,6 +104,11 @@ module _ {O B A : Type 0} (d : Dialect (in_program O B) A) (old new : Program O 
       let n = placed_has ps w y.0 y.1 in
       sym m.1 ∙ put.apart x.0 y.0 m.0 n.0 (sym (ap handle_in x.1) ∙ e ∙ ap handle_in y.1) ∙ n.1
 
+  own : (v : Value) (o : Option (Placed O A)) (a : A) → placed_for ps v ≡ o → constant_in o ≡ Some a
+      → (used_for v o).definer ≡ ByOp (handle_in o)
+  own v None a e h = cc
+  own v (Some x) a e h = (put.constants x (placed_has ps v x e).0).own
+
   no_others : (p : Ptr Operation) → operation_at old p ≡ None → ((v : Value) (a : A) → constant_in (placed_for ps v) ≡ Some a → p ≢ handle_in (placed_for ps v)) → operation_at new p ≡ None
   no_others p gone other =
       put.operations p (λ x has e.
@@ -121,6 +126,7 @@ module _ {O B A : Type 0} (d : Dialect (in_program O B) A) (old new : Program O 
     old_values = λ v. refl;
     led_nowhere = λ v a h. led_nowhere v (placed_for ps v) a refl h;
     apart = apart;
+    own = λ v a h. own v (placed_for ps v) a refl h;
     stands = subst (λ u. StandsFor new op u) (sym (same_root d (placed_for ps) makes t)) (stands_now d old new ps put lists op t stands);
     outside = outside;
     no_others = no_others;

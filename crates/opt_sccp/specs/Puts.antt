@@ -5,6 +5,7 @@ use Rattle.ir_program.specs.declared.handles.Ptr.{Ptr}
 use Rattle.ir_program.specs.declared.handles.Operation.{Operation}
 use Rattle.ir_program.specs.declared.handles.Region.{Region}
 use Rattle.ir_program.specs.declared.handles.BasicBlock.{BasicBlock}
+use Rattle.ir_program.specs.declared.handles.DefiningEntity.TheVariants.{Op as ByOp}
 use Rattle.ir_program.specs.declared.handles.Value.{Value}
 use Rattle.ir_trees.specs.Renames.{Maps, rename_root}
 use Rattle.ir_trees.specs.Stands.{by_handle, in_program, ProgramTree, StandsFor}
@@ -23,6 +24,8 @@ pub record PutsConstants {O B A : Type 0} (d : Dialect (in_program O B) A) (old 
   pub led_nowhere : (v : Value) (a : A) → made v ≡ Some a → operation_at old (names.operation (New v)) ≡ None
   pub apart : (v w : Value) (a b : A) → made v ≡ Some a → made w ≡ Some b
       → names.operation (New v) ≡ names.operation (New w) → v ≡ w
+  -- the result of each is a value of its own operation
+  pub own : (v : Value) (a : A) → made v ≡ Some a → (names.value (New v)).definer ≡ ByOp (names.operation (New v))
   -- the root stands for the tree with the constants
   pub stands : StandsFor new op (rename_root names (put_root d made t))
   pub outside : ChangesOperandsOutside old new op (λ v. names.value (used_as v (made v)))

@@ -1,14 +1,14 @@
 //! Constant propagation.
-ghost use Rattle.std.specs.Prelude.{◌≡◌, ℕ, [], Err, Ok, IfErr, IfOk, IsSome, OnErr};
-ghost use Rattle.ir_program.specs.Program.{operation_at};
+ghost use Rattle.std.specs.Prelude.{◌≡◌, ◌≢◌, ℕ, [], Err, Ok, IfErr, IfOk, IsSome, OnErr};
+ghost use Rattle.ir_program.specs.Program.{Program, operation_at};
 ghost use Rattle.ir_program.specs.declared.handles.Operation.{Operation};
 ghost use Rattle.ir_program.specs.declared.handles.Ptr.{Ptr};
 ghost use Rattle.ir_context.specs.Known.{HasKnownTypes};
 ghost use Rattle.opt_dialect.specs.declared.status.IRStatus.TheVariants.{Unchanged};
-ghost use Rattle.opt_dialect.specs.declared.status.OptError.TheVariants.{UndeterminedOperand};
+ghost use Rattle.opt_dialect.specs.declared.status.OptError.TheVariants.{CounterFull, UndeterminedOperand};
 ghost use Rattle.opt_facts.specs.ByNumber.{LeadsBelow};
 ghost use Rattle.opt_inside.specs.Occurring.{OfItsTree};
-ghost use Rattle.opt_sccp.specs.Made.{AreTyped, PutsList};
+ghost use Rattle.opt_sccp.specs.Made.{AreTyped, IsFull, PutsList};
 ghost use Rattle.opt_sccp.specs.Sccp.{IsDecided, IsPartlyPropagated, IsPropagated, IsRefusal, LacksIn};
 
 use crate::wanted::{is_lacking, made_constants};
@@ -37,6 +37,7 @@ fn decide<D: OptDialect>(
     ensures known { IfOk result (λ made. (count : ℕ) → HasKnownTypes count program.now → AreTyped D.meaning count made.items) }
     ensures lacking { result ≡ Err UndeterminedOperand → OfItsTree program.now op (LacksIn D.meaning) }
     ensures refused { IfErr result IsRefusal }
+    ensures counted { result ≢ Err CounterFull }
 {
     program.know_lists();
     program.know_values();
@@ -82,6 +83,8 @@ pub fn sccp<D: OptDialect, T: TypeTable>(
     ensures part { OnErr result (IsPartlyPropagated D.meaning ctx.old.program ctx.new.program op) }
     ensures lacking { result ≡ Err UndeterminedOperand → OfItsTree ctx.old.program op (LacksIn D.meaning) }
     ensures refused { IfErr result IsRefusal }
+    ensures full { result ≡ Err CounterFull → (mid : Program D.Operation D.Block)
+        × IsPartlyPropagated D.meaning ctx.old.program mid op × IsFull mid }
     ensures refused_same { result ≡ Err UndeterminedOperand → ctx.new ≡ ctx.old }
     ensures types { ctx.new.types ≡ ctx.old.types }
 {

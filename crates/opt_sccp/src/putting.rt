@@ -1,12 +1,13 @@
 //! Constants put in for values.
-ghost use Rattle.std.specs.Prelude.{◌≡◌, ◌≢◌, ℕ, [], IfErr, IsSome, OnErr, OnOk};
+ghost use Rattle.std.specs.Prelude.{◌≡◌, ◌≢◌, ℕ, [], Err, IfErr, IsSome, OnErr, OnOk};
 ghost use Rattle.ir_program.specs.Adds.{SomeCame};
 ghost use Rattle.ir_program.specs.Edits.{KeepsValues};
 ghost use Rattle.ir_program.specs.Lists.{IsUnlinkedOperation, regions_in};
-ghost use Rattle.ir_program.specs.Program.{operation_at};
+ghost use Rattle.ir_program.specs.Program.{Program, operation_at};
 ghost use Rattle.ir_program.specs.declared.handles.DefiningEntity.TheVariants.{Op as ByOp};
 ghost use Rattle.ir_context.specs.Known.{IsKnownIn};
-ghost use Rattle.opt_sccp.specs.Made.{AreTyped, IsPutList, IsShortage, PutsList};
+ghost use Rattle.opt_dialect.specs.declared.status.OptError.TheVariants.{CounterFull};
+ghost use Rattle.opt_sccp.specs.Made.{AreTyped, IsFull, IsPutList, IsShortage, PutsList};
 ghost use Rattle.opt_sccp.specs.Placed.{CanPutAt, HasPlace, LeadsAlike, PutsAtDefiner, PutsMade};
 
 use ir_context::{OperationLists, ResultCalls, TypeTable, TypedProgram, UseCalls};
@@ -42,6 +43,8 @@ pub fn put_constants<D: OptDialect, T: TypeTable>(
     ensures put { OnOk result (PutsList D.meaning ctx.old.program ctx.new.program op made.now) }
     ensures part { OnErr result (SomeCame made.now (PutsList D.meaning ctx.old.program ctx.new.program op)) }
     ensures refused { IfErr result IsShortage }
+    ensures full { result ≡ Err CounterFull → (mid : Program D.Operation D.Block)
+        × SomeCame made.now (PutsList D.meaning ctx.old.program mid op) × IsFull mid }
     ensures types { ctx.new.types ≡ ctx.old.types }
 {
     let program = ctx.program();
@@ -69,6 +72,7 @@ fn put_one<D: OptDialect, T: TypeTable>(
     ensures put { OnOk result (PutsMade D.meaning ctx.old.program ctx.new.program made) }
     ensures same { OnErr result (LeadsAlike ctx.old.program ctx.new.program) }
     ensures refused { IfErr result IsShortage }
+    ensures full { result ≡ Err CounterFull → IsFull ctx.old.program }
     ensures types { ctx.new.types ≡ ctx.old.types }
 {
     ctx.program().know_values();

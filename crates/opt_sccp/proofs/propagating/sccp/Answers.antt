@@ -1,5 +1,7 @@
 -- What was decided is put in, if it is anything.
-use Rattle.std.proofs.Common.{[], sym, ap, ◌∙◌, subst}
+use Rattle.std.proofs.lemmas.Result.{err_from_is_err_and}
+use Rattle.opt_dialect.specs.declared.status.OptError.TheVariants.{CounterFull}
+use Rattle.std.proofs.Common.{◌≡◌, Err, [], sym, ap, ◌∙◌, subst}
 use Rattle.std.specs.Prelude.{nat_eq}
 use Rattle.ir_context.specs.Known.{HasKnownTypes}
 use Rattle.ir_program.specs.Adds.{SomeCame}
@@ -28,6 +30,19 @@ returns-in_err-put_constants-clause-part g c = on_err c.from_residual-in_err-put
     (part_in g.D.Meanings.meaning c.args.ctx.now.program c.args.op c.put_constants.new.ctx.program c.in_ok-made.made.items
     (subst (λ p. IsDecided g.D.Meanings.meaning p c.args.op c.in_ok-made.made.items) c.program-2.ensures c.in_ok-made.ensures.decided)
     (subst (λ ms. SomeCame ms (PutsList g.D.Meanings.meaning c.args.ctx.now.program c.put_constants.new.ctx.program c.args.op)) c.deref.ensures.value c.in_err-put_constants.ensures.part))
+
+pub returns-in_err-put_constants-clause-full : goal.returns-in_err-put_constants-clause-full
+returns-in_err-put_constants-clause-full g c = λ e.
+    let p = err_from_is_err_and c.from_residual-in_err-put_constants.result c.from_residual-in_err-put_constants.ensures.1 in
+    let same : Err p.0 ≡ Err CounterFull = sym p.1 ∙ e in
+    let inner : p.0 ≡ CounterFull = cc in
+    let full = c.in_err-put_constants.ensures.full (ap (λ x. Err x) (sym p.2 ∙ inner)) in (
+      full.0,
+      part_in g.D.Meanings.meaning c.args.ctx.now.program c.args.op full.0 c.in_ok-made.made.items
+          (subst (λ p. IsDecided g.D.Meanings.meaning p c.args.op c.in_ok-made.made.items) c.program-2.ensures c.in_ok-made.ensures.decided)
+          (subst (λ ms. SomeCame ms (PutsList g.D.Meanings.meaning c.args.ctx.now.program full.0 c.args.op)) c.deref.ensures.value full.1),
+      full.2,
+    )
 
 pub returns-clause-propagates : goal.returns-clause-propagates
 returns-clause-propagates g c = changed_in g.D.Meanings.meaning c.args.ctx.now.program c.args.op c.put_constants.new.ctx.program c.in_ok-made.made.items

@@ -1,5 +1,7 @@
 -- The list is put in one by one.
-use Rattle.std.proofs.Common.{◌≡◌, take, length, refl, sym, ap, ◌∙◌, subst, arith}
+use Rattle.std.proofs.lemmas.Result.{err_from_is_err_and}
+use Rattle.opt_dialect.specs.declared.status.OptError.TheVariants.{CounterFull}
+use Rattle.std.proofs.Common.{◌≡◌, Err, take, length, refl, sym, ap, ◌∙◌, subst, arith}
 use Rattle.std.proofs.Math.Seq.{take-length}
 use Rattle.std.proofs.lemmas.Option.{slice_get_read}
 use Rattle.ir_context.specs.Known.{IsKnownIn}
@@ -42,6 +44,16 @@ pub returns-in_err-put_one-clause-part : goal.returns-in_err-put_one-clause-part
 returns-in_err-put_one-clause-part g c =
     let now = stays g.D.Meanings.meaning c.args.ctx.now.program c.args.op c.loop-one.ctx.program c.args.made.now c.loop-one.one-index c.loop-one.invariant.putting c.requires.list c.put_one.new.ctx.program c.in_err-put_one.ensures.same in
     on_err {P = SomeCame c.args.made.now (PutsList g.D.Meanings.meaning c.args.ctx.now.program c.put_one.new.ctx.program c.args.op)} c.from_residual.result (c.loop-one.one-index, c.loop-one-test.true, ends g.D.Meanings.meaning c.args.ctx.now.program c.args.op c.put_one.new.ctx.program c.args.made.now c.loop-one.one-index now c.requires.list)
+
+pub returns-in_err-put_one-clause-full : goal.returns-in_err-put_one-clause-full
+returns-in_err-put_one-clause-full g c = λ e.
+    let p = err_from_is_err_and c.from_residual.result c.from_residual.ensures.1 in
+    let same : Err p.0 ≡ Err CounterFull = sym p.1 ∙ e in
+    let inner : p.0 ≡ CounterFull = cc in (
+  c.loop-one.ctx.program,
+  (c.loop-one.one-index, c.loop-one-test.true, ends g.D.Meanings.meaning c.args.ctx.now.program c.args.op c.loop-one.ctx.program c.args.made.now c.loop-one.one-index c.loop-one.invariant.putting c.requires.list),
+  c.in_err-put_one.ensures.full (ap (λ x. Err x) (sym p.2 ∙ inner)),
+)
 
 pub loop-one-preserved : goal.loop-one-preserved
 loop-one-preserved g c = record {

@@ -1,0 +1,5 @@
+pub mod Chains
+pub mod Rules
+pub mod Apart
+pub mod Simplified
+pub mod Programs

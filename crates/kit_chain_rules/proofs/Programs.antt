@@ -1,0 +1,2 @@
+-- What trees of a program are.
+pub mod ProgramDefiners

@@ -1,0 +1,4 @@
+pub mod CarriedTrees
+pub mod RenamedTrees
+pub mod DecidedTrees
+pub mod CutTrees

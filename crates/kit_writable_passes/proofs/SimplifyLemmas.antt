@@ -1,0 +1,193 @@
+-- What simplifying control flow leaves can be written: nothing is decided or joined where no operation is a branch, and
+-- blocks are cut.
+use Rattle.std.proofs.Common.{◌≡◌, ⊎_elim, ℕ, zero, suc, Bool, true, false, List, ◌++◌, map, Option, Some, None, refl, sym, ap, ◌∙◌, subst}
+use Rattle.std.proofs.lemmas.Bool.{and_parts}
+use Rattle.std.specs.Prelude.{if◌then◌else◌, not, ◌&&◌}
+use Rattle.ir_forest.specs.Closed.{AllDistinct}
+use Rattle.ir_program.specs.declared.handles.BasicBlock.{BasicBlock}
+use Rattle.ir_program.specs.declared.handles.Ptr.{Ptr}
+use Rattle.ir_trees.specs.Names.{Names}
+use Rattle.ir_trees.specs.Stands.{by_handle}
+use Rattle.ir_trees.specs.Trees.{Head, Sort, Operations, Blocks, Regions, Tree, end, operation, block, region, Root}
+use Rattle.kit.specs.Meaning.{kit}
+use Rattle.kit_ops.specs.declared.attributes.IntegerAttr.{IntegerAttr}
+use Rattle.kit_ops.specs.declared.types.KitType.{KitType}
+use Rattle.kit_pass_rules.specs.Names.{maps_of}
+use Rattle.kit_pass_rules.specs.Worlds.{KitTree}
+use Rattle.kit_views.specs.Reading.{kit_contents}
+use Rattle.kit_writable_passes.specs.Laws.{SimplifyStaysWritable}
+use Rattle.kit_writable_passes.proofs.HeadLemmas.{head_no_branch, no_branches, head_like}
+use Rattle.kit_writable_passes.proofs.ListLemmas.{distinct_right, distinct_fewer}
+use Rattle.kit_writable_passes.proofs.RenameLemmas.{root_renamed}
+use Rattle.kit_writable_trees.specs.Writable.{count_of, label_text, labels_in, IsWritableHead, IsWritable, IsWritableRoot}
+use Rattle.opt_trees.specs.Dce.{Around}
+use Rattle.opt_trees.specs.Occurrences.{Has, at_root}
+use Rattle.opt_trees.specs.Simplify.{Place, all_of, is_empty, is_end, along_edge, decide_head, decide, decided, keep, Joinable, Joins, ends, operations, regions, taken, first, chain_ends, chain_goes_on, use_head, use_instead, IsJoined, IsSimplify}
+use Rattle.opt_trees.proofs.Lists.{length-map}
+use Rattle.opt_trees.proofs.NoneDead.{has-append, has-left, has-right, true_false}
+
+-- ---- branches
+
+module _ {N : Names} (types : List KitType) (alone : N.value → Option IntegerAttr) where
+  head_decided : (h : Head N kit_contents) (rs : Tree N kit_contents Regions) → kit.is_branch h.content ≡ false →
+      decide_head kit alone h rs ≡ h
+  head_decided h rs e = ap (λ (b : Bool). if (b && (is_empty h.results && is_end rs)) && not (kit.is_plain h.content)
+      then along_edge kit h (kit.edge h.content (map alone h.operands)) kit.plain else h) e
+
+  -- nothing is decided
+  pub tree_decided : {s : Sort} (d : ℕ) (x : Tree N kit_contents s) → IsWritable types d x → decide kit alone x ≡ x
+  tree_decided d end w = refl
+  tree_decided d (operation h rs rest) w = λ i. operation
+      (head_decided h rs (head_no_branch types d (count_of rs) h w.0) i)
+      (tree_decided d rs w.1 i) (tree_decided d rest w.2 i)
+  tree_decided d (block l os rest) w = λ i. block l (tree_decided d os w.1 i) (tree_decided d rest w.2 i)
+  tree_decided zero (region bs rest) w = absurd w.0
+  tree_decided (suc d) (region bs rest) w = λ i. region (tree_decided d bs w.0 i) (tree_decided (suc d) rest w.2 i)
+
+-- ---- blocks
+
+module _ {N : Names} (types : List KitType) (gone : N.block → Bool) where
+  count_kept : (rs : Tree N kit_contents Regions) → count_of (keep gone rs) ≡ count_of rs
+  count_kept end = refl
+  count_kept (region bs rest) = ap suc (count_kept rest)
+
+  -- a label that is left was there
+  label_was : (text : List ℕ) (bs : Tree N kit_contents Blocks) → Has text (labels_in (keep gone bs)) →
+      Has text (labels_in bs)
+  label_was text end h = h
+  label_was text (block l os rest) h = step (gone l.name) (label_was text rest) h
+    where
+      step : (b : Bool) → (Has text (labels_in (keep gone rest)) → Has text (labels_in rest)) →
+          Has text (labels_in (if b then keep gone rest else block l (keep gone os) (keep gone rest))) →
+          Has text (label_text l.content.label ++ labels_in rest)
+      step true f h = has-right text (label_text l.content.label) (labels_in rest) (f h)
+      step false f h = ⊎_elim
+          (λ x. has-left text (label_text l.content.label) (labels_in rest) x)
+          (λ x. has-right text (label_text l.content.label) (labels_in rest) (f x))
+          (has-append text (label_text l.content.label) (labels_in (keep gone rest)) h)
+
+  -- so labels stay distinct
+  labels_distinct : (bs : Tree N kit_contents Blocks) → AllDistinct (labels_in bs) →
+      AllDistinct (labels_in (keep gone bs))
+  labels_distinct end h = h
+  labels_distinct (block l os rest) h =
+      step (gone l.name) (labels_distinct rest (distinct_right (label_text l.content.label) (labels_in rest) h))
+    where
+      step : (b : Bool) → AllDistinct (labels_in (keep gone rest)) →
+          AllDistinct (labels_in (if b then keep gone rest else block l (keep gone os) (keep gone rest)))
+      step true d = d
+      step false d = distinct_fewer (label_text l.content.label) (labels_in rest) (labels_in (keep gone rest))
+          (λ text x. label_was text rest x) d h
+
+  cut_writable : {s : Sort} (d : ℕ) (x : Tree N kit_contents s) → IsWritable types d x →
+      IsWritable types d (keep gone x)
+  cut_writable d end w = tt
+  cut_writable d (operation h rs rest) w =
+      let head : IsWritableHead types d (count_of (keep gone rs)) h =
+      subst (λ n. IsWritableHead types d n h) (sym (count_kept rs)) w.0 in
+      (head, cut_writable d rs w.1, cut_writable d rest w.2)
+  cut_writable d (block l os rest) w = step (gone l.name) (cut_writable d os w.1) (cut_writable d rest w.2)
+    where
+      step : (b : Bool) → IsWritable types d (keep gone os) → IsWritable types d (keep gone rest) →
+          IsWritable types d (if b then keep gone rest else block l (keep gone os) (keep gone rest))
+      step true a b = b
+      step false a b = (w.0, a, b)
+  cut_writable zero (region bs rest) w = absurd w.0
+  cut_writable (suc d) (region bs rest) w =
+      (cut_writable d bs w.0, labels_distinct bs w.1, cut_writable (suc d) rest w.2)
+
+  pub root_cut : (t : Root N kit_contents) → IsWritableRoot types t →
+      IsWritableRoot types (record { head = t.head; regions = keep gone t.regions })
+  root_cut t w = record {
+    head = subst (λ n. IsWritableHead types 64 n t.head) (sym (count_kept t.regions)) w.head;
+    regions = cut_writable 64 t.regions w.regions;
+  }
+
+-- ---- chains
+
+-- where nothing can be joined all stays
+module _ {N : Names} (p : Place N) (r : Root N kit_contents) (none : (b c : N.block) → Joinable kit p r b c → ⊥) where
+  tree_joined : (q : Option N.block) (s : Sort) (x y : Tree N kit_contents s) → Joins kit p r q s x y → x ≡ y
+  tree_joined _ _ _ _ (ends s) = refl
+  tree_joined _ _ _ _ (operations h rs qs rest more x y) =
+      λ i. operation h (tree_joined None Regions rs qs x i) (tree_joined None Operations rest more y i)
+  tree_joined _ _ _ _ (regions bs cs rest more x y) =
+      λ i. region (tree_joined None Blocks bs cs x i) (tree_joined None Regions rest more y i)
+  tree_joined _ _ _ _ (taken l ops rest more b j x) = absurd (none b l.name j)
+  tree_joined _ _ _ _ (first l ops all rest more n x y) =
+      λ i. block l (tree_joined (Some l.name) Operations ops all x i) (tree_joined None Blocks rest more y i)
+  tree_joined _ _ _ _ (chain_ends b ops own n x) = tree_joined None Operations ops own x
+  tree_joined _ _ _ _ (chain_goes_on b z ops own others all j h x y e) = absurd (none b z.label.name j)
+
+-- other values are used
+module _ {N : Names} (types : List KitType) (f : N.value → N.value) where
+  count_used : (rs : Tree N kit_contents Regions) → count_of (use_instead f rs) ≡ count_of rs
+  count_used end = refl
+  count_used (region bs rest) = ap suc (count_used rest)
+
+  labels_used : (bs : Tree N kit_contents Blocks) → labels_in (use_instead f bs) ≡ labels_in bs
+  labels_used end = refl
+  labels_used (block l os rest) = ap (λ ls. label_text l.content.label ++ ls) (labels_used rest)
+
+  head_used : (d n m : ℕ) (h : Head N kit_contents) → m ≡ n → IsWritableHead types d n h →
+      IsWritableHead types d m (use_head f h)
+  head_used d n m h count w = head_like types d n m h (use_head f h)
+      (record {
+        kind = refl;
+        attributes = refl;
+        operands = length-map f h.operands;
+        results = refl;
+        successors = λ e. e;
+      })
+      count w
+
+  used_writable : {s : Sort} (d : ℕ) (x : Tree N kit_contents s) → IsWritable types d x →
+      IsWritable types d (use_instead f x)
+  used_writable d end w = tt
+  used_writable d (operation h rs rest) w =
+      let head : IsWritableHead types d (count_of (use_instead f rs)) (use_head f h) =
+      head_used d (count_of rs) (count_of (use_instead f rs)) h (count_used rs) w.0 in
+      (head, used_writable d rs w.1, used_writable d rest w.2)
+  used_writable d (block l os rest) w = (w.0, used_writable d os w.1, used_writable d rest w.2)
+  used_writable zero (region bs rest) w = absurd w.0
+  used_writable (suc d) (region bs rest) w =
+      (used_writable d bs w.0, subst AllDistinct (sym (labels_used bs)) w.1, used_writable (suc d) rest w.2)
+
+  pub root_used : (t : Root N kit_contents) → IsWritableRoot types t →
+      IsWritableRoot types (record { head = use_head f t.head; regions = use_instead f t.regions })
+  root_used t w = record {
+    head = head_used 64 (count_of t.regions) (count_of (use_instead f t.regions)) t.head (count_used t.regions) w.head;
+    regions = used_writable 64 t.regions w.regions;
+  }
+
+-- ---- the pass
+
+decided_writable : (types : List KitType) (w : Around by_handle IntegerAttr) (t : KitTree) → IsWritableRoot types t →
+    IsWritableRoot types (decided kit w t)
+decided_writable types w t writable =
+    let same : decide kit w.alone t.regions ≡ t.regions = tree_decided types w.alone 64 t.regions writable.regions in
+    let whole : t ≡ decided kit w t = λ i. record { head = t.head; regions = sym same i } in
+    subst (IsWritableRoot types) whole writable
+
+joined_writable : (types : List KitType) (p : Place by_handle) (t after : KitTree) → IsWritableRoot types t →
+    IsJoined kit p t after → IsWritableRoot types after
+joined_writable types p t after writable joined =
+    -- what can be joined ends in a branch
+    let none : (b c : Ptr BasicBlock) → Joinable kit p t b c → ⊥ = λ b c j.
+    true_false (kit.is_branch j.last.head.content)
+    (and_parts (kit.is_branch j.last.head.content) (is_empty j.last.head.results && is_end j.last.regions) j.bare).0
+    (no_branches types 64 t.regions (at_root t) writable.regions j.last j.stands) in
+    let same : t.regions ≡ joined.regions = tree_joined p t none None Regions t.regions joined.regions joined.joins in
+    let whole : record { head = use_head joined.names t.head; regions = use_instead joined.names t.regions } ≡ after =
+    (λ i. record { head = use_head joined.names t.head; regions = use_instead joined.names (same i) })
+    ∙ sym joined.is in
+    subst (IsWritableRoot types) whole (root_used types joined.names t writable)
+
+pub simplify_law : SimplifyStaysWritable
+simplify_law = λ types w t after writable named.
+    let made : KitTree = named.0 in
+    let pass : IsSimplify kit w t made = named.1 in
+    let at_cut : IsWritableRoot types pass.cut = subst (IsWritableRoot types) (sym pass.is_cut.is)
+    (root_cut types pass.is_cut.gone (decided kit w t) (decided_writable types w t writable)) in
+    subst (IsWritableRoot types) (sym named.3)
+    (root_renamed types (maps_of named.2) made (joined_writable types (all_of t) pass.cut made at_cut pass.is_joined))

@@ -1,0 +1,33 @@
+-- The statements of the laws.
+use Rattle.std.specs.Prelude.{◌≡◌, ℕ, List}
+use Rattle.ir_context.specs.Views.{ContextView}
+use Rattle.ir_forest.specs.Closed.{IsClosed}
+use Rattle.ir_print.specs.Pieces.{Entity}
+use Rattle.ir_program.specs.declared.handles.Operation.{Operation}
+use Rattle.ir_program.specs.declared.handles.Ptr.{Ptr}
+use Rattle.ir_program.specs.declared.handles.Value.{Value}
+use Rattle.ir_trees.specs.Stands.{ProgramTree, StandsFor}
+use Rattle.ir_types.specs.Views.{TypesView}
+use Rattle.text_dialect.specs.Seen.{seen}
+use Rattle.text_dialect.specs.Standing.{StandsForTexts}
+use Rattle.text_rereading.specs.Rereading.{Named}
+use Rattle.kit.specs.declared.dialect.Unused.{Unused}
+use Rattle.kit.specs.Meaning.{KitOperation, KitBlock}
+use Rattle.kit_language.specs.Language.{kit_language}
+use Rattle.kit_ops.specs.declared.types.KitType.{KitType}
+use Rattle.kit_texts.specs.Says.{says}
+use Rattle.kit_writable_trees.specs.Writable.{IsWritableRoot}
+
+-- what is seen of a context of `kit`
+abbrev pub KitContext : Type 0
+KitContext = ContextView KitOperation KitBlock (TypesView KitType Unused Unused)
+
+-- trees of operations of `kit`
+abbrev pub KitTree : Type 0
+KitTree = ProgramTree KitOperation KitBlock
+
+-- an operation that stands for a closed tree of texts can be written
+abbrev pub TextsAreWritable : Type 0
+TextsAreWritable = (s : KitContext) (root : Ptr Operation) (values : List Value) (text : Entity ℕ) (t : KitTree) →
+    StandsForTexts says (Named values) (seen s) root text → IsClosed kit_language text → StandsFor s.program root t →
+    IsWritableRoot s.types.keys t

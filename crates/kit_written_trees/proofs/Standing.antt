@@ -1,0 +1,107 @@
+-- What is written of a tree is the tree of texts of the operation that it is the tree of.
+use Rattle.std.proofs.Common.{◌≡◌, ◌∙◌, inl, inr, ℕ, zero, suc, List, [], ◌∷◌, map, length, Option, Some, None, option_map, refl, ap, sym, subst}
+use Rattle.ir_base.specs.declared.types.TypeHandle.{TypeHandle}
+use Rattle.ir_names.specs.declared.identifier.Identifier.{Identifier}
+use Rattle.ir_names.specs.Identifier.{text_of}
+use Rattle.ir_print.specs.Pieces.{ValueTree}
+use Rattle.ir_print.specs.Shown.{Pairs, ShowsType}
+use Rattle.ir_program.specs.Program.{OperationView, BlockView, RegionView, TypedValue, operation_at, block_at, region_at}
+use Rattle.ir_program.specs.declared.handles.Ptr.{Ptr}
+use Rattle.ir_program.specs.declared.handles.Operation.{Operation}
+use Rattle.ir_program.specs.declared.handles.Region.{Region}
+use Rattle.ir_program.specs.declared.handles.BasicBlock.{BasicBlock}
+use Rattle.ir_program.specs.declared.handles.Value.{Value}
+use Rattle.ir_trees.specs.Renames.{names_of}
+use Rattle.ir_trees.specs.Stands.{by_handle, head_of, defined_by, AreTree, no_operations, no_blocks, no_regions, first_operation, first_block, first_region}
+use Rattle.ir_trees.specs.Trees.{Operations, Blocks, Regions, end}
+use Rattle.ir_trees.specs.Trees as tree
+use Rattle.opt_trees.specs.Occurrences.{Has}
+use Rattle.text_dialect.specs.Seen.{seen, seen_operation, seen_block, types_of}
+use Rattle.text_dialect.specs.Standing.{HasDefinition, HasHead, HasOwnLabel, IsLabel, HaveRegionTrees, HaveBlockTrees, HaveTrees}
+use Rattle.kit.specs.Meaning.{KitOperation, KitBlock}
+use Rattle.kit_texts.specs.Says.{says}
+use Rattle.kit_writable_trees.specs.Laws.{KitContext}
+use Rattle.kit_writable_trees.specs.Writable.{types_in, count_of, IsWritableHead, IsWritable}
+use Rattle.kit_written_trees.proofs.Known.{KnownAll}
+use Rattle.kit_written_trees.proofs.Written.{Part, named_so, head_text, written}
+
+module _ {N : Type 0} (s : KitContext) (ν : Value → N) (Naming : Value → N → Type 0) (Known : Value → Type 0)
+    (named : (v : Value) → Known v → Naming v (ν v)) where
+  -- the types of definitions are those of the values
+  types_same : (vs : List TypedValue) → types_in (map defined_by vs) ≡ types_of vs
+  types_same [] = refl
+  types_same (v ∷ vs) = ap (λ tys. v.ty ∷ tys) (types_same vs)
+
+  -- definitions are named and typed so
+  defined_so : (vs : List TypedValue) (ys : List ValueTree)
+      → Pairs (ShowsType says s.types.keys) (types_in (map defined_by vs)) ys
+      → ((v : Value) → Has v (names_of (map defined_by vs)) → Known v)
+      → Pairs (HasDefinition says Naming s.types.keys) vs (named_so s.types.keys ν (map defined_by vs) ys)
+  defined_so [] [] h known = tt
+  defined_so [] (y ∷ ys) h known = absurd h
+  defined_so (v ∷ vs) [] h known = absurd h
+  defined_so (v ∷ vs) (y ∷ ys) h known =
+      ((named v.value (known v.value (inl refl)), h.0), defined_so vs ys h.1 (λ x has. known x (inr has)))
+
+  -- operands are named so
+  used_so : (xs : List Value) → ((v : Value) → Has v xs → Known v) → Pairs Naming xs (map ν xs)
+  used_so [] known = tt
+  used_so (x ∷ xs) known = (named x (known x (inl refl)), used_so xs (λ v has. known v (inr has)))
+
+  label_is : (v : Option Identifier) (id : Identifier) → v ≡ Some id → IsLabel v (text_of id)
+  label_is v id e = subst (λ o. IsLabel o (text_of id)) (sym e) refl
+
+  pub head_so : (d regions : ℕ) (p : Ptr Operation) (v : OperationView KitOperation)
+      (w : IsWritableHead {N = by_handle} s.types.keys d regions (head_of p v))
+      → ((x : Value) → Has x (names_of (map defined_by v.results)) → Known x) → ((x : Value) → Has x v.operands → Known x)
+      → HasHead says Naming s.types.keys (seen_operation v) w.kind (named_so s.types.keys ν (map defined_by v.results) w.shapes)
+          (map ν v.operands) w.pieces
+  head_so d regions p v w results operands = record {
+    said = w.said;
+    says_it = ap (λ tys. says.of_operation v.payload.kind v.payload.notes.attributes (length v.operands) tys)
+        (sym (types_same v.results)) ∙ w.says_it;
+    shown = w.shown;
+    defines = defined_so v.results w.shapes w.typed results;
+    mentions = used_so v.operands operands;
+    no_successors = w.no_successors;
+  }
+
+  mutual
+    pub have_trees : (d : ℕ) (ps : List (Ptr Operation)) (x : Part Operations) (w : IsWritable {N = by_handle} s.types.keys d x)
+        → AreTree s.program Operations ps x → KnownAll Known x
+        → HaveTrees says Naming HasOwnLabel (seen s) ps (written s.types.keys ν d x w)
+    have_trees d [] x w no_operations known = tt
+    have_trees d (p ∷ ps) x w (first_operation _ _ v rs rest there inner after) known = (
+      (
+        seen_operation v,
+        ap (option_map seen_operation) there,
+        head_so d (count_of rs) p v w.0 known.0 known.1,
+        have_region_trees d v.regions rs w.1 inner known.2,
+      ),
+      have_trees d ps rest w.2 after known.3,
+    )
+
+    pub have_region_trees : (d : ℕ) (rs : List (Ptr Region)) (x : Part Regions)
+        (w : IsWritable {N = by_handle} s.types.keys d x) → AreTree s.program Regions rs x → KnownAll Known x
+        → HaveRegionTrees says Naming HasOwnLabel (seen s) rs (written s.types.keys ν d x w)
+    have_region_trees d [] x w no_regions known = tt
+    have_region_trees zero (r ∷ rs) x w (first_region _ _ v bs rest there inner after) known = absurd w.0
+    have_region_trees (suc e) (r ∷ rs) x w (first_region _ _ v bs rest there inner after) known = (
+      (v.blocks, ap (option_map (λ (z : RegionView). z.blocks)) there, have_block_trees e v.blocks bs w.0 inner known.0),
+      have_region_trees (suc e) rs rest w.2 after known.1,
+    )
+
+    pub have_block_trees : (d : ℕ) (bs : List (Ptr BasicBlock)) (x : Part Blocks)
+        (w : IsWritable {N = by_handle} s.types.keys d x) → AreTree s.program Blocks bs x → KnownAll Known x
+        → HaveBlockTrees says Naming HasOwnLabel (seen s) bs (written s.types.keys ν d x w)
+    have_block_trees d [] x w no_blocks known = tt
+    have_block_trees d (b ∷ bs) x w (first_block _ _ v os rest there inner after) known = (
+      (
+        seen_block v,
+        ap (option_map seen_block) there,
+        label_is v.payload.label w.0.labelled.0 w.0.labelled.1,
+        defined_so v.arguments w.0.arguments.shapes w.0.arguments.shown known.0,
+        have_trees d v.operations os w.1 inner known.1,
+      ),
+      have_block_trees d bs rest w.2 after known.2,
+    )

@@ -1,0 +1,132 @@
+-- The text of an operation that can be written.
+use Rattle.std.proofs.Common.{◌≡◌, ◌∙◌, ⊎_elim, ℕ, Bool, List, [], ◌++◌, map, length, Option, Some, option_map, refl, ap, sym, subst}
+use Rattle.std.specs.List.{range_with_len}
+use Rattle.std.proofs.lemmas.List.FromFn.{length-range_with_len}
+use Rattle.ir_forest.specs.Closed.{IsClosed, IsNumbered, IsScopedRoot, all_mentioned, all_defined, definitions_of, mentioned_by, defined_by, in_scope, is_isolated_head}
+use Rattle.ir_forest.specs.Closed.{names_of as names_so}
+use Rattle.ir_print.specs.Layout.{IsShallow}
+use Rattle.ir_print.specs.Pieces.{ValueTree, Entity, entity, operation}
+use Rattle.ir_program.specs.declared.handles.Operation.{Operation}
+use Rattle.ir_program.specs.declared.handles.Ptr.{Ptr}
+use Rattle.ir_program.specs.declared.handles.Value.{Value}
+use Rattle.ir_trees.specs.Searched.{AreDistinct}
+use Rattle.ir_trees.specs.Renames.{names_of}
+use Rattle.ir_trees.specs.Stands.{by_handle, head_of, ProgramHead, StandsFor}
+use Rattle.ir_trees.specs.Trees.{Regions}
+use Rattle.opt_trees.specs.Occurrences.{Has, defined_in}
+use Rattle.text_dialect.specs.Seen.{seen, seen_operation}
+use Rattle.text_dialect.specs.Standing.{HasHead, HasOwnLabel, HaveRegionTrees, StandsForTexts}
+use Rattle.text_rereading.proofs.Fits.{tree_fits}
+use Rattle.text_rereading.specs.Rereading.{Named}
+use Rattle.kit.specs.Meaning.{KitOperation, KitBlock}
+use Rattle.kit_language.specs.Language.{kit_language}
+use Rattle.kit_ruled_passes.specs.Scopes.{IsNone, Scoped}
+use Rattle.kit_texts.specs.Says.{says, values}
+use Rattle.kit_texts.specs.Forms.{formats}
+use Rattle.kit_texts.specs.Readable.{says_types, says_attributes, says_operations}
+use Rattle.kit_writable_trees.specs.Laws.{KitContext, KitTree}
+use Rattle.kit_writable_trees.specs.Writable.{count_of, IsWritableHead, IsWritableRoot}
+use Rattle.kit_written_trees.specs.Laws.{HasText}
+use Rattle.kit_written_trees.proofs.Known.{regions_known, has_right, has_parts}
+use Rattle.kit_written_trees.proofs.Numbered.{place_in, is_found, are_numbered}
+use Rattle.kit_written_trees.proofs.Scoping.{in_by_has, scope_kept, names_same, definitions_same, all_in, regions_scoped}
+use Rattle.kit_written_trees.proofs.Standing.{head_so, have_region_trees}
+use Rattle.kit_written_trees.proofs.Written.{Part, named_so, head_text, written, shapes_so, as_many, are_regions, is_shallow, is_bare, is_labelled, none_labelled, none_twice}
+use Rattle.ir_forest.specs.Closed.{AllDistinct}
+
+module _ (s : KitContext) (root : Ptr Operation) (t : KitTree) (stands : StandsFor s.program root t)
+    (w : IsWritableRoot {N = by_handle} s.types.keys t) (no_results : t.head.results ≡ []) (no_operands : t.head.operands ≡ [])
+    (scoped : Scoped t.regions IsNone) (distinct : AreDistinct (defined_in t.regions)) where
+  abbrev ν : Value → ℕ
+  ν v = place_in v (defined_in t.regions)
+
+  abbrev text : Entity ℕ
+  text = entity (head_text s.types.keys ν 64 (count_of t.regions) t.head w.head) (written s.types.keys ν 64 t.regions w.regions)
+
+  abbrev Known : Value → Type 0
+  Known v = Has v (defined_in t.regions)
+
+  named : (v : Value) → Known v → Named (defined_in t.regions) v (ν v)
+  named v has = is_found v (defined_in t.regions) has
+
+  -- the text of a head that is the operation's
+  abbrev HeadSo : ProgramHead KitOperation KitBlock → Type 0
+  HeadSo h = (v : IsWritableHead {N = by_handle} s.types.keys 64 (count_of t.regions) h) → h.results ≡ [] → h.operands ≡ []
+      → HasHead says (Named (defined_in t.regions)) s.types.keys (seen_operation stands.view) v.kind
+          (named_so s.types.keys ν h.results v.shapes) (map ν h.operands) v.pieces
+
+  own_head : HeadSo (head_of root stands.view)
+  own_head v e f = head_so s ν (Named (defined_in t.regions)) Known named 64 (count_of t.regions) root stands.view v
+      (λ x has. absurd (subst (λ ds. Has x (names_of ds)) e has)) (λ x has. absurd (subst (λ xs. Has x xs) f has))
+
+  root_head : HeadSo t.head
+  root_head = subst HeadSo (sym stands.head) own_head
+
+  has_tree : StandsForTexts says (Named (defined_in t.regions)) (seen s) root text
+  has_tree = (
+    seen_operation stands.view,
+    ap (option_map seen_operation) stands.there,
+    root_head w.head no_results no_operands,
+    have_region_trees s ν (Named (defined_in t.regions)) Known named 64 stands.view.regions t.regions w.regions stands.regions
+        (regions_known Known t.regions scoped (λ v has. has)),
+  )
+
+  scoped_root : IsScopedRoot kit_language.isolated text
+  scoped_root = (
+    in_by_has (mentioned_by kit_language.isolated text) (defined_by kit_language.isolated text) (λ n has.
+        let ts = written s.types.keys ν 64 t.regions w.regions in
+        let head = head_text s.types.keys ν 64 (count_of t.regions) t.head w.head in
+        ⊎_elim
+            (λ u. absurd (subst (λ xs. Has n (map ν xs)) no_operands u))
+            (λ i. has_right n (names_so (named_so s.types.keys ν t.head.results w.head.shapes))
+                (in_scope kit_language.isolated head (all_defined kit_language.isolated ts))
+                (scope_kept kit_language.isolated s.types.keys ν (is_isolated_head kit_language.isolated head)
+                (all_mentioned kit_language.isolated ts) (all_defined kit_language.isolated ts)
+                (λ m. all_in kit_language.isolated s.types.keys ν 64 t.regions w.regions scoped m) n i))
+            (has_parts n (map ν t.head.operands) (in_scope kit_language.isolated head (all_mentioned kit_language.isolated ts))
+            has)),
+    (
+      tt,
+      regions_scoped kit_language.isolated s.types.keys ν (kit_language.isolated w.head.kind) 64 t.regions w.regions scoped,
+    ),
+  )
+
+  closed : IsClosed kit_language text
+  closed = record {
+    operation = (
+      shapes_so s.types.keys ν _ t.head.results w.head.shapes w.head.typed ∙ w.head.read,
+      w.head.holds ∙ sym (as_many s.types.keys ν 64 t.regions w.regions),
+      are_regions s.types.keys ν 64 t.regions w.regions,
+    );
+    fits = tree_fits says formats values says_types says_attributes says_operations (Named (defined_in t.regions)) HasOwnLabel
+        (seen s) text root has_tree;
+    scoped = scoped_root;
+    shallow = (w.head.flat, is_shallow s.types.keys ν 64 t.regions w.regions);
+    labelled = (
+      subst AllDistinct (sym (none_labelled s.types.keys ν 64 t.regions w.regions)) none_twice,
+      is_labelled s.types.keys ν 64 t.regions w.regions,
+    );
+    bare = (w.head.bare, is_bare s.types.keys ν 64 t.regions w.regions);
+  }
+
+  -- all definitions are those in the regions, by their numbers
+  definitions : definitions_of text ≡ map ν (defined_in t.regions)
+  definitions =
+      (λ i. names_same kit_language.isolated s.types.keys ν _ t.head.results w.head.shapes w.head.typed i
+          ++ definitions_same kit_language.isolated s.types.keys ν 64 t.regions w.regions i)
+      ∙ ap (λ ds. map ν (names_of ds) ++ map ν (defined_in t.regions)) no_results
+
+  numbered : IsNumbered text
+  numbered =
+      let counted = definitions ∙ are_numbered (defined_in t.regions) distinct in
+      counted ∙ ap (range_with_len 0)
+      (sym (ap length counted ∙ length-range_with_len 0 (length (defined_in t.regions))))
+
+  pub has_text : HasText s root
+  has_text = record {
+    values = defined_in t.regions;
+    text = text;
+    stands = has_tree;
+    closed = closed;
+    numbered = numbered;
+  }

@@ -1,0 +1,34 @@
+-- The statements of the laws.
+use Rattle.std.specs.Prelude.{◌≡◌, ℕ, List, []}
+use Rattle.ir_forest.specs.Closed.{IsClosed, IsNumbered}
+use Rattle.ir_print.specs.Pieces.{Entity}
+use Rattle.ir_program.specs.declared.handles.Operation.{Operation}
+use Rattle.ir_program.specs.declared.handles.Ptr.{Ptr}
+use Rattle.ir_program.specs.declared.handles.Value.{Value}
+use Rattle.ir_trees.specs.Searched.{AreDistinct}
+use Rattle.ir_trees.specs.Stands.{StandsFor}
+use Rattle.opt_trees.specs.Occurrences.{defined_in}
+use Rattle.text_dialect.specs.Seen.{seen}
+use Rattle.text_dialect.specs.Standing.{StandsForTexts}
+use Rattle.text_rereading.specs.Rereading.{Named}
+use Rattle.kit_language.specs.Language.{kit_language}
+use Rattle.kit_ruled_passes.specs.Scopes.{IsNone, Scoped}
+use Rattle.kit_texts.specs.Says.{says}
+use Rattle.kit_writable_trees.specs.Laws.{KitContext, KitTree}
+use Rattle.kit_writable_trees.specs.Writable.{IsWritableRoot}
+
+-- an operation of a context has a tree of texts: one that is closed, whose definitions have the numbers from 0 on, in the order
+-- of the text, and are these values
+pub record HasText (s : KitContext) (root : Ptr Operation) : Type 0 where
+  pub values : List Value
+  pub text : Entity ℕ
+  pub stands : StandsForTexts says (Named values) (seen s) root text
+  pub closed : IsClosed kit_language text
+  pub numbered : IsNumbered text
+
+-- an operation that can be written has one, where it has no results and takes no operands, each operation in it takes values of
+-- its own block and of its region's entry block alone, and no value is defined twice
+abbrev pub WritableHaveTexts : Type 0
+WritableHaveTexts = (s : KitContext) (root : Ptr Operation) (t : KitTree) → StandsFor s.program root t →
+    IsWritableRoot s.types.keys t → t.head.results ≡ [] → t.head.operands ≡ [] → Scoped t.regions IsNone →
+    AreDistinct (defined_in t.regions) → HasText s root
