@@ -1,0 +1,12 @@
+pub mod InTrees
+pub mod AloneAfter
+pub mod HomesAfter
+pub mod NoLiveUse
+pub mod RootSurroundings
+pub mod ReadModules
+pub mod LeftApart
+pub mod PassIncludes
+pub mod ConstantsPut
+pub mod PropagatedApart
+pub mod RemovedApart
+pub mod SimplifiedApart

@@ -1,0 +1,34 @@
+-- Modules of a context that stay apart from all else in it.
+use Rattle.std.specs.Prelude.{IsSome}
+use Rattle.ir_program.specs.Program.{operation_at}
+use Rattle.ir_program.specs.declared.handles.Operation.{Operation}
+use Rattle.ir_program.specs.declared.handles.Ptr.{Ptr}
+use Rattle.ir_trees.specs.Stands.{by_handle, StandsFor}
+use Rattle.opt_inside.specs.Around.{SaysAround}
+use Rattle.opt_trees.specs.Dce.{Around}
+use Rattle.text_dialect.specs.Seen.{Seen}
+use Rattle.kit.specs.Meaning.{kit}
+use Rattle.kit_ops.specs.declared.attributes.IntegerAttr.{IntegerAttr}
+use Rattle.kit_ops.specs.declared.attributes.KitAttr.{KitAttr}
+use Rattle.kit_ops.specs.declared.kinds.KitOp.{KitOp}
+use Rattle.kit_ops.specs.declared.types.KitType.{KitType}
+use Rattle.kit_ruled_passes.specs.Entering.{IsEnteredNowhere}
+use Rattle.kit_ruled_views.specs.Functions.{KitContext, IsSelfContained, KeepsRules}
+use Rattle.kit_ruled_views.specs.Ruled.{KitTree}
+
+-- an operation of a context stands for a module that keeps the rules, and no operation outside it leads to a block in it
+-- or takes a value of it
+pub record HoldsModule (s : KitContext) (root : Ptr Operation) : Type 0 where
+  pub live : IsSome (operation_at s.program root)
+  pub rules : KeepsRules s root
+  pub entered : IsEnteredNowhere s root
+  pub contained : IsSelfContained s root
+
+-- it holds of the module's tree and of what the context says beside it
+abbrev pub OfModule : KitContext → Ptr Operation → (Around by_handle IntegerAttr → KitTree → Type 0) → Type 0
+OfModule s root P = (w : Around by_handle IntegerAttr) → SaysAround kit s.program root w →
+    (t : KitTree) → StandsFor s.program root t → P w t
+
+-- what texts need of a context of `kit`
+abbrev pub KitSeen : Type 0
+KitSeen = Seen KitOp KitAttr KitType
