@@ -1,7 +1,7 @@
 -- Deciding branches, removing blocks and joining chains, one after the other, make of a program what simplifying makes
 -- of the tree of an operation.
-use Rattle.std.proofs.Common.{◌≡◌, IsSome, refl, sym, subst}
-use Rattle.ir_program.specs.Program.{Program}
+use Rattle.std.proofs.Common.{◌≡◌, Option, Some, None, IsSome, refl, sym, subst}
+use Rattle.ir_program.specs.Program.{Program, operation_at}
 use Rattle.ir_program.specs.declared.handles.IRNode.TheVariants.{Operation as OperationNode, Region as RegionNode, BasicBlock as BlockNode}
 use Rattle.ir_program.specs.declared.handles.Ptr.{Ptr}
 use Rattle.ir_program.specs.declared.handles.Operation.{Operation}
@@ -14,7 +14,7 @@ use Rattle.opt_trees.specs.Simplify.{all_of, decided}
 use Rattle.opt_inside.specs.Outside.{KeepsOutside, ChangesOperandsOutside}
 use Rattle.opt_decide.specs.Phase.{DecidesBranches, BringsNoneInside, maps_of}
 use Rattle.opt_simplify.specs.Phases.{RemovesBlocks}
-use Rattle.opt_chains.specs.Phases.{MergesBlocks}
+use Rattle.opt_chains.specs.Phases.{AddsNoneOutside, MergesBlocks}
 use Rattle.ir_opts.specs.SimplifiedTree.{SimplifiesTree}
 use Rattle.ir_opts.proofs.SimplifiedNames.{CutsAndJoins, renamed_back, done_back, simplified_by}
 
@@ -74,6 +74,18 @@ module _ {O B A : Type 0} (d : Dialect (in_program O B) A) (old branched reduced
   outside = outside_then op old branched new merged.joined.names decides.outside decides.inside
       (outside_then op branched reduced new merged.joined.names removed.outside inside merged.outside)
 
+  none_come : AddsNoneOutside old new op
+  none_come p live out =
+      let joined = merged.none_come p live out in
+      let cut = removed.none_come p joined.0 joined.1 in
+      let v = there (operation_at branched p) cut.0 in
+      let was = decides.around_it p v.0 cut.1 v.1 in
+      (subst IsSome (sym was.1) refl, was.0)
+    where
+      there : {X : Type 0} (o : Option X) → IsSome o → (x : X) × (o ≡ Some x)
+      there (Some x) h = (x, refl)
+      there None h = cc
+
   pub simplifies_tree : SimplifiesTree d old new op t
   simplifies_tree =
       let s = simplified_by (Ptr Operation) (Ptr BasicBlock) Value (in_program O B) f decides.twice d decides.around t
@@ -91,4 +103,5 @@ module _ {O B A : Type 0} (d : Dialect (in_program O B) A) (old branched reduced
             (sym (renamed_back (Ptr Operation) (Ptr BasicBlock) Value (in_program O B) f decides.twice merged.after))
             merged.stands;
         outside = subst (ChangesOperandsOutside old new op) (sym s.1) outside;
+        none_come = none_come;
       }

@@ -10,11 +10,12 @@ use Rattle.opt_trees.specs.Dialect.{Dialect}
 use Rattle.opt_trees.specs.Simplify.{IsSimplify}
 use Rattle.opt_inside.specs.Around.{SaysAround}
 use Rattle.opt_inside.specs.Outside.{ChangesOperandsOutside}
+use Rattle.opt_chains.specs.Phases.{AddsNoneOutside}
 use Rattle.opt_decide.specs.Phase.{maps_of}
 
 -- the operation stands for its tree, simplified, up to the handles of new branches: each of these, which led nowhere,
 -- and the handle of the branch in whose place it is change places. What isn't inside the operation is as it was, but
--- for operands: in place of an argument of a block that went is what was forwarded to it
+-- for operands: in place of an argument of a block that went is what was forwarded to it; and nothing comes there
 pub record SimplifiesTree {O B A : Type 0} (d : Dialect (in_program O B) A) (old new : Program O B)
     (op : Ptr Operation) (t : ProgramTree O B) : Type 0 where
   pub around : Around by_handle A
@@ -28,3 +29,4 @@ pub record SimplifiesTree {O B A : Type 0} (d : Dialect (in_program O B) A) (old
   pub root : names op ≡ op
   pub stands : StandsFor new op (rename_root (maps_of names) after)
   pub outside : ChangesOperandsOutside old new op simplified.is_joined.names
+  pub none_come : AddsNoneOutside old new op

@@ -1,4 +1,4 @@
--- A module without what is dead is apart from all else, if it was and nothing comes outside it.
+-- A module without what is dead is apart from all else, if it was.
 use Rattle.std.proofs.Common.{◌≡◌, ◌⊎◌, inl, ⊎_elim, Some, None, IsSome, refl, sym, ap, subst}
 use Rattle.ir_program.specs.Lists.{StandsInside}
 use Rattle.ir_program.specs.Program.{OperationView, operation_at}
@@ -14,13 +14,12 @@ use Rattle.opt_trees.specs.Occurrences.{Has}
 use Rattle.kit.specs.Meaning.{KitOperation, kit}
 use Rattle.kit_ruled_views.specs.Ruled.{KitTree}
 use Rattle.kit_ruled_passes.specs.Scopes.{KitProgram}
-use Rattle.kit_held_modules.specs.Apart.{AddsNoneOutside}
 use Rattle.kit_held_modules.proofs.InTrees.{operation_reached, block_reached, block_inside, same_some}
 use Rattle.kit_held_modules.proofs.LeftApart.{IsKnownBefore, StoodOutside, LeavesApart, below_root, something}
 use Rattle.kit_held_modules.proofs.PassIncludes.{thinned_less}
 
 module _ (old new : KitProgram) (root : Ptr Operation) (known : IsKnownBefore old root) (t : KitTree)
-    (stands : StandsFor old root t) (done : MakesDce kit old new root t) (none : AddsNoneOutside old new root) where
+    (stands : StandsFor old root t) (done : MakesDce kit old new root t) where
   abbrev after : KitTree
   after = record { head = t.head; regions = thin kit done.dce.gone t.regions }
 
@@ -43,7 +42,7 @@ module _ (old new : KitProgram) (root : Ptr Operation) (known : IsKnownBefore ol
       → (StandsInside new (OperationNode root) (OperationNode p) → ⊥) → operation_at new p ≡ Some v
       → StoodOutside old new root p v
   outside_was p v out there =
-      let was = none p (subst IsSome (sym there) refl) out in
+      let was = done.none_come p (subst IsSome (sym there) refl) out in
       let w = something (operation_at old p) was.0 in
       let same : v ≡ w.0 =
       same_some (operation_at new p) v w.0 there (done.outside.operations p w.0 was.1 w.1) in

@@ -1,4 +1,4 @@
--- A module whose control flow is simplified is apart from all else, if it was and nothing comes outside it.
+-- A module whose control flow is simplified is apart from all else, if it was.
 use Rattle.std.proofs.Common.{◌≡◌, ◌⊎◌, inl, inr, ⊎_elim, map, Some, None, IsSome, refl, sym, ap, ◌∙◌, subst}
 use Rattle.ir_program.specs.Lists.{StandsInside}
 use Rattle.ir_program.specs.Program.{OperationView, operation_at}
@@ -21,7 +21,6 @@ use Rattle.kit.specs.Meaning.{KitOperation, kit}
 use Rattle.kit_views.proofs.Lists.{has_get}
 use Rattle.kit_ruled_views.specs.Ruled.{KitTree}
 use Rattle.kit_ruled_passes.specs.Scopes.{KitProgram}
-use Rattle.kit_held_modules.specs.Apart.{AddsNoneOutside}
 use Rattle.kit_held_modules.proofs.InTrees.{Includes, includes_both, operation_reached, block_reached, operation_held}
 use Rattle.kit_held_modules.proofs.InTrees.{block_inside, same_some}
 use Rattle.kit_held_modules.proofs.LeftApart.{IsKnownBefore, StoodOutside, LeavesApart, below_root, something}
@@ -36,7 +35,7 @@ followed p r _ _ (goes_on v u x g rest) =
     (has_get (names_of g.joins.target.label.arguments) g.place v g.takes))
 
 module _ (old new : KitProgram) (root : Ptr Operation) (known : IsKnownBefore old root) (t : KitTree)
-    (stands : StandsFor old root t) (done : SimplifiesTree kit old new root t) (none : AddsNoneOutside old new root)
+    (stands : StandsFor old root t) (done : SimplifiesTree kit old new root t)
   where
     cut_less : Includes done.simplified.cut.regions t.regions
     cut_less =
@@ -95,7 +94,7 @@ module _ (old new : KitProgram) (root : Ptr Operation) (known : IsKnownBefore ol
         → (StandsInside new (OperationNode root) (OperationNode p) → ⊥) → operation_at new p ≡ Some v
         → StoodOutside old new root p v
     outside_was p v out there =
-        let was = none p (subst IsSome (sym there) refl) out in
+        let was = done.none_come p (subst IsSome (sym there) refl) out in
         let w = something (operation_at old p) was.0 in
         let same : v ≡ record w.0 { operands = map done.simplified.is_joined.names w.0.operands } =
         same_some (operation_at new p) v (record w.0 { operands = map done.simplified.is_joined.names w.0.operands }) there

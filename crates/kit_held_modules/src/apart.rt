@@ -3,7 +3,6 @@ ghost use Rattle.std.specs.Prelude.{IsSome};
 ghost use Rattle.ir_opts.specs.SimplifiedTree.{SimplifiesTree};
 ghost use Rattle.ir_program.specs.Program.{operation_at};
 ghost use Rattle.kit.specs.Meaning.{kit};
-ghost use Rattle.kit_held_modules.specs.Apart.{AddsNoneOutside};
 ghost use Rattle.kit_ruled_passes.specs.Entering.{IsEnteredNowhere};
 ghost use Rattle.kit_ruled_views.specs.Functions.{IsSelfContained, KitContext};
 ghost use Rattle.opt_dce.specs.Thins.{IsOutcome};
@@ -33,17 +32,15 @@ pub fn sccp_stays_apart(ctx: &Context<Kit>, root: Ptr<Operation>)
     know_tree(program, root);
 }
 
-/// Tells of a context, before what is dead is taken out of an operation, that the operation stays apart, where nothing
-/// comes outside it. It does nothing.
+/// Tells of a context, before what is dead is taken out of an operation, that the operation stays apart. It does
+/// nothing.
 pub fn dce_stays_apart(ctx: &Context<Kit>, root: Ptr<Operation>)
     requires { IsSome (operation_at ctx.now.program root) }
     ensures entered { (new : KitContext) (answer : IRStatus)
         → OfItsTree ctx.now.program root (λ t. IsOutcome kit ctx.now.program new.program root t answer)
-        → AddsNoneOutside ctx.now.program new.program root
         → IsEnteredNowhere ctx.now root → IsEnteredNowhere new root }
     ensures contained { (new : KitContext) (answer : IRStatus)
         → OfItsTree ctx.now.program root (λ t. IsOutcome kit ctx.now.program new.program root t answer)
-        → AddsNoneOutside ctx.now.program new.program root
         → IsSelfContained ctx.now root → IsSelfContained new root }
 {
     let program = ctx.program();
@@ -53,17 +50,15 @@ pub fn dce_stays_apart(ctx: &Context<Kit>, root: Ptr<Operation>)
     know_tree(program, root);
 }
 
-/// Tells of a context, before control flow is simplified below an operation, that the operation stays apart, where
-/// nothing comes outside it. It does nothing.
+/// Tells of a context, before control flow is simplified below an operation, that the operation stays apart. It does
+/// nothing.
 pub fn simplify_stays_apart(ctx: &Context<Kit>, root: Ptr<Operation>)
     requires { IsSome (operation_at ctx.now.program root) }
     ensures entered { (new : KitContext)
         → OfItsTree ctx.now.program root (λ t. SimplifiesTree kit ctx.now.program new.program root t)
-        → AddsNoneOutside ctx.now.program new.program root
         → IsEnteredNowhere ctx.now root → IsEnteredNowhere new root }
     ensures contained { (new : KitContext)
         → OfItsTree ctx.now.program root (λ t. SimplifiesTree kit ctx.now.program new.program root t)
-        → AddsNoneOutside ctx.now.program new.program root
         → IsSelfContained ctx.now root → IsSelfContained new root }
 {
     let program = ctx.program();

@@ -1,11 +1,9 @@
 -- What stands for a closed tree of texts can be written.
 use Rattle.std.proofs.Common.{◌≡◌, ◌∙◌, ℕ, zero, suc, List, [], ◌∷◌, ◌++◌, map, length, Option, Some, None, refl, ap, sym, subst, slice_get, option_map}
 use Rattle.std.proofs.lemmas.Option.{none-some}
-use Rattle.ir_base.specs.declared.types.TypeHandle.{TypeHandle}
 use Rattle.ir_names.specs.declared.identifier.Identifier.{Identifier}
-use Rattle.ir_names.specs.Identifier.{text_of}
 use Rattle.ir_forest.specs.Bare.{AreBare, AreBareTrees, IsBare, AreBareArguments}
-use Rattle.ir_forest.specs.Closed.{AllDistinct, IsClosed, IsLabelled, AreLabelled, labels_of, number_in, regions_said, AreOperations, AreBlocks, AreRegions}
+use Rattle.ir_forest.specs.Closed.{AllDistinct, IsClosed, AreLabelled, labels_of, number_in, regions_said, AreOperations, AreBlocks, AreRegions}
 use Rattle.ir_print.specs.Layout.{Deeper, IsFlat, AreFlat, AreShallow, AreFlatArguments}
 use Rattle.ir_print.specs.Pieces.{ValueTree, Pieces, operation, a_region, block, Entity, entity, Entities, no_entity, an_entity}
 use Rattle.ir_print.specs.Shown.{Pairs, ShowsType}
@@ -15,18 +13,17 @@ use Rattle.ir_program.specs.declared.handles.Operation.{Operation}
 use Rattle.ir_program.specs.declared.handles.Region.{Region}
 use Rattle.ir_program.specs.declared.handles.BasicBlock.{BasicBlock}
 use Rattle.ir_program.specs.declared.handles.Value.{Value}
-use Rattle.ir_trees.specs.Stands.{by_handle, in_program, head_of, label_of, defined_by, AreTree, no_operations, no_blocks, no_regions, first_operation, first_block, first_region, StandsFor}
+use Rattle.ir_trees.specs.Stands.{by_handle, in_program, head_of, defined_by, AreTree, no_operations, no_blocks, no_regions, first_operation, first_block, first_region, StandsFor}
 use Rattle.ir_trees.specs.Trees.{Sort, Operations, Blocks, Regions, Tree}
-use Rattle.text_dialect.specs.Seen.{SeenOperation, SeenBlock, Seen, seen, seen_operation, seen_block, types_of}
-use Rattle.text_dialect.specs.Standing.{HasDefinition, HasHead, HasOwnLabel, IsLabel, HasTree, HasRegionTree, HasBlockTree, HaveRegionTrees, HaveBlockTrees, HaveTrees, StandsForTexts}
+use Rattle.text_dialect.specs.Seen.{SeenOperation, SeenBlock, seen, seen_operation, seen_block, types_of}
+use Rattle.text_dialect.specs.Standing.{HasDefinition, HasHead, HasOwnLabel, IsLabel, HaveRegionTrees, HaveBlockTrees, HaveTrees, StandsForTexts}
 use Rattle.kit.specs.Meaning.{KitOperation, KitBlock}
 use Rattle.kit_language.specs.Language.{kit_language}
 use Rattle.kit_ops.specs.declared.attributes.KitAttr.{KitAttr}
 use Rattle.kit_ops.specs.declared.kinds.KitOp.{KitOp}
-use Rattle.kit_ops.specs.declared.types.KitType.{KitType}
 use Rattle.kit_texts.specs.Says.{says, values}
 use Rattle.kit_writable_trees.specs.Laws.{KitContext, KitTree}
-use Rattle.kit_writable_trees.specs.Writable.{types_in, count_of, label_text, labels_in, AreWritten, IsWritableHead, IsWritableLabel, IsWritable, IsWritableRoot}
+use Rattle.kit_writable_trees.specs.Writable.{types_in, count_of, label_text, labels_in, IsWritableHead, IsWritable, IsWritableRoot}
 
 some_parts : {X : Type 0} (x y : X) → Some x ≡ Some y → x ≡ y
 some_parts x y e = cc

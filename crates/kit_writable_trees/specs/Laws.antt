@@ -1,5 +1,5 @@
 -- The statements of the laws.
-use Rattle.std.specs.Prelude.{◌≡◌, ℕ, List}
+use Rattle.std.specs.Prelude.{ℕ, List}
 use Rattle.ir_context.specs.Views.{ContextView}
 use Rattle.ir_forest.specs.Closed.{IsClosed}
 use Rattle.ir_print.specs.Pieces.{Entity}

@@ -1,6 +1,6 @@
 -- Which trees of operations of `kit` can be written as texts. What is asked is said of each operation, block and region by
 -- itself, in the places where it stands; that operands are in scope the rules of the dialect say.
-use Rattle.std.specs.Prelude.{◌≡◌, ℕ, suc, zero, ◌++◌, List, [], ◌∷◌, map, Option, Some, None, length, slice_get}
+use Rattle.std.specs.Prelude.{◌≡◌, ℕ, suc, ◌++◌, List, [], ◌∷◌, map, Option, Some, None, length, slice_get}
 use Rattle.ir_base.specs.declared.types.TypeHandle.{TypeHandle}
 use Rattle.ir_names.specs.declared.identifier.Identifier.{Identifier}
 use Rattle.ir_names.specs.Identifier.{text_of}
@@ -11,7 +11,7 @@ use Rattle.ir_print.specs.Shown.{Said, Pairs, ShowsAll, ShowsType}
 use Rattle.ir_forest.specs.Bare.{IsBare, AreBare}
 use Rattle.ir_forest.specs.Closed.{AllDistinct, regions_said}
 use Rattle.ir_trees.specs.Names.{Names}
-use Rattle.ir_trees.specs.Trees.{Defined, Head, Label, Sort, Operations, Blocks, Regions, Tree, end, operation, block, region, Root}
+use Rattle.ir_trees.specs.Trees.{Defined, Head, Label, Sort, Blocks, Regions, Tree, end, operation, block, region, Root}
 use Rattle.kit_ops.specs.declared.attributes.KitAttr.{KitAttr}
 use Rattle.kit_ops.specs.declared.types.KitType.{KitType}
 use Rattle.kit_texts.specs.Says.{says, values}

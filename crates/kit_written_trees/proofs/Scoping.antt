@@ -1,10 +1,10 @@
 -- What is written of a tree in which operands are in scope defines what it mentions.
-use Rattle.std.proofs.Common.{if◌then◌else◌, ◌≡◌, ◌∙◌, ◌⊎◌, inl, inr, ⊎_elim, ℕ, zero, suc, Bool, true, false, List, [], ◌∷◌, ◌++◌, map, Some, refl, ap, sym, subst, slice_get}
+use Rattle.std.proofs.Common.{if◌then◌else◌, ◌≡◌, ◌∙◌, ◌⊎◌, inl, inr, ⊎_elim, ℕ, zero, suc, Bool, true, false, List, [], ◌∷◌, ◌++◌, map, refl, ap, sym, subst}
 use Rattle.ir_base.specs.declared.types.TypeHandle.{TypeHandle}
 use Rattle.ir_forest.specs.Closed.{AreIn, all_mentioned, all_defined, all_definitions_of, head_defines, head_mentions, in_scope, is_isolated_head, IsScope, AreScoped}
 use Rattle.ir_names.specs.Identifier.{text_of}
 use Rattle.ir_forest.specs.Closed as text
-use Rattle.ir_print.specs.Pieces.{ValueTree, Pieces, operation, a_region, block, Head, Entities}
+use Rattle.ir_print.specs.Pieces.{ValueTree, Pieces, operation, a_region, block, Entities}
 use Rattle.ir_print.specs.Shown.{Pairs}
 use Rattle.ir_program.specs.declared.handles.Value.{Value}
 use Rattle.ir_trees.specs.Renames.{names_of}
@@ -17,7 +17,7 @@ use Rattle.kit_ruled_passes.specs.Scopes.{KitLabel, IsResultHere, IsOfBlock, IsO
 use Rattle.kit_writable_trees.specs.Writable.{types_in, count_of, IsWritable}
 use Rattle.kit_written_trees.proofs.Known.{has_left, has_right, has_parts}
 use Rattle.kit_written_trees.proofs.Numbered.{get_has, has_get}
-use Rattle.kit_written_trees.proofs.Written.{Part, named_so, head_text, label_so, written}
+use Rattle.kit_written_trees.proofs.Written.{Part, named_so, head_text, written}
 
 -- each of the first is among the second
 pub in_by_has : {N : Type 0} (xs ys : List N) → ((n : N) → Has n xs → Has n ys) → AreIn xs ys
@@ -56,13 +56,13 @@ module _ {N : Type 0} (isolated : ℕ → Bool) (types : List KitType) (ν : Val
   definitions_same d end w = refl
   definitions_same d (tree.operation h rs rest) w =
       (λ i. (names_same _ h.results w.0.shapes w.0.typed i
-          ++ definitions_same d rs w.1 i) ++ definitions_same d rest w.2 i)
+      ++ definitions_same d rs w.1 i) ++ definitions_same d rest w.2 i)
       ∙ regroup (map ν (names_of h.results)) (map ν (defined_in rs)) (map ν (defined_in rest))
       ∙ ap (λ ns. map ν (names_of h.results) ++ ns) (sym (map_joined ν (defined_in rs) (defined_in rest)))
       ∙ sym (map_joined ν (names_of h.results) (defined_in rs ++ defined_in rest))
   definitions_same d (tree.block l os rest) w =
       (λ i. (names_same _ l.arguments w.0.arguments.shapes w.0.arguments.shown i
-          ++ definitions_same d os w.1 i) ++ definitions_same d rest w.2 i)
+      ++ definitions_same d os w.1 i) ++ definitions_same d rest w.2 i)
       ∙ regroup (map ν (names_of l.arguments)) (map ν (defined_in os)) (map ν (defined_in rest))
       ∙ ap (λ ns. map ν (names_of l.arguments) ++ ns) (sym (map_joined ν (defined_in os) (defined_in rest)))
       ∙ sym (map_joined ν (names_of l.arguments) (defined_in os ++ defined_in rest))
@@ -83,7 +83,7 @@ module _ {N : Type 0} (isolated : ℕ → Bool) (types : List KitType) (ν : Val
       let own = text.names_of (named_so types ν h.results w.0.shapes) in
       let inner = in_scope isolated (head_text types ν d (count_of rs) h w.0) (all_defined isolated (texts d rs w.1)) in
       has_left (ν v) (own ++ inner) (all_defined isolated (texts d rest w.2)) (has_left (ν v) own inner
-          (subst (Has (ν v)) (sym (names_same _ h.results w.0.shapes w.0.typed)) (has_image ν v (names_of h.results) here)))
+      (subst (Has (ν v)) (sym (names_same _ h.results w.0.shapes w.0.typed)) (has_image ν v (names_of h.results) here)))
   result_here d (tree.operation h rs rest) w v (inr there) =
       let own = text.names_of (named_so types ν h.results w.0.shapes) in
       let inner = in_scope isolated (head_text types ν d (count_of rs) h w.0) (all_defined isolated (texts d rs w.1)) in
@@ -96,13 +96,13 @@ module _ {N : Type 0} (isolated : ℕ → Bool) (types : List KitType) (ν : Val
       let own = text.names_of (named_so types ν l.arguments w.0.arguments.shapes) in
       let inner = all_defined isolated (texts d os w.1) in
       has_left (ν v) (own ++ inner) (all_defined isolated (texts d rest w.2)) (has_left (ν v) own inner
-          (subst (Has (ν v)) (sym (names_same _ l.arguments w.0.arguments.shapes w.0.arguments.shown))
-          (has_image ν v (names_of l.arguments) here)))
+      (subst (Has (ν v)) (sym (names_same _ l.arguments w.0.arguments.shapes w.0.arguments.shown))
+      (has_image ν v (names_of l.arguments) here)))
   of_block d l os rest w v (inr there) =
       let own = text.names_of (named_so types ν l.arguments w.0.arguments.shapes) in
       let inner = all_defined isolated (texts d os w.1) in
       has_left (ν v) (own ++ inner) (all_defined isolated (texts d rest w.2))
-          (has_right (ν v) own inner (result_here d os w.1 v there))
+      (has_right (ν v) own inner (result_here d os w.1 v there))
 
   of_entry : (d : ℕ) (bs : Part Blocks) (w : IsWritable {N = by_handle} types d bs) (v : Value) → IsOfEntry bs v
       → Has (ν v) (all_defined isolated (texts d bs w))
@@ -133,15 +133,15 @@ module _ {N : Type 0} (isolated : ℕ → Bool) (types : List KitType) (ν : Val
         let inner = in_scope isolated head (all_defined isolated (texts d rs w.1)) in
         let later = all_defined isolated (texts d rest w.2) in
         ⊎_elim
-            (λ here. ⊎_elim
-                (λ u. let v = of_image ν n h.operands u in inl (v.0, scoped.0 v.0 v.1, v.2))
-                (λ i. inr (has_left n (own ++ inner) later (has_right n own inner
-                    (scope_kept (is_isolated_head isolated head) (all_mentioned isolated (texts d rs w.1))
-                    (all_defined isolated (texts d rs w.1)) (λ m. regions_mention d rs w.1 P scoped.1 m) n i))))
-                (has_parts n used mentioned here))
-            (λ there. ⊎_elim (λ v. inl v) (λ i. inr (has_right n (own ++ inner) later i))
-                (operations_mention d rest w.2 P scoped.2 n there))
-            (has_parts n (used ++ mentioned) (all_mentioned isolated (texts d rest w.2)) has)
+        (λ here. ⊎_elim
+        (λ u. let v = of_image ν n h.operands u in inl (v.0, scoped.0 v.0 v.1, v.2))
+        (λ i. inr (has_left n (own ++ inner) later (has_right n own inner
+        (scope_kept (is_isolated_head isolated head) (all_mentioned isolated (texts d rs w.1))
+        (all_defined isolated (texts d rs w.1)) (λ m. regions_mention d rs w.1 P scoped.1 m) n i))))
+        (has_parts n used mentioned here))
+        (λ there. ⊎_elim (λ v. inl v) (λ i. inr (has_right n (own ++ inner) later i))
+        (operations_mention d rest w.2 P scoped.2 n there))
+        (has_parts n (used ++ mentioned) (all_mentioned isolated (texts d rest w.2)) has)
 
     regions_mention : (d : ℕ) (rs : Part Regions) (w : IsWritable {N = by_handle} types d rs) (P : Value → Type 0)
         → Scoped rs IsNone → (n : N)
@@ -152,11 +152,11 @@ module _ {N : Type 0} (isolated : ℕ → Bool) (types : List KitType) (ν : Val
         let here = all_defined isolated (texts e bs w.0) in
         let later = all_defined isolated (texts (suc e) rest w.2) in
         ⊎_elim
-            (λ h. has_left n here later (⊎_elim
-                (λ v. subst (λ m. Has m here) (sym v.2) (of_entry e bs w.0 v.0 v.1)) (λ i. i)
-                (blocks_mention e bs w.0 (IsOfEntry bs) scoped.0 n h)))
-            (λ h. has_right n here later (regions_mention (suc e) rest w.2 P scoped.1 n h))
-            (has_parts n (all_mentioned isolated (texts e bs w.0)) (all_mentioned isolated (texts (suc e) rest w.2)) has)
+        (λ h. has_left n here later (⊎_elim
+        (λ v. subst (λ m. Has m here) (sym v.2) (of_entry e bs w.0 v.0 v.1)) (λ i. i)
+        (blocks_mention e bs w.0 (IsOfEntry bs) scoped.0 n h)))
+        (λ h. has_right n here later (regions_mention (suc e) rest w.2 P scoped.1 n h))
+        (has_parts n (all_mentioned isolated (texts e bs w.0)) (all_mentioned isolated (texts (suc e) rest w.2)) has)
 
     blocks_mention : (d : ℕ) (bs : Part Blocks) (w : IsWritable {N = by_handle} types d bs) (P : Value → Type 0)
         → Scoped bs P → (n : N) → Has n (all_mentioned isolated (texts d bs w))
@@ -167,15 +167,15 @@ module _ {N : Type 0} (isolated : ℕ → Bool) (types : List KitType) (ν : Val
         let inner = all_defined isolated (texts d os w.1) in
         let later = all_defined isolated (texts d rest w.2) in
         ⊎_elim
-            (λ here. ⊎_elim
-                (λ v. ⊎_elim
-                    (λ o. inr (subst (λ m. Has m ((own ++ inner) ++ later)) (sym v.2) (of_block d l os rest w v.0 o)))
-                    (λ p. inl (v.0, p, v.2)) v.1)
-                (λ i. inr (has_left n (own ++ inner) later (has_right n own inner i)))
-                (operations_mention d os w.1 (λ x. IsOfBlock l os x ⊎ P x) scoped.0 n here))
-            (λ there. ⊎_elim (λ v. inl v) (λ i. inr (has_right n (own ++ inner) later i))
-                (blocks_mention d rest w.2 P scoped.1 n there))
-            (has_parts n (all_mentioned isolated (texts d os w.1)) (all_mentioned isolated (texts d rest w.2)) has)
+        (λ here. ⊎_elim
+        (λ v. ⊎_elim
+        (λ o. inr (subst (λ m. Has m ((own ++ inner) ++ later)) (sym v.2) (of_block d l os rest w v.0 o)))
+        (λ p. inl (v.0, p, v.2)) v.1)
+        (λ i. inr (has_left n (own ++ inner) later (has_right n own inner i)))
+        (operations_mention d os w.1 (λ x. IsOfBlock l os x ⊎ P x) scoped.0 n here))
+        (λ there. ⊎_elim (λ v. inl v) (λ i. inr (has_right n (own ++ inner) later i))
+        (blocks_mention d rest w.2 P scoped.1 n there))
+        (has_parts n (all_mentioned isolated (texts d os w.1)) (all_mentioned isolated (texts d rest w.2)) has)
 
   -- what is mentioned in the blocks of a region is defined in them
   region_mentions : (d : ℕ) (bs : Part Blocks) (w : IsWritable {N = by_handle} types d bs) → Scoped bs (IsOfEntry bs)

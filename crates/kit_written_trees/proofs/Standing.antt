@@ -1,11 +1,10 @@
 -- What is written of a tree is the tree of texts of the operation that it is the tree of.
-use Rattle.std.proofs.Common.{◌≡◌, ◌∙◌, inl, inr, ℕ, zero, suc, List, [], ◌∷◌, map, length, Option, Some, None, option_map, refl, ap, sym, subst}
-use Rattle.ir_base.specs.declared.types.TypeHandle.{TypeHandle}
+use Rattle.std.proofs.Common.{◌≡◌, ◌∙◌, inl, inr, ℕ, zero, suc, List, [], ◌∷◌, map, length, Option, Some, option_map, refl, ap, sym, subst}
 use Rattle.ir_names.specs.declared.identifier.Identifier.{Identifier}
 use Rattle.ir_names.specs.Identifier.{text_of}
 use Rattle.ir_print.specs.Pieces.{ValueTree}
 use Rattle.ir_print.specs.Shown.{Pairs, ShowsType}
-use Rattle.ir_program.specs.Program.{OperationView, BlockView, RegionView, TypedValue, operation_at, block_at, region_at}
+use Rattle.ir_program.specs.Program.{OperationView, RegionView, TypedValue}
 use Rattle.ir_program.specs.declared.handles.Ptr.{Ptr}
 use Rattle.ir_program.specs.declared.handles.Operation.{Operation}
 use Rattle.ir_program.specs.declared.handles.Region.{Region}
@@ -13,17 +12,16 @@ use Rattle.ir_program.specs.declared.handles.BasicBlock.{BasicBlock}
 use Rattle.ir_program.specs.declared.handles.Value.{Value}
 use Rattle.ir_trees.specs.Renames.{names_of}
 use Rattle.ir_trees.specs.Stands.{by_handle, head_of, defined_by, AreTree, no_operations, no_blocks, no_regions, first_operation, first_block, first_region}
-use Rattle.ir_trees.specs.Trees.{Operations, Blocks, Regions, end}
-use Rattle.ir_trees.specs.Trees as tree
+use Rattle.ir_trees.specs.Trees.{Operations, Blocks, Regions}
 use Rattle.opt_trees.specs.Occurrences.{Has}
 use Rattle.text_dialect.specs.Seen.{seen, seen_operation, seen_block, types_of}
 use Rattle.text_dialect.specs.Standing.{HasDefinition, HasHead, HasOwnLabel, IsLabel, HaveRegionTrees, HaveBlockTrees, HaveTrees}
-use Rattle.kit.specs.Meaning.{KitOperation, KitBlock}
+use Rattle.kit.specs.Meaning.{KitOperation}
 use Rattle.kit_texts.specs.Says.{says}
 use Rattle.kit_writable_trees.specs.Laws.{KitContext}
 use Rattle.kit_writable_trees.specs.Writable.{types_in, count_of, IsWritableHead, IsWritable}
 use Rattle.kit_written_trees.proofs.Known.{KnownAll}
-use Rattle.kit_written_trees.proofs.Written.{Part, named_so, head_text, written}
+use Rattle.kit_written_trees.proofs.Written.{Part, named_so, written}
 
 module _ {N : Type 0} (s : KitContext) (ν : Value → N) (Naming : Value → N → Type 0) (Known : Value → Type 0)
     (named : (v : Value) → Known v → Naming v (ν v)) where
@@ -55,7 +53,7 @@ module _ {N : Type 0} (s : KitContext) (ν : Value → N) (Naming : Value → N 
       (w : IsWritableHead {N = by_handle} s.types.keys d regions (head_of p v))
       → ((x : Value) → Has x (names_of (map defined_by v.results)) → Known x) → ((x : Value) → Has x v.operands → Known x)
       → HasHead says Naming s.types.keys (seen_operation v) w.kind (named_so s.types.keys ν (map defined_by v.results) w.shapes)
-          (map ν v.operands) w.pieces
+      (map ν v.operands) w.pieces
   head_so d regions p v w results operands = record {
     said = w.said;
     says_it = ap (λ tys. says.of_operation v.payload.kind v.payload.notes.attributes (length v.operands) tys)

@@ -1,21 +1,19 @@
 -- The text of an operation that can be written.
-use Rattle.std.proofs.Common.{◌≡◌, ◌∙◌, ⊎_elim, ℕ, Bool, List, [], ◌++◌, map, length, Option, Some, option_map, refl, ap, sym, subst}
+use Rattle.std.proofs.Common.{◌≡◌, ◌∙◌, ⊎_elim, ℕ, [], ◌++◌, map, length, option_map, ap, sym, subst}
 use Rattle.std.specs.List.{range_with_len}
 use Rattle.std.proofs.lemmas.List.FromFn.{length-range_with_len}
 use Rattle.ir_forest.specs.Closed.{IsClosed, IsNumbered, IsScopedRoot, all_mentioned, all_defined, definitions_of, mentioned_by, defined_by, in_scope, is_isolated_head}
 use Rattle.ir_forest.specs.Closed.{names_of as names_so}
-use Rattle.ir_print.specs.Layout.{IsShallow}
-use Rattle.ir_print.specs.Pieces.{ValueTree, Entity, entity, operation}
+use Rattle.ir_print.specs.Pieces.{Entity, entity}
 use Rattle.ir_program.specs.declared.handles.Operation.{Operation}
 use Rattle.ir_program.specs.declared.handles.Ptr.{Ptr}
 use Rattle.ir_program.specs.declared.handles.Value.{Value}
 use Rattle.ir_trees.specs.Searched.{AreDistinct}
 use Rattle.ir_trees.specs.Renames.{names_of}
 use Rattle.ir_trees.specs.Stands.{by_handle, head_of, ProgramHead, StandsFor}
-use Rattle.ir_trees.specs.Trees.{Regions}
 use Rattle.opt_trees.specs.Occurrences.{Has, defined_in}
 use Rattle.text_dialect.specs.Seen.{seen, seen_operation}
-use Rattle.text_dialect.specs.Standing.{HasHead, HasOwnLabel, HaveRegionTrees, StandsForTexts}
+use Rattle.text_dialect.specs.Standing.{HasHead, HasOwnLabel, StandsForTexts}
 use Rattle.text_rereading.proofs.Fits.{tree_fits}
 use Rattle.text_rereading.specs.Rereading.{Named}
 use Rattle.kit.specs.Meaning.{KitOperation, KitBlock}
@@ -31,7 +29,7 @@ use Rattle.kit_written_trees.proofs.Known.{regions_known, has_right, has_parts}
 use Rattle.kit_written_trees.proofs.Numbered.{place_in, is_found, are_numbered}
 use Rattle.kit_written_trees.proofs.Scoping.{in_by_has, scope_kept, names_same, definitions_same, all_in, regions_scoped}
 use Rattle.kit_written_trees.proofs.Standing.{head_so, have_region_trees}
-use Rattle.kit_written_trees.proofs.Written.{Part, named_so, head_text, written, shapes_so, as_many, are_regions, is_shallow, is_bare, is_labelled, none_labelled, none_twice}
+use Rattle.kit_written_trees.proofs.Written.{named_so, head_text, written, shapes_so, as_many, are_regions, is_shallow, is_bare, is_labelled, none_labelled, none_twice}
 use Rattle.ir_forest.specs.Closed.{AllDistinct}
 
 module _ (s : KitContext) (root : Ptr Operation) (t : KitTree) (stands : StandsFor s.program root t)
@@ -53,7 +51,7 @@ module _ (s : KitContext) (root : Ptr Operation) (t : KitTree) (stands : StandsF
   abbrev HeadSo : ProgramHead KitOperation KitBlock → Type 0
   HeadSo h = (v : IsWritableHead {N = by_handle} s.types.keys 64 (count_of t.regions) h) → h.results ≡ [] → h.operands ≡ []
       → HasHead says (Named (defined_in t.regions)) s.types.keys (seen_operation stands.view) v.kind
-          (named_so s.types.keys ν h.results v.shapes) (map ν h.operands) v.pieces
+      (named_so s.types.keys ν h.results v.shapes) (map ν h.operands) v.pieces
 
   own_head : HeadSo (head_of root stands.view)
   own_head v e f = head_so s ν (Named (defined_in t.regions)) Known named 64 (count_of t.regions) root stands.view v
@@ -77,14 +75,14 @@ module _ (s : KitContext) (root : Ptr Operation) (t : KitTree) (stands : StandsF
         let ts = written s.types.keys ν 64 t.regions w.regions in
         let head = head_text s.types.keys ν 64 (count_of t.regions) t.head w.head in
         ⊎_elim
-            (λ u. absurd (subst (λ xs. Has n (map ν xs)) no_operands u))
-            (λ i. has_right n (names_so (named_so s.types.keys ν t.head.results w.head.shapes))
-                (in_scope kit_language.isolated head (all_defined kit_language.isolated ts))
-                (scope_kept kit_language.isolated s.types.keys ν (is_isolated_head kit_language.isolated head)
-                (all_mentioned kit_language.isolated ts) (all_defined kit_language.isolated ts)
-                (λ m. all_in kit_language.isolated s.types.keys ν 64 t.regions w.regions scoped m) n i))
-            (has_parts n (map ν t.head.operands) (in_scope kit_language.isolated head (all_mentioned kit_language.isolated ts))
-            has)),
+        (λ u. absurd (subst (λ xs. Has n (map ν xs)) no_operands u))
+        (λ i. has_right n (names_so (named_so s.types.keys ν t.head.results w.head.shapes))
+        (in_scope kit_language.isolated head (all_defined kit_language.isolated ts))
+        (scope_kept kit_language.isolated s.types.keys ν (is_isolated_head kit_language.isolated head)
+        (all_mentioned kit_language.isolated ts) (all_defined kit_language.isolated ts)
+        (λ m. all_in kit_language.isolated s.types.keys ν 64 t.regions w.regions scoped m) n i))
+        (has_parts n (map ν t.head.operands) (in_scope kit_language.isolated head (all_mentioned kit_language.isolated ts))
+        has)),
     (
       tt,
       regions_scoped kit_language.isolated s.types.keys ν (kit_language.isolated w.head.kind) 64 t.regions w.regions scoped,
@@ -113,7 +111,7 @@ module _ (s : KitContext) (root : Ptr Operation) (t : KitTree) (stands : StandsF
   definitions : definitions_of text ≡ map ν (defined_in t.regions)
   definitions =
       (λ i. names_same kit_language.isolated s.types.keys ν _ t.head.results w.head.shapes w.head.typed i
-          ++ definitions_same kit_language.isolated s.types.keys ν 64 t.regions w.regions i)
+      ++ definitions_same kit_language.isolated s.types.keys ν 64 t.regions w.regions i)
       ∙ ap (λ ds. map ν (names_of ds) ++ map ν (defined_in t.regions)) no_results
 
   numbered : IsNumbered text

@@ -1,12 +1,12 @@
 -- The tree of texts of a tree that can be written.
-use Rattle.std.proofs.Common.{◌≡◌, ◌∙◌, ℕ, zero, suc, List, [], ◌∷◌, ◌++◌, map, Option, Some, None, refl, ap, sym, subst, slice_get}
+use Rattle.std.proofs.Common.{◌≡◌, ◌∙◌, ℕ, zero, suc, List, [], ◌∷◌, ◌++◌, map, Some, refl, ap, sym, subst, slice_get}
 use Rattle.std.proofs.lemmas.Option.{none-some}
 use Rattle.ir_base.specs.declared.types.TypeHandle.{TypeHandle}
 use Rattle.ir_names.specs.Identifier.{text_of}
 use Rattle.ir_forest.specs.Bare.{AreBareTrees, IsBare, AreBareArguments}
 use Rattle.ir_forest.specs.Closed.{AllDistinct, AreLabelled, labels_of, number_in, AreOperations, AreBlocks, AreRegions}
 use Rattle.ir_print.specs.Layout.{IsFlat, AreShallow, AreFlatArguments}
-use Rattle.ir_print.specs.Pieces.{ValueTree, operation, a_region, block, Head, Entity, entity, Entities, no_entity, an_entity}
+use Rattle.ir_print.specs.Pieces.{ValueTree, operation, a_region, block, Head, entity, Entities, no_entity, an_entity}
 use Rattle.ir_print.specs.Shown.{Pairs}
 use Rattle.ir_program.specs.declared.handles.Value.{Value}
 use Rattle.ir_trees.specs.Stands.{by_handle, ProgramHead, ProgramLabel}

@@ -1,13 +1,15 @@
 -- Where values are put in place of arguments and then all chains are joined, the program is merged.
-use Rattle.std.proofs.Common.{◌≡◌, ◌≢◌, ◌⊎◌, inl, inr, ⊎_elim, ℕ, zero, suc, true, false, cond, List, [], ◌∷◌, ◌++◌, map, length, take, Option, Some, None, IsSome, option_map, unwrap_or, slice_get, refl, sym, ap, ◌∙◌, subst, ◌≤◌, add-one, arith}
+use Rattle.std.proofs.Common.{◌≡◌, ◌≢◌, ◌⊎◌, inl, inr, ⊎_elim, ℕ, zero, suc, Bool, true, false, cond, List, [], ◌∷◌, ◌++◌, map, length, take, Option, Some, None, IsSome, option_map, unwrap_or, slice_get, refl, sym, ap, ◌∙◌, subst, ◌≤◌, add-one, arith}
 use Rattle.std.specs.Prelude.{if◌then◌else◌}
 use Rattle.ir_base.specs.declared.types.TypeHandle.{TypeHandle}
 use Rattle.ir_program.specs.Definers.{StandsAtDefiner, values_at}
-use Rattle.ir_program.specs.Lists.{operations_in, blocks_in, StandsInBlock, StandsInRegion, StandsInside, in_block, in_region}
+use Rattle.ir_program.specs.Lists.{operations_in, blocks_in, StandsInBlock, StandsInRegion, StandsInside, itself, in_block, in_region, in_operation, regions_in}
 use Rattle.ir_program.specs.Program.{Program, TypedValue, OperationView, BlockView, RegionView, operation_at, block_at, region_at, arguments_at, value_in, type_at, IsLiveValue}
+use Rattle.ir_program.specs.Replacing.{same_block}
 use Rattle.ir_program.specs.Rows.{operands_at, successors_at}
 use Rattle.ir_program.specs.Uses.{IsUsed}
-use Rattle.ir_program.specs.declared.handles.IRNode.TheVariants.{Operation as OperationNode, BasicBlock as BlockNode}
+use Rattle.ir_program.specs.declared.handles.IRNode.{IRNode}
+use Rattle.ir_program.specs.declared.handles.IRNode.TheVariants.{Operation as OperationNode, Region as RegionNode, BasicBlock as BlockNode}
 use Rattle.ir_program.specs.declared.handles.Ptr.{Ptr}
 use Rattle.ir_program.specs.declared.handles.Operation.{Operation}
 use Rattle.ir_program.specs.declared.handles.Region.{Region}
@@ -15,8 +17,8 @@ use Rattle.ir_program.specs.declared.handles.BasicBlock.{BasicBlock}
 use Rattle.ir_program.specs.declared.handles.Value.{Value}
 use Rattle.ir_program.proofs.made.Frames.{same_or_not}
 use Rattle.ir_program.proofs.used.Renaming.{value-test}
-use Rattle.ir_trees.proofs.HandleTests.{block_no}
-use Rattle.ir_trees.proofs.Members.{Has, Once, at_has, has_at, once_of}
+use Rattle.ir_trees.proofs.HandleTests.{block_no, block_yes}
+use Rattle.ir_trees.proofs.Members.{Has, Once, at_has, has_at, has_back, has_either, has_front, once_of}
 use Rattle.ir_trees.proofs.OneTree.{one_list}
 use Rattle.ir_trees.specs.Searched.{Lists}
 use Rattle.ir_trees.specs.Stands.{by_handle, in_program, ProgramTree, ProgramHead, AreTree, StandsFor}
@@ -25,7 +27,7 @@ use Rattle.opt_inside.proofs.Around.{HasLists, around_operation, around_block, n
 use Rattle.opt_inside.specs.Occurring.{FoundBlock, EachFound, EachBlock, IsOccurrence, IsBlockOccurrence}
 use Rattle.opt_inside.specs.Outside.{ChangesOperandsOutside}
 use Rattle.opt_trees.specs.Dialect.{Dialect}
-use Rattle.opt_trees.specs.Occurrences.{block_occurrences_of}
+use Rattle.opt_trees.specs.Occurrences.{Occurrence, block_occurrences_of}
 use Rattle.opt_trees.specs.Simplify.{Place, Joinable, IsGiven, Follows, stops, use_head, use_instead}
 use Rattle.opt_reach.specs.Edges.{HasLocalEdgesFrom}
 use Rattle.opt_reach.specs.Starts.{IsStartIn}
@@ -33,7 +35,7 @@ use Rattle.opt_reach.specs.declared.starts.Start.{Start}
 use Rattle.opt_chains.specs.Chained.{AreChains, AreStandIns}
 use Rattle.opt_chains.specs.MergedValues.{standing, TakesInstead}
 use Rattle.opt_chains.specs.Merging.{front, without, held, is_taken, last_of, along, TakesNoArgument, AreJoins, HasJoined}
-use Rattle.opt_chains.specs.Phases.{MergesBlocks}
+use Rattle.opt_chains.specs.Phases.{AddsNoneOutside, MergesBlocks}
 use Rattle.opt_chains.specs.declared.merging.Join.{Join}
 use Rattle.opt_chains.specs.declared.merge_values.StandIn.{StandIn}
 use Rattle.opt_chains.proofs.ChainBare.{last_under}
@@ -90,6 +92,65 @@ at_index : {X : Type 0} (xs : List X) (k : ℕ) → suc k ≤ length xs → (x :
 at_index [] k le = absurd (omega arith)
 at_index (x ∷ xs) zero le = (x, refl)
 at_index (x ∷ xs) (suc k) le = at_index xs k (omega arith)
+
+-- what isn't picked is still listed
+still_listed : {X : Type 0} (picks : X → Bool) (xs : List X) (k : ℕ) (x : X) → slice_get xs k ≡ Some x → picks x ≡ false
+    → (j : ℕ) × (slice_get (without picks xs) j ≡ Some x)
+still_listed picks [] k x at none = absurd (none_listed k x at)
+still_listed picks (y ∷ ys) zero x at none =
+    let same : y ≡ x = cc in
+    subst (λ (b : Bool). (j : ℕ) × (slice_get (if b then without picks ys else y ∷ without picks ys) j ≡ Some x))
+    (sym (ap picks same ∙ none)) (zero, at)
+still_listed picks (y ∷ ys) (suc k) x at none = go (picks y) (still_listed picks ys k x at none)
+  where
+    go : (b : Bool) → (j : ℕ) × (slice_get (without picks ys) j ≡ Some x)
+        → (j : ℕ) × (slice_get (if b then without picks ys else y ∷ without picks ys) j ≡ Some x)
+    go true there = there
+    go false there = (suc there.0, there.1)
+
+-- the block of a step is held behind its first, and is taken
+held_has : (js : List Join) (k : ℕ) (j : Join) → slice_get js k ≡ Some j → Has j.block (held js j.first)
+held_has [] k j h = absurd (none_listed k j h)
+held_has (i ∷ js) zero j h =
+    let same : i ≡ j = cc in
+    subst (λ (x : Join). Has x.block (held (i ∷ js) x.first)) same
+    (subst (λ (s : Bool). Has i.block (if s then i.block ∷ held js i.first else held js i.first))
+    (sym (block_yes i.first i.first refl)) (inl refl))
+held_has (i ∷ js) (suc k) j h = go (same_block i.first j.first) (held_has js k j h)
+  where
+    go : (s : Bool) → Has j.block (held js j.first)
+        → Has j.block (if s then i.block ∷ held js j.first else held js j.first)
+    go true m = inr m
+    go false m = m
+
+taken_has : (js : List Join) (k : ℕ) (j : Join) → slice_get js k ≡ Some j → is_taken js j.block ≡ true
+taken_has [] k j h = absurd (none_listed k j h)
+taken_has (i ∷ js) zero j h =
+    let same : i ≡ j = cc in
+    subst (λ (x : Join). is_taken (i ∷ js) x.block ≡ true) same
+    (ap (λ s. cond s true (is_taken js i.block)) (block_yes i.block i.block refl))
+taken_has (i ∷ js) (suc k) j h = go (same_block j.block i.block) (taken_has js k j h)
+  where
+    go : (s : Bool) → is_taken js j.block ≡ true → cond s true (is_taken js j.block) ≡ true
+    go true m = refl
+    go false m = m
+
+-- what stands before an index
+take_has : {X : Type 0} (xs : List X) (n k : ℕ) (x : X) → slice_get xs k ≡ Some x → suc k ≤ n
+    → slice_get (take n xs) k ≡ Some x
+take_has [] n k x h le = absurd (none_listed k x h)
+take_has (y ∷ xs) zero k x h le = absurd (omega arith)
+take_has (y ∷ xs) (suc n) zero x h le = h
+take_has (y ∷ xs) (suc n) (suc k) x h le = take_has xs n k x h (omega arith)
+
+before_or_after : (a b : ℕ) → (suc a ≤ b) ⊎ ((a ≡ b) ⊎ (suc b ≤ a))
+before_or_after zero zero = inr (inl refl)
+before_or_after zero (suc b) = inl (omega arith)
+before_or_after (suc a) zero = inr (inr (omega arith))
+before_or_after (suc a) (suc b) = ⊎_elim
+    (λ l. inl (omega arith))
+    (λ more. ⊎_elim (λ e. inr (inl (ap suc e))) (λ g. inr (inr (omega arith))) more)
+    (before_or_after a b)
 
 module _ {O B A : Type 0} (d : Dialect (in_program O B) A) (place : Place by_handle) (t : ProgramTree O B) where
   -- each is joinable behind the one before
@@ -339,6 +400,178 @@ module _ {O B A : Type 0} (d : Dialect (in_program O B) A) (place : Place by_han
           l.1 ∙ (λ i. Some (record { blocks = (l.2 ∙ all) i }));
     }
 
+    -- ---- nothing comes outside
+
+    -- the first of a step isn't taken
+    first_free : (k : ℕ) (j : Join) → slice_get js k ≡ Some j → is_taken js j.first ≡ false
+    first_free k j here = not_true (is_taken js j.first) (λ h.
+        let s = taken_by js j.first h in
+        ⊎_elim
+        (λ (l : suc s.0 ≤ k).
+        let was : is_taken (take k js) j.first ≡ true =
+        subst (λ b. is_taken (take k js) b ≡ true) s.3 (taken_has (take k js) s.0 s.1 (take_has js k s.0 s.1 s.2 l)) in
+        let f : true ≡ false = sym was ∙ (chains.joins k j here).kept in cc)
+        (λ more. ⊎_elim
+        (λ (e : s.0 ≡ k).
+        let same : s.1 ≡ j = same_some (slice_get js k) s.1 j (ap (slice_get js) (sym e) ∙ s.2) here in
+        absurd ((chains.joins k j here).other (sym s.3 ∙ ap (λ (x : Join). x.block) same)))
+        (λ (g : suc k ≤ s.0).
+        let none : held (take s.0 js) j.first ≡ [] =
+        subst (λ b. held (take s.0 js) b ≡ []) s.3 (chains.joins s.0 s.1 s.2).whole in
+        let one = held_has (take s.0 js) k j (take_has js s.0 k j here g) in
+        absurd (subst (Has j.block) none one))
+        more)
+        (before_or_after s.0 k))
+
+    -- the step whose branch leads from a block to one that is joinable behind it
+    step_of : (b c : Ptr BasicBlock) → Joinable d place t b c
+        → (k : ℕ) × (j : Join) × (slice_get js k ≡ Some j) × (last_of j.first (held (take k js) j.first) ≡ b)
+    step_of b c joins =
+        let s = taken_by js c (chains.all b c joins) in
+        let z = last_of s.1.first (held (take s.0 js) s.1.first) in
+        let other : Joinable d place t z c = subst (Joinable d place t z) s.3 (chains.sound s.0 s.1 s.2) in
+        let same : other.last ≡ joins.last =
+        joins.single other.last other.stands (subst (Has c) (sym other.leads) (inl refl)) in (
+          s.0,
+          s.1,
+          s.2,
+          sym other.in_block
+              ∙ ap (λ (o : Occurrence by_handle (in_program O B)). o.site.label.name) same ∙ joins.in_block,
+        )
+
+    -- what is left of a block that isn't the last of its chain is before its branch
+    before_branch : (b c : Ptr BasicBlock) → Joinable d place t b c → (p : Ptr Operation) → Has p (operations_in old b)
+        → IsLeft p → Has p (front (operations_in old b))
+    before_branch b c joins p has left =
+        let s = step_of b c joins in
+        let ends : operations_in old b ≡ front (operations_in old b) ++ s.1.branch ∷ [] =
+        subst (λ x. operations_in old x ≡ front (operations_in old x) ++ s.1.branch ∷ []) s.3
+        (chains.joins s.0 s.1 s.2).joint.ends in
+        ⊎_elim
+        (λ i. i)
+        (λ last. ⊎_elim (λ e. absurd (left s.0 s.1 s.2 (sym e))) (λ none. absurd none) last)
+        (has_either (front (operations_in old b)) (s.1.branch ∷ []) p (subst (Has p) ends has))
+
+    -- what is left of the blocks of a chain stands along it
+    along_has : (b : Ptr BasicBlock) (cs : List (Ptr BasicBlock)) → IsRow d place t b cs → (c : Ptr BasicBlock)
+        → Has c (b ∷ cs) → (p : Ptr Operation) → Has p (operations_in old c) → IsLeft p
+        → Has p (along old (operations_in old b) cs)
+    along_has b [] row c has p listed left = ⊎_elim
+        (λ e. subst (λ x. Has p (operations_in old x)) e listed)
+        (λ none. absurd none)
+        has
+    along_has b (a ∷ cs) row c has p listed left = ⊎_elim
+        (λ e. has_front (front (operations_in old b)) (along old (operations_in old a) cs) p
+        (before_branch b a row.0 p (subst (λ x. Has p (operations_in old x)) e listed) left))
+        (λ more. has_back (front (operations_in old b)) (along old (operations_in old a) cs) p
+        (along_has a cs row.1 c more p listed left))
+        has
+
+    -- an operation that is left stands in the first block of its chain
+    stands_now : (b : Ptr BasicBlock) → is_taken js b ≡ false → IsSome (block_at old b) → (c : Ptr BasicBlock)
+        → Has c (b ∷ held js b) → (p : Ptr Operation) → IsSome (operation_at old p) → Has p (operations_in old c)
+        → IsLeft p → StandsInBlock new p b
+    stands_now b free live c has p there listed left =
+        let v = something (block_at old b) live in
+        let w = something (operation_at old p) there in
+        let now = block_left b v.0 free v.1 in
+        let in_list : operations_in old b ≡ v.0.operations =
+        ap (λ o. unwrap_or (option_map (λ (x : BlockView B). x.operations) o) []) v.1 in
+        let at = has_at (along old v.0.operations (held js b)) p
+        (subst (λ l. Has p (along old l (held js b))) in_list (along_has b (held js b) (row_held b) c has p listed left)) in
+        record {
+          operation = subst IsSome (sym (operation_left p w.0 left w.1)) refl;
+          block = subst IsSome (sym now) refl;
+          index = at.0;
+          here = ap (λ o. slice_get (unwrap_or (option_map (λ (x : BlockView B). x.operations) o) []) at.0) now ∙ at.1;
+        }
+
+    block_now : (b : Ptr BasicBlock) (r : Ptr Region) → StandsInRegion old b r → is_taken js b ≡ false
+        → StandsInside new (OperationNode op) (RegionNode r) → StandsInside new (OperationNode op) (BlockNode b)
+    block_now b r s free inside =
+        let v = something (block_at old b) s.block in
+        let w = something (region_at old r) s.region in
+        let now = region_left r w.0 w.1 in
+        let was : slice_get w.0.blocks s.index ≡ Some b =
+        ap (λ o. slice_get (unwrap_or (option_map (λ (x : RegionView). x.blocks) o) []) s.index) (sym w.1) ∙ s.here in
+        let listed = still_listed (is_taken js) w.0.blocks s.index b was free in
+        in_region b r (record {
+          block = subst IsSome (sym (block_left b v.0 free v.1)) refl;
+          region = subst IsSome (sym now.1) refl;
+          index = listed.0;
+          here = ap (λ o. slice_get (unwrap_or (option_map (λ (x : RegionView). x.blocks) o) []) listed.0) now.1
+              ∙ ap (λ l. slice_get l listed.0) now.2 ∙ listed.1;
+        }) inside
+
+    -- an operation that has a region is no branch of a step
+    holder_left : (r : Ptr Region) (p : Ptr Operation) (n : ℕ) → slice_get (regions_in old p) n ≡ Some r → IsLeft p
+    holder_left r p n at k j here e =
+        let joint = (chains.joins k j here).joint in
+        let none : regions_in old p ≡ [] =
+        ap (λ o. unwrap_or (option_map (λ (x : OperationView O). x.regions) o) [])
+        (ap (operation_at old) (sym e) ∙ joint.there) ∙ joint.regions in
+        none_listed n r (ap (λ l. slice_get l n) (sym none) ∙ at)
+
+    -- what is inside the root and is left is inside it still
+    abbrev IsInsideNow : IRNode → Type 0
+    IsInsideNow (OperationNode p) = IsLeft p → StandsInside new (OperationNode op) (OperationNode p)
+    IsInsideNow (BlockNode b) = (r : Ptr Region) × StandsInRegion old b r
+        × StandsInside new (OperationNode op) (RegionNode r)
+    IsInsideNow (RegionNode r) = StandsInside new (OperationNode op) (RegionNode r)
+
+    still_inside : (e : IRNode) → StandsInside old (OperationNode op) e → IsInsideNow e
+    still_inside _ itself = λ left. itself
+    still_inside _ (in_block p b s i) = λ left.
+        let m = still_inside (BlockNode b) i in by (is_taken js b) refl left m.0 m.1 m.2
+      where
+        by : (taken : Bool) → is_taken js b ≡ taken → IsLeft p → (r : Ptr Region) → StandsInRegion old b r
+            → StandsInside new (OperationNode op) (RegionNode r) → StandsInside new (OperationNode op) (OperationNode p)
+        by false e left r z inside =
+            in_block p b
+            (stands_now b e s.block b (inl refl) p s.operation (at_has (operations_in old b) s.index p s.here) left)
+            (block_now b r z e inside)
+        by true e left r z inside =
+            let k = taken_by js b e in
+            let free = first_free k.0 k.1 k.2 in
+            let has : Has b (k.1.first ∷ held js k.1.first) =
+            inr (subst (λ x. Has x (held js k.1.first)) k.3 (held_has js k.0 k.1 k.2)) in
+            let together = (chains.joins k.0 k.1 k.2).together in
+            let same : together.0 ≡ r =
+            (lists.blocks_once b together.0 r together.2.index z.index (together.2.here ∙ ap Some k.3) z.here).0 in
+            let first = subst (StandsInRegion old k.1.first) same together.1 in
+            in_block p k.1.first
+            (stands_now k.1.first free first.block b has p s.operation
+            (at_has (operations_in old b) s.index p s.here) left)
+            (block_now k.1.first r first free inside)
+    still_inside _ (in_region b r s i) = (r, s, still_inside (RegionNode r) i)
+    still_inside _ (in_operation r p s i) =
+        let left = holder_left r p s.index s.here in
+        let v = something (operation_at old p) s.operation in
+        let w = something (region_at old r) s.region in
+        let now = operation_left p v.0 left v.1 in
+        in_operation r p (record {
+          region = subst IsSome (sym (region_left r w.0 w.1).1) refl;
+          operation = subst IsSome (sym now) refl;
+          index = s.index;
+          here = ap (λ o. slice_get (unwrap_or (option_map (λ (x : OperationView O). x.regions) o) []) s.index) now
+              ∙ ap (λ o. slice_get (unwrap_or (option_map (λ (x : OperationView O). x.regions) o) []) s.index) (sym v.1)
+              ∙ s.here;
+        }) (still_inside (OperationNode p) i left)
+
+    some_mapped : {X Y : Type 0} (f : X → Y) (o : Option X) → IsSome (option_map f o) → IsSome o
+    some_mapped f None h = h
+    some_mapped f (Some x) h = refl
+
+    none_come : AddsNoneOutside old new op
+    none_come p live out =
+        let left : IsLeft p = λ k j here e.
+        let none : operation_at new p ≡ None = ap (operation_at new) (sym e) ∙ joined.branches k j here in
+        let some : IsSome {T = OperationView O} None = subst IsSome none live in cc in (
+          some_mapped (λ (x : OperationView O). record x { operands = map (standing ss) x.operands }) (operation_at old p)
+              (subst IsSome (joined.operations p left ∙ takes.operations p) live),
+          λ inside. out (still_inside (OperationNode p) inside left),
+        )
+
     -- all in all
     pub merges_blocks : StandsFor old op t → MergesBlocks d place old new op t
     merges_blocks stands =
@@ -354,6 +587,7 @@ module _ {O B A : Type 0} (d : Dialect (in_program O B) A) (place : Place by_han
           };
           stands = tree.2;
           outside = outside;
+          none_come = none_come;
         }
 
 -- where there is nothing to join, the program is merged as it is

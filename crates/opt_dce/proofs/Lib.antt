@@ -6,6 +6,7 @@ mod Turns
 mod Lost
 mod LostArguments
 mod Detached
+mod OutsideLeft
 mod Trees
 mod Thinned
 mod Gone

@@ -26,6 +26,7 @@ module _ {O B A : Type 0} (d : Dialect (in_program O B) A) (c : Program O B) (op
         dce = record { gone = dead.gone; is_gone = dead.is_gone stands; is = refl };
         stands = subst (StandsFor c op) (sym same) stands;
         outside = record { operations = λ p v out there. there; blocks = λ b v out there. there; regions = λ r v out there. there };
+        none_come = λ p live out. (live, out);
       };
       exact = (λ e. same, λ e. refl);
     }
@@ -39,6 +40,7 @@ module _ {O B A : Type 0} (d : Dialect (in_program O B) A) (c : Program O B) (op
         dce = record { gone = dead.gone; is_gone = dead.is_gone stands; is = refl };
         stands = takes.stands;
         outside = takes.outside;
+        none_come = takes.none_come;
       };
       exact = (λ e. cc, other);
     }

@@ -30,6 +30,7 @@ use Rattle.opt_dead.specs.Plans.{GoesWith}
 use Rattle.opt_dce.specs.Steps.{without, IsBelow, loses, arguments_gone, thin_block, HasThinned}
 use Rattle.opt_dce.specs.Thins.{TakesOut}
 use Rattle.opt_inside.specs.Outside.{KeepsOutside}
+use Rattle.opt_dce.proofs.OutsideLeft.{adds_none}
 use Rattle.opt_dce.proofs.Picking.{not_true, drop_none, without_none, drop_map}
 
 module _ {O B A : Type 0} (d : Dialect (in_program O B) A) (g : Gone by_handle) where
@@ -174,4 +175,4 @@ module _ {O B A : Type 0} (d : Dialect (in_program O B) A) (law : Lawful d) (old
     }
 
     pub taken_out : HasThinned d g old new → (t : ProgramTree O B) → StandsFor old op t → TakesOut d old new op g t
-    taken_out all t stands = record { stands = tree_thinned all t stands; erased = all.gone; outside = outside all }
+    taken_out all t stands = record { stands = tree_thinned all t stands; erased = all.gone; outside = outside all; none_come = adds_none d old new op g below all }

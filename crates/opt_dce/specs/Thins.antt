@@ -1,9 +1,10 @@
 -- What dead code elimination makes of a program and of its trees.
-use Rattle.std.specs.Prelude.{◌≡◌, ◌↔◌, true}
-use Rattle.ir_program.specs.Program.{Program}
+use Rattle.std.specs.Prelude.{◌≡◌, ◌↔◌, true, IsSome}
+use Rattle.ir_program.specs.Program.{Program, operation_at}
 use Rattle.ir_program.specs.Erased.{IsGone as IsErased}
-use Rattle.ir_program.specs.Lists.{IsLiveNode}
+use Rattle.ir_program.specs.Lists.{IsLiveNode, StandsInside}
 use Rattle.ir_program.specs.declared.handles.IRNode.{IRNode}
+use Rattle.ir_program.specs.declared.handles.IRNode.TheVariants.{Operation as OperationNode}
 use Rattle.ir_program.specs.declared.handles.Ptr.{Ptr}
 use Rattle.ir_program.specs.declared.handles.Operation.{Operation}
 use Rattle.ir_trees.specs.Searched.{Lists}
@@ -17,6 +18,12 @@ use Rattle.opt_dead.specs.declared.plan.DeadArguments.{DeadArguments}
 use Rattle.opt_inside.specs.Outside.{KeepsOutside}
 use Rattle.opt_dead.specs.Plans.{SaysPins, GoesWith}
 
+-- no operation comes to be outside the root: what isn't inside it now was there before, and wasn't inside it
+abbrev pub AddsNoneOutside : {O B : Type 0} → Program O B → Program O B → Ptr Operation → Type 0
+AddsNoneOutside old new op = (p : Ptr Operation) → IsSome (operation_at new p)
+    → (StandsInside new (OperationNode op) (OperationNode p) → ⊥)
+    → IsSome (operation_at old p) × (StandsInside old (OperationNode op) (OperationNode p) → ⊥)
+
 -- what goes, and all that is in it, is erased; the root stands for its tree without it; and nothing changes outside
 -- the root
 pub record TakesOut {O B A : Type 0} (d : Dialect (in_program O B) A) (old new : Program O B) (op : Ptr Operation)
@@ -24,6 +31,7 @@ pub record TakesOut {O B A : Type 0} (d : Dialect (in_program O B) A) (old new :
   pub stands : StandsFor new op (record { head = t.head; regions = thin d g t.regions })
   pub erased : (e : IRNode) → IsLiveNode old e → GoesWith old g e → IsErased new e
   pub outside : KeepsOutside old new op
+  pub none_come : AddsNoneOutside old new op
 
 -- the operation stands for its tree without what is dead
 pub record MakesDce {O B A : Type 0} (d : Dialect (in_program O B) A) (old new : Program O B) (op : Ptr Operation)
@@ -34,6 +42,7 @@ pub record MakesDce {O B A : Type 0} (d : Dialect (in_program O B) A) (old new :
   pub dce : IsDce d around t after
   pub stands : StandsFor new op after
   pub outside : KeepsOutside old new op
+  pub none_come : AddsNoneOutside old new op
 
 -- the tree without what goes
 abbrev pub thinned_root : {O B A : Type 0} → Dialect (in_program O B) A → Gone by_handle →

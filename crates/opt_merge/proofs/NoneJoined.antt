@@ -77,6 +77,7 @@ module _ {O B A : Type 0} (d : Dialect (in_program O B) A) (c : Program O B) (op
     joined = record { names = λ v. v; follows = λ v. stops v (none_given d p t none v); regions = t.regions; joins = none_joined d p t none Regions t.regions; is = root_same t };
     stands = stands;
     outside = same_outside;
+    none_come = λ q live out. (live, out);
   }
 
   module _ (start : Start) (none : HasNoneJoinable d c op start) where

@@ -9,6 +9,7 @@ mod RemovedUses
 mod RemovedNodes
 mod RemovedStarts
 mod RemovedApart
+mod RemovedOutside
 mod RemovedTrees
 mod RemovedFound
 mod RemovedEnds

@@ -27,6 +27,7 @@ use Rattle.opt_simplify.specs.Phases.{RemovesBlocks}
 use Rattle.opt_simplify.specs.Removed.{without, IsWithin, ErasesPicked}
 use Rattle.opt_reach.specs.Fates.{HasReachTest}
 use Rattle.opt_simplify.proofs.RemovedErased.{was_inside}
+use Rattle.opt_simplify.proofs.RemovedOutside.{adds_none}
 use Rattle.opt_simplify.proofs.RemovedPicking.{not_true, without_none}
 
 picked : {X : Type 0} (b : Bool) (x y : X) → cond (not b) x y ≡ (if b then y else x)
@@ -154,6 +155,7 @@ module _ {O B : Type 0} (old new : Program O B) (lists : HasLists old) (op : Ptr
       erased = λ b e goes live inside. loses.gone e live (b, goes, inside);
       outside = outside;
       inside = was_inside old new lists picks loses (OperationNode op);
+      none_come = adds_none old new op picks loses;
     }
 
 -- nothing is lost where nothing is picked

@@ -32,8 +32,8 @@ returns c =
     }) in
     let t = known.tree in
     record {
-      entered = λ new answer done none. stays_unentered s new root
-          (removed_apart s.program new.program root known t.0 t.1 (done t.0 t.1).made none);
-      contained = λ new answer done none. stays_contained s new root
-          (removed_apart s.program new.program root known t.0 t.1 (done t.0 t.1).made none) known;
+      entered = λ new answer done. stays_unentered s new root
+          (removed_apart s.program new.program root known t.0 t.1 (done t.0 t.1).made);
+      contained = λ new answer done. stays_contained s new root
+          (removed_apart s.program new.program root known t.0 t.1 (done t.0 t.1).made) known;
     }

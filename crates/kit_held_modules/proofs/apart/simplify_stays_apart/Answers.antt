@@ -32,8 +32,8 @@ returns c =
     }) in
     let t = known.tree in
     record {
-      entered = λ new done none. stays_unentered s new root
-          (simplified_apart s.program new.program root known t.0 t.1 (done t.0 t.1) none);
-      contained = λ new done none. stays_contained s new root
-          (simplified_apart s.program new.program root known t.0 t.1 (done t.0 t.1) none) known;
+      entered = λ new done. stays_unentered s new root
+          (simplified_apart s.program new.program root known t.0 t.1 (done t.0 t.1));
+      contained = λ new done. stays_contained s new root
+          (simplified_apart s.program new.program root known t.0 t.1 (done t.0 t.1)) known;
     }

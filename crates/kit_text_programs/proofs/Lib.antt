@@ -1,0 +1,5 @@
+pub mod SaidPrograms
+pub mod ValueNumbers
+pub mod SaidHeads
+pub mod SaidFunctions
+pub mod SaidModules

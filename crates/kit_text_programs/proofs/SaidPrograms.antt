@@ -1,0 +1,133 @@
+-- The program that a tree of texts says, by the numbers of its definitions.
+use Rattle.std.proofs.Common.{ℕ, Bool, false, ◌&&◌, List, [], ◌∷◌, map, Option, Some, None, slice_get}
+use Rattle.std.specs.Prelude.{nat_eq, reverse, option_and_then, if◌then◌else◌}
+use Rattle.ir_names.specs.Tree.{node, a_tree}
+use Rattle.ir_print.specs.Pieces.{type_of_kind, attribute_of_kind, name, number, width, ValueTree, Pieces}
+use Rattle.ir_print.specs.Pieces.{operation, a_region, block, Entity, entity, Entities, no_entity, an_entity}
+use Rattle.kit_ops.specs.declared.kinds.Arithmetic.TheVariants as arithmetic
+use Rattle.kit_ops.specs.declared.kinds.Comparison.TheVariants as comparison
+use Rattle.kit_ops.specs.declared.kinds.KitOp.{KitOp}
+use Rattle.kit_ops.specs.declared.kinds.KitOp.TheVariants as ops
+use Rattle.kit.specs.Meaning.{is_function, is_module}
+use Rattle.kit_texts.specs.Forms.{read_ops}
+use Rattle.kit_texts.specs.Numbers.{number_modulo}
+use Rattle.kit_behaviour.specs.Machine.{Add, Sub, Mul, Div, Eql, Neq, Ult, Ule}
+use Rattle.kit_behaviour.specs.Machine.{Op, Const, Calc, Emit, Return, Fun, Program}
+use Rattle.kit_behaviour.specs.Numbering.{place_fun}
+use Rattle.kit_behaviour.specs.Places.{Place}
+
+-- the width of an integer type; 0 of any other
+abbrev pub width_said : ValueTree → ℕ
+width_said (node (type_of_kind n) (a_tree (node (width sign bits) us) ts)) = bits
+width_said _ = 0
+
+-- the bits of the integer that a constant says
+abbrev pub bits_said : Pieces → ℕ
+bits_said (a_tree (node (attribute_of_kind n) (a_tree (node (number b m) us) (a_tree (node (width s w) vs) ws))) ts) =
+    number_modulo w (record { is_negative = b; magnitude = m })
+bits_said _ = 0
+
+-- the name that comes first
+abbrev pub name_said : Pieces → List ℕ
+name_said (a_tree (node (name cs) us) ts) = cs
+name_said _ = []
+
+-- the first and the second of a list; 0 where there is none
+abbrev pub first_in : List ℕ → ℕ
+first_in [] = 0
+first_in (n ∷ ns) = n
+
+abbrev pub second_in : List ℕ → ℕ
+second_in [] = 0
+second_in (n ∷ ns) = first_in ns
+
+-- the operation of a kind that defines and uses the values with these numbers
+abbrev pub op_said : Option KitOp → (defines widths uses : List ℕ) → Pieces → Op ℕ
+op_said (Some ops.Constant) ds ws us ps = Const (first_in ds) (bits_said ps)
+op_said (Some (ops.Arithmetic arithmetic.Add)) ds ws us ps =
+    Calc Add (first_in ws) (first_in ds) (first_in us) (second_in us)
+op_said (Some (ops.Arithmetic arithmetic.Sub)) ds ws us ps =
+    Calc Sub (first_in ws) (first_in ds) (first_in us) (second_in us)
+op_said (Some (ops.Arithmetic arithmetic.Mul)) ds ws us ps =
+    Calc Mul (first_in ws) (first_in ds) (first_in us) (second_in us)
+op_said (Some (ops.Arithmetic arithmetic.Div)) ds ws us ps =
+    Calc Div (first_in ws) (first_in ds) (first_in us) (second_in us)
+op_said (Some (ops.Comparison comparison.Equal)) ds ws us ps =
+    Calc Eql (first_in ws) (first_in ds) (first_in us) (second_in us)
+op_said (Some (ops.Comparison comparison.NotEqual)) ds ws us ps =
+    Calc Neq (first_in ws) (first_in ds) (first_in us) (second_in us)
+op_said (Some (ops.Comparison comparison.Less)) ds ws us ps =
+    Calc Ult (first_in ws) (first_in ds) (first_in us) (second_in us)
+op_said (Some (ops.Comparison comparison.LessOrEqual)) ds ws us ps =
+    Calc Ule (first_in ws) (first_in ds) (first_in us) (second_in us)
+op_said (Some ops.Emit) ds ws us ps = Emit (first_in us)
+op_said _ ds ws us ps = Return us
+
+-- the numbers of definitions, and the widths of their types
+abbrev pub numbers_in : List (ℕ × ValueTree) → List ℕ
+numbers_in xs = map (λ x. x.0) xs
+
+abbrev pub widths_in : List (ℕ × ValueTree) → List ℕ
+widths_in xs = map (λ x. width_said x.1) xs
+
+-- the operations of a block, and the blocks of a function
+abbrev pub ops_said : Entities ℕ → List (Op ℕ)
+ops_said no_entity = []
+ops_said (an_entity (entity (operation kind results used pieces) us) ts) =
+    op_said (slice_get read_ops kind) (numbers_in results) (widths_in results) used pieces ∷ ops_said ts
+ops_said (an_entity (entity a_region us) ts) = ops_said ts
+ops_said (an_entity (entity (block label arguments) us) ts) = ops_said ts
+
+abbrev pub fun_said : Entities ℕ → Fun ℕ
+fun_said no_entity = []
+fun_said (an_entity (entity (block label arguments) us) ts) =
+    record { arguments = numbers_in arguments; ops = ops_said us } ∷ fun_said ts
+fun_said (an_entity (entity a_region us) ts) = fun_said ts
+fun_said (an_entity (entity (operation kind results used pieces) us) ts) = fun_said ts
+
+-- what is in the first of these
+abbrev pub first_inside : Entities ℕ → Entities ℕ
+first_inside no_entity = no_entity
+first_inside (an_entity (entity h us) ts) = us
+
+-- the operations of the first block of the first region
+abbrev pub members_said : Entities ℕ → Entities ℕ
+members_said us = first_inside (first_inside us)
+
+-- the regions of an operation
+abbrev pub regions_below : Entity ℕ → Entities ℕ
+regions_below (entity h us) = us
+
+-- the regions of the first of these operations that passes a test
+abbrev pub first_said : (ℕ → Pieces → Bool) → Entities ℕ → Option (Entities ℕ)
+first_said test no_entity = None
+first_said test (an_entity (entity (operation kind results used pieces) us) ts) =
+    if test kind pieces then Some us else first_said test ts
+first_said test (an_entity (entity a_region us) ts) = None
+first_said test (an_entity (entity (block label arguments) us) ts) = None
+
+-- there is a kind, and it passes a test
+abbrev pub passes : (KitOp → Bool) → Option KitOp → Bool
+passes test None = false
+passes test (Some kind) = test kind
+
+module _ (numbered : List ℕ → ℕ) where
+  -- an operation of a kind that passes the test, whose name has this number
+  abbrev pub is_called : (KitOp → Bool) → ℕ → ℕ → Pieces → Bool
+  is_called test n kind ps = passes test (slice_get read_ops kind) && nat_eq n (numbered (name_said ps))
+
+  -- where a path leads from a module with these regions: the regions of the function
+  abbrev pub locate_said : List ℕ → Entities ℕ → Option (Entities ℕ)
+  locate_said [] us = None
+  locate_said (x ∷ []) us = first_said (is_called is_function x) (members_said us)
+  locate_said (x ∷ y ∷ path) us =
+      option_and_then (locate_said (y ∷ path)) (first_said (is_called is_module x) (members_said us))
+
+  -- the function with these regions, its values named by their places
+  abbrev pub placed_said : Option (Entities ℕ) → Option (Fun Place)
+  placed_said None = None
+  placed_said (Some us) = place_fun nat_eq (Some (fun_said (first_inside us)))
+
+  -- the program that the regions of a module say
+  abbrev pub program_said : Entities ℕ → Program Place
+  program_said us path = placed_said (locate_said (reverse path) us)
