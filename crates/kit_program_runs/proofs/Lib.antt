@@ -1,0 +1,10 @@
+pub mod Pairing
+pub mod Lockstep
+pub mod FlatOperations
+pub mod FlatBlocks
+pub mod Paths
+pub mod Outcomes
+pub mod FittingNumbers
+pub mod FunctionWidths
+pub mod ModuleWidths
+pub mod Programs

@@ -1,0 +1,3 @@
+pub mod Numberings
+pub mod Outcomes
+pub mod Laws
