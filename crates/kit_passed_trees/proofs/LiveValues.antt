@@ -1,11 +1,11 @@
 -- The values of the tree of an operation are defined by what is there.
-use Rattle.std.proofs.Common.{◌≡◌, ◌∙◌, ◌⊎◌, inl, inr, ⊎_elim, ℕ, zero, suc, List, [], ◌∷◌, ◌++◌, map, Option, Some, None, option_map, unwrap_or, refl, ap, sym, subst, slice_get}
+use Rattle.std.proofs.Common.{◌≡◌, ◌∙◌, ◌⊎◌, inl, inr, ⊎_elim, ℕ, suc, List, [], ◌∷◌, ◌++◌, map, Option, Some, None, option_map, unwrap_or, refl, ap, sym, subst, slice_get}
 use Rattle.std.specs.Prelude.{IsSome}
 use Rattle.std.proofs.lemmas.Bool.{false≢true}
 use Rattle.std.proofs.lemmas.Option.{none-some}
 use Rattle.ir_base.specs.declared.types.TypeHandle.{TypeHandle}
 use Rattle.ir_program.specs.Definers.{values_at, StandsAtDefiner}
-use Rattle.ir_program.specs.Program.{OperationView, BlockView, RegionView, TypedValue, operation_at, block_at, value_in, type_at, IsLiveValue}
+use Rattle.ir_program.specs.Program.{OperationView, BlockView, TypedValue, operation_at, block_at, value_in, type_at, IsLiveValue}
 use Rattle.ir_program.specs.Uses.{IsUsed}
 use Rattle.ir_program.specs.declared.handles.DefiningEntity.{DefiningEntity}
 use Rattle.ir_program.specs.declared.handles.DefiningEntity.TheVariants.{Op as ByOp, Block as ByBlock}
@@ -15,7 +15,7 @@ use Rattle.ir_program.specs.declared.handles.Ptr.{Ptr}
 use Rattle.ir_program.specs.declared.handles.Value.{Value}
 use Rattle.ir_trees.specs.Renames.{names_of, values_at as head_values, values_in, values_of}
 use Rattle.ir_trees.specs.Searched.{heads_in, heads_of}
-use Rattle.ir_trees.specs.Stands.{by_handle, in_program, head_of, label_of, defined_by, Handles, ProgramHead, AreTree, no_operations, no_blocks, no_regions, first_operation, first_block, first_region, StandsFor}
+use Rattle.ir_trees.specs.Stands.{by_handle, in_program, head_of, defined_by, Handles, ProgramHead, AreTree, no_operations, no_blocks, no_regions, first_operation, first_block, first_region, StandsFor}
 use Rattle.ir_trees.specs.Trees.{Sort, Tree}
 use Rattle.opt_trees.specs.Occurrences.{Has}
 use Rattle.kit.specs.Meaning.{KitOperation, KitBlock}
@@ -110,12 +110,12 @@ module _ (c : KitProgram) (knows : KnowsValues c) where
   part_live s hs x (first_operation p ps o rs rest there inner after) v has = ⊎_elim
       (λ h. head_live p o v there h)
       (λ h. ⊎_elim (λ i. part_live _ _ rs inner v i) (λ i. part_live _ _ rest after v i)
-          (has_parts v (values_in rs) (values_in rest) h))
+      (has_parts v (values_in rs) (values_in rest) h))
       (has_parts v (head_values (head_of {B = KitBlock} p o)) (values_in rs ++ values_in rest) has)
   part_live s hs x (first_block b bs o os rest there inner after) v has = ⊎_elim
       (λ h. argument_live b o v there h)
       (λ h. ⊎_elim (λ i. part_live _ _ os inner v i) (λ i. part_live _ _ rest after v i)
-          (has_parts v (values_in os) (values_in rest) h))
+      (has_parts v (values_in os) (values_in rest) h))
       (has_parts v (names_of (map defined_by o.arguments)) (values_in os ++ values_in rest) has)
   part_live s hs x (first_region r rs o bs rest there inner after) v has =
       ⊎_elim (λ i. part_live _ _ bs inner v i) (λ i. part_live _ _ rest after v i)
@@ -145,7 +145,7 @@ module _ (c : KitProgram) where
   heads_here s hs x (first_operation p ps o rs rest there inner after) h has = ⊎_elim
       (λ e. subst (λ k. IsHere c k.name) (sym e) (here_by p o there))
       (λ i. ⊎_elim (λ j. heads_here _ _ rs inner h j) (λ j. heads_here _ _ rest after h j)
-          (has_parts h (heads_in rs) (heads_in rest) i)) has
+      (has_parts h (heads_in rs) (heads_in rest) i)) has
   heads_here s hs x (first_block b bs o os rest there inner after) h has =
       ⊎_elim (λ j. heads_here _ _ os inner h j) (λ j. heads_here _ _ rest after h j)
       (has_parts h (heads_in os) (heads_in rest) has)
@@ -158,5 +158,5 @@ module _ (c : KitProgram) where
       → Has h (heads_of t) → IsHere c h.name
   all_here root t stands h has = ⊎_elim
       (λ e. subst (λ (k : ProgramHead KitOperation KitBlock). IsHere c k.name) (sym (e ∙ stands.head))
-          (here_by root stands.view stands.there))
+      (here_by root stands.view stands.there))
       (λ i. heads_here _ stands.view.regions t.regions stands.regions h i) has

@@ -7,10 +7,10 @@ use Rattle.ir_program.specs.declared.handles.DefiningEntity.TheVariants.{Op as B
 use Rattle.ir_program.specs.declared.handles.Operation.{Operation}
 use Rattle.ir_program.specs.declared.handles.Ptr.{Ptr}
 use Rattle.ir_program.specs.declared.handles.Value.{Value}
-use Rattle.ir_trees.specs.Renames.{names_of, rename_defined, values_at, values_in, values_of, KeepsApart, IsOneToOne, rename_root}
+use Rattle.ir_trees.specs.Renames.{names_of, rename_defined, values_at, values_in, values_of, IsOneToOne, rename_root}
 use Rattle.ir_trees.specs.Searched.{Lists, heads_in, heads_of, operation_names}
 use Rattle.ir_trees.specs.Stands.{by_handle, in_program, ProgramHead, StandsFor}
-use Rattle.ir_trees.specs.Trees.{Defined, Head, Sort, Operations, Blocks, Regions, Tree, end, operation, block, region}
+use Rattle.ir_trees.specs.Trees.{Defined, Head, Sort, Operations, Regions, Tree, end, operation, block, region}
 use Rattle.opt_trees.specs.Occurrences.{Has}
 use Rattle.opt_trees.specs.Sccp.{Name, Old, New, fresh, used_as, constant_before, put_one, put_results, put_arguments, old_head, put, put_root}
 use Rattle.opt_sccp.specs.Puts.{PutsConstants}
@@ -97,32 +97,32 @@ module _ (made : Value → Option IntegerAttr) where
     part_names end all n h = absurd h
     part_names (operation h rs rest) all n has = ⊎_elim (λ i. i)
         (λ i. ⊎_elim
-            (λ j. head_names h (λ v k. all v (has_left v (values_at h) (values_in rs ++ values_in rest) k)) n j)
-            (λ j. ⊎_elim
-                (λ k. part_names rs (λ v m. all v (has_right v (values_at h) (values_in rs ++ values_in rest)
-                    (has_left v (values_in rs) (values_in rest) m))) n k)
-                (λ k. part_names rest (λ v m. all v (has_right v (values_at h) (values_in rs ++ values_in rest)
-                    (has_right v (values_in rs) (values_in rest) m))) n k)
-                (has_parts n (values_in (put {N = by_handle} kit made rs)) (values_in (put {N = by_handle} kit made rest)) j))
-            (has_parts n (values_at (old_head {N = by_handle} made h))
-                (values_in (put {N = by_handle} kit made rs) ++ values_in (put {N = by_handle} kit made rest)) i))
+        (λ j. head_names h (λ v k. all v (has_left v (values_at h) (values_in rs ++ values_in rest) k)) n j)
+        (λ j. ⊎_elim
+        (λ k. part_names rs (λ v m. all v (has_right v (values_at h) (values_in rs ++ values_in rest)
+        (has_left v (values_in rs) (values_in rest) m))) n k)
+        (λ k. part_names rest (λ v m. all v (has_right v (values_at h) (values_in rs ++ values_in rest)
+        (has_right v (values_in rs) (values_in rest) m))) n k)
+        (has_parts n (values_in (put {N = by_handle} kit made rs)) (values_in (put {N = by_handle} kit made rest)) j))
+        (has_parts n (values_at (old_head {N = by_handle} made h))
+        (values_in (put {N = by_handle} kit made rs) ++ values_in (put {N = by_handle} kit made rest)) i))
         (result_names P h.results
-            (operation (old_head {N = by_handle} made h) (put {N = by_handle} kit made rs) (put {N = by_handle} kit made rest))
-            n has)
+        (operation (old_head {N = by_handle} made h) (put {N = by_handle} kit made rs) (put {N = by_handle} kit made rest))
+        n has)
     part_names (block l os rest) all n has = ⊎_elim
         (λ i. old_names P l.arguments (λ v k. all v (has_left v (names_of l.arguments) (values_in os ++ values_in rest) k)) n i)
         (λ i. ⊎_elim
-            (λ j. ⊎_elim (λ k. k)
-                (λ k. part_names os (λ v m. all v (has_right v (names_of l.arguments) (values_in os ++ values_in rest)
-                    (has_left v (values_in os) (values_in rest) m))) n k)
-                (argument_names P l.arguments (put {N = by_handle} kit made os) n j))
-            (λ j. part_names rest (λ v m. all v (has_right v (names_of l.arguments) (values_in os ++ values_in rest)
-                (has_right v (values_in os) (values_in rest) m))) n j)
-            (has_parts n (values_in (put_arguments {N = by_handle} kit made l.arguments (put {N = by_handle} kit made os)))
-                (values_in (put {N = by_handle} kit made rest)) i))
+        (λ j. ⊎_elim (λ k. k)
+        (λ k. part_names os (λ v m. all v (has_right v (names_of l.arguments) (values_in os ++ values_in rest)
+        (has_left v (values_in os) (values_in rest) m))) n k)
+        (argument_names P l.arguments (put {N = by_handle} kit made os) n j))
+        (λ j. part_names rest (λ v m. all v (has_right v (names_of l.arguments) (values_in os ++ values_in rest)
+        (has_right v (values_in os) (values_in rest) m))) n j)
+        (has_parts n (values_in (put_arguments {N = by_handle} kit made l.arguments (put {N = by_handle} kit made os)))
+        (values_in (put {N = by_handle} kit made rest)) i))
         (has_parts n (names_of (map (rename_defined Old) l.arguments))
-            (values_in (put_arguments {N = by_handle} kit made l.arguments (put {N = by_handle} kit made os))
-            ++ values_in (put {N = by_handle} kit made rest)) has)
+        (values_in (put_arguments {N = by_handle} kit made l.arguments (put {N = by_handle} kit made os))
+        ++ values_in (put {N = by_handle} kit made rest)) has)
     part_names (region bs rest) all n has = ⊎_elim
         (λ i. part_names bs (λ v m. all v (has_left v (values_in bs) (values_in rest) m)) n i)
         (λ i. part_names rest (λ v m. all v (has_right v (values_in bs) (values_in rest) m)) n i)
@@ -175,21 +175,21 @@ module _ (made : Value → Option IntegerAttr) where
     part_heads end all h has = absurd has
     part_heads (operation g rs rest) all h has = ⊎_elim (λ i. i)
         (λ i. ⊎_elim
-            (λ e. inl (g.name, all g (inl refl), ap (λ (k : PutHead). k.name) e))
-            (λ j. ⊎_elim
-                (λ k. part_heads rs (λ f m. all f (inr (has_left f (heads_in rs) (heads_in rest) m))) h k)
-                (λ k. part_heads rest (λ f m. all f (inr (has_right f (heads_in rs) (heads_in rest) m))) h k)
-                (has_parts h (heads_in (put {N = by_handle} kit made rs)) (heads_in (put {N = by_handle} kit made rest)) j)) i)
+        (λ e. inl (g.name, all g (inl refl), ap (λ (k : PutHead). k.name) e))
+        (λ j. ⊎_elim
+        (λ k. part_heads rs (λ f m. all f (inr (has_left f (heads_in rs) (heads_in rest) m))) h k)
+        (λ k. part_heads rest (λ f m. all f (inr (has_right f (heads_in rs) (heads_in rest) m))) h k)
+        (has_parts h (heads_in (put {N = by_handle} kit made rs)) (heads_in (put {N = by_handle} kit made rest)) j)) i)
         (result_heads g.results
-            (operation (old_head {N = by_handle} made g) (put {N = by_handle} kit made rs) (put {N = by_handle} kit made rest))
-            h has)
+        (operation (old_head {N = by_handle} made g) (put {N = by_handle} kit made rs) (put {N = by_handle} kit made rest))
+        h has)
     part_heads (block l os rest) all h has = ⊎_elim
         (λ i. ⊎_elim (λ j. j)
-            (λ j. part_heads os (λ f m. all f (has_left f (heads_in os) (heads_in rest) m)) h j)
-            (argument_heads l.arguments (put {N = by_handle} kit made os) h i))
+        (λ j. part_heads os (λ f m. all f (has_left f (heads_in os) (heads_in rest) m)) h j)
+        (argument_heads l.arguments (put {N = by_handle} kit made os) h i))
         (λ i. part_heads rest (λ f m. all f (has_right f (heads_in os) (heads_in rest) m)) h i)
         (has_parts h (heads_in (put_arguments {N = by_handle} kit made l.arguments (put {N = by_handle} kit made os)))
-            (heads_in (put {N = by_handle} kit made rest)) has)
+        (heads_in (put {N = by_handle} kit made rest)) has)
     part_heads (region bs rest) all h has = ⊎_elim
         (λ i. part_heads bs (λ f m. all f (has_left f (heads_in bs) (heads_in rest) m)) h i)
         (λ i. part_heads rest (λ f m. all f (has_right f (heads_in bs) (heads_in rest) m)) h i)

@@ -1,5 +1,4 @@
 -- The statements of the laws.
-use Rattle.std.specs.Prelude.{◌≡◌}
 use Rattle.ir_program.specs.declared.handles.Operation.{Operation}
 use Rattle.ir_program.specs.declared.handles.Ptr.{Ptr}
 use Rattle.ir_program.specs.declared.handles.Value.{Value}
