@@ -1,0 +1,4 @@
+mod OwnNames
+mod PassLists
+mod Refusals
+mod WhatPassesLeave

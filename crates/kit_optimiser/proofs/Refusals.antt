@@ -1,0 +1,24 @@
+-- Why a pass on a module that a context holds is refused: something can't grow, and nothing else.
+use Rattle.std.proofs.Common.{◌≡◌, inl, inr, refl}
+use Rattle.ir_opts.specs.Simplified.{StopsAt, while_deciding, while_removing, loses_uses, while_joining, comes_back}
+use Rattle.ir_program.specs.declared.handles.Operation.{Operation}
+use Rattle.ir_program.specs.declared.handles.Ptr.{Ptr}
+use Rattle.kit.specs.Meaning.{kit}
+use Rattle.kit_ruled_passes.specs.Scopes.{KitProgram}
+use Rattle.opt_dialect.specs.declared.status.OptError.{OptError}
+use Rattle.opt_dialect.specs.declared.status.OptError.TheVariants.{LiveUse, UndeterminedOperand}
+use Rattle.opt_sccp.specs.Made.{IsShortage}
+use Rattle.opt_sccp.specs.Sccp.{IsRefusal}
+
+pub only_short : (e : OptError) → IsRefusal e → (e ≡ UndeterminedOperand → ⊥) → IsShortage e
+only_short e (inl short) never = short
+only_short e (inr is) never = absurd (never is)
+
+pub stops_short : (old new : KitProgram) (root : Ptr Operation) (e : OptError) → StopsAt kit old new root e
+    → (StopsAt kit old new root LiveUse → ⊥) → IsShortage e
+stops_short old new root e (while_deciding short part) never = short
+stops_short old new root e (while_removing is decides) never = inl is
+stops_short old new root e (loses_uses is decides loses) never = absurd (never (loses_uses refl decides loses))
+stops_short old new root e (while_joining is mid decides removes) never = inl is
+stops_short old new root e (comes_back is mid decides removes circle) never =
+    absurd (never (comes_back refl mid decides removes circle))

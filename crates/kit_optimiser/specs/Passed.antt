@@ -1,0 +1,49 @@
+-- What optimisations make of a module of a context.
+use Rattle.std.specs.Prelude.{◌≡◌, ℕ, List, [], ◌∷◌, ◌++◌}
+use Rattle.ir_program.specs.declared.handles.Operation.{Operation}
+use Rattle.ir_program.specs.declared.handles.Ptr.{Ptr}
+use Rattle.ir_trees.specs.Stands.{by_handle, StandsFor}
+use Rattle.ir_types.specs.Interned.{key_at}
+use Rattle.kit_behaviour.specs.PassLists.{Pass, SccpPass, DcePass, SimplifyPass}
+use Rattle.kit_held_modules.specs.Held.{HoldsModule}
+use Rattle.kit_module_programs.specs.TreePasses.{IsTreePass, IsTreeAfter, IsSoundTree}
+use Rattle.kit_optimiser.specs.declared.pass.KitPass.{KitPass}
+use Rattle.kit_optimiser.specs.declared.pass.KitPass.TheVariants as passes
+use Rattle.kit_ruled_views.specs.Functions.{KitContext}
+use Rattle.kit_ruled_views.specs.Ruled.{KitTree}
+use Rattle.kit_writable_trees.specs.Writable.{IsWritableRoot}
+
+-- the pass on programs that it is
+abbrev pub pass_of : KitPass → Pass
+pass_of passes.Sccp = SccpPass
+pass_of passes.Dce = DcePass
+pass_of passes.SimplifyCfg = SimplifyPass
+
+-- The operation holds a module afterwards, which has the same types to choose from. Where it stood for a tree, it
+-- stands for one now of which `Makes` tells, and which can be written as a text where the first could be.
+pub record Leaves (Makes : KitTree → KitTree → Type 0) (old new : KitContext) (root : Ptr Operation) : Type 0 where
+  pub holds : HoldsModule new root
+  pub types : new.types ≡ old.types
+  pub tree : (t : KitTree) → StandsFor old.program root t →
+      (u : KitTree) × StandsFor new.program root u × Makes t u
+      × (IsWritableRoot old.types.keys t → IsWritableRoot old.types.keys u)
+
+-- what one pass leaves
+abbrev pub IsPassed : Pass → KitContext → KitContext → Ptr Operation → Type 0
+IsPassed x old new root = Leaves (IsTreePass {N = by_handle} x) old new root
+
+-- what a list of passes leaves, one after another, whatever numbers the names of functions have
+abbrev pub IsOptimised : List Pass → KitContext → KitContext → Ptr Operation → Type 0
+IsOptimised xs old new root =
+    Leaves
+    (λ t u. (numbered : List ℕ → ℕ) → IsTreeAfter {N = by_handle} (key_at old.types) numbered xs t u) old new root
+
+-- what the old context has come of by a list of passes, the new one has come of by the list with the pass behind it
+abbrev pub GoesOn : Pass → KitContext → KitContext → Ptr Operation → Type 0
+GoesOn x old new root = (start : KitContext) (xs : List Pass) → IsOptimised xs start old root →
+    IsOptimised (xs ++ x ∷ []) start new root
+
+-- the tree that the operation stands for is sound, whatever numbers the names of functions have
+abbrev pub IsSoundRoot : KitContext → Ptr Operation → Type 0
+IsSoundRoot s root = (t : KitTree) → StandsFor s.program root t → (numbered : List ℕ → ℕ) →
+    IsSoundTree {N = by_handle} (key_at s.types) numbered t

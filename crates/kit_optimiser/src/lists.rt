@@ -1,0 +1,70 @@
+//! Lists of optimisations of a module.
+ghost use Rattle.std.specs.Prelude.{OnOk, map};
+ghost use Rattle.kit_held_modules.specs.Held.{HoldsModule};
+ghost use Rattle.kit_optimiser.specs.Passed.{GoesOn, IsOptimised, IsPassed, pass_of};
+
+use crate::{KitPass, know_sound, propagate_constants, remove_dead, simplify_control_flow};
+use ir_base::GrowError;
+use ir_context::Context;
+use ir_program::{Operation, Ptr};
+use kit::Kit;
+use std::alloc::Global;
+
+/// Runs a pass on a module.
+///
+/// # Errors
+/// Those of the pass.
+fn run_pass(
+    alloc: Global,
+    ctx: &mut Context<Kit>,
+    root: Ptr<Operation>,
+    pass: KitPass,
+) -> Result<(), GrowError>
+    requires { HoldsModule ctx.old root }
+    ensures { OnOk result (IsPassed (pass_of pass) ctx.old ctx.new root) }
+{
+    match pass {
+        KitPass::Sccp => propagate_constants(alloc, ctx, root),
+        KitPass::Dce => remove_dead(alloc, ctx, root),
+        KitPass::SimplifyCfg => simplify_control_flow(alloc, ctx, root),
+    }
+}
+
+/// Runs a pass on a module after those that made it what it is.
+///
+/// # Errors
+/// Those of the pass.
+fn run_next_pass(
+    alloc: Global,
+    ctx: &mut Context<Kit>,
+    root: Ptr<Operation>,
+    pass: KitPass,
+) -> Result<(), GrowError>
+    requires { HoldsModule ctx.old root }
+    ensures { OnOk result (GoesOn (pass_of pass) ctx.old ctx.new root) }
+{
+    know_sound(ctx, root);
+    run_pass(alloc, ctx, root, pass)
+}
+
+/// Runs passes one after another on a module that keeps the rules. What they make keeps them too, its program is what
+/// the passes on programs make of the module's program, and where the module could be written as a text, so it can be
+/// afterwards.
+///
+/// # Errors
+/// `Memory`, and `CounterFull` where no handle or no number of a value is left: some of the passes are done then, and a
+/// part of the next may be.
+pub fn run_passes(
+    alloc: Global,
+    ctx: &mut Context<Kit>,
+    root: Ptr<Operation>,
+    passes: &[KitPass],
+) -> Result<(), GrowError>
+    requires { HoldsModule ctx.old root }
+    ensures { OnOk result (IsOptimised (map pass_of passes.now) ctx.old ctx.new root) }
+{
+    for pass in passes {
+        run_next_pass(alloc, ctx, root, *pass)?;
+    }
+    Ok(())
+}

@@ -1,0 +1,132 @@
+//! One optimisation of a module.
+ghost use Rattle.std.specs.Prelude.{◌≡◌, OnOk};
+ghost use Rattle.kit_behaviour.specs.PassLists.{DcePass, SccpPass, SimplifyPass};
+ghost use Rattle.kit_held_modules.specs.Held.{HoldsModule};
+ghost use Rattle.kit_optimiser.specs.Passed.{IsPassed};
+ghost use Rattle.opt_dialect.specs.Statuses.{error_of};
+ghost use Rattle.opt_sccp.specs.Made.{IsShortage};
+
+use ir_base::GrowError;
+use ir_context::Context;
+use ir_opts::{OptError, dce, sccp, simplify_cfg};
+use ir_program::{Operation, Ptr};
+use ir_trees::know_tree;
+use ir_types::Types;
+use kit::Kit;
+use kit_chain_rules::{know_definers, simplify_keeps_rules};
+use kit_held_modules::{
+    dce_stays_apart, know_no_live_use, know_surroundings, sccp_stays_apart, simplify_stays_apart,
+};
+use kit_pass_rules::{dce_keeps_rules, know_handles_and_types, sccp_keeps_rules};
+use kit_passed_trees::{know_propagated, removed_stand_alone, simplified_stand_alone};
+use kit_ruled_passes::{know_determined, know_premises};
+use kit_writable_passes::{dce_stays_writable, sccp_stays_writable, simplify_stays_writable};
+use opt_inside::know_occurrences;
+use std::alloc::Global;
+
+/// What can't grow, where a pass is refused for that.
+fn shortage_of(error: OptError) -> GrowError
+    requires { IsShortage error }
+    ensures { error ≡ error_of result }
+{
+    match error {
+        OptError::Memory => GrowError::Memory,
+        OptError::CounterFull => GrowError::CounterFull,
+        OptError::UndeterminedOperand => unreachable!(),
+        OptError::LiveUse => unreachable!(),
+    }
+}
+
+/// Propagates constants in a module that keeps the rules. What it makes keeps them too, and where the module could be
+/// written as a text, so it can be afterwards.
+///
+/// # Errors
+/// `Memory`, and `CounterFull` where no handle or no number of a value is left: some of the constants may be put in
+/// then.
+pub fn propagate_constants(
+    alloc: Global,
+    ctx: &mut Context<Kit>,
+    root: Ptr<Operation>,
+) -> Result<(), GrowError>
+    requires { HoldsModule ctx.old root }
+    ensures { OnOk result (IsPassed SccpPass ctx.old ctx.new root) }
+{
+    know_premises(ctx, root);
+    know_determined(ctx, root);
+    know_handles_and_types(ctx, root);
+    know_propagated(ctx, root);
+    sccp_stays_apart(ctx, root);
+    know_tree(ctx.program(), root);
+    sccp_keeps_rules();
+    sccp_stays_writable();
+    match sccp::<Kit, Types<Kit>>(alloc, root, ctx) {
+        Ok(_) => {
+            know_handles_and_types(ctx, root);
+            Ok(())
+        }
+        Err(error) => Err(shortage_of(error)),
+    }
+}
+
+/// Takes out what is dead in a module that keeps the rules. What it leaves keeps them too, and where the module could
+/// be written as a text, so it can be afterwards.
+///
+/// # Errors
+/// `Memory`.
+pub fn remove_dead(
+    alloc: Global,
+    ctx: &mut Context<Kit>,
+    root: Ptr<Operation>,
+) -> Result<(), GrowError>
+    requires { HoldsModule ctx.old root }
+    ensures { OnOk result (IsPassed DcePass ctx.old ctx.new root) }
+{
+    know_premises(ctx, root);
+    know_handles_and_types(ctx, root);
+    dce_stays_apart(ctx, root);
+    know_tree(ctx.program(), root);
+    know_occurrences(ctx.program(), root);
+    removed_stand_alone();
+    dce_keeps_rules();
+    dce_stays_writable();
+    match dce::<Kit, Types<Kit>>(alloc, root, ctx) {
+        Ok(_) => {
+            know_handles_and_types(ctx, root);
+            Ok(())
+        }
+        Err(error) => Err(shortage_of(error)),
+    }
+}
+
+/// Simplifies control flow in a module that keeps the rules. What it makes keeps them too, and where the module could
+/// be written as a text, so it can be afterwards.
+///
+/// # Errors
+/// `Memory`, and `CounterFull` where no handle is left for a branch: some of the branches may be decided then, or whole
+/// phases done.
+pub fn simplify_control_flow(
+    alloc: Global,
+    ctx: &mut Context<Kit>,
+    root: Ptr<Operation>,
+) -> Result<(), GrowError>
+    requires { HoldsModule ctx.old root }
+    ensures { OnOk result (IsPassed SimplifyPass ctx.old ctx.new root) }
+{
+    know_premises(ctx, root);
+    know_handles_and_types(ctx, root);
+    know_definers(ctx, root);
+    know_surroundings(ctx, root);
+    know_no_live_use(ctx, root);
+    simplify_stays_apart(ctx, root);
+    know_tree(ctx.program(), root);
+    simplified_stand_alone();
+    simplify_keeps_rules();
+    simplify_stays_writable();
+    match simplify_cfg::<Kit, Types<Kit>>(alloc, root, ctx) {
+        Ok(_) => {
+            know_handles_and_types(ctx, root);
+            Ok(())
+        }
+        Err(error) => Err(shortage_of(error)),
+    }
+}
