@@ -1,0 +1,337 @@
+-- What the pieces of an operation tell of its attributes.
+use Rattle.std.proofs.Common.{◌≡◌, ◌⊎◌, inl, inr, ℕ, zero, suc, Bool, true, false, cond, ◌&&◌, List, [], ◌∷◌, length}
+use Rattle.std.proofs.Common.{Option, Some, None}
+use Rattle.std.proofs.Common.{option_and_then, refl, sym, ap, ◌∙◌, subst, arith, ◌^◌}
+use Rattle.std.specs.Prelude.{◌==◌, nat_lt, bytes_eq}
+use Rattle.std.proofs.lemmas.Bool.{false≢true}
+use Rattle.std.proofs.lemmas.Bool.Decides.{Decides-eqb}
+use Rattle.std.proofs.lemmas.Option.{none-some, same_Some, some_pair_parts}
+use Rattle.std.proofs.lemmas.Slice.Eq.{bytes_eq-Decides}
+use Rattle.ir_base.specs.declared.types.TypeHandle.{TypeHandle}
+use Rattle.ir_names.specs.Dictionary.{attribute_at}
+use Rattle.ir_names.specs.Identifier.{text_of}
+use Rattle.ir_names.specs.Tree.{Tree, Trees, node, no_tree, a_tree}
+use Rattle.ir_print.specs.Pieces.{width, attribute_of_kind, ValueTree, Pieces}
+use Rattle.ir_print.specs.Shown.{Said, said_type, said_attribute, said_name, said_number, said_region, said_width}
+use Rattle.ir_print.specs.Shown.{leaf, ShowsAll, ShowsType}
+use Rattle.kit_ops.specs.declared.attributes.IntegerAttr.{IntegerAttr}
+use Rattle.kit_ops.specs.declared.attributes.KitAttr.{KitAttr}
+use Rattle.kit_ops.specs.declared.attributes.KitAttr.TheVariants as attrs
+use Rattle.kit_ops.specs.declared.attributes.keys.TheConstants.{SYMBOL_NAME, FUNCTION_TYPE, CONSTANT_VALUE}
+use Rattle.kit_ops.specs.declared.kinds.KitOp.{KitOp}
+use Rattle.kit_ops.specs.declared.kinds.KitOp.TheVariants as ops
+use Rattle.kit_ops.specs.declared.types.IntegerType.{IntegerType}
+use Rattle.kit_ops.specs.declared.types.KitType.{KitType}
+use Rattle.kit_ops.specs.Keys.{symbol_name, function_type, constant_value}
+use Rattle.kit.specs.Meaning.{is_function}
+use Rattle.kit_checks.specs.Rules.{MayHave}
+use Rattle.kit_checks.specs.Words.{Every, identifier_in, type_in}
+use Rattle.kit_texts.specs.Forms.{OpForm, NamedRegion, TypedRegion, Value, TwoOperands, OneOperand, AnyOperands}
+use Rattle.kit_texts.specs.Forms.{form_of}
+use Rattle.kit_texts.specs.Numbers.{printed_number}
+use Rattle.kit_texts.specs.Says.{says, one, two, only, has_values, integer_said, said_of_attribute, said_of_module}
+use Rattle.kit_texts.specs.Says.{said_of_function}
+use Rattle.kit_texts.specs.Says.{said_of_constant, said_of_pair, said_in}
+use Rattle.kit_texts.specs.Seen.{first_seen, one_seen, two_seen, three_seen}
+use Rattle.kit_views.specs.Reading.{number_in}
+use Rattle.kit_text_programs.proofs.SaidHeads.{said_parts, bits_shown}
+use Rattle.kit_text_programs.proofs.SaidPrograms.{name_said, bits_said}
+
+abbrev pub Entries : Type 0
+Entries = List (List ℕ × KitAttr)
+
+abbrev pub SaidTrees : Type 0
+SaidTrees = Trees (Said KitAttr)
+
+-- ---- entries
+
+and_left : (b c : Bool) → (b && c) ≡ true → b ≡ true
+and_left true c e = refl
+and_left false c e = absurd (false≢true e)
+
+only_some : {X : Type 0} (b : Bool) (o : Option X) (x : X) → only b o ≡ Some x → (b ≡ true) × (o ≡ Some x)
+only_some true o x e = (refl, e)
+only_some false o x e = absurd (none-some x e)
+
+no_entries : (es : Entries) → (length es == 0) ≡ true → es ≡ []
+no_entries [] e = refl
+no_entries (x ∷ es) e = let l = (Decides-eqb (length (x ∷ es)) 0).0 e in absurd (omega arith)
+
+last_entry : (key k : List ℕ) (v a : KitAttr) → attribute_at ((k, v) ∷ []) key ≡ Some a → (key ≡ k) × (v ≡ a)
+last_entry key k v a e = by (bytes_eq key k) refl e
+  where
+    by : (b : Bool) → bytes_eq key k ≡ b → cond b (Some v) None ≡ Some a → (key ≡ k) × (v ≡ a)
+    by true t q = ((bytes_eq-Decides key k).0 t, same_Some v a q)
+    by false t q = absurd (none-some a q)
+
+one_entry : (es : Entries) (key : List ℕ) (a : KitAttr) → (length es == 1) ≡ true → attribute_at es key ≡ Some a
+    → es ≡ (key, a) ∷ []
+one_entry [] key a l e = absurd (none-some a e)
+one_entry ((k, v) ∷ []) key a l e =
+    let same = last_entry key k v a e in
+    ap (λ (c : KitAttr). (k, c) ∷ []) same.1 ∙ ap (λ (c : List ℕ). (c, a) ∷ []) (sym same.0)
+one_entry (x ∷ y ∷ es) key a l e = let n = (Decides-eqb (length (x ∷ y ∷ es)) 1).0 l in absurd (omega arith)
+
+-- ---- lists
+
+none_every : {X : Type 0} (P : X → Type 0) → Every P []
+none_every P k x at = cc
+
+front_every : {X : Type 0} (P : X → Type 0) (y : X) (ys : List X) → P y → Every P ys → Every P (y ∷ ys)
+front_every P y ys p all zero x at = let o : Some y ≡ Some x = at in let same : y ≡ x = cc in subst P same p
+front_every P y ys p all (suc k) x at = all k x at
+
+abbrev IsFunctionKey : List ℕ → Type 0
+IsFunctionKey key = (key ≡ symbol_name) ⊎ (key ≡ function_type)
+
+-- a function's own attributes
+two_own : (es : Entries) (a b : KitAttr) → (length es == 2) ≡ true → attribute_at es symbol_name ≡ Some a
+    → attribute_at es function_type ≡ Some b → Every (MayHave ops.Func) es
+two_own [] a b l e f = absurd (none-some a e)
+two_own (x ∷ []) a b l e f = let n = (Decides-eqb (length (x ∷ [])) 2).0 l in absurd (omega arith)
+two_own (x ∷ y ∷ z ∷ es) a b l e f = let n = (Decides-eqb (length (x ∷ y ∷ z ∷ es)) 2).0 l in absurd (omega arith)
+two_own ((k, v) ∷ (m, u) ∷ []) a b l e f = by (bytes_eq symbol_name k) refl e
+  where
+    both : IsFunctionKey k → IsFunctionKey m → Every (MayHave ops.Func) ((k, v) ∷ (m, u) ∷ [])
+    both p q = front_every (MayHave ops.Func) (k, v) ((m, u) ∷ []) (inl p)
+        (front_every (MayHave ops.Func) (m, u) [] (inl q) (none_every (MayHave ops.Func)))
+
+    second : (c : List ℕ) → symbol_name ≡ c → attribute_at ((c, v) ∷ (m, u) ∷ []) function_type ≡ Some b
+        → function_type ≡ m
+    second c same q =
+        let at : attribute_at ((symbol_name, v) ∷ (m, u) ∷ []) function_type ≡ Some b =
+        subst (λ (d : List ℕ). attribute_at ((d, v) ∷ (m, u) ∷ []) function_type ≡ Some b) (sym same) q in
+        (last_entry function_type m u b at).0
+
+    first : (c : List ℕ) → symbol_name ≡ c → attribute_at ((k, v) ∷ (c, u) ∷ []) function_type ≡ Some b
+        → function_type ≡ k
+    first c same q =
+        let at : attribute_at ((k, v) ∷ (symbol_name, u) ∷ []) function_type ≡ Some b =
+        subst (λ (d : List ℕ). attribute_at ((k, v) ∷ (d, u) ∷ []) function_type ≡ Some b) (sym same) q in
+        which (bytes_eq function_type k) refl at
+      where
+        which : (t : Bool) → bytes_eq function_type k ≡ t → cond t (Some v) None ≡ Some b → function_type ≡ k
+        which true t r = (bytes_eq-Decides function_type k).0 t
+        which false t r = absurd (none-some b r)
+
+    by : (t : Bool) → bytes_eq symbol_name k ≡ t → cond t (Some v) (attribute_at ((m, u) ∷ []) symbol_name) ≡ Some a
+        → Every (MayHave ops.Func) ((k, v) ∷ (m, u) ∷ [])
+    by true t q =
+        let here = (bytes_eq-Decides symbol_name k).0 t in both (inl (sym here)) (inr (sym (second k here f)))
+    by false t q =
+        let here = (last_entry symbol_name m u a q).0 in both (inr (sym (first m here f))) (inl (sym here))
+
+-- ---- what is read
+
+abbrev is_constant : KitOp → Bool
+is_constant ops.Constant = true
+is_constant _ = false
+
+-- the name of a module or of a function
+abbrev pub name_read : KitOp → Pieces → Option (List ℕ)
+name_read ops.Module ps = Some (name_said ps)
+name_read ops.Func ps = Some (name_said ps)
+name_read _ ps = None
+
+-- the type behind the name of a function
+abbrev pub type_read : Pieces → Option ValueTree
+type_read (a_tree p (a_tree t ps)) = Some t
+type_read _ = None
+
+-- the integer type of a constant
+abbrev pub integer_read : Pieces → Option IntegerType
+integer_read (a_tree (node l (a_tree p (a_tree (node (width s w) vs) ws))) ts) =
+    Some (record { signedness = s; width = w })
+integer_read _ = None
+
+pub record IsRead (keys : List KitType) (k : KitOp) (es : Entries) (ps : Pieces) : Type 0 where
+  pub names : option_and_then identifier_in (attribute_at es SYMBOL_NAME.now) ≡ name_read k ps
+  pub types : k ≡ ops.Func → (ty : TypeHandle) × (t : ValueTree) × ShowsType says keys ty t × (type_read ps ≡ Some t)
+      × (option_and_then type_in (attribute_at es FUNCTION_TYPE.now) ≡ Some ty)
+  pub valued : k ≡ ops.Constant → (v : IntegerAttr) × (attribute_at es CONSTANT_VALUE.now ≡ Some (attrs.Integer v))
+      × (v.bits ≡ bits_said ps) × (integer_read ps ≡ Some v.integer)
+  pub own : Every (MayHave k) es
+
+module _ (keys : List KitType) (es : Entries) (n : ℕ) (tys : List TypeHandle) (kind : ℕ) (said : SaidTrees)
+    (ps : Pieces)
+    (shown : ShowsAll says keys said ps) where
+  said_as : (k : KitOp) (form : OpForm) → says.of_operation k es n tys ≡ Some (kind, said) → form_of k ≡ Some form
+      → said_in form es n tys ≡ Some said
+  said_as k form e is =
+      let parts = said_parts k es n tys kind said e in
+      let same : parts.0 ≡ form = same_Some parts.0 form (sym parts.1 ∙ is) in
+      subst (λ f. said_in f es n tys ≡ Some said) same parts.3
+
+  name_first : (cs : List ℕ) (us : SaidTrees) → ShowsAll says keys (a_tree (leaf (said_name cs)) us) ps
+      → Some cs ≡ Some (name_said ps)
+  name_first cs us h =
+      let k = first_seen says keys (leaf (said_name cs)) us ps h in
+      ap Some (sym (ap name_said k.2 ∙ ap (λ (t : ValueTree). name_said (a_tree t k.1)) k.3.1))
+
+  -- an operation without attributes
+  bare : (k : KitOp) → is_function k ≡ false → is_constant k ≡ false → None ≡ name_read k ps → (length es == 0) ≡ true
+      → IsRead keys k es ps
+  bare k f c e none =
+      let empty = no_entries es none in
+      record {
+        names = ap (λ (x : Entries). option_and_then identifier_in (attribute_at x SYMBOL_NAME.now)) empty ∙ e;
+        types = λ is. absurd (false≢true (sym f ∙ ap is_function is));
+        valued = λ is. absurd (false≢true (sym c ∙ ap is_constant is));
+        own = subst (Every (MayHave k)) (sym empty) (none_every (MayHave k));
+      }
+
+  module_read : (o : Option KitAttr) → attribute_at es symbol_name ≡ o → (length es == 1) ≡ true
+      → said_of_module o ≡ Some said → IsRead keys ops.Module es ps
+  module_read None at l e = absurd (none-some said e)
+  module_read (Some (attrs.Identifier id)) at l e =
+      let same = same_Some (two (leaf (said_name (text_of id))) (leaf said_region)) said e in
+      record {
+        names = ap (option_and_then identifier_in) at ∙ name_first (text_of id) (one (leaf said_region))
+            (subst (λ (z : SaidTrees). ShowsAll says keys z ps) (sym same) shown);
+        types = λ is. absurd (false≢true (ap is_function is));
+        valued = λ is. absurd (false≢true (ap is_constant is));
+        own = subst (Every (MayHave ops.Module)) (sym (one_entry es symbol_name (attrs.Identifier id) l at))
+            (front_every (MayHave ops.Module) (symbol_name, attrs.Identifier id) [] (inl refl)
+            (none_every (MayHave ops.Module)));
+      }
+  module_read (Some (attrs.Integer a)) at l e = absurd (none-some said e)
+  module_read (Some (attrs.«Type» a)) at l e = absurd (none-some said e)
+  module_read (Some (attrs.SegmentSizes a)) at l e = absurd (none-some said e)
+  module_read (Some (attrs.GivenNames a)) at l e = absurd (none-some said e)
+  module_read (Some (attrs.Note a)) at l e = absurd (none-some said e)
+  module_read (Some (attrs.Origin a)) at l e = absurd (none-some said e)
+
+  -- the handle of a type is shown by the second piece
+  second_type : (cs : List ℕ) (ty : TypeHandle)
+      → ShowsAll says keys (a_tree (leaf (said_name cs)) (two (leaf (said_type ty)) (leaf said_region))) ps
+      → (t : ValueTree) × ShowsType says keys ty t × (type_read ps ≡ Some t)
+  second_type cs ty h =
+      let k = three_seen says keys (leaf (said_name cs)) (leaf (said_type ty)) (leaf said_region) ps h in
+      (k.1, subst (ShowsType says keys ty) (sym k.5.2) k.5.3, ap type_read k.3)
+
+  typed_read : (o p : Option KitAttr) → attribute_at es symbol_name ≡ o → attribute_at es function_type ≡ p
+      → (length es == 2) ≡ true → said_of_function o p ≡ Some said → IsRead keys ops.Func es ps
+  typed_read (Some (attrs.Identifier id)) (Some (attrs.«Type» ty)) at there l e =
+      let same = same_Some (a_tree (leaf (said_name (text_of id))) (two (leaf (said_type ty))
+      (leaf said_region))) said e in
+      let all = subst (λ (z : SaidTrees). ShowsAll says keys z ps) (sym same) shown in
+      let type = second_type (text_of id) ty all in
+      record {
+        names = ap (option_and_then identifier_in) at ∙ name_first (text_of id) (two (leaf (said_type ty))
+            (leaf said_region)) all;
+        types = λ is. (ty, type.0, type.1, type.2, ap (option_and_then type_in) there);
+        valued = λ is. absurd (false≢true (ap is_constant is));
+        own = two_own es (attrs.Identifier id) (attrs.«Type» ty) l at there;
+      }
+  typed_read None p at there l e = absurd (none-some said e)
+  typed_read (Some (attrs.Integer a)) p at there l e = absurd (none-some said e)
+  typed_read (Some (attrs.«Type» a)) p at there l e = absurd (none-some said e)
+  typed_read (Some (attrs.SegmentSizes a)) p at there l e = absurd (none-some said e)
+  typed_read (Some (attrs.GivenNames a)) p at there l e = absurd (none-some said e)
+  typed_read (Some (attrs.Note a)) p at there l e = absurd (none-some said e)
+  typed_read (Some (attrs.Origin a)) p at there l e = absurd (none-some said e)
+  typed_read (Some (attrs.Identifier id)) None at there l e = absurd (none-some said e)
+  typed_read (Some (attrs.Identifier id)) (Some (attrs.Identifier a)) at there l e = absurd (none-some said e)
+  typed_read (Some (attrs.Identifier id)) (Some (attrs.Integer a)) at there l e = absurd (none-some said e)
+  typed_read (Some (attrs.Identifier id)) (Some (attrs.SegmentSizes a)) at there l e = absurd (none-some said e)
+  typed_read (Some (attrs.Identifier id)) (Some (attrs.GivenNames a)) at there l e = absurd (none-some said e)
+  typed_read (Some (attrs.Identifier id)) (Some (attrs.Note a)) at there l e = absurd (none-some said e)
+  typed_read (Some (attrs.Identifier id)) (Some (attrs.Origin a)) at there l e = absurd (none-some said e)
+
+  -- ---- constants
+
+  attr_same : (a b : KitAttr) → ◌≡◌ {A = Tree (Said KitAttr)} (leaf (said_attribute a)) (leaf (said_attribute b))
+      → a ≡ b
+  attr_same a b e = cc
+
+  width_read : (a : IntegerAttr) (m : ℕ) (ts : Pieces)
+      → ShowsAll says keys (integer_said a.integer.signedness a.integer.width (printed_number a)) ts
+      → integer_read (a_tree (node (attribute_of_kind m) ts) no_tree) ≡ Some a.integer
+  width_read a m ts h =
+      let x = printed_number a in
+      let k = two_seen says keys (leaf (said_number x.is_negative x.magnitude))
+      (leaf (said_width a.integer.signedness a.integer.width)) ts h in
+      ap (λ (us : Pieces). integer_read (a_tree (node (attribute_of_kind m) us) no_tree)) k.2
+      ∙ ap (λ (t : ValueTree). integer_read (a_tree (node (attribute_of_kind m) (a_tree k.0
+      (a_tree t no_tree))) no_tree)) k.4.1
+
+  attribute_read : (b : KitAttr) (m : ℕ) (us : SaidTrees) (ts : Pieces) → said_of_attribute b ≡ Some (m, us)
+      → ShowsAll says keys us ts
+      → (v : IntegerAttr) × (b ≡ attrs.Integer v) × (integer_read (a_tree (node
+      (attribute_of_kind m) ts) no_tree) ≡ Some v.integer)
+  attribute_read (attrs.Integer a) m us ts e h =
+      let said : SaidTrees = integer_said a.integer.signedness a.integer.width (printed_number a) in
+      let kept = only_some {X = ℕ × SaidTrees} (has_values a.integer.width && nat_lt a.bits (2 ^ a.integer.width))
+      (Some (0, said)) (m, us) e in
+      let parts = some_pair_parts 0 m said us kept.1 in
+      (a, refl, width_read a m ts (subst (λ (z : SaidTrees). ShowsAll says keys z ts) (sym parts.1) h))
+  attribute_read (attrs.Identifier a) m us ts e h = absurd (none-some {A = ℕ × SaidTrees} (m, us) e)
+  attribute_read (attrs.«Type» a) m us ts e h = absurd (none-some {A = ℕ × SaidTrees} (m, us) e)
+  attribute_read (attrs.SegmentSizes a) m us ts e h = absurd (none-some {A = ℕ × SaidTrees} (m, us) e)
+  attribute_read (attrs.GivenNames a) m us ts e h = absurd (none-some {A = ℕ × SaidTrees} (m, us) e)
+  attribute_read (attrs.Note a) m us ts e h = absurd (none-some {A = ℕ × SaidTrees} (m, us) e)
+  attribute_read (attrs.Origin a) m us ts e h = absurd (none-some {A = ℕ × SaidTrees} (m, us) e)
+
+  value_piece : (b : KitAttr) → ShowsAll says keys (one (leaf (said_attribute b))) ps
+      → (v : IntegerAttr) × (b ≡ attrs.Integer v) × (integer_read ps ≡ Some v.integer)
+  value_piece b h =
+      let k = one_seen says keys (leaf (said_attribute b)) ps h in
+      let inside = k.2.3 in
+      let same : b ≡ inside.0 = attr_same b inside.0 inside.2 in
+      let r = attribute_read inside.0 k.2.0 inside.1 k.2.1 inside.3 inside.4 in
+      (r.0, same ∙ r.1, ap integer_read (k.1 ∙ ap (λ (t : ValueTree). a_tree t no_tree) k.2.2) ∙ r.2)
+
+  constant_read : (o : Option KitAttr) → attribute_at es constant_value ≡ o → (length es == 1) ≡ true
+      → said_of_constant o ≡ Some said → number_in o ≡ bits_said ps → IsRead keys ops.Constant es ps
+  constant_read None at l e bits = absurd (none-some said e)
+  constant_read (Some b) at l e bits =
+      let same = same_Some (one (leaf (said_attribute b))) said e in
+      let v = value_piece b (subst (λ (z : SaidTrees). ShowsAll says keys z ps) (sym same) shown) in
+      let entries = one_entry es constant_value b l at in
+      record {
+        names = ap (λ (x : Entries). option_and_then identifier_in (attribute_at x SYMBOL_NAME.now)) entries;
+        types = λ is. absurd (false≢true (ap is_function is));
+        valued = λ is. (v.0, at ∙ ap Some v.1, ap (λ (c : KitAttr). number_in (Some c)) (sym v.1) ∙ bits, v.2);
+        own = subst (Every (MayHave ops.Constant)) (sym entries)
+            (front_every (MayHave ops.Constant) (constant_value, b) [] (inl refl) (none_every (MayHave ops.Constant)));
+      }
+
+  -- what an operation says tells this of its attributes
+  pub read : (k : KitOp) → says.of_operation k es n tys ≡ Some (kind, said) → IsRead keys k es ps
+  read ops.Module e =
+      let kept = only_some (length es == 1 && n == 0) (said_of_module (attribute_at es symbol_name)) said
+      (said_as ops.Module NamedRegion e refl) in
+      module_read (attribute_at es symbol_name) refl (and_left (length es == 1) (n == 0) kept.0) kept.1
+  read ops.Func e =
+      let kept = only_some (length es == 2 && n == 0)
+      (said_of_function (attribute_at es symbol_name) (attribute_at es function_type)) said
+      (said_as ops.Func TypedRegion e refl) in
+      typed_read (attribute_at es symbol_name) (attribute_at es function_type) refl refl
+      (and_left (length es == 2) (n == 0) kept.0) kept.1
+  read ops.Constant e =
+      let kept = only_some (length es == 1 && n == 0) (said_of_constant (attribute_at es constant_value)) said
+      (said_as ops.Constant Value e refl) in
+      constant_read (attribute_at es constant_value) refl (and_left (length es == 1) (n == 0) kept.0) kept.1
+      (bits_shown keys ops.Constant es n tys kind said ps e shown refl)
+  read (ops.Arithmetic a) e =
+      let kept = only_some (length es == 0 && n == 2) (said_of_pair tys) said (said_as
+      (ops.Arithmetic a) TwoOperands e refl) in
+      bare (ops.Arithmetic a) refl refl refl (and_left (length es == 0) (n == 2) kept.0)
+  read (ops.Comparison a) e =
+      let kept = only_some (length es == 0 && n == 2) (said_of_pair tys) said (said_as
+      (ops.Comparison a) TwoOperands e refl) in
+      bare (ops.Comparison a) refl refl refl (and_left (length es == 0) (n == 2) kept.0)
+  read ops.Emit e =
+      let kept = only_some (length es == 0 && n == 1) _ said (said_as ops.Emit OneOperand e refl) in
+      bare ops.Emit refl refl refl (and_left (length es == 0) (n == 1) kept.0)
+  read ops.Return e =
+      let kept = only_some (length es == 0) _ said (said_as ops.Return AnyOperands e refl) in
+      bare ops.Return refl refl refl kept.0
+  read ops.Br e = absurd (none-some (said_parts ops.Br es n tys kind said e).0
+      (said_parts ops.Br es n tys kind said e).1)
+  read ops.CondBr e = absurd (none-some (said_parts ops.CondBr es n tys kind said e).0
+      (said_parts ops.CondBr es n tys kind said e).1)
+  read ops.Call e = absurd (none-some (said_parts ops.Call es n tys kind said e).0
+      (said_parts ops.Call es n tys kind said e).1)
+  read ops.ForwardRef e = absurd (none-some (said_parts ops.ForwardRef es n tys kind said e).0
+      (said_parts ops.ForwardRef es n tys kind said e).1)
