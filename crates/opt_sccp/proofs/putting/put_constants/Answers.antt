@@ -50,10 +50,10 @@ returns-in_err-put_one-clause-full g c = λ e.
     let p = err_from_is_err_and c.from_residual.result c.from_residual.ensures.1 in
     let same : Err p.0 ≡ Err CounterFull = sym p.1 ∙ e in
     let inner : p.0 ≡ CounterFull = cc in (
-  c.loop-one.ctx.program,
-  (c.loop-one.one-index, c.loop-one-test.true, ends g.D.Meanings.meaning c.args.ctx.now.program c.args.op c.loop-one.ctx.program c.args.made.now c.loop-one.one-index c.loop-one.invariant.putting c.requires.list),
-  c.in_err-put_one.ensures.full (ap (λ x. Err x) (sym p.2 ∙ inner)),
-)
+      c.loop-one.ctx.program,
+      (c.loop-one.one-index, c.loop-one-test.true, ends g.D.Meanings.meaning c.args.ctx.now.program c.args.op c.loop-one.ctx.program c.args.made.now c.loop-one.one-index c.loop-one.invariant.putting c.requires.list),
+      c.in_err-put_one.ensures.full (ap (λ x. Err x) (sym p.2 ∙ inner)),
+    )
 
 pub loop-one-preserved : goal.loop-one-preserved
 loop-one-preserved g c = record {
