@@ -1,12 +1,9 @@
-//! The table by which the texts of a dialect are read, as the dialect gives it.
-ghost use Rattle.std.specs.Prelude.{◌≡◌, IfOk, map, true};
-ghost use Rattle.ir_formats.specs.Predicting.{fits, plain_facts};
-ghost use Rattle.ir_formats.specs.Given.{grammar_value, plain_part, dense, rule_at, is_in};
-ghost use Rattle.ir_formats.specs.Rules.{rules_of};
-ghost use Rattle.ir_formats.specs.Ordered.{Leads, is_ordered};
+//! The table by which texts are read, as a dialect gives it.
+ghost use Rattle.std.specs.Prelude.{◌≡◌, IfOk, map};
+ghost use Rattle.ir_formats.specs.Predicting.{plain_facts};
+ghost use Rattle.ir_formats.specs.Given.{plain_part, dense, rule_at, is_in};
 
 use ir_grammar::grammar::Facts;
-use ir_print::TextDialect;
 use std::alloc::{AllocError, Global};
 
 /// What a table knows of a part of the grammar. Column 0 is the end of the text, and column k + 1 a token of kind k.
@@ -24,18 +21,6 @@ pub struct PartTable {
     pub shortest: usize,
     /// Less than this are the ranks of the parts in `shortest`.
     pub rank: u32,
-}
-
-/// A dialect whose texts can be read: the next token decides each step.
-pub trait ReadDialect: TextDialect {
-    /// Where each part of that grammar may stand, and where it leads to.
-    ghost leads: { Leads };
-
-    /// The table of the grammar that the dialect's formats make, as [`table_of`](crate::table_of) writes it.
-    fn table() -> &'static [PartTable]
-        ensures { fits (grammar_value Self.formats (map plain_part result.now)) ≡ true };
-
-    ghost ordered: { is_ordered leads (rules_of Self.formats) ≡ true };
 }
 
 /// The rule for a column.

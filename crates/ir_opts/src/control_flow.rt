@@ -1,11 +1,14 @@
 //! Simplification of control flow.
-ghost use Rattle.std.specs.Prelude.{◌≡◌, ◌↔◌, Ok, IfErr, IfOk, IsSome, OnOk};
-ghost use Rattle.ir_program.specs.Program.{operation_at};
+ghost use Rattle.std.specs.Prelude.{◌≡◌, ◌↔◌, Err, Ok, IfErr, IfOk, IsSome, OnOk};
+ghost use Rattle.ir_program.specs.Program.{Program, operation_at};
 ghost use Rattle.ir_trees.specs.Stands.{ProgramTree, StandsFor};
 ghost use Rattle.ir_opts.specs.Simplified.{HasNothingToDo, Simplifies, StopsAt};
 ghost use Rattle.ir_opts.specs.SimplifiedTree.{SimplifiesTree};
+ghost use Rattle.opt_decide.specs.Phase.{CarriesOutPart};
 ghost use Rattle.opt_dialect.specs.declared.status.IRStatus.TheVariants.{Unchanged};
+ghost use Rattle.opt_dialect.specs.declared.status.OptError.TheVariants.{CounterFull};
 ghost use Rattle.opt_inside.specs.Edges.{FitsEdgesBelow, HasLocalEdgesBelow};
+ghost use Rattle.opt_inside.specs.Full.{IsFull};
 
 use ir_context::{TypeTable, TypedProgram};
 use ir_program::{Operation, Ptr};
@@ -44,6 +47,8 @@ pub fn simplify_cfg<D: OptDialect, T: TypeTable>(
     ensures unchanged { IfOk result (λ status. (status ≡ Unchanged) ↔ HasNothingToDo D.meaning ctx.old.program op) }
     ensures same { result ≡ Ok Unchanged → ctx.new ≡ ctx.old }
     ensures error { IfErr result (StopsAt D.meaning ctx.old.program ctx.new.program op) }
+    ensures full { result ≡ Err CounterFull → (mid : Program D.Operation D.Block)
+        × CarriesOutPart D.meaning ctx.old.program mid op × IsFull mid }
     ensures types { ctx.new.types ≡ ctx.old.types }
 {
     know_tree(ctx.program(), op);

@@ -1,10 +1,1 @@
 pub mod FormatSteps
-pub mod Owed
-pub mod ValuesOwed
-pub mod ListOwed
-pub mod Readable
-pub mod KindsPrinted
-pub mod RowsOwed
-pub mod OpsPrinted
-pub mod OperationOwed
-pub mod EntitiesPrinted

@@ -1,10 +1,7 @@
 pub mod Formats
 pub mod Pieces
 pub mod Shown
-pub mod Standing
 pub mod Layout
 pub mod Printed
 pub mod Shapes
 pub mod Nested
-pub mod Printing
-pub mod PartPrinted

@@ -1,14 +1,11 @@
 -- Which types, attributes and operations of a context say what.
-use Rattle.std.specs.Prelude.{◌≡◌, ℕ, ◌+◌, ◌^◌, ◌≤◌, Bool, List, [], ◌∷◌, map, Option, Some, None, slice_get, Vec}
+use Rattle.std.specs.Prelude.{◌≡◌, ℕ, ◌+◌, ◌^◌, ◌≤◌, Bool, List, [], ◌∷◌, Option, Some, None, slice_get, Vec}
 use Rattle.std.specs.Global.{Global}
 use Rattle.ir_base.specs.declared.types.TypeHandle.{TypeHandle}
 use Rattle.ir_names.specs.declared.kinds.Signedness.{Signedness}
 use Rattle.ir_names.specs.declared.identifier.Identifier.{Identifier}
 use Rattle.ir_names.specs.Identifier.{text_of}
 use Rattle.ir_names.specs.Tree.{Tree, Trees, node, no_tree, a_tree}
-use Rattle.ir_store.specs.declared.value.Definition.{Definition}
-use Rattle.ir_store.specs.Views.{ContextView}
-use Rattle.ir_store.specs.Context.{key_at}
 use Rattle.ir_print.specs.declared.format.Number.{Number}
 use Rattle.ir_print.specs.declared.format.Part.{Part}
 use Rattle.ir_print.specs.declared.format.Part.TheVariants as part
@@ -36,10 +33,6 @@ pub record Saying (K A T : Type 0) : Type 0 where
   pub of_attribute : A → Option (ℕ × Trees (Said A))
   -- an operation of a kind with these attributes, by name, with so many operands, and with results of these types
   pub of_operation : K → (entries : List (List ℕ × A)) → (operands : ℕ) → (results : List TypeHandle) → Option (ℕ × Trees (Said A))
-
--- the types of the results of an operation
-abbrev pub types_of_results : List Definition → List TypeHandle
-types_of_results ds = map (λ d. d.ty) ds
 
 -- the number that is read is this one; none is kept from 2^64 on
 abbrev pub IsNumber : Option Number → Bool → ℕ → Type 0
@@ -131,11 +124,6 @@ pub record Drafts {K A T : Type 0} (says : Saying K A T) (types : List T) (value
   pub said : says.of_operation kind attributes (operands_said ps) result_types ≡ Some (n, pieces)
   pub shown : ShowsAll says types pieces ps
   pub typed : Pairs (ShowsType says types) result_types (values.result_types n ps)
-
--- each type under a handle stays there, and no value is made
-pub record KeepsTypes {K A T : Type 0} (s t : ContextView K A T) : Type 0 where
-  pub types : (ty : TypeHandle) (key : T) → key_at s ty ≡ Some key → key_at t ty ≡ Some key
-  pub counter : t.counter ≡ s.counter
 
 -- the kind is the one with the number that is said
 abbrev pub IsKindOf : {A X : Type 0} → Option (ℕ × Trees (Said A)) → List X → X → Type 0

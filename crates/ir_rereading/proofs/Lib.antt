@@ -2,7 +2,7 @@ pub mod verdicts
 pub mod layouts
 pub mod trees
 pub mod DerivedReads
-pub mod StoodTrees
+pub mod SaidFits
 pub mod ReadBack
 pub mod TreeTexts
 pub mod ReadTrees

@@ -11,7 +11,6 @@ pub mod MarkSteps
 pub mod ValuesDerive
 pub mod LayoutDerives
 pub mod PrintedNames
-pub mod PrintedTrees
 pub mod PrintedDefinitions
 pub mod LayoutParts
 pub mod LayoutNumbers

@@ -1,5 +1,4 @@
 pub mod DefinedTokens
-pub mod Renamed
 pub mod Closings
 pub mod TreePlaces
 pub mod TreeCounts

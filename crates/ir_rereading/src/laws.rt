@@ -1,5 +1,5 @@
-//! Laws of texts: a text is read in one way, and its faults are met in the order of its tokens; trees of texts are closed, and
-//! what is printed of them is read again.
+//! Laws of texts: a text is read in one way, and its faults are met in the order of its tokens; what is printed of a closed
+//! tree is read again.
 ghost use Rattle.std.specs.Prelude.{◌≡◌, ◌≢◌, ◌≤◌, ◌+◌, ◌++◌, ◌⊎◌, ℕ, Bool, true, false, List, Option, Some, None, IsUtf8, [], chars, length, ◌<◌, ◌^◌, ◌∷◌};
 ghost use Rattle.ir_tokens.specs.declared.tokens.Token.{Token};
 ghost use Rattle.ir_grammar.specs.declared.grammar.Grammar.{Grammar};
@@ -23,15 +23,8 @@ ghost use Rattle.ir_formats.specs.Ordered.{Leads, is_ordered, IsInOrder, LeadsTo
 ghost use Rattle.ir_forest.specs.Identifiers.{AreSpelt};
 ghost use Rattle.ir_formats.specs.Words.{token_text};
 ghost use Rattle.ir_scopes.specs.Scopes.{HasScopeFault, AreApart, definitions, mentions};
-ghost use Rattle.ir_store.specs.declared.pointer.Ptr.{Ptr};
-ghost use Rattle.ir_store.specs.declared.pointer.Operation.{Operation};
-ghost use Rattle.ir_store.specs.declared.value.Value.{Value};
-ghost use Rattle.ir_store.specs.Views.{ContextView};
-ghost use Rattle.ir_print.specs.Standing.{StandsOperation, Named};
 ghost use Rattle.ir_forest.specs.Closed.{IsClosed, IsNumbered, IsSameModule};
 ghost use Rattle.ir_rereading.specs.Printable.{CanPrint, IsLayoutOf};
-
-use ir_print::TextDialect;
 
 /// The characters of a text are one list of tokens.
 pub fn tokens_are_unique()
@@ -129,12 +122,6 @@ pub fn one_verdict()
 pub fn texts_have_one_answer()
     ensures one { (l : Language) (leads : Leads) → is_ordered leads (rules_of l.formats) ≡ true → (cs : List ℕ) (f g : TextFault) → IsTextFault l cs f → IsTextFault l cs g → f ≡ g }
     ensures either { (l : Language) (leads : Leads) → is_ordered leads (rules_of l.formats) ≡ true → (cs : List ℕ) (f : TextFault) (tree : Entity ℕ) → IsTextFault l cs f → Says l cs tree → ⊥ }
-{}
-
-/// The tree of a text, for which an operation of a context stands, is closed, and its definitions are numbered in the order of the text.
-pub fn trees_of_texts_are_closed<D: TextDialect>()
-    ensures { (l : Language) → CanPrint l → l.formats ≡ D.formats → l.values ≡ D.values → (values : List Value) → (s : ContextView D.OpKind D.Attr D.TypeKey) → (root : Ptr Operation)
-        → (cs : List ℕ) → (tree : Entity ℕ) → Says l cs tree → StandsOperation D.says (Named values) s root tree → IsClosed l tree × IsNumbered tree }
 {}
 
 /// What is printed of a closed tree is its characters as bytes, and is read again, as the same tree but for its labels.

@@ -1,4 +1,4 @@
-//! Laws of trees that stand for texts ([`laws`]): they are closed, and what is printed of them is read again.
+//! Laws of texts ([`laws`]): a text is read in one way, and what is printed of a closed tree is read again.
 #![tactic(auto)]
 
 pub mod laws;

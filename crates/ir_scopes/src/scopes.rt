@@ -8,17 +8,13 @@ ghost use Rattle.std.specs.HashMap.{Updates};
 ghost use Rattle.std.specs.HashSet as bag;
 ghost use Rattle.ir_scopes.specs.declared.sites.Site.{Site};
 ghost use Rattle.ir_tokens.specs.Faults.{IsNamed};
-ghost use Rattle.ir_scopes.specs.Scopes.{is_marked, isolated_at, name_of, same_key, fault_again, fault_unresolved, IsAgain, IsTable, AreLacking, EndsAmong, AreDistinct, AreApart, IsResolved, IsScopeFault};
+ghost use Rattle.ir_scopes.specs.Scopes.{is_marked, name_of, same_key, fault_again, fault_unresolved, IsAgain, IsTable, AreLacking, EndsAmong, AreDistinct, AreApart, IsResolved, IsScopeFault};
 
 use crate::sites::{Closing, Site, Sites, sites_of};
 use ir_grammar::grammar::Event;
-use ir_print::TextDialect;
 use ir_tokens::faults::{Fault, FaultKind, first_of};
 use std::alloc::{AllocError, AllocFailed, Global};
 use std::collections::{HashMap, HashSet};
-
-/// A dialect has at most so many kinds of operations that can be read.
-const KINDS: usize = 256;
 
 /// What the names of a text mean.
 #[derive(Drop)]
@@ -244,33 +240,4 @@ pub fn look_up(
             count: sites.definitions.len(),
         }),
     }
-}
-
-/// For each kind of operations with a number, whether it is isolated from above.
-fn isolated_kinds<D: TextDialect>(alloc: Global) -> Result<Vec<bool>, AllocError>
-    ensures { IfOk result (λ v. is_marked v.items ≡ isolated_at D.kind_at D.isolated) }
-{
-    let mut isolated = Vec::new(alloc);
-    for number in 0..KINDS {
-        let Some(kind) = D::op_kind_at(number) else {
-            return Ok(isolated);
-        };
-        isolated.push(D::is_isolated(kind))?;
-    }
-    Ok(isolated)
-}
-
-/// What the names of a text of the dialect mean, or the first fault of its names, as [`look_up`] says.
-pub fn resolve<D: TextDialect>(
-    alloc: Global,
-    names: &[usize],
-    events: &[Event],
-) -> Result<Resolution, ScopeFault>
-    ensures resolved { MatchResult result
-        (IsResolved (isolated_at D.kind_at D.isolated) names.now events.now)
-        (IsScopeFault (isolated_at D.kind_at D.isolated) names.now events.now) }
-    ensures many { IfOk result (λ r. length r.definitions.items ≡ length names.now) }
-{
-    let isolated = isolated_kinds::<D>(alloc)?;
-    look_up(alloc, names, events, &isolated)
 }

@@ -1,6 +1,10 @@
+pub mod ReadLemmas
+pub mod VerdictLemmas
+pub mod HoldingLemmas
+pub mod WrittenLemmas
+pub mod FaultLemmas
+pub mod CutLemmas
+pub mod PassLemmas
 pub mod EndLemmas
 pub mod MistakeLemmas
-pub mod TextLemmas
-pub mod PassLemmas
 pub mod ExecutionLemmas
-pub mod PropagationLemmas

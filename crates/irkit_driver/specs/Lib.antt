@@ -3,9 +3,11 @@ pub use Rattle.irkit_streams.specs.Ends
 pub use Rattle.irkit_words.specs.CommandLine
 pub use Rattle.irkit_words.specs.Requests
 pub mod Texts
+pub mod Known
 pub mod Refusals
 pub mod Lists
 pub mod Paths
 pub mod Reports
 pub mod Outcomes
+pub mod Same
 pub mod Works

@@ -1,78 +1,44 @@
--- Lists of passes: what they make of a module, and what holds then.
-use Rattle.std.specs.Prelude.{◌≡◌, ◌≤◌, ◌^◌, ℕ, suc, ◌+◌, ◌++◌, List, [], ◌∷◌, length, Result, Ok, Err}
+-- Lists of passes over a module of a context, and the text that is written of what they make.
+use Rattle.std.specs.Prelude.{ℕ, List, map, Result, Ok, Err}
 use Rattle.ir_base.specs.declared.growth.GrowError.{GrowError}
 use Rattle.ir_base.specs.declared.growth.GrowError.TheVariants.{Memory, CounterFull}
-use Rattle.ir_store.specs.declared.pointer.Ptr.{Ptr}
-use Rattle.ir_store.specs.declared.pointer.Operation.{Operation}
-use Rattle.ir_store.specs.declared.value.Value.{Value}
+use Rattle.ir_forest.specs.Closed.{IsSameModule}
 use Rattle.ir_print.specs.Pieces.{Entity}
-use Rattle.ir_print.specs.Standing.{StandsOperation, Named, AreDistinct, AreBelow}
-use Rattle.ir_text.specs.Closed.{definitions_of, IsClosed, IsNumbered}
-use Rattle.kit_dialect.specs.Rules.{KeepsRules}
-use Rattle.kit_dialect.specs.Says.{says}
-use Rattle.kit_dialect.specs.Shapes.{KitContext}
-use Rattle.irkit_driver.specs.Texts.{kit_language}
-use Rattle.kit_dialect.specs.Passes.{IsSccp, HasNoKnownOperand, AreAlike, size}
-use Rattle.irkit_words.specs.declared.request.KitPass.{KitPass}
-use Rattle.irkit_words.specs.declared.request.KitPass.TheVariants.{Sccp, Dce, SimplifyCfg}
+use Rattle.ir_program.specs.declared.handles.Operation.{Operation}
+use Rattle.ir_program.specs.declared.handles.Ptr.{Ptr}
+use Rattle.kit_language.specs.Language.{kit_language}
+use Rattle.kit_optimised_programs.specs.Programs.{PassedPrograms}
+use Rattle.kit_optimiser.specs.Passed.{IsOptimised, FillsUp, pass_of}
+use Rattle.kit_optimiser.specs.declared.pass.KitPass.{KitPass}
+use Rattle.kit_program_runs.specs.Numberings.{IsNumbering}
+use Rattle.kit_ruled_views.specs.Functions.{KitContext}
+use Rattle.module_printing.specs.Again.{IsTextOfModule}
+use Rattle.irkit_driver.specs.Texts.{HoldsText, IsAcceptedText}
 
--- what a pass makes of a module; `sccp` is the one that there is
-abbrev pub IsPass : KitPass → Entity ℕ → Entity ℕ → Type 0
-IsPass Sccp tree after = IsSccp tree after
-IsPass Dce tree after = ⊥
-IsPass SimplifyCfg tree after = ⊥
+-- The text is one of the tree that an operation stands for, with a line end, and is accepted again, as the same module:
+-- of the same tree but for labels.
+pub record IsWrittenAs (s : KitContext) (root : Ptr Operation) (text : List ℕ) : Type 0 where
+  pub tree : Entity ℕ
+  pub holds : HoldsText tree s root
+  pub laid_out : IsTextOfModule kit_language tree text
+  pub again : Entity ℕ
+  pub accepted : IsAcceptedText text again
+  pub same : IsSameModule again tree
 
--- what a pass leaves to do: nothing
-abbrev pub Meets : KitPass → Entity ℕ → Type 0
-Meets Sccp tree = HasNoKnownOperand tree
-Meets Dce tree = ⊥
-Meets SimplifyCfg tree = ⊥
+-- What is written of a module after passes: the text of what they make, one after another, of the module. Its functions
+-- are the module's, behave as they do, and meet the goal of the last pass: the programs of both, whatever numbers names
+-- have, say so.
+pub record PassesGive (passes : List KitPass) (before : KitContext) (root : Ptr Operation) (text : List ℕ) : Type 0 where
+  pub after : KitContext
+  pub passed : IsOptimised (map pass_of passes) before after root
+  pub programs : (numbered : List ℕ → ℕ) → IsNumbering numbered →
+      PassedPrograms (map pass_of passes) before after root numbered
+  pub written : IsWrittenAs after root text
 
--- The module after the passes of a list, one after the other. Each pass leaves its goal met, and a module that behaves as before it: no run is longer than that
--- of the other by more than the number of operations of both, and one, times.
-abbrev pub IsAfter : List KitPass → Entity ℕ → Entity ℕ → Type 0
-IsAfter [] tree after = after ≡ tree
-IsAfter (p ∷ ps) tree after = (next : Entity ℕ) × IsPass p tree next × Meets p next × AreAlike (suc (size tree + size next)) tree next × IsAfter ps next after
-
--- the goal of the last pass is met
-abbrev pub MeetsLast : List KitPass → Entity ℕ → Type 0
-MeetsLast [] tree = Unit {0}
-MeetsLast (p ∷ []) tree = Meets p tree
-MeetsLast (p ∷ q ∷ ps) tree = MeetsLast (q ∷ ps) tree
-
--- ---- modules of a context
-
--- An operation of a context stands for a module: a tree that is closed, numbered in the order of the text, and keeps the rules. Its values are distinct, and
--- the context has made as many as there are.
-pub record HoldsModule (s : KitContext) (root : Ptr Operation) (tree : Entity ℕ) : Type 0 where
-  pub values : List Value
-  pub stands : StandsOperation says (Named values) s root tree
-  pub distinct : AreDistinct values
-  pub below : AreBelow s.counter values
-  pub counted : s.counter ≡ length (definitions_of tree)
-  pub closed : IsClosed kit_language tree
-  pub numbered : IsNumbered tree
-  pub rules : KeepsRules tree
-
--- After the first passes of a list there are more values than a counter counts.
-pub record FillsCounter (passes : List KitPass) (tree : Entity ℕ) : Type 0 where
-  pub done : List KitPass
-  pub rest : List KitPass
-  pub first : done ++ rest ≡ passes
-  pub after : Entity ℕ
-  pub passed : IsAfter done tree after
-  pub many : 2 ^ 64 ≤ length (definitions_of after)
-
--- The context holds the module after these passes.
-abbrev pub HoldsAfter : List KitPass → KitContext → Ptr Operation → Entity ℕ → Type 0
-HoldsAfter passes s root tree = (after : Entity ℕ) × IsAfter passes tree after × HoldsModule s root after
-
--- Passes over a module: the context holds the module after them; a counter is full only where there are more values than it counts.
-abbrev pub EndsPasses : {X : Type 0} → List KitPass → KitContext → Ptr Operation → Entity ℕ → Result X GrowError → Type 0
-EndsPasses passes s root tree (Ok _) = HoldsAfter passes s root tree
-EndsPasses passes s root tree (Err CounterFull) = FillsCounter passes tree
-EndsPasses passes s root tree (Err Memory) = Unit {0}
-
--- so it is for each module that the context held
-abbrev pub RunsPasses : {X : Type 0} → List KitPass → KitContext → KitContext → Ptr Operation → Result X GrowError → Type 0
-RunsPasses passes s t root r = (tree : Entity ℕ) → HoldsModule s root tree → EndsPasses passes t root tree r
+-- The text of a module after passes: it is made, or memory is refused, or no handle or number is left for what a pass
+-- puts in.
+abbrev pub EndsPasses : {V : Type 0} → List KitPass → KitContext → Ptr Operation → (V → List ℕ) → Result V GrowError →
+    Type 0
+EndsPasses passes before root text_of (Ok text) = PassesGive passes before root (text_of text)
+EndsPasses passes before root text_of (Err CounterFull) = FillsUp (map pass_of passes) before root
+EndsPasses passes before root text_of (Err Memory) = Unit {0}

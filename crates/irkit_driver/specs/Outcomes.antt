@@ -1,95 +1,78 @@
 -- How loading, passes, runs and their writing end, each by cases on the whole answer.
-use Rattle.std.specs.Prelude.{◌≡◌, ℕ, ◌+◌, ◌^◌, ◌≤◌, ◌<◌, ◌⊎◌, ◌++◌, ◌∷◌, [], true, false, List, Option, Result, Ok, Err, length, take}
-use Rattle.std.specs.Prelude.{Some, None, IsUtf8, chars}
-use Rattle.ir_store.specs.declared.pointer.Ptr.{Ptr}
-use Rattle.ir_store.specs.declared.pointer.Operation.{Operation}
-use Rattle.ir_store.specs.declared.value.Value.{Value}
-use Rattle.ir_store.specs.Context.{parent_block_of}
-use Rattle.ir_store.specs.Marks.{IsSameTree, KeepsBelow, mark_of}
-use Rattle.ir_print.specs.Pieces.{Entity}
-use Rattle.ir_print.specs.Standing.{StandsOperation, Named, AreDistinct}
-use Rattle.ir_text.specs.Closed.{definitions_of, IsSameModule}
-use Rattle.ir_text.specs.Printable.{IsLayoutOf}
-use Rattle.ir_print.specs.Standing.{StandsOperation, Named, AreDistinct, AreBelow}
-use Rattle.kit_dialect.specs.Shapes.{KitContext}
-use Rattle.kit_dialect.specs.Texts.{formats}
-use Rattle.kit_dialect.specs.Says.{says}
-use Rattle.kit_machine.specs.declared.outcome.Outcome.{Outcome}
-use Rattle.kit_machine.specs.declared.outcome.ExecFault.{ExecFault}
-use Rattle.kit_machine.specs.declared.outcome.ExecFault.TheVariants as exec
-use Rattle.kit_dialect.specs.Machine.{Path}
-use Rattle.kit_dialect.specs.Running.{IsRun}
+use Rattle.std.specs.Prelude.{◌≡◌, ℕ, ◌+◌, ◌^◌, ◌⊎◌, ◌∷◌, [], false, List, map, Option, Result, Ok, Err, length}
+use Rattle.ir_forest.specs.Closed.{definitions_of}
+use Rattle.ir_program.specs.declared.handles.IRNode.TheVariants.{Operation as OperationNode}
+use Rattle.ir_program.specs.declared.handles.Operation.{Operation}
+use Rattle.ir_program.specs.declared.handles.Ptr.{Ptr}
+use Rattle.kit_flat.specs.declared.outcome.Outcome.{Outcome}
+use Rattle.kit_interpreter.specs.declared.executing.ExecFault.{ExecFault}
+use Rattle.kit_interpreter.specs.declared.executing.ExecFault.TheVariants as exec
+use Rattle.kit_held_modules.specs.Held.{HoldsModule}
+use Rattle.kit_optimiser.specs.Passed.{FillsUp, pass_of}
+use Rattle.kit_optimiser.specs.declared.pass.KitPass.{KitPass}
+use Rattle.kit_ruled_views.specs.Functions.{KitContext}
+use Rattle.text_building.specs.Kept.{SameSeen}
+use Rattle.text_dialect.specs.Seen.{seen}
+use Rattle.text_frames.specs.Raised.{HoldsAllNew}
+use Rattle.text_reading.specs.Understood.{IsSlotFull}
 use Rattle.irkit_streams.specs.declared.watched.Watched.{Watched}
-use Rattle.irkit_driver.specs.declared.refusal.Refusal.{Refusal}
-use Rattle.irkit_driver.specs.declared.refusal.Refusal.TheVariants.{NotUtf8, Memory, CounterFull, Read, Write}
 use Rattle.irkit_streams.specs.Streams.{has_failed}
 use Rattle.irkit_streams.specs.Ends.{FailsReading, GaveAll, TookAll, TookFirst}
-use Rattle.irkit_driver.specs.Texts.{IsAccepted, IsAcceptedAs, Overfills}
+use Rattle.irkit_driver.specs.declared.refusal.Refusal.{Refusal}
+use Rattle.irkit_driver.specs.declared.refusal.Refusal.TheVariants.{Memory, CounterFull, Read, Write}
 use Rattle.irkit_driver.specs.declared.refusal.ExecutionFault.{ExecutionFault}
 use Rattle.irkit_driver.specs.declared.refusal.ExecutionFault.TheVariants.{Refused, WrongPath, WrongArguments}
+use Rattle.irkit_driver.specs.Lists.{PassesGive}
+use Rattle.irkit_driver.specs.Paths.{Answers}
 use Rattle.irkit_driver.specs.Refusals.{Deserves}
-use Rattle.irkit_words.specs.declared.request.KitPass.{KitPass}
-use Rattle.irkit_driver.specs.Lists.{IsAfter, MeetsLast, FillsCounter}
-use Rattle.kit_dialect.specs.Passes.{AreAlike}
-use Rattle.irkit_driver.specs.Paths.{path_in}
 use Rattle.irkit_driver.specs.Reports.{lines_of}
+use Rattle.irkit_driver.specs.Texts.{IsAccepted, IsAcceptedAs, Overfills}
 
--- The bytes are accepted as a tree, which this operation of the new context stands for, in no block. All that the old context held stands as it stood,
--- and the counter has moved on by the number of the tree's definitions.
+-- The bytes are accepted as this operation of the new context, which holds a module there; it is in no block, and all
+-- that has come is inside it. All that the old context held stands as it stood, and the counter has moved on by the
+-- number of the text's definitions.
 pub record Loads (bytes : List ℕ) (ctx new_ctx : KitContext) (root : Ptr Operation) : Type 0 where
-  pub tree : Entity ℕ
-  -- the values of the tree's definitions, by number
-  pub values : List Value
-  pub accepted : IsAcceptedAs bytes tree
-  pub distinct : AreDistinct values
-  pub below : AreBelow new_ctx.counter values
-  pub counted : new_ctx.counter ≡ ctx.counter + length (definitions_of tree)
-  pub stands : StandsOperation says (Named values) new_ctx root tree
-  pub apart : parent_block_of new_ctx root ≡ None
-  pub kept : KeepsBelow (mark_of ctx) ctx new_ctx
+  pub accepted : IsAcceptedAs bytes new_ctx root
+  pub holds : HoldsModule new_ctx root
+  pub new : HoldsAllNew (seen ctx) (seen new_ctx) (OperationNode root ∷ [])
+  pub counted : new_ctx.program.counter ≡ ctx.program.counter + length (definitions_of accepted.0.text)
+
+-- The bytes overfill a context: they define more values than numbers are left, or no handle is left for an operation, a
+-- block or a region.
+abbrev pub OverfillsContext : KitContext → List ℕ → Type 0
+OverfillsContext s bytes = IsSlotFull s.program ⊎ Overfills s.program.counter bytes
 
 module _ {R : Type 0} (remaining : R → Option (List ℕ)) (old new : Watched R) where
-  -- Why a load into a context with this counter is refused: a read failed or 2^40 bytes and more were given, memory was refused, or all bytes
-  -- that were given deserve it or overfill the counter.
-  abbrev pub Refuses : ℕ → Refusal → Type 0
-  Refuses counter Read = FailsReading remaining old new (2 ^ 40)
-  Refuses counter Memory = has_failed new ≡ false
-  Refuses counter CounterFull = (bytes : List ℕ) × GaveAll remaining old new bytes × Overfills counter bytes
-  Refuses counter (Write b) = ⊥
-  Refuses counter fault = (bytes : List ℕ) × GaveAll remaining old new bytes × Deserves bytes fault
+  -- Why a load is refused: a read failed or 2^40 bytes and more were given, memory was refused, or all bytes that were
+  -- given deserve it or overfill the context.
+  abbrev pub Refuses : (List ℕ → Type 0) → Refusal → Type 0
+  Refuses overfill Read = FailsReading remaining old new (2 ^ 40)
+  Refuses overfill Memory = has_failed new ≡ false
+  Refuses overfill CounterFull = (bytes : List ℕ) × GaveAll remaining old new bytes × overfill bytes
+  Refuses overfill (Write b) = ⊥
+  Refuses overfill fault = (bytes : List ℕ) × GaveAll remaining old new bytes × Deserves bytes fault
 
-  -- A load: all that the reader gave is accepted, and the root is what it says; a refusal leaves what the context holds as it was.
+  -- A load: all that the reader gave is accepted, and the root is what it says; a refusal leaves what the context holds
+  -- as it was.
   abbrev pub EndsLoad : KitContext → KitContext → Result (Ptr Operation) Refusal → Type 0
   EndsLoad ctx new_ctx (Ok root) = (bytes : List ℕ) × GaveAll remaining old new bytes × Loads bytes ctx new_ctx root
-  EndsLoad ctx new_ctx (Err refusal) = Refuses ctx.counter refusal × IsSameTree ctx new_ctx
+  EndsLoad ctx new_ctx (Err refusal) = Refuses (OverfillsContext ctx) refusal × SameSeen (seen ctx) (seen new_ctx)
 
--- From bytes to a module of the context: a refusal that the bytes deserve, or of memory or a counter that they overfill, leaves what the context holds as it was.
+-- From bytes to a module of the context: a refusal that the bytes deserve, or of memory or where they overfill the
+-- context, leaves what the context holds as it was.
 abbrev pub Understands : List ℕ → KitContext → KitContext → Result (Ptr Operation) Refusal → Type 0
 Understands bytes ctx new_ctx (Ok root) = Loads bytes ctx new_ctx root
-Understands bytes ctx new_ctx (Err Memory) = IsSameTree ctx new_ctx
-Understands bytes ctx new_ctx (Err CounterFull) = Overfills ctx.counter bytes × IsSameTree ctx new_ctx
-Understands bytes ctx new_ctx (Err fault) = Deserves bytes fault × IsSameTree ctx new_ctx
+Understands bytes ctx new_ctx (Err Memory) = SameSeen (seen ctx) (seen new_ctx)
+Understands bytes ctx new_ctx (Err CounterFull) = OverfillsContext ctx bytes × SameSeen (seen ctx) (seen new_ctx)
+Understands bytes ctx new_ctx (Err fault) = Deserves bytes fault × SameSeen (seen ctx) (seen new_ctx)
 
--- What `run` writes for these bytes: a text of the module that they say, after the passes, and a line end. The module meets the goal of the last pass and behaves
--- as the one that was read, and the text is accepted again, as the same module.
+-- What `run` writes for these bytes: they are accepted as an operation of a context, and the text is what the passes
+-- give of it.
 pub record RunGives (passes : List KitPass) (bytes text : List ℕ) : Type 0 where
-  pub tree : Entity ℕ
-  pub accepted : IsAcceptedAs bytes tree
-  -- the module after the passes
-  pub after : Entity ℕ
-  pub passed : IsAfter passes tree after
-  pub goal : MeetsLast passes after
-  -- how many times as long as the other a run may be
-  pub bound : ℕ
-  pub alike : AreAlike bound tree after
-  -- the text of the module
-  pub front : List ℕ
-  pub laid_out : IsLayoutOf formats after front
-  pub written : text ≡ front ++ 10 ∷ []
-  -- what the text is accepted as
-  pub again : Entity ℕ
-  pub accepted_again : IsAcceptedAs text again
-  pub same : IsSameModule again after
+  pub before : KitContext
+  pub root : Ptr Operation
+  pub accepted : IsAcceptedAs bytes before root
+  pub gives : PassesGive passes before root text
 
 -- the line `ok`
 abbrev pub ok_line : List ℕ
@@ -99,23 +82,35 @@ ok_line = 111 ∷ 107 ∷ 10 ∷ []
 abbrev pub CheckGives : List ℕ → List ℕ → Type 0
 CheckGives bytes text = IsAccepted bytes × (text ≡ ok_line)
 
+-- The bytes are accepted as an operation of a context, and some of the passes leave no handle or number for the next.
+pub record PassesFillUp (passes : List KitPass) (bytes : List ℕ) : Type 0 where
+  pub before : KitContext
+  pub root : Ptr Operation
+  pub accepted : IsAcceptedAs bytes before root
+  pub fills : FillsUp (map pass_of passes) before root
+
 module _ {R : Type 0} (remaining : R → Option (List ℕ)) (old new : Watched R) (passes : List KitPass) where
-  -- Why `run` is refused before it writes: as a load into a new context is, or the values of the module after some of the passes fill the counter.
+  -- Why `run` is refused before it writes: as a load into a new context is, or after some of the passes no handle or
+  -- number is left for the next.
   abbrev pub RefusesRun : Refusal → Type 0
-  RefusesRun CounterFull = Refuses remaining old new 0 CounterFull ⊎ ((bytes : List ℕ) × (tree : Entity ℕ) × GaveAll remaining old new bytes × IsAcceptedAs bytes tree × FillsCounter passes tree)
-  RefusesRun refusal = Refuses remaining old new 0 refusal
+  RefusesRun refusal = Refuses remaining old new (λ bytes. Overfills 0 bytes ⊎ PassesFillUp passes bytes) refusal
 
   -- From all that the reader gave a text was made, as `run` writes it, or it was refused.
   abbrev pub GivesText : {V : Type 0} → (V → List ℕ) → Result V Refusal → Type 0
   GivesText text_of (Ok text) = (bytes : List ℕ) × GaveAll remaining old new bytes × RunGives passes bytes (text_of text)
   GivesText text_of (Err refusal) = RefusesRun refusal
 
-module _ {R W : Type 0} (remaining : R → Option (List ℕ)) (contents : W → Option (List ℕ)) (input new_input : Watched R) (output new_output : Watched W) where
-  -- A call that reads all bytes into a new context and writes the one text that it gives for them: at a failed write exactly the first bytes of it, at any
-  -- other refusal nothing.
+module _ {R W : Type 0} (remaining : R → Option (List ℕ)) (contents : W → Option (List ℕ))
+    (input new_input : Watched R) (output new_output : Watched W) where
+  -- A call that reads all bytes into a new context and writes the one text that it gives for them: at a failed write
+  -- exactly the first bytes of it, at any other refusal nothing.
   abbrev pub EndsCall : {X : Type 0} → (Refusal → Type 0) → (List ℕ → List ℕ → Type 0) → Result X Refusal → Type 0
-  EndsCall refuses gives (Ok _) = (bytes text : List ℕ) × GaveAll remaining input new_input bytes × gives bytes text × TookAll contents output new_output text
-  EndsCall refuses gives (Err (Write b)) = (bytes text : List ℕ) × GaveAll remaining input new_input bytes × gives bytes text × TookFirst contents output new_output text b
+  EndsCall refuses gives (Ok _) =
+      (bytes text : List ℕ) × GaveAll remaining input new_input bytes × gives bytes text
+      × TookAll contents output new_output text
+  EndsCall refuses gives (Err (Write b)) =
+      (bytes text : List ℕ) × GaveAll remaining input new_input bytes × gives bytes text
+      × TookFirst contents output new_output text b
   EndsCall refuses gives (Err refusal) = refuses refusal × (new_output ≡ output)
 
   -- how `run` ends
@@ -124,7 +119,7 @@ module _ {R W : Type 0} (remaining : R → Option (List ℕ)) (contents : W → 
 
   -- how `check` ends
   abbrev pub EndsCheck : {X : Type 0} → Result X Refusal → Type 0
-  EndsCheck outcome = EndsCall (Refuses remaining input new_input 0) CheckGives outcome
+  EndsCheck outcome = EndsCall (Refuses remaining input new_input (Overfills 0)) CheckGives outcome
 
 module _ {W : Type 0} (contents : W → Option (List ℕ)) (old new : Watched W) (outcome : Outcome) where
   -- The lines of a run are made and then written: nothing is written where memory is refused.
@@ -134,22 +129,13 @@ module _ {W : Type 0} (contents : W → Option (List ℕ)) (old new : Watched W)
   EndsReport (Err Memory) = new ≡ old
   EndsReport (Err _) = ⊥
 
--- The answer of a run in a tree of the function at a path, which may be none, on these numbers, in at most so many steps.
-abbrev pub Answers : Entity ℕ → Option Path → List ℕ → ℕ → Result Outcome ExecFault → Type 0
-Answers tree None xs limit (Ok outcome) = ⊥
-Answers tree None xs limit (Err exec.Memory) = Unit {0}
-Answers tree None xs limit (Err exec.WrongPath) = Unit {0}
-Answers tree None xs limit (Err exec.WrongArguments) = ⊥
-Answers tree (Some path) xs limit answer = IsRun tree path xs limit answer
-
--- This is the answer of the run, in each tree that an operation of a context stands for, of the function at the path that the word says.
-abbrev pub RunsIn : KitContext → Ptr Operation → List ℕ → List ℕ → ℕ → Result Outcome ExecFault → Type 0
-RunsIn ctx root word xs limit answer =
-    (values : List Value) → AreDistinct values → (tree : Entity ℕ) → StandsOperation says (Named values) ctx root tree → Answers tree (path_in word) xs limit answer
-
--- The bytes are accepted as a tree, and this is the answer of the run in it of the function at the path that the word says.
-abbrev pub ExecutionGives : List ℕ → List ℕ → List ℕ → ℕ → Result Outcome ExecFault → Type 0
-ExecutionGives bytes word xs limit answer = (tree : Entity ℕ) × IsAcceptedAs bytes tree × Answers tree (path_in word) xs limit answer
+-- The bytes are accepted as an operation of a context, and this is the answer of the run there of the function at the
+-- path that the word says.
+pub record ExecutionGives (bytes word xs : List ℕ) (limit : ℕ) (answer : Result Outcome ExecFault) : Type 0 where
+  pub context : KitContext
+  pub root : Ptr Operation
+  pub accepted : IsAcceptedAs bytes context root
+  pub answers : Answers context root word xs limit answer
 
 module _ {R : Type 0} (remaining : R → Option (List ℕ)) (old new : Watched R) (word xs : List ℕ) (limit : ℕ) where
   -- All bytes that the reader gave are accepted, and the run of the function that the word says has this answer.
@@ -159,16 +145,24 @@ module _ {R : Type 0} (remaining : R → Option (List ℕ)) (old new : Watched R
   -- How a module is read and its function run: what the run did, or why the module or the run is refused.
   abbrev pub GivesOutcome : Result Outcome ExecutionFault → Type 0
   GivesOutcome (Ok outcome) = GaveAnswer (Ok outcome)
-  GivesOutcome (Err (Refused refusal)) = Refuses remaining old new 0 refusal
+  GivesOutcome (Err (Refused refusal)) = Refuses remaining old new (Overfills 0) refusal
   GivesOutcome (Err WrongPath) = GaveAnswer (Err exec.WrongPath)
   GivesOutcome (Err WrongArguments) = GaveAnswer (Err exec.WrongArguments)
 
-module _ {R W : Type 0} (remaining : R → Option (List ℕ)) (contents : W → Option (List ℕ)) (input new_input : Watched R) (output new_output : Watched W) (word xs : List ℕ) (limit : ℕ) where
-  -- How `irkit run` ends: the writer took the lines of the run, or where a write failed the first bytes of them. At any other fault nothing was written.
+module _ {R W : Type 0} (remaining : R → Option (List ℕ)) (contents : W → Option (List ℕ))
+    (input new_input : Watched R) (output new_output : Watched W) (word xs : List ℕ) (limit : ℕ) where
+  -- How `irkit run` ends: the writer took the lines of the run, or where a write failed the first bytes of them. At any
+  -- other fault nothing was written.
   abbrev pub EndsExecution : Result Outcome ExecutionFault → Type 0
-  EndsExecution (Ok outcome) = GaveAnswer remaining input new_input word xs limit (Ok outcome) × TookAll contents output new_output (lines_of outcome)
+  EndsExecution (Ok outcome) =
+      GaveAnswer remaining input new_input word xs limit (Ok outcome)
+      × TookAll contents output new_output (lines_of outcome)
   EndsExecution (Err (Refused (Write b))) =
-      (outcome : Outcome) × GaveAnswer remaining input new_input word xs limit (Ok outcome) × TookFirst contents output new_output (lines_of outcome) b
-  EndsExecution (Err (Refused refusal)) = Refuses remaining input new_input 0 refusal × (new_output ≡ output)
-  EndsExecution (Err WrongPath) = GaveAnswer remaining input new_input word xs limit (Err exec.WrongPath) × (new_output ≡ output)
-  EndsExecution (Err WrongArguments) = GaveAnswer remaining input new_input word xs limit (Err exec.WrongArguments) × (new_output ≡ output)
+      (outcome : Outcome) × GaveAnswer remaining input new_input word xs limit (Ok outcome)
+      × TookFirst contents output new_output (lines_of outcome) b
+  EndsExecution (Err (Refused refusal)) =
+      Refuses remaining input new_input (Overfills 0) refusal × (new_output ≡ output)
+  EndsExecution (Err WrongPath) =
+      GaveAnswer remaining input new_input word xs limit (Err exec.WrongPath) × (new_output ≡ output)
+  EndsExecution (Err WrongArguments) =
+      GaveAnswer remaining input new_input word xs limit (Err exec.WrongArguments) × (new_output ≡ output)

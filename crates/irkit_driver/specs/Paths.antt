@@ -1,13 +1,32 @@
--- The word for the path of a function.
-use Rattle.std.specs.Prelude.{ℕ, ◌==◌, List, Option, Some, None, if◌then◌else◌, reverse}
-use Rattle.std.specs.List.{list_all, slice_split}
-use Rattle.ir_names.specs.Text.{is_identifier}
-use Rattle.kit_dialect.specs.Machine.{Path}
+-- The word for the path of a function, and what running the function there answers.
+use Rattle.std.specs.Prelude.{◌≡◌, ℕ, ◌==◌, List, map, Result, Ok, Err}
+use Rattle.std.specs.List.{slice_split}
+use Rattle.ir_names.specs.Identifier.{text_of}
+use Rattle.ir_names.specs.declared.identifier.Identifier.{Identifier}
+use Rattle.ir_program.specs.declared.handles.Operation.{Operation}
+use Rattle.ir_program.specs.declared.handles.Ptr.{Ptr}
+use Rattle.kit_flat.specs.declared.outcome.Outcome.{Outcome}
+use Rattle.kit_interpreter.specs.Running.{Runs}
+use Rattle.kit_interpreter.specs.declared.executing.ExecFault.{ExecFault}
+use Rattle.kit_interpreter.specs.declared.executing.ExecFault.TheVariants.{Memory, WrongPath, WrongArguments}
+use Rattle.kit_ruled_views.specs.Functions.{KitContext}
 
 -- the parts of a word between slashes (`/` is 47): the names of a path, outermost first
 abbrev pub names_in : List ℕ → List (List ℕ)
 names_in word = slice_split (λ b. b == 47) word
 
--- The path that a word says, innermost name first. None where a part is empty or no identifier.
-abbrev pub path_in : List ℕ → Option Path
-path_in word = if list_all is_identifier (names_in word) then Some (reverse (names_in word)) else None
+-- The word says this path: its parts are the path's names. A word with a part that is empty or no identifier says none.
+abbrev pub SaysPath : List ℕ → List Identifier → Type 0
+SaysPath word path = map text_of path ≡ names_in word
+
+-- The answer of running the function that a word leads to from the root, on these numbers, for at most so many steps: it is
+-- that of the path that the word says, and the path is wrong where no function is at a path that the word says. Without
+-- memory nothing is known.
+abbrev pub Answers : KitContext → Ptr Operation → List ℕ → List ℕ → ℕ → Result Outcome ExecFault → Type 0
+Answers s root word xs limit (Ok outcome) =
+    (path : List Identifier) × SaysPath word path × Runs s root path xs limit (Ok outcome)
+Answers s root word xs limit (Err Memory) = Unit {0}
+Answers s root word xs limit (Err WrongPath) =
+    (path : List Identifier) → SaysPath word path → Runs s root path xs limit (Err WrongPath)
+Answers s root word xs limit (Err WrongArguments) =
+    (path : List Identifier) × SaysPath word path × Runs s root path xs limit (Err WrongArguments)

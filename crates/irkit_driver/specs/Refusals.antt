@@ -4,10 +4,10 @@ use Rattle.ir_base.specs.declared.growth.GrowError.{GrowError}
 use Rattle.ir_base.specs.declared.growth.GrowError.TheVariants as grow
 use Rattle.ir_tokens.specs.declared.faults.TextFault.{TextFault}
 use Rattle.ir_tokens.specs.declared.faults.TextFault.TheVariants as text
-use Rattle.kit_rules.specs.declared.module_rules.RuleFault.{RuleFault}
-use Rattle.kit_rules.specs.declared.module_rules.RuleFault.TheVariants as rule
-use Rattle.kit_machine.specs.declared.outcome.ExecFault.{ExecFault}
-use Rattle.kit_machine.specs.declared.outcome.ExecFault.TheVariants as exec
+use Rattle.kit_checks.specs.declared.rule.RuleFault.{RuleFault}
+use Rattle.kit_checks.specs.declared.rule.RuleFault.TheVariants as rules
+use Rattle.kit_interpreter.specs.declared.executing.ExecFault.{ExecFault}
+use Rattle.kit_interpreter.specs.declared.executing.ExecFault.TheVariants as exec
 use Rattle.irkit_streams.specs.Ends.{IsNotUtf8}
 use Rattle.irkit_streams.specs.declared.faults.ReadFault.{ReadFault}
 use Rattle.irkit_streams.specs.declared.faults.ReadFault.TheVariants as read
@@ -38,7 +38,7 @@ Deserves bytes (NotUtf8 b) = IsNotUtf8 bytes b
 Deserves bytes (Syntax line column) = HasFault bytes (text.Syntax line column)
 Deserves bytes (TooDeep line column) = HasFault bytes (text.TooDeep line column)
 Deserves bytes (Scope line column cause) = HasFault bytes (text.Scope line column cause)
-Deserves bytes (Rule number place) = BreaksRule bytes number place.children.items
+Deserves bytes (Rule rule place) = BreaksRule bytes rule place.children.items
 Deserves bytes Memory = ⊥
 Deserves bytes CounterFull = ⊥
 Deserves bytes Read = ⊥
@@ -68,8 +68,8 @@ of_text_fault (text.Scope line column cause) = Scope line column cause
 
 -- the refusal for a module that isn't accepted
 abbrev pub of_rule_fault : RuleFault → Refusal
-of_rule_fault rule.Memory = Memory
-of_rule_fault (rule.Broken number place) = Rule number place
+of_rule_fault rules.Memory = Memory
+of_rule_fault (rules.Broken rule place) = Rule rule place
 
 -- the refusal where nothing grows
 abbrev pub of_grow_error : GrowError → Refusal

@@ -1,8 +1,8 @@
 -- What is written of a run.
 use Rattle.std.specs.Prelude.{ℕ, List, [], ◌∷◌, ◌++◌, codes, flat_map}
 use Rattle.std.specs.Fmt.{decimal}
-use Rattle.kit_machine.specs.declared.outcome.Outcome.{Outcome}
-use Rattle.kit_machine.specs.declared.outcome.Outcome.TheVariants.{Ended, Trapped, Limit}
+use Rattle.kit_flat.specs.declared.outcome.Outcome.{Outcome}
+use Rattle.kit_flat.specs.declared.outcome.Outcome.TheVariants.{Ended, Trapped, Limit}
 
 -- the line of an emission: `emit` and the number
 abbrev pub emit_line : ℕ → List ℕ

@@ -6,13 +6,13 @@ use Rattle.irkit_driver.specs.declared.refusal.Refusal.{Refusal}
 use Rattle.irkit_driver.specs.declared.refusal.Refusal.TheVariants.{Memory, Write}
 use Rattle.irkit_driver.specs.Outcomes.{EndsCheck, EndsExecution, EndsRun}
 use Rattle.irkit_streams.specs.Ends.{TookAll, TookFirst}
-use Rattle.kit_machine.specs.declared.outcome.Outcome.{Outcome}
-use Rattle.kit_machine.specs.declared.outcome.Outcome.TheVariants.{Ended, Trapped, Limit}
+use Rattle.kit_flat.specs.declared.outcome.Outcome.{Outcome}
+use Rattle.kit_flat.specs.declared.outcome.Outcome.TheVariants.{Ended, Trapped, Limit}
 use Rattle.irkit_driver.specs.declared.refusal.ExecutionFault.{ExecutionFault}
 use Rattle.irkit_words.specs.declared.request.Execution.{Execution}
 use Rattle.irkit_words.specs.declared.request.Request.{Request}
 use Rattle.irkit_words.specs.declared.request.Request.TheVariants.{Check, Optimise, Run}
-use Rattle.irkit_words.specs.Requests.{Asks, AsksNothing, IsServed}
+use Rattle.irkit_words.specs.Requests.{Asks, AsksNothing}
 
 -- the status of a call that ended so
 abbrev pub status_of : {X : Type 0} → Result X Refusal → ℕ
@@ -69,8 +69,6 @@ module _ {R W : Type 0} (remaining : R → Option (List ℕ)) (contents : W → 
     memory : {status : ℕ} → status ≡ 1 → IsUntouched → Drives found status
     -- the words ask for nothing that there is, as an unknown pass or a limit that is no number
     unknown : {status : ℕ} → AsksNothing found → status ≡ 2 → IsUntouched → Drives found status
-    -- the words ask for a pass that isn't available yet
-    unserved : {status : ℕ} → (request : Request) → Asks found request → (IsServed request → ⊥) → status ≡ 2 → IsUntouched → Drives found status
     -- the words ask for this call
     serves : {status : ℕ} → (request : Request) → Asks found request → Serves request status → Drives found status
 

@@ -5,8 +5,9 @@ ghost use Rattle.irkit_driver.specs.Outcomes.{EndsCheck};
 
 use crate::loading::load;
 use crate::refusal::Refusal;
-use ir_store::Context;
+use ir_context::Context;
 use irkit_streams::{Watched, write_text};
+use kit_text_rules::texts_have_one_verdict;
 use std::alloc::Global;
 use std::io::{Read, Write};
 
@@ -22,6 +23,7 @@ pub fn check<R: Read, W: Write>(
     ensures { EndsCheck R.remaining W.contents reader.old reader.new writer.old writer.new result }
 {
     let mut ctx = Context::new(alloc);
+    texts_have_one_verdict();
     load(alloc, &mut ctx, reader)?;
     Ok(write_text(writer, b"ok\n")?)
 }

@@ -3,7 +3,6 @@ ghost use Rattle.std.specs.Prelude.{◌≡◌, ◌≢◌, ◌⊎◌, ◌∷◌, 
 ghost use Rattle.clap.specs.Words.{fault_of, kind_of, subcommand_of, subcommand_rows_of, takes};
 ghost use Rattle.irkit_streams.specs.Streams.{has_failed};
 ghost use Rattle.irkit_words.specs.CommandLine.{irkit, IsMistake};
-ghost use Rattle.irkit_words.specs.Requests.{IsServed};
 ghost use Rattle.irkit_driver.specs.Works.{Complains, Drives, EndsDrive, EndsHelp, Executes, Helps, Serves, run_status, status_of};
 
 use crate::checking::check;
@@ -15,7 +14,7 @@ use clap::error::ErrorKind;
 use clap::{ArgMatches, Error};
 use irkit_streams::{Watched, write_text};
 use irkit_words::{Execution, Request, RequestFault, parse, request_of};
-use kit_dialect::Outcome;
+use kit_flat::Outcome;
 use std::alloc::Global;
 use std::io::{Read, Write};
 
@@ -67,13 +66,7 @@ fn answer<R: Read, W: Write, F: Write>(
         (subcommand_rows_of matches.now) result }
 {
     match request_of(alloc, matches) {
-        Ok(request) => {
-            if request.is_served() {
-                return serve(alloc, request, input, output, faults);
-            }
-            report_fault(faults, &"pass not available yet");
-            2
-        }
+        Ok(request) => serve(alloc, request, input, output, faults),
         Err(fault) => {
             report_fault(faults, &fault);
             mistake_status(fault)
@@ -89,7 +82,6 @@ fn serve<R: Read, W: Write, F: Write>(
     output: &mut Watched<W>,
     faults: &mut Watched<F>,
 ) -> u8
-    requires served { IsServed request }
     requires input { has_failed input.old ≡ false }
     requires output { has_failed output.old ≡ false }
     ensures { Serves R.remaining W.contents input.old input.new output.old output.new request result }

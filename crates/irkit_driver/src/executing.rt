@@ -1,20 +1,24 @@
 //! Running a function of a module.
-ghost use Rattle.std.specs.Prelude.{◌≡◌, false, true, map, IfOk, MatchOption, None, Some, reverse};
-ghost use Rattle.std.specs.List.{list_all};
+ghost use Rattle.std.specs.Prelude.{◌≡◌, ◌≢◌, List, false, map, IfOk, IsSome, MatchOption};
 ghost use Rattle.ir_names.specs.Identifier.{text_of};
-ghost use Rattle.ir_names.specs.Text.{is_identifier};
-ghost use Rattle.ir_store.specs.Context.{IsLiveOperation};
+ghost use Rattle.ir_names.specs.declared.identifier.Identifier.{Identifier as Name};
+ghost use Rattle.ir_program.specs.Program.{operation_at};
+ghost use Rattle.kit_execution.specs.Obeying.{ObeysRules};
 ghost use Rattle.irkit_streams.specs.Streams.{has_failed};
-ghost use Rattle.irkit_driver.specs.Outcomes.{EndsExecution, GivesOutcome, RunsIn};
-ghost use Rattle.irkit_driver.specs.Paths.{names_in, path_in};
+ghost use Rattle.irkit_driver.specs.Outcomes.{EndsExecution, GivesOutcome};
+ghost use Rattle.irkit_driver.specs.Paths.{Answers, SaysPath, names_in};
 
 use crate::loading::load;
 use crate::refusal::ExecutionFault;
 use crate::reporting::report;
+use ir_context::Context;
 use ir_names::{Identifier, IdentifierError};
-use ir_store::{Context, Operation, Ptr};
+use ir_program::{Operation, Ptr};
 use irkit_streams::Watched;
-use kit_dialect::{ExecFault, Kit, Outcome, exec};
+use kit::Kit;
+use kit_execution::execute as run_function;
+use kit_flat::Outcome;
+use kit_interpreter::ExecFault;
 use std::alloc::{AllocError, Global};
 use std::io::{Read, Write};
 
@@ -67,11 +71,12 @@ fn outcome_in(
     arguments: &[u64],
     limit: u64,
 ) -> Result<Outcome, ExecFault>
-    requires { IsLiveOperation ctx.now root }
-    ensures { RunsIn ctx.now root path.now arguments.now limit result }
+    requires live { IsSome (operation_at ctx.now.program root) }
+    requires obeys { ObeysRules ctx.now root }
+    ensures { Answers ctx.now root path.now arguments.now limit result }
 {
     match names_of_path(alloc, path) {
-        Ok(Some(names)) => exec(alloc, ctx, root, names.as_slice(), arguments, limit),
+        Ok(Some(names)) => run_function(alloc, ctx, root, names.as_slice(), arguments, limit),
         Ok(None) => Err(ExecFault::WrongPath),
         Err(_) => Err(ExecFault::Memory),
     }
@@ -79,8 +84,8 @@ fn outcome_in(
 
 /// The names of a path, outermost first, or nothing where one is empty or no identifier.
 fn names_of_path(alloc: Global, path: &str) -> Result<Option<Vec<Identifier>>, AllocError>
-    ensures { IfOk result (λ r. MatchOption r (path_in path.now ≡ None)
-        (λ v. path_in path.now ≡ Some (reverse (map text_of v.items)))) }
+    ensures { IfOk result (λ r. MatchOption r ((names : List Name) → SaysPath path.now names → ⊥)
+        (λ v. SaysPath path.now v.items)) }
 {
     let parts = parts_of(alloc, path)?;
     identifiers(alloc, parts.as_slice())
@@ -95,9 +100,9 @@ fn parts_of(alloc: Global, path: &str) -> Result<Vec<&str>, AllocError>
 
 /// The identifiers with these texts, or nothing where one is none.
 fn identifiers(alloc: Global, texts: &[&str]) -> Result<Option<Vec<Identifier>>, AllocError>
-    ensures { let all = list_all is_identifier (map (λ t. t.now) texts.now) in
-        IfOk result (λ r. MatchOption r (all ≡ false)
-        (λ v. (all ≡ true) × (map text_of v.items ≡ map (λ t. t.now) texts.now))) }
+    ensures { let all = map (λ t. t.now) texts.now in
+        IfOk result (λ r. MatchOption r ((names : List Name) → map text_of names ≢ all)
+        (λ v. map text_of v.items ≡ all)) }
 {
     let mut names = Vec::new(alloc);
     for text in texts {

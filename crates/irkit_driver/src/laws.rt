@@ -1,60 +1,49 @@
-//! Laws of the definitions: an input has one answer, and a pass changes no behaviour.
-ghost use Rattle.std.specs.Prelude.{◌≡◌, ℕ, suc, ◌+◌, List, Some};
+//! Laws of the definitions: an input has one answer, and a list of passes may be cut where one likes.
+ghost use Rattle.std.specs.Prelude.{◌≡◌, ℕ, List, ◌++◌};
 ghost use Rattle.ir_print.specs.Pieces.{Entity};
+ghost use Rattle.ir_program.specs.declared.handles.Operation.{Operation};
+ghost use Rattle.ir_program.specs.declared.handles.Ptr.{Ptr};
 ghost use Rattle.ir_tokens.specs.declared.faults.TextFault.{TextFault};
-ghost use Rattle.ir_text.specs.Closed.{IsClosed, IsNumbered};
-ghost use Rattle.kit_dialect.specs.Machine.{Fun};
-ghost use Rattle.kit_dialect.specs.Scopes.{HasDistinctValues, BlocksWith, OpScoped};
-ghost use Rattle.kit_dialect.specs.Facts.{Facts, IsMostPrecise};
-ghost use Rattle.kit_dialect.specs.Constants.{Name, Old, with_facts};
-ghost use Rattle.kit_dialect.specs.Rules.{KeepsRules};
-ghost use Rattle.kit_dialect.specs.Passes.{IsSccp, HasNoKnownOperand, AreAlike, size};
-ghost use Rattle.irkit_driver.specs.Texts.{HasFault, SaysTree, kit_language};
+ghost use Rattle.kit_checks.specs.declared.rule.Rule.{Rule};
+ghost use Rattle.kit_optimiser.specs.declared.pass.KitPass.{KitPass};
+ghost use Rattle.kit_ruled_views.specs.Functions.{KitContext};
+ghost use Rattle.irkit_driver.specs.Outcomes.{RunGives};
+ghost use Rattle.irkit_driver.specs.Same.{HaveOneProgram};
+ghost use Rattle.irkit_driver.specs.Texts.{BreaksRule, HasFault, IsAccepted, IsAcceptedAs, SaysTree};
 
-/// The bytes of an input have one fault of the text at most, and none where they say a tree.
+use kit_optimised_programs::optimised_lists_cut;
+use kit_text_programs::texts_have_one_program;
+use kit_text_rules::texts_have_one_verdict;
+
+/// The bytes of an input have one fault of the text at most, and none where they say a tree; and they say one tree.
 pub fn inputs_have_one_answer()
     ensures one { (bytes : List ℕ) (f g : TextFault) → HasFault bytes f → HasFault bytes g → f ≡ g }
-    ensures either { (bytes : List ℕ) (f : TextFault) (tree : Entity ℕ)
-        → HasFault bytes f → SaysTree bytes tree → ⊥ }
+    ensures either { (bytes : List ℕ) (f : TextFault) (text : Entity ℕ)
+        → HasFault bytes f → SaysTree bytes text → ⊥ }
+    ensures one_tree { (bytes : List ℕ) (text other : Entity ℕ)
+        → SaysTree bytes text → SaysTree bytes other → text ≡ other }
 {}
 
-/// All functions of a module behave after constant propagation as before it, and no run is longer than its other by
-/// more than the number of operations of both modules, and one, times.
-pub fn propagation_changes_no_behaviour()
-    ensures { (tree after : Entity ℕ) → IsClosed kit_language tree → IsNumbered tree → KeepsRules tree
-        → IsSccp tree after → AreAlike (suc (size tree + size after)) tree after }
-{}
+/// Whether an input keeps the rules doesn't depend on the context that it is read into: an input that is accepted in
+/// one is accepted, one that breaks a rule isn't, and it breaks one rule first, at one place.
+pub fn inputs_have_one_verdict()
+    ensures accepted { (bytes : List ℕ) (s : KitContext) (root : Ptr Operation)
+        → IsAcceptedAs bytes s root → IsAccepted bytes }
+    ensures either { (bytes : List ℕ) (rule : Rule) (place : List ℕ)
+        → BreaksRule bytes rule place → IsAccepted bytes → ⊥ }
+    ensures one { (bytes : List ℕ) (rule other : Rule) (place there : List ℕ)
+        → BreaksRule bytes rule place → BreaksRule bytes other there → (rule ≡ other) × (place ≡ there) }
+{
+    texts_have_one_verdict();
+}
 
-/// By the most precise facts of what constant propagation leaves, no operand has a known number but constants.
-pub fn propagation_leaves_no_known_operand()
-    ensures { (tree after : Entity ℕ) → IsClosed kit_language tree → IsNumbered tree → KeepsRules tree
-        → IsSccp tree after → HasNoKnownOperand after }
-{}
-
-/// What constant propagation leaves keeps the rules, and is numbered in the order of the text.
-pub fn propagation_keeps_rules()
-    ensures rules { (tree after : Entity ℕ) → IsClosed kit_language tree → IsNumbered tree → KeepsRules tree
-        → IsSccp tree after → KeepsRules after }
-    ensures numbered { (tree after : Entity ℕ) → IsNumbered tree → IsSccp tree after → IsNumbered after }
-{}
-
-/// Constant propagation makes one module of a module.
-pub fn propagation_makes_one_module()
-    ensures { (tree after other : Entity ℕ) → IsClosed kit_language tree → KeepsRules tree
-        → IsSccp tree after → IsSccp tree other → after ≡ other }
-{}
-
-/// A function has one list of most precise facts at most.
-pub fn most_precise_facts_are_unique()
-    ensures { (f : Fun ℕ) (k l : Facts ℕ) → IsMostPrecise (Some f) k → IsMostPrecise (Some f) l → k ≡ l }
-{}
-
-/// The most precise facts of a function with its constants are, of each value and block that was there, those before.
-pub fn facts_are_kept()
-    ensures values { (f : Fun ℕ) (k : Facts ℕ) (l : Facts (Name ℕ))
-        → HasDistinctValues f → BlocksWith (Some f) (OpScoped (Some f))
-        → IsMostPrecise (Some f) k → IsMostPrecise (with_facts f k) l → (v : ℕ) → l.of (Old v) ≡ k.of v }
-    ensures blocks { (f : Fun ℕ) (k : Facts ℕ) (l : Facts (Name ℕ))
-        → HasDistinctValues f → BlocksWith (Some f) (OpScoped (Some f))
-        → IsMostPrecise (Some f) k → IsMostPrecise (with_facts f k) l → (b : ℕ) → l.runs b ≡ k.runs b }
-{}
+/// The rest of a list of passes, run on the text that its beginning gave, gives the module that the whole list gives:
+/// one with the same program.
+pub fn lists_of_passes_cut()
+    ensures { (beginning rest : List KitPass) (bytes front text whole : List ℕ)
+        → RunGives beginning bytes front → RunGives rest front text → RunGives (beginning ++ rest) bytes whole
+        → HaveOneProgram text whole }
+{
+    texts_have_one_program();
+    optimised_lists_cut();
+}

@@ -14,6 +14,7 @@ mod checking;
 mod driving;
 mod executing;
 mod faults;
+mod knowing;
 pub mod laws;
 mod loading;
 mod refusal;

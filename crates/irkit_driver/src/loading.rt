@@ -1,16 +1,24 @@
 //! From a reader to a module of a context.
 ghost use Rattle.std.specs.Prelude.{◌≡◌, false, IfOk};
-ghost use Rattle.ir_store.specs.Context.{IsLiveOperation};
 ghost use Rattle.irkit_streams.specs.Streams.{has_failed};
+ghost use Rattle.irkit_driver.specs.Known.{CanBeWritten, HasGrammar};
 ghost use Rattle.irkit_driver.specs.Outcomes.{EndsLoad, Understands};
 
+use crate::knowing::know_holding;
 use crate::refusal::Refusal;
-use ir_store::{Context, Operation, Ptr};
-use ir_text::top_level_parse;
+use ir_context::Context;
+use ir_program::{IRNode, Operation, Ptr};
 use irkit_streams::{Watched, decode, read_to_end};
-use kit_dialect::{Kit, rules};
+use kit::Kit;
+use kit_held_modules::know_read_module;
+use kit_language::kit_can_print;
+use kit_verifier::verify_module;
+use kit_writable_trees::texts_are_writable;
 use std::alloc::Global;
 use std::io::Read;
+use text_building::discard;
+use text_reading::top_level_parse;
+use text_rereading::laws::trees_of_texts_are_closed;
 
 /// At most so many calls read an input, so one that gives fewer bytes is read to its end.
 const TURNS: u64 = 1 << 40;
@@ -19,7 +27,8 @@ const TURNS: u64 = 1 << 40;
 ///
 /// A refusal leaves what the context holds as it was, and says the first fault of the whole input: bytes that are no
 /// UTF-8, a fault of the text by line and column, or a broken rule; or that a read failed, that the end wasn't met
-/// after 2^40 bytes or more, that memory was refused, or that the context can't number the text's values.
+/// after 2^40 bytes or more, that memory was refused, or that the context can't number the text's values or has no
+/// handle left for what the text says.
 pub fn load<R: Read>(
     alloc: Global,
     ctx: &mut Context<Kit>,
@@ -27,7 +36,8 @@ pub fn load<R: Read>(
 ) -> Result<Ptr<Operation>, Refusal>
     requires { has_failed reader.old ≡ false }
     ensures ends { EndsLoad R.remaining reader.old reader.new ctx.old ctx.new result }
-    ensures root { IfOk result (IsLiveOperation ctx.new) }
+    ensures writable { IfOk result (CanBeWritten ctx.new) }
+    ensures grammar { IfOk result (λ _. HasGrammar) }
 {
     let bytes = read_to_end(alloc, reader, TURNS)?;
     understand(alloc, ctx, bytes.as_slice())
@@ -40,13 +50,18 @@ fn understand(
     bytes: &[u8],
 ) -> Result<Ptr<Operation>, Refusal>
     ensures understands { Understands bytes.now ctx.old ctx.new result }
-    ensures root { IfOk result (IsLiveOperation ctx.new) }
+    ensures writable { IfOk result (CanBeWritten ctx.new) }
+    ensures grammar { IfOk result (λ _. HasGrammar) }
 {
     let chars = decode(alloc, bytes)?;
-    let mark = ctx.mark();
     let root = top_level_parse(alloc, ctx, chars.as_slice())?;
-    if let Err(fault) = rules(alloc, ctx, root) {
-        ctx.rewind(mark);
+    know_holding(ctx, root);
+    know_read_module(ctx, root);
+    kit_can_print();
+    trees_of_texts_are_closed::<Kit>();
+    texts_are_writable();
+    if let Err(fault) = verify_module(alloc, ctx, root) {
+        discard(ctx, &[IRNode::Operation(root)]);
         return Err(Refusal::from(fault));
     }
     Ok(root)

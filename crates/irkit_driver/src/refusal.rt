@@ -1,8 +1,9 @@
 //! Why a call is refused.
 use ir_names::{GrowError, Place};
-use ir_text::{ScopeCause, TextFault};
+use ir_tokens::faults::{ScopeCause, TextFault};
 use irkit_streams::{DecodeFault, ReadFault, WriteFault};
-use kit_dialect::{ExecFault, RuleFault};
+use kit_checks::{Rule, RuleFault};
+use kit_interpreter::ExecFault;
 use std::alloc::{AllocError, AllocFailed};
 use thiserror::Error;
 
@@ -21,9 +22,9 @@ pub enum Refusal {
     /// Line and column of a name, label or mark that can't be resolved.
     #[error("scope at {0}:{1}: {2}")]
     Scope(usize, usize, ScopeCause),
-    /// The number of a broken rule, and the operation that breaks it.
-    #[error("rule {0} at {1}")]
-    Rule(u8, Place),
+    /// A broken rule, and the operation that breaks it.
+    #[error("rule {} at {}", .0.number(), .1)]
+    Rule(Rule, Place),
     /// A request for memory was refused.
     #[error("memory")]
     Memory,

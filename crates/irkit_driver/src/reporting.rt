@@ -7,7 +7,7 @@ ghost use Rattle.irkit_driver.specs.Reports.{emit_line, spaced, lines_of};
 
 use crate::refusal::Refusal;
 use irkit_streams::{Watched, write_text};
-use kit_dialect::Outcome;
+use kit_flat::Outcome;
 use std::alloc::{AllocError, Global};
 use std::fmt::Write as _;
 use std::io::Write;

@@ -1,35 +1,40 @@
 //! From text through passes to text.
-ghost use Rattle.std.specs.Prelude.{◌≡◌, false, [], ◌∷◌};
-ghost use Rattle.ir_store.specs.Context.{IsLiveOperation};
-ghost use Rattle.irkit_words.specs.Requests.{IsThere, AreThere};
-ghost use Rattle.irkit_driver.specs.Lists.{RunsPasses};
+ghost use Rattle.std.specs.Prelude.{◌≡◌, false, IfOk};
 ghost use Rattle.std.specs.String.{string_bytes};
 ghost use Rattle.irkit_streams.specs.Streams.{has_failed};
+ghost use Rattle.kit_held_modules.specs.Held.{HoldsModule};
+ghost use Rattle.irkit_driver.specs.Known.{CanBeWritten, HasGrammar};
+ghost use Rattle.irkit_driver.specs.Lists.{EndsPasses, IsWrittenAs};
 ghost use Rattle.irkit_driver.specs.Outcomes.{EndsRun, GivesText};
 
+use crate::knowing::{know_ordinary, know_own_text};
 use crate::loading::load;
 use crate::refusal::Refusal;
-use ir_names::GrowError;
-use ir_print::print_root;
-use ir_store::{Context, Operation, Ptr};
+use ir_base::GrowError;
+use ir_context::Context;
+use ir_program::{Operation, Ptr};
+use ir_trees::know_tree;
 use irkit_streams::{Watched, write_text};
 use irkit_words::KitPass;
-use kit_dialect::{Kit, sccp};
-use std::alloc::Global;
+use kit::Kit;
+use kit_language::kit_can_print;
+use kit_optimised_programs::optimised_modules_have_programs;
+use kit_optimiser::run_passes;
+use kit_text_rules::texts_have_one_verdict;
+use module_printing::print_module;
+use std::alloc::{AllocError, Global};
 use std::io::{Read, Write};
 
-/// Reads a module, runs the passes over each of its functions, one after the other, and writes its text and a line end.
+/// Reads a module, runs the passes over it, one after the other, and writes its text and a line end.
 ///
 /// The whole text is formatted before the first write, so a refused call wrote nothing, but for `Write(b)`: then
-/// exactly the first b bytes of the text were taken. The passes are those that there are (`KitPass::is_there`): `sccp`,
-/// any number of times.
+/// exactly the first b bytes of the text were taken.
 pub fn run<R: Read, W: Write>(
     alloc: Global,
     passes: &[KitPass],
     reader: &mut Watched<R>,
     writer: &mut Watched<W>,
 ) -> Result<(), Refusal>
-    requires passes { AreThere passes.now }
     requires reader { has_failed reader.old ≡ false }
     requires writer { has_failed writer.old ≡ false }
     ensures { EndsRun R.remaining W.contents reader.old reader.new writer.old writer.new passes.now result }
@@ -44,51 +49,48 @@ fn text_after<R: Read>(
     passes: &[KitPass],
     reader: &mut Watched<R>,
 ) -> Result<String, Refusal>
-    requires passes { AreThere passes.now }
-    requires reader { has_failed reader.old ≡ false }
+    requires { has_failed reader.old ≡ false }
     ensures { GivesText R.remaining reader.old reader.new passes.now string_bytes result }
 {
     let mut ctx = Context::new(alloc);
     let root = load(alloc, &mut ctx, reader)?;
-    optimise(alloc, &mut ctx, root, passes)?;
-    let mut text = print_root(alloc, &ctx, root)?;
-    text.push('\n')?;
+    let text = optimised_text(alloc, &mut ctx, root, passes)?;
     Ok(text)
 }
 
-/// Runs passes over a module, one after the other.
-fn optimise(
+/// The text of a module after passes, one after the other, with its line end.
+fn optimised_text(
     alloc: Global,
     ctx: &mut Context<Kit>,
     root: Ptr<Operation>,
     passes: &[KitPass],
-) -> Result<(), GrowError>
-    requires passes { AreThere passes.now }
-    requires root { IsLiveOperation ctx.old root }
-    ensures runs { RunsPasses passes.now ctx.old ctx.new root result }
-    ensures live { IsLiveOperation ctx.new root }
+) -> Result<String, GrowError>
+    requires holds { HoldsModule ctx.old root }
+    requires writable { CanBeWritten ctx.old root }
+    requires grammar { HasGrammar }
+    ensures { EndsPasses passes.now ctx.old root string_bytes result }
 {
-    for index in 0..passes.len() {
-        run_pass(alloc, ctx, root, passes[index])?;
-    }
-    Ok(())
+    know_tree(ctx.program(), root);
+    know_ordinary(ctx, root);
+    optimised_modules_have_programs();
+    run_passes(alloc, ctx, root, passes)?;
+    know_ordinary(ctx, root);
+    Ok(module_text(alloc, ctx, root)?)
 }
 
-/// Runs a pass over each function of a module.
-fn run_pass(
+/// The text of a module that can be written, with its line end.
+fn module_text(
     alloc: Global,
-    ctx: &mut Context<Kit>,
+    ctx: &Context<Kit>,
     root: Ptr<Operation>,
-    pass: KitPass,
-) -> Result<(), GrowError>
-    requires pass { IsThere pass }
-    requires root { IsLiveOperation ctx.old root }
-    ensures runs { RunsPasses (pass ∷ []) ctx.old ctx.new root result }
-    ensures live { IsLiveOperation ctx.new root }
+) -> Result<String, AllocError>
+    requires holds { HoldsModule ctx.now root }
+    requires writable { CanBeWritten ctx.now root }
+    requires grammar { HasGrammar }
+    ensures { IfOk result (λ text. IsWrittenAs ctx.now root (string_bytes text)) }
 {
-    match pass {
-        KitPass::Sccp => sccp(alloc, ctx, root),
-        KitPass::Dce => unreachable!(),
-        KitPass::SimplifyCfg => unreachable!(),
-    }
+    know_own_text(ctx, root);
+    kit_can_print();
+    texts_have_one_verdict();
+    print_module(alloc, ctx, root)
 }

@@ -37,13 +37,8 @@ pub fn driven(
     })
 }
 
-/// What running `sccp` so many times writes, at most twice, or the fault with which it ends.
-pub fn ran(alloc: Global, times: usize, text: &[u8]) -> Result<String, AllocError> {
-    let passes: &[KitPass] = match times {
-        0 => &[],
-        1 => &[KitPass::Sccp],
-        _ => &[KitPass::Sccp, KitPass::Sccp],
-    };
+/// What running these passes over a text writes, or the fault with which it ends.
+pub fn ran(alloc: Global, passes: &[KitPass], text: &[u8]) -> Result<String, AllocError> {
     let mut output = writer_of(alloc, 99999, 99999, true);
     match run(alloc, passes, &mut Watched::new(text), &mut output) {
         Ok(()) => String::from_utf8_lossy(alloc, &output.inner().taken),

@@ -13,6 +13,9 @@ fn commands_are_served(rt: HostRuntime) -> Result<(), Fail> {
     for (words, input, room, status, written, told) in [
         ("irkit check", EMPTY, 9, 0, "ok\n", ""),
         ("irkit opt", EMPTY, 99, 0, PRINTED, ""),
+        ("irkit opt dce", EMPTY, 99, 0, PRINTED, ""),
+        ("irkit opt simplify-cfg", EMPTY, 99, 0, PRINTED, ""),
+        ("irkit opt sccp dce simplify-cfg", EMPTY, 99, 0, PRINTED, ""),
         ("irkit check", b"", 9, 1, "", "error: syntax at 1:1\n"),
         (
             "irkit opt",
@@ -79,8 +82,8 @@ const MISTAKES: &[(&str, &str)] = &[
     ("irkit check more", "unexpected argument 'more'"),
     ("irkit opt licm", "unknown pass\n"),
     ("irkit opt sccp licm", "unknown pass\n"),
-    ("irkit opt dce", "pass not available yet\n"),
-    ("irkit opt sccp simplify-cfg", "pass not available yet\n"),
+    ("irkit opt Dce", "unknown pass\n"),
+    ("irkit opt simplify_cfg", "unknown pass\n"),
     ("irkit opt --x", "unexpected argument '--x'"),
 ];
 

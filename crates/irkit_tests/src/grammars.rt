@@ -1,7 +1,6 @@
 //! Tokens, places, and readings of small grammars, with answers that were worked out by hand.
-use ir_text::{
-    Action, Class, Event, Grammar, Rule, Stop, Symbol, Token, TokenKind, place_after, tokens_of,
-};
+use ir_grammar::{Action, Class, Event, Grammar, Rule, Stop, Symbol};
+use ir_tokens::{Token, TokenKind, place_after, tokens_of};
 use std::alloc::{AllocError, Global};
 
 /// A text with its tokens.
@@ -127,44 +126,46 @@ const NAMED: Event = Event::Did(Action::Name);
 
 const ITEM: Event = Event::Did(Action::EndItem);
 
+/// How deep parts may be nested, kinds of tokens, where reading them stops, and what it has done then.
+const READINGS: [(usize, &[u32], Stop, usize, &[Event]); 4] = [
+    (
+        1,
+        &[OPEN, NAME, NAME, CLOSE, NAME],
+        Stop::Text,
+        4,
+        &[TOOK, BEGIN, TOOK, NAMED, ITEM, TOOK, NAMED, ITEM, TOOK, END],
+    ),
+    (
+        1,
+        &[OPEN, NAME, COMMA],
+        Stop::Stuck,
+        2,
+        &[TOOK, BEGIN, TOOK, NAMED, ITEM],
+    ),
+    (
+        1,
+        &[OPEN, OPEN, NAME, CLOSE, CLOSE],
+        Stop::Deep,
+        3,
+        &[TOOK, BEGIN, TOOK, BEGIN, TOOK],
+    ),
+    (
+        2,
+        &[OPEN, OPEN, NAME, CLOSE, CLOSE],
+        Stop::Text,
+        5,
+        &[
+            TOOK, BEGIN, TOOK, BEGIN, TOOK, NAMED, ITEM, TOOK, END, ITEM, TOOK, END,
+        ],
+    ),
+];
+
 #[test]
 fn nested_lists_are_read(rt: HostRuntime) -> Result<(), AllocError> {
     let alloc = rt.alloc();
     let grammar = grammar(alloc, 2, NESTED)?;
     assert!(rt; grammar.can_read(0));
-    let cases: [(usize, &[u32], Stop, usize, &[Event]); 4] = [
-        (
-            1,
-            &[OPEN, NAME, NAME, CLOSE, NAME],
-            Stop::Text,
-            4,
-            &[TOOK, BEGIN, TOOK, NAMED, ITEM, TOOK, NAMED, ITEM, TOOK, END],
-        ),
-        (
-            1,
-            &[OPEN, NAME, COMMA],
-            Stop::Stuck,
-            2,
-            &[TOOK, BEGIN, TOOK, NAMED, ITEM],
-        ),
-        (
-            1,
-            &[OPEN, OPEN, NAME, CLOSE, CLOSE],
-            Stop::Deep,
-            3,
-            &[TOOK, BEGIN, TOOK, BEGIN, TOOK],
-        ),
-        (
-            2,
-            &[OPEN, OPEN, NAME, CLOSE, CLOSE],
-            Stop::Text,
-            5,
-            &[
-                TOOK, BEGIN, TOOK, BEGIN, TOOK, NAMED, ITEM, TOOK, END, ITEM, TOOK, END,
-            ],
-        ),
-    ];
-    for (deepest, kinds, stop, taken, events) in cases {
+    for (deepest, kinds, stop, taken, events) in READINGS {
         let read = grammar.read(alloc, 0, deepest, kinds)?;
         assert_eq!(rt; read.stop, stop);
         assert_eq!(rt; read.taken, taken);

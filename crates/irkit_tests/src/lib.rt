@@ -12,18 +12,12 @@ mod fakes;
 #[cfg(test)]
 mod grammars;
 #[cfg(test)]
-mod machine;
-#[cfg(test)]
 mod passes;
 #[cfg(test)]
 mod reports;
 #[cfg(test)]
 mod runs;
 #[cfg(test)]
-mod store;
-#[cfg(test)]
 mod streams;
-#[cfg(test)]
-mod table;
 #[cfg(test)]
 mod texts;

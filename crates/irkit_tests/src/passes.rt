@@ -1,53 +1,166 @@
 //! What passes make of modules, and that they are run again and again.
 use crate::calls::{function, ran};
+use irkit_driver::KitPass;
 use std::alloc::{AllocError, Global};
+use std::process::Abort;
 use std::test::Fail;
 
-/// Whether so many times `sccp` make of the one text the other, up to the names of values.
-fn gives(alloc: Global, times: usize, text: &str, wanted: &str) -> Result<bool, AllocError> {
-    let once = ran(alloc, times, text.as_bytes())?;
-    let again = ran(alloc, 0, once.as_bytes())?;
-    let wanted_once = ran(alloc, 0, wanted.as_bytes())?;
-    let wanted_again = ran(alloc, 0, wanted_once.as_bytes())?;
+const SCCP: KitPass = KitPass::Sccp;
+
+const DCE: KitPass = KitPass::Dce;
+
+const SIMPLIFY: KitPass = KitPass::SimplifyCfg;
+
+/// Whether these passes make of the one text the other, up to the names of values.
+fn gives(alloc: Global, passes: &[KitPass], text: &str, wanted: &str) -> Result<bool, AllocError> {
+    let once = ran(alloc, passes, text.as_bytes())?;
+    let again = ran(alloc, &[], once.as_bytes())?;
+    let wanted_once = ran(alloc, &[], wanted.as_bytes())?;
+    let wanted_again = ran(alloc, &[], wanted_once.as_bytes())?;
     Ok(once.starts_with("builtin.module @m") && again.as_str() == wanted_again.as_str())
 }
 
-/// The type of a function, how many times the pass is run, its body and what is wanted of it.
-const SUMS: &[(&str, usize, &str, &str)] = &[
+/// The type of a function, the passes, its body and what is wanted of it.
+type Case = (&'static str, &'static [KitPass], &'static str, &'static str);
+
+/// Constants for known values.
+const SUMS: &[Case] = &[
     (
         "()->(T8)",
-        1,
+        &[SCCP],
         "^e(): a = (C8 255 C8); b = (C8 1 C8); s = kit.add a, b: T8; kit.return s",
         "^e(): a = (C8 255 C8); b = (C8 1 C8); t = (C8 0 C8); s = kit.add a, b: T8; kit.return t",
     ),
     (
         "()->(T8)",
-        2,
+        &[SCCP, SCCP],
         "^e(): a = (C8 255 C8); b = (C8 1 C8); s = kit.add a, b: T8; kit.return s",
         "^e(): a = (C8 255 C8); b = (C8 1 C8); t = (C8 0 C8); u = (C8 0 C8); s = kit.add a, b: T8; kit.return t",
     ),
     (
         "(T8)->(T8)",
-        1,
+        &[SCCP],
         "^e(x: T8): o = (C8 1 C8); s = kit.add x, o: T8; kit.return s",
         "^e(x: T8): o = (C8 1 C8); s = kit.add x, o: T8; kit.return s",
     ),
     (
         "()->(T8)",
-        1,
+        &[SCCP],
         "^e(): a = (C8 2 C8); b = kit.add a, a: T8; c = kit.add b, a: T8; kit.return c; ^u(): kit.return b; ^v(): p = (C8 1 C8); q = kit.add p, p: T8; kit.return q",
         "^e(): a = (C8 2 C8); k = (C8 4 C8); b = kit.add a, a: T8; l = (C8 6 C8); c = kit.add k, a: T8; kit.return l; ^u(): kit.return k; ^v(): p = (C8 1 C8); q = kit.add p, p: T8; kit.return q",
     ),
+    (
+        "()->(builtin.integer i1)",
+        &[SCCP],
+        "^e(): a = (C8 -1 C8); b = (C8 1 C8); s = kit.ult a, b: builtin.integer i1; kit.return s",
+        "^e(): a = (C8 -1 C8); b = (C8 1 C8); t = builtin.constant builtin.integer <0: i1>; s = kit.ult a, b: builtin.integer i1; kit.return t",
+    ),
+    (
+        "()->(T8)",
+        &[SCCP],
+        "^e(): a = (C8 7 C8); z = (C8 0 C8); q = kit.div a, z: T8; kit.return q",
+        "^e(): a = (C8 7 C8); z = (C8 0 C8); q = kit.div a, z: T8; kit.return q",
+    ),
 ];
 
-#[test]
-fn known_sums_become_constants(rt: HostRuntime) -> Result<(), Fail> {
-    let alloc = rt.alloc();
-    for (ty, times, body, wanted) in SUMS {
+/// What is dead goes, and nothing else: what emits or may trap stays.
+const DEAD: &[Case] = &[
+    (
+        "()->(T8)",
+        &[DCE],
+        "^e(): a = (C8 2 C8); b = (C8 3 C8); s = kit.add a, b: T8; t = kit.mul s, s: T8; kit.return a",
+        "^e(): a = (C8 2 C8); kit.return a",
+    ),
+    (
+        "(T8)->()",
+        &[DCE],
+        "^e(x: T8): a = (C8 2 C8); b = (C8 3 C8); kit.emit a; q = kit.div a, x: T8; kit.return",
+        "^e(x: T8): a = (C8 2 C8); kit.emit a; q = kit.div a, x: T8; kit.return",
+    ),
+    (
+        "()->(T8)",
+        &[DCE],
+        "^e(): a = (C8 2 C8); kit.return a; ^u(): b = (C8 3 C8); c = (C8 4 C8); kit.return b",
+        "^e(): a = (C8 2 C8); kit.return a; ^u(): b = (C8 3 C8); kit.return b",
+    ),
+];
+
+/// Blocks that nothing reaches go.
+const UNREACHED: &[Case] = &[
+    (
+        "()->()",
+        &[SIMPLIFY],
+        "^e(): kit.return; ^u(): kit.return; ^v(x: T8): kit.return",
+        "^e(): kit.return",
+    ),
+    (
+        "()->(T8)",
+        &[SIMPLIFY],
+        "^e(): a = (C8 2 C8); b = (C8 3 C8); kit.return a; ^u(): c = kit.add b, b: T8; kit.return c",
+        "^e(): a = (C8 2 C8); b = (C8 3 C8); kit.return a",
+    ),
+];
+
+/// A function that has something for each pass.
+const ALL: &str =
+    "^e(): a = (C8 255 C8); b = (C8 1 C8); s = kit.add a, b: T8; kit.return s; ^u(): kit.return b";
+
+/// Lists of passes, of which each has the module that the ones before it made.
+const LISTS: &[Case] = &[
+    ("()->(T8)", &[], ALL, ALL),
+    (
+        "()->(T8)",
+        &[SCCP, DCE, SIMPLIFY],
+        ALL,
+        "^e(): b = (C8 1 C8); t = (C8 0 C8); kit.return t",
+    ),
+    (
+        "()->(T8)",
+        &[SCCP, SIMPLIFY, DCE],
+        ALL,
+        "^e(): t = (C8 0 C8); kit.return t",
+    ),
+    (
+        "()->(T8)",
+        &[DCE, SIMPLIFY],
+        ALL,
+        "^e(): a = (C8 255 C8); b = (C8 1 C8); s = kit.add a, b: T8; kit.return s",
+    ),
+];
+
+/// Each case gives what is wanted of it.
+fn are_given(rt: &impl Abort, alloc: Global, cases: &[Case]) -> Result<(), Fail> {
+    for (ty, passes, body, wanted) in cases {
         let text = function(alloc, ty, body)?;
         let wanted = function(alloc, ty, wanted)?;
-        assert!(rt; gives(alloc, *times, &text, &wanted)?, "{body}");
+        assert!(rt; gives(alloc, passes, &text, &wanted)?, "{body}");
     }
+    Ok(())
+}
+
+#[test]
+fn known_values_become_constants(rt: HostRuntime) -> Result<(), Fail> {
+    are_given(&rt, rt.alloc(), SUMS)
+}
+
+#[test]
+fn what_is_dead_goes(rt: HostRuntime) -> Result<(), Fail> {
+    are_given(&rt, rt.alloc(), DEAD)
+}
+
+#[test]
+fn unreached_blocks_go(rt: HostRuntime) -> Result<(), Fail> {
+    are_given(&rt, rt.alloc(), UNREACHED)
+}
+
+#[test]
+fn passes_are_run_in_their_order(rt: HostRuntime) -> Result<(), Fail> {
+    are_given(&rt, rt.alloc(), LISTS)
+}
+
+#[test]
+fn functions_of_nested_modules_are_optimised(rt: HostRuntime) -> Result<(), Fail> {
+    let alloc = rt.alloc();
     let inner =
         "builtin.func @f: builtin.function <()->(builtin.integer i8)> {^e(): a = builtin.constant builtin.integer <1: i8>; K; b = kit.add a, a: builtin.integer i8; kit.return R}";
     let module = format!(in alloc;
@@ -62,7 +175,7 @@ fn known_sums_become_constants(rt: HostRuntime) -> Result<(), Fail> {
     )?;
     let wanted = wanted.replace(alloc, "return R", "return k")?;
     assert!(rt;
-        gives(alloc, 1, &text, &wanted)?,
+        gives(alloc, &[SCCP], &text, &wanted)?,
         "functions of nested modules"
     );
     Ok(())

@@ -1,9 +1,10 @@
 //! What is written of a run, and the texts of faults.
 use crate::fakes::writer_of;
 use ir_names::Place;
-use ir_text::ScopeCause;
+use ir_tokens::ScopeCause;
 use irkit_driver::{ExecutionFault, Refusal, report};
-use kit_dialect::Outcome;
+use kit_checks::Rule;
+use kit_flat::Outcome;
 use std::test::Fail;
 
 #[test]
@@ -46,7 +47,7 @@ fn outcomes_have_their_lines(rt: HostRuntime) -> Result<(), Fail> {
 }
 
 #[test]
-fn faults_have_their_texts(rt: HostRuntime) -> Result<(), Fail> {
+fn refusals_have_their_texts(rt: HostRuntime) -> Result<(), Fail> {
     let alloc = rt.alloc();
     let root = Place {
         children: Vec::new(alloc),
@@ -68,8 +69,12 @@ fn faults_have_their_texts(rt: HostRuntime) -> Result<(), Fail> {
             4,
             "scope at 2:9: TopLevelOpRegionNotIsolatedFromAbove",
         ),
-        (Refusal::Rule(1, root), 5, "rule 1 at root"),
-        (Refusal::Rule(14, inner), 5, "rule 14 at 0.2.10"),
+        (Refusal::Rule(Rule::RootIsModule, root), 5, "rule 1 at root"),
+        (
+            Refusal::Rule(Rule::FitsFormat, inner),
+            5,
+            "rule 14 at 0.2.10",
+        ),
         (Refusal::Memory, 6, "memory"),
         (Refusal::CounterFull, 7, "counter full"),
         (Refusal::Read, 8, "read"),
@@ -78,6 +83,11 @@ fn faults_have_their_texts(rt: HostRuntime) -> Result<(), Fail> {
         assert_eq!(rt; refusal.number(), number);
         assert_eq!(rt; format!(in alloc; "{refusal}")?.as_str(), text);
     }
+    Ok(())
+}
+
+#[test]
+fn faults_of_runs_have_their_texts(rt: HostRuntime) -> Result<(), Fail> {
     for (fault, text) in [
         (ExecutionFault::Refused(Refusal::Memory), "memory"),
         (
@@ -87,7 +97,7 @@ fn faults_have_their_texts(rt: HostRuntime) -> Result<(), Fail> {
         (ExecutionFault::WrongPath, "wrong path"),
         (ExecutionFault::WrongArguments, "wrong arguments"),
     ] {
-        assert_eq!(rt; format!(in alloc; "{fault}")?.as_str(), text);
+        assert_eq!(rt; format!(in rt.alloc(); "{fault}")?.as_str(), text);
     }
     Ok(())
 }

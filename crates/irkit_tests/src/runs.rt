@@ -1,5 +1,8 @@
 //! Functions with what their runs write.
-use crate::calls::{driven, function};
+use crate::calls::{driven, function, ran};
+use irkit_driver::KitPass;
+use std::alloc::Global;
+use std::process::Abort;
 use std::test::Fail;
 
 /// The least function: it returns nothing.
@@ -9,6 +12,28 @@ const NOTHING: &[u8] =
 /// A function two modules down, between others of its name.
 const INNER: &[u8] =
     b"builtin.module @m {^b(): builtin.module @n {^b(): builtin.module @f {^b(): builtin.func @f: builtin.function <()->(builtin.integer i8)> {^e(): a = builtin.constant builtin.integer <5: i8>; kit.return a}}}; builtin.func @f: builtin.function <()->()> {^e(): kit.return}}";
+
+/// A function in a module in a module.
+const NESTED: &[u8] = b"builtin.module @m {
+  ^b():
+    builtin.module @inner {
+      ^b():
+        builtin.func @twice_and_one: builtin.function <(builtin.integer i8)->(builtin.integer i8, builtin.integer i8)> {
+          ^entry(x: builtin.integer i8):
+            one = builtin.constant builtin.integer <1: i8>;
+            twice = kit.add x, x: builtin.integer i8;
+            sum = kit.add twice, one: builtin.integer i8;
+            kit.return sum, x
+        }
+    }
+}";
+
+/// The body of a function that adds two constants.
+const SUM: &str = "^e(): a = (C8 255 C8); b = (C8 1 C8); s = kit.add a, b: T8; kit.return s";
+
+/// The body of a function that emits 100 and its quotient by a number.
+const DIVISION: &str =
+    "^e(x: T8): a = (C8 100 C8); kit.emit a; q = kit.div a, x: T8; kit.emit q; kit.return q";
 
 /// Of a function of three numbers: a limit with a path and numbers, the status, and what is written or told.
 const NUMBERS: &[(&str, u8, &str)] = &[
@@ -68,6 +93,89 @@ const PATHS: &[(&str, u8, &str)] = &[
     ("2 1 9", 1, "error: wrong path\n"),
 ];
 
+/// Of a function two modules down that returns twice its number and one, and the number.
+const NESTED_RUNS: &[(&str, u8, &str)] = &[
+    ("4 inner/twice_and_one 200", 0, "end 145 200\n"),
+    (
+        "18446744073709551615 inner/twice_and_one 200",
+        0,
+        "end 145 200\n",
+    ),
+    ("3 inner/twice_and_one 200", 4, "limit\n"),
+    ("4 inner/twice_and_one 256", 1, "error: wrong arguments\n"),
+    ("4 inner/twice_and_one", 1, "error: wrong arguments\n"),
+    ("4 inner 200", 1, "error: wrong path\n"),
+    ("4 twice_and_one/inner", 1, "error: wrong path\n"),
+];
+
+/// Of a function that emits 100 and its quotient by a number.
+const QUOTIENTS: &[(&str, u8, &str)] = &[
+    ("5 f 7", 0, "emit 100\nemit 14\nend 14\n"),
+    ("4 f 7", 4, "emit 100\nemit 14\nlimit\n"),
+    ("3 f 7", 4, "emit 100\nlimit\n"),
+    ("3 f 0", 3, "emit 100\ntrap\n"),
+    ("18446744073709551615 f 0", 3, "emit 100\ntrap\n"),
+    ("2 f 0", 4, "emit 100\nlimit\n"),
+    ("1 f 0", 4, "limit\n"),
+];
+
+/// Of a function that compares a number with 255, and 255 with it.
+const COMPARED: &[(&str, u8, &str)] = &[
+    ("4 f 254", 0, "end 1 0\n"),
+    ("4 f 255", 0, "end 0 1\n"),
+    ("3 f 255", 4, "limit\n"),
+];
+
+/// Of a function that subtracts 1 from a number of 8 bits and multiplies the difference by itself.
+const WRAPPED: &[(&str, u8, &str)] = &[("4 f 0", 0, "end 255 1\n"), ("4 f 201", 0, "end 200 64\n")];
+
+/// Passes, with what the sum of two constants takes after them.
+const SUM_RUNS: &[(&[KitPass], &[(&str, u8, &str)])] = &[
+    (&[], STEPS),
+    (
+        &[KitPass::Sccp],
+        &[("5 f", 0, "end 0\n"), ("4 f", 4, "limit\n")],
+    ),
+    (
+        &[KitPass::Sccp, KitPass::Dce],
+        &[("2 f", 0, "end 0\n"), ("1 f", 4, "limit\n")],
+    ),
+    (
+        &[KitPass::Dce, KitPass::SimplifyCfg],
+        &[("4 f", 0, "end 0\n"), ("3 f", 4, "limit\n")],
+    ),
+];
+
+/// Passes that change nothing of what a division does.
+const DIVISION_RUNS: &[(&[KitPass], &[(&str, u8, &str)])] = &[
+    (&[KitPass::Dce], QUOTIENTS),
+    (
+        &[KitPass::Sccp, KitPass::Dce, KitPass::SimplifyCfg],
+        QUOTIENTS,
+    ),
+];
+
+/// Runs of functions of a text, each with the status and what is written or told.
+fn are_run(
+    rt: &impl Abort,
+    alloc: Global,
+    text: &[u8],
+    runs: &[(&str, u8, &str)],
+) -> Result<(), Fail> {
+    for (words, status, said) in runs {
+        let line = format!(in alloc; "irkit run --limit {words}")?;
+        let did = driven(alloc, &line, text, 999, 999)?;
+        assert_eq!(rt; did.status, *status, "{words}");
+        assert_eq!(rt; did.written.is_empty(), *status == 1, "{words}");
+        assert_eq!(rt; did.told.is_empty(), *status != 1, "{words}");
+        assert!(rt;
+            did.written.as_str() == *said || did.told.as_str() == *said,
+            "{words}"
+        );
+    }
+    Ok(())
+}
+
 #[test]
 fn functions_are_run(rt: HostRuntime) -> Result<(), Fail> {
     let alloc = rt.alloc();
@@ -81,33 +189,60 @@ fn functions_are_run(rt: HostRuntime) -> Result<(), Fail> {
         "(T8)->(T8)",
         "^e(x: T8): o = (C8 1 C8); s = kit.add x, o: T8; kit.return s",
     )?;
-    let steps = function(
-        alloc,
-        "()->(T8)",
-        "^e(): a = (C8 255 C8); b = (C8 1 C8); s = kit.add a, b: T8; kit.return s",
-    )?;
+    let steps = function(alloc, "()->(T8)", SUM)?;
     // faults of the text come before those of the path
-    let cases: [(&[u8], &[(&str, u8, &str)]); 8] = [
+    let cases: [(&[u8], &[(&str, u8, &str)]); 9] = [
         (numbers.as_bytes(), NUMBERS),
         (added.as_bytes(), ADDED),
         (steps.as_bytes(), STEPS),
         (NOTHING, LEAST),
         (INNER, PATHS),
+        (NESTED, NESTED_RUNS),
         (b"x", &[("1 /", 1, "error: syntax at 1:2\n")]),
         (b"kit.return", &[("1 g 7", 1, "error: rule 1 at root\n")]),
         (b"\xff", &[("1 f", 1, "error: not UTF-8 at byte 0\n")]),
     ];
     for (text, runs) in cases {
-        for (words, status, said) in runs {
-            let line = format!(in alloc; "irkit run --limit {words}")?;
-            let did = driven(alloc, &line, text, 999, 999)?;
-            assert_eq!(rt; did.status, *status, "{words}");
-            assert_eq!(rt; did.written.is_empty(), *status == 1, "{words}");
-            assert_eq!(rt; did.told.is_empty(), *status != 1, "{words}");
-            assert!(rt;
-                did.written.as_str() == *said || did.told.as_str() == *said,
-                "{words}"
-            );
+        are_run(&rt, alloc, text, runs)?;
+    }
+    Ok(())
+}
+
+#[test]
+fn numbers_are_calculated(rt: HostRuntime) -> Result<(), Fail> {
+    let alloc = rt.alloc();
+    let cases: [(&str, &str, &[(&str, u8, &str)]); 3] = [
+        ("(T8)->(T8)", DIVISION, QUOTIENTS),
+        (
+            "(T8)->(builtin.integer i1, builtin.integer i1)",
+            "^e(x: T8): o = (C8 -1 C8); l = kit.ult x, o: builtin.integer i1; m = kit.ule o, x: builtin.integer i1; kit.return l, m",
+            COMPARED,
+        ),
+        (
+            "(T8)->(T8, T8)",
+            "^e(x: T8): o = (C8 1 C8); d = kit.sub x, o: T8; p = kit.mul d, d: T8; kit.return d, p",
+            WRAPPED,
+        ),
+    ];
+    for (ty, body, runs) in cases {
+        let text = function(alloc, ty, body)?;
+        are_run(&rt, alloc, text.as_bytes(), runs)?;
+    }
+    Ok(())
+}
+
+#[test]
+fn functions_are_run_after_passes(rt: HostRuntime) -> Result<(), Fail> {
+    let alloc = rt.alloc();
+    let cases: [(&str, &str, &[(&[KitPass], &[(&str, u8, &str)])]); 2] = [
+        ("()->(T8)", SUM, SUM_RUNS),
+        ("(T8)->(T8)", DIVISION, DIVISION_RUNS),
+    ];
+    for (ty, body, lists) in cases {
+        let text = function(alloc, ty, body)?;
+        for (passes, runs) in lists {
+            let made = ran(alloc, passes, text.as_bytes())?;
+            are_run(&rt, alloc, made.as_bytes(), runs)?;
         }
     }
     Ok(())

@@ -1,6 +1,6 @@
 //! Streams that give little, take little or fail, under reading, loading, running and checking.
 use crate::fakes::{Dripping, writer_of};
-use ir_store::Context;
+use ir_context::Context;
 use irkit_driver::{Refusal, Watched, check, load, run};
 use irkit_streams::{DecodeFault, ReadFault, decode, read_to_end};
 use std::test::Fail;

@@ -1,6 +1,6 @@
 //! Texts with what becomes of each: accepted, or refused with a fault, however they are read.
 use crate::calls::{driven, function, ran};
-use ir_store::Context;
+use ir_context::Context;
 use irkit_driver::{Watched, load};
 use std::alloc::{AllocError, Global};
 use std::test::Fail;
@@ -17,8 +17,8 @@ fn without_slots(alloc: Global, text: &str) -> Result<String, AllocError> {
 
 /// What is printed of an accepted text is accepted, and printed again as the same text up to the names of blocks.
 fn is_printed_again(alloc: Global, text: &[u8]) -> Result<bool, AllocError> {
-    let once = ran(alloc, 0, text)?;
-    let twice = ran(alloc, 0, once.as_bytes())?;
+    let once = ran(alloc, &[], text)?;
+    let twice = ran(alloc, &[], once.as_bytes())?;
     Ok(
         once.len() < twice.len()
             && without_slots(alloc, &once)?.as_str() == without_slots(alloc, &twice)?.as_str(),
@@ -50,7 +50,7 @@ fn ends_with(alloc: Global, text: &[u8], fault: &str) -> Result<bool, AllocError
     }
     let line = format!(in alloc; "error: {fault}\n")?;
     let is_said = did.status == 1 && did.written.is_empty() && did.told.as_str() == line.as_str();
-    Ok(is_loaded && is_said && ran(alloc, 0, text)?.as_str() == fault)
+    Ok(is_loaded && is_said && ran(alloc, &[], text)?.as_str() == fault)
 }
 
 /// Whole texts, each with its fault, or none.
@@ -354,7 +354,7 @@ fn texts_are_printed(rt: HostRuntime) -> Result<(), Fail> {
         let whole = format!(in alloc;
             "builtin.module @m \n{{\n  ^b_block1v1():\n    builtin.func @f: builtin.function <{ty}> \n    {{\n      ^e_block2v1({printed}\n    }}\n}}\n"
         )?;
-        assert_eq!(rt; ran(alloc, 0, text.as_bytes())?.as_str(), whole.as_str());
+        assert_eq!(rt; ran(alloc, &[], text.as_bytes())?.as_str(), whole.as_str());
         assert!(rt; is_printed_again(alloc, text.as_bytes())?);
     }
     Ok(())

@@ -2,9 +2,8 @@
 use Rattle.std.specs.Prelude.{◌≡◌, ◌<◌, ◌^◌, ℕ, List, [], ◌∷◌, map, Option, Some, None, Result, Ok, Err, codes, string_bytes, unwrap_or}
 use Rattle.std.specs.Str.Parse.{IsNumeral, digits_value, without_leading_plus}
 use Rattle.clap.specs.Words.{Row, Text, all_of, first_of}
-use Rattle.irkit_words.specs.declared.request.KitPass.{KitPass}
-use Rattle.irkit_words.specs.declared.request.KitPass.TheVariants.{Sccp, Dce, SimplifyCfg}
-use Rattle.std.specs.List.{All}
+use Rattle.kit_optimiser.specs.declared.pass.KitPass.{KitPass}
+use Rattle.kit_optimiser.specs.declared.pass.KitPass.TheVariants.{Sccp, Dce, SimplifyCfg}
 use Rattle.irkit_words.specs.declared.request.Execution.{Execution}
 use Rattle.irkit_words.specs.declared.request.Request.{Request}
 use Rattle.irkit_words.specs.declared.request.Request.TheVariants.{Check, Optimise, Run}
@@ -16,16 +15,6 @@ abbrev pub pass_name : KitPass → Text
 pass_name Sccp = codes "sccp"
 pass_name Dce = codes "dce"
 pass_name SimplifyCfg = codes "simplify-cfg"
-
--- a pass that there is
-abbrev pub IsThere : KitPass → Type 0
-IsThere Sccp = Unit {0}
-IsThere Dce = ⊥
-IsThere SimplifyCfg = ⊥
-
--- all of them
-abbrev pub AreThere : List KitPass → Type 0
-AreThere passes = All IsThere passes
 
 -- The word is this number, below 2^64, in decimal digits, before which a `+` may stand.
 abbrev pub SaysNumber : Text → ℕ → Type 0
@@ -72,9 +61,3 @@ AsksFor found (Err Memory) = Unit {0}
 AsksFor found (Err NoCommand) = AsksNothing found
 AsksFor found (Err UnknownPass) = AsksNothing found
 AsksFor found (Err NoNumber) = AsksNothing found
-
--- The program serves this request: all its passes are there.
-abbrev pub IsServed : Request → Type 0
-IsServed Check = Unit {0}
-IsServed (Optimise passes) = AreThere passes.items
-IsServed (Run execution) = Unit {0}

@@ -8,4 +8,5 @@ mod command;
 mod request;
 
 pub use command::parse;
-pub use request::{Execution, KitPass, Request, RequestFault, are_there, request_of};
+pub use kit_optimiser::KitPass;
+pub use request::{Execution, Request, RequestFault, pass_named, request_of};

@@ -2,19 +2,9 @@
 ghost use Rattle.std.specs.Prelude.{◌≡◌, ◌≢◌, ◌↔◌, ℕ, List, Some, codes, IfOk, IsTrue, MatchOption, map, option_map};
 
 use clap::ArgMatches;
+use kit_optimiser::KitPass;
 use std::alloc::{AllocError, AllocFailed, Global};
 use thiserror::Error;
-
-/// A pass over a module, by its word.
-#[derive(Clone, Copy, Debug, PartialEq, Eq)]
-pub enum KitPass {
-    /// `sccp`: sparse conditional constant propagation.
-    Sccp,
-    /// `dce`: dead code elimination, which isn't there yet.
-    Dce,
-    /// `simplify-cfg`, which isn't there yet.
-    SimplifyCfg,
-}
 
 /// A run: the word for a function's path, the numbers that it takes, and at most how many steps.
 #[derive(Debug, Drop)]
@@ -73,52 +63,18 @@ impl<T: Drop> From<AllocFailed<T>> for RequestFault {
 }
 
 ghost use Rattle.clap.specs.Words.{found_of, rows_of, subcommand_rows_of, all_of, first_of};
-ghost use Rattle.irkit_words.specs.Requests.{pass_name, AsksFor, IsServed, SaysNumber, SayNumbers, words_at};
-ghost use Rattle.irkit_words.specs.Requests.{AreThere, IsThere};
+ghost use Rattle.irkit_words.specs.Requests.{pass_name, AsksFor, SaysNumber, SayNumbers, words_at};
 
-impl KitPass {
-    /// The pass of this name.
-    pub fn from_name(name: &str) -> Option<KitPass>
-        ensures { MatchOption result ((p : KitPass) → name.now ≢ pass_name p) (λ p. name.now ≡ pass_name p) }
-    {
-        match name {
-            "sccp" => Some(KitPass::Sccp),
-            "dce" => Some(KitPass::Dce),
-            "simplify-cfg" => Some(KitPass::SimplifyCfg),
-            _ => None,
-        }
-    }
-
-    /// Whether the pass is there: `sccp` is, the others come later.
-    pub fn is_there(self) -> bool
-        ensures { IsTrue result ↔ IsThere self }
-    {
-        match self {
-            KitPass::Sccp => true,
-            KitPass::Dce => false,
-            KitPass::SimplifyCfg => false,
-        }
-    }
-}
-
-impl Request {
-    /// Whether the program serves it: all its passes are there.
-    pub fn is_served(&self) -> bool
-        ensures { IsTrue result ↔ IsServed self.now }
-    {
-        match self {
-            Request::Check => true,
-            Request::Optimise(passes) => are_there(passes.as_slice()),
-            Request::Run(_) => true,
-        }
-    }
-}
-
-/// Whether all of these passes are there.
-pub fn are_there(passes: &[KitPass]) -> bool
-    ensures { IsTrue result ↔ AreThere passes.now }
+/// The pass of this name.
+pub fn pass_named(name: &str) -> Option<KitPass>
+    ensures { MatchOption result ((p : KitPass) → name.now ≢ pass_name p) (λ p. name.now ≡ pass_name p) }
 {
-    passes.iter().all(|pass| pass.is_there())
+    match name {
+        "sccp" => Some(KitPass::Sccp),
+        "dce" => Some(KitPass::Dce),
+        "simplify-cfg" => Some(KitPass::SimplifyCfg),
+        _ => None,
+    }
 }
 
 /// The passes of these names, or nothing where one is unknown.
@@ -128,7 +84,7 @@ fn passes_of(alloc: Global, names: &[&str]) -> Result<Option<Vec<KitPass>>, Allo
 {
     let mut passes = Vec::new(alloc);
     for name in names {
-        match KitPass::from_name(name) {
+        match pass_named(name) {
             Some(pass) => passes.push(pass)?,
             None => return Ok(None),
         }

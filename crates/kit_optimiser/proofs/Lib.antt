@@ -1,4 +1,4 @@
-mod OwnNames
+pub mod OwnNames
 mod PassLists
 mod Refusals
 mod WhatPassesLeave

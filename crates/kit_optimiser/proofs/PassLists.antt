@@ -1,7 +1,7 @@
 -- A pass behind a list of passes.
-use Rattle.std.proofs.Common.{◌≡◌, ℕ, ◌+◌, List, [], ◌∷◌, ◌++◌, map, take, Option, Some, slice_get, refl, sym, ap}
+use Rattle.std.proofs.Common.{◌≡◌, ℕ, ◌+◌, ◌<◌, List, [], ◌∷◌, ◌++◌, map, take, drop, length, get_or, Option, Some, slice_get, refl, sym, ap}
 use Rattle.std.proofs.Common.{◌∙◌, subst}
-use Rattle.std.proofs.lemmas.List.{map-append}
+use Rattle.std.proofs.lemmas.List.{map-append, take-append-drop, drop_more}
 use Rattle.ir_base.specs.declared.types.TypeHandle.{TypeHandle}
 use Rattle.ir_program.specs.declared.handles.Operation.{Operation}
 use Rattle.ir_program.specs.declared.handles.Ptr.{Ptr}
@@ -66,3 +66,11 @@ pub mapped_more : (ps : List KitPass) (i : ℕ) (p : KitPass) → slice_get ps i
     → map pass_of (take (i + 1) ps) ≡ map pass_of (take i ps) ++ pass_of p ∷ []
 mapped_more ps i p there =
     ap (λ l. map pass_of l) (sym (take-next ps i p there)) ∙ map-append pass_of (take i ps) (p ∷ [])
+
+-- the passes up to an index, the one there, and the rest
+pub mapped_parts : (ps : List KitPass) (i : ℕ) (d : KitPass) → i < length ps
+    → map pass_of (take i ps) ++ pass_of (get_or ps i d) ∷ map pass_of (drop (i + 1) ps) ≡ map pass_of ps
+mapped_parts ps i d below =
+    sym (map-append pass_of (take i ps) (get_or ps i d ∷ drop (i + 1) ps))
+    ∙ ap (λ l. map pass_of (take i ps ++ l)) (sym (drop_more ps i d below))
+    ∙ ap (λ l. map pass_of l) (take-append-drop i ps)

@@ -1,10 +1,12 @@
 -- What optimisations make of a module of a context.
 use Rattle.std.specs.Prelude.{◌≡◌, ℕ, List, [], ◌∷◌, ◌++◌}
+use Rattle.ir_program.specs.Program.{Program}
 use Rattle.ir_program.specs.declared.handles.Operation.{Operation}
 use Rattle.ir_program.specs.declared.handles.Ptr.{Ptr}
 use Rattle.ir_trees.specs.Stands.{by_handle, StandsFor}
 use Rattle.ir_types.specs.Interned.{key_at}
-use Rattle.kit_behaviour.specs.PassLists.{Pass, SccpPass, DcePass, SimplifyPass}
+use Rattle.kit.specs.Meaning.{KitOperation, KitBlock, kit}
+use Rattle.kit_behaviour.specs.PassLists.{Pass, SccpPass, LeanSccpPass, DcePass, SimplifyPass}
 use Rattle.kit_held_modules.specs.Held.{HoldsModule}
 use Rattle.kit_module_programs.specs.TreePasses.{IsTreePass, IsTreeAfter, IsSoundTree}
 use Rattle.kit_optimiser.specs.declared.pass.KitPass.{KitPass}
@@ -12,6 +14,9 @@ use Rattle.kit_optimiser.specs.declared.pass.KitPass.TheVariants as passes
 use Rattle.kit_ruled_views.specs.Functions.{KitContext}
 use Rattle.kit_ruled_views.specs.Ruled.{KitTree}
 use Rattle.kit_writable_trees.specs.Writable.{IsWritableRoot}
+use Rattle.opt_decide.specs.Phase.{CarriesOutPart}
+use Rattle.opt_inside.specs.Full.{IsFull}
+use Rattle.opt_sccp.specs.Sccp.{IsPartlyPropagated}
 
 -- the pass on programs that it is
 abbrev pub pass_of : KitPass → Pass
@@ -47,3 +52,26 @@ GoesOn x old new root = (start : KitContext) (xs : List Pass) → IsOptimised xs
 abbrev pub IsSoundRoot : KitContext → Ptr Operation → Type 0
 IsSoundRoot s root = (t : KitTree) → StandsFor s.program root t → (numbered : List ℕ → ℕ) →
     IsSoundTree {N = by_handle} (key_at s.types) numbered t
+
+-- a part of the pass makes the second program of the first: some of the constants are put in, each whole, or some of
+-- the branches are decided, each whole. Removal of dead values needs no handle and no number, and stops nowhere between
+abbrev pub IsPartOf : Pass → Program KitOperation KitBlock → Program KitOperation KitBlock → Ptr Operation → Type 0
+IsPartOf SccpPass old mid root = IsPartlyPropagated kit old mid root
+IsPartOf LeanSccpPass old mid root = ⊥
+IsPartOf DcePass old mid root = ⊥
+IsPartOf SimplifyPass old mid root = CarriesOutPart kit old mid root
+
+-- with a part of the pass done, no handle of an operation or of a region is left, or no number of a value
+abbrev pub StopsFull : Pass → KitContext → Ptr Operation → Type 0
+StopsFull x old root = (mid : Program KitOperation KitBlock) × IsPartOf x old.program mid root × IsFull mid
+
+-- The passes of a list leave no handle or no number for one of them: those before it are done, and with a part of it
+-- the program is full.
+pub record FillsUp (xs : List Pass) (old : KitContext) (root : Ptr Operation) : Type 0 where
+  pub done : List Pass
+  pub next : Pass
+  pub rest : List Pass
+  pub parts : done ++ next ∷ rest ≡ xs
+  pub reached : KitContext
+  pub optimised : IsOptimised done old reached root
+  pub full : StopsFull next reached root

@@ -1,7 +1,8 @@
 //! Lists of optimisations of a module.
-ghost use Rattle.std.specs.Prelude.{OnOk, map};
+ghost use Rattle.std.specs.Prelude.{◌≡◌, Err, OnOk, map};
+ghost use Rattle.ir_base.specs.declared.growth.GrowError.TheVariants.{CounterFull};
 ghost use Rattle.kit_held_modules.specs.Held.{HoldsModule};
-ghost use Rattle.kit_optimiser.specs.Passed.{GoesOn, IsOptimised, IsPassed, pass_of};
+ghost use Rattle.kit_optimiser.specs.Passed.{FillsUp, GoesOn, IsOptimised, IsPassed, StopsFull, pass_of};
 
 use crate::{KitPass, know_sound, propagate_constants, remove_dead, simplify_control_flow};
 use ir_base::GrowError;
@@ -21,7 +22,8 @@ fn run_pass(
     pass: KitPass,
 ) -> Result<(), GrowError>
     requires { HoldsModule ctx.old root }
-    ensures { OnOk result (IsPassed (pass_of pass) ctx.old ctx.new root) }
+    ensures passed { OnOk result (IsPassed (pass_of pass) ctx.old ctx.new root) }
+    ensures full { result ≡ Err CounterFull → StopsFull (pass_of pass) ctx.old root }
 {
     match pass {
         KitPass::Sccp => propagate_constants(alloc, ctx, root),
@@ -41,7 +43,8 @@ fn run_next_pass(
     pass: KitPass,
 ) -> Result<(), GrowError>
     requires { HoldsModule ctx.old root }
-    ensures { OnOk result (GoesOn (pass_of pass) ctx.old ctx.new root) }
+    ensures goes_on { OnOk result (GoesOn (pass_of pass) ctx.old ctx.new root) }
+    ensures full { result ≡ Err CounterFull → StopsFull (pass_of pass) ctx.old root }
 {
     know_sound(ctx, root);
     run_pass(alloc, ctx, root, pass)
@@ -61,7 +64,8 @@ pub fn run_passes(
     passes: &[KitPass],
 ) -> Result<(), GrowError>
     requires { HoldsModule ctx.old root }
-    ensures { OnOk result (IsOptimised (map pass_of passes.now) ctx.old ctx.new root) }
+    ensures optimised { OnOk result (IsOptimised (map pass_of passes.now) ctx.old ctx.new root) }
+    ensures full { result ≡ Err CounterFull → FillsUp (map pass_of passes.now) ctx.old root }
 {
     for pass in passes {
         run_next_pass(alloc, ctx, root, *pass)?;

@@ -1,8 +1,9 @@
 //! One optimisation of a module.
-ghost use Rattle.std.specs.Prelude.{◌≡◌, OnOk};
+ghost use Rattle.std.specs.Prelude.{◌≡◌, Err, IfErr, OnOk};
+ghost use Rattle.ir_base.specs.declared.growth.GrowError.TheVariants.{CounterFull, Memory};
 ghost use Rattle.kit_behaviour.specs.PassLists.{DcePass, SccpPass, SimplifyPass};
 ghost use Rattle.kit_held_modules.specs.Held.{HoldsModule};
-ghost use Rattle.kit_optimiser.specs.Passed.{IsPassed};
+ghost use Rattle.kit_optimiser.specs.Passed.{IsPassed, StopsFull};
 ghost use Rattle.opt_dialect.specs.Statuses.{error_of};
 ghost use Rattle.opt_sccp.specs.Made.{IsShortage};
 
@@ -49,7 +50,8 @@ pub fn propagate_constants(
     root: Ptr<Operation>,
 ) -> Result<(), GrowError>
     requires { HoldsModule ctx.old root }
-    ensures { OnOk result (IsPassed SccpPass ctx.old ctx.new root) }
+    ensures passed { OnOk result (IsPassed SccpPass ctx.old ctx.new root) }
+    ensures full { result ≡ Err CounterFull → StopsFull SccpPass ctx.old root }
 {
     know_premises(ctx, root);
     know_determined(ctx, root);
@@ -79,7 +81,8 @@ pub fn remove_dead(
     root: Ptr<Operation>,
 ) -> Result<(), GrowError>
     requires { HoldsModule ctx.old root }
-    ensures { OnOk result (IsPassed DcePass ctx.old ctx.new root) }
+    ensures passed { OnOk result (IsPassed DcePass ctx.old ctx.new root) }
+    ensures memory { IfErr result (λ error. error ≡ Memory) }
 {
     know_premises(ctx, root);
     know_handles_and_types(ctx, root);
@@ -110,7 +113,8 @@ pub fn simplify_control_flow(
     root: Ptr<Operation>,
 ) -> Result<(), GrowError>
     requires { HoldsModule ctx.old root }
-    ensures { OnOk result (IsPassed SimplifyPass ctx.old ctx.new root) }
+    ensures passed { OnOk result (IsPassed SimplifyPass ctx.old ctx.new root) }
+    ensures full { result ≡ Err CounterFull → StopsFull SimplifyPass ctx.old root }
 {
     know_premises(ctx, root);
     know_handles_and_types(ctx, root);

@@ -18,7 +18,7 @@ use Rattle.ir_trees.specs.Trees.{Sort, Operations, Blocks, Tree}
 use Rattle.ir_types.specs.Interned.{key_at}
 use Rattle.opt_trees.specs.Occurrences.{types_of}
 use Rattle.text_dialect.specs.Seen.{SeenOperation, SeenBlock, seen, seen_operation, seen_block}
-use Rattle.text_dialect.specs.Standing.{HasDefinition, HasHead, HasOwnLabel, HaveBlockTrees, HaveTrees}
+use Rattle.text_dialect.specs.Standing.{HasDefinition, HasHead, HaveBlockTrees, HaveTrees}
 use Rattle.text_rereading.specs.Rereading.{Named}
 use Rattle.kit.specs.Meaning.{KitOperation, KitBlock}
 use Rattle.kit_ops.specs.declared.attributes.KitAttr.{KitAttr}
@@ -39,6 +39,7 @@ use Rattle.kit_text_programs.proofs.SaidPrograms.{width_said, bits_said, first_i
 use Rattle.kit_text_programs.proofs.SaidPrograms.{widths_in, ops_said, fun_said}
 use Rattle.kit_text_programs.proofs.ValueNumbers.{number_of_value, HasNumber, number_is}
 use Rattle.kit_text_programs.proofs.SaidHeads.{kind_back, said_parts, width_shown, bits_shown}
+use Rattle.kit_text_programs.proofs.Unlabelled.{HasSomeLabel}
 
 -- parts of trees of operations of `kit`
 abbrev pub KitPart : Sort → Type 0
@@ -204,8 +205,8 @@ module _ (s : KitContext) (values : List Value) (own : HaveOwnNumbers values) (n
     AreFlatOps x os = AreOps (kit_reading (key_at s.types) numbered) names x os
 
     ops_same : (ps : List (Ptr Operation)) (x : KitPart Operations) (ts : Entities ℕ) (os : List (Op Value))
-        → AreTree s.program Operations ps x → HaveTrees says (Named values) HasOwnLabel (seen s) ps ts → AreFlatOps x os
-        → (map numbered_op os ≡ ops_said ts) × OpsNamed IsNumbered AnyBlock os
+        → AreTree s.program Operations ps x → HaveTrees says (Named values) HasSomeLabel (seen s) ps ts
+        → AreFlatOps x os → (map numbered_op os ≡ ops_said ts) × OpsNamed IsNumbered AnyBlock os
     ops_same [] x no_entity [] no_operations h are = (refl, tt)
     ops_same [] x no_entity (op ∷ os) no_operations h are = absurd are
     ops_same [] x (an_entity t ts) os no_operations h are = absurd h
@@ -247,7 +248,7 @@ module _ (s : KitContext) (values : List Value) (own : HaveOwnNumbers values) (n
     all_named f h = record { ops = ops_named f h; arguments = arguments_named f h }
 
     pub blocks_same : (bs : List (Ptr BasicBlock)) (x : KitPart Blocks) (ts : Entities ℕ) (f : Fun Value)
-        → AreTree s.program Blocks bs x → HaveBlockTrees says (Named values) HasOwnLabel (seen s) bs ts
+        → AreTree s.program Blocks bs x → HaveBlockTrees says (Named values) HasSomeLabel (seen s) bs ts
         → AreBlocks (kit_reading (key_at s.types) numbered) names x f
         → (map (rename_block by_number) f ≡ fun_said ts) × BlocksNamed f
     blocks_same [] x no_entity [] no_blocks h are = (refl, tt)
@@ -262,7 +263,7 @@ module _ (s : KitContext) (values : List Value) (own : HaveOwnNumbers values) (n
         let defines =
         subst (λ (o : SeenBlock). Pairs (HasDefinition says (Named values) s.types.keys) o.arguments arguments)
         (sym is) here.3 in
-        let trees = subst (λ (o : SeenBlock). HaveTrees says (Named values) HasOwnLabel (seen s) o.operations us)
+        let trees = subst (λ (o : SeenBlock). HaveTrees says (Named values) HasSomeLabel (seen s) o.operations us)
         (sym is) here.4 in
         let takes = defines_said v.arguments arguments defines in
         let numbers : map by_number k.arguments ≡ numbers_in arguments = ap (map by_number) (sym are.0)

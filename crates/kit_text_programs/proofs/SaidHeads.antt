@@ -30,6 +30,7 @@ use Rattle.kit_texts.specs.Forms.{OpForm, NamedRegion, TypedRegion, Value, form_
 use Rattle.kit_texts.specs.Numbers.{number_modulo, is_below_zero, printed_number}
 use Rattle.kit_texts.specs.Says.{says, one, two, only, types_said, integer_said, said_of_type, said_of_attribute}
 use Rattle.kit_texts.specs.Says.{said_of_module, said_of_function, said_of_constant, said_in, numbered, has_values}
+use Rattle.kit_texts.specs.Readable.{constant_says}
 use Rattle.kit_texts.specs.Seen.{seen, none_seen, first_seen, one_seen, two_seen}
 use Rattle.kit_views.specs.Reading.{number_in, integer_of}
 use Rattle.kit_module_programs.specs.Paths.{is_name}
@@ -246,12 +247,12 @@ module _ (keys : List KitType) where
       ∙ attribute_bits shown.0 k.2.0 shown.1 k.2.1 shown.3 shown.4
       ∙ ap (λ (a : KitAttr). number_in (Some a)) (sym same)
 
-  constant_shown : (o : Option KitAttr) (said : SaidTrees) (ps : Pieces) → said_of_constant o ≡ Some said
-      → ShowsAll says keys said ps → number_in o ≡ bits_said ps
-  constant_shown None said ps e h = absurd (none-some said e)
-  constant_shown (Some attr) said ps e h =
-      let same = same_Some (one (leaf (said_attribute attr))) said e in
-      sym (attribute_shown attr ps (subst (λ (z : SaidTrees). ShowsAll says keys z ps) (sym same) h))
+  constant_shown : (o : Option KitAttr) (tys : List TypeHandle) (said : SaidTrees) (ps : Pieces)
+      → said_of_constant o tys ≡ Some said → ShowsAll says keys said ps → number_in o ≡ bits_said ps
+  constant_shown o tys said ps e h =
+      let is = constant_says o tys said e in
+      ap number_in is.has ∙ sym (attribute_shown (attrs.Integer is.value) ps
+      (subst (λ (z : SaidTrees). ShowsAll says keys z ps) (sym is.says_it) h))
 
   -- a constant has the bits that it says
   pub bits_shown : (k : KitOp) (entries : List (List ℕ × KitAttr)) (n : ℕ) (tys : List TypeHandle) (kind : ℕ)
@@ -259,9 +260,9 @@ module _ (keys : List KitType) where
       → ShowsAll says keys said ps → k ≡ ops.Constant → number_in (attribute_at entries constant_value) ≡ bits_said ps
   bits_shown k entries n tys kind said ps e h is =
       let so = said_as k Value entries n tys kind said e (ap form_of is) in
-      let kept = only_some (length entries == 1 && n == 0) (said_of_constant (attribute_at entries constant_value))
+      let kept = only_some (length entries == 1 && n == 0) (said_of_constant (attribute_at entries constant_value) tys)
       said so in
-      constant_shown (attribute_at entries constant_value) said ps kept.1 h
+      constant_shown (attribute_at entries constant_value) tys said ps kept.1 h
 
   -- ---- names
 

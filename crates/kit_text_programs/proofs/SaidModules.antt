@@ -15,8 +15,7 @@ use Rattle.ir_trees.specs.Stands.{first_block, first_region, StandsFor}
 use Rattle.ir_trees.specs.Trees.{Operations, Blocks, Regions, end, region}
 use Rattle.ir_types.specs.Interned.{key_at}
 use Rattle.text_dialect.specs.Seen.{SeenOperation, SeenBlock, seen, seen_operation}
-use Rattle.text_dialect.specs.Standing.{HasHead, HasOwnLabel, HaveRegionTrees, HaveBlockTrees, HaveTrees}
-use Rattle.text_dialect.specs.Standing.{StandsForTexts}
+use Rattle.text_dialect.specs.Standing.{HasHead, HasTree, HaveRegionTrees, HaveBlockTrees, HaveTrees}
 use Rattle.text_rereading.specs.Rereading.{Named}
 use Rattle.kit.specs.Meaning.{KitOperation, is_function, is_module}
 use Rattle.kit_ops.specs.declared.attributes.KitAttr.{KitAttr}
@@ -38,19 +37,20 @@ use Rattle.kit_text_programs.proofs.ValueNumbers.{number_of_value, HasNumber, nu
 use Rattle.kit_text_programs.proofs.SaidHeads.{function_called, module_called}
 use Rattle.kit_text_programs.proofs.SaidFunctions.{KitPart, same_operation, same_label, same_region, all_named}
 use Rattle.kit_text_programs.proofs.SaidFunctions.{blocks_same}
+use Rattle.kit_text_programs.proofs.Unlabelled.{HasSomeLabel}
 
 module _ (s : KitContext) (values : List Value) (own : HaveOwnNumbers values) (numbered : List ℕ → ℕ) where
   -- the regions are those that the text says
   record AreSaidRegions (x : KitPart Regions) (us : Entities ℕ) : Type 0 where
     handles : List (Ptr Region)
     tree : AreTree s.program Regions handles x
-    trees : HaveRegionTrees says (Named values) HasOwnLabel (seen s) handles us
+    trees : HaveRegionTrees says (Named values) HasSomeLabel (seen s) handles us
 
   -- and so are the operations
   record AreSaidOperations (x : KitPart Operations) (us : Entities ℕ) : Type 0 where
     members : List (Ptr Operation)
     tree : AreTree s.program Operations members x
-    trees : HaveTrees says (Named values) HasOwnLabel (seen s) members us
+    trees : HaveTrees says (Named values) HasSomeLabel (seen s) members us
 
   -- a tree is found where the text has one, with the regions that the text says
   abbrev AreFoundAlike : Option KitTree → Option (Entities ℕ) → Type 0
@@ -65,7 +65,7 @@ module _ (s : KitContext) (values : List Value) (own : HaveOwnNumbers values) (n
   no_members = record { members = []; tree = no_operations; trees = tt }
 
   blocks_members : (bs : List (Ptr BasicBlock)) (x : KitPart Blocks) (ts : Entities ℕ) → AreTree s.program Blocks bs x
-      → HaveBlockTrees says (Named values) HasOwnLabel (seen s) bs ts
+      → HaveBlockTrees says (Named values) HasSomeLabel (seen s) bs ts
       → AreSaidOperations (members_in (region x end)) (first_inside ts)
   blocks_members [] x no_entity no_blocks h = no_members
   blocks_members [] x (an_entity t ts) no_blocks h = absurd h
@@ -77,7 +77,7 @@ module _ (s : KitContext) (values : List Value) (own : HaveOwnNumbers values) (n
       record {
         members = v.operations;
         tree = inner;
-        trees = subst (λ (o : SeenBlock). HaveTrees says (Named values) HasOwnLabel (seen s) o.operations us) (sym is)
+        trees = subst (λ (o : SeenBlock). HaveTrees says (Named values) HasSomeLabel (seen s) o.operations us) (sym is)
             here.4;
       }
   blocks_members (b ∷ bs) x (an_entity (entity (operation kind results used pieces) us) ts)
@@ -86,7 +86,7 @@ module _ (s : KitContext) (values : List Value) (own : HaveOwnNumbers values) (n
       (first_block _ _ v os rest there inner after) h = absurd h.0
 
   regions_members : (rs : List (Ptr Region)) (x : KitPart Regions) (us : Entities ℕ) → AreTree s.program Regions rs x
-      → HaveRegionTrees says (Named values) HasOwnLabel (seen s) rs us
+      → HaveRegionTrees says (Named values) HasSomeLabel (seen s) rs us
       → AreSaidOperations (members_in x) (members_said us)
   regions_members [] x no_entity no_regions h = no_members
   regions_members [] x (an_entity t ts) no_regions h = absurd h
@@ -95,7 +95,7 @@ module _ (s : KitContext) (values : List Value) (own : HaveOwnNumbers values) (n
       let here = h.0 in
       let is = same_region s values own numbered r v here.0 there here.1 in
       blocks_members v.blocks bs us inner
-      (subst (λ ks. HaveBlockTrees says (Named values) HasOwnLabel (seen s) ks us) (sym is) here.2)
+      (subst (λ ks. HaveBlockTrees says (Named values) HasSomeLabel (seen s) ks us) (sym is) here.2)
   regions_members (r ∷ rs) x (an_entity (entity (operation kind results used pieces) us) ts)
       (first_region _ _ v bs rest there inner after) h = absurd h.0
   regions_members (r ∷ rs) x (an_entity (entity (block label arguments) us) ts)
@@ -123,7 +123,7 @@ module _ (s : KitContext) (values : List Value) (own : HaveOwnNumbers values) (n
 
   module _ (test : KitOperation → Bool) (said : ℕ → Pieces → Bool) (alike : AreTestsAlike test said) where
     first_alike : (ps : List (Ptr Operation)) (x : KitPart Operations) (ts : Entities ℕ)
-        → AreTree s.program Operations ps x → HaveTrees says (Named values) HasOwnLabel (seen s) ps ts
+        → AreTree s.program Operations ps x → HaveTrees says (Named values) HasSomeLabel (seen s) ps ts
         → AreFoundAlike (first_with test x) (first_said said ts)
     first_alike [] x no_entity no_operations h = tt
     first_alike [] x (an_entity t ts) no_operations h = absurd h
@@ -134,7 +134,7 @@ module _ (s : KitContext) (values : List Value) (own : HaveOwnNumbers values) (n
         let is : seen_operation v ≡ here.0 = same_operation s values own numbered p v here.0 there here.1 in
         let head = subst (λ o. HasHead says (Named values) s.types.keys o kind results used pieces) (sym is) here.2 in
         let trees =
-        subst (λ (o : SeenOperation KitOp KitAttr). HaveRegionTrees says (Named values) HasOwnLabel (seen s)
+        subst (λ (o : SeenOperation KitOp KitAttr). HaveRegionTrees says (Named values) HasSomeLabel (seen s)
         o.regions us) (sym is) here.3 in
         chosen_alike (test v.payload) (said kind pieces) (record { head = head_of p v; regions = rs }) us
         (first_with test rest) (first_said said ts) (alike v kind results used pieces head)
@@ -193,14 +193,14 @@ module _ (s : KitContext) (values : List Value) (own : HaveOwnNumbers values) (n
   module _ (blocks : KitPart Blocks) (f : Fun Value)
       (are : AreBlocks (kit_reading (key_at s.types) numbered) (names_in blocks) blocks f) where
     function_placed : (rs : List (Ptr Region)) (x : KitPart Regions) (us : Entities ℕ) → AreTree s.program Regions rs x
-        → HaveRegionTrees says (Named values) HasOwnLabel (seen s) rs us → x ≡ region blocks end
+        → HaveRegionTrees says (Named values) HasSomeLabel (seen s) rs us → x ≡ region blocks end
         → place_fun same_value (Some f) ≡ place_fun nat_eq (Some (fun_said (first_inside us)))
     function_placed [] x us no_regions h e = absurd (no_region blocks e)
     function_placed (r ∷ rs) x no_entity (first_region _ _ v bs rest there inner after) h e = absurd h
     function_placed (r ∷ rs) x (an_entity (entity a_region us) ts) (first_region _ _ v bs rest there inner after) h e =
         let here = h.0 in
         let is = same_region s values own numbered r v here.0 there here.1 in
-        let trees = subst (λ ks. HaveBlockTrees says (Named values) HasOwnLabel (seen s) ks us) (sym is) here.2 in
+        let trees = subst (λ ks. HaveBlockTrees says (Named values) HasSomeLabel (seen s) ks us) (sym is) here.2 in
         let tree = subst (AreTree s.program Blocks v.blocks) (blocks_one blocks bs rest e) inner in
         let same = blocks_same s values own numbered (names_in blocks) v.blocks blocks us f tree trees are in
         sym (placed_on same_value nat_eq (number_of_value values own) (HasNumber values own)
@@ -224,7 +224,7 @@ module _ (s : KitContext) (values : List Value) (own : HaveOwnNumbers values) (n
   -- ---- modules
 
   regions_so : (text : Entity ℕ) (root : Ptr Operation) (t : KitTree)
-      → StandsForTexts says (Named values) (seen s) root text → StandsFor s.program root t
+      → HasTree says (Named values) HasSomeLabel (seen s) root text → StandsFor s.program root t
       → AreSaidRegions t.regions (regions_below text)
   regions_so (entity (operation kind results used pieces) us) root t h stands =
       let is : seen_operation stands.view ≡ h.0 = same_operation s values own numbered root stands.view h.0
@@ -233,7 +233,7 @@ module _ (s : KitContext) (values : List Value) (own : HaveOwnNumbers values) (n
         handles = stands.view.regions;
         tree = stands.regions;
         trees = subst
-            (λ (o : SeenOperation KitOp KitAttr). HaveRegionTrees says (Named values) HasOwnLabel (seen s) o.regions
+            (λ (o : SeenOperation KitOp KitAttr). HaveRegionTrees says (Named values) HasSomeLabel (seen s) o.regions
             us) (sym is) h.3;
       }
   regions_so (entity a_region us) root t h stands = absurd h
@@ -241,7 +241,7 @@ module _ (s : KitContext) (values : List Value) (own : HaveOwnNumbers values) (n
 
   -- the program is the one that the text says
   pub said_so : (root : Ptr Operation) (text : Entity ℕ) (t : KitTree) (p : Program Place)
-      → StandsForTexts says (Named values) (seen s) root text → StandsFor s.program root t
+      → HasTree says (Named values) HasSomeLabel (seen s) root text → StandsFor s.program root t
       → IsProgramOf {N = by_handle} same_value (key_at s.types) numbered t p
       → p ≡ program_said numbered (regions_below text)
   said_so root text t p h stands is = λ i path.

@@ -1,6 +1,6 @@
 -- The statement of the law.
 use Rattle.std.specs.Prelude.{◌≡◌, ℕ, List, Some, slice_get}
-use Rattle.ir_forest.specs.Closed.{IsClosed}
+use Rattle.ir_forest.specs.Closed.{IsSameModule}
 use Rattle.ir_print.specs.Pieces.{Entity}
 use Rattle.ir_program.specs.declared.handles.Operation.{Operation}
 use Rattle.ir_program.specs.declared.handles.Ptr.{Ptr}
@@ -13,7 +13,6 @@ use Rattle.text_dialect.specs.Standing.{StandsForTexts}
 use Rattle.text_rereading.specs.Rereading.{Named}
 use Rattle.kit_behaviour.specs.Machine.{Program}
 use Rattle.kit_behaviour.specs.Places.{Place}
-use Rattle.kit_language.specs.Language.{kit_language}
 use Rattle.kit_texts.specs.Says.{says}
 use Rattle.kit_module_programs.specs.Programs.{IsProgramOf}
 use Rattle.kit_writable_trees.specs.Laws.{KitContext, KitTree}
@@ -23,12 +22,13 @@ abbrev pub HaveOwnNumbers : List Value → Type 0
 HaveOwnNumbers values = (i j : ℕ) (v w : Value) → slice_get values i ≡ Some v → slice_get values j ≡ Some w →
     v.number ≡ w.number → i ≡ j
 
--- in each context where an operation stands for the tree of texts, its module has the same program
+-- modules that stand in two contexts for trees of texts that are the same but for their labels have the same program
 abbrev pub TextsHaveOneProgram : Type 0
-TextsHaveOneProgram = (text : Entity ℕ) (numbered : List ℕ → ℕ) (s z : KitContext) (root other : Ptr Operation)
-    (values others : List Value) (t u : KitTree) (p q : Program Place) → IsClosed kit_language text →
-    HaveOwnNumbers values → HaveOwnNumbers others →
-    StandsForTexts says (Named values) (seen s) root text → StandsForTexts says (Named others) (seen z) other text →
+TextsHaveOneProgram = (text other_text : Entity ℕ) (numbered : List ℕ → ℕ) (s z : KitContext)
+    (root other : Ptr Operation) (values others : List Value) (t u : KitTree) (p q : Program Place) →
+    IsSameModule text other_text → HaveOwnNumbers values → HaveOwnNumbers others →
+    StandsForTexts says (Named values) (seen s) root text →
+    StandsForTexts says (Named others) (seen z) other other_text →
     StandsFor s.program root t → StandsFor z.program other u →
     IsProgramOf {N = by_handle} same_value (key_at s.types) numbered t p →
     IsProgramOf {N = by_handle} same_value (key_at z.types) numbered u q → p ≡ q

@@ -40,8 +40,8 @@ module _ {O B P C : Type 0} (w : World O B) (x : World P C) (OfTypes : TypeHandl
   pub listed_blocks : (bs : Listed O B Blocks) (cs : Listed P C Blocks)
       → AreAlike w x OfTypes OfValues Blocks bs cs → Pairs Bodies (block_list bs) (block_list cs)
   listed_blocks bs cs no_blocks = tt
-  listed_blocks bs cs (blocks l m os ps rest others arguments inside after) =
-      (record { arguments = arguments; listed = inside }, listed_blocks rest others after)
+  listed_blocks bs cs (blocks l m os ps rest others arguments known inside after) =
+      (record { arguments = arguments; known = known; listed = inside }, listed_blocks rest others after)
 
   pub listed_regions : (rs : Listed O B Regions) (qs : Listed P C Regions)
       → AreAlike w x OfTypes OfValues Regions rs qs

@@ -22,7 +22,7 @@ use Rattle.kit_checks.specs.Words as words
 use Rattle.kit_checks.specs.World.{World}
 use Rattle.kit_text_rules.specs.Alike.{AreBoth, AreTyped, AreVisibleFirst, BelongTogether, AreSignatures, AreIntegers}
 use Rattle.kit_text_rules.specs.Alike.{AreAlike, AreTrees, AreBodies, AreAround}
-use Rattle.kit_text_rules.specs.Alike.{AreSites, HasKnownAttributes}
+use Rattle.kit_text_rules.specs.Alike.{AreSites}
 use Rattle.kit_text_rules.proofs.AlikeLists.{same_length, beside, before, none_left, every_back, list_back, both_back}
 use Rattle.kit_text_rules.proofs.AlikeLists.{member_back}
 use Rattle.kit_text_rules.proofs.AlikeLists.{alike_back, some_first, some_second, none_second, pairs_joined}
@@ -358,32 +358,32 @@ module _ {O B P C : Type 0} (w : World O B) (x : World P C) (OfTypes : TypeHandl
 
     -- ---- 12
 
-    constants_fit : HasKnownAttributes w s → HasKnownAttributes x z → rules.ConstantsFit x z → rules.ConstantsFit w s
-    constants_fit known others keeps is =
+    constants_fit : rules.ConstantsFit x z → rules.ConstantsFit w s
+    constants_fit keeps is =
         let has = keeps (sym same_kind ∙ is) in
         let v = some_first (AreIntegers w x OfTypes OfValues) (words.constant_value w s.op)
         (words.constant_value x z.op) has.value (h.trees.heads.constants is) has.has_value in
-        let typed = known.constants v.0 v.1 in
-        let same = agree.written v.0.ty has.value.ty v.0.integer typed
-        (has.is_type ∙ ap Some (sym v.2.integer)) in
         record {
           value = v.0;
           has_value = v.1;
-          is_type = typed;
+          is_type = agree.integers v.0.ty has.value.ty v.2.types ∙ has.is_type ∙ ap Some (sym v.2.integer);
           in_range = subst (λ (i : IntegerType). v.0.bits < 2 ^ i.width) (sym v.2.integer)
               (subst (λ n. n < 2 ^ has.value.integer.width) (sym v.2.bits) has.in_range);
           results = every_back OfTypes (λ t. t ≡ v.0.ty) (λ t. t ≡ has.value.ty)
-              (λ a c k e. agree.types_back a v.0.ty c has.value.ty k same e) (words.types_of s.op.head.results)
+              (λ a c k e. agree.types_back a v.0.ty c has.value.ty k v.2.types e) (words.types_of s.op.head.results)
               (words.types_of z.op.head.results) result_types has.results;
         }
 
     -- ---- 13
 
-    attributes_are_known : HasKnownAttributes w s → rules.AttributesAreKnown w s
-    attributes_are_known known = record {
+    attributes_are_known : rules.AttributesAreKnown w s
+    attributes_are_known = record {
       no_forward_ref = unread ops.ForwardRef refl;
       own = h.trees.heads.own;
-      blocks = known.blocks;
+      blocks = every_back (AreBodies w x OfTypes OfValues)
+          (λ (b : Body O B). words.Every rules.IsCommon (w.block_attributes b.label.content))
+          (λ (d : Body P C). Unit {0}) (λ b d alike u. alike.known) (words.bodies_of s.op) (words.bodies_of z.op)
+          (bodies_alike w x OfTypes OfValues s.op z.op h.trees) (λ k d at. tt);
     }
 
     -- ---- 14
@@ -426,19 +426,19 @@ module _ {O B P C : Type 0} (w : World O B) (x : World P C) (OfTypes : TypeHandl
     fits_format : rules.FitsFormat x z → rules.FitsFormat w s
     fits_format keeps = fits_as (words.kind_of w s.op) refl (subst (rules.FitsKind x z.op) (sym same_kind) keeps)
 
-  pub keeps_back : (r : Rule) (s : Site O B) (z : Site P C) → AreSites w x OfTypes OfValues s z → HasKnownAttributes w s
-      → HasKnownAttributes x z → (AreVisibleFirst r → rules.OperandsAreVisible x z) → Keeps x r z → Keeps w r s
-  keeps_back rule.RootIsModule s z h known others seen keeps = root_is_module s z h keeps
-  keeps_back rule.ModuleHolds s z h known others seen keeps = module_holds s z h keeps
-  keeps_back rule.FunctionHasType s z h known others seen keeps = function_has_type s z h keeps
-  keeps_back rule.FunctionHolds s z h known others seen keeps = function_holds s z h keeps
-  keeps_back rule.ValuesAreIntegers s z h known others seen keeps = values_are_integers s z h keeps
-  keeps_back rule.BlocksEnd s z h known others seen keeps = blocks_end s z h keeps
-  keeps_back rule.OperandsAreVisible s z h known others seen keeps = operands_are_visible s z h keeps
-  keeps_back rule.TypesAgree s z h known others seen keeps = types_agree s z h (seen tt) keeps
-  keeps_back rule.EdgesFit s z h known others seen keeps = edges_fit s z h
-  keeps_back rule.CallsFit s z h known others seen keeps = calls_fit s z h
-  keeps_back rule.ReturnsFit s z h known others seen keeps = returns_fit s z h (seen tt) keeps
-  keeps_back rule.ConstantsFit s z h known others seen keeps = constants_fit s z h known others keeps
-  keeps_back rule.AttributesAreKnown s z h known others seen keeps = attributes_are_known s z h known
-  keeps_back rule.FitsFormat s z h known others seen keeps = fits_format s z h keeps
+  pub keeps_back : (r : Rule) (s : Site O B) (z : Site P C) → AreSites w x OfTypes OfValues s z
+      → (AreVisibleFirst r → rules.OperandsAreVisible x z) → Keeps x r z → Keeps w r s
+  keeps_back rule.RootIsModule s z h seen keeps = root_is_module s z h keeps
+  keeps_back rule.ModuleHolds s z h seen keeps = module_holds s z h keeps
+  keeps_back rule.FunctionHasType s z h seen keeps = function_has_type s z h keeps
+  keeps_back rule.FunctionHolds s z h seen keeps = function_holds s z h keeps
+  keeps_back rule.ValuesAreIntegers s z h seen keeps = values_are_integers s z h keeps
+  keeps_back rule.BlocksEnd s z h seen keeps = blocks_end s z h keeps
+  keeps_back rule.OperandsAreVisible s z h seen keeps = operands_are_visible s z h keeps
+  keeps_back rule.TypesAgree s z h seen keeps = types_agree s z h (seen tt) keeps
+  keeps_back rule.EdgesFit s z h seen keeps = edges_fit s z h
+  keeps_back rule.CallsFit s z h seen keeps = calls_fit s z h
+  keeps_back rule.ReturnsFit s z h seen keeps = returns_fit s z h (seen tt) keeps
+  keeps_back rule.ConstantsFit s z h seen keeps = constants_fit s z h keeps
+  keeps_back rule.AttributesAreKnown s z h seen keeps = attributes_are_known s z h
+  keeps_back rule.FitsFormat s z h seen keeps = fits_format s z h keeps

@@ -32,6 +32,7 @@ use Rattle.kit_texts.specs.Numbers.{printed_number}
 use Rattle.kit_texts.specs.Says.{says, one, two, only, has_values, integer_said, said_of_attribute, said_of_module}
 use Rattle.kit_texts.specs.Says.{said_of_function}
 use Rattle.kit_texts.specs.Says.{said_of_constant, said_of_pair, said_in}
+use Rattle.kit_texts.specs.Readable.{constant_says}
 use Rattle.kit_texts.specs.Seen.{first_seen, one_seen, two_seen, three_seen}
 use Rattle.kit_views.specs.Reading.{number_in}
 use Rattle.kit_text_programs.proofs.SaidHeads.{said_parts, bits_shown}
@@ -144,12 +145,13 @@ integer_read (a_tree (node l (a_tree p (a_tree (node (width s w) vs) ws))) ts) =
     Some (record { signedness = s; width = w })
 integer_read _ = None
 
-pub record IsRead (keys : List KitType) (k : KitOp) (es : Entries) (ps : Pieces) : Type 0 where
+-- what the pieces of an operation of a kind, with these attributes and results of these types, tell of it
+pub record IsRead (keys : List KitType) (k : KitOp) (es : Entries) (tys : List TypeHandle) (ps : Pieces) : Type 0 where
   pub names : option_and_then identifier_in (attribute_at es SYMBOL_NAME.now) ≡ name_read k ps
   pub types : k ≡ ops.Func → (ty : TypeHandle) × (t : ValueTree) × ShowsType says keys ty t × (type_read ps ≡ Some t)
       × (option_and_then type_in (attribute_at es FUNCTION_TYPE.now) ≡ Some ty)
   pub valued : k ≡ ops.Constant → (v : IntegerAttr) × (attribute_at es CONSTANT_VALUE.now ≡ Some (attrs.Integer v))
-      × (v.bits ≡ bits_said ps) × (integer_read ps ≡ Some v.integer)
+      × (v.bits ≡ bits_said ps) × (integer_read ps ≡ Some v.integer) × (tys ≡ v.ty ∷ [])
   pub own : Every (MayHave k) es
 
 module _ (keys : List KitType) (es : Entries) (n : ℕ) (tys : List TypeHandle) (kind : ℕ) (said : SaidTrees)
@@ -170,7 +172,7 @@ module _ (keys : List KitType) (es : Entries) (n : ℕ) (tys : List TypeHandle) 
 
   -- an operation without attributes
   bare : (k : KitOp) → is_function k ≡ false → is_constant k ≡ false → None ≡ name_read k ps → (length es == 0) ≡ true
-      → IsRead keys k es ps
+      → IsRead keys k es tys ps
   bare k f c e none =
       let empty = no_entries es none in
       record {
@@ -181,7 +183,7 @@ module _ (keys : List KitType) (es : Entries) (n : ℕ) (tys : List TypeHandle) 
       }
 
   module_read : (o : Option KitAttr) → attribute_at es symbol_name ≡ o → (length es == 1) ≡ true
-      → said_of_module o ≡ Some said → IsRead keys ops.Module es ps
+      → said_of_module o ≡ Some said → IsRead keys ops.Module es tys ps
   module_read None at l e = absurd (none-some said e)
   module_read (Some (attrs.Identifier id)) at l e =
       let same = same_Some (two (leaf (said_name (text_of id))) (leaf said_region)) said e in
@@ -210,7 +212,7 @@ module _ (keys : List KitType) (es : Entries) (n : ℕ) (tys : List TypeHandle) 
       (k.1, subst (ShowsType says keys ty) (sym k.5.2) k.5.3, ap type_read k.3)
 
   typed_read : (o p : Option KitAttr) → attribute_at es symbol_name ≡ o → attribute_at es function_type ≡ p
-      → (length es == 2) ≡ true → said_of_function o p ≡ Some said → IsRead keys ops.Func es ps
+      → (length es == 2) ≡ true → said_of_function o p ≡ Some said → IsRead keys ops.Func es tys ps
   typed_read (Some (attrs.Identifier id)) (Some (attrs.«Type» ty)) at there l e =
       let same = same_Some (a_tree (leaf (said_name (text_of id))) (two (leaf (said_type ty))
       (leaf said_region))) said e in
@@ -255,49 +257,44 @@ module _ (keys : List KitType) (es : Entries) (n : ℕ) (tys : List TypeHandle) 
       ∙ ap (λ (t : ValueTree). integer_read (a_tree (node (attribute_of_kind m) (a_tree k.0
       (a_tree t no_tree))) no_tree)) k.4.1
 
-  attribute_read : (b : KitAttr) (m : ℕ) (us : SaidTrees) (ts : Pieces) → said_of_attribute b ≡ Some (m, us)
-      → ShowsAll says keys us ts
-      → (v : IntegerAttr) × (b ≡ attrs.Integer v) × (integer_read (a_tree (node
-      (attribute_of_kind m) ts) no_tree) ≡ Some v.integer)
-  attribute_read (attrs.Integer a) m us ts e h =
+  attribute_read : (a : IntegerAttr) (m : ℕ) (us : SaidTrees) (ts : Pieces)
+      → said_of_attribute (attrs.Integer a) ≡ Some (m, us) → ShowsAll says keys us ts
+      → integer_read (a_tree (node (attribute_of_kind m) ts) no_tree) ≡ Some a.integer
+  attribute_read a m us ts e h =
       let said : SaidTrees = integer_said a.integer.signedness a.integer.width (printed_number a) in
       let kept = only_some {X = ℕ × SaidTrees} (has_values a.integer.width && nat_lt a.bits (2 ^ a.integer.width))
       (Some (0, said)) (m, us) e in
       let parts = some_pair_parts 0 m said us kept.1 in
-      (a, refl, width_read a m ts (subst (λ (z : SaidTrees). ShowsAll says keys z ts) (sym parts.1) h))
-  attribute_read (attrs.Identifier a) m us ts e h = absurd (none-some {A = ℕ × SaidTrees} (m, us) e)
-  attribute_read (attrs.«Type» a) m us ts e h = absurd (none-some {A = ℕ × SaidTrees} (m, us) e)
-  attribute_read (attrs.SegmentSizes a) m us ts e h = absurd (none-some {A = ℕ × SaidTrees} (m, us) e)
-  attribute_read (attrs.GivenNames a) m us ts e h = absurd (none-some {A = ℕ × SaidTrees} (m, us) e)
-  attribute_read (attrs.Note a) m us ts e h = absurd (none-some {A = ℕ × SaidTrees} (m, us) e)
-  attribute_read (attrs.Origin a) m us ts e h = absurd (none-some {A = ℕ × SaidTrees} (m, us) e)
+      width_read a m ts (subst (λ (z : SaidTrees). ShowsAll says keys z ts) (sym parts.1) h)
 
-  value_piece : (b : KitAttr) → ShowsAll says keys (one (leaf (said_attribute b))) ps
-      → (v : IntegerAttr) × (b ≡ attrs.Integer v) × (integer_read ps ≡ Some v.integer)
-  value_piece b h =
-      let k = one_seen says keys (leaf (said_attribute b)) ps h in
+  value_piece : (a : IntegerAttr) → ShowsAll says keys (one (leaf (said_attribute (attrs.Integer a)))) ps
+      → integer_read ps ≡ Some a.integer
+  value_piece a h =
+      let k = one_seen says keys (leaf (said_attribute (attrs.Integer a))) ps h in
       let inside = k.2.3 in
-      let same : b ≡ inside.0 = attr_same b inside.0 inside.2 in
-      let r = attribute_read inside.0 k.2.0 inside.1 k.2.1 inside.3 inside.4 in
-      (r.0, same ∙ r.1, ap integer_read (k.1 ∙ ap (λ (t : ValueTree). a_tree t no_tree) k.2.2) ∙ r.2)
+      let same : attrs.Integer a ≡ inside.0 = attr_same (attrs.Integer a) inside.0 inside.2 in
+      let said : said_of_attribute (attrs.Integer a) ≡ Some (k.2.0, inside.1) = ap said_of_attribute same ∙ inside.3 in
+      ap integer_read (k.1 ∙ ap (λ (t : ValueTree). a_tree t no_tree) k.2.2)
+      ∙ attribute_read a k.2.0 inside.1 k.2.1 said inside.4
 
   constant_read : (o : Option KitAttr) → attribute_at es constant_value ≡ o → (length es == 1) ≡ true
-      → said_of_constant o ≡ Some said → number_in o ≡ bits_said ps → IsRead keys ops.Constant es ps
-  constant_read None at l e bits = absurd (none-some said e)
-  constant_read (Some b) at l e bits =
-      let same = same_Some (one (leaf (said_attribute b))) said e in
-      let v = value_piece b (subst (λ (z : SaidTrees). ShowsAll says keys z ps) (sym same) shown) in
-      let entries = one_entry es constant_value b l at in
+      → said_of_constant o tys ≡ Some said → number_in o ≡ bits_said ps → IsRead keys ops.Constant es tys ps
+  constant_read o at l e bits =
+      let is = constant_says o tys said e in
+      let there : attribute_at es constant_value ≡ Some (attrs.Integer is.value) = at ∙ is.has in
+      let shows = subst (λ (z : SaidTrees). ShowsAll says keys z ps) (sym is.says_it) shown in
+      let entries = one_entry es constant_value (attrs.Integer is.value) l there in
       record {
         names = ap (λ (x : Entries). option_and_then identifier_in (attribute_at x SYMBOL_NAME.now)) entries;
-        types = λ is. absurd (false≢true (ap is_function is));
-        valued = λ is. (v.0, at ∙ ap Some v.1, ap (λ (c : KitAttr). number_in (Some c)) (sym v.1) ∙ bits, v.2);
+        types = λ f. absurd (false≢true (ap is_function f));
+        valued = λ k. (is.value, there, ap number_in (sym is.has) ∙ bits, value_piece is.value shows, is.result);
         own = subst (Every (MayHave ops.Constant)) (sym entries)
-            (front_every (MayHave ops.Constant) (constant_value, b) [] (inl refl) (none_every (MayHave ops.Constant)));
+            (front_every (MayHave ops.Constant) (constant_value, attrs.Integer is.value) [] (inl refl)
+            (none_every (MayHave ops.Constant)));
       }
 
   -- what an operation says tells this of its attributes
-  pub read : (k : KitOp) → says.of_operation k es n tys ≡ Some (kind, said) → IsRead keys k es ps
+  pub read : (k : KitOp) → says.of_operation k es n tys ≡ Some (kind, said) → IsRead keys k es tys ps
   read ops.Module e =
       let kept = only_some (length es == 1 && n == 0) (said_of_module (attribute_at es symbol_name)) said
       (said_as ops.Module NamedRegion e refl) in
@@ -309,7 +306,7 @@ module _ (keys : List KitType) (es : Entries) (n : ℕ) (tys : List TypeHandle) 
       typed_read (attribute_at es symbol_name) (attribute_at es function_type) refl refl
       (and_left (length es == 2) (n == 0) kept.0) kept.1
   read ops.Constant e =
-      let kept = only_some (length es == 1 && n == 0) (said_of_constant (attribute_at es constant_value)) said
+      let kept = only_some (length es == 1 && n == 0) (said_of_constant (attribute_at es constant_value) tys) said
       (said_as ops.Constant Value e refl) in
       constant_read (attribute_at es constant_value) refl (and_left (length es == 1) (n == 0) kept.0) kept.1
       (bits_shown keys ops.Constant es n tys kind said ps e shown refl)

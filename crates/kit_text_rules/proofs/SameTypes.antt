@@ -67,18 +67,6 @@ module _ (leads others : TypeHandle → Option KitType) where
       by_both (option_and_then function_of (leads a)) (option_and_then function_of (others c)) None None
       (ap (option_and_then function_of) here) (ap (option_and_then function_of) there) tt
 
-  -- the integer type is the key
-  integer_key : (o : Option KitType) (i : IntegerType) → option_and_then integer_of o ≡ Some i
-      → o ≡ Some (types.Integer i)
-  integer_key None i e = cc
-  integer_key (Some (types.Integer j)) i e = let same : j ≡ i = cc in ap (λ k. Some (types.Integer k)) same
-  integer_key (Some (types.Function f)) i e = absurd (none-some i e)
-  integer_key (Some types.Unit) i e = absurd (none-some i e)
-
-  pub written_same : (a c : TypeHandle) (i : IntegerType) → option_and_then integer_of (leads a) ≡ Some i
-      → option_and_then integer_of (others c) ≡ Some i → IsSameType leads others a c
-  written_same a c i e f = integers a c [] [] i (integer_key (leads a) i e) (integer_key (others c) i f) none
-
   -- ---- one handle
 
   module _ (own : HaveOwnHandles leads) where

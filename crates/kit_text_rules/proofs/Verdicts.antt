@@ -14,14 +14,14 @@ use Rattle.kit_checks.specs.Sites.{Site, site_at}
 use Rattle.kit_checks.specs.World.{World, world_of}
 use Rattle.kit_writable_trees.specs.Laws.{KitContext, KitTree}
 use Rattle.kit_text_programs.specs.Laws.{HaveOwnNumbers}
-use Rattle.kit_text_rules.specs.Alike.{BelongTogether, AreTrees, AreSites, AreVisibleFirst, HasKnownAttributes}
+use Rattle.kit_text_rules.specs.Alike.{BelongTogether, AreTrees, AreSites, AreVisibleFirst}
 use Rattle.kit_text_rules.specs.Same.{HaveOwnHandles, IsSameType, IsSameValue}
-use Rattle.kit_text_rules.specs.Laws.{AreAlikeIn, HasVerdictOf, IsKnown}
+use Rattle.kit_text_rules.specs.Laws.{AreAlikeIn, HasOneHandleEach, HasVerdictOf}
 use Rattle.kit_text_rules.proofs.AlikeLists.{some_second}
 use Rattle.kit_text_rules.proofs.AlikeParts.{sites_alike}
 use Rattle.kit_text_rules.proofs.AlikeRules.{keeps_back}
 use Rattle.kit_text_rules.proofs.WrittenTypes.{own_handles}
-use Rattle.kit_text_rules.proofs.SameTypes.{types_meet, same_integers, same_functions, written_same}
+use Rattle.kit_text_rules.proofs.SameTypes.{types_meet, same_integers, same_functions}
 
 visible_before : (r : Rule) → AreVisibleFirst r → number_of rule.OperandsAreVisible < number_of r
 visible_before rule.TypesAgree h = omega arith
@@ -44,9 +44,7 @@ less_than k m n a b = omega arith
 
 module _ {O B P C : Type 0} (w : World O B) (x : World P C) (OfTypes : TypeHandle → TypeHandle → Type 0)
     (OfValues : Value → Value → Type 0) (agree : BelongTogether w x OfTypes OfValues) (t : ProgramTree O B)
-    (u : ProgramTree P C) (trees : AreTrees w x OfTypes OfValues t u)
-    (known : (p : List ℕ) (s : Site O B) → site_at t p ≡ Some s → HasKnownAttributes w s)
-    (others : (p : List ℕ) (s : Site P C) → site_at u p ≡ Some s → HasKnownAttributes x s) where
+    (u : ProgramTree P C) (trees : AreTrees w x OfTypes OfValues t u) where
   there : (p : List ℕ) (s : Site O B) → site_at t p ≡ Some s
       → (z : Site P C) × (site_at u p ≡ Some z) × AreSites w x OfTypes OfValues s z
   there p s at =
@@ -58,8 +56,7 @@ module _ {O B P C : Type 0} (w : World O B) (x : World P C) (OfTypes : TypeHandl
       → AreSites w x OfTypes OfValues s z → (AreVisibleFirst r → KeptEverywhere x u rule.OperandsAreVisible)
       → Keeps x r z → Keeps w r s
   kept_at r p s z at beside alike seen keeps =
-      keeps_back w x OfTypes OfValues agree r s z alike (known p s at) (others p z beside)
-      (λ q. seen q p z beside) keeps
+      keeps_back w x OfTypes OfValues agree r s z alike (λ q. seen q p z beside) keeps
 
   kept : (r : Rule) → (AreVisibleFirst r → KeptEverywhere x u rule.OperandsAreVisible) → KeptEverywhere x u r
       → KeptEverywhere w t r
@@ -69,12 +66,10 @@ module _ {O B P C : Type 0} (w : World O B) (x : World P C) (OfTypes : TypeHandl
 module _ {O B P C : Type 0} (w : World O B) (x : World P C) (OfTypes Types : TypeHandle → TypeHandle → Type 0)
     (OfValues Values : Value → Value → Type 0) (agree : BelongTogether w x OfTypes OfValues)
     (agrees : BelongTogether x w Types Values) (t : ProgramTree O B) (u : ProgramTree P C)
-    (trees : AreTrees w x OfTypes OfValues t u) (back : AreTrees x w Types Values u t)
-    (known : (p : List ℕ) (s : Site O B) → site_at t p ≡ Some s → HasKnownAttributes w s)
-    (others : (p : List ℕ) (s : Site P C) → site_at u p ≡ Some s → HasKnownAttributes x s) where
+    (trees : AreTrees w x OfTypes OfValues t u) (back : AreTrees x w Types Values u t) where
   pub over : (r : Rule) → (AreVisibleFirst r → KeptEverywhere w t rule.OperandsAreVisible) → KeptEverywhere w t r
       → KeptEverywhere x u r
-  over r seen all = kept x w Types Values agrees u t back others known r seen all
+  over r seen all = kept x w Types Values agrees u t back r seen all
 
   visible_over : KeptEverywhere w t rule.OperandsAreVisible → KeptEverywhere x u rule.OperandsAreVisible
   visible_over all = over rule.OperandsAreVisible (λ q. absurd q) all
@@ -85,12 +80,12 @@ module _ {O B P C : Type 0} (w : World O B) (x : World P C) (OfTypes Types : Typ
       breaks = record {
         site = z.0;
         there = z.1;
-        broken = λ keeps. fault.first.breaks.broken (kept_at w x OfTypes OfValues agree t u trees known others r p
+        broken = λ keeps. fault.first.breaks.broken (kept_at w x OfTypes OfValues agree t u trees r p
             fault.first.breaks.site z.0 fault.first.breaks.there z.1 z.2
             (λ q. visible_over (fault.smallest rule.OperandsAreVisible (visible_before r q))) keeps);
       };
-      before = λ q s less at. let o = there x w Types Values agrees u t back others known q s at in
-          kept_at x w Types Values agrees u t back others known r q s o.0 at o.1 o.2
+      before = λ q s less at. let o = there x w Types Values agrees u t back q s at in
+          kept_at x w Types Values agrees u t back r q s o.0 at o.1 o.2
           (λ v. fault.smallest rule.OperandsAreVisible (visible_before r v)) (fault.first.before q o.0 less o.1);
     };
     smallest = λ q less. over q (λ v. fault.smallest rule.OperandsAreVisible
@@ -99,7 +94,7 @@ module _ {O B P C : Type 0} (w : World O B) (x : World P C) (OfTypes Types : Typ
   }
     where
       z : (y : Site P C) × (site_at u p ≡ Some y) × AreSites w x OfTypes OfValues fault.first.breaks.site y
-      z = there w x OfTypes OfValues agree t u trees known others p fault.first.breaks.site fault.first.breaks.there
+      z = there w x OfTypes OfValues agree t u trees p fault.first.breaks.site fault.first.breaks.there
 
 -- types and values of two contexts belong together
 pub together : (s z : KitContext) (values others : List Value) → HaveOwnHandles (key_at s.types)
@@ -113,7 +108,6 @@ together s z values others handles again own owns = record {
   values_forth = λ a b c d h k e. value_of others values own a b c d (h.0, h.2, h.1) (k.0, k.2, k.1) e;
   integers = λ a c h. same_integers (key_at s.types) (key_at z.types) a c h;
   functions = λ a c h. same_functions (key_at s.types) (key_at z.types) a c h;
-  written = λ a c i e f. written_same (key_at s.types) (key_at z.types) a c i e f;
 }
   where
     value_of : (vs us : List Value) → HaveOwnNumbers us → (a b c d : Value) → IsSameValue vs us a c
@@ -123,28 +117,28 @@ together s z values others handles again own owns = record {
         same_Some a b (sym h.1 ∙ ap (slice_get vs) same ∙ k.1)
 
 pub one_verdict : (s z : KitContext) (values others : List Value) (t u : KitTree) → HaveOwnNumbers values
-    → HaveOwnNumbers others → AreAlikeIn s z values others t u → AreAlikeIn z s others values u t → IsKnown s t
-    → IsKnown z u → HasVerdictOf s z t u
-one_verdict s z values others t u own owns trees back known again = record {
+    → HaveOwnNumbers others → AreAlikeIn s z values others t u → AreAlikeIn z s others values u t → HasOneHandleEach s
+    → HasOneHandleEach z → HasVerdictOf s z t u
+one_verdict s z values others t u own owns trees back handles again = record {
   first_fault = λ r p fault. one_fault (world_of s) (world_of z) (IsSameType (key_at s.types) (key_at z.types))
       (IsSameType (key_at z.types) (key_at s.types)) (IsSameValue values others)
       (IsSameValue others values) agree agrees t
-      u trees back known.attributes again.attributes r p fault;
+      u trees back r p fault;
   kept = each;
   all_kept = λ all r. each r (λ q. all rule.OperandsAreVisible) (all r);
 }
   where
     agree : BelongTogether (world_of s) (world_of z) (IsSameType (key_at s.types) (key_at z.types))
         (IsSameValue values others)
-    agree = together s z values others (own_handles s known.handles) (own_handles z again.handles) own owns
+    agree = together s z values others (own_handles s handles) (own_handles z again) own owns
 
     agrees : BelongTogether (world_of z) (world_of s) (IsSameType (key_at z.types) (key_at s.types))
         (IsSameValue others values)
-    agrees = together z s others values (own_handles z again.handles) (own_handles s known.handles) owns own
+    agrees = together z s others values (own_handles z again) (own_handles s handles) owns own
 
     each : (r : Rule) → (AreVisibleFirst r → KeptEverywhere (world_of s) t rule.OperandsAreVisible)
         → KeptEverywhere (world_of s) t r → KeptEverywhere (world_of z) u r
     each r seen all = over (world_of s) (world_of z) (IsSameType (key_at s.types) (key_at z.types))
         (IsSameType (key_at z.types) (key_at s.types)) (IsSameValue values others)
         (IsSameValue others values) agree agrees
-        t u trees back known.attributes again.attributes r seen all
+        t u trees back r seen all

@@ -5,7 +5,7 @@ use Rattle.ir_program.specs.Program.{type_at}
 use Rattle.ir_program.specs.declared.handles.Value.{Value}
 use Rattle.ir_trees.specs.Stands.{by_handle, in_program}
 use Rattle.ir_trees.specs.Trees.{Defined, Sort, end, operation, block, region}
-use Rattle.ir_types.specs.Interned.{key_at, HasDistinctTypes}
+use Rattle.ir_types.specs.Interned.{key_at}
 use Rattle.opt_trees.specs.Occurrences.{Has, Occurrence, BlockOccurrence, Inside, inner, next_block, next_region}
 use Rattle.opt_trees.specs.Occurrences.{at_root}
 use Rattle.opt_trees.specs.Occurrences.{occurrences_in, block_occurrences_in}
@@ -18,7 +18,7 @@ use Rattle.kit_ops.specs.declared.types.KitType.{KitType}
 use Rattle.kit_ops.specs.declared.types.KitType.TheVariants as types
 use Rattle.kit_checks.specs.Sites.{Listed}
 use Rattle.kit_writable_trees.specs.Laws.{KitContext, KitTree}
-use Rattle.kit_text_rules.specs.Laws.{HaveWrittenTypes}
+use Rattle.kit_text_rules.specs.Laws.{HasOneHandleEach, HaveWrittenTypes}
 use Rattle.kit_text_rules.specs.Same.{AreSameKeys, HaveOwnHandles}
 
 -- these results or arguments have the types that are written there
@@ -109,5 +109,5 @@ module _ (s : KitContext) where
   same_equal types.Unit (types.Integer j) h = absurd h
   same_equal types.Unit (types.Function g) h = absurd h
 
-  pub own_handles : HasDistinctTypes (of_types.ghosts).eq s.types → HaveOwnHandles (key_at s.types)
+  pub own_handles : HasOneHandleEach s → HaveOwnHandles (key_at s.types)
   own_handles h a b j k at there same = (h a b j k at there).1 (same_equal j k same)

@@ -13,14 +13,12 @@ use Rattle.kit_ops.specs.declared.attributes.IntegerAttr.{IntegerAttr}
 use Rattle.kit_ops.specs.declared.attributes.KitAttr.TheVariants as attrs
 use Rattle.kit_ops.specs.declared.kinds.KitOp.TheVariants as ops
 use Rattle.kit_ops.specs.declared.types.FunctionType.{FunctionType}
-use Rattle.kit_ops.specs.declared.types.IntegerType.{IntegerType}
 use Rattle.kit_texts.specs.Forms.{number_of}
 use Rattle.kit_checks.specs.declared.rule.Rule.{Rule}
 use Rattle.kit_checks.specs.declared.rule.Rule.TheVariants as rule
 use Rattle.kit_checks.specs.Rules.{IsCommon, MayHave}
 use Rattle.kit_checks.specs.Sites.{Around, Body, Listed, Site}
-use Rattle.kit_checks.specs.Words.{Every, bodies_of, constant_value, function_type, identifier_in, integer_in}
-use Rattle.kit_checks.specs.Words.{integer_type, type_in}
+use Rattle.kit_checks.specs.Words.{Every, function_type, identifier_in, integer_in, integer_type, type_in}
 use Rattle.kit_checks.specs.World.{World}
 
 -- both are there and are so, or neither is there
@@ -42,16 +40,13 @@ module _ {O B P C : Type 0} (w : World O B) (x : World P C) (OfTypes : TypeHandl
   AreSignatures f g = Pairs OfTypes f.inputs.items g.inputs.items × Pairs OfTypes f.results.items g.results.items
 
   -- types and values of the first world are told apart where those of the second are, and values of the second where
-  -- those of the first are; types that belong to one another are the same integer type or alike function types, and
-  -- the same integer types belong to one another
+  -- those of the first are; types that belong to one another are the same integer type or alike function types
   pub record BelongTogether : Type 0 where
     pub types_back : ComesBack OfTypes
     pub values_back : ComesBack OfValues
     pub values_forth : ComesBack (λ u v. OfValues v u)
     pub integers : (a c : TypeHandle) → OfTypes a c → integer_type w a ≡ integer_type x c
     pub functions : (a c : TypeHandle) → OfTypes a c → AreBoth AreSignatures (function_type w a) (function_type x c)
-    pub written : (a c : TypeHandle) (i : IntegerType) → integer_type w a ≡ Some i → integer_type x c ≡ Some i →
-        OfTypes a c
 
   -- values that belong to one another, and so do their types
   abbrev pub AreTyped : Value → Value → Type 0
@@ -60,10 +55,11 @@ module _ {O B P C : Type 0} (w : World O B) (x : World P C) (OfTypes : TypeHandl
   abbrev pub AreDefined : Defined Value TypeHandle → Defined Value TypeHandle → Type 0
   AreDefined d e = AreTyped d.name e.name × OfTypes d.holds e.holds
 
-  -- the same number of the same integer type
+  -- the same number of the same integer type, and the types whose handles they hold belong to one another
   pub record AreIntegers (a b : IntegerAttr) : Type 0 where
     pub bits : a.bits ≡ b.bits
     pub integer : a.integer ≡ b.integer
+    pub types : OfTypes a.ty b.ty
 
   -- operations of one kind that can be read, with operands and results that belong to one another, and attributes
   -- that say the same; the first has no others than its own
@@ -87,7 +83,8 @@ module _ {O B P C : Type 0} (w : World O B) (x : World P C) (OfTypes : TypeHandl
         (v : IntegerAttr) × (attribute_at (w.attributes h.content) CONSTANT_VALUE.now ≡ Some (attrs.Integer v))
     pub own : Every (MayHave (w.kind h.content)) (w.attributes h.content)
 
-  -- lists of operations, of blocks, of regions that are alike one by one
+  -- lists of operations, of blocks, of regions that are alike one by one; blocks of the first have only attributes that
+  -- all may have
   pub data AreAlike : (s : Sort) → Listed O B s → Listed P C s → Type 0 where
     no_operations : AreAlike Operations end end
     no_blocks : AreAlike Blocks end end
@@ -97,7 +94,8 @@ module _ {O B P C : Type 0} (w : World O B) (x : World P C) (OfTypes : TypeHandl
         AreAlike Operations rest others → AreAlike Operations (operation h rs rest) (operation k qs others)
     blocks : (l : ProgramLabel O B) (m : ProgramLabel P C) (os : Listed O B Operations) (ps : Listed P C Operations)
         (rest : Listed O B Blocks) (others : Listed P C Blocks) → Pairs AreDefined l.arguments m.arguments →
-        AreAlike Operations os ps → AreAlike Blocks rest others → AreAlike Blocks (block l os rest) (block m ps others)
+        Every IsCommon (w.block_attributes l.content) → AreAlike Operations os ps → AreAlike Blocks rest others →
+        AreAlike Blocks (block l os rest) (block m ps others)
     regions : (bs : Listed O B Blocks) (cs : Listed P C Blocks) (rest : Listed O B Regions)
         (others : Listed P C Regions) →
         AreAlike Blocks bs cs → AreAlike Regions rest others → AreAlike Regions (region bs rest) (region cs others)
@@ -108,6 +106,7 @@ module _ {O B P C : Type 0} (w : World O B) (x : World P C) (OfTypes : TypeHandl
 
   pub record AreBodies (b : Body O B) (d : Body P C) : Type 0 where
     pub arguments : Pairs AreDefined b.label.arguments d.label.arguments
+    pub known : Every IsCommon (w.block_attributes b.label.content)
     pub listed : AreAlike Operations b.operations d.operations
 
   -- around two operations are alike operations and blocks, and they stand at the same indices
@@ -121,12 +120,6 @@ module _ {O B P C : Type 0} (w : World O B) (x : World P C) (OfTypes : TypeHandl
   pub record AreSites (s : Site O B) (z : Site P C) : Type 0 where
     pub trees : AreTrees s.op z.op
     pub surroundings : AreBoth AreAround s.around z.around
-
--- what texts don't say: blocks in the operation have only attributes that all may have, and the value of a constant
--- is of the integer type that it says
-pub record HasKnownAttributes {O B : Type 0} (w : World O B) (s : Site O B) : Type 0 where
-  pub blocks : Every (λ (b : Body O B). Every IsCommon (w.block_attributes b.label.content)) (bodies_of s.op)
-  pub constants : (v : IntegerAttr) → constant_value w s.op ≡ Some v → integer_type w v.ty ≡ Some v.integer
 
 -- whether the rule is kept is told by the types of operands, and so where these are known to be visible
 abbrev pub AreVisibleFirst : Rule → Type 0

@@ -1,6 +1,7 @@
 -- The statements of the laws.
 use Rattle.std.specs.Prelude.{◌≡◌, ℕ, List, Some}
 use Rattle.ir_base.specs.declared.types.TypeHandle.{TypeHandle}
+use Rattle.ir_forest.specs.Closed.{IsSameModule}
 use Rattle.ir_print.specs.Pieces.{Entity}
 use Rattle.ir_program.specs.Program.{type_at}
 use Rattle.ir_program.specs.declared.handles.Operation.{Operation}
@@ -15,16 +16,14 @@ use Rattle.ir_types.specs.Interned.{key_at, HasDistinctTypes}
 use Rattle.kit_checks.specs.declared.rule.Rule.{Rule}
 use Rattle.kit_checks.specs.declared.rule.Rule.TheVariants as rule
 use Rattle.kit_checks.specs.Faults.{IsFirstFault, KeptEverywhere}
-use Rattle.kit_checks.specs.Sites.{Site, site_at}
 use Rattle.kit_checks.specs.World.{world_of}
-use Rattle.kit.specs.Meaning.{KitOperation, KitBlock}
 use Rattle.kit_texts.specs.Says.{says}
 use Rattle.text_dialect.specs.Seen.{seen}
 use Rattle.text_dialect.specs.Standing.{StandsForTexts}
 use Rattle.text_rereading.specs.Rereading.{Named}
 use Rattle.kit_writable_trees.specs.Laws.{KitContext, KitTree}
 use Rattle.kit_text_programs.specs.Laws.{HaveOwnNumbers}
-use Rattle.kit_text_rules.specs.Alike.{AreTrees, AreVisibleFirst, HasKnownAttributes}
+use Rattle.kit_text_rules.specs.Alike.{AreTrees, AreVisibleFirst}
 use Rattle.kit_text_rules.specs.Same.{IsSameType, IsSameValue}
 
 -- the operations of the one tree are alike those of the other: types that are the same and values of one number
@@ -33,12 +32,9 @@ abbrev pub AreAlikeIn : KitContext → KitContext → List Value → List Value 
 AreAlikeIn s z values others t u =
     AreTrees (world_of s) (world_of z) (IsSameType (key_at s.types) (key_at z.types)) (IsSameValue values others) t u
 
--- what is known of a context and a tree in it: handles are equal exactly where types are; and of attributes what texts
--- don't say
-pub record IsKnown (s : KitContext) (t : KitTree) : Type 0 where
-  pub handles : HasDistinctTypes (of_types.ghosts).eq s.types
-  pub attributes : (place : List ℕ) (site : Site KitOperation KitBlock) → site_at t place ≡ Some site →
-      HasKnownAttributes (world_of s) site
+-- the context has one handle for each type: handles are equal exactly where types are
+abbrev pub HasOneHandleEach : KitContext → Type 0
+HasOneHandleEach s = HasDistinctTypes (of_types.ghosts).eq s.types
 
 -- values have the types that are written where they are defined: in the tree, and its own results
 pub record HaveWrittenTypes (s : KitContext) (t : KitTree) : Type 0 where
@@ -58,13 +54,14 @@ pub record HasVerdictOf (s z : KitContext) (t u : KitTree) : Type 0 where
 -- trees that are alike have one verdict
 abbrev pub AlikeTreesHaveOneVerdict : Type 0
 AlikeTreesHaveOneVerdict = (s z : KitContext) (values others : List Value) (t u : KitTree) → HaveOwnNumbers values →
-    HaveOwnNumbers others → AreAlikeIn s z values others t u → AreAlikeIn z s others values u t → IsKnown s t →
-    IsKnown z u → HasVerdictOf s z t u
+    HaveOwnNumbers others → AreAlikeIn s z values others t u → AreAlikeIn z s others values u t → HasOneHandleEach s →
+    HasOneHandleEach z → HasVerdictOf s z t u
 
--- trees that stand for one tree of texts have one verdict
+-- trees that stand in two contexts for trees of texts that are the same but for their labels have one verdict
 abbrev pub TextsHaveOneVerdict : Type 0
-TextsHaveOneVerdict = (text : Entity ℕ) (s z : KitContext) (root other : Ptr Operation) (values others : List Value)
-    (t u : KitTree) → HaveOwnNumbers values → HaveOwnNumbers others →
-    StandsForTexts says (Named values) (seen s) root text → StandsForTexts says (Named others) (seen z) other text →
-    StandsFor s.program root t → StandsFor z.program other u → IsKnown s t → IsKnown z u → HaveWrittenTypes s t →
+TextsHaveOneVerdict = (text other_text : Entity ℕ) (s z : KitContext) (root other : Ptr Operation)
+    (values others : List Value) (t u : KitTree) → IsSameModule text other_text → HaveOwnNumbers values →
+    HaveOwnNumbers others → StandsForTexts says (Named values) (seen s) root text →
+    StandsForTexts says (Named others) (seen z) other other_text → StandsFor s.program root t →
+    StandsFor z.program other u → HasOneHandleEach s → HasOneHandleEach z → HaveWrittenTypes s t →
     HaveWrittenTypes z u → HasVerdictOf s z t u

@@ -1,4 +1,5 @@
-//! Whether the module of a text keeps the rules: the text alone determines it, whatever context the text was read into.
+//! Whether the module of a text keeps the rules: the text alone determines it, whatever context the text was read into,
+//! and whatever its labels are.
 //! The functions here have no code, and their contracts are laws over the definitions in specs/.
 #![tactic(auto)]
 
@@ -9,7 +10,7 @@ pub fn alike_trees_have_one_verdict()
     ensures { AlikeTreesHaveOneVerdict }
 {}
 
-/// Two contexts in which an operation stands for the same tree of texts have one verdict there.
+/// Trees that stand in two contexts for trees of texts that are the same but for their labels have one verdict.
 pub fn texts_have_one_verdict()
     ensures { TextsHaveOneVerdict }
 {}

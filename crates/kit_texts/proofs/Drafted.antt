@@ -23,6 +23,7 @@ use Rattle.kit_texts.specs.Parts.{type_part, name_part, region_part, attribute_p
 use Rattle.kit_texts.specs.Numbers.{printed_number}
 use Rattle.kit_texts.specs.Says.{says, one, two, only, has_values, integer_said, said_of_attribute, integer_types, is_attribute, is_name, is_type, is_region, are_operands, is_operand, refused_unless, refused_in}
 use Rattle.kit_texts.specs.Making.{one_integer, module_name, function_header, one_operands, pair_type, FormDrafts, MakesForm, RefusesForm}
+use Rattle.kit_texts.specs.Readable.{constant_said_so}
 use Rattle.kit_texts.specs.Seen.{seen}
 use Rattle.kit_texts.proofs.Shapes.{name_shown, not_name, region_shown, not_region, type_shown, not_type, operands_shown, not_operands, operand_shown, not_operand, one_shown, two_shown, three_shown, not_one, not_two, not_three_pieces, attribute_shown}
 use Rattle.kit_texts.proofs.Made.{and_false}
@@ -79,6 +80,10 @@ an_integer None a e = cc
 integer_says : (test : Bool) (u : Trees (Said KitAttr)) (n : ℕ) (us : Trees (Said KitAttr)) → only {X = ℕ × Trees (Said KitAttr)} test (Some (0, u)) ≡ Some (n, us) → (0 ≡ n) × (u ≡ us) × (test ≡ true)
 integer_says true u n us e = let same : pair_of 0 u ≡ pair_of n us = cc in (ap (λ v. v.0) same, ap (λ v. v.1) same, refl)
 integer_says false u n us e = cc
+
+-- the integer, under this handle of its type
+abbrev pub of_type : TypeHandle → IntegerAttr → IntegerAttr
+of_type ty a = record { ty = ty; integer = a.integer; bits = a.bits }
 
 -- the bits are those of a number of the type
 abbrev fits_bits : IntegerAttr → Bool
@@ -164,7 +169,7 @@ module _ {D : Type 0} where
       [ inl g ↦ inl (not_name says types p t g s) | inr g ↦ inr (and_false (is_type u) (is_region v) (elim g [ inl k ↦ inl (not_type says types q u k s') | inr k ↦ inr (not_region says types r v k s'') ])) ])))
 
   pub constant_made : (parts : List (Part D KitOp KitAttr KitType)) (a : IntegerAttr) (old new : List KitType) (ty : TypeHandle) → one_integer parts ≡ Some a → slice_get new ty.number ≡ Some (keys.Integer a.integer) →
-      ((ty : TypeHandle) (key : KitType) → slice_get old ty.number ≡ Some key → slice_get new ty.number ≡ Some key) → MakesForm Value parts old new ((constant_value, attrs.Integer a) ∷ []) (ty ∷ [])
+      ((ty : TypeHandle) (key : KitType) → slice_get old ty.number ≡ Some key → slice_get new ty.number ≡ Some key) → MakesForm Value parts old new ((constant_value, attrs.Integer (of_type ty a)) ∷ []) (ty ∷ [])
   constant_made [] a old new ty e k kept = cc
   constant_made (p ∷ q ∷ rs) a old new ty e k kept = cc
   constant_made (p ∷ []) a old new ty e k kept = λ ps h.
@@ -173,13 +178,13 @@ module _ {D : Type 0} where
       let attr : shown.3.0 ≡ attrs.Integer a = let f = shown.3.2 in cc in
       let said = integer_says (fits_bits a) (integer_said a.integer.signedness a.integer.width (printed_number a)) shown.0 shown.3.1 (sym (ap said_of_attribute attr) ∙ shown.3.3) in
       let pieces : ShowsAll says old (integer_said a.integer.signedness a.integer.width (printed_number a)) shown.1 = subst (λ (us : Trees (Said KitAttr)). ShowsAll says old us shown.1) (sym said.1) shown.3.4 in
-      subst (λ (qs : Pieces). (refused_in Value qs ≡ None) × FormDrafts Value new qs ((constant_value, attrs.Integer a) ∷ []) (ty ∷ []))
+      subst (λ (qs : Pieces). (refused_in Value qs ≡ None) × FormDrafts Value new qs ((constant_value, attrs.Integer (of_type ty a)) ∷ []) (ty ∷ []))
       (sym (only_piece.1 ∙ (ap (λ t. a_tree t no_tree) shown.2 ∙ ap (λ (n : ℕ). a_tree (node (attribute_of_kind n) shown.1) no_tree) (sym said.0)))) (
         refl,
         record {
-          pieces = one (leaf (said_attribute (attrs.Integer a)));
-          said = refl;
-          shown = ((attrs.Integer a, shown.3.1, refl, sym (ap said_of_attribute attr) ∙ shown.3.3 ∙ ap (λ (n : ℕ). Some (n, shown.3.1)) (sym said.0), all_later old new kept shown.3.1 shown.1 shown.3.4), tt);
+          pieces = one (leaf (said_attribute (attrs.Integer (of_type ty a))));
+          said = constant_said_so (of_type ty a);
+          shown = ((attrs.Integer (of_type ty a), shown.3.1, refl, sym (ap said_of_attribute attr) ∙ shown.3.3 ∙ ap (λ (n : ℕ). Some (n, shown.3.1)) (sym said.0), all_later old new kept shown.3.1 shown.1 shown.3.4), tt);
           typed = integer_typed old new a.integer ty _ shown.1 (fits_width a said.2) k pieces;
         },
       )

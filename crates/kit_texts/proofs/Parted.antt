@@ -33,7 +33,7 @@ use Rattle.kit_ops.specs.declared.attributes.KitAttr.{KitAttr}
 use Rattle.kit_ops.specs.declared.attributes.KitAttr.TheVariants as attrs
 use Rattle.kit_texts.specs.Parts.{IsTypeList, AreModuleParts, AreFunctionParts}
 use Rattle.kit_texts.specs.Says.{says, one, two, types_said, said_in, said_of_operation, said_of_module, said_of_function, said_of_constant, said_of_pair, pair_said}
-use Rattle.kit_texts.specs.Readable.{only_if, is_numbered}
+use Rattle.kit_texts.specs.Readable.{only_if, is_numbered, constant_says}
 use Rattle.kit_texts.specs.Seen.{Seen, seen, first_seen, one_seen, two_seen, three_seen}
 
 -- what follows for each value follows for that of a result
@@ -53,11 +53,6 @@ one_type (v ∷ vs) ty first e f = sym (same_Some v.ty first f) ∙ (first_same 
 pub no_type : (vs : List TypedValue) (ty : TypeHandle) → types_of vs ≡ ty ∷ [] → length vs ≡ 0 → ⊥
 no_type [] ty e f = cc
 no_type (v ∷ vs) ty e f = cc
-
--- an attribute that is shown is an integer
-shown_integer : (types : List KitType) (attr : KitAttr) (t : ValueTree) → Seen says types (leaf (said_attribute attr)) t → (a : IntegerAttr) × (attr ≡ attrs.Integer a)
-shown_integer types (attrs.Integer a) t s = (a, refl)
-shown_integer types other t s = let e = s.3.2 in let f = s.3.3 in absurd cc
 
 -- what is seen of an operation is what it is
 seen_so : {O K A : Type 0} (f : OperationView O → SeenOperation K A) (v : Option (OperationView O)) (o : SeenOperation K A) → option_map f v ≡ Some o → (u : OperationView O) × (v ≡ Some u) × (f u ≡ o)
@@ -172,14 +167,15 @@ module _ {D : Type 0} (types : List KitType) where
   function_parted (Some (attrs.Identifier id)) other parts us ps are e h = absurd (none-some us e)
   function_parted other p parts us ps are e h = absurd (none-some us e)
 
-  constant_parted : (o : Option KitAttr) (parts : List (Part D KitOp KitAttr KitType)) (us : Trees (Said KitAttr)) (ps : Pieces) → ((a : IntegerAttr) → o ≡ Some (attrs.Integer a) → parts ≡ part.Attribute (attrs.Integer a) ∷ []) → said_of_constant o ≡ Some us → ShowsAll says types us ps → ShowsParts says types parts ps
-  constant_parted (Some attr) parts us ps are e h =
-      let shown = subst (λ (vs : Trees (Said KitAttr)). ShowsAll says types vs ps) (sym (same_Some (one (leaf (said_attribute attr))) us e)) h in
+  constant_parted : (o : Option KitAttr) (tys : List TypeHandle) (parts : List (Part D KitOp KitAttr KitType)) (us : Trees (Said KitAttr)) (ps : Pieces) → ((a : IntegerAttr) → o ≡ Some (attrs.Integer a) → parts ≡ part.Attribute (attrs.Integer a) ∷ []) →
+      said_of_constant o tys ≡ Some us → ShowsAll says types us ps → ShowsParts says types parts ps
+  constant_parted o tys parts us ps are e h =
+      let said = constant_says o tys us e in
+      let attr = attrs.Integer said.value in
+      let shown = subst (λ (vs : Trees (Said KitAttr)). ShowsAll says types vs ps) (sym said.says_it) h in
       let piece = one_seen says types (leaf (said_attribute attr)) ps shown in
-      let integer = shown_integer types attr piece.0 piece.2 in
-      let is : parts ≡ part.Attribute attr ∷ [] = are integer.0 (ap Some integer.1) ∙ ap (λ a. part.Attribute a ∷ []) (sym integer.1) in
-      subst (λ qs. ShowsParts says types qs ps) (sym is) (subst (λ (qs : Pieces). ShowsParts {D = D} says types (part.Attribute attr ∷ []) qs) (sym piece.1) (attribute_parted D types attr piece.0 piece.2, tt))
-  constant_parted None parts us ps are e h = absurd (none-some us e)
+      subst (λ qs. ShowsParts says types qs ps) (sym (are said.value said.has))
+      (subst (λ (qs : Pieces). ShowsParts {D = D} says types (part.Attribute attr ∷ []) qs) (sym piece.1) (attribute_parted D types attr piece.0 piece.2, tt))
 
   -- what an operation with two operands says
   pair_parted : (tys : List TypeHandle) (parts : List (Part D KitOp KitAttr KitType)) (us : Trees (Said KitAttr)) (ps : Pieces) → ((ty : TypeHandle) → tys ≡ ty ∷ [] → parts ≡ part.Operands 1 ∷ part.Operands 1 ∷ part.Type ty ∷ []) → said_of_pair tys ≡ Some us → ShowsAll says types us ps → ShowsParts says types parts ps
@@ -211,7 +207,7 @@ module _ {D : Type 0} (types : List KitType) where
   pub value_parted : {E : Type 0} (entries : List (List ℕ × KitAttr)) (count : ℕ) (tys : List TypeHandle) (r : Result (Vec (Part D KitOp KitAttr KitType) Global) E) (us : Trees (Said KitAttr)) (ps : Pieces) →
       ((a : IntegerAttr) → attribute_at entries constant_value ≡ Some (attrs.Integer a) → IfOk r (λ parts. parts.items ≡ part.Attribute (attrs.Integer a) ∷ [])) →
       said_in Value entries count tys ≡ Some us → ShowsAll says types us ps → IfOk r (λ parts. ShowsParts says types parts.items ps)
-  value_parted entries count tys (Ok parts) us ps are e h = constant_parted (attribute_at entries constant_value) parts.items us ps are (only_if (length entries == 1 && count == 0) (said_of_constant (attribute_at entries constant_value)) us e).1 h
+  value_parted entries count tys (Ok parts) us ps are e h = constant_parted (attribute_at entries constant_value) tys parts.items us ps are (only_if (length entries == 1 && count == 0) (said_of_constant (attribute_at entries constant_value) tys) us e).1 h
   value_parted entries count tys (Err fault) us ps are e h = tt
 
   pub two_operands_parted : {E : Type 0} (entries : List (List ℕ × KitAttr)) (count : ℕ) (tys : List TypeHandle) (r : Result (Vec (Part D KitOp KitAttr KitType) Global) E) (us : Trees (Said KitAttr)) (ps : Pieces) →

@@ -3,8 +3,8 @@ use Rattle.std.specs.Prelude.{◌≡◌, ℕ, ◌+◌, ◌-◌, ◌*◌, ◌%◌
 use Rattle.std.proofs.Common.{sym, ap, ◌∙◌, subst, arith}
 use Rattle.std.proofs.Math.Pow.{pow_mono}
 use Rattle.std.proofs.Math.Nat.{mod-eq_of_lt}
-use Rattle.std.proofs.lemmas.Bool.{and_parts, eqb-true, ltb-true, lt-ltb, leb-true, le-leb}
-use Rattle.std.proofs.lemmas.Option.{none-some, some_pair_parts, slice_get-map}
+use Rattle.std.proofs.lemmas.Bool.{and_parts, eqb-true, eq-eqb, ltb-true, lt-ltb, leb-true, le-leb}
+use Rattle.std.proofs.lemmas.Option.{none-some, same_Some, some_pair_parts, slice_get-map}
 use Rattle.ir_base.specs.declared.types.TypeHandle.{TypeHandle}
 use Rattle.ir_names.specs.declared.kinds.Signedness.{Signedness}
 use Rattle.ir_names.specs.declared.identifier.Identifier.{Identifier}
@@ -30,7 +30,7 @@ use Rattle.kit_ops.specs.Kinds.{type_kind, attr_kind}
 use Rattle.kit_ops.specs.declared.kinds.Arithmetic.TheVariants.{Add, Sub, Mul, Div}
 use Rattle.kit_ops.specs.declared.kinds.Comparison.TheVariants.{Equal, NotEqual, Less, LessOrEqual}
 use Rattle.kit_texts.specs.Forms.{OpForm, NamedRegion, TypedRegion, Value, TwoOperands, OneOperand, AnyOperands, form_of, number_of, steps_in, steps_of_form, read_ops, read_types, read_attrs, formats, op_kind, type_form, attr_form}
-use Rattle.kit_texts.specs.Says.{says, values, one, two, only, types_said, said_of_type, said_of_attribute, said_of_operation, said_of_module, said_of_function, said_of_constant, said_of_pair, pair_said, said_in, numbered, has_values, integer_said, refused_unless, is_type_member, are_types, is_number_of, refused_type, refused_attribute, refused_in, refused_by, canonical}
+use Rattle.kit_texts.specs.Says.{says, values, one, two, only, types_said, said_of_type, said_of_attribute, said_of_operation, said_of_module, said_of_function, is_same_type, said_of_constant, said_of_pair, pair_said, said_in, numbered, has_values, integer_said, refused_unless, is_type_member, are_types, is_number_of, refused_type, refused_attribute, refused_in, refused_by, canonical}
 use Rattle.kit_texts.specs.Seen.{none_seen, first_seen, one_seen, two_seen, three_seen}
 use Rattle.ir_print.specs.Shapes.{parts_in, AreSaidAt, AreMembersSaidAt, IsTypeSaid, IsAttributeSaid, SaysTypes, SaysAttributes, SaysOperations}
 
@@ -207,9 +207,9 @@ function_said id ty context ps h =
     ∙ ap (λ (t : ValueTree). a_tree (node (name (text_of id)) pieces.4.0) (a_tree (node (type_of_kind pieces.5.0) pieces.5.1) (a_tree t no_tree))) pieces.6.1)) in
     record { shaped = ((tt, id.valid), (refl, (refl, tt))); read = ap (refused_in TypedRegion) is; operands = ap operands_said is }
 
-constant_said : (attr : KitAttr) → FormSaid Value 0 (one (leaf (said_attribute attr)))
-constant_said attr context ps h =
-    let piece = one_seen says context (leaf (said_attribute attr)) ps h in
+constant_said : (a : IntegerAttr) → FormSaid Value 0 (one (leaf (said_attribute (attrs.Integer a))))
+constant_said a context ps h =
+    let piece = one_seen says context (leaf (said_attribute (attrs.Integer a))) ps h in
     let is : ps ≡ a_tree (node (attribute_of_kind piece.2.0) piece.2.1) no_tree = piece.1 ∙ ap (λ (t : ValueTree). a_tree t no_tree) piece.2.2 in
     record { shaped = (refl, tt); read = ap (refused_in Value) is; operands = ap operands_said is }
 
@@ -250,9 +250,33 @@ function_by P k (Some (attrs.Identifier id)) (Some (attrs.«Type» ty)) us e = i
 function_by P k (Some (attrs.Identifier id)) other us e = absurd (none-some us e)
 function_by P k other p us e = absurd (none-some us e)
 
-constant_by : (P : Trees (Said KitAttr) → Type 0) → ((attr : KitAttr) → P (one (leaf (said_attribute attr)))) → (o : Option KitAttr) (us : Trees (Said KitAttr)) → said_of_constant o ≡ Some us → P us
-constant_by P k (Some attr) us e = is_said (one (leaf (said_attribute attr))) us P e (k attr)
-constant_by P k None us e = absurd (none-some us e)
+-- A constant that says anything has an integer as its value, and one result, of the type of that: it says the value.
+pub record ConstantSays (o : Option KitAttr) (tys : List TypeHandle) (us : Trees (Said KitAttr)) : Type 0 where
+  pub value : IntegerAttr
+  pub has : o ≡ Some (attrs.Integer value)
+  pub result : tys ≡ value.ty ∷ []
+  pub says_it : one (leaf (said_attribute (attrs.Integer value))) ≡ us
+
+pub constant_says : (o : Option KitAttr) (tys : List TypeHandle) (us : Trees (Said KitAttr)) → said_of_constant o tys ≡ Some us → ConstantSays o tys us
+constant_says (Some (attrs.Integer a)) [] us e = absurd (none-some us e)
+constant_says (Some (attrs.Integer a)) (ty ∷ other ∷ tys) us e = absurd (none-some us e)
+constant_says (Some (attrs.Integer a)) (ty ∷ []) us e =
+    let said = only_if (is_same_type a.ty ty) (Some (one (leaf (said_attribute (attrs.Integer a))))) us e in
+    record {
+      value = a;
+      has = refl;
+      result = ap (λ (n : ℕ). record { number = n } ∷ []) (sym (eqb-true a.ty.number ty.number said.0));
+      says_it = same_Some (one (leaf (said_attribute (attrs.Integer a)))) us said.1;
+    }
+constant_says (Some other) tys us e = absurd (none-some us e)
+constant_says None tys us e = absurd (none-some us e)
+
+-- and where it has them, it says the value
+pub constant_said_so : (a : IntegerAttr) → said_of_constant (Some (attrs.Integer a)) (a.ty ∷ []) ≡ Some (one (leaf (said_attribute (attrs.Integer a))))
+constant_said_so a = ap (λ (b : Bool). only b (Some (one (leaf (said_attribute (attrs.Integer a)))))) (eq-eqb a.ty.number a.ty.number refl)
+
+constant_by : (P : Trees (Said KitAttr) → Type 0) → ((a : IntegerAttr) → P (one (leaf (said_attribute (attrs.Integer a))))) → (o : Option KitAttr) (tys : List TypeHandle) (us : Trees (Said KitAttr)) → said_of_constant o tys ≡ Some us → P us
+constant_by P k o tys us e = let said = constant_says o tys us e in subst P said.says_it (k said.value)
 
 pair_by : (P : Trees (Said KitAttr) → Type 0) → ((ty : TypeHandle) → P (pair_said ty)) → (tys : List TypeHandle) (us : Trees (Said KitAttr)) → said_of_pair tys ≡ Some us → P us
 pair_by P k [] us e = absurd (none-some us e)
@@ -272,8 +296,8 @@ form_said TypedRegion entries count tys us e =
     let said = only_if (length entries == 2 && count == 0) (said_of_function (attribute_at entries symbol_name) (attribute_at entries function_type)) us e in
     subst (λ (c : ℕ). FormSaid TypedRegion c us) (many_used (length entries == 2) count 0 said.0) (function_by (FormSaid TypedRegion 0) function_said (attribute_at entries symbol_name) (attribute_at entries function_type) us said.1)
 form_said Value entries count tys us e =
-    let said = only_if (length entries == 1 && count == 0) (said_of_constant (attribute_at entries constant_value)) us e in
-    subst (λ (c : ℕ). FormSaid Value c us) (many_used (length entries == 1) count 0 said.0) (constant_by (FormSaid Value 0) constant_said (attribute_at entries constant_value) us said.1)
+    let said = only_if (length entries == 1 && count == 0) (said_of_constant (attribute_at entries constant_value) tys) us e in
+    subst (λ (c : ℕ). FormSaid Value c us) (many_used (length entries == 1) count 0 said.0) (constant_by (FormSaid Value 0) constant_said (attribute_at entries constant_value) tys us said.1)
 form_said TwoOperands entries count tys us e =
     let said = only_if (length entries == 0 && count == 2) (said_of_pair tys) us e in
     subst (λ (c : ℕ). FormSaid TwoOperands c us) (many_used (length entries == 0) count 2 said.0) (pair_by (FormSaid TwoOperands 2) pair_read tys us said.1)

@@ -67,10 +67,14 @@ said_of_function (Some (attrs.Identifier id)) (Some (attrs.«Type» ty)) =
     Some (a_tree (leaf (said_name (text_of id))) (two (leaf (said_type ty)) (leaf said_region)))
 said_of_function _ _ = None
 
--- what a constant says that has a value
-abbrev pub said_of_constant : Option KitAttr → Option (Trees (Said KitAttr))
-said_of_constant (Some attr) = Some (one (leaf (said_attribute attr)))
-said_of_constant None = None
+-- these are one type: the handles have one number
+abbrev pub is_same_type : TypeHandle → TypeHandle → Bool
+is_same_type x y = x.number == y.number
+
+-- what a constant says that has a value and results of these types: the value, where there is one result, which has its type
+abbrev pub said_of_constant : Option KitAttr → List TypeHandle → Option (Trees (Said KitAttr))
+said_of_constant (Some (attrs.Integer a)) (ty ∷ []) = only (is_same_type a.ty ty) (Some (one (leaf (said_attribute (attrs.Integer a)))))
+said_of_constant _ _ = None
 
 -- what an operation with two operands and one result of this type says
 abbrev pub pair_said : TypeHandle → Trees (Said KitAttr)
@@ -80,13 +84,13 @@ abbrev pub said_of_pair : List TypeHandle → Option (Trees (Said KitAttr))
 said_of_pair (ty ∷ []) = Some (pair_said ty)
 said_of_pair _ = None
 
--- An operation of a form says its own attributes and its operands, if it has no others. One with two operands says the type
--- of its result.
+-- An operation of a form says its own attributes and its operands, if it has no others. A constant says its value, which has
+-- the type of its result, and an operation with two operands says the type of its result.
 abbrev pub said_in : OpForm → (entries : List (List ℕ × KitAttr)) → (operands : ℕ) → (results : List TypeHandle) → Option (Trees (Said KitAttr))
 said_in NamedRegion entries n tys = only (length entries == 1 && n == 0) (said_of_module (attribute_at entries symbol_name))
 said_in TypedRegion entries n tys =
     only (length entries == 2 && n == 0) (said_of_function (attribute_at entries symbol_name) (attribute_at entries function_type))
-said_in Value entries n tys = only (length entries == 1 && n == 0) (said_of_constant (attribute_at entries constant_value))
+said_in Value entries n tys = only (length entries == 1 && n == 0) (said_of_constant (attribute_at entries constant_value) tys)
 said_in TwoOperands entries n tys = only (length entries == 0 && n == 2) (said_of_pair tys)
 said_in OneOperand entries n tys = only (length entries == 0 && n == 1) (Some (one (leaf (said_operands 1))))
 said_in AnyOperands entries n tys = only (length entries == 0) (Some (one (leaf (said_operands n))))

@@ -29,7 +29,7 @@ use ir_names::{AttributeDict, Dialects, Identifier, TypeHandle};
 use ir_print::Part;
 use ir_program::{Operation, Ptr};
 use ir_types::DialectTables;
-use kit_ops::{KitAttr, KitOp, KitType, keys};
+use kit_ops::{IntegerAttr, KitAttr, KitOp, KitType, keys};
 use std::alloc::{AllocError, Global};
 use text_dialect::{MakeFault, OperationDraft};
 
@@ -93,7 +93,8 @@ fn make_function<D: DialectTables<OpKind = KitOp, Attr = KitAttr, TypeKey = KitT
     Ok(draft(attributes, Vec::new(alloc)))
 }
 
-/// What a constant is made with: its value, and the type of that as the type of its result.
+/// What a constant is made with: its value, and the type of that as the type of its result. The value is kept under the
+/// handle that its type has in this context.
 fn make_constant<D: DialectTables<OpKind = KitOp, Attr = KitAttr, TypeKey = KitType>>(
     alloc: Global,
     ctx: &mut Context<D>,
@@ -108,7 +109,11 @@ fn make_constant<D: DialectTables<OpKind = KitOp, Attr = KitAttr, TypeKey = KitT
         return Err(MakeFault::Refused(0));
     };
     let ty = ctx.instantiate_key(alloc, KitType::Integer(integer.integer))?;
-    let value = KitAttr::Integer(integer);
+    let value = KitAttr::Integer(IntegerAttr {
+        ty,
+        integer: integer.integer,
+        bits: integer.bits,
+    });
     let attributes = with_entry(
         alloc,
         AttributeDict::new(alloc),

@@ -1,5 +1,5 @@
 -- Constants that are put in can be written, where a type may be.
-use Rattle.std.proofs.Common.{◌≡◌, ℕ, suc, ◌^◌, ◌<◌, ◌≤◌, Bool, true, List, [], ◌∷◌, Option, Some, None, slice_get, option_and_then, refl, ap, arith}
+use Rattle.std.proofs.Common.{◌≡◌, ℕ, suc, ◌^◌, ◌<◌, ◌≤◌, Bool, true, List, [], ◌∷◌, Option, Some, None, slice_get, option_and_then, option_map, refl, ap, arith}
 use Rattle.std.specs.Prelude.{nat_lt, ◌&&◌}
 use Rattle.std.proofs.lemmas.Bool.{le-leb, lt-ltb}
 use Rattle.ir_names.specs.Tree.{node, no_tree, a_tree, Trees}
@@ -17,6 +17,7 @@ use Rattle.kit_ops.specs.declared.types.IntegerType.{IntegerType}
 use Rattle.kit_ops.specs.declared.types.KitType.{KitType}
 use Rattle.kit_ops.specs.declared.types.KitType.TheVariants as keys
 use Rattle.kit_texts.specs.Numbers.{printed_number}
+use Rattle.kit_texts.specs.Readable.{constant_said_so}
 use Rattle.kit_texts.specs.Says.{one, only, integer_said, has_values, said_of_attribute, said_of_type}
 use Rattle.kit_writable_trees.specs.Writable.{IsWritableHead}
 use Rattle.opt_trees.specs.Sccp.{constant_head}
@@ -72,7 +73,7 @@ module _ (types : List KitType) (a : IntegerAttr) (is : IsNumber types a) where
         pieces = a_tree (node (attribute_of_kind 0) (a_tree (node (number n.is_negative n.magnitude) no_tree)
             (a_tree (node (width s w) no_tree) no_tree))) no_tree;
         shapes = node (type_of_kind 0) (a_tree (node (width s w) no_tree) no_tree) ∷ [];
-        says_it = refl;
+        says_it = ap (option_map {U = ℕ × Trees (Said KitAttr)} (λ us. (2, us))) (constant_said_so a);
         shown = ((attrs.Integer a, integer_said s w n, refl, number_says, (refl, (refl, tt))), tt);
         typed = ((a.ty, keys.Integer a.integer, one (leaf (said_width s w)), refl, is.key, type_says, (refl, tt)), tt);
         read = refl;

@@ -6,7 +6,8 @@ use Rattle.ir_program.specs.declared.handles.Operation.{Operation}
 use Rattle.ir_program.specs.declared.handles.Ptr.{Ptr}
 use Rattle.ir_trees.specs.Names.{Names}
 use Rattle.ir_trees.specs.Trees.{Head, Label, Sort, Blocks, Regions, Tree, end, operation, block, region}
-use Rattle.kit.specs.Meaning.{kit}
+use Rattle.kit.specs.Meaning.{changed_at, without_names, kit}
+use Rattle.kit_ops.specs.Keys.{given_names}
 use Rattle.kit_ops.specs.declared.types.KitType.{KitType}
 use Rattle.kit_pass_rules.proofs.DceVisible.{if_not}
 use Rattle.kit_views.proofs.Dropped.{drop_none}
@@ -49,6 +50,8 @@ module _ {N : Names} (types : List KitType) (g : Gone N)
       let p : ℕ → Bool = λ i. gone_at g (slice_get l.arguments i) in
       record {
         labelled = w.labelled;
+        -- what has no attributes has no names to lose
+        no_attributes = ap (λ es. changed_at es given_names (without_names p)) w.no_attributes;
         arguments = subst (AreWritten types d) (sym (types_left p l.arguments))
             (written_left types d p (types_in l.arguments) w.arguments);
       }

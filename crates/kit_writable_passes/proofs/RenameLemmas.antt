@@ -42,6 +42,7 @@ module _ {N M : Names} (types : List KitType) (m : Maps N M) where
       IsWritableLabel types d (rename_label m l)
   label_renamed d l w = record {
     labelled = w.labelled;
+    no_attributes = w.no_attributes;
     arguments = subst (AreWritten types d) (sym (types_renamed m.value l.arguments)) w.arguments;
   }
 

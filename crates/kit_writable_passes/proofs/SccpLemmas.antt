@@ -112,6 +112,7 @@ module _ {N : Names} (types : List KitType) (made : N.value → Option IntegerAt
       IsWritableLabel types d (old_label {N = N} l)
   label_put d l w = record {
     labelled = w.labelled;
+    no_attributes = w.no_attributes;
     arguments = subst (AreWritten types d) (sym (types_renamed Old l.arguments)) w.arguments;
   }
 

@@ -28,6 +28,11 @@ use Rattle.kit_writable_trees.specs.Writable.{types_in, count_of, label_text, la
 some_parts : {X : Type 0} (x y : X) → Some x ≡ Some y → x ≡ y
 some_parts x y e = cc
 
+-- a list of no members
+is_none : {X : Type 0} (xs : List X) → length xs ≡ 0 → xs ≡ []
+is_none [] e = refl
+is_none (x ∷ xs) e = cc
+
 -- one deeper, of what holds there
 deeper : (d : ℕ) (P Q : ℕ → Type 0) → ((e : ℕ) → P e → Q e) → Deeper d P → Deeper d Q
 deeper zero P Q f h = absurd h
@@ -102,7 +107,7 @@ module _ {N : Type 0} (s : KitContext) (Naming : Value → N → Type 0) where
   labels_so (b ∷ bs) x (an_entity (entity (block label arguments) us) ts) (first_block _ _ v os rest there inner after) h =
       let block_here = h.0 in
       let is : seen_block v ≡ block_here.0 = same_block b v block_here.0 there block_here.1 in
-      let labelled : IsLabel v.payload.label label = subst (λ (o : SeenBlock). IsLabel o.label label) (sym is) block_here.2 in
+      let labelled : IsLabel v.payload.label label = subst (λ (o : SeenBlock). IsLabel o.label label) (sym is) block_here.2.labelled in
       ap (λ cs. cs ++ labels_in rest) (label_so v.payload.label label labelled)
       ∙ ap (λ cs. (label ∷ []) ++ cs) (labels_so bs rest ts after h.1)
   labels_so (b ∷ bs) x (an_entity (entity (operation kind results used pieces) us) ts) (first_block _ _ v os rest there inner after) h = absurd h.0
@@ -175,11 +180,13 @@ module _ {N : Type 0} (s : KitContext) (Naming : Value → N → Type 0) where
     blocks_so d (b ∷ bs) x (an_entity (entity (block label arguments) us) ts) (first_block _ _ v os rest there inner after) h closed shallow bare labelled =
         let here = h.0 in
         let is : seen_block v ≡ here.0 = same_block b v here.0 there here.1 in
-        let own : IsLabel v.payload.label label = subst (λ (o : SeenBlock). IsLabel o.label label) (sym is) here.2 in
+        let own : IsLabel v.payload.label label = subst (λ (o : SeenBlock). IsLabel o.label label) (sym is) here.2.labelled in
+        let bare_block : length v.payload.attributes ≡ 0 = subst (λ (o : SeenBlock). o.attributes ≡ 0) (sym is) here.2.no_attributes in
         let defines = subst (λ (o : SeenBlock). Pairs (HasDefinition says Naming s.types.keys) o.arguments arguments) (sym is) here.3 in
         let trees = subst (λ (o : SeenBlock). HaveTrees says Naming HasOwnLabel (seen s) o.operations us) (sym is) here.4 in (
           record {
             labelled = has_label v.payload.label label own;
+            no_attributes = is_none v.payload.attributes bare_block;
             arguments = record {
               shapes = map (λ y. y.1) arguments;
               shown = subst (λ tys. Pairs (ShowsType says s.types.keys) tys (map (λ y. y.1) arguments))

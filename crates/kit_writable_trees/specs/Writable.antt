@@ -62,9 +62,10 @@ module _ {N : Names} (types : List KitType) where
     pub bare : AreBare pieces
     pub no_successors : h.successors ≡ []
 
-  -- the block has a label, and the types of its arguments have texts
+  -- the block has a label and no attributes, and the types of its arguments have texts
   pub record IsWritableLabel (d : ℕ) (l : Label N kit_contents) : Type 0 where
     pub labelled : (id : Identifier) × (l.content.label ≡ Some id)
+    pub no_attributes : l.content.attributes ≡ []
     pub arguments : AreWritten types d (types_in l.arguments)
 
   -- each operation and each block is so, no two blocks of a region have one label, and at most d regions, types and attributes stand

@@ -97,7 +97,10 @@ module _ {N : Type 0} (s : KitContext) (ν : Value → N) (Naming : Value → N 
       (
         seen_block v,
         ap (option_map seen_block) there,
-        label_is v.payload.label w.0.labelled.0 w.0.labelled.1,
+        record {
+          labelled = label_is v.payload.label w.0.labelled.0 w.0.labelled.1;
+          no_attributes = ap length w.0.no_attributes;
+        },
         defined_so v.arguments w.0.arguments.shapes w.0.arguments.shown known.0,
         have_trees d v.operations os w.1 inner known.1,
       ),

@@ -1,5 +1,6 @@
 -- The text of an operation that can be written.
-use Rattle.std.proofs.Common.{◌≡◌, ◌∙◌, ⊎_elim, ℕ, [], ◌++◌, map, length, option_map, ap, sym, subst}
+use Rattle.std.specs.Prelude.{slice_get}
+use Rattle.std.proofs.Common.{◌≡◌, ◌∙◌, ⊎_elim, ℕ, Some, [], ◌++◌, map, length, option_map, ap, sym, subst}
 use Rattle.std.specs.List.{range_with_len}
 use Rattle.std.proofs.lemmas.List.FromFn.{length-range_with_len}
 use Rattle.ir_forest.specs.Closed.{IsClosed, IsNumbered, IsScopedRoot, all_mentioned, all_defined, definitions_of, mentioned_by, defined_by, in_scope, is_isolated_head}
@@ -24,7 +25,8 @@ use Rattle.kit_texts.specs.Forms.{formats}
 use Rattle.kit_texts.specs.Readable.{says_types, says_attributes, says_operations}
 use Rattle.kit_writable_trees.specs.Laws.{KitContext, KitTree}
 use Rattle.kit_writable_trees.specs.Writable.{count_of, IsWritableHead, IsWritableRoot}
-use Rattle.kit_written_trees.specs.Laws.{HasText}
+use Rattle.kit_views.proofs.Lists.{has_get}
+use Rattle.kit_written_trees.specs.Laws.{AreToldByNumbers, HasText}
 use Rattle.kit_written_trees.proofs.Known.{regions_known, has_right, has_parts}
 use Rattle.kit_written_trees.proofs.Numbered.{place_in, is_found, are_numbered}
 use Rattle.kit_written_trees.proofs.Scoping.{in_by_has, scope_kept, names_same, definitions_same, all_in, regions_scoped}
@@ -34,7 +36,8 @@ use Rattle.ir_forest.specs.Closed.{AllDistinct}
 
 module _ (s : KitContext) (root : Ptr Operation) (t : KitTree) (stands : StandsFor s.program root t)
     (w : IsWritableRoot {N = by_handle} s.types.keys t) (no_results : t.head.results ≡ []) (no_operands : t.head.operands ≡ [])
-    (scoped : Scoped t.regions IsNone) (distinct : AreDistinct (defined_in t.regions)) where
+    (scoped : Scoped t.regions IsNone) (distinct : AreDistinct (defined_in t.regions))
+    (told : AreToldByNumbers (defined_in t.regions)) where
   abbrev ν : Value → ℕ
   ν v = place_in v (defined_in t.regions)
 
@@ -124,6 +127,10 @@ module _ (s : KitContext) (root : Ptr Operation) (t : KitTree) (stands : StandsF
   has_text = record {
     values = defined_in t.regions;
     text = text;
+    distinct = λ i j v x h k same.
+        let vs = defined_in t.regions in
+        let one = told v x (has_get vs i v h) (has_get vs j x k) same in
+        distinct i j v h (subst (λ y. slice_get vs j ≡ Some y) (sym one) k);
     stands = has_tree;
     closed = closed;
     numbered = numbered;

@@ -1,5 +1,5 @@
 -- The statements of the laws.
-use Rattle.std.specs.Prelude.{◌≡◌, ℕ, List, []}
+use Rattle.std.specs.Prelude.{◌≡◌, ℕ, List, [], Some, slice_get}
 use Rattle.ir_forest.specs.Closed.{IsClosed, IsNumbered}
 use Rattle.ir_print.specs.Pieces.{Entity}
 use Rattle.ir_program.specs.declared.handles.Operation.{Operation}
@@ -7,7 +7,7 @@ use Rattle.ir_program.specs.declared.handles.Ptr.{Ptr}
 use Rattle.ir_program.specs.declared.handles.Value.{Value}
 use Rattle.ir_trees.specs.Searched.{AreDistinct}
 use Rattle.ir_trees.specs.Stands.{StandsFor}
-use Rattle.opt_trees.specs.Occurrences.{defined_in}
+use Rattle.opt_trees.specs.Occurrences.{Has, defined_in}
 use Rattle.text_dialect.specs.Seen.{seen}
 use Rattle.text_dialect.specs.Standing.{StandsForTexts}
 use Rattle.text_rereading.specs.Rereading.{Named}
@@ -18,17 +18,23 @@ use Rattle.kit_writable_trees.specs.Laws.{KitContext, KitTree}
 use Rattle.kit_writable_trees.specs.Writable.{IsWritableRoot}
 
 -- an operation of a context has a tree of texts: one that is closed, whose definitions have the numbers from 0 on, in the order
--- of the text, and are these values
+-- of the text, and are these values, no two of which have one number
 pub record HasText (s : KitContext) (root : Ptr Operation) : Type 0 where
   pub values : List Value
   pub text : Entity ℕ
+  pub distinct : (i j : ℕ) (v w : Value) → slice_get values i ≡ Some v → slice_get values j ≡ Some w → v.number ≡ w.number → i ≡ j
   pub stands : StandsForTexts says (Named values) (seen s) root text
   pub closed : IsClosed kit_language text
   pub numbered : IsNumbered text
 
+-- values of one number are one
+abbrev pub AreToldByNumbers : List Value → Type 0
+AreToldByNumbers vs = (v w : Value) → Has v vs → Has w vs → v.number ≡ w.number → v ≡ w
+
 -- an operation that can be written has one, where it has no results and takes no operands, each operation in it takes values of
--- its own block and of its region's entry block alone, and no value is defined twice
+-- its own block and of its region's entry block alone, and no value is defined twice, nor two with one
+-- number
 abbrev pub WritableHaveTexts : Type 0
 WritableHaveTexts = (s : KitContext) (root : Ptr Operation) (t : KitTree) → StandsFor s.program root t →
     IsWritableRoot s.types.keys t → t.head.results ≡ [] → t.head.operands ≡ [] → Scoped t.regions IsNone →
-    AreDistinct (defined_in t.regions) → HasText s root
+    AreDistinct (defined_in t.regions) → AreToldByNumbers (defined_in t.regions) → HasText s root

@@ -1,8 +1,10 @@
 //! Deciding branches.
-ghost use Rattle.std.specs.Prelude.{◌≡◌, ◌↔◌, Ok, IfErr, IfOk, IsSome, OnErr, OnOk};
-ghost use Rattle.ir_program.specs.Program.{operation_at};
+ghost use Rattle.std.specs.Prelude.{◌≡◌, ◌↔◌, Err, Ok, IfErr, IfOk, IsSome, OnErr, OnOk};
+ghost use Rattle.ir_program.specs.Program.{Program, operation_at};
 ghost use Rattle.ir_trees.specs.Stands.{ProgramTree, StandsFor};
 ghost use Rattle.opt_dialect.specs.declared.status.IRStatus.TheVariants.{Unchanged};
+ghost use Rattle.opt_dialect.specs.declared.status.OptError.TheVariants.{CounterFull};
+ghost use Rattle.opt_inside.specs.Full.{IsFull};
 ghost use Rattle.opt_inside.specs.Edges.{FitsEdgesBelow, HasLocalEdgesBelow};
 ghost use Rattle.opt_decide.specs.Phase.{CarriesOut, CarriesOutPart, DecidesBranches, HasDecided, HasDecidedSome, HasNoneDecided};
 ghost use Rattle.opt_decide.specs.Planned.{AreDecisions};
@@ -32,6 +34,8 @@ fn carry_out<D: OptDialect, T: TypeTable>(
     ensures done { OnOk result (HasDecided D.meaning ctx.old.program ctx.new.program decisions.now) }
     ensures part { OnErr result (HasDecidedSome D.meaning ctx.old.program ctx.new.program decisions.now) }
     ensures refused { IfErr result IsShortage }
+    ensures full { result ≡ Err CounterFull → (mid : Program D.Operation D.Block)
+        × HasDecidedSome D.meaning ctx.old.program mid decisions.now × IsFull mid }
     ensures types { ctx.new.types ≡ ctx.old.types }
 {
     for decision in decisions {
@@ -64,6 +68,8 @@ pub fn decide_branches<D: OptDialect, T: TypeTable>(
     ensures carried { IfOk result (λ status. CarriesOut D.meaning ctx.old.program ctx.new.program op status) }
     ensures unchanged { result ≡ Ok Unchanged → ctx.new ≡ ctx.old }
     ensures error { IfErr result IsShortage }
+    ensures full { result ≡ Err CounterFull → (mid : Program D.Operation D.Block)
+        × CarriesOutPart D.meaning ctx.old.program mid op × IsFull mid }
     ensures types { ctx.new.types ≡ ctx.old.types }
 {
     let program = ctx.program();

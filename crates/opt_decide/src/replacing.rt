@@ -1,8 +1,10 @@
 //! One decided branch, made unconditional.
-ghost use Rattle.std.specs.Prelude.{◌≡◌, ◌≢◌, [], IfErr, IfOk, IsSome, OnErr, slice_get};
+ghost use Rattle.std.specs.Prelude.{◌≡◌, ◌≢◌, [], Err, IfErr, IfOk, IsSome, OnErr, slice_get};
 ghost use Rattle.ir_program.specs.Lists.{IsLinkedOperation, IsUnlinkedOperation, regions_in};
 ghost use Rattle.ir_program.specs.Program.{operation_at, results_at};
 ghost use Rattle.ir_program.specs.Rows.{successors_at};
+ghost use Rattle.opt_dialect.specs.declared.status.OptError.TheVariants.{CounterFull};
+ghost use Rattle.opt_inside.specs.Full.{IsFull};
 ghost use Rattle.opt_decide.specs.Replaced.{BuildsBranch, DecidesBranch, IsShortage, LeadsAlike, SwapsIn};
 ghost use Rattle.opt_trees.specs.Occurrences.{cons_if};
 
@@ -44,6 +46,7 @@ fn new_branch<D: OptDialect, T: TypeTable>(
     ensures built { IfOk result (λ branch. BuildsBranch D.meaning ctx.old.program ctx.new.program decision branch) }
     ensures same { OnErr result (LeadsAlike ctx.old.program ctx.new.program) }
     ensures refused { IfErr result IsShortage }
+    ensures full { result ≡ Err CounterFull → IsFull ctx.old.program }
     ensures types { ctx.new.types ≡ ctx.old.types }
 {
     let program = ctx.program();
@@ -99,6 +102,7 @@ pub(crate) fn decide_branch<D: OptDialect, T: TypeTable>(
     ensures decided { IfOk result (λ branch. DecidesBranch D.meaning ctx.old.program ctx.new.program decision branch) }
     ensures same { OnErr result (LeadsAlike ctx.old.program ctx.new.program) }
     ensures refused { IfErr result IsShortage }
+    ensures full { result ≡ Err CounterFull → IsFull ctx.old.program }
     ensures types { ctx.new.types ≡ ctx.old.types }
 {
     let branch = new_branch::<D, T>(alloc, ctx, decision)?;

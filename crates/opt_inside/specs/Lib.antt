@@ -3,3 +3,4 @@ pub mod Numbered
 pub mod Edges
 pub mod Outside
 pub mod Around
+pub mod Full

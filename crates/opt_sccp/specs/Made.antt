@@ -1,9 +1,8 @@
 -- Lists of values and of the constants that are put in for them.
-use Rattle.std.specs.Prelude.{◌≡◌, ◌⊎◌, ℕ, ◌<◌, ◌≤◌, ◌+◌, ◌^◌, List, [], ◌∷◌, Option, Some, None, IsSome, cond, slice_get}
+use Rattle.std.specs.Prelude.{◌≡◌, ◌⊎◌, ℕ, ◌<◌, List, [], ◌∷◌, Option, Some, None, IsSome, cond, slice_get}
 use Rattle.ir_context.specs.Known.{IsKnownIn}
 use Rattle.ir_program.specs.Program.{Program, value_in}
 use Rattle.ir_program.specs.Definers.{values_at}
-use Rattle.ir_program.specs.Made.{HasFullOperationSlot, HasFullRegionSlot}
 use Rattle.ir_program.specs.Replacing.{same_value}
 use Rattle.ir_program.specs.declared.handles.Ptr.{Ptr}
 use Rattle.ir_program.specs.declared.handles.Operation.{Operation}
@@ -46,7 +45,3 @@ PutsList {O} {B} d old new op made = (t : ProgramTree O B) → StandsFor old op 
 -- something can't grow
 abbrev pub IsShortage : OptError → Type 0
 IsShortage e = (e ≡ Memory) ⊎ (e ≡ CounterFull)
-
--- no handle of an operation or of a region is left, or no number of a value
-abbrev pub IsFull : {O B : Type 0} → Program O B → Type 0
-IsFull c = HasFullOperationSlot c ⊎ (HasFullRegionSlot c ⊎ (2 ^ 64 ≤ c.counter + 1))

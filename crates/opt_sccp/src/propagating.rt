@@ -8,7 +8,8 @@ ghost use Rattle.opt_dialect.specs.declared.status.IRStatus.TheVariants.{Unchang
 ghost use Rattle.opt_dialect.specs.declared.status.OptError.TheVariants.{CounterFull, UndeterminedOperand};
 ghost use Rattle.opt_facts.specs.ByNumber.{LeadsBelow};
 ghost use Rattle.opt_inside.specs.Occurring.{OfItsTree};
-ghost use Rattle.opt_sccp.specs.Made.{AreTyped, IsFull, PutsList};
+ghost use Rattle.opt_inside.specs.Full.{IsFull};
+ghost use Rattle.opt_sccp.specs.Made.{AreTyped, PutsList};
 ghost use Rattle.opt_sccp.specs.Sccp.{IsDecided, IsPartlyPropagated, IsPropagated, IsRefusal, LacksIn};
 
 use crate::wanted::{is_lacking, made_constants};

@@ -7,7 +7,8 @@ ghost use Rattle.ir_program.specs.Program.{Program, operation_at};
 ghost use Rattle.ir_program.specs.declared.handles.DefiningEntity.TheVariants.{Op as ByOp};
 ghost use Rattle.ir_context.specs.Known.{IsKnownIn};
 ghost use Rattle.opt_dialect.specs.declared.status.OptError.TheVariants.{CounterFull};
-ghost use Rattle.opt_sccp.specs.Made.{AreTyped, IsFull, IsPutList, IsShortage, PutsList};
+ghost use Rattle.opt_inside.specs.Full.{IsFull};
+ghost use Rattle.opt_sccp.specs.Made.{AreTyped, IsPutList, IsShortage, PutsList};
 ghost use Rattle.opt_sccp.specs.Placed.{CanPutAt, HasPlace, LeadsAlike, PutsAtDefiner, PutsMade};
 
 use ir_context::{OperationLists, ResultCalls, TypeTable, TypedProgram, UseCalls};

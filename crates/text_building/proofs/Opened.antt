@@ -1,6 +1,7 @@
 -- A block that is made in a program is opened in what is seen of it.
-use Rattle.std.proofs.Common.{◌≡◌, List, [], IsSome, option_map, unwrap_or, slice_get, length, sym, ap, ◌∙◌}
+use Rattle.std.proofs.Common.{◌≡◌, List, [], Some, IsSome, option_map, unwrap_or, slice_get, length, sym, ap, ◌∙◌}
 use Rattle.ir_base.specs.declared.types.TypeHandle.{TypeHandle}
+use Rattle.ir_program.specs.Adds.{numbered_values}
 use Rattle.ir_program.specs.Edits.{IsRestored}
 use Rattle.ir_program.specs.Lists.{IsUnlinkedOperation, IsUnlinkedBlock}
 use Rattle.ir_program.specs.Made.{BuildsBlock}
@@ -8,6 +9,7 @@ use Rattle.ir_program.specs.Program.{RegionView, operation_at, block_at, region_
 use Rattle.ir_program.specs.declared.handles.Ptr.{Ptr}
 use Rattle.ir_program.specs.declared.handles.Operation.{Operation}
 use Rattle.ir_program.specs.declared.handles.BasicBlock.{BasicBlock}
+use Rattle.ir_program.specs.declared.handles.DefiningEntity.TheVariants.{Block as ByBlock}
 use Rattle.ir_types.specs.Views.{TypesView}
 use Rattle.ir_context.specs.Views.{ContextView}
 use Rattle.ir_context.specs.declared.notes.OperationData.{OperationData}
@@ -76,10 +78,18 @@ module _ {D TypeKind AttrKind TypeBody Saved Location OpKind Attr TypeKey : Type
   }
 
   pub opened : (b : Ptr BasicBlock) (notes : BlockNotes D TypeKind AttrKind TypeBody Saved Location OpKind Attr TypeKey) (tys : List TypeHandle)
-      → BuildsBlock c.program d.program b notes tys → OpensBlock (seen c) (seen d) b notes.label tys c.program.counter
-  opened b notes tys h = record {
+      → BuildsBlock c.program d.program b notes tys → notes.attributes ≡ []
+      → OpensBlock (seen c) (seen d) b notes.label tys c.program.counter
+  opened b notes tys h none = record {
     fresh = ap (option_map seen_block) h.fresh;
-    made = ap (option_map seen_block) h.made;
+    made = ap (option_map seen_block) h.made ∙ ap
+        (λ n. Some (record {
+          label = notes.label;
+          attributes = n;
+          arguments = numbered_values (ByBlock b) c.program.counter tys;
+          operations = [];
+        }))
+        (ap length none);
     loose = loose_block d b (there (block_at d.program b) _ h.made) h.unlinked;
     others = λ q ne. ap (option_map seen_block) (h.others q ne);
     operations = λ p. ap (option_map seen_operation) (h.operations p);

@@ -20,12 +20,17 @@ abbrev pub lists_of : {X : Type 0} → List (Vec X Global) → List (List X)
 lists_of xss = map (λ xs. xs.items) xss
 
 module _ {K A T : Type 0} (old new : Seen K A T) where
-  -- b, under which there was nothing, is a block in no region with this label, arguments of these types that are
-  -- numbered from n on, and no operation; all else is as it was
+  -- b, under which there was nothing, is a block in no region with this label, no attributes, arguments of these types
+  -- that are numbered from n on, and no operation; all else is as it was
   pub record OpensBlock (b : Ptr BasicBlock) (label : Option Identifier) (tys : List TypeHandle) (n : ℕ) : Type 0 where
     pub fresh : old.block b ≡ None
     pub made : new.block b
-        ≡ Some (record { label = label; arguments = numbered_values (ByBlock b) n tys; operations = [] })
+        ≡ Some (record {
+          label = label;
+          attributes = 0;
+          arguments = numbered_values (ByBlock b) n tys;
+          operations = [];
+        })
     pub loose : IsLooseBlock new b
     pub others : (q : Ptr BasicBlock) → q ≢ b → new.block q ≡ old.block q
     pub operations : (p : Ptr Operation) → new.operation p ≡ old.operation p

@@ -16,7 +16,7 @@ use ir_program::{BasicBlock, Operation, Ptr};
 use ir_types::DialectTables;
 use std::alloc::Global;
 
-/// Makes a block in no region, with this label, arguments of these types, and no operation.
+/// Makes a block in no region, with this label, arguments of these types, no attributes, and no operation.
 ///
 /// # Errors
 /// `Memory`, and `CounterFull` where there are not so many numbers left for values, or where the vacant slot that

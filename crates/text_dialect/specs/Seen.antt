@@ -1,6 +1,6 @@
 -- What texts need of a context: what each handle leads to, and the keys of types. Kinds, attributes and types are those of
--- any dialect; locations and the attributes of blocks have no text.
-use Rattle.std.specs.Prelude.{ℕ, List, Option, option_map, map}
+-- any dialect; locations have no text, and of the attributes of a block only their number matters, since a text shows none.
+use Rattle.std.specs.Prelude.{ℕ, List, Option, option_map, map, length}
 use Rattle.ir_base.specs.declared.types.TypeHandle.{TypeHandle}
 use Rattle.ir_names.specs.declared.identifier.Identifier.{Identifier}
 use Rattle.ir_types.specs.Views.{TypesView}
@@ -24,9 +24,10 @@ pub record SeenOperation (K A : Type 0) : Type 0 where
   pub successors : List (Ptr BasicBlock)
   pub regions : List (Ptr Region)
 
--- a block: its label, its arguments with their types, and its operations in order
+-- a block: its label, how many attributes it has, its arguments with their types, and its operations in order
 pub record SeenBlock : Type 0 where
   pub label : Option Identifier
+  pub attributes : ℕ
   pub arguments : List TypedValue
   pub operations : List (Ptr Operation)
 
@@ -56,7 +57,12 @@ module _ {D TypeKind AttrKind TypeBody Saved Location OpKind Attr TypeKey : Type
   }
 
   abbrev pub seen_block : BlockView (BlockNotes D TypeKind AttrKind TypeBody Saved Location OpKind Attr TypeKey) → SeenBlock
-  seen_block b = record { label = b.payload.label; arguments = b.arguments; operations = b.operations }
+  seen_block b = record {
+    label = b.payload.label;
+    attributes = length b.payload.attributes;
+    arguments = b.arguments;
+    operations = b.operations;
+  }
 
   -- what texts need of a context
   abbrev pub seen : ContextView (OperationData D TypeKind AttrKind TypeBody Saved Location OpKind Attr TypeKey)

@@ -82,10 +82,11 @@ abbrev mutual
       HasTree says Named Labels s p t × HaveTrees says Named Labels s ps ts
   HaveTrees says Named Labels s _ _ = ⊥
 
--- a block has its own label
-abbrev pub HasOwnLabel : Ptr BasicBlock → SeenBlock → List ℕ → Type 0
-HasOwnLabel b v label = IsLabel v.label label
+-- a block has its own label, and no attributes, since a text of a block shows none
+pub record HasOwnLabel (b : Ptr BasicBlock) (v : SeenBlock) (label : List ℕ) : Type 0 where
+  pub labelled : IsLabel v.label label
+  pub no_attributes : v.attributes ≡ 0
 
--- an operation stands for a tree of texts, in which blocks have their own labels
+-- an operation stands for a tree of texts, in which blocks have their own labels and no attributes
 abbrev pub StandsForTexts : {K A T N : Type 0} → Saying K A T → (Value → N → Type 0) → Seen K A T → Ptr Operation → Entity N → Type 0
 StandsForTexts says Named s p t = HasTree says Named HasOwnLabel s p t

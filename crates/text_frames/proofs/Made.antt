@@ -86,9 +86,9 @@ module _ {K A T : Type 0} (says : Saying K A T) (w : World K A T) where
       → Pairs (ShowsType says w.ctx.types) tys ts
       → IsOpenBlock says w b label (typed names ts) no_entity
   block_opened s b id label tys n names ts h spelt named shown = record {
-    view = record { label = Some id; arguments = numbered_values (ByBlock b) n tys; operations = [] };
+    view = record { label = Some id; attributes = 0; arguments = numbered_values (ByBlock b) n tys; operations = [] };
     at = h.made;
-    labelled = spelt;
+    labelled = record { labelled = spelt; no_attributes = refl };
     defines = λ e r. definitions_named w e r says (ByBlock b) n tys names ts named shown;
     holds = λ e r. tt;
   }
@@ -112,7 +112,7 @@ module _ {K A T : Type 0} (says : Saying K A T) (w v : World K A T) (l : LaterWo
     view = record h.view { operations = h.view.operations ++ p ∷ [] };
     at = appends.appended ∙ ap (option_map (λ (x : SeenBlock). record x { operations = x.operations ++ p ∷ [] }))
         (same ∙ h.at);
-    labelled = h.labelled;
+    labelled = record { labelled = h.labelled.labelled; no_attributes = h.labelled.no_attributes };
     defines = λ e r. h.defines e (reaches_before w v e l r);
     holds = λ e r. one_tree_more says (Means e) HasOwnLabel e.ctx h.view.operations ts p t
         (h.holds e (reaches_before w v e l r)) (made e r);

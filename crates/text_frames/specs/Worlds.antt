@@ -9,7 +9,7 @@ use Rattle.ir_program.specs.declared.handles.Value.{Value}
 use Rattle.ir_print.specs.Pieces.{ValueTree, a_region, Entity, entity, Entities, no_entity, an_entity}
 use Rattle.ir_print.specs.Shown.{Saying, Pairs}
 use Rattle.text_dialect.specs.Seen.{SeenOperation, SeenBlock, Seen}
-use Rattle.text_dialect.specs.Standing.{IsLabel, HasDefinition, HasTree, HasBlockTree, HaveTrees, HasOwnLabel}
+use Rattle.text_dialect.specs.Standing.{HasDefinition, HasTree, HasBlockTree, HaveTrees, HasOwnLabel}
 use Rattle.text_building.specs.Later.{IsLater}
 use Rattle.text_frames.specs.declared.assembly.Pending.{Pending}
 
@@ -104,11 +104,11 @@ module _ {K A T : Type 0} (says : Saying K A T) (w : World K A T) where
   AreReadyRegions (bs ∷ rs) (an_entity (entity a_region us) ts) = AreReady bs.items us × AreReadyRegions rs ts
   AreReadyRegions _ _ = ⊥
 
-  -- a block that is being read: its label and its arguments, and its operations so far
+  -- a block that is being read: its label, its arguments, and its operations so far; it has no attributes
   pub record IsOpenBlock (p : Ptr BasicBlock) (label : List ℕ) (arguments : List (ℕ × ValueTree))
       (operations : Entities ℕ) : Type 0 where
     pub view : SeenBlock
     pub at : w.ctx.block p ≡ Some view
-    pub labelled : IsLabel view.label label
+    pub labelled : HasOwnLabel p view label
     pub defines : Surely w (λ e. Pairs (HasDefinition says (Means e) e.ctx.types) view.arguments arguments)
     pub holds : Surely w (λ e. HaveTrees says (Means e) HasOwnLabel e.ctx view.operations operations)

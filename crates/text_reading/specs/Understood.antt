@@ -16,8 +16,9 @@ use Rattle.text_dialect.specs.Standing.{StandsForTexts}
 use Rattle.text_frames.specs.Raised.{HoldsAllNew}
 use Rattle.text_rereading.specs.Rereading.{Named}
 
--- The operation has a tree that the text says. Its definitions are values with numbers of their own, all below the counter,
--- which stood at the first number and has moved on, to the second, by the number of the definitions.
+-- The operation has a tree that the text says, and its blocks have the labels of the tree and no attributes. Its definitions
+-- are values with numbers of their own, all below the counter, which stood at the first number and has moved on, to the second,
+-- by the number of the definitions.
 pub record IsSaid {K A T : Type 0} (says : Saying K A T) (l : Language) (cs : List ℕ) (s : Seen K A T) (first next : ℕ)
     (root : Ptr Operation) : Type 0 where
   pub tree : Entity ℕ

@@ -12,7 +12,7 @@ use Rattle.ir_program.specs.declared.handles.Operation.{Operation}
 use Rattle.ir_program.specs.declared.handles.Region.{Region}
 use Rattle.ir_program.specs.declared.handles.BasicBlock.{BasicBlock}
 use Rattle.ir_program.specs.declared.handles.Value.{Value}
-use Rattle.ir_rereading.proofs.StoodTrees.{shown_fits, all_fit}
+use Rattle.ir_rereading.proofs.SaidFits.{shown_fits, all_fit}
 use Rattle.ir_rereading.proofs.trees.TreeAlike.{pairs_length}
 use Rattle.text_dialect.specs.Seen.{SeenBlock, Seen, types_of}
 use Rattle.text_dialect.specs.Standing.{HasDefinition, HasTree, HasRegionTree, HasBlockTree, HaveRegionTrees, HaveBlockTrees, HaveTrees}

@@ -1,8 +1,19 @@
-use Rattle.std.proofs.Common.{sym, ◌∙◌}
+use Rattle.std.proofs.Common.{ℕ, sym, ap, ◌∙◌}
+use Rattle.ir_forest.specs.Closed.{unlabelled}
+use Rattle.ir_print.specs.Pieces.{Entity}
+use Rattle.kit_texts.specs.Says.{says}
+use Rattle.text_dialect.specs.Seen.{seen}
+use Rattle.text_rereading.specs.Rereading.{Named}
 use Rattle.kit_text_programs.proofs.SaidModules.{said_so}
+use Rattle.kit_text_programs.proofs.SaidPrograms.{program_said, regions_below}
+use Rattle.kit_text_programs.proofs.Unlabelled.{unlabelled_tree}
 use Rattle.kit_text_programs.proofs.texts_have_one_program.Goals as goal
 
 pub returns : goal.returns
-returns c = λ text numbered s z root other values others t u p q closed own owns stands standing tree trees is was.
-    said_so s values own numbered root text t p stands tree is
-    ∙ sym (said_so z others owns numbered other text u q standing trees was)
+returns c = λ text other_text numbered s z root other values others t u p q same own owns stands standing tree trees is
+    was.
+    said_so s values own numbered root (unlabelled text) t p
+    (unlabelled_tree says (Named values) (seen s) text root stands) tree is
+    ∙ ap (λ (module_text : Entity ℕ). program_said numbered (regions_below module_text)) same
+    ∙ sym (said_so z others owns numbered other (unlabelled other_text) u q
+    (unlabelled_tree says (Named others) (seen z) other_text other standing) trees was)

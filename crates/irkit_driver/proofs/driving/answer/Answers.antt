@@ -1,14 +1,11 @@
-use Rattle.std.proofs.Common.{refl, rules}
+use Rattle.std.proofs.Common.{refl}
 use Rattle.clap.specs.Words.{subcommand_rows_of}
-use Rattle.irkit_driver.specs.Works.Drives.{unserved, serves}
+use Rattle.irkit_driver.specs.Works.Drives.{serves}
 use Rattle.irkit_driver.proofs.MistakeLemmas.{asked_nothing}
 use Rattle.irkit_driver.proofs.driving.answer.Goals as goal
 
-pub returns-then-is_served : goal.returns-then-is_served
-returns-then-is_served g c = serves c.in-Ok.request c.in-Ok.ensures c.serve.ensures
-
-pub returns-else-is_served : goal.returns-else-is_served
-returns-else-is_served g c = unserved c.in-Ok.request c.in-Ok.ensures (search rules) refl (refl, refl)
+pub returns-in-Ok : goal.returns-in-Ok
+returns-in-Ok g c = serves c.in-Ok.request c.in-Ok.ensures c.serve.ensures
 
 pub returns-in-Err : goal.returns-in-Err
 returns-in-Err g c =

@@ -1,5 +1,5 @@
 use Rattle.std.proofs.Common.{List, subst}
-use Rattle.irkit_words.specs.declared.request.KitPass.{KitPass}
+use Rattle.kit_optimiser.specs.declared.pass.KitPass.{KitPass}
 use Rattle.irkit_driver.specs.Outcomes.{EndsRun}
 use Rattle.irkit_driver.proofs.driving.serve.Goals as goal
 

@@ -1,5 +1,3 @@
-use Rattle.std.proofs.Common.{ap}
-use Rattle.kit_dialect.specs.Shapes.{KitContext}
 use Rattle.irkit_driver.proofs.EndLemmas.{unloaded}
 use Rattle.irkit_driver.proofs.ExecutionLemmas.{gave, not_ran, not_loaded}
 use Rattle.irkit_driver.proofs.executing.outcome_of.Goals as goal
@@ -7,7 +5,14 @@ use Rattle.irkit_driver.proofs.executing.outcome_of.Goals as goal
 pub returns-in_err-root : goal.returns-in_err-root
 returns-in_err-root g c =
     not_loaded g.R.Read.remaining c.args.reader.now c.load.new.reader c.args.path.now c.args.arguments.now c.args.limit c.in_err-root.field-0.0 c.from_residual.result c.from_residual.ensures.1
-    (unloaded g.R.Read.remaining c.args.reader.now c.load.new.reader c.new-ctx.result c.load.new.ctx c.load.result c.in_err-root.field-0.0 c.in_err-root.was c.load.ensures.ends (ap (λ (s : KitContext). s.counter) c.new-ctx.ensures))
+    (unloaded g.R.Read.remaining c.args.reader.now c.load.new.reader c.new-ctx.result c.load.new.ctx c.load.result c.in_err-root.field-0.0 c.in_err-root.was c.load.ensures.ends
+    c.new-ctx.ensures.room c.new-ctx.ensures.counter)
+
+pub outcome_in-requires-clause-live : goal.outcome_in-requires-clause-live
+outcome_in-requires-clause-live g c = c.in_ok-root.ensures.ends.2.holds.live
+
+pub outcome_in-requires-clause-obeys : goal.outcome_in-requires-clause-obeys
+outcome_in-requires-clause-obeys g c = c.in_ok-root.ensures.ends.2.holds.rules
 
 pub returns-in_err-outcome : goal.returns-in_err-outcome
 returns-in_err-outcome g c =

@@ -1,4 +1,4 @@
-use Rattle.irkit_driver.proofs.EndLemmas.{unread, loaded}
+use Rattle.irkit_driver.proofs.ReadLemmas.{unread, loaded}
 use Rattle.irkit_driver.proofs.loading.load.Goals as goal
 
 pub returns-in_err-bytes-clause-ends : goal.returns-in_err-bytes-clause-ends
@@ -9,3 +9,9 @@ pub returns-clause-ends : goal.returns-clause-ends
 returns-clause-ends g c =
     loaded g.R.Read.remaining c.args.reader.now c.read_to_end.new.reader c.in_ok-bytes.bytes.items c.args.ctx.now c.understand.new.ctx c.understand.result
     c.in_ok-bytes.ensures (rw c.as_slice.ensures.value at c.understand.ensures.understands)
+
+pub returns-clause-writable : goal.returns-clause-writable
+returns-clause-writable g c = c.understand.ensures.writable
+
+pub returns-clause-grammar : goal.returns-clause-grammar
+returns-clause-grammar g c = c.understand.ensures.grammar

@@ -1,7 +1,11 @@
-use Rattle.std.proofs.Common.{◌∙◌, Err, ap, sym, subst}
-use Rattle.ir_store.specs.Marks.{KeepsBelow}
-use Rattle.kit_dialect.specs.Walks.{IsAnswer}
-use Rattle.irkit_driver.proofs.EndLemmas.{undecoded, misread, misruled, accepted}
+use Rattle.std.proofs.Common.{Err, ap, refl, subst, ◌∙◌, ◌∷◌, []}
+use Rattle.ir_program.specs.declared.handles.IRNode.TheVariants.{Operation as OperationNode}
+use Rattle.kit_checks.specs.Faults.{IsVerdict}
+use Rattle.kit_checks.specs.World.{world_of}
+use Rattle.kit_language.specs.Language.{kit_language}
+use Rattle.text_building.proofs.Discarded.{used_since}
+use Rattle.text_dialect.specs.Seen.{seen}
+use Rattle.irkit_driver.proofs.ReadLemmas.{undecoded, misread, misruled, accepted, said, root_there, seen_there}
 use Rattle.irkit_driver.proofs.loading.understand.Goals as goal
 
 pub returns-in_err-chars-clause-understands : goal.returns-in_err-chars-clause-understands
@@ -12,15 +16,56 @@ returns-in_err-root-clause-understands c =
     misread c.args.bytes.now c.as_slice.result.now c.args.ctx.now c.top_level_parse.new.ctx c.top_level_parse.result c.in_err-root.field-0.0 c.from_residual-in_err-root.result
     c.in_err-root.was c.from_residual-in_err-root.ensures.1 c.in_ok-chars.ensures.0 (c.as_slice.ensures.value ∙ c.in_ok-chars.ensures.1) c.top_level_parse.ensures.fault c.top_level_parse.ensures.full c.top_level_parse.ensures.refused
 
+pub know_holding-requires : goal.know_holding-requires
+know_holding-requires c =
+    let new = c.in_ok-root.ensures.read.new in
+    seen_there c.top_level_parse.new.ctx c.in_ok-root.root (root_there (seen c.args.ctx.now) (seen c.top_level_parse.new.ctx) c.in_ok-root.root new)
+
+pub verify_module-requires : goal.verify_module-requires
+verify_module-requires c =
+    let new = c.in_ok-root.ensures.read.new in
+    seen_there c.top_level_parse.new.ctx c.in_ok-root.root (root_there (seen c.args.ctx.now) (seen c.top_level_parse.new.ctx) c.in_ok-root.root new)
+
+pub discard-requires-clause-loose : goal.discard-requires-clause-loose
+discard-requires-clause-loose c = c.in_ok-root.ensures.read.new.loose
+
+pub discard-requires-clause-used : goal.discard-requires-clause-used
+discard-requires-clause-used c =
+    used_since (seen c.args.ctx.now) (seen c.top_level_parse.new.ctx) (OperationNode c.in_ok-root.root ∷ []) c.in_ok-root.ensures.read.new.came
+
 pub returns-in-Err-clause-understands : goal.returns-in-Err-clause-understands
 returns-in-Err-clause-understands c =
-    misruled c.args.bytes.now c.as_slice.result.now c.args.ctx.now c.rewind.new.self c.top_level_parse.new.ctx c.in_ok-root.root c.in-Err.fault (Err c.from.result)
-    (ap Err c.from.ensures) c.in_ok-chars.ensures.0 (c.as_slice.ensures.value ∙ c.in_ok-chars.ensures.1) c.in_ok-root.ensures.says c.in-Err.ensures
-    (c.rewind.ensures.restores c.args.ctx.now c.mark-mark.ensures.mark
-    (subst (λ m. KeepsBelow m c.args.ctx.now c.top_level_parse.new.ctx) (sym c.mark-mark.ensures.mark) c.in_ok-root.ensures.kept))
+    let read = c.in_ok-root.ensures.read in
+    let s = c.top_level_parse.new.ctx in
+    let root = c.in_ok-root.root in
+    let holds = c.know_holding.ensures read.tells.tree read.tells.values read.tells.distinct read.tells.stands in
+    let is = said c.args.bytes.now c.as_slice.result.now c.args.ctx.now s root c.in_ok-chars.ensures.0
+    (c.as_slice.ensures.value ∙ c.in_ok-chars.ensures.1) read holds in
+    misruled c.args.bytes.now c.args.ctx.now c.discard.new.ctx s root c.in-Err.fault (Err c.from.result) (ap (λ x. Err x) c.from.ensures) is
+    (λ t stands. subst (IsVerdict (world_of s) t) c.in-Err.is (c.verify_module.ensures t stands))
+    (c.discard.ensures.undone (seen c.args.ctx.now) read.new.came)
 
 pub returns-clause-understands : goal.returns-clause-understands
 returns-clause-understands c =
-    accepted c.args.bytes.now c.as_slice.result.now c.args.ctx.now c.top_level_parse.new.ctx c.in_ok-root.root c.in_default.field-0
-    c.in_ok-chars.ensures.0 (c.as_slice.ensures.value ∙ c.in_ok-chars.ensures.1) c.in_ok-root.ensures.says
-    (λ values distinct tree stands. subst (IsAnswer tree) c.in_default.is (c.rules.ensures values distinct tree stands)) c.in_ok-root.ensures.apart c.in_ok-root.ensures.kept
+    let read = c.in_ok-root.ensures.read in
+    let s = c.top_level_parse.new.ctx in
+    let root = c.in_ok-root.root in
+    let holds = c.know_holding.ensures read.tells.tree read.tells.values read.tells.distinct read.tells.stands in
+    accepted c.args.bytes.now c.as_slice.result.now c.args.ctx.now s root c.in_ok-chars.ensures.0
+    (c.as_slice.ensures.value ∙ c.in_ok-chars.ensures.1) read holds
+    (λ t stands. subst (IsVerdict (world_of s) t) c.in_default.is (c.verify_module.ensures t stands))
+    (c.know_read_module.ensures.entered (seen c.args.ctx.now) read.new)
+    (c.know_read_module.ensures.contained (seen c.args.ctx.now) read.new)
+
+pub returns-clause-writable : goal.returns-clause-writable
+returns-clause-writable c = λ t stands.
+    let read = c.in_ok-root.ensures.read in
+    let s = c.top_level_parse.new.ctx in
+    let closed = c.trees_of_texts_are_closed.ensures kit_language c.kit_can_print.ensures refl refl read.tells.values (seen s) c.in_ok-root.root
+    c.as_slice.result.now read.tells.tree read.tells.said read.tells.stands in
+    c.texts_are_writable.ensures s c.in_ok-root.root read.tells.values read.tells.tree t read.tells.stands closed.0 stands
+
+pub returns-clause-grammar : goal.returns-clause-grammar
+returns-clause-grammar c =
+    let reading = c.in_ok-root.ensures.read.tells.said.8.reads in
+    (reading.0, reading.1)

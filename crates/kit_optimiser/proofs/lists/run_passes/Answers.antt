@@ -1,10 +1,12 @@
-use Rattle.std.proofs.Common.{◌≡◌, List, map, take, length, get_or, sym, ap, ◌∙◌, subst, arith}
+use Rattle.std.proofs.Common.{◌≡◌, ◌+◌, List, Err, map, take, drop, length, get_or, sym, ap, ◌∙◌, subst, arith}
 use Rattle.std.proofs.Math.Seq.{take-length}
 use Rattle.std.proofs.lemmas.Option.{slice_get-get_or}
+use Rattle.std.proofs.lemmas.Result.{err_from_is_err_and}
+use Rattle.ir_base.specs.declared.growth.GrowError.TheVariants.{CounterFull}
 use Rattle.kit_behaviour.specs.PassLists.{Pass}
 use Rattle.kit_optimiser.specs.declared.pass.KitPass.TheVariants.{Sccp}
 use Rattle.kit_optimiser.specs.Passed.{IsOptimised, pass_of}
-use Rattle.kit_optimiser.proofs.PassLists.{begins, mapped_more}
+use Rattle.kit_optimiser.proofs.PassLists.{begins, mapped_more, mapped_parts}
 use Rattle.kit_optimiser.proofs.lists.run_passes.Goals as goal
 
 pub loop-pass-init : goal.loop-pass-init
@@ -20,11 +22,28 @@ loop-pass-preserved c =
     let there = slice_get-get_or ps i Sccp c.loop-pass-test.true in
     subst (λ (xs : List Pass). IsOptimised xs c.args.ctx.now c.run_next_pass.new.ctx c.args.root)
     (sym (mapped_more ps i (get_or ps i Sccp) there))
-    (c.in_ok-run_next_pass.ensures c.args.ctx.now (map pass_of (take i ps)) c.loop-pass.invariant)
+    (c.in_ok-run_next_pass.ensures.goes_on c.args.ctx.now (map pass_of (take i ps)) c.loop-pass.invariant)
 
-pub returns : goal.returns
-returns c =
+pub returns-clause-optimised : goal.returns-clause-optimised
+returns-clause-optimised c =
     let ps = c.args.passes.now in
     let all : c.loop-pass.pass-index ≡ length ps = omega arith in
     subst (λ (xs : List Pass). IsOptimised xs c.args.ctx.now c.loop-pass.ctx c.args.root)
     (ap (λ n. map pass_of (take n ps)) all ∙ ap (λ l. map pass_of l) (take-length ps)) c.loop-pass.invariant
+
+pub returns-in_err-run_next_pass-clause-full : goal.returns-in_err-run_next_pass-clause-full
+returns-in_err-run_next_pass-clause-full c = λ e.
+    let i = c.loop-pass.pass-index in
+    let ps = c.args.passes.now in
+    let p = err_from_is_err_and c.from_residual.result c.from_residual.ensures.1 in
+    let same : Err p.0 ≡ Err CounterFull = sym p.1 ∙ e in
+    let inner : p.0 ≡ CounterFull = cc in
+    record {
+      done = map pass_of (take i ps);
+      next = pass_of (get_or ps i Sccp);
+      rest = map pass_of (drop (i + 1) ps);
+      parts = mapped_parts ps i Sccp c.loop-pass-test.true;
+      reached = c.loop-pass.ctx;
+      optimised = c.loop-pass.invariant;
+      full = c.in_err-run_next_pass.ensures.full (ap (λ x. Err x) (sym p.2 ∙ inner));
+    }

@@ -1,9 +1,10 @@
-use Rattle.std.proofs.Common.{Err, ap, ◌∙◌, subst}
+use Rattle.std.proofs.Common.{◌≡◌, Err, ap, ◌∙◌, subst}
+use Rattle.ir_base.specs.declared.growth.GrowError.TheVariants.{CounterFull}
 use Rattle.ir_program.specs.Program.{Program}
 use Rattle.ir_trees.specs.Stands.{StandsFor}
 use Rattle.kit.specs.Meaning.{KitOperation, KitBlock}
 use Rattle.kit_ruled_views.specs.Ruled.{KitTree}
-use Rattle.kit_optimiser.proofs.Refusals.{only_short}
+use Rattle.kit_optimiser.proofs.Refusals.{only_short, full_of}
 use Rattle.kit_optimiser.proofs.WhatPassesLeave.{IsLeft, live, propagated}
 use Rattle.kit_optimiser.proofs.passes.propagate_constants.Goals as goal
 
@@ -29,8 +30,8 @@ shortage_of-requires c =
     (λ is. let l = c.sccp.ensures.lacking (c.in-Err.is ∙ ap (λ x. Err x) is) t.0 t.1 in
     c.know_determined.ensures t.0 t.1 l.facts l.best l.lacks)
 
-pub returns-in-Ok : goal.returns-in-Ok
-returns-in-Ok c =
+pub returns-in-Ok-clause-passed : goal.returns-in-Ok-clause-passed
+returns-in-Ok-clause-passed c =
     let old = c.args.ctx.now in
     let new = c.sccp.new.ctx in
     let root = c.args.root in
@@ -47,3 +48,9 @@ returns-in-Ok c =
     } in
     propagated old new root c.requires known c.sccp_keeps_rules.ensures c.sccp_stays_writable.ensures
     (c.know_propagated.ensures new.program c.in-Ok.field-0 c.in-Ok.ensures.propagates)
+
+pub returns-in-Err-clause-full : goal.returns-in-Err-clause-full
+returns-in-Err-clause-full c = λ is.
+    let grown : c.shortage_of.result ≡ CounterFull = cc in
+    c.sccp.ensures.full
+    (c.in-Err.is ∙ ap (λ x. Err x) (full_of c.in-Err.error c.shortage_of.result c.shortage_of.ensures grown))

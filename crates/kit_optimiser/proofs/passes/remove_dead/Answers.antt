@@ -4,6 +4,7 @@ use Rattle.ir_trees.specs.Stands.{StandsFor}
 use Rattle.opt_inside.specs.Occurring.{OfItsTree, DefinesAllBelow}
 use Rattle.kit.specs.Meaning.{KitOperation, KitBlock}
 use Rattle.kit_ruled_views.specs.Ruled.{KitTree}
+use Rattle.kit_optimiser.proofs.Refusals.{memory_of}
 use Rattle.kit_optimiser.proofs.WhatPassesLeave.{IsLeft, live, removed}
 use Rattle.kit_optimiser.proofs.passes.remove_dead.Goals as goal
 
@@ -21,8 +22,8 @@ know_handles_and_types-requires-in-Ok c =
 pub shortage_of-requires : goal.shortage_of-requires
 shortage_of-requires c = inl c.in-Err.ensures.error
 
-pub returns-in-Ok : goal.returns-in-Ok
-returns-in-Ok c =
+pub returns-in-Ok-clause-passed : goal.returns-in-Ok-clause-passed
+returns-in-Ok-clause-passed c =
     let old = c.args.ctx.now in
     let new = c.dce.new.ctx in
     let root = c.args.root in
@@ -42,3 +43,7 @@ returns-in-Ok c =
     removed old new root c.requires known c.dce_keeps_rules.ensures c.dce_stays_writable.ensures
     (λ t stands. c.removed_stand_alone.ensures old.program new.program root c.in-Ok.field-0 t
     (λ v has taken. c.requires.contained v ((defined t stands v).0 has) taken) (c.in-Ok.ensures.made t stands))
+
+pub returns-in-Err-clause-memory : goal.returns-in-Err-clause-memory
+returns-in-Err-clause-memory c =
+    memory_of c.in-Err.error c.shortage_of.result c.shortage_of.ensures c.in-Err.ensures.error

@@ -1,9 +1,10 @@
-use Rattle.std.proofs.Common.{subst}
+use Rattle.std.proofs.Common.{◌≡◌, Err, ap, ◌∙◌, subst}
+use Rattle.ir_base.specs.declared.growth.GrowError.TheVariants.{CounterFull}
 use Rattle.ir_program.specs.Program.{Program}
 use Rattle.ir_trees.specs.Stands.{StandsFor}
 use Rattle.kit.specs.Meaning.{KitOperation, KitBlock}
 use Rattle.kit_ruled_views.specs.Ruled.{KitTree}
-use Rattle.kit_optimiser.proofs.Refusals.{stops_short}
+use Rattle.kit_optimiser.proofs.Refusals.{stops_short, full_of}
 use Rattle.kit_optimiser.proofs.WhatPassesLeave.{IsLeft, live, simplified}
 use Rattle.kit_optimiser.proofs.passes.simplify_control_flow.Goals as goal
 
@@ -25,8 +26,8 @@ shortage_of-requires c =
     stops_short old.program new.program c.args.root c.in-Err.error c.in-Err.ensures.error
     (c.know_no_live_use.ensures new.program)
 
-pub returns-in-Ok : goal.returns-in-Ok
-returns-in-Ok c =
+pub returns-in-Ok-clause-passed : goal.returns-in-Ok-clause-passed
+returns-in-Ok-clause-passed c =
     let old = c.args.ctx.now in
     let new = c.simplify_cfg.new.ctx in
     let root = c.args.root in
@@ -44,3 +45,9 @@ returns-in-Ok c =
     c.know_definers.ensures
     (λ t stands. c.simplified_stand_alone.ensures old.program new.program root t
     (λ w says. c.know_surroundings.ensures.constants w says t stands) (c.in-Ok.ensures.tree t stands))
+
+pub returns-in-Err-clause-full : goal.returns-in-Err-clause-full
+returns-in-Err-clause-full c = λ is.
+    let grown : c.shortage_of.result ≡ CounterFull = cc in
+    c.simplify_cfg.ensures.full
+    (c.in-Err.is ∙ ap (λ x. Err x) (full_of c.in-Err.error c.shortage_of.result c.shortage_of.ensures grown))

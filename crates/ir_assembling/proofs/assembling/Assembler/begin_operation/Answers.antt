@@ -1,8 +1,0 @@
-use Rattle.std.proofs.Common.{refl}
-use Rattle.std.proofs.lemmas.Result.{on_ok_weaker}
-use Rattle.ir_assembling.proofs.assembling.Assembler.begin_operation.Goals as goal
-
-pub returns-clause-begun : goal.returns-clause-begun
-returns-clause-begun g c = on_ok_weaker c.begin.result
-    (λ h. (record { kind = c.args.kind; operands = c.new.result; regions = c.new-2.result }, h, refl, c.new.ensures.items, c.new-2.ensures.items))
-    c.begin.ensures.begun

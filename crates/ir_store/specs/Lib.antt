@@ -1,5 +1,0 @@
-pub mod Pointer
-pub mod Views
-pub mod Context
-pub mod Marks
-pub mod Rewriting

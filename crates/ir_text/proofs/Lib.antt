@@ -1,2 +1,0 @@
-pub mod TextFaults
-pub mod Understood

@@ -1,0 +1,12 @@
+//! Modules of `kit` read from texts into a context by its calls, for tests, and written again without their names.
+#![tactic(auto)]
+
+mod placing;
+mod reading;
+mod unread;
+mod words;
+mod writing;
+
+pub use reading::{ReadModule, read};
+pub use unread::Unread;
+pub use writing::written;

@@ -1,0 +1,167 @@
+//! Writing a module without its names: values and blocks by their order.
+use crate::words::word_of;
+use indexmap::IndexSet;
+use ir_context::{Context, OperationCalls};
+use ir_program::{BasicBlock, IRNode, Operation, Ptr, Value};
+use kit::Kit;
+use kit_ops::{KitAttr, keys};
+use std::alloc::{AllocError, Global};
+use std::fmt::{Display, Write};
+
+/// The values and blocks of a module, in their order.
+#[derive(Drop)]
+struct Order {
+    values: IndexSet<Value>,
+    blocks: IndexSet<Ptr<BasicBlock>>,
+}
+
+impl Order {
+    /// Notes the block and its arguments, or the results of the operation.
+    fn note(&mut self, ctx: &Context<Kit>, node: IRNode) -> Result<(), AllocError> {
+        let program = ctx.program();
+        match node {
+            IRNode::Operation(op) if program.has_operation(op) => {
+                for i in 0..program.result_count(op) {
+                    self.values.insert(program.result(op, i))?;
+                }
+            }
+            IRNode::BasicBlock(block) if program.has_block(block) => {
+                self.blocks.insert(block)?;
+                for i in 0..program.argument_count(block) {
+                    self.values.insert(program.argument(block, i))?;
+                }
+            }
+            _ => {}
+        }
+        Ok(())
+    }
+
+    /// Writes a value by its number.
+    fn value(&self, text: &mut String, value: Value) -> Result<(), AllocError> {
+        match self.values.get_index_of(&value) {
+            Some(number) => write_number(text, " v", number),
+            None => text.push_str(" ?"),
+        }
+    }
+
+    /// Writes a block by its number.
+    fn block(&self, text: &mut String, block: Ptr<BasicBlock>) -> Result<(), AllocError> {
+        match self.blocks.get_index_of(&block) {
+            Some(number) => write_number(text, " ^b", number),
+            None => text.push_str(" ^?"),
+        }
+    }
+
+    /// Writes a block with its arguments.
+    fn header(
+        &self,
+        text: &mut String,
+        ctx: &Context<Kit>,
+        block: Ptr<BasicBlock>,
+    ) -> Result<(), AllocError> {
+        let program = ctx.program();
+        if !program.has_block(block) {
+            return Ok(());
+        }
+        self.block(text, block)?;
+        for i in 0..program.argument_count(block) {
+            self.value(text, program.argument(block, i))?;
+        }
+        Ok(())
+    }
+
+    /// Writes what an operation takes, where it goes on to and what it gives.
+    fn links(
+        &self,
+        text: &mut String,
+        ctx: &Context<Kit>,
+        op: Ptr<Operation>,
+    ) -> Result<(), AllocError> {
+        let program = ctx.program();
+        if !program.has_operation(op) {
+            return Ok(());
+        }
+        for i in 0..program.operand_count(op) {
+            self.value(text, program.operand(op, i))?;
+        }
+        for i in 0..program.successor_count(op) {
+            self.block(text, program.successor(op, i))?;
+        }
+        for i in 0..program.result_count(op) {
+            text.push_str(" ->")?;
+            self.value(text, program.result(op, i))?;
+        }
+        Ok(())
+    }
+
+    /// Writes the line of a region, a block or an operation.
+    fn line(&self, text: &mut String, ctx: &Context<Kit>, node: IRNode) -> Result<(), AllocError> {
+        text.push('\n')?;
+        match node {
+            IRNode::Operation(op) => {
+                write_kind(text, ctx, op)?;
+                self.links(text, ctx, op)
+            }
+            IRNode::BasicBlock(block) => self.header(text, ctx, block),
+            IRNode::Region(_) => text.push_str(" {"),
+        }
+    }
+}
+
+/// Writes a number behind a word.
+fn write_number<N: Display + Drop>(
+    text: &mut String,
+    word: &str,
+    number: N,
+) -> Result<(), AllocError> {
+    text.push_str(word)?;
+    write!(text, "{number}").map_err(|_| AllocError)
+}
+
+/// Writes the kind of an operation, and the number and the width of a constant, or how many operands each part has.
+fn write_kind(text: &mut String, ctx: &Context<Kit>, op: Ptr<Operation>) -> Result<(), AllocError> {
+    if !op.is_live(ctx) {
+        return Ok(());
+    }
+    text.push_str(" ")?;
+    text.push_str(word_of(op.kind(ctx)))?;
+    let attributes = &op.deref(ctx).attributes;
+    if let Some(KitAttr::Integer(constant)) = attributes.get(keys::CONSTANT_VALUE) {
+        write_number(text, " ", constant.bits)?;
+        write_number(text, ":", constant.integer.width)?;
+    }
+    if let Some(KitAttr::SegmentSizes(sizes)) = attributes.get(keys::SEGMENT_SIZES) {
+        for size in sizes {
+            write_number(text, "/", *size)?;
+        }
+    }
+    Ok(())
+}
+
+/// Writes a module with all that is in it: a line for each region, block and operation, with values and blocks by
+/// their order. Two modules that are the same up to names have one text.
+///
+/// # Errors
+/// There may be no memory.
+pub fn written(
+    alloc: Global,
+    ctx: &Context<Kit>,
+    op: Ptr<Operation>,
+) -> Result<String, AllocError> {
+    let program = ctx.program();
+    let mut text = String::new(alloc);
+    if !program.has_operation(op) {
+        return Ok(text);
+    }
+    let mut order = Order {
+        values: IndexSet::new(alloc),
+        blocks: IndexSet::new(alloc),
+    };
+    for node in program.nodes_inside(IRNode::Operation(op)) {
+        order.note(ctx, node)?;
+    }
+    for node in program.nodes_inside(IRNode::Operation(op)) {
+        order.line(&mut text, ctx, node)?;
+    }
+    Ok(text)
+}

@@ -1,0 +1,4 @@
+mod HandlesTold
+mod HeadsKept
+mod ProgramsOfModules
+mod CutLists

@@ -1,7 +1,0 @@
-//! Constant propagation on modules of `kit`.
-#![tactic(auto)]
-
-mod folding;
-mod propagation;
-
-pub use propagation::sccp;

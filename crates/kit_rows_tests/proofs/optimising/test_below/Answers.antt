@@ -1,0 +1,12 @@
+use Rattle.std.proofs.Common.{◌∙◌, sym, subst}
+use Rattle.opt_inside.specs.Edges.{FitsEdgesBelow}
+use Rattle.opt_reach.specs.Edges.{FitsEdgesFrom}
+use Rattle.opt_reach.specs.declared.starts.Start.TheVariants.{Operation as AtOperation}
+use Rattle.kit_rows_tests.proofs.optimising.test_below.Goals as goal
+
+pub returns-clause-fits : goal.returns-clause-fits
+returns-clause-fits g c =
+    let fits = c.in_ok-fits_edges_from.ensures.0 c.if-not-branch.false in
+    subst (λ p. FitsEdgesBelow g.D.Meanings.meaning p c.args.op) c.program-2.ensures
+    (c.know_edges_under.ensures.fits.1
+    (subst (λ p. FitsEdgesFrom g.D.Meanings.meaning p (AtOperation c.args.op)) (c.program-3.ensures ∙ sym c.program-2.ensures) fits))

@@ -1,8 +1,0 @@
-use Rattle.std.proofs.Common.{◌≡◌, drop}
-use Rattle.ir_store.specs.Context.{blocks_of}
-use Rattle.kit_types.specs.Rules as rules
-use Rattle.kit_formats.specs.Shapes as at
-use Rattle.kit_rules.proofs.shape.region_has_no_empty_block.Given as goal
-
-abbrev pub invariant-loop-index : goal.invariant-loop-index
-invariant-loop-index l = rules.every (at.has_operations l.ctx) (drop l.index (blocks_of l.ctx l.region)) ≡ rules.every (at.has_operations l.ctx) (blocks_of l.ctx l.region)
