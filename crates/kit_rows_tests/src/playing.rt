@@ -136,23 +136,42 @@ fn run_verified(
     }
 }
 
+/// What the optimisations make of a module that is read into a context, without its names.
+fn after_in(
+    alloc: Global,
+    ctx: &mut Context<Kit>,
+    text: &str,
+    passes: &[Pass],
+) -> Result<String, Unread> {
+    let root = made(alloc, ctx, text, passes)?;
+    test_rules(alloc, ctx, root)?;
+    Ok(written(alloc, ctx, root)?)
+}
+
 /// What the optimisations make of a module, without its names.
 pub fn after(alloc: Global, text: &str, passes: &[Pass]) -> Result<String, Unread> {
     let mut ctx = Context::new(alloc);
-    let root = made(alloc, &mut ctx, text, passes)?;
-    test_rules(alloc, &ctx, root)?;
-    Ok(written(alloc, &ctx, root)?)
+    after_in(alloc, &mut ctx, text, passes)
+}
+
+/// What a run answers, in words, once the module is read into a context and optimised.
+fn answer_in(
+    alloc: Global,
+    ctx: &mut Context<Kit>,
+    text: &str,
+    passes: &[Pass],
+    run: Run,
+) -> Result<String, Unread> {
+    let root = made(alloc, ctx, text, passes)?;
+    let path = path_of(alloc, run.path)?;
+    let answer = run_verified(alloc, ctx, root, path.as_slice(), run)?;
+    words_of(alloc, answer)
 }
 
 /// What a run answers, in words, once the module is optimised.
 pub fn answer(alloc: Global, text: &str, passes: &[Pass], run: Run) -> Result<String, Unread> {
     let mut ctx = Context::new(alloc);
-    let root = made(alloc, &mut ctx, text, passes)?;
-    let path = path_of(alloc, run.path)?;
-    words_of(
-        alloc,
-        run_verified(alloc, &ctx, root, path.as_slice(), run)?,
-    )
+    answer_in(alloc, &mut ctx, text, passes, run)
 }
 
 /// A verdict in words.
@@ -165,10 +184,19 @@ fn words_of_verdict(alloc: Global, verdict: Result<(), RuleFault>) -> Result<Str
     Ok(text)
 }
 
+/// The verdict on a module that is read into a context.
+fn verdict_in(
+    alloc: Global,
+    ctx: &mut Context<Kit>,
+    text: &str,
+) -> Result<Result<(), RuleFault>, Unread> {
+    let module = read(alloc, ctx, text)?;
+    verdict_on(alloc, ctx, module.root)
+}
+
 /// The verdict on a module, in words.
 pub fn verdict(alloc: Global, text: &str) -> Result<String, Unread> {
     let mut ctx = Context::new(alloc);
-    let module = read(alloc, &mut ctx, text)?;
-    let verdict = verdict_on(alloc, &ctx, module.root)?;
+    let verdict = verdict_in(alloc, &mut ctx, text)?;
     words_of_verdict(alloc, verdict)
 }
