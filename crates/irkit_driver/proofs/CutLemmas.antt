@@ -8,7 +8,6 @@ use Rattle.ir_program.specs.declared.handles.Ptr.{Ptr}
 use Rattle.ir_unique_trees.proofs.OneTree.{one_tree_said}
 use Rattle.kit.specs.Leads.{leads}
 use Rattle.kit_behaviour.specs.Machine.{Program}
-use Rattle.kit_behaviour.specs.PassLists.{Pass}
 use Rattle.kit_behaviour.specs.Places.{Place}
 use Rattle.kit_language.specs.Language.{kit_language}
 use Rattle.kit_optimised_programs.specs.Laws.{OptimisedListsCut}

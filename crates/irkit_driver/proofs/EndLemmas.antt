@@ -1,5 +1,5 @@
 -- How a call ends, from how its parts end.
-use Rattle.std.proofs.Common.{◌≡◌, ◌⊎◌, ℕ, ◌+◌, ◌^◌, ◌≤◌, List, Option, Result, Ok, Err, inl, inr, refl, subst}
+use Rattle.std.proofs.Common.{◌≡◌, ◌⊎◌, ℕ, List, Option, Result, Err, inl, inr, subst}
 use Rattle.std.specs.Prelude.{IsErrAnd}
 use Rattle.ir_base.specs.declared.growth.GrowError.{GrowError}
 use Rattle.ir_base.specs.declared.growth.GrowError.TheVariants as grow
@@ -13,7 +13,7 @@ use Rattle.irkit_streams.specs.declared.faults.WriteFault.{WriteFault}
 use Rattle.irkit_streams.specs.declared.watched.Watched.{Watched}
 use Rattle.irkit_driver.proofs.ReadLemmas.{at_error}
 use Rattle.irkit_driver.specs.Lists.{EndsPasses}
-use Rattle.irkit_driver.specs.Outcomes.{EndsCall, EndsLoad, GivesText, OverfillsContext, PassesFillUp, Refuses, RefusesRun, RunGives}
+use Rattle.irkit_driver.specs.Outcomes.{EndsCall, EndsLoad, GivesText, OverfillsContext, PassesFillUp, Refuses, RefusesRun}
 use Rattle.irkit_driver.specs.Refusals.{of_grow_error, of_write_fault}
 use Rattle.irkit_driver.specs.Texts.{IsAcceptedAs, Overfills}
 use Rattle.irkit_driver.specs.declared.refusal.Refusal.{Refusal}

@@ -49,6 +49,7 @@ in_walk (j ∷ p) (k ∷ q) = go (cases_lt j k) (cases_lt k j) (in_walk p q)
     below e (inl same) = let one : j ∷ p ≡ k ∷ q = cc in inl one
     below e (inr (inl first)) = inr (inl (inr (e, first)))
     below e (inr (inr first)) = inr (inr (inr (sym e, first)))
+
     go : (j < k) ⊎ (k ≤ j) → (k < j) ⊎ (j ≤ k) → (p ≡ q) ⊎ (IsBefore p q ⊎ IsBefore q p)
         → (j ∷ p ≡ k ∷ q) ⊎ (IsBefore (j ∷ p) (k ∷ q) ⊎ IsBefore (k ∷ q) (j ∷ p))
     go (inl less) other walk = inr (inl (inl less))

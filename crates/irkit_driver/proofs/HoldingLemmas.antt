@@ -22,7 +22,7 @@ use Rattle.kit.specs.Meaning.{KitOperation, KitBlock}
 use Rattle.kit_pass_rules.proofs.Lists.{map_at, has_at_index, index_of_has}
 use Rattle.kit_pass_rules.specs.Worlds.{IsTypedIn}
 use Rattle.kit_ruled_views.specs.Functions.{KitContext}
-use Rattle.kit_ruled_views.specs.Ruled.{HaveTypesIn, KitTree}
+use Rattle.kit_ruled_views.specs.Ruled.{KitTree}
 use Rattle.kit_text_rules.specs.Laws.{HaveWrittenTypes}
 use Rattle.opt_inside.specs.Occurring.{IsDefinedBelow}
 use Rattle.ir_trees.specs.Renames.{names_of}

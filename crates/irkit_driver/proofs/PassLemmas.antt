@@ -1,5 +1,5 @@
 -- What passes leave can be written, and how they are refused.
-use Rattle.std.proofs.Common.{◌≡◌, ℕ, List, Result, Ok, Err, map, refl, sym, ap, subst, ◌∙◌}
+use Rattle.std.proofs.Common.{◌≡◌, ℕ, List, Result, Err, map, refl, sym, ap, subst, ◌∙◌}
 use Rattle.std.specs.Prelude.{IsErrAnd}
 use Rattle.ir_base.specs.declared.growth.GrowError.{GrowError}
 use Rattle.ir_base.specs.declared.growth.GrowError.TheVariants as grow

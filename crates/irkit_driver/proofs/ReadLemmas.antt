@@ -1,9 +1,7 @@
 -- From bytes to a module of a context, from what the steps in between did.
 use Rattle.std.proofs.Common.{◌≡◌, ◌⊎◌, ℕ, ◌+◌, ◌^◌, ◌≤◌, List, [], ◌∷◌, Option, Some, None, option_map, Result, Ok, Err, IsSome, inl, inr, refl, sym, ap, subst, ◌∙◌, chars}
 use Rattle.std.specs.Prelude.{IsUtf8, IsErrAnd, IfErr, OnErr}
-use Rattle.ir_forest.specs.Closed.{IsClosed, IsNumbered}
-use Rattle.ir_print.specs.Pieces.{Entity}
-use Rattle.ir_program.specs.Program.{Program, operation_at}
+use Rattle.ir_program.specs.Program.{operation_at}
 use Rattle.ir_program.specs.declared.handles.IRNode.TheVariants.{Operation as OperationNode}
 use Rattle.ir_program.specs.declared.handles.Operation.{Operation}
 use Rattle.ir_program.specs.declared.handles.Ptr.{Ptr}
@@ -15,7 +13,7 @@ use Rattle.kit_checks.specs.Faults.{IsVerdict}
 use Rattle.kit_checks.specs.World.{world_of}
 use Rattle.kit_checks.specs.declared.rule.RuleFault.{RuleFault}
 use Rattle.kit_checks.specs.declared.rule.RuleFault.TheVariants as rule
-use Rattle.kit_held_modules.specs.Held.{HoldsModule, KitSeen}
+use Rattle.kit_held_modules.specs.Held.{KitSeen}
 use Rattle.kit_language.specs.Language.{kit_language}
 use Rattle.kit_ruled_passes.specs.Entering.{IsEnteredNowhere}
 use Rattle.kit_ruled_views.specs.Functions.{KitContext, IsSelfContained}
@@ -33,7 +31,7 @@ use Rattle.irkit_streams.specs.declared.faults.ReadFault.TheVariants as read
 use Rattle.irkit_streams.specs.declared.watched.Watched.{Watched}
 use Rattle.irkit_driver.specs.Outcomes.{EndsLoad, Loads, OverfillsContext, Understands}
 use Rattle.irkit_driver.specs.Refusals.{of_decode_fault, of_read_fault, of_rule_fault, of_text_fault}
-use Rattle.irkit_driver.specs.Texts.{HoldsText, IsSaidBy, SaysTree}
+use Rattle.irkit_driver.specs.Texts.{HoldsText, IsSaidBy}
 use Rattle.irkit_driver.specs.declared.refusal.Refusal.{Refusal}
 use Rattle.irkit_driver.specs.declared.refusal.Refusal.TheVariants.{NotUtf8, Syntax, TooDeep, Scope, Rule, Memory, CounterFull, Read, Write}
 

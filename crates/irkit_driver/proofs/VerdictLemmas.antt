@@ -1,17 +1,16 @@
 -- A text is accepted or refused alike in all contexts.
-use Rattle.std.proofs.Common.{◌≡◌, ℕ, List, refl, sym, subst}
+use Rattle.std.proofs.Common.{ℕ, List, refl, subst}
 use Rattle.ir_forest.specs.Closed.{IsSameModule}
 use Rattle.ir_print.specs.Pieces.{Entity}
 use Rattle.ir_program.specs.declared.handles.Operation.{Operation}
 use Rattle.ir_program.specs.declared.handles.Ptr.{Ptr}
 use Rattle.ir_trees.proofs.OneTree.{one_tree}
-use Rattle.kit_checks.specs.Faults.{IsFirstFault, KeptEverywhere}
+use Rattle.kit_checks.specs.Faults.{KeptEverywhere}
 use Rattle.kit_checks.specs.World.{world_of}
 use Rattle.kit_checks.specs.declared.rule.Rule.{Rule}
 use Rattle.kit_ruled_views.specs.Functions.{KitContext, KeepsRules}
-use Rattle.kit_ruled_views.specs.Ruled.{KitTree}
 use Rattle.kit_text_rules.specs.Laws.{TextsHaveOneVerdict, HasVerdictOf}
-use Rattle.irkit_driver.specs.Texts.{HoldsText, IsAccepted, IsAcceptedAs, SaysTree}
+use Rattle.irkit_driver.specs.Texts.{HoldsText, IsAccepted, IsAcceptedAs}
 
 module _ (law : TextsHaveOneVerdict) (text other : Entity ℕ) (same : IsSameModule text other) (s z : KitContext)
     (root there : Ptr Operation) (h : HoldsText text s root) (k : HoldsText other z there) where
@@ -30,8 +29,10 @@ module _ (law : TextsHaveOneVerdict) (text other : Entity ℕ) (same : IsSameMod
 -- bytes that are accepted in one context are accepted
 pub accepted_anywhere : TextsHaveOneVerdict → (bytes : List ℕ) (s : KitContext) (root : Ptr Operation) → IsAcceptedAs bytes s root
     → IsAccepted bytes
-accepted_anywhere law bytes s root (said, rules) =
-    (said.text, record {
-      says_it = said.says_it;
-      rules = λ z there held. rules_carry law said.text said.text refl s z root there said.holds held rules;
-    })
+accepted_anywhere law bytes s root (said, rules) = (
+  said.text,
+  record {
+    says_it = said.says_it;
+    rules = λ z there held. rules_carry law said.text said.text refl s z root there said.holds held rules;
+  },
+)

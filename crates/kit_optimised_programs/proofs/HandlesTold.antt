@@ -1,5 +1,5 @@
 -- Handles can be told apart.
-use Rattle.std.proofs.Common.{◌≡◌, ◌∙◌, Bool, true, false, ◌&&◌, refl, ap}
+use Rattle.std.proofs.Common.{◌≡◌, Bool, true, false, ◌&&◌, refl, ap}
 use Rattle.ir_program.specs.declared.handles.DefiningEntity.{DefiningEntity}
 use Rattle.ir_program.specs.declared.handles.DefiningEntity.TheVariants.{Op as ByOp, Block as ByBlock}
 use Rattle.ir_program.specs.declared.handles.Operation.{Operation}

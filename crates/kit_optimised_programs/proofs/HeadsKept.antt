@@ -6,7 +6,7 @@ use Rattle.ir_base.specs.declared.types.TypeHandle.{TypeHandle}
 use Rattle.ir_trees.specs.Names.{Names}
 use Rattle.ir_trees.specs.Renames.{Maps, rename_root}
 use Rattle.ir_trees.specs.Trees.{Root}
-use Rattle.opt_trees.specs.Dce.{Around, Item, Gone, Whole, May, IsDead, dies, thin, thin_head}
+use Rattle.opt_trees.specs.Dce.{Item, Gone, Whole, May, IsDead, dies, thin, thin_head}
 use Rattle.opt_trees.specs.Occurrences.{Occurrence, occurrences_of, at_root}
 use Rattle.opt_trees.specs.Sccp.{fresh}
 use Rattle.opt_trees.specs.Simplify.{decided, IsReached, all_of, IsCut, IsLocal, use_head, IsJoined}
@@ -19,7 +19,7 @@ use Rattle.kit_ops.specs.declared.types.KitType.{KitType}
 use Rattle.kit_ops.specs.Table.{row_of}
 use Rattle.kit.specs.Meaning.{KitOperation, kit}
 use Rattle.kit_behaviour.specs.PassLists.{Pass, SccpPass, LeanSccpPass, DcePass, SimplifyPass}
-use Rattle.kit_views.specs.Reading.{kit_contents, kit_reading}
+use Rattle.kit_views.specs.Reading.{kit_contents}
 use Rattle.kit_views.proofs.Read.{kit_reads}
 use Rattle.kit_module_programs.specs.Paths.{locate}
 use Rattle.kit_module_programs.specs.Sound.{IsSound}

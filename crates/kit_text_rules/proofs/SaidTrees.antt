@@ -33,7 +33,7 @@ use Rattle.kit_text_programs.specs.Laws.{HaveOwnNumbers}
 use Rattle.kit_text_programs.proofs.SaidHeads.{kind_back, said_parts}
 use Rattle.kit_text_programs.proofs.SaidFunctions.{KitPart, same_operation, same_label, same_region}
 use Rattle.kit_text_programs.proofs.Unlabelled.{HasSomeLabel}
-use Rattle.kit_text_rules.specs.Alike.{AreBoth, AreDefined, AreHeads, AreIntegers, AreAlike, AreTrees, operations}
+use Rattle.kit_text_rules.specs.Alike.{AreBoth, AreDefined, AreHeads, AreIntegers, AreAlike, operations}
 use Rattle.kit_text_rules.specs.Alike.{blocks, regions}
 use Rattle.kit_text_rules.specs.Alike as alike
 use Rattle.kit_text_rules.specs.Same.{IsSameType, IsSameValue}

@@ -1,4 +1,4 @@
-use Rattle.std.proofs.Common.{sym, subst}
+use Rattle.std.proofs.Common.{subst}
 use Rattle.ir_program.specs.Program.{Program}
 use Rattle.ir_trees.specs.Stands.{StandsFor}
 use Rattle.ir_types.specs.Interned.{HasDistinctTypes}

@@ -1,5 +1,4 @@
 use Rattle.std.proofs.Common.{refl}
-use Rattle.std.specs.Prelude.{IfOk}
 use Rattle.std.specs.String.{string_bytes}
 use Rattle.kit_language.specs.Language.{kit_language}
 use Rattle.irkit_driver.proofs.WrittenLemmas.{written, both_ok}

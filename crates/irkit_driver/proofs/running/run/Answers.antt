@@ -1,6 +1,6 @@
 use Rattle.std.proofs.Common.{refl, string_bytes, subst}
 use Rattle.irkit_driver.specs.Outcomes.{GivesText, RefusesRun, RunGives}
-use Rattle.irkit_driver.proofs.EndLemmas.{half_written, unwritten}
+use Rattle.irkit_driver.proofs.EndLemmas.{unwritten}
 use Rattle.irkit_driver.proofs.running.run.Goals as goal
 
 pub returns-in_err-text : goal.returns-in_err-text

@@ -31,10 +31,13 @@ returns-in_err-text g c =
 
 pub returns : goal.returns
 returns g c =
-    let ends = c.in_ok-root.ensures.ends in
-    (ends.0, ends.1, record {
-      before = c.load.new.ctx;
-      root = c.in_ok-root.root;
-      accepted = ends.2.accepted;
-      gives = c.in_ok-text.ensures;
-    })
+    let ends = c.in_ok-root.ensures.ends in (
+      ends.0,
+      ends.1,
+      record {
+        before = c.load.new.ctx;
+        root = c.in_ok-root.root;
+        accepted = ends.2.accepted;
+        gives = c.in_ok-text.ensures;
+      },
+    )
