@@ -1,6 +1,7 @@
 //! From text through passes to text.
 ghost use Rattle.std.specs.Prelude.{◌≡◌, false, IfOk};
 ghost use Rattle.std.specs.String.{string_bytes};
+ghost use Rattle.ir_program.specs.Made.{HasRoom};
 ghost use Rattle.irkit_streams.specs.Streams.{has_failed};
 ghost use Rattle.kit_held_modules.specs.Held.{HoldsModule};
 ghost use Rattle.irkit_driver.specs.Known.{CanBeWritten, HasGrammar};
@@ -53,8 +54,23 @@ fn text_after<R: Read>(
     ensures { GivesText R.remaining reader.old reader.new passes.now string_bytes result }
 {
     let mut ctx = Context::new(alloc);
-    let root = load(alloc, &mut ctx, reader)?;
-    let text = optimised_text(alloc, &mut ctx, root, passes)?;
+    text_in(alloc, &mut ctx, passes, reader)
+}
+
+/// The same, where the module is read into a new context.
+fn text_in<R: Read>(
+    alloc: Global,
+    ctx: &mut Context<Kit>,
+    passes: &[KitPass],
+    reader: &mut Watched<R>,
+) -> Result<String, Refusal>
+    requires unread { has_failed reader.old ≡ false }
+    requires room { HasRoom ctx.old.program }
+    requires counter { ctx.old.program.counter ≡ 0 }
+    ensures { GivesText R.remaining reader.old reader.new passes.now string_bytes result }
+{
+    let root = load(alloc, ctx, reader)?;
+    let text = optimised_text(alloc, ctx, root, passes)?;
     Ok(text)
 }
 

@@ -1,7 +1,7 @@
 use Rattle.std.proofs.Common.{string_bytes}
 use Rattle.irkit_driver.specs.Refusals.{of_grow_error}
 use Rattle.irkit_driver.proofs.EndLemmas.{unloaded, unloaded_run, unpassed, untexted}
-use Rattle.irkit_driver.proofs.running.text_after.Goals as goal
+use Rattle.irkit_driver.proofs.running.text_in.Goals as goal
 
 pub returns-in_err-root : goal.returns-in_err-root
 returns-in_err-root g c =
@@ -9,8 +9,8 @@ returns-in_err-root g c =
     untexted remaining c.args.reader.now c.load.new.reader c.args.passes.now string_bytes c.in_err-root.field-0.0 c.from_residual.result
     c.from_residual.ensures.1
     (unloaded_run remaining c.args.reader.now c.load.new.reader c.args.passes.now c.in_err-root.field-0.0
-    (unloaded remaining c.args.reader.now c.load.new.reader c.new-ctx.result c.load.new.ctx c.load.result c.in_err-root.field-0.0
-    c.in_err-root.was c.load.ensures.ends c.new-ctx.ensures.room c.new-ctx.ensures.counter))
+    (unloaded remaining c.args.reader.now c.load.new.reader c.args.ctx.now c.load.new.ctx c.load.result c.in_err-root.field-0.0
+    c.in_err-root.was c.load.ensures.ends c.requires.room c.requires.counter))
 
 pub optimised_text-requires-clause-holds : goal.optimised_text-requires-clause-holds
 optimised_text-requires-clause-holds g c = c.in_ok-root.ensures.ends.2.holds
