@@ -1,6 +1,7 @@
 pub mod Text
 pub mod Identifier
 pub mod Dictionary
+pub mod LazyMap
 pub mod Tree
 pub mod Names
 pub mod Interfaces

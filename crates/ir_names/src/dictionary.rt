@@ -6,14 +6,14 @@ ghost use Rattle.std.specs.List.{list_all};
 ghost use Rattle.std.specs.Map.Iter.{ShowsInOrder, deref_pair};
 ghost use Rattle.std.specs.Option.{option_copied_mut};
 ghost use Rattle.std.specs.Ordering.{nat_cmp};
-ghost use Rattle.ir_names.specs.Dictionary.{named_entries, all_entries, is_under, names_of, texts, contains_name, attribute_at, with_attribute, without_attribute, SetsAttribute, RemovesAttribute, AreNamesDistinct, AreNamesIdentifiers, AddsCopy, AreCopies, are_equal, agrees};
+ghost use Rattle.ir_names.specs.Dictionary.{all_entries, is_under, names_of, texts, contains_name, attribute_at, with_attribute, without_attribute, SetsAttribute, RemovesAttribute, AreNamesDistinct, AreNamesIdentifiers, AddsCopy, AreCopies, are_equal, agrees};
 ghost use Rattle.ir_names.specs.Hashed.{entry_hash, hash_total};
 ghost use Rattle.ir_names.specs.Identifier.{text_of};
 ghost use Rattle.ir_names.specs.Lends.{lends_first, lends_attribute};
 ghost use Rattle.ir_names.specs.Text.{is_identifier};
 
+use crate::lazy_map::LazyMap;
 use crate::{Dialects, Identifier};
-use indexmap::IndexMap;
 use indexmap::map::Iter;
 use std::alloc::{AllocError, Global};
 use std::hash::{FoldHasher, Hash, Hasher};
@@ -29,9 +29,9 @@ struct Entry<D: Dialects> {
 /// Attributes under names, in the order in which the names came.
 #[derive(Drop)]
 pub struct AttributeDict<D: Dialects> {
-    // Most operations have one attribute at most, which takes no table so.
+    // Most operations have one attribute at most, and the others' map asks for memory only where there are more.
     first: Option<Entry<D>>,
-    others: IndexMap<String, D::Attr>,
+    others: LazyMap<D::Attr>,
 }
 
 impl<D: Dialects> Model for AttributeDict<D> {
@@ -40,9 +40,9 @@ impl<D: Dialects> Model for AttributeDict<D> {
 
     ghost Value = { List (List ℕ × D.Attr) };
 
-    ghost view = { λ d. all_entries d.first d.others.entries };
+    ghost view = { λ d. all_entries d.first d.others };
 
-    ghost invariant = { λ d. AreEntries (all_entries d.first d.others.entries) };
+    ghost invariant = { λ d. AreEntries (all_entries d.first d.others) };
 }
 
 impl<D: Dialects> AttributeDict<D> {
@@ -53,7 +53,7 @@ impl<D: Dialects> AttributeDict<D> {
     {
         AttributeDict {
             first: None,
-            others: IndexMap::new(alloc),
+            others: LazyMap::new(alloc),
         }
     }
 
@@ -159,7 +159,7 @@ impl<D: Dialects> AttributeDict<D> {
             let first = self.first.take()?;
             return Some(first.attr);
         }
-        self.others.shift_remove(key)
+        self.others.remove(key)
     }
 
     /// The name and the attribute at an index, in the order in which the names came.
@@ -168,12 +168,12 @@ impl<D: Dialects> AttributeDict<D> {
         ensures { option_map (λ e. (e.0.now, e.1.now)) result ≡ slice_get self.now index }
     {
         match &self.first {
-            None => entry_of(&self.others, index),
+            None => self.others.entry(index),
             Some(entry) => {
                 if index == 0 {
                     return Some((entry.name.as_str(), &entry.attr));
                 }
-                entry_of(&self.others, index - 1)
+                self.others.entry(index - 1)
             }
         }
     }
@@ -296,14 +296,6 @@ fn entry_hash<X: Hash>(name: &str, attr: &X) -> u64
     name.hash(&mut hasher);
     attr.hash(&mut hasher);
     hasher.finish()
-}
-
-/// The name and the attribute at an index.
-fn entry_of<X>(entries: &IndexMap<String, X>, index: usize) -> Option<(&str, &X)>
-    ensures { option_map (λ e. (e.0.now, e.1.now)) result ≡ slice_get (named_entries entries.now.entries) index }
-{
-    let (name, attr) = entries.get_index(index)?;
-    Some((name.as_str(), attr))
 }
 
 /// Two dictionaries are equal where they have equal attributes under the same names, in whatever

@@ -6,6 +6,7 @@ mod dictionary;
 mod identifier;
 mod interfaces;
 mod kinds;
+mod lazy_map;
 mod legaliser;
 mod names;
 mod place;

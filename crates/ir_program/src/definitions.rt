@@ -1,5 +1,5 @@
 //! The definitions of an operation's results or of a block's arguments.
-ghost use Rattle.std.specs.Prelude.{◌≡◌, ℕ, ◌≤◌, ◌<◌, length, Some, OnOk, OnErr, IfSome, slice_get};
+ghost use Rattle.std.specs.Prelude.{◌≡◌, ℕ, ◌≤◌, ◌<◌, length, Some, OnOk, OnErr, IfSome, slice_get, vec_capacity};
 ghost use Rattle.ir_entities.specs.Uses.{IsDefined, Names};
 ghost use Rattle.ir_program.specs.Making.{InsertsDefinition, RemovesDefinition};
 
@@ -8,6 +8,18 @@ use crate::records::Definition;
 use ir_base::TypeHandle;
 use ir_entities::Uses;
 use std::alloc::AllocError;
+
+/// Makes room for one definition more. Most operations have one result, which takes no more room than it needs.
+fn make_room(definitions: &mut Vec<Definition>) -> Result<(), AllocError>
+    ensures items { definitions.new.items ≡ definitions.old.items }
+    ensures room { OnOk result (length definitions.new.items < vec_capacity definitions.new) }
+{
+    if definitions.is_empty() {
+        definitions.reserve_exact(1)
+    } else {
+        definitions.reserve(1)
+    }
+}
 
 /// Defines a value, and puts its definition at an index of its definer's.
 pub(crate) fn insert_definition(
@@ -22,7 +34,7 @@ pub(crate) fn insert_definition(
     ensures values_err { OnErr result (values.new ≡ values.old) }
     ensures definitions_err { OnErr result (definitions.new.items ≡ definitions.old.items) }
 {
-    definitions.reserve(1)?;
+    make_room(definitions)?;
     let thread = values.define(value)?;
     let definition = Definition {
         number: value.number(),

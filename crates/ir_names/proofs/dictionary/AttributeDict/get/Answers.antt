@@ -7,10 +7,10 @@ use Rattle.ir_names.proofs.dictionary.AttributeDict.get.Goals as goal
 
 pub returns-in-None : goal.returns-in-None
 unfolding all_entries
-returns-in-None g c = rw (← c.self.view_is, c.in-None.is) (c.get.ensures.value ∙ sym (attribute_at-named_entries c.args.key.now c.self.inside.others.entries))
+returns-in-None g c = rw (← c.self.view_is, c.in-None.is) (c.get.ensures ∙ sym (attribute_at-named_entries c.args.key.now c.self.inside.others))
 
 pub returns-else-eq : goal.returns-else-eq
 unfolding all_entries
 returns-else-eq g c =
     let e : bytes_eq c.args.key.now (string_bytes c.in-Some.entry.name) ≡ false = rw (← c.as_str.ensures.value) (sym c.eq.ensures ∙ c.if-eq.false) in
-    rw (← c.self.view_is, c.in-Some.is, e) (c.get-in-Some.ensures.value ∙ sym (attribute_at-named_entries c.args.key.now c.self.inside.others.entries))
+    rw (← c.self.view_is, c.in-Some.is, e) (c.get-in-Some.ensures ∙ sym (attribute_at-named_entries c.args.key.now c.self.inside.others))
