@@ -21,3 +21,5 @@ pub mod Walk
 pub mod Named
 pub mod Signed
 pub mod Somewhere
+pub mod InsideSites
+pub mod LocalRules

@@ -71,3 +71,19 @@ IsTested rule.ConstantsFit = Unit {0}
 IsTested rule.AttributesAreKnown = Unit {0}
 IsTested rule.FitsFormat = Unit {0}
 IsTested _ = ⊥
+
+module _ {O B : Type 0} (w : World O B) (c : Program O B) (root : Ptr Operation) where
+  -- the answer of all these tests of the operation: whether it keeps each of the rules where it is
+  abbrev pub TellsAll : Ptr Operation → Bool → Type 0
+  TellsAll op is = (s : Site O B) → IsSiteOf c root op s → IsTrue is ↔ ((r : Rule) → IsTested r → Keeps w r s)
+
+  -- what is answered of an entity: whether it is no operation, or is one that keeps each of the rules
+  abbrev pub TellsAllAt : IRNode → Bool → Type 0
+  TellsAllAt (OperationNode op) is = TellsAll op is
+  TellsAllAt (BlockNode b) is = IsTrue is
+  TellsAllAt (RegionNode r) is = IsTrue is
+
+  -- each rule that is tested, so each that asks for no table of names, is kept everywhere in the tree that the root
+  -- stands for
+  abbrev pub KeepsLocalRules : Type 0
+  KeepsLocalRules = (r : Rule) → IsTested r → IsFoundIn w c root r None

@@ -21,6 +21,6 @@ mod types;
 pub use places::place_of;
 pub use reading::{function_type, is_function, is_module, is_symbol};
 pub use rule::{Rule, RuleFault};
-pub use search::first_place;
+pub use search::{first_place, keeps_local_rules};
 pub use signatures::operands_are;
 pub use sites::is_in_module;

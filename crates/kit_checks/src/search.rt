@@ -1,11 +1,12 @@
-//! The first place where a rule is broken.
-ghost use Rattle.std.specs.Prelude.{◌≡◌, IfOk, IsSome};
+//! The first place where a rule is broken, and whether any rule is that asks for no table of names.
+ghost use Rattle.std.specs.Prelude.{◌≡◌, ◌↔◌, IfOk, IsSome, IsTrue};
 ghost use Rattle.ir_program.specs.Lists.{IsLiveNode, StandsInside};
 ghost use Rattle.ir_program.specs.Program.{operation_at};
 ghost use Rattle.ir_program.specs.declared.handles.IRNode.TheVariants.{Operation as OperationNode};
 ghost use Rattle.opt_inside.specs.Numbered.{numbers_of};
-ghost use Rattle.kit_checks.specs.Naming.{IsOrderFor};
-ghost use Rattle.kit_checks.specs.Searching.{IsBrokenAt, IsFoundIn, IsSearched, IsTested};
+ghost use Rattle.kit_checks.specs.Naming.{AreInWalkOrder, IsOrderFor};
+ghost use Rattle.kit_checks.specs.Searching.{IsBrokenAt, IsFoundIn, IsSearched, IsTested, KeepsLocalRules};
+ghost use Rattle.kit_checks.specs.Searching.{TellsAll, TellsAllAt};
 ghost use Rattle.kit_checks.specs.World.{world_of};
 
 use crate::naming::order_for;
@@ -15,10 +16,27 @@ use crate::tests::keeps;
 use ir_context::Context;
 use ir_names::Place;
 use ir_program::{IRNode, Operation, Ptr};
+use ir_trees::know_tree;
 use ir_types::DialectTables;
 use kit_ops::{KitAttr, KitOp, KitType};
 use opt_inside::Inside;
 use std::alloc::{AllocError, Global};
+
+/// The local rules, which ask for no table of names, in the order of their numbers.
+const LOCAL_RULES: [Rule; 12] = [
+    Rule::RootIsModule,
+    Rule::FunctionHasType,
+    Rule::FunctionHolds,
+    Rule::ValuesAreIntegers,
+    Rule::BlocksEnd,
+    Rule::OperandsAreVisible,
+    Rule::TypesAgree,
+    Rule::EdgesFit,
+    Rule::ReturnsFit,
+    Rule::ConstantsFit,
+    Rule::AttributesAreKnown,
+    Rule::FitsFormat,
+];
 
 /// An entity inside the root, if it is an operation that breaks a rule.
 fn broken_at<D: DialectTables<OpKind = KitOp, Attr = KitAttr, TypeKey = KitType>>(
@@ -112,4 +130,81 @@ pub fn first_place<D: DialectTables<OpKind = KitOp, Attr = KitAttr, TypeKey = Ki
         }
         None => Ok(None),
     }
+}
+
+/// Whether an operation inside the root keeps all local rules.
+fn keeps_all<D: DialectTables<OpKind = KitOp, Attr = KitAttr, TypeKey = KitType>>(
+    ctx: &Context<D>,
+    root: Ptr<Operation>,
+    order: &Inside,
+    op: Ptr<Operation>,
+) -> bool
+    requires order { AreInWalkOrder ctx.now.program root (numbers_of order.now).operations }
+    requires inside { StandsInside ctx.now.program (OperationNode root) (OperationNode op) }
+    requires op { IsSome (operation_at ctx.now.program op) }
+    ensures { TellsAll (world_of ctx.now) ctx.now.program root op result }
+{
+    for rule in LOCAL_RULES {
+        if !keeps(ctx, root, rule, order, op) {
+            return false;
+        }
+    }
+    true
+}
+
+/// Whether an entity inside the root is no operation, or is one that keeps all local rules.
+fn keeps_all_at<D: DialectTables<OpKind = KitOp, Attr = KitAttr, TypeKey = KitType>>(
+    ctx: &Context<D>,
+    root: Ptr<Operation>,
+    order: &Inside,
+    node: IRNode,
+) -> bool
+    requires order { AreInWalkOrder ctx.now.program root (numbers_of order.now).operations }
+    requires inside { StandsInside ctx.now.program (OperationNode root) node }
+    requires live { IsLiveNode ctx.now.program node }
+    ensures { TellsAllAt (world_of ctx.now) ctx.now.program root node result }
+{
+    match node {
+        IRNode::Operation(op) => keeps_all(ctx, root, order, op),
+        IRNode::BasicBlock(_) | IRNode::Region(_) => true,
+    }
+}
+
+/// Whether all operations inside the root keep all local rules, found with the order of operations. Each operation is
+/// tested by all rules before the next one is.
+fn keeps_all_inside<D: DialectTables<OpKind = KitOp, Attr = KitAttr, TypeKey = KitType>>(
+    ctx: &Context<D>,
+    root: Ptr<Operation>,
+    order: &Inside,
+) -> bool
+    requires order { AreInWalkOrder ctx.now.program root (numbers_of order.now).operations }
+    requires root { IsSome (operation_at ctx.now.program root) }
+    ensures { IsTrue result ↔ KeepsLocalRules (world_of ctx.now) ctx.now.program root }
+{
+    let program = ctx.program();
+    program.know_lists();
+    know_tree(program, root);
+    for node in program.nodes_inside(IRNode::Operation(root)) {
+        if !keeps_all_at(ctx, root, order, node) {
+            return false;
+        }
+    }
+    true
+}
+
+/// Whether all local rules are kept in the tree that the root stands for: those that `first_place` can be asked for.
+/// One walk tests them all, and it tells no place.
+///
+/// # Errors
+/// No memory for the order of operations.
+pub fn keeps_local_rules<D: DialectTables<OpKind = KitOp, Attr = KitAttr, TypeKey = KitType>>(
+    alloc: Global,
+    ctx: &Context<D>,
+    root: Ptr<Operation>,
+) -> Result<bool, AllocError>
+    requires { IsSome (operation_at ctx.now.program root) }
+    ensures { IfOk result (λ kept. IsTrue kept ↔ KeepsLocalRules (world_of ctx.now) ctx.now.program root) }
+{
+    let order = order_for(alloc, ctx.program(), root, Rule::OperandsAreVisible)?;
+    Ok(keeps_all_inside(ctx, root, &order))
 }

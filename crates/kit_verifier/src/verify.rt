@@ -1,10 +1,11 @@
 //! The first fault of a module.
-ghost use Rattle.std.specs.Prelude.{IfOk, IsSome};
+ghost use Rattle.std.specs.Prelude.{◌↔◌, IfOk, IsSome, IsTrue, None};
 ghost use Rattle.ir_program.specs.Program.{operation_at};
 ghost use Rattle.kit_checks.specs.Faults.{IsVerdict};
 ghost use Rattle.kit_checks.specs.Reading.{OfTree};
 ghost use Rattle.kit_checks.specs.Searching.{IsFoundIn, IsTested};
 ghost use Rattle.kit_checks.specs.World.{world_of};
+ghost use Rattle.kit_checks.specs.declared.rule.Rule.{Rule};
 ghost use Rattle.kit_checks.specs.declared.rule.Rule.TheVariants.{ModuleHolds, CallsFit};
 
 use crate::callees::callees_inside;
@@ -14,8 +15,9 @@ use crate::table::Table;
 use ir_context::Context;
 use ir_names::Place;
 use ir_program::{Operation, Ptr};
+use ir_trees::know_tree;
 use ir_types::DialectTables;
-use kit_checks::{Rule, RuleFault, first_place};
+use kit_checks::{Rule, RuleFault, first_place, keeps_local_rules};
 use kit_ops::{KitAttr, KitOp, KitType};
 use std::alloc::{AllocError, Global};
 
@@ -100,12 +102,41 @@ pub fn first_broken<D: DialectTables<OpKind = KitOp, Attr = KitAttr, TypeKey = K
     }
 }
 
-/// Tests all rules in the tree that the root stands for. A module is good where each operation in it keeps each rule.
+/// Whether all rules are kept in the tree that the root stands for, without the place of a fault. One walk tests all
+/// rules that ask for no table of names; each of the others is searched for.
+///
+/// # Errors
+/// No memory to find out.
+fn keeps_all_rules<D: DialectTables<OpKind = KitOp, Attr = KitAttr, TypeKey = KitType>>(
+    alloc: Global,
+    ctx: &Context<D>,
+    root: Ptr<Operation>,
+) -> Result<bool, AllocError>
+    requires { IsSome (operation_at ctx.now.program root) }
+    ensures { IfOk result (λ kept.
+        IsTrue kept ↔ ((r : Rule) → IsFoundIn (world_of ctx.now) ctx.now.program root r None)) }
+{
+    let program = ctx.program();
+    know_tree(program, root);
+    let keeps_local = keeps_local_rules(alloc, ctx, root)?;
+    if !keeps_local {
+        return Ok(false);
+    }
+    let module_fault = first_module_fault(alloc, ctx, root)?;
+    if module_fault.is_some() {
+        return Ok(false);
+    }
+    let call_fault = first_call_fault(alloc, ctx, root)?;
+    Ok(call_fault.is_none())
+}
+
+/// Tests the rules one by one in the tree that the root stands for, in the order of their numbers, up to the first one
+/// that is broken.
 ///
 /// # Errors
 /// The rule with the smallest number that is broken anywhere, at the first place where it is; `Memory` where there is
 /// no memory to find out.
-pub fn verify_module<D: DialectTables<OpKind = KitOp, Attr = KitAttr, TypeKey = KitType>>(
+fn test_rules_in_order<D: DialectTables<OpKind = KitOp, Attr = KitAttr, TypeKey = KitType>>(
     alloc: Global,
     ctx: &Context<D>,
     root: Ptr<Operation>,
@@ -120,4 +151,25 @@ pub fn verify_module<D: DialectTables<OpKind = KitOp, Attr = KitAttr, TypeKey = 
         }
     }
     Ok(())
+}
+
+/// Tests all rules in the tree that the root stands for. A module is good where each operation in it keeps each rule.
+/// Most modules are good, so whether this one is comes first, by few walks; only else the rules are tested one by one.
+///
+/// # Errors
+/// The rule with the smallest number that is broken anywhere, at the first place where it is; `Memory` where there is
+/// no memory to find out.
+pub fn verify_module<D: DialectTables<OpKind = KitOp, Attr = KitAttr, TypeKey = KitType>>(
+    alloc: Global,
+    ctx: &Context<D>,
+    root: Ptr<Operation>,
+) -> Result<(), RuleFault>
+    requires { IsSome (operation_at ctx.now.program root) }
+    ensures { OfTree ctx.now.program root (λ t. IsVerdict (world_of ctx.now) t result) }
+{
+    let keeps_all = keeps_all_rules(alloc, ctx, root)?;
+    if keeps_all {
+        return Ok(());
+    }
+    test_rules_in_order(alloc, ctx, root)
 }
