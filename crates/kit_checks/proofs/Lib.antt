@@ -18,6 +18,7 @@ pub mod Rows
 pub mod Entries
 pub mod Handed
 pub mod Walk
+pub mod Numbering
 pub mod Named
 pub mod Signed
 pub mod Somewhere

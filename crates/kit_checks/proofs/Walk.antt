@@ -1,19 +1,15 @@
 -- Operations of one block come in walk order as they stand in the block.
 use Rattle.std.proofs.Common.{◌≡◌, inl, inr, ⊎_elim, ℕ, zero, suc, ◌<◌, ◌+◌, List, [], ◌∷◌, ◌++◌, length, Some, option_map, slice_get, refl, sym, ap, ◌∙◌, subst, arith}
 use Rattle.std.proofs.lemmas.Option.{slice_get-map}
-use Rattle.ir_program.specs.Lists.{StandsInBlock, operations_in}
-use Rattle.ir_program.specs.Preorder.{nodes_in, AreInside, IsPreorder, nothing, more}
+use Rattle.ir_program.specs.Lists.{operations_in}
+use Rattle.ir_program.specs.Preorder.{nodes_in, AreInside, IsPreorder, nothing, more, StandOnceEach}
 use Rattle.ir_program.specs.Program.{Program}
 use Rattle.ir_program.specs.declared.handles.IRNode.{IRNode}
 use Rattle.ir_program.specs.declared.handles.IRNode.TheVariants.{Operation as OperationNode, BasicBlock as BlockNode}
 use Rattle.ir_program.specs.declared.handles.Ptr.{Ptr}
 use Rattle.ir_program.specs.declared.handles.Operation.{Operation}
-use Rattle.ir_trees.specs.Stands.{ProgramTree, StandsFor}
-use Rattle.ir_trees.proofs.Members.{Has, at_has, has_at, has_back, has_either}
-use Rattle.ir_trees.proofs.Picked.{operations_among, operations_joined, operation_picked}
-use Rattle.opt_inside.specs.Numbered.{Numbers, NumbersInside}
-use Rattle.opt_inside.proofs.Around.{HasLists, not_root}
-use Rattle.opt_inside.proofs.Ordered.{in_preorder}
+use Rattle.ir_trees.proofs.Members.{Has, at_has, has_at, has_back, has_either, once_at, once_of}
+use Rattle.ir_trees.proofs.Picked.{operations_among, operations_joined, operation_picked, operations_once}
 use Rattle.kit_checks.specs.Naming.{IsEarlier, AreInWalkOrder}
 use Rattle.kit_checks.proofs.Finding.{get-middle}
 
@@ -96,14 +92,6 @@ module _ {X : Type 0} where
       let less = r.1 in
       record { first = j.0; second = length xs + k.0; here = r.0; there = behind_get xs ys k.0 y k.1; before = omega arith }
 
-  without_first : (z : X) (xs : List X) (x y : X) → (x ≡ z → ⊥) → IsEarlier (z ∷ xs) x y → IsEarlier xs x y
-  without_first z xs x y other e = by e.first e.second e.here e.there e.before
-    where
-      by : (i j : ℕ) → slice_get (z ∷ xs) i ≡ Some x → slice_get (z ∷ xs) j ≡ Some y → i < j → IsEarlier xs x y
-      by zero j here there less = let q : x ≡ z = cc in absurd (other q)
-      by (suc i) zero here there less = absurd (omega arith)
-      by (suc i) (suc j) here there less = record { first = i; second = j; here = here; there = there; before = omega arith }
-
 module _ {O B : Type 0} (c : Program O B) where
   -- entities of the list are among those of its preorder, in the same order
   all_there : (es ns : List IRNode) → IsPreorder c es ns → (e : IRNode) → Has e es → Has e ns
@@ -138,27 +126,14 @@ picked_order ns p q e =
     let parts : operations_among ns ≡ operations_among b.front ++ q ∷ operations_among b.back = ap operations_among b.parts ∙ operations_joined b.front (OperationNode q ∷ b.back) in
     earlier_of (operations_among ns) p q (record { front = operations_among b.front; back = operations_among b.back; parts = parts; among = operation_picked b.front p b.among })
 
-module _ {O B : Type 0} (c : Program O B) (lists : HasLists c) (root : Ptr Operation) (all : List IRNode) (within : AreInside c (OperationNode root) all) (order : IsPreorder c (OperationNode root ∷ []) all)
-    (t : ProgramTree O B) (stands : StandsFor c root t) (n : Numbers) (numbers : NumbersInside c root n) where
-  after_root : (es ns : List IRNode) → IsPreorder c es ns → es ≡ OperationNode root ∷ [] → (rest : List IRNode) × (ns ≡ OperationNode root ∷ rest)
-  after_root _ _ nothing is = cc
-  after_root _ _ (more e es inner rest below behind) is = let first : e ≡ OperationNode root = cc in (inner ++ rest, ap (λ x. x ∷ (inner ++ rest)) first)
-
-  behind_root : (rest : List IRNode) × (all ≡ OperationNode root ∷ rest)
-  behind_root = after_root (OperationNode root ∷ []) all order refl
-
-  numbered : operations_among all ≡ root ∷ n.operations
-  numbered =
-      let found = in_preorder c root behind_root.0 (subst (IsPreorder c (OperationNode root ∷ [])) behind_root.1 order) t stands in
-      let told = numbers.in_preorder t stands in
-      ap operations_among behind_root.1 ∙ ap (λ l. root ∷ l) (found.operations ∙ sym told.operations)
-
-  -- the numbers are in walk order
-  pub walk_order : AreInWalkOrder c root n.operations
+module _ {O B : Type 0} (c : Program O B) (root : Ptr Operation) (all : List IRNode)
+    (within : AreInside c (OperationNode root) all) (once : StandOnceEach all)
+    (order : IsPreorder c (OperationNode root ∷ []) all) where
+  -- the operations among the entities inside the root are in walk order
+  pub walk_order : AreInWalkOrder c root (operations_among all)
   walk_order block inside = record {
-    once = numbers.operations_once;
+    once = once_at (operations_among all) (operations_once all (once_of all once));
     earlier = λ p q e.
-        let in_b : StandsInBlock c p block = lists.operations block e.first p e.here in
         let here = within.all (BlockNode block) inside in
         let nodes : IsEarlier (nodes_in c (BlockNode block)) (OperationNode p) (OperationNode q) = record {
           first = e.first;
@@ -167,6 +142,7 @@ module _ {O B : Type 0} (c : Program O B) (lists : HasLists c) (root : Ptr Opera
           there = slice_get-map OperationNode (operations_in c block) e.second ∙ ap (option_map OperationNode) e.there;
           before = e.before;
         } in
-        let walked = inner_order c (OperationNode root ∷ []) all order (BlockNode block) (OperationNode p) (OperationNode q) (at_has all here.0 (BlockNode block) here.1) nodes in
-        without_first root n.operations p q (not_root c lists root p block in_b inside) (subst (λ l. IsEarlier l p q) numbered (picked_order all p q walked));
+        let has = at_has all here.0 (BlockNode block) here.1 in
+        picked_order all p q (inner_order c (OperationNode root ∷ []) all order (BlockNode block) (OperationNode p)
+        (OperationNode q) has nodes);
   }

@@ -1,16 +1,19 @@
 -- Which values an operation may name, said of the program, and the order of the operations inside a root.
-use Rattle.std.specs.Prelude.{◌≡◌, ◌≢◌, ◌<◌, ◌⊎◌, ℕ, List, Option, Some, None, slice_get}
+use Rattle.std.specs.Prelude.{◌≡◌, ◌≢◌, ◌<◌, ◌⊎◌, ℕ, List, [], ◌∷◌, ◌++◌, Option, Some, None, slice_get}
 use Rattle.ir_program.specs.Lists.{StandsInBlock, StandsInRegion, StandsInside, blocks_in, operations_in}
 use Rattle.ir_program.specs.Program.{Program}
 use Rattle.ir_program.specs.declared.handles.DefiningEntity.{DefiningEntity}
 use Rattle.ir_program.specs.declared.handles.DefiningEntity.TheVariants.{Op as ByOp, Block as ByBlock}
-use Rattle.ir_program.specs.declared.handles.IRNode.TheVariants.{Operation as OperationNode, BasicBlock as BlockNode}
+use Rattle.ir_program.specs.declared.handles.IRNode.{IRNode}
+use Rattle.ir_program.specs.declared.handles.IRNode.TheVariants.{Operation as OperationNode, Region as RegionNode}
+use Rattle.ir_program.specs.declared.handles.IRNode.TheVariants.{BasicBlock as BlockNode}
 use Rattle.ir_program.specs.declared.handles.Ptr.{Ptr}
 use Rattle.ir_program.specs.declared.handles.Operation.{Operation}
 use Rattle.ir_program.specs.declared.handles.Region.{Region}
 use Rattle.ir_program.specs.declared.handles.BasicBlock.{BasicBlock}
 use Rattle.ir_program.specs.declared.handles.Value.{Value}
 use Rattle.ir_trees.specs.Searched.{AreDistinct, Lists}
+use Rattle.opt_inside.specs.Numbered.{AreNew}
 use Rattle.kit_checks.specs.declared.naming.Spot.{Spot}
 use Rattle.kit_checks.specs.declared.rule.Rule.{Rule}
 use Rattle.kit_checks.specs.declared.rule.Rule.TheVariants as rule
@@ -31,6 +34,18 @@ pub record IsIndexOf {X : Type 0} (xs : List X) (x : X) (index : Option ℕ) : T
 -- it is a member of the list, behind this index
 abbrev pub IsBehind : {X : Type 0} → List X → X → ℕ → Type 0
 IsBehind xs x index = (i : ℕ) × (slice_get xs i ≡ Some x) × (index < i)
+
+-- the operations, and behind them the entity, if it is an operation
+abbrev pub with_operation : List (Ptr Operation) → IRNode → List (Ptr Operation)
+with_operation ops (OperationNode p) = ops ++ p ∷ []
+with_operation ops (BlockNode b) = ops
+with_operation ops (RegionNode r) = ops
+
+-- the entity isn't one of the operations
+abbrev pub LacksOperation : List (Ptr Operation) → IRNode → Type 0
+LacksOperation ops (OperationNode p) = AreNew ops (p ∷ [])
+LacksOperation ops (BlockNode b) = Unit {0}
+LacksOperation ops (RegionNode r) = Unit {0}
 
 module _ {O B : Type 0} (c : Program O B) where
   -- the operation is in this block, of a region with this entry

@@ -3,7 +3,6 @@ ghost use Rattle.std.specs.Prelude.{◌≡◌, ◌↔◌, IfOk, IsSome, IsTrue};
 ghost use Rattle.ir_program.specs.Lists.{IsLiveNode, StandsInside};
 ghost use Rattle.ir_program.specs.Program.{operation_at};
 ghost use Rattle.ir_program.specs.declared.handles.IRNode.TheVariants.{Operation as OperationNode};
-ghost use Rattle.opt_inside.specs.Numbered.{numbers_of};
 ghost use Rattle.kit_checks.specs.Naming.{AreInWalkOrder, IsOrderFor};
 ghost use Rattle.kit_checks.specs.Searching.{IsBrokenAt, IsFoundIn, IsSearched, IsTested, KeepsLocalRules};
 ghost use Rattle.kit_checks.specs.Searching.{TellsAll, TellsAllAt};
@@ -13,13 +12,13 @@ use crate::naming::order_for;
 use crate::places::place_of;
 use crate::rule::{Rule, RuleFault};
 use crate::tests::keeps;
+use indexmap::IndexSet;
 use ir_context::Context;
 use ir_names::Place;
 use ir_program::{IRNode, Operation, Ptr};
 use ir_trees::know_tree;
 use ir_types::DialectTables;
 use kit_ops::{KitAttr, KitOp, KitType};
-use opt_inside::Inside;
 use std::alloc::{AllocError, Global};
 
 /// The local rules, which ask for no table of names, in the order of their numbers.
@@ -43,10 +42,10 @@ fn broken_at<D: DialectTables<OpKind = KitOp, Attr = KitAttr, TypeKey = KitType>
     ctx: &Context<D>,
     root: Ptr<Operation>,
     rule: Rule,
-    order: &Inside,
+    order: &IndexSet<Ptr<Operation>>,
     node: IRNode,
 ) -> Option<Ptr<Operation>>
-    requires order { IsOrderFor ctx.now.program rule root (numbers_of order.now).operations }
+    requires order { IsOrderFor ctx.now.program rule root order.now.keys }
     requires inside { StandsInside ctx.now.program (OperationNode root) node }
     requires tested { IsTested rule }
     requires live { IsLiveNode ctx.now.program node }
@@ -68,9 +67,9 @@ fn first_operation<D: DialectTables<OpKind = KitOp, Attr = KitAttr, TypeKey = Ki
     ctx: &Context<D>,
     root: Ptr<Operation>,
     rule: Rule,
-    order: &Inside,
+    order: &IndexSet<Ptr<Operation>>,
 ) -> Option<Ptr<Operation>>
-    requires order { IsOrderFor ctx.now.program rule root (numbers_of order.now).operations }
+    requires order { IsOrderFor ctx.now.program rule root order.now.keys }
     requires tested { IsTested rule }
     requires root { IsSome (operation_at ctx.now.program root) }
     ensures { IsSearched (world_of ctx.now) ctx.now.program root rule result }
@@ -136,10 +135,10 @@ pub fn first_place<D: DialectTables<OpKind = KitOp, Attr = KitAttr, TypeKey = Ki
 fn keeps_all<D: DialectTables<OpKind = KitOp, Attr = KitAttr, TypeKey = KitType>>(
     ctx: &Context<D>,
     root: Ptr<Operation>,
-    order: &Inside,
+    order: &IndexSet<Ptr<Operation>>,
     op: Ptr<Operation>,
 ) -> bool
-    requires order { AreInWalkOrder ctx.now.program root (numbers_of order.now).operations }
+    requires order { AreInWalkOrder ctx.now.program root order.now.keys }
     requires inside { StandsInside ctx.now.program (OperationNode root) (OperationNode op) }
     requires op { IsSome (operation_at ctx.now.program op) }
     ensures { TellsAll (world_of ctx.now) ctx.now.program root op result }
@@ -156,10 +155,10 @@ fn keeps_all<D: DialectTables<OpKind = KitOp, Attr = KitAttr, TypeKey = KitType>
 fn keeps_all_at<D: DialectTables<OpKind = KitOp, Attr = KitAttr, TypeKey = KitType>>(
     ctx: &Context<D>,
     root: Ptr<Operation>,
-    order: &Inside,
+    order: &IndexSet<Ptr<Operation>>,
     node: IRNode,
 ) -> bool
-    requires order { AreInWalkOrder ctx.now.program root (numbers_of order.now).operations }
+    requires order { AreInWalkOrder ctx.now.program root order.now.keys }
     requires inside { StandsInside ctx.now.program (OperationNode root) node }
     requires live { IsLiveNode ctx.now.program node }
     ensures { TellsAllAt (world_of ctx.now) ctx.now.program root node result }
@@ -175,9 +174,9 @@ fn keeps_all_at<D: DialectTables<OpKind = KitOp, Attr = KitAttr, TypeKey = KitTy
 fn keeps_all_inside<D: DialectTables<OpKind = KitOp, Attr = KitAttr, TypeKey = KitType>>(
     ctx: &Context<D>,
     root: Ptr<Operation>,
-    order: &Inside,
+    order: &IndexSet<Ptr<Operation>>,
 ) -> bool
-    requires order { AreInWalkOrder ctx.now.program root (numbers_of order.now).operations }
+    requires order { AreInWalkOrder ctx.now.program root order.now.keys }
     requires root { IsSome (operation_at ctx.now.program root) }
     ensures { IsTrue result ↔ KeepsLocalRules (world_of ctx.now) ctx.now.program root }
 {

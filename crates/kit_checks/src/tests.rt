@@ -6,7 +6,6 @@ ghost use Rattle.ir_program.specs.declared.handles.BasicBlock.{BasicBlock};
 ghost use Rattle.ir_program.specs.declared.handles.IRNode.TheVariants.{Operation as OperationNode};
 ghost use Rattle.ir_program.specs.declared.handles.Operation.{Operation};
 ghost use Rattle.ir_program.specs.declared.handles.Ptr.{Ptr};
-ghost use Rattle.opt_inside.specs.Numbered.{numbers_of};
 ghost use Rattle.kit_checks.specs.Naming.{IsOrderFor};
 ghost use Rattle.kit_checks.specs.Reading.{EndsWell, HasFilledBlocks, OfSite, OfTree};
 ghost use Rattle.kit_checks.specs.Rules.{AttributesAreKnown, BlocksEnd, FunctionHolds, RootIsModule, ValuesAreIntegers};
@@ -28,11 +27,11 @@ use crate::rule::Rule;
 use crate::signatures::{function_has_type, returns_fit};
 use crate::sites::is_in_function;
 use crate::types::{TypeTest, results_pass};
+use indexmap::IndexSet;
 use ir_context::{Context, OperationCalls, OperationLists, TypeTable, TypedProgram};
 use ir_program::{Operation, Ptr};
 use ir_types::DialectTables;
 use kit_ops::{KitAttr, KitOp, KitType};
-use opt_inside::Inside;
 
 /// Whether an operation is a module if it is the root.
 fn root_is_module<D: DialectTables<OpKind = KitOp, Attr = KitAttr, TypeKey = KitType>>(
@@ -174,11 +173,11 @@ pub(crate) fn keeps<D: DialectTables<OpKind = KitOp, Attr = KitAttr, TypeKey = K
     ctx: &Context<D>,
     root: Ptr<Operation>,
     rule: Rule,
-    order: &Inside,
+    order: &IndexSet<Ptr<Operation>>,
     op: Ptr<Operation>,
 ) -> bool
     requires tested { IsTested rule }
-    requires order { IsOrderFor ctx.now.program rule root (numbers_of order.now).operations }
+    requires order { IsOrderFor ctx.now.program rule root order.now.keys }
     requires inside { StandsInside ctx.now.program (OperationNode root) (OperationNode op) }
     requires op { IsSome (operation_at ctx.now.program op) }
     ensures { Tells (world_of ctx.now) ctx.now.program root rule op result }
