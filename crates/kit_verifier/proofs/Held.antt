@@ -1,6 +1,5 @@
 -- What a module may hold, said of trees and of lists of handles.
 use Rattle.std.proofs.Common.{◌≡◌, ◌↔◌, ⊎_elim, ℕ, ◌<◌, Bool, true, false, List, Option, Some, IsTrue, slice_get, refl, sym, ◌∙◌, subst, true≢false}
-use Rattle.std.proofs.lemmas.Bool.{false≢true}
 use Rattle.ir_program.specs.Lists.{StandsInside, operations_in}
 use Rattle.ir_program.specs.Program.{Program}
 use Rattle.ir_program.specs.declared.handles.IRNode.{IRNode}

@@ -1,5 +1,5 @@
 -- Operations of a block that have the name of an earlier one, as the block is gone over.
-use Rattle.std.proofs.Common.{◌≡◌, ◌⊎◌, inl, inr, ⊎_elim, ◌↔◌, ℕ, suc, zero, List, [], ◌∷◌, ◌++◌, length, Some, slice_get, Bool, true, false, IsTrue, Result, Ok, Err, IfOk, OnOk, refl, sym, ap, ◌∙◌, subst, arith, true≢false}
+use Rattle.std.proofs.Common.{◌≡◌, ◌⊎◌, inl, inr, ⊎_elim, ◌↔◌, ℕ, suc, zero, List, [], ◌∷◌, ◌++◌, length, Some, slice_get, Bool, true, IsTrue, Result, Ok, Err, IfOk, OnOk, refl, sym, ap, ◌∙◌, subst, arith}
 use Rattle.std.proofs.lemmas.Option.{same_Some, slice_get_within}
 use Rattle.ir_program.specs.Program.{Program}
 use Rattle.ir_program.specs.declared.handles.Ptr.{Ptr}
@@ -9,7 +9,7 @@ use Rattle.kit_checks.specs.World.{World}
 use Rattle.kit_verifier.specs.Reading.{name_at}
 use Rattle.kit_verifier.specs.Repeats.{HasNameAmong, IsRepeat}
 use Rattle.kit_verifier.specs.Sets.{Gains}
-use Rattle.kit_verifier.proofs.Sets.{Collected, gains_as, gains_both, gains_none, on_ok}
+use Rattle.kit_verifier.proofs.Sets.{Collected, gains_as, gains_both, on_ok}
 
 get_last : {X : Type 0} (done : List X) (y : X) (i : ℕ) (x : X) → slice_get (done ++ y ∷ []) i ≡ Some x → (slice_get done i ≡ Some x) ⊎ ((i ≡ length done) × (x ≡ y))
 get_last [] y zero x e = inr (refl, same_Some x y (sym e))

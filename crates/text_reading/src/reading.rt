@@ -1,6 +1,7 @@
 //! Reading a text into a context.
 ghost use Rattle.std.specs.Prelude.{◌≡◌, ◌≤◌, ◌⊎◌, ◌+◌, ◌^◌, ℕ, List, length, Some, Err, OnErr, OnOk, IfOk, IfErr, IsSome};
 ghost use Rattle.ir_program.specs.declared.handles.IRNode.{IRNode};
+ghost use Rattle.ir_tokens.specs.Tokens.{ReadsAs};
 ghost use Rattle.ir_tokens.specs.declared.faults.TextFault.TheVariants.{Memory, CounterFull};
 ghost use Rattle.ir_rereading.specs.Texts.{language_of, HasDefinitions, IsReading, IsRefusal};
 ghost use Rattle.text_building.specs.Kept.{SameSeen};
@@ -20,7 +21,7 @@ use ir_scopes::depth::DEEPEST;
 use ir_scopes::scopes::Resolution;
 use ir_tokens::faults::TextFault;
 use ir_tokens::tokens::tokens_of;
-use std::alloc::Global;
+use std::alloc::{AllocError, Global};
 use text_assembling::assembling::assemble;
 use text_building::discard;
 use text_dialect::TextDialect;
@@ -55,16 +56,31 @@ pub fn top_level_parse<D: ReadDialect>(
         ⊎ ((n : ℕ) × HasDefinitions (language_of D.formats D.kind_at (is_isolated D.op_has) D.values) chars.now n
         × (2 ^ 64 ≤ ctx.old.program.counter + n)) }
 {
-    let language: DialectGrammar = grammar_of::<D>(alloc)?;
     let tokens = tokens_of(alloc, chars)?;
     let source = Source {
         chars,
         tokens: &tokens,
     };
+    let (names, reading) = read_source::<D>(alloc, source)?;
+    understand(alloc, ctx, source, &names, &reading)
+}
+
+/// Reads the tokens of a source by the dialect's grammar, and gives numbers to the tokens that may be names.
+///
+/// The kinds of the tokens go when they are read, so that their memory is free while the operation is made.
+fn read_source<D: ReadDialect>(
+    alloc: Global,
+    source: Source,
+) -> Result<(Vec<usize>, Reading), AllocError>
+    requires { ReadsAs source.chars.now 0 source.tokens.now }
+    ensures { IfOk result (λ r. IsReading (language_of D.formats D.kind_at (is_isolated D.op_has) D.values)
+        source.entry.chars.now source.entry.tokens.now r.0.items r.1.stop r.1.taken r.1.events.items) }
+{
+    let language: DialectGrammar = grammar_of::<D>(alloc)?;
     let words = spelled(alloc, &language.words)?;
-    let classified = classify(alloc, &words, chars, &tokens)?;
+    let classified = classify(alloc, &words, source.chars, source.tokens)?;
     let reading = language.grammar.read(alloc, 0, DEEPEST, &classified.kinds)?;
-    understand(alloc, ctx, source, &classified.names, &reading)
+    Ok((classified.names, reading))
 }
 
 /// Puts what reading a source gave into a context, or names the first fault.
