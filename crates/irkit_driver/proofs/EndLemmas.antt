@@ -13,7 +13,7 @@ use Rattle.irkit_streams.specs.declared.faults.WriteFault.{WriteFault}
 use Rattle.irkit_streams.specs.declared.watched.Watched.{Watched}
 use Rattle.irkit_driver.proofs.ReadLemmas.{at_error}
 use Rattle.irkit_driver.specs.Lists.{EndsPasses}
-use Rattle.irkit_driver.specs.Outcomes.{EndsCall, EndsLoad, GivesText, OverfillsContext, PassesFillUp, Refuses, RefusesRun}
+use Rattle.irkit_driver.specs.Outcomes.{Accepts, EndsCall, EndsLoad, GivesText, OverfillsContext, PassesFillUp, Refuses, RefusesRun}
 use Rattle.irkit_driver.specs.Refusals.{of_grow_error, of_write_fault}
 use Rattle.irkit_driver.specs.Texts.{IsAcceptedAs, Overfills}
 use Rattle.irkit_driver.specs.declared.refusal.Refusal.{Refusal}
@@ -73,6 +73,11 @@ module _ {R : Type 0} (remaining : R → Option (List ℕ)) (old new : Watched R
   pub untexted : {V : Type 0} (passes : List KitPass) (text_of : V → List ℕ) (e : Refusal) (r : Result V Refusal)
       → IsErrAnd r (λ x. x ≡ e) → RefusesRun remaining old new passes e → GivesText remaining old new passes text_of r
   untexted passes text_of e r is refused = at_error (GivesText remaining old new passes text_of) r e is refused
+
+  -- nothing is accepted then
+  pub unaccepted : {X : Type 0} (e : Refusal) (r : Result X Refusal) → IsErrAnd r (λ x. x ≡ e)
+      → Refuses remaining old new (Overfills 0) e → Accepts remaining old new r
+  unaccepted e r is refused = at_error (Accepts remaining old new) r e is refused
 
 module _ {R W : Type 0} (remaining : R → Option (List ℕ)) (contents : W → Option (List ℕ)) (input new_input : Watched R)
     (output new_output : Watched W) where

@@ -58,6 +58,12 @@ module _ {R : Type 0} (remaining : R → Option (List ℕ)) (old new : Watched R
   EndsLoad ctx new_ctx (Ok root) = (bytes : List ℕ) × GaveAll remaining old new bytes × Loads bytes ctx new_ctx root
   EndsLoad ctx new_ctx (Err refusal) = Refuses (OverfillsContext ctx) refusal × SameSeen (seen ctx) (seen new_ctx)
 
+module _ {R : Type 0} (remaining : R → Option (List ℕ)) (old new : Watched R) where
+  -- All that the reader gave is accepted, or it is refused as a load into a new context is.
+  abbrev pub Accepts : {X : Type 0} → Result X Refusal → Type 0
+  Accepts (Ok _) = (bytes : List ℕ) × GaveAll remaining old new bytes × IsAccepted bytes
+  Accepts (Err refusal) = Refuses remaining old new (Overfills 0) refusal
+
 -- From bytes to a module of the context: a refusal that the bytes deserve, or of memory or where they overfill the
 -- context, leaves what the context holds as it was.
 abbrev pub Understands : List ℕ → KitContext → KitContext → Result (Ptr Operation) Refusal → Type 0

@@ -1,12 +1,14 @@
 //! Testing a module.
 ghost use Rattle.std.specs.Prelude.{◌≡◌, false};
+ghost use Rattle.ir_program.specs.Made.{HasRoom};
 ghost use Rattle.irkit_streams.specs.Streams.{has_failed};
-ghost use Rattle.irkit_driver.specs.Outcomes.{EndsCheck};
+ghost use Rattle.irkit_driver.specs.Outcomes.{Accepts, EndsCheck};
 
 use crate::loading::load;
 use crate::refusal::Refusal;
 use ir_context::Context;
 use irkit_streams::{Watched, write_text};
+use kit::Kit;
 use kit_text_rules::texts_have_one_verdict;
 use std::alloc::Global;
 use std::io::{Read, Write};
@@ -22,8 +24,31 @@ pub fn check<R: Read, W: Write>(
     requires writer { has_failed writer.old ≡ false }
     ensures { EndsCheck R.remaining W.contents reader.old reader.new writer.old writer.new result }
 {
-    let mut ctx = Context::new(alloc);
-    texts_have_one_verdict();
-    load(alloc, &mut ctx, reader)?;
+    accept(alloc, reader)?;
     Ok(write_text(writer, b"ok\n")?)
+}
+
+/// Reads a module into a new context, and tests its rules.
+fn accept<R: Read>(alloc: Global, reader: &mut Watched<R>) -> Result<(), Refusal>
+    requires { has_failed reader.old ≡ false }
+    ensures { Accepts R.remaining reader.old reader.new result }
+{
+    let mut ctx = Context::new(alloc);
+    accept_in(alloc, &mut ctx, reader)
+}
+
+/// The same, where the module is read into a new context.
+fn accept_in<R: Read>(
+    alloc: Global,
+    ctx: &mut Context<Kit>,
+    reader: &mut Watched<R>,
+) -> Result<(), Refusal>
+    requires unread { has_failed reader.old ≡ false }
+    requires room { HasRoom ctx.old.program }
+    requires counter { ctx.old.program.counter ≡ 0 }
+    ensures { Accepts R.remaining reader.old reader.new result }
+{
+    texts_have_one_verdict();
+    load(alloc, ctx, reader)?;
+    Ok(())
 }

@@ -2,6 +2,7 @@
 ghost use Rattle.std.specs.Prelude.{◌≡◌, ◌≢◌, List, false, map, IfOk, IsSome, MatchOption};
 ghost use Rattle.ir_names.specs.Identifier.{text_of};
 ghost use Rattle.ir_names.specs.declared.identifier.Identifier.{Identifier as Name};
+ghost use Rattle.ir_program.specs.Made.{HasRoom};
 ghost use Rattle.ir_program.specs.Program.{operation_at};
 ghost use Rattle.kit_execution.specs.Obeying.{ObeysRules};
 ghost use Rattle.irkit_streams.specs.Streams.{has_failed};
@@ -57,8 +58,25 @@ fn outcome_of<R: Read>(
     ensures { GivesOutcome R.remaining reader.old reader.new path.now arguments.now limit result }
 {
     let mut ctx = Context::new(alloc);
-    let root = load(alloc, &mut ctx, reader)?;
-    let outcome = outcome_in(alloc, &ctx, root, path, arguments, limit)?;
+    outcome_from(alloc, &mut ctx, path, arguments, limit, reader)
+}
+
+/// The same, where the module is read into a new context.
+fn outcome_from<R: Read>(
+    alloc: Global,
+    ctx: &mut Context<Kit>,
+    path: &str,
+    arguments: &[u64],
+    limit: u64,
+    reader: &mut Watched<R>,
+) -> Result<Outcome, ExecutionFault>
+    requires unread { has_failed reader.old ≡ false }
+    requires room { HasRoom ctx.old.program }
+    requires counter { ctx.old.program.counter ≡ 0 }
+    ensures { GivesOutcome R.remaining reader.old reader.new path.now arguments.now limit result }
+{
+    let root = load(alloc, ctx, reader)?;
+    let outcome = outcome_in(alloc, ctx, root, path, arguments, limit)?;
     Ok(outcome)
 }
 

@@ -40,20 +40,22 @@ pub fn load<R: Read>(
     ensures grammar { IfOk result (λ _. HasGrammar) }
 {
     let bytes = read_to_end(alloc, reader, TURNS)?;
-    understand(alloc, ctx, bytes.as_slice())
+    understand(alloc, ctx, bytes)
 }
 
 /// The module that these bytes write, where it keeps the rules.
 fn understand(
     alloc: Global,
     ctx: &mut Context<Kit>,
-    bytes: &[u8],
+    bytes: Vec<u8>,
 ) -> Result<Ptr<Operation>, Refusal>
-    ensures understands { Understands bytes.now ctx.old ctx.new result }
+    ensures understands { Understands bytes.items ctx.old ctx.new result }
     ensures writable { IfOk result (CanBeWritten ctx.new) }
     ensures grammar { IfOk result (λ _. HasGrammar) }
 {
-    let chars = decode(alloc, bytes)?;
+    let chars = decode(alloc, bytes.as_slice())?;
+    // The characters say all of them, so their memory is free while the module is made.
+    drop(bytes);
     let root = top_level_parse(alloc, ctx, chars.as_slice())?;
     know_holding(ctx, root);
     know_read_module(ctx, root);

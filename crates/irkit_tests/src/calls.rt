@@ -1,7 +1,13 @@
 //! The program and its passes, as the tests call them.
-use crate::fakes::{Dripping, writer_of};
-use irkit_driver::{KitPass, Watched, drive, run};
+use crate::fakes::{Dripping, Narrow, writer_of};
+use irkit_driver::{KitPass, Refusal, Watched, drive, run};
 use std::alloc::{AllocError, Global};
+
+/// A module that holds nothing.
+pub const EMPTY: &[u8] = b"builtin.module @m {^b():}";
+
+/// What is printed of it.
+pub const PRINTED: &str = "builtin.module @m \n{\n  ^b_block1v1():\n}\n";
 
 /// What the program did: its status, what it wrote on its output and on its faults.
 #[derive(Drop)]
@@ -11,39 +17,123 @@ pub struct Done {
     pub told: String,
 }
 
-/// What the program does on these words and this input, which comes byte by byte, where its outputs have that room.
-pub fn driven(
+impl Done {
+    /// What the program did that ended with this status, where its outputs took so much.
+    fn of(alloc: Global, status: u8, output: &Narrow, faults: &Narrow) -> Result<Done, AllocError> {
+        Ok(Done {
+            status,
+            written: String::from_utf8_lossy(alloc, &output.taken)?,
+            told: String::from_utf8_lossy(alloc, &faults.taken)?,
+        })
+    }
+
+    /// Whether the program ended with this status, and wrote and told this.
+    pub fn is(&self, status: u8, written: &str, told: &str) -> bool {
+        self.status == status && self.written.as_str() == written && self.told.as_str() == told
+    }
+}
+
+/// The words of a line.
+fn words_of(alloc: Global, line: &str) -> Result<Vec<String>, AllocError> {
+    let mut all = Vec::new(alloc);
+    for word in line.split_whitespace() {
+        all.push(String::from_str(alloc, word)?)?;
+    }
+    Ok(all)
+}
+
+/// What the program does on these words and streams of its own.
+fn served(
     alloc: Global,
-    words: &str,
+    words: Vec<String>,
     input: &[u8],
     room: usize,
     faults_room: usize,
 ) -> Result<Done, AllocError> {
-    let mut all = Vec::new(alloc);
-    for word in words.split_whitespace() {
-        all.push(String::from_str(alloc, word)?)?;
-    }
     let mut input = Watched::new(Dripping {
         rest: input,
         calls: 99999,
     });
     let mut output = writer_of(alloc, 7, room, true);
     let mut faults = writer_of(alloc, 100, faults_room, true);
-    let status = drive(alloc, all, &mut input, &mut output, &mut faults);
-    Ok(Done {
-        status,
-        written: String::from_utf8_lossy(alloc, &output.inner().taken)?,
-        told: String::from_utf8_lossy(alloc, &faults.inner().taken)?,
-    })
+    let status = drive(alloc, words, &mut input, &mut output, &mut faults);
+    Done::of(alloc, status, output.inner(), faults.inner())
+}
+
+/// What the program does on the words of a line and this input, which comes byte by byte, where its outputs have that
+/// room.
+pub fn driven(
+    alloc: Global,
+    line: &str,
+    input: &[u8],
+    room: usize,
+    faults_room: usize,
+) -> Result<Done, AllocError> {
+    let words = words_of(alloc, line)?;
+    served(alloc, words, input, room, faults_room)
+}
+
+/// Whether the program on the words of a line and this input ends with this status, writes this on an output of that
+/// room, and tells this.
+pub fn does(
+    alloc: Global,
+    line: &str,
+    input: &[u8],
+    room: usize,
+    status: u8,
+    written: &str,
+    told: &str,
+) -> Result<bool, AllocError> {
+    Ok(driven(alloc, line, input, room, 999)?.is(status, written, told))
+}
+
+/// What was written, or the fault of the answer.
+fn said(
+    alloc: Global,
+    answer: &Result<(), Refusal>,
+    output: &Narrow,
+) -> Result<String, AllocError> {
+    match answer {
+        Ok(()) => String::from_utf8_lossy(alloc, &output.taken),
+        Err(refusal) => format!(in alloc; "{refusal}"),
+    }
 }
 
 /// What running these passes over a text writes, or the fault with which it ends.
 pub fn ran(alloc: Global, passes: &[KitPass], text: &[u8]) -> Result<String, AllocError> {
     let mut output = writer_of(alloc, 99999, 99999, true);
-    match run(alloc, passes, &mut Watched::new(text), &mut output) {
-        Ok(()) => String::from_utf8_lossy(alloc, &output.inner().taken),
-        Err(refusal) => format!(in alloc; "{refusal}"),
+    let answer = run(alloc, passes, &mut Watched::new(text), &mut output);
+    said(alloc, &answer, output.inner())
+}
+
+/// Whether the answer is a fault exactly where the room is too small for a text of this length, and then says that it
+/// was full.
+fn is_answer(answer: &Result<(), Refusal>, len: usize, room: usize) -> bool {
+    match answer {
+        Ok(()) => len <= room,
+        Err(refusal) => room < len && *refusal == Refusal::Write(room),
     }
+}
+
+/// Whether an output of this room has taken as much of a text as it may, and the answer says so.
+pub fn is_written(
+    answer: &Result<(), Refusal>,
+    output: &Watched<Narrow>,
+    text: &str,
+    room: usize,
+) -> bool {
+    let taken = output.inner().taken.as_slice();
+    is_answer(answer, text.len(), room)
+        && output.has_failed() == (room < text.len())
+        && taken.len() == text.len().min(room)
+        && text.as_bytes().starts_with(taken)
+}
+
+/// A text in which `T8` and `(C8 .. C8)` stand for a type of 8 bits and a constant of it, with these written out.
+fn written_out(alloc: Global, text: &str) -> Result<String, AllocError> {
+    let begun = text.replace(alloc, "(C8 ", "builtin.constant builtin.integer <")?;
+    let ended = begun.replace(alloc, " C8)", ": i8>")?;
+    ended.replace(alloc, "T8", "builtin.integer i8")
 }
 
 /// A module with one function of this type and body, in which `T8` and `(C8 .. C8)` stand for a type of 8 bits and a
@@ -52,7 +142,16 @@ pub fn function(alloc: Global, ty: &str, body: &str) -> Result<String, AllocErro
     let text = format!(in alloc;
         "builtin.module @m {{^b(): builtin.func @f: builtin.function <{ty}> {{{body}}}}}"
     )?;
-    let text = text.replace(alloc, "(C8 ", "builtin.constant builtin.integer <")?;
-    let text = text.replace(alloc, " C8)", ": i8>")?;
-    text.replace(alloc, "T8", "builtin.integer i8")
+    written_out(alloc, &text)
+}
+
+/// What passes make of a module with one function of this type and body.
+pub fn optimised(
+    alloc: Global,
+    passes: &[KitPass],
+    ty: &str,
+    body: &str,
+) -> Result<String, AllocError> {
+    let text = function(alloc, ty, body)?;
+    ran(alloc, passes, text.as_bytes())
 }

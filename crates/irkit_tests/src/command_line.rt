@@ -1,51 +1,59 @@
 //! Command lines with what the program does on them.
-use crate::calls::driven;
-use std::test::Fail;
+use crate::calls::{EMPTY, PRINTED, does, driven};
+use std::alloc::{AllocError, Global};
 
-/// A module that holds nothing.
-const EMPTY: &[u8] = b"builtin.module @m {^b():}";
+/// A line, an input and the room of the output, with the status, what is written and what is told.
+type Case = (
+    &'static str,
+    &'static [u8],
+    usize,
+    u8,
+    &'static str,
+    &'static str,
+);
 
-/// What is printed of it.
-const PRINTED: &str = "builtin.module @m \n{\n  ^b_block1v1():\n}\n";
+/// Commands, with faults of texts and of writes.
+const COMMANDS: &[Case] = &[
+    ("irkit check", EMPTY, 9, 0, "ok\n", ""),
+    ("irkit opt", EMPTY, 99, 0, PRINTED, ""),
+    ("irkit opt dce", EMPTY, 99, 0, PRINTED, ""),
+    ("irkit opt simplify-cfg", EMPTY, 99, 0, PRINTED, ""),
+    ("irkit opt sccp dce simplify-cfg", EMPTY, 99, 0, PRINTED, ""),
+    ("irkit check", b"", 9, 1, "", "error: syntax at 1:1\n"),
+    (
+        "irkit opt",
+        b"x\xc3",
+        9,
+        1,
+        "",
+        "error: not UTF-8 at byte 1\n",
+    ),
+    (
+        "irkit check",
+        EMPTY,
+        2,
+        1,
+        "ok",
+        "error: write after 2 bytes\n",
+    ),
+    (
+        "irkit opt",
+        EMPTY,
+        4,
+        1,
+        "buil",
+        "error: write after 4 bytes\n",
+    ),
+];
 
+/// Each command does what is wanted of it.
 #[test]
-fn commands_are_served(rt: HostRuntime) -> Result<(), Fail> {
-    for (words, input, room, status, written, told) in [
-        ("irkit check", EMPTY, 9, 0, "ok\n", ""),
-        ("irkit opt", EMPTY, 99, 0, PRINTED, ""),
-        ("irkit opt dce", EMPTY, 99, 0, PRINTED, ""),
-        ("irkit opt simplify-cfg", EMPTY, 99, 0, PRINTED, ""),
-        ("irkit opt sccp dce simplify-cfg", EMPTY, 99, 0, PRINTED, ""),
-        ("irkit check", b"", 9, 1, "", "error: syntax at 1:1\n"),
-        (
-            "irkit opt",
-            b"x\xc3",
-            9,
-            1,
-            "",
-            "error: not UTF-8 at byte 1\n",
-        ),
-        (
-            "irkit check",
-            EMPTY,
-            2,
-            1,
-            "ok",
-            "error: write after 2 bytes\n",
-        ),
-        (
-            "irkit opt",
-            EMPTY,
-            4,
-            1,
-            "buil",
-            "error: write after 4 bytes\n",
-        ),
-    ] {
-        let did = driven(rt.alloc(), words, input, room, 999)?;
-        assert_eq!(rt; did.status, status, "{words}");
-        assert_eq!(rt; did.written.as_str(), written, "{words}");
-        assert_eq!(rt; did.told.as_str(), told, "{words}");
+fn commands_are_served(rt: HostRuntime) -> Result<(), AllocError> {
+    for (line, input, room, status, written, told) in COMMANDS {
+        assert!(rt;
+            does(rt.alloc(), line, input, *room, *status, written, told)?,
+            "{line}"
+        );
     }
     Ok(())
 }
@@ -87,51 +95,74 @@ const MISTAKES: &[(&str, &str)] = &[
     ("irkit opt --x", "unexpected argument '--x'"),
 ];
 
+/// Whether a line is a mistake, of which a fault with this front is told.
+fn is_refused(alloc: Global, line: &str, fault: &str) -> Result<bool, AllocError> {
+    let front = format!(in alloc; "error: {fault}")?;
+    let did = driven(alloc, line, b"x", 999, 9999)?;
+    Ok(did.status == 2 && did.written.is_empty() && did.told.starts_with(front.as_str()))
+}
+
+/// Mistakes have a status of their own, and nothing is written.
 #[test]
-fn mistakes_are_refused(rt: HostRuntime) -> Result<(), Fail> {
-    for (words, fault) in MISTAKES {
-        let did = driven(rt.alloc(), words, b"x", 999, 9999)?;
-        let told = format!(in rt.alloc(); "error: {fault}")?;
-        assert_eq!(rt; did.status, 2, "{words}");
-        assert!(rt; did.written.is_empty(), "{words}");
-        assert!(rt; did.told.starts_with(told.as_str()), "{words}");
+fn mistakes_are_refused(rt: HostRuntime) -> Result<(), AllocError> {
+    for (line, fault) in MISTAKES {
+        assert!(rt; is_refused(rt.alloc(), line, fault)?, "{line}");
     }
     Ok(())
 }
 
+/// Lines that ask for help.
+const HELP: &[&str] = &[
+    "irkit --help",
+    "irkit help",
+    "irkit opt -h",
+    "irkit help check",
+    "irkit run --help",
+];
+
+/// Whether help is written on this line, and nothing is told.
+fn is_helped(alloc: Global, line: &str) -> Result<bool, AllocError> {
+    let did = driven(alloc, line, b"x", 9999, 9999)?;
+    Ok(did.status == 0 && did.written.len() > 50 && did.told.is_empty())
+}
+
+/// Whether on this line a fault is told where the output has room for 20 bytes.
+fn is_cut(alloc: Global, line: &str) -> Result<bool, AllocError> {
+    let did = driven(alloc, line, b"x", 20, 9999)?;
+    Ok(did.status == 1 && did.told.as_str() == "error: write after 20 bytes\n")
+}
+
+/// Help is written on the output, as far as it has room.
 #[test]
-fn help_goes_to_the_output(rt: HostRuntime) -> Result<(), Fail> {
-    for words in [
-        "irkit --help",
-        "irkit help",
-        "irkit opt -h",
-        "irkit help check",
-        "irkit run --help",
-    ] {
-        let did = driven(rt.alloc(), words, b"x", 9999, 9999)?;
-        assert_eq!(rt; did.status, 0, "{words}");
-        assert!(rt; did.written.len() > 50, "{words}");
-        assert!(rt; did.told.is_empty(), "{words}");
-        let did = driven(rt.alloc(), words, b"x", 20, 9999)?;
-        assert_eq!(rt; did.status, 1, "{words}");
-        assert_eq!(rt; did.told.as_str(), "error: write after 20 bytes\n");
+fn help_goes_to_the_output(rt: HostRuntime) -> Result<(), AllocError> {
+    for line in HELP {
+        assert!(rt; is_helped(rt.alloc(), line)?, "{line}");
+        assert!(rt; is_cut(rt.alloc(), line)?, "{line}");
     }
     Ok(())
 }
 
+/// Lines and inputs with the status, where no fault can be told.
+const UNTOLD: &[(&str, &[u8], u8)] = &[
+    ("irkit check", EMPTY, 0),
+    ("irkit check", b"\xff", 1),
+    ("irkit opt", b"", 1),
+    ("irkit opt licm", b"x", 2),
+    ("irkit run --limit x f", b"x", 2),
+    ("irkit run --limit 3 f", b"x", 1),
+    ("irkit chec", b"x", 2),
+];
+
+/// Whether the program ends with this status where there is no room for a fault.
+fn ends_with(alloc: Global, line: &str, input: &[u8], status: u8) -> Result<bool, AllocError> {
+    Ok(driven(alloc, line, input, 999, 0)?.status == status)
+}
+
+/// The status is that of the command, whether its fault can be told or not.
 #[test]
-fn a_line_that_is_not_written_changes_no_status(rt: HostRuntime) -> Result<(), Fail> {
-    for (words, input, status) in [
-        ("irkit check", EMPTY, 0),
-        ("irkit check", b"\xff", 1),
-        ("irkit opt", b"", 1),
-        ("irkit opt licm", b"x", 2),
-        ("irkit run --limit x f", b"x", 2),
-        ("irkit run --limit 3 f", b"x", 1),
-        ("irkit chec", b"x", 2),
-    ] {
-        let did = driven(rt.alloc(), words, input, 999, 0)?;
-        assert_eq!(rt; did.status, status, "{words}");
+fn a_line_that_is_not_written_changes_no_status(rt: HostRuntime) -> Result<(), AllocError> {
+    for (line, input, status) in UNTOLD {
+        assert!(rt; ends_with(rt.alloc(), line, input, *status)?, "{line}");
     }
     Ok(())
 }

@@ -32,28 +32,58 @@ const TOKENS: &[(&str, &[(TokenKind, usize, usize)])] = &[
 /// A name, and a character that begins no token.
 const BAD: &[(TokenKind, usize, usize)] = &[(TokenKind::Name, 0, 1), (TokenKind::Bad, 2, 2)];
 
-#[test]
-fn texts_have_tokens_and_places(rt: HostRuntime) -> Result<(), AllocError> {
-    let alloc = rt.alloc();
-    for (text, want) in TOKENS {
-        let chars: Vec<char> = text.chars().collect(alloc)?;
-        let tokens = tokens_of(alloc, &chars)?;
-        assert_eq!(rt; tokens.len(), want.len(), "{text}");
-        for (token, (kind, start, end)) in tokens.iter().zip(*want) {
-            let kind = *kind;
-            let start = *start;
-            let end = *end;
-            assert_eq!(rt; *token, Token { kind, start, end }, "{text}");
+/// Whether these are tokens of these kinds, with these starts and ends.
+fn are_tokens(tokens: &[Token], wanted: &[(TokenKind, usize, usize)]) -> bool {
+    for (token, (kind, start, end)) in tokens.iter().zip(wanted) {
+        if token.kind != *kind || token.start != *start || token.end != *end {
+            return false;
         }
     }
-    for (text, place) in [
-        ("", (1, 1)),
-        ("aö", (1, 3)),
-        ("a\n", (2, 1)),
-        ("a\n\r\nb", (3, 2)),
-    ] {
-        let chars: Vec<char> = text.chars().collect(alloc)?;
-        assert_eq!(rt; place_after(&chars), place);
+    tokens.len() == wanted.len()
+}
+
+/// Whether these characters are cut into these tokens.
+fn are_cut(
+    alloc: Global,
+    chars: &[char],
+    wanted: &[(TokenKind, usize, usize)],
+) -> Result<bool, AllocError> {
+    let tokens = tokens_of(alloc, chars)?;
+    Ok(are_tokens(&tokens, wanted))
+}
+
+/// Whether a text is cut into these tokens.
+fn is_cut(
+    alloc: Global,
+    text: &str,
+    wanted: &[(TokenKind, usize, usize)],
+) -> Result<bool, AllocError> {
+    let chars: Vec<char> = text.chars().collect(alloc)?;
+    are_cut(alloc, &chars, wanted)
+}
+
+/// A text with the line and column behind it.
+const PLACES: &[(&str, (usize, usize))] = &[
+    ("", (1, 1)),
+    ("aö", (1, 3)),
+    ("a\n", (2, 1)),
+    ("a\n\r\nb", (3, 2)),
+];
+
+/// Whether this line and column is behind a text.
+fn is_place(alloc: Global, text: &str, place: (usize, usize)) -> Result<bool, AllocError> {
+    let chars: Vec<char> = text.chars().collect(alloc)?;
+    Ok(place_after(&chars) == place)
+}
+
+/// Texts are cut into tokens, and have lines and columns.
+#[test]
+fn texts_have_tokens_and_places(rt: HostRuntime) -> Result<(), AllocError> {
+    for (text, tokens) in TOKENS {
+        assert!(rt; is_cut(rt.alloc(), text, tokens)?, "{text}");
+    }
+    for (text, place) in PLACES {
+        assert!(rt; is_place(rt.alloc(), text, *place)?, "{text}");
     }
     Ok(())
 }
@@ -66,23 +96,43 @@ const CLOSE: u32 = 2;
 
 const COMMA: u32 = 3;
 
+/// The sign for the one kind of token with this number, of four.
+fn sign_of(alloc: Global, kind: u32) -> Result<Class, AllocError> {
+    Ok(Class {
+        kinds: [kind == NAME, kind == OPEN, kind == CLOSE, kind == COMMA].to_vec(alloc)?,
+    })
+}
+
+/// A sign for each of the four kinds of token, with the kind's number.
+fn signs(alloc: Global) -> Result<Vec<Class>, AllocError> {
+    let mut all = Vec::new(alloc);
+    for kind in 0..4 {
+        all.push(sign_of(alloc, kind)?)?;
+    }
+    Ok(all)
+}
+
+/// A rule for this part, with this body.
+fn rule_of(alloc: Global, part: u32, body: &[Symbol]) -> Result<Rule, AllocError> {
+    Ok(Rule {
+        part,
+        body: Vec::from_slice(alloc, body)?,
+    })
+}
+
+/// These rules.
+fn rules(alloc: Global, given: &[(u32, &[Symbol])]) -> Result<Vec<Rule>, AllocError> {
+    let mut all = Vec::new(alloc);
+    for (part, body) in given {
+        all.push(rule_of(alloc, *part, body)?)?;
+    }
+    Ok(all)
+}
+
 /// A grammar of so many parts with these rules, and a sign for each of the four kinds of token, with the kind's number.
 fn grammar(alloc: Global, parts: usize, given: &[(u32, &[Symbol])]) -> Result<Grammar, AllocError> {
-    let mut signs = Vec::new(alloc);
-    for sign in 0..4 {
-        let mut kinds = Vec::new(alloc);
-        for kind in 0..4 {
-            kinds.push(kind == sign)?;
-        }
-        signs.push(Class { kinds })?;
-    }
-    let mut rules = Vec::new(alloc);
-    for (part, body) in given {
-        rules.push(Rule {
-            part: *part,
-            body: Vec::from_slice(alloc, body)?,
-        })?;
-    }
+    let signs = signs(alloc)?;
+    let rules = rules(alloc, given)?;
     Grammar::new(alloc, signs, rules, parts, 5)
 }
 
@@ -127,7 +177,7 @@ const NAMED: Event = Event::Did(Action::Name);
 const ITEM: Event = Event::Did(Action::EndItem);
 
 /// How deep parts may be nested, kinds of tokens, where reading them stops, and what it has done then.
-const READINGS: [(usize, &[u32], Stop, usize, &[Event]); 4] = [
+const READINGS: &[(usize, &[u32], Stop, usize, &[Event])] = &[
     (
         1,
         &[OPEN, NAME, NAME, CLOSE, NAME],
@@ -160,37 +210,73 @@ const READINGS: [(usize, &[u32], Stop, usize, &[Event]); 4] = [
     ),
 ];
 
+/// Whether one token decides each step of reading by the grammar of so many parts with these rules.
+fn can_read(alloc: Global, parts: usize, given: &[(u32, &[Symbol])]) -> Result<bool, AllocError> {
+    Ok(grammar(alloc, parts, given)?.can_read(0))
+}
+
+/// Whether reading by a grammar stops there, having done this.
+fn reads(
+    alloc: Global,
+    grammar: &Grammar,
+    deepest: usize,
+    kinds: &[u32],
+    stop: Stop,
+    taken: usize,
+    events: &[Event],
+) -> Result<bool, AllocError> {
+    if !grammar.can_read(0) {
+        return Ok(false);
+    }
+    let read = grammar.read(alloc, 0, deepest, kinds)?;
+    Ok(read.stop == stop && read.taken == taken && read.events.as_slice() == events)
+}
+
+/// Whether reading by the grammar of nested lists stops there, having done this.
+fn reads_nested(
+    alloc: Global,
+    deepest: usize,
+    kinds: &[u32],
+    stop: Stop,
+    taken: usize,
+    events: &[Event],
+) -> Result<bool, AllocError> {
+    let grammar = grammar(alloc, 2, NESTED)?;
+    reads(alloc, &grammar, deepest, kinds, stop, taken, events)
+}
+
+/// Lists in lists are read as far as they go.
 #[test]
 fn nested_lists_are_read(rt: HostRuntime) -> Result<(), AllocError> {
-    let alloc = rt.alloc();
-    let grammar = grammar(alloc, 2, NESTED)?;
-    assert!(rt; grammar.can_read(0));
+    assert!(rt; can_read(rt.alloc(), 2, NESTED)?);
     for (deepest, kinds, stop, taken, events) in READINGS {
-        let read = grammar.read(alloc, 0, deepest, kinds)?;
-        assert_eq!(rt; read.stop, stop);
-        assert_eq!(rt; read.taken, taken);
-        assert_eq!(rt; read.events.as_slice(), events);
+        assert!(rt;
+            reads_nested(rt.alloc(), *deepest, kinds, *stop, *taken, events)?,
+            "{taken}"
+        );
     }
     Ok(())
 }
 
+/// Actions, with whether they open something, and whether they close it.
+const ACTIONS: &[(Action, bool, bool)] = &[
+    (Action::BeginRegion, true, false),
+    (Action::BeginType(3), true, false),
+    (Action::BeginAttribute(3), true, false),
+    (Action::EndRegion, false, true),
+    (Action::EndType, false, true),
+    (Action::EndAttribute, false, true),
+    (Action::Operation(0), false, false),
+    (Action::BeginList, false, false),
+    (Action::EndList, false, false),
+];
+
+/// A grammar that one token doesn't decide is refused, and actions are brackets or none.
 #[test]
 fn rules_and_actions_are_judged(rt: HostRuntime) -> Result<(), AllocError> {
-    let undecided = grammar(rt.alloc(), 1, UNDECIDED)?;
-    assert!(rt; !undecided.can_read(0));
-    for (action, opens, closes) in [
-        (Action::BeginRegion, true, false),
-        (Action::BeginType(3), true, false),
-        (Action::BeginAttribute(3), true, false),
-        (Action::EndRegion, false, true),
-        (Action::EndType, false, true),
-        (Action::EndAttribute, false, true),
-        (Action::Operation(0), false, false),
-        (Action::BeginList, false, false),
-        (Action::EndList, false, false),
-    ] {
-        assert_eq!(rt; action.opens(), opens);
-        assert_eq!(rt; action.closes(), closes);
+    assert!(rt; !can_read(rt.alloc(), 1, UNDECIDED)?);
+    for (action, opens, closes) in ACTIONS {
+        assert!(rt; action.opens() == *opens && action.closes() == *closes);
     }
     Ok(())
 }

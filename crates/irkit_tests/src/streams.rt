@@ -1,104 +1,142 @@
 //! Streams that give little, take little or fail, under reading, loading, running and checking.
+use crate::calls::{EMPTY, PRINTED, is_written};
 use crate::fakes::{Dripping, writer_of};
 use ir_context::Context;
 use irkit_driver::{Refusal, Watched, check, load, run};
 use irkit_streams::{DecodeFault, ReadFault, decode, read_to_end};
-use std::test::Fail;
+use kit::Kit;
+use std::alloc::Global;
+use std::process::Abort;
 
-/// A module that holds nothing.
-const EMPTY: &[u8] = b"builtin.module @m {^b():}";
+/// How many calls read the module that holds nothing to its end, byte by byte.
+const ENOUGH: u64 = 26;
 
-#[test]
-fn bytes_are_read_and_decoded(rt: HostRuntime) -> Result<(), Fail> {
-    for (calls, turns, want) in [(9, 3, true), (9, 2, false), (2, 9, false)] {
-        let mut input = Watched::new(Dripping { rest: b"ab", calls });
-        let read = read_to_end(rt.alloc(), &mut input, turns);
-        assert_eq!(rt; input.has_failed(), calls == 2);
-        match read {
-            Ok(bytes) => {
-                assert!(rt; want);
-                assert_eq!(rt; bytes.as_slice(), b"ab".as_slice());
-            }
-            Err(fault) => {
-                assert!(rt; !want);
-                assert_eq!(rt; fault, ReadFault::Read);
-            }
-        }
+/// Whether reading two bytes in so many turns gives both, or ends in a failed read, where the reader fails after so
+/// many calls; and whether a call has failed then.
+fn reads(alloc: Global, calls: u64, turns: u64, fails: bool, gives: bool) -> bool {
+    let mut input = Watched::new(Dripping { rest: b"ab", calls });
+    let is_right = match read_to_end(alloc, &mut input, turns) {
+        Ok(bytes) => gives && bytes.as_slice() == b"ab".as_slice(),
+        Err(fault) => !gives && fault == ReadFault::Read,
+    };
+    is_right && input.has_failed() == fails
+}
+
+/// Whether these bytes are the text of these characters.
+fn is_decoded(alloc: Global, bytes: &[u8], chars: &[char]) -> bool {
+    match decode(alloc, bytes) {
+        Ok(all) => all.as_slice() == chars,
+        Err(_) => false,
     }
-    let chars = decode(rt.alloc(), "aé".as_bytes())?;
-    assert_eq!(rt; chars.as_slice(), ['a', 'é'].as_slice());
-    for (bytes, at) in [
-        (b"\xff".as_slice(), 0),
-        (b"ab\xc3", 2),
-        (b"a\xc3\xa9\x80", 3),
+}
+
+/// Whether these bytes are no text from this one on.
+fn is_refused(alloc: Global, bytes: &[u8], at: usize) -> bool {
+    match decode(alloc, bytes) {
+        Ok(_) => false,
+        Err(fault) => fault == DecodeFault::NotUtf8(at),
+    }
+}
+
+/// Bytes with the first that isn't part of a text.
+const NO_TEXTS: &[(&[u8], usize)] = &[(b"\xff", 0), (b"ab\xc3", 2), (b"a\xc3\xa9\x80", 3)];
+
+/// Bytes are read to the end, and are the characters of a text or none.
+#[test]
+fn bytes_are_read_and_decoded(rt: HostRuntime) {
+    let alloc = rt.alloc();
+    for (calls, turns, fails, gives) in [
+        (9, 3, false, true),
+        (9, 2, false, false),
+        (2, 9, true, false),
     ] {
-        assert!(rt;
-            decode(rt.alloc(), bytes).is_err_and(|e| e == DecodeFault::NotUtf8(at)),
-            "{at}"
-        );
+        assert!(rt; reads(alloc, calls, turns, fails, gives), "{calls}");
     }
-    Ok(())
+    assert!(rt; is_decoded(alloc, "aé".as_bytes(), &['a', 'é']));
+    for (bytes, at) in NO_TEXTS {
+        assert!(rt; is_refused(alloc, bytes, *at), "{at}");
+    }
 }
 
-#[test]
-fn loading_gives_a_root(rt: HostRuntime) -> Result<(), Fail> {
-    let mut ctx = Context::new(rt.alloc());
-    for (rest, fault) in [(EMPTY, None), (b"", Some(Refusal::Syntax(1, 1)))] {
-        let loaded = load(
-            rt.alloc(),
-            &mut ctx,
-            &mut Watched::new(Dripping { rest, calls: 99 }),
-        );
-        assert_eq!(rt; loaded.err(), fault);
-    }
-    Ok(())
+/// Whether loading this into a context ends with this fault, or none.
+fn loads(alloc: Global, ctx: &mut Context<Kit>, rest: &[u8], fault: &Option<Refusal>) -> bool {
+    let mut input = Watched::new(Dripping { rest, calls: 99 });
+    load(alloc, ctx, &mut input).err() == *fault
 }
 
-#[test]
-fn a_failed_read_writes_nothing(rt: HostRuntime) -> Result<(), Fail> {
-    for calls in 0..27 {
-        let mut input = Watched::new(Dripping { rest: EMPTY, calls });
-        let mut line = writer_of(rt.alloc(), 1, 99, true);
-        let checked = check(rt.alloc(), &mut input, &mut line);
-        let mut input = Watched::new(Dripping { rest: EMPTY, calls });
-        let mut text = writer_of(rt.alloc(), 1, 99, true);
-        let ran = run(rt.alloc(), &[], &mut input, &mut text);
-        if calls < 26 {
-            assert_eq!(rt; checked, Err(Refusal::Read), "{calls}");
-            assert_eq!(rt; ran, Err(Refusal::Read), "{calls}");
-            assert!(rt; input.has_failed());
-            assert!(rt; line.inner().taken.is_empty());
-            assert!(rt; text.inner().taken.is_empty());
-        } else {
-            assert_eq!(rt; checked, Ok(()));
-            assert_eq!(rt; ran, Ok(()));
-            assert_eq!(rt; line.inner().taken.as_slice(), b"ok\n".as_slice());
-        }
-    }
-    Ok(())
+/// Whether a module is loaded into a new context, and a text that is none is refused after it.
+fn loads_one(alloc: Global) -> bool {
+    let mut ctx = Context::new(alloc);
+    loads(alloc, &mut ctx, EMPTY, &None)
+        && loads(alloc, &mut ctx, b"", &Some(Refusal::Syntax(1, 1)))
 }
 
+/// A module gives its root, and a text that is none doesn't.
 #[test]
-fn a_write_may_take_a_part(rt: HostRuntime) -> Result<(), Fail> {
-    let mut whole = writer_of(rt.alloc(), 9999, 9999, true);
-    let ran = run(rt.alloc(), &[], &mut Watched::new(EMPTY), &mut whole);
-    assert_eq!(rt; ran, Ok(()));
-    let text = whole.inner().taken.as_slice();
-    assert!(rt; text.ends_with(b"\n"));
-    for step in [1, 7] {
-        for room in 0..=text.len() {
-            for fails in [false, true] {
-                let mut output = writer_of(rt.alloc(), step, room, fails);
-                let ran = run(rt.alloc(), &[], &mut Watched::new(EMPTY), &mut output);
-                if room < text.len() {
-                    assert_eq!(rt; ran, Err(Refusal::Write(room)));
-                } else {
-                    assert_eq!(rt; ran, Ok(()));
-                }
-                assert_eq!(rt; output.has_failed(), room < text.len());
-                assert_eq!(rt; output.inner().taken.as_slice(), &text[..room]);
-            }
-        }
+fn loading_gives_a_root(rt: HostRuntime) {
+    assert!(rt; loads_one(rt.alloc()));
+}
+
+/// Whether the answer is no fault where all was read, and else that of a failed read.
+fn is_answer(answer: &Result<(), Refusal>, is_read: bool) -> bool {
+    match answer {
+        Ok(()) => is_read,
+        Err(refusal) => !is_read && *refusal == Refusal::Read,
     }
-    Ok(())
+}
+
+/// Whether checking a module says that it is one, where its reader allows enough calls, and else writes nothing.
+fn checks(alloc: Global, calls: u64) -> bool {
+    let is_read = calls >= ENOUGH;
+    let mut input = Watched::new(Dripping { rest: EMPTY, calls });
+    let mut line = writer_of(alloc, 1, 99, true);
+    let answer = check(alloc, &mut input, &mut line);
+    let written = if is_read { "ok\n" } else { "" };
+    is_answer(&answer, is_read)
+        && input.has_failed() != is_read
+        && line.inner().taken.as_slice() == written.as_bytes()
+}
+
+/// Whether running no passes over a module writes it, where its reader allows enough calls, and else nothing.
+fn runs(alloc: Global, calls: u64) -> bool {
+    let is_read = calls >= ENOUGH;
+    let mut input = Watched::new(Dripping { rest: EMPTY, calls });
+    let mut text = writer_of(alloc, 1, 99, true);
+    let answer = run(alloc, &[], &mut input, &mut text);
+    let written = if is_read { PRINTED } else { "" };
+    is_answer(&answer, is_read)
+        && input.has_failed() != is_read
+        && text.inner().taken.as_slice() == written.as_bytes()
+}
+
+/// A reader fails at any of its calls.
+#[test]
+fn a_failed_read_writes_nothing(rt: HostRuntime) {
+    for calls in 0..=ENOUGH {
+        assert!(rt; checks(rt.alloc(), calls), "{calls}");
+        assert!(rt; runs(rt.alloc(), calls), "{calls}");
+    }
+}
+
+/// Whether a module is written as far as the room allows, by writes of at most so many bytes.
+fn writes(alloc: Global, step: usize, room: usize, fails: bool) -> bool {
+    let mut output = writer_of(alloc, step, room, fails);
+    let answer = run(alloc, &[], &mut Watched::new(EMPTY), &mut output);
+    is_written(&answer, &output, PRINTED, room)
+}
+
+/// Any room up to that of the whole is filled by writes of at most so many bytes.
+fn rooms_are_filled(rt: &impl Abort, alloc: Global, step: usize, fails: bool) {
+    for room in 0..=PRINTED.len() {
+        assert!(rt; writes(alloc, step, room, fails), "{step}, {room}");
+    }
+}
+
+/// A write takes a part, and once there is no room fails or takes none.
+#[test]
+fn a_write_may_take_a_part(rt: HostRuntime) {
+    assert!(rt; writes(rt.alloc(), 9999, 9999, true));
+    for (step, fails) in [(1, false), (1, true), (7, false), (7, true)] {
+        rooms_are_filled(&rt, rt.alloc(), step, fails);
+    }
 }

@@ -1,56 +1,91 @@
 //! Texts with what becomes of each: accepted, or refused with a fault, however they are read.
-use crate::calls::{driven, function, ran};
+use crate::calls::{does, function, ran};
 use ir_context::Context;
-use irkit_driver::{Watched, load};
+use irkit_driver::{Refusal, Watched, load};
+use kit::Kit;
 use std::alloc::{AllocError, Global};
-use std::test::Fail;
+use std::process::Abort;
+
+/// A printed text without this slot and version in the names of its blocks.
+fn without_slot(alloc: Global, text: &str, slot: u64) -> Result<String, AllocError> {
+    let own = format!(in alloc; "_block{slot}v1")?;
+    text.replace(alloc, own.as_str(), "")
+}
 
 /// A printed text without the slots and versions in the names of its blocks.
 fn without_slots(alloc: Global, text: &str) -> Result<String, AllocError> {
     let mut rest = String::from_str(alloc, text)?;
     for slot in 1..=66 {
-        let own = format!(in alloc; "_block{slot}v1")?;
-        rest = rest.replace(alloc, own.as_str(), "")?;
+        rest = without_slot(alloc, &rest, slot)?;
     }
     Ok(rest)
+}
+
+/// Whether the second of two printed texts is the longer one, and they are the same up to the names of blocks.
+fn is_longer(alloc: Global, once: &str, twice: &str) -> Result<bool, AllocError> {
+    let shorter = without_slots(alloc, once)?;
+    let longer = without_slots(alloc, twice)?;
+    Ok(once.len() < twice.len() && shorter.as_str() == longer.as_str())
 }
 
 /// What is printed of an accepted text is accepted, and printed again as the same text up to the names of blocks.
 fn is_printed_again(alloc: Global, text: &[u8]) -> Result<bool, AllocError> {
     let once = ran(alloc, &[], text)?;
     let twice = ran(alloc, &[], once.as_bytes())?;
-    Ok(
-        once.len() < twice.len()
-            && without_slots(alloc, &once)?.as_str() == without_slots(alloc, &twice)?.as_str(),
-    )
+    is_longer(alloc, &once, &twice)
 }
 
-/// The fault with which loading a text ends, or nothing. A refused one leaves nothing in the context.
-fn loaded(alloc: Global, text: &[u8]) -> Result<String, AllocError> {
-    let mut ctx = Context::new(alloc);
-    match load(alloc, &mut ctx, &mut Watched::new(text)) {
-        Ok(_) => Ok(String::new(alloc)),
-        Err(refusal) => {
-            if ctx.is_ir_empty() {
-                format!(in alloc; "{refusal}")
-            } else {
-                String::from_str(alloc, "something is left")
-            }
-        }
+/// Whether a refusal has this text.
+fn is_named(alloc: Global, refusal: &Refusal, fault: &str) -> Result<bool, AllocError> {
+    Ok(format!(in alloc; "{refusal}")?.as_str() == fault)
+}
+
+/// Whether loading a text into a context that holds nothing ends with this fault, or none. A refused one leaves nothing
+/// there.
+fn is_loaded(
+    alloc: Global,
+    ctx: &mut Context<Kit>,
+    text: &[u8],
+    fault: &str,
+) -> Result<bool, AllocError> {
+    let loaded = load(alloc, ctx, &mut Watched::new(text));
+    match loaded {
+        Ok(_) => Ok(fault.is_empty()),
+        Err(refusal) => Ok(ctx.is_ir_empty() && is_named(alloc, &refusal, fault)?),
     }
+}
+
+/// Whether loading a text into a new context ends with this fault, or none.
+fn loads(alloc: Global, text: &[u8], fault: &str) -> Result<bool, AllocError> {
+    let mut ctx = Context::new(alloc);
+    is_loaded(alloc, &mut ctx, text, fault)
+}
+
+/// Whether a check accepts a text, and what is printed of it is accepted.
+fn is_accepted(alloc: Global, text: &[u8]) -> Result<bool, AllocError> {
+    Ok(does(alloc, "irkit check", text, 999, 0, "ok\n", "")? && is_printed_again(alloc, text)?)
+}
+
+/// Whether a check of a text tells this fault.
+fn is_told(alloc: Global, text: &[u8], fault: &str) -> Result<bool, AllocError> {
+    let line = format!(in alloc; "error: {fault}\n")?;
+    does(alloc, "irkit check", text, 999, 1, "", &line)
+}
+
+/// Whether a run of a text writes this, or ends with this fault.
+fn is_run_to(alloc: Global, text: &[u8], said: &str) -> Result<bool, AllocError> {
+    Ok(ran(alloc, &[], text)?.as_str() == said)
 }
 
 /// A text is accepted, or refused with this fault, however it is called.
 fn ends_with(alloc: Global, text: &[u8], fault: &str) -> Result<bool, AllocError> {
-    let did = driven(alloc, "irkit check", text, 999, 999)?;
-    let is_loaded = loaded(alloc, text)?.as_str() == fault;
-    if fault.is_empty() {
-        let is_said = did.status == 0 && did.written.as_str() == "ok\n" && did.told.is_empty();
-        return Ok(is_loaded && is_said && is_printed_again(alloc, text)?);
+    if !loads(alloc, text, fault)? {
+        Ok(false)
+    } else if fault.is_empty() {
+        is_accepted(alloc, text)
+    } else {
+        Ok(is_told(alloc, text, fault)? && is_run_to(alloc, text, fault)?)
     }
-    let line = format!(in alloc; "error: {fault}\n")?;
-    let is_said = did.status == 1 && did.written.is_empty() && did.told.as_str() == line.as_str();
-    Ok(is_loaded && is_said && ran(alloc, &[], text)?.as_str() == fault)
 }
 
 /// Whole texts, each with its fault, or none.
@@ -118,32 +153,54 @@ const TEXTS: &[(&[u8], &str)] = &[
         "rule 3 at 0.0.0",
     ),
     (
-        b"builtin.module @m {^b(): builtin.func @f: builtin.function <()->()> {^e(): kit.return}; builtin.func @f: builtin.function <()->()> {^e(): kit.return}}",
+        b"builtin.module @m {^b(): builtin.func @f: builtin.function <()->()> {^e(): kit.return}; \
+            builtin.func @f: builtin.function <()->()> {^e(): kit.return}}",
         "rule 2 at 0.0.1",
     ),
 ];
 
+/// How many modules are begun in one another, what is in the last of them, how many are ended, and the fault, or none.
+const DEPTHS: &[(usize, &str, usize, &str)] = &[
+    (64, "", 64, ""),
+    (65, "", 65, "too deep at 1:1555"),
+    (
+        64,
+        "builtin.func @f: builtin.function",
+        0,
+        "too deep at 1:1554",
+    ),
+];
+
+/// A text that begins so many modules in one another, with this in the last of them, and ends so many.
+fn nested(alloc: Global, begun: usize, inside: &str, ended: usize) -> Result<String, AllocError> {
+    let front = "builtin.module @m {^b():".repeat(alloc, begun)?;
+    let end = "}".repeat(alloc, ended)?;
+    format!(in alloc; "{front}{inside}{end}")
+}
+
+/// Whether such a text is accepted, or refused with this fault.
+fn nested_ends_with(
+    alloc: Global,
+    begun: usize,
+    inside: &str,
+    ended: usize,
+    fault: &str,
+) -> Result<bool, AllocError> {
+    let text = nested(alloc, begun, inside, ended)?;
+    ends_with(alloc, text.as_bytes(), fault)
+}
+
+/// Whole texts, and ones that are nested as deep as may be.
 #[test]
-fn texts_end_with_their_faults(rt: HostRuntime) -> Result<(), Fail> {
-    let alloc = rt.alloc();
+fn texts_end_with_their_faults(rt: HostRuntime) -> Result<(), AllocError> {
     for (text, fault) in TEXTS {
-        assert!(rt; ends_with(alloc, text, fault)?, "{fault}");
+        assert!(rt; ends_with(rt.alloc(), text, fault)?, "{fault}");
     }
-    for (depth, inside, fault) in [
-        (64, "", ""),
-        (65, "", "too deep at 1:1555"),
-        (
-            64,
-            "builtin.func @f: builtin.function",
-            "too deep at 1:1554",
-        ),
-    ] {
-        let mut text = "builtin.module @m {^b():".repeat(alloc, depth)?;
-        text.push_str(inside)?;
-        if inside.is_empty() {
-            text.push_str("}".repeat(alloc, depth)?.as_str())?;
-        }
-        assert!(rt; ends_with(alloc, text.as_bytes(), fault)?, "{fault}");
+    for (begun, inside, ended, fault) in DEPTHS {
+        assert!(rt;
+            nested_ends_with(rt.alloc(), *begun, inside, *ended, fault)?,
+            "{fault}"
+        );
     }
     Ok(())
 }
@@ -314,48 +371,100 @@ const SUMS: &[(&str, &str)] = &[
     ),
 ];
 
-#[test]
-fn bodies_end_with_their_faults(rt: HostRuntime) -> Result<(), Fail> {
-    let alloc = rt.alloc();
-    for (front, end, cases) in [
-        ("^e(): ", "; kit.return", NUMBERS),
-        ("", "", BODIES),
-        (
-            "^e(): a = builtin.constant builtin.integer <1: i8>; b = builtin.constant builtin.integer <2: i16>; ",
-            "; kit.return",
-            SUMS,
-        ),
-    ] {
-        for (inside, fault) in cases {
-            let body = format!(in alloc; "{front}{inside}{end}")?;
-            let text = function(alloc, "()->()", &body)?;
-            assert!(rt; ends_with(alloc, text.as_bytes(), fault)?, "{body}");
-        }
+/// What is before and behind the cases in the body of a function, and they.
+const INSIDES: &[(&str, &str, &[(&str, &str)])] = &[
+    ("^e(): ", "; kit.return", NUMBERS),
+    ("", "", BODIES),
+    (
+        "^e(): a = builtin.constant builtin.integer <1: i8>; b = builtin.constant builtin.integer <2: i16>; ",
+        "; kit.return",
+        SUMS,
+    ),
+];
+
+/// A module with one function without inputs and results, whose body is of these parts.
+fn around(alloc: Global, front: &str, inside: &str, end: &str) -> Result<String, AllocError> {
+    let body = format!(in alloc; "{front}{inside}{end}")?;
+    function(alloc, "()->()", &body)
+}
+
+/// Whether such a module is accepted, or refused with this fault.
+fn body_ends_with(
+    alloc: Global,
+    front: &str,
+    inside: &str,
+    end: &str,
+    fault: &str,
+) -> Result<bool, AllocError> {
+    let text = around(alloc, front, inside, end)?;
+    ends_with(alloc, text.as_bytes(), fault)
+}
+
+/// Bodies with these before and behind them end with their faults.
+fn bodies_end(
+    rt: &impl Abort,
+    alloc: Global,
+    front: &str,
+    end: &str,
+    cases: &[(&str, &str)],
+) -> Result<(), AllocError> {
+    for (inside, fault) in cases {
+        assert!(rt;
+            body_ends_with(alloc, front, inside, end, fault)?,
+            "{inside}"
+        );
     }
     Ok(())
 }
 
+/// Numbers, blocks and sums in the body of a function.
 #[test]
-fn texts_are_printed(rt: HostRuntime) -> Result<(), Fail> {
-    let alloc = rt.alloc();
-    for (ty, body, printed) in [
-        (
-            "(builtin.integer i8)->(builtin.integer si64, builtin.integer i8)",
-            "^e(x: builtin.integer i8): a = builtin.constant builtin.integer <255: i8>; b = builtin.constant builtin.integer <-3: si64>; kit.return b, x;",
-            "v0: builtin.integer i8):\n        v1 = builtin.constant builtin.integer <-1: i8>;\n        v2 = builtin.constant builtin.integer <-3: si64>;\n        kit.return v2, v0",
-        ),
-        (
-            "(builtin.integer ui8)->(builtin.integer ui8)",
-            "^e(x: builtin.integer ui8): y=kit.add x,x:builtin.integer ui8; kit.return y",
-            "v0: builtin.integer ui8):\n        v1 = kit.add v0, v0: builtin.integer ui8;\n        kit.return v1",
-        ),
-    ] {
-        let text = function(alloc, ty, body)?;
-        let whole = format!(in alloc;
-            "builtin.module @m \n{{\n  ^b_block1v1():\n    builtin.func @f: builtin.function <{ty}> \n    {{\n      ^e_block2v1({printed}\n    }}\n}}\n"
-        )?;
-        assert_eq!(rt; ran(alloc, &[], text.as_bytes())?.as_str(), whole.as_str());
-        assert!(rt; is_printed_again(alloc, text.as_bytes())?);
+fn bodies_end_with_their_faults(rt: HostRuntime) -> Result<(), AllocError> {
+    for (front, end, cases) in INSIDES {
+        bodies_end(&rt, rt.alloc(), front, end, cases)?;
+    }
+    Ok(())
+}
+
+/// The type of a function, its body, and what is printed of its first block.
+const FIRST_BLOCKS: &[(&str, &str, &str)] = &[
+    (
+        "(builtin.integer i8)->(builtin.integer si64, builtin.integer i8)",
+        "^e(x: builtin.integer i8): a = builtin.constant builtin.integer <255: i8>; \
+            b = builtin.constant builtin.integer <-3: si64>; kit.return b, x;",
+        "v0: builtin.integer i8):\n        v1 = builtin.constant builtin.integer <-1: i8>;\n        \
+            v2 = builtin.constant builtin.integer <-3: si64>;\n        kit.return v2, v0",
+    ),
+    (
+        "(builtin.integer ui8)->(builtin.integer ui8)",
+        "^e(x: builtin.integer ui8): y=kit.add x,x:builtin.integer ui8; kit.return y",
+        "v0: builtin.integer ui8):\n        v1 = kit.add v0, v0: builtin.integer ui8;\n        kit.return v1",
+    ),
+];
+
+/// Whether the function of a text is printed with this type and first block.
+fn is_printed(alloc: Global, text: &[u8], ty: &str, printed: &str) -> Result<bool, AllocError> {
+    let whole = format!(in alloc;
+        "builtin.module @m \n{{\n  ^b_block1v1():\n    builtin.func @f: builtin.function <{ty}> \n    {{\n      \
+            ^e_block2v1({printed}\n    }}\n}}\n"
+    )?;
+    is_run_to(alloc, text, &whole)
+}
+
+/// Whether a function is printed with this first block, and that is printed again.
+fn prints(alloc: Global, ty: &str, body: &str, printed: &str) -> Result<bool, AllocError> {
+    let text = function(alloc, ty, body)?;
+    Ok(
+        is_printed(alloc, text.as_bytes(), ty, printed)?
+            && is_printed_again(alloc, text.as_bytes())?,
+    )
+}
+
+/// Functions are printed in one way, whatever their text was.
+#[test]
+fn texts_are_printed(rt: HostRuntime) -> Result<(), AllocError> {
+    for (ty, body, printed) in FIRST_BLOCKS {
+        assert!(rt; prints(rt.alloc(), ty, body, printed)?, "{body}");
     }
     Ok(())
 }

@@ -8,7 +8,7 @@ returns-in_err-bytes-clause-ends g c =
 pub returns-clause-ends : goal.returns-clause-ends
 returns-clause-ends g c =
     loaded g.R.Read.remaining c.args.reader.now c.read_to_end.new.reader c.in_ok-bytes.bytes.items c.args.ctx.now c.understand.new.ctx c.understand.result
-    c.in_ok-bytes.ensures (rw c.as_slice.ensures.value at c.understand.ensures.understands)
+    c.in_ok-bytes.ensures c.understand.ensures.understands
 
 pub returns-clause-writable : goal.returns-clause-writable
 returns-clause-writable g c = c.understand.ensures.writable
