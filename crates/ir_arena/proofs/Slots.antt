@@ -1,5 +1,5 @@
 -- What writing a slot makes of the pointers and of the vacant slots.
-use Rattle.std.proofs.Common.{◌≡◌, ℕ, ◌<◌, ◌≤◌, ◌-◌, ⊎_elim, Bool, true, false, cond, eqb, List, [], ◌∷◌, ◌++◌, length, Option, Some, None, IsSome, refl, sym, ap, subst, ◌∙◌, arith, set, get_or, zero, suc, length-append}
+use Rattle.std.proofs.Common.{◌≡◌, ℕ, ◌<◌, ◌≤◌, ◌-◌, ◌^◌, ⊎_elim, Bool, true, false, cond, eqb, List, [], ◌∷◌, ◌++◌, length, Option, Some, None, IsSome, refl, sym, ap, subst, ◌∙◌, arith, set, get_or, zero, suc, length-append}
 use Rattle.std.specs.List.{list_any}
 use Rattle.std.proofs.lemmas.List.{length-set, get_or-set_same, get_or-set_other, get_or_append_left, get_or-append_right, get_or_past, get_or_default}
 use Rattle.std.proofs.lemmas.Bool.{eqb-true, eqb-false, eq-eqb, ne_eqb, or_parts, or_from, cases_Bool, cases_eq, cases_order, cases_lt}
@@ -16,6 +16,7 @@ module _ {T : Type 0} where
   pub record IsFirst (slots : List (Slot T)) (x : ℕ) : Type 0 where
     pub within : x < length slots
     pub empty : (slot_at slots x).value ≡ None
+    pub left : (slot_at slots x).version < 2 ^ 64 - 1
     pub rest : List ℕ
     pub apart : list_any (eqb x) rest ≡ false
     pub chain : IsFreeFrom slots (slot_at slots x).next rest
@@ -26,7 +27,7 @@ module _ {T : Type 0} where
     from_chain [] e = let two : None ≡ Some x = sym e ∙ is in cc
     from_chain (y ∷ ys) c =
         let i : y ≡ x = let two : Some y ≡ Some x = sym c.0 ∙ is in cc in
-        let all : IsFirst slots y = record { within = c.1; empty = c.2; rest = ys; apart = c.3; chain = c.4 } in
+        let all : IsFirst slots y = record { within = c.1; empty = c.2; left = c.3; rest = ys; apart = c.4; chain = c.5 } in
         subst (λ (k : ℕ). IsFirst slots k) i all
 
   pub free_kept : (slots : List (Slot T)) (i : ℕ) (s : Slot T) (o : Option ℕ) (xs : List ℕ) → list_any (eqb i) xs ≡ false → IsFreeFrom slots o xs → IsFreeFrom (set slots i s) o xs
@@ -34,14 +35,14 @@ module _ {T : Type 0} where
   free_kept slots i s o (x ∷ xs) n c =
       let apart : (eqb i x ≡ false) × (list_any (eqb i) xs ≡ false) = or_parts _ _ n in
       let kept : slot_at (set slots i s) x ≡ slot_at slots x = get_or-set_other slots i x s no_slot (λ e. eqb-false i x apart.0 (sym e)) in
-      let rest : IsFreeFrom (set slots i s) (slot_at slots x).next xs = free_kept slots i s (slot_at slots x).next xs apart.1 c.4 in
-      (c.0, rw length-set c.1, ap (λ (k : Slot T). k.value) kept ∙ c.2, c.3, rw kept rest)
+      let rest : IsFreeFrom (set slots i s) (slot_at slots x).next xs = free_kept slots i s (slot_at slots x).next xs apart.1 c.5 in
+      (c.0, rw length-set c.1, ap (λ (k : Slot T). k.value) kept ∙ c.2, rw kept c.3, c.4, rw kept rest)
 
   pub not_free : (slots : List (Slot T)) (o : Option ℕ) (xs : List ℕ) (i : ℕ) → IsFreeFrom slots o xs → IsSome (slot_at slots i).value → list_any (eqb i) xs ≡ false
   not_free slots o [] i c s = refl
   not_free slots o (x ∷ xs) i c s = or_from _ _
       (ne_eqb i x (λ e. none_is_not_some (slot_at slots i).value (rw e c.2) s))
-      (not_free slots (slot_at slots x).next xs i c.4 s)
+      (not_free slots (slot_at slots x).next xs i c.5 s)
 
   -- the vacant slot that was read is put to use
   pub sound_used : (slots : List (Slot T)) (o : Option ℕ) (x : ℕ) (was s : Slot T) → IsSound slots o → o ≡ Some x → was ≡ get_or slots x was → IsSound (set slots x s) was.next
@@ -51,13 +52,13 @@ module _ {T : Type 0} where
       record { vacant = f.rest; chain = rw at (free_kept slots x s (slot_at slots x).next f.rest f.apart f.chain) }
 
   -- a slot in use is given back
-  pub sound_back : (slots : List (Slot T)) (o : Option ℕ) (x : ℕ) (s : Slot T) → IsSound slots o → x < length slots → IsSome (slot_at slots x).value → s.next ≡ o → s.value ≡ None → IsSound (set slots x s) (Some x)
-  sound_back slots o x s sound lt used next gone =
+  pub sound_back : (slots : List (Slot T)) (o : Option ℕ) (x : ℕ) (s : Slot T) → IsSound slots o → x < length slots → IsSome (slot_at slots x).value → s.version < 2 ^ 64 - 1 → s.next ≡ o → s.value ≡ None → IsSound (set slots x s) (Some x)
+  sound_back slots o x s sound lt used left next gone =
       let no : list_any (eqb x) sound.vacant ≡ false = not_free slots o sound.vacant x sound.chain used in
       let here : slot_at (set slots x s) x ≡ s = get_or-set_same slots x s no_slot lt in
       record {
         vacant = x ∷ sound.vacant;
-        chain = (refl, rw length-set lt, ap (λ (k : Slot T). k.value) here ∙ gone, no, rw (here, next) (free_kept slots x s o sound.vacant no sound.chain));
+        chain = (refl, rw length-set lt, ap (λ (k : Slot T). k.value) here ∙ gone, rw here left, no, rw (here, next) (free_kept slots x s o sound.vacant no sound.chain));
       }
 
   value_none : (s : Slot T) (v : ℕ) → s.value ≡ None → value_at s v ≡ None
@@ -161,6 +162,13 @@ module _ {T : Type 0} where
       let is : eqb p.slot q.slot ≡ false = ne_eqb p.slot q.slot (λ e. ne (sym e)) in
       rw (is, get_or-set_other slots p.slot q.slot s no_slot ne) refl)
       (cases_eq q.slot p.slot)
+
+  -- what was spent stays so where a live pointer's slot loses its value
+  pub erased_keeps : (slots : List (Slot T)) (p : Key) (s : Slot T) → Live slots p → s.value ≡ None → s.version ≡ (slot_at slots p.slot).version → KeepsSpent slots (set slots p.slot s)
+  erased_keeps slots p s live gone version = spent_kept slots p.slot s p None live.within
+      (erased_updates slots p s live gone (version ∙ live.version))
+      (omega (arith, version))
+      (λ q _. cond_none _)
 
   pub used_slot : (slots : List (Slot T)) (x : ℕ) (s : Slot T) (value : T) → x < length slots → (slot_at slots x).value ≡ None → s.value ≡ Some value → SetsSlot slots (set slots x s) x value
   used_slot slots x s value lt empty sv = record {

@@ -50,13 +50,6 @@ module _ {T : Type 0} where
   abbrev pub IsVacant : List (Slot T) → Type 0
   IsVacant slots = (p : Key) → get slots p ≡ None
 
-  -- some slot that is vacant has had its greatest version
-  pub record HasFullSlot (slots : List (Slot T)) : Type 0 where
-    pub slot : ℕ
-    pub within : slot < length slots
-    pub vacant : held slots slot ≡ None
-    pub greatest : (slot_at slots slot).version ≡ 2 ^ 64 - 1
-
   -- the arena gave p out, and its value is gone
   pub record IsSpent (slots : List (Slot T)) (p : Key) : Type 0 where
     pub slot : p.slot < length slots
@@ -67,10 +60,10 @@ module _ {T : Type 0} where
   abbrev pub KeepsSpent : List (Slot T) → List (Slot T) → Type 0
   KeepsSpent old new = (q : Key) → IsSpent old q → IsSpent new q
 
-  -- the vacant slots xs lead one to the next, from o on
+  -- the vacant slots xs, which have versions left, lead one to the next, from o on
   abbrev pub IsFreeFrom : List (Slot T) → Option ℕ → List ℕ → Type 0
   IsFreeFrom slots o [] = o ≡ None
-  IsFreeFrom slots o (x ∷ xs) = (o ≡ Some x) × (x < length slots) × ((slot_at slots x).value ≡ None) × (list_any (eqb x) xs ≡ false) × IsFreeFrom slots (slot_at slots x).next xs
+  IsFreeFrom slots o (x ∷ xs) = (o ≡ Some x) × (x < length slots) × ((slot_at slots x).value ≡ None) × ((slot_at slots x).version < 2 ^ 64 - 1) × (list_any (eqb x) xs ≡ false) × IsFreeFrom slots (slot_at slots x).next xs
 
   -- some vacant slots lead on from the first one
   pub record IsSound (slots : List (Slot T)) (free : Option ℕ) : Type 0 where

@@ -1,12 +1,10 @@
 //! Values under keys that no later value gets.
 ghost use Rattle.std.specs.Prelude.{◌≡◌, ◌≢◌, ◌↔◌, IsTrue, ℕ, ◌+◌, ◌<◌, ◌≤◌, [], IfOk, Err, OnOk, OnErr, IfErr, Some, None, IsSome, is_some, is_none, length, option_copied};
 ghost use Rattle.std.specs.List.{list_all};
-ghost use Rattle.ir_arena.specs.Arena.{get, held, IsVacant, Updates, SetsSlot, ClearsSlot, IsSpent, KeepsSpent, HasFullSlot};
-ghost use Rattle.ir_base.specs.declared.growth.GrowError.TheVariants.{CounterFull};
+ghost use Rattle.ir_arena.specs.Arena.{get, held, IsVacant, Updates, SetsSlot, ClearsSlot, IsSpent, KeepsSpent};
 ghost use Rattle.std.specs.Borrow.{sem};
 
-use ir_base::GrowError;
-use std::alloc::Global;
+use std::alloc::{AllocError, Global};
 use std::marker::Model;
 
 /// A slot of an arena, and which of the values that the slot holds in turn.
@@ -29,7 +27,7 @@ impl Key {
 #[derive(Drop)]
 pub struct Slot<T> {
     version: u64,
-    // The next vacant slot, where this one is vacant.
+    // The next vacant slot that can be used again, where this one is such a slot.
     next: Option<usize>,
     value: Option<T>,
 }
@@ -53,7 +51,7 @@ impl<T> Slot<T> {
 #[derive(Drop)]
 pub struct Arena<T> {
     slots: Vec<Slot<T>>,
-    // The first vacant slot.
+    // The first vacant slot that can be used again.
     free: Option<usize>,
 }
 
@@ -158,7 +156,7 @@ impl<T> Arena<T> {
     }
 
     /// Puts a value under a key that led nowhere so far.
-    pub fn alloc(&mut self, value: T) -> Result<Key, GrowError>
+    pub fn alloc(&mut self, value: T) -> Result<Key, AllocError>
     where
         T: Drop,
         ensures fresh { IfOk result (λ p. get self.old p ≡ None) }
@@ -168,7 +166,6 @@ impl<T> Arena<T> {
         ensures grows { length self.old ≤ length self.new }
         ensures by_one { length self.new ≤ length self.old + 1 }
         ensures err { OnErr result (self.new ≡ self.old) }
-        ensures full { result ≡ Err CounterFull → HasFullSlot self.old }
         ensures spent { KeepsSpent self.old self.new }
     {
         match self.free {
@@ -183,9 +180,6 @@ impl<T> Arena<T> {
             }
             Some(slot) => {
                 let vacant = &mut self.slots[slot];
-                if vacant.version == u64::MAX {
-                    return Err(GrowError::CounterFull);
-                }
                 let version = vacant.version + 1;
                 vacant.version = version;
                 vacant.value = Some(value);
@@ -207,11 +201,15 @@ impl<T> Arena<T> {
         ensures spent { KeepsSpent self.old self.new }
     {
         let slot = &mut self.slots[p.slot];
+        let Some(value) = slot.value.take() else {
+            unreachable!()
+        };
+        // A slot that has had its greatest version is not used again.
+        if slot.version == u64::MAX {
+            return value;
+        }
         slot.next = self.free;
         self.free = Some(p.slot);
-        match slot.value.take() {
-            Some(value) => value,
-            None => unreachable!(),
-        }
+        value
     }
 }

@@ -38,7 +38,7 @@ pub trait ArgumentCalls {
     /// ever had.
     ///
     /// # Errors
-    /// `Memory`, and `CounterFull` where each number has been given.
+    /// `Memory`, and `CounterFull` where the counter is at its greatest.
     fn push_argument<O, B, T: TypeTable>(
         self,
         _alloc: Global,
@@ -60,7 +60,7 @@ pub trait ArgumentCalls {
     /// no value ever had.
     ///
     /// # Errors
-    /// `Memory`, and `CounterFull` where each number has been given.
+    /// `Memory`, and `CounterFull` where the counter is at its greatest.
     fn insert_argument<O, B, T: TypeTable>(
         self,
         _alloc: Global,

@@ -2,7 +2,6 @@
 ghost use Rattle.std.specs.Prelude.{◌≡◌, ◌↔◌, [], None, IsTrue, option_copied};
 ghost use Rattle.ir_base.specs.declared.types.TypeHandle.{TypeHandle};
 ghost use Rattle.ir_program.specs.Program.{operation_at, block_at, region_at};
-ghost use Rattle.ir_program.specs.Made.{HasRoom};
 ghost use Rattle.ir_program.specs.Lists.{IsEmptyProgram, IsLiveNode, StandsInside};
 ghost use Rattle.ir_types.specs.Interned.{key_at};
 ghost use Rattle.ir_context.specs.Known.{HasKnownTypes};
@@ -46,7 +45,6 @@ impl<O, B, T: TypeTable> TypedProgram<O, B, T> {
         ensures blocks { (p : _) → block_at result.program p ≡ None }
         ensures regions { (p : _) → region_at result.program p ≡ None }
         ensures counter { result.program.counter ≡ 0 }
-        ensures room { HasRoom result.program }
         ensures types { result.types ≡ types }
     {
         let program = Program::new(alloc);
@@ -109,7 +107,6 @@ impl<D: DialectTables> TypedProgram<OperationData<D>, BlockNotes<D>, Types<D>> {
         ensures blocks { (p : _) → block_at result.program p ≡ None }
         ensures regions { (p : _) → region_at result.program p ≡ None }
         ensures counter { result.program.counter ≡ 0 }
-        ensures room { HasRoom result.program }
         ensures types { result.types ≡ record { keys = []; bodies = []; saved = [] } }
     {
         TypedProgram::with_types(alloc, Types::new(alloc))

@@ -1,10 +1,10 @@
 //! Making operations and blocks that come from no source and have no attributes.
-ghost use Rattle.std.specs.Prelude.{◌≡◌, ◌⊎◌, ◌≤◌, ◌+◌, ◌^◌, [], Err, IfOk, OnErr, length};
+ghost use Rattle.std.specs.Prelude.{◌≡◌, ◌≤◌, ◌+◌, ◌^◌, [], Err, IfOk, OnErr, length};
 ghost use Rattle.ir_base.specs.declared.growth.GrowError.TheVariants.{CounterFull};
 ghost use Rattle.ir_program.specs.Program.{type_at};
-ghost use Rattle.ir_program.specs.Edits.{IsRestored};
+ghost use Rattle.ir_program.specs.Edits.{IsUnchanged};
 ghost use Rattle.ir_program.specs.Adds.{AreLiveValues, AreLiveBlocks};
-ghost use Rattle.ir_program.specs.Made.{BuildsOperation, BuildsBlock, HasFullOperationSlot, HasFullBlockSlot, HasFullRegionSlot};
+ghost use Rattle.ir_program.specs.Made.{BuildsOperation, BuildsBlock};
 ghost use Rattle.ir_program.specs.declared.handles.Value.{Value};
 ghost use Rattle.ir_context.specs.Known.{AreKnownIn};
 
@@ -35,9 +35,9 @@ pub trait NewOperation {
         requires operands { AreLiveValues ctx.old.program operands.now }
         requires successors { AreLiveBlocks ctx.old.program successors.now }
         ensures built { IfOk result (λ p. BuildsOperation ctx.old.program ctx.new.program p (record { kind = kind; notes = record { attributes = []; loc = D.nowhere } }) result_types.now operands.now successors.now num_regions) }
-        ensures err { OnErr result (IsRestored ctx.old.program ctx.new.program) }
+        ensures err { OnErr result (IsUnchanged ctx.old.program ctx.new.program) }
         ensures err_values { OnErr result ((v : Value) → type_at ctx.new.program v ≡ type_at ctx.old.program v) }
-        ensures full { result ≡ Err CounterFull → HasFullOperationSlot ctx.old.program ⊎ (HasFullRegionSlot ctx.old.program ⊎ (2 ^ 64 ≤ ctx.old.program.counter + length result_types.now)) }
+        ensures full { result ≡ Err CounterFull → 2 ^ 64 ≤ ctx.old.program.counter + length result_types.now }
         ensures types { ctx.new.types ≡ ctx.old.types };
 }
 
@@ -82,9 +82,9 @@ pub trait NewBlock {
     ) -> Result<Ptr<BasicBlock>, GrowError>
         requires known { AreKnownIn (length ctx.old.types.keys) argument_types.now }
         ensures built { IfOk result (λ p. BuildsBlock ctx.old.program ctx.new.program p (record { attributes = []; loc = D.nowhere; label = label }) argument_types.now) }
-        ensures err { OnErr result (IsRestored ctx.old.program ctx.new.program) }
+        ensures err { OnErr result (IsUnchanged ctx.old.program ctx.new.program) }
         ensures err_values { OnErr result ((v : Value) → type_at ctx.new.program v ≡ type_at ctx.old.program v) }
-        ensures full { result ≡ Err CounterFull → HasFullBlockSlot ctx.old.program ⊎ (2 ^ 64 ≤ ctx.old.program.counter + length argument_types.now) }
+        ensures full { result ≡ Err CounterFull → 2 ^ 64 ≤ ctx.old.program.counter + length argument_types.now }
         ensures types { ctx.new.types ≡ ctx.old.types };
 }
 

@@ -44,7 +44,7 @@ pub trait ResultCalls {
     /// ever had.
     ///
     /// # Errors
-    /// `Memory`, and `CounterFull` where each number has been given.
+    /// `Memory`, and `CounterFull` where the counter is at its greatest.
     fn push_result<O, B, T: TypeTable>(
         self,
         _alloc: Global,
@@ -66,7 +66,7 @@ pub trait ResultCalls {
     /// no value ever had.
     ///
     /// # Errors
-    /// `Memory`, and `CounterFull` where each number has been given.
+    /// `Memory`, and `CounterFull` where the counter is at its greatest.
     fn insert_result<O, B, T: TypeTable>(
         self,
         _alloc: Global,

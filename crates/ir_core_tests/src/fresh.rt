@@ -1,7 +1,6 @@
-//! Making in a fresh context, where no counter is full: what is refused is refused for want of memory.
+//! Making in a fresh context, whose numbers are all left: what is refused is refused for want of memory.
 ghost use Rattle.std.specs.Prelude.{◌≡◌, IfOk, OnOk, IsSome};
 ghost use Rattle.ir_program.specs.Program.{operation_at};
-ghost use Rattle.ir_program.specs.Made.{HasRoom};
 
 use ir_core::{BasicBlock, Context, GrowError, NewBlock, NewOperation, Operation, Ptr, Region};
 use ir_scripts::tiny::{Tiny, TinyOp};
@@ -10,10 +9,8 @@ use std::test::Fail;
 
 /// An operation without results, operands, successors and regions.
 fn make_operation(alloc: Global, ctx: &mut Context<Tiny>) -> Result<Ptr<Operation>, AllocError>
-    requires room { HasRoom ctx.old.program }
-    requires numbers { ctx.old.program.counter ≡ 0 }
+    requires { ctx.old.program.counter ≡ 0 }
     ensures there { IfOk result (λ op. IsSome (operation_at ctx.new.program op)) }
-    ensures room { OnOk result (HasRoom ctx.new.program) }
     ensures numbers { OnOk result (ctx.new.program.counter ≡ 0) }
 {
     match Operation::new(alloc, ctx, TinyOp::Def, &[], &[], &[], 0) {
@@ -26,23 +23,15 @@ fn make_operation(alloc: Global, ctx: &mut Context<Tiny>) -> Result<Ptr<Operatio
 /// A region of an operation.
 fn make_region(ctx: &mut Context<Tiny>, op: Ptr<Operation>) -> Result<Ptr<Region>, AllocError>
     requires op { IsSome (operation_at ctx.old.program op) }
-    requires room { HasRoom ctx.old.program }
     requires numbers { ctx.old.program.counter ≡ 0 }
-    ensures room { OnOk result (HasRoom ctx.new.program) }
     ensures numbers { OnOk result (ctx.new.program.counter ≡ 0) }
 {
-    match ctx.add_region(op) {
-        Ok(region) => Ok(region),
-        Err(GrowError::Memory) => Err(AllocError),
-        Err(GrowError::CounterFull) => unreachable!(),
-    }
+    ctx.add_region(op)
 }
 
 /// A block without a label and arguments.
 fn make_block(alloc: Global, ctx: &mut Context<Tiny>) -> Result<Ptr<BasicBlock>, AllocError>
-    requires room { HasRoom ctx.old.program }
-    requires numbers { ctx.old.program.counter ≡ 0 }
-    ensures room { OnOk result (HasRoom ctx.new.program) }
+    requires { ctx.old.program.counter ≡ 0 }
     ensures numbers { OnOk result (ctx.new.program.counter ≡ 0) }
 {
     match BasicBlock::new(alloc, ctx, None, &[]) {
@@ -52,10 +41,9 @@ fn make_block(alloc: Global, ctx: &mut Context<Tiny>) -> Result<Ptr<BasicBlock>,
     }
 }
 
-/// One thing of each sort after the other, in a context that has room.
+/// One thing of each sort after the other, in a context whose numbers are all left.
 fn make_each(alloc: Global, ctx: &mut Context<Tiny>) -> Result<(), AllocError>
-    requires room { HasRoom ctx.old.program }
-    requires numbers { ctx.old.program.counter ≡ 0 }
+    requires { ctx.old.program.counter ≡ 0 }
 {
     let op = make_operation(alloc, ctx)?;
     make_region(ctx, op)?;
@@ -65,7 +53,7 @@ fn make_each(alloc: Global, ctx: &mut Context<Tiny>) -> Result<(), AllocError>
 }
 
 #[test]
-fn a_fresh_context_has_room(rt: HostRuntime) -> Result<(), Fail> {
+fn a_fresh_context_has_numbers(rt: HostRuntime) -> Result<(), Fail> {
     let mut ctx: Context<Tiny> = Context::new(rt.alloc());
     let outcome = make_each(rt.alloc(), &mut ctx);
     assert!(rt; outcome.is_ok());

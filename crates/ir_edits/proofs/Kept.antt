@@ -24,7 +24,7 @@ use Rattle.ir_edits.specs.declared.direct_edit.DirectEdit.TheVariants as direct
 use Rattle.ir_edits.specs.Naming.{block_named, value_named}
 use Rattle.ir_edits.specs.Resolving.{resolved}
 use Rattle.ir_edits.specs.Answered.{Answered}
-use Rattle.ir_edits.specs.Same.{IsSame, IsPutBack}
+use Rattle.ir_edits.specs.Same.{IsSame}
 use Rattle.ir_edits.specs.Steps.{Named, does, step, Runs, ends, goes_on, stops}
 
 -- operations are the same or not
@@ -51,11 +51,6 @@ module _ {O B T : Type 0} (c n : ContextView O B T) where
   answered_kept : {R : Type 0} (r : Result R CoreError) (may asks full : Type 0) (done : R → Type 0) → Answered may asks full done (IsSame c n) r → (may → (v : R) → done v → KeepsErased c.program n.program) → KeepsErased c.program n.program
   answered_kept (Ok v) may asks full done h kept = kept h.0 v h.1
   answered_kept (Err e) may asks full done h kept = h.1.program.erased
-
-  -- the same of one that makes something
-  making_kept : {R : Type 0} (r : Result R CoreError) (may asks full : Type 0) (done : R → Type 0) → Answered may asks full done (IsPutBack c n) r → (may → (v : R) → done v → KeepsErased c.program n.program) → KeepsErased c.program n.program
-  making_kept (Ok v) may asks full done h kept = kept h.0 v h.1
-  making_kept (Err e) may asks full done h kept = h.1.program.erased
 
   -- where a value went, if there was one
   popped_operation : (o : Option Value) (p : Ptr Operation) (f : OperationView O → OperationView O) (F : Value → Type 0) → MatchOption o (n.program ≡ c.program) (λ v. EditsOperation c.program n.program p f × F v) → KeepsErased c.program n.program
@@ -115,8 +110,8 @@ module _ {D TypeKind AttrKind TypeBody Saved Location OpKind Attr TypeKey K T S 
   step_kept : (c : ContextView (OperationData D TypeKind AttrKind TypeBody Saved Location OpKind Attr TypeKey) (BlockNotes D TypeKind AttrKind TypeBody Saved Location OpKind Attr TypeKey) (TypesView K T S)) (made : List (Option Entity)) (e : Edit OpKind)
       (n : ContextView (OperationData D TypeKind AttrKind TypeBody Saved Location OpKind Attr TypeKey) (BlockNotes D TypeKind AttrKind TypeBody Saved Location OpKind Attr TypeKey) (TypesView K T S)) (r : Result (Option Entity) CoreError)
       → step nowhere c made e n r → KeepsErased c.program n.program
-  step_kept c made (edit.NewOperation kind result_types operands successors num_regions) n r h = making_kept c n r _ _ _ _ h (λ m v d. d.6.erased)
-  step_kept c made (edit.NewBlock label argument_types) n r h = making_kept c n r _ _ _ _ h (λ m v d. d.4.erased)
+  step_kept c made (edit.NewOperation kind result_types operands successors num_regions) n r h = answered_kept c n r _ _ _ _ h (λ m v d. d.6.erased)
+  step_kept c made (edit.NewBlock label argument_types) n r h = answered_kept c n r _ _ _ _ h (λ m v d. d.4.erased)
   step_kept c made (edit.RetargetSomePredsTo block places other) n r h = named_kept c n (block_named made block) r _ h (λ x1 h1. named_kept c n (block_named made other) r _ h1 (λ x2 h2. answered_kept c n r _ _ _ _ h2 (λ m v d. d.3.erased)))
   step_kept c made (edit.ReplaceSomeUsesWith value places other) n r h = named_kept c n (value_named c.program made value) r _ h (λ x1 h1. named_kept c n (value_named c.program made other) r _ h1 (λ x2 h2. answered_kept c n r _ _ _ _ h2 (λ m v d. d.3.erased)))
   step_kept c made e n r h = named_kept c n (resolved c.program made e) r _ h (λ d h1. does_kept c n (λ types. length types.keys) d r h1)

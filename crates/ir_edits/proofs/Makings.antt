@@ -7,7 +7,7 @@ use Rattle.ir_program.specs.Program.{Program, block_at, IsLiveValue}
 use Rattle.ir_program.specs.declared.handles.Ptr.{Ptr}
 use Rattle.ir_program.specs.declared.handles.BasicBlock.{BasicBlock}
 use Rattle.ir_program.specs.declared.handles.Value.{Value}
-use Rattle.ir_program.proofs.made.AddSteps.{kept-erased, kept-room, restored}
+use Rattle.ir_program.proofs.made.AddSteps.{kept-erased}
 use Rattle.ir_edits.specs.declared.edit.Entity.{Entity}
 use Rattle.ir_edits.specs.declared.edit.At.{At}
 use Rattle.ir_edits.specs.declared.edit.ValueAt.{ValueAt}
@@ -18,7 +18,7 @@ use Rattle.ir_edits.specs.declared.edit.PlaceAt.{PlaceAt}
 use Rattle.ir_edits.specs.UseEdits.{AreListedUses}
 use Rattle.ir_edits.specs.Naming.{operation_named, value_named, block_named, NameEach, AreNamed}
 use Rattle.ir_context.specs.Views.{ContextView}
-use Rattle.ir_edits.specs.Same.{IsSame, IsPutBack}
+use Rattle.ir_edits.specs.Same.{IsSame}
 use Rattle.ir_program.specs.Made.{BuildsOperation}
 
 pub known_where : (count : ℕ) (tys : List TypeHandle) (b : Bool) → (IsTrue b ↔ AreKnownIn count tys) → b ≡ true → (k : ℕ) (ty : TypeHandle) → slice_get tys k ≡ Some ty → IsKnownIn count ty
@@ -61,10 +61,7 @@ listed_stand made places rows x us listed k u e = let s = listed.sound k u e in 
 module _ {O B T : Type 0} where
   -- nothing has changed
   pub same_still : (c : ContextView O B T) → IsSame c c
-  same_still c = record { program = record { operations = λ p. refl; blocks = λ p. refl; regions = λ p. refl; erased = kept-erased c.program; room = kept-room c.program; counter = refl }; values = λ v. refl; types = refl }
-
-  pub back_still : (c : ContextView O B T) → IsPutBack c c
-  back_still c = record { program = restored c.program c.program (same_still c).program; values = λ v. refl; types = refl }
+  same_still c = record { program = record { operations = λ p. refl; blocks = λ p. refl; regions = λ p. refl; erased = kept-erased c.program; counter = refl }; values = λ v. refl; types = refl }
 
 -- what is built of the same parts
 pub built_of : {O B : Type 0} (c n : Program O B) (p : Ptr Operation) (tys : List TypeHandle) (count : ℕ) (d e : O) (vs ws : List Value) (bs cs : List (Ptr BasicBlock)) → d ≡ e → vs ≡ ws → bs ≡ cs → BuildsOperation c n p d tys vs bs count → BuildsOperation c n p e tys ws cs count

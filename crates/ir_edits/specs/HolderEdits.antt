@@ -2,7 +2,7 @@
 use Rattle.std.specs.Prelude.{◌≡◌, ◌≢◌, ℕ, [], ◌∷◌, ◌++◌, Option, Some, None, IsSome, Result, remove, slice_get}
 use Rattle.ir_program.specs.Program.{operation_at, block_at, region_at, type_at}
 use Rattle.ir_program.specs.Lists.{regions_in, StandsInside, IsLiveNode}
-use Rattle.ir_program.specs.Made.{MakesRegion, HasFullRegionSlot}
+use Rattle.ir_program.specs.Made.{MakesRegion}
 use Rattle.ir_program.specs.Edits.{EditsOperation, KeepsErased, MovesRegion}
 use Rattle.ir_program.specs.Drops.{DropsUses}
 use Rattle.ir_program.specs.Erased.{IsApart, ErasesOperation, ErasesBlock, ErasesRegion}
@@ -24,7 +24,7 @@ module _ {O B T : Type 0} where
   -- one region more, behind the others: a region with no block
   abbrev pub AnswersAddRegion : ContextView O B T → Ptr Operation → ContextView O B T → Result (Option Entity) CoreError → Type 0
   AnswersAddRegion c p n r =
-      Answered (IsSome (operation_at c.program p)) (Unit {0}) (HasFullRegionSlot c.program)
+      Answered (IsSome (operation_at c.program p)) (Unit {0}) ⊥
       (λ e. (q : Ptr Region) × (e ≡ Some (RegionEntity q)) × MakesRegion c.program n.program p q × ((v : Value) → type_at n.program v ≡ type_at c.program v) × (n.types ≡ c.types))
       (IsSame c n) r
 

@@ -1,10 +1,10 @@
 -- What edits that make operations and blocks do and answer.
-use Rattle.std.specs.Prelude.{◌≡◌, ℕ, ◌+◌, ◌^◌, ◌≤◌, ◌⊎◌, List, [], Option, Some, IsSome, Result, option_map, length}
+use Rattle.std.specs.Prelude.{◌≡◌, ℕ, ◌+◌, ◌^◌, ◌≤◌, List, [], Option, Some, IsSome, Result, option_map, length}
 use Rattle.ir_names.specs.Identifier.{text_of}
 use Rattle.ir_names.specs.declared.identifier.Identifier.{Identifier}
 use Rattle.ir_base.specs.declared.types.TypeHandle.{TypeHandle}
 use Rattle.ir_program.specs.Program.{block_at, IsLiveValue}
-use Rattle.ir_program.specs.Made.{BuildsOperation, BuildsBlock, HasFullOperationSlot, HasFullBlockSlot, HasFullRegionSlot}
+use Rattle.ir_program.specs.Made.{BuildsOperation, BuildsBlock}
 use Rattle.ir_program.specs.declared.handles.Ptr.{Ptr}
 use Rattle.ir_program.specs.declared.handles.Operation.{Operation}
 use Rattle.ir_program.specs.declared.handles.BasicBlock.{BasicBlock}
@@ -21,7 +21,7 @@ use Rattle.ir_edits.specs.declared.edit.At.{At}
 use Rattle.ir_edits.specs.declared.edit.ValueAt.{ValueAt}
 use Rattle.ir_edits.specs.Naming.{value_named, block_named, NameEach, AreNamed}
 use Rattle.ir_edits.specs.Answered.{Answered}
-use Rattle.ir_edits.specs.Same.{IsPutBack}
+use Rattle.ir_edits.specs.Same.{IsSame}
 
 -- a dialect and its types
 module _ {D TypeKind AttrKind TypeBody Saved Location OpKind Attr TypeKey K T S : Type 0} where
@@ -33,10 +33,10 @@ module _ {D TypeKind AttrKind TypeBody Saved Location OpKind Attr TypeKey K T S 
       → Result (Option Entity) CoreError → Type 0
   BuildsNewOperation nowhere c made kind tys operands successors count n r =
       Answered (AreKnownIn (length c.types.keys) tys × NameEach (value_named c.program made) (IsLiveValue c.program) operands × NameEach (block_named made) (λ b. IsSome (block_at c.program b)) successors) (Unit {0})
-      (HasFullOperationSlot c.program ⊎ (HasFullRegionSlot c.program ⊎ (2 ^ 64 ≤ c.program.counter + length tys)))
+      (2 ^ 64 ≤ c.program.counter + length tys)
       (λ e. (p : Ptr Operation) × (vs : List Value) × (bs : List (Ptr BasicBlock)) × (e ≡ Some (OperationEntity p)) × AreNamed (value_named c.program made) operands vs × AreNamed (block_named made) successors bs
       × BuildsOperation c.program n.program p (record { kind = kind; notes = record { attributes = []; loc = nowhere } }) tys vs bs count × (n.types ≡ c.types))
-      (IsPutBack c n) r
+      (IsSame c n) r
 
   -- a block that comes from no source and has no attributes, with a label of this text and arguments of these types
   abbrev pub BuildsNewBlock : Location
@@ -46,7 +46,7 @@ module _ {D TypeKind AttrKind TypeBody Saved Location OpKind Attr TypeKey K T S 
       → Result (Option Entity) CoreError → Type 0
   BuildsNewBlock nowhere c label tys n r =
       Answered (AreKnownIn (length c.types.keys) tys) (Unit {0})
-      (HasFullBlockSlot c.program ⊎ (2 ^ 64 ≤ c.program.counter + length tys))
+      (2 ^ 64 ≤ c.program.counter + length tys)
       (λ e. (b : Ptr BasicBlock) × (copy : Option Identifier) × (e ≡ Some (BlockEntity b)) × (option_map text_of copy ≡ option_map text_of label)
       × BuildsBlock c.program n.program b (record { attributes = []; loc = nowhere; label = copy }) tys × (n.types ≡ c.types))
-      (IsPutBack c n) r
+      (IsSame c n) r

@@ -1,7 +1,7 @@
 -- What an edit leaves as it was.
 use Rattle.std.specs.Prelude.{◌≡◌, ◌⊎◌, ◌++◌, List, [], ◌∷◌}
 use Rattle.ir_program.specs.Program.{type_at}
-use Rattle.ir_program.specs.Edits.{KeepsValues, IsUnchanged, IsRestored}
+use Rattle.ir_program.specs.Edits.{KeepsValues, IsUnchanged}
 use Rattle.ir_program.specs.declared.handles.Value.{Value}
 use Rattle.ir_context.specs.Views.{ContextView}
 
@@ -17,11 +17,5 @@ pub record KeepsValuesAndTypes {O B T : Type 0} (old new : ContextView O B T) : 
 -- each handle leads to what it led to, each value keeps its type, and the types stay
 pub record IsSame {O B T : Type 0} (old new : ContextView O B T) : Type 0 where
   pub program : IsUnchanged old.program new.program
-  pub values : (v : Value) → type_at new.program v ≡ type_at old.program v
-  pub types : new.types ≡ old.types
-
--- the same where something was made and erased again, whose slot may be full now
-pub record IsPutBack {O B T : Type 0} (old new : ContextView O B T) : Type 0 where
-  pub program : IsRestored old.program new.program
   pub values : (v : Value) → type_at new.program v ≡ type_at old.program v
   pub types : new.types ≡ old.types

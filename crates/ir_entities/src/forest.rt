@@ -11,7 +11,6 @@ ghost use Rattle.ir_entities.specs.declared.forest.Place.TheVariants.{Op, Block,
 
 use crate::siblings::Siblings;
 use ir_arena::{Arena, Key};
-use ir_base::GrowError;
 use std::alloc::{AllocError, Global};
 use std::marker::Model;
 

@@ -1,20 +1,18 @@
 //! Making operations, blocks and regions, and taking them out.
 
 ghost use Rattle.std.specs.Prelude.{◌≡◌, ℕ, ◌<◌, ◌≤◌, length, [], Some, None, Err, IsSome, IfOk, OnOk, OnErr};
-ghost use Rattle.ir_arena.specs.Arena.{get, ClearsSlot, HasFullSlot, IsSpent, KeepsSpent, SetsSlot, Updates};
+ghost use Rattle.ir_arena.specs.Arena.{get, ClearsSlot, IsSpent, KeepsSpent, SetsSlot, Updates};
 ghost use Rattle.ir_entities.specs.Links.{list_at};
 ghost use Rattle.ir_entities.specs.Forest.{IsRootOp, IsRootBlock, IsRootRegion};
-ghost use Rattle.ir_base.specs.declared.growth.GrowError.TheVariants.{CounterFull};
 
 use crate::forest::Forest;
 use crate::siblings::Siblings;
 use ir_arena::Key;
-use ir_base::GrowError;
 use std::alloc::AllocError;
 
 impl<O, B, R> Forest<O, B, R> {
     /// Makes an operation, which stands in no block and holds no region.
-    pub fn new_op(&mut self, op: O) -> Result<Key, GrowError>
+    pub fn new_op(&mut self, op: O) -> Result<Key, AllocError>
     where
         O: Drop,
         ensures fresh { IfOk result (λ p. get self.old.ops p ≡ None) }
@@ -30,7 +28,6 @@ impl<O, B, R> Forest<O, B, R> {
         ensures blocks { self.new.blocks ≡ self.old.blocks }
         ensures regions { self.new.regions ≡ self.old.regions }
         ensures err { OnErr result (self.new.ops ≡ self.old.ops) }
-        ensures full { result ≡ Err CounterFull → HasFullSlot self.old.ops }
     {
         let slots = self.ops.slots();
         make_node(&mut self.in_blocks, slots)?;
@@ -56,7 +53,7 @@ impl<O, B, R> Forest<O, B, R> {
     }
 
     /// Makes a block, which stands in no region and holds no operation.
-    pub fn new_block(&mut self, block: B) -> Result<Key, GrowError>
+    pub fn new_block(&mut self, block: B) -> Result<Key, AllocError>
     where
         B: Drop,
         ensures fresh { IfOk result (λ p. get self.old.blocks p ≡ None) }
@@ -72,7 +69,6 @@ impl<O, B, R> Forest<O, B, R> {
         ensures ops { self.new.ops ≡ self.old.ops }
         ensures regions { self.new.regions ≡ self.old.regions }
         ensures err { OnErr result (self.new.blocks ≡ self.old.blocks) }
-        ensures full { result ≡ Err CounterFull → HasFullSlot self.old.blocks }
     {
         let slots = self.blocks.slots();
         make_node(&mut self.in_regions, slots)?;
@@ -98,7 +94,7 @@ impl<O, B, R> Forest<O, B, R> {
     }
 
     /// Makes a region, which stands in no operation and holds no block.
-    pub fn new_region(&mut self, region: R) -> Result<Key, GrowError>
+    pub fn new_region(&mut self, region: R) -> Result<Key, AllocError>
     where
         R: Drop,
         ensures fresh { IfOk result (λ p. get self.old.regions p ≡ None) }
@@ -114,7 +110,6 @@ impl<O, B, R> Forest<O, B, R> {
         ensures ops { self.new.ops ≡ self.old.ops }
         ensures blocks { self.new.blocks ≡ self.old.blocks }
         ensures err { OnErr result (self.new.regions ≡ self.old.regions) }
-        ensures full { result ≡ Err CounterFull → HasFullSlot self.old.regions }
     {
         let slots = self.regions.slots();
         make_node(&mut self.in_ops, slots)?;

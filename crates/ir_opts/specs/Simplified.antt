@@ -10,7 +10,6 @@ use Rattle.opt_dialect.specs.declared.status.OptError.{OptError}
 use Rattle.opt_dialect.specs.declared.status.OptError.TheVariants.{LiveUse, Memory}
 use Rattle.opt_reach.specs.declared.starts.Start.TheVariants.{Operation as AtOperation}
 use Rattle.opt_decide.specs.Phase.{CarriesOutPart, DecidesBranches, HasNoneDecided}
-use Rattle.opt_decide.specs.Replaced.{IsShortage}
 use Rattle.opt_simplify.specs.Phases.{RemovesBlocks}
 use Rattle.opt_simplify.specs.Refusals.{HasNoneUnreached, LosesNone, LosesUses}
 use Rattle.opt_chains.specs.Phases.{MergesBlocks}
@@ -47,8 +46,8 @@ module _ {O B A : Type 0} (d : Dialect (in_program O B) A) where
 
     -- the phase that stops, and what the program is then
     pub data StopsAt (e : OptError) : Type 0 where
-      -- some of the branches are decided, each whole, and there is no memory or no handle for the next
-      while_deciding : IsShortage e → CarriesOutPart d old new op → StopsAt e
+      -- some of the branches are decided, each whole, and there is no memory for the next
+      while_deciding : e ≡ Memory → CarriesOutPart d old new op → StopsAt e
       -- the branches are decided, and there is no memory to look for blocks that nothing reaches
       while_removing : e ≡ Memory → Decides old new op → StopsAt e
       -- the branches are decided, and what would stay takes a value of a block that would go

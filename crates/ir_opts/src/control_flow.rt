@@ -1,14 +1,11 @@
 //! Simplification of control flow.
-ghost use Rattle.std.specs.Prelude.{◌≡◌, ◌↔◌, Err, Ok, IfErr, IfOk, IsSome, OnOk};
-ghost use Rattle.ir_program.specs.Program.{Program, operation_at};
+ghost use Rattle.std.specs.Prelude.{◌≡◌, ◌↔◌, Ok, IfErr, IfOk, IsSome, OnOk};
+ghost use Rattle.ir_program.specs.Program.{operation_at};
 ghost use Rattle.ir_trees.specs.Stands.{ProgramTree, StandsFor};
 ghost use Rattle.ir_opts.specs.Simplified.{HasNothingToDo, Simplifies, StopsAt};
 ghost use Rattle.ir_opts.specs.SimplifiedTree.{SimplifiesTree};
-ghost use Rattle.opt_decide.specs.Phase.{CarriesOutPart};
 ghost use Rattle.opt_dialect.specs.declared.status.IRStatus.TheVariants.{Unchanged};
-ghost use Rattle.opt_dialect.specs.declared.status.OptError.TheVariants.{CounterFull};
 ghost use Rattle.opt_inside.specs.Edges.{FitsEdgesBelow, HasLocalEdgesBelow};
-ghost use Rattle.opt_inside.specs.Full.{IsFull};
 
 use ir_context::{TypeTable, TypedProgram};
 use ir_program::{Operation, Ptr};
@@ -29,10 +26,9 @@ use std::alloc::Global;
 /// Source: Muchnick, Advanced compiler design and implementation, 1997, 18.1 and 18.2.
 ///
 /// # Errors
-/// `Memory`, and `CounterFull` where no handle is left for a branch: whole phases are done then, or some of the
-/// branches are decided, each whole. `LiveUse` where what would stay takes a value of a block that would go: the
-/// branches are decided then; or where following what was forwarded to an argument comes back to it: the blocks that
-/// nothing reaches are gone then too.
+/// `Memory`: whole phases are done then, or some of the branches are decided, each whole. `LiveUse` where what would
+/// stay takes a value of a block that would go: the branches are decided then; or where following what was forwarded
+/// to an argument comes back to it: the blocks that nothing reaches are gone then too.
 pub fn simplify_cfg<D: OptDialect, T: TypeTable>(
     alloc: Global,
     op: Ptr<Operation>,
@@ -47,8 +43,7 @@ pub fn simplify_cfg<D: OptDialect, T: TypeTable>(
     ensures unchanged { IfOk result (λ status. (status ≡ Unchanged) ↔ HasNothingToDo D.meaning ctx.old.program op) }
     ensures same { result ≡ Ok Unchanged → ctx.new ≡ ctx.old }
     ensures error { IfErr result (StopsAt D.meaning ctx.old.program ctx.new.program op) }
-    ensures full { result ≡ Err CounterFull → (mid : Program D.Operation D.Block)
-        × CarriesOutPart D.meaning ctx.old.program mid op × IsFull mid }
+    ensures numbers { ctx.new.program.counter ≡ ctx.old.program.counter }
     ensures types { ctx.new.types ≡ ctx.old.types }
 {
     know_tree(ctx.program(), op);

@@ -31,6 +31,7 @@ fn merge_from<D: OptDialect, T: TypeTable>(
     requires fits { FitsEdgesFrom D.meaning ctx.old.program start }
     ensures answer { AnswersMerging D.meaning ctx.old.program ctx.new.program start root result }
     ensures point { LeavesErased ctx.new.program rewriter.old.point rewriter.new.point }
+    ensures numbers { ctx.new.program.counter ≡ ctx.old.program.counter }
     ensures types { ctx.new.types ≡ ctx.old.types }
 {
     let result = merge_chains::<D, T>(alloc, root, start, ctx);
@@ -57,6 +58,7 @@ pub fn merge_inside_op<D: OptDialect, T: TypeTable>(
     ensures answer { (q : Ptr Operation) → IsRootOf ctx.old.program (start.Operation op) q
         → AnswersMerging D.meaning ctx.old.program ctx.new.program (start.Operation op) q result }
     ensures point { LeavesErased ctx.new.program rewriter.old.point rewriter.new.point }
+    ensures numbers { ctx.new.program.counter ≡ ctx.old.program.counter }
     ensures types { ctx.new.types ≡ ctx.old.types }
 {
     merge_from::<D, T>(alloc, op, Start::Operation(op), ctx, rewriter)
@@ -81,6 +83,7 @@ pub fn merge_inside_block<D: OptDialect, T: TypeTable>(
     ensures answer { (q : Ptr Operation) → IsRootOf ctx.old.program (start.Block block) q
         → AnswersMerging D.meaning ctx.old.program ctx.new.program (start.Block block) q result }
     ensures point { LeavesErased ctx.new.program rewriter.old.point rewriter.new.point }
+    ensures numbers { ctx.new.program.counter ≡ ctx.old.program.counter }
     ensures types { ctx.new.types ≡ ctx.old.types }
 {
     let root = root_of_block(ctx.program(), block);
@@ -106,6 +109,7 @@ pub fn merge_inside_region<D: OptDialect, T: TypeTable>(
     ensures answer { (q : Ptr Operation) → IsRootOf ctx.old.program (start.Region region) q
         → AnswersMerging D.meaning ctx.old.program ctx.new.program (start.Region region) q result }
     ensures point { LeavesErased ctx.new.program rewriter.old.point rewriter.new.point }
+    ensures numbers { ctx.new.program.counter ≡ ctx.old.program.counter }
     ensures types { ctx.new.types ≡ ctx.old.types }
 {
     let root = root_of_region(ctx.program(), region);

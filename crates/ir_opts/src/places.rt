@@ -52,6 +52,7 @@ fn remove_from<D: OptDialect, T: TypeTable>(
     requires edges { HasLocalEdgesFrom D.meaning.is_terminator ctx.old.program start }
     ensures answer { AnswersRemoval D.meaning ctx.old.program ctx.new.program start root result }
     ensures point { LeavesErased ctx.new.program rewriter.old.point rewriter.new.point }
+    ensures numbers { ctx.new.program.counter ≡ ctx.old.program.counter }
     ensures types { ctx.new.types ≡ ctx.old.types }
 {
     let result = remove_unreached::<D, T>(alloc, root, start, ctx);
@@ -75,6 +76,7 @@ pub fn remove_blocks_inside_op<D: OptDialect, T: TypeTable>(
     ensures answer { (q : Ptr Operation) → IsRootOf ctx.old.program (start.Operation op) q
         → AnswersRemoval D.meaning ctx.old.program ctx.new.program (start.Operation op) q result }
     ensures point { LeavesErased ctx.new.program rewriter.old.point rewriter.new.point }
+    ensures numbers { ctx.new.program.counter ≡ ctx.old.program.counter }
     ensures types { ctx.new.types ≡ ctx.old.types }
 {
     remove_from::<D, T>(alloc, op, Start::Operation(op), ctx, rewriter)
@@ -97,6 +99,7 @@ pub fn remove_blocks_inside_block<D: OptDialect, T: TypeTable>(
     ensures answer { (q : Ptr Operation) → IsRootOf ctx.old.program (start.Block block) q
         → AnswersRemoval D.meaning ctx.old.program ctx.new.program (start.Block block) q result }
     ensures point { LeavesErased ctx.new.program rewriter.old.point rewriter.new.point }
+    ensures numbers { ctx.new.program.counter ≡ ctx.old.program.counter }
     ensures types { ctx.new.types ≡ ctx.old.types }
 {
     let root = root_of_block(ctx.program(), block);
@@ -119,6 +122,7 @@ pub fn remove_blocks_inside_region<D: OptDialect, T: TypeTable>(
     ensures answer { (q : Ptr Operation) → IsRootOf ctx.old.program (start.Region region) q
         → AnswersRemoval D.meaning ctx.old.program ctx.new.program (start.Region region) q result }
     ensures point { LeavesErased ctx.new.program rewriter.old.point rewriter.new.point }
+    ensures numbers { ctx.new.program.counter ≡ ctx.old.program.counter }
     ensures types { ctx.new.types ≡ ctx.old.types }
 {
     let root = root_of_region(ctx.program(), region);

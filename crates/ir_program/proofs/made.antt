@@ -4,7 +4,6 @@ pub mod Frames
 pub mod Alike
 pub mod Held
 pub mod NewBlocks
-pub mod FullSlots
 pub mod NewRegions
 pub mod Carried
 pub mod AddSteps

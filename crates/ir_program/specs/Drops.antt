@@ -7,7 +7,7 @@ use Rattle.ir_entities.specs.declared.forest.Place.{Place}
 use Rattle.ir_entities.specs.declared.forest.Place.TheVariants.{Op}
 use Rattle.ir_program.specs.Program.{Program, OperationView, operation_at, block_at, region_at, type_at, definitions_of}
 use Rattle.ir_program.specs.Lists.{StandsInside}
-use Rattle.ir_program.specs.Edits.{EditsOperation, KeepsErased, KeepsRoom}
+use Rattle.ir_program.specs.Edits.{EditsOperation, KeepsErased}
 use Rattle.ir_program.specs.Handles.{handle}
 use Rattle.ir_program.specs.declared.handles.Ptr.{Ptr}
 use Rattle.ir_program.specs.declared.handles.Operation.{Operation}
@@ -35,7 +35,6 @@ module _ {O B : Type 0} where
     pub blocks : (q : Ptr BasicBlock) → block_at new q ≡ block_at old q
     pub regions : (q : Ptr Region) → region_at new q ≡ region_at old q
     pub erased : KeepsErased old new
-    pub room : KeepsRoom old new
     pub counter : new.counter ≡ old.counter
 
   -- the operations inside x have no operands and no successors, and all else is as it was
@@ -58,5 +57,4 @@ module _ {O B : Type 0} where
     pub regions : (r : Ptr Region) → region_at new r ≡ region_at old r
     pub types : (v : Value) → type_at new v ≡ type_at old v
     pub erased : KeepsErased old new
-    pub room : KeepsRoom old new
     pub counter : new.counter ≡ old.counter

@@ -1,6 +1,6 @@
 -- What an edit changes, and that all else stays.
 use Rattle.std.specs.Prelude.{◌≡◌, ◌≢◌, ℕ, [], ◌∷◌, ◌++◌, remove, option_map}
-use Rattle.ir_arena.specs.Arena.{KeepsSpent, HasFullSlot}
+use Rattle.ir_arena.specs.Arena.{KeepsSpent}
 use Rattle.ir_program.specs.Program.{Program, OperationView, BlockView, RegionView, operation_at, block_at, region_at, type_at}
 use Rattle.ir_program.specs.Lists.{operations_in, blocks_in}
 use Rattle.ir_program.specs.declared.handles.Ptr.{Ptr}
@@ -16,28 +16,13 @@ module _ {O B : Type 0} where
     pub blocks : KeepsSpent old.forest.blocks new.forest.blocks
     pub regions : KeepsSpent old.forest.regions new.forest.regions
 
-  -- no slot of an operation, a block or a region comes to be full: one that is vacant and has had its greatest version was so
-  pub record KeepsRoom (old new : Program O B) : Type 0 where
-    pub operations : HasFullSlot new.forest.ops → HasFullSlot old.forest.ops
-    pub blocks : HasFullSlot new.forest.blocks → HasFullSlot old.forest.blocks
-    pub regions : HasFullSlot new.forest.regions → HasFullSlot old.forest.regions
-
   -- each value keeps its type, and the number that comes next stays
   pub record KeepsValues (old new : Program O B) : Type 0 where
     pub types : (v : Value) → type_at new v ≡ type_at old v
     pub counter : new.counter ≡ old.counter
 
-  -- each handle leads to what it led to
+  -- each handle leads to what it led to; a slot that is vacant may have had more versions
   pub record IsUnchanged (old new : Program O B) : Type 0 where
-    pub operations : (p : Ptr Operation) → operation_at new p ≡ operation_at old p
-    pub blocks : (p : Ptr BasicBlock) → block_at new p ≡ block_at old p
-    pub regions : (p : Ptr Region) → region_at new p ≡ region_at old p
-    pub erased : KeepsErased old new
-    pub room : KeepsRoom old new
-    pub counter : new.counter ≡ old.counter
-
-  -- each handle leads to what it led to, where something was made and erased again: its slot has had one version more, and may be full now
-  pub record IsRestored (old new : Program O B) : Type 0 where
     pub operations : (p : Ptr Operation) → operation_at new p ≡ operation_at old p
     pub blocks : (p : Ptr BasicBlock) → block_at new p ≡ block_at old p
     pub regions : (p : Ptr Region) → region_at new p ≡ region_at old p
@@ -51,7 +36,6 @@ module _ {O B : Type 0} where
     pub blocks : (q : Ptr BasicBlock) → block_at new q ≡ block_at old q
     pub regions : (q : Ptr Region) → region_at new q ≡ region_at old q
     pub erased : KeepsErased old new
-    pub room : KeepsRoom old new
 
   -- block p is what f makes of it, and nothing else changes
   pub record EditsBlock (old new : Program O B) (p : Ptr BasicBlock) (f : BlockView B → BlockView B) : Type 0 where
@@ -60,7 +44,6 @@ module _ {O B : Type 0} where
     pub operations : (q : Ptr Operation) → operation_at new q ≡ operation_at old q
     pub regions : (q : Ptr Region) → region_at new q ≡ region_at old q
     pub erased : KeepsErased old new
-    pub room : KeepsRoom old new
 
   -- region p is what f makes of it, and nothing else changes
   pub record EditsRegion (old new : Program O B) (p : Ptr Region) (f : RegionView → RegionView) : Type 0 where
@@ -69,7 +52,6 @@ module _ {O B : Type 0} where
     pub operations : (q : Ptr Operation) → operation_at new q ≡ operation_at old q
     pub blocks : (q : Ptr BasicBlock) → block_at new q ≡ block_at old q
     pub erased : KeepsErased old new
-    pub room : KeepsRoom old new
 
   -- the operations of the block donor now stand behind those of the block donee, and nothing else changes
   pub record AppendsBlock (old new : Program O B) (donee donor : Ptr BasicBlock) : Type 0 where
@@ -79,7 +61,6 @@ module _ {O B : Type 0} where
     pub operations : (q : Ptr Operation) → operation_at new q ≡ operation_at old q
     pub regions : (q : Ptr Region) → region_at new q ≡ region_at old q
     pub erased : KeepsErased old new
-    pub room : KeepsRoom old new
 
   -- the blocks of the region donor now stand behind those of the region donee, and nothing else changes
   pub record AppendsRegion (old new : Program O B) (donee donor : Ptr Region) : Type 0 where
@@ -89,7 +70,6 @@ module _ {O B : Type 0} where
     pub operations : (q : Ptr Operation) → operation_at new q ≡ operation_at old q
     pub blocks : (q : Ptr BasicBlock) → block_at new q ≡ block_at old q
     pub erased : KeepsErased old new
-    pub room : KeepsRoom old new
 
   -- the region, which stood at index k of the operation `from`, is the last of the operation `to` now, and nothing else changes
   pub record MovesRegion (old new : Program O B) (region : Ptr Region) (from : Ptr Operation) (k : ℕ) (to : Ptr Operation) : Type 0 where
@@ -99,7 +79,6 @@ module _ {O B : Type 0} where
     pub blocks : (q : Ptr BasicBlock) → block_at new q ≡ block_at old q
     pub regions : (q : Ptr Region) → region_at new q ≡ region_at old q
     pub erased : KeepsErased old new
-    pub room : KeepsRoom old new
 
   -- each operation is what f makes of it, and nothing else changes
   pub record EditsOperations (old new : Program O B) (f : Ptr Operation → OperationView O → OperationView O) : Type 0 where
@@ -107,4 +86,3 @@ module _ {O B : Type 0} where
     pub blocks : (q : Ptr BasicBlock) → block_at new q ≡ block_at old q
     pub regions : (q : Ptr Region) → region_at new q ≡ region_at old q
     pub erased : KeepsErased old new
-    pub room : KeepsRoom old new

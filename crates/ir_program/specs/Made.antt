@@ -1,13 +1,13 @@
 -- What making an operation, a block or a region adds.
 use Rattle.std.specs.Prelude.{◌≡◌, ◌≢◌, ℕ, ◌<◌, ◌+◌, length, ◌++◌, List, [], ◌∷◌, Some, None, option_map, slice_get}
-use Rattle.ir_arena.specs.Arena.{HasFullSlot, IsSpent}
+use Rattle.ir_arena.specs.Arena.{IsSpent}
 use Rattle.ir_base.specs.declared.types.TypeHandle.{TypeHandle}
 use Rattle.ir_program.specs.Program.{Program, OperationView, operation_at, block_at, region_at, type_at}
 use Rattle.ir_program.specs.Lists.{IsUnlinkedOperation, IsUnlinkedBlock, regions_in}
 use Rattle.ir_program.specs.Adds.{numbered_values}
 use Rattle.ir_program.specs.declared.handles.Value.{Value}
 use Rattle.ir_program.specs.declared.handles.DefiningEntity.TheVariants.{Op as ByOp, Block as ByBlock}
-use Rattle.ir_program.specs.Edits.{KeepsErased, KeepsRoom}
+use Rattle.ir_program.specs.Edits.{KeepsErased}
 use Rattle.ir_program.specs.declared.handles.Ptr.{Ptr}
 use Rattle.ir_program.specs.declared.handles.Operation.{Operation}
 use Rattle.ir_program.specs.declared.handles.Region.{Region}
@@ -18,22 +18,6 @@ abbrev pub IsNoneOf : {E : Type 0} → List (Ptr E) → Ptr E → Type 0
 IsNoneOf ps q = (k : ℕ) → slice_get ps k ≢ Some q
 
 module _ {O B : Type 0} where
-  -- some slot of an operation, a block or a region had its greatest version, and nothing stands in it
-  abbrev pub HasFullOperationSlot : Program O B → Type 0
-  HasFullOperationSlot c = HasFullSlot c.forest.ops
-
-  abbrev pub HasFullBlockSlot : Program O B → Type 0
-  HasFullBlockSlot c = HasFullSlot c.forest.blocks
-
-  abbrev pub HasFullRegionSlot : Program O B → Type 0
-  HasFullRegionSlot c = HasFullSlot c.forest.regions
-
-  -- no slot is full, so that making an operation, a block or a region meets no full slot; so it is in a new program, and after all that erases nothing
-  pub record HasRoom (c : Program O B) : Type 0 where
-    pub operations : HasFullOperationSlot c → ⊥
-    pub blocks : HasFullBlockSlot c → ⊥
-    pub regions : HasFullRegionSlot c → ⊥
-
   -- p, a handle that was never given out, leads to an operation with this payload and nothing else, and all else is as it was
   pub record MakesOperation (old new : Program O B) (p : Ptr Operation) (payload : O) : Type 0 where
     pub fresh : operation_at old p ≡ None
@@ -43,7 +27,6 @@ module _ {O B : Type 0} where
     pub blocks : (q : Ptr BasicBlock) → block_at new q ≡ block_at old q
     pub regions : (q : Ptr Region) → region_at new q ≡ region_at old q
     pub erased : KeepsErased old new
-    pub room : KeepsRoom old new
     pub counter : new.counter ≡ old.counter
 
   -- p, a handle that was never given out, leads to a block with this payload and nothing else, and all else is as it was
@@ -55,7 +38,6 @@ module _ {O B : Type 0} where
     pub operations : (q : Ptr Operation) → operation_at new q ≡ operation_at old q
     pub regions : (q : Ptr Region) → region_at new q ≡ region_at old q
     pub erased : KeepsErased old new
-    pub room : KeepsRoom old new
     pub counter : new.counter ≡ old.counter
 
   -- r, a handle that was never given out, leads to a region with no block, the last of operation p, and all else is as it was
@@ -68,7 +50,6 @@ module _ {O B : Type 0} where
     pub operations : (q : Ptr Operation) → q ≢ p → operation_at new q ≡ operation_at old q
     pub blocks : (q : Ptr BasicBlock) → block_at new q ≡ block_at old q
     pub erased : KeepsErased old new
-    pub room : KeepsRoom old new
     pub counter : new.counter ≡ old.counter
 
   -- the handles, each of which was never given out and none of which comes twice, lead to regions with no block; each other region is as it was
@@ -87,7 +68,6 @@ module _ {O B : Type 0} where
     pub blocks : (q : Ptr BasicBlock) → block_at new q ≡ block_at old q
     pub types : (v : Value) → type_at new v ≡ type_at old v
     pub erased : KeepsErased old new
-    pub room : KeepsRoom old new
     pub counter : new.counter ≡ old.counter
 
   -- operation p has n regions more, as above
@@ -106,7 +86,6 @@ module _ {O B : Type 0} where
     pub regions : MakesRegions old new rs
     pub types : (v : Value) → v.definer ≢ ByOp p → type_at new v ≡ type_at old v
     pub erased : KeepsErased old new
-    pub room : KeepsRoom old new
     pub counter : new.counter ≡ old.counter + length tys
 
   -- operation p has some results, operands, successors and regions more; nothing else changes
@@ -127,7 +106,6 @@ module _ {O B : Type 0} where
     pub blocks : (q : Ptr BasicBlock) → block_at new q ≡ block_at old q
     pub types : (v : Value) → v.definer ≢ ByOp p → type_at new v ≡ type_at old v
     pub erased : KeepsErased old new
-    pub room : KeepsRoom old new
     pub counter : new.counter ≡ old.counter + length tys
 
   -- p, a handle that was never given out, leads to a block that stands in no region, with this payload, arguments of these types
@@ -142,7 +120,6 @@ module _ {O B : Type 0} where
     pub regions : (q : Ptr Region) → region_at new q ≡ region_at old q
     pub types : (v : Value) → v.definer ≢ ByBlock p → type_at new v ≡ type_at old v
     pub erased : KeepsErased old new
-    pub room : KeepsRoom old new
     pub counter : new.counter ≡ old.counter + length tys
 
   -- each region of operation p is there, and has no block

@@ -18,7 +18,7 @@ impl<O, B> Program<O, B> {
     /// no value ever had.
     ///
     /// # Errors
-    /// `Memory`, and `CounterFull` where each number has been given.
+    /// `Memory`, and `CounterFull` where the counter is at its greatest.
     pub fn insert_argument(
         &mut self,
         block: Ptr<BasicBlock>,
@@ -50,7 +50,7 @@ impl<O, B> Program<O, B> {
     /// ever had.
     ///
     /// # Errors
-    /// `Memory`, and `CounterFull` where each number has been given.
+    /// `Memory`, and `CounterFull` where the counter is at its greatest.
     pub fn push_argument(
         &mut self,
         block: Ptr<BasicBlock>,

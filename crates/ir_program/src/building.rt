@@ -1,12 +1,12 @@
 //! Making operations and blocks with all that they have.
-ghost use Rattle.std.specs.Prelude.{◌≡◌, ◌≢◌, ◌⊎◌, ℕ, ◌<◌, ◌≤◌, ◌+◌, ◌^◌, [], List, Some, Err, IsSome, IfOk, OnOk, OnErr, length, slice_get};
+ghost use Rattle.std.specs.Prelude.{◌≡◌, ◌≢◌, ℕ, ◌<◌, ◌≤◌, ◌+◌, ◌^◌, [], List, Some, Err, IsSome, IfOk, OnOk, OnErr, length, slice_get};
 ghost use Rattle.ir_base.specs.declared.growth.GrowError.TheVariants.{CounterFull};
 ghost use Rattle.ir_program.specs.Program.{operation_at, block_at, type_at, IsLiveValue};
 ghost use Rattle.ir_program.specs.Lists.{IsUnlinkedOperation, IsUnlinkedBlock, operations_in};
 ghost use Rattle.ir_program.specs.Rows.{operands_at, successors_at};
-ghost use Rattle.ir_program.specs.Edits.{IsRestored};
+ghost use Rattle.ir_program.specs.Edits.{IsUnchanged};
 ghost use Rattle.ir_program.specs.Adds.{AreLiveValues, AreLiveBlocks};
-ghost use Rattle.ir_program.specs.Made.{FillsOperation, FillsSome, BuildsOperation, BuildsBlock, TakesBackOperation, TakesBackBlock, HasBareRegions, HasFullOperationSlot, HasFullBlockSlot, HasFullRegionSlot};
+ghost use Rattle.ir_program.specs.Made.{FillsOperation, FillsSome, BuildsOperation, BuildsBlock, TakesBackOperation, TakesBackBlock, HasBareRegions};
 ghost use Rattle.ir_program.specs.declared.handles.Ptr.{Ptr};
 ghost use Rattle.ir_program.specs.declared.handles.Operation.{Operation};
 ghost use Rattle.ir_program.specs.declared.handles.Region.{Region};
@@ -39,8 +39,7 @@ impl<O: Drop, B: Drop> Program<O, B> {
     /// behind its others.
     ///
     /// # Errors
-    /// `Memory`, and `CounterFull` where there are not so many numbers left, or where the vacant slot that comes next for
-    /// a region had as many regions as it can name. Some of them came then.
+    /// `Memory`, and `CounterFull` where there are not so many numbers left. Some of them came then.
     fn fill_operation(
         &mut self,
         op: Ptr<Operation>,
@@ -54,7 +53,7 @@ impl<O: Drop, B: Drop> Program<O, B> {
         requires successors { AreLiveBlocks self.old successors.now }
         ensures filled { OnOk result ((rs : List (Ptr Region)) × (length rs ≡ regions) × FillsOperation self.old self.new op results.now operands.now successors.now rs) }
         ensures err { OnErr result (FillsSome self.old self.new op) }
-        ensures full { result ≡ Err CounterFull → HasFullRegionSlot self.old ⊎ (2 ^ 64 ≤ self.old.counter + length results.now) }
+        ensures full { result ≡ Err CounterFull → 2 ^ 64 ≤ self.old.counter + length results.now }
     {
         self.add_regions(op, regions)?;
         self.add_operands(op, operands)?;
@@ -80,8 +79,8 @@ impl<O: Drop, B: Drop> Program<O, B> {
     /// so many regions, each with no block.
     ///
     /// # Errors
-    /// `Memory`, and `CounterFull` where there are not so many numbers left for values, or where the vacant slot that comes
-    /// next for an operation or a region had as many of them as it can name. Nothing is changed then.
+    /// `Memory`, and `CounterFull` where there are not so many numbers left for values. Each handle leads to what it led to
+    /// then.
     pub fn build_operation(
         &mut self,
         alloc: Global,
@@ -94,9 +93,9 @@ impl<O: Drop, B: Drop> Program<O, B> {
         requires operands { AreLiveValues self.old operands.now }
         requires successors { AreLiveBlocks self.old successors.now }
         ensures built { IfOk result (λ p. BuildsOperation self.old self.new p payload results.now operands.now successors.now regions) }
-        ensures err { OnErr result (IsRestored self.old self.new) }
+        ensures err { OnErr result (IsUnchanged self.old self.new) }
         ensures err_types { OnErr result ((v : Value) → type_at self.new v ≡ type_at self.old v) }
-        ensures full { result ≡ Err CounterFull → HasFullOperationSlot self.old ⊎ (HasFullRegionSlot self.old ⊎ (2 ^ 64 ≤ self.old.counter + length results.now)) }
+        ensures full { result ≡ Err CounterFull → 2 ^ 64 ≤ self.old.counter + length results.now }
     {
         self.know_values();
         let counter = self.next_number();
@@ -128,8 +127,8 @@ impl<O: Drop, B: Drop> Program<O, B> {
     /// Makes a block that stands in no region, with arguments of these types, and no operation.
     ///
     /// # Errors
-    /// `Memory`, and `CounterFull` where there are not so many numbers left for values, or where the vacant slot that comes
-    /// next had as many blocks as it can name. Nothing is changed then.
+    /// `Memory`, and `CounterFull` where there are not so many numbers left for values. Each handle leads to what it led to
+    /// then.
     pub fn build_block(
         &mut self,
         alloc: Global,
@@ -137,9 +136,9 @@ impl<O: Drop, B: Drop> Program<O, B> {
         arguments: &[TypeHandle],
     ) -> Result<Ptr<BasicBlock>, GrowError>
         ensures built { IfOk result (λ p. BuildsBlock self.old self.new p payload arguments.now) }
-        ensures err { OnErr result (IsRestored self.old self.new) }
+        ensures err { OnErr result (IsUnchanged self.old self.new) }
         ensures err_types { OnErr result ((v : Value) → type_at self.new v ≡ type_at self.old v) }
-        ensures full { result ≡ Err CounterFull → HasFullBlockSlot self.old ⊎ (2 ^ 64 ≤ self.old.counter + length arguments.now) }
+        ensures full { result ≡ Err CounterFull → 2 ^ 64 ≤ self.old.counter + length arguments.now }
     {
         self.know_values();
         self.know_successors();

@@ -1,5 +1,5 @@
 //! What holds of every program.
-ghost use Rattle.std.specs.Prelude.{◌≡◌, ℕ, ◌<◌, Some};
+ghost use Rattle.std.specs.Prelude.{◌≡◌, ℕ, ◌<◌, ◌^◌, Some};
 ghost use Rattle.ir_base.specs.declared.types.TypeHandle.{TypeHandle};
 ghost use Rattle.ir_program.specs.Program.{type_at, value_in, type_in, IsLiveValue};
 ghost use Rattle.ir_program.specs.Uses.{IsUsed};
@@ -26,7 +26,9 @@ impl<O, B> Program<O, B> {
         ensures given { (v : Value) → IsLiveValue self.now v → v.number < self.now.counter }
         ensures own { (v w : Value) → IsLiveValue self.now v → IsLiveValue self.now w → v.number ≡ w.number → v ≡ w }
         ensures used { (v : Value) → IsUsed self.now v → IsLiveValue self.now v }
+        ensures counted { self.now.counter < 2 ^ 64 }
     {
+        let _counter = self.counter;
         self.values.know_named();
     }
 

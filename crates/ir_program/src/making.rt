@@ -1,26 +1,23 @@
 //! Making operations, blocks and regions.
-ghost use Rattle.std.specs.Prelude.{◌≡◌, Err, IsSome, IfOk, OnOk, OnErr};
-ghost use Rattle.ir_base.specs.declared.growth.GrowError.TheVariants.{CounterFull};
+ghost use Rattle.std.specs.Prelude.{IsSome, IfOk, OnOk, OnErr};
 ghost use Rattle.ir_program.specs.Program.{operation_at};
-ghost use Rattle.ir_program.specs.Edits.{IsRestored, IsUnchanged};
+ghost use Rattle.ir_program.specs.Edits.{IsUnchanged};
 ghost use Rattle.ir_program.specs.Lists.{IsUnlinkedOperation, IsUnlinkedBlock};
-ghost use Rattle.ir_program.specs.Made.{MakesOperation, MakesBlock, MakesRegion, AddsRegionCount, AddsFewerRegions, HasFullOperationSlot, HasFullBlockSlot, HasFullRegionSlot};
+ghost use Rattle.ir_program.specs.Made.{MakesOperation, MakesBlock, MakesRegion, AddsRegionCount, AddsFewerRegions};
 
 use crate::records::{BlockRecord, OperationRecord, RegionRecord};
 use crate::{BasicBlock, Operation, Program, Ptr, Region};
-use ir_base::GrowError;
-use std::alloc::Global;
+use std::alloc::{AllocError, Global};
 
 impl<O: Drop, B: Drop> Program<O, B> {
     /// Makes an operation that stands in no block, with no result, operand, successor or region.
     ///
     /// # Errors
-    /// `Memory`, and `CounterFull` where the vacant slot that comes next had as many operations as it can name.
-    pub fn new_operation(&mut self, alloc: Global, payload: O) -> Result<Ptr<Operation>, GrowError>
+    /// There may be no memory.
+    pub fn new_operation(&mut self, alloc: Global, payload: O) -> Result<Ptr<Operation>, AllocError>
         ensures made { IfOk result (λ p. MakesOperation self.old self.new p payload) }
         ensures unlinked { IfOk result (λ p. IsUnlinkedOperation self.new p) }
         ensures err { OnErr result (IsUnchanged self.old self.new) }
-        ensures full { result ≡ Err CounterFull → HasFullOperationSlot self.old }
     {
         self.forest.know();
         let key = self.forest.new_op(OperationRecord {
@@ -36,12 +33,11 @@ impl<O: Drop, B: Drop> Program<O, B> {
     /// Makes a block that stands in no region, with no argument and no operation.
     ///
     /// # Errors
-    /// `Memory`, and `CounterFull` where the vacant slot that comes next had as many blocks as it can name.
-    pub fn new_block(&mut self, alloc: Global, payload: B) -> Result<Ptr<BasicBlock>, GrowError>
+    /// There may be no memory.
+    pub fn new_block(&mut self, alloc: Global, payload: B) -> Result<Ptr<BasicBlock>, AllocError>
         ensures made { IfOk result (λ p. MakesBlock self.old self.new p payload) }
         ensures unlinked { IfOk result (λ p. IsUnlinkedBlock self.new p) }
-        ensures err { OnErr result (IsRestored self.old self.new) }
-        ensures full { result ≡ Err CounterFull → HasFullBlockSlot self.old }
+        ensures err { OnErr result (IsUnchanged self.old self.new) }
     {
         self.forest.know();
         self.targets.know_named();
@@ -52,7 +48,7 @@ impl<O: Drop, B: Drop> Program<O, B> {
         })?;
         let Ok(thread) = self.targets.define(Ptr::new(key)) else {
             self.forest.free_block(key);
-            return Err(GrowError::Memory);
+            return Err(AllocError);
         };
         self.forest.block_mut(key).thread = thread;
         self.forest.know();
@@ -62,12 +58,11 @@ impl<O: Drop, B: Drop> Program<O, B> {
     /// Makes a region with no block, the last of an operation.
     ///
     /// # Errors
-    /// `Memory`, and `CounterFull` where the vacant slot that comes next had as many regions as it can name.
-    pub fn add_region(&mut self, op: Ptr<Operation>) -> Result<Ptr<Region>, GrowError>
+    /// There may be no memory.
+    pub fn add_region(&mut self, op: Ptr<Operation>) -> Result<Ptr<Region>, AllocError>
         requires { IsSome (operation_at self.old op) }
         ensures made { IfOk result (λ r. MakesRegion self.old self.new op r) }
         ensures err { OnErr result (IsUnchanged self.old self.new) }
-        ensures full { result ≡ Err CounterFull → HasFullRegionSlot self.old }
     {
         self.forest.know();
         let key = self.forest.new_region(RegionRecord)?;
@@ -79,13 +74,11 @@ impl<O: Drop, B: Drop> Program<O, B> {
     /// Gives an operation so many regions, each with no block, behind its others.
     ///
     /// # Errors
-    /// `Memory`, and `CounterFull` where the vacant slot that comes next had as many regions as it can name. Only the first
-    /// of the regions came then.
-    pub fn add_regions(&mut self, op: Ptr<Operation>, count: usize) -> Result<(), GrowError>
+    /// Without memory only the first of the regions came.
+    pub fn add_regions(&mut self, op: Ptr<Operation>, count: usize) -> Result<(), AllocError>
         requires { IsSome (operation_at self.old op) }
         ensures added { OnOk result (AddsRegionCount self.old self.new op count) }
         ensures err { OnErr result (AddsFewerRegions self.old self.new op count) }
-        ensures full { result ≡ Err CounterFull → HasFullRegionSlot self.old }
     {
         for _made in 0..count {
             self.add_region(op)?;

@@ -3,7 +3,6 @@ ghost use Rattle.std.specs.Prelude.{◌≡◌, ◌↔◌, ◌<◌, None, IsSome,
 ghost use Rattle.ir_arena.specs.Arena.{get};
 ghost use Rattle.ir_program.specs.Program.{operation_at, block_at, region_at, IsLiveValue};
 ghost use Rattle.ir_program.specs.Lists.{IsEmptyProgram};
-ghost use Rattle.ir_program.specs.Made.{HasRoom};
 
 use crate::records::{BlockRecord, Definition, OperationRecord, RegionRecord};
 use crate::{BasicBlock, DefiningEntity, Operation, Ptr, Region, Value};
@@ -43,7 +42,6 @@ impl<O, B> Program<O, B> {
         ensures blocks { (p : _) → block_at result p ≡ None }
         ensures regions { (p : _) → region_at result p ≡ None }
         ensures counter { result.counter ≡ 0 }
-        ensures room { HasRoom result }
     {
         Program::counting_from(alloc, 0)
     }
@@ -54,7 +52,6 @@ impl<O, B> Program<O, B> {
         ensures blocks { (p : _) → block_at result p ≡ None }
         ensures regions { (p : _) → region_at result p ≡ None }
         ensures counter { result.counter ≡ counter }
-        ensures room { HasRoom result }
     {
         Program {
             forest: Forest::new(alloc),

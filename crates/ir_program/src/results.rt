@@ -18,7 +18,7 @@ impl<O, B> Program<O, B> {
     /// no value ever had.
     ///
     /// # Errors
-    /// `Memory`, and `CounterFull` where each number has been given.
+    /// `Memory`, and `CounterFull` where the counter is at its greatest.
     pub fn insert_result(
         &mut self,
         op: Ptr<Operation>,
@@ -50,7 +50,7 @@ impl<O, B> Program<O, B> {
     /// ever had.
     ///
     /// # Errors
-    /// `Memory`, and `CounterFull` where each number has been given.
+    /// `Memory`, and `CounterFull` where the counter is at its greatest.
     pub fn push_result(&mut self, op: Ptr<Operation>, ty: TypeHandle) -> Result<Value, GrowError>
         requires { IsSome (operation_at self.old op) }
         ensures value { IfOk result (λ v. v ≡ record { definer = Op op; number = self.old.counter }) }

@@ -1,7 +1,6 @@
--- A small view of a context that any store can give: what handles lead to, and which are spent. Printing, reading, rules and passes need no more.
+-- A small view of a context that any store can give: what handles lead to, which are spent, and the next number. Printing, reading, rules and passes need no more.
 use Rattle.std.specs.Prelude.{◌≡◌, ℕ, List, [], ◌∷◌, Option, Some, None}
 use Rattle.ir_arena.specs.Arena.{IsSpent}
-use Rattle.ir_program.specs.Made.{HasRoom}
 use Rattle.ir_program.specs.Program.{Program, OperationView, BlockView, RegionView, operation_at, block_at, region_at}
 use Rattle.ir_program.specs.declared.handles.Ptr.{Ptr}
 use Rattle.ir_program.specs.declared.handles.Operation.{Operation}
@@ -21,8 +20,6 @@ pub record Seen (O B : Type 0) : Type 1 where
   pub spent_region : Ptr Region → Type 0
   -- the number of the value that comes next
   pub next_number : ℕ
-  -- no slot is full: making meets no full slot
-  pub room : Type 0
 
 -- what a program shows of itself
 abbrev pub seen : {O B : Type 0} → Program O B → Seen O B
@@ -34,7 +31,6 @@ seen c = record {
   spent_block = λ b. IsSpent c.forest.blocks b.key;
   spent_region = λ r. IsSpent c.forest.regions r.key;
   next_number = c.counter;
-  room = HasRoom c;
 }
 
 module _ {O B : Type 0} (s : Seen O B) where

@@ -1,7 +1,7 @@
 //! What a program shows of itself: its view, and what edits leave of it.
 ghost use Rattle.std.specs.Prelude.{◌≡◌, ◌≢◌, ◌↔◌, ℕ, List, Some, slice_get};
 ghost use Rattle.ir_base.specs.declared.types.TypeHandle.{TypeHandle};
-ghost use Rattle.ir_program.specs.Edits.{IsRestored, IsUnchanged};
+ghost use Rattle.ir_program.specs.Edits.{IsUnchanged};
 ghost use Rattle.ir_program.specs.Made.{BuildsBlock, BuildsOperation};
 ghost use Rattle.ir_program.specs.declared.handles.BasicBlock.{BasicBlock};
 ghost use Rattle.ir_program.specs.declared.handles.Operation.{Operation};
@@ -21,7 +21,6 @@ pub fn know_seen<O, B>(_program: &Program<O, B>)
 /// a handle that was never given out. It does nothing.
 pub fn know_kept<O, B>(_old: &Program<O, B>, _new: &Program<O, B>)
     ensures unchanged { IsUnchanged _old.now _new.now → SameSeen (seen _old.now) (seen _new.now) }
-    ensures restored { IsRestored _old.now _new.now → SameSeen (seen _old.now) (seen _new.now) }
     ensures operation { (p : Ptr Operation) (payload : O) (tys : List TypeHandle) (vs : List Value) (bs : List (Ptr BasicBlock)) (n : ℕ)
         → BuildsOperation _old.now _new.now p payload tys vs bs n → Keeps (seen _old.now) (seen _new.now) × IsFreshOperation (seen _old.now) p }
     ensures block { (b : Ptr BasicBlock) (payload : B) (tys : List TypeHandle)

@@ -1,9 +1,9 @@
 -- How a call ends, from how its parts end.
-use Rattle.std.proofs.Common.{◌≡◌, ◌⊎◌, ℕ, List, Option, Result, Err, inl, inr, subst}
+use Rattle.std.proofs.Common.{◌≡◌, ◌⊎◌, ◌+◌, ℕ, List, Option, Result, Err, arith, inl, inr, length, subst}
 use Rattle.std.specs.Prelude.{IsErrAnd}
 use Rattle.ir_base.specs.declared.growth.GrowError.{GrowError}
 use Rattle.ir_base.specs.declared.growth.GrowError.TheVariants as grow
-use Rattle.ir_program.specs.Made.{HasRoom}
+use Rattle.ir_forest.specs.Closed.{definitions_of}
 use Rattle.ir_program.specs.declared.handles.Operation.{Operation}
 use Rattle.ir_program.specs.declared.handles.Ptr.{Ptr}
 use Rattle.kit_optimiser.specs.declared.pass.KitPass.{KitPass}
@@ -13,19 +13,11 @@ use Rattle.irkit_streams.specs.declared.faults.WriteFault.{WriteFault}
 use Rattle.irkit_streams.specs.declared.watched.Watched.{Watched}
 use Rattle.irkit_driver.proofs.ReadLemmas.{at_error}
 use Rattle.irkit_driver.specs.Lists.{EndsPasses}
-use Rattle.irkit_driver.specs.Outcomes.{Accepts, EndsCall, EndsLoad, GivesText, OverfillsContext, PassesFillUp, Refuses, RefusesRun}
+use Rattle.irkit_driver.specs.Outcomes.{Accepts, EndsCall, EndsLoad, GivesText, Loads, PassesFillUp, Refuses, RefusesRun}
 use Rattle.irkit_driver.specs.Refusals.{of_grow_error, of_write_fault}
 use Rattle.irkit_driver.specs.Texts.{IsAcceptedAs, Overfills}
 use Rattle.irkit_driver.specs.declared.refusal.Refusal.{Refusal}
 use Rattle.irkit_driver.specs.declared.refusal.Refusal.TheVariants.{NotUtf8, Syntax, TooDeep, Scope, Rule, Memory, CounterFull, Read, Write}
-
--- a context that has room for all is overfilled by definitions of values alone
-fresh_overfilled : (s : KitContext) → HasRoom s.program → s.program.counter ≡ 0 → (bytes : List ℕ) → OverfillsContext s bytes
-    → Overfills 0 bytes
-fresh_overfilled s room fresh bytes (inl (inl full)) = absurd (room.blocks full)
-fresh_overfilled s room fresh bytes (inl (inr (inl full))) = absurd (room.operations full)
-fresh_overfilled s room fresh bytes (inl (inr (inr full))) = absurd (room.regions full)
-fresh_overfilled s room fresh bytes (inr over) = subst (λ k. Overfills k bytes) fresh over
 
 module _ {R : Type 0} (remaining : R → Option (List ℕ)) (old new : Watched R) where
   -- what is refused for one reason to be full is refused for a weaker one
@@ -43,10 +35,9 @@ module _ {R : Type 0} (remaining : R → Option (List ℕ)) (old new : Watched R
 
   -- a load into a new context that is refused
   pub unloaded : (ctx new_ctx : KitContext) (r : Result (Ptr Operation) Refusal) (e : Refusal) → r ≡ Err e
-      → EndsLoad remaining old new ctx new_ctx r → HasRoom ctx.program → ctx.program.counter ≡ 0
-      → Refuses remaining old new (Overfills 0) e
-  unloaded ctx new_ctx r e was ends room fresh =
-      refused_so (OverfillsContext ctx) (Overfills 0) (fresh_overfilled ctx room fresh) e
+      → EndsLoad remaining old new ctx new_ctx r → ctx.program.counter ≡ 0 → Refuses remaining old new (Overfills 0) e
+  unloaded ctx new_ctx r e was ends fresh =
+      subst (λ (n : ℕ). Refuses remaining old new (Overfills n) e) fresh
       (subst (EndsLoad remaining old new ctx new_ctx) was ends).0
 
   -- so it is of `run`
@@ -56,18 +47,24 @@ module _ {R : Type 0} (remaining : R → Option (List ℕ)) (old new : Watched R
       refused_so (Overfills 0) (λ bytes. Overfills 0 bytes ⊎ PassesFillUp passes bytes) (λ bytes over. inl over) e h
 
   passes_refused : {V : Type 0} (text_of : V → List ℕ) (passes : List KitPass) (ctx : KitContext) (root : Ptr Operation)
-      (bytes : List ℕ) (e : GrowError) → GaveAll remaining old new bytes → IsAcceptedAs bytes ctx root
+      (bytes : List ℕ) (e : GrowError) → GaveAll remaining old new bytes → (accepted : IsAcceptedAs bytes ctx root)
+      → ctx.program.counter ≡ length (definitions_of accepted.0.text)
       → EndsPasses passes ctx root text_of (Err e) → RefusesRun remaining old new passes (of_grow_error e)
-  passes_refused text_of passes ctx root bytes grow.Memory gave accepted ends = gave.2
-  passes_refused text_of passes ctx root bytes grow.CounterFull gave accepted ends =
-      (bytes, gave, inr (record { before = ctx; root = root; accepted = accepted; fills = ends }))
+  passes_refused text_of passes ctx root bytes grow.Memory gave accepted counted ends = gave.2
+  passes_refused text_of passes ctx root bytes grow.CounterFull gave accepted counted ends =
+      (bytes, gave, inr (record { before = ctx; root = root; accepted = accepted; counted = counted; fills = ends }))
 
-  -- passes that are refused
-  pub unpassed : {V : Type 0} (text_of : V → List ℕ) (passes : List KitPass) (ctx : KitContext) (root : Ptr Operation)
+  -- passes that are refused, on what was loaded into a new context
+  pub unpassed : {V : Type 0} (text_of : V → List ℕ) (passes : List KitPass) (new_ctx ctx : KitContext) (root : Ptr Operation)
       (bytes : List ℕ) (r : Result V GrowError) (e : GrowError) → r ≡ Err e → GaveAll remaining old new bytes
-      → IsAcceptedAs bytes ctx root → EndsPasses passes ctx root text_of r → RefusesRun remaining old new passes (of_grow_error e)
-  unpassed text_of passes ctx root bytes r e was gave accepted ends =
-      passes_refused text_of passes ctx root bytes e gave accepted (subst (EndsPasses passes ctx root text_of) was ends)
+      → Loads bytes new_ctx ctx root → new_ctx.program.counter ≡ 0 → EndsPasses passes ctx root text_of r
+      → RefusesRun remaining old new passes (of_grow_error e)
+  unpassed text_of passes new_ctx ctx root bytes r e was gave loads fresh ends =
+      let n = length (definitions_of loads.accepted.0.text) in
+      let moved : ctx.program.counter ≡ new_ctx.program.counter + n = loads.counted in
+      let counted : ctx.program.counter ≡ n = omega (arith, moved, fresh) in
+      passes_refused text_of passes ctx root bytes e gave loads.accepted counted
+      (subst (EndsPasses passes ctx root text_of) was ends)
 
   -- no text is made then
   pub untexted : {V : Type 0} (passes : List KitPass) (text_of : V → List ℕ) (e : Refusal) (r : Result V Refusal)

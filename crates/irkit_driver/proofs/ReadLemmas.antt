@@ -1,5 +1,5 @@
 -- From bytes to a module of a context, from what the steps in between did.
-use Rattle.std.proofs.Common.{◌≡◌, ◌⊎◌, ℕ, ◌+◌, ◌^◌, ◌≤◌, List, [], ◌∷◌, Option, Some, None, option_map, Result, Ok, Err, IsSome, inl, inr, refl, sym, ap, subst, ◌∙◌, chars}
+use Rattle.std.proofs.Common.{◌≡◌, ℕ, ◌+◌, ◌^◌, ◌≤◌, List, [], ◌∷◌, Option, Some, None, option_map, Result, Ok, Err, IsSome, refl, sym, ap, subst, ◌∙◌, chars}
 use Rattle.std.specs.Prelude.{IsUtf8, IsErrAnd, IfErr, OnErr}
 use Rattle.ir_program.specs.Program.{operation_at}
 use Rattle.ir_program.specs.declared.handles.IRNode.TheVariants.{Operation as OperationNode}
@@ -22,16 +22,16 @@ use Rattle.kit_texts.specs.Says.{says}
 use Rattle.text_building.specs.Kept.{SameSeen}
 use Rattle.text_dialect.specs.Seen.{Seen, seen}
 use Rattle.text_frames.specs.Raised.{HoldsAllNew}
-use Rattle.text_reading.specs.Understood.{IsRead, IsSlotFull}
+use Rattle.text_reading.specs.Understood.{IsRead}
 use Rattle.irkit_streams.specs.Ends.{Decodes, EndsReading, GaveAll}
 use Rattle.irkit_streams.specs.declared.faults.DecodeFault.{DecodeFault}
 use Rattle.irkit_streams.specs.declared.faults.DecodeFault.TheVariants as decode
 use Rattle.irkit_streams.specs.declared.faults.ReadFault.{ReadFault}
 use Rattle.irkit_streams.specs.declared.faults.ReadFault.TheVariants as read
 use Rattle.irkit_streams.specs.declared.watched.Watched.{Watched}
-use Rattle.irkit_driver.specs.Outcomes.{EndsLoad, Loads, OverfillsContext, Understands}
+use Rattle.irkit_driver.specs.Outcomes.{EndsLoad, Loads, Understands}
 use Rattle.irkit_driver.specs.Refusals.{of_decode_fault, of_read_fault, of_rule_fault, of_text_fault}
-use Rattle.irkit_driver.specs.Texts.{HoldsText, IsSaidBy}
+use Rattle.irkit_driver.specs.Texts.{HoldsText, IsSaidBy, Overfills}
 use Rattle.irkit_driver.specs.declared.refusal.Refusal.{Refusal}
 use Rattle.irkit_driver.specs.declared.refusal.Refusal.TheVariants.{NotUtf8, Syntax, TooDeep, Scope, Rule, Memory, CounterFull, Read, Write}
 
@@ -73,18 +73,17 @@ pub undecoded : {V : Type 0} (bytes : List ℕ) (items : V → List ℕ) (d : Re
 undecoded bytes items d ctx f r was h is =
     at_error (Understands bytes ctx ctx) r (of_decode_fault f) is (undecoded_for bytes items ctx f (subst (Decodes bytes items) was h))
 
--- the text overfills the context
+-- the text has more definitions of values than numbers are left above the counter
 abbrev pub TextOverfills : KitContext → List ℕ → Type 0
-TextOverfills s cs =
-    IsSlotFull s.program ⊎ ((n : ℕ) × HasDefinitions kit_language cs n × (2 ^ 64 ≤ s.program.counter + n))
+TextOverfills s cs = (n : ℕ) × HasDefinitions kit_language cs n × (2 ^ 64 ≤ s.program.counter + n)
 
-overfilled : (s : KitContext) (bytes cs : List ℕ) → IsUtf8 bytes → cs ≡ chars bytes → TextOverfills s cs → OverfillsContext s bytes
-overfilled s bytes cs utf8 spelt (inl full) = inl full
-overfilled s bytes cs utf8 spelt (inr (n, defines, over)) =
-    inr (utf8, (n, subst (λ xs. HasDefinitions kit_language xs n) spelt defines, over))
+overfilled : (s : KitContext) (bytes cs : List ℕ) → IsUtf8 bytes → cs ≡ chars bytes → TextOverfills s cs
+    → Overfills s.program.counter bytes
+overfilled s bytes cs utf8 spelt (n, defines, over) =
+    (utf8, (n, subst (λ xs. HasDefinitions kit_language xs n) spelt defines, over))
 
 misread_for : (bytes : List ℕ) (old new : KitContext) (f : TextFault) → IsUtf8 bytes → IsRefusal kit_language (chars bytes) f
-    → (f ≡ text.CounterFull → OverfillsContext old bytes) → SameSeen (seen old) (seen new)
+    → (f ≡ text.CounterFull → Overfills old.program.counter bytes) → SameSeen (seen old) (seen new)
     → Understands bytes old new (Err (of_text_fault f))
 misread_for bytes old new text.Memory utf8 refused full same = same
 misread_for bytes old new text.CounterFull utf8 refused full same = (full refl, same)

@@ -35,8 +35,8 @@ pub record PassesGive (passes : List KitPass) (before : KitContext) (root : Ptr 
       PassedPrograms (map pass_of passes) before after root numbered
   pub written : IsWrittenAs after root text
 
--- The text of a module after passes: it is made, or memory is refused, or no handle or number is left for what a pass
--- puts in.
+-- The text of a module after passes: it is made, or memory is refused, or too few numbers of values are left for what a
+-- pass puts in.
 abbrev pub EndsPasses : {V : Type 0} → List KitPass → KitContext → Ptr Operation → (V → List ℕ) → Result V GrowError →
     Type 0
 EndsPasses passes before root text_of (Ok text) = PassesGive passes before root (text_of text)

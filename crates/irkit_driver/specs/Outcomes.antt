@@ -14,7 +14,6 @@ use Rattle.kit_ruled_views.specs.Functions.{KitContext}
 use Rattle.text_building.specs.Kept.{SameSeen}
 use Rattle.text_dialect.specs.Seen.{seen}
 use Rattle.text_frames.specs.Raised.{HoldsAllNew}
-use Rattle.text_reading.specs.Understood.{IsSlotFull}
 use Rattle.irkit_streams.specs.declared.watched.Watched.{Watched}
 use Rattle.irkit_streams.specs.Streams.{has_failed}
 use Rattle.irkit_streams.specs.Ends.{FailsReading, GaveAll, TookAll, TookFirst}
@@ -26,7 +25,7 @@ use Rattle.irkit_driver.specs.Lists.{PassesGive}
 use Rattle.irkit_driver.specs.Paths.{Answers}
 use Rattle.irkit_driver.specs.Refusals.{Deserves}
 use Rattle.irkit_driver.specs.Reports.{lines_of}
-use Rattle.irkit_driver.specs.Texts.{IsAccepted, IsAcceptedAs, Overfills}
+use Rattle.irkit_driver.specs.Texts.{IsAcceptedAs, Overfills, SaysModule}
 
 -- The bytes are accepted as this operation of the new context, which holds a module there; it is in no block, and all
 -- that has come is inside it. All that the old context held stands as it stood, and the counter has moved on by the
@@ -36,11 +35,6 @@ pub record Loads (bytes : List ℕ) (ctx new_ctx : KitContext) (root : Ptr Opera
   pub holds : HoldsModule new_ctx root
   pub new : HoldsAllNew (seen ctx) (seen new_ctx) (OperationNode root ∷ [])
   pub counted : new_ctx.program.counter ≡ ctx.program.counter + length (definitions_of accepted.0.text)
-
--- The bytes overfill a context: they define more values than numbers are left, or no handle is left for an operation, a
--- block or a region.
-abbrev pub OverfillsContext : KitContext → List ℕ → Type 0
-OverfillsContext s bytes = IsSlotFull s.program ⊎ Overfills s.program.counter bytes
 
 module _ {R : Type 0} (remaining : R → Option (List ℕ)) (old new : Watched R) where
   -- Why a load is refused: a read failed or 2^40 bytes and more were given, memory was refused, or all bytes that were
@@ -56,12 +50,12 @@ module _ {R : Type 0} (remaining : R → Option (List ℕ)) (old new : Watched R
   -- as it was.
   abbrev pub EndsLoad : KitContext → KitContext → Result (Ptr Operation) Refusal → Type 0
   EndsLoad ctx new_ctx (Ok root) = (bytes : List ℕ) × GaveAll remaining old new bytes × Loads bytes ctx new_ctx root
-  EndsLoad ctx new_ctx (Err refusal) = Refuses (OverfillsContext ctx) refusal × SameSeen (seen ctx) (seen new_ctx)
+  EndsLoad ctx new_ctx (Err refusal) = Refuses (Overfills ctx.program.counter) refusal × SameSeen (seen ctx) (seen new_ctx)
 
 module _ {R : Type 0} (remaining : R → Option (List ℕ)) (old new : Watched R) where
-  -- All that the reader gave is accepted, or it is refused as a load into a new context is.
+  -- All that the reader gave says a module, or it is refused as a load into a new context is.
   abbrev pub Accepts : {X : Type 0} → Result X Refusal → Type 0
-  Accepts (Ok _) = (bytes : List ℕ) × GaveAll remaining old new bytes × IsAccepted bytes
+  Accepts (Ok _) = (bytes : List ℕ) × GaveAll remaining old new bytes × SaysModule bytes
   Accepts (Err refusal) = Refuses remaining old new (Overfills 0) refusal
 
 -- From bytes to a module of the context: a refusal that the bytes deserve, or of memory or where they overfill the
@@ -69,7 +63,7 @@ module _ {R : Type 0} (remaining : R → Option (List ℕ)) (old new : Watched R
 abbrev pub Understands : List ℕ → KitContext → KitContext → Result (Ptr Operation) Refusal → Type 0
 Understands bytes ctx new_ctx (Ok root) = Loads bytes ctx new_ctx root
 Understands bytes ctx new_ctx (Err Memory) = SameSeen (seen ctx) (seen new_ctx)
-Understands bytes ctx new_ctx (Err CounterFull) = OverfillsContext ctx bytes × SameSeen (seen ctx) (seen new_ctx)
+Understands bytes ctx new_ctx (Err CounterFull) = Overfills ctx.program.counter bytes × SameSeen (seen ctx) (seen new_ctx)
 Understands bytes ctx new_ctx (Err fault) = Deserves bytes fault × SameSeen (seen ctx) (seen new_ctx)
 
 -- What `run` writes for these bytes: they are accepted as an operation of a context, and the text is what the passes
@@ -84,20 +78,22 @@ pub record RunGives (passes : List KitPass) (bytes text : List ℕ) : Type 0 whe
 abbrev pub ok_line : List ℕ
 ok_line = 111 ∷ 107 ∷ 10 ∷ []
 
--- What `check` writes for these bytes: the line `ok`, where they are accepted.
+-- What `check` writes for these bytes: the line `ok`, where they say a module.
 abbrev pub CheckGives : List ℕ → List ℕ → Type 0
-CheckGives bytes text = IsAccepted bytes × (text ≡ ok_line)
+CheckGives bytes text = SaysModule bytes × (text ≡ ok_line)
 
--- The bytes are accepted as an operation of a context, and some of the passes leave no handle or number for the next.
+-- The bytes are accepted as an operation of a context whose values were numbered from 0 on, as those of a new one are, and
+-- some of the passes leave too few numbers for the next.
 pub record PassesFillUp (passes : List KitPass) (bytes : List ℕ) : Type 0 where
   pub before : KitContext
   pub root : Ptr Operation
   pub accepted : IsAcceptedAs bytes before root
+  pub counted : before.program.counter ≡ length (definitions_of accepted.0.text)
   pub fills : FillsUp (map pass_of passes) before root
 
 module _ {R : Type 0} (remaining : R → Option (List ℕ)) (old new : Watched R) (passes : List KitPass) where
-  -- Why `run` is refused before it writes: as a load into a new context is, or after some of the passes no handle or
-  -- number is left for the next.
+  -- Why `run` is refused before it writes: as a load into a new context is, or after some of the passes too few numbers
+  -- of values are left for the next.
   abbrev pub RefusesRun : Refusal → Type 0
   RefusesRun refusal = Refuses remaining old new (λ bytes. Overfills 0 bytes ⊎ PassesFillUp passes bytes) refusal
 

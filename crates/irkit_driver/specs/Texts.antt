@@ -58,6 +58,10 @@ pub record BreaksRule (bytes : List ℕ) (rule : Rule) (place : List ℕ) : Type
 abbrev pub IsAcceptedAs : List ℕ → KitContext → Ptr Operation → Type 0
 IsAcceptedAs bytes s root = IsSaidBy bytes s root × KeepsRules s root
 
+-- the bytes say a module: an operation of a context is what they say, and it keeps all rules
+abbrev pub SaysModule : List ℕ → Type 0
+SaysModule bytes = (s : KitContext) × (root : Ptr Operation) × IsAcceptedAs bytes s root
+
 -- The bytes say this tree, and in whatever context an operation stands for it, the operation keeps all rules.
 pub record IsAcceptedText (bytes : List ℕ) (text : Entity ℕ) : Type 0 where
   pub says_it : SaysTree bytes text

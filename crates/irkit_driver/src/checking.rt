@@ -1,6 +1,5 @@
 //! Testing a module.
 ghost use Rattle.std.specs.Prelude.{◌≡◌, false};
-ghost use Rattle.ir_program.specs.Made.{HasRoom};
 ghost use Rattle.irkit_streams.specs.Streams.{has_failed};
 ghost use Rattle.irkit_driver.specs.Outcomes.{Accepts, EndsCheck};
 
@@ -9,7 +8,6 @@ use crate::refusal::Refusal;
 use ir_context::Context;
 use irkit_streams::{Watched, write_text};
 use kit::Kit;
-use kit_text_rules::texts_have_one_verdict;
 use std::alloc::Global;
 use std::io::{Read, Write};
 
@@ -44,11 +42,9 @@ fn accept_in<R: Read>(
     reader: &mut Watched<R>,
 ) -> Result<(), Refusal>
     requires unread { has_failed reader.old ≡ false }
-    requires room { HasRoom ctx.old.program }
     requires counter { ctx.old.program.counter ≡ 0 }
     ensures { Accepts R.remaining reader.old reader.new result }
 {
-    texts_have_one_verdict();
     load(alloc, ctx, reader)?;
     Ok(())
 }

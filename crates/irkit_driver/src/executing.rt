@@ -2,7 +2,6 @@
 ghost use Rattle.std.specs.Prelude.{◌≡◌, ◌≢◌, List, false, map, IfOk, IsSome, MatchOption};
 ghost use Rattle.ir_names.specs.Identifier.{text_of};
 ghost use Rattle.ir_names.specs.declared.identifier.Identifier.{Identifier as Name};
-ghost use Rattle.ir_program.specs.Made.{HasRoom};
 ghost use Rattle.ir_program.specs.Program.{operation_at};
 ghost use Rattle.kit_execution.specs.Obeying.{ObeysRules};
 ghost use Rattle.irkit_streams.specs.Streams.{has_failed};
@@ -71,7 +70,6 @@ fn outcome_from<R: Read>(
     reader: &mut Watched<R>,
 ) -> Result<Outcome, ExecutionFault>
     requires unread { has_failed reader.old ≡ false }
-    requires room { HasRoom ctx.old.program }
     requires counter { ctx.old.program.counter ≡ 0 }
     ensures { GivesOutcome R.remaining reader.old reader.new path.now arguments.now limit result }
 {

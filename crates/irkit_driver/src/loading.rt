@@ -1,5 +1,6 @@
 //! From a reader to a module of a context.
 ghost use Rattle.std.specs.Prelude.{◌≡◌, false, IfOk};
+ghost use Rattle.ir_program.specs.Edits.{KeepsErased};
 ghost use Rattle.irkit_streams.specs.Streams.{has_failed};
 ghost use Rattle.irkit_driver.specs.Known.{CanBeWritten, HasGrammar};
 ghost use Rattle.irkit_driver.specs.Outcomes.{EndsLoad, Understands};
@@ -27,8 +28,8 @@ const TURNS: u64 = 1 << 40;
 ///
 /// A refusal leaves what the context holds as it was, and says the first fault of the whole input: bytes that are no
 /// UTF-8, a fault of the text by line and column, or a broken rule; or that a read failed, that the end wasn't met
-/// after 2^40 bytes or more, that memory was refused, or that the context can't number the text's values or has no
-/// handle left for what the text says.
+/// after 2^40 bytes or more, that memory was refused, or that the context has too few numbers left for the
+/// text's values.
 pub fn load<R: Read>(
     alloc: Global,
     ctx: &mut Context<Kit>,
@@ -38,6 +39,7 @@ pub fn load<R: Read>(
     ensures ends { EndsLoad R.remaining reader.old reader.new ctx.old ctx.new result }
     ensures writable { IfOk result (CanBeWritten ctx.new) }
     ensures grammar { IfOk result (λ _. HasGrammar) }
+    ensures erased { KeepsErased ctx.old.program ctx.new.program }
 {
     let bytes = read_to_end(alloc, reader, TURNS)?;
     understand(alloc, ctx, bytes)
@@ -52,6 +54,7 @@ fn understand(
     ensures understands { Understands bytes.items ctx.old ctx.new result }
     ensures writable { IfOk result (CanBeWritten ctx.new) }
     ensures grammar { IfOk result (λ _. HasGrammar) }
+    ensures erased { KeepsErased ctx.old.program ctx.new.program }
 {
     let chars = decode(alloc, bytes.as_slice())?;
     // The characters say all of them, so their memory is free while the module is made.

@@ -1,7 +1,6 @@
 //! From text through passes to text.
 ghost use Rattle.std.specs.Prelude.{◌≡◌, false, IfOk};
 ghost use Rattle.std.specs.String.{string_bytes};
-ghost use Rattle.ir_program.specs.Made.{HasRoom};
 ghost use Rattle.irkit_streams.specs.Streams.{has_failed};
 ghost use Rattle.kit_held_modules.specs.Held.{HoldsModule};
 ghost use Rattle.irkit_driver.specs.Known.{CanBeWritten, HasGrammar};
@@ -65,7 +64,6 @@ fn text_in<R: Read>(
     reader: &mut Watched<R>,
 ) -> Result<String, Refusal>
     requires unread { has_failed reader.old ≡ false }
-    requires room { HasRoom ctx.old.program }
     requires counter { ctx.old.program.counter ≡ 0 }
     ensures { GivesText R.remaining reader.old reader.new passes.now string_bytes result }
 {

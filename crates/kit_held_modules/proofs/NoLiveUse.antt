@@ -174,7 +174,7 @@ pub record StaysInScope (old : KitProgram) (root : Ptr Operation) : Type 0 where
 
 pub no_live_use : (old : KitProgram) (root : Ptr Operation) → HasLists old → HasValues old → StaysInScope old root
     → (new : KitProgram) → StopsAt kit old new root LiveUse → ⊥
-no_live_use old root lists values stays new (while_deciding short part) = ⊎_elim (λ e. cc) (λ e. cc) short
+no_live_use old root lists values stays new (while_deciding short part) = cc
 no_live_use old root lists values stays new (while_removing e d) = cc
 no_live_use old root lists values stays new (loses_uses e d loses) =
     let t = stays.tree in

@@ -18,7 +18,7 @@ use Rattle.kit_ruled_views.specs.Functions.{KitContext}
 use Rattle.kit_ruled_views.specs.Ruled.{KitTree}
 use Rattle.kit_writable_trees.specs.Writable.{IsWritableRoot}
 use Rattle.kit_optimiser.specs.declared.pass.KitPass.{KitPass}
-use Rattle.kit_optimiser.specs.Passed.{IsPassed, IsOptimised, IsSoundRoot, GoesOn, pass_of}
+use Rattle.kit_optimiser.specs.Passed.{CountsTo, IsPassed, IsOptimised, IsSoundRoot, GoesOn, Runs, pass_of}
 
 module _ (leads : TypeHandle → Option KitType) (numbered : List ℕ → ℕ) (x : Pass) where
   one_more : (xs : List Pass) (t u r : KitTree) → IsTreeAfter {N = by_handle} leads numbered xs t u
@@ -41,6 +41,14 @@ begins s root held = record {
   types = refl;
   tree = λ t stands. (t, stands, (λ numbered. refl), λ w. w);
 }
+
+-- a pass on what a list of passes made, with the numbers of values that it takes
+pub runs_on : (xs : List Pass) (x : Pass) (old mid new : KitContext) (root : Ptr Operation) → Runs xs old mid root
+    → IsPassed x mid new root → CountsTo x mid root new.program.counter → Runs (xs ++ x ∷ []) old new root
+runs_on [] x old mid new root is passed counts =
+    subst (λ (s : KitContext). Runs (x ∷ []) s new root) is (new, passed, counts, refl)
+runs_on (y ∷ ys) x old mid new root (next, first, counted, rest) passed counts =
+    (next, first, counted, runs_on ys x next mid new root rest passed counts)
 
 -- a pass on what a list of passes left
 pub goes_on : (x : Pass) (old new : KitContext) (root : Ptr Operation) → IsSoundRoot old root → IsPassed x old new root

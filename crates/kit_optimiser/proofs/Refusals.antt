@@ -17,13 +17,13 @@ pub only_short : (e : OptError) → IsRefusal e → (e ≡ UndeterminedOperand �
 only_short e (inl short) never = short
 only_short e (inr is) never = absurd (never is)
 
-pub stops_short : (old new : KitProgram) (root : Ptr Operation) (e : OptError) → StopsAt kit old new root e
-    → (StopsAt kit old new root LiveUse → ⊥) → IsShortage e
-stops_short old new root e (while_deciding short part) never = short
-stops_short old new root e (while_removing is decides) never = inl is
-stops_short old new root e (loses_uses is decides loses) never = absurd (never (loses_uses refl decides loses))
-stops_short old new root e (while_joining is mid decides removes) never = inl is
-stops_short old new root e (comes_back is mid decides removes circle) never =
+pub stops_for_memory : (old new : KitProgram) (root : Ptr Operation) (e : OptError) → StopsAt kit old new root e
+    → (StopsAt kit old new root LiveUse → ⊥) → e ≡ Memory
+stops_for_memory old new root e (while_deciding is part) never = is
+stops_for_memory old new root e (while_removing is decides) never = is
+stops_for_memory old new root e (loses_uses is decides loses) never = absurd (never (loses_uses refl decides loses))
+stops_for_memory old new root e (while_joining is mid decides removes) never = is
+stops_for_memory old new root e (comes_back is mid decides removes circle) never =
     absurd (never (comes_back refl mid decides removes circle))
 
 -- the error of a pass where a counter is full, and where there is no memory

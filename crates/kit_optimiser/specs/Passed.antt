@@ -1,11 +1,10 @@
 -- What optimisations make of a module of a context.
-use Rattle.std.specs.Prelude.{◌≡◌, ℕ, List, [], ◌∷◌, ◌++◌}
-use Rattle.ir_program.specs.Program.{Program}
+use Rattle.std.specs.Prelude.{◌≡◌, ℕ, ◌≤◌, ◌^◌, List, [], ◌∷◌, ◌++◌}
 use Rattle.ir_program.specs.declared.handles.Operation.{Operation}
 use Rattle.ir_program.specs.declared.handles.Ptr.{Ptr}
 use Rattle.ir_trees.specs.Stands.{by_handle, StandsFor}
 use Rattle.ir_types.specs.Interned.{key_at}
-use Rattle.kit.specs.Meaning.{KitOperation, KitBlock, kit}
+use Rattle.kit.specs.Meaning.{kit}
 use Rattle.kit_behaviour.specs.PassLists.{Pass, SccpPass, LeanSccpPass, DcePass, SimplifyPass}
 use Rattle.kit_held_modules.specs.Held.{HoldsModule}
 use Rattle.kit_module_programs.specs.TreePasses.{IsTreePass, IsTreeAfter, IsSoundTree}
@@ -14,9 +13,7 @@ use Rattle.kit_optimiser.specs.declared.pass.KitPass.TheVariants as passes
 use Rattle.kit_ruled_views.specs.Functions.{KitContext}
 use Rattle.kit_ruled_views.specs.Ruled.{KitTree}
 use Rattle.kit_writable_trees.specs.Writable.{IsWritableRoot}
-use Rattle.opt_decide.specs.Phase.{CarriesOutPart}
-use Rattle.opt_inside.specs.Full.{IsFull}
-use Rattle.opt_sccp.specs.Sccp.{IsPartlyPropagated}
+use Rattle.opt_sccp.specs.Sccp.{MovesCounterTo}
 
 -- the pass on programs that it is
 abbrev pub pass_of : KitPass → Pass
@@ -53,25 +50,31 @@ abbrev pub IsSoundRoot : KitContext → Ptr Operation → Type 0
 IsSoundRoot s root = (t : KitTree) → StandsFor s.program root t → (numbered : List ℕ → ℕ) →
     IsSoundTree {N = by_handle} (key_at s.types) numbered t
 
--- a part of the pass makes the second program of the first: some of the constants are put in, each whole, or some of
--- the branches are decided, each whole. Removal of dead values needs no handle and no number, and stops nowhere between
-abbrev pub IsPartOf : Pass → Program KitOperation KitBlock → Program KitOperation KitBlock → Ptr Operation → Type 0
-IsPartOf SccpPass old mid root = IsPartlyPropagated kit old mid root
-IsPartOf LeanSccpPass old mid root = ⊥
-IsPartOf DcePass old mid root = ⊥
-IsPartOf SimplifyPass old mid root = CarriesOutPart kit old mid root
+-- What a pass moves the counter of values to: constant propagation takes a number for each value that gets a constant,
+-- and the others take none.
+abbrev pub CountsTo : Pass → KitContext → Ptr Operation → ℕ → Type 0
+CountsTo SccpPass old root n = MovesCounterTo kit old.program root n
+CountsTo LeanSccpPass old root n = ⊥
+CountsTo DcePass old root n = n ≡ old.program.counter
+CountsTo SimplifyPass old root n = n ≡ old.program.counter
 
--- with a part of the pass done, no handle of an operation or of a region is left, or no number of a value
+-- from context to context, one pass after another, each of which takes the numbers of values that it does
+abbrev pub Runs : List Pass → KitContext → KitContext → Ptr Operation → Type 0
+Runs [] old new root = new ≡ old
+Runs (x ∷ xs) old new root =
+    (next : KitContext) × IsPassed x old next root × CountsTo x old root next.program.counter × Runs xs next new root
+
+-- the pass takes more numbers of values than are left
 abbrev pub StopsFull : Pass → KitContext → Ptr Operation → Type 0
-StopsFull x old root = (mid : Program KitOperation KitBlock) × IsPartOf x old.program mid root × IsFull mid
+StopsFull x old root = (n : ℕ) × CountsTo x old root n × (2 ^ 64 ≤ n)
 
--- The passes of a list leave no handle or no number for one of them: those before it are done, and with a part of it
--- the program is full.
+-- The passes of a list leave too few numbers of values for one of them: those before it are made, and it takes more
+-- than are left.
 pub record FillsUp (xs : List Pass) (old : KitContext) (root : Ptr Operation) : Type 0 where
   pub done : List Pass
   pub next : Pass
   pub rest : List Pass
   pub parts : done ++ next ∷ rest ≡ xs
   pub reached : KitContext
-  pub optimised : IsOptimised done old reached root
+  pub runs : Runs done old reached root
   pub full : StopsFull next reached root

@@ -1,7 +1,7 @@
 //! The optimisations of a module of `kit` in a context.
 //!
 //! A module is held by a context where it keeps the rules, and nothing outside it leads into it or takes a value of it.
-//! So it is again after each pass, and after each list of passes.
+//! So it is again after each pass that succeeds, and after each list of passes that does.
 #![tactic(auto)]
 
 mod lists;

@@ -2,7 +2,7 @@
 ghost use Rattle.std.specs.Prelude.{◌≡◌, Err, OnOk, map};
 ghost use Rattle.ir_base.specs.declared.growth.GrowError.TheVariants.{CounterFull};
 ghost use Rattle.kit_held_modules.specs.Held.{HoldsModule};
-ghost use Rattle.kit_optimiser.specs.Passed.{FillsUp, GoesOn, IsOptimised, IsPassed, StopsFull, pass_of};
+ghost use Rattle.kit_optimiser.specs.Passed.{CountsTo, FillsUp, GoesOn, IsOptimised, IsPassed, Runs, StopsFull, pass_of};
 
 use crate::{KitPass, know_sound, propagate_constants, remove_dead, simplify_control_flow};
 use ir_base::GrowError;
@@ -23,6 +23,7 @@ fn run_pass(
 ) -> Result<(), GrowError>
     requires { HoldsModule ctx.old root }
     ensures passed { OnOk result (IsPassed (pass_of pass) ctx.old ctx.new root) }
+    ensures numbers { OnOk result (CountsTo (pass_of pass) ctx.old root ctx.new.program.counter) }
     ensures full { result ≡ Err CounterFull → StopsFull (pass_of pass) ctx.old root }
 {
     match pass {
@@ -44,6 +45,8 @@ fn run_next_pass(
 ) -> Result<(), GrowError>
     requires { HoldsModule ctx.old root }
     ensures goes_on { OnOk result (GoesOn (pass_of pass) ctx.old ctx.new root) }
+    ensures passed { OnOk result (IsPassed (pass_of pass) ctx.old ctx.new root) }
+    ensures numbers { OnOk result (CountsTo (pass_of pass) ctx.old root ctx.new.program.counter) }
     ensures full { result ≡ Err CounterFull → StopsFull (pass_of pass) ctx.old root }
 {
     know_sound(ctx, root);
@@ -55,8 +58,8 @@ fn run_next_pass(
 /// afterwards.
 ///
 /// # Errors
-/// `Memory`, and `CounterFull` where no handle or no number of a value is left: some of the passes are done then, and a
-/// part of the next may be.
+/// `Memory`, and `CounterFull` where too few numbers of values are left for a pass: those before it are done then, and a
+/// part of it may be.
 pub fn run_passes(
     alloc: Global,
     ctx: &mut Context<Kit>,
@@ -65,6 +68,7 @@ pub fn run_passes(
 ) -> Result<(), GrowError>
     requires { HoldsModule ctx.old root }
     ensures optimised { OnOk result (IsOptimised (map pass_of passes.now) ctx.old ctx.new root) }
+    ensures runs { OnOk result (Runs (map pass_of passes.now) ctx.old ctx.new root) }
     ensures full { result ≡ Err CounterFull → FillsUp (map pass_of passes.now) ctx.old root }
 {
     for pass in passes {

@@ -1,9 +1,9 @@
 //! One optimisation of a module.
-ghost use Rattle.std.specs.Prelude.{◌≡◌, Err, IfErr, OnOk};
+ghost use Rattle.std.specs.Prelude.{◌≡◌, Err, IfErr, OnErr, OnOk};
 ghost use Rattle.ir_base.specs.declared.growth.GrowError.TheVariants.{CounterFull, Memory};
 ghost use Rattle.kit_behaviour.specs.PassLists.{DcePass, SccpPass, SimplifyPass};
 ghost use Rattle.kit_held_modules.specs.Held.{HoldsModule};
-ghost use Rattle.kit_optimiser.specs.Passed.{IsPassed, StopsFull};
+ghost use Rattle.kit_optimiser.specs.Passed.{CountsTo, IsPassed, StopsFull};
 ghost use Rattle.opt_dialect.specs.Statuses.{error_of};
 ghost use Rattle.opt_sccp.specs.Made.{IsShortage};
 
@@ -42,8 +42,8 @@ fn shortage_of(error: OptError) -> GrowError
 /// written as a text, so it can be afterwards.
 ///
 /// # Errors
-/// `Memory`, and `CounterFull` where no handle or no number of a value is left: some of the constants may be put in
-/// then.
+/// `Memory`, and `CounterFull` where there are not so many numbers left as values get constants: some of these may be
+/// put in then.
 pub fn propagate_constants(
     alloc: Global,
     ctx: &mut Context<Kit>,
@@ -51,6 +51,7 @@ pub fn propagate_constants(
 ) -> Result<(), GrowError>
     requires { HoldsModule ctx.old root }
     ensures passed { OnOk result (IsPassed SccpPass ctx.old ctx.new root) }
+    ensures numbers { OnOk result (CountsTo SccpPass ctx.old root ctx.new.program.counter) }
     ensures full { result ≡ Err CounterFull → StopsFull SccpPass ctx.old root }
 {
     know_premises(ctx, root);
@@ -74,7 +75,7 @@ pub fn propagate_constants(
 /// be written as a text, so it can be afterwards.
 ///
 /// # Errors
-/// `Memory`.
+/// There may be no memory. Nothing is changed then.
 pub fn remove_dead(
     alloc: Global,
     ctx: &mut Context<Kit>,
@@ -82,7 +83,9 @@ pub fn remove_dead(
 ) -> Result<(), GrowError>
     requires { HoldsModule ctx.old root }
     ensures passed { OnOk result (IsPassed DcePass ctx.old ctx.new root) }
+    ensures numbers { CountsTo DcePass ctx.old root ctx.new.program.counter }
     ensures memory { IfErr result (λ error. error ≡ Memory) }
+    ensures same { OnErr result (ctx.new ≡ ctx.old) }
 {
     know_premises(ctx, root);
     know_handles_and_types(ctx, root);
@@ -105,8 +108,7 @@ pub fn remove_dead(
 /// be written as a text, so it can be afterwards.
 ///
 /// # Errors
-/// `Memory`, and `CounterFull` where no handle is left for a branch: some of the branches may be decided then, or whole
-/// phases done.
+/// `Memory`: some of the branches may be decided then, or whole phases done.
 pub fn simplify_control_flow(
     alloc: Global,
     ctx: &mut Context<Kit>,
@@ -114,7 +116,8 @@ pub fn simplify_control_flow(
 ) -> Result<(), GrowError>
     requires { HoldsModule ctx.old root }
     ensures passed { OnOk result (IsPassed SimplifyPass ctx.old ctx.new root) }
-    ensures full { result ≡ Err CounterFull → StopsFull SimplifyPass ctx.old root }
+    ensures numbers { CountsTo SimplifyPass ctx.old root ctx.new.program.counter }
+    ensures memory { IfErr result (λ error. error ≡ Memory) }
 {
     know_premises(ctx, root);
     know_handles_and_types(ctx, root);

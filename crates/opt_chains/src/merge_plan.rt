@@ -36,6 +36,7 @@ pub fn apply_plan<D: Meanings, T: TypeTable>(
     ensures merged { (p : Place by_handle) → IsStartIn ctx.old.program _start p
         → (t : ProgramTree D.Operation D.Block) → StandsFor ctx.old.program op t
         → MergesBlocks D.meaning p ctx.old.program ctx.new.program op t }
+    ensures numbers { ctx.new.program.counter ≡ ctx.old.program.counter }
     ensures types { ctx.new.types ≡ ctx.old.types }
 {
     ctx.program().know_lists();

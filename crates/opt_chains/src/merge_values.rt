@@ -44,6 +44,7 @@ pub(crate) fn replace_arguments<O, B, T: TypeTable>(
     requires live { AreThere ctx.old.program stand_ins.now }
     requires fixed { AreFinal stand_ins.now }
     ensures replaced { TakesInstead ctx.old.program ctx.new.program (standing stand_ins.now) }
+    ensures numbers { ctx.new.program.counter ≡ ctx.old.program.counter }
     ensures types { ctx.new.types ≡ ctx.old.types }
 {
     for stand_in in stand_ins {

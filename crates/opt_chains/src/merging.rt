@@ -23,6 +23,7 @@ pub struct Join {
 fn join_blocks<O: Drop, B: Drop, T: TypeTable>(ctx: &mut TypedProgram<O, B, T>, join: Join)
     requires ready { IsReady ctx.old.program join }
     ensures joined { JoinsBlocks ctx.old.program ctx.new.program join }
+    ensures numbers { ctx.new.program.counter ≡ ctx.old.program.counter }
     ensures types { ctx.new.types ≡ ctx.old.types }
 {
     ctx.program().know_lists();
@@ -41,6 +42,7 @@ pub(crate) fn join_all<O: Drop, B: Drop, T: TypeTable>(
     requires can { AreJoins ctx.old.program joins.now }
     requires unused { (j : Join) → Lists joins.now j → TakesNoArgument ctx.old.program j.block }
     ensures joined { HasJoined ctx.old.program ctx.new.program joins.now }
+    ensures numbers { ctx.new.program.counter ≡ ctx.old.program.counter }
     ensures types { ctx.new.types ≡ ctx.old.types }
 {
     for join in joins {

@@ -35,7 +35,6 @@ module _ {O B : Type 0} where
     blocks = λ q. b.blocks q ∙ a.blocks q;
     regions = λ q. b.regions q ∙ a.regions q;
     erased = erased_both old mid new a.erased b.erased;
-    room = record { operations = λ s. a.room.operations (b.room.operations s); blocks = λ s. a.room.blocks (b.room.blocks s); regions = λ s. a.room.regions (b.room.regions s) };
   }
 
   -- an edit that changes nothing
@@ -46,7 +45,6 @@ module _ {O B : Type 0} where
     blocks = λ q. refl;
     regions = λ q. refl;
     erased = record { operations = λ q s. s; blocks = λ q s. s; regions = λ q s. s };
-    room = record { operations = λ s. s; blocks = λ s. s; regions = λ s. s };
   } where
     by_case : (o : Option (OperationView O)) → operation_at c p ≡ o → o ≡ option_map f o
     by_case None e = refl
@@ -90,7 +88,6 @@ module _ {O B A : Type 0} (d : Dialect (in_program O B) A) where
     blocks = λ q. edits.blocks q ∙ removed.blocks q;
     regions = λ q. edits.regions q ∙ removed.regions q;
     erased = erased_both old mid new removed.erased edits.erased;
-    room = record { operations = λ h. removed.room.operations (edits.room.operations h); blocks = λ h. removed.room.blocks (edits.room.blocks h); regions = λ h. removed.room.regions (edits.room.regions h) };
   } where
     by_case : (o : Option (OperationView O)) → option_map (λ (v : OperationView O). v.payload) (option_map (λ (v : OperationView O). record v { operands = drop picks v.operands }) o) ≡ Some w
         → option_map (λ (v : OperationView O). record v { payload = u }) (option_map (λ (v : OperationView O). record v { operands = drop picks v.operands }) o) ≡ option_map (loses d picks) o

@@ -27,6 +27,7 @@ fn remove_arguments<O, B, T: TypeTable>(
         → value_in (arguments_at ctx.old.program block) i ≡ Some v → IsUsed ctx.old.program v → ⊥ }
     ensures removed { EditsBlock ctx.old.program ctx.new.program block
         (λ v. record v { arguments = drop (marked marks.now) v.arguments }) }
+    ensures numbers { ctx.new.program.counter ≡ ctx.old.program.counter }
     ensures types { ctx.new.types ≡ ctx.old.types }
 {
     for i in (0..marks.len()).rev() {
@@ -47,6 +48,7 @@ fn lose_arguments<D: Meanings, T: TypeTable>(
         → value_in (arguments_at ctx.old.program dead.now.block) i ≡ Some v → IsUsed ctx.old.program v → ⊥ }
     ensures lost { EditsBlock ctx.old.program ctx.new.program dead.now.block
         (loses_arguments D.meaning (marked dead.now.marks.items)) }
+    ensures numbers { ctx.new.program.counter ≡ ctx.old.program.counter }
     ensures types { ctx.new.types ≡ ctx.old.types }
 {
     if ctx.program().has_block(dead.block) {
@@ -67,6 +69,7 @@ pub(crate) fn lose_all_arguments<D: Meanings, T: TypeTable>(
     requires once { (j k : ℕ) (a b : DeadArguments) → slice_get dead.now j ≡ Some a → slice_get dead.now k ≡ Some b
         → a.block ≡ b.block → j ≡ k }
     ensures lost { LosesArguments D.meaning ctx.old.program ctx.new.program dead.now }
+    ensures numbers { ctx.new.program.counter ≡ ctx.old.program.counter }
     ensures types { ctx.new.types ≡ ctx.old.types }
 {
     for a in dead {

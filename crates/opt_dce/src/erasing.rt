@@ -29,6 +29,7 @@ pub(crate) fn detach_all<O, B, T: TypeTable>(
     requires linked { (p : Ptr Operation) → is_among ops.now p ≡ true → IsLinkedOperation ctx.old.program p }
     requires once { AreDistinct ops.now }
     ensures detached { DetachesPicked ctx.old.program ctx.new.program (is_among ops.now) }
+    ensures numbers { ctx.new.program.counter ≡ ctx.old.program.counter }
     ensures types { ctx.new.types ≡ ctx.old.types }
 {
     for op in ops {
@@ -41,6 +42,7 @@ pub(crate) fn detach_all<O, B, T: TypeTable>(
 pub(crate) fn drop_uses<O, B, T: TypeTable>(ctx: &mut TypedProgram<O, B, T>, ops: &[Ptr<Operation>])
     requires { (p : Ptr Operation) → is_among ops.now p ≡ true → IsLiveNode ctx.old.program (OperationNode p) }
     ensures dropped { DropsPicked ctx.old.program ctx.new.program (is_among ops.now) }
+    ensures numbers { ctx.new.program.counter ≡ ctx.old.program.counter }
     ensures types { ctx.new.types ≡ ctx.old.types }
 {
     for op in ops {
@@ -53,6 +55,7 @@ pub(crate) fn drop_uses<O, B, T: TypeTable>(ctx: &mut TypedProgram<O, B, T>, ops
 fn erase_one<O: Drop, B: Drop, T: TypeTable>(ctx: &mut TypedProgram<O, B, T>, op: Ptr<Operation>)
     requires { IsLiveNode ctx.old.program (OperationNode op) → IsApart ctx.old.program (OperationNode op) }
     ensures erased { ErasesIfThere ctx.old.program ctx.new.program op }
+    ensures numbers { ctx.new.program.counter ≡ ctx.old.program.counter }
     ensures types { ctx.new.types ≡ ctx.old.types }
 {
     if ctx.program().has_operation(op) {
@@ -69,6 +72,7 @@ pub(crate) fn erase_all<O: Drop, B: Drop, T: TypeTable>(
     requires there { (p : Ptr Operation) → is_among ops.now p ≡ true → IsLiveNode ctx.old.program (OperationNode p) }
     requires unnamed { NamesNone ctx.old.program (is_among ops.now) }
     ensures erased { ErasesPicked ctx.old.program ctx.new.program (is_among ops.now) }
+    ensures numbers { ctx.new.program.counter ≡ ctx.old.program.counter }
     ensures types { ctx.new.types ≡ ctx.old.types }
 {
     ctx.program().know_lists();

@@ -24,6 +24,7 @@ fn remove_operands<O, B, T: TypeTable>(
     requires count { length marks.now ≡ length (operands_at ctx.old.program op) }
     ensures removed { EditsOperation ctx.old.program ctx.new.program op
         (λ v. record v { operands = drop (marked marks.now) v.operands }) }
+    ensures numbers { ctx.new.program.counter ≡ ctx.old.program.counter }
     ensures types { ctx.new.types ≡ ctx.old.types }
 {
     for i in (0..marks.len()).rev() {
@@ -42,6 +43,7 @@ fn lose_operands<D: Meanings, T: TypeTable>(
     requires count { length lost.now.marks.items ≡ length (operands_at ctx.old.program lost.now.op) }
     ensures lost { EditsOperation ctx.old.program ctx.new.program lost.now.op
         (loses D.meaning (marked lost.now.marks.items)) }
+    ensures numbers { ctx.new.program.counter ≡ ctx.old.program.counter }
     ensures types { ctx.new.types ≡ ctx.old.types }
 {
     remove_operands(ctx, lost.op, &lost.marks);
@@ -59,6 +61,7 @@ pub(crate) fn lose_all_operands<D: Meanings, T: TypeTable>(
     requires once { (j k : ℕ) (l m : LostOperands) → slice_get lost.now j ≡ Some l → slice_get lost.now k ≡ Some m
         → l.op ≡ m.op → j ≡ k }
     ensures lost { LosesListed D.meaning ctx.old.program ctx.new.program lost.now }
+    ensures numbers { ctx.new.program.counter ≡ ctx.old.program.counter }
     ensures types { ctx.new.types ≡ ctx.old.types }
 {
     for l in lost {

@@ -81,6 +81,7 @@ pub fn dce<D: OptDialect, T: TypeTable>(
     ensures unchanged { result ≡ Ok Unchanged → ctx.new ≡ ctx.old }
     ensures error { IfErr result (λ error. error ≡ Memory) }
     ensures err { IfErr result (λ error. ctx.new ≡ ctx.old) }
+    ensures numbers { ctx.new.program.counter ≡ ctx.old.program.counter }
     ensures types { ctx.new.types ≡ ctx.old.types }
 {
     let plan = dead_plan::<D>(alloc, ctx.program(), op)?;

@@ -30,6 +30,7 @@ pub fn take_out<D: OptDialect, T: TypeTable>(
     ensures taken { (g : Gone by_handle) → IsPlan ctx.old.program g plan.now → UsesGo ctx.old.program g
         → IsBelow ctx.old.program _op g → (t : ProgramTree D.Operation D.Block) → StandsFor ctx.old.program _op t
         → TakesOut D.meaning ctx.old.program ctx.new.program _op g t }
+    ensures numbers { ctx.new.program.counter ≡ ctx.old.program.counter }
     ensures types { ctx.new.types ≡ ctx.old.types }
 {
     ctx.program().know_lists();

@@ -1,5 +1,5 @@
 -- What putting an unconditional branch in place of a decided one makes.
-use Rattle.std.specs.Prelude.{◌≡◌, ◌≢◌, ◌⊎◌, ℕ, [], map, length, Some, None, option_map, cond, slice_get}
+use Rattle.std.specs.Prelude.{◌≡◌, ◌≢◌, ℕ, [], map, length, Some, None, option_map, cond, slice_get}
 use Rattle.ir_program.specs.Edits.{KeepsErased}
 use Rattle.ir_program.specs.Erased.{IsGone}
 use Rattle.ir_program.specs.Made.{BuildsOperation}
@@ -11,15 +11,9 @@ use Rattle.ir_program.specs.declared.handles.Region.{Region}
 use Rattle.ir_program.specs.declared.handles.BasicBlock.{BasicBlock}
 use Rattle.ir_trees.specs.ListRewrites.{same_operation}
 use Rattle.ir_trees.specs.Stands.{in_program}
-use Rattle.opt_dialect.specs.declared.status.OptError.{OptError}
-use Rattle.opt_dialect.specs.declared.status.OptError.TheVariants.{Memory, CounterFull}
 use Rattle.opt_trees.specs.Dialect.{Dialect}
 use Rattle.opt_trees.specs.Occurrences.{cons_if, picks}
 use Rattle.opt_decide.specs.declared.plan.Decision.{Decision}
-
--- something can't grow
-abbrev pub IsShortage : OptError → Type 0
-IsShortage e = (e ≡ Memory) ⊎ (e ≡ CounterFull)
 
 -- q in place of p, and each other operation as it is
 abbrev pub in_place_of : Ptr Operation → Ptr Operation → Ptr Operation → Ptr Operation

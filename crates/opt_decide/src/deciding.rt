@@ -1,14 +1,12 @@
 //! Deciding branches.
-ghost use Rattle.std.specs.Prelude.{◌≡◌, ◌↔◌, Err, Ok, IfErr, IfOk, IsSome, OnErr, OnOk};
-ghost use Rattle.ir_program.specs.Program.{Program, operation_at};
+ghost use Rattle.std.specs.Prelude.{◌≡◌, ◌↔◌, Ok, IfErr, IfOk, IsSome, OnErr, OnOk};
+ghost use Rattle.ir_program.specs.Program.{operation_at};
 ghost use Rattle.ir_trees.specs.Stands.{ProgramTree, StandsFor};
 ghost use Rattle.opt_dialect.specs.declared.status.IRStatus.TheVariants.{Unchanged};
-ghost use Rattle.opt_dialect.specs.declared.status.OptError.TheVariants.{CounterFull};
-ghost use Rattle.opt_inside.specs.Full.{IsFull};
+ghost use Rattle.opt_dialect.specs.declared.status.OptError.TheVariants.{Memory};
 ghost use Rattle.opt_inside.specs.Edges.{FitsEdgesBelow, HasLocalEdgesBelow};
 ghost use Rattle.opt_decide.specs.Phase.{CarriesOut, CarriesOutPart, DecidesBranches, HasDecided, HasDecidedSome, HasNoneDecided};
 ghost use Rattle.opt_decide.specs.Planned.{AreDecisions};
-ghost use Rattle.opt_decide.specs.Replaced.{IsShortage};
 
 use crate::Decision;
 use crate::plan::decided_branches;
@@ -23,7 +21,7 @@ use std::alloc::Global;
 /// Carries decisions out, one after the other.
 ///
 /// # Errors
-/// `Memory`, and `CounterFull` where no handle is left. Some of the decisions are carried out then, the first of the list.
+/// There may be no memory. Some of the decisions are carried out then, the first of the list.
 fn carry_out<D: OptDialect, T: TypeTable>(
     alloc: Global,
     ctx: &mut TypedProgram<D::Operation, D::Block, T>,
@@ -33,9 +31,8 @@ fn carry_out<D: OptDialect, T: TypeTable>(
     requires { AreDecisions D.meaning ctx.old.program _op decisions.now }
     ensures done { OnOk result (HasDecided D.meaning ctx.old.program ctx.new.program decisions.now) }
     ensures part { OnErr result (HasDecidedSome D.meaning ctx.old.program ctx.new.program decisions.now) }
-    ensures refused { IfErr result IsShortage }
-    ensures full { result ≡ Err CounterFull → (mid : Program D.Operation D.Block)
-        × HasDecidedSome D.meaning ctx.old.program mid decisions.now × IsFull mid }
+    ensures refused { IfErr result (λ e. e ≡ Memory) }
+    ensures numbers { ctx.new.program.counter ≡ ctx.old.program.counter }
     ensures types { ctx.new.types ≡ ctx.old.types }
 {
     for decision in decisions {
@@ -50,7 +47,7 @@ fn carry_out<D: OptDialect, T: TypeTable>(
 /// were any.
 ///
 /// # Errors
-/// `Memory`, and `CounterFull` where no handle is left. Some of the branches are decided then, each whole.
+/// There may be no memory. Some of the branches are decided then, each whole.
 pub fn decide_branches<D: OptDialect, T: TypeTable>(
     alloc: Global,
     op: Ptr<Operation>,
@@ -67,9 +64,8 @@ pub fn decide_branches<D: OptDialect, T: TypeTable>(
         → FitsEdgesBelow D.meaning ctx.new.program op) }
     ensures carried { IfOk result (λ status. CarriesOut D.meaning ctx.old.program ctx.new.program op status) }
     ensures unchanged { result ≡ Ok Unchanged → ctx.new ≡ ctx.old }
-    ensures error { IfErr result IsShortage }
-    ensures full { result ≡ Err CounterFull → (mid : Program D.Operation D.Block)
-        × CarriesOutPart D.meaning ctx.old.program mid op × IsFull mid }
+    ensures error { IfErr result (λ e. e ≡ Memory) }
+    ensures numbers { ctx.new.program.counter ≡ ctx.old.program.counter }
     ensures types { ctx.new.types ≡ ctx.old.types }
 {
     let program = ctx.program();

@@ -1,11 +1,10 @@
 //! One decided branch, made unconditional.
-ghost use Rattle.std.specs.Prelude.{◌≡◌, ◌≢◌, [], Err, IfErr, IfOk, IsSome, OnErr, slice_get};
+ghost use Rattle.std.specs.Prelude.{◌≡◌, ◌≢◌, [], IfErr, IfOk, IsSome, OnErr, slice_get};
 ghost use Rattle.ir_program.specs.Lists.{IsLinkedOperation, IsUnlinkedOperation, regions_in};
 ghost use Rattle.ir_program.specs.Program.{operation_at, results_at};
 ghost use Rattle.ir_program.specs.Rows.{successors_at};
-ghost use Rattle.opt_dialect.specs.declared.status.OptError.TheVariants.{CounterFull};
-ghost use Rattle.opt_inside.specs.Full.{IsFull};
-ghost use Rattle.opt_decide.specs.Replaced.{BuildsBranch, DecidesBranch, IsShortage, LeadsAlike, SwapsIn};
+ghost use Rattle.opt_dialect.specs.declared.status.OptError.TheVariants.{Memory};
+ghost use Rattle.opt_decide.specs.Replaced.{BuildsBranch, DecidesBranch, LeadsAlike, SwapsIn};
 ghost use Rattle.opt_trees.specs.Occurrences.{cons_if};
 
 use crate::Decision;
@@ -35,7 +34,7 @@ fn target_of<O, B>(
 /// Makes the unconditional branch along the edge of a decision. It stands in no block.
 ///
 /// # Errors
-/// `Memory`, and `CounterFull` where no handle is left. Each handle leads to what it led to then.
+/// There may be no memory. Each handle leads to what it led to then.
 fn new_branch<D: OptDialect, T: TypeTable>(
     alloc: Global,
     ctx: &mut TypedProgram<D::Operation, D::Block, T>,
@@ -45,11 +44,12 @@ fn new_branch<D: OptDialect, T: TypeTable>(
     requires plain { IsSome D.meaning.plain }
     ensures built { IfOk result (λ branch. BuildsBranch D.meaning ctx.old.program ctx.new.program decision branch) }
     ensures same { OnErr result (LeadsAlike ctx.old.program ctx.new.program) }
-    ensures refused { IfErr result IsShortage }
-    ensures full { result ≡ Err CounterFull → IsFull ctx.old.program }
+    ensures refused { IfErr result (λ e. e ≡ Memory) }
+    ensures numbers { ctx.new.program.counter ≡ ctx.old.program.counter }
     ensures types { ctx.new.types ≡ ctx.old.types }
 {
     let program = ctx.program();
+    program.know_values();
     program.know_operands();
     program.know_successors();
     let Some(payload) = D::unconditional(alloc)? else {
@@ -76,6 +76,7 @@ fn put_in_place<O: Drop, B: Drop, T: TypeTable>(
     requires bare { regions_in ctx.old.program other ≡ [] }
     requires two { op ≢ other }
     ensures swaps { SwapsIn ctx.old.program ctx.new.program op other }
+    ensures numbers { ctx.new.program.counter ≡ ctx.old.program.counter }
     ensures types { ctx.new.types ≡ ctx.old.types }
 {
     ctx.program().know_lists();
@@ -89,7 +90,7 @@ fn put_in_place<O: Drop, B: Drop, T: TypeTable>(
 /// old one forwarded along that edge. The time is linear in the operands.
 ///
 /// # Errors
-/// `Memory`, and `CounterFull` where no handle is left. Each handle leads to what it led to then.
+/// There may be no memory. Each handle leads to what it led to then.
 pub(crate) fn decide_branch<D: OptDialect, T: TypeTable>(
     alloc: Global,
     ctx: &mut TypedProgram<D::Operation, D::Block, T>,
@@ -101,8 +102,8 @@ pub(crate) fn decide_branch<D: OptDialect, T: TypeTable>(
     requires plain { IsSome D.meaning.plain }
     ensures decided { IfOk result (λ branch. DecidesBranch D.meaning ctx.old.program ctx.new.program decision branch) }
     ensures same { OnErr result (LeadsAlike ctx.old.program ctx.new.program) }
-    ensures refused { IfErr result IsShortage }
-    ensures full { result ≡ Err CounterFull → IsFull ctx.old.program }
+    ensures refused { IfErr result (λ e. e ≡ Memory) }
+    ensures numbers { ctx.new.program.counter ≡ ctx.old.program.counter }
     ensures types { ctx.new.types ≡ ctx.old.types }
 {
     let branch = new_branch::<D, T>(alloc, ctx, decision)?;

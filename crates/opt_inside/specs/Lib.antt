@@ -3,4 +3,3 @@ pub mod Numbered
 pub mod Edges
 pub mod Outside
 pub mod Around
-pub mod Full

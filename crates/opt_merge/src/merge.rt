@@ -41,6 +41,7 @@ pub fn merge_chains<D: OptDialect, T: TypeTable>(
     ensures same { result ≡ Ok Unchanged → ctx.new ≡ ctx.old }
     ensures refused { IfErr result (λ e. (e ≡ Memory) ⊎ ((e ≡ LiveUse) × HasCircle D.meaning ctx.old.program op start)) }
     ensures kept { OnErr result (ctx.new ≡ ctx.old) }
+    ensures numbers { ctx.new.program.counter ≡ ctx.old.program.counter }
     ensures types { ctx.new.types ≡ ctx.old.types }
 {
     let Some(plan) = find_plan::<D>(alloc, ctx.program(), op, start)? else {

@@ -1,5 +1,5 @@
 -- Constant propagation of a program.
-use Rattle.std.specs.Prelude.{◌≡◌, ◌↔◌, ◌⊎◌, List, Option, Some, None}
+use Rattle.std.specs.Prelude.{◌≡◌, ◌↔◌, ◌⊎◌, ℕ, ◌+◌, List, Option, Some, None, length}
 use Rattle.ir_program.specs.Program.{Program}
 use Rattle.ir_program.specs.declared.handles.Ptr.{Ptr}
 use Rattle.ir_program.specs.declared.handles.Operation.{Operation}
@@ -37,6 +37,12 @@ pub record IsDecided {O B A : Type 0} (d : Dialect (in_program O B) A) (c : Prog
   -- each value comes with one constant
   pub one : (m : Made A) → Has m made → made_of made m.value ≡ Some m.constant
   pub in_tree : OfItsTree c op (IsDecidedIn d (made_of made))
+
+-- propagation moves the counter of values to n: by one for each value that gets a constant
+pub record MovesCounterTo {O B A : Type 0} (d : Dialect (in_program O B) A) (c : Program O B) (op : Ptr Operation) (n : ℕ) : Type 0 where
+  pub made : List (Made A)
+  pub decided : IsDecided d c op made
+  pub sum : n ≡ c.counter + length made
 
 -- the values that get constants are found out, these are put in, and the answer says whether there are any
 pub record Propagates {O B A : Type 0} (d : Dialect (in_program O B) A) (old new : Program O B) (op : Ptr Operation) (answer : IRStatus) (t : ProgramTree O B) : Type 0 where

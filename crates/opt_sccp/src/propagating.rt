@@ -1,6 +1,6 @@
 //! Constant propagation.
-ghost use Rattle.std.specs.Prelude.{◌≡◌, ◌≢◌, ℕ, [], Err, Ok, IfErr, IfOk, IsSome, OnErr};
-ghost use Rattle.ir_program.specs.Program.{Program, operation_at};
+ghost use Rattle.std.specs.Prelude.{◌≡◌, ◌≢◌, ◌≤◌, ◌^◌, ℕ, [], Err, Ok, IfErr, IfOk, IsSome, OnErr, OnOk};
+ghost use Rattle.ir_program.specs.Program.{operation_at};
 ghost use Rattle.ir_program.specs.declared.handles.Operation.{Operation};
 ghost use Rattle.ir_program.specs.declared.handles.Ptr.{Ptr};
 ghost use Rattle.ir_context.specs.Known.{HasKnownTypes};
@@ -8,9 +8,8 @@ ghost use Rattle.opt_dialect.specs.declared.status.IRStatus.TheVariants.{Unchang
 ghost use Rattle.opt_dialect.specs.declared.status.OptError.TheVariants.{CounterFull, UndeterminedOperand};
 ghost use Rattle.opt_facts.specs.ByNumber.{LeadsBelow};
 ghost use Rattle.opt_inside.specs.Occurring.{OfItsTree};
-ghost use Rattle.opt_inside.specs.Full.{IsFull};
 ghost use Rattle.opt_sccp.specs.Made.{AreTyped, PutsList};
-ghost use Rattle.opt_sccp.specs.Sccp.{IsDecided, IsPartlyPropagated, IsPropagated, IsRefusal, LacksIn};
+ghost use Rattle.opt_sccp.specs.Sccp.{IsDecided, IsPartlyPropagated, IsPropagated, IsRefusal, LacksIn, MovesCounterTo};
 
 use crate::wanted::{is_lacking, made_constants};
 use crate::{Made, put_constants};
@@ -70,8 +69,8 @@ fn know_nothing_put<D: OptDialect>(program: &Program<D::Operation, D::Block>)
 ///
 /// # Errors
 /// `UndeterminedOperand`, where nothing is found out of an operand that a foldable operation or a branch is asked for;
-/// nothing is changed then. `Memory`, and `CounterFull` where no handle or no number of a value is left; some of the
-/// constants may have been put in then, each with all uses of its value.
+/// nothing is changed then. `Memory`, and `CounterFull` where there are not so many numbers left as values get
+/// constants; some of the constants may have been put in then, each with all uses of its value.
 pub fn sccp<D: OptDialect, T: TypeTable>(
     alloc: Global,
     op: Ptr<Operation>,
@@ -84,8 +83,8 @@ pub fn sccp<D: OptDialect, T: TypeTable>(
     ensures part { OnErr result (IsPartlyPropagated D.meaning ctx.old.program ctx.new.program op) }
     ensures lacking { result ≡ Err UndeterminedOperand → OfItsTree ctx.old.program op (LacksIn D.meaning) }
     ensures refused { IfErr result IsRefusal }
-    ensures full { result ≡ Err CounterFull → (mid : Program D.Operation D.Block)
-        × IsPartlyPropagated D.meaning ctx.old.program mid op × IsFull mid }
+    ensures numbers { OnOk result (MovesCounterTo D.meaning ctx.old.program op ctx.new.program.counter) }
+    ensures full { result ≡ Err CounterFull → (n : ℕ) × MovesCounterTo D.meaning ctx.old.program op n × (2 ^ 64 ≤ n) }
     ensures refused_same { result ≡ Err UndeterminedOperand → ctx.new ≡ ctx.old }
     ensures types { ctx.new.types ≡ ctx.old.types }
 {

@@ -1,13 +1,12 @@
 //! Constants put in for values.
-ghost use Rattle.std.specs.Prelude.{◌≡◌, ◌≢◌, ℕ, [], Err, IfErr, IsSome, OnErr, OnOk};
+ghost use Rattle.std.specs.Prelude.{◌≡◌, ◌≢◌, ◌≤◌, ◌+◌, ◌^◌, [], Err, IfErr, IsSome, OnErr, OnOk, length};
 ghost use Rattle.ir_program.specs.Adds.{SomeCame};
 ghost use Rattle.ir_program.specs.Edits.{KeepsValues};
 ghost use Rattle.ir_program.specs.Lists.{IsUnlinkedOperation, regions_in};
-ghost use Rattle.ir_program.specs.Program.{Program, operation_at};
+ghost use Rattle.ir_program.specs.Program.{operation_at};
 ghost use Rattle.ir_program.specs.declared.handles.DefiningEntity.TheVariants.{Op as ByOp};
 ghost use Rattle.ir_context.specs.Known.{IsKnownIn};
 ghost use Rattle.opt_dialect.specs.declared.status.OptError.TheVariants.{CounterFull};
-ghost use Rattle.opt_inside.specs.Full.{IsFull};
 ghost use Rattle.opt_sccp.specs.Made.{AreTyped, IsPutList, IsShortage, PutsList};
 ghost use Rattle.opt_sccp.specs.Placed.{CanPutAt, HasPlace, LeadsAlike, PutsAtDefiner, PutsMade};
 
@@ -31,7 +30,7 @@ pub struct Made<A> {
 /// time is linear in how many constants there are and how many uses the values have.
 ///
 /// # Errors
-/// `Memory`, and `CounterFull` where no handle or no number of a value is left. Some constants are put in then, the
+/// `Memory`, and `CounterFull` where there are not so many numbers left for values. Some constants are put in then, the
 /// first of the list, each with all uses of its value.
 pub fn put_constants<D: OptDialect, T: TypeTable>(
     alloc: Global,
@@ -44,8 +43,8 @@ pub fn put_constants<D: OptDialect, T: TypeTable>(
     ensures put { OnOk result (PutsList D.meaning ctx.old.program ctx.new.program op made.now) }
     ensures part { OnErr result (SomeCame made.now (PutsList D.meaning ctx.old.program ctx.new.program op)) }
     ensures refused { IfErr result IsShortage }
-    ensures full { result ≡ Err CounterFull → (mid : Program D.Operation D.Block)
-        × SomeCame made.now (PutsList D.meaning ctx.old.program mid op) × IsFull mid }
+    ensures numbers { OnOk result (ctx.new.program.counter ≡ ctx.old.program.counter + length made.now) }
+    ensures full { result ≡ Err CounterFull → 2 ^ 64 ≤ ctx.old.program.counter + length made.now }
     ensures types { ctx.new.types ≡ ctx.old.types }
 {
     let program = ctx.program();
@@ -61,7 +60,7 @@ pub fn put_constants<D: OptDialect, T: TypeTable>(
 /// the value uses of the constant.
 ///
 /// # Errors
-/// `Memory` and `CounterFull`. Each handle leads to what it led to then.
+/// `Memory`, and `CounterFull` where no number of a value is left. Each handle leads to what it led to then.
 fn put_one<D: OptDialect, T: TypeTable>(
     alloc: Global,
     ctx: &mut TypedProgram<D::Operation, D::Block, T>,
@@ -73,7 +72,8 @@ fn put_one<D: OptDialect, T: TypeTable>(
     ensures put { OnOk result (PutsMade D.meaning ctx.old.program ctx.new.program made) }
     ensures same { OnErr result (LeadsAlike ctx.old.program ctx.new.program) }
     ensures refused { IfErr result IsShortage }
-    ensures full { result ≡ Err CounterFull → IsFull ctx.old.program }
+    ensures numbers { OnOk result (ctx.new.program.counter ≡ ctx.old.program.counter + 1) }
+    ensures full { result ≡ Err CounterFull → 2 ^ 64 ≤ ctx.old.program.counter + 1 }
     ensures types { ctx.new.types ≡ ctx.old.types }
 {
     ctx.program().know_values();

@@ -119,6 +119,7 @@ pub fn remove_unreached<D: OptDialect, T: TypeTable>(
     ensures refused { IfErr result (λ error. (error ≡ Memory)
         ⊎ ((error ≡ LiveUse) × LosesUses D.meaning ctx.old.program op start)) }
     ensures edges { OnOk result (KeepsEdges D.meaning ctx.old.program ctx.new.program op start) }
+    ensures numbers { ctx.new.program.counter ≡ ctx.old.program.counter }
     ensures types { ctx.new.types ≡ ctx.old.types }
     ensures kept { OnErr result (ctx.new ≡ ctx.old) }
 {

@@ -23,6 +23,7 @@ pub(crate) fn know_inside<O, B>(program: &Program<O, B>, block: Ptr<BasicBlock>)
 fn drop_uses<O, B, T: TypeTable>(ctx: &mut TypedProgram<O, B, T>, blocks: &[Ptr<BasicBlock>])
     requires { (b : Ptr BasicBlock) → is_listed blocks.now b ≡ true → IsLiveNode ctx.old.program (BlockNode b) }
     ensures dropped { DropsPicked ctx.old.program ctx.new.program (is_listed blocks.now) }
+    ensures numbers { ctx.new.program.counter ≡ ctx.old.program.counter }
     ensures types { ctx.new.types ≡ ctx.old.types }
 {
     for block in blocks {
@@ -41,6 +42,7 @@ fn erase_all<O: Drop, B: Drop, T: TypeTable>(
     requires apart { ArePickedApart ctx.old.program (is_listed blocks.now) }
     requires unnamed { NamesNone ctx.old.program (is_listed blocks.now) }
     ensures erased { ErasesPicked ctx.old.program ctx.new.program (is_listed blocks.now) }
+    ensures numbers { ctx.new.program.counter ≡ ctx.old.program.counter }
     ensures types { ctx.new.types ≡ ctx.old.types }
 {
     ctx.program().know_lists();
@@ -62,6 +64,7 @@ pub(crate) fn remove_blocks<O: Drop, B: Drop, T: TypeTable>(
     requires apart { ArePickedApart ctx.old.program (is_listed blocks.now) }
     requires named { NamesWithin ctx.old.program (is_listed blocks.now) }
     ensures removed { ErasesPicked ctx.old.program ctx.new.program (is_listed blocks.now) }
+    ensures numbers { ctx.new.program.counter ≡ ctx.old.program.counter }
     ensures types { ctx.new.types ≡ ctx.old.types }
 {
     drop_uses(ctx, blocks);

@@ -26,7 +26,7 @@ fn link(program: &mut Program<u32, u32>, block: Ptr<BasicBlock>, op: Ptr<Operati
 /// Makes `size` operations with one result each, in order, behind the others of a block.
 ///
 /// # Errors
-/// `Memory`, and `CounterFull` where there are more operations or values than can be named.
+/// `Memory`, and `CounterFull` where there are not so many numbers left for values.
 pub fn make_operations(
     alloc: Global,
     program: &mut Program<u32, u32>,

@@ -29,7 +29,7 @@ pub struct Counts {
 /// Makes a program of `size` operations, and runs each phase on it.
 ///
 /// # Errors
-/// `Memory`, and `CounterFull` where there are more operations or values than can be named.
+/// `Memory`, and `CounterFull` where there are not so many numbers left for values.
 pub fn run(alloc: Global, size: u32) -> Result<Counts, GrowError>
     ensures made { IfOk result (λ c. c.made ≡ size) }
     ensures linked { IfOk result (λ c. c.linked ≡ size) }

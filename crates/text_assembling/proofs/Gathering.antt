@@ -1,11 +1,11 @@
 -- What is made follows what was read.
-use Rattle.std.proofs.Common.{◌≡◌, ◌∙◌, ◌⊎◌, inl, inr, ℕ, zero, suc, ◌+◌, ◌-◌, ◌≤◌, ◌^◌, List, [], ◌∷◌, ◌++◌, drop, length, reverse, Option, Some, None, Result, Err, slice_get, refl, sym, ap, subst, append-nil, append_assoc, arith}
+use Rattle.std.proofs.Common.{◌≡◌, ◌∙◌, inl, inr, ℕ, zero, suc, ◌+◌, ◌-◌, ◌≤◌, ◌^◌, List, [], ◌∷◌, ◌++◌, drop, length, reverse, Option, Some, None, Result, Err, slice_get, refl, sym, ap, subst, append-nil, append_assoc, arith}
 use Rattle.std.proofs.lemmas.List.{length-append, reverse-reverse}
 use native.Mathlib.Numerals.{unary_clauses}
 use Rattle.ir_context.specs.Views.{ContextView}
 use Rattle.ir_context.specs.declared.notes.BlockNotes.{BlockNotes}
 use Rattle.ir_context.specs.declared.notes.OperationData.{OperationData}
-use Rattle.ir_program.specs.Edits.{KeepsErased, KeepsRoom}
+use Rattle.ir_program.specs.Edits.{KeepsErased}
 use Rattle.ir_types.specs.Views.{TypesView}
 use Rattle.ir_names.specs.Tree.{no_tree}
 use Rattle.ir_print.specs.Pieces.{Values}
@@ -216,18 +216,15 @@ module _ {D K A T : Type 0} (says : Saying K A T) (values : Values) (text : ℕ 
         → first_refusal values text es ≡ Some f
     gathers_refused f refused = h.refuses ∙ ap (λ o. or_else o (first_refusal_from values text (after h.so_far x (a.taken - 1)) a.taken rest)) (refused so_far next.0 h.at goes)
 
-    -- where there is no room for one more value, there is none for all that the text defines
+    -- where there is no number for one more value, there are too few for all that the text defines
     long : 2 ^ 64 ≤ first + length h.tokens → 2 ^ 64 ≤ first + length (defined_from 0 es)
     long full =
         let some : length h.tokens + length (defined_from a.taken (Did x ∷ rest)) ≡ length (defined_from 0 es) = sym (length-append h.tokens (defined_from a.taken (Did x ∷ rest))) ∙ ap length h.defines in
         omega (arith, full, some)
 
-    pub gathers_full : (P Q R : Type 0) → ((g : Progress K A T) (n : Standing) → IsAt says values text s a g → MayGo text a x g n → P ⊎ (Q ⊎ (R ⊎ (2 ^ 64 ≤ g.first + length g.tokens))))
-        → P ⊎ (Q ⊎ (R ⊎ (2 ^ 64 ≤ first + length (defined_from 0 es))))
-    gathers_full P Q R full = elim (full so_far next.0 h.at goes) [
-      | inl p ↦ inl p
-      | inr z ↦ elim z [ inl q ↦ inr (inl q) | inr y ↦ elim y [ inl r ↦ inr (inr (inl r)) | inr l ↦ inr (inr (inr (long l))) ] ]
-    ]
+    pub gathers_full : ((g : Progress K A T) (n : Standing) → IsAt says values text s a g → MayGo text a x g n → 2 ^ 64 ≤ g.first + length g.tokens)
+        → 2 ^ 64 ≤ first + length (defined_from 0 es)
+    gathers_full full = long (full so_far next.0 h.at goes)
 
   pub gathers_sound : Gathers says values text start first s a es [] → first_refusal values text es ≡ None
   gathers_sound h = h.refuses
@@ -304,7 +301,7 @@ took_so es i a b (Did x) at le took did = let w = did x at in omega (arith, le, 
 
 -- ---- while it runs
 
--- So many events were taken, of which this was made; no handle that led nowhere leads somewhere, and no slot came to be full.
+-- So many events were taken, of which this was made; no handle that led nowhere for good leads somewhere.
 pub record RunsSo {D TypeKind AttrKind TypeBody Saved Location OpKind Attr TypeKey : Type 0} (says : Saying OpKind Attr TypeKey) (values : Values) (text : ℕ → List ℕ)
     (old now : ContextView (OperationData D TypeKind AttrKind TypeBody Saved Location OpKind Attr TypeKey) (BlockNotes D TypeKind AttrKind TypeBody Saved Location OpKind Attr TypeKey)
     (TypesView TypeKey TypeBody Saved))
@@ -312,4 +309,3 @@ pub record RunsSo {D TypeKind AttrKind TypeBody Saved Location OpKind Attr TypeK
   pub taken : a.taken ≤ i
   pub gathers : Gathers says values text (seen old) old.program.counter (stage now) a es (drop i es)
   pub erased : KeepsErased old.program now.program
-  pub room : KeepsRoom old.program now.program

@@ -1,10 +1,9 @@
 -- What an operation that is made meets before it is put where it stands.
-use Rattle.std.proofs.Common.{◌≡◌, ◌∙◌, ◌⊎◌, ◌+◌, ◌≤◌, ◌^◌, ℕ, List, Some, IsSome, refl, sym, subst}
+use Rattle.std.proofs.Common.{◌≡◌, ◌∙◌, ◌+◌, ◌≤◌, ◌^◌, ℕ, List, Some, IsSome, refl, sym, subst}
 use Rattle.ir_base.specs.declared.growth.GrowError.{GrowError}
 use Rattle.ir_base.specs.declared.growth.GrowError.TheVariants as growth
 use Rattle.ir_base.specs.declared.types.TypeHandle.{TypeHandle}
 use Rattle.ir_program.specs.Edits.{KeepsErased}
-use Rattle.ir_program.specs.Made.{HasFullOperationSlot, HasFullRegionSlot}
 use Rattle.ir_program.specs.Program.{Program}
 use Rattle.ir_program.specs.declared.handles.BasicBlock.{BasicBlock}
 use Rattle.ir_program.specs.declared.handles.Operation.{Operation}
@@ -57,11 +56,9 @@ growth_full growth.CounterFull h = refl
 growth_full growth.Memory h = cc
 
 module _ {O B : Type 0} (c d : Program O B) (same : d ≡ c) where
-  pub operation_full_so : (n m : ℕ) → m ≡ n → HasFullOperationSlot d ⊎ (HasFullRegionSlot d ⊎ (2 ^ 64 ≤ d.counter + m))
-      → HasFullOperationSlot c ⊎ (HasFullRegionSlot c ⊎ (2 ^ 64 ≤ c.counter + n))
+  pub operation_full_so : (n m : ℕ) → m ≡ n → 2 ^ 64 ≤ d.counter + m → 2 ^ 64 ≤ c.counter + n
   operation_full_so n m e h =
-      subst (λ (x : Program O B). HasFullOperationSlot x ⊎ (HasFullRegionSlot x ⊎ (2 ^ 64 ≤ x.counter + n))) same
-      (subst (λ (k : ℕ). HasFullOperationSlot d ⊎ (HasFullRegionSlot d ⊎ (2 ^ 64 ≤ d.counter + k))) e h)
+      subst (λ (x : Program O B). 2 ^ 64 ≤ x.counter + n) same (subst (λ (k : ℕ). 2 ^ 64 ≤ d.counter + k) e h)
 
   pub gives_so : (e f : Program O B) (n m : ℕ) → m ≡ n → GivesNumbers d e m → GivesNumbers e f 0 → GivesNumbers c f n
   gives_so e f n m is h k =

@@ -1,6 +1,6 @@
 -- Where nothing is made, all stays as it was.
-use Rattle.std.proofs.Common.{◌≡◌, ◌∙◌, inl, inr, ℕ, Result, Ok, Err, OnErr, OnOk, refl, ap, subst}
-use Rattle.ir_program.specs.Edits.{KeepsErased, KeepsRoom}
+use Rattle.std.proofs.Common.{◌≡◌, ◌∙◌, Result, Ok, Err, OnErr, OnOk, refl, ap, subst}
+use Rattle.ir_program.specs.Edits.{KeepsErased}
 use Rattle.ir_program.specs.Program.{Program}
 use Rattle.ir_types.specs.Interned.{KeepsTypes}
 use Rattle.ir_types.specs.Views.{TypesView}
@@ -15,20 +15,13 @@ use Rattle.text_building.specs.Kept.{SameSeen}
 use Rattle.text_building.proofs.Numbers.{gives_none}
 use Rattle.text_frames.specs.declared.assembly.Assembly.{Assembly}
 use Rattle.text_assembling.specs.declared.assembling.Assembler.{Assembler}
-use Rattle.text_assembling.specs.Steps.{IsFull, IsUndone, UndoesStep}
+use Rattle.text_assembling.specs.Steps.{IsUndone, UndoesStep}
 use Rattle.text_assembling.proofs.Held.{held_list, held_same}
 use Rattle.text_frames.specs.Raised.{HoldsAllNew}
 
 module _ {O B : Type 0} where
   pub erased_same : (c d : Program O B) → d ≡ c → KeepsErased c d
   erased_same c d e = rw e (gives_none c).erased
-
-  pub room_so : (c d : Program O B) → d ≡ c → KeepsRoom c d
-  room_so c d e = rw e (gives_none c).room
-
-  pub room_same : {X E : Type 0} (r : Result X E) (c d : Program O B) → d ≡ c → OnOk r (KeepsRoom c d)
-  room_same (Ok x) c d e = room_so c d e
-  room_same (Err x) c d e = tt
 
 -- what is well holds where it is no error, and what is wrong where it is one
 pub ok_unless : {X E P : Type 0} (r : Result X E) → ((e : E) → r ≡ Err e → ⊥) → OnOk r P → P
@@ -68,19 +61,6 @@ module _ {K A T : Type 0} where
   -- what is undone leaves all that came inside the loose things
   pub held_undone : {D : Type 0} (start s t : Seen K A T) (a c : Assembler D K A T) → IsUndone s t a c → HoldsAllNew start s a.made.loose.items → HoldsAllNew start t c.made.loose.items
   held_undone start s t a c undone h = held_list start t a.made.loose.items c.made.loose.items undone.loose (held_same start s t a.made.loose.items undone.same h)
-
--- what is full was so before, where no slot has come to be full
-pub full_before : {O B : Type 0} (c d : Program O B) (n : ℕ) → KeepsRoom c d → IsFull d n → IsFull c n
-full_before c d n room full = elim full [
-  | inl x ↦ inl (room.blocks x)
-  | inr y ↦ elim y [
-    | inl x ↦ inr (inl (room.operations x))
-    | inr z ↦ elim z [ inl x ↦ inr (inr (inl (room.regions x))) | inr x ↦ inr (inr (inr x)) ]
-  ]
-]
-
-pub room_both : {O B : Type 0} (c d e : Program O B) → KeepsRoom c d → KeepsRoom d e → KeepsRoom c e
-room_both c d e a b = record { operations = λ x. a.operations (b.operations x); blocks = λ x. a.blocks (b.blocks x); regions = λ x. a.regions (b.regions x) }
 
 module _ {D TypeKind AttrKind TypeBody Saved Location OpKind Attr TypeKey : Type 0}
     (c : ContextView (OperationData D TypeKind AttrKind TypeBody Saved Location OpKind Attr TypeKey) (BlockNotes D TypeKind AttrKind TypeBody Saved Location OpKind Attr TypeKey) (TypesView TypeKey TypeBody Saved))

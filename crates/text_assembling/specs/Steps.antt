@@ -1,5 +1,5 @@
 -- What steps make, and where they lead to.
-use Rattle.std.specs.Prelude.{◌≡◌, ℕ, ◌-◌, ◌+◌, ◌^◌, ◌≤◌, ◌⊎◌, List, [], ◌∷◌, ◌++◌, None, length, Option, Some, slice_get}
+use Rattle.std.specs.Prelude.{◌≡◌, ℕ, ◌-◌, ◌+◌, ◌^◌, ◌≤◌, List, [], ◌∷◌, ◌++◌, None, length, Option, Some, slice_get}
 use Rattle.text_frames.specs.Worlds.{joined}
 use Rattle.ir_base.specs.declared.types.TypeHandle.{TypeHandle}
 use Rattle.ir_context.specs.Views.{ContextView}
@@ -10,8 +10,7 @@ use Rattle.ir_names.specs.declared.identifier.Identifier.{Identifier}
 use Rattle.ir_print.specs.Pieces.{Values, Pieces}
 use Rattle.ir_print.specs.Shown.{Saying, Drafts}
 use Rattle.ir_program.specs.Adds.{numbered_values}
-use Rattle.ir_program.specs.Made.{IsNoneOf, HasFullBlockSlot, HasFullOperationSlot, HasFullRegionSlot}
-use Rattle.ir_program.specs.Program.{Program}
+use Rattle.ir_program.specs.Made.{IsNoneOf}
 use Rattle.ir_program.specs.declared.handles.BasicBlock.{BasicBlock}
 use Rattle.ir_program.specs.declared.handles.DefiningEntity.TheVariants.{Op as ByOp, Block as ByBlock}
 use Rattle.ir_program.specs.declared.handles.IRNode.{IRNode}
@@ -196,10 +195,6 @@ module _ {D K A T : Type 0} (says : Saying K A T) (values : Values) where
   abbrev pub CanEndIn : Stage K A T → Open D K A T → Assembler D K A T → Type 0
   CanEndIn s f a = (whole : Assembler D K A T) × IsWithout whole f a × CanEnd says values s whole
 
--- no room for one more block, operation or region, or for so many values
-abbrev pub IsFull : {O B : Type 0} → Program O B → ℕ → Type 0
-IsFull c n = HasFullBlockSlot c ⊎ (HasFullOperationSlot c ⊎ (HasFullRegionSlot c ⊎ (2 ^ 64 ≤ n)))
-
 -- ---- a step in a context
 
 -- a context of a dialect with these types
@@ -226,11 +221,11 @@ module _ {D TypeKind AttrKind TypeBody Saved Location OpKind Attr TypeKey : Type
       pub fails : (g : Progress OpKind Attr TypeKey) (next : Standing) → IsAt says values text (stage c) a g
           → MayGo text a x g next → fault_after values text g.built x (a.taken - 1) ≡ Some f
 
-    -- wherever reading has come to, there is no room for what it has read
-    pub record LacksRoom (c : ContextOf D TypeKind AttrKind TypeBody Saved Location OpKind Attr TypeKey)
+    -- wherever reading has come to, there are not so many numbers as it has read values
+    pub record LacksNumbers (c : ContextOf D TypeKind AttrKind TypeBody Saved Location OpKind Attr TypeKey)
         (a : Assembler D OpKind Attr TypeKey) (x : Action) : Type 0 where
       pub fills : (g : Progress OpKind Attr TypeKey) (next : Standing) → IsAt says values text (stage c) a g
-          → MayGo text a x g next → IsFull c.program (g.first + length g.tokens)
+          → MayGo text a x g next → 2 ^ 64 ≤ g.first + length g.tokens
 
   -- nothing but types has been made, and the loose things are what they were
   pub record UndoesStep (c d : ContextOf D TypeKind AttrKind TypeBody Saved Location OpKind Attr TypeKey)

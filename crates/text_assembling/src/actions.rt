@@ -1,10 +1,10 @@
 //! What an action asks for.
 ghost use Rattle.std.specs.Prelude.{◌≡◌, Err, OnErr, OnOk};
 ghost use Rattle.ir_formats.specs.Words.{token_text};
-ghost use Rattle.ir_program.specs.Edits.{KeepsErased, KeepsRoom};
+ghost use Rattle.ir_program.specs.Edits.{KeepsErased};
 ghost use Rattle.ir_tokens.specs.declared.faults.Fault.{Fault};
 ghost use Rattle.text_frames.specs.declared.opened.AssemblyFault.TheVariants.{CounterFull, Text};
-ghost use Rattle.text_assembling.specs.Steps.{DoesStep, LacksRoom, MayStep, RefusesStep, UndoesStep};
+ghost use Rattle.text_assembling.specs.Steps.{DoesStep, LacksNumbers, MayStep, RefusesStep, UndoesStep};
 
 use crate::assembling::Assembler;
 use ir_context::Context;
@@ -15,7 +15,7 @@ use text_frames::source::Source;
 
 impl<D: TextDialect> Assembler<D> {
     /// Does what an action asks for.
-    #[tactic(auto, using(crate::proofs::Undone::erased_same, crate::proofs::Undone::room_same, crate::proofs::Undone::undoes_same))]
+    #[tactic(auto, using(crate::proofs::Undone::erased_same, crate::proofs::Undone::undoes_same))]
     pub fn step(
         &mut self,
         ctx: &mut Context<D>,
@@ -28,12 +28,11 @@ impl<D: TextDialect> Assembler<D> {
             (token_text source.entry.chars.now source.entry.tokens.now) ctx.old ctx.new self.old self.new action) }
         ensures refused { (f : Fault) → result ≡ Err (Text f) → RefusesStep D.says D.values
             (token_text source.entry.chars.now source.entry.tokens.now) ctx.old self.old action f }
-        ensures full { result ≡ Err CounterFull → LacksRoom D.says D.values
+        ensures full { result ≡ Err CounterFull → LacksNumbers D.says D.values
             (token_text source.entry.chars.now source.entry.tokens.now) ctx.old self.old action }
         ensures undone { OnErr result (UndoesStep ctx.old ctx.new self.old self.new) }
         ensures taken { self.new.taken ≡ self.old.taken }
         ensures erased { KeepsErased ctx.old.program ctx.new.program }
-        ensures room { OnOk result (KeepsRoom ctx.old.program ctx.new.program) }
     {
         match action {
             Action::Result => self.result(),

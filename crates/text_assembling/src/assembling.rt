@@ -3,7 +3,7 @@
 //! What was begun waits around what is being read, the innermost last. Types and attributes are made at their ends,
 //! a block at the end of its header, and an operation with its regions at its end. Operands may be defined further on,
 //! so they are linked once all operations are made.
-ghost use Rattle.std.specs.Prelude.{◌≡◌, ◌⊎◌, ◌-◌, ◌+◌, ◌^◌, ◌≤◌, ◌<◌, length, slice_get, [], Some, None, Err, OnErr, OnOk, IfOk};
+ghost use Rattle.std.specs.Prelude.{◌≡◌, ◌-◌, ◌+◌, ◌^◌, ◌≤◌, ◌<◌, length, slice_get, [], Some, None, Err, OnErr, OnOk, IfOk};
 ghost use Rattle.ir_forest.specs.Building.{first_refusal};
 ghost use Rattle.ir_forest.specs.Identifiers.{AreSpelt};
 ghost use Rattle.ir_forest.specs.Progress.{Leads};
@@ -11,8 +11,7 @@ ghost use Rattle.ir_formats.specs.Words.{token_text};
 ghost use Rattle.ir_grammar.specs.Nesting.{at_root, at_end, Nests};
 ghost use Rattle.ir_grammar.specs.declared.grammar.Action.{Action};
 ghost use Rattle.ir_grammar.specs.declared.grammar.Event.TheVariants.{Did, Took};
-ghost use Rattle.ir_program.specs.Edits.{KeepsErased, KeepsRoom};
-ghost use Rattle.ir_program.specs.Made.{HasFullBlockSlot, HasFullOperationSlot, HasFullRegionSlot};
+ghost use Rattle.ir_program.specs.Edits.{KeepsErased};
 ghost use Rattle.ir_scopes.specs.Naming.{defined_from};
 ghost use Rattle.ir_tokens.specs.declared.faults.Fault.{Fault};
 ghost use Rattle.text_dialect.specs.Seen.{seen};
@@ -20,7 +19,7 @@ ghost use Rattle.text_building.specs.Kept.{SameSeen};
 ghost use Rattle.text_frames.specs.Raised.{HoldsAllNew, IsAssembled};
 ghost use Rattle.text_frames.specs.declared.opened.AssemblyFault.TheVariants.{CounterFull, Text};
 ghost use Rattle.text_assembling.specs.Assembling.{IsNew};
-ghost use Rattle.text_assembling.specs.Steps.{DoesStep, LacksRoom, MayStep, RefusesStep, UndoesStep};
+ghost use Rattle.text_assembling.specs.Steps.{DoesStep, LacksNumbers, MayStep, RefusesStep, UndoesStep};
 
 use ir_context::Context;
 use ir_grammar::grammar::Event;
@@ -84,11 +83,10 @@ impl<D: TextDialect> Assembler<D> {
             × (slice_get events.now index ≡ Some (Did x)) × RefusesStep D.says D.values
             (token_text source.entry.chars.now source.entry.tokens.now) ctx.old self.old x f }
         ensures full { result ≡ Err CounterFull → (x : Action)
-            × (slice_get events.now index ≡ Some (Did x)) × LacksRoom D.says D.values
+            × (slice_get events.now index ≡ Some (Did x)) × LacksNumbers D.says D.values
             (token_text source.entry.chars.now source.entry.tokens.now) ctx.old self.old x }
         ensures undone { OnErr result (UndoesStep ctx.old ctx.new self.old self.new) }
         ensures erased { KeepsErased ctx.old.program ctx.new.program }
-        ensures room { OnOk result (KeepsRoom ctx.old.program ctx.new.program) }
     {
         match events[index] {
             Event::Took => {
@@ -112,8 +110,7 @@ impl<D: TextDialect> Assembler<D> {
 ///
 /// # Errors
 /// The first value of the text that is refused; `Memory`; and `CounterFull` where the text defines more values than
-/// there are numbers left, or where a vacant slot had as many things as it can name. Each handle leads to what it led
-/// to then.
+/// the counter can be moved on by. Each handle leads to what it led to then.
 pub fn assemble<D: TextDialect>(
     alloc: Global,
     ctx: &mut Context<D>,
@@ -133,9 +130,8 @@ pub fn assemble<D: TextDialect>(
         (token_text source.entry.chars.now source.entry.tokens.now) events.now ≡ None) }
     ensures refused { (f : Fault) → result ≡ Err (Text f) → first_refusal D.values
         (token_text source.entry.chars.now source.entry.tokens.now) events.now ≡ Some f }
-    ensures full { result ≡ Err CounterFull → HasFullBlockSlot ctx.old.program
-        ⊎ (HasFullOperationSlot ctx.old.program ⊎ (HasFullRegionSlot ctx.old.program
-        ⊎ (2 ^ 64 ≤ ctx.old.program.counter + length (defined_from 0 events.now)))) }
+    ensures full { result ≡ Err CounterFull
+        → 2 ^ 64 ≤ ctx.old.program.counter + length (defined_from 0 events.now) }
     ensures erased { KeepsErased ctx.old.program ctx.new.program }
 {
     know_seen(ctx);

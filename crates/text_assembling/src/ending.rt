@@ -1,19 +1,19 @@
 //! What ends in a text.
-ghost use Rattle.std.specs.Prelude.{◌≡◌, ◌-◌, ◌+◌, ◌∷◌, [], ℕ, length, List, Some, Err, OnErr, OnOk};
+ghost use Rattle.std.specs.Prelude.{◌≡◌, ◌≤◌, ◌-◌, ◌+◌, ◌^◌, ◌∷◌, [], ℕ, length, List, Some, Err, OnErr, OnOk};
 ghost use Rattle.ir_forest.specs.Building as building;
 ghost use Rattle.ir_forest.specs.Building.{fault_at_end, with_end};
 ghost use Rattle.ir_forest.specs.Forest.{Step};
 ghost use Rattle.ir_formats.specs.Ordered.{Standing};
 ghost use Rattle.ir_grammar.specs.Nesting.{Position};
 ghost use Rattle.ir_names.specs.Tree.{Trees};
-ghost use Rattle.ir_program.specs.Edits.{KeepsErased, KeepsRoom};
+ghost use Rattle.ir_program.specs.Edits.{KeepsErased};
 ghost use Rattle.ir_tokens.specs.declared.faults.Fault.{Fault};
 ghost use Rattle.ir_types.specs.Interned.{KeepsTypes};
 ghost use Rattle.text_dialect.specs.Seen.{seen};
 ghost use Rattle.text_frames.specs.declared.opened.AssemblyFault.TheVariants.{CounterFull, Text};
 ghost use Rattle.text_frames.specs.Frames.{Ended, Ending};
 ghost use Rattle.text_assembling.specs.Assembling.{HasMade, KeepsAround, stage};
-ghost use Rattle.text_assembling.specs.Steps.{CanEnd, CanEndIn, HasEnded, IsAt, IsFull, IsUndone, IsWithout, MayGoOut, Progress};
+ghost use Rattle.text_assembling.specs.Steps.{CanEnd, CanEndIn, HasEnded, IsAt, IsUndone, IsWithout, MayGoOut, Progress};
 ghost use Rattle.text_assembling.specs.declared.assembling.Assembler.{Assembler};
 
 use crate::assembling::Assembler;
@@ -24,7 +24,7 @@ use text_frames::opened::{AssemblyFault, Body, Open};
 
 impl<D: TextDialect> Assembler<D> {
     /// What was begun ends at the last token, in what is around it.
-    #[tactic(auto, using(crate::proofs::Undone::types_same, crate::proofs::Undone::erased_same, crate::proofs::Undone::room_same, crate::proofs::Undone::undone_same))]
+    #[tactic(auto, using(crate::proofs::Undone::types_same, crate::proofs::Undone::erased_same, crate::proofs::Undone::undone_same))]
     fn end_in(&mut self, ctx: &mut Context<D>, ended: Open<D>) -> Result<(), AssemblyFault>
         requires going { CanEndIn D.says D.values (stage ctx.old) ended self.old }
         ensures ended { (text : ℕ → List ℕ) (o : building.Open) (at next : Position) (ts : Trees Step)
@@ -43,12 +43,11 @@ impl<D: TextDialect> Assembler<D> {
         ensures full { (whole : Assembler D D.OpKind D.Attr D.TypeKey) (text : ℕ → List ℕ)
             (g : Progress D.OpKind D.Attr D.TypeKey) (next : Standing)
             → IsWithout whole ended self.old → IsAt D.says D.values text (stage ctx.old) whole g → MayGoOut g next
-            → result ≡ Err CounterFull → IsFull ctx.old.program (g.first + length g.tokens) }
+            → result ≡ Err CounterFull → 2 ^ 64 ≤ g.first + length g.tokens }
         ensures undone { OnErr result (IsUndone (seen ctx.old) (seen ctx.new) self.old self.new) }
         ensures around { KeepsAround self.old self.new }
         ensures types { KeepsTypes ctx.old.types ctx.new.types }
         ensures erased { KeepsErased ctx.old.program ctx.new.program }
-        ensures room { OnOk result (KeepsRoom ctx.old.program ctx.new.program) }
     {
         let Open {
             body,
@@ -79,11 +78,10 @@ impl<D: TextDialect> Assembler<D> {
             → fault_at_end D.values text g.built.here g.built.around (self.old.taken - 1) ≡ Some f }
         ensures full { (text : ℕ → List ℕ) (g : Progress D.OpKind D.Attr D.TypeKey) (next : Standing)
             → IsAt D.says D.values text (stage ctx.old) self.old g → MayGoOut g next
-            → result ≡ Err CounterFull → IsFull ctx.old.program (g.first + length g.tokens) }
+            → result ≡ Err CounterFull → 2 ^ 64 ≤ g.first + length g.tokens }
         ensures undone { OnErr result (IsUndone (seen ctx.old) (seen ctx.new) self.old self.new) }
         ensures taken { self.new.taken ≡ self.old.taken }
         ensures erased { KeepsErased ctx.old.program ctx.new.program }
-        ensures room { OnOk result (KeepsRoom ctx.old.program ctx.new.program) }
     {
         let Some(outer) = self.around.pop() else {
             return Ok(());

@@ -1,5 +1,5 @@
 //! What makes blocks and operations.
-ghost use Rattle.std.specs.Prelude.{◌≡◌, ◌⊎◌, ◌<◌, ◌≤◌, ◌+◌, ◌-◌, ◌^◌, ◌++◌, [], ℕ, List, length, Some, None, IsSome, Err, IfErr, OnErr, OnOk, true, vec_len, vec_capacity};
+ghost use Rattle.std.specs.Prelude.{◌≡◌, ◌<◌, ◌≤◌, ◌+◌, ◌-◌, ◌^◌, ◌++◌, [], ℕ, List, length, Some, None, IsSome, Err, IfErr, OnErr, OnOk, true, vec_len, vec_capacity};
 ghost use Rattle.text_frames.specs.Worlds.{joined};
 ghost use Rattle.std.specs.Option.{option_map_or};
 ghost use Rattle.ir_context.specs.Known.{AreKnownIn};
@@ -12,7 +12,6 @@ ghost use Rattle.ir_names.specs.Tree.{Trees};
 ghost use Rattle.ir_print.specs.Pieces.{Pieces};
 ghost use Rattle.ir_print.specs.Shown.{ShowsParts};
 ghost use Rattle.ir_program.specs.Edits.{KeepsErased};
-ghost use Rattle.ir_program.specs.Made.{HasFullBlockSlot, HasFullOperationSlot, HasFullRegionSlot};
 ghost use Rattle.ir_program.specs.Program.{arguments_at, block_at, operation_at, results_at};
 ghost use Rattle.ir_program.specs.declared.handles.BasicBlock.{BasicBlock};
 ghost use Rattle.ir_program.specs.declared.handles.IRNode.{IRNode};
@@ -59,8 +58,8 @@ impl<D: TextDialect> Assembler<D> {
         ensures names { self.new.here.names.items ≡ [] }
         ensures around { KeepsAround self.old self.new }
         ensures context { IfErr result IsOfContext }
-        ensures full { result ≡ Err CounterFull → HasFullBlockSlot ctx.old.program
-            ⊎ (2 ^ 64 ≤ ctx.old.program.counter + length (types_in self.old.here.content.parts.items)) }
+        ensures full { result ≡ Err CounterFull
+            → 2 ^ 64 ≤ ctx.old.program.counter + length (types_in self.old.here.content.parts.items) }
         ensures undone { OnErr result (IsUndone (seen ctx.old) (seen ctx.new) self.old self.new) }
         ensures types { ctx.new.types ≡ ctx.old.types }
         ensures erased { KeepsErased ctx.old.program ctx.new.program }
@@ -160,9 +159,8 @@ impl<D: TextDialect> Assembler<D> {
             → option_map_or (λ i. number_fault ts (self.old.taken - 1) i) (D.values.refused_operation ended.kind ps)
             (names_fault self.old.here.names.items first (length (D.values.result_types ended.kind ps))
             (self.old.taken - 1)) ≡ Some f }
-        ensures full { result ≡ Err CounterFull → HasFullOperationSlot ctx.old.program
-            ⊎ (HasFullRegionSlot ctx.old.program
-            ⊎ (2 ^ 64 ≤ ctx.old.program.counter + length self.old.here.names.items)) }
+        ensures full { result ≡ Err CounterFull
+            → 2 ^ 64 ≤ ctx.old.program.counter + length self.old.here.names.items }
         ensures undone { OnErr result (IsUndone (seen ctx.old) (seen ctx.new) self.old self.new) }
         ensures around { KeepsAround self.old self.new }
         ensures types { KeepsTypes ctx.old.types ctx.new.types }

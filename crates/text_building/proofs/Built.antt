@@ -68,4 +68,4 @@ module _ {D TypeKind AttrKind TypeBody Saved Location OpKind Attr TypeKey : Type
     }
 
   pub built_numbers : GivesNumbers c.program d.program (length tys)
-  built_numbers = record { counter = built.counter; room = built.room; erased = built.erased }
+  built_numbers = record { counter = built.counter; erased = built.erased }

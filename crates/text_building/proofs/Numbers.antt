@@ -1,6 +1,6 @@
 -- Calls one after the other give the numbers that each of them gives.
 use Rattle.std.proofs.Common.{◌≡◌, ℕ, ◌+◌, add-zero, sym, ◌∙◌, arith}
-use Rattle.ir_program.specs.Edits.{KeepsErased, KeepsRoom}
+use Rattle.ir_program.specs.Edits.{KeepsErased}
 use Rattle.ir_program.specs.Program.{Program}
 use Rattle.text_building.specs.Kept.{GivesNumbers}
 
@@ -15,24 +15,18 @@ module _ {O B : Type 0} where
   pub gives_none : (c : Program O B) → GivesNumbers c c 0
   gives_none c = record {
     counter = sym (add-zero c.counter);
-    room = record { operations = λ h. h; blocks = λ h. h; regions = λ h. h };
     erased = record { operations = λ q h. h; blocks = λ q h. h; regions = λ q h. h };
   }
 
-  pub gives_nothing : (c d : Program O B) → d.counter ≡ c.counter → KeepsRoom c d → KeepsErased c d → GivesNumbers c d 0
-  gives_nothing c d counter room erased = record { counter = counter ∙ sym (add-zero c.counter); room = room; erased = erased }
+  pub gives_nothing : (c d : Program O B) → d.counter ≡ c.counter → KeepsErased c d → GivesNumbers c d 0
+  gives_nothing c d counter erased = record { counter = counter ∙ sym (add-zero c.counter); erased = erased }
 
   pub gives_both : (c d e : Program O B) (m n : ℕ) → GivesNumbers c d m → GivesNumbers d e n → GivesNumbers c e (m + n)
   gives_both c d e m n a b = record {
     counter = let x : d.counter ≡ c.counter + m = a.counter in let y : e.counter ≡ d.counter + n = b.counter in omega arith;
-    room = record {
-      operations = λ h. a.room.operations (b.room.operations h);
-      blocks = λ h. a.room.blocks (b.room.blocks h);
-      regions = λ h. a.room.regions (b.room.regions h);
-    };
     erased = erased_both c d e a.erased b.erased;
   }
 
   -- where the second gives none
   pub gives_still : (c d e : Program O B) (n : ℕ) → GivesNumbers c d n → GivesNumbers d e 0 → GivesNumbers c e n
-  gives_still c d e n a b = let h = gives_both c d e n 0 a b in record { counter = let x : e.counter ≡ c.counter + (n + 0) = h.counter in omega arith; room = h.room; erased = h.erased }
+  gives_still c d e n a b = let h = gives_both c d e n 0 a b in record { counter = let x : e.counter ≡ c.counter + (n + 0) = h.counter in omega arith; erased = h.erased }

@@ -2,7 +2,7 @@
 use Rattle.std.proofs.Common.{◌≡◌, List, [], Some, IsSome, option_map, unwrap_or, slice_get, length, sym, ap, ◌∙◌}
 use Rattle.ir_base.specs.declared.types.TypeHandle.{TypeHandle}
 use Rattle.ir_program.specs.Adds.{numbered_values}
-use Rattle.ir_program.specs.Edits.{IsRestored}
+use Rattle.ir_program.specs.Edits.{IsUnchanged}
 use Rattle.ir_program.specs.Lists.{IsUnlinkedOperation, IsUnlinkedBlock}
 use Rattle.ir_program.specs.Made.{BuildsBlock}
 use Rattle.ir_program.specs.Program.{RegionView, operation_at, block_at, region_at}
@@ -69,7 +69,7 @@ module _ {D TypeKind AttrKind TypeBody Saved Location OpKind Attr TypeKey : Type
     (c d : ContextOf D TypeKind AttrKind TypeBody Saved Location OpKind Attr TypeKey)
     (same : d.types ≡ c.types) where
   -- a call that is refused leaves what is seen
-  pub restored : IsRestored c.program d.program → SameSeen (seen c) (seen d)
+  pub restored : IsUnchanged c.program d.program → SameSeen (seen c) (seen d)
   restored h = record {
     operations = λ p. ap (option_map seen_operation) (h.operations p);
     blocks = λ b. ap (option_map seen_block) (h.blocks b);
@@ -99,4 +99,4 @@ module _ {D TypeKind AttrKind TypeBody Saved Location OpKind Attr TypeKey : Type
 
   pub opened_numbers : (b : Ptr BasicBlock) (notes : BlockNotes D TypeKind AttrKind TypeBody Saved Location OpKind Attr TypeKey) (tys : List TypeHandle)
       → BuildsBlock c.program d.program b notes tys → GivesNumbers c.program d.program (length tys)
-  opened_numbers b notes tys h = record { counter = h.counter; room = h.room; erased = h.erased }
+  opened_numbers b notes tys h = record { counter = h.counter; erased = h.erased }

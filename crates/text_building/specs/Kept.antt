@@ -1,6 +1,6 @@
 -- What one context leaves of another.
 use Rattle.std.specs.Prelude.{◌≡◌, ℕ, ◌+◌, List, Some, slice_get}
-use Rattle.ir_program.specs.Edits.{KeepsErased, KeepsRoom}
+use Rattle.ir_program.specs.Edits.{KeepsErased}
 use Rattle.ir_program.specs.Program.{Program}
 use Rattle.ir_program.specs.declared.handles.Ptr.{Ptr}
 use Rattle.ir_program.specs.declared.handles.Operation.{Operation}
@@ -27,9 +27,7 @@ module _ {K A T : Type 0} (old new : Seen K A T) where
     pub regions : (r : Ptr Region) → new.region r ≡ old.region r
     pub types : KeepsKeys old.types new.types
 
--- n values more have got their numbers, no slot has come to be full, and a handle that was given out and leads
--- nowhere leads nowhere still
+-- n values more have got their numbers, and a handle that was given out and leads nowhere leads nowhere still
 pub record GivesNumbers {O B : Type 0} (old new : Program O B) (n : ℕ) : Type 0 where
   pub counter : new.counter ≡ old.counter + n
-  pub room : KeepsRoom old new
   pub erased : KeepsErased old new

@@ -1,9 +1,9 @@
 //! Making blocks and operations.
-ghost use Rattle.std.specs.Prelude.{◌≡◌, ◌⊎◌, ◌≤◌, ◌+◌, ◌^◌, [], Err, IfOk, OnOk, OnErr, length};
+ghost use Rattle.std.specs.Prelude.{◌≡◌, ◌≤◌, ◌+◌, ◌^◌, [], Err, IfOk, OnOk, OnErr, length};
 ghost use Rattle.ir_base.specs.declared.growth.GrowError.TheVariants.{CounterFull};
 ghost use Rattle.ir_context.specs.Known.{AreKnownIn};
 ghost use Rattle.ir_program.specs.Edits.{KeepsErased};
-ghost use Rattle.ir_program.specs.Made.{BuildsOperation, HasFullBlockSlot, HasFullOperationSlot, HasFullRegionSlot};
+ghost use Rattle.ir_program.specs.Made.{BuildsOperation};
 ghost use Rattle.text_dialect.specs.Seen.{seen};
 ghost use Rattle.text_building.specs.Kept.{SameSeen, GivesNumbers};
 ghost use Rattle.text_building.specs.Loose.{AreAllLoose, AreApart};
@@ -19,8 +19,8 @@ use std::alloc::Global;
 /// Makes a block in no region, with this label, arguments of these types, no attributes, and no operation.
 ///
 /// # Errors
-/// `Memory`, and `CounterFull` where there are not so many numbers left for values, or where the vacant slot that
-/// comes next had as many blocks as it can name. Each handle leads to what it led to then.
+/// `Memory`, and `CounterFull` where there are not so many numbers left for values. Each handle leads to what it led to
+/// then.
 pub fn open_block<D: DialectTables>(
     alloc: Global,
     ctx: &mut Context<D>,
@@ -32,8 +32,7 @@ pub fn open_block<D: DialectTables>(
         ctx.old.program.counter) }
     ensures numbers { OnOk result (GivesNumbers ctx.old.program ctx.new.program (length argument_types.now)) }
     ensures err { OnErr result (SameSeen (seen ctx.old) (seen ctx.new)) }
-    ensures full { result ≡ Err CounterFull
-        → HasFullBlockSlot ctx.old.program ⊎ (2 ^ 64 ≤ ctx.old.program.counter + length argument_types.now) }
+    ensures full { result ≡ Err CounterFull → 2 ^ 64 ≤ ctx.old.program.counter + length argument_types.now }
     ensures erased { KeepsErased ctx.old.program ctx.new.program }
     ensures types { ctx.new.types ≡ ctx.old.types }
 {
@@ -55,9 +54,7 @@ fn bare_operation<D: DialectTables>(
         (record { kind = kind; notes = record { attributes = attributes; loc = D.nowhere } })
         result_types.now [] [] regions) }
     ensures err { OnErr result (SameSeen (seen ctx.old) (seen ctx.new)) }
-    ensures full { result ≡ Err CounterFull
-        → HasFullOperationSlot ctx.old.program ⊎ (HasFullRegionSlot ctx.old.program
-        ⊎ (2 ^ 64 ≤ ctx.old.program.counter + length result_types.now)) }
+    ensures full { result ≡ Err CounterFull → 2 ^ 64 ≤ ctx.old.program.counter + length result_types.now }
     ensures erased { KeepsErased ctx.old.program ctx.new.program }
     ensures types { ctx.new.types ≡ ctx.old.types }
 {
@@ -74,8 +71,7 @@ fn bare_operation<D: DialectTables>(
 /// before.
 ///
 /// # Errors
-/// `Memory`, and `CounterFull` where there are not so many numbers left for values, or where the vacant slot that
-/// comes next for an operation or a region had as many of them as it can name. Each handle leads to what it led to
+/// `Memory`, and `CounterFull` where there are not so many numbers left for values. Each handle leads to what it led to
 /// then.
 pub fn make_operation<D: DialectTables>(
     alloc: Global,
@@ -92,9 +88,7 @@ pub fn make_operation<D: DialectTables>(
         ctx.old.program.counter (lists_of regions.now)) }
     ensures numbers { OnOk result (GivesNumbers ctx.old.program ctx.new.program (length result_types.now)) }
     ensures err { OnErr result (SameSeen (seen ctx.old) (seen ctx.new)) }
-    ensures full { result ≡ Err CounterFull
-        → HasFullOperationSlot ctx.old.program ⊎ (HasFullRegionSlot ctx.old.program
-        ⊎ (2 ^ 64 ≤ ctx.old.program.counter + length result_types.now)) }
+    ensures full { result ≡ Err CounterFull → 2 ^ 64 ≤ ctx.old.program.counter + length result_types.now }
     ensures erased { KeepsErased ctx.old.program ctx.new.program }
     ensures types { ctx.new.types ≡ ctx.old.types }
 {

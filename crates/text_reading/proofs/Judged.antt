@@ -1,5 +1,5 @@
 -- What is known of a text of which reading did this, once its values and its names were looked at.
-use Rattle.std.proofs.Common.{◌≡◌, ◌⊎◌, ℕ, List, Some, None, Result, Err, OnOk, MatchResult, true, refl, subst, inl, inr}
+use Rattle.std.proofs.Common.{◌≡◌, ℕ, List, Some, None, Result, Err, OnOk, MatchResult, true, refl, subst}
 use Rattle.ir_tokens.specs.declared.faults.Fault.{Fault}
 use Rattle.ir_tokens.specs.declared.tokens.Token.{Token}
 use Rattle.ir_grammar.specs.declared.grammar.Event.{Event}
@@ -39,10 +39,3 @@ judged_so l leads ordered cs ts names r xs ys assembled resolved e f reading sou
       values_refused = λ fault is. subst (λ z. first_refusal l.values text z ≡ Some fault) e (refused fault is);
       names_found = subst (λ z. MatchResult resolved (IsResolved l.isolated names z) (IsScopeFault l.isolated names z)) f found;
     }
-
--- the last of four cases apart from the others
-pub last_apart : {A B C D E : Type 0} → (D → E) → A ⊎ (B ⊎ (C ⊎ D)) → (A ⊎ (B ⊎ C)) ⊎ E
-last_apart go (inl a) = inl (inl a)
-last_apart go (inr (inl b)) = inl (inr (inl b))
-last_apart go (inr (inr (inl c))) = inl (inr (inr c))
-last_apart go (inr (inr (inr d))) = inr (go d)

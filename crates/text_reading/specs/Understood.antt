@@ -1,7 +1,5 @@
 -- What a context has of a text that is read.
-use Rattle.std.specs.Prelude.{◌≡◌, ◌⊎◌, ℕ, ◌+◌, ◌<◌, [], ◌∷◌, List, Some, length, slice_get}
-use Rattle.ir_program.specs.Made.{HasFullBlockSlot, HasFullOperationSlot, HasFullRegionSlot}
-use Rattle.ir_program.specs.Program.{Program}
+use Rattle.std.specs.Prelude.{◌≡◌, ℕ, ◌+◌, ◌<◌, [], ◌∷◌, List, Some, length, slice_get}
 use Rattle.ir_program.specs.declared.handles.Ptr.{Ptr}
 use Rattle.ir_program.specs.declared.handles.Operation.{Operation}
 use Rattle.ir_program.specs.declared.handles.Value.{Value}
@@ -29,10 +27,6 @@ pub record IsSaid {K A T : Type 0} (says : Saying K A T) (l : Language) (cs : Li
       → v.number ≡ w.number → i ≡ j
   pub below : (i : ℕ) (v : Value) → slice_get values i ≡ Some v → v.number < next
   pub counted : next ≡ first + length (definitions_of tree)
-
--- the vacant slot that comes next for a block, an operation or a region had as many of them as it can name
-abbrev pub IsSlotFull : {O B : Type 0} → Program O B → Type 0
-IsSlotFull p = HasFullBlockSlot p ⊎ (HasFullOperationSlot p ⊎ HasFullRegionSlot p)
 
 -- The operation was read: it is what the text says, is in no block, and all that has come is inside it; what was there before
 -- is as it was.

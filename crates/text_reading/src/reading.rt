@@ -1,5 +1,6 @@
 //! Reading a text into a context.
-ghost use Rattle.std.specs.Prelude.{◌≡◌, ◌≤◌, ◌⊎◌, ◌+◌, ◌^◌, ℕ, List, length, Some, Err, OnErr, OnOk, IfOk, IfErr, IsSome};
+ghost use Rattle.std.specs.Prelude.{◌≡◌, ◌≤◌, ◌+◌, ◌^◌, ℕ, List, length, Some, Err, OnErr, OnOk, IfOk, IfErr, IsSome};
+ghost use Rattle.ir_program.specs.Edits.{KeepsErased};
 ghost use Rattle.ir_program.specs.declared.handles.IRNode.{IRNode};
 ghost use Rattle.ir_tokens.specs.Tokens.{ReadsAs};
 ghost use Rattle.ir_tokens.specs.declared.faults.TextFault.TheVariants.{Memory, CounterFull};
@@ -9,7 +10,7 @@ ghost use Rattle.text_dialect.specs.Seen.{Seen, seen};
 ghost use Rattle.text_frames.specs.Linking.{CanLink, Links};
 ghost use Rattle.text_frames.specs.Raised.{AreWaiting, HoldsAllNew};
 ghost use Rattle.text_scopes.specs.Isolated.{is_isolated};
-ghost use Rattle.text_reading.specs.Understood.{IsRead, IsSlotFull};
+ghost use Rattle.text_reading.specs.Understood.{IsRead};
 
 use crate::finding::verdict;
 use ir_context::Context;
@@ -41,8 +42,8 @@ use text_scopes::resolve;
 /// proportion to the text.
 ///
 /// # Errors
-/// Besides the faults of the text `Memory`, and `CounterFull` where the text defines more values than there are numbers
-/// left, or where the vacant slot that comes next had as many operations, regions or blocks as it can name.
+/// Besides the faults of the text `Memory`, and `CounterFull` where the text defines more values than the counter can
+/// be moved on by.
 pub fn top_level_parse<D: ReadDialect>(
     alloc: Global,
     ctx: &mut Context<D>,
@@ -52,9 +53,10 @@ pub fn top_level_parse<D: ReadDialect>(
         (seen ctx.old) (seen ctx.new) ctx.old.program.counter ctx.new.program.counter) }
     ensures refused { OnErr result (SameSeen (seen ctx.old) (seen ctx.new)) }
     ensures fault { IfErr result (IsRefusal (language_of D.formats D.kind_at (is_isolated D.op_has) D.values) chars.now) }
-    ensures full { result ≡ Err CounterFull → IsSlotFull ctx.old.program
-        ⊎ ((n : ℕ) × HasDefinitions (language_of D.formats D.kind_at (is_isolated D.op_has) D.values) chars.now n
-        × (2 ^ 64 ≤ ctx.old.program.counter + n)) }
+    ensures full { result ≡ Err CounterFull → (n : ℕ)
+        × HasDefinitions (language_of D.formats D.kind_at (is_isolated D.op_has) D.values) chars.now n
+        × (2 ^ 64 ≤ ctx.old.program.counter + n) }
+    ensures erased { KeepsErased ctx.old.program ctx.new.program }
 {
     let tokens = tokens_of(alloc, chars)?;
     let source = Source {
@@ -98,9 +100,10 @@ fn understand<D: ReadDialect>(
         source.entry.chars.now (seen ctx.old) (seen ctx.new) ctx.old.program.counter ctx.new.program.counter) }
     ensures refused { OnErr result (SameSeen (seen ctx.old) (seen ctx.new)) }
     ensures fault { IfErr result (IsRefusal (language_of D.formats D.kind_at (is_isolated D.op_has) D.values) source.entry.chars.now) }
-    ensures full { result ≡ Err CounterFull → IsSlotFull ctx.old.program
-        ⊎ ((n : ℕ) × HasDefinitions (language_of D.formats D.kind_at (is_isolated D.op_has) D.values) source.entry.chars.now n
-        × (2 ^ 64 ≤ ctx.old.program.counter + n)) }
+    ensures full { result ≡ Err CounterFull → (n : ℕ)
+        × HasDefinitions (language_of D.formats D.kind_at (is_isolated D.op_has) D.values) source.entry.chars.now n
+        × (2 ^ 64 ≤ ctx.old.program.counter + n) }
+    ensures erased { KeepsErased ctx.old.program ctx.new.program }
 {
     let assembled = assemble(alloc, ctx, source, &reading.events);
     let resolved = resolve::<D>(alloc, names, &reading.events);
@@ -124,6 +127,7 @@ fn undo<D: TextDialect>(ctx: &mut Context<D>, assembled: &Result<Assembly, Assem
     ensures undone { (start : Seen D.OpKind D.Attr D.TypeKey)
         → IfOk assembled.now (λ a. HoldsAllNew start (seen ctx.old) a.loose.items)
         → OnErr assembled.now (SameSeen start (seen ctx.old)) → SameSeen start (seen ctx.new) }
+    ensures erased { KeepsErased ctx.old.program ctx.new.program }
 {
     if let Ok(assembly) = assembled {
         discard(ctx, &assembly.loose);
@@ -156,6 +160,7 @@ fn connect<D: TextDialect>(
         → OnErr result (SameSeen start (seen ctx.new)) }
     ensures memory { IfErr result (λ f. f ≡ Memory) }
     ensures counter { OnOk result (ctx.new.program.counter ≡ ctx.old.program.counter) }
+    ensures erased { KeepsErased ctx.old.program ctx.new.program }
 {
     if link(alloc, ctx, resolution, assembly).is_err() {
         discard(ctx, &assembly.loose);

@@ -3,7 +3,7 @@ use Rattle.std.proofs.Common.{◌≡◌, ⊎_elim, ℕ, Bool, true, false, cond,
 use Rattle.ir_base.specs.declared.types.TypeHandle.{TypeHandle}
 use Rattle.ir_program.specs.Program.{Program, OperationView, BlockView, TypedValue, typed_value, operation_at, block_at, results_at, arguments_at, definitions_of, numbered, type_at}
 use Rattle.ir_program.specs.Definers.{values_at}
-use Rattle.ir_program.specs.Edits.{EditsOperation, EditsBlock, IsRestored, IsUnchanged}
+use Rattle.ir_program.specs.Edits.{EditsOperation, EditsBlock, IsUnchanged}
 use Rattle.ir_program.specs.declared.handles.Ptr.{Ptr}
 use Rattle.ir_program.specs.declared.handles.Operation.{Operation}
 use Rattle.ir_program.specs.declared.handles.BasicBlock.{BasicBlock}
@@ -80,9 +80,6 @@ module _ {O B : Type 0} where
 
     pub unchanged-types : IsUnchanged c d → (v : Value) → type_at d v ≡ type_at c v
     unchanged-types same = same-types same.operations same.blocks
-
-    pub restored-types : IsRestored c d → (v : Value) → type_at d v ≡ type_at c v
-    restored-types same = same-types same.operations same.blocks
 
     -- more regions are no other results
     pub regions_more-types : (p : Ptr Operation) (rs : List (Ptr Region)) → operation_at d p ≡ option_map (λ (o : OperationView O). record o { regions = o.regions ++ rs }) (operation_at c p)

@@ -67,7 +67,6 @@ module _ {O B : Type 0} (c : Program O B) (p : Ptr Operation) (o : OperationReco
       blocks = operands-cleared.blocks;
       regions = operands-cleared.regions;
       erased = operands-cleared.erased;
-      room = operands-cleared.room;
       counter = refl;
     }
 
@@ -98,6 +97,5 @@ module _ {O B : Type 0} (c : Program O B) (p : Ptr Operation) (o : OperationReco
       blocks = successors-cleared.blocks;
       regions = successors-cleared.regions;
       erased = successors-cleared.erased;
-      room = successors-cleared.room;
       counter = refl;
     }

@@ -41,7 +41,6 @@ module _ {O B : Type 0} where
     blocks = λ q. refl;
     regions = λ q. refl;
     erased = record { operations = λ k s. s; blocks = λ k s. s; regions = λ k s. s };
-    room = record { operations = λ s. s; blocks = λ s. s; regions = λ s. s };
     counter = refl;
   }
 
@@ -57,7 +56,6 @@ module _ {O B : Type 0} where
     blocks = λ q. g.blocks q ∙ f.blocks q;
     regions = λ q. g.regions q ∙ f.regions q;
     erased = record { operations = λ k s. g.erased.operations k (f.erased.operations k s); blocks = λ k s. g.erased.blocks k (f.erased.blocks k s); regions = λ k s. g.erased.regions k (f.erased.regions k s) };
-    room = record { operations = λ s. f.room.operations (g.room.operations s); blocks = λ s. f.room.blocks (g.room.blocks s); regions = λ s. f.room.regions (g.room.regions s) };
     counter = g.counter ∙ f.counter;
   }
 

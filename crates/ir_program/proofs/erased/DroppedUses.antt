@@ -33,6 +33,5 @@ module _ {O B : Type 0} (old new : Program O B) (x : IRNode) (live : IsLiveNode 
     regions = drops.frame.regions;
     types = λ v. ap (λ ds. option_map (λ (d : Definition). d.ty) (numbered v.number ds)) (drops.frame.definitions v.definer);
     erased = drops.frame.erased;
-    room = drops.frame.room;
     counter = drops.frame.counter;
   }

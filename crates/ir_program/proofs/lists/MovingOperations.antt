@@ -48,7 +48,6 @@ module _ {O B : Type 0} where
     operations = λ q. refl;
     regions = λ q. refl;
     erased = record { operations = λ q s. s; blocks = λ q s. s; regions = λ q s. s };
-    room = record { operations = λ s. s; blocks = λ s. s; regions = λ s. s };
   }
 
   -- what stands in no list by slots stands in none by handles
@@ -87,7 +86,6 @@ module _ {O B : Type 0} where
         operations = λ q. refl;
         regions = λ q. refl;
         erased = record { operations = λ q s. s; blocks = λ q s. s; regions = λ q s. s };
-        room = record { operations = λ s. s; blocks = λ s. s; regions = λ s. s };
       }
 
   -- once an operation is out, nothing stands inside what it did not

@@ -160,7 +160,6 @@ module _ {O B : Type 0} (i c : Program O B) (seen : i ≡ c) (known : AreListed 
             blocks = λ q. refl;
             regions = λ q. refl;
             erased = record { operations = λ q s. s; blocks = λ q s. s; regions = λ q s. s };
-            room = record { operations = λ s. s; blocks = λ s. s; regions = λ s. s };
           }
 
       pub region_moved : a ≢ p → MovesRegion c (record i { forest = f }) r a k p
@@ -181,7 +180,6 @@ module _ {O B : Type 0} (i c : Program O B) (seen : i ≡ c) (known : AreListed 
           blocks = λ q. refl;
           regions = λ q. refl;
           erased = record { operations = λ q s. s; blocks = λ q s. s; regions = λ q s. s };
-          room = record { operations = λ s. s; blocks = λ s. s; regions = λ s. s };
         }
 
     pub region_rotated : (k : ℕ) → slice_get (regions_in c p) k ≡ Some r → EditsOperation c (record i { forest = f }) p (λ v. record v { regions = remove v.regions k ++ r ∷ [] })

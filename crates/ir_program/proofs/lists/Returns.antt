@@ -68,11 +68,6 @@ module _ {O B : Type 0} (old : Program O B) where
                 blocks = λ q s. put.erased.blocks q (taken.erased.blocks q s);
                 regions = λ q s. put.erased.regions q (taken.erased.regions q s);
               };
-              room = record {
-                operations = λ s. taken.room.operations (put.room.operations s);
-                blocks = λ s. taken.room.blocks (put.room.blocks s);
-                regions = λ s. taken.room.regions (put.room.regions s);
-              };
               counter = kept_too ∙ kept;
             },
       )
@@ -100,11 +95,6 @@ module _ {O B : Type 0} (old : Program O B) where
                 operations = λ q s. put.erased.operations q (taken.erased.operations q s);
                 blocks = λ q s. put.erased.blocks q (taken.erased.blocks q s);
                 regions = λ q s. put.erased.regions q (taken.erased.regions q s);
-              };
-              room = record {
-                operations = λ s. taken.room.operations (put.room.operations s);
-                blocks = λ s. taken.room.blocks (put.room.blocks s);
-                regions = λ s. taken.room.regions (put.room.regions s);
               };
               counter = kept_too ∙ kept;
             },

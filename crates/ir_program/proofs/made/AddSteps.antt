@@ -2,7 +2,7 @@
 use Rattle.std.proofs.Common.{◌≡◌, ℕ, zero, suc, ◌+◌, ◌<◌, List, [], ◌∷◌, ◌++◌, length, take, Option, Some, None, IsSome, option_map, slice_get, Result, Ok, Err, OnErr, refl, sym, ap, ◌∙◌, subst, arith, append_assoc, append-nil, length-append}
 use Rattle.ir_base.specs.declared.types.TypeHandle.{TypeHandle}
 use Rattle.ir_program.specs.Program.{Program, OperationView, BlockView, operation_at, block_at, type_at}
-use Rattle.ir_program.specs.Edits.{EditsOperation, EditsBlock, KeepsErased, KeepsRoom, IsUnchanged, IsRestored}
+use Rattle.ir_program.specs.Edits.{EditsOperation, EditsBlock, KeepsErased, IsUnchanged}
 use Rattle.ir_program.specs.Definers.{DefinesValue}
 use Rattle.ir_program.specs.Adds.{SomeCame, numbered_values, AddsResults, AddsArguments, AddsOperands, AddsSuccessors}
 use Rattle.ir_program.specs.declared.handles.Ptr.{Ptr}
@@ -51,20 +51,6 @@ module _ {O B : Type 0} where
   pub erased-then : (a b c : Program O B) → KeepsErased a b → KeepsErased b c → KeepsErased a c
   erased-then a b c f g = record { operations = λ k s. g.operations k (f.operations k s); blocks = λ k s. g.blocks k (f.blocks k s); regions = λ k s. g.regions k (f.regions k s) }
 
-  pub kept-room : (c : Program O B) → KeepsRoom c c
-  kept-room c = record { operations = λ s. s; blocks = λ s. s; regions = λ s. s }
-
-  pub room-then : (a b c : Program O B) → KeepsRoom a b → KeepsRoom b c → KeepsRoom a c
-  room-then a b c f g = record { operations = λ s. f.operations (g.operations s); blocks = λ s. f.blocks (g.blocks s); regions = λ s. f.regions (g.regions s) }
-
-  -- what changed nothing has restored all
-  pub restored : (a b : Program O B) → IsUnchanged a b → IsRestored a b
-  restored a b same = record { operations = same.operations; blocks = same.blocks; regions = same.regions; erased = same.erased; counter = same.counter }
-
-  pub restored-err : {T E : Type 0} (r : Result T E) (a b : Program O B) → OnErr r (IsUnchanged a b) → OnErr r (IsRestored a b)
-  restored-err (Ok x) a b same = tt
-  restored-err (Err e) a b same = restored a b same
-
   pub edit-then : (a b c : Program O B) (p : Ptr Operation) (f g h : OperationView O → OperationView O) → ((o : OperationView O) → g (f o) ≡ h o) → EditsOperation a b p f → EditsOperation b c p g → EditsOperation a c p h
   edit-then a b c p f g h same first second = record {
     edited = second.edited ∙ ap (option_map g) first.edited ∙ map-then f g h same (operation_at a p);
@@ -72,11 +58,10 @@ module _ {O B : Type 0} where
     blocks = λ q. second.blocks q ∙ first.blocks q;
     regions = λ q. second.regions q ∙ first.regions q;
     erased = erased-then a b c first.erased second.erased;
-    room = room-then a b c first.room second.room;
   }
 
   pub edit-none : (c : Program O B) (p : Ptr Operation) (f : OperationView O → OperationView O) → ((o : OperationView O) → o ≡ f o) → EditsOperation c c p f
-  edit-none c p f same = record { edited = map-same_as f same (operation_at c p); others = λ q ne. refl; blocks = λ q. refl; regions = λ q. refl; erased = kept-erased c; room = kept-room c }
+  edit-none c p f same = record { edited = map-same_as f same (operation_at c p); others = λ q ne. refl; blocks = λ q. refl; regions = λ q. refl; erased = kept-erased c }
 
   pub edit-there : (a b : Program O B) (p : Ptr Operation) (f : OperationView O → OperationView O) → EditsOperation a b p f → IsSome (operation_at a p) → IsSome (operation_at b p)
   edit-there a b p f edits there = subst IsSome (sym edits.edited) (map_of_some f (operation_at a p) there)
@@ -89,7 +74,6 @@ module _ {O B : Type 0} where
     blocks = λ q. same.blocks q ∙ edits.blocks q;
     regions = λ q. same.regions q ∙ edits.regions q;
     erased = erased-then a b c edits.erased same.erased;
-    room = room-then a b c edits.room same.room;
   }
 
   pub block_edit-then : (a b c : Program O B) (p : Ptr BasicBlock) (f g h : BlockView B → BlockView B) → ((o : BlockView B) → g (f o) ≡ h o) → EditsBlock a b p f → EditsBlock b c p g → EditsBlock a c p h
@@ -99,7 +83,6 @@ module _ {O B : Type 0} where
     operations = λ q. second.operations q ∙ first.operations q;
     regions = λ q. second.regions q ∙ first.regions q;
     erased = erased-then a b c first.erased second.erased;
-    room = room-then a b c first.room second.room;
   }
 
   pub block_edit-there : (a b : Program O B) (p : Ptr BasicBlock) (f : BlockView B → BlockView B) → EditsBlock a b p f → IsSome (block_at a p) → IsSome (block_at b p)
@@ -112,7 +95,6 @@ module _ {O B : Type 0} where
     operations = λ q. same.operations q ∙ edits.operations q;
     regions = λ q. same.regions q ∙ edits.regions q;
     erased = erased-then a b c edits.erased same.erased;
-    room = room-then a b c edits.room same.room;
   }
 
   pub results-none : (c : Program O B) (p : Ptr Operation) → AddsResults c c p []
@@ -120,7 +102,7 @@ module _ {O B : Type 0} where
 
   pub arguments-none : (c : Program O B) (p : Ptr BasicBlock) → AddsArguments c c p []
   arguments-none c p = record {
-    edited = record { edited = map-same_as _ (λ (o : BlockView B). ap (λ l. record o { arguments = l }) (sym (append-nil o.arguments))) (block_at c p); others = λ q ne. refl; operations = λ q. refl; regions = λ q. refl; erased = kept-erased c; room = kept-room c };
+    edited = record { edited = map-same_as _ (λ (o : BlockView B). ap (λ l. record o { arguments = l }) (sym (append-nil o.arguments))) (block_at c p); others = λ q ne. refl; operations = λ q. refl; regions = λ q. refl; erased = kept-erased c };
     others = λ v ne. refl;
     earlier = λ v lt. refl;
     counter = omega arith;

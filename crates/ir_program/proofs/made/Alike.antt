@@ -3,7 +3,7 @@ use Rattle.std.proofs.Common.{◌≡◌, ◌≢◌, ◌↔◌, ℕ, ◌⊎◌, i
 use Rattle.std.proofs.lemmas.Bool.{both_ways, cases_eq, eq-eqb, ne_eqb}
 use Rattle.ir_arena.specs.declared.arena.Key.{Key}
 use Rattle.ir_arena.specs.declared.arena.Slot.{Slot}
-use Rattle.ir_arena.specs.Arena.{get, held, same, SetsSlot, Updates, HasFullSlot, IsSpent, KeepsSpent}
+use Rattle.ir_arena.specs.Arena.{get, held, same, SetsSlot, Updates, IsSpent, KeepsSpent}
 use Rattle.ir_entities.specs.Links.{list_at, has}
 use Rattle.ir_entities.specs.Forest.{Forest, IsForest}
 use Rattle.ir_entities.specs.Uses.{key_of, place_of}
@@ -12,7 +12,6 @@ use Rattle.ir_program.specs.Handles.{handle}
 use Rattle.ir_program.specs.Program.{Program, handles_of, operation_of, block_of, region_of, definitions_of, numbered}
 use Rattle.ir_program.specs.Sound.{IsProgram, AreNumbered, operand_row, successor_row, thread_of_block}
 use Rattle.ir_program.specs.Edits.{IsUnchanged}
-use Rattle.ir_program.proofs.made.FullSlots.{set_full}
 use Rattle.ir_program.specs.declared.handles.Ptr.{Ptr}
 use Rattle.ir_program.specs.declared.handles.Operation.{Operation}
 use Rattle.ir_program.specs.declared.handles.BasicBlock.{BasicBlock}
@@ -76,7 +75,6 @@ module _ {O B : Type 0} (c : Program O B) (f : Forest (OperationRecord O) (Block
       blocks = λ p. ap (λ s. option_map (block_of in_forest p) (get s p.key)) blocks ∙ option_map-same _ _ _ (λ r e. rw (ops, in_blocks p.key.slot) refl);
       regions = λ p. ap (λ s. option_map (λ _. region_of in_forest p) (get s p.key)) regions ∙ option_map-same _ _ _ (λ r e. rw (blocks, in_regions p.key.slot) refl);
       erased = record { operations = λ k s. rw ops s; blocks = λ k s. rw blocks s; regions = λ k s. rw regions s };
-      room = record { operations = λ h. subst HasFullSlot ops h; blocks = λ h. subst HasFullSlot blocks h; regions = λ h. subst HasFullSlot regions h };
       counter = refl;
     }
 
@@ -154,7 +152,6 @@ module _ {O B : Type 0} (c : Program O B) (f : Forest (OperationRecord O) (Block
     regions = λ q. ap (λ s. option_map (λ _. region_of (in_forest c f) q) (get s q.key)) regions ∙ option_map-same _ _ _ (λ r e. rw (blocks, in_regions) refl);
     erased = record { operations = kept; blocks = λ k s. rw blocks s; regions = λ k s. rw regions s };
     counter = refl;
-    room = record { operations = set_full c.forest.ops f.ops p.key.slot o sets; blocks = λ h. subst HasFullSlot blocks h; regions = λ h. subst HasFullSlot regions h };
   }
 
 -- an operation whose slot no list has stands in no block

@@ -5,7 +5,7 @@ use Rattle.ir_program.specs.Program.{Program, OperationView, BlockView, RegionVi
 use Rattle.ir_program.specs.Rows.{operands_at, successors_at}
 use Rattle.ir_program.specs.Uses.{IsUsed}
 use Rattle.ir_program.specs.Lists.{operations_in, IsUnlinkedBlock}
-use Rattle.ir_program.specs.Edits.{IsRestored}
+use Rattle.ir_program.specs.Edits.{IsUnchanged}
 use Rattle.ir_program.specs.Definers.{values_at}
 use Rattle.ir_program.specs.Adds.{numbered_values, AddsArguments}
 use Rattle.ir_program.specs.Made.{MakesBlock, BuildsBlock, TakesBackBlock}
@@ -17,7 +17,7 @@ use Rattle.ir_program.specs.declared.handles.DefiningEntity.{DefiningEntity}
 use Rattle.ir_program.specs.declared.handles.DefiningEntity.TheVariants.{Op as ByOp, Block as ByBlock}
 use Rattle.ir_program.proofs.made.Frames.{same_or_not}
 use Rattle.ir_program.proofs.defined.KeptTypes.{types-kept}
-use Rattle.ir_program.proofs.made.AddSteps.{erased-then, room-then}
+use Rattle.ir_program.proofs.made.AddSteps.{erased-then}
 use Rattle.ir_program.proofs.made.TakeBacks.{no-argument}
 use Rattle.ir_program.proofs.made.BuildSteps.{takes-used}
 
@@ -84,11 +84,10 @@ module _ {O B : Type 0} (a b : Program O B) (p : Ptr BasicBlock) (payload : B) (
       regions = λ q. adds.edited.regions q ∙ makes.regions q;
       types = given-types;
       erased = erased-then a b d makes.erased adds.edited.erased;
-      room = room-then a b d makes.room adds.edited.room;
       counter = adds.counter ∙ ap (λ (n : ℕ). n + length tys) makes.counter;
     }
 
-    pub block-undone : (e : Program O B) → TakesBackBlock d e p a.counter → IsRestored a e
+    pub block-undone : (e : Program O B) → TakesBackBlock d e p a.counter → IsUnchanged a e
     block-undone e takes = record {
       blocks = λ q. ⊎_elim (λ (is : q ≡ p). subst (λ x. block_at e x ≡ block_at a x) (sym is) (takes.gone ∙ sym makes.fresh)) (λ ne. takes.others q ne ∙ adds.edited.others q ne ∙ makes.others q ne) (same_or_not q p);
       operations = λ q. takes.operations q ∙ adds.edited.operations q ∙ makes.operations q;

@@ -5,7 +5,7 @@ use Rattle.ir_program.specs.Program.{Program, OperationView, BlockView, operatio
 use Rattle.ir_program.specs.Rows.{operands_at}
 use Rattle.ir_program.specs.Uses.{IsUsed}
 use Rattle.ir_program.specs.Lists.{regions_in, IsUnlinkedOperation}
-use Rattle.ir_program.specs.Edits.{EditsOperation, IsRestored}
+use Rattle.ir_program.specs.Edits.{EditsOperation, IsUnchanged}
 use Rattle.ir_program.specs.Definers.{values_at}
 use Rattle.ir_program.specs.Adds.{SomeCame, numbered_values, AreLiveValues, AreLiveBlocks, AddsResults, AddsOperands, AddsSuccessors}
 use Rattle.ir_program.specs.Made.{MakesOperation, MakesRegions, AddsRegions, AddsRegionCount, AddsFewerRegions, FillsOperation, FillsSome, HasBareRegions, BuildsOperation, TakesBackOperation}
@@ -18,7 +18,7 @@ use Rattle.ir_program.specs.declared.handles.DefiningEntity.{DefiningEntity}
 use Rattle.ir_program.specs.declared.handles.DefiningEntity.TheVariants.{Op as ByOp, Block as ByBlock}
 use Rattle.ir_program.proofs.made.Frames.{same_or_not}
 use Rattle.ir_program.proofs.defined.KeptTypes.{types-kept}
-use Rattle.ir_program.proofs.made.AddSteps.{map-then, erased-then, room-then, edit-then, operands-none, successors-none, results-none}
+use Rattle.ir_program.proofs.made.AddSteps.{map-then, erased-then, edit-then, operands-none, successors-none, results-none}
 use Rattle.ir_program.proofs.made.RegionSteps.{one_or_none}
 use Rattle.ir_program.proofs.made.TakeBacks.{no-result}
 
@@ -39,7 +39,6 @@ module _ {O B : Type 0} where
     };
     types = λ v ne. results.others v ne ∙ successors.types v ∙ operands.types v ∙ regions.types v;
     erased = erased-then a r d regions.erased whole.erased;
-    room = room-then a r d regions.room whole.room;
     counter = results.counter ∙ ap (λ (n : ℕ). n + length tys) counter;
   }
     where
@@ -157,11 +156,10 @@ module _ {O B : Type 0} where
         blocks = λ q. fills.blocks q ∙ makes.blocks q;
         types = filled-types;
         erased = erased-then a b d makes.erased fills.erased;
-        room = room-then a b d makes.room fills.room;
         counter = fills.counter ∙ ap (λ (m : ℕ). m + length tys) makes.counter;
       }
 
-      pub undone : (e : Program O B) → TakesBackOperation d e p a.counter → IsRestored a e
+      pub undone : (e : Program O B) → TakesBackOperation d e p a.counter → IsUnchanged a e
       undone e takes = record {
         operations = λ q. ⊎_elim (λ (is : q ≡ p). subst (λ x. operation_at e x ≡ operation_at a x) (sym is) (takes.gone ∙ sym makes.fresh)) (λ ne. takes.others q ne ∙ fills.others q ne ∙ makes.others q ne) (same_or_not q p);
         blocks = λ q. takes.blocks q ∙ fills.blocks q ∙ makes.blocks q;

@@ -17,7 +17,7 @@ use Rattle.ir_program.specs.declared.handles.DefiningEntity.{DefiningEntity}
 use Rattle.ir_program.specs.declared.handles.DefiningEntity.TheVariants.{Op as ByOp, Block as ByBlock}
 use Rattle.ir_program.specs.declared.records.OperationRecord.{OperationRecord}
 use Rattle.ir_program.specs.declared.records.BlockRecord.{BlockRecord}
-use Rattle.ir_program.proofs.made.Lent.{same_key, get-lent, get-lent_other, spent-lent, full-lent, pointer-lent}
+use Rattle.ir_program.proofs.made.Lent.{same_key, get-lent, get-lent_other, spent-lent, pointer-lent}
 
 -- handles with one key are the same
 pub same_handle : {E : Type 0} (p q : Ptr E) → p.key ≡ q.key → p ≡ q
@@ -68,7 +68,6 @@ module _ {O B : Type 0} (c : Program O B) where
       blocks = λ q. option_map-same _ _ (get c.forest.blocks q.key) (λ b e. ap (λ l. record (block_of c q b) { operations = l }) (handles-lent c.forest.ops p.key o w here _));
       regions = λ q. refl;
       erased = record { operations = spent-lent c.forest.ops p.key o w here; blocks = λ q s. s; regions = λ q s. s };
-      room = record { operations = full-lent c.forest.ops p.key o w here; blocks = λ s. s; regions = λ s. s };
     }
 
     pub definitions-here : (u : Uses Value) (t : Uses (Ptr BasicBlock)) (n : ℕ) → definitions_of (with_operation u t n) (ByOp p) ≡ w.results.items
@@ -93,7 +92,6 @@ module _ {O B : Type 0} (c : Program O B) where
       operations = λ q. option_map-same _ _ (get c.forest.ops q.key) (λ r e. rest q r e);
       regions = λ q. ap (λ l. option_map (λ x. record { blocks = l }) (get c.forest.regions q.key)) (handles-lent c.forest.blocks p.key b w here _);
       erased = record { operations = λ q s. s; blocks = spent-lent c.forest.blocks p.key b w here; regions = λ q s. s };
-      room = record { operations = λ s. s; blocks = full-lent c.forest.blocks p.key b w here; regions = λ s. s };
     }
 
     pub arguments-here : (u : Uses Value) (t : Uses (Ptr BasicBlock)) (n : ℕ) → definitions_of (with_block u t n) (ByBlock p) ≡ w.arguments.items
@@ -121,7 +119,6 @@ edited-to-same c d p edits counter = record {
   blocks = edits.blocks;
   regions = edits.regions;
   erased = edits.erased;
-  room = edits.room;
   counter = counter;
 }
 
@@ -131,7 +128,6 @@ block-to-same c d p edits counter = record {
   blocks = λ q. ⊎_elim (λ (e : q ≡ p). subst (λ x. block_at d x ≡ block_at c x) (sym e) (edits.edited ∙ option_map-id (block_at c p))) (λ ne. edits.others q ne) (same_or_not q p);
   regions = edits.regions;
   erased = edits.erased;
-  room = edits.room;
   counter = counter;
 }
 

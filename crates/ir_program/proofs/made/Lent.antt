@@ -1,10 +1,10 @@
 -- What an arena is once the value at a key is another.
-use Rattle.std.proofs.Common.{◌≡◌, ◌≢◌, ℕ, ◌≤◌, ◌<◌, ⊎_elim, true, false, cond, eqb, List, Option, Some, None, IsSome, refl, sym, ap, ◌∙◌, subst}
+use Rattle.std.proofs.Common.{◌≡◌, ◌≢◌, ℕ, ◌≤◌, ⊎_elim, true, false, cond, eqb, List, Option, Some, None, IsSome, refl, sym, ap, ◌∙◌, subst}
 use Rattle.std.proofs.lemmas.List.{length-set, get_or-set_same, get_or-set_other}
 use Rattle.std.proofs.lemmas.Bool.{eq-eqb, ne_eqb, cases_eq}
 use Rattle.ir_arena.specs.declared.arena.Key.{Key}
 use Rattle.ir_arena.specs.declared.arena.Slot.{Slot}
-use Rattle.ir_arena.specs.Arena.{get, held, no_slot, slot_at, KeepsSpent, HasFullSlot}
+use Rattle.ir_arena.specs.Arena.{get, held, no_slot, slot_at, KeepsSpent}
 use Rattle.ir_entities.specs.Forest.{pointer_to}
 use Rattle.ir_arena.specs.Lends.{with_value, with_slot_value}
 use Rattle.ir_arena.proofs.Slots.{Live, live_slot}
@@ -73,14 +73,3 @@ module _ {T : Type 0} (slots : List (Slot T)) (k : Key) (v w : T) (here : get sl
     version = subst (λ n. q.version ≤ n) (sym (version-lent q.slot)) s.version;
     gone = get-lent_other q (λ e. let n : get slots k ≡ None = subst (λ x. get slots x ≡ None) e s.gone in let u : None ≡ Some v = sym n ∙ here in cc) ∙ s.gone;
   }
-
-  -- the slot of the key has a value, and the others are as full as they were
-  pub full-lent : HasFullSlot (with_value slots k w) → HasFullSlot slots
-  full-lent full =
-      let ne : full.slot ≢ k.slot = λ e. (let some : held (with_value slots k w) k.slot ≡ Some w = held-lent in let none : held (with_value slots k w) k.slot ≡ None = ap (held (with_value slots k w)) (sym e) ∙ full.vacant in cc) in
-      record {
-        slot = full.slot;
-        within = subst (λ n. full.slot < n) (length-set slots k.slot _) full.within;
-        vacant = sym (held-lent_other full.slot ne) ∙ full.vacant;
-        greatest = sym (version-lent full.slot) ∙ full.greatest;
-      }

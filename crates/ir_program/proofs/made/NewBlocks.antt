@@ -5,7 +5,7 @@ use Rattle.std.proofs.lemmas.List.{length-set}
 use Rattle.ir_program.specs.Handles.{handle}
 use Rattle.ir_arena.specs.declared.arena.Key.{Key}
 use Rattle.ir_arena.specs.declared.arena.Slot.{Slot}
-use Rattle.ir_arena.specs.Arena.{get, held, slot_at, SetsSlot, ClearsSlot, Updates, HasFullSlot, IsSpent, KeepsSpent}
+use Rattle.ir_arena.specs.Arena.{get, held, slot_at, SetsSlot, ClearsSlot, Updates, IsSpent, KeepsSpent}
 use Rattle.ir_arena.specs.Lends.{with_value}
 use Rattle.ir_entities.specs.Links.{list_at, has}
 use Rattle.ir_entities.specs.Forest.{Forest, IsForest}
@@ -13,8 +13,7 @@ use Rattle.ir_entities.specs.Uses.{Uses, key_of, place_of, Names, IsDefined, Set
 use Rattle.ir_entities.proofs.Placed.{placed-same}
 use Rattle.ir_program.specs.Program.{Program, handles_of, operation_of, block_of, block_named, region_of, definitions_of, numbered}
 use Rattle.ir_program.specs.Sound.{IsProgram, IsThreaded, AreNumbered, operand_row, successor_row, thread_of_block}
-use Rattle.ir_program.specs.Edits.{IsRestored}
-use Rattle.ir_program.proofs.made.FullSlots.{set_full}
+use Rattle.ir_program.specs.Edits.{IsUnchanged}
 use Rattle.ir_program.specs.Made.{MakesBlock}
 use Rattle.ir_program.specs.Listed.{AreListed}
 use Rattle.ir_program.specs.Lists.{IsUnlinkedBlock, blocks_in}
@@ -88,7 +87,7 @@ module _ {O B : Type 0} (c : Program O B) (f : Forest (OperationRecord O) (Block
         (λ i h. let home = inv.homes i (subst (λ s. IsSome (held s i)) regions h) in (home.0, ap (λ l. has i (list_at l.lists home.0)) in_ops ∙ home.1))
         inv
 
-    pub block-back : KeepsSpent c.forest.blocks mid → KeepsSpent mid f.blocks → IsForest c.forest → IsRestored c (in_forest c f)
+    pub block-back : KeepsSpent c.forest.blocks mid → KeepsSpent mid f.blocks → IsForest c.forest → IsUnchanged c (in_forest c f)
     block-back kept again forest = record {
       operations = λ q. ap (λ s. option_map (operation_of (in_forest c f) q) (get s q.key)) ops ∙ option_map-same _ _ _ (λ r e. rw (regions, in_ops) refl);
       blocks = λ q. ap (option_map (block_of (in_forest c f) q)) (blocks-back q.key) ∙ option_map-same _ _ _ (λ r e. rw (ops, in_blocks q.key.slot) refl);
@@ -175,7 +174,6 @@ module _ {O B : Type 0} (c : Program O B) (f : Forest (OperationRecord O) (Block
           regions = λ q. ap (λ s. option_map (λ _. region_of with_new_block q) (get s q.key)) regions
               ∙ option_map-same _ _ _ (λ r e. ap (λ l. record { blocks = l }) (ap (λ ls. handles_of f.blocks (list_at ls q.key.slot)) regions_same ∙ pointers-stay c.forest.blocks f.blocks p.key.slot b sets _ (λ i h. forest.blocks.members q.key.slot i h)));
           erased = record { operations = λ x s. rw ops s; blocks = kept; regions = λ x s. rw regions s };
-          room = record { operations = λ h. subst HasFullSlot ops h; blocks = set_full c.forest.blocks f.blocks p.key.slot b sets; regions = λ h. subst HasFullSlot regions h };
           counter = refl;
         }
 

@@ -6,7 +6,7 @@ use Rattle.ir_arena.specs.declared.arena.Key.{Key}
 use Rattle.ir_arena.specs.declared.arena.Slot.{Slot}
 use Rattle.ir_entities.specs.declared.forest.Place.{Place}
 use Rattle.ir_entities.specs.declared.forest.Place.TheVariants.{Op, Block, Region as RegionPlace}
-use Rattle.ir_arena.specs.Arena.{get, held, SetsSlot, Updates, HasFullSlot, IsSpent, KeepsSpent}
+use Rattle.ir_arena.specs.Arena.{get, held, SetsSlot, Updates, IsSpent, KeepsSpent}
 use Rattle.ir_entities.specs.Links.{list_at, has}
 use Rattle.ir_entities.specs.Shape.{Shape, IsIn, IsInside, itself, deeper}
 use Rattle.ir_entities.specs.Forest.{Forest, IsForest, pointer_to}
@@ -25,7 +25,6 @@ use Rattle.ir_program.specs.declared.records.BlockRecord.{BlockRecord}
 use Rattle.ir_program.specs.declared.records.RegionRecord.{RegionRecord}
 use Rattle.ir_program.proofs.made.Frames.{option_map-same, other_key, same_handle}
 use Rattle.ir_program.proofs.made.Lent.{some_is}
-use Rattle.ir_program.proofs.made.FullSlots.{set_full}
 use Rattle.ir_program.proofs.lists.Slotted.{one_handle}
 use Rattle.ir_program.proofs.made.Alike.{in_forest, forest-sound, pointers-stay, same_or, same_self}
 
@@ -108,7 +107,6 @@ module _ {O B : Type 0} (c : Program O B) (f : Forest (OperationRecord O) (Block
     blocks = λ q. ap (λ s. option_map (block_of (in_forest c f) q) (get s q.key)) blocks ∙ option_map-same _ _ _ (λ b e. rw (ops, in_blocks) refl);
     erased = record { operations = λ x s. rw ops s; blocks = λ x s. rw blocks s; regions = kept };
     counter = refl;
-    room = record { operations = λ h. subst HasFullSlot ops h; blocks = λ h. subst HasFullSlot blocks h; regions = set_full c.forest.regions f.regions r.key.slot u sets };
   }
     where
       last : handle {E = Region} (pointer_to f.regions r.key.slot) ≡ r

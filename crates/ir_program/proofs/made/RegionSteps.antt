@@ -9,7 +9,7 @@ use Rattle.ir_program.specs.declared.handles.Operation.{Operation}
 use Rattle.ir_program.specs.declared.handles.Region.{Region}
 use Rattle.ir_program.proofs.made.Frames.{same_or_not}
 use Rattle.ir_program.proofs.defined.KeptTypes.{regions_more-types, unchanged-types}
-use Rattle.ir_program.proofs.made.AddSteps.{erased-then, kept-erased, room-then, kept-room, map-then, map-same_as}
+use Rattle.ir_program.proofs.made.AddSteps.{erased-then, kept-erased, map-then, map-same_as}
 
 -- one more handle at the end of a list
 at_last : {X : Type 0} (xs : List X) (y : X) → slice_get (xs ++ y ∷ []) (length xs) ≡ Some y
@@ -48,7 +48,6 @@ module _ {O B : Type 0} where
     blocks = λ q. refl;
     types = λ v. refl;
     erased = kept-erased c;
-    room = kept-room c;
     counter = refl;
   }
 
@@ -80,7 +79,6 @@ module _ {O B : Type 0} where
       blocks = λ q. makes.blocks q ∙ adds.blocks q;
       types = λ v. regions_more-types b c p (r ∷ []) makes.holder makes.operations makes.blocks v ∙ adds.types v;
       erased = erased-then a b c adds.erased makes.erased;
-      room = room-then a b c adds.room makes.room;
       counter = makes.counter ∙ adds.counter;
     }
 
@@ -99,7 +97,6 @@ module _ {O B : Type 0} where
       blocks = λ q. same.blocks q ∙ adds.blocks q;
       types = λ v. unchanged-types b c same v ∙ adds.types v;
       erased = erased-then a b c adds.erased same.erased;
-      room = room-then a b c adds.room same.room;
       counter = same.counter ∙ adds.counter;
     }
 

@@ -173,5 +173,4 @@ module _ {O B : Type 0} (c : Program O B) (p : Ptr Operation) (o : OperationReco
         blocks = λ r. refl;
         regions = λ r. refl;
         erased = record { operations = λ r s. s; blocks = λ r s. s; regions = λ r s. s };
-        room = record { operations = λ s. s; blocks = λ s. s; regions = λ s. s };
       }

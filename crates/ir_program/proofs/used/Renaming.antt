@@ -105,7 +105,6 @@ module _ {O B : Type 0} (c : Program O B) (inv : IsProgram c) where
       blocks = λ q. refl;
       regions = λ q. refl;
       erased = record { operations = λ q s. s; blocks = λ q s. s; regions = λ q s. s };
-      room = record { operations = λ s. s; blocks = λ s. s; regions = λ s. s };
     }
 
   -- other names of blocks
@@ -129,7 +128,6 @@ module _ {O B : Type 0} (c : Program O B) (inv : IsProgram c) where
       blocks = λ q. refl;
       regions = λ q. refl;
       erased = record { operations = λ q s. s; blocks = λ q s. s; regions = λ q s. s };
-      room = record { operations = λ s. s; blocks = λ s. s; regions = λ s. s };
     }
 
 -- of a program as it stands and as it was seen
@@ -249,7 +247,6 @@ module _ {O B : Type 0} (c d : Program O B) (view : c ≡ d) (inv : IsProgram c)
           blocks = λ r. refl;
           regions = λ r. refl;
           erased = record { operations = λ r s. s; blocks = λ r s. s; regions = λ r s. s };
-          room = record { operations = λ s. s; blocks = λ s. s; regions = λ s. s };
         }
 
     pub edge-seen : EditsOperation d (record c { targets = w }) p (λ x. record x { successors = set x.successors k b })

@@ -14,7 +14,7 @@ use Rattle.ir_program.specs.declared.handles.Operation.{Operation}
 use Rattle.ir_program.specs.declared.handles.Use.{Use}
 use Rattle.ir_program.proofs.made.Lent.{same_key}
 use Rattle.ir_program.proofs.made.Frames.{same_handle, same_or_not}
-use Rattle.ir_program.proofs.made.AddSteps.{kept-erased, erased-then, kept-room, room-then}
+use Rattle.ir_program.proofs.made.AddSteps.{kept-erased, erased-then}
 
 both : (a b : Bool) → a ≡ true → b ≡ true → (a && b) ≡ true
 both true b e f = f
@@ -105,7 +105,7 @@ module _ {O K : Type 0} (row : OperationView O → List K) (with_row : Operation
     rows_of c p = unwrap_or (option_map row (operation_at c p)) []
 
     pub edits-none : (c : Program O B) (chosen : Use K → Bool) → ((u : Use K) → chosen u ≡ false) → EditsOperations c c (with_other chosen)
-    edits-none c chosen none = record { edited = λ q. by q (operation_at c q); blocks = λ q. refl; regions = λ q. refl; erased = kept-erased c; room = kept-room c }
+    edits-none c chosen none = record { edited = λ q. by q (operation_at c q); blocks = λ q. refl; regions = λ q. refl; erased = kept-erased c }
       where
         by : (q : Ptr Operation) (x : Option (OperationView O)) → x ≡ option_map (with_other chosen q) x
         by q None = refl
@@ -130,7 +130,6 @@ module _ {O K : Type 0} (row : OperationView O → List K) (with_row : Operation
       blocks = λ q. second.blocks q ∙ first.blocks q;
       regions = λ q. second.regions q ∙ first.regions q;
       erased = erased-then a b c first.erased second.erased;
-      room = room-then a b c first.room second.room;
     }
       where
         here : (x : Option (OperationView O)) → slice_get (unwrap_or (option_map row x) []) w.index ≡ Some w.def

@@ -1,5 +1,5 @@
 use Rattle.std.proofs.Common.{[], refl}
-use Rattle.ir_edits.proofs.Makings.{named_each, built_of, back_still}
+use Rattle.ir_edits.proofs.Makings.{named_each, built_of, same_still}
 use Rattle.ir_edits.specs.Naming.{value_named, block_named}
 use Rattle.ir_program.specs.Program.{block_at, IsLiveValue}
 use Rattle.std.proofs.Common.{IsSome, ap, slice_get, Err, ◌∙◌, sym}
@@ -20,7 +20,7 @@ new-requires-clause-successors g c = λ k b at.
 pub returns-in_default-blocks : goal.returns-in_default-blocks
 returns-in_default-blocks g c = (
   ((c.are_known.ensures.0 c.if-not-are_known.false, c.name_live_values.ensures.0 c.if-not-name_live_values.false, c.name_live_blocks.ensures.0 c.if-not-name_live_blocks.false), tt),
-  back_still c.args.ctx.now,
+  same_still c.args.ctx.now,
 )
 
 pub returns-in-Ok-new : goal.returns-in-Ok-new

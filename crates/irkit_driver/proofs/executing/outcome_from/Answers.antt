@@ -6,7 +6,7 @@ pub returns-in_err-root : goal.returns-in_err-root
 returns-in_err-root g c =
     not_loaded g.R.Read.remaining c.args.reader.now c.load.new.reader c.args.path.now c.args.arguments.now c.args.limit c.in_err-root.field-0.0 c.from_residual.result c.from_residual.ensures.1
     (unloaded g.R.Read.remaining c.args.reader.now c.load.new.reader c.args.ctx.now c.load.new.ctx c.load.result c.in_err-root.field-0.0 c.in_err-root.was c.load.ensures.ends
-    c.requires.room c.requires.counter)
+    c.requires.counter)
 
 pub outcome_in-requires-clause-live : goal.outcome_in-requires-clause-live
 outcome_in-requires-clause-live g c = c.in_ok-root.ensures.ends.2.holds.live

@@ -4,6 +4,7 @@ use Rattle.kit_checks.specs.Faults.{IsVerdict}
 use Rattle.kit_checks.specs.World.{world_of}
 use Rattle.kit_language.specs.Language.{kit_language}
 use Rattle.text_building.proofs.Discarded.{used_since}
+use Rattle.text_building.proofs.Numbers.{erased_both}
 use Rattle.text_dialect.specs.Seen.{seen}
 use Rattle.irkit_driver.proofs.ReadLemmas.{undecoded, misread, misruled, accepted, said, root_there, seen_there}
 use Rattle.irkit_driver.proofs.loading.understand.Goals as goal
@@ -72,3 +73,6 @@ pub returns-clause-grammar : goal.returns-clause-grammar
 returns-clause-grammar c =
     let reading = c.in_ok-root.ensures.read.tells.said.8.reads in
     (reading.0, reading.1)
+
+pub returns-in-Err-clause-erased : goal.returns-in-Err-clause-erased
+returns-in-Err-clause-erased c = erased_both _ _ _ c.top_level_parse.ensures.erased c.discard.ensures.erased

@@ -10,7 +10,7 @@ returns-in_err-root g c =
     c.from_residual.ensures.1
     (unloaded_run remaining c.args.reader.now c.load.new.reader c.args.passes.now c.in_err-root.field-0.0
     (unloaded remaining c.args.reader.now c.load.new.reader c.args.ctx.now c.load.new.ctx c.load.result c.in_err-root.field-0.0
-    c.in_err-root.was c.load.ensures.ends c.requires.room c.requires.counter))
+    c.in_err-root.was c.load.ensures.ends c.requires.counter))
 
 pub optimised_text-requires-clause-holds : goal.optimised_text-requires-clause-holds
 optimised_text-requires-clause-holds g c = c.in_ok-root.ensures.ends.2.holds
@@ -26,8 +26,8 @@ returns-in_err-text g c =
     let ends = c.in_ok-root.ensures.ends in
     untexted g.R.Read.remaining c.args.reader.now c.load.new.reader c.args.passes.now string_bytes (of_grow_error c.in_err-text.field-0.0)
     c.from_residual-in_err-text.result c.from_residual-in_err-text.ensures.1
-    (unpassed g.R.Read.remaining c.args.reader.now c.load.new.reader string_bytes c.args.passes.now c.load.new.ctx c.in_ok-root.root ends.0
-    c.optimised_text.result c.in_err-text.field-0.0 c.in_err-text.was ends.1 ends.2.accepted c.optimised_text.ensures)
+    (unpassed g.R.Read.remaining c.args.reader.now c.load.new.reader string_bytes c.args.passes.now c.args.ctx.now c.load.new.ctx c.in_ok-root.root
+    ends.0 c.optimised_text.result c.in_err-text.field-0.0 c.in_err-text.was ends.1 ends.2 c.requires.counter c.optimised_text.ensures)
 
 pub returns : goal.returns
 returns g c =

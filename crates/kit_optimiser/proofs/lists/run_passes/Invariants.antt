@@ -1,7 +1,10 @@
 -- The passes before the index are run.
 use Rattle.std.proofs.Common.{map, take}
-use Rattle.kit_optimiser.specs.Passed.{IsOptimised, pass_of}
+use Rattle.kit_optimiser.specs.Passed.{IsOptimised, Runs, pass_of}
 use Rattle.kit_optimiser.proofs.lists.run_passes.Given as goal
 
 abbrev pub invariant-loop-pass : goal.invariant-loop-pass
-invariant-loop-pass l = IsOptimised (map pass_of (take l.pass-index l.passes)) l.fn.ctx l.ctx l.root
+invariant-loop-pass l = record {
+  optimised : IsOptimised (map pass_of (take l.pass-index l.passes)) l.fn.ctx l.ctx l.root;
+  runs : Runs (map pass_of (take l.pass-index l.passes)) l.fn.ctx l.ctx l.root;
+}

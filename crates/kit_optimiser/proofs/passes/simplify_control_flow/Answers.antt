@@ -1,10 +1,9 @@
-use Rattle.std.proofs.Common.{◌≡◌, Err, ap, ◌∙◌, subst}
-use Rattle.ir_base.specs.declared.growth.GrowError.TheVariants.{CounterFull}
+use Rattle.std.proofs.Common.{inl, subst}
 use Rattle.ir_program.specs.Program.{Program}
 use Rattle.ir_trees.specs.Stands.{StandsFor}
 use Rattle.kit.specs.Meaning.{KitOperation, KitBlock}
 use Rattle.kit_ruled_views.specs.Ruled.{KitTree}
-use Rattle.kit_optimiser.proofs.Refusals.{stops_short, full_of}
+use Rattle.kit_optimiser.proofs.Refusals.{memory_of, stops_for_memory}
 use Rattle.kit_optimiser.proofs.WhatPassesLeave.{IsLeft, live, simplified}
 use Rattle.kit_optimiser.proofs.passes.simplify_control_flow.Goals as goal
 
@@ -23,8 +22,8 @@ pub shortage_of-requires : goal.shortage_of-requires
 shortage_of-requires c =
     let old = c.args.ctx.now in
     let new = c.simplify_cfg.new.ctx in
-    stops_short old.program new.program c.args.root c.in-Err.error c.in-Err.ensures.error
-    (c.know_no_live_use.ensures new.program)
+    inl (stops_for_memory old.program new.program c.args.root c.in-Err.error c.in-Err.ensures.error
+    (c.know_no_live_use.ensures new.program))
 
 pub returns-in-Ok-clause-passed : goal.returns-in-Ok-clause-passed
 returns-in-Ok-clause-passed c =
@@ -46,8 +45,10 @@ returns-in-Ok-clause-passed c =
     (λ t stands. c.simplified_stand_alone.ensures old.program new.program root t
     (λ w says. c.know_surroundings.ensures.constants w says t stands) (c.in-Ok.ensures.tree t stands))
 
-pub returns-in-Err-clause-full : goal.returns-in-Err-clause-full
-returns-in-Err-clause-full c = λ is.
-    let grown : c.shortage_of.result ≡ CounterFull = cc in
-    c.simplify_cfg.ensures.full
-    (c.in-Err.is ∙ ap (λ x. Err x) (full_of c.in-Err.error c.shortage_of.result c.shortage_of.ensures grown))
+pub returns-in-Err-clause-memory : goal.returns-in-Err-clause-memory
+returns-in-Err-clause-memory c =
+    let old = c.args.ctx.now in
+    let new = c.simplify_cfg.new.ctx in
+    memory_of c.in-Err.error c.shortage_of.result c.shortage_of.ensures
+    (stops_for_memory old.program new.program c.args.root c.in-Err.error c.in-Err.ensures.error
+    (c.know_no_live_use.ensures new.program))

@@ -12,7 +12,7 @@ abbrev no_join : Join
 no_join = record { first = no_handle; branch = no_handle; block = no_handle }
 
 pub loop-join-init : goal.loop-join-init
-loop-join-init g c = record { joined = none_joined c.args.ctx.now.program; types = refl }
+loop-join-init g c = record { joined = none_joined c.args.ctx.now.program; types = refl; numbers = refl }
 
 pub join_blocks-requires : goal.join_blocks-requires
 join_blocks-requires g c =
@@ -29,4 +29,5 @@ loop-join-preserved g c =
       joined = subst (HasJoined c.args.ctx.now.program c.join_blocks.new.ctx.program) (sym (take_more c.args.joins.now c.loop-join.join-index _ here))
           (one_more c.args.ctx.now.program c.loop-join.ctx.program now (take c.loop-join.join-index c.args.joins.now) _ (c.requires.can c.loop-join.join-index _ here) c.loop-join.invariant.joined c.join_blocks.new.ctx.program c.join_blocks.ensures.joined);
       types = c.join_blocks.ensures.types ∙ c.loop-join.invariant.types;
+      numbers = c.join_blocks.ensures.numbers ∙ c.loop-join.invariant.numbers;
     }

@@ -20,4 +20,5 @@ loop-a-preserved g c =
       lost = lost_next g.D.Meanings.meaning c.args.ctx.now.program c.loop-a.ctx.program c.args.dead.now c.requires.once c.loop-a.a-index c.a-item.result here c.loop-a.invariant.lost
           c.lose_arguments.new.ctx.program c.lose_arguments.ensures.lost;
       types = c.lose_arguments.ensures.types ∙ c.loop-a.invariant.types;
+      numbers = c.lose_arguments.ensures.numbers ∙ c.loop-a.invariant.numbers;
     }

@@ -7,7 +7,7 @@ use Rattle.opt_dce.proofs.Picking.{is_marked}
 use Rattle.opt_dce.proofs.arguments.remove_arguments.Goals as goal
 
 pub loop-i-init : goal.loop-i-init
-loop-i-init g c = record { removed = begins c.args.ctx.now.program c.args.block c.args.marks.now c.requires.count; types = refl }
+loop-i-init g c = record { removed = begins c.args.ctx.now.program c.args.block c.args.marks.now c.requires.count; types = refl; numbers = refl }
 
 pub remove_argument-requires-clause-block : goal.remove_argument-requires-clause-block
 remove_argument-requires-clause-block g c =
@@ -28,6 +28,7 @@ loop-i-preserved-then-marks-i g c = record {
   removed = one_goes c.args.ctx.now.program c.loop-i.ctx.program c.args.block c.args.marks.now (c.loop-i.i - 1) c.loop-i.i (omega arith) c.loop-i.invariant.removed
       c.remove_argument.new.ctx.program (unwrap_or-slice_get c.args.marks.now (c.loop-i.i - 1) false ∙ c.if-marks-i.true) c.remove_argument.ensures.removed;
   types = c.remove_argument.ensures.types ∙ c.loop-i.invariant.types;
+  numbers = c.remove_argument.ensures.counter ∙ c.loop-i.invariant.numbers;
 }
 
 pub loop-i-preserved : goal.loop-i-preserved
@@ -35,4 +36,5 @@ loop-i-preserved g c = record {
   removed = one_stays c.args.ctx.now.program c.loop-i.ctx.program c.args.block c.args.marks.now (c.loop-i.i - 1) c.loop-i.i (omega arith) c.loop-i.invariant.removed
       (unwrap_or-slice_get c.args.marks.now (c.loop-i.i - 1) false ∙ c.if-marks-i.false);
   types = c.loop-i.invariant.types;
+  numbers = c.loop-i.invariant.numbers;
 }

@@ -6,7 +6,7 @@ use Rattle.opt_dce.proofs.Detached.{none_detached, linked_now, detached_next}
 use Rattle.opt_dce.proofs.erasing.detach_all.Goals as goal
 
 pub loop-op-init : goal.loop-op-init
-loop-op-init g c = record { detached = none_detached c.args.ctx.now.program; types = refl }
+loop-op-init g c = record { detached = none_detached c.args.ctx.now.program; types = refl; numbers = refl }
 
 pub unlink-requires : goal.unlink-requires
 unlink-requires g c =
@@ -22,4 +22,5 @@ loop-op-preserved g c =
           (linked_now c.args.ctx.now.program c.loop-op.ctx.program c.args.ops.now c.requires.once c.loop-op.op-index _ (slice_get-get_or c.args.ops.now c.loop-op.op-index no_handle (omega arith)) c.loop-op.invariant.detached c.requires.linked)
           c.unlink.ensures.edited;
       types = c.unlink.ensures.types ∙ c.loop-op.invariant.types;
+      numbers = c.unlink.ensures.values.counter ∙ c.loop-op.invariant.numbers;
     }

@@ -14,11 +14,12 @@ drop_all_uses-requires g c =
     live_now c.args.ctx.now.program c.loop-op.ctx.program c.args.ops.now c.loop-op.op-index _ (slice_get-get_or c.args.ops.now c.loop-op.op-index no_handle (omega arith)) c.loop-op.invariant.dropped c.requires
 
 pub loop-op-init : goal.loop-op-init
-loop-op-init g c = record { dropped = none_dropped c.args.ctx.now.program; types = refl }
+loop-op-init g c = record { dropped = none_dropped c.args.ctx.now.program; types = refl; numbers = refl }
 
 pub loop-op-preserved : goal.loop-op-preserved
 loop-op-preserved g c = record {
   dropped = dropped_next c.args.ctx.now.program c.loop-op.ctx.program c.args.ops.now c.loop-op.op-index _ (slice_get-get_or c.args.ops.now c.loop-op.op-index no_handle (omega arith)) c.loop-op.invariant.dropped
       c.drop_all_uses.new.ctx.program (subst (λ p. DecidesInside p (get_or c.args.ops.now c.loop-op.op-index no_handle)) c.program.ensures c.know_inside.ensures) c.drop_all_uses.ensures.dropped;
   types = c.drop_all_uses.ensures.types ∙ c.loop-op.invariant.types;
+  numbers = c.drop_all_uses.ensures.dropped.counter ∙ c.loop-op.invariant.numbers;
 }

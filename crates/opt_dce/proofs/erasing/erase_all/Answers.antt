@@ -6,7 +6,7 @@ use Rattle.opt_dce.proofs.Erased.{none_erased, apart_now, erased_next}
 use Rattle.opt_dce.proofs.erasing.erase_all.Goals as goal
 
 pub loop-op-init : goal.loop-op-init
-loop-op-init g c = record { erased = none_erased c.args.ctx.now.program; types = refl }
+loop-op-init g c = record { erased = none_erased c.args.ctx.now.program; types = refl; numbers = refl }
 
 pub erase_one-requires : goal.erase_one-requires
 erase_one-requires g c live =
@@ -24,4 +24,5 @@ loop-op-preserved g c =
       erased = erased_next c.args.ctx.now.program c.loop-op.ctx.program first c.args.ops.now c.loop-op.op-index _ (slice_get-get_or c.args.ops.now c.loop-op.op-index no_handle (omega arith)) c.loop-op.invariant.erased
           now c.erase_one.new.ctx.program c.requires.there c.erase_one.ensures.erased;
       types = c.erase_one.ensures.types ∙ c.loop-op.invariant.types;
+      numbers = c.erase_one.ensures.numbers ∙ c.loop-op.invariant.numbers;
     }

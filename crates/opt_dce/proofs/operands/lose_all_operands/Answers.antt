@@ -20,4 +20,5 @@ loop-l-preserved g c =
       lost = lost_next g.D.Meanings.meaning c.args.ctx.now.program c.loop-l.ctx.program c.args.lost.now c.requires.once c.loop-l.l-index c.l-item.result here c.loop-l.invariant.lost
           c.lose_operands.new.ctx.program c.lose_operands.ensures.lost;
       types = c.lose_operands.ensures.types ∙ c.loop-l.invariant.types;
+      numbers = c.lose_operands.ensures.numbers ∙ c.loop-l.invariant.numbers;
     }

@@ -1,9 +1,7 @@
-use Rattle.std.proofs.Common.{◌≡◌, Err, Some, take, get_or, slice_get, refl, sym, ap, ◌∙◌, subst, arith}
-use Rattle.std.proofs.lemmas.Result.{err_from_is_err_and}
+use Rattle.std.proofs.Common.{◌≡◌, Some, take, get_or, slice_get, refl, sym, ◌∙◌, subst, arith}
 use Rattle.std.proofs.lemmas.Option.{slice_get-get_or}
 use Rattle.ir_program.specs.Program.{no_handle}
 use Rattle.ir_program.proofs.made.Frames.{on_err}
-use Rattle.opt_dialect.specs.declared.status.OptError.TheVariants.{CounterFull}
 use Rattle.opt_decide.specs.Phase.{HasDecided}
 use Rattle.opt_decide.specs.declared.plan.Decision.{Decision}
 use Rattle.opt_decide.proofs.Carried.{none_decided, none_taken, carried_alike, linked_yet, results_yet, regions_yet, bare, next_decided}
@@ -17,6 +15,7 @@ pub loop-decision-init : goal.loop-decision-init
 loop-decision-init g c = record {
   decided = subst (HasDecided g.D.Meanings.meaning c.args.ctx.now.program c.args.ctx.now.program) (sym (none_taken c.args.decisions.now)) (none_decided g.D.Meanings.meaning c.args.ctx.now.program);
   types = refl;
+  numbers = refl;
 }
 
 pub decide_branch-requires : goal.decide_branch-requires
@@ -43,6 +42,7 @@ loop-decision-preserved g c =
       decided = next_decided g.D.Meanings.meaning c.args.ctx.now.program c.args._op c.args.decisions.now c.requires c.loop-decision.ctx.program n x at c.loop-decision.invariant.decided
           c.decide_branch.new.ctx.program c.in_ok-decide_branch.field-0 c.in_ok-decide_branch.ensures.decided;
       types = c.decide_branch.ensures.types ∙ c.loop-decision.invariant.types;
+      numbers = c.decide_branch.ensures.numbers ∙ c.loop-decision.invariant.numbers;
     }
 
 pub returns-in_err-decide_branch-clause-part : goal.returns-in_err-decide_branch-clause-part
@@ -53,13 +53,3 @@ returns-in_err-decide_branch-clause-part g c = on_err c.from_residual.result (
 
 pub returns-clause-done : goal.returns-clause-done
 returns-clause-done g c = subst (HasDecided g.D.Meanings.meaning c.args.ctx.now.program c.loop-decision.ctx.program) (take_all c.args.decisions.now c.loop-decision.decision-index (omega arith)) c.loop-decision.invariant.decided
-
-pub returns-in_err-decide_branch-clause-full : goal.returns-in_err-decide_branch-clause-full
-returns-in_err-decide_branch-clause-full g c = λ e.
-    let p = err_from_is_err_and c.from_residual.result c.from_residual.ensures.1 in
-    let same : Err p.0 ≡ Err CounterFull = sym p.1 ∙ e in
-    let inner : p.0 ≡ CounterFull = cc in (
-      c.loop-decision.ctx.program,
-      (c.loop-decision.decision-index, c.loop-decision.invariant.decided),
-      c.in_err-decide_branch.ensures.full (ap (λ x. Err x) (sym p.2 ∙ inner)),
-    )

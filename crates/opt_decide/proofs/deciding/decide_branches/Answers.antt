@@ -1,10 +1,8 @@
-use Rattle.std.proofs.Common.{◌≡◌, Err, IsSome, refl, sym, ap, ◌∙◌, subst}
-use Rattle.std.proofs.lemmas.Result.{err_from_is_err_and}
+use Rattle.std.proofs.Common.{IsSome, refl, sym, ◌∙◌, subst}
 use Rattle.std.proofs.lemmas.Bool.{eqb-true}
 use Rattle.ir_program.specs.Program.{operation_at}
 use Rattle.ir_program.proofs.made.Frames.{on_err}
 use Rattle.opt_inside.proofs.Around.{HasLists}
-use Rattle.opt_dialect.specs.declared.status.OptError.TheVariants.{CounterFull}
 use Rattle.opt_decide.specs.Phase.{HasDecided, HasDecidedSome}
 use Rattle.opt_decide.specs.Planned.{AreDecisions}
 use Rattle.opt_decide.proofs.Carried.{none_decided, empty_list, no_empty}
@@ -44,8 +42,8 @@ returns-then-is_empty g c =
       carried = nothing_carried d p op ds ground.lists are empty;
       unchanged = λ e. refl;
       error = record {};
-      full = λ e. absurd (cc);
       types = refl;
+      numbers = refl;
     }
 
 pub carry_out-requires : goal.carry_out-requires
@@ -60,21 +58,6 @@ returns-in_err-carry_out-clause-part g c =
     on_err c.from_residual-in_err-carry_out.result (part_done d p c.carry_out.new.ctx.program c.args.op c.in_ok-decisions.decisions.items
     (subst (λ z. AreDecisions d z c.args.op c.in_ok-decisions.decisions.items) c.program-program.ensures c.in_ok-decisions.ensures)
     (subst (HasDecidedSome d p c.carry_out.new.ctx.program) c.deref.ensures.value c.in_err-carry_out.ensures.part))
-
-pub returns-in_err-carry_out-clause-full : goal.returns-in_err-carry_out-clause-full
-returns-in_err-carry_out-clause-full g c = λ e.
-    let d = g.D.Meanings.meaning in
-    let p = c.args.ctx.now.program in
-    let q = err_from_is_err_and c.from_residual-in_err-carry_out.result c.from_residual-in_err-carry_out.ensures.1 in
-    let same : Err q.0 ≡ Err CounterFull = sym q.1 ∙ e in
-    let inner : q.0 ≡ CounterFull = cc in
-    let full = c.in_err-carry_out.ensures.full (ap (λ x. Err x) (sym q.2 ∙ inner)) in (
-      full.0,
-      part_done d p full.0 c.args.op c.in_ok-decisions.decisions.items
-          (subst (λ z. AreDecisions d z c.args.op c.in_ok-decisions.decisions.items) c.program-program.ensures c.in_ok-decisions.ensures)
-          (subst (HasDecidedSome d p full.0) c.deref.ensures.value full.1),
-      full.2,
-    )
 
 pub returns : goal.returns
 returns g c =
@@ -106,6 +89,6 @@ returns g c =
       carried = all_carried d p q op ds ground.lists are some has;
       unchanged = λ e. absurd (cc);
       error = record {};
-      full = λ e. absurd (cc);
       types = c.carry_out.ensures.types;
+      numbers = c.carry_out.ensures.numbers;
     }

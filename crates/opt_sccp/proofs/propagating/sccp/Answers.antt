@@ -1,7 +1,7 @@
 -- What was decided is put in, if it is anything.
 use Rattle.std.proofs.lemmas.Result.{err_from_is_err_and}
 use Rattle.opt_dialect.specs.declared.status.OptError.TheVariants.{CounterFull}
-use Rattle.std.proofs.Common.{◌≡◌, Err, [], sym, ap, ◌∙◌, subst}
+use Rattle.std.proofs.Common.{◌≡◌, ◌≤◌, ◌+◌, ◌^◌, Err, [], length, refl, sym, ap, ◌∙◌, subst, add-zero}
 use Rattle.std.specs.Prelude.{nat_eq}
 use Rattle.ir_context.specs.Known.{HasKnownTypes}
 use Rattle.ir_program.specs.Adds.{SomeCame}
@@ -37,12 +37,30 @@ returns-in_err-put_constants-clause-full g c = λ e.
     let same : Err p.0 ≡ Err CounterFull = sym p.1 ∙ e in
     let inner : p.0 ≡ CounterFull = cc in
     let full = c.in_err-put_constants.ensures.full (ap (λ x. Err x) (sym p.2 ∙ inner)) in (
-      full.0,
-      part_in g.D.Meanings.meaning c.args.ctx.now.program c.args.op full.0 c.in_ok-made.made.items
-          (subst (λ p. IsDecided g.D.Meanings.meaning p c.args.op c.in_ok-made.made.items) c.program-2.ensures c.in_ok-made.ensures.decided)
-          (subst (λ ms. SomeCame ms (PutsList g.D.Meanings.meaning c.args.ctx.now.program full.0 c.args.op)) c.deref.ensures.value full.1),
-      full.2,
+      c.args.ctx.now.program.counter + length c.in_ok-made.made.items,
+      record {
+        made = c.in_ok-made.made.items;
+        decided = subst (λ p. IsDecided g.D.Meanings.meaning p c.args.op c.in_ok-made.made.items) c.program-2.ensures c.in_ok-made.ensures.decided;
+        sum = refl;
+      },
+      subst (λ ms. 2 ^ 64 ≤ c.args.ctx.now.program.counter + length ms) c.deref.ensures.value full,
     )
+
+pub returns-then-is_empty-clause-numbers : goal.returns-then-is_empty-clause-numbers
+returns-then-is_empty-clause-numbers g c =
+    let none = empty_is c.in_ok-made.made.items (ap (λ n. nat_eq n 0) (sym c.in_ok-made.made.ok.0) ∙ sym c.is_empty.ensures ∙ c.if-is_empty.true) in
+    record {
+      made = c.in_ok-made.made.items;
+      decided = subst (λ p. IsDecided g.D.Meanings.meaning p c.args.op c.in_ok-made.made.items) c.program-2.ensures c.in_ok-made.ensures.decided;
+      sum = rw none (sym (add-zero _));
+    }
+
+pub returns-clause-numbers : goal.returns-clause-numbers
+returns-clause-numbers g c = record {
+  made = c.in_ok-made.made.items;
+  decided = subst (λ p. IsDecided g.D.Meanings.meaning p c.args.op c.in_ok-made.made.items) c.program-2.ensures c.in_ok-made.ensures.decided;
+  sum = c.in_ok-put_constants.ensures.numbers ∙ ap (λ ms. c.args.ctx.now.program.counter + length ms) c.deref.ensures.value;
+}
 
 pub returns-clause-propagates : goal.returns-clause-propagates
 returns-clause-propagates g c = changed_in g.D.Meanings.meaning c.args.ctx.now.program c.args.op c.put_constants.new.ctx.program c.in_ok-made.made.items

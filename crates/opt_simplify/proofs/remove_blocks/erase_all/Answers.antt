@@ -7,7 +7,7 @@ use Rattle.opt_simplify.proofs.RemovedErased.{none_erased, apart_now, still_ther
 use Rattle.opt_simplify.proofs.remove_blocks.erase_all.Goals as goal
 
 pub loop-block-init : goal.loop-block-init
-loop-block-init g c = record { erased = none_erased c.args.ctx.now.program; types = refl }
+loop-block-init g c = record { erased = none_erased c.args.ctx.now.program; types = refl; numbers = refl }
 
 pub know_inside-requires : goal.know_inside-requires
 know_inside-requires g c =
@@ -40,4 +40,5 @@ loop-block-preserved g c =
           (still_there c.args.ctx.now.program c.loop-block.ctx.program first c.args.blocks.now c.loop-block.block-index _ (slice_get-get_or c.args.blocks.now c.loop-block.block-index no_handle (omega arith)) c.loop-block.invariant.erased c.requires.once c.requires.apart c.requires.there)
           (subst (λ p. DecidesInside p (get_or c.args.blocks.now c.loop-block.block-index no_handle)) c.program-in-loop-block-2.ensures c.know_inside.ensures) c.erase.ensures.erased;
       types = c.erase.ensures.types ∙ c.loop-block.invariant.types;
+      numbers = c.erase.ensures.erased.counter ∙ c.loop-block.invariant.numbers;
     }

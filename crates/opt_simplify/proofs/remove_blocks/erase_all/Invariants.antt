@@ -5,4 +5,4 @@ use Rattle.opt_simplify.proofs.remove_blocks.erase_all.Given as goal
 
 -- the operations up to here are erased
 abbrev pub invariant-loop-block : goal.invariant-loop-block
-invariant-loop-block g l = record { erased : ErasesPicked l.fn.ctx.program l.ctx.program (is_listed (take l.block-index l.blocks)); types : l.ctx.types ≡ l.fn.ctx.types }
+invariant-loop-block g l = record { erased : ErasesPicked l.fn.ctx.program l.ctx.program (is_listed (take l.block-index l.blocks)); types : l.ctx.types ≡ l.fn.ctx.types; numbers : l.ctx.program.counter ≡ l.fn.ctx.program.counter }

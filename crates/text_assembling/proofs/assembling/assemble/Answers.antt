@@ -9,7 +9,7 @@ use Rattle.text_frames.proofs.Rising.{get_there}
 use Rattle.text_assembling.specs.Assembling.{stage}
 use Rattle.text_assembling.specs.declared.assembling.Assembler.{Assembler}
 use Rattle.text_assembling.proofs.Gathering.{Gathers, errors_same, gathers_can, gathers_first, gathers_full, gathers_last, gathers_next, gathers_refused, gathers_sound, rest_at, took_so}
-use Rattle.text_assembling.proofs.Undone.{erased_same, err_at, full_before, held_undone, ok_unless, room_both, room_so}
+use Rattle.text_assembling.proofs.Undone.{erased_same, err_at, held_undone, ok_unless}
 use Rattle.text_assembling.proofs.assembling.assemble.Goals as goal
 
 pub loop-index-init : goal.loop-index-init
@@ -18,7 +18,6 @@ loop-index-init g c = record {
   gathers = gathers_first g.D.TextDialect.says g.D.TextDialect.values (token_text c.args.source.chars.now c.args.source.tokens.now) (stage c.args.ctx.now) c.new-assembler.result c.args.events.now
       c.new-assembler.ensures c.know_seen.ensures.named c.requires.nests c.requires.spelt;
   erased = erased_same _ _ refl;
-  room = room_so _ _ refl;
 }
 
 pub take-requires-clause-going : goal.take-requires-clause-going
@@ -42,7 +41,6 @@ loop-index-preserved g c =
           (λ x at. let w = c.take.ensures.did x at in (w.0, (ok_unless c.take.result c.in_default.not-Err w.1).steps))
           now.gathers;
       erased = erased_both _ _ _ now.erased c.take.ensures.erased;
-      room = room_both _ _ _ now.room (ok_unless c.take.result c.in_default.not-Err c.take.ensures.room);
     }
 
 pub discard-requires-clause-loose : goal.discard-requires-clause-loose
@@ -77,8 +75,7 @@ returns-in-Err-clause-full g c e =
     let i = c.loop-index.index in
     let text = token_text c.args.source.chars.now c.args.source.tokens.now in
     let wrong = c.take.ensures.full (c.in-Err.is ∙ ap Err (errors_same e)) in
-    gathers_full g.D.TextDialect.says g.D.TextDialect.values text (seen c.args.ctx.now) c.args.ctx.now.program.counter (stage c.loop-index.ctx) c.loop-index.assembler es (drop (i + 1) es) wrong.0 (rest_at g.D.TextDialect.says g.D.TextDialect.values text (seen c.args.ctx.now) c.args.ctx.now.program.counter (stage c.loop-index.ctx) c.loop-index.assembler es i (Did wrong.0) wrong.1 c.loop-index.invariant.gathers) _ _ _
-    (λ so_far next at goes. full_before c.args.ctx.now.program c.loop-index.ctx.program _ c.loop-index.invariant.room (wrong.2.fills so_far next at goes))
+    gathers_full g.D.TextDialect.says g.D.TextDialect.values text (seen c.args.ctx.now) c.args.ctx.now.program.counter (stage c.loop-index.ctx) c.loop-index.assembler es (drop (i + 1) es) wrong.0 (rest_at g.D.TextDialect.says g.D.TextDialect.values text (seen c.args.ctx.now) c.args.ctx.now.program.counter (stage c.loop-index.ctx) c.loop-index.assembler es i (Did wrong.0) wrong.1 c.loop-index.invariant.gathers) wrong.2.fills
 
 pub returns-in-Err-clause-erased : goal.returns-in-Err-clause-erased
 returns-in-Err-clause-erased g c =

@@ -44,6 +44,6 @@ loop-block-preserved g c =
           (fills_both (seen c.args.ctx.now) (seen c.loop-block.ctx) (seen c.insert_at_back.new.ctx) c.args.region (take c.loop-block.block-index c.args.blocks.now) (b ∷ []) c.loop-block.invariant.filled
           (put_fills c.loop-block.ctx c.insert_at_back.new.ctx c.insert_at_back.ensures.types c.args.region b c.insert_at_back.ensures.edited));
       numbers = gives_still c.args.ctx.now.program c.loop-block.ctx.program c.insert_at_back.new.ctx.program 0 c.loop-block.invariant.numbers
-          (gives_nothing c.loop-block.ctx.program c.insert_at_back.new.ctx.program c.insert_at_back.ensures.values.counter c.insert_at_back.ensures.edited.room c.insert_at_back.ensures.edited.erased);
+          (gives_nothing c.loop-block.ctx.program c.insert_at_back.new.ctx.program c.insert_at_back.ensures.values.counter c.insert_at_back.ensures.edited.erased);
       types = c.insert_at_back.ensures.types ∙ c.loop-block.invariant.types;
     }

@@ -36,7 +36,7 @@ returns-in_err-push_operand-clause-err g c =
 pub returns-in_err-push_operand-clause-numbers : goal.returns-in_err-push_operand-clause-numbers
 returns-in_err-push_operand-clause-numbers g c =
     gives_still c.args.ctx.now.program c.loop-value.ctx.program c.push_operand.new.ctx.program 0 c.loop-value.invariant.numbers
-    (gives_nothing c.loop-value.ctx.program c.push_operand.new.ctx.program c.in_err-push_operand.ensures.err.counter c.in_err-push_operand.ensures.err.room c.in_err-push_operand.ensures.err.erased)
+    (gives_nothing c.loop-value.ctx.program c.push_operand.new.ctx.program c.in_err-push_operand.ensures.err.counter c.in_err-push_operand.ensures.err.erased)
 
 pub loop-value-preserved : goal.loop-value-preserved
 unfolding none
@@ -52,6 +52,6 @@ loop-value-preserved g c =
           (push_links c.loop-value.ctx c.push_operand.new.ctx c.push_operand.ensures.types c.args.op v c.in_ok-push_operand.ensures.pushed));
       live = still_live c.loop-value.ctx c.push_operand.new.ctx c.push_operand.ensures.values c.args.values.now c.loop-value.invariant.live;
       numbers = gives_still c.args.ctx.now.program c.loop-value.ctx.program c.push_operand.new.ctx.program 0 c.loop-value.invariant.numbers
-          (gives_nothing c.loop-value.ctx.program c.push_operand.new.ctx.program c.push_operand.ensures.values.counter c.in_ok-push_operand.ensures.pushed.room c.in_ok-push_operand.ensures.pushed.erased);
+          (gives_nothing c.loop-value.ctx.program c.push_operand.new.ctx.program c.push_operand.ensures.values.counter c.in_ok-push_operand.ensures.pushed.erased);
       types = c.push_operand.ensures.types ∙ c.loop-value.invariant.types;
     }

@@ -2,6 +2,7 @@ use Rattle.std.proofs.Common.{sym, subst}
 use Rattle.text_dialect.specs.Seen.{seen}
 use Rattle.text_building.specs.Inside.{AreLoose, AreUsedInside, CameSince}
 use Rattle.text_building.proofs.Discarded.{used_since}
+use Rattle.text_building.proofs.Numbers.{erased_both}
 use Rattle.text_reading.proofs.reading.connect.Goals as goal
 
 pub discard-requires-clause-loose : goal.discard-requires-clause-loose
@@ -25,3 +26,6 @@ returns-then-is_err-clause-undone g c = λ start mentions waiting holds.
 pub returns-clause-held : goal.returns-clause-held
 returns-clause-held g c = λ start mentions waiting holds.
     c.link.ensures.held start mentions c.args.assembly.now.loose.items waiting holds
+
+pub returns-then-is_err-clause-erased : goal.returns-then-is_err-clause-erased
+returns-then-is_err-clause-erased g c = erased_both _ _ _ c.link.ensures.numbers.erased c.discard.ensures.erased

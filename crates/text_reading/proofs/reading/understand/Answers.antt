@@ -2,6 +2,7 @@ use Rattle.std.proofs.Common.{◌≡◌, ◌∙◌, ◌≤◌, ◌+◌, ◌^◌,
 use Rattle.ir_tokens.specs.declared.faults.TextFault.TheVariants.{CounterFull}
 use Rattle.std.proofs.lemmas.Result.{IfOk-at_ok, MatchResult-at_ok}
 use Rattle.text_dialect.specs.Seen.{seen}
+use Rattle.text_building.proofs.Numbers.{erased_both}
 use Rattle.ir_grammar.specs.Nesting.{at_root, at_end, Nests}
 use Rattle.ir_forest.specs.Progress.{Leads}
 use Rattle.ir_forest.specs.Identifiers.{AreSpelt}
@@ -15,7 +16,7 @@ use Rattle.ir_rereading.proofs.verdicts.Identifiers.{reading_spelt}
 use Rattle.ir_rereading.proofs.verdicts.TextReadings.{read_in_order, read_whole}
 use Rattle.text_scopes.specs.Isolated.{is_isolated}
 use Rattle.text_frames.specs.Raised.{HoldsAllNew, IsAssembled}
-use Rattle.text_reading.proofs.Judged.{judged_so, last_apart}
+use Rattle.text_reading.proofs.Judged.{judged_so}
 use Rattle.text_reading.proofs.Understood.{can_link_all, answers_read}
 use Rattle.text_reading.proofs.reading.understand.Goals as goal
 
@@ -75,7 +76,7 @@ returns-in-Err-clause-full g c = λ e.
     let full = c.assemble-assembled.ensures.full (c.in-Err.ensures.full (ap (λ x. Err x) same)) in
     let n = length (definitions l.isolated es) in
     let many : length (defined_from 0 c.deref.result.now) ≡ n = ap (λ z. length (defined_from 0 z)) c.deref.ensures.value ∙ many_defined l.isolated es in
-    last_apart (λ lacks. (n, (ts, names, r.stop, r.taken, es, c.requires.reading, refl), subst (λ z. 2 ^ 64 ≤ c.args.ctx.now.program.counter + z) many lacks)) full
+    (n, (ts, names, r.stop, r.taken, es, c.requires.reading, refl), subst (λ z. 2 ^ 64 ≤ c.args.ctx.now.program.counter + z) many full)
 
 pub connect-requires-clause-waiting : goal.connect-requires-clause-waiting
 connect-requires-clause-waiting g c =
@@ -234,3 +235,9 @@ returns-clause-refused g c =
     (IfOk-at_ok (λ z. IsAssembled d.says d.values text start s first next z c.deref.result.now) c.in-Ok.is (c.assemble-assembled.ensures.made to)) in
     let held = IfOk-at_ok (λ z. HoldsAllNew start s z.loose.items) c.in-Ok.is c.assemble-assembled.ensures.held in
     c.connect.ensures.undone start (mentioned_from 0 es) made.operands held
+
+pub returns-in-Err-clause-erased : goal.returns-in-Err-clause-erased
+returns-in-Err-clause-erased g c = erased_both _ _ _ c.assemble-assembled.ensures.erased c.undo.ensures.erased
+
+pub returns-clause-erased : goal.returns-clause-erased
+returns-clause-erased g c = erased_both _ _ _ c.assemble-assembled.ensures.erased c.connect.ensures.erased

@@ -1,4 +1,4 @@
-use Rattle.std.proofs.Common.{◌≡◌, ◌<◌, ◌+◌, ◌∙◌, Some, None, refl, length, arith, ap}
+use Rattle.std.proofs.Common.{◌≡◌, ◌<◌, ◌+◌, ◌-◌, ◌^◌, ◌∙◌, Some, None, refl, length, arith, ap}
 use Rattle.std.proofs.lemmas.List.{get_or_default}
 use Rattle.ir_arena.specs.declared.arena.Slot.{Slot}
 use Rattle.ir_arena.specs.Arena.{slot_at, no_slot}
@@ -19,14 +19,14 @@ returns-in_ok-push-in-None-clause-updates g c q =
     rw (c.in_ok-push-in-None.ensures.items, ← c.self.view_is)
     (pushed_updates c.self.inside.slots.items (record { version = 1; next = None; value = Some c.args.value }) (record { slot = c.len-slot.result; version = 1 }) (Some c.args.value) at_end refl refl q)
 
-pub returns-else-vacant-clause-updates : goal.returns-else-vacant-clause-updates
-returns-else-vacant-clause-updates g c q =
+pub returns-in-Some-clause-updates : goal.returns-in-Some-clause-updates
+returns-in-Some-clause-updates g c q =
     let f : IsFirst c.self.inside.slots.items c.in-Some.slot = first_free c.self.inside.slots.items c.self.inside.free c.in-Some.slot c.self.invariant c.in-Some.is in
     rw (← c.self.view_is)
     (used_updates c.self.inside.slots.items c.in-Some.slot _ (record { slot = c.in-Some.slot; version = c.index_mut-vacant.result.now.version + 1 }) (Some c.args.value) f.within f.empty refl refl refl q)
 
-pub returns-else-vacant-clause-spent : goal.returns-else-vacant-clause-spent
-returns-else-vacant-clause-spent g c =
+pub returns-in-Some-clause-spent : goal.returns-in-Some-clause-spent
+returns-in-Some-clause-spent g c =
     let f : IsFirst c.self.inside.slots.items c.in-Some.slot = first_free c.self.inside.slots.items c.self.inside.free c.in-Some.slot c.self.invariant c.in-Some.is in
     let was : c.index_mut-vacant.result.now ≡ slot_at c.self.inside.slots.items c.in-Some.slot = c.index_mut-vacant.ensures.value ∙ get_or_default c.self.inside.slots.items c.in-Some.slot c.index_mut-vacant.result.now no_slot f.within in
     let v : c.index_mut-vacant.result.now.version ≡ (slot_at c.self.inside.slots.items c.in-Some.slot).version = ap (λ (k : Slot g.row.T.Denot). k.version) was in
@@ -41,14 +41,14 @@ returns-in_ok-push-in-None-clause-slot g c =
     let at_end : c.len-slot.result ≡ length c.self.inside.slots.items = c.len-slot.ensures ∙ c.self.inside.slots.ok.0 in
     rw (c.in_ok-push-in-None.ensures.items, ← c.self.view_is, at_end) (pushed_slot c.self.inside.slots.items _ c.args.value refl)
 
-pub returns-else-vacant-clause-slot : goal.returns-else-vacant-clause-slot
-returns-else-vacant-clause-slot g c =
+pub returns-in-Some-clause-slot : goal.returns-in-Some-clause-slot
+returns-in-Some-clause-slot g c =
     let f : IsFirst c.self.inside.slots.items c.in-Some.slot = first_free c.self.inside.slots.items c.self.inside.free c.in-Some.slot c.self.invariant c.in-Some.is in
     rw (← c.self.view_is) (used_slot c.self.inside.slots.items c.in-Some.slot _ c.args.value f.within f.empty refl)
 
-pub returns-then-vacant-clause-full : goal.returns-then-vacant-clause-full
-returns-then-vacant-clause-full g c =
+pub overflow_add-version : goal.overflow_add-version
+overflow_add-version g c =
     let f : IsFirst c.self.inside.slots.items c.in-Some.slot = first_free c.self.inside.slots.items c.self.inside.free c.in-Some.slot c.self.invariant c.in-Some.is in
     let was : c.index_mut-vacant.result.now ≡ slot_at c.self.inside.slots.items c.in-Some.slot = c.index_mut-vacant.ensures.value ∙ get_or_default c.self.inside.slots.items c.in-Some.slot c.index_mut-vacant.result.now no_slot f.within in
-    let v : c.index_mut-vacant.result.now.version ≡ (slot_at c.self.inside.slots.items c.in-Some.slot).version = ap (λ (k : Slot g.row.T.Denot). k.version) was in
-    λ _. rw (← c.self.view_is) (record { slot = c.in-Some.slot; within = f.within; vacant = f.empty; greatest = omega (arith, v) })
+    let left : c.index_mut-vacant.result.now.version < 2 ^ 64 - 1 = rw was f.left in
+    omega (arith, left)

@@ -1,13 +1,12 @@
 use Rattle.std.proofs.Common.{ℕ, ◌<◌, sym, subst}
 use Rattle.ir_program.specs.Made.{TakesBackOperation}
 use Rattle.ir_program.proofs.made.Frames.{on_err}
-use Rattle.ir_program.proofs.made.AddSteps.{restored}
-use Rattle.ir_program.proofs.defined.KeptTypes.{unchanged-types, restored-types}
+use Rattle.ir_program.proofs.defined.KeptTypes.{unchanged-types}
 use Rattle.ir_program.proofs.made.BuildSteps.{made-values, filled-unlinked, filled-unused, filled-numbers, built, undone}
 use Rattle.ir_program.proofs.program.Program.build_operation.Goals as goal
 
 pub returns-in_err-op-clause-err : goal.returns-in_err-op-clause-err
-returns-in_err-op-clause-err g c = on_err _ (restored c.args.self.now c.new_operation.new.self c.in_err-op.ensures.err)
+returns-in_err-op-clause-err g c = on_err _ c.in_err-op.ensures.err
 
 pub returns-in_err-op-clause-err_types : goal.returns-in_err-op-clause-err_types
 returns-in_err-op-clause-err_types g c = on_err _ (unchanged-types c.args.self.now c.new_operation.new.self c.in_err-op.ensures.err)
@@ -31,4 +30,4 @@ pub returns-in-Err-clause-err : goal.returns-in-Err-clause-err
 returns-in-Err-clause-err g c = undone c.args.self.now c.new_operation.new.self c.in_ok-op.op c.args.payload c.in_ok-op.ensures.made c.fill_operation.new.self c.in-Err.ensures.err.0 c.in-Err.ensures.err.1 c.in-Err.ensures.err.2 c.in-Err.ensures.err.3 c.in-Err.ensures.err.4 c.take_back_operation.new.self (subst (TakesBackOperation c.fill_operation.new.self c.take_back_operation.new.self c.in_ok-op.op) c.next_number-counter.ensures c.take_back_operation.ensures)
 
 pub returns-in-Err-clause-err_types : goal.returns-in-Err-clause-err_types
-returns-in-Err-clause-err_types g c = restored-types c.args.self.now c.take_back_operation.new.self (undone c.args.self.now c.new_operation.new.self c.in_ok-op.op c.args.payload c.in_ok-op.ensures.made c.fill_operation.new.self c.in-Err.ensures.err.0 c.in-Err.ensures.err.1 c.in-Err.ensures.err.2 c.in-Err.ensures.err.3 c.in-Err.ensures.err.4 c.take_back_operation.new.self (subst (TakesBackOperation c.fill_operation.new.self c.take_back_operation.new.self c.in_ok-op.op) c.next_number-counter.ensures c.take_back_operation.ensures))
+returns-in-Err-clause-err_types g c = unchanged-types c.args.self.now c.take_back_operation.new.self (undone c.args.self.now c.new_operation.new.self c.in_ok-op.op c.args.payload c.in_ok-op.ensures.made c.fill_operation.new.self c.in-Err.ensures.err.0 c.in-Err.ensures.err.1 c.in-Err.ensures.err.2 c.in-Err.ensures.err.3 c.in-Err.ensures.err.4 c.take_back_operation.new.self (subst (TakesBackOperation c.fill_operation.new.self c.take_back_operation.new.self c.in_ok-op.op) c.next_number-counter.ensures c.take_back_operation.ensures))

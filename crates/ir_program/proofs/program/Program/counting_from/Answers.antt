@@ -1,5 +1,4 @@
 use Rattle.std.proofs.Common.{ap, option_map}
-use Rattle.ir_program.proofs.made.FullSlots.{none_full}
 use Rattle.ir_program.proofs.made.Empty.{empty_program, get_empty}
 use Rattle.ir_program.proofs.program.Program.counting_from.Goals as goal
 
@@ -14,10 +13,3 @@ returns-clause-blocks g c p = ap (option_map _) (get_empty _ p.key c.new.ensures
 
 pub returns-clause-regions : goal.returns-clause-regions
 returns-clause-regions g c p = ap (option_map _) (get_empty _ p.key c.new.ensures.regions)
-
-pub returns-clause-room : goal.returns-clause-room
-returns-clause-room g c = record {
-  operations = λ h. none_full _ c.new.ensures.ops h;
-  blocks = λ h. none_full _ c.new.ensures.blocks h;
-  regions = λ h. none_full _ c.new.ensures.regions h;
-}

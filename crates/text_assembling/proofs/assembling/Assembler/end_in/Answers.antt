@@ -1,4 +1,4 @@
-use Rattle.std.proofs.Common.{◌∙◌, inl, inr, ap, refl, sym}
+use Rattle.std.proofs.Common.{◌∙◌, ap, refl, sym}
 use Rattle.std.proofs.lemmas.Result.{on_ok_weaker}
 use Rattle.text_frames.specs.declared.opened.Body.TheVariants as body
 use Rattle.text_frames.proofs.Ended.{in_it, outer_list, outer_of_region, outer_of_operands, outer_region, ended_type, ended_attribute, ended_list, ended_item, ended_operation, ended_operands, ended_region, ended_block, type_refused, attribute_refused, operation_refused}
@@ -102,16 +102,8 @@ returns-in-Operation-clause-raised g c whole text p next w at goes =
     (on_ok_both c.end_operation.result c.end_operation.ensures.given c.end_operation.ensures.here (λ x y. (x.counter, y)))
 
 pub returns-in-Operation-clause-full : goal.returns-in-Operation-clause-full
-returns-in-Operation-clause-full g c whole text p next w at goes wrong = elim (c.end_operation.ensures.full wrong) [
-  | inl x ↦ inr (inl x)
-  | inr y ↦ elim y [
-    | inl x ↦ inr (inr (inl x))
-    | inr x ↦ inr (inr (inr (operation_full _ _ text _ _ _ whole c.args.self.now c.args.ended c.in-Operation.open _ _ w.here w.around (sym w.made) c.in-Operation.is _ _ next at.holds at.made goes.out x)))
-  ]
-]
-
-pub returns-in-Operation-clause-room : goal.returns-in-Operation-clause-room
-returns-in-Operation-clause-room g c = on_ok_weaker c.end_operation.result (λ x. x.room) c.end_operation.ensures.given
+returns-in-Operation-clause-full g c whole text p next w at goes wrong =
+    operation_full _ _ text _ _ _ whole c.args.self.now c.args.ended c.in-Operation.open _ _ w.here w.around (sym w.made) c.in-Operation.is _ _ next at.holds at.made goes.out (c.end_operation.ensures.full wrong)
 
 pub returns-in-Region-clause-raised : goal.returns-in-Region-clause-raised
 returns-in-Region-clause-raised g c whole text p next w at goes =

@@ -1,4 +1,4 @@
-use Rattle.std.proofs.Common.{◌≡◌, ◌-◌, ◌∙◌, inl, inr, true, sym, ap, subst}
+use Rattle.std.proofs.Common.{◌≡◌, ◌-◌, ◌∙◌, true, sym, ap, subst}
 use Rattle.std.proofs.lemmas.Result.{on_err_weaker, on_ok_weaker}
 use Rattle.text_assembling.proofs.Undone.{undoes_loose}
 use Rattle.ir_names.specs.Text.{is_identifier}
@@ -147,14 +147,8 @@ returns-in-Header-clause-went g c = on_ok_both c.header.result c.header.ensures.
 
 pub returns-in-Header-clause-full : goal.returns-in-Header-clause-full
 returns-in-Header-clause-full g c e = record {
-  fills = λ p next at goes. elim (c.header.ensures.full e) [
-    | inl x ↦ inl x
-    | inr x ↦ inr (inr (inr (header_is_full g.D.TextDialect.says g.D.TextDialect.values (token_text c.args.source.chars.now c.args.source.tokens.now) _ c.args.self.now p next at c.args.action c.in-Header.is goes x)))
-  ];
+  fills = λ p next at goes. header_is_full g.D.TextDialect.says g.D.TextDialect.values (token_text c.args.source.chars.now c.args.source.tokens.now) _ c.args.self.now p next at c.args.action c.in-Header.is goes (c.header.ensures.full e);
 }
-
-pub returns-in-Header-clause-room : goal.returns-in-Header-clause-room
-returns-in-Header-clause-room g c = on_ok_weaker c.header.result (λ x. x.room) c.header.ensures.given
 
 pub end-requires : goal.end-requires
 end-requires g c =
