@@ -2,6 +2,4 @@
 #![tactic(auto)]
 
 #[cfg(test)]
-mod reading;
-#[cfg(test)]
 mod runs;

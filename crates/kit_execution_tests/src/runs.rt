@@ -1,10 +1,10 @@
 //! Runs of functions: their outcomes, and how their steps are counted.
-use crate::reading::{Unread, read};
 use ir_context::{Context, OperationCalls};
 use ir_names::Identifier;
 use kit_execution::execute;
 use kit_flat::Outcome;
 use kit_interpreter::ExecFault;
+use kit_module_reader::{Unread, read};
 use kit_verifier::verify_module;
 use std::alloc::{AllocError, Global};
 use std::test::Fail;
@@ -76,7 +76,7 @@ fn run(
     limit: u64,
 ) -> Result<Result<Outcome, ExecFault>, Unread> {
     let mut ctx = Context::new(alloc);
-    let root = read(alloc, &mut ctx, MODULE)?;
+    let root = read(alloc, &mut ctx, MODULE)?.root;
     let path = path_of(alloc, names)?;
     if !root.is_live(&ctx) {
         return Err(Unread::Text);
