@@ -1,5 +1,5 @@
 //! Constant propagation.
-use crate::playing::{Pass, after, program_of};
+use crate::playing::{Pass, test_after};
 use ir_opts::{IRStatus, OptError};
 use std::test::Fail;
 
@@ -105,26 +105,31 @@ use v
 ret
 }";
 
+/// Programs, and what constant propagation makes of them.
+const KNOWN: &[(&str, &str)] = &[
+    (DIAMOND, DIAMOND_AFTER),
+    (LOOP, LOOP_AFTER),
+    (SUMS, SUMS_AFTER),
+];
+
 #[test]
 fn nothing_is_found_out_of_an_operand_that_waits_for_itself(rt: HostRuntime) -> Result<(), Fail> {
     let alloc = rt.alloc();
-    let played = after(alloc, Pass::Sccp, OWN_OPERAND)?;
-    assert_eq!(rt; played.answer, Err(OptError::UndeterminedOperand));
-    assert_eq!(rt; played.text, program_of(alloc, OWN_OPERAND)?);
-    Ok(())
+    test_after(
+        &rt,
+        alloc,
+        Pass::Sccp,
+        OWN_OPERAND,
+        Err(OptError::UndeterminedOperand),
+        OWN_OPERAND,
+    )
 }
 
 #[test]
 fn constants_come_in_for_known_values(rt: HostRuntime) -> Result<(), Fail> {
     let alloc = rt.alloc();
-    for (text, expected) in [
-        (DIAMOND, DIAMOND_AFTER),
-        (LOOP, LOOP_AFTER),
-        (SUMS, SUMS_AFTER),
-    ] {
-        let played = after(alloc, Pass::Sccp, text)?;
-        assert_eq!(rt; played.answer, Ok(IRStatus::Changed));
-        assert_eq!(rt; played.text, program_of(alloc, expected)?);
+    for (text, program) in KNOWN {
+        test_after(&rt, alloc, Pass::Sccp, text, Ok(IRStatus::Changed), program)?;
     }
     Ok(())
 }
@@ -132,8 +137,12 @@ fn constants_come_in_for_known_values(rt: HostRuntime) -> Result<(), Fail> {
 #[test]
 fn both_edges_to_a_block_forward_to_it(rt: HostRuntime) -> Result<(), Fail> {
     let alloc = rt.alloc();
-    let played = after(alloc, Pass::Sccp, TWO_EDGES)?;
-    assert_eq!(rt; played.answer, Ok(IRStatus::Unchanged));
-    assert_eq!(rt; played.text, program_of(alloc, TWO_EDGES)?);
-    Ok(())
+    test_after(
+        &rt,
+        alloc,
+        Pass::Sccp,
+        TWO_EDGES,
+        Ok(IRStatus::Unchanged),
+        TWO_EDGES,
+    )
 }

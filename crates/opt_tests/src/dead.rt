@@ -1,5 +1,5 @@
 //! Dead code elimination.
-use crate::playing::{Pass, after, program_of};
+use crate::playing::{Pass, Played, after, expected, test_after};
 use ir_opts::IRStatus;
 use opt_tiny::Unread;
 use std::alloc::{AllocError, Global};
@@ -83,32 +83,48 @@ cond c ^b x ^c
 ret
 }";
 
+/// Programs in which nothing is dead.
+const USED: &[&str] = &[
+    USED_OUTSIDE,
+    IN_A_CIRCLE,
+    CARRIED_ROUND,
+    CARRIED_AFTER,
+    EMPTY,
+];
+
+/// Programs, and what elimination makes of them.
+const DEAD: &[(&str, &str)] = &[(NESTED, EMPTY), (CARRIED, CARRIED_AFTER)];
+
 /// Operations without effects, so many in each other, that use a value of the outermost block.
 fn nest(alloc: Global, depth: usize) -> Result<String, AllocError> {
-    let mut text = String::from_str(alloc, "box {\n^b\na = const 1\n")?;
+    let mut text = String::new(alloc);
+    write_nest(&mut text, depth)?;
+    Ok(text)
+}
+
+/// Writes such operations.
+fn write_nest(text: &mut String, depth: usize) -> Result<(), AllocError> {
+    text.push_str("box {\n^b\na = const 1\n")?;
     for _ in 0..depth {
         text.push_str("pure {\n^c\nu = id a\n")?;
     }
     for _ in 0..depth {
         text.push_str("}\n")?;
     }
-    text.push_str("ret\n}")?;
-    Ok(text)
+    text.push_str("ret\n}")
+}
+
+/// What elimination makes of so many operations in each other.
+fn nest_after(alloc: Global, depth: usize) -> Result<Played, Unread> {
+    let text = nest(alloc, depth)?;
+    after(alloc, Pass::Dce, &text)
 }
 
 #[test]
 fn what_is_used_stays(rt: HostRuntime) -> Result<(), Fail> {
     let alloc = rt.alloc();
-    for text in [
-        USED_OUTSIDE,
-        IN_A_CIRCLE,
-        CARRIED_ROUND,
-        CARRIED_AFTER,
-        EMPTY,
-    ] {
-        let played = after(alloc, Pass::Dce, text)?;
-        assert_eq!(rt; played.answer, Ok(IRStatus::Unchanged));
-        assert_eq!(rt; played.text, program_of(alloc, text)?);
+    for text in USED {
+        test_after(&rt, alloc, Pass::Dce, text, Ok(IRStatus::Unchanged), text)?;
     }
     Ok(())
 }
@@ -116,10 +132,8 @@ fn what_is_used_stays(rt: HostRuntime) -> Result<(), Fail> {
 #[test]
 fn what_the_dead_alone_use_goes(rt: HostRuntime) -> Result<(), Fail> {
     let alloc = rt.alloc();
-    for (text, expected) in [(NESTED, EMPTY), (CARRIED, CARRIED_AFTER)] {
-        let played = after(alloc, Pass::Dce, text)?;
-        assert_eq!(rt; played.answer, Ok(IRStatus::Changed));
-        assert_eq!(rt; played.text, program_of(alloc, expected)?);
+    for (text, program) in DEAD {
+        test_after(&rt, alloc, Pass::Dce, text, Ok(IRStatus::Changed), program)?;
     }
     Ok(())
 }
@@ -127,9 +141,9 @@ fn what_the_dead_alone_use_goes(rt: HostRuntime) -> Result<(), Fail> {
 #[test]
 fn a_thousand_nested_operations_go(rt: HostRuntime) -> Result<(), Fail> {
     let alloc = rt.alloc();
-    let text = nest(alloc, 1_000)?;
-    let played = after(alloc, Pass::Dce, &text)?;
-    assert_eq!(rt; played.answer, Ok(IRStatus::Changed));
-    assert_eq!(rt; played.text, program_of(alloc, EMPTY)?);
+    assert_eq!(rt;
+        nest_after(alloc, 1_000)?,
+        expected(alloc, Ok(IRStatus::Changed), EMPTY)?
+    );
     Ok(())
 }

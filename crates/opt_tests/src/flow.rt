@@ -1,6 +1,7 @@
 //! Simplification of control flow.
-use crate::playing::{Pass, after, program_of};
+use crate::playing::{Pass, Played, after, expected, test_after};
 use ir_opts::{IRStatus, OptError};
+use opt_tiny::Unread;
 use std::alloc::{AllocError, Global};
 use std::fmt::Write;
 use std::test::Fail;
@@ -261,41 +262,94 @@ use q
 ret
 }";
 
+/// Programs, and what simplification makes of them.
+const CHANGED: &[(&str, &str)] = &[
+    (DECIDED, DECIDED_AFTER),
+    (SECOND_EDGE, SECOND_EDGE_AFTER),
+    (LEFT_OUT, LONE),
+    (LEFT_BESIDE, LONE),
+    (SECOND_CHAIN, SECOND_CHAIN_AFTER),
+    (ROUND, ROUND_AFTER),
+];
+
+/// Programs that are simple.
+const SIMPLE: &[&str] = &[
+    LONE,
+    EMPTY_REGION,
+    ITSELF,
+    UNKNOWN,
+    NOT_BARE,
+    DECIDED_AFTER,
+    SECOND_CHAIN_AFTER,
+    ROUND_AFTER,
+];
+
+/// Programs of which a phase is refused, and what the phases before it make of them.
+const REFUSED: &[(&str, &str)] = &[
+    (LOST_VALUE, LOST_VALUE_AFTER),
+    (LIVE_VALUE, LIVE_VALUE),
+    (OWN_ARGUMENT, OWN_ARGUMENT_AFTER),
+    (OWN_ARGUMENT_AFTER, OWN_ARGUMENT_AFTER),
+    (ROUND_ARGUMENTS, ROUND_ARGUMENTS),
+];
+
 /// So many blocks, each with an argument that it hands on to the next.
 fn chain(alloc: Global, length: u32) -> Result<String, AllocError> {
-    let mut text = String::from_str(alloc, "box {\n^a\nx = const 1\nbr ^b0 x\n")?;
+    let mut text = String::new(alloc);
+    write_chain(&mut text, length)?;
+    Ok(text)
+}
+
+/// Writes such blocks.
+fn write_chain(text: &mut String, length: u32) -> Result<(), AllocError> {
+    text.push_str("box {\n^a\nx = const 1\nbr ^b0 x\n")?;
     for i in 0..length {
         let next = i.saturating_add(1);
         write!(text, "^b{i} v{i}\nuse v{i}\nbr ^b{next} v{i}\n")?;
     }
-    write!(text, "^b{length} v\nuse v\nret\n}}")?;
-    Ok(text)
+    write!(text, "^b{length} v\nuse v\nret\n}}")
+}
+
+/// What simplification makes of so many blocks in a chain.
+fn chain_after(alloc: Global, length: u32) -> Result<Played, Unread> {
+    let text = chain(alloc, length)?;
+    after(alloc, Pass::SimplifyCfg, &text)
 }
 
 /// One block with so many uses of one value.
 fn one_block(alloc: Global, length: u32) -> Result<String, AllocError> {
-    let mut text = String::from_str(alloc, "box {\n^a\nx = const 1\n")?;
+    let mut text = String::new(alloc);
+    write_one_block(&mut text, length)?;
+    Ok(text)
+}
+
+/// Writes such a block.
+fn write_one_block(text: &mut String, length: u32) -> Result<(), AllocError> {
+    text.push_str("box {\n^a\nx = const 1\n")?;
     for _ in 0..length {
         text.push_str("use x\n")?;
     }
-    text.push_str("use x\nret\n}")?;
-    Ok(text)
+    text.push_str("use x\nret\n}")
+}
+
+/// What is expected of so many blocks in a chain.
+fn chain_expected(alloc: Global, length: u32) -> Result<Played, Unread> {
+    let text = one_block(alloc, length)?;
+    expected(alloc, Ok(IRStatus::Changed), &text)
 }
 
 #[test]
 fn branches_are_decided_and_blocks_cut_and_joined(rt: HostRuntime) -> Result<(), Fail> {
     let alloc = rt.alloc();
-    for (text, expected) in [
-        (DECIDED, DECIDED_AFTER),
-        (SECOND_EDGE, SECOND_EDGE_AFTER),
-        (LEFT_OUT, LONE),
-        (LEFT_BESIDE, LONE),
-        (SECOND_CHAIN, SECOND_CHAIN_AFTER),
-        (ROUND, ROUND_AFTER),
-    ] {
-        let played = after(alloc, Pass::SimplifyCfg, text)?;
-        assert_eq!(rt; played.answer, Ok(IRStatus::Changed));
-        assert_eq!(rt; played.text, program_of(alloc, expected)?);
+    for (text, program) in CHANGED {
+        test_after(
+            &rt,
+            alloc,
+            Pass::SimplifyCfg,
+            text,
+            Ok(IRStatus::Changed),
+            program,
+        )?;
     }
     Ok(())
 }
@@ -303,19 +357,15 @@ fn branches_are_decided_and_blocks_cut_and_joined(rt: HostRuntime) -> Result<(),
 #[test]
 fn what_is_simple_stays(rt: HostRuntime) -> Result<(), Fail> {
     let alloc = rt.alloc();
-    for text in [
-        LONE,
-        EMPTY_REGION,
-        ITSELF,
-        UNKNOWN,
-        NOT_BARE,
-        DECIDED_AFTER,
-        SECOND_CHAIN_AFTER,
-        ROUND_AFTER,
-    ] {
-        let played = after(alloc, Pass::SimplifyCfg, text)?;
-        assert_eq!(rt; played.answer, Ok(IRStatus::Unchanged));
-        assert_eq!(rt; played.text, program_of(alloc, text)?);
+    for text in SIMPLE {
+        test_after(
+            &rt,
+            alloc,
+            Pass::SimplifyCfg,
+            text,
+            Ok(IRStatus::Unchanged),
+            text,
+        )?;
     }
     Ok(())
 }
@@ -323,16 +373,15 @@ fn what_is_simple_stays(rt: HostRuntime) -> Result<(), Fail> {
 #[test]
 fn a_phase_that_is_refused_changes_nothing(rt: HostRuntime) -> Result<(), Fail> {
     let alloc = rt.alloc();
-    for (text, expected) in [
-        (LOST_VALUE, LOST_VALUE_AFTER),
-        (LIVE_VALUE, LIVE_VALUE),
-        (OWN_ARGUMENT, OWN_ARGUMENT_AFTER),
-        (OWN_ARGUMENT_AFTER, OWN_ARGUMENT_AFTER),
-        (ROUND_ARGUMENTS, ROUND_ARGUMENTS),
-    ] {
-        let played = after(alloc, Pass::SimplifyCfg, text)?;
-        assert_eq!(rt; played.answer, Err(OptError::LiveUse));
-        assert_eq!(rt; played.text, program_of(alloc, expected)?);
+    for (text, program) in REFUSED {
+        test_after(
+            &rt,
+            alloc,
+            Pass::SimplifyCfg,
+            text,
+            Err(OptError::LiveUse),
+            program,
+        )?;
     }
     Ok(())
 }
@@ -340,10 +389,6 @@ fn a_phase_that_is_refused_changes_nothing(rt: HostRuntime) -> Result<(), Fail> 
 #[test]
 fn a_chain_of_a_thousand_blocks_becomes_one(rt: HostRuntime) -> Result<(), Fail> {
     let alloc = rt.alloc();
-    let text = chain(alloc, 1_000)?;
-    let played = after(alloc, Pass::SimplifyCfg, &text)?;
-    assert_eq!(rt; played.answer, Ok(IRStatus::Changed));
-    let expected = one_block(alloc, 1_000)?;
-    assert_eq!(rt; played.text, program_of(alloc, &expected)?);
+    assert_eq!(rt; chain_after(alloc, 1_000)?, chain_expected(alloc, 1_000)?);
     Ok(())
 }

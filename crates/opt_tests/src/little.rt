@@ -1,10 +1,10 @@
 //! The optimisations of dialects that give them little to go by.
 use crate::places::test_below;
-use crate::playing::{Answer, Pass, Played, program_of};
+use crate::playing::{Answer, Pass, Played, expected, with_text};
 use ir_context::TypedProgram;
 use ir_opts::{IRStatus, dce, sccp, simplify_cfg};
 use ir_program::{Operation, Ptr};
-use opt_tiny::{Bare, Lone, OneType, Sparse, Tree, Unread, read, written};
+use opt_tiny::{Bare, Lone, OneType, Sparse, Tree, Unread, read};
 use std::alloc::Global;
 use std::test::Fail;
 
@@ -48,6 +48,16 @@ ret
 ret
 }";
 
+/// Optimisations, what they answer of the program of that dialect, and what they make of it.
+const LITTLE_DONE: &[(Pass, IRStatus, &str)] = &[
+    (Pass::Sccp, IRStatus::Unchanged, LITTLE),
+    (Pass::SimplifyCfg, IRStatus::Unchanged, LITTLE),
+    (Pass::Dce, IRStatus::Changed, LITTLE_AFTER),
+];
+
+/// Programs of the dialect of one kind.
+type LoneTree = TypedProgram<Bare, Bare, OneType>;
+
 /// Runs one of the three optimisations of the dialect that says little.
 fn run(alloc: Global, pass: Pass, ctx: &mut Tree, op: Ptr<Operation>) -> Result<Answer, Unread> {
     test_below::<Sparse>(alloc, ctx, op)?;
@@ -62,38 +72,42 @@ fn run(alloc: Global, pass: Pass, ctx: &mut Tree, op: Ptr<Operation>) -> Result<
 /// What an optimisation of that dialect makes of the program of a text.
 fn after(alloc: Global, pass: Pass, text: &str) -> Result<Played, Unread> {
     let mut ctx: Tree = Tree::with_types(alloc, OneType);
-    let op = read(alloc, &mut ctx, text)?;
-    let answer = run(alloc, pass, &mut ctx, op)?;
-    Ok(Played {
-        answer,
-        text: written(alloc, &ctx, op)?,
-    })
+    after_in(alloc, pass, text, &mut ctx)
+}
+
+/// What an optimisation of that dialect makes of the program of a text, which is read into a context.
+fn after_in(alloc: Global, pass: Pass, text: &str, ctx: &mut Tree) -> Result<Played, Unread> {
+    let op = read(alloc, ctx, text)?;
+    let answer = run(alloc, pass, ctx, op)?;
+    with_text(alloc, answer, ctx, op)
 }
 
 /// What the three optimisations answer of an operation of one kind, without a block in its region.
 fn answers_of_one_kind(alloc: Global) -> Result<[Answer; 3], Unread> {
-    let mut ctx: TypedProgram<Bare, Bare, OneType> = TypedProgram::with_types(alloc, OneType);
+    let mut ctx: LoneTree = TypedProgram::with_types(alloc, OneType);
+    answers_in(alloc, &mut ctx)
+}
+
+/// What the three optimisations answer of an operation of one kind, which is made in a context.
+fn answers_in(alloc: Global, ctx: &mut LoneTree) -> Result<[Answer; 3], Unread> {
     let op = ctx.new_operation(alloc, Bare, &[], &[], &[], 1)?;
-    test_below::<Lone>(alloc, &ctx, op)?;
-    let propagated = sccp::<Lone, OneType>(alloc, op, &mut ctx);
-    test_below::<Lone>(alloc, &ctx, op)?;
-    let thinned = dce::<Lone, OneType>(alloc, op, &mut ctx);
-    test_below::<Lone>(alloc, &ctx, op)?;
-    let simple = simplify_cfg::<Lone, OneType>(alloc, op, &mut ctx);
+    test_below::<Lone>(alloc, ctx, op)?;
+    let propagated = sccp::<Lone, OneType>(alloc, op, ctx);
+    test_below::<Lone>(alloc, ctx, op)?;
+    let thinned = dce::<Lone, OneType>(alloc, op, ctx);
+    test_below::<Lone>(alloc, ctx, op)?;
+    let simple = simplify_cfg::<Lone, OneType>(alloc, op, ctx);
     Ok([propagated, thinned, simple])
 }
 
 #[test]
 fn little_is_done_where_little_is_said(rt: HostRuntime) -> Result<(), Fail> {
     let alloc = rt.alloc();
-    for (pass, status, expected) in [
-        (Pass::Sccp, IRStatus::Unchanged, LITTLE),
-        (Pass::SimplifyCfg, IRStatus::Unchanged, LITTLE),
-        (Pass::Dce, IRStatus::Changed, LITTLE_AFTER),
-    ] {
-        let played = after(alloc, pass, LITTLE)?;
-        assert_eq!(rt; played.answer, Ok(status));
-        assert_eq!(rt; played.text, program_of(alloc, expected)?);
+    for (pass, status, text) in LITTLE_DONE {
+        assert_eq!(rt;
+            after(alloc, *pass, LITTLE)?,
+            expected(alloc, Ok(*status), text)?
+        );
     }
     Ok(())
 }

@@ -1,6 +1,6 @@
 //! Removal of blocks that no path reaches, and joining of chains of blocks, each from a place on.
 use crate::places::Place;
-use crate::playing::{Pass, after, program_of};
+use crate::playing::{Pass, test_after};
 use ir_opts::{IRStatus, OptError};
 use std::test::Fail;
 
@@ -132,21 +132,57 @@ use p
 ret
 }";
 
+/// Where removal of blocks begins, programs, and what it makes of them.
+const REMOVALS: &[(Place, &str, &str)] = &[
+    (Place::Operation, LEFT_OUT, LEFT_OUT_AFTER),
+    (Place::Region, LEFT_OUT, LEFT_OUT_AFTER),
+    (Place::Operation, UNREACHED, LONE),
+    (Place::Operation, BOTH, BOTH_REMOVED),
+    (Place::Region, BOTH, BOTH_REMOVED),
+    (Place::Block, BOTH, INNER_REMOVED),
+    (Place::InnerRegion, BOTH, INNER_REMOVED),
+];
+
+/// Where joining of chains begins, programs, and what it makes of them.
+const JOININGS: &[(Place, &str, &str)] = &[
+    (Place::Operation, LEFT_OUT_AFTER, LONE),
+    (Place::Region, LEFT_OUT_AFTER, LONE),
+    (Place::Operation, BOTH, BOTH_JOINED),
+    (Place::Region, BOTH, BOTH_JOINED),
+    (Place::Block, BOTH, INNER_JOINED),
+    (Place::InnerRegion, BOTH, INNER_JOINED),
+];
+
+/// Programs that an optimisation leaves as they are.
+const UNCHANGED: &[(Pass, &str)] = &[
+    (Pass::RemoveBlocks(Place::Operation), BOTH_REMOVED),
+    (Pass::RemoveBlocks(Place::Block), INNER_REMOVED),
+    (Pass::RemoveBlocks(Place::InnerRegion), INNER_REMOVED),
+    (Pass::Merge(Place::Operation), LEFT_OUT),
+    (Pass::Merge(Place::Operation), UNREACHED),
+    (Pass::Merge(Place::Block), INNER_JOINED),
+    (Pass::Merge(Place::InnerRegion), INNER_JOINED),
+];
+
+/// Programs of which an optimisation is refused.
+const REFUSED: &[(Pass, &str)] = &[
+    (Pass::RemoveBlocks(Place::Operation), USED_OUTSIDE),
+    (Pass::Merge(Place::Operation), OWN_ARGUMENT),
+    (Pass::Merge(Place::Region), OWN_ARGUMENT),
+];
+
 #[test]
 fn blocks_that_no_path_reaches_go(rt: HostRuntime) -> Result<(), Fail> {
     let alloc = rt.alloc();
-    for (place, text, expected) in [
-        (Place::Operation, LEFT_OUT, LEFT_OUT_AFTER),
-        (Place::Region, LEFT_OUT, LEFT_OUT_AFTER),
-        (Place::Operation, UNREACHED, LONE),
-        (Place::Operation, BOTH, BOTH_REMOVED),
-        (Place::Region, BOTH, BOTH_REMOVED),
-        (Place::Block, BOTH, INNER_REMOVED),
-        (Place::InnerRegion, BOTH, INNER_REMOVED),
-    ] {
-        let played = after(alloc, Pass::RemoveBlocks(place), text)?;
-        assert_eq!(rt; played.answer, Ok(IRStatus::Changed));
-        assert_eq!(rt; played.text, program_of(alloc, expected)?);
+    for (place, text, program) in REMOVALS {
+        test_after(
+            &rt,
+            alloc,
+            Pass::RemoveBlocks(*place),
+            text,
+            Ok(IRStatus::Changed),
+            program,
+        )?;
     }
     Ok(())
 }
@@ -154,17 +190,15 @@ fn blocks_that_no_path_reaches_go(rt: HostRuntime) -> Result<(), Fail> {
 #[test]
 fn chains_are_joined(rt: HostRuntime) -> Result<(), Fail> {
     let alloc = rt.alloc();
-    for (place, text, expected) in [
-        (Place::Operation, LEFT_OUT_AFTER, LONE),
-        (Place::Region, LEFT_OUT_AFTER, LONE),
-        (Place::Operation, BOTH, BOTH_JOINED),
-        (Place::Region, BOTH, BOTH_JOINED),
-        (Place::Block, BOTH, INNER_JOINED),
-        (Place::InnerRegion, BOTH, INNER_JOINED),
-    ] {
-        let played = after(alloc, Pass::Merge(place), text)?;
-        assert_eq!(rt; played.answer, Ok(IRStatus::Changed));
-        assert_eq!(rt; played.text, program_of(alloc, expected)?);
+    for (place, text, program) in JOININGS {
+        test_after(
+            &rt,
+            alloc,
+            Pass::Merge(*place),
+            text,
+            Ok(IRStatus::Changed),
+            program,
+        )?;
     }
     Ok(())
 }
@@ -172,18 +206,8 @@ fn chains_are_joined(rt: HostRuntime) -> Result<(), Fail> {
 #[test]
 fn from_a_place_on_there_may_be_nothing_to_do(rt: HostRuntime) -> Result<(), Fail> {
     let alloc = rt.alloc();
-    for (pass, text) in [
-        (Pass::RemoveBlocks(Place::Operation), BOTH_REMOVED),
-        (Pass::RemoveBlocks(Place::Block), INNER_REMOVED),
-        (Pass::RemoveBlocks(Place::InnerRegion), INNER_REMOVED),
-        (Pass::Merge(Place::Operation), LEFT_OUT),
-        (Pass::Merge(Place::Operation), UNREACHED),
-        (Pass::Merge(Place::Block), INNER_JOINED),
-        (Pass::Merge(Place::InnerRegion), INNER_JOINED),
-    ] {
-        let played = after(alloc, pass, text)?;
-        assert_eq!(rt; played.answer, Ok(IRStatus::Unchanged));
-        assert_eq!(rt; played.text, program_of(alloc, text)?);
+    for (pass, text) in UNCHANGED {
+        test_after(&rt, alloc, *pass, text, Ok(IRStatus::Unchanged), text)?;
     }
     Ok(())
 }
@@ -191,14 +215,8 @@ fn from_a_place_on_there_may_be_nothing_to_do(rt: HostRuntime) -> Result<(), Fai
 #[test]
 fn what_stays_takes_no_value_that_goes(rt: HostRuntime) -> Result<(), Fail> {
     let alloc = rt.alloc();
-    for (pass, text) in [
-        (Pass::RemoveBlocks(Place::Operation), USED_OUTSIDE),
-        (Pass::Merge(Place::Operation), OWN_ARGUMENT),
-        (Pass::Merge(Place::Region), OWN_ARGUMENT),
-    ] {
-        let played = after(alloc, pass, text)?;
-        assert_eq!(rt; played.answer, Err(OptError::LiveUse));
-        assert_eq!(rt; played.text, program_of(alloc, text)?);
+    for (pass, text) in REFUSED {
+        test_after(&rt, alloc, *pass, text, Err(OptError::LiveUse), text)?;
     }
     Ok(())
 }

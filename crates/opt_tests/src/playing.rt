@@ -8,6 +8,8 @@ use ir_opts::{
 use ir_program::{Operation, Ptr};
 use opt_tiny::{OneType, Tiny, Tree, Unread, read, written};
 use std::alloc::{AllocError, Global};
+use std::process::Abort;
+use std::test::Fail;
 
 /// An optimisation.
 #[derive(Clone, Copy)]
@@ -28,7 +30,7 @@ pub enum Pass {
 pub type Answer = Result<IRStatus, OptError>;
 
 /// What an optimisation answered, and the program afterwards.
-#[derive(Drop)]
+#[derive(Debug, Drop, PartialEq, Eq)]
 pub struct Played {
     /// Its answer.
     pub answer: Answer,
@@ -36,11 +38,27 @@ pub struct Played {
     pub text: String,
 }
 
-/// The program of a text, as `written` writes it.
-pub fn program_of(alloc: Global, text: &str) -> Result<String, Unread> {
+/// What is expected: an answer, and the program of a text.
+pub fn expected(alloc: Global, answer: Answer, text: &str) -> Result<Played, Unread> {
     let mut ctx: Tree = Tree::with_types(alloc, OneType);
-    let op = read(alloc, &mut ctx, text)?;
-    Ok(written(alloc, &ctx, op)?)
+    read_in(alloc, answer, text, &mut ctx)
+}
+
+/// An answer and the program of a text, which is read into a context.
+fn read_in(alloc: Global, answer: Answer, text: &str, ctx: &mut Tree) -> Result<Played, Unread> {
+    let op = read(alloc, ctx, text)?;
+    with_text(alloc, answer, ctx, op)
+}
+
+/// An answer and a program, as `written` writes it.
+pub fn with_text(
+    alloc: Global,
+    answer: Answer,
+    ctx: &Tree,
+    op: Ptr<Operation>,
+) -> Result<Played, Unread> {
+    let text = written(alloc, ctx, op)?;
+    Ok(Played { answer, text })
 }
 
 /// Removes blocks that no path reaches, from a place on.
@@ -102,10 +120,28 @@ fn run(alloc: Global, pass: Pass, ctx: &mut Tree, op: Ptr<Operation>) -> Result<
 /// What an optimisation makes of the program of a text.
 pub fn after(alloc: Global, pass: Pass, text: &str) -> Result<Played, Unread> {
     let mut ctx: Tree = Tree::with_types(alloc, OneType);
-    let op = read(alloc, &mut ctx, text)?;
-    let answer = run(alloc, pass, &mut ctx, op)?;
-    Ok(Played {
-        answer,
-        text: written(alloc, &ctx, op)?,
-    })
+    after_in(alloc, pass, text, &mut ctx)
+}
+
+/// What an optimisation makes of the program of a text, which is read into a context.
+fn after_in(alloc: Global, pass: Pass, text: &str, ctx: &mut Tree) -> Result<Played, Unread> {
+    let op = read(alloc, ctx, text)?;
+    let answer = run(alloc, pass, ctx, op)?;
+    with_text(alloc, answer, ctx, op)
+}
+
+/// Tests what an optimisation answers of the program of a text, and what it makes of it.
+pub fn test_after(
+    rt: &impl Abort,
+    alloc: Global,
+    pass: Pass,
+    text: &str,
+    answer: Answer,
+    program: &str,
+) -> Result<(), Fail> {
+    assert_eq!(rt;
+        after(alloc, pass, text)?,
+        expected(alloc, answer, program)?
+    );
+    Ok(())
 }
