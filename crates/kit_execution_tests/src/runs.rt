@@ -1,6 +1,8 @@
 //! Runs of functions: their outcomes, and how their steps are counted.
 use ir_context::{Context, OperationCalls};
 use ir_names::Identifier;
+use ir_program::{Operation, Ptr};
+use kit::Kit;
 use kit_execution::execute;
 use kit_flat::Outcome;
 use kit_interpreter::ExecFault;
@@ -68,6 +70,12 @@ fn path_of(alloc: Global, names: &[&str]) -> Result<Vec<Identifier>, Unread> {
     Ok(path)
 }
 
+/// The operation of the module, which is read into a context.
+fn read_root(alloc: Global, ctx: &mut Context<Kit>) -> Result<Ptr<Operation>, Unread> {
+    let module = read(alloc, ctx, MODULE)?;
+    Ok(module.root)
+}
+
 /// What running a function of the module answers, which keeps the rules.
 fn run(
     alloc: Global,
@@ -76,7 +84,7 @@ fn run(
     limit: u64,
 ) -> Result<Result<Outcome, ExecFault>, Unread> {
     let mut ctx = Context::new(alloc);
-    let root = read(alloc, &mut ctx, MODULE)?.root;
+    let root = read_root(alloc, &mut ctx)?;
     let path = path_of(alloc, names)?;
     if !root.is_live(&ctx) {
         return Err(Unread::Text);
