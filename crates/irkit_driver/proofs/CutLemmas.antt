@@ -1,70 +1,178 @@
 -- Lists of passes that are cut, from one text to the next.
-use Rattle.std.proofs.Common.{◌≡◌, ℕ, List, ◌++◌, map, ap, sym, subst, chars, refl, ◌∙◌}
+use Rattle.std.proofs.Common.{◌≡◌, inl, inr, ℕ, List, [], ◌∷◌, ◌++◌, map, ap, sym, subst, chars, refl, ◌∙◌}
 use Rattle.std.proofs.lemmas.List.{map-append}
-use Rattle.ir_forest.specs.Closed.{IsSameModule, unlabelled}
+use Rattle.ir_forest.specs.Closed.{IsClosed, IsNumbered, IsSameModule, unlabelled}
 use Rattle.ir_print.specs.Pieces.{Entity}
 use Rattle.ir_program.specs.declared.handles.Operation.{Operation}
 use Rattle.ir_program.specs.declared.handles.Ptr.{Ptr}
+use Rattle.ir_program.specs.declared.handles.Value.{Value}
+use Rattle.ir_rereading.specs.Texts.{Says}
+use Rattle.ir_trees.proofs.OneTree.{one_tree}
+use Rattle.ir_trees.proofs.Same.{same_on}
+use Rattle.ir_trees.specs.Stands.{by_handle}
+use Rattle.ir_types.specs.Interned.{key_at}
 use Rattle.ir_unique_trees.proofs.OneTree.{one_tree_said}
 use Rattle.kit.specs.Leads.{leads}
-use Rattle.kit_behaviour.specs.Machine.{Program}
-use Rattle.kit_behaviour.specs.Places.{Place}
+use Rattle.kit_behaviour.specs.PassLists.{Pass}
 use Rattle.kit_language.specs.Language.{kit_language}
-use Rattle.kit_optimised_programs.specs.Laws.{OptimisedListsCut}
-use Rattle.kit_optimised_programs.specs.Programs.{PassedPrograms}
+use Rattle.kit_module_programs.specs.TreePasses.{IsTreeAfter}
+use Rattle.kit_ops.specs.declared.attributes.KitAttr.{KitAttr}
+use Rattle.kit_ops.specs.declared.kinds.KitOp.{KitOp}
+use Rattle.kit_ops.specs.declared.types.KitType.{KitType}
 use Rattle.kit_optimiser.specs.Passed.{pass_of}
 use Rattle.kit_optimiser.specs.declared.pass.KitPass.{KitPass}
-use Rattle.kit_program_runs.specs.Laws.{IsProgramIn}
 use Rattle.kit_ruled_views.specs.Functions.{KitContext}
 use Rattle.kit_ruled_views.specs.Ruled.{KitTree}
-use Rattle.kit_text_programs.specs.Laws.{TextsHaveOneProgram}
-use Rattle.irkit_driver.specs.Lists.{IsWrittenAs}
+use Rattle.kit_same_modules.specs.Laws.{OneTextSaysTheSame, PassesKeepSame, SayTheSame, StandsAs, TheSameSayOneText}
+use Rattle.kit_same_modules.specs.Laws.{TypesAreNumbered}
+use Rattle.kit_same_modules.specs.Meanings.{meanings}
+use Rattle.kit_texts.specs.Says.{says}
+use Rattle.opt_meanings.specs.Meanings.{mean_root}
+use Rattle.opt_trees.specs.Occurrences.{Has}
+use Rattle.text_dialect.specs.Seen.{Seen, seen}
+use Rattle.text_dialect.specs.Standing.{StandsForTexts}
+use Rattle.text_rereading.specs.Rereading.{Named}
+use Rattle.irkit_driver.specs.Lists.{PassesGive}
 use Rattle.irkit_driver.specs.Outcomes.{RunGives}
-use Rattle.irkit_driver.specs.Same.{HaveOneProgram}
-use Rattle.irkit_driver.specs.Texts.{HoldsText, IsSaidBy, SaysTree}
+use Rattle.irkit_driver.specs.Same.{HaveOneModule}
+use Rattle.irkit_driver.specs.Texts.{HoldsText, SaysTree}
 
 -- bytes say one tree
 one_said : (bytes : List ℕ) (text other : Entity ℕ) → SaysTree bytes text → SaysTree bytes other → text ≡ other
 one_said bytes text other h k = one_tree_said kit_language leads refl (chars bytes) text other h.1 k.1
 
-module _ (law : TextsHaveOneProgram) (numbered : List ℕ → ℕ) where
-  -- modules of texts that are the same but for labels have one program
-  held_alike : (text other : Entity ℕ) → IsSameModule text other → (s z : KitContext) (root there : Ptr Operation)
-      → HoldsText text s root → HoldsText other z there → (t u : KitTree) (p q : Program Place) → IsProgramIn s root t numbered p
-      → IsProgramIn z there u numbered q → p ≡ q
-  held_alike text other same s z root there h k t u p q a b =
-      law text other numbered s z root there h.values k.values t u p q same h.distinct k.distinct h.stands k.stands a.stands b.stands
-      a.is b.is
+-- what a text says, and an operation stands for, is closed
+abbrev pub SaidAreClosed : Type 0
+SaidAreClosed = (values : List Value) (s : Seen KitOp KitAttr KitType) (root : Ptr Operation) (cs : List ℕ) (tree : Entity ℕ)
+    → Says kit_language cs tree → StandsForTexts says (Named values) s root tree → IsClosed kit_language tree × IsNumbered tree
 
-  -- what the same bytes say has one program
-  said_alike : (bytes : List ℕ) (s z : KitContext) (root there : Ptr Operation) → IsSaidBy bytes s root → IsSaidBy bytes z there
-      → (t u : KitTree) (p q : Program Place) → IsProgramIn s root t numbered p → IsProgramIn z there u numbered q → p ≡ q
-  said_alike bytes s z root there h k =
-      held_alike h.text k.text (ap unlabelled (one_said bytes h.text k.text h.says_it k.says_it)) s z root there h.holds k.holds
+-- an operation stands for the tree of texts that it holds
+holding : (text : Entity ℕ) (s : KitContext) (root : Ptr Operation) (h : HoldsText text s root) → StandsAs text s root h.tree
+holding text s root h = record {
+  values = h.values;
+  distinct = h.distinct;
+  stands = h.stands;
+  is_tree = h.is_tree;
+  names = h.names;
+  handles = h.handles;
+}
 
-  -- what is read of the text of a module has its program
-  written_alike : (text : List ℕ) (s z : KitContext) (root there : Ptr Operation) → IsSaidBy text s root → IsWrittenAs z there text
-      → (t u : KitTree) (p q : Program Place) → IsProgramIn s root t numbered p → IsProgramIn z there u numbered q → p ≡ q
-  written_alike text s z root there h w =
-      held_alike h.text w.tree (ap unlabelled (one_said text h.text w.again h.says_it w.accepted.says_it) ∙ w.same) s z root there
-      h.holds w.holds
+-- what all names have
+no_number : List ℕ → ℕ
+no_number text = 0
 
--- the rest of a list, run on the text that its beginning gave, gives a text of the same module as the whole list
-pub cut : TextsHaveOneProgram → OptimisedListsCut → (beginning rest : List KitPass) (bytes front text whole : List ℕ)
-    → RunGives beginning bytes front → RunGives rest front text → RunGives (beginning ++ rest) bytes whole → HaveOneProgram text whole
-cut law cuts beginning rest bytes front text whole b r w numbered s z root there t u p q said also first second =
-    let numbering = first.numbering in
-    let begun = b.gives.programs numbered numbering in
-    let rested = r.gives.programs numbered numbering in
-    let made : PassedPrograms (map pass_of beginning ++ map pass_of rest) w.before w.gives.after w.root numbered =
-    subst (λ xs. PassedPrograms xs w.before w.gives.after w.root numbered) (map-append pass_of beginning rest)
-    (w.gives.programs numbered numbering) in
-    let start = said_alike law numbered bytes w.before b.before w.root b.root w.accepted.0 b.accepted.0 made.before begun.before made.first
-    begun.first made.is_first begun.is_first in
-    let between = written_alike law numbered front r.before b.gives.after r.root b.root r.accepted.0 b.gives.written rested.before
-    begun.after rested.first begun.last rested.is_first begun.is_last in
-    let ends = cuts (map pass_of beginning) (map pass_of rest) b.before b.gives.after w.before w.gives.after r.before r.gives.after b.root
-    w.root r.root numbered begun made rested start between in
-    written_alike law numbered text s r.gives.after root r.root said r.gives.written t rested.after p rested.last first rested.is_last
-    ∙ ends
-    ∙ sym (written_alike law numbered whole z w.gives.after there w.root also w.gives.written u made.after q made.last second made.is_last)
+-- what passes leave of a module is what they make of its tree
+left : (passes : List KitPass) (before : KitContext) (root : Ptr Operation) (text : List ℕ) (t : Entity ℕ)
+    (h : HoldsText t before root) (g : PassesGive passes before root text)
+    → IsTreeAfter {N = by_handle} (key_at before.types) no_number (map pass_of passes) h.tree g.written.holds.tree
+left passes before root text t h g =
+    let made = g.passed.tree h.tree h.is_tree in
+    subst (λ (z : KitTree). IsTreeAfter {N = by_handle} (key_at before.types) no_number (map pass_of passes) h.tree z)
+    (one_tree g.after.program root made.0 g.written.holds.tree made.1 g.written.holds.is_tree) (made.2 no_number)
+
+-- a list of passes that is cut
+record Halves (s : KitContext) (xs ys : List Pass) (t r : KitTree) : Type 0 where
+  middle : KitTree
+  first : IsTreeAfter {N = by_handle} (key_at s.types) no_number xs t middle
+  second : IsTreeAfter {N = by_handle} (key_at s.types) no_number ys middle r
+
+halves : (s : KitContext) (xs ys : List Pass) (t r : KitTree)
+    → IsTreeAfter {N = by_handle} (key_at s.types) no_number (xs ++ ys) t r → Halves s xs ys t r
+halves s [] ys t r a = record { middle = t; first = refl; second = a }
+halves s (x ∷ xs) ys t r a =
+    let rest = halves s xs ys a.1.0 r a.1.2 in
+    record { middle = rest.middle; first = (a.0, (a.1.0, a.1.1, rest.first)); second = rest.second }
+
+-- closed trees, one after another
+abbrev AllClosed : List (Entity ℕ) → Type 0
+AllClosed texts = (a : Entity ℕ) → Has a texts → IsClosed kit_language a
+
+none_closed : AllClosed []
+none_closed a h = absurd h
+
+more_closed : (x : Entity ℕ) (xs : List (Entity ℕ)) → IsClosed kit_language x → AllClosed xs → AllClosed (x ∷ xs)
+more_closed x xs c cs a (inl e) = subst (IsClosed kit_language) (sym e) c
+more_closed x xs c cs a (inr h) = cs a h
+
+module _ (closed : SaidAreClosed) (numbers : TypesAreNumbered) (alike : OneTextSaysTheSame) (one : TheSameSayOneText)
+    (keep : PassesKeepSame) (beginning rest : List KitPass) (bytes front text whole : List ℕ)
+    (b : RunGives beginning bytes front) (r : RunGives rest front text) (w : RunGives (beginning ++ rest) bytes whole) where
+  -- the tree that bytes say, and the operation holds, is closed
+  closed_said : (passes : List KitPass) (input output : List ℕ) (g : RunGives passes input output)
+      → IsClosed kit_language g.accepted.0.text
+  closed_said passes input output g =
+      (closed g.accepted.0.holds.values (seen g.before) g.root (chars input) g.accepted.0.text g.accepted.0.says_it.1
+      g.accepted.0.holds.stands).0
+
+  -- the trees that are read and those that are written
+  abbrev texts : List (Entity ℕ)
+  texts =
+      b.accepted.0.text ∷ b.gives.written.tree ∷ w.accepted.0.text ∷ w.gives.written.tree ∷ r.accepted.0.text
+      ∷ r.gives.written.tree ∷ []
+
+  all_closed : AllClosed texts
+  all_closed =
+      more_closed _ _ (closed_said beginning bytes front b) (more_closed _ _ b.gives.written.closed
+      (more_closed _ _ (closed_said (beginning ++ rest) bytes whole w) (more_closed _ _ w.gives.written.closed
+      (more_closed _ _ (closed_said rest front text r) (more_closed _ _ r.gives.written.closed none_closed)))))
+
+  -- the whole list, cut
+  cut_whole : Halves w.before (map pass_of beginning) (map pass_of rest) w.accepted.0.holds.tree w.gives.written.holds.tree
+  cut_whole = halves w.before (map pass_of beginning) (map pass_of rest) w.accepted.0.holds.tree w.gives.written.holds.tree
+      (subst (λ xs. IsTreeAfter {N = by_handle} (key_at w.before.types) no_number xs w.accepted.0.holds.tree
+      w.gives.written.holds.tree) (map-append pass_of beginning rest)
+      (left (beginning ++ rest) w.before w.root whole w.accepted.0.text w.accepted.0.holds w.gives))
+
+  -- the front is the text of the tree that it says
+  read_back : IsSameModule r.accepted.0.text b.gives.written.tree
+  read_back =
+      ap unlabelled (one_said front r.accepted.0.text b.gives.written.again r.accepted.0.says_it b.gives.written.accepted.says_it)
+      ∙ b.gives.written.same
+
+  -- what the rest of the list writes is what the whole list writes
+  written_same : IsSameModule r.gives.written.tree w.gives.written.tree
+  written_same =
+      let n = numbers texts all_closed in
+      let first = holding b.accepted.0.text b.before b.root b.accepted.0.holds in
+      let half = holding b.gives.written.tree b.gives.after b.root b.gives.written.holds in
+      let again = holding w.accepted.0.text w.before w.root w.accepted.0.holds in
+      let end = holding w.gives.written.tree w.gives.after w.root w.gives.written.holds in
+      let reread = holding r.accepted.0.text r.before r.root r.accepted.0.holds in
+      let last = holding r.gives.written.tree r.gives.after r.root r.gives.written.holds in
+      let cb = n.2 b.before b.gives.after b.accepted.0.text b.gives.written.tree b.root b.root b.accepted.0.holds.tree
+      b.gives.written.holds.tree b.gives.passed.types (inl refl) (inr (inl refl)) first half in
+      let cw = n.2 w.before w.gives.after w.accepted.0.text w.gives.written.tree w.root w.root w.accepted.0.holds.tree
+      w.gives.written.holds.tree w.gives.passed.types (inr (inr (inl refl))) (inr (inr (inr (inl refl)))) again end in
+      let cr = n.2 r.before r.gives.after r.accepted.0.text r.gives.written.tree r.root r.root r.accepted.0.holds.tree
+      r.gives.written.holds.tree r.gives.passed.types (inr (inr (inr (inr (inl refl)))))
+      (inr (inr (inr (inr (inr (inl refl)))))) reread last in
+      let begun : SayTheSame cb.0.to cw.0.to b.accepted.0.holds.tree w.accepted.0.holds.tree =
+      alike n.0 cb.0.to cw.0.to b.accepted.0.text w.accepted.0.text b.before w.before b.root w.root
+      b.accepted.0.holds.tree w.accepted.0.holds.tree
+      (ap unlabelled (one_said bytes b.accepted.0.text w.accepted.0.text b.accepted.0.says_it w.accepted.0.says_it))
+      first again cb.1 cw.1 in
+      let middle : SayTheSame cb.0.to cw.0.to b.gives.written.holds.tree cut_whole.middle =
+      keep (key_at b.before.types) (key_at w.before.types) cb.0 cw.0 no_number (map pass_of beginning)
+      b.accepted.0.holds.tree w.accepted.0.holds.tree b.gives.written.holds.tree cut_whole.middle begun
+      (left beginning b.before b.root front b.accepted.0.text b.accepted.0.holds b.gives) cut_whole.first in
+      let between : SayTheSame cr.0.to cb.0.to r.accepted.0.holds.tree b.gives.written.holds.tree =
+      alike n.0 cr.0.to cb.0.to r.accepted.0.text b.gives.written.tree r.before b.gives.after r.root b.root
+      r.accepted.0.holds.tree b.gives.written.holds.tree read_back reread half cr.1 cb.2 in
+      let start : SayTheSame cr.0.to cw.0.to r.accepted.0.holds.tree cut_whole.middle =
+      same_on (mean_root (meanings cr.0.to) r.accepted.0.holds.tree) (mean_root (meanings cb.0.to) b.gives.written.holds.tree)
+      (mean_root (meanings cw.0.to) cut_whole.middle) between middle in
+      let ends : SayTheSame cr.0.to cw.0.to r.gives.written.holds.tree w.gives.written.holds.tree =
+      keep (key_at r.before.types) (key_at w.before.types) cr.0 cw.0 no_number (map pass_of rest)
+      r.accepted.0.holds.tree cut_whole.middle r.gives.written.holds.tree w.gives.written.holds.tree start
+      (left rest r.before r.root text r.accepted.0.text r.accepted.0.holds r.gives) cut_whole.second in
+      one n.0 cr.0.to cw.0.to r.gives.written.tree w.gives.written.tree r.gives.after w.gives.after r.root w.root
+      r.gives.written.holds.tree w.gives.written.holds.tree ends last end cr.2 cw.2
+      (n.1 r.gives.written.tree w.gives.written.tree (inr (inr (inr (inr (inr (inl refl)))))) (inr (inr (inr (inl refl)))))
+      r.gives.written.closed w.gives.written.closed r.gives.written.numbered w.gives.written.numbered
+
+  -- the rest of a list, run on the text that its beginning gave, gives a text of the same module as the whole list
+  pub cut : HaveOneModule text whole
+  cut x y said also =
+      ap unlabelled (one_said text x r.gives.written.again said r.gives.written.accepted.says_it) ∙ r.gives.written.same
+      ∙ written_same ∙ sym w.gives.written.same
+      ∙ sym (ap unlabelled (one_said whole y w.gives.written.again also w.gives.written.accepted.says_it))

@@ -24,6 +24,8 @@ pub written : TextsHaveOneVerdict → (s : KitContext) (root : Ptr Operation) (o
 written law s root own text rules laid read = record {
   tree = own.tree;
   holds = own.holds;
+  closed = own.closed;
+  numbered = own.numbered;
   laid_out = laid;
   again = read.again;
   accepted = record {

@@ -2,7 +2,7 @@
 use Rattle.std.specs.Prelude.{ℕ, List, map, Result, Ok, Err}
 use Rattle.ir_base.specs.declared.growth.GrowError.{GrowError}
 use Rattle.ir_base.specs.declared.growth.GrowError.TheVariants.{Memory, CounterFull}
-use Rattle.ir_forest.specs.Closed.{IsSameModule}
+use Rattle.ir_forest.specs.Closed.{IsClosed, IsNumbered, IsSameModule}
 use Rattle.ir_print.specs.Pieces.{Entity}
 use Rattle.ir_program.specs.declared.handles.Operation.{Operation}
 use Rattle.ir_program.specs.declared.handles.Ptr.{Ptr}
@@ -16,10 +16,12 @@ use Rattle.module_printing.specs.Again.{IsTextOfModule}
 use Rattle.irkit_driver.specs.Texts.{HoldsText, IsAcceptedText}
 
 -- The text is one of the tree that an operation stands for, with a line end, and is accepted again, as the same module:
--- of the same tree but for labels.
+-- of the same tree but for labels. The tree is closed, and its definitions are numbered in the order of the text.
 pub record IsWrittenAs (s : KitContext) (root : Ptr Operation) (text : List ℕ) : Type 0 where
   pub tree : Entity ℕ
   pub holds : HoldsText tree s root
+  pub closed : IsClosed kit_language tree
+  pub numbered : IsNumbered tree
   pub laid_out : IsTextOfModule kit_language tree text
   pub again : Entity ℕ
   pub accepted : IsAcceptedText text again

@@ -14,7 +14,7 @@ use Rattle.kit_checks.specs.declared.rule.Rule.{Rule}
 use Rattle.kit_language.specs.Language.{kit_language}
 use Rattle.kit_ops.specs.contracts.types.KitTypePartialEq.TheImpl as of_types
 use Rattle.kit_ruled_views.specs.Functions.{KitContext, KeepsRules}
-use Rattle.kit_ruled_views.specs.Ruled.{KitTree}
+use Rattle.kit_ruled_views.specs.Ruled.{HasOwnNames, KitTree}
 use Rattle.kit_text_programs.specs.Laws.{HaveOwnNumbers}
 use Rattle.kit_text_rules.specs.Laws.{HaveWrittenTypes}
 use Rattle.kit_texts.specs.Says.{says}
@@ -30,14 +30,16 @@ HasFault bytes fault = IsUtf8 bytes × IsTextFault kit_language (chars bytes) fa
 abbrev pub SaysTree : List ℕ → Entity ℕ → Type 0
 SaysTree bytes text = IsUtf8 bytes × Says kit_language (chars bytes) text
 
--- An operation of a context stands for a tree of texts, each number of which names one value. The last two fields hold of
--- each context: a type has one handle, and values have the types that are written where they are defined.
+-- An operation of a context stands for a tree of texts, each number of which names one value. The last three fields hold
+-- of each context: names in the operation's tree are distinct, a type has one handle, and values have the types that are
+-- written where they are defined.
 pub record HoldsText (text : Entity ℕ) (s : KitContext) (root : Ptr Operation) : Type 0 where
   pub values : List Value
   pub distinct : HaveOwnNumbers values
   pub stands : StandsForTexts says (Named values) (seen s) root text
   pub tree : KitTree
   pub is_tree : StandsFor s.program root tree
+  pub names : HasOwnNames tree
   pub handles : HasDistinctTypes (of_types.ghosts).eq s.types
   pub types : HaveWrittenTypes s tree
 

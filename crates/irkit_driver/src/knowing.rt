@@ -21,13 +21,14 @@ use kit_pass_rules::know_handles_and_types;
 use kit_ruled_passes::know_scopes;
 use kit_written_trees::writable_trees_have_texts;
 
-/// Tells of an operation that stands for a tree of texts that it holds it: its own tree is there, each type has one
-/// handle, and values have the types that are written. It does nothing.
+/// Tells of an operation that stands for a tree of texts that it holds it: its own tree is there, names are distinct in
+/// it, each type has one handle, and values have the types that are written. It does nothing.
 pub(crate) fn know_holding(ctx: &Context<Kit>, root: Ptr<Operation>)
     requires { IsSome (operation_at ctx.now.program root) }
     ensures { (text : Entity ℕ) (values : List Value) → HaveOwnNumbers values
         → StandsForTexts says (Named values) (seen ctx.now) root text → HoldsText text ctx.now root }
 {
+    know_ordinary(ctx, root);
     ctx.types().know_distinct();
     let program = ctx.program();
     program.know_values();

@@ -8,12 +8,14 @@ ghost use Rattle.kit_checks.specs.declared.rule.Rule.{Rule};
 ghost use Rattle.kit_optimiser.specs.declared.pass.KitPass.{KitPass};
 ghost use Rattle.kit_ruled_views.specs.Functions.{KitContext};
 ghost use Rattle.irkit_driver.specs.Outcomes.{RunGives};
-ghost use Rattle.irkit_driver.specs.Same.{HaveOneProgram};
+ghost use Rattle.irkit_driver.specs.Same.{HaveOneModule};
 ghost use Rattle.irkit_driver.specs.Texts.{BreaksRule, HasFault, IsAccepted, IsAcceptedAs, SaysTree};
 
-use kit_optimised_programs::optimised_lists_cut;
-use kit_text_programs::texts_have_one_program;
+use kit::Kit;
+use kit_language::kit_can_print;
+use kit_same_modules::{passes_keep_same, texts_say_the_same, types_are_numbered};
 use kit_text_rules::texts_have_one_verdict;
+use text_rereading::laws::trees_of_texts_are_closed;
 
 /// The bytes of an input have one fault of the text at most, and none where they say a tree; and they say one tree.
 pub fn inputs_have_one_answer()
@@ -38,12 +40,15 @@ pub fn inputs_have_one_verdict()
 }
 
 /// The rest of a list of passes, run on the text that its beginning gave, gives the module that the whole list gives:
-/// one with the same program.
+/// the two texts say one tree, but for labels.
 pub fn lists_of_passes_cut()
     ensures { (beginning rest : List KitPass) (bytes front text whole : List ℕ)
         → RunGives beginning bytes front → RunGives rest front text → RunGives (beginning ++ rest) bytes whole
-        → HaveOneProgram text whole }
+        → HaveOneModule text whole }
 {
-    texts_have_one_program();
-    optimised_lists_cut();
+    trees_of_texts_are_closed::<Kit>();
+    kit_can_print();
+    types_are_numbered();
+    texts_say_the_same();
+    passes_keep_same();
 }

@@ -21,6 +21,7 @@ returns c = λ text values distinct stands.
       stands = stands;
       tree = tree.0;
       is_tree = tree.1;
+      names = (c.know_ordinary.ensures tree.0 tree.1).0;
       handles = subst (HasDistinctTypes (of_types.ghosts).eq) c.types.ensures c.know_distinct.ensures;
       types = written_types s c.args.root typed tree.0 tree.1 (c.know_handles_and_types.ensures.typed tree.0 tree.1);
     }

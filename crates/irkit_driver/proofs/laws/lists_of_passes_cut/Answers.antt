@@ -1,5 +1,10 @@
-use Rattle.irkit_driver.proofs.CutLemmas.{cut}
+use Rattle.std.proofs.Common.{refl}
+use Rattle.kit_language.specs.Language.{kit_language}
+use Rattle.irkit_driver.proofs.CutLemmas.{SaidAreClosed, cut}
 use Rattle.irkit_driver.proofs.laws.lists_of_passes_cut.Goals as goal
 
 pub returns : goal.returns
-returns c = cut c.texts_have_one_program.ensures c.optimised_lists_cut.ensures
+returns c =
+    let closed : SaidAreClosed = c.trees_of_texts_are_closed.ensures kit_language c.kit_can_print.ensures refl refl in
+    cut closed c.types_are_numbered.ensures c.texts_say_the_same.ensures.same c.texts_say_the_same.ensures.one
+    c.passes_keep_same.ensures

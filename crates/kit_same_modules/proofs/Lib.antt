@@ -1,0 +1,4 @@
+pub mod Passes
+pub mod SaidTexts
+pub mod ToldTexts
+pub mod TypeNumbers

@@ -1,0 +1,10 @@
+pub mod KitMeant
+pub mod MeantNames
+pub mod MeantOrderly
+pub mod EndsOnce
+pub mod SoundOrderly
+pub mod OperandsDefined
+pub mod Beside
+pub mod IntegersMeant
+pub mod KnownAlike
+pub mod PassesKeep

@@ -1,0 +1,110 @@
+-- The statements of the laws.
+use Rattle.std.specs.Prelude.{◌≡◌, ℕ, List, [], ◌∷◌, ◌++◌, Option, map}
+use Rattle.ir_base.specs.declared.types.TypeHandle.{TypeHandle}
+use Rattle.ir_forest.specs.Closed.{IsClosed, IsNumbered, IsSameModule}
+use Rattle.ir_names.specs.Tree.{node, no_tree, a_tree}
+use Rattle.ir_print.specs.Pieces.{type_of_kind, Pieces, ValueTree, Head, operation, a_region, block, Entity, entity}
+use Rattle.ir_print.specs.Pieces.{Entities, no_entity, an_entity}
+use Rattle.ir_print.specs.Shown.{ShowsType}
+use Rattle.ir_program.specs.declared.handles.Operation.{Operation}
+use Rattle.ir_program.specs.declared.handles.Ptr.{Ptr}
+use Rattle.ir_program.specs.declared.handles.Value.{Value}
+use Rattle.ir_trees.specs.Renames.{IsSame}
+use Rattle.ir_trees.specs.Stands.{by_handle, StandsFor}
+use Rattle.kit_behaviour.specs.PassLists.{Pass}
+use Rattle.kit_language.specs.Language.{kit_language}
+use Rattle.kit_module_programs.specs.TreePasses.{IsTreeAfter}
+use Rattle.kit_ops.specs.declared.types.KitType.{KitType}
+use Rattle.kit_ruled_views.specs.Ruled.{HasOwnNames}
+use Rattle.kit_text_programs.specs.Laws.{HaveOwnNumbers}
+use Rattle.kit_text_rules.specs.Laws.{HasOneHandleEach}
+use Rattle.kit_texts.specs.Says.{says}
+use Rattle.kit_writable_trees.specs.Laws.{KitContext, KitTree}
+use Rattle.opt_meanings.specs.Meanings.{Words, mean_root}
+use Rattle.opt_trees.specs.Occurrences.{Has}
+use Rattle.text_dialect.specs.Seen.{seen}
+use Rattle.text_dialect.specs.Standing.{StandsForTexts}
+use Rattle.text_rereading.specs.Rereading.{Named}
+use Rattle.kit_same_modules.specs.Meanings.{meanings}
+
+-- 1. passes
+
+-- trees of two contexts say the same, by these numbers of types, up to the handles in them
+abbrev pub SayTheSame : (TypeHandle → ℕ) → (TypeHandle → ℕ) → KitTree → KitTree → Type 0
+SayTheSame number other t u =
+    IsSame {N = by_handle} {M = by_handle} (mean_root (meanings number) t) (mean_root (meanings other) u)
+
+-- of trees that say the same a list of passes makes trees that say the same
+abbrev pub PassesKeepSame : Type 0
+PassesKeepSame = (leads others : TypeHandle → Option KitType) (codes other_codes : Words TypeHandle ℕ)
+    (numbered : List ℕ → ℕ) (xs : List Pass) (t u r q : KitTree) → SayTheSame codes.to other_codes.to t u →
+    IsTreeAfter {N = by_handle} leads numbered xs t r → IsTreeAfter {N = by_handle} others numbered xs u q →
+    SayTheSame codes.to other_codes.to r q
+
+-- 2. texts
+
+-- the types among pieces
+abbrev pub types_among : Pieces → List ValueTree
+types_among no_tree = []
+types_among (a_tree (node (type_of_kind n) us) ts) = node (type_of_kind n) us ∷ types_among ts
+types_among (a_tree (node _ us) ts) = types_among ts
+
+-- the types that a head says: those of its results or arguments, and those among its pieces
+abbrev pub types_of_head : Head ℕ → List ValueTree
+types_of_head (operation kind results used pieces) = map (λ (r : ℕ × ValueTree). r.1) results ++ types_among pieces
+types_of_head a_region = []
+types_of_head (block label arguments) = map (λ (r : ℕ × ValueTree). r.1) arguments
+
+abbrev mutual
+  -- the types that a tree of texts says
+  pub types_said : Entity ℕ → List ValueTree
+  types_said (entity h ts) = types_of_head h ++ all_types_said ts
+
+  pub all_types_said : Entities ℕ → List ValueTree
+  all_types_said no_entity = []
+  all_types_said (an_entity t ts) = types_said t ++ all_types_said ts
+
+-- an operation of a context stands for this tree and for this tree of texts; names in both are distinct, and a type has
+-- one handle
+pub record StandsAs (text : Entity ℕ) (s : KitContext) (root : Ptr Operation) (t : KitTree) : Type 0 where
+  pub values : List Value
+  pub distinct : HaveOwnNumbers values
+  pub stands : StandsForTexts says (Named values) (seen s) root text
+  pub is_tree : StandsFor s.program root t
+  pub names : HasOwnNames t
+  pub handles : HasOneHandleEach s
+
+-- types of the context that the text says have the numbers that their texts have
+abbrev pub HaveTextNumbers : (ValueTree → ℕ) → (TypeHandle → ℕ) → KitContext → Entity ℕ → Type 0
+HaveTextNumbers number code s text = (h : TypeHandle) (r : ValueTree) → ShowsType says s.types.keys h r →
+    Has r (types_said text) → code h ≡ number r
+
+-- what stands in two contexts for one text says the same
+abbrev pub OneTextSaysTheSame : Type 0
+OneTextSaysTheSame = (number : ValueTree → ℕ) (code other_code : TypeHandle → ℕ) (text other : Entity ℕ)
+    (s z : KitContext) (root there : Ptr Operation) (t u : KitTree) → IsSameModule text other →
+    StandsAs text s root t → StandsAs other z there u → HaveTextNumbers number code s text →
+    HaveTextNumbers number other_code z other → SayTheSame code other_code t u
+
+-- different types of these have different numbers
+abbrev pub NumbersApart : (ValueTree → ℕ) → List ValueTree → Type 0
+NumbersApart number rs = (r q : ValueTree) → Has r rs → Has q rs → number r ≡ number q → r ≡ q
+
+-- what says the same stands for one text, but for labels: where the texts are closed, and name definitions in their order
+abbrev pub TheSameSayOneText : Type 0
+TheSameSayOneText = (number : ValueTree → ℕ) (code other_code : TypeHandle → ℕ) (text other : Entity ℕ)
+    (s z : KitContext) (root there : Ptr Operation) (t u : KitTree) → SayTheSame code other_code t u →
+    StandsAs text s root t → StandsAs other z there u → HaveTextNumbers number code s text →
+    HaveTextNumbers number other_code z other → NumbersApart number (types_said text ++ types_said other) →
+    IsClosed kit_language text → IsClosed kit_language other → IsNumbered text → IsNumbered other →
+    IsSameModule text other
+
+-- types that closed texts say can be numbered, and with them those of contexts with the same types in which operations
+-- stand for two of the texts
+abbrev pub TypesAreNumbered : Type 0
+TypesAreNumbered = (texts : List (Entity ℕ)) → ((a : Entity ℕ) → Has a texts → IsClosed kit_language a) →
+    (number : ValueTree → ℕ)
+    × ((a b : Entity ℕ) → Has a texts → Has b texts → NumbersApart number (types_said a ++ types_said b))
+    × ((s z : KitContext) (a b : Entity ℕ) (root there : Ptr Operation) (t u : KitTree) → z.types ≡ s.types →
+    Has a texts → Has b texts → StandsAs a s root t → StandsAs b z there u →
+    (codes : Words TypeHandle ℕ) × HaveTextNumbers number codes.to s a × HaveTextNumbers number codes.to z b)

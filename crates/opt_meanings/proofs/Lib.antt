@@ -1,0 +1,11 @@
+pub mod Said
+pub mod FactsMeant
+pub mod SccpMeant
+pub mod DceMeant
+pub mod SimplifyMeant
+pub mod Permuted
+pub mod RenamedSame
+pub mod SameSccp
+pub mod SameDce
+pub mod SimplifyShared
+pub mod Worded
