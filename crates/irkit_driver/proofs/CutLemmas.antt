@@ -172,7 +172,10 @@ module _ (closed : SaidAreClosed) (numbers : TypesAreNumbered) (alike : OneTextS
 
   -- the rest of a list, run on the text that its beginning gave, gives a text of the same module as the whole list
   pub cut : HaveOneModule text whole
-  cut x y said also =
-      ap unlabelled (one_said text x r.gives.written.again said r.gives.written.accepted.says_it) ∙ r.gives.written.same
-      ∙ written_same ∙ sym w.gives.written.same
-      ∙ sym (ap unlabelled (one_said whole y w.gives.written.again also w.gives.written.accepted.says_it))
+  cut = record {
+    tree = r.gives.written.again;
+    other_tree = w.gives.written.again;
+    says_it = r.gives.written.accepted.says_it;
+    other_says = w.gives.written.accepted.says_it;
+    same = r.gives.written.same ∙ written_same ∙ sym w.gives.written.same;
+  }

@@ -4,7 +4,11 @@ use Rattle.ir_forest.specs.Closed.{IsSameModule}
 use Rattle.ir_print.specs.Pieces.{Entity}
 use Rattle.irkit_driver.specs.Texts.{SaysTree}
 
--- the trees that the two texts say are the same but for labels: kinds, types and attributes at each place, and the places
--- that define what operations use
-abbrev pub HaveOneModule : List ℕ → List ℕ → Type 0
-HaveOneModule text other = (a b : Entity ℕ) → SaysTree text a → SaysTree other b → IsSameModule a b
+-- The texts say trees that are the same but for labels: kinds, types and attributes at each place, and which definitions
+-- operands name. No text of today has successors.
+pub record HaveOneModule (text other : List ℕ) : Type 0 where
+  pub tree : Entity ℕ
+  pub other_tree : Entity ℕ
+  pub says_it : SaysTree text tree
+  pub other_says : SaysTree other other_tree
+  pub same : IsSameModule tree other_tree

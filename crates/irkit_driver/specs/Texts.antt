@@ -30,9 +30,9 @@ HasFault bytes fault = IsUtf8 bytes × IsTextFault kit_language (chars bytes) fa
 abbrev pub SaysTree : List ℕ → Entity ℕ → Type 0
 SaysTree bytes text = IsUtf8 bytes × Says kit_language (chars bytes) text
 
--- An operation of a context stands for a tree of texts, each number of which names one value. The last three fields hold
--- of each context: names in the operation's tree are distinct, a type has one handle, and values have the types that are
--- written where they are defined.
+-- An operation of a context stands for a tree of texts, different numbers of which name different values. The last three
+-- fields hold of each context: below the operation no two operations, blocks or definitions have one handle, a type has
+-- one handle, and values have the types that are written where they are defined.
 pub record HoldsText (text : Entity ℕ) (s : KitContext) (root : Ptr Operation) : Type 0 where
   pub values : List Value
   pub distinct : HaveOwnNumbers values
@@ -73,7 +73,8 @@ pub record IsAcceptedText (bytes : List ℕ) (text : Entity ℕ) : Type 0 where
 abbrev pub IsAccepted : List ℕ → Type 0
 IsAccepted bytes = (text : Entity ℕ) × IsAcceptedText bytes text
 
--- The bytes are UTF-8, and what is read of their characters has more definitions of values than are left above a counter.
+-- The bytes are UTF-8, and what is read of their characters has more definitions of values than are left above a
+-- counter.
 abbrev pub Overfills : ℕ → List ℕ → Type 0
 Overfills counter bytes =
     IsUtf8 bytes × ((n : ℕ) × HasDefinitions kit_language (chars bytes) n × (2 ^ 64 ≤ counter + n))

@@ -1,6 +1,7 @@
 //! From a reader to a module of a context.
 ghost use Rattle.std.specs.Prelude.{◌≡◌, false, IfOk};
 ghost use Rattle.ir_program.specs.Edits.{KeepsErased};
+ghost use Rattle.text_building.specs.Kept.{KeepsPayloads};
 ghost use Rattle.irkit_streams.specs.Streams.{has_failed};
 ghost use Rattle.irkit_driver.specs.Known.{CanBeWritten, HasGrammar};
 ghost use Rattle.irkit_driver.specs.Outcomes.{EndsLoad, Understands};
@@ -40,6 +41,7 @@ pub fn load<R: Read>(
     ensures writable { IfOk result (CanBeWritten ctx.new) }
     ensures grammar { IfOk result (λ _. HasGrammar) }
     ensures erased { KeepsErased ctx.old.program ctx.new.program }
+    ensures payloads { KeepsPayloads ctx.old.program ctx.new.program }
 {
     let bytes = read_to_end(alloc, reader, TURNS)?;
     understand(alloc, ctx, bytes)
@@ -55,6 +57,7 @@ fn understand(
     ensures writable { IfOk result (CanBeWritten ctx.new) }
     ensures grammar { IfOk result (λ _. HasGrammar) }
     ensures erased { KeepsErased ctx.old.program ctx.new.program }
+    ensures payloads { KeepsPayloads ctx.old.program ctx.new.program }
 {
     let chars = decode(alloc, bytes.as_slice())?;
     // The characters say all of them, so their memory is free while the module is made.

@@ -26,6 +26,7 @@ use Rattle.ir_formats.specs.Ordered.{Standing, alone, moved_by}
 use Rattle.ir_scopes.specs.Naming.{defined_by, defined_from, mentioned_by, mentioned_from}
 use Rattle.text_dialect.specs.Seen.{Seen, seen}
 use Rattle.text_building.specs.Inside.{NamesWhatIsThere}
+use Rattle.text_building.specs.Kept.{KeepsPayloads}
 use Rattle.text_frames.specs.declared.opened.Body.{Body}
 use Rattle.text_frames.specs.declared.opened.Body.TheVariants as body
 use Rattle.text_frames.specs.declared.opened.Open.{Open}
@@ -301,7 +302,8 @@ took_so es i a b (Did x) at le took did = let w = did x at in omega (arith, le, 
 
 -- ---- while it runs
 
--- So many events were taken, of which this was made; no handle that led nowhere for good leads somewhere.
+-- So many events were taken, of which this was made; no handle that led nowhere for good leads somewhere, and payloads
+-- stay.
 pub record RunsSo {D TypeKind AttrKind TypeBody Saved Location OpKind Attr TypeKey : Type 0} (says : Saying OpKind Attr TypeKey) (values : Values) (text : ℕ → List ℕ)
     (old now : ContextView (OperationData D TypeKind AttrKind TypeBody Saved Location OpKind Attr TypeKey) (BlockNotes D TypeKind AttrKind TypeBody Saved Location OpKind Attr TypeKey)
     (TypesView TypeKey TypeBody Saved))
@@ -309,3 +311,4 @@ pub record RunsSo {D TypeKind AttrKind TypeBody Saved Location OpKind Attr TypeK
   pub taken : a.taken ≤ i
   pub gathers : Gathers says values text (seen old) old.program.counter (stage now) a es (drop i es)
   pub erased : KeepsErased old.program now.program
+  pub payloads : KeepsPayloads old.program now.program

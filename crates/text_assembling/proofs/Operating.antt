@@ -9,8 +9,9 @@ use Rattle.ir_program.specs.declared.handles.BasicBlock.{BasicBlock}
 use Rattle.ir_program.specs.declared.handles.Operation.{Operation}
 use Rattle.ir_program.specs.declared.handles.Ptr.{Ptr}
 use Rattle.text_dialect.specs.Seen.{Seen}
-use Rattle.text_building.specs.Kept.{GivesNumbers, SameSeen}
+use Rattle.text_building.specs.Kept.{GivesNumbers, KeepsPayloads, SameSeen}
 use Rattle.text_building.proofs.Numbers.{erased_both, gives_still}
+use Rattle.text_building.proofs.Payloads.{payloads_both}
 use Rattle.text_building.specs.Loose.{IsLooseBlock}
 use Rattle.text_building.specs.Made.{MakesOperation}
 use Rattle.text_building.proofs.Later.{makes_loose_block}
@@ -66,3 +67,6 @@ module _ {O B : Type 0} (c d : Program O B) (same : d ≡ c) where
 
   pub erased_so : (e f : Program O B) → KeepsErased d e → KeepsErased e f → KeepsErased c f
   erased_so e f h k = subst (λ (x : Program O B). KeepsErased x f) same (erased_both d e f h k)
+
+  pub payloads_so : (e f : Program O B) → KeepsPayloads d e → KeepsPayloads e f → KeepsPayloads c f
+  payloads_so e f h k = subst (λ (x : Program O B). KeepsPayloads x f) same (payloads_both d e f h k)

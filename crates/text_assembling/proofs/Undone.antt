@@ -11,8 +11,9 @@ use Rattle.ir_context.specs.declared.notes.OperationData.{OperationData}
 use Rattle.ir_program.specs.declared.handles.IRNode.{IRNode}
 use Rattle.std.specs.Prelude.{Vec}
 use Rattle.std.specs.Global.{Global}
-use Rattle.text_building.specs.Kept.{SameSeen}
+use Rattle.text_building.specs.Kept.{KeepsPayloads, SameSeen}
 use Rattle.text_building.proofs.Numbers.{gives_none}
+use Rattle.text_building.proofs.Payloads.{payloads_none}
 use Rattle.text_frames.specs.declared.assembly.Assembly.{Assembly}
 use Rattle.text_assembling.specs.declared.assembling.Assembler.{Assembler}
 use Rattle.text_assembling.specs.Steps.{IsUndone, UndoesStep}
@@ -22,6 +23,9 @@ use Rattle.text_frames.specs.Raised.{HoldsAllNew}
 module _ {O B : Type 0} where
   pub erased_same : (c d : Program O B) → d ≡ c → KeepsErased c d
   erased_same c d e = rw e (gives_none c).erased
+
+  pub payloads_same : (c d : Program O B) → d ≡ c → KeepsPayloads c d
+  payloads_same c d e = rw e (payloads_none c)
 
 -- what is well holds where it is no error, and what is wrong where it is one
 pub ok_unless : {X E P : Type 0} (r : Result X E) → ((e : E) → r ≡ Err e → ⊥) → OnOk r P → P

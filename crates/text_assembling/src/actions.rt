@@ -3,6 +3,7 @@ ghost use Rattle.std.specs.Prelude.{◌≡◌, Err, OnErr, OnOk};
 ghost use Rattle.ir_formats.specs.Words.{token_text};
 ghost use Rattle.ir_program.specs.Edits.{KeepsErased};
 ghost use Rattle.ir_tokens.specs.declared.faults.Fault.{Fault};
+ghost use Rattle.text_building.specs.Kept.{KeepsPayloads};
 ghost use Rattle.text_frames.specs.declared.opened.AssemblyFault.TheVariants.{CounterFull, Text};
 ghost use Rattle.text_assembling.specs.Steps.{DoesStep, LacksNumbers, MayStep, RefusesStep, UndoesStep};
 
@@ -15,7 +16,7 @@ use text_frames::source::Source;
 
 impl<D: TextDialect> Assembler<D> {
     /// Does what an action asks for.
-    #[tactic(auto, using(crate::proofs::Undone::erased_same, crate::proofs::Undone::undoes_same))]
+    #[tactic(auto, using(crate::proofs::Undone::erased_same, crate::proofs::Undone::payloads_same, crate::proofs::Undone::undoes_same))]
     pub fn step(
         &mut self,
         ctx: &mut Context<D>,
@@ -33,6 +34,7 @@ impl<D: TextDialect> Assembler<D> {
         ensures undone { OnErr result (UndoesStep ctx.old ctx.new self.old self.new) }
         ensures taken { self.new.taken ≡ self.old.taken }
         ensures erased { KeepsErased ctx.old.program ctx.new.program }
+        ensures payloads { KeepsPayloads ctx.old.program ctx.new.program }
     {
         match action {
             Action::Result => self.result(),

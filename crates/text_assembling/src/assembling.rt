@@ -15,7 +15,7 @@ ghost use Rattle.ir_program.specs.Edits.{KeepsErased};
 ghost use Rattle.ir_scopes.specs.Naming.{defined_from};
 ghost use Rattle.ir_tokens.specs.declared.faults.Fault.{Fault};
 ghost use Rattle.text_dialect.specs.Seen.{seen};
-ghost use Rattle.text_building.specs.Kept.{SameSeen};
+ghost use Rattle.text_building.specs.Kept.{KeepsPayloads, SameSeen};
 ghost use Rattle.text_frames.specs.Raised.{HoldsAllNew, IsAssembled};
 ghost use Rattle.text_frames.specs.declared.opened.AssemblyFault.TheVariants.{CounterFull, Text};
 ghost use Rattle.text_assembling.specs.Assembling.{IsNew};
@@ -87,6 +87,7 @@ impl<D: TextDialect> Assembler<D> {
             (token_text source.entry.chars.now source.entry.tokens.now) ctx.old self.old x }
         ensures undone { OnErr result (UndoesStep ctx.old ctx.new self.old self.new) }
         ensures erased { KeepsErased ctx.old.program ctx.new.program }
+        ensures payloads { KeepsPayloads ctx.old.program ctx.new.program }
     {
         match events[index] {
             Event::Took => {
@@ -133,6 +134,7 @@ pub fn assemble<D: TextDialect>(
     ensures full { result ≡ Err CounterFull
         → 2 ^ 64 ≤ ctx.old.program.counter + length (defined_from 0 events.now) }
     ensures erased { KeepsErased ctx.old.program ctx.new.program }
+    ensures payloads { KeepsPayloads ctx.old.program ctx.new.program }
 {
     know_seen(ctx);
     let mut assembler = Assembler::new(alloc);

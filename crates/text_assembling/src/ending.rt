@@ -10,6 +10,7 @@ ghost use Rattle.ir_program.specs.Edits.{KeepsErased};
 ghost use Rattle.ir_tokens.specs.declared.faults.Fault.{Fault};
 ghost use Rattle.ir_types.specs.Interned.{KeepsTypes};
 ghost use Rattle.text_dialect.specs.Seen.{seen};
+ghost use Rattle.text_building.specs.Kept.{KeepsPayloads};
 ghost use Rattle.text_frames.specs.declared.opened.AssemblyFault.TheVariants.{CounterFull, Text};
 ghost use Rattle.text_frames.specs.Frames.{Ended, Ending};
 ghost use Rattle.text_assembling.specs.Assembling.{HasMade, KeepsAround, stage};
@@ -24,7 +25,7 @@ use text_frames::opened::{AssemblyFault, Body, Open};
 
 impl<D: TextDialect> Assembler<D> {
     /// What was begun ends at the last token, in what is around it.
-    #[tactic(auto, using(crate::proofs::Undone::types_same, crate::proofs::Undone::erased_same, crate::proofs::Undone::undone_same))]
+    #[tactic(auto, using(crate::proofs::Undone::types_same, crate::proofs::Undone::erased_same, crate::proofs::Undone::payloads_same, crate::proofs::Undone::undone_same))]
     fn end_in(&mut self, ctx: &mut Context<D>, ended: Open<D>) -> Result<(), AssemblyFault>
         requires going { CanEndIn D.says D.values (stage ctx.old) ended self.old }
         ensures ended { (text : ℕ → List ℕ) (o : building.Open) (at next : Position) (ts : Trees Step)
@@ -48,6 +49,7 @@ impl<D: TextDialect> Assembler<D> {
         ensures around { KeepsAround self.old self.new }
         ensures types { KeepsTypes ctx.old.types ctx.new.types }
         ensures erased { KeepsErased ctx.old.program ctx.new.program }
+        ensures payloads { KeepsPayloads ctx.old.program ctx.new.program }
     {
         let Open {
             body,
@@ -82,6 +84,7 @@ impl<D: TextDialect> Assembler<D> {
         ensures undone { OnErr result (IsUndone (seen ctx.old) (seen ctx.new) self.old self.new) }
         ensures taken { self.new.taken ≡ self.old.taken }
         ensures erased { KeepsErased ctx.old.program ctx.new.program }
+        ensures payloads { KeepsPayloads ctx.old.program ctx.new.program }
     {
         let Some(outer) = self.around.pop() else {
             return Ok(());

@@ -19,7 +19,7 @@ ghost use Rattle.ir_program.specs.declared.handles.Ptr.{Ptr};
 ghost use Rattle.ir_tokens.specs.declared.faults.Fault.{Fault};
 ghost use Rattle.ir_types.specs.Interned.{KeepsTypes};
 ghost use Rattle.text_dialect.specs.Seen.{seen};
-ghost use Rattle.text_building.specs.Kept.{GivesNumbers};
+ghost use Rattle.text_building.specs.Kept.{GivesNumbers, KeepsPayloads};
 ghost use Rattle.text_building.specs.Loose.{IsLooseBlock, IsLooseOperation};
 ghost use Rattle.text_building.specs.Made.{lists_of};
 ghost use Rattle.text_frames.specs.Makes.{block_in, types_in};
@@ -63,6 +63,7 @@ impl<D: TextDialect> Assembler<D> {
         ensures undone { OnErr result (IsUndone (seen ctx.old) (seen ctx.new) self.old self.new) }
         ensures types { ctx.new.types ≡ ctx.old.types }
         ensures erased { KeepsErased ctx.old.program ctx.new.program }
+        ensures payloads { KeepsPayloads ctx.old.program ctx.new.program }
     {
         self.here.names.clear();
         let label = label_of(self.alloc, source.text(self.here.first))?;
@@ -165,6 +166,7 @@ impl<D: TextDialect> Assembler<D> {
         ensures around { KeepsAround self.old self.new }
         ensures types { KeepsTypes ctx.old.types ctx.new.types }
         ensures erased { KeepsErased ctx.old.program ctx.new.program }
+        ensures payloads { KeepsPayloads ctx.old.program ctx.new.program }
     {
         let (kind, draft) = match draft_of(self.alloc, ctx, ended.kind, &content.parts) {
             Ok(draft) => draft,

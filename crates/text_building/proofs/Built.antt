@@ -16,6 +16,7 @@ use Rattle.text_building.proofs.Filled.{still_loose_operation}
 use Rattle.text_building.proofs.Members.{found_or_not, pairs_map}
 use Rattle.text_building.proofs.Opened.{ContextOf, loose_operation}
 use Rattle.text_building.proofs.Options.{no_some, same_some, there}
+use Rattle.text_building.proofs.Payloads.{payloads_built}
 
 module _ {D TypeKind AttrKind TypeBody Saved Location OpKind Attr TypeKey : Type 0}
     (c d : ContextOf D TypeKind AttrKind TypeBody Saved Location OpKind Attr TypeKey)
@@ -68,4 +69,8 @@ module _ {D TypeKind AttrKind TypeBody Saved Location OpKind Attr TypeKey : Type
     }
 
   pub built_numbers : GivesNumbers c.program d.program (length tys)
-  built_numbers = record { counter = built.counter; erased = built.erased }
+  built_numbers = record {
+    counter = built.counter;
+    erased = built.erased;
+    payloads = payloads_built c.program d.program p data_of tys [] [] n built;
+  }

@@ -10,7 +10,7 @@ use Rattle.ir_program.specs.declared.handles.BasicBlock.{BasicBlock}
 use Rattle.ir_program.specs.declared.handles.Value.{Value}
 use Rattle.text_dialect.specs.Seen.{SeenOperation, SeenBlock, Seen}
 use Rattle.text_building.specs.Kept.{SameSeen}
-use Rattle.text_building.specs.Inside.{IsThere, IsNowhere, IsInside, itself, IsLoose, AreLoose, IsInsideSome, AreUsedInside, AreUnused, without_names, DropsUses, Erases, CameSince, IsForest}
+use Rattle.text_building.specs.Inside.{IsThere, IsNowhere, IsInside, itself, IsLoose, AreLoose, IsInsideSome, AreUsedInside, AreUnused, without_names, DropsUses, Erases, CameSince, IsForest, IsOutside}
 use Rattle.text_building.proofs.Insides.{inside_there, loose_there, apart_before, some_front, some_back, some_either, some_one, one_some, none_inside, inside_now, inside_then}
 use Rattle.text_building.proofs.Members.{take_step}
 use Rattle.text_building.proofs.Options.{no_some, same_some, there, is_there, mapped}
@@ -83,6 +83,12 @@ module _ {K A T : Type 0} where
   pub next_there : (s t : Seen K A T) → IsForest s → (xs : List IRNode) → AreLoose s xs → (i : ℕ) (x : IRNode) → slice_get xs i ≡ Some x → DropsUses s t (take i xs) → IsThere t x
   next_there s t f xs loose i x here a = dropped_there s t t (take i xs) (x ∷ []) (apart_before s f xs loose i x here) a x (some_one s x x itself) (loose_there s x (loose.loose i x here))
 
+  -- what is inside none of the things isn't inside the next
+  pub next_outside : (s t : Seen K A T) → IsForest s → (xs : List IRNode) → AreLoose s xs → (i : ℕ) (x : IRNode) → slice_get xs i ≡ Some x → DropsUses s t (take i xs) → (start : Seen K A T) → IsOutside start s xs → IsOutside start t (x ∷ [])
+  next_outside s t f xs loose i x here a start out e shown h =
+      let was = some_then s t t (take i xs) (x ∷ []) (apart_before s f xs loose i x here) a e h in
+      out e shown (record { index = i; thing = x; here = here; inside = one_some s x e was })
+
   -- the first are erased, and then the second
   module _ (s t u : Seen K A T) (xs ys : List IRNode) (apart : HaveApart s xs ys) (a : Erases s t xs) where
     module _ (y : IRNode) (j : ℕ) (here : slice_get ys j ≡ Some y) where
@@ -146,6 +152,10 @@ module _ {K A T : Type 0} where
         loose = λ r bs k e listed. h.loose r bs k (region_was s t (take i xs) a r bs e) listed;
       }
 
+    -- what is inside none of the things isn't inside it
+    pub left_outside : (start : Seen K A T) → IsOutside start s xs → IsOutside start t (x ∷ [])
+    left_outside start out e shown h = out e shown (record { index = i; thing = x; here = here; inside = one_some s x e (left_then s t t (take i xs) (x ∷ []) apart a e h) })
+
     -- and unused
     pub next_unused : AreUnused s xs → AreUnused t (x ∷ [])
     next_unused unused = record {
@@ -200,6 +210,10 @@ module _ {K A T : Type 0} where
       no_successor p o k b e named i =
           let m = mapped without_names (s.operation p) o (sym (a.inside p i) ∙ e) in
           no_some b (ap (λ (y : SeenOperation K A). slice_get y.successors k) m.2 ∙ named)
+
+    -- what is inside none of them is so still
+    pub bare_outside : (start : Seen K A T) → IsOutside start s xs → IsOutside start t xs
+    bare_outside start out e shown h = out e shown (things_then e h)
 
     -- erasing them then is erasing them
     pub erases_bare : (u : Seen K A T) → Erases t u xs → Erases s u xs

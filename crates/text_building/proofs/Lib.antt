@@ -1,8 +1,10 @@
 pub mod Options
 pub mod Members
+pub mod Payloads
 pub mod Numbers
 pub mod Apart
 pub mod Opened
+pub mod Shown
 pub mod Filled
 pub mod Built
 pub mod Linked

@@ -19,6 +19,7 @@ use Rattle.text_building.specs.Kept.{SameSeen, GivesNumbers}
 use Rattle.text_building.specs.Loose.{IsLooseOperation, IsLooseBlock}
 use Rattle.text_building.specs.Made.{OpensBlock}
 use Rattle.text_building.proofs.Options.{is_there, there, mapped, mapped_there}
+use Rattle.text_building.proofs.Payloads.{payloads_opened}
 
 -- the contexts of a dialect
 abbrev pub ContextOf : (D TypeKind AttrKind TypeBody Saved Location OpKind Attr TypeKey : Type 0) → Type 0
@@ -99,4 +100,8 @@ module _ {D TypeKind AttrKind TypeBody Saved Location OpKind Attr TypeKey : Type
 
   pub opened_numbers : (b : Ptr BasicBlock) (notes : BlockNotes D TypeKind AttrKind TypeBody Saved Location OpKind Attr TypeKey) (tys : List TypeHandle)
       → BuildsBlock c.program d.program b notes tys → GivesNumbers c.program d.program (length tys)
-  opened_numbers b notes tys h = record { counter = h.counter; erased = h.erased }
+  opened_numbers b notes tys h = record {
+    counter = h.counter;
+    erased = h.erased;
+    payloads = payloads_opened c.program d.program b notes tys h;
+  }

@@ -1,6 +1,7 @@
 -- What is inside an operation, a region or a block, and taking it out.
 use Rattle.std.specs.Prelude.{◌≡◌, ℕ, List, [], Some, None, IsSome, slice_get, option_map}
 use Rattle.ir_program.specs.Erased.{definer_node}
+use Rattle.ir_program.specs.Program.{Program}
 use Rattle.ir_program.specs.declared.handles.Ptr.{Ptr}
 use Rattle.ir_program.specs.declared.handles.Operation.{Operation}
 use Rattle.ir_program.specs.declared.handles.Region.{Region}
@@ -9,7 +10,7 @@ use Rattle.ir_program.specs.declared.handles.Value.{Value}
 use Rattle.ir_program.specs.declared.handles.IRNode.{IRNode}
 use Rattle.ir_program.specs.declared.handles.IRNode.TheVariants.{Operation as OperationNode, Region as RegionNode, BasicBlock as BlockNode}
 use Rattle.text_dialect.specs.Seen.{SeenOperation, SeenBlock, Seen}
-use Rattle.text_building.specs.Kept.{Keeps}
+use Rattle.text_building.specs.Kept.{Keeps, KeepsPayloadsOf}
 use Rattle.text_building.specs.Loose.{IsLooseOperation, IsLooseBlock}
 
 module _ {K A T : Type 0} (s : Seen K A T) where
@@ -128,3 +129,11 @@ pub record CameSince {K A T : Type 0} (start now : Seen K A T) (xs : List IRNode
   pub named : NamesWhatIsThere start
   pub old : (e : IRNode) → IsThere start e → IsInsideSome now xs e → ⊥
   pub came : (e : IRNode) → IsNowhere start e → IsThere now e → IsInsideSome now xs e
+
+-- what is there at the start is inside none of these
+abbrev pub IsOutside : {K A T : Type 0} → Seen K A T → Seen K A T → List IRNode → Type 0
+IsOutside start now xs = (e : IRNode) → IsThere start e → IsInsideSome now xs e → ⊥
+
+-- what is inside none of these, where the old context is seen so, keeps its payload
+abbrev pub KeepsOutside : {K A T O B : Type 0} → Seen K A T → List IRNode → Program O B → Program O B → Type 0
+KeepsOutside {K} {A} {T} s xs old new = (start : Seen K A T) → IsOutside start s xs → KeepsPayloadsOf start old new

@@ -1,7 +1,7 @@
 -- What one context leaves of another.
-use Rattle.std.specs.Prelude.{◌≡◌, ℕ, ◌+◌, List, Some, slice_get}
+use Rattle.std.specs.Prelude.{◌≡◌, ℕ, ◌+◌, List, Option, Some, IsSome, option_map, slice_get}
 use Rattle.ir_program.specs.Edits.{KeepsErased}
-use Rattle.ir_program.specs.Program.{Program}
+use Rattle.ir_program.specs.Program.{Program, OperationView, BlockView, operation_at, block_at}
 use Rattle.ir_program.specs.declared.handles.Ptr.{Ptr}
 use Rattle.ir_program.specs.declared.handles.Operation.{Operation}
 use Rattle.ir_program.specs.declared.handles.Region.{Region}
@@ -27,7 +27,27 @@ module _ {K A T : Type 0} (old new : Seen K A T) where
     pub regions : (r : Ptr Region) → new.region r ≡ old.region r
     pub types : KeepsKeys old.types new.types
 
--- n values more have got their numbers, and a handle that was given out and leads nowhere leads nowhere still
+module _ {O B : Type 0} where
+  -- the payload of what a handle leads to: all that a dialect says of it, as its location, which `Seen` doesn't show
+  abbrev pub operation_payload : Program O B → Ptr Operation → Option O
+  operation_payload c p = option_map (λ (v : OperationView O). v.payload) (operation_at c p)
+
+  abbrev pub block_payload : Program O B → Ptr BasicBlock → Option B
+  block_payload c b = option_map (λ (v : BlockView B). v.payload) (block_at c b)
+
+  -- what led to an operation or a block leads to one with the same payload
+  pub record KeepsPayloads (old new : Program O B) : Type 0 where
+    pub operations : (p : Ptr Operation) (o : O) → operation_payload old p ≡ Some o → operation_payload new p ≡ Some o
+    pub blocks : (b : Ptr BasicBlock) (x : B) → block_payload old b ≡ Some x → block_payload new b ≡ Some x
+
+  -- so does what the start shows
+  pub record KeepsPayloadsOf {K A T : Type 0} (start : Seen K A T) (old new : Program O B) : Type 0 where
+    pub operations : (p : Ptr Operation) → IsSome (start.operation p) → operation_payload new p ≡ operation_payload old p
+    pub blocks : (b : Ptr BasicBlock) → IsSome (start.block b) → block_payload new b ≡ block_payload old b
+
+-- n values more have got their numbers, a handle that was given out and leads nowhere leads nowhere still, and payloads
+-- stay
 pub record GivesNumbers {O B : Type 0} (old new : Program O B) (n : ℕ) : Type 0 where
   pub counter : new.counter ≡ old.counter + n
   pub erased : KeepsErased old new
+  pub payloads : KeepsPayloads old new

@@ -5,7 +5,7 @@ ghost use Rattle.ir_context.specs.Known.{AreKnownIn};
 ghost use Rattle.ir_program.specs.Edits.{KeepsErased};
 ghost use Rattle.ir_program.specs.Made.{BuildsOperation};
 ghost use Rattle.text_dialect.specs.Seen.{seen};
-ghost use Rattle.text_building.specs.Kept.{SameSeen, GivesNumbers};
+ghost use Rattle.text_building.specs.Kept.{SameSeen, GivesNumbers, KeepsPayloads};
 ghost use Rattle.text_building.specs.Loose.{AreAllLoose, AreApart};
 ghost use Rattle.text_building.specs.Made.{MakesOperation, OpensBlock, lists_of};
 
@@ -34,6 +34,7 @@ pub fn open_block<D: DialectTables>(
     ensures err { OnErr result (SameSeen (seen ctx.old) (seen ctx.new)) }
     ensures full { result ≡ Err CounterFull → 2 ^ 64 ≤ ctx.old.program.counter + length argument_types.now }
     ensures erased { KeepsErased ctx.old.program ctx.new.program }
+    ensures payloads { KeepsPayloads ctx.old.program ctx.new.program }
     ensures types { ctx.new.types ≡ ctx.old.types }
 {
     BasicBlock::new(alloc, ctx, label, argument_types)
@@ -56,6 +57,7 @@ fn bare_operation<D: DialectTables>(
     ensures err { OnErr result (SameSeen (seen ctx.old) (seen ctx.new)) }
     ensures full { result ≡ Err CounterFull → 2 ^ 64 ≤ ctx.old.program.counter + length result_types.now }
     ensures erased { KeepsErased ctx.old.program ctx.new.program }
+    ensures payloads { KeepsPayloads ctx.old.program ctx.new.program }
     ensures types { ctx.new.types ≡ ctx.old.types }
 {
     let notes = OperationNotes {
@@ -90,6 +92,7 @@ pub fn make_operation<D: DialectTables>(
     ensures err { OnErr result (SameSeen (seen ctx.old) (seen ctx.new)) }
     ensures full { result ≡ Err CounterFull → 2 ^ 64 ≤ ctx.old.program.counter + length result_types.now }
     ensures erased { KeepsErased ctx.old.program ctx.new.program }
+    ensures payloads { KeepsPayloads ctx.old.program ctx.new.program }
     ensures types { ctx.new.types ≡ ctx.old.types }
 {
     let op = bare_operation(alloc, ctx, kind, attributes, result_types, regions.len())?;

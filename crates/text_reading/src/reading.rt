@@ -5,7 +5,7 @@ ghost use Rattle.ir_program.specs.declared.handles.IRNode.{IRNode};
 ghost use Rattle.ir_tokens.specs.Tokens.{ReadsAs};
 ghost use Rattle.ir_tokens.specs.declared.faults.TextFault.TheVariants.{Memory, CounterFull};
 ghost use Rattle.ir_rereading.specs.Texts.{language_of, HasDefinitions, IsReading, IsRefusal};
-ghost use Rattle.text_building.specs.Kept.{SameSeen};
+ghost use Rattle.text_building.specs.Kept.{KeepsPayloads, KeepsPayloadsOf, SameSeen};
 ghost use Rattle.text_dialect.specs.Seen.{Seen, seen};
 ghost use Rattle.text_frames.specs.Linking.{CanLink, Links};
 ghost use Rattle.text_frames.specs.Raised.{AreWaiting, HoldsAllNew};
@@ -38,8 +38,8 @@ use text_scopes::resolve;
 /// `chars` is the whole text; only white space may stand behind the operation. The answer is the operation, which
 /// is in no block, or the fault that is met first: what is no text of the dialect's grammar, what is nested deeper
 /// than 64 levels, and names that are defined twice or not at all. After an operation the context's counter has moved on
-/// by the number of values that the text defines; after a fault each handle leads to what it led to. Takes time in
-/// proportion to the text.
+/// by the number of values that the text defines; after a fault each handle leads to what it led to. What was there
+/// keeps its payload, with its location and all attributes. Takes time in proportion to the text.
 ///
 /// # Errors
 /// Besides the faults of the text `Memory`, and `CounterFull` where the text defines more values than the counter can
@@ -57,6 +57,7 @@ pub fn top_level_parse<D: ReadDialect>(
         × HasDefinitions (language_of D.formats D.kind_at (is_isolated D.op_has) D.values) chars.now n
         × (2 ^ 64 ≤ ctx.old.program.counter + n) }
     ensures erased { KeepsErased ctx.old.program ctx.new.program }
+    ensures payloads { KeepsPayloads ctx.old.program ctx.new.program }
 {
     let tokens = tokens_of(alloc, chars)?;
     let source = Source {
@@ -104,6 +105,7 @@ fn understand<D: ReadDialect>(
         × HasDefinitions (language_of D.formats D.kind_at (is_isolated D.op_has) D.values) source.entry.chars.now n
         × (2 ^ 64 ≤ ctx.old.program.counter + n) }
     ensures erased { KeepsErased ctx.old.program ctx.new.program }
+    ensures payloads { KeepsPayloads ctx.old.program ctx.new.program }
 {
     let assembled = assemble(alloc, ctx, source, &reading.events);
     let resolved = resolve::<D>(alloc, names, &reading.events);
@@ -128,6 +130,9 @@ fn undo<D: TextDialect>(ctx: &mut Context<D>, assembled: &Result<Assembly, Assem
         → IfOk assembled.now (λ a. HoldsAllNew start (seen ctx.old) a.loose.items)
         → OnErr assembled.now (SameSeen start (seen ctx.old)) → SameSeen start (seen ctx.new) }
     ensures erased { KeepsErased ctx.old.program ctx.new.program }
+    ensures payloads { (start : Seen D.OpKind D.Attr D.TypeKey)
+        → IfOk assembled.now (λ a. HoldsAllNew start (seen ctx.old) a.loose.items)
+        → KeepsPayloadsOf start ctx.old.program ctx.new.program }
 {
     if let Ok(assembly) = assembled {
         discard(ctx, &assembly.loose);
@@ -161,6 +166,10 @@ fn connect<D: TextDialect>(
     ensures memory { IfErr result (λ f. f ≡ Memory) }
     ensures counter { OnOk result (ctx.new.program.counter ≡ ctx.old.program.counter) }
     ensures erased { KeepsErased ctx.old.program ctx.new.program }
+    ensures payloads { (start : Seen D.OpKind D.Attr D.TypeKey) (mentions : List ℕ)
+        → AreWaiting start (seen ctx.old) assembly.now.pending.items mentions
+        → HoldsAllNew start (seen ctx.old) assembly.now.loose.items
+        → KeepsPayloadsOf start ctx.old.program ctx.new.program }
 {
     if link(alloc, ctx, resolution, assembly).is_err() {
         discard(ctx, &assembly.loose);

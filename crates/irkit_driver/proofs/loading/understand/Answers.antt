@@ -5,6 +5,7 @@ use Rattle.kit_checks.specs.World.{world_of}
 use Rattle.kit_language.specs.Language.{kit_language}
 use Rattle.text_building.proofs.Discarded.{used_since}
 use Rattle.text_building.proofs.Numbers.{erased_both}
+use Rattle.text_building.proofs.Shown.{payloads_since}
 use Rattle.text_dialect.specs.Seen.{seen}
 use Rattle.irkit_driver.proofs.ReadLemmas.{undecoded, misread, misruled, accepted, said, root_there, seen_there}
 use Rattle.irkit_driver.proofs.loading.understand.Goals as goal
@@ -76,3 +77,8 @@ returns-clause-grammar c =
 
 pub returns-in-Err-clause-erased : goal.returns-in-Err-clause-erased
 returns-in-Err-clause-erased c = erased_both _ _ _ c.top_level_parse.ensures.erased c.discard.ensures.erased
+
+pub returns-in-Err-clause-payloads : goal.returns-in-Err-clause-payloads
+returns-in-Err-clause-payloads c =
+    payloads_since c.args.ctx.now c.top_level_parse.new.ctx c.discard.new.ctx c.top_level_parse.ensures.payloads
+    (c.discard.ensures.payloads (seen c.args.ctx.now) c.in_ok-root.ensures.read.new.came.old)

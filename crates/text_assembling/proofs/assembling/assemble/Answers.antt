@@ -5,6 +5,8 @@ use Rattle.ir_formats.specs.Words.{token_text}
 use Rattle.text_dialect.specs.Seen.{seen}
 use Rattle.text_building.proofs.Discarded.{used_since}
 use Rattle.text_building.proofs.Numbers.{erased_both}
+use Rattle.text_building.proofs.Payloads.{payloads_both, payloads_none}
+use Rattle.text_building.proofs.Shown.{payloads_since}
 use Rattle.text_frames.proofs.Rising.{get_there}
 use Rattle.text_assembling.specs.Assembling.{stage}
 use Rattle.text_assembling.specs.declared.assembling.Assembler.{Assembler}
@@ -18,6 +20,7 @@ loop-index-init g c = record {
   gathers = gathers_first g.D.TextDialect.says g.D.TextDialect.values (token_text c.args.source.chars.now c.args.source.tokens.now) (stage c.args.ctx.now) c.new-assembler.result c.args.events.now
       c.new-assembler.ensures c.know_seen.ensures.named c.requires.nests c.requires.spelt;
   erased = erased_same _ _ refl;
+  payloads = payloads_none _;
 }
 
 pub take-requires-clause-going : goal.take-requires-clause-going
@@ -41,6 +44,7 @@ loop-index-preserved g c =
           (λ x at. let w = c.take.ensures.did x at in (w.0, (ok_unless c.take.result c.in_default.not-Err w.1).steps))
           now.gathers;
       erased = erased_both _ _ _ now.erased c.take.ensures.erased;
+      payloads = payloads_both _ _ _ now.payloads c.take.ensures.payloads;
     }
 
 pub discard-requires-clause-loose : goal.discard-requires-clause-loose
@@ -80,6 +84,13 @@ returns-in-Err-clause-full g c e =
 pub returns-in-Err-clause-erased : goal.returns-in-Err-clause-erased
 returns-in-Err-clause-erased g c =
     erased_both _ _ _ (erased_both _ _ _ c.loop-index.invariant.erased c.take.ensures.erased) c.discard.ensures.erased
+
+pub returns-in-Err-clause-payloads : goal.returns-in-Err-clause-payloads
+returns-in-Err-clause-payloads g c =
+    let undoes = err_at c.take.result c.in-Err.fault c.in-Err.is c.take.ensures.undone in
+    let held = held_undone (seen c.args.ctx.now) (seen c.loop-index.ctx) (seen c.take.new.ctx) c.loop-index.assembler c.take.new.self undoes.undone c.loop-index.invariant.gathers.at.made.held in
+    payloads_since c.args.ctx.now c.take.new.ctx c.discard.new.ctx (payloads_both _ _ _ c.loop-index.invariant.payloads c.take.ensures.payloads)
+    (c.discard.ensures.payloads (seen c.args.ctx.now) (rw c.deref.ensures.value held.came.old))
 
 pub returns-clause-made : goal.returns-clause-made
 returns-clause-made g c leads =

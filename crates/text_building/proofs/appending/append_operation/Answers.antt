@@ -1,6 +1,9 @@
+use Rattle.std.proofs.Common.{refl}
 use Rattle.text_building.proofs.Apart.{operation_apart}
 use Rattle.text_building.proofs.Linked.{put_appends}
+use Rattle.text_building.proofs.Numbers.{gives_nothing}
 use Rattle.text_building.proofs.Opened.{unlinked_block, unlinked_operation}
+use Rattle.text_building.proofs.Payloads.{payloads_block}
 use Rattle.text_building.proofs.appending.append_operation.Goals as goal
 
 pub insert_at_back-requires-clause-unlinked : goal.insert_at_back-requires-clause-unlinked
@@ -11,3 +14,8 @@ insert_at_back-requires-clause-apart g c = operation_apart c.args.ctx.now.progra
 
 pub returns-clause-appended : goal.returns-clause-appended
 returns-clause-appended g c = put_appends c.args.ctx.now c.insert_at_back.new.ctx c.insert_at_back.ensures.types c.args.block c.args.op c.insert_at_back.ensures.edited
+
+pub returns-clause-numbers : goal.returns-clause-numbers
+returns-clause-numbers g c =
+    gives_nothing c.args.ctx.now.program c.insert_at_back.new.ctx.program c.insert_at_back.ensures.values.counter c.insert_at_back.ensures.edited.erased
+    (payloads_block c.args.ctx.now.program c.insert_at_back.new.ctx.program c.args.block _ (λ v. refl) c.insert_at_back.ensures.edited)

@@ -1,6 +1,7 @@
 use Rattle.std.proofs.Common.{subst}
 use Rattle.text_dialect.specs.Seen.{seen}
-use Rattle.text_building.proofs.Discarded.{bare_loose, bare_unused, erases_bare, undone}
+use Rattle.text_building.proofs.Discarded.{bare_loose, bare_outside, bare_unused, erases_bare, undone}
+use Rattle.text_building.proofs.Shown.{payloads_of_both}
 use Rattle.text_building.proofs.Stood.{HasLists, seen_forest}
 use Rattle.text_building.proofs.discarding.discard.Goals as goal
 
@@ -19,3 +20,8 @@ returns-clause-undone g c start came =
     let first : HasLists c.args.ctx.now.program = subst HasLists c.program.ensures lists in
     undone start (seen c.args.ctx.now) c.args.things.now came (seen_forest c.args.ctx.now first) c.requires.loose (seen c.erase_all.new.ctx)
     (erases_bare (seen c.args.ctx.now) (seen c.drop_uses.new.ctx) c.args.things.now c.drop_uses.ensures.dropped (seen c.erase_all.new.ctx) c.erase_all.ensures.gone)
+
+pub returns-clause-payloads : goal.returns-clause-payloads
+returns-clause-payloads g c start out =
+    payloads_of_both start c.args.ctx.now.program c.drop_uses.new.ctx.program c.erase_all.new.ctx.program (c.drop_uses.ensures.payloads start out)
+    (c.erase_all.ensures.payloads start (bare_outside (seen c.args.ctx.now) (seen c.drop_uses.new.ctx) c.args.things.now c.drop_uses.ensures.dropped start out))

@@ -4,9 +4,10 @@ use Rattle.ir_program.specs.Program.{no_handle}
 use Rattle.ir_program.specs.declared.handles.IRNode.{IRNode}
 use Rattle.ir_program.specs.declared.handles.IRNode.TheVariants.{Operation as OperationNode}
 use Rattle.text_dialect.specs.Seen.{seen}
-use Rattle.text_building.proofs.Discarded.{drops_step, next_there}
+use Rattle.text_building.proofs.Discarded.{drops_step, next_outside, next_there}
 use Rattle.text_building.proofs.Numbers.{erased_both}
-use Rattle.text_building.proofs.Stood.{HasLists, seen_forest, there_live, drops_seen}
+use Rattle.text_building.proofs.Shown.{payloads_of_both}
+use Rattle.text_building.proofs.Stood.{HasLists, seen_forest, there_live, drops_outside, drops_seen}
 use Rattle.text_building.proofs.discarding.drop_uses.Goals as goal
 
 pub drop_all_uses-requires : goal.drop_all_uses-requires
@@ -29,5 +30,8 @@ loop-thing-preserved g c =
       dropped = drops_step (seen c.args.ctx.now) (seen c.loop-thing.ctx) (seen c.drop_all_uses.new.self) (seen_forest c.args.ctx.now first) c.args.things.now c.requires.loose c.loop-thing.thing-index x here c.loop-thing.invariant.dropped
           (drops_seen c.loop-thing.ctx c.drop_all_uses.new.self c.drop_all_uses.ensures.types now x c.drop_all_uses.ensures.dropped);
       erased = erased_both c.args.ctx.now.program c.loop-thing.ctx.program c.drop_all_uses.new.self.program c.loop-thing.invariant.erased c.drop_all_uses.ensures.dropped.erased;
+      payloads = λ start out. payloads_of_both start c.args.ctx.now.program c.loop-thing.ctx.program c.drop_all_uses.new.self.program (c.loop-thing.invariant.payloads start out)
+          (drops_outside c.loop-thing.ctx c.drop_all_uses.new.self x c.drop_all_uses.ensures.dropped start
+          (next_outside (seen c.args.ctx.now) (seen c.loop-thing.ctx) (seen_forest c.args.ctx.now first) c.args.things.now c.requires.loose c.loop-thing.thing-index x here c.loop-thing.invariant.dropped start out));
       types = c.drop_all_uses.ensures.types ∙ c.loop-thing.invariant.types;
     }

@@ -4,8 +4,9 @@ use Rattle.ir_program.specs.Program.{no_handle}
 use Rattle.ir_program.specs.declared.handles.IRNode.{IRNode}
 use Rattle.ir_program.specs.declared.handles.IRNode.TheVariants.{Operation as OperationNode}
 use Rattle.text_dialect.specs.Seen.{seen}
-use Rattle.text_building.proofs.Discarded.{erases_step, next_thing_loose, next_unused}
+use Rattle.text_building.proofs.Discarded.{erases_step, left_outside, next_thing_loose, next_unused}
 use Rattle.text_building.proofs.Numbers.{erased_both}
+use Rattle.text_building.proofs.Shown.{payloads_of_both}
 use Rattle.text_building.proofs.Stood.{HasLists, seen_forest}
 use Rattle.text_building.proofs.discarding.erase_all.Goals as goal
 
@@ -34,5 +35,8 @@ loop-thing-preserved g c =
     record {
       gone = erases_step (seen c.args.ctx.now) (seen c.loop-thing.ctx) (seen_forest c.args.ctx.now first) c.args.things.now c.requires.loose c.loop-thing.thing-index x here c.loop-thing.invariant.gone (seen c.erase_thing.new.ctx) c.erase_thing.ensures.gone;
       erased = erased_both c.args.ctx.now.program c.loop-thing.ctx.program c.erase_thing.new.ctx.program c.loop-thing.invariant.erased c.erase_thing.ensures.erased;
+      payloads = λ start out. payloads_of_both start c.args.ctx.now.program c.loop-thing.ctx.program c.erase_thing.new.ctx.program (c.loop-thing.invariant.payloads start out)
+          (c.erase_thing.ensures.payloads start
+          (left_outside (seen c.args.ctx.now) (seen c.loop-thing.ctx) (seen_forest c.args.ctx.now first) c.args.things.now c.requires.loose c.loop-thing.thing-index x here c.loop-thing.invariant.gone start out));
       types = c.erase_thing.ensures.types ∙ c.loop-thing.invariant.types;
     }

@@ -9,6 +9,7 @@ use Rattle.text_building.proofs.Members.{take_step}
 use Rattle.text_building.proofs.Numbers.{gives_nothing, gives_still}
 use Rattle.text_building.proofs.Opened.{unlinked_block}
 use Rattle.text_building.proofs.Options.{unmapped_there}
+use Rattle.text_building.proofs.Payloads.{payloads_still}
 use Rattle.text_building.proofs.filling.fill_region.Goals as goal
 
 pub insert_at_back-requires-clause-region : goal.insert_at_back-requires-clause-region
@@ -44,6 +45,7 @@ loop-block-preserved g c =
           (fills_both (seen c.args.ctx.now) (seen c.loop-block.ctx) (seen c.insert_at_back.new.ctx) c.args.region (take c.loop-block.block-index c.args.blocks.now) (b ∷ []) c.loop-block.invariant.filled
           (put_fills c.loop-block.ctx c.insert_at_back.new.ctx c.insert_at_back.ensures.types c.args.region b c.insert_at_back.ensures.edited));
       numbers = gives_still c.args.ctx.now.program c.loop-block.ctx.program c.insert_at_back.new.ctx.program 0 c.loop-block.invariant.numbers
-          (gives_nothing c.loop-block.ctx.program c.insert_at_back.new.ctx.program c.insert_at_back.ensures.values.counter c.insert_at_back.ensures.edited.erased);
+          (gives_nothing c.loop-block.ctx.program c.insert_at_back.new.ctx.program c.insert_at_back.ensures.values.counter c.insert_at_back.ensures.edited.erased
+          (payloads_still c.loop-block.ctx.program c.insert_at_back.new.ctx.program c.insert_at_back.ensures.edited.operations c.insert_at_back.ensures.edited.blocks));
       types = c.insert_at_back.ensures.types ∙ c.loop-block.invariant.types;
     }

@@ -9,6 +9,7 @@ use Rattle.text_building.specs.Made.{LinksOperands}
 use Rattle.text_building.proofs.Linked.{AreTyped, links_none, links_both, links_still, push_links, defined_live, still_live}
 use Rattle.text_building.proofs.Members.{take_step}
 use Rattle.text_building.proofs.Numbers.{gives_none, gives_nothing, gives_still}
+use Rattle.text_building.proofs.Payloads.{payloads_operation, payloads_unchanged}
 use Rattle.text_building.proofs.linking.link_operands.Goals as goal
 
 pub loop-value-init : goal.loop-value-init
@@ -36,7 +37,8 @@ returns-in_err-push_operand-clause-err g c =
 pub returns-in_err-push_operand-clause-numbers : goal.returns-in_err-push_operand-clause-numbers
 returns-in_err-push_operand-clause-numbers g c =
     gives_still c.args.ctx.now.program c.loop-value.ctx.program c.push_operand.new.ctx.program 0 c.loop-value.invariant.numbers
-    (gives_nothing c.loop-value.ctx.program c.push_operand.new.ctx.program c.in_err-push_operand.ensures.err.counter c.in_err-push_operand.ensures.err.erased)
+    (gives_nothing c.loop-value.ctx.program c.push_operand.new.ctx.program c.in_err-push_operand.ensures.err.counter c.in_err-push_operand.ensures.err.erased
+    (payloads_unchanged c.loop-value.ctx.program c.push_operand.new.ctx.program c.in_err-push_operand.ensures.err))
 
 pub loop-value-preserved : goal.loop-value-preserved
 unfolding none
@@ -52,6 +54,7 @@ loop-value-preserved g c =
           (push_links c.loop-value.ctx c.push_operand.new.ctx c.push_operand.ensures.types c.args.op v c.in_ok-push_operand.ensures.pushed));
       live = still_live c.loop-value.ctx c.push_operand.new.ctx c.push_operand.ensures.values c.args.values.now c.loop-value.invariant.live;
       numbers = gives_still c.args.ctx.now.program c.loop-value.ctx.program c.push_operand.new.ctx.program 0 c.loop-value.invariant.numbers
-          (gives_nothing c.loop-value.ctx.program c.push_operand.new.ctx.program c.push_operand.ensures.values.counter c.in_ok-push_operand.ensures.pushed.erased);
+          (gives_nothing c.loop-value.ctx.program c.push_operand.new.ctx.program c.push_operand.ensures.values.counter c.in_ok-push_operand.ensures.pushed.erased
+          (payloads_operation c.loop-value.ctx.program c.push_operand.new.ctx.program c.args.op _ (λ o. refl) c.in_ok-push_operand.ensures.pushed));
       types = c.push_operand.ensures.types ∙ c.loop-value.invariant.types;
     }

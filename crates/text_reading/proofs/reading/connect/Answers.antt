@@ -1,8 +1,9 @@
 use Rattle.std.proofs.Common.{sym, subst}
 use Rattle.text_dialect.specs.Seen.{seen}
-use Rattle.text_building.specs.Inside.{AreLoose, AreUsedInside, CameSince}
+use Rattle.text_building.specs.Inside.{AreLoose, AreUsedInside, CameSince, IsOutside}
 use Rattle.text_building.proofs.Discarded.{used_since}
 use Rattle.text_building.proofs.Numbers.{erased_both}
+use Rattle.text_building.proofs.Shown.{payloads_of_both, payloads_shown}
 use Rattle.text_reading.proofs.reading.connect.Goals as goal
 
 pub discard-requires-clause-loose : goal.discard-requires-clause-loose
@@ -29,3 +30,13 @@ returns-clause-held g c = λ start mentions waiting holds.
 
 pub returns-then-is_err-clause-erased : goal.returns-then-is_err-clause-erased
 returns-then-is_err-clause-erased g c = erased_both _ _ _ c.link.ensures.numbers.erased c.discard.ensures.erased
+
+pub returns-then-is_err-clause-payloads : goal.returns-then-is_err-clause-payloads
+returns-then-is_err-clause-payloads g c = λ start mentions waiting holds.
+    let held = c.link.ensures.held start mentions c.args.assembly.now.loose.items waiting holds in
+    payloads_of_both start _ _ _ (payloads_shown start c.args.ctx.now c.link.new.ctx holds.came.keeps c.link.ensures.numbers.payloads)
+    (c.discard.ensures.payloads start (subst (IsOutside start (seen c.link.new.ctx)) (sym c.deref.ensures.value) held.came.old))
+
+pub returns-clause-payloads : goal.returns-clause-payloads
+returns-clause-payloads g c = λ start mentions waiting holds.
+    payloads_shown start c.args.ctx.now c.link.new.ctx holds.came.keeps c.link.ensures.numbers.payloads

@@ -3,6 +3,7 @@ use Rattle.ir_tokens.specs.declared.faults.TextFault.TheVariants.{CounterFull}
 use Rattle.std.proofs.lemmas.Result.{IfOk-at_ok, MatchResult-at_ok}
 use Rattle.text_dialect.specs.Seen.{seen}
 use Rattle.text_building.proofs.Numbers.{erased_both}
+use Rattle.text_building.proofs.Shown.{payloads_since}
 use Rattle.ir_grammar.specs.Nesting.{at_root, at_end, Nests}
 use Rattle.ir_forest.specs.Progress.{Leads}
 use Rattle.ir_forest.specs.Identifiers.{AreSpelt}
@@ -241,3 +242,40 @@ returns-in-Err-clause-erased g c = erased_both _ _ _ c.assemble-assembled.ensure
 
 pub returns-clause-erased : goal.returns-clause-erased
 returns-clause-erased g c = erased_both _ _ _ c.assemble-assembled.ensures.erased c.connect.ensures.erased
+
+pub returns-in-Err-clause-payloads : goal.returns-in-Err-clause-payloads
+returns-in-Err-clause-payloads g c =
+    payloads_since c.args.ctx.now c.assemble-assembled.new.ctx c.undo.new.ctx c.assemble-assembled.ensures.payloads
+    (c.undo.ensures.payloads (seen c.args.ctx.now) c.assemble-assembled.ensures.held)
+
+pub returns-clause-payloads : goal.returns-clause-payloads
+returns-clause-payloads g c =
+    let d = g.D.TextDialect in
+    let l = language_of d.formats d.kind_at (is_isolated g.D.DialectTables.op_has) d.values in
+    let cs = c.args.source.chars.now in
+    let ts = c.args.source.tokens.now in
+    let names = c.args.names.now in
+    let r = c.args.reading.now in
+    let es = r.events.items in
+    let text = token_text cs ts in
+    let judged = judged_so l g.D.ReadDialect.leads g.met.D.ReadDialect.ordered cs ts names r c.deref.result.now c.deref-2.result.now c.assemble-assembled.result c.resolve-resolved.result
+    c.deref.ensures.value c.deref-2.ensures.value c.requires.reading c.assemble-assembled.ensures.sound c.assemble-assembled.ensures.refused c.resolve-resolved.ensures.resolved in
+    let none = c.in_default.ensures.none l names judged in
+    let leads = read_whole l g.D.ReadDialect.leads g.met.D.ReadDialect.ordered cs ts names r.taken es r.stop c.requires.reading none in
+    let order = read_in_order l g.D.ReadDialect.leads g.met.D.ReadDialect.ordered cs ts names r.taken es r.stop c.requires.reading in
+    let own = own_tokens es order.follows in
+    let resolution = c.in-Ok-resolved.resolution in
+    let resolved = subst (λ z. IsResolved l.isolated names z resolution) c.deref-2.ensures.value
+    (MatchResult-at_ok (IsResolved l.isolated names c.deref-2.result.now) (IsScopeFault l.isolated names c.deref-2.result.now) resolution c.in-Ok-resolved.is c.resolve-resolved.ensures.resolved) in
+    let many = IfOk-at_ok (λ z. length z.definitions.items ≡ length names) c.in-Ok-resolved.is c.resolve-resolved.ensures.many in
+    let start = seen c.args.ctx.now in
+    let s = seen c.assemble-assembled.new.ctx in
+    let first = c.args.ctx.now.program.counter in
+    let next = c.assemble-assembled.new.ctx.program.counter in
+    let a = c.in-Ok.assembly in
+    let to = subst (λ z. Leads at_root [] z at_end []) (sym c.deref.ensures.value) leads in
+    let made = subst (IsAssembled d.says d.values text start s first next a) c.deref.ensures.value
+    (IfOk-at_ok (λ z. IsAssembled d.says d.values text start s first next z c.deref.result.now) c.in-Ok.is (c.assemble-assembled.ensures.made to)) in
+    let held = IfOk-at_ok (λ z. HoldsAllNew start s z.loose.items) c.in-Ok.is c.assemble-assembled.ensures.held in
+    payloads_since c.args.ctx.now c.assemble-assembled.new.ctx c.connect.new.ctx c.assemble-assembled.ensures.payloads
+    (c.connect.ensures.payloads start (mentioned_from 0 es) made.operands held)

@@ -19,7 +19,7 @@ use Rattle.text_assembling.specs.Steps.{new_root}
 use Rattle.text_assembling.proofs.Gathering.{errors_same}
 use Rattle.text_frames.proofs.Defining.{results_made, values_made}
 use Rattle.text_frames.proofs.Opening.{as_many, handed_on, interned_same, refused_at_piece, shown_known}
-use Rattle.text_assembling.proofs.Operating.{can_still, erased_so, gives_so, growth_full, makes_so, open_after, operation_full_so}
+use Rattle.text_assembling.proofs.Operating.{can_still, erased_so, gives_so, growth_full, makes_so, open_after, operation_full_so, payloads_so}
 use Rattle.text_assembling.proofs.Undone.{on_err_any, same_both, undone_so}
 use Rattle.text_assembling.proofs.assembling.Assembler.end_operation.Goals as goal
 
@@ -137,3 +137,6 @@ returns-clause-types g c = rw (c.attach.ensures.types, c.make_operation.ensures.
 
 pub returns-clause-erased : goal.returns-clause-erased
 returns-clause-erased g c = erased_so c.args.ctx.now.program c.draft_of.new.ctx.program c.draft_of.ensures.program _ _ c.make_operation.ensures.erased c.attach.ensures.given.erased
+
+pub returns-clause-payloads : goal.returns-clause-payloads
+returns-clause-payloads g c = payloads_so c.args.ctx.now.program c.draft_of.new.ctx.program c.draft_of.ensures.program _ _ c.make_operation.ensures.payloads c.attach.ensures.given.payloads
