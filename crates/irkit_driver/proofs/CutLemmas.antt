@@ -13,7 +13,6 @@ use Rattle.ir_trees.specs.Stands.{by_handle}
 use Rattle.ir_types.specs.Interned.{key_at}
 use Rattle.ir_unique_trees.proofs.OneTree.{one_tree_said}
 use Rattle.kit.specs.Leads.{leads}
-use Rattle.kit_behaviour.specs.PassLists.{Pass}
 use Rattle.kit_language.specs.Language.{kit_language}
 use Rattle.kit_module_programs.specs.TreePasses.{IsTreeAfter}
 use Rattle.kit_ops.specs.declared.attributes.KitAttr.{KitAttr}
@@ -24,7 +23,7 @@ use Rattle.kit_optimiser.specs.declared.pass.KitPass.{KitPass}
 use Rattle.kit_ruled_views.specs.Functions.{KitContext}
 use Rattle.kit_ruled_views.specs.Ruled.{KitTree}
 use Rattle.kit_same_modules.specs.Laws.{OneTextSaysTheSame, PassesKeepSame, SayTheSame, StandsAs, TheSameSayOneText}
-use Rattle.kit_same_modules.specs.Laws.{TypesAreNumbered}
+use Rattle.kit_same_modules.specs.Laws.{ListsOfPassesCut, TypesAreNumbered}
 use Rattle.kit_same_modules.specs.Meanings.{meanings}
 use Rattle.kit_texts.specs.Says.{says}
 use Rattle.opt_meanings.specs.Meanings.{mean_root}
@@ -70,19 +69,6 @@ left passes before root text t h g =
     subst (λ (z : KitTree). IsTreeAfter {N = by_handle} (key_at before.types) no_number (map pass_of passes) h.tree z)
     (one_tree g.after.program root made.0 g.written.holds.tree made.1 g.written.holds.is_tree) (made.2 no_number)
 
--- a list of passes that is cut
-record Halves (s : KitContext) (xs ys : List Pass) (t r : KitTree) : Type 0 where
-  middle : KitTree
-  first : IsTreeAfter {N = by_handle} (key_at s.types) no_number xs t middle
-  second : IsTreeAfter {N = by_handle} (key_at s.types) no_number ys middle r
-
-halves : (s : KitContext) (xs ys : List Pass) (t r : KitTree)
-    → IsTreeAfter {N = by_handle} (key_at s.types) no_number (xs ++ ys) t r → Halves s xs ys t r
-halves s [] ys t r a = record { middle = t; first = refl; second = a }
-halves s (x ∷ xs) ys t r a =
-    let rest = halves s xs ys a.1.0 r a.1.2 in
-    record { middle = rest.middle; first = (a.0, (a.1.0, a.1.1, rest.first)); second = rest.second }
-
 -- closed trees, one after another
 abbrev AllClosed : List (Entity ℕ) → Type 0
 AllClosed texts = (a : Entity ℕ) → Has a texts → IsClosed kit_language a
@@ -95,7 +81,7 @@ more_closed x xs c cs a (inl e) = subst (IsClosed kit_language) (sym e) c
 more_closed x xs c cs a (inr h) = cs a h
 
 module _ (closed : SaidAreClosed) (numbers : TypesAreNumbered) (alike : OneTextSaysTheSame) (one : TheSameSayOneText)
-    (keep : PassesKeepSame) (beginning rest : List KitPass) (bytes front text whole : List ℕ)
+    (keep : PassesKeepSame) (cuts : ListsOfPassesCut) (beginning rest : List KitPass) (bytes front text whole : List ℕ)
     (b : RunGives beginning bytes front) (r : RunGives rest front text) (w : RunGives (beginning ++ rest) bytes whole) where
   -- the tree that bytes say, and the operation holds, is closed
   closed_said : (passes : List KitPass) (input output : List ℕ) (g : RunGives passes input output)
@@ -116,9 +102,16 @@ module _ (closed : SaidAreClosed) (numbers : TypesAreNumbered) (alike : OneTextS
       (more_closed _ _ (closed_said (beginning ++ rest) bytes whole w) (more_closed _ _ w.gives.written.closed
       (more_closed _ _ (closed_said rest front text r) (more_closed _ _ r.gives.written.closed none_closed)))))
 
-  -- the whole list, cut
-  cut_whole : Halves w.before (map pass_of beginning) (map pass_of rest) w.accepted.0.holds.tree w.gives.written.holds.tree
-  cut_whole = halves w.before (map pass_of beginning) (map pass_of rest) w.accepted.0.holds.tree w.gives.written.holds.tree
+  -- what the beginning of the whole list makes of the tree that is read, and the rest of that
+  abbrev Halves : Type 0
+  Halves =
+      (middle : KitTree)
+      × IsTreeAfter {N = by_handle} (key_at w.before.types) no_number (map pass_of beginning) w.accepted.0.holds.tree middle
+      × IsTreeAfter {N = by_handle} (key_at w.before.types) no_number (map pass_of rest) middle w.gives.written.holds.tree
+
+  cut_whole : Halves
+  cut_whole = cuts (key_at w.before.types) no_number (map pass_of beginning) (map pass_of rest) w.accepted.0.holds.tree
+      w.gives.written.holds.tree
       (subst (λ xs. IsTreeAfter {N = by_handle} (key_at w.before.types) no_number xs w.accepted.0.holds.tree
       w.gives.written.holds.tree) (map-append pass_of beginning rest)
       (left (beginning ++ rest) w.before w.root whole w.accepted.0.text w.accepted.0.holds w.gives))
@@ -139,35 +132,35 @@ module _ (closed : SaidAreClosed) (numbers : TypesAreNumbered) (alike : OneTextS
       let end = holding w.gives.written.tree w.gives.after w.root w.gives.written.holds in
       let reread = holding r.accepted.0.text r.before r.root r.accepted.0.holds in
       let last = holding r.gives.written.tree r.gives.after r.root r.gives.written.holds in
-      let cb = n.2 b.before b.gives.after b.accepted.0.text b.gives.written.tree b.root b.root b.accepted.0.holds.tree
+      let cb = n.handles b.before b.gives.after b.accepted.0.text b.gives.written.tree b.root b.root b.accepted.0.holds.tree
       b.gives.written.holds.tree b.gives.passed.types (inl refl) (inr (inl refl)) first half in
-      let cw = n.2 w.before w.gives.after w.accepted.0.text w.gives.written.tree w.root w.root w.accepted.0.holds.tree
+      let cw = n.handles w.before w.gives.after w.accepted.0.text w.gives.written.tree w.root w.root w.accepted.0.holds.tree
       w.gives.written.holds.tree w.gives.passed.types (inr (inr (inl refl))) (inr (inr (inr (inl refl)))) again end in
-      let cr = n.2 r.before r.gives.after r.accepted.0.text r.gives.written.tree r.root r.root r.accepted.0.holds.tree
+      let cr = n.handles r.before r.gives.after r.accepted.0.text r.gives.written.tree r.root r.root r.accepted.0.holds.tree
       r.gives.written.holds.tree r.gives.passed.types (inr (inr (inr (inr (inl refl)))))
       (inr (inr (inr (inr (inr (inl refl)))))) reread last in
       let begun : SayTheSame cb.0.to cw.0.to b.accepted.0.holds.tree w.accepted.0.holds.tree =
-      alike n.0 cb.0.to cw.0.to b.accepted.0.text w.accepted.0.text b.before w.before b.root w.root
+      alike n.number cb.0.to cw.0.to b.accepted.0.text w.accepted.0.text b.before w.before b.root w.root
       b.accepted.0.holds.tree w.accepted.0.holds.tree
       (ap unlabelled (one_said bytes b.accepted.0.text w.accepted.0.text b.accepted.0.says_it w.accepted.0.says_it))
       first again cb.1 cw.1 in
-      let middle : SayTheSame cb.0.to cw.0.to b.gives.written.holds.tree cut_whole.middle =
+      let middle : SayTheSame cb.0.to cw.0.to b.gives.written.holds.tree cut_whole.0 =
       keep (key_at b.before.types) (key_at w.before.types) cb.0 cw.0 no_number (map pass_of beginning)
-      b.accepted.0.holds.tree w.accepted.0.holds.tree b.gives.written.holds.tree cut_whole.middle begun
-      (left beginning b.before b.root front b.accepted.0.text b.accepted.0.holds b.gives) cut_whole.first in
+      b.accepted.0.holds.tree w.accepted.0.holds.tree b.gives.written.holds.tree cut_whole.0 begun
+      (left beginning b.before b.root front b.accepted.0.text b.accepted.0.holds b.gives) cut_whole.1 in
       let between : SayTheSame cr.0.to cb.0.to r.accepted.0.holds.tree b.gives.written.holds.tree =
-      alike n.0 cr.0.to cb.0.to r.accepted.0.text b.gives.written.tree r.before b.gives.after r.root b.root
+      alike n.number cr.0.to cb.0.to r.accepted.0.text b.gives.written.tree r.before b.gives.after r.root b.root
       r.accepted.0.holds.tree b.gives.written.holds.tree read_back reread half cr.1 cb.2 in
-      let start : SayTheSame cr.0.to cw.0.to r.accepted.0.holds.tree cut_whole.middle =
+      let start : SayTheSame cr.0.to cw.0.to r.accepted.0.holds.tree cut_whole.0 =
       same_on (mean_root (meanings cr.0.to) r.accepted.0.holds.tree) (mean_root (meanings cb.0.to) b.gives.written.holds.tree)
-      (mean_root (meanings cw.0.to) cut_whole.middle) between middle in
+      (mean_root (meanings cw.0.to) cut_whole.0) between middle in
       let ends : SayTheSame cr.0.to cw.0.to r.gives.written.holds.tree w.gives.written.holds.tree =
       keep (key_at r.before.types) (key_at w.before.types) cr.0 cw.0 no_number (map pass_of rest)
-      r.accepted.0.holds.tree cut_whole.middle r.gives.written.holds.tree w.gives.written.holds.tree start
-      (left rest r.before r.root text r.accepted.0.text r.accepted.0.holds r.gives) cut_whole.second in
-      one n.0 cr.0.to cw.0.to r.gives.written.tree w.gives.written.tree r.gives.after w.gives.after r.root w.root
+      r.accepted.0.holds.tree cut_whole.0 r.gives.written.holds.tree w.gives.written.holds.tree start
+      (left rest r.before r.root text r.accepted.0.text r.accepted.0.holds r.gives) cut_whole.2 in
+      one n.number cr.0.to cw.0.to r.gives.written.tree w.gives.written.tree r.gives.after w.gives.after r.root w.root
       r.gives.written.holds.tree w.gives.written.holds.tree ends last end cr.2 cw.2
-      (n.1 r.gives.written.tree w.gives.written.tree (inr (inr (inr (inr (inr (inl refl)))))) (inr (inr (inr (inl refl)))))
+      (n.apart r.gives.written.tree w.gives.written.tree (inr (inr (inr (inr (inr (inl refl)))))) (inr (inr (inr (inl refl)))))
       r.gives.written.closed w.gives.written.closed r.gives.written.numbered w.gives.written.numbered
 
   -- the rest of a list, run on the text that its beginning gave, gives a text of the same module as the whole list

@@ -8,3 +8,4 @@ pub mod Beside
 pub mod IntegersMeant
 pub mod KnownAlike
 pub mod PassesKeep
+pub mod CutLists

@@ -1,18 +1,25 @@
 -- simplify of what a tree means.
-use Rattle.std.proofs.Common.{◌≡◌, ℕ, Bool, true, false, not, List, [], ◌∷◌, Option, Some, None, refl, sym, ap, ◌∙◌, subst}
+use Rattle.std.proofs.Common.{◌≡◌, ℕ, Bool, true, false, not, List, [], ◌∷◌, Option, Some, None, refl, sym, ap, ◌∙◌}
+use Rattle.std.proofs.Common.{subst}
 use Rattle.std.specs.Prelude.{map, option_map, if◌then◌else◌, ◌&&◌}
 use Rattle.std.specs.Prelude.{slice_get}
 use Rattle.ir_trees.specs.Names.{Names, Contents}
 use Rattle.ir_trees.specs.Renames.{names_of}
-use Rattle.ir_trees.specs.Trees.{Defined, Head, Sort, Operations, Blocks, Regions, Tree, end, operation, block, region, Root}
+use Rattle.ir_trees.specs.Trees.{Defined, Head, Sort, Operations, Blocks, Regions, Tree, end, operation, block, region}
+use Rattle.ir_trees.specs.Trees.{Root}
 use Rattle.opt_trees.specs.Occurrences.{Has, Spot, OperationsApart}
 use Rattle.opt_trees.specs.Dialect.{Dialect}
 use Rattle.opt_trees.specs.Facts.{forwarded}
 use Rattle.opt_trees.specs.Dce.{Around}
-use Rattle.opt_trees.specs.Simplify.{Place, all_of, is_empty, is_end, is_bare, along_edge, decide_head, decide, decided, IsReached, entry, further, IsEntered, IsVisited, of_place, of_inner, IsVisitedSsa, IsUnreached, keep, IsCut, use_head, Joinable, IsGiven, Follows, stops, goes_on, use_instead, but_last, append, Joins, ends, operations, regions, taken, first, chain_ends, chain_goes_on, IsJoined, IsSimplify}
+use Rattle.opt_trees.specs.Simplify.{Place, all_of, is_empty, is_end, is_bare, along_edge, decide_head, decide, decided}
+use Rattle.opt_trees.specs.Simplify.{IsReached, entry, further, IsEntered, IsVisited, of_place, of_inner, IsVisitedSsa}
+use Rattle.opt_trees.specs.Simplify.{IsUnreached, keep, IsCut, use_head, Joinable, IsGiven, Follows, stops, goes_on}
+use Rattle.opt_trees.specs.Simplify.{use_instead, but_last, append, Joins, ends, operations, regions, taken, first}
+use Rattle.opt_trees.specs.Simplify.{chain_ends, chain_goes_on, IsJoined, IsSimplify}
 use Rattle.opt_trees.proofs.Orderly.{phases_apart}
 use Rattle.opt_meanings.specs.Meanings.{Meanings, IsMeant, mean_defined, mean_head, mean_label, mean, mean_root}
-use Rattle.opt_meanings.proofs.Said.{names-mean, mean_spot, mean_occurrence, mean_block_occurrence, operation_there, operation_from, block_there, block_from}
+use Rattle.opt_meanings.proofs.Said.{names-mean, mean_spot, mean_occurrence, mean_block_occurrence, operation_there}
+use Rattle.opt_meanings.proofs.Said.{operation_from, block_there, block_from}
 
 module _ {S R : Contents} {A : Type 0} (m : Meanings S R) (e : Dialect R A) (d : Dialect S A) where
   -- the dialect that says of operations what the other says of what they mean

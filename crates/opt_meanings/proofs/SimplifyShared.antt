@@ -1,14 +1,17 @@
 -- simplify of trees that are the same up to names.
-use Rattle.std.proofs.Common.{◌≡◌, ⊎_elim, inl, inr, ℕ, zero, suc, Bool, true, false, not, List, [], ◌∷◌, ◌++◌, Option, Some, refl, sym, ap, ◌∙◌, subst}
+use Rattle.std.proofs.Common.{◌≡◌, ⊎_elim, inl, inr, ℕ, zero, suc, Bool, true, false, not, List, [], ◌∷◌, ◌++◌, Option}
+use Rattle.std.proofs.Common.{Some, refl, sym, ap, ◌∙◌, subst}
 use Rattle.std.specs.Prelude.{map, option_map, if◌then◌else◌, ◌&&◌}
 use Rattle.std.specs.Prelude.{slice_get}
 use Rattle.ir_trees.specs.Names.{Names, Contents}
 use Rattle.ir_trees.specs.Renames.{rename_root, HaveTests, IsSame}
 use Rattle.ir_trees.specs.Trees.{Head, Sort, Regions, Tree, end, operation, block, region, Root}
-use Rattle.opt_trees.specs.Occurrences.{Has, Occurrence, Inside, inner, next_block, next_region, occurrences_in, occurrences_of, at_root, rename_occurrence, Renaming, maps}
+use Rattle.opt_trees.specs.Occurrences.{Has, Occurrence, Inside, inner, next_block, next_region, occurrences_in}
+use Rattle.opt_trees.specs.Occurrences.{occurrences_of, at_root, rename_occurrence, Renaming, maps}
 use Rattle.opt_trees.specs.Dialect.{Dialect}
 use Rattle.opt_trees.specs.Dce.{Around}
-use Rattle.opt_trees.specs.Simplify.{all_of, is_empty, is_end, along_edge, decide_head, decide, decided, IsCut, IsSimplify, IsOrderly}
+use Rattle.opt_trees.specs.Simplify.{all_of, is_empty, is_end, along_edge, decide_head, decide, decided, IsCut}
+use Rattle.opt_trees.specs.Simplify.{IsSimplify, IsOrderly}
 use Rattle.opt_trees.proofs.Lists.{at-map}
 use Rattle.opt_trees.proofs.Trees.{operations_renamed}
 use Rattle.opt_trees.proofs.SimplifyRenamed.{simplify_renamed}

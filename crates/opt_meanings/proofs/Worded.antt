@@ -6,13 +6,13 @@ use Rattle.opt_trees.specs.Dce.{Around, IsDce}
 use Rattle.opt_trees.specs.Dialect.{Dialect}
 use Rattle.opt_trees.specs.Sccp.{fresh, IsSccp}
 use Rattle.opt_trees.specs.Simplify.{IsSimplify}
-use Rattle.opt_meanings.specs.Meanings.{Words, worded, worded_around}
+use Rattle.opt_meanings.specs.Meanings.{Bijection, worded, worded_around}
 use std.Equiv.{◌≃◌, id_equiv, iso_to_equiv}
 use std.Univalence.{equiv_j}
 
--- the words of an equivalence
-abbrev words_of : {A B : Type 0} → A ≃ B → Words A B
-words_of e = record {
+-- the bijection of an equivalence
+abbrev bijection_of : {A B : Type 0} → A ≃ B → Bijection A B
+bijection_of e = record {
   to = e.0;
   from = λ b. (e.1 b).0.0;
   there = λ a. sym (ap (λ f. f.0) ((e.1 (e.0 a)).1 (a, refl)));
@@ -30,7 +30,7 @@ own_words [] = refl
 own_words (x ∷ xs) = λ i. own_word x i ∷ own_words xs i
 
 -- the dialect in its own words
-own_worded : {S : Contents} {A : Type 0} (d : Dialect S A) → worded (words_of (id_equiv A)) d ≡ d
+own_worded : {S : Contents} {A : Type 0} (d : Dialect S A) → worded (bijection_of (id_equiv A)) d ≡ d
 unfolding id_equiv
 own_worded d = λ i. record {
   is_foldable = d.is_foldable;
@@ -53,24 +53,24 @@ own_worded d = λ i. record {
 }
 
 -- what is around in its own words
-own_around : {N : Names} {A : Type 0} (a : Around N A) → worded_around (words_of (id_equiv A)) a ≡ a
+own_around : {N : Names} {A : Type 0} (a : Around N A) → worded_around (bijection_of (id_equiv A)) a ≡ a
 unfolding id_equiv
 own_around a = λ i. record { alone = λ v. own_word (a.alone v) i; is_pinned = a.is_pinned }
 
 module _ {N : Names} {S : Contents} where
   -- what holds in some words holds in others: by univalence it is enough that it does in its own
-  in_other_words : {A B : Type 0} (P : (X : Type 0) → Dialect S X → Around N X → Type 0) (w : Words A B)
+  in_other_words : {A B : Type 0} (P : (X : Type 0) → Dialect S X → Around N X → Type 0) (w : Bijection A B)
       (d : Dialect S A) (a : Around N A) → P A d a → P B (worded w d) (worded_around w a)
   in_other_words {A} {B} P w d a p =
       equiv_j
-      (λ X e. (d : Dialect S X) (a : Around N X) → P X d a → P B (worded (words_of e) d) (worded_around (words_of e) a))
-      (λ d a p. subst (λ z. P B z (worded_around (words_of (id_equiv B)) a)) (sym (own_worded d))
+      (λ X e. (d : Dialect S X) (a : Around N X) → P X d a → P B (worded (bijection_of e) d) (worded_around (bijection_of e) a))
+      (λ d a p. subst (λ z. P B z (worded_around (bijection_of (id_equiv B)) a)) (sym (own_worded d))
       (subst (λ z. P B d z) (sym (own_around a)) p))
       (iso_to_equiv (record { fun = w.to; inv = w.from; rinv = w.back; linv = w.there }))
       d a p
 
   -- what sccp, dce and simplify make of a tree they make of it in other words
-  module _ {A B : Type 0} (w : Words A B) (d : Dialect S A) where
+  module _ {A B : Type 0} (w : Bijection A B) (d : Dialect S A) where
     pub sccp_worded : (t : Root N S) (after : Root (fresh N) S) → IsSccp d t after → IsSccp (worded w d) t after
     sccp_worded t after x =
         in_other_words (λ X e b. IsSccp e t after) w d (record { alone = λ v. None; is_pinned = λ v. false }) x

@@ -8,14 +8,13 @@ use Rattle.opt_trees.specs.Dialect.{Dialect}
 use Rattle.opt_trees.specs.Occurrences.{Has, OperationsApart, Occurrence, occurrences_of, defined_in}
 use Rattle.opt_trees.specs.Sccp.{fresh, IsSccp}
 use Rattle.opt_trees.specs.Simplify.{IsOrderly, IsSimplify}
-use Rattle.opt_meanings.specs.Meanings.{Meanings, IsMeant, Words, mean_root, worded, worded_around}
+use Rattle.opt_meanings.specs.Meanings.{Meanings, IsMeant, Bijection, mean_root, worded, worded_around}
 
 -- no value that is defined below the root is named from outside it
 abbrev pub NonePinned : {N : Names} {S : Contents} {A : Type 0} → Around N A → Root N S → Type 0
 NonePinned {N} w t = (v : N.value) → Has v (defined_in t.regions) → w.is_pinned v ≡ true → ⊥
 
--- of the operands of a branch of the one tree the context knows what the other context knows of those of the operation at
--- the same place of the other
+-- at the same place of the two trees, in the order of the text, the contexts know the same of each operand of a branch
 abbrev pub KnowAlike : {N : Names} {S : Contents} {A : Type 0} → Dialect S A → Around N A → Around N A → Root N S →
     Root N S → Type 0
 KnowAlike {N} {S} d w z t u = (i j : ℕ) (o p : Occurrence N S) (v x : N.value) →
@@ -34,6 +33,7 @@ module _ (N : Names) (S R : Contents) (A : Type 0) where
   DceMeans = (m : Meanings S R) (d : Dialect S A) (e : Dialect R A) → IsMeant m d e →
       (w : Around N A) (t after : Root N S) → IsDce d w t after → IsDce e w (mean_root m t) (mean_root m after)
 
+  -- where operations have distinct names
   abbrev pub SimplifyMeans : Type 0
   SimplifyMeans = (m : Meanings S R) (d : Dialect S A) (e : Dialect R A) → IsMeant m d e →
       (w : Around N A) (t after : Root N S) → OperationsApart t → IsSimplify d w t after →
@@ -42,18 +42,18 @@ module _ (N : Names) (S R : Contents) (A : Type 0) where
 -- the same is made of a tree whatever words attributes are in
 module _ (N : Names) (S : Contents) (A B : Type 0) where
   abbrev pub SccpWorded : Type 0
-  SccpWorded = (w : Words A B) (d : Dialect S A) (t : Root N S) (after : Root (fresh N) S) → IsSccp d t after →
+  SccpWorded = (w : Bijection A B) (d : Dialect S A) (t : Root N S) (after : Root (fresh N) S) → IsSccp d t after →
       IsSccp (worded w d) t after
 
   abbrev pub DceWorded : Type 0
-  DceWorded = (w : Words A B) (d : Dialect S A) (a : Around N A) (t after : Root N S) → IsDce d a t after →
+  DceWorded = (w : Bijection A B) (d : Dialect S A) (a : Around N A) (t after : Root N S) → IsDce d a t after →
       IsDce (worded w d) (worded_around w a) t after
 
   abbrev pub SimplifyWorded : Type 0
-  SimplifyWorded = (w : Words A B) (d : Dialect S A) (a : Around N A) (t after : Root N S) →
+  SimplifyWorded = (w : Bijection A B) (d : Dialect S A) (a : Around N A) (t after : Root N S) →
       IsSimplify d a t after → IsSimplify (worded w d) (worded_around w a) t after
 
--- of trees that are the same up to names what is the same up to names is made
+-- of trees that are the same up to names, which can be told apart, what is the same up to names is made
 module _ (N : Names) (S : Contents) (A : Type 0) where
   abbrev pub SameSccps : Type 0
   SameSccps = (d : Dialect S A) → HaveTests N → (t u : Root N S) → IsSame t u →

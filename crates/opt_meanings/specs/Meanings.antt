@@ -65,28 +65,30 @@ pub record IsMeant {S R : Contents} {A : Type 0} (m : Meanings S R) (d : Dialect
       e.drop_operands (m.operation c) p ≡ m.operation (d.drop_operands c p)
   pub drop_names : (b : S.of_block) (p : ℕ → Bool) → e.drop_names (m.block b) p ≡ m.block (d.drop_names b p)
 
--- attributes in other words, of which each stands for one
-pub record Words (A B : Type 0) : Type 0 where
+-- a map with its inverse: to and from undo each other
+pub record Bijection (A B : Type 0) : Type 0 where
   pub to : A → B
   pub from : B → A
   pub there : (a : A) → from (to a) ≡ a
   pub back : (b : B) → to (from b) ≡ b
 
-module _ {A B : Type 0} (w : Words A B) where
-  abbrev pub in_words : List (Option A) → List (Option B)
-  in_words xs = map (option_map w.to) xs
+module _ {A B : Type 0} (w : Bijection A B) where
+  -- all of a list, where they are known, in the other words
+  abbrev pub all_to : List (Option A) → List (Option B)
+  all_to xs = map (option_map w.to) xs
 
-  abbrev pub of_words : List (Option B) → List (Option A)
-  of_words xs = map (option_map w.from) xs
+  -- and back
+  abbrev pub all_from : List (Option B) → List (Option A)
+  all_from xs = map (option_map w.from) xs
 
-  -- the dialect, with attributes in other words
+  -- the dialect, with attributes in the other words
   abbrev pub worded : {S : Contents} → Dialect S A → Dialect S B
   worded d = record {
     is_foldable = d.is_foldable;
-    fold = λ c ts xs. in_words (d.fold c ts (of_words xs));
+    fold = λ c ts xs. all_to (d.fold c ts (all_from xs));
     is_branch = d.is_branch;
-    feasible = λ c xs i. d.feasible c (of_words xs) i;
-    edge = λ c xs. d.edge c (of_words xs);
+    feasible = λ c xs i. d.feasible c (all_from xs) i;
+    edge = λ c xs. d.edge c (all_from xs);
     forwards = d.forwards;
     is_terminator = d.is_terminator;
     has_effects = d.has_effects;
@@ -101,5 +103,6 @@ module _ {A B : Type 0} (w : Words A B) where
     drop_names = d.drop_names;
   }
 
+  -- what the context says, with attributes in the other words
   abbrev pub worded_around : {N : Names} → Around N A → Around N B
   worded_around a = record { alone = λ v. option_map w.to (a.alone v); is_pinned = a.is_pinned }

@@ -1,5 +1,5 @@
 -- Operations at one place of two trees that say the same: one where the other is, of one kind, with the same attributes.
-use Rattle.std.proofs.Common.{◌≡◌, ℕ, List, map, option_map, sym, ap, ◌∙◌, subst}
+use Rattle.std.proofs.Common.{◌≡◌, ℕ, List, map, option_and_then, sym, ap, ◌∙◌, subst}
 use Rattle.ir_base.specs.declared.types.TypeHandle.{TypeHandle}
 use Rattle.ir_names.specs.Dictionary.{attribute_at}
 use Rattle.ir_trees.specs.Names.{Names}
@@ -72,6 +72,6 @@ module _ {N : Names} (c e : TypeHandle → ℕ) (r : Renaming N N) (t u : Root N
         ∙ ap (map r.value.to) (names-mean c o.head.results)
 
     -- their attributes mean the same
-    pub attributes_are : (key : List ℕ) → option_map (attribute_meant c) (attribute_at o.head.content.notes.attributes key)
-        ≡ option_map (attribute_meant e) (attribute_at q.head.content.notes.attributes key)
+    pub attributes_are : (key : List ℕ) → option_and_then (attribute_meant c) (attribute_at o.head.content.notes.attributes key)
+        ≡ option_and_then (attribute_meant e) (attribute_at q.head.content.notes.attributes key)
     attributes_are key = ap (λ (x : Said). x.head.content.attributes key) beside.is

@@ -1,14 +1,16 @@
 -- What the dialect says of what is said is what `kit` says of operations.
-use Rattle.std.proofs.Common.{◌≡◌, ℕ, zero, suc, Bool, true, false, cond, List, [], ◌∷◌, length, map, Option, Some, None, refl, sym, ap, ◌∙◌}
-use Rattle.std.specs.Prelude.{bytes_eq, if◌then◌else◌, nat_eq, nat_le, option_map, replicate, slice_index, ◌&&◌}
+use Rattle.std.proofs.Common.{◌≡◌, ℕ, zero, suc, Bool, true, false, cond, List, [], ◌∷◌, length, map, Option, Some}
+use Rattle.std.proofs.Common.{None, refl, sym, ap, ◌∙◌}
+use Rattle.std.specs.Prelude.{bytes_eq, if◌then◌else◌, nat_eq, nat_le, option_and_then, option_map, replicate}
+use Rattle.std.specs.Prelude.{slice_index, ◌&&◌}
 use Rattle.std.proofs.lemmas.Bool.Decides.{same_from_decides, Decides-eqb, Decides-like}
 use Rattle.std.proofs.lemmas.Slice.Eq.{bytes_eq-Decides}
 use Rattle.ir_base.specs.declared.types.TypeHandle.{TypeHandle}
-use Rattle.ir_names.specs.Dictionary.{attribute_at, with_attribute}
+use Rattle.ir_names.specs.Dictionary.{attribute_at}
 use Rattle.ir_names.proofs.Entries.{attribute_at-with_attribute}
-use Rattle.opt_meanings.specs.Meanings.{IsMeant, Words, in_words, of_words, worded}
+use Rattle.opt_meanings.specs.Meanings.{IsMeant, Bijection, all_to, all_from, worded}
 use Rattle.kit_ops.specs.Arithmetic.{calc, compare}
-use Rattle.kit_ops.specs.Keys.{constant_value, segment_sizes}
+use Rattle.kit_ops.specs.Keys.{constant_value, given_names, segment_sizes}
 use Rattle.kit_ops.specs.declared.attributes.IntegerAttr.{IntegerAttr}
 use Rattle.kit_ops.specs.declared.attributes.KitAttr.{KitAttr}
 use Rattle.kit_ops.specs.declared.attributes.KitAttr.TheVariants as attrs
@@ -19,9 +21,10 @@ use Rattle.kit_ops.specs.declared.kinds.KitOp.TheVariants as ops
 use Rattle.kit.specs.Meaning.{KitOperation, Entries, kit}
 use Rattle.kit.specs.Meaning as kits
 use Rattle.kit_same_modules.specs.Meanings.{Number, Attribute, Integer, integers, kit_said, meanings, number_meant}
-use Rattle.kit_same_modules.specs.Meanings.{attribute_meant, number_in, are_numbers, with_bits, calculated, bit_of, compared}
+use Rattle.kit_same_modules.specs.Meanings.{attribute_meant, entries_meant, number_in, are_numbers, with_bits}
+use Rattle.kit_same_modules.specs.Meanings.{calculated, bit_of, compared}
 use Rattle.kit_same_modules.specs.Meanings.{of_both, value_of, if_of_type, fold_of, edge_of, feasible_of, sizes_in}
-use Rattle.kit_same_modules.specs.Meanings.{first_size, without_operands, changed_at, dropped_of, alone_at}
+use Rattle.kit_same_modules.specs.Meanings.{without_operands, changed_at, dropped_of, alone_at}
 
 -- a choice between two, where both ways are the same
 chosen : {X : Type 0} (b c : Bool) (x y z : X) → b ≡ c → x ≡ y → (if b then x else z) ≡ (if c then y else z)
@@ -35,7 +38,7 @@ long_mapped : {X Y : Type 0} (f : X → Y) (xs : List X) → length (map f xs) �
 long_mapped f [] = refl
 long_mapped f (x ∷ xs) = ap suc (long_mapped f xs)
 
-module _ (w : Words TypeHandle ℕ) where
+module _ (w : Bijection TypeHandle ℕ) where
   abbrev meant : IntegerAttr → Number
   meant = number_meant w.to
 
@@ -43,7 +46,7 @@ module _ (w : Words TypeHandle ℕ) where
   told = (integers w).from
 
   abbrev said : Entries → List ℕ → Option Attribute
-  said es = λ key. option_map (attribute_meant w.to) (attribute_at es key)
+  said = entries_meant w.to
 
   -- types are told apart by their numbers
   same_types : (x y : TypeHandle) → nat_eq (w.to x) (w.to y) ≡ nat_eq x.number y.number
@@ -97,7 +100,7 @@ module _ (w : Words TypeHandle ℕ) where
 
   both_told : (f : Number → Number → Option Number) (g : IntegerAttr → IntegerAttr → Option IntegerAttr) →
       ((a b : Number) → f a b ≡ option_map meant (g (told a) (told b))) → (xs : List (Option Number)) →
-      of_both f xs ≡ option_map meant (kits.of_both g (of_words (integers w) xs))
+      of_both f xs ≡ option_map meant (kits.of_both g (all_from (integers w) xs))
   both_told f g same [] = refl
   both_told f g same (None ∷ xs) = refl
   both_told f g same (Some a ∷ []) = refl
@@ -105,7 +108,7 @@ module _ (w : Words TypeHandle ℕ) where
   both_told f g same (Some a ∷ (Some b ∷ [])) = same a b
   both_told f g same (Some a ∷ (Some b ∷ (x ∷ xs))) = refl
 
-  number_said : (q : Option KitAttr) → number_in (option_map (attribute_meant w.to) q) ≡ option_map meant (kits.integer_in q)
+  number_said : (q : Option KitAttr) → number_in (option_and_then (attribute_meant w.to) q) ≡ option_map meant (kits.integer_in q)
   number_said None = refl
   number_said (Some (attrs.Integer a)) = refl
   number_said (Some (attrs.Identifier name)) = refl
@@ -116,7 +119,7 @@ module _ (w : Words TypeHandle ℕ) where
   number_said (Some (attrs.Origin text)) = refl
 
   value_told : (k : KitOp) (es : Entries) (t : TypeHandle) (xs : List (Option Number)) →
-      value_of k (said es) (w.to t) xs ≡ option_map meant (kits.value_of k es t (of_words (integers w) xs))
+      value_of k (said es) (w.to t) xs ≡ option_map meant (kits.value_of k es t (all_from (integers w) xs))
   value_told ops.Constant es t xs = number_said (attribute_at es constant_value)
   value_told (ops.Arithmetic k) es t xs = both_told (calculated k) (kits.calculated k) (calculated_told k) xs
   value_told (ops.Comparison k) es t xs = both_told (compared k (w.to t)) (kits.compared k t) (compared_told k t) xs
@@ -130,16 +133,16 @@ module _ (w : Words TypeHandle ℕ) where
   value_told ops.Return es t xs = refl
 
   fold_told : (k : KitOp) (es : Entries) (ts : List TypeHandle) (xs : List (Option Number)) →
-      fold_of k (said es) (map w.to ts) xs ≡ in_words (integers w) (kits.fold_of k es ts (of_words (integers w) xs))
+      fold_of k (said es) (map w.to ts) xs ≡ all_to (integers w) (kits.fold_of k es ts (all_from (integers w) xs))
   fold_told k es [] xs = refl
   fold_told k es (t ∷ []) xs =
-      ap (λ q. q ∷ []) (ap (if_of_type (w.to t)) (value_told k es t xs) ∙ if_typed t (kits.value_of k es t (of_words (integers w) xs)))
+      ap (λ q. q ∷ []) (ap (if_of_type (w.to t)) (value_told k es t xs) ∙ if_typed t (kits.value_of k es t (all_from (integers w) xs)))
   fold_told k es (t ∷ (u ∷ ts)) xs =
       ap (λ n. replicate (suc (suc n)) None) (long_mapped w.to ts) ∙ sym (none_mapped meant (suc (suc (length ts))))
 
   -- 2. branches
 
-  edge_told : (k : KitOp) (xs : List (Option Number)) → edge_of k xs ≡ kits.edge_of k (of_words (integers w) xs)
+  edge_told : (k : KitOp) (xs : List (Option Number)) → edge_of k xs ≡ kits.edge_of k (all_from (integers w) xs)
   edge_told ops.CondBr [] = refl
   edge_told ops.CondBr (None ∷ xs) = refl
   edge_told ops.CondBr (Some a ∷ xs) = refl
@@ -155,7 +158,7 @@ module _ (w : Words TypeHandle ℕ) where
   edge_told ops.Return xs = refl
 
   feasible_told : (k : KitOp) (xs : List (Option Number)) (i : ℕ) →
-      feasible_of k xs i ≡ kits.feasible_of k (of_words (integers w) xs) i
+      feasible_of k xs i ≡ kits.feasible_of k (all_from (integers w) xs) i
   feasible_told ops.CondBr [] i = refl
   feasible_told ops.CondBr (None ∷ xs) i = refl
   feasible_told ops.CondBr (Some a ∷ xs) i = refl
@@ -170,7 +173,7 @@ module _ (w : Words TypeHandle ℕ) where
   feasible_told ops.Emit xs i = refl
   feasible_told ops.Return xs i = refl
 
-  sizes_said : (q : Option KitAttr) → sizes_in (option_map (attribute_meant w.to) q) ≡ kits.sizes_in q
+  sizes_said : (q : Option KitAttr) → sizes_in (option_and_then (attribute_meant w.to) q) ≡ kits.sizes_in q
   sizes_said None = refl
   sizes_said (Some (attrs.Integer a)) = refl
   sizes_said (Some (attrs.Identifier name)) = refl
@@ -183,7 +186,7 @@ module _ (w : Words TypeHandle ℕ) where
   -- 3. what goes, and what is made
 
   less_said : (p : ℕ → Bool) (a : KitAttr) →
-      without_operands p (attribute_meant w.to a) ≡ attribute_meant w.to (kits.without_operands p a)
+      option_map (without_operands p) (attribute_meant w.to a) ≡ attribute_meant w.to (kits.without_operands p a)
   less_said p (attrs.Integer a) = refl
   less_said p (attrs.Identifier name) = refl
   less_said p (attrs.«Type» ty) = refl
@@ -192,38 +195,71 @@ module _ (w : Words TypeHandle ℕ) where
   less_said p (attrs.Note text) = refl
   less_said p (attrs.Origin text) = refl
 
-  changed_said : (es : Entries) (key : List ℕ) (p : ℕ → Bool) (other : List ℕ) →
-      changed_at (said es) key (without_operands p) other ≡ said (kits.changed_at es key (kits.without_operands p)) other
-  changed_said es key p other = by (attribute_at es key) refl
+  -- names of values mean nothing, whichever of them go
+  names_said : (p : ℕ → Bool) (a : KitAttr) →
+      option_map (λ x. x) (attribute_meant w.to a) ≡ attribute_meant w.to (kits.without_names p a)
+  names_said p (attrs.Integer a) = refl
+  names_said p (attrs.Identifier name) = refl
+  names_said p (attrs.«Type» ty) = refl
+  names_said p (attrs.SegmentSizes sizes) = refl
+  names_said p (attrs.GivenNames names) = refl
+  names_said p (attrs.Note text) = refl
+  names_said p (attrs.Origin text) = refl
+
+  -- attributes of which one changes mean what they meant, but for the one
+  module _ (f : Attribute → Attribute) (g : KitAttr → KitAttr)
+      (less : (a : KitAttr) → option_map f (attribute_meant w.to a) ≡ attribute_meant w.to (g a)) where
+    changed_said : (es : Entries) (key other : List ℕ) →
+        changed_at (said es) key f other ≡ said (kits.changed_at es key g) other
+    changed_said es key other = by (attribute_at es key) refl
+      where
+        at_other : (q : Option KitAttr) (b : Bool) →
+            (if b then option_map f (option_and_then (attribute_meant w.to) q) else said es other)
+            ≡ option_and_then (attribute_meant w.to) (if b then option_map g q else attribute_at es other)
+        at_other None true = refl
+        at_other (Some a) true = less a
+        at_other q false = refl
+
+        same_key : (b : Bool) → bytes_eq key other ≡ b → attribute_at es key ≡ None →
+            (if b then None else attribute_at es other) ≡ attribute_at es other
+        same_key true f e = sym e ∙ ap (attribute_at es) ((bytes_eq-Decides key other).0 f)
+        same_key false f e = refl
+
+        by : (q : Option KitAttr) → attribute_at es key ≡ q →
+            changed_at (said es) key f other ≡ said (kits.changed_at es key g) other
+        by None e =
+            ap (λ z. if bytes_eq key other then option_map f (option_and_then (attribute_meant w.to) z) else said es other) e
+            ∙ at_other None (bytes_eq key other)
+            ∙ ap (option_and_then (attribute_meant w.to)) (same_key (bytes_eq key other) refl e)
+            ∙ ap (λ z. said (kits.changed_to es key g z) other) (sym e)
+        by (Some a) e =
+            ap (λ z. if bytes_eq key other then option_map f (option_and_then (attribute_meant w.to) z) else said es other) e
+            ∙ at_other (Some a) (bytes_eq key other)
+            ∙ ap (option_and_then (attribute_meant w.to)) (sym (attribute_at-with_attribute es key (g a) other))
+            ∙ ap (λ z. said (kits.changed_to es key g z) other) (sym e)
+
+  -- a map of which one attribute is put again is the map
+  put_again : (at : List ℕ → Option Attribute) (key other : List ℕ) → changed_at at key (λ a. a) other ≡ at other
+  put_again at key other = by (bytes_eq key other) refl
     where
-      at_other : (q : Option KitAttr) → attribute_at es key ≡ q → (b : Bool) → bytes_eq key other ≡ b →
-          (if b then option_map (without_operands p) (option_map (attribute_meant w.to) q) else said es other)
-          ≡ option_map (attribute_meant w.to) (if b then option_map (kits.without_operands p) q else attribute_at es other)
-      at_other None e true f = refl
-      at_other (Some a) e true f = ap Some (less_said p a)
-      at_other q e false f = refl
+      whole : (q : Option Attribute) → option_map (λ a. a) q ≡ q
+      whole None = refl
+      whole (Some a) = refl
 
-      same_key : (b : Bool) → bytes_eq key other ≡ b → attribute_at es key ≡ None →
-          (if b then None else attribute_at es other) ≡ attribute_at es other
-      same_key true f e = sym e ∙ ap (attribute_at es) ((bytes_eq-Decides key other).0 f)
-      same_key false f e = refl
+      by : (b : Bool) → bytes_eq key other ≡ b → (if b then option_map (λ a. a) (at key) else at other) ≡ at other
+      by true e = whole (at key) ∙ ap at ((bytes_eq-Decides key other).0 e)
+      by false e = refl
 
-      by : (q : Option KitAttr) → attribute_at es key ≡ q →
-          changed_at (said es) key (without_operands p) other ≡ said (kits.changed_at es key (kits.without_operands p)) other
-      by None e =
-          ap (λ z. if bytes_eq key other then option_map (without_operands p) (option_map (attribute_meant w.to) z) else said es other) e
-          ∙ at_other None e (bytes_eq key other) refl
-          ∙ ap (option_map (attribute_meant w.to)) (same_key (bytes_eq key other) refl e)
-          ∙ ap (λ z. said (kits.changed_to es key (kits.without_operands p) z) other) (sym e)
-      by (Some a) e =
-          ap (λ z. if bytes_eq key other then option_map (without_operands p) (option_map (attribute_meant w.to) z) else said es other) e
-          ∙ at_other (Some a) e (bytes_eq key other) refl
-          ∙ ap (option_map (attribute_meant w.to)) (sym (attribute_at-with_attribute es key (kits.without_operands p a) other))
-          ∙ ap (λ z. said (kits.changed_to es key (kits.without_operands p) z) other) (sym e)
+  -- attributes mean what they meant when names of values go
+  unnamed_said : (es : Entries) (p : ℕ → Bool) (key : List ℕ) →
+      said es key ≡ said (kits.changed_at es given_names (kits.without_names p)) key
+  unnamed_said es p key = sym (put_again (said es) given_names key)
+      ∙ changed_said (λ a. a) (kits.without_names p) (names_said p) es given_names key
 
   dropped_said : (k : KitOp) (p : ℕ → Bool) (es : Entries) (key : List ℕ) →
       dropped_of k p (said es) key ≡ said (kits.dropped_of k p es) key
-  dropped_said ops.CondBr p es key = changed_said es segment_sizes p key
+  dropped_said ops.CondBr p es key =
+      changed_said (without_operands p) (kits.without_operands p) (less_said p) es segment_sizes key
   dropped_said ops.Br p es key = refl
   dropped_said ops.Module p es key = refl
   dropped_said ops.Func p es key = refl
@@ -240,7 +276,7 @@ module _ (w : Words TypeHandle ℕ) where
   alone_said a key = by (bytes_eq key constant_value)
     where
       by : (b : Bool) → (if b then Some (Integer a) else None)
-          ≡ option_map (attribute_meant w.to) (cond b (Some (attrs.Integer (told a))) None)
+          ≡ option_and_then (attribute_meant w.to) (cond b (Some (attrs.Integer (told a))) None)
       by true = λ i. Some (Integer (record { ty = sym (w.back a.ty) i; integer = a.integer; bits = a.bits }))
       by false = refl
 
@@ -262,5 +298,5 @@ module _ (w : Words TypeHandle ℕ) where
     is_constant = λ c. refl;
     is_ssa = λ c region. refl;
     drop_operands = λ c p i. record { kind = c.kind; attributes = λ key. dropped_said c.kind p c.notes.attributes key i };
-    drop_names = λ b p. refl;
+    drop_names = λ b p i. λ key. unnamed_said b.attributes p key i;
   }

@@ -1,5 +1,5 @@
 -- In trees that say the same the same is known of operands: those of constants, where exactly these are known.
-use Rattle.std.proofs.Common.{◌≡◌, ℕ, List, Option, Some, option_map, slice_get, sym, ap, ◌∙◌, subst}
+use Rattle.std.proofs.Common.{◌≡◌, ℕ, List, Option, Some, option_and_then, option_map, slice_get, sym, ap, ◌∙◌, subst}
 use Rattle.ir_base.specs.declared.types.TypeHandle.{TypeHandle}
 use Rattle.ir_names.specs.Dictionary.{attribute_at}
 use Rattle.ir_trees.specs.Names.{Names}
@@ -9,7 +9,7 @@ use Rattle.opt_trees.specs.Dce.{Around}
 use Rattle.opt_trees.specs.Occurrences.{Has, Occurrence, occurrences_of, defined_in, rename_occurrence, Renaming, maps}
 use Rattle.opt_trees.proofs.Lists.{at-map, has-map, has-apart, some_same, from_some, option_both}
 use Rattle.opt_meanings.specs.Laws.{KnowAlike}
-use Rattle.opt_meanings.specs.Meanings.{Words, mean_root, worded_around}
+use Rattle.opt_meanings.specs.Meanings.{Bijection, mean_root, worded_around}
 use Rattle.opt_meanings.proofs.Said.{operation_from}
 use Rattle.kit_ops.specs.Keys.{constant_value}
 use Rattle.kit_ops.specs.declared.attributes.IntegerAttr.{IntegerAttr}
@@ -18,8 +18,10 @@ use Rattle.kit_views.specs.FlatBranches.{KnowsConstants}
 use Rattle.kit_views.specs.Reading.{kit_contents}
 use Rattle.kit_views.proofs.Lists.{has_get}
 use Rattle.kit_module_programs.specs.Sound.{IsSound}
-use Rattle.kit_same_modules.specs.Meanings.{sayings, Number, number_meant, attribute_meant, meanings, integers, kit_said}
-use Rattle.kit_same_modules.proofs.Passes.Beside.{Beside, from_one, from_other, one_kind, results_are, attributes_are, operations_are}
+use Rattle.kit_same_modules.specs.Meanings.{sayings, Number, number_meant, attribute_meant, meanings, integers}
+use Rattle.kit_same_modules.specs.Meanings.{kit_said}
+use Rattle.kit_same_modules.proofs.Passes.Beside.{Beside, from_one, from_other, one_kind, results_are, attributes_are}
+use Rattle.kit_same_modules.proofs.Passes.Beside.{operations_are}
 use Rattle.kit_same_modules.proofs.Passes.IntegersMeant.{means_number}
 use Rattle.kit_same_modules.proofs.Passes.OperandsDefined.{operand_defined}
 
@@ -45,7 +47,7 @@ module _ {N : Names} (c e : TypeHandle → ℕ) (r : Renaming N N) (t u : Root N
           let b1 : Beside {N = N} c e r t u same k.definer q = b.1 in
           let m = means_number e (number_meant c a.it) (attribute_at q.head.content.notes.attributes constant_value)
           (sym (attributes_are {N = N} c e r t u same k.definer q b1 constant_value)
-          ∙ ap (option_map (attribute_meant c)) k.value) in
+          ∙ ap (option_and_then (attribute_meant c)) k.value) in
           let known : z.alone (r.value.to v) ≡ Some m.it = (knows_other (r.value.to v) m.it there).1 (record {
             definer = q;
             stands = b1.other;
@@ -67,7 +69,7 @@ module _ {N : Names} (c e : TypeHandle → ℕ) (r : Renaming N N) (t u : Root N
           let b1 : Beside {N = N} c e r t u same o k.definer = b.1 in
           let m = means_number c (number_meant e a.it) (attribute_at o.head.content.notes.attributes constant_value)
           (attributes_are {N = N} c e r t u same o k.definer b1 constant_value
-          ∙ ap (option_map (attribute_meant e)) k.value) in
+          ∙ ap (option_and_then (attribute_meant e)) k.value) in
           let known : w.alone v ≡ Some m.it = (knows v m.it here).1 (record {
             definer = o;
             stands = b1.stands;
@@ -113,7 +115,7 @@ module _ {N : Names} (c e : TypeHandle → ℕ) (r : Renaming N N) (t u : Root N
 
 -- of operands at one place of two sound trees that say the same the same is known
 pub known_alike : {N : Names} (leads others : TypeHandle → Option KitType) (numbered other_numbered : List ℕ → ℕ)
-    (type_at other_type_at : N.value → TypeHandle) (c e : Words TypeHandle ℕ) (r : Renaming N N)
+    (type_at other_type_at : N.value → TypeHandle) (c e : Bijection TypeHandle ℕ) (r : Renaming N N)
     (t u : Root N kit_contents) →
     rename_root (maps r) (mean_root (meanings c.to) t) ≡ mean_root (meanings e.to) u →
     IsSound {N = N} leads numbered type_at t → IsSound {N = N} others other_numbered other_type_at u →

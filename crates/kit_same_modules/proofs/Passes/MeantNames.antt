@@ -2,11 +2,11 @@
 use Rattle.std.proofs.Common.{◌≡◌, List, [], ◌∷◌, ◌++◌, map, sym, refl, ap, ◌∙◌, subst}
 use Rattle.std.proofs.lemmas.List.{map-append}
 use Rattle.ir_trees.specs.Names.{Names, Contents}
-use Rattle.ir_trees.specs.Renames.{Maps, IsOneToOne, IsSame, blocks_in, blocks_of, names_of, rename, rename_defined}
+use Rattle.ir_trees.specs.Renames.{Maps, IsOneToOne, IsSame, blocks_in, blocks_of, rename, rename_defined}
 use Rattle.ir_trees.specs.Renames.{rename_head, rename_label, rename_root, values_in, values_of}
 use Rattle.ir_trees.specs.Searched.{heads_in, operation_names, Lists}
 use Rattle.ir_trees.specs.Trees.{Defined, Head, Label, Sort, Tree, end, operation, block, region, Root}
-use Rattle.ir_trees.proofs.Same.{same_renamed, same_back, same_on}
+use Rattle.ir_trees.proofs.Same.{same_renamed}
 use Rattle.opt_meanings.specs.Meanings.{Meanings, mean, mean_defined, mean_head, mean_label, mean_root}
 use Rattle.opt_meanings.proofs.Said.{names-mean}
 

@@ -10,14 +10,14 @@ use Rattle.ir_trees.specs.Trees.{Root}
 use Rattle.ir_trees.proofs.Same.{same_back, same_on}
 use Rattle.kit.specs.Meaning.{kit}
 use Rattle.kit_behaviour.specs.PassLists.{Pass, SccpPass, LeanSccpPass, DcePass, SimplifyPass}
-use Rattle.kit_module_programs.specs.Sound.{IsSound}
-use Rattle.kit_module_programs.specs.TreePasses.{IsDceAlone, IsSccpNamed, IsSimplifiedAlone, IsSoundTree, IsTreeAfter, IsTreePass, maps_of}
+use Rattle.kit_module_programs.specs.TreePasses.{IsDceAlone, IsSccpNamed, IsSimplifiedAlone, IsSoundTree, IsTreeAfter}
+use Rattle.kit_module_programs.specs.TreePasses.{IsTreePass, maps_of}
 use Rattle.kit_ops.specs.declared.attributes.IntegerAttr.{IntegerAttr}
 use Rattle.kit_ops.specs.declared.types.KitType.{KitType}
 use Rattle.kit_views.specs.Reading.{kit_contents}
 use Rattle.kit_writable_trees.specs.Laws.{KitTree}
 use Rattle.opt_meanings.specs.Laws.{NonePinned}
-use Rattle.opt_meanings.specs.Meanings.{Words, mean_root, worded, worded_around}
+use Rattle.opt_meanings.specs.Meanings.{Bijection, mean_root, worded, worded_around}
 use Rattle.opt_meanings.proofs.DceMeant.{dce_meant}
 use Rattle.opt_meanings.proofs.Permuted.{permuted}
 use Rattle.opt_meanings.proofs.Said.{defined_meant}
@@ -43,7 +43,7 @@ handle_tests : HaveTests by_handle
 handle_tests = record { operation = same_or_not; block = same_or_not; value = same_value }
 
 -- one context
-module _ {N : Names} (c : Words TypeHandle ℕ) where
+module _ {N : Names} (c : Bijection TypeHandle ℕ) where
   sccp_said : (t : Root N kit_contents) (put : Root (fresh N) kit_contents) → IsSccp kit t put →
       IsSccp kit_said (mean_root (meanings c.to) t) (mean_root (meanings c.to) put)
   sccp_said t put x =
@@ -69,7 +69,7 @@ module _ {N : Names} (c : Words TypeHandle ℕ) where
   unpinned_said w t none = λ v has pinned. none v (subst (Has v) (defined_meant (meanings c.to) t.regions) has) pinned
 
 -- two contexts
-module _ (c e : Words TypeHandle ℕ) where
+module _ (c e : Bijection TypeHandle ℕ) where
   abbrev Same : KitTree → KitTree → Type 0
   Same t u = SayTheSame c.to e.to t u
 

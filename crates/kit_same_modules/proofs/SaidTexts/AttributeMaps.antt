@@ -1,6 +1,6 @@
 -- Lists of attributes as maps, where they are none, one or two.
-use Rattle.std.proofs.Common.{◌≡◌, ◌⊎◌, inl, inr, ℕ, Bool, true, false, cond, List, [], ◌∷◌, length, Some, None}
-use Rattle.std.proofs.Common.{option_map, bytes_eq, refl, sym, ap, ◌∙◌, arith}
+use Rattle.std.proofs.Common.{◌≡◌, ◌⊎◌, inl, inr, ℕ, Bool, true, false, cond, List, [], ◌∷◌, length, Option, Some, None}
+use Rattle.std.proofs.Common.{option_and_then, bytes_eq, refl, sym, ap, ◌∙◌, arith}
 use Rattle.std.proofs.lemmas.Bool.{false≢true}
 use Rattle.std.proofs.lemmas.Option.{none-some, same_Some}
 use Rattle.std.proofs.lemmas.Slice.Eq.{bytes_eq-Decides}
@@ -83,13 +83,13 @@ module _ {X : Type 0} where
       by false x false y = third_at es p q a b l apart at there other x y
 
 -- what is made of one, and of one of two
-pub map_one : {X Y : Type 0} (f : X → Y) (b : Bool) (a : X)
-    → option_map f (cond b (Some a) None) ≡ cond b (Some (f a)) None
+pub map_one : {X Y : Type 0} (f : X → Option Y) (b : Bool) (a : X)
+    → option_and_then f (cond b (Some a) None) ≡ cond b (f a) None
 map_one f true a = refl
 map_one f false a = refl
 
-pub map_two : {X Y : Type 0} (f : X → Y) (b c : Bool) (a d : X)
-    → option_map f (cond b (Some a) (cond c (Some d) None)) ≡ cond b (Some (f a)) (cond c (Some (f d)) None)
+pub map_two : {X Y : Type 0} (f : X → Option Y) (b c : Bool) (a d : X)
+    → option_and_then f (cond b (Some a) (cond c (Some d) None)) ≡ cond b (f a) (cond c (f d) None)
 map_two f true c a d = refl
 map_two f false true a d = refl
 map_two f false false a d = refl

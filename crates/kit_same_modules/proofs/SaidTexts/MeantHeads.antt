@@ -25,9 +25,11 @@ use Rattle.kit_text_programs.proofs.SaidHeads.{kind_back, said_parts}
 use Rattle.kit_text_programs.proofs.SaidPrograms.{numbers_in}
 use Rattle.kit_text_rules.proofs.AlikeLists.{pairs_joined}
 use Rattle.kit_same_modules.specs.Laws.{types_among}
-use Rattle.kit_same_modules.specs.Meanings.{meanings, operation_meant}
+use Rattle.kit_same_modules.specs.Meanings.{entries_meant, meanings, operation_meant}
+use Rattle.kit_same_modules.proofs.SaidTexts.AttributeMaps.{no_entries}
 use Rattle.kit_same_modules.proofs.SaidTexts.SaidAttributes.{Numbered, numbered_front, attributes_meant}
-use Rattle.kit_same_modules.proofs.SaidTexts.SaidMeanings.{Written, kind_said, attributes_said, operation_said, defined_said}
+use Rattle.kit_same_modules.proofs.SaidTexts.SaidMeanings.{Written, kind_said, attributes_said, operation_said}
+use Rattle.kit_same_modules.proofs.SaidTexts.SaidMeanings.{defined_said}
 use Rattle.kit_same_modules.proofs.SaidTexts.SaidMeanings.{head_said, label_said}
 
 -- the types of results or arguments
@@ -105,9 +107,11 @@ module _ (number : ValueTree → ℕ) (code : TypeHandle → ℕ) (keys : List K
             successors = none i;
           }
 
-  -- a block means what is written
-  pub label_meant : (b : Ptr BasicBlock) (v : BlockView KitBlock) (arguments : Written) → Defines v.arguments arguments
-      → Numbered number code keys (types_in arguments)
+  -- a block without attributes means what is written
+  pub label_meant : (b : Ptr BasicBlock) (v : BlockView KitBlock) (arguments : Written)
+      → length v.payload.attributes ≡ 0 → Defines v.arguments arguments → Numbered number code keys (types_in arguments)
       → rename_label forget (mean_label (meanings code) (label_of b v)) ≡ label_said number arguments
-  label_meant b v arguments d n = let defined = defined_meant v.arguments arguments d n in
-      λ i. record { name = tt; content = tt; arguments = defined i }
+  label_meant b v arguments none d n =
+      let defined = defined_meant v.arguments arguments d n in
+      let bare = ap (entries_meant code) (no_entries v.payload.attributes none) in
+      λ i. record { name = tt; content = bare i; arguments = defined i }

@@ -30,7 +30,7 @@ use Rattle.kit_text_programs.proofs.SaidFunctions.{KitPart, same_operation, same
 use Rattle.kit_text_programs.proofs.SaidPrograms.{numbers_in}
 use Rattle.kit_text_programs.proofs.Unlabelled.{HasSomeLabel}
 use Rattle.kit_text_rules.proofs.AlikeLists.{pairs_joined}
-use Rattle.kit_same_modules.specs.Laws.{types_among, types_said, all_types_said}
+use Rattle.kit_same_modules.specs.Laws.{types_among, types_in_text, types_in_texts}
 use Rattle.kit_same_modules.specs.Meanings.{sayings, meanings}
 use Rattle.kit_same_modules.proofs.SaidTexts.MeantHeads.{types_in, defined_named, head_named, head_meant, label_meant}
 use Rattle.kit_same_modules.proofs.SaidTexts.SaidAttributes.{Numbered, numbered_front, numbered_back}
@@ -73,7 +73,7 @@ module _ (number : ValueTree → ℕ) (code : TypeHandle → ℕ) (s : KitContex
   mutual
     operations_mean : (ps : List (Ptr Operation)) (x : KitPart Operations) (ts : Entities ℕ)
         → AreTree s.program Operations ps x → HaveTrees says (Named values) HasSomeLabel (seen s) ps ts
-        → Coded (all_types_said ts) → IsSaid x (operations_said number ts) (all_values ts)
+        → Coded (types_in_texts ts) → IsSaid x (operations_said number ts) (all_values ts)
     operations_mean [] x no_entity no_operations h n = record { shape = refl; named = tt; blocks = refl }
     operations_mean [] x (an_entity t ts) no_operations h n = absurd h
     operations_mean (p ∷ ps) x no_entity tree h n = absurd h
@@ -83,13 +83,13 @@ module _ (number : ValueTree → ℕ) (code : TypeHandle → ℕ) (s : KitContex
         let is : seen_operation v ≡ hs.0 = same_operation s values own (λ _. 0) p v hs.0 there hs.1 in
         let head = subst (λ o. HasHead says (Named values) s.types.keys o kind results used pieces) (sym is) hs.2 in
         let types : List ValueTree = types_in results ++ types_among pieces in
-        let first = front (types ++ all_types_said us) (all_types_said ts) n in
+        let first = front (types ++ types_in_texts us) (types_in_texts ts) n in
         let inside = regions_mean v.regions rs us inner
         (subst (λ (o : SeenOperation KitOp KitAttr). HaveRegionTrees says (Named values) HasSomeLabel (seen s) o.regions us)
-        (sym is) hs.3) (back types (all_types_said us) first) in
-        let behind = operations_mean ps rest ts after h.1 (back (types ++ all_types_said us) (all_types_said ts) n) in
+        (sym is) hs.3) (back types (types_in_texts us) first) in
+        let behind = operations_mean ps rest ts after h.1 (back (types ++ types_in_texts us) (types_in_texts ts) n) in
         let same = head_meant number code s.types.keys values p v kind results used pieces head
-        (front types (all_types_said us) first) in
+        (front types (types_in_texts us) first) in
         record {
           shape = λ i. trees.operation (same i) (inside.shape i) (behind.shape i);
           named = pairs_joined (Named values) (values_at (mean_head (meanings code) (head_of p v)))
@@ -107,7 +107,7 @@ module _ (number : ValueTree → ℕ) (code : TypeHandle → ℕ) (s : KitContex
 
     blocks_mean : (ps : List (Ptr BasicBlock)) (x : KitPart Blocks) (ts : Entities ℕ)
         → AreTree s.program Blocks ps x → HaveBlockTrees says (Named values) HasSomeLabel (seen s) ps ts
-        → Coded (all_types_said ts) → IsSaid x (blocks_said number ts) (all_values ts)
+        → Coded (types_in_texts ts) → IsSaid x (blocks_said number ts) (all_values ts)
     blocks_mean [] x no_entity no_blocks h n = record { shape = refl; named = tt; blocks = refl }
     blocks_mean [] x (an_entity t ts) no_blocks h n = absurd h
     blocks_mean (p ∷ ps) x no_entity tree h n = absurd h
@@ -118,13 +118,14 @@ module _ (number : ValueTree → ℕ) (code : TypeHandle → ℕ) (s : KitContex
         let defines = subst (λ (o : SeenBlock). Pairs (HasDefinition says (Named values) s.types.keys) o.arguments arguments)
         (sym is) hs.3 in
         let types : List ValueTree = types_in arguments in
-        let first = front (types ++ all_types_said us) (all_types_said ts) n in
+        let first = front (types ++ types_in_texts us) (types_in_texts ts) n in
         let inside = operations_mean v.operations os us inner
         (subst (λ (o : SeenBlock). HaveTrees says (Named values) HasSomeLabel (seen s) o.operations us) (sym is) hs.4)
-        (back types (all_types_said us) first) in
-        let behind = blocks_mean ps rest ts after h.1 (back (types ++ all_types_said us) (all_types_said ts) n) in
-        let same = label_meant number code s.types.keys values p v arguments defines
-        (front types (all_types_said us) first) in
+        (back types (types_in_texts us) first) in
+        let behind = blocks_mean ps rest ts after h.1 (back (types ++ types_in_texts us) (types_in_texts ts) n) in
+        let none = ap (λ (o : SeenBlock). o.attributes) is ∙ hs.2.1.no_attributes in
+        let same = label_meant number code s.types.keys values p v arguments none defines
+        (front types (types_in_texts us) first) in
         let both = both_blocks os rest inside.blocks behind.blocks in
         record {
           shape = λ i. trees.block (same i) (inside.shape i) (behind.shape i);
@@ -141,7 +142,7 @@ module _ (number : ValueTree → ℕ) (code : TypeHandle → ℕ) (s : KitContex
 
     regions_mean : (ps : List (Ptr Region)) (x : KitPart Regions) (ts : Entities ℕ)
         → AreTree s.program Regions ps x → HaveRegionTrees says (Named values) HasSomeLabel (seen s) ps ts
-        → Coded (all_types_said ts) → IsSaid x (regions_said number ts) (all_values ts)
+        → Coded (types_in_texts ts) → IsSaid x (regions_said number ts) (all_values ts)
     regions_mean [] x no_entity no_regions h n = record { shape = refl; named = tt; blocks = refl }
     regions_mean [] x (an_entity t ts) no_regions h n = absurd h
     regions_mean (p ∷ ps) x no_entity tree h n = absurd h
@@ -150,8 +151,8 @@ module _ (number : ValueTree → ℕ) (code : TypeHandle → ℕ) (s : KitContex
         let is = same_region s values own (λ _. 0) p v hs.0 there hs.1 in
         let inside = blocks_mean v.blocks bs us inner
         (subst (λ ms. HaveBlockTrees says (Named values) HasSomeLabel (seen s) ms us) (sym is) hs.2)
-        (front (all_types_said us) (all_types_said ts) n) in
-        let behind = regions_mean ps rest ts after h.1 (back (all_types_said us) (all_types_said ts) n) in
+        (front (types_in_texts us) (types_in_texts ts) n) in
+        let behind = regions_mean ps rest ts after h.1 (back (types_in_texts us) (types_in_texts ts) n) in
         record {
           shape = λ i. trees.region (inside.shape i) (behind.shape i);
           named = pairs_joined (Named values) (values_in (mean (meanings code) bs)) (values_in (mean (meanings code) rest))
@@ -169,7 +170,7 @@ module _ (number : ValueTree → ℕ) (code : TypeHandle → ℕ) (s : KitContex
 
   pub root_means : (text : Entity ℕ) (root : Ptr Operation) (t : KitTree)
       → HasTree says (Named values) HasSomeLabel (seen s) root text → StandsFor s.program root t
-      → Coded (types_said text) → IsSaidRoot t text
+      → Coded (types_in_text text) → IsSaidRoot t text
   root_means (entity (operation kind results used pieces) us) root t h stands n =
       let v = stands.view in
       let is : seen_operation v ≡ h.0 = same_operation s values own (λ _. 0) root v h.0 stands.there h.1 in
@@ -177,10 +178,10 @@ module _ (number : ValueTree → ℕ) (code : TypeHandle → ℕ) (s : KitContex
       let types : List ValueTree = types_in results ++ types_among pieces in
       let inside = regions_mean v.regions t.regions us stands.regions
       (subst (λ (o : SeenOperation KitOp KitAttr). HaveRegionTrees says (Named values) HasSomeLabel (seen s) o.regions us)
-      (sym is) h.3) (back types (all_types_said us) n) in
+      (sym is) h.3) (back types (types_in_texts us) n) in
       let same = ap (λ (g : KitHead). rename_head forget (mean_head (meanings code) g)) stands.head
       ∙ head_meant number code s.types.keys values root v kind results used pieces head
-      (front types (all_types_said us) n) in
+      (front types (types_in_texts us) n) in
       record {
         shape = λ i. record { head = same i; regions = inside.shape i };
         named = pairs_joined (Named values) (values_at (mean_head (meanings code) t.head))

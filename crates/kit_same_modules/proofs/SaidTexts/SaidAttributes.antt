@@ -1,6 +1,6 @@
 -- The attributes of an operation mean what its text says.
 use Rattle.std.proofs.Common.{◌≡◌, inl, inr, ⊎_elim, ℕ, Bool, true, false, cond, ◌&&◌, List, [], ◌∷◌, ◌++◌, map}
-use Rattle.std.proofs.Common.{length, Option, Some, None, option_map, option_and_then, bytes_eq, refl, sym, ap, ◌∙◌, subst}
+use Rattle.std.proofs.Common.{length, Option, Some, None, option_and_then, bytes_eq, refl, sym, ap, ◌∙◌, subst}
 use Rattle.std.specs.Prelude.{◌==◌}
 use Rattle.std.proofs.lemmas.Bool.{false≢true}
 use Rattle.std.proofs.lemmas.Bool.Decides.{Decides-eqb}
@@ -36,7 +36,8 @@ use Rattle.kit_text_rules.proofs.ReadHeads.{Entries, SaidTrees, type_read, integ
 use Rattle.kit_same_modules.specs.Laws.{types_among}
 use Rattle.kit_same_modules.specs.Meanings.{Attribute, Integer, Name, OfType, attribute_meant, number_meant}
 use Rattle.kit_same_modules.proofs.SaidTexts.AttributeMaps.{no_entries, one_at, two_at, map_one, map_two}
-use Rattle.kit_same_modules.proofs.SaidTexts.SaidMeanings.{Written, type_meant, first_number, integer_meant, attributes_said}
+use Rattle.kit_same_modules.proofs.SaidTexts.SaidMeanings.{Written, type_meant, first_number, integer_meant}
+use Rattle.kit_same_modules.proofs.SaidTexts.SaidMeanings.{attributes_said}
 
 -- ---- how many attributes there are
 
@@ -139,14 +140,14 @@ keys_apart e = false≢true ((bytes_eq-Decides symbol_name function_type).1 e)
 
 module _ (number_of : ValueTree → ℕ) (code : TypeHandle → ℕ) where
   identified : (o : Option KitAttr) (cs : List ℕ) → option_and_then identifier_in o ≡ Some cs
-      → (a : KitAttr) × (o ≡ Some a) × (attribute_meant code a ≡ Name cs)
+      → (a : KitAttr) × (o ≡ Some a) × (attribute_meant code a ≡ Some (Name cs))
   identified (Some (attrs.Identifier id)) cs e =
-      (attrs.Identifier id, refl, ap Name (same_Some (text_of id) cs e))
+      (attrs.Identifier id, refl, ap (λ (bs : List ℕ). Some (Name bs)) (same_Some (text_of id) cs e))
   identified _ cs e = absurd (none-some cs e)
 
   typed : (o : Option KitAttr) (h : TypeHandle) → option_and_then type_in o ≡ Some h
-      → (a : KitAttr) × (o ≡ Some a) × (attribute_meant code a ≡ OfType (code h))
-  typed (Some (attrs.«Type» ty)) h e = (attrs.«Type» ty, refl, ap (λ (x : TypeHandle). OfType (code x)) (same_Some ty h e))
+      → (a : KitAttr) × (o ≡ Some a) × (attribute_meant code a ≡ Some (OfType (code h)))
+  typed (Some (attrs.«Type» ty)) h e = (attrs.«Type» ty, refl, ap (λ (x : TypeHandle). Some (OfType (code x))) (same_Some ty h e))
   typed _ h e = absurd (none-some h e)
 
   module _ (Names : Value → ℕ → Type 0) (keys : List KitType) where
@@ -164,14 +165,14 @@ module _ (number_of : ValueTree → ℕ) (code : TypeHandle → ℕ) where
         (numbered : Numbered number_of code keys (map (λ (r : ℕ × ValueTree). r.1) rs ++ types_among ps)) where
       abbrev IsMeant : KitOp → Type 0
       IsMeant k = (key : List ℕ)
-          → option_map (attribute_meant code) (attribute_at es key) ≡ attributes_said number_of k rs ps key
+          → option_and_then (attribute_meant code) (attribute_at es key) ≡ attributes_said number_of k rs ps key
 
       module_meant : IsRead keys ops.Module es (types_of vs) ps → length es ≡ 1 → IsMeant ops.Module
       module_meant r l key =
           let x = identified (attribute_at es symbol_name) (name_said ps) r.names in
-          ap (option_map (attribute_meant code)) (one_at es symbol_name x.0 l x.1 key)
+          ap (option_and_then (attribute_meant code)) (one_at es symbol_name x.0 l x.1 key)
           ∙ map_one (attribute_meant code) (bytes_eq key symbol_name) x.0
-          ∙ ap (λ (a : Attribute). cond (bytes_eq key symbol_name) (Some a) None) x.2
+          ∙ ap (λ (a : Option Attribute). cond (bytes_eq key symbol_name) a None) x.2
 
       function_meant : IsRead keys ops.Func es (types_of vs) ps → length es ≡ 2 → IsMeant ops.Func
       function_meant r l key =
@@ -179,14 +180,14 @@ module _ (number_of : ValueTree → ℕ) (code : TypeHandle → ℕ) where
           let is = r.types refl in
           let y = typed (attribute_at es function_type) is.0 is.4 in
           let same : attribute_meant code y.0 ≡ type_meant number_of (type_read ps) = y.2
-          ∙ ap OfType (numbered_back number_of code keys (map (λ (r : ℕ × ValueTree). r.1) rs) (types_among ps) numbered
+          ∙ ap (λ (m : ℕ). Some (OfType m)) (numbered_back number_of code keys (map (λ (r : ℕ × ValueTree). r.1) rs) (types_among ps) numbered
           is.0 is.1 is.2 (read_among keys is.0 ps is.1 is.2 is.3)) ∙ ap (type_meant number_of) (sym is.3) in
-          ap (option_map (attribute_meant code)) (two_at es symbol_name function_type x.0 y.0 l keys_apart x.1 y.1 key)
+          ap (option_and_then (attribute_meant code)) (two_at es symbol_name function_type x.0 y.0 l keys_apart x.1 y.1 key)
           ∙ map_two (attribute_meant code) (bytes_eq key symbol_name) (bytes_eq key function_type) x.0 y.0
-          ∙ ap (λ (a : Attribute). cond (bytes_eq key symbol_name) (Some a)
-          (cond (bytes_eq key function_type) (Some (attribute_meant code y.0)) None)) x.2
-          ∙ ap (λ (a : Attribute). cond (bytes_eq key symbol_name) (Some (Name (name_said ps)))
-          (cond (bytes_eq key function_type) (Some a) None)) same
+          ∙ ap (λ (a : Option Attribute). cond (bytes_eq key symbol_name) a
+          (cond (bytes_eq key function_type) (attribute_meant code y.0) None)) x.2
+          ∙ ap (λ (a : Option Attribute). cond (bytes_eq key symbol_name) (Some (Name (name_said ps)))
+          (cond (bytes_eq key function_type) a None)) same
 
       constant_meant : IsRead keys ops.Constant es (types_of vs) ps → length es ≡ 1 → IsMeant ops.Constant
       constant_meant r l key =
@@ -194,17 +195,17 @@ module _ (number_of : ValueTree → ℕ) (code : TypeHandle → ℕ) where
           let v : IntegerAttr = is.0 in
           let type : code v.ty ≡ first_number number_of rs = first_typed vs rs v.ty defines
           (numbered_front number_of code keys (map (λ (r : ℕ × ValueTree). r.1) rs) (types_among ps) numbered) is.4 in
-          let same : Integer (number_meant code v)
+          let same : Some (Integer (number_meant code v))
           ≡ integer_meant number_of (first_number number_of rs) (integer_read ps) (bits_said ps) =
-          (λ i. Integer (record { ty = type i; integer = v.integer; bits = is.2 i }))
+          (λ i. Some (Integer (record { ty = type i; integer = v.integer; bits = is.2 i })))
           ∙ ap (λ o. integer_meant number_of (first_number number_of rs) o (bits_said ps)) (sym is.3) in
-          ap (option_map (attribute_meant code)) (one_at es constant_value (attrs.Integer v) l is.1 key)
+          ap (option_and_then (attribute_meant code)) (one_at es constant_value (attrs.Integer v) l is.1 key)
           ∙ map_one (attribute_meant code) (bytes_eq key constant_value) (attrs.Integer v)
-          ∙ ap (λ (a : Attribute). cond (bytes_eq key constant_value) (Some a) None) same
+          ∙ ap (λ (a : Option Attribute). cond (bytes_eq key constant_value) a None) same
 
-      bare_meant : length es ≡ 0 → (key : List ℕ) → option_map (attribute_meant code) (attribute_at es key) ≡ None
+      bare_meant : length es ≡ 0 → (key : List ℕ) → option_and_then (attribute_meant code) (attribute_at es key) ≡ None
       bare_meant l key =
-          ap (λ (xs : Entries). option_map (attribute_meant code) (attribute_at xs key)) (no_entries es l)
+          ap (λ (xs : Entries). option_and_then (attribute_meant code) (attribute_at xs key)) (no_entries es l)
 
       -- the attributes of an operation mean what its text says
       pub attributes_meant : (k : KitOp) → says.of_operation k es n (types_of vs) ≡ Some (kind, said) → IsMeant k

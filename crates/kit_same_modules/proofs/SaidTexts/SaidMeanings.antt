@@ -15,7 +15,7 @@ use Rattle.kit_ops.specs.Keys.{symbol_name, function_type, constant_value}
 use Rattle.kit_texts.specs.Forms.{read_ops}
 use Rattle.kit_text_programs.proofs.SaidPrograms.{name_said, bits_said, numbers_in}
 use Rattle.kit_text_rules.proofs.ReadHeads.{type_read, integer_read}
-use Rattle.kit_same_modules.specs.Meanings.{Attribute, Integer, Name, OfType, Unsaid, OperationMeaning, sayings, alone_at}
+use Rattle.kit_same_modules.specs.Meanings.{Attribute, Integer, Name, OfType, OperationMeaning, sayings, alone_at}
 
 -- results or arguments of texts
 abbrev pub Written : Type 0
@@ -41,9 +41,9 @@ root_values (entity h us) = head_values h ++ all_values us
 
 module _ (number : ValueTree → ℕ) where
   -- the type of a function, where one is read
-  abbrev pub type_meant : Option ValueTree → Attribute
-  type_meant None = Unsaid
-  type_meant (Some t) = OfType (number t)
+  abbrev pub type_meant : Option ValueTree → Option Attribute
+  type_meant None = None
+  type_meant (Some t) = Some (OfType (number t))
 
   -- the number of the first type
   abbrev pub first_number : Written → ℕ
@@ -51,17 +51,17 @@ module _ (number : ValueTree → ℕ) where
   first_number (r ∷ rs) = number r.1
 
   -- an integer, where its type is read
-  abbrev pub integer_meant : ℕ → Option IntegerType → ℕ → Attribute
-  integer_meant n None bits = Unsaid
-  integer_meant n (Some i) bits = Integer (record { ty = n; integer = i; bits = bits })
+  abbrev pub integer_meant : ℕ → Option IntegerType → ℕ → Option Attribute
+  integer_meant n None bits = None
+  integer_meant n (Some i) bits = Some (Integer (record { ty = n; integer = i; bits = bits }))
 
   -- the attributes of an operation of a kind
   abbrev pub attributes_said : KitOp → Written → Pieces → List ℕ → Option Attribute
   attributes_said ops.Module rs ps key = alone_at symbol_name (Name (name_said ps)) key
   attributes_said ops.Func rs ps key = cond (bytes_eq key symbol_name) (Some (Name (name_said ps)))
-      (cond (bytes_eq key function_type) (Some (type_meant (type_read ps))) None)
+      (cond (bytes_eq key function_type) (type_meant (type_read ps)) None)
   attributes_said ops.Constant rs ps key =
-      alone_at constant_value (integer_meant (first_number rs) (integer_read ps) (bits_said ps)) key
+      cond (bytes_eq key constant_value) (integer_meant (first_number rs) (integer_read ps) (bits_said ps)) None
   attributes_said _ rs ps key = None
 
   abbrev pub operation_said : ℕ → Written → Pieces → OperationMeaning
@@ -81,7 +81,7 @@ module _ (number : ValueTree → ℕ) where
   }
 
   abbrev pub label_said : Written → Label no_names sayings
-  label_said arguments = record { name = tt; content = tt; arguments = map defined_said arguments }
+  label_said arguments = record { name = tt; content = λ key. None; arguments = map defined_said arguments }
 
   abbrev mutual
     pub operations_said : Entities ℕ → Tree no_names sayings Operations

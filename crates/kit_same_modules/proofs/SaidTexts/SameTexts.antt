@@ -25,7 +25,7 @@ use Rattle.kit_views.specs.Reading.{kit_contents}
 use Rattle.kit_writable_trees.specs.Laws.{KitContext, KitTree}
 use Rattle.kit_text_programs.proofs.SaidFunctions.{KitPart}
 use Rattle.kit_text_programs.proofs.Unlabelled.{unlabelled_tree}
-use Rattle.kit_same_modules.specs.Laws.{types_of_head, types_said, all_types_said, StandsAs, HaveTextNumbers}
+use Rattle.kit_same_modules.specs.Laws.{types_of_head, types_in_text, types_in_texts, StandsAs, HaveTextNumbers}
 use Rattle.kit_same_modules.specs.Laws.{OneTextSaysTheSame}
 use Rattle.kit_same_modules.specs.Meanings.{sayings, meanings}
 use Rattle.kit_same_modules.proofs.SaidTexts.MeantTrees.{IsSaidRoot, root_means}
@@ -41,10 +41,10 @@ head_types (texts.block label arguments) = refl
 
 mutual
   -- a text says the types that it says without its labels
-  pub unlabelled_types : (t : Entity ℕ) → types_said (unlabelled t) ≡ types_said t
+  pub unlabelled_types : (t : Entity ℕ) → types_in_text (unlabelled t) ≡ types_in_text t
   unlabelled_types (entity h ts) = λ i. head_types h i ++ all_unlabelled_types ts i
 
-  all_unlabelled_types : (ts : Entities ℕ) → all_types_said (all_unlabelled ts) ≡ all_types_said ts
+  all_unlabelled_types : (ts : Entities ℕ) → types_in_texts (all_unlabelled ts) ≡ types_in_texts ts
   all_unlabelled_types no_entity = refl
   all_unlabelled_types (an_entity t ts) = λ i. unlabelled_types t i ++ all_unlabelled_types ts i
 

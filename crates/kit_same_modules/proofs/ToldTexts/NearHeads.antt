@@ -1,5 +1,5 @@
 -- Operations of two contexts that say the same have heads that are the same but for numbers.
-use Rattle.std.proofs.Common.{◌≡◌, ℕ, List, [], ◌∷◌, ◌++◌, length, map, Option, Some, option_map, inl, inr}
+use Rattle.std.proofs.Common.{◌≡◌, ℕ, List, [], ◌∷◌, ◌++◌, length, map, Option, Some, option_and_then, inl, inr}
 use Rattle.std.proofs.Common.{refl, sym, ap, ◌∙◌, subst}
 use Rattle.std.proofs.lemmas.Option.{same_Some}
 use Rattle.ir_base.specs.declared.types.TypeHandle.{TypeHandle}
@@ -32,7 +32,8 @@ use Rattle.kit_texts.specs.Says.{says, one, two}
 use Rattle.kit_texts.specs.Seen.{seen}
 use Rattle.kit_text_programs.proofs.SaidHeads.{said_parts}
 use Rattle.kit_same_modules.specs.Laws.{types_among}
-use Rattle.kit_same_modules.specs.Meanings.{Attribute, Integer, Name, OfType, OperationMeaning, Number, number_meant, attribute_meant}
+use Rattle.kit_same_modules.specs.Meanings.{Attribute, Integer, Name, OfType, OperationMeaning, Number, number_meant}
+use Rattle.kit_same_modules.specs.Meanings.{attribute_meant}
 use Rattle.kit_same_modules.specs.Meanings.{operation_meant}
 use Rattle.kit_same_modules.proofs.ToldTexts.SideBySide.{pairs_long}
 use Rattle.kit_same_modules.proofs.ToldTexts.Near.{Definitions, OfOneType, AreNearHeads}
@@ -42,7 +43,7 @@ use Rattle.kit_same_modules.proofs.ToldTexts.ToldPieces.{Entries, plain, integer
 
 -- what these mean at a key is the same
 abbrev MeanSame : (TypeHandle → ℕ) → (TypeHandle → ℕ) → Option KitAttr → Option KitAttr → Type 0
-MeanSame code other o q = option_map (attribute_meant code) o ≡ option_map (attribute_meant other) q
+MeanSame code other o q = option_and_then (attribute_meant code) o ≡ option_and_then (attribute_meant other) q
 
 -- names that mean the same are the same
 texts_one : (cs ds : List ℕ) → ◌≡◌ {A = Option Attribute} (Some (Name cs)) (Some (Name ds)) → cs ≡ ds
@@ -64,7 +65,7 @@ integer_pieces a b e f = λ i. integer_piece (record { ty = a.ty; integer = e i;
 at_both : (code other : TypeHandle → ℕ) (o q : Option KitAttr) (x y : KitAttr) → MeanSame code other o q
     → o ≡ Some x → q ≡ Some y → MeanSame code other (Some x) (Some y)
 at_both code other o q x y h e f =
-    sym (ap (option_map (attribute_meant code)) e) ∙ (h ∙ ap (option_map (attribute_meant other)) f)
+    sym (ap (option_and_then (attribute_meant code)) e) ∙ (h ∙ ap (option_and_then (attribute_meant other)) f)
 
 -- lists that are the same have the same first
 first_same : (x y : ℕ) (xs ys : List ℕ) → x ∷ xs ≡ y ∷ ys → x ≡ y

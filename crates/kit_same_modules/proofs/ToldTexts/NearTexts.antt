@@ -11,11 +11,12 @@ use Rattle.opt_meanings.specs.Meanings.{mean}
 use Rattle.opt_trees.proofs.NoneDead.{has-left, has-right}
 use Rattle.kit_writable_trees.specs.Laws.{KitContext}
 use Rattle.kit_text_programs.proofs.SaidFunctions.{KitPart}
-use Rattle.kit_same_modules.specs.Laws.{types_of_head, all_types_said}
+use Rattle.kit_same_modules.specs.Laws.{types_of_head, types_in_texts}
 use Rattle.kit_same_modules.specs.Meanings.{sayings, meanings}
 use Rattle.kit_same_modules.proofs.ToldTexts.Near.{AreAllNear}
 use Rattle.kit_same_modules.proofs.ToldTexts.NearHeads.{Each, AreApart, definitions_near, heads_near}
-use Rattle.kit_same_modules.proofs.ToldTexts.SaidParts.{AreSaid, no_operations, no_blocks, no_regions, an_operation, a_block}
+use Rattle.kit_same_modules.proofs.ToldTexts.SaidParts.{AreSaid, no_operations, no_blocks, no_regions, an_operation}
+use Rattle.kit_same_modules.proofs.ToldTexts.SaidParts.{a_block}
 use Rattle.kit_same_modules.proofs.ToldTexts.SaidParts.{some_blocks}
 
 -- what is said in a tree without names
@@ -96,7 +97,7 @@ module _ (s z : KitContext) (values others : List Value) (code other : TypeHandl
     (apart : AreApart s.types.keys z.types.keys code other A B) where
   -- texts of parts of one shape are the same but for labels and numbers
   pub texts_near : (k : Sort) (x y : KitPart k) (ts us : Entities ℕ) → AreSaid s values k x ts → AreSaid z others k y us
-      → shape_in code x ≡ shape_in other y → Each A (all_types_said ts) → Each B (all_types_said us)
+      → shape_in code x ≡ shape_in other y → Each A (types_in_texts ts) → Each B (types_in_texts us)
       → AreBareTrees ts → AreBareTrees us → AreAllNear ts us
   texts_near k x y ts us no_operations no_operations e a b bare too = tt
   texts_near k x y ts us no_operations (an_operation p v rs rest kind results used pieces vs ws head inside after) e a b
@@ -111,20 +112,20 @@ module _ (s z : KitContext) (values others : List Value) (code other : TypeHandl
       e in
       let firsts = types_of_head (written.operation kind results used pieces) in
       let bs = types_of_head (written.operation kind_there again taken said) in
-      let here = front A (firsts ++ all_types_said vs) (all_types_said ws) a in
-      let there = front B (bs ++ all_types_said ms) (all_types_said os) b in (
+      let here = front A (firsts ++ types_in_texts vs) (types_in_texts ws) a in
+      let there = front B (bs ++ types_in_texts ms) (types_in_texts os) b in (
         (
           heads_near s.types.keys z.types.keys code other A B apart values others v u kind kind_there results again used
               taken pieces said head top (ap (λ (h : ShapeHead). h.content) parts.0)
               (ap (λ (h : ShapeHead). h.results) parts.0)
               (units_long v.operands u.operands (ap (λ (h : ShapeHead). h.operands) parts.0))
-              (front A firsts (all_types_said vs) here) (front B bs (all_types_said ms) there) bare.0.0 too.0.0,
-          texts_near Regions rs qs vs ms inside within parts.1 (back A firsts (all_types_said vs) here)
-              (back B bs (all_types_said ms) there) bare.0.1 too.0.1,
+              (front A firsts (types_in_texts vs) here) (front B bs (types_in_texts ms) there) bare.0.0 too.0.0,
+          texts_near Regions rs qs vs ms inside within parts.1 (back A firsts (types_in_texts vs) here)
+              (back B bs (types_in_texts ms) there) bare.0.1 too.0.1,
         ),
         texts_near Operations rest more ws os after behind parts.2
-            (back A (firsts ++ all_types_said vs) (all_types_said ws) a)
-            (back B (bs ++ all_types_said ms) (all_types_said os) b) bare.1 too.1,
+            (back A (firsts ++ types_in_texts vs) (types_in_texts ws) a)
+            (back B (bs ++ types_in_texts ms) (types_in_texts os) b) bare.1 too.1,
       )
   texts_near k x y ts us no_blocks no_blocks e a b bare too = tt
   texts_near k x y ts us no_blocks (a_block p v os rest label arguments vs ws defines inside after) e a b bare too =
@@ -136,18 +137,18 @@ module _ (s z : KitContext) (values others : List Value) (code other : TypeHandl
       let parts = blocks_one _ _ (shape_in code os) (shape_in other qs) (shape_in code rest) (shape_in other more) e in
       let firsts = map (λ (r : ℕ × ValueTree). r.1) arguments in
       let bs = map (λ (r : ℕ × ValueTree). r.1) again in
-      let here = front A (firsts ++ all_types_said vs) (all_types_said ws) a in
-      let there = front B (bs ++ all_types_said ms) (all_types_said ns) b in (
+      let here = front A (firsts ++ types_in_texts vs) (types_in_texts ws) a in
+      let there = front B (bs ++ types_in_texts ms) (types_in_texts ns) b in (
         (
           definitions_near s.types.keys z.types.keys code other A B apart values others v.arguments u.arguments
               arguments again defines has (ap (λ (l : ShapeLabel). l.arguments) parts.0)
-              (front A firsts (all_types_said vs) here) (front B bs (all_types_said ms) there),
-          texts_near Operations os qs vs ms inside within parts.1 (back A firsts (all_types_said vs) here)
-              (back B bs (all_types_said ms) there) bare.0.1 too.0.1,
+              (front A firsts (types_in_texts vs) here) (front B bs (types_in_texts ms) there),
+          texts_near Operations os qs vs ms inside within parts.1 (back A firsts (types_in_texts vs) here)
+              (back B bs (types_in_texts ms) there) bare.0.1 too.0.1,
         ),
         texts_near Blocks rest more ws ns after behind parts.2
-            (back A (firsts ++ all_types_said vs) (all_types_said ws) a)
-            (back B (bs ++ all_types_said ms) (all_types_said ns) b) bare.1 too.1,
+            (back A (firsts ++ types_in_texts vs) (types_in_texts ws) a)
+            (back B (bs ++ types_in_texts ms) (types_in_texts ns) b) bare.1 too.1,
       )
   texts_near k x y ts us no_regions no_regions e a b bare too = tt
   texts_near k x y ts us no_regions (some_blocks bs rest vs ws inside after) e a b bare too =
@@ -159,9 +160,9 @@ module _ (s z : KitContext) (values others : List Value) (code other : TypeHandl
       let parts = regions_one (shape_in code bs) (shape_in other cs) (shape_in code rest) (shape_in other more) e in (
         (
           tt,
-          texts_near Blocks bs cs vs ms inside within parts.0 (front A (all_types_said vs) (all_types_said ws) a)
-              (front B (all_types_said ms) (all_types_said ns) b) bare.0.1 too.0.1,
+          texts_near Blocks bs cs vs ms inside within parts.0 (front A (types_in_texts vs) (types_in_texts ws) a)
+              (front B (types_in_texts ms) (types_in_texts ns) b) bare.0.1 too.0.1,
         ),
-        texts_near Regions rest more ws ns after behind parts.1 (back A (all_types_said vs) (all_types_said ws) a)
-            (back B (all_types_said ms) (all_types_said ns) b) bare.1 too.1,
+        texts_near Regions rest more ws ns after behind parts.1 (back A (types_in_texts vs) (types_in_texts ws) a)
+            (back B (types_in_texts ms) (types_in_texts ns) b) bare.1 too.1,
       )

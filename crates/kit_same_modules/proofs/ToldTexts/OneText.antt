@@ -27,7 +27,7 @@ use Rattle.kit_texts.specs.Says.{says}
 use Rattle.kit_writable_trees.specs.Laws.{KitContext, KitTree}
 use Rattle.kit_text_programs.proofs.SaidFunctions.{same_operation}
 use Rattle.kit_same_modules.specs.Laws.{HaveTextNumbers, NumbersApart, SayTheSame, StandsAs, TheSameSayOneText}
-use Rattle.kit_same_modules.specs.Laws.{all_types_said, types_of_head, types_said}
+use Rattle.kit_same_modules.specs.Laws.{types_in_texts, types_of_head, types_in_text}
 use Rattle.kit_same_modules.specs.Meanings.{meanings, sayings}
 use Rattle.kit_same_modules.proofs.ToldTexts.ClosedNumbers.{numbers_defined}
 use Rattle.kit_same_modules.proofs.ToldTexts.Near.{Definitions, AreNear, all_numbers, both_defined, definitions_long}
@@ -35,7 +35,8 @@ use Rattle.kit_same_modules.proofs.ToldTexts.Near.{numbers_long, numbers_of, reb
 use Rattle.kit_same_modules.proofs.ToldTexts.NearHeads.{AreApart, heads_near}
 use Rattle.kit_same_modules.proofs.ToldTexts.NearTexts.{texts_near, units_long}
 use Rattle.kit_same_modules.proofs.ToldTexts.SaidParts.{AreSaid, names_said, regions_said, values_said}
-use Rattle.kit_same_modules.proofs.ToldTexts.SideBySide.{Both, both_place, both_same, has_place, one_numbering, pairs_parts}
+use Rattle.kit_same_modules.proofs.ToldTexts.SideBySide.{Both, both_place, both_same, has_place, one_numbering}
+use Rattle.kit_same_modules.proofs.ToldTexts.SideBySide.{pairs_parts}
 
 -- ---- one root
 
@@ -94,20 +95,20 @@ module _ (number : ValueTree → ℕ) (code other_code : TypeHandle → ℕ) (s 
 
   module _ (same : SayTheSame code other_code t u) (here : StandsAs text s root t) (too : StandsAs other z there u)
       (coded : HaveTextNumbers number code s text) (coded_too : HaveTextNumbers number other_code z other)
-      (apart : NumbersApart number (types_said text ++ types_said other))
+      (apart : NumbersApart number (types_in_text text ++ types_in_text other))
       (is_closed : IsClosed kit_language text) (closed_too : IsClosed kit_language other) where
     -- a type of the first text
     abbrev Here : ValueTree → Type 0
-    Here r = Has r (types_said text)
+    Here r = Has r (types_in_text text)
 
     -- a type of the second text
     abbrev There : ValueTree → Type 0
-    There r = Has r (types_said other)
+    There r = Has r (types_in_text other)
 
     -- types of the two texts with one code are the same
     types_apart : AreApart s.types.keys z.types.keys code other_code Here There
     types_apart = λ h c r q a b shown seen_too e.
-        apart r q (has-left r (types_said text) (types_said other) a) (has-right q (types_said text) (types_said other) b)
+        apart r q (has-left r (types_in_text text) (types_in_text other) a) (has-right q (types_in_text text) (types_in_text other) b)
         (sym (coded h r shown a) ∙ (e ∙ coded_too c q seen_too b))
 
     -- the trees say the same, by what their handles lead to
@@ -126,12 +127,12 @@ module _ (number : ValueTree → ℕ) (code other_code : TypeHandle → ℕ) (s 
               (ap (λ (r : Root no_names sayings). r.head.results) plain_same.shape)
               (units_long (view here).operands (view too).operands
               (ap (λ (r : Root no_names sayings). r.head.operands) plain_same.shape))
-              (λ r is. has-left r firsts (all_types_said ts) is) (λ r is. has-left r seconds (all_types_said us) is)
+              (λ r is. has-left r firsts (types_in_texts ts) is) (λ r is. has-left r seconds (types_in_texts us) is)
               is_closed.bare.0 closed_too.bare.0,
           texts_near s z here.values too.values code other_code Here There types_apart Regions t.regions u.regions ts us
               (inside_said here) (inside_said too)
               (ap (λ (r : Root no_names sayings). r.regions) plain_same.shape)
-              (λ r is. has-right r firsts (all_types_said ts) is) (λ r is. has-right r seconds (all_types_said us) is)
+              (λ r is. has-right r firsts (types_in_texts ts) is) (λ r is. has-right r seconds (types_in_texts us) is)
               is_closed.bare.1 closed_too.bare.1,
         )
 

@@ -1,16 +1,19 @@
 -- The types that a closed text says have nothing below what has no pieces of its own.
-use Rattle.std.proofs.Common.{◌≡◌, ⊎_elim, inl, inr, ℕ, zero, suc, List, [], ◌∷◌, ◌++◌, map, Option, Some, None, refl, sym, subst}
+use Rattle.std.proofs.Common.{⊎_elim, inl, inr, ℕ, zero, suc, List, [], ◌∷◌, ◌++◌, map, Option, Some, None, refl, sym}
+use Rattle.std.proofs.Common.{subst}
 use Rattle.ir_forest.specs.Bare.{IsBare, AreBare, AreBareArguments, IsBareTree, AreBareTrees}
 use Rattle.ir_forest.specs.Closed.{IsClosed, IsOperation, AreRegions, IsRegion, AreBlocks, IsBlock, AreOperations}
 use Rattle.ir_names.specs.Tree.{node, no_tree, a_tree}
 use Rattle.ir_print.specs.Pieces.{type_of_kind, attribute_of_kind, list, item, operands, region, name, number, width}
-use Rattle.ir_print.specs.Pieces.{ValueTree, Pieces, operation, a_region, block, Entity, entity, Entities, no_entity, an_entity}
+use Rattle.ir_print.specs.Pieces.{ValueTree, Pieces, operation, a_region, block, Entity, entity, Entities, no_entity}
+use Rattle.ir_print.specs.Pieces.{an_entity}
 use Rattle.kit_language.specs.Language.{kit_language}
 use Rattle.kit_texts.specs.Forms.{OpForm, NamedRegion, TypedRegion, Value, TwoOperands, OneOperand, AnyOperands}
-use Rattle.kit_texts.specs.Says.{values, form_at, integer_types, constant_types, pair_types, result_types_in, result_types_by}
+use Rattle.kit_texts.specs.Says.{values, form_at, integer_types, constant_types, pair_types, result_types_in}
+use Rattle.kit_texts.specs.Says.{result_types_by}
 use Rattle.opt_trees.specs.Occurrences.{Has}
 use Rattle.opt_trees.proofs.NoneDead.{has-append}
-use Rattle.kit_same_modules.specs.Laws.{types_among, types_said, all_types_said}
+use Rattle.kit_same_modules.specs.Laws.{types_among, types_in_text, types_in_texts}
 
 -- each of these is bare
 abbrev AllBare : List ValueTree → Type 0
@@ -96,38 +99,38 @@ arguments_bare (x ∷ xs) b r (inl e) = subst IsBare (sym e) b.0
 arguments_bare (x ∷ xs) b r (inr h) = arguments_bare xs b.1 r h
 
 mutual
-  operation_bare : (t : Entity ℕ) → IsOperation values t → IsBareTree t → AllBare (types_said t)
+  operation_bare : (t : Entity ℕ) → IsOperation values t → IsBareTree t → AllBare (types_in_text t)
   operation_bare (entity (operation kind results used pieces) ts) o b =
-      both_bare (map (λ (x : ℕ × ValueTree). x.1) results ++ types_among pieces) (all_types_said ts)
+      both_bare (map (λ (x : ℕ × ValueTree). x.1) results ++ types_among pieces) (types_in_texts ts)
       (both_bare (map (λ (x : ℕ × ValueTree). x.1) results) (types_among pieces)
       (subst AllBare (sym o.0) (results_bare (form_at kind) pieces b.0)) (among_bare pieces b.0))
       (regions_bare ts o.2 b.1)
   operation_bare (entity a_region ts) o b = absurd o
   operation_bare (entity (block label arguments) ts) o b = absurd o
 
-  regions_bare : (ts : Entities ℕ) → AreRegions values ts → AreBareTrees ts → AllBare (all_types_said ts)
+  regions_bare : (ts : Entities ℕ) → AreRegions values ts → AreBareTrees ts → AllBare (types_in_texts ts)
   regions_bare no_entity o b r h = absurd h
-  regions_bare (an_entity t ts) o b r h = both_bare (types_said t) (all_types_said ts) (region_bare t o.0 b.0) (regions_bare ts o.1 b.1) r h
+  regions_bare (an_entity t ts) o b r h = both_bare (types_in_text t) (types_in_texts ts) (region_bare t o.0 b.0) (regions_bare ts o.1 b.1) r h
 
-  region_bare : (t : Entity ℕ) → IsRegion values t → IsBareTree t → AllBare (types_said t)
+  region_bare : (t : Entity ℕ) → IsRegion values t → IsBareTree t → AllBare (types_in_text t)
   region_bare (entity a_region ts) o b = blocks_bare ts o b.1
   region_bare (entity (operation kind results used pieces) ts) o b = absurd o
   region_bare (entity (block label arguments) ts) o b = absurd o
 
-  blocks_bare : (ts : Entities ℕ) → AreBlocks values ts → AreBareTrees ts → AllBare (all_types_said ts)
+  blocks_bare : (ts : Entities ℕ) → AreBlocks values ts → AreBareTrees ts → AllBare (types_in_texts ts)
   blocks_bare no_entity o b r h = absurd h
-  blocks_bare (an_entity t ts) o b r h = both_bare (types_said t) (all_types_said ts) (block_bare t o.0 b.0) (blocks_bare ts o.1 b.1) r h
+  blocks_bare (an_entity t ts) o b r h = both_bare (types_in_text t) (types_in_texts ts) (block_bare t o.0 b.0) (blocks_bare ts o.1 b.1) r h
 
-  block_bare : (t : Entity ℕ) → IsBlock values t → IsBareTree t → AllBare (types_said t)
+  block_bare : (t : Entity ℕ) → IsBlock values t → IsBareTree t → AllBare (types_in_text t)
   block_bare (entity (block label arguments) ts) o b =
-      both_bare (map (λ (x : ℕ × ValueTree). x.1) arguments) (all_types_said ts) (arguments_bare arguments b.0) (operations_bare ts o b.1)
+      both_bare (map (λ (x : ℕ × ValueTree). x.1) arguments) (types_in_texts ts) (arguments_bare arguments b.0) (operations_bare ts o b.1)
   block_bare (entity (operation kind results used pieces) ts) o b = absurd o
   block_bare (entity a_region ts) o b = absurd o
 
-  operations_bare : (ts : Entities ℕ) → AreOperations values ts → AreBareTrees ts → AllBare (all_types_said ts)
+  operations_bare : (ts : Entities ℕ) → AreOperations values ts → AreBareTrees ts → AllBare (types_in_texts ts)
   operations_bare no_entity o b r h = absurd h
-  operations_bare (an_entity t ts) o b r h = both_bare (types_said t) (all_types_said ts) (operation_bare t o.0 b.0) (operations_bare ts o.1 b.1) r h
+  operations_bare (an_entity t ts) o b r h = both_bare (types_in_text t) (types_in_texts ts) (operation_bare t o.0 b.0) (operations_bare ts o.1 b.1) r h
 
 -- what a closed text says
-pub closed_bare : (t : Entity ℕ) → IsClosed kit_language t → AllBare (types_said t)
+pub closed_bare : (t : Entity ℕ) → IsClosed kit_language t → AllBare (types_in_text t)
 closed_bare t closed = operation_bare t closed.operation closed.bare

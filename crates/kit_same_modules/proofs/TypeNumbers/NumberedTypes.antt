@@ -15,14 +15,14 @@ use Rattle.kit.specs.declared.dialect.Unused.{Unused}
 use Rattle.kit_ops.specs.declared.types.KitType.{KitType}
 use Rattle.kit_texts.specs.Says.{says}
 use Rattle.kit_writable_trees.specs.Laws.{KitContext, KitTree}
-use Rattle.opt_meanings.specs.Meanings.{Words}
+use Rattle.opt_meanings.specs.Meanings.{Bijection}
 use Rattle.opt_meanings.proofs.Permuted.{Permutation, permutation}
 use Rattle.opt_trees.specs.Occurrences.{Has}
 use Rattle.opt_trees.proofs.NoneDead.{has-left, has-right}
 use Rattle.text_dialect.specs.Seen.{seen}
 use Rattle.text_dialect.specs.Standing.{HasOwnLabel}
 use Rattle.text_rereading.specs.Rereading.{Named}
-use Rattle.kit_same_modules.specs.Laws.{types_said, StandsAs, HaveTextNumbers, NumbersApart}
+use Rattle.kit_same_modules.specs.Laws.{types_in_text, StandsAs, HaveTextNumbers, NumbersApart}
 use Rattle.kit_same_modules.proofs.TypeNumbers.ShownOnce.{one_text}
 use Rattle.kit_same_modules.proofs.TypeNumbers.PairedNumbers.{numbers_alike, numbers_long}
 use Rattle.kit_same_modules.proofs.TypeNumbers.SaidTypes.{HaveHandles, handles_of_both, operation_handles}
@@ -32,9 +32,9 @@ use Rattle.kit_same_modules.proofs.TypeNumbers.TestedTexts.{number_test}
 abbrev KitTypes : Type 0
 KitTypes = TypesView KitType Unused Unused
 
--- a map of all numbers gives handles words
-words : Permutation ℕ → Words TypeHandle ℕ
-words f = record {
+-- a map of all numbers gives handles numbers
+handle_numbers : Permutation ℕ → Bijection TypeHandle ℕ
+handle_numbers f = record {
   to = λ h. f.fun h.number;
   from = λ n. record { number = f.inv n };
   there = λ h i. record { number = f.there h.number i };
@@ -96,28 +96,28 @@ module _ (s : KitContext) (own : HasOneHandleEach s) where
 
     -- handles that show types of the list can be numbered as the types are
     numbering : (rs : List ValueTree) → HaveHandles says s.types.keys rs → ((r : ValueTree) → Has r rs → Has r all) →
-        (codes : Words TypeHandle ℕ) × ((h : TypeHandle) (r : ValueTree) → Shows h r → Has r rs → codes.to h ≡ number r)
-    unfolding words
+        (codes : Bijection TypeHandle ℕ) × ((h : TypeHandle) (r : ValueTree) → Shows h r → Has r rs → codes.to h ≡ number r)
+    unfolding handle_numbers
     numbering rs handles within =
         let pairs : Pairs Stands handles.0 rs = pairs_within Shows (λ r. Has r all) handles.0 rs handles.1 within in
         let f = permutation number_test (map (λ (h : TypeHandle). h.number) handles.0) (map number rs)
         (numbers_long Stands (λ h. h.number) number number_once handle_once handles.0 rs pairs)
         (numbers_alike Stands (λ h. h.number) number number_once handle_once handles.0 rs pairs) in
-        (words f.0, λ h r shown has. numbered_so number f.0.fun handles.0 rs handles.1 f.1 h r shown has)
+        (handle_numbers f.0, λ h r shown has. numbered_so number f.0.fun handles.0 rs handles.1 f.1 h r shown has)
 
     -- so can those of two contexts with the same types in which operations stand for texts of such types
     pub types_numbered : (z : KitContext) (text other : Entity ℕ) (root there : Ptr Operation) (t u : KitTree) →
         z.types ≡ s.types → StandsAs text s root t → StandsAs other z there u →
-        ((r : ValueTree) → Has r (types_said text ++ types_said other) → Has r all) →
-        (codes : Words TypeHandle ℕ) × HaveTextNumbers number codes.to s text × HaveTextNumbers number codes.to z other
+        ((r : ValueTree) → Has r (types_in_text text ++ types_in_text other) → Has r all) →
+        (codes : Bijection TypeHandle ℕ) × HaveTextNumbers number codes.to s text × HaveTextNumbers number codes.to z other
     types_numbered z text other root there t u same h k within =
-        let both = handles_of_both says s.types.keys (types_said text) (types_said other)
+        let both = handles_of_both says s.types.keys (types_in_text text) (types_in_text other)
         (operation_handles says (Named h.values) HasOwnLabel (seen s) text root h.stands)
-        (subst (λ (y : KitTypes). HaveHandles says y.keys (types_said other)) same
+        (subst (λ (y : KitTypes). HaveHandles says y.keys (types_in_text other)) same
         (operation_handles says (Named k.values) HasOwnLabel (seen z) other there k.stands)) in
-        let found = numbering (types_said text ++ types_said other) both within in (
+        let found = numbering (types_in_text text ++ types_in_text other) both within in (
           found.0,
-          (λ a r shown has. found.1 a r shown (has-left r (types_said text) (types_said other) has)),
+          (λ a r shown has. found.1 a r shown (has-left r (types_in_text text) (types_in_text other) has)),
           (λ a r shown has. found.1 a r (subst (λ (y : KitTypes). ShowsType says y.keys a r) same shown)
-              (has-right r (types_said text) (types_said other) has)),
+              (has-right r (types_in_text text) (types_in_text other) has)),
         )

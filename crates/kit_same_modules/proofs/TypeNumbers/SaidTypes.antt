@@ -12,8 +12,9 @@ use Rattle.ir_program.specs.declared.handles.Ptr.{Ptr}
 use Rattle.ir_program.specs.declared.handles.Region.{Region}
 use Rattle.ir_program.specs.declared.handles.Value.{Value}
 use Rattle.text_dialect.specs.Seen.{SeenBlock, Seen}
-use Rattle.text_dialect.specs.Standing.{HasDefinition, HasTree, HasRegionTree, HasBlockTree, HaveRegionTrees, HaveBlockTrees, HaveTrees}
-use Rattle.kit_same_modules.specs.Laws.{types_among, types_said, all_types_said}
+use Rattle.text_dialect.specs.Standing.{HasDefinition, HasTree, HasRegionTree, HasBlockTree, HaveRegionTrees}
+use Rattle.text_dialect.specs.Standing.{HaveBlockTrees, HaveTrees}
+use Rattle.kit_same_modules.specs.Laws.{types_among, types_in_text, types_in_texts}
 
 -- pairs of the one lists, and then of the others
 pairs_append : {X Y : Type 0} (R : X → Y → Type 0) (xs us : List X) (ys vs : List Y) → Pairs R xs ys → Pairs R us vs →
@@ -58,11 +59,11 @@ module _ {K A T : Type 0} (says : Saying K A T) (Named : Value → ℕ → Type 
   mutual
     -- of an operation
     pub operation_handles : (t : Entity ℕ) (p : Ptr Operation) → HasTree says Named Labels s p t →
-        HaveHandles says s.types (types_said t)
+        HaveHandles says s.types (types_in_text t)
     operation_handles (entity (operation kind results used pieces) ts) p (o, at, head, inside) =
         let results_too = defined_handles says s.types Named o.results results head.defines in
         let pieces_too = pieces_handles says s.types head.said pieces head.shown in
-        handles_of_both says s.types (map (λ (r : ℕ × ValueTree). r.1) results ++ types_among pieces) (all_types_said ts)
+        handles_of_both says s.types (map (λ (r : ℕ × ValueTree). r.1) results ++ types_among pieces) (types_in_texts ts)
         (handles_of_both says s.types (map (λ (r : ℕ × ValueTree). r.1) results) (types_among pieces) results_too pieces_too)
         (regions_handles ts o.regions inside)
     operation_handles (entity a_region ts) p h = absurd h
@@ -70,44 +71,44 @@ module _ {K A T : Type 0} (says : Saying K A T) (Named : Value → ℕ → Type 
 
     -- of a region
     region_handles : (t : Entity ℕ) (r : Ptr Region) → HasRegionTree says Named Labels s r t →
-        HaveHandles says s.types (types_said t)
+        HaveHandles says s.types (types_in_text t)
     region_handles (entity a_region ts) r (bs, at, inside) = blocks_handles ts bs inside
     region_handles (entity (operation kind results used pieces) ts) r h = absurd h
     region_handles (entity (block label arguments) ts) r h = absurd h
 
     -- of a block
     block_handles : (t : Entity ℕ) (b : Ptr BasicBlock) → HasBlockTree says Named Labels s b t →
-        HaveHandles says s.types (types_said t)
+        HaveHandles says s.types (types_in_text t)
     block_handles (entity (block label arguments) ts) b (v, at, labelled, defines, inside) =
-        handles_of_both says s.types (map (λ (r : ℕ × ValueTree). r.1) arguments) (all_types_said ts)
+        handles_of_both says s.types (map (λ (r : ℕ × ValueTree). r.1) arguments) (types_in_texts ts)
         (defined_handles says s.types Named v.arguments arguments defines) (operations_handles ts v.operations inside)
     block_handles (entity a_region ts) b h = absurd h
     block_handles (entity (operation kind results used pieces) ts) b h = absurd h
 
     -- of regions
     regions_handles : (ts : Entities ℕ) (rs : List (Ptr Region)) → HaveRegionTrees says Named Labels s rs ts →
-        HaveHandles says s.types (all_types_said ts)
+        HaveHandles says s.types (types_in_texts ts)
     regions_handles no_entity [] h = ([], tt)
     regions_handles no_entity (r ∷ rs) h = absurd h
     regions_handles (an_entity t ts) [] h = absurd h
     regions_handles (an_entity t ts) (r ∷ rs) h =
-        handles_of_both says s.types (types_said t) (all_types_said ts) (region_handles t r h.0) (regions_handles ts rs h.1)
+        handles_of_both says s.types (types_in_text t) (types_in_texts ts) (region_handles t r h.0) (regions_handles ts rs h.1)
 
     -- of blocks
     blocks_handles : (ts : Entities ℕ) (bs : List (Ptr BasicBlock)) → HaveBlockTrees says Named Labels s bs ts →
-        HaveHandles says s.types (all_types_said ts)
+        HaveHandles says s.types (types_in_texts ts)
     blocks_handles no_entity [] h = ([], tt)
     blocks_handles no_entity (b ∷ bs) h = absurd h
     blocks_handles (an_entity t ts) [] h = absurd h
     blocks_handles (an_entity t ts) (b ∷ bs) h =
-        handles_of_both says s.types (types_said t) (all_types_said ts) (block_handles t b h.0) (blocks_handles ts bs h.1)
+        handles_of_both says s.types (types_in_text t) (types_in_texts ts) (block_handles t b h.0) (blocks_handles ts bs h.1)
 
     -- of operations
     operations_handles : (ts : Entities ℕ) (ps : List (Ptr Operation)) → HaveTrees says Named Labels s ps ts →
-        HaveHandles says s.types (all_types_said ts)
+        HaveHandles says s.types (types_in_texts ts)
     operations_handles no_entity [] h = ([], tt)
     operations_handles no_entity (p ∷ ps) h = absurd h
     operations_handles (an_entity t ts) [] h = absurd h
     operations_handles (an_entity t ts) (p ∷ ps) h =
-        handles_of_both says s.types (types_said t) (all_types_said ts) (operation_handles t p h.0)
+        handles_of_both says s.types (types_in_text t) (types_in_texts ts) (operation_handles t p h.0)
         (operations_handles ts ps h.1)

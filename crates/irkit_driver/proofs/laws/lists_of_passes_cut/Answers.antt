@@ -7,4 +7,4 @@ pub returns : goal.returns
 returns c =
     let closed : SaidAreClosed = c.trees_of_texts_are_closed.ensures kit_language c.kit_can_print.ensures refl refl in
     cut closed c.types_are_numbered.ensures c.texts_say_the_same.ensures.same c.texts_say_the_same.ensures.one
-    c.passes_keep_same.ensures
+    c.passes_keep_same.ensures.same c.passes_keep_same.ensures.cut
