@@ -69,16 +69,15 @@ left passes before root text t h g =
     subst (λ (z : KitTree). IsTreeAfter {N = by_handle} (key_at before.types) no_number (map pass_of passes) h.tree z)
     (one_tree g.after.program root made.0 g.written.holds.tree made.1 g.written.holds.is_tree) (made.2 no_number)
 
--- closed trees, one after another
-abbrev AllClosed : List (Entity ℕ) → Type 0
-AllClosed texts = (a : Entity ℕ) → Has a texts → IsClosed kit_language a
+-- each of these trees is closed
+abbrev EachClosed : List (Entity ℕ) → Type 0
+EachClosed [] = Unit {0}
+EachClosed (x ∷ xs) = IsClosed kit_language x × EachClosed xs
 
-none_closed : AllClosed []
-none_closed a h = absurd h
-
-more_closed : (x : Entity ℕ) (xs : List (Entity ℕ)) → IsClosed kit_language x → AllClosed xs → AllClosed (x ∷ xs)
-more_closed x xs c cs a (inl e) = subst (IsClosed kit_language) (sym e) c
-more_closed x xs c cs a (inr h) = cs a h
+one_closed : (xs : List (Entity ℕ)) → EachClosed xs → (a : Entity ℕ) → Has a xs → IsClosed kit_language a
+one_closed [] c a h = absurd h
+one_closed (x ∷ xs) c a (inl e) = subst (IsClosed kit_language) (sym e) c.0
+one_closed (x ∷ xs) c a (inr h) = one_closed xs c.1 a h
 
 module _ (closed : SaidAreClosed) (numbers : TypesAreNumbered) (alike : OneTextSaysTheSame) (one : TheSameSayOneText)
     (keep : PassesKeepSame) (cuts : ListsOfPassesCut) (beginning rest : List KitPass) (bytes front text whole : List ℕ)
@@ -96,11 +95,20 @@ module _ (closed : SaidAreClosed) (numbers : TypesAreNumbered) (alike : OneTextS
       b.accepted.0.text ∷ b.gives.written.tree ∷ w.accepted.0.text ∷ w.gives.written.tree ∷ r.accepted.0.text
       ∷ r.gives.written.tree ∷ []
 
-  all_closed : AllClosed texts
-  all_closed =
-      more_closed _ _ (closed_said beginning bytes front b) (more_closed _ _ b.gives.written.closed
-      (more_closed _ _ (closed_said (beginning ++ rest) bytes whole w) (more_closed _ _ w.gives.written.closed
-      (more_closed _ _ (closed_said rest front text r) (more_closed _ _ r.gives.written.closed none_closed)))))
+  all_closed : EachClosed texts
+  all_closed = (
+    closed_said beginning bytes front b,
+    (
+      b.gives.written.closed,
+      (
+        closed_said (beginning ++ rest) bytes whole w,
+        (
+          w.gives.written.closed,
+          (closed_said rest front text r, (r.gives.written.closed, tt)),
+        ),
+      ),
+    ),
+  )
 
   -- what the beginning of the whole list makes of the tree that is read, and the rest of that
   abbrev Halves : Type 0
@@ -125,7 +133,7 @@ module _ (closed : SaidAreClosed) (numbers : TypesAreNumbered) (alike : OneTextS
   -- what the rest of the list writes is what the whole list writes
   written_same : IsSameModule r.gives.written.tree w.gives.written.tree
   written_same =
-      let n = numbers texts all_closed in
+      let n = numbers texts (one_closed texts all_closed) in
       let first = holding b.accepted.0.text b.before b.root b.accepted.0.holds in
       let half = holding b.gives.written.tree b.gives.after b.root b.gives.written.holds in
       let again = holding w.accepted.0.text w.before w.root w.accepted.0.holds in

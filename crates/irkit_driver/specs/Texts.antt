@@ -30,9 +30,9 @@ HasFault bytes fault = IsUtf8 bytes × IsTextFault kit_language (chars bytes) fa
 abbrev pub SaysTree : List ℕ → Entity ℕ → Type 0
 SaysTree bytes text = IsUtf8 bytes × Says kit_language (chars bytes) text
 
--- An operation of a context stands for a tree of texts, different numbers of which name different values. The last three
--- fields hold of each context: below the operation no two operations, blocks or definitions have one handle, a type has
--- one handle, and values have the types that are written where they are defined.
+-- An operation of a context stands for a tree of texts, different numbers of which name different values. The last
+-- three fields hold of each context: below the operation no two operations, blocks or definitions have one handle, a
+-- type has one handle, and values have the types that are written where they are defined.
 pub record HoldsText (text : Entity ℕ) (s : KitContext) (root : Ptr Operation) : Type 0 where
   pub values : List Value
   pub distinct : HaveOwnNumbers values

@@ -22,6 +22,7 @@ another : {X Y : Type 0} (payload : X → Y) (at : Option X) (y : Y) → at ≡ 
 another payload at y none e = no_some y (sym (ap (option_map payload) none) ∙ e)
 
 module _ {O B : Type 0} where
+  -- where nothing is done, and of two calls
   pub payloads_none : (c : Program O B) → KeepsPayloads c c
   payloads_none c = record { operations = λ p o e. e; blocks = λ b x e. e }
 
@@ -33,19 +34,19 @@ module _ {O B : Type 0} where
 
   module _ (c d : Program O B) where
     -- where each operation and each block has the payload that it had
-    pub payloads_same : ((p : Ptr Operation) → operation_payload d p ≡ operation_payload c p) → ((b : Ptr BasicBlock) → block_payload d b ≡ block_payload c b) → KeepsPayloads c d
-    payloads_same operations blocks = record { operations = λ p o e. operations p ∙ e; blocks = λ b x e. blocks b ∙ e }
+    same_payloads : ((p : Ptr Operation) → operation_payload d p ≡ operation_payload c p) → ((b : Ptr BasicBlock) → block_payload d b ≡ block_payload c b) → KeepsPayloads c d
+    same_payloads operations blocks = record { operations = λ p o e. operations p ∙ e; blocks = λ b x e. blocks b ∙ e }
 
     -- where each handle leads to what it led to
     pub payloads_still : ((p : Ptr Operation) → operation_at d p ≡ operation_at c p) → ((b : Ptr BasicBlock) → block_at d b ≡ block_at c b) → KeepsPayloads c d
-    payloads_still operations blocks = payloads_same (λ p. ap (option_map (λ (v : OperationView O). v.payload)) (operations p)) (λ b. ap (option_map (λ (v : BlockView B). v.payload)) (blocks b))
+    payloads_still operations blocks = same_payloads (λ p. ap (option_map (λ (v : OperationView O). v.payload)) (operations p)) (λ b. ap (option_map (λ (v : BlockView B). v.payload)) (blocks b))
 
     pub payloads_unchanged : IsUnchanged c d → KeepsPayloads c d
     payloads_unchanged h = payloads_still h.operations h.blocks
 
     -- where one operation is edited
     pub payloads_operation : (p : Ptr Operation) (f : OperationView O → OperationView O) → ((v : OperationView O) → (f v).payload ≡ v.payload) → EditsOperation c d p f → KeepsPayloads c d
-    payloads_operation p f keeps h = payloads_same at (λ b. ap (option_map (λ (v : BlockView B). v.payload)) (h.blocks b)) where
+    payloads_operation p f keeps h = same_payloads at (λ b. ap (option_map (λ (v : BlockView B). v.payload)) (h.blocks b)) where
       at : (q : Ptr Operation) → operation_payload d q ≡ operation_payload c q
       at q = ⊎_elim
           (λ (e : q ≡ p). subst (λ z. operation_payload d z ≡ operation_payload c z) (sym e)
@@ -55,7 +56,7 @@ module _ {O B : Type 0} where
 
     -- where one block is
     pub payloads_block : (p : Ptr BasicBlock) (f : BlockView B → BlockView B) → ((v : BlockView B) → (f v).payload ≡ v.payload) → EditsBlock c d p f → KeepsPayloads c d
-    payloads_block p f keeps h = payloads_same (λ q. ap (option_map (λ (v : OperationView O). v.payload)) (h.operations q)) at where
+    payloads_block p f keeps h = same_payloads (λ q. ap (option_map (λ (v : OperationView O). v.payload)) (h.operations q)) at where
       at : (q : Ptr BasicBlock) → block_payload d q ≡ block_payload c q
       at q = ⊎_elim
           (λ (e : q ≡ p). subst (λ z. block_payload d z ≡ block_payload c z) (sym e)

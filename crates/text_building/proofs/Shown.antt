@@ -1,5 +1,5 @@
 -- Payloads of what a start shows, which leads somewhere as long as more is made.
-use Rattle.std.proofs.Common.{◌≡◌, Some, option_map, refl, sym, ap, ◌∙◌}
+use Rattle.std.proofs.Common.{◌≡◌, Some, option_map, sym, ap, ◌∙◌}
 use Rattle.ir_program.specs.Program.{Program, operation_at, block_at}
 use Rattle.text_dialect.specs.Seen.{Seen, seen, seen_operation, seen_block}
 use Rattle.text_building.specs.Kept.{Keeps, KeepsPayloads, KeepsPayloadsOf, operation_payload, block_payload}
@@ -7,9 +7,7 @@ use Rattle.text_building.proofs.Opened.{ContextOf}
 use Rattle.text_building.proofs.Options.{is_there, there, mapped_there, unmapped_there}
 
 module _ {K A T O B : Type 0} (start : Seen K A T) where
-  pub payloads_of_none : (c : Program O B) → KeepsPayloadsOf start c c
-  payloads_of_none c = record { operations = λ p h. refl; blocks = λ b h. refl }
-
+  -- of two calls, where both keep them
   pub payloads_of_both : (c d e : Program O B) → KeepsPayloadsOf start c d → KeepsPayloadsOf start d e → KeepsPayloadsOf start c e
   payloads_of_both c d e f g = record {
     operations = λ p h. g.operations p h ∙ f.operations p h;

@@ -19,7 +19,7 @@ use Rattle.ir_program.specs.declared.handles.Value.{Value}
 use Rattle.ir_context.specs.declared.notes.OperationData.{OperationData}
 use Rattle.text_dialect.specs.Seen.{SeenOperation, SeenBlock, Seen, seen, seen_operation, seen_block}
 use Rattle.text_building.specs.Loose.{IsLooseOperation, IsLooseBlock}
-use Rattle.text_building.specs.Inside.{IsThere, IsNowhere, IsInside, itself, in_block, in_region, in_operation, IsLoose, IsInsideSome, AreUnused, without_names, DropsUses, Erases, IsForest, IsOutside, KeepsOutside, NamesWhatIsThere}
+use Rattle.text_building.specs.Inside.{IsThere, IsNowhere, IsInside, itself, in_block, in_region, in_operation, IsLoose, IsInsideSome, AreUnused, without_names, DropsUses, Erases, IsForest, IsOutside, KeepsPayloadsOutside, NamesWhatIsThere}
 use Rattle.text_building.proofs.Insides.{inside_there, loose_there, some_one, one_some}
 use Rattle.text_building.proofs.Opened.{ContextOf, unlinked_operation, unlinked_block}
 use Rattle.text_building.proofs.Options.{no_some, is_there, there, mapped, mapped_there, unmapped_there}
@@ -180,19 +180,19 @@ module _ {D TypeKind AttrKind TypeBody Saved Location OpKind Attr TypeKey : Type
   apart_from : (start : Seen OpKind Attr TypeKey) (x e : IRNode) → IsOutside start (seen c) (x ∷ []) → IsThere start e → StandsInside c.program x e → ⊥
   apart_from start x e out shown i = out e shown (some_one (seen c) x e (stands_seen c x e i))
 
-  pub drops_outside : (x : IRNode) → DropsInProgram c.program d.program x → KeepsOutside (seen c) (x ∷ []) c.program d.program
+  pub drops_outside : (x : IRNode) → DropsInProgram c.program d.program x → KeepsPayloadsOutside (seen c) (x ∷ []) c.program d.program
   drops_outside x h start out = record {
     operations = λ p shown. ap (option_map (λ v. v.payload)) (h.outside p (apart_from start x (OperationNode p) out shown));
     blocks = λ b shown. ap (option_map (λ v. v.payload)) (h.blocks b);
   }
 
-  pub operation_outside : (p : Ptr Operation) → IsLooseOperation (seen c) p → ErasesOperation c.program d.program p → KeepsOutside (seen c) (OperationNode p ∷ []) c.program d.program
+  pub operation_outside : (p : Ptr Operation) → IsLooseOperation (seen c) p → ErasesOperation c.program d.program p → KeepsPayloadsOutside (seen c) (OperationNode p ∷ []) c.program d.program
   operation_outside p loose h start out = record {
     operations = λ q shown. ap (option_map (λ v. v.payload)) (h.operations q (apart_from start (OperationNode p) (OperationNode q) out shown));
     blocks = λ b shown. ap (option_map (λ v. v.payload)) (h.blocks b (apart_from start (OperationNode p) (BlockNode b) out shown) (unlinked_operation c p loose b));
   }
 
-  pub block_outside : (b : Ptr BasicBlock) → IsLooseBlock (seen c) b → ErasesBlock c.program d.program b → KeepsOutside (seen c) (BlockNode b ∷ []) c.program d.program
+  pub block_outside : (b : Ptr BasicBlock) → IsLooseBlock (seen c) b → ErasesBlock c.program d.program b → KeepsPayloadsOutside (seen c) (BlockNode b ∷ []) c.program d.program
   block_outside b loose h start out = record {
     operations = λ q shown. ap (option_map (λ v. v.payload)) (h.operations q (apart_from start (BlockNode b) (OperationNode q) out shown));
     blocks = λ q shown. ap (option_map (λ v. v.payload)) (h.blocks q (apart_from start (BlockNode b) (BlockNode q) out shown));

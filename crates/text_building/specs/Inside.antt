@@ -135,5 +135,5 @@ abbrev pub IsOutside : {K A T : Type 0} → Seen K A T → Seen K A T → List I
 IsOutside start now xs = (e : IRNode) → IsThere start e → IsInsideSome now xs e → ⊥
 
 -- what is inside none of these, where the old context is seen so, keeps its payload
-abbrev pub KeepsOutside : {K A T O B : Type 0} → Seen K A T → List IRNode → Program O B → Program O B → Type 0
-KeepsOutside {K} {A} {T} s xs old new = (start : Seen K A T) → IsOutside start s xs → KeepsPayloadsOf start old new
+abbrev pub KeepsPayloadsOutside : {K A T O B : Type 0} → Seen K A T → List IRNode → Program O B → Program O B → Type 0
+KeepsPayloadsOutside {K} {A} {T} s xs old new = (start : Seen K A T) → IsOutside start s xs → KeepsPayloadsOf start old new

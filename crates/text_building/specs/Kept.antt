@@ -42,7 +42,8 @@ module _ {O B : Type 0} where
 
   -- so does what the start shows
   pub record KeepsPayloadsOf {K A T : Type 0} (start : Seen K A T) (old new : Program O B) : Type 0 where
-    pub operations : (p : Ptr Operation) → IsSome (start.operation p) → operation_payload new p ≡ operation_payload old p
+    pub operations : (p : Ptr Operation) → IsSome (start.operation p) →
+        operation_payload new p ≡ operation_payload old p
     pub blocks : (b : Ptr BasicBlock) → IsSome (start.block b) → block_payload new b ≡ block_payload old b
 
 -- n values more have got their numbers, a handle that was given out and leads nowhere leads nowhere still, and payloads

@@ -3,7 +3,8 @@ ghost use Rattle.std.specs.Prelude.{◌≡◌, ◌∷◌, []};
 ghost use Rattle.ir_program.specs.Edits.{KeepsErased};
 ghost use Rattle.text_dialect.specs.Seen.{Seen, seen};
 ghost use Rattle.text_building.specs.Kept.{SameSeen};
-ghost use Rattle.text_building.specs.Inside.{AreLoose, AreUnused, AreUsedInside, CameSince, DropsUses, Erases, IsLoose, KeepsOutside};
+ghost use Rattle.text_building.specs.Inside.{AreLoose, AreUnused, AreUsedInside, CameSince, DropsUses, Erases};
+ghost use Rattle.text_building.specs.Inside.{IsLoose, KeepsPayloadsOutside};
 
 use ir_context::{BlockErasing, Context, OperationErasing};
 use ir_program::IRNode;
@@ -14,7 +15,7 @@ fn drop_uses<D: DialectTables>(ctx: &mut Context<D>, things: &[IRNode])
     requires loose { AreLoose (seen ctx.old) things.now }
     ensures dropped { DropsUses (seen ctx.old) (seen ctx.new) things.now }
     ensures erased { KeepsErased ctx.old.program ctx.new.program }
-    ensures payloads { KeepsOutside (seen ctx.old) things.now ctx.old.program ctx.new.program }
+    ensures payloads { KeepsPayloadsOutside (seen ctx.old) things.now ctx.old.program ctx.new.program }
     ensures types { ctx.new.types ≡ ctx.old.types }
 {
     ctx.program().know_lists();
@@ -30,7 +31,7 @@ fn erase_thing<D: DialectTables>(ctx: &mut Context<D>, thing: IRNode)
     requires unused { AreUnused (seen ctx.old) (thing ∷ []) }
     ensures gone { Erases (seen ctx.old) (seen ctx.new) (thing ∷ []) }
     ensures erased { KeepsErased ctx.old.program ctx.new.program }
-    ensures payloads { KeepsOutside (seen ctx.old) (thing ∷ []) ctx.old.program ctx.new.program }
+    ensures payloads { KeepsPayloadsOutside (seen ctx.old) (thing ∷ []) ctx.old.program ctx.new.program }
     ensures types { ctx.new.types ≡ ctx.old.types }
 {
     ctx.program().know_lists();
@@ -47,7 +48,7 @@ fn erase_all<D: DialectTables>(ctx: &mut Context<D>, things: &[IRNode])
     requires unused { AreUnused (seen ctx.old) things.now }
     ensures gone { Erases (seen ctx.old) (seen ctx.new) things.now }
     ensures erased { KeepsErased ctx.old.program ctx.new.program }
-    ensures payloads { KeepsOutside (seen ctx.old) things.now ctx.old.program ctx.new.program }
+    ensures payloads { KeepsPayloadsOutside (seen ctx.old) things.now ctx.old.program ctx.new.program }
     ensures types { ctx.new.types ≡ ctx.old.types }
 {
     ctx.program().know_lists();
@@ -68,7 +69,7 @@ pub fn discard<D: DialectTables>(ctx: &mut Context<D>, things: &[IRNode])
         → SameSeen start (seen ctx.new) }
     ensures erased { KeepsErased ctx.old.program ctx.new.program }
     // What is inside none of these keeps its payload, as its location.
-    ensures payloads { KeepsOutside (seen ctx.old) things.now ctx.old.program ctx.new.program }
+    ensures payloads { KeepsPayloadsOutside (seen ctx.old) things.now ctx.old.program ctx.new.program }
     ensures types { ctx.new.types ≡ ctx.old.types }
 {
     ctx.program().know_lists();

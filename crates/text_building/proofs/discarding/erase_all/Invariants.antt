@@ -1,7 +1,7 @@
 use Rattle.std.proofs.Common.{◌≡◌, take}
 use Rattle.ir_program.specs.Edits.{KeepsErased}
 use Rattle.text_dialect.specs.Seen.{seen}
-use Rattle.text_building.specs.Inside.{Erases, KeepsOutside}
+use Rattle.text_building.specs.Inside.{Erases, KeepsPayloadsOutside}
 use Rattle.text_building.proofs.discarding.erase_all.Given as goal
 
 -- the things up to here are erased
@@ -9,6 +9,6 @@ abbrev pub invariant-loop-thing : goal.invariant-loop-thing
 invariant-loop-thing g l = record {
   gone : Erases (seen l.fn.ctx) (seen l.ctx) (take l.thing-index l.things);
   erased : KeepsErased l.fn.ctx.program l.ctx.program;
-  payloads : KeepsOutside (seen l.fn.ctx) l.things l.fn.ctx.program l.ctx.program;
+  payloads : KeepsPayloadsOutside (seen l.fn.ctx) l.things l.fn.ctx.program l.ctx.program;
   types : l.ctx.types ≡ l.fn.ctx.types;
 }

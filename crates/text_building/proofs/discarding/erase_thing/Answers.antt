@@ -1,7 +1,7 @@
 use Rattle.std.proofs.Common.{◌∷◌, [], sym, subst}
 use Rattle.ir_program.specs.declared.handles.IRNode.TheVariants.{Operation as OperationNode, BasicBlock as BlockNode}
 use Rattle.text_dialect.specs.Seen.{seen}
-use Rattle.text_building.specs.Inside.{AreUnused, Erases, IsLoose, KeepsOutside}
+use Rattle.text_building.specs.Inside.{AreUnused, Erases, IsLoose, KeepsPayloadsOutside}
 use Rattle.text_building.proofs.Stood.{HasLists, unused_apart, operation_erased, operation_outside, block_erased, block_outside}
 use Rattle.text_building.proofs.discarding.erase_thing.Goals as goal
 
@@ -27,10 +27,10 @@ returns-in-BasicBlock-clause-gone g c =
 
 pub returns-in-Operation-clause-payloads : goal.returns-in-Operation-clause-payloads
 returns-in-Operation-clause-payloads g c =
-    subst (λ x. KeepsOutside (seen c.args.ctx.now) (x ∷ []) c.args.ctx.now.program c.erase.new.ctx.program) (sym c.in-Operation.is)
+    subst (λ x. KeepsPayloadsOutside (seen c.args.ctx.now) (x ∷ []) c.args.ctx.now.program c.erase.new.ctx.program) (sym c.in-Operation.is)
     (operation_outside c.args.ctx.now c.erase.new.ctx c.in-Operation.op (subst (IsLoose (seen c.args.ctx.now)) c.in-Operation.is c.requires.loose) c.erase.ensures.erased)
 
 pub returns-in-BasicBlock-clause-payloads : goal.returns-in-BasicBlock-clause-payloads
 returns-in-BasicBlock-clause-payloads g c =
-    subst (λ x. KeepsOutside (seen c.args.ctx.now) (x ∷ []) c.args.ctx.now.program c.erase-in-BasicBlock.new.ctx.program) (sym c.in-BasicBlock.is)
+    subst (λ x. KeepsPayloadsOutside (seen c.args.ctx.now) (x ∷ []) c.args.ctx.now.program c.erase-in-BasicBlock.new.ctx.program) (sym c.in-BasicBlock.is)
     (block_outside c.args.ctx.now c.erase-in-BasicBlock.new.ctx c.in-BasicBlock.block (subst (IsLoose (seen c.args.ctx.now)) c.in-BasicBlock.is c.requires.loose) c.erase-in-BasicBlock.ensures.erased)
