@@ -42,11 +42,24 @@ fn characters(alloc: Global, text: &str) -> Result<Vec<char>, AllocError>
     Ok(all)
 }
 
+/// The characters of bytes that are all ASCII: each byte is its character, so nothing is decoded.
+fn ascii_characters(alloc: Global, bytes: &[u8]) -> Result<Vec<char>, AllocError>
+    ensures { IfOk result (λ v. v.items ≡ bytes.now) }
+{
+    let mut all = Vec::with_capacity(alloc, bytes.len())?;
+    all.extend(bytes.iter().map(|b| char::from(*b)))?;
+    Ok(all)
+}
+
 /// The characters of these bytes, or the first byte that isn't part of valid UTF-8.
 /// `Memory` where the characters found no room.
+/// Most inputs are ASCII, whose bytes are their characters, so these are asked for first.
 pub fn decode(alloc: Global, bytes: &[u8]) -> Result<Vec<char>, DecodeFault>
     ensures { Decodes bytes.now (λ v. v.items) result }
 {
+    if bytes.is_ascii() {
+        return Ok(ascii_characters(alloc, bytes)?);
+    }
     match std::str::from_utf8(bytes) {
         Ok(text) => Ok(characters(alloc, text)?),
         Err(e) => Err(DecodeFault::NotUtf8(e.valid_up_to())),

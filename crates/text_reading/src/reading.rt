@@ -65,7 +65,7 @@ pub fn top_level_parse<D: ReadDialect>(
         tokens: &tokens,
     };
     let (names, reading) = read_source::<D>(alloc, source)?;
-    understand(alloc, ctx, source, &names, &reading)
+    understand(alloc, ctx, source, names, &reading)
 }
 
 /// Reads the tokens of a source by the dialect's grammar, and gives numbers to the tokens that may be names.
@@ -91,12 +91,12 @@ fn understand<D: ReadDialect>(
     alloc: Global,
     ctx: &mut Context<D>,
     source: Source,
-    names: &[usize],
+    names: Vec<usize>,
     reading: &Reading,
 ) -> Result<Ptr<Operation>, TextFault>
     requires reading { IsReading (language_of D.formats D.kind_at (is_isolated D.op_has) D.values) source.chars.now source.tokens.now
-        names.now reading.now.stop reading.now.taken reading.now.events.items }
-    requires named { length source.tokens.now ≤ length names.now }
+        names.items reading.now.stop reading.now.taken reading.now.events.items }
+    requires named { length source.tokens.now ≤ length names.items }
     ensures read { IfOk result (IsRead D.says (language_of D.formats D.kind_at (is_isolated D.op_has) D.values)
         source.entry.chars.now (seen ctx.old) (seen ctx.new) ctx.old.program.counter ctx.new.program.counter) }
     ensures refused { OnErr result (SameSeen (seen ctx.old) (seen ctx.new)) }
@@ -107,8 +107,10 @@ fn understand<D: ReadDialect>(
     ensures erased { KeepsErased ctx.old.program ctx.new.program }
     ensures payloads { KeepsPayloads ctx.old.program ctx.new.program }
 {
+    // Names are resolved first: the memory that this works in, and the names, are free again while operations are made.
+    let resolved = resolve::<D>(alloc, &names, &reading.events);
+    drop(names);
     let assembled = assemble(alloc, ctx, source, &reading.events);
-    let resolved = resolve::<D>(alloc, names, &reading.events);
     if let Err(fault) = verdict(source, reading, &assembled, &resolved) {
         undo(ctx, &assembled);
         return Err(fault);

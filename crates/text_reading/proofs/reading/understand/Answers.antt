@@ -1,4 +1,4 @@
-use Rattle.std.proofs.Common.{◌≡◌, ◌∙◌, ◌≤◌, ◌+◌, ◌^◌, length, refl, sym, ap, subst, [], Err}
+use Rattle.std.proofs.Common.{◌≡◌, ◌∙◌, ◌≤◌, ◌+◌, ◌^◌, ℕ, List, length, refl, sym, ap, subst, [], Err, IfOk, MatchResult}
 use Rattle.ir_tokens.specs.declared.faults.TextFault.TheVariants.{CounterFull}
 use Rattle.std.proofs.lemmas.Result.{IfOk-at_ok, MatchResult-at_ok}
 use Rattle.text_dialect.specs.Seen.{seen}
@@ -27,12 +27,12 @@ assemble-assembled-requires-clause-nests g c =
     let l = language_of d.formats d.kind_at (is_isolated g.D.DialectTables.op_has) d.values in
     let cs = c.args.source.chars.now in
     let ts = c.args.source.tokens.now in
-    let names = c.args.names.now in
+    let names = c.args.names.items in
     let r = c.args.reading.now in
     let es = r.events.items in
     let text = token_text cs ts in
     let order = read_in_order l g.D.ReadDialect.leads g.met.D.ReadDialect.ordered cs ts names r.taken es r.stop c.requires.reading in
-    subst (λ z. Nests at_root [] z) (sym c.deref.ensures.value) order.nests
+    subst (λ z. Nests at_root [] z) (sym c.deref-3.ensures.value) order.nests
 
 pub assemble-assembled-requires-clause-spelt : goal.assemble-assembled-requires-clause-spelt
 assemble-assembled-requires-clause-spelt g c =
@@ -40,11 +40,11 @@ assemble-assembled-requires-clause-spelt g c =
     let l = language_of d.formats d.kind_at (is_isolated g.D.DialectTables.op_has) d.values in
     let cs = c.args.source.chars.now in
     let ts = c.args.source.tokens.now in
-    let names = c.args.names.now in
+    let names = c.args.names.items in
     let r = c.args.reading.now in
     let es = r.events.items in
     let text = token_text cs ts in
-    subst (λ z. AreSpelt text 0 z) (sym c.deref.ensures.value) (reading_spelt l cs ts names r.stop r.taken es c.requires.reading)
+    subst (λ z. AreSpelt text 0 z) (sym c.deref-3.ensures.value) (reading_spelt l cs ts names r.stop r.taken es c.requires.reading)
 
 pub undo-requires : goal.undo-requires
 undo-requires g c = record { held = (seen c.args.ctx.now, c.assemble-assembled.ensures.held) }
@@ -55,12 +55,14 @@ returns-in-Err-clause-fault g c =
     let l = language_of d.formats d.kind_at (is_isolated g.D.DialectTables.op_has) d.values in
     let cs = c.args.source.chars.now in
     let ts = c.args.source.tokens.now in
-    let names = c.args.names.now in
+    let names = c.args.names.items in
     let r = c.args.reading.now in
     let es = r.events.items in
     let text = token_text cs ts in
-    let judged = judged_so l g.D.ReadDialect.leads g.met.D.ReadDialect.ordered cs ts names r c.deref.result.now c.deref-2.result.now c.assemble-assembled.result c.resolve-resolved.result
-    c.deref.ensures.value c.deref-2.ensures.value c.requires.reading c.assemble-assembled.ensures.sound c.assemble-assembled.ensures.refused c.resolve-resolved.ensures.resolved in
+    let found = subst (λ z. MatchResult c.resolve-resolved.result (IsResolved l.isolated z c.deref-2.result.now) (IsScopeFault l.isolated z c.deref-2.result.now))
+    c.deref.ensures.value c.resolve-resolved.ensures.resolved in
+    let judged = judged_so l g.D.ReadDialect.leads g.met.D.ReadDialect.ordered cs ts names r c.deref-3.result.now c.deref-2.result.now c.assemble-assembled.result c.resolve-resolved.result
+    c.deref-3.ensures.value c.deref-2.ensures.value c.requires.reading c.assemble-assembled.ensures.sound c.assemble-assembled.ensures.refused found in
     c.in-Err.ensures.fault l names judged
 
 pub returns-in-Err-clause-full : goal.returns-in-Err-clause-full
@@ -69,14 +71,14 @@ returns-in-Err-clause-full g c = λ e.
     let l = language_of d.formats d.kind_at (is_isolated g.D.DialectTables.op_has) d.values in
     let cs = c.args.source.chars.now in
     let ts = c.args.source.tokens.now in
-    let names = c.args.names.now in
+    let names = c.args.names.items in
     let r = c.args.reading.now in
     let es = r.events.items in
     let text = token_text cs ts in
     let same : c.in-Err.fault ≡ CounterFull = cc in
     let full = c.assemble-assembled.ensures.full (c.in-Err.ensures.full (ap (λ x. Err x) same)) in
     let n = length (definitions l.isolated es) in
-    let many : length (defined_from 0 c.deref.result.now) ≡ n = ap (λ z. length (defined_from 0 z)) c.deref.ensures.value ∙ many_defined l.isolated es in
+    let many : length (defined_from 0 c.deref-3.result.now) ≡ n = ap (λ z. length (defined_from 0 z)) c.deref-3.ensures.value ∙ many_defined l.isolated es in
     (n, (ts, names, r.stop, r.taken, es, c.requires.reading, refl), subst (λ z. 2 ^ 64 ≤ c.args.ctx.now.program.counter + z) many full)
 
 pub connect-requires-clause-waiting : goal.connect-requires-clause-waiting
@@ -85,28 +87,31 @@ connect-requires-clause-waiting g c =
     let l = language_of d.formats d.kind_at (is_isolated g.D.DialectTables.op_has) d.values in
     let cs = c.args.source.chars.now in
     let ts = c.args.source.tokens.now in
-    let names = c.args.names.now in
+    let names = c.args.names.items in
     let r = c.args.reading.now in
     let es = r.events.items in
     let text = token_text cs ts in
-    let judged = judged_so l g.D.ReadDialect.leads g.met.D.ReadDialect.ordered cs ts names r c.deref.result.now c.deref-2.result.now c.assemble-assembled.result c.resolve-resolved.result
-    c.deref.ensures.value c.deref-2.ensures.value c.requires.reading c.assemble-assembled.ensures.sound c.assemble-assembled.ensures.refused c.resolve-resolved.ensures.resolved in
+    let found = subst (λ z. MatchResult c.resolve-resolved.result (IsResolved l.isolated z c.deref-2.result.now) (IsScopeFault l.isolated z c.deref-2.result.now))
+    c.deref.ensures.value c.resolve-resolved.ensures.resolved in
+    let judged = judged_so l g.D.ReadDialect.leads g.met.D.ReadDialect.ordered cs ts names r c.deref-3.result.now c.deref-2.result.now c.assemble-assembled.result c.resolve-resolved.result
+    c.deref-3.ensures.value c.deref-2.ensures.value c.requires.reading c.assemble-assembled.ensures.sound c.assemble-assembled.ensures.refused found in
     let none = c.in_default.ensures.none l names judged in
     let leads = read_whole l g.D.ReadDialect.leads g.met.D.ReadDialect.ordered cs ts names r.taken es r.stop c.requires.reading none in
     let order = read_in_order l g.D.ReadDialect.leads g.met.D.ReadDialect.ordered cs ts names r.taken es r.stop c.requires.reading in
     let own = own_tokens es order.follows in
     let resolution = c.in-Ok-resolved.resolution in
     let resolved = subst (λ z. IsResolved l.isolated names z resolution) c.deref-2.ensures.value
-    (MatchResult-at_ok (IsResolved l.isolated names c.deref-2.result.now) (IsScopeFault l.isolated names c.deref-2.result.now) resolution c.in-Ok-resolved.is c.resolve-resolved.ensures.resolved) in
-    let many = IfOk-at_ok (λ z. length z.definitions.items ≡ length names) c.in-Ok-resolved.is c.resolve-resolved.ensures.many in
+    (MatchResult-at_ok (IsResolved l.isolated names c.deref-2.result.now) (IsScopeFault l.isolated names c.deref-2.result.now) resolution c.in-Ok-resolved.is found) in
+    let many = IfOk-at_ok (λ z. length z.definitions.items ≡ length names) c.in-Ok-resolved.is
+    (subst (λ (xs : List ℕ). IfOk c.resolve-resolved.result (λ z. length z.definitions.items ≡ length xs)) c.deref.ensures.value c.resolve-resolved.ensures.many) in
     let start = seen c.args.ctx.now in
     let s = seen c.assemble-assembled.new.ctx in
     let first = c.args.ctx.now.program.counter in
     let next = c.assemble-assembled.new.ctx.program.counter in
     let a = c.in-Ok.assembly in
-    let to = subst (λ z. Leads at_root [] z at_end []) (sym c.deref.ensures.value) leads in
-    let made = subst (IsAssembled d.says d.values text start s first next a) c.deref.ensures.value
-    (IfOk-at_ok (λ z. IsAssembled d.says d.values text start s first next z c.deref.result.now) c.in-Ok.is (c.assemble-assembled.ensures.made to)) in
+    let to = subst (λ z. Leads at_root [] z at_end []) (sym c.deref-3.ensures.value) leads in
+    let made = subst (IsAssembled d.says d.values text start s first next a) c.deref-3.ensures.value
+    (IfOk-at_ok (λ z. IsAssembled d.says d.values text start s first next z c.deref-3.result.now) c.in-Ok.is (c.assemble-assembled.ensures.made to)) in
     let held = IfOk-at_ok (λ z. HoldsAllNew start s z.loose.items) c.in-Ok.is c.assemble-assembled.ensures.held in
     (start, mentioned_from 0 es, made.operands, held)
 
@@ -116,28 +121,31 @@ connect-requires-clause-meant g c =
     let l = language_of d.formats d.kind_at (is_isolated g.D.DialectTables.op_has) d.values in
     let cs = c.args.source.chars.now in
     let ts = c.args.source.tokens.now in
-    let names = c.args.names.now in
+    let names = c.args.names.items in
     let r = c.args.reading.now in
     let es = r.events.items in
     let text = token_text cs ts in
-    let judged = judged_so l g.D.ReadDialect.leads g.met.D.ReadDialect.ordered cs ts names r c.deref.result.now c.deref-2.result.now c.assemble-assembled.result c.resolve-resolved.result
-    c.deref.ensures.value c.deref-2.ensures.value c.requires.reading c.assemble-assembled.ensures.sound c.assemble-assembled.ensures.refused c.resolve-resolved.ensures.resolved in
+    let found = subst (λ z. MatchResult c.resolve-resolved.result (IsResolved l.isolated z c.deref-2.result.now) (IsScopeFault l.isolated z c.deref-2.result.now))
+    c.deref.ensures.value c.resolve-resolved.ensures.resolved in
+    let judged = judged_so l g.D.ReadDialect.leads g.met.D.ReadDialect.ordered cs ts names r c.deref-3.result.now c.deref-2.result.now c.assemble-assembled.result c.resolve-resolved.result
+    c.deref-3.ensures.value c.deref-2.ensures.value c.requires.reading c.assemble-assembled.ensures.sound c.assemble-assembled.ensures.refused found in
     let none = c.in_default.ensures.none l names judged in
     let leads = read_whole l g.D.ReadDialect.leads g.met.D.ReadDialect.ordered cs ts names r.taken es r.stop c.requires.reading none in
     let order = read_in_order l g.D.ReadDialect.leads g.met.D.ReadDialect.ordered cs ts names r.taken es r.stop c.requires.reading in
     let own = own_tokens es order.follows in
     let resolution = c.in-Ok-resolved.resolution in
     let resolved = subst (λ z. IsResolved l.isolated names z resolution) c.deref-2.ensures.value
-    (MatchResult-at_ok (IsResolved l.isolated names c.deref-2.result.now) (IsScopeFault l.isolated names c.deref-2.result.now) resolution c.in-Ok-resolved.is c.resolve-resolved.ensures.resolved) in
-    let many = IfOk-at_ok (λ z. length z.definitions.items ≡ length names) c.in-Ok-resolved.is c.resolve-resolved.ensures.many in
+    (MatchResult-at_ok (IsResolved l.isolated names c.deref-2.result.now) (IsScopeFault l.isolated names c.deref-2.result.now) resolution c.in-Ok-resolved.is found) in
+    let many = IfOk-at_ok (λ z. length z.definitions.items ≡ length names) c.in-Ok-resolved.is
+    (subst (λ (xs : List ℕ). IfOk c.resolve-resolved.result (λ z. length z.definitions.items ≡ length xs)) c.deref.ensures.value c.resolve-resolved.ensures.many) in
     let start = seen c.args.ctx.now in
     let s = seen c.assemble-assembled.new.ctx in
     let first = c.args.ctx.now.program.counter in
     let next = c.assemble-assembled.new.ctx.program.counter in
     let a = c.in-Ok.assembly in
-    let to = subst (λ z. Leads at_root [] z at_end []) (sym c.deref.ensures.value) leads in
-    let made = subst (IsAssembled d.says d.values text start s first next a) c.deref.ensures.value
-    (IfOk-at_ok (λ z. IsAssembled d.says d.values text start s first next z c.deref.result.now) c.in-Ok.is (c.assemble-assembled.ensures.made to)) in
+    let to = subst (λ z. Leads at_root [] z at_end []) (sym c.deref-3.ensures.value) leads in
+    let made = subst (IsAssembled d.says d.values text start s first next a) c.deref-3.ensures.value
+    (IfOk-at_ok (λ z. IsAssembled d.says d.values text start s first next z c.deref-3.result.now) c.in-Ok.is (c.assemble-assembled.ensures.made to)) in
     let held = IfOk-at_ok (λ z. HoldsAllNew start s z.loose.items) c.in-Ok.is c.assemble-assembled.ensures.held in
     can_link_all l cs ts names r.stop r.taken es resolution c.requires.reading leads own resolved c.requires.named many d.says start s first next a made
 
@@ -147,28 +155,31 @@ connect-requires-clause-root g c =
     let l = language_of d.formats d.kind_at (is_isolated g.D.DialectTables.op_has) d.values in
     let cs = c.args.source.chars.now in
     let ts = c.args.source.tokens.now in
-    let names = c.args.names.now in
+    let names = c.args.names.items in
     let r = c.args.reading.now in
     let es = r.events.items in
     let text = token_text cs ts in
-    let judged = judged_so l g.D.ReadDialect.leads g.met.D.ReadDialect.ordered cs ts names r c.deref.result.now c.deref-2.result.now c.assemble-assembled.result c.resolve-resolved.result
-    c.deref.ensures.value c.deref-2.ensures.value c.requires.reading c.assemble-assembled.ensures.sound c.assemble-assembled.ensures.refused c.resolve-resolved.ensures.resolved in
+    let found = subst (λ z. MatchResult c.resolve-resolved.result (IsResolved l.isolated z c.deref-2.result.now) (IsScopeFault l.isolated z c.deref-2.result.now))
+    c.deref.ensures.value c.resolve-resolved.ensures.resolved in
+    let judged = judged_so l g.D.ReadDialect.leads g.met.D.ReadDialect.ordered cs ts names r c.deref-3.result.now c.deref-2.result.now c.assemble-assembled.result c.resolve-resolved.result
+    c.deref-3.ensures.value c.deref-2.ensures.value c.requires.reading c.assemble-assembled.ensures.sound c.assemble-assembled.ensures.refused found in
     let none = c.in_default.ensures.none l names judged in
     let leads = read_whole l g.D.ReadDialect.leads g.met.D.ReadDialect.ordered cs ts names r.taken es r.stop c.requires.reading none in
     let order = read_in_order l g.D.ReadDialect.leads g.met.D.ReadDialect.ordered cs ts names r.taken es r.stop c.requires.reading in
     let own = own_tokens es order.follows in
     let resolution = c.in-Ok-resolved.resolution in
     let resolved = subst (λ z. IsResolved l.isolated names z resolution) c.deref-2.ensures.value
-    (MatchResult-at_ok (IsResolved l.isolated names c.deref-2.result.now) (IsScopeFault l.isolated names c.deref-2.result.now) resolution c.in-Ok-resolved.is c.resolve-resolved.ensures.resolved) in
-    let many = IfOk-at_ok (λ z. length z.definitions.items ≡ length names) c.in-Ok-resolved.is c.resolve-resolved.ensures.many in
+    (MatchResult-at_ok (IsResolved l.isolated names c.deref-2.result.now) (IsScopeFault l.isolated names c.deref-2.result.now) resolution c.in-Ok-resolved.is found) in
+    let many = IfOk-at_ok (λ z. length z.definitions.items ≡ length names) c.in-Ok-resolved.is
+    (subst (λ (xs : List ℕ). IfOk c.resolve-resolved.result (λ z. length z.definitions.items ≡ length xs)) c.deref.ensures.value c.resolve-resolved.ensures.many) in
     let start = seen c.args.ctx.now in
     let s = seen c.assemble-assembled.new.ctx in
     let first = c.args.ctx.now.program.counter in
     let next = c.assemble-assembled.new.ctx.program.counter in
     let a = c.in-Ok.assembly in
-    let to = subst (λ z. Leads at_root [] z at_end []) (sym c.deref.ensures.value) leads in
-    let made = subst (IsAssembled d.says d.values text start s first next a) c.deref.ensures.value
-    (IfOk-at_ok (λ z. IsAssembled d.says d.values text start s first next z c.deref.result.now) c.in-Ok.is (c.assemble-assembled.ensures.made to)) in
+    let to = subst (λ z. Leads at_root [] z at_end []) (sym c.deref-3.ensures.value) leads in
+    let made = subst (IsAssembled d.says d.values text start s first next a) c.deref-3.ensures.value
+    (IfOk-at_ok (λ z. IsAssembled d.says d.values text start s first next z c.deref-3.result.now) c.in-Ok.is (c.assemble-assembled.ensures.made to)) in
     let held = IfOk-at_ok (λ z. HoldsAllNew start s z.loose.items) c.in-Ok.is c.assemble-assembled.ensures.held in
     rw made.stands refl
 
@@ -178,28 +189,31 @@ returns-clause-read g c =
     let l = language_of d.formats d.kind_at (is_isolated g.D.DialectTables.op_has) d.values in
     let cs = c.args.source.chars.now in
     let ts = c.args.source.tokens.now in
-    let names = c.args.names.now in
+    let names = c.args.names.items in
     let r = c.args.reading.now in
     let es = r.events.items in
     let text = token_text cs ts in
-    let judged = judged_so l g.D.ReadDialect.leads g.met.D.ReadDialect.ordered cs ts names r c.deref.result.now c.deref-2.result.now c.assemble-assembled.result c.resolve-resolved.result
-    c.deref.ensures.value c.deref-2.ensures.value c.requires.reading c.assemble-assembled.ensures.sound c.assemble-assembled.ensures.refused c.resolve-resolved.ensures.resolved in
+    let found = subst (λ z. MatchResult c.resolve-resolved.result (IsResolved l.isolated z c.deref-2.result.now) (IsScopeFault l.isolated z c.deref-2.result.now))
+    c.deref.ensures.value c.resolve-resolved.ensures.resolved in
+    let judged = judged_so l g.D.ReadDialect.leads g.met.D.ReadDialect.ordered cs ts names r c.deref-3.result.now c.deref-2.result.now c.assemble-assembled.result c.resolve-resolved.result
+    c.deref-3.ensures.value c.deref-2.ensures.value c.requires.reading c.assemble-assembled.ensures.sound c.assemble-assembled.ensures.refused found in
     let none = c.in_default.ensures.none l names judged in
     let leads = read_whole l g.D.ReadDialect.leads g.met.D.ReadDialect.ordered cs ts names r.taken es r.stop c.requires.reading none in
     let order = read_in_order l g.D.ReadDialect.leads g.met.D.ReadDialect.ordered cs ts names r.taken es r.stop c.requires.reading in
     let own = own_tokens es order.follows in
     let resolution = c.in-Ok-resolved.resolution in
     let resolved = subst (λ z. IsResolved l.isolated names z resolution) c.deref-2.ensures.value
-    (MatchResult-at_ok (IsResolved l.isolated names c.deref-2.result.now) (IsScopeFault l.isolated names c.deref-2.result.now) resolution c.in-Ok-resolved.is c.resolve-resolved.ensures.resolved) in
-    let many = IfOk-at_ok (λ z. length z.definitions.items ≡ length names) c.in-Ok-resolved.is c.resolve-resolved.ensures.many in
+    (MatchResult-at_ok (IsResolved l.isolated names c.deref-2.result.now) (IsScopeFault l.isolated names c.deref-2.result.now) resolution c.in-Ok-resolved.is found) in
+    let many = IfOk-at_ok (λ z. length z.definitions.items ≡ length names) c.in-Ok-resolved.is
+    (subst (λ (xs : List ℕ). IfOk c.resolve-resolved.result (λ z. length z.definitions.items ≡ length xs)) c.deref.ensures.value c.resolve-resolved.ensures.many) in
     let start = seen c.args.ctx.now in
     let s = seen c.assemble-assembled.new.ctx in
     let first = c.args.ctx.now.program.counter in
     let next = c.assemble-assembled.new.ctx.program.counter in
     let a = c.in-Ok.assembly in
-    let to = subst (λ z. Leads at_root [] z at_end []) (sym c.deref.ensures.value) leads in
-    let made = subst (IsAssembled d.says d.values text start s first next a) c.deref.ensures.value
-    (IfOk-at_ok (λ z. IsAssembled d.says d.values text start s first next z c.deref.result.now) c.in-Ok.is (c.assemble-assembled.ensures.made to)) in
+    let to = subst (λ z. Leads at_root [] z at_end []) (sym c.deref-3.ensures.value) leads in
+    let made = subst (IsAssembled d.says d.values text start s first next a) c.deref-3.ensures.value
+    (IfOk-at_ok (λ z. IsAssembled d.says d.values text start s first next z c.deref-3.result.now) c.in-Ok.is (c.assemble-assembled.ensures.made to)) in
     let held = IfOk-at_ok (λ z. HoldsAllNew start s z.loose.items) c.in-Ok.is c.assemble-assembled.ensures.held in
     let linked = c.connect.ensures.linked in
     answers_read l cs ts names r.stop r.taken es resolution c.requires.reading leads own resolved c.requires.named many d.says start s first next a made
@@ -212,28 +226,31 @@ returns-clause-refused g c =
     let l = language_of d.formats d.kind_at (is_isolated g.D.DialectTables.op_has) d.values in
     let cs = c.args.source.chars.now in
     let ts = c.args.source.tokens.now in
-    let names = c.args.names.now in
+    let names = c.args.names.items in
     let r = c.args.reading.now in
     let es = r.events.items in
     let text = token_text cs ts in
-    let judged = judged_so l g.D.ReadDialect.leads g.met.D.ReadDialect.ordered cs ts names r c.deref.result.now c.deref-2.result.now c.assemble-assembled.result c.resolve-resolved.result
-    c.deref.ensures.value c.deref-2.ensures.value c.requires.reading c.assemble-assembled.ensures.sound c.assemble-assembled.ensures.refused c.resolve-resolved.ensures.resolved in
+    let found = subst (λ z. MatchResult c.resolve-resolved.result (IsResolved l.isolated z c.deref-2.result.now) (IsScopeFault l.isolated z c.deref-2.result.now))
+    c.deref.ensures.value c.resolve-resolved.ensures.resolved in
+    let judged = judged_so l g.D.ReadDialect.leads g.met.D.ReadDialect.ordered cs ts names r c.deref-3.result.now c.deref-2.result.now c.assemble-assembled.result c.resolve-resolved.result
+    c.deref-3.ensures.value c.deref-2.ensures.value c.requires.reading c.assemble-assembled.ensures.sound c.assemble-assembled.ensures.refused found in
     let none = c.in_default.ensures.none l names judged in
     let leads = read_whole l g.D.ReadDialect.leads g.met.D.ReadDialect.ordered cs ts names r.taken es r.stop c.requires.reading none in
     let order = read_in_order l g.D.ReadDialect.leads g.met.D.ReadDialect.ordered cs ts names r.taken es r.stop c.requires.reading in
     let own = own_tokens es order.follows in
     let resolution = c.in-Ok-resolved.resolution in
     let resolved = subst (λ z. IsResolved l.isolated names z resolution) c.deref-2.ensures.value
-    (MatchResult-at_ok (IsResolved l.isolated names c.deref-2.result.now) (IsScopeFault l.isolated names c.deref-2.result.now) resolution c.in-Ok-resolved.is c.resolve-resolved.ensures.resolved) in
-    let many = IfOk-at_ok (λ z. length z.definitions.items ≡ length names) c.in-Ok-resolved.is c.resolve-resolved.ensures.many in
+    (MatchResult-at_ok (IsResolved l.isolated names c.deref-2.result.now) (IsScopeFault l.isolated names c.deref-2.result.now) resolution c.in-Ok-resolved.is found) in
+    let many = IfOk-at_ok (λ z. length z.definitions.items ≡ length names) c.in-Ok-resolved.is
+    (subst (λ (xs : List ℕ). IfOk c.resolve-resolved.result (λ z. length z.definitions.items ≡ length xs)) c.deref.ensures.value c.resolve-resolved.ensures.many) in
     let start = seen c.args.ctx.now in
     let s = seen c.assemble-assembled.new.ctx in
     let first = c.args.ctx.now.program.counter in
     let next = c.assemble-assembled.new.ctx.program.counter in
     let a = c.in-Ok.assembly in
-    let to = subst (λ z. Leads at_root [] z at_end []) (sym c.deref.ensures.value) leads in
-    let made = subst (IsAssembled d.says d.values text start s first next a) c.deref.ensures.value
-    (IfOk-at_ok (λ z. IsAssembled d.says d.values text start s first next z c.deref.result.now) c.in-Ok.is (c.assemble-assembled.ensures.made to)) in
+    let to = subst (λ z. Leads at_root [] z at_end []) (sym c.deref-3.ensures.value) leads in
+    let made = subst (IsAssembled d.says d.values text start s first next a) c.deref-3.ensures.value
+    (IfOk-at_ok (λ z. IsAssembled d.says d.values text start s first next z c.deref-3.result.now) c.in-Ok.is (c.assemble-assembled.ensures.made to)) in
     let held = IfOk-at_ok (λ z. HoldsAllNew start s z.loose.items) c.in-Ok.is c.assemble-assembled.ensures.held in
     c.connect.ensures.undone start (mentioned_from 0 es) made.operands held
 
@@ -254,28 +271,31 @@ returns-clause-payloads g c =
     let l = language_of d.formats d.kind_at (is_isolated g.D.DialectTables.op_has) d.values in
     let cs = c.args.source.chars.now in
     let ts = c.args.source.tokens.now in
-    let names = c.args.names.now in
+    let names = c.args.names.items in
     let r = c.args.reading.now in
     let es = r.events.items in
     let text = token_text cs ts in
-    let judged = judged_so l g.D.ReadDialect.leads g.met.D.ReadDialect.ordered cs ts names r c.deref.result.now c.deref-2.result.now c.assemble-assembled.result c.resolve-resolved.result
-    c.deref.ensures.value c.deref-2.ensures.value c.requires.reading c.assemble-assembled.ensures.sound c.assemble-assembled.ensures.refused c.resolve-resolved.ensures.resolved in
+    let found = subst (λ z. MatchResult c.resolve-resolved.result (IsResolved l.isolated z c.deref-2.result.now) (IsScopeFault l.isolated z c.deref-2.result.now))
+    c.deref.ensures.value c.resolve-resolved.ensures.resolved in
+    let judged = judged_so l g.D.ReadDialect.leads g.met.D.ReadDialect.ordered cs ts names r c.deref-3.result.now c.deref-2.result.now c.assemble-assembled.result c.resolve-resolved.result
+    c.deref-3.ensures.value c.deref-2.ensures.value c.requires.reading c.assemble-assembled.ensures.sound c.assemble-assembled.ensures.refused found in
     let none = c.in_default.ensures.none l names judged in
     let leads = read_whole l g.D.ReadDialect.leads g.met.D.ReadDialect.ordered cs ts names r.taken es r.stop c.requires.reading none in
     let order = read_in_order l g.D.ReadDialect.leads g.met.D.ReadDialect.ordered cs ts names r.taken es r.stop c.requires.reading in
     let own = own_tokens es order.follows in
     let resolution = c.in-Ok-resolved.resolution in
     let resolved = subst (λ z. IsResolved l.isolated names z resolution) c.deref-2.ensures.value
-    (MatchResult-at_ok (IsResolved l.isolated names c.deref-2.result.now) (IsScopeFault l.isolated names c.deref-2.result.now) resolution c.in-Ok-resolved.is c.resolve-resolved.ensures.resolved) in
-    let many = IfOk-at_ok (λ z. length z.definitions.items ≡ length names) c.in-Ok-resolved.is c.resolve-resolved.ensures.many in
+    (MatchResult-at_ok (IsResolved l.isolated names c.deref-2.result.now) (IsScopeFault l.isolated names c.deref-2.result.now) resolution c.in-Ok-resolved.is found) in
+    let many = IfOk-at_ok (λ z. length z.definitions.items ≡ length names) c.in-Ok-resolved.is
+    (subst (λ (xs : List ℕ). IfOk c.resolve-resolved.result (λ z. length z.definitions.items ≡ length xs)) c.deref.ensures.value c.resolve-resolved.ensures.many) in
     let start = seen c.args.ctx.now in
     let s = seen c.assemble-assembled.new.ctx in
     let first = c.args.ctx.now.program.counter in
     let next = c.assemble-assembled.new.ctx.program.counter in
     let a = c.in-Ok.assembly in
-    let to = subst (λ z. Leads at_root [] z at_end []) (sym c.deref.ensures.value) leads in
-    let made = subst (IsAssembled d.says d.values text start s first next a) c.deref.ensures.value
-    (IfOk-at_ok (λ z. IsAssembled d.says d.values text start s first next z c.deref.result.now) c.in-Ok.is (c.assemble-assembled.ensures.made to)) in
+    let to = subst (λ z. Leads at_root [] z at_end []) (sym c.deref-3.ensures.value) leads in
+    let made = subst (IsAssembled d.says d.values text start s first next a) c.deref-3.ensures.value
+    (IfOk-at_ok (λ z. IsAssembled d.says d.values text start s first next z c.deref-3.result.now) c.in-Ok.is (c.assemble-assembled.ensures.made to)) in
     let held = IfOk-at_ok (λ z. HoldsAllNew start s z.loose.items) c.in-Ok.is c.assemble-assembled.ensures.held in
     payloads_since c.args.ctx.now c.assemble-assembled.new.ctx c.connect.new.ctx c.assemble-assembled.ensures.payloads
     (c.connect.ensures.payloads start (mentioned_from 0 es) made.operands held)
