@@ -6,6 +6,7 @@ use Rattle.ir_entities.specs.declared.siblings.Node.{Node}
 use Rattle.ir_entities.specs.declared.siblings.Ends.{Ends}
 use Rattle.ir_entities.specs.Links.{node_at, ends_at, unlinked, no_ends, with_next, with_prev, with_head, with_tail, with_node, first_or, last_or, has, AreDistinct, IsSegment, IsList, AreLists, list_at, put_after, put_before, without, IsUnlinked, next_in, prev_in, prev_from, AreApart}
 use Rattle.ir_entities.specs.Lists.{Lists}
+use Rattle.ir_entities.specs.Unique.{lists_one}
 use Rattle.ir_entities.specs.declared.siblings.Siblings.TheInside.{Inside}
 use Rattle.ir_entities.specs.contracts.siblings.Siblings.{the_view}
 use Rattle.ir_entities.proofs.Segments.{is_at, rejoined, has-append, last_or-append, first_or-append, parent_in, segment_left, segment_right}
@@ -394,6 +395,12 @@ module _ (s : Inside) (v : Lists) (seen : the_view s ≡ v) where
 
   pub nodes_are : length s.nodes.items ≡ v.nodes
   nodes_are = ap (λ (w : Lists). w.nodes) seen
+
+  -- the same links are the same lists
+  pub seen_alike : (ns : List Node) (es : List Ends) (ls : List (List ℕ)) → AreLists (node_at ns) es ls → ns ≡ s.nodes.items → es ≡ s.ends.items → record { lists = ls; nodes = length ns } ≡ v
+  seen_alike ns es ls are ni ei =
+      let same : ls ≡ v.lists = lists_one (node_at s.nodes.items) s.ends.items ls v.lists (rw (← ni, ← ei) are) are_lists in
+      rw (same, ni, nodes_are) refl
 
   module _ (m : ℕ) (n : Node) (lt : m < v.nodes) (read : n ≡ get_or s.nodes.items m n) where
     pub node_is : n ≡ node_at s.nodes.items m

@@ -1,4 +1,5 @@
 pub use Rattle.ir_arena.specs.Arena
+pub mod Link
 pub mod Links
 pub mod Lists
 pub mod Unique

@@ -6,6 +6,7 @@
 mod editing;
 mod erasing;
 mod forest;
+mod link;
 mod making;
 mod reading;
 mod rows;
@@ -16,5 +17,5 @@ mod walking;
 pub use forest::{Forest, Place};
 pub use ir_arena::{Arena, Key, Slot};
 pub use rows::{clear_row, insert_place, push_place, release, remove_place, renumber};
-pub use siblings::{Backward, Ends, Forward, Node, Siblings, Walk};
+pub use siblings::{Backward, Forward, Siblings, Walk};
 pub use uses::{Spot, Uses, UsesOf};

@@ -4,22 +4,23 @@ ghost use Rattle.std.specs.Prelude.{List, ◌≡◌, ◌≢◌, ℕ, Bool, true,
 ghost use Rattle.ir_entities.specs.Links.{AreLists, AreApart, AreDistinct, node_at, unlinked, no_ends, with_next, with_prev, with_head, with_tail, with_node, list_at, has, put_after, put_before, without, first_or, last_or, IsLinked, IsUnlinked, next_in, prev_in, items_from, items_back, drop_to, items_between, IsSpan, IsWithin};
 ghost use Rattle.ir_entities.specs.Unique.{lists_exact};
 
+use crate::link::Link;
 use std::alloc::{AllocError, Global};
 use std::marker::Model;
 
 /// Where a node stands.
 #[derive(Clone, Copy, Debug, PartialEq, Eq)]
 pub struct Node {
-    pub parent: Option<usize>,
-    pub prev: Option<usize>,
-    pub next: Option<usize>,
+    pub parent: Link,
+    pub prev: Link,
+    pub next: Link,
 }
 
 /// The first and the last node of a list.
 #[derive(Clone, Copy, Debug, PartialEq, Eq)]
 pub struct Ends {
-    pub head: Option<usize>,
-    pub tail: Option<usize>,
+    pub head: Link,
+    pub tail: Link,
 }
 
 /// Lists of nodes. Each node stands in one list at most.
@@ -282,6 +283,15 @@ impl Siblings {
         self.ends.len()
     }
 
+    /// Makes room for so many nodes and so many lists more. No list changes, also where there is no memory.
+    pub fn reserve(&mut self, nodes: usize, lists: usize) -> Result<(), AllocError>
+        ensures same { self.new ≡ self.old }
+    {
+        self.nodes.reserve(nodes)?;
+        self.ends.reserve(lists)?;
+        Ok(())
+    }
+
     /// Makes room for one node more, which stands in no list.
     pub fn add_node(&mut self) -> Result<(), AllocError>
         ensures lists { self.new.lists ≡ self.old.lists }
@@ -289,9 +299,9 @@ impl Siblings {
         ensures err { OnErr result (self.new.nodes ≡ self.old.nodes) }
     {
         self.nodes.push(Node {
-            parent: None,
-            prev: None,
-            next: None,
+            parent: Link::NONE,
+            prev: Link::NONE,
+            next: Link::NONE,
         })?;
         Ok(())
     }
@@ -303,8 +313,8 @@ impl Siblings {
         ensures err { OnErr result (self.new.lists ≡ self.old.lists) }
     {
         self.ends.push(Ends {
-            head: None,
-            tail: None,
+            head: Link::NONE,
+            tail: Link::NONE,
         })?;
         Ok(())
     }
@@ -315,7 +325,7 @@ impl Siblings {
         ensures linked { IfSome result (λ c. has node (list_at self.now.lists c) ≡ true) }
         ensures unlinked { IsNone result → IsUnlinked self.now.lists node }
     {
-        self.nodes[node].parent
+        self.nodes[node].parent.get()
     }
 
     /// No node stands in two lists.
@@ -340,7 +350,7 @@ impl Siblings {
         requires { node < self.now.nodes }
         ensures { (c : ℕ) → has node (list_at self.now.lists c) ≡ true → result ≡ next_in node (list_at self.now.lists c) }
     {
-        self.nodes[node].next
+        self.nodes[node].next.get()
     }
 
     /// The node before this one in its list.
@@ -348,7 +358,7 @@ impl Siblings {
         requires { node < self.now.nodes }
         ensures { (c : ℕ) → has node (list_at self.now.lists c) ≡ true → result ≡ prev_in node (list_at self.now.lists c) }
     {
-        self.nodes[node].prev
+        self.nodes[node].prev.get()
     }
 
     /// The first node of a list.
@@ -357,7 +367,7 @@ impl Siblings {
         ensures first { result ≡ first_or None (list_at self.now.lists list) }
         ensures below { IfSome result (λ i. i < self.now.nodes) }
     {
-        self.ends[list].head
+        self.ends[list].head.get()
     }
 
     /// The last node of a list.
@@ -365,7 +375,7 @@ impl Siblings {
         requires { list < length self.now.lists }
         ensures { result ≡ last_or None (list_at self.now.lists list) }
     {
-        self.ends[list].tail
+        self.ends[list].tail.get()
     }
 
     /// Puts a node before all others of a list.
@@ -377,7 +387,14 @@ impl Siblings {
         ensures nodes { self.new.nodes ≡ self.old.nodes }
     {
         let next = self.ends[list].head;
-        link(&mut self.nodes, &mut self.ends, list, None, next, node);
+        link(
+            &mut self.nodes,
+            &mut self.ends,
+            list,
+            Link::NONE,
+            next,
+            node,
+        );
     }
 
     /// Puts a node after all others of a list.
@@ -389,7 +406,14 @@ impl Siblings {
         ensures nodes { self.new.nodes ≡ self.old.nodes }
     {
         let prev = self.ends[list].tail;
-        link(&mut self.nodes, &mut self.ends, list, prev, None, node);
+        link(
+            &mut self.nodes,
+            &mut self.ends,
+            list,
+            prev,
+            Link::NONE,
+            node,
+        );
     }
 
     /// Moves all nodes of the list `donor` to the end of the list `donee`.
@@ -416,12 +440,12 @@ impl Siblings {
         ensures nodes { self.new.nodes ≡ self.old.nodes }
     {
         let at = self.nodes[mark];
-        if let Some(list) = at.parent {
+        if let Some(list) = at.parent.get() {
             link(
                 &mut self.nodes,
                 &mut self.ends,
                 list,
-                Some(mark),
+                Link::to(mark),
                 at.next,
                 node,
             );
@@ -438,13 +462,13 @@ impl Siblings {
         ensures nodes { self.new.nodes ≡ self.old.nodes }
     {
         let at = self.nodes[mark];
-        if let Some(list) = at.parent {
+        if let Some(list) = at.parent.get() {
             link(
                 &mut self.nodes,
                 &mut self.ends,
                 list,
                 at.prev,
-                Some(mark),
+                Link::to(mark),
                 node,
             );
         }
@@ -460,7 +484,7 @@ impl Siblings {
         ensures nodes { self.new.nodes ≡ self.old.nodes }
     {
         let at = self.nodes[node];
-        if let Some(list) = at.parent {
+        if let Some(list) = at.parent.get() {
             cut(
                 &mut self.nodes,
                 &mut self.ends,
@@ -478,8 +502,8 @@ fn link(
     nodes: &mut Vec<Node>,
     ends: &mut Vec<Ends>,
     list: usize,
-    prev: Option<usize>,
-    next: Option<usize>,
+    prev: Link,
+    next: Link,
     node: usize,
 )
     requires prev { IfSome prev (λ i. i < length nodes.old.items) }
@@ -489,10 +513,11 @@ fn link(
     ensures nodes { nodes.new.items ≡ with_node (with_prev (with_next nodes.old.items prev (Some node)) next (Some node)) node (record { parent = Some list; prev = prev; next = next }) }
     ensures ends { ends.new.items ≡ with_tail (with_head ends.old.items list prev (Some node)) list next (Some node) }
 {
-    set_after(nodes, ends, list, prev, Some(node));
-    set_before(nodes, ends, list, next, Some(node));
+    let here = Link::to(node);
+    set_after(nodes, ends, list, prev, here);
+    set_before(nodes, ends, list, next, here);
     nodes[node] = Node {
-        parent: Some(list),
+        parent: Link::to(list),
         prev,
         next,
     };
@@ -503,8 +528,8 @@ fn cut(
     nodes: &mut Vec<Node>,
     ends: &mut Vec<Ends>,
     list: usize,
-    prev: Option<usize>,
-    next: Option<usize>,
+    prev: Link,
+    next: Link,
     node: usize,
 )
     requires prev { IfSome prev (λ i. i < length nodes.old.items) }
@@ -517,45 +542,33 @@ fn cut(
     set_after(nodes, ends, list, prev, next);
     set_before(nodes, ends, list, next, prev);
     nodes[node] = Node {
-        parent: None,
-        prev: None,
-        next: None,
+        parent: Link::NONE,
+        prev: Link::NONE,
+        next: Link::NONE,
     };
 }
 
 /// Makes `to` what comes after `at` in the list, where `None` stands for the place before the first.
-fn set_after(
-    nodes: &mut Vec<Node>,
-    ends: &mut Vec<Ends>,
-    list: usize,
-    at: Option<usize>,
-    to: Option<usize>,
-)
+fn set_after(nodes: &mut Vec<Node>, ends: &mut Vec<Ends>, list: usize, at: Link, to: Link)
     requires node { IfSome at (λ i. i < length nodes.old.items) }
     requires list { list < length ends.old.items }
     ensures nodes { nodes.new.items ≡ with_next nodes.old.items at to }
     ensures ends { ends.new.items ≡ with_head ends.old.items list at to }
 {
-    match at {
+    match at.get() {
         None => ends[list].head = to,
         Some(i) => nodes[i].next = to,
     }
 }
 
 /// Makes `to` what comes before `at` in the list, where `None` stands for the place after the last.
-fn set_before(
-    nodes: &mut Vec<Node>,
-    ends: &mut Vec<Ends>,
-    list: usize,
-    at: Option<usize>,
-    to: Option<usize>,
-)
+fn set_before(nodes: &mut Vec<Node>, ends: &mut Vec<Ends>, list: usize, at: Link, to: Link)
     requires node { IfSome at (λ i. i < length nodes.old.items) }
     requires list { list < length ends.old.items }
     ensures nodes { nodes.new.items ≡ with_prev nodes.old.items at to }
     ensures ends { ends.new.items ≡ with_tail ends.old.items list at to }
 {
-    match at {
+    match at.get() {
         None => ends[list].tail = to,
         Some(i) => nodes[i].prev = to,
     }

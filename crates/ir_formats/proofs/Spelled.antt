@@ -5,12 +5,13 @@ use Rattle.std.specs.Str.{bytes_eq, chars}
 use Rattle.std.specs.List.{position_or_len, list_any, AllByRecursion, IsDistinct}
 use Rattle.std.proofs.lemmas.Bool.{cases_lt, eq-eqb, eqb-true}
 use Rattle.std.proofs.lemmas.Slice.Eq.{bytes_eq-Decides}
-use Rattle.std.proofs.lemmas.List.{map-append, length-append, length-map, append-nil, drop_all}
+use Rattle.std.proofs.lemmas.List.{map-append, length-append, length-map, append-nil, drop_all, get_or_past}
 use Rattle.ir_tokens.specs.declared.tokens.Token.{Token}
 use Rattle.std.specs.Global.{Global}
 use Rattle.ir_formats.specs.Words.{spellings, text_of, is_spelled, spelled_texts, name_number, known_with, kind_of, AlikeInNumber}
 use Rattle.ir_formats.proofs.Makes.{drop_item}
 use Rattle.ir_formats.specs.Rules.{texts, number_of, with_word, with_words}
+use Rattle.ir_formats.specs.Spelling.{NumbersWords}
 
 differ : (a b : ℕ) → a ≢ b → (a == b) ≡ false
 differ a b h = go (a == b) refl
@@ -135,10 +136,6 @@ pub numbered_all : (ws us : List (List ℕ)) (t : List ℕ) (n : ℕ) → IsNumb
 numbered_all ws [] t n h = h
 numbered_all ws (u ∷ us) t n h = numbered_all (with_word ws u) us t n (numbered_more ws t u n h)
 
--- a text that is among them is no new one
-pub known_already : (ws : List (List ℕ)) (t : List ℕ) → number_of ws t < length ws → ws ≡ with_word ws t
-known_already ws t lt = ap (λ (b : Bool). if b then ws ++ t ∷ [] else ws) (sym (differ (number_of ws t) (length ws) (λ e. omega arith)))
-
 apart : (a b : List ℕ) → bytes_eq b a ≡ false → bytes_eq a b ≡ false
 apart a b e = go (bytes_eq a b) refl
   where
@@ -206,28 +203,118 @@ one_text ws a b e lt_a lt_b = same a b (sym (number_at ws a lt_a) ∙ (ap (slice
     same a b e = cc
 
 -- tokens that are numbered by their texts have one number where they are spelled alike
-pub alike_by : (cs : List ℕ) (ts : List Token) (none : ℕ) (ns : List ℕ) → ns ≡ map (name_number (with_words [] (spelled_texts cs ts)) none cs) ts → AlikeInNumber cs ts ns
-alike_by cs ts none ns e i j s t at_i at_j spelled_s spelled_t =
-    let all = with_words [] (spelled_texts cs ts) in
+pub alike_by : (cs : List ℕ) (first : List (List ℕ)) (ts : List Token) (none : ℕ) (ns : List ℕ) → ns ≡ map (name_number (with_words first (spelled_texts cs ts)) none cs) ts → AlikeInNumber cs ts ns
+alike_by cs first ts none ns e i j s t at_i at_j spelled_s spelled_t =
+    let all = with_words first (spelled_texts cs ts) in
     let a = number_read cs ts all none ns e i s at_i spelled_s in
     let b = number_read cs ts all none ns e j t at_j spelled_t in (
-      λ same. one_text all (text_of cs s) (text_of cs t) (sym a ∙ (same ∙ b)) (among_all cs [] ts i s at_i spelled_s) (among_all cs [] ts j t at_j spelled_t),
+      λ same. one_text all (text_of cs s) (text_of cs t) (sym a ∙ (same ∙ b)) (among_all cs first ts i s at_i spelled_s) (among_all cs first ts j t at_j spelled_t),
       λ same. a ∙ (ap (number_of all) same ∙ sym b),
     )
 
--- ---- the words of texts
-
-pub length_numbers : (ws ks : List (List ℕ)) (ns : List ℕ) → ns ≡ map (number_of ws) ks → length ns ≡ length ks
-length_numbers ws ks ns e = ap length e ∙ length-map ks (number_of ws)
+-- ---- the numbers of words, by those of known texts
 
 read_text : (ws ks : List (List ℕ)) (i : ℕ) (t : List ℕ) (d : ℕ) → slice_get ks i ≡ Some t → get_or (map (number_of ws) ks) i d ≡ number_of ws t
 read_text ws [] i t d e = cc
 read_text ws (k ∷ ks) zero t d e = let same : k ≡ t = cc in ap (number_of ws) same
 read_text ws (k ∷ ks) (suc i) t d e = read_text ws ks i t d e
 
--- the word of a text that is known
-pub word_at : (ws ks : List (List ℕ)) (ns : List ℕ) (t : List ℕ) (name word : ℕ) → ns ≡ map (number_of ws) ks → name ≡ number_of ks t → number_of ks t < length ks → word ≡ get_or ns name word → word ≡ number_of ws t
-word_at ws ks ns t name word all is lt at = at ∙ (rw (all, is) (read_text ws ks (number_of ks t) t word (number_at ks t lt)))
+-- a text that isn't among others has no lower number among more of them
+later_number : (ws more : List (List ℕ)) (t : List ℕ) → length ws ≤ number_of ws t → length ws ≤ number_of (ws ++ more) t
+later_number [] more t le = omega arith
+later_number (w ∷ ws) more t le = go (bytes_eq t w) le (later_number ws more t)
+  where
+    go : (b : Bool) → suc (length ws) ≤ (if b then 0 else suc (number_of ws t)) → (length ws ≤ number_of ws t → length ws ≤ number_of (ws ++ more) t)
+        → suc (length ws) ≤ (if b then 0 else suc (number_of (ws ++ more) t))
+    go true le rest = absurd (omega arith)
+    go false le rest = let more_so = rest (omega arith) in omega arith
+
+numbers_append : (ws known : List (List ℕ)) (u : List ℕ) (found : List ℕ) → NumbersWords ws known found → NumbersWords ws (known ++ u ∷ []) found
+numbers_append ws known u found h = record {
+  first = omega (arith, length-append known (u ∷ []), h.first);
+  word = λ t. go t (cases_lt (number_of known t) (length known));
+}
+  where
+    go : (t : List ℕ) → (number_of known t < length known) ⊎ (length known ≤ number_of known t) → get_or found (number_of (known ++ u ∷ []) t) (length ws) ≡ number_of ws t
+    go t (inl less) = ap (λ n. get_or found n (length ws)) (keeps_number known (u ∷ []) t less) ∙ h.word t
+    go t (inr more) =
+        let later = later_number known (u ∷ []) t more in
+        get_or_past found (number_of (known ++ u ∷ []) t) (length ws) (omega (arith, h.first)) ∙ (sym (get_or_past found (number_of known t) (length ws) (omega (arith, h.first))) ∙ h.word t)
+
+numbers_by : (ws known : List (List ℕ)) (u : List ℕ) (found : List ℕ) (b : Bool) → NumbersWords ws known found → NumbersWords ws (if b then known ++ u ∷ [] else known) found
+numbers_by ws known u found true h = numbers_append ws known u found h
+numbers_by ws known u found false h = h
+
+-- texts that are put behind others change no numbers of words
+numbers_with : (ws known : List (List ℕ)) (u : List ℕ) (found : List ℕ) → NumbersWords ws known found → NumbersWords ws (with_word known u) found
+numbers_with ws known u found h = numbers_by ws known u found (number_of known u == length known) h
+
+numbers_if : (ws known : List (List ℕ)) (u : List ℕ) (found : List ℕ) (b : Bool) → NumbersWords ws known found → NumbersWords ws (if b then with_word known u else known) found
+numbers_if ws known u found true h = numbers_with ws known u found h
+numbers_if ws known u found false h = h
+
+-- nor does a token
+numbers_known : (ws known known' : List (List ℕ)) (cs : List ℕ) (t : Token) (found : List ℕ) → known' ≡ known_with known cs t → NumbersWords ws known found → NumbersWords ws known' found
+numbers_known ws known known' cs t found e h = rw e (numbers_if ws known (text_of cs t) found (is_spelled t.kind) h)
+
+-- After i words: the texts of these, with the numbers of the words that they are. A text that is none of these is no word before i.
+pub record Begun (words : List (Vec ℕ Global)) (i : ℕ) (known : List (List ℕ)) (found : List ℕ) : Type 0 where
+  pub words_found : found ≡ map (number_of (spellings words)) known
+  pub ahead : (text : List ℕ) → length known ≤ number_of known text → number_of (spellings words) text ≡ i + number_of (spellings (drop i words)) text
+
+-- all words are put in
+pub begun_all : (words : List (Vec ℕ Global)) (i : ℕ) (known : List (List ℕ)) (found : List ℕ) → length words ≤ i → Begun words i known found → NumbersWords (spellings words) known found
+begun_all words i known found le h = record {
+  first = omega (arith, many);
+  word = λ t. go t (cases_lt (number_of known t) (length known));
+}
+  where
+    ws : List (List ℕ)
+    ws = spellings words
+
+    many : length found ≡ length known
+    many = ap length h.words_found ∙ length-map known (number_of ws)
+
+    go : (t : List ℕ) → (number_of known t < length known) ⊎ (length known ≤ number_of known t) → get_or found (number_of known t) (length ws) ≡ number_of ws t
+    go t (inl less) = rw h.words_found (read_text ws known (number_of known t) t (length ws) (number_at known t less))
+    go t (inr more) =
+        let none = h.ahead t more in
+        let most = number_le ws t in
+        let count = length-map words (λ (w : Vec ℕ Global). w.items) in
+        get_or_past found (number_of known t) (length ws) (omega (arith, many)) ∙ omega (arith, none, most, count)
+
+module _ (words : List (Vec ℕ Global)) (i : ℕ) (w : Vec ℕ Global) (known : List (List ℕ)) (found : List ℕ) (lt : i < length words) (at : w ≡ get_or words i w) (h : Begun words i known found) where
+  this_word : (t : List ℕ) (b : Bool) → bytes_eq t w.items ≡ b → number_of (spellings (drop i words)) t ≡ (if b then 0 else suc (number_of (spellings (drop (i + 1) words)) t))
+  this_word t b e = ap (λ us. number_of (spellings us) t) (drop_item words i w lt at) ∙ ap (λ (c : Bool). if c then 0 else suc (number_of (spellings (drop (i + 1) words)) t)) e
+
+  ahead_more : (t : List ℕ) → length (with_word known w.items) ≤ number_of (with_word known w.items) t → number_of (spellings words) t ≡ (i + 1) + number_of (spellings (drop (i + 1) words)) t
+  ahead_more t le = go (cases_lt (number_of known t) (length known))
+    where
+      other : length known ≤ number_of known t → (b : Bool) → bytes_eq t w.items ≡ b → number_of (spellings words) t ≡ (i + 1) + number_of (spellings (drop (i + 1) words)) t
+      other more true e =
+          let here = numbered_with known w.items in
+          let same = ap (number_of (with_word known w.items)) (same_text t w.items e) in
+          absurd (omega (arith, le, here.is, here.among, same))
+      other more false e = omega (arith, h.ahead t more, this_word t false e)
+
+      go : (number_of known t < length known) ⊎ (length known ≤ number_of known t) → number_of (spellings words) t ≡ (i + 1) + number_of (spellings (drop (i + 1) words)) t
+      go (inl less) = let stays = numbered_more known t w.items (number_of known t) (record { is = refl; among = less }) in absurd (omega (arith, le, stays.is, stays.among))
+      go (inr more) = other more (bytes_eq t w.items) refl
+
+  found_by : (b : Bool) → (number_of known w.items == length known) ≡ b → (if b then found ++ i ∷ [] else found) ≡ map (number_of (spellings words)) (if b then known ++ w.items ∷ [] else known)
+  found_by true e =
+      let new : length known ≤ number_of known w.items = omega (arith, eqb-true (number_of known w.items) (length known) e) in
+      let is : number_of (spellings words) w.items ≡ i = omega (arith, h.ahead w.items new, this_word w.items true ((bytes_eq-Decides w.items w.items).1 refl)) in
+      rw (map-append (number_of (spellings words)) known (w.items ∷ []), is) (ap (λ ns. ns ++ i ∷ []) h.words_found)
+  found_by false e = h.words_found
+
+  -- one word more
+  pub begun_more : (text : List ℕ) (known' : List (List ℕ)) (found' : List ℕ) (is_new : Bool) → text ≡ w.items → is_new ≡ (number_of known text == length known) → known' ≡ with_word known text
+      → found' ≡ (if is_new then found ++ i ∷ [] else found) → Begun words (i + 1) known' found'
+  begun_more text known' found' is_new is new know find = rw (know, find, new, is) record {
+    words_found = found_by (number_of known w.items == length known) refl;
+    ahead = ahead_more;
+  }
 
 -- ---- steps of the loop over tokens
 
@@ -279,35 +366,36 @@ pub value_more : (f : Token → ℕ) (ts : List Token) (i : ℕ) (t : Token) (xs
 value_more f ts i t xs ys v lt at e is more =
     rw more (append_assoc xs (v ∷ []) (map f (drop (i + 1) ts)) ∙ (ap (λ (y : ℕ). xs ++ (y ∷ map f (drop (i + 1) ts))) is ∙ (ap (λ us. xs ++ map f us) (sym (drop_item ts i t lt at)) ∙ e)))
 
--- After i tokens: the texts that are known, with their words, and the kinds and the numbers of these tokens.
-pub record Numbering (words : List (List ℕ)) (cs : List ℕ) (ts : List Token) (i : ℕ) (known : List (List ℕ)) (found kinds names : List ℕ) : Type 0 where
-  pub texts_left : with_words known (spelled_texts cs (drop i ts)) ≡ with_words [] (spelled_texts cs ts)
-  pub words_found : found ≡ map (number_of words) known
+-- After i tokens: the texts that are known, where the first ones were known before any token, the numbers of the words that they
+-- are, and the kinds and the numbers of these tokens.
+pub record Numbering (words : List (List ℕ)) (cs : List ℕ) (ts : List Token) (first : List (List ℕ)) (i : ℕ) (known : List (List ℕ)) (found kinds names : List ℕ) : Type 0 where
+  pub texts_left : with_words known (spelled_texts cs (drop i ts)) ≡ with_words first (spelled_texts cs ts)
+  pub words_found : NumbersWords words known found
   pub kinds_left : kinds ++ map (kind_of words cs) (drop i ts) ≡ map (kind_of words cs) ts
-  pub names_left : names ++ map (name_number (with_words [] (spelled_texts cs ts)) (length ts) cs) (drop i ts) ≡ map (name_number (with_words [] (spelled_texts cs ts)) (length ts) cs) ts
+  pub names_left : names ++ map (name_number (with_words first (spelled_texts cs ts)) (length ts) cs) (drop i ts) ≡ map (name_number (with_words first (spelled_texts cs ts)) (length ts) cs) ts
 
-pub numbering_more : (words : List (List ℕ)) (cs : List ℕ) (ts : List Token) (i : ℕ) (t : Token) (known known' : List (List ℕ)) (found found' kinds kinds' names names' : List ℕ) (kind name : ℕ)
-    → i < length ts → t ≡ get_or ts i t → Numbering words cs ts i known found kinds names
-    → known' ≡ known_with known cs t → found' ≡ map (number_of words) known' → kind ≡ kind_of words cs t → name ≡ name_number known (length ts) cs t → kinds' ≡ kinds ++ kind ∷ [] → names' ≡ names ++ name ∷ []
-    → Numbering words cs ts (i + 1) known' found' kinds' names'
-numbering_more words cs ts i t known known' found found' kinds kinds' names names' kind name lt at h know find is_kind is_name more_kinds more_names =
-    let all = with_words [] (spelled_texts cs ts) in
+pub numbering_more : (words : List (List ℕ)) (cs : List ℕ) (ts : List Token) (first : List (List ℕ)) (i : ℕ) (t : Token) (known known' : List (List ℕ)) (found found' kinds kinds' names names' : List ℕ) (kind name : ℕ)
+    → i < length ts → t ≡ get_or ts i t → Numbering words cs ts first i known found kinds names
+    → known' ≡ known_with known cs t → found' ≡ found → kind ≡ kind_of words cs t → name ≡ name_number known (length ts) cs t → kinds' ≡ kinds ++ kind ∷ [] → names' ≡ names ++ name ∷ []
+    → Numbering words cs ts first (i + 1) known' found' kinds' names'
+numbering_more words cs ts first i t known known' found found' kinds kinds' names names' kind name lt at h know same is_kind is_name more_kinds more_names =
+    let all = with_words first (spelled_texts cs ts) in
     record {
       texts_left = known_more cs ts i t known known' all lt at h.texts_left know;
-      words_found = find;
+      words_found = rw same (numbers_known words known known' cs t found know h.words_found);
       kinds_left = value_more (kind_of words cs) ts i t kinds kinds' kind lt at h.kinds_left is_kind more_kinds;
       names_left = value_more (name_number all (length ts) cs) ts i t names names' name lt at h.names_left (is_name ∙ name_stays cs ts i t known all (length ts) lt at h.texts_left) more_names;
     }
 
 -- all tokens have their kinds and numbers
-pub numbering_done : (words : List (List ℕ)) (cs : List ℕ) (ts : List Token) (i : ℕ) (known : List (List ℕ)) (found kinds names : List ℕ) → length ts ≤ i → Numbering words cs ts i known found kinds names
+pub numbering_done : (words : List (List ℕ)) (cs : List ℕ) (ts : List Token) (first : List (List ℕ)) (i : ℕ) (known : List (List ℕ)) (found kinds names : List ℕ) → length ts ≤ i → Numbering words cs ts first i known found kinds names
     → (kinds ≡ map (kind_of words cs) ts) × AlikeInNumber cs ts names
-numbering_done words cs ts i known found kinds names le h =
-    let all = with_words [] (spelled_texts cs ts) in
+numbering_done words cs ts first i known found kinds names le h =
+    let all = with_words first (spelled_texts cs ts) in
     let left = drop_all i ts le in
     let kinds_done : kinds ++ [] ≡ map (kind_of words cs) ts = ap (λ (us : List Token). kinds ++ map (kind_of words cs) us) (sym left) ∙ h.kinds_left in
     let names_done : names ++ [] ≡ map (name_number all (length ts) cs) ts = ap (λ (us : List Token). names ++ map (name_number all (length ts) cs) us) (sym left) ∙ h.names_left in
-    (sym (append-nil kinds) ∙ kinds_done, alike_by cs ts (length ts) names (sym (append-nil names) ∙ names_done))
+    (sym (append-nil kinds) ∙ kinds_done, alike_by cs first ts (length ts) names (sym (append-nil names) ∙ names_done))
 
 -- within a list what is read doesn't hang on the default
 pub any_default : {A : Type 0} (xs : List A) (i : ℕ) (a b : A) → i < length xs → get_or xs i a ≡ get_or xs i b

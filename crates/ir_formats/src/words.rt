@@ -1,8 +1,8 @@
 //! The kind of each token, and which tokens are spelled alike.
-ghost use Rattle.std.specs.Prelude.{◌≡◌, ◌<◌, OnOk, IfOk, IfSome, length, map, ◌==◌};
+ghost use Rattle.std.specs.Prelude.{◌≡◌, ◌<◌, OnOk, IfOk, IfSome, length, map, ◌==◌, slice_index_or};
 ghost use Rattle.std.specs.Str.{chars};
 ghost use Rattle.ir_formats.specs.Rules.{texts, number_of, with_word};
-ghost use Rattle.ir_formats.specs.Spelling.{known_texts};
+ghost use Rattle.ir_formats.specs.Spelling.{known_texts, NumbersWords};
 ghost use Rattle.ir_formats.specs.Words.{spellings, text_of, is_width, are_digits, shape_kind, is_spelled, word_kind, kind_of, known_with, name_number, AlikeInNumber};
 
 use crate::rules::{SHAPES, Shape};
@@ -104,18 +104,6 @@ fn is_spelled(kind: TokenKind) -> bool
     }
 }
 
-/// The place of a word among words, or their number where it is none of them.
-fn word_number(words: &[Vec<char>], text: &[char]) -> usize
-    ensures { result ≡ number_of (spellings words.now) text.now }
-{
-    for index in 0..words.len() {
-        if text == words[index].as_slice() {
-            return index;
-        }
-    }
-    words.len()
-}
-
 /// The kind of a token that may be the word of this number, of so many. Words past the last kind have none of their own.
 fn word_kind(number: usize, words: usize, shape: u32) -> u32
     ensures { result ≡ word_kind number words shape }
@@ -174,35 +162,43 @@ fn guessed(
     if text == found { Some(guess) } else { None }
 }
 
-/// Texts, each with a number, and the number of the word that each is.
+/// Texts, each with a number. Those of the grammar's words come first.
 #[derive(Drop)]
 struct Spellings<'a> {
     known: IndexSet<&'a [char]>,
+    /// For each of the first known texts the number of the word that it is. Texts behind these are no words.
     words: Vec<usize>,
     /// The number that was looked up last at each place of guesses.
     guesses: Vec<usize>,
 }
 
 impl<'a> Spellings<'a> {
-    /// The number of a text, which is a new one if it hasn't come before, and the number of the word that it is.
-    fn look_up(
-        &mut self,
-        words: &[Vec<char>],
-        text: &'a [char],
-    ) -> Result<(usize, usize), AllocError>
-        requires { self.old.words.items ≡ map (number_of (spellings words.now)) (known_texts self.old) }
-        ensures known { OnOk result (known_texts self.new ≡ with_word (known_texts self.old) text.now) }
-        ensures words { OnOk result (self.new.words.items ≡ map (number_of (spellings words.now)) (known_texts self.new)) }
-        ensures name { IfOk result (λ r. r.0 ≡ number_of (known_texts self.old) text.now) }
-        ensures word { IfOk result (λ r. r.1 ≡ number_of (spellings words.now) text.now) }
+    /// The words of a grammar, with room for the names of so many tokens.
+    fn new(alloc: Global, words: &'a [Vec<char>], tokens: usize) -> Result<Self, AllocError>
+        ensures { IfOk result (λ s. NumbersWords (spellings words.now) (known_texts s) s.words.items) }
     {
-        let (name, is_new) = name_of(&mut self.known, text)?;
-        if is_new {
-            let word = word_number(words, text);
-            self.words.push(word)?;
-            return Ok((name, word));
+        // Most texts have more than eight tokens for each name.
+        let mut known = IndexSet::with_capacity(alloc, words.len() + tokens / 8)?;
+        let mut numbers = Vec::with_capacity(alloc, words.len())?;
+        for (number, word) in words.iter().enumerate() {
+            let (_, is_new) = name_of(&mut known, word.as_slice())?;
+            if is_new {
+                numbers.push(number)?;
+            }
         }
-        Ok((name, self.words[name]))
+        let guesses = vec![in alloc; 0usize; GUESSES]?;
+        Ok(Spellings {
+            known,
+            words: numbers,
+            guesses,
+        })
+    }
+
+    /// The number of the word that the text of this number is, or how many words there are where it is none.
+    fn word(&self, name: usize, words: usize) -> usize
+        ensures { result ≡ slice_index_or self.now.words.items name words }
+    {
+        self.words.get(name).copied().unwrap_or(words)
     }
 
     /// Guesses the number at the place from now on.
@@ -215,25 +211,19 @@ impl<'a> Spellings<'a> {
         }
     }
 
-    /// The number of a text and that of its word, as `look_up` gives them. Most texts that come often are guessed.
-    fn number(
-        &mut self,
-        words: &[Vec<char>],
-        text: &'a [char],
-    ) -> Result<(usize, usize), AllocError>
-        requires { self.old.words.items ≡ map (number_of (spellings words.now)) (known_texts self.old) }
+    /// The number of a text, which is a new one if it hasn't come before. Most texts that come often are guessed.
+    fn number(&mut self, text: &'a [char]) -> Result<usize, AllocError>
         ensures known { OnOk result (known_texts self.new ≡ with_word (known_texts self.old) text.now) }
-        ensures words { OnOk result (self.new.words.items ≡ map (number_of (spellings words.now)) (known_texts self.new)) }
-        ensures name { IfOk result (λ r. r.0 ≡ number_of (known_texts self.old) text.now) }
-        ensures word { IfOk result (λ r. r.1 ≡ number_of (spellings words.now) text.now) }
+        ensures words { self.new.words ≡ self.old.words }
+        ensures name { IfOk result (λ name. name ≡ number_of (known_texts self.old) text.now) }
     {
         let place = guess_place(text);
         if let Some(name) = guessed(&self.known, &self.guesses, place, text) {
-            return Ok((name, self.words[name]));
+            return Ok(name);
         }
-        let (name, word) = self.look_up(words, text)?;
+        let (name, _) = name_of(&mut self.known, text)?;
         self.note(place, name);
-        Ok((name, word))
+        Ok(name)
     }
 
     /// The kind of a token and the number of its text, which is `none` for one that is no word and no name.
@@ -244,9 +234,9 @@ impl<'a> Spellings<'a> {
         token: Token,
         none: usize,
     ) -> Result<(u32, usize), AllocError>
-        requires { self.old.words.items ≡ map (number_of (spellings words.now)) (known_texts self.old) }
+        requires { NumbersWords (spellings words.now) (known_texts self.old) self.old.words.items }
         ensures known { OnOk result (known_texts self.new ≡ known_with (known_texts self.old) chars.now token) }
-        ensures words { OnOk result (self.new.words.items ≡ map (number_of (spellings words.now)) (known_texts self.new)) }
+        ensures words { self.new.words ≡ self.old.words }
         ensures kind { IfOk result (λ r. r.0 ≡ kind_of (spellings words.now) chars.now token) }
         ensures name { IfOk result (λ r. r.1 ≡ name_number (known_texts self.old) none chars.now token) }
     {
@@ -255,7 +245,8 @@ impl<'a> Spellings<'a> {
         if !is_spelled(token.kind) {
             return Ok((shape, none));
         }
-        let (name, word) = self.number(words, text)?;
+        let name = self.number(text)?;
+        let word = self.word(name, words.len());
         Ok((word_kind(word, words.len(), shape), name))
     }
 }
@@ -271,12 +262,7 @@ pub fn classify(
     ensures names { IfOk result (λ c. AlikeInNumber chars.now tokens.now c.names.items) }
     ensures many { IfOk result (λ c. length c.names.items ≡ length tokens.now) }
 {
-    // Most texts have more than eight tokens for each name.
-    let mut spellings = Spellings {
-        known: IndexSet::with_capacity(alloc, tokens.len() / 8)?,
-        words: Vec::new(alloc),
-        guesses: vec![in alloc; 0usize; GUESSES]?,
-    };
+    let mut spellings = Spellings::new(alloc, words, tokens.len())?;
     let mut kinds = Vec::with_capacity(alloc, tokens.len())?;
     let mut names = Vec::with_capacity(alloc, tokens.len())?;
     for token in tokens {

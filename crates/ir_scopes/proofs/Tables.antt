@@ -1,5 +1,5 @@
 -- Tables of names, one site after the other.
-use Rattle.std.proofs.Common.{◌≡◌, ℕ, suc, zero, ◌<◌, Bool, true, false, cond, List, [], ◌∷◌, ◌++◌, length, Option, Some, None, MatchOption, slice_get, refl, sym, subst, ap, ◌∙◌, arith, ◌⊎◌, inl, inr}
+use Rattle.std.proofs.Common.{◌≡◌, ℕ, suc, zero, ◌<◌, Bool, true, false, cond, List, [], ◌∷◌, ◌++◌, length, Option, Some, None, MatchOption, is_some, slice_get, refl, sym, subst, ap, ◌∙◌, arith, ◌⊎◌, inl, inr}
 use Rattle.std.proofs.lemmas.Option.{slice_get_within}
 use Rattle.std.proofs.lemmas.Bool.Decides.{nat_tests}
 use Rattle.std.specs.HashMap as hash
@@ -77,21 +77,7 @@ module _ (names : List ℕ) (ss : List Site) (x : Site) where
       go i j s lt e (inr a) (inr b) = absurd (omega arith)
 
   module _ {S : Type 0} (m : HashMap (ℕ × ℕ) ℕ S) (k : ℕ × ℕ) (scope_is : k.0 ≡ x.scope) (name_is : k.1 ≡ name_of names x.token) where
-    -- where the table has the name already
-    pub table_same : (i : ℕ) → hash.get same_key m k ≡ Some i → IsTable names ss m → IsTable names (ss ++ x ∷ []) m
-    table_same i has t scope name = go (hash.get same_key m (scope, name)) refl (t scope name)
-      where
-        go : (o : Option ℕ) → hash.get same_key m (scope, name) ≡ o → MatchOption o ((j : ℕ) → Names names ss scope name j → ⊥) (Names names ss scope name)
-            → MatchOption o ((j : ℕ) → Names names (ss ++ x ∷ []) scope name j → ⊥) (Names names (ss ++ x ∷ []) scope name)
-        go (Some j) e h = names_more scope name j h
-        go None e none = λ j h. elim (names_cases scope name j h) [
-          | inl y ↦ none j y
-          | inr y ↦ (let a : k.0 ≡ scope = scope_is ∙ y.1.0 in let b : k.1 ≡ name = name_is ∙ y.1.1 in
-              let same : hash.get same_key m k ≡ hash.get same_key m (scope, name) = ap (λ n. hash.get same_key m (n, k.1)) a ∙ ap (λ n. hash.get same_key m (scope, n)) b in
-              let wrong : Some i ≡ None = sym has ∙ (same ∙ e) in cc)
-        ]
-
-    -- where it is put in
+    -- the table that it is put in, whatever was there before
     pub table_new : (n : HashMap (ℕ × ℕ) ℕ S) (i : ℕ) → length ss ≡ i → hash.Updates same_key m n k (Some i) → IsTable names ss m → IsTable names (ss ++ x ∷ []) n
     table_new n i len u t scope name = go (same_key k (scope, name)) refl (hash.get same_key m (scope, name)) (hash.get same_key n (scope, name)) (u.0 (scope, name)) (t scope name)
       where
@@ -111,22 +97,34 @@ module _ (names : List ℕ) (ss : List Site) (x : Site) where
               | inr z ↦ (let yes' : same_key k (scope, name) ≡ true = same_key_same k.0 k.1 scope name (scope_is ∙ z.1.0) (name_is ∙ z.1.1) in let wrong : true ≡ false = sym yes' ∙ e in cc)
             ])
 
+    -- what a table says of the name at the site
     abbrev TableSays : Option ℕ → Type 0
     TableSays o = MatchOption o ((j : ℕ) → Names names ss x.scope (name_of names x.token) j → ⊥) (Names names ss x.scope (name_of names x.token))
 
-    says : (o : Option ℕ) → hash.get same_key m k ≡ o → IsTable names ss m → TableSays o
-    says o e t =
-        let same : hash.get same_key m (x.scope, name_of names x.token) ≡ o
-        = ap (λ n. hash.get same_key m (n, name_of names x.token)) (sym scope_is) ∙ (ap (λ n. hash.get same_key m (k.0, n)) (sym name_is) ∙ e) in
+    says : IsTable names ss m → TableSays (hash.get same_key m k)
+    says t =
+        let same : hash.get same_key m (x.scope, name_of names x.token) ≡ hash.get same_key m k
+        = ap (λ n. hash.get same_key m (n, name_of names x.token)) (sym scope_is) ∙ ap (λ n. hash.get same_key m (k.0, n)) (sym name_is) in
         subst TableSays same (t x.scope (name_of names x.token))
 
-    pub again_found : (i : ℕ) → hash.get same_key m k ≡ Some i → IsTable names ss m → (a r : Option Fault) → IsFirstOf a (Some (fault_again x.token)) r
-        → IsNamed (IsAgain names ss) a → IsNamed (IsAgain names (ss ++ x ∷ [])) r
-    again_found i has t a r first h =
-        first_more (IsAgain names ss) (IsAgain names (ss ++ x ∷ [])) (fault_again x.token) a r
-        (λ f y. elim (again_cases f y) [ inl z ↦ inl z | inr z ↦ inr z.2 ]) again_more (again_here i (says (Some i) has t)) h first
+    some_there : (o : Option ℕ) → is_some o ≡ true → TableSays o → (i : ℕ) × Names names ss x.scope (name_of names x.token) i
+    some_there (Some i) is h = (i, h)
+    some_there None is h = cc
 
-    pub again_none : hash.get same_key m k ≡ None → IsTable names ss m → (a : Option Fault) → IsNamed (IsAgain names ss) a → IsNamed (IsAgain names (ss ++ x ∷ [])) a
-    again_none none t a h =
+    none_there : (o : Option ℕ) → is_some o ≡ false → TableSays o → (i : ℕ) → Names names ss x.scope (name_of names x.token) i → ⊥
+    none_there (Some i) is h = cc
+    none_there None is h = h
+
+    -- where the table has the name already
+    pub again_found : is_some (hash.get same_key m k) ≡ true → IsTable names ss m → (a r : Option Fault) → IsFirstOf a (Some (fault_again x.token)) r
+        → IsNamed (IsAgain names ss) a → IsNamed (IsAgain names (ss ++ x ∷ [])) r
+    again_found is t a r first h =
+        let has = some_there (hash.get same_key m k) is (says t) in
+        first_more (IsAgain names ss) (IsAgain names (ss ++ x ∷ [])) (fault_again x.token) a r
+        (λ f y. elim (again_cases f y) [ inl z ↦ inl z | inr z ↦ inr z.2 ]) again_more (again_here has.0 has.1) h first
+
+    -- where it doesn't have it
+    pub again_none : is_some (hash.get same_key m k) ≡ false → IsTable names ss m → (a : Option Fault) → IsNamed (IsAgain names ss) a → IsNamed (IsAgain names (ss ++ x ∷ [])) a
+    again_none is t a h =
         named_along (IsAgain names ss) (IsAgain names (ss ++ x ∷ [])) a again_more
-        (λ f y. elim (again_cases f y) [ inl z ↦ z | inr z ↦ absurd (says None none t z.0 z.1) ]) h
+        (λ f y. elim (again_cases f y) [ inl z ↦ z | inr z ↦ absurd (none_there (hash.get same_key m k) is (says t) z.0 z.1) ]) h

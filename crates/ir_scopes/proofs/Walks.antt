@@ -1,10 +1,9 @@
 -- Steps of a walk over events.
-use Rattle.std.proofs.Common.{◌≡◌, ℕ, ◌+◌, ◌<◌, ◌≤◌, Bool, true, false, cond, List, [], ◌++◌, drop, length, get_or, sym, ap, ◌∙◌, arith, append_assoc}
+use Rattle.std.proofs.Common.{◌≡◌, ℕ, ◌+◌, ◌<◌, ◌≤◌, Bool, List, ◌++◌, drop, length, get_or, sym, ap, ◌∙◌, arith, append_assoc}
 use Rattle.std.proofs.lemmas.List.{drop_more, drop_all, append-nil}
 use Rattle.ir_grammar.specs.declared.grammar.Event.{Event}
 use Rattle.ir_grammar.specs.declared.grammar.Event.TheVariants.{Took, Did}
-use Rattle.ir_scopes.specs.declared.sites.Closing.{Closing}
-use Rattle.ir_scopes.specs.Scopes.{Place, behind, each, closed, ended, may_end, last_token}
+use Rattle.ir_scopes.specs.Scopes.{Place, behind, each}
 
 module _ {A : Type 0} (isolated : ℕ → Bool) (f : Place → Event → List A) where
   pub each_step : (at after : Place) (es : List Event) (i : ℕ) (d : Event) (xs ys all : List A) → i < length es → after ≡ behind isolated at (get_or es i d) → ys ≡ xs ++ f at (get_or es i d)
@@ -25,12 +24,3 @@ events_behind isolated at after (Did a) gone = ap (λ p. p.events) gone
 pub tokens_behind : (isolated : ℕ → Bool) (at after : Place) (e : Event) → after ≡ behind isolated at e → after.tokens ≤ at.tokens + 1
 tokens_behind isolated at after Took gone = let e = ap (λ p. p.tokens) gone in omega arith
 tokens_behind isolated at after (Did a) gone = let e : after.tokens ≡ at.tokens = ap (λ p. p.tokens) gone in omega arith
-
-module _ (isolated : ℕ → Bool) (at after : Place) (e : Event) (met : ℕ) (xs ys : List Closing) where
-  pub closed_yes : after ≡ behind isolated at e → met ≡ last_token at → true ≡ may_end e → ys ≡ xs ++ ended met at.here after.here → ys ≡ xs ++ closed isolated at e
-  closed_yes gone last does added = added ∙ ap (λ x. xs ++ x)
-      (ap (λ m. ended m at.here after.here) last ∙ (ap (λ p. ended (last_token at) at.here p.here) gone
-      ∙ ap (λ b. cond b (ended (last_token at) at.here (behind isolated at e).here) []) does))
-
-  pub closed_no : false ≡ may_end e → ys ≡ xs → ys ≡ xs ++ closed isolated at e
-  closed_no not same = same ∙ (sym (append-nil xs) ∙ ap (λ b. xs ++ cond b (ended (last_token at) at.here (behind isolated at e).here) []) not)

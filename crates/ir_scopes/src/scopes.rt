@@ -60,7 +60,7 @@ type Numbers = HashMap<(usize, usize), usize>;
 /// The names at some sites.
 #[derive(Drop)]
 struct Table {
-    /// The number of the first site of each name in each scope.
+    /// The number of the last site of each name in each scope.
     numbers: Numbers,
     /// That a site has the name of an earlier one.
     again: Option<Fault>,
@@ -119,12 +119,8 @@ fn table_of(alloc: Global, names: &[usize], sites: &[Site]) -> Result<Table, All
     let mut numbers: Numbers = HashMap::with_capacity(alloc, sites.len())?;
     let mut again = None;
     for (number, site) in sites.iter().enumerate() {
-        let key = key_of(names, *site);
-        match number_of(&numbers, key) {
-            Some(_) => again = first_of(again, Some(fault_again(site.token))),
-            None => {
-                numbers.insert(key, number)?;
-            }
+        if numbers.insert(key_of(names, *site), number)?.is_some() {
+            again = first_of(again, Some(fault_again(site.token)));
         }
     }
     Ok(Table { numbers, again })

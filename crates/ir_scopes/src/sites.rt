@@ -3,7 +3,8 @@
 //! A region of an operation that is isolated from above opens a scope of values, each region one of labels. A scope
 //! is given by a number: that of the events before it.
 ghost use Rattle.std.specs.Prelude.{◌≡◌, [], ◌∷◌, ◌++◌, ◌+◌, ◌<◌, ◌≤◌, ◌^◌, OnOk, IfOk, reverse};
-ghost use Rattle.ir_scopes.specs.Scopes.{is_marked, beginning, outside, last_token, behind, here_after, around_after, here_behind_operation, here_behind_region, rest, region_frame, place_of, defined, labelled, mentioned, ended, may_end, AreSites};
+ghost use Rattle.ir_scopes.specs.Scopes.{is_marked, beginning, outside, last_token, behind, here_after, around_after, here_behind_operation, here_behind_region, rest, operation_frame, region_frame, place_of, defined, labelled, mentioned, ended, closed, AreSites};
+ghost use Rattle.ir_grammar.specs.declared.grammar.Event.TheVariants.{Did};
 
 use ir_grammar::grammar::{Action, Event};
 use std::alloc::{AllocError, Global};
@@ -103,6 +104,16 @@ impl Walker {
         self.tokens.saturating_sub(1)
     }
 
+    /// An operation that begins here.
+    fn operation(&self, isolated: bool) -> Frame
+        ensures { result ≡ operation_frame isolated self.now.here }
+    {
+        Frame {
+            isolated,
+            ..self.here
+        }
+    }
+
     /// A region that begins here.
     fn region(&self) -> Frame
         requires { self.now.events < 2 ^ 63 }
@@ -162,46 +173,6 @@ impl Walker {
         }
     }
 
-    fn act(&mut self, action: Action, isolated: &[bool]) -> Result<(), AllocError>
-        requires { self.old.events < 2 ^ 63 }
-        ensures here { OnOk result (self.new.here ≡ here_after (is_marked isolated.now) (place_of self.old) action) }
-        ensures around { OnOk result (reverse self.new.around.items ≡ around_after (place_of self.old) action) }
-        ensures counts { (self.new.events ≡ self.old.events) × (self.new.tokens ≡ self.old.tokens) }
-    {
-        match action {
-            Action::Operation(number) => {
-                self.enter(Frame {
-                    isolated: is_isolated(isolated, number),
-                    ..self.here
-                })
-            }
-            Action::EndOperation => {
-                self.leave_operation();
-                Ok(())
-            }
-            Action::BeginRegion => self.enter(self.region()),
-            Action::EndRegion => {
-                self.leave_region();
-                Ok(())
-            }
-            _ => Ok(()),
-        }
-    }
-
-    /// Goes behind an event.
-    fn pass(&mut self, event: Event, isolated: &[bool]) -> Result<(), AllocError>
-        requires events { self.old.events < 2 ^ 63 }
-        requires tokens { self.old.tokens < 2 ^ 63 }
-        ensures { OnOk result (place_of self.new ≡ behind (is_marked isolated.now) (place_of self.old) event) }
-    {
-        match event {
-            Event::Took => self.tokens += 1,
-            Event::Did(action) => self.act(action, isolated)?,
-        }
-        self.events += 1;
-        Ok(())
-    }
-
     /// A name of the scope that stands at the last token.
     fn site(&self, scope: usize) -> Site
         ensures { result ≡ record { scope = scope; token = last_token (place_of self.now) } }
@@ -228,23 +199,6 @@ impl Sites {
         }
     }
 
-    /// Adds the names that the event makes at the place to which the walk has come.
-    fn add(&mut self, at: &Walker, event: Event) -> Result<(), AllocError>
-        ensures definitions { OnOk result (self.new.definitions.items ≡ self.old.definitions.items ++ defined (place_of at.now) event) }
-        ensures labels { OnOk result (self.new.labels.items ≡ self.old.labels.items ++ labelled (place_of at.now) event) }
-        ensures mentions { OnOk result (self.new.mentions.items ≡ self.old.mentions.items ++ mentioned (place_of at.now) event) }
-        ensures closings { OnOk result (self.new.closings.items ≡ self.old.closings.items) }
-    {
-        match event {
-            Event::Did(Action::Result) => self.definitions.push(at.site(at.here.values))?,
-            Event::Did(Action::Argument) => self.definitions.push(at.site(at.here.values))?,
-            Event::Did(Action::Label) => self.labels.push(at.site(at.here.labels))?,
-            Event::Did(Action::Operand) => self.mentions.push(at.site(at.here.values))?,
-            _ => {}
-        }
-        Ok(())
-    }
-
     /// Adds the scope of values that ends at a token between one frame and the next, if one does.
     fn add_end(&mut self, met: usize, before: Frame, after: Frame) -> Result<(), AllocError>
         ensures closings { OnOk result (self.new.closings.items ≡ self.old.closings.items ++ ended met before after) }
@@ -261,16 +215,56 @@ impl Sites {
         }
         Ok(())
     }
-}
 
-/// Whether the event may end a scope of values.
-fn may_end(event: Event) -> bool
-    ensures { result ≡ may_end event }
-{
-    match event {
-        Event::Did(Action::EndOperation) => true,
-        Event::Did(Action::EndRegion) => true,
-        _ => false,
+    /// Adds the names and the end that the action makes at the place to which the walk has come, and opens or leaves
+    /// what the action does. One `match` does all of it, since most actions do nothing here.
+    fn act(&mut self, at: &mut Walker, action: Action, isolated: &[bool]) -> Result<(), AllocError>
+        requires { at.old.events < 2 ^ 63 }
+        ensures here { OnOk result (at.new.here ≡ here_after (is_marked isolated.now) (place_of at.old) action) }
+        ensures around { OnOk result (reverse at.new.around.items ≡ around_after (place_of at.old) action) }
+        ensures counts { OnOk result ((at.new.events ≡ at.old.events) × (at.new.tokens ≡ at.old.tokens)) }
+        ensures definitions { OnOk result (self.new.definitions.items ≡ self.old.definitions.items ++ defined (place_of at.old) (Did action)) }
+        ensures labels { OnOk result (self.new.labels.items ≡ self.old.labels.items ++ labelled (place_of at.old) (Did action)) }
+        ensures mentions { OnOk result (self.new.mentions.items ≡ self.old.mentions.items ++ mentioned (place_of at.old) (Did action)) }
+        ensures closings { OnOk result (self.new.closings.items ≡ self.old.closings.items ++ closed (is_marked isolated.now) (place_of at.old) (Did action)) }
+    {
+        match action {
+            Action::Result | Action::Argument => self.definitions.push(at.site(at.here.values))?,
+            Action::Label => self.labels.push(at.site(at.here.labels))?,
+            Action::Operand => self.mentions.push(at.site(at.here.values))?,
+            Action::Operation(number) => at.enter(at.operation(is_isolated(isolated, number)))?,
+            Action::BeginRegion => at.enter(at.region())?,
+            Action::EndOperation => {
+                let inner = at.here;
+                at.leave_operation();
+                self.add_end(at.last(), inner, at.here)?;
+            }
+            Action::EndRegion => {
+                let inner = at.here;
+                at.leave_region();
+                self.add_end(at.last(), inner, at.here)?;
+            }
+            _ => {}
+        }
+        Ok(())
+    }
+
+    /// Adds what the event makes at the place to which the walk has come, and goes behind it.
+    fn follow(&mut self, at: &mut Walker, event: Event, isolated: &[bool]) -> Result<(), AllocError>
+        requires events { at.old.events < 2 ^ 63 }
+        requires tokens { at.old.tokens < 2 ^ 63 }
+        ensures walk { OnOk result (place_of at.new ≡ behind (is_marked isolated.now) (place_of at.old) event) }
+        ensures definitions { OnOk result (self.new.definitions.items ≡ self.old.definitions.items ++ defined (place_of at.old) event) }
+        ensures labels { OnOk result (self.new.labels.items ≡ self.old.labels.items ++ labelled (place_of at.old) event) }
+        ensures mentions { OnOk result (self.new.mentions.items ≡ self.old.mentions.items ++ mentioned (place_of at.old) event) }
+        ensures closings { OnOk result (self.new.closings.items ≡ self.old.closings.items ++ closed (is_marked isolated.now) (place_of at.old) event) }
+    {
+        match event {
+            Event::Took => at.tokens += 1,
+            Event::Did(action) => self.act(at, action, isolated)?,
+        }
+        at.events += 1;
+        Ok(())
     }
 }
 
@@ -283,13 +277,7 @@ pub fn sites_of(alloc: Global, events: &[Event], isolated: &[bool]) -> Result<Si
     let mut walker = Walker::new(alloc);
     let mut sites = Sites::new(alloc);
     for event in events {
-        sites.add(&walker, *event)?;
-        let met = walker.last();
-        let before = walker.here;
-        walker.pass(*event, isolated)?;
-        if may_end(*event) {
-            sites.add_end(met, before, walker.here)?;
-        }
+        sites.follow(&mut walker, *event, isolated)?;
     }
     Ok(sites)
 }

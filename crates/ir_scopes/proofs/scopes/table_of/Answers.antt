@@ -1,11 +1,11 @@
-use Rattle.std.proofs.Common.{◌≡◌, ◌+◌, Some, ◌∷◌, [], ◌++◌, take, get_or, sym, subst, ◌∙◌, arith}
+use Rattle.std.proofs.Common.{◌≡◌, ◌+◌, Some, ◌∷◌, [], ◌++◌, is_some, take, get_or, sym, subst, ap, ◌∙◌, arith}
 use Rattle.std.proofs.lemmas.List.{take_more, take_all, length-take-le}
 use Rattle.ir_scopes.specs.declared.sites.Site.{Site}
 use Rattle.ir_tokens.specs.Faults.{IsFirstOf, IsNamed}
 use Rattle.ir_scopes.specs.Scopes.{IsAgain, IsTable}
-use Rattle.ir_scopes.proofs.Tables.{table_empty, again_empty, table_same, table_new, again_found, again_none}
+use Rattle.ir_scopes.proofs.Tables.{table_empty, again_empty, table_new, again_found, again_none}
 use Rattle.ir_scopes.proofs.scopes.table_of.Goals as goal
-use Rattle.ir_scopes.proofs.scopes.table_of.Goals.{in-Some, in-None+in_ok-insert-in-None}
+use Rattle.ir_scopes.proofs.scopes.table_of.Goals.{then-is_some, else-is_some}
 
 pub loop-number-init : goal.loop-number-init
 loop-number-init c = record { numbers = table_empty c.args.names.now c.in_ok-numbers.numbers c.in_ok-numbers.ensures.empty; again = again_empty c.args.names.now }
@@ -18,27 +18,25 @@ loop-number-preserved c =
     let ss = take i sites in
     let x : Site = get_or sites i (record { scope = 0; token = 0 }) in
     let more : take (i + 1) sites ≡ ss ++ x ∷ [] = take_more sites i _ c.loop-number-test.true in
-    let k = c.key_of-key.result in
-    let scope_is = c.key_of-key.ensures.scope in
-    let name_is = c.key_of-key.ensures.name in
+    let k = c.key_of.result in
+    let scope_is = c.key_of.ensures.scope in
+    let name_is = c.key_of.ensures.name in
     let m = c.loop-number.numbers in
     let now = c.loop-number.invariant in
-    elim c.match-number_of.branch [
-      | in-Some w ↦ (
-          let has = sym c.number_of.ensures ∙ w.in-Some.is in
+    let table = table_new names ss x m k scope_is name_is c.insert.new.self i (length-take-le i sites (omega arith)) c.in_ok-insert.ensures.updates now.numbers in
+    let had = ap (λ o. is_some o) (sym c.in_ok-insert.ensures.old) ∙ sym c.is_some.ensures in
+    elim c.if-is_some.branch [
+      | then-is_some w ↦ (
           let first = subst (λ f. IsFirstOf c.loop-number.again (Some f) w.first_of-again.result) w.fault_again.ensures w.first_of-again.ensures in
           record {
-            numbers = rw (more, w.numbers-is) (table_same names ss x m k scope_is name_is _ has now.numbers);
-            again = rw (more, w.again-is) (again_found names ss x m k scope_is name_is _ has now.numbers c.loop-number.again w.first_of-again.result first now.again);
+            numbers = rw more table;
+            again = rw (more, w.again-is) (again_found names ss x m k scope_is name_is (had ∙ w.if-is_some.true) now.numbers c.loop-number.again w.first_of-again.result first now.again);
           }
           )
-      | in-None+in_ok-insert-in-None w ↦ (
-          let none = sym c.number_of.ensures ∙ w.in-None.is in
-          record {
-            numbers = rw (more, w.numbers-is) (table_new names ss x m k scope_is name_is w.insert.new.self i (length-take-le i sites (omega arith)) w.in_ok-insert-in-None.ensures.updates now.numbers);
-            again = rw (more, w.again-is) (again_none names ss x m k scope_is name_is none now.numbers c.loop-number.again now.again);
-          }
-          )
+      | else-is_some w ↦ record {
+        numbers = rw more table;
+        again = rw (more, w.again-is) (again_none names ss x m k scope_is name_is (had ∙ w.if-is_some.false) now.numbers c.loop-number.again now.again);
+      }
     ]
 
 pub returns : goal.returns
