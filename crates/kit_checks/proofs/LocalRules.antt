@@ -17,6 +17,7 @@ use Rattle.kit_checks.specs.declared.rule.Rule.TheVariants as rule
 use Rattle.kit_checks.specs.Faults.{Keeps}
 use Rattle.kit_checks.specs.Located.{IsSiteOf}
 use Rattle.kit_checks.specs.Naming.{AreInWalkOrder, IsOrderFor}
+use Rattle.kit_checks.specs.declared.walk_order.WalkOrder.{WalkOrder}
 use Rattle.kit_checks.specs.Searching.{IsTested, KeepsLocalRules, KeptAt, Tells, TellsAll, TellsAllAt}
 use Rattle.kit_checks.specs.Sites.{Site}
 use Rattle.kit_checks.specs.World.{World}
@@ -64,22 +65,22 @@ rule_listed rule.AttributesAreKnown tested = (10, omega arith, refl)
 rule_listed rule.FitsFormat tested = (11, omega arith, refl)
 
 -- an order of operations that serves for operands serves for each rule
-pub order_for_each : {O B : Type 0} (c : Program O B) (root : Ptr Operation) (ops : List (Ptr Operation))
-    → AreInWalkOrder c root ops → (r : Rule) → IsOrderFor c r root ops
-order_for_each c root ops order rule.RootIsModule = tt
-order_for_each c root ops order rule.ModuleHolds = tt
-order_for_each c root ops order rule.FunctionHasType = tt
-order_for_each c root ops order rule.FunctionHolds = tt
-order_for_each c root ops order rule.ValuesAreIntegers = tt
-order_for_each c root ops order rule.BlocksEnd = tt
-order_for_each c root ops order rule.OperandsAreVisible = order
-order_for_each c root ops order rule.TypesAgree = tt
-order_for_each c root ops order rule.EdgesFit = tt
-order_for_each c root ops order rule.CallsFit = tt
-order_for_each c root ops order rule.ReturnsFit = tt
-order_for_each c root ops order rule.ConstantsFit = tt
-order_for_each c root ops order rule.AttributesAreKnown = tt
-order_for_each c root ops order rule.FitsFormat = tt
+pub order_for_each : {O B : Type 0} (c : Program O B) (root : Ptr Operation) (order : WalkOrder)
+    → AreInWalkOrder c root order → (r : Rule) → IsOrderFor c r root order
+order_for_each c root order holds rule.RootIsModule = tt
+order_for_each c root order holds rule.ModuleHolds = tt
+order_for_each c root order holds rule.FunctionHasType = tt
+order_for_each c root order holds rule.FunctionHolds = tt
+order_for_each c root order holds rule.ValuesAreIntegers = tt
+order_for_each c root order holds rule.BlocksEnd = tt
+order_for_each c root order holds rule.OperandsAreVisible = holds
+order_for_each c root order holds rule.TypesAgree = tt
+order_for_each c root order holds rule.EdgesFit = tt
+order_for_each c root order holds rule.CallsFit = tt
+order_for_each c root order holds rule.ReturnsFit = tt
+order_for_each c root order holds rule.ConstantsFit = tt
+order_for_each c root order holds rule.AttributesAreKnown = tt
+order_for_each c root order holds rule.FitsFormat = tt
 
 module _ {O B : Type 0} (w : World O B) (c : Program O B) (root : Ptr Operation) where
   module _ (op : Ptr Operation) where

@@ -1,11 +1,7 @@
 -- Which values an operation may name, in the program and in the tree.
-use Rattle.std.proofs.Common.{◌≡◌, ◌≢◌, ◌↔◌, ◌⊎◌, inl, inr, ⊎_elim, ℕ, zero, suc, ◌<◌, ◌==◌, Bool, true, false, cond, get_or, List, [], ◌∷◌, map, take, length, Option, Some, None, IsSome, IsTrue, option_map, unwrap_or, slice_get, refl, sym, ap, ◌∙◌, subst, arith}
+use Rattle.std.proofs.Common.{◌≡◌, ◌≢◌, ◌↔◌, ◌⊎◌, inl, inr, ⊎_elim, ℕ, zero, suc, ◌<◌, ◌==◌, Bool, true, false, cond, List, [], ◌∷◌, map, take, length, Option, Some, None, IsSome, IsTrue, option_map, unwrap_or, slice_get, refl, sym, ap, ◌∙◌, subst, arith}
 use Rattle.std.proofs.lemmas.Bool.{false≢true, eqb-true, cases_order}
-use Rattle.std.proofs.lemmas.Option.{get_or_from_slice_get, slice_get-get_or, slice_get_within}
-use Rattle.std.proofs.lemmas.List.Folds.{list_any_at}
-use Rattle.std.proofs.lemmas.List.Quantifiers.{position-Some}
-use Rattle.std.specs.List.{position, list_any}
-use Rattle.std.specs.Prelude.{is_some}
+use Rattle.std.proofs.lemmas.Option.{slice_get_within}
 use Rattle.ir_base.specs.declared.types.TypeHandle.{TypeHandle}
 use Rattle.ir_program.specs.Definers.{StandsAtDefiner, values_at}
 use Rattle.ir_program.specs.Lists.{StandsInBlock, StandsInRegion, StandsInside, itself, in_block, in_region, in_operation, blocks_in, operations_in}
@@ -25,8 +21,9 @@ use Rattle.ir_trees.specs.Stands.{ProgramTree, StandsFor, defined_by}
 use Rattle.ir_trees.proofs.Members.{Has, at_has, has_at, has_front, has_back, has_either}
 use Rattle.opt_inside.proofs.Around.{HasLists}
 use Rattle.kit_checks.specs.declared.naming.Spot.{Spot}
+use Rattle.kit_checks.specs.declared.walk_order.WalkOrder.{WalkOrder}
 use Rattle.kit_checks.specs.Located.{IsAround, IsBody, IsSiteOf}
-use Rattle.kit_checks.specs.Naming.{IsEarlier, IsIndexOf, IsSpotOf, IsOrderOf, MayName, MayNameFrom}
+use Rattle.kit_checks.specs.Naming.{IsEarlier, IsSpotOf, IsOrderOf, MayName, MayNameFrom, number_in}
 use Rattle.kit_checks.specs.Rules.{OperandsAreVisible}
 use Rattle.kit_checks.specs.Sites.{Around, Body, Site, operation_list}
 use Rattle.kit_checks.specs.Words.{Every, first_body, results_of, values_before, values_if, values_in, values_of, visible}
@@ -306,34 +303,22 @@ block_inside c lists root op b other inside stands = ⊎_elim
     (λ h. subst (λ x. StandsInside c (OperationNode root) (BlockNode x)) ((lists.operations_once op h.0 b h.1.index stands.index h.1.here stands.here).0) h.2)
     (inside_block c (OperationNode root) (OperationNode op) op inside refl)
 
--- of two operations of a block the earlier one is earlier in the order, and only that one
-pub order_tells : {O B : Type 0} (c : Program O B) (b : Ptr BasicBlock) (ops : List (Ptr Operation)) → IsOrderOf c b ops → (p op : Ptr Operation) → StandsInBlock c p b → StandsInBlock c op b →
-    IsEarlier ops p op → IsEarlier (operations_in c b) p op
-order_tells c b ops order p op in_p in_op e = by in_p.index in_op.index in_p.here in_op.here
-  where
-    both_ways : IsEarlier ops op p → ⊥
-    both_ways back =
-        let a : e.first ≡ back.second = order.once e.first back.second p e.here back.there in
-        let d : e.second ≡ back.first = order.once e.second back.first op e.there back.here in
-        let x = e.before in let y = back.before in omega arith
-
-    not_same : p ≡ op → ⊥
-    not_same same =
-        let a : e.first ≡ e.second = order.once e.first e.second op (e.here ∙ ap Some same) e.there in
-        let x = e.before in omega arith
-
-    by : (i j : ℕ) → slice_get (operations_in c b) i ≡ Some p → slice_get (operations_in c b) j ≡ Some op → IsEarlier (operations_in c b) p op
-    by i j here there = ⊎_elim
-        (λ (same : i ≡ j). let q : Some p ≡ Some op = sym here ∙ ap (slice_get (operations_in c b)) same ∙ there in let r : p ≡ op = cc in absurd (not_same r))
-        (λ rest. ⊎_elim
-        (λ (less : i < j). record { first = i; second = j; here = here; there = there; before = less })
-        (λ (more : j < i). absurd (both_ways (order.earlier op p (record { first = j; second = i; here = there; there = here; before = more }))))
-        rest)
-        (cases_order i j)
-
--- where a member is
-pub index_is : {X : Type 0} (test : X → Bool) (keys : List X) (x : X) (o : Option ℕ) → ((a : X) → test a ≡ true → x ≡ a) → test x ≡ true → o ≡ position test keys → is_some o ≡ list_any test keys → IsIndexOf keys x o
-index_is test keys x o same own e f = record {
-  found = λ i g. let h = position-Some test keys i x (sym e ∙ g) in slice_get-get_or keys i x h.0 ∙ ap Some (sym (same (get_or keys i x) h.1));
-  none = λ g l. let t = list_any_at test keys l.0 x (slice_get_within keys l.0 x l.1) (ap test (get_or_from_slice_get keys l.0 x x l.1) ∙ own) in absurd (cc (ap is_some g, f, t));
-}
+-- of two operations of a block the one with the smaller number is the earlier one
+pub order_tells : {O B : Type 0} (c : Program O B) (b : Ptr BasicBlock) (order : WalkOrder) → IsOrderOf c b order
+    → (p op : Ptr Operation) → StandsInBlock c p b → StandsInBlock c op b
+    → number_in order p < number_in order op → IsEarlier (operations_in c b) p op
+order_tells c b order orders p op in_p in_op less = ⊎_elim
+    (λ (same : in_p.index ≡ in_op.index).
+    let q : Some p ≡ Some op = sym in_p.here ∙ ap (slice_get (operations_in c b)) same ∙ in_op.here in
+    let r : p ≡ op = cc in
+    let n : number_in order p ≡ number_in order op = ap (number_in order) r in
+    absurd (omega arith))
+    (λ rest. ⊎_elim
+    (λ (before : in_p.index < in_op.index).
+    record { first = in_p.index; second = in_op.index; here = in_p.here; there = in_op.here; before = before })
+    (λ (behind : in_op.index < in_p.index).
+    let more : number_in order op < number_in order p = orders op p
+    (record { first = in_op.index; second = in_p.index; here = in_op.here; there = in_p.here; before = behind }) in
+    absurd (omega arith))
+    rest)
+    (cases_order in_p.index in_op.index)

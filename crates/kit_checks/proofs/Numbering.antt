@@ -1,83 +1,150 @@
 -- Numbering the operations inside a root, one entity after the other.
-use Rattle.std.proofs.Common.{◌≡◌, inl, ⊎_elim, List, [], ◌∷◌, ◌++◌, refl, sym, ap, ◌∙◌, subst, append_assoc}
-use Rattle.std.proofs.lemmas.List.{append-nil}
-use Rattle.indexmap.specs.IndexSet.{insert_key}
+use Rattle.std.proofs.Common.{◌≡◌, ◌⊎◌, inl, inr, ⊎_elim, ℕ, zero, suc, ◌<◌, ◌+◌, eqb, cond, List, [], ◌∷◌, ◌++◌}
+use Rattle.std.proofs.Common.{length, get_or, set, Bool, true, false, Option, Some, None, IsSome, option_map, slice_get}
+use Rattle.std.proofs.Common.{refl, sym, ap, ◌∙◌, subst, append_assoc, arith, length-append}
+use Rattle.std.proofs.lemmas.Bool.{eqb-true, false≢true}
+use Rattle.std.proofs.lemmas.List.{append-nil, get_or-set_same, get_or-set_other}
+use Rattle.ir_program.specs.Handles.{handle}
 use Rattle.ir_program.specs.Preorder.{nodes_inside, AreInside, IsPreorder, StandOnceEach}
-use Rattle.ir_program.specs.Program.{Program}
+use Rattle.ir_program.specs.Program.{Program, operation_at}
 use Rattle.ir_program.specs.declared.handles.IRNode.{IRNode}
 use Rattle.ir_program.specs.declared.handles.IRNode.TheVariants.{Operation as OperationNode, Region as RegionNode}
 use Rattle.ir_program.specs.declared.handles.IRNode.TheVariants.{BasicBlock as BlockNode}
 use Rattle.ir_program.specs.declared.handles.Ptr.{Ptr}
 use Rattle.ir_program.specs.declared.handles.Operation.{Operation}
-use Rattle.ir_trees.specs.ListRewrites.{same_operation}
-use Rattle.ir_trees.proofs.Members.{Has, Once, has_back, once_of}
-use Rattle.ir_trees.proofs.Picked.{operations_among, operations_joined, operation_from}
-use Rattle.opt_inside.proofs.Added.{added}
-use Rattle.kit_checks.specs.Naming.{AreInWalkOrder, LacksOperation, with_operation}
-use Rattle.kit_checks.proofs.Handles.{same_yes}
-use Rattle.kit_checks.proofs.Walk.{walk_order}
+use Rattle.ir_program.proofs.made.Frames.{same_handle}
+use Rattle.ir_program.proofs.made.Lent.{same_key}
+use Rattle.kit_checks.specs.declared.walk_order.WalkOrder.{WalkOrder}
+use Rattle.kit_checks.specs.Naming.{AreInWalkOrder, GivesNumber, IsEarlier, KeepsNumbers, NumbersEntity, number_in}
+use Rattle.kit_checks.proofs.Finding.{get-middle}
+use Rattle.kit_checks.proofs.Walk.{front_get, walk_order}
 
--- a set gets an operation that it lacks behind the others
-pub operation_added : (keys after : List (Ptr Operation)) (p : Ptr Operation) → LacksOperation keys (OperationNode p)
-    → after ≡ insert_key same_operation keys p → after ≡ with_operation keys (OperationNode p)
-operation_added keys after p lacks is =
-    added same_operation (λ a b h. same_yes a b (same_operation a b) refl h) keys after p lacks is
+-- what is there has the version of its slot
+version_is : {X Y : Type 0} (f : X → Y) (held asked : ℕ) (value : Option X)
+    → IsSome (option_map f (cond (eqb held asked) value None)) → held ≡ asked
+version_is f held asked value live = by (eqb held asked) refl live
+  where
+    by : (b : Bool) → eqb held asked ≡ b → IsSome (option_map f (cond b value None)) → held ≡ asked
+    by true is h = eqb-true held asked is
+    by false is h = absurd (false≢true h)
 
--- what comes later isn't among those before
-not_before : {X : Type 0} (xs ys : List X) (x : X) → Once (xs ++ x ∷ ys) → Has x xs → ⊥
-not_before [] ys x once h = h
-not_before (y ∷ xs) ys x once h = ⊎_elim
-    (λ same. once.0 (has_back xs (x ∷ ys) y (inl (sym same))))
-    (λ r. not_before xs ys x once.1 r)
-    h
+module _ {O B : Type 0} (c : Program O B) where
+  abbrev at_slot : ℕ → ℕ → Ptr Operation
+  at_slot slot version = handle (record { slot = slot; version = version })
 
--- one entity more
-with_next : (es : List IRNode) (e : IRNode) → with_operation (operations_among es) e ≡ operations_among (es ++ e ∷ [])
-with_next es (OperationNode p) = sym (operations_joined es (OperationNode p ∷ []))
-with_next es (BlockNode b) = sym (operations_joined es (BlockNode b ∷ []) ∙ append-nil (operations_among es))
-with_next es (RegionNode r) = sym (operations_joined es (RegionNode r ∷ []) ∙ append-nil (operations_among es))
+  one_version : (slot first second : ℕ) → IsSome (operation_at c (at_slot slot first))
+      → IsSome (operation_at c (at_slot slot second)) → first ≡ second
+  one_version slot first second a b = sym (version_is _ _ first _ a) ∙ version_is _ _ second _ b
 
-lacks_next : (es : List IRNode) (e : IRNode) → (Has e es → ⊥) → LacksOperation (operations_among es) e
-lacks_next es (OperationNode p) lacks = λ q is has. ⊎_elim
-    (λ (e : q ≡ p). lacks (operation_from es p (subst (λ z. Has z (operations_among es)) e has)))
-    (λ n. n)
-    is
-lacks_next es (BlockNode b) lacks = tt
-lacks_next es (RegionNode r) lacks = tt
+  -- no two operations that are there have one slot
+  same_slot : (p q : Ptr Operation) → IsSome (operation_at c p) → IsSome (operation_at c q)
+      → p.key.slot ≡ q.key.slot → p ≡ q
+  same_slot p q live_p live_q e =
+      let moved : IsSome (operation_at c (at_slot q.key.slot p.key.version)) =
+      subst (λ slot. IsSome (operation_at c (at_slot slot p.key.version))) e live_p in
+      same_handle p q (same_key p.key q.key e (one_version q.key.slot p.key.version q.key.version moved live_q))
+
+-- one more number, of no operation, leaves the others
+zero_behind : (numbers : List ℕ) (k : ℕ) → get_or (numbers ++ 0 ∷ []) k 0 ≡ get_or numbers k 0
+zero_behind [] zero = refl
+zero_behind [] (suc k) = refl
+zero_behind (n ∷ numbers) zero = refl
+zero_behind (n ∷ numbers) (suc k) = zero_behind numbers k
+
+pub room_keeps : (old order after : WalkOrder) → after.numbers.items ≡ order.numbers.items ++ 0 ∷ []
+    → KeepsNumbers old order → KeepsNumbers old after
+room_keeps old order after is keeps p =
+    ap (λ l. get_or l p.key.slot 0) is ∙ zero_behind order.numbers.items p.key.slot ∙ keeps p
+
+-- a number is written where there is room for it
+pub number_written : (old order after : WalkOrder) (op : Ptr Operation) (slot number : ℕ) → slot ≡ op.key.slot
+    → slot < length order.numbers.items → after.numbers.items ≡ set order.numbers.items slot number
+    → KeepsNumbers old order → GivesNumber old after op number
+number_written old order after op slot number at room is keeps = record {
+  given = ap (λ l. get_or l op.key.slot 0) is ∙ ap (λ k. get_or (set order.numbers.items slot number) k 0) (sym at)
+      ∙ get_or-set_same order.numbers.items slot number 0 room;
+  others = λ p other. ap (λ l. get_or l p.key.slot 0) is
+      ∙ get_or-set_other order.numbers.items slot p.key.slot number 0 (λ same. other (same ∙ at)) ∙ keeps p;
+}
+
+-- a member of a list with one more
+either_part : {X : Type 0} (xs : List X) (y x : X) (k : ℕ) → slice_get (xs ++ y ∷ []) k ≡ Some x
+    → (slice_get xs k ≡ Some x) ⊎ ((k ≡ length xs) × (y ≡ x))
+either_part [] y x zero here = inr (refl, cc)
+either_part [] y x (suc k) here = cc
+either_part (z ∷ xs) y x zero here = inl here
+either_part (z ∷ xs) y x (suc k) here =
+    ⊎_elim inl (λ (last : (k ≡ length xs) × (y ≡ x)). inr (ap suc last.0, last.1)) (either_part xs y x k here)
 
 module _ {O B : Type 0} (c : Program O B) (root : Ptr Operation) where
-  -- these are the operations among the entities that have been gone through
-  pub record IsOrderUpTo (ops : List (Ptr Operation)) (left : List IRNode) : Type 0 where
+  -- the entities that have been gone through are counted, and each operation among them has its number
+  pub record IsNumberedUpTo (order : WalkOrder) (number : ℕ) (left : List IRNode) : Type 0 where
     pub done : List IRNode
     pub parts : nodes_inside c (OperationNode root) ≡ done ++ left
-    pub picked : ops ≡ operations_among done
+    pub count : number ≡ length done
+    pub numbers : (k : ℕ) (p : Ptr Operation) → slice_get done k ≡ Some (OperationNode p) → number_in order p ≡ k + 1
 
-  pub order_begins : (ops : List (Ptr Operation)) (left : List IRNode) → ops ≡ []
-      → left ≡ nodes_inside c (OperationNode root) → IsOrderUpTo ops left
-  order_begins ops left none all = record { done = []; parts = sym all; picked = none }
+  pub numbering_begins : (order : WalkOrder) (left : List IRNode) → left ≡ nodes_inside c (OperationNode root)
+      → IsNumberedUpTo order 0 left
+  numbering_begins order left all =
+      record { done = []; parts = sym all; count = refl; numbers = λ k p here. cc }
 
-  pub order_goes_on : (ops after : List (Ptr Operation)) (was left : List IRNode) (e : IRNode) → was ≡ e ∷ left
-      → after ≡ with_operation ops e → IsOrderUpTo ops was → IsOrderUpTo after left
-  order_goes_on ops after was left e is with h = record {
-    done = h.done ++ e ∷ [];
-    parts = h.parts ∙ ap (λ l. h.done ++ l) is ∙ sym (append_assoc h.done (e ∷ []) left);
-    picked = with ∙ ap (λ l. with_operation l e) h.picked ∙ with_next h.done e;
-  }
+  module _ (inside : AreInside c (OperationNode root) (nodes_inside c (OperationNode root)))
+      (once : StandOnceEach (nodes_inside c (OperationNode root))) where
+    -- the number of an operation stays when an entity behind it gets one
+    number_stays : (order after : WalkOrder) (number k j : ℕ) (p : Ptr Operation) (e : IRNode) → k < j
+        → slice_get (nodes_inside c (OperationNode root)) k ≡ Some (OperationNode p)
+        → slice_get (nodes_inside c (OperationNode root)) j ≡ Some e
+        → NumbersEntity order after e number → number_in after p ≡ number_in order p
+    number_stays order after number k j p (OperationNode q) less here there gives = gives.others p (λ same.
+        let live_p = inside.live k (OperationNode p) here in
+        let live_q = inside.live j (OperationNode q) there in
+        let e : p ≡ q = same_slot c p q live_p live_q same in
+        let i : k ≡ j = once k j (OperationNode q) (here ∙ ap (λ x. Some (OperationNode x)) e) there in
+        omega arith)
+    number_stays order after number k j p (BlockNode b) less here there keeps = keeps p
+    number_stays order after number k j p (RegionNode r) less here there keeps = keeps p
 
-  module _ (once : StandOnceEach (nodes_inside c (OperationNode root))) where
-    pub order_lacks : (ops : List (Ptr Operation)) (was left : List IRNode) (e : IRNode) → was ≡ e ∷ left
-        → IsOrderUpTo ops was → LacksOperation ops e
-    order_lacks ops was left e is h =
-        let each = subst StandOnceEach (h.parts ∙ ap (λ l. h.done ++ l) is) once in
-        let apart = not_before h.done left e (once_of (h.done ++ e ∷ left) each) in
-        subst (λ l. LacksOperation l e) (sym h.picked) (lacks_next h.done e apart)
+    number_given : (order after : WalkOrder) (number : ℕ) (p : Ptr Operation) (e : IRNode) → e ≡ OperationNode p
+        → NumbersEntity order after e number → number_in after p ≡ number
+    number_given order after number p e is gives =
+        (subst (λ x. NumbersEntity order after x number) is gives).given
 
-    pub order_ends : AreInside c (OperationNode root) (nodes_inside c (OperationNode root))
-        → IsPreorder c (OperationNode root ∷ []) (nodes_inside c (OperationNode root))
-        → (ops : List (Ptr Operation)) (left : List IRNode) → left ≡ [] → IsOrderUpTo ops left
-        → AreInWalkOrder c root ops
-    order_ends inside order ops left is h =
-        let parts : nodes_inside c (OperationNode root) ≡ h.done =
-        h.parts ∙ ap (λ l. h.done ++ l) is ∙ append-nil h.done in
-        subst (AreInWalkOrder c root) (ap operations_among parts ∙ sym h.picked)
-        (walk_order c root (nodes_inside c (OperationNode root)) inside once order)
+    pub numbering_goes_on : (order after : WalkOrder) (number next : ℕ) (was left : List IRNode) (e : IRNode)
+        → was ≡ e ∷ left → next ≡ number + 1 → NumbersEntity order after e next
+        → IsNumberedUpTo order number was → IsNumberedUpTo after next left
+    numbering_goes_on order after number next was left e is more gives h = record {
+      done = h.done ++ e ∷ [];
+      parts = parts ∙ sym (append_assoc h.done (e ∷ []) left);
+      count = more ∙ ap (λ n. n + 1) h.count ∙ sym (length-append h.done (e ∷ []));
+      numbers = λ k p here. ⊎_elim
+          (λ (before : slice_get h.done k ≡ Some (OperationNode p)).
+          let front = front_get h.done (e ∷ left) k (OperationNode p) before in
+          number_stays order after next k (length h.done) p e front.1 (at k (OperationNode p) front.0)
+          (at (length h.done) e (get-middle h.done left e)) gives ∙ h.numbers k p before)
+          (λ (last : (k ≡ length h.done) × (e ≡ OperationNode p)).
+          number_given order after next p e last.1 gives ∙ more ∙ ap (λ n. n + 1) (h.count ∙ sym last.0))
+          (either_part h.done e (OperationNode p) k here);
+    }
+      where
+        parts : nodes_inside c (OperationNode root) ≡ h.done ++ e ∷ left
+        parts = h.parts ∙ ap (λ l. h.done ++ l) is
+
+        at : (k : ℕ) (x : IRNode) → slice_get (h.done ++ e ∷ left) k ≡ Some x
+            → slice_get (nodes_inside c (OperationNode root)) k ≡ Some x
+        at k x = subst (λ l. slice_get l k ≡ Some x) (sym parts)
+
+  pub numbering_ends : AreInside c (OperationNode root) (nodes_inside c (OperationNode root))
+      → IsPreorder c (OperationNode root ∷ []) (nodes_inside c (OperationNode root))
+      → (order : WalkOrder) (number : ℕ) (left : List IRNode) → left ≡ [] → IsNumberedUpTo order number left
+      → AreInWalkOrder c root order
+  numbering_ends inside preorder order number left is h block within p q e =
+      let all : nodes_inside c (OperationNode root) ≡ h.done =
+      h.parts ∙ ap (λ l. h.done ++ l) is ∙ append-nil h.done in
+      let walk : IsEarlier h.done (OperationNode p) (OperationNode q) =
+      subst (λ l. IsEarlier l (OperationNode p) (OperationNode q)) all
+      (walk_order c root (nodes_inside c (OperationNode root)) inside preorder block within p q e) in
+      let first : number_in order p ≡ walk.first + 1 = h.numbers walk.first p walk.here in
+      let second : number_in order q ≡ walk.second + 1 = h.numbers walk.second q walk.there in
+      let less = walk.before in
+      omega arith

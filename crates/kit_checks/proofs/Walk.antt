@@ -1,60 +1,23 @@
 -- Operations of one block come in walk order as they stand in the block.
-use Rattle.std.proofs.Common.{◌≡◌, inl, inr, ⊎_elim, ℕ, zero, suc, ◌<◌, ◌+◌, List, [], ◌∷◌, ◌++◌, length, Some, option_map, slice_get, refl, sym, ap, ◌∙◌, subst, arith}
+use Rattle.std.proofs.Common.{◌≡◌, inl, inr, ⊎_elim, ℕ, zero, suc, ◌<◌, ◌+◌, List, [], ◌∷◌, ◌++◌, length, Some, option_map, slice_get, ap, ◌∙◌, subst, arith}
 use Rattle.std.proofs.lemmas.Option.{slice_get-map}
-use Rattle.ir_program.specs.Lists.{operations_in}
-use Rattle.ir_program.specs.Preorder.{nodes_in, AreInside, IsPreorder, nothing, more, StandOnceEach}
+use Rattle.ir_program.specs.Lists.{StandsInside, operations_in}
+use Rattle.ir_program.specs.Preorder.{nodes_in, AreInside, IsPreorder, nothing, more}
 use Rattle.ir_program.specs.Program.{Program}
 use Rattle.ir_program.specs.declared.handles.IRNode.{IRNode}
 use Rattle.ir_program.specs.declared.handles.IRNode.TheVariants.{Operation as OperationNode, BasicBlock as BlockNode}
 use Rattle.ir_program.specs.declared.handles.Ptr.{Ptr}
 use Rattle.ir_program.specs.declared.handles.Operation.{Operation}
-use Rattle.ir_trees.proofs.Members.{Has, at_has, has_at, has_back, has_either, once_at, once_of}
-use Rattle.ir_trees.proofs.Picked.{operations_among, operations_joined, operation_picked, operations_once}
-use Rattle.kit_checks.specs.Naming.{IsEarlier, AreInWalkOrder}
-use Rattle.kit_checks.proofs.Finding.{get-middle}
+use Rattle.ir_program.specs.declared.handles.BasicBlock.{BasicBlock}
+use Rattle.ir_trees.proofs.Members.{Has, at_has, has_at, has_back, has_either}
+use Rattle.kit_checks.specs.Naming.{IsEarlier}
 
--- the first is among those that come before the second
 module _ {X : Type 0} where
-  pub record IsBeforeIn (xs : List X) (x y : X) : Type 0 where
-    pub front : List X
-    pub back : List X
-    pub parts : xs ≡ front ++ y ∷ back
-    pub among : Has x front
-
-  part_at : (xs : List X) (k : ℕ) (y : X) → slice_get xs k ≡ Some y → (front : List X) × (back : List X) × (xs ≡ front ++ y ∷ back) × (length front ≡ k)
-  part_at [] k y here = cc
-  part_at (x ∷ xs) zero y here = let e : x ≡ y = cc in ([], xs, ap (λ z. z ∷ xs) e, refl)
-  part_at (x ∷ xs) (suc k) y here = let r = part_at xs k y here in (x ∷ r.0, r.1, ap (λ l. x ∷ l) r.2, ap suc r.3)
-
-  in_front : (front rest : List X) (k : ℕ) (x : X) → slice_get (front ++ rest) k ≡ Some x → k < length front → Has x front
-  in_front [] rest k x here below = absurd (omega arith)
-  in_front (y ∷ front) rest zero x here below = let e : x ≡ y = cc in inl e
-  in_front (y ∷ front) rest (suc k) x here below = inr (in_front front rest k x here (omega arith))
-
-  front_get : (front rest : List X) (k : ℕ) (x : X) → slice_get front k ≡ Some x → (slice_get (front ++ rest) k ≡ Some x) × (k < length front)
+  -- a member of the first part is one of the whole list
+  pub front_get : (front rest : List X) (k : ℕ) (x : X) → slice_get front k ≡ Some x → (slice_get (front ++ rest) k ≡ Some x) × (k < length front)
   front_get [] rest k x here = cc
   front_get (y ∷ front) rest zero x here = (here, omega arith)
   front_get (y ∷ front) rest (suc k) x here = let r = front_get front rest k x here in let less = r.1 in (r.0, omega arith)
-
-  -- by index, and by parts
-  pub before_of : (xs : List X) (x y : X) → IsEarlier xs x y → IsBeforeIn xs x y
-  before_of xs x y e =
-      let p = part_at xs e.second y e.there in
-      let size = p.3 in
-      let less = e.before in
-      record { front = p.0; back = p.1; parts = p.2; among = in_front p.0 (y ∷ p.1) e.first x (subst (λ l. slice_get l e.first ≡ Some x) p.2 e.here) (omega arith) }
-
-  pub earlier_of : (xs : List X) (x y : X) → IsBeforeIn xs x y → IsEarlier xs x y
-  earlier_of xs x y h =
-      let k = has_at h.front x h.among in
-      let r = front_get h.front (y ∷ h.back) k.0 x k.1 in
-      record {
-        first = k.0;
-        second = length h.front;
-        here = subst (λ l. slice_get l k.0 ≡ Some x) (sym h.parts) r.0;
-        there = subst (λ l. slice_get l (length h.front) ≡ Some y) (sym h.parts) (get-middle h.front h.back y);
-        before = r.1;
-      }
 
   -- in a longer list
   before_inner : (xs ys : List X) (x y : X) → IsEarlier xs x y → IsEarlier (xs ++ ys) x y
@@ -119,30 +82,20 @@ module _ {O B : Type 0} (c : Program O B) where
       (has_either inner rest e more))
       h
 
--- operations among entities keep their order
-picked_order : (ns : List IRNode) (p q : Ptr Operation) → IsEarlier ns (OperationNode p) (OperationNode q) → IsEarlier (operations_among ns) p q
-picked_order ns p q e =
-    let b = before_of ns (OperationNode p) (OperationNode q) e in
-    let parts : operations_among ns ≡ operations_among b.front ++ q ∷ operations_among b.back = ap operations_among b.parts ∙ operations_joined b.front (OperationNode q ∷ b.back) in
-    earlier_of (operations_among ns) p q (record { front = operations_among b.front; back = operations_among b.back; parts = parts; among = operation_picked b.front p b.among })
-
 module _ {O B : Type 0} (c : Program O B) (root : Ptr Operation) (all : List IRNode)
-    (within : AreInside c (OperationNode root) all) (once : StandOnceEach all)
-    (order : IsPreorder c (OperationNode root ∷ []) all) where
-  -- the operations among the entities inside the root are in walk order
-  pub walk_order : AreInWalkOrder c root (operations_among all)
-  walk_order block inside = record {
-    once = once_at (operations_among all) (operations_once all (once_of all once));
-    earlier = λ p q e.
-        let here = within.all (BlockNode block) inside in
-        let nodes : IsEarlier (nodes_in c (BlockNode block)) (OperationNode p) (OperationNode q) = record {
-          first = e.first;
-          second = e.second;
-          here = slice_get-map OperationNode (operations_in c block) e.first ∙ ap (option_map OperationNode) e.here;
-          there = slice_get-map OperationNode (operations_in c block) e.second ∙ ap (option_map OperationNode) e.there;
-          before = e.before;
-        } in
-        let has = at_has all here.0 (BlockNode block) here.1 in
-        picked_order all p q (inner_order c (OperationNode root ∷ []) all order (BlockNode block) (OperationNode p)
-        (OperationNode q) has nodes);
-  }
+    (within : AreInside c (OperationNode root) all) (order : IsPreorder c (OperationNode root ∷ []) all) where
+  -- operations of a block inside the root stand in their order among the entities inside the root
+  pub walk_order : (block : Ptr BasicBlock) → StandsInside c (OperationNode root) (BlockNode block)
+      → (p q : Ptr Operation) → IsEarlier (operations_in c block) p q
+      → IsEarlier all (OperationNode p) (OperationNode q)
+  walk_order block inside p q e =
+      let here = within.all (BlockNode block) inside in
+      let nodes : IsEarlier (nodes_in c (BlockNode block)) (OperationNode p) (OperationNode q) = record {
+        first = e.first;
+        second = e.second;
+        here = slice_get-map OperationNode (operations_in c block) e.first ∙ ap (option_map OperationNode) e.here;
+        there = slice_get-map OperationNode (operations_in c block) e.second ∙ ap (option_map OperationNode) e.there;
+        before = e.before;
+      } in
+      let has = at_has all here.0 (BlockNode block) here.1 in
+      inner_order c (OperationNode root ∷ []) all order (BlockNode block) (OperationNode p) (OperationNode q) has nodes

@@ -1,5 +1,5 @@
 -- Which values an operation may name, said of the program, and the order of the operations inside a root.
-use Rattle.std.specs.Prelude.{◌≡◌, ◌≢◌, ◌<◌, ◌⊎◌, ℕ, List, [], ◌∷◌, ◌++◌, Option, Some, None, slice_get}
+use Rattle.std.specs.Prelude.{◌≡◌, ◌≢◌, ◌<◌, ◌⊎◌, ℕ, List, Some, slice_get, slice_index}
 use Rattle.ir_program.specs.Lists.{StandsInBlock, StandsInRegion, StandsInside, blocks_in, operations_in}
 use Rattle.ir_program.specs.Program.{Program}
 use Rattle.ir_program.specs.declared.handles.DefiningEntity.{DefiningEntity}
@@ -12,11 +12,10 @@ use Rattle.ir_program.specs.declared.handles.Operation.{Operation}
 use Rattle.ir_program.specs.declared.handles.Region.{Region}
 use Rattle.ir_program.specs.declared.handles.BasicBlock.{BasicBlock}
 use Rattle.ir_program.specs.declared.handles.Value.{Value}
-use Rattle.ir_trees.specs.Searched.{AreDistinct, Lists}
-use Rattle.opt_inside.specs.Numbered.{AreNew}
 use Rattle.kit_checks.specs.declared.naming.Spot.{Spot}
 use Rattle.kit_checks.specs.declared.rule.Rule.{Rule}
 use Rattle.kit_checks.specs.declared.rule.Rule.TheVariants as rule
+use Rattle.kit_checks.specs.declared.walk_order.WalkOrder.{WalkOrder}
 
 -- the first comes before the second in the list
 pub record IsEarlier {X : Type 0} (xs : List X) (x y : X) : Type 0 where
@@ -26,26 +25,24 @@ pub record IsEarlier {X : Type 0} (xs : List X) (x y : X) : Type 0 where
   pub there : slice_get xs second ≡ Some y
   pub before : first < second
 
--- this is the index of a member of the list, or it isn't a member
-pub record IsIndexOf {X : Type 0} (xs : List X) (x : X) (index : Option ℕ) : Type 0 where
-  pub found : (i : ℕ) → index ≡ Some i → slice_get xs i ≡ Some x
-  pub none : index ≡ None → Lists xs x → ⊥
+-- the number of an operation, kept at its slot; 0 where it has none
+abbrev pub number_in : WalkOrder → Ptr Operation → ℕ
+number_in order op = slice_index order.numbers.items op.key.slot
 
--- it is a member of the list, behind this index
-abbrev pub IsBehind : {X : Type 0} → List X → X → ℕ → Type 0
-IsBehind xs x index = (i : ℕ) × (slice_get xs i ≡ Some x) × (index < i)
+-- each operation has the number that it had
+abbrev pub KeepsNumbers : WalkOrder → WalkOrder → Type 0
+KeepsNumbers old new = (p : Ptr Operation) → number_in new p ≡ number_in old p
 
--- the operations, and behind them the entity, if it is an operation
-abbrev pub with_operation : List (Ptr Operation) → IRNode → List (Ptr Operation)
-with_operation ops (OperationNode p) = ops ++ p ∷ []
-with_operation ops (BlockNode b) = ops
-with_operation ops (RegionNode r) = ops
+-- the operation has this number now, and those at other slots have what they had
+pub record GivesNumber (old new : WalkOrder) (op : Ptr Operation) (number : ℕ) : Type 0 where
+  pub given : number_in new op ≡ number
+  pub others : (p : Ptr Operation) → p.key.slot ≢ op.key.slot → number_in new p ≡ number_in old p
 
--- the entity isn't one of the operations
-abbrev pub LacksOperation : List (Ptr Operation) → IRNode → Type 0
-LacksOperation ops (OperationNode p) = AreNew ops (p ∷ [])
-LacksOperation ops (BlockNode b) = Unit {0}
-LacksOperation ops (RegionNode r) = Unit {0}
+-- the entity has this number now, if it is an operation, and all others have what they had
+abbrev pub NumbersEntity : WalkOrder → WalkOrder → IRNode → ℕ → Type 0
+NumbersEntity old new (OperationNode op) number = GivesNumber old new op number
+NumbersEntity old new (BlockNode b) number = KeepsNumbers old new
+NumbersEntity old new (RegionNode r) number = KeepsNumbers old new
 
 module _ {O B : Type 0} (c : Program O B) where
   -- the operation is in this block, of a region with this entry
@@ -65,17 +62,17 @@ module _ {O B : Type 0} (c : Program O B) where
   abbrev pub MayName : Ptr Operation → Spot → Value → Type 0
   MayName op spot v = MayNameFrom op spot v.definer
 
-  -- the list has each operation once, and of two operations of the block the earlier one first
-  pub record IsOrderOf (block : Ptr BasicBlock) (ops : List (Ptr Operation)) : Type 0 where
-    pub once : AreDistinct ops
-    pub earlier : (p q : Ptr Operation) → IsEarlier (operations_in c block) p q → IsEarlier ops p q
+  -- of two operations of the block the earlier one has the smaller number
+  abbrev pub IsOrderOf : Ptr BasicBlock → WalkOrder → Type 0
+  IsOrderOf block order =
+      (p q : Ptr Operation) → IsEarlier (operations_in c block) p q → number_in order p < number_in order q
 
-  -- so of each block inside the root
-  abbrev pub AreInWalkOrder : Ptr Operation → List (Ptr Operation) → Type 0
-  AreInWalkOrder root ops =
-      (block : Ptr BasicBlock) → StandsInside c (OperationNode root) (BlockNode block) → IsOrderOf block ops
+  -- so in each block inside the root
+  abbrev pub AreInWalkOrder : Ptr Operation → WalkOrder → Type 0
+  AreInWalkOrder root order =
+      (block : Ptr BasicBlock) → StandsInside c (OperationNode root) (BlockNode block) → IsOrderOf block order
 
   -- what the test of a rule has to know of the order: nothing but for operands
-  abbrev pub IsOrderFor : Rule → Ptr Operation → List (Ptr Operation) → Type 0
-  IsOrderFor rule.OperandsAreVisible root ops = AreInWalkOrder root ops
-  IsOrderFor _ root ops = Unit {0}
+  abbrev pub IsOrderFor : Rule → Ptr Operation → WalkOrder → Type 0
+  IsOrderFor rule.OperandsAreVisible root order = AreInWalkOrder root order
+  IsOrderFor _ root order = Unit {0}

@@ -17,6 +17,7 @@ mod signatures;
 mod sites;
 mod tests;
 mod types;
+mod walk_order;
 
 pub use places::place_of;
 pub use reading::{function_type, is_function, is_module, is_symbol};

@@ -1,22 +1,20 @@
 //! Which values an operation may name.
-ghost use Rattle.std.specs.Prelude.{◌≡◌, ◌≢◌, ◌↔◌, IfOk, IfSome, IsNone, IsSome, IsTrue, None, OnOk};
+ghost use Rattle.std.specs.Prelude.{◌≡◌, ◌≢◌, ◌↔◌, IfOk, IfSome, IsNone, IsSome, IsTrue, None};
 ghost use Rattle.ir_program.specs.Lists.{StandsInside};
 ghost use Rattle.ir_program.specs.Program.{operation_at, IsLiveValue};
 ghost use Rattle.ir_program.specs.Rows.{operands_at};
 ghost use Rattle.ir_program.specs.declared.handles.DefiningEntity.TheVariants.{Op as ByOp};
 ghost use Rattle.ir_program.specs.declared.handles.IRNode.TheVariants.{Operation as OperationNode};
-ghost use Rattle.ir_trees.specs.Searched.{AreDistinct};
-ghost use Rattle.kit_checks.specs.Naming.{AreInWalkOrder, IsBehind, IsEarlier, IsIndexOf, IsOrderFor, IsOrderOf};
-ghost use Rattle.kit_checks.specs.Naming.{IsSpotOf, LacksOperation, MayName, MayNameFrom, with_operation};
+ghost use Rattle.kit_checks.specs.Naming.{AreInWalkOrder, IsOrderFor, IsOrderOf, IsSpotOf, MayName, MayNameFrom};
 ghost use Rattle.kit_checks.specs.Reading.{OfSite};
 ghost use Rattle.kit_checks.specs.Rules.{OperandsAreVisible};
 ghost use Rattle.kit_checks.specs.Words.{Every};
 ghost use Rattle.kit_checks.specs.World.{world_of};
 
 use crate::rule::Rule;
-use indexmap::IndexSet;
+use crate::walk_order::WalkOrder;
 use ir_context::{Context, OperandCalls};
-use ir_program::{BasicBlock, DefiningEntity, IRNode, Operation, Program, Ptr, Value};
+use ir_program::{BasicBlock, DefiningEntity, Operation, Program, Ptr, Value};
 use ir_types::DialectTables;
 use kit_ops::{KitAttr, KitOp, KitType};
 use std::alloc::{AllocError, Global};
@@ -28,38 +26,8 @@ pub(crate) struct Spot {
     entry: Ptr<BasicBlock>,
 }
 
-/// Puts an entity behind the operations of an order, if it is an operation.
-fn add_operation(order: &mut IndexSet<Ptr<Operation>>, node: IRNode) -> Result<(), AllocError>
-    requires { LacksOperation order.old.keys node }
-    ensures { OnOk result (order.new.keys ≡ with_operation order.old.keys node) }
-{
-    if let IRNode::Operation(op) = node {
-        order.insert(op)?;
-    }
-    Ok(())
-}
-
-/// Numbers the operations inside a root, and the root itself, in walk order. The index of each is its number.
-///
-/// # Errors
-/// No memory.
-fn number_operations<O, B>(
-    alloc: Global,
-    program: &Program<O, B>,
-    root: Ptr<Operation>,
-) -> Result<IndexSet<Ptr<Operation>>, AllocError>
-    requires { IsSome (operation_at program.now root) }
-    ensures { IfOk result (λ order. AreInWalkOrder program.now root order.keys) }
-{
-    let mut order = IndexSet::new(alloc);
-    for node in program.nodes_inside(IRNode::Operation(root)) {
-        add_operation(&mut order, node)?;
-    }
-    Ok(order)
-}
-
-/// The order of the operations inside a root, by their numbers, for the test of a rule: it is only made for the rule
-/// that reads it, and is empty for the others.
+/// The order of the operations inside a root for the test of a rule: it is only made for the rule that reads it, and
+/// has no numbers for the others.
 ///
 /// # Errors
 /// No memory.
@@ -68,42 +36,13 @@ pub(crate) fn order_for<O, B>(
     program: &Program<O, B>,
     root: Ptr<Operation>,
     rule: Rule,
-) -> Result<IndexSet<Ptr<Operation>>, AllocError>
+) -> Result<WalkOrder, AllocError>
     requires { IsSome (operation_at program.now root) }
-    ensures { IfOk result (λ order. IsOrderFor program.now rule root order.keys) }
+    ensures { IfOk result (λ order. IsOrderFor program.now rule root order) }
 {
     match rule {
-        Rule::OperandsAreVisible => number_operations(alloc, program, root),
-        _ => Ok(IndexSet::new(alloc)),
-    }
-}
-
-/// The number of an operation, if it has one.
-fn number_of(order: &IndexSet<Ptr<Operation>>, op: Ptr<Operation>) -> Option<usize>
-    ensures { IsIndexOf order.now.keys op result }
-{
-    order.get_index_of(&op)
-}
-
-/// Whether the number of an operation is above this one.
-fn is_above(order: &IndexSet<Ptr<Operation>>, op: Ptr<Operation>, number: usize) -> bool
-    requires { AreDistinct order.now.keys }
-    ensures { IsTrue result ↔ IsBehind order.now.keys op number }
-{
-    match number_of(order, op) {
-        Some(own) => number < own,
-        None => false,
-    }
-}
-
-/// Whether an operation comes before another one.
-fn is_earlier(order: &IndexSet<Ptr<Operation>>, op: Ptr<Operation>, other: Ptr<Operation>) -> bool
-    requires { AreDistinct order.now.keys }
-    ensures { IsTrue result ↔ IsEarlier order.now.keys op other }
-{
-    match number_of(order, op) {
-        Some(number) => is_above(order, other, number),
-        None => false,
+        Rule::OperandsAreVisible => WalkOrder::inside(alloc, program, root),
+        _ => Ok(WalkOrder::new(alloc)),
     }
 }
 
@@ -126,20 +65,20 @@ fn spot_of<O, B>(program: &Program<O, B>, root: Ptr<Operation>, op: Ptr<Operatio
 /// is in the entry.
 fn may_name_results<O, B>(
     program: &Program<O, B>,
-    order: &IndexSet<Ptr<Operation>>,
+    order: &WalkOrder,
     op: Ptr<Operation>,
     spot: Spot,
     definer: Ptr<Operation>,
 ) -> bool
     requires definer { IsSome (operation_at program.now definer) }
     requires spot { IsSpotOf program.now op spot }
-    requires order { IsOrderOf program.now spot.block order.now.keys }
+    requires order { IsOrderOf program.now spot.block order.now }
     ensures { IsTrue result ↔ MayNameFrom program.now op spot (ByOp definer) }
 {
     match program.parent_block(definer) {
         Some(home) => {
             if home == spot.block {
-                return is_earlier(order, definer, op);
+                return order.is_earlier(definer, op);
             }
             home == spot.entry
         }
@@ -150,14 +89,14 @@ fn may_name_results<O, B>(
 /// Whether an operation may name a value: an earlier one of its block or, outside the entry, one of the entry.
 fn may_name<O, B>(
     program: &Program<O, B>,
-    order: &IndexSet<Ptr<Operation>>,
+    order: &WalkOrder,
     op: Ptr<Operation>,
     spot: Spot,
     value: Value,
 ) -> bool
     requires value { IsLiveValue program.now value }
     requires spot { IsSpotOf program.now op spot }
-    requires order { IsOrderOf program.now spot.block order.now.keys }
+    requires order { IsOrderOf program.now spot.block order.now }
     ensures { IsTrue result ↔ MayName program.now op spot value }
 {
     program.know_values();
@@ -170,12 +109,12 @@ fn may_name<O, B>(
 /// Whether an operation may name each of its operands.
 fn names_visible<O, B>(
     program: &Program<O, B>,
-    order: &IndexSet<Ptr<Operation>>,
+    order: &WalkOrder,
     op: Ptr<Operation>,
     spot: Spot,
 ) -> bool
     requires spot { IsSpotOf program.now op spot }
-    requires order { IsOrderOf program.now spot.block order.now.keys }
+    requires order { IsOrderOf program.now spot.block order.now }
     ensures { IsTrue result ↔ Every (MayName program.now op spot) (operands_at program.now op) }
 {
     for index in 0..program.operand_count(op) {
@@ -189,15 +128,10 @@ fn names_visible<O, B>(
 /// Whether each operand of an operation inside the root is a value that it may name; the root has to have none.
 pub(crate) fn operands_are_visible<
     D: DialectTables<OpKind = KitOp, Attr = KitAttr, TypeKey = KitType>,
->(
-    ctx: &Context<D>,
-    root: Ptr<Operation>,
-    order: &IndexSet<Ptr<Operation>>,
-    op: Ptr<Operation>,
-) -> bool
+>(ctx: &Context<D>, root: Ptr<Operation>, order: &WalkOrder, op: Ptr<Operation>) -> bool
     requires inside { StandsInside ctx.now.program (OperationNode root) (OperationNode op) }
     requires op { IsSome (operation_at ctx.now.program op) }
-    requires order { AreInWalkOrder ctx.now.program root order.now.keys }
+    requires order { AreInWalkOrder ctx.now.program root order.now }
     ensures { OfSite ctx.now.program root op (λ s. IsTrue result ↔ OperandsAreVisible (world_of ctx.now) s) }
 {
     let program = ctx.program();

@@ -11,15 +11,15 @@ ghost use Rattle.kit_checks.specs.Located.{IsPlaceOf};
 use crate::rule::RuleFault;
 use ir_names::Place;
 use ir_program::{BasicBlock, IRNode, Operation, Program, Ptr, Region};
-use std::alloc::Global;
+use std::alloc::{AllocError, Global};
 
 /// One more. No memory holds what has so many members that this is too large.
-fn next(index: usize) -> Result<usize, RuleFault>
+pub(crate) fn next(index: usize) -> Result<usize, AllocError>
     ensures { IfOk result (λ next. next ≡ index + 1) }
 {
     match index.checked_add(1) {
         Some(next) => Ok(next),
-        None => Err(RuleFault::Memory),
+        None => Err(AllocError),
     }
 }
 

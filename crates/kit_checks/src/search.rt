@@ -12,7 +12,7 @@ use crate::naming::order_for;
 use crate::places::place_of;
 use crate::rule::{Rule, RuleFault};
 use crate::tests::keeps;
-use indexmap::IndexSet;
+use crate::walk_order::WalkOrder;
 use ir_context::Context;
 use ir_names::Place;
 use ir_program::{IRNode, Operation, Ptr};
@@ -42,10 +42,10 @@ fn broken_at<D: DialectTables<OpKind = KitOp, Attr = KitAttr, TypeKey = KitType>
     ctx: &Context<D>,
     root: Ptr<Operation>,
     rule: Rule,
-    order: &IndexSet<Ptr<Operation>>,
+    order: &WalkOrder,
     node: IRNode,
 ) -> Option<Ptr<Operation>>
-    requires order { IsOrderFor ctx.now.program rule root order.now.keys }
+    requires order { IsOrderFor ctx.now.program rule root order.now }
     requires inside { StandsInside ctx.now.program (OperationNode root) node }
     requires tested { IsTested rule }
     requires live { IsLiveNode ctx.now.program node }
@@ -67,9 +67,9 @@ fn first_operation<D: DialectTables<OpKind = KitOp, Attr = KitAttr, TypeKey = Ki
     ctx: &Context<D>,
     root: Ptr<Operation>,
     rule: Rule,
-    order: &IndexSet<Ptr<Operation>>,
+    order: &WalkOrder,
 ) -> Option<Ptr<Operation>>
-    requires order { IsOrderFor ctx.now.program rule root order.now.keys }
+    requires order { IsOrderFor ctx.now.program rule root order.now }
     requires tested { IsTested rule }
     requires root { IsSome (operation_at ctx.now.program root) }
     ensures { IsSearched (world_of ctx.now) ctx.now.program root rule result }
@@ -104,7 +104,8 @@ fn find_operation<D: DialectTables<OpKind = KitOp, Attr = KitAttr, TypeKey = Kit
 }
 
 /// The first place where a rule is broken in the tree that the root stands for, if it is broken at all. Only rules that are
-/// tested so far can be asked for. The time is linear in what is inside the root.
+/// tested so far can be asked for. The time is linear in what is inside the root and, where operands are tested, in the
+/// greatest slot of an operation there.
 ///
 /// # Errors
 /// `Memory` where no memory is left for the place or, where operands are tested, for the order of operations.
@@ -135,10 +136,10 @@ pub fn first_place<D: DialectTables<OpKind = KitOp, Attr = KitAttr, TypeKey = Ki
 fn keeps_all<D: DialectTables<OpKind = KitOp, Attr = KitAttr, TypeKey = KitType>>(
     ctx: &Context<D>,
     root: Ptr<Operation>,
-    order: &IndexSet<Ptr<Operation>>,
+    order: &WalkOrder,
     op: Ptr<Operation>,
 ) -> bool
-    requires order { AreInWalkOrder ctx.now.program root order.now.keys }
+    requires order { AreInWalkOrder ctx.now.program root order.now }
     requires inside { StandsInside ctx.now.program (OperationNode root) (OperationNode op) }
     requires op { IsSome (operation_at ctx.now.program op) }
     ensures { TellsAll (world_of ctx.now) ctx.now.program root op result }
@@ -155,10 +156,10 @@ fn keeps_all<D: DialectTables<OpKind = KitOp, Attr = KitAttr, TypeKey = KitType>
 fn keeps_all_at<D: DialectTables<OpKind = KitOp, Attr = KitAttr, TypeKey = KitType>>(
     ctx: &Context<D>,
     root: Ptr<Operation>,
-    order: &IndexSet<Ptr<Operation>>,
+    order: &WalkOrder,
     node: IRNode,
 ) -> bool
-    requires order { AreInWalkOrder ctx.now.program root order.now.keys }
+    requires order { AreInWalkOrder ctx.now.program root order.now }
     requires inside { StandsInside ctx.now.program (OperationNode root) node }
     requires live { IsLiveNode ctx.now.program node }
     ensures { TellsAllAt (world_of ctx.now) ctx.now.program root node result }
@@ -174,9 +175,9 @@ fn keeps_all_at<D: DialectTables<OpKind = KitOp, Attr = KitAttr, TypeKey = KitTy
 fn keeps_all_inside<D: DialectTables<OpKind = KitOp, Attr = KitAttr, TypeKey = KitType>>(
     ctx: &Context<D>,
     root: Ptr<Operation>,
-    order: &IndexSet<Ptr<Operation>>,
+    order: &WalkOrder,
 ) -> bool
-    requires order { AreInWalkOrder ctx.now.program root order.now.keys }
+    requires order { AreInWalkOrder ctx.now.program root order.now }
     requires root { IsSome (operation_at ctx.now.program root) }
     ensures { IsTrue result ↔ KeepsLocalRules (world_of ctx.now) ctx.now.program root }
 {

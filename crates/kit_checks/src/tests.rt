@@ -27,7 +27,7 @@ use crate::rule::Rule;
 use crate::signatures::{function_has_type, returns_fit};
 use crate::sites::is_in_function;
 use crate::types::{TypeTest, results_pass};
-use indexmap::IndexSet;
+use crate::walk_order::WalkOrder;
 use ir_context::{Context, OperationCalls, OperationLists, TypeTable, TypedProgram};
 use ir_program::{Operation, Ptr};
 use ir_types::DialectTables;
@@ -173,11 +173,11 @@ pub(crate) fn keeps<D: DialectTables<OpKind = KitOp, Attr = KitAttr, TypeKey = K
     ctx: &Context<D>,
     root: Ptr<Operation>,
     rule: Rule,
-    order: &IndexSet<Ptr<Operation>>,
+    order: &WalkOrder,
     op: Ptr<Operation>,
 ) -> bool
     requires tested { IsTested rule }
-    requires order { IsOrderFor ctx.now.program rule root order.now.keys }
+    requires order { IsOrderFor ctx.now.program rule root order.now }
     requires inside { StandsInside ctx.now.program (OperationNode root) (OperationNode op) }
     requires op { IsSome (operation_at ctx.now.program op) }
     ensures { Tells (world_of ctx.now) ctx.now.program root rule op result }

@@ -26,7 +26,7 @@ names_visible-requires-clause-order g c =
       block_apart = c.know_lists.ensures.block_apart;
     } in
     let in_block : StandsInBlock c.args.ctx.now.program c.args.op c.in-Some.spot.block = subst (λ x. StandsInBlock x c.args.op c.in-Some.spot.block) p c.in-Some.ensures.spot.1.in_block in
-    subst (λ x. IsOrderOf x c.in-Some.spot.block c.args.order.now.keys) (sym p)
+    subst (λ x. IsOrderOf x c.in-Some.spot.block c.args.order.now) (sym p)
     (c.requires.order c.in-Some.spot.block (block_inside c.args.ctx.now.program (subst HasLists p lists) c.args.root c.args.op c.in-Some.spot.block c.in-Some.ensures.spot.0 c.requires.inside in_block))
 
 pub returns-in-Some : goal.returns-in-Some

@@ -18,7 +18,7 @@ keeps-requires-clause-tested g c =
 pub keeps-requires-clause-order : goal.keeps-requires-clause-order
 keeps-requires-clause-order g c =
     let r : Rule = get_or local_rules c.loop-rule.rule-index RootIsModule in
-    order_for_each c.args.ctx.now.program c.args.root c.args.order.now.keys c.requires.order r
+    order_for_each c.args.ctx.now.program c.args.root c.args.order.now c.requires.order r
 
 pub returns-then-not-keeps : goal.returns-then-not-keeps
 returns-then-not-keeps g c =
