@@ -26,8 +26,8 @@ module _ {O B : Type 0} (w : World O B) (c : Program O B) (root op : Ptr Operati
   pub around_some : (o : Option (Around O B)) (a : Around O B) → IsAroundIf c root op o → o ≡ Some a → IsAround c root op a
   around_some o a at some = subst (IsAroundIf c root op) some at
 
-  module _ (s : Site O B) (at : IsSiteOf c root op s) (a : Around O B) (here : s.around ≡ Some a) (repeats : List (Ptr Operation)) (are : AreRepeats w c root repeats) where
-    it : IsAround c root op a
+  module _ (s : Site O B) (at : IsSiteOf c root op s) (a : Around O B) (here : s.around ≡ Some a) where
+    pub it : IsAround c root op a
     it = around_some s.around a at.around here
 
     -- a repeat in the block of the operation breaks the freshness of its name in the tree
@@ -38,7 +38,7 @@ module _ {O B : Type 0} (w : World O B) (c : Program O B) (root op : Ptr Operati
         (sym (name_is w c r.other other.0 other.2) ∙ r.same_name) (sym (name_is w c op s.op at.tree) ∙ r.named)
 
     -- a name of the tree that isn't fresh is that of a repeat
-    repeat_of : (k : ℕ) (other : ProgramTree O B) (name : List ℕ) → k < a.index → slice_get (operation_list a.body.operations) k ≡ Some other → symbol_name w other ≡ Some name → symbol_name w s.op ≡ Some name →
+    pub repeat_of : (k : ℕ) (other : ProgramTree O B) (name : List ℕ) → k < a.index → slice_get (operation_list a.body.operations) k ≡ Some other → symbol_name w other ≡ Some name → symbol_name w s.op ≡ Some name →
         IsRepeat w c (operations_in c it.block) op
     repeat_of k other name before there theirs mine =
         let l = operation_listed c it.body.view.operations a.body.operations it.body.operations k other there in
@@ -54,13 +54,14 @@ module _ {O B : Type 0} (w : World O B) (c : Program O B) (root op : Ptr Operati
           same_name = name_is w c other.head.name other l.1 ∙ theirs;
         }
 
-    block_inside : HasLists c → StandsInside c (OperationNode root) (BlockNode it.block)
+    pub block_inside : HasLists c → StandsInside c (OperationNode root) (BlockNode it.block)
     block_inside lists = ⊎_elim
         (λ (same : OperationNode root ≡ OperationNode op). absurd (it.other (let e : op ≡ root = cc in e)))
         (λ i. i)
         (around_operation c lists (OperationNode root) op it.block it.in_block at.inside)
 
-    in_its_block : HasLists c → (e : IRNode) → IsRepeatAt w c e op → HasFreshName w a s.op → ⊥
+    -- so does a repeat in whatever block has the operation
+    pub in_its_block : HasLists c → (e : IRNode) → IsRepeatAt w c e op → HasFreshName w a s.op → ⊥
     in_its_block lists (BlockNode b) r fresh =
         let one = lists.operations_once op b it.block r.index a.index r.here it.index in
         let mine : IsRepeat w c (operations_in c it.block) op = subst (λ x. IsRepeat w c (operations_in c x) op) one.0 r in
@@ -71,12 +72,13 @@ module _ {O B : Type 0} (w : World O B) (c : Program O B) (root op : Ptr Operati
     in_its_block lists (OperationNode p) r fresh = r
     in_its_block lists (RegionNode p) r fresh = r
 
-    -- the name is fresh exactly where the operation is no repeat
-    pub fresh_name : HasLists c → (is : Bool) → IsTrue is ↔ (Has op repeats → ⊥) → IsTrue is ↔ HasFreshName w a s.op
-    fresh_name lists is tells = (
-      λ h k other name before there theirs mine. tells.0 h ((are op).1 (BlockNode it.block, block_inside lists, repeat_of k other name before there theirs mine)),
-      λ fresh. tells.1 (λ has. let m = (are op).0 has in in_its_block lists m.0 m.2 fresh),
-    )
+    module _ (repeats : List (Ptr Operation)) (are : AreRepeats w c root repeats) where
+      -- the name is fresh exactly where the operation is no repeat
+      pub fresh_name : HasLists c → (is : Bool) → IsTrue is ↔ (Has op repeats → ⊥) → IsTrue is ↔ HasFreshName w a s.op
+      fresh_name lists is tells = (
+        λ h k other name before there theirs mine. tells.0 h ((are op).1 (BlockNode it.block, block_inside lists, repeat_of k other name before there theirs mine)),
+        λ fresh. tells.1 (λ has. let m = (are op).0 has in in_its_block lists m.0 m.2 fresh),
+      )
 
 -- what is held where a part of it decides
 pub held_last : {O B : Type 0} (w : World O B) (s : Site O B) (a : Around O B) (is r : Bool) → is ≡ true → is ≡ is_symbol (kind_of w s.op) → IsTrue r ↔ HasFreshName w a s.op → IsTrue r ↔ MayBeHeld w s a

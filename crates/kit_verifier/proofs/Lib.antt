@@ -3,8 +3,10 @@ pub mod Keys
 pub mod Read
 pub mod Repeated
 pub mod Held
+pub mod ModuleBlocks
 pub mod Bodies
 pub mod Climbed
 pub mod Called
+pub mod NameRules
 pub mod Typed
 pub mod Verdicts

@@ -36,7 +36,7 @@ module _ {O B : Type 0} (w : World O B) (c : Program O B) where
   IsNewRepeat names op p = (p ≡ op) × HasNameAmong w c names op
 
   module _ (done : List (Ptr Operation)) (names : List (List ℕ)) (op : Ptr Operation) (seen : Collected Named done names) where
-    split_repeat : (x : Ptr Operation) → IsRepeat w c (done ++ op ∷ []) x → IsRepeat w c done x ⊎ IsNewRepeat names op x
+    pub split_repeat : (x : Ptr Operation) → IsRepeat w c (done ++ op ∷ []) x → IsRepeat w c done x ⊎ IsNewRepeat names op x
     split_repeat x r = ⊎_elim
         (λ (here : slice_get done r.index ≡ Some x).
         let within = slice_get_within done r.index x here in
@@ -52,7 +52,7 @@ module _ {O B : Type 0} (w : World O B) (c : Program O B) where
         (get_last done op r.first r.other r.there))
         (get_last done op r.index x r.here)
 
-    join_repeat : (x : Ptr Operation) → IsRepeat w c done x ⊎ IsNewRepeat names op x → IsRepeat w c (done ++ op ∷ []) x
+    pub join_repeat : (x : Ptr Operation) → IsRepeat w c done x ⊎ IsNewRepeat names op x → IsRepeat w c (done ++ op ∷ []) x
     join_repeat x h = ⊎_elim
         (λ r. record { index = r.index; here = get_front done (op ∷ []) r.index x r.here; first = r.first; before = r.before; other = r.other; there = get_front done (op ∷ []) r.first r.other r.there; name = r.name; named = r.named; same_name = r.same_name })
         (λ (n : IsNewRepeat names op x).
@@ -73,6 +73,19 @@ module _ {O B : Type 0} (w : World O B) (c : Program O B) where
 
     pub repeats_more : (old mid new : List (Ptr Operation)) → Gains old mid (IsRepeat w c done) → Gains mid new (IsNewRepeat names op) → Gains old new (IsRepeat w c (done ++ op ∷ []))
     repeats_more old mid new p q = gains_as old new (λ x. IsRepeat w c done x ⊎ IsNewRepeat names op x) (IsRepeat w c (done ++ op ∷ [])) join_repeat split_repeat (gains_both old mid new (IsRepeat w c done) (IsNewRepeat names op) p q)
+
+  pub repeat_front : (xs ys : List (Ptr Operation)) (x : Ptr Operation) → IsRepeat w c xs x → IsRepeat w c (xs ++ ys) x
+  repeat_front xs ys x r = record {
+    index = r.index;
+    here = get_front xs ys r.index x r.here;
+    first = r.first;
+    before = r.before;
+    other = r.other;
+    there = get_front xs ys r.first r.other r.there;
+    name = r.name;
+    named = r.named;
+    same_name = r.same_name;
+  }
 
   pub repeats_none : (x : Ptr Operation) → IsRepeat w c [] x → ⊥
   repeats_none x r = let e = r.here in cc

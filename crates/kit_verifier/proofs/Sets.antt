@@ -12,7 +12,7 @@ use Rattle.ir_program.specs.declared.handles.IRNode.{IRNode}
 use Rattle.ir_trees.proofs.Members.{Has, at_has, has_at, has_front, has_back, has_either}
 use Rattle.kit_verifier.specs.Sets.{Gains}
 
-one_more : {X : Type 0} (xs : List X) (y x : X) → Has x (xs ++ y ∷ []) ↔ (Has x xs ⊎ (x ≡ y))
+pub one_more : {X : Type 0} (xs : List X) (y x : X) → Has x (xs ++ y ∷ []) ↔ (Has x xs ⊎ (x ≡ y))
 one_more xs y x = (
   λ h. ⊎_elim (λ l. inl l) (λ r. ⊎_elim (λ s. inr s) (λ n. absurd n) r) (has_either xs (y ∷ []) x h),
   λ h. ⊎_elim (λ l. has_front xs (y ∷ []) x l) (λ s. has_back xs (y ∷ []) x (inl s)) h,

@@ -1,6 +1,6 @@
 -- The first fault, as the rules are tested in their order.
 use Rattle.std.proofs.Common.{◌≡◌, ◌⊎◌, ⊎_elim, ℕ, zero, suc, ◌+◌, ◌-◌, ◌<◌, ◌≤◌, List, [], ◌∷◌, map, option_map, Some, None, get_or, slice_get, refl, sym, ap, ◌∙◌, subst, arith}
-use Rattle.std.proofs.Common.{◌↔◌, Bool, true, false, not, Option, is_some, IsTrue, true≢false}
+use Rattle.std.proofs.Common.{◌↔◌, Bool, IfOk, IsTrue, Result, Ok, Err}
 use Rattle.std.proofs.lemmas.Option.{slice_get-get_or, slice_get-map}
 use Rattle.ir_names.specs.declared.place.Place.{Place}
 use Rattle.ir_program.specs.Program.{Program}
@@ -136,35 +136,15 @@ module _ {O B : Type 0} (w : World O B) (c : Program O B) (root : Ptr Operation)
   all_rules kept m f rule.AttributesAreKnown = kept rule.AttributesAreKnown tt
   all_rules kept m f rule.FitsFormat = kept rule.FitsFormat tt
 
-  -- no rule is both broken at a place and kept everywhere
-  not_both : (t : ProgramTree O B) → StandsFor c root t → (r : Rule) (place : Place)
-      → IsFoundIn w c root r (Some place) → IsFoundIn w c root r None → ⊥
-  not_both t s r place found kept =
-      let first = found t s in
-      first.breaks.broken (kept t s place.children.items first.breaks.site first.breaks.there)
-
-  -- where no place was found the rule is kept; where one was, not all rules are
-  pub found_kept : (r : Rule) (found : Option Place) (is : Bool) → is ≡ is_some found → is ≡ false
-      → IsFoundIn w c root r found → IsFoundIn w c root r None
-  found_kept r None is told fails found = found
-  found_kept r (Some place) is told fails found = absurd (true≢false (sym told ∙ fails))
-
-  pub found_broken : (t : ProgramTree O B) → StandsFor c root t → (r : Rule) (found : Option Place) (is : Bool)
-      → is ≡ is_some found → is ≡ true → IsFoundIn w c root r found
-      → IsTrue false ↔ ((q : Rule) → IsFoundIn w c root q None)
-  found_broken t s r None is told holds found = absurd (true≢false (sym holds ∙ told))
-  found_broken t s r (Some place) is told holds found =
-      (λ h. absurd (true≢false (sym h)), λ kept. absurd (not_both t s r place found (kept r)))
-
-  -- where all rules but that on calls are kept, whether that one is decides
-  pub calls_decide : (t : ProgramTree O B) → StandsFor c root t → KeepsLocalRules w c root
-      → IsFoundIn w c root rule.ModuleHolds None → (found : Option Place) (none : Bool) → is_some found ≡ not none
-      → IsFoundIn w c root rule.CallsFit found → IsTrue none ↔ ((q : Rule) → IsFoundIn w c root q None)
-  calls_decide t s local held None true told found = (λ h. all_rules local held found, λ kept. refl)
-  calls_decide t s local held None false told found = absurd (true≢false (sym told))
-  calls_decide t s local held (Some place) true told found = absurd (true≢false told)
-  calls_decide t s local held (Some place) false told found =
-      (λ h. absurd (true≢false (sym h)), λ kept. absurd (not_both t s rule.CallsFit place found (kept rule.CallsFit)))
+  -- where the rules that ask for no table of names are kept, whether the others are decides
+  pub names_decide : {E : Type 0} → KeepsLocalRules w c root → (r : Result Bool E)
+      → IfOk r (λ is. IsTrue is ↔ (IsFoundIn w c root rule.ModuleHolds None × IsFoundIn w c root rule.CallsFit None))
+      → IfOk r (λ is. IsTrue is ↔ ((q : Rule) → IsFoundIn w c root q None))
+  names_decide local (Ok is) tells = (
+    λ h. let both = tells.0 h in all_rules local both.0 both.1,
+    λ kept. tells.1 (kept rule.ModuleHolds, kept rule.CallsFit),
+  )
+  names_decide local (Err e) tells = tells
 
 -- all other rules are tested one operation at a time
 pub tested : (r : Rule) → (r ≡ rule.ModuleHolds → ⊥) → (r ≡ rule.CallsFit → ⊥) → IsTested r

@@ -4,3 +4,4 @@ pub mod Repeats
 pub mod Callees
 pub mod Scopes
 pub mod Tables
+pub mod Names

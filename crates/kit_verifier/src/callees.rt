@@ -82,11 +82,10 @@ fn callee_of<'a, D: DialectTables<OpKind = KitOp, Attr = KitAttr, TypeKey = KitT
 }
 
 /// Puts an entity to the functions that can be called, if it is one.
-fn add_callee_at<'a, D: DialectTables<OpKind = KitOp, Attr = KitAttr, TypeKey = KitType>>(
-    ctx: &'a Context<D>,
-    callees: &mut IndexSet<Callee<'a>>,
-    node: IRNode,
-) -> Result<(), AllocError>
+pub(crate) fn add_callee_at<
+    'a,
+    D: DialectTables<OpKind = KitOp, Attr = KitAttr, TypeKey = KitType>,
+>(ctx: &'a Context<D>, callees: &mut IndexSet<Callee<'a>>, node: IRNode) -> Result<(), AllocError>
     requires { IsLiveNode ctx.now.program node }
     ensures { OnOk result (Gains (callables_of callees.old.keys) (callables_of callees.new.keys)
         (IsCallableAt (world_of ctx.now) ctx.now.program node)) }

@@ -1,13 +1,16 @@
 //! Whether a call calls a function that is there.
-ghost use Rattle.std.specs.Prelude.{◌≡◌, ◌↔◌, IsSome, IsTrue, Some, option_map};
+ghost use Rattle.std.specs.Prelude.{◌≡◌, ◌↔◌, IsSome, IsTrue, None, Some, option_map};
 ghost use Rattle.ir_program.specs.Lists.{StandsInside};
 ghost use Rattle.ir_program.specs.Program.{operation_at};
 ghost use Rattle.ir_program.specs.declared.handles.IRNode.TheVariants.{Operation as OperationNode};
 ghost use Rattle.kit_checks.specs.Reading.{OfSite};
 ghost use Rattle.kit_checks.specs.Rules.{CallsFit};
+ghost use Rattle.kit_checks.specs.Searching.{IsFoundIn};
 ghost use Rattle.kit_checks.specs.World.{world_of};
+ghost use Rattle.kit_checks.specs.declared.rule.Rule.TheVariants.{CallsFit as CallsRule};
 ghost use Rattle.kit_ops.specs.declared.kinds.KitOp.TheVariants.{Call};
 ghost use Rattle.kit_verifier.specs.Callees.{AreCallees, Calls, CallsOne, Callable, callable_of, callables_of};
+ghost use Rattle.kit_verifier.specs.Names.{AreCalls};
 ghost use Rattle.kit_verifier.specs.Reading.{kind_at};
 
 use crate::callees::{Callee, callee_from, has_callee};
@@ -16,7 +19,8 @@ use crate::scopes::nearest_module;
 use crate::signatures::has_signature;
 use indexmap::IndexSet;
 use ir_context::Context;
-use ir_program::{Operation, Ptr};
+use ir_program::{IRNode, Operation, Ptr};
+use ir_trees::know_tree;
 use ir_types::DialectTables;
 use kit_ops::{KitAttr, KitOp, KitType, keys};
 
@@ -93,4 +97,28 @@ pub(crate) fn calls_fit<'a, D: DialectTables<OpKind = KitOp, Attr = KitAttr, Typ
         return true;
     }
     calls_function(ctx, root, callees, op)
+}
+
+/// Whether the rule on calls is kept in the tree that the root stands for, where these are the calls inside the root.
+pub(crate) fn all_fit<'a, D: DialectTables<OpKind = KitOp, Attr = KitAttr, TypeKey = KitType>>(
+    ctx: &'a Context<D>,
+    root: Ptr<Operation>,
+    callees: &IndexSet<Callee<'a>>,
+    calls: &[Ptr<Operation>],
+) -> bool
+    requires root { IsSome (operation_at ctx.now.program root) }
+    requires calls { AreCalls (world_of ctx.now) ctx.now.program root calls.now }
+    requires table { AreCallees (world_of ctx.now) ctx.now.program root (callables_of callees.now.keys) }
+    ensures { IsTrue result ↔ IsFoundIn (world_of ctx.now) ctx.now.program root CallsRule None }
+{
+    let program = ctx.program();
+    program.know_lists();
+    know_tree(program, root);
+    let _inside = program.nodes_inside(IRNode::Operation(root));
+    for call in calls {
+        if !calls_fit(ctx, root, callees, *call) {
+            return false;
+        }
+    }
+    true
 }

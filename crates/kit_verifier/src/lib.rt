@@ -4,11 +4,13 @@
 mod callees;
 mod calls;
 mod modules;
+mod names;
 mod reading;
 mod repeats;
 mod scopes;
 mod search;
 mod signatures;
+mod symbols;
 mod table;
 mod verify;
 

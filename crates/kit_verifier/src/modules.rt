@@ -34,7 +34,7 @@ fn has_plain_block<O, B>(program: &Program<O, B>, region: Ptr<Region>) -> bool
 }
 
 /// Whether an operation has one region with one block without arguments.
-fn has_module_body<O, B>(program: &Program<O, B>, op: Ptr<Operation>) -> bool
+pub(crate) fn has_module_body<O, B>(program: &Program<O, B>, op: Ptr<Operation>) -> bool
     requires { IsSome (operation_at program.now op) }
     ensures { OfTree program.now op (λ u. IsTrue result ↔ HasModuleBody u) }
 {

@@ -38,7 +38,7 @@ fn add_operation(
 }
 
 /// Whether an operation has a name that is among these. Its name is put to them.
-fn is_repeat<'a, D: DialectTables<OpKind = KitOp, Attr = KitAttr, TypeKey = KitType>>(
+pub(crate) fn is_repeat<'a, D: DialectTables<OpKind = KitOp, Attr = KitAttr, TypeKey = KitType>>(
     ctx: &'a Context<D>,
     names: &mut IndexSet<&'a str>,
     op: Ptr<Operation>,

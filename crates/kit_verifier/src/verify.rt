@@ -9,13 +9,13 @@ ghost use Rattle.kit_checks.specs.declared.rule.Rule.{Rule};
 ghost use Rattle.kit_checks.specs.declared.rule.Rule.TheVariants.{ModuleHolds, CallsFit};
 
 use crate::callees::callees_inside;
+use crate::names::keeps_names;
 use crate::repeats::repeats_inside;
 use crate::search::first_place_by;
 use crate::table::Table;
 use ir_context::Context;
 use ir_names::Place;
 use ir_program::{Operation, Ptr};
-use ir_trees::know_tree;
 use ir_types::DialectTables;
 use kit_checks::{Rule, RuleFault, first_place, keeps_local_rules};
 use kit_ops::{KitAttr, KitOp, KitType};
@@ -103,7 +103,7 @@ pub fn first_broken<D: DialectTables<OpKind = KitOp, Attr = KitAttr, TypeKey = K
 }
 
 /// Whether all rules are kept in the tree that the root stands for, without the place of a fault. One walk tests all
-/// rules that ask for no table of names; each of the others is searched for.
+/// rules that ask for no table of names, and one those that do.
 ///
 /// # Errors
 /// No memory to find out.
@@ -116,18 +116,11 @@ fn keeps_all_rules<D: DialectTables<OpKind = KitOp, Attr = KitAttr, TypeKey = Ki
     ensures { IfOk result (λ kept.
         IsTrue kept ↔ ((r : Rule) → IsFoundIn (world_of ctx.now) ctx.now.program root r None)) }
 {
-    let program = ctx.program();
-    know_tree(program, root);
     let keeps_local = keeps_local_rules(alloc, ctx, root)?;
     if !keeps_local {
         return Ok(false);
     }
-    let module_fault = first_module_fault(alloc, ctx, root)?;
-    if module_fault.is_some() {
-        return Ok(false);
-    }
-    let call_fault = first_call_fault(alloc, ctx, root)?;
-    Ok(call_fault.is_none())
+    keeps_names(alloc, ctx, root)
 }
 
 /// Tests the rules one by one in the tree that the root stands for, in the order of their numbers, up to the first one

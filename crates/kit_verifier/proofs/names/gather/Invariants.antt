@@ -1,0 +1,19 @@
+use Rattle.std.proofs.Common.{◌≡◌, ◌++◌}
+use Rattle.ir_program.specs.Preorder.{nodes_inside}
+use Rattle.ir_program.specs.declared.handles.IRNode.{IRNode}
+use Rattle.ir_program.specs.declared.handles.IRNode.TheVariants.{Operation as OperationNode}
+use Rattle.opt_trees.specs.Occurrences.{Has}
+use Rattle.kit_checks.specs.World.{world_of}
+use Rattle.kit_verifier.specs.Callees.{callables_of, IsCallableAt}
+use Rattle.kit_verifier.specs.Names.{HoldsAt, IsCallAt}
+use Rattle.kit_verifier.proofs.Sets.{Collected}
+use Rattle.kit_verifier.proofs.names.gather.Given as goal
+
+-- what those that were seen give is there, and they hold what they may
+abbrev pub invariant-loop-node : goal.invariant-loop-node
+invariant-loop-node g l = record {
+  listed : l.yielded ++ l.node-iterator ≡ nodes_inside l.ctx.program (OperationNode l.fn.root);
+  holds : (e : IRNode) → Has e l.yielded → HoldsAt (world_of l.ctx) l.ctx.program e;
+  callees : Collected (IsCallableAt (world_of l.ctx) l.ctx.program) l.yielded (callables_of l.callees.keys);
+  calls : Collected (IsCallAt (world_of l.ctx) l.ctx.program) l.yielded l.calls.items;
+}
