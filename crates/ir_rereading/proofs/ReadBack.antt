@@ -137,7 +137,7 @@ module _ (l : Language) (lead : ordered.Leads) (ok : is_ordered lead (rules_of l
   numbers = map (name_number (with_words [] (spelled_texts cs ts)) 0 cs) ts
 
   alike : AlikeInNumber cs ts numbers
-  alike = alike_by cs ts 0 numbers refl
+  alike = alike_by cs [] ts 0 numbers refl
 
   kinds_are : map (kind_of (map chars ws) cs) ts ≡ map (kind_by ws) (tokens ms)
   kinds_are = ap (λ us. map (kind_of us cs) ts) (words_plain l.formats printable) ∙ kinds_by ws cs ts (tokens ms) lexed.2 lexed.3
