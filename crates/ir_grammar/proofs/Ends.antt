@@ -1,7 +1,7 @@
 -- What is answered where reading stops.
-use Rattle.std.proofs.Common.{◌≡◌, ℕ, suc, ◌+◌, ◌-◌, length-drop, ◌<◌, ◌≤◌, List, [], ◌∷◌, ◌++◌, Result, Ok, Err, IfOk, length, take, drop, get_or, refl, sym, subst, ap, ◌∙◌, arith, inl, inr}
-use Rattle.std.proofs.lemmas.List.{take_more, take_all, append_assoc, length-take-le}
-use Rattle.std.proofs.Math.Seq.{drop-append_seam}
+use Rattle.std.proofs.Common.{true, false, ◌≡◌, ℕ, suc, ◌+◌, ◌-◌, ◌<◌, ◌≤◌, List, [], ◌∷◌, ◌++◌, Option, Some, None, is_some, Result, Ok, Err, IfOk, length, take, get_or, refl, sym, subst, ap, ◌∙◌, arith, inl, inr}
+use Rattle.std.proofs.lemmas.List.{take_more, append_assoc, length-take-le}
+use Rattle.ir_grammar.specs.declared.grammar.Action.{Action}
 use Rattle.ir_grammar.specs.declared.grammar.Symbol.{Symbol}
 use Rattle.ir_grammar.specs.declared.grammar.Symbol.TheVariants.{Part}
 use Rattle.ir_grammar.specs.declared.grammar.Event.{Event}
@@ -12,8 +12,8 @@ use Rattle.ir_grammar.specs.declared.grammar.Stop.TheVariants.{Text, Stuck, Deep
 use Rattle.ir_grammar.specs.declared.grammar.Reading.{Reading}
 use Rattle.ir_grammar.specs.Grammar.{IsTextOf}
 use Rattle.ir_grammar.specs.Table.{IsKnown, IsPredictive}
-use Rattle.ir_grammar.specs.Reading.{IsLongestFront, IsCut, Reads, OpensMore, depth_at, depth_after}
-use Rattle.ir_grammar.specs.Run.{Leads, Closes, IsStuck, Ends, Grows}
+use Rattle.ir_grammar.specs.Reading.{IsLongestFront, IsCut, Reads, OpensMore, opens, closes, depth_at, depth_after}
+use Rattle.ir_grammar.specs.Run.{Leads, Closes, IsStuck, Ends, Grows, IsDepth}
 use Rattle.ir_grammar.proofs.Derivations.{viable}
 
 module _ (g : Grammar) (ok : IsPredictive g) where
@@ -61,30 +61,49 @@ opens_before many d (Took ∷ a) h = opens_before many d a h
 opens_before many d (Did x ∷ a) (inl h) = inl h
 opens_before many d (Did x ∷ a) (inr h) = inr (opens_before many (depth_at d x) a h)
 
--- what is new
-grown : (old new : List Event) → Grows old new → new ≡ old ++ drop (length old) new
-grown old new h =
-    let e : new ≡ old ++ (h.0 ++ Took ∷ []) = h.1 ∙ append_assoc old h.0 (Took ∷ []) in
-    e ∙ ap (λ x. old ++ x) (sym (ap (drop (length old)) e ∙ drop-append_seam old (h.0 ++ Took ∷ [])))
+-- too many stay too many, whatever comes
+pub opens_append : (many d : ℕ) (a b : List Event) → OpensMore many d a → OpensMore many d (a ++ b)
+opens_append many d [] b h = absurd h
+opens_append many d (Took ∷ a) b h = opens_append many d a b h
+opens_append many d (Did x ∷ a) b (inl h) = inl h
+opens_append many d (Did x ∷ a) b (inr h) = inr (opens_append many (depth_at d x) a b h)
 
--- the slice from k on
-pub slice_from : (es : List Event) (k : ℕ) → take (length es - k) (drop k es) ≡ drop k es
-slice_from es k = take_all (length es - k) (drop k es) (omega (arith, length-drop k es))
+-- a token doesn't change it
+pub depth_took : (many : ℕ) (es : List Event) (d : Option ℕ) → IsDepth many es d → IsDepth many (es ++ Took ∷ []) d
+depth_took many es None h = opens_append many 0 es (Took ∷ []) h
+depth_took many es (Some d) h = (h.0, h.1 ∙ sym (depth_append 0 es (Took ∷ [])))
 
-pub depth_grown : (old new : List Event) (n d : ℕ) → Grows old new → n ≡ length old → d ≡ depth_after 0 old → depth_after d (drop n new) ≡ depth_after 0 new
-depth_grown old new n d h e i = rw (e, i) (sym (depth_append 0 old (drop (length old) new)) ∙ ap (depth_after 0) (sym (grown old new h)))
+-- where none is known, too many were open
+pub depth_none : (many : ℕ) (es : List Event) (d : Option ℕ) → is_some d ≡ false → IsDepth many es d → OpensMore many 0 es
+depth_none many es None n h = h
+depth_none many es (Some d) n h = cc
 
-pub cut : (g : Grammar) (ok : IsPredictive g) (root many : ℕ) (ts : List ℕ) (old new : List Event) (stack : List Symbol) (n k d : ℕ) → n < length ts → IsKnown g stack → Grows old new → k ≡ length old → d ≡ depth_after 0 old
-    → Leads g root (take n ts ++ get_or ts n 0 ∷ []) new stack → OpensMore many d (drop k new) → IsCut g root many ts (n + 1) new
-cut g ok root many ts old new stack n k d lt known h e i l deep =
+-- where one more is too many
+pub depth_passes : (many : ℕ) (es : List Event) (d : ℕ) (a : Action) → (d ≤ many) × (d ≡ depth_after 0 es) → opens a ≡ true → many ≤ d → OpensMore many 0 (es ++ Did a ∷ [])
+depth_passes many es d a h o le = opens_later many 0 es (Did a ∷ []) (rw (← h.1) (inl (o, le)))
+
+pub depth_did : (es : List Event) (d after : ℕ) (a : Action) → d ≡ depth_after 0 es → after ≡ depth_at d a → after ≡ depth_after 0 (es ++ Did a ∷ [])
+depth_did es d after a h e = e ∙ (ap (λ n. depth_at n a) h ∙ sym (depth_append 0 es (Did a ∷ [])))
+
+pub depth_opened : (d : ℕ) (a : Action) → opens a ≡ true → d + 1 ≡ depth_at d a
+depth_opened d a o = rw o refl
+
+pub depth_closed : (d : ℕ) (a : Action) → opens a ≡ false → closes a ≡ true → d - 1 ≡ depth_at d a
+depth_closed d a o e = rw (o, e) refl
+
+pub depth_left : (d : ℕ) (a : Action) → opens a ≡ false → closes a ≡ false → d ≡ depth_at d a
+depth_left d a o e = rw (o, e) refl
+
+-- where it stops, one token after too many parts were open
+pub cut : (g : Grammar) (ok : IsPredictive g) (root many : ℕ) (ts : List ℕ) (old new : List Event) (stack : List Symbol) (n : ℕ) → n < length ts → IsKnown g stack → Grows old new
+    → Leads g root (take n ts ++ get_or ts n 0 ∷ []) new stack → OpensMore many 0 new → IsCut g root many ts (n + 1) new
+cut g ok root many ts old new stack n lt known h l deep =
     let front : take (n + 1) ts ≡ take n ts ++ get_or ts n 0 ∷ [] = take_more ts n 0 lt in
     let l' : Leads g root (take (n + 1) ts) new stack = rw front l in
-    let deep' : OpensMore many (depth_after 0 old) (drop (length old) new) = rw (e, i) at deep in
-    let opens : OpensMore many 0 new = rw (grown old new h) (opens_later many 0 old _ deep') in
     record {
       within = omega arith;
       viable = viable g ok root (take (n + 1) ts) new stack known l';
       each = λ more all t. let b = l'.back more all t in (b.0, b.1);
       took = l'.took ∙ length-take-le (n + 1) ts (omega arith);
-      last = (old ++ h.0, h.1, opens_before many 0 (old ++ h.0) (subst (OpensMore many 0) h.1 opens));
+      last = (old ++ h.0, h.1, opens_before many 0 (old ++ h.0) (subst (OpensMore many 0) h.1 deep));
     }

@@ -1,6 +1,5 @@
 -- A step of the reader, over plain lists.
-use Rattle.std.proofs.Common.{true, false, ◌≡◌, ℕ, suc, ◌+◌, ◌<◌, List, [], ◌∷◌, ◌++◌, Some, None, slice_get, length, reverse, sym, subst, ap, ◌∙◌, arith, add-one, ◌⊎◌, inl, inr}
-use Rattle.std.proofs.lemmas.List.{reverse-append}
+use Rattle.std.proofs.Common.{true, false, ◌≡◌, ℕ, suc, ◌+◌, ◌<◌, List, [], ◌∷◌, ◌++◌, Some, None, slice_get, length, sym, subst, ap, ◌∙◌, arith, add-one, ◌⊎◌, inl, inr}
 use Rattle.std.proofs.lemmas.Option.{slice_get_within}
 use Rattle.ir_grammar.specs.declared.grammar.Action.{Action}
 use Rattle.ir_grammar.specs.declared.grammar.Symbol.{Symbol}
@@ -15,16 +14,9 @@ use Rattle.ir_grammar.specs.Run.{Leads, LeadsAt, Closes, IsStuck}
 use Rattle.ir_grammar.proofs.Derivations.{known_append, fine_expanded, height_expanded, leads_expanded, leads_acted, leads_shifted, stuck_part, stuck_sign}
 use Rattle.ir_grammar.proofs.Closing.{begins_append, closes_acted, closes_expanded}
 
-pub reverse_top : (s rest : List Symbol) (x : Symbol) → s ≡ rest ++ x ∷ [] → reverse s ≡ x ∷ reverse rest
-reverse_top s rest x e = ap reverse e ∙ reverse-append rest (x ∷ [])
-
 -- what may still be closed, or goes on
 abbrev pub IsOn : Grammar → (ℕ → List ℕ → Type 0) → List Event → List Symbol → ℕ → Type 0
 IsOn g P did stack c = ((root : ℕ) (done : List ℕ) → P root done → Closes g root done did stack) ⊎ Begins g stack c
-
--- the symbol goes back
-pub put_back : (s rest s' : List Symbol) (x y : Symbol) → s ≡ rest ++ x ∷ [] → x ≡ y → s' ≡ rest ++ y ∷ [] → s' ≡ s
-put_back s rest s' x y e is e' = e' ∙ (ap (λ z. rest ++ z ∷ []) (sym is) ∙ sym e)
 
 module _ (g : Grammar) (ok : IsPredictive g) where
   -- the table's rule is the rule that is read

@@ -1,10 +1,13 @@
 //! A grammar that is data, and a reader over it that decides each step by the next token.
-ghost use Rattle.std.specs.Prelude.{◌≡◌, ℕ, List, ◌++◌, reverse, take, length, slice_get, IfOk, OnOk, IsTrue, MatchOption, ◌≤◌};
+ghost use Rattle.std.specs.Prelude.{◌≡◌, ℕ, List, ◌∷◌, [], ◌++◌, slice_get, IfOk, OnOk, IsTrue};
+ghost use Rattle.ir_grammar.specs.declared.grammar.Event.TheVariants.{Did};
 ghost use Rattle.ir_grammar.specs.Grammar.{accepts};
 ghost use Rattle.ir_grammar.specs.Table.{pick, closing_of, IsFine, IsKnown, IsPredictive, CanRead};
-ghost use Rattle.ir_grammar.specs.Run.{Leads, Closes, Advances, Ends, Grows};
-ghost use Rattle.ir_grammar.specs.Reading.{Reads, OpensMore, depth_after, opens, closes, begins_member};
+ghost use Rattle.ir_grammar.specs.Run.{Leads, Closes, Advances, Ends, Grows, IsDepth};
+ghost use Rattle.ir_grammar.specs.Reading.{Reads, opens, closes, begins_member};
+ghost use Rattle.ir_grammar.specs.Pending.{unread};
 
+use crate::pending::Pending;
 use std::alloc::{AllocError, Global};
 
 /// Something that reading does at the token before it.
@@ -210,40 +213,48 @@ impl Grammar {
         }
     }
 
-    /// Takes a token, if one of its kind may come next. Else parts may be closed.
-    fn advance(
-        &self,
-        stack: &mut Vec<Symbol>,
+    /// Takes a token, if one of its kind may come next. Else parts may be closed. The depth follows what is done.
+    fn advance<'g>(
+        &'g self,
+        pending: &mut Pending<'g>,
         events: &mut Vec<Event>,
+        depth: &mut Option<usize>,
+        deepest: usize,
         kind: u32,
     ) -> Result<bool, AllocError>
         requires predictive { IsPredictive self.now }
-        requires fine { IsFine self.now (reverse stack.old.items) }
-        requires known { IsKnown self.now (reverse stack.old.items) }
+        requires fine { IsFine self.now (unread pending.old) }
+        requires known { IsKnown self.now (unread pending.old) }
+        requires depth { IsDepth deepest events.old.items depth.old }
         ensures advanced { IfOk result (λ yes. (root : ℕ) (done : List ℕ)
-            → Leads self.now root done events.old.items (reverse stack.old.items)
-            → Advances self.now root done kind yes events.new.items (reverse stack.new.items)) }
+            → Leads self.now root done events.old.items (unread pending.old)
+            → Advances self.now root done kind yes events.new.items (unread pending.new)) }
         ensures grows { IfOk result (λ yes. IsTrue yes → Grows events.old.items events.new.items) }
-        ensures fine { OnOk result (IsFine self.now (reverse stack.new.items)) }
-        ensures known { OnOk result (IsKnown self.now (reverse stack.new.items)) }
+        ensures fine { OnOk result (IsFine self.now (unread pending.new)) }
+        ensures known { OnOk result (IsKnown self.now (unread pending.new)) }
+        ensures depth { OnOk result (IsDepth deepest events.new.items depth.new) }
     {
-        while let Some(symbol) = stack.pop() {
+        while let Some(symbol) = pending.first() {
             match symbol {
                 Symbol::Sign(sign) => {
-                    if self.accepts(sign, kind as usize) {
-                        events.push(Event::Took)?;
-                        return Ok(true);
-                    }
-                    stack.push(Symbol::Sign(sign))?;
-                    return Ok(false);
-                }
-                Symbol::Act(action) => events.push(Event::Did(action))?,
-                Symbol::Part(part) => match self.pick(part, kind as usize + 1) {
-                    None => {
-                        stack.push(Symbol::Part(part))?;
+                    if !self.accepts(sign, kind as usize) {
                         return Ok(false);
                     }
-                    Some(p) => push_all(stack, &self.rules[p].body)?,
+                    events.push(Event::Took)?;
+                    pending.skip();
+                    return Ok(true);
+                }
+                Symbol::Act(action) => {
+                    events.push(Event::Did(action))?;
+                    *depth = depth_at(*depth, action, deepest);
+                    pending.skip();
+                }
+                Symbol::Part(part) => match self.pick(part, kind as usize + 1) {
+                    None => return Ok(false),
+                    Some(p) => {
+                        pending.skip();
+                        pending.open(&self.rules[p].body)?;
+                    }
                 },
             }
         }
@@ -251,21 +262,21 @@ impl Grammar {
     }
 
     /// Closes each part that may end, where no further token is taken.
-    fn finish(
-        &self,
-        mut stack: Vec<Symbol>,
+    fn finish<'g>(
+        &'g self,
+        mut pending: Pending<'g>,
         mut events: Vec<Event>,
         taken: usize,
     ) -> Result<Reading, AllocError>
         requires predictive { IsPredictive self.now }
-        requires fine { IsFine self.now (reverse stack.items) }
-        requires known { IsKnown self.now (reverse stack.items) }
+        requires fine { IsFine self.now (unread pending) }
+        requires known { IsKnown self.now (unread pending) }
         ensures ends { IfOk result (λ r. (root : ℕ) (done : List ℕ)
-            → Closes self.now root done events.items (reverse stack.items)
+            → Closes self.now root done events.items (unread pending.entry)
             → Ends self.now root done r.stop r.events.items) }
         ensures taken { IfOk result (λ r. r.taken ≡ taken) }
     {
-        while let Some(symbol) = stack.pop() {
+        while let Some(symbol) = pending.first() {
             match symbol {
                 Symbol::Sign(_) => {
                     return Ok(Reading {
@@ -274,7 +285,10 @@ impl Grammar {
                         events,
                     });
                 }
-                Symbol::Act(action) => events.push(Event::Did(action))?,
+                Symbol::Act(action) => {
+                    events.push(Event::Did(action))?;
+                    pending.skip();
+                }
                 Symbol::Part(part) => match self.closing(part) {
                     None => {
                         return Ok(Reading {
@@ -283,7 +297,10 @@ impl Grammar {
                             events,
                         });
                     }
-                    Some(p) => push_all(&mut stack, &self.rules[p].body)?,
+                    Some(p) => {
+                        pending.skip();
+                        pending.open(&self.rules[p].body)?;
+                    }
                 },
             }
         }
@@ -310,63 +327,40 @@ impl Grammar {
         requires { CanRead self.now root }
         ensures { IfOk result (λ r. Reads self.now root deepest kinds.now r.stop r.taken r.events.items) }
     {
-        let mut stack = Vec::new(alloc);
-        stack.push(Symbol::Part(root))?;
+        let start = [Symbol::Part(root)];
+        let mut pending = Pending::new(alloc, &start);
         // Reading does less than one thing more at a token, in most texts, than to take it.
         let mut events = Vec::with_capacity(alloc, kinds.len().saturating_mul(2))?;
-        let mut depth = 0;
+        let mut depth = Some(0);
         for taken in 0..kinds.len() {
-            let mark = events.len();
-            if !self.advance(&mut stack, &mut events, kinds[taken])? {
-                return self.finish(stack, events, taken);
+            if !self.advance(&mut pending, &mut events, &mut depth, deepest, kinds[taken])? {
+                return self.finish(pending, events, taken);
             }
-            match depth_after(&events[mark..], depth, deepest) {
-                None => {
-                    return Ok(Reading {
-                        stop: Stop::Deep,
-                        taken: taken + 1,
-                        events,
-                    });
-                }
-                Some(after) => depth = after,
+            if depth.is_none() {
+                return Ok(Reading {
+                    stop: Stop::Deep,
+                    taken: taken + 1,
+                    events,
+                });
             }
         }
-        self.finish(stack, events, kinds.len())
+        self.finish(pending, events, kinds.len())
     }
 }
 
-/// How many parts are open after events, if they are never too many.
-fn depth_after(events: &[Event], depth: usize, deepest: usize) -> Option<usize>
-    requires { depth ≤ deepest }
-    ensures { MatchOption result (OpensMore deepest depth events.now) (λ after. (after ≤ deepest) × (after ≡ depth_after depth events.now)) }
+/// How many parts are open after one more action, or none where too many parts were.
+fn depth_at(depth: Option<usize>, action: Action, deepest: usize) -> Option<usize>
+    ensures { (done : List Event) → IsDepth deepest done depth → IsDepth deepest (done ++ Did action ∷ []) result }
 {
-    let mut opened = depth;
-    for event in events {
-        match event {
-            Event::Took => {}
-            Event::Did(action) => {
-                if action.opens() {
-                    if opened >= deepest {
-                        return None;
-                    }
-                    opened += 1;
-                } else if action.closes() {
-                    opened = opened.saturating_sub(1);
-                }
-            }
+    let open = depth?;
+    if action.opens() {
+        if open >= deepest {
+            return None;
         }
+        return Some(open + 1);
     }
-    Some(opened)
-}
-
-/// Puts the symbols on the stack, the first on top.
-fn push_all(stack: &mut Vec<Symbol>, body: &[Symbol]) -> Result<(), AllocError>
-    ensures { OnOk result (reverse stack.new.items ≡ body.now ++ reverse stack.old.items) }
-{
-    let mut left = body.len();
-    while left > 0 {
-        left -= 1;
-        stack.push(body[left])?;
+    if action.closes() {
+        return Some(open.saturating_sub(1));
     }
-    Ok(())
+    Some(open)
 }

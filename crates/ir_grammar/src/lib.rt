@@ -9,6 +9,7 @@
 
 mod check;
 pub mod grammar;
+mod pending;
 mod table;
 
 pub use grammar::{Action, Class, Event, Facts, Grammar, Reading, Rule, Stop, Symbol};

@@ -1,21 +1,21 @@
-use Rattle.std.proofs.Common.{◌≡◌, [], ◌∷◌, ◌++◌, Some, slice_get, reverse, refl, sym, ap, ◌∙◌, arith}
-use Rattle.std.proofs.lemmas.List.{nil_from_length}
+use Rattle.std.proofs.Common.{◌≡◌, [], ◌∷◌, ◌++◌, Some, slice_get, drop, refl, sym, ap, ◌∙◌, arith}
 use Rattle.std.proofs.lemmas.Option.{slice_get_read}
 use Rattle.ir_grammar.specs.declared.grammar.Symbol.TheVariants.{Sign, Part, Act}
+use Rattle.ir_grammar.specs.Pending.{unread}
 use Rattle.ir_grammar.proofs.Closing.{closes_acted, closes_expanded, stops_sign, stops_part, closes_all}
-use Rattle.ir_grammar.proofs.Steps.{reverse_top, closing_at, closing_within, step_fine, step_known, step_lower}
+use Rattle.ir_grammar.proofs.Steps.{closing_at, closing_within, step_fine, step_known, step_lower}
 use Rattle.ir_grammar.proofs.grammar.Grammar.finish.Goals as goal
-use Rattle.ir_grammar.proofs.grammar.Grammar.finish.Goals.{In-Sign, In-Part, In-Act, In_ok-push_all-in-Some-closing, In_default}
+use Rattle.ir_grammar.proofs.grammar.Grammar.finish.Goals.{In-Sign, In-Part, In-Act, In_ok-open-in-Some-closing, In_default}
 
--- what is taken from the stack
-signed : (c : In-Sign) → reverse c.loop-symbol.stack.items ≡ Sign c.in-Sign.field-0 ∷ reverse c.pop.new.self.items
-signed c = reverse_top _ _ _ c.in-Some.ensures.items ∙ ap (λ x. x ∷ reverse c.pop.new.self.items) c.in-Sign.is
+-- what comes first
+signed : (c : In-Sign) → unread c.loop-symbol.pending ≡ Sign c.in-Sign.field-0 ∷ drop 1 (unread c.first.new.self)
+signed c = sym c.in-Some.ensures.same ∙ (c.in-Some.ensures.first.1 ∙ ap (λ x. x ∷ drop 1 (unread c.first.new.self)) c.in-Sign.is)
 
-popped : (c : In-Part) → reverse c.loop-symbol.stack.items ≡ Part c.in-Part.part ∷ reverse c.pop.new.self.items
-popped c = reverse_top _ _ _ c.in-Some.ensures.items ∙ ap (λ x. x ∷ reverse c.pop.new.self.items) c.in-Part.is
+parted : (c : In-Part) → unread c.loop-symbol.pending ≡ Part c.in-Part.part ∷ drop 1 (unread c.first.new.self)
+parted c = sym c.in-Some.ensures.same ∙ (c.in-Some.ensures.first.1 ∙ ap (λ x. x ∷ drop 1 (unread c.first.new.self)) c.in-Part.is)
 
-acted : (c : In-Act) → reverse c.loop-symbol.stack.items ≡ Act c.in-Act.action ∷ reverse c.pop.new.self.items
-acted c = reverse_top _ _ _ c.in-Some.ensures.items ∙ ap (λ x. x ∷ reverse c.pop.new.self.items) c.in-Act.is
+acted : (c : In-Act) → unread c.loop-symbol.pending ≡ Act c.in-Act.action ∷ drop 1 (unread c.first.new.self)
+acted c = sym c.in-Some.ensures.same ∙ (c.in-Some.ensures.first.1 ∙ ap (λ x. x ∷ drop 1 (unread c.first.new.self)) c.in-Act.is)
 
 pub returns-in-Sign-clause-ends : goal.returns-in-Sign-clause-ends
 returns-in-Sign-clause-ends c root done l =
@@ -24,21 +24,21 @@ returns-in-Sign-clause-ends c root done l =
     let closes = rw top at (c.loop-symbol.invariant.closes root done l) in
     stops_sign c.args.self.now c.requires.predictive root done _ _ _ known closes
 
-pub loop-symbol-preserved-in-Continue-1 : goal.loop-symbol-preserved-in-Continue-1
-loop-symbol-preserved-in-Continue-1 c =
-    let top = acted (goal.at.loop-symbol-preserved-in-Continue-1 c).In-Act in
+pub loop-symbol-preserved-in-Act : goal.loop-symbol-preserved-in-Act
+loop-symbol-preserved-in-Act c =
+    let top = acted (goal.at.loop-symbol-preserved-in-Act c).In-Act in
     let fine = rw top at c.loop-symbol.invariant.fine in
     let known = rw top at c.loop-symbol.invariant.known in
     record {
       closes = λ root done l. let closes = rw top at (c.loop-symbol.invariant.closes root done l) in
-          rw c.in_ok-push-in-Act.ensures.items (closes_acted c.args.self.now c.requires.predictive root done _ _ _ closes);
-      fine = fine;
-      known = known;
+          rw (c.skip.ensures, c.in_ok-push-in-Act.ensures.items) (closes_acted c.args.self.now c.requires.predictive root done _ _ _ closes);
+      fine = rw c.skip.ensures fine;
+      known = rw c.skip.ensures known;
     }
 
 pub returns-in-None-clause-ends : goal.returns-in-None-clause-ends
 returns-in-None-clause-ends c root done l =
-    let top = popped (goal.at.returns-in-None-clause-ends c).In-Part in
+    let top = parted (goal.at.returns-in-None-clause-ends c).In-Part in
     let fine = rw top at c.loop-symbol.invariant.fine in
     let known = rw top at c.loop-symbol.invariant.known in
     let closes = rw top at (c.loop-symbol.invariant.closes root done l) in
@@ -50,29 +50,30 @@ index-requires c =
     omega (arith, w, c.args.self.now.rules.ok.0)
 
 -- the rule that was read
-read : (c : In_ok-push_all-in-Some-closing) → slice_get c.args.self.now.rules.items c.in-Some-closing.p ≡ Some c.index.result.now
+read : (c : In_ok-open-in-Some-closing) → slice_get c.args.self.now.rules.items c.in-Some-closing.p ≡ Some c.index.result.now
 read c =
     let g = c.args.self.now in
     let w = closing_within g c.requires.predictive _ c.in-Some-closing.p (sym c.in-Some-closing.ensures) in
     slice_get_read g.rules.items _ c.in-Some-closing.p c.index.result.now refl w c.index.ensures
 
--- the stack with its body
-next : (c : In_ok-push_all-in-Some-closing) → reverse c.push_all.new.stack.items ≡ c.index.result.now.body.items ++ reverse c.pop.new.self.items
-next c = c.in_ok-push_all-in-Some-closing.ensures ∙ ap (λ x. x ++ reverse c.pop.new.self.items) c.deref.ensures.value
+-- what is still to be read, with its body
+next : (c : In_ok-open-in-Some-closing) → unread c.open.new.self ≡ c.index.result.now.body.items ++ drop 1 (unread c.first.new.self)
+next c =
+    c.in_ok-open-in-Some-closing.ensures ∙ (ap (λ x. x ++ unread c.skip-in-Some-closing.new.self) c.deref.ensures.value ∙ ap (λ x. c.index.result.now.body.items ++ x) c.skip-in-Some-closing.ensures)
 
-of : (c : In_ok-push_all-in-Some-closing) → c.index.result.now.part ≡ c.in-Part.part
+of : (c : In_ok-open-in-Some-closing) → c.index.result.now.part ≡ c.in-Part.part
 of c = closing_at c.args.self.now c.requires.predictive _ _ _ (sym c.in-Some-closing.ensures) (read c)
 
 pub loop-symbol-smaller : goal.loop-symbol-smaller
 loop-symbol-smaller c =
-    let d = (goal.at.loop-symbol-smaller c).In_ok-push_all-in-Some-closing in
-    step_lower c.args.self.now c.requires.predictive _ _ _ _ _ _ (popped (goal.at.loop-symbol-smaller c).In-Part) (of d) (read d) (next d)
+    let d = (goal.at.loop-symbol-smaller c).In_ok-open-in-Some-closing in
+    step_lower c.args.self.now c.requires.predictive _ _ _ _ _ _ (parted (goal.at.loop-symbol-smaller c).In-Part) (of d) (read d) (next d)
 
 pub loop-symbol-preserved : goal.loop-symbol-preserved
 loop-symbol-preserved c =
     let g = c.args.self.now in
-    let d = (goal.at.loop-symbol-preserved c).In_ok-push_all-in-Some-closing in
-    let top = popped (goal.at.loop-symbol-preserved c).In-Part in
+    let d = (goal.at.loop-symbol-preserved c).In_ok-open-in-Some-closing in
+    let top = parted (goal.at.loop-symbol-preserved c).In-Part in
     let fine = c.loop-symbol.invariant.fine in
     let fine' = rw top at fine in
     record {
@@ -82,8 +83,8 @@ loop-symbol-preserved c =
       known = step_known g c.requires.predictive _ _ _ _ _ _ top (read d) (next d) c.loop-symbol.invariant.known;
     }
 
-empty : (c : In_default) → reverse c.loop-symbol.stack.items ≡ []
-empty c = ap reverse (nil_from_length _ (sym c.loop-symbol.stack.ok.0 ∙ c.in_default.ensures.cases.0))
+empty : (c : In_default) → unread c.loop-symbol.pending ≡ []
+empty c = sym c.in_default.ensures.same ∙ c.in_default.ensures.first
 
 pub returns-clause-ends : goal.returns-clause-ends
 returns-clause-ends c root done l =

@@ -1,16 +1,17 @@
-use Rattle.std.proofs.Common.{ℕ, List, reverse}
+use Rattle.std.proofs.Common.{ℕ, List}
 use Rattle.ir_grammar.specs.Table.{IsFine, IsKnown, height}
 use Rattle.ir_grammar.specs.Run.{Closes}
+use Rattle.ir_grammar.specs.Pending.{unread}
 use Rattle.ir_grammar.proofs.grammar.Grammar.finish.Given as goal
 
 abbrev pub invariant-loop-symbol : goal.invariant-loop-symbol
 invariant-loop-symbol l = record {
   closes : (root : ℕ) (done : List ℕ)
-      → Closes l.self root done l.fn.events.items (reverse l.fn.stack.items)
-      → Closes l.self root done l.events.items (reverse l.stack.items);
-  fine : IsFine l.self (reverse l.stack.items);
-  known : IsKnown l.self (reverse l.stack.items);
+      → Closes l.self root done l.fn.events.items (unread l.fn.pending)
+      → Closes l.self root done l.events.items (unread l.pending);
+  fine : IsFine l.self (unread l.pending);
+  known : IsKnown l.self (unread l.pending);
 }
 
 abbrev pub decreases-loop-symbol : goal.decreases-loop-symbol
-decreases-loop-symbol l = height l.self (reverse l.stack.items)
+decreases-loop-symbol l = height l.self (unread l.pending)
