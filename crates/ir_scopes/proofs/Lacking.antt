@@ -1,5 +1,5 @@
 -- Scopes in which a name is mentioned that has no definition there.
-use Rattle.std.proofs.Common.{◌≡◌, ℕ, Bool, true, false, cond, nat_eq, List, [], ◌∷◌, ◌++◌, length, Option, Some, None, MatchOption, is_some, not, slice_get, refl, sym, subst, ap, ◌∙◌, arith, ◌⊎◌, inl, inr}
+use Rattle.std.proofs.Common.{◌≡◌, ℕ, Bool, true, false, cond, nat_eq, List, [], ◌∷◌, ◌++◌, length, Option, Some, None, MatchOption, slice_get, refl, sym, subst, ap, ◌∙◌, arith, ◌⊎◌, inl, inr}
 use Rattle.std.specs.Bool.{MatchBool}
 use Rattle.std.proofs.lemmas.Bool.{eq-eqb}
 use Rattle.std.proofs.lemmas.Bool.Decides.{nat_tests}
@@ -15,14 +15,6 @@ use Rattle.ir_tokens.specs.Faults.{IsFirstOf, IsNamed}
 use Rattle.ir_scopes.specs.Scopes.{name_of, Means, IsUnresolved, LacksName, IsLacking, IsTable, LacksEntry, AreLacking, EndsAmong, same_key, fault_unresolved}
 use Rattle.ir_tokens.proofs.FirstFault.{first_more, named_along}
 use Rattle.ir_scopes.proofs.Tables.{get_more, get_last, get_cases}
-
-pub none_from : (o : Option ℕ) (b : Bool) → is_some o ≡ not b → b ≡ true → o ≡ None
-none_from None b e t = refl
-none_from (Some j) b e t = let wrong : true ≡ false = e ∙ ap not t in cc
-
-pub some_from : (o : Option ℕ) (b : Bool) → is_some o ≡ not b → b ≡ false → (j : ℕ) × (o ≡ Some j)
-some_from None b e t = let wrong : false ≡ true = e ∙ ap not t in cc
-some_from (Some j) b e t = (j, refl)
 
 module _ {S : Type 0} (names : List ℕ) (table : HashMap (ℕ × ℕ) ℕ S) where
   -- ---- one mention more

@@ -1,5 +1,5 @@
 -- Steps of a walk over events.
-use Rattle.std.proofs.Common.{◌≡◌, ℕ, ◌+◌, ◌<◌, ◌≤◌, Bool, List, ◌++◌, drop, length, get_or, sym, ap, ◌∙◌, arith, append_assoc}
+use Rattle.std.proofs.Common.{◌≡◌, ℕ, ◌+◌, ◌<◌, ◌≤◌, Bool, List, ◌++◌, drop, length, get_or, sym, ap, ◌∙◌, append_assoc}
 use Rattle.std.proofs.lemmas.List.{drop_more, drop_all, append-nil}
 use Rattle.ir_grammar.specs.declared.grammar.Event.{Event}
 use Rattle.ir_grammar.specs.declared.grammar.Event.TheVariants.{Took, Did}
@@ -20,7 +20,3 @@ module _ {A : Type 0} (isolated : ℕ → Bool) (f : Place → Event → List A)
 pub events_behind : (isolated : ℕ → Bool) (at after : Place) (e : Event) → after ≡ behind isolated at e → after.events ≡ at.events + 1
 events_behind isolated at after Took gone = ap (λ p. p.events) gone
 events_behind isolated at after (Did a) gone = ap (λ p. p.events) gone
-
-pub tokens_behind : (isolated : ℕ → Bool) (at after : Place) (e : Event) → after ≡ behind isolated at e → after.tokens ≤ at.tokens + 1
-tokens_behind isolated at after Took gone = let e = ap (λ p. p.tokens) gone in omega arith
-tokens_behind isolated at after (Did a) gone = let e : after.tokens ≡ at.tokens = ap (λ p. p.tokens) gone in omega arith

@@ -168,7 +168,7 @@ pub record AreSites (isolated : ℕ → Bool) (es : List Event) (s : Sites) : Ty
 
 -- where a walk over events has come to
 abbrev pub place_of : Walker → Place
-place_of w = record { events = w.events; tokens = w.tokens; here = w.here; around = reverse w.around.items }
+place_of w = record { events = w.tokens + w.actions; tokens = w.tokens; here = w.here; around = reverse w.around.items }
 
 -- ---- what they mean
 

@@ -126,25 +126,6 @@ fn table_of(alloc: Global, names: &[usize], sites: &[Site]) -> Result<Table, All
     Ok(Table { numbers, again })
 }
 
-/// The scopes in which a name is mentioned that the table doesn't have.
-fn lacking_scopes(
-    alloc: Global,
-    names: &[usize],
-    mentions: &[Site],
-    numbers: &Numbers,
-) -> Result<HashSet<usize>, AllocError>
-    ensures { IfOk result (AreLacking names.now numbers.now mentions.now) }
-{
-    let mut lacking = HashSet::new(alloc);
-    for site in mentions {
-        let key = key_of(names, *site);
-        if number_of(numbers, key).is_none() {
-            lacking.insert(key.0)?;
-        }
-    }
-    Ok(lacking)
-}
-
 /// The first fault that one of these scopes ends.
 fn lacking_fault(closings: &[Closing], lacking: &HashSet<usize>) -> Option<Fault>
     ensures { IsNamed (EndsAmong lacking.now closings.now) result }
@@ -176,37 +157,63 @@ fn note_definitions(places: &mut [usize], definitions: &[Site])
     }
 }
 
-/// Writes what the table has for each mention to the place of its token.
-fn note_mentions(places: &mut [usize], names: &[usize], mentions: &[Site], numbers: &Numbers)
-    ensures noted { AreDistinct mentions.now → (i j : ℕ) (m : Site) → slice_get mentions.now i ≡ Some m → hash.get same_key numbers.now (m.scope, name_of names.now m.token) ≡ Some j
-        → m.token < length places.old → slice_index places.new m.token ≡ j }
-    ensures kept { (k : ℕ) → ((i : ℕ) (m : Site) → slice_get mentions.now i ≡ Some m → m.token ≡ k → ⊥) → slice_index places.new k ≡ slice_index places.old k }
+/// Writes what the table has for each mention to the place of its token. Out come the scopes in which a name is
+/// mentioned that the table doesn't have.
+fn note_mentions(
+    alloc: Global,
+    places: &mut [usize],
+    names: &[usize],
+    mentions: &[Site],
+    numbers: &Numbers,
+) -> Result<HashSet<usize>, AllocError>
+    ensures lacking { IfOk result (AreLacking names.now numbers.now mentions.now) }
+    ensures noted { OnOk result (AreDistinct mentions.now → (i j : ℕ) (m : Site) → slice_get mentions.now i ≡ Some m → hash.get same_key numbers.now (m.scope, name_of names.now m.token) ≡ Some j
+        → m.token < length places.old → slice_index places.new m.token ≡ j) }
+    ensures kept { OnOk result ((k : ℕ) → ((i : ℕ) (m : Site) → slice_get mentions.now i ≡ Some m → m.token ≡ k → ⊥) → slice_index places.new k ≡ slice_index places.old k) }
 {
+    let mut lacking = HashSet::new(alloc);
     for site in mentions {
-        match number_of(numbers, key_of(names, *site)) {
+        let key = key_of(names, *site);
+        match number_of(numbers, key) {
             Some(number) => note(places, site.token, number),
-            None => {}
+            None => {
+                lacking.insert(key.0)?;
+            }
         }
     }
+    Ok(lacking)
 }
 
-/// For each token that names a value, the number of its definition.
-fn numbers_of(
+/// What the names at some sites mean.
+#[derive(Drop)]
+struct Meanings {
+    /// For each token that names a value, the number of its definition.
+    definitions: Vec<usize>,
+    /// The scopes in which a name is mentioned that has no definition.
+    lacking: HashSet<usize>,
+}
+
+/// What the names at the sites mean by a table of the definitions.
+fn meanings_of(
     alloc: Global,
     names: &[usize],
     sites: &Sites,
     numbers: &Numbers,
-) -> Result<Vec<usize>, AllocError>
+) -> Result<Meanings, AllocError>
     ensures defined { IfOk result (λ r. AreApart sites.now.definitions.items sites.now.mentions.items → (j : ℕ) (s : Site) → slice_get sites.now.definitions.items j ≡ Some s
-        → s.token < length names.now → slice_index r.items s.token ≡ j) }
+        → s.token < length names.now → slice_index r.definitions.items s.token ≡ j) }
     ensures mentioned { IfOk result (λ r. AreDistinct sites.now.mentions.items → (i j : ℕ) (m : Site) → slice_get sites.now.mentions.items i ≡ Some m
-        → hash.get same_key numbers.now (m.scope, name_of names.now m.token) ≡ Some j → m.token < length names.now → slice_index r.items m.token ≡ j) }
-    ensures many { IfOk result (λ r. length r.items ≡ length names.now) }
+        → hash.get same_key numbers.now (m.scope, name_of names.now m.token) ≡ Some j → m.token < length names.now → slice_index r.definitions.items m.token ≡ j) }
+    ensures many { IfOk result (λ r. length r.definitions.items ≡ length names.now) }
+    ensures lacking { IfOk result (λ r. AreLacking names.now numbers.now sites.now.mentions.items r.lacking) }
 {
-    let mut places = vec![in alloc; 0usize; names.len()]?;
-    note_definitions(&mut places, &sites.definitions);
-    note_mentions(&mut places, names, &sites.mentions, numbers);
-    Ok(places)
+    let mut definitions = vec![in alloc; 0usize; names.len()]?;
+    note_definitions(&mut definitions, &sites.definitions);
+    let lacking = note_mentions(alloc, &mut definitions, names, &sites.mentions, numbers)?;
+    Ok(Meanings {
+        definitions,
+        lacking,
+    })
 }
 
 /// What the names of a text mean, of which reading did this, or the first fault of its names.
@@ -227,12 +234,12 @@ pub fn look_up(
     let sites = sites_of(alloc, events, isolated)?;
     let labels = table_of(alloc, names, &sites.labels)?;
     let values = table_of(alloc, names, &sites.definitions)?;
-    let lacking = lacking_scopes(alloc, names, &sites.mentions, &values.numbers)?;
-    let unresolved = lacking_fault(&sites.closings, &lacking);
+    let meanings = meanings_of(alloc, names, &sites, &values.numbers)?;
+    let unresolved = lacking_fault(&sites.closings, &meanings.lacking);
     match first_of(values.again, first_of(labels.again, unresolved)) {
         Some(fault) => Err(ScopeFault::Text(fault)),
         None => Ok(Resolution {
-            definitions: numbers_of(alloc, names, &sites, &values.numbers)?,
+            definitions: meanings.definitions,
             count: sites.definitions.len(),
         }),
     }

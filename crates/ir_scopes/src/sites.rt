@@ -52,11 +52,12 @@ pub struct Sites {
     pub closings: Vec<Closing>,
 }
 
-/// A walk over events: how many events and tokens have passed, and what is open.
+/// A walk over events: how many of each kind have passed, and what is open. How many have passed in all is asked only
+/// where a scope begins.
 #[derive(Drop)]
 pub struct Walker {
-    pub events: usize,
     pub tokens: usize,
+    pub actions: usize,
     /// The innermost of what is open.
     pub here: Frame,
     /// What is open around it, the inner ones last.
@@ -90,11 +91,19 @@ impl Walker {
         ensures { place_of result ≡ beginning }
     {
         Walker {
-            events: 0,
             tokens: 0,
+            actions: 0,
             here: outside(0),
             around: Vec::new(alloc),
         }
+    }
+
+    /// How many events will have passed behind the next one.
+    fn behind(&self) -> usize
+        requires { (place_of self.now).events < 2 ^ 63 }
+        ensures { result ≡ (place_of self.now).events + 1 }
+    {
+        self.tokens + self.actions + 1
     }
 
     /// The token that was taken last.
@@ -116,15 +125,15 @@ impl Walker {
 
     /// A region that begins here.
     fn region(&self) -> Frame
-        requires { self.now.events < 2 ^ 63 }
+        requires { (place_of self.now).events < 2 ^ 63 }
         ensures { result ≡ region_frame (place_of self.now) }
     {
         let opens = self.here.isolated;
         Frame {
             isolated: false,
-            labels: self.events + 1,
+            labels: self.behind(),
             values: if opens {
-                self.events + 1
+                self.behind()
             } else {
                 self.here.values
             },
@@ -135,7 +144,7 @@ impl Walker {
     fn enter(&mut self, frame: Frame) -> Result<(), AllocError>
         ensures here { OnOk result (self.new.here ≡ frame) }
         ensures around { OnOk result (reverse self.new.around.items ≡ self.old.here ∷ reverse self.old.around.items) }
-        ensures counts { (self.new.events ≡ self.old.events) × (self.new.tokens ≡ self.old.tokens) }
+        ensures counts { (self.new.tokens ≡ self.old.tokens) × (self.new.actions ≡ self.old.actions) }
     {
         self.around.push(self.here)?;
         self.here = frame;
@@ -144,18 +153,18 @@ impl Walker {
 
     /// Leaves an operation. Behind the root all is as in the beginning.
     fn leave_operation(&mut self)
-        requires { self.old.events < 2 ^ 63 }
-        ensures here { self.new.here ≡ here_behind_operation self.old.events (reverse self.old.around.items) }
+        requires { (place_of self.old).events < 2 ^ 63 }
+        ensures here { self.new.here ≡ here_behind_operation (place_of self.old).events (reverse self.old.around.items) }
         ensures around { reverse self.new.around.items ≡ rest (reverse self.old.around.items) }
-        ensures counts { (self.new.events ≡ self.old.events) × (self.new.tokens ≡ self.old.tokens) }
+        ensures counts { (self.new.tokens ≡ self.old.tokens) × (self.new.actions ≡ self.old.actions) }
     {
         let outer = self.around.pop();
         let is_root = self.around.is_empty();
         self.here = match outer {
-            None => outside(self.events + 1),
+            None => outside(self.behind()),
             Some(frame) => {
                 if is_root {
-                    outside(self.events + 1)
+                    outside(self.behind())
                 } else {
                     frame
                 }
@@ -166,7 +175,7 @@ impl Walker {
     fn leave_region(&mut self)
         ensures here { self.new.here ≡ here_behind_region self.old.here (reverse self.old.around.items) }
         ensures around { reverse self.new.around.items ≡ rest (reverse self.old.around.items) }
-        ensures counts { (self.new.events ≡ self.old.events) × (self.new.tokens ≡ self.old.tokens) }
+        ensures counts { (self.new.tokens ≡ self.old.tokens) × (self.new.actions ≡ self.old.actions) }
     {
         if let Some(frame) = self.around.pop() {
             self.here = frame;
@@ -219,10 +228,10 @@ impl Sites {
     /// Adds the names and the end that the action makes at the place to which the walk has come, and opens or leaves
     /// what the action does. One `match` does all of it, since most actions do nothing here.
     fn act(&mut self, at: &mut Walker, action: Action, isolated: &[bool]) -> Result<(), AllocError>
-        requires { at.old.events < 2 ^ 63 }
+        requires { (place_of at.old).events < 2 ^ 63 }
         ensures here { OnOk result (at.new.here ≡ here_after (is_marked isolated.now) (place_of at.old) action) }
         ensures around { OnOk result (reverse at.new.around.items ≡ around_after (place_of at.old) action) }
-        ensures counts { OnOk result ((at.new.events ≡ at.old.events) × (at.new.tokens ≡ at.old.tokens)) }
+        ensures counts { OnOk result ((at.new.tokens ≡ at.old.tokens) × (at.new.actions ≡ at.old.actions)) }
         ensures definitions { OnOk result (self.new.definitions.items ≡ self.old.definitions.items ++ defined (place_of at.old) (Did action)) }
         ensures labels { OnOk result (self.new.labels.items ≡ self.old.labels.items ++ labelled (place_of at.old) (Did action)) }
         ensures mentions { OnOk result (self.new.mentions.items ≡ self.old.mentions.items ++ mentioned (place_of at.old) (Did action)) }
@@ -251,8 +260,7 @@ impl Sites {
 
     /// Adds what the event makes at the place to which the walk has come, and goes behind it.
     fn follow(&mut self, at: &mut Walker, event: Event, isolated: &[bool]) -> Result<(), AllocError>
-        requires events { at.old.events < 2 ^ 63 }
-        requires tokens { at.old.tokens < 2 ^ 63 }
+        requires { (place_of at.old).events < 2 ^ 63 }
         ensures walk { OnOk result (place_of at.new ≡ behind (is_marked isolated.now) (place_of at.old) event) }
         ensures definitions { OnOk result (self.new.definitions.items ≡ self.old.definitions.items ++ defined (place_of at.old) event) }
         ensures labels { OnOk result (self.new.labels.items ≡ self.old.labels.items ++ labelled (place_of at.old) event) }
@@ -261,9 +269,11 @@ impl Sites {
     {
         match event {
             Event::Took => at.tokens += 1,
-            Event::Did(action) => self.act(at, action, isolated)?,
+            Event::Did(action) => {
+                self.act(at, action, isolated)?;
+                at.actions += 1;
+            }
         }
-        at.events += 1;
         Ok(())
     }
 }

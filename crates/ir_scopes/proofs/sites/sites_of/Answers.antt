@@ -1,7 +1,7 @@
 use Rattle.std.proofs.Common.{get_or, arith}
 use Rattle.ir_grammar.specs.declared.grammar.Event.TheVariants.{Took}
 use Rattle.ir_scopes.specs.Scopes.{is_marked, defined, labelled, mentioned, closed, place_of}
-use Rattle.ir_scopes.proofs.Walks.{each_step, each_all, events_behind, tokens_behind}
+use Rattle.ir_scopes.proofs.Walks.{each_step, each_all, events_behind}
 use Rattle.ir_scopes.proofs.sites.sites_of.Goals as goal
 
 pub loop-event-preserved : goal.loop-event-preserved
@@ -15,10 +15,8 @@ loop-event-preserved c =
     let now = c.loop-event.invariant in
     let added = c.in_ok-follow.ensures in
     let counted = events_behind isolated at after e added.walk in
-    let tokens = tokens_behind isolated at after e added.walk in
     record {
       events = omega arith;
-      tokens = omega arith;
       definitions = each_step isolated defined at after es i Took _ _ _ c.loop-event-test.true added.walk added.definitions now.definitions;
       labels = each_step isolated labelled at after es i Took _ _ _ c.loop-event-test.true added.walk added.labels now.labels;
       mentions = each_step isolated mentioned at after es i Took _ _ _ c.loop-event-test.true added.walk added.mentions now.mentions;
