@@ -1,5 +1,5 @@
 //! Operations, made of parts and as parts.
-ghost use Rattle.std.specs.Prelude.{◌≡◌, ℕ, true, List, [], ◌∷◌, length, Some, Err, IfOk, IsSome, slice_get};
+ghost use Rattle.std.specs.Prelude.{◌≡◌, ℕ, true, List, [], ◌∷◌, length, Some, Err, IfOk, OnOk, IsSome, slice_get};
 ghost use Rattle.ir_base.specs.declared.types.TypeHandle.{TypeHandle};
 ghost use Rattle.ir_names.specs.Dictionary.{attribute_at, with_attribute};
 ghost use Rattle.ir_names.specs.Text.{is_identifier};
@@ -18,6 +18,7 @@ ghost use Rattle.kit_ops.specs.declared.attributes.KitAttr.{KitAttr};
 ghost use Rattle.kit_ops.specs.declared.attributes.KitAttr.TheVariants.{Integer};
 ghost use Rattle.kit_ops.specs.declared.kinds.KitOp.{KitOp};
 ghost use Rattle.kit_ops.specs.declared.types.KitType.{KitType};
+ghost use Rattle.kit_ops.specs.declared.types.KitType.TheVariants.{Integer as IntegerKey};
 ghost use Rattle.kit_texts.specs.Forms.{NamedRegion, TypedRegion, Value, TwoOperands, OneOperand, AnyOperands, read_ops};
 ghost use Rattle.kit_texts.specs.Making.{MakesForm, RefusesForm};
 ghost use Rattle.kit_texts.specs.Parts.{AreNameParts, AreModuleParts, AreFunctionParts};
@@ -33,18 +34,18 @@ use kit_ops::{IntegerAttr, KitAttr, KitOp, KitType, keys};
 use std::alloc::{AllocError, Global};
 use text_dialect::{MakeFault, OperationDraft};
 
-/// The attributes of an operation with one entry.
-fn with_entry<D: Dialects<OpKind = KitOp, Attr = KitAttr, TypeKey = KitType>>(
+/// The attributes of an operation have one more entry.
+fn add_entry<D: Dialects<OpKind = KitOp, Attr = KitAttr, TypeKey = KitType>>(
     alloc: Global,
-    mut attributes: AttributeDict<D>,
+    attributes: &mut AttributeDict<D>,
     key: &str,
     attr: KitAttr,
-) -> Result<AttributeDict<D>, AllocError>
+) -> Result<(), AllocError>
     requires { is_identifier key.now ≡ true }
-    ensures { IfOk result (λ entries. entries ≡ with_attribute attributes key.now attr) }
+    ensures { OnOk result (attributes.new ≡ with_attribute attributes.old key.now attr) }
 {
     let _ = attributes.set(Identifier::new(alloc, key)?, attr)?;
-    Ok(attributes)
+    Ok(())
 }
 
 fn draft<D: DialectTables<OpKind = KitOp, Attr = KitAttr, TypeKey = KitType>>(
@@ -72,7 +73,8 @@ fn make_module<D: DialectTables<OpKind = KitOp, Attr = KitAttr, TypeKey = KitTyp
         return Err(MakeFault::Refused(0));
     };
     let name = KitAttr::Identifier(name.try_clone()?);
-    let attributes = with_entry(alloc, AttributeDict::new(alloc), keys::SYMBOL_NAME, name)?;
+    let mut attributes = AttributeDict::new(alloc);
+    add_entry(alloc, &mut attributes, keys::SYMBOL_NAME, name)?;
     Ok(draft(attributes, Vec::new(alloc)))
 }
 
@@ -88,9 +90,33 @@ fn make_function<D: DialectTables<OpKind = KitOp, Attr = KitAttr, TypeKey = KitT
         return Err(MakeFault::Refused(0));
     };
     let name = KitAttr::Identifier(name.try_clone()?);
-    let attributes = with_entry(alloc, AttributeDict::new(alloc), keys::SYMBOL_NAME, name)?;
-    let attributes = with_entry(alloc, attributes, keys::FUNCTION_TYPE, KitAttr::Type(ty))?;
+    let mut attributes = AttributeDict::new(alloc);
+    add_entry(alloc, &mut attributes, keys::SYMBOL_NAME, name)?;
+    add_entry(
+        alloc,
+        &mut attributes,
+        keys::FUNCTION_TYPE,
+        KitAttr::Type(ty),
+    )?;
     Ok(draft(attributes, Vec::new(alloc)))
+}
+
+/// The handle that the type of an integer has in this context: the one that is kept with it, where that leads to it here.
+fn type_of_integer<D: DialectTables<OpKind = KitOp, Attr = KitAttr, TypeKey = KitType>>(
+    alloc: Global,
+    ctx: &mut Context<D>,
+    integer: &IntegerAttr,
+) -> Result<TypeHandle, AllocError>
+    ensures program { ctx.new.program ≡ ctx.old.program }
+    ensures types { KeepsTypes ctx.old.types ctx.new.types }
+    ensures handle { IfOk result (λ ty. slice_get ctx.new.types.keys ty.number ≡ Some (IntegerKey integer.now.integer)) }
+{
+    if let Some(KitType::Integer(kept)) = ctx.type_key(integer.ty) {
+        if *kept == integer.integer {
+            return Ok(integer.ty);
+        }
+    }
+    ctx.instantiate_key(alloc, KitType::Integer(integer.integer))
 }
 
 /// What a constant is made with: its value, and the type of that as the type of its result. The value is kept under the
@@ -108,19 +134,16 @@ fn make_constant<D: DialectTables<OpKind = KitOp, Attr = KitAttr, TypeKey = KitT
     let Some(integer) = constant_in(parts) else {
         return Err(MakeFault::Refused(0));
     };
-    let ty = ctx.instantiate_key(alloc, KitType::Integer(integer.integer))?;
+    let ty = type_of_integer(alloc, ctx, &integer)?;
     let value = KitAttr::Integer(IntegerAttr {
         ty,
         integer: integer.integer,
         bits: integer.bits,
     });
-    let attributes = with_entry(
-        alloc,
-        AttributeDict::new(alloc),
-        keys::CONSTANT_VALUE,
-        value,
-    )?;
-    Ok(draft(attributes, vec![in alloc; ty]?))
+    let mut attributes = AttributeDict::new(alloc);
+    add_entry(alloc, &mut attributes, keys::CONSTANT_VALUE, value)?;
+    let result_types = vec![in alloc; ty]?;
+    Ok(draft(attributes, result_types))
 }
 
 /// What an operation with any number of operands is made with: nothing.
