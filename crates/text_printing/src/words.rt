@@ -10,6 +10,7 @@ ghost use Rattle.text_printing.specs.Printing.{before_of, AddsName, AddsNumber, 
 use ir_names::{Identifier, Signedness};
 use ir_print::{Directive, Number};
 use ir_program::Value;
+use itoa::{Buffer, Integer};
 use std::alloc::AllocError;
 
 /// What stands before the next part of a text.
@@ -34,13 +35,20 @@ pub(crate) fn print_line(out: &mut String, indent: usize) -> Result<(), AllocErr
     Ok(())
 }
 
+/// An integer in decimal digits.
+pub(crate) fn print_digits<I: Integer>(out: &mut String, integer: I) -> Result<(), AllocError>
+    ensures { OnOk result (string_bytes out.new ≡ string_bytes out.old ++ I.text integer) }
+{
+    let mut digits = Buffer::new();
+    out.push_str(digits.format(integer))
+}
+
 /// The name of a value: `v` and its number.
 pub(crate) fn print_value(out: &mut String, value: Value) -> Result<(), AllocError>
     ensures { OnOk result (string_bytes out.new ≡ string_bytes out.old ++ value_name value.number) }
 {
-    let number = value.number();
-    write!(out, "v{number}")?;
-    Ok(())
+    out.push_str("v")?;
+    print_digits(out, value.number())
 }
 
 /// A number, which 64 bits hold.
@@ -53,9 +61,7 @@ pub(crate) fn print_number(out: &mut String, number: Option<Number>) -> Result<(
     if number.is_negative {
         out.push_str("-")?;
     }
-    let magnitude = number.magnitude;
-    write!(out, "{magnitude}")?;
-    Ok(())
+    print_digits(out, number.magnitude)
 }
 
 /// The width of an integer: `i`, `si` or `ui`, and the number of bits.
@@ -69,12 +75,13 @@ pub(crate) fn print_width(
     let Some(width) = width else {
         return Ok(());
     };
-    match signedness {
-        Signedness::Signless => write!(out, "i{width}")?,
-        Signedness::Signed => write!(out, "si{width}")?,
-        Signedness::Unsigned => write!(out, "ui{width}")?,
-    }
-    Ok(())
+    let sign = match signedness {
+        Signedness::Signless => "i",
+        Signedness::Signed => "si",
+        Signedness::Unsigned => "ui",
+    };
+    out.push_str(sign)?;
+    print_digits(out, width)
 }
 
 /// A literal, set off from an id before it.
