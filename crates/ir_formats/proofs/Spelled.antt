@@ -1,13 +1,15 @@
 -- Numbers of texts.
 use Rattle.std.proofs.Common.{◌≡◌, ◌≢◌, ◌⊎◌, inl, inr, get_or, drop, append_assoc, ℕ, zero, suc, ◌+◌, ◌<◌, ◌≤◌, List, [], ◌∷◌, ◌++◌, Bool, true, false, not, ◌||◌, Bor, length, map, refl, sym, ap, ◌∙◌, arith, slice_get, Some, cond}
-use Rattle.std.specs.Prelude.{◌==◌, if◌then◌else◌, Vec}
+use Rattle.std.specs.Prelude.{◌==◌, if◌then◌else◌}
 use Rattle.std.specs.Str.{bytes_eq, chars}
 use Rattle.std.specs.List.{position_or_len, list_any, AllByRecursion, IsDistinct}
 use Rattle.std.proofs.lemmas.Bool.{cases_lt, eq-eqb, eqb-true}
 use Rattle.std.proofs.lemmas.Slice.Eq.{bytes_eq-Decides}
 use Rattle.std.proofs.lemmas.List.{map-append, length-append, length-map, append-nil, drop_all, get_or_past}
 use Rattle.ir_tokens.specs.declared.tokens.Token.{Token}
-use Rattle.std.specs.Global.{Global}
+use Rattle.ir_characters.specs.Texts.{codes_of, owned_codes}
+use Rattle.ir_characters.specs.declared.text.Text.{Text}
+use Rattle.ir_characters.specs.declared.characters.Characters.{Characters}
 use Rattle.ir_formats.specs.Words.{spellings, text_of, is_spelled, spelled_texts, name_number, known_with, kind_of, AlikeInNumber}
 use Rattle.ir_formats.proofs.Makes.{drop_item}
 use Rattle.ir_formats.specs.Rules.{texts, number_of, with_word, with_words}
@@ -32,34 +34,34 @@ first_more true m n e = refl
 first_more false m n e = omega arith
 
 -- the number of a text among others is its place
-pub number_is : (ks : List (Bor (List ℕ))) (t : List ℕ) → position_or_len (λ (k : Bor (List ℕ)). bytes_eq t k.now) ks ≡ number_of (texts ks) t
+pub number_is : (ks : List Text) (t : List ℕ) → position_or_len (λ (k : Text). bytes_eq t (codes_of k)) ks ≡ number_of (map codes_of ks) t
 number_is [] t = refl
-number_is (k ∷ ks) t = first_more (bytes_eq t k.now) _ _ (number_is ks t)
+number_is (k ∷ ks) t = first_more (bytes_eq t (codes_of k)) _ _ (number_is ks t)
 
 any_more : (b c : Bool) (m n : ℕ) → c ≡ not (m == n) → (b || c) ≡ not ((if b then 0 else suc m) == suc n)
 any_more true c m n e = ap not (sym (differ 0 (suc n) (λ h. omega arith)))
 any_more false c m n e = e ∙ ap not (sym (next_same m n))
 
 -- a text is among others where its number is below theirs
-pub any_is : (ks : List (Bor (List ℕ))) (t : List ℕ) → list_any (λ (k : Bor (List ℕ)). bytes_eq t k.now) ks ≡ not (number_of (texts ks) t == length (texts ks))
+pub any_is : (ks : List Text) (t : List ℕ) → list_any (λ (k : Text). bytes_eq t (codes_of k)) ks ≡ not (number_of (map codes_of ks) t == length (map codes_of ks))
 any_is [] t = refl
-any_is (k ∷ ks) t = any_more (bytes_eq t k.now) _ _ _ (any_is ks t)
+any_is (k ∷ ks) t = any_more (bytes_eq t (codes_of k)) _ _ _ (any_is ks t)
 
 not_not : (b c : Bool) → c ≡ not b → not c ≡ b
 not_not true c e = ap not e
 not_not false c e = ap not e
 
 -- whether a text is a new one
-pub new_is : (ks : List (Bor (List ℕ))) (t : List ℕ) → not (list_any (λ (k : Bor (List ℕ)). bytes_eq t k.now) ks) ≡ (number_of (texts ks) t == length (texts ks))
-new_is ks t = not_not (number_of (texts ks) t == length (texts ks)) _ (any_is ks t)
+pub new_is : (ks : List Text) (t : List ℕ) → not (list_any (λ (k : Text). bytes_eq t (codes_of k)) ks) ≡ (number_of (map codes_of ks) t == length (map codes_of ks))
+new_is ks t = not_not (number_of (map codes_of ks) t == length (map codes_of ks)) _ (any_is ks t)
 
-added_by : (b c : Bool) (ks : List (Bor (List ℕ))) (t : Bor (List ℕ)) → c ≡ not b → texts (if c then ks else ks ++ t ∷ []) ≡ (if b then texts ks ++ t.now ∷ [] else texts ks)
-added_by true c ks t e = rw e (map-append (λ (w : Bor (List ℕ)). w.now) ks (t ∷ []))
+added_by : (b c : Bool) (ks : List Text) (t : Text) → c ≡ not b → map codes_of (if c then ks else ks ++ t ∷ []) ≡ (if b then map codes_of ks ++ codes_of t ∷ [] else map codes_of ks)
+added_by true c ks t e = rw e (map-append codes_of ks (t ∷ []))
 added_by false c ks t e = rw e refl
 
 -- the texts with one more
-pub added_is : (ks : List (Bor (List ℕ))) (t : Bor (List ℕ)) → texts (if list_any (λ (k : Bor (List ℕ)). bytes_eq t.now k.now) ks then ks else ks ++ t ∷ []) ≡ with_word (texts ks) t.now
-added_is ks t = added_by (number_of (texts ks) t.now == length (texts ks)) _ ks t (any_is ks t.now)
+pub added_is : (ks : List Text) (t : Text) → map codes_of (if list_any (λ (k : Text). bytes_eq (codes_of t) (codes_of k)) ks then ks else ks ++ t ∷ []) ≡ with_word (map codes_of ks) (codes_of t)
+added_is ks t = added_by (number_of (map codes_of ks) (codes_of t) == length (map codes_of ks)) _ ks t (any_is ks (codes_of t))
 
 -- numbers are at most the number of texts
 pub number_le : (ws : List (List ℕ)) (t : List ℕ) → number_of ws t ≤ length ws
@@ -144,25 +146,25 @@ apart a b e = go (bytes_eq a b) refl
     go false h = h
 
 -- what stands behind a text isn't equal to it
-later_apart : (k : Bor (List ℕ)) (ks : List (Bor (List ℕ))) (i : ℕ) (u : Bor (List ℕ)) → AllByRecursion (λ (y : Bor (List ℕ)). bytes_eq k.now y.now ≡ false) ks → slice_get ks i ≡ Some u → bytes_eq k.now u.now ≡ false
+later_apart : (k : Text) (ks : List Text) (i : ℕ) (u : Text) → AllByRecursion (λ (y : Text). bytes_eq (codes_of k) (codes_of y) ≡ false) ks → slice_get ks i ≡ Some u → bytes_eq (codes_of k) (codes_of u) ≡ false
 later_apart k [] i u all e = cc
 later_apart k (y ∷ ys) zero u all e = let same : y ≡ u = cc in rw (← same) all.0
 later_apart k (y ∷ ys) (suc i) u all e = later_apart k ys i u all.1 e
 
 -- among different texts each has the number of its place
-pub number_here : (ks : List (Bor (List ℕ))) (i : ℕ) (u : Bor (List ℕ)) (t : List ℕ) → IsDistinct (λ (a b : Bor (List ℕ)). bytes_eq a.now b.now) ks → slice_get ks i ≡ Some u → bytes_eq t u.now ≡ true
-    → (i ≡ number_of (texts ks) t) × (i < length (texts ks))
+pub number_here : (ks : List Text) (i : ℕ) (u : Text) (t : List ℕ) → IsDistinct (λ (a b : Text). bytes_eq (codes_of a) (codes_of b)) ks → slice_get ks i ≡ Some u → bytes_eq t (codes_of u) ≡ true
+    → (i ≡ number_of (map codes_of ks) t) × (i < length (map codes_of ks))
 unfolding IsDistinct
 number_here [] i u t apart_all e same = cc
 number_here (k ∷ ks) zero u t apart_all e same =
     let first : k ≡ u = cc in
-    let here : bytes_eq t k.now ≡ true = rw first same in
-    (ap (λ (b : Bool). if b then 0 else suc (number_of (texts ks) t)) (sym here), omega arith)
+    let here : bytes_eq t (codes_of k) ≡ true = rw first same in
+    (ap (λ (b : Bool). if b then 0 else suc (number_of (map codes_of ks) t)) (sym here), omega arith)
 number_here (k ∷ ks) (suc i) u t apart_all e same =
     let rest = number_here ks i u t apart_all.1 e same in
-    let is : t ≡ u.now = same_text t u.now same in
-    let other : bytes_eq t k.now ≡ false = apart t k.now (rw is (later_apart k ks i u apart_all.0 e)) in
-    (ap suc rest.0 ∙ ap (λ (b : Bool). if b then 0 else suc (number_of (texts ks) t)) (sym other), omega (arith, rest.1))
+    let is : t ≡ codes_of u = same_text t (codes_of u) same in
+    let other : bytes_eq t (codes_of k) ≡ false = apart t (codes_of k) (rw is (later_apart k ks i u apart_all.0 e)) in
+    (ap suc rest.0 ∙ ap (λ (b : Bool). if b then 0 else suc (number_of (map codes_of ks) t)) (sym other), omega (arith, rest.1))
 
 -- ---- tokens
 
@@ -258,12 +260,12 @@ numbers_known : (ws known known' : List (List ℕ)) (cs : List ℕ) (t : Token) 
 numbers_known ws known known' cs t found e h = rw e (numbers_if ws known (text_of cs t) found (is_spelled t.kind) h)
 
 -- After i words: the texts of these, with the numbers of the words that they are. A text that is none of these is no word before i.
-pub record Begun (words : List (Vec ℕ Global)) (i : ℕ) (known : List (List ℕ)) (found : List ℕ) : Type 0 where
+pub record Begun (words : List Characters) (i : ℕ) (known : List (List ℕ)) (found : List ℕ) : Type 0 where
   pub words_found : found ≡ map (number_of (spellings words)) known
   pub ahead : (text : List ℕ) → length known ≤ number_of known text → number_of (spellings words) text ≡ i + number_of (spellings (drop i words)) text
 
 -- all words are put in
-pub begun_all : (words : List (Vec ℕ Global)) (i : ℕ) (known : List (List ℕ)) (found : List ℕ) → length words ≤ i → Begun words i known found → NumbersWords (spellings words) known found
+pub begun_all : (words : List Characters) (i : ℕ) (known : List (List ℕ)) (found : List ℕ) → length words ≤ i → Begun words i known found → NumbersWords (spellings words) known found
 begun_all words i known found le h = record {
   first = omega (arith, many);
   word = λ t. go t (cases_lt (number_of known t) (length known));
@@ -280,39 +282,39 @@ begun_all words i known found le h = record {
     go t (inr more) =
         let none = h.ahead t more in
         let most = number_le ws t in
-        let count = length-map words (λ (w : Vec ℕ Global). w.items) in
+        let count = length-map words owned_codes in
         get_or_past found (number_of known t) (length ws) (omega (arith, many)) ∙ omega (arith, none, most, count)
 
-module _ (words : List (Vec ℕ Global)) (i : ℕ) (w : Vec ℕ Global) (known : List (List ℕ)) (found : List ℕ) (lt : i < length words) (at : w ≡ get_or words i w) (h : Begun words i known found) where
-  this_word : (t : List ℕ) (b : Bool) → bytes_eq t w.items ≡ b → number_of (spellings (drop i words)) t ≡ (if b then 0 else suc (number_of (spellings (drop (i + 1) words)) t))
+module _ (words : List Characters) (i : ℕ) (w : Characters) (known : List (List ℕ)) (found : List ℕ) (lt : i < length words) (at : w ≡ get_or words i w) (h : Begun words i known found) where
+  this_word : (t : List ℕ) (b : Bool) → bytes_eq t (owned_codes w) ≡ b → number_of (spellings (drop i words)) t ≡ (if b then 0 else suc (number_of (spellings (drop (i + 1) words)) t))
   this_word t b e = ap (λ us. number_of (spellings us) t) (drop_item words i w lt at) ∙ ap (λ (c : Bool). if c then 0 else suc (number_of (spellings (drop (i + 1) words)) t)) e
 
-  ahead_more : (t : List ℕ) → length (with_word known w.items) ≤ number_of (with_word known w.items) t → number_of (spellings words) t ≡ (i + 1) + number_of (spellings (drop (i + 1) words)) t
+  ahead_more : (t : List ℕ) → length (with_word known (owned_codes w)) ≤ number_of (with_word known (owned_codes w)) t → number_of (spellings words) t ≡ (i + 1) + number_of (spellings (drop (i + 1) words)) t
   ahead_more t le = go (cases_lt (number_of known t) (length known))
     where
-      other : length known ≤ number_of known t → (b : Bool) → bytes_eq t w.items ≡ b → number_of (spellings words) t ≡ (i + 1) + number_of (spellings (drop (i + 1) words)) t
+      other : length known ≤ number_of known t → (b : Bool) → bytes_eq t (owned_codes w) ≡ b → number_of (spellings words) t ≡ (i + 1) + number_of (spellings (drop (i + 1) words)) t
       other more true e =
-          let here = numbered_with known w.items in
-          let same = ap (number_of (with_word known w.items)) (same_text t w.items e) in
+          let here = numbered_with known (owned_codes w) in
+          let same = ap (number_of (with_word known (owned_codes w))) (same_text t (owned_codes w) e) in
           absurd (omega (arith, le, here.is, here.among, same))
       other more false e = omega (arith, h.ahead t more, this_word t false e)
 
       go : (number_of known t < length known) ⊎ (length known ≤ number_of known t) → number_of (spellings words) t ≡ (i + 1) + number_of (spellings (drop (i + 1) words)) t
-      go (inl less) = let stays = numbered_more known t w.items (number_of known t) (record { is = refl; among = less }) in absurd (omega (arith, le, stays.is, stays.among))
-      go (inr more) = other more (bytes_eq t w.items) refl
+      go (inl less) = let stays = numbered_more known t (owned_codes w) (number_of known t) (record { is = refl; among = less }) in absurd (omega (arith, le, stays.is, stays.among))
+      go (inr more) = other more (bytes_eq t (owned_codes w)) refl
 
-  found_by : (b : Bool) → (number_of known w.items == length known) ≡ b → (if b then found ++ i ∷ [] else found) ≡ map (number_of (spellings words)) (if b then known ++ w.items ∷ [] else known)
+  found_by : (b : Bool) → (number_of known (owned_codes w) == length known) ≡ b → (if b then found ++ i ∷ [] else found) ≡ map (number_of (spellings words)) (if b then known ++ owned_codes w ∷ [] else known)
   found_by true e =
-      let new : length known ≤ number_of known w.items = omega (arith, eqb-true (number_of known w.items) (length known) e) in
-      let is : number_of (spellings words) w.items ≡ i = omega (arith, h.ahead w.items new, this_word w.items true ((bytes_eq-Decides w.items w.items).1 refl)) in
-      rw (map-append (number_of (spellings words)) known (w.items ∷ []), is) (ap (λ ns. ns ++ i ∷ []) h.words_found)
+      let new : length known ≤ number_of known (owned_codes w) = omega (arith, eqb-true (number_of known (owned_codes w)) (length known) e) in
+      let is : number_of (spellings words) (owned_codes w) ≡ i = omega (arith, h.ahead (owned_codes w) new, this_word (owned_codes w) true ((bytes_eq-Decides (owned_codes w) (owned_codes w)).1 refl)) in
+      rw (map-append (number_of (spellings words)) known (owned_codes w ∷ []), is) (ap (λ ns. ns ++ i ∷ []) h.words_found)
   found_by false e = h.words_found
 
   -- one word more
-  pub begun_more : (text : List ℕ) (known' : List (List ℕ)) (found' : List ℕ) (is_new : Bool) → text ≡ w.items → is_new ≡ (number_of known text == length known) → known' ≡ with_word known text
+  pub begun_more : (text : List ℕ) (known' : List (List ℕ)) (found' : List ℕ) (is_new : Bool) → text ≡ owned_codes w → is_new ≡ (number_of known text == length known) → known' ≡ with_word known text
       → found' ≡ (if is_new then found ++ i ∷ [] else found) → Begun words (i + 1) known' found'
   begun_more text known' found' is_new is new know find = rw (know, find, new, is) record {
-    words_found = found_by (number_of known w.items == length known) refl;
+    words_found = found_by (number_of known (owned_codes w) == length known) refl;
     ahead = ahead_more;
   }
 
@@ -406,9 +408,9 @@ any_default (x ∷ xs) (suc i) a b lt = any_default xs i a b (omega arith)
 -- ---- the characters of words
 
 -- one word more is spelled
-pub word_spelled : (ws : List (Bor (List ℕ))) (i : ℕ) (w : Bor (List ℕ)) (xs ys : List (Vec ℕ Global)) (v : Vec ℕ Global) (all : List (List ℕ)) → i < length ws → w ≡ get_or ws i w → spellings xs ++ map chars (texts (drop i ws)) ≡ all
-    → v.items ≡ chars w.now → ys ≡ xs ++ v ∷ [] → spellings ys ++ map chars (texts (drop (i + 1) ws)) ≡ all
+pub word_spelled : (ws : List (Bor (List ℕ))) (i : ℕ) (w : Bor (List ℕ)) (xs ys : List Characters) (v : Characters) (all : List (List ℕ)) → i < length ws → w ≡ get_or ws i w → spellings xs ++ map chars (texts (drop i ws)) ≡ all
+    → owned_codes v ≡ chars w.now → ys ≡ xs ++ v ∷ [] → spellings ys ++ map chars (texts (drop (i + 1) ws)) ≡ all
 word_spelled ws i w xs ys v all lt at e is more =
     let rest = map chars (texts (drop (i + 1) ws)) in
-    rw (more, map-append (λ (u : Vec ℕ Global). u.items) xs (v ∷ [])) (append_assoc (spellings xs) (v.items ∷ []) rest
+    rw (more, map-append owned_codes xs (v ∷ [])) (append_assoc (spellings xs) (owned_codes v ∷ []) rest
     ∙ (ap (λ (t : List ℕ). spellings xs ++ (t ∷ rest)) is ∙ (ap (λ us. spellings xs ++ map chars (texts us)) (sym (drop_item ws i w lt at)) ∙ e)))

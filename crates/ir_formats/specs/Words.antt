@@ -1,7 +1,8 @@
 -- The kinds of tokens, and which are spelled alike.
-use Rattle.std.specs.Prelude.{◌≡◌, ◌↔◌, ℕ, ◌+◌, ◌&&◌, ◌||◌, ◌==◌, nat_lt, nat_le, Bool, true, false, List, [], ◌∷◌, length, map, Some, slice_get, slice_index, slice_range, if◌then◌else◌, Vec}
-use Rattle.std.specs.Global.{Global}
+use Rattle.std.specs.Prelude.{◌≡◌, ◌↔◌, ℕ, ◌+◌, ◌&&◌, ◌||◌, ◌==◌, nat_lt, nat_le, Bool, true, false, List, [], ◌∷◌, length, map, Some, slice_get, slice_index, slice_range, if◌then◌else◌}
 use Rattle.std.specs.List.{list_all}
+use Rattle.ir_characters.specs.Texts.{owned_codes}
+use Rattle.ir_characters.specs.declared.characters.Characters.{Characters}
 use Rattle.ir_tokens.specs.declared.tokens.TokenKind.{TokenKind}
 use Rattle.ir_tokens.specs.declared.tokens.TokenKind.TheVariants.{Name, Digits, Negative, Mark, Text}
 use Rattle.ir_tokens.specs.declared.tokens.Token.{Token}
@@ -24,8 +25,8 @@ shape_number shapes.Negative = 3
 shape_number shapes.Other = 4
 
 -- words as characters
-abbrev pub spellings : List (Vec ℕ Global) → List (List ℕ)
-spellings words = map (λ (w : Vec ℕ Global). w.items) words
+abbrev pub spellings : List Characters → List (List ℕ)
+spellings words = map owned_codes words
 
 -- one digit or more
 abbrev pub are_digits : List ℕ → Bool

@@ -1,12 +1,14 @@
 //! The kind of each token, and which tokens are spelled alike.
-ghost use Rattle.std.specs.Prelude.{◌≡◌, ◌<◌, OnOk, IfOk, IfSome, length, map, ◌==◌, slice_index_or};
+ghost use Rattle.std.specs.Prelude.{◌≡◌, ◌<◌, drop, OnOk, IfOk, IfSome, length, map, ◌==◌, slice_index_or};
 ghost use Rattle.std.specs.Str.{chars};
+ghost use Rattle.ir_characters.specs.Texts.{codes_of};
 ghost use Rattle.ir_formats.specs.Rules.{texts, number_of, with_word};
 ghost use Rattle.ir_formats.specs.Spelling.{known_texts, NumbersWords};
 ghost use Rattle.ir_formats.specs.Words.{spellings, text_of, is_width, are_digits, shape_kind, is_spelled, word_kind, kind_of, known_with, name_number, AlikeInNumber};
 
 use crate::rules::{SHAPES, Shape};
 use indexmap::IndexSet;
+use ir_characters::{Characters, Text};
 use ir_tokens::scan::is_digit;
 use ir_tokens::tokens::{Token, TokenKind};
 use std::alloc::{AllocError, Global};
@@ -20,50 +22,44 @@ pub struct Classified {
     pub names: Vec<usize>,
 }
 
-fn characters(alloc: Global, word: &str) -> Result<Vec<char>, AllocError>
-    ensures { IfOk result (λ v. v.items ≡ chars word.now) }
-{
-    word.chars().collect(alloc)
-}
-
 /// The characters of the words of a grammar.
-pub fn spelled(alloc: Global, words: &[&'static str]) -> Result<Vec<Vec<char>>, AllocError>
+pub fn spelled(alloc: Global, words: &[&'static str]) -> Result<Vec<Characters>, AllocError>
     ensures { IfOk result (λ v. spellings v.items ≡ map chars (texts words.now)) }
 {
     let mut all = Vec::new(alloc);
     for word in words {
-        all.push(characters(alloc, word)?)?;
+        all.push(Characters::from_str(alloc, word)?)?;
     }
     Ok(all)
 }
 
-/// Whether these are digits, one or more.
-fn are_digits(text: &[char]) -> bool
-    ensures { result ≡ are_digits text.now }
+/// Whether digits, one or more, stand from this place to the end.
+fn are_digits(text: Text, from: usize) -> bool
+    ensures { result ≡ are_digits (drop from (codes_of text.entry)) }
 {
-    for c in text {
-        if !is_digit(*c) {
+    for place in from..text.len() {
+        if !is_digit(text.at(place)) {
             return false;
         }
     }
-    !text.is_empty()
+    from < text.len()
 }
 
 /// Whether these characters are `i`, `si` or `ui` with digits behind it.
-fn is_width(name: &[char]) -> bool
-    ensures { result ≡ is_width name.now }
+fn is_width(name: Text) -> bool
+    ensures { result ≡ is_width (codes_of name.entry) }
 {
-    match name {
-        ['i', digits @ ..] => are_digits(digits),
-        ['s', 'i', digits @ ..] => are_digits(digits),
-        ['u', 'i', digits @ ..] => are_digits(digits),
+    match (name.at(0), name.at(1)) {
+        ('i', _) => are_digits(name, 1),
+        ('s', 'i') => are_digits(name, 2),
+        ('u', 'i') => are_digits(name, 2),
         _ => false,
     }
 }
 
 /// The kind of a token that is no word of the grammar.
-fn shape_of(kind: TokenKind, text: &[char]) -> u32
-    ensures { result ≡ shape_kind kind text.now }
+fn shape_of(kind: TokenKind, text: Text) -> u32
+    ensures { result ≡ shape_kind kind (codes_of text.entry) }
 {
     let shape = match kind {
         TokenKind::Name => {
@@ -81,13 +77,13 @@ fn shape_of(kind: TokenKind, text: &[char]) -> u32
 }
 
 /// The characters of a token of the text.
-pub fn text_of<'a>(chars: &'a [char], token: Token) -> &'a [char]
-    ensures { result.now ≡ text_of chars.now token }
+pub fn text_of<'a>(chars: Text<'a>, token: Token) -> Text<'a>
+    ensures { codes_of result ≡ text_of (codes_of chars.entry) token }
 {
     if token.start <= token.end && token.end <= chars.len() {
-        &chars[token.start..token.end]
+        chars.slice(token.start, token.end)
     } else {
-        &[]
+        Text::Bytes(&[])
     }
 }
 
@@ -117,13 +113,10 @@ fn word_kind(number: usize, words: usize, shape: u32) -> u32
 }
 
 /// The number of a text among those that came before, and whether it is a new one, which is added.
-fn name_of<'a>(
-    known: &mut IndexSet<&'a [char]>,
-    text: &'a [char],
-) -> Result<(usize, bool), AllocError>
-    ensures known { OnOk result (texts known.new.keys ≡ with_word (texts known.old.keys) text.now) }
-    ensures number { IfOk result (λ r. r.0 ≡ number_of (texts known.old.keys) text.now) }
-    ensures is_new { IfOk result (λ r. r.1 ≡ (number_of (texts known.old.keys) text.now == length (texts known.old.keys))) }
+fn name_of<'a>(known: &mut IndexSet<Text<'a>>, text: Text<'a>) -> Result<(usize, bool), AllocError>
+    ensures known { OnOk result (map codes_of known.new.keys ≡ with_word (map codes_of known.old.keys) (codes_of text.entry)) }
+    ensures number { IfOk result (λ r. r.0 ≡ number_of (map codes_of known.old.keys) (codes_of text.entry)) }
+    ensures is_new { IfOk result (λ r. r.1 ≡ (number_of (map codes_of known.old.keys) (codes_of text.entry) == length (map codes_of known.old.keys))) }
 {
     let (name, is_new) = known.insert_full(text)?;
     Ok((name, is_new))
@@ -133,26 +126,21 @@ fn name_of<'a>(
 const GUESSES: usize = 256;
 
 /// The place of the guess at the number of a text. Texts that come often mostly have places of their own.
-fn guess_place(text: &[char]) -> usize
+fn guess_place(text: Text) -> usize
     ensures { result < 256 }
 {
     let length = text.len();
     if length == 0 {
         return 0;
     }
-    let first = text[0] as usize;
-    let last = text[length - 1] as usize;
+    let first = text.at(0) as usize;
+    let last = text.at(length - 1) as usize;
     (3 * first + 5 * last + length % GUESSES) % GUESSES
 }
 
 /// The number of a text that is known, where the guess at a place is right.
-fn guessed(
-    known: &IndexSet<&[char]>,
-    guesses: &[usize],
-    place: usize,
-    text: &[char],
-) -> Option<usize>
-    ensures { IfSome result (λ name. (name ≡ number_of (texts known.now.keys) text.now) × (name < length (texts known.now.keys))) }
+fn guessed(known: &IndexSet<Text>, guesses: &[usize], place: usize, text: Text) -> Option<usize>
+    ensures { IfSome result (λ name. (name ≡ number_of (map codes_of known.now.keys) (codes_of text.entry)) × (name < length (map codes_of known.now.keys))) }
 {
     let guess = *guesses.get(place)?;
     if guess >= known.len() {
@@ -165,7 +153,7 @@ fn guessed(
 /// Texts, each with a number. Those of the grammar's words come first.
 #[derive(Drop)]
 struct Spellings<'a> {
-    known: IndexSet<&'a [char]>,
+    known: IndexSet<Text<'a>>,
     /// For each of the first known texts the number of the word that it is. Texts behind these are no words.
     words: Vec<usize>,
     /// The number that was looked up last at each place of guesses.
@@ -174,14 +162,14 @@ struct Spellings<'a> {
 
 impl<'a> Spellings<'a> {
     /// The words of a grammar, with room for the names of so many tokens.
-    fn new(alloc: Global, words: &'a [Vec<char>], tokens: usize) -> Result<Self, AllocError>
+    fn new(alloc: Global, words: &'a [Characters], tokens: usize) -> Result<Self, AllocError>
         ensures { IfOk result (λ s. NumbersWords (spellings words.now) (known_texts s) s.words.items) }
     {
         // Most texts have more than eight tokens for each name.
         let mut known = IndexSet::with_capacity(alloc, words.len() + tokens / 8)?;
         let mut numbers = Vec::with_capacity(alloc, words.len())?;
         for (number, word) in words.iter().enumerate() {
-            let (_, is_new) = name_of(&mut known, word.as_slice())?;
+            let (_, is_new) = name_of(&mut known, word.as_text())?;
             if is_new {
                 numbers.push(number)?;
             }
@@ -212,10 +200,10 @@ impl<'a> Spellings<'a> {
     }
 
     /// The number of a text, which is a new one if it hasn't come before. Most texts that come often are guessed.
-    fn number(&mut self, text: &'a [char]) -> Result<usize, AllocError>
-        ensures known { OnOk result (known_texts self.new ≡ with_word (known_texts self.old) text.now) }
+    fn number(&mut self, text: Text<'a>) -> Result<usize, AllocError>
+        ensures known { OnOk result (known_texts self.new ≡ with_word (known_texts self.old) (codes_of text.entry)) }
         ensures words { self.new.words ≡ self.old.words }
-        ensures name { IfOk result (λ name. name ≡ number_of (known_texts self.old) text.now) }
+        ensures name { IfOk result (λ name. name ≡ number_of (known_texts self.old) (codes_of text.entry)) }
     {
         let place = guess_place(text);
         if let Some(name) = guessed(&self.known, &self.guesses, place, text) {
@@ -229,16 +217,16 @@ impl<'a> Spellings<'a> {
     /// The kind of a token and the number of its text, which is `none` for one that is no word and no name.
     fn token(
         &mut self,
-        words: &[Vec<char>],
-        chars: &'a [char],
+        words: &[Characters],
+        chars: Text<'a>,
         token: Token,
         none: usize,
     ) -> Result<(u32, usize), AllocError>
         requires { NumbersWords (spellings words.now) (known_texts self.old) self.old.words.items }
-        ensures known { OnOk result (known_texts self.new ≡ known_with (known_texts self.old) chars.now token) }
+        ensures known { OnOk result (known_texts self.new ≡ known_with (known_texts self.old) (codes_of chars.entry) token) }
         ensures words { self.new.words ≡ self.old.words }
-        ensures kind { IfOk result (λ r. r.0 ≡ kind_of (spellings words.now) chars.now token) }
-        ensures name { IfOk result (λ r. r.1 ≡ name_number (known_texts self.old) none chars.now token) }
+        ensures kind { IfOk result (λ r. r.0 ≡ kind_of (spellings words.now) (codes_of chars.entry) token) }
+        ensures name { IfOk result (λ r. r.1 ≡ name_number (known_texts self.old) none (codes_of chars.entry) token) }
     {
         let text = text_of(chars, token);
         let shape = shape_of(token.kind, text);
@@ -254,12 +242,12 @@ impl<'a> Spellings<'a> {
 /// The kinds and names of the tokens of a text. The words come as `spelled` gives them.
 pub fn classify(
     alloc: Global,
-    words: &[Vec<char>],
-    chars: &[char],
+    words: &[Characters],
+    chars: Text,
     tokens: &[Token],
 ) -> Result<Classified, AllocError>
-    ensures kinds { IfOk result (λ c. c.kinds.items ≡ map (kind_of (spellings words.now) chars.now) tokens.now) }
-    ensures names { IfOk result (λ c. AlikeInNumber chars.now tokens.now c.names.items) }
+    ensures kinds { IfOk result (λ c. c.kinds.items ≡ map (kind_of (spellings words.now) (codes_of chars.entry)) tokens.now) }
+    ensures names { IfOk result (λ c. AlikeInNumber (codes_of chars.entry) tokens.now c.names.items) }
     ensures many { IfOk result (λ c. length c.names.items ≡ length tokens.now) }
 {
     let mut spellings = Spellings::new(alloc, words, tokens.len())?;

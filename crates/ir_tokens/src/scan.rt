@@ -1,8 +1,10 @@
 //! What begins at a character of a text.
-ghost use Rattle.std.specs.Prelude.{◌≡◌, ℕ, ◌+◌, ◌<◌, ◌≤◌, ◌==◌, ◌⊎◌, true, false, length, slice_index, MatchBool, MatchOption};
+ghost use Rattle.std.specs.Prelude.{◌≡◌, ℕ, ◌+◌, ◌^◌, ◌<◌, ◌≤◌, ◌==◌, ◌⊎◌, true, false, length, slice_index, MatchBool, MatchOption};
+ghost use Rattle.ir_characters.specs.Texts.{codes_of};
 ghost use Rattle.ir_tokens.specs.Tokens.{is_letter, is_digit, is_name_char, is_sign, Runs, Spells, IsLongestToken, ClosesText, IsInMemory};
 
 use crate::tokens::TokenKind;
+use ir_characters::Text;
 
 fn is_letter(c: char) -> bool
     ensures { result ≡ is_letter c }
@@ -34,63 +36,54 @@ fn is_sign(c: char) -> bool
 }
 
 /// Where the name characters from here on end.
-fn name_end(chars: &[char], from: usize) -> usize
-    requires { from ≤ length chars.now }
+fn name_end(chars: Text, from: usize) -> usize
+    requires { from ≤ length (codes_of chars) }
     ensures after { from ≤ result }
-    ensures inside { result ≤ length chars.now }
-    ensures runs { Runs is_name_char chars.now from result }
-    ensures stops { result < length chars.now → is_name_char (slice_index chars.now result) ≡ false }
+    ensures inside { result ≤ length (codes_of chars.entry) }
+    ensures runs { Runs is_name_char (codes_of chars.entry) from result }
+    ensures stops { result < length (codes_of chars.entry) → is_name_char (slice_index (codes_of chars.entry) result) ≡ false }
 {
     let mut at = from;
-    while at < chars.len() && is_name_char(chars[at]) {
+    while at < chars.len() && is_name_char(chars.at(at)) {
         at += 1;
     }
     at
 }
 
 /// Where the digits from here on end.
-fn digits_end(chars: &[char], from: usize) -> usize
-    requires { from ≤ length chars.now }
+fn digits_end(chars: Text, from: usize) -> usize
+    requires { from ≤ length (codes_of chars) }
     ensures after { from ≤ result }
-    ensures inside { result ≤ length chars.now }
-    ensures runs { Runs is_digit chars.now from result }
-    ensures stops { result < length chars.now → is_digit (slice_index chars.now result) ≡ false }
+    ensures inside { result ≤ length (codes_of chars.entry) }
+    ensures runs { Runs is_digit (codes_of chars.entry) from result }
+    ensures stops { result < length (codes_of chars.entry) → is_digit (slice_index (codes_of chars.entry) result) ≡ false }
 {
     let mut at = from;
-    while at < chars.len() && is_digit(chars[at]) {
+    while at < chars.len() && is_digit(chars.at(at)) {
         at += 1;
     }
     at
 }
 
-/// The character here, or none past the end.
-pub fn char_at(chars: &[char], at: usize) -> char
-    ensures { result ≡ slice_index chars.now at }
-{
-    match chars.get(at) {
-        Some(c) => *c,
-        None => '\0',
-    }
-}
-
 /// Whether a dot and a name follow.
-fn has_second_name(chars: &[char], at: usize) -> bool
-    requires { at ≤ length chars.now }
-    ensures { MatchBool result ((slice_index chars.now at ≡ 46) × (is_letter (slice_index chars.now (at + 1)) ≡ true))
-        (slice_index chars.now at ≡ 46 → is_letter (slice_index chars.now (at + 1)) ≡ true → ⊥) }
+fn has_second_name(chars: Text, at: usize) -> bool
+    requires { at ≤ length (codes_of chars) }
+    ensures { MatchBool result ((slice_index (codes_of chars.entry) at ≡ 46) × (is_letter (slice_index (codes_of chars.entry) (at + 1)) ≡ true))
+        (slice_index (codes_of chars.entry) at ≡ 46 → is_letter (slice_index (codes_of chars.entry) (at + 1)) ≡ true → ⊥) }
 {
-    if char_at(chars, at) == '.' {
-        is_letter(char_at(chars, at + 1))
+    if chars.at(at) == '.' {
+        is_letter(chars.at(at + 1))
     } else {
         false
     }
 }
 
 /// A name or a dotted name.
-fn word_end(chars: &[char], at: usize) -> (TokenKind, usize)
-    requires begins { at < length chars.now }
-    requires letter { is_letter (slice_index chars.now at) ≡ true }
-    ensures { IsLongestToken chars.now at result }
+fn word_end(chars: Text, at: usize) -> (TokenKind, usize)
+    requires begins { at < length (codes_of chars) }
+    requires letter { is_letter (slice_index (codes_of chars) at) ≡ true }
+    requires few { length (codes_of chars) < 2 ^ 63 }
+    ensures { IsLongestToken (codes_of chars.entry) at result }
 {
     let end = name_end(chars, at);
     if has_second_name(chars, end) {
@@ -101,21 +94,22 @@ fn word_end(chars: &[char], at: usize) -> (TokenKind, usize)
 }
 
 /// Digits.
-fn number_end(chars: &[char], at: usize) -> (TokenKind, usize)
-    requires begins { at < length chars.now }
-    requires digit { is_digit (slice_index chars.now at) ≡ true }
-    ensures { IsLongestToken chars.now at result }
+fn number_end(chars: Text, at: usize) -> (TokenKind, usize)
+    requires begins { at < length (codes_of chars) }
+    requires digit { is_digit (slice_index (codes_of chars) at) ≡ true }
+    ensures { IsLongestToken (codes_of chars.entry) at result }
 {
     (TokenKind::Digits, digits_end(chars, at))
 }
 
 /// A negative number or an arrow.
-fn minus_end(chars: &[char], at: usize) -> (TokenKind, usize)
-    requires begins { at < length chars.now }
-    requires minus { slice_index chars.now at ≡ 45 }
-    ensures { IsLongestToken chars.now at result }
+fn minus_end(chars: Text, at: usize) -> (TokenKind, usize)
+    requires begins { at < length (codes_of chars) }
+    requires minus { slice_index (codes_of chars) at ≡ 45 }
+    requires few { length (codes_of chars) < 2 ^ 63 }
+    ensures { IsLongestToken (codes_of chars.entry) at result }
 {
-    let next = char_at(chars, at + 1);
+    let next = chars.at(at + 1);
     if is_digit(next) {
         (TokenKind::Negative, digits_end(chars, at + 1))
     } else if next == '>' {
@@ -126,12 +120,13 @@ fn minus_end(chars: &[char], at: usize) -> (TokenKind, usize)
 }
 
 /// A mark.
-fn mark_end(chars: &[char], at: usize) -> (TokenKind, usize)
-    requires begins { at < length chars.now }
-    requires mark { slice_index chars.now at ≡ 33 }
-    ensures { IsLongestToken chars.now at result }
+fn mark_end(chars: Text, at: usize) -> (TokenKind, usize)
+    requires begins { at < length (codes_of chars) }
+    requires mark { slice_index (codes_of chars) at ≡ 33 }
+    requires few { length (codes_of chars) < 2 ^ 63 }
+    ensures { IsLongestToken (codes_of chars.entry) at result }
 {
-    if is_digit(char_at(chars, at + 1)) {
+    if is_digit(chars.at(at + 1)) {
         (TokenKind::Mark, digits_end(chars, at + 1))
     } else {
         (TokenKind::Bad, at)
@@ -139,14 +134,14 @@ fn mark_end(chars: &[char], at: usize) -> (TokenKind, usize)
 }
 
 /// Where the text ends whose characters begin here.
-fn closing(chars: &[char], from: usize) -> Option<usize>
-    requires { from ≤ length chars.now }
-    ensures { MatchOption result ((j : ℕ) → j ≤ length chars.now → ClosesText chars.now from j → ⊥)
-        (λ end. (end ≤ length chars.now) × ClosesText chars.now from end) }
+fn closing(chars: Text, from: usize) -> Option<usize>
+    requires { from ≤ length (codes_of chars) }
+    ensures { MatchOption result ((j : ℕ) → j ≤ length (codes_of chars.entry) → ClosesText (codes_of chars.entry) from j → ⊥)
+        (λ end. (end ≤ length (codes_of chars.entry)) × ClosesText (codes_of chars.entry) from end) }
 {
     let mut at = from;
     while at < chars.len() {
-        let c = char_at(chars, at);
+        let c = chars.at(at);
         if c == '"' {
             return Some(at + 1);
         }
@@ -160,10 +155,11 @@ fn closing(chars: &[char], from: usize) -> Option<usize>
 }
 
 /// A text.
-fn text_end(chars: &[char], at: usize) -> (TokenKind, usize)
-    requires begins { at < length chars.now }
-    requires quote { slice_index chars.now at ≡ 34 }
-    ensures { IsLongestToken chars.now at result }
+fn text_end(chars: Text, at: usize) -> (TokenKind, usize)
+    requires begins { at < length (codes_of chars) }
+    requires quote { slice_index (codes_of chars) at ≡ 34 }
+    requires few { length (codes_of chars) < 2 ^ 63 }
+    ensures { IsLongestToken (codes_of chars.entry) at result }
 {
     match closing(chars, at + 1) {
         Some(end) => (TokenKind::Text, end),
@@ -174,12 +170,13 @@ fn text_end(chars: &[char], at: usize) -> (TokenKind, usize)
 const IN_MEMORY: [char; 11] = ['<', 'i', 'n', '-', 'm', 'e', 'm', 'o', 'r', 'y', '>'];
 
 /// Whether `<in-memory>` stands here.
-fn is_in_memory(chars: &[char], at: usize) -> bool
-    requires { at < length chars.now }
-    ensures { MatchBool result (IsInMemory chars.now at) (IsInMemory chars.now at → ⊥) }
+fn is_in_memory(chars: Text, at: usize) -> bool
+    requires begins { at < length (codes_of chars) }
+    requires few { length (codes_of chars) < 2 ^ 63 }
+    ensures { MatchBool result (IsInMemory (codes_of chars.entry) at) (IsInMemory (codes_of chars.entry) at → ⊥) }
 {
     for (k, c) in IN_MEMORY.iter().enumerate() {
-        if char_at(chars, at + k) != *c {
+        if chars.at(at + k) != *c {
             return false;
         }
     }
@@ -187,24 +184,25 @@ fn is_in_memory(chars: &[char], at: usize) -> bool
 }
 
 /// A sign or `<in-memory>`.
-fn sign_end(chars: &[char], at: usize) -> (TokenKind, usize)
-    requires begins { at < length chars.now }
-    requires sign { is_sign (slice_index chars.now at) ≡ true }
-    ensures { IsLongestToken chars.now at result }
+fn sign_end(chars: Text, at: usize) -> (TokenKind, usize)
+    requires begins { at < length (codes_of chars) }
+    requires sign { is_sign (slice_index (codes_of chars) at) ≡ true }
+    requires few { length (codes_of chars) < 2 ^ 63 }
+    ensures { IsLongestToken (codes_of chars.entry) at result }
 {
     if is_in_memory(chars, at) {
         (TokenKind::InMemory, at + 11)
     } else {
-        (TokenKind::Sign(char_at(chars, at)), at + 1)
+        (TokenKind::Sign(chars.at(at)), at + 1)
     }
 }
 
 /// The longest token from here on.
-pub fn token_end(chars: &[char], at: usize) -> (TokenKind, usize)
-    requires { at < length chars.now }
-    ensures { IsLongestToken chars.now at result }
+pub fn token_end(chars: Text, at: usize) -> (TokenKind, usize)
+    requires { at < length (codes_of chars) }
+    ensures { IsLongestToken (codes_of chars.entry) at result }
 {
-    let c = char_at(chars, at);
+    let c = chars.at(at);
     if is_letter(c) {
         word_end(chars, at)
     } else if is_digit(c) {

@@ -1,8 +1,10 @@
 //! Tokens: what the characters of a text are cut into.
 ghost use Rattle.std.specs.Prelude.{◌≡◌, ◌<◌, ◌≤◌, IfOk, false, length, slice_index};
 ghost use Rattle.std.specs.Char.{is_whitespace};
+ghost use Rattle.ir_characters.specs.Texts.{codes_of};
 
-use crate::scan::{char_at, token_end};
+use crate::scan::token_end;
+use ir_characters::Text;
 use std::alloc::{AllocError, Global};
 
 /// What a token is, by its form alone.
@@ -45,14 +47,14 @@ ghost use Rattle.ir_tokens.specs.Tokens.{IsToken, ReadsAs, place};
 /// In come the characters of the text. White space may stand between tokens, and each token is the longest that begins
 /// at its place. Out come the tokens in their order, of which the last may be bad; numbers out of range and texts with
 /// faulty escapes are tokens here. The only error is that memory is refused. The time is linear in the characters.
-pub fn tokens_of(alloc: Global, chars: &[char]) -> Result<Vec<Token>, AllocError>
-    ensures { IfOk result (λ v. ReadsAs chars.now 0 v.items) }
+pub fn tokens_of(alloc: Global, chars: Text) -> Result<Vec<Token>, AllocError>
+    ensures { IfOk result (λ v. ReadsAs (codes_of chars.entry) 0 v.items) }
 {
     // A token takes some six characters in most texts, with the white space before it.
     let mut tokens = Vec::with_capacity(alloc, chars.len() / 6)?;
     let mut at = 0;
     'reading: while at < chars.len() {
-        if char_at(chars, at).is_whitespace() {
+        if chars.at(at).is_whitespace() {
             at += 1;
             continue;
         }
@@ -67,10 +69,10 @@ pub fn tokens_of(alloc: Global, chars: &[char]) -> Result<Vec<Token>, AllocError
 }
 
 /// The longest token that begins here.
-fn token_at(chars: &[char], at: usize) -> Token
-    requires begins { at < length chars.now }
-    requires visible { is_whitespace (slice_index chars.now at) ≡ false }
-    ensures token { IsToken chars.now result }
+fn token_at(chars: Text, at: usize) -> Token
+    requires begins { at < length (codes_of chars) }
+    requires visible { is_whitespace (slice_index (codes_of chars) at) ≡ false }
+    ensures token { IsToken (codes_of chars.entry) result }
     ensures start { result.start ≡ at }
 {
     let (kind, end) = token_end(chars, at);
@@ -84,13 +86,13 @@ fn token_at(chars: &[char], at: usize) -> Token
 /// The line and the column of the character that comes after this front of a text, both counted from 1.
 ///
 /// A line ends after a line feed, and a column is a character. The time is linear in the front.
-pub fn place_after(front: &[char]) -> (usize, usize)
-    ensures { result ≡ place front.now }
+pub fn place_after(front: Text) -> (usize, usize)
+    ensures { result ≡ place (codes_of front.entry) }
 {
     let mut line = 1;
     let mut column = 1;
-    for c in front {
-        if *c == '\n' {
+    for place in 0..front.len() {
+        if front.at(place) == '\n' {
             line += 1;
             column = 1;
         } else {

@@ -59,10 +59,8 @@ fn understand(
     ensures erased { KeepsErased ctx.old.program ctx.new.program }
     ensures payloads { KeepsPayloads ctx.old.program ctx.new.program }
 {
-    let chars = decode(alloc, bytes.as_slice())?;
-    // The characters say all of them, so their memory is free while the module is made.
-    drop(bytes);
-    let root = top_level_parse(alloc, ctx, chars.as_slice())?;
+    let chars = decode(alloc, bytes)?;
+    let root = top_level_parse(alloc, ctx, chars.as_text())?;
     know_holding(ctx, root);
     know_read_module(ctx, root);
     kit_can_print();

@@ -1,10 +1,12 @@
 //! Reading to the end, and from bytes to characters.
 ghost use Rattle.std.specs.Prelude.{◌≡◌, List, ℕ, MatchResult, IfOk, IsErrAnd, false, encode_utf8_all};
+ghost use Rattle.ir_characters.specs.Texts.{owned_codes};
 ghost use Rattle.irkit_streams.specs.Streams.{has_failed};
 ghost use Rattle.irkit_streams.specs.Ends.{EndsReading, Decodes};
 
 use crate::faults::{DecodeFault, ReadFault};
 use crate::watched::Watched;
+use ir_characters::Characters;
 use std::alloc::{AllocError, Global};
 use std::io::Read;
 
@@ -42,26 +44,17 @@ fn characters(alloc: Global, text: &str) -> Result<Vec<char>, AllocError>
     Ok(all)
 }
 
-/// The characters of bytes that are all ASCII: each byte is its character, so nothing is decoded.
-fn ascii_characters(alloc: Global, bytes: &[u8]) -> Result<Vec<char>, AllocError>
-    ensures { IfOk result (λ v. v.items ≡ bytes.now) }
-{
-    let mut all = Vec::with_capacity(alloc, bytes.len())?;
-    all.extend(bytes.iter().map(|b| char::from(*b)))?;
-    Ok(all)
-}
-
 /// The characters of these bytes, or the first byte that isn't part of valid UTF-8.
 /// `Memory` where the characters found no room.
-/// Most inputs are ASCII, whose bytes are their characters, so these are asked for first.
-pub fn decode(alloc: Global, bytes: &[u8]) -> Result<Vec<char>, DecodeFault>
-    ensures { Decodes bytes.now (λ v. v.items) result }
+/// Bytes that are all ASCII, as in most inputs, are their own characters, and are kept as they are.
+pub fn decode(alloc: Global, bytes: Vec<u8>) -> Result<Characters, DecodeFault>
+    ensures { Decodes bytes.items owned_codes result }
 {
     if bytes.is_ascii() {
-        return Ok(ascii_characters(alloc, bytes)?);
+        return Ok(Characters::Bytes(bytes));
     }
-    match std::str::from_utf8(bytes) {
-        Ok(text) => Ok(characters(alloc, text)?),
+    match std::str::from_utf8(&bytes) {
+        Ok(text) => Ok(Characters::Characters(characters(alloc, text)?)),
         Err(e) => Err(DecodeFault::NotUtf8(e.valid_up_to())),
     }
 }

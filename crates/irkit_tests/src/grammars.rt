@@ -1,4 +1,5 @@
 //! Tokens, places, and readings of small grammars, with answers that were worked out by hand.
+use ir_characters::{Characters, Text};
 use ir_grammar::{Action, Class, Event, Grammar, Rule, Stop, Symbol};
 use ir_tokens::{Token, TokenKind, place_after, tokens_of};
 use std::alloc::{AllocError, Global};
@@ -45,21 +46,27 @@ fn are_tokens(tokens: &[Token], wanted: &[(TokenKind, usize, usize)]) -> bool {
 /// Whether these characters are cut into these tokens.
 fn are_cut(
     alloc: Global,
-    chars: &[char],
+    chars: Text,
     wanted: &[(TokenKind, usize, usize)],
 ) -> Result<bool, AllocError> {
     let tokens = tokens_of(alloc, chars)?;
     Ok(are_tokens(&tokens, wanted))
 }
 
-/// Whether a text is cut into these tokens.
+/// Whether a text is cut into these tokens, also where no character is a byte.
 fn is_cut(
     alloc: Global,
     text: &str,
     wanted: &[(TokenKind, usize, usize)],
 ) -> Result<bool, AllocError> {
+    let characters = Characters::from_str(alloc, text)?;
     let chars: Vec<char> = text.chars().collect(alloc)?;
-    are_cut(alloc, &chars, wanted)
+    let is_alike = characters.as_text() == Text::Characters(&chars);
+    Ok(
+        is_alike
+            && are_cut(alloc, characters.as_text(), wanted)?
+            && are_cut(alloc, Text::Characters(&chars), wanted)?,
+    )
 }
 
 /// A text with the line and column behind it.
@@ -72,8 +79,8 @@ const PLACES: &[(&str, (usize, usize))] = &[
 
 /// Whether this line and column is behind a text.
 fn is_place(alloc: Global, text: &str, place: (usize, usize)) -> Result<bool, AllocError> {
-    let chars: Vec<char> = text.chars().collect(alloc)?;
-    Ok(place_after(&chars) == place)
+    let characters = Characters::from_str(alloc, text)?;
+    Ok(place_after(characters.as_text()) == place)
 }
 
 /// Texts are cut into tokens, and have lines and columns.

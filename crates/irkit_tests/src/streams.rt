@@ -1,11 +1,12 @@
 //! Streams that give little, take little or fail, under reading, loading, running and checking.
 use crate::calls::{EMPTY, PRINTED, is_written};
 use crate::fakes::{Dripping, writer_of};
+use ir_characters::Text;
 use ir_context::Context;
 use irkit_driver::{Refusal, Watched, check, load, run};
 use irkit_streams::{DecodeFault, ReadFault, decode, read_to_end};
 use kit::Kit;
-use std::alloc::Global;
+use std::alloc::{AllocError, Global};
 use std::process::Abort;
 
 /// How many calls read the module that holds nothing to its end, byte by byte.
@@ -23,18 +24,18 @@ fn reads(alloc: Global, calls: u64, turns: u64, fails: bool, gives: bool) -> boo
 }
 
 /// Whether these bytes are the text of these characters.
-fn is_decoded(alloc: Global, bytes: &[u8], chars: &[char]) -> bool {
-    match decode(alloc, bytes) {
-        Ok(all) => all.as_slice() == chars,
-        Err(_) => false,
+fn is_decoded(alloc: Global, bytes: &[u8], chars: &[char]) -> Result<bool, AllocError> {
+    match decode(alloc, bytes.to_vec(alloc)?) {
+        Ok(all) => Ok(all.as_text() == Text::Characters(chars)),
+        Err(_) => Ok(false),
     }
 }
 
 /// Whether these bytes are no text from this one on.
-fn is_refused(alloc: Global, bytes: &[u8], at: usize) -> bool {
-    match decode(alloc, bytes) {
-        Ok(_) => false,
-        Err(fault) => fault == DecodeFault::NotUtf8(at),
+fn is_refused(alloc: Global, bytes: &[u8], at: usize) -> Result<bool, AllocError> {
+    match decode(alloc, bytes.to_vec(alloc)?) {
+        Ok(_) => Ok(false),
+        Err(fault) => Ok(fault == DecodeFault::NotUtf8(at)),
     }
 }
 
@@ -43,7 +44,7 @@ const NO_TEXTS: &[(&[u8], usize)] = &[(b"\xff", 0), (b"ab\xc3", 2), (b"a\xc3\xa9
 
 /// Bytes are read to the end, and are the characters of a text or none.
 #[test]
-fn bytes_are_read_and_decoded(rt: HostRuntime) {
+fn bytes_are_read_and_decoded(rt: HostRuntime) -> Result<(), AllocError> {
     let alloc = rt.alloc();
     for (calls, turns, fails, gives) in [
         (9, 3, false, true),
@@ -52,10 +53,13 @@ fn bytes_are_read_and_decoded(rt: HostRuntime) {
     ] {
         assert!(rt; reads(alloc, calls, turns, fails, gives), "{calls}");
     }
-    assert!(rt; is_decoded(alloc, "aé".as_bytes(), &['a', 'é']));
+    assert!(rt; is_decoded(alloc, b"ab", &['a', 'b'])?);
+    assert!(rt; !is_decoded(alloc, b"ab", &['a', 'c'])?);
+    assert!(rt; is_decoded(alloc, "aé".as_bytes(), &['a', 'é'])?);
     for (bytes, at) in NO_TEXTS {
-        assert!(rt; is_refused(alloc, bytes, *at), "{at}");
+        assert!(rt; is_refused(alloc, bytes, *at)?, "{at}");
     }
+    Ok(())
 }
 
 /// Whether loading this into a context ends with this fault, or none.

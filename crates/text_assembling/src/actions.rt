@@ -1,6 +1,7 @@
 //! What an action asks for.
 ghost use Rattle.std.specs.Prelude.{◌≡◌, Err, OnErr, OnOk};
 ghost use Rattle.ir_formats.specs.Words.{token_text};
+ghost use Rattle.ir_characters.specs.Texts.{codes_of};
 ghost use Rattle.ir_program.specs.Edits.{KeepsErased};
 ghost use Rattle.ir_tokens.specs.declared.faults.Fault.{Fault};
 ghost use Rattle.text_building.specs.Kept.{KeepsPayloads};
@@ -11,7 +12,7 @@ use crate::assembling::Assembler;
 use ir_context::Context;
 use ir_grammar::grammar::Action;
 use text_dialect::TextDialect;
-use text_frames::opened::{AssemblyFault, Body};
+use text_frames::opened::{AssemblyFault, Content};
 use text_frames::source::Source;
 
 impl<D: TextDialect> Assembler<D> {
@@ -21,16 +22,17 @@ impl<D: TextDialect> Assembler<D> {
         &mut self,
         ctx: &mut Context<D>,
         source: Source,
+        spares: &mut Vec<Content<D>>,
         action: Action,
     ) -> Result<(), AssemblyFault>
-        requires going { MayStep D.says D.values (token_text source.chars.now source.tokens.now)
+        requires going { MayStep D.says D.values (token_text (codes_of source.chars) source.tokens.now)
             ctx.old self.old action }
         ensures went { OnOk result (DoesStep D.says D.values
-            (token_text source.entry.chars.now source.entry.tokens.now) ctx.old ctx.new self.old self.new action) }
+            (token_text (codes_of source.entry.chars) source.entry.tokens.now) ctx.old ctx.new self.old self.new action) }
         ensures refused { (f : Fault) → result ≡ Err (Text f) → RefusesStep D.says D.values
-            (token_text source.entry.chars.now source.entry.tokens.now) ctx.old self.old action f }
+            (token_text (codes_of source.entry.chars) source.entry.tokens.now) ctx.old self.old action f }
         ensures full { result ≡ Err CounterFull → LacksNumbers D.says D.values
-            (token_text source.entry.chars.now source.entry.tokens.now) ctx.old self.old action }
+            (token_text (codes_of source.entry.chars) source.entry.tokens.now) ctx.old self.old action }
         ensures undone { OnErr result (UndoesStep ctx.old ctx.new self.old self.new) }
         ensures taken { self.new.taken ≡ self.old.taken }
         ensures erased { KeepsErased ctx.old.program ctx.new.program }
@@ -38,20 +40,20 @@ impl<D: TextDialect> Assembler<D> {
     {
         match action {
             Action::Result => self.result(),
-            Action::Operation(kind) => self.begin_operation(kind),
-            Action::BeginRegion => self.begin(Body::Region(Vec::new(self.alloc))),
-            Action::Label => self.begin_block(),
+            Action::Operation(kind) => self.begin_operation(spares, kind),
+            Action::BeginRegion => self.begin_region(spares),
+            Action::Label => self.begin_block(spares),
             Action::Argument => self.argument(),
             Action::Header => self.header(ctx, source),
-            Action::BeginType(kind) => self.begin(Body::Type(kind)),
-            Action::BeginAttribute(kind) => self.begin(Body::Attribute(kind)),
+            Action::BeginType(kind) => self.begin_type(spares, kind),
+            Action::BeginAttribute(kind) => self.begin_attribute(spares, kind),
             Action::Name => self.name(source.text(self.last())),
             Action::Number => self.number(source.text(self.last())),
             Action::Width => self.width(source.text(self.last())),
-            Action::BeginOperands => self.begin(Body::Operands(Vec::new(self.alloc))),
+            Action::BeginOperands => self.begin_operands(spares),
             Action::Operand => self.operand(),
-            Action::BeginList => self.begin(Body::List(Vec::new(self.alloc))),
-            Action::BeginItem => self.begin(Body::Item),
+            Action::BeginList => self.begin_list(spares),
+            Action::BeginItem => self.begin_item(spares),
             Action::EndOperation
             | Action::EndRegion
             | Action::EndBlock
@@ -59,7 +61,7 @@ impl<D: TextDialect> Assembler<D> {
             | Action::EndAttribute
             | Action::EndOperands
             | Action::EndItem
-            | Action::EndList => self.end(ctx),
+            | Action::EndList => self.end(ctx, spares),
         }
     }
 }

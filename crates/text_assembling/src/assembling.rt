@@ -11,6 +11,7 @@ ghost use Rattle.ir_formats.specs.Words.{token_text};
 ghost use Rattle.ir_grammar.specs.Nesting.{at_root, at_end, Nests};
 ghost use Rattle.ir_grammar.specs.declared.grammar.Action.{Action};
 ghost use Rattle.ir_grammar.specs.declared.grammar.Event.TheVariants.{Did, Took};
+ghost use Rattle.ir_characters.specs.Texts.{codes_of};
 ghost use Rattle.ir_program.specs.Edits.{KeepsErased};
 ghost use Rattle.ir_scopes.specs.Naming.{defined_from};
 ghost use Rattle.ir_tokens.specs.declared.faults.Fault.{Fault};
@@ -28,7 +29,7 @@ use std::alloc::Global;
 use text_building::{discard, know_seen};
 use text_dialect::TextDialect;
 use text_frames::assembly::Assembly;
-use text_frames::opened::{AssemblyFault, Body, Open};
+use text_frames::opened::{AssemblyFault, Body, Content, Open};
 use text_frames::source::Source;
 
 /// A text on its way into a context.
@@ -67,24 +68,25 @@ impl<D: TextDialect> Assembler<D> {
         &mut self,
         ctx: &mut Context<D>,
         source: Source,
+        spares: &mut Vec<Content<D>>,
         events: &[Event],
         index: usize,
     ) -> Result<(), AssemblyFault>
         requires within { index < length events.now }
         requires taken { self.old.taken ≤ index }
         requires going { (x : Action) → slice_get events.now index ≡ Some (Did x) → MayStep D.says D.values
-            (token_text source.chars.now source.tokens.now) ctx.old self.old x }
+            (token_text (codes_of source.chars) source.tokens.now) ctx.old self.old x }
         ensures took { slice_get events.now index ≡ Some Took
             → (self.new ≡ record self.old { taken = self.old.taken + 1 }) × (ctx.new ≡ ctx.old) }
         ensures did { (x : Action) → slice_get events.now index ≡ Some (Did x) → (self.new.taken ≡ self.old.taken)
             × OnOk result (DoesStep D.says D.values
-            (token_text source.entry.chars.now source.entry.tokens.now) ctx.old ctx.new self.old self.new x) }
+            (token_text (codes_of source.entry.chars) source.entry.tokens.now) ctx.old ctx.new self.old self.new x) }
         ensures refused { (f : Fault) → result ≡ Err (Text f) → (x : Action)
             × (slice_get events.now index ≡ Some (Did x)) × RefusesStep D.says D.values
-            (token_text source.entry.chars.now source.entry.tokens.now) ctx.old self.old x f }
+            (token_text (codes_of source.entry.chars) source.entry.tokens.now) ctx.old self.old x f }
         ensures full { result ≡ Err CounterFull → (x : Action)
             × (slice_get events.now index ≡ Some (Did x)) × LacksNumbers D.says D.values
-            (token_text source.entry.chars.now source.entry.tokens.now) ctx.old self.old x }
+            (token_text (codes_of source.entry.chars) source.entry.tokens.now) ctx.old self.old x }
         ensures undone { OnErr result (UndoesStep ctx.old ctx.new self.old self.new) }
         ensures erased { KeepsErased ctx.old.program ctx.new.program }
         ensures payloads { KeepsPayloads ctx.old.program ctx.new.program }
@@ -94,7 +96,7 @@ impl<D: TextDialect> Assembler<D> {
                 self.taken += 1;
                 Ok(())
             }
-            Event::Did(action) => self.step(ctx, source, action),
+            Event::Did(action) => self.step(ctx, source, spares, action),
         }
     }
 
@@ -119,18 +121,18 @@ pub fn assemble<D: TextDialect>(
     events: &[Event],
 ) -> Result<Assembly, AssemblyFault>
     requires nests { Nests at_root [] events.now }
-    requires spelt { AreSpelt (token_text source.chars.now source.tokens.now) 0 events.now }
+    requires spelt { AreSpelt (token_text (codes_of source.chars) source.tokens.now) 0 events.now }
     // Of a whole text the root has the tree that is built, definitions have values, and operations wait for operands.
     ensures made { Leads at_root [] events.now at_end [] → IfOk result (λ a. IsAssembled D.says D.values
-        (token_text source.entry.chars.now source.entry.tokens.now) (seen ctx.old) (seen ctx.new)
+        (token_text (codes_of source.entry.chars) source.entry.tokens.now) (seen ctx.old) (seen ctx.new)
         ctx.old.program.counter ctx.new.program.counter a events.now) }
     // Whole or not, all that came is inside the loose things.
     ensures held { IfOk result (λ a. HoldsAllNew (seen ctx.old) (seen ctx.new) a.loose.items) }
     ensures undone { OnErr result (SameSeen (seen ctx.old) (seen ctx.new)) }
     ensures sound { OnOk result (first_refusal D.values
-        (token_text source.entry.chars.now source.entry.tokens.now) events.now ≡ None) }
+        (token_text (codes_of source.entry.chars) source.entry.tokens.now) events.now ≡ None) }
     ensures refused { (f : Fault) → result ≡ Err (Text f) → first_refusal D.values
-        (token_text source.entry.chars.now source.entry.tokens.now) events.now ≡ Some f }
+        (token_text (codes_of source.entry.chars) source.entry.tokens.now) events.now ≡ Some f }
     ensures full { result ≡ Err CounterFull
         → 2 ^ 64 ≤ ctx.old.program.counter + length (defined_from 0 events.now) }
     ensures erased { KeepsErased ctx.old.program ctx.new.program }
@@ -138,8 +140,10 @@ pub fn assemble<D: TextDialect>(
 {
     know_seen(ctx);
     let mut assembler = Assembler::new(alloc);
+    // The contents of what has ended, whose memory serves again.
+    let mut spares = Vec::new(alloc);
     for index in 0..events.len() {
-        if let Err(fault) = assembler.take(ctx, source, events, index) {
+        if let Err(fault) = assembler.take(ctx, source, &mut spares, events, index) {
             discard(ctx, &assembler.made.loose);
             return Err(fault);
         }

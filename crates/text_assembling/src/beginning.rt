@@ -1,11 +1,14 @@
 //! What begins in a text, and what stands alone in it.
 ghost use Rattle.std.specs.Prelude.{◌≡◌, ◌-◌, ◌∷◌, ◌++◌, [], ℕ, List, Bool, None, OnOk, IfErr, true};
+ghost use Rattle.ir_characters.specs.Texts.{codes_of};
 ghost use Rattle.ir_names.specs.declared.kinds.Signedness.{Signedness};
 ghost use Rattle.ir_names.specs.declared.identifier.Identifier.{Identifier};
 ghost use Rattle.ir_names.specs.Identifier.{text_of};
 ghost use Rattle.ir_names.specs.Text.{is_identifier};
 ghost use Rattle.ir_print.specs.Pieces.{number, width};
 ghost use Rattle.ir_print.specs.Shown.{IsNumber, IsWidth};
+ghost use Rattle.ir_program.specs.declared.handles.BasicBlock.{BasicBlock};
+ghost use Rattle.ir_program.specs.declared.handles.Ptr.{Ptr};
 ghost use Rattle.text_frames.specs.declared.opened.AssemblyFault.TheVariants.{Memory};
 ghost use Rattle.text_frames.specs.declared.opened.OpenOperation.{OpenOperation};
 ghost use Rattle.text_assembling.specs.Assembling.{Begun, KeepsAround, NamesOne};
@@ -13,53 +16,134 @@ ghost use Rattle.text_frames.specs.Opened.{HasName, HasBody, HasPut};
 ghost use Rattle.ir_forest.specs.Meaning.{number_in, width_in};
 
 use crate::assembling::Assembler;
-use ir_names::{Identifier, IdentifierError};
+use ir_characters::Text;
 use ir_print::Part;
 use text_dialect::TextDialect;
-use text_frames::opened::{AssemblyFault, Body, Open, OpenBlock, OpenOperation};
+use text_frames::making::label_of;
+use text_frames::opened::{AssemblyFault, Body, Content, Open, OpenBlock, OpenOperation};
 use text_frames::source::{number_of, width_of};
 
 impl<D: TextDialect> Assembler<D> {
     ghost use Rattle.ir_print.specs.declared.format.Number.{Number};
+    ghost use Rattle.ir_print.specs.declared.format.Part.{Part};
     ghost use Rattle.ir_print.specs.declared.format.Part.TheVariants as part;
     ghost use Rattle.text_frames.specs.declared.opened.Body.TheVariants as body;
     ghost use Rattle.std.specs.Prelude.{Option, Vec};
     ghost use Rattle.std.specs.Global.{Global};
 
-    /// Something begins at the last token.
-    pub fn begin(&mut self, body: Body<D>) -> Result<(), AssemblyFault>
+    /// Something begins at the last token, in spare memory if there is some.
+    pub fn begin(
+        &mut self,
+        spares: &mut Vec<Content<D>>,
+        body: Body<D>,
+    ) -> Result<(), AssemblyFault>
         ensures begun { OnOk result (Begun self.old self.new body) }
         ensures taken { self.new.taken ≡ self.old.taken }
         ensures made { self.new.made ≡ self.old.made }
         ensures memory { IfErr result (λ e. e ≡ Memory) }
     {
-        let inner = Open::new(self.alloc, body, self.last());
+        self.around.reserve(1)?;
+        let content = match spares.pop() {
+            Some(content) => content,
+            None => Content::new(self.alloc),
+        };
+        let inner = Open::reusing(self.alloc, content, body, self.last());
         let outer = std::mem::replace(&mut self.here, inner);
-        self.around.push(outer)?;
+        self.around.push_reserved(outer);
         Ok(())
     }
 
-    pub fn begin_operation(&mut self, kind: u8) -> Result<(), AssemblyFault>
+    pub fn begin_operation(
+        &mut self,
+        spares: &mut Vec<Content<D>>,
+        kind: u8,
+    ) -> Result<(), AssemblyFault>
         ensures begun { OnOk result ((o : OpenOperation) × Begun self.old self.new (body.Operation o)
             × (o.kind ≡ kind) × (o.operands.items ≡ []) × (o.regions.items ≡ [])) }
         ensures made { self.new.made ≡ self.old.made }
         ensures taken { self.new.taken ≡ self.old.taken }
         ensures memory { IfErr result (λ e. e ≡ Memory) }
     {
-        self.begin(Body::Operation(OpenOperation {
+        let body = Body::Operation(OpenOperation {
             kind,
             operands: Vec::new(self.alloc),
             regions: Vec::new(self.alloc),
-        }))
+        });
+        self.begin(spares, body)
     }
 
-    pub fn begin_block(&mut self) -> Result<(), AssemblyFault>
+    pub fn begin_block(&mut self, spares: &mut Vec<Content<D>>) -> Result<(), AssemblyFault>
         ensures begun { OnOk result (Begun self.old self.new (body.Block (record { block = None }))) }
         ensures made { self.new.made ≡ self.old.made }
         ensures taken { self.new.taken ≡ self.old.taken }
         ensures memory { IfErr result (λ e. e ≡ Memory) }
     {
-        self.begin(Body::Block(OpenBlock { block: None }))
+        self.begin(spares, Body::Block(OpenBlock { block: None }))
+    }
+
+    pub fn begin_attribute(
+        &mut self,
+        spares: &mut Vec<Content<D>>,
+        kind: u8,
+    ) -> Result<(), AssemblyFault>
+        ensures begun { OnOk result (Begun self.old self.new (body.Attribute kind)) }
+        ensures made { self.new.made ≡ self.old.made }
+        ensures taken { self.new.taken ≡ self.old.taken }
+        ensures memory { IfErr result (λ e. e ≡ Memory) }
+    {
+        self.begin(spares, Body::Attribute(kind))
+    }
+
+    pub fn begin_type(
+        &mut self,
+        spares: &mut Vec<Content<D>>,
+        kind: u8,
+    ) -> Result<(), AssemblyFault>
+        ensures begun { OnOk result (Begun self.old self.new (body.«Type» kind)) }
+        ensures made { self.new.made ≡ self.old.made }
+        ensures taken { self.new.taken ≡ self.old.taken }
+        ensures memory { IfErr result (λ e. e ≡ Memory) }
+    {
+        self.begin(spares, Body::Type(kind))
+    }
+
+    pub fn begin_item(&mut self, spares: &mut Vec<Content<D>>) -> Result<(), AssemblyFault>
+        ensures begun { OnOk result (Begun self.old self.new body.Item) }
+        ensures made { self.new.made ≡ self.old.made }
+        ensures taken { self.new.taken ≡ self.old.taken }
+        ensures memory { IfErr result (λ e. e ≡ Memory) }
+    {
+        self.begin(spares, Body::Item)
+    }
+
+    pub fn begin_list(&mut self, spares: &mut Vec<Content<D>>) -> Result<(), AssemblyFault>
+        ensures begun { OnOk result ((ms : Vec (Vec (Part D D.OpKind D.Attr D.TypeKey) Global) Global)
+            × Begun self.old self.new (body.List ms) × (ms.items ≡ [])) }
+        ensures made { self.new.made ≡ self.old.made }
+        ensures taken { self.new.taken ≡ self.old.taken }
+        ensures memory { IfErr result (λ e. e ≡ Memory) }
+    {
+        self.begin(spares, Body::List(Vec::new(self.alloc)))
+    }
+
+    pub fn begin_operands(&mut self, spares: &mut Vec<Content<D>>) -> Result<(), AssemblyFault>
+        ensures begun { OnOk result ((ks : Vec ℕ Global)
+            × Begun self.old self.new (body.Operands ks) × (ks.items ≡ [])) }
+        ensures made { self.new.made ≡ self.old.made }
+        ensures taken { self.new.taken ≡ self.old.taken }
+        ensures memory { IfErr result (λ e. e ≡ Memory) }
+    {
+        self.begin(spares, Body::Operands(Vec::new(self.alloc)))
+    }
+
+    pub fn begin_region(&mut self, spares: &mut Vec<Content<D>>) -> Result<(), AssemblyFault>
+        ensures begun { OnOk result ((bs : Vec (Ptr BasicBlock) Global)
+            × Begun self.old self.new (body.Region bs) × (bs.items ≡ [])) }
+        ensures made { self.new.made ≡ self.old.made }
+        ensures taken { self.new.taken ≡ self.old.taken }
+        ensures memory { IfErr result (λ e. e ≡ Memory) }
+    {
+        self.begin(spares, Body::Region(Vec::new(self.alloc)))
     }
 
     /// One more definition is named, which isn't made yet.
@@ -119,23 +203,23 @@ impl<D: TextDialect> Assembler<D> {
     }
 
     /// The last token is a part.
-    pub fn name(&mut self, text: &[char]) -> Result<(), AssemblyFault>
-        ensures here { is_identifier text.now ≡ true → OnOk result ((id : Identifier)
-            × (text_of id ≡ text.now) × HasPut self.old.here self.new.here self.old.here.body (part.Name id) (self.old.taken - 1)) }
+    pub fn name(&mut self, text: Text) -> Result<(), AssemblyFault>
+        ensures here { is_identifier (codes_of text.entry) ≡ true → OnOk result ((id : Identifier)
+            × (text_of id ≡ codes_of text.entry) × HasPut self.old.here self.new.here self.old.here.body (part.Name id) (self.old.taken - 1)) }
         ensures made { self.new.made ≡ self.old.made }
         ensures around { KeepsAround self.old self.new }
         ensures memory { IfErr result (λ e. e ≡ Memory) }
     {
         let token = self.last();
-        match Identifier::from_chars(self.alloc, text) {
-            Ok(name) => self.here.put(Part::Name(name), token),
-            Err(IdentifierError::Memory) => Err(AssemblyFault::Memory),
-            Err(_) => Ok(()),
+        let label = label_of(self.alloc, text)?;
+        match label {
+            Some(name) => self.here.put(Part::Name(name), token),
+            None => Ok(()),
         }
     }
 
-    pub fn number(&mut self, text: &[char]) -> Result<(), AssemblyFault>
-        ensures here { (negative : Bool) (magnitude : ℕ) → number_in text.now ≡ number negative magnitude
+    pub fn number(&mut self, text: Text) -> Result<(), AssemblyFault>
+        ensures here { (negative : Bool) (magnitude : ℕ) → number_in (codes_of text.entry) ≡ number negative magnitude
             → OnOk result ((o : Option Number) × IsNumber o negative magnitude
             × HasPut self.old.here self.new.here self.old.here.body (part.Number o) (self.old.taken - 1)) }
         ensures made { self.new.made ≡ self.old.made }
@@ -147,8 +231,8 @@ impl<D: TextDialect> Assembler<D> {
         self.here.put(Part::Number(number), token)
     }
 
-    pub fn width(&mut self, text: &[char]) -> Result<(), AssemblyFault>
-        ensures here { (sign : Signedness) (bits : ℕ) → width_in text.now ≡ width sign bits
+    pub fn width(&mut self, text: Text) -> Result<(), AssemblyFault>
+        ensures here { (sign : Signedness) (bits : ℕ) → width_in (codes_of text.entry) ≡ width sign bits
             → OnOk result ((o : Option ℕ) × IsWidth o bits
             × HasPut self.old.here self.new.here self.old.here.body (part.Width sign o) (self.old.taken - 1)) }
         ensures made { self.new.made ≡ self.old.made }

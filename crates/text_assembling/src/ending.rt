@@ -19,14 +19,20 @@ ghost use Rattle.text_assembling.specs.declared.assembling.Assembler.{Assembler}
 
 use crate::assembling::Assembler;
 use ir_context::Context;
+use ir_names::Dialects;
 use ir_print::Part;
 use text_dialect::TextDialect;
-use text_frames::opened::{AssemblyFault, Body, Open};
+use text_frames::opened::{AssemblyFault, Body, Content, Open};
 
 impl<D: TextDialect> Assembler<D> {
     /// What was begun ends at the last token, in what is around it.
     #[tactic(auto, using(crate::proofs::Undone::types_same, crate::proofs::Undone::erased_same, crate::proofs::Undone::payloads_same, crate::proofs::Undone::undone_same))]
-    fn end_in(&mut self, ctx: &mut Context<D>, ended: Open<D>) -> Result<(), AssemblyFault>
+    fn end_in(
+        &mut self,
+        ctx: &mut Context<D>,
+        spares: &mut Vec<Content<D>>,
+        ended: Open<D>,
+    ) -> Result<(), AssemblyFault>
         requires going { CanEndIn D.says D.values (stage ctx.old) ended self.old }
         ensures ended { (text : ℕ → List ℕ) (o : building.Open) (at next : Position) (ts : Trees Step)
             → Ending D.says D.values text (seen ctx.old).types ended self.old.here o at next ts
@@ -59,11 +65,23 @@ impl<D: TextDialect> Assembler<D> {
         } = ended;
         match body {
             Body::Text => Ok(()),
-            Body::Type(kind) => self.end_type(ctx, kind, first, &content),
-            Body::Attribute(kind) => self.end_attribute(ctx, kind, first, &content),
+            Body::Type(kind) => {
+                let made = self.end_type(ctx, kind, first, &content);
+                keep(spares, content);
+                made
+            }
+            Body::Attribute(kind) => {
+                let made = self.end_attribute(ctx, kind, first, &content);
+                keep(spares, content);
+                made
+            }
             Body::List(members) => self.here.put(Part::List(members), first),
             Body::Item => self.end_item(content.parts),
-            Body::Operation(open) => self.end_operation(ctx, first, open, &content),
+            Body::Operation(open) => {
+                let made = self.end_operation(ctx, first, open, &content);
+                keep(spares, content);
+                made
+            }
             Body::Operands(tokens) => self.end_operands(first, tokens),
             Body::Region(blocks) => self.end_region(first, blocks),
             Body::Block(open) => self.end_block(open),
@@ -71,7 +89,11 @@ impl<D: TextDialect> Assembler<D> {
     }
 
     /// What is being read ends at the last token.
-    pub fn end(&mut self, ctx: &mut Context<D>) -> Result<(), AssemblyFault>
+    pub fn end(
+        &mut self,
+        ctx: &mut Context<D>,
+        spares: &mut Vec<Content<D>>,
+    ) -> Result<(), AssemblyFault>
         requires going { CanEnd D.says D.values (stage ctx.old) self.old }
         ensures ended { OnOk result (HasEnded D.says D.values (stage ctx.old) self.old (stage ctx.new) self.new) }
         ensures refused { (text : ℕ → List ℕ) (g : Progress D.OpKind D.Attr D.TypeKey) (next : Standing)
@@ -90,6 +112,13 @@ impl<D: TextDialect> Assembler<D> {
             return Ok(());
         };
         let ended = std::mem::replace(&mut self.here, outer);
-        self.end_in(ctx, ended)
+        self.end_in(ctx, spares, ended)
+    }
+}
+
+/// One more spare content, if there is memory to keep it.
+fn keep<D: Dialects>(spares: &mut Vec<Content<D>>, content: Content<D>) {
+    if spares.reserve(1).is_ok() {
+        spares.push_reserved(content);
     }
 }

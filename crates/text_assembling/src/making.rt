@@ -11,6 +11,7 @@ ghost use Rattle.ir_names.specs.Text.{is_identifier};
 ghost use Rattle.ir_names.specs.Tree.{Trees};
 ghost use Rattle.ir_print.specs.Pieces.{Pieces};
 ghost use Rattle.ir_print.specs.Shown.{ShowsParts};
+ghost use Rattle.ir_characters.specs.Texts.{codes_of};
 ghost use Rattle.ir_program.specs.Edits.{KeepsErased};
 ghost use Rattle.ir_program.specs.Program.{arguments_at, block_at, operation_at, results_at};
 ghost use Rattle.ir_program.specs.declared.handles.BasicBlock.{BasicBlock};
@@ -48,10 +49,10 @@ impl<D: TextDialect> Assembler<D> {
     /// Makes the block whose header has been read.
     pub fn header(&mut self, ctx: &mut Context<D>, source: Source) -> Result<(), AssemblyFault>
         requires known { AreKnownIn (length ctx.old.types.keys) (types_in self.old.here.content.parts.items) }
-        requires spelt { is_identifier (token_text source.chars.now source.tokens.now
+        requires spelt { is_identifier (token_text (codes_of source.chars) source.tokens.now
             self.old.here.first) ≡ true }
         ensures made { OnOk result (MakesBlock (stage ctx.old) (seen ctx.new) self.old self.new
-            (token_text source.entry.chars.now source.entry.tokens.now self.old.here.first)) }
+            (token_text (codes_of source.entry.chars) source.entry.tokens.now self.old.here.first)) }
         ensures given { OnOk result (GivesNumbers ctx.old.program ctx.new.program
             (length (types_in self.old.here.content.parts.items))) }
         ensures first { self.new.here.first ≡ self.old.here.first }

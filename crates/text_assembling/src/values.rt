@@ -125,7 +125,11 @@ impl<D: TextDialect> Assembler<D> {
     }
 
     /// Operands end, in their operation.
-    pub fn end_operands(&mut self, first: usize, tokens: Vec<usize>) -> Result<(), AssemblyFault>
+    pub fn end_operands(
+        &mut self,
+        first: usize,
+        mut tokens: Vec<usize>,
+    ) -> Result<(), AssemblyFault>
         ensures here { (o : OpenOperation) → self.old.here.body ≡ body.Operation o
             → OnOk result ((p : OpenOperation)
             × HasPut self.old.here self.new.here (body.Operation p) (part.Operands (length tokens.items)) first
@@ -134,10 +138,11 @@ impl<D: TextDialect> Assembler<D> {
         ensures around { KeepsAround self.old self.new }
         ensures memory { IfErr result (λ e. e ≡ Memory) }
     {
+        let count = tokens.len();
         if let Body::Operation(open) = &mut self.here.body {
-            open.operands.extend_from_slice(&tokens)?;
+            add_all(&mut open.operands, &mut tokens)?;
         }
-        self.here.put(Part::Operands(tokens.len()), first)
+        self.here.put(Part::Operands(count), first)
     }
 
     /// A region ends, in its operation.
@@ -176,4 +181,17 @@ impl<D: TextDialect> Assembler<D> {
         }
         Ok(())
     }
+}
+
+/// Tokens stand behind others, in their own memory where they are the first.
+fn add_all(tokens: &mut Vec<usize>, more: &mut Vec<usize>) -> Result<(), AssemblyFault>
+    ensures added { OnOk result (tokens.new.items ≡ tokens.old.items ++ more.old.items) }
+    ensures memory { IfErr result (λ e. e ≡ Memory) }
+{
+    if tokens.is_empty() {
+        std::mem::swap(tokens, more);
+        return Ok(());
+    }
+    tokens.extend_from_slice(more)?;
+    Ok(())
 }

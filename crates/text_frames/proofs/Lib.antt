@@ -11,3 +11,4 @@ pub mod Defining
 pub mod Linked
 pub mod Reached
 pub mod Made
+pub mod Bytes

@@ -1,7 +1,8 @@
 //! What is made of what a text says.
-ghost use Rattle.std.specs.Prelude.{◌≡◌, ℕ, IfOk, None, Some, Err, true};
+ghost use Rattle.std.specs.Prelude.{◌≡◌, ◌↔◌, ℕ, IfOk, None, Some, Err, true, false};
+ghost use Rattle.ir_characters.specs.Texts.{codes_of};
 ghost use Rattle.ir_names.specs.declared.identifier.Identifier.{Identifier};
-ghost use Rattle.ir_names.specs.Identifier.{text_of};
+ghost use Rattle.ir_names.specs.Identifier.{text_of, invalid};
 ghost use Rattle.ir_names.specs.Text.{is_identifier};
 ghost use Rattle.ir_names.specs.Tree.{node};
 ghost use Rattle.ir_print.specs.Pieces.{Pieces, type_of_kind, attribute_of_kind};
@@ -10,8 +11,9 @@ ghost use Rattle.ir_types.specs.Interned.{KeepsTypes};
 ghost use Rattle.text_dialect.specs.declared.dialect.MakeFault.TheVariants.{Refused};
 ghost use Rattle.text_frames.specs.Makes.{types_in};
 
+use ir_characters::Text;
 use ir_context::Context;
-use ir_names::{Identifier, IdentifierError, TypeHandle};
+use ir_names::{Identifier, IdentifierError, InvalidIdentifier, TypeHandle};
 use ir_print::Part;
 use std::alloc::{AllocError, Global};
 use text_dialect::{MakeFault, OperationDraft, TextDialect};
@@ -83,12 +85,26 @@ pub fn draft_of<D: TextDialect>(
     Ok((found, draft))
 }
 
-/// The label that a token is.
-pub fn label_of(alloc: Global, text: &[char]) -> Result<Option<Identifier>, AllocError>
-    ensures { is_identifier text.now ≡ true
-        → IfOk result (λ label. (id : Identifier) × (label ≡ Some id) × (text_of id ≡ text.now)) }
+/// The identifier that a text is.
+fn identifier_of(alloc: Global, text: Text) -> Result<Identifier, IdentifierError>
+    ensures text { IfOk result (λ id. text_of id ≡ codes_of text.entry) }
+    ensures invalid { (result ≡ invalid) ↔ (is_identifier (codes_of text.entry) ≡ false) }
 {
-    match Identifier::from_chars(alloc, text) {
+    match text {
+        Text::Bytes(bytes) => match std::str::from_utf8(bytes) {
+            Ok(string) => Identifier::try_new(alloc, string),
+            Err(_) => Err(IdentifierError::Invalid(InvalidIdentifier)),
+        },
+        Text::Characters(characters) => Identifier::from_chars(alloc, characters),
+    }
+}
+
+/// The label that a token is.
+pub fn label_of(alloc: Global, text: Text) -> Result<Option<Identifier>, AllocError>
+    ensures { is_identifier (codes_of text.entry) ≡ true
+        → IfOk result (λ label. (id : Identifier) × (label ≡ Some id) × (text_of id ≡ codes_of text.entry)) }
+{
+    match identifier_of(alloc, text) {
         Ok(label) => Ok(Some(label)),
         Err(IdentifierError::Memory) => Err(AllocError),
         Err(_) => Ok(None),

@@ -122,6 +122,15 @@ impl<D: Dialects> Content<D> {
         }
     }
 
+    /// Lets go of all parts, and keeps the memory for those that come.
+    pub fn clear(&mut self)
+        ensures parts { self.new.parts.items ≡ [] }
+        ensures tokens { self.new.tokens.items ≡ [] }
+    {
+        self.parts.clear();
+        self.tokens.clear();
+    }
+
     /// One more part, which begins at the token.
     pub fn put(&mut self, part: Part<D>, token: usize) -> Result<(), AssemblyFault>
         ensures put { OnOk result (HasPart self.old self.new part token) }
@@ -148,10 +157,18 @@ impl<D: Dialects> Open<D> {
     pub fn new(alloc: Global, body: Body<D>, first: usize) -> Self
         ensures { IsFresh result body first }
     {
+        Self::reusing(alloc, Content::new(alloc), body, first)
+    }
+
+    /// What begins at a token, with nothing in it, in the memory of a content whose parts are let go.
+    pub fn reusing(alloc: Global, mut content: Content<D>, body: Body<D>, first: usize) -> Self
+        ensures { IsFresh result body first }
+    {
+        content.clear();
         Open {
             body,
             first,
-            content: Content::new(alloc),
+            content,
             names: Vec::new(alloc),
             numbers: Vec::new(alloc),
         }

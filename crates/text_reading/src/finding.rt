@@ -1,5 +1,6 @@
 //! The fault of a text that is named: the first of all that it has.
 ghost use Rattle.std.specs.Prelude.{◌≡◌, ◌⊎◌, ℕ, Bool, List, length, Option, Some, None, Err, OnOk, IfOk, IfErr, IsOk, MatchResult};
+ghost use Rattle.ir_characters.specs.Texts.{codes_of};
 ghost use Rattle.ir_tokens.specs.declared.faults.Fault.{Fault};
 ghost use Rattle.ir_tokens.specs.declared.faults.TextFault.TheVariants.{Memory, CounterFull};
 ghost use Rattle.ir_grammar.specs.declared.grammar.Event.{Event};
@@ -94,7 +95,7 @@ fn fault_of(
 
 /// A fault as users see it, with its line and column.
 fn told(source: Source, fault: Fault) -> TextFault
-    ensures { result ≡ tell fault.kind (place_of source.entry.chars.now source.entry.tokens.now fault.place) }
+    ensures { result ≡ tell fault.kind (place_of (codes_of source.entry.chars) source.entry.tokens.now fault.place) }
 {
     let (line, column) = match source.tokens.get(fault.place) {
         Some(token) => place_after(source.front(token.start)),
@@ -120,11 +121,11 @@ pub fn verdict(
     assembled: &Result<Assembly, AssemblyFault>,
     resolved: &Result<Resolution, ScopeFault>,
 ) -> Result<(), TextFault>
-    ensures fault { (l : Language) (names : List ℕ) → IsJudged l source.entry.chars.now source.entry.tokens.now names reading.now
-        assembled.now resolved.now → IfErr result (IsRefusal l source.entry.chars.now) }
-    ensures none { (l : Language) (names : List ℕ) → IsJudged l source.entry.chars.now source.entry.tokens.now names reading.now
-        assembled.now resolved.now → OnOk result (IsNamed (HasFault l source.entry.chars.now source.entry.tokens.now names
-        reading.now.stop reading.now.taken reading.now.events.items) None) }
+    ensures fault { (l : Language) (names : List ℕ) → IsJudged l (codes_of source.entry.chars) source.entry.tokens.now
+        names reading.now assembled.now resolved.now → IfErr result (IsRefusal l (codes_of source.entry.chars)) }
+    ensures none { (l : Language) (names : List ℕ) → IsJudged l (codes_of source.entry.chars) source.entry.tokens.now
+        names reading.now assembled.now resolved.now → OnOk result (IsNamed (HasFault l (codes_of source.entry.chars)
+        source.entry.tokens.now names reading.now.stop reading.now.taken reading.now.events.items) None) }
     ensures made { OnOk result (IsOk assembled.now) }
     ensures looked_up { OnOk result (IsOk resolved.now) }
     ensures full { result ≡ Err CounterFull → assembled.now ≡ Err assembly.CounterFull }

@@ -1,7 +1,7 @@
 //! Reading a text into a context.
 ghost use Rattle.std.specs.Prelude.{◌≡◌, ◌≤◌, ◌+◌, ◌^◌, ℕ, List, length, Some, Err, OnErr, OnOk, IfOk, IfErr, IsSome};
+ghost use Rattle.ir_characters.specs.Texts.{codes_of};
 ghost use Rattle.ir_program.specs.Edits.{KeepsErased};
-ghost use Rattle.ir_program.specs.declared.handles.IRNode.{IRNode};
 ghost use Rattle.ir_tokens.specs.Tokens.{ReadsAs};
 ghost use Rattle.ir_tokens.specs.declared.faults.TextFault.TheVariants.{Memory, CounterFull};
 ghost use Rattle.ir_rereading.specs.Texts.{language_of, HasDefinitions, IsReading, IsRefusal};
@@ -13,6 +13,7 @@ ghost use Rattle.text_scopes.specs.Isolated.{is_isolated};
 ghost use Rattle.text_reading.specs.Understood.{IsRead};
 
 use crate::finding::verdict;
+use ir_characters::Text;
 use ir_context::Context;
 use ir_formats::rules::DialectGrammar;
 use ir_formats::words::{classify, spelled};
@@ -47,14 +48,15 @@ use text_scopes::resolve;
 pub fn top_level_parse<D: ReadDialect>(
     alloc: Global,
     ctx: &mut Context<D>,
-    chars: &[char],
+    chars: Text,
 ) -> Result<Ptr<Operation>, TextFault>
-    ensures read { IfOk result (IsRead D.says (language_of D.formats D.kind_at (is_isolated D.op_has) D.values) chars.now
-        (seen ctx.old) (seen ctx.new) ctx.old.program.counter ctx.new.program.counter) }
+    ensures read { IfOk result (IsRead D.says (language_of D.formats D.kind_at (is_isolated D.op_has) D.values)
+        (codes_of chars.entry) (seen ctx.old) (seen ctx.new) ctx.old.program.counter ctx.new.program.counter) }
     ensures refused { OnErr result (SameSeen (seen ctx.old) (seen ctx.new)) }
-    ensures fault { IfErr result (IsRefusal (language_of D.formats D.kind_at (is_isolated D.op_has) D.values) chars.now) }
+    ensures fault { IfErr result (IsRefusal (language_of D.formats D.kind_at (is_isolated D.op_has) D.values)
+        (codes_of chars.entry)) }
     ensures full { result ≡ Err CounterFull → (n : ℕ)
-        × HasDefinitions (language_of D.formats D.kind_at (is_isolated D.op_has) D.values) chars.now n
+        × HasDefinitions (language_of D.formats D.kind_at (is_isolated D.op_has) D.values) (codes_of chars.entry) n
         × (2 ^ 64 ≤ ctx.old.program.counter + n) }
     ensures erased { KeepsErased ctx.old.program ctx.new.program }
     ensures payloads { KeepsPayloads ctx.old.program ctx.new.program }
@@ -75,9 +77,9 @@ fn read_source<D: ReadDialect>(
     alloc: Global,
     source: Source,
 ) -> Result<(Vec<usize>, Reading), AllocError>
-    requires { ReadsAs source.chars.now 0 source.tokens.now }
+    requires { ReadsAs (codes_of source.chars) 0 source.tokens.now }
     ensures { IfOk result (λ r. IsReading (language_of D.formats D.kind_at (is_isolated D.op_has) D.values)
-        source.entry.chars.now source.entry.tokens.now r.0.items r.1.stop r.1.taken r.1.events.items) }
+        (codes_of source.entry.chars) source.entry.tokens.now r.0.items r.1.stop r.1.taken r.1.events.items) }
 {
     let language: DialectGrammar = grammar_of::<D>(alloc)?;
     let words = spelled(alloc, &language.words)?;
@@ -94,15 +96,18 @@ fn understand<D: ReadDialect>(
     names: Vec<usize>,
     reading: &Reading,
 ) -> Result<Ptr<Operation>, TextFault>
-    requires reading { IsReading (language_of D.formats D.kind_at (is_isolated D.op_has) D.values) source.chars.now source.tokens.now
-        names.items reading.now.stop reading.now.taken reading.now.events.items }
+    requires reading { IsReading (language_of D.formats D.kind_at (is_isolated D.op_has) D.values)
+        (codes_of source.chars) source.tokens.now names.items reading.now.stop reading.now.taken
+        reading.now.events.items }
     requires named { length source.tokens.now ≤ length names.items }
     ensures read { IfOk result (IsRead D.says (language_of D.formats D.kind_at (is_isolated D.op_has) D.values)
-        source.entry.chars.now (seen ctx.old) (seen ctx.new) ctx.old.program.counter ctx.new.program.counter) }
+        (codes_of source.entry.chars) (seen ctx.old) (seen ctx.new) ctx.old.program.counter ctx.new.program.counter) }
     ensures refused { OnErr result (SameSeen (seen ctx.old) (seen ctx.new)) }
-    ensures fault { IfErr result (IsRefusal (language_of D.formats D.kind_at (is_isolated D.op_has) D.values) source.entry.chars.now) }
+    ensures fault { IfErr result (IsRefusal (language_of D.formats D.kind_at (is_isolated D.op_has) D.values)
+        (codes_of source.entry.chars)) }
     ensures full { result ≡ Err CounterFull → (n : ℕ)
-        × HasDefinitions (language_of D.formats D.kind_at (is_isolated D.op_has) D.values) source.entry.chars.now n
+        × HasDefinitions (language_of D.formats D.kind_at (is_isolated D.op_has) D.values)
+        (codes_of source.entry.chars) n
         × (2 ^ 64 ≤ ctx.old.program.counter + n) }
     ensures erased { KeepsErased ctx.old.program ctx.new.program }
     ensures payloads { KeepsPayloads ctx.old.program ctx.new.program }

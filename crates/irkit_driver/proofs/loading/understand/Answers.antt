@@ -1,4 +1,5 @@
 use Rattle.std.proofs.Common.{Err, ap, refl, subst, ◌∙◌, ◌∷◌, []}
+use Rattle.ir_characters.specs.Texts.{codes_of}
 use Rattle.ir_program.specs.declared.handles.IRNode.TheVariants.{Operation as OperationNode}
 use Rattle.kit_checks.specs.Faults.{IsVerdict}
 use Rattle.kit_checks.specs.World.{world_of}
@@ -11,13 +12,13 @@ use Rattle.irkit_driver.proofs.ReadLemmas.{undecoded, misread, misruled, accepte
 use Rattle.irkit_driver.proofs.loading.understand.Goals as goal
 
 pub returns-in_err-chars-clause-understands : goal.returns-in_err-chars-clause-understands
-returns-in_err-chars-clause-understands c = undecoded _ _ _ _ _ _ c.in_err-chars.was (rw c.as_slice.ensures.value at c.decode.ensures) c.from_residual.ensures.1
+returns-in_err-chars-clause-understands c = undecoded _ _ _ _ _ _ c.in_err-chars.was c.decode.ensures c.from_residual.ensures.1
 
 pub returns-in_err-root-clause-understands : goal.returns-in_err-root-clause-understands
 returns-in_err-root-clause-understands c =
-    let decoded = rw c.as_slice.ensures.value at c.in_ok-chars.ensures in
-    misread c.args.bytes.items c.as_slice-2.result.now c.args.ctx.now c.top_level_parse.new.ctx c.top_level_parse.result c.in_err-root.field-0.0 c.from_residual-in_err-root.result
-    c.in_err-root.was c.from_residual-in_err-root.ensures.1 decoded.0 (c.as_slice-2.ensures.value ∙ decoded.1) c.top_level_parse.ensures.fault c.top_level_parse.ensures.full c.top_level_parse.ensures.refused
+    let decoded = c.in_ok-chars.ensures in
+    misread c.args.bytes.items (codes_of c.as_text.result) c.args.ctx.now c.top_level_parse.new.ctx c.top_level_parse.result c.in_err-root.field-0.0 c.from_residual-in_err-root.result
+    c.in_err-root.was c.from_residual-in_err-root.ensures.1 decoded.0 (c.as_text.ensures ∙ decoded.1) c.top_level_parse.ensures.fault c.top_level_parse.ensures.full c.top_level_parse.ensures.refused
 
 pub know_holding-requires : goal.know_holding-requires
 know_holding-requires c =
@@ -38,26 +39,26 @@ discard-requires-clause-used c =
 
 pub returns-in-Err-clause-understands : goal.returns-in-Err-clause-understands
 returns-in-Err-clause-understands c =
-    let decoded = rw c.as_slice.ensures.value at c.in_ok-chars.ensures in
+    let decoded = c.in_ok-chars.ensures in
     let read = c.in_ok-root.ensures.read in
     let s = c.top_level_parse.new.ctx in
     let root = c.in_ok-root.root in
     let holds = c.know_holding.ensures read.tells.tree read.tells.values read.tells.distinct read.tells.stands in
-    let is = said c.args.bytes.items c.as_slice-2.result.now c.args.ctx.now s root decoded.0
-    (c.as_slice-2.ensures.value ∙ decoded.1) read holds in
+    let is = said c.args.bytes.items (codes_of c.as_text.result) c.args.ctx.now s root decoded.0
+    (c.as_text.ensures ∙ decoded.1) read holds in
     misruled c.args.bytes.items c.args.ctx.now c.discard.new.ctx s root c.in-Err.fault (Err c.from.result) (ap (λ x. Err x) c.from.ensures) is
     (λ t stands. subst (IsVerdict (world_of s) t) c.in-Err.is (c.verify_module.ensures t stands))
     (c.discard.ensures.undone (seen c.args.ctx.now) read.new.came)
 
 pub returns-clause-understands : goal.returns-clause-understands
 returns-clause-understands c =
-    let decoded = rw c.as_slice.ensures.value at c.in_ok-chars.ensures in
+    let decoded = c.in_ok-chars.ensures in
     let read = c.in_ok-root.ensures.read in
     let s = c.top_level_parse.new.ctx in
     let root = c.in_ok-root.root in
     let holds = c.know_holding.ensures read.tells.tree read.tells.values read.tells.distinct read.tells.stands in
-    accepted c.args.bytes.items c.as_slice-2.result.now c.args.ctx.now s root decoded.0
-    (c.as_slice-2.ensures.value ∙ decoded.1) read holds
+    accepted c.args.bytes.items (codes_of c.as_text.result) c.args.ctx.now s root decoded.0
+    (c.as_text.ensures ∙ decoded.1) read holds
     (λ t stands. subst (IsVerdict (world_of s) t) c.in_default.is (c.verify_module.ensures t stands))
     (c.know_read_module.ensures.entered (seen c.args.ctx.now) read.new)
     (c.know_read_module.ensures.contained (seen c.args.ctx.now) read.new)
@@ -67,7 +68,7 @@ returns-clause-writable c = λ t stands.
     let read = c.in_ok-root.ensures.read in
     let s = c.top_level_parse.new.ctx in
     let closed = c.trees_of_texts_are_closed.ensures kit_language c.kit_can_print.ensures refl refl read.tells.values (seen s) c.in_ok-root.root
-    c.as_slice-2.result.now read.tells.tree read.tells.said read.tells.stands in
+    (codes_of c.as_text.result) read.tells.tree read.tells.said read.tells.stands in
     c.texts_are_writable.ensures s c.in_ok-root.root read.tells.values read.tells.tree t read.tells.stands closed.0 stands
 
 pub returns-clause-grammar : goal.returns-clause-grammar

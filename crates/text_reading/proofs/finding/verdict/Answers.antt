@@ -1,5 +1,6 @@
 use Rattle.std.proofs.Common.{◌⊎◌, refl, sym, subst}
 use Rattle.std.proofs.lemmas.Result.{err_from_is_err_and}
+use Rattle.ir_characters.specs.Texts.{codes_of}
 use Rattle.ir_tokens.specs.Faults.{IsNamed}
 use Rattle.ir_rereading.specs.Texts.{HasFault}
 use Rattle.ir_formats.specs.Words.{token_text}
@@ -10,11 +11,11 @@ use Rattle.text_reading.proofs.finding.verdict.Goals as goal
 pub returns-in_err-values-clause-fault : goal.returns-in_err-values-clause-fault
 returns-in_err-values-clause-fault c = λ l names judged.
     let p = err_from_is_err_and c.from_residual.result c.from_residual.ensures.1 in
-    rw (p.1, p.2) (c.in_err-values.ensures.memory l c.args.source.chars.now)
+    rw (p.1, p.2) (c.in_err-values.ensures.memory l (codes_of c.args.source.chars))
 
 pub returns-in-Some-clause-fault : goal.returns-in-Some-clause-fault
 returns-in-Some-clause-fault c = λ l names judged.
-    let cs = c.args.source.chars.now in
+    let cs = codes_of c.args.source.chars in
     let ts = c.args.source.tokens.now in
     let r = c.args.reading.now in
     let es = r.events.items in
@@ -26,7 +27,7 @@ returns-in-Some-clause-fault c = λ l names judged.
 
 pub returns-in-None-clause-none : goal.returns-in-None-clause-none
 returns-in-None-clause-none c = λ l names judged.
-    let cs = c.args.source.chars.now in
+    let cs = codes_of c.args.source.chars in
     let ts = c.args.source.tokens.now in
     let r = c.args.reading.now in
     let es = r.events.items in

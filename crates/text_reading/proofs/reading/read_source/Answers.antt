@@ -1,5 +1,6 @@
 use Rattle.std.proofs.Common.{ap, map, length, subst, arith, ◌≡◌, ◌∙◌}
 use Rattle.std.specs.Str.{chars}
+use Rattle.ir_characters.specs.Texts.{codes_of}
 use Rattle.ir_formats.specs.Words.{spellings, kind_of}
 use Rattle.ir_formats.specs.Rules.{texts, words_of}
 use Rattle.ir_grammar.specs.Reading.{Reads}
@@ -8,7 +9,7 @@ use Rattle.text_reading.proofs.reading.read_source.Goals as goal
 pub returns : goal.returns
 returns g c =
     let d = g.D.TextDialect in
-    let cs = c.args.source.chars.now in
+    let cs = codes_of c.args.source.chars in
     let ts = c.args.source.tokens.now in
     let r = c.in_ok-reading.reading in
     let known = c.in_ok-language.ensures in

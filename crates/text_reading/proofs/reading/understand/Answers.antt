@@ -1,4 +1,5 @@
 use Rattle.std.proofs.Common.{◌≡◌, ◌∙◌, ◌≤◌, ◌+◌, ◌^◌, ℕ, List, length, refl, sym, ap, subst, [], Err, IfOk, MatchResult}
+use Rattle.ir_characters.specs.Texts.{codes_of}
 use Rattle.ir_tokens.specs.declared.faults.TextFault.TheVariants.{CounterFull}
 use Rattle.std.proofs.lemmas.Result.{IfOk-at_ok, MatchResult-at_ok}
 use Rattle.text_dialect.specs.Seen.{seen}
@@ -25,7 +26,7 @@ pub assemble-assembled-requires-clause-nests : goal.assemble-assembled-requires-
 assemble-assembled-requires-clause-nests g c =
     let d = g.D.TextDialect in
     let l = language_of d.formats d.kind_at (is_isolated g.D.DialectTables.op_has) d.values in
-    let cs = c.args.source.chars.now in
+    let cs = codes_of c.args.source.chars in
     let ts = c.args.source.tokens.now in
     let names = c.args.names.items in
     let r = c.args.reading.now in
@@ -38,7 +39,7 @@ pub assemble-assembled-requires-clause-spelt : goal.assemble-assembled-requires-
 assemble-assembled-requires-clause-spelt g c =
     let d = g.D.TextDialect in
     let l = language_of d.formats d.kind_at (is_isolated g.D.DialectTables.op_has) d.values in
-    let cs = c.args.source.chars.now in
+    let cs = codes_of c.args.source.chars in
     let ts = c.args.source.tokens.now in
     let names = c.args.names.items in
     let r = c.args.reading.now in
@@ -53,7 +54,7 @@ pub returns-in-Err-clause-fault : goal.returns-in-Err-clause-fault
 returns-in-Err-clause-fault g c =
     let d = g.D.TextDialect in
     let l = language_of d.formats d.kind_at (is_isolated g.D.DialectTables.op_has) d.values in
-    let cs = c.args.source.chars.now in
+    let cs = codes_of c.args.source.chars in
     let ts = c.args.source.tokens.now in
     let names = c.args.names.items in
     let r = c.args.reading.now in
@@ -69,7 +70,7 @@ pub returns-in-Err-clause-full : goal.returns-in-Err-clause-full
 returns-in-Err-clause-full g c = λ e.
     let d = g.D.TextDialect in
     let l = language_of d.formats d.kind_at (is_isolated g.D.DialectTables.op_has) d.values in
-    let cs = c.args.source.chars.now in
+    let cs = codes_of c.args.source.chars in
     let ts = c.args.source.tokens.now in
     let names = c.args.names.items in
     let r = c.args.reading.now in
@@ -85,7 +86,7 @@ pub connect-requires-clause-waiting : goal.connect-requires-clause-waiting
 connect-requires-clause-waiting g c =
     let d = g.D.TextDialect in
     let l = language_of d.formats d.kind_at (is_isolated g.D.DialectTables.op_has) d.values in
-    let cs = c.args.source.chars.now in
+    let cs = codes_of c.args.source.chars in
     let ts = c.args.source.tokens.now in
     let names = c.args.names.items in
     let r = c.args.reading.now in
@@ -119,7 +120,7 @@ pub connect-requires-clause-meant : goal.connect-requires-clause-meant
 connect-requires-clause-meant g c =
     let d = g.D.TextDialect in
     let l = language_of d.formats d.kind_at (is_isolated g.D.DialectTables.op_has) d.values in
-    let cs = c.args.source.chars.now in
+    let cs = codes_of c.args.source.chars in
     let ts = c.args.source.tokens.now in
     let names = c.args.names.items in
     let r = c.args.reading.now in
@@ -153,7 +154,7 @@ pub connect-requires-clause-root : goal.connect-requires-clause-root
 connect-requires-clause-root g c =
     let d = g.D.TextDialect in
     let l = language_of d.formats d.kind_at (is_isolated g.D.DialectTables.op_has) d.values in
-    let cs = c.args.source.chars.now in
+    let cs = codes_of c.args.source.chars in
     let ts = c.args.source.tokens.now in
     let names = c.args.names.items in
     let r = c.args.reading.now in
@@ -187,7 +188,7 @@ pub returns-clause-read : goal.returns-clause-read
 returns-clause-read g c =
     let d = g.D.TextDialect in
     let l = language_of d.formats d.kind_at (is_isolated g.D.DialectTables.op_has) d.values in
-    let cs = c.args.source.chars.now in
+    let cs = codes_of c.args.source.chars in
     let ts = c.args.source.tokens.now in
     let names = c.args.names.items in
     let r = c.args.reading.now in
@@ -224,7 +225,7 @@ pub returns-clause-refused : goal.returns-clause-refused
 returns-clause-refused g c =
     let d = g.D.TextDialect in
     let l = language_of d.formats d.kind_at (is_isolated g.D.DialectTables.op_has) d.values in
-    let cs = c.args.source.chars.now in
+    let cs = codes_of c.args.source.chars in
     let ts = c.args.source.tokens.now in
     let names = c.args.names.items in
     let r = c.args.reading.now in
@@ -269,7 +270,7 @@ pub returns-clause-payloads : goal.returns-clause-payloads
 returns-clause-payloads g c =
     let d = g.D.TextDialect in
     let l = language_of d.formats d.kind_at (is_isolated g.D.DialectTables.op_has) d.values in
-    let cs = c.args.source.chars.now in
+    let cs = codes_of c.args.source.chars in
     let ts = c.args.source.tokens.now in
     let names = c.args.names.items in
     let r = c.args.reading.now in

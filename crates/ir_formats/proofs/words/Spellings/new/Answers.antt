@@ -4,7 +4,7 @@ use Rattle.ir_formats.proofs.words.Spellings.new.Goals as goal
 
 pub loop-number-preserved : goal.loop-number-preserved
 loop-number-preserved c =
-    begun_more c.args.words.now c.loop-number.number c.index-words-number.result _ _ c.loop-number-test.true c.index-words-number.is c.loop-number.invariant _ _ _ _ c.as_slice.ensures.value c.in_ok-is_new.ensures.is_new c.in_ok-is_new.ensures.known (search rules)
+    begun_more c.args.words.now c.loop-number.number c.index-words-number.result _ _ c.loop-number-test.true c.index-words-number.is c.loop-number.invariant _ _ _ _ c.as_text.ensures c.in_ok-is_new.ensures.is_new c.in_ok-is_new.ensures.known (search rules)
 
 pub returns : goal.returns
 returns c = begun_all _ _ _ _ (omega arith) c.loop-number.invariant

@@ -13,28 +13,28 @@ use Rattle.text_assembling.proofs.assembling.Assembler.end_in.Goals as goal
 pub returns-in-Type-clause-ended : goal.returns-in-Type-clause-ended
 returns-in-Type-clause-ended g c text o at next ts e =
     let said = in_it _ _ _ _ _ _ _ _ _ _ e (body.«Type» c.in-Type.kind) c.in-Type.is in
-    on_ok_weaker c.end_type.result
-    (λ w. ended_type _ _ _ _ _ (keeps_keys c.args.ctx.now.types c.end_type.new.ctx.types c.end_type.ensures.types) _ _ _ _ _ _ _ _ e c.in-Type.kind w.1 c.in-Type.is w.0 w.2 w.3)
-    (c.end_type.ensures.made _ said.parts)
+    on_ok_weaker c.end_type-made.result
+    (λ w. ended_type _ _ _ _ _ (keeps_keys c.args.ctx.now.types c.end_type-made.new.ctx.types c.end_type-made.ensures.types) _ _ _ _ _ _ _ _ e c.in-Type.kind w.1 c.in-Type.is w.0 w.2 w.3)
+    (c.end_type-made.ensures.made _ said.parts)
 
 pub returns-in-Type-clause-refused : goal.returns-in-Type-clause-refused
 returns-in-Type-clause-refused g c text o at next ts e f wrong =
     let said = in_it _ _ _ _ _ _ _ _ _ _ e (body.«Type» c.in-Type.kind) c.in-Type.is in
-    let w = c.end_type.ensures.refused _ ts said.parts said.tokens f wrong in
-    type_refused _ _ _ _ _ (keeps_keys c.args.ctx.now.types c.end_type.new.ctx.types c.end_type.ensures.types) _ _ c.end_type.new.self.here _ _ _ _ _ e c.in-Type.kind w.0 f c.in-Type.is w.1 w.2
+    let w = c.end_type-made.ensures.refused _ ts said.parts said.tokens f wrong in
+    type_refused _ _ _ _ _ (keeps_keys c.args.ctx.now.types c.end_type-made.new.ctx.types c.end_type-made.ensures.types) _ _ c.end_type-made.new.self.here _ _ _ _ _ e c.in-Type.kind w.0 f c.in-Type.is w.1 w.2
 
 pub returns-in-Attribute-clause-ended : goal.returns-in-Attribute-clause-ended
 returns-in-Attribute-clause-ended g c text o at next ts e =
     let said = in_it _ _ _ _ _ _ _ _ _ _ e (body.Attribute c.in-Attribute.kind) c.in-Attribute.is in
-    on_ok_weaker c.end_attribute.result
-    (λ w. ended_attribute _ _ _ _ _ (keeps_keys c.args.ctx.now.types c.end_attribute.new.ctx.types c.end_attribute.ensures.types) _ _ _ _ _ _ _ _ e c.in-Attribute.kind w.1 c.in-Attribute.is w.0 w.2 w.3)
-    (c.end_attribute.ensures.made _ said.parts)
+    on_ok_weaker c.end_attribute-made.result
+    (λ w. ended_attribute _ _ _ _ _ (keeps_keys c.args.ctx.now.types c.end_attribute-made.new.ctx.types c.end_attribute-made.ensures.types) _ _ _ _ _ _ _ _ e c.in-Attribute.kind w.1 c.in-Attribute.is w.0 w.2 w.3)
+    (c.end_attribute-made.ensures.made _ said.parts)
 
 pub returns-in-Attribute-clause-refused : goal.returns-in-Attribute-clause-refused
 returns-in-Attribute-clause-refused g c text o at next ts e f wrong =
     let said = in_it _ _ _ _ _ _ _ _ _ _ e (body.Attribute c.in-Attribute.kind) c.in-Attribute.is in
-    let w = c.end_attribute.ensures.refused _ ts said.parts said.tokens f wrong in
-    attribute_refused _ _ _ _ _ (keeps_keys c.args.ctx.now.types c.end_attribute.new.ctx.types c.end_attribute.ensures.types) _ _ c.end_attribute.new.self.here _ _ _ _ _ e c.in-Attribute.kind w.0 f c.in-Attribute.is w.1 w.2
+    let w = c.end_attribute-made.ensures.refused _ ts said.parts said.tokens f wrong in
+    attribute_refused _ _ _ _ _ (keeps_keys c.args.ctx.now.types c.end_attribute-made.new.ctx.types c.end_attribute-made.ensures.types) _ _ c.end_attribute-made.new.self.here _ _ _ _ _ e c.in-Attribute.kind w.0 f c.in-Attribute.is w.1 w.2
 
 pub returns-in-List-clause-ended : goal.returns-in-List-clause-ended
 returns-in-List-clause-ended g c text o at next ts e =
@@ -52,14 +52,14 @@ returns-in-Item-clause-ended g c text o at next ts e =
 pub returns-in-Operation-clause-ended : goal.returns-in-Operation-clause-ended
 returns-in-Operation-clause-ended g c text o at next ts e =
     let said = in_it _ _ _ _ _ _ _ _ _ _ e (body.Operation c.in-Operation.open) c.in-Operation.is in
-    on_ok_both c.end_operation.result (c.end_operation.ensures.made _ said.parts) c.end_operation.ensures.here
-    (λ w h. ended_operation _ _ _ _ _ (keeps_keys c.args.ctx.now.types c.end_operation.new.ctx.types c.end_operation.ensures.types) _ _ _ _ _ _ _ _ e c.in-Operation.open c.in-Operation.is w.0 w.1 h)
+    on_ok_both c.end_operation-made.result (c.end_operation-made.ensures.made _ said.parts) c.end_operation-made.ensures.here
+    (λ w h. ended_operation _ _ _ _ _ (keeps_keys c.args.ctx.now.types c.end_operation-made.new.ctx.types c.end_operation-made.ensures.types) _ _ _ _ _ _ _ _ e c.in-Operation.open c.in-Operation.is w.0 w.1 h)
 
 pub returns-in-Operation-clause-refused : goal.returns-in-Operation-clause-refused
 returns-in-Operation-clause-refused g c text o at next ts e f wrong =
     let said = in_it _ _ _ _ _ _ _ _ _ _ e (body.Operation c.in-Operation.open) c.in-Operation.is in
-    operation_refused _ _ _ _ _ (keeps_keys c.args.ctx.now.types c.end_operation.new.ctx.types c.end_operation.ensures.types) _ _ c.end_operation.new.self.here _ _ _ _ _ e c.in-Operation.open f c.in-Operation.is
-    (c.end_operation.ensures.refused _ ts said.parts said.tokens f wrong)
+    operation_refused _ _ _ _ _ (keeps_keys c.args.ctx.now.types c.end_operation-made.new.ctx.types c.end_operation-made.ensures.types) _ _ c.end_operation-made.new.self.here _ _ _ _ _ e c.in-Operation.open f c.in-Operation.is
+    (c.end_operation-made.ensures.refused _ ts said.parts said.tokens f wrong)
 
 pub returns-in-Operands-clause-ended : goal.returns-in-Operands-clause-ended
 returns-in-Operands-clause-ended g c text o at next ts e =
@@ -82,14 +82,14 @@ returns-clause-ended g c text o at next ts e =
     (λ w. ended_block _ _ _ _ _ (λ i key h. h) _ _ _ _ _ _ _ _ e c.in-Block.open outer.0 w.0 c.in-Block.is outer.1 w.1)
     (c.end_block.ensures.here outer.0 outer.1)
 
-pub end_operation-requires-clause-shown : goal.end_operation-requires-clause-shown
-end_operation-requires-clause-shown g c =
+pub end_operation-made-requires-clause-shown : goal.end_operation-made-requires-clause-shown
+end_operation-made-requires-clause-shown g c =
     let w = c.requires.going in
     let e = w.2 in
     (_, operation_shown _ _ e.0 _ _ _ w.0 c.args.self.now c.args.ended c.in-Operation.open _ _ w.1.here w.1.around (sym w.1.made) c.in-Operation.is _ _ _ e.3.holds e.3.made e.4.out)
 
-pub end_operation-requires-clause-can : goal.end_operation-requires-clause-can
-end_operation-requires-clause-can g c =
+pub end_operation-made-requires-clause-can : goal.end_operation-made-requires-clause-can
+end_operation-made-requires-clause-can g c =
     let w = c.requires.going in
     let e = w.2 in
     operation_can _ _ e.0 _ _ _ w.0 c.args.self.now c.args.ended c.in-Operation.open _ _ w.1.here w.1.around (sym w.1.made) c.in-Operation.is _ _ _ e.3.holds e.3.made e.4.out
@@ -97,13 +97,13 @@ end_operation-requires-clause-can g c =
 pub returns-in-Operation-clause-raised : goal.returns-in-Operation-clause-raised
 returns-in-Operation-clause-raised g c whole text p next w at goes =
     operation_raised _ _ text _ _ _ whole c.args.self.now c.args.ended c.in-Operation.open _ _ w.here w.around (sym w.made) c.in-Operation.is _ _ next at.holds at.made goes.out
-    _ _ c.end_operation.new.self (ap (λ v. v.items) c.end_operation.ensures.around.around) _ _ c.end_operation.result
-    (λ shown. c.end_operation.ensures.ends _ shown) (λ shown. c.end_operation.ensures.made _ shown)
-    (on_ok_both c.end_operation.result c.end_operation.ensures.given c.end_operation.ensures.here (λ x y. (x.counter, y)))
+    _ _ c.end_operation-made.new.self (ap (λ v. v.items) c.end_operation-made.ensures.around.around) _ _ c.end_operation-made.result
+    (λ shown. c.end_operation-made.ensures.ends _ shown) (λ shown. c.end_operation-made.ensures.made _ shown)
+    (on_ok_both c.end_operation-made.result c.end_operation-made.ensures.given c.end_operation-made.ensures.here (λ x y. (x.counter, y)))
 
 pub returns-in-Operation-clause-full : goal.returns-in-Operation-clause-full
 returns-in-Operation-clause-full g c whole text p next w at goes wrong =
-    operation_full _ _ text _ _ _ whole c.args.self.now c.args.ended c.in-Operation.open _ _ w.here w.around (sym w.made) c.in-Operation.is _ _ next at.holds at.made goes.out (c.end_operation.ensures.full wrong)
+    operation_full _ _ text _ _ _ whole c.args.self.now c.args.ended c.in-Operation.open _ _ w.here w.around (sym w.made) c.in-Operation.is _ _ next at.holds at.made goes.out (c.end_operation-made.ensures.full wrong)
 
 pub returns-in-Region-clause-raised : goal.returns-in-Region-clause-raised
 returns-in-Region-clause-raised g c whole text p next w at goes =
@@ -123,19 +123,19 @@ returns-in-Text-clause-raised g c whole text p next w at goes =
 
 pub returns-in-Type-clause-raised : goal.returns-in-Type-clause-raised
 returns-in-Type-clause-raised g c whole text p next w at goes =
-    type_raised _ _ text _ _ _ _ whole c.end_type.new.self c.args.ended c.args.self.now.here c.args.self.now.around.items _ _ w.here w.around
-    (ap (λ v. v.items) c.end_type.ensures.around.around)
-    (record { same = interned_same c.args.ctx.now c.end_type.new.ctx c.end_type.ensures.program c.end_type.ensures.types; counter = ap (λ q. q.counter) c.end_type.ensures.program })
-    (c.end_type.ensures.assembly ∙ sym w.made) _ _ next _ c.end_type.result at.holds at.made goes.out
-    c.in-Type.kind _ c.in-Type.is (λ ps shown. c.end_type.ensures.made ps shown)
+    type_raised _ _ text _ _ _ _ whole c.end_type-made.new.self c.args.ended c.args.self.now.here c.args.self.now.around.items _ _ w.here w.around
+    (ap (λ v. v.items) c.end_type-made.ensures.around.around)
+    (record { same = interned_same c.args.ctx.now c.end_type-made.new.ctx c.end_type-made.ensures.program c.end_type-made.ensures.types; counter = ap (λ q. q.counter) c.end_type-made.ensures.program })
+    (c.end_type-made.ensures.assembly ∙ sym w.made) _ _ next _ c.end_type-made.result at.holds at.made goes.out
+    c.in-Type.kind _ c.in-Type.is (λ ps shown. c.end_type-made.ensures.made ps shown)
 
 pub returns-in-Attribute-clause-raised : goal.returns-in-Attribute-clause-raised
 returns-in-Attribute-clause-raised g c whole text p next w at goes =
-    attribute_raised _ _ text _ _ _ _ whole c.end_attribute.new.self c.args.ended c.args.self.now.here c.args.self.now.around.items _ _ w.here w.around
-    (ap (λ v. v.items) c.end_attribute.ensures.around.around)
-    (record { same = interned_same c.args.ctx.now c.end_attribute.new.ctx c.end_attribute.ensures.program c.end_attribute.ensures.types; counter = ap (λ q. q.counter) c.end_attribute.ensures.program })
-    (c.end_attribute.ensures.assembly ∙ sym w.made) _ _ next _ c.end_attribute.result at.holds at.made goes.out
-    c.in-Attribute.kind _ c.in-Attribute.is (λ ps shown. c.end_attribute.ensures.made ps shown)
+    attribute_raised _ _ text _ _ _ _ whole c.end_attribute-made.new.self c.args.ended c.args.self.now.here c.args.self.now.around.items _ _ w.here w.around
+    (ap (λ v. v.items) c.end_attribute-made.ensures.around.around)
+    (record { same = interned_same c.args.ctx.now c.end_attribute-made.new.ctx c.end_attribute-made.ensures.program c.end_attribute-made.ensures.types; counter = ap (λ q. q.counter) c.end_attribute-made.ensures.program })
+    (c.end_attribute-made.ensures.assembly ∙ sym w.made) _ _ next _ c.end_attribute-made.result at.holds at.made goes.out
+    c.in-Attribute.kind _ c.in-Attribute.is (λ ps shown. c.end_attribute-made.ensures.made ps shown)
 
 pub returns-in-List-clause-raised : goal.returns-in-List-clause-raised
 returns-in-List-clause-raised g c whole text p next w at goes =
@@ -157,9 +157,9 @@ returns-in-Operands-clause-raised g c whole text p next w at goes =
     _ c.in-Operands.tokens outer.0 c.in-Operands.is outer.1 (c.end_operands.ensures.here outer.0 outer.1)
 
 pub returns-in-Type-clause-undone : goal.returns-in-Type-clause-undone
-returns-in-Type-clause-undone g c = on_err_any _ (undone_so _ _ _ _ (interned_same c.args.ctx.now c.end_type.new.ctx c.end_type.ensures.program c.end_type.ensures.types)
-    (ap (λ z. z.loose.items) c.end_type.ensures.assembly))
+returns-in-Type-clause-undone g c = on_err_any _ (undone_so _ _ _ _ (interned_same c.args.ctx.now c.end_type-made.new.ctx c.end_type-made.ensures.program c.end_type-made.ensures.types)
+    (ap (λ z. z.loose.items) c.end_type-made.ensures.assembly))
 
 pub returns-in-Attribute-clause-undone : goal.returns-in-Attribute-clause-undone
-returns-in-Attribute-clause-undone g c = on_err_any _ (undone_so _ _ _ _ (interned_same c.args.ctx.now c.end_attribute.new.ctx c.end_attribute.ensures.program c.end_attribute.ensures.types)
-    (ap (λ z. z.loose.items) c.end_attribute.ensures.assembly))
+returns-in-Attribute-clause-undone g c = on_err_any _ (undone_so _ _ _ _ (interned_same c.args.ctx.now c.end_attribute-made.new.ctx c.end_attribute-made.ensures.program c.end_attribute-made.ensures.types)
+    (ap (λ z. z.loose.items) c.end_attribute-made.ensures.assembly))

@@ -1,6 +1,7 @@
 use Rattle.std.proofs.Common.{rules, ◌≡◌, ◌∙◌, ◌∷◌, ◌++◌, [], List, Err, refl, ap, sym, true}
 use Rattle.std.proofs.lemmas.List.{with_items_is, places}
 use Rattle.std.proofs.lemmas.Result.{err_from_is_err_and}
+use Rattle.ir_characters.specs.Texts.{codes_of}
 use Rattle.ir_names.specs.Text.{is_identifier}
 use Rattle.ir_program.specs.Program.{arguments_at}
 use Rattle.ir_program.specs.declared.handles.DefiningEntity.TheVariants.{Block as ByBlock}
@@ -15,7 +16,7 @@ use Rattle.text_assembling.proofs.assembling.Assembler.header.Goals as goal
 
 pub returns-clause-made : goal.returns-clause-made
 returns-clause-made g c =
-    let said : is_identifier c.text.result.now ≡ true = rw c.text.ensures c.requires.spelt in
+    let said : is_identifier (codes_of c.text.result) ≡ true = rw c.text.ensures c.requires.spelt in
     let label = c.in_ok-label.ensures said in
     let types : c.deref-2.result.now ≡ types_in c.args.self.now.here.content.parts.items = c.deref-2.ensures.value ∙ c.in_ok-types.ensures ∙ ap types_in c.deref.ensures.value in
     let opened = c.in_ok-block.ensures.opened in
