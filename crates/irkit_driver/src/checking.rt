@@ -22,21 +22,28 @@ pub fn check<R: Read, W: Write>(
     requires writer { has_failed writer.old ≡ false }
     ensures { EndsCheck R.remaining W.contents reader.old reader.new writer.old writer.new result }
 {
-    accept(alloc, reader)?;
+    let mut ctx = Context::new(alloc);
+    check_in(alloc, &mut ctx, reader, writer)
+}
+
+/// The same, where the module is read into a new context.
+pub(crate) fn check_in<R: Read, W: Write>(
+    alloc: Global,
+    ctx: &mut Context<Kit>,
+    reader: &mut Watched<R>,
+    writer: &mut Watched<W>,
+) -> Result<(), Refusal>
+    requires reader { has_failed reader.old ≡ false }
+    requires writer { has_failed writer.old ≡ false }
+    requires counter { ctx.old.program.counter ≡ 0 }
+    ensures { EndsCheck R.remaining W.contents reader.old reader.new writer.old writer.new result }
+{
+    accept(alloc, ctx, reader)?;
     Ok(write_text(writer, b"ok\n")?)
 }
 
 /// Reads a module into a new context, and tests its rules.
-fn accept<R: Read>(alloc: Global, reader: &mut Watched<R>) -> Result<(), Refusal>
-    requires { has_failed reader.old ≡ false }
-    ensures { Accepts R.remaining reader.old reader.new result }
-{
-    let mut ctx = Context::new(alloc);
-    accept_in(alloc, &mut ctx, reader)
-}
-
-/// The same, where the module is read into a new context.
-fn accept_in<R: Read>(
+fn accept<R: Read>(
     alloc: Global,
     ctx: &mut Context<Kit>,
     reader: &mut Watched<R>,

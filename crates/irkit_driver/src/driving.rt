@@ -5,18 +5,21 @@ ghost use Rattle.irkit_streams.specs.Streams.{has_failed};
 ghost use Rattle.irkit_words.specs.CommandLine.{irkit, IsMistake};
 ghost use Rattle.irkit_driver.specs.Works.{Complains, Drives, EndsDrive, EndsHelp, Executes, Helps, Serves, run_status, status_of};
 
-use crate::checking::check;
-use crate::executing::execute;
+use crate::checking::check_in;
+use crate::executing::execute_in;
 use crate::faults::{report_fault, tell};
 use crate::refusal::{ExecutionFault, Refusal};
-use crate::running::run;
+use crate::running::run_in;
 use clap::error::ErrorKind;
 use clap::{ArgMatches, Error};
+use ir_context::Context;
 use irkit_streams::{Watched, write_text};
 use irkit_words::{Execution, Request, RequestFault, parse, request_of};
+use kit::Kit;
 use kit_flat::Outcome;
 use std::alloc::Global;
 use std::io::{Read, Write};
+use std::mem::forget;
 
 /// The program on its words, of which the first is its name. It gives the status:
 /// 0 done or help asked, 1 a fault, 2 a mistake in the words, 3 a run that trapped, 4 one whose steps ran out.
@@ -24,6 +27,8 @@ use std::io::{Read, Write};
 ///
 /// Where the words have no fault, they are served, or memory was refused while they were read: status 1, and nothing
 /// is read or written on the output. A mistake is status 2, or 1 where memory was refused, with nothing read or written.
+///
+/// A program calls it once, and then ends: the memory of the module is left to the system, which frees it all at once.
 pub fn drive<R: Read, W: Write, F: Write>(
     alloc: Global,
     words: Vec<String>,
@@ -86,22 +91,44 @@ fn serve<R: Read, W: Write, F: Write>(
     requires output { has_failed output.old ≡ false }
     ensures { Serves R.remaining W.contents input.old input.new output.old output.new request result }
 {
+    let mut ctx = Context::new(alloc);
+    let status = serve_in(alloc, &mut ctx, request, input, output, faults);
+    // The program ends now: to free each operation by itself would only take time.
+    forget(ctx);
+    status
+}
+
+/// The same, where the module is read into a new context.
+fn serve_in<R: Read, W: Write, F: Write>(
+    alloc: Global,
+    ctx: &mut Context<Kit>,
+    request: Request,
+    input: &mut Watched<R>,
+    output: &mut Watched<W>,
+    faults: &mut Watched<F>,
+) -> u8
+    requires input { has_failed input.old ≡ false }
+    requires output { has_failed output.old ≡ false }
+    requires counter { ctx.old.program.counter ≡ 0 }
+    ensures { Serves R.remaining W.contents input.old input.new output.old output.new request result }
+{
     match request {
         Request::Check => {
-            let outcome = check(alloc, input, output);
+            let outcome = check_in(alloc, ctx, input, output);
             status(faults, outcome)
         }
         Request::Optimise(passes) => {
-            let outcome = run(alloc, passes.as_slice(), input, output);
+            let outcome = run_in(alloc, ctx, passes.as_slice(), input, output);
             status(faults, outcome)
         }
-        Request::Run(execution) => serve_run(alloc, &execution, input, output, faults),
+        Request::Run(execution) => serve_run(alloc, ctx, &execution, input, output, faults),
     }
 }
 
 /// Runs a function, and gives the status of the run.
 fn serve_run<R: Read, W: Write, F: Write>(
     alloc: Global,
+    ctx: &mut Context<Kit>,
     execution: &Execution,
     input: &mut Watched<R>,
     output: &mut Watched<W>,
@@ -109,11 +136,13 @@ fn serve_run<R: Read, W: Write, F: Write>(
 ) -> u8
     requires input { has_failed input.old ≡ false }
     requires output { has_failed output.old ≡ false }
+    requires counter { ctx.old.program.counter ≡ 0 }
     ensures { Executes R.remaining W.contents input.old input.new output.old output.new
         execution.now result }
 {
-    let outcome = execute(
+    let outcome = execute_in(
         alloc,
+        ctx,
         execution.path.as_str(),
         execution.arguments.as_slice(),
         execution.limit,

@@ -40,28 +40,33 @@ pub fn execute<R: Read, W: Write>(
     ensures { EndsExecution R.remaining W.contents reader.old reader.new writer.old writer.new
         path.now arguments.now limit result }
 {
-    let outcome = outcome_of(alloc, path, arguments, limit, reader)?;
-    report(alloc, &outcome, writer)?;
-    Ok(outcome)
+    let mut ctx = Context::new(alloc);
+    execute_in(alloc, &mut ctx, path, arguments, limit, reader, writer)
 }
 
-/// What the run does of the module that the reader gives.
-fn outcome_of<R: Read>(
+/// The same, where the module is read into a new context.
+pub(crate) fn execute_in<R: Read, W: Write>(
     alloc: Global,
+    ctx: &mut Context<Kit>,
     path: &str,
     arguments: &[u64],
     limit: u64,
     reader: &mut Watched<R>,
+    writer: &mut Watched<W>,
 ) -> Result<Outcome, ExecutionFault>
-    requires { has_failed reader.old ≡ false }
-    ensures { GivesOutcome R.remaining reader.old reader.new path.now arguments.now limit result }
+    requires reader { has_failed reader.old ≡ false }
+    requires writer { has_failed writer.old ≡ false }
+    requires counter { ctx.old.program.counter ≡ 0 }
+    ensures { EndsExecution R.remaining W.contents reader.old reader.new writer.old writer.new
+        path.now arguments.now limit result }
 {
-    let mut ctx = Context::new(alloc);
-    outcome_from(alloc, &mut ctx, path, arguments, limit, reader)
+    let outcome = outcome_of(alloc, ctx, path, arguments, limit, reader)?;
+    report(alloc, &outcome, writer)?;
+    Ok(outcome)
 }
 
-/// The same, where the module is read into a new context.
-fn outcome_from<R: Read>(
+/// What the run does of the module that the reader gives. It is read into a new context.
+fn outcome_of<R: Read>(
     alloc: Global,
     ctx: &mut Context<Kit>,
     path: &str,

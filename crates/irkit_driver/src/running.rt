@@ -39,25 +39,29 @@ pub fn run<R: Read, W: Write>(
     requires writer { has_failed writer.old ≡ false }
     ensures { EndsRun R.remaining W.contents reader.old reader.new writer.old writer.new passes.now result }
 {
-    let text = text_after(alloc, passes, reader)?;
-    Ok(write_text(writer, text.as_bytes())?)
-}
-
-/// The text of the module that the reader gives, after the passes, with its line end.
-fn text_after<R: Read>(
-    alloc: Global,
-    passes: &[KitPass],
-    reader: &mut Watched<R>,
-) -> Result<String, Refusal>
-    requires { has_failed reader.old ≡ false }
-    ensures { GivesText R.remaining reader.old reader.new passes.now string_bytes result }
-{
     let mut ctx = Context::new(alloc);
-    text_in(alloc, &mut ctx, passes, reader)
+    run_in(alloc, &mut ctx, passes, reader, writer)
 }
 
 /// The same, where the module is read into a new context.
-fn text_in<R: Read>(
+pub(crate) fn run_in<R: Read, W: Write>(
+    alloc: Global,
+    ctx: &mut Context<Kit>,
+    passes: &[KitPass],
+    reader: &mut Watched<R>,
+    writer: &mut Watched<W>,
+) -> Result<(), Refusal>
+    requires reader { has_failed reader.old ≡ false }
+    requires writer { has_failed writer.old ≡ false }
+    requires counter { ctx.old.program.counter ≡ 0 }
+    ensures { EndsRun R.remaining W.contents reader.old reader.new writer.old writer.new passes.now result }
+{
+    let text = text_after(alloc, ctx, passes, reader)?;
+    Ok(write_text(writer, text.as_bytes())?)
+}
+
+/// The text of the module that the reader gives, after the passes, with its line end. It is read into a new context.
+fn text_after<R: Read>(
     alloc: Global,
     ctx: &mut Context<Kit>,
     passes: &[KitPass],

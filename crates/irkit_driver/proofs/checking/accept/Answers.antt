@@ -1,5 +1,5 @@
 use Rattle.irkit_driver.proofs.EndLemmas.{unaccepted, unloaded}
-use Rattle.irkit_driver.proofs.checking.accept_in.Goals as goal
+use Rattle.irkit_driver.proofs.checking.accept.Goals as goal
 
 pub returns-in_err-load : goal.returns-in_err-load
 returns-in_err-load g c =

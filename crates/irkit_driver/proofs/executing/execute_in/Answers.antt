@@ -1,6 +1,6 @@
 use Rattle.std.proofs.Common.{refl}
 use Rattle.irkit_driver.proofs.ExecutionLemmas.{unreported, half_reported}
-use Rattle.irkit_driver.proofs.executing.execute.Goals as goal
+use Rattle.irkit_driver.proofs.executing.execute_in.Goals as goal
 
 pub returns-in_err-outcome : goal.returns-in_err-outcome
 returns-in_err-outcome g c =

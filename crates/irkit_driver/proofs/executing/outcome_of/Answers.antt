@@ -1,6 +1,6 @@
 use Rattle.irkit_driver.proofs.EndLemmas.{unloaded}
 use Rattle.irkit_driver.proofs.ExecutionLemmas.{gave, not_ran, not_loaded}
-use Rattle.irkit_driver.proofs.executing.outcome_from.Goals as goal
+use Rattle.irkit_driver.proofs.executing.outcome_of.Goals as goal
 
 pub returns-in_err-root : goal.returns-in_err-root
 returns-in_err-root g c =

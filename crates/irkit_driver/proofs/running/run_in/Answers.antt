@@ -2,7 +2,7 @@ use Rattle.std.proofs.Common.{refl, string_bytes, subst}
 use Rattle.irkit_streams.specs.Ends.{EndsWriting}
 use Rattle.irkit_driver.specs.Outcomes.{GivesText, RefusesRun, RunGives}
 use Rattle.irkit_driver.proofs.EndLemmas.{half_written, unwritten}
-use Rattle.irkit_driver.proofs.running.run.Goals as goal
+use Rattle.irkit_driver.proofs.running.run_in.Goals as goal
 
 pub returns-in_err-text : goal.returns-in_err-text
 returns-in_err-text g c =

@@ -1,7 +1,7 @@
 use Rattle.std.proofs.Common.{string_bytes}
 use Rattle.irkit_driver.specs.Refusals.{of_grow_error}
 use Rattle.irkit_driver.proofs.EndLemmas.{unloaded, unloaded_run, unpassed, untexted}
-use Rattle.irkit_driver.proofs.running.text_in.Goals as goal
+use Rattle.irkit_driver.proofs.running.text_after.Goals as goal
 
 pub returns-in_err-root : goal.returns-in_err-root
 returns-in_err-root g c =
