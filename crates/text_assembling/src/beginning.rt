@@ -53,6 +53,7 @@ impl<D: TextDialect> Assembler<D> {
         Ok(())
     }
 
+    /// An operation of the kind with this number begins, with no operand and no region yet.
     pub fn begin_operation(
         &mut self,
         spares: &mut Vec<Content<D>>,
@@ -72,6 +73,7 @@ impl<D: TextDialect> Assembler<D> {
         self.begin(spares, body)
     }
 
+    /// A block begins, which is made once its header is read.
     pub fn begin_block(&mut self, spares: &mut Vec<Content<D>>) -> Result<(), AssemblyFault>
         ensures begun { OnOk result (Begun self.old self.new (body.Block (record { block = None }))) }
         ensures made { self.new.made ≡ self.old.made }
@@ -81,6 +83,7 @@ impl<D: TextDialect> Assembler<D> {
         self.begin(spares, Body::Block(OpenBlock { block: None }))
     }
 
+    /// An attribute of the kind with this number begins.
     pub fn begin_attribute(
         &mut self,
         spares: &mut Vec<Content<D>>,
@@ -94,6 +97,7 @@ impl<D: TextDialect> Assembler<D> {
         self.begin(spares, Body::Attribute(kind))
     }
 
+    /// A type of the kind with this number begins.
     pub fn begin_type(
         &mut self,
         spares: &mut Vec<Content<D>>,
@@ -107,6 +111,7 @@ impl<D: TextDialect> Assembler<D> {
         self.begin(spares, Body::Type(kind))
     }
 
+    /// A member of a list begins.
     pub fn begin_item(&mut self, spares: &mut Vec<Content<D>>) -> Result<(), AssemblyFault>
         ensures begun { OnOk result (Begun self.old self.new body.Item) }
         ensures made { self.new.made ≡ self.old.made }
@@ -116,6 +121,7 @@ impl<D: TextDialect> Assembler<D> {
         self.begin(spares, Body::Item)
     }
 
+    /// A list begins, with no member yet.
     pub fn begin_list(&mut self, spares: &mut Vec<Content<D>>) -> Result<(), AssemblyFault>
         ensures begun { OnOk result ((ms : Vec (Vec (Part D D.OpKind D.Attr D.TypeKey) Global) Global)
             × Begun self.old self.new (body.List ms) × (ms.items ≡ [])) }
@@ -126,6 +132,7 @@ impl<D: TextDialect> Assembler<D> {
         self.begin(spares, Body::List(Vec::new(self.alloc)))
     }
 
+    /// Operands begin, with none yet.
     pub fn begin_operands(&mut self, spares: &mut Vec<Content<D>>) -> Result<(), AssemblyFault>
         ensures begun { OnOk result ((ks : Vec ℕ Global)
             × Begun self.old self.new (body.Operands ks) × (ks.items ≡ [])) }
@@ -136,6 +143,7 @@ impl<D: TextDialect> Assembler<D> {
         self.begin(spares, Body::Operands(Vec::new(self.alloc)))
     }
 
+    /// A region begins, with no block yet.
     pub fn begin_region(&mut self, spares: &mut Vec<Content<D>>) -> Result<(), AssemblyFault>
         ensures begun { OnOk result ((bs : Vec (Ptr BasicBlock) Global)
             × Begun self.old self.new (body.Region bs) × (bs.items ≡ [])) }
