@@ -1,5 +1,5 @@
 -- Where parts stand too deep.
-use Rattle.std.proofs.Common.{◌≡◌, ℕ, Bool, true, false, cond, ◌+◌, ◌-◌, ◌<◌, ◌≤◌, List, [], ◌∷◌, ◌++◌, drop, length, get_or, refl, sym, ap, subst, ◌∙◌, arith, ◌⊎◌, inl, inr, Some}
+use Rattle.std.proofs.Common.{◌≡◌, ℕ, ◌+◌, ◌-◌, ◌<◌, ◌≤◌, List, [], ◌∷◌, ◌++◌, drop, length, get_or, refl, sym, ap, subst, ◌∙◌, arith, ◌⊎◌, inl, inr, Some}
 use Rattle.std.proofs.lemmas.Bool.{cases_lt}
 use Rattle.std.proofs.lemmas.List.{drop_more}
 use Rattle.ir_grammar.specs.declared.grammar.Event.{Event}
@@ -7,17 +7,10 @@ use Rattle.ir_grammar.specs.declared.grammar.Event.TheVariants.{Took, Did}
 use Rattle.ir_tokens.specs.declared.faults.Fault.{Fault}
 use Rattle.ir_tokens.specs.Faults.{Precedes, IsNamed}
 use Rattle.ir_grammar.specs.Reading.{depth_at, tooks, OpensMore}
-use Rattle.ir_scopes.specs.declared.depth.Change.TheVariants.{Opens, Closes, Keeps}
 use Rattle.ir_scopes.specs.Depth.{OpensAt, IsTooDeep, fault_deep}
 
 pub split_at : (es : List Event) (i : ℕ) (d e : Event) → i < length es → get_or es i d ≡ e → drop i es ≡ e ∷ drop (i + 1) es
 split_at es i d e lt is = drop_more es i d lt ∙ ap (λ x. x ∷ drop (i + 1) es) is
-
--- a part opens where this is said of an action
-pub is_opening : (o c : Bool) → cond o Opens (cond c Closes Keeps) ≡ Opens → o ≡ true
-is_opening true c e = refl
-is_opening false true e = cc
-is_opening false false e = cc
 
 -- what is met later has a later token
 pub opens_from : (many n d : ℕ) (es : List Event) (k : ℕ) → OpensAt many n d es k → n - 1 ≤ k

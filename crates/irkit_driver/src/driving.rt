@@ -71,7 +71,13 @@ fn answer<R: Read, W: Write, F: Write>(
         (subcommand_rows_of matches.now) result }
 {
     match request_of(alloc, matches) {
-        Ok(request) => serve(alloc, request, input, output, faults),
+        Ok(request) => {
+            let mut ctx = Context::new(alloc);
+            let status = serve(alloc, &mut ctx, request, input, output, faults);
+            // The program ends now: to free each operation by itself would only take time.
+            forget(ctx);
+            status
+        }
         Err(fault) => {
             report_fault(faults, &fault);
             mistake_status(fault)
@@ -79,27 +85,8 @@ fn answer<R: Read, W: Write, F: Write>(
     }
 }
 
-/// Makes the call for a request, and gives its status.
+/// Makes the call for a request on a new context, and gives its status.
 fn serve<R: Read, W: Write, F: Write>(
-    alloc: Global,
-    request: Request,
-    input: &mut Watched<R>,
-    output: &mut Watched<W>,
-    faults: &mut Watched<F>,
-) -> u8
-    requires input { has_failed input.old ≡ false }
-    requires output { has_failed output.old ≡ false }
-    ensures { Serves R.remaining W.contents input.old input.new output.old output.new request result }
-{
-    let mut ctx = Context::new(alloc);
-    let status = serve_in(alloc, &mut ctx, request, input, output, faults);
-    // The program ends now: to free each operation by itself would only take time.
-    forget(ctx);
-    status
-}
-
-/// The same, where the module is read into a new context.
-fn serve_in<R: Read, W: Write, F: Write>(
     alloc: Global,
     ctx: &mut Context<Kit>,
     request: Request,

@@ -1,5 +1,5 @@
 //! Reading to the end, and from bytes to characters.
-ghost use Rattle.std.specs.Prelude.{◌≡◌, List, ℕ, MatchResult, IfOk, IsErrAnd, false, encode_utf8_all};
+ghost use Rattle.std.specs.Prelude.{◌≡◌, List, ℕ, MatchResult, IsErrAnd, false};
 ghost use Rattle.ir_characters.specs.Texts.{owned_codes};
 ghost use Rattle.irkit_streams.specs.Streams.{has_failed};
 ghost use Rattle.irkit_streams.specs.Ends.{EndsReading, Decodes};
@@ -7,7 +7,7 @@ ghost use Rattle.irkit_streams.specs.Ends.{EndsReading, Decodes};
 use crate::faults::{DecodeFault, ReadFault};
 use crate::watched::Watched;
 use ir_characters::Characters;
-use std::alloc::{AllocError, Global};
+use std::alloc::Global;
 use std::io::Read;
 
 const CHUNK: usize = 65536;
@@ -35,15 +35,6 @@ pub fn read_to_end<R: Read>(
     Err(ReadFault::Read)
 }
 
-/// The characters of a text, each of one byte or more.
-fn characters(alloc: Global, text: &str) -> Result<Vec<char>, AllocError>
-    ensures { IfOk result (λ v. encode_utf8_all v.items ≡ text.now) }
-{
-    let mut all = Vec::with_capacity(alloc, text.len())?;
-    all.extend(text.chars())?;
-    Ok(all)
-}
-
 /// The characters of these bytes, or the first byte that isn't part of valid UTF-8.
 /// `Memory` where the characters found no room.
 /// Bytes that are all ASCII, as in most inputs, are their own characters, and are kept as they are.
@@ -54,7 +45,7 @@ pub fn decode(alloc: Global, bytes: Vec<u8>) -> Result<Characters, DecodeFault>
         return Ok(Characters::Bytes(bytes));
     }
     match std::str::from_utf8(&bytes) {
-        Ok(text) => Ok(Characters::Characters(characters(alloc, text)?)),
+        Ok(text) => Ok(Characters::from_str(alloc, text)?),
         Err(e) => Err(DecodeFault::NotUtf8(e.valid_up_to())),
     }
 }

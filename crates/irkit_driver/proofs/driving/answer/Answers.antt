@@ -5,7 +5,7 @@ use Rattle.irkit_driver.proofs.MistakeLemmas.{asked_nothing}
 use Rattle.irkit_driver.proofs.driving.answer.Goals as goal
 
 pub returns-in-Ok : goal.returns-in-Ok
-returns-in-Ok g c = serves c.in-Ok.request c.in-Ok.ensures c.serve.ensures
+returns-in-Ok g c = serves c.in-Ok.request c.in-Ok.ensures c.serve-status.ensures
 
 pub returns-in-Err : goal.returns-in-Err
 returns-in-Err g c =

@@ -1,7 +1,7 @@
 use Rattle.std.proofs.Common.{List, subst}
 use Rattle.kit_optimiser.specs.declared.pass.KitPass.{KitPass}
 use Rattle.irkit_driver.specs.Outcomes.{EndsRun}
-use Rattle.irkit_driver.proofs.driving.serve_in.Goals as goal
+use Rattle.irkit_driver.proofs.driving.serve.Goals as goal
 
 pub returns-in-Optimise : goal.returns-in-Optimise
 returns-in-Optimise g c = rw c.in-Optimise.is (record {
