@@ -3,3 +3,4 @@ pub mod Closing
 pub mod Steps
 pub mod Ends
 pub mod Checks
+pub mod Changes

@@ -1,5 +1,6 @@
 //! A grammar that is data, and a reader over it that decides each step by the next token.
-ghost use Rattle.std.specs.Prelude.{◌≡◌, ℕ, List, ◌∷◌, [], ◌++◌, slice_get, IfOk, OnOk, IsTrue};
+ghost use Rattle.std.specs.Prelude.{◌≡◌, ℕ, List, ◌∷◌, [], ◌++◌, slice_get, cond, IfOk, OnOk, IsTrue};
+ghost use Rattle.ir_grammar.specs.declared.grammar.Change.TheVariants as change;
 ghost use Rattle.ir_grammar.specs.declared.grammar.Event.TheVariants.{Did};
 ghost use Rattle.ir_grammar.specs.Grammar.{accepts};
 ghost use Rattle.ir_grammar.specs.Table.{pick, closing_of, IsFine, IsKnown, IsPredictive, CanRead};
@@ -59,6 +60,14 @@ pub enum Action {
     EndItem,
     /// The list has been read.
     EndList,
+}
+
+/// What an action does to the number of open parts that count for the depth.
+#[derive(Clone, Copy, Debug, PartialEq, Eq)]
+pub enum Change {
+    Opens,
+    Closes,
+    Keeps,
 }
 
 /// What stands in the body of a rule.
@@ -145,13 +154,14 @@ pub struct Grammar {
 }
 
 impl Action {
-    /// Whether a part begins that counts for the depth: a region, a type or an attribute.
-    pub fn opens(self) -> bool
-        ensures { result ≡ opens self }
+    /// What is done to the number of open parts that count for the depth: regions, types and attributes.
+    pub fn change(self) -> Change
+        ensures { result ≡ cond (opens self) change.Opens (cond (closes self) change.Closes change.Keeps) }
     {
         match self {
-            Action::BeginRegion | Action::BeginType(_) | Action::BeginAttribute(_) => true,
-            _ => false,
+            Action::BeginRegion | Action::BeginType(_) | Action::BeginAttribute(_) => Change::Opens,
+            Action::EndRegion | Action::EndType | Action::EndAttribute => Change::Closes,
+            _ => Change::Keeps,
         }
     }
 
@@ -161,16 +171,6 @@ impl Action {
     {
         match self {
             Action::BeginItem => true,
-            _ => false,
-        }
-    }
-
-    /// Whether a part ends that counts for the depth.
-    pub fn closes(self) -> bool
-        ensures { result ≡ closes self }
-    {
-        match self {
-            Action::EndRegion | Action::EndType | Action::EndAttribute => true,
             _ => false,
         }
     }
@@ -353,14 +353,14 @@ fn depth_at(depth: Option<usize>, action: Action, deepest: usize) -> Option<usiz
     ensures { (done : List Event) → IsDepth deepest done depth → IsDepth deepest (done ++ Did action ∷ []) result }
 {
     let open = depth?;
-    if action.opens() {
-        if open >= deepest {
-            return None;
+    match action.change() {
+        Change::Opens => {
+            if open >= deepest {
+                return None;
+            }
+            Some(open + 1)
         }
-        return Some(open + 1);
+        Change::Closes => Some(open.saturating_sub(1)),
+        Change::Keeps => Some(open),
     }
-    if action.closes() {
-        return Some(open.saturating_sub(1));
-    }
-    Some(open)
 }

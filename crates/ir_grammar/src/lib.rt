@@ -12,4 +12,4 @@ pub mod grammar;
 mod pending;
 mod table;
 
-pub use grammar::{Action, Class, Event, Facts, Grammar, Reading, Rule, Stop, Symbol};
+pub use grammar::{Action, Change, Class, Event, Facts, Grammar, Reading, Rule, Stop, Symbol};

@@ -2,7 +2,7 @@
 ghost use Rattle.ir_tokens.specs.Faults.{IsNamed};
 ghost use Rattle.ir_scopes.specs.Depth.{IsTooDeep};
 
-use ir_grammar::grammar::Event;
+use ir_grammar::grammar::{Change, Event};
 use ir_tokens::faults::{Fault, FaultKind};
 
 /// Regions, types and attributes stand in one another at most so deep.
@@ -17,8 +17,8 @@ pub fn too_deep(events: &[Event]) -> Option<Fault>
     for event in events {
         match event {
             Event::Took => taken += 1,
-            Event::Did(action) => {
-                if action.opens() {
+            Event::Did(action) => match action.change() {
+                Change::Opens => {
                     if depth >= DEEPEST {
                         let token = taken.saturating_sub(1);
                         return Some(Fault {
@@ -28,10 +28,10 @@ pub fn too_deep(events: &[Event]) -> Option<Fault>
                         });
                     }
                     depth += 1;
-                } else if action.closes() {
-                    depth = depth.saturating_sub(1);
                 }
-            }
+                Change::Closes => depth = depth.saturating_sub(1),
+                Change::Keeps => {}
+            },
         }
     }
     None

@@ -1,6 +1,6 @@
 //! Tokens, places, and readings of small grammars, with answers that were worked out by hand.
 use ir_characters::{Characters, Text};
-use ir_grammar::{Action, Class, Event, Grammar, Rule, Stop, Symbol};
+use ir_grammar::{Action, Change, Class, Event, Grammar, Rule, Stop, Symbol};
 use ir_tokens::{Token, TokenKind, place_after, tokens_of};
 use std::alloc::{AllocError, Global};
 
@@ -265,25 +265,25 @@ fn nested_lists_are_read(rt: HostRuntime) -> Result<(), AllocError> {
     Ok(())
 }
 
-/// Actions, with whether they open something, and whether they close it.
-const ACTIONS: &[(Action, bool, bool)] = &[
-    (Action::BeginRegion, true, false),
-    (Action::BeginType(3), true, false),
-    (Action::BeginAttribute(3), true, false),
-    (Action::EndRegion, false, true),
-    (Action::EndType, false, true),
-    (Action::EndAttribute, false, true),
-    (Action::Operation(0), false, false),
-    (Action::BeginList, false, false),
-    (Action::EndList, false, false),
+/// Actions, with what they do to the number of open parts.
+const ACTIONS: &[(Action, Change)] = &[
+    (Action::BeginRegion, Change::Opens),
+    (Action::BeginType(3), Change::Opens),
+    (Action::BeginAttribute(3), Change::Opens),
+    (Action::EndRegion, Change::Closes),
+    (Action::EndType, Change::Closes),
+    (Action::EndAttribute, Change::Closes),
+    (Action::Operation(0), Change::Keeps),
+    (Action::BeginList, Change::Keeps),
+    (Action::EndList, Change::Keeps),
 ];
 
 /// A grammar that one token doesn't decide is refused, and actions are brackets or none.
 #[test]
 fn rules_and_actions_are_judged(rt: HostRuntime) -> Result<(), AllocError> {
     assert!(rt; !can_read(rt.alloc(), 1, UNDECIDED)?);
-    for (action, opens, closes) in ACTIONS {
-        assert!(rt; action.opens() == *opens && action.closes() == *closes);
+    for (action, change) in ACTIONS {
+        assert!(rt; action.change() == *change);
     }
     Ok(())
 }

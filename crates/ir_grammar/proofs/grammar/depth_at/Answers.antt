@@ -1,5 +1,6 @@
 use Rattle.std.proofs.Common.{sym, ◌∙◌, arith}
 use Rattle.ir_grammar.proofs.Ends.{opens_append, depth_passes, depth_did, depth_opened, depth_closed, depth_left}
+use Rattle.ir_grammar.proofs.Changes.{is_opening, is_closing, is_keeping}
 use Rattle.ir_grammar.proofs.grammar.depth_at.Goals as goal
 
 pub returns-in_err-open : goal.returns-in_err-open
@@ -7,22 +8,23 @@ returns-in_err-open c done h = rw c.from_residual.ensures (opens_append c.args.d
 
 pub returns-then-open-deepest : goal.returns-then-open-deepest
 returns-then-open-deepest c done h =
-    depth_passes c.args.deepest done c.in_ok-open.open c.args.action (rw c.in_ok-open.was at h) (sym c.opens.ensures ∙ c.if-opens.true) (omega arith)
+    let opens = is_opening _ _ (sym c.change.ensures ∙ c.in-Opens.is) in
+    depth_passes c.args.deepest done c.in_ok-open.open c.args.action (rw c.in_ok-open.was at h) opens (omega arith)
 
-pub returns-then-opens : goal.returns-then-opens
-returns-then-opens c done h =
+pub returns-else-open-deepest : goal.returns-else-open-deepest
+returns-else-open-deepest c done h =
     let d = rw c.in_ok-open.was at h in
-    (omega arith, depth_did done c.in_ok-open.open _ c.args.action d.1 (depth_opened c.in_ok-open.open c.args.action (sym c.opens.ensures ∙ c.if-opens.true)))
+    let opens = is_opening _ _ (sym c.change.ensures ∙ c.in-Opens.is) in
+    (omega arith, depth_did done c.in_ok-open.open _ c.args.action d.1 (depth_opened c.in_ok-open.open c.args.action opens))
 
-pub returns-then-closes : goal.returns-then-closes
-returns-then-closes c done h =
-    let d = rw c.in_ok-open.was at h in (
-      omega arith,
-      depth_did done c.in_ok-open.open _ c.args.action d.1
-          (c.saturating_sub.ensures ∙ depth_closed c.in_ok-open.open c.args.action (sym c.opens.ensures ∙ c.if-opens.false) (sym c.closes.ensures ∙ c.if-closes.true)),
-    )
-
-pub returns : goal.returns
-returns c done h =
+pub returns-in-Closes : goal.returns-in-Closes
+returns-in-Closes c done h =
     let d = rw c.in_ok-open.was at h in
-    (d.0, depth_did done c.in_ok-open.open _ c.args.action d.1 (depth_left c.in_ok-open.open c.args.action (sym c.opens.ensures ∙ c.if-opens.false) (sym c.closes.ensures ∙ c.if-closes.false)))
+    let closes = is_closing _ _ (sym c.change.ensures ∙ c.in-Closes.is) in
+    (omega arith, depth_did done c.in_ok-open.open _ c.args.action d.1 (c.saturating_sub.ensures ∙ depth_closed c.in_ok-open.open c.args.action closes.0 closes.1))
+
+pub returns-in-Keeps : goal.returns-in-Keeps
+returns-in-Keeps c done h =
+    let d = rw c.in_ok-open.was at h in
+    let keeps = is_keeping _ _ (sym c.change.ensures ∙ c.in-Keeps.is) in
+    (d.0, depth_did done c.in_ok-open.open _ c.args.action d.1 (depth_left c.in_ok-open.open c.args.action keeps.0 keeps.1))
