@@ -1,5 +1,7 @@
 -- The characters of texts, by their numbers.
-use Rattle.std.specs.Prelude.{ℕ, List}
+use Rattle.std.specs.Prelude.{ℕ, List, [], ◌∷◌, if◌then◌else◌}
+use Rattle.std.specs.Char.{is_whitespace}
+use Rattle.std.specs.List.{list_all}
 use Rattle.ir_characters.specs.declared.text.Text.{Text}
 use Rattle.ir_characters.specs.declared.text.Text.TheVariants as lent
 use Rattle.ir_characters.specs.declared.characters.Characters.{Characters}
@@ -14,3 +16,8 @@ codes_of (lent.Characters characters) = characters.now
 abbrev pub owned_codes : Characters → List ℕ
 owned_codes (owned.Bytes bytes) = bytes.items
 owned_codes (owned.Characters characters) = characters.items
+
+-- without the white space at the end
+abbrev pub trimmed : List ℕ → List ℕ
+trimmed [] = []
+trimmed (c ∷ cs) = if list_all is_whitespace (c ∷ cs) then [] else c ∷ trimmed cs

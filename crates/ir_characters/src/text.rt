@@ -1,7 +1,7 @@
 //! Lent characters.
 ghost use Rattle.std.specs.Prelude.{◌≡◌, ◌≤◌, ◌<◌, ◌^◌, fold, length, slice_index, slice_range, bytes_eq};
 ghost use Rattle.std.specs.Hash as fed;
-ghost use Rattle.ir_characters.specs.Texts.{codes_of};
+ghost use Rattle.ir_characters.specs.Texts.{codes_of, trimmed};
 
 use std::hash::{Hash, Hasher};
 
@@ -49,6 +49,17 @@ impl<'a> Text<'a> {
             Text::Bytes(bytes) => Text::Bytes(&bytes[start..end]),
             Text::Characters(characters) => Text::Characters(&characters[start..end]),
         }
+    }
+
+    /// The characters without the white space at their end.
+    pub fn trim_end(self) -> Text<'a>
+        ensures { codes_of result ≡ trimmed (codes_of self.entry) }
+    {
+        let mut end = self.len();
+        while end > 0 && self.at(end - 1).is_whitespace() {
+            end -= 1;
+        }
+        self.slice(0, end)
     }
 }
 

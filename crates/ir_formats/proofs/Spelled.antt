@@ -5,12 +5,12 @@ use Rattle.std.specs.Str.{bytes_eq, chars}
 use Rattle.std.specs.List.{position_or_len, list_any, AllByRecursion, IsDistinct}
 use Rattle.std.proofs.lemmas.Bool.{cases_lt, eq-eqb, eqb-true}
 use Rattle.std.proofs.lemmas.Slice.Eq.{bytes_eq-Decides}
-use Rattle.std.proofs.lemmas.List.{map-append, length-append, length-map, append-nil, drop_all, get_or_past}
+use Rattle.std.proofs.lemmas.List.{map-append, length-append, length-map, get_or_past}
 use Rattle.ir_tokens.specs.declared.tokens.Token.{Token}
 use Rattle.ir_characters.specs.Texts.{codes_of, owned_codes}
 use Rattle.ir_characters.specs.declared.text.Text.{Text}
 use Rattle.ir_characters.specs.declared.characters.Characters.{Characters}
-use Rattle.ir_formats.specs.Words.{spellings, text_of, is_spelled, spelled_texts, name_number, known_with, kind_of, AlikeInNumber}
+use Rattle.ir_formats.specs.Words.{spellings, text_of, is_spelled, spelled_texts, name_number, known_with, AlikeInNumber}
 use Rattle.ir_formats.proofs.Makes.{drop_item}
 use Rattle.ir_formats.specs.Rules.{texts, number_of, with_word, with_words}
 use Rattle.ir_formats.specs.Spelling.{NumbersWords}
@@ -256,7 +256,7 @@ numbers_if ws known u found true h = numbers_with ws known u found h
 numbers_if ws known u found false h = h
 
 -- nor does a token
-numbers_known : (ws known known' : List (List ℕ)) (cs : List ℕ) (t : Token) (found : List ℕ) → known' ≡ known_with known cs t → NumbersWords ws known found → NumbersWords ws known' found
+pub numbers_known : (ws known known' : List (List ℕ)) (cs : List ℕ) (t : Token) (found : List ℕ) → known' ≡ known_with known cs t → NumbersWords ws known found → NumbersWords ws known' found
 numbers_known ws known known' cs t found e h = rw e (numbers_if ws known (text_of cs t) found (is_spelled t.kind) h)
 
 -- After i words: the texts of these, with the numbers of the words that they are. A text that is none of these is no word before i.
@@ -317,87 +317,6 @@ module _ (words : List Characters) (i : ℕ) (w : Characters) (known : List (Lis
     words_found = found_by (number_of known (owned_codes w) == length known) refl;
     ahead = ahead_more;
   }
-
--- ---- steps of the loop over tokens
-
--- one token more that may be a word or a name
-spelled_more : (cs : List ℕ) (ts : List Token) (i : ℕ) (t : Token) (ws ws' all : List (List ℕ)) → i < length ts → t ≡ get_or ts i t → is_spelled t.kind ≡ true
-    → with_words ws (spelled_texts cs (drop i ts)) ≡ all → ws' ≡ with_word ws (text_of cs t) → with_words ws' (spelled_texts cs (drop (i + 1) ts)) ≡ all
-spelled_more cs ts i t ws ws' all lt at h e more =
-    rw more (ap (λ (us : List (List ℕ)). with_words ws us) (sym (ap (λ (b : Bool). if b then text_of cs t ∷ spelled_texts cs (drop (i + 1) ts) else spelled_texts cs (drop (i + 1) ts)) h))
-    ∙ (ap (λ us. with_words ws (spelled_texts cs us)) (sym (drop_item ts i t lt at)) ∙ e))
-
--- the number of that token among all texts
-spelled_number : (cs : List ℕ) (ts : List Token) (i : ℕ) (t : Token) (ws all : List (List ℕ)) → i < length ts → t ≡ get_or ts i t → is_spelled t.kind ≡ true
-    → with_words ws (spelled_texts cs (drop i ts)) ≡ all → number_of all (text_of cs t) ≡ number_of ws (text_of cs t)
-spelled_number cs ts i t ws all lt at h e =
-    let rest = spelled_texts cs (drop (i + 1) ts) in
-    let whole = spelled_more cs ts i t ws (with_word ws (text_of cs t)) all lt at h e refl in
-    rw (← whole) (numbered_all (with_word ws (text_of cs t)) rest (text_of cs t) (number_of ws (text_of cs t)) (numbered_with ws (text_of cs t))).is
-
--- one token more that is no word and no name
-unspelled_more : (cs : List ℕ) (ts : List Token) (i : ℕ) (t : Token) (ws all : List (List ℕ)) → i < length ts → t ≡ get_or ts i t → is_spelled t.kind ≡ false
-    → with_words ws (spelled_texts cs (drop i ts)) ≡ all → with_words ws (spelled_texts cs (drop (i + 1) ts)) ≡ all
-unspelled_more cs ts i t ws all lt at h e =
-    ap (λ (us : List (List ℕ)). with_words ws us) (sym (ap (λ (b : Bool). if b then text_of cs t ∷ spelled_texts cs (drop (i + 1) ts) else spelled_texts cs (drop (i + 1) ts)) h))
-    ∙ (ap (λ us. with_words ws (spelled_texts cs us)) (sym (drop_item ts i t lt at)) ∙ e)
-
-known_by : (cs : List ℕ) (ts : List Token) (i : ℕ) (t : Token) (ws all : List (List ℕ)) (b : Bool) → is_spelled t.kind ≡ b → i < length ts → t ≡ get_or ts i t
-    → with_words ws (spelled_texts cs (drop i ts)) ≡ all → with_words (if b then with_word ws (text_of cs t) else ws) (spelled_texts cs (drop (i + 1) ts)) ≡ all
-known_by cs ts i t ws all true h lt at e = spelled_more cs ts i t ws (with_word ws (text_of cs t)) all lt at h e refl
-known_by cs ts i t ws all false h lt at e = unspelled_more cs ts i t ws all lt at h e
-
--- one token more
-pub known_more : (cs : List ℕ) (ts : List Token) (i : ℕ) (t : Token) (ws ws' all : List (List ℕ)) → i < length ts → t ≡ get_or ts i t
-    → with_words ws (spelled_texts cs (drop i ts)) ≡ all → ws' ≡ known_with ws cs t → with_words ws' (spelled_texts cs (drop (i + 1) ts)) ≡ all
-known_more cs ts i t ws ws' all lt at e more = rw more (known_by cs ts i t ws all (is_spelled t.kind) refl lt at e)
-
-name_by : (cs : List ℕ) (ts : List Token) (i : ℕ) (t : Token) (ws all : List (List ℕ)) (none : ℕ) (b : Bool) → is_spelled t.kind ≡ b → i < length ts → t ≡ get_or ts i t
-    → with_words ws (spelled_texts cs (drop i ts)) ≡ all → (if b then number_of ws (text_of cs t) else none) ≡ (if b then number_of all (text_of cs t) else none)
-name_by cs ts i t ws all none true h lt at e = sym (spelled_number cs ts i t ws all lt at h e)
-name_by cs ts i t ws all none false h lt at e = refl
-
--- its number stays
-pub name_stays : (cs : List ℕ) (ts : List Token) (i : ℕ) (t : Token) (ws all : List (List ℕ)) (none : ℕ) → i < length ts → t ≡ get_or ts i t
-    → with_words ws (spelled_texts cs (drop i ts)) ≡ all → name_number ws none cs t ≡ name_number all none cs t
-name_stays cs ts i t ws all none lt at e = name_by cs ts i t ws all none (is_spelled t.kind) refl lt at e
-
--- one value more behind those of the tokens before
-pub value_more : (f : Token → ℕ) (ts : List Token) (i : ℕ) (t : Token) (xs ys : List ℕ) (v : ℕ) → i < length ts → t ≡ get_or ts i t → xs ++ map f (drop i ts) ≡ map f ts → v ≡ f t → ys ≡ xs ++ v ∷ []
-    → ys ++ map f (drop (i + 1) ts) ≡ map f ts
-value_more f ts i t xs ys v lt at e is more =
-    rw more (append_assoc xs (v ∷ []) (map f (drop (i + 1) ts)) ∙ (ap (λ (y : ℕ). xs ++ (y ∷ map f (drop (i + 1) ts))) is ∙ (ap (λ us. xs ++ map f us) (sym (drop_item ts i t lt at)) ∙ e)))
-
--- After i tokens: the texts that are known, where the first ones were known before any token, the numbers of the words that they
--- are, and the kinds and the numbers of these tokens.
-pub record Numbering (words : List (List ℕ)) (cs : List ℕ) (ts : List Token) (first : List (List ℕ)) (i : ℕ) (known : List (List ℕ)) (found kinds names : List ℕ) : Type 0 where
-  pub texts_left : with_words known (spelled_texts cs (drop i ts)) ≡ with_words first (spelled_texts cs ts)
-  pub words_found : NumbersWords words known found
-  pub kinds_left : kinds ++ map (kind_of words cs) (drop i ts) ≡ map (kind_of words cs) ts
-  pub names_left : names ++ map (name_number (with_words first (spelled_texts cs ts)) (length ts) cs) (drop i ts) ≡ map (name_number (with_words first (spelled_texts cs ts)) (length ts) cs) ts
-
-pub numbering_more : (words : List (List ℕ)) (cs : List ℕ) (ts : List Token) (first : List (List ℕ)) (i : ℕ) (t : Token) (known known' : List (List ℕ)) (found found' kinds kinds' names names' : List ℕ) (kind name : ℕ)
-    → i < length ts → t ≡ get_or ts i t → Numbering words cs ts first i known found kinds names
-    → known' ≡ known_with known cs t → found' ≡ found → kind ≡ kind_of words cs t → name ≡ name_number known (length ts) cs t → kinds' ≡ kinds ++ kind ∷ [] → names' ≡ names ++ name ∷ []
-    → Numbering words cs ts first (i + 1) known' found' kinds' names'
-numbering_more words cs ts first i t known known' found found' kinds kinds' names names' kind name lt at h know same is_kind is_name more_kinds more_names =
-    let all = with_words first (spelled_texts cs ts) in
-    record {
-      texts_left = known_more cs ts i t known known' all lt at h.texts_left know;
-      words_found = rw same (numbers_known words known known' cs t found know h.words_found);
-      kinds_left = value_more (kind_of words cs) ts i t kinds kinds' kind lt at h.kinds_left is_kind more_kinds;
-      names_left = value_more (name_number all (length ts) cs) ts i t names names' name lt at h.names_left (is_name ∙ name_stays cs ts i t known all (length ts) lt at h.texts_left) more_names;
-    }
-
--- all tokens have their kinds and numbers
-pub numbering_done : (words : List (List ℕ)) (cs : List ℕ) (ts : List Token) (first : List (List ℕ)) (i : ℕ) (known : List (List ℕ)) (found kinds names : List ℕ) → length ts ≤ i → Numbering words cs ts first i known found kinds names
-    → (kinds ≡ map (kind_of words cs) ts) × AlikeInNumber cs ts names
-numbering_done words cs ts first i known found kinds names le h =
-    let all = with_words first (spelled_texts cs ts) in
-    let left = drop_all i ts le in
-    let kinds_done : kinds ++ [] ≡ map (kind_of words cs) ts = ap (λ (us : List Token). kinds ++ map (kind_of words cs) us) (sym left) ∙ h.kinds_left in
-    let names_done : names ++ [] ≡ map (name_number all (length ts) cs) ts = ap (λ (us : List Token). names ++ map (name_number all (length ts) cs) us) (sym left) ∙ h.names_left in
-    (sym (append-nil kinds) ∙ kinds_done, alike_by cs first ts (length ts) names (sym (append-nil names) ∙ names_done))
 
 -- within a list what is read doesn't hang on the default
 pub any_default : {A : Type 0} (xs : List A) (i : ℕ) (a b : A) → i < length xs → get_or xs i a ≡ get_or xs i b

@@ -8,7 +8,7 @@ use Rattle.ir_tokens.specs.declared.tokens.TokenKind.TheVariants.{Name, Digits, 
 use Rattle.ir_tokens.specs.declared.tokens.Token.{Token}
 use Rattle.ir_formats.specs.declared.rules.Shape.{Shape}
 use Rattle.ir_formats.specs.declared.rules.Shape.TheVariants as shapes
-use Rattle.ir_tokens.specs.Tokens.{is_digit}
+use Rattle.ir_tokens.specs.Tokens.{is_digit, starts_of, ReadsAs}
 use Rattle.ir_formats.specs.Rules.{number_of, with_word}
 use Rattle.std.specs.Option.{option_map_or}
 
@@ -66,10 +66,14 @@ spelled_texts cs (t ∷ ts) = if is_spelled t.kind then text_of cs t ∷ spelled
 abbrev pub name_number : List (List ℕ) → ℕ → List ℕ → Token → ℕ
 name_number all none cs t = if is_spelled t.kind then number_of all (text_of cs t) else none
 
--- The kind of the word of this number, of so many, or of a token that is none of them. Kinds end at 2^32 - 1, far past those of any
--- dialect, and words past that have none of their own.
+-- This is the number of a word, of so many, that has a kind of its own. Kinds end at 2^32 - 1, far past those of any dialect, and words
+-- past that have none.
+abbrev pub has_kind : ℕ → ℕ → Bool
+has_kind number words = nat_lt number words && nat_lt number 4294967290
+
+-- the kind of the word of this number, of so many, or of a token that is none of them
 abbrev pub word_kind : ℕ → ℕ → ℕ → ℕ
-word_kind number words shape = if nat_lt number words && nat_lt number 4294967290 then number + 5 else shape
+word_kind number words shape = if has_kind number words then number + 5 else shape
 
 -- the kind of a token: a word of the grammar has that of the word, and any other that of its shape
 abbrev pub kind_of : List (List ℕ) → List ℕ → Token → ℕ
@@ -89,3 +93,12 @@ AlikeInNumber cs ts numbers = (i j : ℕ) (s t : Token) → slice_get ts i ≡ S
 -- the characters of the token with this number, none behind the last
 abbrev pub token_text : List ℕ → List Token → ℕ → List ℕ
 token_text cs ts k = option_map_or (text_of cs) (slice_get ts k) []
+
+-- The tokens of a text, up to its end or its first bad one, by where they begin, by their kinds, and by numbers of those that may be
+-- words or names.
+pub record AreClassified (words : List (List ℕ)) (cs : List ℕ) (ts : List Token) (starts numbers names : List ℕ) : Type 0 where
+  pub tokens : ReadsAs cs 0 ts
+  pub places : starts ≡ starts_of cs ts
+  pub kinds : numbers ≡ map (kind_of words cs) ts
+  pub alike : AlikeInNumber cs ts names
+  pub many : length names ≡ length ts

@@ -1,25 +1,63 @@
 //! The kind of each token, and which tokens are spelled alike.
-ghost use Rattle.std.specs.Prelude.{◌≡◌, ◌<◌, drop, OnOk, IfOk, IfSome, length, map, ◌==◌, slice_index_or};
+ghost use Rattle.std.specs.Prelude.{◌≡◌, ◌<◌, ◌++◌, ◌∷◌, [], List, drop, OnOk, IfOk, IfSome, bytes_eq, length, map, ◌==◌, slice_index_or};
+ghost use Rattle.ir_tokens.specs.declared.tokens.Token.{Token};
 ghost use Rattle.std.specs.Str.{chars};
 ghost use Rattle.ir_characters.specs.Texts.{codes_of};
 ghost use Rattle.ir_formats.specs.Rules.{texts, number_of, with_word};
 ghost use Rattle.ir_formats.specs.Spelling.{known_texts, NumbersWords};
-ghost use Rattle.ir_formats.specs.Words.{spellings, text_of, is_width, are_digits, shape_kind, is_spelled, word_kind, kind_of, known_with, name_number, AlikeInNumber};
+ghost use Rattle.ir_formats.specs.Words.{spellings, text_of, is_width, are_digits, shape_kind, is_spelled, has_kind, kind_of, known_with, name_number, AreClassified};
 
 use crate::rules::{SHAPES, Shape};
 use indexmap::IndexSet;
 use ir_characters::{Characters, Text};
 use ir_tokens::scan::is_digit;
-use ir_tokens::tokens::{Token, TokenKind};
+use ir_tokens::tokens::{Token, TokenKind, token_at};
 use std::alloc::{AllocError, Global};
 
 /// What the grammar knows of the tokens of a text.
 #[derive(Drop)]
 pub struct Classified {
+    /// Where each token begins, and behind these where the text of the last one ends, in characters from 0.
+    pub starts: Vec<usize>,
     /// The kind of each token, as the grammar's signs take it.
     pub kinds: Vec<u32>,
     /// A number for each token that may be a word or a name: two have the same where they are spelled alike.
     pub names: Vec<usize>,
+}
+
+impl Classified {
+    /// No tokens, with room for so many.
+    fn with_capacity(alloc: Global, tokens: usize) -> Result<Classified, AllocError>
+        ensures { IfOk result (λ c. (c.starts.items ≡ []) × (c.kinds.items ≡ []) × (c.names.items ≡ [])) }
+    {
+        Ok(Classified {
+            starts: Vec::with_capacity(alloc, tokens)?,
+            kinds: Vec::with_capacity(alloc, tokens)?,
+            names: Vec::with_capacity(alloc, tokens)?,
+        })
+    }
+
+    /// Puts a token behind the others.
+    fn add(&mut self, start: usize, kind: u32, name: usize) -> Result<(), AllocError>
+        ensures starts { OnOk result (self.new.starts.items ≡ self.old.starts.items ++ start ∷ []) }
+        ensures kinds { OnOk result (self.new.kinds.items ≡ self.old.kinds.items ++ kind ∷ []) }
+        ensures names { OnOk result (self.new.names.items ≡ self.old.names.items ++ name ∷ []) }
+    {
+        self.starts.push(start)?;
+        self.kinds.push(kind)?;
+        self.names.push(name)?;
+        Ok(())
+    }
+
+    /// The same tokens, of which the last one's text ends here.
+    fn ended(mut self, end: usize) -> Result<Classified, AllocError>
+        ensures starts { IfOk result (λ c. c.starts.items ≡ self.starts.items ++ end ∷ []) }
+        ensures kinds { IfOk result (λ c. c.kinds ≡ self.kinds) }
+        ensures names { IfOk result (λ c. c.names ≡ self.names) }
+    {
+        self.starts.push(end)?;
+        Ok(self)
+    }
 }
 
 /// The characters of the words of a grammar.
@@ -100,16 +138,11 @@ fn is_spelled(kind: TokenKind) -> bool
     }
 }
 
-/// The kind of a token that may be the word of this number, of so many. Words past the last kind have none of their own.
-fn word_kind(number: usize, words: usize, shape: u32) -> u32
-    ensures { result ≡ word_kind number words shape }
+/// Whether this is the number of a word, of so many, that has a kind of its own. Words past the last kind have none.
+fn has_kind(number: usize, words: usize) -> bool
+    ensures { result ≡ has_kind number words }
 {
-    let most = u32::MAX as usize - SHAPES;
-    if number < words && number < most {
-        (number + SHAPES) as u32
-    } else {
-        shape
-    }
+    number < words && number < u32::MAX as usize - SHAPES
 }
 
 /// The number of a text among those that came before, and whether it is a new one, which is added.
@@ -138,6 +171,17 @@ fn guess_place(text: Text) -> usize
     (3 * first + 5 * last + length % GUESSES) % GUESSES
 }
 
+/// Whether two texts have the same characters. Half of all tokens have one, so these are compared at once.
+fn is_same(a: Text, b: Text) -> bool
+    ensures { result ≡ bytes_eq (codes_of a.entry) (codes_of b.entry) }
+{
+    if a.len() == 1 && b.len() == 1 {
+        a.at(0) == b.at(0)
+    } else {
+        a == b
+    }
+}
+
 /// The number of a text that is known, where the guess at a place is right.
 fn guessed(known: &IndexSet<Text>, guesses: &[usize], place: usize, text: Text) -> Option<usize>
     ensures { IfSome result (λ name. (name ≡ number_of (map codes_of known.now.keys) (codes_of text.entry)) × (name < length (map codes_of known.now.keys))) }
@@ -147,7 +191,11 @@ fn guessed(known: &IndexSet<Text>, guesses: &[usize], place: usize, text: Text) 
         return None;
     }
     let found = *known.get_index(guess)?;
-    if text == found { Some(guess) } else { None }
+    if is_same(text, found) {
+        Some(guess)
+    } else {
+        None
+    }
 }
 
 /// Texts, each with a number. Those of the grammar's words come first.
@@ -214,49 +262,58 @@ impl<'a> Spellings<'a> {
         Ok(name)
     }
 
-    /// The kind of a token and the number of its text, which is `none` for one that is no word and no name.
+    /// The kind of a token and the number of its text, which is 0 for one that is no word and no name.
     fn token(
         &mut self,
         words: &[Characters],
         chars: Text<'a>,
         token: Token,
-        none: usize,
     ) -> Result<(u32, usize), AllocError>
         requires { NumbersWords (spellings words.now) (known_texts self.old) self.old.words.items }
         ensures known { OnOk result (known_texts self.new ≡ known_with (known_texts self.old) (codes_of chars.entry) token) }
         ensures words { self.new.words ≡ self.old.words }
         ensures kind { IfOk result (λ r. r.0 ≡ kind_of (spellings words.now) (codes_of chars.entry) token) }
-        ensures name { IfOk result (λ r. r.1 ≡ name_number (known_texts self.old) none (codes_of chars.entry) token) }
+        ensures name { IfOk result (λ r. r.1 ≡ name_number (known_texts self.old) 0 (codes_of chars.entry) token) }
     {
         let text = text_of(chars, token);
-        let shape = shape_of(token.kind, text);
         if !is_spelled(token.kind) {
-            return Ok((shape, none));
+            return Ok((shape_of(token.kind, text), 0));
         }
         let name = self.number(text)?;
         let word = self.word(name, words.len());
-        Ok((word_kind(word, words.len(), shape), name))
+        if has_kind(word, words.len()) {
+            return Ok(((word + SHAPES) as u32, name));
+        }
+        Ok((shape_of(token.kind, text), name))
     }
 }
 
-/// The kinds and names of the tokens of a text. The words come as `spelled` gives them.
-pub fn classify(
-    alloc: Global,
-    words: &[Characters],
-    chars: Text,
-    tokens: &[Token],
-) -> Result<Classified, AllocError>
-    ensures kinds { IfOk result (λ c. c.kinds.items ≡ map (kind_of (spellings words.now) (codes_of chars.entry)) tokens.now) }
-    ensures names { IfOk result (λ c. AlikeInNumber (codes_of chars.entry) tokens.now c.names.items) }
-    ensures many { IfOk result (λ c. length c.names.items ≡ length tokens.now) }
+/// The tokens of a text, up to its end or its first bad token. The words come as `spelled` gives them.
+///
+/// White space may stand between tokens, and each token is the longest that begins at its place. A bad one is the last.
+/// The only error is that memory is refused. The time is linear in the characters, if a look-up in a hash table counts as
+/// one step.
+pub fn classify(alloc: Global, words: &[Characters], chars: Text) -> Result<Classified, AllocError>
+    ensures { IfOk result (λ c. (ts : List Token)
+        × AreClassified (spellings words.now) (codes_of chars.entry) ts c.starts.items c.kinds.items c.names.items) }
 {
-    let mut spellings = Spellings::new(alloc, words, tokens.len())?;
-    let mut kinds = Vec::with_capacity(alloc, tokens.len())?;
-    let mut names = Vec::with_capacity(alloc, tokens.len())?;
-    for token in tokens {
-        let (kind, name) = spellings.token(words, chars, *token, tokens.len())?;
-        kinds.push(kind)?;
-        names.push(name)?;
+    // A token takes some six characters in most texts, with the white space before it.
+    let tokens = chars.len() / 6;
+    let mut spellings = Spellings::new(alloc, words, tokens)?;
+    let mut classified = Classified::with_capacity(alloc, tokens)?;
+    let mut at = 0;
+    'reading: while at < chars.len() {
+        if chars.at(at).is_whitespace() {
+            at += 1;
+            continue;
+        }
+        let token = token_at(chars, at);
+        let (kind, name) = spellings.token(words, chars, token)?;
+        classified.add(at, kind, name)?;
+        if let TokenKind::Bad = token.kind {
+            return classified.ended(token.end);
+        }
+        at = token.end;
     }
-    Ok(Classified { kinds, names })
+    classified.ended(at)
 }

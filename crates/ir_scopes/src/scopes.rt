@@ -2,11 +2,12 @@
 //!
 //! All definitions of a scope count, wherever they stand in it, so first all names are collected, and then those that
 //! were mentioned are looked up.
-ghost use Rattle.std.specs.Prelude.{◌≡◌, ◌↔◌, ◌<◌, ℕ, Option, Some, IfOk, OnOk, MatchResult, true, length, nat_eq, slice_get, slice_set, slice_index};
+ghost use Rattle.std.specs.Prelude.{◌≡◌, ◌↔◌, ◌<◌, ℕ, Option, Some, IfOk, OnOk, MatchResult, true, false, length, nat_eq, slice_get, slice_set, slice_index};
 ghost use Rattle.std.specs.HashMap as hash;
 ghost use Rattle.std.specs.HashMap.{Updates};
 ghost use Rattle.std.specs.HashSet as bag;
 ghost use Rattle.ir_scopes.specs.declared.sites.Site.{Site};
+ghost use Rattle.ir_grammar.specs.Nesting.{OwnTokens};
 ghost use Rattle.ir_tokens.specs.Faults.{IsNamed};
 ghost use Rattle.ir_scopes.specs.Scopes.{is_marked, name_of, same_key, fault_again, fault_unresolved, IsAgain, IsTable, AreLacking, EndsAmong, AreDistinct, AreApart, IsResolved, IsScopeFault};
 
@@ -150,30 +151,32 @@ fn note(places: &mut [usize], token: usize, number: usize)
 
 /// Writes the number of each definition to the place of its token.
 fn note_definitions(places: &mut [usize], definitions: &[Site])
-    ensures { AreDistinct definitions.now → (j : ℕ) (s : Site) → slice_get definitions.now j ≡ Some s → s.token < length places.old → slice_index places.new s.token ≡ j }
+    ensures noted { AreDistinct definitions.now → (j : ℕ) (s : Site) → slice_get definitions.now j ≡ Some s → s.token < length places.old → slice_index places.new s.token ≡ j }
+    ensures kept { (k : ℕ) → ((j : ℕ) (s : Site) → slice_get definitions.now j ≡ Some s → s.token ≡ k → ⊥) → slice_index places.new k ≡ slice_index places.old k }
 {
     for (number, site) in definitions.iter().enumerate() {
         note(places, site.token, number);
     }
 }
 
-/// Writes what the table has for each mention to the place of its token. Out come the scopes in which a name is
-/// mentioned that the table doesn't have.
+/// Writes what the table has for each mention to the place of its token, where its name stands. Out come the scopes in
+/// which a name is mentioned that the table doesn't have.
 fn note_mentions(
     alloc: Global,
     places: &mut [usize],
-    names: &[usize],
     mentions: &[Site],
     numbers: &Numbers,
 ) -> Result<HashSet<usize>, AllocError>
-    ensures lacking { IfOk result (AreLacking names.now numbers.now mentions.now) }
-    ensures noted { OnOk result (AreDistinct mentions.now → (i j : ℕ) (m : Site) → slice_get mentions.now i ≡ Some m → hash.get same_key numbers.now (m.scope, name_of names.now m.token) ≡ Some j
+    requires { AreDistinct mentions.now }
+    ensures lacking { IfOk result (AreLacking places.old numbers.now mentions.now) }
+    ensures noted { OnOk result ((i j : ℕ) (m : Site) → slice_get mentions.now i ≡ Some m → hash.get same_key numbers.now (m.scope, name_of places.old m.token) ≡ Some j
         → m.token < length places.old → slice_index places.new m.token ≡ j) }
+    ensures many { OnOk result (length places.new ≡ length places.old) }
     ensures kept { OnOk result ((k : ℕ) → ((i : ℕ) (m : Site) → slice_get mentions.now i ≡ Some m → m.token ≡ k → ⊥) → slice_index places.new k ≡ slice_index places.old k) }
 {
     let mut lacking = HashSet::new(alloc);
     for site in mentions {
-        let key = key_of(names, *site);
+        let key = key_of(places, *site);
         match number_of(numbers, key) {
             Some(number) => note(places, site.token, number),
             None => {
@@ -184,62 +187,33 @@ fn note_mentions(
     Ok(lacking)
 }
 
-/// What the names at some sites mean.
-#[derive(Drop)]
-struct Meanings {
-    /// For each token that names a value, the number of its definition.
-    definitions: Vec<usize>,
-    /// The scopes in which a name is mentioned that has no definition.
-    lacking: HashSet<usize>,
-}
-
-/// What the names at the sites mean by a table of the definitions.
-fn meanings_of(
-    alloc: Global,
-    names: &[usize],
-    sites: &Sites,
-    numbers: &Numbers,
-) -> Result<Meanings, AllocError>
-    ensures defined { IfOk result (λ r. AreApart sites.now.definitions.items sites.now.mentions.items → (j : ℕ) (s : Site) → slice_get sites.now.definitions.items j ≡ Some s
-        → s.token < length names.now → slice_index r.definitions.items s.token ≡ j) }
-    ensures mentioned { IfOk result (λ r. AreDistinct sites.now.mentions.items → (i j : ℕ) (m : Site) → slice_get sites.now.mentions.items i ≡ Some m
-        → hash.get same_key numbers.now (m.scope, name_of names.now m.token) ≡ Some j → m.token < length names.now → slice_index r.definitions.items m.token ≡ j) }
-    ensures many { IfOk result (λ r. length r.definitions.items ≡ length names.now) }
-    ensures lacking { IfOk result (λ r. AreLacking names.now numbers.now sites.now.mentions.items r.lacking) }
-{
-    let mut definitions = vec![in alloc; 0usize; names.len()]?;
-    note_definitions(&mut definitions, &sites.definitions);
-    let lacking = note_mentions(alloc, &mut definitions, names, &sites.mentions, numbers)?;
-    Ok(Meanings {
-        definitions,
-        lacking,
-    })
-}
-
 /// What the names of a text mean, of which reading did this, or the first fault of its names.
 ///
-/// `names` has a number for each token; two have the same where they are spelled alike. `isolated` has for each kind
-/// of operations whether it is isolated from above. The text may be unfinished: then the scopes that are still open
-/// have no fault yet.
+/// `names` has a number for each token; two have the same where they are spelled alike. What they mean is written in
+/// their places, so each name of a value has a token of its own. `isolated` has for each kind of operations whether it
+/// is isolated from above. The text may be unfinished: then the scopes that are still open have no fault yet.
 pub fn look_up(
     alloc: Global,
-    names: &[usize],
+    names: Vec<usize>,
     events: &[Event],
     isolated: &[bool],
 ) -> Result<Resolution, ScopeFault>
-    ensures resolved { MatchResult result (IsResolved (is_marked isolated.now) names.now events.now)
-        (IsScopeFault (is_marked isolated.now) names.now events.now) }
-    ensures many { IfOk result (λ r. length r.definitions.items ≡ length names.now) }
+    requires { OwnTokens false events.now }
+    ensures resolved { MatchResult result (IsResolved (is_marked isolated.now) names.items events.now)
+        (IsScopeFault (is_marked isolated.now) names.items events.now) }
+    ensures many { IfOk result (λ r. length r.definitions.items ≡ length names.items) }
 {
     let sites = sites_of(alloc, events, isolated)?;
-    let labels = table_of(alloc, names, &sites.labels)?;
-    let values = table_of(alloc, names, &sites.definitions)?;
-    let meanings = meanings_of(alloc, names, &sites, &values.numbers)?;
-    let unresolved = lacking_fault(&sites.closings, &meanings.lacking);
+    let labels = table_of(alloc, &names, &sites.labels)?;
+    let values = table_of(alloc, &names, &sites.definitions)?;
+    let mut definitions = names;
+    let lacking = note_mentions(alloc, &mut definitions, &sites.mentions, &values.numbers)?;
+    note_definitions(&mut definitions, &sites.definitions);
+    let unresolved = lacking_fault(&sites.closings, &lacking);
     match first_of(values.again, first_of(labels.again, unresolved)) {
         Some(fault) => Err(ScopeFault::Text(fault)),
         None => Ok(Resolution {
-            definitions: meanings.definitions,
+            definitions,
             count: sites.definitions.len(),
         }),
     }

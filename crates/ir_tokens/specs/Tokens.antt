@@ -1,5 +1,6 @@
 -- The tokens of a text, by the places of its characters.
-use Rattle.std.specs.Prelude.{◌≡◌, ◌≢◌, ℕ, ◌+◌, ◌<◌, ◌≤◌, ◌&&◌, ◌||◌, ◌==◌, nat_le, Bool, true, false, List, [], ◌∷◌, length, slice_index, codes, if◌then◌else◌}
+use Rattle.std.specs.Prelude.{◌≡◌, ◌≢◌, ℕ, ◌+◌, ◌<◌, ◌≤◌, ◌&&◌, ◌||◌, ◌==◌, nat_le, Bool, true, false, List, [], ◌∷◌, length, slice_index, slice_range, codes, if◌then◌else◌}
+use Rattle.ir_characters.specs.Texts.{trimmed}
 use Rattle.std.specs.Char.{is_whitespace}
 use Rattle.std.specs.List.{list_any}
 use Rattle.ir_tokens.specs.declared.tokens.TokenKind.{TokenKind}
@@ -96,6 +97,22 @@ ReadsAs cs i [] = IsGap cs i (length cs)
 ReadsAs cs i (t ∷ ts) = (i ≤ t.start) × IsGap cs i t.start × IsToken cs t × LastIfBad t.kind (ts ≡ []) (ReadsAs cs t.end ts)
 
 -- ---- places
+
+-- a bad token
+abbrev pub is_bad : TokenKind → Bool
+is_bad Bad = true
+is_bad _ = false
+
+-- Where the tokens of a text begin, and behind these where the text of the last one ends: at the end of the text, or where a bad
+-- token stands.
+abbrev pub starts_of : List ℕ → List Token → List ℕ
+starts_of cs [] = length cs ∷ []
+starts_of cs (t ∷ ts) = t.start ∷ (if is_bad t.kind then t.end ∷ [] else starts_of cs ts)
+
+-- The characters of the token with this number, where tokens begin at these places: what stands there up to the next one, without
+-- the white space between them.
+abbrev pub text_between : List ℕ → List ℕ → ℕ → List ℕ
+text_between cs starts k = trimmed (slice_range cs (slice_index starts k) (slice_index starts (k + 1)))
 
 -- the place after these characters, from this line and column on; a line ends after a line feed
 abbrev pub place_from : ℕ → ℕ → List ℕ → ℕ × ℕ

@@ -1,11 +1,10 @@
 //! Tokens: what the characters of a text are cut into.
-ghost use Rattle.std.specs.Prelude.{◌≡◌, ◌<◌, ◌≤◌, IfOk, false, length, slice_index};
+ghost use Rattle.std.specs.Prelude.{◌≡◌, ◌<◌, false, length, slice_index};
 ghost use Rattle.std.specs.Char.{is_whitespace};
 ghost use Rattle.ir_characters.specs.Texts.{codes_of};
 
 use crate::scan::token_end;
 use ir_characters::Text;
-use std::alloc::{AllocError, Global};
 
 /// What a token is, by its form alone.
 #[derive(Clone, Copy, Debug, PartialEq, Eq)]
@@ -40,36 +39,12 @@ pub struct Token {
     pub end: usize,
 }
 
-ghost use Rattle.ir_tokens.specs.Tokens.{IsToken, ReadsAs, place};
+ghost use Rattle.ir_tokens.specs.Tokens.{IsToken, place};
 
-/// The tokens of a text, up to its end or its first bad token.
+/// The longest token that begins at a character of the text which is no white space.
 ///
-/// In come the characters of the text. White space may stand between tokens, and each token is the longest that begins
-/// at its place. Out come the tokens in their order, of which the last may be bad; numbers out of range and texts with
-/// faulty escapes are tokens here. The only error is that memory is refused. The time is linear in the characters.
-pub fn tokens_of(alloc: Global, chars: Text) -> Result<Vec<Token>, AllocError>
-    ensures { IfOk result (λ v. ReadsAs (codes_of chars.entry) 0 v.items) }
-{
-    // A token takes some six characters in most texts, with the white space before it.
-    let mut tokens = Vec::with_capacity(alloc, chars.len() / 6)?;
-    let mut at = 0;
-    'reading: while at < chars.len() {
-        if chars.at(at).is_whitespace() {
-            at += 1;
-            continue;
-        }
-        let token = token_at(chars, at);
-        tokens.push(token)?;
-        if let TokenKind::Bad = token.kind {
-            return Ok(tokens);
-        }
-        at = token.end;
-    }
-    Ok(tokens)
-}
-
-/// The longest token that begins here.
-fn token_at(chars: Text, at: usize) -> Token
+/// Numbers out of range and texts with faulty escapes are tokens here. The time is linear in the token's characters.
+pub fn token_at(chars: Text, at: usize) -> Token
     requires begins { at < length (codes_of chars) }
     requires visible { is_whitespace (slice_index (codes_of chars) at) ≡ false }
     ensures token { IsToken (codes_of chars.entry) result }

@@ -1,7 +1,8 @@
 //! Tokens, places, and readings of small grammars, with answers that were worked out by hand.
 use ir_characters::{Characters, Text};
+use ir_formats::words::classify;
 use ir_grammar::{Action, Change, Class, Event, Grammar, Rule, Stop, Symbol};
-use ir_tokens::{Token, TokenKind, place_after, tokens_of};
+use ir_tokens::{TokenKind, place_after, token_at};
 use std::alloc::{AllocError, Global};
 
 /// A text with its tokens.
@@ -33,14 +34,18 @@ const TOKENS: &[(&str, &[(TokenKind, usize, usize)])] = &[
 /// A name, and a character that begins no token.
 const BAD: &[(TokenKind, usize, usize)] = &[(TokenKind::Name, 0, 1), (TokenKind::Bad, 2, 2)];
 
-/// Whether these are tokens of these kinds, with these starts and ends.
-fn are_tokens(tokens: &[Token], wanted: &[(TokenKind, usize, usize)]) -> bool {
-    for (token, (kind, start, end)) in tokens.iter().zip(wanted) {
+/// Whether these are the longest tokens of a text where they begin, with these kinds and ends.
+fn are_tokens(chars: Text, wanted: &[(TokenKind, usize, usize)]) -> bool {
+    for (kind, start, end) in wanted {
+        if *start >= chars.len() || chars.at(*start).is_whitespace() {
+            return false;
+        }
+        let token = token_at(chars, *start);
         if token.kind != *kind || token.start != *start || token.end != *end {
             return false;
         }
     }
-    tokens.len() == wanted.len()
+    true
 }
 
 /// Whether these characters are cut into these tokens.
@@ -49,8 +54,10 @@ fn are_cut(
     chars: Text,
     wanted: &[(TokenKind, usize, usize)],
 ) -> Result<bool, AllocError> {
-    let tokens = tokens_of(alloc, chars)?;
-    Ok(are_tokens(&tokens, wanted))
+    let classified = classify(alloc, &[], chars)?;
+    let starts = wanted.iter().map(|(_, start, _)| *start);
+    let cut = classified.starts.iter().copied().take(wanted.len());
+    Ok(are_tokens(chars, wanted) && starts.eq(cut) && classified.names.len() == wanted.len())
 }
 
 /// Whether a text is cut into these tokens, also where no character is a byte.

@@ -1,6 +1,6 @@
 //! What an action asks for.
 ghost use Rattle.std.specs.Prelude.{◌≡◌, Err, OnErr, OnOk};
-ghost use Rattle.ir_formats.specs.Words.{token_text};
+ghost use Rattle.ir_tokens.specs.Tokens.{text_between};
 ghost use Rattle.ir_characters.specs.Texts.{codes_of};
 ghost use Rattle.ir_program.specs.Edits.{KeepsErased};
 ghost use Rattle.ir_tokens.specs.declared.faults.Fault.{Fault};
@@ -25,14 +25,14 @@ impl<D: TextDialect> Assembler<D> {
         spares: &mut Vec<Content<D>>,
         action: Action,
     ) -> Result<(), AssemblyFault>
-        requires going { MayStep D.says D.values (token_text (codes_of source.chars) source.tokens.now)
+        requires going { MayStep D.says D.values (text_between (codes_of source.chars) source.starts.now)
             ctx.old self.old action }
         ensures went { OnOk result (DoesStep D.says D.values
-            (token_text (codes_of source.entry.chars) source.entry.tokens.now) ctx.old ctx.new self.old self.new action) }
+            (text_between (codes_of source.entry.chars) source.entry.starts.now) ctx.old ctx.new self.old self.new action) }
         ensures refused { (f : Fault) → result ≡ Err (Text f) → RefusesStep D.says D.values
-            (token_text (codes_of source.entry.chars) source.entry.tokens.now) ctx.old self.old action f }
+            (text_between (codes_of source.entry.chars) source.entry.starts.now) ctx.old self.old action f }
         ensures full { result ≡ Err CounterFull → LacksNumbers D.says D.values
-            (token_text (codes_of source.entry.chars) source.entry.tokens.now) ctx.old self.old action }
+            (text_between (codes_of source.entry.chars) source.entry.starts.now) ctx.old self.old action }
         ensures undone { OnErr result (UndoesStep ctx.old ctx.new self.old self.new) }
         ensures taken { self.new.taken ≡ self.old.taken }
         ensures erased { KeepsErased ctx.old.program ctx.new.program }

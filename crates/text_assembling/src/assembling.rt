@@ -7,7 +7,7 @@ ghost use Rattle.std.specs.Prelude.{◌≡◌, ◌-◌, ◌+◌, ◌^◌, ◌≤
 ghost use Rattle.ir_forest.specs.Building.{first_refusal};
 ghost use Rattle.ir_forest.specs.Identifiers.{AreSpelt};
 ghost use Rattle.ir_forest.specs.Progress.{Leads};
-ghost use Rattle.ir_formats.specs.Words.{token_text};
+ghost use Rattle.ir_tokens.specs.Tokens.{text_between};
 ghost use Rattle.ir_grammar.specs.Nesting.{at_root, at_end, Nests};
 ghost use Rattle.ir_grammar.specs.declared.grammar.Action.{Action};
 ghost use Rattle.ir_grammar.specs.declared.grammar.Event.TheVariants.{Did, Took};
@@ -75,18 +75,18 @@ impl<D: TextDialect> Assembler<D> {
         requires within { index < length events.now }
         requires taken { self.old.taken ≤ index }
         requires going { (x : Action) → slice_get events.now index ≡ Some (Did x) → MayStep D.says D.values
-            (token_text (codes_of source.chars) source.tokens.now) ctx.old self.old x }
+            (text_between (codes_of source.chars) source.starts.now) ctx.old self.old x }
         ensures took { slice_get events.now index ≡ Some Took
             → (self.new ≡ record self.old { taken = self.old.taken + 1 }) × (ctx.new ≡ ctx.old) }
         ensures did { (x : Action) → slice_get events.now index ≡ Some (Did x) → (self.new.taken ≡ self.old.taken)
             × OnOk result (DoesStep D.says D.values
-            (token_text (codes_of source.entry.chars) source.entry.tokens.now) ctx.old ctx.new self.old self.new x) }
+            (text_between (codes_of source.entry.chars) source.entry.starts.now) ctx.old ctx.new self.old self.new x) }
         ensures refused { (f : Fault) → result ≡ Err (Text f) → (x : Action)
             × (slice_get events.now index ≡ Some (Did x)) × RefusesStep D.says D.values
-            (token_text (codes_of source.entry.chars) source.entry.tokens.now) ctx.old self.old x f }
+            (text_between (codes_of source.entry.chars) source.entry.starts.now) ctx.old self.old x f }
         ensures full { result ≡ Err CounterFull → (x : Action)
             × (slice_get events.now index ≡ Some (Did x)) × LacksNumbers D.says D.values
-            (token_text (codes_of source.entry.chars) source.entry.tokens.now) ctx.old self.old x }
+            (text_between (codes_of source.entry.chars) source.entry.starts.now) ctx.old self.old x }
         ensures undone { OnErr result (UndoesStep ctx.old ctx.new self.old self.new) }
         ensures erased { KeepsErased ctx.old.program ctx.new.program }
         ensures payloads { KeepsPayloads ctx.old.program ctx.new.program }
@@ -121,18 +121,18 @@ pub fn assemble<D: TextDialect>(
     events: &[Event],
 ) -> Result<Assembly, AssemblyFault>
     requires nests { Nests at_root [] events.now }
-    requires spelt { AreSpelt (token_text (codes_of source.chars) source.tokens.now) 0 events.now }
+    requires spelt { AreSpelt (text_between (codes_of source.chars) source.starts.now) 0 events.now }
     // Of a whole text the root has the tree that is built, definitions have values, and operations wait for operands.
     ensures made { Leads at_root [] events.now at_end [] → IfOk result (λ a. IsAssembled D.says D.values
-        (token_text (codes_of source.entry.chars) source.entry.tokens.now) (seen ctx.old) (seen ctx.new)
+        (text_between (codes_of source.entry.chars) source.entry.starts.now) (seen ctx.old) (seen ctx.new)
         ctx.old.program.counter ctx.new.program.counter a events.now) }
     // Whole or not, all that came is inside the loose things.
     ensures held { IfOk result (λ a. HoldsAllNew (seen ctx.old) (seen ctx.new) a.loose.items) }
     ensures undone { OnErr result (SameSeen (seen ctx.old) (seen ctx.new)) }
     ensures sound { OnOk result (first_refusal D.values
-        (token_text (codes_of source.entry.chars) source.entry.tokens.now) events.now ≡ None) }
+        (text_between (codes_of source.entry.chars) source.entry.starts.now) events.now ≡ None) }
     ensures refused { (f : Fault) → result ≡ Err (Text f) → first_refusal D.values
-        (token_text (codes_of source.entry.chars) source.entry.tokens.now) events.now ≡ Some f }
+        (text_between (codes_of source.entry.chars) source.entry.starts.now) events.now ≡ Some f }
     ensures full { result ≡ Err CounterFull
         → 2 ^ 64 ≤ ctx.old.program.counter + length (defined_from 0 events.now) }
     ensures erased { KeepsErased ctx.old.program ctx.new.program }

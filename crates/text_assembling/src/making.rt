@@ -6,7 +6,7 @@ ghost use Rattle.ir_context.specs.Known.{AreKnownIn};
 ghost use Rattle.ir_forest.specs.Building.{names_fault, number_fault};
 ghost use Rattle.ir_forest.specs.Forest.{Step};
 ghost use Rattle.ir_forest.specs.Meaning.{tokens_in};
-ghost use Rattle.ir_formats.specs.Words.{token_text};
+ghost use Rattle.ir_tokens.specs.Tokens.{text_between};
 ghost use Rattle.ir_names.specs.Text.{is_identifier};
 ghost use Rattle.ir_names.specs.Tree.{Trees};
 ghost use Rattle.ir_print.specs.Pieces.{Pieces};
@@ -49,10 +49,10 @@ impl<D: TextDialect> Assembler<D> {
     /// Makes the block whose header has been read.
     pub fn header(&mut self, ctx: &mut Context<D>, source: Source) -> Result<(), AssemblyFault>
         requires known { AreKnownIn (length ctx.old.types.keys) (types_in self.old.here.content.parts.items) }
-        requires spelt { is_identifier (token_text (codes_of source.chars) source.tokens.now
+        requires spelt { is_identifier (text_between (codes_of source.chars) source.starts.now
             self.old.here.first) ≡ true }
         ensures made { OnOk result (MakesBlock (stage ctx.old) (seen ctx.new) self.old self.new
-            (token_text (codes_of source.entry.chars) source.entry.tokens.now self.old.here.first)) }
+            (text_between (codes_of source.entry.chars) source.entry.starts.now self.old.here.first)) }
         ensures given { OnOk result (GivesNumbers ctx.old.program ctx.new.program
             (length (types_in self.old.here.content.parts.items))) }
         ensures first { self.new.here.first ≡ self.old.here.first }

@@ -1,33 +1,44 @@
 //! A text with its tokens, and what single tokens say.
-ghost use Rattle.std.specs.Prelude.{◌≡◌, ◌+◌, ◌*◌, ◌-◌, ◌<◌, ◌^◌, ℕ, Bool, SomeIff, take, drop};
+ghost use Rattle.std.specs.Prelude.{◌≡◌, ◌+◌, ◌*◌, ◌-◌, ◌<◌, ◌^◌, ℕ, Bool, SomeIff, length, take, drop};
 ghost use Rattle.ir_characters.specs.Texts.{codes_of};
 ghost use Rattle.ir_names.specs.declared.kinds.Signedness.{Signedness};
 ghost use Rattle.ir_print.specs.Pieces.{number, width};
 ghost use Rattle.ir_print.specs.Shown.{IsNumber, IsWidth};
 ghost use Rattle.ir_forest.specs.Meaning.{digits, number_in, width_in};
-ghost use Rattle.ir_formats.specs.Words.{token_text};
+ghost use Rattle.ir_tokens.specs.Tokens.{text_between};
 
 use ir_characters::Text;
-use ir_formats::words::text_of;
 use ir_names::Signedness;
 use ir_print::Number;
-use ir_tokens::tokens::Token;
 
 /// A text with its tokens.
 #[derive(Clone, Copy)]
 pub struct Source<'a> {
     pub chars: Text<'a>,
-    pub tokens: &'a [Token],
+    /// Where each token begins, and behind these where the text of the last one ends.
+    pub starts: &'a [usize],
 }
 
 impl<'a> Source<'a> {
+    /// How many tokens there are.
+    pub fn tokens(&self) -> usize
+        ensures { result ≡ length self.now.starts.now - 1 }
+    {
+        self.starts.len().saturating_sub(1)
+    }
+
     /// The characters of the token with this number, none past the last.
     pub fn text(&self, token: usize) -> Text<'a>
-        ensures { codes_of result ≡ token_text (codes_of self.now.chars) self.now.tokens.now token }
+        ensures { codes_of result ≡ text_between (codes_of self.now.chars) self.now.starts.now token }
     {
-        match self.tokens.get(token) {
-            Some(found) => text_of(self.chars, *found),
-            None => Text::Bytes(&[]),
+        let Some([start, end, ..]) = self.starts.get(token..) else {
+            return Text::Bytes(&[]);
+        };
+        let end = self.chars.len().min(*end);
+        if *start <= end {
+            self.chars.slice(*start, end).trim_end()
+        } else {
+            Text::Bytes(&[])
         }
     }
 

@@ -23,19 +23,22 @@ use Rattle.text_reading.specs.Judged.{IsJudged}
 pub judged_so : (l : Language) (leads : Leads) → is_ordered leads (rules_of l.formats) ≡ true
     → (cs : List ℕ) (ts : List Token) (names : List ℕ) (r : Reading) (xs ys : List Event)
     → (assembled : Result Assembly AssemblyFault) (resolved : Result Resolution ScopeFault)
-    → xs ≡ r.events.items → ys ≡ r.events.items → IsReading l cs ts names r.stop r.taken r.events.items
-    → OnOk assembled (first_refusal l.values (token_text cs ts) xs ≡ None)
-    → ((f : Fault) → assembled ≡ Err (Text f) → first_refusal l.values (token_text cs ts) xs ≡ Some f)
+    → (text : ℕ → List ℕ) → text ≡ token_text cs ts → xs ≡ r.events.items → ys ≡ r.events.items
+    → IsReading l cs ts names r.stop r.taken r.events.items
+    → OnOk assembled (first_refusal l.values text xs ≡ None)
+    → ((f : Fault) → assembled ≡ Err (Text f) → first_refusal l.values text xs ≡ Some f)
     → MatchResult resolved (IsResolved l.isolated names ys) (IsScopeFault l.isolated names ys)
     → IsJudged l cs ts names r assembled resolved
-judged_so l leads ordered cs ts names r xs ys assembled resolved e f reading sound refused found =
+judged_so l leads ordered cs ts names r xs ys assembled resolved written same e f reading sound refused found =
     let text = token_text cs ts in
     let order = read_in_order l leads ordered cs ts names r.taken r.events.items r.stop reading in
     record {
       reading = reading;
       first = first_refusal l.values text r.events.items;
       named = values_named l.values text r.events.items r.events.items (first_refusal l.values text r.events.items) refl order (λ nests follows. refl);
-      values_made = subst (λ z. OnOk assembled (first_refusal l.values text z ≡ None)) e sound;
-      values_refused = λ fault is. subst (λ z. first_refusal l.values text z ≡ Some fault) e (refused fault is);
+      values_made = subst (λ z. OnOk assembled (first_refusal l.values text z ≡ None)) e
+          (subst (λ z. OnOk assembled (first_refusal l.values z xs ≡ None)) same sound);
+      values_refused = λ fault is. subst (λ z. first_refusal l.values text z ≡ Some fault) e
+          (subst (λ z. first_refusal l.values z xs ≡ Some fault) same (refused fault is));
       names_found = subst (λ z. MatchResult resolved (IsResolved l.isolated names z) (IsScopeFault l.isolated names z)) f found;
     }

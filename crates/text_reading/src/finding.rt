@@ -1,5 +1,5 @@
 //! The fault of a text that is named: the first of all that it has.
-ghost use Rattle.std.specs.Prelude.{◌≡◌, ◌⊎◌, ℕ, Bool, List, length, Option, Some, None, Err, OnOk, IfOk, IfErr, IsOk, MatchResult};
+ghost use Rattle.std.specs.Prelude.{◌≡◌, ◌≢◌, ◌⊎◌, ℕ, Bool, List, length, Option, Some, None, Err, OnOk, IfOk, IfErr, IsOk, MatchResult};
 ghost use Rattle.ir_characters.specs.Texts.{codes_of};
 ghost use Rattle.ir_tokens.specs.declared.faults.Fault.{Fault};
 ghost use Rattle.ir_tokens.specs.declared.faults.TextFault.TheVariants.{Memory, CounterFull};
@@ -7,6 +7,7 @@ ghost use Rattle.ir_grammar.specs.declared.grammar.Event.{Event};
 ghost use Rattle.text_frames.specs.declared.opened.AssemblyFault.TheVariants as assembly;
 ghost use Rattle.ir_tokens.specs.declared.tokens.Token.{Token};
 ghost use Rattle.ir_tokens.specs.Faults.{IsNamed};
+ghost use Rattle.ir_tokens.specs.Tokens.{starts_of, ReadsAs};
 ghost use Rattle.ir_scopes.specs.Scopes.{HasScopeFault, IsResolved, IsScopeFault};
 ghost use Rattle.ir_rereading.specs.Texts.{IsSyntaxFault, HasFault, IsRefusal, place_of, tell};
 ghost use Rattle.text_reading.specs.Judged.{IsJudged};
@@ -95,11 +96,14 @@ fn fault_of(
 
 /// A fault as users see it, with its line and column.
 fn told(source: Source, fault: Fault) -> TextFault
-    ensures { result ≡ tell fault.kind (place_of (codes_of source.entry.chars) source.entry.tokens.now fault.place) }
+    ensures place { (ts : List Token) → source.entry.starts.now ≡ starts_of (codes_of source.entry.chars) ts
+        → ReadsAs (codes_of source.entry.chars) 0 ts
+        → result ≡ tell fault.kind (place_of (codes_of source.entry.chars) ts fault.place) }
+    ensures full { result ≢ CounterFull }
 {
-    let (line, column) = match source.tokens.get(fault.place) {
-        Some(token) => place_after(source.front(token.start)),
-        None => place_after(source.chars),
+    let (line, column) = match source.starts.get(fault.place..) {
+        Some([start, _, ..]) => place_after(source.front(*start)),
+        _ => place_after(source.chars),
     };
     match fault.kind {
         FaultKind::TooDeep => TextFault::TooDeep(line, column),
@@ -121,18 +125,22 @@ pub fn verdict(
     assembled: &Result<Assembly, AssemblyFault>,
     resolved: &Result<Resolution, ScopeFault>,
 ) -> Result<(), TextFault>
-    ensures fault { (l : Language) (names : List ℕ) → IsJudged l (codes_of source.entry.chars) source.entry.tokens.now
-        names reading.now assembled.now resolved.now → IfErr result (IsRefusal l (codes_of source.entry.chars)) }
-    ensures none { (l : Language) (names : List ℕ) → IsJudged l (codes_of source.entry.chars) source.entry.tokens.now
-        names reading.now assembled.now resolved.now → OnOk result (IsNamed (HasFault l (codes_of source.entry.chars)
-        source.entry.tokens.now names reading.now.stop reading.now.taken reading.now.events.items) None) }
+    ensures fault { (l : Language) (ts : List Token) (names : List ℕ)
+        → source.entry.starts.now ≡ starts_of (codes_of source.entry.chars) ts
+        → IsJudged l (codes_of source.entry.chars) ts names reading.now assembled.now resolved.now
+        → IfErr result (IsRefusal l (codes_of source.entry.chars)) }
+    ensures none { (l : Language) (ts : List Token) (names : List ℕ)
+        → source.entry.starts.now ≡ starts_of (codes_of source.entry.chars) ts
+        → IsJudged l (codes_of source.entry.chars) ts names reading.now assembled.now resolved.now
+        → OnOk result (IsNamed (HasFault l (codes_of source.entry.chars) ts names reading.now.stop reading.now.taken
+        reading.now.events.items) None) }
     ensures made { OnOk result (IsOk assembled.now) }
     ensures looked_up { OnOk result (IsOk resolved.now) }
     ensures full { result ≡ Err CounterFull → assembled.now ≡ Err assembly.CounterFull }
 {
     let values = value_fault(assembled)?;
     let scopes = scope_fault(resolved)?;
-    match fault_of(reading, source.tokens.len(), values, scopes) {
+    match fault_of(reading, source.tokens(), values, scopes) {
         Some(fault) => Err(told(source, fault)),
         None => Ok(()),
     }

@@ -2,7 +2,8 @@
 ghost use Rattle.std.specs.Prelude.{◌≡◌, ◌≤◌, ◌+◌, ◌^◌, ℕ, List, length, Some, Err, OnErr, OnOk, IfOk, IfErr, IsSome};
 ghost use Rattle.ir_characters.specs.Texts.{codes_of};
 ghost use Rattle.ir_program.specs.Edits.{KeepsErased};
-ghost use Rattle.ir_tokens.specs.Tokens.{ReadsAs};
+ghost use Rattle.ir_tokens.specs.Tokens.{starts_of};
+ghost use Rattle.ir_tokens.specs.declared.tokens.Token.{Token};
 ghost use Rattle.ir_tokens.specs.declared.faults.TextFault.TheVariants.{Memory, CounterFull};
 ghost use Rattle.ir_rereading.specs.Texts.{language_of, HasDefinitions, IsReading, IsRefusal};
 ghost use Rattle.text_building.specs.Kept.{KeepsPayloads, KeepsPayloadsOf, SameSeen};
@@ -22,7 +23,6 @@ use ir_program::{Operation, Ptr};
 use ir_scopes::depth::DEEPEST;
 use ir_scopes::scopes::Resolution;
 use ir_tokens::faults::TextFault;
-use ir_tokens::tokens::tokens_of;
 use std::alloc::{AllocError, Global};
 use text_assembling::assembling::assemble;
 use text_building::discard;
@@ -61,31 +61,45 @@ pub fn top_level_parse<D: ReadDialect>(
     ensures erased { KeepsErased ctx.old.program ctx.new.program }
     ensures payloads { KeepsPayloads ctx.old.program ctx.new.program }
 {
-    let tokens = tokens_of(alloc, chars)?;
+    let ReadText {
+        starts,
+        names,
+        reading,
+    } = read_text::<D>(alloc, chars)?;
     let source = Source {
         chars,
-        tokens: &tokens,
+        starts: &starts,
     };
-    let (names, reading) = read_source::<D>(alloc, source)?;
     understand(alloc, ctx, source, names, &reading)
 }
 
-/// Reads the tokens of a source by the dialect's grammar, and gives numbers to the tokens that may be names.
+/// What the characters of a text say, before its names are looked up.
+#[derive(Drop)]
+struct ReadText {
+    /// Where each token begins, and behind these where the text of the last one ends.
+    starts: Vec<usize>,
+    /// A number for each token that may be a name.
+    names: Vec<usize>,
+    reading: Reading,
+}
+
+/// Cuts a text into tokens, and reads these by the dialect's grammar.
 ///
 /// The kinds of the tokens go when they are read, so that their memory is free while the operation is made.
-fn read_source<D: ReadDialect>(
-    alloc: Global,
-    source: Source,
-) -> Result<(Vec<usize>, Reading), AllocError>
-    requires { ReadsAs (codes_of source.chars) 0 source.tokens.now }
-    ensures { IfOk result (λ r. IsReading (language_of D.formats D.kind_at (is_isolated D.op_has) D.values)
-        (codes_of source.entry.chars) source.entry.tokens.now r.0.items r.1.stop r.1.taken r.1.events.items) }
+fn read_text<D: ReadDialect>(alloc: Global, chars: Text) -> Result<ReadText, AllocError>
+    ensures { IfOk result (λ r. (ts : List Token) × (r.starts.items ≡ starts_of (codes_of chars.entry) ts)
+        × IsReading (language_of D.formats D.kind_at (is_isolated D.op_has) D.values) (codes_of chars.entry) ts
+        r.names.items r.reading.stop r.reading.taken r.reading.events.items) }
 {
     let language: DialectGrammar = grammar_of::<D>(alloc)?;
     let words = spelled(alloc, &language.words)?;
-    let classified = classify(alloc, &words, source.chars, source.tokens)?;
+    let classified = classify(alloc, &words, chars)?;
     let reading = language.grammar.read(alloc, 0, DEEPEST, &classified.kinds)?;
-    Ok((classified.names, reading))
+    Ok(ReadText {
+        starts: classified.starts,
+        names: classified.names,
+        reading,
+    })
 }
 
 /// Puts what reading a source gave into a context, or names the first fault.
@@ -96,10 +110,9 @@ fn understand<D: ReadDialect>(
     names: Vec<usize>,
     reading: &Reading,
 ) -> Result<Ptr<Operation>, TextFault>
-    requires reading { IsReading (language_of D.formats D.kind_at (is_isolated D.op_has) D.values)
-        (codes_of source.chars) source.tokens.now names.items reading.now.stop reading.now.taken
-        reading.now.events.items }
-    requires named { length source.tokens.now ≤ length names.items }
+    requires { (ts : List Token) × (source.starts.now ≡ starts_of (codes_of source.chars) ts)
+        × IsReading (language_of D.formats D.kind_at (is_isolated D.op_has) D.values) (codes_of source.chars) ts
+        names.items reading.now.stop reading.now.taken reading.now.events.items }
     ensures read { IfOk result (IsRead D.says (language_of D.formats D.kind_at (is_isolated D.op_has) D.values)
         (codes_of source.entry.chars) (seen ctx.old) (seen ctx.new) ctx.old.program.counter ctx.new.program.counter) }
     ensures refused { OnErr result (SameSeen (seen ctx.old) (seen ctx.new)) }
@@ -112,9 +125,8 @@ fn understand<D: ReadDialect>(
     ensures erased { KeepsErased ctx.old.program ctx.new.program }
     ensures payloads { KeepsPayloads ctx.old.program ctx.new.program }
 {
-    // Names are resolved first: the memory that this works in, and the names, are free again while operations are made.
-    let resolved = resolve::<D>(alloc, &names, &reading.events);
-    drop(names);
+    // Names are resolved first: the memory that this works in is free again while operations are made.
+    let resolved = resolve::<D>(alloc, names, &reading.events);
     let assembled = assemble(alloc, ctx, source, &reading.events);
     if let Err(fault) = verdict(source, reading, &assembled, &resolved) {
         undo(ctx, &assembled);

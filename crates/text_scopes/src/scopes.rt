@@ -1,5 +1,6 @@
 //! The names of a text of a dialect.
-ghost use Rattle.std.specs.Prelude.{◌≡◌, IfOk, MatchResult, length};
+ghost use Rattle.std.specs.Prelude.{◌≡◌, IfOk, MatchResult, false, length};
+ghost use Rattle.ir_grammar.specs.Nesting.{OwnTokens};
 ghost use Rattle.ir_scopes.specs.Scopes.{isolated_at, is_marked, IsResolved, IsScopeFault};
 ghost use Rattle.text_scopes.specs.Isolated.{is_isolated};
 
@@ -28,17 +29,18 @@ fn isolated_kinds<D: TextDialect>(alloc: Global) -> Result<Vec<bool>, AllocError
 
 /// What the names of a text mean, of which reading did this, or the first fault of its names.
 ///
-/// `names` has a number for each token; two have the same where they are spelled alike. The text may be unfinished:
-/// then the scopes that are still open have no fault yet.
+/// `names` has a number for each token; two have the same where they are spelled alike. What they mean is written in
+/// their places. The text may be unfinished: then the scopes that are still open have no fault yet.
 pub fn resolve<D: TextDialect>(
     alloc: Global,
-    names: &[usize],
+    names: Vec<usize>,
     events: &[Event],
 ) -> Result<Resolution, ScopeFault>
+    requires { OwnTokens false events.now }
     ensures resolved { MatchResult result
-        (IsResolved (isolated_at D.kind_at (is_isolated D.op_has)) names.now events.now)
-        (IsScopeFault (isolated_at D.kind_at (is_isolated D.op_has)) names.now events.now) }
-    ensures many { IfOk result (λ r. length r.definitions.items ≡ length names.now) }
+        (IsResolved (isolated_at D.kind_at (is_isolated D.op_has)) names.items events.now)
+        (IsScopeFault (isolated_at D.kind_at (is_isolated D.op_has)) names.items events.now) }
+    ensures many { IfOk result (λ r. length r.definitions.items ≡ length names.items) }
 {
     let isolated = isolated_kinds::<D>(alloc)?;
     look_up(alloc, names, events, &isolated)

@@ -1,8 +1,15 @@
+use Rattle.std.proofs.Common.{◌-◌, length}
 use Rattle.ir_characters.specs.Texts.{codes_of}
-use Rattle.ir_formats.specs.Words.{spellings}
 use Rattle.ir_formats.specs.Spelling.{known_texts}
-use Rattle.ir_formats.proofs.Spelled.{Numbering}
+use Rattle.ir_formats.specs.Words.{spellings}
+use Rattle.ir_formats.proofs.Classifying.{Classifying}
 use Rattle.ir_formats.proofs.words.classify.Given as goal
 
-abbrev pub invariant-loop-token : goal.invariant-loop-token
-invariant-loop-token l = Numbering (spellings l.words) (codes_of l.chars) l.tokens (known_texts l.initial.spellings) l.token-index (known_texts l.spellings) l.spellings.words.items l.kinds.items l.names.items
+abbrev pub invariant-reading : goal.invariant-reading
+invariant-reading l =
+    Classifying (spellings l.words) (codes_of l.chars) (known_texts l.initial.spellings) l.at
+    (known_texts l.spellings) l.spellings.words.items l.classified.starts.items l.classified.kinds.items
+    l.classified.names.items
+
+abbrev pub decreases-reading : goal.decreases-reading
+decreases-reading l = length (codes_of l.chars) - l.at

@@ -2,7 +2,7 @@ use Rattle.std.proofs.Common.{◌+◌, ◌∙◌, [], drop, Err, refl, subst, ap
 use Rattle.std.proofs.Math.ListN.{drop_of_length-le}
 use Rattle.ir_characters.specs.Texts.{codes_of}
 use Rattle.ir_grammar.specs.declared.grammar.Event.TheVariants.{Did}
-use Rattle.ir_formats.specs.Words.{token_text}
+use Rattle.ir_tokens.specs.Tokens.{text_between}
 use Rattle.text_dialect.specs.Seen.{seen}
 use Rattle.text_building.proofs.Discarded.{used_since}
 use Rattle.text_building.proofs.Numbers.{erased_both}
@@ -18,7 +18,7 @@ use Rattle.text_assembling.proofs.assembling.assemble.Goals as goal
 pub loop-index-init : goal.loop-index-init
 loop-index-init g c = record {
   taken = rw c.new-assembler.ensures.taken (omega arith);
-  gathers = gathers_first g.D.TextDialect.says g.D.TextDialect.values (token_text (codes_of c.args.source.chars) c.args.source.tokens.now) (stage c.args.ctx.now) c.new-assembler.result c.args.events.now
+  gathers = gathers_first g.D.TextDialect.says g.D.TextDialect.values (text_between (codes_of c.args.source.chars) c.args.source.starts.now) (stage c.args.ctx.now) c.new-assembler.result c.args.events.now
       c.new-assembler.ensures c.know_seen.ensures.named c.requires.nests c.requires.spelt;
   erased = erased_same _ _ refl;
   payloads = payloads_none _;
@@ -28,14 +28,14 @@ pub take-requires-clause-going : goal.take-requires-clause-going
 take-requires-clause-going g c x at =
     let es = c.args.events.now in
     let i = c.loop-index.index in
-    let text = token_text (codes_of c.args.source.chars) c.args.source.tokens.now in
+    let text = text_between (codes_of c.args.source.chars) c.args.source.starts.now in
     record { can = gathers_can g.D.TextDialect.says g.D.TextDialect.values text (seen c.args.ctx.now) c.args.ctx.now.program.counter (stage c.loop-index.ctx) c.loop-index.assembler es (drop (i + 1) es) x (rest_at g.D.TextDialect.says g.D.TextDialect.values text (seen c.args.ctx.now) c.args.ctx.now.program.counter (stage c.loop-index.ctx) c.loop-index.assembler es i (Did x) at c.loop-index.invariant.gathers) }
 
 pub loop-index-preserved : goal.loop-index-preserved
 loop-index-preserved g c =
     let es = c.args.events.now in
     let i = c.loop-index.index in
-    let text = token_text (codes_of c.args.source.chars) c.args.source.tokens.now in
+    let text = text_between (codes_of c.args.source.chars) c.args.source.starts.now in
     let e = get_there es i c.loop-index-test.true in
     let now = c.loop-index.invariant in
     record {
@@ -70,7 +70,7 @@ pub returns-in-Err-clause-refused : goal.returns-in-Err-clause-refused
 returns-in-Err-clause-refused g c f e =
     let es = c.args.events.now in
     let i = c.loop-index.index in
-    let text = token_text (codes_of c.args.source.chars) c.args.source.tokens.now in
+    let text = text_between (codes_of c.args.source.chars) c.args.source.starts.now in
     let wrong = c.take.ensures.refused f (c.in-Err.is ∙ ap Err (errors_same e)) in
     gathers_refused g.D.TextDialect.says g.D.TextDialect.values text (seen c.args.ctx.now) c.args.ctx.now.program.counter (stage c.loop-index.ctx) c.loop-index.assembler es (drop (i + 1) es) wrong.0 (rest_at g.D.TextDialect.says g.D.TextDialect.values text (seen c.args.ctx.now) c.args.ctx.now.program.counter (stage c.loop-index.ctx) c.loop-index.assembler es i (Did wrong.0) wrong.1 c.loop-index.invariant.gathers) f wrong.2.fails
 
@@ -78,7 +78,7 @@ pub returns-in-Err-clause-full : goal.returns-in-Err-clause-full
 returns-in-Err-clause-full g c e =
     let es = c.args.events.now in
     let i = c.loop-index.index in
-    let text = token_text (codes_of c.args.source.chars) c.args.source.tokens.now in
+    let text = text_between (codes_of c.args.source.chars) c.args.source.starts.now in
     let wrong = c.take.ensures.full (c.in-Err.is ∙ ap Err (errors_same e)) in
     gathers_full g.D.TextDialect.says g.D.TextDialect.values text (seen c.args.ctx.now) c.args.ctx.now.program.counter (stage c.loop-index.ctx) c.loop-index.assembler es (drop (i + 1) es) wrong.0 (rest_at g.D.TextDialect.says g.D.TextDialect.values text (seen c.args.ctx.now) c.args.ctx.now.program.counter (stage c.loop-index.ctx) c.loop-index.assembler es i (Did wrong.0) wrong.1 c.loop-index.invariant.gathers) wrong.2.fills
 
@@ -97,7 +97,7 @@ pub returns-clause-made : goal.returns-clause-made
 returns-clause-made g c leads =
     let es = c.args.events.now in
     let i = c.loop-index.index in
-    let text = token_text (codes_of c.args.source.chars) c.args.source.tokens.now in
+    let text = text_between (codes_of c.args.source.chars) c.args.source.starts.now in
     gathers_last g.D.TextDialect.says g.D.TextDialect.values text (seen c.args.ctx.now) c.args.ctx.now.program.counter (stage c.loop-index.ctx) c.loop-index.assembler es leads
     (subst (λ rest. Gathers g.D.TextDialect.says g.D.TextDialect.values text (seen c.args.ctx.now) c.args.ctx.now.program.counter (stage c.loop-index.ctx) c.loop-index.assembler es rest) (drop_of_length-le es (omega (arith, c.loop-index-test.false))) c.loop-index.invariant.gathers)
 
@@ -108,6 +108,6 @@ pub returns-clause-sound : goal.returns-clause-sound
 returns-clause-sound g c =
     let es = c.args.events.now in
     let i = c.loop-index.index in
-    let text = token_text (codes_of c.args.source.chars) c.args.source.tokens.now in
+    let text = text_between (codes_of c.args.source.chars) c.args.source.starts.now in
     gathers_sound g.D.TextDialect.says g.D.TextDialect.values text (seen c.args.ctx.now) c.args.ctx.now.program.counter (stage c.loop-index.ctx) c.loop-index.assembler es []
     (subst (λ rest. Gathers g.D.TextDialect.says g.D.TextDialect.values text (seen c.args.ctx.now) c.args.ctx.now.program.counter (stage c.loop-index.ctx) c.loop-index.assembler es rest) (drop_of_length-le es (omega (arith, c.loop-index-test.false))) c.loop-index.invariant.gathers)

@@ -1,14 +1,16 @@
-use Rattle.std.proofs.Common.{◌≡◌, ◌∙◌, ◌≤◌, ◌+◌, ◌^◌, ℕ, List, length, refl, sym, ap, subst, [], Err, IfOk, MatchResult}
+use Rattle.std.proofs.Common.{false, ◌≡◌, ◌∙◌, ◌≤◌, ◌+◌, ◌^◌, length, refl, sym, ap, subst, [], Err}
 use Rattle.ir_characters.specs.Texts.{codes_of}
 use Rattle.ir_tokens.specs.declared.faults.TextFault.TheVariants.{CounterFull}
 use Rattle.std.proofs.lemmas.Result.{IfOk-at_ok, MatchResult-at_ok}
 use Rattle.text_dialect.specs.Seen.{seen}
 use Rattle.text_building.proofs.Numbers.{erased_both}
 use Rattle.text_building.proofs.Shown.{payloads_since}
-use Rattle.ir_grammar.specs.Nesting.{at_root, at_end, Nests}
+use Rattle.ir_grammar.specs.Nesting.{at_root, at_end, Nests, OwnTokens}
 use Rattle.ir_forest.specs.Progress.{Leads}
 use Rattle.ir_forest.specs.Identifiers.{AreSpelt}
+use Rattle.ir_tokens.specs.Tokens.{text_between}
 use Rattle.ir_formats.specs.Words.{token_text}
+use Rattle.ir_formats.proofs.Between.{texts_stand}
 use Rattle.ir_formats.proofs.Ordered.{own_tokens}
 use Rattle.ir_scopes.specs.Naming.{defined_from, mentioned_from}
 use Rattle.ir_scopes.specs.Scopes.{definitions, IsResolved, IsScopeFault}
@@ -27,25 +29,38 @@ assemble-assembled-requires-clause-nests g c =
     let d = g.D.TextDialect in
     let l = language_of d.formats d.kind_at (is_isolated g.D.DialectTables.op_has) d.values in
     let cs = codes_of c.args.source.chars in
-    let ts = c.args.source.tokens.now in
+    let ts = c.requires.0 in
     let names = c.args.names.items in
     let r = c.args.reading.now in
     let es = r.events.items in
     let text = token_text cs ts in
-    let order = read_in_order l g.D.ReadDialect.leads g.met.D.ReadDialect.ordered cs ts names r.taken es r.stop c.requires.reading in
-    subst (λ z. Nests at_root [] z) (sym c.deref-3.ensures.value) order.nests
+    let written : text_between cs c.args.source.starts.now ≡ text = ap (text_between cs) c.requires.1 ∙ texts_stand cs ts c.requires.2.tokens in
+    let order = read_in_order l g.D.ReadDialect.leads g.met.D.ReadDialect.ordered cs ts names r.taken es r.stop c.requires.2 in
+    subst (λ z. Nests at_root [] z) (sym c.deref-2.ensures.value) order.nests
 
 pub assemble-assembled-requires-clause-spelt : goal.assemble-assembled-requires-clause-spelt
 assemble-assembled-requires-clause-spelt g c =
     let d = g.D.TextDialect in
     let l = language_of d.formats d.kind_at (is_isolated g.D.DialectTables.op_has) d.values in
     let cs = codes_of c.args.source.chars in
-    let ts = c.args.source.tokens.now in
+    let ts = c.requires.0 in
     let names = c.args.names.items in
     let r = c.args.reading.now in
     let es = r.events.items in
     let text = token_text cs ts in
-    subst (λ z. AreSpelt text 0 z) (sym c.deref-3.ensures.value) (reading_spelt l cs ts names r.stop r.taken es c.requires.reading)
+    let written : text_between cs c.args.source.starts.now ≡ text = ap (text_between cs) c.requires.1 ∙ texts_stand cs ts c.requires.2.tokens in
+    subst (λ z. AreSpelt z 0 c.deref-2.result.now) (sym written)
+    (subst (λ z. AreSpelt text 0 z) (sym c.deref-2.ensures.value) (reading_spelt l cs ts names r.stop r.taken es c.requires.2))
+
+pub resolve-resolved-requires : goal.resolve-resolved-requires
+resolve-resolved-requires g c =
+    let d = g.D.TextDialect in
+    let l = language_of d.formats d.kind_at (is_isolated g.D.DialectTables.op_has) d.values in
+    let cs = codes_of c.args.source.chars in
+    let r = c.args.reading.now in
+    let es = r.events.items in
+    let order = read_in_order l g.D.ReadDialect.leads g.met.D.ReadDialect.ordered cs c.requires.0 c.args.names.items r.taken es r.stop c.requires.2 in
+    subst (λ z. OwnTokens false z) (sym c.deref.ensures.value) (own_tokens es order.follows)
 
 pub undo-requires : goal.undo-requires
 undo-requires g c = record { held = (seen c.args.ctx.now, c.assemble-assembled.ensures.held) }
@@ -55,64 +70,65 @@ returns-in-Err-clause-fault g c =
     let d = g.D.TextDialect in
     let l = language_of d.formats d.kind_at (is_isolated g.D.DialectTables.op_has) d.values in
     let cs = codes_of c.args.source.chars in
-    let ts = c.args.source.tokens.now in
+    let ts = c.requires.0 in
     let names = c.args.names.items in
     let r = c.args.reading.now in
     let es = r.events.items in
     let text = token_text cs ts in
-    let found = subst (λ z. MatchResult c.resolve-resolved.result (IsResolved l.isolated z c.deref-2.result.now) (IsScopeFault l.isolated z c.deref-2.result.now))
-    c.deref.ensures.value c.resolve-resolved.ensures.resolved in
-    let judged = judged_so l g.D.ReadDialect.leads g.met.D.ReadDialect.ordered cs ts names r c.deref-3.result.now c.deref-2.result.now c.assemble-assembled.result c.resolve-resolved.result
-    c.deref-3.ensures.value c.deref-2.ensures.value c.requires.reading c.assemble-assembled.ensures.sound c.assemble-assembled.ensures.refused found in
-    c.in-Err.ensures.fault l names judged
+    let written : text_between cs c.args.source.starts.now ≡ text = ap (text_between cs) c.requires.1 ∙ texts_stand cs ts c.requires.2.tokens in
+    let found = c.resolve-resolved.ensures.resolved in
+    let judged = judged_so l g.D.ReadDialect.leads g.met.D.ReadDialect.ordered cs ts names r c.deref-2.result.now c.deref.result.now c.assemble-assembled.result c.resolve-resolved.result
+    (text_between cs c.args.source.starts.now) written c.deref-2.ensures.value c.deref.ensures.value c.requires.2 c.assemble-assembled.ensures.sound c.assemble-assembled.ensures.refused found in
+    c.in-Err.ensures.fault l ts names c.requires.1 judged
 
 pub returns-in-Err-clause-full : goal.returns-in-Err-clause-full
 returns-in-Err-clause-full g c = λ e.
     let d = g.D.TextDialect in
     let l = language_of d.formats d.kind_at (is_isolated g.D.DialectTables.op_has) d.values in
     let cs = codes_of c.args.source.chars in
-    let ts = c.args.source.tokens.now in
+    let ts = c.requires.0 in
     let names = c.args.names.items in
     let r = c.args.reading.now in
     let es = r.events.items in
     let text = token_text cs ts in
+    let written : text_between cs c.args.source.starts.now ≡ text = ap (text_between cs) c.requires.1 ∙ texts_stand cs ts c.requires.2.tokens in
     let same : c.in-Err.fault ≡ CounterFull = cc in
     let full = c.assemble-assembled.ensures.full (c.in-Err.ensures.full (ap (λ x. Err x) same)) in
     let n = length (definitions l.isolated es) in
-    let many : length (defined_from 0 c.deref-3.result.now) ≡ n = ap (λ z. length (defined_from 0 z)) c.deref-3.ensures.value ∙ many_defined l.isolated es in
-    (n, (ts, names, r.stop, r.taken, es, c.requires.reading, refl), subst (λ z. 2 ^ 64 ≤ c.args.ctx.now.program.counter + z) many full)
+    let many : length (defined_from 0 c.deref-2.result.now) ≡ n = ap (λ z. length (defined_from 0 z)) c.deref-2.ensures.value ∙ many_defined l.isolated es in
+    (n, (ts, names, r.stop, r.taken, es, c.requires.2, refl), subst (λ z. 2 ^ 64 ≤ c.args.ctx.now.program.counter + z) many full)
 
 pub connect-requires-clause-waiting : goal.connect-requires-clause-waiting
 connect-requires-clause-waiting g c =
     let d = g.D.TextDialect in
     let l = language_of d.formats d.kind_at (is_isolated g.D.DialectTables.op_has) d.values in
     let cs = codes_of c.args.source.chars in
-    let ts = c.args.source.tokens.now in
+    let ts = c.requires.0 in
     let names = c.args.names.items in
     let r = c.args.reading.now in
     let es = r.events.items in
     let text = token_text cs ts in
-    let found = subst (λ z. MatchResult c.resolve-resolved.result (IsResolved l.isolated z c.deref-2.result.now) (IsScopeFault l.isolated z c.deref-2.result.now))
-    c.deref.ensures.value c.resolve-resolved.ensures.resolved in
-    let judged = judged_so l g.D.ReadDialect.leads g.met.D.ReadDialect.ordered cs ts names r c.deref-3.result.now c.deref-2.result.now c.assemble-assembled.result c.resolve-resolved.result
-    c.deref-3.ensures.value c.deref-2.ensures.value c.requires.reading c.assemble-assembled.ensures.sound c.assemble-assembled.ensures.refused found in
-    let none = c.in_default.ensures.none l names judged in
-    let leads = read_whole l g.D.ReadDialect.leads g.met.D.ReadDialect.ordered cs ts names r.taken es r.stop c.requires.reading none in
-    let order = read_in_order l g.D.ReadDialect.leads g.met.D.ReadDialect.ordered cs ts names r.taken es r.stop c.requires.reading in
+    let written : text_between cs c.args.source.starts.now ≡ text = ap (text_between cs) c.requires.1 ∙ texts_stand cs ts c.requires.2.tokens in
+    let found = c.resolve-resolved.ensures.resolved in
+    let judged = judged_so l g.D.ReadDialect.leads g.met.D.ReadDialect.ordered cs ts names r c.deref-2.result.now c.deref.result.now c.assemble-assembled.result c.resolve-resolved.result
+    (text_between cs c.args.source.starts.now) written c.deref-2.ensures.value c.deref.ensures.value c.requires.2 c.assemble-assembled.ensures.sound c.assemble-assembled.ensures.refused found in
+    let none = c.in_default.ensures.none l ts names c.requires.1 judged in
+    let leads = read_whole l g.D.ReadDialect.leads g.met.D.ReadDialect.ordered cs ts names r.taken es r.stop c.requires.2 none in
+    let order = read_in_order l g.D.ReadDialect.leads g.met.D.ReadDialect.ordered cs ts names r.taken es r.stop c.requires.2 in
     let own = own_tokens es order.follows in
     let resolution = c.in-Ok-resolved.resolution in
-    let resolved = subst (λ z. IsResolved l.isolated names z resolution) c.deref-2.ensures.value
-    (MatchResult-at_ok (IsResolved l.isolated names c.deref-2.result.now) (IsScopeFault l.isolated names c.deref-2.result.now) resolution c.in-Ok-resolved.is found) in
-    let many = IfOk-at_ok (λ z. length z.definitions.items ≡ length names) c.in-Ok-resolved.is
-    (subst (λ (xs : List ℕ). IfOk c.resolve-resolved.result (λ z. length z.definitions.items ≡ length xs)) c.deref.ensures.value c.resolve-resolved.ensures.many) in
+    let resolved = subst (λ z. IsResolved l.isolated names z resolution) c.deref.ensures.value
+    (MatchResult-at_ok (IsResolved l.isolated names c.deref.result.now) (IsScopeFault l.isolated names c.deref.result.now) resolution c.in-Ok-resolved.is found) in
+    let many = IfOk-at_ok (λ z. length z.definitions.items ≡ length names) c.in-Ok-resolved.is c.resolve-resolved.ensures.many in
     let start = seen c.args.ctx.now in
     let s = seen c.assemble-assembled.new.ctx in
     let first = c.args.ctx.now.program.counter in
     let next = c.assemble-assembled.new.ctx.program.counter in
     let a = c.in-Ok.assembly in
-    let to = subst (λ z. Leads at_root [] z at_end []) (sym c.deref-3.ensures.value) leads in
-    let made = subst (IsAssembled d.says d.values text start s first next a) c.deref-3.ensures.value
-    (IfOk-at_ok (λ z. IsAssembled d.says d.values text start s first next z c.deref-3.result.now) c.in-Ok.is (c.assemble-assembled.ensures.made to)) in
+    let to = subst (λ z. Leads at_root [] z at_end []) (sym c.deref-2.ensures.value) leads in
+    let made = subst (λ z. IsAssembled d.says d.values z start s first next a es) written
+    (subst (IsAssembled d.says d.values (text_between cs c.args.source.starts.now) start s first next a) c.deref-2.ensures.value
+    (IfOk-at_ok (λ z. IsAssembled d.says d.values (text_between cs c.args.source.starts.now) start s first next z c.deref-2.result.now) c.in-Ok.is (c.assemble-assembled.ensures.made to))) in
     let held = IfOk-at_ok (λ z. HoldsAllNew start s z.loose.items) c.in-Ok.is c.assemble-assembled.ensures.held in
     (start, mentioned_from 0 es, made.operands, held)
 
@@ -121,66 +137,66 @@ connect-requires-clause-meant g c =
     let d = g.D.TextDialect in
     let l = language_of d.formats d.kind_at (is_isolated g.D.DialectTables.op_has) d.values in
     let cs = codes_of c.args.source.chars in
-    let ts = c.args.source.tokens.now in
+    let ts = c.requires.0 in
     let names = c.args.names.items in
     let r = c.args.reading.now in
     let es = r.events.items in
     let text = token_text cs ts in
-    let found = subst (λ z. MatchResult c.resolve-resolved.result (IsResolved l.isolated z c.deref-2.result.now) (IsScopeFault l.isolated z c.deref-2.result.now))
-    c.deref.ensures.value c.resolve-resolved.ensures.resolved in
-    let judged = judged_so l g.D.ReadDialect.leads g.met.D.ReadDialect.ordered cs ts names r c.deref-3.result.now c.deref-2.result.now c.assemble-assembled.result c.resolve-resolved.result
-    c.deref-3.ensures.value c.deref-2.ensures.value c.requires.reading c.assemble-assembled.ensures.sound c.assemble-assembled.ensures.refused found in
-    let none = c.in_default.ensures.none l names judged in
-    let leads = read_whole l g.D.ReadDialect.leads g.met.D.ReadDialect.ordered cs ts names r.taken es r.stop c.requires.reading none in
-    let order = read_in_order l g.D.ReadDialect.leads g.met.D.ReadDialect.ordered cs ts names r.taken es r.stop c.requires.reading in
+    let written : text_between cs c.args.source.starts.now ≡ text = ap (text_between cs) c.requires.1 ∙ texts_stand cs ts c.requires.2.tokens in
+    let found = c.resolve-resolved.ensures.resolved in
+    let judged = judged_so l g.D.ReadDialect.leads g.met.D.ReadDialect.ordered cs ts names r c.deref-2.result.now c.deref.result.now c.assemble-assembled.result c.resolve-resolved.result
+    (text_between cs c.args.source.starts.now) written c.deref-2.ensures.value c.deref.ensures.value c.requires.2 c.assemble-assembled.ensures.sound c.assemble-assembled.ensures.refused found in
+    let none = c.in_default.ensures.none l ts names c.requires.1 judged in
+    let leads = read_whole l g.D.ReadDialect.leads g.met.D.ReadDialect.ordered cs ts names r.taken es r.stop c.requires.2 none in
+    let order = read_in_order l g.D.ReadDialect.leads g.met.D.ReadDialect.ordered cs ts names r.taken es r.stop c.requires.2 in
     let own = own_tokens es order.follows in
     let resolution = c.in-Ok-resolved.resolution in
-    let resolved = subst (λ z. IsResolved l.isolated names z resolution) c.deref-2.ensures.value
-    (MatchResult-at_ok (IsResolved l.isolated names c.deref-2.result.now) (IsScopeFault l.isolated names c.deref-2.result.now) resolution c.in-Ok-resolved.is found) in
-    let many = IfOk-at_ok (λ z. length z.definitions.items ≡ length names) c.in-Ok-resolved.is
-    (subst (λ (xs : List ℕ). IfOk c.resolve-resolved.result (λ z. length z.definitions.items ≡ length xs)) c.deref.ensures.value c.resolve-resolved.ensures.many) in
+    let resolved = subst (λ z. IsResolved l.isolated names z resolution) c.deref.ensures.value
+    (MatchResult-at_ok (IsResolved l.isolated names c.deref.result.now) (IsScopeFault l.isolated names c.deref.result.now) resolution c.in-Ok-resolved.is found) in
+    let many = IfOk-at_ok (λ z. length z.definitions.items ≡ length names) c.in-Ok-resolved.is c.resolve-resolved.ensures.many in
     let start = seen c.args.ctx.now in
     let s = seen c.assemble-assembled.new.ctx in
     let first = c.args.ctx.now.program.counter in
     let next = c.assemble-assembled.new.ctx.program.counter in
     let a = c.in-Ok.assembly in
-    let to = subst (λ z. Leads at_root [] z at_end []) (sym c.deref-3.ensures.value) leads in
-    let made = subst (IsAssembled d.says d.values text start s first next a) c.deref-3.ensures.value
-    (IfOk-at_ok (λ z. IsAssembled d.says d.values text start s first next z c.deref-3.result.now) c.in-Ok.is (c.assemble-assembled.ensures.made to)) in
+    let to = subst (λ z. Leads at_root [] z at_end []) (sym c.deref-2.ensures.value) leads in
+    let made = subst (λ z. IsAssembled d.says d.values z start s first next a es) written
+    (subst (IsAssembled d.says d.values (text_between cs c.args.source.starts.now) start s first next a) c.deref-2.ensures.value
+    (IfOk-at_ok (λ z. IsAssembled d.says d.values (text_between cs c.args.source.starts.now) start s first next z c.deref-2.result.now) c.in-Ok.is (c.assemble-assembled.ensures.made to))) in
     let held = IfOk-at_ok (λ z. HoldsAllNew start s z.loose.items) c.in-Ok.is c.assemble-assembled.ensures.held in
-    can_link_all l cs ts names r.stop r.taken es resolution c.requires.reading leads own resolved c.requires.named many d.says start s first next a made
+    can_link_all l cs ts names r.stop r.taken es resolution c.requires.2 leads own resolved c.requires.2.numbered many d.says start s first next a made
 
 pub connect-requires-clause-root : goal.connect-requires-clause-root
 connect-requires-clause-root g c =
     let d = g.D.TextDialect in
     let l = language_of d.formats d.kind_at (is_isolated g.D.DialectTables.op_has) d.values in
     let cs = codes_of c.args.source.chars in
-    let ts = c.args.source.tokens.now in
+    let ts = c.requires.0 in
     let names = c.args.names.items in
     let r = c.args.reading.now in
     let es = r.events.items in
     let text = token_text cs ts in
-    let found = subst (λ z. MatchResult c.resolve-resolved.result (IsResolved l.isolated z c.deref-2.result.now) (IsScopeFault l.isolated z c.deref-2.result.now))
-    c.deref.ensures.value c.resolve-resolved.ensures.resolved in
-    let judged = judged_so l g.D.ReadDialect.leads g.met.D.ReadDialect.ordered cs ts names r c.deref-3.result.now c.deref-2.result.now c.assemble-assembled.result c.resolve-resolved.result
-    c.deref-3.ensures.value c.deref-2.ensures.value c.requires.reading c.assemble-assembled.ensures.sound c.assemble-assembled.ensures.refused found in
-    let none = c.in_default.ensures.none l names judged in
-    let leads = read_whole l g.D.ReadDialect.leads g.met.D.ReadDialect.ordered cs ts names r.taken es r.stop c.requires.reading none in
-    let order = read_in_order l g.D.ReadDialect.leads g.met.D.ReadDialect.ordered cs ts names r.taken es r.stop c.requires.reading in
+    let written : text_between cs c.args.source.starts.now ≡ text = ap (text_between cs) c.requires.1 ∙ texts_stand cs ts c.requires.2.tokens in
+    let found = c.resolve-resolved.ensures.resolved in
+    let judged = judged_so l g.D.ReadDialect.leads g.met.D.ReadDialect.ordered cs ts names r c.deref-2.result.now c.deref.result.now c.assemble-assembled.result c.resolve-resolved.result
+    (text_between cs c.args.source.starts.now) written c.deref-2.ensures.value c.deref.ensures.value c.requires.2 c.assemble-assembled.ensures.sound c.assemble-assembled.ensures.refused found in
+    let none = c.in_default.ensures.none l ts names c.requires.1 judged in
+    let leads = read_whole l g.D.ReadDialect.leads g.met.D.ReadDialect.ordered cs ts names r.taken es r.stop c.requires.2 none in
+    let order = read_in_order l g.D.ReadDialect.leads g.met.D.ReadDialect.ordered cs ts names r.taken es r.stop c.requires.2 in
     let own = own_tokens es order.follows in
     let resolution = c.in-Ok-resolved.resolution in
-    let resolved = subst (λ z. IsResolved l.isolated names z resolution) c.deref-2.ensures.value
-    (MatchResult-at_ok (IsResolved l.isolated names c.deref-2.result.now) (IsScopeFault l.isolated names c.deref-2.result.now) resolution c.in-Ok-resolved.is found) in
-    let many = IfOk-at_ok (λ z. length z.definitions.items ≡ length names) c.in-Ok-resolved.is
-    (subst (λ (xs : List ℕ). IfOk c.resolve-resolved.result (λ z. length z.definitions.items ≡ length xs)) c.deref.ensures.value c.resolve-resolved.ensures.many) in
+    let resolved = subst (λ z. IsResolved l.isolated names z resolution) c.deref.ensures.value
+    (MatchResult-at_ok (IsResolved l.isolated names c.deref.result.now) (IsScopeFault l.isolated names c.deref.result.now) resolution c.in-Ok-resolved.is found) in
+    let many = IfOk-at_ok (λ z. length z.definitions.items ≡ length names) c.in-Ok-resolved.is c.resolve-resolved.ensures.many in
     let start = seen c.args.ctx.now in
     let s = seen c.assemble-assembled.new.ctx in
     let first = c.args.ctx.now.program.counter in
     let next = c.assemble-assembled.new.ctx.program.counter in
     let a = c.in-Ok.assembly in
-    let to = subst (λ z. Leads at_root [] z at_end []) (sym c.deref-3.ensures.value) leads in
-    let made = subst (IsAssembled d.says d.values text start s first next a) c.deref-3.ensures.value
-    (IfOk-at_ok (λ z. IsAssembled d.says d.values text start s first next z c.deref-3.result.now) c.in-Ok.is (c.assemble-assembled.ensures.made to)) in
+    let to = subst (λ z. Leads at_root [] z at_end []) (sym c.deref-2.ensures.value) leads in
+    let made = subst (λ z. IsAssembled d.says d.values z start s first next a es) written
+    (subst (IsAssembled d.says d.values (text_between cs c.args.source.starts.now) start s first next a) c.deref-2.ensures.value
+    (IfOk-at_ok (λ z. IsAssembled d.says d.values (text_between cs c.args.source.starts.now) start s first next z c.deref-2.result.now) c.in-Ok.is (c.assemble-assembled.ensures.made to))) in
     let held = IfOk-at_ok (λ z. HoldsAllNew start s z.loose.items) c.in-Ok.is c.assemble-assembled.ensures.held in
     rw made.stands refl
 
@@ -189,35 +205,35 @@ returns-clause-read g c =
     let d = g.D.TextDialect in
     let l = language_of d.formats d.kind_at (is_isolated g.D.DialectTables.op_has) d.values in
     let cs = codes_of c.args.source.chars in
-    let ts = c.args.source.tokens.now in
+    let ts = c.requires.0 in
     let names = c.args.names.items in
     let r = c.args.reading.now in
     let es = r.events.items in
     let text = token_text cs ts in
-    let found = subst (λ z. MatchResult c.resolve-resolved.result (IsResolved l.isolated z c.deref-2.result.now) (IsScopeFault l.isolated z c.deref-2.result.now))
-    c.deref.ensures.value c.resolve-resolved.ensures.resolved in
-    let judged = judged_so l g.D.ReadDialect.leads g.met.D.ReadDialect.ordered cs ts names r c.deref-3.result.now c.deref-2.result.now c.assemble-assembled.result c.resolve-resolved.result
-    c.deref-3.ensures.value c.deref-2.ensures.value c.requires.reading c.assemble-assembled.ensures.sound c.assemble-assembled.ensures.refused found in
-    let none = c.in_default.ensures.none l names judged in
-    let leads = read_whole l g.D.ReadDialect.leads g.met.D.ReadDialect.ordered cs ts names r.taken es r.stop c.requires.reading none in
-    let order = read_in_order l g.D.ReadDialect.leads g.met.D.ReadDialect.ordered cs ts names r.taken es r.stop c.requires.reading in
+    let written : text_between cs c.args.source.starts.now ≡ text = ap (text_between cs) c.requires.1 ∙ texts_stand cs ts c.requires.2.tokens in
+    let found = c.resolve-resolved.ensures.resolved in
+    let judged = judged_so l g.D.ReadDialect.leads g.met.D.ReadDialect.ordered cs ts names r c.deref-2.result.now c.deref.result.now c.assemble-assembled.result c.resolve-resolved.result
+    (text_between cs c.args.source.starts.now) written c.deref-2.ensures.value c.deref.ensures.value c.requires.2 c.assemble-assembled.ensures.sound c.assemble-assembled.ensures.refused found in
+    let none = c.in_default.ensures.none l ts names c.requires.1 judged in
+    let leads = read_whole l g.D.ReadDialect.leads g.met.D.ReadDialect.ordered cs ts names r.taken es r.stop c.requires.2 none in
+    let order = read_in_order l g.D.ReadDialect.leads g.met.D.ReadDialect.ordered cs ts names r.taken es r.stop c.requires.2 in
     let own = own_tokens es order.follows in
     let resolution = c.in-Ok-resolved.resolution in
-    let resolved = subst (λ z. IsResolved l.isolated names z resolution) c.deref-2.ensures.value
-    (MatchResult-at_ok (IsResolved l.isolated names c.deref-2.result.now) (IsScopeFault l.isolated names c.deref-2.result.now) resolution c.in-Ok-resolved.is found) in
-    let many = IfOk-at_ok (λ z. length z.definitions.items ≡ length names) c.in-Ok-resolved.is
-    (subst (λ (xs : List ℕ). IfOk c.resolve-resolved.result (λ z. length z.definitions.items ≡ length xs)) c.deref.ensures.value c.resolve-resolved.ensures.many) in
+    let resolved = subst (λ z. IsResolved l.isolated names z resolution) c.deref.ensures.value
+    (MatchResult-at_ok (IsResolved l.isolated names c.deref.result.now) (IsScopeFault l.isolated names c.deref.result.now) resolution c.in-Ok-resolved.is found) in
+    let many = IfOk-at_ok (λ z. length z.definitions.items ≡ length names) c.in-Ok-resolved.is c.resolve-resolved.ensures.many in
     let start = seen c.args.ctx.now in
     let s = seen c.assemble-assembled.new.ctx in
     let first = c.args.ctx.now.program.counter in
     let next = c.assemble-assembled.new.ctx.program.counter in
     let a = c.in-Ok.assembly in
-    let to = subst (λ z. Leads at_root [] z at_end []) (sym c.deref-3.ensures.value) leads in
-    let made = subst (IsAssembled d.says d.values text start s first next a) c.deref-3.ensures.value
-    (IfOk-at_ok (λ z. IsAssembled d.says d.values text start s first next z c.deref-3.result.now) c.in-Ok.is (c.assemble-assembled.ensures.made to)) in
+    let to = subst (λ z. Leads at_root [] z at_end []) (sym c.deref-2.ensures.value) leads in
+    let made = subst (λ z. IsAssembled d.says d.values z start s first next a es) written
+    (subst (IsAssembled d.says d.values (text_between cs c.args.source.starts.now) start s first next a) c.deref-2.ensures.value
+    (IfOk-at_ok (λ z. IsAssembled d.says d.values (text_between cs c.args.source.starts.now) start s first next z c.deref-2.result.now) c.in-Ok.is (c.assemble-assembled.ensures.made to))) in
     let held = IfOk-at_ok (λ z. HoldsAllNew start s z.loose.items) c.in-Ok.is c.assemble-assembled.ensures.held in
     let linked = c.connect.ensures.linked in
-    answers_read l cs ts names r.stop r.taken es resolution c.requires.reading leads own resolved c.requires.named many d.says start s first next a made
+    answers_read l cs ts names r.stop r.taken es resolution c.requires.2 leads own resolved c.requires.2.numbered many d.says start s first next a made
     (seen c.connect.new.ctx) c.connect.new.ctx.program.counter c.connect.result linked c.connect.ensures.root
     (c.connect.ensures.held start (mentioned_from 0 es) made.operands held) c.connect.ensures.counter none
 
@@ -226,32 +242,32 @@ returns-clause-refused g c =
     let d = g.D.TextDialect in
     let l = language_of d.formats d.kind_at (is_isolated g.D.DialectTables.op_has) d.values in
     let cs = codes_of c.args.source.chars in
-    let ts = c.args.source.tokens.now in
+    let ts = c.requires.0 in
     let names = c.args.names.items in
     let r = c.args.reading.now in
     let es = r.events.items in
     let text = token_text cs ts in
-    let found = subst (λ z. MatchResult c.resolve-resolved.result (IsResolved l.isolated z c.deref-2.result.now) (IsScopeFault l.isolated z c.deref-2.result.now))
-    c.deref.ensures.value c.resolve-resolved.ensures.resolved in
-    let judged = judged_so l g.D.ReadDialect.leads g.met.D.ReadDialect.ordered cs ts names r c.deref-3.result.now c.deref-2.result.now c.assemble-assembled.result c.resolve-resolved.result
-    c.deref-3.ensures.value c.deref-2.ensures.value c.requires.reading c.assemble-assembled.ensures.sound c.assemble-assembled.ensures.refused found in
-    let none = c.in_default.ensures.none l names judged in
-    let leads = read_whole l g.D.ReadDialect.leads g.met.D.ReadDialect.ordered cs ts names r.taken es r.stop c.requires.reading none in
-    let order = read_in_order l g.D.ReadDialect.leads g.met.D.ReadDialect.ordered cs ts names r.taken es r.stop c.requires.reading in
+    let written : text_between cs c.args.source.starts.now ≡ text = ap (text_between cs) c.requires.1 ∙ texts_stand cs ts c.requires.2.tokens in
+    let found = c.resolve-resolved.ensures.resolved in
+    let judged = judged_so l g.D.ReadDialect.leads g.met.D.ReadDialect.ordered cs ts names r c.deref-2.result.now c.deref.result.now c.assemble-assembled.result c.resolve-resolved.result
+    (text_between cs c.args.source.starts.now) written c.deref-2.ensures.value c.deref.ensures.value c.requires.2 c.assemble-assembled.ensures.sound c.assemble-assembled.ensures.refused found in
+    let none = c.in_default.ensures.none l ts names c.requires.1 judged in
+    let leads = read_whole l g.D.ReadDialect.leads g.met.D.ReadDialect.ordered cs ts names r.taken es r.stop c.requires.2 none in
+    let order = read_in_order l g.D.ReadDialect.leads g.met.D.ReadDialect.ordered cs ts names r.taken es r.stop c.requires.2 in
     let own = own_tokens es order.follows in
     let resolution = c.in-Ok-resolved.resolution in
-    let resolved = subst (λ z. IsResolved l.isolated names z resolution) c.deref-2.ensures.value
-    (MatchResult-at_ok (IsResolved l.isolated names c.deref-2.result.now) (IsScopeFault l.isolated names c.deref-2.result.now) resolution c.in-Ok-resolved.is found) in
-    let many = IfOk-at_ok (λ z. length z.definitions.items ≡ length names) c.in-Ok-resolved.is
-    (subst (λ (xs : List ℕ). IfOk c.resolve-resolved.result (λ z. length z.definitions.items ≡ length xs)) c.deref.ensures.value c.resolve-resolved.ensures.many) in
+    let resolved = subst (λ z. IsResolved l.isolated names z resolution) c.deref.ensures.value
+    (MatchResult-at_ok (IsResolved l.isolated names c.deref.result.now) (IsScopeFault l.isolated names c.deref.result.now) resolution c.in-Ok-resolved.is found) in
+    let many = IfOk-at_ok (λ z. length z.definitions.items ≡ length names) c.in-Ok-resolved.is c.resolve-resolved.ensures.many in
     let start = seen c.args.ctx.now in
     let s = seen c.assemble-assembled.new.ctx in
     let first = c.args.ctx.now.program.counter in
     let next = c.assemble-assembled.new.ctx.program.counter in
     let a = c.in-Ok.assembly in
-    let to = subst (λ z. Leads at_root [] z at_end []) (sym c.deref-3.ensures.value) leads in
-    let made = subst (IsAssembled d.says d.values text start s first next a) c.deref-3.ensures.value
-    (IfOk-at_ok (λ z. IsAssembled d.says d.values text start s first next z c.deref-3.result.now) c.in-Ok.is (c.assemble-assembled.ensures.made to)) in
+    let to = subst (λ z. Leads at_root [] z at_end []) (sym c.deref-2.ensures.value) leads in
+    let made = subst (λ z. IsAssembled d.says d.values z start s first next a es) written
+    (subst (IsAssembled d.says d.values (text_between cs c.args.source.starts.now) start s first next a) c.deref-2.ensures.value
+    (IfOk-at_ok (λ z. IsAssembled d.says d.values (text_between cs c.args.source.starts.now) start s first next z c.deref-2.result.now) c.in-Ok.is (c.assemble-assembled.ensures.made to))) in
     let held = IfOk-at_ok (λ z. HoldsAllNew start s z.loose.items) c.in-Ok.is c.assemble-assembled.ensures.held in
     c.connect.ensures.undone start (mentioned_from 0 es) made.operands held
 
@@ -271,32 +287,32 @@ returns-clause-payloads g c =
     let d = g.D.TextDialect in
     let l = language_of d.formats d.kind_at (is_isolated g.D.DialectTables.op_has) d.values in
     let cs = codes_of c.args.source.chars in
-    let ts = c.args.source.tokens.now in
+    let ts = c.requires.0 in
     let names = c.args.names.items in
     let r = c.args.reading.now in
     let es = r.events.items in
     let text = token_text cs ts in
-    let found = subst (λ z. MatchResult c.resolve-resolved.result (IsResolved l.isolated z c.deref-2.result.now) (IsScopeFault l.isolated z c.deref-2.result.now))
-    c.deref.ensures.value c.resolve-resolved.ensures.resolved in
-    let judged = judged_so l g.D.ReadDialect.leads g.met.D.ReadDialect.ordered cs ts names r c.deref-3.result.now c.deref-2.result.now c.assemble-assembled.result c.resolve-resolved.result
-    c.deref-3.ensures.value c.deref-2.ensures.value c.requires.reading c.assemble-assembled.ensures.sound c.assemble-assembled.ensures.refused found in
-    let none = c.in_default.ensures.none l names judged in
-    let leads = read_whole l g.D.ReadDialect.leads g.met.D.ReadDialect.ordered cs ts names r.taken es r.stop c.requires.reading none in
-    let order = read_in_order l g.D.ReadDialect.leads g.met.D.ReadDialect.ordered cs ts names r.taken es r.stop c.requires.reading in
+    let written : text_between cs c.args.source.starts.now ≡ text = ap (text_between cs) c.requires.1 ∙ texts_stand cs ts c.requires.2.tokens in
+    let found = c.resolve-resolved.ensures.resolved in
+    let judged = judged_so l g.D.ReadDialect.leads g.met.D.ReadDialect.ordered cs ts names r c.deref-2.result.now c.deref.result.now c.assemble-assembled.result c.resolve-resolved.result
+    (text_between cs c.args.source.starts.now) written c.deref-2.ensures.value c.deref.ensures.value c.requires.2 c.assemble-assembled.ensures.sound c.assemble-assembled.ensures.refused found in
+    let none = c.in_default.ensures.none l ts names c.requires.1 judged in
+    let leads = read_whole l g.D.ReadDialect.leads g.met.D.ReadDialect.ordered cs ts names r.taken es r.stop c.requires.2 none in
+    let order = read_in_order l g.D.ReadDialect.leads g.met.D.ReadDialect.ordered cs ts names r.taken es r.stop c.requires.2 in
     let own = own_tokens es order.follows in
     let resolution = c.in-Ok-resolved.resolution in
-    let resolved = subst (λ z. IsResolved l.isolated names z resolution) c.deref-2.ensures.value
-    (MatchResult-at_ok (IsResolved l.isolated names c.deref-2.result.now) (IsScopeFault l.isolated names c.deref-2.result.now) resolution c.in-Ok-resolved.is found) in
-    let many = IfOk-at_ok (λ z. length z.definitions.items ≡ length names) c.in-Ok-resolved.is
-    (subst (λ (xs : List ℕ). IfOk c.resolve-resolved.result (λ z. length z.definitions.items ≡ length xs)) c.deref.ensures.value c.resolve-resolved.ensures.many) in
+    let resolved = subst (λ z. IsResolved l.isolated names z resolution) c.deref.ensures.value
+    (MatchResult-at_ok (IsResolved l.isolated names c.deref.result.now) (IsScopeFault l.isolated names c.deref.result.now) resolution c.in-Ok-resolved.is found) in
+    let many = IfOk-at_ok (λ z. length z.definitions.items ≡ length names) c.in-Ok-resolved.is c.resolve-resolved.ensures.many in
     let start = seen c.args.ctx.now in
     let s = seen c.assemble-assembled.new.ctx in
     let first = c.args.ctx.now.program.counter in
     let next = c.assemble-assembled.new.ctx.program.counter in
     let a = c.in-Ok.assembly in
-    let to = subst (λ z. Leads at_root [] z at_end []) (sym c.deref-3.ensures.value) leads in
-    let made = subst (IsAssembled d.says d.values text start s first next a) c.deref-3.ensures.value
-    (IfOk-at_ok (λ z. IsAssembled d.says d.values text start s first next z c.deref-3.result.now) c.in-Ok.is (c.assemble-assembled.ensures.made to)) in
+    let to = subst (λ z. Leads at_root [] z at_end []) (sym c.deref-2.ensures.value) leads in
+    let made = subst (λ z. IsAssembled d.says d.values z start s first next a es) written
+    (subst (IsAssembled d.says d.values (text_between cs c.args.source.starts.now) start s first next a) c.deref-2.ensures.value
+    (IfOk-at_ok (λ z. IsAssembled d.says d.values (text_between cs c.args.source.starts.now) start s first next z c.deref-2.result.now) c.in-Ok.is (c.assemble-assembled.ensures.made to))) in
     let held = IfOk-at_ok (λ z. HoldsAllNew start s z.loose.items) c.in-Ok.is c.assemble-assembled.ensures.held in
     payloads_since c.args.ctx.now c.assemble-assembled.new.ctx c.connect.new.ctx c.assemble-assembled.ensures.payloads
     (c.connect.ensures.payloads start (mentioned_from 0 es) made.operands held)
