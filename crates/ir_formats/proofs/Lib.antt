@@ -6,3 +6,4 @@ pub mod Spelled
 pub mod Classifying
 pub mod Ordered
 pub mod Between
+pub mod Signs

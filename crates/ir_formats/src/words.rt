@@ -1,10 +1,10 @@
 //! The kind of each token, and which tokens are spelled alike.
-ghost use Rattle.std.specs.Prelude.{◌≡◌, ◌<◌, ◌++◌, ◌∷◌, [], List, drop, OnOk, IfOk, IfSome, bytes_eq, length, map, ◌==◌, slice_index_or};
+ghost use Rattle.std.specs.Prelude.{◌≡◌, ◌<◌, ◌++◌, ◌∷◌, [], List, drop, OnOk, IfOk, IfSome, Some, length, map, ◌==◌, slice_get, slice_index, slice_index_or};
 ghost use Rattle.ir_tokens.specs.declared.tokens.Token.{Token};
 ghost use Rattle.std.specs.Str.{chars};
 ghost use Rattle.ir_characters.specs.Texts.{codes_of};
 ghost use Rattle.ir_formats.specs.Rules.{texts, number_of, with_word};
-ghost use Rattle.ir_formats.specs.Spelling.{known_texts, NumbersWords};
+ghost use Rattle.ir_formats.specs.Spelling.{known_texts, signs_with, NumbersWords, AreAllSigns, AreSigns, IsSignAt};
 ghost use Rattle.ir_formats.specs.Words.{spellings, text_of, is_width, are_digits, shape_kind, is_spelled, has_kind, kind_of, known_with, name_number, AreClassified};
 
 use crate::rules::{SHAPES, Shape};
@@ -155,6 +155,9 @@ fn name_of<'a>(known: &mut IndexSet<Text<'a>>, text: Text<'a>) -> Result<(usize,
     Ok((name, is_new))
 }
 
+/// Signs are below this.
+const SIGNS: usize = 128;
+
 /// How many guesses there are.
 const GUESSES: usize = 256;
 
@@ -171,17 +174,6 @@ fn guess_place(text: Text) -> usize
     (3 * first + 5 * last + length % GUESSES) % GUESSES
 }
 
-/// Whether two texts have the same characters. Half of all tokens have one, so these are compared at once.
-fn is_same(a: Text, b: Text) -> bool
-    ensures { result ≡ bytes_eq (codes_of a.entry) (codes_of b.entry) }
-{
-    if a.len() == 1 && b.len() == 1 {
-        a.at(0) == b.at(0)
-    } else {
-        a == b
-    }
-}
-
 /// The number of a text that is known, where the guess at a place is right.
 fn guessed(known: &IndexSet<Text>, guesses: &[usize], place: usize, text: Text) -> Option<usize>
     ensures { IfSome result (λ name. (name ≡ number_of (map codes_of known.now.keys) (codes_of text.entry)) × (name < length (map codes_of known.now.keys))) }
@@ -191,11 +183,7 @@ fn guessed(known: &IndexSet<Text>, guesses: &[usize], place: usize, text: Text) 
         return None;
     }
     let found = *known.get_index(guess)?;
-    if is_same(text, found) {
-        Some(guess)
-    } else {
-        None
-    }
+    if text == found { Some(guess) } else { None }
 }
 
 /// Texts, each with a number. Those of the grammar's words come first.
@@ -206,12 +194,15 @@ struct Spellings<'a> {
     words: Vec<usize>,
     /// The number that was looked up last at each place of guesses.
     guesses: Vec<usize>,
+    /// For each character that is a sign and was met, the kind and the number of that sign.
+    signs: Vec<Option<(u32, usize)>>,
 }
 
 impl<'a> Spellings<'a> {
     /// The words of a grammar, with room for the names of so many tokens.
     fn new(alloc: Global, words: &'a [Characters], tokens: usize) -> Result<Self, AllocError>
-        ensures { IfOk result (λ s. NumbersWords (spellings words.now) (known_texts s) s.words.items) }
+        ensures words { IfOk result (λ s. NumbersWords (spellings words.now) (known_texts s) s.words.items) }
+        ensures signs { IfOk result (λ s. AreSigns (spellings words.now) (known_texts s) s.signs.items) }
     {
         // Most texts have more than eight tokens for each name.
         let mut known = IndexSet::with_capacity(alloc, words.len() + tokens / 8)?;
@@ -223,10 +214,12 @@ impl<'a> Spellings<'a> {
             }
         }
         let guesses = vec![in alloc; 0usize; GUESSES]?;
+        let signs = vec![in alloc; None; SIGNS]?;
         Ok(Spellings {
             known,
             words: numbers,
             guesses,
+            signs,
         })
     }
 
@@ -241,6 +234,7 @@ impl<'a> Spellings<'a> {
     fn note(&mut self, place: usize, name: usize)
         ensures known { self.new.known ≡ self.old.known }
         ensures words { self.new.words ≡ self.old.words }
+        ensures signs { self.new.signs ≡ self.old.signs }
     {
         if place < self.guesses.len() {
             self.guesses[place] = name;
@@ -251,6 +245,7 @@ impl<'a> Spellings<'a> {
     fn number(&mut self, text: Text<'a>) -> Result<usize, AllocError>
         ensures known { OnOk result (known_texts self.new ≡ with_word (known_texts self.old) (codes_of text.entry)) }
         ensures words { self.new.words ≡ self.old.words }
+        ensures signs { self.new.signs ≡ self.old.signs }
         ensures name { IfOk result (λ name. name ≡ number_of (known_texts self.old) (codes_of text.entry)) }
     {
         let place = guess_place(text);
@@ -260,6 +255,38 @@ impl<'a> Spellings<'a> {
         let (name, _) = name_of(&mut self.known, text)?;
         self.note(place, name);
         Ok(name)
+    }
+
+    /// The kind and the number of the sign that is the token here, if it was met before.
+    fn sign(&self, chars: Text, at: usize) -> Option<(u32, usize)>
+        requires begins { at < length (codes_of chars) }
+        requires signs { AreAllSigns self.now.signs.items }
+        ensures { IfSome result (λ r. IsSignAt (codes_of chars.entry) at
+            × (slice_get self.now.signs.items (slice_index (codes_of chars.entry) at) ≡ Some (Some r))) }
+    {
+        let sign = chars.at(at);
+        let Some(Some(found)) = self.signs.get(sign as usize) else {
+            return None;
+        };
+        // The longer token is `<in-memory>`.
+        if sign == '<' && chars.at(at + 1) == 'i' {
+            None
+        } else {
+            Some(*found)
+        }
+    }
+
+    /// Keeps the kind and the number of a token, if it is a sign.
+    fn keep(&mut self, token: TokenKind, kind: u32, name: usize)
+        ensures known { known_texts self.new ≡ known_texts self.old }
+        ensures words { self.new.words ≡ self.old.words }
+        ensures signs { self.new.signs.items ≡ signs_with self.old.signs.items token (kind, name) }
+    {
+        if let TokenKind::Sign(sign) = token {
+            if (sign as usize) < self.signs.len() {
+                self.signs[sign as usize] = Some((kind, name));
+            }
+        }
     }
 
     /// The kind of a token and the number of its text, which is 0 for one that is no word and no name.
@@ -272,6 +299,7 @@ impl<'a> Spellings<'a> {
         requires { NumbersWords (spellings words.now) (known_texts self.old) self.old.words.items }
         ensures known { OnOk result (known_texts self.new ≡ known_with (known_texts self.old) (codes_of chars.entry) token) }
         ensures words { self.new.words ≡ self.old.words }
+        ensures signs { self.new.signs ≡ self.old.signs }
         ensures kind { IfOk result (λ r. r.0 ≡ kind_of (spellings words.now) (codes_of chars.entry) token) }
         ensures name { IfOk result (λ r. r.1 ≡ name_number (known_texts self.old) 0 (codes_of chars.entry) token) }
     {
@@ -307,8 +335,14 @@ pub fn classify(alloc: Global, words: &[Characters], chars: Text) -> Result<Clas
             at += 1;
             continue;
         }
+        if let Some((kind, name)) = spellings.sign(chars, at) {
+            classified.add(at, kind, name)?;
+            at += 1;
+            continue;
+        }
         let token = token_at(chars, at);
         let (kind, name) = spellings.token(words, chars, token)?;
+        spellings.keep(token.kind, kind, name);
         classified.add(at, kind, name)?;
         if let TokenKind::Bad = token.kind {
             return classified.ended(token.end);
