@@ -1,5 +1,5 @@
-//! The kind of each token, and which tokens are spelled alike.
-ghost use Rattle.std.specs.Prelude.{◌≡◌, ◌<◌, ◌++◌, ◌∷◌, [], List, drop, OnOk, IfOk, IfSome, Some, length, map, ◌==◌, slice_get, slice_index, slice_index_or};
+//! The tokens of a text: where each begins, its kind, and which are spelled alike.
+ghost use Rattle.std.specs.Prelude.{◌≡◌, ◌<◌, ◌^◌, ◌++◌, ◌∷◌, [], List, drop, OnOk, IfOk, IfSome, Some, length, map, ◌==◌, slice_get, slice_index, slice_index_or};
 ghost use Rattle.ir_tokens.specs.declared.tokens.Token.{Token};
 ghost use Rattle.std.specs.Str.{chars};
 ghost use Rattle.ir_characters.specs.Texts.{codes_of};
@@ -115,7 +115,7 @@ fn shape_of(kind: TokenKind, text: Text) -> u32
 }
 
 /// The characters of a token of the text.
-pub fn text_of<'a>(chars: Text<'a>, token: Token) -> Text<'a>
+fn text_of<'a>(chars: Text<'a>, token: Token) -> Text<'a>
     ensures { codes_of result ≡ text_of (codes_of chars.entry) token }
 {
     if token.start <= token.end && token.end <= chars.len() {
@@ -159,19 +159,23 @@ fn name_of<'a>(known: &mut IndexSet<Text<'a>>, text: Text<'a>) -> Result<(usize,
 const SIGNS: usize = 128;
 
 /// How many guesses there are.
-const GUESSES: usize = 256;
+const GUESSES: usize = 1 << 14;
 
-/// The place of the guess at the number of a text. Texts that come often mostly have places of their own.
-fn guess_place(text: Text) -> usize
-    ensures { result < 256 }
+/// The code of the character so many places before a text's end, or of the first one of a shorter text.
+fn code_before_end(text: Text, back: usize) -> usize
+    ensures { result < 2 ^ 21 }
 {
-    let length = text.len();
-    if length == 0 {
-        return 0;
-    }
-    let first = text.at(0) as usize;
-    let last = text.at(length - 1) as usize;
-    (3 * first + 5 * last + length % GUESSES) % GUESSES
+    text.at(text.len().saturating_sub(back)) as usize
+}
+
+/// The place of the guess at the number of a text. Names that end in numbers, as most do, have places of their own where
+/// these differ in their last four digits.
+fn guess_place(text: Text) -> usize {
+    let code = 1000 * code_before_end(text, 4)
+        + 100 * code_before_end(text, 3)
+        + 10 * code_before_end(text, 2)
+        + code_before_end(text, 1);
+    code % GUESSES
 }
 
 /// The number of a text that is known, where the guess at a place is right.

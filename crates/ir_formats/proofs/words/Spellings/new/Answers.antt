@@ -1,4 +1,4 @@
-use Rattle.std.proofs.Common.{◌≡◌, None, replicate, arith, rules}
+use Rattle.std.proofs.Common.{◌≡◌, None, Some, replicate, arith, rules}
 use Rattle.ir_formats.proofs.Spelled.{begun_more, begun_all}
 use Rattle.ir_formats.proofs.Signs.{none_kept}
 use Rattle.ir_formats.proofs.words.Spellings.new.Goals as goal
@@ -12,5 +12,5 @@ returns-clause-words c = begun_all _ _ _ _ (omega arith) c.loop-number.invariant
 
 pub returns-clause-signs : goal.returns-clause-signs
 returns-clause-signs c =
-    let none : c.in_ok-signs.signs.items ≡ replicate 128 None = c.in_ok-signs.ensures.items_if_clones_equal (λ y h. search rules) in
+    let none : c.in_ok-signs.signs.items ≡ replicate 128 None = c.in_ok-signs.ensures.items_if_clones_equal (elim [ None ↦ λ h i. None | Some x ↦ λ h. absurd h ]) in
     rw none (none_kept _ _ 128)
