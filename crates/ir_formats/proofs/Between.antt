@@ -25,11 +25,11 @@ name_visible : (c : ℕ) → is_name_char c ≡ true → is_whitespace c ≡ fal
 name_visible c named = grind (arith, nat_tests)
 
 -- a digit is no white space
-digit_visible : (c : ℕ) → is_digit c ≡ true → is_whitespace c ≡ false
+pub digit_visible : (c : ℕ) → is_digit c ≡ true → is_whitespace c ≡ false
 digit_visible c digit = grind (arith, nat_tests)
 
 -- a sign is no white space
-sign_visible : (c : ℕ) → is_sign c ≡ true → is_whitespace c ≡ false
+pub sign_visible : (c : ℕ) → is_sign c ≡ true → is_whitespace c ≡ false
 sign_visible c sign = grind (arith, nat_tests)
 
 -- characters none of which is white space end in no white space

@@ -82,7 +82,11 @@ impl<D: TextDialect> Assembler<D> {
                 keep(spares, content);
                 made
             }
-            Body::Operands(tokens) => self.end_operands(first, tokens),
+            Body::Operands(tokens) => {
+                let made = self.end_operands(first, tokens);
+                keep(spares, content);
+                made
+            }
             Body::Region(blocks) => self.end_region(first, blocks),
             Body::Block(open) => self.end_block(open),
         }

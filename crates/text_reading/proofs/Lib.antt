@@ -1,5 +1,5 @@
 pub mod Judged
+pub mod Places
 pub mod Renamed
 pub mod TextFaults
-pub mod Told
 pub mod Understood

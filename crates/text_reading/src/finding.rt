@@ -94,18 +94,24 @@ fn fault_of(
     first_of(early, late)
 }
 
-/// A fault as users see it, with its line and column.
-fn told(source: Source, fault: Fault) -> TextFault
-    ensures place { (ts : List Token) → source.entry.starts.now ≡ starts_of (codes_of source.entry.chars) ts
-        → ReadsAs (codes_of source.entry.chars) 0 ts
-        → result ≡ tell fault.kind (place_of (codes_of source.entry.chars) ts fault.place) }
-    ensures full { result ≢ CounterFull }
+/// The line and the column of a token, or behind the last character where there is no token with this number.
+fn place_of(source: Source, token: usize) -> (usize, usize)
+    ensures { (ts : List Token) → source.entry.starts.now ≡ starts_of (codes_of source.entry.chars) ts
+        → ReadsAs (codes_of source.entry.chars) 0 ts → result ≡ place_of (codes_of source.entry.chars) ts token }
 {
-    let (line, column) = match source.starts.get(fault.place..) {
+    match source.starts.get(token..) {
         Some([start, _, ..]) => place_after(source.front(*start)),
         _ => place_after(source.chars),
-    };
-    match fault.kind {
+    }
+}
+
+/// A fault of this kind as users see it, at its line and column.
+fn told(kind: FaultKind, place: (usize, usize)) -> TextFault
+    ensures told { result ≡ tell kind place }
+    ensures full { result ≢ CounterFull }
+{
+    let (line, column) = place;
+    match kind {
         FaultKind::TooDeep => TextFault::TooDeep(line, column),
         FaultKind::MultipleDefinitions => {
             TextFault::Scope(line, column, ScopeCause::MultipleDefinitions)
@@ -141,7 +147,7 @@ pub fn verdict(
     let values = value_fault(assembled)?;
     let scopes = scope_fault(resolved)?;
     match fault_of(reading, source.tokens(), values, scopes) {
-        Some(fault) => Err(told(source, fault)),
+        Some(fault) => Err(told(fault.kind, place_of(source, fault.place))),
         None => Ok(()),
     }
 }

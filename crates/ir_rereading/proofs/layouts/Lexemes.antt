@@ -17,6 +17,7 @@ use Rattle.ir_formats.specs.Words as words
 use Rattle.ir_rereading.proofs.layouts.Marks.{sort_of, has_dot, behind_minus}
 use Rattle.ir_tokens.proofs.TokenLongest.{name_longest, dotted_longest, digits_longest, negative_longest, arrow_longest, sign_longest}
 use Rattle.ir_tokens.proofs.TokenSteps.{gap_more, token_more, spells_after}
+use Rattle.ir_formats.proofs.Between.{digit_visible, sign_visible}
 use Rattle.ir_formats.proofs.Booleans.{both_hold}
 
 -- ---- tests
@@ -251,12 +252,6 @@ name_in whole i c w cs r h j e =
 
 letter_visible : (c : ℕ) → is_letter c ≡ true → is_whitespace c ≡ false
 letter_visible c h = grind (arith, nat_tests)
-
-digit_visible : (c : ℕ) → is_digit c ≡ true → is_whitespace c ≡ false
-digit_visible c h = grind (arith, nat_tests)
-
-sign_visible : (c : ℕ) → is_sign c ≡ true → is_whitespace c ≡ false
-sign_visible c h = grind (arith, nat_tests)
 
 front_from : (xs cs : List ℕ) → list_all (λ x. not (x == 0)) xs ≡ true → ((n : ℕ) → n < length xs → slice_index cs n ≡ slice_index xs n) → has_front xs cs ≡ true
 front_from [] cs z h = refl

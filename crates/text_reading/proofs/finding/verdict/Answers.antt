@@ -1,12 +1,12 @@
-use Rattle.std.proofs.Common.{◌⊎◌, ◌∙◌, sym, subst}
+use Rattle.std.proofs.Common.{◌⊎◌, ◌∙◌, ap, sym, subst}
 use Rattle.std.proofs.lemmas.Result.{err_from_is_err_and}
 use Rattle.ir_characters.specs.Texts.{codes_of}
 use Rattle.ir_tokens.specs.Faults.{IsNamed}
-use Rattle.ir_rereading.specs.Texts.{HasFault}
+use Rattle.ir_rereading.specs.Texts.{HasFault, tell}
 use Rattle.ir_formats.specs.Words.{token_text}
 use Rattle.ir_forest.specs.ValueFaults.{HasNumberFault, HasNamesFault}
 use Rattle.text_reading.proofs.TextFaults.{refusal}
-use Rattle.text_reading.proofs.Told.{token_count}
+use Rattle.text_reading.proofs.Places.{token_count}
 use Rattle.text_reading.proofs.finding.verdict.Goals as goal
 
 pub returns-in_err-values-clause-fault : goal.returns-in_err-values-clause-fault
@@ -24,7 +24,7 @@ returns-in-Some-clause-fault c = λ l ts names starts judged.
     let scopes = c.in_ok-scopes.ensures.found l.isolated names es judged.names_found in
     let count = token_count cs ts c.args.source.starts.now starts judged.reading.tokens in
     let named = c.fault_of.ensures.first l cs ts names (count ∙ sym c.tokens.ensures) values scopes in
-    refusal l cs c.told.result (ts, names, r.stop, r.taken, es, c.in-Some.fault, judged.reading, subst (IsNamed (HasFault l cs ts names r.stop r.taken es)) c.in-Some.is named, c.told.ensures.place ts starts judged.reading.tokens)
+    refusal l cs c.told.result (ts, names, r.stop, r.taken, es, c.in-Some.fault, judged.reading, subst (IsNamed (HasFault l cs ts names r.stop r.taken es)) c.in-Some.is named, c.told.ensures.told ∙ ap (tell c.in-Some.fault.kind) (c.place_of.ensures ts starts judged.reading.tokens))
 
 pub returns-in-None-clause-none : goal.returns-in-None-clause-none
 returns-in-None-clause-none c = λ l ts names starts judged.

@@ -64,9 +64,9 @@ returns-in-Operation-clause-refused g c text o at next ts e f wrong =
 pub returns-in-Operands-clause-ended : goal.returns-in-Operands-clause-ended
 returns-in-Operands-clause-ended g c text o at next ts e =
     let outer = outer_of_operands _ _ _ _ _ _ _ _ _ _ e c.in-Operands.tokens c.in-Operands.is in
-    on_ok_weaker c.end_operands.result
+    on_ok_weaker c.end_operands-made.result
     (λ w. ended_operands _ _ _ _ _ (λ i key h. h) _ _ _ _ _ _ _ _ e outer.0 w.0 c.in-Operands.tokens c.in-Operands.is outer.1 w.1 w.2)
-    (c.end_operands.ensures.here outer.0 outer.1)
+    (c.end_operands-made.ensures.here outer.0 outer.1)
 
 pub returns-in-Region-clause-ended : goal.returns-in-Region-clause-ended
 returns-in-Region-clause-ended g c text o at next ts e =
@@ -152,9 +152,9 @@ returns-in-Item-clause-raised g c whole text p next w at goes =
 pub returns-in-Operands-clause-raised : goal.returns-in-Operands-clause-raised
 returns-in-Operands-clause-raised g c whole text p next w at goes =
     let outer = operation_around _ _ text _ _ _ whole c.args.ended c.args.self.now.here c.args.self.now.around.items _ _ w.here w.around _ _ next at.holds at.made goes.out c.in-Operands.tokens c.in-Operands.is in
-    operands_raised _ _ text _ _ _ _ whole c.end_operands.new.self c.args.ended c.args.self.now.here c.args.self.now.around.items _ _ w.here w.around
-    (ap (λ v. v.items) c.end_operands.ensures.around.around) (nothing_made _) (c.end_operands.ensures.assembly ∙ sym w.made) _ _ next _ c.end_operands.result at.holds at.made goes.out
-    _ c.in-Operands.tokens outer.0 c.in-Operands.is outer.1 (c.end_operands.ensures.here outer.0 outer.1)
+    operands_raised _ _ text _ _ _ _ whole c.end_operands-made.new.self c.args.ended c.args.self.now.here c.args.self.now.around.items _ _ w.here w.around
+    (ap (λ v. v.items) c.end_operands-made.ensures.around.around) (nothing_made _) (c.end_operands-made.ensures.assembly ∙ sym w.made) _ _ next _ c.end_operands-made.result at.holds at.made goes.out
+    _ c.in-Operands.tokens outer.0 c.in-Operands.is outer.1 (c.end_operands-made.ensures.here outer.0 outer.1)
 
 pub returns-in-Type-clause-undone : goal.returns-in-Type-clause-undone
 returns-in-Type-clause-undone g c = on_err_any _ (undone_so _ _ _ _ (interned_same c.args.ctx.now c.end_type-made.new.ctx c.end_type-made.ensures.program c.end_type-made.ensures.types)

@@ -1,24 +1,11 @@
 -- Where a fault is told: at its token, or behind the last character.
-use Rattle.std.proofs.Common.{◌≡◌, ◌≢◌, ℕ, ◌+◌, ◌-◌, ◌<◌, ◌≤◌, List, length, take, drop, None, slice_get, slice_index, slice_range, le_refl, refl, sym, ap, ◌∙◌, arith, add-zero, get_or-drop}
+use Rattle.std.proofs.Common.{◌≡◌, ℕ, ◌+◌, ◌-◌, ◌<◌, ◌≤◌, List, length, take, drop, None, slice_get, slice_index, slice_range, le_refl, refl, sym, ap, ◌∙◌, arith, add-zero, get_or-drop}
 use Rattle.std.proofs.lemmas.Option.{slice_get_past}
 use Rattle.std.proofs.lemmas.Slice.{between_to_end}
 use Rattle.ir_tokens.specs.declared.tokens.Token.{Token}
-use Rattle.ir_tokens.specs.declared.faults.FaultKind.{FaultKind}
-use Rattle.ir_tokens.specs.declared.faults.FaultKind.TheVariants as kinds
-use Rattle.ir_tokens.specs.declared.faults.TextFault.TheVariants as told
 use Rattle.ir_tokens.specs.Tokens.{ReadsAs, place, starts_of}
 use Rattle.ir_formats.proofs.Between.{many_starts, start_at}
-use Rattle.ir_rereading.specs.Texts.{place_of, tell}
-
--- a fault of none of these kinds is told as one of syntax
-pub told_syntax : (kind : FaultKind) (at : ℕ × ℕ) → kind ≢ kinds.TooDeep → kind ≢ kinds.MultipleDefinitions → kind ≢ kinds.UnresolvedReference
-    → told.Syntax at.0 at.1 ≡ tell kind at
-told_syntax kinds.Syntax at deep twice never = refl
-told_syntax kinds.Number at deep twice never = refl
-told_syntax kinds.ResultNames at deep twice never = refl
-told_syntax kinds.TooDeep at deep twice never = absurd (deep refl)
-told_syntax kinds.MultipleDefinitions at deep twice never = absurd (twice refl)
-told_syntax kinds.UnresolvedReference at deep twice never = absurd (never refl)
+use Rattle.ir_rereading.specs.Texts.{place_of}
 
 module _ (cs : List ℕ) (ts : List Token) (starts : List ℕ) (are : starts ≡ starts_of cs ts) (reads : ReadsAs cs 0 ts) where
   -- there is one place more than there are tokens
