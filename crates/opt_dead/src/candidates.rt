@@ -25,7 +25,7 @@ fn operands_of<D: OptDialect>(
     ensures operands { IfOk result (λ operands. AreOperandsOf D.meaning program.now (numbers_of inside.now) op operands.items) }
 {
     let targets = targets_of::<D>(alloc, program, inside, op)?;
-    let mut operands = Vec::new(alloc);
+    let mut operands = Vec::with_capacity(alloc, targets.len())?;
     for (index, target) in targets.iter().enumerate() {
         operands.push(Operand {
             definer: definer_of(inside, program.operand(op, index)),
@@ -64,7 +64,7 @@ pub(crate) fn candidates<D: OptDialect>(
     ensures len { IfOk result (λ rows. length rows.items ≡ length (numbers_of inside.now).operations) }
     ensures rows { IfOk result (λ rows. AreCandidates D.meaning program.now (numbers_of inside.now) rows.items) }
 {
-    let mut rows = Vec::new(alloc);
+    let mut rows = Vec::with_capacity(alloc, inside.operations.len())?;
     for op in inside.operations.as_slice() {
         rows.push(candidate::<D>(alloc, program, inside, *op)?)?;
     }

@@ -78,7 +78,7 @@ fn block_rows<D: OptDialect>(
     ensures len { IfOk result (λ rows. length rows.items ≡ length (numbers_of inside.now).blocks) }
     ensures rows { IfOk result (λ rows. AreBlockRows D.meaning program.now (numbers_of inside.now) rows.items) }
 {
-    let mut rows = Vec::new(alloc);
+    let mut rows = Vec::with_capacity(alloc, inside.blocks.len())?;
     for block in inside.blocks.as_slice() {
         rows.push(block_row::<D>(program, inside, *block))?;
     }
@@ -114,7 +114,7 @@ pub(crate) fn value_rows<D: OptDialect>(
     ensures rows { IfOk result (λ rows. AreValueRows D.meaning program.now (numbers_of inside.now) rows.items) }
 {
     let blocks = block_rows::<D>(alloc, program, inside)?;
-    let mut rows = Vec::new(alloc);
+    let mut rows = Vec::with_capacity(alloc, inside.values.len())?;
     for value in inside.values.as_slice() {
         rows.push(value_row(inside, &blocks, *value))?;
     }

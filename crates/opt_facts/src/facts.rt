@@ -42,7 +42,7 @@ fn first_items<T: Copy>(
     ensures len { IfOk result (λ first. length first.items ≡ count) }
     ensures items { IfOk result (λ first. (i : ℕ) → i < count → slice_get first.items i ≡ Some (unwrap_or (slice_get items.now i) other)) }
 {
-    let mut first = Vec::new(alloc);
+    let mut first = Vec::with_capacity(alloc, count)?;
     for i in 0..count {
         first.push(item_or(items, i, other))?;
     }

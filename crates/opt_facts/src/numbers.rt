@@ -40,7 +40,7 @@ pub(crate) fn operand_numbers<O, B>(
     requires { IsSome (operation_at program.now op) }
     ensures { IfOk result (λ row. row.items ≡ map (value_number (numbers_of inside.now)) (operands_at program.now op)) }
 {
-    let mut row = Vec::new(alloc);
+    let mut row = Vec::with_capacity(alloc, program.operand_count(op))?;
     for i in 0..program.operand_count(op) {
         row.push(number_of_value(inside, program.operand(op, i)))?;
     }
@@ -57,7 +57,7 @@ pub(crate) fn result_numbers<O, B>(
     requires { IsSome (operation_at program.now op) }
     ensures { IfOk result (λ row. row.items ≡ map (value_number (numbers_of inside.now)) (values_of (results_at program.now op))) }
 {
-    let mut row = Vec::new(alloc);
+    let mut row = Vec::with_capacity(alloc, program.result_count(op))?;
     for i in 0..program.result_count(op) {
         row.push(number_of_value(inside, program.result(op, i)))?;
     }
@@ -74,7 +74,7 @@ pub(crate) fn argument_numbers<O, B>(
     requires { IsSome (block_at program.now block) }
     ensures { IfOk result (λ row. row.items ≡ map (value_number (numbers_of inside.now)) (values_of (arguments_at program.now block))) }
 {
-    let mut row = Vec::new(alloc);
+    let mut row = Vec::with_capacity(alloc, program.argument_count(block))?;
     for i in 0..program.argument_count(block) {
         row.push(number_of_value(inside, program.argument(block, i)))?;
     }

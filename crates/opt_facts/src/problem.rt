@@ -23,7 +23,7 @@ fn rows_of<D: OptDialect>(
     requires { (p : _) → Lists inside.now.operations.keys p → IsLinkedOperation program.now p }
     ensures { IfOk result (λ rows. AreRows D.meaning program.now (numbers_of inside.now) inside.now.operations.keys rows.items) }
 {
-    let mut rows = Vec::new(alloc);
+    let mut rows = Vec::with_capacity(alloc, inside.operations.len())?;
     for op in inside.operations.as_slice() {
         rows.push(row_of::<D>(alloc, program, inside, *op)?)?;
     }

@@ -14,7 +14,7 @@ use std::alloc::{AllocError, Global};
 fn empty_rows(alloc: Global, count: usize) -> Result<Vec<Vec<usize>>, AllocError>
     ensures { IfOk result (λ rows. IsEmptyRows rows.items count) }
 {
-    let mut rows = Vec::new(alloc);
+    let mut rows = Vec::with_capacity(alloc, count)?;
     for _row in 0..count {
         rows.push(Vec::new(alloc))?;
     }

@@ -33,7 +33,7 @@ pub struct Solution<K> {
 fn unseen<K: Copy>(alloc: Global, rows: &[Row]) -> Result<Vec<Seen<K>>, AllocError>
     ensures { IfOk result (λ seen. AreUnseen rows.now seen.items) }
 {
-    let mut seen = Vec::new(alloc);
+    let mut seen = Vec::with_capacity(alloc, rows.len())?;
     for row in rows {
         seen.push(Seen::new(alloc, row.operands.len())?)?;
     }
@@ -44,7 +44,7 @@ fn unseen<K: Copy>(alloc: Global, rows: &[Row]) -> Result<Vec<Seen<K>>, AllocErr
 fn untaken(alloc: Global, rows: &[Row]) -> Result<Vec<Vec<bool>>, AllocError>
     ensures { IfOk result (λ taken. AreUntaken rows.now taken.items) }
 {
-    let mut taken = Vec::new(alloc);
+    let mut taken = Vec::with_capacity(alloc, rows.len())?;
     for row in rows {
         taken.push(vec![in alloc; false; row.edges.len()]?)?;
     }

@@ -41,7 +41,7 @@ pub struct Tables {
 fn empty_table<T: Drop>(alloc: Global, count: usize) -> Result<Vec<Vec<T>>, AllocError>
     ensures { IfOk result (λ table. Lists (λ n x. ⊥) table.items count) }
 {
-    let mut table = Vec::new(alloc);
+    let mut table = Vec::with_capacity(alloc, count)?;
     for _row in 0..count {
         table.push(Vec::new(alloc))?;
     }
