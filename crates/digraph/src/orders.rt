@@ -51,7 +51,8 @@ fn visit_root(
     requires search { IsSearch graph.now search.old }
     requires idle { search.old.path.items ≡ [] }
     requires root { root < length graph.now }
-    ensures visited { OnOk result (AddsComponent (successors graph.now) (orders search.old) (orders search.new) (rows_of parts.old.items) (rows_of parts.new.items) root) }
+    ensures visited { OnOk result (AddsComponent (successors graph.now) (orders search.old) (orders search.new)
+        (rows_of parts.old.items) (rows_of parts.new.items) root) }
     ensures search { OnOk result (IsSearch graph.now search.new) }
     ensures idle { OnOk result (search.new.path.items ≡ []) }
 {

@@ -47,7 +47,11 @@ pub trait ArgumentCalls {
     ) -> Result<Value, GrowError>
         requires block { IsSome (block_at ctx.old.program (block self)) }
         requires known { IsKnownIn (T.type_count ctx.old.types) ty }
-        ensures value { IfOk result (λ v. v ≡ record { definer = Block (block self); number = ctx.old.program.counter }) }
+        ensures value { IfOk result (λ v. v ≡ record {
+          definer = Block
+              (block self);
+          number = ctx.old.program.counter;
+        }) }
         ensures defined { IfOk result (λ v. DefinesValue ctx.old.program ctx.new.program v ty) }
         ensures counter { OnOk result (ctx.new.program.counter ≡ ctx.old.program.counter + 1) }
         ensures pushed { IfOk result (λ v. PushesArgument ctx.old.program ctx.new.program (block self) v ty) }
@@ -71,7 +75,11 @@ pub trait ArgumentCalls {
         requires block { IsSome (block_at ctx.old.program (block self)) }
         requires within { i ≤ argument_count ctx.old.program (block self) }
         requires known { IsKnownIn (T.type_count ctx.old.types) ty }
-        ensures value { IfOk result (λ v. v ≡ record { definer = Block (block self); number = ctx.old.program.counter }) }
+        ensures value { IfOk result (λ v. v ≡ record {
+          definer = Block
+              (block self);
+          number = ctx.old.program.counter;
+        }) }
         ensures defined { IfOk result (λ v. DefinesValue ctx.old.program ctx.new.program v ty) }
         ensures counter { OnOk result (ctx.new.program.counter ≡ ctx.old.program.counter + 1) }
         ensures inserted { IfOk result (λ v. InsertsArgument ctx.old.program ctx.new.program (block self) i v ty) }
@@ -84,8 +92,11 @@ pub trait ArgumentCalls {
     /// memory is asked for.
     fn pop_argument<O, B, T: TypeTable>(self, ctx: &mut TypedProgram<O, B, T>) -> Option<Value>
         requires block { IsSome (block_at ctx.old.program (block self)) }
-        requires unused { (v : Value) → value_in (arguments_at ctx.old.program (block self)) (argument_count ctx.old.program (block self) - 1) ≡ Some v → IsUsed ctx.old.program v → ⊥ }
-        ensures value { result ≡ value_in (arguments_at ctx.old.program (block self)) (argument_count ctx.old.program (block self) - 1) }
+        requires unused { (v : Value)
+            → value_in (arguments_at ctx.old.program (block self)) (argument_count ctx.old.program (block self) - 1)
+            ≡ Some v → IsUsed ctx.old.program v → ⊥ }
+        ensures value { result ≡ value_in (arguments_at ctx.old.program (block self))
+            (argument_count ctx.old.program (block self) - 1) }
         ensures popped { OnSome result (PopsArgument ctx.old.program ctx.new.program (block self)) }
         ensures forgotten { IfSome result (λ v. ForgetsValue ctx.old.program ctx.new.program v) }
         ensures none { IfNone result (ctx.new.program ≡ ctx.old.program) }
@@ -97,7 +108,8 @@ pub trait ArgumentCalls {
     fn remove_argument<O, B, T: TypeTable>(self, ctx: &mut TypedProgram<O, B, T>, i: usize) -> Value
         requires block { IsSome (block_at ctx.old.program (block self)) }
         requires within { i < argument_count ctx.old.program (block self) }
-        requires unused { (v : Value) → value_in (arguments_at ctx.old.program (block self)) i ≡ Some v → IsUsed ctx.old.program v → ⊥ }
+        requires unused { (v : Value) → value_in (arguments_at ctx.old.program (block self)) i ≡ Some v
+            → IsUsed ctx.old.program v → ⊥ }
         ensures value { value_in (arguments_at ctx.old.program (block self)) i ≡ Some result }
         ensures removed { RemovesArgument ctx.old.program ctx.new.program (block self) i }
         ensures forgotten { ForgetsValue ctx.old.program ctx.new.program result }

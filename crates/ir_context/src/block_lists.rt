@@ -26,21 +26,28 @@ pub trait BlockLists {
     /// The region that the block stands in, in whose list it is.
     fn get_container<O, B, T: TypeTable>(self, ctx: &TypedProgram<O, B, T>) -> Option<Ptr<Region>>
         requires { IsSome (block_at ctx.now.program (block self)) }
-        ensures container { MatchOption result (IsUnlinkedBlock ctx.now.program (block self)) (λ container. StandsInRegion ctx.now.program (block self) container) }
-        ensures only { (container : Ptr Region) → StandsInRegion ctx.now.program (block self) container → result ≡ Some container };
+        ensures container { MatchOption result (IsUnlinkedBlock ctx.now.program (block self))
+            (λ container. StandsInRegion ctx.now.program (block self) container) }
+        ensures only { (container : Ptr Region) → StandsInRegion ctx.now.program (block self) container
+            → result ≡ Some container };
 
     /// The block that stands right after this one in its region.
     fn get_next<O, B, T: TypeTable>(self, ctx: &TypedProgram<O, B, T>) -> Option<Ptr<BasicBlock>>
         requires { IsSome (block_at ctx.now.program (block self)) }
-        ensures next { (region : Ptr Region) (k : ℕ) → slice_get (blocks_in ctx.now.program region) k ≡ Some (block self) → result ≡ slice_get (blocks_in ctx.now.program region) (k + 1) }
+        ensures next { (region : Ptr Region) (k : ℕ)
+            → slice_get (blocks_in ctx.now.program region) k ≡ Some (block self)
+            → result ≡ slice_get (blocks_in ctx.now.program region) (k + 1) }
         ensures unlinked { IsUnlinkedBlock ctx.now.program (block self) → result ≡ None }
         ensures live { IfSome result (λ next. IsSome (block_at ctx.now.program next)) };
 
     /// The block that stands right before this one in its region.
     fn get_prev<O, B, T: TypeTable>(self, ctx: &TypedProgram<O, B, T>) -> Option<Ptr<BasicBlock>>
         requires { IsSome (block_at ctx.now.program (block self)) }
-        ensures previous { (region : Ptr Region) (k : ℕ) → slice_get (blocks_in ctx.now.program region) (k + 1) ≡ Some (block self) → result ≡ slice_get (blocks_in ctx.now.program region) k }
-        ensures first { (region : Ptr Region) → slice_get (blocks_in ctx.now.program region) 0 ≡ Some (block self) → result ≡ None }
+        ensures previous { (region : Ptr Region) (k : ℕ)
+            → slice_get (blocks_in ctx.now.program region) (k + 1) ≡ Some (block self)
+            → result ≡ slice_get (blocks_in ctx.now.program region) k }
+        ensures first { (region : Ptr Region) → slice_get (blocks_in ctx.now.program region) 0 ≡ Some (block self)
+            → result ≡ None }
         ensures unlinked { IsUnlinkedBlock ctx.now.program (block self) → result ≡ None }
         ensures live { IfSome result (λ previous. IsSome (block_at ctx.now.program previous)) };
 
@@ -106,7 +113,8 @@ pub trait BlockLists {
         ensures edited { TakesOutBlock ctx.old.program ctx.new.program (block self) }
         ensures unlinked { IsUnlinkedBlock ctx.new.program (block self) }
         // Nothing stands inside what it did not stand in.
-        ensures inside { (outer inner : IRNode) → StandsInside ctx.new.program outer inner → StandsInside ctx.old.program outer inner }
+        ensures inside { (outer inner : IRNode) → StandsInside ctx.new.program outer inner
+            → StandsInside ctx.old.program outer inner }
         ensures values { KeepsValues ctx.old.program ctx.new.program }
         ensures types { ctx.new.types ≡ ctx.old.types };
 }

@@ -31,8 +31,10 @@ pub trait BlockCalls {
         ctx: &TypedProgram<O, B, T>,
     ) -> Option<Ptr<Region>>
         requires { IsSome (block_at ctx.now.program (block self)) }
-        ensures parent { MatchOption result (IsUnlinkedBlock ctx.now.program (block self)) (λ region. StandsInRegion ctx.now.program (block self) region) }
-        ensures only { (region : Ptr Region) → StandsInRegion ctx.now.program (block self) region → result ≡ Some region };
+        ensures parent { MatchOption result (IsUnlinkedBlock ctx.now.program (block self))
+            (λ region. StandsInRegion ctx.now.program (block self) region) }
+        ensures only { (region : Ptr Region) → StandsInRegion ctx.now.program (block self) region
+            → result ≡ Some region };
 
     /// The operation that its region stands in.
     fn get_parent_op<O, B, T: TypeTable>(
@@ -50,7 +52,8 @@ pub trait BlockCalls {
     ) -> Option<Ptr<BasicBlock>>
         requires { IsSome (block_at ctx.now.program (block self)) }
         ensures found { IfSome result (λ parent. HasParentBlock ctx.now.program (block self) parent) }
-        ensures only { (parent : Ptr BasicBlock) → HasParentBlock ctx.now.program (block self) parent → result ≡ Some parent };
+        ensures only { (parent : Ptr BasicBlock) → HasParentBlock ctx.now.program (block self) parent
+            → result ≡ Some parent };
 
     /// Its attributes, its location and its label.
     fn deref<D: DialectTables>(self, ctx: &Context<D>) -> &BlockNotes<D>

@@ -21,7 +21,9 @@ pub trait OperationChanges {
     /// Says where the operation comes from.
     fn set_loc<D: DialectTables>(self, ctx: &mut Context<D>, loc: D::Location)
         requires { IsSome (operation_at ctx.old.program (op self)) }
-        ensures edited { (n : _) → notes_at ctx.old.program (op self) ≡ Some n → EditsOperation ctx.old.program ctx.new.program (op self) (λ o. record o { payload = record o.payload { notes = record n { loc = loc } } }) }
+        ensures edited { (n : _) → notes_at ctx.old.program (op self) ≡ Some n
+            → EditsOperation ctx.old.program ctx.new.program (op self)
+            (λ o. record o { payload = record o.payload { notes = record n { loc = loc } } }) }
         ensures values { KeepsValues ctx.old.program ctx.new.program }
         ensures types { ctx.new.types ≡ ctx.old.types };
 }
@@ -42,14 +44,18 @@ pub trait BlockChanges {
     /// Gives the block a label, or takes its label away.
     fn set_label<D: DialectTables>(self, ctx: &mut Context<D>, label: Option<Identifier>)
         requires { IsSome (block_at ctx.old.program (block self)) }
-        ensures edited { (n : _) → block_payload_at ctx.old.program (block self) ≡ Some n → EditsBlock ctx.old.program ctx.new.program (block self) (λ b. record b { payload = record n { label = label } }) }
+        ensures edited { (n : _) → block_payload_at ctx.old.program (block self) ≡ Some n
+            → EditsBlock ctx.old.program ctx.new.program (block self)
+            (λ b. record b { payload = record n { label = label } }) }
         ensures values { KeepsValues ctx.old.program ctx.new.program }
         ensures types { ctx.new.types ≡ ctx.old.types };
 
     /// Says where the block comes from.
     fn set_loc<D: DialectTables>(self, ctx: &mut Context<D>, loc: D::Location)
         requires { IsSome (block_at ctx.old.program (block self)) }
-        ensures edited { (n : _) → block_payload_at ctx.old.program (block self) ≡ Some n → EditsBlock ctx.old.program ctx.new.program (block self) (λ b. record b { payload = record n { loc = loc } }) }
+        ensures edited { (n : _) → block_payload_at ctx.old.program (block self) ≡ Some n
+            → EditsBlock ctx.old.program ctx.new.program (block self)
+            (λ b. record b { payload = record n { loc = loc } }) }
         ensures values { KeepsValues ctx.old.program ctx.new.program }
         ensures types { ctx.new.types ≡ ctx.old.types };
 }

@@ -26,14 +26,16 @@ pub trait ContainsOperations {
     /// The last of its operations.
     fn get_tail<O, B, T: TypeTable>(self, ctx: &TypedProgram<O, B, T>) -> Option<Ptr<Operation>>
         requires { IsSome (block_at ctx.now.program (block self)) }
-        ensures last { result ≡ slice_get (operations_in ctx.now.program (block self)) (length (operations_in ctx.now.program (block self)) - 1) }
+        ensures last { result ≡ slice_get (operations_in ctx.now.program (block self))
+            (length (operations_in ctx.now.program (block self)) - 1) }
         ensures stands { IfSome result (λ op. StandsInBlock ctx.now.program op (block self)) };
 
     /// Its operations, first to last, to be taken from either end.
     fn iter<O, B, T: TypeTable>(self, ctx: &TypedProgram<O, B, T>) -> Operations<'_, O, B>
         requires { IsSome (block_at ctx.now.program (block self)) }
         ensures list { result ≡ operations_in ctx.now.program (block self) }
-        ensures stand { All (λ op. StandsInBlock ctx.now.program op (block self)) (operations_in ctx.now.program (block self)) };
+        ensures stand { All (λ op. StandsInBlock ctx.now.program op (block self))
+            (operations_in ctx.now.program (block self)) };
 
     /// Whether all operations of `donor` can be moved behind its own: `donor` is another block, and this one is inside none of them.
     fn can_append<O, B, T: TypeTable>(
@@ -54,7 +56,8 @@ pub trait ContainsOperations {
         requires donee { IsSome (block_at ctx.old.program (block self)) }
         requires donor { IsSome (block_at ctx.old.program donor) }
         requires differ { block self ≢ donor }
-        requires apart { (op : Ptr Operation) → StandsInBlock ctx.old.program op donor → StandsInside ctx.old.program (OperationNode op) (BlockNode (block self)) → ⊥ }
+        requires apart { (op : Ptr Operation) → StandsInBlock ctx.old.program op donor
+            → StandsInside ctx.old.program (OperationNode op) (BlockNode (block self)) → ⊥ }
         ensures edited { AppendsBlock ctx.old.program ctx.new.program (block self) donor }
         ensures values { KeepsValues ctx.old.program ctx.new.program }
         ensures types { ctx.new.types ≡ ctx.old.types };
@@ -107,14 +110,16 @@ pub trait ContainsBlocks {
     /// The last of its blocks.
     fn get_tail<O, B, T: TypeTable>(self, ctx: &TypedProgram<O, B, T>) -> Option<Ptr<BasicBlock>>
         requires { IsSome (region_at ctx.now.program (region self)) }
-        ensures last { result ≡ slice_get (blocks_in ctx.now.program (region self)) (length (blocks_in ctx.now.program (region self)) - 1) }
+        ensures last { result ≡ slice_get (blocks_in ctx.now.program (region self))
+            (length (blocks_in ctx.now.program (region self)) - 1) }
         ensures stands { IfSome result (λ block. StandsInRegion ctx.now.program block (region self)) };
 
     /// Its blocks, first to last, to be taken from either end.
     fn iter<O, B, T: TypeTable>(self, ctx: &TypedProgram<O, B, T>) -> Blocks<'_, O, B>
         requires { IsSome (region_at ctx.now.program (region self)) }
         ensures list { result ≡ blocks_in ctx.now.program (region self) }
-        ensures stand { All (λ block. StandsInRegion ctx.now.program block (region self)) (blocks_in ctx.now.program (region self)) };
+        ensures stand { All (λ block. StandsInRegion ctx.now.program block (region self))
+            (blocks_in ctx.now.program (region self)) };
 
     /// Whether all blocks of `donor` can be moved behind its own: `donor` is another region, and this one is inside none of them.
     fn can_append<O, B, T: TypeTable>(self, ctx: &TypedProgram<O, B, T>, donor: Ptr<Region>) -> bool
@@ -131,7 +136,8 @@ pub trait ContainsBlocks {
         requires donee { IsSome (region_at ctx.old.program (region self)) }
         requires donor { IsSome (region_at ctx.old.program donor) }
         requires differ { region self ≢ donor }
-        requires apart { (block : Ptr BasicBlock) → StandsInRegion ctx.old.program block donor → StandsInside ctx.old.program (BlockNode block) (RegionNode (region self)) → ⊥ }
+        requires apart { (block : Ptr BasicBlock) → StandsInRegion ctx.old.program block donor
+            → StandsInside ctx.old.program (BlockNode block) (RegionNode (region self)) → ⊥ }
         ensures edited { AppendsRegion ctx.old.program ctx.new.program (region self) donor }
         ensures values { KeepsValues ctx.old.program ctx.new.program }
         ensures types { ctx.new.types ≡ ctx.old.types };

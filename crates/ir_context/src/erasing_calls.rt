@@ -37,8 +37,10 @@ pub trait OperationErasing {
     fn erase_region<O: Drop, B: Drop, T: TypeTable>(self, ctx: &mut TypedProgram<O, B, T>, i: usize)
         requires operation { IsSome (operation_at ctx.old.program (op self)) }
         requires within { i < length (regions_in ctx.old.program (op self)) }
-        requires apart { (region : Ptr Region) → slice_get (regions_in ctx.old.program (op self)) i ≡ Some region → IsApart ctx.old.program (RegionNode region) }
-        ensures erased { (region : Ptr Region) → slice_get (regions_in ctx.old.program (op self)) i ≡ Some region → ErasesRegion ctx.old.program ctx.new.program region }
+        requires apart { (region : Ptr Region) → slice_get (regions_in ctx.old.program (op self)) i ≡ Some region
+            → IsApart ctx.old.program (RegionNode region) }
+        ensures erased { (region : Ptr Region) → slice_get (regions_in ctx.old.program (op self)) i ≡ Some region
+            → ErasesRegion ctx.old.program ctx.new.program region }
         ensures types { ctx.new.types ≡ ctx.old.types };
 }
 

@@ -21,8 +21,11 @@ impl<O, B, T: TypeTable> TypedProgram<O, B, T> {
         ensures* lends { sem 𝓛 (lends_block_payload O.row B.row T.row T.TypeTable.own self.entry block result) }
         ensures value { block_payload_at self.old.program block ≡ Some result.now }
         // Nothing changes but the payload.
-        ensures edits { (w : _) → EditsBlock self.old.program (with_block_payload self.old.program block w) block (λ b. record b { payload = w }) }
-        ensures values { (w : _) (v : Value) → type_at (with_block_payload self.old.program block w) v ≡ type_at self.old.program v }
+        ensures edits { (w : _)
+            → EditsBlock self.old.program (with_block_payload self.old.program block w) block
+            (λ b. record b { payload = w }) }
+        ensures values { (w : _) (v : Value)
+            → type_at (with_block_payload self.old.program block w) v ≡ type_at self.old.program v }
         ensures counter { (w : _) → (with_block_payload self.old.program block w).counter ≡ self.old.program.counter }
     {
         self.program.block_payload_mut(block)
@@ -34,8 +37,10 @@ impl<O, B, T: TypeTable> TypedProgram<O, B, T> {
         ensures* lends { sem 𝓛 (lends_payload O.row B.row T.row T.TypeTable.own self.entry op result) }
         ensures value { payload_at self.old.program op ≡ Some result.now }
         // Nothing changes but the payload.
-        ensures edits { (w : _) → EditsOperation self.old.program (with_payload self.old.program op w) op (λ o. record o { payload = w }) }
-        ensures values { (w : _) (v : Value) → type_at (with_payload self.old.program op w) v ≡ type_at self.old.program v }
+        ensures edits { (w : _)
+            → EditsOperation self.old.program (with_payload self.old.program op w) op (λ o. record o { payload = w }) }
+        ensures values { (w : _) (v : Value)
+            → type_at (with_payload self.old.program op w) v ≡ type_at self.old.program v }
         ensures counter { (w : _) → (with_payload self.old.program op w).counter ≡ self.old.program.counter }
     {
         self.program.payload_mut(op)
@@ -53,9 +58,13 @@ impl<O, B, T: TypeTable> TypedProgram<O, B, T> {
         ensures refused { IsErr result ↔ (block_at self.old.program block ≡ None) }
         ensures value { IfOk result (λ payload. block_payload_at self.old.program block ≡ Some payload.now) }
         // Nothing changes but the payload.
-        ensures edits { OnOk result ((w : _) → EditsBlock self.old.program (with_block_payload self.old.program block w) block (λ b. record b { payload = w })) }
-        ensures values { OnOk result ((w : _) (v : Value) → type_at (with_block_payload self.old.program block w) v ≡ type_at self.old.program v) }
-        ensures counter { OnOk result ((w : _) → (with_block_payload self.old.program block w).counter ≡ self.old.program.counter) }
+        ensures edits { OnOk result ((w : _)
+            → EditsBlock self.old.program (with_block_payload self.old.program block w) block
+            (λ b. record b { payload = w })) }
+        ensures values { OnOk result ((w : _) (v : Value)
+            → type_at (with_block_payload self.old.program block w) v ≡ type_at self.old.program v) }
+        ensures counter { OnOk result ((w : _)
+            → (with_block_payload self.old.program block w).counter ≡ self.old.program.counter) }
     {
         if self.program.has_block(block) {
             Ok(self.block_payload_mut(block))
@@ -73,9 +82,12 @@ impl<O, B, T: TypeTable> TypedProgram<O, B, T> {
         ensures refused { IsErr result ↔ (operation_at self.old.program op ≡ None) }
         ensures value { IfOk result (λ payload. payload_at self.old.program op ≡ Some payload.now) }
         // Nothing changes but the payload.
-        ensures edits { OnOk result ((w : _) → EditsOperation self.old.program (with_payload self.old.program op w) op (λ o. record o { payload = w })) }
-        ensures values { OnOk result ((w : _) (v : Value) → type_at (with_payload self.old.program op w) v ≡ type_at self.old.program v) }
-        ensures counter { OnOk result ((w : _) → (with_payload self.old.program op w).counter ≡ self.old.program.counter) }
+        ensures edits { OnOk result ((w : _)
+            → EditsOperation self.old.program (with_payload self.old.program op w) op (λ o. record o { payload = w })) }
+        ensures values { OnOk result ((w : _) (v : Value)
+            → type_at (with_payload self.old.program op w) v ≡ type_at self.old.program v) }
+        ensures counter { OnOk result ((w : _)
+            → (with_payload self.old.program op w).counter ≡ self.old.program.counter) }
     {
         if self.program.has_operation(op) {
             Ok(self.payload_mut(op))
@@ -94,7 +106,8 @@ impl<D: DialectTables> TypedProgram<OperationData<D>, BlockNotes<D>, Types<D>> {
         requires { IsKnown self.old.types ty }
 
         // The first three lines name the type of `self`: by the dialect, its types, and what its traits say of them.
-        ensures* lends { sem 𝓛 (lends_type_body D.row D.TypeKind.row D.AttrKind.row D.TypeBody.row D.Saved.row D.Location.row D.OpKind.row D.Attr.row D.TypeKey.row
+        ensures* lends { sem 𝓛
+            (lends_type_body D.row D.TypeKind.row D.AttrKind.row D.TypeBody.row D.Saved.row D.Location.row D.OpKind.row D.Attr.row D.TypeKey.row
             D.DialectTables.own D.OpKind.PartialEq D.OpKind.Hash.own D.OpKind.Debug D.Attr.PartialEq D.Attr.Hash.own D.Attr.Debug D.TypeKey.PartialEq D.TypeKey.Hash.own D.TypeKey.Debug
             D.TypeKind.PartialEq D.TypeKind.Hash.own D.TypeKind.Debug D.AttrKind.PartialEq D.AttrKind.Hash.own D.AttrKind.Debug D.Saved.PartialEq D.Saved.Hash.own D.Location.PartialEq D.Location.Hash.own
             ⟦<Types<D> as TypeTable>⟧ self.entry ty result) }

@@ -32,7 +32,9 @@ impl<O: Drop, B: Drop, T: TypeTable> TypedProgram<O, B, T> {
         requires known { AreKnownIn (T.type_count self.old.types) results.now }
         requires operands { AreLiveValues self.old.program operands.now }
         requires successors { AreLiveBlocks self.old.program successors.now }
-        ensures built { IfOk result (λ p. BuildsOperation self.old.program self.new.program p payload results.now operands.now successors.now regions) }
+        ensures built { IfOk result
+            (λ p. BuildsOperation self.old.program self.new.program p payload results.now operands.now successors.now
+            regions) }
         ensures err { OnErr result (IsUnchanged self.old.program self.new.program) }
         ensures err_values { OnErr result ((v : Value) → type_at self.new.program v ≡ type_at self.old.program v) }
         ensures full { result ≡ Err CounterFull → 2 ^ 64 ≤ self.old.program.counter + length results.now }

@@ -66,7 +66,8 @@ pub trait OperandCalls {
     /// Takes away the last operand, if there is one.
     fn pop_operand<O, B, T: TypeTable>(self, ctx: &mut TypedProgram<O, B, T>) -> Option<Value>
         requires { IsSome (operation_at ctx.old.program (op self)) }
-        ensures value { MatchOption result (operands_at ctx.old.program (op self) ≡ []) (λ v. operands_at ctx.old.program (op self) ≡ operands_at ctx.new.program (op self) ++ v ∷ []) }
+        ensures value { MatchOption result (operands_at ctx.old.program (op self) ≡ [])
+            (λ v. operands_at ctx.old.program (op self) ≡ operands_at ctx.new.program (op self) ++ v ∷ []) }
         ensures popped { ChangesOperands ctx.old.program ctx.new.program (op self) }
         ensures none { IsNone result → IsUnchanged ctx.old.program ctx.new.program }
         ensures values { KeepsValues ctx.old.program ctx.new.program }

@@ -29,21 +29,28 @@ pub trait OperationLists {
         ctx: &TypedProgram<O, B, T>,
     ) -> Option<Ptr<BasicBlock>>
         requires { IsSome (operation_at ctx.now.program (op self)) }
-        ensures container { MatchOption result (IsUnlinkedOperation ctx.now.program (op self)) (λ container. StandsInBlock ctx.now.program (op self) container) }
-        ensures only { (container : Ptr BasicBlock) → StandsInBlock ctx.now.program (op self) container → result ≡ Some container };
+        ensures container { MatchOption result (IsUnlinkedOperation ctx.now.program (op self))
+            (λ container. StandsInBlock ctx.now.program (op self) container) }
+        ensures only { (container : Ptr BasicBlock) → StandsInBlock ctx.now.program (op self) container
+            → result ≡ Some container };
 
     /// The operation that stands right after this one in its block.
     fn get_next<O, B, T: TypeTable>(self, ctx: &TypedProgram<O, B, T>) -> Option<Ptr<Operation>>
         requires { IsSome (operation_at ctx.now.program (op self)) }
-        ensures next { (block : Ptr BasicBlock) (k : ℕ) → slice_get (operations_in ctx.now.program block) k ≡ Some (op self) → result ≡ slice_get (operations_in ctx.now.program block) (k + 1) }
+        ensures next { (block : Ptr BasicBlock) (k : ℕ)
+            → slice_get (operations_in ctx.now.program block) k ≡ Some (op self)
+            → result ≡ slice_get (operations_in ctx.now.program block) (k + 1) }
         ensures unlinked { IsUnlinkedOperation ctx.now.program (op self) → result ≡ None }
         ensures live { IfSome result (λ next. IsSome (operation_at ctx.now.program next)) };
 
     /// The operation that stands right before this one in its block.
     fn get_prev<O, B, T: TypeTable>(self, ctx: &TypedProgram<O, B, T>) -> Option<Ptr<Operation>>
         requires { IsSome (operation_at ctx.now.program (op self)) }
-        ensures previous { (block : Ptr BasicBlock) (k : ℕ) → slice_get (operations_in ctx.now.program block) (k + 1) ≡ Some (op self) → result ≡ slice_get (operations_in ctx.now.program block) k }
-        ensures first { (block : Ptr BasicBlock) → slice_get (operations_in ctx.now.program block) 0 ≡ Some (op self) → result ≡ None }
+        ensures previous { (block : Ptr BasicBlock) (k : ℕ)
+            → slice_get (operations_in ctx.now.program block) (k + 1) ≡ Some (op self)
+            → result ≡ slice_get (operations_in ctx.now.program block) k }
+        ensures first { (block : Ptr BasicBlock) → slice_get (operations_in ctx.now.program block) 0 ≡ Some (op self)
+            → result ≡ None }
         ensures unlinked { IsUnlinkedOperation ctx.now.program (op self) → result ≡ None }
         ensures live { IfSome result (λ previous. IsSome (operation_at ctx.now.program previous)) };
 
@@ -105,7 +112,8 @@ pub trait OperationLists {
         ensures edited { TakesOutOperation ctx.old.program ctx.new.program (op self) }
         ensures unlinked { IsUnlinkedOperation ctx.new.program (op self) }
         // Nothing stands inside what it did not stand in.
-        ensures inside { (outer inner : IRNode) → StandsInside ctx.new.program outer inner → StandsInside ctx.old.program outer inner }
+        ensures inside { (outer inner : IRNode) → StandsInside ctx.new.program outer inner
+            → StandsInside ctx.old.program outer inner }
         ensures values { KeepsValues ctx.old.program ctx.new.program }
         ensures types { ctx.new.types ≡ ctx.old.types };
 }

@@ -31,7 +31,8 @@ pub trait OperationCalls {
         ctx: &TypedProgram<O, B, T>,
     ) -> Option<Ptr<BasicBlock>>
         requires { IsSome (operation_at ctx.now.program (op self)) }
-        ensures parent { MatchOption result (IsUnlinkedOperation ctx.now.program (op self)) (λ block. StandsInBlock ctx.now.program (op self) block) }
+        ensures parent { MatchOption result (IsUnlinkedOperation ctx.now.program (op self))
+            (λ block. StandsInBlock ctx.now.program (op self) block) }
         ensures only { (block : Ptr BasicBlock) → StandsInBlock ctx.now.program (op self) block → result ≡ Some block };
 
     /// The region that its block stands in.

@@ -34,7 +34,9 @@ pub trait NewOperation {
         requires known { AreKnownIn (length ctx.old.types.keys) result_types.now }
         requires operands { AreLiveValues ctx.old.program operands.now }
         requires successors { AreLiveBlocks ctx.old.program successors.now }
-        ensures built { IfOk result (λ p. BuildsOperation ctx.old.program ctx.new.program p (record { kind = kind; notes = record { attributes = []; loc = D.nowhere } }) result_types.now operands.now successors.now num_regions) }
+        ensures built { IfOk result (λ p. BuildsOperation ctx.old.program ctx.new.program p
+            (record { kind = kind; notes = record { attributes = []; loc = D.nowhere } }) result_types.now operands.now
+            successors.now num_regions) }
         ensures err { OnErr result (IsUnchanged ctx.old.program ctx.new.program) }
         ensures err_values { OnErr result ((v : Value) → type_at ctx.new.program v ≡ type_at ctx.old.program v) }
         ensures full { result ≡ Err CounterFull → 2 ^ 64 ≤ ctx.old.program.counter + length result_types.now }
@@ -81,7 +83,8 @@ pub trait NewBlock {
         argument_types: &[TypeHandle],
     ) -> Result<Ptr<BasicBlock>, GrowError>
         requires known { AreKnownIn (length ctx.old.types.keys) argument_types.now }
-        ensures built { IfOk result (λ p. BuildsBlock ctx.old.program ctx.new.program p (record { attributes = []; loc = D.nowhere; label = label }) argument_types.now) }
+        ensures built { IfOk result (λ p. BuildsBlock ctx.old.program ctx.new.program p
+            (record { attributes = []; loc = D.nowhere; label = label }) argument_types.now) }
         ensures err { OnErr result (IsUnchanged ctx.old.program ctx.new.program) }
         ensures err_values { OnErr result ((v : Value) → type_at ctx.new.program v ≡ type_at ctx.old.program v) }
         ensures full { result ≡ Err CounterFull → 2 ^ 64 ≤ ctx.old.program.counter + length argument_types.now }

@@ -29,7 +29,8 @@ pub trait RegionCalls {
         ctx: &TypedProgram<O, B, T>,
     ) -> Option<Ptr<Operation>>
         requires { IsSome (region_at ctx.now.program (region self)) }
-        ensures stands { (op : Ptr Operation) × (result ≡ Some op) × StandsInOperation ctx.now.program (region self) op }
+        ensures stands { (op : Ptr Operation) × (result ≡ Some op)
+            × StandsInOperation ctx.now.program (region self) op }
         ensures only { (op : Ptr Operation) → StandsInOperation ctx.now.program (region self) op → result ≡ Some op };
 
     /// The block that this operation stands in.
@@ -48,7 +49,8 @@ pub trait RegionCalls {
     ) -> Option<Ptr<Region>>
         requires { IsSome (region_at ctx.now.program (region self)) }
         ensures found { IfSome result (λ parent. HasParentRegion ctx.now.program (region self) parent) }
-        ensures only { (parent : Ptr Region) → HasParentRegion ctx.now.program (region self) parent → result ≡ Some parent };
+        ensures only { (parent : Ptr Region) → HasParentRegion ctx.now.program (region self) parent
+            → result ≡ Some parent };
 
     /// The first of its blocks.
     fn get_entry_block<O, B, T: TypeTable>(
@@ -62,15 +64,20 @@ pub trait RegionCalls {
     /// Its index among the regions of its operation.
     fn find_index_in_parent<O, B, T: TypeTable>(self, ctx: &TypedProgram<O, B, T>) -> usize
         requires { IsSome (region_at ctx.now.program (region self)) }
-        ensures { (op : Ptr Operation) (k : ℕ) → slice_get (regions_in ctx.now.program op) k ≡ Some (region self) → result ≡ k };
+        ensures { (op : Ptr Operation) (k : ℕ) → slice_get (regions_in ctx.now.program op) k ≡ Some (region self)
+            → result ≡ k };
 
     /// Moves the region out of its operation, behind the regions of `op`, which may be the same one.
     fn move_to_op<O, B, T: TypeTable>(self, ctx: &mut TypedProgram<O, B, T>, op: Ptr<Operation>)
         requires region { IsSome (region_at ctx.old.program (region self)) }
         requires op { IsSome (operation_at ctx.old.program op) }
         requires apart { StandsInside ctx.old.program (RegionNode (region self)) (OperationNode op) → ⊥ }
-        ensures elsewhere { (from : Ptr Operation) (k : ℕ) → slice_get (regions_in ctx.old.program from) k ≡ Some (region self) → from ≢ op → MovesRegion ctx.old.program ctx.new.program (region self) from k op }
-        ensures within { (k : ℕ) → slice_get (regions_in ctx.old.program op) k ≡ Some (region self) → EditsOperation ctx.old.program ctx.new.program op (λ v. record v { regions = remove v.regions k ++ region self ∷ [] }) }
+        ensures elsewhere { (from : Ptr Operation) (k : ℕ)
+            → slice_get (regions_in ctx.old.program from) k ≡ Some (region self) → from ≢ op
+            → MovesRegion ctx.old.program ctx.new.program (region self) from k op }
+        ensures within { (k : ℕ) → slice_get (regions_in ctx.old.program op) k ≡ Some (region self)
+            → EditsOperation ctx.old.program ctx.new.program op
+            (λ v. record v { regions = remove v.regions k ++ region self ∷ [] }) }
         ensures values { KeepsValues ctx.old.program ctx.new.program }
         ensures types { ctx.new.types ≡ ctx.old.types };
 }

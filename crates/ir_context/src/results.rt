@@ -90,8 +90,11 @@ pub trait ResultCalls {
     /// memory is asked for.
     fn pop_result<O, B, T: TypeTable>(self, ctx: &mut TypedProgram<O, B, T>) -> Option<Value>
         requires operation { IsSome (operation_at ctx.old.program (op self)) }
-        requires unused { (v : Value) → value_in (results_at ctx.old.program (op self)) (result_count ctx.old.program (op self) - 1) ≡ Some v → IsUsed ctx.old.program v → ⊥ }
-        ensures value { result ≡ value_in (results_at ctx.old.program (op self)) (result_count ctx.old.program (op self) - 1) }
+        requires unused { (v : Value)
+            → value_in (results_at ctx.old.program (op self)) (result_count ctx.old.program (op self) - 1) ≡ Some v
+            → IsUsed ctx.old.program v → ⊥ }
+        ensures value { result ≡ value_in (results_at ctx.old.program (op self))
+            (result_count ctx.old.program (op self) - 1) }
         ensures popped { OnSome result (PopsResult ctx.old.program ctx.new.program (op self)) }
         ensures forgotten { IfSome result (λ v. ForgetsValue ctx.old.program ctx.new.program v) }
         ensures none { IfNone result (ctx.new.program ≡ ctx.old.program) }
@@ -103,7 +106,8 @@ pub trait ResultCalls {
     fn remove_result<O, B, T: TypeTable>(self, ctx: &mut TypedProgram<O, B, T>, i: usize) -> Value
         requires operation { IsSome (operation_at ctx.old.program (op self)) }
         requires within { i < result_count ctx.old.program (op self) }
-        requires unused { (v : Value) → value_in (results_at ctx.old.program (op self)) i ≡ Some v → IsUsed ctx.old.program v → ⊥ }
+        requires unused { (v : Value) → value_in (results_at ctx.old.program (op self)) i ≡ Some v
+            → IsUsed ctx.old.program v → ⊥ }
         ensures value { value_in (results_at ctx.old.program (op self)) i ≡ Some result }
         ensures removed { RemovesResult ctx.old.program ctx.new.program (op self) i }
         ensures forgotten { ForgetsValue ctx.old.program ctx.new.program result }

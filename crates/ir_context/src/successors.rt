@@ -73,7 +73,8 @@ pub trait SuccessorCalls {
         ctx: &mut TypedProgram<O, B, T>,
     ) -> Option<Ptr<BasicBlock>>
         requires { IsSome (operation_at ctx.old.program (op self)) }
-        ensures block { MatchOption result (successors_at ctx.old.program (op self) ≡ []) (λ b. successors_at ctx.old.program (op self) ≡ successors_at ctx.new.program (op self) ++ b ∷ []) }
+        ensures block { MatchOption result (successors_at ctx.old.program (op self) ≡ [])
+            (λ b. successors_at ctx.old.program (op self) ≡ successors_at ctx.new.program (op self) ++ b ∷ []) }
         ensures popped { ChangesSuccessors ctx.old.program ctx.new.program (op self) }
         ensures none { IsNone result → IsUnchanged ctx.old.program ctx.new.program }
         ensures values { KeepsValues ctx.old.program ctx.new.program }

@@ -65,13 +65,17 @@ impl<D: DialectTables> TypedProgram<OperationData<D>, BlockNotes<D>, Types<D>> {
         _alloc: Global,
         key: D::TypeKey,
     ) -> Result<TypeHandle, AllocError>
-        ensures known { (ty : TypeHandle) → (kept : D.TypeKey) → key_at self.old.types ty ≡ Some kept → D.TypeKey.eq key kept ≡ true → (result ≡ Ok ty) × (self.new ≡ self.old) }
-        ensures fresh { has_key D.TypeKey.eq self.old.types key ≡ false → IfOk result (λ ty. ty ≡ next_handle self.old.types) }
+        ensures known { (ty : TypeHandle) → (kept : D.TypeKey) → key_at self.old.types ty ≡ Some kept
+            → D.TypeKey.eq key kept ≡ true → (result ≡ Ok ty) × (self.new ≡ self.old) }
+        ensures fresh { has_key D.TypeKey.eq self.old.types key ≡ false
+            → IfOk result (λ ty. ty ≡ next_handle self.old.types) }
         ensures handle { IfOk result (λ ty. ty ≡ handle_of D.TypeKey.eq self.old.types key) }
         ensures ok { OnOk result (self.new.types ≡ with_type D.TypeKey.eq self.old.types key) }
         ensures live { IfOk result (λ ty. IsKnown self.new.types ty) }
-        ensures key { IfOk result (λ ty. (kept : D.TypeKey) × (key_at self.new.types ty ≡ Some kept) × (D.TypeKey.eq key kept ≡ true)) }
-        ensures same { IfOk result (λ ty. (other : TypeHandle) → (kept : D.TypeKey) → key_at self.new.types other ≡ Some kept → ((other ≡ ty) ↔ (D.TypeKey.eq key kept ≡ true))) }
+        ensures key { IfOk result (λ ty. (kept : D.TypeKey) × (key_at self.new.types ty ≡ Some kept)
+            × (D.TypeKey.eq key kept ≡ true)) }
+        ensures same { IfOk result (λ ty. (other : TypeHandle) → (kept : D.TypeKey)
+            → key_at self.new.types other ≡ Some kept → ((other ≡ ty) ↔ (D.TypeKey.eq key kept ≡ true))) }
         ensures keeps { KeepsTypes self.old.types self.new.types }
         ensures err { OnErr result (self.new ≡ self.old) }
         ensures program { self.new.program ≡ self.old.program }
@@ -87,12 +91,16 @@ impl<D: DialectTables> TypedProgram<OperationData<D>, BlockNotes<D>, Types<D>> {
     /// Without memory nothing is changed.
     #[tactic(auto, using(crate::proofs::GrownTypes::saved_types))]
     pub fn save(&mut self, _alloc: Global, value: D::Saved) -> Result<SavedKey, AllocError>
-        ensures known { (key : SavedKey) → (kept : D.Saved) → saved_at self.old.types key ≡ Some kept → D.Saved.eq value kept ≡ true → (result ≡ Ok key) × (self.new ≡ self.old) }
-        ensures fresh { has_saved D.Saved.eq self.old.types value ≡ false → IfOk result (λ key. key ≡ next_saved_key self.old.types) }
+        ensures known { (key : SavedKey) → (kept : D.Saved) → saved_at self.old.types key ≡ Some kept
+            → D.Saved.eq value kept ≡ true → (result ≡ Ok key) × (self.new ≡ self.old) }
+        ensures fresh { has_saved D.Saved.eq self.old.types value ≡ false
+            → IfOk result (λ key. key ≡ next_saved_key self.old.types) }
         ensures key { IfOk result (λ key. key ≡ saved_key_of D.Saved.eq self.old.types value) }
         ensures ok { OnOk result (self.new.types ≡ with_saved D.Saved.eq self.old.types value) }
-        ensures value { IfOk result (λ key. (kept : D.Saved) × (saved_at self.new.types key ≡ Some kept) × (D.Saved.eq value kept ≡ true)) }
-        ensures same { IfOk result (λ key. (other : SavedKey) → (kept : D.Saved) → saved_at self.new.types other ≡ Some kept → ((other ≡ key) ↔ (D.Saved.eq value kept ≡ true))) }
+        ensures value { IfOk result (λ key. (kept : D.Saved) × (saved_at self.new.types key ≡ Some kept)
+            × (D.Saved.eq value kept ≡ true)) }
+        ensures same { IfOk result (λ key. (other : SavedKey) → (kept : D.Saved)
+            → saved_at self.new.types other ≡ Some kept → ((other ≡ key) ↔ (D.Saved.eq value kept ≡ true))) }
         ensures keeps { KeepsSaved self.old.types self.new.types }
         ensures err { OnErr result (self.new ≡ self.old) }
         ensures program { self.new.program ≡ self.old.program }

@@ -49,7 +49,8 @@ pub trait UseCalls {
         ensures succeeds { IsOk result }
         ensures replaced { ReplacesValue ctx.old.program ctx.new.program (used self) other }
         ensures unused { used self ≢ other → IsUsed ctx.new.program (used self) → ⊥ }
-        ensures count { used self ≢ other → (m n : ℕ) → IsUseCount ctx.old.program (used self) m → IsUseCount ctx.old.program other n → IsUseCount ctx.new.program other (m + n) }
+        ensures count { used self ≢ other → (m n : ℕ) → IsUseCount ctx.old.program (used self) m
+            → IsUseCount ctx.old.program other n → IsUseCount ctx.new.program other (m + n) }
         ensures values { KeepsValues ctx.old.program ctx.new.program }
         ensures types { ctx.new.types ≡ ctx.old.types };
 
@@ -85,7 +86,9 @@ pub trait UseCalls {
         requires value { IsLiveValue ctx.old.program (used self) }
         requires other { IsLiveValue ctx.old.program other }
         requires callable { F.IsAlwaysCallable predicate }
-        ensures replaced { OnOk result ((chosen : Use Value → Bool) × Chooses (operands_at ctx.old.program) (Says F.Fn predicate) (used self) chosen × ReplacesChosen ctx.old.program ctx.new.program chosen other) }
+        ensures replaced { OnOk result ((chosen : Use Value → Bool)
+            × Chooses (operands_at ctx.old.program) (Says F.Fn predicate) (used self) chosen
+            × ReplacesChosen ctx.old.program ctx.new.program chosen other) }
         ensures err { OnErr result (ctx.new ≡ ctx.old) }
         ensures values { KeepsValues ctx.old.program ctx.new.program }
         ensures types { ctx.new.types ≡ ctx.old.types };
@@ -103,7 +106,8 @@ pub trait UseCalls {
         requires live { IsLiveValue ctx.now.program (used self) }
         requires callable { F.IsAlwaysCallable predicate }
         ensures stand { IfOk result (λ places. AreUsesNaming (operands_at ctx.now.program) (used self) places.items) }
-        ensures chosen { IfOk result (λ places. Chooses (operands_at ctx.now.program) (Says F.Fn predicate) (used self) (is_among places.items)) };
+        ensures chosen { IfOk result (λ places. Chooses (operands_at ctx.now.program) (Says F.Fn predicate)
+            (used self) (is_among places.items)) };
 
     /// Puts another value in place of the operand at each of these uses of the value. The parameter stays for callers that
     /// allocate; no memory is asked for.
@@ -197,7 +201,8 @@ fn choose_uses<O, B, F: Fn(&Use<Value>) -> bool>(
     requires used { IsLiveValue program.now used }
     requires callable { F.IsAlwaysCallable predicate.now }
     ensures stand { IfOk result (λ places. AreUsesNaming (operands_at program.now) used places.items) }
-    ensures chosen { IfOk result (λ places. Chooses (operands_at program.now) (Says F.Fn predicate.now) used (is_among places.items)) }
+    ensures chosen { IfOk result (λ places. Chooses (operands_at program.now) (Says F.Fn predicate.now) used
+        (is_among places.items)) }
 {
     let mut chosen = Vec::new(alloc);
     for place in program.uses_of(used) {
@@ -238,7 +243,8 @@ pub trait PredecessorCalls {
         ensures succeeds { IsOk result }
         ensures retargeted { RetargetsBlock ctx.old.program ctx.new.program (target self) other }
         ensures unused { target self ≢ other → HasPredecessor ctx.new.program (target self) → ⊥ }
-        ensures count { target self ≢ other → (m n : ℕ) → IsPredecessorCount ctx.old.program (target self) m → IsPredecessorCount ctx.old.program other n → IsPredecessorCount ctx.new.program other (m + n) }
+        ensures count { target self ≢ other → (m n : ℕ) → IsPredecessorCount ctx.old.program (target self) m
+            → IsPredecessorCount ctx.old.program other n → IsPredecessorCount ctx.new.program other (m + n) }
         ensures values { KeepsValues ctx.old.program ctx.new.program }
         ensures types { ctx.new.types ≡ ctx.old.types };
 
@@ -273,7 +279,9 @@ pub trait PredecessorCalls {
         requires block { IsSome (block_at ctx.old.program (target self)) }
         requires other { IsSome (block_at ctx.old.program other) }
         requires callable { F.IsAlwaysCallable predicate }
-        ensures retargeted { OnOk result ((chosen : Use (Ptr BasicBlock) → Bool) × Chooses (successors_at ctx.old.program) (Says F.Fn predicate) (target self) chosen × RetargetsChosen ctx.old.program ctx.new.program chosen other) }
+        ensures retargeted { OnOk result ((chosen : Use (Ptr BasicBlock) → Bool)
+            × Chooses (successors_at ctx.old.program) (Says F.Fn predicate) (target self) chosen
+            × RetargetsChosen ctx.old.program ctx.new.program chosen other) }
         ensures err { OnErr result (ctx.new ≡ ctx.old) }
         ensures values { KeepsValues ctx.old.program ctx.new.program }
         ensures types { ctx.new.types ≡ ctx.old.types };
@@ -291,8 +299,10 @@ pub trait PredecessorCalls {
     ) -> Result<Vec<Use<Ptr<BasicBlock>>>, AllocError>
         requires live { IsSome (block_at ctx.now.program (target self)) }
         requires callable { F.IsAlwaysCallable predicate }
-        ensures stand { IfOk result (λ places. AreUsesNaming (successors_at ctx.now.program) (target self) places.items) }
-        ensures chosen { IfOk result (λ places. Chooses (successors_at ctx.now.program) (Says F.Fn predicate) (target self) (is_among places.items)) };
+        ensures stand { IfOk result (λ places. AreUsesNaming (successors_at ctx.now.program)
+            (target self) places.items) }
+        ensures chosen { IfOk result (λ places. Chooses (successors_at ctx.now.program) (Says F.Fn predicate)
+            (target self) (is_among places.items)) };
 
     /// Makes each of these edges to the block lead to another. The parameter stays for callers that allocate; no memory is
     /// asked for.
@@ -386,7 +396,8 @@ fn choose_edges<O, B, F: Fn(&Use<Ptr<BasicBlock>>) -> bool>(
     requires used { IsSome (block_at program.now used) }
     requires callable { F.IsAlwaysCallable predicate.now }
     ensures stand { IfOk result (λ places. AreUsesNaming (successors_at program.now) used places.items) }
-    ensures chosen { IfOk result (λ places. Chooses (successors_at program.now) (Says F.Fn predicate.now) used (is_among places.items)) }
+    ensures chosen { IfOk result (λ places. Chooses (successors_at program.now) (Says F.Fn predicate.now) used
+        (is_among places.items)) }
 {
     let mut chosen = Vec::new(alloc);
     for place in program.block_uses(used) {

@@ -23,11 +23,13 @@ pub trait ValueCalls {
 
     /// The operation that it is a result of, if it is one.
     fn defining_op(self) -> Option<Ptr<Operation>>
-        ensures { MatchOption result ((block : Ptr BasicBlock) × ((value self).definer ≡ Block block)) (λ op. (value self).definer ≡ Op op) };
+        ensures { MatchOption result ((block : Ptr BasicBlock)
+            × ((value self).definer ≡ Block block)) (λ op. (value self).definer ≡ Op op) };
 
     /// The block that it is an argument of, if it is one.
     fn defining_block(self) -> Option<Ptr<BasicBlock>>
-        ensures { MatchOption result ((op : Ptr Operation) × ((value self).definer ≡ Op op)) (λ block. (value self).definer ≡ Block block) };
+        ensures { MatchOption result ((op : Ptr Operation)
+            × ((value self).definer ≡ Op op)) (λ block. (value self).definer ≡ Block block) };
 
     /// Whether the value stands at its definer.
     fn is_live<O, B, T: TypeTable>(self, ctx: &TypedProgram<O, B, T>) -> bool

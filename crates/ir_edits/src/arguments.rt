@@ -83,7 +83,8 @@ fn has_used_argument<O, B, T: TypeTable>(
 ) -> bool
     requires there { IsSome (block_at ctx.now.program block) }
     requires within { index < argument_count ctx.now.program block }
-    ensures { IsTrue result ↔ ((v : Value) × (value_in (arguments_at ctx.now.program block) index ≡ Some v) × IsUsed ctx.now.program v) }
+    ensures { IsTrue result ↔ ((v : Value) × (value_in (arguments_at ctx.now.program block) index ≡ Some v)
+        × IsUsed ctx.now.program v) }
 {
     block.get_argument(ctx, index).is_used(ctx)
 }
@@ -94,7 +95,9 @@ fn has_used_last_argument<O, B, T: TypeTable>(
     block: Ptr<BasicBlock>,
 ) -> bool
     requires { IsSome (block_at ctx.now.program block) }
-    ensures { IsTrue result ↔ ((v : Value) × (value_in (arguments_at ctx.now.program block) (argument_count ctx.now.program block - 1) ≡ Some v) × IsUsed ctx.now.program v) }
+    ensures { IsTrue result ↔ ((v : Value)
+        × (value_in (arguments_at ctx.now.program block) (argument_count ctx.now.program block - 1) ≡ Some v)
+        × IsUsed ctx.now.program v) }
 {
     let count = block.get_num_arguments(ctx);
     count > 0 && has_used_argument(ctx, block, count - 1)

@@ -17,7 +17,8 @@ use std::alloc::{AllocError, Global};
 
 /// Puts what was found, if anything was, behind the others.
 fn push_found<T: Drop>(uses: &mut Vec<T>, found: Option<T>) -> Result<(), AllocError>
-    ensures { OnOk result (MatchOption found (uses.new.items ≡ uses.old.items) (λ u. uses.new.items ≡ uses.old.items ++ u ∷ [])) }
+    ensures { OnOk result (MatchOption found (uses.new.items ≡ uses.old.items)
+        (λ u. uses.new.items ≡ uses.old.items ++ u ∷ [])) }
 {
     if let Some(item) = found {
         uses.push(item)?;
@@ -27,7 +28,8 @@ fn push_found<T: Drop>(uses: &mut Vec<T>, found: Option<T>) -> Result<(), AllocE
 
 /// Whether the operation of each place is named.
 fn are_named(made: &[Option<Entity>], places: &[PlaceAt]) -> bool
-    ensures { IsTrue result ↔ NameEach (λ (at : PlaceAt). operation_named made.now at.user_op) (λ _. Unit {0}) places.now }
+    ensures { IsTrue result ↔ NameEach (λ (at : PlaceAt). operation_named made.now at.user_op)
+        (λ _. Unit {0}) places.now }
 {
     for place in places {
         let Some(_) = naming::operation(made, place.user_op) else {
@@ -44,8 +46,11 @@ fn operand_use<O, B, T: TypeTable>(
     place: PlaceAt,
     value: Value,
 ) -> Option<Use<Value>>
-    ensures found { IfSome result (λ u. (operation_named made.now place.user_op ≡ Some u.user_op) × (u.index ≡ place.index) × (u.def ≡ value) × (slice_get (operands_at ctx.now.program u.user_op) u.index ≡ Some value)) }
-    ensures none { IfNone result ((p : Ptr Operation) → operation_named made.now place.user_op ≡ Some p → slice_get (operands_at ctx.now.program p) place.index ≡ Some value → ⊥) }
+    ensures found { IfSome result (λ u. (operation_named made.now place.user_op ≡ Some u.user_op)
+        × (u.index ≡ place.index) × (u.def ≡ value)
+        × (slice_get (operands_at ctx.now.program u.user_op) u.index ≡ Some value)) }
+    ensures none { IfNone result ((p : Ptr Operation) → operation_named made.now place.user_op ≡ Some p
+        → slice_get (operands_at ctx.now.program p) place.index ≡ Some value → ⊥) }
 {
     let user_op = naming::operation(made, place.user_op)?;
     if !is_operand(ctx, user_op, place.index, value) {
@@ -105,8 +110,11 @@ fn successor_use<O, B, T: TypeTable>(
     place: PlaceAt,
     block: Ptr<BasicBlock>,
 ) -> Option<Use<Ptr<BasicBlock>>>
-    ensures found { IfSome result (λ u. (operation_named made.now place.user_op ≡ Some u.user_op) × (u.index ≡ place.index) × (u.def ≡ block) × (slice_get (successors_at ctx.now.program u.user_op) u.index ≡ Some block)) }
-    ensures none { IfNone result ((p : Ptr Operation) → operation_named made.now place.user_op ≡ Some p → slice_get (successors_at ctx.now.program p) place.index ≡ Some block → ⊥) }
+    ensures found { IfSome result (λ u. (operation_named made.now place.user_op ≡ Some u.user_op)
+        × (u.index ≡ place.index) × (u.def ≡ block)
+        × (slice_get (successors_at ctx.now.program u.user_op) u.index ≡ Some block)) }
+    ensures none { IfNone result ((p : Ptr Operation) → operation_named made.now place.user_op ≡ Some p
+        → slice_get (successors_at ctx.now.program p) place.index ≡ Some block → ⊥) }
 {
     let user_op = naming::operation(made, place.user_op)?;
     if !is_successor(ctx, user_op, place.index, block) {

@@ -21,7 +21,8 @@ pub fn new_operation<D: DialectTables>(
     successors: &[At<Ptr<BasicBlock>>],
     num_regions: usize,
 ) -> Result<Option<Entity>, CoreError>
-    ensures { BuildsNewOperation D.nowhere ctx.old made.now kind result_types.now operands.now successors.now num_regions ctx.new result }
+    ensures { BuildsNewOperation D.nowhere ctx.old made.now kind result_types.now operands.now successors.now
+        num_regions ctx.new result }
 {
     if !are_known(ctx, result_types)
         || !name_live_values(ctx, made, operands)

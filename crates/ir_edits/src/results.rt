@@ -80,7 +80,8 @@ fn has_used_result<O, B, T: TypeTable>(
 ) -> bool
     requires there { IsSome (operation_at ctx.now.program op) }
     requires within { index < result_count ctx.now.program op }
-    ensures { IsTrue result ↔ ((v : Value) × (value_in (results_at ctx.now.program op) index ≡ Some v) × IsUsed ctx.now.program v) }
+    ensures { IsTrue result ↔ ((v : Value) × (value_in (results_at ctx.now.program op) index ≡ Some v)
+        × IsUsed ctx.now.program v) }
 {
     op.get_result(ctx, index).is_used(ctx)
 }
@@ -88,7 +89,9 @@ fn has_used_result<O, B, T: TypeTable>(
 /// Whether some operation takes the last result, if there is one.
 fn has_used_last_result<O, B, T: TypeTable>(ctx: &TypedProgram<O, B, T>, op: Ptr<Operation>) -> bool
     requires { IsSome (operation_at ctx.now.program op) }
-    ensures { IsTrue result ↔ ((v : Value) × (value_in (results_at ctx.now.program op) (result_count ctx.now.program op - 1) ≡ Some v) × IsUsed ctx.now.program v) }
+    ensures { IsTrue result ↔ ((v : Value)
+        × (value_in (results_at ctx.now.program op) (result_count ctx.now.program op - 1) ≡ Some v)
+        × IsUsed ctx.now.program v) }
 {
     let count = op.get_num_results(ctx);
     count > 0 && has_used_result(ctx, op, count - 1)

@@ -17,7 +17,10 @@ use std::alloc::{AllocError, Global};
 /// Running lists of edits on a context.
 pub trait RunEdits<D: DialectTables> {
     /// What contracts see of the context.
-    ghost context: { Self → ContextView (OperationData D D.TypeKind D.AttrKind D.TypeBody D.Saved D.Location D.OpKind D.Attr D.TypeKey) (BlockNotes D D.TypeKind D.AttrKind D.TypeBody D.Saved D.Location D.OpKind D.Attr D.TypeKey) (TypesView D.TypeKey D.TypeBody D.Saved) };
+    ghost context: { Self
+        → ContextView (OperationData D D.TypeKind D.AttrKind D.TypeBody D.Saved D.Location D.OpKind D.Attr D.TypeKey)
+        (BlockNotes D D.TypeKind D.AttrKind D.TypeBody D.Saved D.Location D.OpKind D.Attr D.TypeKey)
+        (TypesView D.TypeKey D.TypeBody D.Saved) };
 
     /// Makes the edits in order, up to the first that is refused. Those before it stand, and the rest is dropped. A handle
     /// that was given out and leads nowhere leads nowhere for good.
@@ -32,7 +35,8 @@ pub trait RunEdits<D: DialectTables> {
         &mut self,
         edits: Vec<Edit<D::OpKind>>,
     ) -> Result<Vec<Option<Entity>>, (usize, CoreError)>
-        ensures runs { Runs D.nowhere (context self.old) [] edits.items (context self.new) (listed result) ⊎ ((result ≡ Err (0, Memory)) × (context self.new ≡ context self.old)) }
+        ensures runs { Runs D.nowhere (context self.old) [] edits.items (context self.new) (listed result)
+            ⊎ ((result ≡ Err (0, Memory)) × (context self.new ≡ context self.old)) }
         ensures erased { KeepsErased (context self.old).program (context self.new).program };
 }
 
@@ -43,7 +47,8 @@ impl<D: DialectTables> RunEdits<D> for Context<D> {
         &mut self,
         edits: Vec<Edit<D::OpKind>>,
     ) -> Result<Vec<Option<Entity>>, (usize, CoreError)>
-        ensures runs { Runs D.nowhere self.old [] edits.items self.new (listed result) ⊎ ((result ≡ Err (0, Memory)) × (self.new ≡ self.old)) }
+        ensures runs { Runs D.nowhere self.old [] edits.items self.new (listed result)
+            ⊎ ((result ≡ Err (0, Memory)) × (self.new ≡ self.old)) }
         ensures erased { KeepsErased self.old.program self.new.program }
     {
         let Ok(mut made) = room_for(self.allocator(), edits.len()) else {

@@ -17,7 +17,8 @@ impl<O, B, R> Forest<O, B, R> {
         requires op { IsSome (get self.old.ops op) }
         requires root { IsRootOp self.old op }
         requires apart { IsInside (shape_of self.old) (Op op.slot) (Block block.slot) → ⊥ }
-        ensures lists { self.new.in_blocks.lists ≡ slice_set self.old.in_blocks.lists block.slot (op.slot ∷ list_at self.old.in_blocks.lists block.slot) }
+        ensures lists { self.new.in_blocks.lists ≡ slice_set self.old.in_blocks.lists block.slot
+            (op.slot ∷ list_at self.old.in_blocks.lists block.slot) }
         ensures rest { self.new ≡ record self.old { in_blocks = self.new.in_blocks } }
     {
         self.in_blocks.insert_at_front(block.slot, op.slot);
@@ -29,7 +30,8 @@ impl<O, B, R> Forest<O, B, R> {
         requires op { IsSome (get self.old.ops op) }
         requires root { IsRootOp self.old op }
         requires apart { IsInside (shape_of self.old) (Op op.slot) (Block block.slot) → ⊥ }
-        ensures lists { self.new.in_blocks.lists ≡ slice_set self.old.in_blocks.lists block.slot (list_at self.old.in_blocks.lists block.slot ++ op.slot ∷ []) }
+        ensures lists { self.new.in_blocks.lists ≡ slice_set self.old.in_blocks.lists block.slot
+            (list_at self.old.in_blocks.lists block.slot ++ op.slot ∷ []) }
         ensures rest { self.new ≡ record self.old { in_blocks = self.new.in_blocks } }
     {
         self.in_blocks.insert_at_back(block.slot, op.slot);
@@ -77,8 +79,12 @@ impl<O, B, R> Forest<O, B, R> {
         requires donee { IsSome (get self.old.blocks donee) }
         requires donor { IsSome (get self.old.blocks donor) }
         requires differ { donee.slot ≢ donor.slot }
-        requires apart { (i : ℕ) → has i (list_at self.old.in_blocks.lists donor.slot) ≡ true → IsInside (shape_of self.old) (Op i) (Block donee.slot) → ⊥ }
-        ensures lists { self.new.in_blocks.lists ≡ slice_set (slice_set self.old.in_blocks.lists donee.slot (list_at self.old.in_blocks.lists donee.slot ++ list_at self.old.in_blocks.lists donor.slot)) donor.slot [] }
+        requires apart { (i : ℕ) → has i (list_at self.old.in_blocks.lists donor.slot) ≡ true
+            → IsInside (shape_of self.old) (Op i) (Block donee.slot) → ⊥ }
+        ensures lists { self.new.in_blocks.lists ≡ slice_set
+            (slice_set self.old.in_blocks.lists donee.slot
+            (list_at self.old.in_blocks.lists donee.slot ++ list_at self.old.in_blocks.lists donor.slot))
+            donor.slot [] }
         ensures rest { self.new ≡ record self.old { in_blocks = self.new.in_blocks } }
     {
         self.in_blocks.append(donee.slot, donor.slot);
@@ -90,7 +96,8 @@ impl<O, B, R> Forest<O, B, R> {
         requires block { IsSome (get self.old.blocks block) }
         requires root { IsRootBlock self.old block }
         requires apart { IsInside (shape_of self.old) (Block block.slot) (Region region.slot) → ⊥ }
-        ensures lists { self.new.in_regions.lists ≡ slice_set self.old.in_regions.lists region.slot (block.slot ∷ list_at self.old.in_regions.lists region.slot) }
+        ensures lists { self.new.in_regions.lists ≡ slice_set self.old.in_regions.lists region.slot
+            (block.slot ∷ list_at self.old.in_regions.lists region.slot) }
         ensures rest { self.new ≡ record self.old { in_regions = self.new.in_regions } }
     {
         self.in_regions.insert_at_front(region.slot, block.slot);
@@ -102,7 +109,8 @@ impl<O, B, R> Forest<O, B, R> {
         requires block { IsSome (get self.old.blocks block) }
         requires root { IsRootBlock self.old block }
         requires apart { IsInside (shape_of self.old) (Block block.slot) (Region region.slot) → ⊥ }
-        ensures lists { self.new.in_regions.lists ≡ slice_set self.old.in_regions.lists region.slot (list_at self.old.in_regions.lists region.slot ++ block.slot ∷ []) }
+        ensures lists { self.new.in_regions.lists ≡ slice_set self.old.in_regions.lists region.slot
+            (list_at self.old.in_regions.lists region.slot ++ block.slot ∷ []) }
         ensures rest { self.new ≡ record self.old { in_regions = self.new.in_regions } }
     {
         self.in_regions.insert_at_back(region.slot, block.slot);
@@ -150,8 +158,12 @@ impl<O, B, R> Forest<O, B, R> {
         requires donee { IsSome (get self.old.regions donee) }
         requires donor { IsSome (get self.old.regions donor) }
         requires differ { donee.slot ≢ donor.slot }
-        requires apart { (i : ℕ) → has i (list_at self.old.in_regions.lists donor.slot) ≡ true → IsInside (shape_of self.old) (Block i) (Region donee.slot) → ⊥ }
-        ensures lists { self.new.in_regions.lists ≡ slice_set (slice_set self.old.in_regions.lists donee.slot (list_at self.old.in_regions.lists donee.slot ++ list_at self.old.in_regions.lists donor.slot)) donor.slot [] }
+        requires apart { (i : ℕ) → has i (list_at self.old.in_regions.lists donor.slot) ≡ true
+            → IsInside (shape_of self.old) (Block i) (Region donee.slot) → ⊥ }
+        ensures lists { self.new.in_regions.lists ≡ slice_set
+            (slice_set self.old.in_regions.lists donee.slot
+            (list_at self.old.in_regions.lists donee.slot ++ list_at self.old.in_regions.lists donor.slot))
+            donor.slot [] }
         ensures rest { self.new ≡ record self.old { in_regions = self.new.in_regions } }
     {
         self.in_regions.append(donee.slot, donor.slot);
@@ -163,7 +175,8 @@ impl<O, B, R> Forest<O, B, R> {
         requires region { IsSome (get self.old.regions region) }
         requires root { IsRootRegion self.old region }
         requires apart { IsInside (shape_of self.old) (Region region.slot) (Op op.slot) → ⊥ }
-        ensures lists { self.new.in_ops.lists ≡ slice_set self.old.in_ops.lists op.slot (list_at self.old.in_ops.lists op.slot ++ region.slot ∷ []) }
+        ensures lists { self.new.in_ops.lists ≡ slice_set self.old.in_ops.lists op.slot
+            (list_at self.old.in_ops.lists op.slot ++ region.slot ∷ []) }
         ensures rest { self.new ≡ record self.old { in_ops = self.new.in_ops } }
     {
         self.in_ops.insert_at_back(op.slot, region.slot);

@@ -124,7 +124,9 @@ impl<O, B, R> Forest<O, B, R> {
         requires used { IsSome (held self.old.ops x) }
         requires used_op { IsSome (held self.old.ops op) }
         ensures pruned { IsPruned self.old self.new (Op x) }
-        ensures lists { self.new.in_ops.lists ≡ slice_set (slice_set self.old.in_ops.lists x (list_at self.old.in_ops.lists x ++ list_at self.old.in_ops.lists op)) op [] }
+        ensures lists { self.new.in_ops.lists ≡ slice_set
+            (slice_set self.old.in_ops.lists x
+            (list_at self.old.in_ops.lists x ++ list_at self.old.in_ops.lists op)) op [] }
         ensures nodes { self.new.in_ops.nodes ≡ self.old.in_ops.nodes }
         ensures bare { IsBare self.new (Op op) }
         ensures rest { self.new ≡ record self.old { in_ops = self.new.in_ops } }
@@ -145,7 +147,8 @@ impl<O, B, R> Forest<O, B, R> {
         ensures spent { KeepsSpent self.old.regions self.new.regions }
         ensures lists { self.new.in_ops.lists ≡ map (without region) self.old.in_ops.lists }
         ensures nodes { self.new.in_ops.nodes ≡ self.old.in_ops.nodes }
-        ensures pruned { (x : Place) → IsInside (shape_of self.old) x (Region region) → x ≢ Region region → IsPruned self.old self.new x }
+        ensures pruned { (x : Place) → IsInside (shape_of self.old) x (Region region) → x ≢ Region region
+            → IsPruned self.old self.new x }
         ensures fewer { live_in self.new < live_in self.old }
         ensures rest { self.new ≡ record self.old { regions = self.new.regions; in_ops = self.new.in_ops } }
     {
@@ -169,7 +172,8 @@ impl<O, B, R> Forest<O, B, R> {
         ensures spent { KeepsSpent self.old.blocks self.new.blocks }
         ensures lists { self.new.in_regions.lists ≡ map (without block) self.old.in_regions.lists }
         ensures nodes { self.new.in_regions.nodes ≡ self.old.in_regions.nodes }
-        ensures pruned { (x : Place) → IsInside (shape_of self.old) x (Block block) → x ≢ Block block → IsPruned self.old self.new x }
+        ensures pruned { (x : Place) → IsInside (shape_of self.old) x (Block block) → x ≢ Block block
+            → IsPruned self.old self.new x }
         ensures fewer { live_in self.new < live_in self.old }
         ensures rest { self.new ≡ record self.old { blocks = self.new.blocks; in_regions = self.new.in_regions } }
     {
@@ -195,11 +199,14 @@ impl<O, B, R> Forest<O, B, R> {
         ensures spent { KeepsSpent self.old.ops self.new.ops }
         ensures lists { self.new.in_blocks.lists ≡ map (without op) self.old.in_blocks.lists }
         ensures nodes { self.new.in_blocks.nodes ≡ self.old.in_blocks.nodes }
-        ensures regions { self.new.in_ops.lists ≡ slice_set (slice_set self.old.in_ops.lists x (list_at self.old.in_ops.lists x ++ list_at self.old.in_ops.lists op)) op [] }
+        ensures regions { self.new.in_ops.lists ≡ slice_set
+            (slice_set self.old.in_ops.lists x
+            (list_at self.old.in_ops.lists x ++ list_at self.old.in_ops.lists op)) op [] }
         ensures region_nodes { self.new.in_ops.nodes ≡ self.old.in_ops.nodes }
         ensures pruned { IsPruned self.old self.new (Op x) }
         ensures fewer { live_in self.new < live_in self.old }
-        ensures rest { self.new ≡ record self.old { ops = self.new.ops; in_blocks = self.new.in_blocks; in_ops = self.new.in_ops } }
+        ensures rest { self.new
+            ≡ record self.old { ops = self.new.ops; in_blocks = self.new.in_blocks; in_ops = self.new.in_ops } }
     {
         self.know_forest();
         self.hoist(x, op);
@@ -288,7 +295,8 @@ impl<O, B, R> Forest<O, B, R> {
         B: Drop,
         R: Drop,
         requires linked { IsLinked self.old.in_blocks.lists op }
-        ensures pruned { (x : Place) → IsInside (shape_of self.old) x (Op op) → x ≢ Op op → IsPruned self.old self.new x }
+        ensures pruned { (x : Place) → IsInside (shape_of self.old) x (Op op) → x ≢ Op op
+            → IsPruned self.old self.new x }
         ensures fewer { live_in self.new < live_in self.old }
     {
         self.know_forest();
@@ -330,7 +338,8 @@ impl<O, B, R> Forest<O, B, R> {
         B: Drop,
         R: Drop,
         requires linked { IsLinked self.old.in_regions.lists block }
-        ensures pruned { (x : Place) → IsInside (shape_of self.old) x (Block block) → x ≢ Block block → IsPruned self.old self.new x }
+        ensures pruned { (x : Place) → IsInside (shape_of self.old) x (Block block) → x ≢ Block block
+            → IsPruned self.old self.new x }
         ensures fewer { live_in self.new < live_in self.old }
     {
         self.know_forest();

@@ -52,9 +52,24 @@ impl<O, B, R> Model for Forest<O, B, R> {
 
     ghost Value = { Trees O B R };
 
-    ghost view = { λ f. record { ops = f.ops; blocks = f.blocks; regions = f.regions; in_blocks = f.in_blocks; in_regions = f.in_regions; in_ops = f.in_ops } };
+    ghost view = { λ f. record {
+      ops = f.ops;
+      blocks = f.blocks;
+      regions = f.regions;
+      in_blocks = f.in_blocks;
+      in_regions = f.in_regions;
+      in_ops = f.in_ops;
+    } };
 
-    ghost invariant = { λ f. IsForest (record { ops = f.ops; blocks = f.blocks; regions = f.regions; in_blocks = f.in_blocks; in_regions = f.in_regions; in_ops = f.in_ops }) };
+    ghost invariant = { λ f. IsForest
+        (record {
+          ops = f.ops;
+          blocks = f.blocks;
+          regions = f.regions;
+          in_blocks = f.in_blocks;
+          in_regions = f.in_regions;
+          in_ops = f.in_ops;
+        }) };
 }
 
 impl<O, B, R> Forest<O, B, R> {
@@ -84,7 +99,9 @@ impl<O, B, R> Forest<O, B, R> {
     /// What this place stands in.
     pub fn parent(&self, at: Place) -> Option<Place>
         requires { IsUsed self.now at }
-        ensures { MatchOption result ((d : Place) → IsIn (shape_of self.now) at d → ⊥) (λ d. IsIn (shape_of self.now) at d × IsUsed self.now d × ((e : Place) → IsIn (shape_of self.now) at e → e ≡ d)) }
+        ensures { MatchOption result ((d : Place) → IsIn (shape_of self.now) at d
+            → ⊥) (λ d. IsIn (shape_of self.now) at d × IsUsed self.now d
+            × ((e : Place) → IsIn (shape_of self.now) at e → e ≡ d)) }
     {
         match at {
             Place::Op(i) => {

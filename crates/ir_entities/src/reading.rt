@@ -88,7 +88,8 @@ impl<O, B, R> Forest<O, B, R> {
     /// The operation that stands next, where this one stands in a block.
     pub fn next_op(&self, op: Key) -> Option<usize>
         requires { IsSome (get self.now.ops op) }
-        ensures next { (c : ℕ) → has op.slot (list_at self.now.in_blocks.lists c) ≡ true → result ≡ next_in op.slot (list_at self.now.in_blocks.lists c) }
+        ensures next { (c : ℕ) → has op.slot (list_at self.now.in_blocks.lists c) ≡ true
+            → result ≡ next_in op.slot (list_at self.now.in_blocks.lists c) }
         ensures root { IsRootOp self.now op → result ≡ None }
     {
         let _block = self.block_of_op(op)?;
@@ -98,7 +99,8 @@ impl<O, B, R> Forest<O, B, R> {
     /// The operation that stands before, where this one stands in a block.
     pub fn prev_op(&self, op: Key) -> Option<usize>
         requires { IsSome (get self.now.ops op) }
-        ensures prev { (c : ℕ) → has op.slot (list_at self.now.in_blocks.lists c) ≡ true → result ≡ prev_in op.slot (list_at self.now.in_blocks.lists c) }
+        ensures prev { (c : ℕ) → has op.slot (list_at self.now.in_blocks.lists c) ≡ true
+            → result ≡ prev_in op.slot (list_at self.now.in_blocks.lists c) }
         ensures root { IsRootOp self.now op → result ≡ None }
     {
         let _block = self.block_of_op(op)?;
@@ -120,7 +122,8 @@ impl<O, B, R> Forest<O, B, R> {
     /// The slots of a block's operations, first to last.
     pub fn ops_forward(&self, block: Key) -> Forward
         requires { IsSome (get self.now.blocks block) }
-        ensures { items_from result.at (list_at result.siblings.now.lists result.list) ≡ list_at self.now.in_blocks.lists block.slot }
+        ensures { items_from result.at (list_at result.siblings.now.lists result.list)
+            ≡ list_at self.now.in_blocks.lists block.slot }
     {
         let _blocks = &self.blocks;
         self.in_blocks.forward(block.slot)
@@ -129,7 +132,8 @@ impl<O, B, R> Forest<O, B, R> {
     /// The slots of a block's operations, to be taken from either end.
     pub fn ops_walk(&self, block: Key) -> Walk
         requires { IsSome (get self.now.blocks block) }
-        ensures { items_between result.left (list_at result.siblings.now.lists result.list) ≡ list_at self.now.in_blocks.lists block.slot }
+        ensures { items_between result.left (list_at result.siblings.now.lists result.list)
+            ≡ list_at self.now.in_blocks.lists block.slot }
     {
         let _blocks = &self.blocks;
         self.in_blocks.walk(block.slot)
@@ -189,7 +193,8 @@ impl<O, B, R> Forest<O, B, R> {
     /// The block that stands next, where this one stands in a region.
     pub fn next_block(&self, block: Key) -> Option<usize>
         requires { IsSome (get self.now.blocks block) }
-        ensures next { (c : ℕ) → has block.slot (list_at self.now.in_regions.lists c) ≡ true → result ≡ next_in block.slot (list_at self.now.in_regions.lists c) }
+        ensures next { (c : ℕ) → has block.slot (list_at self.now.in_regions.lists c) ≡ true
+            → result ≡ next_in block.slot (list_at self.now.in_regions.lists c) }
         ensures root { IsRootBlock self.now block → result ≡ None }
     {
         let _region = self.region_of_block(block)?;
@@ -199,7 +204,8 @@ impl<O, B, R> Forest<O, B, R> {
     /// The block that stands before, where this one stands in a region.
     pub fn prev_block(&self, block: Key) -> Option<usize>
         requires { IsSome (get self.now.blocks block) }
-        ensures prev { (c : ℕ) → has block.slot (list_at self.now.in_regions.lists c) ≡ true → result ≡ prev_in block.slot (list_at self.now.in_regions.lists c) }
+        ensures prev { (c : ℕ) → has block.slot (list_at self.now.in_regions.lists c) ≡ true
+            → result ≡ prev_in block.slot (list_at self.now.in_regions.lists c) }
         ensures root { IsRootBlock self.now block → result ≡ None }
     {
         let _region = self.region_of_block(block)?;
@@ -221,7 +227,8 @@ impl<O, B, R> Forest<O, B, R> {
     /// The slots of a region's blocks, first to last.
     pub fn blocks_forward(&self, region: Key) -> Forward
         requires { IsSome (get self.now.regions region) }
-        ensures { items_from result.at (list_at result.siblings.now.lists result.list) ≡ list_at self.now.in_regions.lists region.slot }
+        ensures { items_from result.at (list_at result.siblings.now.lists result.list)
+            ≡ list_at self.now.in_regions.lists region.slot }
     {
         let _regions = &self.regions;
         self.in_regions.forward(region.slot)
@@ -230,7 +237,8 @@ impl<O, B, R> Forest<O, B, R> {
     /// The slots of a region's blocks, to be taken from either end.
     pub fn blocks_walk(&self, region: Key) -> Walk
         requires { IsSome (get self.now.regions region) }
-        ensures { items_between result.left (list_at result.siblings.now.lists result.list) ≡ list_at self.now.in_regions.lists region.slot }
+        ensures { items_between result.left (list_at result.siblings.now.lists result.list)
+            ≡ list_at self.now.in_regions.lists region.slot }
     {
         let _regions = &self.regions;
         self.in_regions.walk(region.slot)
@@ -290,7 +298,8 @@ impl<O, B, R> Forest<O, B, R> {
     /// The region that stands next, where this one stands in an operation.
     pub fn next_region(&self, region: Key) -> Option<usize>
         requires { IsSome (get self.now.regions region) }
-        ensures next { (c : ℕ) → has region.slot (list_at self.now.in_ops.lists c) ≡ true → result ≡ next_in region.slot (list_at self.now.in_ops.lists c) }
+        ensures next { (c : ℕ) → has region.slot (list_at self.now.in_ops.lists c) ≡ true
+            → result ≡ next_in region.slot (list_at self.now.in_ops.lists c) }
         ensures root { IsRootRegion self.now region → result ≡ None }
     {
         let _op = self.op_of_region(region)?;
@@ -300,7 +309,8 @@ impl<O, B, R> Forest<O, B, R> {
     /// The region that stands before, where this one stands in an operation.
     pub fn prev_region(&self, region: Key) -> Option<usize>
         requires { IsSome (get self.now.regions region) }
-        ensures prev { (c : ℕ) → has region.slot (list_at self.now.in_ops.lists c) ≡ true → result ≡ prev_in region.slot (list_at self.now.in_ops.lists c) }
+        ensures prev { (c : ℕ) → has region.slot (list_at self.now.in_ops.lists c) ≡ true
+            → result ≡ prev_in region.slot (list_at self.now.in_ops.lists c) }
         ensures root { IsRootRegion self.now region → result ≡ None }
     {
         let _op = self.op_of_region(region)?;
@@ -322,7 +332,8 @@ impl<O, B, R> Forest<O, B, R> {
     /// The slots of an operation's regions, first to last.
     pub fn regions_forward(&self, op: Key) -> Forward
         requires { IsSome (get self.now.ops op) }
-        ensures { items_from result.at (list_at result.siblings.now.lists result.list) ≡ list_at self.now.in_ops.lists op.slot }
+        ensures { items_from result.at (list_at result.siblings.now.lists result.list)
+            ≡ list_at self.now.in_ops.lists op.slot }
     {
         let _ops = &self.ops;
         self.in_ops.forward(op.slot)
@@ -331,7 +342,8 @@ impl<O, B, R> Forest<O, B, R> {
     /// The slots of an operation's regions, to be taken from either end.
     pub fn regions_walk(&self, op: Key) -> Walk
         requires { IsSome (get self.now.ops op) }
-        ensures { items_between result.left (list_at result.siblings.now.lists result.list) ≡ list_at self.now.in_ops.lists op.slot }
+        ensures { items_between result.left (list_at result.siblings.now.lists result.list)
+            ≡ list_at self.now.in_ops.lists op.slot }
     {
         let _ops = &self.ops;
         self.in_ops.walk(op.slot)

@@ -40,7 +40,8 @@ pub fn push_place<K: Copy>(
     definition: usize,
 ) -> Result<(), AllocError>
     requires definition { IsDefined uses.old definition }
-    ensures pushed { OnOk result ((p : ℕ) × PushesIn (place_of uses.old) (place_of uses.new) row.old.items row.new.items user p definition) }
+    ensures pushed { OnOk result ((p : ℕ)
+        × PushesIn (place_of uses.old) (place_of uses.new) row.old.items row.new.items user p definition) }
     ensures definitions { uses.new.definitions ≡ uses.old.definitions }
     ensures err { OnErr result (uses.new ≡ uses.old) }
     ensures row_err { OnErr result (row.new.items ≡ row.old.items) }
@@ -67,7 +68,8 @@ pub fn insert_place<K: Copy>(
     requires row { IsRowOf (place_of uses.old) row.old.items user }
     requires within { index ≤ length row.old.items }
     requires definition { IsDefined uses.old definition }
-    ensures inserted { OnOk result ((p : ℕ) × InsertsIn (place_of uses.old) (place_of uses.new) row.old.items row.new.items user index p definition) }
+    ensures inserted { OnOk result ((p : ℕ)
+        × InsertsIn (place_of uses.old) (place_of uses.new) row.old.items row.new.items user index p definition) }
     ensures definitions { uses.new.definitions ≡ uses.old.definitions }
     ensures err { OnErr result (uses.new ≡ uses.old) }
     ensures row_err { OnErr result (row.new.items ≡ row.old.items) }
@@ -83,7 +85,8 @@ pub fn insert_place<K: Copy>(
 pub fn remove_place<K: Copy>(uses: &mut Uses<K>, row: &mut Vec<usize>, user: usize, index: usize)
     requires row { IsRowOf (place_of uses.old) row.old.items user }
     requires within { index < length row.old.items }
-    ensures removed { (p : ℕ) × RemovesIn (place_of uses.old) (place_of uses.new) row.old.items row.new.items user index p }
+    ensures removed { (p : ℕ)
+        × RemovesIn (place_of uses.old) (place_of uses.new) row.old.items row.new.items user index p }
     ensures definitions { uses.new.definitions ≡ uses.old.definitions }
 {
     let place = row.remove(index);

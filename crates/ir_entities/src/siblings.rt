@@ -28,7 +28,8 @@ pub struct Ends {
 pub struct Siblings {
     nodes: Vec<Node>,
     ends: Vec<Ends>,
-    ghost lists: { (ls : List (List ℕ)) × AreLists (node_at nodes.items) ends.items ls } by { lists_exact (node_at nodes.items) ends.items },
+    ghost lists: { (ls : List (List ℕ))
+        × AreLists (node_at nodes.items) ends.items ls } by { lists_exact (node_at nodes.items) ends.items },
 }
 
 impl Model for Siblings {
@@ -140,7 +141,8 @@ impl Siblings {
     fn next_of(&self, list: usize, node: usize) -> Option<usize>
         requires { has node (list_at self.now.lists list) ≡ true }
         ensures within { IsWithin (list_at self.now.lists list) result }
-        ensures items { items_from (Some node) (list_at self.now.lists list) ≡ node ∷ items_from result (list_at self.now.lists list) }
+        ensures items { items_from (Some node) (list_at self.now.lists list) ≡ node ∷ items_from result
+            (list_at self.now.lists list) }
     {
         let _nodes = &self.nodes;
         self.next(node)
@@ -150,7 +152,8 @@ impl Siblings {
     fn prev_of(&self, list: usize, node: usize) -> Option<usize>
         requires { has node (list_at self.now.lists list) ≡ true }
         ensures within { IsWithin (list_at self.now.lists list) result }
-        ensures items { items_back (Some node) (list_at self.now.lists list) ≡ node ∷ items_back result (list_at self.now.lists list) }
+        ensures items { items_back (Some node) (list_at self.now.lists list) ≡ node ∷ items_back result
+            (list_at self.now.lists list) }
     {
         let _nodes = &self.nodes;
         self.prev(node)
@@ -191,7 +194,8 @@ impl Siblings {
     /// The nodes of a list, last to first.
     pub fn backward(&self, list: usize) -> Backward
         requires { list < length self.now.lists }
-        ensures { items_back result.at (list_at result.siblings.now.lists result.list) ≡ reverse (list_at self.now.lists list) }
+        ensures { items_back result.at (list_at result.siblings.now.lists result.list) ≡ reverse
+            (list_at self.now.lists list) }
     {
         Backward {
             siblings: self,
@@ -204,7 +208,8 @@ impl Siblings {
     fn without_first(&self, list: usize, span: Span) -> Option<Span>
         requires { has span.last (drop_to span.first (list_at self.now.lists list)) ≡ true }
         ensures within { IsSpan (list_at self.now.lists list) result }
-        ensures items { items_between (Some span) (list_at self.now.lists list) ≡ span.first ∷ items_between result (list_at self.now.lists list) }
+        ensures items { items_between (Some span) (list_at self.now.lists list) ≡ span.first ∷ items_between result
+            (list_at self.now.lists list) }
     {
         let after = self.next_of(list, span.first);
         if span.first == span.last {
@@ -221,7 +226,8 @@ impl Siblings {
     fn without_last(&self, list: usize, span: Span) -> Option<Span>
         requires { has span.last (drop_to span.first (list_at self.now.lists list)) ≡ true }
         ensures within { IsSpan (list_at self.now.lists list) result }
-        ensures items { items_between (Some span) (list_at self.now.lists list) ≡ items_between result (list_at self.now.lists list) ++ span.last ∷ [] }
+        ensures items { items_between (Some span) (list_at self.now.lists list) ≡ items_between result
+            (list_at self.now.lists list) ++ span.last ∷ [] }
     {
         self.know_members();
         let before = self.prev_of(list, span.last);
@@ -249,7 +255,8 @@ impl Siblings {
     /// The nodes of a list, to be taken from either end.
     pub fn walk(&self, list: usize) -> Walk
         requires { list < length self.now.lists }
-        ensures { items_between result.left (list_at result.siblings.now.lists result.list) ≡ list_at self.now.lists list }
+        ensures { items_between result.left (list_at result.siblings.now.lists result.list)
+            ≡ list_at self.now.lists list }
     {
         Walk {
             siblings: self,
@@ -348,7 +355,8 @@ impl Siblings {
     /// The node after this one in its list.
     pub fn next(&self, node: usize) -> Option<usize>
         requires { node < self.now.nodes }
-        ensures { (c : ℕ) → has node (list_at self.now.lists c) ≡ true → result ≡ next_in node (list_at self.now.lists c) }
+        ensures { (c : ℕ) → has node (list_at self.now.lists c) ≡ true
+            → result ≡ next_in node (list_at self.now.lists c) }
     {
         self.nodes[node].next.get()
     }
@@ -356,7 +364,8 @@ impl Siblings {
     /// The node before this one in its list.
     pub fn prev(&self, node: usize) -> Option<usize>
         requires { node < self.now.nodes }
-        ensures { (c : ℕ) → has node (list_at self.now.lists c) ≡ true → result ≡ prev_in node (list_at self.now.lists c) }
+        ensures { (c : ℕ) → has node (list_at self.now.lists c) ≡ true
+            → result ≡ prev_in node (list_at self.now.lists c) }
     {
         self.nodes[node].prev.get()
     }
@@ -421,7 +430,8 @@ impl Siblings {
         requires donee { donee < length self.old.lists }
         requires donor { donor < length self.old.lists }
         requires differ { donee ≢ donor }
-        ensures lists { self.new.lists ≡ slice_set (slice_set self.old.lists donee (list_at self.old.lists donee ++ list_at self.old.lists donor)) donor [] }
+        ensures lists { self.new.lists ≡ slice_set
+            (slice_set self.old.lists donee (list_at self.old.lists donee ++ list_at self.old.lists donor)) donor [] }
         ensures nodes { self.new.nodes ≡ self.old.nodes }
     {
         while let Some(node) = self.head(donor) {
@@ -479,7 +489,8 @@ impl Siblings {
         requires linked { IsLinked self.old.lists node }
         requires node { node < self.old.nodes }
         ensures lists { self.new.lists ≡ map (without node) self.old.lists }
-        ensures one { (c : ℕ) → has node (list_at self.old.lists c) ≡ true → self.new.lists ≡ slice_set self.old.lists c (without node (list_at self.old.lists c)) }
+        ensures one { (c : ℕ) → has node (list_at self.old.lists c) ≡ true
+            → self.new.lists ≡ slice_set self.old.lists c (without node (list_at self.old.lists c)) }
         ensures unlinked { IsUnlinked self.new.lists node }
         ensures nodes { self.new.nodes ≡ self.old.nodes }
     {
@@ -510,7 +521,9 @@ fn link(
     requires next { IfSome next (λ i. i < length nodes.old.items) }
     requires node { node < length nodes.old.items }
     requires list { list < length ends.old.items }
-    ensures nodes { nodes.new.items ≡ with_node (with_prev (with_next nodes.old.items prev (Some node)) next (Some node)) node (record { parent = Some list; prev = prev; next = next }) }
+    ensures nodes { nodes.new.items ≡ with_node
+        (with_prev (with_next nodes.old.items prev (Some node)) next (Some node)) node
+        (record { parent = Some list; prev = prev; next = next }) }
     ensures ends { ends.new.items ≡ with_tail (with_head ends.old.items list prev (Some node)) list next (Some node) }
 {
     let here = Link::to(node);
@@ -536,7 +549,8 @@ fn cut(
     requires next { IfSome next (λ i. i < length nodes.old.items) }
     requires node { node < length nodes.old.items }
     requires list { list < length ends.old.items }
-    ensures nodes { nodes.new.items ≡ with_node (with_prev (with_next nodes.old.items prev next) next prev) node unlinked }
+    ensures nodes { nodes.new.items ≡ with_node
+        (with_prev (with_next nodes.old.items prev next) next prev) node unlinked }
     ensures ends { ends.new.items ≡ with_tail (with_head ends.old.items list prev next) list next prev }
 {
     set_after(nodes, ends, list, prev, next);

@@ -44,9 +44,14 @@ impl<K> Model for Uses<K> {
 
     ghost Value = { Named K };
 
-    ghost view = { λ u. record { definitions = keys_of u.definitions.slots; places = places_from 0 u.threads.lists u.places.slots; threads = threads_from 0 u.threads.lists u.definitions.slots } };
+    ghost view = { λ u. record {
+      definitions = keys_of u.definitions.slots;
+      places = places_from 0 u.threads.lists u.places.slots;
+      threads = threads_from 0 u.threads.lists u.definitions.slots;
+    } };
 
-    ghost invariant = { λ u. AreThreads u.definitions.slots u.threads.lists × ArePlaces u.places.slots u.threads.lists };
+    ghost invariant = { λ u. AreThreads u.definitions.slots u.threads.lists
+        × ArePlaces u.places.slots u.threads.lists };
 }
 
 /// The places that name a definition.
@@ -161,7 +166,8 @@ impl<K: Copy> Uses<K> {
     pub fn add(&mut self, definition: usize, spot: Spot) -> Result<usize, AllocError>
         requires { IsDefined self.old definition }
         ensures fresh { IfOk result (λ p. place_of self.old p ≡ None) }
-        ensures added { IfOk result (λ p. SetsPlace self.old self.new p (Some (record { definition = definition; user = spot.user; index = spot.index }))) }
+        ensures added { IfOk result (λ p. SetsPlace self.old self.new p
+            (Some (record { definition = definition; user = spot.user; index = spot.index }))) }
         ensures definitions { self.new.definitions ≡ self.old.definitions }
         ensures err { OnErr result (self.new ≡ self.old) }
     {
@@ -291,7 +297,8 @@ fn make_room_for_place(places: &mut Slab<Spot>, threads: &mut Siblings) -> Resul
 /// Writes how many places name a definition.
 fn set_uses<K>(definitions: &mut Slab<Defined<K>>, definition: usize, uses: usize)
     requires { ContainsKey definitions.old definition }
-    ensures { definitions.new.slots ≡ slice_set definitions.old.slots definition (counted uses (definition_at definitions.old.slots definition)) }
+    ensures { definitions.new.slots ≡ slice_set definitions.old.slots definition
+        (counted uses (definition_at definitions.old.slots definition)) }
 {
     definitions[definition].uses = uses;
 }
@@ -352,8 +359,11 @@ fn merge<K>(definitions: &mut Slab<Defined<K>>, threads: &mut Siblings, from: us
     ensures sound { AreThreads definitions.new.slots threads.new.lists }
     ensures keys { keys_of definitions.new.slots ≡ keys_of definitions.old.slots }
     ensures emptied { (p : ℕ) → has p (list_at threads.new.lists from) ≡ false }
-    ensures joined { (p : ℕ) → has p (list_at threads.new.lists to) ≡ (has p (list_at threads.old.lists to) || has p (list_at threads.old.lists from)) }
-    ensures others { (p c : ℕ) → c ≢ from → c ≢ to → has p (list_at threads.new.lists c) ≡ has p (list_at threads.old.lists c) }
+    ensures joined { (p : ℕ)
+        → has p (list_at threads.new.lists to) ≡
+        (has p (list_at threads.old.lists to) || has p (list_at threads.old.lists from)) }
+    ensures others { (p c : ℕ) → c ≢ from → c ≢ to
+        → has p (list_at threads.new.lists c) ≡ has p (list_at threads.old.lists c) }
 {
     let moved = definitions[from].uses;
     let kept = definitions[to].uses;

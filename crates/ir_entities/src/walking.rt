@@ -37,7 +37,8 @@ impl<O, B, R> Forest<O, B, R> {
     /// What stands right after a place, in what holds it.
     pub fn next_sibling(&self, at: Place) -> Option<Place>
         requires { IsUsed self.now at }
-        ensures { (d : Place) → IsIn (shape_of self.now) at d → result ≡ place_after at (children (shape_of self.now) d) }
+        ensures { (d : Place) → IsIn (shape_of self.now) at d
+            → result ≡ place_after at (children (shape_of self.now) d) }
     {
         match at {
             Place::Op(op) => {

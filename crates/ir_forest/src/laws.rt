@@ -23,18 +23,22 @@ pub fn built_root()
     ensures one { (values : Values) (text : ℕ → List ℕ) (es : List Event) → Leads at_root [] es at_end []
         → (e : Entity ℕ) × (operations_in values text [] (built es).here ≡ an_entity e no_entity) }
     ensures nests { (es : List Event) → Leads at_root [] es at_end [] → Nests at_root [] es }
-    ensures leads { (es : List Event) → Nests at_root [] es → (to : Position) × (back : List Position) × Leads at_root [] es to back }
+    ensures leads { (es : List Event) → Nests at_root [] es → (to : Position) × (back : List Position)
+        × Leads at_root [] es to back }
 {}
 
 /// The deeds of a tree build that tree, behind what stands there; so what was read is one forest at most.
 pub fn built_tree()
     ensures runs { (es : List Event) (b : Built) (n : ℕ) → built_from b n es ≡ run b (deeds_from n es) }
-    ensures tree { (t : Tree Step) (b : Built) → AreWhole (a_tree t no_tree) → run b (deeds_of t) ≡ record { here = behind b.here t; around = b.around } }
-    ensures forest { (es : List Event) (ts : Trees Step) → IsForest es ts → built es ≡ record { here = ts; around = [] } }
+    ensures tree { (t : Tree Step) (b : Built) → AreWhole (a_tree t no_tree)
+        → run b (deeds_of t) ≡ record { here = behind b.here t; around = b.around } }
+    ensures forest { (es : List Event) (ts : Trees Step) → IsForest es ts
+        → built es ≡ record { here = ts; around = [] } }
 {}
 
 /// The first refusal is the fault that is named of those that values and names of results have.
 pub fn first_refusal_is_named()
     ensures { (values : Values) (text : ℕ → List ℕ) (es : List Event) → Nests at_root [] es → FollowTokens false es
-        → IsNamed (λ f. HasNumberFault values text es f ⊎ HasNamesFault values text es f) (first_refusal values text es) }
+        → IsNamed (λ f. HasNumberFault values text es f
+        ⊎ HasNamesFault values text es f) (first_refusal values text es) }
 {}

@@ -190,7 +190,8 @@ fn add_words(words: &mut Vec<&'static str>, more: &[&'static str]) -> Result<(),
 /// Adds the words of a format.
 #[cycle(words)]
 fn add_format(words: &mut Vec<&'static str>, format: &[Directive]) -> Result<(), AllocError>
-    ensures { OnOk result (texts words.new.items ≡ with_words (texts words.old.items) (words_in (steps_of format.now))) }
+    ensures { OnOk result (texts words.new.items ≡ with_words (texts words.old.items)
+        (words_in (steps_of format.now))) }
 {
     for directive in format {
         add_directive(words, *directive)?;
@@ -200,7 +201,8 @@ fn add_format(words: &mut Vec<&'static str>, format: &[Directive]) -> Result<(),
 
 #[cycle(words)]
 fn add_directive(words: &mut Vec<&'static str>, directive: Directive) -> Result<(), AllocError>
-    ensures { OnOk result (texts words.new.items ≡ with_words (texts words.old.items) (words_in_step (step_of directive))) }
+    ensures { OnOk result (texts words.new.items ≡ with_words (texts words.old.items)
+        (words_in_step (step_of directive))) }
 {
     match directive {
         Directive::Literal(text) => add_word(words, text.trim())?,
@@ -305,7 +307,8 @@ impl RuleMaker {
     /// Puts what a format stands for behind these symbols.
     #[cycle(formats)]
     fn format(&mut self, symbols: &mut Vec<Symbol>, format: &[Directive]) -> Result<(), AllocError>
-        ensures { OnOk result (Adds self.old self.new symbols.old.items symbols.new.items (steps_made (texts self.old.words.items) (steps_of format.now) self.old.next_list)) }
+        ensures { OnOk result (Adds self.old self.new symbols.old.items symbols.new.items
+            (steps_made (texts self.old.words.items) (steps_of format.now) self.old.next_list)) }
     {
         for directive in format {
             self.directive(symbols, *directive)?;
@@ -319,7 +322,8 @@ impl RuleMaker {
         symbols: &mut Vec<Symbol>,
         directive: Directive,
     ) -> Result<(), AllocError>
-        ensures { OnOk result (Adds self.old self.new symbols.old.items symbols.new.items (step_made (texts self.old.words.items) (step_of directive) self.old.next_list)) }
+        ensures { OnOk result (Adds self.old self.new symbols.old.items symbols.new.items
+            (step_made (texts self.old.words.items) (step_of directive) self.old.next_list)) }
     {
         let name = Symbol::Sign(NAME_SIGN);
         match directive {
@@ -363,7 +367,8 @@ impl RuleMaker {
 
     /// Names of values, none or more, with commas between them.
     fn operands(&mut self, symbols: &mut Vec<Symbol>) -> Result<(), AllocError>
-        ensures { OnOk result (Adds self.old self.new symbols.old.items symbols.new.items (step_made (texts self.old.words.items) operands self.old.next_list)) }
+        ensures { OnOk result (Adds self.old self.new symbols.old.items symbols.new.items
+            (step_made (texts self.old.words.items) operands self.old.next_list)) }
     {
         let list = self.list_part();
         symbols.push(Symbol::Act(Action::BeginOperands))?;
@@ -375,7 +380,8 @@ impl RuleMaker {
 
     /// The name of one value, as the only operand between the actions that begin and end operands.
     fn operand(&self, symbols: &mut Vec<Symbol>) -> Result<(), AllocError>
-        ensures { OnOk result (Adds self.now self.now symbols.old.items symbols.new.items (step_made (texts self.now.words.items) operand self.now.next_list)) }
+        ensures { OnOk result (Adds self.now self.now symbols.old.items symbols.new.items
+            (step_made (texts self.now.words.items) operand self.now.next_list)) }
     {
         symbols.push(Symbol::Act(Action::BeginOperands))?;
         symbols.push(Symbol::Sign(NAME_SIGN))?;
@@ -386,7 +392,8 @@ impl RuleMaker {
 
     /// Adds the rule of a kind: its id, and between two actions what its format says.
     fn kind(&mut self, sort: Sort, number: u8, kind: KindText) -> Result<(), AllocError>
-        ensures { OnOk result (AddsMade self.old self.new (kind_made (texts self.old.words.items) sort number (kind_of kind) self.old.next_list)) }
+        ensures { OnOk result (AddsMade self.old self.new
+            (kind_made (texts self.old.words.items) sort number (kind_of kind) self.old.next_list)) }
     {
         let mut symbols = Vec::new(self.alloc);
         symbols.push(self.sign(kind.id))?;
@@ -410,7 +417,8 @@ impl RuleMaker {
 
     /// An operation with its results, whatever its kind.
     fn operation_rules(&mut self) -> Result<(), AllocError>
-        ensures { OnOk result (AddsRules self.old self.new (operation_rules (texts self.old.words.items)) self.old.next_list) }
+        ensures { OnOk result (AddsRules self.old self.new
+            (operation_rules (texts self.old.words.items)) self.old.next_list) }
     {
         let name = Symbol::Sign(NAME_SIGN);
         let result = Symbol::Act(Action::Result);
@@ -427,7 +435,8 @@ impl RuleMaker {
 
     /// Regions, blocks and their operations.
     fn region_rules(&mut self) -> Result<(), AllocError>
-        ensures { OnOk result (AddsRules self.old self.new (region_rules (texts self.old.words.items)) self.old.next_list) }
+        ensures { OnOk result (AddsRules self.old self.new
+            (region_rules (texts self.old.words.items)) self.old.next_list) }
     {
         let open = self.sign("{");
         let close = self.sign("}");
@@ -448,7 +457,8 @@ impl RuleMaker {
 
     /// A block: its header, and its operations.
     fn block_rules(&mut self) -> Result<(), AllocError>
-        ensures { OnOk result (AddsRules self.old self.new (block_rules (texts self.old.words.items)) self.old.next_list) }
+        ensures { OnOk result (AddsRules self.old self.new
+            (block_rules (texts self.old.words.items)) self.old.next_list) }
     {
         let caret = self.sign("^");
         let open = self.sign("(");
@@ -470,7 +480,8 @@ impl RuleMaker {
 
     /// The arguments of a block, with their types.
     fn argument_rules(&mut self) -> Result<(), AllocError>
-        ensures { OnOk result (AddsRules self.old self.new (argument_rules (texts self.old.words.items)) self.old.next_list) }
+        ensures { OnOk result (AddsRules self.old self.new
+            (argument_rules (texts self.old.words.items)) self.old.next_list) }
     {
         let colon = self.sign(":");
         let comma = self.sign(",");

@@ -147,9 +147,11 @@ fn has_kind(number: usize, words: usize) -> bool
 
 /// The number of a text among those that came before, and whether it is a new one, which is added.
 fn name_of<'a>(known: &mut IndexSet<Text<'a>>, text: Text<'a>) -> Result<(usize, bool), AllocError>
-    ensures known { OnOk result (map codes_of known.new.keys ≡ with_word (map codes_of known.old.keys) (codes_of text.entry)) }
+    ensures known { OnOk result (map codes_of known.new.keys ≡ with_word (map codes_of known.old.keys)
+        (codes_of text.entry)) }
     ensures number { IfOk result (λ r. r.0 ≡ number_of (map codes_of known.old.keys) (codes_of text.entry)) }
-    ensures is_new { IfOk result (λ r. r.1 ≡ (number_of (map codes_of known.old.keys) (codes_of text.entry) == length (map codes_of known.old.keys))) }
+    ensures is_new { IfOk result (λ r. r.1 ≡
+        (number_of (map codes_of known.old.keys) (codes_of text.entry) == length (map codes_of known.old.keys))) }
 {
     let (name, is_new) = known.insert_full(text)?;
     Ok((name, is_new))
@@ -180,7 +182,8 @@ fn guess_place(text: Text) -> usize {
 
 /// The number of a text that is known, where the guess at a place is right.
 fn guessed(known: &IndexSet<Text>, guesses: &[usize], place: usize, text: Text) -> Option<usize>
-    ensures { IfSome result (λ name. (name ≡ number_of (map codes_of known.now.keys) (codes_of text.entry)) × (name < length (map codes_of known.now.keys))) }
+    ensures { IfSome result (λ name. (name ≡ number_of (map codes_of known.now.keys) (codes_of text.entry))
+        × (name < length (map codes_of known.now.keys))) }
 {
     let guess = *guesses.get(place)?;
     if guess >= known.len() {
@@ -301,7 +304,8 @@ impl<'a> Spellings<'a> {
         token: Token,
     ) -> Result<(u32, usize), AllocError>
         requires { NumbersWords (spellings words.now) (known_texts self.old) self.old.words.items }
-        ensures known { OnOk result (known_texts self.new ≡ known_with (known_texts self.old) (codes_of chars.entry) token) }
+        ensures known { OnOk result (known_texts self.new ≡ known_with (known_texts self.old)
+            (codes_of chars.entry) token) }
         ensures words { self.new.words ≡ self.old.words }
         ensures signs { self.new.signs ≡ self.old.signs }
         ensures kind { IfOk result (λ r. r.0 ≡ kind_of (spellings words.now) (codes_of chars.entry) token) }

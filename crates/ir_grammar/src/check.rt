@@ -96,7 +96,8 @@ impl Grammar {
 
     /// Whether each column that the part may stand before passes.
     fn followers_pass(&self, part: u32, target: Target) -> bool
-        ensures { IsTrue result → (c : ℕ) → may_follow (slice_get self.now.parts.items part) c ≡ true → Passes self.now target c }
+        ensures { IsTrue result → (c : ℕ) → may_follow (slice_get self.now.parts.items part) c ≡ true
+            → Passes self.now target c }
     {
         match self.parts.get(part as usize) {
             None => true,
@@ -353,7 +354,8 @@ impl Grammar {
 
     /// Whether the closing rule of the part, if there is one, is a rule of the part.
     fn closing_is_of(&self, part: u32) -> bool
-        ensures { IsTrue result → (p : ℕ) → closing_of (slice_get self.now.parts.items part) ≡ Some p → IsRuleOf self.now part p }
+        ensures { IsTrue result → (p : ℕ) → closing_of (slice_get self.now.parts.items part) ≡ Some p
+            → IsRuleOf self.now part p }
     {
         match self.closing(part) {
             None => true,
@@ -363,7 +365,8 @@ impl Grammar {
 
     /// Whether this is a rule of the part with parts of lower ranks alone.
     fn has_shortest(&self, part: u32, rule: usize, rank: u32) -> bool
-        ensures { IsTrue result → (r : Rule) × (slice_get self.now.rules.items rule ≡ Some r) × (r.part ≡ part) × IsBelow self.now rank r.body.items }
+        ensures { IsTrue result → (r : Rule) × (slice_get self.now.rules.items rule ≡ Some r) × (r.part ≡ part)
+            × IsBelow self.now rank r.body.items }
     {
         if self.rules.len() <= rule {
             return false;

@@ -27,7 +27,8 @@ impl<'g> Pending<'g> {
     /// The next symbol, if there is one. It stays.
     pub(crate) fn first(&mut self) -> Option<Symbol>
         ensures same { unread self.new ≡ unread self.old }
-        ensures first { MatchOption result (unread self.new ≡ []) (λ symbol. (0 < length self.new.rest.now) × (unread self.new ≡ symbol ∷ drop 1 (unread self.new))) }
+        ensures first { MatchOption result (unread self.new ≡ []) (λ symbol. (0 < length self.new.rest.now)
+            × (unread self.new ≡ symbol ∷ drop 1 (unread self.new))) }
     {
         while self.rest.is_empty() {
             self.rest = self.around.pop()?;

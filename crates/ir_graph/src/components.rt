@@ -41,7 +41,8 @@ pub fn sccs_in_topological_order<C, G: ControlFlowGraph<C>>(
     graph: &G,
 ) -> Result<Vec<Scc<G::Node>>, AllocError>
     requires { G.is_graph graph.now ctx.now }
-    ensures { IfOk result (λ parts. AreSccs (G.successors_of graph.now ctx.now) (Contains (G.nodes_of graph.now ctx.now)) parts.items) }
+    ensures { IfOk result (λ parts. AreSccs (G.successors_of graph.now ctx.now)
+        (Contains (G.nodes_of graph.now ctx.now)) parts.items) }
 {
     let numbering = number(alloc, ctx, graph)?;
     let reverse = transposed(alloc, &numbering.rows)?;

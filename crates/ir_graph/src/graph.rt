@@ -131,13 +131,16 @@ pub trait ControlFlowGraph<C> {
     ghost entered: { (g : Self) (c : C) → is_graph g c → IfSome (entry_of g c) (λ n. Contains (nodes_of g c) n) };
 
     /// Successors are nodes.
-    ghost onward: { (g : Self) (c : C) → is_graph g c → (n m : Self.Node) → Contains (nodes_of g c) n → Contains (successors_of g c n) m → Contains (nodes_of g c) m };
+    ghost onward: { (g : Self) (c : C) → is_graph g c → (n m : Self.Node) → Contains (nodes_of g c) n
+        → Contains (successors_of g c n) m → Contains (nodes_of g c) m };
 
     /// Predecessors are nodes.
-    ghost backward: { (g : Self) (c : C) → is_graph g c → (n m : Self.Node) → Contains (nodes_of g c) n → Contains (predecessors_of g c n) m → Contains (nodes_of g c) m };
+    ghost backward: { (g : Self) (c : C) → is_graph g c → (n m : Self.Node) → Contains (nodes_of g c) n
+        → Contains (predecessors_of g c n) m → Contains (nodes_of g c) m };
 
     /// A node is a predecessor of another exactly where this is a successor of it.
-    ghost converse: { (g : Self) (c : C) → is_graph g c → (n m : Self.Node) → Contains (nodes_of g c) n → Contains (nodes_of g c) m → Contains (predecessors_of g c m) n ↔ Contains (successors_of g c n) m };
+    ghost converse: { (g : Self) (c : C) → is_graph g c → (n m : Self.Node) → Contains (nodes_of g c) n
+        → Contains (nodes_of g c) m → Contains (predecessors_of g c m) n ↔ Contains (successors_of g c n) m };
 
     /// Nodes that compare equal are the same.
     ghost same: { (n m : Self.Node) → Self.Node.eq n m ≡ true → n ≡ m };

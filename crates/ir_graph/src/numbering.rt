@@ -74,7 +74,8 @@ pub(crate) fn number<C, G: ControlFlowGraph<C>>(
     graph: &G,
 ) -> Result<Numbering<G::Node>, AllocError>
     requires { G.is_graph graph.now ctx.now }
-    ensures { IfOk result (λ n. IsNumbering (G.successors_of graph.now ctx.now) (G.nodes_of graph.now ctx.now) n.nodes.items n.numbers.items n.rows.items) }
+    ensures { IfOk result (λ n. IsNumbering (G.successors_of graph.now ctx.now)
+        (G.nodes_of graph.now ctx.now) n.nodes.items n.numbers.items n.rows.items) }
 {
     let nodes = graph.nodes(alloc, ctx)?;
     let set = set_of(alloc, &nodes)?;

@@ -22,7 +22,8 @@ pub fn post_order<C, G: ControlFlowGraph<C>>(
     graph: &G,
 ) -> Result<Vec<G::Node>, AllocError>
     requires { G.is_graph graph.now ctx.now }
-    ensures { IfOk result (λ order. IsPostOrder (G.successors_of graph.now ctx.now) (G.nodes_of graph.now ctx.now) order.items) }
+    ensures { IfOk result (λ order. IsPostOrder (G.successors_of graph.now ctx.now)
+        (G.nodes_of graph.now ctx.now) order.items) }
 {
     let numbering = number(alloc, ctx, graph)?;
     let orders = depth_first(alloc, &numbering.rows, &numbering.numbers)?;
@@ -58,7 +59,8 @@ pub fn post_order_by_component<C, G: ControlFlowGraph<C>>(
     graph: &G,
 ) -> Result<Vec<Vec<G::Node>>, AllocError>
     requires { G.is_graph graph.now ctx.now }
-    ensures { IfOk result (λ parts. IsPostOrderApart (G.successors_of graph.now ctx.now) (G.nodes_of graph.now ctx.now) (lists_of parts.items)) }
+    ensures { IfOk result (λ parts. IsPostOrderApart (G.successors_of graph.now ctx.now)
+        (G.nodes_of graph.now ctx.now) (lists_of parts.items)) }
 {
     let numbering = number(alloc, ctx, graph)?;
     let parts = post_order_apart(alloc, &numbering.rows, &numbering.numbers)?;
@@ -87,7 +89,8 @@ pub fn topological_order_by_component<C, G: ControlFlowGraph<C>>(
     graph: &G,
 ) -> Result<Vec<Vec<G::Node>>, AllocError>
     requires { G.is_graph graph.now ctx.now }
-    ensures { IfOk result (λ parts. IsTopologicalOrderApart (G.successors_of graph.now ctx.now) (G.nodes_of graph.now ctx.now) (lists_of parts.items)) }
+    ensures { IfOk result (λ parts. IsTopologicalOrderApart (G.successors_of graph.now ctx.now)
+        (G.nodes_of graph.now ctx.now) (lists_of parts.items)) }
 {
     let mut parts = post_order_by_component(alloc, ctx, graph)?;
     reverse_each(&mut parts);
@@ -118,7 +121,8 @@ pub fn topological_order<C, G: ControlFlowGraph<C>>(
     graph: &G,
 ) -> Result<Vec<G::Node>, AllocError>
     requires { G.is_graph graph.now ctx.now }
-    ensures { IfOk result (λ order. IsTopologicalOrder (G.successors_of graph.now ctx.now) (G.nodes_of graph.now ctx.now) order.items) }
+    ensures { IfOk result (λ order. IsTopologicalOrder (G.successors_of graph.now ctx.now)
+        (G.nodes_of graph.now ctx.now) order.items) }
 {
     let parts = topological_order_by_component(alloc, ctx, graph)?;
     concatenated(alloc, &parts)

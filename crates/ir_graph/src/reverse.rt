@@ -85,7 +85,8 @@ fn pre_sentinels_of<C, G: ControlFlowGraph<C>>(
     graph: &G,
 ) -> Result<Vec<G::Node>, AllocError>
     requires { G.is_graph graph.now ctx.now }
-    ensures { IfOk result (λ found. CanReverse (G.successors_of graph.now ctx.now) (G.nodes_of graph.now ctx.now) found.items) }
+    ensures { IfOk result (λ found. CanReverse (G.successors_of graph.now ctx.now)
+        (G.nodes_of graph.now ctx.now) found.items) }
 {
     let numbering = number(alloc, ctx, graph)?;
     let reverse = transposed(alloc, &numbering.rows)?;
@@ -110,7 +111,8 @@ impl<'a, G, N: Copy + Eq + Hash + Drop> ReverseGraph<'a, G, N> {
         G: ControlFlowGraph<C, Node = N>,
         requires { G.is_graph original.now ctx.now }
         ensures original { IfOk result (λ r. r.original.now ≡ original.now) }
-        ensures found { IfOk result (λ r. CanReverse (G.successors_of original.now ctx.now) (G.nodes_of original.now ctx.now) r.pre_sentinels.keys) }
+        ensures found { IfOk result (λ r. CanReverse (G.successors_of original.now ctx.now)
+            (G.nodes_of original.now ctx.now) r.pre_sentinels.keys) }
     {
         let found = pre_sentinels_of(alloc, ctx, original)?;
         Ok(ReverseGraph {
@@ -142,7 +144,8 @@ impl<'a, C, G: ControlFlowGraph<C>> ControlFlowGraph<C> for ReverseGraph<'a, G, 
 
     type Node = ReverseNode<G::Node>;
 
-    ghost is_graph = { λ r c. G.is_graph r.original.now c × CanReverse (G.successors_of r.original.now c) (G.nodes_of r.original.now c) r.pre_sentinels.keys };
+    ghost is_graph = { λ r c. G.is_graph r.original.now c
+        × CanReverse (G.successors_of r.original.now c) (G.nodes_of r.original.now c) r.pre_sentinels.keys };
 
     ghost nodes_of = { λ r c. reverse_nodes (G.nodes_of r.original.now c) };
 
@@ -150,7 +153,8 @@ impl<'a, C, G: ControlFlowGraph<C>> ControlFlowGraph<C> for ReverseGraph<'a, G, 
 
     ghost successors_of = { λ r c n. reverse_successors (G.predecessors_of r.original.now c) r.pre_sentinels.keys n };
 
-    ghost predecessors_of = { λ r c n. reverse_predecessors G.Node.eq (G.successors_of r.original.now c) r.pre_sentinels.keys n };
+    ghost predecessors_of = { λ r c n. reverse_predecessors G.Node.eq
+        (G.successors_of r.original.now c) r.pre_sentinels.keys n };
 
     fn num_successors(&self, ctx: &C, node: &ReverseNode<G::Node>) -> usize {
         match node {
@@ -218,11 +222,15 @@ impl<'a, C, G: ControlFlowGraph<C>> ControlFlowGraph<C> for ReverseGraph<'a, G, 
 
     ghost entered = { λ r c h. sentinel_in (G.nodes_of r.original.now c) };
 
-    ghost onward = { λ r c h. reverse_onward (G.nodes_of r.original.now c) r.pre_sentinels.keys (G.predecessors_of r.original.now c) (λ n k. (h.1.ends.only n k).0) (G.backward r.original.now c h.0) };
+    ghost onward = { λ r c h. reverse_onward (G.nodes_of r.original.now c) r.pre_sentinels.keys
+        (G.predecessors_of r.original.now c) (λ n k. (h.1.ends.only n k).0) (G.backward r.original.now c h.0) };
 
-    ghost backward = { λ r c h. reverse_backward G.Node.eq (G.nodes_of r.original.now c) r.pre_sentinels.keys (G.successors_of r.original.now c) (G.onward r.original.now c h.0) };
+    ghost backward = { λ r c h. reverse_backward G.Node.eq (G.nodes_of r.original.now c) r.pre_sentinels.keys
+        (G.successors_of r.original.now c) (G.onward r.original.now c h.0) };
 
-    ghost converse = { λ r c h. reverse_converse G.Node.eq G.same G.Node.Eq.laws.refl (G.nodes_of r.original.now c) r.pre_sentinels.keys (G.successors_of r.original.now c) (G.predecessors_of r.original.now c) (G.converse r.original.now c h.0) };
+    ghost converse = { λ r c h. reverse_converse G.Node.eq G.same G.Node.Eq.laws.refl
+        (G.nodes_of r.original.now c) r.pre_sentinels.keys (G.successors_of r.original.now c)
+        (G.predecessors_of r.original.now c) (G.converse r.original.now c h.0) };
 
     ghost same = { same_reverse G.Node.eq G.same _ (λ y. refl) (λ x. refl) (λ x y. refl) };
 }

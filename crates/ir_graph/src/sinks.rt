@@ -47,7 +47,8 @@ fn mark_all(marks: &mut Vec<bool>, nodes: &[usize])
 
 /// The greatest of some numbers.
 fn last_of(nodes: &[usize]) -> Option<usize>
-    ensures { MatchOption result (length nodes.now ≡ 0) (λ last. Contains nodes.now last × All (λ n. n ≤ last) nodes.now) }
+    ensures { MatchOption result (length nodes.now ≡ 0) (λ last. Contains nodes.now last
+        × All (λ n. n ≤ last) nodes.now) }
 {
     nodes.iter().copied().max()
 }

@@ -43,7 +43,8 @@ impl<N: Copy + Eq + Hash + Drop> Model for DFSTraversal<N> {
 
     ghost view = { λ t. record { seen = t.pre.keys; left = t.post.items } };
 
-    ghost invariant = { λ t. AreNamed t.post.items t.post_numbers.items t.pre.keys × ((a b : N) → N.eq a b ≡ true → a ≡ b) };
+    ghost invariant = { λ t. AreNamed t.post.items t.post_numbers.items t.pre.keys
+        × ((a b : N) → N.eq a b ≡ true → a ≡ b) };
 }
 
 /// The place of a node that is in the list.
@@ -108,7 +109,8 @@ impl<N: Copy + Eq + Hash + Drop> DFSTraversal<N> {
         graph: &G,
     ) -> Result<DFSTraversal<N>, AllocError>
         requires { G.is_graph graph.now ctx.now }
-        ensures { IfOk result (λ t. Visits (G.successors_of graph.now ctx.now) empty (option_to_list (G.entry_of graph.now ctx.now)) t) }
+        ensures { IfOk result (λ t. Visits (G.successors_of graph.now ctx.now) empty
+            (option_to_list (G.entry_of graph.now ctx.now)) t) }
     {
         let numbering = number(alloc, ctx, graph)?;
         let roots = entry_numbers(alloc, ctx, graph, &numbering.nodes)?;

@@ -109,7 +109,9 @@ impl<D: Dialects> AttributeDict<D> {
     /// The attribute under a name, to be changed. It keeps its place, and nothing else changes.
     #[tactic(auto, unfolding(crate::specs::Dictionary::all_entries))]
     pub fn get_mut(&mut self, key: &str) -> Option<&mut D::Attr>
-        ensures* lends { sem 𝓛 (lends_attribute D.row D.OpKind.row D.Attr.row D.TypeKey.row D.OpKind.Hash D.OpKind.Debug D.Attr.Hash D.Attr.Debug D.TypeKey.Hash D.TypeKey.Debug self.entry key.now result) }
+        ensures* lends { sem 𝓛
+            (lends_attribute D.row D.OpKind.row D.Attr.row D.TypeKey.row D.OpKind.Hash D.OpKind.Debug D.Attr.Hash
+            D.Attr.Debug D.TypeKey.Hash D.TypeKey.Debug self.entry key.now result) }
         ensures value { option_copied_mut result ≡ attribute_at self.old key.now }
     {
         if has_name(&self.first, key) {
@@ -319,7 +321,8 @@ impl<D: Dialects> Eq for AttributeDict<D> {
     ghost use Rattle.std.specs.Cmp as cmp;
     ghost use Rattle.ir_names.specs.Equal.{are_equal_symm, are_equal_trans, are_equal_refl};
 
-    ghost laws = { cmp.equiv (record { symm = are_equal_symm D.Attr.Eq.laws; trans = are_equal_trans D.Attr.Eq.laws }) (are_equal_refl D.Attr.Eq.laws) };
+    ghost laws = { cmp.equiv (record { symm = are_equal_symm D.Attr.Eq.laws; trans = are_equal_trans D.Attr.Eq.laws })
+        (are_equal_refl D.Attr.Eq.laws) };
 }
 
 /// Equal dictionaries have equal hashes: the order of the names does not matter.

@@ -27,7 +27,8 @@ impl Model for Legaliser {
 
     ghost view = { λ l. record { given = paired l.sources.keys l.names.keys; counter = l.counter } };
 
-    ghost invariant = { λ l. (length l.sources.keys ≡ length l.names.keys) × IsOneToOne (paired l.sources.keys l.names.keys) };
+    ghost invariant = { λ l. (length l.sources.keys ≡ length l.names.keys)
+        × IsOneToOne (paired l.sources.keys l.names.keys) };
 }
 
 impl Legaliser {
@@ -76,8 +77,10 @@ impl Legaliser {
 
     /// The text with the first number, from the counter on, with which it isn't taken, and the number behind that.
     fn first_free(&self, text: &Identifier) -> Result<(Identifier, u64), GrowError>
-        ensures free { IfOk result (λ r. IsNumbered self.now.given (text_of text.now) self.now.counter (text_of r.0) r.1) }
-        ensures full { result ≡ Err CounterFull → AreTaken self.now.given (text_of text.now) self.now.counter (2 ^ 64 - 1) }
+        ensures free { IfOk result (λ r. IsNumbered self.now.given (text_of text.now) self.now.counter
+            (text_of r.0) r.1) }
+        ensures full { result ≡ Err CounterFull
+            → AreTaken self.now.given (text_of text.now) self.now.counter (2 ^ 64 - 1) }
     {
         for number in self.counter..u64::MAX {
             let name = text.with_number(number)?;
@@ -104,7 +107,10 @@ impl Legaliser {
     fn note(&mut self, source: String, name: Identifier) -> Result<(), AllocError>
         requires new { name_of self.old.given (string_bytes source) ≡ None }
         requires free { is_taken self.old.given (text_of name) ≡ false }
-        ensures ok { OnOk result (self.new ≡ record self.old { given = with_name self.old.given (string_bytes source) (text_of name) }) }
+        ensures ok { OnOk result (self.new ≡ record self.old {
+          given = with_name self.old.given (string_bytes source)
+              (text_of name);
+        }) }
         ensures err { OnErr result (self.new ≡ self.old) }
     {
         self.sources.reserve(1)?;
@@ -120,11 +126,16 @@ impl Legaliser {
     /// in front where it is empty or begins with a digit. Where that is taken, `_` and the counter
     /// follow, one more at each try. A try that finds the counter at its greatest is refused.
     pub fn legalise(&mut self, source: &str) -> Result<Identifier, GrowError>
-        ensures known { (name : List ℕ) → name_of self.old.given source.now ≡ Some name → IfOk result (λ id. text_of id ≡ name) × (self.new ≡ self.old) }
-        ensures fresh { name_of self.old.given source.now ≡ None → IfOk result (λ id. IsFresh self.old.given (clean_text (chars source.now)) self.old.counter (text_of id) self.new.counter) }
-        ensures given { name_of self.old.given source.now ≡ None → IfOk result (λ id. self.new.given ≡ with_name self.old.given source.now (text_of id)) }
+        ensures known { (name : List ℕ) → name_of self.old.given source.now ≡ Some name
+            → IfOk result (λ id. text_of id ≡ name) × (self.new ≡ self.old) }
+        ensures fresh { name_of self.old.given source.now ≡ None
+            → IfOk result (λ id. IsFresh self.old.given (clean_text (chars source.now)) self.old.counter
+            (text_of id) self.new.counter) }
+        ensures given { name_of self.old.given source.now ≡ None
+            → IfOk result (λ id. self.new.given ≡ with_name self.old.given source.now (text_of id)) }
         ensures one { IsOneToOne self.new.given }
-        ensures full { result ≡ Err CounterFull → (name_of self.old.given source.now ≡ None) × IsFull self.old (clean_text (chars source.now)) }
+        ensures full { result ≡ Err CounterFull → (name_of self.old.given source.now ≡ None)
+            × IsFull self.old (clean_text (chars source.now)) }
         ensures err { OnErr result (self.new ≡ self.old) }
     {
         if let Some(name) = self.known(source) {

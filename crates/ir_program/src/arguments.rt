@@ -117,7 +117,9 @@ impl<O, B> Program<O, B> {
     /// memory is asked for.
     pub fn pop_argument(&mut self, block: Ptr<BasicBlock>) -> Option<Value>
         requires block { IsSome (block_at self.old block) }
-        requires unused { (v : Value) → value_in (arguments_at self.old block) (argument_count self.old block - 1) ≡ Some v → IsUsed self.old v → ⊥ }
+        requires unused { (v : Value)
+            → value_in (arguments_at self.old block) (argument_count self.old block - 1) ≡ Some v → IsUsed self.old v
+            → ⊥ }
         ensures value { result ≡ value_in (arguments_at self.old block) (argument_count self.old block - 1) }
         ensures popped { OnSome result (PopsArgument self.old self.new block) }
         ensures forgotten { IfSome result (λ v. ForgetsValue self.old self.new v) }

@@ -51,7 +51,8 @@ impl<O: Drop, B: Drop> Program<O, B> {
         requires operation { IsSome (operation_at self.old op) }
         requires operands { AreLiveValues self.old operands.now }
         requires successors { AreLiveBlocks self.old successors.now }
-        ensures filled { OnOk result ((rs : List (Ptr Region)) × (length rs ≡ regions) × FillsOperation self.old self.new op results.now operands.now successors.now rs) }
+        ensures filled { OnOk result ((rs : List (Ptr Region)) × (length rs ≡ regions)
+            × FillsOperation self.old self.new op results.now operands.now successors.now rs) }
         ensures err { OnErr result (FillsSome self.old self.new op) }
         ensures full { result ≡ Err CounterFull → 2 ^ 64 ≤ self.old.counter + length results.now }
     {
@@ -67,7 +68,8 @@ impl<O: Drop, B: Drop> Program<O, B> {
         requires operation { IsSome (operation_at self.old op) }
         requires unlinked { IsUnlinkedOperation self.old op }
         requires bare { HasBareRegions self.old op }
-        requires unused { (q : Ptr Operation) (k : ℕ) (v : Value) → q ≢ op → slice_get (operands_at self.old q) k ≡ Some v → v.definer ≢ ByOp op }
+        requires unused { (q : Ptr Operation) (k : ℕ) (v : Value) → q ≢ op
+            → slice_get (operands_at self.old q) k ≡ Some v → v.definer ≢ ByOp op }
         requires numbers { (v : Value) → v.definer ≢ ByOp op → IsLiveValue self.old v → v.number < counter }
         ensures { TakesBackOperation self.old self.new op counter }
     {
@@ -92,7 +94,8 @@ impl<O: Drop, B: Drop> Program<O, B> {
     ) -> Result<Ptr<Operation>, GrowError>
         requires operands { AreLiveValues self.old operands.now }
         requires successors { AreLiveBlocks self.old successors.now }
-        ensures built { IfOk result (λ p. BuildsOperation self.old self.new p payload results.now operands.now successors.now regions) }
+        ensures built { IfOk result
+            (λ p. BuildsOperation self.old self.new p payload results.now operands.now successors.now regions) }
         ensures err { OnErr result (IsUnchanged self.old self.new) }
         ensures err_types { OnErr result ((v : Value) → type_at self.new v ≡ type_at self.old v) }
         ensures full { result ≡ Err CounterFull → 2 ^ 64 ≤ self.old.counter + length results.now }
@@ -115,7 +118,8 @@ impl<O: Drop, B: Drop> Program<O, B> {
         requires block { IsSome (block_at self.old block) }
         requires unlinked { IsUnlinkedBlock self.old block }
         requires bare { operations_in self.old block ≡ [] }
-        requires unused { (q : Ptr Operation) (k : ℕ) (v : Value) → slice_get (operands_at self.old q) k ≡ Some v → v.definer ≢ ByBlock block }
+        requires unused { (q : Ptr Operation) (k : ℕ) (v : Value) → slice_get (operands_at self.old q) k ≡ Some v
+            → v.definer ≢ ByBlock block }
         requires untargeted { (q : Ptr Operation) (k : ℕ) → slice_get (successors_at self.old q) k ≢ Some block }
         requires numbers { (v : Value) → v.definer ≢ ByBlock block → IsLiveValue self.old v → v.number < counter }
         ensures { TakesBackBlock self.old self.new block counter }

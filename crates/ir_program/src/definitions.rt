@@ -30,7 +30,8 @@ pub(crate) fn insert_definition(
     ty: TypeHandle,
 ) -> Result<(), AllocError>
     requires { index ≤ length definitions.old.items }
-    ensures inserted { OnOk result (InsertsDefinition values.old values.new definitions.old.items definitions.new.items index value ty) }
+    ensures inserted { OnOk result
+        (InsertsDefinition values.old values.new definitions.old.items definitions.new.items index value ty) }
     ensures values_err { OnErr result (values.new ≡ values.old) }
     ensures definitions_err { OnErr result (definitions.new.items ≡ definitions.old.items) }
 {
@@ -54,8 +55,10 @@ pub(crate) fn remove_definition(
     index: usize,
 ) -> Definition
     requires within { index < length definitions.old.items }
-    requires defined { (d : Definition) → slice_get definitions.old.items index ≡ Some d → IsDefined values.old d.thread }
-    requires unused { (d : Definition) (p : ℕ) → slice_get definitions.old.items index ≡ Some d → Names values.old p d.thread → ⊥ }
+    requires defined { (d : Definition) → slice_get definitions.old.items index ≡ Some d
+        → IsDefined values.old d.thread }
+    requires unused { (d : Definition) (p : ℕ) → slice_get definitions.old.items index ≡ Some d
+        → Names values.old p d.thread → ⊥ }
     ensures removed { RemovesDefinition values.old values.new definitions.old.items definitions.new.items index }
     ensures answer { slice_get definitions.old.items index ≡ Some result }
 {

@@ -20,8 +20,10 @@ impl<O, B> Program<O, B> {
     /// its definer and with its type; their numbers have been given, and no two have the same; and what operations take
     /// are such values. It does nothing.
     pub fn know_values(&self)
-        ensures definer { (e : DefiningEntity) (k : ℕ) (v : Value) → value_in (values_at self.now e) k ≡ Some v → v.definer ≡ e }
-        ensures typed { (e : DefiningEntity) (k : ℕ) (v : Value) → value_in (values_at self.now e) k ≡ Some v → type_at self.now v ≡ type_in (values_at self.now e) k }
+        ensures definer { (e : DefiningEntity) (k : ℕ) (v : Value) → value_in (values_at self.now e) k ≡ Some v
+            → v.definer ≡ e }
+        ensures typed { (e : DefiningEntity) (k : ℕ) (v : Value) → value_in (values_at self.now e) k ≡ Some v
+            → type_at self.now v ≡ type_in (values_at self.now e) k }
         ensures stands { (v : Value) (ty : TypeHandle) → type_at self.now v ≡ Some ty → StandsAtDefiner self.now v ty }
         ensures given { (v : Value) → IsLiveValue self.now v → v.number < self.now.counter }
         ensures own { (v w : Value) → IsLiveValue self.now v → IsLiveValue self.now w → v.number ≡ w.number → v ≡ w }

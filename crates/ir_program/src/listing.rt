@@ -25,9 +25,11 @@ impl<'a, O, B> Model for Operations<'a, O, B> {
 
     ghost Value = { List (Ptr Operation) };
 
-    ghost view = { λ s. handles_of s.program.now.forest.ops (items_between s.slots.left (list_at s.slots.siblings.now.lists s.slots.list)) };
+    ghost view = { λ s. handles_of s.program.now.forest.ops
+        (items_between s.slots.left (list_at s.slots.siblings.now.lists s.slots.list)) };
 
-    ghost invariant = { λ s. AreHeld s.program.now.forest.ops (items_between s.slots.left (list_at s.slots.siblings.now.lists s.slots.list)) };
+    ghost invariant = { λ s. AreHeld s.program.now.forest.ops
+        (items_between s.slots.left (list_at s.slots.siblings.now.lists s.slots.list)) };
 }
 
 impl<'a, O, B> Iterator for Operations<'a, O, B> {
@@ -73,9 +75,11 @@ impl<'a, O, B> Model for Blocks<'a, O, B> {
 
     ghost Value = { List (Ptr BasicBlock) };
 
-    ghost view = { λ s. handles_of s.program.now.forest.blocks (items_between s.slots.left (list_at s.slots.siblings.now.lists s.slots.list)) };
+    ghost view = { λ s. handles_of s.program.now.forest.blocks
+        (items_between s.slots.left (list_at s.slots.siblings.now.lists s.slots.list)) };
 
-    ghost invariant = { λ s. AreHeld s.program.now.forest.blocks (items_between s.slots.left (list_at s.slots.siblings.now.lists s.slots.list)) };
+    ghost invariant = { λ s. AreHeld s.program.now.forest.blocks
+        (items_between s.slots.left (list_at s.slots.siblings.now.lists s.slots.list)) };
 }
 
 impl<'a, O, B> Iterator for Blocks<'a, O, B> {
@@ -121,9 +125,11 @@ impl<'a, O, B> Model for Regions<'a, O, B> {
 
     ghost Value = { List (Ptr Region) };
 
-    ghost view = { λ s. handles_of s.program.now.forest.regions (items_between s.slots.left (list_at s.slots.siblings.now.lists s.slots.list)) };
+    ghost view = { λ s. handles_of s.program.now.forest.regions
+        (items_between s.slots.left (list_at s.slots.siblings.now.lists s.slots.list)) };
 
-    ghost invariant = { λ s. AreHeld s.program.now.forest.regions (items_between s.slots.left (list_at s.slots.siblings.now.lists s.slots.list)) };
+    ghost invariant = { λ s. AreHeld s.program.now.forest.regions
+        (items_between s.slots.left (list_at s.slots.siblings.now.lists s.slots.list)) };
 }
 
 impl<'a, O, B> Iterator for Regions<'a, O, B> {

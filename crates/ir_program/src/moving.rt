@@ -72,7 +72,8 @@ impl<O, B> Program<O, B> {
         ensures edited { TakesOutOperation self.old self.new op }
         ensures unlinked { IsUnlinkedOperation self.new op }
         // Nothing stands inside what it did not stand in.
-        ensures inside { (outer inner : IRNode) → StandsInside self.new outer inner → StandsInside self.old outer inner }
+        ensures inside { (outer inner : IRNode) → StandsInside self.new outer inner
+            → StandsInside self.old outer inner }
         ensures values { KeepsValues self.old self.new }
     {
         self.know_listed();
@@ -84,7 +85,8 @@ impl<O, B> Program<O, B> {
         requires donee { IsSome (block_at self.old donee) }
         requires donor { IsSome (block_at self.old donor) }
         requires differ { donee ≢ donor }
-        requires apart { (op : Ptr Operation) → StandsInBlock self.old op donor → StandsInside self.old (OperationNode op) (BlockNode donee) → ⊥ }
+        requires apart { (op : Ptr Operation) → StandsInBlock self.old op donor
+            → StandsInside self.old (OperationNode op) (BlockNode donee) → ⊥ }
         ensures edited { AppendsBlock self.old self.new donee donor }
         ensures values { KeepsValues self.old self.new }
     {
@@ -150,7 +152,8 @@ impl<O, B> Program<O, B> {
         ensures edited { TakesOutBlock self.old self.new block }
         ensures unlinked { IsUnlinkedBlock self.new block }
         // Nothing stands inside what it did not stand in.
-        ensures inside { (outer inner : IRNode) → StandsInside self.new outer inner → StandsInside self.old outer inner }
+        ensures inside { (outer inner : IRNode) → StandsInside self.new outer inner
+            → StandsInside self.old outer inner }
         ensures values { KeepsValues self.old self.new }
     {
         self.know_listed();
@@ -162,7 +165,8 @@ impl<O, B> Program<O, B> {
         requires donee { IsSome (region_at self.old donee) }
         requires donor { IsSome (region_at self.old donor) }
         requires differ { donee ≢ donor }
-        requires apart { (block : Ptr BasicBlock) → StandsInRegion self.old block donor → StandsInside self.old (BlockNode block) (RegionNode donee) → ⊥ }
+        requires apart { (block : Ptr BasicBlock) → StandsInRegion self.old block donor
+            → StandsInside self.old (BlockNode block) (RegionNode donee) → ⊥ }
         ensures edited { AppendsRegion self.old self.new donee donor }
         ensures values { KeepsValues self.old self.new }
     {
@@ -175,8 +179,10 @@ impl<O, B> Program<O, B> {
         requires region { IsSome (region_at self.old region) }
         requires op { IsSome (operation_at self.old op) }
         requires apart { StandsInside self.old (RegionNode region) (OperationNode op) → ⊥ }
-        ensures elsewhere { (from : Ptr Operation) (k : ℕ) → slice_get (regions_in self.old from) k ≡ Some region → from ≢ op → MovesRegion self.old self.new region from k op }
-        ensures within { (k : ℕ) → slice_get (regions_in self.old op) k ≡ Some region → EditsOperation self.old self.new op (λ v. record v { regions = remove v.regions k ++ region ∷ [] }) }
+        ensures elsewhere { (from : Ptr Operation) (k : ℕ) → slice_get (regions_in self.old from) k ≡ Some region
+            → from ≢ op → MovesRegion self.old self.new region from k op }
+        ensures within { (k : ℕ) → slice_get (regions_in self.old op) k ≡ Some region
+            → EditsOperation self.old self.new op (λ v. record v { regions = remove v.regions k ++ region ∷ [] }) }
         ensures values { KeepsValues self.old self.new }
     {
         self.know_listed();

@@ -95,7 +95,8 @@ impl<O, B> Program<O, B> {
     /// Takes away the last operand, if there is one.
     pub fn pop_operand(&mut self, op: Ptr<Operation>) -> Option<Value>
         requires { IsSome (operation_at self.old op) }
-        ensures value { MatchOption result (operands_at self.old op ≡ []) (λ v. operands_at self.old op ≡ operands_at self.new op ++ v ∷ []) }
+        ensures value { MatchOption result (operands_at self.old op ≡ [])
+            (λ v. operands_at self.old op ≡ operands_at self.new op ++ v ∷ []) }
         ensures popped { ChangesOperands self.old self.new op }
         ensures none { IsNone result → IsUnchanged self.old self.new }
         ensures values { KeepsValues self.old self.new }

@@ -24,7 +24,8 @@ impl<O, B> Program<O, B> {
         ensures* lends { sem 𝓛 (lends_payload O.row B.row self.entry op result) }
         ensures value { payload_at self.old op ≡ Some result.now }
         // Nothing changes but the payload.
-        ensures edits { (w : _) → EditsOperation self.old (with_payload self.old op w) op (λ o. record o { payload = w }) }
+        ensures edits { (w : _)
+            → EditsOperation self.old (with_payload self.old op w) op (λ o. record o { payload = w }) }
         ensures types { (w : _) (v : Value) → type_at (with_payload self.old op w) v ≡ type_at self.old v }
         ensures counter { (w : _) → (with_payload self.old op w).counter ≡ self.old.counter }
     {
@@ -46,7 +47,8 @@ impl<O, B> Program<O, B> {
         ensures* lends { sem 𝓛 (lends_block_payload O.row B.row self.entry block result) }
         ensures value { block_payload_at self.old block ≡ Some result.now }
         // Nothing changes but the payload.
-        ensures edits { (w : _) → EditsBlock self.old (with_block_payload self.old block w) block (λ b. record b { payload = w }) }
+        ensures edits { (w : _)
+            → EditsBlock self.old (with_block_payload self.old block w) block (λ b. record b { payload = w }) }
         ensures types { (w : _) (v : Value) → type_at (with_block_payload self.old block w) v ≡ type_at self.old v }
         ensures counter { (w : _) → (with_block_payload self.old block w).counter ≡ self.old.counter }
     {

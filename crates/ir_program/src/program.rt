@@ -32,7 +32,8 @@ impl<O, B> Model for Program<O, B> {
 
     ghost view = { λ c. record { forest = c.forest; values = c.values; targets = c.targets; counter = c.counter } };
 
-    ghost invariant = { λ c. IsProgram (record { forest = c.forest; values = c.values; targets = c.targets; counter = c.counter }) };
+    ghost invariant = { λ c. IsProgram
+        (record { forest = c.forest; values = c.values; targets = c.targets; counter = c.counter }) };
 }
 
 impl<O, B> Program<O, B> {

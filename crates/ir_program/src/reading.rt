@@ -98,7 +98,8 @@ impl<O, B> Program<O, B> {
     /// The operation that stands right after this one in its block.
     pub fn next_operation(&self, op: Ptr<Operation>) -> Option<Ptr<Operation>>
         requires { IsSome (operation_at self.now op) }
-        ensures next { (block : Ptr BasicBlock) (k : ℕ) → slice_get (operations_in self.now block) k ≡ Some op → result ≡ slice_get (operations_in self.now block) (k + 1) }
+        ensures next { (block : Ptr BasicBlock) (k : ℕ) → slice_get (operations_in self.now block) k ≡ Some op
+            → result ≡ slice_get (operations_in self.now block) (k + 1) }
         ensures unlinked { IsUnlinkedOperation self.now op → result ≡ None }
         ensures live { IfSome result (λ next. IsSome (operation_at self.now next)) }
     {
@@ -109,8 +110,11 @@ impl<O, B> Program<O, B> {
     /// The operation that stands right before this one in its block.
     pub fn previous_operation(&self, op: Ptr<Operation>) -> Option<Ptr<Operation>>
         requires { IsSome (operation_at self.now op) }
-        ensures previous { (block : Ptr BasicBlock) (k : ℕ) → slice_get (operations_in self.now block) (k + 1) ≡ Some op → result ≡ slice_get (operations_in self.now block) k }
-        ensures first { (block : Ptr BasicBlock) → slice_get (operations_in self.now block) 0 ≡ Some op → result ≡ None }
+        ensures previous { (block : Ptr BasicBlock) (k : ℕ)
+            → slice_get (operations_in self.now block) (k + 1) ≡ Some op
+            → result ≡ slice_get (operations_in self.now block) k }
+        ensures first { (block : Ptr BasicBlock) → slice_get (operations_in self.now block) 0 ≡ Some op
+            → result ≡ None }
         ensures unlinked { IsUnlinkedOperation self.now op → result ≡ None }
         ensures live { IfSome result (λ previous. IsSome (operation_at self.now previous)) }
     {
@@ -121,7 +125,8 @@ impl<O, B> Program<O, B> {
     /// The block that an operation stands in.
     pub fn parent_block(&self, op: Ptr<Operation>) -> Option<Ptr<BasicBlock>>
         requires { IsSome (operation_at self.now op) }
-        ensures parent { MatchOption result (IsUnlinkedOperation self.now op) (λ block. StandsInBlock self.now op block) }
+        ensures parent { MatchOption result (IsUnlinkedOperation self.now op)
+            (λ block. StandsInBlock self.now op block) }
         ensures only { (block : Ptr BasicBlock) → StandsInBlock self.now op block → result ≡ Some block }
     {
         self.know_listed();
@@ -151,7 +156,8 @@ impl<O, B> Program<O, B> {
     /// The block that stands right after this one in its region.
     pub fn next_block(&self, block: Ptr<BasicBlock>) -> Option<Ptr<BasicBlock>>
         requires { IsSome (block_at self.now block) }
-        ensures next { (region : Ptr Region) (k : ℕ) → slice_get (blocks_in self.now region) k ≡ Some block → result ≡ slice_get (blocks_in self.now region) (k + 1) }
+        ensures next { (region : Ptr Region) (k : ℕ) → slice_get (blocks_in self.now region) k ≡ Some block
+            → result ≡ slice_get (blocks_in self.now region) (k + 1) }
         ensures unlinked { IsUnlinkedBlock self.now block → result ≡ None }
         ensures live { IfSome result (λ next. IsSome (block_at self.now next)) }
     {
@@ -162,7 +168,8 @@ impl<O, B> Program<O, B> {
     /// The block that stands right before this one in its region.
     pub fn previous_block(&self, block: Ptr<BasicBlock>) -> Option<Ptr<BasicBlock>>
         requires { IsSome (block_at self.now block) }
-        ensures previous { (region : Ptr Region) (k : ℕ) → slice_get (blocks_in self.now region) (k + 1) ≡ Some block → result ≡ slice_get (blocks_in self.now region) k }
+        ensures previous { (region : Ptr Region) (k : ℕ) → slice_get (blocks_in self.now region) (k + 1) ≡ Some block
+            → result ≡ slice_get (blocks_in self.now region) k }
         ensures first { (region : Ptr Region) → slice_get (blocks_in self.now region) 0 ≡ Some block → result ≡ None }
         ensures unlinked { IsUnlinkedBlock self.now block → result ≡ None }
         ensures live { IfSome result (λ previous. IsSome (block_at self.now previous)) }
@@ -174,7 +181,8 @@ impl<O, B> Program<O, B> {
     /// The region that a block stands in.
     pub fn parent_region(&self, block: Ptr<BasicBlock>) -> Option<Ptr<Region>>
         requires { IsSome (block_at self.now block) }
-        ensures parent { MatchOption result (IsUnlinkedBlock self.now block) (λ region. StandsInRegion self.now block region) }
+        ensures parent { MatchOption result (IsUnlinkedBlock self.now block)
+            (λ region. StandsInRegion self.now block region) }
         ensures only { (region : Ptr Region) → StandsInRegion self.now block region → result ≡ Some region }
     {
         self.know_listed();
@@ -245,12 +253,18 @@ impl<O, B> Program<O, B> {
         ensures operations_once { StandOnce (operations_in self.now) }
         ensures blocks_once { StandOnce (blocks_in self.now) }
         ensures regions_once { StandOnce (regions_in self.now) }
-        ensures operations { (block : Ptr BasicBlock) (k : ℕ) (op : Ptr Operation) → slice_get (operations_in self.now block) k ≡ Some op → StandsInBlock self.now op block }
-        ensures blocks { (region : Ptr Region) (k : ℕ) (block : Ptr BasicBlock) → slice_get (blocks_in self.now region) k ≡ Some block → StandsInRegion self.now block region }
-        ensures regions { (op : Ptr Operation) (k : ℕ) (region : Ptr Region) → slice_get (regions_in self.now op) k ≡ Some region → StandsInOperation self.now region op }
-        ensures operation_apart { (op : Ptr Operation) (block : Ptr BasicBlock) → StandsInBlock self.now op block → StandsInside self.now (OperationNode op) (BlockNode block) → ⊥ }
-        ensures block_apart { (block : Ptr BasicBlock) (region : Ptr Region) → StandsInRegion self.now block region → StandsInside self.now (BlockNode block) (RegionNode region) → ⊥ }
-        ensures region_apart { (region : Ptr Region) (op : Ptr Operation) → StandsInOperation self.now region op → StandsInside self.now (RegionNode region) (OperationNode op) → ⊥ }
+        ensures operations { (block : Ptr BasicBlock) (k : ℕ) (op : Ptr Operation)
+            → slice_get (operations_in self.now block) k ≡ Some op → StandsInBlock self.now op block }
+        ensures blocks { (region : Ptr Region) (k : ℕ) (block : Ptr BasicBlock)
+            → slice_get (blocks_in self.now region) k ≡ Some block → StandsInRegion self.now block region }
+        ensures regions { (op : Ptr Operation) (k : ℕ) (region : Ptr Region)
+            → slice_get (regions_in self.now op) k ≡ Some region → StandsInOperation self.now region op }
+        ensures operation_apart { (op : Ptr Operation) (block : Ptr BasicBlock) → StandsInBlock self.now op block
+            → StandsInside self.now (OperationNode op) (BlockNode block) → ⊥ }
+        ensures block_apart { (block : Ptr BasicBlock) (region : Ptr Region) → StandsInRegion self.now block region
+            → StandsInside self.now (BlockNode block) (RegionNode region) → ⊥ }
+        ensures region_apart { (region : Ptr Region) (op : Ptr Operation) → StandsInOperation self.now region op
+            → StandsInside self.now (RegionNode region) (OperationNode op) → ⊥ }
     {
         self.know_listed();
     }

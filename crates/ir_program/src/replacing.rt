@@ -25,7 +25,8 @@ impl<O, B> Program<O, B> {
         requires other { IsLiveValue self.old other }
         ensures replaced { ReplacesValue self.old self.new value other }
         ensures unused { value ≢ other → IsUsed self.new value → ⊥ }
-        ensures count { value ≢ other → (m n : ℕ) → IsUseCount self.old value m → IsUseCount self.old other n → IsUseCount self.new other (m + n) }
+        ensures count { value ≢ other → (m n : ℕ) → IsUseCount self.old value m → IsUseCount self.old other n
+            → IsUseCount self.new other (m + n) }
         ensures values { KeepsValues self.old self.new }
     {
         self.values.know_named();
@@ -59,7 +60,9 @@ impl<O, B> Program<O, B> {
         requires value { IsLiveValue self.old value }
         requires other { IsLiveValue self.old other }
         requires callable { F.IsAlwaysCallable predicate }
-        ensures replaced { OnOk result ((chosen : Use Value → Bool) × Chooses (operands_at self.old) (Answers F.Fn predicate self.old) value chosen × ReplacesChosen self.old self.new chosen other) }
+        ensures replaced { OnOk result ((chosen : Use Value → Bool)
+            × Chooses (operands_at self.old) (Answers F.Fn predicate self.old) value chosen
+            × ReplacesChosen self.old self.new chosen other) }
         ensures err { OnErr result (IsUnchanged self.old self.new) }
         ensures values { KeepsValues self.old self.new }
     {
@@ -81,7 +84,8 @@ impl<O, B> Program<O, B> {
         requires thread { IsDefined self.now.values thread }
         requires callable { F.IsAlwaysCallable predicate.now }
         ensures among { IfOk result (λ qs. (q : ℕ) → has q qs.items ≡ true → Names self.now.values q thread) }
-        ensures answered { IfOk result (λ qs. (q : ℕ) → Names self.now.values q thread → Answers F.Fn predicate.now self.now (operand_use self.now q) (has q qs.items)) }
+        ensures answered { IfOk result (λ qs. (q : ℕ) → Names self.now.values q thread
+            → Answers F.Fn predicate.now self.now (operand_use self.now q) (has q qs.items)) }
     {
         let mut chosen = Vec::new(alloc);
         for place in self.values.iter(thread) {
@@ -97,7 +101,9 @@ impl<O, B> Program<O, B> {
 pub(crate) fn rename_each<K: Copy>(uses: &mut Uses<K>, places: &[usize], definition: usize)
     requires places { (q : ℕ) → has q places.now ≡ true → IsPlace uses.old q }
     requires definition { IsDefined uses.old definition }
-    ensures renamed { (q : ℕ) → place_of uses.new q ≡ cond (has q places.now) (naming definition (place_of uses.old q)) (place_of uses.old q) }
+    ensures renamed { (q : ℕ)
+        → place_of uses.new q ≡ cond (has q places.now) (naming definition (place_of uses.old q))
+        (place_of uses.old q) }
     ensures definitions { uses.new.definitions ≡ uses.old.definitions }
 {
     for place in places {

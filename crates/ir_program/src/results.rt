@@ -113,7 +113,8 @@ impl<O, B> Program<O, B> {
     /// memory is asked for.
     pub fn pop_result(&mut self, op: Ptr<Operation>) -> Option<Value>
         requires operation { IsSome (operation_at self.old op) }
-        requires unused { (v : Value) → value_in (results_at self.old op) (result_count self.old op - 1) ≡ Some v → IsUsed self.old v → ⊥ }
+        requires unused { (v : Value) → value_in (results_at self.old op) (result_count self.old op - 1) ≡ Some v
+            → IsUsed self.old v → ⊥ }
         ensures value { result ≡ value_in (results_at self.old op) (result_count self.old op - 1) }
         ensures popped { OnSome result (PopsResult self.old self.new op) }
         ensures forgotten { IfSome result (λ v. ForgetsValue self.old self.new v) }

@@ -26,7 +26,8 @@ impl<O, B> Program<O, B> {
         requires other { IsSome (block_at self.old other) }
         ensures retargeted { RetargetsBlock self.old self.new block other }
         ensures unused { block ≢ other → HasPredecessor self.new block → ⊥ }
-        ensures count { block ≢ other → (m n : ℕ) → IsPredecessorCount self.old block m → IsPredecessorCount self.old other n → IsPredecessorCount self.new other (m + n) }
+        ensures count { block ≢ other → (m n : ℕ) → IsPredecessorCount self.old block m
+            → IsPredecessorCount self.old other n → IsPredecessorCount self.new other (m + n) }
         ensures values { KeepsValues self.old self.new }
     {
         self.targets.know_named();
@@ -62,7 +63,9 @@ impl<O, B> Program<O, B> {
         requires block { IsSome (block_at self.old block) }
         requires other { IsSome (block_at self.old other) }
         requires callable { F.IsAlwaysCallable predicate }
-        ensures retargeted { OnOk result ((chosen : Use (Ptr BasicBlock) → Bool) × Chooses (successors_at self.old) (Answers F.Fn predicate self.old) block chosen × RetargetsChosen self.old self.new chosen other) }
+        ensures retargeted { OnOk result ((chosen : Use (Ptr BasicBlock) → Bool)
+            × Chooses (successors_at self.old) (Answers F.Fn predicate self.old) block chosen
+            × RetargetsChosen self.old self.new chosen other) }
         ensures err { OnErr result (IsUnchanged self.old self.new) }
         ensures values { KeepsValues self.old self.new }
     {
@@ -84,7 +87,8 @@ impl<O, B> Program<O, B> {
         requires thread { IsDefined self.now.targets thread }
         requires callable { F.IsAlwaysCallable predicate.now }
         ensures among { IfOk result (λ qs. (q : ℕ) → has q qs.items ≡ true → Names self.now.targets q thread) }
-        ensures answered { IfOk result (λ qs. (q : ℕ) → Names self.now.targets q thread → Answers F.Fn predicate.now self.now (successor_use self.now q) (has q qs.items)) }
+        ensures answered { IfOk result (λ qs. (q : ℕ) → Names self.now.targets q thread
+            → Answers F.Fn predicate.now self.now (successor_use self.now q) (has q qs.items)) }
     {
         let mut chosen = Vec::new(alloc);
         for place in self.targets.iter(thread) {

@@ -13,7 +13,8 @@ use std::alloc::AllocError;
 impl<O, B> Program<O, B> {
     /// Each successor is a block that is there.
     pub fn know_successors(&self)
-        ensures { (p : _) (k : ℕ) (b : _) → slice_get (successors_at self.now p) k ≡ Some b → IsSome (block_at self.now b) }
+        ensures { (p : _) (k : ℕ) (b : _) → slice_get (successors_at self.now p) k ≡ Some b
+            → IsSome (block_at self.now b) }
     {
         self.targets.know_named();
     }
@@ -110,7 +111,8 @@ impl<O, B> Program<O, B> {
     /// Takes away the last successor, if there is one.
     pub fn pop_successor(&mut self, op: Ptr<Operation>) -> Option<Ptr<BasicBlock>>
         requires { IsSome (operation_at self.old op) }
-        ensures block { MatchOption result (successors_at self.old op ≡ []) (λ b. successors_at self.old op ≡ successors_at self.new op ++ b ∷ []) }
+        ensures block { MatchOption result (successors_at self.old op ≡ [])
+            (λ b. successors_at self.old op ≡ successors_at self.new op ++ b ∷ []) }
         ensures popped { ChangesSuccessors self.old self.new op }
         ensures none { IsNone result → IsUnchanged self.old self.new }
         ensures values { KeepsValues self.old self.new }

@@ -42,7 +42,8 @@ fn all_users_inside<O, B>(
 ) -> bool
     requires defined { (t : ℕ) → has t (threads_of definitions.now) ≡ true → IsDefined values.now t }
     requires users { HaveUsers forest.now values.now }
-    ensures { IsTrue result ↔ ((t : ℕ) → has t (threads_of definitions.now) ≡ true → AreUsersInside (shape_of forest.now) x values.now t) }
+    ensures { IsTrue result ↔ ((t : ℕ) → has t (threads_of definitions.now) ≡ true
+        → AreUsersInside (shape_of forest.now) x values.now t) }
 {
     for definition in definitions {
         if !users_inside(forest, values, definition.thread, x) {
@@ -88,7 +89,8 @@ pub(crate) fn is_apart<O, B>(
 ) -> bool
     requires used { IsUsed forest.now x }
     requires sound { MakeProgram forest.now values.now targets.now }
-    ensures { IsTrue result ↔ ((at : Place) → IsInside (shape_of forest.now) x at → IsApartAt forest.now values.now targets.now x at) }
+    ensures { IsTrue result ↔ ((at : Place) → IsInside (shape_of forest.now) x at
+        → IsApartAt forest.now values.now targets.now x at) }
 {
     forest.know_walk(x);
     let mut at = Some(x);

@@ -31,7 +31,8 @@ impl<'a, O, B> Model for NodesInside<'a, O, B> {
 
     ghost view = { λ s. map (node_at s.program.now) (places_from s.at (walk_of s.program.now.forest s.outer)) };
 
-    ghost invariant = { λ s. ForSome s.at (λ at. IsUsed s.program.now.forest at × IsInside (shape_of s.program.now.forest) s.outer at) };
+    ghost invariant = { λ s. ForSome s.at (λ at. IsUsed s.program.now.forest at
+        × IsInside (shape_of s.program.now.forest) s.outer at) };
 }
 
 impl<'a, O, B> Iterator for NodesInside<'a, O, B> {

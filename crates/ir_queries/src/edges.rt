@@ -102,8 +102,10 @@ pub trait BlockEdges {
         requires block { IsSome (block_at ctx.now.program (block self)) }
         requires linked { HasLinkedUsers ctx.now.program (block self) }
         requires within { i < length (edges_listed ctx.now.program (block self)) }
-        ensures exact { (listed : List (Ptr BasicBlock)) → ListsPredecessors ctx.now.program (block self) listed → slice_get listed i ≡ Some result }
-        ensures edge { IfSome (slice_get (edges_listed ctx.now.program (block self)) i) (λ u. StandsInBlock ctx.now.program u.user_op result) }
+        ensures exact { (listed : List (Ptr BasicBlock)) → ListsPredecessors ctx.now.program (block self) listed
+            → slice_get listed i ≡ Some result }
+        ensures edge { IfSome (slice_get (edges_listed ctx.now.program (block self)) i)
+            (λ u. StandsInBlock ctx.now.program u.user_op result) }
         ensures predecessor { IsPredecessor ctx.now.program (block self) result };
 
     /// Whether an operation of `other` has it as a successor.

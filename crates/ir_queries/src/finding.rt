@@ -12,7 +12,9 @@ fn index_in_results<O, B>(
     op: Ptr<Operation>,
     value: Value,
 ) -> Option<usize>
-    ensures { MatchOption result ((k : ℕ) → value_in (results_at program.now op) k ≢ Some value) (λ i. value_in (results_at program.now op) i ≡ Some value) }
+    ensures { MatchOption result ((k : ℕ)
+        → value_in (results_at program.now op) k ≢ Some value)
+        (λ i. value_in (results_at program.now op) i ≡ Some value) }
 {
     if !program.has_operation(op) {
         return None;
@@ -31,7 +33,9 @@ fn index_in_arguments<O, B>(
     block: Ptr<BasicBlock>,
     value: Value,
 ) -> Option<usize>
-    ensures { MatchOption result ((k : ℕ) → value_in (arguments_at program.now block) k ≢ Some value) (λ i. value_in (arguments_at program.now block) i ≡ Some value) }
+    ensures { MatchOption result ((k : ℕ)
+        → value_in (arguments_at program.now block) k ≢ Some value)
+        (λ i. value_in (arguments_at program.now block) i ≡ Some value) }
 {
     if !program.has_block(block) {
         return None;

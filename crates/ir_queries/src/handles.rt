@@ -32,10 +32,12 @@ impl<T> TypedHandle<T> {
     ) -> Result<TypedHandle<T>, TypedHandleErr>
     where
         T: TypeMarker<D>,
-        ensures exact { IsOk result ↔ (passes (λ key. D.TypeKind.eq (D.kind_of_type key) T.KIND) ctx.now.types ty ≡ true) }
+        ensures exact { IsOk result ↔ (passes (λ key. D.TypeKind.eq (D.kind_of_type key) T.KIND) ctx.now.types ty
+            ≡ true) }
         ensures handle { IfOk result (λ h. untyped h ≡ ty) }
         ensures expected { IfErr result (λ e. type_id_text e.expected ≡ D.type_text T.KIND) }
-        ensures found { IfErr result (λ e. type_id_text e.found ≡ kind_text_at (λ key. D.type_text (D.kind_of_type key)) ctx.now.types ty) }
+        ensures found { IfErr result (λ e. type_id_text e.found ≡ kind_text_at
+            (λ key. D.type_text (D.kind_of_type key)) ctx.now.types ty) }
     {
         if ctx.types().has_kind(ty, T::KIND) {
             return Ok(TypedHandle {
@@ -90,7 +92,8 @@ impl<I: TypeInterfaceMarker> TypeInterfaceHandle<I> {
         ensures exact { IsOk result ↔ (passes (λ key. D.type_has key I.INTERFACE) ctx.now.types ty ≡ true) }
         ensures handle { IfOk result (λ h. plain h ≡ ty) }
         ensures interface { IfErr result (λ e. e.interface ≡ I.INTERFACE) }
-        ensures found { IfErr result (λ e. type_id_text e.found ≡ kind_text_at (λ key. D.type_text (D.kind_of_type key)) ctx.now.types ty) }
+        ensures found { IfErr result (λ e. type_id_text e.found ≡ kind_text_at
+            (λ key. D.type_text (D.kind_of_type key)) ctx.now.types ty) }
     {
         if type_impls::<D, I>(ty, ctx) {
             return Ok(TypeInterfaceHandle {
@@ -112,10 +115,12 @@ impl<I: TypeInterfaceMarker> TypeInterfaceHandle<I> {
         handle: TypedHandle<T>,
         ctx: &Context<D>,
     ) -> Result<TypeInterfaceHandle<I>, TypeInterfaceHandleErr>
-        ensures exact { IsOk result ↔ (passes (λ key. D.type_has key I.INTERFACE) ctx.now.types (untyped handle) ≡ true) }
+        ensures exact { IsOk result ↔ (passes (λ key. D.type_has key I.INTERFACE) ctx.now.types (untyped handle)
+            ≡ true) }
         ensures handle { IfOk result (λ h. plain h ≡ untyped handle) }
         ensures interface { IfErr result (λ e. e.interface ≡ I.INTERFACE) }
-        ensures found { IfErr result (λ e. type_id_text e.found ≡ kind_text_at (λ key. D.type_text (D.kind_of_type key)) ctx.now.types (untyped handle)) }
+        ensures found { IfErr result (λ e. type_id_text e.found ≡ kind_text_at
+            (λ key. D.type_text (D.kind_of_type key)) ctx.now.types (untyped handle)) }
     {
         TypeInterfaceHandle::from_handle(handle.to_handle(), ctx)
     }

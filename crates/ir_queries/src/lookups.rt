@@ -28,8 +28,10 @@ pub trait AttributeLookups<D: DialectTables> {
         &self,
         key: &str,
     ) -> Result<&D::Attr, AttrInterfaceCastErr>
-        ensures found { IfOk result (λ attr. passing_at (λ attr. D.attr_has attr I.INTERFACE) (entries self.now) key.now ≡ Some attr.now) }
-        ensures refused { IsErr result ↔ (passing_at (λ attr. D.attr_has attr I.INTERFACE) (entries self.now) key.now ≡ None) }
+        ensures found { IfOk result (λ attr. passing_at (λ attr. D.attr_has attr I.INTERFACE)
+            (entries self.now) key.now ≡ Some attr.now) }
+        ensures refused { IsErr result ↔ (passing_at (λ attr. D.attr_has attr I.INTERFACE) (entries self.now) key.now
+            ≡ None) }
         ensures interface { IfErr result (λ e. e.interface ≡ I.INTERFACE) };
 
     /// A dictionary of the attributes that are not printed behind the text, in the same order: under each name an attribute
@@ -38,7 +40,8 @@ pub trait AttributeLookups<D: DialectTables> {
     /// # Errors
     /// Refused only where there is no memory for it, or for a copy of an attribute.
     fn clone_skip_outlined(&self, alloc: Global) -> Result<AttributeDict<D>, AllocError>
-        ensures { IfOk result (AreCopies D.Attr.eq (entries_failing (λ attr. D.attr_has attr OutlinedAttr) (entries self.now))) };
+        ensures { IfOk result (AreCopies D.Attr.eq
+            (entries_failing (λ attr. D.attr_has attr OutlinedAttr) (entries self.now))) };
 }
 
 impl<D: DialectTables> AttributeLookups<D> for AttributeDict<D> {

@@ -29,7 +29,8 @@ fn with_id(
     name: Option<&Identifier>,
     id: Identifier,
 ) -> Result<Identifier, AllocError>
-    ensures { IfOk result (λ joined. text_of joined ≡ with_id (option_map (λ given. text_of given.now) name.entry) (text_of id)) }
+    ensures { IfOk result (λ joined. text_of joined ≡ with_id (option_map (λ given. text_of given.now) name.entry)
+        (text_of id)) }
 {
     match name {
         Some(name) => {
@@ -65,7 +66,8 @@ pub trait Named {
         ctx: &Context<D>,
     ) -> Result<Option<Identifier>, AllocError>
         requires { IsLive ctx.now.program (named self) }
-        ensures { IfOk result (λ name. IsGiven D.names D.names_in ctx.now.program (named self) (option_map text_of name)) };
+        ensures { IfOk result (λ name. IsGiven D.names D.names_in ctx.now.program (named self)
+            (option_map text_of name)) };
 
     /// Its id: `v` and the number of a value; `block`, the slot counted from 1, `v` and the version of a block.
     ///
@@ -93,7 +95,8 @@ pub trait Named {
         f: &mut W,
     ) -> fmt::Result
         requires { IsLive ctx.now.program (named self) }
-        ensures { OnOk result ((text : List ℕ) × IsUnique D.names D.names_in ctx.now.program (named self) text × WritesInCalls W.write_str_gives f.old text f.new) };
+        ensures { OnOk result ((text : List ℕ) × IsUnique D.names D.names_in ctx.now.program (named self) text
+            × WritesInCalls W.write_str_gives f.old text f.new) };
 }
 
 impl Named for Value {

@@ -92,7 +92,8 @@ pub trait OperationRows {
         i: usize,
     ) -> Use<Value>
         requires { i < length (operands_at ctx.now.program (op self)) }
-        ensures { option_map (place_at (op self) i) (slice_get (operands_at ctx.now.program (op self)) i) ≡ Some result };
+        ensures { option_map (place_at (op self) i) (slice_get (operands_at ctx.now.program (op self)) i)
+            ≡ Some result };
 
     /// The use that its successor at an index is.
     fn get_successor_as_use<O, B, T: TypeTable>(
@@ -101,7 +102,8 @@ pub trait OperationRows {
         i: usize,
     ) -> Use<Ptr<BasicBlock>>
         requires { i < length (successors_at ctx.now.program (op self)) }
-        ensures { option_map (place_at (op self) i) (slice_get (successors_at ctx.now.program (op self)) i) ≡ Some result };
+        ensures { option_map (place_at (op self) i) (slice_get (successors_at ctx.now.program (op self)) i)
+            ≡ Some result };
 
     /// The uses that its operands are, in order.
     fn operands_as_uses<O, B, T: TypeTable>(

@@ -65,8 +65,10 @@ pub(crate) fn predecessor_at<O, B>(
     requires block { IsSome (block_at program.now block) }
     requires linked { HasLinkedUsers program.now block }
     requires within { i < length (edges_listed program.now block) }
-    ensures exact { (listed : List (Ptr BasicBlock)) → ListsPredecessors program.now block listed → slice_get listed i ≡ Some result }
-    ensures edge { IfSome (slice_get (edges_listed program.now block) i) (λ u. StandsInBlock program.now u.user_op result) }
+    ensures exact { (listed : List (Ptr BasicBlock)) → ListsPredecessors program.now block listed
+        → slice_get listed i ≡ Some result }
+    ensures edge { IfSome (slice_get (edges_listed program.now block) i)
+        (λ u. StandsInBlock program.now u.user_op result) }
     ensures predecessor { IsPredecessor program.now block result }
 {
     block_of(program, edge_at(program, block, i).user_op)

@@ -36,13 +36,19 @@ pub trait Instantiate<D: DialectTables>: Type<D> {
         alloc: Global,
         ctx: &mut Context<D>,
     ) -> Result<TypedHandle<Self>, AllocError>
-        ensures known { (ty : TypeHandle) → (kept : D.TypeKey) → key_at ctx.old.types ty ≡ Some kept → D.TypeKey.eq (Self.key self) kept ≡ true → (result ≡ Ok (typed_handle ty)) × (ctx.new ≡ ctx.old) }
-        ensures fresh { has_key D.TypeKey.eq ctx.old.types (Self.key self) ≡ false → IfOk result (λ h. untyped h ≡ next_handle ctx.old.types) }
+        ensures known { (ty : TypeHandle) → (kept : D.TypeKey) → key_at ctx.old.types ty ≡ Some kept
+            → D.TypeKey.eq (Self.key self) kept ≡ true → (result ≡ Ok (typed_handle ty)) × (ctx.new ≡ ctx.old) }
+        ensures fresh { has_key D.TypeKey.eq ctx.old.types (Self.key self) ≡ false
+            → IfOk result (λ h. untyped h ≡ next_handle ctx.old.types) }
         ensures handle { IfOk result (λ h. untyped h ≡ handle_of D.TypeKey.eq ctx.old.types (Self.key self)) }
         ensures ok { OnOk result (ctx.new.types ≡ with_type D.TypeKey.eq ctx.old.types (Self.key self)) }
-        ensures key { IfOk result (λ h. (kept : D.TypeKey) × (key_at ctx.new.types (untyped h) ≡ Some kept) × (D.TypeKey.eq (Self.key self) kept ≡ true)) }
-        ensures same { IfOk result (λ h. (other : TypeHandle) → (kept : D.TypeKey) → key_at ctx.new.types other ≡ Some kept → ((other ≡ untyped h) ↔ (D.TypeKey.eq (Self.key self) kept ≡ true))) }
-        ensures kind { IfOk result (λ h. passes (λ kept. D.TypeKind.eq (D.kind_of_type kept) Self.KIND) ctx.new.types (untyped h) ≡ true) }
+        ensures key { IfOk result (λ h. (kept : D.TypeKey) × (key_at ctx.new.types (untyped h) ≡ Some kept)
+            × (D.TypeKey.eq (Self.key self) kept ≡ true)) }
+        ensures same { IfOk result (λ h. (other : TypeHandle) → (kept : D.TypeKey)
+            → key_at ctx.new.types other ≡ Some kept
+            → ((other ≡ untyped h) ↔ (D.TypeKey.eq (Self.key self) kept ≡ true))) }
+        ensures kind { IfOk result (λ h. passes (λ kept. D.TypeKind.eq (D.kind_of_type kept) Self.KIND) ctx.new.types
+            (untyped h) ≡ true) }
         ensures keeps { KeepsTypes ctx.old.types ctx.new.types }
         ensures err { OnErr result (ctx.new ≡ ctx.old) }
         ensures program { ctx.new.program ≡ ctx.old.program };

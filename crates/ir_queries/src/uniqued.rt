@@ -38,12 +38,16 @@ impl<S> Uniqued<S> {
         ctx: &mut Context<D>,
         value: S,
     ) -> Result<Uniqued<S>, AllocError>
-        ensures known { (u : Uniqued S) → (kept : S) → value_at ctx.old.types u ≡ Some kept → S.eq value kept ≡ true → (result ≡ Ok u) × (ctx.new ≡ ctx.old) }
-        ensures fresh { has_saved S.eq ctx.old.types value ≡ false → IfOk result (λ u. saved_key u ≡ next_saved_key ctx.old.types) }
+        ensures known { (u : Uniqued S) → (kept : S) → value_at ctx.old.types u ≡ Some kept → S.eq value kept ≡ true
+            → (result ≡ Ok u) × (ctx.new ≡ ctx.old) }
+        ensures fresh { has_saved S.eq ctx.old.types value ≡ false
+            → IfOk result (λ u. saved_key u ≡ next_saved_key ctx.old.types) }
         ensures key { IfOk result (λ u. saved_key u ≡ saved_key_of S.eq ctx.old.types value) }
         ensures ok { OnOk result (ctx.new.types ≡ with_saved S.eq ctx.old.types value) }
-        ensures value { IfOk result (λ u. (kept : S) × (value_at ctx.new.types u ≡ Some kept) × (S.eq value kept ≡ true)) }
-        ensures same { IfOk result (λ u. (other : Uniqued S) → (kept : S) → value_at ctx.new.types other ≡ Some kept → ((other ≡ u) ↔ (S.eq value kept ≡ true))) }
+        ensures value { IfOk result (λ u. (kept : S) × (value_at ctx.new.types u ≡ Some kept)
+            × (S.eq value kept ≡ true)) }
+        ensures same { IfOk result (λ u. (other : Uniqued S) → (kept : S) → value_at ctx.new.types other ≡ Some kept
+            → ((other ≡ u) ↔ (S.eq value kept ≡ true))) }
         ensures keeps { KeepsSaved ctx.old.types ctx.new.types }
         ensures err { OnErr result (ctx.new ≡ ctx.old) }
         ensures program { ctx.new.program ≡ ctx.old.program }

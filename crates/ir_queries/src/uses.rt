@@ -56,7 +56,8 @@ fn push_uses<O, B>(
     value: Value,
 ) -> Result<(), AllocError>
     requires { IsLiveValue program.now value }
-    ensures { OnOk result ((us : List (Use Value)) × AreUsesOf program.now value us × (uses.new.items ≡ uses.old.items ++ us)) }
+    ensures { OnOk result ((us : List (Use Value)) × AreUsesOf program.now value us
+        × (uses.new.items ≡ uses.old.items ++ us)) }
 {
     for place in program.uses_of(value) {
         uses.push(place)?;

@@ -37,7 +37,8 @@ pub trait ValueUses {
         self,
         ctx: &TypedProgram<O, B, T>,
     ) -> Result<usize, ValueError>
-        ensures found { IfOk result (λ i. value_in (values_at ctx.now.program (value self).definer) i ≡ Some (value self)) }
+        ensures found { IfOk result (λ i. value_in (values_at ctx.now.program (value self).definer) i ≡ Some
+            (value self)) }
         ensures refused { IsErr result ↔ (type_at ctx.now.program (value self) ≡ None) }
         ensures error { IfErr result (λ e. e ≡ refusal_by (value self).definer) };
 

@@ -14,7 +14,8 @@ pub(crate) fn write_value<W: fmt::Write>(
     name: Option<&Identifier>,
     number: u64,
 ) -> fmt::Result
-    ensures { OnOk result (WritesInCalls W.write_str_gives f.old (with_id (option_map (λ given. text_of given.now) name.entry) (codes "v" ++ decimal number)) f.new) }
+    ensures { OnOk result (WritesInCalls W.write_str_gives f.old
+        (with_id (option_map (λ given. text_of given.now) name.entry) (codes "v" ++ decimal number)) f.new) }
 {
     match name {
         Some(name) => write!(f, "{name}_v{number}"),
@@ -29,7 +30,9 @@ pub(crate) fn write_block<W: fmt::Write>(
     slot: usize,
     version: u64,
 ) -> fmt::Result
-    ensures { OnOk result (WritesInCalls W.write_str_gives f.old (with_id (option_map (λ given. text_of given.now) name.entry) (codes "block" ++ decimal (slot + 1) ++ codes "v" ++ decimal version)) f.new) }
+    ensures { OnOk result (WritesInCalls W.write_str_gives f.old
+        (with_id (option_map (λ given. text_of given.now) name.entry)
+        (codes "block" ++ decimal (slot + 1) ++ codes "v" ++ decimal version)) f.new) }
 {
     // A slot may be any usize, and the one behind the last isn't.
     let number = slot as u128 + 1;

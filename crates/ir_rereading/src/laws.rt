@@ -39,7 +39,8 @@ pub fn one_reading()
 
 /// Where each name of a value has a token of its own, no two names of values have one token.
 pub fn names_are_apart()
-    ensures { (isolated : ℕ → Bool) (es : List Event) → OwnTokens false es → AreApart (definitions isolated es) (mentions isolated es) }
+    ensures { (isolated : ℕ → Bool) (es : List Event) → OwnTokens false es
+        → AreApart (definitions isolated es) (mentions isolated es) }
 {}
 
 /// A fault of names of a front stays one of all that begins with it, and what more there is has its faults later.
@@ -53,7 +54,8 @@ pub fn scope_faults_stay()
 /// The same of parts that are too deep; and where the reader stopped at one, there is such a fault.
 pub fn deep_faults_stay()
     ensures stays { (es more : List Event) (f : Fault) → IsTooDeep es f → IsTooDeep (es ++ more) f }
-    ensures later { (es more : List Event) (f : Fault) → IsTooDeep (es ++ more) f → IsTooDeep es f ⊎ (tooks es ≤ f.met + 1) }
+    ensures later { (es more : List Event) (f : Fault) → IsTooDeep (es ++ more) f → IsTooDeep es f
+        ⊎ (tooks es ≤ f.met + 1) }
     ensures some { (es : List Event) → OpensMore 64 0 es → (f : Fault) × IsTooDeep es f }
 {}
 
@@ -88,24 +90,30 @@ pub fn names_have_tokens()
 
 /// Of the faults of a text one is named, or none.
 pub fn one_fault_is_named()
-    ensures one { (l : Language) (cs : List ℕ) (ts : List Token) (names : List ℕ) (stop : Stop) (n : ℕ) (es : List Event) (f g : Fault)
-        → IsNamed (HasFault l cs ts names stop n es) (Some f) → IsNamed (HasFault l cs ts names stop n es) (Some g) → f ≡ g }
-    ensures either { (l : Language) (cs : List ℕ) (ts : List Token) (names : List ℕ) (stop : Stop) (n : ℕ) (es : List Event) (f : Fault)
+    ensures one { (l : Language) (cs : List ℕ) (ts : List Token) (names : List ℕ) (stop : Stop) (n : ℕ)
+        (es : List Event) (f g : Fault)
+        → IsNamed (HasFault l cs ts names stop n es) (Some f) → IsNamed (HasFault l cs ts names stop n es) (Some g)
+        → f ≡ g }
+    ensures either { (l : Language) (cs : List ℕ) (ts : List Token) (names : List ℕ) (stop : Stop) (n : ℕ)
+        (es : List Event) (f : Fault)
         → IsNamed (HasFault l cs ts names stop n es) (Some f) → IsNamed (HasFault l cs ts names stop n es) None → ⊥ }
 {}
 
 /// What is alike has the same faults.
 pub fn alike_faults()
-    ensures { (l : Language) (cs : List ℕ) (ts : List Token) (names : List ℕ) (stop : Stop) (n : ℕ) (es fs : List Event) → AreAlike es fs
+    ensures { (l : Language) (cs : List ℕ) (ts : List Token) (names : List ℕ) (stop : Stop) (n : ℕ)
+        (es fs : List Event) → AreAlike es fs
         → (f : Fault) → HasFault l cs ts names stop n es f → HasFault l cs ts names stop n fs f }
 {}
 
 /// Two readings of one text have the same tokens. Where nothing is too deep, they stop for one reason behind as many tokens, and do
 /// the same but for members of lists that begin with the next token.
 pub fn readings_agree()
-    ensures tokens { (l : Language) (cs : List ℕ) (ts us : List Token) (names numbers : List ℕ) (stop halt : Stop) (n m : ℕ) (es fs : List Event)
+    ensures tokens { (l : Language) (cs : List ℕ) (ts us : List Token) (names numbers : List ℕ) (stop halt : Stop)
+        (n m : ℕ) (es fs : List Event)
         → IsReading l cs ts names stop n es → IsReading l cs us numbers halt m fs → ts ≡ us }
-    ensures stops { (l : Language) (cs : List ℕ) (ts us : List Token) (names numbers : List ℕ) (stop halt : Stop) (n m : ℕ) (es fs : List Event)
+    ensures stops { (l : Language) (cs : List ℕ) (ts us : List Token) (names numbers : List ℕ) (stop halt : Stop)
+        (n m : ℕ) (es fs : List Event)
         → IsReading l cs ts names stop n es → IsReading l cs us numbers halt m fs → stop ≢ Deep → halt ≢ Deep
         → (stop ≡ halt) × (n ≡ m) × AreAlike es fs }
 {}
@@ -113,20 +121,26 @@ pub fn readings_agree()
 /// Where a language is in order, a text has one first fault, or none.
 pub fn one_verdict()
     ensures { (l : Language) (leads : Leads) → is_ordered leads (rules_of l.formats) ≡ true
-        → (cs : List ℕ) (ts us : List Token) (names numbers : List ℕ) (stop halt : Stop) (n m : ℕ) (es fs : List Event) (f g : Option Fault)
+        → (cs : List ℕ) (ts us : List Token) (names numbers : List ℕ) (stop halt : Stop) (n m : ℕ)
+        (es fs : List Event) (f g : Option Fault)
         → IsReading l cs ts names stop n es → IsReading l cs us numbers halt m fs
         → IsNamed (HasFault l cs ts names stop n es) f → IsNamed (HasFault l cs us numbers halt m fs) g → f ≡ g }
 {}
 
 /// So it is refused with one fault at most, and with none where it says a tree.
 pub fn texts_have_one_answer()
-    ensures one { (l : Language) (leads : Leads) → is_ordered leads (rules_of l.formats) ≡ true → (cs : List ℕ) (f g : TextFault) → IsTextFault l cs f → IsTextFault l cs g → f ≡ g }
-    ensures either { (l : Language) (leads : Leads) → is_ordered leads (rules_of l.formats) ≡ true → (cs : List ℕ) (f : TextFault) (tree : Entity ℕ) → IsTextFault l cs f → Says l cs tree → ⊥ }
+    ensures one { (l : Language) (leads : Leads) → is_ordered leads (rules_of l.formats) ≡ true
+        → (cs : List ℕ) (f g : TextFault) → IsTextFault l cs f → IsTextFault l cs g → f ≡ g }
+    ensures either { (l : Language) (leads : Leads) → is_ordered leads (rules_of l.formats) ≡ true
+        → (cs : List ℕ) (f : TextFault) (tree : Entity ℕ) → IsTextFault l cs f → Says l cs tree → ⊥ }
 {}
 
 /// What is printed of a closed tree is its characters as bytes, and is read again, as the same tree but for its labels.
 pub fn printed_texts_are_read()
-    ensures bytes { (l : Language) → CanPrint l → (tree : Entity ℕ) → (text : List ℕ) → IsClosed l tree → IsLayoutOf l.formats tree text → IsUtf8 (text ++ 10 ∷ []) × (chars (text ++ 10 ∷ []) ≡ text ++ 10 ∷ []) }
-    ensures read { (l : Language) → CanPrint l → (g : Grammar) → IsGrammarOf l.formats g → (tree : Entity ℕ) → (text : List ℕ) → IsClosed l tree → IsNumbered tree → IsLayoutOf l.formats tree text
-        → length (text ++ 10 ∷ []) < 2 ^ 63 → (again : Entity ℕ) × Says l (text ++ 10 ∷ []) again × IsSameModule again tree }
+    ensures bytes { (l : Language) → CanPrint l → (tree : Entity ℕ) → (text : List ℕ) → IsClosed l tree
+        → IsLayoutOf l.formats tree text → IsUtf8 (text ++ 10 ∷ []) × (chars (text ++ 10 ∷ []) ≡ text ++ 10 ∷ []) }
+    ensures read { (l : Language) → CanPrint l → (g : Grammar) → IsGrammarOf l.formats g → (tree : Entity ℕ)
+        → (text : List ℕ) → IsClosed l tree → IsNumbered tree → IsLayoutOf l.formats tree text
+        → length (text ++ 10 ∷ []) < 2 ^ 63 → (again : Entity ℕ) × Says l (text ++ 10 ∷ []) again
+        × IsSameModule again tree }
 {}

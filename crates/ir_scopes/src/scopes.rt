@@ -151,8 +151,10 @@ fn note(places: &mut [usize], token: usize, number: usize)
 
 /// Writes the number of each definition to the place of its token.
 fn note_definitions(places: &mut [usize], definitions: &[Site])
-    ensures noted { AreDistinct definitions.now → (j : ℕ) (s : Site) → slice_get definitions.now j ≡ Some s → s.token < length places.old → slice_index places.new s.token ≡ j }
-    ensures kept { (k : ℕ) → ((j : ℕ) (s : Site) → slice_get definitions.now j ≡ Some s → s.token ≡ k → ⊥) → slice_index places.new k ≡ slice_index places.old k }
+    ensures noted { AreDistinct definitions.now → (j : ℕ) (s : Site) → slice_get definitions.now j ≡ Some s
+        → s.token < length places.old → slice_index places.new s.token ≡ j }
+    ensures kept { (k : ℕ) → ((j : ℕ) (s : Site) → slice_get definitions.now j ≡ Some s → s.token ≡ k → ⊥)
+        → slice_index places.new k ≡ slice_index places.old k }
 {
     for (number, site) in definitions.iter().enumerate() {
         note(places, site.token, number);
@@ -169,10 +171,12 @@ fn note_mentions(
 ) -> Result<HashSet<usize>, AllocError>
     requires { AreDistinct mentions.now }
     ensures lacking { IfOk result (AreLacking places.old numbers.now mentions.now) }
-    ensures noted { OnOk result ((i j : ℕ) (m : Site) → slice_get mentions.now i ≡ Some m → hash.get same_key numbers.now (m.scope, name_of places.old m.token) ≡ Some j
+    ensures noted { OnOk result ((i j : ℕ) (m : Site) → slice_get mentions.now i ≡ Some m
+        → hash.get same_key numbers.now (m.scope, name_of places.old m.token) ≡ Some j
         → m.token < length places.old → slice_index places.new m.token ≡ j) }
     ensures many { OnOk result (length places.new ≡ length places.old) }
-    ensures kept { OnOk result ((k : ℕ) → ((i : ℕ) (m : Site) → slice_get mentions.now i ≡ Some m → m.token ≡ k → ⊥) → slice_index places.new k ≡ slice_index places.old k) }
+    ensures kept { OnOk result ((k : ℕ) → ((i : ℕ) (m : Site) → slice_get mentions.now i ≡ Some m → m.token ≡ k → ⊥)
+        → slice_index places.new k ≡ slice_index places.old k) }
 {
     let mut lacking = HashSet::new(alloc);
     for site in mentions {

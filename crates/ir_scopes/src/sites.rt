@@ -154,7 +154,8 @@ impl Walker {
     /// Leaves an operation. Behind the root all is as in the beginning.
     fn leave_operation(&mut self)
         requires { (place_of self.old).events < 2 ^ 63 }
-        ensures here { self.new.here ≡ here_behind_operation (place_of self.old).events (reverse self.old.around.items) }
+        ensures here { self.new.here ≡ here_behind_operation (place_of self.old).events
+            (reverse self.old.around.items) }
         ensures around { reverse self.new.around.items ≡ rest (reverse self.old.around.items) }
         ensures counts { (self.new.tokens ≡ self.old.tokens) × (self.new.actions ≡ self.old.actions) }
     {
@@ -232,10 +233,14 @@ impl Sites {
         ensures here { OnOk result (at.new.here ≡ here_after (is_marked isolated.now) (place_of at.old) action) }
         ensures around { OnOk result (reverse at.new.around.items ≡ around_after (place_of at.old) action) }
         ensures counts { OnOk result ((at.new.tokens ≡ at.old.tokens) × (at.new.actions ≡ at.old.actions)) }
-        ensures definitions { OnOk result (self.new.definitions.items ≡ self.old.definitions.items ++ defined (place_of at.old) (Did action)) }
-        ensures labels { OnOk result (self.new.labels.items ≡ self.old.labels.items ++ labelled (place_of at.old) (Did action)) }
-        ensures mentions { OnOk result (self.new.mentions.items ≡ self.old.mentions.items ++ mentioned (place_of at.old) (Did action)) }
-        ensures closings { OnOk result (self.new.closings.items ≡ self.old.closings.items ++ closed (is_marked isolated.now) (place_of at.old) (Did action)) }
+        ensures definitions { OnOk result (self.new.definitions.items ≡ self.old.definitions.items ++ defined
+            (place_of at.old) (Did action)) }
+        ensures labels { OnOk result (self.new.labels.items ≡ self.old.labels.items ++ labelled (place_of at.old)
+            (Did action)) }
+        ensures mentions { OnOk result (self.new.mentions.items ≡ self.old.mentions.items ++ mentioned
+            (place_of at.old) (Did action)) }
+        ensures closings { OnOk result (self.new.closings.items ≡ self.old.closings.items ++ closed
+            (is_marked isolated.now) (place_of at.old) (Did action)) }
     {
         match action {
             Action::Result | Action::Argument => self.definitions.push(at.site(at.here.values))?,
@@ -262,10 +267,14 @@ impl Sites {
     fn follow(&mut self, at: &mut Walker, event: Event, isolated: &[bool]) -> Result<(), AllocError>
         requires { (place_of at.old).events < 2 ^ 63 }
         ensures walk { OnOk result (place_of at.new ≡ behind (is_marked isolated.now) (place_of at.old) event) }
-        ensures definitions { OnOk result (self.new.definitions.items ≡ self.old.definitions.items ++ defined (place_of at.old) event) }
-        ensures labels { OnOk result (self.new.labels.items ≡ self.old.labels.items ++ labelled (place_of at.old) event) }
-        ensures mentions { OnOk result (self.new.mentions.items ≡ self.old.mentions.items ++ mentioned (place_of at.old) event) }
-        ensures closings { OnOk result (self.new.closings.items ≡ self.old.closings.items ++ closed (is_marked isolated.now) (place_of at.old) event) }
+        ensures definitions { OnOk result (self.new.definitions.items ≡ self.old.definitions.items ++ defined
+            (place_of at.old) event) }
+        ensures labels { OnOk result (self.new.labels.items ≡ self.old.labels.items ++ labelled
+            (place_of at.old) event) }
+        ensures mentions { OnOk result (self.new.mentions.items ≡ self.old.mentions.items ++ mentioned
+            (place_of at.old) event) }
+        ensures closings { OnOk result (self.new.closings.items ≡ self.old.closings.items ++ closed
+            (is_marked isolated.now) (place_of at.old) event) }
     {
         match event {
             Event::Took => at.tokens += 1,

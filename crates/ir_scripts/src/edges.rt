@@ -16,7 +16,8 @@ use std::alloc::{AllocError, Global};
 
 /// Whether each of the operations of places stands in a block.
 fn are_linked(ctx: &Context<Tiny>, places: &[Use<Ptr<BasicBlock>>]) -> bool
-    ensures { result ≡ true → (i : ℕ) (u : Use (Ptr BasicBlock)) → slice_get places.now i ≡ Some u → IsLinkedOperation ctx.now.program u.user_op }
+    ensures { result ≡ true → (i : ℕ) (u : Use (Ptr BasicBlock)) → slice_get places.now i ≡ Some u
+        → IsLinkedOperation ctx.now.program u.user_op }
 {
     for index in 0..places.len() {
         let user = places[index].user_op;

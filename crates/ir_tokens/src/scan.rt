@@ -41,7 +41,8 @@ fn name_end(chars: Text, from: usize) -> usize
     ensures after { from ≤ result }
     ensures inside { result ≤ length (codes_of chars.entry) }
     ensures runs { Runs is_name_char (codes_of chars.entry) from result }
-    ensures stops { result < length (codes_of chars.entry) → is_name_char (slice_index (codes_of chars.entry) result) ≡ false }
+    ensures stops { result < length (codes_of chars.entry)
+        → is_name_char (slice_index (codes_of chars.entry) result) ≡ false }
 {
     let mut at = from;
     while at < chars.len() && is_name_char(chars.at(at)) {
@@ -56,7 +57,8 @@ fn digits_end(chars: Text, from: usize) -> usize
     ensures after { from ≤ result }
     ensures inside { result ≤ length (codes_of chars.entry) }
     ensures runs { Runs is_digit (codes_of chars.entry) from result }
-    ensures stops { result < length (codes_of chars.entry) → is_digit (slice_index (codes_of chars.entry) result) ≡ false }
+    ensures stops { result < length (codes_of chars.entry)
+        → is_digit (slice_index (codes_of chars.entry) result) ≡ false }
 {
     let mut at = from;
     while at < chars.len() && is_digit(chars.at(at)) {
@@ -68,7 +70,8 @@ fn digits_end(chars: Text, from: usize) -> usize
 /// Whether a dot and a name follow.
 fn has_second_name(chars: Text, at: usize) -> bool
     requires { at ≤ length (codes_of chars) }
-    ensures { MatchBool result ((slice_index (codes_of chars.entry) at ≡ 46) × (is_letter (slice_index (codes_of chars.entry) (at + 1)) ≡ true))
+    ensures { MatchBool result ((slice_index (codes_of chars.entry) at ≡ 46)
+        × (is_letter (slice_index (codes_of chars.entry) (at + 1)) ≡ true))
         (slice_index (codes_of chars.entry) at ≡ 46 → is_letter (slice_index (codes_of chars.entry) (at + 1)) ≡ true → ⊥) }
 {
     if chars.at(at) == '.' {
@@ -136,7 +139,8 @@ fn mark_end(chars: Text, at: usize) -> (TokenKind, usize)
 /// Where the text ends whose characters begin here.
 fn closing(chars: Text, from: usize) -> Option<usize>
     requires { from ≤ length (codes_of chars) }
-    ensures { MatchOption result ((j : ℕ) → j ≤ length (codes_of chars.entry) → ClosesText (codes_of chars.entry) from j → ⊥)
+    ensures { MatchOption result ((j : ℕ) → j ≤ length (codes_of chars.entry)
+        → ClosesText (codes_of chars.entry) from j → ⊥)
         (λ end. (end ≤ length (codes_of chars.entry)) × ClosesText (codes_of chars.entry) from end) }
 {
     let mut at = from;

@@ -155,7 +155,8 @@ pub trait DialectTables: Dialects {
     ghost same_type_kind: { (x y : Self.TypeKey) → Self.TypeKey.eq x y ≡ true → kind_of_type x ≡ kind_of_type y };
 
     /// Equal types implement the same interfaces.
-    ghost same_type_interfaces: { (x y : Self.TypeKey) → Self.TypeKey.eq x y ≡ true → (interface : TypeInterface) → type_has x interface ≡ type_has y interface };
+    ghost same_type_interfaces: { (x y : Self.TypeKey) → Self.TypeKey.eq x y ≡ true → (interface : TypeInterface)
+        → type_has x interface ≡ type_has y interface };
 
     /// Equal attributes have one kind.
     ghost same_attr_kind: { (x y : Self.Attr) → Self.Attr.eq x y ≡ true → kind_of_attr x ≡ kind_of_attr y };
@@ -164,7 +165,8 @@ pub trait DialectTables: Dialects {
     ghost same_attr_type: { (x y : Self.Attr) → Self.Attr.eq x y ≡ true → type_of_attr x ≡ type_of_attr y };
 
     /// Equal attributes implement the same interfaces.
-    ghost same_attr_interfaces: { (x y : Self.Attr) → Self.Attr.eq x y ≡ true → (interface : AttrInterface) → attr_has x interface ≡ attr_has y interface };
+    ghost same_attr_interfaces: { (x y : Self.Attr) → Self.Attr.eq x y ≡ true → (interface : AttrInterface)
+        → attr_has x interface ≡ attr_has y interface };
 
     /// Equal attributes hold the same names.
     ghost same_attr_names: { (x y : Self.Attr) → Self.Attr.eq x y ≡ true → names_in x ≡ names_in y };

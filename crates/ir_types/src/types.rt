@@ -67,12 +67,15 @@ impl<D: DialectTables> Types<D> {
     /// Where a type has an equal key, nothing changes and no memory is asked for. A new type comes
     /// behind the others, and has no body.
     pub fn intern(&mut self, key: D::TypeKey) -> Result<TypeHandle, AllocError>
-        ensures known { (ty : TypeHandle) → (kept : D.TypeKey) → key_at self.old ty ≡ Some kept → D.TypeKey.eq key kept ≡ true → (result ≡ Ok ty) × (self.new ≡ self.old) }
+        ensures known { (ty : TypeHandle) → (kept : D.TypeKey) → key_at self.old ty ≡ Some kept
+            → D.TypeKey.eq key kept ≡ true → (result ≡ Ok ty) × (self.new ≡ self.old) }
         ensures fresh { has_key D.TypeKey.eq self.old key ≡ false → IfOk result (λ ty. ty ≡ next_handle self.old) }
         ensures handle { IfOk result (λ ty. ty ≡ handle_of D.TypeKey.eq self.old key) }
         ensures ok { OnOk result (self.new ≡ with_type D.TypeKey.eq self.old key) }
-        ensures key { IfOk result (λ ty. (kept : D.TypeKey) × (key_at self.new ty ≡ Some kept) × (D.TypeKey.eq key kept ≡ true)) }
-        ensures same { IfOk result (λ ty. (other : TypeHandle) → (kept : D.TypeKey) → key_at self.new other ≡ Some kept → ((other ≡ ty) ↔ (D.TypeKey.eq key kept ≡ true))) }
+        ensures key { IfOk result (λ ty. (kept : D.TypeKey) × (key_at self.new ty ≡ Some kept)
+            × (D.TypeKey.eq key kept ≡ true)) }
+        ensures same { IfOk result (λ ty. (other : TypeHandle) → (kept : D.TypeKey)
+            → key_at self.new other ≡ Some kept → ((other ≡ ty) ↔ (D.TypeKey.eq key kept ≡ true))) }
         ensures keeps { KeepsTypes self.old self.new }
         ensures err { OnErr result (self.new ≡ self.old) }
     {
@@ -113,7 +116,9 @@ impl<D: DialectTables> Types<D> {
         requires { IsKnown self.old ty }
 
         // The first three lines name the type of `self`: by the dialect, its types, and what its traits say of them.
-        ensures* lends { sem 𝓛 (lends_body D.row D.TypeKind.row D.AttrKind.row D.TypeBody.row D.Saved.row D.Location.row D.OpKind.row D.Attr.row D.TypeKey.row
+        ensures* lends { sem 𝓛
+            (lends_body D.row D.TypeKind.row D.AttrKind.row D.TypeBody.row D.Saved.row D.Location.row D.OpKind.row
+            D.Attr.row D.TypeKey.row
             D.DialectTables.own D.OpKind.PartialEq D.OpKind.Hash.own D.OpKind.Debug D.Attr.PartialEq D.Attr.Hash.own D.Attr.Debug D.TypeKey.PartialEq D.TypeKey.Hash.own D.TypeKey.Debug
             D.TypeKind.PartialEq D.TypeKind.Hash.own D.TypeKind.Debug D.AttrKind.PartialEq D.AttrKind.Hash.own D.AttrKind.Debug D.Saved.PartialEq D.Saved.Hash.own D.Location.PartialEq D.Location.Hash.own
             self.entry ty result) }
@@ -160,12 +165,16 @@ impl<D: DialectTables> Types<D> {
     ///
     /// Where an equal value is kept, nothing changes and no memory is asked for.
     pub fn save(&mut self, value: D::Saved) -> Result<SavedKey, AllocError>
-        ensures known { (key : SavedKey) → (kept : D.Saved) → saved_at self.old key ≡ Some kept → D.Saved.eq value kept ≡ true → (result ≡ Ok key) × (self.new ≡ self.old) }
-        ensures fresh { has_saved D.Saved.eq self.old value ≡ false → IfOk result (λ key. key ≡ next_saved_key self.old) }
+        ensures known { (key : SavedKey) → (kept : D.Saved) → saved_at self.old key ≡ Some kept
+            → D.Saved.eq value kept ≡ true → (result ≡ Ok key) × (self.new ≡ self.old) }
+        ensures fresh { has_saved D.Saved.eq self.old value ≡ false
+            → IfOk result (λ key. key ≡ next_saved_key self.old) }
         ensures key { IfOk result (λ key. key ≡ saved_key_of D.Saved.eq self.old value) }
         ensures ok { OnOk result (self.new ≡ with_saved D.Saved.eq self.old value) }
-        ensures value { IfOk result (λ key. (kept : D.Saved) × (saved_at self.new key ≡ Some kept) × (D.Saved.eq value kept ≡ true)) }
-        ensures same { IfOk result (λ key. (other : SavedKey) → (kept : D.Saved) → saved_at self.new other ≡ Some kept → ((other ≡ key) ↔ (D.Saved.eq value kept ≡ true))) }
+        ensures value { IfOk result (λ key. (kept : D.Saved) × (saved_at self.new key ≡ Some kept)
+            × (D.Saved.eq value kept ≡ true)) }
+        ensures same { IfOk result (λ key. (other : SavedKey) → (kept : D.Saved) → saved_at self.new other ≡ Some kept
+            → ((other ≡ key) ↔ (D.Saved.eq value kept ≡ true))) }
         ensures keeps { KeepsSaved self.old self.new }
         ensures err { OnErr result (self.new ≡ self.old) }
     {

@@ -18,7 +18,8 @@ pub(crate) fn ask_attributes<D: DialectTables, V: Verifiers<D>>(
     ctx: &Context<D>,
     verifiers: &V,
 ) -> Result<(), V::Fault>
-    ensures { AnswersTests (V.accepts verifiers.now ctx.now) (V.answers verifiers.now ctx.now) (tests_of_attributes attributes.now) result }
+    ensures { AnswersTests (V.accepts verifiers.now ctx.now) (V.answers verifiers.now ctx.now)
+        (tests_of_attributes attributes.now) result }
 {
     for (_name, attr) in attributes.iter() {
         verifiers.verify_attr(attr, ctx)?;
@@ -33,7 +34,8 @@ fn ask_results<D: DialectTables, V: Verifiers<D>>(
     verifiers: &V,
 ) -> Result<(), V::Fault>
     requires { IsSome (operation_at ctx.now.program op) }
-    ensures { AnswersTests (V.accepts verifiers.now ctx.now) (V.answers verifiers.now ctx.now) (tests_of_types (results_at ctx.now.program op)) result }
+    ensures { AnswersTests (V.accepts verifiers.now ctx.now) (V.answers verifiers.now ctx.now)
+        (tests_of_types (results_at ctx.now.program op)) result }
 {
     for i in 0..op.get_num_results(ctx) {
         let ty = op.get_result(ctx, i).get_type(ctx);
@@ -49,7 +51,8 @@ fn ask_arguments<D: DialectTables, V: Verifiers<D>>(
     verifiers: &V,
 ) -> Result<(), V::Fault>
     requires { IsSome (block_at ctx.now.program block) }
-    ensures { AnswersTests (V.accepts verifiers.now ctx.now) (V.answers verifiers.now ctx.now) (tests_of_types (arguments_at ctx.now.program block)) result }
+    ensures { AnswersTests (V.accepts verifiers.now ctx.now) (V.answers verifiers.now ctx.now)
+        (tests_of_types (arguments_at ctx.now.program block)) result }
 {
     for i in 0..block.get_num_arguments(ctx) {
         let ty = block.get_argument(ctx, i).get_type(ctx);
@@ -65,7 +68,8 @@ fn ask_operation<D: DialectTables, V: Verifiers<D>>(
     verifiers: &V,
 ) -> Result<(), V::Fault>
     requires { IsSome (operation_at ctx.now.program op) }
-    ensures { AnswersTests (V.accepts verifiers.now ctx.now) (V.answers verifiers.now ctx.now) (tests_of_operation ctx.now.program op) result }
+    ensures { AnswersTests (V.accepts verifiers.now ctx.now) (V.answers verifiers.now ctx.now)
+        (tests_of_operation ctx.now.program op) result }
 {
     verifiers.verify_op(op, ctx)?;
     let notes = op.deref(ctx);
@@ -80,7 +84,8 @@ fn ask_block<D: DialectTables, V: Verifiers<D>>(
     verifiers: &V,
 ) -> Result<(), V::Fault>
     requires { IsSome (block_at ctx.now.program block) }
-    ensures { AnswersTests (V.accepts verifiers.now ctx.now) (V.answers verifiers.now ctx.now) (tests_of_block ctx.now.program block) result }
+    ensures { AnswersTests (V.accepts verifiers.now ctx.now) (V.answers verifiers.now ctx.now)
+        (tests_of_block ctx.now.program block) result }
 {
     let notes = block.deref(ctx);
     ask_attributes(&notes.attributes, ctx, verifiers)?;
@@ -93,7 +98,9 @@ fn ask_node<D: DialectTables, V: Verifiers<D>>(
     ctx: &Context<D>,
     verifiers: &V,
 ) -> Result<(), V::Fault>
-    ensures { IsThere ctx.now.program node → AnswersTests (V.accepts verifiers.now ctx.now) (V.answers verifiers.now ctx.now) (tests_of ctx.now.program node) result }
+    ensures { IsThere ctx.now.program node
+        → AnswersTests (V.accepts verifiers.now ctx.now) (V.answers verifiers.now ctx.now)
+        (tests_of ctx.now.program node) result }
 {
     match node {
         IRNode::Operation(op) if op.is_live(ctx) => ask_operation(op, ctx, verifiers),
@@ -109,7 +116,8 @@ pub(crate) fn ask_inside<D: DialectTables, V: Verifiers<D>>(
     verifiers: &V,
 ) -> Result<(), V::Fault>
     requires { IsLiveNode ctx.now.program outer }
-    ensures { AnswersTests (V.accepts verifiers.now ctx.now) (V.answers verifiers.now ctx.now) (tests_inside ctx.now.program outer) result }
+    ensures { AnswersTests (V.accepts verifiers.now ctx.now) (V.answers verifiers.now ctx.now)
+        (tests_inside ctx.now.program outer) result }
 {
     for node in nodes_inside(outer, ctx) {
         ask_node(node, ctx, verifiers)?;
@@ -123,7 +131,9 @@ fn ask_if_operation<D: DialectTables, V: Verifiers<D>>(
     ctx: &Context<D>,
     verifiers: &V,
 ) -> Result<(), V::Fault>
-    ensures { IsThere ctx.now.program node → AnswersTests (V.accepts verifiers.now ctx.now) (V.answers verifiers.now ctx.now) (operation_tests_of ctx.now.program node) result }
+    ensures { IsThere ctx.now.program node
+        → AnswersTests (V.accepts verifiers.now ctx.now) (V.answers verifiers.now ctx.now)
+        (operation_tests_of ctx.now.program node) result }
 {
     match node {
         IRNode::Operation(op) if op.is_live(ctx) => verifiers.verify_op(op, ctx),
@@ -138,7 +148,8 @@ pub(crate) fn ask_operations_inside<D: DialectTables, V: Verifiers<D>>(
     verifiers: &V,
 ) -> Result<(), V::Fault>
     requires { IsLiveNode ctx.now.program outer }
-    ensures { AnswersTests (V.accepts verifiers.now ctx.now) (V.answers verifiers.now ctx.now) (operation_tests_inside ctx.now.program outer) result }
+    ensures { AnswersTests (V.accepts verifiers.now ctx.now) (V.answers verifiers.now ctx.now)
+        (operation_tests_inside ctx.now.program outer) result }
 {
     for node in nodes_inside(outer, ctx) {
         ask_if_operation(node, ctx, verifiers)?;

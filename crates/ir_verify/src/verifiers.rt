@@ -20,10 +20,14 @@ pub trait Verifiers<D: DialectTables> {
     type Fault: Debug + Drop;
 
     /// Which operations, attributes and types of a context are accepted.
-    ghost accepts: { Self → DialectContext D D.TypeKind D.AttrKind D.TypeBody D.Saved D.Location D.OpKind D.Attr D.TypeKey → Test D.Attr → Type 0 };
+    ghost accepts: { Self
+        → DialectContext D D.TypeKind D.AttrKind D.TypeBody D.Saved D.Location D.OpKind D.Attr D.TypeKey → Test D.Attr
+        → Type 0 };
 
     /// Which faults may be answered to those that aren't.
-    ghost answers: { Self → DialectContext D D.TypeKind D.AttrKind D.TypeBody D.Saved D.Location D.OpKind D.Attr D.TypeKey → Test D.Attr → Self.Fault → Type 0 };
+    ghost answers: { Self
+        → DialectContext D D.TypeKind D.AttrKind D.TypeBody D.Saved D.Location D.OpKind D.Attr D.TypeKey → Test D.Attr
+        → Self.Fault → Type 0 };
 
     /// The test of an operation by itself.
     ///

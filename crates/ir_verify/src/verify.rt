@@ -39,8 +39,11 @@ pub fn verify_op<D: DialectTables, V: Verifiers<D>>(
     verifiers: &V,
 ) -> Result<(), VerifyErr<V::Fault>>
     requires { IsSome (operation_at ctx.now.program op) }
-    ensures accepted { IsOk result ↔ ((inner : Ptr Operation) → StandsInside ctx.now.program (OperationNode op) (OperationNode inner) → V.accepts verifiers.now ctx.now (of_op inner)) }
-    ensures first { AnswersOwn (V.accepts verifiers.now ctx.now) (V.answers verifiers.now ctx.now) (operation_tests_inside ctx.now.program (OperationNode op)) result }
+    ensures accepted { IsOk result ↔ ((inner : Ptr Operation)
+        → StandsInside ctx.now.program (OperationNode op) (OperationNode inner)
+        → V.accepts verifiers.now ctx.now (of_op inner)) }
+    ensures first { AnswersOwn (V.accepts verifiers.now ctx.now) (V.answers verifiers.now ctx.now)
+        (operation_tests_inside ctx.now.program (OperationNode op)) result }
 {
     know_inside(IRNode::Operation(op), ctx);
     own(ask_operations_inside(IRNode::Operation(op), ctx, verifiers))
@@ -54,7 +57,8 @@ pub(crate) fn verify_node<D: DialectTables, V: Verifiers<D>>(
 ) -> Result<(), VerifyErr<V::Fault>>
     requires { IsLiveNode ctx.now.program node }
     ensures accepted { IsOk result ↔ IsVerified D.op_has (V.accepts verifiers.now ctx.now) ctx.now.program node }
-    ensures answer { AnswersVerify D.op_has (V.accepts verifiers.now ctx.now) (V.answers verifiers.now ctx.now) ctx.now.program node result }
+    ensures answer { AnswersVerify D.op_has (V.accepts verifiers.now ctx.now)
+        (V.answers verifiers.now ctx.now) ctx.now.program node result }
 {
     know_inside(node, ctx);
     if some_has_flaw(BasicBlockVerifyErr::MissingTerminator, node, ctx) {
@@ -79,8 +83,10 @@ pub fn verify_operation<D: DialectTables, V: Verifiers<D>>(
     verifiers: &V,
 ) -> Result<(), VerifyErr<V::Fault>>
     requires { IsSome (operation_at ctx.now.program op) }
-    ensures accepted { IsOk result ↔ IsVerified D.op_has (V.accepts verifiers.now ctx.now) ctx.now.program (OperationNode op) }
-    ensures answer { AnswersVerify D.op_has (V.accepts verifiers.now ctx.now) (V.answers verifiers.now ctx.now) ctx.now.program (OperationNode op) result }
+    ensures accepted { IsOk result ↔ IsVerified D.op_has (V.accepts verifiers.now ctx.now) ctx.now.program
+        (OperationNode op) }
+    ensures answer { AnswersVerify D.op_has (V.accepts verifiers.now ctx.now)
+        (V.answers verifiers.now ctx.now) ctx.now.program (OperationNode op) result }
 {
     verify_node(IRNode::Operation(op), ctx, verifiers)
 }
@@ -95,7 +101,8 @@ pub fn verify_attr<D: DialectTables, V: Verifiers<D>>(
     verifiers: &V,
 ) -> Result<(), VerifyErr<V::Fault>>
     ensures accepted { IsOk result ↔ V.accepts verifiers.now ctx.now (of_attr attr.now) }
-    ensures answer { AnswersOwn (V.accepts verifiers.now ctx.now) (V.answers verifiers.now ctx.now) (of_attr attr.now ∷ []) result }
+    ensures answer { AnswersOwn (V.accepts verifiers.now ctx.now) (V.answers verifiers.now ctx.now)
+        (of_attr attr.now ∷ []) result }
 {
     own(verifiers.verify_attr(attr, ctx))
 }
@@ -111,7 +118,8 @@ pub fn verify_type<D: DialectTables, V: Verifiers<D>>(
 ) -> Result<(), VerifyErr<V::Fault>>
     requires { IsKnown ctx.now.types ty }
     ensures accepted { IsOk result ↔ V.accepts verifiers.now ctx.now (of_type ty) }
-    ensures answer { AnswersOwn (V.accepts verifiers.now ctx.now) (V.answers verifiers.now ctx.now) (of_type ty ∷ []) result }
+    ensures answer { AnswersOwn (V.accepts verifiers.now ctx.now) (V.answers verifiers.now ctx.now)
+        (of_type ty ∷ []) result }
 {
     own(verifiers.verify_type(ty, ctx))
 }

@@ -16,10 +16,13 @@ pub trait Verify<D: DialectTables, V: Verifiers<D>> {
     ghost use Rattle.std.specs.Prelude.{Result};
 
     /// What has to hold of it in a context.
-    ghost can_verify: { Self → DialectContext D D.TypeKind D.AttrKind D.TypeBody D.Saved D.Location D.OpKind D.Attr D.TypeKey → Type 0 };
+    ghost can_verify: { Self
+        → DialectContext D D.TypeKind D.AttrKind D.TypeBody D.Saved D.Location D.OpKind D.Attr D.TypeKey → Type 0 };
 
     /// What is answered of it in a context.
-    ghost verified: { Self → V → DialectContext D D.TypeKind D.AttrKind D.TypeBody D.Saved D.Location D.OpKind D.Attr D.TypeKey → Result Unit (Refusal V.Fault) → Type 0 };
+    ghost verified: { Self → V
+        → DialectContext D D.TypeKind D.AttrKind D.TypeBody D.Saved D.Location D.OpKind D.Attr D.TypeKey
+        → Result Unit (Refusal V.Fault) → Type 0 };
 
     /// Whether it is as the dialect wants it, with all that stands inside it. No memory is asked for.
     ///
@@ -38,7 +41,8 @@ impl<D: DialectTables, V: Verifiers<D>> Verify<D, V> for Ptr<Operation> {
 
     ghost can_verify = { λ op c. IsSome (operation_at c.program op) };
 
-    ghost verified = { λ op v c answer. AnswersVerify D.op_has (V.accepts v c) (V.answers v c) c.program (OperationNode op) answer };
+    ghost verified = { λ op v c answer. AnswersVerify D.op_has (V.accepts v c) (V.answers v c) c.program
+        (OperationNode op) answer };
 
     fn verify(&self, ctx: &Context<D>, verifiers: &V) -> Result<(), VerifyErr<V::Fault>> {
         verify_node(IRNode::Operation(*self), ctx, verifiers)
@@ -53,7 +57,8 @@ impl<D: DialectTables, V: Verifiers<D>> Verify<D, V> for Ptr<Region> {
 
     ghost can_verify = { λ region c. IsSome (region_at c.program region) };
 
-    ghost verified = { λ region v c answer. AnswersVerify D.op_has (V.accepts v c) (V.answers v c) c.program (RegionNode region) answer };
+    ghost verified = { λ region v c answer. AnswersVerify D.op_has (V.accepts v c) (V.answers v c) c.program
+        (RegionNode region) answer };
 
     fn verify(&self, ctx: &Context<D>, verifiers: &V) -> Result<(), VerifyErr<V::Fault>> {
         verify_node(IRNode::Region(*self), ctx, verifiers)
@@ -67,7 +72,8 @@ impl<D: DialectTables, V: Verifiers<D>> Verify<D, V> for Ptr<BasicBlock> {
 
     ghost can_verify = { λ block c. IsSome (block_at c.program block) };
 
-    ghost verified = { λ block v c answer. AnswersBlock D.op_has (V.accepts v c) (V.answers v c) c.program block answer };
+    ghost verified = { λ block v c answer. AnswersBlock D.op_has (V.accepts v c)
+        (V.answers v c) c.program block answer };
 
     fn verify(&self, ctx: &Context<D>, verifiers: &V) -> Result<(), VerifyErr<V::Fault>> {
         if has_flaw(BasicBlockVerifyErr::NoParent, *self, ctx) {
@@ -99,7 +105,8 @@ impl<D: DialectTables, V: Verifiers<D>> Verify<D, V> for AttributeDict<D> {
 
     ghost can_verify = { λ attributes c. ⊤ };
 
-    ghost verified = { λ attributes v c answer. AnswersOwn (V.accepts v c) (V.answers v c) (tests_of_attributes attributes) answer };
+    ghost verified = { λ attributes v c answer. AnswersOwn (V.accepts v c) (V.answers v c)
+        (tests_of_attributes attributes) answer };
 
     fn verify(&self, ctx: &Context<D>, verifiers: &V) -> Result<(), VerifyErr<V::Fault>> {
         own(ask_attributes(self, ctx, verifiers))

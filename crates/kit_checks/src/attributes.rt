@@ -130,7 +130,8 @@ pub(crate) fn has_known_attributes<
     D: DialectTables<OpKind = KitOp, Attr = KitAttr, TypeKey = KitType>,
 >(ctx: &Context<D>, op: Ptr<Operation>) -> bool
     requires { IsSome (operation_at ctx.now.program op) }
-    ensures { OfTree ctx.now.program op (λ u. IsTrue result ↔ Every (MayHave (kind_of (world_of ctx.now) u)) ((world_of ctx.now).attributes u.head.content)) }
+    ensures { OfTree ctx.now.program op (λ u. IsTrue result ↔ Every (MayHave (kind_of (world_of ctx.now) u))
+        ((world_of ctx.now).attributes u.head.content)) }
 {
     let notes = op.deref(ctx);
     may_have_all(&notes.attributes, kind_of(ctx, op))
@@ -141,7 +142,8 @@ pub(crate) fn has_common_attributes<
     D: DialectTables<OpKind = KitOp, Attr = KitAttr, TypeKey = KitType>,
 >(ctx: &Context<D>, block: Ptr<BasicBlock>) -> bool
     requires { IsSome (block_at ctx.now.program block) }
-    ensures { OfBody ctx.now.program block (λ b. IsTrue result ↔ Every IsCommon ((world_of ctx.now).block_attributes b.label.content)) }
+    ensures { OfBody ctx.now.program block (λ b. IsTrue result ↔ Every IsCommon
+        ((world_of ctx.now).block_attributes b.label.content)) }
 {
     let notes = block.deref(ctx);
     are_common(&notes.attributes)

@@ -59,7 +59,8 @@ fn region_passes<D: DialectTables<OpKind = KitOp, Attr = KitAttr, TypeKey = KitT
     region: Ptr<Region>,
 ) -> bool
     requires { IsSome (region_at ctx.now.program region) }
-    ensures { OfRegion ctx.now.program region (λ blocks. IsTrue result ↔ Every (BlockPasses (world_of ctx.now) test) (block_list blocks)) }
+    ensures { OfRegion ctx.now.program region
+        (λ blocks. IsTrue result ↔ Every (BlockPasses (world_of ctx.now) test) (block_list blocks)) }
 {
     let program = ctx.program();
     program.know_lists();
@@ -78,7 +79,8 @@ pub(crate) fn blocks_pass<D: DialectTables<OpKind = KitOp, Attr = KitAttr, TypeK
     test: BlockTest,
 ) -> bool
     requires { IsSome (operation_at ctx.now.program op) }
-    ensures { OfTree ctx.now.program op (λ u. IsTrue result ↔ Every (BlockPasses (world_of ctx.now) test) (bodies_of u)) }
+    ensures { OfTree ctx.now.program op (λ u. IsTrue result ↔ Every (BlockPasses (world_of ctx.now) test)
+        (bodies_of u)) }
 {
     let program = ctx.program();
     program.know_lists();

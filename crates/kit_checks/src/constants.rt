@@ -98,7 +98,8 @@ pub(crate) fn constants_fit<D: DialectTables<OpKind = KitOp, Attr = KitAttr, Typ
     op: Ptr<Operation>,
 ) -> bool
     requires { IsSome (operation_at ctx.now.program op) }
-    ensures { OfTree ctx.now.program op (λ u. IsTrue result ↔ (kind_of (world_of ctx.now) u ≡ Constant → HasConstantValue (world_of ctx.now) u)) }
+    ensures { OfTree ctx.now.program op (λ u. IsTrue result ↔ (kind_of (world_of ctx.now) u ≡ Constant
+        → HasConstantValue (world_of ctx.now) u)) }
 {
     if !is_constant(kind_of(ctx, op)) {
         return true;

@@ -231,7 +231,8 @@ pub(crate) fn fits_format<D: DialectTables<OpKind = KitOp, Attr = KitAttr, TypeK
     op: Ptr<Operation>,
 ) -> bool
     requires { IsSome (operation_at ctx.now.program op) }
-    ensures { OfTree ctx.now.program op (λ u. IsTrue result ↔ FitsKind (world_of ctx.now) u (kind_of (world_of ctx.now) u)) }
+    ensures { OfTree ctx.now.program op (λ u. IsTrue result ↔ FitsKind (world_of ctx.now) u
+        (kind_of (world_of ctx.now) u)) }
 {
     match kind_of(ctx, op) {
         KitOp::Module => fits_module(ctx, op),

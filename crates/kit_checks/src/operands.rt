@@ -52,7 +52,8 @@ pub(crate) fn operand_type<D: DialectTables<OpKind = KitOp, Attr = KitAttr, Type
     index: usize,
 ) -> TypeHandle
     requires { index < length (operands_at ctx.now.program op) }
-    ensures { option_map (type_at ctx.now.program) (slice_get (operands_at ctx.now.program op) index) ≡ Some (Some result) }
+    ensures { option_map (type_at ctx.now.program) (slice_get (operands_at ctx.now.program op) index) ≡ Some
+        (Some result) }
 {
     let value = op.get_operand(ctx, index);
     ctx.program().value_type(value)
@@ -65,7 +66,8 @@ fn operands_have<D: DialectTables<OpKind = KitOp, Attr = KitAttr, TypeKey = KitT
     ty: TypeHandle,
 ) -> bool
     requires { IsSome (operation_at ctx.now.program op) }
-    ensures { OfTree ctx.now.program op (λ u. IsTrue result ↔ Every (λ o. o ≡ Some ty) (map (world_of ctx.now).value_type u.head.operands)) }
+    ensures { OfTree ctx.now.program op (λ u. IsTrue result ↔ Every (λ o. o ≡ Some ty)
+        (map (world_of ctx.now).value_type u.head.operands)) }
 {
     for index in 0..op.get_num_operands(ctx) {
         if !type_passes(ctx, TypeTest::Same(ty), operand_type(ctx, op, index)) {
@@ -80,7 +82,8 @@ pub(crate) fn has_equal_operands<
     D: DialectTables<OpKind = KitOp, Attr = KitAttr, TypeKey = KitType>,
 >(ctx: &Context<D>, op: Ptr<Operation>) -> bool
     requires { IsSome (operation_at ctx.now.program op) }
-    ensures { OfTree ctx.now.program op (λ u. IsTrue result ↔ AreAlike (map (world_of ctx.now).value_type u.head.operands)) }
+    ensures { OfTree ctx.now.program op (λ u. IsTrue result ↔ AreAlike
+        (map (world_of ctx.now).value_type u.head.operands)) }
 {
     if op.get_num_operands(ctx) == 0 {
         return true;
@@ -109,7 +112,8 @@ pub(crate) fn has_one_type<D: DialectTables<OpKind = KitOp, Attr = KitAttr, Type
     op: Ptr<Operation>,
 ) -> bool
     requires { IsSome (operation_at ctx.now.program op) }
-    ensures { OfTree ctx.now.program op (λ u. IsTrue result ↔ AreAlike (map (world_of ctx.now).value_type u.head.operands ++ map Some (types_of u.head.results))) }
+    ensures { OfTree ctx.now.program op (λ u. IsTrue result ↔ AreAlike
+        (map (world_of ctx.now).value_type u.head.operands ++ map Some (types_of u.head.results))) }
 {
     if op.get_num_operands(ctx) == 0 {
         return has_equal_results(ctx, op);
@@ -141,7 +145,9 @@ fn compares_bits<D: DialectTables<OpKind = KitOp, Attr = KitAttr, TypeKey = KitT
     op: Ptr<Operation>,
 ) -> bool
     requires { IsSome (operation_at ctx.now.program op) }
-    ensures { OfTree ctx.now.program op (λ u. IsTrue result ↔ AreAlike (map (world_of ctx.now).value_type u.head.operands) × Every (IsBit (world_of ctx.now)) (types_of u.head.results)) }
+    ensures { OfTree ctx.now.program op (λ u. IsTrue result ↔ AreAlike
+        (map (world_of ctx.now).value_type u.head.operands)
+        × Every (IsBit (world_of ctx.now)) (types_of u.head.results)) }
 {
     if !has_equal_operands(ctx, op) {
         return false;
@@ -155,7 +161,8 @@ pub(crate) fn types_agree<D: DialectTables<OpKind = KitOp, Attr = KitAttr, TypeK
     op: Ptr<Operation>,
 ) -> bool
     requires { IsSome (operation_at ctx.now.program op) }
-    ensures { OfTree ctx.now.program op (λ u. IsTrue result ↔ HasKindTypes (world_of ctx.now) u (kind_of (world_of ctx.now) u)) }
+    ensures { OfTree ctx.now.program op (λ u. IsTrue result ↔ HasKindTypes (world_of ctx.now) u
+        (kind_of (world_of ctx.now) u)) }
 {
     let kind = kind_of(ctx, op);
     if is_arithmetic(kind) {

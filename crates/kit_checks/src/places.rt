@@ -65,7 +65,8 @@ fn block_index<O, B>(
 fn index_of<O, B>(program: &Program<O, B>, node: IRNode) -> Result<usize, RuleFault>
     requires live { IsLiveNode program.now node }
     requires held { (holder : IRNode) × StandsIn program.now node holder }
-    ensures { IfOk result (λ index. (holder : IRNode) → StandsIn program.now node holder → slice_get (nodes_in program.now holder) index ≡ Some node) }
+    ensures { IfOk result (λ index. (holder : IRNode) → StandsIn program.now node holder
+        → slice_get (nodes_in program.now holder) index ≡ Some node) }
 {
     match node {
         IRNode::Operation(op) => match program.parent_block(op) {

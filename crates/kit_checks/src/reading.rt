@@ -168,7 +168,8 @@ pub(crate) fn type_under<D: DialectTables<OpKind = KitOp, Attr = KitAttr, TypeKe
     key: &str,
 ) -> Option<TypeHandle>
     requires { IsSome (operation_at ctx.now.program op) }
-    ensures { OfTree ctx.now.program op (λ u. option_and_then type_in (attribute_of (world_of ctx.now) u key.now) ≡ result) }
+    ensures { OfTree ctx.now.program op (λ u. option_and_then type_in (attribute_of (world_of ctx.now) u key.now)
+        ≡ result) }
 {
     match attribute_of(ctx, op, key) {
         Some(KitAttr::Type(ty)) => Some(*ty),
@@ -182,7 +183,8 @@ pub(crate) fn identifier_under<
     D: DialectTables<OpKind = KitOp, Attr = KitAttr, TypeKey = KitType>,
 >(ctx: &'a Context<D>, op: Ptr<Operation>, key: &str) -> Option<&'a Identifier>
     requires { IsSome (operation_at ctx.now.program op) }
-    ensures { OfTree ctx.now.program op (λ u. option_and_then identifier_in (attribute_of (world_of ctx.now) u key.now) ≡ option_map (λ id. text_of id.now) result) }
+    ensures { OfTree ctx.now.program op (λ u. option_and_then identifier_in
+        (attribute_of (world_of ctx.now) u key.now) ≡ option_map (λ id. text_of id.now) result) }
 {
     match attribute_of(ctx, op, key) {
         Some(KitAttr::Identifier(id)) => Some(id),
@@ -197,7 +199,8 @@ pub(crate) fn integer_under<D: DialectTables<OpKind = KitOp, Attr = KitAttr, Typ
     key: &str,
 ) -> Option<IntegerAttr>
     requires { IsSome (operation_at ctx.now.program op) }
-    ensures { OfTree ctx.now.program op (λ u. option_and_then integer_in (attribute_of (world_of ctx.now) u key.now) ≡ result) }
+    ensures { OfTree ctx.now.program op (λ u. option_and_then integer_in (attribute_of (world_of ctx.now) u key.now)
+        ≡ result) }
 {
     match attribute_of(ctx, op, key) {
         Some(KitAttr::Integer(integer)) => Some(*integer),
@@ -212,7 +215,8 @@ pub(crate) fn sizes_under<'a, D: DialectTables<OpKind = KitOp, Attr = KitAttr, T
     key: &str,
 ) -> Option<&'a Vec<u32>>
     requires { IsSome (operation_at ctx.now.program op) }
-    ensures { OfTree ctx.now.program op (λ u. option_and_then sizes_in (attribute_of (world_of ctx.now) u key.now) ≡ option_map (λ sizes. sizes.now.items) result) }
+    ensures { OfTree ctx.now.program op (λ u. option_and_then sizes_in (attribute_of (world_of ctx.now) u key.now)
+        ≡ option_map (λ sizes. sizes.now.items) result) }
 {
     match attribute_of(ctx, op, key) {
         Some(KitAttr::SegmentSizes(sizes)) => Some(sizes),

@@ -54,7 +54,8 @@ fn is_plain_instruction<D: DialectTables<OpKind = KitOp, Attr = KitAttr, TypeKey
     op: Ptr<Operation>,
 ) -> bool
     requires { IsSome (operation_at ctx.now.program op) }
-    ensures { OfTree ctx.now.program op (λ u. IsTrue result ↔ (is_instruction (kind_of (world_of ctx.now) u) ≡ true) × (length (region_list u.regions) ≡ 0)) }
+    ensures { OfTree ctx.now.program op (λ u. IsTrue result ↔ (is_instruction (kind_of (world_of ctx.now) u) ≡ true)
+        × (length (region_list u.regions) ≡ 0)) }
 {
     if !is_instruction(kind_of(ctx, op)) {
         return false;
@@ -95,7 +96,8 @@ fn values_are_integers<D: DialectTables<OpKind = KitOp, Attr = KitAttr, TypeKey 
 /// Whether an operation is the last one of its block.
 fn is_last<O, B, T: TypeTable>(ctx: &TypedProgram<O, B, T>, op: Ptr<Operation>) -> bool
     requires { IsSome (operation_at ctx.now.program op) }
-    ensures { (block : Ptr BasicBlock) (k : ℕ) → slice_get (operations_in ctx.now.program block) k ≡ Some op → IsTrue result ↔ (k + 1 ≡ length (operations_in ctx.now.program block)) }
+    ensures { (block : Ptr BasicBlock) (k : ℕ) → slice_get (operations_in ctx.now.program block) k ≡ Some op
+        → IsTrue result ↔ (k + 1 ≡ length (operations_in ctx.now.program block)) }
 {
     match op.get_next(ctx) {
         Some(_) => false,

@@ -46,7 +46,8 @@ pub(crate) fn results_pass<D: DialectTables<OpKind = KitOp, Attr = KitAttr, Type
     test: TypeTest,
 ) -> bool
     requires { IsSome (operation_at ctx.now.program op) }
-    ensures { OfTree ctx.now.program op (λ u. IsTrue result ↔ Every (TypePasses (world_of ctx.now) test) (types_of u.head.results)) }
+    ensures { OfTree ctx.now.program op (λ u. IsTrue result ↔ Every (TypePasses (world_of ctx.now) test)
+        (types_of u.head.results)) }
 {
     for index in 0..op.get_num_results(ctx) {
         if !type_passes(ctx, test, op.get_type(ctx, index)) {
@@ -87,7 +88,8 @@ pub(crate) fn arguments_pass<D: DialectTables<OpKind = KitOp, Attr = KitAttr, Ty
     test: TypeTest,
 ) -> bool
     requires { IsSome (block_at ctx.now.program block) }
-    ensures { OfBody ctx.now.program block (λ b. IsTrue result ↔ Every (TypePasses (world_of ctx.now) test) (types_of b.label.arguments)) }
+    ensures { OfBody ctx.now.program block (λ b. IsTrue result ↔ Every (TypePasses (world_of ctx.now) test)
+        (types_of b.label.arguments)) }
 {
     for index in 0..argument_count(ctx, block) {
         if !type_passes(ctx, test, argument_type(ctx, block, index)) {

@@ -28,8 +28,11 @@ fn make_integer<D: DialectTables<OpKind = KitOp, Attr = KitAttr, TypeKey = KitTy
 ) -> Result<KitAttr, MakeFault>
     ensures program { ctx.new.program ≡ ctx.old.program }
     ensures types { KeepsTypes ctx.old.types ctx.new.types }
-    ensures made { (types new : List KitType) → (ps : Pieces) → ShowsParts says types parts.now ps → IfOk result (λ attr. (refused_attribute 0 ps ≡ None) × ShowsAttribute says new attr (node (attribute_of_kind 0) (canonical 0 ps))) }
-    ensures refused { (types : List KitType) → (ps : Pieces) → ShowsParts says types parts.now ps → (i : ℕ) → result ≡ Err (Refused i) → refused_attribute 0 ps ≡ Some i }
+    ensures made { (types new : List KitType) → (ps : Pieces) → ShowsParts says types parts.now ps
+        → IfOk result (λ attr. (refused_attribute 0 ps ≡ None)
+        × ShowsAttribute says new attr (node (attribute_of_kind 0) (canonical 0 ps))) }
+    ensures refused { (types : List KitType) → (ps : Pieces) → ShowsParts says types parts.now ps → (i : ℕ)
+        → result ≡ Err (Refused i) → refused_attribute 0 ps ≡ Some i }
 {
     if parts.len() != 2 {
         return Err(MakeFault::Refused(0));
@@ -62,8 +65,10 @@ pub fn make_attribute<D: DialectTables<OpKind = KitOp, Attr = KitAttr, TypeKey =
 ) -> Result<KitAttr, MakeFault>
     ensures program { ctx.new.program ≡ ctx.old.program }
     ensures types { KeepsTypes ctx.old.types ctx.new.types }
-    ensures made { IfOk result (made.MakesAttribute says values read_attrs kind ctx.old.types.keys ctx.new.types.keys parts.now) }
-    ensures refused { (i : ℕ) → result ≡ Err (Refused i) → made.RefusesAttribute says values read_attrs kind ctx.old.types.keys parts.now i }
+    ensures made { IfOk result
+        (made.MakesAttribute says values read_attrs kind ctx.old.types.keys ctx.new.types.keys parts.now) }
+    ensures refused { (i : ℕ) → result ≡ Err (Refused i)
+        → made.RefusesAttribute says values read_attrs kind ctx.old.types.keys parts.now i }
 {
     match kind {
         KitAttrKind::Integer => make_integer(alloc, ctx, parts),
@@ -76,7 +81,9 @@ pub fn attribute_parts<D: Dialects<OpKind = KitOp, Attr = KitAttr, TypeKey = Kit
     alloc: Global,
     attr: &KitAttr,
 ) -> Result<Vec<Part<D>>, AllocError>
-    ensures { (types : List KitType) → (n : ℕ) → (ps : Pieces) → ShowsAttribute says types attr.now (node (attribute_of_kind n) ps) → IfOk result (λ parts. ShowsParts says types parts.items ps) }
+    ensures { (types : List KitType) → (n : ℕ) → (ps : Pieces)
+        → ShowsAttribute says types attr.now (node (attribute_of_kind n) ps)
+        → IfOk result (λ parts. ShowsParts says types parts.items ps) }
 {
     match attr {
         KitAttr::Integer(integer) => {

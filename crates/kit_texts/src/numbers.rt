@@ -26,7 +26,8 @@ pub fn has_values(integer: IntegerType) -> bool
 
 /// The bits of a number of this type, where it is one: from -(2^(width - 1)) to 2^width - 1.
 pub fn bits_of(integer: IntegerType, number: Number) -> Option<u64>
-    ensures { MatchOption result (IsNumberOf integer number → ⊥) (λ bits. IsNumberOf integer number × (bits ≡ number_modulo integer.width number)) }
+    ensures { MatchOption result (IsNumberOf integer number → ⊥) (λ bits. IsNumberOf integer number
+        × (bits ≡ number_modulo integer.width number)) }
 {
     if !has_values(integer) {
         return None;
@@ -55,7 +56,8 @@ fn is_printed_signed(integer: IntegerType) -> bool
 /// The bits of the negative of a magnitude, at most 2^(width - 1).
 fn negative_bits(width: u32, magnitude: u64) -> Option<u64>
     requires { width ≤ 64 }
-    ensures { MatchOption result (2 ^ width < 2 * magnitude) (λ bits. (2 * magnitude ≤ 2 ^ width) × (bits ≡ (2 ^ width - magnitude) % 2 ^ width)) }
+    ensures { MatchOption result (2 ^ width < 2 * magnitude) (λ bits. (2 * magnitude ≤ 2 ^ width)
+        × (bits ≡ (2 ^ width - magnitude) % 2 ^ width)) }
 {
     let most = greatest(width);
     if magnitude == 0 {

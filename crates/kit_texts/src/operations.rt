@@ -66,8 +66,10 @@ fn make_module<D: DialectTables<OpKind = KitOp, Attr = KitAttr, TypeKey = KitTyp
     alloc: Global,
     parts: &[Part<D>],
 ) -> Result<OperationDraft<D>, MakeFault>
-    ensures made { IfOk result (λ draft. (types : List KitType) → MakesForm NamedRegion parts.now types types draft.attributes draft.result_types.items) }
-    ensures refused { (i : ℕ) → result ≡ Err (Refused i) → (types : List KitType) → RefusesForm NamedRegion parts.now types i }
+    ensures made { IfOk result (λ draft. (types : List KitType)
+        → MakesForm NamedRegion parts.now types types draft.attributes draft.result_types.items) }
+    ensures refused { (i : ℕ) → result ≡ Err (Refused i) → (types : List KitType)
+        → RefusesForm NamedRegion parts.now types i }
 {
     let Some(name) = module_in(parts) else {
         return Err(MakeFault::Refused(0));
@@ -83,8 +85,10 @@ fn make_function<D: DialectTables<OpKind = KitOp, Attr = KitAttr, TypeKey = KitT
     alloc: Global,
     parts: &[Part<D>],
 ) -> Result<OperationDraft<D>, MakeFault>
-    ensures made { IfOk result (λ draft. (types : List KitType) → MakesForm TypedRegion parts.now types types draft.attributes draft.result_types.items) }
-    ensures refused { (i : ℕ) → result ≡ Err (Refused i) → (types : List KitType) → RefusesForm TypedRegion parts.now types i }
+    ensures made { IfOk result (λ draft. (types : List KitType)
+        → MakesForm TypedRegion parts.now types types draft.attributes draft.result_types.items) }
+    ensures refused { (i : ℕ) → result ≡ Err (Refused i) → (types : List KitType)
+        → RefusesForm TypedRegion parts.now types i }
 {
     let Some((name, ty)) = function_in(parts) else {
         return Err(MakeFault::Refused(0));
@@ -109,7 +113,8 @@ fn type_of_integer<D: DialectTables<OpKind = KitOp, Attr = KitAttr, TypeKey = Ki
 ) -> Result<TypeHandle, AllocError>
     ensures program { ctx.new.program ≡ ctx.old.program }
     ensures types { KeepsTypes ctx.old.types ctx.new.types }
-    ensures handle { IfOk result (λ ty. slice_get ctx.new.types.keys ty.number ≡ Some (IntegerKey integer.now.integer)) }
+    ensures handle { IfOk result (λ ty. slice_get ctx.new.types.keys ty.number ≡ Some
+        (IntegerKey integer.now.integer)) }
 {
     if let Some(KitType::Integer(kept)) = ctx.type_key(integer.ty) {
         if *kept == integer.integer {
@@ -128,7 +133,9 @@ fn make_constant<D: DialectTables<OpKind = KitOp, Attr = KitAttr, TypeKey = KitT
 ) -> Result<OperationDraft<D>, MakeFault>
     ensures program { ctx.new.program ≡ ctx.old.program }
     ensures types { KeepsTypes ctx.old.types ctx.new.types }
-    ensures made { IfOk result (λ draft. MakesForm Value parts.now ctx.old.types.keys ctx.new.types.keys draft.attributes draft.result_types.items) }
+    ensures made { IfOk result
+        (λ draft. MakesForm Value parts.now ctx.old.types.keys ctx.new.types.keys draft.attributes
+        draft.result_types.items) }
     ensures refused { (i : ℕ) → result ≡ Err (Refused i) → RefusesForm Value parts.now ctx.old.types.keys i }
 {
     let Some(integer) = constant_in(parts) else {
@@ -151,8 +158,10 @@ fn make_of_operands<D: DialectTables<OpKind = KitOp, Attr = KitAttr, TypeKey = K
     alloc: Global,
     parts: &[Part<D>],
 ) -> Result<OperationDraft<D>, MakeFault>
-    ensures made { IfOk result (λ draft. (types : List KitType) → MakesForm AnyOperands parts.now types types draft.attributes draft.result_types.items) }
-    ensures refused { (i : ℕ) → result ≡ Err (Refused i) → (types : List KitType) → RefusesForm AnyOperands parts.now types i }
+    ensures made { IfOk result (λ draft. (types : List KitType)
+        → MakesForm AnyOperands parts.now types types draft.attributes draft.result_types.items) }
+    ensures refused { (i : ℕ) → result ≡ Err (Refused i) → (types : List KitType)
+        → RefusesForm AnyOperands parts.now types i }
 {
     let Some(_count) = operands_in(parts) else {
         return Err(MakeFault::Refused(0));
@@ -165,8 +174,10 @@ fn make_of_operand<D: DialectTables<OpKind = KitOp, Attr = KitAttr, TypeKey = Ki
     alloc: Global,
     parts: &[Part<D>],
 ) -> Result<OperationDraft<D>, MakeFault>
-    ensures made { IfOk result (λ draft. (types : List KitType) → MakesForm OneOperand parts.now types types draft.attributes draft.result_types.items) }
-    ensures refused { (i : ℕ) → result ≡ Err (Refused i) → (types : List KitType) → RefusesForm OneOperand parts.now types i }
+    ensures made { IfOk result (λ draft. (types : List KitType)
+        → MakesForm OneOperand parts.now types types draft.attributes draft.result_types.items) }
+    ensures refused { (i : ℕ) → result ≡ Err (Refused i) → (types : List KitType)
+        → RefusesForm OneOperand parts.now types i }
 {
     let Some(count) = operands_in(parts) else {
         return Err(MakeFault::Refused(0));
@@ -182,8 +193,10 @@ fn make_of_pair<D: DialectTables<OpKind = KitOp, Attr = KitAttr, TypeKey = KitTy
     alloc: Global,
     parts: &[Part<D>],
 ) -> Result<OperationDraft<D>, MakeFault>
-    ensures made { IfOk result (λ draft. (types : List KitType) → MakesForm TwoOperands parts.now types types draft.attributes draft.result_types.items) }
-    ensures refused { (i : ℕ) → result ≡ Err (Refused i) → (types : List KitType) → RefusesForm TwoOperands parts.now types i }
+    ensures made { IfOk result (λ draft. (types : List KitType)
+        → MakesForm TwoOperands parts.now types types draft.attributes draft.result_types.items) }
+    ensures refused { (i : ℕ) → result ≡ Err (Refused i) → (types : List KitType)
+        → RefusesForm TwoOperands parts.now types i }
 {
     let Some(ty) = pair_in(parts) else {
         return Err(MakeFault::Refused(0));
@@ -203,8 +216,10 @@ pub fn make_operation<D: DialectTables<OpKind = KitOp, Attr = KitAttr, TypeKey =
 ) -> Result<OperationDraft<D>, MakeFault>
     ensures program { ctx.new.program ≡ ctx.old.program }
     ensures types { KeepsTypes ctx.old.types ctx.new.types }
-    ensures made { IfOk result (λ d. made.MakesOperation says values (slice_get read_ops) kind ctx.old.types.keys ctx.new.types.keys parts.now d.attributes d.result_types.items) }
-    ensures refused { (i : ℕ) → result ≡ Err (Refused i) → made.RefusesOperation says values (slice_get read_ops) kind ctx.old.types.keys parts.now i }
+    ensures made { IfOk result (λ d. made.MakesOperation says values
+        (slice_get read_ops) kind ctx.old.types.keys ctx.new.types.keys parts.now d.attributes d.result_types.items) }
+    ensures refused { (i : ℕ) → result ≡ Err (Refused i)
+        → made.RefusesOperation says values (slice_get read_ops) kind ctx.old.types.keys parts.now i }
 {
     match kind {
         KitOp::Module => make_module(alloc, parts),
@@ -251,7 +266,8 @@ fn function_parts<D: Dialects<OpKind = KitOp, Attr = KitAttr, TypeKey = KitType>
     alloc: Global,
     attributes: &AttributeDict<D>,
 ) -> Result<Vec<Part<D>>, AllocError>
-    ensures { IfOk result (λ parts. AreFunctionParts (attribute_at attributes.now symbol_name) (attribute_at attributes.now function_type) parts.items) }
+    ensures { IfOk result (λ parts. AreFunctionParts (attribute_at attributes.now symbol_name)
+        (attribute_at attributes.now function_type) parts.items) }
 {
     let mut parts = name_parts(alloc, attributes)?;
     if let Some(KitAttr::Type(ty)) = attributes.get(keys::FUNCTION_TYPE) {
@@ -266,7 +282,8 @@ fn constant_parts<D: Dialects<OpKind = KitOp, Attr = KitAttr, TypeKey = KitType>
     alloc: Global,
     attributes: &AttributeDict<D>,
 ) -> Result<Vec<Part<D>>, AllocError>
-    ensures { (a : IntegerAttr) → attribute_at attributes.now constant_value ≡ Some (Integer a) → IfOk result (λ parts. parts.items ≡ part.Attribute (Integer a) ∷ []) }
+    ensures { (a : IntegerAttr) → attribute_at attributes.now constant_value ≡ Some (Integer a)
+        → IfOk result (λ parts. parts.items ≡ part.Attribute (Integer a) ∷ []) }
 {
     match attributes.get(keys::CONSTANT_VALUE) {
         Some(KitAttr::Integer(integer)) => {
@@ -283,7 +300,8 @@ fn pair_parts<D: DialectTables<OpKind = KitOp, Attr = KitAttr, TypeKey = KitType
     op: Ptr<Operation>,
 ) -> Result<Vec<Part<D>>, AllocError>
     requires { IsSome (operation_at ctx.now.program op) }
-    ensures { (ty : TypeHandle) → types_of (results_at ctx.now.program op) ≡ ty ∷ [] → IfOk result (λ parts. parts.items ≡ part.Operands 1 ∷ part.Operands 1 ∷ part.Type ty ∷ []) }
+    ensures { (ty : TypeHandle) → types_of (results_at ctx.now.program op) ≡ ty ∷ []
+        → IfOk result (λ parts. parts.items ≡ part.Operands 1 ∷ part.Operands 1 ∷ part.Type ty ∷ []) }
 {
     if op.get_num_results(ctx) == 0 {
         return Ok(Vec::new(alloc));
@@ -300,8 +318,10 @@ pub fn operation_parts<D: DialectTables<OpKind = KitOp, Attr = KitAttr, TypeKey 
     op: Ptr<Operation>,
 ) -> Result<Vec<Part<D>>, AllocError>
     requires live { IsSome (operation_at ctx.now.program op) }
-    ensures { (types : List KitType) → (o : SeenOperation KitOp KitAttr) → (n : ℕ) → (us : Trees (Said KitAttr)) → (ps : Pieces) → (seen ctx.now).operation op ≡ Some o
-        → says.of_operation o.kind o.attributes (length o.operands) (types_of o.results) ≡ Some (n, us) → ShowsAll says types us ps → IfOk result (λ parts. ShowsParts says types parts.items ps) }
+    ensures { (types : List KitType) → (o : SeenOperation KitOp KitAttr) → (n : ℕ) → (us : Trees (Said KitAttr))
+        → (ps : Pieces) → (seen ctx.now).operation op ≡ Some o
+        → says.of_operation o.kind o.attributes (length o.operands) (types_of o.results) ≡ Some (n, us)
+        → ShowsAll says types us ps → IfOk result (λ parts. ShowsParts says types parts.items ps) }
 {
     let attributes = &op.deref(ctx).attributes;
     match op.kind(ctx) {

@@ -93,7 +93,8 @@ pub fn type_parts<D: Dialects<OpKind = KitOp, Attr = KitAttr, TypeKey = KitType>
     alloc: Global,
     key: &KitType,
 ) -> Result<Vec<Part<D>>, AllocError>
-    ensures { (types : List KitType) → (n : ℕ) → (ps : Pieces) → ShowsKey says types key.now n ps → IfOk result (λ parts. ShowsParts says types parts.items ps) }
+    ensures { (types : List KitType) → (n : ℕ) → (ps : Pieces) → ShowsKey says types key.now n ps
+        → IfOk result (λ parts. ShowsParts says types parts.items ps) }
 {
     match key {
         KitType::Integer(integer) => {

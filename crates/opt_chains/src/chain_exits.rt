@@ -23,7 +23,8 @@ pub(crate) struct Exit {
 /// Whether an operation is a branch without results and regions.
 fn is_bare<D: Meanings>(program: &Program<D::Operation, D::Block>, op: Ptr<Operation>) -> bool
     requires { IsSome (operation_at program.now op) }
-    ensures { (v : OperationView D.Operation) → operation_at program.now op ≡ Some v → IsTrue result ↔ ((D.meaning.is_branch v.payload ≡ true) × (v.results ≡ []) × (v.regions ≡ [])) }
+    ensures { (v : OperationView D.Operation) → operation_at program.now op ≡ Some v
+        → IsTrue result ↔ ((D.meaning.is_branch v.payload ≡ true) × (v.results ≡ []) × (v.regions ≡ [])) }
 {
     D::is_branch(program.payload(op))
         && program.result_count(op) == 0
@@ -37,7 +38,8 @@ pub(crate) fn bare_exit<D: Meanings>(
 ) -> Option<Exit>
     requires { IsSome (block_at program.now block) }
     ensures found { IfSome result (λ exit. IsBareExit D.meaning program.now block exit.branch exit.target) }
-    ensures all { (p : Ptr Operation) (b : Ptr BasicBlock) → IsBareExit D.meaning program.now block p b → result ≡ Some (record { branch = p; target = b }) }
+    ensures all { (p : Ptr Operation) (b : Ptr BasicBlock) → IsBareExit D.meaning program.now block p b
+        → result ≡ Some (record { branch = p; target = b }) }
 {
     let Some(branch) = program.last_operation(block) else {
         return None;

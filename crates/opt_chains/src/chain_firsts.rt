@@ -20,7 +20,8 @@ fn all_marked(alloc: Global, count: usize) -> Result<Vec<bool>, AllocError>
 fn unmark(marks: &mut Vec<bool>, to: Option<usize>)
     requires { (n : ℕ) → to ≡ Some n → n < length marks.old.items }
     ensures len { length marks.new.items ≡ length marks.old.items }
-    ensures unmarked { (k : ℕ) → k < length marks.old.items → slice_get marks.new.items k ≡ Some true ↔ ((slice_get marks.old.items k ≡ Some true) × (to ≡ Some k → ⊥)) }
+    ensures unmarked { (k : ℕ) → k < length marks.old.items
+        → slice_get marks.new.items k ≡ Some true ↔ ((slice_get marks.old.items k ≡ Some true) × (to ≡ Some k → ⊥)) }
 {
     if let Some(number) = to {
         marks[number] = false;
@@ -34,7 +35,8 @@ fn unmark(marks: &mut Vec<bool>, to: Option<usize>)
 pub(crate) fn firsts(alloc: Global, next: &[Option<usize>]) -> Result<Vec<bool>, AllocError>
     requires within { (a b : ℕ) → slice_get next.now a ≡ Some (Some b) → b < length next.now }
     ensures len { IfOk result (λ firsts. length firsts.items ≡ length next.now) }
-    ensures firsts { IfOk result (λ firsts. (f : ℕ) → f < length next.now → slice_get firsts.items f ≡ Some true ↔ IsFirst next.now f) }
+    ensures firsts { IfOk result (λ firsts. (f : ℕ) → f < length next.now
+        → slice_get firsts.items f ≡ Some true ↔ IsFirst next.now f) }
 {
     let mut marks = all_marked(alloc, next.len())?;
     for to in next {

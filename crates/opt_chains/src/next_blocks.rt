@@ -106,7 +106,8 @@ fn chain_blocks<D: Meanings>(
     blocks: &IndexSet<Ptr<BasicBlock>>,
     fates: &[Fate],
 ) -> Result<Vec<ChainBlock>, AllocError>
-    requires live { (k : ℕ) (b : Ptr BasicBlock) → slice_get blocks.now.keys k ≡ Some b → IsSome (block_at program.now b) }
+    requires live { (k : ℕ) (b : Ptr BasicBlock) → slice_get blocks.now.keys k ≡ Some b
+        → IsSome (block_at program.now b) }
     requires once { AreDistinct blocks.now.keys }
     requires len { length fates.now ≡ length blocks.now.keys }
     ensures { IfOk result (λ seen. AreChainBlocks D.meaning program.now blocks.now.keys fates.now seen.items) }

@@ -65,7 +65,8 @@ pub(crate) fn lose_all_arguments<D: Meanings, T: TypeTable>(
     requires count { (a : DeadArguments) → Lists dead.now a → IsSome (block_at ctx.old.program a.block)
         → length a.marks.items ≡ length (arguments_at ctx.old.program a.block) }
     requires unused { (a : DeadArguments) → Lists dead.now a → (i : ℕ) (v : Value)
-        → slice_get a.marks.items i ≡ Some true → value_in (arguments_at ctx.old.program a.block) i ≡ Some v → IsUsed ctx.old.program v → ⊥ }
+        → slice_get a.marks.items i ≡ Some true → value_in (arguments_at ctx.old.program a.block) i ≡ Some v
+        → IsUsed ctx.old.program v → ⊥ }
     requires once { (j k : ℕ) (a b : DeadArguments) → slice_get dead.now j ≡ Some a → slice_get dead.now k ≡ Some b
         → a.block ≡ b.block → j ≡ k }
     ensures lost { LosesArguments D.meaning ctx.old.program ctx.new.program dead.now }

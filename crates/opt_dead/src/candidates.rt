@@ -22,7 +22,8 @@ fn operands_of<D: OptDialect>(
 ) -> Result<Vec<Operand>, AllocError>
     requires { IsSome (operation_at program.now op) }
     ensures len { IfOk result (λ operands. length operands.items ≡ length (operands_at program.now op)) }
-    ensures operands { IfOk result (λ operands. AreOperandsOf D.meaning program.now (numbers_of inside.now) op operands.items) }
+    ensures operands { IfOk result (λ operands. AreOperandsOf D.meaning program.now
+        (numbers_of inside.now) op operands.items) }
 {
     let targets = targets_of::<D>(alloc, program, inside, op)?;
     let mut operands = Vec::with_capacity(alloc, targets.len())?;

@@ -39,7 +39,8 @@ fn forward_along<O, B>(
     targets: &mut Vec<Option<usize>>,
 )
     requires { IsSome (block_at program.now block) }
-    ensures { Notes (GoesAlong program.now (numbers_of inside.now) block indices.now) targets.old.items targets.new.items }
+    ensures { Notes
+        (GoesAlong program.now (numbers_of inside.now) block indices.now) targets.old.items targets.new.items }
 {
     for (place, index) in indices.iter().enumerate() {
         forward_one(program, inside, block, place, *index, targets);
@@ -56,7 +57,8 @@ fn forward_edges<D: OptDialect>(
 ) -> Result<(), AllocError>
     requires live { IsSome (operation_at program.now op) }
     requires branch { IsBranch D.meaning program.now op }
-    ensures { OnOk result (Notes (Forwards D.meaning program.now (numbers_of inside.now) op) targets.old.items targets.new.items) }
+    ensures { OnOk result (Notes (Forwards D.meaning program.now
+        (numbers_of inside.now) op) targets.old.items targets.new.items) }
 {
     let payload = program.payload(op);
     let operands = program.operand_count(op);
@@ -82,7 +84,8 @@ pub(crate) fn targets_of<D: OptDialect>(
 ) -> Result<Vec<Option<usize>>, AllocError>
     requires { IsSome (operation_at program.now op) }
     ensures len { IfOk result (λ targets. length targets.items ≡ length (operands_at program.now op)) }
-    ensures found { IfOk result (λ targets. AreForwarded D.meaning program.now (numbers_of inside.now) op targets.items) }
+    ensures found { IfOk result (λ targets. AreForwarded D.meaning program.now
+        (numbers_of inside.now) op targets.items) }
     ensures none { IfOk result (λ targets. OthersStay D.meaning program.now (numbers_of inside.now) op targets.items) }
 {
     let mut targets = vec![in alloc; None; program.operand_count(op)]?;

@@ -43,7 +43,8 @@ fn keep_pinned<O, B>(
 ) -> Result<(), AllocError>
     requires live { IsLiveValue program.now value }
     requires numbers { NumbersInside program.now op (numbers_of inside.now) }
-    ensures { OnOk result (KeepsIf (numbers_of inside.now) (IsPinned program.now op value) value kept.old.items kept.new.items) }
+    ensures { OnOk result (KeepsIf (numbers_of inside.now)
+        (IsPinned program.now op value) value kept.old.items kept.new.items) }
 {
     if is_pinned(program, inside, op, value) {
         kept.push(definer_of(inside, value))?;

@@ -141,7 +141,8 @@ fn take_arguments<O, B>(
 ) -> Result<(), AllocError>
     requires live { IsSome (block_at program.now block) }
     requires once { AreDistinct (numbers_of inside.now).values }
-    ensures { OnOk result (TakesArguments program.now (numbers_of inside.now) arguments.now block dead.old.items dead.new.items) }
+    ensures { OnOk result (TakesArguments program.now
+        (numbers_of inside.now) arguments.now block dead.old.items dead.new.items) }
 {
     let marks = argument_marks(alloc, program, inside, block, arguments)?;
     if has_mark(&marks) {

@@ -115,7 +115,8 @@ pub(crate) fn known_operands<D: OptDialect>(
     op: Ptr<Operation>,
 ) -> Result<Vec<Option<D::Constant>>, AllocError>
     requires { IsSome (operation_at program.now op) }
-    ensures { IfOk result (λ known. known.items ≡ map (known_alone D.meaning program.now) (operands_at program.now op)) }
+    ensures { IfOk result (λ known. known.items ≡ map (known_alone D.meaning program.now)
+        (operands_at program.now op)) }
 {
     let mut known = Vec::new(alloc);
     for i in 0..program.operand_count(op) {

@@ -100,7 +100,8 @@ fn fits_edges_if_under<D: Meanings>(
     node: IRNode,
 ) -> Result<bool, AllocError>
     requires { IsLiveNode program.now node }
-    ensures { IfOk result (λ fits. IsTrue fits ↔ (IsAbove program.now start node ⊎ FitsEdgesAt D.meaning program.now node)) }
+    ensures { IfOk result (λ fits. IsTrue fits ↔ (IsAbove program.now start node
+        ⊎ FitsEdgesAt D.meaning program.now node)) }
 {
     if is_above(program, start, node) {
         return Ok(true);

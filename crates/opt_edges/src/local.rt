@@ -106,7 +106,8 @@ pub fn has_local_edges_below<D: Meanings>(
     requires { IsSome (operation_at program.now op) }
     ensures exact { IsTrue result ↔ HasLocalEdgesBelow D.meaning.is_terminator program.now op }
     // So what is below leads to blocks below.
-    ensures leads { IsTrue result → (p : Ptr Operation) (s : Ptr BasicBlock) → IsBelowRoot program.now op p → Lists (successors_at program.now p) s → IsBlockBelow program.now op s }
+    ensures leads { IsTrue result → (p : Ptr Operation) (s : Ptr BasicBlock) → IsBelowRoot program.now op p
+        → Lists (successors_at program.now p) s → IsBlockBelow program.now op s }
 {
     know_edges_under::<D>(program, op);
     has_local_edges_from::<D>(program, Start::Operation(op))

@@ -60,7 +60,8 @@ fn has_local_edges_if_under<D: Meanings>(
     node: IRNode,
 ) -> bool
     requires { IsLiveNode program.now node }
-    ensures { IsTrue result ↔ (IsAbove program.now start node ⊎ HasLocalEdgesAt D.meaning.is_terminator program.now node) }
+    ensures { IsTrue result ↔ (IsAbove program.now start node
+        ⊎ HasLocalEdgesAt D.meaning.is_terminator program.now node) }
 {
     is_above(program, start, node) || has_local_edges_at::<D>(program, node)
 }

@@ -40,7 +40,8 @@ fn first_items<T: Copy>(
     other: T,
 ) -> Result<Vec<T>, AllocError>
     ensures len { IfOk result (λ first. length first.items ≡ count) }
-    ensures items { IfOk result (λ first. (i : ℕ) → i < count → slice_get first.items i ≡ Some (unwrap_or (slice_get items.now i) other)) }
+    ensures items { IfOk result (λ first. (i : ℕ) → i < count
+        → slice_get first.items i ≡ Some (unwrap_or (slice_get items.now i) other)) }
 {
     let mut first = Vec::with_capacity(alloc, count)?;
     for i in 0..count {
@@ -66,7 +67,8 @@ pub fn best_facts<D: OptDialect>(
     requires live { IsSome (operation_at program.now op) }
     requires numbered { NumbersInside program.now op (numbers_of inside.now) }
     requires edges { LeadsBelow program.now op }
-    ensures { IfOk result (λ f. (t : ProgramTree D.Operation D.Block) → AreBestFacts D.meaning program.now op (numbers_of inside.now) f.runs.items f.known.items t) }
+    ensures { IfOk result (λ f. (t : ProgramTree D.Operation D.Block)
+        → AreBestFacts D.meaning program.now op (numbers_of inside.now) f.runs.items f.known.items t) }
 {
     program.know_lists();
     know_occurrences(program, op);

@@ -58,9 +58,11 @@ impl<'a, D: OptDialect> Folding for ProgramFolding<'a, D> {
         D::is_feasible(self.program.payload(op), known, edge)
     }
 
-    ghost folds_more = { λ s row xs ys more. more_folds D.meaning D.lawful (operation_numbered s.program.now s.operations.now row) xs ys more };
+    ghost folds_more = { λ s row xs ys more. more_folds D.meaning D.lawful
+        (operation_numbered s.program.now s.operations.now row) xs ys more };
 
-    ghost feasible_less = { λ s row xs ys edge more. less_feasible D.meaning D.lawful (operation_numbered s.program.now s.operations.now row) xs ys edge more };
+    ghost feasible_less = { λ s row xs ys edge more. less_feasible D.meaning D.lawful
+        (operation_numbered s.program.now s.operations.now row) xs ys edge more };
 
     ghost same = { D.same_constants };
 }

@@ -55,7 +55,8 @@ pub(crate) fn result_numbers<O, B>(
     op: Ptr<Operation>,
 ) -> Result<Vec<usize>, AllocError>
     requires { IsSome (operation_at program.now op) }
-    ensures { IfOk result (λ row. row.items ≡ map (value_number (numbers_of inside.now)) (values_of (results_at program.now op))) }
+    ensures { IfOk result (λ row. row.items ≡ map (value_number (numbers_of inside.now))
+        (values_of (results_at program.now op))) }
 {
     let mut row = Vec::with_capacity(alloc, program.result_count(op))?;
     for i in 0..program.result_count(op) {
@@ -72,7 +73,8 @@ pub(crate) fn argument_numbers<O, B>(
     block: Ptr<BasicBlock>,
 ) -> Result<Vec<usize>, AllocError>
     requires { IsSome (block_at program.now block) }
-    ensures { IfOk result (λ row. row.items ≡ map (value_number (numbers_of inside.now)) (values_of (arguments_at program.now block))) }
+    ensures { IfOk result (λ row. row.items ≡ map (value_number (numbers_of inside.now))
+        (values_of (arguments_at program.now block))) }
 {
     let mut row = Vec::with_capacity(alloc, program.argument_count(block))?;
     for i in 0..program.argument_count(block) {
@@ -89,7 +91,8 @@ pub(crate) fn entry_numbers<O, B>(
     op: Ptr<Operation>,
 ) -> Result<Vec<usize>, AllocError>
     requires { IsSome (operation_at program.now op) }
-    ensures { IfOk result (λ row. row.items ≡ map (block_number (numbers_of inside.now)) (entries_in program.now (regions_in program.now op))) }
+    ensures { IfOk result (λ row. row.items ≡ map (block_number (numbers_of inside.now))
+        (entries_in program.now (regions_in program.now op))) }
 {
     program.know_lists();
     let mut row = Vec::new(alloc);

@@ -21,7 +21,8 @@ fn rows_of<D: OptDialect>(
     inside: &Inside,
 ) -> Result<Vec<Row>, AllocError>
     requires { (p : _) → Lists inside.now.operations.keys p → IsLinkedOperation program.now p }
-    ensures { IfOk result (λ rows. AreRows D.meaning program.now (numbers_of inside.now) inside.now.operations.keys rows.items) }
+    ensures { IfOk result (λ rows. AreRows D.meaning program.now
+        (numbers_of inside.now) inside.now.operations.keys rows.items) }
 {
     let mut rows = Vec::with_capacity(alloc, inside.operations.len())?;
     for op in inside.operations.as_slice() {
@@ -37,7 +38,8 @@ fn arguments_of_blocks<O, B>(
     inside: &Inside,
 ) -> Result<Vec<Vec<usize>>, AllocError>
     requires { (b : _) → Lists inside.now.blocks.keys b → IsSome (block_at program.now b) }
-    ensures { IfOk result (λ arguments. Pairs (AreArguments program.now (numbers_of inside.now)) inside.now.blocks.keys arguments.items) }
+    ensures { IfOk result (λ arguments. Pairs
+        (AreArguments program.now (numbers_of inside.now)) inside.now.blocks.keys arguments.items) }
 {
     let mut arguments = Vec::new(alloc);
     for block in inside.blocks.as_slice() {

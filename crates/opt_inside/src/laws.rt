@@ -19,14 +19,16 @@ pub fn know_occurrences<O, B>(program: &Program<O, B>, op: Ptr<Operation>)
     ensures found { OfItsTree program.now op (λ t. (p : Ptr Operation) → IsBelowRoot program.now op p → IsFound t p) }
     ensures one { OfItsTree program.now op OperationsApart }
     ensures blocks_sound { OfItsTree program.now op (λ t. EachBlock t (IsBlockOccurrence program.now op)) }
-    ensures blocks_found { OfItsTree program.now op (λ t. (b : Ptr BasicBlock) → IsBlockBelow program.now op b → IsBlockFound t b) }
+    ensures blocks_found { OfItsTree program.now op (λ t. (b : Ptr BasicBlock) → IsBlockBelow program.now op b
+        → IsBlockFound t b) }
     ensures blocks_one { OfItsTree program.now op (λ t. BlocksApart t) }
     ensures site { OfItsTree program.now op (λ t. EachFound t (IsSiteOf program.now t)) }
     ensures operations { OfItsTree program.now op (λ t. EachBlock t (OperationsFound program.now t)) }
     ensures beside { OfItsTree program.now op (RegionsTogether program.now) }
     ensures nested { OfItsTree program.now op (λ t. EachBlock t (λ x. IsNestedIn t x.spot)) }
     ensures defined { OfItsTree program.now op (λ t. DefinesAllBelow program.now op t.regions) }
-    ensures defined_inside { OfItsTree program.now op (λ t. EachFound t (λ o. DefinesAllBelow program.now o.head.name o.regions)) }
+    ensures defined_inside { OfItsTree program.now op
+        (λ t. EachFound t (λ o. DefinesAllBelow program.now o.head.name o.regions)) }
 {
     program.know_lists();
     know_handles(program, op);

@@ -37,9 +37,11 @@ pub fn merge_chains<D: OptDialect, T: TypeTable>(
         → (t : ProgramTree D.Operation D.Block) → StandsFor ctx.old.program op t
         → MergesBlocks D.meaning p ctx.old.program ctx.new.program op t) }
     ensures accepted { OnOk result (HasNoCircle D.meaning ctx.old.program op start) }
-    ensures unchanged { IfOk result (λ status. (status ≡ Unchanged) ↔ HasNoneJoinable D.meaning ctx.old.program op start) }
+    ensures unchanged { IfOk result (λ status. (status ≡ Unchanged)
+        ↔ HasNoneJoinable D.meaning ctx.old.program op start) }
     ensures same { result ≡ Ok Unchanged → ctx.new ≡ ctx.old }
-    ensures refused { IfErr result (λ e. (e ≡ Memory) ⊎ ((e ≡ LiveUse) × HasCircle D.meaning ctx.old.program op start)) }
+    ensures refused { IfErr result (λ e. (e ≡ Memory)
+        ⊎ ((e ≡ LiveUse) × HasCircle D.meaning ctx.old.program op start)) }
     ensures kept { OnErr result (ctx.new ≡ ctx.old) }
     ensures numbers { ctx.new.program.counter ≡ ctx.old.program.counter }
     ensures types { ctx.new.types ≡ ctx.old.types }

@@ -163,7 +163,8 @@ pub fn find_fates<D: Meanings>(
     ensures fates { IfOk result (λ fates. (p : Place by_handle) → IsStartIn program.now start p
         → (t : ProgramTree D.Operation D.Block) → StandsFor program.now op t
         → AreFates D.meaning p t inside.now.blocks.keys fates.items) }
-    ensures reached { IfOk result (λ fates. (t : ProgramTree D.Operation D.Block) → StandsFor program.now op t → HasReachTest t) }
+    ensures reached { IfOk result (λ fates. (t : ProgramTree D.Operation D.Block) → StandsFor program.now op t
+        → HasReachTest t) }
 {
     let marks = reached_blocks::<D>(alloc, program, op, inside)?;
     judge_all::<D>(alloc, program, op, start, inside, &marks)
@@ -180,7 +181,9 @@ pub fn unreached_among(
 ) -> Result<Vec<Ptr<BasicBlock>>, AllocError>
     requires once { AreDistinct blocks.now }
     requires len { length fates.now ≡ length blocks.now }
-    ensures listed { IfOk result (λ unreached. (b : Ptr BasicBlock) → Lists unreached.items b ↔ ((k : ℕ) × (slice_get blocks.now k ≡ Some b) × (slice_get fates.now k ≡ Some Unreached))) }
+    ensures listed { IfOk result (λ unreached. (b : Ptr BasicBlock)
+        → Lists unreached.items b ↔ ((k : ℕ) × (slice_get blocks.now k ≡ Some b)
+        × (slice_get fates.now k ≡ Some Unreached))) }
     ensures once { IfOk result (λ unreached. AreDistinct unreached.items) }
 {
     let mut unreached = Vec::new(alloc);

@@ -112,7 +112,8 @@ fn entry_numbers<O, B>(
     blocks: &[Ptr<BasicBlock>],
 ) -> Result<Vec<usize>, AllocError>
     requires { (b : Ptr BasicBlock) → Lists blocks.now b → IsLinkedBlock program.now b }
-    ensures { IfOk result (λ row. (n : ℕ) → Contains row.items n ↔ ((b : Ptr BasicBlock) × (slice_get blocks.now n ≡ Some b) × IsEntry program.now b)) }
+    ensures { IfOk result (λ row. (n : ℕ) → Contains row.items n ↔ ((b : Ptr BasicBlock)
+        × (slice_get blocks.now n ≡ Some b) × IsEntry program.now b)) }
 {
     let mut row = Vec::new(alloc);
     for (number, block) in blocks.iter().enumerate() {

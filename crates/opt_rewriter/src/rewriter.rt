@@ -181,7 +181,8 @@ impl Rewriter {
         requires linked { IsLinkedOperation ctx.old.program op }
         requires place { IsPlace ctx.old.program to }
         requires apart { IsIn ctx.old.program (OperationNode op) to → ⊥ }
-        ensures moved { (middle : Program O B) × TakesOutOperation ctx.old.program middle op × PutsAt middle ctx.new.program to op }
+        ensures moved { (middle : Program O B) × TakesOutOperation ctx.old.program middle op
+            × PutsAt middle ctx.new.program to op }
         ensures point { self.new ≡ self.old }
         ensures values { KeepsValues ctx.old.program ctx.new.program }
         ensures types { ctx.new.types ≡ ctx.old.types }

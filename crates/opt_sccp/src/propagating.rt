@@ -34,7 +34,8 @@ fn decide<D: OptDialect>(
     requires live { IsSome (operation_at program.now op) }
     requires edges { LeadsBelow program.now op }
     ensures decided { IfOk result (λ made. IsDecided D.meaning program.now op made.items) }
-    ensures known { IfOk result (λ made. (count : ℕ) → HasKnownTypes count program.now → AreTyped D.meaning count made.items) }
+    ensures known { IfOk result (λ made. (count : ℕ) → HasKnownTypes count program.now
+        → AreTyped D.meaning count made.items) }
     ensures lacking { result ≡ Err UndeterminedOperand → OfItsTree program.now op (LacksIn D.meaning) }
     ensures refused { IfErr result IsRefusal }
     ensures counted { result ≢ Err CounterFull }

@@ -122,7 +122,8 @@ pub(crate) fn is_lacking<D: OptDialect>(
     facts: &KnownFacts<D::Constant>,
 ) -> bool
     requires { (p : Ptr Operation) → Lists inside.now.operations.keys p → IsSome (operation_at program.now p) }
-    ensures { OfFacts inside.now facts.now (λ k. IsTrue result ↔ SomeLacks D.meaning program.now k inside.now.operations.keys) }
+    ensures { OfFacts inside.now facts.now (λ k. IsTrue result
+        ↔ SomeLacks D.meaning program.now k inside.now.operations.keys) }
 {
     for op in inside.operations.as_slice() {
         if is_lacking_at::<D>(program, inside, facts, *op) {
@@ -183,7 +184,8 @@ fn constant_for<D: OptDialect>(
     value: Value,
 ) -> Result<Option<D::Constant>, AllocError>
     requires { HasPlace program.now value.definer }
-    ensures { IfOk result (λ constant. OfFacts inside.now facts.now (λ k. IsConstantFor D.meaning program.now k value constant)) }
+    ensures { IfOk result (λ constant. OfFacts inside.now facts.now
+        (λ k. IsConstantFor D.meaning program.now k value constant)) }
 {
     let Known::One(constant) = known_of(inside, facts, value) else {
         return Ok(None);
@@ -209,7 +211,8 @@ pub(crate) fn made_constants<D: OptDialect>(
     facts: &KnownFacts<D::Constant>,
 ) -> Result<Vec<Made<D::Constant>>, AllocError>
     requires { (v : Value) → Lists inside.now.values.keys v → HasPlace program.now v.definer }
-    ensures { IfOk result (λ made. OfFacts inside.now facts.now (λ k. AreMade D.meaning program.now k inside.now.values.keys made.items)) }
+    ensures { IfOk result (λ made. OfFacts inside.now facts.now
+        (λ k. AreMade D.meaning program.now k inside.now.values.keys made.items)) }
 {
     let mut made = Vec::new(alloc);
     for value in inside.values.as_slice() {

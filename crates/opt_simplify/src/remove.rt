@@ -58,7 +58,8 @@ fn unreached_blocks<D: Meanings>(
         → (t : ProgramTree D.Operation D.Block) → StandsFor program.now op t
         → (b : Ptr BasicBlock) → Lists unreached.items b ↔ IsUnreached D.meaning p t b) }
     ensures once { IfOk result (λ unreached. AreDistinct unreached.items) }
-    ensures reached { IfOk result (λ unreached. (t : ProgramTree D.Operation D.Block) → StandsFor program.now op t → HasReachTest t) }
+    ensures reached { IfOk result (λ unreached. (t : ProgramTree D.Operation D.Block) → StandsFor program.now op t
+        → HasReachTest t) }
 {
     program.know_lists();
     know_occurrences(program, op);
@@ -113,7 +114,8 @@ pub fn remove_unreached<D: OptDialect, T: TypeTable>(
     ensures removed { OnOk result ((p : Place by_handle) → IsStartIn ctx.old.program start p
         → (t : ProgramTree D.Operation D.Block) → StandsFor ctx.old.program op t
         → RemovesBlocks D.meaning p ctx.old.program ctx.new.program op t) }
-    ensures unchanged { IfOk result (λ status. (status ≡ Unchanged) ↔ HasNoneUnreached D.meaning ctx.old.program op start) }
+    ensures unchanged { IfOk result (λ status. (status ≡ Unchanged)
+        ↔ HasNoneUnreached D.meaning ctx.old.program op start) }
     ensures same { IfOk result (λ status. status ≡ Unchanged → ctx.new ≡ ctx.old) }
     ensures accepted { IfOk result (λ status. LosesNone D.meaning ctx.old.program op start) }
     ensures refused { IfErr result (λ error. (error ≡ Memory)

@@ -110,7 +110,8 @@ pub(crate) fn is_taken_outside<O, B>(
 ) -> Result<bool, AllocError>
     requires there { (b : Ptr BasicBlock) → is_listed blocks.now b ≡ true → IsLiveNode program.now (BlockNode b) }
     requires values { (v : Value) → Lists values.now v → IsLiveValue program.now v }
-    requires all { (v : Value) → IsLiveValue program.now v → IsWithin program.now (is_listed blocks.now) (definer_node v.definer) → Lists values.now v }
+    requires all { (v : Value) → IsLiveValue program.now v
+        → IsWithin program.now (is_listed blocks.now) (definer_node v.definer) → Lists values.now v }
     ensures taken { IfOk result (λ taken. taken ≡ true → IsTakenOutside program.now (is_listed blocks.now)) }
     ensures within { IfOk result (λ taken. taken ≡ false → TakesWithin program.now (is_listed blocks.now)) }
 {

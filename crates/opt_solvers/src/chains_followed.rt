@@ -101,7 +101,8 @@ fn resolve(
 /// There may be no memory.
 pub fn followed(alloc: Global, next: &[Option<usize>]) -> Result<Option<Vec<usize>>, AllocError>
     requires { IsInRange next.now }
-    ensures { IfOk result (λ r. MatchOption r ((v : ℕ) × Chases next.now v v) (λ finals. Answers next.now finals.items)) }
+    ensures { IfOk result (λ r. MatchOption r ((v : ℕ)
+        × Chases next.now v v) (λ finals. Answers next.now finals.items)) }
 {
     let mut known = Following {
         marks: vec![in alloc; Mark::New; next.len()]?,

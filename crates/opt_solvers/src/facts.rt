@@ -109,8 +109,10 @@ pub fn most_precise<F: Folding>(
     folding: &F,
 ) -> Result<Solution<F::Constant>, AllocError>
     requires problem { IsProblem problem.now }
-    requires asks { (i : ℕ) (r : Row) → slice_get problem.now.rows.items i ≡ Some r → F.can_ask folding.now i (length r.operands.items) }
-    ensures { IfOk result (λ s. IsMostPrecise (F.answers folding.now) problem.now (as_facts s.runs.items s.known.items)) }
+    requires asks { (i : ℕ) (r : Row) → slice_get problem.now.rows.items i ≡ Some r
+        → F.can_ask folding.now i (length r.operands.items) }
+    ensures { IfOk result (λ s. IsMostPrecise (F.answers folding.now) problem.now
+        (as_facts s.runs.items s.known.items)) }
 {
     let tables = tables_of(alloc, problem)?;
     let mut solver = begin(alloc, problem)?;

@@ -88,10 +88,12 @@ pub trait Folding {
         ensures { result ≡ (answers self.now).feasible row known.now edge };
 
     /// More known operands give the same folds and maybe more.
-    ghost folds_more: { (s : Self) (row : ℕ) (xs ys : List (Option Self.Constant)) → KnowsMore xs ys → KnowsMore ((answers s).fold row xs) ((answers s).fold row ys) };
+    ghost folds_more: { (s : Self) (row : ℕ) (xs ys : List (Option Self.Constant)) → KnowsMore xs ys
+        → KnowsMore ((answers s).fold row xs) ((answers s).fold row ys) };
 
     /// More known operands make no more edges feasible.
-    ghost feasible_less: { (s : Self) (row : ℕ) (xs ys : List (Option Self.Constant)) (edge : ℕ) → KnowsMore xs ys → (answers s).feasible row ys edge ≡ true → (answers s).feasible row xs edge ≡ true };
+    ghost feasible_less: { (s : Self) (row : ℕ) (xs ys : List (Option Self.Constant)) (edge : ℕ) → KnowsMore xs ys
+        → (answers s).feasible row ys edge ≡ true → (answers s).feasible row xs edge ≡ true };
 
     /// Constants that compare equal are the same.
     ghost same: { (x y : Self.Constant) → Self.Constant.eq x y ≡ true → x ≡ y };

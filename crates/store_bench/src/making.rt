@@ -34,7 +34,8 @@ pub fn make_operations(
     size: u32,
 ) -> Result<(), GrowError>
     requires { IsFlat program.old block }
-    ensures count { OnOk result (length (operations_in program.new block) ≡ length (operations_in program.old block) + size) }
+    ensures count { OnOk result (length (operations_in program.new block) ≡ length
+        (operations_in program.old block) + size) }
     ensures flat { OnOk result (IsFlat program.new block) }
 {
     for number in 0..size {

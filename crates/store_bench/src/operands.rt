@@ -98,7 +98,8 @@ fn replace_all(program: &mut Program<u32, u32>, op: Ptr<Operation>, value: Value
     requires value { IsLiveValue program.old value }
     ensures count { result ≡ length (operands_at program.old op) }
     ensures kept { length (operands_at program.new op) ≡ length (operands_at program.old op) }
-    ensures replaced { (k : ℕ) → k < length (operands_at program.new op) → slice_get (operands_at program.new op) k ≡ Some value }
+    ensures replaced { (k : ℕ) → k < length (operands_at program.new op)
+        → slice_get (operands_at program.new op) k ≡ Some value }
     ensures places { KeepsPlaces program.old program.new }
     ensures op { IsSome (operation_at program.new op) }
     ensures types { (v : AnyValue) → type_at program.new v ≡ type_at program.old v }

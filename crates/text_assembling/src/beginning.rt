@@ -213,7 +213,8 @@ impl<D: TextDialect> Assembler<D> {
     /// The last token is a part.
     pub fn name(&mut self, text: Text) -> Result<(), AssemblyFault>
         ensures here { is_identifier (codes_of text.entry) ≡ true → OnOk result ((id : Identifier)
-            × (text_of id ≡ codes_of text.entry) × HasPut self.old.here self.new.here self.old.here.body (part.Name id) (self.old.taken - 1)) }
+            × (text_of id ≡ codes_of text.entry)
+            × HasPut self.old.here self.new.here self.old.here.body (part.Name id) (self.old.taken - 1)) }
         ensures made { self.new.made ≡ self.old.made }
         ensures around { KeepsAround self.old self.new }
         ensures memory { IfErr result (λ e. e ≡ Memory) }

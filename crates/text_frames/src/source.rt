@@ -66,7 +66,8 @@ fn with_digit(value: u64, digit: char) -> Option<u64>
 
 /// The value of the decimal digits from this place to the end, if it is below 2^64.
 fn digits_value(text: Text, from: usize) -> Option<u64>
-    ensures { SomeIff result (digits (drop from (codes_of text.entry)) < 2 ^ 64) (digits (drop from (codes_of text.entry))) }
+    ensures { SomeIff result (digits (drop from (codes_of text.entry)) < 2 ^ 64)
+        (digits (drop from (codes_of text.entry))) }
 {
     let mut value: u64 = 0;
     for place in from..text.len() {

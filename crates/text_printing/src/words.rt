@@ -86,7 +86,8 @@ pub(crate) fn print_width(
 
 /// A literal, set off from an id before it.
 pub(crate) fn print_literal(out: &mut String, before: Before, text: &str) -> Result<(), AllocError>
-    ensures { OnOk result (string_bytes out.new ≡ string_bytes out.old ++ (gap_of_word (before_of before) ++ text.now)) }
+    ensures { OnOk result (string_bytes out.new ≡ string_bytes out.old ++
+        (gap_of_word (before_of before) ++ text.now)) }
 {
     if let Before::Id = before {
         out.push_str(" ")?;
@@ -113,7 +114,8 @@ pub(crate) fn print_name(
     directive: Directive,
     name: &Identifier,
 ) -> Result<(), AllocError>
-    ensures { OnOk result (AddsName (step_of directive) (text_of name.now) (string_bytes out.old) (string_bytes out.new)) }
+    ensures { OnOk result (AddsName (step_of directive) (text_of name.now) (string_bytes out.old)
+        (string_bytes out.new)) }
 {
     if let Directive::SymbolHeader = directive {
         out.push_str("@")?;

@@ -47,7 +47,8 @@ fn syntax_fault(reading: &Reading, tokens: usize) -> Option<Fault>
 
 /// The first fault of the values of a text, if it isn't assembled.
 fn value_fault(assembled: &Result<Assembly, AssemblyFault>) -> Result<Option<Fault>, TextFault>
-    ensures found { (first : Option Fault) → OnOk assembled.now (first ≡ None) → ((f : Fault) → assembled.now ≡ Err (assembly.Text f) → first ≡ Some f) → IfOk result (λ r. r ≡ first) }
+    ensures found { (first : Option Fault) → OnOk assembled.now (first ≡ None)
+        → ((f : Fault) → assembled.now ≡ Err (assembly.Text f) → first ≡ Some f) → IfOk result (λ r. r ≡ first) }
     ensures none { IfOk result (λ r. r ≡ None → IsOk assembled.now) }
     ensures full { result ≡ Err CounterFull → assembled.now ≡ Err assembly.CounterFull }
     ensures memory { (l : Language) (cs : List ℕ) → IfErr result (IsRefusal l cs) }
@@ -62,7 +63,8 @@ fn value_fault(assembled: &Result<Assembly, AssemblyFault>) -> Result<Option<Fau
 
 /// The first fault of the scopes of a text, if its names aren't looked up.
 fn scope_fault(resolved: &Result<Resolution, ScopeFault>) -> Result<Option<Fault>, TextFault>
-    ensures found { (isolated : ℕ → Bool) (names : List ℕ) (es : List Event) → MatchResult resolved.now (IsResolved isolated names es) (IsScopeFault isolated names es)
+    ensures found { (isolated : ℕ → Bool) (names : List ℕ) (es : List Event)
+        → MatchResult resolved.now (IsResolved isolated names es) (IsScopeFault isolated names es)
         → IfOk result (IsNamed (HasScopeFault isolated names es)) }
     ensures none { IfOk result (λ r. r ≡ None → IsOk resolved.now) }
     ensures out { IfErr result (λ f. f ≡ Memory) }
@@ -84,7 +86,8 @@ fn fault_of(
     scopes: Option<Fault>,
 ) -> Option<Fault>
     ensures first { (l : Language) (cs : List ℕ) (ts : List Token) (names : List ℕ) → length ts ≡ tokens
-        → IsNamed (λ f. HasNumberFault l.values (token_text cs ts) reading.now.events.items f ⊎ HasNamesFault l.values (token_text cs ts) reading.now.events.items f) values
+        → IsNamed (λ f. HasNumberFault l.values (token_text cs ts) reading.now.events.items f
+        ⊎ HasNamesFault l.values (token_text cs ts) reading.now.events.items f) values
         → IsNamed (HasScopeFault l.isolated names reading.now.events.items) scopes
         → IsNamed (HasFault l cs ts names reading.now.stop reading.now.taken reading.now.events.items) result }
     ensures none { result ≡ None → (values ≡ None) × (scopes ≡ None) }
