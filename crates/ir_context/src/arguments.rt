@@ -48,8 +48,7 @@ pub trait ArgumentCalls {
         requires block { IsSome (block_at ctx.old.program (block self)) }
         requires known { IsKnownIn (T.type_count ctx.old.types) ty }
         ensures value { IfOk result (λ v. v ≡ record {
-          definer = Block
-              (block self);
+          definer = Block (block self);
           number = ctx.old.program.counter;
         }) }
         ensures defined { IfOk result (λ v. DefinesValue ctx.old.program ctx.new.program v ty) }
@@ -76,8 +75,7 @@ pub trait ArgumentCalls {
         requires within { i ≤ argument_count ctx.old.program (block self) }
         requires known { IsKnownIn (T.type_count ctx.old.types) ty }
         ensures value { IfOk result (λ v. v ≡ record {
-          definer = Block
-              (block self);
+          definer = Block (block self);
           number = ctx.old.program.counter;
         }) }
         ensures defined { IfOk result (λ v. DefinesValue ctx.old.program ctx.new.program v ty) }
