@@ -1,6 +1,9 @@
 -- Blocks in SSA regions, operations that lack an operand, and what defines values that get constants.
-use Rattle.std.proofs.Common.{◌≡◌, ◌≢◌, ◌⊎◌, ⊎_elim, ℕ, ◌<◌, ◌+◌, Bool, true, false, List, [], Some, option_map, unwrap_or, slice_get, sym, ap, ◌∙◌, subst, arith}
+use Rattle.std.proofs.Common.{◌≡◌, ◌≢◌, ◌⊎◌, ⊎_elim, ℕ, ◌<◌, ◌+◌, Bool, true, false, List, [], Some, option_map, unwrap_or, slice_get, get_or, sym, ap, ◌∙◌, subst, arith}
+use Rattle.std.specs.List.{list_all}
 use Rattle.std.specs.Prelude.{IsTrue, ◌↔◌}
+use Rattle.std.proofs.lemmas.List.Sums.{AllPass-from_list_all}
+use Rattle.std.proofs.lemmas.Option.{slice_get-get_or, slice_get_within}
 use Rattle.ir_program.specs.Lent.{payload_at}
 use Rattle.ir_program.specs.Lists.{StandsInBlock, StandsInRegion, StandsInOperation, IsUnlinkedBlock, regions_in}
 use Rattle.ir_program.specs.Program.{Program, OperationView, operation_at}
@@ -10,12 +13,22 @@ use Rattle.ir_program.specs.declared.handles.Operation.{Operation}
 use Rattle.ir_program.specs.declared.handles.Region.{Region}
 use Rattle.ir_program.specs.declared.handles.BasicBlock.{BasicBlock}
 use Rattle.ir_program.specs.declared.handles.Value.{Value}
+use Rattle.ir_trees.specs.Searched.{Lists}
 use Rattle.ir_trees.specs.Stands.{by_handle, in_program}
-use Rattle.opt_solvers.specs.declared.known.Known.TheVariants.{Undetermined}
+use Rattle.opt_facts.specs.ByNumber.{AreFactsBy}
+use Rattle.opt_inside.specs.Numbered.{Numbers}
+use Rattle.opt_solvers.specs.declared.known.Known.{Known}
+use Rattle.opt_solvers.specs.declared.known.Known.TheVariants.{Any, Undetermined}
 use Rattle.opt_trees.specs.Dialect.{Dialect}
 use Rattle.opt_trees.specs.Facts.{Facts}
 use Rattle.opt_sccp.proofs.Options.{something, is_something, same_some}
-use Rattle.opt_sccp.specs.Wanted.{StandsInSsa, HasUndetermined, LacksAt, FoldsAt}
+use Rattle.opt_sccp.specs.Wanted.{is_determined, StandsInSsa, HasUndetermined, LacksAt, FoldsAt}
+
+-- what stands in a list of which all pass a test passes it
+passes : {X : Type 0} (p : X → Bool) (xs : List X) (i : ℕ) (x : X) → list_all p xs ≡ true → slice_get xs i ≡ Some x → p x ≡ true
+passes p xs i x all at =
+    let less = slice_get_within xs i x at in
+    subst (λ y. p y ≡ true) (same_some (get_or xs i x) x (sym (slice_get-get_or xs i x less) ∙ at)) (AllPass-from_list_all p xs all i x less)
 
 module _ {O B : Type 0} (c : Program O B) where
   -- the payload of what is there
@@ -138,3 +151,11 @@ none_lacks_further d c k ps n p none at lacks j q less h = ⊎_elim
     (λ (e : j ≡ n). let same : p ≡ q = same_some p q (sym at ∙ ap (slice_get ps) (sym e) ∙ h) in subst (λ x. LacksAt d c k x → ⊥) same lacks)
     (λ (l : j < n). none j q l h)
     (at_or_before j n less)
+
+-- where something is found out of each value that has a number, no operand is undetermined
+pub none_undetermined : {A : Type 0} (n : Numbers) (runs : List Bool) (known : List (Known A)) (k : Facts by_handle A) → AreFactsBy n runs known k
+    → list_all is_determined known ≡ true → (vs : List Value) → HasUndetermined k vs → ⊥
+none_undetermined n runs known k by all vs u =
+    let unnumbered : Lists n.values u.value → ⊥ = λ at.
+    let e : true ≡ false = sym (passes is_determined known at.0 (k.of u.value) all (by.value at.0 u.value at.1)) ∙ ap is_determined u.lacks in cc in
+    let e : Any ≡ Undetermined = sym (by.no_value u.value unnumbered) ∙ u.lacks in cc

@@ -1,5 +1,5 @@
 -- Which values of a program get constants, and which operations lack an operand, by what is known of blocks and values.
-use Rattle.std.specs.Prelude.{◌≡◌, ◌⊎◌, ◌↔◌, ℕ, ◌<◌, true, false, List, Option, Some, IsSome, slice_get}
+use Rattle.std.specs.Prelude.{◌≡◌, ◌⊎◌, ◌↔◌, ℕ, ◌<◌, Bool, true, false, List, Option, Some, IsSome, slice_get}
 use Rattle.ir_program.specs.Program.{Program, OperationView, operation_at}
 use Rattle.ir_program.specs.Lists.{StandsInBlock, StandsInRegion}
 use Rattle.ir_program.specs.declared.handles.Ptr.{Ptr}
@@ -15,7 +15,8 @@ use Rattle.opt_facts.specs.ByNumber.{AreFactsBy}
 use Rattle.opt_facts.specs.declared.facts.KnownFacts.{KnownFacts}
 use Rattle.opt_inside.specs.Numbered.{numbers_of}
 use Rattle.opt_inside.specs.declared.numbering.Inside.{Inside}
-use Rattle.opt_solvers.specs.declared.known.Known.TheVariants.{One, Undetermined}
+use Rattle.opt_solvers.specs.declared.known.Known.{Known}
+use Rattle.opt_solvers.specs.declared.known.Known.TheVariants.{One, Any, Undetermined}
 use Rattle.opt_trees.specs.Dialect.{Dialect}
 use Rattle.opt_trees.specs.Facts.{Facts}
 use Rattle.opt_trees.specs.Occurrences.{Has}
@@ -24,6 +25,12 @@ use Rattle.opt_sccp.specs.declared.putting.Made.{Made}
 -- it holds of the facts that are kept by numbers
 abbrev pub OfFacts : {A : Type 0} → Inside → KnownFacts A → (Facts by_handle A → Type 0) → Type 0
 OfFacts {A} n f P = (k : Facts by_handle A) → AreFactsBy (numbers_of n) f.runs.items f.known.items k → P k
+
+-- something is found out of a value of which this is known
+abbrev pub is_determined : {A : Type 0} → Known A → Bool
+is_determined Undetermined = false
+is_determined (One a) = true
+is_determined Any = true
 
 -- nothing is found out of one of these operands
 pub record HasUndetermined {A : Type 0} (k : Facts by_handle A) (operands : List Value) : Type 0 where

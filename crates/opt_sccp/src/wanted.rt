@@ -1,5 +1,6 @@
 //! Which values get constants, and which operations lack an operand.
 ghost use Rattle.std.specs.Prelude.{◌≡◌, ◌⊎◌, ◌↔◌, true, false, Some, IfOk, IsSome, IsTrue, slice_get, unwrap_or};
+ghost use Rattle.std.specs.List.{list_all};
 ghost use Rattle.ir_program.specs.Lent.{payload_at};
 ghost use Rattle.ir_program.specs.Program.{operation_at, block_at};
 ghost use Rattle.ir_program.specs.Rows.{operands_at};
@@ -8,7 +9,7 @@ ghost use Rattle.ir_program.specs.declared.handles.Ptr.{Ptr};
 ghost use Rattle.ir_program.specs.declared.handles.Value.{Value};
 ghost use Rattle.ir_trees.specs.Searched.{Lists};
 ghost use Rattle.opt_sccp.specs.Placed.{HasPlace};
-ghost use Rattle.opt_sccp.specs.Wanted.{AreMade, FoldsAt, HasUndetermined, IsConstantFor, IsWantedAt, LacksAt, OfFacts, SomeLacks, StandsInSsa};
+ghost use Rattle.opt_sccp.specs.Wanted.{is_determined, AreMade, FoldsAt, HasUndetermined, IsConstantFor, IsWantedAt, LacksAt, OfFacts, SomeLacks, StandsInSsa};
 
 use crate::Made;
 use ir_program::{BasicBlock, DefiningEntity, Operation, Program, Ptr, Value};
@@ -115,6 +116,24 @@ fn is_lacking_at<D: OptDialect>(
     has_undetermined(program, inside, facts, op)
 }
 
+/// Whether something is found out of a value of which this is known.
+fn is_determined<A: Copy>(fact: &Known<A>) -> bool
+    ensures { result ≡ is_determined fact.now }
+{
+    match fact {
+        Known::Undetermined => false,
+        Known::One(_) => true,
+        Known::Any => true,
+    }
+}
+
+/// Whether something is found out of each value of which one of these is known.
+fn are_determined<A: Copy>(known: &[Known<A>]) -> bool
+    ensures { result ≡ list_all is_determined known.now }
+{
+    known.iter().all(|fact| is_determined(fact))
+}
+
 /// Whether an operand is undetermined that some operation inside is asked for, in a block that runs of an SSA region.
 pub(crate) fn is_lacking<D: OptDialect>(
     program: &Program<D::Operation, D::Block>,
@@ -125,6 +144,9 @@ pub(crate) fn is_lacking<D: OptDialect>(
     ensures { OfFacts inside.now facts.now (λ k. IsTrue result
         ↔ SomeLacks D.meaning program.now k inside.now.operations.keys) }
 {
+    if are_determined(&facts.known) {
+        return false;
+    }
     for op in inside.operations.as_slice() {
         if is_lacking_at::<D>(program, inside, facts, *op) {
             return true;
@@ -172,7 +194,7 @@ fn is_wanted<D: OptDialect>(
     }
 }
 
-/// The constant that is put in for a value, if one is.
+/// The constant that is put in for a value of which this is known, if one is.
 ///
 /// # Errors
 /// There may be no memory.
@@ -182,12 +204,13 @@ fn constant_for<D: OptDialect>(
     inside: &Inside,
     facts: &KnownFacts<D::Constant>,
     value: Value,
+    fact: Known<D::Constant>,
 ) -> Result<Option<D::Constant>, AllocError>
     requires { HasPlace program.now value.definer }
     ensures { IfOk result (λ constant. OfFacts inside.now facts.now
-        (λ k. IsConstantFor D.meaning program.now k value constant)) }
+        (λ k. fact ≡ k.of value → IsConstantFor D.meaning program.now k value constant)) }
 {
-    let Known::One(constant) = known_of(inside, facts, value) else {
+    let Known::One(constant) = fact else {
         return Ok(None);
     };
     if !is_wanted::<D>(program, inside, facts, value.definer()) {
@@ -215,8 +238,9 @@ pub(crate) fn made_constants<D: OptDialect>(
         (λ k. AreMade D.meaning program.now k inside.now.values.keys made.items)) }
 {
     let mut made = Vec::new(alloc);
-    for value in inside.values.as_slice() {
-        if let Some(constant) = constant_for::<D>(alloc, program, inside, facts, *value)? {
+    for (number, value) in inside.values.as_slice().iter().enumerate() {
+        let fact = item_or(&facts.known, number, Known::Any);
+        if let Some(constant) = constant_for::<D>(alloc, program, inside, facts, *value, fact)? {
             made.push(Made {
                 value: *value,
                 constant,

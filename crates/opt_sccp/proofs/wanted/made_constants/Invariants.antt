@@ -7,5 +7,5 @@ use Rattle.opt_trees.specs.Facts.{Facts}
 use Rattle.opt_sccp.specs.Wanted.{AreMade}
 use Rattle.opt_sccp.proofs.wanted.made_constants.Given as goal
 
-abbrev pub invariant-loop-value : goal.invariant-loop-value
-invariant-loop-value g l = (k : Facts by_handle g.row.D-Constant.Denot) → AreFactsBy (numbers_of l.inside) l.facts.runs.items l.facts.known.items k → AreMade g.D.Meanings.meaning l.program k (take l.value-index l.inside.values.keys) l.made.items
+abbrev pub invariant-loop-number : goal.invariant-loop-number
+invariant-loop-number g l = (k : Facts by_handle g.row.D-Constant.Denot) → AreFactsBy (numbers_of l.inside) l.facts.runs.items l.facts.known.items k → AreMade g.D.Meanings.meaning l.program k (take l.number l.inside.values.keys) l.made.items
