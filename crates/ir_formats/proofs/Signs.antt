@@ -1,7 +1,6 @@
 -- Signs that were met before.
-use Rattle.std.proofs.Common.{◌≡◌, ◌≢◌, ℕ, zero, suc, ◌+◌, ◌-◌, ◌<◌, ◌≤◌, ◌⊎◌, inl, inr, Bool, true, false, if◌then◌else◌}
+use Rattle.std.proofs.Common.{◌≡◌, ℕ, zero, suc, ◌+◌, ◌-◌, ◌<◌, ◌⊎◌, inl, inr, Bool, true, false, if◌then◌else◌}
 use Rattle.std.proofs.Common.{List, [], ◌∷◌, ◌++◌, length, Option, Some, None, slice_get, slice_set, slice_index, slice_range, replicate, arith, refl, sym, ap, ◌∙◌}
-use Rattle.std.specs.Char.{is_whitespace}
 use Rattle.std.specs.Prelude.{◌==◌}
 use Rattle.std.proofs.lemmas.Bool.{le-leb, eqb-true}
 use Rattle.std.proofs.lemmas.List.Edits.{between_more}
@@ -10,9 +9,8 @@ use Rattle.ir_tokens.specs.declared.tokens.TokenKind.TheVariants.{Name, Dotted, 
 use Rattle.ir_tokens.specs.declared.tokens.Token.{Token}
 use Rattle.ir_tokens.specs.Tokens.{IsToken}
 use Rattle.ir_formats.specs.Rules.{number_of, with_word}
-use Rattle.ir_formats.specs.Spelling.{IsSignAt, IsKnownSign, AreSigns, signs_with}
+use Rattle.ir_formats.specs.Spelling.{IsKnownSign, AreSigns, signs_with}
 use Rattle.ir_formats.specs.Words.{text_of, is_spelled, word_kind, kind_of, name_number, known_with}
-use Rattle.ir_formats.proofs.Classifying.{Classifying, classifying_more}
 use Rattle.ir_formats.proofs.Spelled.{numbered_all, numbered_with}
 
 -- in a list of nothing there is nothing
@@ -114,23 +112,28 @@ with_known known text lt = go (number_of known text == length known) refl
     go true e = let same = eqb-true (number_of known text) (length known) e in absurd (omega arith)
     go false e = refl
 
--- one sign more that was met before
-pub classifying_sign : (words : List (List ℕ)) (cs : List ℕ) (first : List (List ℕ)) (at : ℕ) (known : List (List ℕ))
-    (found starts starts' kinds kinds' names names' : List ℕ) (signs : List (Option (ℕ × ℕ))) (kind name : ℕ)
-    → Classifying words cs first at known found starts kinds names → at < length cs
-    → is_whitespace (slice_index cs at) ≡ false → IsSignAt cs at → AreSigns words known signs
-    → slice_get signs (slice_index cs at) ≡ Some (Some (kind, name))
-    → starts' ≡ starts ++ at ∷ [] → kinds' ≡ kinds ++ kind ∷ [] → names' ≡ names ++ name ∷ []
-    → Classifying words cs first (at + 1) known found starts' kinds' names'
-classifying_sign words cs first at known found starts starts' kinds kinds' names names' signs kind name h lt visible sign are kept
-    more_starts more_kinds more_names =
-    let c = slice_index cs at in
-    let t : Token = record { kind = Sign c; start = at; end = at + 1 } in
-    let token : IsToken cs t = record { begins = lt; visible = visible; inside = sign.inside; spelled = sign.spelled; longest = sign.longest } in
-    let text : text_of cs t ≡ c ∷ [] = sign_text cs (Sign c) at (at + 1) lt refl in
-    let known_sign = are c (kind, name) kept in
-    let among : number_of known (c ∷ []) < length known = omega (arith, known_sign.number, known_sign.among) in
-    let good : t.kind ≢ Bad = λ e. absurd cc in
-    classifying_more words cs first at known known found found starts starts' kinds kinds' names names' t kind name h refl token good
-    (rw text (with_known known (c ∷ []) among)) refl
-    (rw text known_sign.kind) (rw text (sym known_sign.number)) more_starts more_kinds more_names
+-- the text of the token that one character is
+abbrev pub text_here : List ℕ → TokenKind → ℕ → List ℕ
+text_here cs k at = text_of cs (record { kind = k; start = at; end = at + 1 })
+
+-- what is kept of the sign that stands here is said of its token: its kind, its number, and that its text is known
+module _ (words known : List (List ℕ)) (cs : List ℕ) (signs : List (Option (ℕ × ℕ))) (k : TokenKind) (at kind name : ℕ)
+    (inside : at < length cs) (are : AreSigns words known signs)
+    (kept : slice_get signs (slice_index cs at) ≡ Some (Some (kind, name))) where
+  met : IsKnownSign words known (slice_index cs at) (kind, name)
+  met = are (slice_index cs at) (kind, name) kept
+
+  alone : text_here cs k at ≡ slice_index cs at ∷ []
+  alone = sign_text cs k at (at + 1) inside refl
+
+  pub met_kind : kind ≡ word_kind (number_of words (text_here cs k at)) (length words) 4
+  met_kind = rw alone met.kind
+
+  pub met_name : name ≡ number_of known (text_here cs k at)
+  met_name = rw alone (sym met.number)
+
+  pub met_known : known ≡ with_word known (text_here cs k at)
+  met_known =
+      let number = met.number in
+      let among = met.among in
+      rw alone (with_known known (slice_index cs at ∷ []) (omega (arith, number, among)))

@@ -1,6 +1,8 @@
 //! The tokens of a text: where each begins, its kind, and which are spelled alike.
-ghost use Rattle.std.specs.Prelude.{◌≡◌, ◌<◌, ◌^◌, ◌++◌, ◌∷◌, [], List, drop, OnOk, IfOk, IfSome, Some, length, map, ◌==◌, slice_get, slice_index, slice_index_or};
+ghost use Rattle.std.specs.Prelude.{◌≡◌, ◌<◌, ◌^◌, ◌++◌, ◌∷◌, [], false, List, drop, OnOk, IfOk, IfSome, Some, length, map, ◌==◌, slice_get, slice_index, slice_index_or};
 ghost use Rattle.ir_tokens.specs.declared.tokens.Token.{Token};
+ghost use Rattle.ir_tokens.specs.Tokens.{IsToken};
+ghost use Rattle.std.specs.Char.{is_whitespace};
 ghost use Rattle.std.specs.Str.{chars};
 ghost use Rattle.ir_characters.specs.Texts.{codes_of};
 ghost use Rattle.ir_formats.specs.Rules.{texts, number_of, with_word};
@@ -84,6 +86,7 @@ fn are_digits(text: Text, from: usize) -> bool
 }
 
 /// Whether these characters are `i`, `si` or `ui` with digits behind it.
+#[inline]
 fn is_width(name: Text) -> bool
     ensures { result ≡ is_width (codes_of name.entry) }
 {
@@ -96,6 +99,7 @@ fn is_width(name: Text) -> bool
 }
 
 /// The kind of a token that is no word of the grammar.
+#[inline]
 fn shape_of(kind: TokenKind, text: Text) -> u32
     ensures { result ≡ shape_kind kind (codes_of text.entry) }
 {
@@ -146,6 +150,7 @@ fn has_kind(number: usize, words: usize) -> bool
 }
 
 /// The number of a text among those that came before, and whether it is a new one, which is added.
+#[inline]
 fn name_of<'a>(known: &mut IndexSet<Text<'a>>, text: Text<'a>) -> Result<(usize, bool), AllocError>
     ensures known { OnOk result (map codes_of known.new.keys ≡ with_word (map codes_of known.old.keys)
         (codes_of text.entry)) }
@@ -191,6 +196,16 @@ fn guessed(known: &IndexSet<Text>, guesses: &[usize], place: usize, text: Text) 
     }
     let found = *known.get_index(guess)?;
     if text == found { Some(guess) } else { None }
+}
+
+/// A token of a text, with what the grammar knows of it.
+#[derive(Clone, Copy)]
+struct Classed {
+    token: Token,
+    /// Its kind, as the grammar's signs take it.
+    kind: u32,
+    /// The number of its text, 0 where it is no word and no name.
+    name: usize,
 }
 
 /// Texts, each with a number. Those of the grammar's words come first.
@@ -322,6 +337,40 @@ impl<'a> Spellings<'a> {
         }
         Ok((shape_of(token.kind, text), name))
     }
+
+    /// The token that begins at a place where no white space stands.
+    fn classed(
+        &mut self,
+        words: &[Characters],
+        chars: Text<'a>,
+        at: usize,
+    ) -> Result<Classed, AllocError>
+        requires begins { at < length (codes_of chars) }
+        requires visible { is_whitespace (slice_index (codes_of chars) at) ≡ false }
+        requires words { NumbersWords (spellings words.now) (known_texts self.old) self.old.words.items }
+        requires signs { AreSigns (spellings words.now) (known_texts self.old) self.old.signs.items }
+        ensures start { IfOk result (λ r. r.token.start ≡ at) }
+        ensures token { IfOk result (λ r. IsToken (codes_of chars.entry) r.token) }
+        ensures kind { IfOk result (λ r. r.kind ≡ kind_of (spellings words.now) (codes_of chars.entry) r.token) }
+        ensures name { IfOk result (λ r. r.name ≡ name_number (known_texts self.old) 0 (codes_of chars.entry) r.token) }
+        ensures known { IfOk result (λ r. known_texts self.new ≡ known_with (known_texts self.old)
+            (codes_of chars.entry) r.token) }
+        ensures words { self.new.words ≡ self.old.words }
+        ensures signs { OnOk result (AreSigns (spellings words.now) (known_texts self.new) self.new.signs.items) }
+    {
+        if let Some((kind, name)) = self.sign(chars, at) {
+            let token = Token {
+                kind: TokenKind::Sign(chars.at(at)),
+                start: at,
+                end: at + 1,
+            };
+            return Ok(Classed { token, kind, name });
+        }
+        let token = token_at(chars, at);
+        let (kind, name) = self.token(words, chars, token)?;
+        self.keep(token.kind, kind, name);
+        Ok(Classed { token, kind, name })
+    }
 }
 
 /// The tokens of a text, up to its end or its first bad token. The words come as `spelled` gives them.
@@ -343,19 +392,12 @@ pub fn classify(alloc: Global, words: &[Characters], chars: Text) -> Result<Clas
             at += 1;
             continue;
         }
-        if let Some((kind, name)) = spellings.sign(chars, at) {
-            classified.add(at, kind, name)?;
-            at += 1;
-            continue;
+        let next = spellings.classed(words, chars, at)?;
+        classified.add(at, next.kind, next.name)?;
+        if let TokenKind::Bad = next.token.kind {
+            return classified.ended(next.token.end);
         }
-        let token = token_at(chars, at);
-        let (kind, name) = spellings.token(words, chars, token)?;
-        spellings.keep(token.kind, kind, name);
-        classified.add(at, kind, name)?;
-        if let TokenKind::Bad = token.kind {
-            return classified.ended(token.end);
-        }
-        at = token.end;
+        at = next.token.end;
     }
     classified.ended(at)
 }

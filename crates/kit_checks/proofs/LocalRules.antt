@@ -1,7 +1,5 @@
 -- All rules that ask for no table of names, tested by each operation.
-use Rattle.std.proofs.Common.{◌≡◌, ◌⊎◌, ⊎_elim, ℕ, zero, suc, ◌+◌, ◌<◌, Bool, true, false, List, [], ◌∷◌, Some}
-use Rattle.std.proofs.Common.{get_or, slice_get, refl, sym, ap, ◌∙◌, subst, arith, true≢false}
-use Rattle.std.proofs.lemmas.Option.{slice_get-get_or}
+use Rattle.std.proofs.Common.{◌≡◌, ◌↔◌, IsTrue, Bool, true, false, List, [], ◌∷◌, sym, ◌∙◌, true≢false}
 use Rattle.ir_program.specs.Lists.{StandsInside}
 use Rattle.ir_program.specs.Preorder.{nodes_inside, AreInside}
 use Rattle.ir_program.specs.Program.{Program}
@@ -15,112 +13,86 @@ use Rattle.opt_inside.proofs.Around.{HasLists}
 use Rattle.kit_checks.specs.declared.rule.Rule.{Rule}
 use Rattle.kit_checks.specs.declared.rule.Rule.TheVariants as rule
 use Rattle.kit_checks.specs.Faults.{Keeps}
-use Rattle.kit_checks.specs.Located.{IsSiteOf}
-use Rattle.kit_checks.specs.Naming.{AreInWalkOrder, IsOrderFor}
-use Rattle.kit_checks.specs.declared.walk_order.WalkOrder.{WalkOrder}
-use Rattle.kit_checks.specs.Searching.{IsTested, KeepsLocalRules, KeptAt, Tells, TellsAll, TellsAllAt}
+use Rattle.kit_checks.specs.Searching.{IsTested, KeepsLocalRules, KeptAt, TellsAllAt}
 use Rattle.kit_checks.specs.Sites.{Site}
 use Rattle.kit_checks.specs.World.{World}
 use Rattle.kit_checks.proofs.InsideSites.{placed}
 use Rattle.kit_checks.proofs.Searched.{IsKeptUpTo, search_begins, search_goes_on, search_ends, found_nowhere}
 
--- the rules in the order of their numbers
-abbrev pub local_rules : List Rule
-local_rules = rule.RootIsModule ∷ rule.FunctionHasType ∷ rule.FunctionHolds ∷ rule.ValuesAreIntegers ∷ rule.BlocksEnd
-    ∷ rule.OperandsAreVisible ∷ rule.TypesAgree ∷ rule.EdgesFit ∷ rule.ReturnsFit ∷ rule.ConstantsFit
-    ∷ rule.AttributesAreKnown ∷ rule.FitsFormat ∷ []
+-- two tests, one behind the other: the second is made where the first holds
+pub both : {P Q : Type 0} {v w out : Bool} → v ≡ true → (IsTrue v ↔ P) → (IsTrue w ↔ Q) → out ≡ w
+    → IsTrue out ↔ (P × Q)
+both is tells more same = rw same (λ holds. (tells.0 is, more.0 holds), λ h. more.1 h.1)
 
--- each of them can be tested
-abbrev AreTested : List Rule → Type 0
-AreTested [] = Unit {0}
-AreTested (r ∷ rs) = IsTested r × AreTested rs
+pub neither : {P Q : Type 0} {v out : Bool} → v ≡ false → (IsTrue v ↔ P) → out ≡ v → IsTrue out ↔ (P × Q)
+neither is tells same = (
+  λ holds. absurd (true≢false (sym holds ∙ (same ∙ is))),
+  λ h. absurd (true≢false (sym (tells.1 h.0) ∙ is)),
+)
 
-tested_in : (rs : List Rule) (k : ℕ) (r : Rule) → AreTested rs → slice_get rs k ≡ Some r → IsTested r
-tested_in [] k r h e = cc
-tested_in (q ∷ rs) zero r h e = let same : q ≡ r = cc in subst IsTested same h.0
-tested_in (q ∷ rs) (suc k) r h e = tested_in rs k r h.1 e
+module _ {O B : Type 0} (w : World O B) (s : Site O B) where
+  -- the operation keeps each rule that asks for no table of names, in the order of their numbers
+  abbrev pub KeepsLocal : Type 0
+  KeepsLocal =
+      ((((((((((Keeps w rule.RootIsModule s × Keeps w rule.FunctionHasType s) × Keeps w rule.FunctionHolds s)
+      × Keeps w rule.ValuesAreIntegers s) × Keeps w rule.BlocksEnd s) × Keeps w rule.OperandsAreVisible s)
+      × Keeps w rule.TypesAgree s) × Keeps w rule.EdgesFit s) × Keeps w rule.ReturnsFit s)
+      × Keeps w rule.ConstantsFit s) × Keeps w rule.AttributesAreKnown s) × Keeps w rule.FitsFormat s
 
-pub rule_there : (k : ℕ) (d : Rule) → k < 12 → slice_get local_rules k ≡ Some (get_or local_rules k d)
-rule_there k d within = slice_get-get_or local_rules k d within
+  each_local : KeepsLocal → (r : Rule) → IsTested r → Keeps w r s
+  each_local h rule.RootIsModule tested = h.0.0.0.0.0.0.0.0.0.0.0
+  each_local h rule.ModuleHolds tested = absurd tested
+  each_local h rule.FunctionHasType tested = h.0.0.0.0.0.0.0.0.0.0.1
+  each_local h rule.FunctionHolds tested = h.0.0.0.0.0.0.0.0.0.1
+  each_local h rule.ValuesAreIntegers tested = h.0.0.0.0.0.0.0.0.1
+  each_local h rule.BlocksEnd tested = h.0.0.0.0.0.0.0.1
+  each_local h rule.OperandsAreVisible tested = h.0.0.0.0.0.0.1
+  each_local h rule.TypesAgree tested = h.0.0.0.0.0.1
+  each_local h rule.EdgesFit tested = h.0.0.0.0.1
+  each_local h rule.CallsFit tested = absurd tested
+  each_local h rule.ReturnsFit tested = h.0.0.0.1
+  each_local h rule.ConstantsFit tested = h.0.0.1
+  each_local h rule.AttributesAreKnown tested = h.0.1
+  each_local h rule.FitsFormat tested = h.1
 
-pub rule_tested : (k : ℕ) (r : Rule) → slice_get local_rules k ≡ Some r → IsTested r
-rule_tested k r here =
-    tested_in local_rules k r (tt, (tt, (tt, (tt, (tt, (tt, (tt, (tt, (tt, (tt, (tt, (tt, tt)))))))))))) here
-
--- each rule that can be tested is among them
-rule_listed : (r : Rule) → IsTested r → (k : ℕ) × (k < 12) × (slice_get local_rules k ≡ Some r)
-rule_listed rule.RootIsModule tested = (0, omega arith, refl)
-rule_listed rule.ModuleHolds tested = absurd tested
-rule_listed rule.FunctionHasType tested = (1, omega arith, refl)
-rule_listed rule.FunctionHolds tested = (2, omega arith, refl)
-rule_listed rule.ValuesAreIntegers tested = (3, omega arith, refl)
-rule_listed rule.BlocksEnd tested = (4, omega arith, refl)
-rule_listed rule.OperandsAreVisible tested = (5, omega arith, refl)
-rule_listed rule.TypesAgree tested = (6, omega arith, refl)
-rule_listed rule.EdgesFit tested = (7, omega arith, refl)
-rule_listed rule.CallsFit tested = absurd tested
-rule_listed rule.ReturnsFit tested = (8, omega arith, refl)
-rule_listed rule.ConstantsFit tested = (9, omega arith, refl)
-rule_listed rule.AttributesAreKnown tested = (10, omega arith, refl)
-rule_listed rule.FitsFormat tested = (11, omega arith, refl)
-
--- an order of operations that serves for operands serves for each rule
-pub order_for_each : {O B : Type 0} (c : Program O B) (root : Ptr Operation) (order : WalkOrder)
-    → AreInWalkOrder c root order → (r : Rule) → IsOrderFor c r root order
-order_for_each c root order holds rule.RootIsModule = tt
-order_for_each c root order holds rule.ModuleHolds = tt
-order_for_each c root order holds rule.FunctionHasType = tt
-order_for_each c root order holds rule.FunctionHolds = tt
-order_for_each c root order holds rule.ValuesAreIntegers = tt
-order_for_each c root order holds rule.BlocksEnd = tt
-order_for_each c root order holds rule.OperandsAreVisible = holds
-order_for_each c root order holds rule.TypesAgree = tt
-order_for_each c root order holds rule.EdgesFit = tt
-order_for_each c root order holds rule.CallsFit = tt
-order_for_each c root order holds rule.ReturnsFit = tt
-order_for_each c root order holds rule.ConstantsFit = tt
-order_for_each c root order holds rule.AttributesAreKnown = tt
-order_for_each c root order holds rule.FitsFormat = tt
+  -- a test of all of these tells of each rule that is tested
+  pub all_local : (is : Bool) → (IsTrue is ↔ KeepsLocal) → IsTrue is ↔ ((r : Rule) → IsTested r → Keeps w r s)
+  all_local is tells = (
+    λ holds. each_local (tells.0 holds),
+    λ keeps. tells.1 (
+      (
+        (
+          (
+            (
+              (
+                (
+                  (
+                    (
+                      (
+                        (keeps rule.RootIsModule tt, keeps rule.FunctionHasType tt),
+                        keeps rule.FunctionHolds tt,
+                      ),
+                      keeps rule.ValuesAreIntegers tt,
+                    ),
+                    keeps rule.BlocksEnd tt,
+                  ),
+                  keeps rule.OperandsAreVisible tt,
+                ),
+                keeps rule.TypesAgree tt,
+              ),
+              keeps rule.EdgesFit tt,
+            ),
+            keeps rule.ReturnsFit tt,
+          ),
+          keeps rule.ConstantsFit tt,
+        ),
+        keeps rule.AttributesAreKnown tt,
+      ),
+      keeps rule.FitsFormat tt,
+    ),
+  )
 
 module _ {O B : Type 0} (w : World O B) (c : Program O B) (root : Ptr Operation) where
-  module _ (op : Ptr Operation) where
-    -- the operation keeps the first n rules
-    abbrev pub KeepsUpTo : ℕ → Type 0
-    KeepsUpTo n = (s : Site O B) → IsSiteOf c root op s → (k : ℕ) (r : Rule) → k < n → slice_get local_rules k ≡ Some r
-        → Keeps w r s
-
-    pub keeps_none : KeepsUpTo 0
-    keeps_none s at k r less here = absurd (omega arith)
-
-    pub keeps_more : (n : ℕ) (r : Rule) (is : Bool) → slice_get local_rules n ≡ Some r → is ≡ true
-        → Tells w c root r op is → KeepsUpTo n → KeepsUpTo (n + 1)
-    keeps_more n r is there holds tells kept s at k q less here = ⊎_elim
-        (λ (before : k < n). kept s at k q before here)
-        (λ (last : k ≡ n).
-        let both : Some q ≡ Some r = sym here ∙ ap (slice_get local_rules) last ∙ there in
-        let same : q ≡ r = cc in
-        subst (λ x. Keeps w x s) (sym same) ((tells s at).0 holds))
-        (before_or_last k n less)
-      where
-        before_or_last : (a b : ℕ) → a < b + 1 → (a < b) ⊎ (a ≡ b)
-        before_or_last a b h = grind arith
-
-    -- it keeps all, or breaks one
-    pub keeps_each : (n : ℕ) (is : Bool) → n ≡ 12 → is ≡ true → KeepsUpTo n → TellsAll w c root op is
-    keeps_each n is all answer kept s at = (
-      λ holds r tested.
-          let i = rule_listed r tested in
-          kept s at i.0 r (let within = i.1 in omega (arith, all, within)) i.2,
-      λ keeps. answer,
-    )
-
-    pub breaks_one : (r : Rule) (is all : Bool) → IsTested r → is ≡ false → all ≡ false → Tells w c root r op is
-        → TellsAll w c root op all
-    breaks_one r is all tested fails answer tells s at = (
-      λ holds. absurd (true≢false (sym holds ∙ answer)),
-      λ keeps. absurd (true≢false (sym ((tells s at).1 (keeps r tested)) ∙ fails)),
-    )
-
   -- what is answered of an entity says of each rule whether it is kept there
   kept_at : (e : IRNode) (is : Bool) → is ≡ true → TellsAllAt w c root e is → (r : Rule) → IsTested r
       → KeptAt w c root r e

@@ -73,6 +73,7 @@ fn region_passes<D: DialectTables<OpKind = KitOp, Attr = KitAttr, TypeKey = KitT
 }
 
 /// Whether all blocks of all regions of an operation pass a test.
+#[inline(always)]
 pub(crate) fn blocks_pass<D: DialectTables<OpKind = KitOp, Attr = KitAttr, TypeKey = KitType>>(
     ctx: &Context<D>,
     op: Ptr<Operation>,

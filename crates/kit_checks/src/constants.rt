@@ -93,6 +93,7 @@ fn is_constant(kind: KitOp) -> bool
 }
 
 /// Whether a constant has as its value an integer attribute of the type of its results.
+#[inline(always)]
 pub(crate) fn constants_fit<D: DialectTables<OpKind = KitOp, Attr = KitAttr, TypeKey = KitType>>(
     ctx: &Context<D>,
     op: Ptr<Operation>,

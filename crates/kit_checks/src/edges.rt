@@ -181,6 +181,7 @@ fn edges_hand_on<D: DialectTables<OpKind = KitOp, Attr = KitAttr, TypeKey = KitT
 
 /// Whether each edge of an operation leads to a block of its region, and hands on operands of the types of the
 /// arguments there.
+#[inline(always)]
 pub(crate) fn edges_fit<D: DialectTables<OpKind = KitOp, Attr = KitAttr, TypeKey = KitType>>(
     ctx: &Context<D>,
     root: Ptr<Operation>,

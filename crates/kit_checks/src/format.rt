@@ -226,6 +226,7 @@ fn fits_cond_br<D: DialectTables<OpKind = KitOp, Attr = KitAttr, TypeKey = KitTy
 }
 
 /// Whether an operation has the format of its kind.
+#[inline(always)]
 pub(crate) fn fits_format<D: DialectTables<OpKind = KitOp, Attr = KitAttr, TypeKey = KitType>>(
     ctx: &Context<D>,
     op: Ptr<Operation>,

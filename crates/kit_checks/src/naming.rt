@@ -126,6 +126,7 @@ fn names_visible<O, B>(
 }
 
 /// Whether each operand of an operation inside the root is a value that it may name; the root has to have none.
+#[inline(always)]
 pub(crate) fn operands_are_visible<
     D: DialectTables<OpKind = KitOp, Attr = KitAttr, TypeKey = KitType>,
 >(ctx: &Context<D>, root: Ptr<Operation>, order: &WalkOrder, op: Ptr<Operation>) -> bool

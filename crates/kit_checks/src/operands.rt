@@ -107,6 +107,7 @@ fn has_equal_results<D: DialectTables<OpKind = KitOp, Attr = KitAttr, TypeKey = 
 }
 
 /// Whether all operands and all results have one type.
+#[inline(always)]
 pub(crate) fn has_one_type<D: DialectTables<OpKind = KitOp, Attr = KitAttr, TypeKey = KitType>>(
     ctx: &Context<D>,
     op: Ptr<Operation>,
@@ -156,6 +157,7 @@ fn compares_bits<D: DialectTables<OpKind = KitOp, Attr = KitAttr, TypeKey = KitT
 }
 
 /// Whether the types of an operation's operands and results belong together, as its kind asks.
+#[inline(always)]
 pub(crate) fn types_agree<D: DialectTables<OpKind = KitOp, Attr = KitAttr, TypeKey = KitType>>(
     ctx: &Context<D>,
     op: Ptr<Operation>,

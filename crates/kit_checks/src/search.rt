@@ -8,10 +8,17 @@ ghost use Rattle.kit_checks.specs.Searching.{IsBrokenAt, IsFoundIn, IsSearched, 
 ghost use Rattle.kit_checks.specs.Searching.{TellsAll, TellsAllAt};
 ghost use Rattle.kit_checks.specs.World.{world_of};
 
-use crate::naming::order_for;
+use crate::constants::constants_fit;
+use crate::edges::edges_fit;
+use crate::format::fits_format;
+use crate::naming::{operands_are_visible, order_for};
+use crate::operands::types_agree;
 use crate::places::place_of;
 use crate::rule::{Rule, RuleFault};
-use crate::tests::keeps;
+use crate::signatures::{function_has_type, returns_fit};
+use crate::tests::{
+    attributes_are_known, blocks_end, function_holds, keeps, root_is_module, values_are_integers,
+};
 use crate::walk_order::WalkOrder;
 use ir_context::Context;
 use ir_names::Place;
@@ -20,22 +27,6 @@ use ir_trees::know_tree;
 use ir_types::DialectTables;
 use kit_ops::{KitAttr, KitOp, KitType};
 use std::alloc::{AllocError, Global};
-
-/// The local rules, which ask for no table of names, in the order of their numbers.
-const LOCAL_RULES: [Rule; 12] = [
-    Rule::RootIsModule,
-    Rule::FunctionHasType,
-    Rule::FunctionHolds,
-    Rule::ValuesAreIntegers,
-    Rule::BlocksEnd,
-    Rule::OperandsAreVisible,
-    Rule::TypesAgree,
-    Rule::EdgesFit,
-    Rule::ReturnsFit,
-    Rule::ConstantsFit,
-    Rule::AttributesAreKnown,
-    Rule::FitsFormat,
-];
 
 /// An entity inside the root, if it is an operation that breaks a rule.
 fn broken_at<D: DialectTables<OpKind = KitOp, Attr = KitAttr, TypeKey = KitType>>(
@@ -144,12 +135,18 @@ fn keeps_all<D: DialectTables<OpKind = KitOp, Attr = KitAttr, TypeKey = KitType>
     requires op { IsSome (operation_at ctx.now.program op) }
     ensures { TellsAll (world_of ctx.now) ctx.now.program root op result }
 {
-    for rule in LOCAL_RULES {
-        if !keeps(ctx, root, rule, order, op) {
-            return false;
-        }
-    }
-    true
+    root_is_module(ctx, root, op)
+        && function_has_type(ctx, op)
+        && function_holds(ctx, root, op)
+        && values_are_integers(ctx, root, op)
+        && blocks_end(ctx, root, op)
+        && operands_are_visible(ctx, root, order, op)
+        && types_agree(ctx, op)
+        && edges_fit(ctx, root, op)
+        && returns_fit(ctx, root, op)
+        && constants_fit(ctx, op)
+        && attributes_are_known(ctx, root, op)
+        && fits_format(ctx, op)
 }
 
 /// Whether an entity inside the root is no operation, or is one that keeps all local rules.

@@ -34,7 +34,7 @@ use ir_types::DialectTables;
 use kit_ops::{KitAttr, KitOp, KitType};
 
 /// Whether an operation is a module if it is the root.
-fn root_is_module<D: DialectTables<OpKind = KitOp, Attr = KitAttr, TypeKey = KitType>>(
+pub(crate) fn root_is_module<D: DialectTables<OpKind = KitOp, Attr = KitAttr, TypeKey = KitType>>(
     ctx: &Context<D>,
     root: Ptr<Operation>,
     op: Ptr<Operation>,
@@ -64,7 +64,7 @@ fn is_plain_instruction<D: DialectTables<OpKind = KitOp, Attr = KitAttr, TypeKey
 }
 
 /// Whether an operation may stand where it is if that is in a function.
-fn function_holds<D: DialectTables<OpKind = KitOp, Attr = KitAttr, TypeKey = KitType>>(
+pub(crate) fn function_holds<D: DialectTables<OpKind = KitOp, Attr = KitAttr, TypeKey = KitType>>(
     ctx: &Context<D>,
     root: Ptr<Operation>,
     op: Ptr<Operation>,
@@ -79,11 +79,10 @@ fn function_holds<D: DialectTables<OpKind = KitOp, Attr = KitAttr, TypeKey = Kit
 }
 
 /// Whether the results of an operation and the arguments of the blocks in it are integers of 1 to 64 bits.
-fn values_are_integers<D: DialectTables<OpKind = KitOp, Attr = KitAttr, TypeKey = KitType>>(
-    ctx: &Context<D>,
-    _root: Ptr<Operation>,
-    op: Ptr<Operation>,
-) -> bool
+#[inline(always)]
+pub(crate) fn values_are_integers<
+    D: DialectTables<OpKind = KitOp, Attr = KitAttr, TypeKey = KitType>,
+>(ctx: &Context<D>, _root: Ptr<Operation>, op: Ptr<Operation>) -> bool
     requires { IsSome (operation_at ctx.now.program op) }
     ensures { OfSite ctx.now.program _root op (λ s. IsTrue result ↔ ValuesAreIntegers (world_of ctx.now) s) }
 {
@@ -138,7 +137,8 @@ fn has_filled_blocks<D: DialectTables<OpKind = KitOp, Attr = KitAttr, TypeKey = 
 }
 
 /// Whether an operation ends its block if it has to, and no other, and each of its blocks has an operation.
-fn blocks_end<D: DialectTables<OpKind = KitOp, Attr = KitAttr, TypeKey = KitType>>(
+#[inline(always)]
+pub(crate) fn blocks_end<D: DialectTables<OpKind = KitOp, Attr = KitAttr, TypeKey = KitType>>(
     ctx: &Context<D>,
     root: Ptr<Operation>,
     op: Ptr<Operation>,
@@ -153,11 +153,10 @@ fn blocks_end<D: DialectTables<OpKind = KitOp, Attr = KitAttr, TypeKey = KitType
 }
 
 /// Whether an operation isn't a `forward_ref`, and it and the blocks in it have only attributes that they may have.
-fn attributes_are_known<D: DialectTables<OpKind = KitOp, Attr = KitAttr, TypeKey = KitType>>(
-    ctx: &Context<D>,
-    _root: Ptr<Operation>,
-    op: Ptr<Operation>,
-) -> bool
+#[inline(always)]
+pub(crate) fn attributes_are_known<
+    D: DialectTables<OpKind = KitOp, Attr = KitAttr, TypeKey = KitType>,
+>(ctx: &Context<D>, _root: Ptr<Operation>, op: Ptr<Operation>) -> bool
     requires { IsSome (operation_at ctx.now.program op) }
     ensures { OfSite ctx.now.program _root op (λ s. IsTrue result ↔ AttributesAreKnown (world_of ctx.now) s) }
 {

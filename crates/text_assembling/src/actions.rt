@@ -18,21 +18,22 @@ use text_frames::source::Source;
 impl<D: TextDialect> Assembler<D> {
     /// Does what an action asks for.
     #[tactic(auto, using(crate::proofs::Undone::erased_same, crate::proofs::Undone::payloads_same, crate::proofs::Undone::undoes_same))]
+    #[inline(always)]
     pub fn step(
         &mut self,
         ctx: &mut Context<D>,
-        source: Source,
+        source: &Source,
         spares: &mut Vec<Content<D>>,
         action: Action,
     ) -> Result<(), AssemblyFault>
-        requires going { MayStep D.says D.values (text_between (codes_of source.chars) source.starts.now)
+        requires going { MayStep D.says D.values (text_between (codes_of source.now.chars) source.now.starts.now)
             ctx.old self.old action }
         ensures went { OnOk result (DoesStep D.says D.values
-            (text_between (codes_of source.entry.chars) source.entry.starts.now) ctx.old ctx.new self.old self.new action) }
+            (text_between (codes_of source.now.chars) source.now.starts.now) ctx.old ctx.new self.old self.new action) }
         ensures refused { (f : Fault) → result ≡ Err (Text f) → RefusesStep D.says D.values
-            (text_between (codes_of source.entry.chars) source.entry.starts.now) ctx.old self.old action f }
+            (text_between (codes_of source.now.chars) source.now.starts.now) ctx.old self.old action f }
         ensures full { result ≡ Err CounterFull → LacksNumbers D.says D.values
-            (text_between (codes_of source.entry.chars) source.entry.starts.now) ctx.old self.old action }
+            (text_between (codes_of source.now.chars) source.now.starts.now) ctx.old self.old action }
         ensures undone { OnErr result (UndoesStep ctx.old ctx.new self.old self.new) }
         ensures taken { self.new.taken ≡ self.old.taken }
         ensures erased { KeepsErased ctx.old.program ctx.new.program }
@@ -44,7 +45,7 @@ impl<D: TextDialect> Assembler<D> {
             Action::BeginRegion => self.begin_region(spares),
             Action::Label => self.begin_block(spares),
             Action::Argument => self.argument(),
-            Action::Header => self.header(ctx, source),
+            Action::Header => self.header(ctx, *source),
             Action::BeginType(kind) => self.begin_type(spares, kind),
             Action::BeginAttribute(kind) => self.begin_attribute(spares, kind),
             Action::Name => self.name(source.text(self.last())),

@@ -67,7 +67,7 @@ impl<D: TextDialect> Assembler<D> {
     fn take(
         &mut self,
         ctx: &mut Context<D>,
-        source: Source,
+        source: &Source,
         spares: &mut Vec<Content<D>>,
         events: &[Event],
         index: usize,
@@ -75,18 +75,18 @@ impl<D: TextDialect> Assembler<D> {
         requires within { index < length events.now }
         requires taken { self.old.taken ≤ index }
         requires going { (x : Action) → slice_get events.now index ≡ Some (Did x) → MayStep D.says D.values
-            (text_between (codes_of source.chars) source.starts.now) ctx.old self.old x }
+            (text_between (codes_of source.now.chars) source.now.starts.now) ctx.old self.old x }
         ensures took { slice_get events.now index ≡ Some Took
             → (self.new ≡ record self.old { taken = self.old.taken + 1 }) × (ctx.new ≡ ctx.old) }
         ensures did { (x : Action) → slice_get events.now index ≡ Some (Did x) → (self.new.taken ≡ self.old.taken)
             × OnOk result (DoesStep D.says D.values
-            (text_between (codes_of source.entry.chars) source.entry.starts.now) ctx.old ctx.new self.old self.new x) }
+            (text_between (codes_of source.now.chars) source.now.starts.now) ctx.old ctx.new self.old self.new x) }
         ensures refused { (f : Fault) → result ≡ Err (Text f) → (x : Action)
             × (slice_get events.now index ≡ Some (Did x)) × RefusesStep D.says D.values
-            (text_between (codes_of source.entry.chars) source.entry.starts.now) ctx.old self.old x f }
+            (text_between (codes_of source.now.chars) source.now.starts.now) ctx.old self.old x f }
         ensures full { result ≡ Err CounterFull → (x : Action)
             × (slice_get events.now index ≡ Some (Did x)) × LacksNumbers D.says D.values
-            (text_between (codes_of source.entry.chars) source.entry.starts.now) ctx.old self.old x }
+            (text_between (codes_of source.now.chars) source.now.starts.now) ctx.old self.old x }
         ensures undone { OnErr result (UndoesStep ctx.old ctx.new self.old self.new) }
         ensures erased { KeepsErased ctx.old.program ctx.new.program }
         ensures payloads { KeepsPayloads ctx.old.program ctx.new.program }
@@ -143,7 +143,7 @@ pub fn assemble<D: TextDialect>(
     // The contents of what has ended, whose memory serves again.
     let mut spares = Vec::new(alloc);
     for index in 0..events.len() {
-        if let Err(fault) = assembler.take(ctx, source, &mut spares, events, index) {
+        if let Err(fault) = assembler.take(ctx, &source, &mut spares, events, index) {
             discard(ctx, &assembler.made.loose);
             return Err(fault);
         }

@@ -32,6 +32,7 @@ impl<D: TextDialect> Assembler<D> {
     ghost use Rattle.std.specs.Global.{Global};
 
     /// Something begins at the last token, in spare memory if there is some.
+    #[inline(always)]
     pub fn begin(
         &mut self,
         spares: &mut Vec<Content<D>>,
@@ -155,6 +156,7 @@ impl<D: TextDialect> Assembler<D> {
     }
 
     /// One more definition is named, which isn't made yet.
+    #[inline]
     fn name_definition(&mut self) -> Result<(), AssemblyFault>
         ensures named { OnOk result (NamesOne self.old self.new) }
         ensures loose { self.new.made.loose ≡ self.old.made.loose }

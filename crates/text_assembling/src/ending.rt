@@ -121,6 +121,7 @@ impl<D: TextDialect> Assembler<D> {
 }
 
 /// One more spare content, if there is memory to keep it.
+#[inline(always)]
 fn keep<D: Dialects>(spares: &mut Vec<Content<D>>, content: Content<D>) {
     if spares.reserve(1).is_ok() {
         spares.push_reserved(content);

@@ -102,6 +102,7 @@ impl<D: TextDialect> Assembler<D> {
     }
 
     /// Puts an operation where it stands: at the end of the block that is being read, or at the root.
+    #[inline]
     fn attach(&mut self, ctx: &mut Context<D>, op: Ptr<Operation>)
         requires room { vec_len self.old.made.loose < vec_capacity self.old.made.loose }
         requires op { IsLooseOperation (seen ctx.old) op }

@@ -132,6 +132,7 @@ impl<D: Dialects> Content<D> {
     }
 
     /// One more part, which begins at the token.
+    #[inline(always)]
     pub fn put(&mut self, part: Part<D>, token: usize) -> Result<(), AssemblyFault>
         ensures put { OnOk result (HasPart self.old self.new part token) }
         ensures memory { IfErr result (λ e. e ≡ Memory) }
@@ -175,6 +176,7 @@ impl<D: Dialects> Open<D> {
     }
 
     /// One more part, behind which no name of a result stands yet.
+    #[inline(always)]
     pub fn put(&mut self, part: Part<D>, token: usize) -> Result<(), AssemblyFault>
         ensures put { OnOk result (HasPut self.old self.new self.old.body part token) }
         ensures memory { IfErr result (λ e. e ≡ Memory) }

@@ -28,6 +28,7 @@ impl<'a> Source<'a> {
     }
 
     /// The characters of the token with this number, none past the last.
+    #[inline]
     pub fn text(&self, token: usize) -> Text<'a>
         ensures { codes_of result ≡ text_between (codes_of self.now.chars) self.now.starts.now token }
     {
