@@ -2,3 +2,4 @@ pub mod OwnNames
 mod PassLists
 mod Refusals
 mod WhatPassesLeave
+mod LeftOutside

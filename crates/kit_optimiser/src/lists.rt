@@ -2,7 +2,9 @@
 ghost use Rattle.std.specs.Prelude.{◌≡◌, Err, OnOk, map};
 ghost use Rattle.ir_base.specs.declared.growth.GrowError.TheVariants.{CounterFull};
 ghost use Rattle.kit_held_modules.specs.Held.{HoldsModule};
+ghost use Rattle.kit_optimiser.specs.Outside.{KeepsRest, StaysOutside};
 ghost use Rattle.kit_optimiser.specs.Passed.{CountsTo, FillsUp, GoesOn, IsOptimised, IsPassed, Runs, StopsFull, pass_of};
+ghost use Rattle.opt_dce.specs.Thins.{AddsNoneOutside};
 
 use crate::{KitPass, know_sound, propagate_constants, remove_dead, simplify_control_flow};
 use ir_base::GrowError;
@@ -25,6 +27,10 @@ fn run_pass(
     ensures passed { OnOk result (IsPassed (pass_of pass) ctx.old ctx.new root) }
     ensures numbers { OnOk result (CountsTo (pass_of pass) ctx.old root ctx.new.program.counter) }
     ensures full { result ≡ Err CounterFull → StopsFull (pass_of pass) ctx.old root }
+    ensures outside { OnOk result (KeepsRest ctx.old.program ctx.new.program root) }
+    ensures stays { OnOk result (StaysOutside ctx.old.program ctx.new.program root) }
+    ensures none_come { OnOk result (AddsNoneOutside ctx.old.program ctx.new.program root) }
+    ensures types { ctx.new.types ≡ ctx.old.types }
 {
     match pass {
         KitPass::Sccp => propagate_constants(alloc, ctx, root),
@@ -48,6 +54,10 @@ fn run_next_pass(
     ensures passed { OnOk result (IsPassed (pass_of pass) ctx.old ctx.new root) }
     ensures numbers { OnOk result (CountsTo (pass_of pass) ctx.old root ctx.new.program.counter) }
     ensures full { result ≡ Err CounterFull → StopsFull (pass_of pass) ctx.old root }
+    ensures outside { OnOk result (KeepsRest ctx.old.program ctx.new.program root) }
+    ensures stays { OnOk result (StaysOutside ctx.old.program ctx.new.program root) }
+    ensures none_come { OnOk result (AddsNoneOutside ctx.old.program ctx.new.program root) }
+    ensures types { ctx.new.types ≡ ctx.old.types }
 {
     know_sound(ctx, root);
     run_pass(alloc, ctx, root, pass)
@@ -55,11 +65,11 @@ fn run_next_pass(
 
 /// Runs passes one after another on a module that keeps the rules. What they make keeps them too, its program is what
 /// the passes on programs make of the module's program, and where the module could be written as a text, so it can be
-/// afterwards.
+/// afterwards. What stands outside the module stays as it is.
 ///
 /// # Errors
-/// `Memory`, and `CounterFull` where too few numbers of values are left for a pass: those before it are done then, and a
-/// part of it may be.
+/// `Memory`, and `CounterFull` where too few numbers of values are left for a pass: those before it are done then, and
+/// a part of it may be.
 pub fn run_passes(
     alloc: Global,
     ctx: &mut Context<Kit>,
@@ -70,6 +80,10 @@ pub fn run_passes(
     ensures optimised { OnOk result (IsOptimised (map pass_of passes.now) ctx.old ctx.new root) }
     ensures runs { OnOk result (Runs (map pass_of passes.now) ctx.old ctx.new root) }
     ensures full { result ≡ Err CounterFull → FillsUp (map pass_of passes.now) ctx.old root }
+    ensures outside { OnOk result (KeepsRest ctx.old.program ctx.new.program root) }
+    ensures stays { OnOk result (StaysOutside ctx.old.program ctx.new.program root) }
+    ensures none_come { OnOk result (AddsNoneOutside ctx.old.program ctx.new.program root) }
+    ensures types { ctx.new.types ≡ ctx.old.types }
 {
     for pass in passes {
         run_next_pass(alloc, ctx, root, *pass)?;

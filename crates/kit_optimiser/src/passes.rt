@@ -3,10 +3,13 @@ ghost use Rattle.std.specs.Prelude.{◌≡◌, Err, IfErr, OnErr, OnOk};
 ghost use Rattle.ir_base.specs.declared.growth.GrowError.TheVariants.{CounterFull, Memory};
 ghost use Rattle.kit_behaviour.specs.PassLists.{DcePass, SccpPass, SimplifyPass};
 ghost use Rattle.kit_held_modules.specs.Held.{HoldsModule};
+ghost use Rattle.kit_optimiser.specs.Outside.{KeepsRest, StaysOutside};
 ghost use Rattle.kit_optimiser.specs.Passed.{CountsTo, IsPassed, StopsFull};
+ghost use Rattle.opt_dce.specs.Thins.{AddsNoneOutside};
 ghost use Rattle.opt_dialect.specs.Statuses.{error_of};
 ghost use Rattle.opt_sccp.specs.Made.{IsShortage};
 
+use crate::outside::know_rest;
 use ir_base::GrowError;
 use ir_context::Context;
 use ir_opts::{OptError, dce, sccp, simplify_cfg};
@@ -39,7 +42,7 @@ fn shortage_of(error: OptError) -> GrowError
 }
 
 /// Propagates constants in a module that keeps the rules. What it makes keeps them too, and where the module could be
-/// written as a text, so it can be afterwards.
+/// written as a text, so it can be afterwards. What stands outside the module stays as it is.
 ///
 /// # Errors
 /// `Memory`, and `CounterFull` where there are not so many numbers left as values get constants: some of these may be
@@ -53,6 +56,10 @@ pub fn propagate_constants(
     ensures passed { OnOk result (IsPassed SccpPass ctx.old ctx.new root) }
     ensures numbers { OnOk result (CountsTo SccpPass ctx.old root ctx.new.program.counter) }
     ensures full { result ≡ Err CounterFull → StopsFull SccpPass ctx.old root }
+    ensures outside { OnOk result (KeepsRest ctx.old.program ctx.new.program root) }
+    ensures stays { OnOk result (StaysOutside ctx.old.program ctx.new.program root) }
+    ensures none_come { OnOk result (AddsNoneOutside ctx.old.program ctx.new.program root) }
+    ensures types { ctx.new.types ≡ ctx.old.types }
 {
     know_premises(ctx, root);
     know_determined(ctx, root);
@@ -62,6 +69,7 @@ pub fn propagate_constants(
     know_tree(ctx.program(), root);
     sccp_keeps_rules();
     sccp_stays_writable();
+    know_rest(ctx, root);
     match sccp::<Kit, Types<Kit>>(alloc, root, ctx) {
         Ok(_) => {
             know_handles_and_types(ctx, root);
@@ -72,7 +80,7 @@ pub fn propagate_constants(
 }
 
 /// Takes out what is dead in a module that keeps the rules. What it leaves keeps them too, and where the module could
-/// be written as a text, so it can be afterwards.
+/// be written as a text, so it can be afterwards. What stands outside the module stays as it is.
 ///
 /// # Errors
 /// There may be no memory. Nothing is changed then.
@@ -86,6 +94,10 @@ pub fn remove_dead(
     ensures numbers { CountsTo DcePass ctx.old root ctx.new.program.counter }
     ensures memory { IfErr result (λ error. error ≡ Memory) }
     ensures same { OnErr result (ctx.new ≡ ctx.old) }
+    ensures outside { OnOk result (KeepsRest ctx.old.program ctx.new.program root) }
+    ensures stays { OnOk result (StaysOutside ctx.old.program ctx.new.program root) }
+    ensures none_come { OnOk result (AddsNoneOutside ctx.old.program ctx.new.program root) }
+    ensures types { ctx.new.types ≡ ctx.old.types }
 {
     know_premises(ctx, root);
     know_handles_and_types(ctx, root);
@@ -95,6 +107,7 @@ pub fn remove_dead(
     removed_stand_alone();
     dce_keeps_rules();
     dce_stays_writable();
+    know_rest(ctx, root);
     match dce::<Kit, Types<Kit>>(alloc, root, ctx) {
         Ok(_) => {
             know_handles_and_types(ctx, root);
@@ -105,10 +118,10 @@ pub fn remove_dead(
 }
 
 /// Simplifies control flow in a module that keeps the rules. What it makes keeps them too, and where the module could
-/// be written as a text, so it can be afterwards.
+/// be written as a text, so it can be afterwards. What stands outside the module stays as it is.
 ///
 /// # Errors
-/// `Memory`: some of the branches may be decided then, or whole phases done.
+/// `Memory`: some of the branches may be decided then, or whole phases done. Outside the module nothing is changed.
 pub fn simplify_control_flow(
     alloc: Global,
     ctx: &mut Context<Kit>,
@@ -118,6 +131,10 @@ pub fn simplify_control_flow(
     ensures passed { OnOk result (IsPassed SimplifyPass ctx.old ctx.new root) }
     ensures numbers { CountsTo SimplifyPass ctx.old root ctx.new.program.counter }
     ensures memory { IfErr result (λ error. error ≡ Memory) }
+    ensures outside { KeepsRest ctx.old.program ctx.new.program root }
+    ensures stays { OnOk result (StaysOutside ctx.old.program ctx.new.program root) }
+    ensures none_come { OnOk result (AddsNoneOutside ctx.old.program ctx.new.program root) }
+    ensures types { ctx.new.types ≡ ctx.old.types }
 {
     know_premises(ctx, root);
     know_handles_and_types(ctx, root);
@@ -129,6 +146,7 @@ pub fn simplify_control_flow(
     simplified_stand_alone();
     simplify_keeps_rules();
     simplify_stays_writable();
+    know_rest(ctx, root);
     match simplify_cfg::<Kit, Types<Kit>>(alloc, root, ctx) {
         Ok(_) => {
             know_handles_and_types(ctx, root);

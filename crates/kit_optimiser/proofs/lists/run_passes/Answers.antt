@@ -6,11 +6,23 @@ use Rattle.ir_base.specs.declared.growth.GrowError.TheVariants.{CounterFull}
 use Rattle.kit_behaviour.specs.PassLists.{Pass}
 use Rattle.kit_optimiser.specs.declared.pass.KitPass.TheVariants.{Sccp}
 use Rattle.kit_optimiser.specs.Passed.{IsOptimised, Runs, pass_of}
+use Rattle.kit_optimiser.proofs.LeftOutside.{kept_both, kept_none, none_come_both, none_come_none}
+use Rattle.kit_optimiser.proofs.LeftOutside.{stays_both, stays_none}
 use Rattle.kit_optimiser.proofs.PassLists.{begins, mapped_more, mapped_parts, runs_on}
 use Rattle.kit_optimiser.proofs.lists.run_passes.Goals as goal
 
 pub loop-pass-init : goal.loop-pass-init
-loop-pass-init c = record { optimised = begins c.args.ctx.now c.args.root c.requires; runs = refl }
+loop-pass-init c =
+    let start = c.args.ctx.now.program in
+    let root = c.args.root in
+    record {
+      optimised = begins c.args.ctx.now root c.requires;
+      runs = refl;
+      outside = kept_none root start;
+      stays = stays_none root start;
+      none_come = none_come_none root start;
+      types = refl;
+    }
 
 pub run_next_pass-requires : goal.run_next_pass-requires
 run_next_pass-requires c = c.loop-pass.invariant.optimised.holds
@@ -20,14 +32,24 @@ loop-pass-preserved c =
     let i = c.loop-pass.pass-index in
     let ps = c.args.passes.now in
     let there = slice_get-get_or ps i Sccp c.loop-pass-test.true in
+    let root = c.args.root in
+    let start = c.args.ctx.now.program in
+    let mid = c.loop-pass.ctx.program in
+    let new = c.run_next_pass.new.ctx.program in
+    let before = c.loop-pass.invariant in
+    let done = c.in_ok-run_next_pass.ensures in
     let more = sym (mapped_more ps i (get_or ps i Sccp) there) in
     record {
       optimised = subst (λ (xs : List Pass). IsOptimised xs c.args.ctx.now c.run_next_pass.new.ctx c.args.root) more
-          (c.in_ok-run_next_pass.ensures.goes_on c.args.ctx.now (map pass_of (take i ps)) c.loop-pass.invariant.optimised);
+          (done.goes_on c.args.ctx.now (map pass_of (take i ps)) before.optimised);
       runs = subst (λ (xs : List Pass). Runs xs c.args.ctx.now c.run_next_pass.new.ctx c.args.root) more
           (runs_on (map pass_of (take i ps)) (pass_of (get_or ps i Sccp)) c.args.ctx.now c.loop-pass.ctx
           c.run_next_pass.new.ctx c.args.root c.loop-pass.invariant.runs c.in_ok-run_next_pass.ensures.passed
           c.in_ok-run_next_pass.ensures.numbers);
+      outside = kept_both root start mid new before.outside before.stays done.outside;
+      stays = stays_both root start mid new before.stays done.stays;
+      none_come = none_come_both root start mid new before.none_come done.none_come;
+      types = done.types ∙ before.types;
     }
 
 pub returns-clause-optimised : goal.returns-clause-optimised

@@ -54,3 +54,15 @@ returns-in-Err-clause-full c = λ is.
     let grown : c.shortage_of.result ≡ CounterFull = cc in
     c.sccp.ensures.full
     (c.in-Err.is ∙ ap (λ x. Err x) (full_of c.in-Err.error c.shortage_of.result c.shortage_of.ensures grown))
+
+pub returns-in-Ok-clause-outside : goal.returns-in-Ok-clause-outside
+returns-in-Ok-clause-outside c =
+    (c.know_rest.ensures.propagated c.sccp.new.ctx.program c.in-Ok.field-0 c.in-Ok.ensures.propagates).kept
+
+pub returns-in-Ok-clause-stays : goal.returns-in-Ok-clause-stays
+returns-in-Ok-clause-stays c =
+    (c.know_rest.ensures.propagated c.sccp.new.ctx.program c.in-Ok.field-0 c.in-Ok.ensures.propagates).stays
+
+pub returns-in-Ok-clause-none_come : goal.returns-in-Ok-clause-none_come
+returns-in-Ok-clause-none_come c =
+    (c.know_rest.ensures.propagated c.sccp.new.ctx.program c.in-Ok.field-0 c.in-Ok.ensures.propagates).none_come

@@ -47,3 +47,15 @@ returns-in-Ok-clause-passed c =
 pub returns-in-Err-clause-memory : goal.returns-in-Err-clause-memory
 returns-in-Err-clause-memory c =
     memory_of c.in-Err.error c.shortage_of.result c.shortage_of.ensures c.in-Err.ensures.error
+
+pub returns-in-Ok-clause-outside : goal.returns-in-Ok-clause-outside
+returns-in-Ok-clause-outside c =
+    (c.know_rest.ensures.removed c.dce.new.ctx.program c.in-Ok.field-0 c.in-Ok.ensures.made).kept
+
+pub returns-in-Ok-clause-stays : goal.returns-in-Ok-clause-stays
+returns-in-Ok-clause-stays c =
+    (c.know_rest.ensures.removed c.dce.new.ctx.program c.in-Ok.field-0 c.in-Ok.ensures.made).stays
+
+pub returns-in-Ok-clause-none_come : goal.returns-in-Ok-clause-none_come
+returns-in-Ok-clause-none_come c =
+    (c.know_rest.ensures.removed c.dce.new.ctx.program c.in-Ok.field-0 c.in-Ok.ensures.made).none_come

@@ -52,3 +52,19 @@ returns-in-Err-clause-memory c =
     memory_of c.in-Err.error c.shortage_of.result c.shortage_of.ensures
     (stops_for_memory old.program new.program c.args.root c.in-Err.error c.in-Err.ensures.error
     (c.know_no_live_use.ensures new.program))
+
+pub returns-in-Ok-clause-outside : goal.returns-in-Ok-clause-outside
+returns-in-Ok-clause-outside c =
+    (c.know_rest.ensures.simplified c.simplify_cfg.new.ctx.program c.in-Ok.ensures.tree).kept
+
+pub returns-in-Ok-clause-stays : goal.returns-in-Ok-clause-stays
+returns-in-Ok-clause-stays c =
+    (c.know_rest.ensures.simplified c.simplify_cfg.new.ctx.program c.in-Ok.ensures.tree).stays
+
+pub returns-in-Ok-clause-none_come : goal.returns-in-Ok-clause-none_come
+returns-in-Ok-clause-none_come c =
+    (c.know_rest.ensures.simplified c.simplify_cfg.new.ctx.program c.in-Ok.ensures.tree).none_come
+
+pub returns-in-Err-clause-outside : goal.returns-in-Err-clause-outside
+returns-in-Err-clause-outside c =
+    c.know_rest.ensures.stopped c.simplify_cfg.new.ctx.program c.in-Err.error c.in-Err.ensures.error
