@@ -352,7 +352,8 @@ impl<'a> Spellings<'a> {
         ensures start { IfOk result (λ r. r.token.start ≡ at) }
         ensures token { IfOk result (λ r. IsToken (codes_of chars.entry) r.token) }
         ensures kind { IfOk result (λ r. r.kind ≡ kind_of (spellings words.now) (codes_of chars.entry) r.token) }
-        ensures name { IfOk result (λ r. r.name ≡ name_number (known_texts self.old) 0 (codes_of chars.entry) r.token) }
+        ensures name { IfOk result (λ r. r.name ≡ name_number (known_texts self.old) 0
+            (codes_of chars.entry) r.token) }
         ensures known { IfOk result (λ r. known_texts self.new ≡ known_with (known_texts self.old)
             (codes_of chars.entry) r.token) }
         ensures words { self.new.words ≡ self.old.words }

@@ -141,7 +141,12 @@ impl<D: TextDialect> Assembler<D> {
         ensures taken { self.new.taken ≡ self.old.taken }
         ensures memory { IfErr result (λ e. e ≡ Memory) }
     {
-        self.begin(spares, Body::Operands(Vec::new(self.alloc)))
+        self.begin(spares, Body::Operands(Vec::new(self.alloc)))?;
+        // Operands have no parts, so the memory for the tokens of parts serves for theirs.
+        if let Body::Operands(tokens) = &mut self.here.body {
+            std::mem::swap(tokens, &mut self.here.content.tokens);
+        }
+        Ok(())
     }
 
     /// A region begins, with no block yet.

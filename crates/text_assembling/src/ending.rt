@@ -60,7 +60,7 @@ impl<D: TextDialect> Assembler<D> {
         let Open {
             body,
             first,
-            content,
+            mut content,
             ..
         } = ended;
         match body {
@@ -83,7 +83,7 @@ impl<D: TextDialect> Assembler<D> {
                 made
             }
             Body::Operands(tokens) => {
-                let made = self.end_operands(first, tokens);
+                let made = self.end_operands(first, tokens, &mut content);
                 keep(spares, content);
                 made
             }

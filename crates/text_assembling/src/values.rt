@@ -124,11 +124,12 @@ impl<D: TextDialect> Assembler<D> {
         Ok(())
     }
 
-    /// Operands end, in their operation.
+    /// Operands end, in their operation. The memory of their tokens goes to the content.
     pub fn end_operands(
         &mut self,
         first: usize,
-        mut tokens: Vec<usize>,
+        tokens: Vec<usize>,
+        content: &mut Content<D>,
     ) -> Result<(), AssemblyFault>
         ensures here { (o : OpenOperation) → self.old.here.body ≡ body.Operation o
             → OnOk result ((p : OpenOperation)
@@ -140,8 +141,9 @@ impl<D: TextDialect> Assembler<D> {
     {
         let count = tokens.len();
         if let Body::Operation(open) = &mut self.here.body {
-            add_all(&mut open.operands, &mut tokens)?;
+            open.operands.extend_from_slice(&tokens)?;
         }
+        content.tokens = tokens;
         self.here.put(Part::Operands(count), first)
     }
 
@@ -181,17 +183,4 @@ impl<D: TextDialect> Assembler<D> {
         }
         Ok(())
     }
-}
-
-/// Tokens stand behind others, in their own memory where they are the first.
-fn add_all(tokens: &mut Vec<usize>, more: &mut Vec<usize>) -> Result<(), AssemblyFault>
-    ensures added { OnOk result (tokens.new.items ≡ tokens.old.items ++ more.old.items) }
-    ensures memory { IfErr result (λ e. e ≡ Memory) }
-{
-    if tokens.is_empty() {
-        std::mem::swap(tokens, more);
-        return Ok(());
-    }
-    tokens.extend_from_slice(more)?;
-    Ok(())
 }
