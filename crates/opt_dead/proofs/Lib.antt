@@ -19,3 +19,4 @@ pub mod Removing
 pub mod Edges
 pub mod Marking
 pub mod Before
+pub mod Plain

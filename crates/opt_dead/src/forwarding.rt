@@ -75,22 +75,21 @@ fn forward_edges<D: OptDialect>(
     Ok(())
 }
 
-/// The number of the argument that each operand of an operation goes to, if it goes to one.
+/// The number of the argument that each operand of a branch goes to, if it goes to one.
 pub(crate) fn targets_of<D: OptDialect>(
     alloc: Global,
     program: &Program<D::Operation, D::Block>,
     inside: &Inside,
     op: Ptr<Operation>,
 ) -> Result<Vec<Option<usize>>, AllocError>
-    requires { IsSome (operation_at program.now op) }
+    requires live { IsSome (operation_at program.now op) }
+    requires branch { IsBranch D.meaning program.now op }
     ensures len { IfOk result (λ targets. length targets.items ≡ length (operands_at program.now op)) }
     ensures found { IfOk result (λ targets. AreForwarded D.meaning program.now
         (numbers_of inside.now) op targets.items) }
     ensures none { IfOk result (λ targets. OthersStay D.meaning program.now (numbers_of inside.now) op targets.items) }
 {
     let mut targets = vec![in alloc; None; program.operand_count(op)]?;
-    if D::is_branch(program.payload(op)) {
-        forward_edges::<D>(alloc, program, inside, op, &mut targets)?;
-    }
+    forward_edges::<D>(alloc, program, inside, op, &mut targets)?;
     Ok(targets)
 }

@@ -6,7 +6,7 @@ ghost use Rattle.ir_program.specs.declared.handles.Ptr.{Ptr};
 ghost use Rattle.ir_trees.specs.Searched.{AreDistinct};
 ghost use Rattle.opt_inside.specs.Numbered.{numbers_of};
 ghost use Rattle.opt_dead.specs.Problems.{AreThere};
-ghost use Rattle.opt_dead.specs.Taken.{AreDeadArguments, AreDeadOperations, AreGoing, AreLost, AreLostOperands, IsMarked};
+ghost use Rattle.opt_dead.specs.Taken.{AreDeadArguments, AreDeadOperations, AreGoing, AreLost, AreLostOperands, IsMarked, OperandGoes};
 ghost use Rattle.opt_dead.specs.Taken.{TakesArguments, TakesLost, TakesMarked, TakesOperation};
 
 use crate::numbers::value_number;
@@ -75,6 +75,18 @@ fn lost_marks(alloc: Global, row: &Candidate, arguments: &[bool]) -> Result<Vec<
     Ok(marks)
 }
 
+/// Whether an operand of an operation goes to a marked argument.
+fn loses_some(row: &Candidate, arguments: &[bool]) -> bool
+    ensures { IsTrue result ↔ ((i : ℕ) × OperandGoes row.now arguments.now i) }
+{
+    for operand in &row.operands {
+        if is_marked(arguments, operand.argument) {
+            return true;
+        }
+    }
+    false
+}
+
 /// Takes the operands of an operation that go, if there are some.
 fn take_lost(
     alloc: Global,
@@ -85,8 +97,8 @@ fn take_lost(
 ) -> Result<(), AllocError>
     ensures { OnOk result (TakesLost op row.now arguments.now lost.old.items lost.new.items) }
 {
-    let marks = lost_marks(alloc, row, arguments)?;
-    if has_mark(&marks) {
+    if loses_some(row, arguments) {
+        let marks = lost_marks(alloc, row, arguments)?;
         lost.push(LostOperands { op, marks })?;
     }
     Ok(())

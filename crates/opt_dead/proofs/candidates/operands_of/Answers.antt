@@ -3,7 +3,13 @@ use Rattle.opt_inside.specs.Numbered.{numbers_of}
 use Rattle.opt_solvers.specs.declared.dead_problem.Operand.{Operand}
 use Rattle.opt_dead.specs.Problems.{IsOperandOf}
 use Rattle.opt_dead.proofs.Partway.{pushed_len, item_at, each_push}
+use Rattle.opt_dead.proofs.Plain.{not_branch}
 use Rattle.opt_dead.proofs.candidates.operands_of.Goals as goal
+
+pub plain_operands-requires-clause-plain : goal.plain_operands-requires-clause-plain
+plain_operands-requires-clause-plain g c =
+    not_branch g.D.Meanings.meaning c.args.program.now c.args.op c.payload.result.now c.is_branch.result
+    c.payload.ensures c.is_branch.ensures c.if-not-is_branch.true
 
 pub loop-index-preserved : goal.loop-index-preserved
 loop-index-preserved g c =
