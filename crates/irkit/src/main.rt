@@ -6,8 +6,8 @@ use std::alloc::{AllocError, Global};
 use std::env;
 use std::process::ExitCode;
 
-/// So much memory is kept for what comes next when it is given back.
-const KEPT: usize = 6 << 20;
+/// Blocks of up to so many bytes are kept for what comes next when they are given back.
+const KEPT: usize = 10 << 20;
 
 /// Has the C library keep what is given back, rather than return it to the system and fetch it anew.
 ///
