@@ -9,8 +9,7 @@ use Rattle.opt_trees.specs.Dce.{Around}
 use Rattle.opt_trees.specs.Dialect.{Dialect}
 use Rattle.opt_trees.specs.Simplify.{IsSimplify}
 use Rattle.opt_inside.specs.Around.{SaysAround}
-use Rattle.opt_inside.specs.Outside.{ChangesOperandsOutside}
-use Rattle.opt_chains.specs.Phases.{AddsNoneOutside}
+use Rattle.opt_inside.specs.Outside.{AddsNoneOutside, ChangesOperandsOutside}
 use Rattle.opt_decide.specs.Phase.{maps_of}
 
 -- the operation stands for its tree, simplified, up to the handles of new branches: each of these, which led nowhere,

@@ -16,17 +16,17 @@ use Rattle.ir_program.proofs.made.Frames.{same_or_not}
 use Rattle.ir_trees.specs.Renames.{names_of}
 use Rattle.ir_trees.specs.Stands.{StandsFor, ProgramHead, ProgramLabel}
 use Rattle.ir_trees.proofs.Members.{has_at}
-use Rattle.opt_dce.specs.Thins.{AddsNoneOutside}
 use Rattle.opt_decide.specs.Phase.{BringsNoneInside, CarriesOutPart}
 use Rattle.opt_dialect.specs.declared.status.IRStatus.{IRStatus}
 use Rattle.opt_dialect.specs.declared.status.OptError.{OptError}
 use Rattle.opt_inside.specs.Around.{IsTakenOutside}
 use Rattle.opt_inside.specs.Occurring.{IsBelowRoot, IsDefinedBelow}
-use Rattle.opt_inside.specs.Outside.{ChangesOperandsOutside, KeepsOutside}
+use Rattle.opt_inside.specs.Outside.{AddsNoneOutside, ChangesOperandsOutside, KeepsOutside}
 use Rattle.opt_inside.proofs.Around.{HasLists, around_operation, around_region}
 use Rattle.opt_inside.proofs.Values.{defined}
 use Rattle.opt_inside.proofs.Walked.{sound, blocks_sound}
-use Rattle.opt_sccp.specs.Sccp.{Propagates}
+use Rattle.opt_sccp.specs.Puts.{PutsConstants}
+use Rattle.opt_sccp.specs.Sccp.{Propagates, PropagatesPart}
 use Rattle.opt_trees.specs.Occurrences.{Has, at_root}
 use Rattle.opt_trees.specs.Sccp.{IsArgument, IsResult, used_as}
 use Rattle.opt_trees.specs.Simplify.{Follows, all_of, decide, goes_on, keep, stops}
@@ -185,8 +185,26 @@ module _ (old new : KitProgram) (root : Ptr Operation) where
     regions = changes.regions;
   }
 
+  -- ---- constants that are put in
+
+  module _ (untaken : IsUntaken) (t : KitTree) where
+    module _ (made : Value → Option IntegerAttr) (below : (v : Value) (a : IntegerAttr) → made v ≡ Some a
+        → IsDefinedBelow old root v) (puts : PutsConstants kit old new root made t) where
+      operand_put : (y : Value) (o : Option IntegerAttr) → made y ≡ o
+          → (puts.names.value (used_as y o) ≡ y) ⊎ IsDefinedBelow old root y
+      operand_put y None e = inl (puts.old_values y)
+      operand_put y (Some a) e = inr (below y a e)
+
+      put_outside : KeepsOutside old new root
+      put_outside = keeps_operands (λ v. puts.names.value (used_as v (made v))) puts.outside untaken
+          (λ y. operand_put y (made y) refl)
+
+    -- a part of them, where memory or numbers run out
+    pub part_rest : HasLists old → PropagatesPart kit old new root t → KeepsRest old new root
+    part_rest lists part = keeps_rest lists (put_outside part.made part.below part.puts)
+
   module _ (lists : HasLists old) (untaken : IsUntaken) (t : KitTree) (stands : StandsFor old root t) where
-    -- ---- constants that are put in
+    -- ---- constants that are put in, all of them
 
     module _ (answer : IRStatus) (done : Propagates kit old new root answer t) where
       -- a value that gets a constant is defined below the root
@@ -212,14 +230,8 @@ module _ (old new : KitProgram) (root : Ptr Operation) where
           ))
           (done.decided.is_made.gets v a e).place
 
-      operand_put : (y : Value) (o : Option IntegerAttr) → done.made y ≡ o
-          → (done.puts.names.value (used_as y o) ≡ y) ⊎ IsDefinedBelow old root y
-      operand_put y None e = inl (done.puts.old_values y)
-      operand_put y (Some a) e = inr (made_below y a e)
-
       pub propagated_outside : KeepsOutside old new root
-      propagated_outside = keeps_operands (λ v. done.puts.names.value (used_as v (done.made v))) done.puts.outside
-          untaken (λ y. operand_put y (done.made y) refl)
+      propagated_outside = put_outside untaken t done.made made_below done.puts
 
     -- ---- control flow that is simplified
 

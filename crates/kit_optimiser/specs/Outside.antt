@@ -9,7 +9,7 @@ use Rattle.ir_program.specs.declared.handles.IRNode.TheVariants.{Region as Regio
 use Rattle.ir_program.specs.declared.handles.Operation.{Operation}
 use Rattle.ir_program.specs.declared.handles.Ptr.{Ptr}
 use Rattle.ir_program.specs.declared.handles.Region.{Region}
-use Rattle.opt_dce.specs.Thins.{AddsNoneOutside}
+use Rattle.opt_inside.specs.Outside.{AddsNoneOutside}
 
 -- it is there, and isn't inside the root; a region is outside where the operation is whose region it is
 abbrev pub IsOutside : {O B : Type 0} → Program O B → Ptr Operation → IRNode → Type 0

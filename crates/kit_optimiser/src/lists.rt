@@ -4,7 +4,7 @@ ghost use Rattle.ir_base.specs.declared.growth.GrowError.TheVariants.{CounterFul
 ghost use Rattle.kit_held_modules.specs.Held.{HoldsModule};
 ghost use Rattle.kit_optimiser.specs.Outside.{KeepsRest, StaysOutside};
 ghost use Rattle.kit_optimiser.specs.Passed.{CountsTo, FillsUp, GoesOn, IsOptimised, IsPassed, Runs, StopsFull, pass_of};
-ghost use Rattle.opt_dce.specs.Thins.{AddsNoneOutside};
+ghost use Rattle.opt_inside.specs.Outside.{AddsNoneOutside};
 
 use crate::{KitPass, know_sound, propagate_constants, remove_dead, simplify_control_flow};
 use ir_base::GrowError;
@@ -27,7 +27,7 @@ fn run_pass(
     ensures passed { OnOk result (IsPassed (pass_of pass) ctx.old ctx.new root) }
     ensures numbers { OnOk result (CountsTo (pass_of pass) ctx.old root ctx.new.program.counter) }
     ensures full { result ≡ Err CounterFull → StopsFull (pass_of pass) ctx.old root }
-    ensures outside { OnOk result (KeepsRest ctx.old.program ctx.new.program root) }
+    ensures outside { KeepsRest ctx.old.program ctx.new.program root }
     ensures stays { OnOk result (StaysOutside ctx.old.program ctx.new.program root) }
     ensures none_come { OnOk result (AddsNoneOutside ctx.old.program ctx.new.program root) }
     ensures types { ctx.new.types ≡ ctx.old.types }
@@ -54,7 +54,7 @@ fn run_next_pass(
     ensures passed { OnOk result (IsPassed (pass_of pass) ctx.old ctx.new root) }
     ensures numbers { OnOk result (CountsTo (pass_of pass) ctx.old root ctx.new.program.counter) }
     ensures full { result ≡ Err CounterFull → StopsFull (pass_of pass) ctx.old root }
-    ensures outside { OnOk result (KeepsRest ctx.old.program ctx.new.program root) }
+    ensures outside { KeepsRest ctx.old.program ctx.new.program root }
     ensures stays { OnOk result (StaysOutside ctx.old.program ctx.new.program root) }
     ensures none_come { OnOk result (AddsNoneOutside ctx.old.program ctx.new.program root) }
     ensures types { ctx.new.types ≡ ctx.old.types }
@@ -69,7 +69,7 @@ fn run_next_pass(
 ///
 /// # Errors
 /// `Memory`, and `CounterFull` where too few numbers of values are left for a pass: those before it are done then, and
-/// a part of it may be.
+/// a part of it may be. What stands outside the module is as it was then too.
 pub fn run_passes(
     alloc: Global,
     ctx: &mut Context<Kit>,
@@ -80,7 +80,7 @@ pub fn run_passes(
     ensures optimised { OnOk result (IsOptimised (map pass_of passes.now) ctx.old ctx.new root) }
     ensures runs { OnOk result (Runs (map pass_of passes.now) ctx.old ctx.new root) }
     ensures full { result ≡ Err CounterFull → FillsUp (map pass_of passes.now) ctx.old root }
-    ensures outside { OnOk result (KeepsRest ctx.old.program ctx.new.program root) }
+    ensures outside { KeepsRest ctx.old.program ctx.new.program root }
     ensures stays { OnOk result (StaysOutside ctx.old.program ctx.new.program root) }
     ensures none_come { OnOk result (AddsNoneOutside ctx.old.program ctx.new.program root) }
     ensures types { ctx.new.types ≡ ctx.old.types }

@@ -9,7 +9,7 @@ ghost use Rattle.opt_dce.specs.Thins.{IsOutcome};
 ghost use Rattle.opt_dialect.specs.declared.status.IRStatus.{IRStatus};
 ghost use Rattle.opt_dialect.specs.declared.status.OptError.{OptError};
 ghost use Rattle.opt_inside.specs.Occurring.{OfItsTree};
-ghost use Rattle.opt_sccp.specs.Sccp.{IsPropagated};
+ghost use Rattle.opt_sccp.specs.Sccp.{IsPartlyPropagated, IsPropagated};
 
 use ir_context::Context;
 use ir_program::{Operation, Ptr};
@@ -22,6 +22,8 @@ pub(crate) fn know_rest(ctx: &Context<Kit>, root: Ptr<Operation>)
     requires { HoldsModule ctx.now root }
     ensures propagated { (new : KitProgram) (answer : IRStatus) → IsPropagated kit ctx.now.program new root answer
         → LeavesRest ctx.now.program new root }
+    ensures propagated_in_part { (new : KitProgram) → IsPartlyPropagated kit ctx.now.program new root
+        → KeepsRest ctx.now.program new root }
     ensures removed { (new : KitProgram) (answer : IRStatus)
         → OfItsTree ctx.now.program root (λ t. IsOutcome kit ctx.now.program new root t answer)
         → LeavesRest ctx.now.program new root }

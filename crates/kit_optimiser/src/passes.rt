@@ -5,7 +5,7 @@ ghost use Rattle.kit_behaviour.specs.PassLists.{DcePass, SccpPass, SimplifyPass}
 ghost use Rattle.kit_held_modules.specs.Held.{HoldsModule};
 ghost use Rattle.kit_optimiser.specs.Outside.{KeepsRest, StaysOutside};
 ghost use Rattle.kit_optimiser.specs.Passed.{CountsTo, IsPassed, StopsFull};
-ghost use Rattle.opt_dce.specs.Thins.{AddsNoneOutside};
+ghost use Rattle.opt_inside.specs.Outside.{AddsNoneOutside};
 ghost use Rattle.opt_dialect.specs.Statuses.{error_of};
 ghost use Rattle.opt_sccp.specs.Made.{IsShortage};
 
@@ -46,7 +46,7 @@ fn shortage_of(error: OptError) -> GrowError
 ///
 /// # Errors
 /// `Memory`, and `CounterFull` where there are not so many numbers left as values get constants: some of these may be
-/// put in then.
+/// put in then. What stands outside the module is as it was then too.
 pub fn propagate_constants(
     alloc: Global,
     ctx: &mut Context<Kit>,
@@ -56,7 +56,7 @@ pub fn propagate_constants(
     ensures passed { OnOk result (IsPassed SccpPass ctx.old ctx.new root) }
     ensures numbers { OnOk result (CountsTo SccpPass ctx.old root ctx.new.program.counter) }
     ensures full { result ≡ Err CounterFull → StopsFull SccpPass ctx.old root }
-    ensures outside { OnOk result (KeepsRest ctx.old.program ctx.new.program root) }
+    ensures outside { KeepsRest ctx.old.program ctx.new.program root }
     ensures stays { OnOk result (StaysOutside ctx.old.program ctx.new.program root) }
     ensures none_come { OnOk result (AddsNoneOutside ctx.old.program ctx.new.program root) }
     ensures types { ctx.new.types ≡ ctx.old.types }
@@ -94,7 +94,7 @@ pub fn remove_dead(
     ensures numbers { CountsTo DcePass ctx.old root ctx.new.program.counter }
     ensures memory { IfErr result (λ error. error ≡ Memory) }
     ensures same { OnErr result (ctx.new ≡ ctx.old) }
-    ensures outside { OnOk result (KeepsRest ctx.old.program ctx.new.program root) }
+    ensures outside { KeepsRest ctx.old.program ctx.new.program root }
     ensures stays { OnOk result (StaysOutside ctx.old.program ctx.new.program root) }
     ensures none_come { OnOk result (AddsNoneOutside ctx.old.program ctx.new.program root) }
     ensures types { ctx.new.types ≡ ctx.old.types }

@@ -25,7 +25,7 @@ use Rattle.ir_trees.specs.Stands.{by_handle, in_program, ProgramTree, ProgramHea
 use Rattle.ir_trees.specs.Trees.{Operations, Tree}
 use Rattle.opt_inside.proofs.Around.{HasLists, around_operation, around_block, not_root}
 use Rattle.opt_inside.specs.Occurring.{FoundBlock, EachFound, EachBlock, IsOccurrence, IsBlockOccurrence}
-use Rattle.opt_inside.specs.Outside.{ChangesOperandsOutside}
+use Rattle.opt_inside.specs.Outside.{AddsNoneOutside, ChangesOperandsOutside}
 use Rattle.opt_trees.specs.Dialect.{Dialect}
 use Rattle.opt_trees.specs.Occurrences.{Occurrence, block_occurrences_of}
 use Rattle.opt_trees.specs.Simplify.{Place, Joinable, IsGiven, Follows, stops, use_head, use_instead}
@@ -35,7 +35,7 @@ use Rattle.opt_reach.specs.declared.starts.Start.{Start}
 use Rattle.opt_chains.specs.Chained.{AreChains, AreStandIns}
 use Rattle.opt_chains.specs.MergedValues.{standing, TakesInstead}
 use Rattle.opt_chains.specs.Merging.{front, without, held, is_taken, last_of, along, TakesNoArgument, AreJoins, HasJoined}
-use Rattle.opt_chains.specs.Phases.{AddsNoneOutside, MergesBlocks}
+use Rattle.opt_chains.specs.Phases.{MergesBlocks}
 use Rattle.opt_chains.specs.declared.merging.Join.{Join}
 use Rattle.opt_chains.specs.declared.merge_values.StandIn.{StandIn}
 use Rattle.opt_chains.proofs.ChainBare.{last_under}

@@ -14,7 +14,7 @@ use Rattle.opt_trees.specs.Dialect.{Dialect}
 use Rattle.opt_trees.specs.Dce.{Gone, Whole}
 use Rattle.opt_dead.specs.Plans.{GoesWith}
 use Rattle.opt_dce.specs.Steps.{without, IsBelow, loses, thin_block, HasThinned}
-use Rattle.opt_dce.specs.Thins.{AddsNoneOutside}
+use Rattle.opt_inside.specs.Outside.{AddsNoneOutside}
 use Rattle.opt_dce.proofs.Picking.{not_true}
 
 -- what isn't picked is still listed

@@ -1,10 +1,9 @@
 -- What dead code elimination makes of a program and of its trees.
-use Rattle.std.specs.Prelude.{◌≡◌, ◌↔◌, true, IsSome}
-use Rattle.ir_program.specs.Program.{Program, operation_at}
+use Rattle.std.specs.Prelude.{◌≡◌, ◌↔◌, true}
+use Rattle.ir_program.specs.Program.{Program}
 use Rattle.ir_program.specs.Erased.{IsGone as IsErased}
-use Rattle.ir_program.specs.Lists.{IsLiveNode, StandsInside}
+use Rattle.ir_program.specs.Lists.{IsLiveNode}
 use Rattle.ir_program.specs.declared.handles.IRNode.{IRNode}
-use Rattle.ir_program.specs.declared.handles.IRNode.TheVariants.{Operation as OperationNode}
 use Rattle.ir_program.specs.declared.handles.Ptr.{Ptr}
 use Rattle.ir_program.specs.declared.handles.Operation.{Operation}
 use Rattle.ir_trees.specs.Searched.{Lists}
@@ -15,14 +14,8 @@ use Rattle.opt_dialect.specs.declared.status.IRStatus.{IRStatus}
 use Rattle.opt_dialect.specs.declared.status.IRStatus.TheVariants.{Unchanged}
 use Rattle.opt_dead.specs.declared.plan.DeadPlan.{DeadPlan}
 use Rattle.opt_dead.specs.declared.plan.DeadArguments.{DeadArguments}
-use Rattle.opt_inside.specs.Outside.{KeepsOutside}
+use Rattle.opt_inside.specs.Outside.{AddsNoneOutside, KeepsOutside}
 use Rattle.opt_dead.specs.Plans.{SaysPins, GoesWith}
-
--- no operation comes to be outside the root: what isn't inside it now was there before, and wasn't inside it
-abbrev pub AddsNoneOutside : {O B : Type 0} → Program O B → Program O B → Ptr Operation → Type 0
-AddsNoneOutside old new op = (p : Ptr Operation) → IsSome (operation_at new p)
-    → (StandsInside new (OperationNode op) (OperationNode p) → ⊥)
-    → IsSome (operation_at old p) × (StandsInside old (OperationNode op) (OperationNode p) → ⊥)
 
 -- what goes, and all that is in it, is erased; the root stands for its tree without it; and nothing changes outside
 -- the root

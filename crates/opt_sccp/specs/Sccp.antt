@@ -9,7 +9,7 @@ use Rattle.opt_dialect.specs.declared.status.IRStatus.{IRStatus}
 use Rattle.opt_dialect.specs.declared.status.IRStatus.TheVariants.{Unchanged}
 use Rattle.opt_dialect.specs.declared.status.OptError.{OptError}
 use Rattle.opt_dialect.specs.declared.status.OptError.TheVariants.{UndeterminedOperand}
-use Rattle.opt_inside.specs.Occurring.{OfItsTree}
+use Rattle.opt_inside.specs.Occurring.{IsDefinedBelow, OfItsTree}
 use Rattle.opt_trees.specs.Dialect.{Dialect}
 use Rattle.opt_trees.specs.Facts.{Facts, IsMostPrecise, IsLacking}
 use Rattle.opt_trees.specs.Occurrences.{Has}
@@ -54,6 +54,8 @@ pub record Propagates {O B A : Type 0} (d : Dialect (in_program O B) A) (old new
 -- some constants are put in, each for a value that gets it
 pub record PropagatesPart {O B A : Type 0} (d : Dialect (in_program O B) A) (old new : Program O B) (op : Ptr Operation) (t : ProgramTree O B) : Type 0 where
   pub made : Value → Option A
+  -- each value that gets a constant is defined below the operation
+  pub below : (v : Value) (a : A) → made v ≡ Some a → IsDefinedBelow old op v
   pub gets : (k : Facts by_handle A) → IsMostPrecise d t k → (v : Value) (a : A) → made v ≡ Some a → Gets d t k v a
   pub puts : PutsConstants d old new op made t
 

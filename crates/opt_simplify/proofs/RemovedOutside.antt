@@ -10,7 +10,7 @@ use Rattle.ir_program.specs.declared.handles.IRNode.TheVariants.{Operation as Op
 use Rattle.ir_program.specs.declared.handles.IRNode.TheVariants.{BasicBlock as BlockNode}
 use Rattle.ir_program.specs.declared.handles.Operation.{Operation}
 use Rattle.ir_program.specs.declared.handles.Ptr.{Ptr}
-use Rattle.opt_simplify.specs.Phases.{AddsNoneOutside}
+use Rattle.opt_inside.specs.Outside.{AddsNoneOutside}
 use Rattle.opt_simplify.specs.Removed.{without, IsWithin, ErasesPicked}
 use Rattle.opt_simplify.proofs.RemovedPicking.{not_true}
 

@@ -1,8 +1,8 @@
 -- What removing unreached blocks makes of a program and of its trees.
-use Rattle.std.specs.Prelude.{◌≡◌, true, IsSome}
+use Rattle.std.specs.Prelude.{◌≡◌, true}
 use Rattle.ir_program.specs.Erased.{IsGone as IsErased}
 use Rattle.ir_program.specs.Lists.{StandsInside, IsLiveNode}
-use Rattle.ir_program.specs.Program.{Program, operation_at}
+use Rattle.ir_program.specs.Program.{Program}
 use Rattle.ir_program.specs.declared.handles.IRNode.{IRNode}
 use Rattle.ir_program.specs.declared.handles.IRNode.TheVariants.{Operation as OperationNode, BasicBlock as BlockNode}
 use Rattle.ir_program.specs.declared.handles.Ptr.{Ptr}
@@ -12,15 +12,9 @@ use Rattle.ir_trees.specs.Stands.{by_handle, in_program, ProgramTree, StandsFor}
 use Rattle.opt_trees.specs.Dialect.{Dialect}
 use Rattle.opt_trees.specs.Simplify.{Place, IsCut}
 use Rattle.opt_inside.specs.Edges.{HasLocalEdgesBelow, FitsEdgesBelow}
-use Rattle.opt_inside.specs.Outside.{KeepsOutside}
+use Rattle.opt_inside.specs.Outside.{AddsNoneOutside, KeepsOutside}
 use Rattle.opt_reach.specs.Edges.{HasLocalEdgesFrom, FitsEdgesFrom}
 use Rattle.opt_reach.specs.declared.starts.Start.{Start}
-
--- no operation comes to be outside the root: what isn't inside it now was there before, and wasn't inside it
-abbrev pub AddsNoneOutside : {O B : Type 0} → Program O B → Program O B → Ptr Operation → Type 0
-AddsNoneOutside old new op = (p : Ptr Operation) → IsSome (operation_at new p)
-    → (StandsInside new (OperationNode op) (OperationNode p) → ⊥)
-    → IsSome (operation_at old p) × (StandsInside old (OperationNode op) (OperationNode p) → ⊥)
 
 -- the blocks of visited regions that nothing reaches are gone, with all that is in them; nothing has come inside
 pub record RemovesBlocks {O B A : Type 0} (d : Dialect (in_program O B) A) (p : Place by_handle) (old new : Program O B)

@@ -82,3 +82,9 @@ returns-in_err-run_next_pass-clause-full c = λ e.
       runs = c.loop-pass.invariant.runs;
       full = c.in_err-run_next_pass.ensures.full (ap (λ x. Err x) (sym p.2 ∙ inner));
     }
+
+pub returns-in_err-run_next_pass-clause-outside : goal.returns-in_err-run_next_pass-clause-outside
+returns-in_err-run_next_pass-clause-outside c =
+    let before = c.loop-pass.invariant in
+    kept_both c.args.root c.args.ctx.now.program c.loop-pass.ctx.program c.run_next_pass.new.ctx.program before.outside
+    before.stays c.run_next_pass.ensures.outside

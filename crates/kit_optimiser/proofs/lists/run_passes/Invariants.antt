@@ -1,6 +1,6 @@
 -- The passes before the index are run.
 use Rattle.std.proofs.Common.{◌≡◌, map, take}
-use Rattle.opt_dce.specs.Thins.{AddsNoneOutside}
+use Rattle.opt_inside.specs.Outside.{AddsNoneOutside}
 use Rattle.kit_optimiser.specs.Outside.{KeepsRest, StaysOutside}
 use Rattle.kit_optimiser.specs.Passed.{IsOptimised, Runs, pass_of}
 use Rattle.kit_optimiser.proofs.lists.run_passes.Given as goal

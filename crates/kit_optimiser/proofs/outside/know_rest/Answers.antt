@@ -5,7 +5,8 @@ use Rattle.kit_held_modules.proofs.LeftApart.{IsKnownBefore}
 use Rattle.kit_held_modules.proofs.PropagatedApart.{propagated_apart}
 use Rattle.kit_held_modules.proofs.RemovedApart.{removed_apart}
 use Rattle.kit_held_modules.proofs.SimplifiedApart.{simplified_apart}
-use Rattle.kit_optimiser.proofs.LeftOutside.{leaves_rest, propagated_outside, simplified_outside, stopped_rest}
+use Rattle.kit_optimiser.proofs.LeftOutside.{leaves_rest, part_rest, propagated_outside}
+use Rattle.kit_optimiser.proofs.LeftOutside.{simplified_outside, stopped_rest}
 use Rattle.kit_optimiser.proofs.outside.know_rest.Goals as goal
 
 pub returns : goal.returns
@@ -38,6 +39,7 @@ returns c =
       propagated = λ new answer done. leaves_rest old new root
           (propagated_apart old new root known t.0 t.1 answer (done t.0 t.1)) known.lists
           (propagated_outside old new root known.lists c.requires.contained t.0 t.1 answer (done t.0 t.1));
+      propagated_in_part = λ new part. part_rest old new root c.requires.contained t.0 known.lists (part t.0 t.1);
       removed = λ new answer done. leaves_rest old new root
           (removed_apart old new root known t.0 t.1 (done t.0 t.1).made) known.lists (done t.0 t.1).made.outside;
       simplified = λ new done. leaves_rest old new root

@@ -66,3 +66,7 @@ returns-in-Ok-clause-stays c =
 pub returns-in-Ok-clause-none_come : goal.returns-in-Ok-clause-none_come
 returns-in-Ok-clause-none_come c =
     (c.know_rest.ensures.propagated c.sccp.new.ctx.program c.in-Ok.field-0 c.in-Ok.ensures.propagates).none_come
+
+pub returns-in-Err-clause-outside : goal.returns-in-Err-clause-outside
+returns-in-Err-clause-outside c =
+    c.know_rest.ensures.propagated_in_part c.sccp.new.ctx.program c.in-Err.ensures.part

@@ -1,9 +1,11 @@
-use Rattle.std.proofs.Common.{inl, subst}
+use Rattle.std.proofs.Common.{inl, sym, ap, subst}
 use Rattle.ir_program.specs.Program.{Program}
 use Rattle.ir_trees.specs.Stands.{StandsFor}
 use Rattle.opt_inside.specs.Occurring.{OfItsTree, DefinesAllBelow}
 use Rattle.kit.specs.Meaning.{KitOperation, KitBlock}
 use Rattle.kit_ruled_views.specs.Ruled.{KitTree}
+use Rattle.kit_optimiser.specs.Outside.{KeepsRest}
+use Rattle.kit_optimiser.proofs.LeftOutside.{kept_none}
 use Rattle.kit_optimiser.proofs.Refusals.{memory_of}
 use Rattle.kit_optimiser.proofs.WhatPassesLeave.{IsLeft, live, removed}
 use Rattle.kit_optimiser.proofs.passes.remove_dead.Goals as goal
@@ -59,3 +61,9 @@ returns-in-Ok-clause-stays c =
 pub returns-in-Ok-clause-none_come : goal.returns-in-Ok-clause-none_come
 returns-in-Ok-clause-none_come c =
     (c.know_rest.ensures.removed c.dce.new.ctx.program c.in-Ok.field-0 c.in-Ok.ensures.made).none_come
+
+pub returns-in-Err-clause-outside : goal.returns-in-Err-clause-outside
+returns-in-Err-clause-outside c =
+    let old = c.args.ctx.now.program in
+    let root = c.args.root in
+    subst (λ p. KeepsRest old p root) (ap (λ x. x.program) (sym c.in-Err.ensures.err)) (kept_none root old)
