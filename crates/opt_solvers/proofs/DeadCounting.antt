@@ -1,13 +1,11 @@
 -- Counting how often numbers are in rows.
 use Rattle.std.proofs.Common.{◌≡◌, ◌⊎◌, inl, inr, ⊎_elim, ℕ, zero, suc, ◌+◌, ◌<◌, ◌≤◌, List, [], ◌∷◌, ◌++◌, take, drop, Bool, true, false, nat_eq, length, get_or, map, refl, sym, ap, ◌∙◌, subst, arith, eq-eqb}
 use Rattle.std.proofs.Math.ListN.{set}
-use Rattle.std.specs.declared.vec.Vec.{Vec}
-use Rattle.std.specs.declared.alloc.Global.{Global}
 use Rattle.std.proofs.lemmas.List.{length-set, get_or-set_other, take_more, take-append-drop}
 use Rattle.std.proofs.lemmas.Grind.{get_or-set_at}
 use Rattle.std.proofs.lemmas.Option.{slice_get_read, get_or_from_slice_get}
 use Rattle.digraph.specs.Counts.{one, count_of}
-use Rattle.digraph.specs.Graph.{successors}
+use Rattle.opt_solvers.specs.NumberRows.{row_at}
 use Rattle.digraph.proofs.Counting.{count-append, same_numbers}
 use Rattle.opt_solvers.specs.declared.dead_problem.Candidate.{Candidate}
 use Rattle.opt_solvers.specs.declared.dead_problem.Argument.{Argument}
@@ -49,28 +47,28 @@ item_fits limit old a items i x h e f s =
     let m = count_more x items i x h e in let c = s.counts x in let t = count_take x (i + 1) items in let o = ap one (eq-eqb x x refl) in
     omega (arith, m, c, t, o, f)
 
-kept-append : (x : ℕ) (ps qs : List (Vec ℕ Global)) → kept_by (ps ++ qs) x ≡ kept_by ps x + kept_by qs x
+kept-append : (x : ℕ) (ps qs : List (List ℕ)) → kept_by (ps ++ qs) x ≡ kept_by ps x + kept_by qs x
 kept-append x [] qs = omega arith
 kept-append x (p ∷ ps) qs = omega (arith, kept-append x ps qs)
 
-kept_take : (x i : ℕ) (rows : List (Vec ℕ Global)) → kept_by (take i rows) x ≤ kept_by rows x
+kept_take : (x i : ℕ) (rows : List (List ℕ)) → kept_by (take i rows) x ≤ kept_by rows x
 kept_take x i rows = let a = ap (λ rs. kept_by rs x) (take-append-drop i rows) in let b = kept-append x (take i rows) (drop i rows) in omega (arith, a, b)
 
-kept_more : (x : ℕ) (rows : List (Vec ℕ Global)) (i : ℕ) (row : Vec ℕ Global) → i < length rows → row ≡ get_or rows i row → kept_by (take (i + 1) rows) x ≡ kept_by (take i rows) x + count_of x row.items
+kept_more : (x : ℕ) (rows : List (List ℕ)) (i : ℕ) (row : List ℕ) → i < length rows → row ≡ get_or rows i row → kept_by (take (i + 1) rows) x ≡ kept_by (take i rows) x + count_of x row
 kept_more x rows i row h e = let a = ap (λ rs. kept_by rs x) (take_more rows i row h ∙ ap (λ z. take i rows ++ z ∷ []) (sym e)) in let b = kept-append x (take i rows) (row ∷ []) in omega (arith, a, b)
 
-pub row_counted : (old a b : List ℕ) (rows : List (Vec ℕ Global)) (i : ℕ) (row : Vec ℕ Global) → i < length rows → row ≡ get_or rows i row → CountsItems (kept_by (take i rows)) old a → CountsItems (λ x. count_of x row.items) a b → CountsItems (kept_by (take (i + 1) rows)) old b
+pub row_counted : (old a b : List ℕ) (rows : List (List ℕ)) (i : ℕ) (row : List ℕ) → i < length rows → row ≡ get_or rows i row → CountsItems (kept_by (take i rows)) old a → CountsItems (λ x. count_of x row) a b → CountsItems (kept_by (take (i + 1) rows)) old b
 row_counted old a b rows i row h e s t = record {
   len = t.len ∙ s.len;
   counts = λ x. let m = kept_more x rows i row h e in let c = s.counts x in let d = t.counts x in omega (arith, m, c, d);
 }
 
-pub row_fits : (limit : ℕ) (old a : List ℕ) (rows : List (Vec ℕ Global)) (i : ℕ) (row : Vec ℕ Global) → i < length rows → row ≡ get_or rows i row → ((x : ℕ) → get_or old x 0 + kept_by rows x < limit) → CountsItems (kept_by (take i rows)) old a → (x : ℕ) → get_or a x 0 + count_of x row.items < limit
+pub row_fits : (limit : ℕ) (old a : List ℕ) (rows : List (List ℕ)) (i : ℕ) (row : List ℕ) → i < length rows → row ≡ get_or rows i row → ((x : ℕ) → get_or old x 0 + kept_by rows x < limit) → CountsItems (kept_by (take i rows)) old a → (x : ℕ) → get_or a x 0 + count_of x row < limit
 row_fits limit old a rows i row h e f s x =
     let m = kept_more x rows i row h e in let c = s.counts x in let t = kept_take x (i + 1) rows in let l = f x in omega (arith, m, c, t, l)
 
 -- rows that have each number once keep none more often than there are rows
-pub kept_most : (rows : List (Vec ℕ Global)) (x : ℕ) → ((k : ℕ) → count_of x (successors rows k) ≤ 1) → kept_by rows x ≤ length rows
+pub kept_most : (rows : List (List ℕ)) (x : ℕ) → ((k : ℕ) → count_of x (row_at rows k) ≤ 1) → kept_by rows x ≤ length rows
 kept_most [] x f = omega arith
 kept_most (row ∷ rows) x f = let a = f 0 in let b = kept_most rows x (λ k. f (suc k)) in omega (arith, a, b)
 
@@ -88,5 +86,5 @@ first_most [] vs x = arguments_most vs x
 first_most (c ∷ cs) vs zero = held_most c.may_go
 first_most (c ∷ cs) vs (suc x) = first_most cs vs x
 
-pub uses_fit : (p : DeadProblem) (limit : ℕ) (rows : List (Vec ℕ Global)) → length rows + 1 < limit → ((k x : ℕ) → count_of x (successors rows k) ≤ 1) → (x : ℕ) → get_or (first_uses p) x 0 + kept_by rows x < limit
+pub uses_fit : (p : DeadProblem) (limit : ℕ) (rows : List (List ℕ)) → length rows + 1 < limit → ((k x : ℕ) → count_of x (row_at rows k) ≤ 1) → (x : ℕ) → get_or (first_uses p) x 0 + kept_by rows x < limit
 uses_fit p limit rows h f x = let a = kept_most rows x (λ k. f k x) in let b = first_most p.operations.items p.arguments.items x in omega (arith, a, b, h)

@@ -18,37 +18,34 @@ use Rattle.opt_solvers.specs.declared.dead_places.Place.{Place}
 use Rattle.opt_solvers.specs.Dead.{Item, Whole, Slot, IsIn, itself, further, IsDead, dies, IsExcused, by_operation, by_argument, IsDeadProblem}
 use Rattle.opt_solvers.specs.DeadPlaces.{operand_place, kept_place, IsPlace, around_of, around_operation, slot, items, Keeps, AreKept}
 use Rattle.opt_solvers.specs.DeadRows.{slot_of, Excuses, AreExcused, AreInner}
+use Rattle.opt_solvers.specs.NumberRows.{row_at}
 use Rattle.opt_solvers.specs.DeadUses.{held_operation, held_argument, first_uses, kept_by, CountsItems}
 use Rattle.opt_solvers.specs.DeadRelease.{IsStarted, keeping, IsCounted, ExcusesAll}
 use Rattle.opt_solvers.specs.DeadItems.{AreMarked, AreDead}
+use Rattle.opt_solvers.proofs.DeadLists.{below_or_at}
 use Rattle.opt_solvers.proofs.DeadPlacing.{default, same_operand, same_kept}
 use Rattle.opt_solvers.proofs.DeadCrossing.{around_there, around_number, in_more}
 use Rattle.opt_solvers.proofs.DeadKeeping.{known}
 use Rattle.opt_solvers.proofs.DeadReleasing.{keeping_zero, none_keeping}
 use Rattle.opt_solvers.proofs.DeadCases.{number, IsItem, item_within, may_item, may_unused, unused_may, counts_keeps, makes_keeps, keeps_counts, keeps_makes, dead_item, IsGone, IsExcusedPlace, excused_by}
 
-row_within : (rows : List (Vec ℕ Global)) (k x : ℕ) → Contains (successors rows k) x → k < length rows
+row_within : (rows : List (List ℕ)) (k x : ℕ) → Contains (row_at rows k) x → k < length rows
 row_within [] k x c = absurd (omega (arith, c.1))
 row_within (row ∷ rows) zero x c = omega arith
 row_within (row ∷ rows) (suc k) x c = let h = row_within rows k x c in omega (arith, h)
 
-keeping_all : (rows : List (Vec ℕ Global)) (n x : ℕ) → n ≡ length rows → keeping (replicate n false) rows x ≡ kept_by rows x
+keeping_all : (rows : List (List ℕ)) (n x : ℕ) → n ≡ length rows → keeping (replicate n false) rows x ≡ kept_by rows x
 keeping_all [] zero x e = refl
 keeping_all [] (suc n) x e = refl
 keeping_all (row ∷ rows) zero x e = absurd (omega (arith, e))
-keeping_all (row ∷ rows) (suc n) x e = ap (λ k. count_of x row.items + k) (keeping_all rows n x (omega (arith, e)))
+keeping_all (row ∷ rows) (suc n) x e = ap (λ k. count_of x row + k) (keeping_all rows n x (omega (arith, e)))
 
 none_marked : (n k : ℕ) → IsMarked (replicate n false) k → ⊥
 none_marked zero k m = none-some true m
 none_marked (suc n) zero m = let e = same_Some false true m in absurd (cc e)
 none_marked (suc n) (suc k) m = none_marked n k m
 
-below_or_at : (n x : ℕ) → (x < n) ⊎ ((v : ℕ) × (x ≡ n + v))
-below_or_at zero x = inr (x, omega arith)
-below_or_at (suc n) zero = inl (omega arith)
-below_or_at (suc n) (suc x) = ⊎_elim (λ h. inl (omega (arith, h))) (λ r. inr (r.0, (let e = r.1 in omega (arith, e)))) (below_or_at n x)
-
-module _ (p : DeadProblem) (places : List Place) (keeps excuses inner : List (Vec ℕ Global)) where
+module _ (p : DeadProblem) (places : List Place) (keeps excuses : List (List ℕ)) (inner : List (Vec ℕ Global)) where
   -- each item has a use for each place that keeps it and isn't excused, and excused places are so by the dead
   pub record IsSound (excused : List Bool) (uses : List ℕ) : Type 0 where
     pub places_len : length excused ≡ length keeps
@@ -57,7 +54,7 @@ module _ (p : DeadProblem) (places : List Place) (keeps excuses inner : List (Ve
 
   -- what a gone item excuses is excused, and what is inside it is gone
   pub record IsSettled (excused : List Bool) (work : Worklist) (x : ℕ) : Type 0 where
-    pub marked : (k : ℕ) → Contains (successors excuses x) k → IsMarked excused k
+    pub marked : (k : ℕ) → Contains (row_at excuses x) k → IsMarked excused k
     pub inside : (i : ℕ) → Contains (successors inner x) i → Has work i
 
   pub record IsDying (excused : List Bool) (uses : List ℕ) (work : Worklist) : Type 0 where
@@ -69,8 +66,8 @@ module _ (p : DeadProblem) (places : List Place) (keeps excuses inner : List (Ve
     pub closed : (x : ℕ) → Has work x → Waits work x ⊎ IsSettled excused work x
 
   -- the row of an item that is taken is there
-  pub row_there : (excused : List Bool) (uses : List ℕ) (t u : Worklist) (x : ℕ) (rows : List (Vec ℕ Global)) → IsDying excused uses t → Takes t u x → length rows ≡ items p → x < length rows
-  row_there excused uses t u x rows s k l = let h = k.in_range in let m = s.counted.marks in let n = s.len in omega (arith, h, m, n, l)
+  pub row_there : (excused : List Bool) (uses : List ℕ) (t u : Worklist) (x many : ℕ) → IsDying excused uses t → Takes t u x → many ≡ items p → x < many
+  row_there excused uses t u x many s k l = let h = k.in_range in let m = s.counted.marks in let n = s.len in omega (arith, h, m, n, l)
 
   -- the places, and row by row what they keep, what items excuse and what is in them
   pub record AreTables : Type 0 where
@@ -95,13 +92,13 @@ module _ (p : DeadProblem) (places : List Place) (keeps excuses inner : List (Ve
     is_place q h = let c = (tables.placed q).1 h in (c.0, slice_get-get_or places c.0 q c.1 ∙ ap Some c.2)
 
     -- what a row has, the place keeps
-    row_of : (k x : ℕ) → Contains (successors keeps k) x → (q : Place) × (slice_get places k ≡ Some q) × Keeps p q x
+    row_of : (k x : ℕ) → Contains (row_at keeps k) x → (q : Place) × (slice_get places k ≡ Some q) × Keeps p q x
     row_of k x c =
         let h : k < length places = (let l = row_within keeps k x c in let e = tables.kept.len in omega (arith, l, e)) in
         let t = slice_get-get_or places k default h in
         (get_or places k default, t, ((tables.kept.row k (get_or places k default) t).exact x).0 c)
 
-    row_has : (k x : ℕ) (q : Place) → slice_get places k ≡ Some q → Keeps p q x → Contains (successors keeps k) x
+    row_has : (k x : ℕ) (q : Place) → slice_get places k ≡ Some q → Keeps p q x → Contains (row_at keeps k) x
     row_has k x q t h = ((tables.kept.row k q t).exact x).1 h
 
     -- an item without uses is dead
@@ -124,19 +121,19 @@ module _ (p : DeadProblem) (places : List Place) (keeps excuses inner : List (Ve
     first_len : length (first_uses p) ≡ items p
     first_len = let a = length-append (map held_operation p.operations.items) (map held_argument p.arguments.items) in let b = length-map p.operations.items held_operation in let c = length-map p.arguments.items held_argument in omega (arith, a, b, c)
 
-    rows_within : (k x : ℕ) → Contains (successors keeps k) x → x < items p
+    rows_within : (k x : ℕ) → Contains (row_at keeps k) x → x < items p
     rows_within k x c = let r = row_of k x c in (tables.kept.row k r.0 r.1).within x c
 
-    pub rows_first : (k x : ℕ) → Contains (successors keeps k) x → x < length (first_uses p)
+    pub rows_first : (k x : ℕ) → Contains (row_at keeps k) x → x < length (first_uses p)
     rows_first k x c = let h = rows_within k x c in let l = first_len in omega (arith, h, l)
 
-    pub rows_once : (k x : ℕ) → count_of x (successors keeps k) ≤ 1
+    pub rows_once : (k x : ℕ) → count_of x (row_at keeps k) ≤ 1
     rows_once k x = ⊎_elim
         (λ h. let l : k < length places = (let e = tables.kept.len in omega (arith, h, e)) in (tables.kept.row k (get_or places k default) (slice_get-get_or places k default l)).once x)
         (λ (v, e). let z = ap (count_of x) (past keeps k (omega (arith, e))) in omega (arith, z))
         (below_or_at (length keeps) k)
       where
-        past : (rows : List (Vec ℕ Global)) (k : ℕ) → length rows ≤ k → successors rows k ≡ []
+        past : (rows : List (List ℕ)) (k : ℕ) → length rows ≤ k → row_at rows k ≡ []
         past [] k h = refl
         past (row ∷ rows) zero h = absurd (omega (arith, h))
         past (row ∷ rows) (suc k) h = past rows k (omega (arith, h))
@@ -168,14 +165,14 @@ module _ (p : DeadProblem) (places : List Place) (keeps excuses inner : List (Ve
         sound : IsSound excused uses
         sound = record { places_len = places_len; counts = counts; by_dead = λ k q m t. absurd (none_marked n k (subst (λ bs. IsMarked bs k) e m)) }
 
-    pub places_within : (x : ℕ) (xs : List ℕ) → successors excuses x ≡ xs → (i : ℕ) (d : ℕ) → i < length xs → get_or xs i d < length keeps
+    pub places_within : (x : ℕ) (xs : List ℕ) → row_at excuses x ≡ xs → (i : ℕ) (d : ℕ) → i < length xs → get_or xs i d < length keeps
     places_within x xs e i d h = let r = (tables.excused.exact x (get_or xs i d)).0 (subst (λ ys. Contains ys (get_or xs i d)) (sym e) (Contains-get_or xs i d h)) in let w = slice_get_within places (get_or xs i d) r.0 r.1 in let l = tables.kept.len in omega (arith, w, l)
 
     pub inside_within : (x : ℕ) (xs : List ℕ) (n : ℕ) → successors inner x ≡ xs → n ≡ items p → (i : ℕ) (d : ℕ) → i < length xs → get_or xs i d < n
     inside_within x xs n e l i d h = let r = around_there p (get_or xs i d) x ((tables.nested.exact x (get_or xs i d)).0 (subst (λ ys. Contains ys (get_or xs i d)) (sym e) (Contains-get_or xs i d h))) in let w = slice_get_within p.operations.items (get_or xs i d) r.0 r.1 in omega (arith, w, l)
 
     -- one gone item is dealt with
-    pub dying_goes_on : (excused more : List Bool) (uses new : List ℕ) (t u v w : Worklist) (x : ℕ) → IsDying excused uses t → Takes t u x → u.marked ≡ t.marked → ExcusesAll keeps (successors excuses x) excused more uses new u v → Adds v w (successors inner x) → IsDying more new w
+    pub dying_goes_on : (excused more : List Bool) (uses new : List ℕ) (t u v w : Worklist) (x : ℕ) → IsDying excused uses t → Takes t u x → u.marked ≡ t.marked → ExcusesAll keeps (row_at excuses x) excused more uses new u v → Adds v w (successors inner x) → IsDying more new w
     dying_goes_on excused more uses new t u v w x s k e a b = record {
       counted = record {
         places = a.counted.places;
@@ -211,7 +208,7 @@ module _ (p : DeadProblem) (places : List Place) (keeps excuses inner : List (Ve
         there : (y : ℕ) → Has u y → Has t y
         there y h = subst (λ (m : Vec Bool Global). IsMarked m.items y) e h
 
-        excuse : (j : ℕ) (q : Place) → slice_get places j ≡ Some q → Contains (successors excuses x) j → IsExcusedPlace p q
+        excuse : (j : ℕ) (q : Place) → slice_get places j ≡ Some q → Contains (row_at excuses x) j → IsExcusedPlace p q
         excuse j q n c = let r = (tables.excused.exact x j).0 c in excused_by p ok q x (place_is j q n) (subst (λ z. Excuses p z x) (same_Some r.0 q (sym r.1 ∙ n)) r.2) (s.gone x k.has)
 
         sound : IsSound more new

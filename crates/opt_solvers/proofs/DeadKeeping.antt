@@ -1,12 +1,10 @@
 -- The items that a place keeps.
 use Rattle.std.proofs.Common.{◌≡◌, inl, inr, ⊎_elim, ℕ, ◌+◌, ◌<◌, ◌≤◌, List, [], ◌∷◌, ◌++◌, Option, None, Some, length, get_or, refl, sym, ap, ◌∙◌, subst, arith}
 use Rattle.std.specs.Prelude.{Contains, slice_get, option_to_list, ◌↔◌}
-use Rattle.std.specs.declared.vec.Vec.{Vec}
-use Rattle.std.specs.declared.alloc.Global.{Global}
 use Rattle.std.proofs.lemmas.Option.{same_Some, none-some, slice_get_within, slice_get_read}
 use Rattle.std.proofs.lemmas.List.{length-append}
 use Rattle.digraph.specs.Counts.{count_of}
-use Rattle.digraph.specs.Graph.{successors, row_items}
+use Rattle.opt_solvers.specs.NumberRows.{row_at, numbers_of}
 use Rattle.digraph.proofs.Counting.{one_bound}
 use Rattle.digraph.proofs.Marking.{only_one}
 use Rattle.opt_solvers.specs.declared.dead_problem.Definer.{Definer}
@@ -101,24 +99,24 @@ module _ (p : DeadProblem) where
         )
 
   -- the rows of the first k places
-  pub record AreKeeping (places : List Place) (k : ℕ) (rows : List (Vec ℕ Global)) : Type 0 where
+  pub record AreKeeping (places : List Place) (k : ℕ) (rows : List (List ℕ)) : Type 0 where
     pub len : length rows ≡ k
-    pub row : (i : ℕ) (q : Place) → i < k → slice_get places i ≡ Some q → KeepsRow p q (successors rows i)
+    pub row : (i : ℕ) (q : Place) → i < k → slice_get places i ≡ Some q → KeepsRow p q (row_at rows i)
 
-  pub keeping_begins : (places : List Place) (rows : List (Vec ℕ Global)) → rows ≡ [] → AreKeeping places 0 rows
+  pub keeping_begins : (places : List Place) (rows : List (List ℕ)) → rows ≡ [] → AreKeeping places 0 rows
   keeping_begins places rows e = record { len = ap length e; row = λ i q h. absurd (omega (arith, h)) }
 
-  pub keeping_goes_on : (places : List Place) (k : ℕ) (rows new : List (Vec ℕ Global)) (q : Place) (row : Vec ℕ Global) → slice_get places k ≡ Some q → KeepsRow p q row.items → new ≡ rows ++ row ∷ [] → AreKeeping places k rows → AreKeeping places (k + 1) new
+  pub keeping_goes_on : (places : List Place) (k : ℕ) (rows new : List (List ℕ)) (q : Place) (row : List ℕ) → slice_get places k ≡ Some q → KeepsRow p q row → new ≡ rows ++ row ∷ [] → AreKeeping places k rows → AreKeeping places (k + 1) new
   keeping_goes_on places k rows new q row t r e s = subst (AreKeeping places (k + 1)) (sym e) (record {
     len = let l = length-append rows (row ∷ []) in omega (arith, l, s.len);
     row = λ i z h u. ⊎_elim
-        (λ c. subst (λ xs. KeepsRow p z xs) (sym (ap row_items c.1)) (subst (λ y. KeepsRow p y row.items) (same_Some q z (sym (ap (slice_get places) (c.0 ∙ s.len) ∙ t) ∙ u)) r))
-        (λ c. subst (λ xs. KeepsRow p z xs) (sym (ap row_items c.1)) (s.row i z (below i h c.0) u))
+        (λ c. subst (λ xs. KeepsRow p z xs) (sym (ap numbers_of c.1)) (subst (λ y. KeepsRow p y row) (same_Some q z (sym (ap (slice_get places) (c.0 ∙ s.len) ∙ t) ∙ u)) r))
+        (λ c. subst (λ xs. KeepsRow p z xs) (sym (ap numbers_of c.1)) (s.row i z (below i h c.0) u))
         (get_pushed rows row i);
   })
     where
       below : (i : ℕ) → i < k + 1 → (i ≡ length rows → ⊥) → i < k
       below i h n = let l = s.len in grind (arith, l)
 
-  pub keeping_ends : (places : List Place) (k : ℕ) (rows : List (Vec ℕ Global)) → k ≡ length places → AreKeeping places k rows → AreKept p places rows
+  pub keeping_ends : (places : List Place) (k : ℕ) (rows : List (List ℕ)) → k ≡ length places → AreKeeping places k rows → AreKept p places rows
   keeping_ends places k rows e s = record { len = s.len ∙ e; row = λ i q u. s.row i q (let h = slice_get_within places i q u in omega (arith, h, e)) u }

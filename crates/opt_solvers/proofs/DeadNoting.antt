@@ -1,42 +1,31 @@
 -- Rows of what each item excuses, one number after the other.
-use Rattle.std.proofs.Common.{◌≡◌, ◌⊎◌, inl, inr, ⊎_elim, ℕ, ◌+◌, ◌<◌, List, [], ◌∷◌, ◌++◌, Option, None, Some, length, refl, sym, ◌∙◌, subst, arith}
+use Rattle.std.proofs.Common.{◌≡◌, ◌⊎◌, inl, inr, ⊎_elim, ℕ, zero, suc, ◌+◌, ◌<◌, List, [], ◌∷◌, ◌++◌, Option, None, Some, length, map, refl, sym, ap, ◌∙◌, subst, arith}
 use Rattle.std.proofs.Math.ListN.{set}
 use Rattle.std.specs.Prelude.{Contains, slice_get, option_to_list, ◌↔◌}
 use Rattle.std.specs.declared.vec.Vec.{Vec}
 use Rattle.std.specs.declared.alloc.Global.{Global}
-use Rattle.std.proofs.lemmas.List.Elements.{Contains-append_left, Contains-append_right, Contains-append_cases}
-use Rattle.std.proofs.lemmas.Option.{same_Some, none-some, slice_get_within}
+use Rattle.std.proofs.lemmas.Option.{same_Some, none-some, slice_get_within, get_or_from_slice_get}
+use Rattle.std.proofs.lemmas.List.{length-append, length-map}
 use Rattle.digraph.specs.Graph.{successors}
 use Rattle.digraph.specs.Transpose.{IsEmptyRows, AddsSource}
 use Rattle.digraph.proofs.Reversing.{source_next, no_source}
 use Rattle.opt_solvers.specs.declared.dead_problem.DeadProblem.{DeadProblem}
 use Rattle.opt_solvers.specs.declared.dead_places.Place.{Place}
 use Rattle.opt_solvers.specs.Dead.{IsDeadProblem}
-use Rattle.opt_solvers.specs.DeadPlaces.{IsPlace, items, slot, around_operation}
-use Rattle.opt_solvers.specs.DeadRows.{slot_of, Excuses, AreRows}
-use Rattle.opt_solvers.proofs.DeadLists.{none_in}
+use Rattle.opt_solvers.specs.DeadPlaces.{IsPlace, AreByUser, slot, around_operation}
+use Rattle.opt_solvers.specs.NumberRows.{row_at, numbers_of}
+use Rattle.opt_solvers.specs.DeadRows.{slot_of, AreRows, AreExcused, AreForwarded}
+use Rattle.opt_solvers.proofs.DeadLists.{none_in, below_or_at, get_front, get_behind}
 use Rattle.opt_solvers.proofs.DeadCrossing.{around_below, around_there}
 use Rattle.opt_solvers.proofs.DeadKeeping.{in_list, list_in, user_number}
 
 pub noted : (old : List (Vec ℕ Global)) (row number : ℕ) (new : Vec ℕ Global) → row < length old → new.items ≡ successors old row ++ number ∷ [] → AddsSource old (set old row new) number (row ∷ [])
 noted old row number new h e = source_next old old (set old row new) number (row ∷ []) 0 row new (omega arith) refl h e refl (no_source old number)
 
--- two rounds of noting a number are one
-pub noted_twice : (a b c : List (Vec ℕ Global)) (number : ℕ) (xs ys : List ℕ) → AddsSource a b number xs → AddsSource b c number ys → AddsSource a c number (xs ++ ys)
-noted_twice a b c number xs ys p q = record {
-  len = q.len ∙ p.len;
-  has = λ x h. ⊎_elim (λ h. q.keeps number x (p.has x h)) (λ h. q.has x h) (Contains-append_cases xs ys x h);
-  keeps = λ i x h. q.keeps i x (p.keeps i x h);
-  only = λ i x h. ⊎_elim
-      (λ h. ⊎_elim (λ h. inl h) (λ r. inr (r.0, Contains-append_left xs ys x r.1)) (p.only i x h))
-      (λ r. inr (r.0, Contains-append_right xs ys x r.1))
-      (q.only i x h);
-}
-
 module _ (From : ℕ → ℕ → Type 0) (count : ℕ) where
   -- the first k numbers are noted
   abbrev pub AreNoted : ℕ → List (Vec ℕ Global) → Type 0
-  AreNoted k rows = AreRows (λ i x. (i < k) × From i x) count rows
+  AreNoted k rows = AreRows (λ i x. (i < k) × From i x) count (length rows) (successors rows)
 
   pub noting_begins : (rows : List (Vec ℕ Global)) → IsEmptyRows rows count → AreNoted 0 rows
   noting_begins rows s = record {
@@ -59,25 +48,22 @@ module _ (From : ℕ → ℕ → Type 0) (count : ℕ) where
       below_or : (i : ℕ) → i < k + 1 → (i < k) ⊎ (i ≡ k)
       below_or i h = grind arith
 
-  pub noting_ends : (k : ℕ) (rows : List (Vec ℕ Global)) → ((i x : ℕ) → From i x → i < k) → AreNoted k rows → AreRows From count rows
+  pub noting_ends : (k : ℕ) (rows : List (Vec ℕ Global)) → ((i x : ℕ) → From i x → i < k) → AreNoted k rows → AreRows From count (length rows) (successors rows)
   noting_ends k rows f s = record { len = s.len; exact = λ x i. ((λ c. ((s.exact x i).0 c).1), (λ r. (s.exact x i).1 (f i x r, r))) }
 
 module _ (p : DeadProblem) where
-  -- the item excuses the place with this number
-  abbrev pub FromPlaces : List Place → ℕ → ℕ → Type 0
-  FromPlaces places k x = (q : Place) × (slice_get places k ≡ Some q) × Excuses p q x
+  -- the place with this number is forwarded to the argument
+  abbrev pub FromForwards : List Place → ℕ → ℕ → Type 0
+  FromForwards places k v = (q : Place) × (slice_get places k ≡ Some q) × (q.operand.argument ≡ Some v)
 
   -- the operation is directly in the item
   abbrev pub FromInside : ℕ → ℕ → Type 0
   FromInside i x = around_operation p i ≡ Some x
 
-  pub place_row : (places : List Place) (k : ℕ) (q : Place) (slot : Option ℕ) → slice_get places k ≡ Some q → slot ≡ slot_of p q.operand.argument → (x : ℕ) → Contains (option_to_list q.user ++ option_to_list slot) x ↔ FromPlaces places k x
-  place_row places k q slot t e x = (
-    (λ c. (q, t, ⊎_elim (λ c. inl (in_list q.user x c)) (λ c. inr (sym e ∙ in_list slot x c)) (Contains-append_cases (option_to_list q.user) (option_to_list slot) x c))),
-    (λ (z, w, m). ⊎_elim
-        (λ u. Contains-append_left (option_to_list q.user) (option_to_list slot) x (list_in q.user x u))
-        (λ u. Contains-append_right (option_to_list q.user) (option_to_list slot) x (list_in slot x (e ∙ u)))
-        (subst (λ y. Excuses p y x) (same_Some z q (sym w ∙ t)) m)),
+  pub forward_row : (places : List Place) (k : ℕ) (q : Place) → slice_get places k ≡ Some q → (v : ℕ) → Contains (option_to_list q.operand.argument) v ↔ FromForwards places k v
+  forward_row places k q t v = (
+    (λ c. (q, t, in_list q.operand.argument v c)),
+    (λ (z, w, m). list_in q.operand.argument v (subst (λ (y : Place). y.operand.argument ≡ Some v) (same_Some z q (sym w ∙ t)) m)),
   )
 
   pub inside_row : (k : ℕ) (around : Option ℕ) → around ≡ around_operation p k → (x : ℕ) → Contains (option_to_list around) x ↔ FromInside k x
@@ -88,18 +74,50 @@ module _ (p : DeadProblem) where
 
   module _ (ok : IsDeadProblem p) where
     -- the rows that are noted in are there
-    pub user_within : (q : Place) (rows : List (Vec ℕ Global)) → IsPlace p q → length rows ≡ items p → (r : ℕ) → q.user ≡ Some r → r < length rows
-    user_within q rows h l r e = let n = user_number p ok q h r e in omega (arith, n, l)
-
     pub argument_within : (q : Place) → IsPlace p q → (v : ℕ) → q.operand.argument ≡ Some v → v < length p.arguments.items
     argument_within q h v e = ⊎_elim (λ r. ok.forwarded r.0 v q.operand r.2 e) (λ r. absurd (none-some v (sym r.1 ∙ e))) h
 
-    pub slot_within : (q : Place) (rows : List (Vec ℕ Global)) (o : Option ℕ) → IsPlace p q → length rows ≡ items p → o ≡ slot_of p q.operand.argument → (r : ℕ) → o ≡ Some r → r < length rows
-    slot_within q rows o h l e r t = go q.operand.argument refl (sym e ∙ t)
-      where
-        go : (a : Option ℕ) → q.operand.argument ≡ a → slot_of p a ≡ Some r → r < length rows
-        go None w s = absurd (none-some r s)
-        go (Some v) w s = let n = argument_within q h v w in let z = same_Some (slot p v) r s in omega (arith, n, z, l)
+    pub forward_within : (q : Place) (rows : List (Vec ℕ Global)) → IsPlace p q → length rows ≡ length p.arguments.items → (v : ℕ) → q.operand.argument ≡ Some v → v < length rows
+    forward_within q rows h l v e = let n = argument_within q h v e in omega (arith, n, l)
 
-    pub around_within : (k : ℕ) (rows : List (Vec ℕ Global)) (o : Option ℕ) → k < length p.operations.items → length rows ≡ items p → o ≡ around_operation p k → (r : ℕ) → o ≡ Some r → r < length rows
+    pub around_within : (k : ℕ) (rows : List (Vec ℕ Global)) (o : Option ℕ) → k < length p.operations.items → length rows ≡ length p.operations.items → o ≡ around_operation p k → (r : ℕ) → o ≡ Some r → r < length rows
     around_within k rows o h l e r t = let b = around_below p ok k r (sym e ∙ t) in omega (arith, b, h, l)
+
+    -- the rows of operations, with those of arguments behind them, are of what items excuse
+    pub excused_joined : (places : List Place) (rows : List (List ℕ)) (forwarded : List (Vec ℕ Global)) → ((q : Place) → Contains places q → IsPlace p q) → AreByUser places (length p.operations.items) rows → AreForwarded p places forwarded
+        → AreExcused p places (rows ++ map (λ row. row.items) forwarded)
+    excused_joined places rows forwarded sound b f = record {
+      len = let l = length-append rows more in let m = length-map forwarded items_of in let n = b.len in let o = f.len in omega (arith, l, m, n, o);
+      exact = λ x k. ⊎_elim
+          (λ h. let l : x < length p.operations.items = (let n = b.len in omega (arith, h, n)) in let e = ap numbers_of (get_front rows more x h) in (
+            (λ c. let r = (b.exact x k l).0 (subst (λ xs. Contains xs k) e c) in (r.0, r.1, inl r.2)),
+            (λ (q, t, m). subst (λ xs. Contains xs k) (sym e) ((b.exact x k l).1 (q, t, ⊎_elim (λ u. u) (λ u. absurd (let s = slot_past q.operand.argument x u in let w = s.2 in omega (arith, l, w))) m))),
+          ))
+          (λ (v, w). let e = ap (λ n. row_at (rows ++ more) n) w ∙ ap numbers_of (get_behind rows more v) ∙ mapped_row forwarded v in (
+            (λ c. let r = (f.exact v k).0 (subst (λ xs. Contains xs k) e c) in (r.0, r.1, inr (ap (slot_of p) r.2 ∙ ap Some (let n = b.len in omega (arith, n, w))))),
+            (λ (q, t, m). subst (λ xs. Contains xs k) (sym e) ((f.exact v k).1 (
+              q,
+              t,
+              ⊎_elim
+                  (λ u. absurd (let n = user_number p ok q (sound q (k, slice_get_within places k q t, get_or_from_slice_get places k q q t)) x u in let l = b.len in omega (arith, n, l, w)))
+                  (λ u. let s = slot_past q.operand.argument x u in s.1 ∙ ap Some (let y = s.2 in let l = b.len in omega (arith, y, l, w)))
+                  m,
+            ))),
+          ))
+          (below_or_at (length rows) x);
+    }
+      where
+        items_of : Vec ℕ Global → List ℕ
+        items_of row = row.items
+
+        more : List (List ℕ)
+        more = map items_of forwarded
+
+        mapped_row : (rs : List (Vec ℕ Global)) (v : ℕ) → row_at (map items_of rs) v ≡ successors rs v
+        mapped_row [] v = refl
+        mapped_row (r ∷ rs) zero = refl
+        mapped_row (r ∷ rs) (suc v) = mapped_row rs v
+
+        slot_past : (o : Option ℕ) (x : ℕ) → slot_of p o ≡ Some x → (v : ℕ) × (o ≡ Some v) × (x ≡ length p.operations.items + v)
+        slot_past None x e = absurd (none-some x e)
+        slot_past (Some v) x e = (v, refl, sym (same_Some (slot p v) x e))

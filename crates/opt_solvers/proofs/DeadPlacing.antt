@@ -1,8 +1,9 @@
 -- The places of all operations, one after the other.
-use Rattle.std.proofs.Common.{◌≡◌, ◌⊎◌, inl, inr, ⊎_elim, ℕ, ◌+◌, ◌<◌, List, [], ◌++◌, Option, None, Some, length, sym, ap, ◌∙◌, subst, arith}
+use Rattle.std.proofs.Common.{◌≡◌, ◌⊎◌, inl, inr, ⊎_elim, ℕ, ◌+◌, ◌<◌, ◌≤◌, List, [], ◌∷◌, ◌++◌, get_or, Option, None, Some, length, sym, ap, ◌∙◌, subst, arith}
 use Rattle.std.specs.Prelude.{Contains, map, slice_get, ◌↔◌}
 use Rattle.std.proofs.lemmas.List.Elements.{Contains-append_left, Contains-append_right, Contains-append_cases}
-use Rattle.std.proofs.lemmas.Option.{same_Some, slice_get_within}
+use Rattle.std.proofs.lemmas.Option.{same_Some, none-some, slice_get_within, slice_get-get_or, get_or_from_slice_get}
+use Rattle.std.proofs.lemmas.List.{length-append}
 use Rattle.opt_solvers.specs.declared.dead_problem.Definer.{Definer}
 use Rattle.opt_solvers.specs.declared.dead_problem.Definer.TheVariants.{Result}
 use Rattle.opt_solvers.specs.declared.dead_problem.Operand.{Operand}
@@ -10,8 +11,10 @@ use Rattle.opt_solvers.specs.declared.dead_problem.Candidate.{Candidate}
 use Rattle.opt_solvers.specs.declared.dead_problem.DeadProblem.{DeadProblem}
 use Rattle.opt_solvers.specs.declared.dead_places.Place.{Place}
 use Rattle.opt_solvers.specs.Dead.{HasOperand}
-use Rattle.opt_solvers.specs.DeadPlaces.{operand_place, kept_place, IsPlace}
-use Rattle.opt_solvers.proofs.DeadLists.{none_in, map_from, map_into}
+use Rattle.opt_solvers.specs.DeadPlaces.{operand_place, kept_place, IsPlace, AreByUser}
+use Rattle.opt_solvers.specs.NumberRows.{row_at, numbers_of}
+use Rattle.opt_solvers.proofs.DeadLists.{none_in, map_from, map_into, get_front, old_or_new}
+use Rattle.opt_solvers.proofs.ChainsJoining.{get_pushed}
 
 -- what is read of a list of places past its end
 abbrev pub default : Place
@@ -73,3 +76,71 @@ module _ (p : DeadProblem) where
         (λ r. Contains-append_right places (map kept_place kept) q (subst (Contains (map kept_place kept)) (sym (same_kept q r.0 r.1)) (map_into kept_place kept q.operand.definer (subst (λ xs. Contains xs q.operand.definer) (sym o) r.2))))
         i)),
   )
+
+-- the numbers of the places of the first operations, row by row
+pub numbering_begins : (places : List Place) (rows : List (List ℕ)) → rows ≡ [] → AreByUser places 0 rows
+numbering_begins places rows e = record { len = ap length e; exact = λ x k h. absurd (omega (arith, h)) }
+
+pub numbering_goes_on : (p : DeadProblem) (k : ℕ) (places new : List Place) (operands : List Operand) (rows more : List (List ℕ)) (row : List ℕ) → new ≡ places ++ map (operand_place k) operands → ((j : ℕ) → Contains row j ↔ (length places ≤ j) × (j < length new))
+    → more ≡ rows ++ row ∷ [] → ArePlaced p k places → AreByUser places k rows → AreByUser new (k + 1) more
+numbering_goes_on p k places new operands rows more row e f g a b = record {
+  len = let l = length-append rows (row ∷ []) in let m = ap length g in let n = b.len in omega (arith, l, m, n);
+  exact = λ x j h. ⊎_elim
+      (λ c. ((λ m. last x j (c.0 ∙ b.len) (subst (λ xs. Contains xs j) (at_last x c.1) m)), (λ r. subst (λ xs. Contains xs j) (sym (at_last x c.1)) (back_last x j (c.0 ∙ b.len) r))))
+      (λ c. let l : x < k = (let n = b.len in let d = c.0 in grind (arith, n)) in (
+        (λ m. let r = (b.exact x j l).0 (subst (λ xs. Contains xs j) (at_front x c.1) m) in (r.0, stays j r.0 r.1, r.2)),
+        (λ r. subst (λ xs. Contains xs j) (sym (at_front x c.1)) ((b.exact x j l).1 (r.0, stood x j l r.0 r.1 r.2, r.2))),
+      ))
+      (get_pushed rows row x);
+}
+  where
+    at_last : (x : ℕ) → slice_get (rows ++ row ∷ []) x ≡ Some row → row_at more x ≡ row
+    at_last x q = ap (λ rs. row_at rs x) g ∙ ap numbers_of q
+
+    at_front : (x : ℕ) → slice_get (rows ++ row ∷ []) x ≡ slice_get rows x → row_at more x ≡ row_at rows x
+    at_front x q = ap (λ rs. row_at rs x) g ∙ ap numbers_of q
+
+    entry : (j : ℕ) (q : Place) → slice_get new j ≡ Some q → (slice_get places j ≡ Some q) ⊎ ((v : ℕ) × (j ≡ length places + v) × (o : Operand) × (q ≡ operand_place k o))
+    entry j q t = old_or_new (operand_place k) places operands j q (sym (ap (λ xs. slice_get xs j) e) ∙ t)
+
+    stays : (j : ℕ) (q : Place) → slice_get places j ≡ Some q → slice_get new j ≡ Some q
+    stays j q t = ap (λ xs. slice_get xs j) e ∙ get_front places (map (operand_place k) operands) j (slice_get_within places j q t) ∙ t
+
+    stood : (x j : ℕ) → x < k → (q : Place) → slice_get new j ≡ Some q → q.user ≡ Some x → slice_get places j ≡ Some q
+    stood x j l q t u = ⊎_elim
+        (λ o. o)
+        (λ (v, w, o, r). absurd (let s = same_Some x k (sym u ∙ ap (λ (z : Place). z.user) r) in omega (arith, l, s)))
+        (entry j q t)
+
+    last : (x j : ℕ) → x ≡ k → Contains row j → (q : Place) × (slice_get new j ≡ Some q) × (q.user ≡ Some x)
+    last x j w c =
+        let h = (f j).0 c in let q = get_or new j default in let t = slice_get-get_or new j default h.1 in (
+          q,
+          t,
+          ⊎_elim
+              (λ o. absurd (let l = slice_get_within places j q o in let m = h.0 in omega (arith, l, m)))
+              (λ (v, n, o, r). ap (λ (z : Place). z.user) r ∙ ap Some (sym w))
+              (entry j q t),
+        )
+
+    back_last : (x j : ℕ) → x ≡ k → (q : Place) × (slice_get new j ≡ Some q) × (q.user ≡ Some x) → Contains row j
+    back_last x j w (q, t, u) = ⊎_elim
+        (λ o. absurd (let r = a.sound q (j, slice_get_within places j q o, get_or_from_slice_get places j q q o) in let s = same_Some r.0 x (sym r.2 ∙ u) in let l = r.1 in omega (arith, s, l, w)))
+        (λ (v, n, o, r). (f j).1 (omega (arith, n), slice_get_within new j q t))
+        (entry j q t)
+
+pub numbering_ends : (places new : List Place) (kept : List Definer) (k n : ℕ) (rows : List (List ℕ)) → new ≡ places ++ map kept_place kept → k ≡ n → AreByUser places k rows → AreByUser new n rows
+numbering_ends places new kept k n rows e m b = record {
+  len = b.len ∙ m;
+  exact = λ x j h. let l : x < k = omega (arith, h, m) in (
+    (λ c. let r = (b.exact x j l).0 c in (r.0, ap (λ xs. slice_get xs j) e ∙ get_front places (map kept_place kept) j (slice_get_within places j r.0 r.1) ∙ r.1, r.2)),
+    (λ (q, t, u). (b.exact x j l).1 (
+      q,
+      ⊎_elim
+          (λ o. o)
+          (λ (v, w, d, r). absurd (none-some x (sym (ap (λ (z : Place). z.user) r) ∙ u)))
+          (old_or_new kept_place places kept j q (sym (ap (λ xs. slice_get xs j) e) ∙ t)),
+      u,
+    )),
+  );
+}

@@ -2,12 +2,10 @@
 use Rattle.std.proofs.Common.{◌≡◌, ◌⊎◌, inl, inr, ⊎_elim, ℕ, zero, suc, ◌+◌, ◌-◌, ◌<◌, List, [], ◌∷◌, ◌++◌, take, Bool, true, false, nat_eq, length, get_or, refl, sym, ap, ◌∙◌, subst, arith, eq-eqb}
 use Rattle.std.proofs.Math.ListN.{set}
 use Rattle.std.specs.Prelude.{Contains, if◌then◌else◌}
-use Rattle.std.specs.declared.vec.Vec.{Vec}
-use Rattle.std.specs.declared.alloc.Global.{Global}
 use Rattle.std.proofs.lemmas.List.{length-set, take_more}
 use Rattle.std.proofs.lemmas.List.Elements.{Contains-push, Contains-push_cases, Contains-append_left, Contains-append_right, Contains-append_cases, Contains-get_or}
 use Rattle.digraph.specs.Counts.{one, count_of}
-use Rattle.digraph.specs.Graph.{successors}
+use Rattle.opt_solvers.specs.NumberRows.{row_at}
 use Rattle.digraph.specs.Marks.{IsMarked}
 use Rattle.digraph.specs.Work.{Has, Waits, Adds, IsFresh}
 use Rattle.digraph.specs.declared.worklist.Worklist.{Worklist}
@@ -118,7 +116,7 @@ module _ (items old a : List ℕ) (u v : Worklist) (i x : ℕ) (h : i < length i
       here z = ⊎_elim (λ (p, r, k). r ∙ z) (λ (r, k). absurd (let o = ap one (eq-eqb x x refl) in omega (arith, o, k))) (at_place x)
 
 -- one place more is excused
-pub keeping_less : (bs : List Bool) (rows : List (Vec ℕ Global)) (k x : ℕ) → k < length bs → get_or bs k false ≡ false → keeping (set bs k true) rows x + count_of x (successors rows k) ≡ keeping bs rows x
+pub keeping_less : (bs : List Bool) (rows : List (List ℕ)) (k x : ℕ) → k < length bs → get_or bs k false ≡ false → keeping (set bs k true) rows x + count_of x (row_at rows k) ≡ keeping bs rows x
 keeping_less [] rows k x h e = absurd (omega (arith, h))
 keeping_less (b ∷ bs) [] zero x h e = refl
 keeping_less (b ∷ bs) [] (suc k) x h e = refl
@@ -126,32 +124,32 @@ keeping_less (true ∷ bs) (row ∷ rows) zero x h e = absurd (cc e)
 keeping_less (false ∷ bs) (row ∷ rows) zero x h e = omega arith
 keeping_less (b ∷ bs) (row ∷ rows) (suc k) x h e = let r = keeping_less bs rows k x (omega (arith, h)) e in omega (arith, r)
 
-pub keeping_zero : (bs : List Bool) (rows : List (Vec ℕ Global)) (k x : ℕ) → length bs ≡ length rows → keeping bs rows x ≡ 0 → Contains (successors rows k) x → IsMarked bs k
+pub keeping_zero : (bs : List Bool) (rows : List (List ℕ)) (k x : ℕ) → length bs ≡ length rows → keeping bs rows x ≡ 0 → Contains (row_at rows k) x → IsMarked bs k
 keeping_zero [] [] k x l z c = absurd (none_in x c)
 keeping_zero [] (row ∷ rows) k x l z c = absurd (omega (arith, l))
 keeping_zero (b ∷ bs) [] k x l z c = absurd (none_in x c)
 keeping_zero (true ∷ bs) (row ∷ rows) zero x l z c = refl
-keeping_zero (false ∷ bs) (row ∷ rows) zero x l z c = absurd (let n = counted x row.items c in omega (arith, n, z))
+keeping_zero (false ∷ bs) (row ∷ rows) zero x l z c = absurd (let n = counted x row c in omega (arith, n, z))
 keeping_zero (b ∷ bs) (row ∷ rows) (suc k) x l z c = keeping_zero bs rows k x (omega (arith, l)) (omega (arith, z)) c
 
-pub none_keeping : (bs : List Bool) (rows : List (Vec ℕ Global)) (x : ℕ) → length bs ≡ length rows → ((k : ℕ) → Contains (successors rows k) x → IsMarked bs k) → keeping bs rows x ≡ 0
+pub none_keeping : (bs : List Bool) (rows : List (List ℕ)) (x : ℕ) → length bs ≡ length rows → ((k : ℕ) → Contains (row_at rows k) x → IsMarked bs k) → keeping bs rows x ≡ 0
 none_keeping [] rows x l f = refl
 none_keeping (b ∷ bs) [] x l f = refl
 none_keeping (true ∷ bs) (row ∷ rows) x l f = let r = none_keeping bs rows x (omega (arith, l)) (λ k c. f (suc k) c) in omega (arith, r)
 none_keeping (false ∷ bs) (row ∷ rows) x l f = ⊎_elim
-    (λ n. absurd (let q = f 0 (contained x row.items n) in cc))
+    (λ n. absurd (let q = f 0 (contained x row n) in cc))
     (λ n. let r = none_keeping bs rows x (omega (arith, l)) (λ k c. f (suc k) c) in omega (arith, r, n))
-    (some_or_none (count_of x row.items))
+    (some_or_none (count_of x row))
 
-module _ (keeps : List (Vec ℕ Global)) (excused : List Bool) (old : List ℕ) (u : Worklist) (ok : IsCounted keeps excused old u) where
-  pub releasable : (k : ℕ) → k < length keeps → get_or excused k false ≡ false → IsReleasable (successors keeps k) old u
+module _ (keeps : List (List ℕ)) (excused : List Bool) (old : List ℕ) (u : Worklist) (ok : IsCounted keeps excused old u) where
+  pub releasable : (k : ℕ) → k < length keeps → get_or excused k false ≡ false → IsReleasable (row_at keeps k) old u
   releasable k h e = record {
     marks = ok.marks;
     within = ok.within k;
     enough = λ x. let l = ok.places in let q = keeping_less excused keeps k x (omega (arith, h, l)) e in let n = ok.enough x in omega (arith, q, n);
   }
 
-  pub place_excused : (k : ℕ) (new : List ℕ) (w : Worklist) → k < length keeps → get_or excused k false ≡ false → Releases (successors keeps k) old new u w → ExcusesAll keeps (k ∷ []) excused (set excused k true) old new u w
+  pub place_excused : (k : ℕ) (new : List ℕ) (w : Worklist) → k < length keeps → get_or excused k false ≡ false → Releases (row_at keeps k) old new u w → ExcusesAll keeps (k ∷ []) excused (set excused k true) old new u w
   place_excused k new w h e s = record {
     counted = record {
       places = length-set excused k true ∙ ok.places;
@@ -170,15 +168,15 @@ module _ (keeps : List (Vec ℕ Global)) (excused : List Bool) (old : List ℕ) 
     adds = s.adds;
     spent = λ x c. let z = s.spent x c in (z.0, (let l = ok.within k x z.1 in let b = s.len in omega (arith, l, b)));
     all = λ x z. ⊎_elim
-        (λ n. inr (s.all x (contained x (successors keeps k) n) z))
+        (λ n. inr (s.all x (contained x (row_at keeps k) n) z))
         (λ n. inl (let c = s.counts x in omega (arith, c, z, n)))
-        (some_or_none (count_of x (successors keeps k)));
+        (some_or_none (count_of x (row_at keeps k)));
   }
     where
       here : k < length excused
       here = let l = ok.places in omega (arith, h, l)
 
-      less : (x : ℕ) → keeping (set excused k true) keeps x + count_of x (successors keeps k) ≡ keeping excused keeps x
+      less : (x : ℕ) → keeping (set excused k true) keeps x + count_of x (row_at keeps k) ≡ keeping excused keeps x
       less x = keeping_less excused keeps k x here e
 
   -- the places were excused already
@@ -195,7 +193,7 @@ module _ (keeps : List (Vec ℕ Global)) (excused : List Bool) (old : List ℕ) 
     all = λ x z. inl z;
   }
 
-pub places_excused : (keeps : List (Vec ℕ Global)) (ks : List ℕ) (i k : ℕ) (p q r : List Bool) (a b c : List ℕ) (u v w : Worklist) → i < length ks → k ≡ get_or ks i k
+pub places_excused : (keeps : List (List ℕ)) (ks : List ℕ) (i k : ℕ) (p q r : List Bool) (a b c : List ℕ) (u v w : Worklist) → i < length ks → k ≡ get_or ks i k
     → ExcusesAll keeps (take i ks) p q a b u v → ExcusesAll keeps (k ∷ []) q r b c v w → ExcusesAll keeps (take (i + 1) ks) p r a c u w
 places_excused keeps ks i k p q r a b c u v w h e s t = subst (λ xs. ExcusesAll keeps xs p r a c u w) (sym (take_more ks i k h ∙ ap (λ z. take i ks ++ z ∷ []) (sym e))) (record {
   counted = t.counted;

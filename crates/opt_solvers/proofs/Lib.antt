@@ -10,6 +10,7 @@ pub mod FactsStepping
 pub mod FactsBeginning
 pub mod ChainsJoining
 pub mod ChainsFollowing
+pub mod NumberRows
 pub mod DeadLists
 pub mod DeadPlacing
 pub mod DeadCrossing

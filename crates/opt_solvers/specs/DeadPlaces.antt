@@ -1,8 +1,5 @@
 -- The uses of values, and the items that each of them keeps.
 use Rattle.std.specs.Prelude.{◌≡◌, ◌⊎◌, ◌<◌, ◌≤◌, ◌+◌, ℕ, List, length, Option, Some, None, slice_get, Contains, ◌↔◌}
-use Rattle.std.specs.declared.vec.Vec.{Vec}
-use Rattle.std.specs.declared.alloc.Global.{Global}
-use Rattle.digraph.specs.Graph.{successors}
 use Rattle.digraph.specs.Counts.{count_of}
 use Rattle.opt_solvers.specs.declared.dead_problem.Definer.{Definer}
 use Rattle.opt_solvers.specs.declared.dead_problem.Definer.TheVariants.{Result, Argument as ByArgument, Outside}
@@ -11,6 +8,7 @@ use Rattle.opt_solvers.specs.declared.dead_problem.Candidate.{Candidate}
 use Rattle.opt_solvers.specs.declared.dead_problem.Argument.{Argument}
 use Rattle.opt_solvers.specs.declared.dead_problem.DeadProblem.{DeadProblem}
 use Rattle.opt_solvers.specs.declared.dead_places.Place.{Place}
+use Rattle.opt_solvers.specs.NumberRows.{row_at}
 use Rattle.opt_solvers.specs.Dead.{HasOperand, IsIn}
 
 -- the place of an operand
@@ -119,6 +117,11 @@ pub record Crosses (p : DeadProblem) (inner outer : Option ℕ) (old new : List 
   pub once : (x : ℕ) → count_of x new ≤ 1
 
 -- row by row, the items that each place keeps
-pub record AreKept (p : DeadProblem) (places : List Place) (rows : List (Vec ℕ Global)) : Type 0 where
+pub record AreKept (p : DeadProblem) (places : List Place) (rows : List (List ℕ)) : Type 0 where
   pub len : length rows ≡ length places
-  pub row : (k : ℕ) (q : Place) → slice_get places k ≡ Some q → KeepsRow p q (successors rows k)
+  pub row : (k : ℕ) (q : Place) → slice_get places k ≡ Some q → KeepsRow p q (row_at rows k)
+
+-- row by row, the numbers of the places of each of so many operations
+pub record AreByUser (places : List Place) (count : ℕ) (rows : List (List ℕ)) : Type 0 where
+  pub len : length rows ≡ count
+  pub exact : (x k : ℕ) → x < count → Contains (row_at rows x) k ↔ (q : Place) × (slice_get places k ≡ Some q) × (q.user ≡ Some x)

@@ -1,9 +1,7 @@
 -- Counts of uses while places are excused, and the items that die by it.
 use Rattle.std.specs.Prelude.{◌≡◌, ◌⊎◌, ◌<◌, ◌≤◌, ◌+◌, ℕ, Bool, List, [], ◌∷◌, length, nat_eq, if◌then◌else◌, slice_index, Contains, ◌↔◌}
-use Rattle.std.specs.declared.vec.Vec.{Vec}
-use Rattle.std.specs.declared.alloc.Global.{Global}
 use Rattle.digraph.specs.Counts.{count_of}
-use Rattle.digraph.specs.Graph.{successors}
+use Rattle.opt_solvers.specs.NumberRows.{row_at}
 use Rattle.digraph.specs.Marks.{IsMarked}
 use Rattle.digraph.specs.Work.{Has, Waits, Adds}
 use Rattle.digraph.specs.declared.worklist.Worklist.{Worklist}
@@ -36,20 +34,20 @@ pub record Releases (items old new : List ℕ) (before after : Worklist) : Type 
   pub all : (x : ℕ) → Contains items x → slice_index new x ≡ 0 → Contains added x
 
 -- how often the rows of places that aren't excused have a number
-abbrev pub keeping : List Bool → List (Vec ℕ Global) → ℕ → ℕ
+abbrev pub keeping : List Bool → List (List ℕ) → ℕ → ℕ
 keeping [] rows x = 0
 keeping (b ∷ bs) [] x = 0
-keeping (b ∷ bs) (row ∷ rows) x = (if b then 0 else count_of x row.items) + keeping bs rows x
+keeping (b ∷ bs) (row ∷ rows) x = (if b then 0 else count_of x row) + keeping bs rows x
 
 -- each item has a use for each place that keeps it and isn't excused
-pub record IsCounted (keeps : List (Vec ℕ Global)) (excused : List Bool) (uses : List ℕ) (work : Worklist) : Type 0 where
+pub record IsCounted (keeps : List (List ℕ)) (excused : List Bool) (uses : List ℕ) (work : Worklist) : Type 0 where
   pub places : length excused ≡ length keeps
   pub marks : length work.marked.items ≡ length uses
-  pub within : (k x : ℕ) → Contains (successors keeps k) x → x < length uses
+  pub within : (k x : ℕ) → Contains (row_at keeps k) x → x < length uses
   pub enough : (x : ℕ) → keeping excused keeps x ≤ slice_index uses x
 
 -- some places more are excused, the items that they keep lose their uses, and those without uses are added to the work
-pub record ExcusesAll (keeps : List (Vec ℕ Global)) (places : List ℕ) (excused more : List Bool) (old new : List ℕ) (before after : Worklist) : Type 0 where
+pub record ExcusesAll (keeps : List (List ℕ)) (places : List ℕ) (excused more : List Bool) (old new : List ℕ) (before after : Worklist) : Type 0 where
   pub counted : IsCounted keeps more new after
   pub len : length new ≡ length old
   pub marked : (k : ℕ) → IsMarked more k ↔ IsMarked excused k ⊎ Contains places k
@@ -61,8 +59,8 @@ pub record ExcusesAll (keeps : List (Vec ℕ Global)) (places : List ℕ) (excus
   pub all : (x : ℕ) → slice_index new x ≡ 0 → (slice_index old x ≡ 0) ⊎ Contains added x
 
 -- the same of the counts in one struct
-abbrev pub AreCounts : List (Vec ℕ Global) → Counts → Type 0
+abbrev pub AreCounts : List (List ℕ) → Counts → Type 0
 AreCounts keeps c = IsCounted keeps c.excused.items c.uses.items c.work
 
-abbrev pub ExcusesMore : List (Vec ℕ Global) → List ℕ → Counts → Counts → Type 0
+abbrev pub ExcusesMore : List (List ℕ) → List ℕ → Counts → Counts → Type 0
 ExcusesMore keeps places a b = ExcusesAll keeps places a.excused.items b.excused.items a.uses.items b.uses.items a.work b.work

@@ -1,7 +1,5 @@
 -- How many uses keep each item.
 use Rattle.std.specs.Prelude.{◌≡◌, ℕ, ◌+◌, ◌++◌, Bool, true, false, List, [], ◌∷◌, length, map, slice_index}
-use Rattle.std.specs.declared.vec.Vec.{Vec}
-use Rattle.std.specs.declared.alloc.Global.{Global}
 use Rattle.digraph.specs.Counts.{count_of}
 use Rattle.opt_solvers.specs.declared.dead_problem.Candidate.{Candidate}
 use Rattle.opt_solvers.specs.declared.dead_problem.Argument.{Argument}
@@ -22,9 +20,9 @@ abbrev pub first_uses : DeadProblem → List ℕ
 first_uses p = map held_operation p.operations.items ++ map held_argument p.arguments.items
 
 -- how often a number is in some rows
-abbrev pub kept_by : List (Vec ℕ Global) → ℕ → ℕ
+abbrev pub kept_by : List (List ℕ) → ℕ → ℕ
 kept_by [] x = 0
-kept_by (row ∷ rows) x = count_of x row.items + kept_by rows x
+kept_by (row ∷ rows) x = count_of x row + kept_by rows x
 
 -- each number is counted so many times more
 pub record CountsItems (more : ℕ → ℕ) (old new : List ℕ) : Type 0 where

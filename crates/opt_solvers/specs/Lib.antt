@@ -9,6 +9,7 @@ pub mod Dead
 pub mod Chains
 pub mod ChainsJoined
 pub mod ChainsFollowed
+pub mod NumberRows
 pub mod DeadPlaces
 pub mod DeadRows
 pub mod DeadUses

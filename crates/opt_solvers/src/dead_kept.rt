@@ -6,6 +6,7 @@ ghost use Rattle.opt_solvers.specs.declared.dead_places.Place.{Place};
 
 use crate::dead_places::Place;
 use crate::dead_problem::{DeadProblem, Definer};
+use crate::number_rows::NumberRows;
 use std::alloc::{AllocError, Global};
 
 /// The number of the item that makes a value: that of the operation, or of the argument, which come behind all
@@ -87,30 +88,30 @@ fn push_crossed(
     Ok(())
 }
 
-/// A row with an item, if there is one.
-fn row_of(alloc: Global, item: Option<usize>) -> Result<Vec<usize>, AllocError>
-    ensures { IfOk result (λ row. row.items ≡ option_to_list item) }
+/// Begins a row anew, with an item, if there is one.
+fn begin_row(row: &mut Vec<usize>, item: Option<usize>) -> Result<(), AllocError>
+    ensures { OnOk result (row.new.items ≡ option_to_list item) }
 {
-    let mut row = Vec::new(alloc);
+    row.clear();
     if let Some(item) = item {
         row.push(item)?;
     }
-    Ok(row)
+    Ok(())
 }
 
-/// The items that a use keeps: the one that makes the value, and the operations around this that are not around the
-/// user.
-fn kept_items(alloc: Global, problem: &DeadProblem, place: &Place) -> Result<Vec<usize>, AllocError>
+/// Makes a row of the items that a use keeps: the one that makes the value, and the operations around this that are
+/// not around the user.
+fn keep_items(problem: &DeadProblem, place: &Place, row: &mut Vec<usize>) -> Result<(), AllocError>
     requires problem { IsDeadProblem problem.now }
     requires place { IsPlace problem.now place.now }
-    ensures { IfOk result (λ row. KeepsRow problem.now place.now row.items) }
+    ensures { OnOk result (KeepsRow problem.now place.now row.new.items) }
 {
     let definer = place.operand.definer;
-    let mut kept = row_of(alloc, maker(problem, definer))?;
+    begin_row(row, maker(problem, definer))?;
     let inner = around_definer(problem, definer);
     let outer = around_user(problem, place.user);
-    push_crossed(problem, &mut kept, inner, outer)?;
-    Ok(kept)
+    push_crossed(problem, row, inner, outer)?;
+    Ok(())
 }
 
 /// The items that each place keeps, in the order of the places.
@@ -121,14 +122,17 @@ pub fn kept_rows(
     alloc: Global,
     problem: &DeadProblem,
     places: &[Place],
-) -> Result<Vec<Vec<usize>>, AllocError>
+) -> Result<NumberRows, AllocError>
     requires problem { IsDeadProblem problem.now }
     requires places { (q : Place) → Contains places.now q → IsPlace problem.now q }
-    ensures { IfOk result (λ rows. AreKept problem.now places.now rows.items) }
+    ensures { IfOk result (λ rows. AreKept problem.now places.now rows) }
 {
-    let mut rows = Vec::new(alloc);
+    // Most places keep one item.
+    let mut rows = NumberRows::with_capacity(alloc, places.len(), places.len())?;
+    let mut row = Vec::new(alloc);
     for place in places {
-        rows.push(kept_items(alloc, problem, place)?)?;
+        keep_items(problem, place, &mut row)?;
+        rows.push_row(&row)?;
     }
     Ok(rows)
 }

@@ -3,6 +3,7 @@ ghost use Rattle.std.specs.Prelude.{◌≡◌, ◌<◌, ◌-◌, ◌∷◌, [], 
 ghost use Rattle.digraph.specs.Work.{Adds};
 ghost use Rattle.opt_solvers.specs.DeadRelease.{newly, IsStarted, IsReleasable, Releases, AreCounts, ExcusesMore};
 
+use crate::number_rows::NumberRows;
 use digraph::Worklist;
 use std::alloc::{AllocError, Global};
 
@@ -71,14 +72,14 @@ fn release_all(
 }
 
 /// A place keeps nothing any more.
-fn excuse(keeps: &[Vec<usize>], counts: &mut Counts, place: usize) -> Result<(), AllocError>
+fn excuse(keeps: &NumberRows, counts: &mut Counts, place: usize) -> Result<(), AllocError>
     requires counts { AreCounts keeps.now counts.old }
     requires place { place < length keeps.now }
     ensures { OnOk result (ExcusesMore keeps.now (place ∷ []) counts.old counts.new) }
 {
     if !counts.excused[place] {
         counts.excused[place] = true;
-        release_all(&mut counts.uses, &mut counts.work, &keeps[place])?;
+        release_all(&mut counts.uses, &mut counts.work, keeps.row(place))?;
     }
     Ok(())
 }
@@ -88,7 +89,7 @@ fn excuse(keeps: &[Vec<usize>], counts: &mut Counts, place: usize) -> Result<(),
 /// # Errors
 /// There may be no memory.
 pub fn excuse_all(
-    keeps: &[Vec<usize>],
+    keeps: &NumberRows,
     counts: &mut Counts,
     places: &[usize],
 ) -> Result<(), AllocError>

@@ -1,13 +1,14 @@
 //! What each item excuses once it goes: places, and what is inside it.
-ghost use Rattle.std.specs.Prelude.{ℕ, ◌≡◌, ◌<◌, IfOk, OnOk, Contains, length, option_to_list};
+ghost use Rattle.std.specs.Prelude.{ℕ, ◌≡◌, ◌<◌, ◌++◌, IfOk, OnOk, Contains, length, map, option_to_list};
 ghost use Rattle.digraph.specs.Transpose.{IsEmptyRows, AddsSource};
 ghost use Rattle.opt_solvers.specs.Dead.{IsDeadProblem};
-ghost use Rattle.opt_solvers.specs.DeadPlaces.{IsPlace};
-ghost use Rattle.opt_solvers.specs.DeadRows.{slot_of, AreExcused, AreInner};
+ghost use Rattle.opt_solvers.specs.DeadPlaces.{IsPlace, AreByUser};
+ghost use Rattle.opt_solvers.specs.DeadRows.{AreExcused, AreForwarded, AreInner};
 ghost use Rattle.opt_solvers.specs.declared.dead_places.Place.{Place};
 
 use crate::dead_places::Place;
 use crate::dead_problem::DeadProblem;
+use crate::number_rows::NumberRows;
 use std::alloc::{AllocError, Global};
 
 /// So many rows with nothing in them.
@@ -32,18 +33,35 @@ fn note(rows: &mut Vec<Vec<usize>>, row: Option<usize>, number: usize) -> Result
     Ok(())
 }
 
-/// The number of an argument among the items, if there is one.
-fn slot_of(problem: &DeadProblem, argument: Option<usize>) -> Option<usize>
-    requires { (v : ℕ) → argument ≡ Some v → v < length problem.now.arguments.items }
-    ensures { result ≡ slot_of problem.now argument }
+/// The numbers of the places that are forwarded to each argument.
+fn forwarded_rows(
+    alloc: Global,
+    problem: &DeadProblem,
+    places: &[Place],
+) -> Result<Vec<Vec<usize>>, AllocError>
+    requires problem { IsDeadProblem problem.now }
+    requires places { (q : Place) → Contains places.now q → IsPlace problem.now q }
+    ensures { IfOk result (λ rows. AreForwarded problem.now places.now rows.items) }
 {
-    match argument {
-        None => None,
-        Some(argument) => Some(problem.operations.len() + argument),
+    let mut rows = empty_rows(alloc, problem.arguments.len())?;
+    for (number, place) in places.iter().enumerate() {
+        note(&mut rows, place.operand.argument, number)?;
     }
+    Ok(rows)
+}
+
+/// Puts rows behind others.
+fn push_rows(rows: &mut NumberRows, more: &[Vec<usize>]) -> Result<(), AllocError>
+    ensures { OnOk result (rows.new ≡ rows.old ++ map (λ row. row.items) more.now) }
+{
+    for row in more {
+        rows.push_row(row)?;
+    }
+    Ok(())
 }
 
 /// The numbers of the places that each item excuses: an operation its operands, an argument what is forwarded to it.
+/// Those of the operations come in.
 ///
 /// # Errors
 /// There may be no memory.
@@ -51,21 +69,20 @@ pub fn excused_rows(
     alloc: Global,
     problem: &DeadProblem,
     places: &[Place],
-) -> Result<Vec<Vec<usize>>, AllocError>
+    by_user: NumberRows,
+) -> Result<NumberRows, AllocError>
     requires problem { IsDeadProblem problem.now }
     requires places { (q : Place) → Contains places.now q → IsPlace problem.now q }
-    ensures { IfOk result (λ rows. AreExcused problem.now places.now rows.items) }
+    requires by_user { AreByUser places.now (length problem.now.operations.items) by_user }
+    ensures { IfOk result (λ rows. AreExcused problem.now places.now rows) }
 {
-    let mut rows = empty_rows(alloc, problem.operations.len() + problem.arguments.len())?;
-    for (number, place) in places.iter().enumerate() {
-        note(&mut rows, place.user, number)?;
-        let slot = slot_of(problem, place.operand.argument);
-        note(&mut rows, slot, number)?;
-    }
+    let forwarded = forwarded_rows(alloc, problem, places)?;
+    let mut rows = by_user;
+    push_rows(&mut rows, &forwarded)?;
     Ok(rows)
 }
 
-/// The operations that are directly in each item. Nothing is in an argument.
+/// The operations that are directly in each operation.
 ///
 /// # Errors
 /// There may be no memory.
@@ -73,7 +90,7 @@ pub fn inner_rows(alloc: Global, problem: &DeadProblem) -> Result<Vec<Vec<usize>
     requires { IsDeadProblem problem.now }
     ensures { IfOk result (λ rows. AreInner problem.now rows.items) }
 {
-    let mut rows = empty_rows(alloc, problem.operations.len() + problem.arguments.len())?;
+    let mut rows = empty_rows(alloc, problem.operations.len())?;
     for number in 0..problem.operations.len() {
         note(&mut rows, problem.operations[number].around, number)?;
     }

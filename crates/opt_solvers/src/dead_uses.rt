@@ -1,10 +1,11 @@
 //! How many uses keep each item.
 ghost use Rattle.std.specs.Prelude.{ℕ, ◌≡◌, ◌<◌, ◌≤◌, ◌+◌, ◌^◌, IfOk, Contains, length, slice_index};
 ghost use Rattle.digraph.specs.Counts.{count_of};
-ghost use Rattle.digraph.specs.Graph.{successors};
+ghost use Rattle.opt_solvers.specs.NumberRows.{row_at};
 ghost use Rattle.opt_solvers.specs.DeadUses.{held, first_uses, kept_by, CountsItems};
 
 use crate::dead_problem::DeadProblem;
+use crate::number_rows::NumberRows;
 use std::alloc::{AllocError, Global};
 
 /// A use that never goes, of an item that may not go.
@@ -35,13 +36,13 @@ fn count_items(uses: &mut Vec<usize>, items: &[usize])
 }
 
 /// One use more of each item for each row that it is in.
-fn count_rows(uses: &mut Vec<usize>, rows: &[Vec<usize>])
-    requires within { (k x : ℕ) → Contains (successors rows.now k) x → x < length uses.old.items }
+fn count_rows(uses: &mut Vec<usize>, rows: &NumberRows)
+    requires within { (k x : ℕ) → Contains (row_at rows.now k) x → x < length uses.old.items }
     requires fits { (x : ℕ) → slice_index uses.old.items x + kept_by rows.now x < 2 ^ 64 }
     ensures { CountsItems (kept_by rows.now) uses.old.items uses.new.items }
 {
-    for row in rows {
-        count_items(uses, row);
+    for index in 0..rows.len() {
+        count_items(uses, rows.row(index));
     }
 }
 
@@ -52,11 +53,11 @@ fn count_rows(uses: &mut Vec<usize>, rows: &[Vec<usize>])
 pub fn count_uses(
     alloc: Global,
     problem: &DeadProblem,
-    rows: &[Vec<usize>],
+    rows: &NumberRows,
 ) -> Result<Vec<usize>, AllocError>
-    requires within { (k x : ℕ) → Contains (successors rows.now k) x → x < length (first_uses problem.now) }
+    requires within { (k x : ℕ) → Contains (row_at rows.now k) x → x < length (first_uses problem.now) }
     requires fits { length rows.now + 1 < 2 ^ 64 }
-    requires once { (k x : ℕ) → count_of x (successors rows.now k) ≤ 1 }
+    requires once { (k x : ℕ) → count_of x (row_at rows.now k) ≤ 1 }
     ensures { IfOk result (λ uses. CountsItems (kept_by rows.now) (first_uses problem.now) uses.items) }
 {
     let mut uses = first_uses(alloc, problem)?;

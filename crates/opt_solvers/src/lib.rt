@@ -21,6 +21,7 @@ mod facts_solver;
 mod facts_tables;
 mod facts_values;
 mod known;
+mod number_rows;
 
 pub use chains::ChainBlock;
 pub use chains_followed::followed;

@@ -1,7 +1,6 @@
 use Rattle.std.proofs.Common.{◌≡◌, ◌∙◌, false, get_or, sym, ap, subst, arith}
 use Rattle.digraph.specs.Marks.{IsMarked}
-use Rattle.digraph.specs.Graph.{successors}
-use Rattle.digraph.proofs.Searching.{successors_at}
+use Rattle.opt_solvers.specs.NumberRows.{row_at}
 use Rattle.digraph.proofs.Marking.{marked_read, only_one}
 use Rattle.opt_solvers.specs.DeadRelease.{IsReleasable, Releases}
 use Rattle.opt_solvers.proofs.DeadReleasing.{releasable, place_excused, nothing_excused}
@@ -9,13 +8,13 @@ use Rattle.opt_solvers.proofs.dead_release.excuse.Goals as goal
 
 pub release_all-requires : goal.release_all-requires
 release_all-requires c =
-    let e : successors c.args.keeps.now c.args.place ≡ c.deref.result.now = successors_at c.args.keeps.now c.args.place c.index-keeps-place.result c.requires.place c.index-keeps-place.is ∙ sym c.deref.ensures.value in
+    let e : row_at c.args.keeps.now c.args.place ≡ c.row.result.now = sym c.row.ensures in
     let f : get_or c.args.counts.now.excused.items c.args.place false ≡ false = ap (get_or c.args.counts.now.excused.items c.args.place) (sym c.if-not-index.true) ∙ sym c.index.ensures ∙ c.if-not-index.true in
     subst (λ xs. IsReleasable xs c.args.counts.now.uses.items c.args.counts.now.work) e (releasable c.args.keeps.now c.args.counts.now.excused.items c.args.counts.now.uses.items c.args.counts.now.work c.requires.counts c.args.place c.requires.place f)
 
 pub returns-in_ok-release_all : goal.returns-in_ok-release_all
 returns-in_ok-release_all c =
-    let e : successors c.args.keeps.now c.args.place ≡ c.deref.result.now = successors_at c.args.keeps.now c.args.place c.index-keeps-place.result c.requires.place c.index-keeps-place.is ∙ sym c.deref.ensures.value in
+    let e : row_at c.args.keeps.now c.args.place ≡ c.row.result.now = sym c.row.ensures in
     let f : get_or c.args.counts.now.excused.items c.args.place false ≡ false = ap (get_or c.args.counts.now.excused.items c.args.place) (sym c.if-not-index.true) ∙ sym c.index.ensures ∙ c.if-not-index.true in
     place_excused c.args.keeps.now c.args.counts.now.excused.items c.args.counts.now.uses.items c.args.counts.now.work c.requires.counts c.args.place _ _ c.requires.place f
     (subst (λ xs. Releases xs c.args.counts.now.uses.items c.release_all.new.uses.items c.args.counts.now.work c.release_all.new.work) (sym e) c.in_ok-release_all.ensures)
