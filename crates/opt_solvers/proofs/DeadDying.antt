@@ -18,7 +18,7 @@ use Rattle.opt_solvers.specs.declared.dead_places.Place.{Place}
 use Rattle.opt_solvers.specs.Dead.{Item, Whole, Slot, IsIn, itself, further, IsDead, dies, IsExcused, by_operation, by_argument, IsDeadProblem}
 use Rattle.opt_solvers.specs.DeadPlaces.{operand_place, kept_place, IsPlace, around_of, around_operation, slot, items, Keeps, AreKept}
 use Rattle.opt_solvers.specs.DeadRows.{slot_of, Excuses, AreExcused, AreInner}
-use Rattle.opt_solvers.specs.NumberRows.{row_at}
+use Rattle.opt_solvers.specs.Rows.{row_at}
 use Rattle.opt_solvers.specs.DeadUses.{held_operation, held_argument, first_uses, kept_by, CountsItems}
 use Rattle.opt_solvers.specs.DeadRelease.{IsStarted, keeping, IsCounted, ExcusesAll}
 use Rattle.opt_solvers.specs.DeadItems.{AreMarked, AreDead}

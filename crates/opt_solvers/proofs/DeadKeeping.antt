@@ -4,7 +4,7 @@ use Rattle.std.specs.Prelude.{Contains, slice_get, option_to_list, ◌↔◌}
 use Rattle.std.proofs.lemmas.Option.{same_Some, none-some, slice_get_within, slice_get_read}
 use Rattle.std.proofs.lemmas.List.{length-append}
 use Rattle.digraph.specs.Counts.{count_of}
-use Rattle.opt_solvers.specs.NumberRows.{row_at, numbers_of}
+use Rattle.opt_solvers.specs.Rows.{row_at, listed}
 use Rattle.digraph.proofs.Counting.{one_bound}
 use Rattle.digraph.proofs.Marking.{only_one}
 use Rattle.opt_solvers.specs.declared.dead_problem.Definer.{Definer}
@@ -110,8 +110,8 @@ module _ (p : DeadProblem) where
   keeping_goes_on places k rows new q row t r e s = subst (AreKeeping places (k + 1)) (sym e) (record {
     len = let l = length-append rows (row ∷ []) in omega (arith, l, s.len);
     row = λ i z h u. ⊎_elim
-        (λ c. subst (λ xs. KeepsRow p z xs) (sym (ap numbers_of c.1)) (subst (λ y. KeepsRow p y row) (same_Some q z (sym (ap (slice_get places) (c.0 ∙ s.len) ∙ t) ∙ u)) r))
-        (λ c. subst (λ xs. KeepsRow p z xs) (sym (ap numbers_of c.1)) (s.row i z (below i h c.0) u))
+        (λ c. subst (λ xs. KeepsRow p z xs) (sym (ap listed c.1)) (subst (λ y. KeepsRow p y row) (same_Some q z (sym (ap (slice_get places) (c.0 ∙ s.len) ∙ t) ∙ u)) r))
+        (λ c. subst (λ xs. KeepsRow p z xs) (sym (ap listed c.1)) (s.row i z (below i h c.0) u))
         (get_pushed rows row i);
   })
     where

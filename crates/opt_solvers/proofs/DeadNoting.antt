@@ -13,7 +13,7 @@ use Rattle.opt_solvers.specs.declared.dead_problem.DeadProblem.{DeadProblem}
 use Rattle.opt_solvers.specs.declared.dead_places.Place.{Place}
 use Rattle.opt_solvers.specs.Dead.{IsDeadProblem}
 use Rattle.opt_solvers.specs.DeadPlaces.{IsPlace, AreByUser, slot, around_operation}
-use Rattle.opt_solvers.specs.NumberRows.{row_at, numbers_of}
+use Rattle.opt_solvers.specs.Rows.{row_at, listed}
 use Rattle.opt_solvers.specs.DeadRows.{slot_of, AreRows, AreExcused, AreForwarded}
 use Rattle.opt_solvers.proofs.DeadLists.{none_in, below_or_at, get_front, get_behind}
 use Rattle.opt_solvers.proofs.DeadCrossing.{around_below, around_there}
@@ -89,11 +89,11 @@ module _ (p : DeadProblem) where
     excused_joined places rows forwarded sound b f = record {
       len = let l = length-append rows more in let m = length-map forwarded items_of in let n = b.len in let o = f.len in omega (arith, l, m, n, o);
       exact = λ x k. ⊎_elim
-          (λ h. let l : x < length p.operations.items = (let n = b.len in omega (arith, h, n)) in let e = ap numbers_of (get_front rows more x h) in (
+          (λ h. let l : x < length p.operations.items = (let n = b.len in omega (arith, h, n)) in let e = ap listed (get_front rows more x h) in (
             (λ c. let r = (b.exact x k l).0 (subst (λ xs. Contains xs k) e c) in (r.0, r.1, inl r.2)),
             (λ (q, t, m). subst (λ xs. Contains xs k) (sym e) ((b.exact x k l).1 (q, t, ⊎_elim (λ u. u) (λ u. absurd (let s = slot_past q.operand.argument x u in let w = s.2 in omega (arith, l, w))) m))),
           ))
-          (λ (v, w). let e = ap (λ n. row_at (rows ++ more) n) w ∙ ap numbers_of (get_behind rows more v) ∙ mapped_row forwarded v in (
+          (λ (v, w). let e = ap (λ n. row_at (rows ++ more) n) w ∙ ap listed (get_behind rows more v) ∙ mapped_row forwarded v in (
             (λ c. let r = (f.exact v k).0 (subst (λ xs. Contains xs k) e c) in (r.0, r.1, inr (ap (slot_of p) r.2 ∙ ap Some (let n = b.len in omega (arith, n, w))))),
             (λ (q, t, m). subst (λ xs. Contains xs k) (sym e) ((f.exact v k).1 (
               q,

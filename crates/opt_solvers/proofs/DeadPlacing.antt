@@ -12,7 +12,7 @@ use Rattle.opt_solvers.specs.declared.dead_problem.DeadProblem.{DeadProblem}
 use Rattle.opt_solvers.specs.declared.dead_places.Place.{Place}
 use Rattle.opt_solvers.specs.Dead.{HasOperand}
 use Rattle.opt_solvers.specs.DeadPlaces.{operand_place, kept_place, IsPlace, AreByUser}
-use Rattle.opt_solvers.specs.NumberRows.{row_at, numbers_of}
+use Rattle.opt_solvers.specs.Rows.{row_at, listed}
 use Rattle.opt_solvers.proofs.DeadLists.{none_in, map_from, map_into, get_front, old_or_new}
 use Rattle.opt_solvers.proofs.ChainsJoining.{get_pushed}
 
@@ -95,10 +95,10 @@ numbering_goes_on p k places new operands rows more row e f g a b = record {
 }
   where
     at_last : (x : ℕ) → slice_get (rows ++ row ∷ []) x ≡ Some row → row_at more x ≡ row
-    at_last x q = ap (λ rs. row_at rs x) g ∙ ap numbers_of q
+    at_last x q = ap (λ rs. row_at rs x) g ∙ ap listed q
 
     at_front : (x : ℕ) → slice_get (rows ++ row ∷ []) x ≡ slice_get rows x → row_at more x ≡ row_at rows x
-    at_front x q = ap (λ rs. row_at rs x) g ∙ ap numbers_of q
+    at_front x q = ap (λ rs. row_at rs x) g ∙ ap listed q
 
     entry : (j : ℕ) (q : Place) → slice_get new j ≡ Some q → (slice_get places j ≡ Some q) ⊎ ((v : ℕ) × (j ≡ length places + v) × (o : Operand) × (q ≡ operand_place k o))
     entry j q t = old_or_new (operand_place k) places operands j q (sym (ap (λ xs. slice_get xs j) e) ∙ t)

@@ -5,7 +5,7 @@ use Rattle.std.specs.Prelude.{Contains, if◌then◌else◌}
 use Rattle.std.proofs.lemmas.List.{length-set, take_more}
 use Rattle.std.proofs.lemmas.List.Elements.{Contains-push, Contains-push_cases, Contains-append_left, Contains-append_right, Contains-append_cases, Contains-get_or}
 use Rattle.digraph.specs.Counts.{one, count_of}
-use Rattle.opt_solvers.specs.NumberRows.{row_at}
+use Rattle.opt_solvers.specs.Rows.{row_at}
 use Rattle.digraph.specs.Marks.{IsMarked}
 use Rattle.digraph.specs.Work.{Has, Waits, Adds, IsFresh}
 use Rattle.digraph.specs.declared.worklist.Worklist.{Worklist}

@@ -1,15 +1,16 @@
 -- What a solver begins with, and that there is one solution.
-use Rattle.std.proofs.Common.{zero, ◌≡◌, inl, inr, ⊎_elim, ℕ, suc, ◌+◌, ◌<◌, List, [], ◌∷◌, ◌++◌, Option, Some, None, Bool, true, false, length, get_or, take, replicate, refl, sym, ap, ◌∙◌, subst, arith}
+use Rattle.std.proofs.Common.{zero, ◌≡◌, inl, inr, ⊎_elim, ℕ, suc, ◌+◌, ◌<◌, List, [], ◌∷◌, ◌++◌, Option, Some, None, Bool, true, false, length, get_or, map, take, replicate, refl, sym, ap, ◌∙◌, subst, arith}
 use Rattle.std.specs.Prelude.{Contains, slice_get, unwrap_or, option_map}
 use Rattle.std.specs.declared.vec.Vec.{Vec}
 use Rattle.std.specs.declared.alloc.Global.{Global}
-use Rattle.std.proofs.lemmas.Option.{slice_get_within, none-some, same_Some}
-use Rattle.std.proofs.lemmas.List.{length-append, length-replicate}
+use Rattle.std.proofs.lemmas.Option.{slice_get_within, none-some, same_Some, slice_get-map}
+use Rattle.std.proofs.lemmas.List.{length-append, length-map, length-replicate}
 use Rattle.opt_solvers.specs.declared.known.Known.{Known}
 use Rattle.opt_solvers.specs.declared.known.Known.TheVariants.{Undetermined, One, Any}
 use Rattle.opt_solvers.specs.declared.facts_problem.Row.{Row}
 use Rattle.opt_solvers.specs.declared.facts_problem.FactsProblem.{FactsProblem}
-use Rattle.opt_solvers.specs.declared.facts_seen.Seen.{Seen}
+use Rattle.opt_solvers.specs.Rows.{listed}
+use Rattle.opt_solvers.specs.FactsSeen.{unseen}
 use Rattle.opt_solvers.specs.declared.facts_found.Found.{Found}
 use Rattle.opt_solvers.specs.declared.facts_solver.Solver.{Solver}
 use Rattle.opt_solvers.specs.Known.{AtOrBelow, AllAny}
@@ -42,15 +43,8 @@ pushed_each f want rs xs r x l h e i q t = ⊎_elim
     (λ s. ap (λ o. unwrap_or (option_map f o) []) (ap (slice_get (xs ++ x ∷ [])) (s.0 ∙ sym l) ∙ get_push_last xs x) ∙ (e ∙ ap want s.1))
     (get_push_cases rs r q i t)
 
-module _ {A : Type 0} where
-  pub unseen_none : (rows : List Row) → AreUnseen {A = A} (take 0 rows) []
-  unseen_none rows = record { len = refl; each = λ i r e. absurd (none-some r e) }
-
-  pub unseen_more : (rows : List Row) (n : ℕ) (r : Row) (ss us : List (Seen A)) (s : Seen A) → n < length rows → r ≡ get_or rows n r → us ≡ ss ++ s ∷ [] → s.known.items ≡ replicate (length r.operands.items) Undetermined → AreUnseen (take n rows) ss → AreUnseen (take (n + 1) rows) us
-  unseen_more rows n r ss us s h e q k d = subst (λ xs. AreUnseen (take (n + 1) rows) xs) (sym q) (subst (λ rs. AreUnseen rs (ss ++ s ∷ [])) (sym (next_of rows n r h e)) (record {
-    len = let a = length-append ss (s ∷ []) in let b = length-append (take n rows) (r ∷ []) in omega (arith, a, b, d.len);
-    each = pushed_each (λ (x : Seen A). x.known.items) (λ (x : Row). replicate (length x.operands.items) Undetermined) (take n rows) ss r s d.len d.each k;
-  }))
+pub unseen_all : {A : Type 0} (rows : List Row) → AreUnseen {A = A} rows (map unseen rows)
+unseen_all rows = record { len = length-map rows unseen; each = λ i r e. ap listed (slice_get-map unseen rows i ∙ ap (option_map unseen) e) }
 
 pub untaken_none : (rows : List Row) → AreUntaken (take 0 rows) []
 untaken_none rows = record { len = refl; each = λ i r e. absurd (none-some r e) }
@@ -72,8 +66,8 @@ module _ {A : Type 0} where
   all_any_at f (u ∷ vs) v h (suc i) e = all_any_at f vs v h.1 i e
 
   -- the entries were entered, and the values from outside given up
-  pub begun : (p : FactsProblem) (a b c : Found A) (blocks values : List ℕ) (seen : Vec (Seen A) Global) (taken : Vec (Vec Bool Global) Global) (marks : Vec (Option ℕ) Global) → blocks ≡ p.entries.items → values ≡ p.outside.items → IsNothing a (length p.arguments.items) p.values → Meets (λ l. (n : ℕ) → Contains blocks n → Enters p l n) a b → Meets (λ l. AllAny l.of values) b c
-      → AreUnseen p.rows.items seen.items → AreUntaken p.rows.items taken.items → marks.items ≡ replicate (length p.arguments.items) None → Begins p (record { found = c; seen = seen; taken = taken; marks = marks })
+  pub begun : (p : FactsProblem) (a b c : Found A) (blocks values : List ℕ) (seen : List (List (Known A))) (taken : Vec (Vec Bool Global) Global) (marks : Vec (Option ℕ) Global) → blocks ≡ p.entries.items → values ≡ p.outside.items → IsNothing a (length p.arguments.items) p.values → Meets (λ l. (n : ℕ) → Contains blocks n → Enters p l n) a b → Meets (λ l. AllAny l.of values) b c
+      → AreUnseen p.rows.items seen → AreUntaken p.rows.items taken.items → marks.items ≡ replicate (length p.arguments.items) None → Begins p (record { found = c; seen = seen; taken = taken; marks = marks })
   begun p a b c blocks values seen taken marks x y n f g s t m = record {
     blocks_len = g.steps.blocks_len ∙ (f.steps.blocks_len ∙ n.blocks_len);
     values_len = g.steps.values_len ∙ (f.steps.values_len ∙ n.values_len);
@@ -100,7 +94,7 @@ module _ {A : Type 0} where
     nothing_taken : (i n : ℕ) (r : Row) → slice_get p.rows.items i ≡ Some r → IsTaken s.taken.items i n → ⊥
     nothing_taken i n r a t = let e : true ≡ false = get_replicate (length r.edges.items) n false true (sym (ap (λ xs. slice_get xs n) (b.taken.each i r a)) ∙ t) in cc
 
-    nothing_seen : (i j : ℕ) (r : Row) (x : Known A) → slice_get p.rows.items i ≡ Some r → slice_get (seen_of s.seen.items i) j ≡ Some x → x ≡ Undetermined
+    nothing_seen : (i j : ℕ) (r : Row) (x : Known A) → slice_get p.rows.items i ≡ Some r → slice_get (seen_of s.seen i) j ≡ Some x → x ≡ Undetermined
     nothing_seen i j r x a e = get_replicate (length r.operands.items) j Undetermined x (sym (ap (λ xs. slice_get xs j) (b.seen.each i r a)) ∙ e)
 
     pub begins_solving : IsSolving ask p s []

@@ -59,7 +59,7 @@ module _ {A : Type 0} (ask : Answers A) (p : FactsProblem) where
       entries = λ b c. subst (λ k. Enters p k b) same_facts (d.entries b c);
       outside = λ v c. subst (λ (k : NumberedFacts A). k.of v ≡ Any) same_facts (d.outside v c);
       rows = λ i r a e. ⊎_elim
-          (λ o. inl (record { started = subst (Started p r) same_facts o.started; refreshed = subst (λ k. Refreshed ask k i r r.role (seen_of s.seen.items i) (row_of s.taken.items i)) same_facts o.refreshed }))
+          (λ o. inl (record { started = subst (Started p r) same_facts o.started; refreshed = subst (λ k. Refreshed ask k i r r.role (seen_of s.seen i) (row_of s.taken.items i)) same_facts o.refreshed }))
           (λ o. inr (g i r a o))
           (d.rows i r a (subst (λ (k : NumberedFacts A). k.runs r.block ≡ true) (sym same_facts) e));
       seen = λ i j v r x a b e. ⊎_elim
@@ -148,8 +148,8 @@ module _ {A : Type 0} (ask : Answers A) (p : FactsProblem) where
 
   -- where nothing waits, the facts are closed
   module _ (s : Solver A) (d : IsSolving ask p s []) (w : IsWaiting ask p s [] []) (no_blocks : s.found.blocks.items ≡ []) (no_values : s.found.values.items ≡ []) where
-    all_seen : (i : ℕ) (r : Row) → slice_get p.rows.items i ≡ Some r → seen_of s.seen.items i ≡ map (facts_of s.found).of r.operands.items
-    all_seen i r a = same_lists (facts_of s.found).of r.operands.items (seen_of s.seen.items i) (d.operands_len i r a)
+    all_seen : (i : ℕ) (r : Row) → slice_get p.rows.items i ≡ Some r → seen_of s.seen i ≡ map (facts_of s.found).of r.operands.items
+    all_seen i r a = same_lists (facts_of s.found).of r.operands.items (seen_of s.seen i) (d.operands_len i r a)
         (λ j v x b e. ⊎_elim (λ o. o) (λ o. absurd (⊎_elim (λ c. none_contained s.found.values.items v no_values c) (λ c. none_contained {X = Place} [] (record { row = i; operand = j }) refl c) o)) (w.seen i j v r x a b e))
 
     edge_closed : (i n : ℕ) (r : Row) (e : Edge) → slice_get p.rows.items i ≡ Some r → slice_get r.edges.items n ≡ Some e → IsTaken s.taken.items i n → EdgeClosed p (facts_of s.found) r e
@@ -163,9 +163,9 @@ module _ {A : Type 0} (ask : Answers A) (p : FactsProblem) where
     edges_closed i r None a h = tt
     edges_closed i r (Some xs) a h = λ n e b f. edge_closed i n r e a b (h n e b f)
 
-    role_closed : (i : ℕ) (r : Row) (role : Role) → slice_get p.rows.items i ≡ Some r → AnyResults r.results.items role (facts_of s.found) → Refreshed ask (facts_of s.found) i r role (seen_of s.seen.items i) (row_of s.taken.items i) → RoleClosed ask p (facts_of s.found) i r role
+    role_closed : (i : ℕ) (r : Row) (role : Role) → slice_get p.rows.items i ≡ Some r → AnyResults r.results.items role (facts_of s.found) → Refreshed ask (facts_of s.found) i r role (seen_of s.seen i) (row_of s.taken.items i) → RoleClosed ask p (facts_of s.found) i r role
     role_closed i r Folds a g h = subst (λ xs. ResultsClosed ask (facts_of s.found) i r (asked xs)) (all_seen i r a) h
-    role_closed i r Branches a g h = (g, subst (λ xs. EdgesClosed ask p (facts_of s.found) i r (asked xs)) (all_seen i r a) (edges_closed i r (asked (seen_of s.seen.items i)) a h))
+    role_closed i r Branches a g h = (g, subst (λ xs. EdgesClosed ask p (facts_of s.found) i r (asked xs)) (all_seen i r a) (edges_closed i r (asked (seen_of s.seen i)) a h))
     role_closed i r Other a g h = g
 
     pub solved : IsMostPrecise ask p (facts_of s.found)

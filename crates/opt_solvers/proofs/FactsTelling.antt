@@ -1,17 +1,17 @@
 -- What telling a value's fact keeps.
 use Rattle.std.proofs.Common.{◌≡◌, ◌⊎◌, inl, inr, ⊎_elim, ℕ, ◌+◌, ◌<◌, List, [], ◌∷◌, ◌++◌, Some, Bool, true, length, get_or, take, refl, sym, ap, ◌∙◌, subst, arith}
-use Rattle.std.specs.Prelude.{Contains, slice_get, unwrap_or, option_map}
+use Rattle.std.specs.Prelude.{Contains, slice_get}
 use Rattle.std.specs.declared.vec.Vec.{Vec}
 use Rattle.std.specs.declared.alloc.Global.{Global}
 use Rattle.std.proofs.Math.ListN.{set}
-use Rattle.std.proofs.lemmas.Option.{slice_get_read, slice_get_within, same_Some}
+use Rattle.std.proofs.lemmas.Option.{slice_get_within, same_Some}
 use Rattle.std.proofs.lemmas.List.{length-set}
 use Rattle.std.proofs.lemmas.List.Elements.{Contains-push, Contains-push_cases, Contains-append_left, Contains-append_cases}
 use Rattle.opt_solvers.specs.declared.known.Known.{Known}
 use Rattle.opt_solvers.specs.declared.known.Known.TheVariants.{Undetermined}
 use Rattle.opt_solvers.specs.declared.facts_problem.Row.{Row}
 use Rattle.opt_solvers.specs.declared.facts_problem.FactsProblem.{FactsProblem}
-use Rattle.opt_solvers.specs.declared.facts_seen.Seen.{Seen}
+use Rattle.opt_solvers.specs.Rows.{listed}
 use Rattle.opt_solvers.specs.declared.facts_found.Found.{Found}
 use Rattle.opt_solvers.specs.declared.facts_tables.Place.{Place}
 use Rattle.opt_solvers.specs.declared.facts_tables.Slot.{Slot}
@@ -29,11 +29,11 @@ use Rattle.opt_solvers.proofs.FactsEdging.{forwards_from, lie_stays}
 use Rattle.opt_solvers.proofs.FactsVisiting.{done_stays, started_stays, refreshed_stays}
 
 -- what one operation sees changes
-pub seen-set_same : {A : Type 0} (ss : List (Seen A)) (i : ℕ) (s : Seen A) → i < length ss → seen_of (set ss i s) i ≡ s.known.items
-seen-set_same {A} ss i s h = ap (λ o. unwrap_or (option_map (λ (s : Seen A). s.known.items) o) []) (get-set_same ss i s h)
+pub seen-set_same : {A : Type 0} (ss : List (List (Known A))) (i : ℕ) (s : List (Known A)) → i < length ss → seen_of (set ss i s) i ≡ s
+seen-set_same ss i s h = ap listed (get-set_same ss i s h)
 
-pub seen-set_other : {A : Type 0} (ss : List (Seen A)) (i j : ℕ) (s : Seen A) → (j ≡ i → ⊥) → seen_of (set ss i s) j ≡ seen_of ss j
-seen-set_other {A} ss i j s h = ap (λ o. unwrap_or (option_map (λ (s : Seen A). s.known.items) o) []) (get-set_other ss i j s h)
+pub seen-set_other : {A : Type 0} (ss : List (List (Known A))) (i j : ℕ) (s : List (Known A)) → (j ≡ i → ⊥) → seen_of (set ss i s) j ≡ seen_of ss j
+seen-set_other ss i j s h = ap listed (get-set_other ss i j s h)
 
 pub one_contained : (v u : ℕ) → Contains (v ∷ []) u → u ≡ v
 one_contained v u c = ⊎_elim (λ a. absurd (omega (arith, a.1))) (λ e. sym e) (Contains-push_cases [] v u c)
@@ -80,7 +80,7 @@ module _ {A : Type 0} where
       seen = λ i j v r x a b e. ⊎_elim
           (λ o. ⊎_elim (λ z. inl (z ∙ o)) (λ z. inr (inl z)) (f.found.value_waits v))
           (λ o. inr (⊎_elim (λ z. inl (f.found.keeps_values v z)) (λ z. inr z) o))
-          (d.seen i j v r x a b (subst (λ ss. slice_get (seen_of ss.items i) j ≡ Some x) f.seen e));
+          (d.seen i j v r x a b (subst (λ ss. slice_get (seen_of ss i) j ≡ Some x) f.seen e));
     }
 
     -- the arguments that a value is forwarded to are lowered
@@ -125,40 +125,37 @@ module _ {A : Type 0} where
       }
 
     -- one place sees what is known
-    module _ (s : Solver A) (v : ℕ) (x : Place) (row : Seen A) (new : Seen A) (seen : Vec (Seen A) Global) (fact : Known A) (ok : IsProblem p) (d : IsSolving ask p s []) (w : Reads p.rows.items v x) (read : fact ≡ get_or s.found.known.items v fact) (was : row ≡ get_or s.seen.items x.row row) (now : new.known.items ≡ set row.known.items x.operand fact) (all : seen.items ≡ set s.seen.items x.row new) where
-      at : x.row < length s.seen.items
+    module _ (s : Solver A) (v : ℕ) (x : Place) (seen : List (List (Known A))) (fact : Known A) (ok : IsProblem p) (d : IsSolving ask p s []) (w : Reads p.rows.items v x) (read : fact ≡ get_or s.found.known.items v fact) (all : seen ≡ set s.seen x.row (set (seen_of s.seen x.row) x.operand fact)) where
+      at : x.row < length s.seen
       at = subst (λ n. x.row < n) (sym d.seen_len) (slice_get_within p.rows.items x.row w.row w.there)
 
       is : (facts_of s.found).of v ≡ fact
       is = or_read s.found.known.items v fact Undetermined (subst (λ n. v < n) (sym d.values_len) ((ok.rows w.row (get_contains p.rows.items x.row w.row w.there)).operands v (get_contains w.row.operands.items x.operand v w.operand))) read
 
-      before : seen_of s.seen.items x.row ≡ row.known.items
-      before = ap (λ o. unwrap_or (option_map (λ (s : Seen A). s.known.items) o) []) (slice_get_read s.seen.items (length s.seen.items) x.row row refl at was)
+      after : seen_of seen x.row ≡ set (seen_of s.seen x.row) x.operand fact
+      after = ap (λ ss. seen_of ss x.row) all ∙ seen-set_same s.seen x.row (set (seen_of s.seen x.row) x.operand fact) at
 
-      after : seen_of seen.items x.row ≡ set (seen_of s.seen.items x.row) x.operand fact
-      after = ap (λ ss. seen_of ss x.row) all ∙ (seen-set_same s.seen.items x.row new at ∙ (now ∙ ap (λ xs. set xs x.operand fact) (sym before)))
+      others : (i : ℕ) → (i ≡ x.row → ⊥) → seen_of seen i ≡ seen_of s.seen i
+      others i h = ap (λ ss. seen_of ss i) all ∙ seen-set_other s.seen x.row i (set (seen_of s.seen x.row) x.operand fact) h
 
-      others : (i : ℕ) → (i ≡ x.row → ⊥) → seen_of seen.items i ≡ seen_of s.seen.items i
-      others i h = ap (λ ss. seen_of ss i) all ∙ seen-set_other s.seen.items x.row i new h
-
-      within : x.operand < length (seen_of s.seen.items x.row)
+      within : x.operand < length (seen_of s.seen x.row)
       within = subst (λ n. x.operand < n) (sym (d.operands_len x.row w.row w.there)) (slice_get_within w.row.operands.items x.operand v w.operand)
 
-      here : slice_get (seen_of seen.items x.row) x.operand ≡ Some fact
-      here = ap (λ xs. slice_get xs x.operand) after ∙ get-set_same (seen_of s.seen.items x.row) x.operand fact within
+      here : slice_get (seen_of seen x.row) x.operand ≡ Some fact
+      here = ap (λ xs. slice_get xs x.operand) after ∙ get-set_same (seen_of s.seen x.row) x.operand fact within
 
-      other_places : (j : ℕ) → (j ≡ x.operand → ⊥) → slice_get (seen_of seen.items x.row) j ≡ slice_get (seen_of s.seen.items x.row) j
-      other_places j h = ap (λ xs. slice_get xs j) after ∙ get-set_other (seen_of s.seen.items x.row) x.operand j fact h
+      other_places : (j : ℕ) → (j ≡ x.operand → ⊥) → slice_get (seen_of seen x.row) j ≡ slice_get (seen_of s.seen x.row) j
+      other_places j h = ap (λ xs. slice_get xs j) after ∙ get-set_other (seen_of s.seen x.row) x.operand j fact h
 
       pub place_solving : IsSolving ask p (record { found = s.found; seen = seen; taken = s.taken; marks = s.marks }) []
       place_solving = record {
         blocks_len = d.blocks_len;
         values_len = d.values_len;
         marks_len = d.marks_len;
-        seen_len = ap length all ∙ (length-set s.seen.items x.row new ∙ d.seen_len);
+        seen_len = ap length all ∙ (length-set s.seen x.row (set (seen_of s.seen x.row) x.operand fact) ∙ d.seen_len);
         taken_len = d.taken_len;
         operands_len = λ i r a. ⊎_elim
-            (λ z. ap length (ap (seen_of seen.items) z ∙ after) ∙ (length-set (seen_of s.seen.items x.row) x.operand fact ∙ (ap (λ k. length (seen_of s.seen.items k)) (sym z) ∙ d.operands_len i r a)))
+            (λ z. ap length (ap (seen_of seen) z ∙ after) ∙ (length-set (seen_of s.seen x.row) x.operand fact ∙ (ap (λ k. length (seen_of s.seen k)) (sym z) ∙ d.operands_len i r a)))
             (λ z. ap length (others i z) ∙ d.operands_len i r a)
             (decide i x.row);
         edges_len = d.edges_len;
@@ -169,9 +166,9 @@ module _ {A : Type 0} where
             (λ z. ⊎_elim
             (λ k. let q : w.row ≡ r = same_Some w.row r (sym w.there ∙ (ap (slice_get p.rows.items) (sym z) ∙ a)) in
             let g : v ≡ u = same_Some v u (sym w.operand ∙ (ap (λ (t : Row). slice_get t.operands.items x.operand) q ∙ (ap (slice_get r.operands.items) (sym k) ∙ b))) in
-            let f : fact ≡ y = same_Some fact y (sym here ∙ (ap (slice_get (seen_of seen.items x.row)) (sym k) ∙ (ap (λ n. slice_get (seen_of seen.items n) j) (sym z) ∙ e))) in
+            let f : fact ≡ y = same_Some fact y (sym here ∙ (ap (slice_get (seen_of seen x.row)) (sym k) ∙ (ap (λ n. slice_get (seen_of seen n) j) (sym z) ∙ e))) in
             at_same ((facts_of s.found).of u) y (ap (facts_of s.found).of (sym g) ∙ (is ∙ f)))
-            (λ k. d.above i j u r y a b (ap (λ n. slice_get (seen_of s.seen.items n) j) z ∙ (sym (other_places j k) ∙ (ap (λ n. slice_get (seen_of seen.items n) j) (sym z) ∙ e))))
+            (λ k. d.above i j u r y a b (ap (λ n. slice_get (seen_of s.seen n) j) z ∙ (sym (other_places j k) ∙ (ap (λ n. slice_get (seen_of seen n) j) (sym z) ∙ e))))
             (decide j x.operand))
             (λ z. d.above i j u r y a b (ap (λ xs. slice_get xs j) (sym (others i z)) ∙ e))
             (decide i x.row);
@@ -184,9 +181,9 @@ module _ {A : Type 0} where
         solving = f.solving;
         found = f.steps.found;
         taken = f.steps.taken;
-        others = λ i h. ap (λ ss. seen_of ss.items i) f.steps.seen ∙ others i h;
-        other_places = λ j h. ap (λ ss. slice_get (seen_of ss.items x.row) j) f.steps.seen ∙ other_places j h;
-        here = ap (λ ss. slice_get (seen_of ss.items x.row) x.operand) f.steps.seen ∙ (here ∙ ap (λ y. Some y) (sym is));
+        others = λ i h. ap (λ ss. seen_of ss i) f.steps.seen ∙ others i h;
+        other_places = λ j h. ap (λ ss. slice_get (seen_of ss x.row) j) f.steps.seen ∙ other_places j h;
+        here = ap (λ ss. slice_get (seen_of ss x.row) x.operand) f.steps.seen ∙ (here ∙ ap (λ y. Some y) (sym is));
         refreshed = λ r a e. f.done r a;
       }
 
@@ -211,8 +208,8 @@ module _ {A : Type 0} where
           (λ g. inl (record {
             started = started_stays p r (facts_of s.found) (facts_of t.found) f.found.falls g.started;
             refreshed = ⊎_elim
-                (λ z. subst (λ n. Refreshed ask (facts_of t.found) n r r.role (seen_of t.seen.items n) (row_of t.taken.items n)) (sym z) (f.refreshed r (ap (slice_get p.rows.items) (sym z) ∙ a) o))
-                (λ z. subst (λ xs. Refreshed ask (facts_of t.found) i r r.role xs (row_of t.taken.items i)) (sym (f.others i z)) (refreshed_stays ask (facts_of s.found) (facts_of t.found) i r r.role (seen_of s.seen.items i) (row_of s.taken.items i) (row_of t.taken.items i) f.found.falls (f.taken i) g.refreshed))
+                (λ z. subst (λ n. Refreshed ask (facts_of t.found) n r r.role (seen_of t.seen n) (row_of t.taken.items n)) (sym z) (f.refreshed r (ap (slice_get p.rows.items) (sym z) ∙ a) o))
+                (λ z. subst (λ xs. Refreshed ask (facts_of t.found) i r r.role xs (row_of t.taken.items i)) (sym (f.others i z)) (refreshed_stays ask (facts_of s.found) (facts_of t.found) i r r.role (seen_of s.seen i) (row_of s.taken.items i) (row_of t.taken.items i) f.found.falls (f.taken i) g.refreshed))
                 (decide i x.row);
           }))
           (λ g. inr (⊎_elim (λ z. inl (f.found.keeps_blocks r.block z)) (λ z. inr z) g))
@@ -223,15 +220,15 @@ module _ {A : Type 0} where
           (λ z. ⊎_elim
           (λ g. let q : w.row ≡ r = same_Some w.row r (sym w.there ∙ (ap (slice_get p.rows.items) (sym z) ∙ a)) in
           let h : v ≡ u = same_Some v u (sym w.operand ∙ (ap (λ (n : Row). slice_get n.operands.items x.operand) q ∙ (ap (slice_get r.operands.items) (sym g) ∙ b))) in
-          let m : (facts_of s.found).of v ≡ y = same_Some _ y (sym f.here ∙ (ap (slice_get (seen_of t.seen.items x.row)) (sym g) ∙ (ap (λ n. slice_get (seen_of t.seen.items n) j) (sym z) ∙ k))) in
+          let m : (facts_of s.found).of v ≡ y = same_Some _ y (sym f.here ∙ (ap (slice_get (seen_of t.seen x.row)) (sym g) ∙ (ap (λ n. slice_get (seen_of t.seen n) j) (sym z) ∙ k))) in
           ⊎_elim (λ c. inl (ap (facts_of t.found).of (sym h) ∙ (c ∙ m))) (λ c. inr (inl (subst (Contains t.found.values.items) h c))) (f.found.value_waits v))
-          (λ g. old i j u r y (λ c. g (ap (λ (n : Place). n.operand) c)) a b (ap (λ n. slice_get (seen_of s.seen.items n) j) z ∙ (sym (f.other_places j g) ∙ (ap (λ n. slice_get (seen_of t.seen.items n) j) (sym z) ∙ k))))
+          (λ g. old i j u r y (λ c. g (ap (λ (n : Place). n.operand) c)) a b (ap (λ n. slice_get (seen_of s.seen n) j) z ∙ (sym (f.other_places j g) ∙ (ap (λ n. slice_get (seen_of t.seen n) j) (sym z) ∙ k))))
           (decide j x.operand))
           (λ z. old i j u r y (λ c. z (ap (λ (n : Place). n.row) c)) a b (ap (λ xs. slice_get xs j) (sym (f.others i z)) ∙ k))
           (decide i x.row);
     }
       where
-        old : (i j u : ℕ) (r : Row) (y : Known A) → (◌≡◌ {A = Place} (record { row = i; operand = j }) x → ⊥) → slice_get p.rows.items i ≡ Some r → slice_get r.operands.items j ≡ Some u → slice_get (seen_of s.seen.items i) j ≡ Some y → ((facts_of t.found).of u ≡ y) ⊎ (Contains t.found.values.items u ⊎ Contains rest (record { row = i; operand = j }))
+        old : (i j u : ℕ) (r : Row) (y : Known A) → (◌≡◌ {A = Place} (record { row = i; operand = j }) x → ⊥) → slice_get p.rows.items i ≡ Some r → slice_get r.operands.items j ≡ Some u → slice_get (seen_of s.seen i) j ≡ Some y → ((facts_of t.found).of u ≡ y) ⊎ (Contains t.found.values.items u ⊎ Contains rest (record { row = i; operand = j }))
         old i j u r y h a b k = ⊎_elim
             (λ o. ⊎_elim (λ z. inl (z ∙ o)) (λ z. inr (inl z)) (f.found.value_waits u))
             (λ o. inr (⊎_elim

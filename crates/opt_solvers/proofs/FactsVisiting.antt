@@ -1,6 +1,6 @@
 -- What looking at operations keeps.
 use Rattle.std.proofs.Common.{◌≡◌, ⊎_elim, ℕ, ◌+◌, ◌<◌, List, [], Option, Some, None, Bool, true, length, get_or, take, map, refl, sym, ap, ◌∙◌, subst, arith}
-use Rattle.std.specs.Prelude.{Contains, slice_get, unwrap_or, option_map}
+use Rattle.std.specs.Prelude.{Contains, slice_get}
 use Rattle.std.specs.declared.vec.Vec.{Vec}
 use Rattle.std.specs.declared.alloc.Global.{Global}
 use Rattle.std.proofs.Math.ListN.{set}
@@ -13,7 +13,6 @@ use Rattle.opt_solvers.specs.declared.facts_problem.Role.TheVariants.{Folds, Bra
 use Rattle.opt_solvers.specs.declared.facts_problem.Edge.{Edge}
 use Rattle.opt_solvers.specs.declared.facts_problem.Row.{Row}
 use Rattle.opt_solvers.specs.declared.facts_problem.FactsProblem.{FactsProblem}
-use Rattle.opt_solvers.specs.declared.facts_seen.Seen.{Seen}
 use Rattle.opt_solvers.specs.declared.facts_found.Found.{Found}
 use Rattle.opt_solvers.specs.declared.facts_solver.Solver.{Solver}
 use Rattle.opt_solvers.specs.Known.{AtOrBelow, AllBelow, MorePrecise, asked, answer}
@@ -27,24 +26,16 @@ use Rattle.opt_solvers.proofs.FactsTabling.{row-set_same, row-set_other}
 use Rattle.opt_solvers.proofs.FactsEdging.{edge_stays}
 use Rattle.opt_solvers.proofs.FactsAsking.{AreLawful, BelowUpto, AskedBelow, pairs, asked_below, answers_below, all_below_stays, all_below_at, all_below_from, asked_length}
 
--- what an operation that stands at a row has seen
-pub seen_at : {A : Type 0} (ss : List (Seen A)) (i : ℕ) (s : Seen A) → i < length ss → s ≡ get_or ss i s → seen_of ss i ≡ s.known.items
-seen_at {A} ss i s h e = ap (λ o. unwrap_or (option_map (λ (s : Seen A). s.known.items) o) []) (slice_get_read ss (length ss) i s refl h e)
-
 -- what is asked of an operation that stands at a row
 pub record AsksRow {A : Type 0} (p : FactsProblem) (s : Solver A) (i : ℕ) (r : Row) (q : List (Option A)) : Type 0 where
   pub at : slice_get p.rows.items i ≡ Some r
-  pub asked_is : asked (seen_of s.seen.items i) ≡ Some q
+  pub asked_is : asked (seen_of s.seen i) ≡ Some q
   pub len : length q ≡ length r.operands.items
 
-pub asks_row : {A : Type 0} (ask : Answers A) (p : FactsProblem) (s : Solver A) (i : ℕ) (r : Row) (x : Seen A) (q : List (Option A)) → IsSolving ask p s [] → i < length p.rows.items → r ≡ get_or p.rows.items i r → x ≡ get_or s.seen.items i x → asked x.known.items ≡ Some q → AsksRow p s i r q
-asks_row ask p s i r x q d h e f g =
+pub asks_row : {A : Type 0} (ask : Answers A) (p : FactsProblem) (s : Solver A) (i : ℕ) (r : Row) (q : List (Option A)) → IsSolving ask p s [] → i < length p.rows.items → r ≡ get_or p.rows.items i r → asked (seen_of s.seen i) ≡ Some q → AsksRow p s i r q
+asks_row ask p s i r q d h e g =
     let at = slice_get_read p.rows.items (length p.rows.items) i r refl h e in
-    let k = seen_at s.seen.items i x (subst (λ n. i < n) (sym d.seen_len) h) f in
-    record { at = at; asked_is = ap asked k ∙ g; len = asked_length x.known.items q g ∙ (sym (ap length k) ∙ d.operands_len i r at) }
-
-pub asks_nothing : {A : Type 0} (ask : Answers A) (p : FactsProblem) (s : Solver A) (i : ℕ) (x : Seen A) → IsSolving ask p s [] → i < length p.rows.items → x ≡ get_or s.seen.items i x → asked x.known.items ≡ None → asked (seen_of s.seen.items i) ≡ None
-asks_nothing ask p s i x d h f g = ap asked (seen_at s.seen.items i x (subst (λ n. i < n) (sym d.seen_len) h) f) ∙ g
+    record { at = at; asked_is = g; len = asked_length (seen_of s.seen i) q g ∙ d.operands_len i r at }
 
 module _ {A : Type 0} where
   -- one result more is lowered
@@ -112,8 +103,8 @@ module _ {A : Type 0} where
     pub done_stays : (a b : Solver A) (i : ℕ) (r : Row) → Steps ask p a b → RowDone ask p a i r → RowDone ask p b i r
     done_stays a b i r f d = record {
       started = started_stays p r (facts_of a.found) (facts_of b.found) f.found.falls d.started;
-      refreshed = subst (λ x. Refreshed ask (facts_of b.found) i r r.role (seen_of x.items i) (row_of b.taken.items i)) (sym f.seen)
-          (refreshed_stays ask (facts_of a.found) (facts_of b.found) i r r.role (seen_of a.seen.items i) (row_of a.taken.items i) (row_of b.taken.items i) f.found.falls (f.taken i) d.refreshed);
+      refreshed = subst (λ x. Refreshed ask (facts_of b.found) i r r.role (seen_of x i) (row_of b.taken.items i)) (sym f.seen)
+          (refreshed_stays ask (facts_of a.found) (facts_of b.found) i r r.role (seen_of a.seen i) (row_of a.taken.items i) (row_of b.taken.items i) f.found.falls (f.taken i) d.refreshed);
     }
 
     -- facts that fall, and nothing else
@@ -138,17 +129,17 @@ module _ {A : Type 0} where
       started_best l c = let w = c.rows i r at ((d.best l c).fewer r.block running) in record { results = any_from_role ask p l i r r.role w.role; entries = w.entries }
 
       -- facts that are closed ask more
-      asks_below : (l : NumberedFacts A) → IsClosed ask p l → (q : List (Option A)) → asked (seen_of s.seen.items i) ≡ Some q → AskedBelow (map l.of r.operands.items) q
-      asks_below l c q e = asked_below (map l.of r.operands.items) (seen_of s.seen.items i) q
-          (pairs l.of r.operands.items (seen_of s.seen.items i) (d.operands_len i r at) (λ j v x a b. at_trans (l.of v) ((facts_of s.found).of v) x ((d.best l c).above v) (d.above i j v r x at a b))) e
+      asks_below : (l : NumberedFacts A) → IsClosed ask p l → (q : List (Option A)) → asked (seen_of s.seen i) ≡ Some q → AskedBelow (map l.of r.operands.items) q
+      asks_below l c q e = asked_below (map l.of r.operands.items) (seen_of s.seen i) q
+          (pairs l.of r.operands.items (seen_of s.seen i) (d.operands_len i r at) (λ j v x a b. at_trans (l.of v) ((facts_of s.found).of v) x ((d.best l c).above v) (d.above i j v r x at a b))) e
 
-      pub folds_best : r.role ≡ Folds → (q : List (Option A)) → asked (seen_of s.seen.items i) ≡ Some q → (l : NumberedFacts A) → IsClosed ask p l → AllBelow l.of r.results.items (map answer (ask.fold i q))
+      pub folds_best : r.role ≡ Folds → (q : List (Option A)) → asked (seen_of s.seen i) ≡ Some q → (l : NumberedFacts A) → IsClosed ask p l → AllBelow l.of r.results.items (map answer (ask.fold i q))
       folds_best role q e l c =
           let w : RoleClosed ask p l i r Folds = subst (RoleClosed ask p l i r) role (c.rows i r at ((d.best l c).fewer r.block running)).role in
           let b = asks_below l c q e in
           answers_below l.of r.results.items (ask.fold i b.asks) (ask.fold i q) (laws.folds_more i b.asks q b.less) (subst (ResultsClosed ask l i r) b.asked_is w)
 
-      pub branches_best : r.role ≡ Branches → (q : List (Option A)) → asked (seen_of s.seen.items i) ≡ Some q → (l : NumberedFacts A) → IsClosed ask p l → (n : ℕ) (e : Edge) → slice_get r.edges.items n ≡ Some e → IsFeasible ask i r q e.target → EdgeClosed p l r e
+      pub branches_best : r.role ≡ Branches → (q : List (Option A)) → asked (seen_of s.seen i) ≡ Some q → (l : NumberedFacts A) → IsClosed ask p l → (n : ℕ) (e : Edge) → slice_get r.edges.items n ≡ Some e → IsFeasible ask i r q e.target → EdgeClosed p l r e
       branches_best role q e l c n edge t f =
           let w : RoleClosed ask p l i r Branches = subst (RoleClosed ask p l i r) role (c.rows i r at ((d.best l c).fewer r.block running)).role in
           let b = asks_below l c q e in
@@ -156,26 +147,26 @@ module _ {A : Type 0} where
           z n edge t (record { index = f.index; edge = f.edge; stands = f.stands; leads = f.leads; feasible = laws.feasible_less i b.asks q f.index b.less f.feasible })
 
     -- nothing is asked of an operation
-    pub row_unknown : (s : Solver A) (i : ℕ) → IsSolving ask p s [] → asked (seen_of s.seen.items i) ≡ None → Refreshes ask p s s i
-    row_unknown s i d e = record { solving = d; steps = steps_none s; done = λ r a. refreshed_none ask (facts_of s.found) i r r.role (seen_of s.seen.items i) (row_of s.taken.items i) e }
+    pub row_unknown : (s : Solver A) (i : ℕ) → IsSolving ask p s [] → asked (seen_of s.seen i) ≡ None → Refreshes ask p s s i
+    row_unknown s i d e = record { solving = d; steps = steps_none s; done = λ r a. refreshed_none ask (facts_of s.found) i r r.role (seen_of s.seen i) (row_of s.taken.items i) e }
 
     pub row_other : (s : Solver A) (i : ℕ) → IsSolving ask p s [] → ((r : Row) → slice_get p.rows.items i ≡ Some r → r.role ≡ Other) → Refreshes ask p s s i
-    row_other s i d e = record { solving = d; steps = steps_none s; done = λ r a. subst (λ role. Refreshed ask (facts_of s.found) i r role (seen_of s.seen.items i) (row_of s.taken.items i)) (sym (e r a)) tt }
+    row_other s i d e = record { solving = d; steps = steps_none s; done = λ r a. subst (λ role. Refreshed ask (facts_of s.found) i r role (seen_of s.seen i) (row_of s.taken.items i)) (sym (e r a)) tt }
 
     -- the results of an operation are lowered
-    pub row_folded : AreLawful ask → (s : Solver A) (i : ℕ) (r : Row) (q : List (Option A)) (f : Found A) → IsSolving ask p s [] → slice_get p.rows.items i ≡ Some r → (facts_of s.found).runs r.block ≡ true → r.role ≡ Folds → asked (seen_of s.seen.items i) ≡ Some q → Meets (λ l. AllBelow l.of r.results.items (map answer (ask.fold i q))) s.found f → Refreshes ask p s (record { found = f; seen = s.seen; taken = s.taken; marks = s.marks }) i
+    pub row_folded : AreLawful ask → (s : Solver A) (i : ℕ) (r : Row) (q : List (Option A)) (f : Found A) → IsSolving ask p s [] → slice_get p.rows.items i ≡ Some r → (facts_of s.found).runs r.block ≡ true → r.role ≡ Folds → asked (seen_of s.seen i) ≡ Some q → Meets (λ l. AllBelow l.of r.results.items (map answer (ask.fold i q))) s.found f → Refreshes ask p s (record { found = f; seen = s.seen; taken = s.taken; marks = s.marks }) i
     row_folded laws s i r q f d at running role e m = record {
       solving = solving_falls s f [] g d;
       steps = record { found = g; seen = refl; taken = λ j n t. t };
-      done = λ u a. subst (λ (w : Row). Refreshed ask (facts_of f) i w w.role (seen_of s.seen.items i) (row_of s.taken.items i)) (same_Some r u (sym at ∙ a))
-          (subst (λ x. Refreshed ask (facts_of f) i r x (seen_of s.seen.items i) (row_of s.taken.items i)) (sym role) (subst (ResultsClosed ask (facts_of f) i r) (sym e) m.holds));
+      done = λ u a. subst (λ (w : Row). Refreshed ask (facts_of f) i w w.role (seen_of s.seen i) (row_of s.taken.items i)) (same_Some r u (sym at ∙ a))
+          (subst (λ x. Refreshed ask (facts_of f) i r x (seen_of s.seen i) (row_of s.taken.items i)) (sym role) (subst (ResultsClosed ask (facts_of f) i r) (sym e) m.holds));
     }
       where
         g : Falls (IsClosed ask p) s.found f
         g = falls_as (λ l. AllBelow l.of r.results.items (map answer (ask.fold i q))) (IsClosed ask p) (folds_best laws s [] d i r at running role q e) s.found f m.steps
 
     -- the edges of a branch are tested
-    pub row_tested : AreLawful ask → (s : Solver A) (i : ℕ) (r : Row) (q : List (Option A)) (f : Found A) (row : Vec Bool Global) (taken : Vec (Vec Bool Global) Global) (marks : Vec (Option ℕ) Global) → IsSolving ask p s [] → slice_get p.rows.items i ≡ Some r → (facts_of s.found).runs r.block ≡ true → r.role ≡ Branches → asked (seen_of s.seen.items i) ≡ Some q
+    pub row_tested : AreLawful ask → (s : Solver A) (i : ℕ) (r : Row) (q : List (Option A)) (f : Found A) (row : Vec Bool Global) (taken : Vec (Vec Bool Global) Global) (marks : Vec (Option ℕ) Global) → IsSolving ask p s [] → slice_get p.rows.items i ≡ Some r → (facts_of s.found).runs r.block ≡ true → r.role ≡ Branches → asked (seen_of s.seen i) ≡ Some q
         → Marks ask i r q (length r.edges.items) s.marks.items marks.items → TakesMarked p i r marks.items (length r.edges.items) (row_of s.taken.items i) row.items s.found f → taken.items ≡ set s.taken.items i row → Refreshes ask p s (record { found = f; seen = s.seen; taken = taken; marks = marks }) i
     row_tested laws s i r q f row taken marks d at running role e m t k = record {
       solving = record {
@@ -217,8 +208,8 @@ module _ {A : Type 0} where
             (λ z. ap (λ xs. slice_get xs n) (other j z) ∙ w)
             (decide j i);
       };
-      done = λ u a. subst (λ (w : Row). Refreshed ask (facts_of f) i w w.role (seen_of s.seen.items i) (row_of taken.items i)) (same_Some r u (sym at ∙ a))
-          (subst (λ x. Refreshed ask (facts_of f) i r x (seen_of s.seen.items i) (row_of taken.items i)) (sym role) (subst (EdgesTaken ask i r (row_of taken.items i)) (sym e) all_taken));
+      done = λ u a. subst (λ (w : Row). Refreshed ask (facts_of f) i w w.role (seen_of s.seen i) (row_of taken.items i)) (same_Some r u (sym at ∙ a))
+          (subst (λ x. Refreshed ask (facts_of f) i r x (seen_of s.seen i) (row_of taken.items i)) (sym role) (subst (EdgesTaken ask i r (row_of taken.items i)) (sym e) all_taken));
     }
       where
         within : i < length s.taken.items

@@ -1,3 +1,4 @@
+pub mod Rows
 pub mod FactsSeeing
 pub mod FactsFalling
 pub mod FactsEntering
@@ -10,7 +11,6 @@ pub mod FactsStepping
 pub mod FactsBeginning
 pub mod ChainsJoining
 pub mod ChainsFollowing
-pub mod NumberRows
 pub mod DeadLists
 pub mod DeadPlacing
 pub mod DeadCrossing

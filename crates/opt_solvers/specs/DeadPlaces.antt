@@ -8,7 +8,7 @@ use Rattle.opt_solvers.specs.declared.dead_problem.Candidate.{Candidate}
 use Rattle.opt_solvers.specs.declared.dead_problem.Argument.{Argument}
 use Rattle.opt_solvers.specs.declared.dead_problem.DeadProblem.{DeadProblem}
 use Rattle.opt_solvers.specs.declared.dead_places.Place.{Place}
-use Rattle.opt_solvers.specs.NumberRows.{row_at}
+use Rattle.opt_solvers.specs.Rows.{row_at}
 use Rattle.opt_solvers.specs.Dead.{HasOperand, IsIn}
 
 -- the place of an operand

@@ -1,7 +1,7 @@
 -- Counts of uses while places are excused, and the items that die by it.
 use Rattle.std.specs.Prelude.{◌≡◌, ◌⊎◌, ◌<◌, ◌≤◌, ◌+◌, ℕ, Bool, List, [], ◌∷◌, length, nat_eq, if◌then◌else◌, slice_index, Contains, ◌↔◌}
 use Rattle.digraph.specs.Counts.{count_of}
-use Rattle.opt_solvers.specs.NumberRows.{row_at}
+use Rattle.opt_solvers.specs.Rows.{row_at}
 use Rattle.digraph.specs.Marks.{IsMarked}
 use Rattle.digraph.specs.Work.{Has, Waits, Adds}
 use Rattle.digraph.specs.declared.worklist.Worklist.{Worklist}

@@ -6,7 +6,7 @@ use Rattle.digraph.specs.Graph.{successors}
 use Rattle.opt_solvers.specs.declared.dead_problem.DeadProblem.{DeadProblem}
 use Rattle.opt_solvers.specs.declared.dead_places.Place.{Place}
 use Rattle.opt_solvers.specs.DeadPlaces.{slot, items, around_operation}
-use Rattle.opt_solvers.specs.NumberRows.{row_at}
+use Rattle.opt_solvers.specs.Rows.{row_at}
 
 -- the number of an argument among the items, if there is one
 abbrev pub slot_of : DeadProblem → Option ℕ → Option ℕ

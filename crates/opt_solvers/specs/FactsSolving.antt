@@ -1,5 +1,5 @@
 -- What a solver keeps true while facts fall.
-use Rattle.std.specs.Prelude.{◌≡◌, ◌⊎◌, ℕ, ◌<◌, ◌≤◌, Bool, true, false, List, [], map, length, Option, Some, None, slice_get, Contains, unwrap_or, option_map, replicate}
+use Rattle.std.specs.Prelude.{◌≡◌, ◌⊎◌, ℕ, ◌<◌, ◌≤◌, Bool, true, false, List, [], map, length, Option, Some, None, slice_get, Contains, replicate}
 use Rattle.std.specs.declared.vec.Vec.{Vec}
 use Rattle.std.specs.declared.alloc.Global.{Global}
 use Rattle.opt_solvers.specs.declared.known.Known.{Known}
@@ -9,7 +9,7 @@ use Rattle.opt_solvers.specs.declared.facts_problem.Role.TheVariants.{Folds, Bra
 use Rattle.opt_solvers.specs.declared.facts_problem.Edge.{Edge}
 use Rattle.opt_solvers.specs.declared.facts_problem.Row.{Row}
 use Rattle.opt_solvers.specs.declared.facts_problem.FactsProblem.{FactsProblem}
-use Rattle.opt_solvers.specs.declared.facts_seen.Seen.{Seen}
+use Rattle.opt_solvers.specs.Rows.{row_at}
 use Rattle.opt_solvers.specs.declared.facts_found.Found.{Found}
 use Rattle.opt_solvers.specs.declared.facts_tables.Place.{Place}
 use Rattle.opt_solvers.specs.declared.facts_tables.Slot.{Slot}
@@ -20,8 +20,8 @@ use Rattle.opt_solvers.specs.FactsFound.{facts_of, left, Falls}
 use Rattle.opt_solvers.specs.FactsTables.{row_of, ForwardsTo}
 
 -- what an operation has seen of its operands
-abbrev pub seen_of : {A : Type 0} → List (Seen A) → ℕ → List (Known A)
-seen_of {A} ss i = unwrap_or (option_map (λ (s : Seen A). s.known.items) (slice_get ss i)) []
+abbrev pub seen_of : {A : Type 0} → List (List (Known A)) → ℕ → List (Known A)
+seen_of ss i = row_at ss i
 
 -- each operation can be asked
 abbrev pub CanAskRows : (ℕ → ℕ → Type 0) → FactsProblem → Type 0
@@ -118,21 +118,21 @@ Refreshed ask k i r Other seen taken = Unit {0}
 -- an operation in a block that runs asks nothing more than what it has seen
 pub record RowDone {A : Type 0} (ask : Answers A) (p : FactsProblem) (s : Solver A) (i : ℕ) (r : Row) : Type 0 where
   pub started : Started p r (facts_of s.found)
-  pub refreshed : Refreshed ask (facts_of s.found) i r r.role (seen_of s.seen.items i) (row_of s.taken.items i)
+  pub refreshed : Refreshed ask (facts_of s.found) i r r.role (seen_of s.seen i) (row_of s.taken.items i)
 
 -- what a solver keeps true at every moment: the facts are at or above all that are closed, whatever was taken holds of all that are closed, and taken edges lie where they should, but for what is forwarded of values that were popped and not told yet
 pub record IsSolving {A : Type 0} (ask : Answers A) (p : FactsProblem) (s : Solver A) (popped : List ℕ) : Type 0 where
   pub blocks_len : length s.found.runs.items ≡ length p.arguments.items
   pub values_len : length s.found.known.items ≡ p.values
   pub marks_len : length s.marks.items ≡ length p.arguments.items
-  pub seen_len : length s.seen.items ≡ length p.rows.items
+  pub seen_len : length s.seen ≡ length p.rows.items
   pub taken_len : length s.taken.items ≡ length p.rows.items
-  pub operands_len : (i : ℕ) (r : Row) → slice_get p.rows.items i ≡ Some r → length (seen_of s.seen.items i) ≡ length r.operands.items
+  pub operands_len : (i : ℕ) (r : Row) → slice_get p.rows.items i ≡ Some r → length (seen_of s.seen i) ≡ length r.operands.items
   pub edges_len : (i : ℕ) (r : Row) → slice_get p.rows.items i ≡ Some r → length (row_of s.taken.items i) ≡ length r.edges.items
   pub best : (l : NumberedFacts A) → IsClosed ask p l → MorePrecise (facts_of s.found) l
   pub marks_best : (l : NumberedFacts A) → IsClosed ask p l → (i : ℕ) (r : Row) → slice_get p.rows.items i ≡ Some r → MarkedClosed p i r s.marks.items l
   pub taken_best : (l : NumberedFacts A) → IsClosed ask p l → (i n : ℕ) (r : Row) (e : Edge) → slice_get p.rows.items i ≡ Some r → slice_get r.edges.items n ≡ Some e → IsTaken s.taken.items i n → EdgeClosed p l r e
-  pub above : (i j v : ℕ) (r : Row) (x : Known A) → slice_get p.rows.items i ≡ Some r → slice_get r.operands.items j ≡ Some v → slice_get (seen_of s.seen.items i) j ≡ Some x → AtOrBelow ((facts_of s.found).of v) x
+  pub above : (i j v : ℕ) (r : Row) (x : Known A) → slice_get p.rows.items i ≡ Some r → slice_get r.operands.items j ≡ Some v → slice_get (seen_of s.seen i) j ≡ Some x → AtOrBelow ((facts_of s.found).of v) x
   pub edges : (i n : ℕ) (r : Row) (e : Edge) → slice_get p.rows.items i ≡ Some r → slice_get r.edges.items n ≡ Some e → IsTaken s.taken.items i n → EdgeLies p s.found popped r e
 
 -- what is left to do waits: operations of blocks that run, and places that have not seen what is known
@@ -140,7 +140,7 @@ pub record IsWaiting {A : Type 0} (ask : Answers A) (p : FactsProblem) (s : Solv
   pub entries : (b : ℕ) → Contains p.entries.items b → Enters p (facts_of s.found) b
   pub outside : (v : ℕ) → Contains p.outside.items v → (facts_of s.found).of v ≡ Any
   pub rows : (i : ℕ) (r : Row) → slice_get p.rows.items i ≡ Some r → (facts_of s.found).runs r.block ≡ true → RowDone ask p s i r ⊎ (Contains s.found.blocks.items r.block ⊎ Contains rest i)
-  pub seen : (i j v : ℕ) (r : Row) (x : Known A) → slice_get p.rows.items i ≡ Some r → slice_get r.operands.items j ≡ Some v → slice_get (seen_of s.seen.items i) j ≡ Some x → ((facts_of s.found).of v ≡ x) ⊎ (Contains s.found.values.items v ⊎ Contains places (record { row = i; operand = j }))
+  pub seen : (i j v : ℕ) (r : Row) (x : Known A) → slice_get p.rows.items i ≡ Some r → slice_get r.operands.items j ≡ Some v → slice_get (seen_of s.seen i) j ≡ Some x → ((facts_of s.found).of v ≡ x) ⊎ (Contains s.found.values.items v ⊎ Contains places (record { row = i; operand = j }))
 
 -- the facts fell, and what was taken stays taken
 pub record Steps {A : Type 0} (ask : Answers A) (p : FactsProblem) (old new : Solver A) : Type 0 where
@@ -152,7 +152,7 @@ pub record Steps {A : Type 0} (ask : Answers A) (p : FactsProblem) (old new : So
 pub record Refreshes {A : Type 0} (ask : Answers A) (p : FactsProblem) (old new : Solver A) (i : ℕ) : Type 0 where
   pub solving : IsSolving ask p new []
   pub steps : Steps ask p old new
-  pub done : (r : Row) → slice_get p.rows.items i ≡ Some r → Refreshed ask (facts_of new.found) i r r.role (seen_of new.seen.items i) (row_of new.taken.items i)
+  pub done : (r : Row) → slice_get p.rows.items i ≡ Some r → Refreshed ask (facts_of new.found) i r r.role (seen_of new.seen i) (row_of new.taken.items i)
 
 -- such operations were visited
 pub record Visits {A : Type 0} (ask : Answers A) (p : FactsProblem) (old new : Solver A) (such : ℕ → Row → Type 0) : Type 0 where
@@ -165,10 +165,10 @@ pub record Sees {A : Type 0} (ask : Answers A) (p : FactsProblem) (old new : Sol
   pub solving : IsSolving ask p new []
   pub found : Falls (IsClosed ask p) old.found new.found
   pub taken : (i n : ℕ) → IsTaken old.taken.items i n → IsTaken new.taken.items i n
-  pub others : (i : ℕ) → (i ≡ x.row → ⊥) → seen_of new.seen.items i ≡ seen_of old.seen.items i
-  pub other_places : (j : ℕ) → (j ≡ x.operand → ⊥) → slice_get (seen_of new.seen.items x.row) j ≡ slice_get (seen_of old.seen.items x.row) j
-  pub here : slice_get (seen_of new.seen.items x.row) x.operand ≡ Some ((facts_of old.found).of v)
-  pub refreshed : (r : Row) → slice_get p.rows.items x.row ≡ Some r → (facts_of old.found).runs r.block ≡ true → Refreshed ask (facts_of new.found) x.row r r.role (seen_of new.seen.items x.row) (row_of new.taken.items x.row)
+  pub others : (i : ℕ) → (i ≡ x.row → ⊥) → seen_of new.seen i ≡ seen_of old.seen i
+  pub other_places : (j : ℕ) → (j ≡ x.operand → ⊥) → slice_get (seen_of new.seen x.row) j ≡ slice_get (seen_of old.seen x.row) j
+  pub here : slice_get (seen_of new.seen x.row) x.operand ≡ Some ((facts_of old.found).of v)
+  pub refreshed : (r : Row) → slice_get p.rows.items x.row ≡ Some r → (facts_of old.found).runs r.block ≡ true → Refreshed ask (facts_of new.found) x.row r r.role (seen_of new.seen x.row) (row_of new.taken.items x.row)
 
 -- the arguments of slots of taken edges lie at or below the fact
 abbrev pub SlotsBelow : {A : Type 0} → List (Vec Bool Global) → List Slot → Known A → NumberedFacts A → Type 0
@@ -189,7 +189,7 @@ pub record IsStep {A : Type 0} (ask : Answers A) (p : FactsProblem) (old new : S
   pub no_values : more ≡ false → new.found.values.items ≡ []
 
 -- nothing is seen of the operands of any operation
-pub record AreUnseen {A : Type 0} (rows : List Row) (ss : List (Seen A)) : Type 0 where
+pub record AreUnseen {A : Type 0} (rows : List Row) (ss : List (List (Known A))) : Type 0 where
   pub len : length ss ≡ length rows
   pub each : (i : ℕ) (r : Row) → slice_get rows i ≡ Some r → seen_of ss i ≡ replicate (length r.operands.items) Undetermined
 
@@ -211,6 +211,6 @@ pub record Begins {A : Type 0} (p : FactsProblem) (s : Solver A) : Type 0 where
   pub best : (l : NumberedFacts A) → IsEntered p l → MorePrecise (facts_of s.found) l
   pub blocks_wait : (b : ℕ) → (facts_of s.found).runs b ≡ true → Contains s.found.blocks.items b
   pub values_wait : (v : ℕ) → ((facts_of s.found).of v ≡ Undetermined) ⊎ Contains s.found.values.items v
-  pub seen : AreUnseen p.rows.items s.seen.items
+  pub seen : AreUnseen p.rows.items s.seen
   pub taken : AreUntaken p.rows.items s.taken.items
   pub marks : s.marks.items ≡ replicate (length p.arguments.items) None

@@ -4,12 +4,13 @@ pub mod Facts
 pub mod FactsFound
 pub mod FactsTables
 pub mod FactsLaw
+pub mod Rows
+pub mod FactsSeen
 pub mod FactsSolving
 pub mod Dead
 pub mod Chains
 pub mod ChainsJoined
 pub mod ChainsFollowed
-pub mod NumberRows
 pub mod DeadPlaces
 pub mod DeadRows
 pub mod DeadUses

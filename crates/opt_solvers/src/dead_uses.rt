@@ -1,7 +1,7 @@
 //! How many uses keep each item.
 ghost use Rattle.std.specs.Prelude.{ℕ, ◌≡◌, ◌<◌, ◌≤◌, ◌+◌, ◌^◌, IfOk, Contains, length, slice_index};
 ghost use Rattle.digraph.specs.Counts.{count_of};
-ghost use Rattle.opt_solvers.specs.NumberRows.{row_at};
+ghost use Rattle.opt_solvers.specs.Rows.{row_at};
 ghost use Rattle.opt_solvers.specs.DeadUses.{held, first_uses, kept_by, CountsItems};
 
 use crate::dead_problem::DeadProblem;

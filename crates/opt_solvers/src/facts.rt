@@ -7,7 +7,7 @@ ghost use Rattle.opt_solvers.specs.declared.facts_problem.Row.{Row};
 ghost use Rattle.opt_solvers.specs.Facts.{IsProblem, IsMostPrecise, as_facts};
 ghost use Rattle.opt_solvers.specs.FactsLaw.{OneMostPrecise};
 ghost use Rattle.opt_solvers.specs.FactsTables.{AreTables};
-ghost use Rattle.opt_solvers.specs.FactsSolving.{AreUnseen, AreUntaken, Begins};
+ghost use Rattle.opt_solvers.specs.FactsSolving.{AreUntaken, Begins};
 ghost use Rattle.opt_solvers.specs.FactsSolving.{CanAskRows, IsSolving, IsWaiting, IsStep};
 
 use crate::facts_found::Found;
@@ -27,17 +27,6 @@ pub struct Solution<K> {
     pub runs: Vec<bool>,
     /// What is known of each value.
     pub known: Vec<Known<K>>,
-}
-
-/// Nothing is seen of any operand.
-fn unseen<K: Copy>(alloc: Global, rows: &[Row]) -> Result<Vec<Seen<K>>, AllocError>
-    ensures { IfOk result (λ seen. AreUnseen rows.now seen.items) }
-{
-    let mut seen = Vec::with_capacity(alloc, rows.len())?;
-    for row in rows {
-        seen.push(Seen::new(alloc, row.operands.len())?)?;
-    }
-    Ok(seen)
 }
 
 /// No edge is taken.
@@ -62,7 +51,7 @@ fn begin<K: Copy + Eq>(alloc: Global, problem: &FactsProblem) -> Result<Solver<K
     found.give_up(&problem.outside)?;
     Ok(Solver {
         found,
-        seen: unseen(alloc, &problem.rows)?,
+        seen: Seen::new(alloc, &problem.rows)?,
         taken: untaken(alloc, &problem.rows)?,
         marks: vec![in alloc; None; problem.arguments.len()]?,
     })

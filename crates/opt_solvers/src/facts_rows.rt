@@ -52,7 +52,7 @@ fn fold_row<F: Folding>(
     ensures { OnOk result (Refreshes (F.answers folding.now) problem.now solver.old solver.new number) }
 {
     let row = &problem.rows[number];
-    if let Some(known) = solver.seen[number].ask() {
+    if let Some(known) = solver.seen.ask(number) {
         lower_results(alloc, folding, number, row, known, &mut solver.found)?;
     }
     Ok(())
@@ -74,7 +74,7 @@ fn test_edges<F: Folding>(
     ensures { OnOk result (Refreshes (F.answers folding.now) problem.now solver.old solver.new number) }
 {
     let row = &problem.rows[number];
-    if let Some(known) = solver.seen[number].ask() {
+    if let Some(known) = solver.seen.ask(number) {
         mark_targets(folding, number, row, known, &mut solver.marks);
         take_marked(
             problem,

@@ -1,62 +1,113 @@
-//! What an operation has seen of its operands.
-ghost use Rattle.std.specs.Prelude.{◌≡◌, map};
-ghost use Rattle.opt_solvers.specs.KnownFalls.{constant_of, one_if_undetermined, undetermined};
+//! What operations have seen of their operands.
+ghost use Rattle.std.specs.Prelude.{◌≡◌, None, IfOk, replicate};
+ghost use Rattle.opt_solvers.specs.KnownFalls.{constant_of, one_if_undetermined};
 
+use crate::facts_problem::Row;
 use crate::known::Known;
+use crate::number_rows::start_of;
 use std::alloc::{AllocError, Global};
+use std::marker::Model;
 
-/// What an operation has seen of its operands, in their order. It may lag behind what is known of their values.
+/// What each operation has seen of its operands, in their order. It may lag behind what is known of their values.
+///
+/// The operands of all operations stand one after the other, so that no operation asks for memory of its own.
 #[derive(Drop)]
 pub struct Seen<K> {
-    /// What it has seen.
-    pub known: Vec<Known<K>>,
+    /// Where the operands of each operation end.
+    ends: Vec<usize>,
+    /// What is seen of each operand.
+    known: Vec<Known<K>>,
     /// The constants among it.
-    pub constants: Vec<Option<K>>,
-    /// How many operands are undetermined.
-    pub missing: usize,
-    ghost are_constants: { constants.items ≡ map constant_of known.items },
-    ghost are_missing: { missing ≡ undetermined known.items },
+    constants: Vec<Option<K>>,
+    /// How many operands of each operation are undetermined.
+    missing: Vec<usize>,
+}
+
+impl<K> Model for Seen<K> {
+    ghost use Rattle.std.specs.Prelude.{List};
+    ghost use Rattle.opt_solvers.specs.declared.known.Known.{Known};
+    ghost use Rattle.opt_solvers.specs.Rows.{rows_from};
+    ghost use Rattle.opt_solvers.specs.FactsSeen.{IsSeen};
+
+    ghost Value = { List (List (Known K)) };
+
+    ghost view = { λ s. rows_from 0 s.ends.items s.known.items };
+
+    ghost invariant = { λ s. IsSeen s.ends.items s.known.items s.constants.items s.missing.items };
 }
 
 impl<K: Copy> Seen<K> {
-    ghost use Rattle.std.specs.Prelude.{◌<◌, None, Some, length, slice_set, replicate, IfOk, MatchOption};
+    ghost use Rattle.std.specs.Prelude.{◌<◌, None, Some, length, map, slice_set, IfOk, MatchOption};
     ghost use Rattle.opt_solvers.specs.declared.known.Known.TheVariants.{Undetermined};
     ghost use Rattle.opt_solvers.specs.Known.{asked};
+    ghost use Rattle.opt_solvers.specs.Rows.{row_at};
+    ghost use Rattle.opt_solvers.specs.FactsSeen.{unseen};
 
-    /// Nothing is seen of so many operands.
+    /// Nothing is seen of any operand of these operations.
     ///
     /// # Errors
     /// There may be no memory.
-    pub fn new(alloc: Global, count: usize) -> Result<Seen<K>, AllocError>
-        ensures { IfOk result (λ s. s.known.items ≡ replicate count Undetermined) }
+    pub fn new(alloc: Global, rows: &[Row]) -> Result<Seen<K>, AllocError>
+        ensures { IfOk result (λ s. s ≡ map unseen rows.now) }
     {
+        let mut ends = Vec::with_capacity(alloc, rows.len())?;
+        let mut missing = Vec::with_capacity(alloc, rows.len())?;
+        let mut known = Vec::with_capacity(alloc, operand_count(rows))?;
+        for row in rows {
+            let count = row.operands.len();
+            known.resize(known.len() + count, Known::Undetermined)?;
+            ends.push(known.len())?;
+            missing.push(count)?;
+        }
+        let constants = no_constants(alloc, known.len())?;
         Ok(Seen {
-            known: vec![in alloc; Known::Undetermined; count]?,
-            constants: vec![in alloc; None; count]?,
-            missing: count,
+            ends,
+            known,
+            constants,
+            missing,
         })
     }
 
-    /// Sees what is known of the operand with this index.
-    pub fn see(&mut self, index: usize, fact: Known<K>)
-        requires { index < length self.old.known.items }
-        ensures { self.new.known.items ≡ slice_set self.old.known.items index fact }
+    /// An operation sees what is known of its operand with this index.
+    pub fn see(&mut self, row: usize, index: usize, fact: Known<K>)
+        requires row { row < length self.old }
+        requires index { index < length (row_at self.old row) }
+        ensures { self.new ≡ slice_set self.old row (slice_set (row_at self.old row) index fact) }
     {
-        self.missing = self.missing - lacking(self.known[index]) + lacking(fact);
-        self.constants[index] = constant(fact);
-        self.known[index] = fact;
+        let place = start_of(&self.ends, row) + index;
+        self.missing[row] = self.missing[row] - lacking(self.known[place]) + lacking(fact);
+        self.constants[place] = constant(fact);
+        self.known[place] = fact;
     }
 
-    /// What is asked by what is seen: nothing, while an operand is undetermined.
-    pub fn ask(&self) -> Option<&[Option<K>]>
-        ensures { let asks = asked self.now.known.items in MatchOption result (asks ≡ None) (λ xs. asks ≡ Some xs.now) }
+    /// What an operation asks by what it has seen: nothing, while an operand is undetermined.
+    pub fn ask(&self, row: usize) -> Option<&[Option<K>]>
+        requires { row < length self.now }
+        ensures { let asks = asked (row_at self.now row) in
+            MatchOption result (asks ≡ None) (λ xs. asks ≡ Some xs.now) }
     {
-        if self.missing == 0 {
-            Some(self.constants.as_slice())
-        } else {
-            None
+        if self.missing[row] > 0 {
+            return None;
         }
+        let start = start_of(&self.ends, row);
+        Some(&self.constants[start..self.ends[row]])
     }
+}
+
+/// That so many operands are no constants.
+fn no_constants<K: Copy>(alloc: Global, count: usize) -> Result<Vec<Option<K>>, AllocError>
+    ensures { IfOk result (λ constants. constants.items ≡ replicate count None) }
+{
+    vec![in alloc; None; count]
+}
+
+/// How many operands there are, for the room that is asked for ahead.
+fn operand_count(rows: &[Row]) -> usize {
+    let mut count: usize = 0;
+    for row in rows {
+        count = count.saturating_add(row.operands.len());
+    }
+    count
 }
 
 /// The constant that is known, if there is one.

@@ -9,7 +9,7 @@ pub struct Solver<K> {
     /// What has been found.
     pub found: Found<K>,
     /// What each operation has seen of its operands.
-    pub seen: Vec<Seen<K>>,
+    pub seen: Seen<K>,
     /// Of each operation, which of its edges are taken: their targets are feasible.
     pub taken: Vec<Vec<bool>>,
     /// Of each block, the operation that was the last to find one of its edges to it feasible.

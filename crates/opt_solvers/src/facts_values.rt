@@ -51,7 +51,7 @@ fn see_place<F: Folding>(
     ensures { OnOk result (Sees (F.answers folding.now) problem.now solver.old solver.new value place) }
 {
     let fact = solver.found.known[value];
-    solver.seen[place.row].see(place.operand, fact);
+    solver.seen.see(place.row, place.operand, fact);
     if solver.found.runs[problem.rows[place.row].block] {
         refresh_row(alloc, problem, folding, place.row, solver)?;
     }

@@ -1,6 +1,6 @@
 //! Rows of numbers in one list.
 ghost use Rattle.std.specs.Prelude.{◌≡◌, ◌<◌, ◌++◌, ◌∷◌, [], length, OnOk, IfOk};
-ghost use Rattle.opt_solvers.specs.NumberRows.{row_at, start_from};
+ghost use Rattle.opt_solvers.specs.Rows.{row_at, start_from};
 
 use std::alloc::{AllocError, Global};
 use std::marker::Model;
@@ -15,7 +15,7 @@ pub struct NumberRows {
 
 impl Model for NumberRows {
     ghost use Rattle.std.specs.Prelude.{ℕ, List, length};
-    ghost use Rattle.opt_solvers.specs.NumberRows.{rows_from, AreEnds};
+    ghost use Rattle.opt_solvers.specs.Rows.{rows_from, AreEnds};
 
     ghost Value = { List (List ℕ) };
 
@@ -73,7 +73,7 @@ impl NumberRows {
 }
 
 /// Where the row at an index begins, given where each row ends.
-fn start_of(ends: &[usize], index: usize) -> usize
+pub(crate) fn start_of(ends: &[usize], index: usize) -> usize
     requires { index < length ends.now }
     ensures { result ≡ start_from 0 ends.now index }
 {

@@ -1,6 +1,6 @@
 use Rattle.std.proofs.Common.{◌≡◌, ◌∙◌, false, get_or, sym, ap, subst, arith}
 use Rattle.digraph.specs.Marks.{IsMarked}
-use Rattle.opt_solvers.specs.NumberRows.{row_at}
+use Rattle.opt_solvers.specs.Rows.{row_at}
 use Rattle.digraph.proofs.Marking.{marked_read, only_one}
 use Rattle.opt_solvers.specs.DeadRelease.{IsReleasable, Releases}
 use Rattle.opt_solvers.proofs.DeadReleasing.{releasable, place_excused, nothing_excused}

@@ -4,7 +4,6 @@ use Rattle.opt_solvers.specs.declared.facts_problem.Row.{Row}
 use Rattle.opt_solvers.specs.FactsFound.{facts_of}
 use Rattle.opt_solvers.proofs.FactsFalling.{or_read}
 use Rattle.opt_solvers.proofs.FactsTabling.{get_contains}
-use Rattle.opt_solvers.proofs.FactsVisiting.{seen_at}
 use Rattle.opt_solvers.proofs.FactsTelling.{place_solving, place_refreshed, place_idle}
 use Rattle.opt_solvers.proofs.facts_values.see_place.Goals as goal
 
@@ -13,17 +12,14 @@ index-fact-requires g c =
     let w = c.requires.reads in
     let h : c.args.value < length c.args.solver.now.found.known.items = subst (λ n. c.args.value < n) (sym c.requires.solving.values_len) ((c.requires.problem.rows w.row (get_contains c.args.problem.now.rows.items c.args.place.row w.row w.there)).operands c.args.value (get_contains w.row.operands.items c.args.place.operand c.args.value w.operand)) in search rules
 
-pub index_mut-requires : goal.index_mut-requires
-index_mut-requires g c =
-    let w = c.requires.reads in
-    let h : c.args.place.row < length c.args.solver.now.seen.items = subst (λ n. c.args.place.row < n) (sym c.requires.solving.seen_len) (slice_get_within c.args.problem.now.rows.items c.args.place.row w.row w.there) in search rules
+pub see-requires-clause-row : goal.see-requires-clause-row
+see-requires-clause-row g c =
+    let w = c.requires.reads in subst (λ n. c.args.place.row < n) (sym c.requires.solving.seen_len) (slice_get_within c.args.problem.now.rows.items c.args.place.row w.row w.there)
 
-pub see-requires : goal.see-requires
-see-requires g c =
+pub see-requires-clause-index : goal.see-requires-clause-index
+see-requires-clause-index g c =
     let w = c.requires.reads in
-    let h = subst (λ n. c.args.place.row < n) (sym c.requires.solving.seen_len) (slice_get_within c.args.problem.now.rows.items c.args.place.row w.row w.there) in
-    let e = seen_at c.args.solver.now.seen.items c.args.place.row c.index_mut.result.now h c.index_mut.ensures.value in
-    subst (λ n. c.args.place.operand < n) (sym (c.requires.solving.operands_len c.args.place.row w.row w.there) ∙ ap length e) (slice_get_within w.row.operands.items c.args.place.operand c.args.value w.operand)
+    subst (λ n. c.args.place.operand < n) (sym (c.requires.solving.operands_len c.args.place.row w.row w.there)) (slice_get_within w.row.operands.items c.args.place.operand c.args.value w.operand)
 
 pub index-requires : goal.index-requires
 index-requires g c = let h = slice_get_within c.args.problem.now.rows.items c.args.place.row c.requires.reads.row c.requires.reads.there in search rules
@@ -39,7 +35,7 @@ pub refresh_row-requires-clause-in_range : goal.refresh_row-requires-clause-in_r
 refresh_row-requires-clause-in_range g c = slice_get_within c.args.problem.now.rows.items c.args.place.row c.requires.reads.row c.requires.reads.there
 
 pub refresh_row-requires-clause-solving : goal.refresh_row-requires-clause-solving
-refresh_row-requires-clause-solving g c = place_solving _ c.args.problem.now c.args.solver.now c.args.value c.args.place c.index_mut.result.now c.see.new.self _ c.index-fact.result.now c.requires.problem c.requires.solving c.requires.reads c.index-fact.ensures c.index_mut.ensures.value c.see.ensures refl
+refresh_row-requires-clause-solving g c = place_solving _ c.args.problem.now c.args.solver.now c.args.value c.args.place c.see.new.self c.index-fact.result.now c.requires.problem c.requires.solving c.requires.reads c.index-fact.ensures c.see.ensures
 
 pub refresh_row-requires-clause-running : goal.refresh_row-requires-clause-running
 refresh_row-requires-clause-running g c =
@@ -51,7 +47,7 @@ refresh_row-requires-clause-running g c =
     λ r t. ap (λ (x : Row). (facts_of c.args.solver.now.found).runs x.block) (same_Some r c.index.result.now (sym t ∙ at)) ∙ (e ∙ c.if-index.true)
 
 pub returns-in_ok-refresh_row : goal.returns-in_ok-refresh_row
-returns-in_ok-refresh_row g c = place_refreshed _ c.args.problem.now c.args.solver.now c.args.value c.args.place c.index_mut.result.now c.see.new.self _ c.index-fact.result.now c.requires.problem c.requires.solving c.requires.reads c.index-fact.ensures c.index_mut.ensures.value c.see.ensures refl c.refresh_row.new.solver c.in_ok-refresh_row.ensures
+returns-in_ok-refresh_row g c = place_refreshed _ c.args.problem.now c.args.solver.now c.args.value c.args.place c.see.new.self c.index-fact.result.now c.requires.problem c.requires.solving c.requires.reads c.index-fact.ensures c.see.ensures c.refresh_row.new.solver c.in_ok-refresh_row.ensures
 
 pub returns-else-index : goal.returns-else-index
 returns-else-index g c =
@@ -60,5 +56,5 @@ returns-else-index g c =
     let at = slice_get_read rows (length rows) c.args.place.row c.index.result.now refl (slice_get_within rows c.args.place.row w.row w.there) c.index.ensures in
     let b = subst (λ n. c.index.result.now.block < n) (sym c.requires.solving.blocks_len) (c.requires.problem.rows c.index.result.now (get_contains rows c.args.place.row c.index.result.now at)).block in
     let e = or_read c.args.solver.now.found.runs.items c.index.result.now.block c.index-2.result.now false b c.index-2.ensures in
-    place_idle _ c.args.problem.now c.args.solver.now c.args.value c.args.place c.index_mut.result.now c.see.new.self _ c.index-fact.result.now c.requires.problem c.requires.solving c.requires.reads c.index-fact.ensures c.index_mut.ensures.value c.see.ensures refl
+    place_idle _ c.args.problem.now c.args.solver.now c.args.value c.args.place c.see.new.self c.index-fact.result.now c.requires.problem c.requires.solving c.requires.reads c.index-fact.ensures c.see.ensures
     (λ t. let f = sym (ap (λ (x : Row). (facts_of c.args.solver.now.found).runs x.block) (same_Some w.row c.index.result.now (sym w.there ∙ at))) ∙ t in let n : true ≡ false = sym f ∙ (e ∙ c.if-index.false) in absurd (cc n))

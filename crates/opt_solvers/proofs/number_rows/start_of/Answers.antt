@@ -1,6 +1,6 @@
 use Rattle.std.proofs.Common.{rules, ◌≡◌, ◌-◌, ◌<◌, suc, length, sym, ap, ◌∙◌}
-use Rattle.opt_solvers.specs.NumberRows.{start_from}
-use Rattle.opt_solvers.proofs.NumberRows.{start_is}
+use Rattle.opt_solvers.specs.Rows.{start_from}
+use Rattle.opt_solvers.proofs.Rows.{start_is}
 use Rattle.opt_solvers.proofs.number_rows.start_of.Goals as goal
 
 pub returns-else-index-eq0 : goal.returns-else-index-eq0

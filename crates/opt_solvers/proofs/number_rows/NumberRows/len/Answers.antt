@@ -1,5 +1,5 @@
 use Rattle.std.proofs.Common.{rules, ◌≡◌, ℕ, List, length, sym, ap, ◌∙◌}
-use Rattle.opt_solvers.proofs.NumberRows.{as_many}
+use Rattle.opt_solvers.proofs.Rows.{as_many}
 use Rattle.opt_solvers.proofs.number_rows.NumberRows.len.Goals as goal
 
 pub returns : goal.returns

@@ -1,7 +1,7 @@
 use Rattle.std.proofs.Common.{rules, ◌≡◌, ◌++◌, ◌∷◌, [], ℕ, List, length, sym, ap, ◌∙◌, subst, arith}
 use Rattle.std.proofs.lemmas.List.{length-append}
-use Rattle.opt_solvers.specs.NumberRows.{rows_from, AreEnds}
-use Rattle.opt_solvers.proofs.NumberRows.{ends_more, row_more}
+use Rattle.opt_solvers.specs.Rows.{rows_from, AreEnds}
+use Rattle.opt_solvers.proofs.Rows.{ends_more, row_more}
 use Rattle.opt_solvers.proofs.number_rows.NumberRows.push_row.Goals as goal
 
 pub invariant_of-self-2 : goal.invariant_of-self-2

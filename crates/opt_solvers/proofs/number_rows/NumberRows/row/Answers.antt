@@ -1,5 +1,5 @@
 use Rattle.std.proofs.Common.{rules, ◌≡◌, ◌≤◌, ℕ, List, length, get_or, ap, arith}
-use Rattle.opt_solvers.proofs.NumberRows.{as_many, row_bounds, row_found}
+use Rattle.opt_solvers.proofs.Rows.{as_many, row_bounds, row_found}
 use Rattle.opt_solvers.proofs.number_rows.NumberRows.row.Goals as goal
 
 pub start_of-start-requires : goal.start_of-start-requires
