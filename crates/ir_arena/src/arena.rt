@@ -155,6 +155,17 @@ impl<T> Arena<T> {
         self.slots[p.slot].value_mut()
     }
 
+    /// Makes room for so many values more: the next so many calls of `alloc` ask for no memory. It may grow the slots by
+    /// more than that, so that many calls, each for a few values, copy each slot a few times only.
+    ///
+    /// # Errors
+    /// There may be no memory, or no `usize` for so many slots. Room that was there stays.
+    pub fn reserve(&mut self, values: usize) -> Result<(), AllocError>
+        ensures same { self.new ≡ self.old }
+    {
+        self.slots.reserve(values)
+    }
+
     /// Puts a value under a key that led nowhere so far.
     pub fn alloc(&mut self, value: T) -> Result<Key, AllocError>
     where

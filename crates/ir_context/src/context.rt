@@ -9,9 +9,9 @@ ghost use Rattle.ir_context.specs.Known.{HasKnownTypes};
 use crate::notes::{BlockNotes, OperationData};
 use crate::type_table::TypeTable;
 use ir_names::TypeHandle;
-use ir_program::{IRNode, Program};
+use ir_program::{IRNode, Program, Room};
 use ir_types::{DialectTables, Types};
-use std::alloc::Global;
+use std::alloc::{AllocError, Global};
 use std::marker::Model;
 
 /// Operations, regions, blocks and values, and a table of the types that the values have. Operations carry a payload of
@@ -69,6 +69,17 @@ impl<O, B, T: TypeTable> TypedProgram<O, B, T> {
         ensures { result.now ≡ self.now.program }
     {
         &self.program
+    }
+
+    /// Makes room for so much more in the tables that all operations, regions, blocks and values share, so that they do not
+    /// grow while so much comes. What each operation and each block lists as its own still asks for memory.
+    ///
+    /// # Errors
+    /// There may be no memory for so much. Room that was made stays.
+    pub fn reserve(&mut self, room: Room) -> Result<(), AllocError>
+        ensures same { self.new ≡ self.old }
+    {
+        self.program.reserve(room)
     }
 
     /// Whether there is no operation, no region and no block.

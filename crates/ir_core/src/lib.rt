@@ -75,6 +75,7 @@ pub use ir_program::Operations;
 pub use ir_program::Ptr;
 pub use ir_program::Region;
 pub use ir_program::Regions;
+pub use ir_program::Room;
 pub use ir_program::Use;
 pub use ir_program::Value;
 pub use ir_queries::AttrInterfaceMarker;

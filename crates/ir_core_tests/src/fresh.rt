@@ -2,7 +2,9 @@
 ghost use Rattle.std.specs.Prelude.{◌≡◌, IfOk, OnOk, IsSome};
 ghost use Rattle.ir_program.specs.Program.{operation_at};
 
-use ir_core::{BasicBlock, Context, GrowError, NewBlock, NewOperation, Operation, Ptr, Region};
+use ir_core::{
+    BasicBlock, Context, GrowError, NewBlock, NewOperation, Operation, Ptr, Region, Room,
+};
 use ir_scripts::tiny::{Tiny, TinyOp};
 use std::alloc::{AllocError, Global};
 use std::test::Fail;
@@ -57,5 +59,25 @@ fn a_fresh_context_has_numbers(rt: HostRuntime) -> Result<(), Fail> {
     let mut ctx: Context<Tiny> = Context::new(rt.alloc());
     let outcome = make_each(rt.alloc(), &mut ctx);
     assert!(rt; outcome.is_ok());
+    Ok(())
+}
+
+/// Room for one thing of each sort.
+fn make_room(ctx: &mut Context<Tiny>) -> Result<(), AllocError> {
+    ctx.reserve(Room {
+        operations: 1,
+        regions: 1,
+        blocks: 1,
+        values: 1,
+        operands: 1,
+        successors: 1,
+    })
+}
+
+#[test]
+fn room_is_made_where_memory_is_ample(rt: HostRuntime) -> Result<(), Fail> {
+    let mut ctx: Context<Tiny> = Context::new(rt.alloc());
+    let made = make_room(&mut ctx);
+    assert!(rt; made.is_ok());
     Ok(())
 }

@@ -11,6 +11,23 @@ use ir_arena::Key;
 use std::alloc::AllocError;
 
 impl<O, B, R> Forest<O, B, R> {
+    /// Makes room for so many operations, blocks and regions more: the next so many calls of `new_op`, of `new_block` and
+    /// of `new_region` ask for no memory.
+    ///
+    /// # Errors
+    /// There may be no memory. Room that was made stays.
+    pub fn reserve(&mut self, ops: usize, blocks: usize, regions: usize) -> Result<(), AllocError>
+        ensures same { self.new ≡ self.old }
+    {
+        self.ops.reserve(ops)?;
+        self.blocks.reserve(blocks)?;
+        self.regions.reserve(regions)?;
+        // What stands in a table is a node there, and what holds it has a list.
+        self.in_blocks.reserve(ops, blocks)?;
+        self.in_regions.reserve(blocks, regions)?;
+        self.in_ops.reserve(regions, ops)
+    }
+
     /// Makes an operation, which stands in no block and holds no region.
     pub fn new_op(&mut self, op: O) -> Result<Key, AllocError>
     where

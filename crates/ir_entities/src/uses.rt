@@ -2,7 +2,7 @@
 //!
 //! A place is where a definition is named: an index of a user. The places that name a definition
 //! form its thread, a list in one table of links, so that a place goes from one definition to
-//! another in constant time. Only `define` and `add` ask for memory.
+//! another in constant time. Only `reserve`, `define` and `add` ask for memory.
 
 ghost use Rattle.std.specs.Prelude.{◌≡◌, ◌≢◌, ◌↔◌, ◌^◌, ◌<◌, ◌≤◌, ◌||◌, ℕ, true, false, [], Some, None, IfOk, OnOk, OnErr, IsTrue, MatchOption, length, slice_set};
 ghost use Rattle.slab.specs.Slab.{ContainsKey, HasRoomFor};
@@ -94,6 +94,19 @@ impl<K: Copy> Uses<K> {
             places: Slab::new(alloc),
             threads: Siblings::new(alloc),
         }
+    }
+
+    /// Makes room for so many definitions and so many places more: the next so many calls of `define` and of `add` ask for
+    /// no memory.
+    ///
+    /// # Errors
+    /// There may be no memory. Room that was made stays.
+    pub fn reserve(&mut self, definitions: usize, places: usize) -> Result<(), AllocError>
+        ensures same { self.new ≡ self.old }
+    {
+        self.definitions.reserve(definitions)?;
+        self.places.reserve(places)?;
+        self.threads.reserve(places, definitions)
     }
 
     /// Adds a definition that no place names, under a number that was not in use.

@@ -22,6 +22,7 @@ mod program;
 mod reading;
 mod records;
 mod replacing;
+mod reserving;
 mod results;
 mod retargeting;
 mod some_uses;
@@ -37,5 +38,6 @@ pub use handles::{BasicBlock, DefiningEntity, IRNode, Operation, Ptr, Region, Us
 pub use listing::{Blocks, Operations, Regions};
 pub use program::Program;
 pub use records::{BlockRecord, Definition, OperationRecord};
+pub use reserving::Room;
 pub use uses::ValueUses;
 pub use walking::NodesInside;

@@ -1,5 +1,6 @@
 //! What is made where memory is ample.
-use ir_entities::{Arena, Forest, Siblings};
+use ir_entities::{Arena, Forest, Siblings, Uses};
+use ir_program::{Program, Room};
 use std::test::Fail;
 
 #[test]
@@ -30,5 +31,34 @@ fn a_forest_grows(rt: HostRuntime) -> Result<(), Fail> {
     assert!(rt; forest.new_op(1).is_ok());
     assert!(rt; forest.new_block(2).is_ok());
     assert!(rt; forest.new_region(3).is_ok());
+    Ok(())
+}
+
+#[test]
+fn room_is_made_ahead(rt: HostRuntime) -> Result<(), Fail> {
+    let mut arena: Arena<u8> = Arena::new(rt.alloc());
+    assert!(rt; arena.reserve(3).is_ok());
+    let mut forest: Forest<u8, u8, u8> = Forest::new(rt.alloc());
+    assert!(rt; forest.reserve(3, 2, 1).is_ok());
+    let mut uses: Uses<u8> = Uses::new(rt.alloc());
+    assert!(rt; uses.reserve(3, 2).is_ok());
+    let mut program: Program<u32, u64> = Program::new(rt.alloc());
+    let room = Room {
+        operations: 3,
+        regions: 1,
+        blocks: 2,
+        values: 3,
+        operands: 2,
+        successors: 1,
+    };
+    assert!(rt; program.reserve(room).is_ok());
+    Ok(())
+}
+
+#[test]
+fn room_that_no_number_counts_is_refused(rt: HostRuntime) -> Result<(), Fail> {
+    let mut arena: Arena<u8> = Arena::new(rt.alloc());
+    assert!(rt; arena.alloc(7).is_ok());
+    assert!(rt; arena.reserve(usize::MAX).is_err());
     Ok(())
 }
