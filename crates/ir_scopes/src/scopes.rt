@@ -24,6 +24,18 @@ pub struct Resolution {
     pub definitions: Vec<usize>,
     /// How many definitions there are.
     pub count: usize,
+    pub counts: Counts,
+}
+
+/// How many parts of each kind a text has. Nothing is proved of these numbers: a reader asks for room ahead by them, and
+/// nothing else may depend on them.
+#[derive(Clone, Copy, Debug, PartialEq, Eq)]
+pub struct Counts {
+    pub operations: usize,
+    pub regions: usize,
+    pub labels: usize,
+    /// The mentions of values.
+    pub mentions: usize,
 }
 
 /// Why names aren't looked up.
@@ -191,6 +203,15 @@ fn note_mentions(
     Ok(lacking)
 }
 
+fn counts_of(sites: &Sites) -> Counts {
+    Counts {
+        operations: sites.operations,
+        regions: sites.regions,
+        labels: sites.labels.len(),
+        mentions: sites.mentions.len(),
+    }
+}
+
 /// What the names of a text mean, of which reading did this, or the first fault of its names.
 ///
 /// `names` has a number for each token; two have the same where they are spelled alike. What they mean is written in
@@ -219,6 +240,7 @@ pub fn look_up(
         None => Ok(Resolution {
             definitions,
             count: sites.definitions.len(),
+            counts: counts_of(&sites),
         }),
     }
 }

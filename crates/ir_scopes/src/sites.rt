@@ -50,6 +50,10 @@ pub struct Sites {
     pub mentions: Vec<Site>,
     /// The ends of scopes of values.
     pub closings: Vec<Closing>,
+    /// How many operations begin. Nothing is proved of this number or the next.
+    pub operations: usize,
+    /// How many regions begin.
+    pub regions: usize,
 }
 
 /// A walk over events: how many of each kind have passed, and what is open. How many have passed in all is asked only
@@ -206,6 +210,8 @@ impl Sites {
             labels: Vec::new(alloc),
             mentions: Vec::new(alloc),
             closings: Vec::new(alloc),
+            operations: 0,
+            regions: 0,
         }
     }
 
@@ -246,8 +252,14 @@ impl Sites {
             Action::Result | Action::Argument => self.definitions.push(at.site(at.here.values))?,
             Action::Label => self.labels.push(at.site(at.here.labels))?,
             Action::Operand => self.mentions.push(at.site(at.here.values))?,
-            Action::Operation(number) => at.enter(at.operation(is_isolated(isolated, number)))?,
-            Action::BeginRegion => at.enter(at.region())?,
+            Action::Operation(number) => {
+                self.operations = self.operations.saturating_add(1);
+                at.enter(at.operation(is_isolated(isolated, number)))?;
+            }
+            Action::BeginRegion => {
+                self.regions = self.regions.saturating_add(1);
+                at.enter(at.region())?;
+            }
             Action::EndOperation => {
                 let inner = at.here;
                 at.leave_operation();

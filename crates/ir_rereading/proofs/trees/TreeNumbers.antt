@@ -99,6 +99,7 @@ module _ (names : List ℕ) (ds ms : List Site) (meant : (i : ℕ) (m : Site) �
         small = (let long = length-map-range_with_len number_at 0 (length names) in omega arith);
       };
       count = length ds;
+      counts = record { operations = 0; regions = 0; labels = 0; mentions = 0 };
     },
     record {
       count = refl;
