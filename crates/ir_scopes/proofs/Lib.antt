@@ -3,7 +3,9 @@ pub mod Lacking
 pub mod Marks
 pub mod Places
 pub mod Resolving
-pub mod Tables
+pub mod ListEnds
+pub mod ScopeOrders
+pub mod ScopeWalks
 pub mod Walks
 pub mod Apart
 pub mod ScopeFronts

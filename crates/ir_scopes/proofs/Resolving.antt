@@ -1,8 +1,6 @@
--- From tables of names to what a text has.
-use Rattle.std.proofs.Common.{◌≡◌, ℕ, ◌<◌, Bool, false, List, length, Option, Some, None, slice_get, slice_index, refl, sym, subst, ◌∙◌, ◌⊎◌, inl, inr}
+-- From what looking up finds to what a text has.
+use Rattle.std.proofs.Common.{◌≡◌, ℕ, ◌<◌, Bool, false, List, length, Option, Some, None, slice_get, slice_index, refl, sym, subst, ◌⊎◌, inl, inr}
 use Rattle.std.proofs.lemmas.Bool.{cases_order}
-use Rattle.std.specs.HashMap as hash
-use Rattle.std.specs.HashMap.{HashMap}
 use Rattle.ir_tokens.specs.declared.faults.Fault.{Fault}
 use Rattle.ir_grammar.specs.declared.grammar.Event.{Event}
 use Rattle.ir_grammar.specs.Nesting.{OwnTokens}
@@ -10,10 +8,10 @@ use Rattle.ir_scopes.specs.declared.scopes.Resolution.{Resolution}
 use Rattle.ir_scopes.specs.declared.sites.Site.{Site}
 use Rattle.ir_scopes.specs.declared.sites.Sites.{Sites}
 use Rattle.ir_tokens.specs.Faults.{IsFirstOf, IsNamed}
-use Rattle.ir_scopes.specs.Scopes.{name_of, Names, Means, IsAgain, IsLacking, IsTable, AreDistinct, AreApart, AreSites, HasScopeFault, Resolves, same_key, fault_again, definitions, labels, mentions, closings}
+use Rattle.ir_scopes.specs.Scopes.{name_of, Names, IsAgain, IsLacking, MeanNoted, AreApart, AreSites, HasScopeFault, Resolves, fault_again, definitions, labels, mentions, closings}
 use Rattle.ir_tokens.proofs.FirstFault.{first_of_law}
 use Rattle.ir_scopes.proofs.Apart.{are_apart}
-use Rattle.ir_scopes.proofs.Lacking.{meant, is_meant}
+use Rattle.ir_scopes.proofs.Lacking.{is_meant}
 
 -- a name that isn't defined twice has one number
 one_number : (names : List ℕ) (ds : List Site) → IsNamed (IsAgain names ds) None → (scope name i j : ℕ) → Names names ds scope name i → Names names ds scope name j → i ≡ j
@@ -31,9 +29,9 @@ one_number names ds none scope name i j a b = go (cases_order i j)
     go (inr (inr lt)) = absurd (again j i lt b a)
 
 module _ (isolated : ℕ → Bool) (names : List ℕ) (es : List Event) (s : Sites) (are : AreSites isolated es s) where
-  -- where each name has a token of its own, each mention has one
-  pub mentions_distinct : OwnTokens false es → AreDistinct s.mentions.items
-  mentions_distinct own = subst AreDistinct (sym are.mentions) (are_apart isolated es own).mentions
+  -- where each name has a token of its own, the definitions and mentions have one each
+  pub sites_apart : OwnTokens false es → AreApart s.definitions.items s.mentions.items
+  sites_apart own = subst (λ ds. AreApart ds s.mentions.items) (sym are.definitions) (subst (AreApart (definitions isolated es)) (sym are.mentions) (are_apart isolated es own))
 
   -- the first fault of three rows
   pub merged : (v l u w r : Option Fault) → IsNamed (IsAgain names s.definitions.items) v → IsNamed (IsAgain names s.labels.items) l
@@ -51,17 +49,16 @@ module _ (isolated : ℕ → Bool) (names : List ℕ) (es : List Event) (s : Sit
       (first_of_law Labels Lacking (λ f. Labels f ⊎ Lacking f) l u w (λ f x. x) (λ f x. inl x) (λ f x. inr x) (subst (λ ls. IsNamed (IsAgain names ls) l) are.labels hl) lacking first)
       second
 
-  module _ {S : Type 0} (table : HashMap (ℕ × ℕ) ℕ S) (all : IsTable names s.definitions.items table) (none : IsNamed (HasScopeFault isolated names es) None) where
+  module _ (none : IsNamed (HasScopeFault isolated names es) None) where
     resolves_here : (r : Resolution) → r.count ≡ length s.definitions.items
         → (AreApart s.definitions.items s.mentions.items → (j : ℕ) (d : Site) → slice_get s.definitions.items j ≡ Some d → d.token < length names → slice_index r.definitions.items d.token ≡ j)
-        → (AreApart s.definitions.items s.mentions.items → (i j : ℕ) (m : Site) → slice_get s.mentions.items i ≡ Some m → hash.get same_key table (m.scope, name_of names m.token) ≡ Some j
-        → m.token < length names → slice_index r.definitions.items m.token ≡ j)
+        → (AreApart s.definitions.items s.mentions.items → MeanNoted names s.definitions.items s.mentions.items r.definitions.items)
         → Resolves names s.definitions.items s.mentions.items s.closings.items r
     resolves_here r count defined mentioned = record {
       count = count;
       defined = defined;
-      mentioned = λ apart i j m at means within. number apart i j m at means within (hash.get same_key table (m.scope, name_of names m.token)) refl;
-      resolved = is_meant names s.definitions.items s.mentions.items table all s.closings.items no_lacking;
+      mentioned = λ apart i j m at means within. one_number names s.definitions.items no_again m.scope (name_of names m.token) (slice_index r.definitions.items m.token) j (mentioned apart i j m at means within) means;
+      resolved = is_meant names s.definitions.items s.mentions.items s.closings.items no_lacking;
     }
       where
         no_again : IsNamed (IsAgain names s.definitions.items) None
@@ -73,17 +70,9 @@ module _ (isolated : ℕ → Bool) (names : List ℕ) (es : List Event) (s : Sit
             (subst (λ ms. IsNamed (IsLacking names s.definitions.items ms (closings isolated es)) None) (sym are.mentions)
             (subst (λ ds. IsNamed (IsLacking names ds (mentions isolated es) (closings isolated es)) None) (sym are.definitions) (λ f h. none f (inr (inr h)))))
 
-        number : AreApart s.definitions.items s.mentions.items → (i j : ℕ) (m : Site) → slice_get s.mentions.items i ≡ Some m → Means names s.definitions.items m j → m.token < length names
-            → (o : Option ℕ) → hash.get same_key table (m.scope, name_of names m.token) ≡ o → slice_index r.definitions.items m.token ≡ j
-        number apart i j m at means within None e = absurd (meant names s.definitions.items s.mentions.items table all m None e j means)
-        number apart i j m at means within (Some k) e =
-            mentioned apart i k m at e within
-            ∙ one_number names s.definitions.items no_again m.scope (name_of names m.token) k j (meant names s.definitions.items s.mentions.items table all m (Some k) e) means
-
     pub resolves : (r : Resolution) → r.count ≡ length s.definitions.items
         → (AreApart s.definitions.items s.mentions.items → (j : ℕ) (d : Site) → slice_get s.definitions.items j ≡ Some d → d.token < length names → slice_index r.definitions.items d.token ≡ j)
-        → (AreApart s.definitions.items s.mentions.items → (i j : ℕ) (m : Site) → slice_get s.mentions.items i ≡ Some m → hash.get same_key table (m.scope, name_of names m.token) ≡ Some j
-        → m.token < length names → slice_index r.definitions.items m.token ≡ j)
+        → (AreApart s.definitions.items s.mentions.items → MeanNoted names s.definitions.items s.mentions.items r.definitions.items)
         → Resolves names (definitions isolated es) (mentions isolated es) (closings isolated es) r
     resolves r count defined mentioned =
         subst (λ cs. Resolves names (definitions isolated es) (mentions isolated es) cs r) are.closings

@@ -11,7 +11,7 @@ use Rattle.ir_scopes.specs.declared.sites.Frame.{Frame}
 use Rattle.ir_scopes.specs.declared.sites.Site.{Site}
 use Rattle.ir_grammar.specs.Reading.{tooks}
 use Rattle.ir_scopes.specs.Scopes.{Place, beginning, behind, last_token, rest, here_behind_operation, here_behind_region, defined, labelled, mentioned, closed, ended, each, definitions, labels, mentions, closings, IsAgain, IsLacking, HasScopeFault}
-use Rattle.ir_scopes.proofs.Tables.{get_more}
+use Rattle.ir_scopes.proofs.ListEnds.{get_more}
 use Rattle.ir_scopes.proofs.Apart.{get_append}
 
 none : {X : Type 0} {A : Type 0} (s : X) → None ≡ Some s → A

@@ -1,3 +1,4 @@
 pub mod Scopes
 pub mod Depth
 pub mod Naming
+pub mod Orders

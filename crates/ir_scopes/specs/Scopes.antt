@@ -1,10 +1,9 @@
 -- Where the names of a text stand, what they mean, and the faults of names.
-use Rattle.std.specs.Prelude.{◌≡◌, ℕ, ◌+◌, ◌-◌, ◌<◌, ◌==◌, List, [], ◌∷◌, ◌++◌, Option, Some, None, MatchOption, Bool, true, false, cond, ◌&&◌, nat_eq, ◌⊎◌, slice_get, slice_index, slice_index_or, length, reverse}
+use Rattle.std.specs.Prelude.{◌≡◌, ℕ, ◌+◌, ◌-◌, ◌<◌, ◌==◌, List, [], ◌∷◌, ◌++◌, Option, Some, None, Bool, true, false, cond, ◌⊎◌, slice_get, slice_index, slice_index_or, length, reverse}
 use Rattle.std.specs.Bool.{MatchBool}
-use Rattle.std.specs.HashMap as hash
-use Rattle.std.specs.HashMap.{HashMap}
-use Rattle.std.specs.HashSet as bag
-use Rattle.std.specs.HashSet.{HashSet}
+use Rattle.std.specs.BTreeSet as bag
+use Rattle.std.specs.BTreeSet.{BTreeSet}
+use Rattle.std.specs.Ordering.{nat_cmp}
 use Rattle.ir_grammar.specs.declared.grammar.Action.{Action}
 use Rattle.ir_grammar.specs.declared.grammar.Action.TheVariants.{Result, Argument, Label, Operand, Operation, EndOperation, BeginRegion, EndRegion}
 use Rattle.ir_grammar.specs.declared.grammar.Event.{Event}
@@ -219,27 +218,19 @@ abbrev pub HasScopeFault : (ℕ → Bool) → List ℕ → List Event → Fault 
 HasScopeFault isolated names es f =
     IsAgain names (definitions isolated es) f ⊎ (IsAgain names (labels isolated es) f ⊎ IsLacking names (definitions isolated es) (mentions isolated es) (closings isolated es) f)
 
--- ---- tables
+-- ---- looking up
 
--- two keys, each a scope and a name, are the same
-abbrev pub same_key : ℕ × ℕ → ℕ × ℕ → Bool
-same_key x y = nat_eq x.0 y.0 && nat_eq x.1 y.1
+-- the set has the scopes in which a name is mentioned that has no definition there
+abbrev pub AreLacking : List ℕ → List Site → List Site → BTreeSet ℕ → Type 0
+AreLacking names ds ms set = (scope : ℕ) → MatchBool (bag.contains nat_cmp set scope) (LacksName names ds ms scope) (LacksName names ds ms scope → ⊥)
 
--- the table has a number of each name in each scope that some site has
-abbrev pub IsTable : {S : Type 0} → List ℕ → List Site → HashMap (ℕ × ℕ) ℕ S → Type 0
-IsTable names ss table = (scope name : ℕ) → MatchOption (hash.get same_key table (scope, name)) ((j : ℕ) → Names names ss scope name j → ⊥) (Names names ss scope name)
-
--- some name is mentioned in this scope that the table doesn't have there
-abbrev pub LacksEntry : {S : Type 0} → List ℕ → HashMap (ℕ × ℕ) ℕ S → List Site → ℕ → Type 0
-LacksEntry names table ms scope = (i : ℕ) × (m : Site) × (slice_get ms i ≡ Some m) × (m.scope ≡ scope) × (hash.get same_key table (m.scope, name_of names m.token) ≡ None)
-
--- the set has the scopes in which a name is mentioned that the table doesn't have there
-abbrev pub AreLacking : {S T : Type 0} → List ℕ → HashMap (ℕ × ℕ) ℕ S → List Site → HashSet ℕ T → Type 0
-AreLacking names table ms set = (scope : ℕ) → MatchBool (bag.contains nat_eq set scope) (LacksEntry names table ms scope) (LacksEntry names table ms scope → ⊥)
+-- at the token of each mention that means a definition stands the number of one that it means
+abbrev pub MeanNoted : List ℕ → List Site → List Site → List ℕ → Type 0
+MeanNoted names ds ms places = (i j : ℕ) (m : Site) → slice_get ms i ≡ Some m → Means names ds m j → m.token < length names → Means names ds m (slice_index places m.token)
 
 -- a scope that is in the set ends
-abbrev pub EndsAmong : {T : Type 0} → HashSet ℕ T → List Closing → Fault → Type 0
-EndsAmong set cs f = (i : ℕ) × (c : Closing) × (slice_get cs i ≡ Some c) × (bag.contains nat_eq set c.scope ≡ true) × (f ≡ fault_unresolved c)
+abbrev pub EndsAmong : BTreeSet ℕ → List Closing → Fault → Type 0
+EndsAmong set cs f = (i : ℕ) × (c : Closing) × (slice_get cs i ≡ Some c) × (bag.contains nat_cmp set c.scope ≡ true) × (f ≡ fault_unresolved c)
 
 -- ---- what looking up answers
 

@@ -1,21 +1,20 @@
 //! Which definition each name of a text means.
 //!
 //! All definitions of a scope count, wherever they stand in it, so first all names are collected, and then those that
-//! were mentioned are looked up.
-ghost use Rattle.std.specs.Prelude.{◌≡◌, ◌↔◌, ◌<◌, ℕ, Option, Some, IfOk, OnOk, MatchResult, true, false, length, nat_eq, slice_get, slice_set, slice_index};
-ghost use Rattle.std.specs.HashMap as hash;
-ghost use Rattle.std.specs.HashMap.{Updates};
-ghost use Rattle.std.specs.HashSet as bag;
+//! were mentioned are looked up, one scope after the other.
+ghost use Rattle.std.specs.Prelude.{◌≡◌, ◌↔◌, ◌<◌, ◌≤◌, ◌+◌, ℕ, List, Option, Some, IfOk, OnOk, MatchResult, true, false, length, slice_get, slice_set, slice_index};
+ghost use Rattle.std.specs.List.Sorted.{IsPermutation, IsNonDecreasingBy};
 ghost use Rattle.ir_scopes.specs.declared.sites.Site.{Site};
 ghost use Rattle.ir_grammar.specs.Nesting.{OwnTokens};
-ghost use Rattle.ir_tokens.specs.Faults.{IsNamed};
-ghost use Rattle.ir_scopes.specs.Scopes.{is_marked, name_of, same_key, fault_again, fault_unresolved, IsAgain, IsTable, AreLacking, EndsAmong, AreDistinct, AreApart, IsResolved, IsScopeFault};
+ghost use Rattle.ir_tokens.specs.Faults.{IsNamed, IsFirstOf};
+ghost use Rattle.ir_scopes.specs.Scopes.{is_marked, name_of, fault_again, fault_unresolved, IsAgain, AreLacking, MeanNoted, EndsAmong, AreDistinct, AreApart, IsResolved, IsScopeFault};
+ghost use Rattle.ir_scopes.specs.Orders.{AreNumbered, IsScopeOrder, token_at, AreNamedAlike, HasPlaces, IsWalk, number_passed, again_at, IsWithin, IsThrough};
 
 use crate::sites::{Closing, Site, Sites, sites_of};
 use ir_grammar::grammar::Event;
 use ir_tokens::faults::{Fault, FaultKind, first_of};
 use std::alloc::{AllocError, AllocFailed, Global};
-use std::collections::{HashMap, HashSet};
+use std::collections::BTreeSet;
 
 /// What the names of a text mean.
 #[derive(Drop)]
@@ -67,15 +66,25 @@ impl<T: Drop> From<AllocFailed<T>> for ScopeFault {
     }
 }
 
-/// A number of each name in each scope.
-type Numbers = HashMap<(usize, usize), usize>;
+/// No place in an order.
+const NOWHERE: usize = usize::MAX;
 
-/// The names at some sites.
+/// No scope is behind this one.
+const LAST: usize = usize::MAX;
+
+/// A walk over sites, one scope after the other.
+///
+/// It looks names up by a table with a place for each name, so no text makes this slow. The table serves all scopes: what
+/// an earlier scope left there counts for nothing.
 #[derive(Drop)]
-struct Table {
-    /// The number of the last site of each name in each scope.
-    numbers: Numbers,
-    /// That a site has the name of an earlier one.
+struct Walk {
+    /// The scope and the number of each site, in the order of the scopes, and in each scope in that of the text.
+    order: Vec<(usize, usize)>,
+    /// How many of these were passed.
+    passed: usize,
+    /// Where in the order each name was passed last.
+    latest: Vec<usize>,
+    /// That a site which was passed has the name of an earlier one of its scope.
     again: Option<Fault>,
 }
 
@@ -87,21 +96,6 @@ fn name_of(names: &[usize], token: usize) -> usize
         Some(name) => *name,
         None => 0,
     }
-}
-
-/// The scope and the name of a site.
-fn key_of(names: &[usize], site: Site) -> (usize, usize)
-    ensures scope { result.0 ≡ site.scope }
-    ensures name { result.1 ≡ name_of names.now site.token }
-{
-    (site.scope, name_of(names, site.token))
-}
-
-/// The number that a table has.
-fn number_of(numbers: &Numbers, key: (usize, usize)) -> Option<usize>
-    ensures { result ≡ hash.get same_key numbers.now key }
-{
-    numbers.get(&key).copied()
 }
 
 fn fault_again(token: usize) -> Fault
@@ -124,23 +118,143 @@ fn fault_unresolved(closing: Closing) -> Fault
     }
 }
 
-/// The names at the sites, with the first fault that one stands at two of them in one scope.
-fn table_of(alloc: Global, names: &[usize], sites: &[Site]) -> Result<Table, AllocError>
-    ensures numbers { IfOk result (λ t. IsTable names.now sites.now t.numbers) }
-    ensures again { IfOk result (λ t. IsNamed (IsAgain names.now sites.now) t.again) }
+/// The scope and the number of each site.
+fn numbered(alloc: Global, sites: &[Site]) -> Result<Vec<(usize, usize)>, AllocError>
+    ensures { IfOk result (λ v. AreNumbered sites.now v.items) }
 {
-    let mut numbers: Numbers = HashMap::with_capacity(alloc, sites.len())?;
-    let mut again = None;
+    let mut all = Vec::with_capacity(alloc, sites.len())?;
     for (number, site) in sites.iter().enumerate() {
-        if numbers.insert(key_of(names, *site), number)?.is_some() {
-            again = first_of(again, Some(fault_again(site.token)));
-        }
+        all.push((site.scope, number))?;
     }
-    Ok(Table { numbers, again })
+    Ok(all)
+}
+
+/// The scope and the number of each site, in the order of the scopes, and in each scope in that of the text.
+fn scope_order(alloc: Global, sites: &[Site]) -> Result<Vec<(usize, usize)>, AllocError>
+    ensures { IfOk result (λ v. IsScopeOrder sites.now v.items) }
+{
+    let mut order = numbered(alloc, sites)?;
+    // In most texts they are in this order already. Then this is one walk over them.
+    order.sort_unstable();
+    Ok(order)
+}
+
+/// The greatest of the numbers of names at the sites.
+fn greatest_name(names: &[usize], sites: &[Site]) -> usize
+    ensures { (j : ℕ) (s : Site) → slice_get sites.now j ≡ Some s → name_of names.now s.token ≤ result }
+{
+    let mut greatest = 0;
+    for site in sites {
+        greatest = greatest.max(name_of(names, site.token));
+    }
+    greatest
+}
+
+/// A table with a place for the name of each site, which says that no name was passed.
+fn no_names(alloc: Global, names: &[usize], sites: &[Site]) -> Result<Vec<usize>, AllocError>
+    ensures fits { IfOk result (λ v. HasPlaces names.now sites.now v.items) }
+    ensures none { IfOk result (λ v. (name : ℕ) → name < length v.items → slice_index v.items name ≡ NOWHERE) }
+{
+    match greatest_name(names, sites).checked_add(1) {
+        Some(many) => vec![in alloc; NOWHERE; many],
+        None => Err(AllocError),
+    }
+}
+
+/// The token of the site with this number.
+fn token_at(sites: &[Site], number: usize) -> usize
+    ensures { result ≡ token_at sites.now number }
+{
+    match sites.get(number) {
+        Some(site) => site.token,
+        None => 0,
+    }
+}
+
+impl Walk {
+    /// A walk over these sites, of which none was passed.
+    fn new(alloc: Global, names: &[usize], sites: &[Site]) -> Result<Walk, AllocError>
+        ensures walk { IfOk result (IsWalk names.now sites.now) }
+        ensures passed { IfOk result (λ w. w.passed ≡ 0) }
+    {
+        Ok(Walk {
+            order: scope_order(alloc, sites)?,
+            passed: 0,
+            latest: no_names(alloc, names, sites)?,
+            again: None,
+        })
+    }
+
+    /// The number that a name was passed with last, if that was in this scope.
+    fn number_of(&self, scope: usize, name: usize) -> Option<usize>
+        ensures { result ≡ number_passed self.now scope name }
+    {
+        let place = *self.latest.get(name)?;
+        let (found, number) = *self.order.get(place)?;
+        if found == scope { Some(number) } else { None }
+    }
+
+    /// Passes a site with this scope, name and token.
+    fn pass(&mut self, scope: usize, name: usize, token: usize)
+        requires { self.old.passed < length self.old.order.items }
+        ensures order { self.new.order.items ≡ self.old.order.items }
+        ensures passed { self.new.passed ≡ self.old.passed + 1 }
+        ensures latest { self.new.latest.items ≡ slice_set self.old.latest.items name self.old.passed }
+        ensures again { IsFirstOf self.old.again (again_at (number_passed self.old scope name) token) self.new.again }
+    {
+        if self.number_of(scope, name).is_some() {
+            self.again = first_of(self.again, Some(fault_again(token)));
+        }
+        note(&mut self.latest, name, self.passed);
+        self.passed += 1;
+    }
+
+    /// Passes the next site, if there is one in the scopes up to this one, and says whether it did.
+    fn step(&mut self, names: &[usize], sites: &[Site], last: usize) -> bool
+        ensures walk { (all : List ℕ) → AreNamedAlike all names.now sites.now → IsWalk all sites.now self.old
+            → IsWalk all sites.now self.new }
+        ensures order { self.new.order.items ≡ self.old.order.items }
+        ensures passed { result ≡ true → (self.new.passed ≡ self.old.passed + 1)
+            × (self.new.passed ≤ length self.new.order.items) }
+        ensures within { IsWithin self.old last → IsWithin self.new last }
+        ensures through { result ≡ false → IsScopeOrder sites.now self.old.order.items → IsThrough self.new last }
+        ensures all { result ≡ false → last ≡ LAST → length self.new.order.items ≤ self.new.passed }
+    {
+        let Some((scope, number)) = self.order.get(self.passed).copied() else {
+            return false;
+        };
+        if last < scope {
+            return false;
+        }
+        let token = token_at(sites, number);
+        self.pass(scope, name_of(names, token), token);
+        true
+    }
+
+    /// Passes all sites of the scopes up to this one.
+    fn pass_through(&mut self, names: &[usize], sites: &[Site], last: usize)
+        ensures walk { (all : List ℕ) → AreNamedAlike all names.now sites.now → IsWalk all sites.now self.old
+            → IsWalk all sites.now self.new }
+        ensures order { self.new.order.items ≡ self.old.order.items }
+        ensures within { IsWithin self.old last → IsWithin self.new last }
+        ensures through { IsScopeOrder sites.now self.old.order.items → IsThrough self.new last }
+        ensures all { last ≡ LAST → length self.new.order.items ≤ self.new.passed }
+    {
+        'steps: while self.step(names, sites, last) {}
+    }
+}
+
+/// The first fault that a name stands at two of the sites in one scope.
+fn first_again(alloc: Global, names: &[usize], sites: &[Site]) -> Result<Option<Fault>, AllocError>
+    ensures { IfOk result (IsNamed (IsAgain names.now sites.now)) }
+{
+    let mut walk = Walk::new(alloc, names, sites)?;
+    walk.pass_through(names, sites, LAST);
+    Ok(walk.again)
 }
 
 /// The first fault that one of these scopes ends.
-fn lacking_fault(closings: &[Closing], lacking: &HashSet<usize>) -> Option<Fault>
+fn lacking_fault(closings: &[Closing], lacking: &BTreeSet<usize>) -> Option<Fault>
     ensures { IsNamed (EndsAmong lacking.now closings.now) result }
 {
     let mut fault = None;
@@ -173,34 +287,83 @@ fn note_definitions(places: &mut [usize], definitions: &[Site])
     }
 }
 
-/// Writes what the table has for each mention to the place of its token, where its name stands. Out come the scopes in
-/// which a name is mentioned that the table doesn't have.
+/// Writes the number of the definition that each mention means to the place of its token, where its name stands. Out
+/// come the scopes in which a name is mentioned that has no definition there.
+///
+/// The walk goes over the definitions. It begins here, and passes those of a scope before the mentions in it are looked
+/// up.
 fn note_mentions(
     alloc: Global,
     places: &mut [usize],
+    definitions: &[Site],
     mentions: &[Site],
-    numbers: &Numbers,
-) -> Result<HashSet<usize>, AllocError>
-    requires { AreDistinct mentions.now }
-    ensures lacking { IfOk result (AreLacking places.old numbers.now mentions.now) }
-    ensures noted { OnOk result ((i j : ℕ) (m : Site) → slice_get mentions.now i ≡ Some m
-        → hash.get same_key numbers.now (m.scope, name_of places.old m.token) ≡ Some j
-        → m.token < length places.old → slice_index places.new m.token ≡ j) }
+    walk: &mut Walk,
+) -> Result<BTreeSet<usize>, AllocError>
+    requires apart { AreApart definitions.now mentions.now }
+    requires order { IsNonDecreasingBy (λ m. m.scope) mentions.now }
+    requires walk { IsWalk places.old definitions.now walk.old }
+    requires begins { walk.old.passed ≡ 0 }
+    ensures walk { OnOk result (IsWalk places.old definitions.now walk.new) }
+    ensures lacking { IfOk result (AreLacking places.old definitions.now mentions.now) }
+    ensures noted { OnOk result (MeanNoted places.old definitions.now mentions.now places.new) }
     ensures many { OnOk result (length places.new ≡ length places.old) }
     ensures kept { OnOk result ((k : ℕ) → ((i : ℕ) (m : Site) → slice_get mentions.now i ≡ Some m → m.token ≡ k → ⊥)
         → slice_index places.new k ≡ slice_index places.old k) }
 {
-    let mut lacking = HashSet::new(alloc);
+    let mut lacking = BTreeSet::new(alloc);
     for site in mentions {
-        let key = key_of(places, *site);
-        match number_of(numbers, key) {
+        walk.pass_through(places, definitions, site.scope);
+        match walk.number_of(site.scope, name_of(places, site.token)) {
             Some(number) => note(places, site.token, number),
             None => {
-                lacking.insert(key.0)?;
+                lacking.insert(site.scope)?;
             }
         }
     }
     Ok(lacking)
+}
+
+/// What is wrong with the names of values.
+#[derive(Drop)]
+struct ValueFaults {
+    /// That a value is defined twice.
+    again: Option<Fault>,
+    /// The scopes in which a name is mentioned that has no definition there.
+    lacking: BTreeSet<usize>,
+}
+
+/// Brings sites into the order of their scopes. In most texts they are in it already. Then this is one walk over them.
+fn sort_by_scope(sites: &mut [Site])
+    ensures same { IsPermutation sites.old sites.new }
+    ensures order { IsNonDecreasingBy (λ s. s.scope) sites.new }
+{
+    sites.sort_unstable_by_key(|site| site.scope);
+}
+
+/// Writes the number of the definition that each mention means to the place of its token, where its name stands. The
+/// mentions come into the order of their scopes.
+fn look_up_mentions(
+    alloc: Global,
+    places: &mut [usize],
+    definitions: &[Site],
+    mentions: &mut [Site],
+) -> Result<ValueFaults, AllocError>
+    requires { AreApart definitions.now mentions.old }
+    ensures again { IfOk result (λ a. IsNamed (IsAgain places.old definitions.now) a.again) }
+    ensures lacking { IfOk result (λ a. AreLacking places.old definitions.now mentions.old a.lacking) }
+    ensures noted { OnOk result (MeanNoted places.old definitions.now mentions.old places.new) }
+    ensures many { OnOk result (length places.new ≡ length places.old) }
+    ensures kept { OnOk result ((k : ℕ) → ((i : ℕ) (m : Site) → slice_get mentions.old i ≡ Some m → m.token ≡ k → ⊥)
+        → slice_index places.new k ≡ slice_index places.old k) }
+{
+    let mut walk = Walk::new(alloc, places, definitions)?;
+    sort_by_scope(mentions);
+    let lacking = note_mentions(alloc, places, definitions, mentions, &mut walk)?;
+    walk.pass_through(places, definitions, LAST);
+    Ok(ValueFaults {
+        again: walk.again,
+        lacking,
+    })
 }
 
 fn counts_of(sites: &Sites) -> Counts {
@@ -217,6 +380,10 @@ fn counts_of(sites: &Sites) -> Counts {
 /// `names` has a number for each token; two have the same where they are spelled alike. What they mean is written in
 /// their places, so each name of a value has a token of its own. `isolated` has for each kind of operations whether it
 /// is isolated from above. The text may be unfinished: then the scopes that are still open have no fault yet.
+///
+/// Takes time in proportion to the text where its scopes follow one another, and where one goes on behind another that
+/// stands in it, that of a sort. The table has a place for each number up to the greatest of a definition's or a label's
+/// name: larger numbers than tokens cost memory.
 pub fn look_up(
     alloc: Global,
     names: Vec<usize>,
@@ -228,14 +395,18 @@ pub fn look_up(
         (IsScopeFault (is_marked isolated.now) names.items events.now) }
     ensures many { IfOk result (λ r. length r.definitions.items ≡ length names.items) }
 {
-    let sites = sites_of(alloc, events, isolated)?;
-    let labels = table_of(alloc, &names, &sites.labels)?;
-    let values = table_of(alloc, &names, &sites.definitions)?;
+    let mut sites = sites_of(alloc, events, isolated)?;
+    let labels = first_again(alloc, &names, &sites.labels)?;
     let mut definitions = names;
-    let lacking = note_mentions(alloc, &mut definitions, &sites.mentions, &values.numbers)?;
+    let faults = look_up_mentions(
+        alloc,
+        &mut definitions,
+        &sites.definitions,
+        &mut sites.mentions,
+    )?;
     note_definitions(&mut definitions, &sites.definitions);
-    let unresolved = lacking_fault(&sites.closings, &lacking);
-    match first_of(values.again, first_of(labels.again, unresolved)) {
+    let unresolved = lacking_fault(&sites.closings, &faults.lacking);
+    match first_of(faults.again, first_of(labels, unresolved)) {
         Some(fault) => Err(ScopeFault::Text(fault)),
         None => Ok(Resolution {
             definitions,

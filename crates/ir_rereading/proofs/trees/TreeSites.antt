@@ -5,7 +5,7 @@ use Rattle.ir_grammar.specs.declared.grammar.Event.{Event}
 use Rattle.ir_grammar.specs.declared.grammar.Event.TheVariants.{Took, Did}
 use Rattle.ir_scopes.specs.declared.sites.Site.{Site}
 use Rattle.ir_scopes.specs.Scopes.{Place, behind, defined, mentioned, each}
-use Rattle.ir_scopes.proofs.Tables.{get_more}
+use Rattle.ir_scopes.proofs.ListEnds.{get_more}
 use Rattle.ir_scopes.proofs.Apart.{get_append}
 
 -- ---- members of lists

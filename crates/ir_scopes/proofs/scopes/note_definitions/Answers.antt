@@ -13,11 +13,11 @@ loop-number-preserved c =
     let here : slice_get ds i ≡ Some x = slice_get-get_or ds i _ c.loop-number-test.true in
     let now = c.loop-number.invariant in
     rw c.note.ensures (record {
-      noted = λ apart. written_more (λ s k j. j ≡ k) ds i x here c.loop-number.places i (λ j e. e) apart (now.noted apart);
+      noted = λ apart. written_more (λ s k v. v ≡ k) ds i x here c.loop-number.places i refl apart (now.noted apart);
       kept = λ k none. get_or-set_other c.loop-number.places x.token k i 0 (λ e. none i x (omega arith) here (sym e)) ∙ now.kept k (λ j s lt. none j s (omega (arith, lt)));
     })
 
 pub returns-clause-noted : goal.returns-clause-noted
 returns-clause-noted c = λ apart j s at within.
     let there = slice_get_within c.args.definitions.now j s at in
-    c.loop-number.invariant.noted apart j j s (omega arith) at refl (omega (arith, c.loop-number.auto.places))
+    c.loop-number.invariant.noted apart j s (omega arith) at (omega (arith, c.loop-number.auto.places))

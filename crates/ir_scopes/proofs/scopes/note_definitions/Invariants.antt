@@ -6,6 +6,6 @@ use Rattle.ir_scopes.proofs.scopes.note_definitions.Given as goal
 
 abbrev pub invariant-loop-number : goal.invariant-loop-number
 invariant-loop-number l = record {
-  noted : AreDistinct l.definitions → AreWritten (λ s k j. j ≡ k) l.definitions l.number l.places;
+  noted : AreDistinct l.definitions → AreWritten (λ s k v. v ≡ k) l.definitions l.number l.places;
   kept : (k : ℕ) → ((j : ℕ) (s : Site) → j < l.number → slice_get l.definitions j ≡ Some s → s.token ≡ k → ⊥) → slice_index l.places k ≡ slice_index l.fn.places k;
 }
