@@ -19,9 +19,9 @@ use ir_context::Context;
 use ir_formats::rules::DialectGrammar;
 use ir_formats::words::{classify, spelled};
 use ir_grammar::grammar::Reading;
-use ir_program::{Operation, Ptr};
+use ir_program::{Operation, Ptr, Room};
 use ir_scopes::depth::DEEPEST;
-use ir_scopes::scopes::Resolution;
+use ir_scopes::scopes::{Resolution, ScopeFault};
 use ir_tokens::faults::TextFault;
 use std::alloc::{AllocError, Global};
 use text_assembling::assembling::assemble;
@@ -127,6 +127,7 @@ fn understand<D: ReadDialect>(
 {
     // Names are resolved first: the memory that this works in is free again while operations are made.
     let resolved = resolve::<D>(alloc, names, &reading.events);
+    make_room(ctx, &resolved)?;
     let assembled = assemble(alloc, ctx, source, &reading.events);
     if let Err(fault) = verdict(source, reading, &assembled, &resolved) {
         undo(ctx, &assembled);
@@ -139,6 +140,26 @@ fn understand<D: ReadDialect>(
         unreachable!()
     };
     connect(alloc, ctx, &resolution, &assembly)
+}
+
+/// Makes room in a context for what a text defines and mentions, so that no table is copied as it grows.
+fn make_room<D: TextDialect>(
+    ctx: &mut Context<D>,
+    resolved: &Result<Resolution, ScopeFault>,
+) -> Result<(), AllocError>
+    ensures same { ctx.new ≡ ctx.old }
+{
+    match resolved {
+        Ok(resolution) => ctx.reserve(Room {
+            operations: resolution.counts.operations,
+            regions: resolution.counts.regions,
+            blocks: resolution.counts.labels,
+            values: resolution.count,
+            operands: resolution.counts.mentions,
+            successors: 0,
+        }),
+        Err(_) => Ok(()),
+    }
 }
 
 /// Takes out of the context what was made of a text.
