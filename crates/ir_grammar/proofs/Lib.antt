@@ -4,3 +4,4 @@ pub mod Steps
 pub mod Ends
 pub mod Checks
 pub mod Changes
+pub mod Depths

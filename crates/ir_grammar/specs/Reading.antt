@@ -1,5 +1,5 @@
 -- What is read, and where it is refused.
-use Rattle.std.specs.Prelude.{◌≡◌, Bool, true, false, ℕ, zero, suc, ◌+◌, ◌<◌, ◌≤◌, List, [], ◌∷◌, ◌++◌, ◌-◌, ◌⊎◌, cond, take, length}
+use Rattle.std.specs.Prelude.{◌≡◌, Bool, true, false, ℕ, zero, suc, ◌+◌, ◌<◌, ◌≤◌, List, [], ◌∷◌, ◌++◌, ◌-◌, ◌⊎◌, Option, Some, None, cond, take, length}
 use Rattle.ir_grammar.specs.declared.grammar.Action.{Action}
 use Rattle.ir_grammar.specs.declared.grammar.Action.TheVariants.{BeginRegion, EndRegion, BeginType, EndType, BeginAttribute, EndAttribute, BeginItem}
 use Rattle.ir_grammar.specs.declared.grammar.Event.{Event}
@@ -86,6 +86,17 @@ abbrev pub OpensMore : ℕ → ℕ → List Event → Type 0
 OpensMore many d [] = ⊥
 OpensMore many d (Took ∷ es) = OpensMore many d es
 OpensMore many d (Did a ∷ es) = ((opens a ≡ true) × (many ≤ d)) ⊎ OpensMore many (depth_at d a) es
+
+-- Of events behind n tokens, with d parts open: a part begins at token k, the one before it, where so many are open.
+abbrev pub OpensAt : ℕ → ℕ → ℕ → List Event → ℕ → Type 0
+OpensAt many n d [] k = ⊥
+OpensAt many n d (Took ∷ es) k = OpensAt many (n + 1) d es k
+OpensAt many n d (Did a ∷ es) k = ((opens a ≡ true) × (many ≤ d) × (k ≡ n - 1)) ⊎ OpensAt many n (depth_at d a) es k
+
+-- The first part with so many others around it begins at this token, or there is none.
+abbrev pub IsFirstDeep : ℕ → List Event → Option ℕ → Type 0
+IsFirstDeep many es None = (k : ℕ) → OpensAt many 0 0 es k → ⊥
+IsFirstDeep many es (Some k) = OpensAt many 0 0 es k × ((j : ℕ) → OpensAt many 0 0 es j → k ≤ j)
 
 -- Each text that begins with the first n tokens does this up to the last of them, and opens too many parts before it.
 pub record IsCut (g : Grammar) (root : ℕ) (many : ℕ) (ts : List ℕ) (n : ℕ) (es : List Event) : Type 0 where

@@ -1,5 +1,5 @@
 -- How far a reader has come.
-use Rattle.std.specs.Prelude.{◌≡◌, ℕ, suc, ◌≤◌, List, [], ◌∷◌, ◌++◌, length, ◌⊎◌, Bool, true, false, Option, Some, None}
+use Rattle.std.specs.Prelude.{◌≡◌, ℕ, suc, ◌-◌, ◌≤◌, List, [], ◌∷◌, ◌++◌, length, ◌⊎◌, Bool, true, false, Option, Some, None}
 use Rattle.ir_grammar.specs.declared.grammar.Symbol.{Symbol}
 use Rattle.ir_grammar.specs.declared.grammar.Event.{Event}
 use Rattle.ir_grammar.specs.declared.grammar.Event.TheVariants.{Took}
@@ -8,7 +8,7 @@ use Rattle.ir_grammar.specs.declared.grammar.Stop.{Stop}
 use Rattle.ir_grammar.specs.declared.grammar.Stop.TheVariants.{Text, Stuck, Deep}
 use Rattle.ir_grammar.specs.Grammar.{Derives, IsTextOf, IsText}
 use Rattle.ir_grammar.specs.Table.{column_of}
-use Rattle.ir_grammar.specs.Reading.{through, tooks, IsPrefix, IsMostly, IsMost, OpensMore, depth_after}
+use Rattle.ir_grammar.specs.Reading.{through, tooks, IsPrefix, IsMostly, IsMost, IsFirstDeep, depth_after}
 
 -- After the tokens done, which did this, the stack stands for what may come, whatever it is.
 pub record Leads (g : Grammar) (root : ℕ) (done : List ℕ) (did : List Event) (stack : List Symbol) : Type 0 where
@@ -42,10 +42,11 @@ Advances g root done k false did stack = IsStuck g root done (suc k) × Closes g
 abbrev pub Grows : List Event → List Event → Type 0
 Grows old new = (acts : List Event) × (new ≡ (old ++ acts) ++ Took ∷ [])
 
--- how many parts are open after these events, or none where too many parts were
-abbrev pub IsDepth : ℕ → List Event → Option ℕ → Type 0
-IsDepth many es None = OpensMore many 0 es
-IsDepth many es (Some d) = (d ≤ many) × (d ≡ depth_after 0 es)
+-- How many parts are open after these events, of which none is too deep; or none where the first that is too deep began at the
+-- last of n tokens.
+abbrev pub IsDepth : ℕ → ℕ → List Event → Option ℕ → Type 0
+IsDepth many n es None = IsFirstDeep many es (Some (n - 1))
+IsDepth many n es (Some d) = (d ≤ many) × (d ≡ depth_after 0 es) × IsFirstDeep many es None
 
 -- what closing all that may end answers
 abbrev pub Ends : Grammar → ℕ → List ℕ → Stop → List Event → Type 0

@@ -5,7 +5,7 @@ ghost use Rattle.ir_grammar.specs.declared.grammar.Event.TheVariants.{Did};
 ghost use Rattle.ir_grammar.specs.Grammar.{accepts};
 ghost use Rattle.ir_grammar.specs.Table.{pick, closing_of, IsFine, IsKnown, IsPredictive, CanRead};
 ghost use Rattle.ir_grammar.specs.Run.{Leads, Closes, Advances, Ends, Grows, IsDepth};
-ghost use Rattle.ir_grammar.specs.Reading.{Reads, opens, closes, begins_member};
+ghost use Rattle.ir_grammar.specs.Reading.{Reads, IsFirstDeep, opens, closes, begins_member, tooks};
 ghost use Rattle.ir_grammar.specs.Pending.{unread};
 
 use crate::pending::Pending;
@@ -138,6 +138,8 @@ pub struct Reading {
     pub stop: Stop,
     /// How many tokens were taken.
     pub taken: usize,
+    /// The token at which the first part begins that is too deep, if there is one.
+    pub deep: Option<usize>,
     /// What reading did, with all that may end at the last token unless too much is open.
     pub events: Vec<Event>,
 }
@@ -225,14 +227,14 @@ impl Grammar {
         requires predictive { IsPredictive self.now }
         requires fine { IsFine self.now (unread pending.old) }
         requires known { IsKnown self.now (unread pending.old) }
-        requires depth { IsDepth deepest events.old.items depth.old }
+        requires depth { IsDepth deepest (tooks events.old.items) events.old.items depth.old }
         ensures advanced { IfOk result (λ yes. (root : ℕ) (done : List ℕ)
             → Leads self.now root done events.old.items (unread pending.old)
             → Advances self.now root done kind yes events.new.items (unread pending.new)) }
         ensures grows { IfOk result (λ yes. IsTrue yes → Grows events.old.items events.new.items) }
         ensures fine { OnOk result (IsFine self.now (unread pending.new)) }
         ensures known { OnOk result (IsKnown self.now (unread pending.new)) }
-        ensures depth { OnOk result (IsDepth deepest events.new.items depth.new) }
+        ensures depth { OnOk result (IsDepth deepest (tooks events.old.items) events.new.items depth.new) }
     {
         while let Some(symbol) = pending.first() {
             match symbol {
@@ -261,20 +263,25 @@ impl Grammar {
         Ok(false)
     }
 
-    /// Closes each part that may end, where no further token is taken.
+    /// Closes each part that may end, where no further token is taken. The depth follows what is done.
     fn finish<'g>(
         &'g self,
         mut pending: Pending<'g>,
         mut events: Vec<Event>,
+        mut depth: Option<usize>,
+        deepest: usize,
         taken: usize,
     ) -> Result<Reading, AllocError>
         requires predictive { IsPredictive self.now }
         requires fine { IsFine self.now (unread pending) }
         requires known { IsKnown self.now (unread pending) }
+        requires took { tooks events.items ≡ taken }
+        requires depth { IsDepth deepest taken events.items depth }
         ensures ends { IfOk result (λ r. (root : ℕ) (done : List ℕ)
             → Closes self.now root done events.items (unread pending.entry)
             → Ends self.now root done r.stop r.events.items) }
         ensures taken { IfOk result (λ r. r.taken ≡ taken) }
+        ensures deep { IfOk result (λ r. IsFirstDeep deepest r.events.items r.deep) }
     {
         while let Some(symbol) = pending.first() {
             match symbol {
@@ -282,11 +289,13 @@ impl Grammar {
                     return Ok(Reading {
                         stop: Stop::Stuck,
                         taken,
+                        deep: deep_at(depth, taken),
                         events,
                     });
                 }
                 Symbol::Act(action) => {
                     events.push(Event::Did(action))?;
+                    depth = depth_at(depth, action, deepest);
                     pending.skip();
                 }
                 Symbol::Part(part) => match self.closing(part) {
@@ -294,6 +303,7 @@ impl Grammar {
                         return Ok(Reading {
                             stop: Stop::Stuck,
                             taken,
+                            deep: deep_at(depth, taken),
                             events,
                         });
                     }
@@ -307,6 +317,7 @@ impl Grammar {
         Ok(Reading {
             stop: Stop::Text,
             taken,
+            deep: deep_at(depth, taken),
             events,
         })
     }
@@ -314,9 +325,9 @@ impl Grammar {
     /// Reads the longest front of tokens that begins a text of the part `root`, or up to where too many parts are open.
     ///
     /// In come the kinds of the tokens, by number, and how many regions, types and attributes may be open at once. Out
-    /// comes what stopped the reading, the number of tokens taken and the events, one [`Event::Took`] for each of them.
-    /// [`Stop::Deep`] is answered one token after the first token of the part that is too deep. The only error is
-    /// that memory is refused.
+    /// comes what stopped the reading, the number of tokens taken, where the first part begins that is too deep, and the
+    /// events, one [`Event::Took`] for each token. [`Stop::Deep`] is answered one token after the first token of the
+    /// part that is too deep. The only error is that memory is refused.
     pub fn read(
         &self,
         alloc: Global,
@@ -325,7 +336,8 @@ impl Grammar {
         kinds: &[u32],
     ) -> Result<Reading, AllocError>
         requires { CanRead self.now root }
-        ensures { IfOk result (λ r. Reads self.now root deepest kinds.now r.stop r.taken r.events.items) }
+        ensures reads { IfOk result (λ r. Reads self.now root deepest kinds.now r.stop r.taken r.events.items) }
+        ensures deep { IfOk result (λ r. IsFirstDeep deepest r.events.items r.deep) }
     {
         let start = [Symbol::Part(root)];
         let mut pending = Pending::new(alloc, &start);
@@ -334,23 +346,25 @@ impl Grammar {
         let mut depth = Some(0);
         for taken in 0..kinds.len() {
             if !self.advance(&mut pending, &mut events, &mut depth, deepest, kinds[taken])? {
-                return self.finish(pending, events, taken);
+                return self.finish(pending, events, depth, deepest, taken);
             }
             if depth.is_none() {
                 return Ok(Reading {
                     stop: Stop::Deep,
                     taken: taken + 1,
+                    deep: deep_at(depth, taken),
                     events,
                 });
             }
         }
-        self.finish(pending, events, kinds.len())
+        self.finish(pending, events, depth, deepest, kinds.len())
     }
 }
 
-/// How many parts are open after one more action, or none where too many parts were.
+/// How many parts are open after one more action, or none where a part was too deep.
 fn depth_at(depth: Option<usize>, action: Action, deepest: usize) -> Option<usize>
-    ensures { (done : List Event) → IsDepth deepest done depth → IsDepth deepest (done ++ Did action ∷ []) result }
+    ensures { (done : List Event) → IsDepth deepest (tooks done) done depth
+        → IsDepth deepest (tooks done) (done ++ Did action ∷ []) result }
 {
     let open = depth?;
     match action.change() {
@@ -362,5 +376,15 @@ fn depth_at(depth: Option<usize>, action: Action, deepest: usize) -> Option<usiz
         }
         Change::Closes => Some(open.saturating_sub(1)),
         Change::Keeps => Some(open),
+    }
+}
+
+/// The token at which the first part begins that is too deep, if one is: the last of so many tokens.
+fn deep_at(depth: Option<usize>, taken: usize) -> Option<usize>
+    ensures { (deepest : ℕ) (done : List Event) → IsDepth deepest taken done depth → IsFirstDeep deepest done result }
+{
+    match depth {
+        None => Some(taken.saturating_sub(1)),
+        Some(_) => None,
     }
 }

@@ -4,7 +4,7 @@ use Rattle.ir_grammar.specs.declared.grammar.Symbol.TheVariants.{Sign, Part, Act
 use Rattle.ir_grammar.specs.Pending.{unread}
 use Rattle.ir_grammar.proofs.Derivations.{leads_at, stuck_end}
 use Rattle.ir_grammar.proofs.Closing.{closes_first, prefix_self, prefix_more}
-use Rattle.ir_grammar.proofs.Ends.{depth_took}
+use Rattle.ir_grammar.proofs.Depths.{tooks_acted, depth_acted, depth_took}
 use Rattle.ir_grammar.proofs.Steps.{rule_at, rule_within, step_leads, step_acted, step_shifted, step_fine, step_known, step_lower, stuck_at, stuck_token, on_acted, on_expanded, off_part, off_sign, off_end}
 use Rattle.ir_grammar.proofs.grammar.Grammar.advance.Goals as goal
 use Rattle.ir_grammar.proofs.grammar.Grammar.advance.Goals.{In-Sign, In-Part, In-Act, In_ok-open-in-Some-pick, In_default}
@@ -26,6 +26,7 @@ loop-symbol-init c = record {
   on = inl (λ root done l. closes_first c.args.self.now c.requires.predictive root done _ _ l);
   fine = c.requires.fine;
   known = c.requires.known;
+  took = refl;
   depth = c.requires.depth;
 }
 
@@ -44,7 +45,9 @@ returns-in-Sign-clause-advanced c root done l =
     c.in_ok-push-in-Sign.ensures.items (sym c.accepts.ensures ∙ c.if-not-accepts.false) (c.loop-symbol.invariant.leads root done l))
 
 pub returns-in-Sign-clause-depth : goal.returns-in-Sign-clause-depth
-returns-in-Sign-clause-depth c = rw c.in_ok-push-in-Sign.ensures.items (depth_took c.args.deepest c.loop-symbol.events.items c.loop-symbol.depth c.loop-symbol.invariant.depth)
+returns-in-Sign-clause-depth c =
+    let took = c.loop-symbol.invariant.took in
+    rw c.in_ok-push-in-Sign.ensures.items (depth_took c.args.deepest _ c.loop-symbol.events.items c.loop-symbol.depth (omega (arith, took)) c.loop-symbol.invariant.depth)
 
 pub loop-symbol-preserved-in-Act : goal.loop-symbol-preserved-in-Act
 loop-symbol-preserved-in-Act c =
@@ -59,7 +62,8 @@ loop-symbol-preserved-in-Act c =
       on = rw c.skip-in-Act.ensures (on_acted g c.requires.predictive _ _ _ _ _ _ (c.args.kind + 1) top more c.loop-symbol.invariant.on);
       fine = rw c.skip-in-Act.ensures fine;
       known = rw c.skip-in-Act.ensures known;
-      depth = rw more (c.depth_at.ensures c.loop-symbol.events.items c.loop-symbol.invariant.depth);
+      took = rw more (tooks_acted c.loop-symbol.events.items c.in-Act.action _ c.loop-symbol.invariant.took);
+      depth = rw more (depth_acted c.args.deepest _ c.loop-symbol.events.items c.in-Act.action c.loop-symbol.depth _ c.loop-symbol.invariant.took c.depth_at.ensures c.loop-symbol.invariant.depth);
     }
 
 pub returns-in-None-clause-advanced : goal.returns-in-None-clause-advanced
@@ -109,6 +113,7 @@ loop-symbol-preserved c =
       on = on_expanded g c.requires.predictive _ _ _ _ _ _ (c.args.kind + 1) _ _ top t (read d) (next d) fine c.loop-symbol.invariant.on;
       fine = step_fine g c.requires.predictive _ _ _ _ _ _ top (of d) (read d) (next d) fine;
       known = step_known g c.requires.predictive _ _ _ _ _ _ top (read d) (next d) c.loop-symbol.invariant.known;
+      took = c.loop-symbol.invariant.took;
       depth = c.loop-symbol.invariant.depth;
     }
 

@@ -1,6 +1,6 @@
-use Rattle.std.proofs.Common.{ℕ, List, ◌+◌}
+use Rattle.std.proofs.Common.{◌≡◌, ℕ, List, ◌+◌}
 use Rattle.ir_grammar.specs.Table.{IsFine, IsKnown, height}
-use Rattle.ir_grammar.specs.Reading.{IsPrefix}
+use Rattle.ir_grammar.specs.Reading.{tooks, IsPrefix}
 use Rattle.ir_grammar.specs.Run.{Leads, LeadsAt, IsDepth}
 use Rattle.ir_grammar.specs.Pending.{unread}
 use Rattle.ir_grammar.proofs.Steps.{IsOn}
@@ -15,7 +15,8 @@ invariant-loop-symbol l = record {
   grows : IsPrefix l.fn.events.items l.events.items;
   fine : IsFine l.self (unread l.pending);
   known : IsKnown l.self (unread l.pending);
-  depth : IsDepth l.deepest l.events.items l.depth;
+  took : tooks l.events.items ≡ tooks l.fn.events.items;
+  depth : IsDepth l.deepest (tooks l.fn.events.items) l.events.items l.depth;
 }
 
 abbrev pub decreases-loop-symbol : goal.decreases-loop-symbol

@@ -2,6 +2,7 @@ use Rattle.std.proofs.Common.{◌≡◌, [], ◌∷◌, ◌++◌, Some, slice_ge
 use Rattle.std.proofs.lemmas.Option.{slice_get_read}
 use Rattle.ir_grammar.specs.declared.grammar.Symbol.TheVariants.{Sign, Part, Act}
 use Rattle.ir_grammar.specs.Pending.{unread}
+use Rattle.ir_grammar.proofs.Depths.{tooks_acted, depth_acted}
 use Rattle.ir_grammar.proofs.Closing.{closes_acted, closes_expanded, stops_sign, stops_part, closes_all}
 use Rattle.ir_grammar.proofs.Steps.{closing_at, closing_within, step_fine, step_known, step_lower}
 use Rattle.ir_grammar.proofs.grammar.Grammar.finish.Goals as goal
@@ -24,6 +25,15 @@ returns-in-Sign-clause-ends c root done l =
     let closes = rw top at (c.loop-symbol.invariant.closes root done l) in
     stops_sign c.args.self.now c.requires.predictive root done _ _ _ known closes
 
+pub returns-in-Sign-clause-deep : goal.returns-in-Sign-clause-deep
+returns-in-Sign-clause-deep c = c.deep_at.ensures c.args.deepest c.loop-symbol.events.items c.loop-symbol.invariant.depth
+
+pub returns-in-None-clause-deep : goal.returns-in-None-clause-deep
+returns-in-None-clause-deep c = c.deep_at-in-None.ensures c.args.deepest c.loop-symbol.events.items c.loop-symbol.invariant.depth
+
+pub returns-clause-deep : goal.returns-clause-deep
+returns-clause-deep c = c.deep_at-2.ensures c.args.deepest c.loop-symbol.events.items c.loop-symbol.invariant.depth
+
 pub loop-symbol-preserved-in-Act : goal.loop-symbol-preserved-in-Act
 loop-symbol-preserved-in-Act c =
     let top = acted (goal.at.loop-symbol-preserved-in-Act c).In-Act in
@@ -34,6 +44,8 @@ loop-symbol-preserved-in-Act c =
           rw (c.skip.ensures, c.in_ok-push-in-Act.ensures.items) (closes_acted c.args.self.now c.requires.predictive root done _ _ _ closes);
       fine = rw c.skip.ensures fine;
       known = rw c.skip.ensures known;
+      took = rw c.in_ok-push-in-Act.ensures.items (tooks_acted c.loop-symbol.events.items c.in-Act.action _ c.loop-symbol.invariant.took);
+      depth = rw c.in_ok-push-in-Act.ensures.items (depth_acted c.args.deepest _ c.loop-symbol.events.items c.in-Act.action c.loop-symbol.depth _ c.loop-symbol.invariant.took c.depth_at-depth.ensures c.loop-symbol.invariant.depth);
     }
 
 pub returns-in-None-clause-ends : goal.returns-in-None-clause-ends
@@ -81,6 +93,8 @@ loop-symbol-preserved c =
           rw (next d) (closes_expanded g c.requires.predictive root done _ _ _ _ _ fine' (sym c.in-Some-closing.ensures) (read d) (of d) closes);
       fine = step_fine g c.requires.predictive _ _ _ _ _ _ top (of d) (read d) (next d) fine;
       known = step_known g c.requires.predictive _ _ _ _ _ _ top (read d) (next d) c.loop-symbol.invariant.known;
+      took = c.loop-symbol.invariant.took;
+      depth = c.loop-symbol.invariant.depth;
     }
 
 empty : (c : In_default) → unread c.loop-symbol.pending ≡ []

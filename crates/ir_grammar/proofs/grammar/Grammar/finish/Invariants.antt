@@ -1,6 +1,7 @@
-use Rattle.std.proofs.Common.{ℕ, List}
+use Rattle.std.proofs.Common.{◌≡◌, ℕ, List}
 use Rattle.ir_grammar.specs.Table.{IsFine, IsKnown, height}
-use Rattle.ir_grammar.specs.Run.{Closes}
+use Rattle.ir_grammar.specs.Reading.{tooks}
+use Rattle.ir_grammar.specs.Run.{Closes, IsDepth}
 use Rattle.ir_grammar.specs.Pending.{unread}
 use Rattle.ir_grammar.proofs.grammar.Grammar.finish.Given as goal
 
@@ -11,6 +12,8 @@ invariant-loop-symbol l = record {
       → Closes l.self root done l.events.items (unread l.pending);
   fine : IsFine l.self (unread l.pending);
   known : IsKnown l.self (unread l.pending);
+  took : tooks l.events.items ≡ l.taken;
+  depth : IsDepth l.deepest l.taken l.events.items l.depth;
 }
 
 abbrev pub decreases-loop-symbol : goal.decreases-loop-symbol

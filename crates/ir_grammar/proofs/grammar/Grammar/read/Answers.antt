@@ -1,20 +1,26 @@
-use Rattle.std.proofs.Common.{false, ◌∷◌, ◌++◌, [], take, length, get_or, ap, not, ◌≡◌, ◌∙◌, arith, ◌≤◌}
-use Rattle.std.proofs.lemmas.List.{take_more}
-use Rattle.ir_grammar.specs.Run.{Advances, Leads}
+use Rattle.std.proofs.Common.{false, ◌∷◌, ◌++◌, [], take, length, get_or, ap, not, ◌≡◌, ◌∙◌, arith, subst, ◌≤◌}
+use Rattle.std.proofs.lemmas.List.{take_more, length-take-le}
+use Rattle.ir_grammar.specs.Run.{Advances, Leads, IsDepth}
 use Rattle.ir_grammar.specs.Pending.{unread}
 use Rattle.ir_grammar.proofs.Closing.{closes_first}
-use Rattle.ir_grammar.proofs.Ends.{longest, reads_at, cut, depth_none}
+use Rattle.ir_grammar.proofs.Ends.{longest, reads_at, tooks_taken, cut}
+use Rattle.ir_grammar.proofs.Depths.{depth_none, depth_some}
 use Rattle.ir_grammar.proofs.grammar.Grammar.read.Goals as goal
-use Rattle.ir_grammar.proofs.grammar.Grammar.read.Goals.{After-finish, After-is_none}
+use Rattle.ir_grammar.proofs.grammar.Grammar.read.Goals.{Then-not-branch, After-is_none}
 
 -- a token is refused
-refused : (c : After-finish) → Advances c.args.self.now c.args.root (take c.loop-taken.taken c.args.kinds.now) (get_or c.args.kinds.now c.loop-taken.taken 0) false c.advance.new.events.items (unread c.advance.new.pending)
+refused : (c : Then-not-branch) → Advances c.args.self.now c.args.root (take c.loop-taken.taken c.args.kinds.now) (get_or c.args.kinds.now c.loop-taken.taken 0) false c.advance.new.events.items (unread c.advance.new.pending)
 refused c = rw c.if-not-branch.true at (c.in_ok-advance.ensures.advanced c.args.root _ c.loop-taken.invariant.leads)
 
-pub returns-then-not-branch : goal.returns-then-not-branch
-returns-then-not-branch c =
+pub finish-requires-clause-took : goal.finish-requires-clause-took
+finish-requires-clause-took c =
+    let r = refused c in
+    r.1.took ∙ length-take-le c.loop-taken.taken c.args.kinds.now (omega arith)
+
+pub returns-then-not-branch-clause-reads : goal.returns-then-not-branch-clause-reads
+returns-then-not-branch-clause-reads c =
     let g = c.args.self.now in
-    let r = refused (goal.at.returns-then-not-branch c).After-finish in
+    let r = refused (goal.at.returns-then-not-branch-clause-reads c).Then-not-branch in
     let n : c.loop-taken.taken ≤ length c.args.kinds.now = omega arith in
     reads_at g c.args.root c.args.deepest c.args.kinds.now c.loop-taken.taken _ _ _
     (longest g c.requires.predictive c.args.root c.args.kinds.now _ _ c.loop-taken.taken n c.loop-taken.invariant.known c.loop-taken.invariant.leads (λ _. r.0))
@@ -26,22 +32,27 @@ taken c =
     let h = rw c.if-not-branch.false at (c.in_ok-advance.ensures.advanced c.args.root _ c.loop-taken.invariant.leads) in
     h
 
-pub returns-then-is_none : goal.returns-then-is_none
-returns-then-is_none c =
-    let d = (goal.at.returns-then-is_none c).After-is_none in
-    cut c.args.self.now c.requires.predictive c.args.root c.args.deepest c.args.kinds.now _ _ _ c.loop-taken.taken c.loop-taken-test.true c.in_ok-advance.ensures.known
-    (c.in_ok-advance.ensures.grows c.if-not-branch.false) (taken d) (depth_none c.args.deepest c.advance.new.events.items c.advance.new.depth (c.is_none.ensures ∙ ap not c.if-is_none.true) c.in_ok-advance.ensures.depth)
+pub returns-then-is_none-clause-reads : goal.returns-then-is_none-clause-reads
+returns-then-is_none-clause-reads c =
+    let d = (goal.at.returns-then-is_none-clause-reads c).After-is_none in
+    cut c.args.self.now c.requires.predictive c.args.root c.args.deepest c.args.kinds.now _ _ _ c.loop-taken.taken _ c.loop-taken-test.true c.in_ok-advance.ensures.known
+    (c.in_ok-advance.ensures.grows c.if-not-branch.false) (taken d) (depth_none c.args.deepest _ c.advance.new.events.items c.advance.new.depth (c.is_none.ensures ∙ ap not c.if-is_none.true) c.in_ok-advance.ensures.depth)
+
+pub returns-then-is_none-clause-deep : goal.returns-then-is_none-clause-deep
+returns-then-is_none-clause-deep c =
+    let took = tooks_taken c.loop-taken.taken c.args.kinds.now (c.loop-taken.invariant.leads) (omega arith) in
+    c.deep_at.ensures c.args.deepest c.advance.new.events.items (subst (λ n. IsDepth c.args.deepest n c.advance.new.events.items c.advance.new.depth) took c.in_ok-advance.ensures.depth)
 
 pub loop-taken-preserved : goal.loop-taken-preserved
 loop-taken-preserved c = record {
   leads = rw (take_more c.args.kinds.now c.loop-taken.taken 0 c.loop-taken-test.true) (taken (goal.at.loop-taken-preserved c).After-is_none);
-  depth = c.in_ok-advance.ensures.depth;
+  depth = depth_some c.args.deepest _ _ c.advance.new.events.items c.advance.new.depth (c.is_none.ensures ∙ ap not c.if-is_none.false) c.in_ok-advance.ensures.depth;
   fine = c.in_ok-advance.ensures.fine;
   known = c.in_ok-advance.ensures.known;
 }
 
-pub returns : goal.returns
-returns c =
+pub returns-clause-reads : goal.returns-clause-reads
+returns-clause-reads c =
     let g = c.args.self.now in
     let e : c.loop-taken.taken ≡ length c.args.kinds.now = omega arith in
     let l = longest g c.requires.predictive c.args.root c.args.kinds.now _ _ c.loop-taken.taken (omega arith) c.loop-taken.invariant.known c.loop-taken.invariant.leads (λ lt. absurd (omega arith)) in

@@ -7,7 +7,7 @@ use Rattle.ir_grammar.proofs.grammar.Grammar.read.Given as goal
 abbrev pub invariant-loop-taken : goal.invariant-loop-taken
 invariant-loop-taken l = record {
   leads : Leads l.self l.root (take l.taken l.kinds) l.events.items (unread l.pending);
-  depth : IsDepth l.deepest l.events.items l.depth;
+  depth : IsDepth l.deepest l.taken l.events.items l.depth;
   fine : IsFine l.self (unread l.pending);
   known : IsKnown l.self (unread l.pending);
 }
