@@ -1,7 +1,6 @@
-//! The names of a text: where they stand, what they mean, and the first fault of names; and how deep its parts stand.
+//! The names of a text: where they stand, what they mean, and the first fault of names; and how deep its parts may stand.
 //!
-//! All is over the events that reading gives. [`look_up`](scopes::look_up) looks up values and labels in their scopes,
-//! and [`too_deep`](depth::too_deep) finds the first part below 64 others.
+//! All is over the events that reading gives. [`look_up`](scopes::look_up) looks up values and labels in their scopes.
 #![tactic(auto)]
 
 pub mod depth;
