@@ -10,10 +10,10 @@ use Rattle.ir_grammar.specs.declared.grammar.Action.TheVariants as act
 use Rattle.ir_grammar.specs.declared.grammar.Event.{Event}
 use Rattle.ir_grammar.specs.declared.grammar.Event.TheVariants.{Took, Did}
 use Rattle.ir_tokens.specs.declared.faults.Fault.{Fault}
-use Rattle.ir_scopes.specs.Depth.{OpensAt, IsTooDeep, fault_deep}
+use Rattle.ir_scopes.specs.Depth.{IsTooDeep, fault_deep}
 use Rattle.ir_forest.specs.Forest.{end_of, is_end, Deed, deeds_from, Step, ending, deeds_of, deeds_in, IsWholeStep, AreWhole, IsForest}
 use Rattle.ir_forest.specs.Meaning.{pieces_in, arguments_in, operations_in, regions_in, blocks_in, renamed, all_renamed}
-use Rattle.ir_grammar.specs.Reading.{opens, depth_at}
+use Rattle.ir_grammar.specs.Reading.{opens, depth_at, OpensAt}
 use Rattle.ir_forest.specs.Closed.{IsOperation}
 use Rattle.ir_formats.specs.Ordered.{is_ordered}
 use Rattle.ir_formats.specs.Ordered as ordered

@@ -13,11 +13,11 @@ use Rattle.ir_grammar.specs.declared.grammar.Event.{Event}
 use Rattle.ir_grammar.specs.declared.grammar.Event.TheVariants.{Took, Did}
 use Rattle.ir_tokens.specs.declared.faults.Fault.{Fault}
 use Rattle.ir_forest.specs.Building.{Open, Built, nothing_built, ended_tree, with_end, after, with_name, names_behind}
-use Rattle.ir_scopes.specs.Depth.{OpensAt, IsTooDeep}
+use Rattle.ir_scopes.specs.Depth.{IsTooDeep}
 use Rattle.ir_forest.specs.Forest.{end_of, is_end, Deed, deeds, deeds_from, Step, ending, deeds_of, deeds_in, IsWholeStep, AreWhole}
 use Rattle.ir_forest.specs.Meaning.{pieces_in}
 use Rattle.ir_forest.specs.Progress.{run}
-use Rattle.ir_grammar.specs.Reading.{opens, depth_at, OpensMore}
+use Rattle.ir_grammar.specs.Reading.{opens, depth_at, OpensMore, OpensAt}
 use Rattle.ir_forest.specs.ValueFaults.{results, EndsInResult, HasNumberFault, HasNamesFault}
 use Rattle.ir_forest.proofs.BuiltSteps.{Sort, alone, opening, closing, sort_of, after_by, after_is, EndsBy, ends_by, end_sort}
 use Rattle.ir_forest.proofs.BuiltTrees.{run_append, AllBefore, AllBuilt, pushed, run_trees, run_tree}

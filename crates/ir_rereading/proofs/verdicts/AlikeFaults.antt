@@ -9,8 +9,8 @@ use Rattle.ir_grammar.specs.declared.grammar.Event.TheVariants.{Took, Did}
 use Rattle.ir_grammar.specs.declared.grammar.Stop.{Stop}
 use Rattle.ir_tokens.specs.declared.tokens.Token.{Token}
 use Rattle.ir_tokens.specs.declared.faults.Fault.{Fault}
-use Rattle.ir_grammar.specs.Reading.{opens, depth_at, tooks, begins_member, OnlyBegins, AreAlike}
-use Rattle.ir_scopes.specs.Depth.{OpensAt, IsTooDeep}
+use Rattle.ir_grammar.specs.Reading.{opens, depth_at, tooks, begins_member, OnlyBegins, AreAlike, OpensAt}
+use Rattle.ir_scopes.specs.Depth.{IsTooDeep}
 use Rattle.ir_forest.specs.Forest.{Deed, deeds, deeds_from, deeds_of, deeds_in, ending, end_of, Step, IsWholeStep, HasTree}
 use Rattle.ir_forest.specs.ValueFaults.{results, HasNumberFault, HasNamesFault}
 use Rattle.ir_scopes.specs.Scopes.{Place, beginning, behind, defined, labelled, mentioned, closed, each, definitions, mentions, closings, IsAgain, IsLacking, HasScopeFault}

@@ -15,11 +15,11 @@ use Rattle.ir_grammar.specs.declared.grammar.Stop.TheVariants as stops
 use Rattle.ir_tokens.specs.declared.tokens.Token.{Token}
 use Rattle.ir_tokens.specs.declared.faults.Fault.{Fault}
 use Rattle.ir_grammar.specs.Grammar.{IsTextOf, IsViable}
-use Rattle.ir_grammar.specs.Reading.{IsLongestFront, IsMost, IsPrefix, IsCut, Reads, OpensMore, opens, depth_at, through, tooks, AreAlike}
+use Rattle.ir_grammar.specs.Reading.{IsLongestFront, IsMost, IsPrefix, IsCut, Reads, OpensMore, OpensAt, opens, depth_at, through, tooks, AreAlike}
 use Rattle.ir_grammar.specs.Nesting.{has_own_token, FollowTokens}
 use Rattle.ir_formats.specs.Ordered.{IsInOrder, OrdersTexts}
 use Rattle.ir_tokens.specs.Faults.{Precedes, IsNamed}
-use Rattle.ir_scopes.specs.Depth.{OpensAt, IsTooDeep}
+use Rattle.ir_scopes.specs.Depth.{IsTooDeep}
 use Rattle.ir_forest.specs.Forest.{Deed, deeds, deeds_from, deeds_of, deeds_in, ending, end_of, Step, IsWholeStep}
 use Rattle.ir_forest.specs.ValueFaults.{results, HasNumberFault, HasNamesFault}
 use Rattle.ir_scopes.specs.Scopes.{HasScopeFault}
