@@ -325,9 +325,9 @@ impl Grammar {
     /// Reads the longest front of tokens that begins a text of the part `root`, or up to where too many parts are open.
     ///
     /// In come the kinds of the tokens, by number, and how many regions, types and attributes may be open at once. Out
-    /// comes what stopped the reading, the number of tokens taken, where the first part begins that is too deep, and the
-    /// events, one [`Event::Took`] for each token. [`Stop::Deep`] is answered one token after the first token of the
-    /// part that is too deep. The only error is that memory is refused.
+    /// comes what stopped the reading, the number of tokens taken, where the first part begins that is too deep, and
+    /// the events, one [`Event::Took`] for each token. [`Stop::Deep`] is answered one token after the first token of
+    /// the part that is too deep. The only error is that memory is refused.
     pub fn read(
         &self,
         alloc: Global,
