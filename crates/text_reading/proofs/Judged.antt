@@ -6,6 +6,7 @@ use Rattle.ir_grammar.specs.declared.grammar.Event.{Event}
 use Rattle.ir_grammar.specs.declared.grammar.Reading.{Reading}
 use Rattle.ir_scopes.specs.declared.scopes.Resolution.{Resolution}
 use Rattle.ir_scopes.specs.declared.scopes.ScopeFault.{ScopeFault}
+use Rattle.ir_scopes.specs.Depth.{IsFirstTooDeep}
 use Rattle.ir_scopes.specs.Scopes.{IsResolved, IsScopeFault}
 use Rattle.ir_formats.specs.Ordered.{Leads, is_ordered}
 use Rattle.ir_formats.specs.Rules.{rules_of}
@@ -24,16 +25,17 @@ pub judged_so : (l : Language) (leads : Leads) → is_ordered leads (rules_of l.
     → (cs : List ℕ) (ts : List Token) (names : List ℕ) (r : Reading) (xs ys : List Event)
     → (assembled : Result Assembly AssemblyFault) (resolved : Result Resolution ScopeFault)
     → (text : ℕ → List ℕ) → text ≡ token_text cs ts → xs ≡ r.events.items → ys ≡ r.events.items
-    → IsReading l cs ts names r.stop r.taken r.events.items
+    → IsReading l cs ts names r.stop r.taken r.events.items → IsFirstTooDeep r.events.items r.deep
     → OnOk assembled (first_refusal l.values text xs ≡ None)
     → ((f : Fault) → assembled ≡ Err (Text f) → first_refusal l.values text xs ≡ Some f)
     → MatchResult resolved (IsResolved l.isolated names ys) (IsScopeFault l.isolated names ys)
     → IsJudged l cs ts names r assembled resolved
-judged_so l leads ordered cs ts names r xs ys assembled resolved written same e f reading sound refused found =
+judged_so l leads ordered cs ts names r xs ys assembled resolved written same e f reading deep sound refused found =
     let text = token_text cs ts in
     let order = read_in_order l leads ordered cs ts names r.taken r.events.items r.stop reading in
     record {
       reading = reading;
+      deep = deep;
       first = first_refusal l.values text r.events.items;
       named = values_named l.values text r.events.items r.events.items (first_refusal l.values text r.events.items) refl order (λ nests follows. refl);
       values_made = subst (λ z. OnOk assembled (first_refusal l.values text z ≡ None)) e

@@ -8,6 +8,7 @@ ghost use Rattle.text_frames.specs.declared.opened.AssemblyFault.TheVariants as 
 ghost use Rattle.ir_tokens.specs.declared.tokens.Token.{Token};
 ghost use Rattle.ir_tokens.specs.Faults.{IsNamed};
 ghost use Rattle.ir_tokens.specs.Tokens.{starts_of, ReadsAs};
+ghost use Rattle.ir_scopes.specs.Depth.{IsTooDeep, IsFirstTooDeep};
 ghost use Rattle.ir_scopes.specs.Scopes.{HasScopeFault, IsResolved, IsScopeFault};
 ghost use Rattle.ir_rereading.specs.Texts.{IsSyntaxFault, HasFault, IsRefusal, place_of, tell};
 ghost use Rattle.text_reading.specs.Judged.{IsJudged};
@@ -16,7 +17,6 @@ ghost use Rattle.ir_forest.specs.Language.{Language};
 ghost use Rattle.ir_forest.specs.ValueFaults.{HasNumberFault, HasNamesFault};
 
 use ir_grammar::grammar::{Reading, Stop};
-use ir_scopes::depth::too_deep;
 use ir_scopes::scopes::{Resolution, ScopeFault};
 use ir_tokens::faults::{Fault, FaultKind, ScopeCause, TextFault, first_of};
 use ir_tokens::tokens::place_after;
@@ -43,6 +43,19 @@ fn syntax_fault(reading: &Reading, tokens: usize) -> Option<Fault>
     } else {
         None
     }
+}
+
+/// The fault of the first part that is too deep.
+fn deep_fault(reading: &Reading) -> Option<Fault>
+    ensures { IsFirstTooDeep reading.now.events.items reading.now.deep
+        → IsNamed (IsTooDeep reading.now.events.items) result }
+{
+    let token = reading.deep?;
+    Some(Fault {
+        kind: FaultKind::TooDeep,
+        met: token,
+        place: token,
+    })
 }
 
 /// The first fault of the values of a text, if it isn't assembled.
@@ -86,13 +99,14 @@ fn fault_of(
     scopes: Option<Fault>,
 ) -> Option<Fault>
     ensures first { (l : Language) (cs : List ℕ) (ts : List Token) (names : List ℕ) → length ts ≡ tokens
+        → IsFirstTooDeep reading.now.events.items reading.now.deep
         → IsNamed (λ f. HasNumberFault l.values (token_text cs ts) reading.now.events.items f
         ⊎ HasNamesFault l.values (token_text cs ts) reading.now.events.items f) values
         → IsNamed (HasScopeFault l.isolated names reading.now.events.items) scopes
         → IsNamed (HasFault l cs ts names reading.now.stop reading.now.taken reading.now.events.items) result }
     ensures none { result ≡ None → (values ≡ None) × (scopes ≡ None) }
 {
-    let early = first_of(syntax_fault(reading, tokens), too_deep(&reading.events));
+    let early = first_of(syntax_fault(reading, tokens), deep_fault(reading));
     let late = first_of(values, scopes);
     first_of(early, late)
 }

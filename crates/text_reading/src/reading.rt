@@ -5,6 +5,7 @@ ghost use Rattle.ir_program.specs.Edits.{KeepsErased};
 ghost use Rattle.ir_tokens.specs.Tokens.{starts_of};
 ghost use Rattle.ir_tokens.specs.declared.tokens.Token.{Token};
 ghost use Rattle.ir_tokens.specs.declared.faults.TextFault.TheVariants.{Memory, CounterFull};
+ghost use Rattle.ir_scopes.specs.Depth.{IsFirstTooDeep};
 ghost use Rattle.ir_rereading.specs.Texts.{language_of, HasDefinitions, IsReading, IsRefusal};
 ghost use Rattle.text_building.specs.Kept.{KeepsPayloads, KeepsPayloadsOf, SameSeen};
 ghost use Rattle.text_dialect.specs.Seen.{Seen, seen};
@@ -87,9 +88,10 @@ struct ReadText {
 ///
 /// The kinds of the tokens go when they are read, so that their memory is free while the operation is made.
 fn read_text<D: ReadDialect>(alloc: Global, chars: Text) -> Result<ReadText, AllocError>
-    ensures { IfOk result (λ r. (ts : List Token) × (r.starts.items ≡ starts_of (codes_of chars.entry) ts)
+    ensures reading { IfOk result (λ r. (ts : List Token) × (r.starts.items ≡ starts_of (codes_of chars.entry) ts)
         × IsReading (language_of D.formats D.kind_at (is_isolated D.op_has) D.values) (codes_of chars.entry) ts
         r.names.items r.reading.stop r.reading.taken r.reading.events.items) }
+    ensures deep { IfOk result (λ r. IsFirstTooDeep r.reading.events.items r.reading.deep) }
 {
     let language: DialectGrammar = grammar_of::<D>(alloc)?;
     let words = spelled(alloc, &language.words)?;
@@ -110,9 +112,10 @@ fn understand<D: ReadDialect>(
     names: Vec<usize>,
     reading: &Reading,
 ) -> Result<Ptr<Operation>, TextFault>
-    requires { (ts : List Token) × (source.starts.now ≡ starts_of (codes_of source.chars) ts)
+    requires reading { (ts : List Token) × (source.starts.now ≡ starts_of (codes_of source.chars) ts)
         × IsReading (language_of D.formats D.kind_at (is_isolated D.op_has) D.values) (codes_of source.chars) ts
         names.items reading.now.stop reading.now.taken reading.now.events.items }
+    requires deep { IsFirstTooDeep reading.now.events.items reading.now.deep }
     ensures read { IfOk result (IsRead D.says (language_of D.formats D.kind_at (is_isolated D.op_has) D.values)
         (codes_of source.entry.chars) (seen ctx.old) (seen ctx.new) ctx.old.program.counter ctx.new.program.counter) }
     ensures refused { OnErr result (SameSeen (seen ctx.old) (seen ctx.new)) }

@@ -23,7 +23,7 @@ returns-in-Some-clause-fault c = λ l ts names starts judged.
     let values = subst (IsNamed (λ f. HasNumberFault l.values (token_text cs ts) es f ⊎ HasNamesFault l.values (token_text cs ts) es f)) (sym first) judged.named in
     let scopes = c.in_ok-scopes.ensures.found l.isolated names es judged.names_found in
     let count = token_count cs ts c.args.source.starts.now starts judged.reading.tokens in
-    let named = c.fault_of.ensures.first l cs ts names (count ∙ sym c.tokens.ensures) values scopes in
+    let named = c.fault_of.ensures.first l cs ts names (count ∙ sym c.tokens.ensures) judged.deep values scopes in
     refusal l cs c.told.result (ts, names, r.stop, r.taken, es, c.in-Some.fault, judged.reading, subst (IsNamed (HasFault l cs ts names r.stop r.taken es)) c.in-Some.is named, c.told.ensures.told ∙ ap (tell c.in-Some.fault.kind) (c.place_of.ensures ts starts judged.reading.tokens))
 
 pub returns-in-None-clause-none : goal.returns-in-None-clause-none
@@ -35,5 +35,5 @@ returns-in-None-clause-none c = λ l ts names starts judged.
     let values = subst (IsNamed (λ f. HasNumberFault l.values (token_text cs ts) es f ⊎ HasNamesFault l.values (token_text cs ts) es f)) (sym first) judged.named in
     let scopes = c.in_ok-scopes.ensures.found l.isolated names es judged.names_found in
     let count = token_count cs ts c.args.source.starts.now starts judged.reading.tokens in
-    let named = c.fault_of.ensures.first l cs ts names (count ∙ sym c.tokens.ensures) values scopes in
+    let named = c.fault_of.ensures.first l cs ts names (count ∙ sym c.tokens.ensures) judged.deep values scopes in
     subst (IsNamed (HasFault l cs ts names r.stop r.taken es)) c.in-None.is named

@@ -6,8 +6,8 @@ use Rattle.ir_formats.specs.Rules.{texts, words_of}
 use Rattle.ir_grammar.specs.Reading.{Reads}
 use Rattle.text_reading.proofs.reading.read_text.Goals as goal
 
-pub returns : goal.returns
-returns g c =
+pub returns-clause-reading : goal.returns-clause-reading
+returns-clause-reading g c =
     let d = g.D.TextDialect in
     let cs = codes_of c.args.chars in
     let ts = c.in_ok-classified.ensures.0 in
@@ -25,6 +25,6 @@ returns g c =
         tokens = cut.tokens;
         numbered = omega (arith, many);
         alike = cut.alike;
-        reads = (c.in_ok-language.language.grammar, record { rules = known.rules; signs = known.signs; readable = known.can_read }, subst (λ ks. Reads c.in_ok-language.language.grammar 0 64 ks r.stop r.taken r.events.items) kinds c.in_ok-reading.ensures);
+        reads = (c.in_ok-language.language.grammar, record { rules = known.rules; signs = known.signs; readable = known.can_read }, subst (λ ks. Reads c.in_ok-language.language.grammar 0 64 ks r.stop r.taken r.events.items) kinds c.in_ok-reading.ensures.reads);
       },
     )

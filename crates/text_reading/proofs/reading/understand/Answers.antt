@@ -29,13 +29,13 @@ assemble-assembled-requires-clause-nests g c =
     let d = g.D.TextDialect in
     let l = language_of d.formats d.kind_at (is_isolated g.D.DialectTables.op_has) d.values in
     let cs = codes_of c.args.source.chars in
-    let ts = c.requires.0 in
+    let ts = c.requires.reading.0 in
     let names = c.args.names.items in
     let r = c.args.reading.now in
     let es = r.events.items in
     let text = token_text cs ts in
-    let written : text_between cs c.args.source.starts.now ≡ text = ap (text_between cs) c.requires.1 ∙ texts_stand cs ts c.requires.2.tokens in
-    let order = read_in_order l g.D.ReadDialect.leads g.met.D.ReadDialect.ordered cs ts names r.taken es r.stop c.requires.2 in
+    let written : text_between cs c.args.source.starts.now ≡ text = ap (text_between cs) c.requires.reading.1 ∙ texts_stand cs ts c.requires.reading.2.tokens in
+    let order = read_in_order l g.D.ReadDialect.leads g.met.D.ReadDialect.ordered cs ts names r.taken es r.stop c.requires.reading.2 in
     subst (λ z. Nests at_root [] z) (sym c.deref-2.ensures.value) order.nests
 
 pub assemble-assembled-requires-clause-spelt : goal.assemble-assembled-requires-clause-spelt
@@ -43,14 +43,14 @@ assemble-assembled-requires-clause-spelt g c =
     let d = g.D.TextDialect in
     let l = language_of d.formats d.kind_at (is_isolated g.D.DialectTables.op_has) d.values in
     let cs = codes_of c.args.source.chars in
-    let ts = c.requires.0 in
+    let ts = c.requires.reading.0 in
     let names = c.args.names.items in
     let r = c.args.reading.now in
     let es = r.events.items in
     let text = token_text cs ts in
-    let written : text_between cs c.args.source.starts.now ≡ text = ap (text_between cs) c.requires.1 ∙ texts_stand cs ts c.requires.2.tokens in
+    let written : text_between cs c.args.source.starts.now ≡ text = ap (text_between cs) c.requires.reading.1 ∙ texts_stand cs ts c.requires.reading.2.tokens in
     subst (λ z. AreSpelt z 0 c.deref-2.result.now) (sym written)
-    (subst (λ z. AreSpelt text 0 z) (sym c.deref-2.ensures.value) (reading_spelt l cs ts names r.stop r.taken es c.requires.2))
+    (subst (λ z. AreSpelt text 0 z) (sym c.deref-2.ensures.value) (reading_spelt l cs ts names r.stop r.taken es c.requires.reading.2))
 
 pub resolve-resolved-requires : goal.resolve-resolved-requires
 resolve-resolved-requires g c =
@@ -59,7 +59,7 @@ resolve-resolved-requires g c =
     let cs = codes_of c.args.source.chars in
     let r = c.args.reading.now in
     let es = r.events.items in
-    let order = read_in_order l g.D.ReadDialect.leads g.met.D.ReadDialect.ordered cs c.requires.0 c.args.names.items r.taken es r.stop c.requires.2 in
+    let order = read_in_order l g.D.ReadDialect.leads g.met.D.ReadDialect.ordered cs c.requires.reading.0 c.args.names.items r.taken es r.stop c.requires.reading.2 in
     subst (λ z. OwnTokens false z) (sym c.deref.ensures.value) (own_tokens es order.follows)
 
 pub undo-requires : goal.undo-requires
@@ -70,51 +70,51 @@ returns-in-Err-clause-fault g c =
     let d = g.D.TextDialect in
     let l = language_of d.formats d.kind_at (is_isolated g.D.DialectTables.op_has) d.values in
     let cs = codes_of c.args.source.chars in
-    let ts = c.requires.0 in
+    let ts = c.requires.reading.0 in
     let names = c.args.names.items in
     let r = c.args.reading.now in
     let es = r.events.items in
     let text = token_text cs ts in
-    let written : text_between cs c.args.source.starts.now ≡ text = ap (text_between cs) c.requires.1 ∙ texts_stand cs ts c.requires.2.tokens in
+    let written : text_between cs c.args.source.starts.now ≡ text = ap (text_between cs) c.requires.reading.1 ∙ texts_stand cs ts c.requires.reading.2.tokens in
     let found = c.resolve-resolved.ensures.resolved in
     let judged = judged_so l g.D.ReadDialect.leads g.met.D.ReadDialect.ordered cs ts names r c.deref-2.result.now c.deref.result.now c.assemble-assembled.result c.resolve-resolved.result
-    (text_between cs c.args.source.starts.now) written c.deref-2.ensures.value c.deref.ensures.value c.requires.2 c.assemble-assembled.ensures.sound c.assemble-assembled.ensures.refused found in
-    c.in-Err.ensures.fault l ts names c.requires.1 judged
+    (text_between cs c.args.source.starts.now) written c.deref-2.ensures.value c.deref.ensures.value c.requires.reading.2 c.requires.deep c.assemble-assembled.ensures.sound c.assemble-assembled.ensures.refused found in
+    c.in-Err.ensures.fault l ts names c.requires.reading.1 judged
 
 pub returns-in-Err-clause-full : goal.returns-in-Err-clause-full
 returns-in-Err-clause-full g c = λ e.
     let d = g.D.TextDialect in
     let l = language_of d.formats d.kind_at (is_isolated g.D.DialectTables.op_has) d.values in
     let cs = codes_of c.args.source.chars in
-    let ts = c.requires.0 in
+    let ts = c.requires.reading.0 in
     let names = c.args.names.items in
     let r = c.args.reading.now in
     let es = r.events.items in
     let text = token_text cs ts in
-    let written : text_between cs c.args.source.starts.now ≡ text = ap (text_between cs) c.requires.1 ∙ texts_stand cs ts c.requires.2.tokens in
+    let written : text_between cs c.args.source.starts.now ≡ text = ap (text_between cs) c.requires.reading.1 ∙ texts_stand cs ts c.requires.reading.2.tokens in
     let same : c.in-Err.fault ≡ CounterFull = cc in
     let full = c.assemble-assembled.ensures.full (c.in-Err.ensures.full (ap (λ x. Err x) same)) in
     let n = length (definitions l.isolated es) in
     let many : length (defined_from 0 c.deref-2.result.now) ≡ n = ap (λ z. length (defined_from 0 z)) c.deref-2.ensures.value ∙ many_defined l.isolated es in
-    (n, (ts, names, r.stop, r.taken, es, c.requires.2, refl), subst (λ z. 2 ^ 64 ≤ c.args.ctx.now.program.counter + z) many full)
+    (n, (ts, names, r.stop, r.taken, es, c.requires.reading.2, refl), subst (λ z. 2 ^ 64 ≤ c.args.ctx.now.program.counter + z) many full)
 
 pub connect-requires-clause-waiting : goal.connect-requires-clause-waiting
 connect-requires-clause-waiting g c =
     let d = g.D.TextDialect in
     let l = language_of d.formats d.kind_at (is_isolated g.D.DialectTables.op_has) d.values in
     let cs = codes_of c.args.source.chars in
-    let ts = c.requires.0 in
+    let ts = c.requires.reading.0 in
     let names = c.args.names.items in
     let r = c.args.reading.now in
     let es = r.events.items in
     let text = token_text cs ts in
-    let written : text_between cs c.args.source.starts.now ≡ text = ap (text_between cs) c.requires.1 ∙ texts_stand cs ts c.requires.2.tokens in
+    let written : text_between cs c.args.source.starts.now ≡ text = ap (text_between cs) c.requires.reading.1 ∙ texts_stand cs ts c.requires.reading.2.tokens in
     let found = c.resolve-resolved.ensures.resolved in
     let judged = judged_so l g.D.ReadDialect.leads g.met.D.ReadDialect.ordered cs ts names r c.deref-2.result.now c.deref.result.now c.assemble-assembled.result c.resolve-resolved.result
-    (text_between cs c.args.source.starts.now) written c.deref-2.ensures.value c.deref.ensures.value c.requires.2 c.assemble-assembled.ensures.sound c.assemble-assembled.ensures.refused found in
-    let none = c.in_default.ensures.none l ts names c.requires.1 judged in
-    let leads = read_whole l g.D.ReadDialect.leads g.met.D.ReadDialect.ordered cs ts names r.taken es r.stop c.requires.2 none in
-    let order = read_in_order l g.D.ReadDialect.leads g.met.D.ReadDialect.ordered cs ts names r.taken es r.stop c.requires.2 in
+    (text_between cs c.args.source.starts.now) written c.deref-2.ensures.value c.deref.ensures.value c.requires.reading.2 c.requires.deep c.assemble-assembled.ensures.sound c.assemble-assembled.ensures.refused found in
+    let none = c.in_default.ensures.none l ts names c.requires.reading.1 judged in
+    let leads = read_whole l g.D.ReadDialect.leads g.met.D.ReadDialect.ordered cs ts names r.taken es r.stop c.requires.reading.2 none in
+    let order = read_in_order l g.D.ReadDialect.leads g.met.D.ReadDialect.ordered cs ts names r.taken es r.stop c.requires.reading.2 in
     let own = own_tokens es order.follows in
     let resolution = c.in-Ok-resolved.resolution in
     let resolved = subst (λ z. IsResolved l.isolated names z resolution) c.deref.ensures.value
@@ -137,18 +137,18 @@ connect-requires-clause-meant g c =
     let d = g.D.TextDialect in
     let l = language_of d.formats d.kind_at (is_isolated g.D.DialectTables.op_has) d.values in
     let cs = codes_of c.args.source.chars in
-    let ts = c.requires.0 in
+    let ts = c.requires.reading.0 in
     let names = c.args.names.items in
     let r = c.args.reading.now in
     let es = r.events.items in
     let text = token_text cs ts in
-    let written : text_between cs c.args.source.starts.now ≡ text = ap (text_between cs) c.requires.1 ∙ texts_stand cs ts c.requires.2.tokens in
+    let written : text_between cs c.args.source.starts.now ≡ text = ap (text_between cs) c.requires.reading.1 ∙ texts_stand cs ts c.requires.reading.2.tokens in
     let found = c.resolve-resolved.ensures.resolved in
     let judged = judged_so l g.D.ReadDialect.leads g.met.D.ReadDialect.ordered cs ts names r c.deref-2.result.now c.deref.result.now c.assemble-assembled.result c.resolve-resolved.result
-    (text_between cs c.args.source.starts.now) written c.deref-2.ensures.value c.deref.ensures.value c.requires.2 c.assemble-assembled.ensures.sound c.assemble-assembled.ensures.refused found in
-    let none = c.in_default.ensures.none l ts names c.requires.1 judged in
-    let leads = read_whole l g.D.ReadDialect.leads g.met.D.ReadDialect.ordered cs ts names r.taken es r.stop c.requires.2 none in
-    let order = read_in_order l g.D.ReadDialect.leads g.met.D.ReadDialect.ordered cs ts names r.taken es r.stop c.requires.2 in
+    (text_between cs c.args.source.starts.now) written c.deref-2.ensures.value c.deref.ensures.value c.requires.reading.2 c.requires.deep c.assemble-assembled.ensures.sound c.assemble-assembled.ensures.refused found in
+    let none = c.in_default.ensures.none l ts names c.requires.reading.1 judged in
+    let leads = read_whole l g.D.ReadDialect.leads g.met.D.ReadDialect.ordered cs ts names r.taken es r.stop c.requires.reading.2 none in
+    let order = read_in_order l g.D.ReadDialect.leads g.met.D.ReadDialect.ordered cs ts names r.taken es r.stop c.requires.reading.2 in
     let own = own_tokens es order.follows in
     let resolution = c.in-Ok-resolved.resolution in
     let resolved = subst (λ z. IsResolved l.isolated names z resolution) c.deref.ensures.value
@@ -164,25 +164,25 @@ connect-requires-clause-meant g c =
     (subst (IsAssembled d.says d.values (text_between cs c.args.source.starts.now) start s first next a) c.deref-2.ensures.value
     (IfOk-at_ok (λ z. IsAssembled d.says d.values (text_between cs c.args.source.starts.now) start s first next z c.deref-2.result.now) c.in-Ok.is (c.assemble-assembled.ensures.made to))) in
     let held = IfOk-at_ok (λ z. HoldsAllNew start s z.loose.items) c.in-Ok.is c.assemble-assembled.ensures.held in
-    can_link_all l cs ts names r.stop r.taken es resolution c.requires.2 leads own resolved c.requires.2.numbered many d.says start s first next a made
+    can_link_all l cs ts names r.stop r.taken es resolution c.requires.reading.2 leads own resolved c.requires.reading.2.numbered many d.says start s first next a made
 
 pub connect-requires-clause-root : goal.connect-requires-clause-root
 connect-requires-clause-root g c =
     let d = g.D.TextDialect in
     let l = language_of d.formats d.kind_at (is_isolated g.D.DialectTables.op_has) d.values in
     let cs = codes_of c.args.source.chars in
-    let ts = c.requires.0 in
+    let ts = c.requires.reading.0 in
     let names = c.args.names.items in
     let r = c.args.reading.now in
     let es = r.events.items in
     let text = token_text cs ts in
-    let written : text_between cs c.args.source.starts.now ≡ text = ap (text_between cs) c.requires.1 ∙ texts_stand cs ts c.requires.2.tokens in
+    let written : text_between cs c.args.source.starts.now ≡ text = ap (text_between cs) c.requires.reading.1 ∙ texts_stand cs ts c.requires.reading.2.tokens in
     let found = c.resolve-resolved.ensures.resolved in
     let judged = judged_so l g.D.ReadDialect.leads g.met.D.ReadDialect.ordered cs ts names r c.deref-2.result.now c.deref.result.now c.assemble-assembled.result c.resolve-resolved.result
-    (text_between cs c.args.source.starts.now) written c.deref-2.ensures.value c.deref.ensures.value c.requires.2 c.assemble-assembled.ensures.sound c.assemble-assembled.ensures.refused found in
-    let none = c.in_default.ensures.none l ts names c.requires.1 judged in
-    let leads = read_whole l g.D.ReadDialect.leads g.met.D.ReadDialect.ordered cs ts names r.taken es r.stop c.requires.2 none in
-    let order = read_in_order l g.D.ReadDialect.leads g.met.D.ReadDialect.ordered cs ts names r.taken es r.stop c.requires.2 in
+    (text_between cs c.args.source.starts.now) written c.deref-2.ensures.value c.deref.ensures.value c.requires.reading.2 c.requires.deep c.assemble-assembled.ensures.sound c.assemble-assembled.ensures.refused found in
+    let none = c.in_default.ensures.none l ts names c.requires.reading.1 judged in
+    let leads = read_whole l g.D.ReadDialect.leads g.met.D.ReadDialect.ordered cs ts names r.taken es r.stop c.requires.reading.2 none in
+    let order = read_in_order l g.D.ReadDialect.leads g.met.D.ReadDialect.ordered cs ts names r.taken es r.stop c.requires.reading.2 in
     let own = own_tokens es order.follows in
     let resolution = c.in-Ok-resolved.resolution in
     let resolved = subst (λ z. IsResolved l.isolated names z resolution) c.deref.ensures.value
@@ -205,18 +205,18 @@ returns-clause-read g c =
     let d = g.D.TextDialect in
     let l = language_of d.formats d.kind_at (is_isolated g.D.DialectTables.op_has) d.values in
     let cs = codes_of c.args.source.chars in
-    let ts = c.requires.0 in
+    let ts = c.requires.reading.0 in
     let names = c.args.names.items in
     let r = c.args.reading.now in
     let es = r.events.items in
     let text = token_text cs ts in
-    let written : text_between cs c.args.source.starts.now ≡ text = ap (text_between cs) c.requires.1 ∙ texts_stand cs ts c.requires.2.tokens in
+    let written : text_between cs c.args.source.starts.now ≡ text = ap (text_between cs) c.requires.reading.1 ∙ texts_stand cs ts c.requires.reading.2.tokens in
     let found = c.resolve-resolved.ensures.resolved in
     let judged = judged_so l g.D.ReadDialect.leads g.met.D.ReadDialect.ordered cs ts names r c.deref-2.result.now c.deref.result.now c.assemble-assembled.result c.resolve-resolved.result
-    (text_between cs c.args.source.starts.now) written c.deref-2.ensures.value c.deref.ensures.value c.requires.2 c.assemble-assembled.ensures.sound c.assemble-assembled.ensures.refused found in
-    let none = c.in_default.ensures.none l ts names c.requires.1 judged in
-    let leads = read_whole l g.D.ReadDialect.leads g.met.D.ReadDialect.ordered cs ts names r.taken es r.stop c.requires.2 none in
-    let order = read_in_order l g.D.ReadDialect.leads g.met.D.ReadDialect.ordered cs ts names r.taken es r.stop c.requires.2 in
+    (text_between cs c.args.source.starts.now) written c.deref-2.ensures.value c.deref.ensures.value c.requires.reading.2 c.requires.deep c.assemble-assembled.ensures.sound c.assemble-assembled.ensures.refused found in
+    let none = c.in_default.ensures.none l ts names c.requires.reading.1 judged in
+    let leads = read_whole l g.D.ReadDialect.leads g.met.D.ReadDialect.ordered cs ts names r.taken es r.stop c.requires.reading.2 none in
+    let order = read_in_order l g.D.ReadDialect.leads g.met.D.ReadDialect.ordered cs ts names r.taken es r.stop c.requires.reading.2 in
     let own = own_tokens es order.follows in
     let resolution = c.in-Ok-resolved.resolution in
     let resolved = subst (λ z. IsResolved l.isolated names z resolution) c.deref.ensures.value
@@ -233,7 +233,7 @@ returns-clause-read g c =
     (IfOk-at_ok (λ z. IsAssembled d.says d.values (text_between cs c.args.source.starts.now) start s first next z c.deref-2.result.now) c.in-Ok.is (c.assemble-assembled.ensures.made to))) in
     let held = IfOk-at_ok (λ z. HoldsAllNew start s z.loose.items) c.in-Ok.is c.assemble-assembled.ensures.held in
     let linked = c.connect.ensures.linked in
-    answers_read l cs ts names r.stop r.taken es resolution c.requires.2 leads own resolved c.requires.2.numbered many d.says start s first next a made
+    answers_read l cs ts names r.stop r.taken es resolution c.requires.reading.2 leads own resolved c.requires.reading.2.numbered many d.says start s first next a made
     (seen c.connect.new.ctx) c.connect.new.ctx.program.counter c.connect.result linked c.connect.ensures.root
     (c.connect.ensures.held start (mentioned_from 0 es) made.operands held) c.connect.ensures.counter none
 
@@ -242,18 +242,18 @@ returns-clause-refused g c =
     let d = g.D.TextDialect in
     let l = language_of d.formats d.kind_at (is_isolated g.D.DialectTables.op_has) d.values in
     let cs = codes_of c.args.source.chars in
-    let ts = c.requires.0 in
+    let ts = c.requires.reading.0 in
     let names = c.args.names.items in
     let r = c.args.reading.now in
     let es = r.events.items in
     let text = token_text cs ts in
-    let written : text_between cs c.args.source.starts.now ≡ text = ap (text_between cs) c.requires.1 ∙ texts_stand cs ts c.requires.2.tokens in
+    let written : text_between cs c.args.source.starts.now ≡ text = ap (text_between cs) c.requires.reading.1 ∙ texts_stand cs ts c.requires.reading.2.tokens in
     let found = c.resolve-resolved.ensures.resolved in
     let judged = judged_so l g.D.ReadDialect.leads g.met.D.ReadDialect.ordered cs ts names r c.deref-2.result.now c.deref.result.now c.assemble-assembled.result c.resolve-resolved.result
-    (text_between cs c.args.source.starts.now) written c.deref-2.ensures.value c.deref.ensures.value c.requires.2 c.assemble-assembled.ensures.sound c.assemble-assembled.ensures.refused found in
-    let none = c.in_default.ensures.none l ts names c.requires.1 judged in
-    let leads = read_whole l g.D.ReadDialect.leads g.met.D.ReadDialect.ordered cs ts names r.taken es r.stop c.requires.2 none in
-    let order = read_in_order l g.D.ReadDialect.leads g.met.D.ReadDialect.ordered cs ts names r.taken es r.stop c.requires.2 in
+    (text_between cs c.args.source.starts.now) written c.deref-2.ensures.value c.deref.ensures.value c.requires.reading.2 c.requires.deep c.assemble-assembled.ensures.sound c.assemble-assembled.ensures.refused found in
+    let none = c.in_default.ensures.none l ts names c.requires.reading.1 judged in
+    let leads = read_whole l g.D.ReadDialect.leads g.met.D.ReadDialect.ordered cs ts names r.taken es r.stop c.requires.reading.2 none in
+    let order = read_in_order l g.D.ReadDialect.leads g.met.D.ReadDialect.ordered cs ts names r.taken es r.stop c.requires.reading.2 in
     let own = own_tokens es order.follows in
     let resolution = c.in-Ok-resolved.resolution in
     let resolved = subst (λ z. IsResolved l.isolated names z resolution) c.deref.ensures.value
@@ -287,18 +287,18 @@ returns-clause-payloads g c =
     let d = g.D.TextDialect in
     let l = language_of d.formats d.kind_at (is_isolated g.D.DialectTables.op_has) d.values in
     let cs = codes_of c.args.source.chars in
-    let ts = c.requires.0 in
+    let ts = c.requires.reading.0 in
     let names = c.args.names.items in
     let r = c.args.reading.now in
     let es = r.events.items in
     let text = token_text cs ts in
-    let written : text_between cs c.args.source.starts.now ≡ text = ap (text_between cs) c.requires.1 ∙ texts_stand cs ts c.requires.2.tokens in
+    let written : text_between cs c.args.source.starts.now ≡ text = ap (text_between cs) c.requires.reading.1 ∙ texts_stand cs ts c.requires.reading.2.tokens in
     let found = c.resolve-resolved.ensures.resolved in
     let judged = judged_so l g.D.ReadDialect.leads g.met.D.ReadDialect.ordered cs ts names r c.deref-2.result.now c.deref.result.now c.assemble-assembled.result c.resolve-resolved.result
-    (text_between cs c.args.source.starts.now) written c.deref-2.ensures.value c.deref.ensures.value c.requires.2 c.assemble-assembled.ensures.sound c.assemble-assembled.ensures.refused found in
-    let none = c.in_default.ensures.none l ts names c.requires.1 judged in
-    let leads = read_whole l g.D.ReadDialect.leads g.met.D.ReadDialect.ordered cs ts names r.taken es r.stop c.requires.2 none in
-    let order = read_in_order l g.D.ReadDialect.leads g.met.D.ReadDialect.ordered cs ts names r.taken es r.stop c.requires.2 in
+    (text_between cs c.args.source.starts.now) written c.deref-2.ensures.value c.deref.ensures.value c.requires.reading.2 c.requires.deep c.assemble-assembled.ensures.sound c.assemble-assembled.ensures.refused found in
+    let none = c.in_default.ensures.none l ts names c.requires.reading.1 judged in
+    let leads = read_whole l g.D.ReadDialect.leads g.met.D.ReadDialect.ordered cs ts names r.taken es r.stop c.requires.reading.2 none in
+    let order = read_in_order l g.D.ReadDialect.leads g.met.D.ReadDialect.ordered cs ts names r.taken es r.stop c.requires.reading.2 in
     let own = own_tokens es order.follows in
     let resolution = c.in-Ok-resolved.resolution in
     let resolved = subst (λ z. IsResolved l.isolated names z resolution) c.deref.ensures.value
