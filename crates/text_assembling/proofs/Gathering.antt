@@ -133,7 +133,7 @@ module _ {D K A T : Type 0} (says : Saying K A T) (values : Values) (text : ℕ 
     tokens = [];
     mentions = [];
     at = record {
-      holds = rw new.around (record { sort = ap sort_of new.here.body; contains = subst (λ (b : Body D K A T). Contains says values text s.ctx.types b a.here.content no_tree) (sym new.here.body) tt; named = new.here.names }, refl);
+      holds = rw new.around (record { sort = ap sort_of new.here.body; contains = subst (λ (b : Body D K A T). Contains says values text s.ctx.types b a.here.content.value no_tree) (sym new.here.body) tt; named = new.here.names }, refl);
       made = made_first s a new named;
     };
     nests = nests;

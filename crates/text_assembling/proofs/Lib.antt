@@ -13,5 +13,6 @@ pub mod RaisingSteps
 pub mod Stepped
 pub mod Gathering
 pub mod Undone
+pub mod ReadContents
 pub mod Taking
 pub mod Operating

@@ -82,25 +82,25 @@ module _ {D K A T : Type 0} (says : Saying K A T) (values : Values) (text : ℕ 
   not_made : o.block ≡ None
   not_made = (header_of says values text (world_of s a tokens mentions) a.here b.here o is old_header).0
 
-  pub types_known : types_in a.here.content.parts.items ≡ the_header.types
+  pub types_known : types_in a.here.content.value.parts.items ≡ the_header.types
   types_known = ap types_in the_header.parts ∙ types_in_types D K A T the_header.types
 
   -- the types of the arguments are there
-  pub header_known : AreKnownIn (length s.ctx.types) (types_in a.here.content.parts.items)
+  pub header_known : AreKnownIn (length s.ctx.types) (types_in a.here.content.value.parts.items)
   header_known = subst (λ (tys : List TypeHandle). AreKnownIn (length s.ctx.types) tys) (sym types_known) (shown_known says s.ctx.types the_header.types (listed (pieces_in values text b.here)) the_header.shown)
 
   pub header_spelt : is_identifier (text a.here.first) ≡ true
   header_spelt = the_header.spelt
 
   -- each argument that is named has a type
-  pub many_types : length a.here.numbers.items ≡ length (types_in a.here.content.parts.items)
+  pub many_types : length a.here.numbers.items ≡ length (types_in a.here.content.value.parts.items)
   many_types =
       as_many (λ n k. slice_get tokens n ≡ Some k) a.here.numbers.items (argument_tokens b.here) old_header.numbered
       ∙ (the_header.typed_so ∙ (sym (listed_length (pieces_in values text b.here))
       ∙ (sym (as_many (ShowsType says s.ctx.types) the_header.types (listed (pieces_in values text b.here)) the_header.shown) ∙ ap length (sym types_known))))
 
   -- where there is no room for its arguments, there is none for all that are named
-  pub header_full : 2 ^ 64 ≤ s.counter + length (types_in a.here.content.parts.items) → 2 ^ 64 ≤ counter + length tokens
+  pub header_full : 2 ^ 64 ≤ s.counter + length (types_in a.here.content.value.parts.items) → 2 ^ 64 ≤ counter + length tokens
   header_full long =
       let outer : List ℕ = joined (map (λ (f : Open D K A T). f.numbers.items) a.around.items) in
       let all : length (numbers_of a) ≡ length outer + length a.here.numbers.items = ap length (numbers_split a) ∙ length-append outer a.here.numbers.items in
@@ -108,7 +108,7 @@ module _ {D K A T : Type 0} (says : Saying K A T) (values : Values) (text : ℕ 
 
   -- The block is made.
   module _ (none_yet : a.made.root ≡ None) (t : Stage K A T) (c : Assembler D K A T) (kept : KeepsAround a c) (first : c.here.first ≡ a.here.first) (new : MakesBlock s t.ctx a c (text a.here.first))
-      (given : t.counter ≡ s.counter + length (types_in a.here.content.parts.items)) (k : ℕ) where
+      (given : t.counter ≡ s.counter + length (types_in a.here.content.value.parts.items)) (k : ℕ) where
     abbrev ts : Trees Step
     ts = b.here
 
@@ -116,7 +116,7 @@ module _ {D K A T : Type 0} (says : Saying K A T) (values : Values) (text : ℕ 
     more = leaf_behind ts act.Header k
 
     abbrev types : List TypeHandle
-    types = types_in a.here.content.parts.items
+    types = types_in a.here.content.value.parts.items
 
     abbrev p : Ptr BasicBlock
     p = new.block

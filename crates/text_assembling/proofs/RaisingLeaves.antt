@@ -16,7 +16,6 @@ use Rattle.ir_grammar.specs.declared.grammar.Action.{Action}
 use Rattle.ir_grammar.specs.declared.grammar.Action.TheVariants as act
 use Rattle.text_frames.specs.declared.opened.Body.{Body}
 use Rattle.text_frames.specs.declared.opened.Body.TheVariants as body
-use Rattle.text_frames.specs.declared.opened.Content.{Content}
 use Rattle.text_frames.specs.declared.opened.Open.{Open}
 use Rattle.ir_forest.specs.Forest.{Step}
 use Rattle.ir_forest.specs.Building.{Built, behind, with_leaf, names_behind}
@@ -277,7 +276,7 @@ module _ {D K A T : Type 0} (says : Saying K A T) (values : Values) (text : ℕ 
         no_results = result_names_behind [] ts step no_tree ∙ h.no_results;
         empty = operations_behind values text [] ts step no_tree ∙ h.empty;
         types = h.types;
-        parts = ap (λ (x : Content D K A T). x.parts.items) content ∙ h.parts;
+        parts = ap (λ x. x.value.parts.items) content ∙ h.parts;
         shown = rw listed_so h.shown;
         arguments = rw (listed_so, tokens_so) (arguments_behind values text 0 ts step no_tree h.open_still
             ∙ (append-nil (arguments_in values text 0 ts) ∙ (h.arguments ∙ sym (typed_longer (argument_tokens ts) k (listed (pieces_in values text ts)) (h.typed_so ∙ sym (listed_length (pieces_in values text ts)))))));

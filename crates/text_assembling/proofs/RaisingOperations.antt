@@ -486,10 +486,10 @@ module _ {D K A T : Type 0} (says : Saying K A T) (values : Values) (text : ℕ 
   ps = pieces_in values text b.here
 
   -- it says its pieces
-  pub operation_shown : ShowsParts says s.ctx.types f.content.parts.items ps
+  pub operation_shown : ShowsParts says s.ctx.types f.content.value.parts.items ps
   operation_shown =
-      ends_known says values text start counter s whole f a.here a.around.items tokens mentions is_f is_around (λ os n. ShowsParts says s.ctx.types f.content.parts.items ps) b at next holds made out
-      (λ o os q qs ending inner all. (subst (λ (x : Body D K A T). Contains says values text s.ctx.types x f.content b.here) is_body ending.frame.contains).parts)
+      ends_known says values text start counter s whole f a.here a.around.items tokens mentions is_f is_around (λ os n. ShowsParts says s.ctx.types f.content.value.parts.items ps) b at next holds made out
+      (λ o os q qs ending inner all. (subst (λ (x : Body D K A T). Contains says values text s.ctx.types x f.content.value b.here) is_body ending.frame.contains).parts)
 
   -- it can be made
   pub operation_can : CanMake s.ctx a.here.body (lists_of ended.regions.items)
@@ -500,8 +500,8 @@ module _ {D K A T : Type 0} (says : Saying K A T) (values : Values) (text : ℕ 
 
   -- an operation that ends keeps what has been made
   pub operation_raised : (kind_at : ℕ → Option K) (t : Stage K A T) (c : Assembler D K A T) → c.around.items ≡ a.around.items → (first last : ℕ) (r : Result (Unit {0}) AssemblyFault)
-      → (ShowsParts says s.ctx.types f.content.parts.items ps → OnOk r (EndsOperation says values kind_at s t.ctx a c ended ps))
-      → (ShowsParts says s.ctx.types f.content.parts.items ps
+      → (ShowsParts says s.ctx.types f.content.value.parts.items ps → OnOk r (EndsOperation says values kind_at s t.ctx a c ended ps))
+      → (ShowsParts says s.ctx.types f.content.value.parts.items ps
       → OnOk r ((values.refused_operation ended.kind ps ≡ None) × (names_fault a.here.names.items first (length (values.result_types ended.kind ps)) last ≡ None)))
       → OnOk r ((t.counter ≡ s.counter + length a.here.names.items) × HasBody a.here c.here a.here.body)
       → OnOk r (HasMade says values text start counter t c (with_end b.here b.around last) next tokens mentions)

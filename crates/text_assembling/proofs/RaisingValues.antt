@@ -196,14 +196,14 @@ module _ {D K A T : Type 0} (says : Saying K A T) (values : Values) (text : ℕ 
 
   -- a type that ends is a part, or that of the last argument
   pub type_raised : (kind first : ℕ) → f.body ≡ body.«Type» kind
-      → ((ps : Pieces) → ShowsParts says s.ctx.types f.content.parts.items ps → OnOk r ((values.refused_type kind ps ≡ None) × (ty : TypeHandle) × ShowsType says t.ctx.types ty (node (type_of_kind kind) ps) × HasPut g c.here g.body (part.«Type» ty) first))
+      → ((ps : Pieces) → ShowsParts says s.ctx.types f.content.value.parts.items ps → OnOk r ((values.refused_type kind ps ≡ None) × (ty : TypeHandle) × ShowsType says t.ctx.types ty (node (type_of_kind kind) ps) × HasPut g c.here g.body (part.«Type» ty) first))
       → OnOk r (HasMade says values text start counter t c (with_end b.here b.around last) next tokens mentions)
   type_raised kind first is new =
       value_ends says values text start counter s t whole c f g rest tokens mentions is_f is_around kept only made b at next last r holds has out (subst (λ (x : Body D K A T). IsValue (sort_of x)) (sym is) tt)
       (λ o q ending inner outer. (
       let place : TakesTypes q = subst (λ (x : Body D K A T). EndsAt (sort_of x) q) is ending.begun.ends in
       let begins : o.action ≡ act.BeginType kind = subst (λ (x : Body D K A T). Begins x o.action) is ending.begun.begins in
-      let parts : SaysParts says values text s.ctx.types f.content b.here = subst (λ (x : Body D K A T). Contains says values text s.ctx.types x f.content b.here) is ending.frame.contains in
+      let parts : SaysParts says values text s.ctx.types f.content.value b.here = subst (λ (x : Body D K A T). Contains says values text s.ctx.types x f.content.value b.here) is ending.frame.contains in
       on_ok_weaker r (λ (x : (values.refused_type kind (pieces_in values text b.here) ≡ None) × (ty : TypeHandle) × ShowsType says t.ctx.types ty (node (type_of_kind kind) (pieces_in values text b.here)) × HasPut g c.here g.body (part.«Type» ty) first).
       elim (type_place q place) [
         | inl e ↦ record {
@@ -219,14 +219,14 @@ module _ {D K A T : Type 0} (says : Saying K A T) (values : Values) (text : ℕ 
       ]) (new (pieces_in values text b.here) parts.parts)))
 
   pub attribute_raised : (kind first : ℕ) → f.body ≡ body.Attribute kind
-      → ((ps : Pieces) → ShowsParts says s.ctx.types f.content.parts.items ps → OnOk r ((values.refused_attribute kind ps ≡ None) × (attr : A) × ShowsAttribute says t.ctx.types attr (node (attribute_of_kind kind) (values.canonical kind ps)) × HasPut g c.here g.body (part.Attribute attr) first))
+      → ((ps : Pieces) → ShowsParts says s.ctx.types f.content.value.parts.items ps → OnOk r ((values.refused_attribute kind ps ≡ None) × (attr : A) × ShowsAttribute says t.ctx.types attr (node (attribute_of_kind kind) (values.canonical kind ps)) × HasPut g c.here g.body (part.Attribute attr) first))
       → OnOk r (HasMade says values text start counter t c (with_end b.here b.around last) next tokens mentions)
   attribute_raised kind first is new =
       value_ends says values text start counter s t whole c f g rest tokens mentions is_f is_around kept only made b at next last r holds has out (subst (λ (x : Body D K A T). IsValue (sort_of x)) (sym is) tt)
       (λ o q ending inner outer. (
       let takes : TakesParts (sort_at q) = subst (λ (x : Body D K A T). EndsAt (sort_of x) q) is ending.begun.ends in
       let begins : o.action ≡ act.BeginAttribute kind = subst (λ (x : Body D K A T). Begins x o.action) is ending.begun.begins in
-      let parts : SaysParts says values text s.ctx.types f.content b.here = subst (λ (x : Body D K A T). Contains says values text s.ctx.types x f.content b.here) is ending.frame.contains in
+      let parts : SaysParts says values text s.ctx.types f.content.value b.here = subst (λ (x : Body D K A T). Contains says values text s.ctx.types x f.content.value b.here) is ending.frame.contains in
       on_ok_weaker r (λ (x : (values.refused_attribute kind (pieces_in values text b.here) ≡ None) × (attr : A) × ShowsAttribute says t.ctx.types attr (node (attribute_of_kind kind) (values.canonical kind (pieces_in values text b.here))) × HasPut g c.here g.body (part.Attribute attr) first).
       part_leaves says values text start counter s t whole c f g rest tokens mentions is_f is_around kept only made o q b.here last first (part.Attribute x.1)
       (subst IsNeutral (sym begins) (neutral_attribute kind)) takes ending.outer.sort x.3 outer) (new (pieces_in values text b.here) parts.parts)))
@@ -270,7 +270,7 @@ module _ {D K A T : Type 0} (says : Saying K A T) (values : Values) (text : ℕ 
       let place : q ≡ in_operation = subst (λ (x : Body D K A T). EndsAt (sort_of x) q) is ending.begun.ends in
       let begins : o.action ≡ act.BeginOperands = subst (λ (x : Body D K A T). Begins x o.action) is ending.begun.begins in
       let step : Step = record { action = act.BeginOperands; first = o.first; last = last } in
-      let contains : ks.items ≡ tokens_in b.here = subst (λ (x : Body D K A T). Contains says values text s.ctx.types x f.content b.here) is ending.frame.contains in
+      let contains : ks.items ≡ tokens_in b.here = subst (λ (x : Body D K A T). Contains says values text s.ctx.types x f.content.value b.here) is ending.frame.contains in
       let among : AreAmong ks.items mentions = subst (λ (x : Body D K A T). Raises says values text v x f at.here b.here) is inner.made in
       let old : IsRaised says values text v g in_operation o.before = subst (λ (x : Position). IsRaised says values text v g (begun_at x) o.before) place outer in
       let known : Raises says values text v (body.Operation p) g in_operation o.before = subst (λ (x : Body D K A T). Raises says values text v x g in_operation o.before) is_operation old.made in

@@ -89,7 +89,7 @@ module _ {D K A T : Type 0} (says : Saying K A T) (values : Values) (text : ℕ 
 
   -- the block whose header ends is made
   pub stepped_header : KeepsAround a c → c.here.first ≡ a.here.first → c.here.names.items ≡ [] → MakesBlock s t.ctx a c (text a.here.first)
-      → t.counter ≡ s.counter + length (types_in a.here.content.parts.items) → HasStepped says values text s a t c act.Header
+      → t.counter ≡ s.counter + length (types_in a.here.content.value.parts.items) → HasStepped says values text s a t c act.Header
   stepped_header kept first names new given g next at goes =
       let k : ℕ = a.taken - 1 in
       let none_yet = unrooted g.standing.here act.Header g.standing.around next a.made.root goes.leads at.made.unrooted in
@@ -263,12 +263,12 @@ module _ {D K A T : Type 0} (says : Saying K A T) (values : Values) (text : ℕ 
   the_open : (o : OpenBlock) × (a.here.body ≡ body.Block o)
   the_open = the_block says values text s.ctx.types a a g.built g.standing next (a.taken - 1) at.holds (header_goes g.standing.around next g.standing.here leads).1
 
-  pub can_header : AreKnownIn (length s.ctx.types) (types_in a.here.content.parts.items) × (is_identifier (text a.here.first) ≡ true)
+  pub can_header : AreKnownIn (length s.ctx.types) (types_in a.here.content.value.parts.items) × (is_identifier (text a.here.first) ≡ true)
   can_header = (
     header_known says values text g.start g.first s a g.built g.standing g.tokens g.mentions at.made (header_at g.standing.around next g.standing.here leads).0 the_open.0 the_open.1,
     header_spelt says values text g.start g.first s a g.built g.standing g.tokens g.mentions at.made (header_at g.standing.around next g.standing.here leads).0 the_open.0 the_open.1,
   )
 
-  pub header_is_full : 2 ^ 64 ≤ s.counter + length (types_in a.here.content.parts.items) → 2 ^ 64 ≤ g.first + length g.tokens
+  pub header_is_full : 2 ^ 64 ≤ s.counter + length (types_in a.here.content.value.parts.items) → 2 ^ 64 ≤ g.first + length g.tokens
   header_is_full long =
       header_full says values text g.start g.first s a g.built g.standing g.tokens g.mentions at.made (header_at g.standing.around next g.standing.here leads).0 the_open.0 the_open.1 long

@@ -148,7 +148,7 @@ module _ {D K A T : Type 0} (says : Saying K A T) (values : Values) (text : ℕ 
       → c.here ≡ record a.here { body = body.Operands ls } → ls.items ≡ ks.items ++ k ∷ [] → Goes says values text types c b act.Operand k next
   went_operand goes kept ks ls is new items =
       let more : Trees Step = behind b.here (node (lone act.Operand k) no_tree) in
-      let old : ks.items ≡ tokens_in b.here = subst (λ (x : Body D K A T). Contains says values text types x a.here.content b.here) is frame.contains in
+      let old : ks.items ≡ tokens_in b.here = subst (λ (x : Body D K A T). Contains says values text types x a.here.content.value b.here) is frame.contains in
       let sorts : some_operands ≡ sort_at goes.0.to = sym (goes.0.stays ∙ goes.1) in (
         refl,
         leaf types (λ i key h. h) act.Operand goes.0 kept

@@ -137,12 +137,12 @@ module _ {D K A T : Type 0} where
     pub id : Identifier
     pub spelt : text_of id ≡ label
     pub block : Ptr BasicBlock
-    pub opens : OpensBlock s.ctx t block (Some id) (types_in a.here.content.parts.items) s.counter
+    pub opens : OpensBlock s.ctx t block (Some id) (types_in a.here.content.value.parts.items) s.counter
     pub body : c.here.body ≡ body.Block (record { block = Some block })
     pub numbers : c.here.numbers.items ≡ []
-    pub values : length a.here.numbers.items ≡ length (types_in a.here.content.parts.items)
+    pub values : length a.here.numbers.items ≡ length (types_in a.here.content.value.parts.items)
         → c.made.values.items ≡ set_all a.here.numbers.items
-        (values_alone (numbered_values (ByBlock block) s.counter (types_in a.here.content.parts.items)))
+        (values_alone (numbered_values (ByBlock block) s.counter (types_in a.here.content.value.parts.items)))
         a.made.values.items
     pub pending : c.made.pending ≡ a.made.pending
     pub root : c.made.root ≡ a.made.root

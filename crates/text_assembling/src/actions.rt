@@ -23,7 +23,7 @@ impl<D: TextDialect> Assembler<D> {
         &mut self,
         ctx: &mut Context<D>,
         source: &Source,
-        spares: &mut Vec<Content<D>>,
+        spares: &mut Vec<Box<Content<D>>>,
         action: Action,
     ) -> Result<(), AssemblyFault>
         requires going { MayStep D.says D.values (text_between (codes_of source.now.chars) source.now.starts.now)

@@ -46,13 +46,13 @@ pub struct Assembler<D: Dialects> {
 }
 
 impl<D: TextDialect> Assembler<D> {
-    fn new(alloc: Global) -> Self
+    fn new(alloc: Global, content: Box<Content<D>>) -> Self
         ensures { IsNew result }
     {
         Assembler {
             alloc,
             taken: 0,
-            here: Open::new(alloc, Body::Text, 0),
+            here: Open::reusing(alloc, content, Body::Text, 0),
             around: Vec::new(alloc),
             made: Assembly {
                 root: None,
@@ -68,7 +68,7 @@ impl<D: TextDialect> Assembler<D> {
         &mut self,
         ctx: &mut Context<D>,
         source: &Source,
-        spares: &mut Vec<Content<D>>,
+        spares: &mut Vec<Box<Content<D>>>,
         events: &[Event],
         index: usize,
     ) -> Result<(), AssemblyFault>
@@ -139,7 +139,8 @@ pub fn assemble<D: TextDialect>(
     ensures payloads { KeepsPayloads ctx.old.program ctx.new.program }
 {
     know_seen(ctx);
-    let mut assembler = Assembler::new(alloc);
+    let content = Box::new(alloc, Content::new(alloc))?;
+    let mut assembler = Assembler::new(alloc, content);
     // The contents of what has ended, whose memory serves again.
     let mut spares = Vec::new(alloc);
     for index in 0..events.len() {

@@ -35,7 +35,7 @@ impl<D: TextDialect> Assembler<D> {
     #[inline(always)]
     pub fn begin(
         &mut self,
-        spares: &mut Vec<Content<D>>,
+        spares: &mut Vec<Box<Content<D>>>,
         body: Body<D>,
     ) -> Result<(), AssemblyFault>
         ensures begun { OnOk result (Begun self.old self.new body) }
@@ -46,7 +46,7 @@ impl<D: TextDialect> Assembler<D> {
         self.around.reserve(1)?;
         let content = match spares.pop() {
             Some(content) => content,
-            None => Content::new(self.alloc),
+            None => Box::new(self.alloc, Content::new(self.alloc))?,
         };
         let inner = Open::reusing(self.alloc, content, body, self.last());
         let outer = std::mem::replace(&mut self.here, inner);
@@ -57,7 +57,7 @@ impl<D: TextDialect> Assembler<D> {
     /// An operation of the kind with this number begins, with no operand and no region yet.
     pub fn begin_operation(
         &mut self,
-        spares: &mut Vec<Content<D>>,
+        spares: &mut Vec<Box<Content<D>>>,
         kind: u8,
     ) -> Result<(), AssemblyFault>
         ensures begun { OnOk result ((o : OpenOperation) × Begun self.old self.new (body.Operation o)
@@ -75,7 +75,7 @@ impl<D: TextDialect> Assembler<D> {
     }
 
     /// A block begins, which is made once its header is read.
-    pub fn begin_block(&mut self, spares: &mut Vec<Content<D>>) -> Result<(), AssemblyFault>
+    pub fn begin_block(&mut self, spares: &mut Vec<Box<Content<D>>>) -> Result<(), AssemblyFault>
         ensures begun { OnOk result (Begun self.old self.new (body.Block (record { block = None }))) }
         ensures made { self.new.made ≡ self.old.made }
         ensures taken { self.new.taken ≡ self.old.taken }
@@ -87,7 +87,7 @@ impl<D: TextDialect> Assembler<D> {
     /// An attribute of the kind with this number begins.
     pub fn begin_attribute(
         &mut self,
-        spares: &mut Vec<Content<D>>,
+        spares: &mut Vec<Box<Content<D>>>,
         kind: u8,
     ) -> Result<(), AssemblyFault>
         ensures begun { OnOk result (Begun self.old self.new (body.Attribute kind)) }
@@ -101,7 +101,7 @@ impl<D: TextDialect> Assembler<D> {
     /// A type of the kind with this number begins.
     pub fn begin_type(
         &mut self,
-        spares: &mut Vec<Content<D>>,
+        spares: &mut Vec<Box<Content<D>>>,
         kind: u8,
     ) -> Result<(), AssemblyFault>
         ensures begun { OnOk result (Begun self.old self.new (body.«Type» kind)) }
@@ -113,7 +113,7 @@ impl<D: TextDialect> Assembler<D> {
     }
 
     /// A member of a list begins.
-    pub fn begin_item(&mut self, spares: &mut Vec<Content<D>>) -> Result<(), AssemblyFault>
+    pub fn begin_item(&mut self, spares: &mut Vec<Box<Content<D>>>) -> Result<(), AssemblyFault>
         ensures begun { OnOk result (Begun self.old self.new body.Item) }
         ensures made { self.new.made ≡ self.old.made }
         ensures taken { self.new.taken ≡ self.old.taken }
@@ -123,7 +123,7 @@ impl<D: TextDialect> Assembler<D> {
     }
 
     /// A list begins, with no member yet.
-    pub fn begin_list(&mut self, spares: &mut Vec<Content<D>>) -> Result<(), AssemblyFault>
+    pub fn begin_list(&mut self, spares: &mut Vec<Box<Content<D>>>) -> Result<(), AssemblyFault>
         ensures begun { OnOk result ((ms : Vec (Vec (Part D D.OpKind D.Attr D.TypeKey) Global) Global)
             × Begun self.old self.new (body.List ms) × (ms.items ≡ [])) }
         ensures made { self.new.made ≡ self.old.made }
@@ -134,7 +134,7 @@ impl<D: TextDialect> Assembler<D> {
     }
 
     /// Operands begin, with none yet.
-    pub fn begin_operands(&mut self, spares: &mut Vec<Content<D>>) -> Result<(), AssemblyFault>
+    pub fn begin_operands(&mut self, spares: &mut Vec<Box<Content<D>>>) -> Result<(), AssemblyFault>
         ensures begun { OnOk result ((ks : Vec ℕ Global)
             × Begun self.old self.new (body.Operands ks) × (ks.items ≡ [])) }
         ensures made { self.new.made ≡ self.old.made }
@@ -150,7 +150,7 @@ impl<D: TextDialect> Assembler<D> {
     }
 
     /// A region begins, with no block yet.
-    pub fn begin_region(&mut self, spares: &mut Vec<Content<D>>) -> Result<(), AssemblyFault>
+    pub fn begin_region(&mut self, spares: &mut Vec<Box<Content<D>>>) -> Result<(), AssemblyFault>
         ensures begun { OnOk result ((bs : Vec (Ptr BasicBlock) Global)
             × Begun self.old self.new (body.Region bs) × (bs.items ≡ [])) }
         ensures made { self.new.made ≡ self.old.made }

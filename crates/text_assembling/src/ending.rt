@@ -30,7 +30,7 @@ impl<D: TextDialect> Assembler<D> {
     fn end_in(
         &mut self,
         ctx: &mut Context<D>,
-        spares: &mut Vec<Content<D>>,
+        spares: &mut Vec<Box<Content<D>>>,
         ended: Open<D>,
     ) -> Result<(), AssemblyFault>
         requires going { CanEndIn D.says D.values (stage ctx.old) ended self.old }
@@ -75,8 +75,15 @@ impl<D: TextDialect> Assembler<D> {
                 keep(spares, content);
                 made
             }
-            Body::List(members) => self.here.put(Part::List(members), first),
-            Body::Item => self.end_item(content.parts),
+            Body::List(members) => {
+                keep(spares, content);
+                self.here.put(Part::List(members), first)
+            }
+            Body::Item => {
+                let parts = std::mem::replace(&mut content.parts, Vec::new(self.alloc));
+                keep(spares, content);
+                self.end_item(parts)
+            }
             Body::Operation(open) => {
                 let made = self.end_operation(ctx, first, open, &content);
                 keep(spares, content);
@@ -87,8 +94,14 @@ impl<D: TextDialect> Assembler<D> {
                 keep(spares, content);
                 made
             }
-            Body::Region(blocks) => self.end_region(first, blocks),
-            Body::Block(open) => self.end_block(open),
+            Body::Region(blocks) => {
+                keep(spares, content);
+                self.end_region(first, blocks)
+            }
+            Body::Block(open) => {
+                keep(spares, content);
+                self.end_block(open)
+            }
         }
     }
 
@@ -96,7 +109,7 @@ impl<D: TextDialect> Assembler<D> {
     pub fn end(
         &mut self,
         ctx: &mut Context<D>,
-        spares: &mut Vec<Content<D>>,
+        spares: &mut Vec<Box<Content<D>>>,
     ) -> Result<(), AssemblyFault>
         requires going { CanEnd D.says D.values (stage ctx.old) self.old }
         ensures ended { OnOk result (HasEnded D.says D.values (stage ctx.old) self.old (stage ctx.new) self.new) }
@@ -122,7 +135,7 @@ impl<D: TextDialect> Assembler<D> {
 
 /// One more spare content, if there is memory to keep it.
 #[inline(always)]
-fn keep<D: Dialects>(spares: &mut Vec<Content<D>>, content: Content<D>) {
+fn keep<D: Dialects>(spares: &mut Vec<Box<Content<D>>>, content: Box<Content<D>>) {
     if spares.reserve(1).is_ok() {
         spares.push_reserved(content);
     }

@@ -48,19 +48,19 @@ impl<D: TextDialect> Assembler<D> {
 
     /// Makes the block whose header has been read.
     pub fn header(&mut self, ctx: &mut Context<D>, source: Source) -> Result<(), AssemblyFault>
-        requires known { AreKnownIn (length ctx.old.types.keys) (types_in self.old.here.content.parts.items) }
+        requires known { AreKnownIn (length ctx.old.types.keys) (types_in self.old.here.content.value.parts.items) }
         requires spelt { is_identifier (text_between (codes_of source.chars) source.starts.now
             self.old.here.first) ≡ true }
         ensures made { OnOk result (MakesBlock (stage ctx.old) (seen ctx.new) self.old self.new
             (text_between (codes_of source.entry.chars) source.entry.starts.now self.old.here.first)) }
         ensures given { OnOk result (GivesNumbers ctx.old.program ctx.new.program
-            (length (types_in self.old.here.content.parts.items))) }
+            (length (types_in self.old.here.content.value.parts.items))) }
         ensures first { self.new.here.first ≡ self.old.here.first }
         ensures names { self.new.here.names.items ≡ [] }
         ensures around { KeepsAround self.old self.new }
         ensures context { IfErr result IsOfContext }
         ensures full { result ≡ Err CounterFull
-            → 2 ^ 64 ≤ ctx.old.program.counter + length (types_in self.old.here.content.parts.items) }
+            → 2 ^ 64 ≤ ctx.old.program.counter + length (types_in self.old.here.content.value.parts.items) }
         ensures undone { OnErr result (IsUndone (seen ctx.old) (seen ctx.new) self.old self.new) }
         ensures types { ctx.new.types ≡ ctx.old.types }
         ensures erased { KeepsErased ctx.old.program ctx.new.program }
@@ -74,7 +74,7 @@ impl<D: TextDialect> Assembler<D> {
         define_arguments(ctx, block, &self.here.numbers, &mut self.made.values);
         self.made.loose.push_reserved(IRNode::BasicBlock(block));
         self.here.numbers.clear();
-        self.here.content = Content::new(self.alloc);
+        self.here.content.clear();
         self.here.body = Body::Block(OpenBlock { block: Some(block) });
         Ok(())
     }

@@ -133,7 +133,7 @@ module _ {D K A T : Type 0} (says : Saying K A T) (values : Values) (text : ℕ 
       → sort_of g.body ≡ sort_at at → Hollow (sort_at at) → g.names.items ≡ with_name (names_behind [] ts) s.action s.first → IsFrame says values text types g at (behind ts (node s us))
   frame_hollow g at ts s us sorts hollow names = record {
     sort = sorts;
-    contains = hollow_contains g.body g.content (behind ts (node s us)) (subst Hollow (sym sorts) hollow);
+    contains = hollow_contains g.body g.content.value (behind ts (node s us)) (subst Hollow (sym sorts) hollow);
     named = named_by (sort_at at) g.names.items (behind ts (node s us)) (names ∙ sym (name_behind [] ts s us));
   }
 
@@ -154,8 +154,8 @@ module _ (values : Values) (text : ℕ → List ℕ) (o : building.Open) (ts : T
 
 -- what that stands in, and what is in it
 module _ {D K A T : Type 0} (says : Saying K A T) (values : Values) (text : ℕ → List ℕ) (s : List T) (f g : opened.Open D K A T) (o : building.Open) (at next : Position) (ts : Trees Step) (e : Ending says values text s f g o at next ts) where
-  pub in_it : (b : Body D K A T) → f.body ≡ b → Contains says values text s b f.content ts
-  in_it b eb = subst (λ (x : Body D K A T). Contains says values text s x f.content ts) eb e.frame.contains
+  pub in_it : (b : Body D K A T) → f.body ≡ b → Contains says values text s b f.content.value ts
+  in_it b eb = subst (λ (x : Body D K A T). Contains says values text s x f.content.value ts) eb e.frame.contains
 
   ends_as : (b : Body D K A T) → f.body ≡ b → EndsAt (sort_of b) next
   ends_as b eb = subst (λ (x : Body D K A T). EndsAt (sort_of x) next) eb e.begun.ends
@@ -272,7 +272,7 @@ module _ {D K A T : Type 0} (says : Saying K A T) (values : Values) (text : ℕ 
   ended_list ms eb put =
       let begins : o.action ≡ act.BeginList = begins_as (body.List ms) eb in
       let members : ShowsMembers says t ms.items (pieces_in values text ts) =
-      subst (λ (x : Body D K A T). Contains says values text t x f.content ts) eb (frame_later says values text s t keeps f at ts e.frame).contains in (
+      subst (λ (x : Body D K A T). Contains says values text t x f.content.value ts) eb (frame_later says values text s t keeps f at ts e.frame).contains in (
         no_fault values text o ts last act.BeginList begins refl refl,
         part_put g.body (part.List ms) (node list (pieces_in values text ts)) (ends_as says values text s f g o at next ts e (body.List ms) eb) refl put
             (ap (λ (a : Action). with_piece values a (text o.first) (count ts) (pieces_in values text ts) no_tree) begins)
@@ -281,20 +281,20 @@ module _ {D K A T : Type 0} (says : Saying K A T) (values : Values) (text : ℕ 
       )
 
   pub ended_item : (ms ns : Vec (Vec (Part D K A T) Global) Global) → f.body ≡ body.Item → g.body ≡ body.List ms → h ≡ record g { body = body.List ns }
-      → ns.items ≡ ms.items ++ f.content.parts ∷ [] → Ended says values text t g h o next ts last
+      → ns.items ≡ ms.items ++ f.content.value.parts ∷ [] → Ended says values text t g h o next ts last
   ended_item ms ns eb eg eh items =
       let begins : o.action ≡ act.BeginItem = begins_as body.Item eb in
       let place : next ≡ in_list = ends_as says values text s f g o at next ts e body.Item eb in
-      let said : SaysParts says values text t f.content ts =
-      subst (λ (x : Body D K A T). Contains says values text t x f.content ts) eb (frame_later says values text s t keeps f at ts e.frame).contains in
+      let said : SaysParts says values text t f.content.value ts =
+      subst (λ (x : Body D K A T). Contains says values text t x f.content.value ts) eb (frame_later says values text s t keeps f at ts e.frame).contains in
       let before : ShowsMembers says t ms.items (pieces_in values text o.before) =
-      subst (λ (x : Body D K A T). Contains says values text t x g.content o.before) eg (frame_later says values text s t keeps g next o.before e.outer).contains in
+      subst (λ (x : Body D K A T). Contains says values text t x g.content.value o.before) eg (frame_later says values text s t keeps g next o.before e.outer).contains in
       let more : Trees Step = behind o.before (ended_tree o ts last) in
       let q : pieces_in values text more ≡ join (pieces_in values text o.before) (a_tree (node item (pieces_in values text ts)) no_tree) =
       pieces_behind values text o.before (record { action = o.action; first = o.first; last = last }) ts
       ∙ ap (λ (a : Action). join (pieces_in values text o.before) (with_piece values a (text o.first) (count ts) (pieces_in values text ts) no_tree)) begins in
-      let shown : ShowsMembers says t (ms.items ++ f.content.parts ∷ []) (join (pieces_in values text o.before) (a_tree (node item (pieces_in values text ts)) no_tree)) =
-      members_put says t ms.items (pieces_in values text o.before) f.content.parts (node item (pieces_in values text ts)) before said.parts in
+      let shown : ShowsMembers says t (ms.items ++ f.content.value.parts ∷ []) (join (pieces_in values text o.before) (a_tree (node item (pieces_in values text ts)) no_tree)) =
+      members_put says t ms.items (pieces_in values text o.before) f.content.value.parts (node item (pieces_in values text ts)) before said.parts in
       let all : ShowsMembers says t ns.items (pieces_in values text more) =
       subst (λ (ps : Pieces). ShowsMembers says t ns.items ps) (sym q)
       (subst (λ (xs : List (Vec (Part D K A T) Global)). ShowsMembers says t xs (join (pieces_in values text o.before) (a_tree (node item (pieces_in values text ts)) no_tree))) (sym items) shown) in

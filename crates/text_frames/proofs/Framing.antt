@@ -37,7 +37,7 @@ module _ {D K A T : Type 0} (says : Saying K A T) (values : Values) (text : ℕ 
   contains_later (body.Block b) c ts h = h
 
   pub frame_later : (f : opened.Open D K A T) (at : Position) (ts : Trees Step) → IsFrame says values text s f at ts → IsFrame says values text t f at ts
-  frame_later f at ts h = record { sort = h.sort; contains = contains_later f.body f.content ts h.contains; named = h.named }
+  frame_later f at ts h = record { sort = h.sort; contains = contains_later f.body f.content.value ts h.contains; named = h.named }
 
   begun_later : (f : opened.Open D K A T) (o : building.Open) (next : Position) → HasBegun says values text s f o next → HasBegun says values text t f o next
   begun_later f o next h = record { begins = h.begins; first = h.first; ends = h.ends }
@@ -111,14 +111,14 @@ module _ {D K A T : Type 0} (says : Saying K A T) (values : Values) (text : ℕ 
       let more : Trees Step = behind ts (node s us) in
       let q : pieces_in values text more ≡ join (pieces_in values text ts) (a_tree p no_tree) =
       pieces_behind values text ts s us ∙ ap (λ (r : Pieces). join (pieces_in values text ts) r) piece in
-      let old : SaysParts says values text types f.content ts = parts_of f.body f.content ts (subst TakesParts (sym h.sort) takes) h.contains in
-      let shown_all : ShowsParts says types (f.content.parts.items ++ x ∷ []) (join (pieces_in values text ts) (a_tree p no_tree)) =
-      parts_put says types f.content.parts.items (pieces_in values text ts) x p old.parts shown in
+      let old : SaysParts says values text types f.content.value ts = parts_of f.body f.content.value ts (subst TakesParts (sym h.sort) takes) h.contains in
+      let shown_all : ShowsParts says types (f.content.value.parts.items ++ x ∷ []) (join (pieces_in values text ts) (a_tree p no_tree)) =
+      parts_put says types f.content.value.parts.items (pieces_in values text ts) x p old.parts shown in
       let sorts : sort_of g.body ≡ sort_at at = ap sort_of put.body ∙ (kind ∙ h.sort) in
       record {
         sort = sorts;
-        contains = of_parts g.body g.content more (subst TakesParts (sym sorts) takes) (record {
-          parts = subst (λ (ps : Pieces). ShowsParts says types g.content.parts.items ps) (sym q)
+        contains = of_parts g.body g.content.value more (subst TakesParts (sym sorts) takes) (record {
+          parts = subst (λ (ps : Pieces). ShowsParts says types g.content.value.parts.items ps) (sym q)
               (subst (λ (xs : List (Part D K A T)). ShowsParts says types xs (join (pieces_in values text ts) (a_tree p no_tree))) (sym put.content.parts) shown_all);
           tokens = put.content.tokens ∙ (ap (λ (ks : List ℕ). ks ++ s.first ∷ []) old.tokens ∙ sym (tokens_behind ts s us));
         });
@@ -166,10 +166,10 @@ module _ {D K A T : Type 0} (says : Saying K A T) (values : Values) (text : ℕ 
 -- ---- what has begun
 
 module _ {D K A T : Type 0} (says : Saying K A T) (values : Values) (text : ℕ → List ℕ) (types : List T) where
-  fresh_parts : (f : opened.Open D K A T) (b : Body D K A T) (k : ℕ) → IsFresh f b k → SaysParts says values text types f.content no_tree
+  fresh_parts : (f : opened.Open D K A T) (b : Body D K A T) (k : ℕ) → IsFresh f b k → SaysParts says values text types f.content.value no_tree
   fresh_parts f b k h = record { parts = rw h.parts tt; tokens = h.tokens }
 
-  fresh_contains : (f : opened.Open D K A T) (b : Body D K A T) (k : ℕ) → IsFresh f b k → IsEmpty b → Contains says values text types b f.content no_tree
+  fresh_contains : (f : opened.Open D K A T) (b : Body D K A T) (k : ℕ) → IsFresh f b k → IsEmpty b → Contains says values text types b f.content.value no_tree
   fresh_contains f body.Text k h e = tt
   fresh_contains f (body.«Type» n) k h e = fresh_parts f (body.«Type» n) k h
   fresh_contains f (body.Attribute n) k h e = fresh_parts f (body.Attribute n) k h
@@ -183,7 +183,7 @@ module _ {D K A T : Type 0} (says : Saying K A T) (values : Values) (text : ℕ 
   pub fresh_frame : (f : opened.Open D K A T) (b : Body D K A T) (k : ℕ) (at : Position) → IsFresh f b k → IsEmpty b → sort_of b ≡ sort_at at → IsFrame says values text types f at no_tree
   fresh_frame f b k at h e sorts = record {
     sort = ap sort_of h.body ∙ sorts;
-    contains = subst (λ (x : Body D K A T). Contains says values text types x f.content no_tree) (sym h.body) (fresh_contains f b k h e);
+    contains = subst (λ (x : Body D K A T). Contains says values text types x f.content.value no_tree) (sym h.body) (fresh_contains f b k h e);
     named = no_names (sort_at at) f.names.items h.names;
   }
 

@@ -31,9 +31,9 @@ put_with_body f between g b p q token e ep h = record {
   body = h.body ∙ ap (λ x. x.body) e;
   first = h.first ∙ ap (λ x. x.first) e;
   content = record {
-    parts = cc (h.content.parts, ap (λ x. x.content.parts.items) e, ep);
+    parts = cc (h.content.parts, ap (λ x. x.content.value.parts.items) e, ep);
     tokens = cc
-        (h.content.tokens, ap (λ x. x.content.tokens.items) e);
+        (h.content.tokens, ap (λ x. x.content.value.tokens.items) e);
   };
   names = h.names;
   numbers = h.numbers ∙ ap (λ x. x.numbers) e;

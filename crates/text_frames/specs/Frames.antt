@@ -127,7 +127,7 @@ module _ {D K A T : Type 0} (says : Saying K A T) (values : Values) (text : ℕ 
   -- what is open at a position holds what these trees say
   pub record IsFrame (f : Open D K A T) (at : Position) (ts : Trees Step) : Type 0 where
     pub sort : sort_of f.body ≡ sort_at at
-    pub contains : Contains f.body f.content ts
+    pub contains : Contains f.body f.content.value ts
     pub named : NamesResults (sort_at at) f.names.items ts
 
   -- it began so, and reading goes on at the position behind its end

@@ -25,8 +25,8 @@ module _ {D K A T : Type 0} where
   pub record IsFresh (f : Open D K A T) (b : Body D K A T) (token : ℕ) : Type 0 where
     pub body : f.body ≡ b
     pub first : f.first ≡ token
-    pub parts : f.content.parts.items ≡ []
-    pub tokens : f.content.tokens.items ≡ []
+    pub parts : f.content.value.parts.items ≡ []
+    pub tokens : f.content.value.tokens.items ≡ []
     pub names : f.names.items ≡ []
     pub numbers : f.numbers.items ≡ []
 
@@ -39,7 +39,7 @@ module _ {D K A T : Type 0} where
   pub record HasPut (f g : Open D K A T) (b : Body D K A T) (part : Part D K A T) (token : ℕ) : Type 0 where
     pub body : g.body ≡ b
     pub first : g.first ≡ f.first
-    pub content : HasPart f.content g.content part token
+    pub content : HasPart f.content.value g.content.value part token
     pub names : g.names.items ≡ []
     pub numbers : g.numbers ≡ f.numbers
 

@@ -157,7 +157,7 @@ module _ {D K A T : Type 0} (says : Saying K A T) (values : Values) (text : ℕ 
     pub no_results : result_names [] ts ≡ []
     pub empty : operations_in values text [] ts ≡ no_entity
     pub types : List TypeHandle
-    pub parts : f.content.parts.items ≡ map part.«Type» types
+    pub parts : f.content.value.parts.items ≡ map part.«Type» types
     pub shown : Pairs (ShowsType says w.ctx.types) types (listed (pieces_in values text ts))
     pub arguments : arguments_in values text 0 ts ≡ typed (argument_tokens ts) (listed (pieces_in values text ts))
     pub typed_so : HaveTypes at ts (pieces_in values text ts)

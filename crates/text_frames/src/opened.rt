@@ -104,7 +104,8 @@ pub struct Open<D: Dialects> {
     pub body: Body<D>,
     /// The token at which it begins.
     pub first: usize,
-    pub content: Content<D>,
+    /// What is said in it, in a box so that what is open is moved at little cost.
+    pub content: Box<Content<D>>,
     /// The names of results behind all else that was read in it.
     pub names: Vec<usize>,
     /// The numbers of the definitions that are named in it, and not made yet.
@@ -154,15 +155,8 @@ impl<D: Dialects> Content<D> {
 }
 
 impl<D: Dialects> Open<D> {
-    /// What begins at a token, with nothing in it.
-    pub fn new(alloc: Global, body: Body<D>, first: usize) -> Self
-        ensures { IsFresh result body first }
-    {
-        Self::reusing(alloc, Content::new(alloc), body, first)
-    }
-
     /// What begins at a token, with nothing in it, in the memory of a content whose parts are let go.
-    pub fn reusing(alloc: Global, mut content: Content<D>, body: Body<D>, first: usize) -> Self
+    pub fn reusing(alloc: Global, mut content: Box<Content<D>>, body: Body<D>, first: usize) -> Self
         ensures { IsFresh result body first }
     {
         content.clear();

@@ -12,7 +12,7 @@ use Rattle.text_frames.proofs.Rising.{get_there}
 use Rattle.text_assembling.specs.Assembling.{stage}
 use Rattle.text_assembling.specs.declared.assembling.Assembler.{Assembler}
 use Rattle.text_assembling.proofs.Gathering.{Gathers, errors_same, gathers_can, gathers_first, gathers_full, gathers_last, gathers_next, gathers_refused, gathers_sound, rest_at, took_so}
-use Rattle.text_assembling.proofs.Undone.{erased_same, err_at, held_undone, ok_unless}
+use Rattle.text_assembling.proofs.Undone.{erased_same, err_at, held_undone, ok_unless, on_err_any, seen_same}
 use Rattle.text_assembling.proofs.assembling.assemble.Goals as goal
 
 pub loop-index-init : goal.loop-index-init
@@ -111,3 +111,12 @@ returns-clause-sound g c =
     let text = text_between (codes_of c.args.source.chars) c.args.source.starts.now in
     gathers_sound g.D.TextDialect.says g.D.TextDialect.values text (seen c.args.ctx.now) c.args.ctx.now.program.counter (stage c.loop-index.ctx) c.loop-index.assembler es []
     (subst (λ rest. Gathers g.D.TextDialect.says g.D.TextDialect.values text (seen c.args.ctx.now) c.args.ctx.now.program.counter (stage c.loop-index.ctx) c.loop-index.assembler es rest) (drop_of_length-le es (omega (arith, c.loop-index-test.false))) c.loop-index.invariant.gathers)
+
+pub returns-in_err-content-clause-undone : goal.returns-in_err-content-clause-undone
+returns-in_err-content-clause-undone g c = on_err_any _ (seen_same _)
+
+pub returns-in_err-content-clause-erased : goal.returns-in_err-content-clause-erased
+returns-in_err-content-clause-erased g c = erased_same _ _ refl
+
+pub returns-in_err-content-clause-payloads : goal.returns-in_err-content-clause-payloads
+returns-in_err-content-clause-payloads g c = payloads_none _

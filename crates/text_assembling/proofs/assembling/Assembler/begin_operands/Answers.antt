@@ -14,7 +14,7 @@ returns-in-Operands-clause-begun g c =
         here = record {
           body = refl;
           first = begun.here.first;
-          parts = begun.here.parts;
+          parts = ap (λ x. x.parts.items) c.deref_mut.ensures.value ∙ begun.here.parts;
           tokens = ap items (c.swap.ensures.y_after ∙ same) ∙ c.new.ensures.items;
           names = begun.here.names;
           numbers = begun.here.numbers;
@@ -22,5 +22,5 @@ returns-in-Operands-clause-begun g c =
         around = begun.around;
         taken = begun.taken;
       },
-      ap items c.swap.ensures.x_after ∙ begun.here.tokens,
+      ap items c.swap.ensures.x_after ∙ (ap (λ x. x.tokens.items) c.deref_mut.ensures.value ∙ begun.here.tokens),
     )

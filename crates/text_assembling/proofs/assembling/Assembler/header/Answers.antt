@@ -18,7 +18,7 @@ pub returns-clause-made : goal.returns-clause-made
 returns-clause-made g c =
     let said : is_identifier (codes_of c.text.result) ≡ true = rw c.text.ensures c.requires.spelt in
     let label = c.in_ok-label.ensures said in
-    let types : c.deref-2.result.now ≡ types_in c.args.self.now.here.content.parts.items = c.deref-2.ensures.value ∙ c.in_ok-types.ensures ∙ ap types_in c.deref.ensures.value in
+    let types : c.deref-3.result.now ≡ types_in c.args.self.now.here.content.value.parts.items = c.deref-3.ensures.value ∙ c.in_ok-types.ensures ∙ ap types_in (c.deref-2.ensures.value ∙ ap (λ x. x.parts.items) c.deref.ensures) in
     let opened = c.in_ok-block.ensures.opened in
     record {
       id = label.0;
@@ -28,20 +28,20 @@ returns-clause-made g c =
       body = refl;
       numbers = c.clear-2.ensures.items;
       values = λ many. with_items_is c.args.self.now.made.values c.define_arguments.new.values (search (rules, places))
-          ∙ values_made (ByBlock c.in_ok-block.block) c.args.ctx.now.program.counter (arguments_at c.open_block.new.ctx.program c.in_ok-block.block) c.deref-2.result.now
-          (types_in c.args.self.now.here.content.parts.items) c.deref-3.result.now c.args.self.now.here.numbers.items c.deref_mut.result.now c.args.self.now.made.values.items c.define_arguments.new.values
-          (sym (values_seen c.open_block.new.ctx (ByBlock c.in_ok-block.block)) ∙ arguments_made _ _ c.in_ok-block.block c.in_ok-label.label c.deref-2.result.now c.args.ctx.now.program.counter opened)
-          types c.deref-3.ensures.value c.deref_mut.ensures.value c.define_arguments.ensures many;
+          ∙ values_made (ByBlock c.in_ok-block.block) c.args.ctx.now.program.counter (arguments_at c.open_block.new.ctx.program c.in_ok-block.block) c.deref-3.result.now
+          (types_in c.args.self.now.here.content.value.parts.items) c.deref-4.result.now c.args.self.now.here.numbers.items c.deref_mut.result.now c.args.self.now.made.values.items c.define_arguments.new.values
+          (sym (values_seen c.open_block.new.ctx (ByBlock c.in_ok-block.block)) ∙ arguments_made _ _ c.in_ok-block.block c.in_ok-label.label c.deref-3.result.now c.args.ctx.now.program.counter opened)
+          types c.deref-4.ensures.value c.deref_mut.ensures.value c.define_arguments.ensures many;
       pending = refl;
       root = refl;
       loose = c.push_reserved.ensures.items ∙ ap (λ (xs : List IRNode). xs ++ BlockNode c.in_ok-block.block ∷ []) c.reserve.ensures.items;
     }
 
 pub open_block-requires : goal.open_block-requires
-open_block-requires g c = record { known = rw (c.deref-2.ensures.value ∙ c.in_ok-types.ensures ∙ ap types_in c.deref.ensures.value) c.requires.known }
+open_block-requires g c = record { known = rw (c.deref-3.ensures.value ∙ c.in_ok-types.ensures ∙ ap types_in (c.deref-2.ensures.value ∙ ap (λ x. x.parts.items) c.deref.ensures)) c.requires.known }
 
 pub returns-in_err-block-clause-full : goal.returns-in_err-block-clause-full
 returns-in_err-block-clause-full g c e =
     let p = err_from_is_err_and c.from_residual-in_err-block.result c.from_residual-in_err-block.ensures.1 in
-    let types = c.deref-2.ensures.value ∙ c.in_ok-types.ensures ∙ ap types_in c.deref.ensures.value in
+    let types = c.deref-3.ensures.value ∙ c.in_ok-types.ensures ∙ ap types_in (c.deref-2.ensures.value ∙ ap (λ x. x.parts.items) c.deref.ensures) in
     rw (← types) (c.in_err-block.ensures.full (ap Err (growth_full c.in_err-block.field-0.0 (sym p.2 ∙ errors_same (sym p.1 ∙ e)))))
