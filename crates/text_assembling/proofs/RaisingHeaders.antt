@@ -28,7 +28,7 @@ use Rattle.text_dialect.specs.Seen.{Seen}
 use Rattle.text_building.specs.Kept.{Keeps}
 use Rattle.text_building.specs.Later.{IsLater}
 use Rattle.text_building.proofs.Later.{keeps_later, opens_keeps}
-use Rattle.text_frames.specs.declared.assembly.Pending.{Pending}
+use Rattle.text_frames.specs.Waiting.{Waiting}
 use Rattle.text_frames.specs.declared.opened.Body.{Body}
 use Rattle.text_frames.specs.declared.opened.Body.TheVariants as body
 use Rattle.text_frames.specs.declared.opened.Open.{Open}
@@ -138,7 +138,7 @@ module _ {D K A T : Type 0} (says : Saying K A T) (values : Values) (text : ℕ 
 
     to_new : LaterWorld w v
     to_new = world_defined s t a c (ByBlock p) types tokens mentions counter later many_types (new.values many_types) has.definitions
-        (λ i x at. ap (λ (xs : Vec Pending Global). slice_get xs.items i) new.pending ∙ at)
+        (λ i x at. ap (λ (xs : Waiting). slice_get xs.items i) new.pending ∙ at)
 
     abbrev outer : List (Ptr BasicBlock)
     outer = joined (map (λ (f : Open D K A T). blocks_of_body f.body) a.around.items)

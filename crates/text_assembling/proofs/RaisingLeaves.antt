@@ -11,7 +11,7 @@ use Rattle.ir_program.specs.declared.handles.BasicBlock.{BasicBlock}
 use Rattle.ir_program.specs.declared.handles.IRNode.{IRNode}
 use Rattle.text_assembling.specs.declared.assembling.Assembler.{Assembler}
 use Rattle.text_frames.specs.declared.assembly.Assembly.{Assembly}
-use Rattle.text_frames.specs.declared.assembly.Pending.{Pending}
+use Rattle.text_frames.specs.Waiting.{Pending}
 use Rattle.ir_grammar.specs.declared.grammar.Action.{Action}
 use Rattle.ir_grammar.specs.declared.grammar.Action.TheVariants as act
 use Rattle.text_frames.specs.declared.opened.Body.{Body}
@@ -168,7 +168,7 @@ operand_at around next in_operands h = (refl, cc)
 operand_at around next _ h = cc
 
 waiting_longer : {K A T : Type 0} (start s : Seen K A T) (pending : List Pending) (mentions more : List ℕ) → AreAmong mentions more → AreWaiting start s pending mentions → AreWaiting start s pending more
-waiting_longer start s pending mentions more all h = record { once = h.once; there = h.there; came = h.came; empty = h.empty; among = λ i x e. among_both x.tokens.items mentions more (h.among i x e) all }
+waiting_longer start s pending mentions more all h = record { once = h.once; there = h.there; came = h.came; empty = h.empty; among = λ i x e. among_both x.tokens mentions more (h.among i x e) all }
 
 module _ {D K A T : Type 0} (says : Saying K A T) (values : Values) (text : ℕ → List ℕ) (start : Seen K A T) (counter : ℕ) (s : Stage K A T) (a c : Assembler D K A T) (b : Built) (here next : Standing) (k : ℕ) (tokens mentions : List ℕ)
     (has : HasMade says values text start counter s a b here tokens mentions) (none_yet : a.made.root ≡ None) where

@@ -33,7 +33,7 @@ use Rattle.text_building.specs.Trees.{with_last}
 use Rattle.text_building.proofs.Later.{appends_later, keeps_both, keeps_later, later_both, makes_keeps, same_keeps}
 use Rattle.text_building.proofs.Options.{is_there, no_some}
 use Rattle.text_frames.specs.declared.assembly.Assembly.{Assembly}
-use Rattle.text_frames.specs.declared.assembly.Pending.{Pending}
+use Rattle.text_frames.specs.Waiting.{Pending}
 use Rattle.text_frames.specs.declared.opened.AssemblyFault.{AssemblyFault}
 use Rattle.text_frames.specs.declared.opened.Body.{Body}
 use Rattle.text_frames.specs.declared.opened.Body.TheVariants as body
@@ -326,7 +326,7 @@ module _ {D K A T : Type 0} (says : Saying K A T) (values : Values) (text : ℕ 
     pub to_new : LaterWorld w v
     to_new = world_both w (world_of s a tokens mentions) v to_same
         (world_defined s t a c (ByOp op) new.result_types tokens mentions counter later many (new.defines many) settled_before
-        (λ i x e. ap (λ (xs : List Pending). slice_get xs i) new.pending ∙ get_left a.made.pending.items (record { op = op; tokens = ended.operands } ∷ []) i x e))
+        (λ i x e. ap (λ (xs : List Pending). slice_get xs i) new.pending ∙ get_left a.made.pending.items (record { op = op; tokens = ended.operands.items } ∷ []) i x e))
 
     results_named : Pairs (λ d k. IsNamed v d.value k) results (names_behind [] o.before)
     results_named = all_named v a.here.numbers.items results (names_behind [] o.before) numbered_here (many ∙ sym (numbered_length (ByOp op) s.counter new.result_types))
@@ -341,7 +341,7 @@ module _ {D K A T : Type 0} (says : Saying K A T) (values : Values) (text : ℕ 
         (length a.made.pending.items) (names_behind [] o.before) ts new.makes later_put (λ b x e. typed_keeps.blocks b x e)
         (subst (λ (keys : List T). Drafts says keys values new.kind ended.kind (pieces_in values text ts) new.attributes new.result_types) (sym types_stay) new.drafts)
         results_named
-        (ap (λ (xs : List Pending). slice_get xs (length a.made.pending.items)) new.pending ∙ get_last a.made.pending.items (record { op = op; tokens = ended.operands }))
+        (ap (λ (xs : List Pending). slice_get xs (length a.made.pending.items)) new.pending ∙ get_last a.made.pending.items (record { op = op; tokens = ended.operands.items }))
         inside.0 inside.2
 
     -- the trees with that of the operation
@@ -437,7 +437,7 @@ module _ {D K A T : Type 0} (says : Saying K A T) (values : Values) (text : ℕ 
 
     waits_more : AreWaiting start t.ctx c.made.pending.items mentions
     waits_more = subst (λ (xs : List Pending). AreWaiting start t.ctx xs mentions) (sym new.pending)
-        (waiting_more start t.ctx a.made.pending.items (record { op = op; tokens = ended.operands }) _ mentions (operations_stay op ∙ new.makes.made) refl
+        (waiting_more start t.ctx a.made.pending.items (record { op = op; tokens = ended.operands.items }) _ mentions (operations_stay op ∙ new.makes.made) refl
         (fresh_at (start.operation op) refl) not_this inside.1
         (waiting_kept start s.ctx t.ctx a.made.pending.items mentions (λ p u e. operations_stay p ∙ made_keeps.operations p u e)
         (subst (λ (z : Assembly). AreWaiting start s.ctx z.pending.items mentions) (sym is_made) waits)))

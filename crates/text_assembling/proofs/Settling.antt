@@ -1,8 +1,6 @@
 -- What a step that names or makes something does to the definitions, to the operations that wait, and to the world.
 use Rattle.std.proofs.Common.{◌≡◌, ◌≢◌, ◌∙◌, ℕ, ◌+◌, inl, inr, List, [], ◌∷◌, ◌++◌, map, length, Option, Some, None, IsSome, slice_get, option_map, unwrap_or, sym, ap, subst, append-nil}
 use Rattle.std.proofs.lemmas.List.{map-append}
-use Rattle.std.specs.Prelude.{Vec}
-use Rattle.std.specs.Global.{Global}
 use Rattle.text_frames.specs.Worlds.{joined}
 use Rattle.ir_base.specs.declared.types.TypeHandle.{TypeHandle}
 use Rattle.ir_program.specs.Adds.{numbered_values}
@@ -22,7 +20,7 @@ use Rattle.text_building.specs.Later.{IsLater}
 use Rattle.text_building.specs.Loose.{AreDistinct, IsLooseBlock, values_of}
 use Rattle.text_building.proofs.Later.{defined_later}
 use Rattle.text_building.proofs.Options.{is_there, there}
-use Rattle.text_frames.specs.declared.assembly.Pending.{Pending}
+use Rattle.text_frames.specs.Waiting.{Pending, Waiting}
 use Rattle.text_frames.specs.declared.opened.Open.{Open}
 use Rattle.text_frames.specs.Raised.{AreWaiting, HoldsAllNew, block_nodes}
 use Rattle.text_frames.specs.Worlds.{AreAmong, LaterWorld, operands_of, set_all, values_alone}
@@ -70,7 +68,7 @@ module _ {D K A T : Type 0} (s : Stage K A T) (a c : Assembler D K A T) (tokens 
     values = λ n x h. ap (λ (xs : List (Option Value)). slice_get xs n) new.values ∙ get_left a.made.values.items (None ∷ []) n (Some x) h;
     tokens = λ n j h. get_left tokens (k ∷ []) n j h;
     mentions = among_same mentions;
-    pending = λ i x h. ap (λ (xs : Vec Pending Global). slice_get xs.items i) new.pending ∙ h;
+    pending = λ i x h. ap (λ (xs : Waiting). slice_get xs.items i) new.pending ∙ h;
   }
 
 module _ {D K A T : Type 0} (s : Stage K A T) (a : Assembler D K A T) (tokens : List ℕ) (counter : ℕ) where
@@ -122,7 +120,7 @@ module _ {K A T : Type 0} (start : Seen K A T) where
 
   -- one more operation waits, which wasn't there
   pub waiting_more : (s : Seen K A T) (pending : List Pending) (new : Pending) (o : SeenOperation K A) (mentions : List ℕ) → s.operation new.op ≡ Some o → o.operands ≡ []
-      → start.operation new.op ≡ None → ((i : ℕ) (x : Pending) → slice_get pending i ≡ Some x → x.op ≢ new.op) → AreAmong new.tokens.items mentions
+      → start.operation new.op ≡ None → ((i : ℕ) (x : Pending) → slice_get pending i ≡ Some x → x.op ≢ new.op) → AreAmong new.tokens mentions
       → AreWaiting start s pending mentions → AreWaiting start s (pending ++ new ∷ []) mentions
   waiting_more s pending new o mentions at none fresh other among h = record {
     once = subst (λ (ps : List (Ptr Operation)). AreDistinct ps) (sym (map-append (λ (x : Pending). x.op) pending (new ∷ [])))
@@ -142,7 +140,7 @@ module _ {K A T : Type 0} (start : Seen K A T) where
     ];
     among = λ i x e. elim (get_either pending (new ∷ []) i x e) [
       | inl f ↦ h.among i x f
-      | inr f ↦ subst (λ (y : Pending). AreAmong y.tokens.items mentions) (only_one new f.0 x f.1).1 among
+      | inr f ↦ subst (λ (y : Pending). AreAmong y.tokens mentions) (only_one new f.0 x f.1).1 among
     ];
   }
     where

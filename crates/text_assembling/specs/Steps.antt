@@ -181,7 +181,7 @@ module _ {D K A T : Type 0} where
         → c.made.values.items ≡ set_all a.here.numbers.items
         (values_alone (numbered_values (ByOp op) s.counter result_types)) a.made.values.items
     pub numbers : c.here.numbers.items ≡ []
-    pub pending : c.made.pending.items ≡ a.made.pending.items ++ record { op = op; tokens = ended.operands } ∷ []
+    pub pending : c.made.pending.items ≡ a.made.pending.items ++ record { op = op; tokens = ended.operands.items } ∷ []
     pub root : a.here.body ≡ body.Text → c.made.root ≡ Some op
     pub root_stays : (b : Ptr BasicBlock) → block_in a.here.body ≡ Some b → c.made.root ≡ a.made.root
     pub loose : (xs : List IRNode)

@@ -31,6 +31,7 @@ use text_dialect::TextDialect;
 use text_frames::assembly::Assembly;
 use text_frames::opened::{AssemblyFault, Body, Content, Open};
 use text_frames::source::Source;
+use text_frames::waiting::WaitingOperands;
 
 /// A text on its way into a context.
 #[derive(Drop)]
@@ -43,6 +44,8 @@ pub struct Assembler<D: Dialects> {
     /// What was begun around it, the innermost last.
     pub around: Vec<Open<D>>,
     pub made: Assembly,
+    /// The operands of the operation that ended last, whose memory serves again.
+    pub spare_operands: Vec<usize>,
 }
 
 impl<D: TextDialect> Assembler<D> {
@@ -57,9 +60,10 @@ impl<D: TextDialect> Assembler<D> {
             made: Assembly {
                 root: None,
                 values: Vec::new(alloc),
-                pending: Vec::new(alloc),
+                pending: WaitingOperands::new(alloc),
                 loose: Vec::new(alloc),
             },
+            spare_operands: Vec::new(alloc),
         }
     }
 

@@ -66,9 +66,11 @@ impl<D: TextDialect> Assembler<D> {
         ensures taken { self.new.taken ≡ self.old.taken }
         ensures memory { IfErr result (λ e. e ≡ Memory) }
     {
+        let mut operands = std::mem::replace(&mut self.spare_operands, Vec::new(self.alloc));
+        operands.clear();
         let body = Body::Operation(OpenOperation {
             kind,
-            operands: Vec::new(self.alloc),
+            operands,
             regions: Vec::new(self.alloc),
         });
         self.begin(spares, body)

@@ -38,7 +38,6 @@ use ir_tokens::faults::{Fault, FaultKind};
 use ir_types::DialectTables;
 use text_building::{append_operation, know_seen, make_operation, open_block};
 use text_dialect::{OperationDraft, TextDialect};
-use text_frames::assembly::Pending;
 use text_frames::making::{draft_of, label_of, types_of};
 use text_frames::opened::{AssemblyFault, Body, Content, OpenBlock, OpenOperation};
 use text_frames::source::Source;
@@ -179,7 +178,7 @@ impl<D: TextDialect> Assembler<D> {
             attributes,
         } = draft;
         self.compare_names(first, result_types.len())?;
-        self.made.pending.reserve(1)?;
+        self.made.pending.reserve(ended.operands.len())?;
         self.made.loose.reserve(1)?;
         know_seen(ctx);
         let op = make_operation(
@@ -192,10 +191,8 @@ impl<D: TextDialect> Assembler<D> {
         )?;
         define_results(ctx, op, &self.here.numbers, &mut self.made.values);
         take_off(&mut self.made.loose, &ended.regions);
-        self.made.pending.push_reserved(Pending {
-            op,
-            tokens: ended.operands,
-        });
+        self.made.pending.push_reserved(op, &ended.operands);
+        self.spare_operands = ended.operands;
         self.attach(ctx, op);
         Ok(())
     }

@@ -12,3 +12,4 @@ pub mod Linked
 pub mod Reached
 pub mod Made
 pub mod Bytes
+pub mod WaitingRows

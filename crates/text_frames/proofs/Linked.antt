@@ -20,7 +20,7 @@ use Rattle.text_building.proofs.Later.{links_later, defined_later, links_loose_b
 use Rattle.text_building.proofs.Linked.{links_both}
 use Rattle.text_building.proofs.Members.{only_member, take_step}
 use Rattle.text_building.proofs.Options.{is_there, there}
-use Rattle.text_frames.specs.declared.assembly.Pending.{Pending}
+use Rattle.text_frames.specs.Waiting.{Pending}
 use Rattle.text_frames.specs.Linking.{meant, AreMeant, Links}
 use Rattle.text_frames.specs.Raised.{AreWaiting, HoldsAllNew}
 use Rattle.text_frames.specs.Worlds.{operands_of}
@@ -105,7 +105,7 @@ module _ {K A T : Type 0} where
     pub blocks : (b : Ptr BasicBlock) → t.block b ≡ s.block b
     pub types : t.types ≡ s.types
     pub operands : (i : ℕ) (x : Pending) → i < n → slice_get ps i ≡ Some x
-        → AreMeant s values numbers (operands_of t x.op) x.tokens.items
+        → AreMeant s values numbers (operands_of t x.op) x.tokens
     pub rest : (i : ℕ) (x : Pending) → n ≤ i → slice_get ps i ≡ Some x → t.operation x.op ≡ s.operation x.op
 
   module _ (s : Seen K A T) (values : List (Option Value)) (numbers : List ℕ) (ps : List Pending) where
@@ -160,7 +160,7 @@ module _ {K A T : Type 0} where
     module _ (start : Seen K A T) (mentions : List ℕ) (w : AreWaiting start s ps mentions) (t u : Seen K A T) (n : ℕ)
         (x : Pending) (vs : List Value)
         (h : LinksFirst s t values numbers ps n) (at : slice_get ps n ≡ Some x)
-        (said : AreMeant s values numbers vs x.tokens.items) (linked : LinksOperands t u x.op vs) where
+        (said : AreMeant s values numbers vs x.tokens) (linked : LinksOperands t u x.op vs) where
       linked_own : operands_of u x.op ≡ vs
       linked_own =
           let o = is_there (s.operation x.op) (w.there n x at) in
@@ -176,16 +176,16 @@ module _ {K A T : Type 0} where
       linked_other i y to far = linked.others y.op (operations_apart start mentions w n i x y at to far)
 
       linked_operands : (i : ℕ) (y : Pending) → (i ≡ n) ⊎ (i < n) → slice_get ps i ≡ Some y
-          → AreMeant s values numbers (operands_of u y.op) y.tokens.items
+          → AreMeant s values numbers (operands_of u y.op) y.tokens
       linked_operands i y (inl e) to =
           let same : x ≡ y = cc (e, at, to) in
-          subst (λ (z : Pending). AreMeant s values numbers (operands_of u z.op) z.tokens.items) same
-          (subst (λ (ws : List Value). AreMeant s values numbers ws x.tokens.items) (sym linked_own) said)
+          subst (λ (z : Pending). AreMeant s values numbers (operands_of u z.op) z.tokens) same
+          (subst (λ (ws : List Value). AreMeant s values numbers ws x.tokens) (sym linked_own) said)
       linked_operands i y (inr lt) to =
           let kept : operands_of t y.op ≡ operands_of u y.op = ap
           (λ (z : Option (SeenOperation K A)). unwrap_or (option_map (λ (v : SeenOperation K A). v.operands) z)
           []) (sym (linked_other i y to (λ e. omega (arith, e, lt)))) in
-          subst (λ (ws : List Value). AreMeant s values numbers ws y.tokens.items) kept (h.operands i y lt to)
+          subst (λ (ws : List Value). AreMeant s values numbers ws y.tokens) kept (h.operands i y lt to)
 
       linked_operation : (p : Ptr Operation) (o : SeenOperation K A) → s.operation p ≡ Some o
           → (ws : List Value) × (u.operation p ≡ Some (record o { operands = o.operands ++ ws }))

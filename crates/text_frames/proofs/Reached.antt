@@ -14,7 +14,7 @@ use Rattle.text_building.specs.Later.{IsLater}
 use Rattle.text_building.specs.Loose.{IsDefined}
 use Rattle.text_building.proofs.Later.{defined_later}
 use Rattle.text_frames.specs.declared.assembly.Assembly.{Assembly}
-use Rattle.text_frames.specs.declared.assembly.Pending.{Pending}
+use Rattle.text_frames.specs.Waiting.{Pending}
 use Rattle.text_frames.specs.Linking.{value_at, meant, AreMeant, CanLink, Links}
 use Rattle.text_frames.specs.Raised.{IsAssembled}
 use Rattle.text_frames.specs.Worlds.{operands_of, End, Means, Reaches}
@@ -143,7 +143,7 @@ module _ {K A T : Type 0} (says : Saying K A T) (values : Values) (text : ℕ �
     pub can_link : ((i k : ℕ) → slice_get (mentioned_from 0 es) i ≡ Some k
         → (j : ℕ) × (slice_get numbers k ≡ Some j) × (j < length (defined_from 0 es)))
         → CanLink s a.values.items numbers a.pending.items
-    can_link mentioned = λ i x at. all_meant s a.values.items numbers x.tokens.items (λ j k here.
+    can_link mentioned = λ i x at. all_meant s a.values.items numbers x.tokens (λ j k here.
         let among = made.operands.among i x at j k here in
         let number = mentioned among.0 k among.1 in
         let value = made.settled number.0 (let lt = number.2 in omega (arith, made.many)) in (
@@ -177,7 +177,7 @@ module _ {K A T : Type 0} (says : Saying K A T) (values : Values) (text : ℕ �
         tokens = defined;
         operands = λ i x h. pairs_weaker (λ v k. (meant a.values.items numbers k ≡ Some v) × IsDefined s v)
             (Means the_end)
-            (λ v k m. meant_value a.values.items numbers all_made v k m.0) (operands_of t x.op) x.tokens.items
+            (λ v k m. meant_value a.values.items numbers all_made v k m.0) (operands_of t x.op) x.tokens
             (links.operands i x h);
       }
 

@@ -1,3 +1,4 @@
+pub mod Waiting
 pub mod Opened
 pub mod Frames
 pub mod Worlds

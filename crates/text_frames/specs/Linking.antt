@@ -8,7 +8,7 @@ use Rattle.ir_program.specs.declared.handles.Value.{Value}
 use Rattle.ir_print.specs.Shown.{Pairs}
 use Rattle.text_dialect.specs.Seen.{SeenOperation, Seen}
 use Rattle.text_building.specs.Loose.{IsDefined}
-use Rattle.text_frames.specs.declared.assembly.Pending.{Pending}
+use Rattle.text_frames.specs.Waiting.{Pending}
 use Rattle.text_frames.specs.Worlds.{operands_of}
 
 -- the value with a number, if it is made
@@ -26,7 +26,7 @@ AreMeant s values numbers vs ks = Pairs (λ v k. (meant values numbers k ≡ Som
 -- each token of an operand means a value
 abbrev pub CanLink : {K A T : Type 0} → Seen K A T → List (Option Value) → List ℕ → List Pending → Type 0
 CanLink s values numbers ps = (i : ℕ) (x : Pending) → slice_get ps i ≡ Some x
-    → (vs : List Value) × AreMeant s values numbers vs x.tokens.items
+    → (vs : List Value) × AreMeant s values numbers vs x.tokens
 
 -- Each of these operations has the operands that its tokens mean, and nothing else changes.
 pub record Links {K A T : Type 0} (s t : Seen K A T) (values : List (Option Value)) (numbers : List ℕ)
@@ -37,4 +37,4 @@ pub record Links {K A T : Type 0} (s t : Seen K A T) (values : List (Option Valu
   pub blocks : (b : Ptr BasicBlock) → t.block b ≡ s.block b
   pub types : t.types ≡ s.types
   pub operands : (i : ℕ) (x : Pending) → slice_get ps i ≡ Some x
-      → AreMeant s values numbers (operands_of t x.op) x.tokens.items
+      → AreMeant s values numbers (operands_of t x.op) x.tokens

@@ -17,7 +17,7 @@ use Rattle.ir_print.specs.declared.format.Part.TheVariants as part
 use Rattle.ir_print.specs.Pieces.{Pieces, Values, ValueTree, Entity, no_entity, an_entity}
 use Rattle.ir_print.specs.Shown.{Saying, Pairs, ShowsType}
 use Rattle.text_frames.specs.declared.assembly.Assembly.{Assembly}
-use Rattle.text_frames.specs.declared.assembly.Pending.{Pending}
+use Rattle.text_frames.specs.Waiting.{Pending}
 use Rattle.ir_grammar.specs.declared.grammar.Action.{Action}
 use Rattle.ir_grammar.specs.declared.grammar.Action.TheVariants as act
 use Rattle.ir_grammar.specs.declared.grammar.Event.{Event}
@@ -204,7 +204,7 @@ pub record AreWaiting {K A T : Type 0} (start s : Seen K A T) (pending : List Pe
   pub there : (i : ℕ) (x : Pending) → slice_get pending i ≡ Some x → IsSome (s.operation x.op)
   pub came : (i : ℕ) (x : Pending) → slice_get pending i ≡ Some x → start.operation x.op ≡ None
   pub empty : (i : ℕ) (x : Pending) → slice_get pending i ≡ Some x → operands_of s x.op ≡ []
-  pub among : (i : ℕ) (x : Pending) → slice_get pending i ≡ Some x → AreAmong x.tokens.items mentions
+  pub among : (i : ℕ) (x : Pending) → slice_get pending i ≡ Some x → AreAmong x.tokens mentions
 
 -- All that has come since the start is inside these things, which are in no list.
 pub record HoldsAllNew {K A T : Type 0} (start s : Seen K A T) (things : List IRNode) : Type 0 where

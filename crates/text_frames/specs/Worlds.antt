@@ -11,7 +11,7 @@ use Rattle.ir_print.specs.Shown.{Saying, Pairs}
 use Rattle.text_dialect.specs.Seen.{SeenOperation, SeenBlock, Seen}
 use Rattle.text_dialect.specs.Standing.{HasDefinition, HasTree, HasBlockTree, HaveTrees, HasOwnLabel}
 use Rattle.text_building.specs.Later.{IsLater}
-use Rattle.text_frames.specs.declared.assembly.Pending.{Pending}
+use Rattle.text_frames.specs.Waiting.{Pending}
 
 -- the lists one after the other
 abbrev pub joined : {X : Type 0} → List (List X) → List X
@@ -76,7 +76,7 @@ pub record Reaches {K A T : Type 0} (w : World K A T) (e : End K A T) : Type 0 w
   pub values : (n : ℕ) (x : Value) → slice_get w.values n ≡ Some (Some x) → slice_get e.values n ≡ Some x
   pub tokens : (n k : ℕ) → slice_get w.tokens n ≡ Some k → e.number k ≡ n
   pub operands : (i : ℕ) (x : Pending) → slice_get w.pending i ≡ Some x
-      → Pairs (Means e) (operands_of e.ctx x.op) x.tokens.items
+      → Pairs (Means e) (operands_of e.ctx x.op) x.tokens
 
 -- however making ends
 abbrev pub Surely : {K A T : Type 0} → World K A T → (End K A T → Type 0) → Type 0

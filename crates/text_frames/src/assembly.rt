@@ -1,12 +1,6 @@
 //! What a text becomes in a context.
+use crate::waiting::WaitingOperands;
 use ir_program::{IRNode, Operation, Ptr, Value};
-
-/// The operands of an operation, by the tokens that name them.
-#[derive(Drop)]
-pub struct Pending {
-    pub op: Ptr<Operation>,
-    pub tokens: Vec<usize>,
-}
 
 /// What a text has become, but for the operands of its operations.
 #[derive(Drop)]
@@ -16,7 +10,7 @@ pub struct Assembly {
     /// The value of each definition, in the order of the text.
     pub values: Vec<Option<Value>>,
     /// The operands of each operation, in the order in which operations end.
-    pub pending: Vec<Pending>,
+    pub pending: WaitingOperands,
     /// What is in no list: the blocks of regions that aren't ended, the outer ones first, or the root.
     pub loose: Vec<IRNode>,
 }

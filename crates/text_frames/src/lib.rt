@@ -7,3 +7,4 @@ pub mod linking;
 pub mod making;
 pub mod opened;
 pub mod source;
+pub mod waiting;

@@ -9,7 +9,7 @@ ghost use Rattle.text_building.specs.Made.{LinksOperands};
 ghost use Rattle.text_frames.specs.Linking.{meant, AreMeant, CanLink, Links};
 ghost use Rattle.text_frames.specs.Raised.{AreWaiting, HoldsAllNew};
 
-use crate::assembly::{Assembly, Pending};
+use crate::assembly::Assembly;
 use ir_context::Context;
 use ir_program::{Operation, Ptr, Value};
 use ir_scopes::scopes::Resolution;
@@ -31,23 +31,24 @@ fn link_one<D: DialectTables>(
     ctx: &mut Context<D>,
     resolution: &Resolution,
     values: &[Option<Value>],
-    pending: &Pending,
+    op: Ptr<Operation>,
+    tokens: &[usize],
 ) -> Result<(), AllocError>
-    requires op { IsSome ((seen ctx.old).operation pending.now.op) }
+    requires op { IsSome ((seen ctx.old).operation op) }
     requires meant { (vs : List Value)
-        × AreMeant (seen ctx.old) values.now resolution.now.definitions.items vs pending.now.tokens.items }
+        × AreMeant (seen ctx.old) values.now resolution.now.definitions.items vs tokens.now }
     ensures linked { (vs : List Value)
-        → AreMeant (seen ctx.old) values.now resolution.now.definitions.items vs pending.now.tokens.items
-        → OnOk result (LinksOperands (seen ctx.old) (seen ctx.new) pending.now.op vs) }
+        → AreMeant (seen ctx.old) values.now resolution.now.definitions.items vs tokens.now
+        → OnOk result (LinksOperands (seen ctx.old) (seen ctx.new) op vs) }
     // The loose things stay what they are, whatever the start was before which the operation wasn't there.
     ensures held { (start : Seen D.OpKind D.Attr D.TypeKey) (xs : List IRNode) → HoldsAllNew start (seen ctx.old) xs
-        → start.operation pending.now.op ≡ None → HoldsAllNew start (seen ctx.new) xs }
+        → start.operation op ≡ None → HoldsAllNew start (seen ctx.new) xs }
     ensures numbers { GivesNumbers ctx.old.program ctx.new.program 0 }
     ensures types { ctx.new.types ≡ ctx.old.types }
 {
-    for token in &pending.tokens {
+    for token in tokens {
         if let Some(value) = value_of(values, resolution, *token) {
-            link_operands(alloc, ctx, pending.op, &[value])?;
+            link_operands(alloc, ctx, op, &[value])?;
         }
     }
     Ok(())
@@ -76,8 +77,17 @@ pub fn link<D: DialectTables>(
     ensures numbers { GivesNumbers ctx.old.program ctx.new.program 0 }
     ensures types { ctx.new.types ≡ ctx.old.types }
 {
-    for pending in &assembly.pending {
-        link_one(alloc, ctx, resolution, &assembly.values, pending)?;
+    let pending = &assembly.pending;
+    for index in 0..pending.len() {
+        let tokens = pending.tokens(index);
+        link_one(
+            alloc,
+            ctx,
+            resolution,
+            &assembly.values,
+            pending.op(index),
+            tokens,
+        )?;
     }
     Ok(())
 }

@@ -4,5 +4,5 @@ use Rattle.text_assembling.proofs.assembling.Assembler.begin_operation.Goals as 
 
 pub returns-clause-begun : goal.returns-clause-begun
 returns-clause-begun g c = on_ok_weaker c.begin.result
-    (λ h. (record { kind = c.args.kind; operands = c.new.result; regions = c.new-2.result }, h, refl, c.new.ensures.items, c.new-2.ensures.items))
+    (λ h. (record { kind = c.args.kind; operands = c.clear.new.self; regions = c.new-2.result }, h, refl, c.clear.ensures.items, c.new-2.ensures.items))
     c.begin.ensures.begun

@@ -1,4 +1,4 @@
-use Rattle.std.proofs.Common.{rules, ◌≡◌, ◌∙◌, ◌++◌, ◌∷◌, [], List, length, ap, sym, Err, refl}
+use Rattle.std.proofs.Common.{rules, ◌≡◌, ◌∙◌, ◌++◌, ◌∷◌, [], ℕ, List, length, ap, sym, Err, refl, arith}
 use Rattle.std.proofs.lemmas.List.{with_items_is, places}
 use Rattle.std.proofs.lemmas.Result.{err_from_is_err_and}
 use Rattle.std.specs.Global.{Global}
@@ -14,7 +14,7 @@ use Rattle.text_building.specs.Made.{lists_of}
 use Rattle.text_dialect.specs.Seen.{seen}
 use Rattle.text_frames.specs.Raised.{block_nodes}
 use Rattle.text_frames.specs.Worlds.{joined}
-use Rattle.text_frames.specs.declared.assembly.Pending.{Pending}
+use Rattle.text_frames.specs.Waiting.{Pending}
 use Rattle.text_assembling.specs.Steps.{new_root}
 use Rattle.text_assembling.proofs.Gathering.{errors_same}
 use Rattle.text_frames.proofs.Defining.{results_made, values_made}
@@ -81,6 +81,14 @@ returns-in_err-op-clause-undone g c = on_err_any _ (undone_so _ _ _ _ (same_both
 pub returns-in_err-op-clause-types : goal.returns-in_err-op-clause-types
 returns-in_err-op-clause-types g c = rw c.make_operation.ensures.types c.draft_of.ensures.types
 
+pub push_reserved-requires : goal.push_reserved-requires
+push_reserved-requires g c =
+    let room = c.in_ok-reserve.ensures.room in
+    let wanted = room.1 in
+    let same = ap length c.deref-6.ensures.value in
+    let many : c.len-2.result ≡ length c.args.ended.operands.items = search rules in
+    (room.0, omega (arith, wanted, same, many))
+
 pub attach-requires-clause-block : goal.attach-requires-clause-block
 attach-requires-clause-block g c =
     let can = can_still _ _ (interned_same c.args.ctx.now c.draft_of.new.ctx c.draft_of.ensures.program c.draft_of.ensures.types) _ _ c.requires.can in
@@ -122,7 +130,8 @@ returns-clause-ends g c ps shown =
           (makes_so _ _ _ _ _ _ _ _ _ _ _ refl count refl c.in_ok-op.ensures.made))
           c.deref-2.ensures.value c.deref-4.ensures.value c.deref_mut.ensures.value c.define_results.ensures many);
       numbers = c.attach.ensures.numbers;
-      pending = ap (λ v. v.items) c.attach.ensures.pending ∙ (c.push_reserved.ensures.items ∙ ap (λ (xs : List Pending). xs ++ record { op = op; tokens = c.args.ended.operands } ∷ []) c.reserve.ensures.items);
+      pending = ap (λ v. v.items) c.attach.ensures.pending ∙ (c.push_reserved.ensures ∙ (ap (λ (xs : List Pending). xs ++ record { op = op; tokens = c.deref-6.result.now } ∷ []) c.reserve.ensures.items
+          ∙ ap (λ (ks : List ℕ). c.args.self.now.made.pending.items ++ record { op = op; tokens = ks } ∷ []) c.deref-6.ensures.value));
       root = c.attach.ensures.root;
       root_stays = c.attach.ensures.root_stays;
       loose = λ xs e. c.attach.ensures.loose ∙ ap (λ (ys : List IRNode). ys ++ new_root c.args.self.now.here.body op)
