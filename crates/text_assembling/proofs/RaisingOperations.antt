@@ -337,7 +337,7 @@ module _ {D K A T : Type 0} (says : Saying K A T) (values : Values) (text : ℕ 
         (omega arith) i n d.value at_n (get_image (λ (x : TypedValue). x.value) results i d at_d))
 
     made : IsMade says v op tree
-    made = operation_made says values text w v to_new new.typed new.with_it op ended.kind new.kind new.attributes new.result_types s.counter ended.regions.items ended.operands
+    made = operation_made says values text w v to_new new.typed new.with_it op ended.kind new.kind new.attributes new.result_types s.counter ended.regions.items ended.operands.items
         (length a.made.pending.items) (names_behind [] o.before) ts new.makes later_put (λ b x e. typed_keeps.blocks b x e)
         (subst (λ (keys : List T). Drafts says keys values new.kind ended.kind (pieces_in values text ts) new.attributes new.result_types) (sym types_stay) new.drafts)
         results_named

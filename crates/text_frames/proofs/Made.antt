@@ -152,14 +152,14 @@ module _ {K A T : Type 0} (says : Saying K A T) (values : Values) (text : ℕ �
   -- An operation has its tree in the end that is made of the pieces of the tree, with results that are named so, takes
   -- in ready blocks, and waits for its operands. What is whole when it is made is so in the later world.
   pub operation_made : (number : ℕ) (kind : K) (attributes : List (List ℕ × A)) (tys : List TypeHandle) (n : ℕ)
-      (rs : List (Vec (Ptr BasicBlock) Global)) (used : Vec ℕ Global)
+      (rs : List (Vec (Ptr BasicBlock) Global)) (used : List ℕ)
       (place : ℕ) (names : List ℕ) (ts : Trees Step)
       → MakesOperation s t p kind attributes tys n (lists_of rs) → IsLater t v.ctx
       → ((b : Ptr BasicBlock) (x : SeenBlock) → w.ctx.block b ≡ Some x → s.block b ≡ Some x)
       → Drafts says v.ctx.types values kind number (pieces_in values text ts) attributes tys
       → Pairs (λ d k. IsNamed v d.value k) (numbered_values (ByOp p) n tys) names
       → slice_get v.pending place ≡ Some (record { op = p; tokens = used })
-      → used.items ≡ operands_in ts
+      → used ≡ operands_in ts
       → AreReadyRegions says w rs (regions_in values text ts)
       → IsMade says v p (entity (head_of values text names ts number) (regions_in values text ts))
   operation_made number kind attributes tys n rs used place names ts made later before drafts named waits uses ready =
@@ -171,7 +171,7 @@ module _ {K A T : Type 0} (says : Saying K A T) (values : Values) (text : ℕ �
       q.1 in
       let mentions : Pairs (Means e) q.0 (operands_in ts) =
       subst (λ (ks : List ℕ). Pairs (Means e) q.0 ks) uses
-      (subst (λ (vs : List Value). Pairs (Means e) vs used.items) given (r.operands place _ waits)) in
+      (subst (λ (vs : List Value). Pairs (Means e) vs used) given (r.operands place _ waits)) in
       let many : length q.0 ≡ operands_said (pieces_in values text ts) = as_many (Means e) q.0 (operands_in ts)
       mentions ∙ sym (operands_are_said values text ts) in
       made_tree says (Means e) HasOwnLabel s t e.ctx p kind attributes tys n (lists_of rs) made all _ number
