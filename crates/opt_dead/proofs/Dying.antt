@@ -13,7 +13,7 @@ use Rattle.opt_trees.specs.Dialect.{Dialect}
 use Rattle.opt_trees.specs.Occurrences.{Has, occurrences_of}
 use Rattle.opt_trees.specs.Dce.{Around, Item, Whole, Slot, IsDead, dies, IsExcused, by_operation, by_argument}
 use Rattle.opt_solvers.specs.declared.dead_problem.Operand.{Operand}
-use Rattle.opt_solvers.specs.declared.dead_problem.Candidate.{Candidate}
+use Rattle.opt_solvers.specs.DeadCandidates.{Candidate}
 use Rattle.opt_solvers.specs.declared.dead_problem.DeadProblem.{DeadProblem}
 use Rattle.opt_solvers.specs.Dead.{Item as Number, Whole as WholeAt, Slot as SlotAt, IsIn, itself as alone, further, IsDead as IsDeadAt, dies as dies_at, IsExcused as IsExcusedAt, by_operation as by_operation_at, by_argument as by_argument_at}
 use Rattle.opt_inside.specs.Numbered.{Numbers}
@@ -70,13 +70,13 @@ module _ {O B A : Type 0} {d : Dialect (in_program O B) A} {c : Program O B} {op
             let j = number_of g o.head.name (f.sound o u.stands).below in
             let r = row_of g j.0 o.head.name j.1 in
             let here = operand_at o u.stands i v u.operand in
-            let p = at_index (operands_at c o.head.name) r.0.operands.items i v here r.2.count in
+            let p = at_index (operands_at c o.head.name) r.0.operands i v here r.2.count in
             let spec = r.2.operands i p.0 p.1 in
             let same : spec.value ≡ v = same_Some spec.value v (sym spec.there ∙ here) in
-            tree_excused j.0 p.0 (uses j.0 p.0 (record { candidate = r.0; there = r.1; operand = contains_at r.0.operands.items i p.0 p.1 })
+            tree_excused j.0 p.0 (uses j.0 p.0 (record { candidate = r.0; there = r.1; operand = contains_at r.0.operands i p.0 p.1 })
             (use_to g t f j.0 o u.stands j.1 x y s v p.0.definer (subst (λ z. IsDefiner n z p.0.definer) same spec.definer) is)) o u.stands j.1 i r.0 r.1 p.1)
 
-        tree_excused : (j : ℕ) (x : Operand) → IsExcusedAt problem j x → (o : Found O B) → Has o (occurrences_of t) → slice_get n.operations j ≡ Some o.head.name → (i : ℕ) (row : Candidate) → slice_get problem.operations.items j ≡ Some row → slice_get row.operands.items i ≡ Some x → IsExcused d w t o i
+        tree_excused : (j : ℕ) (x : Operand) → IsExcusedAt problem j x → (o : Found O B) → Has o (occurrences_of t) → slice_get n.operations j ≡ Some o.head.name → (i : ℕ) (row : Candidate) → slice_get problem.operations j ≡ Some row → slice_get row.operands i ≡ Some x → IsExcused d w t o i
         tree_excused _ _ (by_operation_at j x a inside dead) o has k i row rt xt =
             let p = start_of a j inside o.head.name k in
             by_operation o i p.0 (around_in a j p.0 p.1 o has k inside) (tree_dead (WholeAt a) dead (Whole p.0) p.1)
@@ -90,14 +90,14 @@ module _ {O B A : Type 0} {d : Dialect (in_program O B) A} {c : Program O B} {op
         number_dead _ (dies y may kept uses) x s = dies_at x (may_to g t f x y s may) (λ k. kept (kept_from g t f w pins x y s k)) (λ j z has counts.
             let p = op_of g j has.candidate has.there in
             let o = occurrence_of g t f j p.0 p.1 in
-            let i = at_contains has.candidate.operands.items z has.operand in
+            let i = at_contains has.candidate.operands z has.operand in
             let spec = p.2.operands i.0 z i.1 in
             let here : slice_get (operands_at c o.0.head.name) i.0 ≡ Some spec.value = ap (λ q. slice_get (operands_at c q) i.0) o.2 ∙ spec.there in
             number_excused o.0 i.0 (uses spec.value o.0 i.0
             (use_from g t f j o.0 o.1 o.3 x y s spec.value z.definer (g.live p.0 i.0 spec.value spec.there) spec.definer counts)
             (record { stands = o.1; operand = at_operand o.0 o.1 i.0 spec.value here })) j z o.1 o.3 has.candidate has.there i.1)
 
-        number_excused : (o : Found O B) (i : ℕ) → IsExcused d w t o i → (j : ℕ) (x : Operand) → Has o (occurrences_of t) → slice_get n.operations j ≡ Some o.head.name → (row : Candidate) → slice_get problem.operations.items j ≡ Some row → slice_get row.operands.items i ≡ Some x → IsExcusedAt problem j x
+        number_excused : (o : Found O B) (i : ℕ) → IsExcused d w t o i → (j : ℕ) (x : Operand) → Has o (occurrences_of t) → slice_get n.operations j ≡ Some o.head.name → (row : Candidate) → slice_get problem.operations j ≡ Some row → slice_get row.operands i ≡ Some x → IsExcusedAt problem j x
         number_excused _ _ (by_operation o i p h dead) j x has k row rt xt =
             let a = in_around j p o has k h in
             by_operation_at j x a.0 a.2 (number_dead (Whole p) dead (WholeAt a.0) a.1)

@@ -18,7 +18,7 @@ use Rattle.opt_trees.specs.Occurrences.{Has}
 use Rattle.opt_trees.specs.Dce.{Around, Gone, Item, Whole, Slot, May, IsDead, dies, IsLost, IsGone}
 use Rattle.opt_solvers.specs.declared.dead_problem.Argument.{Argument}
 use Rattle.opt_solvers.specs.declared.dead_problem.Operand.{Operand}
-use Rattle.opt_solvers.specs.declared.dead_problem.Candidate.{Candidate}
+use Rattle.opt_solvers.specs.DeadCandidates.{Candidate}
 use Rattle.opt_solvers.specs.declared.dead_problem.DeadProblem.{DeadProblem}
 use Rattle.opt_solvers.specs.declared.dead_problem.DeadItems.{DeadItems}
 use Rattle.opt_solvers.specs.Dead.{Item as Number, Whole as WholeAt, Slot as SlotAt, May as MayAt, IsDead as IsDeadAt, dies as dies_at}
@@ -48,7 +48,7 @@ told_at same keys once marks x = ⊎_elim
     (λ n. inr (λ w. n (w.0, w.1)))
     (look same keys x)
 
-told_goes : (row : Candidate) (arguments : List Bool) (i : ℕ) → Told (OperandGoes row arguments i)
+told_goes : (row : Candidate) (arguments : List Bool) (i : ℕ) → Told (OperandGoes row.operands arguments i)
 told_goes row arguments i = ⊎_elim
     (λ e. inr (λ w. cc (e, w.2)))
     (λ o. ⊎_elim
@@ -61,14 +61,14 @@ told_goes row arguments i = ⊎_elim
     n (subst (IsMarked arguments) r w.4)))
     (told_marked arguments x.0))
     (none_or o.0.argument))
-    (none_or (slice_get row.operands.items i))
+    (none_or (slice_get row.operands i))
 
 beyond : {X : Type 0} (xs : List X) (i m : ℕ) → i < m → length xs ≡ m → slice_get xs i ≡ None → ⊥
 beyond xs i m lt len e = ⊎_elim (λ w. absurd (cc (e, w.2))) (λ w. let past = w.0 in absurd (omega arith)) (slice_get_cases xs i).1
 
 -- an operand of the operation goes
 abbrev pub Loses : Numbers → List Candidate → List Bool → Ptr Operation → ℕ → Type 0
-Loses n rows arguments p i = (row : Candidate) × ArePaired n.operations rows p row × OperandGoes row arguments i
+Loses n rows arguments p i = (row : Candidate) × ArePaired n.operations rows p row × OperandGoes row.operands arguments i
 
 told_loses : (n : Numbers) → AreDistinct n.operations → (rows : List Candidate) (arguments : List Bool) (p : Ptr Operation) (i : ℕ) → Told (Loses n rows arguments p i)
 told_loses n once rows arguments p i = ⊎_elim
@@ -79,7 +79,7 @@ told_loses n once rows arguments p i = ⊎_elim
     (λ n2. inr (λ w.
     let k : w.1.0 ≡ l.0 = once w.1.0 l.0 p w.1.1 l.1 in
     let q : w.0 ≡ r.0 = same_Some w.0 r.0 (sym w.1.2 ∙ (ap (slice_get rows) k ∙ r.1)) in
-    n2 (subst (λ z. OperandGoes z arguments i) q w.2)))
+    n2 (subst (λ (z : Candidate). OperandGoes z.operands arguments i) q w.2)))
     (told_goes r.0 arguments i))
     (none_or (slice_get rows l.0)))
     (λ n2. inr (λ w. n2 (w.1.0, w.1.1)))
@@ -95,8 +95,8 @@ module _ {O B A : Type 0} {d : Dialect (in_program O B) A} {c : Program O B} {op
   told_item (Whole p) = told_at same_handle n.operations g.numbers.operations_once items.operations.items p
   told_item (Slot v) = told_at same_value n.values g.numbers.values_once items.arguments.items v
 
-  pub told_operand : (p : Ptr Operation) (i : ℕ) → Told (Loses n problem.operations.items items.arguments.items p i)
-  told_operand p i = told_loses n g.numbers.operations_once problem.operations.items items.arguments.items p i
+  pub told_operand : (p : Ptr Operation) (i : ℕ) → Told (Loses n problem.operations items.arguments.items p i)
+  told_operand p i = told_loses n g.numbers.operations_once problem.operations items.arguments.items p i
 
   abbrev pub gone : Gone by_handle
   gone = record { item = λ x. truth (told_item x); operand = λ p i. truth (told_operand p i) }
@@ -144,7 +144,7 @@ module _ {O B A : Type 0} {d : Dialect (in_program O B) A} {c : Program O B} {op
     item_dead : (y : Item by_handle) → IsDead d w t y → Goes y
     item_dead y dead = let x = item_of y (may_of y dead) in marked_item y x.0 x.1 (number_dead g t f w pins y dead x.0 x.1)
 
-    lost_of : (a : Ptr Operation) (i : ℕ) → Loses n problem.operations.items items.arguments.items a i → IsLost d w t a i
+    lost_of : (a : Ptr Operation) (i : ℕ) → Loses n problem.operations items.arguments.items a i → IsLost d w t a i
     lost_of a i l =
         let row = g.rows.operations l.1.0 a l.0 l.1.1 l.1.2 in
         let spec = row.operands i l.2.0 l.2.2 in
@@ -153,22 +153,22 @@ module _ {O B A : Type 0} {d : Dialect (in_program O B) A} {c : Program O B} {op
         let v = forwards_from g t f o.0 o.1 i l.2.1 forwards in
         record { user = o.0; stands = o.1; name = o.2; argument = v.0; forwards = v.3; dead = tree_dead g t f w pins (SlotAt l.2.1) ((solved.arguments l.2.1).0 l.2.4) (Slot v.0) (v.1, v.2) }
 
-    of_lost : (a : Ptr Operation) (i : ℕ) → IsLost d w t a i → Loses n problem.operations.items items.arguments.items a i
+    of_lost : (a : Ptr Operation) (i : ℕ) → IsLost d w t a i → Loses n problem.operations items.arguments.items a i
     of_lost a i l =
         let q = forwards_to g t f l.user l.stands i l.argument l.forwards in
         let k = number_of g l.user.head.name (f.sound l.user l.stands).below in
         let r = row_of g k.0 l.user.head.name k.1 in
         let within : i < length q.3.view.operands = g.lawful.forwards_within q.3.view.payload (length q.3.view.operands) q.3.edge q.3.place i q.3.gives in
-        let count : length r.0.operands.items ≡ length q.3.view.operands = r.2.count ∙ ap length (operands_here c l.user.head.name q.3.view q.3.there) in
+        let count : length r.0.operands ≡ length q.3.view.operands = r.2.count ∙ ap length (operands_here c l.user.head.name q.3.view q.3.there) in
         let dead = (solved.arguments q.0).1 (number_dead g t f w pins (Slot l.argument) l.dead (SlotAt q.0) (q.1, q.2)) in
         ⊎_elim
-        (λ e. absurd (beyond r.0.operands.items i (length q.3.view.operands) within count e))
+        (λ e. absurd (beyond r.0.operands i (length q.3.view.operands) within count e))
         (λ o. let spec = r.2.operands i o.0 o.1 in
         ⊎_elim
         (λ e. absurd (spec.no_argument e q.0 q.3))
         (λ x. (r.0, (k.0, k.1 ∙ ap Some l.name, r.1), (o.0, q.0, o.1, x.1 ∙ ap Some (forwards_one g t f l.user.head.name i x.0 q.0 (spec.argument x.0 x.1) q.3), dead)))
         (none_or o.0.argument))
-        (none_or (slice_get r.0.operands.items i))
+        (none_or (slice_get r.0.operands i))
 
     pub is_gone : IsGone d w t gone
     is_gone = record {

@@ -21,7 +21,7 @@ use Rattle.opt_dead.proofs.Within.{op_of, value_of, its_block}
 use Rattle.opt_dead.proofs.Dying.{at_contains}
 
 module _ {O B A : Type 0} {d : Dialect (in_program O B) A} {c : Program O B} {op : Ptr Operation} {n : Numbers} {problem : DeadProblem} (g : Ground d c op n problem) where
-  operation_in : (a : ℕ) (p : Ptr Operation) → slice_get n.operations a ≡ Some p → a < length problem.operations.items
+  operation_in : (a : ℕ) (p : Ptr Operation) → slice_get n.operations a ≡ Some p → a < length problem.operations
   operation_in a p h = let lt = slice_get_within n.operations a p h in let len = g.rows.operations_len in omega arith
 
   value_in_range : (k : ℕ) (v : Value) → slice_get n.values k ≡ Some v → k < length problem.arguments.items
@@ -30,10 +30,10 @@ module _ {O B A : Type 0} {d : Dialect (in_program O B) A} {c : Program O B} {op
   operand_of : (i : ℕ) (o : Operand) → HasOperand problem i o → (p : Ptr Operation) × ((k : ℕ) × IsOperandOf d c n p k o)
   operand_of i o h =
       let p = op_of g i h.candidate h.there in
-      let k = at_contains h.candidate.operands.items o h.operand in
+      let k = at_contains h.candidate.operands o h.operand in
       (p.0, (k.0, p.2.operands k.0 o k.1))
 
-  argument_in : (k j : ℕ) (row : Argument) (v : Value) → slice_get n.values k ≡ Some v → slice_get problem.arguments.items k ≡ Some row → row.around ≡ Some j → (e : DefiningEntity) → v.definer ≡ e → j < length problem.operations.items
+  argument_in : (k j : ℕ) (row : Argument) (v : Value) → slice_get n.values k ≡ Some v → slice_get problem.arguments.items k ≡ Some row → row.around ≡ Some j → (e : DefiningEntity) → v.definer ≡ e → j < length problem.operations
   argument_in k j row v h there around (ByOp p) by = absurd (cc ((((g.rows.arguments k v row h there).result p by).1), around))
   argument_in k j row v h there around (ByBlock b) by =
       let f = (((g.rows.arguments k v row h there).argument b by).around).found j around in

@@ -19,7 +19,7 @@ use Rattle.ir_trees.proofs.Members.{at_has, has_at}
 use Rattle.opt_trees.specs.Dialect.{Dialect}
 use Rattle.opt_trees.specs.Occurrences.{Has, Spot, occurrences_of}
 use Rattle.opt_trees.specs.Dce.{Around, Item, Whole, Slot, Touches, May, IsKept, ForwardsTo}
-use Rattle.opt_solvers.specs.declared.dead_problem.Candidate.{Candidate}
+use Rattle.opt_solvers.specs.DeadCandidates.{Candidate}
 use Rattle.opt_solvers.specs.declared.dead_problem.Argument.{Argument}
 use Rattle.opt_solvers.specs.declared.dead_problem.DeadProblem.{DeadProblem}
 use Rattle.opt_solvers.specs.Dead.{Item as Number, Whole as WholeAt, Slot as SlotAt, May as MayAt, IsKept as IsKeptAt}

@@ -11,7 +11,7 @@ use Rattle.ir_trees.specs.Searched.{Lists}
 use Rattle.ir_trees.specs.Stands.{in_program}
 use Rattle.opt_trees.specs.Dialect.{Dialect}
 use Rattle.opt_trees.specs.Dce.{Whole, Slot}
-use Rattle.opt_solvers.specs.declared.dead_problem.Candidate.{Candidate}
+use Rattle.opt_solvers.specs.DeadCandidates.{Candidate}
 use Rattle.opt_solvers.specs.declared.dead_problem.DeadProblem.{DeadProblem}
 use Rattle.opt_solvers.specs.declared.dead_problem.DeadItems.{DeadItems}
 use Rattle.opt_solvers.specs.Dead.{Slot as SlotAt}
@@ -27,8 +27,8 @@ use Rattle.opt_dead.proofs.Decide.{truth_yes, truth_of}
 use Rattle.opt_dead.proofs.Going.{Solved, gone, told_item, told_operand, slot_by, may_at}
 
 module _ {O B A : Type 0} {d : Dialect (in_program O B) A} {c : Program O B} {op : Ptr Operation} {n : Numbers} {problem : DeadProblem} (g : Ground d c op n problem) (items : DeadItems) (solved : Solved problem items) (plan : DeadPlan) (takes : TakesMarked c n problem items plan) where
-  one_row : (p : Ptr Operation) (i j : ℕ) (x y : Candidate) → slice_get n.operations i ≡ Some p → slice_get n.operations j ≡ Some p → slice_get problem.operations.items i ≡ Some x → slice_get problem.operations.items j ≡ Some y → x ≡ y
-  one_row p i j x y a b h k = same_Some x y (sym h ∙ (ap (slice_get problem.operations.items) (g.numbers.operations_once i j p a b) ∙ k))
+  one_row : (p : Ptr Operation) (i j : ℕ) (x y : Candidate) → slice_get n.operations i ≡ Some p → slice_get n.operations j ≡ Some p → slice_get problem.operations i ≡ Some x → slice_get problem.operations j ≡ Some y → x ≡ y
+  one_row p i j x y a b h k = same_Some x y (sym h ∙ (ap (slice_get problem.operations) (g.numbers.operations_once i j p a b) ∙ k))
 
   operand_marks : (l : LostOperands) → Lists plan.operands.items l → (i : ℕ) → (slice_get l.marks.items i ≡ Some true) ↔ ((gone g items).operand l.op i ≡ true)
   operand_marks l h i =
@@ -36,7 +36,7 @@ module _ {O B A : Type 0} {d : Dialect (in_program O B) A} {c : Program O B} {op
       let lost = s.1 s.2.0 s.2.1 in (
         λ m. truth_of (told_operand g items l.op i) (s.2.0, s.2.1, (lost.marks i).0 m),
         λ e. let w = truth_yes (told_operand g items l.op i) e in
-            (lost.marks i).1 (subst (λ z. OperandGoes z items.arguments.items i) (one_row l.op w.1.0 s.2.1.0 w.0 s.2.0 w.1.1 s.2.1.1 w.1.2 s.2.1.2) w.2),
+            (lost.marks i).1 (subst (λ (z : Candidate). OperandGoes z.operands items.arguments.items i) (one_row l.op w.1.0 s.2.1.0 w.0 s.2.0 w.1.1 s.2.1.1 w.1.2 s.2.1.2) w.2),
       )
 
   operand_count : (l : LostOperands) (v : OperationView O) → Lists plan.operands.items l → operation_at c l.op ≡ Some v → length l.marks.items ≡ length v.operands

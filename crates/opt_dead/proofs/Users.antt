@@ -21,7 +21,7 @@ use Rattle.opt_trees.specs.Dce.{Whole, Slot}
 use Rattle.opt_solvers.specs.declared.dead_problem.Definer.{Definer}
 use Rattle.opt_solvers.specs.declared.dead_problem.Definer.TheVariants.{Result, Argument as ByArgument, Outside}
 use Rattle.opt_solvers.specs.declared.dead_problem.Operand.{Operand}
-use Rattle.opt_solvers.specs.declared.dead_problem.Candidate.{Candidate}
+use Rattle.opt_solvers.specs.DeadCandidates.{Candidate}
 use Rattle.opt_solvers.specs.declared.dead_problem.DeadProblem.{DeadProblem}
 use Rattle.opt_solvers.specs.declared.dead_problem.DeadItems.{DeadItems}
 use Rattle.opt_solvers.specs.Dead.{Item as Number, Whole as WholeAt, Slot as SlotAt, IsIn, further, IsInner, Makes, IsKept as IsKeptAt, IsDead as IsDeadAt, dies as dies_at, IsExcused as IsExcusedAt, by_operation as by_operation_at, by_argument as by_argument_at, Counts, HasOperand, IsDeadProblem}
@@ -102,7 +102,7 @@ module _ {O B A : Type 0} {d : Dialect (in_program O B) A} {c : Program O B} {op
       let q = start_of g a j i p h in
       (q.0, truth_of (told_item g items (Whole q.0)) (a, q.1, (solved.operations a).1 dead), inside_of g a j i q.0 p q.1 h)
 
-  excused_goes : (j : ℕ) (o : Operand) → IsExcusedAt problem j o → (p : Ptr Operation) → slice_get n.operations j ≡ Some p → (k : ℕ) (row : Candidate) → slice_get problem.operations.items j ≡ Some row → slice_get row.operands.items k ≡ Some o → GoesWith c (gone g items) (OperationNode p) ⊎ ((gone g items).operand p k ≡ true)
+  excused_goes : (j : ℕ) (o : Operand) → IsExcusedAt problem j o → (p : Ptr Operation) → slice_get n.operations j ≡ Some p → (k : ℕ) (row : Candidate) → slice_get problem.operations j ≡ Some row → slice_get row.operands k ≡ Some o → GoesWith c (gone g items) (OperationNode p) ⊎ ((gone g items).operand p k ≡ true)
   excused_goes _ _ (by_operation_at j o a i dead) p h k row rt ot = inl (goes_with a j p h i dead)
   excused_goes _ _ (by_argument_at j o x e dead) p h k row rt ot = inr (truth_of (told_operand g items p k) (row, (j, h, rt), (o, x, ot, e, (solved.arguments x).1 dead)))
 
@@ -127,13 +127,13 @@ module _ {O B A : Type 0} {d : Dialect (in_program O B) A} {c : Program O B} {op
   value_goes p k v h w = ⊎_elim
       (λ l.
       let r = row_of g l.0 p l.1 in
-      let o = at_index (operands_at c p) r.0.operands.items k v h r.2.count in
+      let o = at_index (operands_at c p) r.0.operands k v h r.2.count in
       let spec = r.2.operands k o.0 o.1 in
       let value : spec.value ≡ v = same_Some spec.value v (sym spec.there ∙ h) in
       let definer : o.0.definer ≡ w.definer = one_definer v w.definer o.0.definer w.is (not_outside w.item w.definer w.makes) (subst (λ z. IsDefiner n z o.0.definer) value spec.definer) in
       ⊎_elim
       (λ goes. inl goes)
-      (λ counts. excused_goes l.0 o.0 (excuse w.item w.dead l.0 o.0 (record { candidate = r.0; there = r.1; operand = contains_at r.0.operands.items k o.0 o.1 }) (subst (λ z. Counts problem w.item z l.0) (sym definer) counts)) p l.1 k r.0 r.1 o.1)
+      (λ counts. excused_goes l.0 o.0 (excuse w.item w.dead l.0 o.0 (record { candidate = r.0; there = r.1; operand = contains_at r.0.operands k o.0 o.1 }) (subst (λ z. Counts problem w.item z l.0) (sym definer) counts)) p l.1 k r.0 r.1 o.1)
       (counts_or w.item w.dead w.definer w.makes l.0 p l.1))
       (λ out.
       let kept : IsKeptValue c n op v = ⊎_elim

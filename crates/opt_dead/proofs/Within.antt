@@ -12,7 +12,7 @@ use Rattle.ir_program.specs.declared.handles.BasicBlock.{BasicBlock}
 use Rattle.ir_program.specs.declared.handles.Value.{Value}
 use Rattle.ir_trees.specs.Stands.{in_program}
 use Rattle.opt_trees.specs.Dialect.{Dialect}
-use Rattle.opt_solvers.specs.declared.dead_problem.Candidate.{Candidate}
+use Rattle.opt_solvers.specs.DeadCandidates.{Candidate}
 use Rattle.opt_solvers.specs.declared.dead_problem.Argument.{Argument}
 use Rattle.opt_solvers.specs.declared.dead_problem.DeadProblem.{DeadProblem}
 use Rattle.opt_solvers.specs.Dead.{IsIn, itself as alone, further, IsBelow, IsArgumentIn}
@@ -30,16 +30,16 @@ block_around c x _ p (in_region b r s i) same other = cc
 block_around c x _ p (in_operation r q s i) same other = cc
 
 -- an operation is inside a by number, or is a
-pub into : (problem : DeadProblem) (a i : ℕ) → IsIn problem a i → (i ≡ a) ⊎ ((j : ℕ) × (row : Candidate) × (slice_get problem.operations.items i ≡ Some row) × (row.around ≡ Some j) × IsIn problem a j)
+pub into : (problem : DeadProblem) (a i : ℕ) → IsIn problem a i → (i ≡ a) ⊎ ((j : ℕ) × (row : Candidate) × (slice_get problem.operations i ≡ Some row) × (row.around ≡ Some j) × IsIn problem a j)
 into problem a _ alone = inl refl
 into problem a _ (further i j row h e w) = inr (j, row, h, e, w)
 
 module _ {O B A : Type 0} {d : Dialect (in_program O B) A} {c : Program O B} {op : Ptr Operation} {n : Numbers} {problem : DeadProblem} (g : Ground d c op n problem) where
-  pub row_of : (i : ℕ) (p : Ptr Operation) → slice_get n.operations i ≡ Some p → (row : Candidate) × (slice_get problem.operations.items i ≡ Some row) × IsCandidate d c n p row
-  row_of i p h = let r = at_index n.operations problem.operations.items i p h g.rows.operations_len in (r.0, r.1, g.rows.operations i p r.0 h r.1)
+  pub row_of : (i : ℕ) (p : Ptr Operation) → slice_get n.operations i ≡ Some p → (row : Candidate) × (slice_get problem.operations i ≡ Some row) × IsCandidate d c n p row
+  row_of i p h = let r = at_index n.operations problem.operations i p h g.rows.operations_len in (r.0, r.1, g.rows.operations i p r.0 h r.1)
 
-  pub op_of : (i : ℕ) (row : Candidate) → slice_get problem.operations.items i ≡ Some row → (p : Ptr Operation) × (slice_get n.operations i ≡ Some p) × IsCandidate d c n p row
-  op_of i row h = let p = at_index problem.operations.items n.operations i row h (sym g.rows.operations_len) in (p.0, p.1, g.rows.operations i p.0 row p.1 h)
+  pub op_of : (i : ℕ) (row : Candidate) → slice_get problem.operations i ≡ Some row → (p : Ptr Operation) × (slice_get n.operations i ≡ Some p) × IsCandidate d c n p row
+  op_of i row h = let p = at_index problem.operations n.operations i row h (sym g.rows.operations_len) in (p.0, p.1, g.rows.operations i p.0 row p.1 h)
 
   pub value_row_of : (k : ℕ) (v : Value) → slice_get n.values k ≡ Some v → (row : Argument) × (slice_get problem.arguments.items k ≡ Some row) × IsValueRow d c n v row
   value_row_of k v h = let r = at_index n.values problem.arguments.items k v h g.rows.arguments_len in (r.0, r.1, g.rows.arguments k v r.0 h r.1)
@@ -131,7 +131,7 @@ module _ {O B A : Type 0} {d : Dialect (in_program O B) A} {c : Program O B} {op
       down (OperationNode p) f.0 b f.1 (inside_of a w.parent w.inside p f.0 h f.2)
 
   -- whether an operation is in another can be told
-  pub decide_in : ((i j : ℕ) (row : Candidate) → slice_get problem.operations.items i ≡ Some row → row.around ≡ Some j → j < i) → (fuel a i : ℕ) → i < fuel → IsIn problem a i ⊎ (IsIn problem a i → ⊥)
+  pub decide_in : ((i j : ℕ) (row : Candidate) → slice_get problem.operations i ≡ Some row → row.around ≡ Some j → j < i) → (fuel a i : ℕ) → i < fuel → IsIn problem a i ⊎ (IsIn problem a i → ⊥)
   decide_in up zero a i lt = absurd (omega arith)
   decide_in up (suc fuel) a i lt = ⊎_elim
       (λ same. inl (subst (IsIn problem a) (sym same) alone))
@@ -147,5 +147,5 @@ module _ {O B A : Type 0} {d : Dialect (in_program O B) A} {c : Program O B} {op
       no (subst (IsIn problem a) k f.4)) (into problem a i w)))
       (decide_in up fuel a j.0 (let lower = up i j.0 row.0 row.1 j.1 in omega arith)))
       (none_or row.0.around))
-      (none_or (slice_get problem.operations.items i)))
+      (none_or (slice_get problem.operations i)))
       (same_or i a)

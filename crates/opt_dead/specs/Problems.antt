@@ -16,7 +16,7 @@ use Rattle.opt_trees.specs.Dialect.{Dialect}
 use Rattle.opt_solvers.specs.declared.dead_problem.Definer.{Definer}
 use Rattle.opt_solvers.specs.declared.dead_problem.Definer.TheVariants.{Result, Argument as ByArgument, Outside}
 use Rattle.opt_solvers.specs.declared.dead_problem.Operand.{Operand}
-use Rattle.opt_solvers.specs.declared.dead_problem.Candidate.{Candidate}
+use Rattle.opt_solvers.specs.DeadCandidates.{Candidate}
 use Rattle.opt_solvers.specs.declared.dead_problem.Argument.{Argument}
 use Rattle.opt_solvers.specs.declared.dead_problem.DeadProblem.{DeadProblem}
 use Rattle.opt_inside.specs.Numbered.{Numbers}
@@ -90,6 +90,10 @@ module _ {O B A : Type 0} (d : Dialect (in_program O B) A) (c : Program O B) whe
   abbrev pub IsBranch : Ptr Operation → Type 0
   IsBranch p = (view : OperationView O) → operation_at c p ≡ Some view → d.is_branch view.payload ≡ true
 
+  -- nothing but uses keeps the operation exactly where this is true: it has no side effects, and ends no block
+  abbrev pub MayGo : Ptr Operation → Bool → Type 0
+  MayGo p may_go = (view : OperationView O) → operation_at c p ≡ Some view → (may_go ≡ true) ↔ ((d.has_effects view.payload ≡ false) × (d.is_terminator view.payload ≡ false))
+
   -- each edge to the block comes from a branch
   abbrev pub HasBranchesOnly : Ptr BasicBlock → Type 0
   HasBranchesOnly b = (p : Ptr Operation) (view : OperationView O) → operation_at c p ≡ Some view → Lists view.successors b → d.is_branch view.payload ≡ true
@@ -153,8 +157,8 @@ module _ {O B A : Type 0} (d : Dialect (in_program O B) A) (c : Program O B) whe
       pub there : operation_at c p ≡ Some view
       pub may_go : (row.may_go ≡ true) ↔ ((d.has_effects view.payload ≡ false) × (d.is_terminator view.payload ≡ false))
       pub around : IsAroundOperation c n p row.around
-      pub count : length row.operands.items ≡ length (operands_at c p)
-      pub operands : AreOperandsOf p row.operands.items
+      pub count : length row.operands ≡ length (operands_at c p)
+      pub operands : AreOperandsOf p row.operands
 
     -- so of the operations, by their numbers
     abbrev pub AreCandidates : List Candidate → Type 0
@@ -163,8 +167,8 @@ module _ {O B A : Type 0} (d : Dialect (in_program O B) A) (c : Program O B) whe
 
     -- each number has the row of the operation or value with this number
     pub record IsProblemOf (op : Ptr Operation) (problem : DeadProblem) : Type 0 where
-      pub operations_len : length problem.operations.items ≡ length n.operations
-      pub operations : AreCandidates problem.operations.items
+      pub operations_len : length problem.operations ≡ length n.operations
+      pub operations : AreCandidates problem.operations
       pub arguments_len : length problem.arguments.items ≡ length n.values
       pub arguments : AreValueRows problem.arguments.items
       pub kept : AreKept c n op problem.kept.items

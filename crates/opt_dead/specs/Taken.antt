@@ -7,7 +7,7 @@ use Rattle.ir_program.specs.declared.handles.BasicBlock.{BasicBlock}
 use Rattle.ir_program.specs.declared.handles.Value.{Value}
 use Rattle.ir_trees.specs.Searched.{Lists}
 use Rattle.opt_solvers.specs.declared.dead_problem.Operand.{Operand}
-use Rattle.opt_solvers.specs.declared.dead_problem.Candidate.{Candidate}
+use Rattle.opt_solvers.specs.DeadCandidates.{Candidate}
 use Rattle.opt_solvers.specs.declared.dead_problem.DeadProblem.{DeadProblem}
 use Rattle.opt_solvers.specs.declared.dead_problem.DeadItems.{DeadItems}
 use Rattle.opt_inside.specs.Numbered.{Numbers}
@@ -34,13 +34,13 @@ abbrev pub TakesIf : {X R : Type 0} → (R → X) → (R → Type 0) → X → T
 TakesIf {X} {R} name Is x wanted old new = (wanted × ((r : R) × (name r ≡ x) × Is r × (new ≡ old ++ r ∷ []))) ⊎ ((wanted → ⊥) × (new ≡ old))
 
 -- the operand at this index goes to a marked argument
-abbrev pub OperandGoes : Candidate → List Bool → ℕ → Type 0
-OperandGoes row arguments i = (o : Operand) × (x : ℕ) × (slice_get row.operands.items i ≡ Some o) × (o.argument ≡ Some x) × IsMarked arguments x
+abbrev pub OperandGoes : List Operand → List Bool → ℕ → Type 0
+OperandGoes operands arguments i = (o : Operand) × (x : ℕ) × (slice_get operands i ≡ Some o) × (o.argument ≡ Some x) × IsMarked arguments x
 
 -- of each operand, whether it goes to a marked argument
-pub record AreLost (row : Candidate) (arguments goes : List Bool) : Type 0 where
-  pub len : length goes ≡ length row.operands.items
-  pub marks : (i : ℕ) → IsMarked goes i ↔ OperandGoes row arguments i
+pub record AreLost (operands : List Operand) (arguments goes : List Bool) : Type 0 where
+  pub len : length goes ≡ length operands
+  pub marks : (i : ℕ) → IsMarked goes i ↔ OperandGoes operands arguments i
 
 -- the value's number is marked
 abbrev pub ArgumentGoes : Numbers → List Bool → Value → Type 0
@@ -58,11 +58,11 @@ HasGoing c n arguments b = (i : ℕ) × (v : Value) × (value_in (arguments_at c
 module _ (n : Numbers) (rows : List Candidate) (arguments : List Bool) where
   -- an operand of the operation goes
   abbrev pub LosesSome : Ptr Operation → Type 0
-  LosesSome p = (row : Candidate) × ArePaired n.operations rows p row × ((i : ℕ) × OperandGoes row arguments i)
+  LosesSome p = (row : Candidate) × ArePaired n.operations rows p row × ((i : ℕ) × OperandGoes row.operands arguments i)
 
   -- the marks are those of its operands
   abbrev pub IsLoss : LostOperands → Type 0
-  IsLoss l = (row : Candidate) → ArePaired n.operations rows l.op row → AreLost row arguments l.marks.items
+  IsLoss l = (row : Candidate) → ArePaired n.operations rows l.op row → AreLost row.operands arguments l.marks.items
 
 -- the operation that loses operands
 abbrev pub op_of : LostOperands → Ptr Operation
@@ -98,9 +98,9 @@ abbrev pub TakesOperation : Ptr Operation → Bool → List (Ptr Operation) → 
 TakesOperation op goes old new = TakesIf same (λ p. Unit {0}) op (goes ≡ true) old new
 
 -- the operation comes to the list with the marks of its operands, where one of these goes
-abbrev pub TakesLost : Ptr Operation → Candidate → List Bool → List LostOperands → List LostOperands → Type 0
-TakesLost op row arguments old new =
-    TakesIf op_of (λ l. AreLost row arguments l.marks.items) op ((i : ℕ) × OperandGoes row arguments i) old new
+abbrev pub TakesLost : Ptr Operation → List Operand → List Bool → List LostOperands → List LostOperands → Type 0
+TakesLost op operands arguments old new =
+    TakesIf op_of (λ l. AreLost operands arguments l.marks.items) op ((i : ℕ) × OperandGoes operands arguments i) old new
 
 module _ {O B : Type 0} (c : Program O B) (n : Numbers) (arguments : List Bool) where
   -- the block comes to the list with the marks of its arguments, where one of these goes
@@ -110,5 +110,5 @@ module _ {O B : Type 0} (c : Program O B) (n : Numbers) (arguments : List Bool) 
 -- the plan has what the marks say
 pub record TakesMarked {O B : Type 0} (c : Program O B) (n : Numbers) (problem : DeadProblem) (items : DeadItems) (plan : DeadPlan) : Type 0 where
   pub operations : AreDeadOperations n items.operations.items plan.operations.items
-  pub operands : AreLostOperands n problem.operations.items items.arguments.items plan.operands.items
+  pub operands : AreLostOperands n problem.operations items.arguments.items plan.operands.items
   pub arguments : AreDeadArguments c n items.arguments.items plan.arguments.items

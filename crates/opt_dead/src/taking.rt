@@ -13,7 +13,7 @@ use crate::numbers::value_number;
 use crate::plan::{DeadArguments, DeadPlan, LostOperands};
 use ir_program::{BasicBlock, Operation, Program, Ptr};
 use opt_inside::Inside;
-use opt_solvers::{Candidate, DeadItems, DeadProblem};
+use opt_solvers::{Candidates, DeadItems, DeadProblem, Operand};
 use std::alloc::{AllocError, Global};
 
 /// Whether there is a mark at an index, if there is one.
@@ -65,21 +65,25 @@ fn dead_operations(
 }
 
 /// Of each operand, whether it goes to a marked argument.
-fn lost_marks(alloc: Global, row: &Candidate, arguments: &[bool]) -> Result<Vec<bool>, AllocError>
-    ensures { IfOk result (λ marks. AreLost row.now arguments.now marks.items) }
+fn lost_marks(
+    alloc: Global,
+    operands: &[Operand],
+    arguments: &[bool],
+) -> Result<Vec<bool>, AllocError>
+    ensures { IfOk result (λ marks. AreLost operands.now arguments.now marks.items) }
 {
     let mut marks = Vec::new(alloc);
-    for operand in &row.operands {
+    for operand in operands {
         marks.push(is_marked(arguments, operand.argument))?;
     }
     Ok(marks)
 }
 
-/// Whether an operand of an operation goes to a marked argument.
-fn loses_some(row: &Candidate, arguments: &[bool]) -> bool
-    ensures { IsTrue result ↔ ((i : ℕ) × OperandGoes row.now arguments.now i) }
+/// Whether one of these operands goes to a marked argument.
+fn loses_some(operands: &[Operand], arguments: &[bool]) -> bool
+    ensures { IsTrue result ↔ ((i : ℕ) × OperandGoes operands.now arguments.now i) }
 {
-    for operand in &row.operands {
+    for operand in operands {
         if is_marked(arguments, operand.argument) {
             return true;
         }
@@ -91,14 +95,14 @@ fn loses_some(row: &Candidate, arguments: &[bool]) -> bool
 fn take_lost(
     alloc: Global,
     op: Ptr<Operation>,
-    row: &Candidate,
+    operands: &[Operand],
     arguments: &[bool],
     lost: &mut Vec<LostOperands>,
 ) -> Result<(), AllocError>
-    ensures { OnOk result (TakesLost op row.now arguments.now lost.old.items lost.new.items) }
+    ensures { OnOk result (TakesLost op operands.now arguments.now lost.old.items lost.new.items) }
 {
-    if loses_some(row, arguments) {
-        let marks = lost_marks(alloc, row, arguments)?;
+    if loses_some(operands, arguments) {
+        let marks = lost_marks(alloc, operands, arguments)?;
         lost.push(LostOperands { op, marks })?;
     }
     Ok(())
@@ -108,7 +112,7 @@ fn take_lost(
 fn lost_operands(
     alloc: Global,
     inside: &Inside,
-    rows: &[Candidate],
+    rows: &Candidates,
     arguments: &[bool],
 ) -> Result<Vec<LostOperands>, AllocError>
     requires len { length rows.now ≡ length (numbers_of inside.now).operations }
@@ -117,7 +121,7 @@ fn lost_operands(
 {
     let mut lost = Vec::new(alloc);
     for (index, op) in inside.operations.as_slice().iter().enumerate() {
-        take_lost(alloc, *op, &rows[index], arguments, &mut lost)?;
+        take_lost(alloc, *op, rows.operands(index), arguments, &mut lost)?;
     }
     Ok(lost)
 }
@@ -194,7 +198,7 @@ pub(crate) fn plan_of<O, B>(
     requires operations_once { AreDistinct (numbers_of inside.now).operations }
     requires blocks_once { AreDistinct (numbers_of inside.now).blocks }
     requires values_once { AreDistinct (numbers_of inside.now).values }
-    requires rows { length problem.now.operations.items ≡ length (numbers_of inside.now).operations }
+    requires rows { length problem.now.operations ≡ length (numbers_of inside.now).operations }
     requires marks { length items.now.operations.items ≡ length (numbers_of inside.now).operations }
     ensures { IfOk result (λ plan. TakesMarked program.now (numbers_of inside.now) problem.now items.now plan) }
 {

@@ -16,7 +16,7 @@ use Rattle.ir_program.specs.declared.handles.Value.{Value}
 use Rattle.ir_program.proofs.used.Renaming.{block-test}
 use Rattle.ir_trees.specs.Searched.{Lists}
 use Rattle.ir_trees.specs.Stands.{in_program}
-use Rattle.opt_solvers.specs.declared.facts_problem.Row.{Row}
+use Rattle.opt_solvers.specs.OperationRows.{Row}
 use Rattle.opt_solvers.specs.declared.facts_problem.FactsProblem.{FactsProblem}
 use Rattle.opt_solvers.specs.Facts.{IsRow, IsProblem}
 use Rattle.opt_trees.specs.Occurrences.{Has, picks}
@@ -55,20 +55,20 @@ module _ {O B A : Type 0} (d : Dialect (in_program O B) A) (c : Program O B) (op
       let regions = ap (λ (v : Option (OperationView O)). unwrap_or (option_map (λ (w : OperationView O). w.regions) v) []) is.there in
       record {
         block = subst (λ x. x < length p.arguments.items) (sym (is.block around.0 around.1)) (block_in_range around.0 (listed d c op n p s around.0 around.2));
-        operands = values_in_range is.view.operands r.operands.items is.operands;
-        results = values_in_range (values_of is.view.results) r.results.items is.results;
+        operands = values_in_range is.view.operands r.operands is.operands;
+        results = values_in_range (values_of is.view.results) r.results is.results;
         targets = λ e h.
-            let l = contains_lists r.edges.items e h in
+            let l = contains_lists r.edges e h in
             let b = is.edges.from l.0 e l.1 in
             let succ = successor_of (d.is_branch is.view.payload) is.view.successors l.0 b.0 b.1 in
             subst (λ x. x < length p.arguments.items) (sym b.2.target) (block_in_range b.0 (listed d c op n p s b.0 (s.leads q b.0 below (l.0, ap (λ bs. slice_get bs l.0) row ∙ succ))));
         forwards = λ e j h f.
-            let l = contains_lists r.edges.items e h in
+            let l = contains_lists r.edges e h in
             let b = is.edges.from l.0 e l.1 in
-            let w = picked_within (λ (v : Value). v) is.view.operands (picks is.view.operands (d.forwards is.view.payload (length is.view.operands) l.0)) e.forwards.items j b.2.forwards f in
-            let len : length r.operands.items ≡ length is.view.operands = ap length is.operands ∙ length-map is.view.operands (value_number n) in
+            let w = picked_within (λ (v : Value). v) is.view.operands (picks is.view.operands (d.forwards is.view.payload (length is.view.operands) l.0)) e.forwards j b.2.forwards f in
+            let len : length r.operands ≡ length is.view.operands = ap length is.operands ∙ length-map is.view.operands (value_number n) in
             omega (arith, w, len);
-        entries = blocks_in_range (entries_in c is.view.regions) r.entries.items (λ b h. listed d c op n p s b (entries_below c op s.held q below.inside b (subst (λ rs. Has b (entries_in c rs)) (sym regions) h))) is.entries;
+        entries = blocks_in_range (entries_in c is.view.regions) r.entries (λ b h. listed d c op n p s b (entries_below c op s.held q below.inside b (subst (λ rs. Has b (entries_in c rs)) (sym regions) h))) is.entries;
       }
 
   arguments_in_range : (b : ℕ) (o : Option (Vec ℕ Global)) → slice_get p.arguments.items b ≡ o → (v : ℕ) → Contains (unwrap_or (option_map (λ (w : Vec ℕ Global). w.items) o) []) v → v < p.values
@@ -78,7 +78,7 @@ module _ {O B A : Type 0} (d : Dialect (in_program O B) A) (c : Program O B) (op
   pub in_range : IsProblem p
   in_range = record {
     rows = λ r h.
-        let l = contains_lists p.rows.items r h in
+        let l = contains_lists p.rows r h in
         let q = s.problem.rows.from l.0 r l.1 in
         row_in_range l.0 q.0 r q.1 q.2;
     arguments = λ b v h. arguments_in_range b (slice_get p.arguments.items b) refl v h;
@@ -95,7 +95,7 @@ module _ {O B A : Type 0} (d : Dialect (in_program O B) A) (c : Program O B) (op
 
 -- the operation of each row can be asked
 pub can_be_asked : {O B A : Type 0} (d : Dialect (in_program O B) A) (c : Program O B) (op : Ptr Operation) (n : Numbers) (p : FactsProblem) (operations : List (Ptr Operation)) → operations ≡ n.operations → IsProblemOf d c op n p
-    → (i : ℕ) (r : Row) → slice_get p.rows.items i ≡ Some r → IsSome (operation_numbered c operations i)
+    → (i : ℕ) (r : Row) → slice_get p.rows i ≡ Some r → IsSome (operation_numbered c operations i)
 can_be_asked d c op n p operations e problem i r at =
     let q = problem.rows.from i r at in
     let there = ap (λ ps. operation_numbered c ps i) e ∙ ap (operation_if c) q.1 ∙ q.2.there in

@@ -13,8 +13,7 @@ use Rattle.ir_trees.specs.Trees.{Head, Regions}
 use Rattle.ir_trees.specs.Renames.{names_of}
 use Rattle.ir_trees.specs.Searched.{Lists}
 use Rattle.ir_trees.specs.Stands.{by_handle, in_program, ProgramTree, head_of, defined_by, AreTree}
-use Rattle.opt_solvers.specs.declared.facts_problem.Edge.{Edge}
-use Rattle.opt_solvers.specs.declared.facts_problem.Row.{Row}
+use Rattle.opt_solvers.specs.OperationRows.{Edge, Row}
 use Rattle.opt_solvers.specs.declared.facts_problem.FactsProblem.{FactsProblem}
 use Rattle.opt_solvers.specs.Known.{asked, answer, AllBelow, AllAny}
 use Rattle.opt_solvers.specs.Facts.{NumberedFacts, Enters, ForwardedBelow, arguments_of, picked, ResultsClosed, EdgesClosed, RoleClosed, RowClosed, EdgeClosed as IsNumberEdgeClosed}
@@ -72,7 +71,7 @@ module _ {O B A : Type 0} (d : Dialect (in_program O B) A) (c : Program O B) (op
       let folds = ap (λ (v : Option (OperationView O)). map answer (fold_if d v xs)) asks ∙ ap (λ ts. map answer (d.fold m.row.view.payload ts xs)) (types_same m.row.view.results) in
       (λ j. AllBelow K.of (m.row.results j) (folds j)) ∙ below_of n K k agree (values_of m.row.view.results) (folds 1) ∙ (λ j. AllBelow k.of (values_names m.row.view.results j) (folds 1))
 
-  any_same : AllAny K.of r.results.items ≡ AllAny k.of (names_of (map defined_by m.row.view.results))
+  any_same : AllAny K.of r.results ≡ AllAny k.of (names_of (map defined_by m.row.view.results))
   any_same = (λ j. AllAny K.of (m.row.results j)) ∙ any_of n K k agree (values_of m.row.view.results) ∙ (λ j. AllAny k.of (values_names m.row.view.results j))
 
   -- edges
@@ -84,8 +83,8 @@ module _ {O B A : Type 0} (d : Dialect (in_program O B) A) (c : Program O B) (op
       listed d c op n p s b (s.leads o.head.name b (occurs.sound o m.stands).below (j, ap (λ bs. slice_get bs j) row ∙ at))
 
   -- what an edge forwards
-  picked_is : (b : Ptr BasicBlock) (j : ℕ) (e : Edge) → IsEdge {B = B} d n m.row.view j b e → picked r.operands.items e.forwards.items ≡ map Some (map (value_number n) (forwarded d (head_of {B = B} o.head.name m.row.view) j))
-  picked_is b j e is = picked_made (value_number n) m.row.view.operands (picks m.row.view.operands (d.forwards m.row.view.payload (length m.row.view.operands) j)) r.operands.items e.forwards.items m.row.operands is.forwards
+  picked_is : (b : Ptr BasicBlock) (j : ℕ) (e : Edge) → IsEdge {B = B} d n m.row.view j b e → picked r.operands e.forwards ≡ map Some (map (value_number n) (forwarded d (head_of {B = B} o.head.name m.row.view) j))
+  picked_is b j e is = picked_made (value_number n) m.row.view.operands (picks m.row.view.operands (d.forwards m.row.view.payload (length m.row.view.operands) j)) r.operands e.forwards m.row.operands is.forwards
 
   arguments_at_target : (b : Ptr BasicBlock) (j : ℕ) (e : Edge) → IsEdge {B = B} d n m.row.view j b e → Lists n.blocks b → arguments_of p e.target ≡ map (value_number n) (values_of (arguments_at c b))
   arguments_at_target b j e is l = ap (arguments_of p) is.target ∙ arguments_are d c op n p s b l
@@ -99,7 +98,7 @@ module _ {O B A : Type 0} (d : Dialect (in_program O B) A) (c : Program O B) (op
             let us = forwarded d (head_of {B = B} o.head.name m.row.view) j in
             let vs = values_of (arguments_at c b) in
             let named : vs ≡ names_of x.label.arguments = ap (λ a. values_of (arguments_at c a)) (sym name) ∙ occurrence_arguments c op t occurs x stands in
-            let given = subst (λ xs. ForwardedBelow K xs (picked r.operands.items e.forwards.items)) (arguments_at_target b j e is l) h.arguments in
+            let given = subst (λ xs. ForwardedBelow K xs (picked r.operands e.forwards)) (arguments_at_target b j e is l) h.arguments in
             let below = forwarded_to n K k agree vs us (subst (λ ys. ForwardedBelow K (map (value_number n) vs) ys) (picked_is b j e is) given) in
             subst (λ xs. AllBelow k.of xs (map k.of us)) named below;
       }
@@ -114,7 +113,7 @@ module _ {O B A : Type 0} (d : Dialect (in_program O B) A) (c : Program O B) (op
       let below = subst (λ xs. AllBelow k.of xs (map k.of us)) (sym named) (h.arguments x.0 x.1 x.2) in
       record {
         target = ap K.runs is.target ∙ agree.runs b l ∙ h.target;
-        arguments = subst (λ xs. ForwardedBelow K xs (picked r.operands.items e.forwards.items)) (sym (arguments_at_target b j e is l))
+        arguments = subst (λ xs. ForwardedBelow K xs (picked r.operands e.forwards)) (sym (arguments_at_target b j e is l))
             (subst (λ ys. ForwardedBelow K (map (value_number n) vs) ys) (sym (picked_is b j e is)) (forwarded_from n K k agree vs us below));
       }
 
@@ -127,10 +126,10 @@ module _ {O B A : Type 0} (d : Dialect (in_program O B) A) (c : Program O B) (op
   successors b = edges_if b m.row.view.successors
 
   module _ (branch : d.is_branch m.row.view.payload ≡ true) where
-    edge_at : (j : ℕ) (b : Ptr BasicBlock) → slice_get m.row.view.successors j ≡ Some b → (e : Edge) × (slice_get r.edges.items j ≡ Some e) × IsEdge {B = B} d n m.row.view j b e
+    edge_at : (j : ℕ) (b : Ptr BasicBlock) → slice_get m.row.view.successors j ≡ Some b → (e : Edge) × (slice_get r.edges j ≡ Some e) × IsEdge {B = B} d n m.row.view j b e
     edge_at j b at = m.row.edges.onto j b (ap (λ f. slice_get (edges_if f m.row.view.successors) j) branch ∙ at)
 
-    successor_at : (j : ℕ) (e : Edge) → slice_get r.edges.items j ≡ Some e → (b : Ptr BasicBlock) × (slice_get m.row.view.successors j ≡ Some b) × IsEdge {B = B} d n m.row.view j b e
+    successor_at : (j : ℕ) (e : Edge) → slice_get r.edges j ≡ Some e → (b : Ptr BasicBlock) × (slice_get m.row.view.successors j ≡ Some b) × IsEdge {B = B} d n m.row.view j b e
     successor_at j e at = let b = m.row.edges.from j e at in (b.0, ap (λ f. slice_get (edges_if f m.row.view.successors) j) (sym branch) ∙ b.1, b.2)
 
     edges_to : (q : Option (List (Option A))) → EdgesClosed (answers_of d c n.operations) p K i r q → BranchClosed d (block_occurrences_of t) k (head_of o.head.name m.row.view) true q
@@ -150,8 +149,8 @@ module _ {O B A : Type 0} (d : Dialect (in_program O B) A) (c : Program O B) (op
 
   -- what is asked by the role
 
-  asked_same : asked (map K.of r.operands.items) ≡ asked (map k.of m.row.view.operands)
-  asked_same = asked_of n K k agree m.row.view.operands r.operands.items m.row.operands
+  asked_same : asked (map K.of r.operands) ≡ asked (map k.of m.row.view.operands)
+  asked_same = asked_of n K k agree m.row.view.operands r.operands m.row.operands
 
   role_to : (fb bb : Bool) → d.is_foldable m.row.view.payload ≡ fb → d.is_branch m.row.view.payload ≡ bb → RoleClosed (answers_of d c n.operations) p K i r (role_of fb bb)
       → FoldClosed d k.of (head_of o.head.name m.row.view) fb (asked (map k.of m.row.view.operands)) × BranchClosed d (block_occurrences_of t) k (head_of o.head.name m.row.view) bb (asked (map k.of m.row.view.operands))
@@ -182,7 +181,7 @@ module _ {O B A : Type 0} (d : Dialect (in_program O B) A) (c : Program O B) (op
       record {
         folds = subst (λ (g : Head by_handle (in_program O B)). FoldClosed d k.of g (d.is_foldable g.content) (asked (map k.of g.operands))) (sym head_is) both.0;
         goes = subst (λ (g : Head by_handle (in_program O B)). BranchClosed d (block_occurrences_of t) k g (d.is_branch g.content) (asked (map k.of g.operands))) (sym head_is) both.1;
-        entries = entries_to c k m.row.view.regions o.regions regions_are (λ b e. enters_to d c op n p s K k agree b (entry_listed b e) (h.entries (block_number n b) (made_in (block_number n) (entries_in c m.row.view.regions) r.entries.items b m.row.entries e)));
+        entries = entries_to c k m.row.view.regions o.regions regions_are (λ b e. enters_to d c op n p s K k agree b (entry_listed b e) (h.entries (block_number n b) (made_in (block_number n) (entries_in c m.row.view.regions) r.entries b m.row.entries e)));
       }
 
   pub row_from : OperationClosed d (block_occurrences_of t) k o → RowClosed (answers_of d c n.operations) p K i r
@@ -193,6 +192,6 @@ module _ {O B A : Type 0} (d : Dialect (in_program O B) A) (c : Program O B) (op
             (subst (λ (g : Head by_handle (in_program O B)). FoldClosed d k.of g (d.is_foldable g.content) (asked (map k.of g.operands))) head_is h.folds)
             (subst (λ (g : Head by_handle (in_program O B)). BranchClosed d (block_occurrences_of t) k g (d.is_branch g.content) (asked (map k.of g.operands))) head_is h.goes));
         entries = λ e contains.
-            let b = made_of (block_number n) (entries_in c m.row.view.regions) r.entries.items e m.row.entries contains in
+            let b = made_of (block_number n) (entries_in c m.row.view.regions) r.entries e m.row.entries contains in
             subst (Enters p K) b.2 (enters_from d c op n p s K k agree b.0 (entry_listed b.0 b.1) (entries_from c k m.row.view.regions o.regions regions_are h.entries b.0 b.1));
       }

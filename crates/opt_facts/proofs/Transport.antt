@@ -12,7 +12,7 @@ use Rattle.ir_program.proofs.used.Renaming.{block-test, value-test}
 use Rattle.ir_trees.specs.Trees.{Label}
 use Rattle.ir_trees.specs.Searched.{Lists, AreDistinct}
 use Rattle.ir_trees.specs.Stands.{by_handle, in_program, ProgramTree, StandsFor}
-use Rattle.opt_solvers.specs.declared.facts_problem.Row.{Row}
+use Rattle.opt_solvers.specs.OperationRows.{Row}
 use Rattle.opt_solvers.specs.declared.facts_problem.FactsProblem.{FactsProblem}
 use Rattle.opt_solvers.specs.declared.known.Known.{Known}
 use Rattle.opt_solvers.specs.declared.known.Known.TheVariants.{Any, Undetermined}
@@ -47,14 +47,14 @@ module _ {O B A : Type 0} (d : Dialect (in_program O B) A) (c : Program O B) (op
   row_block o h r is = is.block o.site.label.name (occurs.sound o h).in_block
 
   -- an operation of the tree has a row
-  row_of : (o : Occurrence by_handle (in_program O B)) → Has o (occurrences_of t) → (i : ℕ) × (r : Row) × (slice_get p.rows.items i ≡ Some r) × Meets d c n t o i r
+  row_of : (o : Occurrence by_handle (in_program O B)) → Has o (occurrences_of t) → (i : ℕ) × (r : Row) × (slice_get p.rows i ≡ Some r) × Meets d c n t o i r
   row_of o h =
       let at = (s.numbered.operations o.head.name).1 (occurs.sound o h).below in
       let r = s.problem.rows.onto at.0 o.head.name at.1 in
       (at.0, r.0, r.1, record { stands = h; numbered = at.1; row = r.2 })
 
   -- a row is that of an operation of the tree
-  operation_of : (i : ℕ) (r : Row) → slice_get p.rows.items i ≡ Some r → (o : Occurrence by_handle (in_program O B)) × Meets d c n t o i r
+  operation_of : (i : ℕ) (r : Row) → slice_get p.rows i ≡ Some r → (o : Occurrence by_handle (in_program O B)) × Meets d c n t o i r
   operation_of i r at =
       let q = s.problem.rows.from i r at in
       let o = occurs.found q.0 ((s.numbered.operations q.0).0 (i, q.1)) in

@@ -16,8 +16,7 @@ use Rattle.ir_program.specs.declared.handles.Value.{Value}
 use Rattle.ir_trees.specs.Stands.{in_program}
 use Rattle.opt_solvers.specs.declared.facts_problem.Role.{Role}
 use Rattle.opt_solvers.specs.declared.facts_problem.Role.TheVariants.{Folds, Branches, Other}
-use Rattle.opt_solvers.specs.declared.facts_problem.Edge.{Edge}
-use Rattle.opt_solvers.specs.declared.facts_problem.Row.{Row}
+use Rattle.opt_solvers.specs.OperationRows.{Edge, Row}
 use Rattle.opt_solvers.specs.declared.facts_problem.FactsProblem.{FactsProblem}
 use Rattle.opt_trees.specs.Occurrences.{cons_if, picks}
 use Rattle.opt_trees.specs.Dialect.{Dialect}
@@ -59,7 +58,7 @@ entries_in c (r ∷ rs) = cons_if (slice_get (blocks_in c r) 0) (entries_in c rs
 -- the edge of this index of an operation: its target, and the indices of the operands that it forwards
 pub record IsEdge {O B A : Type 0} (d : Dialect (in_program O B) A) (n : Numbers) (v : OperationView O) (index : ℕ) (successor : Ptr BasicBlock) (e : Edge) : Type 0 where
   pub target : e.target ≡ block_number n successor
-  pub forwards : map (slice_get v.operands) e.forwards.items ≡ map Some (picks v.operands (d.forwards v.payload (length v.operands) index))
+  pub forwards : map (slice_get v.operands) e.forwards ≡ map Some (picks v.operands (d.forwards v.payload (length v.operands) index))
 
 -- the indices of the operands that an operation forwards to its successor with this index, of those that there are
 abbrev pub AreForwarded : {O B A : Type 0} → Dialect (in_program O B) A → Program O B → Ptr Operation → ℕ → List ℕ → Type 0
@@ -83,10 +82,10 @@ pub record IsRowOf {O B A : Type 0} (d : Dialect (in_program O B) A) (c : Progra
   pub there : operation_at c p ≡ Some view
   pub block : (b : Ptr BasicBlock) → StandsInBlock c p b → r.block ≡ block_number n b
   pub role : r.role ≡ role_of (d.is_foldable view.payload) (d.is_branch view.payload)
-  pub operands : r.operands.items ≡ map (value_number n) view.operands
-  pub results : r.results.items ≡ map (value_number n) (values_of view.results)
-  pub edges : Pairs (IsEdge {B = B} d n view) (branches_to d view) r.edges.items
-  pub entries : r.entries.items ≡ map (block_number n) (entries_in c view.regions)
+  pub operands : r.operands ≡ map (value_number n) view.operands
+  pub results : r.results ≡ map (value_number n) (values_of view.results)
+  pub edges : Pairs (IsEdge {B = B} d n view) (branches_to d view) r.edges
+  pub entries : r.entries ≡ map (block_number n) (entries_in c view.regions)
 
 -- the rows of these operations
 abbrev pub AreRows : {O B A : Type 0} → Dialect (in_program O B) A → Program O B → Numbers → List (Ptr Operation) → List Row → Type 0
@@ -98,7 +97,7 @@ AreArguments c n i b arguments = arguments.items ≡ map (value_number n) (value
 
 -- the problem of what is inside an operation, with one number for all values from outside
 pub record IsProblemOf {O B A : Type 0} (d : Dialect (in_program O B) A) (c : Program O B) (op : Ptr Operation) (n : Numbers) (p : FactsProblem) : Type 0 where
-  pub rows : AreRows d c n n.operations p.rows.items
+  pub rows : AreRows d c n n.operations p.rows
   pub arguments : Pairs (AreArguments c n) n.blocks p.arguments.items
   pub values : p.values ≡ length n.values + 1
   pub entries : p.entries.items ≡ map (block_number n) (entries_in c (regions_in c op))

@@ -1,5 +1,5 @@
 //! Values and blocks by number.
-ghost use Rattle.std.specs.Prelude.{◌≡◌, IfOk, IsSome, map};
+ghost use Rattle.std.specs.Prelude.{◌≡◌, IfOk, OnOk, IsSome, map};
 ghost use Rattle.ir_program.specs.Program.{operation_at, block_at, results_at, arguments_at};
 ghost use Rattle.ir_program.specs.Lists.{regions_in};
 ghost use Rattle.ir_program.specs.Rows.{operands_at};
@@ -30,39 +30,39 @@ pub(crate) fn number_of_block(inside: &Inside, block: Ptr<BasicBlock>) -> usize
     }
 }
 
-/// The numbers of the operands of an operation.
+/// Puts the numbers of the operands of an operation into a list, in place of what is in it.
 pub(crate) fn operand_numbers<O, B>(
-    alloc: Global,
     program: &Program<O, B>,
     inside: &Inside,
     op: Ptr<Operation>,
-) -> Result<Vec<usize>, AllocError>
+    row: &mut Vec<usize>,
+) -> Result<(), AllocError>
     requires { IsSome (operation_at program.now op) }
-    ensures { IfOk result (λ row. row.items ≡ map (value_number (numbers_of inside.now)) (operands_at program.now op)) }
+    ensures { OnOk result (row.new.items ≡ map (value_number (numbers_of inside.now)) (operands_at program.now op)) }
 {
-    let mut row = Vec::with_capacity(alloc, program.operand_count(op))?;
+    row.clear();
     for i in 0..program.operand_count(op) {
         row.push(number_of_value(inside, program.operand(op, i)))?;
     }
-    Ok(row)
+    Ok(())
 }
 
-/// The numbers of the results of an operation.
+/// Puts the numbers of the results of an operation into a list, in place of what is in it.
 pub(crate) fn result_numbers<O, B>(
-    alloc: Global,
     program: &Program<O, B>,
     inside: &Inside,
     op: Ptr<Operation>,
-) -> Result<Vec<usize>, AllocError>
+    row: &mut Vec<usize>,
+) -> Result<(), AllocError>
     requires { IsSome (operation_at program.now op) }
-    ensures { IfOk result (λ row. row.items ≡ map (value_number (numbers_of inside.now))
+    ensures { OnOk result (row.new.items ≡ map (value_number (numbers_of inside.now))
         (values_of (results_at program.now op))) }
 {
-    let mut row = Vec::with_capacity(alloc, program.result_count(op))?;
+    row.clear();
     for i in 0..program.result_count(op) {
         row.push(number_of_value(inside, program.result(op, i)))?;
     }
-    Ok(row)
+    Ok(())
 }
 
 /// The numbers of the arguments of a block.
@@ -83,23 +83,23 @@ pub(crate) fn argument_numbers<O, B>(
     Ok(row)
 }
 
-/// The numbers of the entry blocks of the regions of an operation.
+/// Puts the numbers of the entry blocks of the regions of an operation into a list, in place of what is in it.
 pub(crate) fn entry_numbers<O, B>(
-    alloc: Global,
     program: &Program<O, B>,
     inside: &Inside,
     op: Ptr<Operation>,
-) -> Result<Vec<usize>, AllocError>
+    row: &mut Vec<usize>,
+) -> Result<(), AllocError>
     requires { IsSome (operation_at program.now op) }
-    ensures { IfOk result (λ row. row.items ≡ map (block_number (numbers_of inside.now))
+    ensures { OnOk result (row.new.items ≡ map (block_number (numbers_of inside.now))
         (entries_in program.now (regions_in program.now op))) }
 {
     program.know_lists();
-    let mut row = Vec::new(alloc);
+    row.clear();
     for region in program.regions(op) {
         if let Some(block) = program.first_block(region) {
             row.push(number_of_block(inside, block))?;
         }
     }
-    Ok(row)
+    Ok(())
 }

@@ -11,22 +11,24 @@ use crate::rows::row_of;
 use ir_program::{Operation, Program, Ptr};
 use opt_dialect::OptDialect;
 use opt_inside::Inside;
-use opt_solvers::{FactsProblem, Row};
+use opt_solvers::{FactsProblem, OperationRows, RowBuffer};
 use std::alloc::{AllocError, Global};
 
-/// The rows of the operations inside, in their order.
+/// The rows of the operations inside, in their order. Each is put together in the same lists.
 fn rows_of<D: OptDialect>(
     alloc: Global,
     program: &Program<D::Operation, D::Block>,
     inside: &Inside,
-) -> Result<Vec<Row>, AllocError>
+) -> Result<OperationRows, AllocError>
     requires { (p : _) → Lists inside.now.operations.keys p → IsLinkedOperation program.now p }
     ensures { IfOk result (λ rows. AreRows D.meaning program.now
-        (numbers_of inside.now) inside.now.operations.keys rows.items) }
+        (numbers_of inside.now) inside.now.operations.keys rows) }
 {
-    let mut rows = Vec::with_capacity(alloc, inside.operations.len())?;
+    let mut rows = OperationRows::with_capacity(alloc, inside.operations.len())?;
+    let mut row = RowBuffer::new(alloc)?;
     for op in inside.operations.as_slice() {
-        rows.push(row_of::<D>(alloc, program, inside, *op)?)?;
+        row_of::<D>(alloc, program, inside, *op, &mut row)?;
+        rows.push(&row)?;
     }
     Ok(rows)
 }
@@ -62,7 +64,8 @@ pub(crate) fn problem_of<D: OptDialect>(
 {
     let rows = rows_of::<D>(alloc, program, inside)?;
     let arguments = arguments_of_blocks(alloc, program, inside)?;
-    let entries = entry_numbers(alloc, program, inside, op)?;
+    let mut entries = Vec::new(alloc);
+    entry_numbers(program, inside, op, &mut entries)?;
     let count = inside.values.as_slice().len();
     let outside = vec![in alloc; count]?;
     Ok(FactsProblem {

@@ -1,15 +1,16 @@
 //! The row of an operation in the problem of the most precise facts.
-ghost use Rattle.std.specs.Prelude.{◌≡◌, IfOk, IsSome};
+ghost use Rattle.std.specs.Prelude.{◌≡◌, IfOk, OnOk, IsSome};
 ghost use Rattle.ir_program.specs.Program.{operation_at};
 ghost use Rattle.ir_program.specs.Lists.{IsLinkedOperation};
 ghost use Rattle.opt_inside.specs.Numbered.{numbers_of};
+ghost use Rattle.opt_solvers.specs.OperationColumns.{buffered};
 ghost use Rattle.opt_facts.specs.Problem.{role_of, AreForwarded, IsEdgeCount, AreEdges, IsRowOf};
 
 use crate::numbers::{entry_numbers, number_of_block, operand_numbers, result_numbers};
 use ir_program::{Operation, Program, Ptr};
 use opt_dialect::OptDialect;
 use opt_inside::Inside;
-use opt_solvers::{Edge, Role, Row};
+use opt_solvers::{EdgeList, Role, RowBuffer};
 use std::alloc::{AllocError, Global};
 
 /// What an operation is asked.
@@ -57,51 +58,46 @@ fn edge_count<D: OptDialect>(program: &Program<D::Operation, D::Block>, op: Ptr<
     }
 }
 
-/// The edges of an operation.
+/// Puts the edges of an operation into a list, in place of what is in it.
 fn edges_of<D: OptDialect>(
     alloc: Global,
     program: &Program<D::Operation, D::Block>,
     inside: &Inside,
     op: Ptr<Operation>,
-) -> Result<Vec<Edge>, AllocError>
+    edges: &mut EdgeList,
+) -> Result<(), AllocError>
     requires { IsSome (operation_at program.now op) }
-    ensures { IfOk result (λ edges. AreEdges D.meaning program.now (numbers_of inside.now) op edges.items) }
+    ensures { OnOk result (AreEdges D.meaning program.now (numbers_of inside.now) op edges.new) }
 {
-    let mut edges = Vec::new(alloc);
+    edges.clear();
     for i in 0..edge_count::<D>(program, op) {
         let target = number_of_block(inside, program.successor(op, i));
         let forwards = forwarded_operands::<D>(alloc, program, op, i)?;
-        edges.push(Edge { target, forwards })?;
+        edges.push(target, &forwards)?;
     }
-    Ok(edges)
+    Ok(())
 }
 
-/// The row of an operation that stands in a block.
+/// Puts together the row of an operation that stands in a block, in place of what was put together before.
 pub(crate) fn row_of<D: OptDialect>(
     alloc: Global,
     program: &Program<D::Operation, D::Block>,
     inside: &Inside,
     op: Ptr<Operation>,
-) -> Result<Row, AllocError>
+    row: &mut RowBuffer,
+) -> Result<(), AllocError>
     requires live { IsSome (operation_at program.now op) }
     requires linked { IsLinkedOperation program.now op }
-    ensures { IfOk result (λ row. IsRowOf D.meaning program.now (numbers_of inside.now) op row) }
+    ensures { OnOk result (IsRowOf D.meaning program.now (numbers_of inside.now) op (buffered row.new)) }
 {
-    let block = match program.parent_block(op) {
+    row.block = match program.parent_block(op) {
         Some(block) => number_of_block(inside, block),
         None => unreachable!(),
     };
-    let role = role_of_operation::<D>(program.payload(op));
-    let operands = operand_numbers(alloc, program, inside, op)?;
-    let results = result_numbers(alloc, program, inside, op)?;
-    let edges = edges_of::<D>(alloc, program, inside, op)?;
-    let entries = entry_numbers(alloc, program, inside, op)?;
-    Ok(Row {
-        block,
-        role,
-        operands,
-        results,
-        edges,
-        entries,
-    })
+    row.role = role_of_operation::<D>(program.payload(op));
+    operand_numbers(program, inside, op, &mut row.operands)?;
+    result_numbers(program, inside, op, &mut row.results)?;
+    edges_of::<D>(alloc, program, inside, op, &mut row.edges)?;
+    entry_numbers(program, inside, op, &mut row.entries)?;
+    Ok(())
 }

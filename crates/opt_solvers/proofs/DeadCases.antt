@@ -5,21 +5,17 @@ use Rattle.std.proofs.lemmas.Option.{same_Some, none-some, slice_get_within}
 use Rattle.opt_solvers.specs.declared.dead_problem.Definer.{Definer}
 use Rattle.opt_solvers.specs.declared.dead_problem.Definer.TheVariants.{Result, Argument as ByArgument, Outside}
 use Rattle.opt_solvers.specs.declared.dead_problem.Operand.{Operand}
-use Rattle.opt_solvers.specs.declared.dead_problem.Candidate.{Candidate}
+use Rattle.opt_solvers.specs.DeadCandidates.{Candidate, around_of}
 use Rattle.opt_solvers.specs.declared.dead_problem.Argument.{Argument}
 use Rattle.opt_solvers.specs.declared.dead_problem.DeadProblem.{DeadProblem}
 use Rattle.opt_solvers.specs.declared.dead_places.Place.{Place}
 use Rattle.opt_solvers.specs.Dead.{Item, Whole, Slot, IsIn, itself, further, IsBelow, IsInner, Makes, Counts, May, IsDead, dies, IsExcused, by_operation, by_argument, IsDeadProblem}
-use Rattle.opt_solvers.specs.DeadPlaces.{operand_place, kept_place, IsPlace, around_of, around_of_argument, around_operation, around_definer, slot, items, maker, IsAround, Keeps, IsKnown}
+use Rattle.opt_solvers.specs.DeadPlaces.{operand_place, kept_place, IsPlace, around_of_argument, around_operation, around_definer, slot, items, maker, IsAround, Keeps, IsKnown}
 use Rattle.opt_solvers.specs.DeadRows.{slot_of, Excuses}
 use Rattle.opt_solvers.specs.DeadUses.{held, held_operation, held_argument, first_uses}
+use Rattle.opt_solvers.proofs.DeadLists.{there_is}
 use Rattle.opt_solvers.proofs.DeadCrossing.{around_there, in_below}
 use Rattle.opt_solvers.proofs.DeadKeeping.{argument_there, around_definer_number, user_number}
-
-there_is : {X : Type 0} (xs : List X) (i : ℕ) → i < length xs → (x : X) × (slice_get xs i ≡ Some x)
-there_is [] i h = absurd (omega (arith, h))
-there_is (x ∷ xs) zero h = (x, refl)
-there_is (x ∷ xs) (suc i) h = there_is xs i (omega (arith, h))
 
 held_zero : (b : Bool) → held b ≡ 0 → b ≡ true
 held_zero true e = refl
@@ -47,7 +43,7 @@ module _ (p : DeadProblem) where
 
   -- there is such an item
   abbrev pub IsItem : Item → Type 0
-  IsItem (Whole a) = a < length p.operations.items
+  IsItem (Whole a) = a < length p.operations
   IsItem (Slot v) = v < length p.arguments.items
 
   pub item_within : (x : Item) → IsItem x → number x < items p
@@ -56,16 +52,16 @@ module _ (p : DeadProblem) where
 
   -- what may go is an item without a first use, and the other way round
   pub may_item : (x : Item) → May p x → IsItem x
-  may_item (Whole a) (c, e, m) = slice_get_within p.operations.items a c e
+  may_item (Whole a) (c, e, m) = slice_get_within p.operations a c e
   may_item (Slot v) (c, e, m) = slice_get_within p.arguments.items v c e
 
   pub may_unused : (x : Item) → May p x → get_or (first_uses p) (number x) 0 ≡ 0
-  may_unused (Whole a) (c, e, m) = first_operation p.operations.items p.arguments.items a c e ∙ ap held m
-  may_unused (Slot v) (c, e, m) = first_argument p.operations.items p.arguments.items v (slot p v) c refl e ∙ ap held m
+  may_unused (Whole a) (c, e, m) = first_operation p.operations p.arguments.items a c e ∙ ap held m
+  may_unused (Slot v) (c, e, m) = first_argument p.operations p.arguments.items v (slot p v) c refl e ∙ ap held m
 
   pub unused_may : (x : Item) → IsItem x → get_or (first_uses p) (number x) 0 ≡ 0 → May p x
-  unused_may (Whole a) h z = let c = there_is p.operations.items a h in (c.0, c.1, held_zero c.0.may_go (sym (first_operation p.operations.items p.arguments.items a c.0 c.1) ∙ z))
-  unused_may (Slot v) h z = let c = there_is p.arguments.items v h in (c.0, c.1, held_zero c.0.may_go (sym (first_argument p.operations.items p.arguments.items v (slot p v) c.0 refl c.1) ∙ z))
+  unused_may (Whole a) h z = let c = there_is p.operations a h in (c.0, c.1, held_zero c.0.may_go (sym (first_operation p.operations p.arguments.items a c.0 c.1) ∙ z))
+  unused_may (Slot v) h z = let c = there_is p.arguments.items v h in (c.0, c.1, held_zero c.0.may_go (sym (first_argument p.operations p.arguments.items v (slot p v) c.0 refl c.1) ∙ z))
 
   below_around : (a i : ℕ) → IsBelow p a i → IsAround p (around_operation p i) a
   below_around a i b = (b.parent, ap around_of b.there ∙ b.around, b.inside)
@@ -92,7 +88,7 @@ module _ (p : DeadProblem) where
   makes_keeps (Whole a) d m = ⊎_elim (λ e. inl (ap (maker p) e)) (λ n. inr (inner_around a d n, (λ (j, e, r). none-some j e))) m
   makes_keeps (Slot v) d m = inl (ap (maker p) m)
 
-  made_whole : (a : ℕ) (d : Definer) → a < length p.operations.items → maker p d ≡ Some a → d ≡ Result a
+  made_whole : (a : ℕ) (d : Definer) → a < length p.operations → maker p d ≡ Some a → d ≡ Result a
   made_whole a (Result b) h m = ap Result (same_Some b a m)
   made_whole a (ByArgument v) h m = absurd (let s = same_Some (slot p v) a m in omega (arith, s, h))
   made_whole a Outside h m = absurd (none-some a m)
@@ -125,9 +121,9 @@ module _ (p : DeadProblem) where
     keeps_makes (Whole a) d h k c = ⊎_elim (λ m. inl (made_whole a d h m)) (λ (n, f). inr (around_inner a d n)) c
     keeps_makes (Slot v) d h k c = ⊎_elim (λ m. made_slot v d k m) (λ (n, f). absurd (not_slot v d k n)) c
 
-    in_number : (a x : ℕ) → IsIn p a x → a < length p.operations.items → x < length p.operations.items
+    in_number : (a x : ℕ) → IsIn p a x → a < length p.operations → x < length p.operations
     in_number a x itself h = h
-    in_number a x (further _ j c e q r) h = slice_get_within p.operations.items x c e
+    in_number a x (further _ j c e q r) h = slice_get_within p.operations x c e
 
     -- what excuses a place is its user or the argument that it is forwarded to
     pub excused_by : (q : Place) (x : ℕ) → IsPlace p q → Excuses p q x → IsGone x → IsExcusedPlace q

@@ -7,7 +7,7 @@ use Rattle.std.proofs.lemmas.Option.{slice_get_read, get_or_from_slice_get}
 use Rattle.digraph.specs.Counts.{one, count_of}
 use Rattle.opt_solvers.specs.Rows.{row_at}
 use Rattle.digraph.proofs.Counting.{count-append, same_numbers}
-use Rattle.opt_solvers.specs.declared.dead_problem.Candidate.{Candidate}
+use Rattle.opt_solvers.specs.DeadCandidates.{Candidate}
 use Rattle.opt_solvers.specs.declared.dead_problem.Argument.{Argument}
 use Rattle.opt_solvers.specs.declared.dead_problem.DeadProblem.{DeadProblem}
 use Rattle.opt_solvers.specs.DeadUses.{held, held_operation, held_argument, first_uses, kept_by, CountsItems}
@@ -87,4 +87,4 @@ first_most (c ∷ cs) vs zero = held_most c.may_go
 first_most (c ∷ cs) vs (suc x) = first_most cs vs x
 
 pub uses_fit : (p : DeadProblem) (limit : ℕ) (rows : List (List ℕ)) → length rows + 1 < limit → ((k x : ℕ) → count_of x (row_at rows k) ≤ 1) → (x : ℕ) → get_or (first_uses p) x 0 + kept_by rows x < limit
-uses_fit p limit rows h f x = let a = kept_most rows x (λ k. f k x) in let b = first_most p.operations.items p.arguments.items x in omega (arith, a, b, h)
+uses_fit p limit rows h f x = let a = kept_most rows x (λ k. f k x) in let b = first_most p.operations p.arguments.items x in omega (arith, a, b, h)

@@ -6,10 +6,10 @@ use Rattle.std.proofs.lemmas.List.Elements.{Contains-push, Contains-append_left,
 use Rattle.std.proofs.lemmas.Option.{same_Some, none-some}
 use Rattle.digraph.specs.Counts.{one, count_of}
 use Rattle.digraph.proofs.Counting.{count-append, contained, same_numbers}
-use Rattle.opt_solvers.specs.declared.dead_problem.Candidate.{Candidate}
+use Rattle.opt_solvers.specs.DeadCandidates.{Candidate, around_of}
 use Rattle.opt_solvers.specs.declared.dead_problem.DeadProblem.{DeadProblem}
 use Rattle.opt_solvers.specs.Dead.{IsIn, itself, further, IsDeadProblem}
-use Rattle.opt_solvers.specs.DeadPlaces.{around_of, around_operation, IsAround, IsBetween, IsNumber, GoesOut, IsBehind, Crosses}
+use Rattle.opt_solvers.specs.DeadPlaces.{around_operation, IsAround, IsBetween, IsNumber, GoesOut, IsBehind, Crosses}
 
 pub some_or_none : (n : ℕ) → (1 ≤ n) ⊎ (n ≡ 0)
 some_or_none zero = inr refl
@@ -30,10 +30,10 @@ some_is (Some j) at e = eq-eqb j at (same_Some j at e)
 
 module _ (p : DeadProblem) where
   -- the operation that is directly around another stands in the table
-  pub around_there : (i j : ℕ) → around_operation p i ≡ Some j → (c : Candidate) × (slice_get p.operations.items i ≡ Some c) × (c.around ≡ Some j)
-  around_there i j e = go (slice_get p.operations.items i) refl e
+  pub around_there : (i j : ℕ) → around_operation p i ≡ Some j → (c : Candidate) × (slice_get p.operations i ≡ Some c) × (c.around ≡ Some j)
+  around_there i j e = go (slice_get p.operations i) refl e
     where
-      go : (o : Option Candidate) → slice_get p.operations.items i ≡ o → around_of o ≡ Some j → (c : Candidate) × (slice_get p.operations.items i ≡ Some c) × (c.around ≡ Some j)
+      go : (o : Option Candidate) → slice_get p.operations i ≡ o → around_of o ≡ Some j → (c : Candidate) × (slice_get p.operations i ≡ Some c) × (c.around ≡ Some j)
       go None q e = absurd (none-some j e)
       go (Some c) q e = (c, q, e)
 
@@ -79,7 +79,7 @@ module _ (p : DeadProblem) where
         go None q = omega arith
         go (Some j) q = let l = around_below at j (sym q) in omega (arith, l)
 
-    pub around_number : (i : ℕ) → i < length p.operations.items → IsNumber p (around_operation p i)
+    pub around_number : (i : ℕ) → i < length p.operations → IsNumber p (around_operation p i)
     around_number i h j e = let l = around_below i j e in omega (arith, h, l)
 
     pub going_begins : (from : Option ℕ) (limit : ℕ) → IsNumber p from → IsGoingOut from limit from

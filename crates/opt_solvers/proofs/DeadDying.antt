@@ -16,7 +16,8 @@ use Rattle.opt_solvers.specs.declared.dead_problem.DeadProblem.{DeadProblem}
 use Rattle.opt_solvers.specs.declared.dead_problem.DeadItems.{DeadItems}
 use Rattle.opt_solvers.specs.declared.dead_places.Place.{Place}
 use Rattle.opt_solvers.specs.Dead.{Item, Whole, Slot, IsIn, itself, further, IsDead, dies, IsExcused, by_operation, by_argument, IsDeadProblem}
-use Rattle.opt_solvers.specs.DeadPlaces.{operand_place, kept_place, IsPlace, around_of, around_operation, slot, items, Keeps, AreKept}
+use Rattle.opt_solvers.specs.DeadCandidates.{around_of}
+use Rattle.opt_solvers.specs.DeadPlaces.{operand_place, kept_place, IsPlace, around_operation, slot, items, Keeps, AreKept}
 use Rattle.opt_solvers.specs.DeadRows.{slot_of, Excuses, AreExcused, AreInner}
 use Rattle.opt_solvers.specs.Rows.{row_at}
 use Rattle.opt_solvers.specs.DeadUses.{held_operation, held_argument, first_uses, kept_by, CountsItems}
@@ -116,10 +117,10 @@ module _ (p : DeadProblem) (places : List Place) (keeps excuses : List (List ℕ
     unused_goes excused uses x s h z = ⊎_elim
         (λ l. inl (x, itself, unused_dies excused uses (Whole x) s l z))
         (λ (v, e). inr (v, e, unused_dies excused uses (Slot v) s (omega (arith, e, h)) (ap (λ n. get_or uses n 0) (sym e) ∙ z)))
-        (below_or_at (length p.operations.items) x)
+        (below_or_at (length p.operations) x)
 
     first_len : length (first_uses p) ≡ items p
-    first_len = let a = length-append (map held_operation p.operations.items) (map held_argument p.arguments.items) in let b = length-map p.operations.items held_operation in let c = length-map p.arguments.items held_argument in omega (arith, a, b, c)
+    first_len = let a = length-append (map held_operation p.operations) (map held_argument p.arguments.items) in let b = length-map p.operations held_operation in let c = length-map p.arguments.items held_argument in omega (arith, a, b, c)
 
     rows_within : (k x : ℕ) → Contains (row_at keeps k) x → x < items p
     rows_within k x c = let r = row_of k x c in (tables.kept.row k r.0 r.1).within x c
@@ -169,7 +170,7 @@ module _ (p : DeadProblem) (places : List Place) (keeps excuses : List (List ℕ
     places_within x xs e i d h = let r = (tables.excused.exact x (get_or xs i d)).0 (subst (λ ys. Contains ys (get_or xs i d)) (sym e) (Contains-get_or xs i d h)) in let w = slice_get_within places (get_or xs i d) r.0 r.1 in let l = tables.kept.len in omega (arith, w, l)
 
     pub inside_within : (x : ℕ) (xs : List ℕ) (n : ℕ) → successors inner x ≡ xs → n ≡ items p → (i : ℕ) (d : ℕ) → i < length xs → get_or xs i d < n
-    inside_within x xs n e l i d h = let r = around_there p (get_or xs i d) x ((tables.nested.exact x (get_or xs i d)).0 (subst (λ ys. Contains ys (get_or xs i d)) (sym e) (Contains-get_or xs i d h))) in let w = slice_get_within p.operations.items (get_or xs i d) r.0 r.1 in omega (arith, w, l)
+    inside_within x xs n e l i d h = let r = around_there p (get_or xs i d) x ((tables.nested.exact x (get_or xs i d)).0 (subst (λ ys. Contains ys (get_or xs i d)) (sym e) (Contains-get_or xs i d h))) in let w = slice_get_within p.operations (get_or xs i d) r.0 r.1 in omega (arith, w, l)
 
     -- one gone item is dealt with
     pub dying_goes_on : (excused more : List Bool) (uses new : List ℕ) (t u v w : Worklist) (x : ℕ) → IsDying excused uses t → Takes t u x → u.marked ≡ t.marked → ExcusesAll keeps (row_at excuses x) excused more uses new u v → Adds v w (successors inner x) → IsDying more new w
@@ -223,7 +224,7 @@ module _ (p : DeadProblem) (places : List Place) (keeps excuses : List (List ℕ
 
         inside : (y : ℕ) → around_operation p y ≡ Some x → IsGone p x → IsGone p y
         inside y q (inl (d, r, z)) = inl (d, in_more p d y x q r, z)
-        inside y q (inr (d, r, z)) = absurd (let c = around_there p y x q in let l = around_number p ok y (slice_get_within p.operations.items y c.0 c.1) x q in omega (arith, l, r))
+        inside y q (inr (d, r, z)) = absurd (let c = around_there p y x q in let l = around_number p ok y (slice_get_within p.operations y c.0 c.1) x q in omega (arith, l, r))
 
     module _ (excused : List Bool) (uses : List ℕ) (work : Worklist) (s : IsDying excused uses work) (done : IsDone work) where
       settled : (x : ℕ) → Has work x → IsSettled excused work x
@@ -266,11 +267,11 @@ mark_zero [] a = ((λ e. absurd (none-some true e)), (λ (h, z). absurd (omega (
 mark_zero (x ∷ xs) zero = ((λ e. (omega arith, same_numbers x 0 (same_Some (nat_eq x 0) true e))), (λ (h, z). ap Some (eq-eqb x 0 z)))
 mark_zero (x ∷ xs) (suc a) = ((λ e. let r = (mark_zero xs a).0 e in (let h = r.0 in omega (arith, h), r.1)), (λ (h, z). (mark_zero xs a).1 (omega (arith, h), z)))
 
-module _ (p : DeadProblem) (n : ℕ) (uses : List ℕ) (dead : DeadItems) (e : n ≡ length p.operations.items) (l : length uses ≡ items p) (f : (x : Item) → IsItem p x → (get_or uses (number p x) 0 ≡ 0) ↔ IsDead p x) (m : AreMarked n uses dead) where
+module _ (p : DeadProblem) (n : ℕ) (uses : List ℕ) (dead : DeadItems) (e : n ≡ length p.operations) (l : length uses ≡ items p) (f : (x : Item) → IsItem p x → (get_or uses (number p x) 0 ≡ 0) ↔ IsDead p x) (m : AreMarked n uses dead) where
   operations_taken : length (take n uses) ≡ n
   operations_taken = let t = length-take n uses in grind (arith, t)
 
-  operations_len : length dead.operations.items ≡ length p.operations.items
+  operations_len : length dead.operations.items ≡ length p.operations
   operations_len = let a = ap length m.operations_are in let b = length-map (take n uses) (λ k. nat_eq k 0) in let c = operations_taken in omega (arith, a, b, c, e)
 
   arguments_len : length dead.arguments.items ≡ length p.arguments.items

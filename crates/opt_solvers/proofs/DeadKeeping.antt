@@ -1,7 +1,7 @@
 -- The items that a place keeps.
-use Rattle.std.proofs.Common.{◌≡◌, inl, inr, ⊎_elim, ℕ, ◌+◌, ◌<◌, ◌≤◌, List, [], ◌∷◌, ◌++◌, Option, None, Some, length, get_or, refl, sym, ap, ◌∙◌, subst, arith}
+use Rattle.std.proofs.Common.{◌≡◌, inl, inr, ⊎_elim, ℕ, ◌+◌, ◌<◌, ◌≤◌, List, [], ◌∷◌, ◌++◌, Option, None, Some, length, refl, sym, ap, ◌∙◌, subst, arith}
 use Rattle.std.specs.Prelude.{Contains, slice_get, option_to_list, ◌↔◌}
-use Rattle.std.proofs.lemmas.Option.{same_Some, none-some, slice_get_within, slice_get_read}
+use Rattle.std.proofs.lemmas.Option.{same_Some, none-some, slice_get_within}
 use Rattle.std.proofs.lemmas.List.{length-append}
 use Rattle.digraph.specs.Counts.{count_of}
 use Rattle.opt_solvers.specs.Rows.{row_at, listed}
@@ -9,12 +9,11 @@ use Rattle.digraph.proofs.Counting.{one_bound}
 use Rattle.digraph.proofs.Marking.{only_one}
 use Rattle.opt_solvers.specs.declared.dead_problem.Definer.{Definer}
 use Rattle.opt_solvers.specs.declared.dead_problem.Definer.TheVariants.{Result, Argument as ByArgument, Outside}
-use Rattle.opt_solvers.specs.declared.dead_problem.Candidate.{Candidate}
 use Rattle.opt_solvers.specs.declared.dead_problem.Argument.{Argument}
 use Rattle.opt_solvers.specs.declared.dead_problem.DeadProblem.{DeadProblem}
 use Rattle.opt_solvers.specs.declared.dead_places.Place.{Place}
 use Rattle.opt_solvers.specs.Dead.{IsDeadProblem}
-use Rattle.opt_solvers.specs.DeadPlaces.{IsPlace, around_of, around_of_argument, around_operation, around_argument, around_definer, around_user, slot, items, maker, Keeps, KeepsRow, AreKept, IsNumber, IsKnown, IsBehind, Crosses}
+use Rattle.opt_solvers.specs.DeadPlaces.{IsPlace, around_of_argument, around_argument, around_definer, around_user, slot, items, maker, Keeps, KeepsRow, AreKept, IsNumber, IsKnown, IsBehind, Crosses}
 use Rattle.opt_solvers.proofs.DeadCrossing.{around_below, around_number, in_below}
 use Rattle.opt_solvers.proofs.DeadLists.{none_in}
 use Rattle.opt_solvers.proofs.ChainsJoining.{get_pushed}
@@ -32,9 +31,6 @@ list_once (Some y) x = grind (arith, one_bound)
 
 module _ (p : DeadProblem) where
   -- what stands at an operation says what it is in
-  pub around_read : (i : ℕ) (c : Candidate) → i < length p.operations.items → c ≡ get_or p.operations.items i c → c.around ≡ around_operation p i
-  around_read i c h e = sym (ap around_of (slice_get_read p.operations.items (length p.operations.items) i c refl h e))
-
   pub argument_there : (v j : ℕ) → around_argument p v ≡ Some j → (c : Argument) × (slice_get p.arguments.items v ≡ Some c) × (c.around ≡ Some j)
   argument_there v j e = go (slice_get p.arguments.items v) refl e
     where
@@ -53,7 +49,7 @@ module _ (p : DeadProblem) where
 
     pub user_number : (q : Place) → IsPlace p q → IsNumber p q.user
     user_number q h j e = ⊎_elim
-        (λ r. let l = slice_get_within p.operations.items r.0 r.2.candidate r.2.there in let s = same_Some r.0 j (sym r.1 ∙ e) in omega (arith, l, s))
+        (λ r. let l = slice_get_within p.operations r.0 r.2.candidate r.2.there in let s = same_Some r.0 j (sym r.1 ∙ e) in omega (arith, l, s))
         (λ r. absurd (none-some j (sym r.0 ∙ e)))
         h
 

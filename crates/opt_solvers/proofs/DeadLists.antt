@@ -4,6 +4,12 @@ use Rattle.std.specs.Prelude.{Contains, map, slice_get, ◌↔◌}
 use Rattle.std.proofs.lemmas.Option.{same_Some, none-some}
 use Rattle.std.proofs.lemmas.List.Elements.{Contains-append_left, Contains-append_right, Contains-append_cases, Contains-push, Contains-push_cases}
 
+-- what is at an index within a list
+pub there_is : {X : Type 0} (xs : List X) (i : ℕ) → i < length xs → (x : X) × (slice_get xs i ≡ Some x)
+there_is [] i h = absurd (omega (arith, h))
+there_is (x ∷ xs) zero h = (x, refl)
+there_is (x ∷ xs) (suc i) h = there_is xs i (omega (arith, h))
+
 pub none_in : {X : Type 0} (x : X) → Contains [] x → ⊥
 none_in x h = absurd (omega (arith, h.1))
 

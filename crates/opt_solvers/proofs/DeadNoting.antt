@@ -69,8 +69,8 @@ module _ (p : DeadProblem) where
   pub inside_row : (k : ℕ) (around : Option ℕ) → around ≡ around_operation p k → (x : ℕ) → Contains (option_to_list around) x ↔ FromInside k x
   inside_row k around e x = ((λ c. sym e ∙ in_list around x c), (λ q. list_in around x (e ∙ q)))
 
-  pub inside_below : (k : ℕ) → k ≡ length p.operations.items → (i x : ℕ) → FromInside i x → i < k
-  inside_below k e i x q = let c = around_there p i x q in let h = slice_get_within p.operations.items i c.0 c.1 in omega (arith, h, e)
+  pub inside_below : (k : ℕ) → k ≡ length p.operations → (i x : ℕ) → FromInside i x → i < k
+  inside_below k e i x q = let c = around_there p i x q in let h = slice_get_within p.operations i c.0 c.1 in omega (arith, h, e)
 
   module _ (ok : IsDeadProblem p) where
     -- the rows that are noted in are there
@@ -80,16 +80,16 @@ module _ (p : DeadProblem) where
     pub forward_within : (q : Place) (rows : List (Vec ℕ Global)) → IsPlace p q → length rows ≡ length p.arguments.items → (v : ℕ) → q.operand.argument ≡ Some v → v < length rows
     forward_within q rows h l v e = let n = argument_within q h v e in omega (arith, n, l)
 
-    pub around_within : (k : ℕ) (rows : List (Vec ℕ Global)) (o : Option ℕ) → k < length p.operations.items → length rows ≡ length p.operations.items → o ≡ around_operation p k → (r : ℕ) → o ≡ Some r → r < length rows
+    pub around_within : (k : ℕ) (rows : List (Vec ℕ Global)) (o : Option ℕ) → k < length p.operations → length rows ≡ length p.operations → o ≡ around_operation p k → (r : ℕ) → o ≡ Some r → r < length rows
     around_within k rows o h l e r t = let b = around_below p ok k r (sym e ∙ t) in omega (arith, b, h, l)
 
     -- the rows of operations, with those of arguments behind them, are of what items excuse
-    pub excused_joined : (places : List Place) (rows : List (List ℕ)) (forwarded : List (Vec ℕ Global)) → ((q : Place) → Contains places q → IsPlace p q) → AreByUser places (length p.operations.items) rows → AreForwarded p places forwarded
+    pub excused_joined : (places : List Place) (rows : List (List ℕ)) (forwarded : List (Vec ℕ Global)) → ((q : Place) → Contains places q → IsPlace p q) → AreByUser places (length p.operations) rows → AreForwarded p places forwarded
         → AreExcused p places (rows ++ map (λ row. row.items) forwarded)
     excused_joined places rows forwarded sound b f = record {
       len = let l = length-append rows more in let m = length-map forwarded items_of in let n = b.len in let o = f.len in omega (arith, l, m, n, o);
       exact = λ x k. ⊎_elim
-          (λ h. let l : x < length p.operations.items = (let n = b.len in omega (arith, h, n)) in let e = ap listed (get_front rows more x h) in (
+          (λ h. let l : x < length p.operations = (let n = b.len in omega (arith, h, n)) in let e = ap listed (get_front rows more x h) in (
             (λ c. let r = (b.exact x k l).0 (subst (λ xs. Contains xs k) e c) in (r.0, r.1, inl r.2)),
             (λ (q, t, m). subst (λ xs. Contains xs k) (sym e) ((b.exact x k l).1 (q, t, ⊎_elim (λ u. u) (λ u. absurd (let s = slot_past q.operand.argument x u in let w = s.2 in omega (arith, l, w))) m))),
           ))
@@ -118,6 +118,6 @@ module _ (p : DeadProblem) where
         mapped_row (r ∷ rs) zero = refl
         mapped_row (r ∷ rs) (suc v) = mapped_row rs v
 
-        slot_past : (o : Option ℕ) (x : ℕ) → slot_of p o ≡ Some x → (v : ℕ) × (o ≡ Some v) × (x ≡ length p.operations.items + v)
+        slot_past : (o : Option ℕ) (x : ℕ) → slot_of p o ≡ Some x → (v : ℕ) × (o ≡ Some v) × (x ≡ length p.operations + v)
         slot_past None x e = absurd (none-some x e)
         slot_past (Some v) x e = (v, refl, sym (same_Some (slot p v) x e))

@@ -7,13 +7,13 @@ use Rattle.std.proofs.lemmas.List.{length-append}
 use Rattle.opt_solvers.specs.declared.dead_problem.Definer.{Definer}
 use Rattle.opt_solvers.specs.declared.dead_problem.Definer.TheVariants.{Result}
 use Rattle.opt_solvers.specs.declared.dead_problem.Operand.{Operand}
-use Rattle.opt_solvers.specs.declared.dead_problem.Candidate.{Candidate}
+use Rattle.opt_solvers.specs.DeadCandidates.{Candidate, operands_of}
 use Rattle.opt_solvers.specs.declared.dead_problem.DeadProblem.{DeadProblem}
 use Rattle.opt_solvers.specs.declared.dead_places.Place.{Place}
 use Rattle.opt_solvers.specs.Dead.{HasOperand}
 use Rattle.opt_solvers.specs.DeadPlaces.{operand_place, kept_place, IsPlace, AreByUser}
 use Rattle.opt_solvers.specs.Rows.{row_at, listed}
-use Rattle.opt_solvers.proofs.DeadLists.{none_in, map_from, map_into, get_front, old_or_new}
+use Rattle.opt_solvers.proofs.DeadLists.{there_is, none_in, map_from, map_into, get_front, old_or_new}
 use Rattle.opt_solvers.proofs.ChainsJoining.{get_pushed}
 
 -- what is read of a list of places past its end
@@ -38,8 +38,8 @@ module _ (p : DeadProblem) where
     all = λ i o h. absurd (omega (arith, h));
   }
 
-  pub placing_goes_on : (k : ℕ) (places new : List Place) (c : Candidate) (operands : List Operand) → slice_get p.operations.items k ≡ Some c → operands ≡ c.operands.items → new ≡ places ++ map (operand_place k) operands → ArePlaced k places → ArePlaced (k + 1) new
-  placing_goes_on k places new c operands s o e a = record {
+  placing_step : (k : ℕ) (places new : List Place) (c : Candidate) (operands : List Operand) → slice_get p.operations k ≡ Some c → operands ≡ c.operands → new ≡ places ++ map (operand_place k) operands → ArePlaced k places → ArePlaced (k + 1) new
+  placing_step k places new c operands s o e a = record {
     sound = λ q h. ⊎_elim
         (λ l. let r = a.sound q l in (r.0, omega (arith, r.1), r.2, r.3))
         (λ l. let r = map_from (operand_place k) operands q l in (
@@ -59,9 +59,12 @@ module _ (p : DeadProblem) where
       below_or i h = grind arith
 
       mine : (i : ℕ) (x : Operand) → i ≡ k → HasOperand p i x → Contains operands x
-      mine i x q u = subst (λ xs. Contains xs x) (sym o) (subst (λ (d : Candidate). Contains d.operands.items x) (same_Some u.candidate c (sym u.there ∙ ap (slice_get p.operations.items) q ∙ s)) u.operand)
+      mine i x q u = subst (λ xs. Contains xs x) (sym o) (subst (λ (d : Candidate). Contains d.operands x) (same_Some u.candidate c (sym u.there ∙ ap (slice_get p.operations) q ∙ s)) u.operand)
 
-  pub placing_ends : (k : ℕ) (places new : List Place) (kept : List Definer) → k ≡ length p.operations.items → kept ≡ p.kept.items → new ≡ places ++ map kept_place kept → ArePlaced k places → (q : Place) → Contains new q ↔ IsPlace p q
+  pub placing_goes_on : (k : ℕ) (places new : List Place) (operands : List Operand) → k < length p.operations → operands ≡ operands_of (slice_get p.operations k) → new ≡ places ++ map (operand_place k) operands → ArePlaced k places → ArePlaced (k + 1) new
+  placing_goes_on k places new operands h o e a = let c = there_is p.operations k h in placing_step k places new c.0 operands c.1 (o ∙ ap operands_of c.1) e a
+
+  pub placing_ends : (k : ℕ) (places new : List Place) (kept : List Definer) → k ≡ length p.operations → kept ≡ p.kept.items → new ≡ places ++ map kept_place kept → ArePlaced k places → (q : Place) → Contains new q ↔ IsPlace p q
   placing_ends k places new kept l o e a q = (
     (λ h. ⊎_elim
         (λ c. let r = a.sound q c in inl (r.0, r.2, r.3))
@@ -72,7 +75,7 @@ module _ (p : DeadProblem) where
         ))
         (Contains-append_cases places (map kept_place kept) q (subst (λ xs. Contains xs q) e h))),
     (λ i. subst (λ xs. Contains xs q) (sym e) (⊎_elim
-        (λ r. Contains-append_left places (map kept_place kept) q (subst (Contains places) (sym (same_operand q r.0 r.1)) (a.all r.0 q.operand (let h = slice_get_within p.operations.items r.0 r.2.candidate r.2.there in omega (arith, h, l)) r.2)))
+        (λ r. Contains-append_left places (map kept_place kept) q (subst (Contains places) (sym (same_operand q r.0 r.1)) (a.all r.0 q.operand (let h = slice_get_within p.operations r.0 r.2.candidate r.2.there in omega (arith, h, l)) r.2)))
         (λ r. Contains-append_right places (map kept_place kept) q (subst (Contains (map kept_place kept)) (sym (same_kept q r.0 r.1)) (map_into kept_place kept q.operand.definer (subst (λ xs. Contains xs q.operand.definer) (sym o) r.2))))
         i)),
   )

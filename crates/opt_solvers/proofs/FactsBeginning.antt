@@ -1,25 +1,26 @@
 -- What a solver begins with, and that there is one solution.
-use Rattle.std.proofs.Common.{zero, ◌≡◌, inl, inr, ⊎_elim, ℕ, suc, ◌+◌, ◌<◌, List, [], ◌∷◌, ◌++◌, Option, Some, None, Bool, true, false, length, get_or, map, take, replicate, refl, sym, ap, ◌∙◌, subst, arith}
-use Rattle.std.specs.Prelude.{Contains, slice_get, unwrap_or, option_map}
+use Rattle.std.proofs.Common.{zero, ◌≡◌, inl, inr, ⊎_elim, ℕ, suc, List, [], ◌∷◌, Option, Some, None, Bool, true, false, length, map, replicate, refl, sym, ap, ◌∙◌, subst, arith}
+use Rattle.std.specs.Prelude.{Contains, slice_get, option_map}
 use Rattle.std.specs.declared.vec.Vec.{Vec}
 use Rattle.std.specs.declared.alloc.Global.{Global}
-use Rattle.std.proofs.lemmas.Option.{slice_get_within, none-some, same_Some, slice_get-map}
-use Rattle.std.proofs.lemmas.List.{length-append, length-map, length-replicate}
+use Rattle.std.proofs.lemmas.Option.{none-some, same_Some, slice_get-map}
+use Rattle.std.proofs.lemmas.List.{length-map, length-replicate}
 use Rattle.opt_solvers.specs.declared.known.Known.{Known}
 use Rattle.opt_solvers.specs.declared.known.Known.TheVariants.{Undetermined, One, Any}
-use Rattle.opt_solvers.specs.declared.facts_problem.Row.{Row}
+use Rattle.opt_solvers.specs.OperationRows.{Row}
 use Rattle.opt_solvers.specs.declared.facts_problem.FactsProblem.{FactsProblem}
-use Rattle.opt_solvers.specs.Rows.{listed}
+use Rattle.opt_solvers.specs.Rows.{listed, row_at}
 use Rattle.opt_solvers.specs.FactsSeen.{unseen}
+use Rattle.opt_solvers.specs.FactsTaken.{untaken}
 use Rattle.opt_solvers.specs.declared.facts_found.Found.{Found}
 use Rattle.opt_solvers.specs.declared.facts_solver.Solver.{Solver}
 use Rattle.opt_solvers.specs.Known.{AtOrBelow, AllAny}
 use Rattle.opt_solvers.specs.Facts.{Answers, NumberedFacts, Enters, IsMostPrecise}
 use Rattle.opt_solvers.specs.FactsFound.{facts_of, Meets, IsNothing}
-use Rattle.opt_solvers.specs.FactsSolving.{seen_of, IsTaken, IsSolving, IsWaiting, AreUnseen, AreUntaken, Begins}
+use Rattle.opt_solvers.specs.FactsSolving.{seen_of, IsTaken, IsSolving, IsWaiting, Begins}
 use Rattle.opt_solvers.proofs.FactsFalling.{at_top}
-use Rattle.opt_solvers.proofs.FactsEntering.{next_of, enters_stays}
-use Rattle.opt_solvers.proofs.FactsTabling.{contains_get, get_push_last, get_push_cases}
+use Rattle.opt_solvers.proofs.FactsEntering.{enters_stays}
+use Rattle.opt_solvers.proofs.FactsTabling.{contains_get}
 
 get_replicate : {X : Type 0} (n i : ℕ) (x y : X) → slice_get (replicate n x) i ≡ Some y → y ≡ x
 get_replicate zero i x y e = absurd (none-some y e)
@@ -31,29 +32,11 @@ true_both true b f g = sym (f refl)
 true_both false true f g = g refl
 true_both false false f g = refl
 
-get_push_before : {X : Type 0} (xs : List X) (y : X) (i : ℕ) → i < length xs → slice_get (xs ++ y ∷ []) i ≡ slice_get xs i
-get_push_before [] y i h = absurd (omega arith)
-get_push_before (x ∷ xs) y zero h = refl
-get_push_before (x ∷ xs) y (suc i) h = get_push_before xs y i (omega arith)
+unseen_at : {A : Type 0} (rows : List Row) (i : ℕ) (r : Row) → slice_get rows i ≡ Some r → seen_of {A = A} (map unseen rows) i ≡ unseen r
+unseen_at rows i r e = ap listed (slice_get-map unseen rows i ∙ ap (option_map unseen) e)
 
--- one more row of a table whose rows are known
-pushed_each : {X Y R : Type 0} (f : X → List Y) (want : R → List Y) (rs : List R) (xs : List X) (r : R) (x : X) → length xs ≡ length rs → ((i : ℕ) (q : R) → slice_get rs i ≡ Some q → unwrap_or (option_map f (slice_get xs i)) [] ≡ want q) → f x ≡ want r → (i : ℕ) (q : R) → slice_get (rs ++ r ∷ []) i ≡ Some q → unwrap_or (option_map f (slice_get (xs ++ x ∷ []) i)) [] ≡ want q
-pushed_each f want rs xs r x l h e i q t = ⊎_elim
-    (λ s. ap (λ o. unwrap_or (option_map f o) []) (get_push_before xs x i (let k = slice_get_within rs i q s in omega (arith, k, l))) ∙ h i q s)
-    (λ s. ap (λ o. unwrap_or (option_map f o) []) (ap (slice_get (xs ++ x ∷ [])) (s.0 ∙ sym l) ∙ get_push_last xs x) ∙ (e ∙ ap want s.1))
-    (get_push_cases rs r q i t)
-
-pub unseen_all : {A : Type 0} (rows : List Row) → AreUnseen {A = A} rows (map unseen rows)
-unseen_all rows = record { len = length-map rows unseen; each = λ i r e. ap listed (slice_get-map unseen rows i ∙ ap (option_map unseen) e) }
-
-pub untaken_none : (rows : List Row) → AreUntaken (take 0 rows) []
-untaken_none rows = record { len = refl; each = λ i r e. absurd (none-some r e) }
-
-pub untaken_more : (rows : List Row) (n : ℕ) (r : Row) (ts us : List (Vec Bool Global)) (t : Vec Bool Global) → n < length rows → r ≡ get_or rows n r → us ≡ ts ++ t ∷ [] → t.items ≡ replicate (length r.edges.items) false → AreUntaken (take n rows) ts → AreUntaken (take (n + 1) rows) us
-untaken_more rows n r ts us t h e q k d = subst (λ xs. AreUntaken (take (n + 1) rows) xs) (sym q) (subst (λ rs. AreUntaken rs (ts ++ t ∷ [])) (sym (next_of rows n r h e)) (record {
-  len = let a = length-append ts (t ∷ []) in let b = length-append (take n rows) (r ∷ []) in omega (arith, a, b, d.len);
-  each = pushed_each (λ (x : Vec Bool Global). x.items) (λ (x : Row). replicate (length x.edges.items) false) (take n rows) ts r t d.len d.each k;
-}))
+untaken_at : (rows : List Row) (i : ℕ) (r : Row) → slice_get rows i ≡ Some r → row_at (map untaken rows) i ≡ untaken r
+untaken_at rows i r e = ap listed (slice_get-map untaken rows i ∙ ap (option_map untaken) e)
 
 module _ {A : Type 0} where
   all_any_from : (f : ℕ → Known A) (vs : List ℕ) → ((v : ℕ) → Contains vs v → f v ≡ Any) → AllAny f vs
@@ -66,8 +49,8 @@ module _ {A : Type 0} where
   all_any_at f (u ∷ vs) v h (suc i) e = all_any_at f vs v h.1 i e
 
   -- the entries were entered, and the values from outside given up
-  pub begun : (p : FactsProblem) (a b c : Found A) (blocks values : List ℕ) (seen : List (List (Known A))) (taken : Vec (Vec Bool Global) Global) (marks : Vec (Option ℕ) Global) → blocks ≡ p.entries.items → values ≡ p.outside.items → IsNothing a (length p.arguments.items) p.values → Meets (λ l. (n : ℕ) → Contains blocks n → Enters p l n) a b → Meets (λ l. AllAny l.of values) b c
-      → AreUnseen p.rows.items seen → AreUntaken p.rows.items taken.items → marks.items ≡ replicate (length p.arguments.items) None → Begins p (record { found = c; seen = seen; taken = taken; marks = marks })
+  pub begun : (p : FactsProblem) (a b c : Found A) (blocks values : List ℕ) (seen : List (List (Known A))) (taken : List (List Bool)) (marks : Vec (Option ℕ) Global) → blocks ≡ p.entries.items → values ≡ p.outside.items → IsNothing a (length p.arguments.items) p.values → Meets (λ l. (n : ℕ) → Contains blocks n → Enters p l n) a b → Meets (λ l. AllAny l.of values) b c
+      → seen ≡ map unseen p.rows → taken ≡ map untaken p.rows → marks.items ≡ replicate (length p.arguments.items) None → Begins p (record { found = c; seen = seen; taken = taken; marks = marks })
   begun p a b c blocks values seen taken marks x y n f g s t m = record {
     blocks_len = g.steps.blocks_len ∙ (f.steps.blocks_len ∙ n.blocks_len);
     values_len = g.steps.values_len ∙ (f.steps.values_len ∙ n.values_len);
@@ -91,21 +74,27 @@ module _ {A : Type 0} where
   }
 
   module _ (ask : Answers A) (p : FactsProblem) (s : Solver A) (b : Begins p s) where
-    nothing_taken : (i n : ℕ) (r : Row) → slice_get p.rows.items i ≡ Some r → IsTaken s.taken.items i n → ⊥
-    nothing_taken i n r a t = let e : true ≡ false = get_replicate (length r.edges.items) n false true (sym (ap (λ xs. slice_get xs n) (b.taken.each i r a)) ∙ t) in cc
+    edges_at : (i : ℕ) (r : Row) → slice_get p.rows i ≡ Some r → row_at s.taken i ≡ untaken r
+    edges_at i r a = ap (λ ts. row_at ts i) b.taken ∙ untaken_at p.rows i r a
 
-    nothing_seen : (i j : ℕ) (r : Row) (x : Known A) → slice_get p.rows.items i ≡ Some r → slice_get (seen_of s.seen i) j ≡ Some x → x ≡ Undetermined
-    nothing_seen i j r x a e = get_replicate (length r.operands.items) j Undetermined x (sym (ap (λ xs. slice_get xs j) (b.seen.each i r a)) ∙ e)
+    nothing_taken : (i n : ℕ) (r : Row) → slice_get p.rows i ≡ Some r → IsTaken s.taken i n → ⊥
+    nothing_taken i n r a t = let e : true ≡ false = get_replicate (length r.edges) n false true (sym (ap (λ xs. slice_get xs n) (edges_at i r a)) ∙ t) in cc
+
+    seen_at : (i : ℕ) (r : Row) → slice_get p.rows i ≡ Some r → seen_of s.seen i ≡ unseen r
+    seen_at i r a = ap (λ ss. seen_of ss i) b.seen ∙ unseen_at p.rows i r a
+
+    nothing_seen : (i j : ℕ) (r : Row) (x : Known A) → slice_get p.rows i ≡ Some r → slice_get (seen_of s.seen i) j ≡ Some x → x ≡ Undetermined
+    nothing_seen i j r x a e = get_replicate (length r.operands) j Undetermined x (sym (ap (λ xs. slice_get xs j) (seen_at i r a)) ∙ e)
 
     pub begins_solving : IsSolving ask p s []
     begins_solving = record {
       blocks_len = b.blocks_len;
       values_len = b.values_len;
       marks_len = ap length b.marks ∙ length-replicate (length p.arguments.items) None;
-      seen_len = b.seen.len;
-      taken_len = b.taken.len;
-      operands_len = λ i r a. ap length (b.seen.each i r a) ∙ length-replicate (length r.operands.items) Undetermined;
-      edges_len = λ i r a. ap length (b.taken.each i r a) ∙ length-replicate (length r.edges.items) false;
+      seen_len = ap length b.seen ∙ length-map p.rows unseen;
+      taken_len = ap length b.taken ∙ length-map p.rows untaken;
+      operands_len = λ i r a. ap length (seen_at i r a) ∙ length-replicate (length r.operands) Undetermined;
+      edges_len = λ i r a. ap length (edges_at i r a) ∙ length-replicate (length r.edges) false;
       best = λ l c. b.best l (record { entries = c.entries; outside = all_any_from l.of p.outside.items c.outside });
       marks_best = λ l c i r a n e q k. absurd (none-some i (sym (get_replicate (length p.arguments.items) e.target None (Some i) (sym (ap (λ ms. slice_get ms e.target) b.marks) ∙ k))));
       taken_best = λ l c i n r e a q t. absurd (nothing_taken i n r a t);

@@ -1,21 +1,22 @@
 -- What marking the targets of feasible edges and taking edges keeps.
-use Rattle.std.proofs.Common.{◌≡◌, ◌⊎◌, inl, inr, ⊎_elim, ℕ, ◌+◌, ◌<◌, List, [], Option, Some, None, Bool, true, false, length, get_or, take, refl, sym, ap, ◌∙◌, subst, arith, nat_eq, eq-eqb}
+use Rattle.std.proofs.Common.{◌≡◌, ◌⊎◌, inl, inr, ⊎_elim, ℕ, ◌+◌, ◌<◌, ◌≤◌, List, [], Option, Some, None, Bool, true, false, length, get_or, take, refl, sym, ap, ◌∙◌, subst, arith, nat_eq, eq-eqb}
 use Rattle.std.specs.Prelude.{Contains, slice_get, option_map}
 use Rattle.std.specs.Option.{option_eq}
 use Rattle.std.proofs.Math.ListN.{set}
-use Rattle.std.proofs.lemmas.Option.{slice_get_read, get_or_from_slice_get, slice_get_within, slice_get-map, none-some, same_Some}
+use Rattle.std.proofs.lemmas.Option.{slice_get_within, slice_get-map, none-some, same_Some}
 use Rattle.std.proofs.lemmas.List.{length-set}
 use Rattle.opt_solvers.specs.declared.known.Known.{Known}
-use Rattle.opt_solvers.specs.declared.facts_problem.Edge.{Edge}
-use Rattle.opt_solvers.specs.declared.facts_problem.Row.{Row}
+use Rattle.opt_solvers.specs.OperationRows.{Edge, Row, row_numbered, edge_numbered}
 use Rattle.opt_solvers.specs.declared.facts_problem.FactsProblem.{FactsProblem}
 use Rattle.opt_solvers.specs.declared.facts_found.Found.{Found}
 use Rattle.opt_solvers.specs.Known.{AtOrBelow}
-use Rattle.opt_solvers.specs.Facts.{Answers, NumberedFacts, arguments_of, picked, ForwardedBelow, EdgeClosed}
+use Rattle.opt_solvers.specs.Rows.{row_at}
+use Rattle.opt_solvers.specs.Facts.{Answers, IsProblem, NumberedFacts, arguments_of, picked, ForwardedBelow, EdgeClosed}
 use Rattle.opt_solvers.specs.FactsFound.{facts_of, Falls, Meets}
-use Rattle.opt_solvers.specs.FactsSolving.{Marks, ForwardsBelow, ForwardsLie, ForwardsAll, EdgeLies, TakesEdge, MarkedClosed, TakesMarked}
+use Rattle.opt_solvers.specs.FactsSolving.{IsTaken, Marks, ForwardsBelow, ForwardsLie, ForwardsAll, EdgeLies, TakesEdge, MarkedClosed, TakesMarked}
+use Rattle.opt_solvers.proofs.OperationLists.{row_contained, edge_contained}
 use Rattle.opt_solvers.proofs.FactsFalling.{decide, same_numbers, at_trans, falls_none, falls_then, falls_when, falls_as}
-use Rattle.opt_solvers.proofs.FactsTabling.{get-set_same, get-set_other, get_take, get_from_take, get_more_cases, get_more_left}
+use Rattle.opt_solvers.proofs.FactsTabling.{get-set_same, get-set_other, table-set_same, table-set_other, get_take, get_from_take, get_more_cases, get_more_left}
 
 module _ {A : Type 0} (ask : Answers A) (i : ℕ) (r : Row) (xs : List (Option A)) where
   pub marks_none : (old : List (Option ℕ)) → Marks ask i r xs 0 old old
@@ -27,12 +28,12 @@ module _ {A : Type 0} (ask : Answers A) (i : ℕ) (r : Row) (xs : List (Option A
   }
 
   -- the target of a feasible edge is marked
-  pub mark_more : (n : ℕ) (e : Edge) (old mid new : List (Option ℕ)) → slice_get r.edges.items n ≡ Some e → ask.feasible i xs n ≡ true → e.target < length mid → new ≡ set mid e.target (Some i) → Marks ask i r xs n old mid → Marks ask i r xs (n + 1) old new
+  pub mark_more : (n : ℕ) (e : Edge) (old mid new : List (Option ℕ)) → slice_get r.edges n ≡ Some e → ask.feasible i xs n ≡ true → e.target < length mid → new ≡ set mid e.target (Some i) → Marks ask i r xs n old mid → Marks ask i r xs (n + 1) old new
   mark_more n e old mid new q f h d m = record {
     len = ap length d ∙ (length-set mid e.target (Some i) ∙ m.len);
     keeps = λ b h. stays b (m.keeps b h);
     has = λ k u l s g. ⊎_elim
-        (λ t. subst (λ (y : Edge). slice_get new y.target ≡ Some (Some i)) (same_Some e u (sym q ∙ (ap (slice_get r.edges.items) (sym t) ∙ s))) here)
+        (λ t. subst (λ (y : Edge). slice_get new y.target ≡ Some (Some i)) (same_Some e u (sym q ∙ (ap (slice_get r.edges) (sym t) ∙ s))) here)
         (λ t. stays u.target (m.has k u (omega (arith, l, t)) s g))
         (decide k n);
     only = λ b j s. ⊎_elim
@@ -51,7 +52,7 @@ module _ {A : Type 0} (ask : Answers A) (i : ℕ) (r : Row) (xs : List (Option A
       stays b s = ⊎_elim (λ t. ap (slice_get new) t ∙ here) (λ t. other b t ∙ s) (decide b e.target)
 
   -- an edge that is not feasible
-  pub mark_same : (n : ℕ) (e : Edge) (old mid new : List (Option ℕ)) → slice_get r.edges.items n ≡ Some e → ask.feasible i xs n ≡ false → new ≡ mid → Marks ask i r xs n old mid → Marks ask i r xs (n + 1) old new
+  pub mark_same : (n : ℕ) (e : Edge) (old mid new : List (Option ℕ)) → slice_get r.edges n ≡ Some e → ask.feasible i xs n ≡ false → new ≡ mid → Marks ask i r xs n old mid → Marks ask i r xs (n + 1) old new
   mark_same n e old mid new q f d m = subst (Marks ask i r xs (n + 1) old) (sym d) (record {
     len = m.len;
     keeps = m.keeps;
@@ -62,12 +63,21 @@ module _ {A : Type 0} (ask : Answers A) (i : ℕ) (r : Row) (xs : List (Option A
     only = m.only;
   })
 
+  pub marks_all : (n : ℕ) (old new : List (Option ℕ)) → length r.edges ≤ n → Marks ask i r xs n old new → Marks ask i r xs (length r.edges) old new
+  marks_all n old new h m = record { len = m.len; keeps = m.keeps; has = λ k e l. m.has k e (omega (arith, l, h)); only = m.only }
+
 picked_at : (operands forwards : List ℕ) (j u : ℕ) → slice_get (picked operands forwards) j ≡ Some (Some u) → (q : ℕ) × (slice_get forwards j ≡ Some q) × (slice_get operands q ≡ Some u)
 picked_at operands forwards j u e = go (slice_get forwards j) refl
   where
     go : (o : Option ℕ) → slice_get forwards j ≡ o → (q : ℕ) × (slice_get forwards j ≡ Some q) × (slice_get operands q ≡ Some u)
     go None h = absurd (none-some (Some u) (sym (ap (option_map (λ q. slice_get operands q)) h) ∙ (sym (slice_get-map (λ q. slice_get operands q) forwards j) ∙ e)))
     go (Some q) h = (q, h, same_Some (slice_get operands q) (Some u) (sym (ap (option_map (λ q. slice_get operands q)) h) ∙ (sym (slice_get-map (λ q. slice_get operands q) forwards j) ∙ e)))
+
+-- the target of an edge of an operation is a block
+pub target_below : (p : FactsProblem) (i n target : ℕ) → IsProblem p → i < length p.rows → n < length (row_numbered p.rows i).edges → target ≡ (edge_numbered (row_numbered p.rows i).edges n).target → target < length p.arguments.items
+target_below p i n target ok h l e =
+    let r = row_numbered p.rows i in
+    subst (λ b. b < length p.arguments.items) (sym e) ((ok.rows r (row_contained p.rows i h)).targets (edge_numbered r.edges n) (edge_contained r.edges n l))
 
 module _ {A : Type 0} where
   -- what is forwarded, by the two ways to say it
@@ -90,7 +100,7 @@ module _ {A : Type 0} where
   pub edge_stays : (D : NumberedFacts A → Type 0) (p : FactsProblem) (popped : List ℕ) (r : Row) (e : Edge) (a b : Found A) → Falls D a b → EdgeLies p a popped r e → EdgeLies p b popped r e
   edge_stays D p popped r e a b f l = record {
     target = f.falls.fewer e.target l.target;
-    arguments = lie_stays D (arguments_of p e.target) e.forwards.items r.operands.items popped a b f l.arguments;
+    arguments = lie_stays D (arguments_of p e.target) e.forwards r.operands popped a b f l.arguments;
   }
 
   pub forwards_none : (forwards operands : List ℕ) (a : Found A) → ForwardsAll [] forwards operands a a
@@ -123,21 +133,23 @@ module _ {A : Type 0} where
   }
 
   -- an edge is taken
-  pub edge_taken : (p : FactsProblem) (r : Row) (e : Edge) (arguments forwards operands : List ℕ) (a b c : Found A) → arguments ≡ arguments_of p e.target → forwards ≡ e.forwards.items → operands ≡ r.operands.items → Meets (λ l. l.runs e.target ≡ true) a b → ForwardsAll arguments forwards operands b c → TakesEdge p r e a c
+  pub edge_taken : (p : FactsProblem) (r : Row) (e : Edge) (arguments forwards operands : List ℕ) (a b c : Found A) → arguments ≡ arguments_of p e.target → forwards ≡ e.forwards → operands ≡ r.operands → Meets (λ l. l.runs e.target ≡ true) a b → ForwardsAll arguments forwards operands b c → TakesEdge p r e a c
   edge_taken p r e arguments forwards operands a b c x y z m f = record {
     steps = falls_then (λ l. EdgeClosed p l r e) a b c
         (falls_as (λ l. l.runs e.target ≡ true) (λ l. EdgeClosed p l r e) (λ l d. d.target) a b m.steps)
-        (falls_as (ForwardsBelow (arguments_of p e.target) e.forwards.items r.operands.items) (λ l. EdgeClosed p l r e) (λ l d. forwards_from l (arguments_of p e.target) e.forwards.items r.operands.items d.arguments) b c g.steps);
+        (falls_as (ForwardsBelow (arguments_of p e.target) e.forwards r.operands) (λ l. EdgeClosed p l r e) (λ l d. forwards_from l (arguments_of p e.target) e.forwards r.operands d.arguments) b c g.steps);
     lies = record { target = g.steps.falls.fewer e.target m.holds; arguments = g.lie };
   }
     where
-      g : ForwardsAll (arguments_of p e.target) e.forwards.items r.operands.items b c
-      g = subst (λ us. ForwardsAll us e.forwards.items r.operands.items b c) x (subst (λ us. ForwardsAll arguments us r.operands.items b c) y (subst (λ us. ForwardsAll arguments forwards us b c) z f))
+      g : ForwardsAll (arguments_of p e.target) e.forwards r.operands b c
+      g = subst (λ us. ForwardsAll us e.forwards r.operands b c) x (subst (λ us. ForwardsAll arguments us r.operands b c) y (subst (λ us. ForwardsAll arguments forwards us b c) z f))
 
   module _ (p : FactsProblem) (i : ℕ) (r : Row) (marks : List (Option ℕ)) where
-    pub no_edges : (taken : List Bool) (a : Found A) → TakesMarked p i r marks 0 taken taken a a
+    pub no_edges : (taken : List (List Bool)) (a : Found A) → TakesMarked p i r marks 0 taken taken a a
     no_edges taken a = record {
       len = refl;
+      edges_len = refl;
+      others = λ j z. refl;
       steps = falls_none (MarkedClosed p i r marks) a;
       keeps = λ n h. h;
       has = λ n e h. absurd (omega (arith, h));
@@ -145,40 +157,50 @@ module _ {A : Type 0} where
     }
 
     -- the next edge leads to a marked block
-    pub edge_more : (n : ℕ) (e : Edge) (taken mid after : List Bool) (a b c : Found A) → slice_get r.edges.items n ≡ Some e → slice_get marks e.target ≡ Some (Some i) → n < length mid → after ≡ set mid n true → TakesMarked p i r marks n taken mid a b → TakesEdge p r e b c → TakesMarked p i r marks (n + 1) taken after a c
-    edge_more n e taken mid after a b c q k h d m t = record {
-      len = ap length d ∙ (length-set mid n true ∙ m.len);
+    pub edge_more : (n : ℕ) (e : Edge) (taken mid after : List (List Bool)) (a b c : Found A) → slice_get r.edges n ≡ Some e → slice_get marks e.target ≡ Some (Some i) → i < length mid → n < length (row_at mid i) → after ≡ set mid i (set (row_at mid i) n true) → TakesMarked p i r marks n taken mid a b → TakesEdge p r e b c → TakesMarked p i r marks (n + 1) taken after a c
+    edge_more n e taken mid after a b c q k w h d m t = record {
+      len = ap length d ∙ (length-set mid i (set (row_at mid i) n true) ∙ m.len);
+      edges_len = ap length row ∙ (length-set (row_at mid i) n true ∙ m.edges_len);
+      others = λ j z. ap (λ ts. row_at ts j) d ∙ (table-set_other mid i j (set (row_at mid i) n true) z ∙ m.others j z);
       steps = falls_then (MarkedClosed p i r marks) a b c m.steps (falls_as (λ l. EdgeClosed p l r e) (MarkedClosed p i r marks) (λ l g. g n e q k) b c t.steps);
       keeps = λ j g. stays j (m.keeps j g);
-      has = λ j u l s g. ⊎_elim (λ z. ap (slice_get after) z ∙ here) (λ z. stays j (m.has j u (omega (arith, l, z)) s g)) (decide j n);
+      has = λ j u l s g. ⊎_elim (λ z. subst (IsTaken after i) (sym z) here) (λ z. stays j (m.has j u (omega (arith, l, z)) s g)) (decide j n);
       only = λ j u s g. ⊎_elim
-          (λ z. let w : e ≡ u = same_Some e u (sym q ∙ (ap (slice_get r.edges.items) (sym z) ∙ s)) in
-          inr (subst (λ (y : Edge). slice_get marks y.target ≡ Some (Some i)) w k, subst (EdgeLies p c [] r) w t.lies))
+          (λ z. let v : e ≡ u = same_Some e u (sym q ∙ (ap (slice_get r.edges) (sym z) ∙ s)) in
+          inr (subst (λ (y : Edge). slice_get marks y.target ≡ Some (Some i)) v k, subst (EdgeLies p c [] r) v t.lies))
           (λ z. ⊎_elim (λ o. inl o) (λ o. inr (o.0, edge_stays (λ l. EdgeClosed p l r e) p [] r u b c t.steps o.1)) (m.only j u s (sym (other j z) ∙ g)))
           (decide j n);
     }
       where
-        here : slice_get after n ≡ Some true
-        here = ap (λ ys. slice_get ys n) d ∙ get-set_same mid n true h
+        row : row_at after i ≡ set (row_at mid i) n true
+        row = ap (λ ts. row_at ts i) d ∙ table-set_same mid i (set (row_at mid i) n true) w
 
-        other : (j : ℕ) → (j ≡ n → ⊥) → slice_get after j ≡ slice_get mid j
-        other j z = ap (λ ys. slice_get ys j) d ∙ get-set_other mid n j true z
+        here : IsTaken after i n
+        here = ap (λ ys. slice_get ys n) row ∙ get-set_same (row_at mid i) n true h
 
-        stays : (j : ℕ) → slice_get mid j ≡ Some true → slice_get after j ≡ Some true
-        stays j s = ⊎_elim (λ z. ap (slice_get after) z ∙ here) (λ z. other j z ∙ s) (decide j n)
+        other : (j : ℕ) → (j ≡ n → ⊥) → slice_get (row_at after i) j ≡ slice_get (row_at mid i) j
+        other j z = ap (λ ys. slice_get ys j) row ∙ get-set_other (row_at mid i) n j true z
+
+        stays : (j : ℕ) → IsTaken mid i j → IsTaken after i j
+        stays j s = ⊎_elim (λ z. subst (IsTaken after i) (sym z) here) (λ z. other j z ∙ s) (decide j n)
 
     -- the next edge is taken already, or leads elsewhere
-    pub edge_same : (n : ℕ) (e : Edge) (taken mid after : List Bool) (a b c : Found A) → slice_get r.edges.items n ≡ Some e → (slice_get marks e.target ≡ Some (Some i) → slice_get mid n ≡ Some true) → after ≡ mid → c ≡ b → TakesMarked p i r marks n taken mid a b → TakesMarked p i r marks (n + 1) taken after a c
+    pub edge_same : (n : ℕ) (e : Edge) (taken mid after : List (List Bool)) (a b c : Found A) → slice_get r.edges n ≡ Some e → (slice_get marks e.target ≡ Some (Some i) → IsTaken mid i n) → after ≡ mid → c ≡ b → TakesMarked p i r marks n taken mid a b → TakesMarked p i r marks (n + 1) taken after a c
     edge_same n e taken mid after a b c q k d f m = subst (λ ys. TakesMarked p i r marks (n + 1) taken ys a c) (sym d) (subst (λ y. TakesMarked p i r marks (n + 1) taken mid a y) (sym f) (record {
       len = m.len;
+      edges_len = m.edges_len;
+      others = m.others;
       steps = m.steps;
       keeps = m.keeps;
       has = λ j u l s g. ⊎_elim
-          (λ z. ap (slice_get mid) z ∙ k (subst (λ (y : Edge). slice_get marks y.target ≡ Some (Some i)) (same_Some u e (sym s ∙ (ap (slice_get r.edges.items) z ∙ q))) g))
+          (λ z. subst (IsTaken mid i) (sym z) (k (subst (λ (y : Edge). slice_get marks y.target ≡ Some (Some i)) (same_Some u e (sym s ∙ (ap (slice_get r.edges) z ∙ q))) g)))
           (λ z. m.has j u (omega (arith, l, z)) s g)
           (decide j n);
       only = m.only;
     }))
+
+    pub edges_all : (n : ℕ) (taken after : List (List Bool)) (a b : Found A) → length r.edges ≤ n → TakesMarked p i r marks n taken after a b → TakesMarked p i r marks (length r.edges) taken after a b
+    edges_all n taken after a b h m = record { len = m.len; edges_len = m.edges_len; others = m.others; steps = m.steps; keeps = m.keeps; has = λ j e l. m.has j e (omega (arith, l, h)); only = m.only }
 
 -- what a test of two numbers that may be missing says
 pub marked_same : (x : Option ℕ) (i : ℕ) → option_eq nat_eq x (Some i) ≡ true → x ≡ Some i
@@ -187,9 +209,3 @@ marked_same (Some j) i e = ap (λ n. Some n) (same_numbers j i e)
 
 pub marked_other : (x : Option ℕ) (i : ℕ) → option_eq nat_eq x (Some i) ≡ false → x ≡ Some i → ⊥
 marked_other x i e q = let t = sym (ap (λ y. option_eq nat_eq y (Some i)) q) ∙ e in let s = eq-eqb i i refl in absurd (cc (sym s ∙ t))
-
-pub marked_read : (ms : List Bool) (i : ℕ) (b : Bool) → i < length ms → b ≡ get_or ms i b → b ≡ true → slice_get ms i ≡ Some true
-marked_read ms i b h e t = slice_get_read ms (length ms) i true refl h (sym t ∙ e ∙ ap (get_or ms i) t)
-
-pub unmarked_read : (ms : List Bool) (i : ℕ) (b : Bool) → b ≡ get_or ms i b → b ≡ false → slice_get ms i ≡ Some true → ⊥
-unmarked_read ms i b e t h = let q = get_or_from_slice_get ms i true b h in cc

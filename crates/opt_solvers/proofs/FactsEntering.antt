@@ -1,6 +1,6 @@
 -- What giving up values and entering blocks keeps.
 use Rattle.std.proofs.Common.{◌≡◌, ⊎_elim, ℕ, ◌+◌, ◌<◌, List, [], ◌∷◌, ◌++◌, true, length, get_or, take, refl, sym, ap, ◌∙◌, subst}
-use Rattle.std.specs.Prelude.{Contains, unwrap_or, option_map}
+use Rattle.std.specs.Prelude.{Contains, slice_get, unwrap_or, option_map}
 use Rattle.std.specs.declared.vec.Vec.{Vec}
 use Rattle.std.specs.declared.alloc.Global.{Global}
 use Rattle.std.proofs.lemmas.Option.{slice_get_read}
@@ -13,19 +13,11 @@ use Rattle.opt_solvers.specs.declared.facts_found.Found.{Found}
 use Rattle.opt_solvers.specs.Known.{AtOrBelow, AllAny, MorePrecise}
 use Rattle.opt_solvers.specs.Facts.{NumberedFacts, Enters, arguments_of}
 use Rattle.opt_solvers.specs.FactsFound.{Meets}
-use Rattle.opt_solvers.specs.FactsTables.{row_of}
 use Rattle.opt_solvers.proofs.FactsFalling.{at_any, at_same, any_below, meets_then}
 
 -- what stands at a row of a table
-pub row_at : {X : Type 0} (t : List (Vec X Global)) (n : ℕ) (row : Vec X Global) → n < length t → row ≡ get_or t n row → row_of t n ≡ row.items
+pub row_at : {X : Type 0} (t : List (Vec X Global)) (n : ℕ) (row : Vec X Global) → n < length t → row ≡ get_or t n row → unwrap_or (option_map (λ (v : Vec X Global). v.items) (slice_get t n)) [] ≡ row.items
 row_at {X} t n row h e = ap (λ o. unwrap_or (option_map (λ (v : Vec X Global). v.items) o) []) (slice_get_read t (length t) n row refl h e)
-
--- an element of a list, read through a slice of it
-pub through : {X : Type 0} (xs ys : List X) (i : ℕ) (x : X) → xs ≡ ys → i < length xs → x ≡ get_or xs i x → (i < length ys) × (x ≡ get_or ys i x)
-through xs ys i x e h q = (subst (λ zs. i < length zs) e h, q ∙ ap (λ zs. get_or zs i x) e)
-
-pub read_contains : {X : Type 0} (xs : List X) (i : ℕ) (x : X) → i < length xs → x ≡ get_or xs i x → Contains xs x
-read_contains xs i x h e = (i, h, sym e)
 
 -- one more of a list
 pub next_of : {X : Type 0} (xs : List X) (i : ℕ) (x : X) → i < length xs → x ≡ get_or xs i x → take (i + 1) xs ≡ take i xs ++ x ∷ []

@@ -1,15 +1,15 @@
 -- What is seen of operands, and what is asked by it.
-use Rattle.std.proofs.Common.{zero, ◌≡◌, ℕ, suc, ◌+◌, ◌-◌, ◌<◌, ◌≤◌, List, [], ◌∷◌, ◌++◌, Option, Some, None, length, get_or, take, drop, map, replicate, refl, sym, ap, ◌∙◌, subst, arith}
+use Rattle.std.proofs.Common.{zero, ◌≡◌, ℕ, suc, Bool, true, false, ◌+◌, ◌-◌, ◌<◌, ◌≤◌, List, [], ◌∷◌, ◌++◌, Option, Some, None, length, get_or, take, drop, map, replicate, refl, sym, ap, ◌∙◌, subst, arith}
 use Rattle.std.proofs.Math.ListN.{set}
-use Rattle.std.proofs.lemmas.List.{take_all, length-set, length-map, length-drop, length-take-le, get_or-take, get_or-drop, length-append, length-replicate, map-append, replicate-append-replicate}
+use Rattle.std.proofs.lemmas.List.{take_all, length-set, length-map, length-append, length-replicate, map-append, replicate-append-replicate}
 use Rattle.opt_solvers.specs.declared.known.Known.{Known}
 use Rattle.opt_solvers.specs.declared.known.Known.TheVariants.{Undetermined, One, Any}
 use Rattle.opt_solvers.specs.Known.{asked, and_known}
 use Rattle.opt_solvers.specs.KnownFalls.{constant_of, one_if_undetermined, undetermined}
-use Rattle.opt_solvers.specs.declared.facts_problem.Row.{Row}
-use Rattle.opt_solvers.specs.Rows.{rows_from, AreEnds, row_at, start_from}
-use Rattle.opt_solvers.specs.FactsSeen.{IsSeen, unseen}
-use Rattle.opt_solvers.proofs.Rows.{as_many, row_inside, row_is, row_more, ends_more, entry_set, take_mapped, drop_mapped}
+use Rattle.opt_solvers.specs.OperationRows.{Row}
+use Rattle.opt_solvers.specs.Rows.{rows_from, AreEnds, row_at}
+use Rattle.opt_solvers.specs.FactsSeen.{seen_fact, seen_facts, is_found, one_unless, IsSeen, unseen}
+use Rattle.opt_solvers.proofs.Rows.{as_many, row_inside, row_more, ends_more, take_mapped, drop_mapped, StandsAt, row_length, entry_in, entry_read, entry_written}
 
 pub undetermined-replicate : (A : Type 0) (n : ℕ) → undetermined {A = A} (replicate n Undetermined) ≡ n
 undetermined-replicate A zero = refl
@@ -19,16 +19,66 @@ pub constants-replicate : (A : Type 0) (n : ℕ) → replicate n None ≡ map (c
 constants-replicate A zero = refl
 constants-replicate A (suc n) = ap (λ xs. None ∷ xs) (constants-replicate A n)
 
-unseen_counts : (A : Type 0) (rows : List Row) → map (λ (r : Row). length r.operands.items) rows ≡ map undetermined (map (unseen {A = A}) rows)
+pub one_at_most : (f : Bool) → one_unless f ≤ 1
+one_at_most true = omega arith
+one_at_most false = omega arith
+
+-- nothing is seen of any operand
+pub facts_unseen : (A : Type 0) (n : ℕ) → seen_facts {A = A} (replicate n false) (replicate n None) ≡ replicate n Undetermined
+facts_unseen A zero = refl
+facts_unseen A (suc n) = ap (λ (xs : List (Known A)). Undetermined ∷ xs) (facts_unseen A n)
+
+unseen_counts : (A : Type 0) (rows : List Row) → map (λ (r : Row). length r.operands) rows ≡ map undetermined (map (unseen {A = A}) rows)
 unseen_counts A [] = refl
-unseen_counts A (r ∷ rows) = ap (λ (ms : List ℕ). length r.operands.items ∷ ms) (unseen_counts A rows) ∙ ap (λ (n : ℕ). n ∷ map undetermined (map (unseen {A = A}) rows)) (sym (undetermined-replicate A (length r.operands.items)))
+unseen_counts A (r ∷ rows) = ap (λ (ms : List ℕ). length r.operands ∷ ms) (unseen_counts A rows) ∙ ap (λ (n : ℕ). n ∷ map undetermined (map (unseen {A = A}) rows)) (sym (undetermined-replicate A (length r.operands)))
 
 -- a list that is made longer
 pub resized : {X : Type 0} (old new : List X) (n l k m : ℕ) (x : X) → new ≡ take n old ++ replicate (n - m) x → n ≡ l + k → l ≡ length old → m ≡ length old → new ≡ old ++ replicate k x
 resized old new n l k m x e h q r =
     e ∙ (ap (λ (xs : List _). xs ++ replicate (n - m) x) (take_all n old (omega (arith, h, q))) ∙ ap (λ (j : ℕ). old ++ replicate j x) (omega (arith, h, q, r)))
 
+-- nothing is seen of the operands of these operations
+pub record IsUnseen (A : Type 0) (rows : List Row) (es : List ℕ) (fs : List Bool) (ms : List ℕ) : Type 0 where
+  pub ends : AreEnds 0 es (length fs)
+  pub rows_are : rows_from 0 es (replicate (length fs) Undetermined) ≡ map (unseen {A = A}) rows
+  pub none : fs ≡ replicate (length fs) false
+  pub counts : ms ≡ map (λ (r : Row). length r.operands) rows
+
 module _ {A : Type 0} where
+  pub facts_len : (fs : List Bool) (cs : List (Option A)) → length fs ≡ length cs → length (seen_facts fs cs) ≡ length fs
+  facts_len [] cs h = refl
+  facts_len (f ∷ fs) [] h = absurd (omega (arith, h))
+  facts_len (f ∷ fs) (c ∷ cs) h = ap suc (facts_len fs cs (omega (arith, h)))
+
+  found_again : (x : Known A) → seen_fact (is_found x) (constant_of x) ≡ x
+  found_again Undetermined = refl
+  found_again (One a) = refl
+  found_again Any = refl
+
+  -- what is seen of one operand changes
+  pub facts_set : (fs : List Bool) (cs : List (Option A)) (i : ℕ) (x : Known A) → seen_facts (set fs i (is_found x)) (set cs i (constant_of x)) ≡ set (seen_facts fs cs) i x
+  facts_set [] cs i x = refl
+  facts_set (f ∷ fs) [] zero x = refl
+  facts_set (f ∷ fs) [] (suc i) x = refl
+  facts_set (f ∷ fs) (c ∷ cs) zero x = ap (λ (y : Known A). y ∷ seen_facts fs cs) (found_again x)
+  facts_set (f ∷ fs) (c ∷ cs) (suc i) x = ap (λ (ys : List (Known A)). seen_fact f c ∷ ys) (facts_set fs cs i x)
+
+  pub lacks : (x : Known A) → one_unless (is_found x) ≡ one_if_undetermined x
+  lacks Undetermined = refl
+  lacks (One a) = refl
+  lacks Any = refl
+
+  lacks_one : (f : Bool) (c : Option A) → one_unless f ≡ one_if_undetermined (seen_fact f c)
+  lacks_one false c = refl
+  lacks_one true None = refl
+  lacks_one true (Some a) = refl
+
+  pub lacks_at : (fs : List Bool) (cs : List (Option A)) (i : ℕ) (f : Bool) → length fs ≡ length cs → i < length fs → one_unless (get_or fs i f) ≡ one_if_undetermined (get_or (seen_facts fs cs) i Undetermined)
+  lacks_at [] cs i d e h = absurd (omega (arith, h))
+  lacks_at (f ∷ fs) [] i d e h = absurd (omega (arith, e))
+  lacks_at (f ∷ fs) (c ∷ cs) zero d e h = lacks_one f c
+  lacks_at (f ∷ fs) (c ∷ cs) (suc i) d e h = lacks_at fs cs i d (omega (arith, e)) (omega (arith, h))
+
   pub asked_all : (xs : List (Known A)) → undetermined xs ≡ 0 → asked xs ≡ Some (map constant_of xs)
   asked_all [] e = refl
   asked_all (Undetermined ∷ xs) e = absurd (omega (arith, e))
@@ -51,7 +101,7 @@ module _ {A : Type 0} where
   constants-set (y ∷ ys) zero x = refl
   constants-set (y ∷ ys) (suc i) x = ap (λ zs. constant_of y ∷ zs) (constants-set ys i x)
 
-  pub at_most_one : (x : Known A) → one_if_undetermined x ≤ 1
+  at_most_one : (x : Known A) → one_if_undetermined x ≤ 1
   at_most_one Undetermined = omega arith
   at_most_one (One a) = omega arith
   at_most_one Any = omega arith
@@ -77,27 +127,6 @@ module _ {A : Type 0} where
   missing_set (r ∷ rows) zero row = refl
   missing_set (r ∷ rows) (suc k) row = ap (λ (ms : List ℕ). undetermined r ∷ ms) (missing_set rows k row)
 
-  row_length : (es : List ℕ) (ns : List (Known A)) (k : ℕ) → AreEnds 0 es (length ns) → k < length es → length (row_at (rows_from 0 es ns) k) ≡ get_or es k 0 - start_from 0 es k
-  row_length es ns k a h =
-      let r = row_inside 0 es (length ns) k h a in let d = length-drop (start_from 0 es k) ns in let b = r.1 in let c = r.2 in
-      ap length (row_is 0 es ns k h) ∙ length-take-le (get_or es k 0 - start_from 0 es k) (drop (start_from 0 es k) ns) (omega (arith, b, c, d))
-
-  -- where the operand of a row stands among all
-  pub record StandsAt (es : List ℕ) (ns : List (Known A)) (k i start : ℕ) : Type 0 where
-    pub row : k < length es
-    pub start_is : start ≡ start_from 0 es k
-    pub within : start_from 0 es k + i < get_or es k 0
-    pub inside : start + i < length ns
-
-  pub stands_at : (rows : List (List (Known A))) (es fs : List ℕ) (ns : List (Known A)) (k i start : ℕ) → rows_from 0 es ns ≡ rows → AreEnds 0 es (length ns) → k < length rows → i < length (row_at rows k) → fs ≡ es → start ≡ start_from 0 fs k → StandsAt es ns k i start
-  stands_at rows es fs ns k i start v a h l q s =
-      let m = as_many 0 es ns in let n = ap (λ (rs : List (List (Known A))). length rs) v in
-      let row : k < length es = omega (arith, m, n, h) in
-      let w = row_length es ns k a row in let y = ap (λ (rs : List (List (Known A))). length (row_at rs k)) v in
-      let t = s ∙ ap (λ (xs : List ℕ). start_from 0 xs k) q in
-      let r = row_inside 0 es (length ns) k row a in
-      record { row = row; start_is = t; within = omega (arith, w, y, l); inside = let b = r.2 in omega (arith, w, y, l, t, b) }
-
   module _ (es : List ℕ) (ns : List (Known A)) (cs : List (Option A)) (ms : List ℕ) (k i start : ℕ) (seen : IsSeen es ns cs ms) (at : StandsAt es ns k i start) where
     many : length ms ≡ length es
     many = ap length seen.are_missing ∙ (length-map (rows_from 0 es ns) undetermined ∙ as_many 0 es ns)
@@ -112,15 +141,10 @@ module _ {A : Type 0} where
     missing_is = ap (λ (xs : List ℕ). get_or xs k 0) seen.are_missing ∙ missing_at (rows_from 0 es ns) k 0 (let m = as_many 0 es ns in let h = at.row in omega (arith, m, h))
 
     is_in : i < length (row_at (rows_from 0 es ns) k)
-    is_in = let w = row_length es ns k seen.are_ends at.row in let h = at.within in omega (arith, w, h)
+    is_in = entry_in es ns k i start seen.are_ends at
 
     read_is : (d : Known A) → get_or (row_at (rows_from 0 es ns) k) i d ≡ get_or ns (start + i) d
-    read_is d =
-        let h = at.within in
-        ap (λ (xs : List (Known A)). get_or xs i d) (row_is 0 es ns k at.row)
-        ∙ (get_or-take (get_or es k 0 - start_from 0 es k) (drop (start_from 0 es k) ns) i d (omega (arith, h))
-        ∙ (get_or-drop (start_from 0 es k) ns i d
-        ∙ ap (λ (n : ℕ). get_or ns (n + i) d) (sym at.start_is)))
+    read_is d = entry_read es ns k i start seen.are_ends at d
 
     -- an operand that is undetermined is missing
     pub missing_enough : (d : Known A) → one_if_undetermined (get_or ns (start + i) d) ≤ get_or ms k 0
@@ -133,7 +157,7 @@ module _ {A : Type 0} where
         let r = row_inside 0 es (length ns) k at.row seen.are_ends in let b = r.2 in omega (arith, u, m, w, b)
 
     pub rows_saw : (x : Known A) → rows_from 0 es (set ns (start + i) x) ≡ set (rows_from 0 es ns) k (set (row_at (rows_from 0 es ns) k) i x)
-    rows_saw x = ap (λ (n : ℕ). rows_from 0 es (set ns (n + i) x)) at.start_is ∙ entry_set 0 es (length ns) k i ns x seen.are_ends at.row at.within
+    rows_saw x = entry_written es ns k i start seen.are_ends at x
 
     pub saw : (m : ℕ) (x d : Known A) → m + one_if_undetermined (get_or ns (start + i) d) ≡ get_or ms k 0 + one_if_undetermined x → IsSeen es (set ns (start + i) x) (set cs (start + i) (constant_of x)) (set ms k m)
     saw m x d e = record {
@@ -146,6 +170,27 @@ module _ {A : Type 0} where
         now =
             let u = undetermined-set (row_at (rows_from 0 es ns) k) i x d is_in in let r = ap one_if_undetermined (read_is d) in let t = missing_is in
             omega (arith, u, r, t, e)
+
+  -- one operand is seen, by the two lists
+  module _ (es : List ℕ) (fs : List Bool) (cs : List (Option A)) (ms : List ℕ) (k i start : ℕ) (many : length fs ≡ length cs) (seen : IsSeen es (seen_facts fs cs) cs ms) (at : StandsAt es (seen_facts fs cs) k i start) where
+    pub place_found : start + i < length fs
+    place_found = let l = facts_len fs cs many in let h = at.inside in omega (arith, l, h)
+
+    pub facts_saw : (x : Known A) (f : Bool) (c : Option A) → f ≡ is_found x → c ≡ constant_of x → seen_facts (set fs (start + i) f) (set cs (start + i) c) ≡ set (seen_facts fs cs) (start + i) x
+    facts_saw x f c q r = ap (λ (g : Bool). seen_facts (set fs (start + i) g) (set cs (start + i) c)) q ∙ (ap (λ (d : Option A). seen_facts (set fs (start + i) (is_found x)) (set cs (start + i) d)) r ∙ facts_set fs cs (start + i) x)
+
+    -- what was missing of the operand is not more than what was missing of its operation
+    pub lacked_enough : (f : Bool) → f ≡ get_or fs (start + i) f → one_unless f ≤ get_or ms k 0
+    lacked_enough f q = let e = missing_enough es (seen_facts fs cs) cs ms k i start seen at Undetermined in let l = ap one_unless q ∙ lacks_at fs cs (start + i) f many place_found in omega (arith, e, l)
+
+    pub saw_all : (m : ℕ) (x : Known A) (f g : Bool) (c : Option A) → f ≡ get_or fs (start + i) f → g ≡ is_found x → c ≡ constant_of x → m + one_unless f ≡ get_or ms k 0 + one_unless g
+        → (length (set fs (start + i) g) ≡ length (set cs (start + i) c)) × IsSeen es (seen_facts (set fs (start + i) g) (set cs (start + i) c)) (set cs (start + i) c) (set ms k m)
+    saw_all m x f g c o q r e = (
+      length-set fs (start + i) g ∙ (many ∙ sym (length-set cs (start + i) c)),
+      subst (λ (ns : List (Known A)). IsSeen es ns (set cs (start + i) c) (set ms k m)) (sym (facts_saw x g c q r))
+          (subst (λ (d : Option A). IsSeen es (set (seen_facts fs cs) (start + i) x) (set cs (start + i) d) (set ms k m)) (sym r)
+          (saw es (seen_facts fs cs) cs ms k i start seen at m x Undetermined (let l = ap one_unless o ∙ lacks_at fs cs (start + i) f many place_found in let n = ap one_unless q ∙ lacks x in omega (arith, e, l, n)))),
+    )
 
   pub constants_len : (es : List ℕ) (ns : List (Known A)) (cs : List (Option A)) (ms : List ℕ) → IsSeen es ns cs ms → length cs ≡ length ns
   constants_len es ns cs ms s = ap length s.are_constants ∙ length-map ns constant_of
@@ -162,40 +207,55 @@ module _ {A : Type 0} where
       let m = s.are_missing ∙ ap (map undetermined) v in
       (let l = ap length m ∙ length-map rows undetermined in omega (arith, l, h), ap (λ (xs : List ℕ). get_or xs k 0) m ∙ missing_at rows k 0 h)
 
-  -- nothing is seen of the operands of one operation more
-  pub record IsUnseen (rows : List Row) (es : List ℕ) (ns : List (Known A)) (ms : List ℕ) : Type 0 where
-    pub ends : AreEnds 0 es (length ns)
-    pub rows_are : rows_from 0 es ns ≡ map unseen rows
-    pub none : ns ≡ replicate (length ns) Undetermined
-    pub counts : ms ≡ map (λ (r : Row). length r.operands.items) rows
-
-  pub unseen_begins : (es : List ℕ) (ns : List (Known A)) (ms : List ℕ) → es ≡ [] → ns ≡ [] → ms ≡ [] → IsUnseen [] es ns ms
-  unseen_begins es ns ms e n m = record {
-    ends = subst (λ (xs : List ℕ). AreEnds 0 xs (length ns)) (sym e) (sym (ap length n));
-    rows_are = ap (λ (xs : List ℕ). rows_from 0 xs ns) e;
-    none = n ∙ ap (λ (k : ℕ). replicate k Undetermined) (sym (ap length n));
+  pub unseen_begins : (es : List ℕ) (fs : List Bool) (ms : List ℕ) → es ≡ [] → fs ≡ [] → ms ≡ [] → IsUnseen A [] es fs ms
+  unseen_begins es fs ms e n m = record {
+    ends = subst (λ (xs : List ℕ). AreEnds 0 xs (length fs)) (sym e) (sym (ap length n));
+    rows_are = ap (λ (xs : List ℕ). rows_from 0 xs (replicate (length fs) Undetermined)) e;
+    none = n ∙ ap (λ (k : ℕ). replicate k false) (sym (ap length n));
     counts = m;
   }
 
-  pub unseen_more : (rows : List Row) (r : Row) (es fs : List ℕ) (ns us : List (Known A)) (ms ls : List ℕ) (n : ℕ) → us ≡ ns ++ replicate (length r.operands.items) Undetermined → fs ≡ es ++ n ∷ [] → n ≡ length us → ls ≡ ms ++ length r.operands.items ∷ []
-      → IsUnseen rows es ns ms → IsUnseen (rows ++ r ∷ []) fs us ls
-  unseen_more rows r es fs ns us ms ls n u f l m s = record {
-    ends = subst (λ (xs : List ℕ). AreEnds 0 xs (length us)) (sym f) (subst (λ (k : ℕ). AreEnds 0 (es ++ n ∷ []) k) l (ends_more 0 es (length ns) n (omega (arith, l, len)) s.ends));
-    rows_are = ap (λ (xs : List ℕ). rows_from 0 xs us) f ∙ (ap (rows_from 0 (es ++ n ∷ [])) u ∙ (row_more 0 es ns (unseen r) n (omega (arith, l, len, mine)) s.ends
+  -- nor of one more
+  pub unseen_more : (rows : List Row) (r : Row) (es gs : List ℕ) (fs us : List Bool) (ms ls : List ℕ) (n : ℕ) → us ≡ fs ++ replicate (length r.operands) false → gs ≡ es ++ n ∷ [] → n ≡ length us → ls ≡ ms ++ length r.operands ∷ []
+      → IsUnseen A rows es fs ms → IsUnseen A (rows ++ r ∷ []) gs us ls
+  unseen_more rows r es gs fs us ms ls n u f l m s = record {
+    ends = subst (λ (xs : List ℕ). AreEnds 0 xs (length us)) (sym f) (subst (λ (k : ℕ). AreEnds 0 (es ++ n ∷ []) k) l (ends_more 0 es (length fs) n (omega (arith, l, len)) s.ends));
+    rows_are = ap (λ (xs : List ℕ). rows_from 0 xs (replicate (length us) Undetermined)) f ∙ (ap (rows_from 0 (es ++ n ∷ [])) all ∙ (row_more 0 es before (unseen r) n (omega (arith, l, len, mine, old)) (subst (AreEnds 0 es) (sym old) s.ends)
         ∙ (ap (λ (rs : List (List (Known A))). rs ++ unseen r ∷ []) s.rows_are ∙ sym (map-append unseen rows (r ∷ [])))));
-    none = u ∙ (ap (λ (xs : List (Known A)). xs ++ unseen r) s.none ∙ (replicate-append-replicate (length ns) (length r.operands.items) Undetermined ∙ ap (λ (k : ℕ). replicate k Undetermined) (omega (arith, len))));
-    counts = m ∙ (ap (λ (xs : List ℕ). xs ++ length r.operands.items ∷ []) s.counts ∙ sym (map-append (λ (q : Row). length q.operands.items) rows (r ∷ [])));
+    none = u ∙ (ap (λ (xs : List Bool). xs ++ replicate (length r.operands) false) s.none ∙ (replicate-append-replicate (length fs) (length r.operands) false ∙ ap (λ (k : ℕ). replicate k false) (omega (arith, len))));
+    counts = m ∙ (ap (λ (xs : List ℕ). xs ++ length r.operands ∷ []) s.counts ∙ sym (map-append (λ (q : Row). length q.operands) rows (r ∷ [])));
   }
     where
-      mine : length (unseen {A = A} r) ≡ length r.operands.items
-      mine = length-replicate (length r.operands.items) Undetermined
+      before : List (Known A)
+      before = replicate (length fs) Undetermined
 
-      len : length us ≡ length ns + length r.operands.items
-      len = let a = ap length u ∙ length-append ns (unseen r) in let b = mine in omega (arith, a, b)
+      old : length before ≡ length fs
+      old = length-replicate (length fs) Undetermined
 
-  pub unseen_is : (rows : List Row) (es : List ℕ) (ns : List (Known A)) (cs : List (Option A)) (ms : List ℕ) → cs ≡ replicate (length ns) None → IsUnseen rows es ns ms → IsSeen es ns cs ms
-  unseen_is rows es ns cs ms c s = record {
-    are_ends = s.ends;
-    are_constants = c ∙ (constants-replicate A (length ns) ∙ ap (map constant_of) (sym s.none));
-    are_missing = s.counts ∙ (unseen_counts A rows ∙ ap (map undetermined) (sym s.rows_are));
-  }
+      mine : length (unseen {A = A} r) ≡ length r.operands
+      mine = length-replicate (length r.operands) Undetermined
+
+      len : length us ≡ length fs + length r.operands
+      len = let a = ap length u ∙ length-append fs (replicate (length r.operands) false) in let b = length-replicate (length r.operands) false in omega (arith, a, b)
+
+      all : replicate (length us) Undetermined ≡ before ++ unseen r
+      all = ap (λ (k : ℕ). replicate k Undetermined) len ∙ sym (replicate-append-replicate (length fs) (length r.operands) Undetermined)
+
+  facts_none : (fs : List Bool) (cs : List (Option A)) → fs ≡ replicate (length fs) false → cs ≡ replicate (length fs) None → seen_facts fs cs ≡ replicate (length fs) Undetermined
+  facts_none fs cs f c = ap (λ (xs : List Bool). seen_facts xs cs) f ∙ (ap (seen_facts (replicate (length fs) false)) c ∙ facts_unseen A (length fs))
+
+  pub unseen_is : (rows : List Row) (es : List ℕ) (fs : List Bool) (cs : List (Option A)) (ms : List ℕ) → cs ≡ replicate (length fs) None → IsUnseen A rows es fs ms → (length fs ≡ length cs) × IsSeen es (seen_facts fs cs) cs ms
+  unseen_is rows es fs cs ms c s = (
+    sym (ap length c ∙ length-replicate (length fs) None),
+    record {
+      are_ends = subst (AreEnds 0 es) (sym (ap length k ∙ length-replicate (length fs) Undetermined)) s.ends;
+      are_constants = c ∙ (constants-replicate A (length fs) ∙ ap (map constant_of) (sym k));
+      are_missing = s.counts ∙ (unseen_counts A rows ∙ ap (map undetermined) (sym (ap (rows_from 0 es) k ∙ s.rows_are)));
+    },
+  )
+    where
+      k : seen_facts fs cs ≡ replicate (length fs) Undetermined
+      k = facts_none fs cs s.none c
+
+  pub unseen_rows : (rows : List Row) (es : List ℕ) (fs : List Bool) (cs : List (Option A)) (ms : List ℕ) → cs ≡ replicate (length fs) None → IsUnseen A rows es fs ms → rows_from 0 es (seen_facts fs cs) ≡ map unseen rows
+  unseen_rows rows es fs cs ms c s = ap (rows_from 0 es) (facts_none fs cs s.none c) ∙ s.rows_are

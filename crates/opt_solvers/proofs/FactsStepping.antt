@@ -6,8 +6,7 @@ use Rattle.std.proofs.lemmas.List.Elements.{Contains-push, Contains-push_cases}
 use Rattle.opt_solvers.specs.declared.known.Known.TheVariants.{Any}
 use Rattle.opt_solvers.specs.declared.facts_problem.Role.{Role}
 use Rattle.opt_solvers.specs.declared.facts_problem.Role.TheVariants.{Folds, Branches, Other}
-use Rattle.opt_solvers.specs.declared.facts_problem.Edge.{Edge}
-use Rattle.opt_solvers.specs.declared.facts_problem.Row.{Row}
+use Rattle.opt_solvers.specs.OperationRows.{Edge, Row}
 use Rattle.opt_solvers.specs.declared.facts_problem.FactsProblem.{FactsProblem}
 use Rattle.opt_solvers.specs.declared.facts_found.Found.{Found}
 use Rattle.opt_solvers.specs.declared.facts_tables.Place.{Place}
@@ -17,7 +16,8 @@ use Rattle.opt_solvers.specs.Known.{AtOrBelow, MorePrecise, asked}
 use Rattle.opt_solvers.specs.KnownFalls.{heights}
 use Rattle.opt_solvers.specs.Facts.{Answers, NumberedFacts, as_facts, arguments_of, Enters, EdgeClosed, EdgesClosed, ResultsClosed, RoleClosed, IsMostPrecise}
 use Rattle.opt_solvers.specs.FactsFound.{facts_of, TakesBlock, TakesValue, HasNoBlock, HasNoValue}
-use Rattle.opt_solvers.specs.FactsTables.{row_of, AreTables}
+use Rattle.opt_solvers.specs.Rows.{row_at}
+use Rattle.opt_solvers.specs.FactsTables.{AreTables}
 use Rattle.opt_solvers.specs.FactsSolving.{seen_of, IsTaken, AnyResults, Started, EdgesTaken, Refreshed, IsSolving, IsWaiting, Visits, Tells, IsStep}
 use Rattle.opt_solvers.proofs.FactsEdging.{forwards_to}
 use Rattle.opt_solvers.proofs.FactsAsking.{same_lists}
@@ -52,14 +52,14 @@ module _ {A : Type 0} (ask : Answers A) (p : FactsProblem) where
     }
 
     pub waiting_popped : (rest places : List Place) (rows after : List ℕ)
-        → ((i : ℕ) (r : Row) → slice_get p.rows.items i ≡ Some r → Contains s.found.blocks.items r.block ⊎ Contains rows i → Contains f.blocks.items r.block ⊎ Contains after i)
-        → ((i j v : ℕ) (r : Row) → slice_get p.rows.items i ≡ Some r → slice_get r.operands.items j ≡ Some v → Contains s.found.values.items v ⊎ Contains rest (record { row = i; operand = j }) → Contains f.values.items v ⊎ Contains places (record { row = i; operand = j }))
+        → ((i : ℕ) (r : Row) → slice_get p.rows i ≡ Some r → Contains s.found.blocks.items r.block ⊎ Contains rows i → Contains f.blocks.items r.block ⊎ Contains after i)
+        → ((i j v : ℕ) (r : Row) → slice_get p.rows i ≡ Some r → slice_get r.operands j ≡ Some v → Contains s.found.values.items v ⊎ Contains rest (record { row = i; operand = j }) → Contains f.values.items v ⊎ Contains places (record { row = i; operand = j }))
         → IsWaiting ask p s rows rest → IsWaiting ask p (record { found = f; seen = s.seen; taken = s.taken; marks = s.marks }) after places
     waiting_popped rest places rows after g h d = record {
       entries = λ b c. subst (λ k. Enters p k b) same_facts (d.entries b c);
       outside = λ v c. subst (λ (k : NumberedFacts A). k.of v ≡ Any) same_facts (d.outside v c);
       rows = λ i r a e. ⊎_elim
-          (λ o. inl (record { started = subst (Started p r) same_facts o.started; refreshed = subst (λ k. Refreshed ask k i r r.role (seen_of s.seen i) (row_of s.taken.items i)) same_facts o.refreshed }))
+          (λ o. inl (record { started = subst (Started p r) same_facts o.started; refreshed = subst (λ k. Refreshed ask k i r r.role (seen_of s.seen i) (row_at s.taken i)) same_facts o.refreshed }))
           (λ o. inr (g i r a o))
           (d.rows i r a (subst (λ (k : NumberedFacts A). k.runs r.block ≡ true) (sym same_facts) e));
       seen = λ i j v r x a b e. ⊎_elim
@@ -74,8 +74,8 @@ module _ {A : Type 0} (ask : Answers A) (p : FactsProblem) where
       pub block_solving : IsSolving ask p (record { found = f; seen = s.seen; taken = s.taken; marks = s.marks }) []
       block_solving = solving_popped s f k.runs k.known [] [] (λ u o. subst (λ x. Contains x.items u ⊎ Contains [] u) (sym k.values) o) d
 
-      block_waiting : IsWaiting ask p (record { found = f; seen = s.seen; taken = s.taken; marks = s.marks }) (row_of tables.rows.items b) []
-      block_waiting = waiting_popped s f k.runs k.known [] [] [] (row_of tables.rows.items b)
+      block_waiting : IsWaiting ask p (record { found = f; seen = s.seen; taken = s.taken; marks = s.marks }) (row_at tables.rows b) []
+      block_waiting = waiting_popped s f k.runs k.known [] [] [] (row_at tables.rows b)
           (λ i r a o. ⊎_elim
           (λ c. ⊎_elim (λ z. inl z) (λ z. inr (ok.rows.has b i (record { row = r; there = a; block = sym z }))) (Contains-push_cases f.blocks.items b r.block (subst (λ xs. Contains xs r.block) k.rest c)))
           (λ c. absurd (none_contained [] i refl c)) o)
@@ -100,8 +100,8 @@ module _ {A : Type 0} (ask : Answers A) (p : FactsProblem) where
         no_values = λ e. absurd (cc e);
       }
         where
-          g : IsWaiting ask p t (row_of tables.rows.items b) []
-          g = waiting_steps ask p (record { found = f; seen = s.seen; taken = s.taken; marks = s.marks }) t (row_of tables.rows.items b) [] v.steps block_waiting
+          g : IsWaiting ask p t (row_at tables.rows b) []
+          g = waiting_steps ask p (record { found = f; seen = s.seen; taken = s.taken; marks = s.marks }) t (row_at tables.rows b) [] v.steps block_waiting
 
     -- a value is taken, and told
     module _ (f h : Found A) (n : HasNoBlock s.found f) where
@@ -113,8 +113,8 @@ module _ {A : Type 0} (ask : Answers A) (p : FactsProblem) where
         value_solving = solving_popped s h (k.runs ∙ n.runs) (k.known ∙ n.known) [] (v ∷ [])
             (λ u o. ⊎_elim (λ c. ⊎_elim (λ z. inl z) (λ z. inr (subst (Contains (v ∷ [])) z (Contains-push [] v))) (popped_value u c)) (λ c. absurd (none_contained [] u refl c)) o) d
 
-        pub value_waiting : IsWaiting ask p (record { found = h; seen = s.seen; taken = s.taken; marks = s.marks }) [] (row_of tables.readers.items v)
-        value_waiting = waiting_popped s h (k.runs ∙ n.runs) (k.known ∙ n.known) [] (row_of tables.readers.items v) [] []
+        pub value_waiting : IsWaiting ask p (record { found = h; seen = s.seen; taken = s.taken; marks = s.marks }) [] (row_at tables.readers v)
+        value_waiting = waiting_popped s h (k.runs ∙ n.runs) (k.known ∙ n.known) [] (row_at tables.readers v) [] []
             (λ i r a o. ⊎_elim (λ c. absurd (none_contained s.found.blocks.items r.block n.was c)) (λ c. inr c) o)
             (λ i j u r a e o. ⊎_elim
             (λ c. ⊎_elim (λ z. inl z) (λ z. inr (ok.readers.has v (record { row = i; operand = j }) (record { row = r; there = a; operand = e ∙ ap (λ y. Some y) (sym z) }))) (popped_value u c))
@@ -148,22 +148,22 @@ module _ {A : Type 0} (ask : Answers A) (p : FactsProblem) where
 
   -- where nothing waits, the facts are closed
   module _ (s : Solver A) (d : IsSolving ask p s []) (w : IsWaiting ask p s [] []) (no_blocks : s.found.blocks.items ≡ []) (no_values : s.found.values.items ≡ []) where
-    all_seen : (i : ℕ) (r : Row) → slice_get p.rows.items i ≡ Some r → seen_of s.seen i ≡ map (facts_of s.found).of r.operands.items
-    all_seen i r a = same_lists (facts_of s.found).of r.operands.items (seen_of s.seen i) (d.operands_len i r a)
+    all_seen : (i : ℕ) (r : Row) → slice_get p.rows i ≡ Some r → seen_of s.seen i ≡ map (facts_of s.found).of r.operands
+    all_seen i r a = same_lists (facts_of s.found).of r.operands (seen_of s.seen i) (d.operands_len i r a)
         (λ j v x b e. ⊎_elim (λ o. o) (λ o. absurd (⊎_elim (λ c. none_contained s.found.values.items v no_values c) (λ c. none_contained {X = Place} [] (record { row = i; operand = j }) refl c) o)) (w.seen i j v r x a b e))
 
-    edge_closed : (i n : ℕ) (r : Row) (e : Edge) → slice_get p.rows.items i ≡ Some r → slice_get r.edges.items n ≡ Some e → IsTaken s.taken.items i n → EdgeClosed p (facts_of s.found) r e
+    edge_closed : (i n : ℕ) (r : Row) (e : Edge) → slice_get p.rows i ≡ Some r → slice_get r.edges n ≡ Some e → IsTaken s.taken i n → EdgeClosed p (facts_of s.found) r e
     edge_closed i n r e a b t = record {
       target = (d.edges i n r e a b t).target;
-      arguments = forwards_to (facts_of s.found) (arguments_of p e.target) e.forwards.items r.operands.items
+      arguments = forwards_to (facts_of s.found) (arguments_of p e.target) e.forwards r.operands
           (λ v u z. ⊎_elim (λ o. o) (λ o. absurd (⊎_elim (λ c. none_contained s.found.values.items v no_values c) (λ c. none_contained [] v refl c) o)) ((d.edges i n r e a b t).arguments v u z));
     }
 
-    edges_closed : (i : ℕ) (r : Row) (q : Option (List (Option A))) → slice_get p.rows.items i ≡ Some r → EdgesTaken ask i r (row_of s.taken.items i) q → EdgesClosed ask p (facts_of s.found) i r q
+    edges_closed : (i : ℕ) (r : Row) (q : Option (List (Option A))) → slice_get p.rows i ≡ Some r → EdgesTaken ask i r (row_at s.taken i) q → EdgesClosed ask p (facts_of s.found) i r q
     edges_closed i r None a h = tt
     edges_closed i r (Some xs) a h = λ n e b f. edge_closed i n r e a b (h n e b f)
 
-    role_closed : (i : ℕ) (r : Row) (role : Role) → slice_get p.rows.items i ≡ Some r → AnyResults r.results.items role (facts_of s.found) → Refreshed ask (facts_of s.found) i r role (seen_of s.seen i) (row_of s.taken.items i) → RoleClosed ask p (facts_of s.found) i r role
+    role_closed : (i : ℕ) (r : Row) (role : Role) → slice_get p.rows i ≡ Some r → AnyResults r.results role (facts_of s.found) → Refreshed ask (facts_of s.found) i r role (seen_of s.seen i) (row_at s.taken i) → RoleClosed ask p (facts_of s.found) i r role
     role_closed i r Folds a g h = subst (λ xs. ResultsClosed ask (facts_of s.found) i r (asked xs)) (all_seen i r a) h
     role_closed i r Branches a g h = (g, subst (λ xs. EdgesClosed ask p (facts_of s.found) i r (asked xs)) (all_seen i r a) (edges_closed i r (asked (seen_of s.seen i)) a h))
     role_closed i r Other a g h = g

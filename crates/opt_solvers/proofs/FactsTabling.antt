@@ -1,22 +1,19 @@
 -- What putting items into tables keeps.
-use Rattle.std.proofs.Common.{zero, ◌≡◌, ◌⊎◌, inl, inr, ⊎_elim, ℕ, suc, ◌+◌, ◌<◌, List, [], ◌∷◌, ◌++◌, Option, Some, None, length, get_or, take, refl, sym, ap, ◌∙◌, subst, arith}
-use Rattle.std.specs.Prelude.{Contains, slice_get, unwrap_or, option_map}
-use Rattle.std.specs.declared.vec.Vec.{Vec}
-use Rattle.std.specs.declared.alloc.Global.{Global}
+use Rattle.std.proofs.Common.{zero, ◌≡◌, ◌⊎◌, inl, inr, ⊎_elim, ℕ, suc, ◌+◌, ◌<◌, List, [], ◌∷◌, ◌++◌, Some, length, get_or, take, replicate, refl, sym, ap, ◌∙◌, subst, append_assoc, append-nil, arith}
+use Rattle.std.specs.Prelude.{Contains, slice_get}
 use Rattle.std.proofs.Math.ListN.{set}
 use Rattle.std.proofs.lemmas.Option.{slice_get_read, slice_get_within, none-some, same_Some, get_or_from_slice_get}
-use Rattle.std.proofs.lemmas.List.{length-set, length-append, length-take-le}
-use Rattle.std.proofs.lemmas.List.Elements.{Contains-push, Contains-push_cases, Contains-append_left}
-use Rattle.opt_solvers.specs.declared.facts_problem.Edge.{Edge}
-use Rattle.opt_solvers.specs.declared.facts_problem.Row.{Row}
+use Rattle.std.proofs.lemmas.List.{length-set, length-replicate, length-take-le}
+use Rattle.opt_solvers.specs.OperationRows.{Edge, Row}
 use Rattle.opt_solvers.specs.declared.facts_problem.FactsProblem.{FactsProblem}
 use Rattle.opt_solvers.specs.declared.facts_tables.Place.{Place}
 use Rattle.opt_solvers.specs.declared.facts_tables.Slot.{Slot}
 use Rattle.opt_solvers.specs.declared.facts_tables.Tables.{Tables}
+use Rattle.opt_solvers.specs.Rows.{listed, row_at}
 use Rattle.opt_solvers.specs.Facts.{arguments_of}
-use Rattle.opt_solvers.specs.FactsTables.{row_of, Gains, IsIn, Reads, ForwardsTo, ForwardsAlong, IsForwarded, Lists, AreTables, AddsRow, HoldRows}
+use Rattle.opt_solvers.specs.FactsTables.{Gains, IsIn, Reads, ForwardsTo, ForwardsAlong, IsForwarded, Lists, AreTables, AddsRow, HoldRows}
 use Rattle.opt_solvers.proofs.FactsFalling.{decide}
-use Rattle.opt_solvers.proofs.FactsEntering.{row_at, next_of}
+use Rattle.opt_solvers.proofs.FactsEntering.{next_of}
 
 module _ {X : Type 0} where
   pub get-set_same : (xs : List X) (i : ℕ) (x : X) → i < length xs → slice_get (set xs i x) i ≡ Some x
@@ -41,6 +38,11 @@ module _ {X : Type 0} where
   get_push_left [] y z i e = absurd (none-some z e)
   get_push_left (x ∷ xs) y z zero e = e
   get_push_left (x ∷ xs) y z (suc i) e = get_push_left xs y z i e
+
+  pub get_push_before : (xs : List X) (y : X) (i : ℕ) → i < length xs → slice_get (xs ++ y ∷ []) i ≡ slice_get xs i
+  get_push_before [] y i h = absurd (omega arith)
+  get_push_before (x ∷ xs) y zero h = refl
+  get_push_before (x ∷ xs) y (suc i) h = get_push_before xs y i (omega arith)
 
   pub get_push_last : (xs : List X) (y : X) → slice_get (xs ++ y ∷ []) (length xs) ≡ Some y
   get_push_last [] y = refl
@@ -75,32 +77,58 @@ module _ {X : Type 0} where
   get_from_take (x ∷ xs) (suc i) zero z e = e
   get_from_take (x ∷ xs) (suc i) (suc j) z e = get_from_take xs i j z e
 
--- one row of a table changed
-pub row-set_same : {X : Type 0} (t : List (Vec X Global)) (i : ℕ) (v : Vec X Global) → i < length t → row_of (set t i v) i ≡ v.items
-row-set_same {X} t i v h = ap (λ o. unwrap_or (option_map (λ (v : Vec X Global). v.items) o) []) (get-set_same t i v h)
-
-pub row-set_other : {X : Type 0} (t : List (Vec X Global)) (i j : ℕ) (v : Vec X Global) → (j ≡ i → ⊥) → row_of (set t i v) j ≡ row_of t j
-row-set_other {X} t i j v h = ap (λ o. unwrap_or (option_map (λ (v : Vec X Global). v.items) o) []) (get-set_other t i j v h)
-
 module _ {X : Type 0} where
-  pub gained_one : (t : List (Vec X Global)) (i : ℕ) (row new : Vec X Global) (x : X) → i < length t → row ≡ get_or t i row → new.items ≡ row.items ++ x ∷ [] → Gains (λ n y. (n ≡ i) × (y ≡ x)) t (set t i new)
-  gained_one t i row new x h e q = record {
-    len = length-set t i new;
-    keeps = λ n y c. ⊎_elim
-        (λ s. subst (λ m. Contains (row_of (set t i new) m) y) (sym s) (subst (λ xs. Contains xs y) (sym there) (Contains-append_left (row_of t i) (x ∷ []) y (subst (λ m. Contains (row_of t m) y) s c))))
-        (λ s. subst (λ xs. Contains xs y) (sym (row-set_other t i n new s)) c)
-        (decide n i);
-    has = λ n y s. subst (λ m. Contains (row_of (set t i new) m) y) (sym s.0) (subst (λ z. Contains (row_of (set t i new) i) z) (sym s.1) (subst (λ xs. Contains xs x) (sym there) (Contains-push (row_of t i) x)));
-    only = λ n y c. ⊎_elim
-        (λ s. ⊎_elim (λ a. inl (subst (λ m. Contains (row_of t m) y) (sym s) a)) (λ a. inr (s, sym a)) (Contains-push_cases (row_of t i) x y (subst (λ xs. Contains xs y) there (subst (λ m. Contains (row_of (set t i new) m) y) s c))))
-        (λ s. inl (subst (λ xs. Contains xs y) (row-set_other t i n new s) c))
-        (decide n i);
-  }
-    where
-      there : row_of (set t i new) i ≡ row_of t i ++ x ∷ []
-      there = row-set_same t i new h ∙ (q ∙ ap (λ xs. xs ++ x ∷ []) (sym (row_at t i row h e)))
+  pub contains_first : (x : X) (xs : List X) → Contains (x ∷ xs) x
+  contains_first x xs = (0, omega arith, refl)
 
-  pub gained_then : (P Q R : ℕ → X → Type 0) → ((n : ℕ) (x : X) → P n x → R n x) → ((n : ℕ) (x : X) → Q n x → R n x) → ((n : ℕ) (x : X) → R n x → P n x ⊎ Q n x) → (a b c : List (Vec X Global)) → Gains P a b → Gains Q b c → Gains R a c
+  pub contains_behind : (y : X) (xs : List X) (x : X) → Contains xs x → Contains (y ∷ xs) x
+  contains_behind y xs x c = (suc c.0, (let h = c.1 in omega (arith, h)), c.2)
+
+  pub contains_cases : (y : X) (xs : List X) (x : X) → Contains (y ∷ xs) x → (y ≡ x) ⊎ Contains xs x
+  contains_cases y xs x c = go c.0 c.1 c.2
+    where
+      go : (i : ℕ) → i < length (y ∷ xs) → get_or (y ∷ xs) i x ≡ x → (y ≡ x) ⊎ Contains xs x
+      go zero h e = inl e
+      go (suc i) h e = inr (i, omega (arith, h), e)
+
+  -- part of a list was gone over: the next item is in the list
+  pub next_within : (done rest next all : List X) (x : X) → rest ≡ x ∷ next → done ++ rest ≡ all → Contains all x
+  next_within done rest next all x e h = subst (λ xs. Contains xs x) (ap (λ r. done ++ r) (sym e) ∙ h) (go done)
+    where
+      go : (done : List X) → Contains (done ++ x ∷ next) x
+      go [] = contains_first x next
+      go (y ∷ ys) = contains_behind y (ys ++ x ∷ next) x (go ys)
+
+  pub next_done : (done rest next all : List X) (x : X) → rest ≡ x ∷ next → done ++ rest ≡ all → (done ++ x ∷ []) ++ next ≡ all
+  next_done done rest next all x e h = append_assoc done (x ∷ []) next ∙ (ap (λ r. done ++ r) (sym e) ∙ h)
+
+  pub all_done : (done rest all : List X) → rest ≡ [] → done ++ rest ≡ all → done ≡ all
+  all_done done rest all e h = sym (append-nil done) ∙ (ap (λ r. done ++ r) (sym e) ∙ h)
+
+  pub table-set_same : (t : List (List X)) (i : ℕ) (row : List X) → i < length t → row_at (set t i row) i ≡ row
+  table-set_same t i row h = ap listed (get-set_same t i row h)
+
+  pub table-set_other : (t : List (List X)) (i j : ℕ) (row : List X) → (j ≡ i → ⊥) → row_at (set t i row) j ≡ row_at t j
+  table-set_other t i j row h = ap listed (get-set_other t i j row h)
+
+  pub gained_one : (t u : List (List X)) (i : ℕ) (x : X) → i < length t → u ≡ set t i (x ∷ row_at t i) → Gains (λ n y. (n ≡ i) × (y ≡ x)) t u
+  gained_one t u i x h q = subst (Gains (λ n y. (n ≡ i) × (y ≡ x)) t) (sym q) (record {
+    len = length-set t i (x ∷ row_at t i);
+    keeps = λ n y c. ⊎_elim
+        (λ s. subst (λ m. Contains (row_at (set t i (x ∷ row_at t i)) m) y) (sym s) (subst (λ xs. Contains xs y) (sym there) (contains_behind x (row_at t i) y (subst (λ m. Contains (row_at t m) y) s c))))
+        (λ s. subst (λ xs. Contains xs y) (sym (table-set_other t i n (x ∷ row_at t i) s)) c)
+        (decide n i);
+    has = λ n y s. subst (λ m. Contains (row_at (set t i (x ∷ row_at t i)) m) y) (sym s.0) (subst (λ z. Contains (row_at (set t i (x ∷ row_at t i)) i) z) (sym s.1) (subst (λ xs. Contains xs x) (sym there) (contains_first x (row_at t i))));
+    only = λ n y c. ⊎_elim
+        (λ s. ⊎_elim (λ a. inr (s, sym a)) (λ a. inl (subst (λ m. Contains (row_at t m) y) (sym s) a)) (contains_cases x (row_at t i) y (subst (λ xs. Contains xs y) there (subst (λ m. Contains (row_at (set t i (x ∷ row_at t i)) m) y) s c))))
+        (λ s. inl (subst (λ xs. Contains xs y) (table-set_other t i n (x ∷ row_at t i) s) c))
+        (decide n i);
+  })
+    where
+      there : row_at (set t i (x ∷ row_at t i)) i ≡ x ∷ row_at t i
+      there = table-set_same t i (x ∷ row_at t i) h
+
+  pub gained_then : (P Q R : ℕ → X → Type 0) → ((n : ℕ) (x : X) → P n x → R n x) → ((n : ℕ) (x : X) → Q n x → R n x) → ((n : ℕ) (x : X) → R n x → P n x ⊎ Q n x) → (a b c : List (List X)) → Gains P a b → Gains Q b c → Gains R a c
   gained_then P Q R f g h a b c p q = record {
     len = q.len ∙ p.len;
     keeps = λ n x s. q.keeps n x (p.keeps n x s);
@@ -108,7 +136,7 @@ module _ {X : Type 0} where
     only = λ n x s. ⊎_elim (λ d. ⊎_elim (λ o. inl o) (λ o. inr (f n x o)) (p.only n x d)) (λ d. inr (g n x d)) (q.only n x s);
   }
 
-  pub gained_none : (P : ℕ → X → Type 0) → ((n : ℕ) (x : X) → P n x → ⊥) → (a : List (Vec X Global)) → Gains P a a
+  pub gained_none : (P : ℕ → X → Type 0) → ((n : ℕ) (x : X) → P n x → ⊥) → (a : List (List X)) → Gains P a a
   gained_none P f a = record {
     len = refl;
     keeps = λ n x s. s;
@@ -116,7 +144,7 @@ module _ {X : Type 0} where
     only = λ n x s. inl s;
   }
 
-  pub gained_as : (P Q : ℕ → X → Type 0) → ((n : ℕ) (x : X) → P n x → Q n x) → ((n : ℕ) (x : X) → Q n x → P n x) → (a b : List (Vec X Global)) → Gains P a b → Gains Q a b
+  pub gained_as : (P Q : ℕ → X → Type 0) → ((n : ℕ) (x : X) → P n x → Q n x) → ((n : ℕ) (x : X) → Q n x → P n x) → (a b : List (List X)) → Gains P a b → Gains Q a b
   gained_as P Q f g a b p = record {
     len = p.len;
     keeps = p.keeps;
@@ -125,30 +153,28 @@ module _ {X : Type 0} where
   }
 
   -- a table that was empty lists what it gained
-  pub listed : (P : ℕ → X → Type 0) (count : ℕ) (a b : List (Vec X Global)) → Lists (λ n x. ⊥) a count → Gains P a b → Lists P b count
-  listed P count a b e p = record {
+  pub all_listed : (P : ℕ → X → Type 0) (count : ℕ) (a b : List (List X)) → Lists (λ n x. ⊥) a count → Gains P a b → Lists P b count
+  all_listed P count a b e p = record {
     len = p.len ∙ e.len;
     has = p.has;
     only = λ n x s. ⊎_elim (λ o. absurd (e.only n x o)) (λ o. o) (p.only n x s);
   }
 
-  -- an empty row more
-  pub emptied_more : (t u : List (Vec X Global)) (count : ℕ) (row : Vec X Global) → u ≡ t ++ row ∷ [] → row.items ≡ [] → Lists (λ n x. ⊥) t count → Lists (λ n x. ⊥) u (count + 1)
-  emptied_more t u count row e r l = record {
-    len = omega (arith, ap length e, length-append t (row ∷ []), l.len);
+  nothing_at : (row : List X) (count n : ℕ) → row ≡ [] → row_at (replicate count row) n ≡ []
+  nothing_at row zero n e = refl
+  nothing_at row (suc count) zero e = e
+  nothing_at row (suc count) (suc n) e = nothing_at row count n e
+
+  -- a table of empty rows
+  pub emptied : (t : List (List X)) (count : ℕ) → t ≡ replicate count [] → Lists (λ n x. ⊥) t count
+  emptied t count e = record {
+    len = ap length e ∙ length-replicate count [];
     has = λ n x s. absurd s;
-    only = λ n x s. go n x (slice_get u n) refl s;
+    only = λ n x s. let c : Contains [] x = subst (λ xs. Contains xs x) (ap (λ u. row_at u n) e ∙ nothing_at [] count n refl) s in omega (arith, c.1);
   }
-    where
-      go : (n : ℕ) (x : X) (o : Option (Vec X Global)) → slice_get u n ≡ o → Contains (unwrap_or (option_map (λ (v : Vec X Global). v.items) o) []) x → ⊥
-      go n x None q s = omega (arith, s.1)
-      go n x (Some v) q s = ⊎_elim
-          (λ a. l.only n x (subst (λ o. Contains (unwrap_or (option_map (λ (v : Vec X Global). v.items) o) []) x) (sym a) s))
-          (λ a. let c : Contains [] x = subst (λ xs. Contains xs x) (ap (λ (v : Vec X Global). v.items) (sym a.1) ∙ r) s in omega (arith, c.1))
-          (get_push_cases t row v n (ap (λ xs. slice_get xs n) (sym e) ∙ q))
 
 -- the next operand of an operation
-pub places_more : (a b c : List (Vec Place Global)) (number : ℕ) (xs : List ℕ) (i v : ℕ) → i < length xs → v ≡ get_or xs i v
+pub places_more : (a b c : List (List Place)) (number : ℕ) (xs : List ℕ) (i v : ℕ) → i < length xs → v ≡ get_or xs i v
     → Gains (λ u x. (x.row ≡ number) × (slice_get (take i xs) x.operand ≡ Some u)) a b → Gains (λ u x. (u ≡ v) × (x ≡ record { row = number; operand = i })) b c → Gains (λ u x. (x.row ≡ number) × (slice_get (take (i + 1) xs) x.operand ≡ Some u)) a c
 places_more a b c number xs i v h e p q = gained_then _ _ _
     (λ u x s. (s.0, get_more_left xs i v u x.operand h e s.1))
@@ -157,7 +183,7 @@ places_more a b c number xs i v h e p q = gained_then _ _ _
     a b c p q
 
 -- the next argument of a block
-pub forwards_more : (a b c : List (Vec Slot Global)) (n m : ℕ) (arguments forwards operands : List ℕ) (i w q v : ℕ) → i < length arguments → w ≡ get_or arguments i w → slice_get forwards i ≡ Some q → slice_get operands q ≡ Some v
+pub forwards_more : (a b c : List (List Slot)) (n m : ℕ) (arguments forwards operands : List ℕ) (i w q v : ℕ) → i < length arguments → w ≡ get_or arguments i w → slice_get forwards i ≡ Some q → slice_get operands q ≡ Some v
     → Gains (λ u x. (x.row ≡ n) × (x.edge ≡ m) × ForwardsTo (take i arguments) forwards operands u x.argument) a b → Gains (λ u x. (u ≡ v) × (x ≡ record { row = n; edge = m; argument = w })) b c → Gains (λ u x. (x.row ≡ n) × (x.edge ≡ m) × ForwardsTo (take (i + 1) arguments) forwards operands u x.argument) a c
 forwards_more a b c n m arguments forwards operands i w q v h e f o s t = gained_then _ _ _
     (λ u x d. (d.0, d.1, record { index = d.2.index; argument = get_more_left arguments i w x.argument d.2.index h e d.2.argument; operand = d.2.operand; forwards = d.2.forwards; value = d.2.value }))
@@ -168,7 +194,7 @@ forwards_more a b c n m arguments forwards operands i w q v h e f o s t = gained
     (get_more_cases arguments i w x.argument d.2.index h e d.2.argument))
     a b c s t
 
-pub forwards_all : (a b : List (Vec Slot Global)) (n m : ℕ) (arguments forwards operands : List ℕ) (i : ℕ) → ((j : ℕ) → j < length arguments → j < length forwards → j < i)
+pub forwards_all : (a b : List (List Slot)) (n m : ℕ) (arguments forwards operands : List ℕ) (i : ℕ) → ((j : ℕ) → j < length arguments → j < length forwards → j < i)
     → Gains (λ u x. (x.row ≡ n) × (x.edge ≡ m) × ForwardsTo (take i arguments) forwards operands u x.argument) a b → Gains (λ u x. (x.row ≡ n) × (x.edge ≡ m) × ForwardsTo arguments forwards operands u x.argument) a b
 forwards_all a b n m arguments forwards operands i h = gained_as _ _
     (λ u x d. (d.0, d.1, record { index = d.2.index; argument = get_from_take arguments i d.2.index x.argument d.2.argument; operand = d.2.operand; forwards = d.2.forwards; value = d.2.value }))
@@ -176,20 +202,20 @@ forwards_all a b n m arguments forwards operands i h = gained_as _ _
     a b
 
 -- the next edge of an operation
-pub edges_more : (p : FactsProblem) (a b c : List (Vec Slot Global)) (n : ℕ) (edges : List Edge) (operands : List ℕ) (i : ℕ) (edge : Edge) → i < length edges → edge ≡ get_or edges i edge
-    → Gains (λ u x. (x.row ≡ n) × ForwardsAlong p (take i edges) operands u x.edge x.argument) a b → Gains (λ u x. (x.row ≡ n) × (x.edge ≡ i) × ForwardsTo (arguments_of p edge.target) edge.forwards.items operands u x.argument) b c → Gains (λ u x. (x.row ≡ n) × ForwardsAlong p (take (i + 1) edges) operands u x.edge x.argument) a c
+pub edges_more : (p : FactsProblem) (a b c : List (List Slot)) (n : ℕ) (edges : List Edge) (operands : List ℕ) (i : ℕ) (edge : Edge) → i < length edges → edge ≡ get_or edges i edge
+    → Gains (λ u x. (x.row ≡ n) × ForwardsAlong p (take i edges) operands u x.edge x.argument) a b → Gains (λ u x. (x.row ≡ n) × (x.edge ≡ i) × ForwardsTo (arguments_of p edge.target) edge.forwards operands u x.argument) b c → Gains (λ u x. (x.row ≡ n) × ForwardsAlong p (take (i + 1) edges) operands u x.edge x.argument) a c
 edges_more p a b c n edges operands i edge h e s t = gained_then _ _ _
     (λ u x d. (d.0, record { edge = d.1.edge; there = get_more_left edges i edge d.1.edge x.edge h e d.1.there; forwards = d.1.forwards }))
     (λ u x d. (d.0, record { edge = edge; there = ap (slice_get (take (i + 1) edges)) d.1 ∙ get_more_last edges i edge h e; forwards = d.2 }))
     (λ u x d. ⊎_elim
     (λ r. inl (d.0, record { edge = d.1.edge; there = r; forwards = d.1.forwards }))
-    (λ r. inr (d.0, r.0, subst (λ (y : Edge). ForwardsTo (arguments_of p y.target) y.forwards.items operands u x.argument) (sym r.1) d.1.forwards))
+    (λ r. inr (d.0, r.0, subst (λ (y : Edge). ForwardsTo (arguments_of p y.target) y.forwards operands u x.argument) (sym r.1) d.1.forwards))
     (get_more_cases edges i edge d.1.edge x.edge h e d.1.there))
     a b c s t
 
-pub row_put : (p : FactsProblem) (a b : Tables) (n : ℕ) (r : Row) → Gains (λ m i. (m ≡ r.block) × (i ≡ n)) a.rows.items b.rows.items → Gains (λ v x. (x.row ≡ n) × (slice_get r.operands.items x.operand ≡ Some v)) a.readers.items b.readers.items → Gains (λ v x. (x.row ≡ n) × ForwardsAlong p r.edges.items r.operands.items v x.edge x.argument) a.slots.items b.slots.items → AddsRow p a b n r
+pub row_put : (p : FactsProblem) (a b : Tables) (n : ℕ) (r : Row) → Gains (λ m i. (m ≡ r.block) × (i ≡ n)) a.rows b.rows → Gains (λ v x. (x.row ≡ n) × (slice_get r.operands x.operand ≡ Some v)) a.readers b.readers → Gains (λ v x. (x.row ≡ n) × ForwardsAlong p r.edges r.operands v x.edge x.argument) a.slots b.slots → AddsRow p a b n r
 row_put p a b n r f g h = record {
-  rows = gained_as _ _ (λ m i d. (d.1, sym d.0)) (λ m i d. (sym d.1, d.0)) a.rows.items b.rows.items f;
+  rows = gained_as _ _ (λ m i d. (d.1, sym d.0)) (λ m i d. (sym d.1, d.0)) a.rows b.rows f;
   readers = g;
   slots = h;
 }
@@ -201,29 +227,29 @@ rows_more p a b c rows i row h e s t = record {
       (λ n x d. record { row = d.row; there = get_more_left rows i row d.row x h e d.there; block = d.block })
       (λ n x d. record { row = row; there = ap (slice_get (take (i + 1) rows)) d.0 ∙ get_more_last rows i row h e; block = d.1 })
       (λ n x d. ⊎_elim (λ r. inl (record { row = d.row; there = r; block = d.block })) (λ r. inr (r.0, ap (λ (y : Row). y.block) r.1 ∙ d.block)) (get_more_cases rows i row d.row x h e d.there))
-      a.rows.items b.rows.items c.rows.items s.rows t.rows;
+      a.rows b.rows c.rows s.rows t.rows;
   readers = gained_then _ _ _
       (λ n x d. record { row = d.row; there = get_more_left rows i row d.row x.row h e d.there; operand = d.operand })
       (λ n x d. record { row = row; there = ap (slice_get (take (i + 1) rows)) d.0 ∙ get_more_last rows i row h e; operand = d.1 })
-      (λ n x d. ⊎_elim (λ r. inl (record { row = d.row; there = r; operand = d.operand })) (λ r. inr (r.0, subst (λ (y : Row). slice_get y.operands.items x.operand ≡ Some n) (sym r.1) d.operand)) (get_more_cases rows i row d.row x.row h e d.there))
-      a.readers.items b.readers.items c.readers.items s.readers t.readers;
+      (λ n x d. ⊎_elim (λ r. inl (record { row = d.row; there = r; operand = d.operand })) (λ r. inr (r.0, subst (λ (y : Row). slice_get y.operands x.operand ≡ Some n) (sym r.1) d.operand)) (get_more_cases rows i row d.row x.row h e d.there))
+      a.readers b.readers c.readers s.readers t.readers;
   slots = gained_then _ _ _
       (λ n x d. record { row = d.row; there = get_more_left rows i row d.row x.row h e d.there; along = d.along })
       (λ n x d. record { row = row; there = ap (slice_get (take (i + 1) rows)) d.0 ∙ get_more_last rows i row h e; along = d.1 })
-      (λ n x d. ⊎_elim (λ r. inl (record { row = d.row; there = r; along = d.along })) (λ r. inr (r.0, subst (λ (y : Row). ForwardsAlong p y.edges.items y.operands.items n x.edge x.argument) (sym r.1) d.along)) (get_more_cases rows i row d.row x.row h e d.there))
-      a.slots.items b.slots.items c.slots.items s.slots t.slots;
+      (λ n x d. ⊎_elim (λ r. inl (record { row = d.row; there = r; along = d.along })) (λ r. inr (r.0, subst (λ (y : Row). ForwardsAlong p y.edges y.operands n x.edge x.argument) (sym r.1) d.along)) (get_more_cases rows i row d.row x.row h e d.there))
+      a.slots b.slots c.slots s.slots t.slots;
 }
 
 pub no_rows : (p : FactsProblem) (t : Tables) → HoldRows p t t []
 no_rows p t = record {
-  rows = gained_none (IsIn []) (λ n x d. none-some d.row d.there) t.rows.items;
-  readers = gained_none (Reads []) (λ n x d. none-some d.row d.there) t.readers.items;
-  slots = gained_none (IsForwarded p []) (λ n x d. none-some d.row d.there) t.slots.items;
+  rows = gained_none (IsIn []) (λ n x d. none-some d.row d.there) t.rows;
+  readers = gained_none (Reads []) (λ n x d. none-some d.row d.there) t.readers;
+  slots = gained_none (IsForwarded p []) (λ n x d. none-some d.row d.there) t.slots;
 }
 
-pub tables_end : (p : FactsProblem) (a b : Tables) → Lists (λ n x. ⊥) a.rows.items (length p.arguments.items) → Lists (λ n x. ⊥) a.readers.items p.values → Lists (λ n x. ⊥) a.slots.items p.values → HoldRows p a b p.rows.items → AreTables p b
+pub tables_end : (p : FactsProblem) (a b : Tables) → Lists (λ n x. ⊥) a.rows (length p.arguments.items) → Lists (λ n x. ⊥) a.readers p.values → Lists (λ n x. ⊥) a.slots p.values → HoldRows p a b p.rows → AreTables p b
 tables_end p a b r s t h = record {
-  rows = listed (IsIn p.rows.items) (length p.arguments.items) a.rows.items b.rows.items r h.rows;
-  readers = listed (Reads p.rows.items) p.values a.readers.items b.readers.items s h.readers;
-  slots = listed (IsForwarded p p.rows.items) p.values a.slots.items b.slots.items t h.slots;
+  rows = all_listed (IsIn p.rows) (length p.arguments.items) a.rows b.rows r h.rows;
+  readers = all_listed (Reads p.rows) p.values a.readers b.readers s h.readers;
+  slots = all_listed (IsForwarded p p.rows) p.values a.slots b.slots t h.slots;
 }

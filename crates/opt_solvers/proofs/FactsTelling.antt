@@ -1,17 +1,15 @@
 -- What telling a value's fact keeps.
-use Rattle.std.proofs.Common.{◌≡◌, ◌⊎◌, inl, inr, ⊎_elim, ℕ, ◌+◌, ◌<◌, List, [], ◌∷◌, ◌++◌, Some, Bool, true, length, get_or, take, refl, sym, ap, ◌∙◌, subst, arith}
+use Rattle.std.proofs.Common.{◌≡◌, ◌⊎◌, inl, inr, ⊎_elim, ℕ, ◌<◌, List, [], ◌∷◌, ◌++◌, Some, Bool, true, length, get_or, refl, sym, ap, ◌∙◌, subst, arith}
 use Rattle.std.specs.Prelude.{Contains, slice_get}
-use Rattle.std.specs.declared.vec.Vec.{Vec}
-use Rattle.std.specs.declared.alloc.Global.{Global}
 use Rattle.std.proofs.Math.ListN.{set}
 use Rattle.std.proofs.lemmas.Option.{slice_get_within, same_Some}
 use Rattle.std.proofs.lemmas.List.{length-set}
 use Rattle.std.proofs.lemmas.List.Elements.{Contains-push, Contains-push_cases, Contains-append_left, Contains-append_cases}
 use Rattle.opt_solvers.specs.declared.known.Known.{Known}
 use Rattle.opt_solvers.specs.declared.known.Known.TheVariants.{Undetermined}
-use Rattle.opt_solvers.specs.declared.facts_problem.Row.{Row}
+use Rattle.opt_solvers.specs.OperationRows.{Row}
 use Rattle.opt_solvers.specs.declared.facts_problem.FactsProblem.{FactsProblem}
-use Rattle.opt_solvers.specs.Rows.{listed}
+use Rattle.opt_solvers.specs.Rows.{row_at}
 use Rattle.opt_solvers.specs.declared.facts_found.Found.{Found}
 use Rattle.opt_solvers.specs.declared.facts_tables.Place.{Place}
 use Rattle.opt_solvers.specs.declared.facts_tables.Slot.{Slot}
@@ -20,20 +18,13 @@ use Rattle.opt_solvers.specs.declared.facts_solver.Solver.{Solver}
 use Rattle.opt_solvers.specs.Known.{AtOrBelow, MorePrecise}
 use Rattle.opt_solvers.specs.Facts.{Answers, NumberedFacts, arguments_of, IsClosed, IsProblem}
 use Rattle.opt_solvers.specs.FactsFound.{facts_of, Falls, Meets}
-use Rattle.opt_solvers.specs.FactsTables.{row_of, Reads, ForwardsTo, AreTables}
-use Rattle.opt_solvers.specs.FactsSolving.{seen_of, IsTaken, SlotsBelow, Refreshed, IsSolving, IsWaiting, Steps, Refreshes, Sees, Tells}
+use Rattle.opt_solvers.specs.FactsTables.{Reads, ForwardsTo, AreTables}
+use Rattle.opt_solvers.specs.FactsSolving.{seen_of, IsTaken, SlotBelow, SlotsBelow, Refreshed, IsSolving, IsWaiting, Steps, Refreshes, Sees, Tells}
 use Rattle.opt_solvers.proofs.FactsFalling.{decide, at_same, at_trans, falls_none, falls_as, meets_then, meets_as, meets_none, any_below, or_read}
-use Rattle.opt_solvers.proofs.FactsEntering.{next_of, enters_stays}
-use Rattle.opt_solvers.proofs.FactsTabling.{get-set_same, get-set_other, get_contains}
+use Rattle.opt_solvers.proofs.FactsEntering.{enters_stays}
+use Rattle.opt_solvers.proofs.FactsTabling.{get-set_same, get-set_other, get_contains, table-set_same, table-set_other, contains_first, contains_behind}
 use Rattle.opt_solvers.proofs.FactsEdging.{forwards_from, lie_stays}
 use Rattle.opt_solvers.proofs.FactsVisiting.{done_stays, started_stays, refreshed_stays}
-
--- what one operation sees changes
-pub seen-set_same : {A : Type 0} (ss : List (List (Known A))) (i : ℕ) (s : List (Known A)) → i < length ss → seen_of (set ss i s) i ≡ s
-seen-set_same ss i s h = ap listed (get-set_same ss i s h)
-
-pub seen-set_other : {A : Type 0} (ss : List (List (Known A))) (i j : ℕ) (s : List (Known A)) → (j ≡ i → ⊥) → seen_of (set ss i s) j ≡ seen_of ss j
-seen-set_other ss i j s h = ap listed (get-set_other ss i j s h)
 
 pub one_contained : (v u : ℕ) → Contains (v ∷ []) u → u ≡ v
 one_contained v u c = ⊎_elim (λ a. absurd (omega (arith, a.1))) (λ e. sym e) (Contains-push_cases [] v u c)
@@ -42,27 +33,27 @@ one_place : (x y : Place) → Contains (x ∷ []) y → y ≡ x
 one_place x y c = ⊎_elim (λ a. absurd (omega (arith, a.1))) (λ e. sym e) (Contains-push_cases [] x y c)
 
 module _ {A : Type 0} where
-  slots_stay : (taken : List (Vec Bool Global)) (slots : List Slot) (fact : Known A) (k l : NumberedFacts A) → MorePrecise k l → SlotsBelow taken slots fact k → SlotsBelow taken slots fact l
+  slots_stay : (taken : List (List Bool)) (slots : List Slot) (fact : Known A) (k l : NumberedFacts A) → MorePrecise k l → SlotsBelow taken slots fact k → SlotsBelow taken slots fact l
   slots_stay taken slots fact k l m d x c t = at_trans (l.of x.argument) (k.of x.argument) fact (m.above x.argument) (d x c t)
 
-  pub slots_none : (taken : List (Vec Bool Global)) (slots : List Slot) (fact : Known A) (a : Found A) → Meets (SlotsBelow taken (take 0 slots) fact) a a
-  slots_none taken slots fact a = meets_none (SlotsBelow taken (take 0 slots) fact) a (λ x c t. absurd (omega (arith, c.1)))
+  pub slots_none : (taken : List (List Bool)) (fact : Known A) (a : Found A) → Meets (SlotsBelow taken [] fact) a a
+  slots_none taken fact a = meets_none (SlotsBelow taken [] fact) a (λ x c t. absurd (omega (arith, c.1)))
 
-  -- the next slot is of a taken edge
-  pub slot_more : (taken : List (Vec Bool Global)) (slots : List Slot) (fact : Known A) (n : ℕ) (x : Slot) (a b c : Found A) → n < length slots → x ≡ get_or slots n x → IsTaken taken x.row x.edge → Meets (SlotsBelow taken (take n slots) fact) a b → Meets (λ l. AtOrBelow (l.of x.argument) fact) b c → Meets (SlotsBelow taken (take (n + 1) slots) fact) a c
-  slot_more taken slots fact n x a b c h e t p q = subst (λ ys. Meets (SlotsBelow taken ys fact) a c) (sym (next_of slots n x h e))
-      (meets_then (SlotsBelow taken (take n slots) fact) (λ l. AtOrBelow (l.of x.argument) fact) (SlotsBelow taken (take n slots ++ x ∷ []) fact)
-      (λ l g y d. g y (Contains-append_left (take n slots) (x ∷ []) y d))
-      (λ l g. g x (Contains-push (take n slots) x) t)
-      (λ l d g y w k. ⊎_elim (λ o. d y o k) (λ o. subst (λ (z : Slot). AtOrBelow (l.of z.argument) fact) o g) (Contains-push_cases (take n slots) x y w))
-      (slots_stay taken (take n slots) fact) a b c p q)
+  -- the next slot
+  pub slot_more : (taken : List (List Bool)) (slots : List Slot) (fact : Known A) (x : Slot) (a b c : Found A) → Meets (SlotsBelow taken slots fact) a b → Meets (SlotBelow taken x fact) b c → Meets (SlotsBelow taken (slots ++ x ∷ []) fact) a c
+  slot_more taken slots fact x a b c p q =
+      meets_then (SlotsBelow taken slots fact) (SlotBelow taken x fact) (SlotsBelow taken (slots ++ x ∷ []) fact)
+      (λ l g y d. g y (Contains-append_left slots (x ∷ []) y d))
+      (λ l g. g x (Contains-push slots x))
+      (λ l d g y w. ⊎_elim (λ o. d y o) (λ o. subst (λ (z : Slot). SlotBelow taken z fact l) o g) (Contains-push_cases slots x y w))
+      (slots_stay taken slots fact) a b c p q
 
-  -- or of one that is not
-  pub slot_same : (taken : List (Vec Bool Global)) (slots : List Slot) (fact : Known A) (n : ℕ) (x : Slot) (a b : Found A) → n < length slots → x ≡ get_or slots n x → (IsTaken taken x.row x.edge → ⊥) → Meets (SlotsBelow taken (take n slots) fact) a b → Meets (SlotsBelow taken (take (n + 1) slots) fact) a b
-  slot_same taken slots fact n x a b h e t p = subst (λ ys. Meets (SlotsBelow taken ys fact) a b) (sym (next_of slots n x h e))
-      (meets_as (SlotsBelow taken (take n slots) fact) (SlotsBelow taken (take n slots ++ x ∷ []) fact)
-      (λ l g y d. g y (Contains-append_left (take n slots) (x ∷ []) y d))
-      (λ l d y w k. ⊎_elim (λ o. d y o k) (λ o. absurd (t (subst (λ (z : Slot). IsTaken taken z.row z.edge) (sym o) k))) (Contains-push_cases (take n slots) x y w)) a b p)
+  -- its edge is taken, or not
+  pub slot_lowered : (taken : List (List Bool)) (x : Slot) (fact : Known A) (a b : Found A) → IsTaken taken x.row x.edge → Meets (λ l. AtOrBelow (l.of x.argument) fact) a b → Meets (SlotBelow taken x fact) a b
+  slot_lowered taken x fact a b t m = meets_as (λ l. AtOrBelow (l.of x.argument) fact) (SlotBelow taken x fact) (λ l g. g t) (λ l d k. d) a b m
+
+  pub slot_untaken : (taken : List (List Bool)) (x : Slot) (fact : Known A) (a : Found A) → (IsTaken taken x.row x.edge → ⊥) → Meets (SlotBelow taken x fact) a a
+  slot_untaken taken x fact a t = meets_none (SlotBelow taken x fact) a (λ k. absurd (t k))
 
   module _ (ask : Answers A) (p : FactsProblem) where
     -- what is left to do after steps
@@ -84,15 +75,15 @@ module _ {A : Type 0} where
     }
 
     -- the arguments that a value is forwarded to are lowered
-    module _ (tables : Tables) (ok : AreTables p tables) (s : Solver A) (v : ℕ) (fact : Known A) (f : Found A) (d : IsSolving ask p s (v ∷ [])) (is : (facts_of s.found).of v ≡ fact) (m : Meets (SlotsBelow s.taken.items (row_of tables.slots.items v) fact) s.found f) where
-      pub slots_best : (l : NumberedFacts A) → IsClosed ask p l → SlotsBelow s.taken.items (row_of tables.slots.items v) fact l
+    module _ (tables : Tables) (ok : AreTables p tables) (s : Solver A) (v : ℕ) (fact : Known A) (f : Found A) (d : IsSolving ask p s (v ∷ [])) (is : (facts_of s.found).of v ≡ fact) (m : Meets (SlotsBelow s.taken (row_at tables.slots v) fact) s.found f) where
+      pub slots_best : (l : NumberedFacts A) → IsClosed ask p l → SlotsBelow s.taken (row_at tables.slots v) fact l
       slots_best l c x o t =
           let w = ok.slots.only v x o in
           let e = d.taken_best l c x.row x.edge w.row w.along.edge w.there w.along.there t in
-          subst (AtOrBelow (l.of x.argument)) is (at_trans (l.of x.argument) (l.of v) ((facts_of s.found).of v) (forwards_from l (arguments_of p w.along.edge.target) w.along.edge.forwards.items w.row.operands.items e.arguments v x.argument w.along.forwards) ((d.best l c).above v))
+          subst (AtOrBelow (l.of x.argument)) is (at_trans (l.of x.argument) (l.of v) ((facts_of s.found).of v) (forwards_from l (arguments_of p w.along.edge.target) w.along.edge.forwards w.row.operands e.arguments v x.argument w.along.forwards) ((d.best l c).above v))
 
       pub slots_fall : Falls (IsClosed ask p) s.found f
-      slots_fall = falls_as (SlotsBelow s.taken.items (row_of tables.slots.items v) fact) (IsClosed ask p) slots_best s.found f m.steps
+      slots_fall = falls_as (SlotsBelow s.taken (row_at tables.slots v) fact) (IsClosed ask p) slots_best s.found f m.steps
 
       pub value_forwarded : IsSolving ask p (record { found = f; seen = s.seen; taken = s.taken; marks = s.marks }) []
       value_forwarded = record {
@@ -116,30 +107,30 @@ module _ {A : Type 0} where
               (λ y. let q : u ≡ v = one_contained v u y in
               ⊎_elim
               (λ k. inl (subst (λ g. AtOrBelow ((facts_of f).of w) ((facts_of f).of g)) (sym q) (subst (AtOrBelow ((facts_of f).of w)) (sym (k ∙ is))
-              (m.holds (record { row = i; edge = n; argument = w }) (ok.slots.has v (record { row = i; edge = n; argument = w }) (record { row = r; there = a; along = record { edge = e; there = b; forwards = subst (λ g. ForwardsTo (arguments_of p e.target) e.forwards.items r.operands.items g w) q z } })) t))))
+              (m.holds (record { row = i; edge = n; argument = w }) (ok.slots.has v (record { row = i; edge = n; argument = w }) (record { row = r; there = a; along = record { edge = e; there = b; forwards = subst (λ g. ForwardsTo (arguments_of p e.target) e.forwards r.operands g w) q z } })) t))))
               (λ k. inr (inl (subst (Contains f.values.items) (sym q) k)))
               (slots_fall.value_waits v))
               o)
-              (lie_stays (IsClosed ask p) (arguments_of p e.target) e.forwards.items r.operands.items (v ∷ []) s.found f slots_fall (d.edges i n r e a b t).arguments u w z);
+              (lie_stays (IsClosed ask p) (arguments_of p e.target) e.forwards r.operands (v ∷ []) s.found f slots_fall (d.edges i n r e a b t).arguments u w z);
         };
       }
 
     -- one place sees what is known
-    module _ (s : Solver A) (v : ℕ) (x : Place) (seen : List (List (Known A))) (fact : Known A) (ok : IsProblem p) (d : IsSolving ask p s []) (w : Reads p.rows.items v x) (read : fact ≡ get_or s.found.known.items v fact) (all : seen ≡ set s.seen x.row (set (seen_of s.seen x.row) x.operand fact)) where
+    module _ (s : Solver A) (v : ℕ) (x : Place) (seen : List (List (Known A))) (fact : Known A) (ok : IsProblem p) (d : IsSolving ask p s []) (w : Reads p.rows v x) (read : fact ≡ get_or s.found.known.items v fact) (all : seen ≡ set s.seen x.row (set (seen_of s.seen x.row) x.operand fact)) where
       at : x.row < length s.seen
-      at = subst (λ n. x.row < n) (sym d.seen_len) (slice_get_within p.rows.items x.row w.row w.there)
+      at = subst (λ n. x.row < n) (sym d.seen_len) (slice_get_within p.rows x.row w.row w.there)
 
       is : (facts_of s.found).of v ≡ fact
-      is = or_read s.found.known.items v fact Undetermined (subst (λ n. v < n) (sym d.values_len) ((ok.rows w.row (get_contains p.rows.items x.row w.row w.there)).operands v (get_contains w.row.operands.items x.operand v w.operand))) read
+      is = or_read s.found.known.items v fact Undetermined (subst (λ n. v < n) (sym d.values_len) ((ok.rows w.row (get_contains p.rows x.row w.row w.there)).operands v (get_contains w.row.operands x.operand v w.operand))) read
 
       after : seen_of seen x.row ≡ set (seen_of s.seen x.row) x.operand fact
-      after = ap (λ ss. seen_of ss x.row) all ∙ seen-set_same s.seen x.row (set (seen_of s.seen x.row) x.operand fact) at
+      after = ap (λ ss. seen_of ss x.row) all ∙ table-set_same s.seen x.row (set (seen_of s.seen x.row) x.operand fact) at
 
       others : (i : ℕ) → (i ≡ x.row → ⊥) → seen_of seen i ≡ seen_of s.seen i
-      others i h = ap (λ ss. seen_of ss i) all ∙ seen-set_other s.seen x.row i (set (seen_of s.seen x.row) x.operand fact) h
+      others i h = ap (λ ss. seen_of ss i) all ∙ table-set_other s.seen x.row i (set (seen_of s.seen x.row) x.operand fact) h
 
       within : x.operand < length (seen_of s.seen x.row)
-      within = subst (λ n. x.operand < n) (sym (d.operands_len x.row w.row w.there)) (slice_get_within w.row.operands.items x.operand v w.operand)
+      within = subst (λ n. x.operand < n) (sym (d.operands_len x.row w.row w.there)) (slice_get_within w.row.operands x.operand v w.operand)
 
       here : slice_get (seen_of seen x.row) x.operand ≡ Some fact
       here = ap (λ xs. slice_get xs x.operand) after ∙ get-set_same (seen_of s.seen x.row) x.operand fact within
@@ -164,8 +155,8 @@ module _ {A : Type 0} where
         taken_best = d.taken_best;
         above = λ i j u r y a b e. ⊎_elim
             (λ z. ⊎_elim
-            (λ k. let q : w.row ≡ r = same_Some w.row r (sym w.there ∙ (ap (slice_get p.rows.items) (sym z) ∙ a)) in
-            let g : v ≡ u = same_Some v u (sym w.operand ∙ (ap (λ (t : Row). slice_get t.operands.items x.operand) q ∙ (ap (slice_get r.operands.items) (sym k) ∙ b))) in
+            (λ k. let q : w.row ≡ r = same_Some w.row r (sym w.there ∙ (ap (slice_get p.rows) (sym z) ∙ a)) in
+            let g : v ≡ u = same_Some v u (sym w.operand ∙ (ap (λ (t : Row). slice_get t.operands x.operand) q ∙ (ap (slice_get r.operands) (sym k) ∙ b))) in
             let f : fact ≡ y = same_Some fact y (sym here ∙ (ap (slice_get (seen_of seen x.row)) (sym k) ∙ (ap (λ n. slice_get (seen_of seen n) j) (sym z) ∙ e))) in
             at_same ((facts_of s.found).of u) y (ap (facts_of s.found).of (sym g) ∙ (is ∙ f)))
             (λ k. d.above i j u r y a b (ap (λ n. slice_get (seen_of s.seen n) j) z ∙ (sym (other_places j k) ∙ (ap (λ n. slice_get (seen_of seen n) j) (sym z) ∙ e))))
@@ -199,7 +190,7 @@ module _ {A : Type 0} where
       }
 
     -- the next place is told
-    pub place_told : (s t : Solver A) (v : ℕ) (x : Place) (places rest : List Place) → places ≡ x ∷ rest → Reads p.rows.items v x → Sees ask p s t v x → IsWaiting ask p s [] places → IsWaiting ask p t [] rest
+    pub place_told : (s t : Solver A) (v : ℕ) (x : Place) (places rest : List Place) → places ≡ x ∷ rest → Reads p.rows v x → Sees ask p s t v x → IsWaiting ask p s [] places → IsWaiting ask p t [] rest
     place_told s t v x places rest e w f d = record {
       entries = λ b c. enters_stays p b (facts_of s.found) (facts_of t.found) f.found.falls (d.entries b c);
       outside = λ u c. any_below ((facts_of t.found).of u) ((facts_of s.found).of u) (f.found.falls.above u) (d.outside u c);
@@ -208,8 +199,8 @@ module _ {A : Type 0} where
           (λ g. inl (record {
             started = started_stays p r (facts_of s.found) (facts_of t.found) f.found.falls g.started;
             refreshed = ⊎_elim
-                (λ z. subst (λ n. Refreshed ask (facts_of t.found) n r r.role (seen_of t.seen n) (row_of t.taken.items n)) (sym z) (f.refreshed r (ap (slice_get p.rows.items) (sym z) ∙ a) o))
-                (λ z. subst (λ xs. Refreshed ask (facts_of t.found) i r r.role xs (row_of t.taken.items i)) (sym (f.others i z)) (refreshed_stays ask (facts_of s.found) (facts_of t.found) i r r.role (seen_of s.seen i) (row_of s.taken.items i) (row_of t.taken.items i) f.found.falls (f.taken i) g.refreshed))
+                (λ z. subst (λ n. Refreshed ask (facts_of t.found) n r r.role (seen_of t.seen n) (row_at t.taken n)) (sym z) (f.refreshed r (ap (slice_get p.rows) (sym z) ∙ a) o))
+                (λ z. subst (λ xs. Refreshed ask (facts_of t.found) i r r.role xs (row_at t.taken i)) (sym (f.others i z)) (refreshed_stays ask (facts_of s.found) (facts_of t.found) i r r.role (seen_of s.seen i) (row_at s.taken i) (row_at t.taken i) f.found.falls (f.taken i) g.refreshed))
                 (decide i x.row);
           }))
           (λ g. inr (⊎_elim (λ z. inl (f.found.keeps_blocks r.block z)) (λ z. inr z) g))
@@ -218,8 +209,8 @@ module _ {A : Type 0} where
           (f.found.block_waits r.block k);
       seen = λ i j u r y a b k. ⊎_elim
           (λ z. ⊎_elim
-          (λ g. let q : w.row ≡ r = same_Some w.row r (sym w.there ∙ (ap (slice_get p.rows.items) (sym z) ∙ a)) in
-          let h : v ≡ u = same_Some v u (sym w.operand ∙ (ap (λ (n : Row). slice_get n.operands.items x.operand) q ∙ (ap (slice_get r.operands.items) (sym g) ∙ b))) in
+          (λ g. let q : w.row ≡ r = same_Some w.row r (sym w.there ∙ (ap (slice_get p.rows) (sym z) ∙ a)) in
+          let h : v ≡ u = same_Some v u (sym w.operand ∙ (ap (λ (n : Row). slice_get n.operands x.operand) q ∙ (ap (slice_get r.operands) (sym g) ∙ b))) in
           let m : (facts_of s.found).of v ≡ y = same_Some _ y (sym f.here ∙ (ap (slice_get (seen_of t.seen x.row)) (sym g) ∙ (ap (λ n. slice_get (seen_of t.seen n) j) (sym z) ∙ k))) in
           ⊎_elim (λ c. inl (ap (facts_of t.found).of (sym h) ∙ (c ∙ m))) (λ c. inr (inl (subst (Contains t.found.values.items) h c))) (f.found.value_waits v))
           (λ g. old i j u r y (λ c. g (ap (λ (n : Place). n.operand) c)) a b (ap (λ n. slice_get (seen_of s.seen n) j) z ∙ (sym (f.other_places j g) ∙ (ap (λ n. slice_get (seen_of t.seen n) j) (sym z) ∙ k))))
@@ -228,7 +219,7 @@ module _ {A : Type 0} where
           (decide i x.row);
     }
       where
-        old : (i j u : ℕ) (r : Row) (y : Known A) → (◌≡◌ {A = Place} (record { row = i; operand = j }) x → ⊥) → slice_get p.rows.items i ≡ Some r → slice_get r.operands.items j ≡ Some u → slice_get (seen_of s.seen i) j ≡ Some y → ((facts_of t.found).of u ≡ y) ⊎ (Contains t.found.values.items u ⊎ Contains rest (record { row = i; operand = j }))
+        old : (i j u : ℕ) (r : Row) (y : Known A) → (◌≡◌ {A = Place} (record { row = i; operand = j }) x → ⊥) → slice_get p.rows i ≡ Some r → slice_get r.operands j ≡ Some u → slice_get (seen_of s.seen i) j ≡ Some y → ((facts_of t.found).of u ≡ y) ⊎ (Contains t.found.values.items u ⊎ Contains rest (record { row = i; operand = j }))
         old i j u r y h a b k = ⊎_elim
             (λ o. ⊎_elim (λ z. inl (z ∙ o)) (λ z. inr (inl z)) (f.found.value_waits u))
             (λ o. inr (⊎_elim
@@ -237,15 +228,32 @@ module _ {A : Type 0} where
             o))
             (d.seen i j u r y a b k)
 
-    pub next_told : (o : Found A) (s t : Solver A) (v : ℕ) (x : Place) (places rest : List Place) → places ≡ x ∷ rest → Reads p.rows.items v x → Tells ask p o s places → Sees ask p s t v x → Tells ask p o t rest
-    next_told o s t v x places rest e w d f = record { solving = f.solving; waiting = place_told s t v x places rest e w f d.waiting; work = omega (arith, f.found.work, d.work) }
+    -- these places have still to be told, each of which reads the value
+    pub record ToldUpTo (o : Found A) (s : Solver A) (v : ℕ) (places : List Place) : Type 0 where
+      pub tells : Tells ask p o s places
+      pub reads : (x : Place) → Contains places x → Reads p.rows v x
 
-    pub told_begins : (tables : Tables) (ok : AreTables p tables) (s : Solver A) (v : ℕ) (fact : Known A) (f : Found A) (slots : List Slot) (places : List Place) → IsSolving ask p s (v ∷ []) → (facts_of s.found).of v ≡ fact → row_of tables.slots.items v ≡ slots → row_of tables.readers.items v ≡ places → Meets (SlotsBelow s.taken.items slots fact) s.found f → IsWaiting ask p s [] (row_of tables.readers.items v) → Tells ask p s.found (record { found = f; seen = s.seen; taken = s.taken; marks = s.marks }) places
+    pub next_reads : (o : Found A) (s : Solver A) (v : ℕ) (x : Place) (places rest : List Place) → places ≡ x ∷ rest → ToldUpTo o s v places → Reads p.rows v x
+    next_reads o s v x places rest e d = d.reads x (subst (λ xs. Contains xs x) (sym e) (contains_first x rest))
+
+    pub next_told : (o : Found A) (s t : Solver A) (v : ℕ) (x : Place) (places rest : List Place) → places ≡ x ∷ rest → ToldUpTo o s v places → Sees ask p s t v x → ToldUpTo o t v rest
+    next_told o s t v x places rest e d f = record {
+      tells = record { solving = f.solving; waiting = place_told s t v x places rest e (next_reads o s v x places rest e d) f d.tells.waiting; work = omega (arith, f.found.work, d.tells.work) };
+      reads = λ y c. d.reads y (subst (λ xs. Contains xs y) (sym e) (contains_behind x rest y c));
+    }
+
+    pub told_begins : (tables : Tables) (ok : AreTables p tables) (s : Solver A) (v : ℕ) (fact : Known A) (f : Found A) (slots : List Slot) (places : List Place) → IsSolving ask p s (v ∷ []) → (facts_of s.found).of v ≡ fact → slots ≡ row_at tables.slots v → places ≡ row_at tables.readers v → Meets (SlotsBelow s.taken slots fact) s.found f → IsWaiting ask p s [] (row_at tables.readers v) → ToldUpTo s.found (record { found = f; seen = s.seen; taken = s.taken; marks = s.marks }) v places
     told_begins tables ok s v fact f slots places d is e g m w =
-        let n : Meets (SlotsBelow s.taken.items (row_of tables.slots.items v) fact) s.found f = subst (λ xs. Meets (SlotsBelow s.taken.items xs fact) s.found f) (sym e) m in
+        let n : Meets (SlotsBelow s.taken (row_at tables.slots v) fact) s.found f = subst (λ xs. Meets (SlotsBelow s.taken xs fact) s.found f) e m in
         let h = slots_fall tables ok s v fact f d is n in
         record {
-          solving = value_forwarded tables ok s v fact f d is n;
-          waiting = waiting_steps s (record { found = f; seen = s.seen; taken = s.taken; marks = s.marks }) [] places (record { found = h; seen = refl; taken = λ i j t. t }) (subst (IsWaiting ask p s []) g w);
-          work = h.work;
+          tells = record {
+            solving = value_forwarded tables ok s v fact f d is n;
+            waiting = waiting_steps s (record { found = f; seen = s.seen; taken = s.taken; marks = s.marks }) [] places (record { found = h; seen = refl; taken = λ i j t. t }) (subst (IsWaiting ask p s []) (sym g) w);
+            work = h.work;
+          };
+          reads = λ x c. ok.readers.only v x (subst (λ xs. Contains xs x) g c);
         }
+
+    pub told_all : (o : Found A) (s : Solver A) (v : ℕ) (places : List Place) → places ≡ [] → ToldUpTo o s v places → Tells ask p o s []
+    told_all o s v places e d = subst (Tells ask p o s) e d.tells

@@ -1,40 +1,36 @@
 -- What looking at operations keeps.
-use Rattle.std.proofs.Common.{◌≡◌, ⊎_elim, ℕ, ◌+◌, ◌<◌, List, [], Option, Some, None, Bool, true, length, get_or, take, map, refl, sym, ap, ◌∙◌, subst, arith}
+use Rattle.std.proofs.Common.{◌≡◌, ⊎_elim, ℕ, ◌+◌, ◌<◌, List, [], ◌∷◌, ◌++◌, Option, Some, None, Bool, true, length, get_or, map, refl, sym, ap, ◌∙◌, subst, arith}
 use Rattle.std.specs.Prelude.{Contains, slice_get}
 use Rattle.std.specs.declared.vec.Vec.{Vec}
 use Rattle.std.specs.declared.alloc.Global.{Global}
-use Rattle.std.proofs.Math.ListN.{set}
 use Rattle.std.proofs.lemmas.Option.{slice_get_read, slice_get_within, same_Some}
-use Rattle.std.proofs.lemmas.List.{length-set}
 use Rattle.std.proofs.lemmas.List.Elements.{Contains-push_cases}
 use Rattle.opt_solvers.specs.declared.known.Known.{Known}
 use Rattle.opt_solvers.specs.declared.facts_problem.Role.{Role}
 use Rattle.opt_solvers.specs.declared.facts_problem.Role.TheVariants.{Folds, Branches, Other}
-use Rattle.opt_solvers.specs.declared.facts_problem.Edge.{Edge}
-use Rattle.opt_solvers.specs.declared.facts_problem.Row.{Row}
+use Rattle.opt_solvers.specs.OperationRows.{Edge, Row}
 use Rattle.opt_solvers.specs.declared.facts_problem.FactsProblem.{FactsProblem}
 use Rattle.opt_solvers.specs.declared.facts_found.Found.{Found}
 use Rattle.opt_solvers.specs.declared.facts_solver.Solver.{Solver}
 use Rattle.opt_solvers.specs.Known.{AtOrBelow, AllBelow, MorePrecise, asked, answer}
 use Rattle.opt_solvers.specs.Facts.{Answers, NumberedFacts, Enters, IsFeasible, EdgeClosed, EdgesClosed, ResultsClosed, RoleClosed, IsClosed}
 use Rattle.opt_solvers.specs.FactsFound.{facts_of, Falls, Meets}
-use Rattle.opt_solvers.specs.FactsTables.{row_of}
+use Rattle.opt_solvers.specs.Rows.{row_at}
 use Rattle.opt_solvers.specs.FactsSolving.{seen_of, IsTaken, Marks, EdgeLies, MarkedClosed, TakesMarked, AnyResults, Started, EdgesTaken, Refreshed, RowDone, IsSolving, Steps, Refreshes, Visits}
 use Rattle.opt_solvers.proofs.FactsFalling.{decide, at_trans, falls_none, falls_then, falls_as, meets_then, meets_as, meets_none}
-use Rattle.opt_solvers.proofs.FactsEntering.{all_any_stays, enters_stays, next_of}
-use Rattle.opt_solvers.proofs.FactsTabling.{row-set_same, row-set_other}
+use Rattle.opt_solvers.proofs.FactsEntering.{all_any_stays, enters_stays}
 use Rattle.opt_solvers.proofs.FactsEdging.{edge_stays}
 use Rattle.opt_solvers.proofs.FactsAsking.{AreLawful, BelowUpto, AskedBelow, pairs, asked_below, answers_below, all_below_stays, all_below_at, all_below_from, asked_length}
 
 -- what is asked of an operation that stands at a row
 pub record AsksRow {A : Type 0} (p : FactsProblem) (s : Solver A) (i : ℕ) (r : Row) (q : List (Option A)) : Type 0 where
-  pub at : slice_get p.rows.items i ≡ Some r
+  pub at : slice_get p.rows i ≡ Some r
   pub asked_is : asked (seen_of s.seen i) ≡ Some q
-  pub len : length q ≡ length r.operands.items
+  pub len : length q ≡ length r.operands
 
-pub asks_row : {A : Type 0} (ask : Answers A) (p : FactsProblem) (s : Solver A) (i : ℕ) (r : Row) (q : List (Option A)) → IsSolving ask p s [] → i < length p.rows.items → r ≡ get_or p.rows.items i r → asked (seen_of s.seen i) ≡ Some q → AsksRow p s i r q
+pub asks_row : {A : Type 0} (ask : Answers A) (p : FactsProblem) (s : Solver A) (i : ℕ) (r : Row) (q : List (Option A)) → IsSolving ask p s [] → i < length p.rows → r ≡ get_or p.rows i r → asked (seen_of s.seen i) ≡ Some q → AsksRow p s i r q
 asks_row ask p s i r q d h e g =
-    let at = slice_get_read p.rows.items (length p.rows.items) i r refl h e in
+    let at = slice_get_read p.rows (length p.rows) i r refl h e in
     record { at = at; asked_is = g; len = asked_length (seen_of s.seen i) q g ∙ d.operands_len i r at }
 
 module _ {A : Type 0} where
@@ -61,21 +57,21 @@ module _ {A : Type 0} where
   any_results_stays vs Other k l m d = all_any_stays vs k l m d
 
   pub started_stays : (p : FactsProblem) (r : Row) (k l : NumberedFacts A) → MorePrecise k l → Started p r k → Started p r l
-  started_stays p r k l m d = record { results = any_results_stays r.results.items r.role k l m d.results; entries = λ b c. enters_stays p b k l m (d.entries b c) }
+  started_stays p r k l m d = record { results = any_results_stays r.results r.role k l m d.results; entries = λ b c. enters_stays p b k l m (d.entries b c) }
 
-  pub row_started : (p : FactsProblem) (r : Row) (blocks : List ℕ) (a b c : Found A) → blocks ≡ r.entries.items → Meets (AnyResults r.results.items r.role) a b → Meets (λ l. (n : ℕ) → Contains blocks n → Enters p l n) b c → Meets (Started p r) a c
-  row_started p r blocks a b c e = meets_then (AnyResults r.results.items r.role) (λ l. (n : ℕ) → Contains blocks n → Enters p l n) (Started p r)
+  pub row_started : (p : FactsProblem) (r : Row) (blocks : List ℕ) (a b c : Found A) → blocks ≡ r.entries → Meets (AnyResults r.results r.role) a b → Meets (λ l. (n : ℕ) → Contains blocks n → Enters p l n) b c → Meets (Started p r) a c
+  row_started p r blocks a b c e = meets_then (AnyResults r.results r.role) (λ l. (n : ℕ) → Contains blocks n → Enters p l n) (Started p r)
       (λ l d. d.results)
       (λ l d n t. d.entries n (subst (λ xs. Contains xs n) e t))
       (λ l d g. record { results = d; entries = λ n t. g n (subst (λ xs. Contains xs n) (sym e) t) })
-      (any_results_stays r.results.items r.role) a b c
+      (any_results_stays r.results r.role) a b c
 
   pub refreshed_stays : (ask : Answers A) (k l : NumberedFacts A) (i : ℕ) (r : Row) (role : Role) (seen : List (Known A)) (taken after : List Bool) → MorePrecise k l → ((n : ℕ) → slice_get taken n ≡ Some true → slice_get after n ≡ Some true) → Refreshed ask k i r role seen taken → Refreshed ask l i r role seen after
   refreshed_stays ask k l i r Folds seen taken after m t d = go (asked seen) d
     where
       go : (q : Option (List (Option A))) → ResultsClosed ask k i r q → ResultsClosed ask l i r q
       go None d = tt
-      go (Some xs) d = all_below_stays r.results.items (map answer (ask.fold i xs)) k l m d
+      go (Some xs) d = all_below_stays r.results (map answer (ask.fold i xs)) k l m d
   refreshed_stays ask k l i r Branches seen taken after m t d = go (asked seen) d
     where
       go : (q : Option (List (Option A))) → EdgesTaken ask i r taken q → EdgesTaken ask i r after q
@@ -88,7 +84,7 @@ module _ {A : Type 0} where
   refreshed_none ask k i r Branches seen taken e = subst (EdgesTaken ask i r taken) (sym e) tt
   refreshed_none ask k i r Other seen taken e = tt
 
-  any_from_role : (ask : Answers A) (p : FactsProblem) (l : NumberedFacts A) (i : ℕ) (r : Row) (role : Role) → RoleClosed ask p l i r role → AnyResults r.results.items role l
+  any_from_role : (ask : Answers A) (p : FactsProblem) (l : NumberedFacts A) (i : ℕ) (r : Row) (role : Role) → RoleClosed ask p l i r role → AnyResults r.results role l
   any_from_role ask p l i r Folds d = tt
   any_from_role ask p l i r Branches d = d.0
   any_from_role ask p l i r Other d = d
@@ -103,8 +99,8 @@ module _ {A : Type 0} where
     pub done_stays : (a b : Solver A) (i : ℕ) (r : Row) → Steps ask p a b → RowDone ask p a i r → RowDone ask p b i r
     done_stays a b i r f d = record {
       started = started_stays p r (facts_of a.found) (facts_of b.found) f.found.falls d.started;
-      refreshed = subst (λ x. Refreshed ask (facts_of b.found) i r r.role (seen_of x i) (row_of b.taken.items i)) (sym f.seen)
-          (refreshed_stays ask (facts_of a.found) (facts_of b.found) i r r.role (seen_of a.seen i) (row_of a.taken.items i) (row_of b.taken.items i) f.found.falls (f.taken i) d.refreshed);
+      refreshed = subst (λ x. Refreshed ask (facts_of b.found) i r r.role (seen_of x i) (row_at b.taken i)) (sym f.seen)
+          (refreshed_stays ask (facts_of a.found) (facts_of b.found) i r r.role (seen_of a.seen i) (row_at a.taken i) (row_at b.taken i) f.found.falls (f.taken i) d.refreshed);
     }
 
     -- facts that fall, and nothing else
@@ -124,22 +120,22 @@ module _ {A : Type 0} where
       edges = λ i n r e a b t. edge_stays (IsClosed ask p) p popped r e s.found f g (d.edges i n r e a b t);
     }
 
-    module _ (laws : AreLawful ask) (s : Solver A) (popped : List ℕ) (d : IsSolving ask p s popped) (i : ℕ) (r : Row) (at : slice_get p.rows.items i ≡ Some r) (running : (facts_of s.found).runs r.block ≡ true) where
+    module _ (laws : AreLawful ask) (s : Solver A) (popped : List ℕ) (d : IsSolving ask p s popped) (i : ℕ) (r : Row) (at : slice_get p.rows i ≡ Some r) (running : (facts_of s.found).runs r.block ≡ true) where
       pub started_best : (l : NumberedFacts A) → IsClosed ask p l → Started p r l
       started_best l c = let w = c.rows i r at ((d.best l c).fewer r.block running) in record { results = any_from_role ask p l i r r.role w.role; entries = w.entries }
 
       -- facts that are closed ask more
-      asks_below : (l : NumberedFacts A) → IsClosed ask p l → (q : List (Option A)) → asked (seen_of s.seen i) ≡ Some q → AskedBelow (map l.of r.operands.items) q
-      asks_below l c q e = asked_below (map l.of r.operands.items) (seen_of s.seen i) q
-          (pairs l.of r.operands.items (seen_of s.seen i) (d.operands_len i r at) (λ j v x a b. at_trans (l.of v) ((facts_of s.found).of v) x ((d.best l c).above v) (d.above i j v r x at a b))) e
+      asks_below : (l : NumberedFacts A) → IsClosed ask p l → (q : List (Option A)) → asked (seen_of s.seen i) ≡ Some q → AskedBelow (map l.of r.operands) q
+      asks_below l c q e = asked_below (map l.of r.operands) (seen_of s.seen i) q
+          (pairs l.of r.operands (seen_of s.seen i) (d.operands_len i r at) (λ j v x a b. at_trans (l.of v) ((facts_of s.found).of v) x ((d.best l c).above v) (d.above i j v r x at a b))) e
 
-      pub folds_best : r.role ≡ Folds → (q : List (Option A)) → asked (seen_of s.seen i) ≡ Some q → (l : NumberedFacts A) → IsClosed ask p l → AllBelow l.of r.results.items (map answer (ask.fold i q))
+      pub folds_best : r.role ≡ Folds → (q : List (Option A)) → asked (seen_of s.seen i) ≡ Some q → (l : NumberedFacts A) → IsClosed ask p l → AllBelow l.of r.results (map answer (ask.fold i q))
       folds_best role q e l c =
           let w : RoleClosed ask p l i r Folds = subst (RoleClosed ask p l i r) role (c.rows i r at ((d.best l c).fewer r.block running)).role in
           let b = asks_below l c q e in
-          answers_below l.of r.results.items (ask.fold i b.asks) (ask.fold i q) (laws.folds_more i b.asks q b.less) (subst (ResultsClosed ask l i r) b.asked_is w)
+          answers_below l.of r.results (ask.fold i b.asks) (ask.fold i q) (laws.folds_more i b.asks q b.less) (subst (ResultsClosed ask l i r) b.asked_is w)
 
-      pub branches_best : r.role ≡ Branches → (q : List (Option A)) → asked (seen_of s.seen i) ≡ Some q → (l : NumberedFacts A) → IsClosed ask p l → (n : ℕ) (e : Edge) → slice_get r.edges.items n ≡ Some e → IsFeasible ask i r q e.target → EdgeClosed p l r e
+      pub branches_best : r.role ≡ Branches → (q : List (Option A)) → asked (seen_of s.seen i) ≡ Some q → (l : NumberedFacts A) → IsClosed ask p l → (n : ℕ) (e : Edge) → slice_get r.edges n ≡ Some e → IsFeasible ask i r q e.target → EdgeClosed p l r e
       branches_best role q e l c n edge t f =
           let w : RoleClosed ask p l i r Branches = subst (RoleClosed ask p l i r) role (c.rows i r at ((d.best l c).fewer r.block running)).role in
           let b = asks_below l c q e in
@@ -148,122 +144,113 @@ module _ {A : Type 0} where
 
     -- nothing is asked of an operation
     pub row_unknown : (s : Solver A) (i : ℕ) → IsSolving ask p s [] → asked (seen_of s.seen i) ≡ None → Refreshes ask p s s i
-    row_unknown s i d e = record { solving = d; steps = steps_none s; done = λ r a. refreshed_none ask (facts_of s.found) i r r.role (seen_of s.seen i) (row_of s.taken.items i) e }
+    row_unknown s i d e = record { solving = d; steps = steps_none s; done = λ r a. refreshed_none ask (facts_of s.found) i r r.role (seen_of s.seen i) (row_at s.taken i) e }
 
-    pub row_other : (s : Solver A) (i : ℕ) → IsSolving ask p s [] → ((r : Row) → slice_get p.rows.items i ≡ Some r → r.role ≡ Other) → Refreshes ask p s s i
-    row_other s i d e = record { solving = d; steps = steps_none s; done = λ r a. subst (λ role. Refreshed ask (facts_of s.found) i r role (seen_of s.seen i) (row_of s.taken.items i)) (sym (e r a)) tt }
+    pub row_other : (s : Solver A) (i : ℕ) → IsSolving ask p s [] → ((r : Row) → slice_get p.rows i ≡ Some r → r.role ≡ Other) → Refreshes ask p s s i
+    row_other s i d e = record { solving = d; steps = steps_none s; done = λ r a. subst (λ role. Refreshed ask (facts_of s.found) i r role (seen_of s.seen i) (row_at s.taken i)) (sym (e r a)) tt }
 
     -- the results of an operation are lowered
-    pub row_folded : AreLawful ask → (s : Solver A) (i : ℕ) (r : Row) (q : List (Option A)) (f : Found A) → IsSolving ask p s [] → slice_get p.rows.items i ≡ Some r → (facts_of s.found).runs r.block ≡ true → r.role ≡ Folds → asked (seen_of s.seen i) ≡ Some q → Meets (λ l. AllBelow l.of r.results.items (map answer (ask.fold i q))) s.found f → Refreshes ask p s (record { found = f; seen = s.seen; taken = s.taken; marks = s.marks }) i
+    pub row_folded : AreLawful ask → (s : Solver A) (i : ℕ) (r : Row) (q : List (Option A)) (f : Found A) → IsSolving ask p s [] → slice_get p.rows i ≡ Some r → (facts_of s.found).runs r.block ≡ true → r.role ≡ Folds → asked (seen_of s.seen i) ≡ Some q → Meets (λ l. AllBelow l.of r.results (map answer (ask.fold i q))) s.found f → Refreshes ask p s (record { found = f; seen = s.seen; taken = s.taken; marks = s.marks }) i
     row_folded laws s i r q f d at running role e m = record {
       solving = solving_falls s f [] g d;
       steps = record { found = g; seen = refl; taken = λ j n t. t };
-      done = λ u a. subst (λ (w : Row). Refreshed ask (facts_of f) i w w.role (seen_of s.seen i) (row_of s.taken.items i)) (same_Some r u (sym at ∙ a))
-          (subst (λ x. Refreshed ask (facts_of f) i r x (seen_of s.seen i) (row_of s.taken.items i)) (sym role) (subst (ResultsClosed ask (facts_of f) i r) (sym e) m.holds));
+      done = λ u a. subst (λ (w : Row). Refreshed ask (facts_of f) i w w.role (seen_of s.seen i) (row_at s.taken i)) (same_Some r u (sym at ∙ a))
+          (subst (λ x. Refreshed ask (facts_of f) i r x (seen_of s.seen i) (row_at s.taken i)) (sym role) (subst (ResultsClosed ask (facts_of f) i r) (sym e) m.holds));
     }
       where
         g : Falls (IsClosed ask p) s.found f
-        g = falls_as (λ l. AllBelow l.of r.results.items (map answer (ask.fold i q))) (IsClosed ask p) (folds_best laws s [] d i r at running role q e) s.found f m.steps
+        g = falls_as (λ l. AllBelow l.of r.results (map answer (ask.fold i q))) (IsClosed ask p) (folds_best laws s [] d i r at running role q e) s.found f m.steps
 
     -- the edges of a branch are tested
-    pub row_tested : AreLawful ask → (s : Solver A) (i : ℕ) (r : Row) (q : List (Option A)) (f : Found A) (row : Vec Bool Global) (taken : Vec (Vec Bool Global) Global) (marks : Vec (Option ℕ) Global) → IsSolving ask p s [] → slice_get p.rows.items i ≡ Some r → (facts_of s.found).runs r.block ≡ true → r.role ≡ Branches → asked (seen_of s.seen i) ≡ Some q
-        → Marks ask i r q (length r.edges.items) s.marks.items marks.items → TakesMarked p i r marks.items (length r.edges.items) (row_of s.taken.items i) row.items s.found f → taken.items ≡ set s.taken.items i row → Refreshes ask p s (record { found = f; seen = s.seen; taken = taken; marks = marks }) i
-    row_tested laws s i r q f row taken marks d at running role e m t k = record {
+    pub row_tested : AreLawful ask → (s : Solver A) (i : ℕ) (r : Row) (q : List (Option A)) (f : Found A) (taken : List (List Bool)) (marks : Vec (Option ℕ) Global) → IsSolving ask p s [] → slice_get p.rows i ≡ Some r → (facts_of s.found).runs r.block ≡ true → r.role ≡ Branches → asked (seen_of s.seen i) ≡ Some q
+        → Marks ask i r q (length r.edges) s.marks.items marks.items → TakesMarked p i r marks.items (length r.edges) s.taken taken s.found f → Refreshes ask p s (record { found = f; seen = s.seen; taken = taken; marks = marks }) i
+    row_tested laws s i r q f taken marks d at running role e m t = record {
       solving = record {
         blocks_len = t.steps.blocks_len ∙ d.blocks_len;
         values_len = t.steps.values_len ∙ d.values_len;
         marks_len = m.len ∙ d.marks_len;
         seen_len = d.seen_len;
-        taken_len = ap length k ∙ (length-set s.taken.items i row ∙ d.taken_len);
+        taken_len = t.len ∙ d.taken_len;
         operands_len = d.operands_len;
         edges_len = λ j u a. ⊎_elim
-            (λ z. ap length (ap (row_of taken.items) z ∙ here) ∙ (t.len ∙ (ap (λ x. length (row_of s.taken.items x)) (sym z) ∙ d.edges_len j u a)))
-            (λ z. ap length (other j z) ∙ d.edges_len j u a)
+            (λ z. ap length (ap (row_at taken) z) ∙ (t.edges_len ∙ (ap (λ x. length (row_at s.taken x)) (sym z) ∙ d.edges_len j u a)))
+            (λ z. ap length (t.others j z) ∙ d.edges_len j u a)
             (decide j i);
         best = λ l c. g.best l c (d.best l c);
         marks_best = marked;
         taken_best = λ l c j n u y a b w. ⊎_elim
             (λ z. let v : r ≡ u = same_row j u z a in
             ⊎_elim
-            (λ o. d.taken_best l c j n u y a b (subst (λ x. IsTaken s.taken.items x n) (sym z) o))
+            (λ o. d.taken_best l c j n u y a b (subst (λ x. IsTaken s.taken x n) (sym z) o))
             (λ o. marked l c j u a n y b (subst (λ x. slice_get marks.items y.target ≡ Some (Some x)) (sym z) o.0))
-            (t.only n y (subst (λ (x : Row). slice_get x.edges.items n ≡ Some y) (sym v) b) (sym (ap (λ xs. slice_get xs n) (ap (row_of taken.items) z ∙ here)) ∙ w)))
-            (λ z. d.taken_best l c j n u y a b (sym (ap (λ xs. slice_get xs n) (other j z)) ∙ w))
+            (t.only n y (subst (λ (x : Row). slice_get x.edges n ≡ Some y) (sym v) b) (subst (λ x. IsTaken taken x n) z w)))
+            (λ z. d.taken_best l c j n u y a b (sym (ap (λ xs. slice_get xs n) (t.others j z)) ∙ w))
             (decide j i);
         above = λ j n v u x a b y. at_trans ((facts_of f).of v) ((facts_of s.found).of v) x (t.steps.falls.above v) (d.above j n v u x a b y);
         edges = λ j n u y a b w. ⊎_elim
             (λ z. let v : r ≡ u = same_row j u z a in
             ⊎_elim
-            (λ o. edge_stays (IsClosed ask p) p [] u y s.found f g (d.edges j n u y a b (subst (λ x. IsTaken s.taken.items x n) (sym z) o)))
+            (λ o. edge_stays (IsClosed ask p) p [] u y s.found f g (d.edges j n u y a b (subst (λ x. IsTaken s.taken x n) (sym z) o)))
             (λ o. subst (λ (x : Row). EdgeLies p f [] x y) v o.1)
-            (t.only n y (subst (λ (x : Row). slice_get x.edges.items n ≡ Some y) (sym v) b) (sym (ap (λ xs. slice_get xs n) (ap (row_of taken.items) z ∙ here)) ∙ w)))
-            (λ z. edge_stays (IsClosed ask p) p [] u y s.found f g (d.edges j n u y a b (sym (ap (λ xs. slice_get xs n) (other j z)) ∙ w)))
+            (t.only n y (subst (λ (x : Row). slice_get x.edges n ≡ Some y) (sym v) b) (subst (λ x. IsTaken taken x n) z w)))
+            (λ z. edge_stays (IsClosed ask p) p [] u y s.found f g (d.edges j n u y a b (sym (ap (λ xs. slice_get xs n) (t.others j z)) ∙ w)))
             (decide j i);
       };
       steps = record {
         found = g;
         seen = refl;
         taken = λ j n w. ⊎_elim
-            (λ z. ap (λ xs. slice_get xs n) (ap (row_of taken.items) z ∙ here) ∙ t.keeps n (subst (λ x. IsTaken s.taken.items x n) z w))
-            (λ z. ap (λ xs. slice_get xs n) (other j z) ∙ w)
+            (λ z. subst (λ x. IsTaken taken x n) (sym z) (t.keeps n (subst (λ x. IsTaken s.taken x n) z w)))
+            (λ z. ap (λ xs. slice_get xs n) (t.others j z) ∙ w)
             (decide j i);
       };
-      done = λ u a. subst (λ (w : Row). Refreshed ask (facts_of f) i w w.role (seen_of s.seen i) (row_of taken.items i)) (same_Some r u (sym at ∙ a))
-          (subst (λ x. Refreshed ask (facts_of f) i r x (seen_of s.seen i) (row_of taken.items i)) (sym role) (subst (EdgesTaken ask i r (row_of taken.items i)) (sym e) all_taken));
+      done = λ u a. subst (λ (w : Row). Refreshed ask (facts_of f) i w w.role (seen_of s.seen i) (row_at taken i)) (same_Some r u (sym at ∙ a))
+          (subst (λ x. Refreshed ask (facts_of f) i r x (seen_of s.seen i) (row_at taken i)) (sym role) (subst (EdgesTaken ask i r (row_at taken i)) (sym e) all_taken));
     }
       where
-        within : i < length s.taken.items
-        within = subst (λ n. i < n) (sym d.taken_len) (slice_get_within p.rows.items i r at)
+        same_row : (j : ℕ) (u : Row) → j ≡ i → slice_get p.rows j ≡ Some u → r ≡ u
+        same_row j u z a = same_Some r u (sym at ∙ (ap (slice_get p.rows) (sym z) ∙ a))
 
-        here : row_of taken.items i ≡ row.items
-        here = ap (λ xs. row_of xs i) k ∙ row-set_same s.taken.items i row within
-
-        other : (j : ℕ) → (j ≡ i → ⊥) → row_of taken.items j ≡ row_of s.taken.items j
-        other j z = ap (λ xs. row_of xs j) k ∙ row-set_other s.taken.items i j row z
-
-        same_row : (j : ℕ) (u : Row) → j ≡ i → slice_get p.rows.items j ≡ Some u → r ≡ u
-        same_row j u z a = same_Some r u (sym at ∙ (ap (slice_get p.rows.items) (sym z) ∙ a))
-
-        marked : (l : NumberedFacts A) → IsClosed ask p l → (j : ℕ) (u : Row) → slice_get p.rows.items j ≡ Some u → MarkedClosed p j u marks.items l
+        marked : (l : NumberedFacts A) → IsClosed ask p l → (j : ℕ) (u : Row) → slice_get p.rows j ≡ Some u → MarkedClosed p j u marks.items l
         marked l c j u a n y b w = ⊎_elim
             (λ o. d.marks_best l c j u a n y b o)
             (λ o. let v : r ≡ u = same_row j u o.0 a in
-            subst (λ (x : Row). EdgeClosed p l x y) v (branches_best laws s [] d i r at running role q e l c n y (subst (λ (x : Row). slice_get x.edges.items n ≡ Some y) (sym v) b) o.1))
+            subst (λ (x : Row). EdgeClosed p l x y) v (branches_best laws s [] d i r at running role q e l c n y (subst (λ (x : Row). slice_get x.edges n ≡ Some y) (sym v) b) o.1))
             (m.only y.target j w)
 
         g : Falls (IsClosed ask p) s.found f
         g = falls_as (MarkedClosed p i r marks.items) (IsClosed ask p) (λ l c. marked l c i r at) s.found f t.steps
 
-        all_taken : (n : ℕ) (y : Edge) → slice_get r.edges.items n ≡ Some y → IsFeasible ask i r q y.target → slice_get (row_of taken.items i) n ≡ Some true
-        all_taken n y b o = ap (λ xs. slice_get xs n) here ∙ t.has n y (slice_get_within r.edges.items n y b) b
-            (subst (λ x. slice_get marks.items x ≡ Some (Some i)) o.leads (m.has o.index o.edge (slice_get_within r.edges.items o.index o.edge o.stands) o.stands o.feasible))
+        all_taken : (n : ℕ) (y : Edge) → slice_get r.edges n ≡ Some y → IsFeasible ask i r q y.target → slice_get (row_at taken i) n ≡ Some true
+        all_taken n y b o = t.has n y (slice_get_within r.edges n y b) b
+            (subst (λ x. slice_get marks.items x ≡ Some (Some i)) o.leads (m.has o.index o.edge (slice_get_within r.edges o.index o.edge o.stands) o.stands o.feasible))
 
     -- an operation of a block that runs is started
-    pub started_solving : AreLawful ask → (s : Solver A) (i : ℕ) (r : Row) (f : Found A) → IsSolving ask p s [] → slice_get p.rows.items i ≡ Some r → (facts_of s.found).runs r.block ≡ true → Meets (Started p r) s.found f → Falls (IsClosed ask p) s.found f
+    pub started_solving : AreLawful ask → (s : Solver A) (i : ℕ) (r : Row) (f : Found A) → IsSolving ask p s [] → slice_get p.rows i ≡ Some r → (facts_of s.found).runs r.block ≡ true → Meets (Started p r) s.found f → Falls (IsClosed ask p) s.found f
     started_solving laws s i r f d at running m = falls_as (Started p r) (IsClosed ask p) (started_best laws s [] d i r at running) s.found f m.steps
 
-    pub row_visited : AreLawful ask → (s t : Solver A) (i : ℕ) (r : Row) (f : Found A) → IsSolving ask p s [] → slice_get p.rows.items i ≡ Some r → (facts_of s.found).runs r.block ≡ true → Meets (Started p r) s.found f → Refreshes ask p (record { found = f; seen = s.seen; taken = s.taken; marks = s.marks }) t i → Visits ask p s t (λ j u. j ≡ i)
+    pub row_visited : AreLawful ask → (s t : Solver A) (i : ℕ) (r : Row) (f : Found A) → IsSolving ask p s [] → slice_get p.rows i ≡ Some r → (facts_of s.found).runs r.block ≡ true → Meets (Started p r) s.found f → Refreshes ask p (record { found = f; seen = s.seen; taken = s.taken; marks = s.marks }) t i → Visits ask p s t (λ j u. j ≡ i)
     row_visited laws s t i r f d at running m h = record {
       solving = h.solving;
       steps = steps_then s (record { found = f; seen = s.seen; taken = s.taken; marks = s.marks }) t (record { found = started_solving laws s i r f d at running m; seen = refl; taken = λ j n w. w }) h.steps;
       done = λ j u z a. subst (λ x. RowDone ask p t x u) (sym z)
-          (let b : slice_get p.rows.items i ≡ Some u = ap (slice_get p.rows.items) (sym z) ∙ a in
+          (let b : slice_get p.rows i ≡ Some u = ap (slice_get p.rows) (sym z) ∙ a in
           record { started = started_stays p u (facts_of f) (facts_of t.found) h.steps.found.falls (subst (λ (x : Row). Started p x (facts_of f)) (same_Some r u (sym at ∙ b)) m.holds); refreshed = h.done u b });
     }
 
     -- one operation more of a list
-    pub visited_more : (a b c : Solver A) (xs : List ℕ) (n x : ℕ) → n < length xs → x ≡ get_or xs n x → Visits ask p a b (λ i r. Contains (take n xs) i) → Visits ask p b c (λ i r. i ≡ x) → Visits ask p a c (λ i r. Contains (take (n + 1) xs) i)
-    visited_more a b c xs n x h e f g = record {
+    pub visited_more : (a b c : Solver A) (xs : List ℕ) (x : ℕ) → Visits ask p a b (λ i r. Contains xs i) → Visits ask p b c (λ i r. i ≡ x) → Visits ask p a c (λ i r. Contains (xs ++ x ∷ []) i)
+    visited_more a b c xs x f g = record {
       solving = g.solving;
       steps = steps_then a b c f.steps g.steps;
       done = λ i r t s. ⊎_elim
           (λ o. done_stays b c i r g.steps (f.done i r o s))
           (λ o. g.done i r (sym o) s)
-          (Contains-push_cases (take n xs) x i (subst (λ ys. Contains ys i) (next_of xs n x h e) t));
+          (Contains-push_cases xs x i t);
     }
 
-    pub visited_none : (s : Solver A) (xs : List ℕ) → IsSolving ask p s [] → Visits ask p s s (λ i r. Contains (take 0 xs) i)
-    visited_none s xs d = record { solving = d; steps = steps_none s; done = λ i r t a. absurd (omega (arith, t.1)) }
+    pub visited_none : (s : Solver A) → IsSolving ask p s [] → Visits ask p s s (λ i r. Contains [] i)
+    visited_none s d = record { solving = d; steps = steps_none s; done = λ i r t a. absurd (omega (arith, t.1)) }
 
-    pub visited_as : (a b : Solver A) (P Q : ℕ → Row → Type 0) → ((i : ℕ) (r : Row) → slice_get p.rows.items i ≡ Some r → Q i r → P i r) → Visits ask p a b P → Visits ask p a b Q
+    pub visited_as : (a b : Solver A) (P Q : ℕ → Row → Type 0) → ((i : ℕ) (r : Row) → slice_get p.rows i ≡ Some r → Q i r → P i r) → Visits ask p a b P → Visits ask p a b Q
     visited_as a b P Q f v = record { solving = v.solving; steps = v.steps; done = λ i r t s. v.done i r (f i r s t) s }

@@ -1,8 +1,11 @@
 pub mod Rows
+pub mod OperationLists
 pub mod FactsSeeing
+pub mod FactsTaking
 pub mod FactsFalling
 pub mod FactsEntering
 pub mod FactsTabling
+pub mod Linking
 pub mod FactsEdging
 pub mod FactsAsking
 pub mod FactsVisiting
@@ -11,6 +14,7 @@ pub mod FactsStepping
 pub mod FactsBeginning
 pub mod ChainsJoining
 pub mod ChainsFollowing
+pub mod DeadCandidates
 pub mod DeadLists
 pub mod DeadPlacing
 pub mod DeadCrossing

@@ -2,7 +2,7 @@
 use Rattle.std.proofs.Common.{◌≡◌, ℕ, zero, suc, ◌+◌, ◌-◌, ◌<◌, ◌≤◌, List, [], ◌∷◌, ◌++◌, take, drop, length, get_or, map, refl, sym, ap, ◌∙◌, arith}
 use Rattle.std.proofs.Math.ListN.{set}
 use Rattle.std.proofs.Math.Seq.{drop-append_seam, take-length}
-use Rattle.std.proofs.lemmas.List.{take-append-le, drop-append-le, length-drop}
+use Rattle.std.proofs.lemmas.List.{take-append-le, drop-append-le, length-drop, length-take-le, get_or-take, get_or-drop}
 use Rattle.std.proofs.lemmas.Option.{slice_get_read, get_or_from_slice_get}
 use Rattle.opt_solvers.specs.Rows.{rows_from, AreEnds, row_at, start_from}
 
@@ -132,6 +132,43 @@ module _ {X : Type 0} where
       let r = row_inside e es high k (omega (arith, h)) a.1 in
       ap (λ (r : List X). r ∷ rows_from e es (set ns (start_from e es k + i) x)) (part_before low e (start_from e es k + i) ns x a.0 (let m = r.0 in omega (arith, m)))
       ∙ ap (λ (rs : List (List X)). take (e - low) (drop low ns) ∷ rs) (entry_set e es high k i ns x a.1 (omega (arith, h)) l)
+
+-- where an entry of a row stands among all
+pub record StandsAt {X : Type 0} (es : List ℕ) (ns : List X) (k i start : ℕ) : Type 0 where
+  pub row : k < length es
+  pub start_is : start ≡ start_from 0 es k
+  pub within : start_from 0 es k + i < get_or es k 0
+  pub inside : start + i < length ns
+
+module _ {X : Type 0} where
+  pub row_length : (es : List ℕ) (ns : List X) (k : ℕ) → AreEnds 0 es (length ns) → k < length es → length (row_at (rows_from 0 es ns) k) ≡ get_or es k 0 - start_from 0 es k
+  row_length es ns k a h =
+      let r = row_inside 0 es (length ns) k h a in let d = length-drop (start_from 0 es k) ns in let b = r.1 in let c = r.2 in
+      ap length (row_is 0 es ns k h) ∙ length-take-le (get_or es k 0 - start_from 0 es k) (drop (start_from 0 es k) ns) (omega (arith, b, c, d))
+
+  pub stands_at : (rows : List (List X)) (es fs : List ℕ) (ns : List X) (k i start : ℕ) → rows_from 0 es ns ≡ rows → AreEnds 0 es (length ns) → k < length rows → i < length (row_at rows k) → fs ≡ es → start ≡ start_from 0 fs k → StandsAt es ns k i start
+  stands_at rows es fs ns k i start v a h l q s =
+      let m = as_many 0 es ns in let n = ap (λ (rs : List (List X)). length rs) v in
+      let row : k < length es = omega (arith, m, n, h) in
+      let w = row_length es ns k a row in let y = ap (λ (rs : List (List X)). length (row_at rs k)) v in
+      let t = s ∙ ap (λ (xs : List ℕ). start_from 0 xs k) q in
+      let r = row_inside 0 es (length ns) k row a in
+      record { row = row; start_is = t; within = omega (arith, w, y, l); inside = let b = r.2 in omega (arith, w, y, l, t, b) }
+
+  module _ (es : List ℕ) (ns : List X) (k i start : ℕ) (a : AreEnds 0 es (length ns)) (at : StandsAt es ns k i start) where
+    pub entry_in : i < length (row_at (rows_from 0 es ns) k)
+    entry_in = let w = row_length es ns k a at.row in let h = at.within in omega (arith, w, h)
+
+    pub entry_read : (d : X) → get_or (row_at (rows_from 0 es ns) k) i d ≡ get_or ns (start + i) d
+    entry_read d =
+        let h = at.within in
+        ap (λ (xs : List X). get_or xs i d) (row_is 0 es ns k at.row)
+        ∙ (get_or-take (get_or es k 0 - start_from 0 es k) (drop (start_from 0 es k) ns) i d (omega (arith, h))
+        ∙ (get_or-drop (start_from 0 es k) ns i d
+        ∙ ap (λ (n : ℕ). get_or ns (n + i) d) (sym at.start_is)))
+
+    pub entry_written : (x : X) → rows_from 0 es (set ns (start + i) x) ≡ set (rows_from 0 es ns) k (set (row_at (rows_from 0 es ns) k) i x)
+    entry_written x = ap (λ (n : ℕ). rows_from 0 es (set ns (n + i) x)) at.start_is ∙ entry_set 0 es (length ns) k i ns x a at.row at.within
 
 -- rows of what a list is mapped to
 module _ {X Y : Type 0} (f : X → Y) where

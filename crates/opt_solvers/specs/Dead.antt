@@ -4,7 +4,7 @@ use Rattle.std.specs.Prelude.{◌≡◌, ◌⊎◌, ◌<◌, ℕ, true, length, 
 use Rattle.opt_solvers.specs.declared.dead_problem.Definer.{Definer}
 use Rattle.opt_solvers.specs.declared.dead_problem.Definer.TheVariants.{Result, Argument as ByArgument, Outside}
 use Rattle.opt_solvers.specs.declared.dead_problem.Operand.{Operand}
-use Rattle.opt_solvers.specs.declared.dead_problem.Candidate.{Candidate}
+use Rattle.opt_solvers.specs.DeadCandidates.{Candidate}
 use Rattle.opt_solvers.specs.declared.dead_problem.Argument.{Argument}
 use Rattle.opt_solvers.specs.declared.dead_problem.DeadProblem.{DeadProblem}
 
@@ -17,12 +17,12 @@ module _ (p : DeadProblem) where
   -- the operation i is a, or is in it, however far down
   pub data IsIn (a : ℕ) : ℕ → Type 0 where
     itself : IsIn a a
-    further : (i j : ℕ) (c : Candidate) → slice_get p.operations.items i ≡ Some c → c.around ≡ Some j → IsIn a j → IsIn a i
+    further : (i j : ℕ) (c : Candidate) → slice_get p.operations i ≡ Some c → c.around ≡ Some j → IsIn a j → IsIn a i
 
   -- the operation is in a, and isn't a
   pub record IsBelow (a i : ℕ) : Type 0 where
     pub candidate : Candidate
-    pub there : slice_get p.operations.items i ≡ Some candidate
+    pub there : slice_get p.operations i ≡ Some candidate
     pub parent : ℕ
     pub around : candidate.around ≡ Some parent
     pub inside : IsIn a parent
@@ -48,7 +48,7 @@ module _ (p : DeadProblem) where
 
   -- nothing but uses keeps it
   abbrev pub May : Item → Type 0
-  May (Whole a) = (c : Candidate) × (slice_get p.operations.items a ≡ Some c) × (c.may_go ≡ true)
+  May (Whole a) = (c : Candidate) × (slice_get p.operations a ≡ Some c) × (c.may_go ≡ true)
   May (Slot v) = (c : Argument) × (slice_get p.arguments.items v ≡ Some c) × (c.may_go ≡ true)
 
   -- what is outside, or the root itself, uses it
@@ -63,8 +63,8 @@ module _ (p : DeadProblem) where
   -- the operation i has this operand
   pub record HasOperand (i : ℕ) (o : Operand) : Type 0 where
     pub candidate : Candidate
-    pub there : slice_get p.operations.items i ≡ Some candidate
-    pub operand : Contains candidate.operands.items o
+    pub there : slice_get p.operations i ≡ Some candidate
+    pub operand : Contains candidate.operands o
 
   mutual
     -- the least set: what may go, isn't kept, and is used by the dead alone
@@ -78,10 +78,10 @@ module _ (p : DeadProblem) where
 
   -- the numbers of a problem are in range, and operations come behind those that they are in
   pub record IsDeadProblem : Type 0 where
-    pub around : (i j : ℕ) (c : Candidate) → slice_get p.operations.items i ≡ Some c → c.around ≡ Some j → j < i
-    pub argument_around : (v j : ℕ) (c : Argument) → slice_get p.arguments.items v ≡ Some c → c.around ≡ Some j → j < length p.operations.items
-    pub results : (i a : ℕ) (o : Operand) → HasOperand i o → o.definer ≡ Result a → a < length p.operations.items
+    pub around : (i j : ℕ) (c : Candidate) → slice_get p.operations i ≡ Some c → c.around ≡ Some j → j < i
+    pub argument_around : (v j : ℕ) (c : Argument) → slice_get p.arguments.items v ≡ Some c → c.around ≡ Some j → j < length p.operations
+    pub results : (i a : ℕ) (o : Operand) → HasOperand i o → o.definer ≡ Result a → a < length p.operations
     pub arguments : (i v : ℕ) (o : Operand) → HasOperand i o → o.definer ≡ ByArgument v → v < length p.arguments.items
     pub forwarded : (i v : ℕ) (o : Operand) → HasOperand i o → o.argument ≡ Some v → v < length p.arguments.items
-    pub kept_results : (a : ℕ) → Contains p.kept.items (Result a) → a < length p.operations.items
+    pub kept_results : (a : ℕ) → Contains p.kept.items (Result a) → a < length p.operations
     pub kept_arguments : (v : ℕ) → Contains p.kept.items (ByArgument v) → v < length p.arguments.items

@@ -6,7 +6,7 @@ use Rattle.opt_solvers.specs.Dead.{Whole, Slot, IsDead}
 
 -- the lists are as long as there are operations and arguments, and exactly the dead are marked
 pub record AreDead (p : DeadProblem) (dead : DeadItems) : Type 0 where
-  pub operations_len : length dead.operations.items ≡ length p.operations.items
+  pub operations_len : length dead.operations.items ≡ length p.operations
   pub arguments_len : length dead.arguments.items ≡ length p.arguments.items
   pub operations : (a : ℕ) → slice_get dead.operations.items a ≡ Some true ↔ IsDead p (Whole a)
   pub arguments : (v : ℕ) → slice_get dead.arguments.items v ≡ Some true ↔ IsDead p (Slot v)

@@ -4,10 +4,10 @@ use Rattle.digraph.specs.Counts.{count_of}
 use Rattle.opt_solvers.specs.declared.dead_problem.Definer.{Definer}
 use Rattle.opt_solvers.specs.declared.dead_problem.Definer.TheVariants.{Result, Argument as ByArgument, Outside}
 use Rattle.opt_solvers.specs.declared.dead_problem.Operand.{Operand}
-use Rattle.opt_solvers.specs.declared.dead_problem.Candidate.{Candidate}
 use Rattle.opt_solvers.specs.declared.dead_problem.Argument.{Argument}
 use Rattle.opt_solvers.specs.declared.dead_problem.DeadProblem.{DeadProblem}
 use Rattle.opt_solvers.specs.declared.dead_places.Place.{Place}
+use Rattle.opt_solvers.specs.DeadCandidates.{around_of}
 use Rattle.opt_solvers.specs.Rows.{row_at}
 use Rattle.opt_solvers.specs.Dead.{HasOperand, IsIn}
 
@@ -31,18 +31,14 @@ IsKeptPlace p q = (q.user ≡ None) × (q.operand.argument ≡ None) × Contains
 abbrev pub IsPlace : DeadProblem → Place → Type 0
 IsPlace p q = IsOperandPlace p q ⊎ IsKeptPlace p q
 
--- what an entry of the tables says that it is directly in
-abbrev pub around_of : Option Candidate → Option ℕ
-around_of None = None
-around_of (Some c) = c.around
-
+-- what an entry of the table says that its block is directly in
 abbrev pub around_of_argument : Option Argument → Option ℕ
 around_of_argument None = None
 around_of_argument (Some c) = c.around
 
 -- the operation that an operation, or the block of an argument, is directly in
 abbrev pub around_operation : DeadProblem → ℕ → Option ℕ
-around_operation p i = around_of (slice_get p.operations.items i)
+around_operation p i = around_of (slice_get p.operations i)
 
 abbrev pub around_argument : DeadProblem → ℕ → Option ℕ
 around_argument p v = around_of_argument (slice_get p.arguments.items v)
@@ -60,11 +56,11 @@ around_user p (Some i) = around_operation p i
 
 -- the number of an argument among the items: operations come first
 abbrev pub slot : DeadProblem → ℕ → ℕ
-slot p v = length p.operations.items + v
+slot p v = length p.operations + v
 
 -- how many items there are
 abbrev pub items : DeadProblem → ℕ
-items p = length p.operations.items + length p.arguments.items
+items p = length p.operations + length p.arguments.items
 
 -- the number of the item that a value is a result of, or is
 abbrev pub maker : DeadProblem → Definer → Option ℕ
@@ -92,11 +88,11 @@ pub record KeepsRow (p : DeadProblem) (q : Place) (row : List ℕ) : Type 0 wher
 
 -- the number of an operation that there is
 abbrev pub IsNumber : DeadProblem → Option ℕ → Type 0
-IsNumber p o = (j : ℕ) → o ≡ Some j → j < length p.operations.items
+IsNumber p o = (j : ℕ) → o ≡ Some j → j < length p.operations
 
 -- the number of what defines a value is that of an operation or an argument
 abbrev pub IsKnown : DeadProblem → Definer → Type 0
-IsKnown p (Result b) = b < length p.operations.items
+IsKnown p (Result b) = b < length p.operations
 IsKnown p (ByArgument v) = v < length p.arguments.items
 IsKnown p Outside = Unit {0}
 

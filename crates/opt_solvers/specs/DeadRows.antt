@@ -32,4 +32,4 @@ AreForwarded p places rows = AreRows (λ k v. (q : Place) × (slice_get places k
 
 -- the operations that are directly in each operation
 abbrev pub AreInner : DeadProblem → List (Vec ℕ Global) → Type 0
-AreInner p rows = AreRows (λ i x. around_operation p i ≡ Some x) (length p.operations.items) (length rows) (successors rows)
+AreInner p rows = AreRows (λ i x. around_operation p i ≡ Some x) (length p.operations) (length rows) (successors rows)

@@ -1,7 +1,7 @@
 -- How many uses keep each item.
 use Rattle.std.specs.Prelude.{◌≡◌, ℕ, ◌+◌, ◌++◌, Bool, true, false, List, [], ◌∷◌, length, map, slice_index}
 use Rattle.digraph.specs.Counts.{count_of}
-use Rattle.opt_solvers.specs.declared.dead_problem.Candidate.{Candidate}
+use Rattle.opt_solvers.specs.DeadCandidates.{Candidate}
 use Rattle.opt_solvers.specs.declared.dead_problem.Argument.{Argument}
 use Rattle.opt_solvers.specs.declared.dead_problem.DeadProblem.{DeadProblem}
 
@@ -17,7 +17,7 @@ abbrev pub held_argument : Argument → ℕ
 held_argument c = held c.may_go
 
 abbrev pub first_uses : DeadProblem → List ℕ
-first_uses p = map held_operation p.operations.items ++ map held_argument p.arguments.items
+first_uses p = map held_operation p.operations ++ map held_argument p.arguments.items
 
 -- how often a number is in some rows
 abbrev pub kept_by : List (List ℕ) → ℕ → ℕ

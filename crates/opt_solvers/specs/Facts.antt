@@ -7,8 +7,7 @@ use Rattle.opt_solvers.specs.declared.known.Known.{Known}
 use Rattle.opt_solvers.specs.declared.known.Known.TheVariants.{Any, Undetermined}
 use Rattle.opt_solvers.specs.declared.facts_problem.Role.{Role}
 use Rattle.opt_solvers.specs.declared.facts_problem.Role.TheVariants.{Folds, Branches, Other}
-use Rattle.opt_solvers.specs.declared.facts_problem.Edge.{Edge}
-use Rattle.opt_solvers.specs.declared.facts_problem.Row.{Row}
+use Rattle.opt_solvers.specs.OperationRows.{Edge, Row}
 use Rattle.opt_solvers.specs.declared.facts_problem.FactsProblem.{FactsProblem}
 use Rattle.opt_solvers.specs.Known.{asked, answer, FactsOf, AllBelow, AllAny, MorePrecise}
 
@@ -42,40 +41,40 @@ ForwardedBelow k arguments values = (i v u : ℕ) → slice_get arguments i ≡ 
 pub record IsFeasible {A : Type 0} (ask : Answers A) (i : ℕ) (r : Row) (xs : List (Option A)) (b : ℕ) : Type 0 where
   pub index : ℕ
   pub edge : Edge
-  pub stands : slice_get r.edges.items index ≡ Some edge
+  pub stands : slice_get r.edges index ≡ Some edge
   pub leads : edge.target ≡ b
   pub feasible : ask.feasible i xs index ≡ true
 
 -- the target of the edge runs, and its arguments lie at or below what is forwarded
 pub record EdgeClosed {A : Type 0} (p : FactsProblem) (k : NumberedFacts A) (r : Row) (e : Edge) : Type 0 where
   pub target : k.runs e.target ≡ true
-  pub arguments : ForwardedBelow k (arguments_of p e.target) (picked r.operands.items e.forwards.items)
+  pub arguments : ForwardedBelow k (arguments_of p e.target) (picked r.operands e.forwards)
 
 -- each edge of a branch whose target is feasible; nothing, where an operand is undetermined
 abbrev pub EdgesClosed : {A : Type 0} → Answers A → FactsProblem → NumberedFacts A → ℕ → Row → Option (List (Option A)) → Type 0
 EdgesClosed ask p k i r None = Unit {0}
-EdgesClosed ask p k i r (Some xs) = (n : ℕ) (e : Edge) → slice_get r.edges.items n ≡ Some e → IsFeasible ask i r xs e.target → EdgeClosed p k r e
+EdgesClosed ask p k i r (Some xs) = (n : ℕ) (e : Edge) → slice_get r.edges n ≡ Some e → IsFeasible ask i r xs e.target → EdgeClosed p k r e
 
 -- the results lie at or below what the operation folds to; nothing, where an operand is undetermined
 abbrev pub ResultsClosed : {A : Type 0} → Answers A → NumberedFacts A → ℕ → Row → Option (List (Option A)) → Type 0
 ResultsClosed ask k i r None = Unit {0}
-ResultsClosed ask k i r (Some xs) = AllBelow k.of r.results.items (map answer (ask.fold i xs))
+ResultsClosed ask k i r (Some xs) = AllBelow k.of r.results (map answer (ask.fold i xs))
 
 -- what an operation in a block that runs asks, by its role
 abbrev pub RoleClosed : {A : Type 0} → Answers A → FactsProblem → NumberedFacts A → ℕ → Row → Role → Type 0
-RoleClosed ask p k i r Folds = ResultsClosed ask k i r (asked (map k.of r.operands.items))
-RoleClosed ask p k i r Branches = AllAny k.of r.results.items × EdgesClosed ask p k i r (asked (map k.of r.operands.items))
-RoleClosed ask p k i r Other = AllAny k.of r.results.items
+RoleClosed ask p k i r Folds = ResultsClosed ask k i r (asked (map k.of r.operands))
+RoleClosed ask p k i r Branches = AllAny k.of r.results × EdgesClosed ask p k i r (asked (map k.of r.operands))
+RoleClosed ask p k i r Other = AllAny k.of r.results
 
 pub record RowClosed {A : Type 0} (ask : Answers A) (p : FactsProblem) (k : NumberedFacts A) (i : ℕ) (r : Row) : Type 0 where
   pub role : RoleClosed ask p k i r r.role
-  pub entries : (b : ℕ) → Contains r.entries.items b → Enters p k b
+  pub entries : (b : ℕ) → Contains r.entries b → Enters p k b
 
 -- the facts are closed: entries run with any arguments, values from outside may be any, and what operations in blocks that run ask holds
 pub record IsClosed {A : Type 0} (ask : Answers A) (p : FactsProblem) (k : NumberedFacts A) : Type 0 where
   pub entries : (b : ℕ) → Contains p.entries.items b → Enters p k b
   pub outside : (v : ℕ) → Contains p.outside.items v → k.of v ≡ Any
-  pub rows : (i : ℕ) (r : Row) → slice_get p.rows.items i ≡ Some r → k.runs r.block ≡ true → RowClosed ask p k i r
+  pub rows : (i : ℕ) (r : Row) → slice_get p.rows i ≡ Some r → k.runs r.block ≡ true → RowClosed ask p k i r
 
 -- closed, and more precise than all that are closed
 pub record IsMostPrecise {A : Type 0} (ask : Answers A) (p : FactsProblem) (k : NumberedFacts A) : Type 0 where
@@ -85,15 +84,15 @@ pub record IsMostPrecise {A : Type 0} (ask : Answers A) (p : FactsProblem) (k : 
 -- the numbers of a row are below the numbers of blocks, values and operands
 pub record IsRow (p : FactsProblem) (r : Row) : Type 0 where
   pub block : r.block < length p.arguments.items
-  pub operands : (v : ℕ) → Contains r.operands.items v → v < p.values
-  pub results : (v : ℕ) → Contains r.results.items v → v < p.values
-  pub targets : (e : Edge) → Contains r.edges.items e → e.target < length p.arguments.items
-  pub forwards : (e : Edge) (i : ℕ) → Contains r.edges.items e → Contains e.forwards.items i → i < length r.operands.items
-  pub entries : (b : ℕ) → Contains r.entries.items b → b < length p.arguments.items
+  pub operands : (v : ℕ) → Contains r.operands v → v < p.values
+  pub results : (v : ℕ) → Contains r.results v → v < p.values
+  pub targets : (e : Edge) → Contains r.edges e → e.target < length p.arguments.items
+  pub forwards : (e : Edge) (i : ℕ) → Contains r.edges e → Contains e.forwards i → i < length r.operands
+  pub entries : (b : ℕ) → Contains r.entries b → b < length p.arguments.items
 
 -- the numbers of a problem are in range
 pub record IsProblem (p : FactsProblem) : Type 0 where
-  pub rows : (r : Row) → Contains p.rows.items r → IsRow p r
+  pub rows : (r : Row) → Contains p.rows r → IsRow p r
   pub arguments : (b v : ℕ) → Contains (arguments_of p b) v → v < p.values
   pub entries : (b : ℕ) → Contains p.entries.items b → b < length p.arguments.items
   pub outside : (v : ℕ) → Contains p.outside.items v → v < p.values

@@ -1,10 +1,33 @@
 -- What operations have seen of their operands, kept in lists of all operands.
-use Rattle.std.specs.Prelude.{◌≡◌, ℕ, List, length, map, replicate, Option}
+use Rattle.std.specs.Prelude.{◌≡◌, ℕ, Bool, true, false, List, [], ◌∷◌, length, map, replicate, Option}
 use Rattle.opt_solvers.specs.declared.known.Known.{Known}
-use Rattle.opt_solvers.specs.declared.known.Known.TheVariants.{Undetermined}
-use Rattle.opt_solvers.specs.declared.facts_problem.Row.{Row}
+use Rattle.opt_solvers.specs.declared.known.Known.TheVariants.{Undetermined, One, Any}
+use Rattle.opt_solvers.specs.OperationRows.{Row}
+use Rattle.opt_solvers.specs.Known.{answer}
 use Rattle.opt_solvers.specs.KnownFalls.{constant_of, undetermined}
 use Rattle.opt_solvers.specs.Rows.{rows_from, AreEnds}
+
+-- what is seen of an operand, by whether anything is, and by the constant, if it is one
+abbrev pub seen_fact : {A : Type 0} → Bool → Option A → Known A
+seen_fact false c = Undetermined
+seen_fact true c = answer c
+
+-- what is seen of each operand
+abbrev pub seen_facts : {A : Type 0} → List Bool → List (Option A) → List (Known A)
+seen_facts [] cs = []
+seen_facts (f ∷ fs) [] = []
+seen_facts (f ∷ fs) (c ∷ cs) = seen_fact f c ∷ seen_facts fs cs
+
+-- whether it is not undetermined
+abbrev pub is_found : {A : Type 0} → Known A → Bool
+is_found Undetermined = false
+is_found (One a) = true
+is_found Any = true
+
+-- how many facts are missing of one operand
+abbrev pub one_unless : Bool → ℕ
+one_unless true = 0
+one_unless false = 1
 
 -- The operands of each operation end here, and this is seen of all of them; these are the constants among it, and so many are
 -- undetermined of each operation.
@@ -15,4 +38,4 @@ pub record IsSeen {A : Type 0} (ends : List ℕ) (known : List (Known A)) (const
 
 -- nothing is seen of the operands of an operation
 abbrev pub unseen : {A : Type 0} → Row → List (Known A)
-unseen r = replicate (length r.operands.items) Undetermined
+unseen r = replicate (length r.operands) Undetermined

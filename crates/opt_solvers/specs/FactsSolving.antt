@@ -1,13 +1,10 @@
 -- What a solver keeps true while facts fall.
 use Rattle.std.specs.Prelude.{◌≡◌, ◌⊎◌, ℕ, ◌<◌, ◌≤◌, Bool, true, false, List, [], map, length, Option, Some, None, slice_get, Contains, replicate}
-use Rattle.std.specs.declared.vec.Vec.{Vec}
-use Rattle.std.specs.declared.alloc.Global.{Global}
 use Rattle.opt_solvers.specs.declared.known.Known.{Known}
 use Rattle.opt_solvers.specs.declared.known.Known.TheVariants.{Any, Undetermined}
 use Rattle.opt_solvers.specs.declared.facts_problem.Role.{Role}
 use Rattle.opt_solvers.specs.declared.facts_problem.Role.TheVariants.{Folds, Branches, Other}
-use Rattle.opt_solvers.specs.declared.facts_problem.Edge.{Edge}
-use Rattle.opt_solvers.specs.declared.facts_problem.Row.{Row}
+use Rattle.opt_solvers.specs.OperationRows.{Edge, Row}
 use Rattle.opt_solvers.specs.declared.facts_problem.FactsProblem.{FactsProblem}
 use Rattle.opt_solvers.specs.Rows.{row_at}
 use Rattle.opt_solvers.specs.declared.facts_found.Found.{Found}
@@ -17,7 +14,9 @@ use Rattle.opt_solvers.specs.declared.facts_solver.Solver.{Solver}
 use Rattle.opt_solvers.specs.Known.{AtOrBelow, AllBelow, AllAny, MorePrecise, asked, answer}
 use Rattle.opt_solvers.specs.Facts.{Answers, NumberedFacts, arguments_of, Enters, IsFeasible, EdgeClosed, ResultsClosed, IsClosed}
 use Rattle.opt_solvers.specs.FactsFound.{facts_of, left, Falls}
-use Rattle.opt_solvers.specs.FactsTables.{row_of, ForwardsTo}
+use Rattle.opt_solvers.specs.FactsTables.{ForwardsTo}
+use Rattle.opt_solvers.specs.FactsSeen.{unseen}
+use Rattle.opt_solvers.specs.FactsTaken.{untaken}
 
 -- what an operation has seen of its operands
 abbrev pub seen_of : {A : Type 0} → List (List (Known A)) → ℕ → List (Known A)
@@ -25,30 +24,30 @@ seen_of ss i = row_at ss i
 
 -- each operation can be asked
 abbrev pub CanAskRows : (ℕ → ℕ → Type 0) → FactsProblem → Type 0
-CanAskRows can_ask p = (i : ℕ) (r : Row) → slice_get p.rows.items i ≡ Some r → can_ask i (length r.operands.items)
+CanAskRows can_ask p = (i : ℕ) (r : Row) → slice_get p.rows i ≡ Some r → can_ask i (length r.operands)
 
 -- the operation with this number has the role
 abbrev pub HasRole : FactsProblem → ℕ → Role → Type 0
-HasRole p i role = (r : Row) → slice_get p.rows.items i ≡ Some r → r.role ≡ role
+HasRole p i role = (r : Row) → slice_get p.rows i ≡ Some r → r.role ≡ role
 
 -- its block runs
 abbrev pub RowRuns : {A : Type 0} → FactsProblem → Found A → ℕ → Type 0
-RowRuns p s i = (r : Row) → slice_get p.rows.items i ≡ Some r → (facts_of s).runs r.block ≡ true
+RowRuns p s i = (r : Row) → slice_get p.rows i ≡ Some r → (facts_of s).runs r.block ≡ true
 
 -- the edge of the operation is taken
-abbrev pub IsTaken : List (Vec Bool Global) → ℕ → ℕ → Type 0
-IsTaken ts i n = slice_get (row_of ts i) n ≡ Some true
+abbrev pub IsTaken : List (List Bool) → ℕ → ℕ → Type 0
+IsTaken ts i n = slice_get (row_at ts i) n ≡ Some true
 
 -- the targets of feasible edges are marked with the operation's number, as far as the edges were looked at, and no other block
 pub record Marks {A : Type 0} (ask : Answers A) (i : ℕ) (r : Row) (xs : List (Option A)) (upto : ℕ) (old new : List (Option ℕ)) : Type 0 where
   pub len : length new ≡ length old
   pub keeps : (b : ℕ) → slice_get old b ≡ Some (Some i) → slice_get new b ≡ Some (Some i)
-  pub has : (n : ℕ) (e : Edge) → n < upto → slice_get r.edges.items n ≡ Some e → ask.feasible i xs n ≡ true → slice_get new e.target ≡ Some (Some i)
+  pub has : (n : ℕ) (e : Edge) → n < upto → slice_get r.edges n ≡ Some e → ask.feasible i xs n ≡ true → slice_get new e.target ≡ Some (Some i)
   pub only : (b j : ℕ) → slice_get new b ≡ Some (Some j) → (slice_get old b ≡ Some (Some j)) ⊎ ((j ≡ i) × IsFeasible ask i r xs b)
 
 -- all edges were looked at
 abbrev pub MarksTargets : {A : Type 0} → Answers A → ℕ → Row → List (Option A) → List (Option ℕ) → List (Option ℕ) → Type 0
-MarksTargets ask i r xs = Marks ask i r xs (length r.edges.items)
+MarksTargets ask i r xs = Marks ask i r xs (length r.edges)
 
 -- each argument lies at or below what is forwarded to it
 abbrev pub ForwardsBelow : {A : Type 0} → List ℕ → List ℕ → List ℕ → NumberedFacts A → Type 0
@@ -66,7 +65,7 @@ pub record ForwardsAll {A : Type 0} (arguments forwards operands : List ℕ) (ol
 -- a taken edge: its target runs, and its arguments lie at or below what is forwarded, unless that waits
 pub record EdgeLies {A : Type 0} (p : FactsProblem) (s : Found A) (popped : List ℕ) (r : Row) (e : Edge) : Type 0 where
   pub target : (facts_of s).runs e.target ≡ true
-  pub arguments : ForwardsLie (arguments_of p e.target) e.forwards.items r.operands.items s popped
+  pub arguments : ForwardsLie (arguments_of p e.target) e.forwards r.operands s popped
 
 -- an edge was taken
 pub record TakesEdge {A : Type 0} (p : FactsProblem) (r : Row) (e : Edge) (old new : Found A) : Type 0 where
@@ -75,23 +74,25 @@ pub record TakesEdge {A : Type 0} (p : FactsProblem) (r : Row) (e : Edge) (old n
 
 -- the edges with marked targets are closed
 abbrev pub MarkedClosed : {A : Type 0} → FactsProblem → ℕ → Row → List (Option ℕ) → NumberedFacts A → Type 0
-MarkedClosed p i r marks l = (n : ℕ) (e : Edge) → slice_get r.edges.items n ≡ Some e → slice_get marks e.target ≡ Some (Some i) → EdgeClosed p l r e
+MarkedClosed p i r marks l = (n : ℕ) (e : Edge) → slice_get r.edges n ≡ Some e → slice_get marks e.target ≡ Some (Some i) → EdgeClosed p l r e
 
--- the edges with marked targets are taken, as far as they were looked at
-pub record TakesMarked {A : Type 0} (p : FactsProblem) (i : ℕ) (r : Row) (marks : List (Option ℕ)) (upto : ℕ) (taken after : List Bool) (old new : Found A) : Type 0 where
+-- the edges with marked targets are taken, as far as they were looked at, and no other operation's
+pub record TakesMarked {A : Type 0} (p : FactsProblem) (i : ℕ) (r : Row) (marks : List (Option ℕ)) (upto : ℕ) (taken after : List (List Bool)) (old new : Found A) : Type 0 where
   pub len : length after ≡ length taken
+  pub edges_len : length (row_at after i) ≡ length (row_at taken i)
+  pub others : (j : ℕ) → (j ≡ i → ⊥) → row_at after j ≡ row_at taken j
   pub steps : Falls (MarkedClosed p i r marks) old new
-  pub keeps : (n : ℕ) → slice_get taken n ≡ Some true → slice_get after n ≡ Some true
-  pub has : (n : ℕ) (e : Edge) → n < upto → slice_get r.edges.items n ≡ Some e → slice_get marks e.target ≡ Some (Some i) → slice_get after n ≡ Some true
-  pub only : (n : ℕ) (e : Edge) → slice_get r.edges.items n ≡ Some e → slice_get after n ≡ Some true → (slice_get taken n ≡ Some true) ⊎ ((slice_get marks e.target ≡ Some (Some i)) × EdgeLies p new [] r e)
+  pub keeps : (n : ℕ) → IsTaken taken i n → IsTaken after i n
+  pub has : (n : ℕ) (e : Edge) → n < upto → slice_get r.edges n ≡ Some e → slice_get marks e.target ≡ Some (Some i) → IsTaken after i n
+  pub only : (n : ℕ) (e : Edge) → slice_get r.edges n ≡ Some e → IsTaken after i n → IsTaken taken i n ⊎ ((slice_get marks e.target ≡ Some (Some i)) × EdgeLies p new [] r e)
 
 -- all edges were looked at
-abbrev pub TakesAllMarked : {A : Type 0} → FactsProblem → ℕ → Row → List (Option ℕ) → List Bool → List Bool → Found A → Found A → Type 0
-TakesAllMarked p i r marks = TakesMarked p i r marks (length r.edges.items)
+abbrev pub TakesAllMarked : {A : Type 0} → FactsProblem → ℕ → Row → List (Option ℕ) → List (List Bool) → List (List Bool) → Found A → Found A → Type 0
+TakesAllMarked p i r marks = TakesMarked p i r marks (length r.edges)
 
 -- the results lie at or below what the operation folds to
-abbrev pub FoldsBelow : {A : Type 0} → Answers A → ℕ → Row → List (Option A) → NumberedFacts A → Type 0
-FoldsBelow ask i r xs k = AllBelow k.of r.results.items (map answer (ask.fold i xs))
+abbrev pub FoldsBelow : {A : Type 0} → Answers A → ℕ → List ℕ → List (Option A) → NumberedFacts A → Type 0
+FoldsBelow ask i results xs k = AllBelow k.of results (map answer (ask.fold i xs))
 
 -- the results of all but what folds may be any value
 abbrev pub AnyResults : {A : Type 0} → List ℕ → Role → NumberedFacts A → Type 0
@@ -101,13 +102,13 @@ AnyResults results Other k = AllAny k.of results
 
 -- what an operation asks whatever its operands are
 pub record Started {A : Type 0} (p : FactsProblem) (r : Row) (k : NumberedFacts A) : Type 0 where
-  pub results : AnyResults r.results.items r.role k
-  pub entries : (b : ℕ) → Contains r.entries.items b → Enters p k b
+  pub results : AnyResults r.results r.role k
+  pub entries : (b : ℕ) → Contains r.entries b → Enters p k b
 
 -- edges with feasible targets are taken
 abbrev pub EdgesTaken : {A : Type 0} → Answers A → ℕ → Row → List Bool → Option (List (Option A)) → Type 0
 EdgesTaken ask i r taken None = Unit {0}
-EdgesTaken ask i r taken (Some xs) = (n : ℕ) (e : Edge) → slice_get r.edges.items n ≡ Some e → IsFeasible ask i r xs e.target → slice_get taken n ≡ Some true
+EdgesTaken ask i r taken (Some xs) = (n : ℕ) (e : Edge) → slice_get r.edges n ≡ Some e → IsFeasible ask i r xs e.target → slice_get taken n ≡ Some true
 
 -- what an operation asks by what it has seen
 abbrev pub Refreshed : {A : Type 0} → Answers A → NumberedFacts A → ℕ → Row → Role → List (Known A) → List Bool → Type 0
@@ -118,61 +119,65 @@ Refreshed ask k i r Other seen taken = Unit {0}
 -- an operation in a block that runs asks nothing more than what it has seen
 pub record RowDone {A : Type 0} (ask : Answers A) (p : FactsProblem) (s : Solver A) (i : ℕ) (r : Row) : Type 0 where
   pub started : Started p r (facts_of s.found)
-  pub refreshed : Refreshed ask (facts_of s.found) i r r.role (seen_of s.seen i) (row_of s.taken.items i)
+  pub refreshed : Refreshed ask (facts_of s.found) i r r.role (seen_of s.seen i) (row_at s.taken i)
 
 -- what a solver keeps true at every moment: the facts are at or above all that are closed, whatever was taken holds of all that are closed, and taken edges lie where they should, but for what is forwarded of values that were popped and not told yet
 pub record IsSolving {A : Type 0} (ask : Answers A) (p : FactsProblem) (s : Solver A) (popped : List ℕ) : Type 0 where
   pub blocks_len : length s.found.runs.items ≡ length p.arguments.items
   pub values_len : length s.found.known.items ≡ p.values
   pub marks_len : length s.marks.items ≡ length p.arguments.items
-  pub seen_len : length s.seen ≡ length p.rows.items
-  pub taken_len : length s.taken.items ≡ length p.rows.items
-  pub operands_len : (i : ℕ) (r : Row) → slice_get p.rows.items i ≡ Some r → length (seen_of s.seen i) ≡ length r.operands.items
-  pub edges_len : (i : ℕ) (r : Row) → slice_get p.rows.items i ≡ Some r → length (row_of s.taken.items i) ≡ length r.edges.items
+  pub seen_len : length s.seen ≡ length p.rows
+  pub taken_len : length s.taken ≡ length p.rows
+  pub operands_len : (i : ℕ) (r : Row) → slice_get p.rows i ≡ Some r → length (seen_of s.seen i) ≡ length r.operands
+  pub edges_len : (i : ℕ) (r : Row) → slice_get p.rows i ≡ Some r → length (row_at s.taken i) ≡ length r.edges
   pub best : (l : NumberedFacts A) → IsClosed ask p l → MorePrecise (facts_of s.found) l
-  pub marks_best : (l : NumberedFacts A) → IsClosed ask p l → (i : ℕ) (r : Row) → slice_get p.rows.items i ≡ Some r → MarkedClosed p i r s.marks.items l
-  pub taken_best : (l : NumberedFacts A) → IsClosed ask p l → (i n : ℕ) (r : Row) (e : Edge) → slice_get p.rows.items i ≡ Some r → slice_get r.edges.items n ≡ Some e → IsTaken s.taken.items i n → EdgeClosed p l r e
-  pub above : (i j v : ℕ) (r : Row) (x : Known A) → slice_get p.rows.items i ≡ Some r → slice_get r.operands.items j ≡ Some v → slice_get (seen_of s.seen i) j ≡ Some x → AtOrBelow ((facts_of s.found).of v) x
-  pub edges : (i n : ℕ) (r : Row) (e : Edge) → slice_get p.rows.items i ≡ Some r → slice_get r.edges.items n ≡ Some e → IsTaken s.taken.items i n → EdgeLies p s.found popped r e
+  pub marks_best : (l : NumberedFacts A) → IsClosed ask p l → (i : ℕ) (r : Row) → slice_get p.rows i ≡ Some r → MarkedClosed p i r s.marks.items l
+  pub taken_best : (l : NumberedFacts A) → IsClosed ask p l → (i n : ℕ) (r : Row) (e : Edge) → slice_get p.rows i ≡ Some r → slice_get r.edges n ≡ Some e → IsTaken s.taken i n → EdgeClosed p l r e
+  pub above : (i j v : ℕ) (r : Row) (x : Known A) → slice_get p.rows i ≡ Some r → slice_get r.operands j ≡ Some v → slice_get (seen_of s.seen i) j ≡ Some x → AtOrBelow ((facts_of s.found).of v) x
+  pub edges : (i n : ℕ) (r : Row) (e : Edge) → slice_get p.rows i ≡ Some r → slice_get r.edges n ≡ Some e → IsTaken s.taken i n → EdgeLies p s.found popped r e
 
 -- what is left to do waits: operations of blocks that run, and places that have not seen what is known
 pub record IsWaiting {A : Type 0} (ask : Answers A) (p : FactsProblem) (s : Solver A) (rest : List ℕ) (places : List Place) : Type 0 where
   pub entries : (b : ℕ) → Contains p.entries.items b → Enters p (facts_of s.found) b
   pub outside : (v : ℕ) → Contains p.outside.items v → (facts_of s.found).of v ≡ Any
-  pub rows : (i : ℕ) (r : Row) → slice_get p.rows.items i ≡ Some r → (facts_of s.found).runs r.block ≡ true → RowDone ask p s i r ⊎ (Contains s.found.blocks.items r.block ⊎ Contains rest i)
-  pub seen : (i j v : ℕ) (r : Row) (x : Known A) → slice_get p.rows.items i ≡ Some r → slice_get r.operands.items j ≡ Some v → slice_get (seen_of s.seen i) j ≡ Some x → ((facts_of s.found).of v ≡ x) ⊎ (Contains s.found.values.items v ⊎ Contains places (record { row = i; operand = j }))
+  pub rows : (i : ℕ) (r : Row) → slice_get p.rows i ≡ Some r → (facts_of s.found).runs r.block ≡ true → RowDone ask p s i r ⊎ (Contains s.found.blocks.items r.block ⊎ Contains rest i)
+  pub seen : (i j v : ℕ) (r : Row) (x : Known A) → slice_get p.rows i ≡ Some r → slice_get r.operands j ≡ Some v → slice_get (seen_of s.seen i) j ≡ Some x → ((facts_of s.found).of v ≡ x) ⊎ (Contains s.found.values.items v ⊎ Contains places (record { row = i; operand = j }))
 
 -- the facts fell, and what was taken stays taken
 pub record Steps {A : Type 0} (ask : Answers A) (p : FactsProblem) (old new : Solver A) : Type 0 where
   pub found : Falls (IsClosed ask p) old.found new.found
   pub seen : new.seen ≡ old.seen
-  pub taken : (i n : ℕ) → IsTaken old.taken.items i n → IsTaken new.taken.items i n
+  pub taken : (i n : ℕ) → IsTaken old.taken i n → IsTaken new.taken i n
 
 -- an operation was looked at
 pub record Refreshes {A : Type 0} (ask : Answers A) (p : FactsProblem) (old new : Solver A) (i : ℕ) : Type 0 where
   pub solving : IsSolving ask p new []
   pub steps : Steps ask p old new
-  pub done : (r : Row) → slice_get p.rows.items i ≡ Some r → Refreshed ask (facts_of new.found) i r r.role (seen_of new.seen i) (row_of new.taken.items i)
+  pub done : (r : Row) → slice_get p.rows i ≡ Some r → Refreshed ask (facts_of new.found) i r r.role (seen_of new.seen i) (row_at new.taken i)
 
 -- such operations were visited
 pub record Visits {A : Type 0} (ask : Answers A) (p : FactsProblem) (old new : Solver A) (such : ℕ → Row → Type 0) : Type 0 where
   pub solving : IsSolving ask p new []
   pub steps : Steps ask p old new
-  pub done : (i : ℕ) (r : Row) → such i r → slice_get p.rows.items i ≡ Some r → RowDone ask p new i r
+  pub done : (i : ℕ) (r : Row) → such i r → slice_get p.rows i ≡ Some r → RowDone ask p new i r
 
 -- the place sees what is known of the value
 pub record Sees {A : Type 0} (ask : Answers A) (p : FactsProblem) (old new : Solver A) (v : ℕ) (x : Place) : Type 0 where
   pub solving : IsSolving ask p new []
   pub found : Falls (IsClosed ask p) old.found new.found
-  pub taken : (i n : ℕ) → IsTaken old.taken.items i n → IsTaken new.taken.items i n
+  pub taken : (i n : ℕ) → IsTaken old.taken i n → IsTaken new.taken i n
   pub others : (i : ℕ) → (i ≡ x.row → ⊥) → seen_of new.seen i ≡ seen_of old.seen i
   pub other_places : (j : ℕ) → (j ≡ x.operand → ⊥) → slice_get (seen_of new.seen x.row) j ≡ slice_get (seen_of old.seen x.row) j
   pub here : slice_get (seen_of new.seen x.row) x.operand ≡ Some ((facts_of old.found).of v)
-  pub refreshed : (r : Row) → slice_get p.rows.items x.row ≡ Some r → (facts_of old.found).runs r.block ≡ true → Refreshed ask (facts_of new.found) x.row r r.role (seen_of new.seen x.row) (row_of new.taken.items x.row)
+  pub refreshed : (r : Row) → slice_get p.rows x.row ≡ Some r → (facts_of old.found).runs r.block ≡ true → Refreshed ask (facts_of new.found) x.row r r.role (seen_of new.seen x.row) (row_at new.taken x.row)
 
--- the arguments of slots of taken edges lie at or below the fact
-abbrev pub SlotsBelow : {A : Type 0} → List (Vec Bool Global) → List Slot → Known A → NumberedFacts A → Type 0
-SlotsBelow taken slots fact l = (x : Slot) → Contains slots x → IsTaken taken x.row x.edge → AtOrBelow (l.of x.argument) fact
+-- the argument of a slot lies at or below the fact, if its edge is taken
+abbrev pub SlotBelow : {A : Type 0} → List (List Bool) → Slot → Known A → NumberedFacts A → Type 0
+SlotBelow taken x fact l = IsTaken taken x.row x.edge → AtOrBelow (l.of x.argument) fact
+
+-- so do those of all slots
+abbrev pub SlotsBelow : {A : Type 0} → List (List Bool) → List Slot → Known A → NumberedFacts A → Type 0
+SlotsBelow taken slots fact l = (x : Slot) → Contains slots x → SlotBelow taken x fact l
 
 -- what a solver keeps true holds, where these places have still to be told
 pub record Tells {A : Type 0} (ask : Answers A) (p : FactsProblem) (old : Found A) (new : Solver A) (places : List Place) : Type 0 where
@@ -188,16 +193,6 @@ pub record IsStep {A : Type 0} (ask : Answers A) (p : FactsProblem) (old new : S
   pub no_blocks : more ≡ false → new.found.blocks.items ≡ []
   pub no_values : more ≡ false → new.found.values.items ≡ []
 
--- nothing is seen of the operands of any operation
-pub record AreUnseen {A : Type 0} (rows : List Row) (ss : List (List (Known A))) : Type 0 where
-  pub len : length ss ≡ length rows
-  pub each : (i : ℕ) (r : Row) → slice_get rows i ≡ Some r → seen_of ss i ≡ replicate (length r.operands.items) Undetermined
-
--- no edge of any operation is taken
-pub record AreUntaken (rows : List Row) (ts : List (Vec Bool Global)) : Type 0 where
-  pub len : length ts ≡ length rows
-  pub each : (i : ℕ) (r : Row) → slice_get rows i ≡ Some r → row_of ts i ≡ replicate (length r.edges.items) false
-
 -- what the root asks of facts
 pub record IsEntered {A : Type 0} (p : FactsProblem) (k : NumberedFacts A) : Type 0 where
   pub entries : (b : ℕ) → Contains p.entries.items b → Enters p k b
@@ -211,6 +206,6 @@ pub record Begins {A : Type 0} (p : FactsProblem) (s : Solver A) : Type 0 where
   pub best : (l : NumberedFacts A) → IsEntered p l → MorePrecise (facts_of s.found) l
   pub blocks_wait : (b : ℕ) → (facts_of s.found).runs b ≡ true → Contains s.found.blocks.items b
   pub values_wait : (v : ℕ) → ((facts_of s.found).of v ≡ Undetermined) ⊎ Contains s.found.values.items v
-  pub seen : AreUnseen p.rows.items s.seen
-  pub taken : AreUntaken p.rows.items s.taken.items
+  pub seen : s.seen ≡ map unseen p.rows
+  pub taken : s.taken ≡ map untaken p.rows
   pub marks : s.marks.items ≡ replicate (length p.arguments.items) None

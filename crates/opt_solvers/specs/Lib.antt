@@ -2,11 +2,16 @@ pub mod Known
 pub mod KnownFalls
 pub mod Facts
 pub mod FactsFound
+pub mod LinkedRows
 pub mod FactsTables
 pub mod FactsLaw
 pub mod Rows
+pub mod OperationRows
+pub mod OperationColumns
 pub mod FactsSeen
+pub mod FactsTaken
 pub mod FactsSolving
+pub mod DeadCandidates
 pub mod Dead
 pub mod Chains
 pub mod ChainsJoined

@@ -60,6 +60,7 @@ pub fn dead(alloc: Global, problem: &DeadProblem) -> Result<DeadItems, AllocErro
     let Places { all, by_user } = places_of(alloc, problem)?;
     let kept = kept_rows(alloc, problem, &all)?;
     let excusing = excused_rows(alloc, problem, &all, by_user)?;
+    // From here on both are only read: as they are lent, the loop below need not say that they stay.
     let keeps = &kept;
     let excuses = &excusing;
     let inner = inner_rows(alloc, problem)?;

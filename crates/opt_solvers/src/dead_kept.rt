@@ -28,7 +28,7 @@ fn around_definer(problem: &DeadProblem, definer: Definer) -> Option<usize>
     ensures { result ≡ around_definer problem.now definer }
 {
     match definer {
-        Definer::Result(operation) => problem.operations[operation].around,
+        Definer::Result(operation) => problem.operations.around(operation),
         Definer::Argument(argument) => problem.arguments[argument].around,
         Definer::Outside => None,
     }
@@ -41,7 +41,7 @@ fn around_user(problem: &DeadProblem, user: Option<usize>) -> Option<usize>
 {
     match user {
         None => None,
-        Some(operation) => problem.operations[operation].around,
+        Some(operation) => problem.operations.around(operation),
     }
 }
 
@@ -56,7 +56,7 @@ fn outwards(problem: &DeadProblem, from: Option<usize>, limit: usize) -> Option<
         if at <= limit {
             return operation;
         }
-        operation = problem.operations[at].around;
+        operation = problem.operations.around(at);
     }
     None
 }
@@ -83,7 +83,7 @@ fn push_crossed(
             return Ok(());
         }
         kept.push(at)?;
-        definer = problem.operations[at].around;
+        definer = problem.operations.around(at);
     }
     Ok(())
 }

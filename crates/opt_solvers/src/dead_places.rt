@@ -28,8 +28,8 @@ pub struct Places {
 /// How many uses there are, for the room that is asked for ahead.
 fn use_count(problem: &DeadProblem) -> usize {
     let mut count = problem.kept.len();
-    for operation in &problem.operations {
-        count = count.saturating_add(operation.operands.len());
+    for number in 0..problem.operations.len() {
+        count = count.saturating_add(problem.operations.operands(number).len());
     }
     count
 }
@@ -86,7 +86,7 @@ fn push_kept(places: &mut Vec<Place>, kept: &[Definer]) -> Result<(), AllocError
 /// There may be no memory.
 pub fn places_of(alloc: Global, problem: &DeadProblem) -> Result<Places, AllocError>
     ensures all { IfOk result (λ places. (q : Place) → Contains places.all.items q ↔ IsPlace problem.now q) }
-    ensures by_user { IfOk result (λ places. AreByUser places.all.items (length problem.now.operations.items)
+    ensures by_user { IfOk result (λ places. AreByUser places.all.items (length problem.now.operations)
         places.by_user) }
 {
     let count = use_count(problem);
@@ -99,7 +99,7 @@ pub fn places_of(alloc: Global, problem: &DeadProblem) -> Result<Places, AllocEr
     let mut row = Vec::new(alloc);
     for user in 0..problem.operations.len() {
         let first = all.len();
-        push_operands(&mut all, user, &problem.operations[user].operands)?;
+        push_operands(&mut all, user, problem.operations.operands(user))?;
         number_between(&mut row, first, all.len())?;
         by_user.push_row(&row)?;
     }

@@ -1,5 +1,7 @@
 //! Operations and block arguments as dead code elimination sees them, by numbers.
 
+use crate::dead_candidates::Candidates;
+
 /// What defines a value.
 #[derive(Clone, Copy, Debug, PartialEq, Eq)]
 pub enum Definer {
@@ -20,17 +22,6 @@ pub struct Operand {
     pub argument: Option<usize>,
 }
 
-/// An operation.
-#[derive(Drop)]
-pub struct Candidate {
-    /// Whether nothing but uses keeps it.
-    pub may_go: bool,
-    /// The operation that it is in, if that is none of the root's own.
-    pub around: Option<usize>,
-    /// Its operands.
-    pub operands: Vec<Operand>,
-}
-
 /// A block argument.
 #[derive(Clone, Copy, Debug, PartialEq, Eq)]
 pub struct Argument {
@@ -44,7 +35,7 @@ pub struct Argument {
 #[derive(Drop)]
 pub struct DeadProblem {
     /// The operations, each behind those that it is in.
-    pub operations: Vec<Candidate>,
+    pub operations: Candidates,
     /// The arguments of all blocks.
     pub arguments: Vec<Argument>,
     /// What defines the values that are used from outside or by the root itself.

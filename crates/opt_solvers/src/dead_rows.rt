@@ -73,7 +73,7 @@ pub fn excused_rows(
 ) -> Result<NumberRows, AllocError>
     requires problem { IsDeadProblem problem.now }
     requires places { (q : Place) → Contains places.now q → IsPlace problem.now q }
-    requires by_user { AreByUser places.now (length problem.now.operations.items) by_user }
+    requires by_user { AreByUser places.now (length problem.now.operations) by_user }
     ensures { IfOk result (λ rows. AreExcused problem.now places.now rows) }
 {
     let forwarded = forwarded_rows(alloc, problem, places)?;
@@ -92,7 +92,7 @@ pub fn inner_rows(alloc: Global, problem: &DeadProblem) -> Result<Vec<Vec<usize>
 {
     let mut rows = empty_rows(alloc, problem.operations.len())?;
     for number in 0..problem.operations.len() {
-        note(&mut rows, problem.operations[number].around, number)?;
+        note(&mut rows, problem.operations.around(number), number)?;
     }
     Ok(rows)
 }

@@ -1,10 +1,10 @@
 //! How many uses keep each item.
-ghost use Rattle.std.specs.Prelude.{ℕ, ◌≡◌, ◌<◌, ◌≤◌, ◌+◌, ◌^◌, IfOk, Contains, length, slice_index};
+ghost use Rattle.std.specs.Prelude.{ℕ, ◌≡◌, ◌<◌, ◌≤◌, ◌+◌, ◌++◌, ◌^◌, IfOk, Contains, length, map, slice_index};
 ghost use Rattle.digraph.specs.Counts.{count_of};
 ghost use Rattle.opt_solvers.specs.Rows.{row_at};
-ghost use Rattle.opt_solvers.specs.DeadUses.{held, first_uses, kept_by, CountsItems};
+ghost use Rattle.opt_solvers.specs.DeadUses.{held, held_argument, first_uses, kept_by, CountsItems};
 
-use crate::dead_problem::DeadProblem;
+use crate::dead_problem::{Argument, DeadProblem};
 use crate::number_rows::NumberRows;
 use std::alloc::{AllocError, Global};
 
@@ -15,13 +15,24 @@ fn held(may_go: bool) -> usize
     if may_go { 0 } else { 1 }
 }
 
+/// The uses that never go, of operations that may go or not, and then of arguments.
+fn held_items(
+    alloc: Global,
+    may_go: &[bool],
+    arguments: &[Argument],
+) -> Result<Vec<usize>, AllocError>
+    ensures { IfOk result (λ uses. uses.items ≡ map held may_go.now ++ map held_argument arguments.now) }
+{
+    let operations = may_go.iter().map(|may_go| held(*may_go));
+    let arguments = arguments.iter().map(|item| held(item.may_go));
+    operations.chain(arguments).collect(alloc)
+}
+
 /// The uses that never go, of all items.
 fn first_uses(alloc: Global, problem: &DeadProblem) -> Result<Vec<usize>, AllocError>
     ensures { IfOk result (λ uses. uses.items ≡ first_uses problem.now) }
 {
-    let operations = problem.operations.iter().map(|item| held(item.may_go));
-    let arguments = problem.arguments.iter().map(|item| held(item.may_go));
-    operations.chain(arguments).collect(alloc)
+    held_items(alloc, problem.operations.may_go(), &problem.arguments)
 }
 
 /// One use more of each of some items.

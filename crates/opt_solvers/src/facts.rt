@@ -3,21 +3,22 @@
 //! Source: Wegman and Zadeck, Constant propagation with conditional branches, 1991, by two lists: blocks that began to
 //! run, and values of which less is known than those that look at them saw.
 ghost use Rattle.std.specs.Prelude.{ℕ, ◌≡◌, true, length, IfOk, Some, slice_get, []};
-ghost use Rattle.opt_solvers.specs.declared.facts_problem.Row.{Row};
+ghost use Rattle.opt_solvers.specs.OperationRows.{Row};
 ghost use Rattle.opt_solvers.specs.Facts.{IsProblem, IsMostPrecise, as_facts};
 ghost use Rattle.opt_solvers.specs.FactsLaw.{OneMostPrecise};
 ghost use Rattle.opt_solvers.specs.FactsTables.{AreTables};
-ghost use Rattle.opt_solvers.specs.FactsSolving.{AreUntaken, Begins};
-ghost use Rattle.opt_solvers.specs.FactsSolving.{CanAskRows, IsSolving, IsWaiting, IsStep};
+ghost use Rattle.opt_solvers.specs.FactsSolving.{Begins, CanAskRows, IsSolving, IsWaiting, IsStep};
 
 use crate::facts_found::Found;
-use crate::facts_problem::{FactsProblem, Folding, Row};
+use crate::facts_problem::{FactsProblem, Folding};
 use crate::facts_rows::visit_block;
 use crate::facts_seen::Seen;
 use crate::facts_solver::Solver;
 use crate::facts_tables::{Tables, tables_of};
+use crate::facts_taken::Taken;
 use crate::facts_values::tell_value;
 use crate::known::Known;
+use crate::operation_rows::OperationRows;
 use std::alloc::{AllocError, Global};
 
 /// What is known of a problem's blocks and values.
@@ -27,17 +28,6 @@ pub struct Solution<K> {
     pub runs: Vec<bool>,
     /// What is known of each value.
     pub known: Vec<Known<K>>,
-}
-
-/// No edge is taken.
-fn untaken(alloc: Global, rows: &[Row]) -> Result<Vec<Vec<bool>>, AllocError>
-    ensures { IfOk result (λ taken. AreUntaken rows.now taken.items) }
-{
-    let mut taken = Vec::with_capacity(alloc, rows.len())?;
-    for row in rows {
-        taken.push(vec![in alloc; false; row.edges.len()]?)?;
-    }
-    Ok(taken)
 }
 
 /// The entry blocks of the root run, nothing is known of the values from outside, and nothing else is found.
@@ -52,7 +42,7 @@ fn begin<K: Copy + Eq>(alloc: Global, problem: &FactsProblem) -> Result<Solver<K
     Ok(Solver {
         found,
         seen: Seen::new(alloc, &problem.rows)?,
-        taken: untaken(alloc, &problem.rows)?,
+        taken: Taken::new(alloc, &problem.rows)?,
         marks: vec![in alloc; None; problem.arguments.len()]?,
     })
 }
@@ -98,8 +88,8 @@ pub fn most_precise<F: Folding>(
     folding: &F,
 ) -> Result<Solution<F::Constant>, AllocError>
     requires problem { IsProblem problem.now }
-    requires asks { (i : ℕ) (r : Row) → slice_get problem.now.rows.items i ≡ Some r
-        → F.can_ask folding.now i (length r.operands.items) }
+    requires asks { (i : ℕ) (r : Row) → slice_get problem.now.rows i ≡ Some r
+        → F.can_ask folding.now i (length r.operands) }
     ensures { IfOk result (λ s. IsMostPrecise (F.answers folding.now) problem.now
         (as_facts s.runs.items s.known.items)) }
 {

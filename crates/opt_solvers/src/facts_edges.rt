@@ -1,30 +1,35 @@
 //! Edges of a branch, taken as their targets become feasible.
 ghost use Rattle.std.specs.Prelude.{ℕ, ◌≡◌, ◌<◌, true, [], length, OnOk, Contains};
-ghost use Rattle.opt_solvers.specs.declared.facts_problem.Edge.{Edge};
-ghost use Rattle.opt_solvers.specs.Facts.{IsRow, arguments_of};
+ghost use Rattle.opt_solvers.specs.OperationRows.{Edge, edge_numbered, row_numbered};
+ghost use Rattle.opt_solvers.specs.Facts.{IsProblem};
+ghost use Rattle.opt_solvers.specs.Rows.{row_at};
 ghost use Rattle.opt_solvers.specs.FactsSolving.{MarksTargets, ForwardsAll, TakesEdge, TakesAllMarked};
 
 use crate::facts_found::Found;
-use crate::facts_problem::{Edge, FactsProblem, Folding, Row};
+use crate::facts_problem::{FactsProblem, Folding};
+use crate::facts_taken::Taken;
 use std::alloc::AllocError;
 
 /// Marks the targets of the feasible edges of an operation with its number. One feasible edge to a block is enough for
 /// all edges to it, so edges are taken by their targets' marks. A mark from an earlier test is as good: what was
 /// feasible stays feasible as less is known.
 pub fn mark_targets<F: Folding>(
+    problem: &FactsProblem,
     folding: &F,
     number: usize,
-    row: &Row,
     known: &[Option<F::Constant>],
     marks: &mut Vec<Option<usize>>,
 )
+    requires in_range { number < length problem.now.rows }
     requires asks { F.can_ask folding.now number (length known.now) }
-    requires targets { (e : Edge) → Contains row.now.edges.items e → e.target < length marks.old.items }
-    ensures { MarksTargets (F.answers folding.now) number row.now known.now marks.old.items marks.new.items }
+    requires targets { let edges = (row_numbered problem.now.rows number).edges in
+        (e : Edge) → Contains edges e → e.target < length marks.old.items }
+    ensures { let marks_them = MarksTargets (F.answers folding.now) number (row_numbered problem.now.rows number) in
+        marks_them known.now marks.old.items marks.new.items }
 {
-    for (index, edge) in row.edges.iter().enumerate() {
+    for index in 0..problem.rows.edge_count(number) {
         if folding.is_feasible(number, known, index) {
-            marks[edge.target] = Some(number);
+            marks[problem.rows.target(number, index)] = Some(number);
         }
     }
 }
@@ -52,23 +57,25 @@ fn forward_all<K: Copy + Eq>(
 /// Takes an edge: its target runs, and its arguments are lowered by what is forwarded to them.
 fn take_edge<K: Copy + Eq>(
     problem: &FactsProblem,
-    row: &Row,
-    edge: &Edge,
+    number: usize,
+    edge: usize,
     found: &mut Found<K>,
 ) -> Result<(), AllocError>
-    requires row { IsRow problem.now row.now }
-    requires edge { Contains row.now.edges.items edge.now }
+    requires problem { IsProblem problem.now }
+    requires in_range { number < length problem.now.rows }
+    requires edge { edge < length (row_numbered problem.now.rows number).edges }
     requires blocks { length found.old.runs.items ≡ length problem.now.arguments.items }
     requires values { length found.old.known.items ≡ problem.now.values }
-    requires arguments { (b v : ℕ) → Contains (arguments_of problem.now b) v → v < problem.now.values }
     requires same { (x y : K) → K.eq x y ≡ true → x ≡ y }
-    ensures { OnOk result (TakesEdge problem.now row.now edge.now found.old found.new) }
+    ensures { let row = row_numbered problem.now.rows number in
+        OnOk result (TakesEdge problem.now row (edge_numbered row.edges edge) found.old found.new) }
 {
-    found.run(edge.target)?;
+    let target = problem.rows.target(number, edge);
+    found.run(target)?;
     forward_all(
-        &problem.arguments[edge.target],
-        &edge.forwards,
-        &row.operands,
+        &problem.arguments[target],
+        problem.rows.forwards(number, edge),
+        problem.rows.operands(number),
         found,
     )?;
     Ok(())
@@ -82,25 +89,26 @@ fn take_edge<K: Copy + Eq>(
 pub fn take_marked<K: Copy + Eq>(
     problem: &FactsProblem,
     number: usize,
-    row: &Row,
     marks: &[Option<usize>],
-    taken: &mut Vec<bool>,
+    taken: &mut Taken,
     found: &mut Found<K>,
 ) -> Result<(), AllocError>
-    requires row { IsRow problem.now row.now }
+    requires problem { IsProblem problem.now }
+    requires in_range { number < length problem.now.rows }
     requires marks { length marks.now ≡ length problem.now.arguments.items }
-    requires taken { length taken.old.items ≡ length row.now.edges.items }
+    requires taken { number < length taken.old }
+    requires edges { length (row_at taken.old number) ≡ length (row_numbered problem.now.rows number).edges }
     requires blocks { length found.old.runs.items ≡ length problem.now.arguments.items }
     requires values { length found.old.known.items ≡ problem.now.values }
-    requires arguments { (b v : ℕ) → Contains (arguments_of problem.now b) v → v < problem.now.values }
     requires same { (x y : K) → K.eq x y ≡ true → x ≡ y }
-    ensures { let takes = TakesAllMarked problem.now number row.now marks.now in
-        OnOk result (takes taken.old.items taken.new.items found.old found.new) }
+    ensures { let takes = TakesAllMarked problem.now number (row_numbered problem.now.rows number) marks.now in
+        OnOk result (takes taken.old taken.new found.old found.new) }
 {
-    for (index, edge) in row.edges.iter().enumerate() {
-        if marks[edge.target] == Some(number) && !taken[index] {
-            take_edge(problem, row, edge, found)?;
-            taken[index] = true;
+    for index in 0..problem.rows.edge_count(number) {
+        let target = problem.rows.target(number, index);
+        if marks[target] == Some(number) && !taken.is_taken(number, index) {
+            take_edge(problem, number, index, found)?;
+            taken.take(number, index);
         }
     }
     Ok(())

@@ -3,6 +3,7 @@ ghost use Rattle.std.specs.Prelude.{◌≡◌, ℕ, true, List, Option, IfOk, le
 ghost use Rattle.opt_solvers.specs.Known.{KnowsMore};
 ghost use Rattle.opt_solvers.specs.Facts.{Answers};
 
+use crate::operation_rows::OperationRows;
 use std::alloc::{AllocError, Global};
 
 /// What an operation is asked.
@@ -16,37 +17,11 @@ pub enum Role {
     Other,
 }
 
-/// An edge of a branch.
-#[derive(Drop)]
-pub struct Edge {
-    /// The block that it leads to.
-    pub target: usize,
-    /// Which operands are forwarded along it, by their indices, in the order of the arguments of the block.
-    pub forwards: Vec<usize>,
-}
-
-/// An operation.
-#[derive(Drop)]
-pub struct Row {
-    /// The block that it is in.
-    pub block: usize,
-    /// What it is asked.
-    pub role: Role,
-    /// The values that it takes.
-    pub operands: Vec<usize>,
-    /// The values that it gives.
-    pub results: Vec<usize>,
-    /// Its edges, none where it is no branch.
-    pub edges: Vec<Edge>,
-    /// The entry blocks of its regions.
-    pub entries: Vec<usize>,
-}
-
 /// All operations, blocks and values below a root.
 #[derive(Drop)]
 pub struct FactsProblem {
     /// The operations.
-    pub rows: Vec<Row>,
+    pub rows: OperationRows,
     /// The arguments of each block.
     pub arguments: Vec<Vec<usize>>,
     /// How many values there are.

@@ -1,7 +1,8 @@
 //! Operations, looked at as their blocks begin to run and as their operands become known.
 ghost use Rattle.std.specs.Prelude.{ℕ, ◌≡◌, ◌<◌, true, [], length, OnOk, Contains};
 ghost use Rattle.opt_solvers.specs.declared.facts_problem.Role.TheVariants.{Folds, Branches};
-ghost use Rattle.opt_solvers.specs.Facts.{IsProblem, IsRow, arguments_of};
+ghost use Rattle.opt_solvers.specs.OperationRows.{row_numbered};
+ghost use Rattle.opt_solvers.specs.Facts.{IsProblem};
 ghost use Rattle.opt_solvers.specs.FactsFound.{facts_of, Meets};
 ghost use Rattle.opt_solvers.specs.FactsTables.{AreTables};
 ghost use Rattle.opt_solvers.specs.FactsSolving.{CanAskRows, HasRole, RowRuns, FoldsBelow, AnyResults};
@@ -9,7 +10,7 @@ ghost use Rattle.opt_solvers.specs.FactsSolving.{Started, IsSolving, Refreshes, 
 
 use crate::facts_edges::{mark_targets, take_marked};
 use crate::facts_found::Found;
-use crate::facts_problem::{FactsProblem, Folding, Role, Row};
+use crate::facts_problem::{FactsProblem, Folding, Role};
 use crate::facts_solver::Solver;
 use crate::facts_tables::Tables;
 use crate::known::of_answer;
@@ -20,17 +21,18 @@ fn lower_results<F: Folding>(
     alloc: Global,
     folding: &F,
     number: usize,
-    row: &Row,
+    results: &[usize],
     known: &[Option<F::Constant>],
     found: &mut Found<F::Constant>,
 ) -> Result<(), AllocError>
     requires asks { F.can_ask folding.now number (length known.now) }
-    requires results { (v : ℕ) → Contains row.now.results.items v → v < length found.old.known.items }
-    ensures { OnOk result (Meets (FoldsBelow (F.answers folding.now) number row.now known.now) found.old found.new) }
+    requires results { (v : ℕ) → Contains results.now v → v < length found.old.known.items }
+    ensures { let below = FoldsBelow (F.answers folding.now) number results.now known.now in
+        OnOk result (Meets below found.old found.new) }
 {
     let folds = folding.fold(alloc, number, known)?;
-    for index in 0..row.results.len().min(folds.len()) {
-        found.lower(row.results[index], of_answer(folds[index]))?;
+    for index in 0..results.len().min(folds.len()) {
+        found.lower(results[index], of_answer(folds[index]))?;
     }
     Ok(())
 }
@@ -44,16 +46,16 @@ fn fold_row<F: Folding>(
     solver: &mut Solver<F::Constant>,
 ) -> Result<(), AllocError>
     requires problem { IsProblem problem.now }
-    requires in_range { number < length problem.now.rows.items }
+    requires in_range { number < length problem.now.rows }
     requires role { HasRole problem.now number Folds }
     requires asks { CanAskRows (F.can_ask folding.now) problem.now }
     requires solving { IsSolving (F.answers folding.now) problem.now solver.old [] }
     requires running { RowRuns problem.now solver.old.found number }
     ensures { OnOk result (Refreshes (F.answers folding.now) problem.now solver.old solver.new number) }
 {
-    let row = &problem.rows[number];
+    let results = problem.rows.results(number);
     if let Some(known) = solver.seen.ask(number) {
-        lower_results(alloc, folding, number, row, known, &mut solver.found)?;
+        lower_results(alloc, folding, number, results, known, &mut solver.found)?;
     }
     Ok(())
 }
@@ -66,22 +68,20 @@ fn test_edges<F: Folding>(
     solver: &mut Solver<F::Constant>,
 ) -> Result<(), AllocError>
     requires problem { IsProblem problem.now }
-    requires in_range { number < length problem.now.rows.items }
+    requires in_range { number < length problem.now.rows }
     requires role { HasRole problem.now number Branches }
     requires asks { CanAskRows (F.can_ask folding.now) problem.now }
     requires solving { IsSolving (F.answers folding.now) problem.now solver.old [] }
     requires running { RowRuns problem.now solver.old.found number }
     ensures { OnOk result (Refreshes (F.answers folding.now) problem.now solver.old solver.new number) }
 {
-    let row = &problem.rows[number];
     if let Some(known) = solver.seen.ask(number) {
-        mark_targets(folding, number, row, known, &mut solver.marks);
+        mark_targets(problem, folding, number, known, &mut solver.marks);
         take_marked(
             problem,
             number,
-            row,
             &solver.marks,
-            &mut solver.taken[number],
+            &mut solver.taken,
             &mut solver.found,
         )?;
     }
@@ -100,13 +100,13 @@ pub fn refresh_row<F: Folding>(
     solver: &mut Solver<F::Constant>,
 ) -> Result<(), AllocError>
     requires problem { IsProblem problem.now }
-    requires in_range { number < length problem.now.rows.items }
+    requires in_range { number < length problem.now.rows }
     requires asks { CanAskRows (F.can_ask folding.now) problem.now }
     requires solving { IsSolving (F.answers folding.now) problem.now solver.old [] }
     requires running { RowRuns problem.now solver.old.found number }
     ensures { OnOk result (Refreshes (F.answers folding.now) problem.now solver.old solver.new number) }
 {
-    match problem.rows[number].role {
+    match problem.rows.role(number) {
         Role::Folds => fold_row(alloc, problem, folding, number, solver),
         Role::Branches => test_edges(problem, folding, number, solver),
         Role::Other => Ok(()),
@@ -114,15 +114,19 @@ pub fn refresh_row<F: Folding>(
 }
 
 /// Gives up the results of an operation unless it folds.
-fn give_up_results<K: Copy + Eq>(row: &Row, found: &mut Found<K>) -> Result<(), AllocError>
-    requires results { (v : ℕ) → Contains row.now.results.items v → v < length found.old.known.items }
+fn give_up_results<K: Copy + Eq>(
+    role: Role,
+    results: &[usize],
+    found: &mut Found<K>,
+) -> Result<(), AllocError>
+    requires results { (v : ℕ) → Contains results.now v → v < length found.old.known.items }
     requires same { (x y : K) → K.eq x y ≡ true → x ≡ y }
-    ensures { OnOk result (Meets (AnyResults row.now.results.items row.now.role) found.old found.new) }
+    ensures { OnOk result (Meets (AnyResults results.now role) found.old found.new) }
 {
-    match row.role {
+    match role {
         Role::Folds => Ok(()),
-        Role::Branches => found.give_up(&row.results),
-        Role::Other => found.give_up(&row.results),
+        Role::Branches => found.give_up(results),
+        Role::Other => found.give_up(results),
     }
 }
 
@@ -130,18 +134,19 @@ fn give_up_results<K: Copy + Eq>(row: &Row, found: &mut Found<K>) -> Result<(), 
 /// results are given up unless it folds.
 fn start_row<K: Copy + Eq>(
     problem: &FactsProblem,
-    row: &Row,
+    number: usize,
     found: &mut Found<K>,
 ) -> Result<(), AllocError>
-    requires row { IsRow problem.now row.now }
+    requires problem { IsProblem problem.now }
+    requires in_range { number < length problem.now.rows }
     requires blocks { length found.old.runs.items ≡ length problem.now.arguments.items }
     requires values { length found.old.known.items ≡ problem.now.values }
-    requires arguments { (b v : ℕ) → Contains (arguments_of problem.now b) v → v < problem.now.values }
     requires same { (x y : K) → K.eq x y ≡ true → x ≡ y }
-    ensures { OnOk result (Meets (Started problem.now row.now) found.old found.new) }
+    ensures { OnOk result (Meets (Started problem.now (row_numbered problem.now.rows number)) found.old found.new) }
 {
-    give_up_results(row, found)?;
-    found.enter_all(problem, &row.entries)?;
+    let results = problem.rows.results(number);
+    give_up_results(problem.rows.role(number), results, found)?;
+    found.enter_all(problem, problem.rows.entries(number))?;
     Ok(())
 }
 
@@ -154,13 +159,13 @@ fn visit_row<F: Folding>(
     solver: &mut Solver<F::Constant>,
 ) -> Result<(), AllocError>
     requires problem { IsProblem problem.now }
-    requires in_range { number < length problem.now.rows.items }
+    requires in_range { number < length problem.now.rows }
     requires asks { CanAskRows (F.can_ask folding.now) problem.now }
     requires solving { IsSolving (F.answers folding.now) problem.now solver.old [] }
     requires running { RowRuns problem.now solver.old.found number }
     ensures { OnOk result (Visits (F.answers folding.now) problem.now solver.old solver.new (λ i r. i ≡ number)) }
 {
-    start_row(problem, &problem.rows[number], &mut solver.found)?;
+    start_row(problem, number, &mut solver.found)?;
     refresh_row(alloc, problem, folding, number, solver)?;
     Ok(())
 }
@@ -185,9 +190,8 @@ pub fn visit_block<F: Folding>(
     requires running { (facts_of solver.old.found).runs block ≡ true }
     ensures { OnOk result (Visits (F.answers folding.now) problem.now solver.old solver.new (λ i r. r.block ≡ block)) }
 {
-    let numbers = tables.rows[block].as_slice();
-    for number in numbers {
-        visit_row(alloc, problem, folding, *number, solver)?;
+    for number in tables.rows.row(block) {
+        visit_row(alloc, problem, folding, number, solver)?;
     }
     Ok(())
 }

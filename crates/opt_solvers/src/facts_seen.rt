@@ -1,39 +1,42 @@
 //! What operations have seen of their operands.
 ghost use Rattle.std.specs.Prelude.{◌≡◌, None, IfOk, replicate};
-ghost use Rattle.opt_solvers.specs.KnownFalls.{constant_of, one_if_undetermined};
+ghost use Rattle.opt_solvers.specs.KnownFalls.{constant_of};
+ghost use Rattle.opt_solvers.specs.FactsSeen.{is_found, one_unless};
 
-use crate::facts_problem::Row;
 use crate::known::Known;
 use crate::number_rows::start_of;
+use crate::operation_rows::OperationRows;
 use std::alloc::{AllocError, Global};
 use std::marker::Model;
 
 /// What each operation has seen of its operands, in their order. It may lag behind what is known of their values.
 ///
-/// The operands of all operations stand one after the other, so that no operation asks for memory of its own.
+/// The operands of all operations stand one after the other, so that no operation asks for memory of its own. The
+/// constants stand apart, as an operation is asked by them, and a bool beside each says what else there is to know.
 #[derive(Drop)]
 pub struct Seen<K> {
     /// Where the operands of each operation end.
     ends: Vec<usize>,
-    /// What is seen of each operand.
-    known: Vec<Known<K>>,
-    /// The constants among it.
+    /// Of each operand, whether anything is seen of it: else it is undetermined.
+    found: Vec<bool>,
+    /// Which constant each operand is seen to be, if any.
     constants: Vec<Option<K>>,
     /// How many operands of each operation are undetermined.
     missing: Vec<usize>,
 }
 
 impl<K> Model for Seen<K> {
-    ghost use Rattle.std.specs.Prelude.{List};
+    ghost use Rattle.std.specs.Prelude.{◌≡◌, List, length};
     ghost use Rattle.opt_solvers.specs.declared.known.Known.{Known};
     ghost use Rattle.opt_solvers.specs.Rows.{rows_from};
-    ghost use Rattle.opt_solvers.specs.FactsSeen.{IsSeen};
+    ghost use Rattle.opt_solvers.specs.FactsSeen.{seen_facts, IsSeen};
 
     ghost Value = { List (List (Known K)) };
 
-    ghost view = { λ s. rows_from 0 s.ends.items s.known.items };
+    ghost view = { λ s. rows_from 0 s.ends.items (seen_facts s.found.items s.constants.items) };
 
-    ghost invariant = { λ s. IsSeen s.ends.items s.known.items s.constants.items s.missing.items };
+    ghost invariant = { λ s. (length s.found.items ≡ length s.constants.items)
+        × IsSeen s.ends.items (seen_facts s.found.items s.constants.items) s.constants.items s.missing.items };
 }
 
 impl<K: Copy> Seen<K> {
@@ -47,22 +50,22 @@ impl<K: Copy> Seen<K> {
     ///
     /// # Errors
     /// There may be no memory.
-    pub fn new(alloc: Global, rows: &[Row]) -> Result<Seen<K>, AllocError>
+    pub fn new(alloc: Global, rows: &OperationRows) -> Result<Seen<K>, AllocError>
         ensures { IfOk result (λ s. s ≡ map unseen rows.now) }
     {
         let mut ends = Vec::with_capacity(alloc, rows.len())?;
         let mut missing = Vec::with_capacity(alloc, rows.len())?;
-        let mut known = Vec::with_capacity(alloc, operand_count(rows))?;
-        for row in rows {
-            let count = row.operands.len();
-            known.resize(known.len() + count, Known::Undetermined)?;
-            ends.push(known.len())?;
+        let mut found = Vec::with_capacity(alloc, operand_count(rows))?;
+        for number in 0..rows.len() {
+            let count = rows.operands(number).len();
+            found.resize(found.len() + count, false)?;
+            ends.push(found.len())?;
             missing.push(count)?;
         }
-        let constants = no_constants(alloc, known.len())?;
+        let constants = no_constants(alloc, found.len())?;
         Ok(Seen {
             ends,
-            known,
+            found,
             constants,
             missing,
         })
@@ -75,9 +78,10 @@ impl<K: Copy> Seen<K> {
         ensures { self.new ≡ slice_set self.old row (slice_set (row_at self.old row) index fact) }
     {
         let place = start_of(&self.ends, row) + index;
-        self.missing[row] = self.missing[row] - lacking(self.known[place]) + lacking(fact);
+        let found = has_found(fact);
+        self.missing[row] = self.missing[row] - lacking(self.found[place]) + lacking(found);
+        self.found[place] = found;
         self.constants[place] = constant(fact);
-        self.known[place] = fact;
     }
 
     /// What an operation asks by what it has seen: nothing, while an operand is undetermined.
@@ -102,10 +106,10 @@ fn no_constants<K: Copy>(alloc: Global, count: usize) -> Result<Vec<Option<K>>, 
 }
 
 /// How many operands there are, for the room that is asked for ahead.
-fn operand_count(rows: &[Row]) -> usize {
+pub(crate) fn operand_count(rows: &OperationRows) -> usize {
     let mut count: usize = 0;
-    for row in rows {
-        count = count.saturating_add(row.operands.len());
+    for number in 0..rows.len() {
+        count = count.saturating_add(rows.operands(number).len());
     }
     count
 }
@@ -120,12 +124,19 @@ fn constant<K: Copy>(fact: Known<K>) -> Option<K>
     }
 }
 
-/// How many facts are missing where this is what is known.
-fn lacking<K: Copy>(fact: Known<K>) -> usize
-    ensures { result ≡ one_if_undetermined fact }
+/// Whether anything is known.
+fn has_found<K: Copy>(fact: Known<K>) -> bool
+    ensures { result ≡ is_found fact }
 {
     match fact {
-        Known::Undetermined => 1,
-        _ => 0,
+        Known::Undetermined => false,
+        _ => true,
     }
+}
+
+/// How many facts are missing of one operand.
+fn lacking(found: bool) -> usize
+    ensures { result ≡ one_unless found }
+{
+    if found { 0 } else { 1 }
 }

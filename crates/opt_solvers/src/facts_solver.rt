@@ -2,6 +2,7 @@
 
 use crate::facts_found::Found;
 use crate::facts_seen::Seen;
+use crate::facts_taken::Taken;
 
 /// What has been found so far, and what operations and their edges have seen of it.
 #[derive(Drop)]
@@ -11,7 +12,7 @@ pub struct Solver<K> {
     /// What each operation has seen of its operands.
     pub seen: Seen<K>,
     /// Of each operation, which of its edges are taken: their targets are feasible.
-    pub taken: Vec<Vec<bool>>,
+    pub taken: Taken,
     /// Of each block, the operation that was the last to find one of its edges to it feasible.
     pub marks: Vec<Option<usize>>,
 }

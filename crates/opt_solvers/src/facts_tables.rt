@@ -1,9 +1,12 @@
 //! Tables that say where a fact is looked at.
 ghost use Rattle.std.specs.Prelude.{ℕ, ◌≡◌, ◌<◌, length, IfOk, OnOk, Contains};
-ghost use Rattle.opt_solvers.specs.Facts.{IsProblem, IsRow};
+ghost use Rattle.opt_solvers.specs.OperationRows.{row_numbered};
+ghost use Rattle.opt_solvers.specs.Facts.{IsProblem};
 ghost use Rattle.opt_solvers.specs.FactsTables.{Gains, PlacesOf, SlotsOfEdge, SlotsOf, Lists, AreTables, AddsRow};
 
-use crate::facts_problem::{Edge, FactsProblem, Row};
+use crate::facts_problem::FactsProblem;
+use crate::facts_seen::operand_count;
+use crate::linked_rows::LinkedRows;
 use std::alloc::{AllocError, Global};
 
 /// An operand of an operation.
@@ -30,41 +33,30 @@ pub struct Slot {
 #[derive(Drop)]
 pub struct Tables {
     /// The operations of each block.
-    pub rows: Vec<Vec<usize>>,
+    pub rows: LinkedRows<usize>,
     /// The places that read each value.
-    pub readers: Vec<Vec<Place>>,
+    pub readers: LinkedRows<Place>,
     /// The arguments that each value is forwarded to.
-    pub slots: Vec<Vec<Slot>>,
+    pub slots: LinkedRows<Slot>,
 }
 
-/// So many rows with nothing in them.
-fn empty_table<T: Drop>(alloc: Global, count: usize) -> Result<Vec<Vec<T>>, AllocError>
-    ensures { IfOk result (λ table. Lists (λ n x. ⊥) table.items count) }
+/// Puts an item into a row.
+fn put<T: Copy>(table: &mut LinkedRows<T>, index: usize, item: T) -> Result<(), AllocError>
+    requires { index < length table.old }
+    ensures { OnOk result (Gains (λ n x. (n ≡ index) × (x ≡ item)) table.old table.new) }
 {
-    let mut table = Vec::with_capacity(alloc, count)?;
-    for _row in 0..count {
-        table.push(Vec::new(alloc))?;
-    }
-    Ok(table)
-}
-
-/// Puts an item behind the others into a row.
-fn put<T: Drop>(table: &mut Vec<Vec<T>>, index: usize, item: T) -> Result<(), AllocError>
-    requires { index < length table.old.items }
-    ensures { OnOk result (Gains (λ n x. (n ≡ index) × (x ≡ item)) table.old.items table.new.items) }
-{
-    table[index].push(item)?;
+    table.put(index, item)?;
     Ok(())
 }
 
 /// Puts the operands of an operation into the table of the places that read values.
 fn put_places(
-    readers: &mut Vec<Vec<Place>>,
+    readers: &mut LinkedRows<Place>,
     number: usize,
     operands: &[usize],
 ) -> Result<(), AllocError>
-    requires { (v : ℕ) → Contains operands.now v → v < length readers.old.items }
-    ensures { OnOk result (Gains (PlacesOf number operands.now) readers.old.items readers.new.items) }
+    requires { (v : ℕ) → Contains operands.now v → v < length readers.old }
+    ensures { OnOk result (Gains (PlacesOf number operands.now) readers.old readers.new) }
 {
     for (operand, value) in operands.iter().enumerate() {
         put(
@@ -82,17 +74,17 @@ fn put_places(
 /// Puts the arguments of a block into the table of those that values are forwarded to, by the operands that an edge
 /// forwards to them.
 fn put_forwards(
-    slots: &mut Vec<Vec<Slot>>,
+    slots: &mut LinkedRows<Slot>,
     row: usize,
     edge: usize,
     arguments: &[usize],
     forwards: &[usize],
     operands: &[usize],
 ) -> Result<(), AllocError>
-    requires operands { (v : ℕ) → Contains operands.now v → v < length slots.old.items }
+    requires operands { (v : ℕ) → Contains operands.now v → v < length slots.old }
     requires forwards { (i : ℕ) → Contains forwards.now i → i < length operands.now }
     ensures { let such = SlotsOfEdge row edge arguments.now forwards.now operands.now in
-        OnOk result (Gains such slots.old.items slots.new.items) }
+        OnOk result (Gains such slots.old slots.new) }
 {
     for index in 0..arguments.len().min(forwards.len()) {
         let argument = arguments[index];
@@ -111,46 +103,38 @@ fn put_forwards(
 
 /// Puts what the edges of an operation forward into the table of the arguments that values are forwarded to.
 fn put_edges(
-    slots: &mut Vec<Vec<Slot>>,
+    slots: &mut LinkedRows<Slot>,
     problem: &FactsProblem,
     number: usize,
-    row: &Row,
 ) -> Result<(), AllocError>
-    requires values { length slots.old.items ≡ problem.now.values }
-    requires row { IsRow problem.now row.now }
-    ensures { let such = SlotsOf problem.now number row.now.edges.items row.now.operands.items in
-        OnOk result (Gains such slots.old.items slots.new.items) }
+    requires values { length slots.old ≡ problem.now.values }
+    requires problem { IsProblem problem.now }
+    requires in_range { number < length problem.now.rows }
+    ensures { let row = row_numbered problem.now.rows number in
+        let such = SlotsOf problem.now number row.edges row.operands in
+        OnOk result (Gains such slots.old slots.new) }
 {
-    for (index, edge) in row.edges.iter().enumerate() {
-        let arguments = &problem.arguments[edge.target];
-        put_forwards(
-            slots,
-            number,
-            index,
-            arguments,
-            &edge.forwards,
-            &row.operands,
-        )?;
+    let operands = problem.rows.operands(number);
+    for index in 0..problem.rows.edge_count(number) {
+        let arguments = &problem.arguments[problem.rows.target(number, index)];
+        let forwards = problem.rows.forwards(number, index);
+        put_forwards(slots, number, index, arguments, forwards, operands)?;
     }
     Ok(())
 }
 
 /// Puts an operation into the tables.
-fn put_row(
-    tables: &mut Tables,
-    problem: &FactsProblem,
-    number: usize,
-    row: &Row,
-) -> Result<(), AllocError>
-    requires blocks { length tables.old.rows.items ≡ length problem.now.arguments.items }
-    requires readers { length tables.old.readers.items ≡ problem.now.values }
-    requires slots { length tables.old.slots.items ≡ problem.now.values }
-    requires row { IsRow problem.now row.now }
-    ensures { OnOk result (AddsRow problem.now tables.old tables.new number row.now) }
+fn put_row(tables: &mut Tables, problem: &FactsProblem, number: usize) -> Result<(), AllocError>
+    requires blocks { length tables.old.rows ≡ length problem.now.arguments.items }
+    requires readers { length tables.old.readers ≡ problem.now.values }
+    requires slots { length tables.old.slots ≡ problem.now.values }
+    requires problem { IsProblem problem.now }
+    requires in_range { number < length problem.now.rows }
+    ensures { OnOk result (AddsRow problem.now tables.old tables.new number (row_numbered problem.now.rows number)) }
 {
-    put(&mut tables.rows, row.block, number)?;
-    put_places(&mut tables.readers, number, &row.operands)?;
-    put_edges(&mut tables.slots, problem, number, row)?;
+    put(&mut tables.rows, problem.rows.block(number), number)?;
+    put_places(&mut tables.readers, number, problem.rows.operands(number))?;
+    put_edges(&mut tables.slots, problem, number)?;
     Ok(())
 }
 
@@ -163,12 +147,12 @@ pub fn tables_of(alloc: Global, problem: &FactsProblem) -> Result<Tables, AllocE
     ensures { IfOk result (AreTables problem.now) }
 {
     let mut tables = Tables {
-        rows: empty_table(alloc, problem.arguments.len())?,
-        readers: empty_table(alloc, problem.values)?,
-        slots: empty_table(alloc, problem.values)?,
+        rows: LinkedRows::with_capacity(alloc, problem.arguments.len(), problem.rows.len())?,
+        readers: LinkedRows::with_capacity(alloc, problem.values, operand_count(&problem.rows))?,
+        slots: LinkedRows::with_capacity(alloc, problem.values, 0)?,
     };
-    for (number, row) in problem.rows.iter().enumerate() {
-        put_row(&mut tables, problem, number, row)?;
+    for number in 0..problem.rows.len() {
+        put_row(&mut tables, problem, number)?;
     }
     Ok(tables)
 }

@@ -3,34 +3,54 @@ ghost use Rattle.std.specs.Prelude.{ℕ, ◌≡◌, ◌<◌, ◌∷◌, true, []
 ghost use Rattle.opt_solvers.specs.declared.facts_tables.Slot.{Slot};
 ghost use Rattle.opt_solvers.specs.Facts.{IsProblem};
 ghost use Rattle.opt_solvers.specs.FactsFound.{Meets};
-ghost use Rattle.opt_solvers.specs.FactsTables.{row_of, Reads, AreTables};
-ghost use Rattle.opt_solvers.specs.FactsSolving.{CanAskRows, SlotsBelow, IsSolving, IsWaiting, Sees, Tells};
+ghost use Rattle.opt_solvers.specs.Rows.{row_at};
+ghost use Rattle.opt_solvers.specs.FactsTables.{Reads, AreTables};
+ghost use Rattle.opt_solvers.specs.FactsSolving.{CanAskRows, SlotBelow, SlotsBelow, IsSolving, IsWaiting, Sees, Tells};
 
 use crate::facts_found::Found;
 use crate::facts_problem::{FactsProblem, Folding};
 use crate::facts_rows::refresh_row;
 use crate::facts_solver::Solver;
 use crate::facts_tables::{Place, Slot, Tables};
+use crate::facts_taken::Taken;
 use crate::known::Known;
+use crate::linked_rows::RowItems;
 use std::alloc::{AllocError, Global};
 
-/// Lowers the arguments that a value is forwarded to along edges which are taken.
-fn forward<K: Copy + Eq>(
-    slots: &[Slot],
-    taken: &[Vec<bool>],
+/// Lowers an argument that a value is forwarded to, if the edge is taken.
+fn forward_to<K: Copy + Eq>(
+    slot: Slot,
+    taken: &Taken,
     fact: Known<K>,
     found: &mut Found<K>,
 ) -> Result<(), AllocError>
-    requires arguments { (x : Slot) → Contains slots.now x → x.argument < length found.old.known.items }
-    requires rows { (x : Slot) → Contains slots.now x → x.row < length taken.now }
-    requires edges { (x : Slot) → Contains slots.now x → x.edge < length (row_of taken.now x.row) }
+    requires argument { slot.argument < length found.old.known.items }
+    requires row { slot.row < length taken.now }
+    requires edge { slot.edge < length (row_at taken.now slot.row) }
     requires same { (x y : K) → K.eq x y ≡ true → x ≡ y }
-    ensures { OnOk result (Meets (SlotsBelow taken.now slots.now fact) found.old found.new) }
+    ensures { OnOk result (Meets (SlotBelow taken.now slot fact) found.old found.new) }
+{
+    if taken.is_taken(slot.row, slot.edge) {
+        found.lower(slot.argument, fact)?;
+    }
+    Ok(())
+}
+
+/// Lowers the arguments that a value is forwarded to along edges which are taken.
+fn forward<K: Copy + Eq>(
+    slots: RowItems<'_, Slot>,
+    taken: &Taken,
+    fact: Known<K>,
+    found: &mut Found<K>,
+) -> Result<(), AllocError>
+    requires arguments { (x : Slot) → Contains slots x → x.argument < length found.old.known.items }
+    requires rows { (x : Slot) → Contains slots x → x.row < length taken.now }
+    requires edges { (x : Slot) → Contains slots x → x.edge < length (row_at taken.now x.row) }
+    requires same { (x y : K) → K.eq x y ≡ true → x ≡ y }
+    ensures { OnOk result (Meets (SlotsBelow taken.now slots.entry fact) found.old found.new) }
 {
     for slot in slots {
-        if taken[slot.row][slot.edge] {
-            found.lower(slot.argument, fact)?;
-        }
+        forward_to(slot, taken, fact, found)?;
     }
     Ok(())
 }
@@ -46,13 +66,13 @@ fn see_place<F: Folding>(
 ) -> Result<(), AllocError>
     requires problem { IsProblem problem.now }
     requires asks { CanAskRows (F.can_ask folding.now) problem.now }
-    requires reads { Reads problem.now.rows.items value place }
+    requires reads { Reads problem.now.rows value place }
     requires solving { IsSolving (F.answers folding.now) problem.now solver.old [] }
     ensures { OnOk result (Sees (F.answers folding.now) problem.now solver.old solver.new value place) }
 {
     let fact = solver.found.known[value];
     solver.seen.see(place.row, place.operand, fact);
-    if solver.found.runs[problem.rows[place.row].block] {
+    if solver.found.runs[problem.rows.block(place.row)] {
         refresh_row(alloc, problem, folding, place.row, solver)?;
     }
     Ok(())
@@ -76,15 +96,19 @@ pub fn tell_value<F: Folding>(
     requires in_range { value < problem.now.values }
     requires asks { CanAskRows (F.can_ask folding.now) problem.now }
     requires solving { IsSolving (F.answers folding.now) problem.now solver.old (value ∷ []) }
-    requires waiting { let places = row_of tables.now.readers.items value in
+    requires waiting { let places = row_at tables.now.readers value in
         IsWaiting (F.answers folding.now) problem.now solver.old [] places }
     ensures { OnOk result (Tells (F.answers folding.now) problem.now solver.old.found solver.new []) }
 {
     let fact = solver.found.known[value];
-    forward(&tables.slots[value], &solver.taken, fact, &mut solver.found)?;
-    let places = tables.readers[value].as_slice();
-    for place in places {
-        see_place(alloc, problem, folding, value, *place, solver)?;
+    forward(
+        tables.slots.row(value),
+        &solver.taken,
+        fact,
+        &mut solver.found,
+    )?;
+    for place in tables.readers.row(value) {
+        see_place(alloc, problem, folding, value, place, solver)?;
     }
     Ok(())
 }

@@ -1,5 +1,5 @@
 //! Rows of numbers in one list.
-ghost use Rattle.std.specs.Prelude.{◌≡◌, ◌<◌, ◌++◌, ◌∷◌, [], length, OnOk, IfOk};
+ghost use Rattle.std.specs.Prelude.{◌≡◌, ◌<◌, ◌++◌, ◌∷◌, [], length, OnOk, OnErr, IfOk};
 ghost use Rattle.opt_solvers.specs.Rows.{row_at, start_from};
 
 use std::alloc::{AllocError, Global};
@@ -63,12 +63,21 @@ impl NumberRows {
     /// # Errors
     /// There may be no memory. Then the rows stay.
     pub fn push_row(&mut self, row: &[usize]) -> Result<(), AllocError>
-        ensures { OnOk result (self.new ≡ self.old ++ row.now ∷ []) }
+        ensures ok { OnOk result (self.new ≡ self.old ++ row.now ∷ []) }
+        ensures err { OnErr result (self.new ≡ self.old) }
     {
         self.ends.reserve(1)?;
         self.numbers.extend_from_slice(row)?;
         self.ends.push_reserved(self.numbers.len());
         Ok(())
+    }
+
+    /// Lets all rows go. Their memory stays for others.
+    pub fn clear(&mut self)
+        ensures { self.new ≡ [] }
+    {
+        self.ends.clear();
+        self.numbers.clear();
     }
 }
 

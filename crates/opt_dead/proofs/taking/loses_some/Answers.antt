@@ -1,4 +1,4 @@
-use Rattle.std.proofs.Common.{◌≡◌, ◌<◌, ◌+◌, ◌⊎◌, ⊎_elim, ◌∙◌, ℕ, Some, slice_get, true, true≢false, length, refl, sym, ap, subst, arith}
+use Rattle.std.proofs.Common.{◌≡◌, ◌<◌, ◌+◌, ◌⊎◌, ⊎_elim, ◌∙◌, ℕ, Some, slice_get, true, true≢false, refl, sym, ap, subst, arith}
 use Rattle.std.proofs.lemmas.Option.{same_Some, slice_get_within}
 use Rattle.opt_solvers.specs.declared.dead_problem.Operand.{Operand}
 use Rattle.opt_dead.proofs.Partway.{item_at}
@@ -6,9 +6,8 @@ use Rattle.opt_dead.proofs.taking.loses_some.Goals as goal
 
 pub loop-operand-preserved : goal.loop-operand-preserved
 loop-operand-preserved c k less w =
-    let operands = c.args.row.now.operands.items in
-    let here = item_at c.deref-operand-items.result.now operands c.loop-operand.operand-index _
-    c.deref-operand-items.ensures.value c.loop-operand-test.true in
+    let operands = c.args.operands.now in
+    let here = item_at operands operands c.loop-operand.operand-index _ refl c.loop-operand-test.true in
     ⊎_elim
     (λ (before : k < c.loop-operand.operand-index). c.loop-operand.invariant k before w)
     (λ (last : k ≡ c.loop-operand.operand-index).
@@ -23,8 +22,7 @@ loop-operand-preserved c k less w =
 
 pub returns-then-is_marked : goal.returns-then-is_marked
 returns-then-is_marked c =
-    let here = item_at c.deref-operand-items.result.now c.args.row.now.operands.items c.loop-operand.operand-index _
-    c.deref-operand-items.ensures.value c.loop-operand-test.true in
+    let here = item_at c.args.operands.now c.args.operands.now c.loop-operand.operand-index _ refl c.loop-operand-test.true in
     let marked = c.is_marked.ensures.0 c.if-is_marked.true in
     (λ holds. (c.loop-operand.operand-index, (_, marked.0, here, marked.1, marked.2)), λ w. refl)
 
@@ -32,8 +30,7 @@ pub returns : goal.returns
 returns c = (
   λ holds. absurd (true≢false (sym holds)),
   λ w.
-      let within = slice_get_within c.args.row.now.operands.items w.0 w.1.0 w.1.2 in
-      let len = ap length c.deref-operand-items.ensures.value in
+      let within = slice_get_within c.args.operands.now w.0 w.1.0 w.1.2 in
       let end = c.loop-operand-test.false in
       absurd (c.loop-operand.invariant w.0 (omega arith) w.1),
 )

@@ -6,5 +6,5 @@ use Rattle.opt_dead.proofs.taking.lost_marks.Given as goal
 abbrev pub invariant-loop-operand : goal.invariant-loop-operand
 invariant-loop-operand l = record {
   len : length l.marks.items ≡ l.operand-index;
-  goes : (i : ℕ) → IsMarked l.marks.items i ↔ ((i < length l.marks.items) × OperandGoes l.row l.arguments i);
+  goes : (i : ℕ) → IsMarked l.marks.items i ↔ ((i < length l.marks.items) × OperandGoes l.operands l.arguments i);
 }

@@ -1,27 +1,31 @@
-use Rattle.std.proofs.Common.{◌<◌, length, ◌≡◌, ℕ, Some, length, slice_get, sym, ap, subst, ◌∙◌, arith}
-use Rattle.std.proofs.lemmas.Option.{same_Some, slice_get-get_or}
+use Rattle.std.proofs.Common.{length, ◌≡◌, ℕ, Some, sym, ap, subst, ◌∙◌, arith}
+use Rattle.std.proofs.lemmas.Option.{same_Some}
+use Rattle.std.specs.Prelude.{slice_get}
+use Rattle.opt_solvers.specs.DeadCandidates.{Candidate, operands_of}
 use Rattle.opt_inside.specs.Numbered.{numbers_of}
 use Rattle.opt_dead.specs.Taken.{AreLost, IsLoss, LosesSome, OperandGoes, op_of}
+use Rattle.opt_dead.proofs.Ground.{at_index}
 use Rattle.opt_dead.proofs.Partway.{item_at}
 use Rattle.opt_dead.proofs.Picking.{picks_step, picks_end}
 use Rattle.opt_dead.proofs.taking.lost_operands.Goals as goal
 
 pub loop-index-preserved : goal.loop-index-preserved
 loop-index-preserved c =
-    let within : c.loop-index.index < length c.args.rows.now = (let lt = c.loop-index-test.true in let keys = ap length c.as_slice-op-items.ensures.keys in let len = c.requires.len in omega arith) in
-    let here = item_at c.as_slice-op-items.result.now c.args.inside.now.operations.keys c.loop-index.index _ c.as_slice-op-items.ensures.keys c.loop-index-test.true in
-    let row : slice_get c.args.rows.now c.loop-index.index ≡ Some c.index-rows-index.result = slice_get-get_or c.args.rows.now c.loop-index.index c.index-rows-index.result within ∙ ap Some (sym c.index-rows-index.is) in
-    picks_step op_of (IsLoss (numbers_of c.args.inside.now) c.args.rows.now c.args.arguments.now) (LosesSome (numbers_of c.args.inside.now) c.args.rows.now c.args.arguments.now) c.args.inside.now.operations.keys c.requires.once
-    (λ l. AreLost c.index-rows-index.result c.args.arguments.now l.marks.items) ((i : ℕ) × OperandGoes c.index-rows-index.result c.args.arguments.now i) c.loop-index.index _ c.loop-index.lost.items c.take_lost.new.lost.items here
+    let rows = c.args.rows.now in let marks = c.args.arguments.now in let keys = c.args.inside.now.operations.keys in let operands = c.operands.result.now in
+    let here = item_at c.as_slice-op-items.result.now keys c.loop-index.index _ c.as_slice-op-items.ensures.keys c.loop-index-test.true in
+    let row = at_index keys rows c.loop-index.index _ here c.requires.len in
+    let same : operands ≡ row.0.operands = c.operands.ensures ∙ ap operands_of row.1 in
+    picks_step op_of (IsLoss (numbers_of c.args.inside.now) rows marks) (LosesSome (numbers_of c.args.inside.now) rows marks) keys c.requires.once
+    (λ l. AreLost operands marks l.marks.items) ((i : ℕ) × OperandGoes operands marks i) c.loop-index.index _ c.loop-index.lost.items c.take_lost.new.lost.items here
     (λ l e lost other p.
     let k = c.requires.once p.0 c.loop-index.index _ (p.1 ∙ ap Some e) here in
-    let one : c.index-rows-index.result ≡ other = same_Some c.index-rows-index.result other (sym row ∙ (ap (slice_get c.args.rows.now) (sym k) ∙ p.2)) in
-    subst (λ z. AreLost z c.args.arguments.now l.marks.items) one lost)
-    (λ goes. (c.index-rows-index.result, (c.loop-index.index, here, row), goes))
+    let one : row.0 ≡ other = same_Some row.0 other (sym row.1 ∙ (ap (slice_get rows) (sym k) ∙ p.2)) in
+    subst (λ z. AreLost z marks l.marks.items) (same ∙ ap (λ (z : Candidate). z.operands) one) lost)
+    (λ goes. (row.0, (c.loop-index.index, here, row.1), (goes.0, subst (λ z. OperandGoes z marks goes.0) same goes.1)))
     (λ w.
     let k = c.requires.once w.1.0 c.loop-index.index _ w.1.1 here in
-    let one : w.0 ≡ c.index-rows-index.result = same_Some w.0 c.index-rows-index.result (sym w.1.2 ∙ (ap (slice_get c.args.rows.now) k ∙ row)) in
-    (w.2.0, subst (λ z. OperandGoes z c.args.arguments.now w.2.0) one w.2.1))
+    let one : w.0 ≡ row.0 = same_Some w.0 row.0 (sym w.1.2 ∙ (ap (slice_get rows) k ∙ row.1)) in
+    (w.2.0, subst (λ z. OperandGoes z marks w.2.0) (ap (λ (z : Candidate). z.operands) one ∙ sym same) w.2.1))
     c.loop-index.invariant c.in_ok-take_lost.ensures
 
 pub returns : goal.returns

@@ -7,7 +7,7 @@ use Rattle.opt_facts.proofs.Entries.{no_entry, one_entry, all_entries}
 use Rattle.opt_facts.proofs.numbers.entry_numbers.Goals as goal
 
 pub loop-region-init : goal.loop-region-init
-loop-region-init g c = record { listed = c.into_iter-region-iterator.ensures.into_iter_gives ∙ c.regions-region-items.ensures.list; row = c.new-row.ensures.items }
+loop-region-init g c = record { listed = c.into_iter-region-iterator.ensures.into_iter_gives ∙ c.regions-region-items.ensures.list; row = c.clear.ensures.items }
 
 pub loop-region-preserved : goal.loop-region-preserved
 loop-region-preserved g c = record {

@@ -17,6 +17,6 @@ returns g c =
       rows = c.in_ok-rows.ensures;
       arguments = c.in_ok-arguments.ensures;
       values = ap (λ (vs : List Value). length vs + 1) keys;
-      entries = c.in_ok-entries.ensures;
+      entries = c.in_ok-entry_numbers.ensures;
       outside = c.in_ok-outside.ensures.items ∙ ap (λ (vs : List Value). length vs ∷ []) keys;
     }

@@ -7,4 +7,4 @@ use Rattle.opt_facts.proofs.rows.edges_of.Given as goal
 
 abbrev pub invariant-loop-i : goal.invariant-loop-i
 invariant-loop-i g l = (o : OperationView g.row.D-Operation.Denot) → operation_at l.program l.op ≡ Some o
-    → Paired (IsEdge {B = g.row.D-Block.Denot} g.D.Meanings.meaning (numbers_of l.inside) o) (branches_to {B = g.row.D-Block.Denot} g.D.Meanings.meaning o) l.i l.edges.items
+    → Paired (IsEdge {B = g.row.D-Block.Denot} g.D.Meanings.meaning (numbers_of l.inside) o) (branches_to {B = g.row.D-Block.Denot} g.D.Meanings.meaning o) l.i l.edges

@@ -12,5 +12,5 @@ pub returns : goal.returns
 returns g c =
     let n = numbers_of c.args.inside.now in
     row_is g.D.Meanings.meaning c.args.program.now n c.args.op c.requires.live _
-    (λ b h. c.number_of_block-block.ensures ∙ ap (block_number n) (same_Some c.in-Some.block b (sym c.in-Some.is ∙ c.parent_block.ensures.only b h)))
-    c.payload.result.now c.payload.ensures c.role_of_operation-role.ensures c.in_ok-operands.ensures c.in_ok-results.ensures c.in_ok-edges.ensures c.in_ok-entries.ensures
+    (λ b h. c.number_of_block-row.ensures ∙ ap (block_number n) (same_Some c.in-Some.block b (sym c.in-Some.is ∙ c.parent_block.ensures.only b h)))
+    c.payload.result.now c.payload.ensures c.role_of_operation-row.ensures c.in_ok-operand_numbers.ensures c.in_ok-result_numbers.ensures c.in_ok-edges_of.ensures c.in_ok-entry_numbers.ensures

@@ -60,6 +60,6 @@ unused-requires c = search rules
 
 pub returns : goal.returns
 returns c =
-    let a : c.len-2.result ≡ length c.args.problem.now.operations.items = search rules in
+    let a : c.len-2.result ≡ length c.args.problem.now.operations = search rules in
     let f = dying_ends c.args.problem.now c.in_ok-all.field-0.all.items c.in_ok-kept.kept c.in_ok-excusing.excusing c.in_ok-inner.inner.items c.requires c.loop-item.invariant.0 c.loop-item.counts.excused.items c.loop-item.counts.uses.items c.loop-item.counts.work c.loop-item.invariant.1 c.in_default.ensures.none in
     IfOk-weaker c.unused.result _ _ (λ d m. are_dead c.args.problem.now c.len-2.result c.loop-item.counts.uses.items d a c.loop-item.invariant.1.len f (subst (λ xs. AreMarked c.len-2.result xs d) c.deref-4.ensures.value m)) c.unused.ensures

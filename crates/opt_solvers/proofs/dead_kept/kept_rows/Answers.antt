@@ -14,7 +14,7 @@ loop-place-init c = keeping_begins c.args.problem.now c.args.places.now _ c.in_o
 
 pub loop-place-preserved : goal.loop-place-preserved
 loop-place-preserved c = keeping_goes_on c.args.problem.now c.args.places.now c.loop-place.place-index c.loop-place.rows _ (get_or c.args.places.now c.loop-place.place-index default) _
-    (slice_get-get_or c.args.places.now c.loop-place.place-index default c.loop-place-test.true) (subst (KeepsRow c.args.problem.now (get_or c.args.places.now c.loop-place.place-index default)) (sym c.deref.ensures.value) c.in_ok-keep_items.ensures) c.in_ok-push_row.ensures c.loop-place.invariant
+    (slice_get-get_or c.args.places.now c.loop-place.place-index default c.loop-place-test.true) (subst (KeepsRow c.args.problem.now (get_or c.args.places.now c.loop-place.place-index default)) (sym c.deref.ensures.value) c.in_ok-keep_items.ensures) c.in_ok-push_row.ensures.ok c.loop-place.invariant
 
 pub returns : goal.returns
 returns c = keeping_ends c.args.problem.now c.args.places.now c.loop-place.place-index c.loop-place.rows (search rules) c.loop-place.invariant

@@ -1,7 +1,6 @@
 use Rattle.std.proofs.Common.{rules, subst}
 use Rattle.opt_solvers.specs.DeadPlaces.{GoesOut}
 use Rattle.opt_solvers.proofs.DeadCrossing.{room_falls, going_on, going_ends, going_nowhere}
-use Rattle.opt_solvers.proofs.DeadKeeping.{around_read}
 use Rattle.opt_solvers.proofs.dead_kept.outwards.Goals as goal
 
 pub returns-then-at-limit : goal.returns-then-at-limit
@@ -10,13 +9,11 @@ returns-then-at-limit c = subst (GoesOut c.args.problem.now c.args.from c.args.l
 
 pub loop-operation-smaller : goal.loop-operation-smaller
 loop-operation-smaller c =
-    let h = c.loop-operation.invariant.number c.in-Some.at c.in-Some.is in
-    room_falls c.args.problem.now c.requires.problem c.loop-operation.operation _ c.in-Some.at c.in-Some.is (around_read c.args.problem.now c.in-Some.at c.index.result.now h c.index.ensures)
+    room_falls c.args.problem.now c.requires.problem c.loop-operation.operation _ c.in-Some.at c.in-Some.is c.around-operation.ensures
 
 pub loop-operation-preserved : goal.loop-operation-preserved
 loop-operation-preserved c =
-    let h = c.loop-operation.invariant.number c.in-Some.at c.in-Some.is in
-    going_on c.args.problem.now c.requires.problem c.args.from c.loop-operation.operation _ c.args.limit c.in-Some.at c.in-Some.is c.if-at-limit.false (around_read c.args.problem.now c.in-Some.at c.index.result.now h c.index.ensures) c.loop-operation.invariant
+    going_on c.args.problem.now c.requires.problem c.args.from c.loop-operation.operation _ c.args.limit c.in-Some.at c.in-Some.is c.if-at-limit.false c.around-operation.ensures c.loop-operation.invariant
 
 pub returns : goal.returns
 returns c = going_nowhere c.args.problem.now c.requires.problem c.args.from c.loop-operation.operation c.args.limit (search rules) c.loop-operation.invariant

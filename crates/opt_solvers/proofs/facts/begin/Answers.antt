@@ -1,9 +1,7 @@
-use Rattle.std.proofs.Common.{◌≡◌, ◌<◌, None, replicate, map, length, sym, ap, ◌∙◌, subst, rules}
+use Rattle.std.proofs.Common.{◌≡◌, ◌<◌, None, replicate, length, sym, ap, ◌∙◌, subst, rules}
 use Rattle.std.specs.Prelude.{Contains}
 use Rattle.opt_solvers.specs.FactsFound.{IsNothing}
-use Rattle.opt_solvers.specs.FactsSolving.{AreUnseen, AreUntaken}
-use Rattle.opt_solvers.proofs.FactsBeginning.{begun, unseen_all}
-use Rattle.opt_solvers.specs.FactsSeen.{unseen}
+use Rattle.opt_solvers.proofs.FactsBeginning.{begun}
 use Rattle.opt_solvers.proofs.facts.begin.Goals as goal
 
 pub enter_all-requires-clause-in_range : goal.enter_all-requires-clause-in_range
@@ -22,8 +20,7 @@ returns g c =
     let e : c.len.result ≡ length c.args.problem.now.arguments.items = search rules in
     let f : c.len-2.result ≡ length c.args.problem.now.arguments.items = search rules in
     let h : c.in_ok-vec.field-0.items ≡ replicate c.len-2.result None = search rules in
-    begun c.args.problem.now c.in_ok-found.found c.enter_all.new.self c.give_up.new.self c.deref.result.now c.deref-2.result.now c.in_ok-new.field-0 c.in_ok-untaken.field-0 c.in_ok-vec.field-0 c.deref.ensures.value c.deref-2.ensures.value
+    begun c.args.problem.now c.in_ok-found.found c.enter_all.new.self c.give_up.new.self c.deref.result.now c.deref-2.result.now c.in_ok-new.field-0 c.in_ok-new-2.field-0 c.in_ok-vec.field-0 c.deref.ensures.value c.deref-2.ensures.value
     (subst (λ n. IsNothing c.in_ok-found.found n c.args.problem.now.values) e c.in_ok-found.ensures) c.in_ok-enter_all.ensures c.in_ok-give_up.ensures
-    (subst (AreUnseen c.args.problem.now.rows.items) (sym (c.in_ok-new.ensures ∙ ap (map unseen) c.deref-3.ensures.value)) (unseen_all c.args.problem.now.rows.items))
-    (subst (λ rs. AreUntaken rs c.in_ok-untaken.field-0.items) c.deref-4.ensures.value c.in_ok-untaken.ensures)
+    c.in_ok-new.ensures c.in_ok-new-2.ensures
     (h ∙ ap (λ n. replicate n None) f)

@@ -27,8 +27,8 @@ loop-index-preserved c =
     let m : c.loop-index.index < length c.args.arguments.now = omega (arith, c.min-index-end.ensures) in
     let q = get_or c.args.forwards.now c.loop-index.index 0 in
     let k = c.requires.forwards q (Contains-get_or c.args.forwards.now c.loop-index.index 0 h) in
-    forwards_more c.args.slots.now.items c.loop-index.slots.items c.put.new.table.items c.args.row c.args.edge c.args.arguments.now c.args.forwards.now c.args.operands.now c.loop-index.index (get_or c.args.arguments.now c.loop-index.index 0) q (get_or c.args.operands.now q 0)
+    forwards_more c.args.slots.now c.loop-index.slots c.put.new.table c.args.row c.args.edge c.args.arguments.now c.args.forwards.now c.args.operands.now c.loop-index.index (get_or c.args.arguments.now c.loop-index.index 0) q (get_or c.args.operands.now q 0)
     m (search rules) (slice_get-get_or c.args.forwards.now c.loop-index.index 0 h) (slice_get-get_or c.args.operands.now q 0 k) c.loop-index.invariant c.in_ok-put.ensures
 
 pub returns : goal.returns
-returns c = forwards_all c.args.slots.now.items c.loop-index.slots.items c.args.row c.args.edge c.args.arguments.now c.args.forwards.now c.args.operands.now c.loop-index.index (λ j h k. omega (arith, h, k, c.min-index-end.ensures, c.loop-index-test.false)) c.loop-index.invariant
+returns c = forwards_all c.args.slots.now c.loop-index.slots c.args.row c.args.edge c.args.arguments.now c.args.forwards.now c.args.operands.now c.loop-index.index (λ j h k. omega (arith, h, k, c.min-index-end.ensures, c.loop-index-test.false)) c.loop-index.invariant

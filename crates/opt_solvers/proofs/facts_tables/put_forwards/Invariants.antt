@@ -3,4 +3,4 @@ use Rattle.opt_solvers.specs.FactsTables.{Gains, ForwardsTo}
 use Rattle.opt_solvers.proofs.facts_tables.put_forwards.Given as goal
 
 abbrev pub invariant-loop-index : goal.invariant-loop-index
-invariant-loop-index l = Gains (λ v x. (x.row ≡ l.row) × (x.edge ≡ l.edge) × ForwardsTo (take l.index l.arguments) l.forwards l.operands v x.argument) l.initial.slots.items l.slots.items
+invariant-loop-index l = Gains (λ v x. (x.row ≡ l.row) × (x.edge ≡ l.edge) × ForwardsTo (take l.index l.arguments) l.forwards l.operands v x.argument) l.initial.slots l.slots

@@ -12,7 +12,7 @@ put-requires c =
     subst (λ n. v < n) (sym c.loop-operand.invariant.len) (c.requires v (Contains-get_or c.args.operands.now c.loop-operand.operand 0 c.loop-operand-test.true))
 
 pub loop-operand-preserved : goal.loop-operand-preserved
-loop-operand-preserved c = places_more c.args.readers.now.items c.loop-operand.readers.items c.put.new.table.items c.args.number c.args.operands.now c.loop-operand.operand (get_or c.args.operands.now c.loop-operand.operand 0) c.loop-operand-test.true (search rules) c.loop-operand.invariant c.in_ok-put.ensures
+loop-operand-preserved c = places_more c.args.readers.now c.loop-operand.readers c.put.new.table c.args.number c.args.operands.now c.loop-operand.operand (get_or c.args.operands.now c.loop-operand.operand 0) c.loop-operand-test.true (search rules) c.loop-operand.invariant c.in_ok-put.ensures
 
 pub returns : goal.returns
-returns c = subst (λ xs. Gains (λ v x. (x.row ≡ c.args.number) × (slice_get xs x.operand ≡ Some v)) c.args.readers.now.items c.loop-operand.readers.items) (take_all c.loop-operand.operand c.args.operands.now c.loop-operand-test.false) c.loop-operand.invariant
+returns c = subst (λ xs. Gains (λ v x. (x.row ≡ c.args.number) × (slice_get xs x.operand ≡ Some v)) c.args.readers.now c.loop-operand.readers) (take_all c.loop-operand.operand c.args.operands.now c.loop-operand-test.false) c.loop-operand.invariant

@@ -4,4 +4,4 @@ use Rattle.opt_solvers.specs.FactsTables.{Gains}
 use Rattle.opt_solvers.proofs.facts_tables.put_places.Given as goal
 
 abbrev pub invariant-loop-operand : goal.invariant-loop-operand
-invariant-loop-operand l = Gains (λ v x. (x.row ≡ l.number) × (slice_get (take l.operand l.operands) x.operand ≡ Some v)) l.initial.readers.items l.readers.items
+invariant-loop-operand l = Gains (λ v x. (x.row ≡ l.number) × (slice_get (take l.operand l.operands) x.operand ≡ Some v)) l.initial.readers l.readers

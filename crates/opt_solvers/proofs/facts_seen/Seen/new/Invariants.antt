@@ -2,5 +2,5 @@ use Rattle.std.proofs.Common.{take}
 use Rattle.opt_solvers.proofs.FactsSeeing.{IsUnseen}
 use Rattle.opt_solvers.proofs.facts_seen.Seen.new.Given as goal
 
-abbrev pub invariant-loop-row : goal.invariant-loop-row
-invariant-loop-row g l = IsUnseen (take l.row-index l.rows) l.ends.items l.known.items l.missing.items
+abbrev pub invariant-loop-number : goal.invariant-loop-number
+invariant-loop-number g l = IsUnseen g.row.K.Denot (take l.number l.rows) l.ends.items l.found.items l.missing.items

@@ -14,8 +14,8 @@ invariant_of-self-2 c =
     subst (λ (xs : List ℕ). AreEnds 0 xs (length c.extend_from_slice.new.self.items)) (sym p)
     (subst (λ (k : ℕ). AreEnds 0 (es ++ c.len.result ∷ []) k) n (ends_more 0 es (length ns) c.len.result (omega (arith, n, l)) c.self.invariant))
 
-pub returns : goal.returns
-returns c =
+pub returns-clause-ok : goal.returns-clause-ok
+returns-clause-ok c =
     let es = c.self.inside.ends.items in let ns = c.self.inside.numbers.items in
     let q : c.extend_from_slice.new.self.items ≡ ns ++ c.args.row.now = c.in_ok-extend_from_slice.ensures.items in
     let p : c.push_reserved.new.self.items ≡ es ++ c.len.result ∷ [] = search rules in

@@ -1,0 +1,37 @@
+-- Operations as dead code elimination sees them, and the lists that they are kept in.
+use Rattle.std.specs.Prelude.{◌≡◌, ℕ, Bool, List, [], ◌∷◌, length, Option, Some, None}
+use Rattle.opt_solvers.specs.declared.dead_problem.Operand.{Operand}
+use Rattle.opt_solvers.specs.Rows.{AreEnds}
+
+-- an operation: whether nothing but uses keeps it, the operation that it is in, if that is none of the root's own, and its operands
+pub record Candidate : Type 0 where
+  pub may_go : Bool
+  pub around : Option ℕ
+  pub operands : List Operand
+
+-- whether nothing but uses keeps an operation
+abbrev pub may_go_of : Candidate → Bool
+may_go_of c = c.may_go
+
+-- what an entry of the table says that it is directly in
+abbrev pub around_of : Option Candidate → Option ℕ
+around_of None = None
+around_of (Some c) = c.around
+
+-- what an entry of the table uses
+abbrev pub operands_of : Option Candidate → List Operand
+operands_of None = []
+operands_of (Some c) = c.operands
+
+-- the operations of which these lists say in turn whether each may go, what it is in, and what it uses
+abbrev pub candidates_of : List Bool → List (Option ℕ) → List (List Operand) → List Candidate
+candidates_of [] arounds rows = []
+candidates_of (m ∷ ms) [] rows = []
+candidates_of (m ∷ ms) (a ∷ arounds) [] = []
+candidates_of (m ∷ ms) (a ∷ arounds) (row ∷ rows) = record { may_go = m; around = a; operands = row } ∷ candidates_of ms arounds rows
+
+-- each list says something of each operation, and the operands of each end where that is said
+pub record AreColumns (may_go : List Bool) (around : List (Option ℕ)) (ends : List ℕ) (operands : List Operand) : Type 0 where
+  pub arounds : length around ≡ length may_go
+  pub rows : length ends ≡ length may_go
+  pub are_ends : AreEnds 0 ends (length operands)

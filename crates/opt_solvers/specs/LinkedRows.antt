@@ -1,0 +1,22 @@
+-- Rows whose items are linked in one list.
+use Rattle.std.specs.Prelude.{◌≡◌, ◌≤◌, ℕ, zero, suc, List, [], ◌∷◌, length, Some, slice_get, unwrap_or, option_map}
+use Rattle.opt_solvers.specs.declared.linked_rows.Linked.{Linked}
+
+-- at most so many items, from a link on: the link is one more than the index of the first, or 0 where there is none
+abbrev pub some_items : {X : Type 0} → ℕ → List (Linked X) → ℕ → List X
+some_items zero links next = []
+some_items (suc most) links zero = []
+some_items {X} (suc most) links (suc index) = unwrap_or (option_map (λ (l : Linked X). l.item ∷ some_items most links l.next) (slice_get links index)) []
+
+-- the items from a link on: as links lead back, no more of them come than the link says
+abbrev pub items_from : {X : Type 0} → List (Linked X) → ℕ → List X
+items_from links next = some_items next links next
+
+-- each item is linked to one that comes before it in the list, or to none
+abbrev pub LeadBack : {X : Type 0} → List (Linked X) → Type 0
+LeadBack {X} links = (i : ℕ) (l : Linked X) → slice_get links i ≡ Some l → l.next ≤ i
+
+-- the links of items and those to the first item of each row lead into the list
+pub record AreLinked {X : Type 0} (links : List (Linked X)) (firsts : List ℕ) : Type 0 where
+  pub back : LeadBack links
+  pub inside : (i first : ℕ) → slice_get firsts i ≡ Some first → first ≤ length links

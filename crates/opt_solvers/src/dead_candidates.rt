@@ -1,0 +1,111 @@
+//! Operations as dead code elimination sees them, in lists of all of them.
+ghost use Rattle.std.specs.Prelude.{◌≡◌, ◌<◌, ◌^◌, ◌++◌, ◌∷◌, [], length, map, slice_get, OnOk, OnErr, IfOk};
+ghost use Rattle.opt_solvers.specs.DeadCandidates.{may_go_of, around_of, operands_of};
+
+use crate::dead_problem::Operand;
+use crate::number_rows::start_of;
+use std::alloc::{AllocError, Global};
+use std::marker::Model;
+
+/// Operations, by their numbers. What they use stands in one list, so that none asks for memory of its own.
+#[derive(Drop)]
+pub struct Candidates {
+    /// Of each, whether nothing but uses keeps it.
+    may_go: Vec<bool>,
+    /// The operation that each is in, if that is none of the root's own.
+    around: Vec<Option<usize>>,
+    /// Where the operands of each end in the list.
+    ends: Vec<usize>,
+    /// The operands of all.
+    operands: Vec<Operand>,
+}
+
+impl Model for Candidates {
+    ghost use Rattle.std.specs.Prelude.{List};
+    ghost use Rattle.opt_solvers.specs.Rows.{rows_from};
+    ghost use Rattle.opt_solvers.specs.DeadCandidates.{Candidate, candidates_of, AreColumns};
+
+    ghost Value = { List Candidate };
+
+    ghost view = { λ c. candidates_of c.may_go.items c.around.items (rows_from 0 c.ends.items c.operands.items) };
+
+    ghost invariant = { λ c. AreColumns c.may_go.items c.around.items c.ends.items c.operands.items };
+}
+
+impl Candidates {
+    /// No operation, with room for so many, and for so many operands of all of them.
+    ///
+    /// # Errors
+    /// There may be no memory.
+    pub fn with_capacity(
+        alloc: Global,
+        operations: usize,
+        operands: usize,
+    ) -> Result<Candidates, AllocError>
+        ensures { IfOk result (λ c. c ≡ []) }
+    {
+        Ok(Candidates {
+            may_go: Vec::with_capacity(alloc, operations)?,
+            around: Vec::with_capacity(alloc, operations)?,
+            ends: Vec::with_capacity(alloc, operations)?,
+            operands: Vec::with_capacity(alloc, operands)?,
+        })
+    }
+
+    /// How many operations there are.
+    pub fn len(&self) -> usize
+        ensures len { result ≡ length self.now }
+        // Each takes memory, so that a sum of two such numbers can be counted.
+        ensures fits { result < 2 ^ 63 }
+    {
+        self.may_go.len()
+    }
+
+    /// Of each operation, whether nothing but uses keeps it.
+    pub fn may_go(&self) -> &[bool]
+        ensures { result.now ≡ map may_go_of self.now }
+    {
+        &self.may_go
+    }
+
+    /// The operation that an operation is in, if that is none of the root's own.
+    pub fn around(&self, number: usize) -> Option<usize>
+        requires { number < length self.now }
+        ensures { result ≡ around_of (slice_get self.now number) }
+    {
+        self.around[number]
+    }
+
+    /// The operands of an operation.
+    pub fn operands(&self, number: usize) -> &[Operand]
+        requires { number < length self.now }
+        ensures { result.now ≡ operands_of (slice_get self.now number) }
+    {
+        let start = start_of(&self.ends, number);
+        &self.operands[start..self.ends[number]]
+    }
+
+    /// Puts an operation behind the others.
+    ///
+    /// # Errors
+    /// There may be no memory. Then the operations stay.
+    pub fn push(
+        &mut self,
+        may_go: bool,
+        around: Option<usize>,
+        operands: &[Operand],
+    ) -> Result<(), AllocError>
+        ensures ok { OnOk result
+            (self.new ≡ self.old ++ record { may_go = may_go; around = around; operands = operands.now } ∷ []) }
+        ensures err { OnErr result (self.new ≡ self.old) }
+    {
+        self.may_go.reserve(1)?;
+        self.around.reserve(1)?;
+        self.ends.reserve(1)?;
+        self.operands.extend_from_slice(operands)?;
+        self.ends.push_reserved(self.operands.len());
+        self.around.push_reserved(around);
+        self.may_go.push_reserved(may_go);
+        Ok(())
+    }
+}
