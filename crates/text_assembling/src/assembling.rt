@@ -25,6 +25,7 @@ ghost use Rattle.text_assembling.specs.Steps.{DoesStep, LacksNumbers, MayStep, R
 use ir_context::Context;
 use ir_grammar::grammar::Event;
 use ir_names::Dialects;
+use ir_program::Room;
 use std::alloc::Global;
 use text_building::{discard, know_seen};
 use text_dialect::TextDialect;
@@ -113,7 +114,7 @@ impl<D: TextDialect> Assembler<D> {
 }
 
 /// Puts the operation of a text into a context, of which reading did this, but for operands. The root stands in no
-/// block.
+/// block. Room for so much is asked for ahead, so that no table of the context is copied as it grows.
 ///
 /// # Errors
 /// The first value of the text that is refused; `Memory`; and `CounterFull` where the text defines more values than
@@ -123,6 +124,7 @@ pub fn assemble<D: TextDialect>(
     ctx: &mut Context<D>,
     source: Source,
     events: &[Event],
+    room: Room,
 ) -> Result<Assembly, AssemblyFault>
     requires nests { Nests at_root [] events.now }
     requires spelt { AreSpelt (text_between (codes_of source.chars) source.starts.now) 0 events.now }
@@ -143,6 +145,7 @@ pub fn assemble<D: TextDialect>(
     ensures payloads { KeepsPayloads ctx.old.program ctx.new.program }
 {
     know_seen(ctx);
+    ctx.reserve(room)?;
     let content = Box::new(alloc, Content::new(alloc))?;
     let mut assembler = Assembler::new(alloc, content);
     // The contents of what has ended, whose memory serves again.

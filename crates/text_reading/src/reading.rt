@@ -130,8 +130,8 @@ fn understand<D: ReadDialect>(
 {
     // Names are resolved first: the memory that this works in is free again while operations are made.
     let resolved = resolve::<D>(alloc, names, &reading.events);
-    make_room(ctx, &resolved)?;
-    let assembled = assemble(alloc, ctx, source, &reading.events);
+    let room = room_of(&resolved);
+    let assembled = assemble(alloc, ctx, source, &reading.events, room);
     if let Err(fault) = verdict(source, reading, &assembled, &resolved) {
         undo(ctx, &assembled);
         return Err(fault);
@@ -145,23 +145,25 @@ fn understand<D: ReadDialect>(
     connect(alloc, ctx, &resolution, &assembly)
 }
 
-/// Makes room in a context for what a text defines and mentions, so that no table is copied as it grows.
-fn make_room<D: TextDialect>(
-    ctx: &mut Context<D>,
-    resolved: &Result<Resolution, ScopeFault>,
-) -> Result<(), AllocError>
-    ensures same { ctx.new ≡ ctx.old }
-{
+/// The room that a text takes in a context, if its names are looked up; else none.
+fn room_of(resolved: &Result<Resolution, ScopeFault>) -> Room {
     match resolved {
-        Ok(resolution) => ctx.reserve(Room {
+        Ok(resolution) => Room {
             operations: resolution.counts.operations,
             regions: resolution.counts.regions,
             blocks: resolution.counts.labels,
             values: resolution.count,
             operands: resolution.counts.mentions,
             successors: 0,
-        }),
-        Err(_) => Ok(()),
+        },
+        Err(_) => Room {
+            operations: 0,
+            regions: 0,
+            blocks: 0,
+            values: 0,
+            operands: 0,
+            successors: 0,
+        },
     }
 }
 
