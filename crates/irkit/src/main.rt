@@ -6,8 +6,9 @@ use std::alloc::{AllocError, Global};
 use std::env;
 use std::process::ExitCode;
 
-/// Blocks of up to so many bytes are kept for what comes next when they are given back.
-const KEPT: usize = 10 << 20;
+/// Blocks of up to so many bytes are kept for what comes next when they are given back. With more the largest tables of
+/// a long text would stay, too, and with them more memory than the passes need at once.
+const KEPT: usize = 4 << 20;
 
 /// Has the C library keep what is given back, rather than return it to the system and fetch it anew.
 ///
