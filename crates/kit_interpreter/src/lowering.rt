@@ -21,7 +21,7 @@ use ir_program::{BasicBlock, Operation, Ptr, Value};
 use kit::Kit;
 use kit_flat::{FlatBlock, FlatForm, FlatFunction, FlatModule, Instruction, instruction};
 use kit_ops::{KitAttr, KitOp, keys};
-use opt_inside::number_inside;
+use opt_inside::{NumberedList, number_inside};
 use std::alloc::{AllocError, Global};
 
 /// The form of a constant.
@@ -103,7 +103,7 @@ fn lower_operation(
     alloc: Global,
     ctx: &Context<Kit>,
     functions: &Functions,
-    values: &IndexSet<Value>,
+    values: &NumberedList<Value>,
     blocks: &IndexSet<Ptr<BasicBlock>>,
     op: Ptr<Operation>,
 ) -> Result<Instruction, AllocError>
@@ -132,7 +132,7 @@ fn lower_block(
     alloc: Global,
     ctx: &Context<Kit>,
     functions: &Functions,
-    values: &IndexSet<Value>,
+    values: &NumberedList<Value>,
     blocks: &IndexSet<Ptr<BasicBlock>>,
     block: Ptr<BasicBlock>,
 ) -> Result<FlatBlock, AllocError>
@@ -160,7 +160,7 @@ fn lower_blocks(
     alloc: Global,
     ctx: &Context<Kit>,
     functions: &Functions,
-    values: &IndexSet<Value>,
+    values: &NumberedList<Value>,
     blocks: &IndexSet<Ptr<BasicBlock>>,
 ) -> Result<Vec<FlatBlock>, AllocError>
     requires live { (i : ℕ) (b : Ptr BasicBlock) → slice_get blocks.now.keys i ≡ Some b

@@ -7,6 +7,7 @@ ghost use Rattle.kit_interpreter.specs.Numbers.{value_number, block_number, valu
 
 use indexmap::IndexSet;
 use ir_program::{BasicBlock, Operation, Program, Ptr, Region, Value};
+use opt_inside::NumberedList;
 use std::alloc::{AllocError, Global};
 
 /// The blocks of a region, in order: the index of each is its number.
@@ -27,10 +28,10 @@ pub(crate) fn number_blocks<O, B>(
 }
 
 /// The number of a value: for one that has none that behind all others.
-fn number_of_value(values: &IndexSet<Value>, value: Value) -> usize
+fn number_of_value(values: &NumberedList<Value>, value: Value) -> usize
     ensures { result ≡ value_number values.now.keys value }
 {
-    match values.get_index_of(&value) {
+    match values.get_index_of(value) {
         Some(number) => number,
         None => values.len(),
     }
@@ -50,7 +51,7 @@ fn number_of_block(blocks: &IndexSet<Ptr<BasicBlock>>, block: Ptr<BasicBlock>) -
 pub(crate) fn operand_numbers<O, B>(
     alloc: Global,
     program: &Program<O, B>,
-    values: &IndexSet<Value>,
+    values: &NumberedList<Value>,
     op: Ptr<Operation>,
 ) -> Result<Vec<usize>, AllocError>
     requires { IsSome (operation_at program.now op) }
@@ -67,7 +68,7 @@ pub(crate) fn operand_numbers<O, B>(
 pub(crate) fn result_numbers<O, B>(
     alloc: Global,
     program: &Program<O, B>,
-    values: &IndexSet<Value>,
+    values: &NumberedList<Value>,
     op: Ptr<Operation>,
 ) -> Result<Vec<usize>, AllocError>
     requires { IsSome (operation_at program.now op) }
@@ -85,7 +86,7 @@ pub(crate) fn result_numbers<O, B>(
 pub(crate) fn argument_numbers<O, B>(
     alloc: Global,
     program: &Program<O, B>,
-    values: &IndexSet<Value>,
+    values: &NumberedList<Value>,
     block: Ptr<BasicBlock>,
 ) -> Result<Vec<usize>, AllocError>
     requires { IsSome (block_at program.now block) }

@@ -9,7 +9,7 @@ use opt_inside::Inside;
 pub(crate) fn operation_number(inside: &Inside, op: Ptr<Operation>) -> Option<usize>
     ensures { IsNumber (numbers_of inside.now).operations op result }
 {
-    inside.operations.get_index_of(&op)
+    inside.operations.get_index_of(op)
 }
 
 /// The number of a block, if it is inside.
@@ -23,5 +23,5 @@ pub(crate) fn block_number(inside: &Inside, block: Ptr<BasicBlock>) -> Option<us
 pub(crate) fn value_number(inside: &Inside, value: Value) -> Option<usize>
     ensures { IsNumber (numbers_of inside.now).values value result }
 {
-    inside.values.get_index_of(&value)
+    inside.values.get_index_of(value)
 }

@@ -14,7 +14,7 @@ use std::alloc::{AllocError, Global};
 fn number_of_value(inside: &Inside, value: Value) -> usize
     ensures { result ≡ value_number (numbers_of inside.now) value }
 {
-    match inside.values.get_index_of(&value) {
+    match inside.values.get_index_of(value) {
         Some(number) => number,
         None => inside.values.len(),
     }

@@ -2,7 +2,10 @@
 #![tactic(auto)]
 
 mod laws;
+mod numbered_list;
 mod numbering;
+mod sets;
 
 pub use laws::{know_occurrences, know_taken};
+pub use numbered_list::{NumberedList, Slotted};
 pub use numbering::{Inside, number_inside};

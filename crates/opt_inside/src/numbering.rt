@@ -1,85 +1,103 @@
 //! The operations, blocks and values inside an operation, by numbers.
-ghost use Rattle.std.specs.Prelude.{◌≡◌, [], ◌∷◌, ◌++◌, true, IsSome, IfOk, OnOk};
+ghost use Rattle.std.specs.Prelude.{◌≡◌, ◌++◌, IsSome, IfOk, OnOk};
 ghost use Rattle.ir_program.specs.Lists.{IsLiveNode};
 ghost use Rattle.ir_program.specs.Program.{operation_at, block_at, results_at, arguments_at};
-ghost use Rattle.opt_inside.specs.Numbered.{AreNew, IsNew, NumbersInside, numbers_of, values_in, with_node};
+ghost use Rattle.opt_inside.specs.Numbered.{NumbersInside, listed_in, numbers_of, values_in, with_node};
 
+use crate::numbered_list::NumberedList;
+use crate::sets::set_of;
 use indexmap::IndexSet;
 use ir_program::{BasicBlock, IRNode, Operation, Program, Ptr, Value};
 use std::alloc::{AllocError, Global};
-use std::hash::Hash;
 
 /// The operations, blocks and values inside an operation, each once: the index of each is its number.
 #[derive(Drop)]
 pub struct Inside {
-    pub operations: IndexSet<Ptr<Operation>>,
+    pub operations: NumberedList<Ptr<Operation>>,
     pub blocks: IndexSet<Ptr<BasicBlock>>,
-    pub values: IndexSet<Value>,
+    pub values: NumberedList<Value>,
 }
 
-/// Puts an item that a set lacks behind the others.
-fn add<T: Copy + Eq + Hash + Drop>(set: &mut IndexSet<T>, item: T) -> Result<(), AllocError>
-    requires same { (a b : T) → T.eq a b ≡ true → a ≡ b }
-    requires lacks { AreNew set.old.keys (item ∷ []) }
-    ensures { OnOk result (set.new.keys ≡ set.old.keys ++ item ∷ []) }
-{
-    set.insert(item)?;
-    Ok(())
+/// Operations, blocks and values in the order in which they are found.
+#[derive(Drop)]
+struct Entities {
+    operations: Vec<Ptr<Operation>>,
+    blocks: Vec<Ptr<BasicBlock>>,
+    values: Vec<Value>,
 }
 
 /// Puts the results of an operation behind other values, in their order.
 fn add_results<O, B>(
-    values: &mut IndexSet<Value>,
+    values: &mut Vec<Value>,
     program: &Program<O, B>,
     op: Ptr<Operation>,
 ) -> Result<(), AllocError>
-    requires there { IsSome (operation_at program.now op) }
-    requires lacks { AreNew values.old.keys (values_in (results_at program.now op)) }
-    ensures { OnOk result (values.new.keys ≡ values.old.keys ++ values_in (results_at program.now op)) }
+    requires { IsSome (operation_at program.now op) }
+    ensures { OnOk result (values.new.items ≡ values.old.items ++ values_in (results_at program.now op)) }
 {
-    program.know_values();
     for index in 0..program.result_count(op) {
-        add(values, program.result(op, index))?;
+        values.push(program.result(op, index))?;
     }
     Ok(())
 }
 
 /// Puts the arguments of a block behind other values, in their order.
 fn add_arguments<O, B>(
-    values: &mut IndexSet<Value>,
+    values: &mut Vec<Value>,
     program: &Program<O, B>,
     block: Ptr<BasicBlock>,
 ) -> Result<(), AllocError>
-    requires there { IsSome (block_at program.now block) }
-    requires lacks { AreNew values.old.keys (values_in (arguments_at program.now block)) }
-    ensures { OnOk result (values.new.keys ≡ values.old.keys ++ values_in (arguments_at program.now block)) }
+    requires { IsSome (block_at program.now block) }
+    ensures { OnOk result (values.new.items ≡ values.old.items ++ values_in (arguments_at program.now block)) }
 {
-    program.know_values();
     for index in 0..program.argument_count(block) {
-        add(values, program.argument(block, index))?;
+        values.push(program.argument(block, index))?;
     }
     Ok(())
 }
 
-impl Inside {
-    /// Numbers an entity, if it is an operation or a block, and the values that it defines.
-    fn number<O, B>(&mut self, program: &Program<O, B>, node: IRNode) -> Result<(), AllocError>
-        requires there { IsLiveNode program.now node }
-        requires fresh { IsNew program.now (numbers_of self.old) node }
-        ensures { OnOk result (numbers_of self.new ≡ with_node program.now (numbers_of self.old) node) }
+impl Entities {
+    /// Adds an entity, if it is an operation or a block, and the values that it defines.
+    fn add<O, B>(&mut self, program: &Program<O, B>, node: IRNode) -> Result<(), AllocError>
+        requires { IsLiveNode program.now node }
+        ensures { OnOk result (listed_in self.new ≡ with_node program.now (listed_in self.old) node) }
     {
         match node {
             IRNode::Operation(op) => {
-                add(&mut self.operations, op)?;
+                self.operations.push(op)?;
                 add_results(&mut self.values, program, op)
             }
             IRNode::BasicBlock(block) => {
-                add(&mut self.blocks, block)?;
+                self.blocks.push(block)?;
                 add_arguments(&mut self.values, program, block)
             }
             IRNode::Region(_) => Ok(()),
         }
     }
+}
+
+/// The operations, blocks and values inside an operation, in preorder.
+fn entities_inside<O, B>(
+    alloc: Global,
+    program: &Program<O, B>,
+    op: Ptr<Operation>,
+) -> Result<Entities, AllocError>
+    requires { IsSome (operation_at program.now op) }
+    ensures { IfOk result (λ found. NumbersInside program.now op (listed_in found)) }
+{
+    program.know_values();
+    let mut found = Entities {
+        operations: Vec::new(alloc),
+        blocks: Vec::new(alloc),
+        values: Vec::new(alloc),
+    };
+    let mut nodes = program.nodes_inside(IRNode::Operation(op));
+    // The first one is the operation itself.
+    let _root = nodes.next();
+    for node in nodes {
+        found.add(program, node)?;
+    }
+    Ok(found)
 }
 
 /// Numbers the operations, blocks and values inside an operation, in preorder: each operation and block before what is in
@@ -95,17 +113,10 @@ pub fn number_inside<O, B>(
     requires { IsSome (operation_at program.now op) }
     ensures { IfOk result (λ n. NumbersInside program.now op (numbers_of n)) }
 {
-    program.know_values();
-    let mut inside = Inside {
-        operations: IndexSet::new(alloc),
-        blocks: IndexSet::new(alloc),
-        values: IndexSet::new(alloc),
-    };
-    let mut nodes = program.nodes_inside(IRNode::Operation(op));
-    // The first one is the operation itself.
-    let _root = nodes.next();
-    for node in nodes {
-        inside.number(program, node)?;
-    }
-    Ok(inside)
+    let found = entities_inside(alloc, program, op)?;
+    Ok(Inside {
+        operations: NumberedList::new(alloc, found.operations)?,
+        blocks: set_of(alloc, &found.blocks)?,
+        values: NumberedList::new(alloc, found.values)?,
+    })
 }

@@ -43,7 +43,7 @@ fn runs<A>(inside: &Inside, facts: &KnownFacts<A>, block: Ptr<BasicBlock>) -> bo
 fn known_of<A: Copy>(inside: &Inside, facts: &KnownFacts<A>, value: Value) -> Known<A>
     ensures { OfFacts inside.now facts.now (λ k. result ≡ k.of value) }
 {
-    match inside.values.get_index_of(&value) {
+    match inside.values.get_index_of(value) {
         Some(number) => item_or(&facts.known, number, Known::Any),
         None => Known::Any,
     }

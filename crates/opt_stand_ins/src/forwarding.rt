@@ -18,7 +18,7 @@ pub(crate) fn value_number(inside: &Inside, value: Value) -> Option<usize>
     requires { AreDistinct inside.now.values.keys }
     ensures { (n : ℕ) → result ≡ Some n ↔ slice_get inside.now.values.keys n ≡ Some value }
 {
-    inside.values.get_index_of(&value)
+    inside.values.get_index_of(value)
 }
 
 /// Gives a value to an argument, if that is inside.
