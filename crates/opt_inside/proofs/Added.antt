@@ -1,4 +1,4 @@
--- Lists that get items that they lack.
+-- Lists that get values, and the values of definers.
 use Rattle.std.proofs.Common.{◌≡◌, inl, inr, ⊎_elim, ℕ, zero, suc, ◌+◌, ◌<◌, Bool, true, false, List, [], ◌∷◌, ◌++◌, take, Option, Some, None, option_map, slice_get, refl, sym, ap, ◌∙◌, subst, arith, append_assoc}
 use Rattle.std.specs.Prelude.{if◌then◌else◌}
 use Rattle.std.specs.List.{list_any}
@@ -16,34 +16,6 @@ use Rattle.opt_trees.specs.Occurrences.{Has}
 use Rattle.opt_inside.specs.Numbered.{AreNew, values_in}
 
 module _ {X : Type 0} where
-  none_equal : (eq : X → X → Bool) → ((a b : X) → eq a b ≡ true → a ≡ b) → (keys : List X) (x : X) → (Has x keys → ⊥) → list_any (eq x) keys ≡ false
-  none_equal eq same [] x lacks = refl
-  none_equal eq same (k ∷ ks) x lacks = go (eq x k) refl (none_equal eq same ks x (λ h. lacks (inr h)))
-    where
-      go : (b : Bool) → eq x k ≡ b → list_any (eq x) ks ≡ false → list_any (eq x) (k ∷ ks) ≡ false
-      go true q r = absurd (lacks (inl (same x k q)))
-      go false q r = cc
-
-  -- a set gets an item that it lacks behind the others
-  pub added : (eq : X → X → Bool) → ((a b : X) → eq a b ≡ true → a ≡ b) → (keys after : List X) (x : X) → AreNew keys (x ∷ []) → after ≡ insert_key eq keys x → after ≡ keys ++ x ∷ []
-  added eq same keys after x lacks is = is ∙ ap (λ t. if t then keys else keys ++ x ∷ []) (none_equal eq same keys x (lacks x (inl refl)))
-
-  taken_at : (xs : List X) (n : ℕ) (x : X) → Has x (take n xs) → (j : ℕ) × (j < n) × (slice_get xs j ≡ Some x)
-  taken_at [] zero x h = absurd h
-  taken_at [] (suc n) x h = absurd h
-  taken_at (y ∷ xs) zero x h = absurd h
-  taken_at (y ∷ xs) (suc n) x h = ⊎_elim (λ e. (0, omega arith, ap Some (sym e))) (λ r. let g = taken_at xs n x r in (suc g.0, omega (arith, g.1), g.2)) h
-
-  -- of distinct items, the next one isn't among the others or those before it
-  pub next_new : (others all xs : List X) (k : ℕ) (x : X) → all ≡ others ++ take k xs → AreNew others xs → AreDistinct xs → slice_get xs k ≡ Some x → AreNew all (x ∷ [])
-  next_new others all xs k x is new distinct at y is_x has = ⊎_elim
-      (λ (e : y ≡ x). ⊎_elim
-      (λ a. new y (at_has xs k y (at ∙ ap Some (sym e))) a)
-      (λ b. let g = taken_at xs k y b in let same : g.0 ≡ k = distinct g.0 k x (g.2 ∙ ap Some e) at in absurd (omega (arith, g.1, same)))
-      (has_either others (take k xs) y (subst (Has y) is has)))
-      (λ n. n)
-      is_x
-
   pub next_added : (others all after xs : List X) (k : ℕ) (x : X) → all ≡ others ++ take k xs → slice_get xs k ≡ Some x → after ≡ all ++ x ∷ [] → after ≡ others ++ take (k + 1) xs
   next_added others all after xs k x is at e = e ∙ ap (λ l. l ++ x ∷ []) is ∙ append_assoc others (take k xs) (x ∷ []) ∙ ap (λ l. others ++ l) (take-next xs k x at)
 

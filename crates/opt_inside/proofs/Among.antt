@@ -17,18 +17,11 @@ use Rattle.ir_trees.specs.Stands.{ProgramTree, StandsFor, defined_by, head_of, l
 use Rattle.ir_trees.proofs.Members.{Once, at_has, has_at, has_front, has_back, has_either, once_at}
 use Rattle.ir_trees.proofs.Picked.{operations_among, blocks_among, operations_joined, blocks_joined, operation_picked, operation_from, block_picked, block_from, operations_once, blocks_once}
 use Rattle.opt_trees.specs.Occurrences.{Has}
-use Rattle.opt_inside.specs.Numbered.{AreInPreorder, Numbers, AreNew, IsNew, IsNumbered, NumbersInside, StandInOrder, values_in, with_node}
+use Rattle.opt_inside.specs.Numbered.{AreInPreorder, Numbers, AreNew, IsNumbered, NumbersInside, StandInOrder, values_in, with_node}
 use Rattle.opt_inside.specs.Occurring.{IsBelowRoot, IsBlockBelow, IsDefinedBelow}
 use Rattle.opt_inside.proofs.Added.{HasValues, definer_of, values_apart}
 
 module _ {X : Type 0} where
-  once_apart : (xs ys : List X) (x : X) → Once (xs ++ x ∷ ys) → Has x xs → ⊥
-  once_apart [] ys x once h = h
-  once_apart (y ∷ xs) ys x once h = ⊎_elim
-      (λ e. once.0 (subst (λ z. Has z (xs ++ x ∷ ys)) e (has_back xs (x ∷ ys) x (inl refl))))
-      (λ r. once_apart xs ys x once.1 r)
-      h
-
   once_joined : (xs ys : List X) → Once xs → Once ys → AreNew ys xs → Once (xs ++ ys)
   once_joined [] ys a b apart = b
   once_joined (x ∷ xs) ys a b apart = (
@@ -130,14 +123,6 @@ module _ {O B : Type 0} (c : Program O B) where
 
     values_new : (es : List IRNode) (e : IRNode) → (Has e es → ⊥) → AreNew (values_among es) (values_of e)
     values_new es e lacks v a b = let g = value_from es v b in lacks (subst (λ z. Has z es) (same_node g.0 e v g.2 a) g.1)
-
-    is_new : (es : List IRNode) (e : IRNode) → (Has e es → ⊥) → IsNew c (numbers_among es) e
-    is_new es (OperationNode p) lacks = ((λ q is has. ⊎_elim (λ (e : q ≡ p). lacks (operation_from es p (subst (λ z. Has z (operations_among es)) e has))) (λ n. n) is), values_new es (OperationNode p) lacks)
-    is_new es (BlockNode p) lacks = ((λ q is has. ⊎_elim (λ (e : q ≡ p). lacks (block_from es p (subst (λ z. Has z (blocks_among es)) e has))) (λ n. n) is), values_new es (BlockNode p) lacks)
-    is_new es (RegionNode r) lacks = tt
-
-    pub next_is_new : (es left : List IRNode) (e : IRNode) → Once (es ++ e ∷ left) → IsNew c (numbers_among es) e
-    next_is_new es left e once = is_new es e (once_apart es left e once)
 
     node_values : (e : IRNode) → Once (values_of e)
     node_values (OperationNode p) = values_apart c values (ByOp p)

@@ -10,9 +10,9 @@ use Rattle.ir_program.specs.declared.handles.Ptr.{Ptr}
 use Rattle.ir_program.specs.declared.handles.Operation.{Operation}
 use Rattle.ir_trees.proofs.Members.{Once, has_at, has_back, once_of}
 use Rattle.opt_trees.specs.Occurrences.{Has}
-use Rattle.opt_inside.specs.Numbered.{Numbers, IsNew, NumbersInside, with_node}
+use Rattle.opt_inside.specs.Numbered.{Numbers, NumbersInside, with_node}
 use Rattle.opt_inside.proofs.Added.{HasValues}
-use Rattle.opt_inside.proofs.Among.{numbers_among, with_next, next_is_new, all_numbered}
+use Rattle.opt_inside.proofs.Among.{numbers_among, with_next, all_numbered}
 use Rattle.opt_inside.proofs.Ordered.{in_preorder}
 
 module _ {O B : Type 0} (c : Program O B) where
@@ -51,11 +51,6 @@ module _ {O B : Type 0} (c : Program O B) where
           let k = has_at (nodes_inside c (OperationNode op)) e has in inside.live k.0 e k.1
 
       module _ (values : HasValues c) (once : StandOnceEach (nodes_inside c (OperationNode op))) where
-        pub next_is_fresh : (n : Numbers) (was left : List IRNode) (e : IRNode) → was ≡ e ∷ left → IsNumberedUpTo op n was → IsNew c n e
-        next_is_fresh n was left e is h =
-            let all : Once (OperationNode op ∷ (h.done ++ e ∷ left)) = subst Once (h.parts ∙ ap (λ l. OperationNode op ∷ (h.done ++ l)) is) (once_of (nodes_inside c (OperationNode op)) once) in
-            subst (λ m. IsNew c m e) (sym h.numbers) (next_is_new c values h.done left e all.1)
-
         pub numbering_ends : IsPreorder c (OperationNode op ∷ []) (nodes_inside c (OperationNode op)) → (n : Numbers) (left : List IRNode) → left ≡ [] → IsNumberedUpTo op n left → NumbersInside c op n
         numbering_ends order n left is h =
             let parts : nodes_inside c (OperationNode op) ≡ OperationNode op ∷ h.done = h.parts ∙ ap (λ l. OperationNode op ∷ (h.done ++ l)) is ∙ ap (λ l. OperationNode op ∷ l) (append-nil h.done) in

@@ -6,6 +6,8 @@ pub mod Reached
 pub mod Values
 pub mod Nested
 pub mod Added
+pub mod Lookups
+pub mod SlotLemmas
 pub mod Among
 pub mod Ordered
 pub mod Counting

@@ -13,6 +13,7 @@ use Rattle.ir_trees.specs.Searched.{Lists, AreDistinct}
 use Rattle.ir_trees.specs.Stands.{ProgramTree, StandsFor}
 use Rattle.opt_trees.specs.Occurrences.{Has, occurrences_of, block_occurrences_of, defined_in}
 use Rattle.opt_inside.specs.Occurring.{Found, FoundBlock, IsBelowRoot, IsBlockBelow, IsDefinedBelow}
+use Rattle.opt_inside.specs.declared.numbering.Entities.{Entities}
 use Rattle.opt_inside.specs.declared.numbering.Inside.{Inside}
 
 -- operations, blocks and values, each numbered by its index
@@ -23,6 +24,9 @@ pub record Numbers : Type 0 where
 
 abbrev pub numbers_of : Inside → Numbers
 numbers_of n = record { operations = n.operations.keys; blocks = n.blocks.keys; values = n.values.keys }
+
+abbrev pub listed_in : Entities → Numbers
+listed_in e = record { operations = e.operations.items; blocks = e.blocks.items; values = e.values.items }
 
 -- the values of results or arguments
 abbrev pub values_in : List TypedValue → List Value
@@ -67,9 +71,3 @@ module _ {O B : Type 0} (c : Program O B) where
   with_node n (OperationNode p) = record { operations = n.operations ++ p ∷ []; blocks = n.blocks; values = n.values ++ values_in (results_at c p) }
   with_node n (BlockNode b) = record { operations = n.operations; blocks = n.blocks ++ b ∷ []; values = n.values ++ values_in (arguments_at c b) }
   with_node n (RegionNode r) = n
-
-  -- neither the entity nor a value of it has a number
-  abbrev pub IsNew : Numbers → IRNode → Type 0
-  IsNew n (OperationNode p) = AreNew n.operations (p ∷ []) × AreNew n.values (values_in (results_at c p))
-  IsNew n (BlockNode b) = AreNew n.blocks (b ∷ []) × AreNew n.values (values_in (arguments_at c b))
-  IsNew n (RegionNode r) = Unit {0}

@@ -1,5 +1,5 @@
 -- Lists of items, each once, that find the number of an item by its slot.
-use Rattle.std.specs.Prelude.{◌≡◌, ℕ, ◌-◌, ◌≤◌, List, Some, slice_get}
+use Rattle.std.specs.Prelude.{◌≡◌, ℕ, ◌-◌, ◌<◌, ◌≤◌, List, Some, slice_get}
 use Rattle.opt_inside.specs.declared.numbered_list.SlotTable.{SlotTable}
 use Rattle.opt_inside.specs.declared.numbered_list.Lookup.{Lookup}
 use Rattle.opt_inside.specs.declared.numbered_list.Lookup.TheVariants.{BySlot, ByHash}
@@ -9,9 +9,9 @@ pub record Keyed (K : Type 0) : Type 0 where
   pub keys : List K
 
 module _ {K : Type 0} (slot : K → ℕ) where
-  -- the slot of each item is one of these
-  abbrev pub AreSlotsWithin : List K → ℕ → ℕ → Type 0
-  AreSlotsWithin items least greatest = (n : ℕ) (k : K) → slice_get items n ≡ Some k → (least ≤ slot k) × (slot k ≤ greatest)
+  -- the slot of each item is one of these, without the end
+  abbrev pub HaveSlotsFrom : List K → ℕ → ℕ → Type 0
+  HaveSlotsFrom items least end = (n : ℕ) (k : K) → slice_get items n ≡ Some k → (least ≤ slot k) × (slot k < end)
 
   -- at the place of the slot of each item the table has the number of the item
   pub record LeadsBySlot (items : List K) (table : SlotTable) : Type 0 where

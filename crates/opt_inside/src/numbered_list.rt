@@ -1,8 +1,8 @@
 //! Lists of items, each once, that find the number of an item by its slot.
-ghost use Rattle.std.specs.Prelude.{◌≡◌, ◌-◌, ◌^◌, ◌<◌, ◌≤◌, ℕ, true, is_some, length, slice_get, IfOk, IfSome};
+ghost use Rattle.std.specs.Prelude.{◌≡◌, ◌↔◌, ◌+◌, ◌-◌, ◌^◌, ◌<◌, ◌≤◌, ℕ, is_some, length, slice_get, IfOk, IfSome};
 ghost use Rattle.std.specs.List.{list_any, position};
 ghost use Rattle.ir_trees.specs.Searched.{AreDistinct};
-ghost use Rattle.opt_inside.specs.NumberedList.{AreSlotsWithin, LeadsBySlot, LeadsToAll};
+ghost use Rattle.opt_inside.specs.NumberedList.{HaveSlotsFrom, LeadsBySlot, LeadsToAll};
 
 use crate::sets::set_of;
 use indexmap::IndexSet;
@@ -25,9 +25,11 @@ pub trait Slotted: Copy + Eq + Hash + Drop {
 }
 
 impl Slotted for Ptr<Operation> {
+    ghost use Rattle.std.proofs.Common.{rules};
+
     ghost slot_of = { λ op. op.key.slot };
 
-    ghost same = { ? };
+    ghost same = { Prim.search rules };
 
     fn slot(self) -> usize {
         Ptr::slot(self)
@@ -35,9 +37,11 @@ impl Slotted for Ptr<Operation> {
 }
 
 impl Slotted for Value {
+    ghost use Rattle.std.proofs.Common.{rules};
+
     ghost slot_of = { λ value. value.number };
 
-    ghost same = { ? };
+    ghost same = { Prim.search rules };
 
     /// The number, of which a program makes each once.
     fn slot(self) -> usize {
@@ -83,7 +87,7 @@ impl<K: Slotted> Model for NumberedList<K> {
 
 /// The least and the greatest slot of these items.
 fn slot_range<K: Slotted>(items: &[K]) -> (usize, usize)
-    ensures { AreSlotsWithin K.slot_of items.now result.0 result.1 }
+    ensures { HaveSlotsFrom K.slot_of items.now result.0 (result.1 + 1) }
 {
     let mut least = usize::MAX;
     let mut greatest = 0;
@@ -117,7 +121,7 @@ impl SlotTable {
         least: usize,
         places: usize,
     ) -> Result<Option<SlotTable>, AllocError>
-        requires within { AreSlotsWithin K.slot_of items.now least (least + places - 1) }
+        requires within { HaveSlotsFrom K.slot_of items.now least (least + places) }
         requires few { length items.now < 2 ^ 32 }
         ensures { IfOk result (λ found. IfSome found (LeadsBySlot K.slot_of items.now)) }
     {
@@ -141,6 +145,16 @@ impl SlotTable {
         let number = self.numbers.get(place)?;
         Some(*number as usize)
     }
+}
+
+/// The number of an item, by a table that leads to each.
+fn number_by_slot<K: Slotted>(table: &SlotTable, items: &[K], item: K) -> Option<usize>
+    requires { LeadsBySlot K.slot_of items.now table.now }
+    ensures { (n : ℕ) → result ≡ Some n ↔ slice_get items.now n ≡ Some item }
+{
+    let number = table.get(item.slot())?;
+    let found = items.get(number)?;
+    if *found == item { Some(number) } else { None }
 }
 
 /// What finds the number of each of these items.
@@ -175,14 +189,14 @@ impl<K: Slotted> NumberedList<K> {
 
     /// The number of the items.
     pub fn len(&self) -> usize
-        ensures { result ≡ length self.now.keys }
+        ensures len { result ≡ length self.now.keys }
     {
         self.items.len()
     }
 
     /// The items, in their order.
     pub fn as_slice(&self) -> &[K]
-        ensures { result.now ≡ self.now.keys }
+        ensures keys { result.now ≡ self.now.keys }
     {
         &self.items
     }
@@ -193,11 +207,7 @@ impl<K: Slotted> NumberedList<K> {
         ensures found { is_some result ≡ list_any (K.eq item) self.now.keys }
     {
         match &self.lookup {
-            Lookup::BySlot(table) => {
-                let number = table.get(item.slot())?;
-                let found = self.items.get(number)?;
-                if *found == item { Some(number) } else { None }
-            }
+            Lookup::BySlot(table) => number_by_slot(table, &self.items, item),
             Lookup::ByHash(set) => set.get_index_of(&item),
         }
     }

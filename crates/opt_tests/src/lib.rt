@@ -11,6 +11,8 @@ mod flow;
 #[cfg(test)]
 mod little;
 #[cfg(test)]
+mod numbers;
+#[cfg(test)]
 mod phases;
 #[cfg(test)]
 mod places;

@@ -4,4 +4,4 @@ use Rattle.opt_inside.specs.Numbered.{values_in}
 use Rattle.opt_inside.proofs.numbering.add_results.Given as goal
 
 abbrev pub invariant-loop-index : goal.invariant-loop-index
-invariant-loop-index g l = l.values.keys ≡ l.fn.values.keys ++ take l.index (values_in (results_at l.program l.op))
+invariant-loop-index g l = l.values.items ≡ l.fn.values.items ++ take l.index (values_in (results_at l.program l.op))
