@@ -11,7 +11,7 @@ use Rattle.ir_program.specs.declared.handles.Region.{Region}
 use Rattle.ir_program.proofs.used.Renames.{IsTestOf}
 use Rattle.ir_trees.specs.Searched.{AreDistinct, Lists}
 use Rattle.opt_trees.specs.Occurrences.{Has}
-use Rattle.opt_inside.proofs.Added.{added}
+use Rattle.opt_inside.proofs.Lookups.{added}
 
 -- where an item of the front of a list is
 has_front : {X : Type 0} (done rest : List X) (x : X) → Has x done → (j : ℕ) × (j < length done)

@@ -13,7 +13,7 @@ use Rattle.ir_program.proofs.made.AddSteps.{take-next}
 use Rattle.ir_trees.specs.Searched.{AreDistinct}
 use Rattle.ir_trees.proofs.Members.{Once, at_has, has_at, has_either, once_of}
 use Rattle.opt_trees.specs.Occurrences.{Has}
-use Rattle.opt_inside.specs.Numbered.{AreNew, values_in}
+use Rattle.opt_inside.specs.Numbered.{values_in}
 
 module _ {X : Type 0} where
   pub next_added : (others all after xs : List X) (k : ℕ) (x : X) → all ≡ others ++ take k xs → slice_get xs k ≡ Some x → after ≡ all ++ x ∷ [] → after ≡ others ++ take (k + 1) xs

@@ -17,9 +17,10 @@ use Rattle.ir_trees.specs.Stands.{ProgramTree, StandsFor, defined_by, head_of, l
 use Rattle.ir_trees.proofs.Members.{Once, at_has, has_at, has_front, has_back, has_either, once_at}
 use Rattle.ir_trees.proofs.Picked.{operations_among, blocks_among, operations_joined, blocks_joined, operation_picked, operation_from, block_picked, block_from, operations_once, blocks_once}
 use Rattle.opt_trees.specs.Occurrences.{Has}
-use Rattle.opt_inside.specs.Numbered.{AreInPreorder, Numbers, AreNew, IsNumbered, NumbersInside, StandInOrder, values_in, with_node}
+use Rattle.opt_inside.specs.Numbered.{AreInPreorder, Numbers, IsNumbered, NumbersInside, StandInOrder, values_in, with_node}
 use Rattle.opt_inside.specs.Occurring.{IsBelowRoot, IsBlockBelow, IsDefinedBelow}
 use Rattle.opt_inside.proofs.Added.{HasValues, definer_of, values_apart}
+use Rattle.opt_inside.proofs.Lookups.{AreNew}
 
 module _ {X : Type 0} where
   once_joined : (xs ys : List X) → Once xs → Once ys → AreNew ys xs → Once (xs ++ ys)

@@ -10,7 +10,10 @@ use Rattle.indexmap.specs.IndexSet.{insert_key}
 use Rattle.ir_trees.specs.Searched.{AreDistinct}
 use Rattle.ir_trees.proofs.Members.{has_at}
 use Rattle.opt_trees.specs.Occurrences.{Has}
-use Rattle.opt_inside.specs.Numbered.{AreNew}
+
+-- none of the second list is one of the first
+abbrev pub AreNew : {X : Type 0} → List X → List X → Type 0
+AreNew {X} all xs = (x : X) → Has x xs → Has x all → ⊥
 
 not_less : (a b : ℕ) → nat_lt a b ≡ false → b ≤ a
 not_less a b e = grind arith

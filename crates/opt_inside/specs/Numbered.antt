@@ -61,10 +61,6 @@ pub record NumbersInside {O B : Type 0} (c : Program O B) (op : Ptr Operation) (
   pub arguments_in_order : (b : Ptr BasicBlock) → IsBlockBelow c op b → StandInOrder n.values (values_in (arguments_at c b))
   pub definers : (v : Value) → Lists n.values v → IsNumbered n v.definer
 
--- none of the second list is one of the first
-abbrev pub AreNew : {X : Type 0} → List X → List X → Type 0
-AreNew {X} all xs = (x : X) → Has x xs → Has x all → ⊥
-
 -- what numbering one entity more makes of the numbers
 module _ {O B : Type 0} (c : Program O B) where
   abbrev pub with_node : Numbers → IRNode → Numbers

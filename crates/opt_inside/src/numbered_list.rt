@@ -51,6 +51,7 @@ impl Slotted for Value {
 
 /// How many places a table may have for each item, and how many beside these.
 const PLACES_FOR_EACH: usize = 4;
+
 const MORE_PLACES: usize = 64;
 
 /// The numbers of items by their slots: the first place is that of the least slot. What has this slot need not be the item.
@@ -145,16 +146,16 @@ impl SlotTable {
         let number = self.numbers.get(place)?;
         Some(*number as usize)
     }
-}
 
-/// The number of an item, by a table that leads to each.
-fn number_by_slot<K: Slotted>(table: &SlotTable, items: &[K], item: K) -> Option<usize>
-    requires { LeadsBySlot K.slot_of items.now table.now }
-    ensures { (n : ℕ) → result ≡ Some n ↔ slice_get items.now n ≡ Some item }
-{
-    let number = table.get(item.slot())?;
-    let found = items.get(number)?;
-    if *found == item { Some(number) } else { None }
+    /// The number of an item, where the table leads to each.
+    fn number_of<K: Slotted>(&self, items: &[K], item: K) -> Option<usize>
+        requires { LeadsBySlot K.slot_of items.now self.now }
+        ensures { (n : ℕ) → result ≡ Some n ↔ slice_get items.now n ≡ Some item }
+    {
+        let number = self.get(item.slot())?;
+        let found = items.get(number)?;
+        if *found == item { Some(number) } else { None }
+    }
 }
 
 /// What finds the number of each of these items.
@@ -207,7 +208,7 @@ impl<K: Slotted> NumberedList<K> {
         ensures found { is_some result ≡ list_any (K.eq item) self.now.keys }
     {
         match &self.lookup {
-            Lookup::BySlot(table) => number_by_slot(table, &self.items, item),
+            Lookup::BySlot(table) => table.number_of(&self.items, item),
             Lookup::ByHash(set) => set.get_index_of(&item),
         }
     }

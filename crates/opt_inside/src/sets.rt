@@ -1,21 +1,10 @@
-//! Sets of distinct items, in their order.
-ghost use Rattle.std.specs.Prelude.{◌≡◌, [], ◌∷◌, ◌++◌, true, IfOk, OnOk};
+//! Sets of distinct items.
+ghost use Rattle.std.specs.Prelude.{◌≡◌, true, IfOk};
 ghost use Rattle.ir_trees.specs.Searched.{AreDistinct};
-ghost use Rattle.opt_inside.specs.Numbered.{AreNew};
 
 use indexmap::IndexSet;
 use std::alloc::{AllocError, Global};
 use std::hash::Hash;
-
-/// Puts an item that a set lacks behind the others.
-fn add<T: Copy + Eq + Hash + Drop>(set: &mut IndexSet<T>, item: T) -> Result<(), AllocError>
-    requires same { (a b : T) → T.eq a b ≡ true → a ≡ b }
-    requires lacks { AreNew set.old.keys (item ∷ []) }
-    ensures { OnOk result (set.new.keys ≡ set.old.keys ++ item ∷ []) }
-{
-    set.insert(item)?;
-    Ok(())
-}
 
 /// The set of these items, in their order.
 ///
@@ -31,7 +20,7 @@ pub(crate) fn set_of<T: Copy + Eq + Hash + Drop>(
 {
     let mut set = IndexSet::with_capacity(alloc, items.len())?;
     for item in items {
-        add(&mut set, *item)?;
+        set.insert(*item)?;
     }
     Ok(set)
 }
