@@ -11,7 +11,8 @@ use std::alloc::{AllocError, Global};
 use std::hash::Hash;
 use std::marker::Model;
 
-/// What has a slot, at which a list finds it. Items that are found fast have slots near each other, and no two the same.
+/// What has a slot, by which a list finds it. Any slots will do: an item is found fast where the items of its list have slots
+/// near each other, and no two the same.
 pub trait Slotted: Copy + Eq + Hash + Drop {
     ghost use Rattle.std.specs.Prelude.{◌≡◌, ℕ, true};
 
@@ -43,7 +44,7 @@ impl Slotted for Value {
 
     ghost same = { Prim.search rules };
 
-    /// The number, of which a program makes each once.
+    /// Its number, which a program gives to one value.
     fn slot(self) -> usize {
         self.number() as usize
     }
