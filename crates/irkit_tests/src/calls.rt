@@ -87,23 +87,34 @@ pub fn does(
     Ok(driven(alloc, line, input, room, 999)?.is(status, written, told))
 }
 
-/// What was written, or the fault of the answer.
+/// What was written, and behind it the fault of the answer, if there is one.
 fn said(
     alloc: Global,
     answer: &Result<(), Refusal>,
     output: &Narrow,
 ) -> Result<String, AllocError> {
+    let written = String::from_utf8_lossy(alloc, &output.taken)?;
     match answer {
-        Ok(()) => String::from_utf8_lossy(alloc, &output.taken),
-        Err(refusal) => format!(in alloc; "{refusal}"),
+        Ok(()) => Ok(written),
+        Err(refusal) => format!(in alloc; "{written}{refusal}"),
     }
 }
 
-/// What running these passes over a text writes, or the fault with which it ends.
+/// What running these passes over a text writes, and behind it the fault with which it ends, if it does.
 pub fn ran(alloc: Global, passes: &[KitPass], text: &[u8]) -> Result<String, AllocError> {
     let mut output = writer_of(alloc, 99999, 99999, true);
     let answer = run(alloc, passes, &mut Watched::new(text), &mut output);
     said(alloc, &answer, output.inner())
+}
+
+/// Whether running these passes over a text writes this, or ends with this fault and writes nothing.
+pub fn runs_to(
+    alloc: Global,
+    passes: &[KitPass],
+    text: &[u8],
+    said: &str,
+) -> Result<bool, AllocError> {
+    Ok(ran(alloc, passes, text)?.as_str() == said)
 }
 
 /// Whether the answer is a fault exactly where the room is too small for a text of this length, and then says that it

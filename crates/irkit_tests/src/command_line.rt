@@ -1,5 +1,6 @@
 //! Command lines with what the program does on them.
 use crate::calls::{EMPTY, PRINTED, does, driven};
+use crate::printed::SUM;
 use std::alloc::{AllocError, Global};
 
 /// A line, an input and the room of the output, with the status, what is written and what is told.
@@ -27,6 +28,22 @@ const COMMANDS: &[Case] = &[
         1,
         "",
         "error: not UTF-8 at byte 1\n",
+    ),
+    (
+        "irkit opt sccp dce simplify-cfg",
+        b"kit.return",
+        99,
+        1,
+        "",
+        "error: rule 1 at root\n",
+    ),
+    (
+        "irkit opt sccp dce",
+        SUM,
+        10,
+        1,
+        "builtin.mo",
+        "error: write after 10 bytes\n",
     ),
     (
         "irkit check",

@@ -17,9 +17,13 @@ mod grammars;
 #[cfg(test)]
 mod passes;
 #[cfg(test)]
+mod printed;
+#[cfg(test)]
 mod reports;
 #[cfg(test)]
 mod runs;
+#[cfg(test)]
+mod signed;
 #[cfg(test)]
 mod streams;
 #[cfg(test)]

@@ -4,11 +4,14 @@ use irkit_driver::KitPass;
 use std::alloc::{AllocError, Global};
 use std::process::Abort;
 
-const SCCP: KitPass = KitPass::Sccp;
+/// Known values become constants.
+pub const SCCP: KitPass = KitPass::Sccp;
 
-const DCE: KitPass = KitPass::Dce;
+/// What is dead goes.
+pub const DCE: KitPass = KitPass::Dce;
 
-const SIMPLIFY: KitPass = KitPass::SimplifyCfg;
+/// Blocks that nothing reaches go.
+pub const SIMPLIFY: KitPass = KitPass::SimplifyCfg;
 
 /// What is printed of what is printed of a text.
 fn printed_twice(alloc: Global, text: &[u8]) -> Result<String, AllocError> {
@@ -141,7 +144,7 @@ const LISTS: &[Case] = &[
 ];
 
 /// Whether these passes make of a function of this type and the one body a function of the other body.
-fn body_gives(
+pub fn body_gives(
     alloc: Global,
     passes: &[KitPass],
     ty: &str,

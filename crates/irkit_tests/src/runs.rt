@@ -5,7 +5,7 @@ use std::alloc::{AllocError, Global};
 use std::process::Abort;
 
 /// A limit with a path and numbers, the status, and what is written or told.
-type Run = (&'static str, u8, &'static str);
+pub type Run = (&'static str, u8, &'static str);
 
 /// The type of a function, its body and its runs.
 type Function = (&'static str, &'static str, &'static [Run]);
@@ -214,7 +214,7 @@ const OPTIMISED: &[(&[KitPass], Function)] = &[
 ];
 
 /// Whether a run of a function of a text ends with this status, and tells this where that is 1, or else writes it.
-fn is_run(
+pub fn is_run(
     alloc: Global,
     text: &[u8],
     words: &str,
@@ -230,7 +230,12 @@ fn is_run(
 }
 
 /// The functions of a text have these runs.
-fn are_run(rt: &impl Abort, alloc: Global, text: &[u8], runs: &[Run]) -> Result<(), AllocError> {
+pub fn are_run(
+    rt: &impl Abort,
+    alloc: Global,
+    text: &[u8],
+    runs: &[Run],
+) -> Result<(), AllocError> {
     for (words, status, said) in runs {
         assert!(rt; is_run(alloc, text, words, *status, said)?, "{words}");
     }

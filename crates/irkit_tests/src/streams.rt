@@ -1,9 +1,11 @@
 //! Streams that give little, take little or fail, under reading, loading, running and checking.
 use crate::calls::{EMPTY, PRINTED, is_written};
 use crate::fakes::{Dripping, writer_of};
+use crate::passes::{DCE, SCCP};
+use crate::printed::{SUM, SUM_PRINTED};
 use ir_characters::Text;
 use ir_context::Context;
-use irkit_driver::{Refusal, Watched, check, load, run};
+use irkit_driver::{KitPass, Refusal, Watched, check, load, run};
 use irkit_streams::{DecodeFault, ReadFault, decode, read_to_end};
 use kit::Kit;
 use std::alloc::{AllocError, Global};
@@ -122,25 +124,39 @@ fn a_failed_read_writes_nothing(rt: HostRuntime) {
     }
 }
 
+/// A module, passes, and what is printed of it after them.
+type Example = (&'static [u8], &'static [KitPass], &'static str);
+
+/// A module that holds nothing, and one that passes change.
+const EXAMPLES: &[Example] = &[(EMPTY, &[], PRINTED), (SUM, &[SCCP, DCE], SUM_PRINTED)];
+
 /// Whether a module is written as far as the room allows, by writes of at most so many bytes.
-fn writes(alloc: Global, step: usize, room: usize, fails: bool) -> bool {
+fn writes(alloc: Global, example: &Example, step: usize, room: usize, fails: bool) -> bool {
+    let (text, passes, printed) = example;
     let mut output = writer_of(alloc, step, room, fails);
-    let answer = run(alloc, &[], &mut Watched::new(EMPTY), &mut output);
-    is_written(&answer, &output, PRINTED, room)
+    let answer = run(alloc, passes, &mut Watched::new(*text), &mut output);
+    is_written(&answer, &output, printed, room)
 }
 
 /// Any room up to that of the whole is filled by writes of at most so many bytes.
-fn rooms_are_filled(rt: &impl Abort, alloc: Global, step: usize, fails: bool) {
-    for room in 0..=PRINTED.len() {
-        assert!(rt; writes(alloc, step, room, fails), "{step}, {room}");
+fn rooms_are_filled(rt: &impl Abort, alloc: Global, example: &Example, step: usize, fails: bool) {
+    for room in 0..=example.2.len() {
+        assert!(rt; writes(alloc, example, step, room, fails), "{step}, {room}");
+    }
+}
+
+/// What is printed of a module is written by writes of one byte, of seven, or of all.
+fn is_written_in_parts(rt: &impl Abort, alloc: Global, example: &Example) {
+    assert!(rt; writes(alloc, example, 9999, 9999, true));
+    for (step, fails) in [(1, false), (1, true), (7, false), (7, true)] {
+        rooms_are_filled(rt, alloc, example, step, fails);
     }
 }
 
 /// A write takes a part, and once there is no room fails or takes none.
 #[test]
 fn a_write_may_take_a_part(rt: HostRuntime) {
-    assert!(rt; writes(rt.alloc(), 9999, 9999, true));
-    for (step, fails) in [(1, false), (1, true), (7, false), (7, true)] {
-        rooms_are_filled(&rt, rt.alloc(), step, fails);
+    for example in EXAMPLES {
+        is_written_in_parts(&rt, rt.alloc(), example);
     }
 }

@@ -1,10 +1,14 @@
 //! Texts with what becomes of each: accepted, or refused with a fault, however they are read.
-use crate::calls::{does, function, ran};
+use crate::calls::{does, function, ran, runs_to};
+use crate::passes::{DCE, SCCP, SIMPLIFY};
 use ir_context::Context;
-use irkit_driver::{Refusal, Watched, load};
+use irkit_driver::{KitPass, Refusal, Watched, load};
 use kit::Kit;
 use std::alloc::{AllocError, Global};
 use std::process::Abort;
+
+/// All passes.
+const PASSES: &[KitPass] = &[SCCP, DCE, SIMPLIFY];
 
 /// A printed text without this slot and version in the names of its blocks.
 fn without_slot(alloc: Global, text: &str, slot: u64) -> Result<String, AllocError> {
@@ -72,9 +76,9 @@ fn is_told(alloc: Global, text: &[u8], fault: &str) -> Result<bool, AllocError> 
     does(alloc, "irkit check", text, 999, 1, "", &line)
 }
 
-/// Whether a run of a text writes this, or ends with this fault.
-fn is_run_to(alloc: Global, text: &[u8], said: &str) -> Result<bool, AllocError> {
-    Ok(ran(alloc, &[], text)?.as_str() == said)
+/// Whether running no passes over a text ends with this fault and writes nothing, and so does running all of them.
+fn is_refused(alloc: Global, text: &[u8], fault: &str) -> Result<bool, AllocError> {
+    Ok(runs_to(alloc, &[], text, fault)? && runs_to(alloc, PASSES, text, fault)?)
 }
 
 /// A text is accepted, or refused with this fault, however it is called.
@@ -84,7 +88,7 @@ fn ends_with(alloc: Global, text: &[u8], fault: &str) -> Result<bool, AllocError
     } else if fault.is_empty() {
         is_accepted(alloc, text)
     } else {
-        Ok(is_told(alloc, text, fault)? && is_run_to(alloc, text, fault)?)
+        Ok(is_told(alloc, text, fault)? && is_refused(alloc, text, fault)?)
     }
 }
 
@@ -448,7 +452,7 @@ fn is_printed(alloc: Global, text: &[u8], ty: &str, printed: &str) -> Result<boo
         "builtin.module @m \n{{\n  ^b_block1v1():\n    builtin.func @f: builtin.function <{ty}> \n    {{\n      \
             ^e_block2v1({printed}\n    }}\n}}\n"
     )?;
-    is_run_to(alloc, text, &whole)
+    runs_to(alloc, &[], text, &whole)
 }
 
 /// Whether a function is printed with this first block, and that is printed again.
