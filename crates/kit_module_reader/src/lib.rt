@@ -1,8 +1,10 @@
-//! Modules of `kit` read from texts into a context by its calls, for tests, and written again without their names.
+//! Modules of `kit` read from texts into a context by its calls, for tests, and written again without the names of
+//! values and blocks.
 #![tactic(auto)]
 
 mod placing;
 mod reading;
+mod typing;
 mod unread;
 mod words;
 mod writing;

@@ -1,12 +1,22 @@
-//! Writing a module without its names: values and blocks by their order.
+//! Writing a module without the names of values and blocks: these by their order.
+use crate::typing::{write_integer, write_number, write_signature, write_type};
 use crate::words::word_of;
 use indexmap::IndexSet;
-use ir_context::{Context, OperationCalls};
+use ir_context::{Context, OperationCalls, ValueCalls};
 use ir_program::{BasicBlock, IRNode, Operation, Ptr, Value};
 use kit::Kit;
 use kit_ops::{KitAttr, keys};
 use std::alloc::{AllocError, Global};
-use std::fmt::{Display, Write};
+
+/// What is written of an operation's attributes, in this order.
+const KEYS: &[&str] = &[
+    keys::SYMBOL_NAME,
+    keys::FUNCTION_TYPE,
+    keys::CALLEE,
+    keys::CALLEE_TYPE,
+    keys::CONSTANT_VALUE,
+    keys::SEGMENT_SIZES,
+];
 
 /// The values and blocks of a module, in their order.
 #[derive(Drop)]
@@ -44,6 +54,21 @@ impl Order {
         }
     }
 
+    /// Writes a value by its number, with its type.
+    fn definition(
+        &self,
+        text: &mut String,
+        ctx: &Context<Kit>,
+        value: Value,
+    ) -> Result<(), AllocError> {
+        self.value(text, value)?;
+        if !value.is_live(ctx) {
+            return Ok(());
+        }
+        text.push(':')?;
+        write_type(text, ctx, value.get_type(ctx))
+    }
+
     /// Writes a block by its number.
     fn block(&self, text: &mut String, block: Ptr<BasicBlock>) -> Result<(), AllocError> {
         match self.blocks.get_index_of(&block) {
@@ -65,7 +90,7 @@ impl Order {
         }
         self.block(text, block)?;
         for i in 0..program.argument_count(block) {
-            self.value(text, program.argument(block, i))?;
+            self.definition(text, ctx, program.argument(block, i))?;
         }
         Ok(())
     }
@@ -89,7 +114,7 @@ impl Order {
         }
         for i in 0..program.result_count(op) {
             text.push_str(" ->")?;
-            self.value(text, program.result(op, i))?;
+            self.definition(text, ctx, program.result(op, i))?;
         }
         Ok(())
     }
@@ -108,17 +133,37 @@ impl Order {
     }
 }
 
-/// Writes a number behind a word.
-fn write_number<N: Display + Drop>(
-    text: &mut String,
-    word: &str,
-    number: N,
-) -> Result<(), AllocError> {
-    text.push_str(word)?;
-    write!(text, "{number}").map_err(|_| AllocError)
+/// Writes how many operands each part has.
+fn write_sizes(text: &mut String, sizes: &[u32]) -> Result<(), AllocError> {
+    for size in sizes {
+        write_number(text, "/", *size)?;
+    }
+    Ok(())
 }
 
-/// Writes the kind of an operation, and the number and the width of a constant, or how many operands each part has.
+/// Writes what an attribute says: a name, a type, the number of a constant with its type, or sizes.
+fn write_attribute(
+    text: &mut String,
+    ctx: &Context<Kit>,
+    attribute: &KitAttr,
+) -> Result<(), AllocError> {
+    match attribute {
+        KitAttr::Identifier(name) => {
+            text.push_str(" @")?;
+            text.push_str(name.as_str())
+        }
+        KitAttr::Type(ty) => write_signature(text, ctx, *ty),
+        KitAttr::Integer(constant) => {
+            write_number(text, " ", constant.bits)?;
+            text.push(':')?;
+            write_integer(text, constant.integer)
+        }
+        KitAttr::SegmentSizes(sizes) => write_sizes(text, sizes.as_slice()),
+        _ => Ok(()),
+    }
+}
+
+/// Writes the kind of an operation, with its own attributes.
 fn write_kind(text: &mut String, ctx: &Context<Kit>, op: Ptr<Operation>) -> Result<(), AllocError> {
     if !op.is_live(ctx) {
         return Ok(());
@@ -126,20 +171,17 @@ fn write_kind(text: &mut String, ctx: &Context<Kit>, op: Ptr<Operation>) -> Resu
     text.push_str(" ")?;
     text.push_str(word_of(op.kind(ctx)))?;
     let attributes = &op.deref(ctx).attributes;
-    if let Some(KitAttr::Integer(constant)) = attributes.get(keys::CONSTANT_VALUE) {
-        write_number(text, " ", constant.bits)?;
-        write_number(text, ":", constant.integer.width)?;
-    }
-    if let Some(KitAttr::SegmentSizes(sizes)) = attributes.get(keys::SEGMENT_SIZES) {
-        for size in sizes {
-            write_number(text, "/", *size)?;
+    for key in KEYS {
+        if let Some(attribute) = attributes.get(key) {
+            write_attribute(text, ctx, attribute)?;
         }
     }
     Ok(())
 }
 
-/// Writes a module with all that is in it: a line for each region, block and operation, with values and blocks by
-/// their order. Two modules that are the same up to names have one text.
+/// Writes a module with all that is in it: a line for each region, block and operation, with their types, numbers and
+/// symbols, and values and blocks by their order. Two modules that are the same up to the names of values and blocks
+/// have one text.
 ///
 /// # Errors
 /// There may be no memory.

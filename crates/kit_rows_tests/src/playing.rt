@@ -136,7 +136,7 @@ fn run_verified(
     }
 }
 
-/// What the optimisations make of a module that is read into a context, without its names.
+/// What the optimisations make of a module that is read into a context, as `written` writes it.
 fn after_in(
     alloc: Global,
     ctx: &mut Context<Kit>,
@@ -148,7 +148,7 @@ fn after_in(
     Ok(written(alloc, ctx, root)?)
 }
 
-/// What the optimisations make of a module, without its names.
+/// What the optimisations make of a module, as `written` writes it.
 pub fn after(alloc: Global, text: &str, passes: &[Pass]) -> Result<String, Unread> {
     let mut ctx = Context::new(alloc);
     after_in(alloc, &mut ctx, text, passes)
