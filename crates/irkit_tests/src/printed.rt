@@ -19,17 +19,17 @@ pub const SUM: &[u8] = b"builtin.module @m {^b(): \
         b = builtin.constant builtin.integer <3: i64>; s = kit.add a, b: builtin.integer i64; kit.return s}}";
 
 /// What is printed of it where constants are known, and what is dead is gone.
-pub const SUM_PRINTED: &str = "builtin.module @m 
-{
-  ^b_block1v1():
-    builtin.func @f: builtin.function <(builtin.integer i64)->(builtin.integer i64)> 
-    {
-      ^e_block2v1(v0: builtin.integer i64):
-        v4 = builtin.constant builtin.integer <5: i64>;
-        kit.return v4
-    }
-}
-";
+pub const SUM_PRINTED: &str = "builtin.module @m \
+    \n{\
+    \n  ^b_block1v1():\
+    \n    builtin.func @f: builtin.function <(builtin.integer i64)->(builtin.integer i64)> \
+    \n    {\
+    \n      ^e_block2v1(v0: builtin.integer i64):\
+    \n        v4 = builtin.constant builtin.integer <5: i64>;\
+    \n        kit.return v4\
+    \n    }\
+    \n}\
+    \n";
 
 /// A sum past the greatest number of its type.
 const WRAPPED: &[u8] =
@@ -38,32 +38,32 @@ const WRAPPED: &[u8] =
         s = kit.add a, b: builtin.integer i8; kit.return s}}";
 
 /// What is printed of it as it is.
-const WRAPPED_PRINTED: &str = "builtin.module @m 
-{
-  ^b_block1v1():
-    builtin.func @f: builtin.function <()->(builtin.integer i8)> 
-    {
-      ^e_block2v1():
-        v0 = builtin.constant builtin.integer <-1: i8>;
-        v1 = builtin.constant builtin.integer <1: i8>;
-        v2 = kit.add v0, v1: builtin.integer i8;
-        kit.return v2
-    }
-}
-";
+const WRAPPED_PRINTED: &str = "builtin.module @m \
+    \n{\
+    \n  ^b_block1v1():\
+    \n    builtin.func @f: builtin.function <()->(builtin.integer i8)> \
+    \n    {\
+    \n      ^e_block2v1():\
+    \n        v0 = builtin.constant builtin.integer <-1: i8>;\
+    \n        v1 = builtin.constant builtin.integer <1: i8>;\
+    \n        v2 = kit.add v0, v1: builtin.integer i8;\
+    \n        kit.return v2\
+    \n    }\
+    \n}\
+    \n";
 
 /// What is printed of it where constants are known, and what is dead is gone.
-const WRAPPED_FOLDED: &str = "builtin.module @m 
-{
-  ^b_block1v1():
-    builtin.func @f: builtin.function <()->(builtin.integer i8)> 
-    {
-      ^e_block2v1():
-        v3 = builtin.constant builtin.integer <0: i8>;
-        kit.return v3
-    }
-}
-";
+const WRAPPED_FOLDED: &str = "builtin.module @m \
+    \n{\
+    \n  ^b_block1v1():\
+    \n    builtin.func @f: builtin.function <()->(builtin.integer i8)> \
+    \n    {\
+    \n      ^e_block2v1():\
+    \n        v3 = builtin.constant builtin.integer <0: i8>;\
+    \n        kit.return v3\
+    \n    }\
+    \n}\
+    \n";
 
 /// A quotient that nothing uses, by zero.
 const DIVISION: &[u8] = b"builtin.module @m {^b(): builtin.func @f: builtin.function <()->()> \
@@ -71,19 +71,19 @@ const DIVISION: &[u8] = b"builtin.module @m {^b(): builtin.func @f: builtin.func
         q = kit.div a, z: builtin.integer i8; kit.return}}";
 
 /// What is printed of it, whatever the passes.
-const DIVISION_PRINTED: &str = "builtin.module @m 
-{
-  ^b_block1v1():
-    builtin.func @f: builtin.function <()->()> 
-    {
-      ^e_block2v1():
-        v0 = builtin.constant builtin.integer <1: i8>;
-        v1 = builtin.constant builtin.integer <0: i8>;
-        v2 = kit.div v0, v1: builtin.integer i8;
-        kit.return
-    }
-}
-";
+const DIVISION_PRINTED: &str = "builtin.module @m \
+    \n{\
+    \n  ^b_block1v1():\
+    \n    builtin.func @f: builtin.function <()->()> \
+    \n    {\
+    \n      ^e_block2v1():\
+    \n        v0 = builtin.constant builtin.integer <1: i8>;\
+    \n        v1 = builtin.constant builtin.integer <0: i8>;\
+    \n        v2 = kit.div v0, v1: builtin.integer i8;\
+    \n        kit.return\
+    \n    }\
+    \n}\
+    \n";
 
 /// Each list in which no pass is twice, and some in which one is.
 const LISTS: &[List] = &[
