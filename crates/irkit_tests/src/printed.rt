@@ -7,10 +7,15 @@ use std::alloc::{AllocError, Global};
 use std::process::Abort;
 
 /// A list of passes, as words of a line and as they are.
-type List = (&'static str, &'static [KitPass]);
+type Passes = (&'static str, &'static [KitPass]);
 
 /// A module, lists of passes, what is printed of it after each of them, and runs of both texts.
-type Example = (&'static [u8], &'static [List], &'static str, &'static [Run]);
+type Example = (
+    &'static [u8],
+    &'static [Passes],
+    &'static str,
+    &'static [Run],
+);
 
 /// The sum of two constants, beside an argument that is of no use.
 pub const SUM: &[u8] = b"builtin.module @m {^b(): \
@@ -86,7 +91,7 @@ const DIVISION_PRINTED: &str = "builtin.module @m \
     \n";
 
 /// Each list in which no pass is twice, and some in which one is.
-const LISTS: &[List] = &[
+const LISTS: &[Passes] = &[
     ("", &[]),
     ("sccp", &[SCCP]),
     ("dce", &[DCE]),
@@ -146,7 +151,12 @@ fn is_written(alloc: Global, words: &str, text: &[u8], printed: &str) -> Result<
 }
 
 /// Whether this is printed of a text after the passes of a list, by a call and by the program.
-fn is_printed(alloc: Global, list: &List, text: &[u8], printed: &str) -> Result<bool, AllocError> {
+fn is_printed(
+    alloc: Global,
+    list: &Passes,
+    text: &[u8],
+    printed: &str,
+) -> Result<bool, AllocError> {
     let (words, passes) = list;
     Ok(runs_to(alloc, passes, text, printed)? && is_written(alloc, words, text, printed)?)
 }
@@ -155,7 +165,7 @@ fn is_printed(alloc: Global, list: &List, text: &[u8], printed: &str) -> Result<
 fn are_printed(
     rt: &impl Abort,
     alloc: Global,
-    lists: &[List],
+    lists: &[Passes],
     text: &[u8],
     printed: &str,
 ) -> Result<(), AllocError> {
