@@ -1,9 +1,6 @@
 -- Lists that get values, and the values of definers.
-use Rattle.std.proofs.Common.{◌≡◌, inl, inr, ⊎_elim, ℕ, zero, suc, ◌+◌, ◌<◌, Bool, true, false, List, [], ◌∷◌, ◌++◌, take, Option, Some, None, option_map, slice_get, refl, sym, ap, ◌∙◌, subst, arith, append_assoc}
-use Rattle.std.specs.Prelude.{if◌then◌else◌}
-use Rattle.std.specs.List.{list_any}
+use Rattle.std.proofs.Common.{◌≡◌, ℕ, ◌+◌, List, [], ◌∷◌, ◌++◌, take, Option, Some, None, option_map, slice_get, refl, sym, ap, ◌∙◌, append_assoc}
 use Rattle.std.proofs.lemmas.Option.{slice_get-map}
-use Rattle.indexmap.specs.IndexSet.{insert_key}
 use Rattle.ir_base.specs.declared.types.TypeHandle.{TypeHandle}
 use Rattle.ir_program.specs.Definers.{StandsAtDefiner, values_at}
 use Rattle.ir_program.specs.Program.{Program, TypedValue, type_at, value_in, type_in}
@@ -11,7 +8,7 @@ use Rattle.ir_program.specs.declared.handles.DefiningEntity.{DefiningEntity}
 use Rattle.ir_program.specs.declared.handles.Value.{Value}
 use Rattle.ir_program.proofs.made.AddSteps.{take-next}
 use Rattle.ir_trees.specs.Searched.{AreDistinct}
-use Rattle.ir_trees.proofs.Members.{Once, at_has, has_at, has_either, once_of}
+use Rattle.ir_trees.proofs.Members.{Once, has_at, once_of}
 use Rattle.opt_trees.specs.Occurrences.{Has}
 use Rattle.opt_inside.specs.Numbered.{values_in}
 

@@ -11,7 +11,7 @@ use Rattle.ir_program.specs.declared.handles.BasicBlock.{BasicBlock}
 use Rattle.ir_program.specs.declared.handles.Value.{Value}
 use Rattle.ir_trees.specs.Searched.{Lists, AreDistinct}
 use Rattle.ir_trees.specs.Stands.{ProgramTree, StandsFor}
-use Rattle.opt_trees.specs.Occurrences.{Has, occurrences_of, block_occurrences_of, defined_in}
+use Rattle.opt_trees.specs.Occurrences.{occurrences_of, block_occurrences_of, defined_in}
 use Rattle.opt_inside.specs.Occurring.{Found, FoundBlock, IsBelowRoot, IsBlockBelow, IsDefinedBelow}
 use Rattle.opt_inside.specs.declared.numbering.Entities.{Entities}
 use Rattle.opt_inside.specs.declared.numbering.Inside.{Inside}
