@@ -4,3 +4,4 @@ pub mod RuledFlat
 pub mod RuledPaths
 pub mod FiniteFunctions
 pub mod FitPrograms
+pub mod FunctionSizes
