@@ -1,4 +1,4 @@
-mod HandlesTold
-mod HeadsKept
+pub mod HandlesTold
+pub mod HeadsKept
 mod ProgramsOfModules
 mod CutLists

@@ -9,7 +9,7 @@ use Rattle.ir_types.specs.Interned.{key_at}
 use Rattle.ir_types.specs.Views.{TypesView}
 use Rattle.kit.specs.declared.dialect.Unused.{Unused}
 use Rattle.kit_behaviour.specs.Machine.{Program}
-use Rattle.kit_behaviour.specs.PassLists.{Pass, Fit}
+use Rattle.kit_behaviour.specs.PassLists.{Pass, Fit, IsAfter}
 use Rattle.kit_behaviour.specs.Places.{Place}
 use Rattle.kit_behaviour.proofs.PassListLemmas.{after_alike, after_goal, after_faces}
 use Rattle.kit_held_modules.specs.Held.{HoldsModule}
@@ -19,7 +19,9 @@ use Rattle.kit_module_programs.proofs.ListsOnTrees.{list_on}
 use Rattle.kit_module_programs.proofs.ProgramsOfTrees.{program_exists}
 use Rattle.kit_module_programs.proofs.RuledSound.{ruled_sound}
 use Rattle.kit_module_programs.proofs.SoundFlat.{sound_flat}
+use Rattle.kit_fit_programs.specs.Operations.{operations_below}
 use Rattle.kit_fit_programs.proofs.FitPrograms.{fit_program}
+use Rattle.kit_fit_programs.proofs.FunctionSizes.{one_pass, program_within}
 use Rattle.kit_ops.specs.declared.types.KitType.{KitType}
 use Rattle.kit_optimiser.specs.Passed.{IsOptimised}
 use Rattle.kit_program_runs.specs.Laws.{IsProgramIn}
@@ -84,6 +86,10 @@ module _ (xs : List Pass) (old new : KitContext) (root : Ptr Operation) (t : Kit
         passed = q.2;
         factor = alike.0;
         alike = alike.1;
+        bound = λ x one. one_pass x first.0 q.0 (operations_below t) (operations_below u.0) p_fit.rules
+            (subst (λ ys. IsAfter ys first.0 q.0) one q.2)
+            (program_within {N = by_handle} same_value (key_at old.types) numbered t first.0 first.1)
+            (program_within {N = by_handle} same_value (key_at old.types) numbered u.0 q.0 q.1);
         goal = after_goal xs first.0 q.0 p_fit.rules q.2;
         faces = after_faces xs first.0 q.0 p_fit.rules q.2;
         content = λ path. list_keeps {N = by_handle} (key_at old.types) numbered xs t u.0 (u.2 numbered) path;

@@ -1,5 +1,5 @@
 -- The programs of a module that a context holds, before and after a list of passes.
-use Rattle.std.specs.Prelude.{◌≡◌, ℕ, List}
+use Rattle.std.specs.Prelude.{◌≡◌, ℕ, suc, ◌+◌, List, [], ◌∷◌}
 use Rattle.ir_program.specs.Program.{type_at}
 use Rattle.ir_program.specs.declared.handles.Operation.{Operation}
 use Rattle.ir_program.specs.declared.handles.Ptr.{Ptr}
@@ -8,6 +8,7 @@ use Rattle.kit_behaviour.specs.Laws.{AlikeWithin}
 use Rattle.kit_behaviour.specs.Machine.{Program}
 use Rattle.kit_behaviour.specs.PassLists.{Pass, IsAfter, Goal, SameFaces}
 use Rattle.kit_behaviour.specs.Places.{Place}
+use Rattle.kit_fit_programs.specs.Operations.{operations_below}
 use Rattle.kit_program_runs.specs.Laws.{IsProgramIn}
 use Rattle.kit_ruled_views.specs.Functions.{KitContext}
 use Rattle.kit_ruled_views.specs.Ruled.{KitTree, HasOwnNames, HaveTypesIn}
@@ -35,6 +36,8 @@ pub record PassedPrograms (xs : List Pass) (old new : KitContext) (root : Ptr Op
   -- the two behave alike: neither runs more than so many times as long as the other
   pub factor : ℕ
   pub alike : AlikeWithin factor first last
+  -- where they are one pass, neither runs more than one more than the operations of both modules times as long
+  pub bound : (x : Pass) → xs ≡ x ∷ [] → AlikeWithin (suc (operations_below before + operations_below after)) first last
   -- what the last of the passes is for is reached
   pub goal : Goal xs first last
   -- the two have functions at the same paths, and these take as many arguments
