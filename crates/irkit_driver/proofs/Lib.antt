@@ -8,3 +8,4 @@ pub mod PassLemmas
 pub mod EndLemmas
 pub mod MistakeLemmas
 pub mod ExecutionLemmas
+pub mod ModuleLemmas

@@ -10,4 +10,6 @@ pub mod Paths
 pub mod Reports
 pub mod Outcomes
 pub mod Same
+pub mod Programs
+pub mod Facts
 pub mod Works

@@ -1,13 +1,24 @@
-//! Laws of the definitions: an input has one answer, and a list of passes may be cut where one likes.
-ghost use Rattle.std.specs.Prelude.{◌≡◌, ℕ, List, ◌++◌};
+//! Laws of the definitions: an input has one reading; a list of passes keeps behaviour, meets the goal of
+//! its last pass, and may be cut where one likes.
+ghost use Rattle.std.specs.Prelude.{◌≡◌, ℕ, suc, ◌+◌, List, [], ◌∷◌, ◌++◌, map};
 ghost use Rattle.ir_print.specs.Pieces.{Entity};
 ghost use Rattle.ir_program.specs.declared.handles.Operation.{Operation};
 ghost use Rattle.ir_program.specs.declared.handles.Ptr.{Ptr};
 ghost use Rattle.ir_tokens.specs.declared.faults.TextFault.{TextFault};
+ghost use Rattle.kit_behaviour.specs.Laws.{AlikeWithin};
+ghost use Rattle.kit_behaviour.specs.Machine.{Program};
+ghost use Rattle.kit_behaviour.specs.PassLists.{Goal, SameFaces};
+ghost use Rattle.kit_behaviour.specs.Places.{Place};
 ghost use Rattle.kit_checks.specs.declared.rule.Rule.{Rule};
+ghost use Rattle.kit_fit_programs.specs.Operations.{operations_below};
+ghost use Rattle.kit_optimised_programs.specs.Functions.{function_content};
+ghost use Rattle.kit_optimiser.specs.Passed.{pass_of};
 ghost use Rattle.kit_optimiser.specs.declared.pass.KitPass.{KitPass};
 ghost use Rattle.kit_ruled_views.specs.Functions.{KitContext};
+ghost use Rattle.kit_ruled_views.specs.Ruled.{KitTree};
+ghost use Rattle.irkit_driver.specs.Facts.{FactsExist, FactsStay, TreeFactsStay};
 ghost use Rattle.irkit_driver.specs.Outcomes.{RunGives};
+ghost use Rattle.irkit_driver.specs.Programs.{ArePassed, IsMadeBy, IsModule};
 ghost use Rattle.irkit_driver.specs.Same.{HaveOneModule};
 ghost use Rattle.irkit_driver.specs.Texts.{BreaksRule, HasFault, IsAccepted, IsAcceptedAs, SaysTree};
 
@@ -17,8 +28,9 @@ use kit_same_modules::{passes_keep_same, texts_say_the_same, types_are_numbered}
 use kit_text_rules::texts_have_one_verdict;
 use text_rereading::laws::trees_of_texts_are_closed;
 
-/// The bytes of an input have one fault of the text at most, and none where they say a tree; and they say one tree.
-pub fn inputs_have_one_answer()
+/// The bytes of an input have one reading: they have one fault of the text at most, and none where they say a tree; and
+/// they say one tree.
+pub fn unique_reading()
     ensures one { (bytes : List ℕ) (f g : TextFault) → HasFault bytes f → HasFault bytes g → f ≡ g }
     ensures either { (bytes : List ℕ) (f : TextFault) (text : Entity ℕ)
         → HasFault bytes f → SaysTree bytes text → ⊥ }
@@ -39,9 +51,46 @@ pub fn inputs_have_one_verdict()
     texts_have_one_verdict();
 }
 
+/// A module that keeps the rules behaves as it did after any list of passes, all its functions at once, calls and
+/// recursion included.
+pub fn alike_whole()
+    // What is accepted is such a module; it and what passes make of it have programs.
+    ensures accepted { (bytes : List ℕ) (s : KitContext) (root : Ptr Operation) (said : IsAcceptedAs bytes s root)
+        → IsModule s said.0.holds.tree }
+    ensures programs { (passes : List KitPass) (s : KitContext) (numbered : List ℕ → ℕ) (t u : KitTree)
+        → IsModule s t → IsMadeBy passes s numbered t u
+        → (p : Program Place) × (q : Program Place) × ArePassed passes t u p q }
+    // Functions keep their paths, and what they carry: their names and types.
+    ensures faces { (passes : List KitPass) (t u : KitTree) (p q : Program Place)
+        → ArePassed passes t u p q → SameFaces p q }
+    ensures content { (passes : List KitPass) (t u : KitTree) (p q : Program Place) (h : ArePassed passes t u p q)
+        (path : List ℕ) → function_content h.numbered path u ≡ function_content h.numbered path t }
+    // Neither program runs more than some number of times as long as the other. For one pass this number is one more
+    // than the operations of both modules together.
+    ensures alike { (passes : List KitPass) (t u : KitTree) (p q : Program Place)
+        → ArePassed passes t u p q → (c : ℕ) × AlikeWithin c p q }
+    ensures bound { (pass : KitPass) (t u : KitTree) (p q : Program Place)
+        → ArePassed (pass ∷ []) t u p q → AlikeWithin (suc (operations_below t + operations_below u)) p q }
+{}
+
+/// After a list of passes on a module that keeps the rules the goal of its last pass is met; the empty list leaves the
+/// program as it was.
+pub fn goal()
+    ensures { (passes : List KitPass) (t u : KitTree) (p q : Program Place)
+        → ArePassed passes t u p q → Goal (map pass_of passes) p q }
+{}
+
+/// Constant propagation on a module that keeps the rules leaves known what was known: the most precise facts of each
+/// function, of which there are some, say of each old value and block what they said before. The same is so of trees.
+pub fn facts_kept()
+    ensures exist { FactsExist }
+    ensures stay { FactsStay }
+    ensures trees { TreeFactsStay }
+{}
+
 /// The rest of a list of passes, run on the text that its beginning gave, gives the module that the whole list gives:
 /// the two texts say one tree, but for labels.
-pub fn lists_of_passes_cut()
+pub fn cut()
     ensures { (beginning rest : List KitPass) (bytes front text whole : List ℕ)
         → RunGives beginning bytes front → RunGives rest front text → RunGives (beginning ++ rest) bytes whole
         → HaveOneModule text whole }

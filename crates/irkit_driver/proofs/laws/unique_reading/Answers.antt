@@ -3,7 +3,7 @@ use Rattle.ir_unique_trees.proofs.OneTree.{one_tree_said}
 use Rattle.ir_rereading.proofs.verdicts.Verdicts.{one_told, no_fault_said}
 use Rattle.kit.specs.Leads.{leads}
 use Rattle.kit_language.specs.Language.{kit_language}
-use Rattle.irkit_driver.proofs.laws.inputs_have_one_answer.Goals as goal
+use Rattle.irkit_driver.proofs.laws.unique_reading.Goals as goal
 
 pub returns : goal.returns
 returns c = record {

@@ -1,7 +1,7 @@
 use Rattle.std.proofs.Common.{refl}
 use Rattle.kit_language.specs.Language.{kit_language}
 use Rattle.irkit_driver.proofs.CutLemmas.{SaidAreClosed, cut}
-use Rattle.irkit_driver.proofs.laws.lists_of_passes_cut.Goals as goal
+use Rattle.irkit_driver.proofs.laws.cut.Goals as goal
 
 pub returns : goal.returns
 returns c =
