@@ -37,7 +37,7 @@ use Rattle.irkit_driver.specs.Same.{HaveOneModule}
 use Rattle.irkit_driver.specs.Texts.{HoldsText, SaysTree}
 
 -- bytes say one tree
-one_said : (bytes : List ℕ) (text other : Entity ℕ) → SaysTree bytes text → SaysTree bytes other → text ≡ other
+pub one_said : (bytes : List ℕ) (text other : Entity ℕ) → SaysTree bytes text → SaysTree bytes other → text ≡ other
 one_said bytes text other h k = one_tree_said kit_language leads refl (chars bytes) text other h.1 k.1
 
 -- what a text says, and an operation stands for, is closed

@@ -9,3 +9,4 @@ pub mod EndLemmas
 pub mod MistakeLemmas
 pub mod ExecutionLemmas
 pub mod ModuleLemmas
+pub mod RunLemmas

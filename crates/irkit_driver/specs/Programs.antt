@@ -2,6 +2,8 @@
 use Rattle.std.specs.Prelude.{ℕ, List, map}
 use Rattle.ir_program.specs.Program.{type_at}
 use Rattle.ir_program.specs.Replacing.{same_value}
+use Rattle.ir_program.specs.declared.handles.Operation.{Operation}
+use Rattle.ir_program.specs.declared.handles.Ptr.{Ptr}
 use Rattle.ir_trees.specs.Stands.{by_handle}
 use Rattle.ir_types.specs.Interned.{key_at}
 use Rattle.kit_behaviour.specs.Machine.{Program}
@@ -9,12 +11,16 @@ use Rattle.kit_behaviour.specs.Places.{Place}
 use Rattle.kit_checks.specs.Faults.{KeptEverywhere}
 use Rattle.kit_checks.specs.World.{world_of}
 use Rattle.kit_checks.specs.declared.rule.Rule.{Rule}
+use Rattle.kit_fit_programs.specs.Operations.{operations_below}
 use Rattle.kit_module_programs.specs.Programs.{IsProgramOf}
 use Rattle.kit_module_programs.specs.TreePasses.{IsTreeAfter}
 use Rattle.kit_optimiser.specs.Passed.{pass_of}
 use Rattle.kit_optimiser.specs.declared.pass.KitPass.{KitPass}
+use Rattle.kit_program_runs.specs.Numberings.{IsNumbering}
 use Rattle.kit_ruled_views.specs.Functions.{KitContext}
 use Rattle.kit_ruled_views.specs.Ruled.{HasOwnNames, HaveTypesIn, KitTree}
+use Rattle.irkit_driver.specs.Outcomes.{RunGives}
+use Rattle.irkit_driver.specs.Texts.{IsAcceptedAs}
 
 -- The tree is that of a module of the context, and keeps all rules. The last two fields hold of the tree of each
 -- operation of a context: no two operations, blocks or definitions in it have one handle, and values have the types that
@@ -41,3 +47,24 @@ pub record ArePassed (passes : List KitPass) (t u : KitTree) (p q : Program Plac
   pub made : IsMadeBy passes context numbered t u
   pub first : HasProgram context numbered t p
   pub last : HasProgram context numbered u q
+
+-- The bytes are accepted as an operation of a context, and its tree has this program.
+pub record SaysProgram (numbered : List ℕ → ℕ) (bytes : List ℕ) (p : Program Place) : Type 0 where
+  pub context : KitContext
+  pub root : Ptr Operation
+  pub accepted : IsAcceptedAs bytes context root
+  pub is : HasProgram context numbered accepted.0.holds.tree p
+
+-- how many operations are in what they are accepted as, below the module itself
+abbrev pub operations_said : {numbered : List ℕ → ℕ} {bytes : List ℕ} {p : Program Place} →
+    SaysProgram numbered bytes p → ℕ
+operations_said said = operations_below said.accepted.0.holds.tree
+
+-- What `run` reads, and the text that it writes, read again; and the programs that these two say. Names of functions
+-- have numbers, different ones different numbers.
+pub record AreRun (passes : List KitPass) (bytes text : List ℕ) (p q : Program Place) : Type 0 where
+  pub gives : RunGives passes bytes text
+  pub numbered : List ℕ → ℕ
+  pub numbering : IsNumbering numbered
+  pub first : SaysProgram numbered bytes p
+  pub last : SaysProgram numbered text q

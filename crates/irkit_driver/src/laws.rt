@@ -1,4 +1,4 @@
-//! Laws of the definitions: an input has one reading; a list of passes keeps behaviour, meets the goal of
+//! Laws of the definitions: an input has one reading and one program; a list of passes keeps behaviour, meets the goal of
 //! its last pass, and may be cut where one likes.
 ghost use Rattle.std.specs.Prelude.{◌≡◌, ℕ, suc, ◌+◌, List, [], ◌∷◌, ◌++◌, map};
 ghost use Rattle.ir_print.specs.Pieces.{Entity};
@@ -18,13 +18,15 @@ ghost use Rattle.kit_ruled_views.specs.Functions.{KitContext};
 ghost use Rattle.kit_ruled_views.specs.Ruled.{KitTree};
 ghost use Rattle.irkit_driver.specs.Facts.{FactsExist, FactsStay, TreeFactsStay};
 ghost use Rattle.irkit_driver.specs.Outcomes.{RunGives};
-ghost use Rattle.irkit_driver.specs.Programs.{ArePassed, IsMadeBy, IsModule};
+ghost use Rattle.irkit_driver.specs.Programs.{ArePassed, AreRun, IsMadeBy, IsModule};
+ghost use Rattle.irkit_driver.specs.Programs.{operations_said, SaysProgram};
 ghost use Rattle.irkit_driver.specs.Same.{HaveOneModule};
 ghost use Rattle.irkit_driver.specs.Texts.{BreaksRule, HasFault, IsAccepted, IsAcceptedAs, SaysTree};
 
 use kit::Kit;
 use kit_language::kit_can_print;
 use kit_same_modules::{passes_keep_same, texts_say_the_same, types_are_numbered};
+use kit_text_programs::texts_have_one_program;
 use kit_text_rules::texts_have_one_verdict;
 use text_rereading::laws::trees_of_texts_are_closed;
 
@@ -49,6 +51,16 @@ pub fn inputs_have_one_verdict()
         → BreaksRule bytes rule place → BreaksRule bytes other there → (rule ≡ other) × (place ≡ there) }
 {
     texts_have_one_verdict();
+}
+
+/// An input that is accepted has a program, whatever context it is read into, and one alone.
+pub fn inputs_have_one_program()
+    ensures some { (numbered : List ℕ → ℕ) (bytes : List ℕ) (s : KitContext) (root : Ptr Operation)
+        → IsAcceptedAs bytes s root → (p : Program Place) × SaysProgram numbered bytes p }
+    ensures one { (numbered : List ℕ → ℕ) (bytes : List ℕ) (p q : Program Place)
+        → SaysProgram numbered bytes p → SaysProgram numbered bytes q → p ≡ q }
+{
+    texts_have_one_program();
 }
 
 /// A module that keeps the rules behaves as it did after any list of passes, all its functions at once, calls and
@@ -100,4 +112,20 @@ pub fn cut()
     types_are_numbered();
     texts_say_the_same();
     passes_keep_same();
+}
+
+/// The text that `run` writes, read again into whatever context, behaves as the text that it read, and meets the goal of
+/// the last pass: so both are said of texts alone.
+pub fn written_texts_behave_alike()
+    ensures faces { (passes : List KitPass) (bytes text : List ℕ) (p q : Program Place)
+        → AreRun passes bytes text p q → SameFaces p q }
+    ensures alike { (passes : List KitPass) (bytes text : List ℕ) (p q : Program Place)
+        → AreRun passes bytes text p q → (c : ℕ) × AlikeWithin c p q }
+    ensures bound { (pass : KitPass) (bytes text : List ℕ) (p q : Program Place)
+        (h : AreRun (pass ∷ []) bytes text p q)
+        → AlikeWithin (suc (operations_said h.first + operations_said h.last)) p q }
+    ensures goal { (passes : List KitPass) (bytes text : List ℕ) (p q : Program Place)
+        → AreRun passes bytes text p q → Goal (map pass_of passes) p q }
+{
+    texts_have_one_program();
 }
