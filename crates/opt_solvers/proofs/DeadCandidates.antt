@@ -3,10 +3,10 @@ use Rattle.std.proofs.Common.{◌≡◌, ℕ, zero, suc, ◌+◌, ◌-◌, ◌<�
 use Rattle.std.specs.Prelude.{slice_get}
 use Rattle.opt_solvers.specs.declared.dead_problem.Operand.{Operand}
 use Rattle.opt_solvers.specs.Rows.{rows_from, row_at, start_from, AreEnds}
-use Rattle.opt_solvers.specs.DeadCandidates.{Candidate, may_go_of, around_of, operands_of, candidates_of, AreColumns}
+use Rattle.opt_solvers.specs.DeadCandidates.{Candidate, may_go_of, around_of, operands_of, all_operands, operands_before, candidates_of, AreColumns}
 use Rattle.opt_solvers.specs.DeadUses.{held, held_operation}
-use Rattle.std.proofs.lemmas.List.{length-append}
-use Rattle.opt_solvers.proofs.Rows.{as_many, row_bounds, row_found, ends_more, row_more}
+use Rattle.std.proofs.lemmas.List.{length-append, length-drop, length-take-le, take-append-drop, drop-drop}
+use Rattle.opt_solvers.proofs.Rows.{ends_rise, read_there, start_is, as_many, row_bounds, row_found, ends_more, row_more}
 
 count_is : (ms : List Bool) (os : List (Option ℕ)) (rows : List (List Operand)) → length os ≡ length ms → length rows ≡ length ms → length (candidates_of ms os rows) ≡ length ms
 count_is [] os rows a r = refl
@@ -34,6 +34,35 @@ operands_are (m ∷ ms) [] rows i a r = absurd (omega (arith, a))
 operands_are (m ∷ ms) (x ∷ os) [] i a r = absurd (omega (arith, r))
 operands_are (m ∷ ms) (x ∷ os) (row ∷ rows) zero a r = refl
 operands_are (m ∷ ms) (x ∷ os) (row ∷ rows) (suc i) a r = operands_are ms os rows i (omega (arith, a)) (omega (arith, r))
+
+-- the rows of all operations together
+all_are : (low : ℕ) (ms : List Bool) (os : List (Option ℕ)) (es : List ℕ) (xs : List Operand) → length os ≡ length ms → length es ≡ length ms → AreEnds low es (length xs) → all_operands (candidates_of ms os (rows_from low es xs)) ≡ drop low xs
+all_are low [] os [] xs a r e = sym (past low xs (omega (arith, e)))
+  where
+    past : (low : ℕ) (xs : List Operand) → length xs ≤ low → drop low xs ≡ []
+    past zero [] h = refl
+    past zero (x ∷ xs) h = absurd (omega (arith, h))
+    past (suc low) [] h = refl
+    past (suc low) (x ∷ xs) h = past low xs (omega (arith, h))
+all_are low [] os (end ∷ es) xs a r e = absurd (omega (arith, r))
+all_are low (m ∷ ms) [] es xs a r e = absurd (omega (arith, a))
+all_are low (m ∷ ms) (o ∷ os) [] xs a r e = absurd (omega (arith, r))
+all_are low (m ∷ ms) (o ∷ os) (end ∷ es) xs a r e =
+    let h = e.0 in let n : low + (end - low) ≡ end = omega (arith, h) in
+    ap (λ (ys : List Operand). take (end - low) (drop low xs) ++ ys) (all_are end ms os es xs (omega (arith, a)) (omega (arith, r)) e.1 ∙ ap (λ k. drop k xs) (sym n) ∙ sym (drop-drop (end - low) low xs))
+    ∙ take-append-drop (end - low) (drop low xs)
+
+before_is : (low : ℕ) (ms : List Bool) (os : List (Option ℕ)) (es : List ℕ) (xs : List Operand) (i : ℕ) → length os ≡ length ms → length es ≡ length ms → AreEnds low es (length xs) → i ≤ length ms
+    → operands_before (candidates_of ms os (rows_from low es xs)) i + low ≡ start_from low es i
+before_is low ms os es xs zero a r e h = omega arith
+before_is low [] os es xs (suc i) a r e h = absurd (omega (arith, h))
+before_is low (m ∷ ms) [] es xs (suc i) a r e h = absurd (omega (arith, a))
+before_is low (m ∷ ms) (o ∷ os) [] xs (suc i) a r e h = absurd (omega (arith, r))
+before_is low (m ∷ ms) (o ∷ os) (end ∷ es) xs (suc i) a r e h =
+    let k = before_is end ms os es xs i (omega (arith, a)) (omega (arith, r)) e.1 (omega (arith, h)) in
+    let f = e.0 in let g = ends_rise end es (length xs) e.1 in let d = length-drop low xs in
+    let t = length-take-le (end - low) (drop low xs) (omega (arith, f, g, d)) in
+    omega (arith, k, f, t)
 
 one_more : (ms : List Bool) (os : List (Option ℕ)) (rows : List (List Operand)) (m : Bool) (o : Option ℕ) (row : List Operand) → length os ≡ length ms → length rows ≡ length ms
     → candidates_of (ms ++ m ∷ []) (os ++ o ∷ []) (rows ++ row ∷ []) ≡ candidates_of ms os rows ++ record { may_go = m; around = o; operands = row } ∷ []
@@ -77,6 +106,20 @@ module _ (ms : List Bool) (os : List (Option ℕ)) (es : List ℕ) (xs : List Op
           row_found (rows_from 0 es xs) es fs xs ys i start e refl (operands_there i h) ends begins stops q
           ∙ operands_are ms os (rows_from 0 es xs) i columns.arounds rows_len
           ∙ ap (λ (ds : List Candidate). operands_of (slice_get ds i)) view
+
+    pub columns_all : xs ≡ all_operands cs
+    columns_all = sym (all_are 0 ms os es xs columns.arounds columns.rows columns.are_ends) ∙ ap all_operands view
+
+    pub columns_before : (i : ℕ) → i ≤ length cs → start_from 0 es i ≡ operands_before cs i
+    columns_before i h =
+        let l = columns_len in let b = before_is 0 ms os es xs i columns.arounds columns.rows columns.are_ends (omega (arith, h, l)) in
+        let v = ap (λ (ds : List Candidate). operands_before ds i) view in omega (arith, b, v)
+
+    -- before an operation are those up to where the one before it ends
+    pub columns_last : (i j e : ℕ) → i ≤ length cs → 1 ≤ i → j ≡ i - 1 → e ≡ get_or es j e → e ≡ operands_before cs i
+    columns_last i j e h f q g =
+        let l = columns_len in let r = columns.rows in let b : j < length es = omega (arith, h, f, q, l, r) in let n : suc j ≡ i = omega (arith, f, q) in
+        read_there es j e b g ∙ sym (start_is 0 es j b) ∙ ap (start_from 0 es) n ∙ columns_before i h
 
   module _ (m : Bool) (o : Option ℕ) (row : List Operand) (ns : List Bool) (bs : List (Option ℕ)) (fs : List ℕ) (ys : List Operand) (n : ℕ)
       (may_go : ns ≡ ms ++ m ∷ []) (around : bs ≡ os ++ o ∷ []) (ends : fs ≡ es ++ n ∷ []) (operands : ys ≡ xs ++ row) (end : n ≡ length ys) where

@@ -8,9 +8,8 @@ use Rattle.opt_solvers.specs.declared.dead_problem.Operand.{Operand}
 use Rattle.opt_solvers.specs.DeadCandidates.{Candidate, around_of}
 use Rattle.opt_solvers.specs.declared.dead_problem.Argument.{Argument}
 use Rattle.opt_solvers.specs.declared.dead_problem.DeadProblem.{DeadProblem}
-use Rattle.opt_solvers.specs.declared.dead_places.Place.{Place}
 use Rattle.opt_solvers.specs.Dead.{Item, Whole, Slot, IsIn, itself, further, IsBelow, IsInner, Makes, Counts, May, IsDead, dies, IsExcused, by_operation, by_argument, IsDeadProblem}
-use Rattle.opt_solvers.specs.DeadPlaces.{operand_place, kept_place, IsPlace, around_of_argument, around_operation, around_definer, slot, items, maker, IsAround, Keeps, IsKnown}
+use Rattle.opt_solvers.specs.DeadPlaces.{Place, IsPlace, around_of_argument, around_operation, around_definer, slot, items, maker, IsAround, Keeps, IsKnown}
 use Rattle.opt_solvers.specs.DeadRows.{slot_of, Excuses}
 use Rattle.opt_solvers.specs.DeadUses.{held, held_operation, held_argument, first_uses}
 use Rattle.opt_solvers.proofs.DeadLists.{there_is}
@@ -80,11 +79,11 @@ module _ (p : DeadProblem) where
   around_inner a Outside (j, e, r) = absurd (none-some j e)
 
   -- what an operand counts for, its place keeps
-  pub counts_keeps : (x : Item) (i : ℕ) (o : Operand) → Counts p x o.definer i → Keeps p (operand_place i o) (number x)
+  pub counts_keeps : (x : Item) (i : ℕ) (o : Operand) → Counts p x o.definer i → Keeps p (Some i) o.definer (number x)
   counts_keeps (Whole a) i o c = ⊎_elim (λ e. inl (ap (maker p) e)) (λ (n, f). inr (inner_around a o.definer n, (λ u. f (around_below a i u)))) c
   counts_keeps (Slot v) i o c = inl (ap (maker p) c)
 
-  pub makes_keeps : (x : Item) (d : Definer) → Makes p x d → Keeps p (kept_place d) (number x)
+  pub makes_keeps : (x : Item) (d : Definer) → Makes p x d → Keeps p None d (number x)
   makes_keeps (Whole a) d m = ⊎_elim (λ e. inl (ap (maker p) e)) (λ n. inr (inner_around a d n, (λ (j, e, r). none-some j e))) m
   makes_keeps (Slot v) d m = inl (ap (maker p) m)
 
@@ -113,11 +112,11 @@ module _ (p : DeadProblem) where
     not_slot v d h (j, e, r) = let l = around_definer_number p ok d h j e in let b = in_below p ok (slot p v) j r in omega (arith, l, b)
 
     -- what a place keeps, its operand counts for
-    pub keeps_counts : (x : Item) (i : ℕ) (o : Operand) → IsItem x → IsKnown p o.definer → Keeps p (operand_place i o) (number x) → Counts p x o.definer i
+    pub keeps_counts : (x : Item) (i : ℕ) (o : Operand) → IsItem x → IsKnown p o.definer → Keeps p (Some i) o.definer (number x) → Counts p x o.definer i
     keeps_counts (Whole a) i o h k c = ⊎_elim (λ m. inl (made_whole a o.definer h m)) (λ (n, f). inr (around_inner a o.definer n, (λ b. f (below_around a i b)))) c
     keeps_counts (Slot v) i o h k c = ⊎_elim (λ m. made_slot v o.definer k m) (λ (n, f). absurd (not_slot v o.definer k n)) c
 
-    pub keeps_makes : (x : Item) (d : Definer) → IsItem x → IsKnown p d → Keeps p (kept_place d) (number x) → Makes p x d
+    pub keeps_makes : (x : Item) (d : Definer) → IsItem x → IsKnown p d → Keeps p None d (number x) → Makes p x d
     keeps_makes (Whole a) d h k c = ⊎_elim (λ m. inl (made_whole a d h m)) (λ (n, f). inr (around_inner a d n)) c
     keeps_makes (Slot v) d h k c = ⊎_elim (λ m. made_slot v d k m) (λ (n, f). absurd (not_slot v d k n)) c
 

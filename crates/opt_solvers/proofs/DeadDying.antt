@@ -2,11 +2,9 @@
 use Rattle.std.proofs.Common.{◌≡◌, ◌⊎◌, inl, inr, ⊎_elim, ℕ, zero, suc, ◌+◌, ◌<◌, ◌≤◌, List, [], ◌∷◌, take, drop, Some, Bool, Vec, Global, true, false, nat_eq, length, get_or, map, refl, sym, ap, ◌∙◌, subst, arith, eq-eqb}
 use Rattle.std.proofs.Math.ListN.{replicate}
 use Rattle.std.specs.Prelude.{Contains, slice_get, ◌↔◌}
-use Rattle.std.proofs.lemmas.Option.{same_Some, none-some, slice_get_within, slice_get-get_or, get_or_from_slice_get}
+use Rattle.std.proofs.lemmas.Option.{same_Some, none-some, slice_get_within, slice_get-get_or}
 use Rattle.std.proofs.lemmas.List.{length-append, length-map, length-replicate, length-take, length-drop, get_or-take, get_or-drop}
-use Rattle.std.proofs.lemmas.List.Elements.{Contains-get_or}
 use Rattle.digraph.specs.Counts.{count_of}
-use Rattle.digraph.specs.Graph.{successors}
 use Rattle.digraph.specs.Marks.{IsMarked}
 use Rattle.digraph.specs.Work.{Has, Waits, Adds, Takes, IsDone}
 use Rattle.digraph.specs.declared.worklist.Worklist.{Worklist}
@@ -14,17 +12,17 @@ use Rattle.digraph.proofs.Counting.{same_numbers}
 use Rattle.opt_solvers.specs.declared.dead_problem.Operand.{Operand}
 use Rattle.opt_solvers.specs.declared.dead_problem.DeadProblem.{DeadProblem}
 use Rattle.opt_solvers.specs.declared.dead_problem.DeadItems.{DeadItems}
-use Rattle.opt_solvers.specs.declared.dead_places.Place.{Place}
+use Rattle.opt_solvers.specs.declared.dead_items.DeadTables.{DeadTables}
 use Rattle.opt_solvers.specs.Dead.{Item, Whole, Slot, IsIn, itself, further, IsDead, dies, IsExcused, by_operation, by_argument, IsDeadProblem}
 use Rattle.opt_solvers.specs.DeadCandidates.{around_of}
-use Rattle.opt_solvers.specs.DeadPlaces.{operand_place, kept_place, IsPlace, around_operation, slot, items, Keeps, AreKept}
-use Rattle.opt_solvers.specs.DeadRows.{slot_of, Excuses, AreExcused, AreInner}
+use Rattle.opt_solvers.specs.DeadPlaces.{Place, operand_place, kept_place, all_places, around_operation, slot, items, Keeps}
+use Rattle.opt_solvers.specs.DeadRows.{slot_of, Excuses, IsExcusedBy, AreDeadTables}
 use Rattle.opt_solvers.specs.Rows.{row_at}
 use Rattle.opt_solvers.specs.DeadUses.{held_operation, held_argument, first_uses, kept_by, CountsItems}
 use Rattle.opt_solvers.specs.DeadRelease.{IsStarted, keeping, IsCounted, ExcusesAll}
 use Rattle.opt_solvers.specs.DeadItems.{AreMarked, AreDead}
 use Rattle.opt_solvers.proofs.DeadLists.{below_or_at}
-use Rattle.opt_solvers.proofs.DeadPlacing.{default, same_operand, same_kept}
+use Rattle.opt_solvers.proofs.DeadPlacing.{default, same_operand, same_kept, place_is, is_place}
 use Rattle.opt_solvers.proofs.DeadCrossing.{around_there, around_number, in_more}
 use Rattle.opt_solvers.proofs.DeadKeeping.{known}
 use Rattle.opt_solvers.proofs.DeadReleasing.{keeping_zero, none_keeping}
@@ -46,7 +44,13 @@ none_marked zero k m = none-some true m
 none_marked (suc n) zero m = let e = same_Some false true m in absurd (cc e)
 none_marked (suc n) (suc k) m = none_marked n k m
 
-module _ (p : DeadProblem) (places : List Place) (keeps excuses : List (List ℕ)) (inner : List (Vec ℕ Global)) where
+module _ (p : DeadProblem) (held : DeadTables) where
+  abbrev places : List Place
+  places = all_places p
+
+  abbrev keeps : List (List ℕ)
+  keeps = held.keeps
+
   -- each item has a use for each place that keeps it and isn't excused, and excused places are so by the dead
   pub record IsSound (excused : List Bool) (uses : List ℕ) : Type 0 where
     pub places_len : length excused ≡ length keeps
@@ -55,8 +59,8 @@ module _ (p : DeadProblem) (places : List Place) (keeps excuses : List (List ℕ
 
   -- what a gone item excuses is excused, and what is inside it is gone
   pub record IsSettled (excused : List Bool) (work : Worklist) (x : ℕ) : Type 0 where
-    pub marked : (k : ℕ) → Contains (row_at excuses x) k → IsMarked excused k
-    pub inside : (i : ℕ) → Contains (successors inner x) i → Has work i
+    pub marked : (k : ℕ) → IsExcusedBy p x k → IsMarked excused k
+    pub inside : (i : ℕ) → Contains (row_at held.inner x) i → Has work i
 
   pub record IsDying (excused : List Bool) (uses : List ℕ) (work : Worklist) : Type 0 where
     pub counted : IsCounted keeps excused uses work
@@ -66,51 +70,30 @@ module _ (p : DeadProblem) (places : List Place) (keeps excuses : List (List ℕ
     pub gone : (x : ℕ) → Has work x → IsGone p x
     pub closed : (x : ℕ) → Has work x → Waits work x ⊎ IsSettled excused work x
 
-  -- the row of an item that is taken is there
-  pub row_there : (excused : List Bool) (uses : List ℕ) (t u : Worklist) (x many : ℕ) → IsDying excused uses t → Takes t u x → many ≡ items p → x < many
-  row_there excused uses t u x many s k l = let h = k.in_range in let m = s.counted.marks in let n = s.len in omega (arith, h, m, n, l)
+  -- an item that is taken is one
+  pub item_taken : (excused : List Bool) (uses : List ℕ) (u v : Worklist) (x : ℕ) → IsDying excused uses u → Takes u v x → x < items p
+  item_taken excused uses u v x s k = let h = k.in_range in let m = s.counted.marks in let n = s.len in omega (arith, h, m, n)
 
-  -- the places, and row by row what they keep, what items excuse and what is in them
-  pub record AreTables : Type 0 where
-    pub placed : (q : Place) → Contains places q ↔ IsPlace p q
-    pub kept : AreKept p places keeps
-    pub excused : AreExcused p places excuses
-    pub nested : AreInner p inner
-
-  pub tables_are : (ps qs : List Place) → ps ≡ places → qs ≡ places → ((q : Place) → Contains places q ↔ IsPlace p q) → AreKept p ps keeps → AreExcused p qs excuses → AreInner p inner → AreTables
-  tables_are ps qs e f placed kept excused nested = record {
-    placed = placed;
-    kept = subst (λ xs. AreKept p xs keeps) e kept;
-    excused = subst (λ xs. AreExcused p xs excuses) f excused;
-    nested = nested;
-  }
-
-  module _ (ok : IsDeadProblem p) (tables : AreTables) where
-    place_is : (k : ℕ) (q : Place) → slice_get places k ≡ Some q → IsPlace p q
-    place_is k q t = (tables.placed q).0 (k, slice_get_within places k q t, get_or_from_slice_get places k q q t)
-
-    is_place : (q : Place) → IsPlace p q → (k : ℕ) × (slice_get places k ≡ Some q)
-    is_place q h = let c = (tables.placed q).1 h in (c.0, slice_get-get_or places c.0 q c.1 ∙ ap Some c.2)
-
+  module _ (ok : IsDeadProblem p) (tables : AreDeadTables p held) where
     -- what a row has, the place keeps
-    row_of : (k x : ℕ) → Contains (row_at keeps k) x → (q : Place) × (slice_get places k ≡ Some q) × Keeps p q x
+    row_of : (k x : ℕ) → Contains (row_at keeps k) x → (q : Place) × (slice_get places k ≡ Some q) × Keeps p q.user q.operand.definer x
     row_of k x c =
         let h : k < length places = (let l = row_within keeps k x c in let e = tables.kept.len in omega (arith, l, e)) in
         let t = slice_get-get_or places k default h in
         (get_or places k default, t, ((tables.kept.row k (get_or places k default) t).exact x).0 c)
 
-    row_has : (k x : ℕ) (q : Place) → slice_get places k ≡ Some q → Keeps p q x → Contains (row_at keeps k) x
+    row_has : (k x : ℕ) (q : Place) → slice_get places k ≡ Some q → Keeps p q.user q.operand.definer x → Contains (row_at keeps k) x
     row_has k x q t h = ((tables.kept.row k q t).exact x).1 h
 
     -- an item without uses is dead
     unused_dies : (excused : List Bool) (uses : List ℕ) (x : Item) → IsSound excused uses → IsItem p x → get_or uses (number p x) 0 ≡ 0 → IsDead p x
     unused_dies excused uses x s h z = dies x
         (unused_may p x h (let c = s.counts (number p x) in omega (arith, c, z)))
-        (λ (d, c, m). let at = is_place (kept_place d) (inr (refl, refl, c)) in let r = s.by_dead at.0 (kept_place d) (marked at.0 (kept_place d) at.1 (makes_keeps p x d m)) at.1 in none-some r.0 r.1)
-        (λ i o u c. let at = is_place (operand_place i o) (inl (i, refl, u)) in let r = s.by_dead at.0 (operand_place i o) (marked at.0 (operand_place i o) at.1 (counts_keeps p x i o c)) at.1 in
+        (λ (d, c, m). let at = is_place p (kept_place d) (inr (refl, refl, c)) in let r = s.by_dead at.0 (kept_place d) (marked at.0 (kept_place d) at.1 (makes_keeps p x d m)) at.1 in none-some r.0 r.1)
+        (λ i o u c. let at = is_place p (operand_place i o) (inl (i, refl, u)) in let r = s.by_dead at.0 (operand_place i o) (marked at.0 (operand_place i o) at.1 (counts_keeps p x i o c)) at.1 in
         subst (λ n. IsExcused p n o) (sym (same_Some i r.0 r.1)) r.2)
       where
-        marked : (k : ℕ) (q : Place) → slice_get places k ≡ Some q → Keeps p q (number p x) → IsMarked excused k
+        marked : (k : ℕ) (q : Place) → slice_get places k ≡ Some q → Keeps p q.user q.operand.definer (number p x) → IsMarked excused k
         marked k q t h = keeping_zero excused keeps k (number p x) s.places_len (let c = s.counts (number p x) in omega (arith, c, z)) (row_has k (number p x) q t h)
 
     unused_goes : (excused : List Bool) (uses : List ℕ) (x : ℕ) → IsSound excused uses → x < items p → get_or uses x 0 ≡ 0 → IsGone p x
@@ -139,7 +122,7 @@ module _ (p : DeadProblem) (places : List Place) (keeps excuses : List (List ℕ
         past (row ∷ rows) zero h = absurd (omega (arith, h))
         past (row ∷ rows) (suc k) h = past rows k (omega (arith, h))
 
-    pub dying_begins : (excused : List Bool) (uses : List ℕ) (work : Worklist) (n : ℕ) → excused ≡ replicate n false → n ≡ length places → CountsItems (kept_by keeps) (first_uses p) uses → IsStarted uses work → IsDying excused uses work
+    pub dying_begins : (excused : List Bool) (uses : List ℕ) (work : Worklist) (n : ℕ) → excused ≡ replicate n false → n ≡ length keeps → CountsItems (kept_by keeps) (first_uses p) uses → IsStarted uses work → IsDying excused uses work
     dying_begins excused uses work n e l c s = record {
       counted = record {
         places = places_len;
@@ -158,22 +141,16 @@ module _ (p : DeadProblem) (places : List Place) (keeps excuses : List (List ℕ
         uses_len = c.len ∙ first_len
 
         places_len : length excused ≡ length keeps
-        places_len = let a = ap length e in let b = length-replicate n false in let k = tables.kept.len in omega (arith, a, b, k, l)
+        places_len = let a = ap length e in let b = length-replicate n false in omega (arith, a, b, l)
 
         counts : (x : ℕ) → get_or uses x 0 ≡ get_or (first_uses p) x 0 + keeping excused keeps x
-        counts x = c.counts x ∙ ap (λ k. get_or (first_uses p) x 0 + k) (sym (ap (λ bs. keeping bs keeps x) e ∙ keeping_all keeps n x (l ∙ sym tables.kept.len)))
+        counts x = c.counts x ∙ ap (λ k. get_or (first_uses p) x 0 + k) (sym (ap (λ bs. keeping bs keeps x) e ∙ keeping_all keeps n x l))
 
         sound : IsSound excused uses
         sound = record { places_len = places_len; counts = counts; by_dead = λ k q m t. absurd (none_marked n k (subst (λ bs. IsMarked bs k) e m)) }
 
-    pub places_within : (x : ℕ) (xs : List ℕ) → row_at excuses x ≡ xs → (i : ℕ) (d : ℕ) → i < length xs → get_or xs i d < length keeps
-    places_within x xs e i d h = let r = (tables.excused.exact x (get_or xs i d)).0 (subst (λ ys. Contains ys (get_or xs i d)) (sym e) (Contains-get_or xs i d h)) in let w = slice_get_within places (get_or xs i d) r.0 r.1 in let l = tables.kept.len in omega (arith, w, l)
-
-    pub inside_within : (x : ℕ) (xs : List ℕ) (n : ℕ) → successors inner x ≡ xs → n ≡ items p → (i : ℕ) (d : ℕ) → i < length xs → get_or xs i d < n
-    inside_within x xs n e l i d h = let r = around_there p (get_or xs i d) x ((tables.nested.exact x (get_or xs i d)).0 (subst (λ ys. Contains ys (get_or xs i d)) (sym e) (Contains-get_or xs i d h))) in let w = slice_get_within p.operations (get_or xs i d) r.0 r.1 in omega (arith, w, l)
-
     -- one gone item is dealt with
-    pub dying_goes_on : (excused more : List Bool) (uses new : List ℕ) (t u v w : Worklist) (x : ℕ) → IsDying excused uses t → Takes t u x → u.marked ≡ t.marked → ExcusesAll keeps (row_at excuses x) excused more uses new u v → Adds v w (successors inner x) → IsDying more new w
+    pub dying_goes_on : (excused more : List Bool) (uses new : List ℕ) (t u v w : Worklist) (x : ℕ) → IsDying excused uses t → Takes t u x → u.marked ≡ t.marked → ExcusesAll keeps (IsExcusedBy p x) excused more uses new u v → Adds v w (row_at held.inner x) → IsDying more new w
     dying_goes_on excused more uses new t u v w x s k e a b = record {
       counted = record {
         places = a.counted.places;
@@ -189,7 +166,7 @@ module _ (p : DeadProblem) (places : List Place) (keeps excuses : List (List ℕ
           (a.all y z);
       gone = λ y h. ⊎_elim
           (λ h. ⊎_elim (λ h. s.gone y (there y h)) (λ c. let z = a.spent y c in unused_goes more new y sound (let l = z.1 in let n = a.len in let m = s.len in omega (arith, l, n, m)) z.0) (a.adds.only y h))
-          (λ c. inside y ((tables.nested.exact x y).0 c) (s.gone x k.has))
+          (λ c. inside y (tables.inner.only x y c) (s.gone x k.has))
           (b.only y h);
       closed = λ y h. ⊎_elim
           (λ h. ⊎_elim
@@ -209,8 +186,8 @@ module _ (p : DeadProblem) (places : List Place) (keeps excuses : List (List ℕ
         there : (y : ℕ) → Has u y → Has t y
         there y h = subst (λ (m : Vec Bool Global). IsMarked m.items y) e h
 
-        excuse : (j : ℕ) (q : Place) → slice_get places j ≡ Some q → Contains (row_at excuses x) j → IsExcusedPlace p q
-        excuse j q n c = let r = (tables.excused.exact x j).0 c in excused_by p ok q x (place_is j q n) (subst (λ z. Excuses p z x) (same_Some r.0 q (sym r.1 ∙ n)) r.2) (s.gone x k.has)
+        excuse : (j : ℕ) (q : Place) → slice_get places j ≡ Some q → IsExcusedBy p x j → IsExcusedPlace p q
+        excuse j q n r = excused_by p ok q x (place_is p j q n) (subst (λ z. Excuses p z x) (same_Some r.0 q (sym r.1 ∙ n)) r.2) (s.gone x k.has)
 
         sound : IsSound more new
         sound = record {
@@ -232,7 +209,7 @@ module _ (p : DeadProblem) (places : List Place) (keeps excuses : List (List ℕ
 
       inside_goes : (a x : ℕ) → IsIn p a x → Has work a → Has work x
       inside_goes a x itself h = h
-      inside_goes a x (further _ j c e q r) h = (settled j (inside_goes a j r h)).inside x ((tables.nested.exact j x).1 (ap around_of e ∙ q))
+      inside_goes a x (further _ j c e q r) h = (settled j (inside_goes a j r h)).inside x (tables.inner.has j x (ap around_of e ∙ q))
 
       mutual
         -- a dead item has no uses
@@ -241,11 +218,11 @@ module _ (p : DeadProblem) (places : List Place) (keeps excuses : List (List ℕ
             let h = may_item p x m in
             let z = may_unused p x m in
             let c = s.is_sound.counts (number p x) in
-            let k = none_keeping excused keeps (number p x) s.is_sound.places_len (λ k c. let r = row_of k (number p x) c in let q = place_is k r.0 r.1 in ⊎_elim
+            let k = none_keeping excused keeps (number p x) s.is_sound.places_len (λ k c. let r = row_of k (number p x) c in let q = place_is p k r.0 r.1 in ⊎_elim
             (λ (i, e, u). let o = same_operand r.0 i e in
-            excused_marked i r.0.operand k (f i r.0.operand u (keeps_counts p ok x i r.0.operand h (known p ok r.0 q) (subst (λ z. Keeps p z (number p x)) o r.2))) (r.1 ∙ ap Some o))
+            excused_marked i r.0.operand k (f i r.0.operand u (keeps_counts p ok x i r.0.operand h (known p ok r.0 q) (subst (λ (z : Place). Keeps p z.user z.operand.definer (number p x)) o r.2))) (r.1 ∙ ap Some o))
             (λ (e, a, u). let o = same_kept r.0 e a in
-            absurd (n (r.0.operand.definer, u, keeps_makes p ok x r.0.operand.definer h (known p ok r.0 q) (subst (λ z. Keeps p z (number p x)) o r.2))))
+            absurd (n (r.0.operand.definer, u, keeps_makes p ok x r.0.operand.definer h (known p ok r.0 q) (subst (λ (z : Place). Keeps p z.user z.operand.definer (number p x)) o r.2))))
             q) in
             omega (arith, z, c, k)
 
@@ -253,10 +230,10 @@ module _ (p : DeadProblem) (places : List Place) (keeps excuses : List (List ℕ
         excused_marked : (i : ℕ) (o : Operand) (k : ℕ) → IsExcused p i o → slice_get places k ≡ Some (operand_place i o) → IsMarked excused k
         excused_marked i o k (by_operation _ _ a r d) t =
             let g = s.unused a (item_within p (Whole a) (dead_item p (Whole a) d)) (dead_unused (Whole a) d) in
-            (settled i (inside_goes a i r g)).marked k ((tables.excused.exact i k).1 (operand_place i o, t, inl refl))
+            (settled i (inside_goes a i r g)).marked k (operand_place i o, t, inl refl)
         excused_marked i o k (by_argument _ _ v e d) t =
             let g = s.unused (slot p v) (item_within p (Slot v) (dead_item p (Slot v) d)) (dead_unused (Slot v) d) in
-            (settled (slot p v) g).marked k ((tables.excused.exact (slot p v) k).1 (operand_place i o, t, inr (ap (slot_of p) e)))
+            (settled (slot p v) g).marked k (operand_place i o, t, inr (ap (slot_of p) e))
 
       pub dying_ends : (x : Item) → IsItem p x → (get_or uses (number p x) 0 ≡ 0) ↔ IsDead p x
       dying_ends x h = (unused_dies excused uses x s.is_sound h, dead_unused x)

@@ -1,22 +1,23 @@
 -- The items that a place keeps.
-use Rattle.std.proofs.Common.{◌≡◌, inl, inr, ⊎_elim, ℕ, ◌+◌, ◌<◌, ◌≤◌, List, [], ◌∷◌, ◌++◌, Option, None, Some, length, refl, sym, ap, ◌∙◌, subst, arith}
+use Rattle.std.proofs.Common.{◌≡◌, append_assoc, append-nil, inl, inr, ⊎_elim, ℕ, ◌+◌, ◌<◌, ◌≤◌, List, [], ◌∷◌, ◌++◌, Option, None, Some, get_or, length, map, take, refl, sym, ap, ◌∙◌, subst, arith}
 use Rattle.std.specs.Prelude.{Contains, slice_get, option_to_list, ◌↔◌}
 use Rattle.std.proofs.lemmas.Option.{same_Some, none-some, slice_get_within}
-use Rattle.std.proofs.lemmas.List.{length-append}
+use Rattle.std.proofs.lemmas.List.{length-append, take_more, map-append}
 use Rattle.digraph.specs.Counts.{count_of}
-use Rattle.opt_solvers.specs.Rows.{row_at, listed}
+use Rattle.opt_solvers.specs.Rows.{listed}
 use Rattle.digraph.proofs.Counting.{one_bound}
 use Rattle.digraph.proofs.Marking.{only_one}
 use Rattle.opt_solvers.specs.declared.dead_problem.Definer.{Definer}
 use Rattle.opt_solvers.specs.declared.dead_problem.Definer.TheVariants.{Result, Argument as ByArgument, Outside}
 use Rattle.opt_solvers.specs.declared.dead_problem.Argument.{Argument}
 use Rattle.opt_solvers.specs.declared.dead_problem.DeadProblem.{DeadProblem}
-use Rattle.opt_solvers.specs.declared.dead_places.Place.{Place}
+use Rattle.opt_solvers.specs.declared.dead_problem.Operand.{Operand}
+use Rattle.opt_solvers.specs.DeadCandidates.{Candidate, operands_of}
 use Rattle.opt_solvers.specs.Dead.{IsDeadProblem}
-use Rattle.opt_solvers.specs.DeadPlaces.{IsPlace, around_of_argument, around_argument, around_definer, around_user, slot, items, maker, Keeps, KeepsRow, AreKept, IsNumber, IsKnown, IsBehind, Crosses}
+use Rattle.opt_solvers.specs.DeadPlaces.{Place, operand_place, kept_place, IsPlace, around_of_argument, around_argument, around_definer, around_user, slot, items, maker, Keeps, KeepsRow, AreKept, KeepMore, IsNumber, IsKnown, IsBehind, Crosses}
 use Rattle.opt_solvers.proofs.DeadCrossing.{around_below, around_number, in_below}
 use Rattle.opt_solvers.proofs.DeadLists.{none_in}
-use Rattle.opt_solvers.proofs.ChainsJoining.{get_pushed}
+use Rattle.opt_solvers.proofs.FactsTabling.{get_push_before, get_push_last, get_push_cases}
 
 pub in_list : (o : Option ℕ) (x : ℕ) → Contains (option_to_list o) x → o ≡ Some x
 in_list None x c = absurd (none_in x c)
@@ -75,44 +76,58 @@ module _ (p : DeadProblem) where
     made_within (ByArgument v) x h m = let s = same_Some (slot p v) x m in omega (arith, s, h)
     made_within Outside x h m = absurd (none-some x m)
 
-    pub keeps_within : (q : Place) → IsPlace p q → (x : ℕ) → Keeps p q x → x < items p
-    keeps_within q h x k = ⊎_elim
-        (λ m. made_within q.operand.definer x (known q h) m)
-        (λ ((j, e, r), n). let l = around_definer_number q.operand.definer (known q h) j e in let b = in_below p ok x j r in omega (arith, l, b))
+    keeps_within : (u : Option ℕ) (d : Definer) → IsKnown p d → (x : ℕ) → Keeps p u d x → x < items p
+    keeps_within u d h x k = ⊎_elim
+        (λ m. made_within d x h m)
+        (λ ((j, e, r), n). let l = around_definer_number d h j e in let b = in_below p ok x j r in omega (arith, l, b))
         k
 
-    pub row_kept : (q : Place) (row : List ℕ) → IsPlace p q → Crosses p (around_definer p q.operand.definer) (around_user p q.user) (option_to_list (maker p q.operand.definer)) row → KeepsRow p q row
-    row_kept q row h s = record {
+    pub row_kept : (u : Option ℕ) (d : Definer) (row : List ℕ) → IsKnown p d → Crosses p (around_definer p d) (around_user p u) (option_to_list (maker p d)) row → KeepsRow p u d row
+    row_kept u d row h s = record {
       exact = exact;
-      within = λ x c. keeps_within q h x ((exact x).0 c);
+      within = λ x c. keeps_within u d h x ((exact x).0 c);
       once = s.once;
     }
       where
-        exact : (x : ℕ) → Contains row x ↔ Keeps p q x
+        exact : (x : ℕ) → Contains row x ↔ Keeps p u d x
         exact x = (
-          (λ c. ⊎_elim (λ m. inl (in_list (maker p q.operand.definer) x m)) (λ r. inr r) ((s.exact x).0 c)),
-          (λ k. (s.exact x).1 (⊎_elim (λ m. inl (list_in (maker p q.operand.definer) x m)) (λ r. inr r) k)),
+          (λ c. ⊎_elim (λ m. inl (in_list (maker p d) x m)) (λ r. inr r) ((s.exact x).0 c)),
+          (λ k. (s.exact x).1 (⊎_elim (λ m. inl (list_in (maker p d) x m)) (λ r. inr r) k)),
         )
 
-  -- the rows of the first k places
-  pub record AreKeeping (places : List Place) (k : ℕ) (rows : List (List ℕ)) : Type 0 where
-    pub len : length rows ≡ k
-    pub row : (i : ℕ) (q : Place) → i < k → slice_get places i ≡ Some q → KeepsRow p q (row_at rows i)
+  pub none_kept : (rows : List (List ℕ)) → rows ≡ [] → AreKept p [] rows
+  none_kept rows e = record { len = ap length e; row = λ k q t. absurd (none-some q t) }
 
-  pub keeping_begins : (places : List Place) (rows : List (List ℕ)) → rows ≡ [] → AreKeeping places 0 rows
-  keeping_begins places rows e = record { len = ap length e; row = λ i q h. absurd (omega (arith, h)) }
+  pub nothing_more : (rows : List (List ℕ)) → KeepMore p [] rows rows
+  nothing_more rows places k = subst (λ qs. AreKept p qs rows) (sym (append-nil places)) k
 
-  pub keeping_goes_on : (places : List Place) (k : ℕ) (rows new : List (List ℕ)) (q : Place) (row : List ℕ) → slice_get places k ≡ Some q → KeepsRow p q row → new ≡ rows ++ row ∷ [] → AreKeeping places k rows → AreKeeping places (k + 1) new
-  keeping_goes_on places k rows new q row t r e s = subst (AreKeeping places (k + 1)) (sym e) (record {
-    len = let l = length-append rows (row ∷ []) in omega (arith, l, s.len);
-    row = λ i z h u. ⊎_elim
-        (λ c. subst (λ xs. KeepsRow p z xs) (sym (ap listed c.1)) (subst (λ y. KeepsRow p y row) (same_Some q z (sym (ap (slice_get places) (c.0 ∙ s.len) ∙ t) ∙ u)) r))
-        (λ c. subst (λ xs. KeepsRow p z xs) (sym (ap listed c.1)) (s.row i z (below i h c.0) u))
-        (get_pushed rows row i);
-  })
-    where
-      below : (i : ℕ) → i < k + 1 → (i ≡ length rows → ⊥) → i < k
-      below i h n = let l = s.len in grind (arith, l)
+  -- the row of one place more
+  kept_next : (places : List Place) (rows : List (List ℕ)) (q : Place) (row : List ℕ) → KeepsRow p q.user q.operand.definer row → AreKept p places rows → AreKept p (places ++ q ∷ []) (rows ++ row ∷ [])
+  kept_next places rows q row r s = record {
+    len = let l = length-append rows (row ∷ []) in let m = length-append places (q ∷ []) in let n = s.len in omega (arith, l, m, n);
+    row = λ k z t. ⊎_elim
+        (λ d. let h : k < length rows = (let m = slice_get_within places k z d in let n = s.len in omega (arith, m, n)) in
+        subst (KeepsRow p z.user z.operand.definer) (sym (ap listed (get_push_before rows row k h))) (s.row k z d))
+        (λ d. subst (KeepsRow p z.user z.operand.definer) (sym (ap listed (ap (slice_get (rows ++ row ∷ [])) (d.0 ∙ sym s.len) ∙ get_push_last rows row))) (subst (λ (y : Place). KeepsRow p y.user y.operand.definer row) d.1 r))
+        (get_push_cases places q z k t);
+  }
 
-  pub keeping_ends : (places : List Place) (k : ℕ) (rows : List (List ℕ)) → k ≡ length places → AreKeeping places k rows → AreKept p places rows
-  keeping_ends places k rows e s = record { len = s.len ∙ e; row = λ i q u. s.row i q (let h = slice_get_within places i q u in omega (arith, h, e)) u }
+  -- the row of one more of what places are made of
+  pub next_kept : {X : Type 0} (f : X → Place) (xs : List X) (i : ℕ) (d : X) (a b c : List (List ℕ)) (row : List ℕ) → i < length xs
+      → KeepMore p (map f (take i xs)) a b → KeepsRow p (f (get_or xs i d)).user (f (get_or xs i d)).operand.definer row → c ≡ b ++ row ∷ [] → KeepMore p (map f (take (i + 1) xs)) a c
+  next_kept f xs i d a b c row h m r e places k =
+      let x = get_or xs i d in let qs = map f (take i xs) in
+      subst (AreKept p (places ++ map f (take (i + 1) xs))) (sym e) (subst (λ ps. AreKept p ps (b ++ row ∷ []))
+      (append_assoc places qs (f x ∷ []) ∙ ap (λ zs. places ++ zs) (sym (ap (map f) (take_more xs i d h) ∙ map-append f (take i xs) (x ∷ []))))
+      (kept_next (places ++ qs) b (f x) row r (m places k)))
+
+  module _ (ok : IsDeadProblem p) where
+    pub operand_known : (user : ℕ) (os : List Operand) (o : Operand) → os ≡ operands_of (slice_get p.operations user) → Contains os o → IsKnown p o.definer
+    operand_known user os o e c = go (slice_get p.operations user) refl
+      where
+        go : (d : Option Candidate) → slice_get p.operations user ≡ d → IsKnown p o.definer
+        go None q = absurd (none_in o (subst (λ xs. Contains xs o) (e ∙ ap operands_of q) c))
+        go (Some d) q = known ok (operand_place user o) (inl (user, refl, record { candidate = d; there = q; operand = subst (λ xs. Contains xs o) (e ∙ ap operands_of q) c }))
+
+    pub kept_known : (d : Definer) → Contains p.kept.items d → IsKnown p d
+    kept_known d c = known ok (kept_place d) (inr (refl, refl, c))

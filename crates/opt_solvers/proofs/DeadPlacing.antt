@@ -1,20 +1,15 @@
--- The places of all operations, one after the other.
-use Rattle.std.proofs.Common.{◌≡◌, ◌⊎◌, inl, inr, ⊎_elim, ℕ, ◌+◌, ◌<◌, ◌≤◌, List, [], ◌∷◌, ◌++◌, get_or, Option, None, Some, length, sym, ap, ◌∙◌, subst, arith}
-use Rattle.std.specs.Prelude.{Contains, map, slice_get, ◌↔◌}
-use Rattle.std.proofs.lemmas.List.Elements.{Contains-append_left, Contains-append_right, Contains-append_cases}
-use Rattle.std.proofs.lemmas.Option.{same_Some, none-some, slice_get_within, slice_get-get_or, get_or_from_slice_get}
-use Rattle.std.proofs.lemmas.List.{length-append}
-use Rattle.opt_solvers.specs.declared.dead_problem.Definer.{Definer}
+-- The places of all operations, one after the other, and their numbers.
+use Rattle.std.proofs.Common.{◌≡◌, inl, inr, ⊎_elim, ℕ, zero, suc, ◌+◌, ◌<◌, ◌≤◌, List, [], ◌∷◌, ◌++◌, take, Option, None, Some, length, refl, sym, ap, ◌∙◌, subst, append_assoc, append-nil, arith}
+use Rattle.std.specs.Prelude.{map, slice_get}
+use Rattle.std.proofs.lemmas.Option.{same_Some, none-some, slice_get_within}
+use Rattle.std.proofs.lemmas.List.{length-append, length-map}
 use Rattle.opt_solvers.specs.declared.dead_problem.Definer.TheVariants.{Result}
 use Rattle.opt_solvers.specs.declared.dead_problem.Operand.{Operand}
-use Rattle.opt_solvers.specs.DeadCandidates.{Candidate, operands_of}
+use Rattle.opt_solvers.specs.DeadCandidates.{Candidate, operands_of, all_operands, operands_before}
 use Rattle.opt_solvers.specs.declared.dead_problem.DeadProblem.{DeadProblem}
-use Rattle.opt_solvers.specs.declared.dead_places.Place.{Place}
-use Rattle.opt_solvers.specs.Dead.{HasOperand}
-use Rattle.opt_solvers.specs.DeadPlaces.{operand_place, kept_place, IsPlace, AreByUser}
-use Rattle.opt_solvers.specs.Rows.{row_at, listed}
-use Rattle.opt_solvers.proofs.DeadLists.{there_is, none_in, map_from, map_into, get_front, old_or_new}
-use Rattle.opt_solvers.proofs.ChainsJoining.{get_pushed}
+use Rattle.opt_solvers.specs.DeadPlaces.{Place, operand_place, kept_place, operand_places, all_places, IsPlace}
+use Rattle.opt_solvers.proofs.FactsTabling.{get_contains, contains_get}
+use Rattle.opt_solvers.proofs.DeadLists.{there_is, below_or_at, get_front, get_behind, get_mapped, mapped_get, get_cases}
 
 -- what is read of a list of places past its end
 abbrev pub default : Place
@@ -26,124 +21,172 @@ same_operand q i u = let f : Option ℕ → Place = λ x. record { user = x; ope
 pub same_kept : (q : Place) → q.user ≡ None → q.operand.argument ≡ None → q ≡ kept_place q.operand.definer
 same_kept q u v = let f : Option ℕ → Option ℕ → Place = λ x y. record { user = x; operand = record { definer = q.operand.definer; argument = y } } in ap (λ x. f x q.operand.argument) u ∙ ap (f None) v
 
-module _ (p : DeadProblem) where
-  -- the operands of the first k operations
-  pub record ArePlaced (k : ℕ) (places : List Place) : Type 0 where
-    pub sound : (q : Place) → Contains places q → (i : ℕ) × (i < k) × (q.user ≡ Some i) × HasOperand p i q.operand
-    pub all : (i : ℕ) (o : Operand) → i < k → HasOperand p i o → Contains places (operand_place i o)
+-- the place with a number is that of an operand of one of the operations, the first of which has the number i
+record IsNumbered (i : ℕ) (cs : List Candidate) (k : ℕ) (q : Place) : Type 0 where
+  step : ℕ
+  candidate : Candidate
+  there : slice_get cs step ≡ Some candidate
+  index : ℕ
+  number : k ≡ operands_before cs step + index
+  operand : slice_get candidate.operands index ≡ Some q.operand
+  user : q.user ≡ Some (i + step)
 
-  pub placing_begins : (places : List Place) → places ≡ [] → ArePlaced 0 places
-  placing_begins places e = record {
-    sound = λ q c. absurd (none_in q (subst (λ xs. Contains xs q) e c));
-    all = λ i o h. absurd (omega (arith, h));
-  }
+numbered : (i : ℕ) (cs : List Candidate) (k : ℕ) (q : Place) → slice_get (operand_places i cs) k ≡ Some q → IsNumbered i cs k q
+numbered i [] k q e = absurd (none-some q e)
+numbered i (c ∷ cs) k q e = ⊎_elim
+    (λ f. let m = get_mapped (operand_place i) c.operands k q f in record {
+      step = 0;
+      candidate = c;
+      there = refl;
+      index = k;
+      number = omega arith;
+      operand = m.1 ∙ ap (λ (z : Place). Some z.operand) (sym m.2);
+      user = ap (λ (z : Place). z.user) m.2 ∙ ap Some (omega arith);
+    })
+    (λ (v, w, f). let s = numbered (suc i) cs v q f in record {
+      step = suc s.step;
+      candidate = s.candidate;
+      there = s.there;
+      index = s.index;
+      number = let l = length-map c.operands (operand_place i) in let n = s.number in omega (arith, w, l, n);
+      operand = s.operand;
+      user = s.user ∙ ap Some (omega arith);
+    })
+    (get_cases (map (operand_place i) c.operands) (operand_places (suc i) cs) k q e)
 
-  placing_step : (k : ℕ) (places new : List Place) (c : Candidate) (operands : List Operand) → slice_get p.operations k ≡ Some c → operands ≡ c.operands → new ≡ places ++ map (operand_place k) operands → ArePlaced k places → ArePlaced (k + 1) new
-  placing_step k places new c operands s o e a = record {
-    sound = λ q h. ⊎_elim
-        (λ l. let r = a.sound q l in (r.0, omega (arith, r.1), r.2, r.3))
-        (λ l. let r = map_from (operand_place k) operands q l in (
-          k,
-          omega arith,
-          ap (λ (z : Place). z.user) r.2,
-          subst (HasOperand p k) (sym (ap (λ (z : Place). z.operand) r.2)) (record { candidate = c; there = s; operand = subst (λ xs. Contains xs r.0) o r.1 }),
-        ))
-        (Contains-append_cases places (map (operand_place k) operands) q (subst (λ xs. Contains xs q) e h));
-    all = λ i x h u. subst (λ xs. Contains xs (operand_place i x)) (sym e) (⊎_elim
-        (λ l. Contains-append_left places (map (operand_place k) operands) (operand_place i x) (a.all i x l u))
-        (λ q. Contains-append_right places (map (operand_place k) operands) (operand_place i x) (subst (λ n. Contains (map (operand_place k) operands) (operand_place n x)) (sym q) (map_into (operand_place k) operands x (mine i x q u))))
-        (below_or i h));
-  }
-    where
-      below_or : (i : ℕ) → i < k + 1 → (i < k) ⊎ (i ≡ k)
-      below_or i h = grind arith
+there_numbered : (i : ℕ) (cs : List Candidate) (j v : ℕ) (c : Candidate) (o : Operand) → slice_get cs j ≡ Some c → slice_get c.operands v ≡ Some o → slice_get (operand_places i cs) (operands_before cs j + v) ≡ Some (operand_place (i + j) o)
+there_numbered i [] j v c o t e = absurd (none-some c t)
+there_numbered i (d ∷ cs) zero v c o t e =
+    let f = mapped_get (operand_place i) d.operands v o (ap (λ (z : Candidate). slice_get z.operands v) (same_Some d c t) ∙ e) in
+    let n : 0 + v ≡ v = omega arith in let m : i ≡ i + 0 = omega arith in
+    ap (slice_get (map (operand_place i) d.operands ++ operand_places (suc i) cs)) n
+    ∙ get_front (map (operand_place i) d.operands) (operand_places (suc i) cs) v (slice_get_within (map (operand_place i) d.operands) v (operand_place i o) f)
+    ∙ f ∙ ap (λ n. Some (operand_place n o)) m
+there_numbered i (d ∷ cs) (suc j) v c o t e =
+    let l = length-map d.operands (operand_place i) in
+    let n : (length d.operands + operands_before cs j) + v ≡ length (map (operand_place i) d.operands) + (operands_before cs j + v) = omega (arith, l) in
+    let m : suc i + j ≡ i + suc j = omega arith in
+    ap (slice_get (map (operand_place i) d.operands ++ operand_places (suc i) cs)) n
+    ∙ get_behind (map (operand_place i) d.operands) (operand_places (suc i) cs) (operands_before cs j + v)
+    ∙ there_numbered (suc i) cs j v c o t e ∙ ap (λ n. Some (operand_place n o)) m
 
-      mine : (i : ℕ) (x : Operand) → i ≡ k → HasOperand p i x → Contains operands x
-      mine i x q u = subst (λ xs. Contains xs x) (sym o) (subst (λ (d : Candidate). Contains d.operands x) (same_Some u.candidate c (sym u.there ∙ ap (slice_get p.operations) q ∙ s)) u.operand)
+before_more : (cs : List Candidate) (j : ℕ) (c : Candidate) → slice_get cs j ≡ Some c → operands_before cs (suc j) ≡ operands_before cs j + length c.operands
+before_more [] j c t = absurd (none-some c t)
+before_more (d ∷ cs) zero c t = let l = ap (λ (z : Candidate). length z.operands) (same_Some d c t) in omega (arith, l)
+before_more (d ∷ cs) (suc j) c t = let r = before_more cs j c t in omega (arith, r)
 
-  pub placing_goes_on : (k : ℕ) (places new : List Place) (operands : List Operand) → k < length p.operations → operands ≡ operands_of (slice_get p.operations k) → new ≡ places ++ map (operand_place k) operands → ArePlaced k places → ArePlaced (k + 1) new
-  placing_goes_on k places new operands h o e a = let c = there_is p.operations k h in placing_step k places new c.0 operands c.1 (o ∙ ap operands_of c.1) e a
+before_all : (i : ℕ) (cs : List Candidate) (j : ℕ) → operands_before cs j ≤ length (operand_places i cs)
+before_all i cs zero = omega arith
+before_all i [] (suc j) = omega arith
+before_all i (c ∷ cs) (suc j) =
+    let r = before_all (suc i) cs j in let l = length-map c.operands (operand_place i) in let a = length-append (map (operand_place i) c.operands) (operand_places (suc i) cs) in
+    omega (arith, r, l, a)
 
-  pub placing_ends : (k : ℕ) (places new : List Place) (kept : List Definer) → k ≡ length p.operations → kept ≡ p.kept.items → new ≡ places ++ map kept_place kept → ArePlaced k places → (q : Place) → Contains new q ↔ IsPlace p q
-  placing_ends k places new kept l o e a q = (
-    (λ h. ⊎_elim
-        (λ c. let r = a.sound q c in inl (r.0, r.2, r.3))
-        (λ c. let r = map_from kept_place kept q c in inr (
-          ap (λ (z : Place). z.user) r.2,
-          ap (λ (z : Place). z.operand.argument) r.2,
-          subst (λ d. Contains p.kept.items d) (sym (ap (λ (z : Place). z.operand.definer) r.2)) (subst (λ xs. Contains xs r.0) o r.1),
-        ))
-        (Contains-append_cases places (map kept_place kept) q (subst (λ xs. Contains xs q) e h))),
-    (λ i. subst (λ xs. Contains xs q) (sym e) (⊎_elim
-        (λ r. Contains-append_left places (map kept_place kept) q (subst (Contains places) (sym (same_operand q r.0 r.1)) (a.all r.0 q.operand (let h = slice_get_within p.operations r.0 r.2.candidate r.2.there in omega (arith, h, l)) r.2)))
-        (λ r. Contains-append_right places (map kept_place kept) q (subst (Contains (map kept_place kept)) (sym (same_kept q r.0 r.1)) (map_into kept_place kept q.operand.definer (subst (λ xs. Contains xs q.operand.definer) (sym o) r.2))))
-        i)),
-  )
+-- the operands of the places are those of the operations
+operand_there : (i : ℕ) (cs : List Candidate) (k : ℕ) (q : Place) → slice_get (operand_places i cs) k ≡ Some q → slice_get (all_operands cs) k ≡ Some q.operand
+operand_there i [] k q e = absurd (none-some q e)
+operand_there i (c ∷ cs) k q e = ⊎_elim
+    (λ f. let m = get_mapped (operand_place i) c.operands k q f in
+    get_front c.operands (all_operands cs) k (slice_get_within c.operands k m.0 m.1) ∙ m.1 ∙ ap (λ (z : Place). Some z.operand) (sym m.2))
+    (λ (v, w, f). let w' = w ∙ ap (λ n. n + v) (length-map c.operands (operand_place i)) in
+    ap (slice_get (c.operands ++ all_operands cs)) w' ∙ get_behind c.operands (all_operands cs) v ∙ operand_there (suc i) cs v q f)
+    (get_cases (map (operand_place i) c.operands) (operand_places (suc i) cs) k q e)
 
--- the numbers of the places of the first operations, row by row
-pub numbering_begins : (places : List Place) (rows : List (List ℕ)) → rows ≡ [] → AreByUser places 0 rows
-numbering_begins places rows e = record { len = ap length e; exact = λ x k h. absurd (omega (arith, h)) }
+place_there : (i : ℕ) (cs : List Candidate) (k : ℕ) (o : Operand) → slice_get (all_operands cs) k ≡ Some o → (q : Place) × (slice_get (operand_places i cs) k ≡ Some q) × (q.operand ≡ o)
+place_there i [] k o e = absurd (none-some o e)
+place_there i (c ∷ cs) k o e = ⊎_elim
+    (λ f. let m = mapped_get (operand_place i) c.operands k o f in
+    (operand_place i o, get_front (map (operand_place i) c.operands) (operand_places (suc i) cs) k (slice_get_within (map (operand_place i) c.operands) k (operand_place i o) m) ∙ m, refl))
+    (λ (v, w, f). let r = place_there (suc i) cs v o f in
+    let w' = w ∙ ap (λ n. n + v) (sym (length-map c.operands (operand_place i))) in
+    (r.0, ap (slice_get (map (operand_place i) c.operands ++ operand_places (suc i) cs)) w' ∙ get_behind (map (operand_place i) c.operands) (operand_places (suc i) cs) v ∙ r.1, r.2))
+    (get_cases c.operands (all_operands cs) k o e)
 
-pub numbering_goes_on : (p : DeadProblem) (k : ℕ) (places new : List Place) (operands : List Operand) (rows more : List (List ℕ)) (row : List ℕ) → new ≡ places ++ map (operand_place k) operands → ((j : ℕ) → Contains row j ↔ (length places ≤ j) × (j < length new))
-    → more ≡ rows ++ row ∷ [] → ArePlaced p k places → AreByUser places k rows → AreByUser new (k + 1) more
-numbering_goes_on p k places new operands rows more row e f g a b = record {
-  len = let l = length-append rows (row ∷ []) in let m = ap length g in let n = b.len in omega (arith, l, m, n);
-  exact = λ x j h. ⊎_elim
-      (λ c. ((λ m. last x j (c.0 ∙ b.len) (subst (λ xs. Contains xs j) (at_last x c.1) m)), (λ r. subst (λ xs. Contains xs j) (sym (at_last x c.1)) (back_last x j (c.0 ∙ b.len) r))))
-      (λ c. let l : x < k = (let n = b.len in let d = c.0 in grind (arith, n)) in (
-        (λ m. let r = (b.exact x j l).0 (subst (λ xs. Contains xs j) (at_front x c.1) m) in (r.0, stays j r.0 r.1, r.2)),
-        (λ r. subst (λ xs. Contains xs j) (sym (at_front x c.1)) ((b.exact x j l).1 (r.0, stood x j l r.0 r.1 r.2, r.2))),
-      ))
-      (get_pushed rows row x);
-}
+-- the places of the first operations, and of one more
+pub places_more : (cs : List Candidate) (k : ℕ) → k < length cs → operand_places 0 (take (k + 1) cs) ≡ operand_places 0 (take k cs) ++ map (operand_place k) (operands_of (slice_get cs k))
+places_more cs k h =
+    let n : k + 1 ≡ suc k = omega arith in let m : 0 + k ≡ k = omega arith in
+    ap (λ i. operand_places 0 (take i cs)) n ∙ go 0 cs k h ∙ ap (λ i. operand_places 0 (take k cs) ++ map (operand_place i) (operands_of (slice_get cs k))) m
   where
-    at_last : (x : ℕ) → slice_get (rows ++ row ∷ []) x ≡ Some row → row_at more x ≡ row
-    at_last x q = ap (λ rs. row_at rs x) g ∙ ap listed q
+    go : (i : ℕ) (cs : List Candidate) (k : ℕ) → k < length cs → operand_places i (take (suc k) cs) ≡ operand_places i (take k cs) ++ map (operand_place (i + k)) (operands_of (slice_get cs k))
+    go i [] k h = absurd (omega (arith, h))
+    go i (c ∷ cs) zero h = let m : i ≡ i + 0 = omega arith in append-nil (map (operand_place i) c.operands) ∙ ap (λ n. map (operand_place n) c.operands) m
+    go i (c ∷ cs) (suc k) h =
+        let m : suc i + k ≡ i + suc k = omega arith in
+        ap (λ (qs : List Place). map (operand_place i) c.operands ++ qs) (go (suc i) cs k (omega (arith, h)) ∙ ap (λ n. operand_places (suc i) (take k cs) ++ map (operand_place n) (operands_of (slice_get cs k))) m)
+        ∙ sym (append_assoc (map (operand_place i) c.operands) (operand_places (suc i) (take k cs)) (map (operand_place (i + suc k)) (operands_of (slice_get cs k))))
 
-    at_front : (x : ℕ) → slice_get (rows ++ row ∷ []) x ≡ slice_get rows x → row_at more x ≡ row_at rows x
-    at_front x q = ap (λ rs. row_at rs x) g ∙ ap listed q
+module _ (p : DeadProblem) where
+  abbrev operands : List Place
+  operands = operand_places 0 p.operations
 
-    entry : (j : ℕ) (q : Place) → slice_get new j ≡ Some q → (slice_get places j ≡ Some q) ⊎ ((v : ℕ) × (j ≡ length places + v) × (o : Operand) × (q ≡ operand_place k o))
-    entry j q t = old_or_new (operand_place k) places operands j q (sym (ap (λ xs. slice_get xs j) e) ∙ t)
+  abbrev others : List Place
+  others = map kept_place p.kept.items
 
-    stays : (j : ℕ) (q : Place) → slice_get places j ≡ Some q → slice_get new j ≡ Some q
-    stays j q t = ap (λ xs. slice_get xs j) e ∙ get_front places (map (operand_place k) operands) j (slice_get_within places j q t) ∙ t
+  front : (k : ℕ) (q : Place) → slice_get operands k ≡ Some q → slice_get (all_places p) k ≡ Some q
+  front k q e = get_front operands others k (slice_get_within operands k q e) ∙ e
 
-    stood : (x j : ℕ) → x < k → (q : Place) → slice_get new j ≡ Some q → q.user ≡ Some x → slice_get places j ≡ Some q
-    stood x j l q t u = ⊎_elim
-        (λ o. o)
-        (λ (v, w, o, r). absurd (let s = same_Some x k (sym u ∙ ap (λ (z : Place). z.user) r) in omega (arith, l, s)))
-        (entry j q t)
+  -- a place of an operation is that of an operand
+  by_operation : (k : ℕ) (q : Place) (x : ℕ) → slice_get (all_places p) k ≡ Some q → q.user ≡ Some x → slice_get operands k ≡ Some q
+  by_operation k q x e u = ⊎_elim
+      (λ f. f)
+      (λ (v, w, f). let m = get_mapped kept_place p.kept.items v q f in absurd (none-some x (sym (ap (λ (z : Place). z.user) m.2) ∙ u)))
+      (get_cases operands others k q e)
 
-    last : (x j : ℕ) → x ≡ k → Contains row j → (q : Place) × (slice_get new j ≡ Some q) × (q.user ≡ Some x)
-    last x j w c =
-        let h = (f j).0 c in let q = get_or new j default in let t = slice_get-get_or new j default h.1 in (
-          q,
-          t,
-          ⊎_elim
-              (λ o. absurd (let l = slice_get_within places j q o in let m = h.0 in omega (arith, l, m)))
-              (λ (v, n, o, r). ap (λ (z : Place). z.user) r ∙ ap Some (sym w))
-              (entry j q t),
-        )
+  -- all places are uses, and each use has a place
+  pub place_is : (k : ℕ) (q : Place) → slice_get (all_places p) k ≡ Some q → IsPlace p q
+  place_is k q e = ⊎_elim
+      (λ f. let s = numbered 0 p.operations k q f in let n : 0 + s.step ≡ s.step = omega arith in inl (s.step, s.user ∙ ap Some n, record { candidate = s.candidate; there = s.there; operand = get_contains s.candidate.operands s.index q.operand s.operand }))
+      (λ (v, w, f). let m = get_mapped kept_place p.kept.items v q f in inr (
+        ap (λ (z : Place). z.user) m.2,
+        ap (λ (z : Place). z.operand.argument) m.2,
+        get_contains p.kept.items v q.operand.definer (m.1 ∙ ap (λ (z : Place). Some z.operand.definer) (sym m.2)),
+      ))
+      (get_cases operands others k q e)
 
-    back_last : (x j : ℕ) → x ≡ k → (q : Place) × (slice_get new j ≡ Some q) × (q.user ≡ Some x) → Contains row j
-    back_last x j w (q, t, u) = ⊎_elim
-        (λ o. absurd (let r = a.sound q (j, slice_get_within places j q o, get_or_from_slice_get places j q q o) in let s = same_Some r.0 x (sym r.2 ∙ u) in let l = r.1 in omega (arith, s, l, w)))
-        (λ (v, n, o, r). (f j).1 (omega (arith, n), slice_get_within new j q t))
-        (entry j q t)
+  pub is_place : (q : Place) → IsPlace p q → (k : ℕ) × (slice_get (all_places p) k ≡ Some q)
+  is_place q h = ⊎_elim
+      (λ (i, u, o). let c = contains_get o.candidate.operands q.operand o.operand in let n : 0 + i ≡ i = omega arith in (
+        operands_before p.operations i + c.0,
+        front (operands_before p.operations i + c.0) q (there_numbered 0 p.operations i c.0 o.candidate q.operand o.there c.1 ∙ ap (λ m. Some (operand_place m q.operand)) n ∙ ap Some (sym (same_operand q i u))),
+      ))
+      (λ (u, a, d). let c = contains_get p.kept.items q.operand.definer d in (
+        length operands + c.0,
+        get_behind operands others c.0 ∙ mapped_get kept_place p.kept.items c.0 q.operand.definer c.1 ∙ ap Some (sym (same_kept q u a)),
+      ))
+      h
 
-pub numbering_ends : (places new : List Place) (kept : List Definer) (k n : ℕ) (rows : List (List ℕ)) → new ≡ places ++ map kept_place kept → k ≡ n → AreByUser places k rows → AreByUser new n rows
-numbering_ends places new kept k n rows e m b = record {
-  len = b.len ∙ m;
-  exact = λ x j h. let l : x < k = omega (arith, h, m) in (
-    (λ c. let r = (b.exact x j l).0 c in (r.0, ap (λ xs. slice_get xs j) e ∙ get_front places (map kept_place kept) j (slice_get_within places j r.0 r.1) ∙ r.1, r.2)),
-    (λ (q, t, u). (b.exact x j l).1 (
-      q,
-      ⊎_elim
-          (λ o. o)
-          (λ (v, w, d, r). absurd (none-some x (sym (ap (λ (z : Place). z.user) r) ∙ u)))
-          (old_or_new kept_place places kept j q (sym (ap (λ xs. slice_get xs j) e) ∙ t)),
-      u,
-    )),
-  );
-}
+  -- the places of an operation are those between what is before it and what is before the next
+  pub user_between : (k : ℕ) (q : Place) (x : ℕ) → slice_get (all_places p) k ≡ Some q → q.user ≡ Some x → (operands_before p.operations x ≤ k) × (k < operands_before p.operations (suc x))
+  user_between k q x e u =
+      let s = numbered 0 p.operations k q (by_operation k q x e u) in
+      let y : s.step ≡ x = (let n = same_Some (0 + s.step) x (sym s.user ∙ u) in omega (arith, n)) in
+      let b = before_more p.operations s.step s.candidate s.there in
+      let l = slice_get_within s.candidate.operands s.index q.operand s.operand in
+      let n = s.number in
+      subst (λ z. (operands_before p.operations z ≤ k) × (k < operands_before p.operations (suc z))) y (omega (arith, n), omega (arith, n, b, l))
+
+  pub between_user : (k x : ℕ) → x < length p.operations → operands_before p.operations x ≤ k → k < operands_before p.operations (suc x) → (q : Place) × (slice_get (all_places p) k ≡ Some q) × (q.user ≡ Some x)
+  between_user k x h f t =
+      let c = there_is p.operations x h in
+      let b = before_more p.operations x c.0 c.1 in
+      let v : (v : ℕ) × (k ≡ operands_before p.operations x + v) = ⊎_elim (λ l. absurd (omega (arith, l, f))) (λ r. r) (below_or_at (operands_before p.operations x) k) in
+      let o = there_is c.0.operands v.0 (let e = v.1 in omega (arith, e, b, t)) in
+      let n : 0 + x ≡ x = omega arith in
+      (operand_place x o.0, front k (operand_place x o.0) (ap (slice_get operands) v.1 ∙ there_numbered 0 p.operations x v.0 c.0 o.0 c.1 o.1 ∙ ap (λ m. Some (operand_place m o.0)) n), refl)
+
+  pub before_rises : (x : ℕ) → x < length p.operations → operands_before p.operations x ≤ operands_before p.operations (suc x)
+  before_rises x h = let c = there_is p.operations x h in let b = before_more p.operations x c.0 c.1 in omega (arith, b)
+
+  pub before_within : (x : ℕ) → operands_before p.operations x ≤ length (all_places p)
+  before_within x = let b = before_all 0 p.operations x in let a = length-append operands others in omega (arith, b, a)
+
+  -- a place that is forwarded is that of the operand with its number
+  pub forwarded_there : (k : ℕ) (q : Place) (v : ℕ) → slice_get (all_places p) k ≡ Some q → q.operand.argument ≡ Some v → slice_get (all_operands p.operations) k ≡ Some q.operand
+  forwarded_there k q v e a = ⊎_elim
+      (λ f. operand_there 0 p.operations k q f)
+      (λ (w, n, f). let m = get_mapped kept_place p.kept.items w q f in absurd (none-some v (sym (ap (λ (z : Place). z.operand.argument) m.2) ∙ a)))
+      (get_cases operands others k q e)
+
+  pub there_forwarded : (k : ℕ) (o : Operand) → slice_get (all_operands p.operations) k ≡ Some o → (q : Place) × (slice_get (all_places p) k ≡ Some q) × (q.operand ≡ o)
+  there_forwarded k o e = let r = place_there 0 p.operations k o e in (r.0, front k r.0 r.1, r.2)

@@ -149,7 +149,7 @@ module _ (keeps : List (List ℕ)) (excused : List Bool) (old : List ℕ) (u : W
     enough = λ x. let l = ok.places in let q = keeping_less excused keeps k x (omega (arith, h, l)) e in let n = ok.enough x in omega (arith, q, n);
   }
 
-  pub place_excused : (k : ℕ) (new : List ℕ) (w : Worklist) → k < length keeps → get_or excused k false ≡ false → Releases (row_at keeps k) old new u w → ExcusesAll keeps (k ∷ []) excused (set excused k true) old new u w
+  pub place_excused : (k : ℕ) (new : List ℕ) (w : Worklist) → k < length keeps → get_or excused k false ≡ false → Releases (row_at keeps k) old new u w → ExcusesAll keeps (λ j. j ≡ k) excused (set excused k true) old new u w
   place_excused k new w h e s = record {
     counted = record {
       places = length-set excused k true ∙ ok.places;
@@ -159,8 +159,8 @@ module _ (keeps : List (List ℕ)) (excused : List Bool) (old : List ℕ) (u : W
     };
     len = s.len;
     marked = λ j. (
-      (λ m. ⊎_elim (λ o. inl o) (λ t. inr (subst (Contains (k ∷ [])) (sym t) (Contains-push [] k))) (mark_only excused k j m)),
-      (λ m. ⊎_elim (λ o. mark_kept excused k j o) (λ c. subst (IsMarked (set excused k true)) (sym (only_one k j c)) (mark_put excused k here)) m),
+      (λ m. ⊎_elim (λ o. inl o) (λ t. inr t) (mark_only excused k j m)),
+      (λ m. ⊎_elim (λ o. mark_kept excused k j o) (λ c. subst (IsMarked (set excused k true)) (sym c) (mark_put excused k here)) m),
     );
     counts = λ x. let q = less x in let c = s.counts x in omega (arith, q, c);
     less = λ x. let c = s.counts x in omega (arith, c);
@@ -180,8 +180,8 @@ module _ (keeps : List (List ℕ)) (excused : List Bool) (old : List ℕ) (u : W
       less x = keeping_less excused keeps k x here e
 
   -- the places were excused already
-  pub nothing_excused : (ks : List ℕ) → ((k : ℕ) → Contains ks k → IsMarked excused k) → ExcusesAll keeps ks excused excused old old u u
-  nothing_excused ks f = record {
+  pub nothing_excused : (Such : ℕ → Type 0) → ((k : ℕ) → Such k → IsMarked excused k) → ExcusesAll keeps Such excused excused old old u u
+  nothing_excused Such f = record {
     counted = ok;
     len = refl;
     marked = λ j. ((λ m. inl m), (λ m. ⊎_elim (λ o. o) (λ c. f j c) m));
@@ -193,31 +193,45 @@ module _ (keeps : List (List ℕ)) (excused : List Bool) (old : List ℕ) (u : W
     all = λ x z. inl z;
   }
 
-pub places_excused : (keeps : List (List ℕ)) (ks : List ℕ) (i k : ℕ) (p q r : List Bool) (a b c : List ℕ) (u v w : Worklist) → i < length ks → k ≡ get_or ks i k
-    → ExcusesAll keeps (take i ks) p q a b u v → ExcusesAll keeps (k ∷ []) q r b c v w → ExcusesAll keeps (take (i + 1) ks) p r a c u w
-places_excused keeps ks i k p q r a b c u v w h e s t = subst (λ xs. ExcusesAll keeps xs p r a c u w) (sym (take_more ks i k h ∙ ap (λ z. take i ks ++ z ∷ []) (sym e))) (record {
-  counted = t.counted;
-  len = t.len ∙ s.len;
-  marked = λ j. (
-    (λ m. ⊎_elim
-        (λ m. ⊎_elim (λ m. inl m) (λ m. inr (Contains-append_left (take i ks) (k ∷ []) j m)) ((s.marked j).0 m))
-        (λ m. inr (Contains-append_right (take i ks) (k ∷ []) j m))
-        ((t.marked j).0 m)),
-    (λ m. ⊎_elim
-        (λ m. (t.marked j).1 (inl ((s.marked j).1 (inl m))))
-        (λ m. ⊎_elim (λ m. (t.marked j).1 (inl ((s.marked j).1 (inr m)))) (λ m. (t.marked j).1 (inr m)) (Contains-append_cases (take i ks) (k ∷ []) j m))
-        m),
-  );
-  counts = λ x. let m = s.counts x in let n = t.counts x in omega (arith, m, n);
-  less = λ x. let m = s.less x in let n = t.less x in omega (arith, m, n);
-  added = s.added ++ t.added;
-  adds = added_more u v w s.added t.added (s.added ++ t.added) refl s.adds t.adds;
-  spent = λ x m. ⊎_elim
-      (λ m. let z = s.spent x m in let l = t.less x in let n = t.len in (omega (arith, z.0, l), omega (arith, z.1, n)))
-      (λ m. t.spent x m)
-      (Contains-append_cases s.added t.added x m);
-  all = λ x z. ⊎_elim
-      (λ y. ⊎_elim (λ y. inl y) (λ m. inr (Contains-append_left s.added t.added x m)) (s.all x y))
-      (λ m. inr (Contains-append_right s.added t.added x m))
-      (t.all x z);
-})
+module _ (keeps : List (List ℕ)) (P Q R : ℕ → Type 0) where
+  pub excused_then : ((k : ℕ) → P k → R k) → ((k : ℕ) → Q k → R k) → ((k : ℕ) → R k → P k ⊎ Q k) → (p q r : List Bool) (a b c : List ℕ) (u v w : Worklist) → ExcusesAll keeps P p q a b u v → ExcusesAll keeps Q q r b c v w → ExcusesAll keeps R p r a c u w
+  excused_then f g h p q r a b c u v w s t = record {
+    counted = t.counted;
+    len = t.len ∙ s.len;
+    marked = λ j. (
+      (λ m. ⊎_elim
+          (λ m. ⊎_elim (λ m. inl m) (λ m. inr (f j m)) ((s.marked j).0 m))
+          (λ m. inr (g j m))
+          ((t.marked j).0 m)),
+      (λ m. ⊎_elim
+          (λ m. (t.marked j).1 (inl ((s.marked j).1 (inl m))))
+          (λ m. ⊎_elim (λ m. (t.marked j).1 (inl ((s.marked j).1 (inr m)))) (λ m. (t.marked j).1 (inr m)) (h j m))
+          m),
+    );
+    counts = λ x. let m = s.counts x in let n = t.counts x in omega (arith, m, n);
+    less = λ x. let m = s.less x in let n = t.less x in omega (arith, m, n);
+    added = s.added ++ t.added;
+    adds = added_more u v w s.added t.added (s.added ++ t.added) refl s.adds t.adds;
+    spent = λ x m. ⊎_elim
+        (λ m. let z = s.spent x m in let l = t.less x in let n = t.len in (omega (arith, z.0, l), omega (arith, z.1, n)))
+        (λ m. t.spent x m)
+        (Contains-append_cases s.added t.added x m);
+    all = λ x z. ⊎_elim
+        (λ y. ⊎_elim (λ y. inl y) (λ m. inr (Contains-append_left s.added t.added x m)) (s.all x y))
+        (λ m. inr (Contains-append_right s.added t.added x m))
+        (t.all x z);
+  }
+
+module _ (keeps : List (List ℕ)) (P Q : ℕ → Type 0) where
+  pub excused_as : ((k : ℕ) → P k → Q k) → ((k : ℕ) → Q k → P k) → (p q : List Bool) (a b : List ℕ) (u v : Worklist) → ExcusesAll keeps P p q a b u v → ExcusesAll keeps Q p q a b u v
+  excused_as f g p q a b u v s = record {
+    counted = s.counted;
+    len = s.len;
+    marked = λ j. ((λ m. ⊎_elim (λ m. inl m) (λ m. inr (f j m)) ((s.marked j).0 m)), (λ m. (s.marked j).1 (⊎_elim (λ m. inl m) (λ m. inr (g j m)) m)));
+    counts = s.counts;
+    less = s.less;
+    added = s.added;
+    adds = s.adds;
+    spent = s.spent;
+    all = s.all;
+  }

@@ -11,7 +11,8 @@ use Rattle.opt_solvers.specs.declared.facts_tables.Slot.{Slot}
 use Rattle.opt_solvers.specs.declared.facts_tables.Tables.{Tables}
 use Rattle.opt_solvers.specs.Rows.{listed, row_at}
 use Rattle.opt_solvers.specs.Facts.{arguments_of}
-use Rattle.opt_solvers.specs.FactsTables.{Gains, IsIn, Reads, ForwardsTo, ForwardsAlong, IsForwarded, Lists, AreTables, AddsRow, HoldRows}
+use Rattle.opt_solvers.specs.LinkedRows.{Gains, Lists}
+use Rattle.opt_solvers.specs.FactsTables.{IsIn, Reads, ForwardsTo, ForwardsAlong, IsForwarded, AreTables, AddsRow, HoldRows}
 use Rattle.opt_solvers.proofs.FactsFalling.{decide}
 use Rattle.opt_solvers.proofs.FactsEntering.{next_of}
 

@@ -1,5 +1,5 @@
 -- Operations as dead code elimination sees them, and the lists that they are kept in.
-use Rattle.std.specs.Prelude.{◌≡◌, ℕ, Bool, List, [], ◌∷◌, length, Option, Some, None}
+use Rattle.std.specs.Prelude.{◌≡◌, ◌+◌, ℕ, zero, suc, Bool, List, [], ◌∷◌, ◌++◌, length, Option, Some, None}
 use Rattle.opt_solvers.specs.declared.dead_problem.Operand.{Operand}
 use Rattle.opt_solvers.specs.Rows.{AreEnds}
 
@@ -22,6 +22,17 @@ around_of (Some c) = c.around
 abbrev pub operands_of : Option Candidate → List Operand
 operands_of None = []
 operands_of (Some c) = c.operands
+
+-- the operands of all operations, one after the other
+abbrev pub all_operands : List Candidate → List Operand
+all_operands [] = []
+all_operands (c ∷ cs) = c.operands ++ all_operands cs
+
+-- how many operands the operations before the one with this number have
+abbrev pub operands_before : List Candidate → ℕ → ℕ
+operands_before cs zero = 0
+operands_before [] (suc i) = 0
+operands_before (c ∷ cs) (suc i) = length c.operands + operands_before cs i
 
 -- the operations of which these lists say in turn whether each may go, what it is in, and what it uses
 abbrev pub candidates_of : List Bool → List (Option ℕ) → List (List Operand) → List Candidate

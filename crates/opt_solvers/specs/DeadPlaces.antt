@@ -1,15 +1,19 @@
 -- The uses of values, and the items that each of them keeps.
-use Rattle.std.specs.Prelude.{◌≡◌, ◌⊎◌, ◌<◌, ◌≤◌, ◌+◌, ℕ, List, length, Option, Some, None, slice_get, Contains, ◌↔◌}
+use Rattle.std.specs.Prelude.{◌≡◌, ◌⊎◌, ◌<◌, ◌≤◌, ◌+◌, ℕ, suc, List, [], ◌∷◌, ◌++◌, length, map, Option, Some, None, slice_get, Contains, ◌↔◌}
 use Rattle.digraph.specs.Counts.{count_of}
 use Rattle.opt_solvers.specs.declared.dead_problem.Definer.{Definer}
 use Rattle.opt_solvers.specs.declared.dead_problem.Definer.TheVariants.{Result, Argument as ByArgument, Outside}
 use Rattle.opt_solvers.specs.declared.dead_problem.Operand.{Operand}
 use Rattle.opt_solvers.specs.declared.dead_problem.Argument.{Argument}
 use Rattle.opt_solvers.specs.declared.dead_problem.DeadProblem.{DeadProblem}
-use Rattle.opt_solvers.specs.declared.dead_places.Place.{Place}
-use Rattle.opt_solvers.specs.DeadCandidates.{around_of}
+use Rattle.opt_solvers.specs.DeadCandidates.{Candidate, around_of}
 use Rattle.opt_solvers.specs.Rows.{row_at}
 use Rattle.opt_solvers.specs.Dead.{HasOperand, IsIn}
+
+-- a use of a value: by the operation whose operand it is, or by none, from outside or by the root
+pub record Place : Type 0 where
+  pub user : Option ℕ
+  pub operand : Operand
 
 -- the place of an operand
 abbrev pub operand_place : ℕ → Operand → Place
@@ -18,6 +22,15 @@ operand_place user o = record { user = Some user; operand = o }
 -- the place of a use from outside or by the root
 abbrev pub kept_place : Definer → Place
 kept_place d = record { user = None; operand = record { definer = d; argument = None } }
+
+-- the places of the operands of operations in turn, the first of which has this number
+abbrev pub operand_places : ℕ → List Candidate → List Place
+operand_places i [] = []
+operand_places i (c ∷ cs) = map (operand_place i) c.operands ++ operand_places (suc i) cs
+
+-- all uses: the operands of all operations, and behind them the uses from outside and by the root
+abbrev pub all_places : DeadProblem → List Place
+all_places p = operand_places 0 p.operations ++ map kept_place p.kept.items
 
 -- an operand of an operation
 abbrev pub IsOperandPlace : DeadProblem → Place → Type 0
@@ -76,13 +89,13 @@ IsAround p from a = (j : ℕ) × (from ≡ Some j) × IsIn p a j
 abbrev pub IsBetween : DeadProblem → Option ℕ → Option ℕ → ℕ → Type 0
 IsBetween p inner outer x = IsAround p inner x × (IsAround p outer x → ⊥)
 
--- the place keeps the item that makes the value, and what is around this and not around the user
-abbrev pub Keeps : DeadProblem → Place → ℕ → Type 0
-Keeps p q x = (maker p q.operand.definer ≡ Some x) ⊎ IsBetween p (around_definer p q.operand.definer) (around_user p q.user) x
+-- a use keeps the item that makes the value, and what is around this and not around the user
+abbrev pub Keeps : DeadProblem → Option ℕ → Definer → ℕ → Type 0
+Keeps p user d x = (maker p d ≡ Some x) ⊎ IsBetween p (around_definer p d) (around_user p user) x
 
--- the items that a place keeps, each once
-pub record KeepsRow (p : DeadProblem) (q : Place) (row : List ℕ) : Type 0 where
-  pub exact : (x : ℕ) → Contains row x ↔ Keeps p q x
+-- the items that a use keeps, each once
+pub record KeepsRow (p : DeadProblem) (user : Option ℕ) (d : Definer) (row : List ℕ) : Type 0 where
+  pub exact : (x : ℕ) → Contains row x ↔ Keeps p user d x
   pub within : (x : ℕ) → Contains row x → x < items p
   pub once : (x : ℕ) → count_of x row ≤ 1
 
@@ -115,9 +128,8 @@ pub record Crosses (p : DeadProblem) (inner outer : Option ℕ) (old new : List 
 -- row by row, the items that each place keeps
 pub record AreKept (p : DeadProblem) (places : List Place) (rows : List (List ℕ)) : Type 0 where
   pub len : length rows ≡ length places
-  pub row : (k : ℕ) (q : Place) → slice_get places k ≡ Some q → KeepsRow p q (row_at rows k)
+  pub row : (k : ℕ) (q : Place) → slice_get places k ≡ Some q → KeepsRow p q.user q.operand.definer (row_at rows k)
 
--- row by row, the numbers of the places of each of so many operations
-pub record AreByUser (places : List Place) (count : ℕ) (rows : List (List ℕ)) : Type 0 where
-  pub len : length rows ≡ count
-  pub exact : (x k : ℕ) → x < count → Contains (row_at rows x) k ↔ (q : Place) × (slice_get places k ≡ Some q) × (q.user ≡ Some x)
+-- behind the rows of any places there are now those of these
+abbrev pub KeepMore : DeadProblem → List Place → List (List ℕ) → List (List ℕ) → Type 0
+KeepMore p more old new = (places : List Place) → AreKept p places old → AreKept p (places ++ more) new

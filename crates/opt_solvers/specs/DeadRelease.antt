@@ -46,11 +46,11 @@ pub record IsCounted (keeps : List (List ℕ)) (excused : List Bool) (uses : Lis
   pub within : (k x : ℕ) → Contains (row_at keeps k) x → x < length uses
   pub enough : (x : ℕ) → keeping excused keeps x ≤ slice_index uses x
 
--- some places more are excused, the items that they keep lose their uses, and those without uses are added to the work
-pub record ExcusesAll (keeps : List (List ℕ)) (places : List ℕ) (excused more : List Bool) (old new : List ℕ) (before after : Worklist) : Type 0 where
+-- such places are excused too, the items that they keep lose their uses, and those without uses are added to the work
+pub record ExcusesAll (keeps : List (List ℕ)) (Such : ℕ → Type 0) (excused more : List Bool) (old new : List ℕ) (before after : Worklist) : Type 0 where
   pub counted : IsCounted keeps more new after
   pub len : length new ≡ length old
-  pub marked : (k : ℕ) → IsMarked more k ↔ IsMarked excused k ⊎ Contains places k
+  pub marked : (k : ℕ) → IsMarked more k ↔ IsMarked excused k ⊎ Such k
   pub counts : (x : ℕ) → slice_index new x + keeping excused keeps x ≡ slice_index old x + keeping more keeps x
   pub less : (x : ℕ) → slice_index new x ≤ slice_index old x
   pub added : List ℕ
@@ -62,5 +62,5 @@ pub record ExcusesAll (keeps : List (List ℕ)) (places : List ℕ) (excused mor
 abbrev pub AreCounts : List (List ℕ) → Counts → Type 0
 AreCounts keeps c = IsCounted keeps c.excused.items c.uses.items c.work
 
-abbrev pub ExcusesMore : List (List ℕ) → List ℕ → Counts → Counts → Type 0
-ExcusesMore keeps places a b = ExcusesAll keeps places a.excused.items b.excused.items a.uses.items b.uses.items a.work b.work
+abbrev pub ExcusesMore : List (List ℕ) → (ℕ → Type 0) → Counts → Counts → Type 0
+ExcusesMore keeps Such a b = ExcusesAll keeps Such a.excused.items b.excused.items a.uses.items b.uses.items a.work b.work

@@ -1,12 +1,16 @@
--- What each item excuses once it goes, row by row.
-use Rattle.std.specs.Prelude.{◌≡◌, ◌⊎◌, ℕ, List, length, Option, Some, None, slice_get, Contains, ◌↔◌}
-use Rattle.std.specs.declared.vec.Vec.{Vec}
-use Rattle.std.specs.declared.alloc.Global.{Global}
-use Rattle.digraph.specs.Graph.{successors}
+-- What each item excuses once it goes, and what goes with it.
+use Rattle.std.specs.Prelude.{◌≡◌, ◌⊎◌, ℕ, List, length, Option, Some, None, slice_get}
+use Rattle.digraph.specs.Work.{Adds}
+use Rattle.digraph.specs.declared.worklist.Worklist.{Worklist}
+use Rattle.opt_solvers.specs.declared.dead_problem.Operand.{Operand}
 use Rattle.opt_solvers.specs.declared.dead_problem.DeadProblem.{DeadProblem}
-use Rattle.opt_solvers.specs.declared.dead_places.Place.{Place}
-use Rattle.opt_solvers.specs.DeadPlaces.{slot, items, around_operation}
+use Rattle.opt_solvers.specs.declared.dead_release.Counts.{Counts}
+use Rattle.opt_solvers.specs.declared.dead_items.DeadTables.{DeadTables}
 use Rattle.opt_solvers.specs.Rows.{row_at}
+use Rattle.opt_solvers.specs.LinkedRows.{Lists}
+use Rattle.opt_solvers.specs.DeadCandidates.{all_operands}
+use Rattle.opt_solvers.specs.DeadPlaces.{Place, all_places, slot, around_operation, AreKept}
+use Rattle.opt_solvers.specs.DeadRelease.{ExcusesAll}
 
 -- the number of an argument among the items, if there is one
 abbrev pub slot_of : DeadProblem → Option ℕ → Option ℕ
@@ -17,19 +21,30 @@ slot_of p (Some v) = Some (slot p v)
 abbrev pub Excuses : DeadProblem → Place → ℕ → Type 0
 Excuses p q x = (q.user ≡ Some x) ⊎ (slot_of p q.operand.argument ≡ Some x)
 
--- of so many rows, row x has exactly the numbers i with From i x
-pub record AreRows (From : ℕ → ℕ → Type 0) (count many : ℕ) (row : ℕ → List ℕ) : Type 0 where
-  pub len : many ≡ count
-  pub exact : (x i : ℕ) → Contains (row x) i ↔ From i x
+-- the number is that of a place that the item excuses
+abbrev pub IsExcusedBy : DeadProblem → ℕ → ℕ → Type 0
+IsExcusedBy p x k = (q : Place) × (slice_get (all_places p) k ≡ Some q) × Excuses p q x
 
--- the numbers of the places that each item excuses
-abbrev pub AreExcused : DeadProblem → List Place → List (List ℕ) → Type 0
-AreExcused p places rows = AreRows (λ k x. (q : Place) × (slice_get places k ≡ Some q) × Excuses p q x) (items p) (length rows) (row_at rows)
+-- the operand with this number is forwarded to the argument
+abbrev pub ForwardsOperand : List Operand → ℕ → ℕ → Type 0
+ForwardsOperand operands v k = (o : Operand) × (slice_get operands k ≡ Some o) × (o.argument ≡ Some v)
 
--- the numbers of the places that are forwarded to each argument
-abbrev pub AreForwarded : DeadProblem → List Place → List (Vec ℕ Global) → Type 0
-AreForwarded p places rows = AreRows (λ k v. (q : Place) × (slice_get places k ≡ Some q) × (q.operand.argument ≡ Some v)) (length p.arguments.items) (length rows) (successors rows)
+-- the numbers of the operands that are forwarded to each argument
+abbrev pub AreForwarded : DeadProblem → List (List ℕ) → Type 0
+AreForwarded p rows = Lists (ForwardsOperand (all_operands p.operations)) rows (length p.arguments.items)
 
 -- the operations that are directly in each operation
-abbrev pub AreInner : DeadProblem → List (Vec ℕ Global) → Type 0
-AreInner p rows = AreRows (λ i x. around_operation p i ≡ Some x) (length p.operations) (length rows) (successors rows)
+abbrev pub AreInner : DeadProblem → List (List ℕ) → Type 0
+AreInner p rows = Lists (λ x i. around_operation p i ≡ Some x) rows (length p.operations)
+
+-- what each place keeps, which are forwarded to each argument, and what is in each operation
+pub record AreDeadTables (p : DeadProblem) (t : DeadTables) : Type 0 where
+  pub kept : AreKept p (all_places p) t.keeps
+  pub forwarded : AreForwarded p t.forwarded
+  pub inner : AreInner p t.inner
+
+-- an item goes: what it excuses is excused, and what is directly in it is added to the work
+pub record LetsGo (p : DeadProblem) (t : DeadTables) (item : ℕ) (old new : Counts) : Type 0 where
+  pub between : Worklist
+  pub excuses : ExcusesAll t.keeps (IsExcusedBy p item) old.excused.items new.excused.items old.uses.items new.uses.items old.work between
+  pub adds : Adds between new.work (row_at t.inner item)

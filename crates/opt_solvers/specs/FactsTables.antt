@@ -5,15 +5,8 @@ use Rattle.opt_solvers.specs.declared.facts_problem.FactsProblem.{FactsProblem}
 use Rattle.opt_solvers.specs.declared.facts_tables.Place.{Place}
 use Rattle.opt_solvers.specs.declared.facts_tables.Slot.{Slot}
 use Rattle.opt_solvers.specs.declared.facts_tables.Tables.{Tables}
-use Rattle.opt_solvers.specs.Rows.{row_at}
+use Rattle.opt_solvers.specs.LinkedRows.{Gains, Lists}
 use Rattle.opt_solvers.specs.Facts.{arguments_of}
-
--- the rows gain exactly such items
-pub record Gains {X : Type 0} (such : ℕ → X → Type 0) (old new : List (List X)) : Type 0 where
-  pub len : length new ≡ length old
-  pub keeps : (n : ℕ) (x : X) → Contains (row_at old n) x → Contains (row_at new n) x
-  pub has : (n : ℕ) (x : X) → such n x → Contains (row_at new n) x
-  pub only : (n : ℕ) (x : X) → Contains (row_at new n) x → Contains (row_at old n) x ⊎ such n x
 
 -- the operation with this number is in the block
 pub record IsIn (rows : List Row) (b i : ℕ) : Type 0 where
@@ -58,12 +51,6 @@ SlotsOfEdge number edge arguments indices operands v x = (x.row ≡ number) × (
 -- slots of an operation that the value is forwarded to
 abbrev pub SlotsOf : FactsProblem → ℕ → List Edge → List ℕ → ℕ → Slot → Type 0
 SlotsOf p number edges operands v x = (x.row ≡ number) × ForwardsAlong p edges operands v x.edge x.argument
-
--- a row of the table lists exactly such items
-pub record Lists {X : Type 0} (such : ℕ → X → Type 0) (t : List (List X)) (count : ℕ) : Type 0 where
-  pub len : length t ≡ count
-  pub has : (n : ℕ) (x : X) → such n x → Contains (row_at t n) x
-  pub only : (n : ℕ) (x : X) → Contains (row_at t n) x → such n x
 
 -- the tables list the operations of each block, the places that read each value, and the slots that it is forwarded to
 pub record AreTables (p : FactsProblem) (t : Tables) : Type 0 where

@@ -1,6 +1,7 @@
 -- Rows whose items are linked in one list.
-use Rattle.std.specs.Prelude.{◌≡◌, ◌≤◌, ℕ, zero, suc, List, [], ◌∷◌, length, Some, slice_get, unwrap_or, option_map}
+use Rattle.std.specs.Prelude.{◌≡◌, ◌⊎◌, ◌≤◌, ℕ, zero, suc, List, [], ◌∷◌, length, Some, slice_get, unwrap_or, option_map, Contains}
 use Rattle.opt_solvers.specs.declared.linked_rows.Linked.{Linked}
+use Rattle.opt_solvers.specs.Rows.{row_at}
 
 -- at most so many items, from a link on: the link is one more than the index of the first, or 0 where there is none
 abbrev pub some_items : {X : Type 0} → ℕ → List (Linked X) → ℕ → List X
@@ -20,3 +21,16 @@ LeadBack {X} links = (i : ℕ) (l : Linked X) → slice_get links i ≡ Some l �
 pub record AreLinked {X : Type 0} (links : List (Linked X)) (firsts : List ℕ) : Type 0 where
   pub back : LeadBack links
   pub inside : (i first : ℕ) → slice_get firsts i ≡ Some first → first ≤ length links
+
+-- the rows gain exactly such items
+pub record Gains {X : Type 0} (such : ℕ → X → Type 0) (old new : List (List X)) : Type 0 where
+  pub len : length new ≡ length old
+  pub keeps : (n : ℕ) (x : X) → Contains (row_at old n) x → Contains (row_at new n) x
+  pub has : (n : ℕ) (x : X) → such n x → Contains (row_at new n) x
+  pub only : (n : ℕ) (x : X) → Contains (row_at new n) x → Contains (row_at old n) x ⊎ such n x
+
+-- a row of the table lists exactly such items
+pub record Lists {X : Type 0} (such : ℕ → X → Type 0) (t : List (List X)) (count : ℕ) : Type 0 where
+  pub len : length t ≡ count
+  pub has : (n : ℕ) (x : X) → such n x → Contains (row_at t n) x
+  pub only : (n : ℕ) (x : X) → Contains (row_at t n) x → such n x

@@ -1,6 +1,6 @@
 //! Operations as dead code elimination sees them, in lists of all of them.
-ghost use Rattle.std.specs.Prelude.{◌≡◌, ◌<◌, ◌^◌, ◌++◌, ◌∷◌, [], length, map, slice_get, OnOk, OnErr, IfOk};
-ghost use Rattle.opt_solvers.specs.DeadCandidates.{may_go_of, around_of, operands_of};
+ghost use Rattle.std.specs.Prelude.{◌≡◌, ◌≤◌, ◌<◌, ◌^◌, ◌++◌, ◌∷◌, [], length, map, slice_get, OnOk, OnErr, IfOk};
+ghost use Rattle.opt_solvers.specs.DeadCandidates.{may_go_of, around_of, operands_of, all_operands, operands_before};
 
 use crate::dead_problem::Operand;
 use crate::number_rows::start_of;
@@ -83,6 +83,25 @@ impl Candidates {
     {
         let start = start_of(&self.ends, number);
         &self.operands[start..self.ends[number]]
+    }
+
+    /// The operands of all operations, one after the other.
+    pub fn all_operands(&self) -> &[Operand]
+        ensures { result.now ≡ all_operands self.now }
+    {
+        &self.operands
+    }
+
+    /// How many operands the operations before one have.
+    pub fn operands_before(&self, number: usize) -> usize
+        requires { number ≤ length self.now }
+        ensures { result ≡ operands_before self.now number }
+    {
+        if number == 0 {
+            0
+        } else {
+            self.ends[number - 1]
+        }
     }
 
     /// Puts an operation behind the others.

@@ -1,18 +1,32 @@
 //! The dead operations and arguments.
-ghost use Rattle.std.specs.Prelude.{◌≡◌, ◌≤◌, ◌<◌, All, IfOk, OnOk, length, map, nat_eq};
-ghost use Rattle.digraph.specs.Graph.{successors};
+ghost use Rattle.std.specs.Prelude.{ℕ, ◌≡◌, ◌≤◌, ◌<◌, Contains, IfOk, OnOk, length, map, nat_eq};
 ghost use Rattle.digraph.specs.Work.{Adds};
 ghost use Rattle.opt_solvers.specs.Dead.{IsDeadProblem};
 ghost use Rattle.opt_solvers.specs.DeadItems.{AreDead, AreMarked};
+ghost use Rattle.opt_solvers.specs.DeadPlaces.{items};
+ghost use Rattle.opt_solvers.specs.DeadRelease.{AreCounts};
+ghost use Rattle.opt_solvers.specs.DeadRows.{AreDeadTables, LetsGo};
 
 use crate::dead_kept::kept_rows;
-use crate::dead_places::{Places, places_of};
 use crate::dead_problem::{DeadItems, DeadProblem};
-use crate::dead_release::{Counts, excuse_all, started};
-use crate::dead_rows::{excused_rows, inner_rows};
+use crate::dead_release::{Counts, excuse_between, excuse_row, started};
+use crate::dead_rows::{forwarded_rows, inner_rows};
 use crate::dead_uses::count_uses;
+use crate::linked_rows::{LinkedRows, RowItems};
+use crate::number_rows::NumberRows;
 use digraph::Worklist;
 use std::alloc::{AllocError, Global};
+
+/// What is known of uses and items before any item goes.
+#[derive(Drop)]
+struct DeadTables {
+    /// The items that each use keeps.
+    keeps: NumberRows,
+    /// The uses that are forwarded to each argument.
+    forwarded: LinkedRows<usize>,
+    /// The operations that are directly in each operation.
+    inner: LinkedRows<usize>,
+}
 
 /// Of each count, whether it is zero.
 fn zeros(alloc: Global, counts: &[usize]) -> Result<Vec<bool>, AllocError>
@@ -32,15 +46,42 @@ fn unused(alloc: Global, operations: usize, uses: &[usize]) -> Result<DeadItems,
     })
 }
 
-/// Adds the operations that are directly in an item to those that have died. Nothing is in an argument.
-fn add_inside(work: &mut Worklist, inner: &[Vec<usize>], item: usize) -> Result<(), AllocError>
-    requires { All (λ k. k < length work.old.marked.items) (successors inner.now item) }
-    ensures { OnOk result (Adds work.old work.new (successors inner.now item)) }
+/// Adds the operations of a row to those that have died.
+fn add_inside(work: &mut Worklist, inside: RowItems<'_, usize>) -> Result<(), AllocError>
+    requires { (i : ℕ) → Contains inside i → i < length work.old.marked.items }
+    ensures { OnOk result (Adds work.old work.new inside.entry) }
 {
-    if let Some(inside) = inner.get(item) {
-        work.add_all(inside)?;
+    for operation in inside {
+        work.add(operation)?;
     }
     Ok(())
+}
+
+/// Lets an item go: an operation with its places and with what is inside it, an argument with the places that are
+/// forwarded to it. Items that nothing else keeps die.
+fn let_go(
+    problem: &DeadProblem,
+    tables: &DeadTables,
+    counts: &mut Counts,
+    item: usize,
+) -> Result<(), AllocError>
+    requires problem { IsDeadProblem problem.now }
+    requires tables { AreDeadTables problem.now tables.now }
+    requires counts { AreCounts tables.now.keeps counts.old }
+    requires len { length counts.old.uses.items ≡ items problem.now }
+    requires item { item < items problem.now }
+    ensures { OnOk result (LetsGo problem.now tables.now item counts.old counts.new) }
+{
+    let operations = problem.operations.len();
+    if item < operations {
+        let from = problem.operations.operands_before(item);
+        let to = problem.operations.operands_before(item + 1);
+        excuse_between(&tables.keeps, counts, from, to)?;
+        add_inside(&mut counts.work, tables.inner.row(item))
+    } else {
+        let places = tables.forwarded.row(item - operations);
+        excuse_row(&tables.keeps, counts, places)
+    }
 }
 
 /// The least set of dead operations and arguments: those that nothing but uses keeps and that only the dead use.
@@ -57,24 +98,21 @@ pub fn dead(alloc: Global, problem: &DeadProblem) -> Result<DeadItems, AllocErro
     requires { IsDeadProblem problem.now }
     ensures { IfOk result (AreDead problem.now) }
 {
-    let Places { all, by_user } = places_of(alloc, problem)?;
-    let kept = kept_rows(alloc, problem, &all)?;
-    let excusing = excused_rows(alloc, problem, &all, by_user)?;
-    // From here on both are only read: as they are lent, the loop below need not say that they stay.
-    let keeps = &kept;
-    let excuses = &excusing;
-    let inner = inner_rows(alloc, problem)?;
-    let uses = count_uses(alloc, problem, keeps)?;
+    let tables = DeadTables {
+        keeps: kept_rows(alloc, problem)?,
+        forwarded: forwarded_rows(alloc, problem)?,
+        inner: inner_rows(alloc, problem)?,
+    };
+    let excused = vec![in alloc; false; tables.keeps.len()]?;
+    let uses = count_uses(alloc, problem, &tables.keeps)?;
     let work = started(alloc, &uses)?;
-    let excused = vec![in alloc; false; all.len()]?;
     let mut counts = Counts {
         excused,
         uses,
         work,
     };
     while let Some(item) = counts.work.take() {
-        excuse_all(keeps, &mut counts, excuses.row(item))?;
-        add_inside(&mut counts.work, &inner, item)?;
+        let_go(problem, &tables, &mut counts, item)?;
     }
     unused(alloc, problem.operations.len(), &counts.uses)
 }

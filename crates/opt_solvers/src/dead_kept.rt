@@ -1,10 +1,9 @@
-//! The items that a place keeps.
-ghost use Rattle.std.specs.Prelude.{◌≡◌, IfOk, OnOk, Contains, option_to_list};
+//! The items that a use keeps.
+ghost use Rattle.std.specs.Prelude.{◌≡◌, ◌<◌, IfOk, OnOk, length, map, option_to_list, slice_get};
 ghost use Rattle.opt_solvers.specs.Dead.{IsDeadProblem};
-ghost use Rattle.opt_solvers.specs.DeadPlaces.{maker, around_definer, around_user, IsPlace, IsNumber, IsKnown, GoesOut, IsBehind, Crosses, KeepsRow, AreKept};
-ghost use Rattle.opt_solvers.specs.declared.dead_places.Place.{Place};
+ghost use Rattle.opt_solvers.specs.DeadCandidates.{operands_of};
+ghost use Rattle.opt_solvers.specs.DeadPlaces.{maker, around_definer, around_user, IsNumber, IsKnown, GoesOut, IsBehind, Crosses, KeepsRow, KeepMore, AreKept, operand_place, kept_place, all_places};
 
-use crate::dead_places::Place;
 use crate::dead_problem::{DeadProblem, Definer};
 use crate::number_rows::NumberRows;
 use std::alloc::{AllocError, Global};
@@ -101,38 +100,76 @@ fn begin_row(row: &mut Vec<usize>, item: Option<usize>) -> Result<(), AllocError
 
 /// Makes a row of the items that a use keeps: the one that makes the value, and the operations around this that are
 /// not around the user.
-fn keep_items(problem: &DeadProblem, place: &Place, row: &mut Vec<usize>) -> Result<(), AllocError>
+fn keep_items(
+    problem: &DeadProblem,
+    user: Option<usize>,
+    definer: Definer,
+    row: &mut Vec<usize>,
+) -> Result<(), AllocError>
     requires problem { IsDeadProblem problem.now }
-    requires place { IsPlace problem.now place.now }
-    ensures { OnOk result (KeepsRow problem.now place.now row.new.items) }
+    requires user { IsNumber problem.now user }
+    requires definer { IsKnown problem.now definer }
+    ensures { OnOk result (KeepsRow problem.now user definer row.new.items) }
 {
-    let definer = place.operand.definer;
     begin_row(row, maker(problem, definer))?;
     let inner = around_definer(problem, definer);
-    let outer = around_user(problem, place.user);
+    let outer = around_user(problem, user);
     push_crossed(problem, row, inner, outer)?;
     Ok(())
 }
 
-/// The items that each place keeps, in the order of the places.
+/// Puts the items that the operands of an operation keep behind those of other uses. The row is used again for each.
+fn keep_operands(
+    problem: &DeadProblem,
+    user: usize,
+    row: &mut Vec<usize>,
+    rows: &mut NumberRows,
+) -> Result<(), AllocError>
+    requires problem { IsDeadProblem problem.now }
+    requires user { user < length problem.now.operations }
+    ensures { let operands = operands_of (slice_get problem.now.operations user) in
+        OnOk result (KeepMore problem.now (map (operand_place user) operands) rows.old rows.new) }
+{
+    for operand in problem.operations.operands(user) {
+        keep_items(problem, Some(user), operand.definer, row)?;
+        rows.push_row(row)?;
+    }
+    Ok(())
+}
+
+/// Puts the items that uses from outside or by the root keep behind those of other uses. The row is used again for
+/// each.
+fn keep_kept(
+    problem: &DeadProblem,
+    row: &mut Vec<usize>,
+    rows: &mut NumberRows,
+) -> Result<(), AllocError>
+    requires { IsDeadProblem problem.now }
+    ensures { OnOk result (KeepMore problem.now (map kept_place problem.now.kept.items) rows.old rows.new) }
+{
+    for definer in &problem.kept {
+        keep_items(problem, None, *definer, row)?;
+        rows.push_row(row)?;
+    }
+    Ok(())
+}
+
+/// The items that each use keeps: first those by all operations in turn, then those from outside and by the root.
 ///
 /// # Errors
 /// There may be no memory.
-pub fn kept_rows(
-    alloc: Global,
-    problem: &DeadProblem,
-    places: &[Place],
-) -> Result<NumberRows, AllocError>
-    requires problem { IsDeadProblem problem.now }
-    requires places { (q : Place) → Contains places.now q → IsPlace problem.now q }
-    ensures { IfOk result (λ rows. AreKept problem.now places.now rows) }
+pub fn kept_rows(alloc: Global, problem: &DeadProblem) -> Result<NumberRows, AllocError>
+    requires { IsDeadProblem problem.now }
+    ensures { IfOk result (AreKept problem.now (all_places problem.now)) }
 {
-    // Most places keep one item.
-    let mut rows = NumberRows::with_capacity(alloc, places.len(), places.len())?;
+    // Most uses keep one item.
+    let operands = problem.operations.all_operands().len();
+    let count = operands.saturating_add(problem.kept.len());
+    let mut rows = NumberRows::with_capacity(alloc, count, count)?;
     let mut row = Vec::new(alloc);
-    for place in places {
-        keep_items(problem, place, &mut row)?;
-        rows.push_row(&row)?;
+    for user in 0..problem.operations.len() {
+        keep_operands(problem, user, &mut row, &mut rows)?;
     }
+    keep_kept(problem, &mut row, &mut rows)?;
     Ok(rows)
 }

@@ -1,8 +1,9 @@
 //! Uses that go, and items that no use keeps any more.
-ghost use Rattle.std.specs.Prelude.{◌≡◌, ◌<◌, ◌-◌, ◌∷◌, [], All, IfOk, OnOk, length, slice_index, slice_set};
+ghost use Rattle.std.specs.Prelude.{ℕ, ◌≡◌, ◌≤◌, ◌<◌, ◌-◌, Contains, IfOk, OnOk, length, slice_index, slice_set};
 ghost use Rattle.digraph.specs.Work.{Adds};
 ghost use Rattle.opt_solvers.specs.DeadRelease.{newly, IsStarted, IsReleasable, Releases, AreCounts, ExcusesMore};
 
+use crate::linked_rows::RowItems;
 use crate::number_rows::NumberRows;
 use digraph::Worklist;
 use std::alloc::{AllocError, Global};
@@ -75,7 +76,7 @@ fn release_all(
 fn excuse(keeps: &NumberRows, counts: &mut Counts, place: usize) -> Result<(), AllocError>
     requires counts { AreCounts keeps.now counts.old }
     requires place { place < length keeps.now }
-    ensures { OnOk result (ExcusesMore keeps.now (place ∷ []) counts.old counts.new) }
+    ensures { OnOk result (ExcusesMore keeps.now (λ k. k ≡ place) counts.old counts.new) }
 {
     if !counts.excused[place] {
         counts.excused[place] = true;
@@ -84,21 +85,43 @@ fn excuse(keeps: &NumberRows, counts: &mut Counts, place: usize) -> Result<(), A
     Ok(())
 }
 
-/// Some places keep nothing any more. Items that nothing else keeps die.
+/// The places with the numbers from one on that are below another keep nothing any more. Items that nothing else keeps
+/// die.
 ///
 /// # Errors
 /// There may be no memory.
-pub fn excuse_all(
+pub fn excuse_between(
     keeps: &NumberRows,
     counts: &mut Counts,
-    places: &[usize],
+    from: usize,
+    to: usize,
 ) -> Result<(), AllocError>
     requires counts { AreCounts keeps.now counts.old }
-    requires places { All (λ k. k < length keeps.now) places.now }
-    ensures { OnOk result (ExcusesMore keeps.now places.now counts.old counts.new) }
+    requires from { from ≤ to }
+    requires to { to ≤ length keeps.now }
+    ensures { OnOk result (ExcusesMore keeps.now (λ k. (from ≤ k) × (k < to)) counts.old counts.new) }
+{
+    for place in from..to {
+        excuse(keeps, counts, place)?;
+    }
+    Ok(())
+}
+
+/// The places of a row keep nothing any more. Items that nothing else keeps die.
+///
+/// # Errors
+/// There may be no memory.
+pub fn excuse_row(
+    keeps: &NumberRows,
+    counts: &mut Counts,
+    places: RowItems<'_, usize>,
+) -> Result<(), AllocError>
+    requires counts { AreCounts keeps.now counts.old }
+    requires places { (k : ℕ) → Contains places k → k < length keeps.now }
+    ensures { OnOk result (ExcusesMore keeps.now (λ k. Contains places.entry k) counts.old counts.new) }
 {
     for place in places {
-        excuse(keeps, counts, *place)?;
+        excuse(keeps, counts, place)?;
     }
     Ok(())
 }

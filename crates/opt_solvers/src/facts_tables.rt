@@ -2,7 +2,8 @@
 ghost use Rattle.std.specs.Prelude.{ℕ, ◌≡◌, ◌<◌, length, IfOk, OnOk, Contains};
 ghost use Rattle.opt_solvers.specs.OperationRows.{row_numbered};
 ghost use Rattle.opt_solvers.specs.Facts.{IsProblem};
-ghost use Rattle.opt_solvers.specs.FactsTables.{Gains, PlacesOf, SlotsOfEdge, SlotsOf, Lists, AreTables, AddsRow};
+ghost use Rattle.opt_solvers.specs.LinkedRows.{Gains, Lists};
+ghost use Rattle.opt_solvers.specs.FactsTables.{PlacesOf, SlotsOfEdge, SlotsOf, AreTables, AddsRow};
 
 use crate::facts_problem::FactsProblem;
 use crate::facts_seen::operand_count;

@@ -7,7 +7,6 @@ mod chains_joined;
 mod dead_candidates;
 mod dead_items;
 mod dead_kept;
-mod dead_places;
 mod dead_problem;
 mod dead_release;
 mod dead_rows;

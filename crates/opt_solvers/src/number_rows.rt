@@ -1,5 +1,5 @@
 //! Rows of numbers in one list.
-ghost use Rattle.std.specs.Prelude.{◌≡◌, ◌<◌, ◌++◌, ◌∷◌, [], length, OnOk, OnErr, IfOk};
+ghost use Rattle.std.specs.Prelude.{◌≡◌, ◌<◌, ◌^◌, ◌++◌, ◌∷◌, [], length, OnOk, OnErr, IfOk};
 ghost use Rattle.opt_solvers.specs.Rows.{row_at, start_from};
 
 use std::alloc::{AllocError, Global};
@@ -44,7 +44,9 @@ impl NumberRows {
 
     /// How many rows there are.
     pub fn len(&self) -> usize
-        ensures { result ≡ length self.now }
+        ensures len { result ≡ length self.now }
+        // Each takes memory, so that a sum of two such numbers can be counted.
+        ensures fits { result < 2 ^ 63 }
     {
         self.ends.len()
     }

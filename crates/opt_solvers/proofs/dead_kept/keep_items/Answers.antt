@@ -1,36 +1,25 @@
 use Rattle.std.proofs.Common.{◌∙◌, sym, ap, subst}
 use Rattle.std.specs.Prelude.{option_to_list}
 use Rattle.opt_solvers.specs.DeadPlaces.{maker, around_definer, around_user, IsNumber, IsBehind, Crosses}
-use Rattle.opt_solvers.proofs.DeadKeeping.{known, user_number, around_user_number, around_definer_number, maker_behind, row_kept}
+use Rattle.opt_solvers.proofs.DeadKeeping.{around_user_number, around_definer_number, maker_behind, row_kept}
 use Rattle.opt_solvers.proofs.dead_kept.keep_items.Goals as goal
 
-pub maker-requires : goal.maker-requires
-maker-requires c = known c.args.problem.now c.requires.problem c.args.place.now c.requires.place
-
-pub around_definer-inner-requires : goal.around_definer-inner-requires
-around_definer-inner-requires c = known c.args.problem.now c.requires.problem c.args.place.now c.requires.place
-
-pub around_user-outer-requires : goal.around_user-outer-requires
-around_user-outer-requires c = user_number c.args.problem.now c.requires.problem c.args.place.now c.requires.place
-
 pub push_crossed-requires-clause-inner : goal.push_crossed-requires-clause-inner
-push_crossed-requires-clause-inner c = subst (IsNumber c.args.problem.now) (sym c.around_definer-inner.ensures)
-    (around_definer_number c.args.problem.now c.requires.problem c.args.place.now.operand.definer (known c.args.problem.now c.requires.problem c.args.place.now c.requires.place))
+push_crossed-requires-clause-inner c = subst (IsNumber c.args.problem.now) (sym c.around_definer-inner.ensures) (around_definer_number c.args.problem.now c.requires.problem c.args.definer c.requires.definer)
 
 pub push_crossed-requires-clause-outer : goal.push_crossed-requires-clause-outer
-push_crossed-requires-clause-outer c = subst (IsNumber c.args.problem.now) (sym c.around_user-outer.ensures)
-    (around_user_number c.args.problem.now c.requires.problem c.args.place.now.user (user_number c.args.problem.now c.requires.problem c.args.place.now c.requires.place))
+push_crossed-requires-clause-outer c = subst (IsNumber c.args.problem.now) (sym c.around_user-outer.ensures) (around_user_number c.args.problem.now c.requires.problem c.args.user c.requires.user)
 
 pub push_crossed-requires-clause-behind : goal.push_crossed-requires-clause-behind
 push_crossed-requires-clause-behind c =
-    let d = c.args.place.now.operand.definer in
+    let d = c.args.definer in
     subst (λ o. IsBehind o c.begin_row.new.row.items) (sym c.around_definer-inner.ensures) (subst (IsBehind (around_definer c.args.problem.now d)) (sym (c.in_ok-begin_row.ensures ∙ ap option_to_list c.maker.ensures))
-    (maker_behind c.args.problem.now c.requires.problem d (known c.args.problem.now c.requires.problem c.args.place.now c.requires.place)))
+    (maker_behind c.args.problem.now c.requires.problem d c.requires.definer))
 
 pub returns : goal.returns
 returns c =
-    let p = c.args.problem.now in let d = c.args.place.now.operand.definer in
-    row_kept p c.requires.problem c.args.place.now _ c.requires.place
-    (subst (λ o. Crosses p o (around_user p c.args.place.now.user) (option_to_list (maker p d)) c.push_crossed.new.kept.items) c.around_definer-inner.ensures
+    let p = c.args.problem.now in let d = c.args.definer in
+    row_kept p c.requires.problem c.args.user d _ c.requires.definer
+    (subst (λ o. Crosses p o (around_user p c.args.user) (option_to_list (maker p d)) c.push_crossed.new.kept.items) c.around_definer-inner.ensures
     (subst (λ o. Crosses p c.around_definer-inner.result o (option_to_list (maker p d)) c.push_crossed.new.kept.items) c.around_user-outer.ensures
     (subst (λ xs. Crosses p c.around_definer-inner.result c.around_user-outer.result xs c.push_crossed.new.kept.items) (c.in_ok-begin_row.ensures ∙ ap option_to_list c.maker.ensures) c.in_ok-push_crossed.ensures)))

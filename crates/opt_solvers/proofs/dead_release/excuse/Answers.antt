@@ -1,7 +1,7 @@
 use Rattle.std.proofs.Common.{◌≡◌, ◌∙◌, false, get_or, sym, ap, subst, arith}
 use Rattle.digraph.specs.Marks.{IsMarked}
 use Rattle.opt_solvers.specs.Rows.{row_at}
-use Rattle.digraph.proofs.Marking.{marked_read, only_one}
+use Rattle.digraph.proofs.Marking.{marked_read}
 use Rattle.opt_solvers.specs.DeadRelease.{IsReleasable, Releases}
 use Rattle.opt_solvers.proofs.DeadReleasing.{releasable, place_excused, nothing_excused}
 use Rattle.opt_solvers.proofs.dead_release.excuse.Goals as goal
@@ -23,4 +23,4 @@ pub returns-else-not-index : goal.returns-else-not-index
 returns-else-not-index c =
     let l = c.requires.counts.places in let h = c.requires.place in
     let m = marked_read c.args.counts.now.excused.items c.args.place c.index.result.now (omega (arith, l, h)) c.index.ensures c.if-not-index.false in
-    nothing_excused c.args.keeps.now c.args.counts.now.excused.items c.args.counts.now.uses.items c.args.counts.now.work c.requires.counts _ (λ k c'. subst (IsMarked c.args.counts.now.excused.items) (sym (only_one c.args.place k c')) m)
+    nothing_excused c.args.keeps.now c.args.counts.now.excused.items c.args.counts.now.uses.items c.args.counts.now.work c.requires.counts (λ k. k ≡ c.args.place) (λ k e. subst (IsMarked c.args.counts.now.excused.items) (sym e) m)

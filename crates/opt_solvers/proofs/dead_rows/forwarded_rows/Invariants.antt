@@ -1,6 +1,7 @@
-use Rattle.std.specs.Prelude.{length}
-use Rattle.opt_solvers.proofs.DeadNoting.{FromForwards, AreNoted}
+use Rattle.std.proofs.Common.{take}
+use Rattle.opt_solvers.specs.LinkedRows.{Gains}
+use Rattle.opt_solvers.specs.DeadRows.{ForwardsOperand}
 use Rattle.opt_solvers.proofs.dead_rows.forwarded_rows.Given as goal
 
 abbrev pub invariant-loop-number : goal.invariant-loop-number
-invariant-loop-number l = AreNoted (FromForwards l.problem l.places) (length l.problem.arguments.items) l.number l.rows.items
+invariant-loop-number l = Gains (ForwardsOperand (take l.number l.operand-items)) l.initial.rows l.rows

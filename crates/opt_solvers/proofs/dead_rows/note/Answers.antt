@@ -1,14 +1,11 @@
-use Rattle.std.proofs.Common.{rules, ℕ, Option, ◌++◌, ◌∷◌, [], sym, ap, ◌∙◌, subst}
-use Rattle.std.proofs.Math.ListN.{set}
-use Rattle.std.specs.Prelude.{option_to_list}
-use Rattle.digraph.specs.Transpose.{AddsSource}
-use Rattle.digraph.proofs.Searching.{successors_at}
-use Rattle.opt_solvers.proofs.DeadNoting.{noted}
+use Rattle.std.proofs.Common.{◌≡◌, Some, ap, sym, ◌∙◌}
+use Rattle.std.proofs.lemmas.Option.{same_Some}
+use Rattle.opt_solvers.proofs.FactsTabling.{gained_one, gained_as}
 use Rattle.opt_solvers.proofs.dead_rows.note.Goals as goal
 
-pub returns-in_ok-push : goal.returns-in_ok-push
-returns-in_ok-push c =
-    let rows = c.args.rows.now.items in
-    let h = c.requires c.in-Some.row c.in-Some.is in
-    subst (λ (o : Option ℕ). AddsSource rows (set rows c.in-Some.row c.push.new.self) c.args.number (option_to_list o)) (sym c.in-Some.is)
-    (noted rows c.in-Some.row c.args.number c.push.new.self h (c.in_ok-push.ensures.items ∙ ap (λ xs. xs ++ c.args.number ∷ []) (sym (successors_at rows c.in-Some.row c.index_mut.result.now h (search rules)))))
+pub returns-in_ok-put : goal.returns-in_ok-put
+returns-in_ok-put c =
+    let r = c.in-Some.row in
+    gained_as (λ n k. (n ≡ r) × (k ≡ c.args.number)) (λ n k. (c.args.row ≡ Some n) × (k ≡ c.args.number))
+    (λ n k (e, m). (c.in-Some.is ∙ ap Some (sym e), m)) (λ n k (e, m). (same_Some n r (sym e ∙ c.in-Some.is), m)) c.args.rows.now c.put.new.self
+    (gained_one c.args.rows.now c.put.new.self r c.args.number (c.requires r c.in-Some.is) c.in_ok-put.ensures.ok)

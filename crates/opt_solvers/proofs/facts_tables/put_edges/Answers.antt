@@ -3,7 +3,8 @@ use Rattle.std.specs.Prelude.{Contains}
 use Rattle.std.proofs.lemmas.List.{take_all}
 use Rattle.opt_solvers.specs.OperationRows.{no_edge, row_numbered, edge_numbered}
 use Rattle.opt_solvers.specs.Facts.{arguments_of}
-use Rattle.opt_solvers.specs.FactsTables.{Gains, ForwardsTo, ForwardsAlong}
+use Rattle.opt_solvers.specs.LinkedRows.{Gains}
+use Rattle.opt_solvers.specs.FactsTables.{ForwardsTo, ForwardsAlong}
 use Rattle.opt_solvers.proofs.OperationLists.{row_contained, edge_contained, numbered_read}
 use Rattle.opt_solvers.proofs.FactsEntering.{row_at}
 use Rattle.opt_solvers.proofs.FactsEdging.{target_below}

@@ -1,6 +1,7 @@
 use Rattle.std.proofs.Common.{◌≡◌, take}
 use Rattle.opt_solvers.specs.OperationRows.{row_numbered}
-use Rattle.opt_solvers.specs.FactsTables.{Gains, ForwardsAlong}
+use Rattle.opt_solvers.specs.LinkedRows.{Gains}
+use Rattle.opt_solvers.specs.FactsTables.{ForwardsAlong}
 use Rattle.opt_solvers.proofs.facts_tables.put_edges.Given as goal
 
 abbrev pub invariant-loop-index : goal.invariant-loop-index

@@ -1,5 +1,6 @@
 use Rattle.std.proofs.Common.{◌≡◌, take}
-use Rattle.opt_solvers.specs.FactsTables.{Gains, ForwardsTo}
+use Rattle.opt_solvers.specs.LinkedRows.{Gains}
+use Rattle.opt_solvers.specs.FactsTables.{ForwardsTo}
 use Rattle.opt_solvers.proofs.facts_tables.put_forwards.Given as goal
 
 abbrev pub invariant-loop-index : goal.invariant-loop-index

@@ -1,7 +1,7 @@
 use Rattle.std.proofs.Common.{◌≡◌, Some, ◌<◌, length, sym, subst}
 use Rattle.std.specs.Prelude.{Contains, slice_get}
 use Rattle.opt_solvers.specs.OperationRows.{row_numbered}
-use Rattle.opt_solvers.specs.FactsTables.{Gains}
+use Rattle.opt_solvers.specs.LinkedRows.{Gains}
 use Rattle.opt_solvers.proofs.OperationLists.{row_contained}
 use Rattle.opt_solvers.proofs.FactsTabling.{row_put}
 use Rattle.opt_solvers.proofs.facts_tables.put_row.Goals as goal
