@@ -1,9 +1,9 @@
 -- Operations kept in lists: how many there are, what is said of each, and one more.
-use Rattle.std.proofs.Common.{◌≡◌, ℕ, zero, suc, ◌+◌, ◌-◌, ◌<◌, ◌≤◌, Bool, List, [], ◌∷◌, ◌++◌, take, drop, length, get_or, map, refl, sym, ap, ◌∙◌, subst, arith, Option}
-use Rattle.std.specs.Prelude.{slice_get}
+use Rattle.std.proofs.Common.{◌≡◌, ℕ, zero, suc, ◌+◌, ◌-◌, ◌<◌, ◌≤◌, Bool, List, [], ◌∷◌, ◌++◌, take, drop, length, get_or, map, refl, sym, ap, ◌∙◌, subst, arith, Option, Some, None, true, false}
+use Rattle.std.specs.Prelude.{slice_get, is_some, unwrap_or}
 use Rattle.opt_solvers.specs.declared.dead_problem.Operand.{Operand}
 use Rattle.opt_solvers.specs.Rows.{rows_from, row_at, start_from, AreEnds}
-use Rattle.opt_solvers.specs.DeadCandidates.{Candidate, may_go_of, around_of, operands_of, all_operands, operands_before, candidates_of, AreColumns}
+use Rattle.opt_solvers.specs.DeadCandidates.{Candidate, may_go_of, around_of, operands_of, all_operands, operands_before, candidates_of, around_if, arounds_of, AreColumns}
 use Rattle.opt_solvers.specs.DeadUses.{held, held_operation}
 use Rattle.std.proofs.lemmas.List.{length-append, length-drop, length-take-le, take-append-drop, drop-drop}
 use Rattle.opt_solvers.proofs.Rows.{ends_rise, read_there, start_is, as_many, row_bounds, row_found, ends_more, row_more}
@@ -73,26 +73,57 @@ one_more (n ∷ ms) [] rows m o row a r = absurd (omega (arith, a))
 one_more (n ∷ ms) (x ∷ os) [] m o row a r = absurd (omega (arith, r))
 one_more (n ∷ ms) (x ∷ os) (first ∷ rows) m o row a r = ap (λ (cs : List Candidate). record { may_go = n; around = x; operands = first } ∷ cs) (one_more ms os rows m o row (omega (arith, a)) (omega (arith, r)))
 
+arounds_len : (bs : List Bool) (ns : List ℕ) → length ns ≡ length bs → length (arounds_of bs ns) ≡ length bs
+arounds_len [] ns h = refl
+arounds_len (b ∷ bs) [] h = absurd (omega (arith, h))
+arounds_len (b ∷ bs) (n ∷ ns) h = ap suc (arounds_len bs ns (omega (arith, h)))
+
+arounds_more : (bs : List Bool) (ns : List ℕ) (b : Bool) (n : ℕ) → length ns ≡ length bs → arounds_of (bs ++ b ∷ []) (ns ++ n ∷ []) ≡ arounds_of bs ns ++ around_if b n ∷ []
+arounds_more [] [] b n h = refl
+arounds_more [] (m ∷ ns) b n h = absurd (omega (arith, h))
+arounds_more (a ∷ bs) [] b n h = absurd (omega (arith, h))
+arounds_more (a ∷ bs) (m ∷ ns) b n h = ap (λ (os : List (Option ℕ)). around_if a m ∷ os) (arounds_more bs ns b n (omega (arith, h)))
+
+around_read : (bs : List Bool) (ns : List ℕ) (i : ℕ) (b : Bool) (n : ℕ) → length ns ≡ length bs → i < length bs → b ≡ get_or bs i b → (b ≡ true → n ≡ get_or ns i n) → around_if b n ≡ get_or (arounds_of bs ns) i (around_if b n)
+around_read [] ns i b n l h e f = absurd (omega (arith, h))
+around_read (a ∷ bs) [] i b n l h e f = absurd (omega (arith, l))
+around_read (true ∷ bs) (m ∷ ns) zero b n l h e f = ap (λ c. around_if c n) e ∙ ap Some (f e)
+around_read (false ∷ bs) (m ∷ ns) zero b n l h e f = ap (λ c. around_if c n) e
+around_read (a ∷ bs) (m ∷ ns) (suc i) b n l h e f = around_read bs ns i b n (omega (arith, l)) (omega (arith, h)) e f
+
+pub around_whole : (o : Option ℕ) → around_if (is_some o) (unwrap_or o 0) ≡ o
+around_whole None = refl
+around_whole (Some n) = refl
+
 -- what keeps each operation, by whether it may go
 pub held_once : (cs : List Candidate) → map held (map may_go_of cs) ≡ map held_operation cs
 held_once [] = refl
 held_once (c ∷ cs) = ap (λ (ns : List ℕ). held c.may_go ∷ ns) (held_once cs)
 
-module _ (ms : List Bool) (os : List (Option ℕ)) (es : List ℕ) (xs : List Operand) (columns : AreColumns ms os es xs) where
+module _ (ms bs : List Bool) (ns es : List ℕ) (xs : List Operand) (columns : AreColumns ms bs ns es xs) where
+  abbrev os : List (Option ℕ)
+  os = arounds_of bs ns
+
+  as_long : length ns ≡ length bs
+  as_long = columns.arounds ∙ sym columns.insides
+
+  arounds_are : length os ≡ length ms
+  arounds_are = arounds_len bs ns as_long ∙ columns.insides
+
   rows_len : length (rows_from 0 es xs) ≡ length ms
   rows_len = as_many 0 es xs ∙ columns.rows
 
   module _ (cs : List Candidate) (view : candidates_of ms os (rows_from 0 es xs) ≡ cs) where
     pub columns_len : length ms ≡ length cs
-    columns_len = sym (count_is ms os (rows_from 0 es xs) columns.arounds rows_len) ∙ ap (λ (ds : List Candidate). length ds) view
+    columns_len = sym (count_is ms os (rows_from 0 es xs) arounds_are rows_len) ∙ ap (λ (ds : List Candidate). length ds) view
 
     pub columns_may_go : ms ≡ map may_go_of cs
-    columns_may_go = sym (may_go_is ms os (rows_from 0 es xs) columns.arounds rows_len) ∙ ap (map may_go_of) view
+    columns_may_go = sym (may_go_is ms os (rows_from 0 es xs) arounds_are rows_len) ∙ ap (map may_go_of) view
 
-    pub columns_around : (i : ℕ) (o : Option ℕ) → i < length cs → o ≡ get_or os i o → o ≡ around_of (slice_get cs i)
-    columns_around i o h e =
-        let l = columns_len in
-        around_is ms os (rows_from 0 es xs) i o columns.arounds rows_len (omega (arith, h, l)) e ∙ ap (λ (ds : List Candidate). around_of (slice_get ds i)) view
+    pub columns_around : (i : ℕ) (b : Bool) (n : ℕ) → i < length cs → b ≡ get_or bs i b → (b ≡ true → n ≡ get_or ns i n) → around_if b n ≡ around_of (slice_get cs i)
+    columns_around i b n h e f =
+        let l = columns_len in let m = columns.insides in
+        around_is ms os (rows_from 0 es xs) i (around_if b n) arounds_are rows_len (omega (arith, h, l)) (around_read bs ns i b n as_long (omega (arith, h, l, m)) e f) ∙ ap (λ (ds : List Candidate). around_of (slice_get ds i)) view
 
     operands_there : (i : ℕ) → i < length cs → i < length (rows_from 0 es xs)
     operands_there i h = let l = columns_len in let m = rows_len in omega (arith, h, l, m)
@@ -104,15 +135,15 @@ module _ (ms : List Bool) (os : List (Option ℕ)) (es : List ℕ) (xs : List Op
       pub columns_operands : (ys : List Operand) → ys ≡ xs → take (e - start) (drop start ys) ≡ operands_of (slice_get cs i)
       columns_operands ys q =
           row_found (rows_from 0 es xs) es fs xs ys i start e refl (operands_there i h) ends begins stops q
-          ∙ operands_are ms os (rows_from 0 es xs) i columns.arounds rows_len
+          ∙ operands_are ms os (rows_from 0 es xs) i arounds_are rows_len
           ∙ ap (λ (ds : List Candidate). operands_of (slice_get ds i)) view
 
     pub columns_all : xs ≡ all_operands cs
-    columns_all = sym (all_are 0 ms os es xs columns.arounds columns.rows columns.are_ends) ∙ ap all_operands view
+    columns_all = sym (all_are 0 ms os es xs arounds_are columns.rows columns.are_ends) ∙ ap all_operands view
 
     pub columns_before : (i : ℕ) → i ≤ length cs → start_from 0 es i ≡ operands_before cs i
     columns_before i h =
-        let l = columns_len in let b = before_is 0 ms os es xs i columns.arounds columns.rows columns.are_ends (omega (arith, h, l)) in
+        let l = columns_len in let b = before_is 0 ms os es xs i arounds_are columns.rows columns.are_ends (omega (arith, h, l)) in
         let v = ap (λ (ds : List Candidate). operands_before ds i) view in omega (arith, b, v)
 
     -- before an operation are those up to where the one before it ends
@@ -121,27 +152,33 @@ module _ (ms : List Bool) (os : List (Option ℕ)) (es : List ℕ) (xs : List Op
         let l = columns_len in let r = columns.rows in let b : j < length es = omega (arith, h, f, q, l, r) in let n : suc j ≡ i = omega (arith, f, q) in
         read_there es j e b g ∙ sym (start_is 0 es j b) ∙ ap (start_from 0 es) n ∙ columns_before i h
 
-  module _ (m : Bool) (o : Option ℕ) (row : List Operand) (ns : List Bool) (bs : List (Option ℕ)) (fs : List ℕ) (ys : List Operand) (n : ℕ)
-      (may_go : ns ≡ ms ++ m ∷ []) (around : bs ≡ os ++ o ∷ []) (ends : fs ≡ es ++ n ∷ []) (operands : ys ≡ xs ++ row) (end : n ≡ length ys) where
+  module _ (m : Bool) (o : Option ℕ) (row : List Operand) (fresh_ms fresh_bs : List Bool) (fresh_ns fs : List ℕ) (ys : List Operand) (n : ℕ)
+      (may_go : fresh_ms ≡ ms ++ m ∷ []) (insides : fresh_bs ≡ bs ++ is_some o ∷ []) (arounds : fresh_ns ≡ ns ++ unwrap_or o 0 ∷ []) (ends : fs ≡ es ++ n ∷ []) (operands : ys ≡ xs ++ row) (end : n ≡ length ys) where
     end_is : n ≡ length xs + length row
     end_is = end ∙ ap length operands ∙ length-append xs row
 
-    pub columns_more : AreColumns ns bs fs ys
+    pub columns_more : AreColumns fresh_ms fresh_bs fresh_ns fs ys
     columns_more =
-        let a = length-append ms (m ∷ []) in let b = length-append os (o ∷ []) in let c = length-append es (n ∷ []) in
-        let d = ap length may_go in let e = ap length around in let f = ap length ends in
-        let g = columns.arounds in let h = columns.rows in let i = end_is in record {
-          arounds = omega (arith, a, b, d, e, g);
-          rows = omega (arith, a, c, d, f, h);
+        let a = length-append ms (m ∷ []) in let b = length-append bs (is_some o ∷ []) in let d = length-append ns (unwrap_or o 0 ∷ []) in let c = length-append es (n ∷ []) in
+        let p = ap length may_go in let q = ap length insides in let r = ap length arounds in let s = ap length ends in
+        let t = columns.insides in let u = columns.arounds in let v = columns.rows in let i = end_is in record {
+          insides = omega (arith, a, b, p, q, t);
+          arounds = omega (arith, a, d, p, r, u);
+          rows = omega (arith, a, c, p, s, v);
           are_ends = subst (λ (zs : List ℕ). AreEnds 0 zs (length ys)) (sym ends) (subst (AreEnds 0 (es ++ n ∷ [])) end (ends_more 0 es (length xs) n (omega (arith, i)) columns.are_ends));
         }
 
-    pub view_more : (cs : List Candidate) → candidates_of ms os (rows_from 0 es xs) ≡ cs → candidates_of ns bs (rows_from 0 fs ys) ≡ cs ++ record { may_go = m; around = o; operands = row } ∷ []
+    around : arounds_of fresh_bs fresh_ns ≡ os ++ o ∷ []
+    around =
+        ap (λ (zs : List Bool). arounds_of zs fresh_ns) insides ∙ ap (arounds_of (bs ++ is_some o ∷ [])) arounds
+        ∙ arounds_more bs ns (is_some o) (unwrap_or o 0) as_long ∙ ap (λ (z : Option ℕ). os ++ z ∷ []) (around_whole o)
+
+    pub view_more : (cs : List Candidate) → candidates_of ms os (rows_from 0 es xs) ≡ cs → candidates_of fresh_ms (arounds_of fresh_bs fresh_ns) (rows_from 0 fs ys) ≡ cs ++ record { may_go = m; around = o; operands = row } ∷ []
     view_more cs view =
-        ap (λ (zs : List Bool). candidates_of zs bs (rows_from 0 fs ys)) may_go
+        ap (λ (zs : List Bool). candidates_of zs (arounds_of fresh_bs fresh_ns) (rows_from 0 fs ys)) may_go
         ∙ ap (λ (zs : List (Option ℕ)). candidates_of (ms ++ m ∷ []) zs (rows_from 0 fs ys)) around
         ∙ ap (λ (zs : List ℕ). candidates_of (ms ++ m ∷ []) (os ++ o ∷ []) (rows_from 0 zs ys)) ends
         ∙ ap (λ (zs : List Operand). candidates_of (ms ++ m ∷ []) (os ++ o ∷ []) (rows_from 0 (es ++ n ∷ []) zs)) operands
         ∙ ap (candidates_of (ms ++ m ∷ []) (os ++ o ∷ [])) (row_more 0 es xs row n end_is columns.are_ends)
-        ∙ one_more ms os (rows_from 0 es xs) m o row columns.arounds rows_len
+        ∙ one_more ms os (rows_from 0 es xs) m o row arounds_are rows_len
         ∙ ap (λ (ds : List Candidate). ds ++ record { may_go = m; around = o; operands = row } ∷ []) view

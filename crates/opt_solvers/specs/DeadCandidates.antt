@@ -1,5 +1,5 @@
 -- Operations as dead code elimination sees them, and the lists that they are kept in.
-use Rattle.std.specs.Prelude.{◌≡◌, ◌+◌, ℕ, zero, suc, Bool, List, [], ◌∷◌, ◌++◌, length, Option, Some, None}
+use Rattle.std.specs.Prelude.{◌≡◌, ◌+◌, ℕ, zero, suc, Bool, true, false, List, [], ◌∷◌, ◌++◌, length, Option, Some, None}
 use Rattle.opt_solvers.specs.declared.dead_problem.Operand.{Operand}
 use Rattle.opt_solvers.specs.Rows.{AreEnds}
 
@@ -41,8 +41,20 @@ candidates_of (m ∷ ms) [] rows = []
 candidates_of (m ∷ ms) (a ∷ arounds) [] = []
 candidates_of (m ∷ ms) (a ∷ arounds) (row ∷ rows) = record { may_go = m; around = a; operands = row } ∷ candidates_of ms arounds rows
 
+-- what an operation is in, by whether it is in any
+abbrev pub around_if : Bool → ℕ → Option ℕ
+around_if true n = Some n
+around_if false n = None
+
+-- what each operation is in
+abbrev pub arounds_of : List Bool → List ℕ → List (Option ℕ)
+arounds_of [] ns = []
+arounds_of (b ∷ bs) [] = []
+arounds_of (b ∷ bs) (n ∷ ns) = around_if b n ∷ arounds_of bs ns
+
 -- each list says something of each operation, and the operands of each end where that is said
-pub record AreColumns (may_go : List Bool) (around : List (Option ℕ)) (ends : List ℕ) (operands : List Operand) : Type 0 where
+pub record AreColumns (may_go is_inside : List Bool) (around ends : List ℕ) (operands : List Operand) : Type 0 where
+  pub insides : length is_inside ≡ length may_go
   pub arounds : length around ≡ length may_go
   pub rows : length ends ≡ length may_go
   pub are_ends : AreEnds 0 ends (length operands)

@@ -12,8 +12,10 @@ use std::marker::Model;
 pub struct Candidates {
     /// Of each, whether nothing but uses keeps it.
     may_go: Vec<bool>,
-    /// The operation that each is in, if that is none of the root's own.
-    around: Vec<Option<usize>>,
+    /// Of each, whether it is in another, and none of the root's own.
+    is_inside: Vec<bool>,
+    /// The operation that each is in, and 0 for those of the root's own.
+    around: Vec<usize>,
     /// Where the operands of each end in the list.
     ends: Vec<usize>,
     /// The operands of all.
@@ -23,13 +25,14 @@ pub struct Candidates {
 impl Model for Candidates {
     ghost use Rattle.std.specs.Prelude.{List};
     ghost use Rattle.opt_solvers.specs.Rows.{rows_from};
-    ghost use Rattle.opt_solvers.specs.DeadCandidates.{Candidate, candidates_of, AreColumns};
+    ghost use Rattle.opt_solvers.specs.DeadCandidates.{Candidate, candidates_of, arounds_of, AreColumns};
 
     ghost Value = { List Candidate };
 
-    ghost view = { λ c. candidates_of c.may_go.items c.around.items (rows_from 0 c.ends.items c.operands.items) };
+    ghost view = { λ c. let arounds = arounds_of c.is_inside.items c.around.items in
+        candidates_of c.may_go.items arounds (rows_from 0 c.ends.items c.operands.items) };
 
-    ghost invariant = { λ c. AreColumns c.may_go.items c.around.items c.ends.items c.operands.items };
+    ghost invariant = { λ c. AreColumns c.may_go.items c.is_inside.items c.around.items c.ends.items c.operands.items };
 }
 
 impl Candidates {
@@ -46,6 +49,7 @@ impl Candidates {
     {
         Ok(Candidates {
             may_go: Vec::with_capacity(alloc, operations)?,
+            is_inside: Vec::with_capacity(alloc, operations)?,
             around: Vec::with_capacity(alloc, operations)?,
             ends: Vec::with_capacity(alloc, operations)?,
             operands: Vec::with_capacity(alloc, operands)?,
@@ -73,7 +77,11 @@ impl Candidates {
         requires { number < length self.now }
         ensures { result ≡ around_of (slice_get self.now number) }
     {
-        self.around[number]
+        if self.is_inside[number] {
+            Some(self.around[number])
+        } else {
+            None
+        }
     }
 
     /// The operands of an operation.
@@ -119,11 +127,13 @@ impl Candidates {
         ensures err { OnErr result (self.new ≡ self.old) }
     {
         self.may_go.reserve(1)?;
+        self.is_inside.reserve(1)?;
         self.around.reserve(1)?;
         self.ends.reserve(1)?;
         self.operands.extend_from_slice(operands)?;
         self.ends.push_reserved(self.operands.len());
-        self.around.push_reserved(around);
+        self.around.push_reserved(around.unwrap_or(0));
+        self.is_inside.push_reserved(around.is_some());
         self.may_go.push_reserved(may_go);
         Ok(())
     }

@@ -6,4 +6,4 @@ pub returns-clause-len : goal.returns-clause-len
 returns-clause-len c =
     let i = c.self.inside in
     let l : c.len.result ≡ length i.may_go.items = search rules in
-    l ∙ columns_len i.may_go.items i.around.items i.ends.items i.operands.items c.self.invariant c.args.self.now c.self.view_is
+    l ∙ columns_len i.may_go.items i.is_inside.items i.around.items i.ends.items i.operands.items c.self.invariant c.args.self.now c.self.view_is
