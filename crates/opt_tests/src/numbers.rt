@@ -37,11 +37,19 @@ const SLOTS: [[usize; 3]; 6] = [
 /// The list of three keys with these slots.
 fn list_of(alloc: Global, slots: [usize; 3]) -> Result<NumberedList<Named>, AllocError> {
     let [first, second, third] = slots;
-    let keys = vec![
-        in alloc;
-        Named { name: 0, slot: first },
-        Named { name: 1, slot: second },
-        Named { name: 2, slot: third },
+    let keys = vec![in alloc;
+        Named {
+            name: 0,
+            slot: first
+        },
+        Named {
+            name: 1,
+            slot: second
+        },
+        Named {
+            name: 2,
+            slot: third
+        },
     ]?;
     NumberedList::new(alloc, keys)
 }
@@ -54,7 +62,13 @@ fn test_numbers(rt: &impl Abort, alloc: Global, slots: [usize; 3]) -> Result<(),
         let slot = *slot;
         assert_eq!(rt; list.get_index_of(Named { name, slot }), Some(name));
         for other in [slot, slot.saturating_sub(1), slot.saturating_add(1)] {
-            assert_eq!(rt; list.get_index_of(Named { name: 3, slot: other }), None);
+            assert_eq!(rt;
+                list.get_index_of(Named {
+                    name: 3,
+                    slot: other
+                }),
+                None
+            );
         }
     }
     Ok(())
