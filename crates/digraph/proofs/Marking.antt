@@ -12,7 +12,7 @@ use Rattle.digraph.specs.Counts.{one, count_of}
 use Rattle.digraph.proofs.Counting.{count-append}
 use Rattle.std.proofs.lemmas.Grind.{common_steps}
 use Rattle.digraph.specs.Marks.{IsMarked}
-use Rattle.digraph.specs.Work.{Has, Waits, Adds, Takes}
+use Rattle.digraph.specs.Work.{HasNode, Waits, Adds, Takes}
 
 pub marked_read : (ms : List Bool) (i : ℕ) (b : Bool) → i < length ms → b ≡ get_or ms i b → b ≡ true → IsMarked ms i
 marked_read ms i b h e t = slice_get_read ms (length ms) i true refl h (sym t ∙ e ∙ ap (get_or ms i) t)
@@ -72,7 +72,7 @@ mark_added old new node h e m w = record {
   work = let a = ap (count_by not) m in let b = mark_count old.marked.items node h e in let c = ap length w in let d = length-append old.waiting.items (node ∷ []) in omega (arith, a, b, c, d);
 }
 
-pub none_added : (w : Worklist) (nodes : List ℕ) → ((n : ℕ) → Contains nodes n → Has w n) → Adds w w nodes
+pub none_added : (w : Worklist) (nodes : List ℕ) → ((n : ℕ) → Contains nodes n → HasNode w n) → Adds w w nodes
 none_added w nodes h = record {
   len = refl;
   has = h;
@@ -106,7 +106,7 @@ pub one_taken : (old new : Worklist) (r : Option ℕ) → old.waiting.items ≡ 
 one_taken old new None e m = tt
 one_taken old new (Some x) e m =
     let w : Waits old x = subst (λ ws. Contains ws x) (sym e) (Contains-push new.waiting.items x) in
-    let h : Has old x = subst (IsMarked old.marked.items) w.2 (old.waiting_marked w.0 x w.1) in
+    let h : HasNode old x = subst (IsMarked old.marked.items) w.2 (old.waiting_marked w.0 x w.1) in
     record {
       in_range = slice_get_within old.marked.items x true h;
       has = h;

@@ -6,33 +6,33 @@ use Rattle.std.proofs.lemmas.List.Elements.{Contains-push, Contains-push_cases, 
 use Rattle.digraph.specs.declared.worklist.Worklist.{Worklist}
 use Rattle.digraph.specs.Graph.{row_items, successors, InRange, Reaches, Here, Along}
 use Rattle.digraph.specs.Counts.{count_of}
-use Rattle.digraph.specs.Work.{Has, IsFresh}
+use Rattle.digraph.specs.Work.{HasNode, IsEmptyWorklist}
 use Rattle.digraph.proofs.Counting.{once_at}
 use Rattle.digraph.specs.Visits.{Traversal, empty, Visits}
 use Rattle.digraph.specs.declared.components.Scc.{Scc}
 use Rattle.digraph.specs.Transpose.{AreTransposed}
-use Rattle.digraph.specs.Gathers.{AnyUnmarked, Leads, Begin, Go, Gathers}
-use Rattle.digraph.specs.Sccs.{nodes_of, cyclic_of, OnCycle, IsIn, AreSccs}
+use Rattle.digraph.specs.Gathers.{AnyUnmarked, LeadsUnmarked, Begin, Go, Gathers}
+use Rattle.digraph.specs.Sccs.{nodes_of, cyclic_of, OnCycle, IsInPart, AreSccs}
 use Rattle.digraph.proofs.Segments.{Segmented, None as NoSegments, grown, reach_on, LastSegment, last_segment}
 
 none_in : (x : ℕ) → Contains [] x → ⊥
 none_in x h = absurd (omega (arith, h.1))
 
-in_bounds : (parts : List (Scc ℕ)) (k n : ℕ) → IsIn parts k n → k < length parts
+in_bounds : (parts : List (Scc ℕ)) (k n : ℕ) → IsInPart parts k n → k < length parts
 in_bounds [] k n h = absurd (none_in n h)
 in_bounds (p ∷ ps) zero n h = omega arith
 in_bounds (p ∷ ps) (suc k) n h = let q = in_bounds ps k n h in omega (arith, q)
 
-in_old : (parts : List (Scc ℕ)) (s : Scc ℕ) (k n : ℕ) → IsIn parts k n → IsIn (parts ++ s ∷ []) k n
+in_old : (parts : List (Scc ℕ)) (s : Scc ℕ) (k n : ℕ) → IsInPart parts k n → IsInPart (parts ++ s ∷ []) k n
 in_old [] s k n h = absurd (none_in n h)
 in_old (p ∷ ps) s zero n h = h
 in_old (p ∷ ps) s (suc k) n h = in_old ps s k n h
 
-in_new : (parts : List (Scc ℕ)) (s : Scc ℕ) (n : ℕ) → Contains s.nodes.items n → IsIn (parts ++ s ∷ []) (length parts) n
+in_new : (parts : List (Scc ℕ)) (s : Scc ℕ) (n : ℕ) → Contains s.nodes.items n → IsInPart (parts ++ s ∷ []) (length parts) n
 in_new [] s n h = h
 in_new (p ∷ ps) s n h = in_new ps s n h
 
-in_cases : (parts : List (Scc ℕ)) (s : Scc ℕ) (k n : ℕ) → IsIn (parts ++ s ∷ []) k n → IsIn parts k n ⊎ ((k ≡ length parts) × Contains s.nodes.items n)
+in_cases : (parts : List (Scc ℕ)) (s : Scc ℕ) (k n : ℕ) → IsInPart (parts ++ s ∷ []) k n → IsInPart parts k n ⊎ ((k ≡ length parts) × Contains s.nodes.items n)
 in_cases [] s zero n h = inr (refl, h)
 in_cases [] s (suc k) n h = absurd (none_in n h)
 in_cases (p ∷ ps) s zero n h = inl h
@@ -59,16 +59,16 @@ module _ (g : List (Vec ℕ Global)) where
     pub waits : w.waiting.items ≡ []
     pub segmented : Segmented (successors g) post
     pub post_in : (n : ℕ) → Contains post n → n < length g
-    pub rest : (n : ℕ) → n < length g → Has w n ⊎ Contains post n
-    pub inside : (k n : ℕ) → IsIn parts k n → Has w n
-    pub found : (n : ℕ) → Has w n → (k : ℕ) × IsIn parts k n
-    pub closed : (m n : ℕ) → Has w n → Contains (successors g m) n → Has w m
-    pub apart : (i j n : ℕ) → IsIn parts i n → IsIn parts j n → i ≡ j
-    pub both_ways : (k n m : ℕ) → IsIn parts k n → IsIn parts k m → Reaches (successors g) n m
-    pub whole : (k n m : ℕ) → IsIn parts k n → Reaches (successors g) n m → Reaches (successors g) m n → IsIn parts k m
-    pub topological : (i j n m : ℕ) → IsIn parts i n → IsIn parts j m → Contains (successors g n) m → i ≤ j
+    pub rest : (n : ℕ) → n < length g → HasNode w n ⊎ Contains post n
+    pub inside : (k n : ℕ) → IsInPart parts k n → HasNode w n
+    pub found : (n : ℕ) → HasNode w n → (k : ℕ) × IsInPart parts k n
+    pub closed : (m n : ℕ) → HasNode w n → Contains (successors g m) n → HasNode w m
+    pub apart : (i j n : ℕ) → IsInPart parts i n → IsInPart parts j n → i ≡ j
+    pub both_ways : (k n m : ℕ) → IsInPart parts k n → IsInPart parts k m → Reaches (successors g) n m
+    pub whole : (k n m : ℕ) → IsInPart parts k n → Reaches (successors g) n m → Reaches (successors g) m n → IsInPart parts k m
+    pub topological : (i j n m : ℕ) → IsInPart parts i n → IsInPart parts j m → Contains (successors g n) m → i ≤ j
     pub once : (k n : ℕ) → count_of n (nodes_of (slice_get parts k)) ≤ 1
-    pub cyclic : (k n : ℕ) → IsIn parts k n → IsTrue (cyclic_of (slice_get parts k)) ↔ OnCycle (successors g) n
+    pub cyclic : (k n : ℕ) → IsInPart parts k n → IsTrue (cyclic_of (slice_get parts k)) ↔ OnCycle (successors g) n
 
   pub source_in : (n m : ℕ) → Contains (successors g n) m → n < length g
   source_in n m h = go (slice_get g n) refl
@@ -81,7 +81,7 @@ module _ (g : List (Vec ℕ Global)) where
   reach_in n m r h Here = h
   reach_in n m r h (Along {b = b} p e) = r b m e
 
-  pub parting_begins : (w : Worklist) (nodes : List ℕ) (q : Traversal ℕ) → InRange g → IsFresh w (length g) → ((k : ℕ) → k < length g → Contains nodes k) → ((k : ℕ) → Contains nodes k → k < length g) → Visits (successors g) empty nodes q → Parted w q.left []
+  pub parting_begins : (w : Worklist) (nodes : List ℕ) (q : Traversal ℕ) → InRange g → IsEmptyWorklist w (length g) → ((k : ℕ) → k < length g → Contains nodes k) → ((k : ℕ) → Contains nodes k → k < length g) → Visits (successors g) empty nodes q → Parted w q.left []
   parting_begins w nodes q r f all only v =
       let h = grown (successors g) v (record { segmented = NoSegments; succ = λ a b c. absurd (none_in a c) }) in
       record {
@@ -101,7 +101,7 @@ module _ (g : List (Vec ℕ Global)) where
         cyclic = λ k n a. absurd (none_in n a);
       }
 
-  pub passed : (w : Worklist) (post post' : List ℕ) (root : ℕ) (parts : List (Scc ℕ)) → post ≡ post' ++ root ∷ [] → Parted w post parts → Has w root → Parted w post' parts
+  pub passed : (w : Worklist) (post post' : List ℕ) (root : ℕ) (parts : List (Scc ℕ)) → post ≡ post' ++ root ∷ [] → Parted w post parts → HasNode w root → Parted w post' parts
   passed w post post' root parts e s h =
       let l = last_segment (successors g) s.segmented post' root e in
       record {
@@ -109,7 +109,7 @@ module _ (g : List (Vec ℕ Global)) where
         waits = s.waits;
         segmented = l.rest;
         post_in = λ n c. s.post_in n (subst (λ xs. Contains xs n) (sym e) (Contains-append_left post' (root ∷ []) n c));
-        rest = λ n c. ⊎_elim (λ a. inl a) (λ a. ⊎_elim (λ b. inr b) (λ b. inl (subst (Has w) b h)) (Contains-push_cases post' root n (subst (λ xs. Contains xs n) e a))) (s.rest n c);
+        rest = λ n c. ⊎_elim (λ a. inl a) (λ a. ⊎_elim (λ b. inr b) (λ b. inl (subst (HasNode w) b h)) (Contains-push_cases post' root n (subst (λ xs. Contains xs n) e a))) (s.rest n c);
         inside = s.inside;
         found = s.found;
         closed = s.closed;
@@ -121,20 +121,20 @@ module _ (g : List (Vec ℕ Global)) where
         cyclic = s.cyclic;
       }
 
-  along_closed : (w : Worklist) → ((m n : ℕ) → Has w n → Contains (successors g m) n → Has w m) → (m n : ℕ) → Reaches (successors g) m n → Has w n → Has w m
+  along_closed : (w : Worklist) → ((m n : ℕ) → HasNode w n → Contains (successors g m) n → HasNode w m) → (m n : ℕ) → Reaches (successors g) m n → HasNode w n → HasNode w m
   along_closed w c m n Here h = h
   along_closed w c m n (Along {b = b} p e) h = along_closed w c m b p (c b n h e)
 
-  module _ (r : List (Vec ℕ Global)) (turned : AreTransposed g r) (w v : Worklist) (post post' : List ℕ) (root : ℕ) (parts : List (Scc ℕ)) (s : Scc ℕ) (split : post ≡ post' ++ root ∷ []) (p : Parted w post parts) (free : Has w root → ⊥) (a : Gathers (successors r) root w v s.nodes.items) where
+  module _ (r : List (Vec ℕ Global)) (turned : AreTransposed g r) (w v : Worklist) (post post' : List ℕ) (root : ℕ) (parts : List (Scc ℕ)) (s : Scc ℕ) (split : post ≡ post' ++ root ∷ []) (p : Parted w post parts) (free : HasNode w root → ⊥) (a : Gathers (successors r) root w v s.nodes.items) where
     last : LastSegment (successors g) post' root
     last = last_segment (successors g) p.segmented post' root split
 
-    leads_free : (n : ℕ) → Leads (successors r) w root n → Has w n → ⊥
+    leads_free : (n : ℕ) → LeadsUnmarked (successors r) w root n → HasNode w n → ⊥
     leads_free n (Begin f) h = f h
     leads_free n (Go l e f) h = f h
 
     -- what is gathered stands in the segment of the root
-    led : (n : ℕ) → Leads (successors r) w root n → (Contains last.ds n ⊎ (n ≡ root)) × Reaches (successors g) n root
+    led : (n : ℕ) → LeadsUnmarked (successors r) w root n → (Contains last.ds n ⊎ (n ≡ root)) × Reaches (successors g) n root
     led n (Begin f) = (inr refl, Here)
     led n (Go {b = b} l e f) =
         let ih = led b l in
@@ -152,13 +152,13 @@ module _ (g : List (Vec ℕ Global)) where
     from_root : (n : ℕ) → Contains s.nodes.items n → Reaches (successors g) root n
     from_root n h = let x = led n (a.sound free n h) in ⊎_elim (λ d. last.down n d) (λ e. subst (Reaches (successors g) root) (sym e) Here) x.0
 
-    is_free : (n : ℕ) → Contains s.nodes.items n → Has w n → ⊥
+    is_free : (n : ℕ) → Contains s.nodes.items n → HasNode w n → ⊥
     is_free n h = leads_free n (a.sound free n h)
 
-    closed_v : (m n : ℕ) → Has v n → Contains (successors g m) n → Has v m
+    closed_v : (m n : ℕ) → HasNode v n → Contains (successors g m) n → HasNode v m
     closed_v m n h e = ⊎_elim (λ o. a.keeps m (p.closed m n o e)) (λ o. a.closed n m o (turned.there m n e)) (a.cases n h)
 
-    in_part : (n : ℕ) → Has v n → (Has w n → ⊥) → Contains s.nodes.items n
+    in_part : (n : ℕ) → HasNode v n → (HasNode w n → ⊥) → Contains s.nodes.items n
     in_part n h f = ⊎_elim (λ o. absurd (f o)) (λ o. o) (a.cases n h)
 
     -- a cycle through one node of a component is one through each
@@ -182,7 +182,7 @@ module _ (g : List (Vec ℕ Global)) where
       waits = a.waits;
       segmented = last.rest;
       post_in = λ n c. p.post_in n (subst (λ xs. Contains xs n) (sym split) (Contains-append_left post' (root ∷ []) n c));
-      rest = λ n c. ⊎_elim (λ x. inl (a.keeps n x)) (λ x. ⊎_elim (λ y. inr y) (λ y. inl (subst (Has v) y a.begun)) (Contains-push_cases post' root n (subst (λ xs. Contains xs n) split x))) (p.rest n c);
+      rest = λ n c. ⊎_elim (λ x. inl (a.keeps n x)) (λ x. ⊎_elim (λ y. inr y) (λ y. inl (subst (HasNode v) y a.begun)) (Contains-push_cases post' root n (subst (λ xs. Contains xs n) split x))) (p.rest n c);
       inside = λ k n h. ⊎_elim (λ x. a.keeps n (p.inside k n x)) (λ x. a.marked n x.1) (in_cases parts s k n h);
       found = λ n h. ⊎_elim (λ x. let y = p.found n x in (y.0, in_old parts s y.0 n y.1)) (λ x. (length parts, in_new parts s n x)) (a.cases n h);
       closed = closed_v;
@@ -196,7 +196,7 @@ module _ (g : List (Vec ℕ Global)) where
           (in_cases parts s k n h);
       whole = λ k n m h there back. ⊎_elim
           (λ x. in_old parts s k m (p.whole k n m x there back))
-          (λ x. subst (λ i. IsIn (parts ++ s ∷ []) i m) (sym x.0) (in_new parts s m (⊎_elim
+          (λ x. subst (λ i. IsInPart (parts ++ s ∷ []) i m) (sym x.0) (in_new parts s m (⊎_elim
           (λ o. absurd (free (along_closed w p.closed root m (reach_on (successors g) root n (from_root n x.1) m there) o)))
           (λ o. o)
           (a.cases m (along_closed v closed_v m n back (a.marked n x.1))))))

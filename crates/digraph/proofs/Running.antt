@@ -12,11 +12,11 @@ use Rattle.digraph.proofs.Marking.{mark_kept, mark_put, mark_only}
 use Rattle.digraph.specs.declared.search.Open.{Open}
 use Rattle.digraph.specs.declared.search.Search.{Search}
 use Rattle.digraph.specs.Visits.{Traversal, empty, see, Visits, Passes, Nothing}
-use Rattle.digraph.specs.Searches.{orders, stack, Resumes, IsSearch, IsNew, SeenBefore, SeenNow, Enters, Goes, Stands}
+use Rattle.digraph.specs.Searches.{orders, stack, Resumes, IsSearch, IsNewSearch, SeenBefore, SeenNow, Enters, Goes, RestsUnchanged}
 use Rattle.digraph.proofs.Walking.{opened, moved, new_root, same_order}
 
 -- a new search has seen nothing
-pub begins : (g : List (Vec ℕ Global)) (s : Search) → IsNew s (length g) → IsSearch g s × (s.path.items ≡ []) × (orders s ≡ empty)
+pub begins : (g : List (Vec ℕ Global)) (s : Search) → IsNewSearch s (length g) → IsSearch g s × (s.path.items ≡ []) × (orders s ≡ empty)
 begins g s n = (
   record {
     len = n.len;
@@ -44,7 +44,7 @@ module _ (g : List (Vec ℕ Global)) (start : Traversal ℕ) (roots : List ℕ) 
   pub steps : (ns : List ℕ) (a b : Search) → Walks ns a → Goes g a b → Walks ns b
   steps ns a b w s = record { search = s.search; back = λ q r. w.back q (s.back ns q r) }
 
-  pub stands : (ns : List ℕ) (a b : Search) → Walks ns a → Stands a b → Waits ns b
+  pub stands : (ns : List ℕ) (a b : Search) → Walks ns a → RestsUnchanged a b → Waits ns b
   stands ns a b w s = let e = s.seen in record {
     search = record {
       len = ap length e ∙ w.search.len;

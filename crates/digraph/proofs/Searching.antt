@@ -7,16 +7,16 @@ use Rattle.std.specs.declared.vec.Vec.{Vec}
 use Rattle.std.specs.declared.alloc.Global.{Global}
 use Rattle.digraph.specs.declared.worklist.Worklist.{Worklist}
 use Rattle.digraph.specs.Graph.{row_items, successors, InRange, Reaches, Here, Along}
-use Rattle.digraph.specs.Work.{Has, Waits, Adds, Takes, IsFresh, IsDone}
+use Rattle.digraph.specs.Work.{HasNode, Waits, Adds, Takes, IsEmptyWorklist, IsDone}
 use Rattle.digraph.specs.Marks.{IsMarked}
 use Rattle.digraph.proofs.Marking.{only_one}
 
 -- all that is marked is reached, and what a marked node leads to is marked unless the node still waits
 pub record Searches (g : List (Vec ℕ Global)) (entry : ℕ) (w : Worklist) : Type 0 where
   pub len : length w.marked.items ≡ length g
-  pub begins : Has w entry
-  pub sound : (n : ℕ) → Has w n → Reaches (successors g) entry n
-  pub closed : (n : ℕ) → Has w n → Waits w n ⊎ ((m : ℕ) → Contains (successors g n) m → Has w m)
+  pub begins : HasNode w entry
+  pub sound : (n : ℕ) → HasNode w n → Reaches (successors g) entry n
+  pub closed : (n : ℕ) → HasNode w n → Waits w n ⊎ ((m : ℕ) → Contains (successors g n) m → HasNode w m)
 
 -- what stands at a node are its successors
 pub successors_at : (g : List (Vec ℕ Global)) (n : ℕ) (row : Vec ℕ Global) → n < length g → row ≡ get_or g n row → successors g n ≡ row.items
@@ -26,7 +26,7 @@ pub successors_in : (g : List (Vec ℕ Global)) (n m : ℕ) (xs : List ℕ) → 
 successors_in g n m xs r e q = λ k d h. subst (λ b. get_or xs k d < b) (sym e) (r n (get_or xs k d) (subst (λ s. Contains s (get_or xs k d)) (sym q) (Contains-get_or xs k d h)))
 
 module _ (g : List (Vec ℕ Global)) (entry : ℕ) where
-  pub search_begins : (v w : Worklist) → IsFresh v (length g) → Adds v w (entry ∷ []) → Searches g entry w
+  pub search_begins : (v w : Worklist) → IsEmptyWorklist v (length g) → Adds v w (entry ∷ []) → Searches g entry w
   search_begins v w f a = record {
     len = a.len ∙ f.len;
     begins = a.has entry (0, omega arith, refl);
@@ -48,15 +48,15 @@ module _ (g : List (Vec ℕ Global)) (entry : ℕ) where
         (a.fresh n h);
   }
     where
-      at_v : (n : ℕ) → Has u n → Has v n
+      at_v : (n : ℕ) → HasNode u n → HasNode v n
       at_v n h = subst (λ (x : Vec Bool Global). IsMarked x.items n) (sym e) h
 
-      at_u : (n : ℕ) → Has v n → Has u n
+      at_u : (n : ℕ) → HasNode v n → HasNode u n
       at_u n h = subst (λ (x : Vec Bool Global). IsMarked x.items n) e h
 
-  all_reached : (w : Worklist) → Searches g entry w → IsDone w → (n : ℕ) → Reaches (successors g) entry n → Has w n
+  all_reached : (w : Worklist) → Searches g entry w → IsDone w → (n : ℕ) → Reaches (successors g) entry n → HasNode w n
   all_reached w s d n Here = s.begins
   all_reached w s d n (Along {b = b} r c) = ⊎_elim (λ x. absurd (d.done b x)) (λ f. f n c) (s.closed b (all_reached w s d b r))
 
-  pub search_ends : (w : Worklist) → Searches g entry w → IsDone w → (n : ℕ) → Has w n ↔ Reaches (successors g) entry n
+  pub search_ends : (w : Worklist) → Searches g entry w → IsDone w → (n : ℕ) → HasNode w n ↔ Reaches (successors g) entry n
   search_ends w s d n = (s.sound n, all_reached w s d n)

@@ -39,7 +39,7 @@ pub record IsSearch (g : List (Vec ℕ Global)) (s : Search) : Type 0 where
   pub marked : (n : ℕ) → Contains s.pre.items n → IsMarked s.seen.items n
   pub open_in : All (λ (f : Open). f.node < length g) s.path.items
 
-pub record IsNew (s : Search) (count : ℕ) : Type 0 where
+pub record IsNewSearch (s : Search) (count : ℕ) : Type 0 where
   pub len : length s.seen.items ≡ count
   pub none : (n : ℕ) → IsMarked s.seen.items n → ⊥
   pub pre : s.pre.items ≡ []
@@ -68,7 +68,7 @@ pub record Goes (g : List (Vec ℕ Global)) (a b : Search) : Type 0 where
   pub back : (ns : List ℕ) (q : Traversal ℕ) → Resumes (successors g) (orders b) (stack b) ns q → Resumes (successors g) (orders a) (stack a) ns q
   pub work : work g b < work g a
 
-pub record Stands (a b : Search) : Type 0 where
+pub record RestsUnchanged (a b : Search) : Type 0 where
   pub seen : b.seen.items ≡ a.seen.items
   pub pre : b.pre.items ≡ a.pre.items
   pub post : b.post.items ≡ a.post.items

@@ -24,11 +24,11 @@ pub(crate) struct Search {
 }
 
 impl Search {
-    ghost use Rattle.digraph.specs.Searches.{IsNew, IsSearch, Enters, Goes, Stands, orders};
+    ghost use Rattle.digraph.specs.Searches.{IsNewSearch, IsSearch, Enters, Goes, RestsUnchanged, orders};
     ghost use Rattle.digraph.specs.Orders.{order_of};
 
     pub(crate) fn new(alloc: Global, count: usize) -> Result<Search, AllocError>
-        ensures { IfOk result (λ s. IsNew s count) }
+        ensures { IfOk result (λ s. IsNewSearch s count) }
     {
         Ok(Search {
             seen: vec![in alloc; false; count]?,
@@ -55,7 +55,8 @@ impl Search {
     fn step(&mut self, graph: &[Vec<usize>]) -> Result<bool, AllocError>
         requires graph { InRange graph.now }
         requires search { IsSearch graph.now self.old }
-        ensures { IfOk result (λ more. MatchBool more (Goes graph.now self.old self.new) (Stands self.old self.new)) }
+        ensures { IfOk result
+            (λ more. MatchBool more (Goes graph.now self.old self.new) (RestsUnchanged self.old self.new)) }
     {
         let Some(top) = self.path.pop() else {
             return Ok(false);

@@ -13,14 +13,14 @@ pub struct Worklist {
 }
 
 impl Worklist {
-    ghost use Rattle.digraph.specs.Work.{IsFresh, Adds, Takes, IsDone};
+    ghost use Rattle.digraph.specs.Work.{IsEmptyWorklist, Adds, Takes, IsDone};
 
     /// No node of `count` nodes is marked.
     ///
     /// # Errors
     /// There may be no memory.
     pub fn new(alloc: Global, count: usize) -> Result<Worklist, AllocError>
-        ensures { IfOk result (λ w. IsFresh w count) }
+        ensures { IfOk result (λ w. IsEmptyWorklist w count) }
     {
         Ok(Worklist {
             marked: vec![in alloc; false; count]?,

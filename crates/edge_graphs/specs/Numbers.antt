@@ -10,7 +10,7 @@ use Rattle.std.specs.declared.alloc.Global.{Global}
 use Rattle.digraph.specs.Graph.{successors, InRange}
 use Rattle.digraph.specs.Transpose.{AreTransposed}
 use Rattle.ir_graph.proofs.Places.{push_cases}
-use Rattle.ir_graph.specs.Graphs.{AreDistinct}
+use Rattle.ir_graph.specs.Graphs.{AreDistinctNodes}
 
 -- these numbers, in order
 abbrev pub numbers : ℕ → List ℕ
@@ -42,7 +42,7 @@ itself : (k i n : ℕ) → slice_get (numbers k) i ≡ Some n → i ≡ n
 itself zero i n e = absurd (none-some n e)
 itself (suc k) i n e = ⊎_elim (λ a. itself k i n a) (λ b. b.0 ∙ counted k ∙ b.1) (push_cases (numbers k) k n i e)
 
-pub numbers_distinct : (k : ℕ) → AreDistinct (numbers k)
+pub numbers_distinct : (k : ℕ) → AreDistinctNodes (numbers k)
 numbers_distinct k i j n a b = itself k i n a ∙ sym (itself k j n b)
 
 pub first_in : (k : ℕ) → IfSome (first_number k) (λ n. Contains (numbers k) n)

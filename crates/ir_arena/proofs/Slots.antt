@@ -5,7 +5,7 @@ use Rattle.std.proofs.lemmas.List.{length-set, get_or-set_same, get_or-set_other
 use Rattle.std.proofs.lemmas.Bool.{eqb-true, eqb-false, eq-eqb, ne_eqb, or_parts, or_from, cases_Bool, cases_eq, cases_order, cases_lt}
 use Rattle.ir_arena.specs.declared.arena.Key.{Key}
 use Rattle.ir_arena.specs.declared.arena.Slot.{Slot}
-use Rattle.ir_arena.specs.Arena.{held, SetsSlot, ClearsSlot, no_slot, slot_at, value_at, get, same, Updates, IsSpent, KeepsSpent, IsFreeFrom, IsSound}
+use Rattle.ir_arena.specs.Arena.{held, SetsSlot, ClearsSlot, no_slot, slot_at, value_at, get, same, Updates, IsSpent, KeepsSpent, IsFreeFrom, HasFreeList}
 
 module _ {T : Type 0} where
   none_is_not_some : (o : Option T) → o ≡ None → IsSome o → ⊥
@@ -21,7 +21,7 @@ module _ {T : Type 0} where
     pub apart : list_any (eqb x) rest ≡ false
     pub chain : IsFreeFrom slots (slot_at slots x).next rest
 
-  pub first_free : (slots : List (Slot T)) (o : Option ℕ) (x : ℕ) → IsSound slots o → o ≡ Some x → IsFirst slots x
+  pub first_free : (slots : List (Slot T)) (o : Option ℕ) (x : ℕ) → HasFreeList slots o → o ≡ Some x → IsFirst slots x
   first_free slots o x sound is = from_chain sound.vacant sound.chain where
     from_chain : (xs : List ℕ) → IsFreeFrom slots o xs → IsFirst slots x
     from_chain [] e = let two : None ≡ Some x = sym e ∙ is in cc
@@ -45,14 +45,14 @@ module _ {T : Type 0} where
       (not_free slots (slot_at slots x).next xs i c.5 s)
 
   -- the vacant slot that was read is put to use
-  pub sound_used : (slots : List (Slot T)) (o : Option ℕ) (x : ℕ) (was s : Slot T) → IsSound slots o → o ≡ Some x → was ≡ get_or slots x was → IsSound (set slots x s) was.next
+  pub sound_used : (slots : List (Slot T)) (o : Option ℕ) (x : ℕ) (was s : Slot T) → HasFreeList slots o → o ≡ Some x → was ≡ get_or slots x was → HasFreeList (set slots x s) was.next
   sound_used slots o x was s sound is read =
       let f : IsFirst slots x = first_free slots o x sound is in
       let at : was ≡ slot_at slots x = read ∙ get_or_default slots x was no_slot f.within in
       record { vacant = f.rest; chain = rw at (free_kept slots x s (slot_at slots x).next f.rest f.apart f.chain) }
 
   -- a slot in use is given back
-  pub sound_back : (slots : List (Slot T)) (o : Option ℕ) (x : ℕ) (s : Slot T) → IsSound slots o → x < length slots → IsSome (slot_at slots x).value → s.version < 2 ^ 64 - 1 → s.next ≡ o → s.value ≡ None → IsSound (set slots x s) (Some x)
+  pub sound_back : (slots : List (Slot T)) (o : Option ℕ) (x : ℕ) (s : Slot T) → HasFreeList slots o → x < length slots → IsSome (slot_at slots x).value → s.version < 2 ^ 64 - 1 → s.next ≡ o → s.value ≡ None → HasFreeList (set slots x s) (Some x)
   sound_back slots o x s sound lt used left next gone =
       let no : list_any (eqb x) sound.vacant ≡ false = not_free slots o sound.vacant x sound.chain used in
       let here : slot_at (set slots x s) x ≡ s = get_or-set_same slots x s no_slot lt in
@@ -198,7 +198,7 @@ module _ {T : Type 0} where
   }
 
   -- a slot in use gets another value
-  pub sound_lent : (slots : List (Slot T)) (o : Option ℕ) (x : ℕ) (s : Slot T) → IsSound slots o → IsSome (slot_at slots x).value → IsSound (set slots x s) o
+  pub sound_lent : (slots : List (Slot T)) (o : Option ℕ) (x : ℕ) (s : Slot T) → HasFreeList slots o → IsSome (slot_at slots x).value → HasFreeList (set slots x s) o
   sound_lent slots o x s sound used = record {
     vacant = sound.vacant;
     chain = free_kept slots x s o sound.vacant (not_free slots o sound.vacant x sound.chain used) sound.chain;

@@ -66,6 +66,6 @@ module _ {T : Type 0} where
   IsFreeFrom slots o (x ∷ xs) = (o ≡ Some x) × (x < length slots) × ((slot_at slots x).value ≡ None) × ((slot_at slots x).version < 2 ^ 64 - 1) × (list_any (eqb x) xs ≡ false) × IsFreeFrom slots (slot_at slots x).next xs
 
   -- some vacant slots lead on from the first one
-  pub record IsSound (slots : List (Slot T)) (free : Option ℕ) : Type 0 where
+  pub record HasFreeList (slots : List (Slot T)) (free : Option ℕ) : Type 0 where
     pub vacant : List ℕ
     pub chain : IsFreeFrom slots free vacant

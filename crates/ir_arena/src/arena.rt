@@ -61,11 +61,11 @@ impl<T> Model for Arena<T> {
 
     ghost Value = { List (Slot T) };
 
-    ghost use Rattle.ir_arena.specs.Arena.{IsSound};
+    ghost use Rattle.ir_arena.specs.Arena.{HasFreeList};
 
     ghost view = { λ a. a.slots.items };
 
-    ghost invariant = { λ a. IsSound a.slots.items a.free };
+    ghost invariant = { λ a. HasFreeList a.slots.items a.free };
 }
 
 impl<T> Arena<T> {

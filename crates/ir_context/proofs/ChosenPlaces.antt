@@ -10,7 +10,7 @@ use Rattle.ir_program.specs.Replacing.{Chooses}
 use Rattle.ir_program.specs.declared.handles.Ptr.{Ptr}
 use Rattle.ir_program.specs.declared.handles.Operation.{Operation}
 use Rattle.ir_program.specs.declared.handles.Use.{Use}
-use Rattle.ir_context.specs.Chosen.{AreUsesNaming, Says}
+use Rattle.ir_context.specs.Chosen.{AreUsesNaming, MaySay}
 use Rattle.ir_program.proofs.used.ReplacedUses.{place-here, place-is, among-new, among-old}
 
 or_false_left : (a b : Bool) → (a || b) ≡ false → a ≡ false
@@ -181,5 +181,5 @@ module _ {K : Type 0} where
       }
 
 -- what a call of the predicate answered
-pub says-called : {F U : Type 0} (g : Shared F (Bor U × Unit {0}) Bool) {f : F} {q : Bor U} {r b : Bool} (u : U) → g.post f (q, tt) r → r ≡ b → q.now ≡ u → Says g f u b
+pub says-called : {F U : Type 0} (g : Shared F (Bor U × Unit {0}) Bool) {f : F} {q : Bor U} {r b : Bool} (u : U) → g.post f (q, tt) r → r ≡ b → q.now ≡ u → MaySay g f u b
 says-called g {f} {q} u h e asked = record { asked = q; shows = asked; says = says g h e }

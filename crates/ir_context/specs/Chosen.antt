@@ -13,7 +13,7 @@ abbrev pub AreUsesNaming : {K : Type 0} → (Ptr Operation → List K) → K →
 AreUsesNaming {K} rows x us = (k : ℕ) (u : Use K) → slice_get us k ≡ Some u → IsUseIn rows u × (u.def ≡ x)
 
 -- asked about u, the predicate f may answer b
-pub record Says {F U : Type 0} (g : Shared F (Bor U × Unit {0}) Bool) (f : F) (u : U) (b : Bool) : Type 0 where
+pub record MaySay {F U : Type 0} (g : Shared F (Bor U × Unit {0}) Bool) (f : F) (u : U) (b : Bool) : Type 0 where
   pub asked : Bor U
   pub shows : asked.now ≡ u
   pub says : FnReturns g f (asked, tt) b

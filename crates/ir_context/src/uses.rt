@@ -7,7 +7,7 @@ ghost use Rattle.ir_program.specs.Edits.{KeepsValues};
 ghost use Rattle.ir_program.specs.Replacing.{Chooses};
 ghost use Rattle.ir_program.specs.Among.{is_among};
 ghost use Rattle.ir_program.specs.Rows.{operands_at, successors_at};
-ghost use Rattle.ir_context.specs.Chosen.{AreUsesNaming, Says};
+ghost use Rattle.ir_context.specs.Chosen.{AreUsesNaming, MaySay};
 ghost use Rattle.ir_program.specs.declared.handles.Ptr.{Ptr};
 ghost use Rattle.ir_program.specs.declared.handles.BasicBlock.{BasicBlock};
 ghost use Rattle.ir_program.specs.declared.handles.Value.{Value};
@@ -87,7 +87,7 @@ pub trait UseCalls {
         requires other { IsLiveValue ctx.old.program other }
         requires callable { F.IsAlwaysCallable predicate }
         ensures replaced { OnOk result ((chosen : Use Value → Bool)
-            × Chooses (operands_at ctx.old.program) (Says F.Fn predicate) (used self) chosen
+            × Chooses (operands_at ctx.old.program) (MaySay F.Fn predicate) (used self) chosen
             × ReplacesChosen ctx.old.program ctx.new.program chosen other) }
         ensures err { OnErr result (ctx.new ≡ ctx.old) }
         ensures values { KeepsValues ctx.old.program ctx.new.program }
@@ -106,7 +106,7 @@ pub trait UseCalls {
         requires live { IsLiveValue ctx.now.program (used self) }
         requires callable { F.IsAlwaysCallable predicate }
         ensures stand { IfOk result (λ places. AreUsesNaming (operands_at ctx.now.program) (used self) places.items) }
-        ensures chosen { IfOk result (λ places. Chooses (operands_at ctx.now.program) (Says F.Fn predicate)
+        ensures chosen { IfOk result (λ places. Chooses (operands_at ctx.now.program) (MaySay F.Fn predicate)
             (used self) (is_among places.items)) };
 
     /// Puts another value in place of the operand at each of these uses of the value. The parameter stays for callers that
@@ -201,7 +201,7 @@ fn choose_uses<O, B, F: Fn(&Use<Value>) -> bool>(
     requires used { IsLiveValue program.now used }
     requires callable { F.IsAlwaysCallable predicate.now }
     ensures stand { IfOk result (λ places. AreUsesNaming (operands_at program.now) used places.items) }
-    ensures chosen { IfOk result (λ places. Chooses (operands_at program.now) (Says F.Fn predicate.now) used
+    ensures chosen { IfOk result (λ places. Chooses (operands_at program.now) (MaySay F.Fn predicate.now) used
         (is_among places.items)) }
 {
     let mut chosen = Vec::new(alloc);
@@ -280,7 +280,7 @@ pub trait PredecessorCalls {
         requires other { IsSome (block_at ctx.old.program other) }
         requires callable { F.IsAlwaysCallable predicate }
         ensures retargeted { OnOk result ((chosen : Use (Ptr BasicBlock) → Bool)
-            × Chooses (successors_at ctx.old.program) (Says F.Fn predicate) (target self) chosen
+            × Chooses (successors_at ctx.old.program) (MaySay F.Fn predicate) (target self) chosen
             × RetargetsChosen ctx.old.program ctx.new.program chosen other) }
         ensures err { OnErr result (ctx.new ≡ ctx.old) }
         ensures values { KeepsValues ctx.old.program ctx.new.program }
@@ -301,7 +301,7 @@ pub trait PredecessorCalls {
         requires callable { F.IsAlwaysCallable predicate }
         ensures stand { IfOk result (λ places. AreUsesNaming (successors_at ctx.now.program)
             (target self) places.items) }
-        ensures chosen { IfOk result (λ places. Chooses (successors_at ctx.now.program) (Says F.Fn predicate)
+        ensures chosen { IfOk result (λ places. Chooses (successors_at ctx.now.program) (MaySay F.Fn predicate)
             (target self) (is_among places.items)) };
 
     /// Makes each of these edges to the block lead to another. The parameter stays for callers that allocate; no memory is
@@ -396,7 +396,7 @@ fn choose_edges<O, B, F: Fn(&Use<Ptr<BasicBlock>>) -> bool>(
     requires used { IsSome (block_at program.now used) }
     requires callable { F.IsAlwaysCallable predicate.now }
     ensures stand { IfOk result (λ places. AreUsesNaming (successors_at program.now) used places.items) }
-    ensures chosen { IfOk result (λ places. Chooses (successors_at program.now) (Says F.Fn predicate.now) used
+    ensures chosen { IfOk result (λ places. Chooses (successors_at program.now) (MaySay F.Fn predicate.now) used
         (is_among places.items)) }
 {
     let mut chosen = Vec::new(alloc);

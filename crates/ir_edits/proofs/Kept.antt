@@ -25,7 +25,7 @@ use Rattle.ir_edits.specs.Naming.{block_named, value_named}
 use Rattle.ir_edits.specs.Resolving.{resolved}
 use Rattle.ir_edits.specs.Answered.{Answered}
 use Rattle.ir_edits.specs.Same.{IsSame}
-use Rattle.ir_edits.specs.Steps.{Named, does, step, Runs, ends, goes_on, stops}
+use Rattle.ir_edits.specs.Steps.{IfNamed, does, step, RunsEdits, ends, goes_on, stops}
 
 -- operations are the same or not
 same_operation : (p q : Ptr Operation) → (p ≡ q) ⊎ (p ≢ q)
@@ -43,7 +43,7 @@ moved_erased c n q p from stands elsewhere within = ⊎_elim
 
 module _ {O B T : Type 0} (c n : ContextView O B T) where
   -- an edit of what a name stands for
-  named_kept : {X R : Type 0} (x : Option X) (r : Result R CoreError) (P : X → Type 0) → Named x c n r P → ((y : X) → P y → KeepsErased c.program n.program) → KeepsErased c.program n.program
+  named_kept : {X R : Type 0} (x : Option X) (r : Result R CoreError) (P : X → Type 0) → IfNamed x c n r P → ((y : X) → P y → KeepsErased c.program n.program) → KeepsErased c.program n.program
   named_kept None r P h kept = h.1.program.erased
   named_kept (Some y) r P h kept = kept y h
 
@@ -119,7 +119,7 @@ module _ {D TypeKind AttrKind TypeBody Saved Location OpKind Attr TypeKey K T S 
   -- a list of edits
   pub runs_kept : (c : ContextView (OperationData D TypeKind AttrKind TypeBody Saved Location OpKind Attr TypeKey) (BlockNotes D TypeKind AttrKind TypeBody Saved Location OpKind Attr TypeKey) (TypesView K T S)) (made : List (Option Entity)) (es : List (Edit OpKind))
       (n : ContextView (OperationData D TypeKind AttrKind TypeBody Saved Location OpKind Attr TypeKey) (BlockNotes D TypeKind AttrKind TypeBody Saved Location OpKind Attr TypeKey) (TypesView K T S)) (answer : Result (List (Option Entity)) (ℕ × CoreError))
-      → Runs nowhere c made es n answer → KeepsErased c.program n.program
+      → RunsEdits nowhere c made es n answer → KeepsErased c.program n.program
   runs_kept c made [] _ _ (ends _ _) = kept-erased c.program
   runs_kept c made (e ∷ es) n answer (goes_on _ mid _ _ _ _ m _ s rest) = erased-then c.program mid.program n.program (step_kept c made e mid (Ok m) s) (runs_kept mid (made ++ m ∷ []) es n answer rest)
   runs_kept c made (e ∷ es) n _ (stops _ _ _ _ _ refusal s) = step_kept c made e n (Err refusal) s

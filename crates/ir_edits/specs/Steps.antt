@@ -25,8 +25,8 @@ use Rattle.ir_edits.specs.BlockListEdits.{AnswersInsertBlockAfter, AnswersInsert
 use Rattle.ir_edits.specs.UseEdits.{AnswersReplaceAllUsesWith, AnswersReplaceUseWith, ReplacesSomeUses, AnswersRetargetAllPredsTo, AnswersRetargetPredTo, RetargetsSome}
 
 -- what is said of the entity that is named; where the name stands for nothing, the edit is refused and all is the same
-abbrev pub Named : {X O B T R : Type 0} → Option X → ContextView O B T → ContextView O B T → Result R CoreError → (X → Type 0) → Type 0
-Named x c n r P = MatchOption x ((r ≡ Err EditNotAllowed) × IsSame c n) P
+abbrev pub IfNamed : {X O B T R : Type 0} → Option X → ContextView O B T → ContextView O B T → Result R CoreError → (X → Type 0) → Type 0
+IfNamed x c n r P = MatchOption x ((r ≡ Err EditNotAllowed) × IsSame c n) P
 
 -- the answer of a list of edits, with the list of what they made
 abbrev pub listed : {Z E : Type 0} → Result (Vec (Option Entity) Z) E → Result (List (Option Entity)) E
@@ -88,16 +88,16 @@ module _ {D TypeKind AttrKind TypeBody Saved Location OpKind Attr TypeKey K T S 
       → Result (Option Entity) CoreError → Type 0
   step nowhere c made (edit.NewOperation kind result_types operands successors num_regions) n r = BuildsNewOperation nowhere c made kind result_types.items operands.items successors.items num_regions n r
   step nowhere c made (edit.NewBlock label argument_types) n r = BuildsNewBlock nowhere c label argument_types.items n r
-  step nowhere c made (edit.RetargetSomePredsTo block places other) n r = Named (block_named made block) c n r (λ b. Named (block_named made other) c n r (λ to. RetargetsSome c b made places.items to n r))
-  step nowhere c made (edit.ReplaceSomeUsesWith value places other) n r = Named (value_named c.program made value) c n r (λ v. Named (value_named c.program made other) c n r (λ w. ReplacesSomeUses c v made places.items w n r))
-  step nowhere c made e n r = Named (resolved c.program made e) c n r (λ d. does (λ types. length types.keys) c d n r)
+  step nowhere c made (edit.RetargetSomePredsTo block places other) n r = IfNamed (block_named made block) c n r (λ b. IfNamed (block_named made other) c n r (λ to. RetargetsSome c b made places.items to n r))
+  step nowhere c made (edit.ReplaceSomeUsesWith value places other) n r = IfNamed (value_named c.program made value) c n r (λ v. IfNamed (value_named c.program made other) c n r (λ w. ReplacesSomeUses c v made places.items w n r))
+  step nowhere c made e n r = IfNamed (resolved c.program made e) c n r (λ d. does (λ types. length types.keys) c d n r)
 
   -- from the context c to n a list of edits answers so, where `made` is what the edits before it made: each edit is made in turn, up to the first that is refused, of which the number and the refusal are answered
-  pub data Runs (nowhere : Location) :
+  pub data RunsEdits (nowhere : Location) :
       ContextView (OperationData D TypeKind AttrKind TypeBody Saved Location OpKind Attr TypeKey) (BlockNotes D TypeKind AttrKind TypeBody Saved Location OpKind Attr TypeKey) (TypesView K T S)
       → List (Option Entity) → List (Edit OpKind)
       → ContextView (OperationData D TypeKind AttrKind TypeBody Saved Location OpKind Attr TypeKey) (BlockNotes D TypeKind AttrKind TypeBody Saved Location OpKind Attr TypeKey) (TypesView K T S)
       → Result (List (Option Entity)) (ℕ × CoreError) → Type 0 where
-    ends : (c : _) (made : List (Option Entity)) → Runs nowhere c made [] c (Ok made)
-    goes_on : (c mid n : _) (made : List (Option Entity)) (e : Edit OpKind) (es : List (Edit OpKind)) (m : Option Entity) (answer : _) → step nowhere c made e mid (Ok m) → Runs nowhere mid (made ++ m ∷ []) es n answer → Runs nowhere c made (e ∷ es) n answer
-    stops : (c n : _) (made : List (Option Entity)) (e : Edit OpKind) (es : List (Edit OpKind)) (refusal : CoreError) → step nowhere c made e n (Err refusal) → Runs nowhere c made (e ∷ es) n (Err (length made, refusal))
+    ends : (c : _) (made : List (Option Entity)) → RunsEdits nowhere c made [] c (Ok made)
+    goes_on : (c mid n : _) (made : List (Option Entity)) (e : Edit OpKind) (es : List (Edit OpKind)) (m : Option Entity) (answer : _) → step nowhere c made e mid (Ok m) → RunsEdits nowhere mid (made ++ m ∷ []) es n answer → RunsEdits nowhere c made (e ∷ es) n answer
+    stops : (c n : _) (made : List (Option Entity)) (e : Edit OpKind) (es : List (Edit OpKind)) (refusal : CoreError) → step nowhere c made e n (Err refusal) → RunsEdits nowhere c made (e ∷ es) n (Err (length made, refusal))

@@ -6,7 +6,7 @@ ghost use Rattle.ir_context.specs.declared.errors.CoreError.TheVariants.{Memory}
 ghost use Rattle.ir_context.specs.declared.notes.OperationData.{OperationData};
 ghost use Rattle.ir_context.specs.declared.notes.BlockNotes.{BlockNotes};
 ghost use Rattle.ir_program.specs.Edits.{KeepsErased};
-ghost use Rattle.ir_edits.specs.Steps.{Runs, listed};
+ghost use Rattle.ir_edits.specs.Steps.{RunsEdits, listed};
 
 use crate::apply::apply;
 use crate::{Edit, Entity};
@@ -35,7 +35,7 @@ pub trait RunEdits<D: DialectTables> {
         &mut self,
         edits: Vec<Edit<D::OpKind>>,
     ) -> Result<Vec<Option<Entity>>, (usize, CoreError)>
-        ensures runs { Runs D.nowhere (context self.old) [] edits.items (context self.new) (listed result)
+        ensures runs { RunsEdits D.nowhere (context self.old) [] edits.items (context self.new) (listed result)
             ⊎ ((result ≡ Err (0, Memory)) × (context self.new ≡ context self.old)) }
         ensures erased { KeepsErased (context self.old).program (context self.new).program };
 }
@@ -47,7 +47,7 @@ impl<D: DialectTables> RunEdits<D> for Context<D> {
         &mut self,
         edits: Vec<Edit<D::OpKind>>,
     ) -> Result<Vec<Option<Entity>>, (usize, CoreError)>
-        ensures runs { Runs D.nowhere self.old [] edits.items self.new (listed result)
+        ensures runs { RunsEdits D.nowhere self.old [] edits.items self.new (listed result)
             ⊎ ((result ≡ Err (0, Memory)) × (self.new ≡ self.old)) }
         ensures erased { KeepsErased self.old.program self.new.program }
     {
@@ -78,8 +78,8 @@ fn run_all<D: DialectTables>(
     made: &mut Vec<Option<Entity>>,
 ) -> Result<(), (usize, CoreError)>
     requires { length made.old.items ≡ length edits.now }
-    ensures all { OnOk result (Runs D.nowhere ctx.old [] edits.now ctx.new (Ok made.new.items)) }
-    ensures refused { IfErr result (λ e. Runs D.nowhere ctx.old [] edits.now ctx.new (Err e)) }
+    ensures all { OnOk result (RunsEdits D.nowhere ctx.old [] edits.now ctx.new (Ok made.new.items)) }
+    ensures refused { IfErr result (λ e. RunsEdits D.nowhere ctx.old [] edits.now ctx.new (Err e)) }
     ensures erased { KeepsErased ctx.old.program ctx.new.program }
 {
     for index in 0..edits.len() {

@@ -5,13 +5,13 @@ use Rattle.std.proofs.lemmas.List.{get_or_past}
 use Rattle.std.proofs.lemmas.Bool.{eqb-true, or_cases, or_parts, cases_lt, both_ways, false_from_ne_true}
 use Rattle.std.proofs.lemmas.Map.Steps.{length-le_from_distinct_below}
 use Rattle.std.specs.List.{list_any}
-use Rattle.ir_entities.specs.Links.{has, AreDistinct}
+use Rattle.ir_entities.specs.Links.{has, AreDistinctNumbers}
 use Rattle.ir_arena.specs.declared.arena.Slot.{Slot}
 use Rattle.ir_arena.specs.Arena.{held, no_slot}
 use Rattle.ir_entities.specs.declared.forest.Place.{Place}
 use Rattle.ir_entities.specs.declared.forest.Place.TheVariants.{Op, Block, Region}
 use Rattle.ir_entities.specs.Shape.{Shape, IsIn, IsInside, itself, deeper, IsGrounded, below}
-use Rattle.ir_entities.specs.Forest.{Forest, IsForest, IsUsed, shape_of}
+use Rattle.ir_entities.specs.Forest.{Forest, IsForest, HoldsInUse, shape_of}
 
 pub inside_trans : (s : Shape) (a b c : Place) → IsInside s a b → IsInside s b c → IsInside s a c
 inside_trans s a b _ h itself = h
@@ -30,20 +30,20 @@ all_differ : (x : ℕ) (xs : List ℕ) → has x xs ≡ false → AllByRecursion
 all_differ x [] h = tt
 all_differ x (y ∷ ys) h = let p : (eqb x y ≡ false) × (has x ys ≡ false) = or_parts _ _ h in (p.0, all_differ x ys p.1)
 
-are_distinct : (xs : List ℕ) → AreDistinct xs → IsDistinct eqb xs
+are_distinct : (xs : List ℕ) → AreDistinctNumbers xs → IsDistinct eqb xs
 unfolding IsDistinct
 are_distinct [] d = tt
 are_distinct (x ∷ xs) d = (all_differ x xs d.0, are_distinct xs d.1)
 
-pub at_most : (xs : List ℕ) (n : ℕ) → AreDistinct xs → ((q : ℕ) → has q xs ≡ true → q < n) → length xs ≤ n
+pub at_most : (xs : List ℕ) (n : ℕ) → AreDistinctNumbers xs → ((q : ℕ) → has q xs ≡ true → q < n) → length xs ≤ n
 at_most xs n d h = length-le_from_distinct_below xs n (are_distinct xs d) (λ q i. h q (sym (any_is_has q xs) ∙ i))
 
 -- how far c has been climbed from, on the way to x: the operations met are distinct, and `at` is inside each
 pub record Climbs {O B R : Type 0} (f : Forest O B R) (x c at : Place) (left : ℕ) : Type 0 where
   pub seen : List ℕ
   pub count : length seen + left ≡ length f.ops
-  pub distinct : AreDistinct seen
-  pub used : IsUsed f at
+  pub distinct : AreDistinctNumbers seen
+  pub used : HoldsInUse f at
   pub known : (q : ℕ) → has q seen ≡ true → (q < length f.ops) × IsInside (shape_of f) at (Op q)
   pub up : IsInside (shape_of f) x c → IsInside (shape_of f) x at
   pub down : IsInside (shape_of f) at c
@@ -58,7 +58,7 @@ used_below {T} slots i used = ⊎_elim (λ l. l)
     (cases_lt i (length slots))
 
 module _ {O B R : Type 0} (f : Forest O B R) (forest : IsForest f) (x c at : Place) (left : ℕ) (h : Climbs f x c at left) (d : Place)
-    (i : IsIn (shape_of f) at d) (used : IsUsed f d) (one : (e : Place) → IsIn (shape_of f) at e → e ≡ d) (ne : at ≡ x → ⊥) where
+    (i : IsIn (shape_of f) at d) (used : HoldsInUse f d) (one : (e : Place) → IsIn (shape_of f) at e → e ≡ d) (ne : at ≡ x → ⊥) where
   further : IsInside (shape_of f) d at
   further = deeper at d i itself
 
@@ -83,9 +83,9 @@ module _ {O B R : Type 0} (f : Forest O B R) (forest : IsForest f) (x c at : Pla
   unmet o is = false_from_ne_true (has o h.seen) (λ k. no_cycle (shape_of f) at (forest.grounded at) d i (rw is (h.known o k).1))
 
   pub below_all : (o : ℕ) → d ≡ Op o → o < length f.ops
-  below_all o is = used_below f.ops o (subst (λ (z : Place). IsUsed f z) is used)
+  below_all o is = used_below f.ops o (subst (λ (z : Place). HoldsInUse f z) is used)
 
-  pub distinct_more : (o : ℕ) → d ≡ Op o → AreDistinct (o ∷ h.seen)
+  pub distinct_more : (o : ℕ) → d ≡ Op o → AreDistinctNumbers (o ∷ h.seen)
   distinct_more o is = (unmet o is, h.distinct)
 
   pub known_more : (o : ℕ) → d ≡ Op o → (q : ℕ) → has q (o ∷ h.seen) ≡ true → (q < length f.ops) × IsInside (shape_of f) d (Op q)
@@ -111,7 +111,7 @@ module _ {O B R : Type 0} (f : Forest O B R) (forest : IsForest f) (x c at : Pla
     down = inside_trans (shape_of f) d at c further h.down;
   }
 
-pub climb_begins : {O B R : Type 0} (f : Forest O B R) (x c : Place) → IsUsed f c → Climbs f x c c (length f.ops)
+pub climb_begins : {O B R : Type 0} (f : Forest O B R) (x c : Place) → HoldsInUse f c → Climbs f x c c (length f.ops)
 climb_begins f x c used = record {
   seen = [];
   count = omega arith;
@@ -128,7 +128,7 @@ steps (Op i) = 2
 steps (Block i) = 1
 steps (Region i) = 0
 
-pub climb_starts : {O B R : Type 0} (v : Forest O B R) (x c : Place) (n : ℕ) → n ≡ length v.ops → IsUsed v c → Climbs v x c c n
+pub climb_starts : {O B R : Type 0} (v : Forest O B R) (x c : Place) (n : ℕ) → n ≡ length v.ops → HoldsInUse v c → Climbs v x c c n
 climb_starts v x c n is used = rw is (climb_begins v x c used)
 
 -- at the top, without having met x

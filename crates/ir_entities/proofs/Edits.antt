@@ -4,7 +4,7 @@ use Rattle.std.proofs.lemmas.List.{length-set, get_or-set_same, get_or-set_other
 use Rattle.std.proofs.lemmas.Bool.{eqb-true, eqb-false, eq-eqb, or_cases, or_parts, or_left, or_right, cases_eq, false_from_ne_true, both_ways}
 use Rattle.ir_entities.specs.declared.siblings.Node.{Node}
 use Rattle.ir_entities.specs.declared.siblings.Ends.{Ends}
-use Rattle.ir_entities.specs.Links.{first_or, last_or, has, AreDistinct, IsSegment, IsList, AreLists, list_at, ends_at}
+use Rattle.ir_entities.specs.Links.{first_or, last_or, has, AreDistinctNumbers, IsSegment, IsList, AreLists, list_at, ends_at}
 use Rattle.ir_entities.proofs.Segments.{is_at, rejoined, has_here, has-append, has_last, parent_in, segment_left, segment_right, segment_both, segment_kept, segment_to, segment_from}
 
 -- the ends of list c fit zs, and no other list's ends changed
@@ -39,43 +39,43 @@ has_but y x us vs ne h = ⊎_elim
     (λ t. ⊎_elim (λ i. absurd (ne (eqb-true y x i))) (λ u. has_right y us vs u) (or_cases (eqb y x) (has y vs) t))
     (or_cases (has y us) (has y (x ∷ vs)) (sym (has-append y us (x ∷ vs)) ∙ h))
 
-distinct_left : (us vs : List ℕ) → AreDistinct (us ++ vs) → AreDistinct us
+distinct_left : (us vs : List ℕ) → AreDistinctNumbers (us ++ vs) → AreDistinctNumbers us
 distinct_left [] vs d = tt
 distinct_left (a ∷ us) vs d = ((or_parts (has a us) (has a vs) (sym (has-append a us vs) ∙ d.0)).0, distinct_left us vs d.1)
 
-pub distinct_right : (us vs : List ℕ) → AreDistinct (us ++ vs) → AreDistinct vs
+pub distinct_right : (us vs : List ℕ) → AreDistinctNumbers (us ++ vs) → AreDistinctNumbers vs
 distinct_right [] vs d = d
 distinct_right (a ∷ us) vs d = distinct_right us vs d.1
 
 -- what stands in the one part doesn't stand in the other
-pub apart : (us vs : List ℕ) (y : ℕ) → AreDistinct (us ++ vs) → has y us ≡ true → has y vs ≡ true → ⊥
+pub apart : (us vs : List ℕ) (y : ℕ) → AreDistinctNumbers (us ++ vs) → has y us ≡ true → has y vs ≡ true → ⊥
 apart [] vs y d h k = both_ways false refl h
 apart (a ∷ us) vs y d h k = ⊎_elim
     (λ t. let i : y ≡ a = eqb-true y a t in both_ways (has a (us ++ vs)) d.0 (has_right a us vs (rw (← i) k)))
     (λ t. apart us vs y d.1 t k)
     (or_cases (eqb y a) (has y us) h)
 
-distinct_with : (x : ℕ) (us vs : List ℕ) → AreDistinct (us ++ vs) → has x (us ++ vs) ≡ false → AreDistinct (us ++ x ∷ vs)
+distinct_with : (x : ℕ) (us vs : List ℕ) → AreDistinctNumbers (us ++ vs) → has x (us ++ vs) ≡ false → AreDistinctNumbers (us ++ x ∷ vs)
 distinct_with x [] vs d n = (n, d)
 distinct_with x (a ∷ us) vs d n =
     let m : (eqb x a ≡ false) × (has x (us ++ vs) ≡ false) = or_parts (eqb x a) (has x (us ++ vs)) n in
     (false_from_ne_true (has a (us ++ x ∷ vs)) (λ h. both_ways (has a (us ++ vs)) d.0 (has_but a x us vs (λ i. eqb-false x a m.0 (sym i)) h)), distinct_with x us vs d.1 m.1)
 
-distinct_without : (x : ℕ) (us vs : List ℕ) → AreDistinct (us ++ x ∷ vs) → AreDistinct (us ++ vs)
+distinct_without : (x : ℕ) (us vs : List ℕ) → AreDistinctNumbers (us ++ x ∷ vs) → AreDistinctNumbers (us ++ vs)
 distinct_without x [] vs d = d.1
 distinct_without x (a ∷ us) vs d =
     (false_from_ne_true (has a (us ++ vs)) (λ h. both_ways (has a (us ++ x ∷ vs)) d.0 (has_middle a x us vs h)), distinct_without x us vs d.1)
 
 module _ (at new : ℕ → Node) (c : ℕ) (q b : Option ℕ) where
   -- the part before the change
-  left_part : (us : List ℕ) (e f : Option ℕ) → IsSegment at c None us e → AreDistinct us → ((y : ℕ) → has y us ≡ true → is_at f y ≡ false) → ((y : ℕ) → has y us ≡ true → new y ≡ rejoined at (last_or None us) q f b y) → IsSegment new c None us q
+  left_part : (us : List ℕ) (e f : Option ℕ) → IsSegment at c None us e → AreDistinctNumbers us → ((y : ℕ) → has y us ≡ true → is_at f y ≡ false) → ((y : ℕ) → has y us ≡ true → new y ≡ rejoined at (last_or None us) q f b y) → IsSegment new c None us q
   left_part [] e f s d nf same = tt
   left_part (a ∷ us) e f s d nf same =
       segment_kept (rejoined at (last_or (Some a) us) q f b) c new None (a ∷ us) q same
       (segment_to at c None a us e (last_or (Some a) us) q f b s d refl nf)
 
   -- the part after it
-  right_part : (vs : List ℕ) (p l : Option ℕ) → IsSegment at c p vs None → AreDistinct vs → ((y : ℕ) → has y vs ≡ true → is_at l y ≡ false) → ((y : ℕ) → has y vs ≡ true → new y ≡ rejoined at l q (first_or None vs) b y) → IsSegment new c b vs None
+  right_part : (vs : List ℕ) (p l : Option ℕ) → IsSegment at c p vs None → AreDistinctNumbers vs → ((y : ℕ) → has y vs ≡ true → is_at l y ≡ false) → ((y : ℕ) → has y vs ≡ true → new y ≡ rejoined at l q (first_or None vs) b y) → IsSegment new c b vs None
   right_part [] p l s d nl same = tt
   right_part (z ∷ vs) p l s d nl same =
       segment_kept (rejoined at l q (Some z) b) c new b (z ∷ vs) None same
@@ -161,7 +161,7 @@ take_out at new es fs ls c x us vs are lt is free others ends =
     let sl : IsSegment at c None us (Some x) = segment_left at c None us (x ∷ vs) None mine.chain in
     let sx : IsSegment at c (last_or None us) (x ∷ vs) None = segment_right at c None us (x ∷ vs) None mine.chain in
     let sr : IsSegment at c (Some x) vs None = sx.1 in
-    let less : AreDistinct (us ++ vs) = distinct_without x us vs mine.distinct in
+    let less : AreDistinctNumbers (us ++ vs) = distinct_without x us vs mine.distinct in
     let pa : (y : ℕ) → has y us ≡ true → (at y).parent ≡ Some c = λ y h. parent_in at c None us (Some x) y sl h in
     let pb : (y : ℕ) → has y vs ≡ true → (at y).parent ≡ Some c = λ y h. parent_in at c (Some x) vs None y sr h in
     let px : (at x).parent ≡ Some c = ap (λ (n : Node). n.parent) sx.0 in

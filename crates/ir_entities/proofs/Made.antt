@@ -1,7 +1,7 @@
 -- What is made stands nowhere and holds nothing.
 use Rattle.std.proofs.Common.{◌≡◌, ℕ, ◌≤◌, true, false, eqb, List, [], ◌∷◌, length, IsSome, Result, Ok, Err, IfOk, refl, sym, ap, subst, ◌∙◌}
 use Rattle.std.proofs.lemmas.Bool.{eq-eqb, or_left, both_ways}
-use Rattle.ir_entities.specs.Lists.{Lists}
+use Rattle.ir_entities.specs.Lists.{ListsView}
 use Rattle.ir_entities.specs.Links.{has, list_at}
 use Rattle.ir_arena.specs.declared.arena.Slot.{Slot}
 use Rattle.ir_arena.specs.declared.arena.Key.{Key}
@@ -14,13 +14,13 @@ no_members [] none = refl
 no_members (x ∷ xs) none = absurd (none x (or_left (eqb x x) (has x xs) (eq-eqb x x refl)))
 
 -- a vacant slot holds nothing
-pub made_bare : {T C E : Type 0} (r : Result Key E) (old new : List (Slot C)) (slots : List (Slot T)) (l m : Lists) (value : C) → AreMembers slots old l → ((c : ℕ) → list_at m.lists c ≡ list_at l.lists c) → IfOk r (λ p. SetsSlot old new p.slot value)
+pub made_bare : {T C E : Type 0} (r : Result Key E) (old new : List (Slot C)) (slots : List (Slot T)) (l m : ListsView) (value : C) → AreMembers slots old l → ((c : ℕ) → list_at m.lists c ≡ list_at l.lists c) → IfOk r (λ p. SetsSlot old new p.slot value)
     → IfOk r (λ p. list_at m.lists p.slot ≡ [])
 made_bare (Ok p) old new slots l m value are is sets = is p.slot ∙ no_members (list_at l.lists p.slot) (λ i h. none_is_not_some (held old p.slot) sets.vacant (are.holders p.slot i h))
 made_bare (Err e) old new slots l m value are is sets = sets
 
 -- more slots, nodes and lists, and nothing new stands anywhere
-pub ops_grown : {O B R : Type 0} (f : Forest O B R) (slots : List (Slot O)) (l h : Lists) → IsForest f → l.lists ≡ f.in_blocks.lists → length slots ≤ l.nodes
+pub ops_grown : {O B R : Type 0} (f : Forest O B R) (slots : List (Slot O)) (l h : ListsView) → IsForest f → l.lists ≡ f.in_blocks.lists → length slots ≤ l.nodes
     → ((c : ℕ) → list_at h.lists c ≡ list_at f.in_ops.lists c) → length slots ≤ length h.lists → h.nodes ≡ f.in_ops.nodes → ((i : ℕ) → IsSome (held f.ops i) → IsSome (held slots i))
     → IsForest (record f { ops = slots; in_blocks = l; in_ops = h })
 ops_grown f slots l h forest is nodes same made same_nodes kept = record {
@@ -69,7 +69,7 @@ ops_freed f v seen slots x forest clears root bare = record {
   still i ne used = let e : held slots i ≡ held f.ops i = ap (λ (k : Slot _). k.value) (clears.others i ne) in rw e used
 
 -- more slots, nodes and lists, and nothing new stands anywhere
-pub blocks_grown : {O B R : Type 0} (f : Forest O B R) (slots : List (Slot B)) (l h : Lists) → IsForest f → l.lists ≡ f.in_regions.lists → length slots ≤ l.nodes
+pub blocks_grown : {O B R : Type 0} (f : Forest O B R) (slots : List (Slot B)) (l h : ListsView) → IsForest f → l.lists ≡ f.in_regions.lists → length slots ≤ l.nodes
     → ((c : ℕ) → list_at h.lists c ≡ list_at f.in_blocks.lists c) → length slots ≤ length h.lists → h.nodes ≡ f.in_blocks.nodes → ((i : ℕ) → IsSome (held f.blocks i) → IsSome (held slots i))
     → IsForest (record f { blocks = slots; in_regions = l; in_blocks = h })
 blocks_grown f slots l h forest is nodes same made same_nodes kept = record {
@@ -118,7 +118,7 @@ blocks_freed f v seen slots x forest clears root bare = record {
   still i ne used = let e : held slots i ≡ held f.blocks i = ap (λ (k : Slot _). k.value) (clears.others i ne) in rw e used
 
 -- more slots, nodes and lists, and nothing new stands anywhere
-pub regions_grown : {O B R : Type 0} (f : Forest O B R) (slots : List (Slot R)) (l h : Lists) → IsForest f → l.lists ≡ f.in_ops.lists → length slots ≤ l.nodes
+pub regions_grown : {O B R : Type 0} (f : Forest O B R) (slots : List (Slot R)) (l h : ListsView) → IsForest f → l.lists ≡ f.in_ops.lists → length slots ≤ l.nodes
     → ((c : ℕ) → list_at h.lists c ≡ list_at f.in_regions.lists c) → length slots ≤ length h.lists → h.nodes ≡ f.in_regions.nodes → ((i : ℕ) → IsSome (held f.regions i) → IsSome (held slots i))
     → IsForest (record f { regions = slots; in_ops = l; in_regions = h })
 regions_grown f slots l h forest is nodes same made same_nodes kept = record {

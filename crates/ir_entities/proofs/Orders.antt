@@ -3,13 +3,13 @@ use Rattle.std.proofs.Common.{◌≡◌, ℕ, ◌<◌, ◌≤◌, ◌+◌, ◌�
 use Rattle.std.proofs.lemmas.List.{get_or_past}
 use Rattle.std.proofs.lemmas.Bool.{eqb-true, eq-eqb, or_cases, or_right, cases_lt, both_ways, false_from_ne_true}
 use Rattle.ir_entities.proofs.Segments.{has_here}
-use Rattle.ir_entities.specs.Links.{has, list_at, first_or, next_in, AreDistinct}
+use Rattle.ir_entities.specs.Links.{has, list_at, first_or, next_in, AreDistinctNumbers}
 use Rattle.ir_arena.specs.Arena.{held}
 use Rattle.std.specs.Prelude.{⊤}
 use Rattle.ir_entities.specs.declared.forest.Place.{Place}
 use Rattle.ir_entities.specs.declared.forest.Place.TheVariants.{Op, Block, Region}
 use Rattle.ir_entities.specs.Shape.{Shape, IsIn, IsInside, itself, deeper, IsGrounded}
-use Rattle.ir_entities.specs.Forest.{Forest, IsForest, IsUsed, shape_of}
+use Rattle.ir_entities.specs.Forest.{Forest, IsForest, HoldsInUse, shape_of}
 use Rattle.ir_entities.specs.Walk.{same_place, children, walk, levels, walk_of, IsOneOf, AreOnce, ops_among, first_place, place_after, drop_to_place, places_from, StandInOne, IsWalk, nothing, more, IsRest, ended, up}
 use Rattle.ir_entities.proofs.Climb.{inside_trans, no_cycle, at_most, used_below}
 use Rattle.ir_entities.proofs.Prunes.{holder_used, member_used}
@@ -151,7 +151,7 @@ module _ (s : Shape) where
 module _ {O B R : Type 0} (f : Forest O B R) (forest : IsForest f) where
   -- the operations above o, and o: distinct, and each in use
   record IsAbove (o : ℕ) (above : List ℕ) : Type 0 where
-    pub distinct : AreDistinct (o ∷ above)
+    pub distinct : AreDistinctNumbers (o ∷ above)
     pub known : (q : ℕ) → has q (o ∷ above) ≡ true → (q < length f.ops) × IsInside (shape_of f) (Op q) (Op o)
 
   one_more : (o : ℕ) (above : List ℕ) → IsAbove o above → (r : ℕ) → has r (list_at f.in_ops.lists o) ≡ true → (b : ℕ) → has b (list_at f.in_regions.lists r) ≡ true → (p : ℕ) → has p (list_at f.in_blocks.lists b) ≡ true → IsAbove p (o ∷ above)
@@ -182,12 +182,12 @@ module _ {O B R : Type 0} (f : Forest O B R) (forest : IsForest f) where
         (or_cases (eqb q o) false k);
   }) (omega arith)
 
-  deep_of : (x : Place) → IsUsed f x → Deep (shape_of f) (suc (suc (levels (length f.ops)))) x
+  deep_of : (x : Place) → HoldsInUse f x → Deep (shape_of f) (suc (suc (levels (length f.ops)))) x
   deep_of (Op o) used = deep_more (shape_of f) (suc (levels (length f.ops))) (Op o) (deep_more (shape_of f) (levels (length f.ops)) (Op o) (top_op o used))
   deep_of (Block b) used = deep_more (shape_of f) (suc (levels (length f.ops))) (Block b) (in_block (shape_of f) (Deep (shape_of f) (levels (length f.ops))) b (λ p hp. top_op p (forest.ops.members b p hp)))
   deep_of (Region r) used = in_region (shape_of f) (Deep (shape_of f) (suc (levels (length f.ops)))) r (λ b hb. in_block (shape_of f) (Deep (shape_of f) (levels (length f.ops))) b (λ p hp. top_op p (forest.ops.members b p hp)))
 
-  pub walk_is : (x : Place) → IsUsed f x → IsWalk (shape_of f) (x ∷ []) (walk_of f x)
+  pub walk_is : (x : Place) → HoldsInUse f x → IsWalk (shape_of f) (x ∷ []) (walk_of f x)
   unfolding walk_of
   walk_is x used = walked (shape_of f) (suc (suc (levels (length f.ops)))) (x ∷ []) (deep_of x used, tt)
 
@@ -367,17 +367,17 @@ next_from before e (t ∷ ts) w next o is n =
     let there : drop_to_place t w ≡ t ∷ ts = rw also (tail_from (before ++ e ∷ []) t ts (subst AreOnce also o)) in
     rw n (here ∙ ap (λ (k : List Place). e ∷ k) (sym there))
 
-once_map : (C : ℕ → Place) → ((i j : ℕ) → C i ≡ C j → i ≡ j) → (xs : List ℕ) → AreDistinct xs → AreOnce (map C xs)
+once_map : (C : ℕ → Place) → ((i j : ℕ) → C i ≡ C j → i ≡ j) → (xs : List ℕ) → AreDistinctNumbers xs → AreOnce (map C xs)
 once_map C inj [] d = tt
 once_map C inj (x ∷ xs) d = (
   (λ h. let r : (i : ℕ) × (C x ≡ C i) × (has i xs ≡ true) = one_map C xs (C x) h in both_ways (has x xs) d.0 (rw (inj x r.0 r.1) r.2)),
   once_map C inj xs d.1,
 )
 
-distinct_any : (ls : List (List ℕ)) → ((c : ℕ) → c < length ls → AreDistinct (list_at ls c)) → (c : ℕ) → AreDistinct (list_at ls c)
-distinct_any ls h c = ⊎_elim (λ l. h c l) (λ ge. subst AreDistinct (sym (get_or_past ls c [] ge)) tt) (cases_lt c (length ls))
+distinct_any : (ls : List (List ℕ)) → ((c : ℕ) → c < length ls → AreDistinctNumbers (list_at ls c)) → (c : ℕ) → AreDistinctNumbers (list_at ls c)
+distinct_any ls h c = ⊎_elim (λ l. h c l) (λ ge. subst AreDistinctNumbers (sym (get_or_past ls c [] ge)) tt) (cases_lt c (length ls))
 
-pub children_once : {O B R : Type 0} (f v : Forest O B R) → f ≡ v → ((c : ℕ) → c < length f.in_blocks.lists → AreDistinct (list_at f.in_blocks.lists c)) → ((c : ℕ) → c < length f.in_regions.lists → AreDistinct (list_at f.in_regions.lists c)) → ((c : ℕ) → c < length f.in_ops.lists → AreDistinct (list_at f.in_ops.lists c))
+pub children_once : {O B R : Type 0} (f v : Forest O B R) → f ≡ v → ((c : ℕ) → c < length f.in_blocks.lists → AreDistinctNumbers (list_at f.in_blocks.lists c)) → ((c : ℕ) → c < length f.in_regions.lists → AreDistinctNumbers (list_at f.in_regions.lists c)) → ((c : ℕ) → c < length f.in_ops.lists → AreDistinctNumbers (list_at f.in_ops.lists c))
     → (e : Place) → AreOnce (children (shape_of v) e)
 children_once f v seen a b k e = subst (λ (w : Forest _ _ _). AreOnce (children (shape_of w) e)) seen (at e) where
   at : (e : Place) → AreOnce (children (shape_of f) e)
@@ -438,16 +438,16 @@ module _ (s : Shape) where
   pub at_top : ((e : Place) → IsGrounded s e) → (x e : Place) (after : List Place) → IsRest s x e after → e ≡ x → None ≡ first_place after
   at_top grounded x e after r is = rw (rest_end grounded x e after r is) refl
 
-module _ {O B R : Type 0} (v : Forest O B R) (forest : IsForest v) (one : StandInOne (shape_of v)) (once : (e : Place) → AreOnce (children (shape_of v) e)) (x at : Place) (used : IsUsed v at) (inside : IsInside (shape_of v) x at) where
-  above_used : (e : Place) → IsUsed v e → IsInside (shape_of v) x e → IsUsed v x
+module _ {O B R : Type 0} (v : Forest O B R) (forest : IsForest v) (one : StandInOne (shape_of v)) (once : (e : Place) → AreOnce (children (shape_of v) e)) (x at : Place) (used : HoldsInUse v at) (inside : IsInside (shape_of v) x at) where
+  above_used : (e : Place) → HoldsInUse v e → IsInside (shape_of v) x e → HoldsInUse v x
   above_used _ u itself = u
   above_used _ u (deeper e d i w) = above_used d (holder_used v forest e d i) w
 
-  below_used : IsUsed v x → (e : Place) → IsInside (shape_of v) x e → IsUsed v e
+  below_used : HoldsInUse v x → (e : Place) → IsInside (shape_of v) x e → HoldsInUse v e
   below_used u _ itself = u
   below_used u _ (deeper e d i w) = member_used v forest e d i
 
-  x_used : IsUsed v x
+  x_used : HoldsInUse v x
   x_used = above_used at used inside
 
   walk_x : IsWalk (shape_of v) (x ∷ []) (walk_of v x)
@@ -462,7 +462,7 @@ module _ {O B R : Type 0} (v : Forest O B R) (forest : IsForest v) (one : StandI
   tail_is : (next : Option Place) → next ≡ first_place (here.inner ++ here.rest) → places_from (Some at) (walk_of v x) ≡ at ∷ places_from next (walk_of v x)
   tail_is next n = next_from here.before at (here.inner ++ here.rest) (walk_of v x) next all_once here.parts n
 
-  inside_tail : (k : Place) → Some k ≡ first_place (here.inner ++ here.rest) → IsUsed v k × IsInside (shape_of v) x k
+  inside_tail : (k : Place) → Some k ≡ first_place (here.inner ++ here.rest) → HoldsInUse v k × IsInside (shape_of v) x k
   inside_tail k n =
       let in_walk : IsOneOf k (walk_of v x) = subst (λ (ws : List Place). IsOneOf k ws) (sym here.parts) (one_right k here.before (at ∷ (here.inner ++ here.rest)) (inr (first_one (here.inner ++ here.rest) n))) in
       let r : IsFrom (shape_of v) (x ∷ []) k = inside_walk (shape_of v) (x ∷ []) (walk_of v x) walk_x k in_walk in
@@ -480,13 +480,13 @@ module _ {O B R : Type 0} (v : Forest O B R) (forest : IsForest v) (one : StandI
   none_inner : None ≡ first_place (children (shape_of v) at) → here.rest ≡ here.inner ++ here.rest
   none_inner h = sym (ap (λ (k : List Place). k ++ here.rest) (walk_none (shape_of v) (children (shape_of v) at) here.inner here.walk (none_first (shape_of v) (children (shape_of v) at) (sym h))))
 
-  pub child_next : (k : Place) → Some k ≡ first_place (children (shape_of v) at) → (places_from (Some at) (walk_of v x) ≡ at ∷ places_from (Some k) (walk_of v x)) × IsUsed v k × IsInside (shape_of v) x k
-  child_next k h = let t : IsUsed v k × IsInside (shape_of v) x k = inside_tail k (first_inner k h) in (tail_is (Some k) (first_inner k h), t.0, t.1)
+  pub child_next : (k : Place) → Some k ≡ first_place (children (shape_of v) at) → (places_from (Some at) (walk_of v x) ≡ at ∷ places_from (Some k) (walk_of v x)) × HoldsInUse v k × IsInside (shape_of v) x k
+  child_next k h = let t : HoldsInUse v k × IsInside (shape_of v) x k = inside_tail k (first_inner k h) in (tail_is (Some k) (first_inner k h), t.0, t.1)
 
   after_is : (next : Option Place) → None ≡ first_place (children (shape_of v) at) → ((rest : List Place) → IsRest (shape_of v) x at rest → next ≡ first_place rest) → next ≡ first_place (here.inner ++ here.rest)
   after_is next h after = after here.rest here.rest_is ∙ ap first_place (none_inner h)
 
-  pub after_next : (next : Option Place) → None ≡ first_place (children (shape_of v) at) → ((rest : List Place) → IsRest (shape_of v) x at rest → next ≡ first_place rest) → (places_from (Some at) (walk_of v x) ≡ at ∷ places_from next (walk_of v x)) × IfSome next (λ k. IsUsed v k × IsInside (shape_of v) x k)
+  pub after_next : (next : Option Place) → None ≡ first_place (children (shape_of v) at) → ((rest : List Place) → IsRest (shape_of v) x at rest → next ≡ first_place rest) → (places_from (Some at) (walk_of v x) ≡ at ∷ places_from next (walk_of v x)) × IfSome next (λ k. HoldsInUse v k × IsInside (shape_of v) x k)
   after_next None h after = (tail_is None (after_is None h after), tt)
   after_next (Some k) h after = (tail_is (Some k) (after_is (Some k) h after), inside_tail k (after_is (Some k) h after))
 
@@ -505,13 +505,13 @@ has_among (Op j ∷ es) i h = ⊎_elim (λ t. inl (ap Op (eqb-true i j t))) (λ 
 has_among (Block j ∷ es) i h = inr (has_among es i h)
 has_among (Region j ∷ es) i h = inr (has_among es i h)
 
-among_distinct : (es : List Place) → AreOnce es → AreDistinct (ops_among es)
+among_distinct : (es : List Place) → AreOnce es → AreDistinctNumbers (ops_among es)
 among_distinct [] o = tt
 among_distinct (Op j ∷ es) o = (false_from_ne_true (has j (ops_among es)) (λ h. o.0 (has_among es j h)), among_distinct es o.1)
 among_distinct (Block j ∷ es) o = among_distinct es o.1
 among_distinct (Region j ∷ es) o = among_distinct es o.1
 
-module _ {O B R : Type 0} (v : Forest O B R) (forest : IsForest v) (one : StandInOne (shape_of v)) (once : (e : Place) → AreOnce (children (shape_of v) e)) (x : Place) (used : IsUsed v x) where
+module _ {O B R : Type 0} (v : Forest O B R) (forest : IsForest v) (one : StandInOne (shape_of v)) (once : (e : Place) → AreOnce (children (shape_of v) e)) (x : Place) (used : HoldsInUse v x) where
   pub walk_once : AreOnce (walk_of v x)
   walk_once = once_walk (shape_of v) forest.grounded one once (x ∷ []) (walk_of v x) (walk_is v forest x used) ((λ f i y u w. i), tt)
 
@@ -535,6 +535,6 @@ module _ {O B R : Type 0} (v : Forest O B R) (forest : IsForest v) (one : StandI
 
   pub walk_short : length (ops_among (walk_of v x)) ≤ length v.ops
   walk_short = at_most (ops_among (walk_of v x)) (length v.ops) (among_distinct (walk_of v x) walk_once) (λ q h. used_below v.ops q (below (Op q) ((walk_all (Op q)).0 (has_among (walk_of v x) q h)))) where
-    below : (e : Place) → IsInside (shape_of v) x e → IsUsed v e
+    below : (e : Place) → IsInside (shape_of v) x e → HoldsInUse v e
     below _ itself = used
     below _ (deeper e d i w) = member_used v forest e d i

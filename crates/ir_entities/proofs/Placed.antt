@@ -2,7 +2,7 @@
 use Rattle.std.proofs.Common.{◌≡◌, ◌≢◌, ◌⊎◌, inl, inr, ℕ, zero, suc, ◌-◌, ◌<◌, ◌≤◌, true, false, nat_eq, nat_le, nat_lt, List, [], ◌∷◌, ◌++◌, length, insert, remove, slice_get, Option, Some, None, refl, sym, ap, subst, ◌∙◌, arith}
 use Rattle.std.proofs.lemmas.Bool.{cases_order, eq-eqb, ne_eqb, le-leb, lt-leb, lt-ltb, le-ltb}
 use Rattle.std.proofs.lemmas.Option.{slice_get_within}
-use Rattle.ir_entities.specs.Uses.{Place}
+use Rattle.ir_entities.specs.Uses.{PlaceOfUse}
 use Rattle.ir_entities.specs.Placed.{place_at, IsPlaced, shifted_up, shifted_down, KeepsOtherRows, PushesPlace, InsertsPlace, RemovesPlace, StandsAlike, ClearsRow}
 
 pub differ : (a b : ℕ) → (a ≡ b) ⊎ (a ≢ b)
@@ -69,29 +69,29 @@ pub insert-end : (xs : List ℕ) (p : ℕ) → insert xs (length xs) p ≡ xs ++
 insert-end [] p = refl
 insert-end (x ∷ xs) p = ap (λ (ys : List ℕ). x ∷ ys) (insert-end xs p)
 
-pub the_place : (x y : Place) → Some x ≡ Some y → x ≡ y
+pub the_place : (x y : PlaceOfUse) → Some x ≡ Some y → x ≡ y
 the_place x y e = cc
 
-pub no_place : (x : Place) → None ≡ Some x → ⊥
+pub no_place : (x : PlaceOfUse) → None ≡ Some x → ⊥
 no_place x e = cc
 
 pub the_item : (p q : ℕ) → Some p ≡ Some q → p ≡ q
 the_item p q e = cc
 
-module _ (place : ℕ → Option Place) (row : ℕ → List ℕ) (placed : IsPlaced place row) where
+module _ (place : ℕ → Option PlaceOfUse) (row : ℕ → List ℕ) (placed : IsPlaced place row) where
   -- a place that stands at two indices, or in two rows, is one at one index
   pub placed-distinct : (i j k l p : ℕ) → slice_get (row i) k ≡ Some p → slice_get (row j) l ≡ Some p → (i ≡ j) × (k ≡ l)
   placed-distinct i j k l p e f =
       let first = placed.held i k p e in
       let second = placed.held j l p f in
       let same : place_at first.0 i k ≡ place_at second.0 j l = the_place _ _ (sym first.1 ∙ second.1) in
-      (ap (λ (x : Place). x.user) same, ap (λ (x : Place). x.index) same)
+      (ap (λ (x : PlaceOfUse). x.user) same, ap (λ (x : PlaceOfUse). x.index) same)
 
   -- what stands in a row is in use
   pub placed-used : (i k p : ℕ) → slice_get (row i) k ≡ Some p → place p ≡ None → ⊥
   placed-used i k p e h = let own = placed.held i k p e in no_place _ (sym h ∙ own.1)
 
-  module _ (new : ℕ → Option Place) where
+  module _ (new : ℕ → Option PlaceOfUse) where
     -- the same places in rows that are the same, each by itself
     pub placed-same : (rows : ℕ → List ℕ) → ((q : ℕ) → new q ≡ place q) → ((i : ℕ) → rows i ≡ row i) → IsPlaced new rows
     placed-same rows places same = record {
@@ -101,13 +101,13 @@ module _ (place : ℕ → Option Place) (row : ℕ → List ℕ) (placed : IsPla
       all = λ p x e. rw (same x.user) (placed.all p x (sym (places p) ∙ e));
     }
 
-    alike : (o n : Option Place) (x : Place) → StandsAlike o n → o ≡ Some x → (d : ℕ) × (n ≡ Some (record x { definition = d }))
+    alike : (o n : Option PlaceOfUse) (x : PlaceOfUse) → StandsAlike o n → o ≡ Some x → (d : ℕ) × (n ≡ Some (record x { definition = d }))
     alike None n x h e = absurd (no_place x e)
-    alike (Some y) n x h e = subst (λ (z : Place). (d : ℕ) × (n ≡ Some (record z { definition = d }))) (the_place y x e) h
+    alike (Some y) n x h e = subst (λ (z : PlaceOfUse). (d : ℕ) × (n ≡ Some (record z { definition = d }))) (the_place y x e) h
 
-    alike_back : (o n : Option Place) (x : Place) → StandsAlike o n → n ≡ Some x → (d : ℕ) × (o ≡ Some (record x { definition = d }))
+    alike_back : (o n : Option PlaceOfUse) (x : PlaceOfUse) → StandsAlike o n → n ≡ Some x → (d : ℕ) × (o ≡ Some (record x { definition = d }))
     alike_back None n x h e = absurd (no_place x (sym h ∙ e))
-    alike_back (Some y) n x h e = let same : record y { definition = h.0 } ≡ x = the_place _ x (sym h.1 ∙ e) in (y.definition, ap (λ (z : Place). Some (record z { definition = y.definition })) same)
+    alike_back (Some y) n x h e = let same : record y { definition = h.0 } ≡ x = the_place _ x (sym h.1 ∙ e) in (y.definition, ap (λ (z : PlaceOfUse). Some (record z { definition = y.definition })) same)
 
     -- places that name other definitions stand where they stood
     pub placed-renamed : ((q : ℕ) → StandsAlike (place q) (new q)) → IsPlaced new row
@@ -124,9 +124,9 @@ module _ (place : ℕ → Option Place) (row : ℕ → List ℕ) (placed : IsPla
     placed-edited : (rows : ℕ → List ℕ) (i : ℕ)
         → KeepsOtherRows row rows i
         → ((k q : ℕ) → slice_get (rows i) k ≡ Some q → (d : ℕ) × (new q ≡ Some (place_at d i k)))
-        → ((q : ℕ) (x : Place) → new q ≡ Some x → x.user ≡ i → slice_get (rows i) x.index ≡ Some q)
-        → ((q : ℕ) (x : Place) → x.user ≢ i → new q ≡ Some x → place q ≡ Some x)
-        → ((q : ℕ) (x : Place) → x.user ≢ i → place q ≡ Some x → new q ≡ Some x)
+        → ((q : ℕ) (x : PlaceOfUse) → new q ≡ Some x → x.user ≡ i → slice_get (rows i) x.index ≡ Some q)
+        → ((q : ℕ) (x : PlaceOfUse) → x.user ≢ i → new q ≡ Some x → place q ≡ Some x)
+        → ((q : ℕ) (x : PlaceOfUse) → x.user ≢ i → place q ≡ Some x → new q ≡ Some x)
         → IsPlaced new rows
     placed-edited rows i rest inside mine before after = record { held = held; all = all }
       where
@@ -139,11 +139,11 @@ module _ (place : ℕ → Option Place) (row : ℕ → List ℕ) (placed : IsPla
         held : (j k q : ℕ) → slice_get (rows j) k ≡ Some q → (d : ℕ) × (new q ≡ Some (place_at d j k))
         held j k q e = held_by j k q e (differ j i)
 
-        all_by : (q : ℕ) (x : Place) → new q ≡ Some x → (x.user ≡ i) ⊎ (x.user ≢ i) → slice_get (rows x.user) x.index ≡ Some q
+        all_by : (q : ℕ) (x : PlaceOfUse) → new q ≡ Some x → (x.user ≡ i) ⊎ (x.user ≢ i) → slice_get (rows x.user) x.index ≡ Some q
         all_by q x e (inl h) = rw h (mine q x e h)
         all_by q x e (inr h) = rw (rest x.user h) (placed.all q x (before q x h e))
 
-        all : (q : ℕ) (x : Place) → new q ≡ Some x → slice_get (rows x.user) x.index ≡ Some q
+        all : (q : ℕ) (x : PlaceOfUse) → new q ≡ Some x → slice_get (rows x.user) x.index ≡ Some q
         all q x e = all_by q x e (differ x.user i)
 
     -- a row that was cleared
@@ -156,7 +156,7 @@ module _ (place : ℕ → Option Place) (row : ℕ → List ℕ) (placed : IsPla
         inside : (k q : ℕ) → slice_get (rows i) k ≡ Some q → (d : ℕ) × (new q ≡ Some (place_at d i k))
         inside k q e = absurd (nothing k q e)
 
-        stayed : (o : Option Place) (q : ℕ) (x : Place) → place q ≡ o → new q ≡ Some x → (place q ≡ Some x) × (x.user ≢ i)
+        stayed : (o : Option PlaceOfUse) (q : ℕ) (x : PlaceOfUse) → place q ≡ o → new q ≡ Some x → (place q ≡ Some x) × (x.user ≢ i)
         stayed None q x e f =
             let out : (k : ℕ) → slice_get (row i) k ≡ Some q → ⊥ = λ k s. placed-used i k q s e in
             absurd (no_place x (sym e ∙ (sym (clears.others q out) ∙ f)))
@@ -165,23 +165,23 @@ module _ (place : ℕ → Option Place) (row : ℕ → List ℕ) (placed : IsPla
             stayed_by : (y.user ≡ i) ⊎ (y.user ≢ i) → (place q ≡ Some x) × (x.user ≢ i)
             stayed_by (inl h) = absurd (no_place x (sym (clears.gone y.index q (subst (λ (u : ℕ). slice_get (row u) y.index ≡ Some q) h (placed.all q y e))) ∙ f))
             stayed_by (inr h) =
-                let out : (k : ℕ) → slice_get (row i) k ≡ Some q → ⊥ = λ k s. let own = placed.held i k q s in h (ap (λ (z : Place). z.user) (the_place y (place_at own.0 i k) (sym e ∙ own.1))) in
+                let out : (k : ℕ) → slice_get (row i) k ≡ Some q → ⊥ = λ k s. let own = placed.held i k q s in h (ap (λ (z : PlaceOfUse). z.user) (the_place y (place_at own.0 i k) (sym e ∙ own.1))) in
                 let was : place q ≡ Some x = sym (clears.others q out) ∙ f in
-                (was, λ u. h (ap (λ (z : Place). z.user) (the_place y x (sym e ∙ was)) ∙ u))
+                (was, λ u. h (ap (λ (z : PlaceOfUse). z.user) (the_place y x (sym e ∙ was)) ∙ u))
 
-        mine : (q : ℕ) (x : Place) → new q ≡ Some x → x.user ≡ i → slice_get (rows i) x.index ≡ Some q
+        mine : (q : ℕ) (x : PlaceOfUse) → new q ≡ Some x → x.user ≡ i → slice_get (rows i) x.index ≡ Some q
         mine q x e h = absurd ((stayed (place q) q x refl e).1 h)
 
-        before : (q : ℕ) (x : Place) → x.user ≢ i → new q ≡ Some x → place q ≡ Some x
+        before : (q : ℕ) (x : PlaceOfUse) → x.user ≢ i → new q ≡ Some x → place q ≡ Some x
         before q x h e = (stayed (place q) q x refl e).0
 
-        after : (q : ℕ) (x : Place) → x.user ≢ i → place q ≡ Some x → new q ≡ Some x
+        after : (q : ℕ) (x : PlaceOfUse) → x.user ≢ i → place q ≡ Some x → new q ≡ Some x
         after q x h e =
-            let out : (k : ℕ) → slice_get (row i) k ≡ Some q → ⊥ = λ k s. let own = placed.held i k q s in h (ap (λ (z : Place). z.user) (the_place x (place_at own.0 i k) (sym e ∙ own.1))) in
+            let out : (k : ℕ) → slice_get (row i) k ≡ Some q → ⊥ = λ k s. let own = placed.held i k q s in h (ap (λ (z : PlaceOfUse). z.user) (the_place x (place_at own.0 i k) (sym e ∙ own.1))) in
             clears.others q out ∙ e
 
 -- a place that moves keeps its user; behind the insertion its index is one more
-pub up_other : (i k : ℕ) (x : Place) → x.user ≢ i → shifted_up i k (Some x) ≡ Some x
+pub up_other : (i k : ℕ) (x : PlaceOfUse) → x.user ≢ i → shifted_up i k (Some x) ≡ Some x
 up_other i k x h = let e : nat_eq x.user i ≡ false = ne_eqb x.user i h in rw e refl
 
 pub up_before : (i k d j : ℕ) → j < k → shifted_up i k (Some (place_at d i j)) ≡ Some (place_at d i j)
@@ -190,7 +190,7 @@ up_before i k d j h = let e : nat_eq i i ≡ true = eq-eqb i i refl in let f : n
 pub up_behind : (i k d j : ℕ) → k ≤ j → shifted_up i k (Some (place_at d i j)) ≡ Some (place_at d i (suc j))
 up_behind i k d j h = let e : nat_eq i i ≡ true = eq-eqb i i refl in let f : nat_le k j ≡ true = le-leb k j h in rw (e, f) refl
 
-pub down_other : (i k : ℕ) (x : Place) → x.user ≢ i → shifted_down i k (Some x) ≡ Some x
+pub down_other : (i k : ℕ) (x : PlaceOfUse) → x.user ≢ i → shifted_down i k (Some x) ≡ Some x
 down_other i k x h = let e : nat_eq x.user i ≡ false = ne_eqb x.user i h in rw e refl
 
 pub down_before : (i k d j : ℕ) → j ≤ k → shifted_down i k (Some (place_at d i j)) ≡ Some (place_at d i j)
@@ -199,23 +199,23 @@ down_before i k d j h = let e : nat_eq i i ≡ true = eq-eqb i i refl in let f :
 pub down_behind : (i k d j : ℕ) → k < j → shifted_down i k (Some (place_at d i j)) ≡ Some (place_at d i (j - 1))
 down_behind i k d j h = let e : nat_eq i i ≡ true = eq-eqb i i refl in let f : nat_lt k j ≡ true = lt-ltb k j h in rw (e, f) refl
 
-up_user : (i k : ℕ) (y x : Place) → shifted_up i k (Some y) ≡ Some x → y.user ≡ x.user
-up_user i k y x f = ap (λ (z : Place). z.user) (the_place _ x f)
+up_user : (i k : ℕ) (y x : PlaceOfUse) → shifted_up i k (Some y) ≡ Some x → y.user ≡ x.user
+up_user i k y x f = ap (λ (z : PlaceOfUse). z.user) (the_place _ x f)
 
-down_user : (i k : ℕ) (y x : Place) → shifted_down i k (Some y) ≡ Some x → y.user ≡ x.user
-down_user i k y x f = ap (λ (z : Place). z.user) (the_place _ x f)
+down_user : (i k : ℕ) (y x : PlaceOfUse) → shifted_down i k (Some y) ≡ Some x → y.user ≡ x.user
+down_user i k y x f = ap (λ (z : PlaceOfUse). z.user) (the_place _ x f)
 
 -- a place of user i, at its index
-pub own : (i : ℕ) (y : Place) → y.user ≡ i → y ≡ place_at y.definition i y.index
+pub own : (i : ℕ) (y : PlaceOfUse) → y.user ≡ i → y ≡ place_at y.definition i y.index
 own i y h = ap (λ (u : ℕ). place_at y.definition u y.index) h
 
-pub user_kept : (x y : Place) → Some x ≡ Some y → x.user ≡ y.user
-user_kept x y e = ap (λ (z : Place). z.user) (the_place x y e)
+pub user_kept : (x y : PlaceOfUse) → Some x ≡ Some y → x.user ≡ y.user
+user_kept x y e = ap (λ (z : PlaceOfUse). z.user) (the_place x y e)
 
-pub index_kept : (x y : Place) → Some x ≡ Some y → x.index ≡ y.index
-index_kept x y e = ap (λ (z : Place). z.index) (the_place x y e)
+pub index_kept : (x y : PlaceOfUse) → Some x ≡ Some y → x.index ≡ y.index
+index_kept x y e = ap (λ (z : PlaceOfUse). z.index) (the_place x y e)
 
-module _ (place new : ℕ → Option Place) (row rows : ℕ → List ℕ) (placed : IsPlaced place row) where
+module _ (place new : ℕ → Option PlaceOfUse) (row rows : ℕ → List ℕ) (placed : IsPlaced place row) where
   -- a place that is put into a row
   module _ (i k p d : ℕ) (inserts : InsertsPlace place new row rows i k p d) where
     entered : (q j : ℕ) → slice_get (row i) j ≡ Some q → q ≢ p
@@ -239,17 +239,17 @@ module _ (place new : ℕ → Option Place) (row rows : ℕ → List ℕ) (place
         (its.0, inserts.others q (entered q j was) ∙ (ap (shifted_up i k) its.1 ∙ up_behind i k its.0 j (omega arith)))
 
     -- where a place stood that is at user i now
-    put_mine : (o : Option Place) (q : ℕ) (x : Place) → place q ≡ o → shifted_up i k o ≡ Some x → x.user ≡ i → slice_get (insert (row i) k p) x.index ≡ Some q
+    put_mine : (o : Option PlaceOfUse) (q : ℕ) (x : PlaceOfUse) → place q ≡ o → shifted_up i k o ≡ Some x → x.user ≡ i → slice_get (insert (row i) k p) x.index ≡ Some q
     put_mine None q x e f u = absurd (no_place x f)
     put_mine (Some y) q x e f u = by (differ y.user i)
       where
         step : y.user ≡ i → (y.index < k) ⊎ (k ≤ y.index) → slice_get (insert (row i) k p) x.index ≡ Some q
         step h (inl l) =
-            let moved : Some (place_at y.definition i y.index) ≡ Some x = sym (up_before i k y.definition y.index l) ∙ (ap (λ (z : Place). shifted_up i k (Some z)) (sym (own i y h)) ∙ f) in
+            let moved : Some (place_at y.definition i y.index) ≡ Some x = sym (up_before i k y.definition y.index l) ∙ (ap (λ (z : PlaceOfUse). shifted_up i k (Some z)) (sym (own i y h)) ∙ f) in
             let at : y.index ≡ x.index = index_kept (place_at y.definition i y.index) x moved in
             ap (slice_get (insert (row i) k p)) (sym at) ∙ (insert-before (row i) k p y.index inserts.within l ∙ (ap (λ (u : ℕ). slice_get (row u) y.index) (sym h) ∙ placed.all q y e))
         step h (inr l) =
-            let moved : Some (place_at y.definition i (suc y.index)) ≡ Some x = sym (up_behind i k y.definition y.index l) ∙ (ap (λ (z : Place). shifted_up i k (Some z)) (sym (own i y h)) ∙ f) in
+            let moved : Some (place_at y.definition i (suc y.index)) ≡ Some x = sym (up_behind i k y.definition y.index l) ∙ (ap (λ (z : PlaceOfUse). shifted_up i k (Some z)) (sym (own i y h)) ∙ f) in
             let at : suc y.index ≡ x.index = index_kept (place_at y.definition i (suc y.index)) x moved in
             ap (slice_get (insert (row i) k p)) (sym at) ∙ (insert-behind (row i) k p y.index inserts.within l ∙ (ap (λ (u : ℕ). slice_get (row u) y.index) (sym h) ∙ placed.all q y e))
 
@@ -257,7 +257,7 @@ module _ (place new : ℕ → Option Place) (row rows : ℕ → List ℕ) (place
         by (inl h) = step h (below_or_not y.index k)
         by (inr h) = absurd (h (user_kept y x (sym (up_other i k y h) ∙ f) ∙ u))
 
-    put_before : (o : Option Place) (x : Place) → x.user ≢ i → shifted_up i k o ≡ Some x → o ≡ Some x
+    put_before : (o : Option PlaceOfUse) (x : PlaceOfUse) → x.user ≢ i → shifted_up i k o ≡ Some x → o ≡ Some x
     put_before None x h f = absurd (no_place x f)
     put_before (Some y) x h f = by (differ y.user i)
       where
@@ -271,23 +271,23 @@ module _ (place new : ℕ → Option Place) (row rows : ℕ → List ℕ) (place
         inside : (j q : ℕ) → slice_get (rows i) j ≡ Some q → (c : ℕ) × (new q ≡ Some (place_at c i j))
         inside j q e = put_inside j q (put j q e) (cases_order j k)
 
-        mine_by : (q : ℕ) (x : Place) → new q ≡ Some x → x.user ≡ i → (q ≡ p) ⊎ (q ≢ p) → slice_get (insert (row i) k p) x.index ≡ Some q
+        mine_by : (q : ℕ) (x : PlaceOfUse) → new q ≡ Some x → x.user ≡ i → (q ≡ p) ⊎ (q ≢ p) → slice_get (insert (row i) k p) x.index ≡ Some q
         mine_by q x e u (inl h) =
             let at : k ≡ x.index = index_kept (place_at d i k) x (sym inserts.here ∙ (ap new (sym h) ∙ e)) in
             ap (slice_get (insert (row i) k p)) (sym at) ∙ (insert-at (row i) k p inserts.within ∙ ap Some (sym h))
         mine_by q x e u (inr h) = put_mine (place q) q x refl (sym (inserts.others q h) ∙ e) u
 
-        mine : (q : ℕ) (x : Place) → new q ≡ Some x → x.user ≡ i → slice_get (rows i) x.index ≡ Some q
+        mine : (q : ℕ) (x : PlaceOfUse) → new q ≡ Some x → x.user ≡ i → slice_get (rows i) x.index ≡ Some q
         mine q x e u = ap (λ (xs : List ℕ). slice_get xs x.index) inserts.changed ∙ mine_by q x e u (differ q p)
 
-        before_by : (q : ℕ) (x : Place) → x.user ≢ i → new q ≡ Some x → (q ≡ p) ⊎ (q ≢ p) → place q ≡ Some x
+        before_by : (q : ℕ) (x : PlaceOfUse) → x.user ≢ i → new q ≡ Some x → (q ≡ p) ⊎ (q ≢ p) → place q ≡ Some x
         before_by q x h e (inl s) = absurd (h (sym (user_kept (place_at d i k) x (sym inserts.here ∙ (ap new (sym s) ∙ e)))))
         before_by q x h e (inr s) = put_before (place q) x h (sym (inserts.others q s) ∙ e)
 
-        before : (q : ℕ) (x : Place) → x.user ≢ i → new q ≡ Some x → place q ≡ Some x
+        before : (q : ℕ) (x : PlaceOfUse) → x.user ≢ i → new q ≡ Some x → place q ≡ Some x
         before q x h e = before_by q x h e (differ q p)
 
-        after : (q : ℕ) (x : Place) → x.user ≢ i → place q ≡ Some x → new q ≡ Some x
+        after : (q : ℕ) (x : PlaceOfUse) → x.user ≢ i → place q ≡ Some x → new q ≡ Some x
         after q x h e =
             let other : q ≢ p = λ s. no_place x (sym inserts.fresh ∙ (ap place (sym s) ∙ e)) in
             inserts.others q other ∙ (ap (shifted_up i k) e ∙ up_other i k x h)
@@ -314,7 +314,7 @@ module _ (place new : ℕ → Option Place) (row rows : ℕ → List ℕ) (place
         (its.0, removes.others q (left q (suc j) was other) ∙ (ap (shifted_down i k) its.1 ∙ (down_behind i k its.0 (suc j) (omega arith) ∙ ap (λ (n : ℕ). Some (place_at its.0 i n)) less)))
 
     -- where a place stood that is at user i still
-    taken_mine : (o : Option Place) (q : ℕ) (x : Place) → q ≢ p → place q ≡ o → shifted_down i k o ≡ Some x → x.user ≡ i → slice_get (remove (row i) k) x.index ≡ Some q
+    taken_mine : (o : Option PlaceOfUse) (q : ℕ) (x : PlaceOfUse) → q ≢ p → place q ≡ o → shifted_down i k o ≡ Some x → x.user ≡ i → slice_get (remove (row i) k) x.index ≡ Some q
     taken_mine None q x n e f u = absurd (no_place x f)
     taken_mine (Some y) q x n e f u = by (differ y.user i)
       where
@@ -324,11 +324,11 @@ module _ (place new : ℕ → Option Place) (row rows : ℕ → List ℕ) (place
         step : y.user ≡ i → (y.index ≡ k) ⊎ ((y.index < k) ⊎ (k < y.index)) → slice_get (remove (row i) k) x.index ≡ Some q
         step h (inl s) = absurd (n (the_item q p (sym (stood h) ∙ (ap (slice_get (row i)) s ∙ removes.stood))))
         step h (inr (inl l)) =
-            let moved : Some (place_at y.definition i y.index) ≡ Some x = sym (down_before i k y.definition y.index (omega arith)) ∙ (ap (λ (z : Place). shifted_down i k (Some z)) (sym (own i y h)) ∙ f) in
+            let moved : Some (place_at y.definition i y.index) ≡ Some x = sym (down_before i k y.definition y.index (omega arith)) ∙ (ap (λ (z : PlaceOfUse). shifted_down i k (Some z)) (sym (own i y h)) ∙ f) in
             let at : y.index ≡ x.index = index_kept (place_at y.definition i y.index) x moved in
             ap (slice_get (remove (row i) k)) (sym at) ∙ (remove-before (row i) k y.index l ∙ stood h)
         step h (inr (inr l)) =
-            let moved : Some (place_at y.definition i (y.index - 1)) ≡ Some x = sym (down_behind i k y.definition y.index l) ∙ (ap (λ (z : Place). shifted_down i k (Some z)) (sym (own i y h)) ∙ f) in
+            let moved : Some (place_at y.definition i (y.index - 1)) ≡ Some x = sym (down_behind i k y.definition y.index l) ∙ (ap (λ (z : PlaceOfUse). shifted_down i k (Some z)) (sym (own i y h)) ∙ f) in
             let at : y.index - 1 ≡ x.index = index_kept (place_at y.definition i (y.index - 1)) x moved in
             let more : suc (y.index - 1) ≡ y.index = omega arith in
             ap (slice_get (remove (row i) k)) (sym at) ∙ (remove-behind (row i) k (y.index - 1) (omega arith) ∙ (ap (slice_get (row i)) more ∙ stood h))
@@ -337,7 +337,7 @@ module _ (place new : ℕ → Option Place) (row rows : ℕ → List ℕ) (place
         by (inl h) = step h (cases_order y.index k)
         by (inr h) = absurd (h (user_kept y x (sym (down_other i k y h) ∙ f) ∙ u))
 
-    taken_before : (o : Option Place) (x : Place) → x.user ≢ i → shifted_down i k o ≡ Some x → o ≡ Some x
+    taken_before : (o : Option PlaceOfUse) (x : PlaceOfUse) → x.user ≢ i → shifted_down i k o ≡ Some x → o ≡ Some x
     taken_before None x h f = absurd (no_place x f)
     taken_before (Some y) x h f = by (differ y.user i)
       where
@@ -351,21 +351,21 @@ module _ (place new : ℕ → Option Place) (row rows : ℕ → List ℕ) (place
         inside : (j q : ℕ) → slice_get (rows i) j ≡ Some q → (c : ℕ) × (new q ≡ Some (place_at c i j))
         inside j q e = taken_inside j q (taken j q e) (below_or_not j k)
 
-        mine_by : (q : ℕ) (x : Place) → new q ≡ Some x → x.user ≡ i → (q ≡ p) ⊎ (q ≢ p) → slice_get (remove (row i) k) x.index ≡ Some q
+        mine_by : (q : ℕ) (x : PlaceOfUse) → new q ≡ Some x → x.user ≡ i → (q ≡ p) ⊎ (q ≢ p) → slice_get (remove (row i) k) x.index ≡ Some q
         mine_by q x e u (inl h) = absurd (no_place x (sym removes.gone ∙ (ap new (sym h) ∙ e)))
         mine_by q x e u (inr h) = taken_mine (place q) q x h refl (sym (removes.others q h) ∙ e) u
 
-        mine : (q : ℕ) (x : Place) → new q ≡ Some x → x.user ≡ i → slice_get (rows i) x.index ≡ Some q
+        mine : (q : ℕ) (x : PlaceOfUse) → new q ≡ Some x → x.user ≡ i → slice_get (rows i) x.index ≡ Some q
         mine q x e u = ap (λ (xs : List ℕ). slice_get xs x.index) removes.changed ∙ mine_by q x e u (differ q p)
 
-        before_by : (q : ℕ) (x : Place) → x.user ≢ i → new q ≡ Some x → (q ≡ p) ⊎ (q ≢ p) → place q ≡ Some x
+        before_by : (q : ℕ) (x : PlaceOfUse) → x.user ≢ i → new q ≡ Some x → (q ≡ p) ⊎ (q ≢ p) → place q ≡ Some x
         before_by q x h e (inl s) = absurd (no_place x (sym removes.gone ∙ (ap new (sym s) ∙ e)))
         before_by q x h e (inr s) = taken_before (place q) x h (sym (removes.others q s) ∙ e)
 
-        before : (q : ℕ) (x : Place) → x.user ≢ i → new q ≡ Some x → place q ≡ Some x
+        before : (q : ℕ) (x : PlaceOfUse) → x.user ≢ i → new q ≡ Some x → place q ≡ Some x
         before q x h e = before_by q x h e (differ q p)
 
-        after : (q : ℕ) (x : Place) → x.user ≢ i → place q ≡ Some x → new q ≡ Some x
+        after : (q : ℕ) (x : PlaceOfUse) → x.user ≢ i → place q ≡ Some x → new q ≡ Some x
         after q x h e =
             let its = placed.held i k p removes.stood in
             let other : q ≢ p = λ s. h (sym (user_kept (place_at its.0 i k) x (sym its.1 ∙ (ap place (sym s) ∙ e)))) in
@@ -373,7 +373,7 @@ module _ (place new : ℕ → Option Place) (row rows : ℕ → List ℕ) (place
 
   -- a place that is put behind the others of a row
   module _ (i p d : ℕ) (pushes : PushesPlace place new row rows i p d) where
-    up_past : (o : Option Place) (q : ℕ) → place q ≡ o → o ≡ shifted_up i (length (row i)) o
+    up_past : (o : Option PlaceOfUse) (q : ℕ) → place q ≡ o → o ≡ shifted_up i (length (row i)) o
     up_past None q e = refl
     up_past (Some y) q e = by (differ y.user i)
       where
@@ -381,7 +381,7 @@ module _ (place new : ℕ → Option Place) (row rows : ℕ → List ℕ) (place
         by (inl h) =
             let stood : slice_get (row i) y.index ≡ Some q = ap (λ (u : ℕ). slice_get (row u) y.index) (sym h) ∙ placed.all q y e in
             let within : y.index < length (row i) = slice_get_within (row i) y.index q stood in
-            ap Some (own i y h) ∙ (sym (up_before i (length (row i)) y.definition y.index within) ∙ ap (λ (z : Place). shifted_up i (length (row i)) (Some z)) (sym (own i y h)))
+            ap Some (own i y h) ∙ (sym (up_before i (length (row i)) y.definition y.index within) ∙ ap (λ (z : PlaceOfUse). shifted_up i (length (row i)) (Some z)) (sym (own i y h)))
         by (inr h) = sym (up_other i (length (row i)) y h)
 
     pub pushed-inserts : InsertsPlace place new row rows i (length (row i)) p d

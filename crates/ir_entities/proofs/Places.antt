@@ -1,10 +1,10 @@
 -- What a contract sees of the tables, and what the edits do to it.
 use Rattle.std.proofs.Common.{◌≡◌, ◌≢◌, ℕ, ◌<◌, ◌≤◌, ◌||◌, ⊎_elim, true, false, cond, eqb, List, [], ◌∷◌, length, Option, Some, None, is_some, IsSome, MatchOption, refl, sym, ap, subst, ◌∙◌, arith, get_or, suc, zero-add}
 use Rattle.std.proofs.lemmas.Bool.{eq-eqb, ne_eqb, or_cases, or_left, or_right, cases_eq, both_ways, false_from_ne_true}
-use Rattle.ir_entities.specs.Links.{has, list_at, AreApart, AreDistinct, first_or, IsLinked, IsUnlinked}
+use Rattle.ir_entities.specs.Links.{has, list_at, AreApart, AreDistinctNumbers, first_or, IsLinked, IsUnlinked}
 use Rattle.ir_entities.proofs.Segments.{has_here}
-use Rattle.ir_entities.specs.Uses.{Uses, Place, listed_of, key_of, place_of, named_of, spot_of, IsDefined, IsPlace, Names, SetsKey, SetsPlace, AreUsesOf, naming, at_index, renamed}
-use Rattle.ir_entities.specs.Threads.{thread_of, place_in, places_from, threads_from, key_in, definition_at, keys_of, AreThreads, ArePlaces}
+use Rattle.ir_entities.specs.Uses.{Uses, PlaceOfUse, listed_of, key_of, place_of, named_of, spot_of, IsDefined, IsPlace, NamesDefinition, SetsKey, SetsPlace, AreNamingPlaces, naming, at_index, renamed}
+use Rattle.ir_entities.specs.Threads.{thread_of, place_in, places_from, threads_from, key_in, definition_at, keys_of, AreThreads, ThreadsHoldPlaces}
 use Rattle.ir_entities.specs.declared.uses.Spot.{Spot}
 use Rattle.ir_entities.specs.declared.uses.Defined.{Defined}
 use Rattle.ir_entities.proofs.Naming.{none_in, thread_has, no_thread, thread_is, thread_same, places_same, key_some, key_at, shown, place_at, listed_at}
@@ -48,9 +48,9 @@ pub some_not_none : {A : Type 0} (o : Option A) → o ≡ None → IsSome o → 
 some_not_none o e h = let f : is_some o ≡ false = ap is_some e in both_ways (is_some o) f h
 
 -- the places in use and the threads, after an edit of place p alone
-pub places_after : (ss tt : List (Option Spot)) (ls ms : List (List ℕ)) (p : ℕ) → ArePlaces ss ls
+pub places_after : (ss tt : List (Option Spot)) (ls ms : List (List ℕ)) (p : ℕ) → ThreadsHoldPlaces ss ls
     → ((q c : ℕ) → q ≢ p → has q (list_at ms c) ≡ has q (list_at ls c)) → ((q : ℕ) → q ≢ p → get_or tt q None ≡ get_or ss q None)
-    → ((d : ℕ) → has p (list_at ms d) ≡ true → IsSome (get_or tt p None)) → (IsSome (get_or tt p None) → IsLinked ms p) → ArePlaces tt ms
+    → ((d : ℕ) → has p (list_at ms d) ≡ true → IsSome (get_or tt p None)) → (IsSome (get_or tt p None) → IsLinked ms p) → ThreadsHoldPlaces tt ms
 places_after ss tt ls ms p s lists spots placed linked =
     record {
       placed = λ q d h. ⊎_elim
@@ -63,7 +63,7 @@ places_after ss tt ls ms p s lists spots placed linked =
           (cases_eq q p);
     }
 
-pub vacant_unlinked : (ss : List (Option Spot)) (ls : List (List ℕ)) (p : ℕ) → ArePlaces ss ls → get_or ss p None ≡ None → IsUnlinked ls p
+pub vacant_unlinked : (ss : List (Option Spot)) (ls : List (List ℕ)) (p : ℕ) → ThreadsHoldPlaces ss ls → get_or ss p None ≡ None → IsUnlinked ls p
 vacant_unlinked ss ls p s e d = false_from_ne_true (has p (list_at ls d)) (λ h. some_not_none (get_or ss p None) e (s.placed p d h))
 
 -- the same lists, of which there may be more
@@ -71,7 +71,7 @@ module _ (ls ms : List (List ℕ)) (same : (c : ℕ) → list_at ms c ≡ list_a
   same_apart : AreApart ls → AreApart ms
   same_apart apart x c d h k = apart x c d (rw (← same c) h) (rw (← same d) k)
 
-  pub same_places : (ss : List (Option Spot)) → ArePlaces ss ls → ArePlaces ss ms
+  pub same_places : (ss : List (Option Spot)) → ThreadsHoldPlaces ss ls → ThreadsHoldPlaces ss ms
   same_places ss s =
       record {
         placed = λ p d h. s.placed p d (rw (same d) at h);
@@ -88,7 +88,7 @@ module _ (ls ms : List (List ℕ)) (same : (c : ℕ) → list_at ms c ≡ list_a
   pub same_view : {K : Type 0} (ds es : List (Option (Defined K))) (ss : List (Option Spot)) → AreApart ls → es ≡ ds → shown es ss ms ≡ shown ds ss ls
   same_view {K} ds es ss apart is =
       ap (λ ks. shown {K = K} ks ss ms) is
-      ∙ ap (λ (ps : List (Option Place)). record { definitions = keys_of ds; places = ps; threads = threads_from 0 ms ds }) (same_shown ss apart)
+      ∙ ap (λ (ps : List (Option PlaceOfUse)). record { definitions = keys_of ds; places = ps; threads = threads_from 0 ms ds }) (same_shown ss apart)
       ∙ ap (λ (ts : List (List ℕ)). record { definitions = keys_of ds; places = places_from 0 ls ss; threads = ts }) (same_listed 0 ds)
 
   pub same_threads : {K : Type 0} (ds : List (Option (Defined K))) → length ls ≤ length ms → AreThreads ds ls → AreThreads ds ms
@@ -164,7 +164,7 @@ module _ {K : Type 0} where
           others = λ e n. key_at es e ∙ ap key_in (others e n) ∙ sym (seen_key e);
         }
 
-    pub sets_place : (es : List (Option (Defined K))) (tt : List (Option Spot)) (ms : List (List ℕ)) (p : ℕ) (w : Option Place) → AreApart ms
+    pub sets_place : (es : List (Option (Defined K))) (tt : List (Option Spot)) (ms : List (List ℕ)) (p : ℕ) (w : Option PlaceOfUse) → AreApart ms
         → ((q c : ℕ) → q ≢ p → has q (list_at ms c) ≡ has q (list_at ls c)) → ((q : ℕ) → q ≢ p → get_or tt q None ≡ get_or ss q None)
         → place_in (thread_of ms p) (get_or tt p None) ≡ w → SetsPlace v (shown es tt ms) p w
     sets_place es tt ms p w apart lists spots is =
@@ -173,17 +173,17 @@ module _ {K : Type 0} where
           others = λ q n. place_at es tt ms q ∙ ap (λ t. place_in t (get_or tt q None)) (thread_same ls ms q apart (λ c. lists q c n)) ∙ ap (place_in (thread_of ls q)) (spots q n) ∙ sym (seen_place q);
         }
 
-    module _ (s : ArePlaces ss ls) (p : ℕ) where
+    module _ (s : ThreadsHoldPlaces ss ls) (p : ℕ) where
       pub is_place : IsPlace v p → IsSome (get_or ss p None)
       is_place h = spot_some (thread_of ls p) (get_or ss p None) (sym (ap is_some (seen_place p)) ∙ h)
 
       pub is_linked : IsPlace v p → IsLinked ls p
       is_linked h = s.linked p (is_place h)
 
-      pub has_named : (d : ℕ) → Names v p d → has p (list_at ls d) ≡ true
+      pub has_named : (d : ℕ) → NamesDefinition v p d → has p (list_at ls d) ≡ true
       has_named d h = thread_has ls p d (named_thread (thread_of ls p) (get_or ss p None) d (sym (ap named_of (seen_place p)) ∙ h))
 
-      pub names : (d : ℕ) → AreApart ls → has p (list_at ls d) ≡ true → Names v p d
+      pub names : (d : ℕ) → AreApart ls → has p (list_at ls d) ≡ true → NamesDefinition v p d
       names d apart h = ap named_of (seen_place p) ∙ ap (λ t. named_of (place_in t (get_or ss p None))) (thread_is ls p d apart h) ∙ named_in d (get_or ss p None) (s.placed p d h)
 
       pub at_spot : AreApart ls → IsPlace v p → spot_of (place_of v p) ≡ get_or ss p None
@@ -199,16 +199,16 @@ module _ {K : Type 0} where
       pub now_at : (tt : List (Option Spot)) (i : ℕ) (x : Spot) → get_or ss p None ≡ Some x → get_or tt p None ≡ Some (record x { index = i }) → place_in (thread_of ls p) (get_or tt p None) ≡ at_index i (place_of v p)
       now_at tt i x was is = ap (place_in (thread_of ls p)) is ∙ index_in (thread_of ls p) x i ∙ ap (λ o. at_index i (place_in (thread_of ls p) o)) (sym was) ∙ ap (at_index i) (sym (seen_place p))
 
-    pub uses_of : (d : ℕ) → ArePlaces ss ls → AreApart ls → AreDistinct (list_at ls d) → AreUsesOf v d (list_at ls d)
+    pub uses_of : (d : ℕ) → ThreadsHoldPlaces ss ls → AreApart ls → AreDistinctNumbers (list_at ls d) → AreNamingPlaces v d (list_at ls d)
     uses_of d s apart distinct =
         record {
           distinct = distinct;
           exact = λ p. (names s p d apart, has_named s p d);
         }
 
-    pub first_named : (d : ℕ) (r : Option ℕ) → ArePlaces ss ls → AreApart ls → r ≡ first_or None (list_at ls d) → MatchOption r ((p : ℕ) → Names v p d → ⊥) (λ p. Names v p d)
+    pub first_named : (d : ℕ) (r : Option ℕ) → ThreadsHoldPlaces ss ls → AreApart ls → r ≡ first_or None (list_at ls d) → MatchOption r ((p : ℕ) → NamesDefinition v p d → ⊥) (λ p. NamesDefinition v p d)
     first_named d r s apart e = by_list (list_at ls d) refl r e where
-      by_list : (xs : List ℕ) → list_at ls d ≡ xs → (r : Option ℕ) → r ≡ first_or None xs → MatchOption r ((p : ℕ) → Names v p d → ⊥) (λ p. Names v p d)
+      by_list : (xs : List ℕ) → list_at ls d ≡ xs → (r : Option ℕ) → r ≡ first_or None xs → MatchOption r ((p : ℕ) → NamesDefinition v p d → ⊥) (λ p. NamesDefinition v p d)
       by_list [] is None e = λ p n. both_ways (has p (list_at ls d)) (ap (has p) is) (has_named s p d n)
       by_list [] is (Some q) e = cc
       by_list (x ∷ xs) is None e = cc
@@ -217,7 +217,7 @@ module _ {K : Type 0} where
     -- one thread has moved behind another
     module _ (es : List (Option (Defined K))) (ms : List (List ℕ)) (from to : ℕ) (apart : AreApart ms) (emptied : (p : ℕ) → has p (list_at ms from) ≡ false)
         (joined : (p : ℕ) → has p (list_at ms to) ≡ (has p (list_at ls to) || has p (list_at ls from))) (others : (p c : ℕ) → c ≢ from → c ≢ to → has p (list_at ms c) ≡ has p (list_at ls c)) where
-      pub merged_places : ArePlaces ss ls → ArePlaces ss ms
+      pub merged_places : ThreadsHoldPlaces ss ls → ThreadsHoldPlaces ss ms
       merged_places s =
           record {
             placed = λ p c h. ⊎_elim

@@ -2,7 +2,7 @@
 use Rattle.std.proofs.Common.{◌≡◌, ◌≢◌, ℕ, ◌<◌, ◌||◌, ◌++◌, ◌⊎◌, inl, inr, ⊎_elim, Bool, true, false, cond, eqb, List, [], ◌∷◌, map, length, IsSome, refl, sym, subst, ◌∙◌, arith, set}
 use Rattle.std.proofs.lemmas.List.{length-set, length-map, get_or-set_same, get_or-set_other}
 use Rattle.std.proofs.lemmas.Bool.{eqb-true, or_cases, or_left, or_right, cases_eq, both_ways}
-use Rattle.ir_entities.specs.Lists.{Lists}
+use Rattle.ir_entities.specs.Lists.{ListsView}
 use Rattle.ir_entities.specs.Links.{has, list_at, put_before}
 use Rattle.ir_arena.specs.declared.arena.Key.{Key}
 use Rattle.ir_arena.specs.Arena.{held, get}
@@ -62,7 +62,7 @@ module _ (s t : Shape) (Moves : Place → Type 0) (adds : (e d : Place) → IsIn
       (λ j. moved_from all d (h d j))
       (adds e d i))
 
-module _ {O B R : Type 0} (f v : Forest O B R) (seen : f ≡ v) (forest : IsForest f) (l : Lists) (nodes : l.nodes ≡ f.in_blocks.nodes) where
+module _ {O B R : Type 0} (f v : Forest O B R) (seen : f ≡ v) (forest : IsForest f) (l : ListsView) (nodes : l.nodes ≡ f.in_blocks.nodes) where
   pub before_op : (m p : Key) → IsSome (get v.ops p) → (IsInside (shape_of v) (Op p.slot) (Op m.slot) → ⊥)
       → l.lists ≡ map (put_before m.slot p.slot) f.in_blocks.lists → IsForest (record f { in_blocks = l })
   before_op m p lp apart is = more_ops f v seen forest l nodes p.slot (rw (is, length-map) refl) (λ i c h.
@@ -108,7 +108,7 @@ module _ {O B R : Type 0} (f v : Forest O B R) (seen : f ≡ v) (forest : IsFore
   behind_op d o ld lo differ apart is = appended_op d.slot o.slot (rw seen (held_is v.blocks d ld)) (rw seen (held_is v.blocks o lo)) differ
       (subst (λ (w : Forest O B R). (i : ℕ) → has i (list_at w.in_blocks.lists o.slot) ≡ true → IsInside (shape_of w) (Op i) (Block d.slot) → ⊥) (sym seen) apart) is
 
-module _ {O B R : Type 0} (f v : Forest O B R) (seen : f ≡ v) (forest : IsForest f) (l : Lists) (nodes : l.nodes ≡ f.in_regions.nodes) where
+module _ {O B R : Type 0} (f v : Forest O B R) (seen : f ≡ v) (forest : IsForest f) (l : ListsView) (nodes : l.nodes ≡ f.in_regions.nodes) where
   pub before_block : (m p : Key) → IsSome (get v.blocks p) → (IsInside (shape_of v) (Block p.slot) (Block m.slot) → ⊥)
       → l.lists ≡ map (put_before m.slot p.slot) f.in_regions.lists → IsForest (record f { in_regions = l })
   before_block m p lp apart is = more_blocks f v seen forest l nodes p.slot (rw (is, length-map) refl) (λ i c h.

@@ -8,9 +8,9 @@ use Rattle.ir_arena.specs.Arena.{held, get, value_at, slot_at, ClearsSlot, IsSpe
 use Rattle.ir_entities.specs.declared.forest.Place.{Place}
 use Rattle.ir_entities.specs.declared.forest.Place.TheVariants.{Op, Block, Region}
 use Rattle.ir_entities.specs.Shape.{Shape, IsIn, IsInside, itself, deeper}
-use Rattle.ir_entities.specs.Forest.{Forest, IsForest, IsUsed, shape_of, pointer_to, ops_in, blocks_in, regions_in}
+use Rattle.ir_entities.specs.Forest.{Forest, IsForest, HoldsInUse, shape_of, pointer_to, ops_in, blocks_in, regions_in}
 use Rattle.ir_entities.specs.Walk.{StandInOne}
-use Rattle.ir_entities.specs.Prune.{live_in, OnlyErases, RefusesAll, StandsNowhere, IsBare, KeepsSlot, KeepsList, IsCut, IsPruned, ErasesInside}
+use Rattle.ir_entities.specs.Prune.{live_in, OnlyErases, RefusesAll, StandsNowhere, HoldsNothing, KeepsSlot, KeepsList, IsDetached, IsPruned, ErasesInside}
 use Rattle.ir_entities.proofs.Trees.{none_is_not_some, pointer_is, held_is, inside_less, pointers_kept}
 use Rattle.ir_entities.proofs.Climb.{inside_trans, no_cycle}
 
@@ -67,12 +67,12 @@ module _ {O B R : Type 0} where
   list_both old mid new (Block i) a b = b ∙ a
   list_both old mid new (Region i) a b = b ∙ a
 
-  pub used_kept : (old new : Forest O B R) (e : Place) → KeepsSlot old new e → IsUsed old e → IsUsed new e
+  pub used_kept : (old new : Forest O B R) (e : Place) → KeepsSlot old new e → HoldsInUse old e → HoldsInUse new e
   used_kept old new (Op i) k u = subst (λ (s : Slot O). IsSome s.value) (sym k) u
   used_kept old new (Block i) k u = subst (λ (s : Slot B). IsSome s.value) (sym k) u
   used_kept old new (Region i) k u = subst (λ (s : Slot R). IsSome s.value) (sym k) u
 
-  pub used_before : (old new : Forest O B R) (e : Place) → OnlyErases old.ops new.ops → OnlyErases old.blocks new.blocks → OnlyErases old.regions new.regions → IsUsed new e → IsUsed old e
+  pub used_before : (old new : Forest O B R) (e : Place) → OnlyErases old.ops new.ops → OnlyErases old.blocks new.blocks → OnlyErases old.regions new.regions → HoldsInUse new e → HoldsInUse old e
   used_before old new (Op i) a b c u = a.used i u
   used_before old new (Block i) a b c u = b.used i u
   used_before old new (Region i) a b c u = c.used i u
@@ -94,7 +94,7 @@ module _ {O B R : Type 0} where
   list_back old new (Region i) k = sym k
 
   -- what holds something is in use
-  pub holder_used : (f : Forest O B R) → IsForest f → (e d : Place) → IsIn (shape_of f) e d → IsUsed f d
+  pub holder_used : (f : Forest O B R) → IsForest f → (e d : Place) → IsIn (shape_of f) e d → HoldsInUse f d
   holder_used f forest (Op i) (Block c) h = forest.ops.holders c i h
   holder_used f forest (Block i) (Region c) h = forest.blocks.holders c i h
   holder_used f forest (Region i) (Op c) h = forest.regions.holders c i h
@@ -106,7 +106,7 @@ module _ {O B R : Type 0} where
   holder_used f forest (Region i) (Region c) h = absurd h
 
   -- what stands in something is in use
-  pub member_used : (f : Forest O B R) → IsForest f → (e d : Place) → IsIn (shape_of f) e d → IsUsed f e
+  pub member_used : (f : Forest O B R) → IsForest f → (e d : Place) → IsIn (shape_of f) e d → HoldsInUse f e
   member_used f forest (Op i) (Block c) h = forest.ops.members c i h
   member_used f forest (Block i) (Region c) h = forest.blocks.members c i h
   member_used f forest (Region i) (Op c) h = forest.regions.members c i h
@@ -135,7 +135,7 @@ module _ {O B R : Type 0} where
   nowhere_in f (Region i) (Region c) out h = h
 
   -- nothing stands in what is bare
-  pub bare_in : (f : Forest O B R) (e x : Place) → IsBare f x → IsIn (shape_of f) e x → ⊥
+  pub bare_in : (f : Forest O B R) (e x : Place) → HoldsNothing f x → IsIn (shape_of f) e x → ⊥
   bare_in f (Op i) (Block c) bare h = none_here (list_at f.in_blocks.lists c) i bare h
   bare_in f (Block i) (Region c) bare h = none_here (list_at f.in_regions.lists c) i bare h
   bare_in f (Region i) (Op c) bare h = none_here (list_at f.in_ops.lists c) i bare h
@@ -147,7 +147,7 @@ module _ {O B R : Type 0} where
   bare_in f (Region i) (Region c) bare h = h
 
   -- only x is inside what is bare
-  pub inside_bare : (f : Forest O B R) (x : Place) → IsBare f x → (e : Place) → IsInside (shape_of f) x e → e ≡ x
+  pub inside_bare : (f : Forest O B R) (x : Place) → HoldsNothing f x → (e : Place) → IsInside (shape_of f) x e → e ≡ x
   inside_bare f x bare _ itself = refl
   inside_bare f x bare _ (deeper e d i w) = absurd (bare_in f e x bare (subst (λ (k : Place). IsIn (shape_of f) e k) (inside_bare f x bare d w) i))
 
@@ -193,11 +193,11 @@ module _ {O B R : Type 0} where
         slots = λ e out. slot_both old mid new e (p.slots e out) (q.slots e (λ w. out (p.come e w)));
         lists = λ e out. list_both old mid new e (p.lists e out) (q.lists e (λ w. out (p.come e w)));
       } where
-        vacant : (e : Place) → IsInside (shape_of old) x e → IsUsed new e → ⊥
+        vacant : (e : Place) → IsInside (shape_of old) x e → HoldsInUse new e → ⊥
         vacant e w u = q.vacant e (p.stay e (used_before mid new e q.ops q.blocks q.regions u) w) u
 
 -- what is inside x and isn't x is in use
-pub member_in : {O B R : Type 0} (f : Forest O B R) → IsForest f → (x e : Place) → IsInside (shape_of f) x e → (x ≡ e → ⊥) → IsUsed f e
+pub member_in : {O B R : Type 0} (f : Forest O B R) → IsForest f → (x e : Place) → IsInside (shape_of f) x e → (x ≡ e → ⊥) → HoldsInUse f e
 member_in f forest x _ itself ne = absurd (ne refl)
 member_in f forest x _ (deeper e d i w) ne = member_used f forest e d i
 
@@ -211,7 +211,7 @@ pub held_inside : (s : Shape) (x e : Place) → IsInside s x e → (x ≡ e → 
 held_inside s x _ itself ne = absurd (ne refl)
 held_inside s x _ (deeper e d i w) ne = record { at = d; here = i; inside = w }
 
-module _ {O B R : Type 0} (old mid new : Forest O B R) (forest : IsForest old) (after : IsForest new) (g x : Place) (cut : IsCut old mid g) (erased : ErasesInside mid new g)
+module _ {O B R : Type 0} (old mid new : Forest O B R) (forest : IsForest old) (after : IsForest new) (g x : Place) (cut : IsDetached old mid g) (erased : ErasesInside mid new g)
     (inside : IsInside (shape_of old) x g) (differ : x ≡ g → ⊥) where
   holder : IsHeld (shape_of old) x g
   holder = held_inside (shape_of old) x g inside differ
@@ -233,13 +233,13 @@ module _ {O B R : Type 0} (old mid new : Forest O B R) (forest : IsForest old) (
       let out : IsInside (shape_of mid) g d → ⊥ = λ w. erased.vacant d w (holder_used new after e d i) in
       cut.less e d (in_kept new mid e d (list_back mid new d (erased.lists d out)) i)
 
-  left : (e : Place) → IsUsed new e → IsInside (shape_of old) x e → IsInside (shape_of new) x e
+  left : (e : Place) → HoldsInUse new e → IsInside (shape_of old) x e → IsInside (shape_of new) x e
   left _ u itself = itself
   left _ u (deeper e d i w) =
       let not_g : e ≡ g → ⊥ = λ same. erased.vacant e (subst (λ (k : Place). IsInside (shape_of mid) g k) (sym same) itself) u in
       let still : IsIn (shape_of mid) e d = cut.rest e d i not_g in
       let out : IsInside (shape_of mid) g d → ⊥ = λ v. erased.vacant e (deeper e d still v) u in
-      let used : IsUsed new d = used_kept old new d (slots_now d out) (holder_used old forest e d i) in
+      let used : HoldsInUse new d = used_kept old new d (slots_now d out) (holder_used old forest e d i) in
       deeper e d (in_kept mid new e d (erased.lists d out) still) (left d used w)
 
   top_out : IsInside (shape_of mid) g x → ⊥
@@ -262,7 +262,7 @@ module _ {O B R : Type 0} (old mid new : Forest O B R) (forest : IsForest old) (
   }
 
 -- cutting off leaves as much in use as there was
-pub cut_live : {O B R : Type 0} (old mid : Forest O B R) (g : Place) → IsCut old mid g → live_in mid ≡ live_in old
+pub cut_live : {O B R : Type 0} (old mid : Forest O B R) (g : Place) → IsDetached old mid g → live_in mid ≡ live_in old
 cut_live old mid g cut = rw (cut.ops, cut.blocks, cut.regions) refl
 
 -- what stands in a place outside x is outside x, where x stands nowhere

@@ -1,20 +1,20 @@
 -- What an edit of one user's row leaves, once the places behind it have their indices.
 use Rattle.std.proofs.Common.{◌≡◌, ◌≢◌, ◌⊎◌, inl, inr, ℕ, zero, suc, ◌+◌, ◌-◌, ◌<◌, ◌≤◌, List, [], length, insert, remove, slice_get, Option, Some, None, refl, sym, ap, ◌∙◌, arith}
 use Rattle.std.proofs.lemmas.Bool.{cases_order}
-use Rattle.ir_entities.specs.Uses.{Place, at_index}
-use Rattle.ir_entities.specs.Placed.{place_at, IsPlaced, shifted_up, shifted_down, KeepsOtherRows, PushesPlace, InsertsPlace, RemovesPlace, ClearsRow, IsDistinctRow, Releases, Renumbers}
+use Rattle.ir_entities.specs.Uses.{PlaceOfUse, at_index}
+use Rattle.ir_entities.specs.Placed.{place_at, IsPlaced, shifted_up, shifted_down, KeepsOtherRows, PushesPlace, InsertsPlace, RemovesPlace, ClearsRow, IsDistinctRow, ReleasesPlaces, Renumbers}
 use Rattle.ir_entities.specs.Rows.{IsRowOf, PushesIn, InsertsIn, RemovesIn}
 use Rattle.ir_entities.proofs.Placed.{differ, below_or_not, at_most_or_not, insert-before, insert-at, insert-behind, remove-before, remove-behind, no_place, the_item, up_other, up_before, up_behind, down_other, down_before, down_behind, own, user_kept, index_kept}
 
 -- a row among those that hold all places is that of its user
-pub placed-row : (place : ℕ → Option Place) (row : ℕ → List ℕ) (i : ℕ) → IsPlaced place row → IsRowOf place (row i) i
+pub placed-row : (place : ℕ → Option PlaceOfUse) (row : ℕ → List ℕ) (i : ℕ) → IsPlaced place row → IsRowOf place (row i) i
 placed-row place row i placed = record {
   held = λ k p e. placed.held i k p e;
   all = λ p x e h. ap (λ (u : ℕ). slice_get (row u) x.index) (sym h) ∙ placed.all p x e;
 }
 
 -- an edit of one row, where the others stay
-module _ (place new : ℕ → Option Place) (row rows : ℕ → List ℕ) (i : ℕ) (rest : KeepsOtherRows row rows i) where
+module _ (place new : ℕ → Option PlaceOfUse) (row rows : ℕ → List ℕ) (i : ℕ) (rest : KeepsOtherRows row rows i) where
   pub pushes-place : (p d : ℕ) → PushesIn place new (row i) (rows i) i p d → PushesPlace place new row rows i p d
   pushes-place p d pushes = record { fresh = pushes.fresh; changed = pushes.changed; rest = rest; here = pushes.here; others = pushes.others }
 
@@ -24,10 +24,10 @@ module _ (place new : ℕ → Option Place) (row rows : ℕ → List ℕ) (i : �
   pub removes-place : (k p : ℕ) → RemovesIn place new (row i) (rows i) i k p → RemovesPlace place new row rows i k p
   removes-place k p removes = record { stood = removes.stood; changed = removes.changed; rest = rest; gone = removes.gone; others = removes.others }
 
-  pub clears-row : Releases place new (row i) → rows i ≡ [] → ClearsRow place new row rows i
+  pub clears-row : ReleasesPlaces place new (row i) → rows i ≡ [] → ClearsRow place new row rows i
   clears-row releases e = record { changed = e; rest = rest; gone = releases.gone; others = releases.others }
 
-module _ (place : ℕ → Option Place) (row : List ℕ) (i : ℕ) (rowed : IsRowOf place row i) where
+module _ (place : ℕ → Option PlaceOfUse) (row : List ℕ) (i : ℕ) (rowed : IsRowOf place row i) where
   pub row-distinct : IsDistinctRow row
   row-distinct j k p e f =
       let first = rowed.held j p e in
@@ -96,8 +96,8 @@ module _ (place : ℕ → Option Place) (row : List ℕ) (i : ℕ) (rowed : IsRo
       elsewhere l one (inr h) = let more : k < l = h.0 in omega arith
 
 -- a row whose later places get their indices once another came in or went out
-module _ (place mid new : ℕ → Option Place) (row rows : List ℕ) (i k p : ℕ) (rowed : IsRowOf place row i) (same : (q : ℕ) → q ≢ p → mid q ≡ place q) where
-  own_user : (q j : ℕ) (y : Place) → place q ≡ Some y → slice_get row j ≡ Some q → (y.user ≡ i) × (y.index ≡ j)
+module _ (place mid new : ℕ → Option PlaceOfUse) (row rows : List ℕ) (i k p : ℕ) (rowed : IsRowOf place row i) (same : (q : ℕ) → q ≢ p → mid q ≡ place q) where
+  own_user : (q j : ℕ) (y : PlaceOfUse) → place q ≡ Some y → slice_get row j ≡ Some q → (y.user ≡ i) × (y.index ≡ j)
   own_user q j y e s =
       let its = rowed.held j q s in
       let one : Some y ≡ Some (place_at its.0 i j) = sym e ∙ its.1 in
@@ -109,7 +109,7 @@ module _ (place mid new : ℕ → Option Place) (row rows : List ℕ) (i k p : �
     came_from zero q h e = absurd (omega arith)
     came_from (suc l) q h e = (l, refl, sym (insert-behind row k p l within (omega arith)) ∙ (sym (ap (λ (xs : List ℕ). slice_get xs (suc l)) changed) ∙ e))
 
-    stays_in : (o : Option Place) (q : ℕ) → q ≢ p → place q ≡ o → new q ≡ shifted_up i k o
+    stays_in : (o : Option PlaceOfUse) (q : ℕ) → q ≢ p → place q ≡ o → new q ≡ shifted_up i k o
     stays_in None q n e =
         let out : (j : ℕ) → k + 1 ≤ j → slice_get rows j ≡ Some q → ⊥ = λ j h s. let from = came_from j q h s in row-used place row i rowed from.0 q from.2 e in
         renumbers.others q out ∙ (same q n ∙ e)
@@ -123,11 +123,11 @@ module _ (place mid new : ℕ → Option Place) (row rows : List ℕ) (i k p : �
         step : y.user ≡ i → (y.index < k) ⊎ (k ≤ y.index) → new q ≡ shifted_up i k (Some y)
         step h (inl l) =
             let rests : new q ≡ Some y = at_rest (λ j g s. let index : y.index ≡ j = (own_user q j y e s).1 in omega arith) in
-            rests ∙ (ap Some (own i y h) ∙ (sym (up_before i k y.definition y.index l) ∙ ap (λ (z : Place). shifted_up i k (Some z)) (sym (own i y h))))
+            rests ∙ (ap Some (own i y h) ∙ (sym (up_before i k y.definition y.index l) ∙ ap (λ (z : PlaceOfUse). shifted_up i k (Some z)) (sym (own i y h))))
         step h (inr l) =
             let stood : slice_get row y.index ≡ Some q = rowed.all q y e h in
             let stands : slice_get rows (suc y.index) ≡ Some q = ap (λ (xs : List ℕ). slice_get xs (suc y.index)) changed ∙ (insert-behind row k p y.index within l ∙ stood) in
-            renumbers.later (suc y.index) q (omega arith) stands ∙ (ap (at_index (suc y.index)) (same q n ∙ (e ∙ ap Some (own i y h))) ∙ (sym (up_behind i k y.definition y.index l) ∙ ap (λ (z : Place). shifted_up i k (Some z)) (sym (own i y h))))
+            renumbers.later (suc y.index) q (omega arith) stands ∙ (ap (at_index (suc y.index)) (same q n ∙ (e ∙ ap Some (own i y h))) ∙ (sym (up_behind i k y.definition y.index l) ∙ ap (λ (z : PlaceOfUse). shifted_up i k (Some z)) (sym (own i y h))))
 
         by : (y.user ≡ i) ⊎ (y.user ≢ i) → new q ≡ shifted_up i k (Some y)
         by (inl h) = step h (below_or_not y.index k)
@@ -148,7 +148,7 @@ module _ (place mid new : ℕ → Option Place) (row rows : List ℕ) (i k p : �
     went_from : (j q : ℕ) → k ≤ j → slice_get rows j ≡ Some q → slice_get row (suc j) ≡ Some q
     went_from j q h e = sym (remove-behind row k j h) ∙ (sym (ap (λ (xs : List ℕ). slice_get xs j) changed) ∙ e)
 
-    leaves : (o : Option Place) (q : ℕ) → q ≢ p → place q ≡ o → new q ≡ shifted_down i k o
+    leaves : (o : Option PlaceOfUse) (q : ℕ) → q ≢ p → place q ≡ o → new q ≡ shifted_down i k o
     leaves None q n e = renumbers.others q (λ j h s. row-used place row i rowed (suc j) q (went_from j q h s) e) ∙ (same q n ∙ e)
     leaves (Some y) q n e = by (differ y.user i)
       where
@@ -158,12 +158,12 @@ module _ (place mid new : ℕ → Option Place) (row rows : List ℕ) (i k p : �
         step : y.user ≡ i → (y.index ≤ k) ⊎ (k < y.index) → new q ≡ shifted_down i k (Some y)
         step h (inl l) =
             let rests : new q ≡ Some y = at_rest (λ j g s. let index : y.index ≡ suc j = (own_user q (suc j) y e s).1 in omega arith) in
-            rests ∙ (ap Some (own i y h) ∙ (sym (down_before i k y.definition y.index l) ∙ ap (λ (z : Place). shifted_down i k (Some z)) (sym (own i y h))))
+            rests ∙ (ap Some (own i y h) ∙ (sym (down_before i k y.definition y.index l) ∙ ap (λ (z : PlaceOfUse). shifted_down i k (Some z)) (sym (own i y h))))
         step h (inr l) =
             let was : slice_get row y.index ≡ Some q = rowed.all q y e h in
             let more : suc (y.index - 1) ≡ y.index = omega arith in
             let stands : slice_get rows (y.index - 1) ≡ Some q = ap (λ (xs : List ℕ). slice_get xs (y.index - 1)) changed ∙ (remove-behind row k (y.index - 1) (omega arith) ∙ (ap (slice_get row) more ∙ was)) in
-            renumbers.later (y.index - 1) q (omega arith) stands ∙ (ap (at_index (y.index - 1)) (same q n ∙ (e ∙ ap Some (own i y h))) ∙ (sym (down_behind i k y.definition y.index l) ∙ ap (λ (z : Place). shifted_down i k (Some z)) (sym (own i y h))))
+            renumbers.later (y.index - 1) q (omega arith) stands ∙ (ap (at_index (y.index - 1)) (same q n ∙ (e ∙ ap Some (own i y h))) ∙ (sym (down_behind i k y.definition y.index l) ∙ ap (λ (z : PlaceOfUse). shifted_down i k (Some z)) (sym (own i y h))))
 
         by : (y.user ≡ i) ⊎ (y.user ≢ i) → new q ≡ shifted_down i k (Some y)
         by (inl h) = step h (at_most_or_not y.index k)

@@ -2,7 +2,7 @@
 use Rattle.std.proofs.Common.{◌≡◌, ℕ, ◌||◌, ⊎_elim, Bool, true, false, cond, eqb, List, [], ◌∷◌, ◌++◌, Option, Some, None, refl, ap, ◌∙◌}
 use Rattle.std.proofs.lemmas.Bool.{eqb-true, eq-eqb, ne_eqb, or_cases, or_left, or_right, false_from_ne_true, both_ways}
 use Rattle.ir_entities.specs.declared.siblings.Node.{Node}
-use Rattle.ir_entities.specs.Links.{first_or, last_or, has, AreDistinct, IsSegment}
+use Rattle.ir_entities.specs.Links.{first_or, last_or, has, AreDistinctNumbers, IsSegment}
 
 -- whether a link leads to y
 abbrev pub is_at : Option ℕ → ℕ → Bool
@@ -69,7 +69,7 @@ module _ (at : ℕ → Node) (c : ℕ) where
       (same x (has_here x xs) ∙ s.0, segment_kept new (Some x) xs e (λ y h. same y (or_right (eqb y x) (has y xs) h)) s.1)
 
   -- the last of a part leads on to q
-  pub segment_to : (p : Option ℕ) (x : ℕ) (xs : List ℕ) (e l q f b : Option ℕ) → IsSegment at c p (x ∷ xs) e → AreDistinct (x ∷ xs) → l ≡ last_or (Some x) xs → ((y : ℕ) → has y (x ∷ xs) ≡ true → is_at f y ≡ false) → IsSegment (rejoined at l q f b) c p (x ∷ xs) q
+  pub segment_to : (p : Option ℕ) (x : ℕ) (xs : List ℕ) (e l q f b : Option ℕ) → IsSegment at c p (x ∷ xs) e → AreDistinctNumbers (x ∷ xs) → l ≡ last_or (Some x) xs → ((y : ℕ) → has y (x ∷ xs) ≡ true → is_at f y ≡ false) → IsSegment (rejoined at l q f b) c p (x ∷ xs) q
   segment_to p x [] e l q f b s d il nf =
       let hf : is_at f x ≡ false = nf x (has_here x []) in
       let hl : is_at l x ≡ true = rw il (eq-eqb x x refl) in
@@ -80,7 +80,7 @@ module _ (at : ℕ → Node) (c : ℕ) where
       (rw (hf, hl, s.0) refl, segment_to (Some x) z xs e l q f b s.1 d.1 il (λ y h. nf y (or_right (eqb y x) (has y (z ∷ xs)) h)))
 
   -- the first of a part leads back to b
-  pub segment_from : (p : Option ℕ) (x : ℕ) (xs : List ℕ) (e l q f b : Option ℕ) → IsSegment at c p (x ∷ xs) e → AreDistinct (x ∷ xs) → f ≡ Some x → ((y : ℕ) → has y (x ∷ xs) ≡ true → is_at l y ≡ false) → IsSegment (rejoined at l q f b) c b (x ∷ xs) e
+  pub segment_from : (p : Option ℕ) (x : ℕ) (xs : List ℕ) (e l q f b : Option ℕ) → IsSegment at c p (x ∷ xs) e → AreDistinctNumbers (x ∷ xs) → f ≡ Some x → ((y : ℕ) → has y (x ∷ xs) ≡ true → is_at l y ≡ false) → IsSegment (rejoined at l q f b) c b (x ∷ xs) e
   segment_from p x xs e l q f b s d if_ nl =
       let hl : is_at l x ≡ false = nl x (has_here x xs) in
       let hf : is_at f x ≡ true = rw if_ (eq-eqb x x refl) in (

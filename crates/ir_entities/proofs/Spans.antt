@@ -3,7 +3,7 @@ use Rattle.std.proofs.Common.{◌≡◌, ◌≢◌, ℕ, ◌<◌, ◌||◌, ⊎_
 use Rattle.std.proofs.lemmas.Bool.{eqb-true, or_cases, or_left, or_right, both_ways}
 use Rattle.std.proofs.lemmas.List.{reverse-reverse, reverse-append}
 use Rattle.ir_entities.specs.declared.siblings.Span.{Span}
-use Rattle.ir_entities.specs.Links.{has, AreDistinct, list_at, drop_to, take_to, IsSpan, IsWithin}
+use Rattle.ir_entities.specs.Links.{has, AreDistinctNumbers, list_at, drop_to, take_to, IsSpan, IsWithin}
 
 pub has_dropped : (f b : ℕ) (xs : List ℕ) → has b (drop_to f xs) ≡ true → (has f xs ≡ true) × (has b xs ≡ true)
 has_dropped f b [] h = absurd (both_ways false refl h)
@@ -13,7 +13,7 @@ has_dropped f b (y ∷ ys) h = split (eqb f y) refl (has_dropped f b ys) h where
   split false e rest h = (or_right (eqb f y) (has f ys) (rest h).0, or_right (eqb b y) (has b ys) (rest h).1)
 
 -- the last isn't before the first, seen from the back
-has_taken : (f b : ℕ) (xs : List ℕ) → AreDistinct xs → has b (drop_to f xs) ≡ true → has f (take_to b xs) ≡ true
+has_taken : (f b : ℕ) (xs : List ℕ) → AreDistinctNumbers xs → has b (drop_to f xs) ≡ true → has f (take_to b xs) ≡ true
 has_taken f b [] d h = absurd (both_ways false refl h)
 has_taken f b (y ∷ ys) d h = split (eqb f y) (eqb b y) refl refl (has_taken f b ys d.1) h where
   split : (e k : Bool) → eqb f y ≡ e → eqb b y ≡ k → (has b (drop_to f ys) ≡ true → has f (take_to b ys) ≡ true) → has b (cond e (y ∷ ys) (drop_to f ys)) ≡ true → has f (cond k (y ∷ []) (y ∷ take_to b ys)) ≡ true
@@ -31,7 +31,7 @@ has_from f b (y ∷ ys) i h = split (eqb f y) (eqb b y) refl refl (has_from f b 
   split false false e k rest i h = rest i (rw e at h)
 
 -- what is between the two, seen from the back
-between_is : (f b : ℕ) (xs : List ℕ) → AreDistinct xs → has b (drop_to f xs) ≡ true → take_to b (drop_to f xs) ≡ drop_to f (take_to b xs)
+between_is : (f b : ℕ) (xs : List ℕ) → AreDistinctNumbers xs → has b (drop_to f xs) ≡ true → take_to b (drop_to f xs) ≡ drop_to f (take_to b xs)
 between_is f b [] d h = refl
 between_is f b (y ∷ ys) d h = split (eqb f y) (eqb b y) refl refl (between_is f b ys d.1) h where
   split : (e k : Bool) → eqb f y ≡ e → eqb b y ≡ k → (has b (drop_to f ys) ≡ true → take_to b (drop_to f ys) ≡ drop_to f (take_to b ys)) → has b (cond e (y ∷ ys) (drop_to f ys)) ≡ true → take_to b (cond e (y ∷ ys) (drop_to f ys)) ≡ drop_to f (cond k (y ∷ []) (y ∷ take_to b ys))
@@ -66,12 +66,12 @@ turned : (b : ℕ) (us vs : List ℕ) → reverse us ≡ b ∷ reverse vs → us
 turned b us vs e = sym (reverse-reverse us) ∙ ap reverse e ∙ ap reverse (sym (reverse-append vs (b ∷ []))) ∙ reverse-reverse (vs ++ b ∷ [])
 
 -- the last goes
-pub last_alone : (f b : ℕ) (xs : List ℕ) → f ≢ b → AreDistinct xs → has b (drop_to f xs) ≡ true → reverse (take_to b xs) ≡ b ∷ [] → ⊥
+pub last_alone : (f b : ℕ) (xs : List ℕ) → f ≢ b → AreDistinctNumbers xs → has b (drop_to f xs) ≡ true → reverse (take_to b xs) ≡ b ∷ [] → ⊥
 last_alone f b xs ne d h is =
     let one : take_to b xs ≡ b ∷ [] = turned b (take_to b xs) [] is in
     ⊎_elim (λ t. ne (eqb-true f b t)) (λ t. both_ways false refl t) (or_cases (eqb f b) false (rw one at (has_taken f b xs d h)))
 
-module _ (f b k : ℕ) (xs : List ℕ) (ne : f ≢ b) (d : AreDistinct xs) (h : has b (drop_to f xs) ≡ true) (w : IsWithin xs (Some k)) (is : reverse (take_to b xs) ≡ b ∷ reverse (take_to k xs)) where
+module _ (f b k : ℕ) (xs : List ℕ) (ne : f ≢ b) (d : AreDistinctNumbers xs) (h : has b (drop_to f xs) ≡ true) (w : IsWithin xs (Some k)) (is : reverse (take_to b xs) ≡ b ∷ reverse (take_to k xs)) where
   more : take_to b xs ≡ take_to k xs ++ b ∷ []
   more = turned b (take_to b xs) (take_to k xs) is
 
@@ -88,7 +88,7 @@ module _ (f b k : ℕ) (xs : List ℕ) (ne : f ≢ b) (d : AreDistinct xs) (h : 
   last_goes = between_is f b xs d h ∙ ap (drop_to f) more ∙ drop_more f (take_to k xs) (b ∷ []) here ∙ ap (λ z. z ++ b ∷ []) (sym (between_is f k xs d there))
 
 -- a list with something in it is one of the table
-pub distinct_here : (ls : List (List ℕ)) (c f b : ℕ) → has b (drop_to f (list_at ls c)) ≡ true → ((c : ℕ) → c < length ls → AreDistinct (list_at ls c)) → ((c : ℕ) → (list_at ls c ≡ [] → ⊥) → c < length ls) → AreDistinct (list_at ls c)
+pub distinct_here : (ls : List (List ℕ)) (c f b : ℕ) → has b (drop_to f (list_at ls c)) ≡ true → ((c : ℕ) → c < length ls → AreDistinctNumbers (list_at ls c)) → ((c : ℕ) → (list_at ls c ≡ [] → ⊥) → c < length ls) → AreDistinctNumbers (list_at ls c)
 distinct_here ls c f b h distinct known = distinct c (known c (λ e. both_ways false refl (rw e at h)))
 
 -- a whole list

@@ -4,7 +4,7 @@ use Rattle.std.proofs.lemmas.List.{ext_get_or, length-set, get_or-set_same, get_
 use Rattle.std.proofs.lemmas.Bool.{eqb-true, or_cases, or_left, or_right, cases_eq, both_ways}
 use Rattle.ir_entities.proofs.Segments.{has-append}
 use Rattle.ir_entities.proofs.Appends.{first_has}
-use Rattle.ir_entities.specs.Lists.{Lists}
+use Rattle.ir_entities.specs.Lists.{ListsView}
 use Rattle.ir_entities.specs.Links.{has, list_at, without, first_or}
 use Rattle.ir_arena.specs.declared.arena.Slot.{Slot}
 use Rattle.ir_arena.specs.declared.arena.Key.{Key}
@@ -12,8 +12,8 @@ use Rattle.ir_arena.specs.Arena.{held, get, slot_at, no_slot, ClearsSlot, IsSpen
 use Rattle.ir_entities.specs.declared.forest.Place.{Place}
 use Rattle.ir_entities.specs.declared.forest.Place.TheVariants.{Op, Block, Region}
 use Rattle.ir_entities.specs.Shape.{Shape, IsIn, IsInside, itself, deeper, IsGrounded, below}
-use Rattle.ir_entities.specs.Forest.{Forest, AreMembers, IsForest, IsUsed, shape_of, pointer_to}
-use Rattle.ir_entities.specs.Prune.{live, live_in, OnlyErases, StandsNowhere, IsBare, IsFirstInner, KeepsSlot, KeepsList, IsCut, IsPruned, ErasesInside}
+use Rattle.ir_entities.specs.Forest.{Forest, AreMembers, IsForest, HoldsInUse, shape_of, pointer_to}
+use Rattle.ir_entities.specs.Prune.{live, live_in, OnlyErases, StandsNowhere, HoldsNothing, IsFirstInner, KeepsSlot, KeepsList, IsDetached, IsPruned, ErasesInside}
 use Rattle.ir_entities.proofs.Trees.{list_at-map, has_without_at, none_is_not_some, pointer_is, less_by_levels}
 use Rattle.ir_entities.proofs.Climb.{used_below, no_cycle}
 use Rattle.ir_entities.proofs.Prunes.{only_none, only_one, refused_all, list_same, list_both, inside_bare}
@@ -51,7 +51,7 @@ none_here : (xs : List ℕ) (i : ℕ) → xs ≡ [] → has i xs ≡ true → �
 none_here xs i e h = both_ways false refl (rw e at h)
 
 -- a slot that stands nowhere, or that holds nothing, is vacant now
-less_members : {T C : Type 0} (slots new : List (Slot T)) (containers : List (Slot C)) (l : Lists) (g : ℕ) → AreMembers slots containers l → ClearsSlot slots new g → ((c : ℕ) → has g (list_at l.lists c) ≡ false) → AreMembers new containers l
+less_members : {T C : Type 0} (slots new : List (Slot T)) (containers : List (Slot C)) (l : ListsView) (g : ℕ) → AreMembers slots containers l → ClearsSlot slots new g → ((c : ℕ) → has g (list_at l.lists c) ≡ false) → AreMembers new containers l
 less_members {T} slots new containers l g are clears out = record {
   nodes = rw clears.count are.nodes;
   lists_made = are.lists_made;
@@ -62,7 +62,7 @@ less_members {T} slots new containers l g are clears out = record {
   holders = are.holders;
 }
 
-less_holders : {T C : Type 0} (slots : List (Slot T)) (containers new : List (Slot C)) (l : Lists) (g : ℕ) → AreMembers slots containers l → ClearsSlot containers new g → list_at l.lists g ≡ [] → AreMembers slots new l
+less_holders : {T C : Type 0} (slots : List (Slot T)) (containers new : List (Slot C)) (l : ListsView) (g : ℕ) → AreMembers slots containers l → ClearsSlot containers new g → list_at l.lists g ≡ [] → AreMembers slots new l
 less_holders {T} {C} slots containers new l g are clears bare = record {
   nodes = are.nodes;
   lists_made = rw clears.count are.lists_made;
@@ -73,7 +73,7 @@ less_holders {T} {C} slots containers new l g are clears bare = record {
       rw e (are.holders c i h);
 }
 
-module _ {O B R : Type 0} (f : Forest O B R) (g : ℕ) (l : Lists) (is : l.lists ≡ map (without g) f.in_blocks.lists)
+module _ {O B R : Type 0} (f : Forest O B R) (g : ℕ) (l : ListsView) (is : l.lists ≡ map (without g) f.in_blocks.lists)
     (one : (c : ℕ) → has g (list_at f.in_blocks.lists c) ≡ true → l.lists ≡ set f.in_blocks.lists c (without g (list_at f.in_blocks.lists c))) where
   op_rest : (e d : Place) → IsIn (shape_of f) e d → (e ≡ Op g → ⊥) → IsIn (shape_of (record f { in_blocks = l })) e d
   op_rest (Op i) (Op c) h ne = absurd h
@@ -93,7 +93,7 @@ module _ {O B R : Type 0} (f : Forest O B R) (g : ℕ) (l : Lists) (is : l.lists
   op_lists (Block d) h (Region c) ne = refl
   op_lists (Region d) h c ne = absurd h
 
-  pub op_cut : IsCut f (record f { in_blocks = l }) (Op g)
+  pub op_cut : IsDetached f (record f { in_blocks = l }) (Op g)
   op_cut = record {
     less = less_by_levels (shape_of f) (shape_of (record f { in_blocks = l })) (λ i c h. has_without_at f.in_blocks.lists g c i (rw is at h)) (λ i c h. h) (λ i c h. h);
     rest = op_rest;
@@ -103,7 +103,7 @@ module _ {O B R : Type 0} (f : Forest O B R) (g : ℕ) (l : Lists) (is : l.lists
     regions = refl;
   }
 
-module _ {O B R : Type 0} (f : Forest O B R) (g : ℕ) (l : Lists) (is : l.lists ≡ map (without g) f.in_regions.lists)
+module _ {O B R : Type 0} (f : Forest O B R) (g : ℕ) (l : ListsView) (is : l.lists ≡ map (without g) f.in_regions.lists)
     (one : (c : ℕ) → has g (list_at f.in_regions.lists c) ≡ true → l.lists ≡ set f.in_regions.lists c (without g (list_at f.in_regions.lists c))) where
   block_rest : (e d : Place) → IsIn (shape_of f) e d → (e ≡ Block g → ⊥) → IsIn (shape_of (record f { in_regions = l })) e d
   block_rest (Op i) (Op c) h ne = absurd h
@@ -123,7 +123,7 @@ module _ {O B R : Type 0} (f : Forest O B R) (g : ℕ) (l : Lists) (is : l.lists
   block_lists (Region d) h (Block c) ne = refl
   block_lists (Region d) h (Region c) ne = rw (one d h) (get_or-set_other f.in_regions.lists d c (without g (list_at f.in_regions.lists d)) [] (λ e. ne (ap Region e)))
 
-  pub block_cut : IsCut f (record f { in_regions = l }) (Block g)
+  pub block_cut : IsDetached f (record f { in_regions = l }) (Block g)
   block_cut = record {
     less = less_by_levels (shape_of f) (shape_of (record f { in_regions = l })) (λ i c h. h) (λ i c h. has_without_at f.in_regions.lists g c i (rw is at h)) (λ i c h. h);
     rest = block_rest;
@@ -133,7 +133,7 @@ module _ {O B R : Type 0} (f : Forest O B R) (g : ℕ) (l : Lists) (is : l.lists
     regions = refl;
   }
 
-module _ {O B R : Type 0} (f : Forest O B R) (g : ℕ) (l : Lists) (is : l.lists ≡ map (without g) f.in_ops.lists)
+module _ {O B R : Type 0} (f : Forest O B R) (g : ℕ) (l : ListsView) (is : l.lists ≡ map (without g) f.in_ops.lists)
     (one : (c : ℕ) → has g (list_at f.in_ops.lists c) ≡ true → l.lists ≡ set f.in_ops.lists c (without g (list_at f.in_ops.lists c))) where
   region_rest : (e d : Place) → IsIn (shape_of f) e d → (e ≡ Region g → ⊥) → IsIn (shape_of (record f { in_ops = l })) e d
   region_rest (Op i) (Op c) h ne = absurd h
@@ -153,7 +153,7 @@ module _ {O B R : Type 0} (f : Forest O B R) (g : ℕ) (l : Lists) (is : l.lists
   region_lists (Block d) h c ne = absurd h
   region_lists (Region d) h c ne = absurd h
 
-  pub region_cut : IsCut f (record f { in_ops = l }) (Region g)
+  pub region_cut : IsDetached f (record f { in_ops = l }) (Region g)
   region_cut = record {
     less = less_by_levels (shape_of f) (shape_of (record f { in_ops = l })) (λ i c h. h) (λ i c h. h) (λ i c h. has_without_at f.in_ops.lists g c i (rw is at h));
     rest = region_rest;
@@ -163,7 +163,7 @@ module _ {O B R : Type 0} (f : Forest O B R) (g : ℕ) (l : Lists) (is : l.lists
     regions = refl;
   }
 
-module _ {O B R : Type 0} (f : Forest O B R) (g : ℕ) (slots : List (Slot O)) (clears : ClearsSlot f.ops slots g) (bare : IsBare f (Op g)) where
+module _ {O B R : Type 0} (f : Forest O B R) (g : ℕ) (slots : List (Slot O)) (clears : ClearsSlot f.ops slots g) (bare : HoldsNothing f (Op g)) where
   pub op_freed_forest : IsForest f → StandsNowhere f (Op g) → IsForest (record f { ops = slots })
   op_freed_forest forest out = record {
     ops = less_members f.ops slots f.blocks f.in_blocks g forest.ops clears out;
@@ -172,9 +172,9 @@ module _ {O B R : Type 0} (f : Forest O B R) (g : ℕ) (slots : List (Slot O)) (
     grounded = forest.grounded;
   }
 
-  op_vacant : (e : Place) → IsInside (shape_of f) (Op g) e → IsUsed (record f { ops = slots }) e → ⊥
+  op_vacant : (e : Place) → IsInside (shape_of f) (Op g) e → HoldsInUse (record f { ops = slots }) e → ⊥
   op_vacant e w u =
-      let here : IsUsed (record f { ops = slots }) (Op g) = subst (λ (k : Place). IsUsed (record f { ops = slots }) k) (inside_bare f (Op g) bare e w) u in
+      let here : HoldsInUse (record f { ops = slots }) (Op g) = subst (λ (k : Place). HoldsInUse (record f { ops = slots }) k) (inside_bare f (Op g) bare e w) u in
       none_is_not_some (held slots g) clears.cleared here
 
   op_slots : (e : Place) → (IsInside (shape_of f) (Op g) e → ⊥) → KeepsSlot f (record f { ops = slots }) e
@@ -200,7 +200,7 @@ module _ {O B R : Type 0} (f : Forest O B R) (g : ℕ) (slots : List (Slot O)) (
         op_list (Block i) = refl
         op_list (Region i) = refl
 
-module _ {O B R : Type 0} (f : Forest O B R) (g : ℕ) (slots : List (Slot B)) (clears : ClearsSlot f.blocks slots g) (bare : IsBare f (Block g)) where
+module _ {O B R : Type 0} (f : Forest O B R) (g : ℕ) (slots : List (Slot B)) (clears : ClearsSlot f.blocks slots g) (bare : HoldsNothing f (Block g)) where
   pub block_freed_forest : IsForest f → StandsNowhere f (Block g) → IsForest (record f { blocks = slots })
   block_freed_forest forest out = record {
     ops = less_holders f.ops f.blocks slots f.in_blocks g forest.ops clears bare;
@@ -209,9 +209,9 @@ module _ {O B R : Type 0} (f : Forest O B R) (g : ℕ) (slots : List (Slot B)) (
     grounded = forest.grounded;
   }
 
-  block_vacant : (e : Place) → IsInside (shape_of f) (Block g) e → IsUsed (record f { blocks = slots }) e → ⊥
+  block_vacant : (e : Place) → IsInside (shape_of f) (Block g) e → HoldsInUse (record f { blocks = slots }) e → ⊥
   block_vacant e w u =
-      let here : IsUsed (record f { blocks = slots }) (Block g) = subst (λ (k : Place). IsUsed (record f { blocks = slots }) k) (inside_bare f (Block g) bare e w) u in
+      let here : HoldsInUse (record f { blocks = slots }) (Block g) = subst (λ (k : Place). HoldsInUse (record f { blocks = slots }) k) (inside_bare f (Block g) bare e w) u in
       none_is_not_some (held slots g) clears.cleared here
 
   block_slots : (e : Place) → (IsInside (shape_of f) (Block g) e → ⊥) → KeepsSlot f (record f { blocks = slots }) e
@@ -237,7 +237,7 @@ module _ {O B R : Type 0} (f : Forest O B R) (g : ℕ) (slots : List (Slot B)) (
         block_list (Block i) = refl
         block_list (Region i) = refl
 
-module _ {O B R : Type 0} (f : Forest O B R) (g : ℕ) (slots : List (Slot R)) (clears : ClearsSlot f.regions slots g) (bare : IsBare f (Region g)) where
+module _ {O B R : Type 0} (f : Forest O B R) (g : ℕ) (slots : List (Slot R)) (clears : ClearsSlot f.regions slots g) (bare : HoldsNothing f (Region g)) where
   pub region_freed_forest : IsForest f → StandsNowhere f (Region g) → IsForest (record f { regions = slots })
   region_freed_forest forest out = record {
     ops = forest.ops;
@@ -246,9 +246,9 @@ module _ {O B R : Type 0} (f : Forest O B R) (g : ℕ) (slots : List (Slot R)) (
     grounded = forest.grounded;
   }
 
-  region_vacant : (e : Place) → IsInside (shape_of f) (Region g) e → IsUsed (record f { regions = slots }) e → ⊥
+  region_vacant : (e : Place) → IsInside (shape_of f) (Region g) e → HoldsInUse (record f { regions = slots }) e → ⊥
   region_vacant e w u =
-      let here : IsUsed (record f { regions = slots }) (Region g) = subst (λ (k : Place). IsUsed (record f { regions = slots }) k) (inside_bare f (Region g) bare e w) u in
+      let here : HoldsInUse (record f { regions = slots }) (Region g) = subst (λ (k : Place). HoldsInUse (record f { regions = slots }) k) (inside_bare f (Region g) bare e w) u in
       none_is_not_some (held slots g) clears.cleared here
 
   region_slots : (e : Place) → (IsInside (shape_of f) (Region g) e → ⊥) → KeepsSlot f (record f { regions = slots }) e
@@ -292,7 +292,7 @@ module _ (s t : Shape) (x : Place) where
       (h e d i))
 
 -- the regions of operation o, which is inside operation x, go to x, which stands nowhere
-module _ {O B R : Type 0} (f : Forest O B R) (forest : IsForest f) (x o : ℕ) (l : Lists) (nodes : l.nodes ≡ f.in_ops.nodes)
+module _ {O B R : Type 0} (f : Forest O B R) (forest : IsForest f) (x o : ℕ) (l : ListsView) (nodes : l.nodes ≡ f.in_ops.nodes)
     (moved : l.lists ≡ set (set f.in_ops.lists x (list_at f.in_ops.lists x ++ list_at f.in_ops.lists o)) o [])
     (root : StandsNowhere f (Op x)) (inside : IsInside (shape_of f) (Op x) (Op o)) (differ : x ≢ o) (used : IsSome (held f.ops x)) (used_o : IsSome (held f.ops o)) where
   x_made : x < length f.in_ops.lists
@@ -388,36 +388,36 @@ first_none [] h = refl
 first_none (x ∷ xs) h = cc
 
 -- the first of a list holds a list of its own
-pub child_made : {T C D : Type 0} (slots : List (Slot T)) (containers : List (Slot C)) (l : Lists) (under : List (Slot D)) (low : Lists) → AreMembers slots containers l → AreMembers under slots low → (x r : ℕ) → Some r ≡ first_or None (list_at l.lists x) → r < length low.lists
+pub child_made : {T C D : Type 0} (slots : List (Slot T)) (containers : List (Slot C)) (l : ListsView) (under : List (Slot D)) (low : ListsView) → AreMembers slots containers l → AreMembers under slots low → (x r : ℕ) → Some r ≡ first_or None (list_at l.lists x) → r < length low.lists
 child_made slots containers l under low are lower x r f =
     let a : r < length slots = used_below slots r (are.members x r (first_has r (list_at l.lists x) f)) in
     omega (arith, a, lower.lists_made)
 
-pub op_freed_seen : {O B R : Type 0} (f v : Forest O B R) → f ≡ v → (g : ℕ) (slots : List (Slot O)) (q : Key) → q.slot ≡ g → IsSome (get f.ops q) → ClearsSlot f.ops slots q.slot → IsBare v (Op g) → KeepsSpent f.ops slots → IsSpent slots q → ErasesInside v (record f { ops = slots }) (Op g)
+pub op_freed_seen : {O B R : Type 0} (f v : Forest O B R) → f ≡ v → (g : ℕ) (slots : List (Slot O)) (q : Key) → q.slot ≡ g → IsSome (get f.ops q) → ClearsSlot f.ops slots q.slot → HoldsNothing v (Op g) → KeepsSpent f.ops slots → IsSpent slots q → ErasesInside v (record f { ops = slots }) (Op g)
 op_freed_seen f v seen g slots q qs live clears_q bare_v spent now_q =
     let clears : ClearsSlot f.ops slots g = subst (λ (k : ℕ). ClearsSlot f.ops slots k) qs clears_q in
-    let bare : IsBare f (Op g) = subst (λ (w : Forest _ _ _). IsBare w (Op g)) (sym seen) bare_v in
+    let bare : HoldsNothing f (Op g) = subst (λ (w : Forest _ _ _). HoldsNothing w (Op g)) (sym seen) bare_v in
     let is : q ≡ pointer_to f.ops g = sym (pointer_is f.ops q live) ∙ ap (pointer_to f.ops) qs in
     let now : IsSpent slots (pointer_to f.ops g) = subst (λ (k : Key). IsSpent slots k) is now_q in
     subst (λ (w : Forest _ _ _). ErasesInside w (record f { ops = slots }) (Op g)) seen (op_freed f g slots clears bare spent now)
 
-pub block_freed_seen : {O B R : Type 0} (f v : Forest O B R) → f ≡ v → (g : ℕ) (slots : List (Slot B)) (q : Key) → q.slot ≡ g → IsSome (get f.blocks q) → ClearsSlot f.blocks slots q.slot → IsBare v (Block g) → KeepsSpent f.blocks slots → IsSpent slots q → ErasesInside v (record f { blocks = slots }) (Block g)
+pub block_freed_seen : {O B R : Type 0} (f v : Forest O B R) → f ≡ v → (g : ℕ) (slots : List (Slot B)) (q : Key) → q.slot ≡ g → IsSome (get f.blocks q) → ClearsSlot f.blocks slots q.slot → HoldsNothing v (Block g) → KeepsSpent f.blocks slots → IsSpent slots q → ErasesInside v (record f { blocks = slots }) (Block g)
 block_freed_seen f v seen g slots q qs live clears_q bare_v spent now_q =
     let clears : ClearsSlot f.blocks slots g = subst (λ (k : ℕ). ClearsSlot f.blocks slots k) qs clears_q in
-    let bare : IsBare f (Block g) = subst (λ (w : Forest _ _ _). IsBare w (Block g)) (sym seen) bare_v in
+    let bare : HoldsNothing f (Block g) = subst (λ (w : Forest _ _ _). HoldsNothing w (Block g)) (sym seen) bare_v in
     let is : q ≡ pointer_to f.blocks g = sym (pointer_is f.blocks q live) ∙ ap (pointer_to f.blocks) qs in
     let now : IsSpent slots (pointer_to f.blocks g) = subst (λ (k : Key). IsSpent slots k) is now_q in
     subst (λ (w : Forest _ _ _). ErasesInside w (record f { blocks = slots }) (Block g)) seen (block_freed f g slots clears bare spent now)
 
-pub region_freed_seen : {O B R : Type 0} (f v : Forest O B R) → f ≡ v → (g : ℕ) (slots : List (Slot R)) (q : Key) → q.slot ≡ g → IsSome (get f.regions q) → ClearsSlot f.regions slots q.slot → IsBare v (Region g) → KeepsSpent f.regions slots → IsSpent slots q → ErasesInside v (record f { regions = slots }) (Region g)
+pub region_freed_seen : {O B R : Type 0} (f v : Forest O B R) → f ≡ v → (g : ℕ) (slots : List (Slot R)) (q : Key) → q.slot ≡ g → IsSome (get f.regions q) → ClearsSlot f.regions slots q.slot → HoldsNothing v (Region g) → KeepsSpent f.regions slots → IsSpent slots q → ErasesInside v (record f { regions = slots }) (Region g)
 region_freed_seen f v seen g slots q qs live clears_q bare_v spent now_q =
     let clears : ClearsSlot f.regions slots g = subst (λ (k : ℕ). ClearsSlot f.regions slots k) qs clears_q in
-    let bare : IsBare f (Region g) = subst (λ (w : Forest _ _ _). IsBare w (Region g)) (sym seen) bare_v in
+    let bare : HoldsNothing f (Region g) = subst (λ (w : Forest _ _ _). HoldsNothing w (Region g)) (sym seen) bare_v in
     let is : q ≡ pointer_to f.regions g = sym (pointer_is f.regions q live) ∙ ap (pointer_to f.regions) qs in
     let now : IsSpent slots (pointer_to f.regions g) = subst (λ (k : Key). IsSpent slots k) is now_q in
     subst (λ (w : Forest _ _ _). ErasesInside w (record f { regions = slots }) (Region g)) seen (region_freed f g slots clears bare spent now)
 
-pub hoisted_seen : {O B R : Type 0} (f v : Forest O B R) → f ≡ v → IsForest f → (x o : ℕ) (l : Lists) → l.nodes ≡ f.in_ops.nodes → l.lists ≡ set (set f.in_ops.lists x (list_at f.in_ops.lists x ++ list_at f.in_ops.lists o)) o []
+pub hoisted_seen : {O B R : Type 0} (f v : Forest O B R) → f ≡ v → IsForest f → (x o : ℕ) (l : ListsView) → l.nodes ≡ f.in_ops.nodes → l.lists ≡ set (set f.in_ops.lists x (list_at f.in_ops.lists x ++ list_at f.in_ops.lists o)) o []
     → StandsNowhere v (Op x) → IsInside (shape_of v) (Op x) (Op o) → x ≢ o → IsSome (held v.ops x) → IsSome (held v.ops o)
     → IsForest (record f { in_ops = l }) × IsPruned v (record f { in_ops = l }) (Op x) × (list_at l.lists o ≡ [])
 hoisted_seen f v seen forest x o l nodes moved root_v inside_v differ used_v used_ov =

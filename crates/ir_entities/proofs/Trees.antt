@@ -3,7 +3,7 @@ use Rattle.ir_entities.proofs.Segments.{has-append}
 use Rattle.std.proofs.Common.{◌≡◌, ℕ, ◌++◌, ◌||◌, ◌⊎◌, inl, inr, ⊎_elim, Bool, true, false, cond, eqb, List, [], ◌∷◌, map, length, Option, Some, None, IsSome, Result, Ok, Err, IfOk, OnErr, refl, sym, ap, subst, ◌∙◌, arith, set, zero, suc}
 use Rattle.std.proofs.lemmas.List.{length-set, length-map, get_or-set_same, get_or-set_other, get_or_past}
 use Rattle.std.proofs.lemmas.Bool.{eqb-true, eq-eqb, or_cases, or_left, or_right, cases_Bool, cases_eq, cases_lt, both_ways}
-use Rattle.ir_entities.specs.Lists.{Lists}
+use Rattle.ir_entities.specs.Lists.{ListsView}
 use Rattle.ir_entities.specs.Links.{has, list_at, put_after, without}
 use Rattle.ir_arena.specs.declared.arena.Slot.{Slot}
 use Rattle.ir_arena.specs.declared.arena.Key.{Key}
@@ -92,7 +92,7 @@ pub has_without_at : (ls : List (List ℕ)) (x d i : ℕ) → has i (list_at (ma
 has_without_at ls x d i h = has_without x i (list_at ls d) (rw (list_at-map (without x) ls d refl) at h)
 
 -- an edit that brings in what is in use
-pub members_kept : {T C : Type 0} (slots : List (Slot T)) (containers : List (Slot C)) (old new : Lists)
+pub members_kept : {T C : Type 0} (slots : List (Slot T)) (containers : List (Slot C)) (old new : ListsView)
     → AreMembers slots containers old → length old.lists ≡ length new.lists → old.nodes ≡ new.nodes
     → ((c i : ℕ) → has i (list_at new.lists c) ≡ true → (IsSome (held slots i) × IsSome (held containers c)) ⊎ (has i (list_at old.lists c) ≡ true))
     → AreMembers slots containers new
@@ -172,7 +172,7 @@ has_back ls c x d i h = ⊎_elim
     moved : (k : ℕ) → d ≡ k → has i (list_at (set ls c (list_at ls c ++ x ∷ [])) d) ≡ true → has i (list_at (set ls c (list_at ls c ++ x ∷ [])) k) ≡ true
     moved k e h = subst (λ (k : ℕ). has i (list_at (set ls c (list_at ls c ++ x ∷ [])) k) ≡ true) e h
 
-module _ {O B R : Type 0} (f v : Forest O B R) (seen : f ≡ v) (forest : IsForest f) (l : Lists) (nodes : l.nodes ≡ f.in_blocks.nodes) where
+module _ {O B R : Type 0} (f v : Forest O B R) (seen : f ≡ v) (forest : IsForest f) (l : ListsView) (nodes : l.nodes ≡ f.in_blocks.nodes) where
   pub more_ops : (x : ℕ) → length f.in_blocks.lists ≡ length l.lists
       → ((i c : ℕ) → has i (list_at l.lists c) ≡ true → ((i ≡ x) × (IsInside (shape_of f) (Op x) (Block c) → ⊥) × IsSome (held f.ops x) × IsSome (held f.blocks c)) ⊎ (has i (list_at f.in_blocks.lists c) ≡ true))
       → IsForest (record f { in_blocks = l })
@@ -217,7 +217,7 @@ module _ {O B R : Type 0} (f v : Forest O B R) (seen : f ≡ v) (forest : IsFore
         grounded = grounded_out (shape_of f) (shape_of (record f { in_blocks = l })) (less_by_levels (shape_of f) (shape_of (record f { in_blocks = l })) less (λ i c h. h) (λ i c h. h)) forest.grounded;
       }
 
-module _ {O B R : Type 0} (f v : Forest O B R) (seen : f ≡ v) (forest : IsForest f) (l : Lists) (nodes : l.nodes ≡ f.in_regions.nodes) where
+module _ {O B R : Type 0} (f v : Forest O B R) (seen : f ≡ v) (forest : IsForest f) (l : ListsView) (nodes : l.nodes ≡ f.in_regions.nodes) where
   pub more_blocks : (x : ℕ) → length f.in_regions.lists ≡ length l.lists
       → ((i c : ℕ) → has i (list_at l.lists c) ≡ true → ((i ≡ x) × (IsInside (shape_of f) (Block x) (Region c) → ⊥) × IsSome (held f.blocks x) × IsSome (held f.regions c)) ⊎ (has i (list_at f.in_regions.lists c) ≡ true))
       → IsForest (record f { in_regions = l })
@@ -262,7 +262,7 @@ module _ {O B R : Type 0} (f v : Forest O B R) (seen : f ≡ v) (forest : IsFore
         grounded = grounded_out (shape_of f) (shape_of (record f { in_regions = l })) (less_by_levels (shape_of f) (shape_of (record f { in_regions = l })) (λ i c h. h) less (λ i c h. h)) forest.grounded;
       }
 
-module _ {O B R : Type 0} (f v : Forest O B R) (seen : f ≡ v) (forest : IsForest f) (l : Lists) (nodes : l.nodes ≡ f.in_ops.nodes) where
+module _ {O B R : Type 0} (f v : Forest O B R) (seen : f ≡ v) (forest : IsForest f) (l : ListsView) (nodes : l.nodes ≡ f.in_ops.nodes) where
   pub more_regions : (x : ℕ) → length f.in_ops.lists ≡ length l.lists
       → ((i c : ℕ) → has i (list_at l.lists c) ≡ true → ((i ≡ x) × (IsInside (shape_of f) (Region x) (Op c) → ⊥) × IsSome (held f.regions x) × IsSome (held f.ops c)) ⊎ (has i (list_at f.in_ops.lists c) ≡ true))
       → IsForest (record f { in_ops = l })
@@ -299,7 +299,7 @@ forest_new f a b c d e k = record {
   regions = none f.regions f.ops f.in_ops c a k;
   grounded = λ p. below p (λ q i. absurd (no_edge p q i));
 } where
-  none : {T C : Type 0} (slots : List (Slot T)) (containers : List (Slot C)) (l : Lists) → slots ≡ [] → containers ≡ [] → l.lists ≡ [] → AreMembers slots containers l
+  none : {T C : Type 0} (slots : List (Slot T)) (containers : List (Slot C)) (l : ListsView) → slots ≡ [] → containers ≡ [] → l.lists ≡ [] → AreMembers slots containers l
   none slots containers l s c e = record {
     nodes = rw s (omega arith);
     lists_made = rw c (omega arith);

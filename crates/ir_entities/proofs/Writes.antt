@@ -4,8 +4,8 @@ use Rattle.std.proofs.lemmas.List.{get_or_default, get_or_past, append-nil, leng
 use Rattle.std.proofs.lemmas.Bool.{eqb-true, eq-eqb, ne_eqb, or_cases, or_parts, or_left, or_right, or_from, cases_eq, cases_lt, false_from_ne_true, both_ways}
 use Rattle.ir_entities.specs.declared.siblings.Node.{Node}
 use Rattle.ir_entities.specs.declared.siblings.Ends.{Ends}
-use Rattle.ir_entities.specs.Links.{node_at, ends_at, unlinked, no_ends, with_next, with_prev, with_head, with_tail, with_node, first_or, last_or, has, AreDistinct, IsSegment, IsList, AreLists, list_at, put_after, put_before, without, IsUnlinked, next_in, prev_in, prev_from, AreApart}
-use Rattle.ir_entities.specs.Lists.{Lists}
+use Rattle.ir_entities.specs.Links.{node_at, ends_at, unlinked, no_ends, with_next, with_prev, with_head, with_tail, with_node, first_or, last_or, has, AreDistinctNumbers, IsSegment, IsList, AreLists, list_at, put_after, put_before, without, IsUnlinked, next_in, prev_in, prev_from, AreApart}
+use Rattle.ir_entities.specs.Lists.{ListsView}
 use Rattle.ir_entities.specs.Unique.{lists_one}
 use Rattle.ir_entities.specs.declared.siblings.Siblings.TheInside.{Inside}
 use Rattle.ir_entities.specs.contracts.siblings.Siblings.{the_view}
@@ -263,7 +263,7 @@ has_without x i (y ∷ ys) h = without_cases (eqb x y) (has_without x i ys) h wh
       (or_cases (eqb i y) (has i (without x ys)) h)
 
 -- a node that stands once is gone when it is taken out
-gone_twice : (m : ℕ) (us vs : List ℕ) → AreDistinct (us ++ m ∷ vs) → has m us ≡ false → has m (us ++ vs) ≡ true → ⊥
+gone_twice : (m : ℕ) (us vs : List ℕ) → AreDistinctNumbers (us ++ m ∷ vs) → has m us ≡ false → has m (us ++ vs) ≡ true → ⊥
 gone_twice m us vs d f h = ⊎_elim
     (λ a. both_ways (has m us) f a)
     (λ a. both_ways (has m vs) (distinct_right us (m ∷ vs) d).0 a)
@@ -382,9 +382,9 @@ next_in_at x [] vs h = rw (eq-eqb x x refl) refl
 next_in_at x (y ∷ us) vs h = let p : (eqb x y ≡ false) × (has x us ≡ false) = or_parts _ _ h in rw p.0 (next_in_at x us vs p.1)
 
 -- What an answer has at hand: the fields and the value, the node that was read, and what the writes left
-module _ (s : Inside) (v : Lists) (seen : the_view s ≡ v) where
+module _ (s : Inside) (v : ListsView) (seen : the_view s ≡ v) where
   pub are_lists : AreLists (node_at s.nodes.items) s.ends.items v.lists
-  are_lists = subst (λ (w : Lists). AreLists (node_at s.nodes.items) s.ends.items w.lists) seen s.lists.1
+  are_lists = subst (λ (w : ListsView). AreLists (node_at s.nodes.items) s.ends.items w.lists) seen s.lists.1
 
   pub are_apart : AreApart v.lists
   are_apart x c d h k =
@@ -394,7 +394,7 @@ module _ (s : Inside) (v : Lists) (seen : the_view s ≡ v) where
       cc
 
   pub nodes_are : length s.nodes.items ≡ v.nodes
-  nodes_are = ap (λ (w : Lists). w.nodes) seen
+  nodes_are = ap (λ (w : ListsView). w.nodes) seen
 
   -- the same links are the same lists
   pub seen_alike : (ns : List Node) (es : List Ends) (ls : List (List ℕ)) → AreLists (node_at ns) es ls → ns ≡ s.nodes.items → es ≡ s.ends.items → record { lists = ls; nodes = length ns } ≡ v
@@ -455,7 +455,7 @@ module _ (s : Inside) (v : Lists) (seen : the_view s ≡ v) where
     out_of_all d = rw (list_at-map (without m) v.lists d refl) (false_from_ne_true _ (λ h.
         let was : has m (list_at v.lists d) ≡ true = has_without m m (list_at v.lists d) h in
         let t : Stands (node_at s.nodes.items) v.lists d m = stands (node_at s.nodes.items) s.ends.items v.lists d m are_lists was in
-        let distinct : AreDistinct (t.us ++ m ∷ t.vs) = rw t.is at ((are_lists.each d t.within).distinct) in
+        let distinct : AreDistinctNumbers (t.us ++ m ∷ t.vs) = rw t.is at ((are_lists.each d t.within).distinct) in
         gone_twice m t.us t.vs distinct t.first (rw (← without_at m t.us t.vs t.first, ← t.is) h)))
 
     pub not_linked : IsNone n.parent → IsUnlinked v.lists m

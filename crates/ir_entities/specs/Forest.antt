@@ -3,7 +3,7 @@ use Rattle.std.specs.Prelude.{◌≡◌, ℕ, ◌≤◌, true, false, List, leng
 use Rattle.ir_arena.specs.declared.arena.Key.{Key}
 use Rattle.ir_arena.specs.declared.arena.Slot.{Slot}
 use Rattle.ir_arena.specs.Arena.{held, slot_at}
-use Rattle.ir_entities.specs.Lists.{Lists}
+use Rattle.ir_entities.specs.Lists.{ListsView}
 use Rattle.ir_entities.specs.Links.{has, list_at}
 use Rattle.ir_entities.specs.declared.forest.Place.{Place}
 use Rattle.ir_entities.specs.declared.forest.Place.TheVariants.{Op, Block, Region}
@@ -14,20 +14,20 @@ pub record Forest (O B R : Type 0) : Type 0 where
   pub ops : List (Slot O)
   pub blocks : List (Slot B)
   pub regions : List (Slot R)
-  pub in_blocks : Lists
-  pub in_regions : Lists
-  pub in_ops : Lists
+  pub in_blocks : ListsView
+  pub in_regions : ListsView
+  pub in_ops : ListsView
 
 -- the pointer to what is in a slot now
 abbrev pub pointer_to : {T : Type 0} → List (Slot T) → ℕ → Key
 pointer_to slots i = record { slot = i; version = (slot_at slots i).version }
 
 -- the members of the list of c, in order
-abbrev pub members : {T : Type 0} → List (Slot T) → Lists → Key → List (Key)
+abbrev pub members : {T : Type 0} → List (Slot T) → ListsView → Key → List (Key)
 members slots lists c = map (pointer_to slots) (list_at lists.lists c.slot)
 
 -- a list of each container; what stands in one is in use, and so is what holds it
-pub record AreMembers {T C : Type 0} (slots : List (Slot T)) (containers : List (Slot C)) (lists : Lists) : Type 0 where
+pub record AreMembers {T C : Type 0} (slots : List (Slot T)) (containers : List (Slot C)) (lists : ListsView) : Type 0 where
   pub nodes : length slots ≤ lists.nodes
   pub lists_made : length containers ≤ length lists.lists
   pub members : (c i : ℕ) → has i (list_at lists.lists c) ≡ true → IsSome (held slots i)
@@ -64,7 +64,7 @@ module _ {O B R : Type 0} where
   IsRootRegion f p = (c : ℕ) → has p.slot (list_at f.in_ops.lists c) ≡ false
 
 -- what a place holds is in use
-abbrev pub IsUsed : {O B R : Type 0} → Forest O B R → Place → Type 0
-IsUsed f (Op i) = IsSome (held f.ops i)
-IsUsed f (Block i) = IsSome (held f.blocks i)
-IsUsed f (Region i) = IsSome (held f.regions i)
+abbrev pub HoldsInUse : {O B R : Type 0} → Forest O B R → Place → Type 0
+HoldsInUse f (Op i) = IsSome (held f.ops i)
+HoldsInUse f (Block i) = IsSome (held f.blocks i)
+HoldsInUse f (Region i) = IsSome (held f.regions i)

@@ -47,9 +47,9 @@ has y [] = false
 has y (x ∷ xs) = eqb y x || has y xs
 
 -- no number stands twice
-abbrev pub AreDistinct : List ℕ → Type 0
-AreDistinct [] = ⊤
-AreDistinct (x ∷ xs) = (has x xs ≡ false) × AreDistinct xs
+abbrev pub AreDistinctNumbers : List ℕ → Type 0
+AreDistinctNumbers [] = ⊤
+AreDistinctNumbers (x ∷ xs) = (has x xs ≡ false) × AreDistinctNumbers xs
 
 -- the nodes xs stand in list c one after the other, between p and e
 abbrev pub IsSegment : (ℕ → Node) → ℕ → Option ℕ → List ℕ → Option ℕ → Type 0
@@ -61,7 +61,7 @@ pub record IsList (at : ℕ → Node) (ends : Ends) (c : ℕ) (xs : List ℕ) : 
   pub head : ends.head ≡ first_or None xs
   pub tail : ends.tail ≡ last_or None xs
   pub chain : IsSegment at c None xs None
-  pub distinct : AreDistinct xs
+  pub distinct : AreDistinctNumbers xs
 
 abbrev pub list_at : List (List ℕ) → ℕ → List ℕ
 list_at lists c = slice_index_or lists c []

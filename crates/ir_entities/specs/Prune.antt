@@ -8,7 +8,7 @@ use Rattle.std.specs.Prelude.{Some, None}
 use Rattle.ir_entities.specs.declared.forest.Place.{Place}
 use Rattle.ir_entities.specs.declared.forest.Place.TheVariants.{Op, Block, Region}
 use Rattle.ir_entities.specs.Shape.{IsIn, IsInside}
-use Rattle.ir_entities.specs.Forest.{Forest, IsUsed, shape_of}
+use Rattle.ir_entities.specs.Forest.{Forest, HoldsInUse, shape_of}
 
 -- how many slots are in use
 abbrev pub live : {T : Type 0} → List (Slot T) → ℕ
@@ -22,10 +22,10 @@ StandsNowhere f (Block i) = (c : ℕ) → has i (list_at f.in_regions.lists c) �
 StandsNowhere f (Region i) = (c : ℕ) → has i (list_at f.in_ops.lists c) ≡ false
 
 -- the place holds nothing
-abbrev pub IsBare : {O B R : Type 0} → Forest O B R → Place → Type 0
-IsBare f (Op i) = list_at f.in_ops.lists i ≡ []
-IsBare f (Block i) = list_at f.in_blocks.lists i ≡ []
-IsBare f (Region i) = list_at f.in_regions.lists i ≡ []
+abbrev pub HoldsNothing : {O B R : Type 0} → Forest O B R → Place → Type 0
+HoldsNothing f (Op i) = list_at f.in_ops.lists i ≡ []
+HoldsNothing f (Block i) = list_at f.in_blocks.lists i ≡ []
+HoldsNothing f (Region i) = list_at f.in_regions.lists i ≡ []
 
 -- the slot of the place is the very same: its value and its version
 abbrev pub KeepsSlot : {O B R : Type 0} → Forest O B R → Forest O B R → Place → Type 0
@@ -52,8 +52,8 @@ RefusesAll old new In = (p : Key) → IsSome (get old p) → In p.slot → IsSpe
 -- what goes first of the things in operation x: its first region, where that is bare, else the
 -- first block of that region, where that is bare, else the first operation of that block
 abbrev pub IsFirstInner : {O B R : Type 0} → Forest O B R → ℕ → Place → Type 0
-IsFirstInner f x (Region r) = (Some r ≡ first_or None (list_at f.in_ops.lists x)) × IsBare f (Region r)
-IsFirstInner f x (Block b) = (r : ℕ) × (Some r ≡ first_or None (list_at f.in_ops.lists x)) × (Some b ≡ first_or None (list_at f.in_regions.lists r)) × IsBare f (Block b)
+IsFirstInner f x (Region r) = (Some r ≡ first_or None (list_at f.in_ops.lists x)) × HoldsNothing f (Region r)
+IsFirstInner f x (Block b) = (r : ℕ) × (Some r ≡ first_or None (list_at f.in_ops.lists x)) × (Some b ≡ first_or None (list_at f.in_regions.lists r)) × HoldsNothing f (Block b)
 IsFirstInner f x (Op o) = (r : ℕ) × (b : ℕ) × (Some r ≡ first_or None (list_at f.in_ops.lists x)) × (Some b ≡ first_or None (list_at f.in_regions.lists r)) × (Some o ≡ first_or None (list_at f.in_blocks.lists b))
 
 module _ {O B R : Type 0} where
@@ -61,7 +61,7 @@ module _ {O B R : Type 0} where
   live_in f = live f.ops + live f.blocks + live f.regions
 
   -- g no longer stands where it stood, and nothing else has changed
-  pub record IsCut (old new : Forest O B R) (g : Place) : Type 0 where
+  pub record IsDetached (old new : Forest O B R) (g : Place) : Type 0 where
     pub less : (e d : Place) → IsIn (shape_of new) e d → IsIn (shape_of old) e d
     pub rest : (e d : Place) → IsIn (shape_of old) e d → (e ≡ g → ⊥) → IsIn (shape_of new) e d
     pub lists : (d : Place) → IsIn (shape_of old) g d → (c : Place) → (c ≡ d → ⊥) → KeepsList old new c
@@ -76,7 +76,7 @@ module _ {O B R : Type 0} where
     pub regions : OnlyErases old.regions new.regions
     pub slots : (e : Place) → (IsInside (shape_of old) x e → ⊥) → KeepsSlot old new e
     pub lists : (e : Place) → (IsInside (shape_of old) x e → ⊥) → KeepsList old new e
-    pub stay : (e : Place) → IsUsed new e → IsInside (shape_of old) x e → IsInside (shape_of new) x e
+    pub stay : (e : Place) → HoldsInUse new e → IsInside (shape_of old) x e → IsInside (shape_of new) x e
     pub come : (e : Place) → IsInside (shape_of new) x e → IsInside (shape_of old) x e
     pub top : KeepsSlot old new x
     pub root : StandsNowhere old x → StandsNowhere new x
@@ -86,7 +86,7 @@ module _ {O B R : Type 0} where
     pub ops : OnlyErases old.ops new.ops
     pub blocks : OnlyErases old.blocks new.blocks
     pub regions : OnlyErases old.regions new.regions
-    pub vacant : (e : Place) → IsInside (shape_of old) x e → IsUsed new e → ⊥
+    pub vacant : (e : Place) → IsInside (shape_of old) x e → HoldsInUse new e → ⊥
     pub refused_ops : RefusesAll old.ops new.ops (λ i. IsInside (shape_of old) x (Op i))
     pub refused_blocks : RefusesAll old.blocks new.blocks (λ i. IsInside (shape_of old) x (Block i))
     pub refused_regions : RefusesAll old.regions new.regions (λ i. IsInside (shape_of old) x (Region i))

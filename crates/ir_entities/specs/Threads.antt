@@ -1,7 +1,7 @@
 -- How the uses of definitions are kept. No public clause cites this module.
 use Rattle.std.specs.Prelude.{◌≡◌, ℕ, ◌<◌, true, cond, List, [], ◌∷◌, map, length, Option, Some, None, IsSome, suc, slice_index_or}
 use Rattle.ir_entities.specs.Links.{has, list_at, AreApart, IsLinked}
-use Rattle.ir_entities.specs.Uses.{Place}
+use Rattle.ir_entities.specs.Uses.{PlaceOfUse}
 use Rattle.ir_entities.specs.declared.uses.Spot.{Spot}
 use Rattle.ir_entities.specs.declared.uses.Defined.{Defined}
 
@@ -15,13 +15,13 @@ abbrev pub thread_of : List (List ℕ) → ℕ → Option ℕ
 thread_of ls p = thread_from 0 ls p
 
 -- the place that stands in this thread and at this spot
-abbrev pub place_in : Option ℕ → Option Spot → Option Place
+abbrev pub place_in : Option ℕ → Option Spot → Option PlaceOfUse
 place_in None s = None
 place_in (Some d) None = None
 place_in (Some d) (Some s) = Some (record { definition = d; user = s.user; index = s.index })
 
 -- the places at these spots, from number k on
-abbrev pub places_from : ℕ → List (List ℕ) → List (Option Spot) → List (Option Place)
+abbrev pub places_from : ℕ → List (List ℕ) → List (Option Spot) → List (Option PlaceOfUse)
 places_from k ls [] = []
 places_from k ls (s ∷ ss) = place_in (thread_of ls k) s ∷ places_from (suc k) ls ss
 
@@ -55,6 +55,6 @@ module _ {K : Type 0} where
     pub defined : (p d : ℕ) → has p (list_at ls d) ≡ true → IsSome (definition_at ds d)
 
 -- what stands in a thread are the places in use
-pub record ArePlaces (ss : List (Option Spot)) (ls : List (List ℕ)) : Type 0 where
+pub record ThreadsHoldPlaces (ss : List (Option Spot)) (ls : List (List ℕ)) : Type 0 where
   pub placed : (p d : ℕ) → has p (list_at ls d) ≡ true → IsSome (slice_index_or ss p None)
   pub linked : (p : ℕ) → IsSome (slice_index_or ss p None) → IsLinked ls p

@@ -5,7 +5,7 @@ use Rattle.std.proofs.lemmas.List.{ext_get_or}
 use mathlib.Core.HLevel.{Σ_prop_path, ×_prop, Unit-prop}
 use Rattle.ir_entities.specs.declared.siblings.Node.{Node}
 use Rattle.ir_entities.specs.declared.siblings.Ends.{Ends}
-use Rattle.ir_entities.specs.Links.{first_or, AreDistinct, IsSegment, IsList, AreLists}
+use Rattle.ir_entities.specs.Links.{first_or, AreDistinctNumbers, IsSegment, IsList, AreLists}
 
 pub segment_one : (at : ℕ → Node) (c : ℕ) (p : Option ℕ) (xs ys : List ℕ) → IsSegment at c p xs None → IsSegment at c p ys None → first_or None xs ≡ first_or None ys → xs ≡ ys
 segment_one at c p [] [] s t h = refl
@@ -25,7 +25,7 @@ segment_prop : (at : ℕ → Node) (c : ℕ) (p : Option ℕ) (xs : List ℕ) (e
 segment_prop at c p [] e = Unit-prop
 segment_prop at c p (x ∷ xs) e = ×_prop (node_set _ _) (segment_prop at c (Some x) xs e)
 
-distinct_prop : (xs : List ℕ) → IsProp (AreDistinct xs)
+distinct_prop : (xs : List ℕ) → IsProp (AreDistinctNumbers xs)
 distinct_prop [] = Unit-prop
 distinct_prop (x ∷ xs) = ×_prop (hlevel props) (distinct_prop xs)
 

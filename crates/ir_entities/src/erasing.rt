@@ -3,7 +3,7 @@
 ghost use Rattle.std.specs.Prelude.{◌≡◌, ◌≢◌, ℕ, ◌<◌, ◌++◌, [], map, slice_set, IfSome, IsNone, IsSome, ◌↔◌, false, Some, None};
 ghost use Rattle.ir_arena.specs.Arena.{get, held, ClearsSlot, Updates, KeepsSpent, IsSpent};
 ghost use Rattle.ir_entities.specs.Links.{IsLinked, list_at, first_or, without};
-ghost use Rattle.ir_entities.specs.Prune.{live_in, StandsNowhere, IsBare, IsFirstInner, IsCut, IsPruned, ErasesInside};
+ghost use Rattle.ir_entities.specs.Prune.{live_in, StandsNowhere, HoldsNothing, IsFirstInner, IsDetached, IsPruned, ErasesInside};
 ghost use Rattle.ir_entities.specs.Shape.{IsInside};
 ghost use Rattle.ir_entities.specs.Forest.{IsForest, shape_of, pointer_to};
 ghost use Rattle.ir_entities.specs.declared.forest.Place.{Place};
@@ -23,7 +23,7 @@ impl<O, B, R> Forest<O, B, R> {
     /// Takes an operation out of its block.
     fn cut_op(&mut self, op: usize)
         requires linked { IsLinked self.old.in_blocks.lists op }
-        ensures cut { IsCut self.old self.new (Op op) }
+        ensures cut { IsDetached self.old self.new (Op op) }
         ensures lists { self.new.in_blocks.lists ≡ map (without op) self.old.in_blocks.lists }
         ensures nodes { self.new.in_blocks.nodes ≡ self.old.in_blocks.nodes }
         ensures nowhere { StandsNowhere self.new (Op op) }
@@ -36,7 +36,7 @@ impl<O, B, R> Forest<O, B, R> {
     /// Takes a block out of its region.
     fn cut_block(&mut self, block: usize)
         requires linked { IsLinked self.old.in_regions.lists block }
-        ensures cut { IsCut self.old self.new (Block block) }
+        ensures cut { IsDetached self.old self.new (Block block) }
         ensures lists { self.new.in_regions.lists ≡ map (without block) self.old.in_regions.lists }
         ensures nodes { self.new.in_regions.nodes ≡ self.old.in_regions.nodes }
         ensures nowhere { StandsNowhere self.new (Block block) }
@@ -49,7 +49,7 @@ impl<O, B, R> Forest<O, B, R> {
     /// Takes a region out of its operation.
     fn cut_region(&mut self, region: usize)
         requires linked { IsLinked self.old.in_ops.lists region }
-        ensures cut { IsCut self.old self.new (Region region) }
+        ensures cut { IsDetached self.old self.new (Region region) }
         ensures lists { self.new.in_ops.lists ≡ map (without region) self.old.in_ops.lists }
         ensures nodes { self.new.in_ops.nodes ≡ self.old.in_ops.nodes }
         ensures nowhere { StandsNowhere self.new (Region region) }
@@ -65,7 +65,7 @@ impl<O, B, R> Forest<O, B, R> {
         O: Drop,
         requires used { IsSome (held self.old.ops op) }
         requires root { StandsNowhere self.old (Op op) }
-        requires bare { IsBare self.old (Op op) }
+        requires bare { HoldsNothing self.old (Op op) }
         ensures value { Some result ≡ held self.old.ops op }
         ensures slot { ClearsSlot self.old.ops self.new.ops op }
         ensures updates { Updates self.old.ops self.new.ops (pointer_to self.old.ops op) None }
@@ -84,7 +84,7 @@ impl<O, B, R> Forest<O, B, R> {
         B: Drop,
         requires used { IsSome (held self.old.blocks block) }
         requires root { StandsNowhere self.old (Block block) }
-        requires bare { IsBare self.old (Block block) }
+        requires bare { HoldsNothing self.old (Block block) }
         ensures value { Some result ≡ held self.old.blocks block }
         ensures slot { ClearsSlot self.old.blocks self.new.blocks block }
         ensures updates { Updates self.old.blocks self.new.blocks (pointer_to self.old.blocks block) None }
@@ -103,7 +103,7 @@ impl<O, B, R> Forest<O, B, R> {
         R: Drop,
         requires used { IsSome (held self.old.regions region) }
         requires root { StandsNowhere self.old (Region region) }
-        requires bare { IsBare self.old (Region region) }
+        requires bare { HoldsNothing self.old (Region region) }
         ensures value { Some result ≡ held self.old.regions region }
         ensures slot { ClearsSlot self.old.regions self.new.regions region }
         ensures updates { Updates self.old.regions self.new.regions (pointer_to self.old.regions region) None }
@@ -128,7 +128,7 @@ impl<O, B, R> Forest<O, B, R> {
             (slice_set self.old.in_ops.lists x
             (list_at self.old.in_ops.lists x ++ list_at self.old.in_ops.lists op)) op [] }
         ensures nodes { self.new.in_ops.nodes ≡ self.old.in_ops.nodes }
-        ensures bare { IsBare self.new (Op op) }
+        ensures bare { HoldsNothing self.new (Op op) }
         ensures rest { self.new ≡ record self.old { in_ops = self.new.in_ops } }
     {
         self.in_ops.append(x, op);
@@ -139,7 +139,7 @@ impl<O, B, R> Forest<O, B, R> {
     where
         R: Drop,
         requires linked { IsLinked self.old.in_ops.lists region }
-        requires bare { IsBare self.old (Region region) }
+        requires bare { HoldsNothing self.old (Region region) }
         ensures value { Some result ≡ held self.old.regions region }
         ensures slot { ClearsSlot self.old.regions self.new.regions region }
         ensures updates { Updates self.old.regions self.new.regions (pointer_to self.old.regions region) None }
@@ -164,7 +164,7 @@ impl<O, B, R> Forest<O, B, R> {
     where
         B: Drop,
         requires linked { IsLinked self.old.in_regions.lists block }
-        requires bare { IsBare self.old (Block block) }
+        requires bare { HoldsNothing self.old (Block block) }
         ensures value { Some result ≡ held self.old.blocks block }
         ensures slot { ClearsSlot self.old.blocks self.new.blocks block }
         ensures updates { Updates self.old.blocks self.new.blocks (pointer_to self.old.blocks block) None }
@@ -220,7 +220,7 @@ impl<O, B, R> Forest<O, B, R> {
     /// What goes first of the things in operation `x`.
     fn first_inner(&self, x: usize) -> Option<Place>
         requires used { IsSome (held self.now.ops x) }
-        ensures none { IsNone result ↔ IsBare self.now (Op x) }
+        ensures none { IsNone result ↔ HoldsNothing self.now (Op x) }
         ensures first { IfSome result (λ e. IsFirstInner self.now x e) }
         ensures inside { IfSome result (λ e. IsInside (shape_of self.now) (Op x) e × (e ≢ Op x)) }
     {

@@ -5,7 +5,7 @@ ghost use Rattle.ir_arena.specs.declared.arena.Key.{Key};
 ghost use Rattle.ir_arena.specs.Arena.{get, held, slot_at, IsVacant, ClearsSlot, Updates, KeepsSpent, IsSpent};
 ghost use Rattle.ir_entities.specs.Links.{IsLinked, list_at, has};
 ghost use Rattle.ir_entities.specs.Shape.{IsInside, IsIn};
-ghost use Rattle.ir_entities.specs.Forest.{ops_in, blocks_in, regions_in, IsRootOp, IsUsed, shape_of};
+ghost use Rattle.ir_entities.specs.Forest.{ops_in, blocks_in, regions_in, IsRootOp, HoldsInUse, shape_of};
 ghost use Rattle.ir_entities.specs.declared.forest.Place.{Place};
 ghost use Rattle.ir_entities.specs.declared.forest.Place.TheVariants.{Op, Block, Region};
 
@@ -98,9 +98,9 @@ impl<O, B, R> Forest<O, B, R> {
 
     /// What this place stands in.
     pub fn parent(&self, at: Place) -> Option<Place>
-        requires { IsUsed self.now at }
+        requires { HoldsInUse self.now at }
         ensures { MatchOption result ((d : Place) → IsIn (shape_of self.now) at d
-            → ⊥) (λ d. IsIn (shape_of self.now) at d × IsUsed self.now d
+            → ⊥) (λ d. IsIn (shape_of self.now) at d × HoldsInUse self.now d
             × ((e : Place) → IsIn (shape_of self.now) at e → e ≡ d)) }
     {
         match at {
@@ -124,7 +124,7 @@ impl<O, B, R> Forest<O, B, R> {
 
     /// Whether `c` is `x` or stands in it, however far down.
     pub fn is_inside(&self, x: Place, c: Place) -> bool
-        requires { IsUsed self.now c }
+        requires { HoldsInUse self.now c }
         ensures { IsTrue result ↔ IsInside (shape_of self.now) x c }
     {
         let mut at = c;

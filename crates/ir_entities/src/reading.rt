@@ -3,7 +3,7 @@
 ghost use Rattle.std.specs.Prelude.{◌≡◌, ◌<◌, ◌^◌, ℕ, length, true, Some, None, IsSome, IsNone, IfSome, is_some};
 ghost use Rattle.std.specs.Borrow.{sem};
 ghost use Rattle.ir_arena.specs.Arena.{get, held};
-ghost use Rattle.ir_entities.specs.Links.{AreApart, AreDistinct, first_or, has, items_between, items_from, last_or, list_at, next_in, prev_in};
+ghost use Rattle.ir_entities.specs.Links.{AreApart, AreDistinctNumbers, first_or, has, items_between, items_from, last_or, list_at, next_in, prev_in};
 ghost use Rattle.ir_entities.specs.declared.forest.Place.{Place};
 ghost use Rattle.ir_entities.specs.Shape.{IsIn, IsInside};
 ghost use Rattle.ir_entities.specs.Forest.{IsForest, IsRootOp, IsRootBlock, IsRootRegion, shape_of};
@@ -22,9 +22,9 @@ impl<O, B, R> Forest<O, B, R> {
         ensures ops_apart { AreApart self.now.in_blocks.lists }
         ensures blocks_apart { AreApart self.now.in_regions.lists }
         ensures regions_apart { AreApart self.now.in_ops.lists }
-        ensures ops_once { (c : ℕ) → AreDistinct (list_at self.now.in_blocks.lists c) }
-        ensures blocks_once { (c : ℕ) → AreDistinct (list_at self.now.in_regions.lists c) }
-        ensures regions_once { (c : ℕ) → AreDistinct (list_at self.now.in_ops.lists c) }
+        ensures ops_once { (c : ℕ) → AreDistinctNumbers (list_at self.now.in_blocks.lists c) }
+        ensures blocks_once { (c : ℕ) → AreDistinctNumbers (list_at self.now.in_regions.lists c) }
+        ensures regions_once { (c : ℕ) → AreDistinctNumbers (list_at self.now.in_ops.lists c) }
         ensures no_cycle { (e d : Place) → IsIn (shape_of self.now) e d → IsInside (shape_of self.now) e d → ⊥ }
     {
         self.in_blocks.know_apart();

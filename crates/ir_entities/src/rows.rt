@@ -1,7 +1,7 @@
 //! Places in the rows of their users.
 ghost use Rattle.std.specs.Prelude.{◌≡◌, ℕ, ◌<◌, ◌≤◌, [], Some, OnOk, OnErr, length, slice_get};
 ghost use Rattle.ir_entities.specs.Uses.{place_of, IsDefined, IsPlace};
-ghost use Rattle.ir_entities.specs.Placed.{IsDistinctRow, Releases, Renumbers};
+ghost use Rattle.ir_entities.specs.Placed.{IsDistinctRow, ReleasesPlaces, Renumbers};
 ghost use Rattle.ir_entities.specs.Rows.{IsRowOf, PushesIn, InsertsIn, RemovesIn};
 
 use crate::uses::{Spot, Uses};
@@ -23,7 +23,7 @@ pub fn renumber<K: Copy>(uses: &mut Uses<K>, row: &[usize], from: usize)
 pub fn release<K: Copy>(uses: &mut Uses<K>, row: &[usize])
     requires distinct { IsDistinctRow row.now }
     requires used { (k q : ℕ) → slice_get row.now k ≡ Some q → IsPlace uses.old q }
-    ensures releases { Releases (place_of uses.old) (place_of uses.new) row.now }
+    ensures releases { ReleasesPlaces (place_of uses.old) (place_of uses.new) row.now }
     ensures definitions { uses.new.definitions ≡ uses.old.definitions }
 {
     for place in row {
@@ -99,7 +99,7 @@ pub fn clear_row<K: Copy>(uses: &mut Uses<K>, row: &mut Vec<usize>)
     requires distinct { IsDistinctRow row.old.items }
     requires used { (k q : ℕ) → slice_get row.old.items k ≡ Some q → IsPlace uses.old q }
     ensures emptied { row.new.items ≡ [] }
-    ensures releases { Releases (place_of uses.old) (place_of uses.new) row.old.items }
+    ensures releases { ReleasesPlaces (place_of uses.old) (place_of uses.new) row.old.items }
     ensures definitions { uses.new.definitions ≡ uses.old.definitions }
 {
     release(uses, row);

@@ -1,7 +1,7 @@
 //! Lists of nodes, threaded through one table, with no memory for an edit.
 
 ghost use Rattle.std.specs.Prelude.{List, ◌≡◌, ◌≢◌, ℕ, Bool, true, false, ◌+◌, ◌<◌, ◌≤◌, ◌++◌, ◌∷◌, [], map, IfOk, OnOk, OnErr, IfSome, IfNone, IsNone, length, slice_set, slice_index_or, reverse};
-ghost use Rattle.ir_entities.specs.Links.{AreLists, AreApart, AreDistinct, node_at, unlinked, no_ends, with_next, with_prev, with_head, with_tail, with_node, list_at, has, put_after, put_before, without, first_or, last_or, IsLinked, IsUnlinked, next_in, prev_in, items_from, items_back, drop_to, items_between, IsSpan, IsWithin};
+ghost use Rattle.ir_entities.specs.Links.{AreLists, AreApart, AreDistinctNumbers, node_at, unlinked, no_ends, with_next, with_prev, with_head, with_tail, with_node, list_at, has, put_after, put_before, without, first_or, last_or, IsLinked, IsUnlinked, next_in, prev_in, items_from, items_back, drop_to, items_between, IsSpan, IsWithin};
 ghost use Rattle.ir_entities.specs.Unique.{lists_exact};
 
 use crate::link::Link;
@@ -34,9 +34,9 @@ pub struct Siblings {
 
 impl Model for Siblings {
     ghost use Rattle.std.specs.Prelude.{length};
-    ghost use Rattle.ir_entities.specs.Lists.{Lists};
+    ghost use Rattle.ir_entities.specs.Lists.{ListsView};
 
-    ghost Value = { Lists };
+    ghost Value = { ListsView };
 
     ghost view = { λ s. record { lists = s.lists.0; nodes = length s.nodes.items } };
 }
@@ -344,7 +344,7 @@ impl Siblings {
 
     /// No node stands twice in a list, and each is in the table.
     pub fn know_members(&self)
-        ensures distinct { (c : ℕ) → c < length self.now.lists → AreDistinct (list_at self.now.lists c) }
+        ensures distinct { (c : ℕ) → c < length self.now.lists → AreDistinctNumbers (list_at self.now.lists c) }
         ensures below { (c x : ℕ) → has x (list_at self.now.lists c) ≡ true → x < self.now.nodes }
         ensures short { (c : ℕ) → c < length self.now.lists → length (list_at self.now.lists c) ≤ self.now.nodes }
         ensures known { (c : ℕ) → (list_at self.now.lists c ≡ [] → ⊥) → c < length self.now.lists }

@@ -7,7 +7,7 @@
 ghost use Rattle.std.specs.Prelude.{◌≡◌, ◌≢◌, ◌↔◌, ◌^◌, ◌<◌, ◌≤◌, ◌||◌, ℕ, true, false, [], Some, None, IfOk, OnOk, OnErr, IsTrue, MatchOption, length, slice_set};
 ghost use Rattle.slab.specs.Slab.{ContainsKey, HasRoomFor};
 ghost use Rattle.ir_entities.specs.Links.{has, list_at, IsLinked, IsUnlinked};
-ghost use Rattle.ir_entities.specs.Uses.{key_of, listed_of, place_of, spot_of, IsDefined, IsPlace, Names, SetsKey, SetsPlace, AreUsesOf, IsCountOf, naming, at_index, renamed};
+ghost use Rattle.ir_entities.specs.Uses.{key_of, listed_of, place_of, spot_of, IsDefined, IsPlace, NamesDefinition, SetsKey, SetsPlace, AreNamingPlaces, IsCountOf, naming, at_index, renamed};
 ghost use Rattle.ir_entities.specs.Threads.{AreThreads, counted, definition_at, keys_of};
 
 use crate::siblings::{Forward, Siblings};
@@ -40,7 +40,7 @@ pub struct Uses<K> {
 
 impl<K> Model for Uses<K> {
     ghost use Rattle.ir_entities.specs.Uses.{Uses as Named};
-    ghost use Rattle.ir_entities.specs.Threads.{AreThreads, ArePlaces, keys_of, places_from, threads_from};
+    ghost use Rattle.ir_entities.specs.Threads.{AreThreads, ThreadsHoldPlaces, keys_of, places_from, threads_from};
 
     ghost Value = { Named K };
 
@@ -51,7 +51,7 @@ impl<K> Model for Uses<K> {
     } };
 
     ghost invariant = { λ u. AreThreads u.definitions.slots u.threads.lists
-        × ArePlaces u.places.slots u.threads.lists };
+        × ThreadsHoldPlaces u.places.slots u.threads.lists };
 }
 
 /// The places that name a definition.
@@ -113,7 +113,7 @@ impl<K: Copy> Uses<K> {
     pub fn define(&mut self, key: K) -> Result<usize, AllocError>
         ensures fresh { IfOk result (λ d. key_of self.old d ≡ None) }
         ensures defined { IfOk result (λ d. SetsKey self.old self.new d (Some key)) }
-        ensures unused { IfOk result (λ d. (p : ℕ) → Names self.new p d → ⊥) }
+        ensures unused { IfOk result (λ d. (p : ℕ) → NamesDefinition self.new p d → ⊥) }
         ensures places { self.new.places ≡ self.old.places }
         ensures err { OnErr result (self.new ≡ self.old) }
     {
@@ -124,7 +124,7 @@ impl<K: Copy> Uses<K> {
     /// Takes a definition that no place names out of use.
     pub fn forget(&mut self, definition: usize)
         requires defined { IsDefined self.old definition }
-        requires unused { (p : ℕ) → Names self.old p definition → ⊥ }
+        requires unused { (p : ℕ) → NamesDefinition self.old p definition → ⊥ }
         ensures gone { SetsKey self.old self.new definition None }
         ensures places { self.new.places ≡ self.old.places }
     {
@@ -133,7 +133,7 @@ impl<K: Copy> Uses<K> {
 
     /// What a place names is a definition in use.
     pub fn know_named(&self)
-        ensures { (p d : ℕ) → Names self.now p d → IsDefined self.now d }
+        ensures { (p d : ℕ) → NamesDefinition self.now p d → IsDefined self.now d }
     {
         let _places = &self.places;
     }
@@ -157,7 +157,7 @@ impl<K: Copy> Uses<K> {
     /// The definition that a place names.
     pub fn definition(&self, place: usize) -> usize
         requires { IsPlace self.now place }
-        ensures named { Names self.now place result }
+        ensures named { NamesDefinition self.now place result }
         ensures defined { IsDefined self.now result }
     {
         self.threads.know_members();
@@ -245,7 +245,7 @@ impl<K: Copy> Uses<K> {
     /// Whether a place names the definition.
     pub fn is_used(&self, definition: usize) -> bool
         requires { IsDefined self.now definition }
-        ensures { IsTrue result ↔ ((p : ℕ) × Names self.now p definition) }
+        ensures { IsTrue result ↔ ((p : ℕ) × NamesDefinition self.now p definition) }
     {
         self.first(definition).is_some()
     }
@@ -253,7 +253,8 @@ impl<K: Copy> Uses<K> {
     /// A place that names the definition, if there is one.
     pub fn first(&self, definition: usize) -> Option<usize>
         requires { IsDefined self.now definition }
-        ensures { MatchOption result ((p : ℕ) → Names self.now p definition → ⊥) (λ p. Names self.now p definition) }
+        ensures { MatchOption result ((p : ℕ) → NamesDefinition self.now p definition → ⊥)
+            (λ p. NamesDefinition self.now p definition) }
     {
         self.threads.head(definition)
     }
@@ -261,7 +262,7 @@ impl<K: Copy> Uses<K> {
     /// The places that name a definition, each once, in an order that stays while the uses do.
     pub fn iter(&self, definition: usize) -> UsesOf<'_>
         requires { IsDefined self.now definition }
-        ensures uses { AreUsesOf self.now definition result }
+        ensures uses { AreNamingPlaces self.now definition result }
         ensures order { result ≡ listed_of self.now definition }
         ensures fits { length result < 2 ^ 64 }
     {

@@ -2,7 +2,7 @@
 
 ghost use Rattle.std.specs.Prelude.{◌≡◌, ◌<◌, ◌^◌, ◌↔◌, List, ◌∷◌, length, IfSome, Some, None};
 ghost use Rattle.ir_entities.specs.Shape.{IsIn, IsInside};
-ghost use Rattle.ir_entities.specs.Forest.{IsUsed, shape_of};
+ghost use Rattle.ir_entities.specs.Forest.{HoldsInUse, shape_of};
 ghost use Rattle.ir_entities.specs.Walk.{children, first_place, place_after, places_from, walk_of, ops_among, AreOnce, IsOneOf, StandInOne, IsRest};
 ghost use Rattle.ir_entities.specs.declared.forest.Place.{Place};
 
@@ -24,7 +24,7 @@ impl<O, B, R> Forest<O, B, R> {
 
     /// What stands first in a place.
     pub fn first_child(&self, at: Place) -> Option<Place>
-        requires { IsUsed self.now at }
+        requires { HoldsInUse self.now at }
         ensures { result ≡ first_place (children (shape_of self.now) at) }
     {
         match at {
@@ -36,7 +36,7 @@ impl<O, B, R> Forest<O, B, R> {
 
     /// What stands right after a place, in what holds it.
     pub fn next_sibling(&self, at: Place) -> Option<Place>
-        requires { IsUsed self.now at }
+        requires { HoldsInUse self.now at }
         ensures { (d : Place) → IsIn (shape_of self.now) at d
             → result ≡ place_after at (children (shape_of self.now) d) }
     {
@@ -58,7 +58,7 @@ impl<O, B, R> Forest<O, B, R> {
 
     /// What comes after all that is inside `at`, among the places inside `x`.
     fn next_after(&self, x: Place, at: Place) -> Option<Place>
-        requires used { IsUsed self.now at }
+        requires used { HoldsInUse self.now at }
         requires inside { IsInside (shape_of self.now) x at }
         ensures { (rest : List Place) → IsRest (shape_of self.now) x at rest → result ≡ first_place rest }
     {
@@ -87,10 +87,10 @@ impl<O, B, R> Forest<O, B, R> {
 
     /// The place after `at` among the places inside `x`: a place comes before what it holds.
     pub fn next_inside(&self, x: Place, at: Place) -> Option<Place>
-        requires used { IsUsed self.now at }
+        requires used { HoldsInUse self.now at }
         requires inside { IsInside (shape_of self.now) x at }
         ensures rest { places_from (Some at) (walk_of self.now x) ≡ at ∷ places_from result (walk_of self.now x) }
-        ensures inside { IfSome result (λ next. IsUsed self.now next × IsInside (shape_of self.now) x next) }
+        ensures inside { IfSome result (λ next. HoldsInUse self.now next × IsInside (shape_of self.now) x next) }
     {
         self.know_forest();
         self.know_parents();
@@ -102,7 +102,7 @@ impl<O, B, R> Forest<O, B, R> {
 
     /// Tells what the walk of a place is; it does nothing.
     pub fn know_walk(&self, x: Place)
-        requires { IsUsed self.now x }
+        requires { HoldsInUse self.now x }
         ensures once { AreOnce (walk_of self.now x) }
         ensures all { (e : Place) → IsOneOf e (walk_of self.now x) ↔ IsInside (shape_of self.now) x e }
         ensures begins { places_from (Some x) (walk_of self.now x) ≡ walk_of self.now x }
@@ -115,7 +115,7 @@ impl<O, B, R> Forest<O, B, R> {
 
     /// How many operations are inside `x`, itself counted.
     pub fn count_ops_inside(&self, x: Place) -> usize
-        requires { IsUsed self.now x }
+        requires { HoldsInUse self.now x }
         ensures { result ≡ length (ops_among (walk_of self.now x)) }
     {
         self.know_walk(x);

@@ -10,8 +10,8 @@ use Rattle.ir_grammar.specs.declared.grammar.Event.{Event}
 use Rattle.ir_grammar.specs.declared.grammar.Event.TheVariants.{Took, Did}
 use Rattle.ir_tokens.specs.declared.faults.Fault.{Fault}
 use Rattle.ir_tokens.specs.declared.faults.FaultKind.TheVariants as kinds
-use Rattle.ir_tokens.specs.Faults.{row, Precedes, IsNamed}
-use Rattle.ir_forest.specs.Forest.{end_of, Deed, deeds_from, Step}
+use Rattle.ir_tokens.specs.Faults.{row, FaultPrecedes, IsNamed}
+use Rattle.ir_forest.specs.Forest.{end_of, Deed, deeds_from, ActionSpan}
 use Rattle.ir_forest.specs.Meaning.{pieces_in}
 use Rattle.ir_grammar.specs.Nesting.{Position, at_root, at_end, in_region, in_block, Move, goes_to, goes_in, goes_out, nowhere, move, region_move, block_move, Nests, NestsBy, has_own_token, FollowTokens}
 use Rattle.ir_forest.specs.ValueFaults.{refused, piece_token, first_token, AreSound}
@@ -72,7 +72,7 @@ plain_fault values text b act.EndAttribute k h = absurd (h refl)
 plain_fault values text b _ k h = refl
 
 -- the fault with which something ends is met at the action that ends it
-end_fault : (values : Values) (text : ℕ → List ℕ) (x : Action) (first : ℕ) (before here : Trees Step) (os : List Open) (a : Action) (k : ℕ) → end_of x ≡ Some a
+end_fault : (values : Values) (text : ℕ → List ℕ) (x : Action) (first : ℕ) (before here : Trees ActionSpan) (os : List Open) (a : Action) (k : ℕ) → end_of x ≡ Some a
     → fault_after values text (record { here = here; around = record { action = x; first = first; before = before } ∷ os }) a k
     ≡ fault_at_end values text here (record { action = x; first = first; before = before } ∷ os) k
 end_fault values text (act.Operation kind) first before here os a k h = let e : act.EndOperation ≡ a = cc in rw (← e)
@@ -142,18 +142,18 @@ module _ (values : Values) (text : ℕ → List ℕ) where
   names_at k j = record { kind = kinds.ResultNames; met = k; place = j }
 
   -- as many results as names
-  abbrev pub Results : Trees Step → Open → ℕ → Type 0
+  abbrev pub Results : Trees ActionSpan → Open → ℕ → Type 0
   Results here o kind = length (names_behind [] o.before) ≡ length (values.result_types kind (pieces_in values text here))
 
-  abbrev pub NumberAt : Trees Step → Open → ℕ → Fault → Type 0
+  abbrev pub NumberAt : Trees ActionSpan → Open → ℕ → Fault → Type 0
   NumberAt here o k f = (i : ℕ) × AreSound values text here × (refused values o.action (pieces_in values text here) ≡ Some i) × (f ≡ number_at k (piece_token here i k))
 
-  abbrev pub NamesAt : Trees Step → Open → ℕ → Fault → Type 0
+  abbrev pub NamesAt : Trees ActionSpan → Open → ℕ → Fault → Type 0
   NamesAt here o k f = (kind : ℕ) × (o.action ≡ act.Operation kind) × (Results here o kind → ⊥)
       × (f ≡ record { kind = kinds.ResultNames; met = k; place = first_token (names_behind [] o.before) o.first })
 
   -- what is open innermost ends with this deed, and has this fault
-  abbrev pub HasAt : Trees Step → List Open → Deed → Fault → Type 0
+  abbrev pub HasAt : Trees ActionSpan → List Open → Deed → Fault → Type 0
   HasAt here [] d f = ⊥
   HasAt here (o ∷ os) d f = (end_of o.action ≡ Some d.0) × (NumberAt here o d.1 f ⊎ NamesAt here o d.1 f)
 
@@ -171,15 +171,15 @@ module _ (values : Values) (text : ℕ → List ℕ) where
   refusal_by_deeds (Took ∷ es) b n = refusal_by_deeds es b (n + 1)
   refusal_by_deeds (Did a ∷ es) b n = ap (or_else (fault_after values text b a (n - 1))) (refusal_by_deeds es (after b a (n - 1)) n)
 
-  has_closing : (here : Trees Step) (os : List Open) (d : Deed) (f : Fault) → HasAt here os d f → sort_of d.0 ≡ closing
+  has_closing : (here : Trees ActionSpan) (os : List Open) (d : Deed) (f : Fault) → HasAt here os d f → sort_of d.0 ≡ closing
   has_closing here [] d f h = absurd h
   has_closing here (o ∷ os) d f h = end_sort o.action d.0 h.0
 
-  has_met : (here : Trees Step) (os : List Open) (d : Deed) (f : Fault) → HasAt here os d f → f.met ≡ d.1
+  has_met : (here : Trees ActionSpan) (os : List Open) (d : Deed) (f : Fault) → HasAt here os d f → f.met ≡ d.1
   has_met here [] d f h = absurd h
   has_met here (o ∷ os) d f h = elim (h.1) [ inl x ↦ ap (λ z. z.met) x.3 | inr x ↦ ap (λ z. z.met) x.3 ]
 
-  has_no_block : (here : Trees Step) (os : List Open) (d : Deed) (f : Fault) → HasAt here os d f → d.0 ≡ act.EndBlock → ⊥
+  has_no_block : (here : Trees ActionSpan) (os : List Open) (d : Deed) (f : Fault) → HasAt here os d f → d.0 ≡ act.EndBlock → ⊥
   has_no_block here [] d f h e = h
   has_no_block here (o ∷ os) d f h e = elim (h.1) [
     | inl x ↦ (let r = refused_ends values o.action (pieces_in values text here) x.0 x.2 in let same : Some r.0 ≡ Some d.0 = sym r.1 ∙ h.0 in let is : r.0 ≡ d.0 = cc in r.3 (is ∙ e))
@@ -188,19 +188,19 @@ module _ (values : Values) (text : ℕ → List ℕ) where
 
   -- ---- which faults what ends has
 
-  abbrev CaseNumber : Trees Step → Open → List Open → ℕ → Type 0
+  abbrev CaseNumber : Trees ActionSpan → Open → List Open → ℕ → Type 0
   CaseNumber here o os k = (i : ℕ) × (refused values o.action (pieces_in values text here) ≡ Some i)
       × (fault_at_end values text here (o ∷ os) k ≡ Some (number_at k (piece_token here i k)))
 
-  abbrev CaseNames : Trees Step → Open → List Open → ℕ → Type 0
+  abbrev CaseNames : Trees ActionSpan → Open → List Open → ℕ → Type 0
   CaseNames here o os k = (kind : ℕ) × (refused values o.action (pieces_in values text here) ≡ None) × (o.action ≡ act.Operation kind) × (Results here o kind → ⊥)
       × (fault_at_end values text here (o ∷ os) k ≡ Some (names_at k (first_token (names_behind [] o.before) o.first)))
 
-  abbrev CaseNone : Trees Step → Open → List Open → ℕ → Type 0
+  abbrev CaseNone : Trees ActionSpan → Open → List Open → ℕ → Type 0
   CaseNone here o os k = (refused values o.action (pieces_in values text here) ≡ None) × ((kind : ℕ) → o.action ≡ act.Operation kind → Results here o kind)
       × (fault_at_end values text here (o ∷ os) k ≡ None)
 
-  names_case : (x : Action) (first : ℕ) (before here : Trees Step) (k : ℕ)
+  names_case : (x : Action) (first : ℕ) (before here : Trees ActionSpan) (k : ℕ)
       → ((kind : ℕ) × (x ≡ act.Operation kind) × (Results here (record { action = x; first = first; before = before }) kind → ⊥)
       × (names_fault_of values text x first before here k ≡ Some (names_at k (first_token (names_behind [] before) first))))
       ⊎ (((kind : ℕ) → x ≡ act.Operation kind → Results here (record { action = x; first = first; before = before }) kind) × (names_fault_of values text x first before here k ≡ None))
@@ -217,7 +217,7 @@ module _ (values : Values) (text : ℕ → List ℕ) where
       go false e = inl (kind, refl, eqb-false _ _ e, ap (λ (b : Bool). let o : Option Fault = if b then None else Some (names_at k (first_token (names_behind [] before) first)) in o) e)
   names_case _ first before here k = inr ((λ kind same. cc), refl)
 
-  end_case : (here : Trees Step) (o : Open) (os : List Open) (k : ℕ) → CaseNumber here o os k ⊎ (CaseNames here o os k ⊎ CaseNone here o os k)
+  end_case : (here : Trees ActionSpan) (o : Open) (os : List Open) (k : ℕ) → CaseNumber here o os k ⊎ (CaseNames here o os k ⊎ CaseNone here o os k)
   end_case here o os k = go (refused values o.action (pieces_in values text here)) refl
     where
       by : Option ℕ → Option Fault
@@ -232,24 +232,24 @@ module _ (values : Values) (text : ℕ → List ℕ) where
 
   -- ---- of two faults at one end
 
-  number_first : (here : Trees Step) (o : Open) (os : List Open) (d : Deed) → (c : CaseNumber here o os d.1) → (g : Fault) → HasAt here (o ∷ os) d g → Precedes (number_at d.1 (piece_token here c.0 d.1)) g
+  number_first : (here : Trees ActionSpan) (o : Open) (os : List Open) (d : Deed) → (c : CaseNumber here o os d.1) → (g : Fault) → HasAt here (o ∷ os) d g → FaultPrecedes (number_at d.1 (piece_token here c.0 d.1)) g
   number_first here o os d c g h = elim (h.1) [
     | inl x ↦ (
         let one : Some c.0 ≡ Some x.0 = sym c.1 ∙ x.2 in
         let i : c.0 ≡ x.0 = cc in
         let r : Fault = number_at d.1 (piece_token here c.0 d.1) in
-        subst (Precedes r) (ap (λ z. number_at d.1 (piece_token here z d.1)) i ∙ sym x.3) (precedes_itself r))
-    | inr x ↦ subst (Precedes (number_at d.1 (piece_token here c.0 d.1))) (sym x.3) (inr (refl, inl (omega arith)))
+        subst (FaultPrecedes r) (ap (λ z. number_at d.1 (piece_token here z d.1)) i ∙ sym x.3) (precedes_itself r))
+    | inr x ↦ subst (FaultPrecedes (number_at d.1 (piece_token here c.0 d.1))) (sym x.3) (inr (refl, inl (omega arith)))
   ]
 
-  names_first : (here : Trees Step) (o : Open) (os : List Open) (d : Deed) → CaseNames here o os d.1 → (g : Fault) → HasAt here (o ∷ os) d g
-      → Precedes (names_at d.1 (first_token (names_behind [] o.before) o.first)) g
+  names_first : (here : Trees ActionSpan) (o : Open) (os : List Open) (d : Deed) → CaseNames here o os d.1 → (g : Fault) → HasAt here (o ∷ os) d g
+      → FaultPrecedes (names_at d.1 (first_token (names_behind [] o.before) o.first)) g
   names_first here o os d c g h = elim (h.1) [
     | inl x ↦ (let wrong : None ≡ Some x.0 = sym c.1 ∙ x.2 in cc)
-    | inr x ↦ subst (Precedes (names_at d.1 (first_token (names_behind [] o.before) o.first))) (sym x.3) (precedes_itself (names_at d.1 (first_token (names_behind [] o.before) o.first)))
+    | inr x ↦ subst (FaultPrecedes (names_at d.1 (first_token (names_behind [] o.before) o.first))) (sym x.3) (precedes_itself (names_at d.1 (first_token (names_behind [] o.before) o.first)))
   ]
 
-  none_here : (here : Trees Step) (o : Open) (os : List Open) (d : Deed) → CaseNone here o os d.1 → (g : Fault) → HasAt here (o ∷ os) d g → ⊥
+  none_here : (here : Trees ActionSpan) (o : Open) (os : List Open) (d : Deed) → CaseNone here o os d.1 → (g : Fault) → HasAt here (o ∷ os) d g → ⊥
   none_here here o os d c g h = elim (h.1) [
     | inl x ↦ (let wrong : None ≡ Some x.0 = sym c.0 ∙ x.2 in cc)
     | inr x ↦ x.2 (c.1 x.0 x.1)
@@ -257,28 +257,28 @@ module _ (values : Values) (text : ℕ → List ℕ) where
 
   -- ---- sound trees
 
-  sound_join : (ts us : Trees Step) → AreSound values text ts → AreSound values text us → AreSound values text (join ts us)
+  sound_join : (ts us : Trees ActionSpan) → AreSound values text ts → AreSound values text us → AreSound values text (join ts us)
   sound_join no_tree us h k = k
   sound_join (a_tree (node s is) ts) us h k = (h.0, h.1, sound_join ts us h.2 k)
 
-  sound_front : (ts us : Trees Step) → AreSound values text (join ts us) → AreSound values text ts
+  sound_front : (ts us : Trees ActionSpan) → AreSound values text (join ts us) → AreSound values text ts
   sound_front no_tree us h = tt
   sound_front (a_tree (node s is) ts) us h = (h.0, h.1, sound_front ts us h.2)
 
-  sound_back : (ts us : Trees Step) → AreSound values text (join ts us) → AreSound values text us
+  sound_back : (ts us : Trees ActionSpan) → AreSound values text (join ts us) → AreSound values text us
   sound_back no_tree us h = h
   sound_back (a_tree (node s is) ts) us h = sound_back ts us h.2
 
   -- Something is refused in the trees here, or in those before what was begun since without a token of its own.
-  abbrev Refused : Trees Step → List Open → Type 0
+  abbrev Refused : Trees ActionSpan → List Open → Type 0
   Refused here [] = AreSound values text here → ⊥
   Refused here (o ∷ os) = (AreSound values text here → ⊥) ⊎ ((has_own_token o.action ≡ false) × Refused o.before os)
 
-  refused_here : (here : Trees Step) (os : List Open) → (AreSound values text here → ⊥) → Refused here os
+  refused_here : (here : Trees ActionSpan) (os : List Open) → (AreSound values text here → ⊥) → Refused here os
   refused_here here [] h = h
   refused_here here (o ∷ os) h = inl h
 
-  refused_more : (os : List Open) (ts us : Trees Step) → Refused ts os → Refused (join ts us) os
+  refused_more : (os : List Open) (ts us : Trees ActionSpan) → Refused ts os → Refused (join ts us) os
   refused_more [] ts us h = λ s. h (sound_front ts us s)
   refused_more (o ∷ os) ts us (inl h) = inl (λ s. h (sound_front ts us s))
   refused_more (o ∷ os) ts us (inr h) = inr h
@@ -291,7 +291,7 @@ module _ (values : Values) (text : ℕ → List ℕ) where
   refused_step b d c (inr (inl w)) e h = subst RefusedIn (sym w.1) (inr (e, h))
   refused_step b d c (inr (inr w)) e h =
       let o = w.0 in
-      let more : Trees Step = a_tree (ended_tree o b.here d.1) no_tree in
+      let more : Trees ActionSpan = a_tree (ended_tree o b.here d.1) no_tree in
       subst RefusedIn (sym w.4) (elim (subst (Refused b.here) w.2 h) [
         | inl x ↦ refused_here (join o.before more) w.1 (λ s. x (sound_back o.before more s).1)
         | inr x ↦ refused_more w.1 o.before more x.1
@@ -312,7 +312,7 @@ module _ (values : Values) (text : ℕ → List ℕ) where
   later_or c n g le (inl h) = inl (omega arith)
   later_or c n g le (inr h) = elim (cases_lt g.met c) [ inl x ↦ inr (omega arith, h.1) | inr x ↦ inl x ]
 
-  later_names : (here : Trees Step) (os : List Open) (d : Deed) (c : ℕ) (g : Fault) → c ≤ d.1 + 1 → Refused here os → HasAt here os d g → Later c g
+  later_names : (here : Trees ActionSpan) (os : List Open) (d : Deed) (c : ℕ) (g : Fault) → c ≤ d.1 + 1 → Refused here os → HasAt here os d g → Later c g
   later_names here [] d c g le r h = absurd h
   later_names here (o ∷ os) d c g le r h = elim (h.1) [
     | inl x ↦ absurd (elim r [
@@ -359,7 +359,7 @@ module _ (values : Values) (text : ℕ → List ℕ) where
 
   -- a fault here
   found : (b : Built) (d : Deed) (ds : List Deed) (r : Fault) → fault_after values text b d.0 d.1 ≡ Some r → HasAt b.here b.around d r
-      → ((g : Fault) → HasAt b.here b.around d g → Precedes r g) → ((g : Fault) → Somewhere (after b d.0 d.1) ds g → Precedes r g)
+      → ((g : Fault) → HasAt b.here b.around d g → FaultPrecedes r g) → ((g : Fault) → Somewhere (after b d.0 d.1) ds g → FaultPrecedes r g)
       → IsNamed (Somewhere b (d ∷ ds)) (refusal b (d ∷ ds))
   found b d ds r e has here more = subst (λ z. IsNamed (Somewhere b (d ∷ ds)) (or_else z (refusal (after b d.0 d.1) ds))) (sym e)
       (inl has, λ g h. elim h [ inl x ↦ here g x | inr y ↦ more g y ])
@@ -367,11 +367,11 @@ module _ (values : Values) (text : ℕ → List ℕ) where
   closing_fault : (b : Built) (o : Open) (os : List Open) (a : Action) (k : ℕ) → b.around ≡ o ∷ os → end_of o.action ≡ Some a → fault_after values text b a k ≡ fault_at_end values text b.here (o ∷ os) k
   closing_fault b o os a k e h = ap (λ z. fault_after values text (record { here = b.here; around = z }) a k) e ∙ end_fault values text o.action o.first o.before b.here os a k h
 
-  number_precedes : (k j : ℕ) (g : Fault) → Later (k + 1) g → Precedes (number_at k j) g
+  number_precedes : (k j : ℕ) (g : Fault) → Later (k + 1) g → FaultPrecedes (number_at k j) g
   number_precedes k j g (inl h) = inl (omega arith)
   number_precedes k j g (inr h) = inr (omega arith, inl (omega (arith, h.1)))
 
-  before_later : (k j : ℕ) (g : Fault) → k + 1 ≤ g.met → Precedes (names_at k j) g
+  before_later : (k j : ℕ) (g : Fault) → k + 1 ≤ g.met → FaultPrecedes (names_at k j) g
   before_later k j g h = inl (omega arith)
 
   step_sound : (b : Built) (d : Deed) (c : Built) → Way b d c → ((o : Open) (os : List Open) → b.around ≡ o ∷ os → end_of o.action ≡ Some d.0 → refused values o.action (pieces_in values text b.here) ≡ None) → Sound b → Sound c
@@ -415,7 +415,7 @@ module _ (values : Values) (text : ℕ → List ℕ) where
           cases : CaseNumber b.here w.0 w.1 d.1 ⊎ (CaseNames b.here w.0 w.1 d.1 ⊎ CaseNone b.here w.0 w.1 d.1) → IsNamed (Somewhere b (d ∷ ds)) (refusal b (d ∷ ds))
           cases (inl n) =
               let r = number_at d.1 (piece_token b.here n.0 d.1) in
-              let tree : Trees Step = a_tree (ended_tree (w.0) b.here d.1) no_tree in
+              let tree : Trees ActionSpan = a_tree (ended_tree (w.0) b.here d.1) no_tree in
               let bad : RefusedIn (after b d.0 d.1) = subst RefusedIn (sym w.4) (refused_here (join (w.0).before tree) w.1
               (λ s. let wrong : Some n.0 ≡ None = sym n.1 ∙ (sound_back (w.0).before tree s).0 in cc)) in
               found b d ds r (fault ∙ n.2) (out r (w.3, inl (n.0, sound.0, n.1, refl))) (λ g h. number_first b.here w.0 w.1 d n g (into g h))

@@ -1,7 +1,7 @@
 -- The faults that are met at ends are those of the values that were read.
 use Rattle.std.proofs.Common.{◌≡◌, ℕ, false, List, [], ◌∷◌, ◌++◌, length, Option, Some, None, refl, sym, subst, ap, ◌∙◌, ◌⊎◌, inl, inr}
 use Rattle.std.proofs.lemmas.List.{append_assoc, append-nil, map-append}
-use Rattle.ir_names.specs.Tree.{Tree, Trees, node, no_tree, a_tree}
+use Rattle.ir_names.specs.Tree.{LabelledTree, Trees, node, no_tree, a_tree}
 use Rattle.ir_print.specs.Pieces.{Values}
 use Rattle.ir_grammar.specs.declared.grammar.Action.{Action}
 use Rattle.ir_grammar.specs.declared.grammar.Action.TheVariants as act
@@ -9,7 +9,7 @@ use Rattle.ir_grammar.specs.declared.grammar.Event.{Event}
 use Rattle.ir_tokens.specs.declared.faults.Fault.{Fault}
 use Rattle.ir_tokens.specs.declared.faults.FaultKind.TheVariants as kinds
 use Rattle.ir_tokens.specs.Faults.{IsNamed}
-use Rattle.ir_forest.specs.Forest.{end_of, Deed, deeds, Step, ending, deeds_of, deeds_in, IsWholeStep, AreWhole}
+use Rattle.ir_forest.specs.Forest.{end_of, Deed, deeds, ActionSpan, ending, deeds_of, deeds_in, IsWholeStep, AreWhole}
 use Rattle.ir_forest.specs.Meaning.{pieces_in}
 use Rattle.ir_grammar.specs.Nesting.{Position, at_root, move, Nests, FollowTokens}
 use Rattle.ir_forest.specs.ValueFaults.{first_token, results, EndsInResult, HasNumberFault, HasNamesFault}
@@ -119,7 +119,7 @@ others_trail_none : (ds : List Deed) → (EndsInResult ds → ⊥) → trailing 
 others_trail_none ds h = elim (others_trail ds [] h) [ inl e ↦ ap (trailing []) e | inr e ↦ e ]
 
 -- the names behind trees are those behind their deeds
-trailing_node : (s : Step) (ts : Trees Step) (names : List ℕ) (x : Option Action) → end_of s.action ≡ x → IsWholeStep x s ts
+trailing_node : (s : ActionSpan) (ts : Trees ActionSpan) (names : List ℕ) (x : Option Action) → end_of s.action ≡ x → IsWholeStep x s ts
     → trailing names ((s.action, s.first) ∷ (deeds_in ts ++ ending x s.last)) ≡ with_name names s.action s.first
 trailing_node s ts names (Some x) e w =
     trailing_append (deeds_in ts) ((x, s.last) ∷ []) (with_name names s.action s.first)
@@ -127,7 +127,7 @@ trailing_node s ts names (Some x) e w =
     ∙ sym (no_name s.action (opening_other s.action x e) names s.first))
 trailing_node s ts names None e w = ap (λ us. trailing (with_name names s.action s.first) (deeds_in us ++ [])) w.2
 
-trailing_trees : (ts : Trees Step) (names : List ℕ) → AreWhole ts → trailing names (deeds_in ts) ≡ names_behind names ts
+trailing_trees : (ts : Trees ActionSpan) (names : List ℕ) → AreWhole ts → trailing names (deeds_in ts) ≡ names_behind names ts
 trailing_trees no_tree names w = refl
 trailing_trees (a_tree (node s is) ts) names w =
     trailing_append (deeds_of (node s is)) (deeds_in ts) names
@@ -163,12 +163,12 @@ module _ (values : Values) (text : ℕ → List ℕ) (es : List Event) where
   -- ---- what is met is so
 
   -- what ends here was read
-  end_read : (here : Trees Step) (o : Open) (os : List Open) (d : Deed) (ds : List Deed) (s : Step) → (s ≡ record { action = o.action; first = o.first; last = d.1 }) → end_of o.action ≡ Some d.0
+  end_read : (here : Trees ActionSpan) (o : Open) (os : List Open) (d : Deed) (ds : List Deed) (s : ActionSpan) → (s ≡ record { action = o.action; first = o.first; last = d.1 }) → end_of o.action ≡ Some d.0
       → (deeds_around (o ∷ os) ++ deeds_in here) ++ (d ∷ ds) ≡ deeds es
       → deeds es ≡ (deeds_around os ++ deeds_in o.before) ++ (deeds_of (node s here) ++ ds)
   end_read here o os d ds s is e all =
       let first : Deed = (o.action, o.first) in
-      let t : Tree Step = node (record { action = o.action; first = o.first; last = d.1 }) here in
+      let t : LabelledTree ActionSpan = node (record { action = o.action; first = o.first; last = d.1 }) here in
       let tree : deeds_of t ≡ first ∷ (deeds_in here ++ d ∷ []) = ap (λ x. first ∷ (deeds_in here ++ ending x d.1)) e in
       sym all
       ∙ (ap (λ z. (z ++ deeds_in here) ++ (d ∷ ds)) (sym (append_assoc (deeds_around os) (deeds_in o.before) (first ∷ [])))
@@ -178,21 +178,21 @@ module _ (values : Values) (text : ℕ → List ℕ) (es : List Event) where
       ∙ (ap (λ z. (deeds_around os ++ deeds_in o.before) ++ (z ++ ds)) (sym tree)
       ∙ ap (λ z. (deeds_around os ++ deeds_in o.before) ++ (deeds_of (node z here) ++ ds)) (sym is))))))
 
-  end_whole : (here : Trees Step) (o : Open) (d : Deed) → end_of o.action ≡ Some d.0 → AreWhole here → AreWhole (a_tree (node (record { action = o.action; first = o.first; last = d.1 }) here) no_tree)
+  end_whole : (here : Trees ActionSpan) (o : Open) (d : Deed) → end_of o.action ≡ Some d.0 → AreWhole here → AreWhole (a_tree (node (record { action = o.action; first = o.first; last = d.1 }) here) no_tree)
   end_whole here o d e w =
-      let s : Step = record { action = o.action; first = o.first; last = d.1 } in
+      let s : ActionSpan = record { action = o.action; first = o.first; last = d.1 } in
       (subst (λ x. IsWholeStep x s here) (sym e) tt, w, tt)
 
-  met_here : (here : Trees Step) (os : List Open) (e : Option Action) (ps : List Position) (d : Deed) (ds : List Deed) → Fits e ps os → AllBuilt AreWhole (record { here = here; around = os })
+  met_here : (here : Trees ActionSpan) (os : List Open) (e : Option Action) (ps : List Position) (d : Deed) (ds : List Deed) → Fits e ps os → AllBuilt AreWhole (record { here = here; around = os })
       → (deeds_around os ++ deeds_in here) ++ (d ∷ ds) ≡ deeds es → (f : Fault) → HasAt values text here os d f → HasNumberFault values text es f ⊎ HasNamesFault values text es f
   met_here here [] e ps d ds fits whole all f h = absurd h
   met_here here (o ∷ os) e [] d ds fits whole all f h = absurd fits
   met_here here (o ∷ os) e (p ∷ ps) d ds fits whole all f (end, inl h) =
-      let s : Step = record { action = o.action; first = o.first; last = d.1 } in
+      let s : ActionSpan = record { action = o.action; first = o.first; last = d.1 } in
       let read = end_read here o os d ds s refl end all in
       inl (s, here, h.0, (end_whole here o d end whole.0, deeds_around os ++ deeds_in o.before, ds, read), h.1, h.2, h.3)
   met_here here (o ∷ os) e (p ∷ ps) d ds fits whole all f (end, inr h) =
-      let s : Step = record { action = o.action; first = o.first; last = d.1 } in
+      let s : ActionSpan = record { action = o.action; first = o.first; last = d.1 } in
       let read = end_read here o os d ds s refl end all in
       let names : List ℕ = names_behind [] o.before in
       let split = names_split (deeds_in o.before) (deeds_around os) [] (around_other (end_at p) ps os fits.4) in
@@ -229,7 +229,7 @@ module _ (values : Values) (text : ℕ → List ℕ) (es : List Event) where
   somewhere_behind [] ys b f h = h
   somewhere_behind (d ∷ xs) ys b f h = inr (somewhere_behind xs ys (after b d.0 d.1) f h)
 
-  somewhere_tree : (b : Built) (s : Step) (ts : Trees Step) (more : List Deed) (f : Fault) (x : Action) → end_of s.action ≡ Some x → AreWhole ts
+  somewhere_tree : (b : Built) (s : ActionSpan) (ts : Trees ActionSpan) (more : List Deed) (f : Fault) (x : Action) → end_of s.action ≡ Some x → AreWhole ts
       → HasAt values text ts (record { action = s.action; first = s.first; before = b.here } ∷ b.around) (x, s.last) f → Somewhere values text b (deeds_of (node s ts) ++ more) f
   somewhere_tree b s ts more f x e w h =
       let begun : Built = with_begin b s.action s.first in

@@ -5,7 +5,7 @@ use Rattle.ir_grammar.specs.declared.grammar.Action.{Action}
 use Rattle.ir_grammar.specs.declared.grammar.Action.TheVariants.{Result, Operation, EndOperation, BeginRegion, EndRegion, Label, Argument, Header, EndBlock, BeginType, EndType, BeginAttribute, EndAttribute, Name, Number, Width, BeginOperands, Operand, EndOperands, BeginList, BeginItem, EndItem, EndList}
 use Rattle.ir_grammar.specs.declared.grammar.Event.{Event}
 use Rattle.ir_grammar.specs.declared.grammar.Event.TheVariants.{Took, Did}
-use Rattle.ir_forest.specs.Forest.{end_of, is_end, Deed, deeds_from, Step}
+use Rattle.ir_forest.specs.Forest.{end_of, is_end, Deed, deeds_from, ActionSpan}
 use Rattle.ir_grammar.specs.Nesting.{Position, at_root, behind_root_results, at_end, in_operation, in_operands, in_region, in_header, in_argument, in_block, behind_results, in_type, in_attribute, in_list, in_item, Move, goes_to, goes_in, goes_out, nowhere, move, piece_move, Nests, NestsBy}
 use Rattle.ir_forest.specs.Building.{Open, Built, behind, ended_tree, with_end, with_begin, with_leaf, after, built_from}
 use Rattle.ir_forest.specs.Progress.{run}
@@ -244,7 +244,7 @@ Alone b d c = (sort_of d.0 ≡ alone) × (c ≡ with_leaf b d.0 d.1)
 abbrev pub Opens : Built → Deed → Built → Type 0
 Opens b d c = (sort_of d.0 ≡ opening) × (c ≡ with_begin b d.0 d.1)
 
-abbrev pub ended : Trees Step → Open → List Open → ℕ → Built
+abbrev pub ended : Trees ActionSpan → Open → List Open → ℕ → Built
 ended here o os k = record { here = behind o.before (ended_tree o here k); around = os }
 
 abbrev pub Closes : Built → Deed → Built → Type 0

@@ -1,13 +1,13 @@
 -- What is built is what was read.
 use Rattle.std.proofs.Common.{◌≡◌, ℕ, ◌+◌, true, false, List, [], ◌∷◌, ◌++◌, Option, Some, None, refl, sym, subst, ap, ◌∙◌, ◌⊎◌, inl, inr}
 use Rattle.std.proofs.lemmas.List.{append_assoc, append-nil}
-use Rattle.ir_names.specs.Tree.{Tree, Trees, node, no_tree, a_tree, join}
+use Rattle.ir_names.specs.Tree.{LabelledTree, Trees, node, no_tree, a_tree, join}
 use Rattle.ir_print.specs.Pieces.{Values, Entity, entity, an_entity, no_entity}
 use Rattle.ir_grammar.specs.declared.grammar.Action.{Action}
 use Rattle.ir_grammar.specs.declared.grammar.Action.TheVariants as act
 use Rattle.ir_grammar.specs.declared.grammar.Event.{Event}
 use Rattle.ir_grammar.specs.declared.grammar.Event.TheVariants.{Took, Did}
-use Rattle.ir_forest.specs.Forest.{end_of, is_end, Deed, deeds, deeds_from, Step, ending, deeds_of, deeds_in, IsWholeStep, AreWhole, IsForest}
+use Rattle.ir_forest.specs.Forest.{end_of, is_end, Deed, deeds, deeds_from, ActionSpan, ending, deeds_of, deeds_in, IsWholeStep, AreWhole, IsForestOf}
 use Rattle.ir_forest.specs.Meaning.{head_of, operations_in, regions_in}
 use Rattle.ir_grammar.specs.Nesting.{Position, at_root, behind_root_results, at_end, Move, goes_to, goes_in, goes_out, nowhere, move, Nests, NestsBy}
 use Rattle.ir_forest.specs.Building.{Open, Built, nothing_built, behind, ended_tree, with_end, with_begin, after, built}
@@ -16,22 +16,22 @@ use Rattle.ir_forest.proofs.BuiltSteps.{Sort, alone, opening, closing, sort_of, 
 
 -- ---- trees
 
-pub join_nothing : (ts : Trees Step) → join ts no_tree ≡ ts
+pub join_nothing : (ts : Trees ActionSpan) → join ts no_tree ≡ ts
 join_nothing no_tree = refl
 join_nothing (a_tree t ts) = ap (a_tree t) (join_nothing ts)
 
-pub join_assoc : (ts us vs : Trees Step) → join (join ts us) vs ≡ join ts (join us vs)
+pub join_assoc : (ts us vs : Trees ActionSpan) → join (join ts us) vs ≡ join ts (join us vs)
 join_assoc no_tree us vs = refl
 join_assoc (a_tree t ts) us vs = ap (a_tree t) (join_assoc ts us vs)
 
-pub deeds_join : (ts us : Trees Step) → deeds_in (join ts us) ≡ deeds_in ts ++ deeds_in us
+pub deeds_join : (ts us : Trees ActionSpan) → deeds_in (join ts us) ≡ deeds_in ts ++ deeds_in us
 deeds_join no_tree us = refl
 deeds_join (a_tree t ts) us = ap (λ x. deeds_of t ++ x) (deeds_join ts us) ∙ sym (append_assoc (deeds_of t) (deeds_in ts) (deeds_in us))
 
-pub deeds_behind : (ts : Trees Step) (t : Tree Step) → deeds_in (behind ts t) ≡ deeds_in ts ++ deeds_of t
+pub deeds_behind : (ts : Trees ActionSpan) (t : LabelledTree ActionSpan) → deeds_in (behind ts t) ≡ deeds_in ts ++ deeds_of t
 deeds_behind ts t = deeds_join ts (a_tree t no_tree) ∙ ap (λ x. deeds_in ts ++ x) (append-nil (deeds_of t))
 
-pub whole_join : (ts us : Trees Step) → AreWhole ts → AreWhole us → AreWhole (join ts us)
+pub whole_join : (ts us : Trees ActionSpan) → AreWhole ts → AreWhole us → AreWhole (join ts us)
 whole_join no_tree us h k = k
 whole_join (a_tree (node s is) ts) us h k = (h.0, h.1, whole_join ts us h.2 k)
 
@@ -56,7 +56,7 @@ along keep (d ∷ ds) p ps b fits f x = let s = step p ps b d ds fits f in along
 pub step_deeds : (b : Built) (d : Deed) (c : Built) → Way b d c → deeds_so_far c ≡ deeds_so_far b ++ d ∷ []
 step_deeds b d c (inl h) =
     let none : end_of d.0 ≡ None = (subst (λ z. EndsBy z d.0) h.0 (ends_by d.0)).0 in
-    let leaf : Tree Step = node (record { action = d.0; first = d.1; last = d.1 }) no_tree in
+    let leaf : LabelledTree ActionSpan = node (record { action = d.0; first = d.1; last = d.1 }) no_tree in
     let one : deeds_of leaf ≡ d ∷ [] = ap (λ x. d ∷ ending x d.1) none in
     ap deeds_so_far h.1
     ∙ (ap (λ x. deeds_around b.around ++ x) (deeds_behind b.here leaf ∙ ap (λ x. deeds_in b.here ++ x) one)
@@ -68,7 +68,7 @@ step_deeds b d c (inr (inl h)) =
 step_deeds b d c (inr (inr h)) =
     let o = h.0 in
     let os = h.1 in
-    let t : Tree Step = ended_tree o b.here d.1 in
+    let t : LabelledTree ActionSpan = ended_tree o b.here d.1 in
     let first : Deed = (o.action, o.first) in
     let last : deeds_of t ≡ first ∷ (deeds_in b.here ++ d ∷ []) = ap (λ x. first ∷ (deeds_in b.here ++ ending x d.1)) h.3 in
     let split : deeds_around (o ∷ os) ++ (deeds_in b.here ++ d ∷ []) ≡ deeds_around os ++ (deeds_in o.before ++ (first ∷ (deeds_in b.here ++ d ∷ []))) =
@@ -90,24 +90,24 @@ run_deeds (d ∷ ds) p ps b fits f =
 -- ---- they are whole
 
 -- so are the trees before each of what is open
-abbrev pub AllBefore : (Trees Step → Type 0) → List Open → Type 0
+abbrev pub AllBefore : (Trees ActionSpan → Type 0) → List Open → Type 0
 AllBefore Q [] = Unit {0}
 AllBefore Q (o ∷ os) = Q o.before × AllBefore Q os
 
-abbrev pub AllBuilt : (Trees Step → Type 0) → Built → Type 0
+abbrev pub AllBuilt : (Trees ActionSpan → Type 0) → Built → Type 0
 AllBuilt Q b = Q b.here × AllBefore Q b.around
 
 pub step_whole : (b : Built) (d : Deed) (c : Built) → Way b d c → AllBuilt AreWhole b → AllBuilt AreWhole c
 step_whole b d c (inl h) w =
     let e = subst (λ z. EndsBy z d.0) h.0 (ends_by d.0) in
-    let s : Step = record { action = d.0; first = d.1; last = d.1 } in
+    let s : ActionSpan = record { action = d.0; first = d.1; last = d.1 } in
     let one : IsWholeStep (end_of d.0) s no_tree = subst (λ x. IsWholeStep x s no_tree) (sym e.0) (e.1, refl, refl) in
     subst (AllBuilt AreWhole) (sym h.1) (whole_join b.here (a_tree (node s no_tree) no_tree) w.0 (one, tt, tt), w.1)
 step_whole b d c (inr (inl h)) w = subst (AllBuilt AreWhole) (sym h.1) (tt, w)
 step_whole b d c (inr (inr h)) w =
     let o = h.0 in
     let around = subst (AllBefore AreWhole) h.2 w.1 in
-    let s : Step = record { action = o.action; first = o.first; last = d.1 } in
+    let s : ActionSpan = record { action = o.action; first = o.first; last = d.1 } in
     let one : IsWholeStep (end_of o.action) s b.here = subst (λ x. IsWholeStep x s b.here) (sym h.3) tt in
     subst (AllBuilt AreWhole) (sym h.4) (whole_join o.before (a_tree (node s b.here) no_tree) around.0 (one, w.0, tt), around.1)
 
@@ -125,7 +125,7 @@ built_deeds es h = sym (ap deeds_so_far (built_runs es) ∙ run_deeds (deeds es)
 pub built_whole : (es : List Event) → Nests at_root [] es → AllBuilt AreWhole (built es)
 built_whole es h = subst (AllBuilt AreWhole) (sym (built_runs es)) (run_whole (deeds es) at_root [] nothing_built refl (nests_deeds es at_root [] 0 h) (tt, tt))
 
-pub built_forest : (es : List Event) → Nests at_root [] es → (built es).around ≡ [] → IsForest es (built es).here
+pub built_forest : (es : List Event) → Nests at_root [] es → (built es).around ≡ [] → IsForestOf es (built es).here
 built_forest es h e = ((built_whole es h).0, built_deeds es h ∙ ap (λ x. deeds_around x ++ deeds_in (built es).here) e)
 
 -- ---- law 2
@@ -146,15 +146,15 @@ after_sort s b a k e = subst (λ z. after b a k ≡ after_by z b a k) e (after_i
 pub after_begin : (b : Built) (a x : Action) (k : ℕ) → end_of a ≡ Some x → after b a k ≡ with_begin b a k
 after_begin b a x k e = after_sort opening b a k (opening_sort a x (sort_of a) refl e)
 
-pub after_end : (here : Trees Step) (o : Open) (os : List Open) (a : Action) (k : ℕ) → end_of o.action ≡ Some a → after (record { here = here; around = o ∷ os }) a k ≡ ended here o os k
+pub after_end : (here : Trees ActionSpan) (o : Open) (os : List Open) (a : Action) (k : ℕ) → end_of o.action ≡ Some a → after (record { here = here; around = o ∷ os }) a k ≡ ended here o os k
 after_end here o os a k e = after_sort closing (record { here = here; around = o ∷ os }) a k (end_sort o.action a e)
 
 -- what is built behind trees
-abbrev pub pushed : Built → Trees Step → Built
+abbrev pub pushed : Built → Trees ActionSpan → Built
 pushed b ts = record { here = join b.here ts; around = b.around }
 
 -- a tree, given what its inner trees do
-run_node : (b : Built) (s : Step) (ts : Trees Step) → ((c : Built) → run c (deeds_in ts) ≡ pushed c ts) → (x : Option Action) → end_of s.action ≡ x → IsWholeStep x s ts
+run_node : (b : Built) (s : ActionSpan) (ts : Trees ActionSpan) → ((c : Built) → run c (deeds_in ts) ≡ pushed c ts) → (x : Option Action) → end_of s.action ≡ x → IsWholeStep x s ts
     → run b ((s.action, s.first) ∷ (deeds_in ts ++ ending x s.last)) ≡ pushed b (a_tree (node s ts) no_tree)
 run_node b s ts inner (Some x) e w =
     let o : Open = record { action = s.action; first = s.first; before = b.here } in
@@ -164,13 +164,13 @@ run_node b s ts inner (Some x) e w =
     ∙ after_end ts o b.around x s.last e))
 run_node b s ts inner None e w =
     let plain : sort_of s.action ≡ alone = alone_sort s.action (sort_of s.action) refl e w.0 in
-    let same : record { action = s.action; first = s.first; last = s.first } ≡ s = ap (λ k. let z : Step = record { action = s.action; first = s.first; last = k } in z) (sym w.1) in
+    let same : record { action = s.action; first = s.first; last = s.first } ≡ s = ap (λ k. let z : ActionSpan = record { action = s.action; first = s.first; last = k } in z) (sym w.1) in
     ap (λ us. run (after b s.action s.first) (deeds_in us ++ [])) w.2
     ∙ (after_sort alone b s.action s.first plain
     ∙ (ap (λ z. pushed b (a_tree (node z no_tree) no_tree)) same
     ∙ ap (λ us. pushed b (a_tree (node s us) no_tree)) (sym w.2)))
 
-pub run_trees : (ts : Trees Step) → AreWhole ts → (b : Built) → run b (deeds_in ts) ≡ pushed b ts
+pub run_trees : (ts : Trees ActionSpan) → AreWhole ts → (b : Built) → run b (deeds_in ts) ≡ pushed b ts
 run_trees no_tree w b = ap (λ x. let c : Built = record { here = x; around = b.around } in c) (sym (join_nothing b.here))
 run_trees (a_tree (node s is) ts) w b =
     run_append (deeds_of (node s is)) (deeds_in ts) b
@@ -178,11 +178,11 @@ run_trees (a_tree (node s is) ts) w b =
     ∙ (run_trees ts w.2 (pushed b (a_tree (node s is) no_tree))
     ∙ ap (λ x. let c : Built = record { here = x; around = b.around } in c) (join_assoc b.here (a_tree (node s is) no_tree) ts)))
 
-pub run_tree : (t : Tree Step) (b : Built) → AreWhole (a_tree t no_tree) → run b (deeds_of t) ≡ pushed b (a_tree t no_tree)
+pub run_tree : (t : LabelledTree ActionSpan) (b : Built) → AreWhole (a_tree t no_tree) → run b (deeds_of t) ≡ pushed b (a_tree t no_tree)
 run_tree t b w = ap (run b) (sym (append-nil (deeds_of t))) ∙ run_trees (a_tree t no_tree) w b
 
 -- what was read is one forest
-pub forest_is_built : (es : List Event) (ts : Trees Step) → IsForest es ts → built es ≡ record { here = ts; around = [] }
+pub forest_is_built : (es : List Event) (ts : Trees ActionSpan) → IsForestOf es ts → built es ≡ record { here = ts; around = [] }
 forest_is_built es ts h = built_runs es ∙ (ap (run nothing_built) h.1 ∙ run_trees ts h.0 nothing_built)
 
 -- ---- one operation
@@ -198,11 +198,11 @@ leads_deeds (Did a ∷ es) p ps n to back h = by_move (move p a) ps (λ q qs h. 
 
 module _ (values : Values) (text : ℕ → List ℕ) where
   -- names of results stand before what comes
-  abbrev Ready : List ℕ → Trees Step → Type 0
-  Ready names ts = (us : Trees Step) → operations_in values text [] (join ts us) ≡ operations_in values text names us
+  abbrev Ready : List ℕ → Trees ActionSpan → Type 0
+  Ready names ts = (us : Trees ActionSpan) → operations_in values text [] (join ts us) ≡ operations_in values text names us
 
   -- the trees at a position
-  abbrev Content : Position → Trees Step → Type 0
+  abbrev Content : Position → Trees ActionSpan → Type 0
   Content at_root ts = (names : List ℕ) × Ready names ts
   Content behind_root_results ts = (names : List ℕ) × Ready names ts
   Content at_end ts = (e : Entity ℕ) × (operations_in values text [] ts ≡ an_entity e no_entity)
@@ -211,14 +211,14 @@ module _ (values : Values) (text : ℕ → List ℕ) where
   abbrev AroundContent : List Position → List Open → Type 0
   AroundContent [] os = Unit {0}
   AroundContent (q ∷ qs) [] = Unit {0}
-  AroundContent (q ∷ qs) (o ∷ os) = ((ts : Trees Step) (k : ℕ) → Content q (behind o.before (ended_tree o ts k))) × AroundContent qs os
+  AroundContent (q ∷ qs) (o ∷ os) = ((ts : Trees ActionSpan) (k : ℕ) → Content q (behind o.before (ended_tree o ts k))) × AroundContent qs os
 
   abbrev ContentSays : Position → Action → Move → Type 0
-  ContentSays p a (goes_to q) = (ts : Trees Step) (k : ℕ) → Content p ts → Content q (behind ts (node (record { action = a; first = k; last = k }) no_tree))
-  ContentSays p a (goes_in i q) = Content i no_tree × ((ts us : Trees Step) (k n : ℕ) → Content p ts → Content q (behind ts (node (record { action = a; first = k; last = n }) us)))
+  ContentSays p a (goes_to q) = (ts : Trees ActionSpan) (k : ℕ) → Content p ts → Content q (behind ts (node (record { action = a; first = k; last = k }) no_tree))
+  ContentSays p a (goes_in i q) = Content i no_tree × ((ts us : Trees ActionSpan) (k n : ℕ) → Content p ts → Content q (behind ts (node (record { action = a; first = k; last = n }) us)))
   ContentSays p a _ = Unit {0}
 
-  inner : (q : Position) (x : Action) → end_at q ≡ Some x → (ts : Trees Step) → Content q ts
+  inner : (q : Position) (x : Action) → end_at q ≡ Some x → (ts : Trees ActionSpan) → Content q ts
   inner at_root x e ts = cc
   inner behind_root_results x e ts = cc
   inner at_end x e ts = cc
@@ -232,15 +232,15 @@ module _ (values : Values) (text : ℕ → List ℕ) where
   inner_says p x a e goes_out s = tt
   inner_says p x a e nowhere s = tt
 
-  one_result : (ts : Trees Step) (k : ℕ) → ((names : List ℕ) × Ready names ts) → (names : List ℕ) × Ready names (behind ts (node (record { action = act.Result; first = k; last = k }) no_tree))
+  one_result : (ts : Trees ActionSpan) (k : ℕ) → ((names : List ℕ) × Ready names ts) → (names : List ℕ) × Ready names (behind ts (node (record { action = act.Result; first = k; last = k }) no_tree))
   one_result ts k c =
-      let t : Tree Step = node (record { action = act.Result; first = k; last = k }) no_tree in
+      let t : LabelledTree ActionSpan = node (record { action = act.Result; first = k; last = k }) no_tree in
       (c.0 ++ k ∷ [], λ us. ap (operations_in values text []) (join_assoc ts (a_tree t no_tree) us) ∙ c.1 (a_tree t us))
 
-  one_operation : (kind : ℕ) (ts us : Trees Step) (k n : ℕ) → ((names : List ℕ) × Ready names ts)
+  one_operation : (kind : ℕ) (ts us : Trees ActionSpan) (k n : ℕ) → ((names : List ℕ) × Ready names ts)
       → (e : Entity ℕ) × (operations_in values text [] (behind ts (node (record { action = act.Operation kind; first = k; last = n }) us)) ≡ an_entity e no_entity)
   one_operation kind ts us k n c =
-      let t : Tree Step = node (record { action = act.Operation kind; first = k; last = n }) us in
+      let t : LabelledTree ActionSpan = node (record { action = act.Operation kind; first = k; last = n }) us in
       (entity (head_of values text c.0 us kind) (regions_in values text us), c.1 (a_tree t no_tree))
 
   root_says : (a : Action) → ContentSays at_root a (move at_root a)

@@ -1,10 +1,10 @@
 -- What one more tree adds to the pieces, the tokens and the names of others.
 use Rattle.std.proofs.Common.{◌≡◌, ℕ, zero, suc, List, [], ◌∷◌, ◌++◌, Some, None, slice_get, refl, ap, ◌∙◌}
-use Rattle.ir_names.specs.Tree.{Tree, Trees, node, no_tree, a_tree, join, count}
+use Rattle.ir_names.specs.Tree.{LabelledTree, Trees, node, no_tree, a_tree, join, count}
 use Rattle.ir_print.specs.Pieces.{Pieces, Values}
 use Rattle.ir_grammar.specs.declared.grammar.Action.{Action}
 use Rattle.ir_grammar.specs.declared.grammar.Action.TheVariants as act
-use Rattle.ir_forest.specs.Forest.{Step}
+use Rattle.ir_forest.specs.Forest.{ActionSpan}
 use Rattle.ir_forest.specs.Meaning.{with_piece, pieces_in, tokens_in}
 use Rattle.ir_forest.specs.ValueFaults.{piece_token}
 use Rattle.ir_forest.specs.Building.{behind, names_behind, with_name}
@@ -37,32 +37,32 @@ piece_before values act.EndItem cs many ts rest more = refl
 piece_before values act.EndList cs many ts rest more = refl
 
 -- the pieces of trees with one more behind them
-pub pieces_behind : (values : Values) (text : ℕ → List ℕ) (ts : Trees Step) (s : Step) (us : Trees Step)
+pub pieces_behind : (values : Values) (text : ℕ → List ℕ) (ts : Trees ActionSpan) (s : ActionSpan) (us : Trees ActionSpan)
     → pieces_in values text (behind ts (node s us)) ≡ join (pieces_in values text ts) (with_piece values s.action (text s.first) (count us) (pieces_in values text us) no_tree)
 pieces_behind values text no_tree s us = refl
 pieces_behind values text (a_tree (node r rs) ts) s us =
     ap (λ (ps : Pieces). with_piece values r.action (text r.first) (count rs) (pieces_in values text rs) ps) (pieces_behind values text ts s us)
     ∙ piece_before values r.action (text r.first) (count rs) (pieces_in values text rs) (pieces_in values text ts) _
 
-pub tokens_behind : (ts : Trees Step) (s : Step) (us : Trees Step) → tokens_in (behind ts (node s us)) ≡ tokens_in ts ++ s.first ∷ []
+pub tokens_behind : (ts : Trees ActionSpan) (s : ActionSpan) (us : Trees ActionSpan) → tokens_in (behind ts (node s us)) ≡ tokens_in ts ++ s.first ∷ []
 tokens_behind no_tree s us = refl
 tokens_behind (a_tree (node r rs) ts) s us = ap (λ (ks : List ℕ). r.first ∷ ks) (tokens_behind ts s us)
 
-pub name_behind : (names : List ℕ) (ts : Trees Step) (s : Step) (us : Trees Step) → names_behind names (behind ts (node s us)) ≡ with_name (names_behind names ts) s.action s.first
+pub name_behind : (names : List ℕ) (ts : Trees ActionSpan) (s : ActionSpan) (us : Trees ActionSpan) → names_behind names (behind ts (node s us)) ≡ with_name (names_behind names ts) s.action s.first
 name_behind names no_tree s us = refl
 name_behind names (a_tree (node r rs) ts) s us = name_behind (with_name names r.action r.first) ts s us
 
-pub count_behind : (ts : Trees Step) (t : Tree Step) → count (behind ts t) ≡ suc (count ts)
+pub count_behind : (ts : Trees ActionSpan) (t : LabelledTree ActionSpan) → count (behind ts t) ≡ suc (count ts)
 count_behind no_tree t = refl
 count_behind (a_tree u ts) t = ap suc (count_behind ts t)
 
 -- the token of a step by its number, or the end where there is no such step
-pub piece_token_there : (ts : Trees Step) (i k last : ℕ) → slice_get (tokens_in ts) i ≡ Some k → piece_token ts i last ≡ k
+pub piece_token_there : (ts : Trees ActionSpan) (i k last : ℕ) → slice_get (tokens_in ts) i ≡ Some k → piece_token ts i last ≡ k
 piece_token_there no_tree i k last h = cc
 piece_token_there (a_tree (node s us) ts) zero k last h = cc
 piece_token_there (a_tree (node s us) ts) (suc i) k last h = piece_token_there ts i k last h
 
-pub piece_token_none : (ts : Trees Step) (i last : ℕ) → slice_get (tokens_in ts) i ≡ None → piece_token ts i last ≡ last
+pub piece_token_none : (ts : Trees ActionSpan) (i last : ℕ) → slice_get (tokens_in ts) i ≡ None → piece_token ts i last ≡ last
 piece_token_none no_tree i last h = refl
 piece_token_none (a_tree (node s us) ts) zero last h = cc
 piece_token_none (a_tree (node s us) ts) (suc i) last h = piece_token_none ts i last h

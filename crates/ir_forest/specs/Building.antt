@@ -1,7 +1,7 @@
 -- How far the trees of a text are built.
 use Rattle.std.specs.Prelude.{ℕ, ◌+◌, ◌-◌, ◌==◌, List, [], ◌∷◌, ◌++◌, length, Option, Some, None, if◌then◌else◌}
 use Rattle.std.specs.Option.{option_map_or}
-use Rattle.ir_names.specs.Tree.{Tree, Trees, node, no_tree, a_tree, join}
+use Rattle.ir_names.specs.Tree.{LabelledTree, Trees, node, no_tree, a_tree, join}
 use Rattle.ir_print.specs.Pieces.{Values}
 use Rattle.ir_grammar.specs.declared.grammar.Action.{Action}
 use Rattle.ir_grammar.specs.declared.grammar.Action.TheVariants as act
@@ -9,7 +9,7 @@ use Rattle.ir_grammar.specs.declared.grammar.Event.{Event}
 use Rattle.ir_grammar.specs.declared.grammar.Event.TheVariants.{Took, Did}
 use Rattle.ir_tokens.specs.declared.faults.Fault.{Fault}
 use Rattle.ir_tokens.specs.declared.faults.FaultKind.TheVariants as kinds
-use Rattle.ir_forest.specs.Forest.{Step}
+use Rattle.ir_forest.specs.Forest.{ActionSpan}
 use Rattle.ir_forest.specs.Meaning.{pieces_in}
 use Rattle.ir_forest.specs.ValueFaults.{refused, piece_token, first_token}
 
@@ -17,11 +17,11 @@ use Rattle.ir_forest.specs.ValueFaults.{refused, piece_token, first_token}
 pub record Open : Type 0 where
   pub action : Action
   pub first : ℕ
-  pub before : Trees Step
+  pub before : Trees ActionSpan
 
 -- The trees of what is open innermost, so far, and what is open, the innermost first.
 pub record Built : Type 0 where
-  pub here : Trees Step
+  pub here : Trees ActionSpan
   pub around : List Open
 
 -- nothing is read
@@ -29,15 +29,15 @@ abbrev pub nothing_built : Built
 nothing_built = record { here = no_tree; around = [] }
 
 -- one more tree behind others
-abbrev pub behind : Trees Step → Tree Step → Trees Step
+abbrev pub behind : Trees ActionSpan → LabelledTree ActionSpan → Trees ActionSpan
 behind ts t = join ts (a_tree t no_tree)
 
 -- the tree of what ends at a token
-abbrev pub ended_tree : Open → Trees Step → ℕ → Tree Step
+abbrev pub ended_tree : Open → Trees ActionSpan → ℕ → LabelledTree ActionSpan
 ended_tree o ts last = node (record { action = o.action; first = o.first; last = last }) ts
 
 -- what is open innermost ends at a token
-abbrev pub with_end : Trees Step → List Open → ℕ → Built
+abbrev pub with_end : Trees ActionSpan → List Open → ℕ → Built
 with_end here [] last = record { here = here; around = [] }
 with_end here (o ∷ os) last = record { here = behind o.before (ended_tree o here last); around = os }
 
@@ -93,12 +93,12 @@ with_name names act.Result k = names ++ k ∷ []
 with_name names _ k = []
 
 -- the names of results behind all other trees, these standing before
-abbrev pub names_behind : List ℕ → Trees Step → List ℕ
+abbrev pub names_behind : List ℕ → Trees ActionSpan → List ℕ
 names_behind names no_tree = names
 names_behind names (a_tree (node s ts) rest) = names_behind (with_name names s.action s.first) rest
 
 -- a number out of range in what ends: at the piece with this number, or at the end
-abbrev pub number_fault : Trees Step → ℕ → ℕ → Option Fault
+abbrev pub number_fault : Trees ActionSpan → ℕ → ℕ → Option Fault
 number_fault ts last i = Some (record { kind = kinds.Number; met = last; place = piece_token ts i last })
 
 -- as many names as results, or a fault
@@ -107,7 +107,7 @@ names_fault names first many last = if length names == many then None
     else Some (record { kind = kinds.ResultNames; met = last; place = first_token names first })
 
 -- the wrong number of names before what ends, if this is an operation
-abbrev pub names_fault_of : Values → (ℕ → List ℕ) → Action → ℕ → Trees Step → Trees Step → ℕ → Option Fault
+abbrev pub names_fault_of : Values → (ℕ → List ℕ) → Action → ℕ → Trees ActionSpan → Trees ActionSpan → ℕ → Option Fault
 names_fault_of values text (act.Operation kind) first before ts last =
     names_fault (names_behind [] before) first (length (values.result_types kind (pieces_in values text ts))) last
 names_fault_of values text _ first before ts last = None
@@ -118,7 +118,7 @@ or_else (Some f) other = Some f
 or_else None other = other
 
 -- the fault with which what is open innermost ends at a token
-abbrev pub fault_at_end : Values → (ℕ → List ℕ) → Trees Step → List Open → ℕ → Option Fault
+abbrev pub fault_at_end : Values → (ℕ → List ℕ) → Trees ActionSpan → List Open → ℕ → Option Fault
 fault_at_end values text here [] last = None
 fault_at_end values text here (o ∷ os) last = option_map_or (λ i. number_fault here last i)
     (refused values o.action (pieces_in values text here)) (names_fault_of values text o.action o.first o.before here last)

@@ -3,7 +3,7 @@ use Rattle.std.specs.Prelude.{◌≡◌, ℕ, suc, Bool, true, false, List, [], 
 use Rattle.std.specs.List.{range_with_len}
 use Rattle.ir_names.specs.Tree.{node, no_tree, a_tree}
 use Rattle.ir_print.specs.Formats.{Formats, Kind}
-use Rattle.ir_print.specs.Pieces.{region, ValueTree, Pieces, Values, Head, operation, a_region, block, Entity, entity, Entities, no_entity, an_entity}
+use Rattle.ir_print.specs.Pieces.{region, ValueTree, Pieces, Values, EntityHead, operation, a_region, block, Entity, entity, Entities, no_entity, an_entity}
 use Rattle.ir_print.specs.Shown.{operands_said}
 use Rattle.ir_print.specs.Shapes.{parts_in, FitAll, FitArguments}
 use Rattle.ir_print.specs.Layout.{IsShallow}
@@ -25,23 +25,23 @@ abbrev pub names_of : {N : Type 0} → List (N × ValueTree) → List N
 names_of xs = map (λ x. x.0) xs
 
 -- the values that a head defines
-abbrev pub head_defines : {N : Type 0} → Head N → List N
+abbrev pub head_defines : {N : Type 0} → EntityHead N → List N
 head_defines (operation kind results used pieces) = names_of results
 head_defines a_region = []
 head_defines (block label arguments) = names_of arguments
 
 -- the values that it mentions
-abbrev pub head_mentions : {N : Type 0} → Head N → List N
+abbrev pub head_mentions : {N : Type 0} → EntityHead N → List N
 head_mentions (operation kind results used pieces) = used
 head_mentions _ = []
 
 -- whether it is an isolated operation
-abbrev pub is_isolated_head : {N : Type 0} → (ℕ → Bool) → Head N → Bool
+abbrev pub is_isolated_head : {N : Type 0} → (ℕ → Bool) → EntityHead N → Bool
 is_isolated_head isolated (operation kind results used pieces) = isolated kind
 is_isolated_head isolated _ = false
 
 -- the values of the same scope as the head that are in it: none are in an isolated operation
-abbrev pub in_scope : {N : Type 0} → (ℕ → Bool) → Head N → List N → List N
+abbrev pub in_scope : {N : Type 0} → (ℕ → Bool) → EntityHead N → List N → List N
 in_scope isolated h xs = if is_isolated_head isolated h then [] else xs
 
 abbrev mutual
@@ -72,7 +72,7 @@ abbrev mutual
   all_definitions_of (an_entity t ts) = definitions_of t ++ all_definitions_of ts
 
 -- A region of an isolated operation is a scope: what it mentions it defines.
-abbrev pub IsScope : {N : Type 0} → (ℕ → Bool) → Bool → Head N → Entities N → Type 0
+abbrev pub IsScope : {N : Type 0} → (ℕ → Bool) → Bool → EntityHead N → Entities N → Type 0
 IsScope isolated true a_region ts = AreIn (all_mentioned isolated ts) (all_defined isolated ts)
 IsScope isolated _ _ ts = Unit {0}
 
@@ -92,7 +92,7 @@ IsScopedRoot isolated t = AreIn (mentioned_by isolated t) (defined_by isolated t
 -- ---- labels
 
 -- the labels of blocks
-abbrev pub label_in : {N : Type 0} → Head N → List (List ℕ)
+abbrev pub label_in : {N : Type 0} → EntityHead N → List (List ℕ)
 label_in (block label arguments) = label ∷ []
 label_in _ = []
 
@@ -110,7 +110,7 @@ abbrev mutual
   AreLabelled (an_entity t ts) = IsLabelled t × AreLabelled ts
 
 -- the head without its label
-abbrev pub unlabelled_head : {N : Type 0} → Head N → Head N
+abbrev pub unlabelled_head : {N : Type 0} → EntityHead N → EntityHead N
 unlabelled_head (block label arguments) = block [] arguments
 unlabelled_head h = h
 
@@ -163,7 +163,7 @@ abbrev mutual
   AreOperations v (an_entity t ts) = IsOperation v t × AreOperations v ts
 
 -- What a head says has the shape of its format, and is read.
-abbrev pub FitsHead : {N : Type 0} → Formats → Values → Head N → Type 0
+abbrev pub FitsHead : {N : Type 0} → Formats → Values → EntityHead N → Type 0
 FitsHead f v (operation kind results used pieces) = (k : Kind) × (slice_get f.operations kind ≡ Some k) × FitAll f v (parts_in k.format) pieces
     × (v.refused_operation kind pieces ≡ None) × (operands_said pieces ≡ length used)
 FitsHead f v a_region = Unit {0}
@@ -179,7 +179,7 @@ abbrev mutual
   FitTrees f v (an_entity t ts) = FitsTree f v t × FitTrees f v ts
 
 -- A tree is closed: it is the tree of a text, whatever the names in it are.
-pub record IsClosed {N : Type 0} (l : Language) (t : Entity N) : Type 0 where
+pub record IsClosedTree {N : Type 0} (l : Language) (t : Entity N) : Type 0 where
   pub operation : IsOperation l.values t
   pub fits : FitsTree l.formats l.values t
   pub scoped : IsScopedRoot l.isolated t

@@ -1,6 +1,6 @@
 -- What reading did, as trees.
 use Rattle.std.specs.Prelude.{◌≡◌, ℕ, ◌+◌, ◌-◌, List, [], ◌∷◌, ◌++◌, Option, Some, None, Bool, true, false}
-use Rattle.ir_names.specs.Tree.{Tree, Trees, node, no_tree, a_tree}
+use Rattle.ir_names.specs.Tree.{LabelledTree, Trees, node, no_tree, a_tree}
 use Rattle.ir_grammar.specs.declared.grammar.Action.{Action}
 use Rattle.ir_grammar.specs.declared.grammar.Action.TheVariants.{Operation, EndOperation, BeginRegion, EndRegion, Label, EndBlock, BeginType, EndType, BeginAttribute, EndAttribute, BeginOperands, EndOperands, BeginList, BeginItem, EndItem, EndList}
 use Rattle.ir_grammar.specs.declared.grammar.Event.{Event}
@@ -45,7 +45,7 @@ abbrev pub deeds : List Event → List Deed
 deeds es = deeds_from 0 es
 
 -- An action that begins something or stands alone, its token, and the token at which what it begins ends.
-pub record Step : Type 0 where
+pub record ActionSpan : Type 0 where
   pub action : Action
   pub first : ℕ
   pub last : ℕ
@@ -57,28 +57,28 @@ ending (Some a) last = (a, last) ∷ []
 
 abbrev mutual
   -- the actions for which a tree stands: that which begins it, those of what is in it, and that which ends it
-  pub deeds_of : Tree Step → List Deed
+  pub deeds_of : LabelledTree ActionSpan → List Deed
   deeds_of (node s ts) = (s.action, s.first) ∷ (deeds_in ts ++ ending (end_of s.action) s.last)
 
   -- the actions for which trees stand, one after the other
-  pub deeds_in : Trees Step → List Deed
+  pub deeds_in : Trees ActionSpan → List Deed
   deeds_in no_tree = []
   deeds_in (a_tree t ts) = deeds_of t ++ deeds_in ts
 
 -- A step that begins nothing ends nothing either: it stands alone, at one token, and nothing is in it.
-abbrev pub IsWholeStep : Option Action → Step → Trees Step → Type 0
+abbrev pub IsWholeStep : Option Action → ActionSpan → Trees ActionSpan → Type 0
 IsWholeStep (Some end) s ts = Unit {0}
 IsWholeStep None s ts = (is_end s.action ≡ false) × (s.last ≡ s.first) × (ts ≡ no_tree)
 
 -- Each step of the trees is what its action is: so deeds stand for one forest at most.
-abbrev pub AreWhole : Trees Step → Type 0
+abbrev pub AreWhole : Trees ActionSpan → Type 0
 AreWhole no_tree = Unit {0}
 AreWhole (a_tree (node s ts) rest) = IsWholeStep (end_of s.action) s ts × AreWhole ts × AreWhole rest
 
 -- reading did what these trees stand for
-abbrev pub IsForest : List Event → Trees Step → Type 0
-IsForest es ts = AreWhole ts × (deeds es ≡ deeds_in ts)
+abbrev pub IsForestOf : List Event → Trees ActionSpan → Type 0
+IsForestOf es ts = AreWhole ts × (deeds es ≡ deeds_in ts)
 
 -- the tree is among what was read, whole
-abbrev pub HasTree : List Event → Tree Step → Type 0
-HasTree es t = AreWhole (a_tree t no_tree) × (before : List Deed) × (after : List Deed) × (deeds es ≡ before ++ (deeds_of t ++ after))
+abbrev pub HasWholeTree : List Event → LabelledTree ActionSpan → Type 0
+HasWholeTree es t = AreWhole (a_tree t no_tree) × (before : List Deed) × (after : List Deed) × (deeds es ≡ before ++ (deeds_of t ++ after))

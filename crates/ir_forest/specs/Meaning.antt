@@ -2,10 +2,10 @@
 use Rattle.std.specs.Prelude.{ℕ, ◌+◌, ◌*◌, ◌-◌, ◌==◌, List, [], ◌∷◌, ◌++◌, map, true, false, if◌then◌else◌}
 use Rattle.ir_names.specs.declared.kinds.Signedness.TheVariants.{Signless, Signed, Unsigned}
 use Rattle.ir_names.specs.Tree.{Trees, node, no_tree, a_tree, count}
-use Rattle.ir_print.specs.Pieces.{Piece, type_of_kind, attribute_of_kind, list, item, operands, region, name, number, width, ValueTree, Pieces, Values, Head, operation, a_region, block, Entity, entity, Entities, no_entity, an_entity}
+use Rattle.ir_print.specs.Pieces.{Piece, type_of_kind, attribute_of_kind, list, item, operands, region, name, number, width, ValueTree, Pieces, Values, EntityHead, operation, a_region, block, Entity, entity, Entities, no_entity, an_entity}
 use Rattle.ir_grammar.specs.declared.grammar.Action.{Action}
 use Rattle.ir_grammar.specs.declared.grammar.Action.TheVariants as act
-use Rattle.ir_forest.specs.Forest.{Step}
+use Rattle.ir_forest.specs.Forest.{ActionSpan}
 
 -- ---- numbers and widths
 
@@ -51,7 +51,7 @@ with_piece values act.Width text many ts rest = a_tree (node (width_in text) no_
 with_piece values _ text many ts rest = rest
 
 -- the pieces that steps say, in their order; other steps say none
-abbrev pub pieces_in : Values → (ℕ → List ℕ) → Trees Step → Pieces
+abbrev pub pieces_in : Values → (ℕ → List ℕ) → Trees ActionSpan → Pieces
 pieces_in values text no_tree = no_tree
 pieces_in values text (a_tree (node s ts) rest) =
     with_piece values s.action (text s.first) (count ts) (pieces_in values text ts) (pieces_in values text rest)
@@ -85,17 +85,17 @@ by_argument act.Header x f y z = y
 by_argument _ x f y z = z
 
 -- the tokens of steps
-abbrev pub tokens_in : Trees Step → List ℕ
+abbrev pub tokens_in : Trees ActionSpan → List ℕ
 tokens_in no_tree = []
 tokens_in (a_tree (node s ts) rest) = s.first ∷ tokens_in rest
 
 -- the tokens that name the operands of an operation
-abbrev pub operands_in : Trees Step → List ℕ
+abbrev pub operands_in : Trees ActionSpan → List ℕ
 operands_in no_tree = []
 operands_in (a_tree (node s ts) rest) = by_operands s.action (tokens_in ts) [] ++ operands_in rest
 
 -- the arguments in the header of a block, the name of the first being this one
-abbrev pub arguments_in : Values → (ℕ → List ℕ) → ℕ → Trees Step → List (ℕ × ValueTree)
+abbrev pub arguments_in : Values → (ℕ → List ℕ) → ℕ → Trees ActionSpan → List (ℕ × ValueTree)
 arguments_in values text named no_tree = []
 arguments_in values text named (a_tree (node s ts) rest) = by_argument s.action
     (arguments_in values text s.first rest)
@@ -110,13 +110,13 @@ typed (k ∷ ks) [] = []
 typed (k ∷ ks) (t ∷ ts) = (k, t) ∷ typed ks ts
 
 -- what an operation of a kind is whose results have these names
-abbrev pub head_of : Values → (ℕ → List ℕ) → List ℕ → Trees Step → ℕ → Head ℕ
+abbrev pub head_of : Values → (ℕ → List ℕ) → List ℕ → Trees ActionSpan → ℕ → EntityHead ℕ
 head_of values text names ts kind = let ps = pieces_in values text ts in
     operation kind (typed names (values.result_types kind ps)) (operands_in ts) ps
 
 abbrev mutual
   -- the operations among steps, with the names of results that stand before them; these names stand before the first
-  pub operations_in : Values → (ℕ → List ℕ) → List ℕ → Trees Step → Entities ℕ
+  pub operations_in : Values → (ℕ → List ℕ) → List ℕ → Trees ActionSpan → Entities ℕ
   operations_in values text names no_tree = no_entity
   operations_in values text names (a_tree (node s ts) rest) = by_operation s.action
       (operations_in values text (names ++ s.first ∷ []) rest)
@@ -124,14 +124,14 @@ abbrev mutual
       (operations_in values text names rest)
 
   -- the regions among steps
-  pub regions_in : Values → (ℕ → List ℕ) → Trees Step → Entities ℕ
+  pub regions_in : Values → (ℕ → List ℕ) → Trees ActionSpan → Entities ℕ
   regions_in values text no_tree = no_entity
   regions_in values text (a_tree (node s ts) rest) = by_region s.action
       (an_entity (entity a_region (blocks_in values text ts)) (regions_in values text rest))
       (regions_in values text rest)
 
   -- the blocks among steps
-  pub blocks_in : Values → (ℕ → List ℕ) → Trees Step → Entities ℕ
+  pub blocks_in : Values → (ℕ → List ℕ) → Trees ActionSpan → Entities ℕ
   blocks_in values text no_tree = no_entity
   blocks_in values text (a_tree (node s ts) rest) = by_label s.action
       (an_entity (entity (block (text s.first) (arguments_in values text 0 ts)) (operations_in values text [] ts)) (blocks_in values text rest))
@@ -139,7 +139,7 @@ abbrev mutual
 
 -- ---- other names
 
-abbrev pub renamed_head : {M N : Type 0} → (M → N) → Head M → Head N
+abbrev pub renamed_head : {M N : Type 0} → (M → N) → EntityHead M → EntityHead N
 renamed_head f (operation kind results used pieces) = operation kind (map (λ r. (f r.0, r.1)) results) (map f used) pieces
 renamed_head f a_region = a_region
 renamed_head f (block label arguments) = block label (map (λ r. (f r.0, r.1)) arguments)

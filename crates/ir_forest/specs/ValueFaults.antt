@@ -7,7 +7,7 @@ use Rattle.ir_grammar.specs.declared.grammar.Action.TheVariants as act
 use Rattle.ir_grammar.specs.declared.grammar.Event.{Event}
 use Rattle.ir_tokens.specs.declared.faults.Fault.{Fault}
 use Rattle.ir_tokens.specs.declared.faults.FaultKind.TheVariants as kinds
-use Rattle.ir_forest.specs.Forest.{Deed, deeds, Step, deeds_of, AreWhole, HasTree}
+use Rattle.ir_forest.specs.Forest.{Deed, deeds, ActionSpan, deeds_of, AreWhole, HasWholeTree}
 use Rattle.ir_forest.specs.Meaning.{pieces_in}
 
 -- the number of the first piece that is refused in what an action begins
@@ -18,13 +18,13 @@ refused values (act.Operation kind) ps = values.refused_operation kind ps
 refused values _ ps = None
 
 -- the token of the step with a number, or of the end (the last argument) where there are fewer
-abbrev pub piece_token : Trees Step → ℕ → ℕ → ℕ
+abbrev pub piece_token : Trees ActionSpan → ℕ → ℕ → ℕ
 piece_token no_tree i last = last
 piece_token (a_tree (node s ts) rest) zero last = s.first
 piece_token (a_tree (node s ts) rest) (suc i) last = piece_token rest i last
 
 -- nothing is refused in these steps, at any depth
-abbrev pub AreSound : Values → (ℕ → List ℕ) → Trees Step → Type 0
+abbrev pub AreSound : Values → (ℕ → List ℕ) → Trees ActionSpan → Type 0
 AreSound values text no_tree = Unit {0}
 AreSound values text (a_tree (node s ts) rest) =
     (refused values s.action (pieces_in values text ts) ≡ None) × AreSound values text ts × AreSound values text rest
@@ -32,8 +32,8 @@ AreSound values text (a_tree (node s ts) rest) =
 -- A number is out of range: what it is in ends, and is refused for it, and nothing within that is refused. It is placed there, or
 -- at the end where there is no such piece.
 abbrev pub HasNumberFault : Values → (ℕ → List ℕ) → List Event → Fault → Type 0
-HasNumberFault values text es f = (s : Step) × (ts : Trees Step) × (i : ℕ)
-    × HasTree es (node s ts) × AreSound values text ts × (refused values s.action (pieces_in values text ts) ≡ Some i)
+HasNumberFault values text es f = (s : ActionSpan) × (ts : Trees ActionSpan) × (i : ℕ)
+    × HasWholeTree es (node s ts) × AreSound values text ts × (refused values s.action (pieces_in values text ts) ≡ Some i)
     × (f ≡ record { kind = kinds.Number; met = s.last; place = piece_token ts i s.last })
 
 -- names of results, at these tokens
@@ -51,7 +51,7 @@ first_token (k ∷ ks) first = k
 
 -- An operation has more or fewer results than names before it. This is met at its end, and placed where it begins.
 abbrev pub HasNamesFault : Values → (ℕ → List ℕ) → List Event → Fault → Type 0
-HasNamesFault values text es f = (names : List ℕ) × (kind : ℕ) × (s : Step) × (ts : Trees Step) × (before : List Deed) × (after : List Deed)
+HasNamesFault values text es f = (names : List ℕ) × (kind : ℕ) × (s : ActionSpan) × (ts : Trees ActionSpan) × (before : List Deed) × (after : List Deed)
     × AreWhole (a_tree (node s ts) no_tree)
     × (deeds es ≡ before ++ (results names ++ (deeds_of (node s ts) ++ after))) × (EndsInResult before → ⊥)
     × (s.action ≡ act.Operation kind) × (length names ≢ length (values.result_types kind (pieces_in values text ts)))

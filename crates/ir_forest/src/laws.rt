@@ -1,9 +1,9 @@
 //! Laws of what is built of a text: it is what was read.
 ghost use Rattle.std.specs.Prelude.{◌≡◌, ◌⊎◌, ℕ, false, List, []};
-ghost use Rattle.ir_names.specs.Tree.{Tree, Trees, a_tree, no_tree};
+ghost use Rattle.ir_names.specs.Tree.{LabelledTree, Trees, a_tree, no_tree};
 ghost use Rattle.ir_print.specs.Pieces.{Values, Entity, an_entity, no_entity};
 ghost use Rattle.ir_grammar.specs.declared.grammar.Event.{Event};
-ghost use Rattle.ir_forest.specs.Forest.{deeds, deeds_from, deeds_of, Step, AreWhole, IsForest};
+ghost use Rattle.ir_forest.specs.Forest.{deeds, deeds_from, deeds_of, ActionSpan, AreWhole, IsForestOf};
 ghost use Rattle.ir_forest.specs.Meaning.{operations_in};
 ghost use Rattle.ir_grammar.specs.Nesting.{Position, Nests, FollowTokens, at_root, at_end};
 ghost use Rattle.ir_forest.specs.Building.{Built, built, built_from, behind, first_refusal};
@@ -14,7 +14,7 @@ ghost use Rattle.ir_forest.specs.Progress.{deeds_so_far, run, Leads};
 /// What is built is what was read: its deeds are those of the events. Where all is ended it is the forest of the text.
 pub fn built_deeds()
     ensures deeds { (es : List Event) → Nests at_root [] es → deeds es ≡ deeds_so_far (built es) }
-    ensures forest { (es : List Event) → Nests at_root [] es → (built es).around ≡ [] → IsForest es (built es).here }
+    ensures forest { (es : List Event) → Nests at_root [] es → (built es).around ≡ [] → IsForestOf es (built es).here }
 {}
 
 /// What was read up to its end is one operation.
@@ -30,9 +30,9 @@ pub fn built_root()
 /// The deeds of a tree build that tree, behind what stands there; so what was read is one forest at most.
 pub fn built_tree()
     ensures runs { (es : List Event) (b : Built) (n : ℕ) → built_from b n es ≡ run b (deeds_from n es) }
-    ensures tree { (t : Tree Step) (b : Built) → AreWhole (a_tree t no_tree)
+    ensures tree { (t : LabelledTree ActionSpan) (b : Built) → AreWhole (a_tree t no_tree)
         → run b (deeds_of t) ≡ record { here = behind b.here t; around = b.around } }
-    ensures forest { (es : List Event) (ts : Trees Step) → IsForest es ts
+    ensures forest { (es : List Event) (ts : Trees ActionSpan) → IsForestOf es ts
         → built es ≡ record { here = ts; around = [] } }
 {}
 

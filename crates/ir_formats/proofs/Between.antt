@@ -12,7 +12,7 @@ use Rattle.ir_characters.proofs.Trimming.{trimmed_white_behind, trimmed_visible_
 use Rattle.ir_tokens.specs.declared.tokens.TokenKind.{TokenKind}
 use Rattle.ir_tokens.specs.declared.tokens.TokenKind.TheVariants.{Name, Dotted, Digits, Negative, Mark, Text, Sign, Arrow, InMemory, Bad}
 use Rattle.ir_tokens.specs.declared.tokens.Token.{Token}
-use Rattle.ir_tokens.specs.Tokens.{is_name_char, is_digit, is_sign, is_bad, Runs, ClosesText, Spells, IsGap, IsToken, LastIfBad}
+use Rattle.ir_tokens.specs.Tokens.{is_name_char, is_digit, is_sign, is_bad, AreAllOfKind, ClosesText, Spells, IsGap, IsToken, LastIfBad}
 use Rattle.ir_tokens.specs.Tokens.{ReadsAs, starts_of, text_between}
 use Rattle.ir_tokens.specs.Tokens.ClosesText.{closing, plain, escaped}
 use Rattle.ir_tokens.proofs.TokenLongest.{closes_after}
@@ -33,7 +33,7 @@ pub sign_visible : (c : ℕ) → is_sign c ≡ true → is_whitespace c ≡ fals
 sign_visible c sign = grind (arith, nat_tests)
 
 -- characters none of which is white space end in no white space
-run_ends : (p : ℕ → Bool) → ((c : ℕ) → p c ≡ true → is_whitespace c ≡ false) → (cs : List ℕ) (i j : ℕ) → i < j → Runs p cs i j
+run_ends : (p : ℕ → Bool) → ((c : ℕ) → p c ≡ true → is_whitespace c ≡ false) → (cs : List ℕ) (i j : ℕ) → i < j → AreAllOfKind p cs i j
     → is_whitespace (slice_index cs (j - 1)) ≡ false
 run_ends p visible cs i j lt runs = visible (slice_index cs (j - 1)) (runs (j - 1) (omega arith) (omega arith))
 

@@ -11,8 +11,8 @@ use Rattle.ir_grammar.specs.declared.grammar.Symbol.{Symbol}
 use Rattle.ir_grammar.specs.declared.grammar.Class.{Class}
 use Rattle.ir_formats.specs.declared.rules.Sort.{Sort}
 use Rattle.ir_formats.specs.declared.rules.RuleMaker.{RuleMaker}
-use Rattle.ir_formats.specs.Rules.{Made, is_name, both, texts, plain_rules, plain_classes, with_word, with_words, words_in, words_in_step, words_of_kinds, step_made, steps_made, kind_made, kinds_made}
-use Rattle.ir_formats.specs.Making.{Adds, AddsMade}
+use Rattle.ir_formats.specs.Rules.{MadeOfSteps, is_name, both, texts, plain_rules, plain_classes, with_word, with_words, words_in, words_in_step, words_of_kinds, step_made, steps_made, kind_made, kinds_made}
+use Rattle.ir_formats.specs.Making.{AddsSymbolsAndRules, AddsMade}
 
 -- ---- lists
 
@@ -72,14 +72,14 @@ kind_words_done ks i a whole past all = ap (λ js. with_words a (words_of_kinds 
 -- ---- rules
 
 -- With what is still to be made the maker and the symbols are what all that is made gives.
-pub record Leaves (old new : RuleMaker) (before after : List Symbol) (rest whole : Made) : Type 0 where
+pub record Leaves (old new : RuleMaker) (before after : List Symbol) (rest whole : MadeOfSteps) : Type 0 where
   pub rules : plain_rules new.rules.items ++ rest.rules ≡ plain_rules old.rules.items ++ whole.rules
   pub symbols : after ++ rest.symbols ≡ before ++ whole.symbols
   pub next : rest.next ≡ whole.next
   pub words : new.words ≡ old.words
 
 -- one step more is made
-pub leaves_less : (old mid new : RuleMaker) (a b c : List Symbol) (one rest whole : Made) → Leaves old mid a b (both one rest) whole → Adds mid new b c one → Leaves old new a c rest whole
+pub leaves_less : (old mid new : RuleMaker) (a b c : List Symbol) (one rest whole : MadeOfSteps) → Leaves old mid a b (both one rest) whole → AddsSymbolsAndRules mid new b c one → Leaves old new a c rest whole
 leaves_less old mid new a b c one rest whole h more = record {
   rules = rw more.rules.rules (append_assoc (plain_rules mid.rules.items) one.rules rest.rules ∙ h.rules);
   symbols = rw more.symbols (append_assoc b one.symbols rest.symbols ∙ h.symbols);
@@ -95,27 +95,27 @@ same_kinds : (s : Sort) (i : ℕ) (mid new : RuleMaker) (ks : List Kind) (n : �
 same_kinds s i mid new ks n words next = ap (λ ws. kinds_made (texts ws.items) s i ks n) (sym words) ∙ ap (λ k. kinds_made (texts new.words.items) s i ks k) (sym next)
 
 -- one directive more is made
-pub format_more : (fs : List Directive) (i : ℕ) (d : Directive) (old mid new : RuleMaker) (a b c : List Symbol) (whole : Made) → i < length fs → d ≡ get_or fs i d
+pub format_more : (fs : List Directive) (i : ℕ) (d : Directive) (old mid new : RuleMaker) (a b c : List Symbol) (whole : MadeOfSteps) → i < length fs → d ≡ get_or fs i d
     → Leaves old mid a b (steps_made (texts mid.words.items) (steps_of (drop i fs)) mid.next_list) whole
-    → Adds mid new b c (step_made (texts mid.words.items) (step_of d) mid.next_list)
+    → AddsSymbolsAndRules mid new b c (step_made (texts mid.words.items) (step_of d) mid.next_list)
     → Leaves old new a c (steps_made (texts new.words.items) (steps_of (drop (i + 1) fs)) new.next_list) whole
 format_more fs i d old mid new a b c whole lt at h more =
     let here = rw (drop_item fs i d lt at) at h in
-    subst (λ (r : Made). Leaves old new a c r whole) (same_steps mid new (steps_of (drop (i + 1) fs)) _ more.rules.words more.rules.next)
+    subst (λ (r : MadeOfSteps). Leaves old new a c r whole) (same_steps mid new (steps_of (drop (i + 1) fs)) _ more.rules.words more.rules.next)
     (leaves_less old mid new a b c (step_made (texts mid.words.items) (step_of d) mid.next_list) _ whole here more)
 
 -- one kind more is made
-pub kinds_more : (s : Sort) (ks : List Kind) (i : ℕ) (k : Kind) (old mid new : RuleMaker) (whole : Made) → slice_get ks i ≡ Some k
+pub kinds_more : (s : Sort) (ks : List Kind) (i : ℕ) (k : Kind) (old mid new : RuleMaker) (whole : MadeOfSteps) → slice_get ks i ≡ Some k
     → Leaves old mid [] [] (kinds_made (texts mid.words.items) s i (drop i ks) mid.next_list) whole
     → AddsMade mid new (kind_made (texts mid.words.items) s i k mid.next_list)
     → Leaves old new [] [] (kinds_made (texts new.words.items) s (i + 1) (drop (i + 1) ks) new.next_list) whole
 kinds_more s ks i k old mid new whole at h more =
     let here = rw (drop_some ks i k at) at h in
-    subst (λ (r : Made). Leaves old new [] [] r whole) (same_kinds s (i + 1) mid new (drop (i + 1) ks) _ more.words more.next)
+    subst (λ (r : MadeOfSteps). Leaves old new [] [] r whole) (same_kinds s (i + 1) mid new (drop (i + 1) ks) _ more.words more.next)
     (rw add-one (leaves_less old mid new [] [] [] (kind_made (texts mid.words.items) s i k mid.next_list) _ whole (rw add-one at here) (record { rules = more; symbols = refl })))
 
 -- no kind is left
-pub kinds_done : (s : Sort) (ks : List Kind) (i : ℕ) (old new : RuleMaker) (whole : Made) → slice_get ks i ≡ None
+pub kinds_done : (s : Sort) (ks : List Kind) (i : ℕ) (old new : RuleMaker) (whole : MadeOfSteps) → slice_get ks i ≡ None
     → Leaves old new [] [] (kinds_made (texts new.words.items) s i (drop i ks) new.next_list) whole → AddsMade old new whole
 kinds_done s ks i old new whole past h =
     let here = rw (drop_none ks i past) at h in

@@ -18,7 +18,7 @@ use Rattle.ir_grammar.specs.declared.grammar.Stop.TheVariants.{Text, Stuck, Deep
 use Rattle.ir_grammar.specs.Reading.{through, Reads}
 use Rattle.ir_formats.specs.Rules.{plain_rule, plain_rules}
 use Rattle.ir_grammar.specs.Nesting.{names_value, OwnTokens, Position, at_root, behind_root_results, at_end, in_operation, in_operands, in_region, in_header, in_argument, in_block, behind_results, in_type, in_attribute, in_list, in_item, Move, goes_to, goes_in, goes_out, nowhere, move, Nests, NestsBy, has_own_token, FollowTokens}
-use Rattle.ir_formats.specs.Ordered.{Standing, alone, moved_out, moved_by, moved, passed, passed_all, number_of_position, is_same_position, Leads, led_from, placed, led, walked, walked_all, is_alone_at, is_alone, lead_so, follow_signs, is_rule_ordered, are_rules_ordered, is_ordered, LeadsTo, IsInOrder, OrdersTexts}
+use Rattle.ir_formats.specs.Ordered.{Standing, alone, moved_out, moved_by, moved, passed, passed_all, number_of_position, is_same_position, PartPositions, led_from, placed, led, walked, walked_all, is_alone_at, is_alone, lead_so, follow_signs, is_rule_ordered, are_rules_ordered, is_ordered, LeadsToPosition, IsInOrder, OrdersTexts}
 use Rattle.ir_formats.proofs.Booleans.{both_hold}
 
 pub nothing : {A : Type 0} {C : Type 0} {x : A} → None ≡ Some x → C
@@ -72,7 +72,7 @@ pub passed_append : (s : Option Standing) (a b : List Event) → passed_all s (a
 passed_append s [] b = refl
 passed_append s (e ∷ a) b = passed_append (passed s e) a b
 
-module _ (leads : Leads) where
+module _ (leads : PartPositions) where
   walked_none : (ss : List Symbol) → walked_all leads None ss ≡ None
   walked_none [] = refl
   walked_none (Sign k ∷ ss) = walked_none ss
@@ -112,12 +112,12 @@ module _ (more : List Position) where
   moved_wider None a t e = nothing e
   moved_wider (Some s) a t e = moved_by_wider (move s.here a) s.around t e
 
-  walked_wider : (leads : Leads) (s : Option Standing) (x : Symbol) (t : Standing) → walked leads s x ≡ Some t → walked leads (wider s more) x ≡ wider (Some t) more
+  walked_wider : (leads : PartPositions) (s : Option Standing) (x : Symbol) (t : Standing) → walked leads s x ≡ Some t → walked leads (wider s more) x ≡ wider (Some t) more
   walked_wider leads s (Sign k) t e = ap (λ o. wider o more) e
   walked_wider leads s (Part n) t e = led_wider (leads n) s ∙ ap (λ o. wider o more) e
   walked_wider leads s (Act a) t e = moved_wider s a t e
 
-  all_wider : (leads : Leads) (ss : List Symbol) (s : Option Standing) (t : Standing) → walked_all leads s ss ≡ Some t → walked_all leads (wider s more) ss ≡ wider (Some t) more
+  all_wider : (leads : PartPositions) (ss : List Symbol) (s : Option Standing) (t : Standing) → walked_all leads s ss ≡ Some t → walked_all leads (wider s more) ss ≡ wider (Some t) more
   all_wider leads [] s t e = ap (λ o. wider o more) e
   all_wider leads (x ∷ ss) s t e = go (walked leads s x) refl e (λ u h. all_wider leads ss (Some u) t h)
     where
@@ -127,12 +127,12 @@ module _ (more : List Position) where
       go None w h again = nothing (sym (walked_none leads ss) ∙ h)
       go (Some u) w h again = ap (λ o. walked_all leads o ss) (walked_wider leads s x u w) ∙ again u h
 
-all_around : (leads : Leads) (ss : List Symbol) (s : Standing) (q : Position) → walked_all leads (Some (alone s.here)) ss ≡ Some (alone q) → walked_all leads (Some s) ss ≡ placed (Some q) s.around
+all_around : (leads : PartPositions) (ss : List Symbol) (s : Standing) (q : Position) → walked_all leads (Some (alone s.here)) ss ≡ Some (alone q) → walked_all leads (Some s) ss ≡ placed (Some q) s.around
 all_around leads ss s q e = all_wider s.around leads ss (Some (alone s.here)) (alone q) e
 
 -- ---- one part
 
-module _ (leads : Leads) where
+module _ (leads : PartPositions) where
   -- what the test says of one pair
   pair_leads : (xs : List (Position × Position)) (body : List Symbol) (p q : Position) → lead_so leads xs body ≡ true → led_from xs p ≡ Some q
       → walked_all leads (Some (alone p)) body ≡ Some (alone q)
@@ -187,12 +187,12 @@ follow_append (Act a ∷ body) ss fresh b h = go (not (has_own_token a) || fresh
 
 -- ---- the rules of a grammar
 
-rule_ordered : (leads : Leads) (rs : List Rule) → are_rules_ordered leads (plain_rules rs) ≡ true → (p : ℕ) (r : Rule) → slice_get rs p ≡ Some r → is_rule_ordered leads (plain_rule r) ≡ true
+rule_ordered : (leads : PartPositions) (rs : List Rule) → are_rules_ordered leads (plain_rules rs) ≡ true → (p : ℕ) (r : Rule) → slice_get rs p ≡ Some r → is_rule_ordered leads (plain_rule r) ≡ true
 rule_ordered leads [] h p r e = nothing e
 rule_ordered leads (x ∷ rs) h zero r e = ap (λ y. is_rule_ordered leads (plain_rule y)) (sym (inner e)) ∙ (both_hold (is_rule_ordered leads (plain_rule x)) (are_rules_ordered leads (plain_rules rs)) h).0
 rule_ordered leads (x ∷ rs) h (suc p) r e = rule_ordered leads rs (both_hold (is_rule_ordered leads (plain_rule x)) (are_rules_ordered leads (plain_rules rs)) h).1 p r e
 
-module _ (g : Grammar) (leads : Leads) (ok : are_rules_ordered leads (plain_rules g.rules.items) ≡ true) where
+module _ (g : Grammar) (leads : PartPositions) (ok : are_rules_ordered leads (plain_rules g.rules.items) ≡ true) where
   rule_leads : (n p : ℕ) (r : Rule) → slice_get g.rules.items p ≡ Some r → r.part ≡ n → lead_so leads (leads n) r.body.items ≡ true
   rule_leads n p r e q = subst (λ m. lead_so leads (leads m) r.body.items ≡ true) q (both_hold (follow_signs false r.body.items) (lead_so leads (leads r.part) r.body.items) (rule_ordered leads g.rules.items ok p r e)).1
 
@@ -301,7 +301,7 @@ own_tokens es h = own_later es false false (λ e. e) h
 
 -- ---- the texts of a grammar
 
-pub orders_texts : (g : Grammar) (leads : Leads) → is_ordered leads (plain_rules g.rules.items) ≡ true → OrdersTexts g
+pub orders_texts : (g : Grammar) (leads : PartPositions) → is_ordered leads (plain_rules g.rules.items) ≡ true → OrdersTexts g
 orders_texts g leads ok ts es d =
     let both = both_hold (is_alone (led (leads 0) (Some (alone at_root))) at_end) (are_rules_ordered leads (plain_rules g.rules.items)) ok in
     let ends : passed_all (Some (alone at_root)) es ≡ Some (alone at_end) = passes g leads both.1 d (Some (alone at_root)) (alone at_end) (alone_there (led (leads 0) (Some (alone at_root))) at_end both.0) in
@@ -327,5 +327,5 @@ reading_in_order g ok many n ts Deep es r =
     let f = r.each v.0 v.1.0 v.1.1 in
     front_in_order es f.0 (subst IsInOrder f.1 (ok (take n ts ++ v.0) v.1.0 v.1.1).0)
 
-pub text_ends : (g : Grammar) → OrdersTexts g → (many n : ℕ) (ts : List ℕ) (es : List Event) → Reads g 0 many ts Text n es → LeadsTo at_root es at_end
+pub text_ends : (g : Grammar) → OrdersTexts g → (many n : ℕ) (ts : List ℕ) (es : List Event) → Reads g 0 many ts Text n es → LeadsToPosition at_root es at_end
 text_ends g ok many n ts es r = (ok (take n ts) es r.2).1

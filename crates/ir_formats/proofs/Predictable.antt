@@ -13,7 +13,7 @@ use Rattle.ir_grammar.specs.declared.grammar.Facts.{Facts}
 use Rattle.ir_grammar.specs.declared.grammar.Grammar.{Grammar}
 use Rattle.ir_grammar.specs.Grammar.{accepts, accepted}
 use Rattle.ir_grammar.specs.Reading.{begins_member}
-use Rattle.ir_grammar.specs.Table.{chosen, pick, may_follow, closing_of, is_solid, cost_of, OpensIn, Begins, IsFineIn, has_solid, height, IsKnown, IsBelow, FitsRule, HasShortest, IsRuleOf, IsChoice, CanRead}
+use Rattle.ir_grammar.specs.Table.{chosen, pick, may_follow, closing_of, is_solid, cost_of, OpensIn, BeginsAtColumn, IsFineIn, has_solid, height, AreKnownSymbols, RanksAreBelow, FitsRule, HasShortest, IsRuleOf, IsChoice, CanRead}
 use Rattle.ir_print.specs.Formats.{Formats}
 use Rattle.ir_formats.specs.Given.{PlainPart, dense, grammar_value}
 use Rattle.ir_formats.specs.Rules.{plain_rule, plain_rules, plain_classes, texts, words_of, rules_of, classes_of}
@@ -195,14 +195,14 @@ module _ (g : Grammar) where
   kind_at : (s : ℕ) → list_any (λ b. b) (sign_row (slice_get (plain_grammar g).signs s)) ≡ true → (k : ℕ) × (accepts g s k ≡ true)
   kind_at s e = let h = any_at (sign_row (slice_get (plain_grammar g).signs s)) e in (h.0, accepts_is s h.0 ∙ h.1)
 
-  known_at : (ss : List Symbol) → is_known (plain_grammar g) ss ≡ true → IsKnown g ss
+  known_at : (ss : List Symbol) → is_known (plain_grammar g) ss ≡ true → AreKnownSymbols g ss
   known_at [] e = tt
   known_at (Sign s ∷ ss) e = let two = both_hold (list_any (λ b. b) (sign_row (slice_get (plain_grammar g).signs s))) (is_known (plain_grammar g) ss) e in (kind_at s two.0, known_at ss two.1)
   known_at (Act a ∷ ss) e = known_at ss e
   known_at (Part m ∷ ss) e = let two = both_hold (is_some (slice_get (plain_grammar g).parts m)) (is_known (plain_grammar g) ss) e in
       (some_facts (slice_get g.parts.items m) (ap is_some (sym (part_is m)) ∙ two.0), known_at ss two.1)
 
-  below_at : (k : ℕ) (ss : List Symbol) → is_below (plain_grammar g) k ss ≡ true → IsBelow g k ss
+  below_at : (k : ℕ) (ss : List Symbol) → is_below (plain_grammar g) k ss ≡ true → RanksAreBelow g k ss
   below_at k [] e = tt
   below_at k (Sign s ∷ ss) e = let two = both_hold (list_any (λ b. b) (sign_row (slice_get (plain_grammar g).signs s))) (is_below (plain_grammar g) k ss) e in (kind_at s two.0, below_at k ss two.1)
   below_at k (Act a ∷ ss) e = below_at k ss e
@@ -221,7 +221,7 @@ module _ (g : Grammar) where
   height_is (Act a ∷ ss) = ap suc (height_is ss)
   height_is (Part m ∷ ss) = rw (solids_is m, costs_is m, height_is ss) refl
 
-  begins_at : (ss : List Symbol) (c : ℕ) → begins (plain_grammar g) ss c ≡ true → Begins g ss c
+  begins_at : (ss : List Symbol) (c : ℕ) → begins (plain_grammar g) ss c ≡ true → BeginsAtColumn g ss c
   begins_at [] c e = cc
   begins_at (Sign s ∷ ss) zero e = cc
   begins_at (Sign s ∷ ss) (suc k) e = (k, refl, accepts_is s k ∙ e)
@@ -237,11 +237,11 @@ module _ (g : Grammar) where
   rule_of_at n None e = cc
   rule_of_at n (Some r) e = (r, refl, eqb-true r.part n e)
 
-  goes_at : (n c : ℕ) (o : Option Rule) → goes_on (plain_grammar g) n c (option_map plain_rule o) ≡ true → (r : Rule) × (o ≡ Some r) × (r.part ≡ n) × Begins g r.body.items c
+  goes_at : (n c : ℕ) (o : Option Rule) → goes_on (plain_grammar g) n c (option_map plain_rule o) ≡ true → (r : Rule) × (o ≡ Some r) × (r.part ≡ n) × BeginsAtColumn g r.body.items c
   goes_at n c None e = cc
   goes_at n c (Some r) e = let two = both_hold (r.part == n) (begins (plain_grammar g) r.body.items c) e in (r, refl, eqb-true r.part n two.0, begins_at r.body.items c two.1)
 
-  shortest_at : (n k : ℕ) (o : Option Rule) → is_shortest (plain_grammar g) n k (option_map plain_rule o) ≡ true → (r : Rule) × (o ≡ Some r) × (r.part ≡ n) × IsBelow g k r.body.items
+  shortest_at : (n k : ℕ) (o : Option Rule) → is_shortest (plain_grammar g) n k (option_map plain_rule o) ≡ true → (r : Rule) × (o ≡ Some r) × (r.part ≡ n) × RanksAreBelow g k r.body.items
   shortest_at n k None e = cc
   shortest_at n k (Some r) e = let two = both_hold (r.part == n) (is_below (plain_grammar g) k r.body.items) e in (r, refl, eqb-true r.part n two.0, below_at k r.body.items two.1)
 

@@ -5,7 +5,7 @@ use Rattle.ir_grammar.specs.declared.grammar.Symbol.{Symbol}
 use Rattle.ir_formats.specs.declared.rules.KindText.{KindText}
 use Rattle.ir_formats.specs.declared.rules.KindTexts.{KindTexts}
 use Rattle.ir_formats.specs.declared.rules.RuleMaker.{RuleMaker}
-use Rattle.ir_formats.specs.Rules.{Made, PlainRule, plain_rules}
+use Rattle.ir_formats.specs.Rules.{MadeOfSteps, PlainRule, plain_rules}
 
 -- a kind as a value
 abbrev pub kind_of : KindText → Kind
@@ -26,10 +26,10 @@ pub record AddsRules (old new : RuleMaker) (added : List PlainRule) (part : ℕ)
   pub words : new.words ≡ old.words
 
 -- The maker has the rules that were made, and these symbols stand behind those that were there.
-pub record Adds (old new : RuleMaker) (before after : List Symbol) (made : Made) : Type 0 where
+pub record AddsSymbolsAndRules (old new : RuleMaker) (before after : List Symbol) (made : MadeOfSteps) : Type 0 where
   pub rules : AddsRules old new made.rules made.next
   pub symbols : after ≡ before ++ made.symbols
 
 -- the maker has the rules that were made
-abbrev pub AddsMade : RuleMaker → RuleMaker → Made → Type 0
+abbrev pub AddsMade : RuleMaker → RuleMaker → MadeOfSteps → Type 0
 AddsMade old new made = AddsRules old new made.rules made.next

@@ -49,8 +49,8 @@ passed_all s [] = s
 passed_all s (e ∷ es) = passed_all (passed s e) es
 
 -- From one position with nothing around, what is done leads to the other with nothing around.
-abbrev pub LeadsTo : Position → List Event → Position → Type 0
-LeadsTo p es q = passed_all (Some (alone p)) es ≡ Some (alone q)
+abbrev pub LeadsToPosition : Position → List Event → Position → Type 0
+LeadsToPosition p es q = passed_all (Some (alone p)) es ≡ Some (alone q)
 
 -- ---- the test
 
@@ -76,8 +76,8 @@ abbrev pub is_same_position : Position → Position → Bool
 is_same_position p q = number_of_position p == number_of_position q
 
 -- What is known of the parts of a grammar: for each at which positions it may stand, and the position that it leads to from there.
-abbrev pub Leads : Type 0
-Leads = ℕ → List (Position × Position)
+abbrev pub PartPositions : Type 0
+PartPositions = ℕ → List (Position × Position)
 
 -- the first of the pairs that begins at a position says where it leads to
 abbrev pub led_from : List (Position × Position) → Position → Option Position
@@ -95,13 +95,13 @@ led xs None = None
 led xs (Some s) = placed (led_from xs s.here) s.around
 
 -- where a symbol leads to
-abbrev pub walked : Leads → Option Standing → Symbol → Option Standing
+abbrev pub walked : PartPositions → Option Standing → Symbol → Option Standing
 walked leads s (Sign k) = s
 walked leads s (Part n) = led (leads n) s
 walked leads s (Act a) = moved s a
 
 -- where symbols lead to, one after the other
-abbrev pub walked_all : Leads → Option Standing → List Symbol → Option Standing
+abbrev pub walked_all : PartPositions → Option Standing → List Symbol → Option Standing
 walked_all leads s [] = s
 walked_all leads s (x ∷ xs) = walked_all leads (walked leads s x) xs
 
@@ -115,7 +115,7 @@ is_alone None q = false
 is_alone (Some s) q = is_alone_at s.here s.around q
 
 -- from the first position of each pair the symbols lead to the second
-abbrev pub lead_so : Leads → List (Position × Position) → List Symbol → Bool
+abbrev pub lead_so : PartPositions → List (Position × Position) → List Symbol → Bool
 lead_so leads [] ss = true
 lead_so leads (x ∷ xs) ss = is_alone (walked_all leads (Some (alone x.0)) ss) x.1 && lead_so leads xs ss
 
@@ -127,15 +127,15 @@ follow_signs fresh (Part n ∷ ss) = follow_signs false ss
 follow_signs fresh (Act a ∷ ss) = (not (has_own_token a) || fresh) && follow_signs false ss
 
 -- a rule leads to where its part is to lead, and its actions follow their tokens
-abbrev pub is_rule_ordered : Leads → PlainRule → Bool
+abbrev pub is_rule_ordered : PartPositions → PlainRule → Bool
 is_rule_ordered leads r = follow_signs false r.1 && lead_so leads (leads r.0) r.1
 
-abbrev pub are_rules_ordered : Leads → List PlainRule → Bool
+abbrev pub are_rules_ordered : PartPositions → List PlainRule → Bool
 are_rules_ordered leads [] = true
 are_rules_ordered leads (r ∷ rs) = is_rule_ordered leads r && are_rules_ordered leads rs
 
 -- The rules are ordered, and part 0 leads from the root to the end.
-abbrev pub is_ordered : Leads → List PlainRule → Bool
+abbrev pub is_ordered : PartPositions → List PlainRule → Bool
 is_ordered leads rules = is_alone (led (leads 0) (Some (alone at_root))) at_end && are_rules_ordered leads rules
 
 -- ---- the parts of each grammar
@@ -185,7 +185,7 @@ abbrev pub list_leads : List (Position × Position)
 list_leads = stays in_list ∷ []
 
 -- With this of the parts of lists, from 14 on. A list has two parts: its members, and what follows a member.
-abbrev pub leads_with : List (List (Position × Position)) → Leads
+abbrev pub leads_with : List (List (Position × Position)) → PartPositions
 leads_with lists n = slice_index_or (frame_leads ++ lists) n []
 
 -- ---- what it tells
@@ -199,4 +199,4 @@ pub record IsInOrder (es : List Event) : Type 0 where
 
 -- of each text of part 0 what reading does is in order, and ends where nothing is begun any more
 abbrev pub OrdersTexts : Grammar → Type 0
-OrdersTexts g = (ts : List ℕ) (es : List Event) → IsTextOf g 0 ts es → IsInOrder es × LeadsTo at_root es at_end
+OrdersTexts g = (ts : List ℕ) (es : List Event) → IsTextOf g 0 ts es → IsInOrder es × LeadsToPosition at_root es at_end

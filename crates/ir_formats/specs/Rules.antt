@@ -210,21 +210,21 @@ several n separator member =
     ∷ []
 
 -- What steps of a format make: symbols, rules of their own, and the number of the next list's part.
-pub record Made : Type 0 where
+pub record MadeOfSteps : Type 0 where
   pub symbols : List Symbol
   pub rules : List PlainRule
   pub next : ℕ
 
 -- symbols alone
-abbrev pub just : List Symbol → ℕ → Made
+abbrev pub just : List Symbol → ℕ → MadeOfSteps
 just symbols n = record { symbols = symbols; rules = []; next = n }
 
 -- the first, and then the second
-abbrev pub both : Made → Made → Made
+abbrev pub both : MadeOfSteps → MadeOfSteps → MadeOfSteps
 both a b = record { symbols = a.symbols ++ b.symbols; rules = a.rules ++ b.rules; next = b.next }
 
 -- a list with this separator, given what its member makes
-abbrev pub list_made : ℕ → Symbol → Made → Made
+abbrev pub list_made : ℕ → Symbol → MadeOfSteps → MadeOfSteps
 list_made n separator member = record {
   symbols = Act act.BeginList ∷ Part n ∷ Act act.EndList ∷ [];
   rules = member.rules ++ several n separator (Act act.BeginItem ∷ (member.symbols ++ Act act.EndItem ∷ []));
@@ -233,7 +233,7 @@ list_made n separator member = record {
 
 abbrev mutual
   -- what a step makes, n being the part of the next list
-  pub step_made : List (List ℕ) → Step → ℕ → Made
+  pub step_made : List (List ℕ) → Step → ℕ → MadeOfSteps
   step_made ws (word printed w) n = just (sign ws w ∷ []) n
   step_made ws operands n = record {
     symbols = Act act.BeginOperands ∷ Part n ∷ Act act.EndOperands ∷ [];
@@ -251,7 +251,7 @@ abbrev mutual
   step_made ws (list_of member printed separator) n = list_made n (sign ws separator) (steps_made ws member (up n 2))
 
   -- what the steps of a format make
-  pub steps_made : List (List ℕ) → Steps → ℕ → Made
+  pub steps_made : List (List ℕ) → Steps → ℕ → MadeOfSteps
   steps_made ws no_steps n = just [] n
   steps_made ws (step s ss) n = let a = step_made ws s n in both a (steps_made ws ss a.next)
 
@@ -280,7 +280,7 @@ kinds_of f sort.«Type» = f.types
 kinds_of f sort.Attribute = f.attributes
 
 -- The rule of a kind with this number, behind those of its lists: its id, and between two actions what its format says.
-abbrev pub kind_made : List (List ℕ) → Sort → ℕ → Kind → ℕ → Made
+abbrev pub kind_made : List (List ℕ) → Sort → ℕ → Kind → ℕ → MadeOfSteps
 kind_made ws s i k n = let m = steps_made ws k.format n in record {
   symbols = [];
   rules = m.rules ++ (part_of s, sign ws k.id ∷ Act (begin_of s i) ∷ (m.symbols ++ Act (end_of s) ∷ [])) ∷ [];
@@ -288,12 +288,12 @@ kind_made ws s i k n = let m = steps_made ws k.format n in record {
 }
 
 -- the rules of kinds, with numbers from this one on
-abbrev pub kinds_made : List (List ℕ) → Sort → ℕ → List Kind → ℕ → Made
+abbrev pub kinds_made : List (List ℕ) → Sort → ℕ → List Kind → ℕ → MadeOfSteps
 kinds_made ws s i [] n = just [] n
 kinds_made ws s i (k ∷ ks) n = let a = kind_made ws s i k n in both a (kinds_made ws s (suc i) ks a.next)
 
 -- all that the kinds of a dialect make
-abbrev pub formats_made : List (List ℕ) → Formats → Made
+abbrev pub formats_made : List (List ℕ) → Formats → MadeOfSteps
 formats_made ws f =
     let a = kinds_made ws sort.Operation 0 f.operations 14 in
     let b = kinds_made ws sort.«Type» 0 f.types a.next in

@@ -4,10 +4,10 @@ ghost use Rattle.ir_print.specs.Formats.{is_small, operand, operands, step_of, s
 ghost use Rattle.ir_formats.specs.Rules.{up, texts, number_of, with_word, with_words, words_in, words_in_step, words_of, words_of_kinds, frame_words, sign, may_be_name, takes, class_of, classes_of, several, step_made, steps_made, kind_made, kinds_made, part_of, begin_of, end_of, operation_rules, region_rules, block_rules, argument_rules, rules_of, parts_of, plain_rule, plain_rules, plain_classes};
 ghost use Rattle.ir_grammar.specs.Table.{CanRead};
 ghost use Rattle.ir_formats.specs.Given.{grammar_value, plain_part};
-ghost use Rattle.ir_formats.specs.Ordered.{Leads, OrdersTexts, is_ordered};
+ghost use Rattle.ir_formats.specs.Ordered.{PartPositions, OrdersTexts, is_ordered};
 ghost use Rattle.ir_formats.specs.Predicting.{fits};
 ghost use Rattle.ir_formats.specs.Words.{shape_number};
-ghost use Rattle.ir_formats.specs.Making.{kind_of, formats_of, Adds, AddsRules, AddsMade};
+ghost use Rattle.ir_formats.specs.Making.{kind_of, formats_of, AddsSymbolsAndRules, AddsRules, AddsMade};
 
 use crate::given::{PartTable, facts_of};
 use ir_grammar::grammar::{Action, Class, Facts, Grammar, Rule, Symbol};
@@ -307,7 +307,7 @@ impl RuleMaker {
     /// Puts what a format stands for behind these symbols.
     #[cycle(formats)]
     fn format(&mut self, symbols: &mut Vec<Symbol>, format: &[Directive]) -> Result<(), AllocError>
-        ensures { OnOk result (Adds self.old self.new symbols.old.items symbols.new.items
+        ensures { OnOk result (AddsSymbolsAndRules self.old self.new symbols.old.items symbols.new.items
             (steps_made (texts self.old.words.items) (steps_of format.now) self.old.next_list)) }
     {
         for directive in format {
@@ -322,7 +322,7 @@ impl RuleMaker {
         symbols: &mut Vec<Symbol>,
         directive: Directive,
     ) -> Result<(), AllocError>
-        ensures { OnOk result (Adds self.old self.new symbols.old.items symbols.new.items
+        ensures { OnOk result (AddsSymbolsAndRules self.old self.new symbols.old.items symbols.new.items
             (step_made (texts self.old.words.items) (step_of directive) self.old.next_list)) }
     {
         let name = Symbol::Sign(NAME_SIGN);
@@ -367,7 +367,7 @@ impl RuleMaker {
 
     /// Names of values, none or more, with commas between them.
     fn operands(&mut self, symbols: &mut Vec<Symbol>) -> Result<(), AllocError>
-        ensures { OnOk result (Adds self.old self.new symbols.old.items symbols.new.items
+        ensures { OnOk result (AddsSymbolsAndRules self.old self.new symbols.old.items symbols.new.items
             (step_made (texts self.old.words.items) operands self.old.next_list)) }
     {
         let list = self.list_part();
@@ -380,7 +380,7 @@ impl RuleMaker {
 
     /// The name of one value, as the only operand between the actions that begin and end operands.
     fn operand(&self, symbols: &mut Vec<Symbol>) -> Result<(), AllocError>
-        ensures { OnOk result (Adds self.now self.now symbols.old.items symbols.new.items
+        ensures { OnOk result (AddsSymbolsAndRules self.now self.now symbols.old.items symbols.new.items
             (step_made (texts self.now.words.items) operand self.now.next_list)) }
     {
         symbols.push(Symbol::Act(Action::BeginOperands))?;
@@ -605,7 +605,8 @@ pub fn grammar_of_kinds(
     ensures signs { IfOk result (λ g. plain_classes g.grammar.signs.items
         ≡ classes_of (words_of (formats_of kinds.now))) }
     ensures can_read { IfOk result (λ g. CanRead g.grammar 0) }
-    ensures ordered { IfOk result (λ g. (leads : Leads) → is_ordered leads (rules_of (formats_of kinds.now)) ≡ true
+    ensures ordered { IfOk result (λ g. (leads : PartPositions)
+        → is_ordered leads (rules_of (formats_of kinds.now)) ≡ true
         → OrdersTexts g.grammar) }
 {
     let words = words_of(alloc, kinds)?;

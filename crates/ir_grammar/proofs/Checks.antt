@@ -9,7 +9,7 @@ use Rattle.ir_grammar.specs.declared.grammar.Symbol.TheVariants.{Sign, Part, Act
 use Rattle.ir_grammar.specs.declared.grammar.Facts.{Facts}
 use Rattle.ir_grammar.specs.declared.grammar.Grammar.{Grammar}
 use Rattle.ir_grammar.specs.Grammar.{accepts}
-use Rattle.ir_grammar.specs.Table.{IsKnown, IsBelow, chosen, closing_of}
+use Rattle.ir_grammar.specs.Table.{AreKnownSymbols, RanksAreBelow, chosen, closing_of}
 
 -- the symbol at i
 pub item_drop : (body : List Symbol) (i : ℕ) (d s : Symbol) → i < length body → get_or body i d ≡ s → drop i body ≡ s ∷ drop (i + 1) body
@@ -21,22 +21,22 @@ known_by_cases (x ∷ xs) zero lt = (x, refl)
 known_by_cases (x ∷ xs) (suc n) lt = known_by_cases xs n (omega arith)
 
 module _ (g : Grammar) where
-  pub known_sign : (body : List Symbol) (i k : ℕ) (d : Symbol) → i < length body → get_or body i d ≡ Sign k → ((j : ℕ) × (accepts g k j ≡ true)) → IsKnown g (drop (i + 1) body) → IsKnown g (drop i body)
+  pub known_sign : (body : List Symbol) (i k : ℕ) (d : Symbol) → i < length body → get_or body i d ≡ Sign k → ((j : ℕ) × (accepts g k j ≡ true)) → AreKnownSymbols g (drop (i + 1) body) → AreKnownSymbols g (drop i body)
   known_sign body i k d lt e some h = rw (item_drop body i d (Sign k) lt e) (some, h)
 
-  pub known_act : (body : List Symbol) (i : ℕ) (k : Action) (d : Symbol) → i < length body → get_or body i d ≡ Act k → IsKnown g (drop (i + 1) body) → IsKnown g (drop i body)
+  pub known_act : (body : List Symbol) (i : ℕ) (k : Action) (d : Symbol) → i < length body → get_or body i d ≡ Act k → AreKnownSymbols g (drop (i + 1) body) → AreKnownSymbols g (drop i body)
   known_act body i k d lt e h = rw (item_drop body i d (Act k) lt e) h
 
-  pub known_next : (body : List Symbol) (i n : ℕ) (d : Symbol) → i < length body → get_or body i d ≡ Part n → n < length g.parts.items → IsKnown g (drop (i + 1) body) → IsKnown g (drop i body)
+  pub known_next : (body : List Symbol) (i n : ℕ) (d : Symbol) → i < length body → get_or body i d ≡ Part n → n < length g.parts.items → AreKnownSymbols g (drop (i + 1) body) → AreKnownSymbols g (drop i body)
   known_next body i n d lt e small h = rw (item_drop body i d (Part n) lt e) (known_by_cases g.parts.items n small, h)
 
-  pub below_sign : (rank : ℕ) (body : List Symbol) (i k : ℕ) (d : Symbol) → i < length body → get_or body i d ≡ Sign k → ((j : ℕ) × (accepts g k j ≡ true)) → IsBelow g rank (drop (i + 1) body) → IsBelow g rank (drop i body)
+  pub below_sign : (rank : ℕ) (body : List Symbol) (i k : ℕ) (d : Symbol) → i < length body → get_or body i d ≡ Sign k → ((j : ℕ) × (accepts g k j ≡ true)) → RanksAreBelow g rank (drop (i + 1) body) → RanksAreBelow g rank (drop i body)
   below_sign rank body i k d lt e some h = rw (item_drop body i d (Sign k) lt e) (some, h)
 
-  pub below_act : (rank : ℕ) (body : List Symbol) (i : ℕ) (k : Action) (d : Symbol) → i < length body → get_or body i d ≡ Act k → IsBelow g rank (drop (i + 1) body) → IsBelow g rank (drop i body)
+  pub below_act : (rank : ℕ) (body : List Symbol) (i : ℕ) (k : Action) (d : Symbol) → i < length body → get_or body i d ≡ Act k → RanksAreBelow g rank (drop (i + 1) body) → RanksAreBelow g rank (drop i body)
   below_act rank body i k d lt e h = rw (item_drop body i d (Act k) lt e) h
 
-  pub below_next : (rank : ℕ) (body : List Symbol) (i n : ℕ) (d : Symbol) (f : Facts) → i < length body → get_or body i d ≡ Part n → slice_get g.parts.items n ≡ Some f → f.rank < rank → IsBelow g rank (drop (i + 1) body) → IsBelow g rank (drop i body)
+  pub below_next : (rank : ℕ) (body : List Symbol) (i n : ℕ) (d : Symbol) (f : Facts) → i < length body → get_or body i d ≡ Part n → slice_get g.parts.items n ≡ Some f → f.rank < rank → RanksAreBelow g rank (drop (i + 1) body) → RanksAreBelow g rank (drop i body)
   below_next rank body i n d f lt e at small h = rw (item_drop body i d (Part n) lt e) ((f, at, small), h)
 
 -- a choice at each column

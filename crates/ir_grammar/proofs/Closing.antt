@@ -10,10 +10,10 @@ use Rattle.ir_grammar.specs.declared.grammar.Event.TheVariants.{Took, Did}
 use Rattle.ir_grammar.specs.declared.grammar.Rule.{Rule}
 use Rattle.ir_grammar.specs.declared.grammar.Grammar.{Grammar}
 use Rattle.ir_grammar.specs.Grammar.{Derives, Finished, Shifted, Acted, Expanded, IsTextOf}
-use Rattle.ir_grammar.specs.Table.{column_of, pick, closing_of, Begins, IsFine, IsKnown, IsPredictive}
+use Rattle.ir_grammar.specs.Table.{column_of, pick, closing_of, BeginsAtColumn, IsFine, AreKnownSymbols, IsPredictive}
 use Rattle.ir_grammar.specs.declared.grammar.Stop.TheVariants.{Text, Stuck}
 use Rattle.ir_grammar.specs.Reading.{through, tooks, IsPrefix, OnlyBegins, IsMostly}
-use Rattle.ir_grammar.specs.Run.{Leads, Closes, Ends}
+use Rattle.ir_grammar.specs.Run.{LeadsToStack, Closes, Ends}
 use Rattle.ir_grammar.proofs.Derivations.{after_none, after_sign, after_act, after_part, tooks_append, picks, fine_expanded, text_of}
 
 -- of what is done, what comes after the tokens of its front
@@ -46,7 +46,7 @@ mostly : (did all more : List Event) (ts : List ℕ) (n : ℕ) → tooks did ≡
 mostly did all more ts n took e goes = (goes.2, ap (λ x. through x n) e ∙ through_goes did more goes.2 goes.3 n took goes.5 goes.6, goes.6)
 
 module _ (g : Grammar) where
-  pub begins_append : (body ss : List Symbol) (c : ℕ) → Begins g body c → Begins g (body ++ ss) c
+  pub begins_append : (body ss : List Symbol) (c : ℕ) → BeginsAtColumn g body c → BeginsAtColumn g (body ++ ss) c
   begins_append [] ss c b = absurd b
   begins_append (Sign s ∷ body) ss c b = b
   begins_append (Act a ∷ body) ss c b = (b.0, begins_append body ss c b.1)
@@ -54,7 +54,7 @@ module _ (g : Grammar) where
 
 module _ (g : Grammar) (ok : IsPredictive g) where
   -- what goes on takes a token, and does nothing before it but begin members
-  begins_goes : {ss : List Symbol} {ts : List ℕ} {es : List Event} → Derives g ss ts es → IsFine g ss → Begins g ss (column_of ts) → Goes ts es
+  begins_goes : {ss : List Symbol} {ts : List ℕ} {es : List Event} → Derives g ss ts es → IsFine g ss → BeginsAtColumn g ss (column_of ts) → Goes ts es
   begins_goes Finished h b = absurd b
   begins_goes (Shifted {k = k} {ts = ts} {es = es} a d) h b = (k, ts, [], es, refl, refl, tt)
   begins_goes (Acted {a} d) h b = let x = begins_goes d h b.1 in (x.0, x.1, Did a ∷ x.2, x.3, x.4, ap (λ y. Did a ∷ y) x.5, (b.0, x.6))
@@ -65,10 +65,10 @@ module _ (g : Grammar) (ok : IsPredictive g) where
       let fine = fine_expanded g ok p r ss e (subst (λ m. IsFine g (Part m ∷ ss)) (sym q) h) in
       elim (x.3) [
         | inl closing ↦ absurd (b.2 (let two : pick g n (column_of ts) ≡ Some b.0 = b.1 in cc))
-        | inr begins ↦ begins_goes d fine (begins_append g r.body.items ss (column_of ts) (subst (λ y. Begins g y.body.items (column_of ts)) same begins))
+        | inr begins ↦ begins_goes d fine (begins_append g r.body.items ss (column_of ts) (subst (λ y. BeginsAtColumn g y.body.items (column_of ts)) same begins))
       ]
 
-  pub closes_first : (root : ℕ) (done : List ℕ) (did : List Event) (stack : List Symbol) → Leads g root done did stack → Closes g root done did stack
+  pub closes_first : (root : ℕ) (done : List ℕ) (did : List Event) (stack : List Symbol) → LeadsToStack g root done did stack → Closes g root done did stack
   closes_first root done did stack l = record { took = l.took; on = l.on; back = λ ts all d. inr (l.back ts all d) }
 
   pub closes_acted : (root : ℕ) (done : List ℕ) (did : List Event) (a : Action) (ss : List Symbol) → Closes g root done did (Act a ∷ ss) → Closes g root done (did ++ Did a ∷ []) ss
@@ -104,7 +104,7 @@ module _ (g : Grammar) (ok : IsPredictive g) where
           ]
 
   -- where nothing more may end
-  stops : (root : ℕ) (done : List ℕ) (did : List Event) (stack : List Symbol) → IsKnown g stack → ((ts : List ℕ) (more : List Event) → Derives g stack ts more → Goes ts more)
+  stops : (root : ℕ) (done : List ℕ) (did : List Event) (stack : List Symbol) → AreKnownSymbols g stack → ((ts : List ℕ) (more : List Event) → Derives g stack ts more → Goes ts more)
       → Closes g root done did stack → Ends g root done Stuck did
   stops root done did stack known goes l =
       let t = text_of g ok stack known in
@@ -122,10 +122,10 @@ module _ (g : Grammar) (ok : IsPredictive g) where
         ],
       )
 
-  pub stops_sign : (root : ℕ) (done : List ℕ) (did : List Event) (s : ℕ) (ss : List Symbol) → IsKnown g (Sign s ∷ ss) → Closes g root done did (Sign s ∷ ss) → Ends g root done Stuck did
+  pub stops_sign : (root : ℕ) (done : List ℕ) (did : List Event) (s : ℕ) (ss : List Symbol) → AreKnownSymbols g (Sign s ∷ ss) → Closes g root done did (Sign s ∷ ss) → Ends g root done Stuck did
   stops_sign root done did s ss known l = stops root done did (Sign s ∷ ss) known (λ ts more d. let a = after_sign d in (a.0, a.1, [], a.2, a.3, a.4, tt)) l
 
-  pub stops_part : (root : ℕ) (done : List ℕ) (did : List Event) (n : ℕ) (ss : List Symbol) → IsFine g (Part n ∷ ss) → IsKnown g (Part n ∷ ss) → closing_of (slice_get g.parts.items n) ≡ None
+  pub stops_part : (root : ℕ) (done : List ℕ) (did : List Event) (n : ℕ) (ss : List Symbol) → IsFine g (Part n ∷ ss) → AreKnownSymbols g (Part n ∷ ss) → closing_of (slice_get g.parts.items n) ≡ None
       → Closes g root done did (Part n ∷ ss) → Ends g root done Stuck did
   stops_part root done did n ss fine known none l =
       stops root done did (Part n ∷ ss) known (λ ts more d. let a = after_part d in begins_goes d fine (a.0, picks g ok ss a.1 a.2 a.3 fine a.4, λ c. cc)) l

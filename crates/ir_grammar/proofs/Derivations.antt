@@ -10,9 +10,9 @@ use Rattle.ir_grammar.specs.declared.grammar.Rule.{Rule}
 use Rattle.ir_grammar.specs.declared.grammar.Facts.{Facts}
 use Rattle.ir_grammar.specs.declared.grammar.Grammar.{Grammar}
 use Rattle.ir_grammar.specs.Grammar.{accepts, Derives, Finished, Shifted, Acted, Expanded, IsTextOf, IsViable}
-use Rattle.ir_grammar.specs.Table.{column_of, pick, Follows, is_solid, cost_of, Opens, OpensIn, IsFine, IsFineIn, has_solid, height, IsKnown, IsBelow, IsPredictive}
+use Rattle.ir_grammar.specs.Table.{column_of, pick, MayFollowPart, is_solid, cost_of, Opens, OpensIn, IsFine, IsFineIn, has_solid, height, AreKnownSymbols, RanksAreBelow, IsPredictive}
 use Rattle.ir_grammar.specs.Reading.{tooks}
-use Rattle.ir_grammar.specs.Run.{Leads, LeadsAt, IsStuck}
+use Rattle.ir_grammar.specs.Run.{LeadsToStack, LeadsAt, IsStuck}
 
 -- a derivation by what stands first
 pub after_none : {g : Grammar} {ts : List ℕ} {es : List Event} → Derives g [] ts es → (ts ≡ []) × (es ≡ [])
@@ -36,19 +36,19 @@ tooks_append (Took ∷ a) b = omega (arith, tooks_append a b)
 tooks_append (Did x ∷ a) b = tooks_append a b
 
 module _ (g : Grammar) where
-  opens_in : (n : ℕ) (body ss : List Symbol) → ((c : ℕ) → Opens g ss c → Follows g n c) → (c : ℕ) → Opens g (body ++ ss) c → OpensIn g n body c
+  opens_in : (n : ℕ) (body ss : List Symbol) → ((c : ℕ) → Opens g ss c → MayFollowPart g n c) → (c : ℕ) → Opens g (body ++ ss) c → OpensIn g n body c
   opens_in n [] ss f c o = f c o
   opens_in n (Sign k ∷ body) ss f c o = o
   opens_in n (Act a ∷ body) ss f c o = opens_in n body ss f c o
   opens_in n (Part m ∷ body) ss f c o = o
 
-  fine_append : (n : ℕ) (body ss : List Symbol) → ((c : ℕ) → Opens g ss c → Follows g n c) → IsFineIn g n body → IsFine g ss → IsFine g (body ++ ss)
+  fine_append : (n : ℕ) (body ss : List Symbol) → ((c : ℕ) → Opens g ss c → MayFollowPart g n c) → IsFineIn g n body → IsFine g ss → IsFine g (body ++ ss)
   fine_append n [] ss f b s = s
   fine_append n (Sign k ∷ body) ss f b s = fine_append n body ss f b s
   fine_append n (Act a ∷ body) ss f b s = fine_append n body ss f b s
   fine_append n (Part m ∷ body) ss f b s = (λ c o. b.0 c (opens_in n body ss f c o), fine_append n body ss f b.1 s)
 
-  pub known_append : (body ss : List Symbol) → IsKnown g body → IsKnown g ss → IsKnown g (body ++ ss)
+  pub known_append : (body ss : List Symbol) → AreKnownSymbols g body → AreKnownSymbols g ss → AreKnownSymbols g (body ++ ss)
   known_append [] ss b s = s
   known_append (Sign k ∷ body) ss b s = (b.0, known_append body ss b.1 s)
   known_append (Act a ∷ body) ss b s = known_append body ss b s
@@ -166,7 +166,7 @@ module _ (g : Grammar) (ok : IsPredictive g) where
 
   -- the token that stands there
   pub leads_shifted : (root : ℕ) (done : List ℕ) (did : List Event) (s k : ℕ) (ss : List Symbol) → accepts g s k ≡ true
-      → LeadsAt g root done did (Sign s ∷ ss) (suc k) → Leads g root (done ++ k ∷ []) (did ++ Took ∷ []) ss
+      → LeadsAt g root done did (Sign s ∷ ss) (suc k) → LeadsToStack g root (done ++ k ∷ []) (did ++ Took ∷ []) ss
   leads_shifted root done did s k ss yes' l = record {
     took = tooks_append did (Took ∷ []) ∙ omega (arith, l.took, length-append done (k ∷ []));
     on = λ ts more d. subst (λ x. IsTextOf g root x ((did ++ Took ∷ []) ++ more)) (sym (append_assoc done (k ∷ []) ts))
@@ -180,7 +180,7 @@ module _ (g : Grammar) (ok : IsPredictive g) where
           let e : a.1 ≡ ts = cc in
           (a.2, x.1 ∙ (ap (λ y. did ++ y) a.4 ∙ sym (append_assoc did (Took ∷ []) a.2)), subst (λ y. Derives g ss y a.2) e a.6)
 
-  pub leads_at : (root : ℕ) (done : List ℕ) (did : List Event) (stack : List Symbol) (c : ℕ) → Leads g root done did stack → LeadsAt g root done did stack c
+  pub leads_at : (root : ℕ) (done : List ℕ) (did : List Event) (stack : List Symbol) (c : ℕ) → LeadsToStack g root done did stack → LeadsAt g root done did stack c
   leads_at root done did stack c l = record { took = l.took; on = l.on; back = λ ts all _ d. l.back ts all d }
 
 pub derives_append : (g : Grammar) (b : List Symbol) (us : List ℕ) (more : List Event) → Derives g b us more → {a : List Symbol} {ts : List ℕ} {es : List Event} → Derives g a ts es → Derives g (a ++ b) (ts ++ us) (es ++ more)
@@ -201,40 +201,40 @@ module _ (g : Grammar) (ok : IsPredictive g) where
   text_acted : (a : Action) (ss : List Symbol) → HasText ss → HasText (Act a ∷ ss)
   text_acted a ss t = (t.0, Did a ∷ t.1, Acted t.2)
 
-  text_expanded : (n : ℕ) (f : Facts) (ss : List Symbol) → slice_get g.parts.items n ≡ Some f → ((r : Rule) → slice_get g.rules.items f.shortest ≡ Some r → IsBelow g f.rank r.body.items → HasText r.body.items) → HasText ss → HasText (Part n ∷ ss)
+  text_expanded : (n : ℕ) (f : Facts) (ss : List Symbol) → slice_get g.parts.items n ≡ Some f → ((r : Rule) → slice_get g.rules.items f.shortest ≡ Some r → RanksAreBelow g f.rank r.body.items → HasText r.body.items) → HasText ss → HasText (Part n ∷ ss)
   text_expanded n f ss e has rest =
       let s = ok.shortest n f e in
       let body = has s.0 s.1 s.3 in
       (body.0 ++ rest.0, body.1 ++ rest.1, Expanded f.shortest s.0 s.1 s.2 (derives_append g ss rest.0 rest.1 rest.2 body.2))
 
-  weaker : (ss : List Symbol) (j k : ℕ) → j ≤ k → IsBelow g j ss → IsBelow g k ss
+  weaker : (ss : List Symbol) (j k : ℕ) → j ≤ k → RanksAreBelow g j ss → RanksAreBelow g k ss
   weaker [] j k le b = tt
   weaker (Sign s ∷ ss) j k le b = (b.0, weaker ss j k le b.1)
   weaker (Act a ∷ ss) j k le b = weaker ss j k le b
   weaker (Part n ∷ ss) j k le b = ((b.0.0, b.0.1, omega arith), weaker ss j k le b.1)
 
-  texts_below : (k : ℕ) → ((ss : List Symbol) → IsBelow g k ss → HasText ss) → (ss : List Symbol) → IsBelow g (suc k) ss → HasText ss
+  texts_below : (k : ℕ) → ((ss : List Symbol) → RanksAreBelow g k ss → HasText ss) → (ss : List Symbol) → RanksAreBelow g (suc k) ss → HasText ss
   texts_below k has [] h = ([], [], Finished)
   texts_below k has (Sign s ∷ ss) h = text_shifted s h.0.0 ss h.0.1 (texts_below k has ss h.1)
   texts_below k has (Act a ∷ ss) h = text_acted a ss (texts_below k has ss h)
   texts_below k has (Part n ∷ ss) h =
       text_expanded n h.0.0 ss h.0.1 (λ r e b. has r.body.items (weaker r.body.items h.0.0.rank k (omega arith) b)) (texts_below k has ss h.1)
 
-  text_below : (k : ℕ) (ss : List Symbol) → IsBelow g k ss → HasText ss
+  text_below : (k : ℕ) (ss : List Symbol) → RanksAreBelow g k ss → HasText ss
   text_below zero [] h = ([], [], Finished)
   text_below zero (Sign s ∷ ss) h = text_shifted s h.0.0 ss h.0.1 (text_below zero ss h.1)
   text_below zero (Act a ∷ ss) h = text_acted a ss (text_below zero ss h)
   text_below zero (Part n ∷ ss) h = absurd (omega arith)
   text_below (suc k) ss h = texts_below k (text_below k) ss h
 
-  pub text_of : (ss : List Symbol) → IsKnown g ss → HasText ss
+  pub text_of : (ss : List Symbol) → AreKnownSymbols g ss → HasText ss
   text_of [] h = ([], [], Finished)
   text_of (Sign s ∷ ss) h = text_shifted s h.0.0 ss h.0.1 (text_of ss h.1)
   text_of (Act a ∷ ss) h = text_acted a ss (text_of ss h)
   text_of (Part n ∷ ss) h = text_expanded n h.0.0 ss h.0.1 (λ r e b. text_below h.0.0.rank r.body.items b) (text_of ss h.1)
 
   -- what has been read begins a text
-  pub viable : (root : ℕ) (done : List ℕ) (did : List Event) (stack : List Symbol) → IsKnown g stack → Leads g root done did stack → IsViable g root done
+  pub viable : (root : ℕ) (done : List ℕ) (did : List Event) (stack : List Symbol) → AreKnownSymbols g stack → LeadsToStack g root done did stack → IsViable g root done
   viable root done did stack k l =
       let t = text_of stack k in
       (t.0, (did ++ t.1, l.on t.0 t.1 t.2))

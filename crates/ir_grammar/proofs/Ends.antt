@@ -9,17 +9,17 @@ use Rattle.ir_grammar.specs.declared.grammar.Stop.{Stop}
 use Rattle.ir_grammar.specs.declared.grammar.Stop.TheVariants.{Text, Stuck, Deep}
 use Rattle.ir_grammar.specs.declared.grammar.Reading.{Reading}
 use Rattle.ir_grammar.specs.Grammar.{IsTextOf}
-use Rattle.ir_grammar.specs.Table.{IsKnown, IsPredictive}
-use Rattle.ir_grammar.specs.Reading.{IsLongestFront, IsCut, IsFirstDeep, Reads, tooks}
-use Rattle.ir_grammar.specs.Run.{Leads, Closes, IsStuck, Ends, Grows}
+use Rattle.ir_grammar.specs.Table.{AreKnownSymbols, IsPredictive}
+use Rattle.ir_grammar.specs.Reading.{IsLongestFront, IsCutShort, IsFirstDeep, Reads, tooks}
+use Rattle.ir_grammar.specs.Run.{LeadsToStack, Closes, IsStuck, Ends, Grows}
 use Rattle.ir_grammar.proofs.Derivations.{viable}
 use Rattle.ir_grammar.proofs.Depths.{deep_before}
 
 module _ (g : Grammar) (ok : IsPredictive g) where
-  pub leads_first : (root : ℕ) → Leads g root [] [] (Part root ∷ [])
+  pub leads_first : (root : ℕ) → LeadsToStack g root [] [] (Part root ∷ [])
   leads_first root = record { took = refl; on = λ ts more d. d; back = λ ts all d. (all, refl, d) }
 
-  pub longest : (root : ℕ) (ts : List ℕ) (did : List Event) (stack : List Symbol) (n : ℕ) → n ≤ length ts → IsKnown g stack → Leads g root (take n ts) did stack
+  pub longest : (root : ℕ) (ts : List ℕ) (did : List Event) (stack : List Symbol) (n : ℕ) → n ≤ length ts → AreKnownSymbols g stack → LeadsToStack g root (take n ts) did stack
       → (n < length ts → IsStuck g root (take n ts) (suc (get_or ts n 0))) → IsLongestFront g root ts n
   longest root ts did stack n in_range known l stuck = record {
     within = in_range;
@@ -43,15 +43,15 @@ reads_at g root many ts n did stack (Ok x) h l e f = rw e (reads_ended g root ma
 reads_at g root many ts n did stack (Err y) h l e f = tt
 
 -- one token is taken for each that is done
-pub tooks_taken : {g : Grammar} {root : ℕ} {es : List Event} {stack : List Symbol} (n : ℕ) (ts : List ℕ) → Leads g root (take n ts) es stack → n ≤ length ts → tooks es ≡ n
+pub tooks_taken : {g : Grammar} {root : ℕ} {es : List Event} {stack : List Symbol} (n : ℕ) (ts : List ℕ) → LeadsToStack g root (take n ts) es stack → n ≤ length ts → tooks es ≡ n
 tooks_taken n ts l le = l.took ∙ length-take-le n ts le
 
 -- where it stops, one token after too many parts were open
-pub cut : (g : Grammar) (ok : IsPredictive g) (root many : ℕ) (ts : List ℕ) (old new : List Event) (stack : List Symbol) (n k : ℕ) → n < length ts → IsKnown g stack → Grows old new
-    → Leads g root (take n ts ++ get_or ts n 0 ∷ []) new stack → IsFirstDeep many new (Some k) → IsCut g root many ts (n + 1) new
+pub cut : (g : Grammar) (ok : IsPredictive g) (root many : ℕ) (ts : List ℕ) (old new : List Event) (stack : List Symbol) (n k : ℕ) → n < length ts → AreKnownSymbols g stack → Grows old new
+    → LeadsToStack g root (take n ts ++ get_or ts n 0 ∷ []) new stack → IsFirstDeep many new (Some k) → IsCutShort g root many ts (n + 1) new
 cut g ok root many ts old new stack n k lt known h l deep =
     let front : take (n + 1) ts ≡ take n ts ++ get_or ts n 0 ∷ [] = take_more ts n 0 lt in
-    let l' : Leads g root (take (n + 1) ts) new stack = rw front l in
+    let l' : LeadsToStack g root (take (n + 1) ts) new stack = rw front l in
     record {
       within = omega arith;
       viable = viable g ok root (take (n + 1) ts) new stack known l';

@@ -9,14 +9,14 @@ use Rattle.ir_grammar.specs.declared.grammar.Event.TheVariants.{Took, Did}
 use Rattle.ir_grammar.specs.declared.grammar.Rule.{Rule}
 use Rattle.ir_grammar.specs.declared.grammar.Grammar.{Grammar}
 use Rattle.ir_grammar.specs.Grammar.{accepts}
-use Rattle.ir_grammar.specs.Table.{pick, closing_of, Begins, IsFine, IsKnown, height, IsPredictive}
-use Rattle.ir_grammar.specs.Run.{Leads, LeadsAt, Closes, IsStuck}
+use Rattle.ir_grammar.specs.Table.{pick, closing_of, BeginsAtColumn, IsFine, AreKnownSymbols, height, IsPredictive}
+use Rattle.ir_grammar.specs.Run.{LeadsToStack, LeadsAt, Closes, IsStuck}
 use Rattle.ir_grammar.proofs.Derivations.{known_append, fine_expanded, height_expanded, leads_expanded, leads_acted, leads_shifted, stuck_part, stuck_sign}
 use Rattle.ir_grammar.proofs.Closing.{begins_append, closes_acted, closes_expanded}
 
 -- what may still be closed, or goes on
 abbrev pub IsOn : Grammar → (ℕ → List ℕ → Type 0) → List Event → List Symbol → ℕ → Type 0
-IsOn g P did stack c = ((root : ℕ) (done : List ℕ) → P root done → Closes g root done did stack) ⊎ Begins g stack c
+IsOn g P did stack c = ((root : ℕ) (done : List ℕ) → P root done → Closes g root done did stack) ⊎ BeginsAtColumn g stack c
 
 module _ (g : Grammar) (ok : IsPredictive g) where
   -- the table's rule is the rule that is read
@@ -41,7 +41,7 @@ module _ (g : Grammar) (ok : IsPredictive g) where
       rw new (fine_expanded g ok p r rest e (rw q (rw top at fine)))
 
   pub step_known : (s rest s' : List Symbol) (n p : ℕ) (r : Rule) → s ≡ Part n ∷ rest → slice_get g.rules.items p ≡ Some r
-      → s' ≡ r.body.items ++ rest → IsKnown g s → IsKnown g s'
+      → s' ≡ r.body.items ++ rest → AreKnownSymbols g s → AreKnownSymbols g s'
   step_known s rest s' n p r top e new known =
       let k = rw top at known in
       rw new (known_append g r.body.items rest (ok.rules p r e).known k.1)
@@ -68,7 +68,7 @@ module _ (g : Grammar) (ok : IsPredictive g) where
 
   -- the token that comes
   pub step_shifted : (root : ℕ) (done : List ℕ) (did did' : List Event) (s k : ℕ) (stack rest : List Symbol) → stack ≡ Sign s ∷ rest → did' ≡ did ++ Took ∷ [] → accepts g s k ≡ true
-      → LeadsAt g root done did stack (k + 1) → Leads g root (done ++ k ∷ []) did' rest
+      → LeadsAt g root done did stack (k + 1) → LeadsToStack g root (done ++ k ∷ []) did' rest
   step_shifted root done did did' s k stack rest top more yes' l =
       rw more (leads_shifted g ok root done did s k rest yes' (rw (← add-one k) (rw top at l)))
 
@@ -80,11 +80,11 @@ module _ (g : Grammar) (ok : IsPredictive g) where
       → s' ≡ r.body.items ++ rest → IsFine g s → IsOn g P did s c → IsOn g P did s' c
   on_expanded P did s rest s' n c p r top t e new fine on = go (ok.picked n c p t).3 on
     where
-      go : (closing_of (slice_get g.parts.items n) ≡ Some p) ⊎ Begins g (ok.picked n c p t).0.body.items c → IsOn g P did s c → IsOn g P did s' c
+      go : (closing_of (slice_get g.parts.items n) ≡ Some p) ⊎ BeginsAtColumn g (ok.picked n c p t).0.body.items c → IsOn g P did s c → IsOn g P did s' c
       go (inr b) h =
           let x = ok.picked n c p t in
           let same : x.0 ≡ r = cc in
-          inr (rw new (begins_append g r.body.items rest c (subst (λ y. Begins g y.body.items c) same b)))
+          inr (rw new (begins_append g r.body.items rest c (subst (λ y. BeginsAtColumn g y.body.items c) same b)))
       go (inl k) (inl f) = inl (λ root done q. rw new (closes_expanded g ok root done did n p rest r (rw top at fine) k e (rule_at n c p r t e) (rw top at (f root done q))))
       go (inl k) (inr b) = let y = rw top at b in absurd (y.2 (let two : pick g n c ≡ Some y.0 = y.1 in cc))
 

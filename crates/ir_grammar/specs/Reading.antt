@@ -48,8 +48,8 @@ abbrev pub IsMostly : List Event → List Event → Type 0
 IsMostly es fs = (begun : List Event) × (es ≡ fs ++ begun) × OnlyBegins begun
 
 -- The two lists are one, but for members that begin at the end of each.
-abbrev pub AreAlike : List Event → List Event → Type 0
-AreAlike es fs = (front : List Event) × IsMostly es front × IsMostly fs front
+abbrev pub AreMostlyAlike : List Event → List Event → Type 0
+AreMostlyAlike es fs = (front : List Event) × IsMostly es front × IsMostly fs front
 
 -- This is done at the front by a text that begins with it, and no text that does does more at it: but for members of lists that
 -- begin with the next token, which is none of the front's.
@@ -99,7 +99,7 @@ IsFirstDeep many es None = (k : ℕ) → OpensAt many 0 0 es k → ⊥
 IsFirstDeep many es (Some k) = OpensAt many 0 0 es k × ((j : ℕ) → OpensAt many 0 0 es j → k ≤ j)
 
 -- Each text that begins with the first n tokens does this up to the last of them, and opens too many parts before it.
-pub record IsCut (g : Grammar) (root : ℕ) (many : ℕ) (ts : List ℕ) (n : ℕ) (es : List Event) : Type 0 where
+pub record IsCutShort (g : Grammar) (root : ℕ) (many : ℕ) (ts : List ℕ) (n : ℕ) (es : List Event) : Type 0 where
   pub within : n ≤ length ts
   pub viable : IsViable g root (take n ts)
   pub each : (more : List ℕ) (all : List Event) → IsTextOf g root (take n ts ++ more) all → IsPrefix es all
@@ -110,4 +110,4 @@ pub record IsCut (g : Grammar) (root : ℕ) (many : ℕ) (ts : List ℕ) (n : �
 abbrev pub Reads : Grammar → ℕ → ℕ → List ℕ → Stop → ℕ → List Event → Type 0
 Reads g root many ts Text n es = IsLongestFront g root ts n × IsMost g root (take n ts) es × IsTextOf g root (take n ts) es
 Reads g root many ts Stuck n es = IsLongestFront g root ts n × IsMost g root (take n ts) es × (IsText g root (take n ts) → ⊥)
-Reads g root many ts Deep n es = IsCut g root many ts n es
+Reads g root many ts Deep n es = IsCutShort g root many ts n es

@@ -11,7 +11,7 @@ use Rattle.ir_grammar.specs.Table.{column_of}
 use Rattle.ir_grammar.specs.Reading.{through, tooks, IsPrefix, IsMostly, IsMost, IsFirstDeep, depth_after}
 
 -- After the tokens done, which did this, the stack stands for what may come, whatever it is.
-pub record Leads (g : Grammar) (root : ℕ) (done : List ℕ) (did : List Event) (stack : List Symbol) : Type 0 where
+pub record LeadsToStack (g : Grammar) (root : ℕ) (done : List ℕ) (did : List Event) (stack : List Symbol) : Type 0 where
   pub took : tooks did ≡ length done
   pub on : (ts : List ℕ) (more : List Event) → Derives g stack ts more → IsTextOf g root (done ++ ts) (did ++ more)
   pub back : (ts : List ℕ) (all : List Event) → IsTextOf g root (done ++ ts) all → (more : List Event) × (all ≡ did ++ more) × Derives g stack ts more
@@ -35,7 +35,7 @@ IsStuck g root done c = (ts : List ℕ) (all : List Event) → column_of ts ≡ 
 
 -- the stack after a token that may come, or that none may come
 abbrev pub Advances : Grammar → ℕ → List ℕ → ℕ → Bool → List Event → List Symbol → Type 0
-Advances g root done k true did stack = Leads g root (done ++ k ∷ []) did stack
+Advances g root done k true did stack = LeadsToStack g root (done ++ k ∷ []) did stack
 Advances g root done k false did stack = IsStuck g root done (suc k) × Closes g root done did stack
 
 -- the new events are the old ones, some actions and a token

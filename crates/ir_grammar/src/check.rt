@@ -3,7 +3,7 @@
 ghost use Rattle.std.specs.Prelude.{◌≡◌, ℕ, suc, ◌+◌, ◌<◌, ◌≤◌, List, [], ◌∷◌, length, slice_get, slice_index_or, None, Some, IsTrue, IfSome, true, false};
 ghost use Rattle.ir_grammar.specs.declared.grammar.Rule.{Rule};
 ghost use Rattle.ir_grammar.specs.Grammar.{accepts};
-ghost use Rattle.ir_grammar.specs.Table.{pick, may_follow, is_solid, cost_of, Follows, OpensIn, IsFineIn, IsKnown, IsBelow, has_solid, height, FitsRule, IsPredictive, CanRead, Passes, closing_of, Begins, IsRuleOf, IsChoice};
+ghost use Rattle.ir_grammar.specs.Table.{pick, may_follow, is_solid, cost_of, MayFollowPart, OpensIn, IsFineIn, AreKnownSymbols, RanksAreBelow, has_solid, height, FitsRule, IsPredictive, CanRead, Passes, closing_of, BeginsAtColumn, IsRuleOf, IsChoice};
 
 use crate::grammar::{Grammar, Symbol};
 
@@ -186,7 +186,7 @@ impl Grammar {
 
     /// Whether each sign has a kind, and each part is one of the grammar's.
     fn is_known(&self, body: &[Symbol]) -> bool
-        ensures { IsTrue result → IsKnown self.now body.now }
+        ensures { IsTrue result → AreKnownSymbols self.now body.now }
     {
         for symbol in body {
             match symbol {
@@ -208,7 +208,7 @@ impl Grammar {
 
     /// Whether each sign has a kind, and each part has a lower rank.
     fn is_below(&self, rank: u32, body: &[Symbol]) -> bool
-        ensures { IsTrue result → IsBelow self.now rank body.now }
+        ensures { IsTrue result → RanksAreBelow self.now rank body.now }
     {
         for symbol in body {
             match symbol {
@@ -298,7 +298,7 @@ impl Grammar {
 
     /// Whether the first token of the symbol stands at the column.
     fn goes_on(&self, symbol: Symbol, column: usize) -> bool
-        ensures { IsTrue result → (rest : List Symbol) → Begins self.now (symbol ∷ rest) column }
+        ensures { IsTrue result → (rest : List Symbol) → BeginsAtColumn self.now (symbol ∷ rest) column }
     {
         match symbol {
             Symbol::Act(_) => false,
@@ -312,7 +312,7 @@ impl Grammar {
 
     /// Whether the first token of the symbols stands at the column, with nothing done before it but that members begin.
     fn begins(&self, body: &[Symbol], column: usize) -> bool
-        ensures { IsTrue result → Begins self.now body.now column }
+        ensures { IsTrue result → BeginsAtColumn self.now body.now column }
     {
         for symbol in body {
             match symbol {
@@ -366,7 +366,7 @@ impl Grammar {
     /// Whether this is a rule of the part with parts of lower ranks alone.
     fn has_shortest(&self, part: u32, rule: usize, rank: u32) -> bool
         ensures { IsTrue result → (r : Rule) × (slice_get self.now.rules.items rule ≡ Some r) × (r.part ≡ part)
-            × IsBelow self.now rank r.body.items }
+            × RanksAreBelow self.now rank r.body.items }
     {
         if self.rules.len() <= rule {
             return false;

@@ -3,8 +3,8 @@ ghost use Rattle.std.specs.Prelude.{◌≡◌, ℕ, List, ◌∷◌, [], ◌++�
 ghost use Rattle.ir_grammar.specs.declared.grammar.Change.TheVariants as change;
 ghost use Rattle.ir_grammar.specs.declared.grammar.Event.TheVariants.{Did};
 ghost use Rattle.ir_grammar.specs.Grammar.{accepts};
-ghost use Rattle.ir_grammar.specs.Table.{pick, closing_of, IsFine, IsKnown, IsPredictive, CanRead};
-ghost use Rattle.ir_grammar.specs.Run.{Leads, Closes, Advances, Ends, Grows, IsDepth};
+ghost use Rattle.ir_grammar.specs.Table.{pick, closing_of, IsFine, AreKnownSymbols, IsPredictive, CanRead};
+ghost use Rattle.ir_grammar.specs.Run.{LeadsToStack, Closes, Advances, Ends, Grows, IsDepth};
 ghost use Rattle.ir_grammar.specs.Reading.{Reads, IsFirstDeep, opens, closes, begins_member, tooks};
 ghost use Rattle.ir_grammar.specs.Pending.{unread};
 
@@ -226,14 +226,14 @@ impl Grammar {
     ) -> Result<bool, AllocError>
         requires predictive { IsPredictive self.now }
         requires fine { IsFine self.now (unread pending.old) }
-        requires known { IsKnown self.now (unread pending.old) }
+        requires known { AreKnownSymbols self.now (unread pending.old) }
         requires depth { IsDepth deepest (tooks events.old.items) events.old.items depth.old }
         ensures advanced { IfOk result (λ yes. (root : ℕ) (done : List ℕ)
-            → Leads self.now root done events.old.items (unread pending.old)
+            → LeadsToStack self.now root done events.old.items (unread pending.old)
             → Advances self.now root done kind yes events.new.items (unread pending.new)) }
         ensures grows { IfOk result (λ yes. IsTrue yes → Grows events.old.items events.new.items) }
         ensures fine { OnOk result (IsFine self.now (unread pending.new)) }
-        ensures known { OnOk result (IsKnown self.now (unread pending.new)) }
+        ensures known { OnOk result (AreKnownSymbols self.now (unread pending.new)) }
         ensures depth { OnOk result (IsDepth deepest (tooks events.old.items) events.new.items depth.new) }
     {
         while let Some(symbol) = pending.first() {
@@ -274,7 +274,7 @@ impl Grammar {
     ) -> Result<Reading, AllocError>
         requires predictive { IsPredictive self.now }
         requires fine { IsFine self.now (unread pending) }
-        requires known { IsKnown self.now (unread pending) }
+        requires known { AreKnownSymbols self.now (unread pending) }
         requires took { tooks events.items ≡ taken }
         requires depth { IsDepth deepest taken events.items depth }
         ensures ends { IfOk result (λ r. (root : ℕ) (done : List ℕ)

@@ -8,7 +8,7 @@ use Rattle.std.proofs.lemmas.Option.{slice_get_within, same_Some}
 use Rattle.digraph.specs.Visits.{Traversal, empty, see, leave, Visits, Nothing, Passes, Enters}
 use Rattle.digraph.proofs.Visiting.{left_grows}
 use Rattle.ir_graph.specs.EdgeKinds.{LeadsPast, Begin, Go, Descends}
-use Rattle.ir_graph.specs.Graphs.{AreDistinct}
+use Rattle.ir_graph.specs.Graphs.{AreDistinctNodes}
 use Rattle.ir_graph.proofs.Numbers.{first, first_or}
 use Rattle.ir_graph.proofs.Places.{place_of, stands_in, get_front, get_back, get_mid, same_front, distinct_push, distinct_none}
 
@@ -53,12 +53,12 @@ module _ {X : Type 0} (next : X → List X) where
       ⊎_elim (λ a. stays_open v x t a) (λ e. absurd (f (subst (Contains o.seen) (sym e) s))) (Contains-push_cases p.left n x (stays_open w x (stays_seen v x t) l))
 
   -- each node is seen once and left once
-  pub seen_once : {o q : Traversal X} {ns : List X} → Visits next o ns q → AreDistinct o.seen → AreDistinct q.seen
+  pub seen_once : {o q : Traversal X} {ns : List X} → Visits next o ns q → AreDistinctNodes o.seen → AreDistinctNodes q.seen
   seen_once Nothing d = d
   seen_once (Passes c v) d = seen_once v d
   seen_once (Enters {o = o} {n = n} f v w) d = seen_once w (seen_once v (distinct_push o.seen n d f))
 
-  pub left_once : {o q : Traversal X} {ns : List X} → Visits next o ns q → Within o → AreDistinct o.left → AreDistinct q.left
+  pub left_once : {o q : Traversal X} {ns : List X} → Visits next o ns q → Within o → AreDistinctNodes o.left → AreDistinctNodes q.left
   left_once Nothing h d = d
   left_once (Passes c v) h d = left_once v h d
   left_once (Enters {o = o} {p = p} {n = n} f v w) h d =
@@ -131,10 +131,10 @@ module _ {X : Type 0} (next : X → List X) where
   new_left : {o q : Traversal X} {ns : List X} → Visits next o ns q → Within o → (i : ℕ) (x : X) → length o.seen ≤ i → slice_get q.seen i ≡ Some x → Contains q.left x
   new_left v h i x l e = let s = opened v h i x l e in subst (λ xs. Contains xs x) (sym s.left_is) (Contains-append_right s.inside.left (x ∷ s.left_more) x (first x s.left_more))
 
-  pub search_seen_once : (roots : List X) (q : Traversal X) → Visits next empty roots q → AreDistinct q.seen
+  pub search_seen_once : (roots : List X) (q : Traversal X) → Visits next empty roots q → AreDistinctNodes q.seen
   search_seen_once roots q v = seen_once v distinct_none
 
-  pub search_left_once : (roots : List X) (q : Traversal X) → Visits next empty roots q → AreDistinct q.left
+  pub search_left_once : (roots : List X) (q : Traversal X) → Visits next empty roots q → AreDistinctNodes q.left
   search_left_once roots q v = left_once v (λ y d. d) distinct_none
 
   -- all that is seen in a search is left
@@ -203,7 +203,7 @@ module _ {X : Type 0} (next : X → List X) where
         (λ t. let r = new_reached s.visit j b t e in from_before s.fresh r.1 (past_fewer (λ y c. Contains-append_left s.before.seen (a ∷ []) y c) r.2))
         (later s.before.seen g.0 a b j (omega (arith, s.at, l)) (subst (λ xs. slice_get xs j ≡ Some b) g.1 e))
 
-    module _ (seen_once' : AreDistinct q.seen) (left_once' : AreDistinct q.left) (j k l : ℕ) (b : X) (seen_b : slice_get q.seen j ≡ Some b) (left_a : slice_get q.left k ≡ Some a) (left_b : slice_get q.left l ≡ Some b) where
+    module _ (seen_once' : AreDistinctNodes q.seen) (left_once' : AreDistinctNodes q.left) (j k l : ℕ) (b : X) (seen_b : slice_get q.seen j ≡ Some b) (left_a : slice_get q.left k ≡ Some a) (left_b : slice_get q.left l ≡ Some b) where
       left_at : k ≡ length s.inside.left
       left_at = left_once' k (length s.inside.left) a left_a (subst (λ xs. slice_get xs (length s.inside.left) ≡ Some a) (sym s.left_is) (get_mid s.inside.left s.left_more a))
 

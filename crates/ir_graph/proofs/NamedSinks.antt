@@ -6,7 +6,7 @@ use Rattle.std.proofs.lemmas.Option.{slice_get_within, same_Some}
 use Rattle.std.specs.declared.vec.Vec.{Vec}
 use Rattle.std.specs.declared.alloc.Global.{Global}
 use Rattle.digraph.specs.Graph.{row_items, successors}
-use Rattle.ir_graph.specs.Graphs.{AreDistinct, AreNamed, IsNumbering}
+use Rattle.ir_graph.specs.Graphs.{AreDistinctNodes, AreNodeNumbers, IsNumbering}
 use Rattle.ir_graph.specs.Reverse.{IsPreSentinel, ArePreSentinels, CanReverse}
 use Rattle.ir_graph.specs.Sinks.{IsSinkEnd, AreSinkEnds}
 use Rattle.ir_graph.proofs.NamedSccs.{some_node}
@@ -14,7 +14,7 @@ use Rattle.ir_graph.proofs.Numbers.{node_at, number_of, number_there}
 use Rattle.ir_graph.proofs.Paths.{to_nodes, to_numbers, node_path, number_path}
 use Rattle.ir_graph.proofs.Places.{place_of, stands_in}
 
-module _ {X : Type 0} (next : X → List X) (nodes kept : List X) (distinct : AreDistinct nodes) (numbers : List ℕ) (rows : List (Vec ℕ Global)) (s : IsNumbering next nodes kept numbers rows) where
+module _ {X : Type 0} (next : X → List X) (nodes kept : List X) (distinct : AreDistinctNodes nodes) (numbers : List ℕ) (rows : List (Vec ℕ Global)) (s : IsNumbering next nodes kept numbers rows) where
   sink_node : (i : ℕ) (n : X) → slice_get nodes i ≡ Some n → IsSinkEnd (successors rows) i → IsPreSentinel next nodes n
   sink_node i n e h m r =
       let y = to_numbers nodes next (successors rows) s.onward i n e m r in
@@ -27,7 +27,7 @@ module _ {X : Type 0} (next : X → List X) (nodes kept : List X) (distinct : Ar
       let b = h y.0 y.2 in
       (number_path nodes next (successors rows) s.onward distinct j i y.0 n y.1 e b.0, b.1 j i y.1 e)
 
-  ends_named : (ends : List ℕ) (found : List X) → AreNamed nodes ends found → AreSinkEnds (successors rows) (length rows) ends → ArePreSentinels next nodes found
+  ends_named : (ends : List ℕ) (found : List X) → AreNodeNumbers nodes ends found → AreSinkEnds (successors rows) (length rows) ends → ArePreSentinels next nodes found
   ends_named ends found a t = record {
     only = λ n c. let x = number_of nodes ends found a n c in (stands_in nodes x.0 n x.2, sink_node x.0 n x.2 (t.only x.0 x.1).1);
     all = λ n c h.
@@ -54,5 +54,5 @@ module _ {X : Type 0} (next : X → List X) (nodes kept : List X) (distinct : Ar
       let l = small row.0 in
       omega (arith, e, q, l)
 
-  pub can_reverse : (g : List (Vec ℕ Global)) (ends : List ℕ) (found : List X) → g ≡ rows → AreNamed nodes ends found → AreSinkEnds (successors g) (length g) ends → CanReverse next nodes found
+  pub can_reverse : (g : List (Vec ℕ Global)) (ends : List ℕ) (found : List X) → g ≡ rows → AreNodeNumbers nodes ends found → AreSinkEnds (successors g) (length g) ends → CanReverse next nodes found
   can_reverse g ends found e a t = record { ends = ends_named ends found a (subst (λ h. AreSinkEnds (successors h) (length h) ends) e t); room = roomy }

@@ -12,7 +12,7 @@ use Rattle.std.specs.declared.vec.Vec.{Vec}
 use Rattle.std.specs.declared.alloc.Global.{Global}
 use Rattle.digraph.specs.Graph.{successors, InRange}
 use Rattle.indexmap.specs.IndexSet.{insert_key}
-use Rattle.ir_graph.specs.Graphs.{AreDistinct, AreNamed}
+use Rattle.ir_graph.specs.Graphs.{AreDistinctNodes, AreNodeNumbers}
 
 pub has_number : {X : Type 0} (eq : X → X → Bool) (keys : List X) (n : X) → eq n n ≡ true → Contains keys n → false ≡ list_any (eq n) keys → ⊥
 has_number eq keys n r c e = let t = list_any_at (eq n) keys c.0 n c.1 (ap (eq n) c.2 ∙ r) in cc
@@ -33,7 +33,7 @@ last_row [] v = refl
 last_row (r ∷ rows) v = last_row rows v
 
 -- a set of distinct nodes has one more that is the next of them
-pub set_more : {X : Type 0} (eq : X → X → Bool) → ((a b : X) → eq a b ≡ true → a ≡ b) → (nodes : List X) → AreDistinct nodes → (keys keys' : List X) (i : ℕ) (n : X) → i < length nodes → n ≡ get_or nodes i n
+pub set_more : {X : Type 0} (eq : X → X → Bool) → ((a b : X) → eq a b ≡ true → a ≡ b) → (nodes : List X) → AreDistinctNodes nodes → (keys keys' : List X) (i : ℕ) (n : X) → i < length nodes → n ≡ get_or nodes i n
     → keys' ≡ insert_key eq keys n → keys ≡ take i nodes → keys' ≡ take (i + 1) nodes
 set_more {X} eq same nodes distinct keys keys' i n h e k s = k ∙ added (list_any (eq n) keys) refl ∙ ap (λ ks. ks ++ n ∷ []) s ∙ sym (take_more nodes i n h ∙ ap (λ x. take i nodes ++ x ∷ []) (sym e))
   where
@@ -63,7 +63,7 @@ set_more {X} eq same nodes distinct keys keys' i n h e k s = k ∙ added (list_a
 
 module _ {X : Type 0} where
   -- one more number is that of the next node
-  pub named_more : (keys row : List X) (ids ids' : List ℕ) (k i : ℕ) (n : X) → k < length row → n ≡ get_or row k n → slice_get keys i ≡ Some n → ids' ≡ ids ++ i ∷ [] → AreNamed keys ids (take k row) → AreNamed keys ids' (take (k + 1) row)
+  pub named_more : (keys row : List X) (ids ids' : List ℕ) (k i : ℕ) (n : X) → k < length row → n ≡ get_or row k n → slice_get keys i ≡ Some n → ids' ≡ ids ++ i ∷ [] → AreNodeNumbers keys ids (take k row) → AreNodeNumbers keys ids' (take (k + 1) row)
   named_more keys row ids ids' k i n h e q f s =
       ap (map (slice_get keys)) f ∙ map-append (slice_get keys) ids (i ∷ []) ∙ ap (λ xs. xs ++ slice_get keys i ∷ []) s ∙ ap (λ o. map Some (take k row) ++ o ∷ []) q
       ∙ sym (ap (map Some) (take_more row k n h ∙ ap (λ x. take k row ++ x ∷ []) (sym e)) ∙ map-append Some (take k row) (n ∷ []))
@@ -80,40 +80,40 @@ module _ {X : Type 0} where
 
   module _ (keys : List X) where
     -- the node of a number of the list
-    pub node_at : (xs : List ℕ) (ys : List X) → AreNamed keys xs ys → (x : ℕ) → Contains xs x → (y : X) × Contains ys y × (slice_get keys x ≡ Some y)
+    pub node_at : (xs : List ℕ) (ys : List X) → AreNodeNumbers keys xs ys → (x : ℕ) → Contains xs x → (y : X) × Contains ys y × (slice_get keys x ≡ Some y)
     node_at [] ys e x c = absurd (omega (arith, c.1))
     node_at (x ∷ xs) [] e z c = absurd (cc)
     node_at (x ∷ xs) (y ∷ ys) e z c =
         let a : slice_get keys x ≡ Some y = cc in
-        let b : AreNamed keys xs ys = cc in
+        let b : AreNodeNumbers keys xs ys = cc in
         ⊎_elim (λ q. (y, first y ys, ap (slice_get keys) (sym q) ∙ a)) (λ d. let h = node_at xs ys b z d in (h.0, Contains-append_right (y ∷ []) ys h.0 h.1, h.2)) (first_or x xs z c)
 
     -- the number of a node of the list
-    pub number_of : (xs : List ℕ) (ys : List X) → AreNamed keys xs ys → (y : X) → Contains ys y → (x : ℕ) × Contains xs x × (slice_get keys x ≡ Some y)
+    pub number_of : (xs : List ℕ) (ys : List X) → AreNodeNumbers keys xs ys → (y : X) → Contains ys y → (x : ℕ) × Contains xs x × (slice_get keys x ≡ Some y)
     number_of xs [] e y c = absurd (omega (arith, c.1))
     number_of [] (y ∷ ys) e z c = absurd (cc)
     number_of (x ∷ xs) (y ∷ ys) e z c =
         let a : slice_get keys x ≡ Some y = cc in
-        let b : AreNamed keys xs ys = cc in
+        let b : AreNodeNumbers keys xs ys = cc in
         ⊎_elim (λ q. (x, (0, omega arith, refl), a ∙ ap Some q)) (λ d. let h = number_of xs ys b z d in (h.0, Contains-append_right (x ∷ []) xs h.0 h.1, h.2)) (first_or y ys z c)
 
     -- the number of the node at a place
-    pub number_there : (ids : List ℕ) (ns : List X) → AreNamed keys ids ns → (i : ℕ) (n : X) → slice_get ns i ≡ Some n → (x : ℕ) × (slice_get ids i ≡ Some x) × (slice_get keys x ≡ Some n)
+    pub number_there : (ids : List ℕ) (ns : List X) → AreNodeNumbers keys ids ns → (i : ℕ) (n : X) → slice_get ns i ≡ Some n → (x : ℕ) × (slice_get ids i ≡ Some x) × (slice_get keys x ≡ Some n)
     number_there ids [] e i n h = absurd (none-some n h)
     number_there [] (m ∷ ns) e i n h = absurd (cc)
     number_there (x ∷ ids) (m ∷ ns) e zero n h = let a : slice_get keys x ≡ Some m = cc in (x, refl, a ∙ h)
-    number_there (x ∷ ids) (m ∷ ns) e (suc i) n h = let b : AreNamed keys ids ns = cc in number_there ids ns b i n h
+    number_there (x ∷ ids) (m ∷ ns) e (suc i) n h = let b : AreNodeNumbers keys ids ns = cc in number_there ids ns b i n h
 
     -- a number that names a node is within the nodes
-    pub named_within : (xs : List ℕ) (ys : List X) → AreNamed keys xs ys → (k d : ℕ) → k < length xs → get_or xs k d < length keys
+    pub named_within : (xs : List ℕ) (ys : List X) → AreNodeNumbers keys xs ys → (k d : ℕ) → k < length xs → get_or xs k d < length keys
     named_within [] ys e k d h = absurd (omega (arith, h))
     named_within (x ∷ xs) [] e k d h = absurd (cc)
     named_within (x ∷ xs) (y ∷ ys) e zero d h = let a : slice_get keys x ≡ Some y = cc in slice_get_within keys x y a
-    named_within (x ∷ xs) (y ∷ ys) e (suc k) d h = let b : AreNamed keys xs ys = cc in named_within xs ys b k d (omega (arith, h))
+    named_within (x ∷ xs) (y ∷ ys) e (suc k) d h = let b : AreNodeNumbers keys xs ys = cc in named_within xs ys b k d (omega (arith, h))
 
   -- the next number names the next node
   pub named_next : (keys : List X) (ids : List ℕ) (row row' : List X) (k : ℕ) (n : X) → k < length ids → get_or ids k 0 < length keys → n ≡ get_or keys (get_or ids k 0) n → row' ≡ row ++ n ∷ []
-      → AreNamed keys (take k ids) row → AreNamed keys (take (k + 1) ids) row'
+      → AreNodeNumbers keys (take k ids) row → AreNodeNumbers keys (take (k + 1) ids) row'
   named_next keys ids row row' k n h l e f s =
       ap (map (slice_get keys)) (take_more ids k 0 h) ∙ map-append (slice_get keys) (take k ids) (get_or ids k 0 ∷ []) ∙ ap (λ xs. xs ++ slice_get keys (get_or ids k 0) ∷ []) s
       ∙ ap (λ o. map Some row ++ o ∷ []) (slice_get_read keys (length keys) (get_or ids k 0) n refl l e)
@@ -122,17 +122,17 @@ module _ {X : Type 0} where
   -- the first i nodes have their rows
   pub record RowsUpTo (next : X → List X) (nodes : List X) (rows : List (Vec ℕ Global)) (i : ℕ) : Type 0 where
     pub len : length rows ≡ i
-    pub onward : (j : ℕ) (n : X) → j < i → slice_get nodes j ≡ Some n → AreNamed nodes (successors rows j) (next n)
+    pub onward : (j : ℕ) (n : X) → j < i → slice_get nodes j ≡ Some n → AreNodeNumbers nodes (successors rows j) (next n)
 
-  pub rows_more : (next : X → List X) (nodes : List X) (rows rows' : List (Vec ℕ Global)) (v : Vec ℕ Global) (i : ℕ) (n : X) → slice_get nodes i ≡ Some n → rows' ≡ rows ++ v ∷ [] → AreNamed nodes v.items (next n)
+  pub rows_more : (next : X → List X) (nodes : List X) (rows rows' : List (Vec ℕ Global)) (v : Vec ℕ Global) (i : ℕ) (n : X) → slice_get nodes i ≡ Some n → rows' ≡ rows ++ v ∷ [] → AreNodeNumbers nodes v.items (next n)
       → RowsUpTo next nodes rows i → RowsUpTo next nodes rows' (i + 1)
   rows_more next nodes rows rows' v i n h e a s = record {
     len = ap length e ∙ length-append rows (v ∷ []) ∙ ap (λ k. k + 1) s.len;
-    onward = λ j m l q. subst (λ rs. AreNamed nodes (successors rs j) (next m)) (sym e) (⊎_elim
-        (λ b. subst (λ xs. AreNamed nodes xs (next m)) (sym (earlier_row rows v j (subst (λ k. j < k) (sym s.len) b))) (s.onward j m b q))
+    onward = λ j m l q. subst (λ rs. AreNodeNumbers nodes (successors rs j) (next m)) (sym e) (⊎_elim
+        (λ b. subst (λ xs. AreNodeNumbers nodes xs (next m)) (sym (earlier_row rows v j (subst (λ k. j < k) (sym s.len) b))) (s.onward j m b q))
         (λ b. let z : j ≡ length rows = b ∙ sym s.len in
-        subst (λ xs. AreNamed nodes xs (next m)) (sym (ap (successors (rows ++ v ∷ [])) z ∙ last_row rows v))
-        (subst (λ y. AreNamed nodes v.items (next y)) (same_Some n m (sym h ∙ ap (slice_get nodes) (sym b) ∙ q)) a))
+        subst (λ xs. AreNodeNumbers nodes xs (next m)) (sym (ap (successors (rows ++ v ∷ [])) z ∙ last_row rows v))
+        (subst (λ y. AreNodeNumbers nodes v.items (next y)) (same_Some n m (sym h ∙ ap (slice_get nodes) (sym b) ∙ q)) a))
         (below_or i j l));
   }
     where
@@ -143,11 +143,11 @@ module _ {X : Type 0} where
       below_or (suc i) (suc k) h = ⊎_elim (λ l. inl (omega (arith, l))) (λ e. inr (ap suc e)) (below_or i k (omega (arith, h)))
 
   -- all nodes have their rows
-  pub all_rows : (next : X → List X) (nodes : List X) (rows : List (Vec ℕ Global)) (i : ℕ) → length nodes ≤ i → RowsUpTo next nodes rows i → (j : ℕ) (n : X) → slice_get nodes j ≡ Some n → AreNamed nodes (successors rows j) (next n)
+  pub all_rows : (next : X → List X) (nodes : List X) (rows : List (Vec ℕ Global)) (i : ℕ) → length nodes ≤ i → RowsUpTo next nodes rows i → (j : ℕ) (n : X) → slice_get nodes j ≡ Some n → AreNodeNumbers nodes (successors rows j) (next n)
   all_rows next nodes rows i h s j n e = s.onward j n (let q = slice_get_within nodes j n e in omega (arith, q, h)) e
 
   -- the numbers in the rows are those of nodes
-  pub rows_in : (next : X → List X) (nodes : List X) (rows : List (Vec ℕ Global)) → length rows ≡ length nodes → ((j : ℕ) (n : X) → slice_get nodes j ≡ Some n → AreNamed nodes (successors rows j) (next n)) → InRange rows
+  pub rows_in : (next : X → List X) (nodes : List X) (rows : List (Vec ℕ Global)) → length rows ≡ length nodes → ((j : ℕ) (n : X) → slice_get nodes j ≡ Some n → AreNodeNumbers nodes (successors rows j) (next n)) → InRange rows
   rows_in next nodes rows l f a b h =
       let within : a < length nodes = omega (arith, row_within rows a b h, l) in
       let n = node_of nodes a within in

@@ -6,7 +6,7 @@ use Rattle.std.proofs.lemmas.List.{append_assoc, append-nil, map-append, take_mo
 use Rattle.std.specs.declared.vec.Vec.{Vec}
 use Rattle.std.specs.declared.alloc.Global.{Global}
 use Rattle.digraph.specs.Visits.{joined}
-use Rattle.ir_graph.specs.Graphs.{AreNamed, AreNamedParts}
+use Rattle.ir_graph.specs.Graphs.{AreNodeNumbers, AreNamedParts}
 use Rattle.ir_graph.specs.Orders.{lists_of}
 
 module _ {X : Type 0} where
@@ -57,16 +57,16 @@ module _ {X : Type 0} where
   all_reversed (xs ∷ xss) (suc i) h = ap (λ yss. reverse xs ∷ yss) (all_reversed xss i (omega (arith, h)))
 
   -- the names of one part of many
-  pub part_named : (keys : List X) (parts : List (Vec ℕ Global)) (named : List (List X)) → AreNamedParts keys (lists_of parts) named → (i : ℕ) (part : Vec ℕ Global) → i < length parts → part ≡ get_or parts i part → (row : List X) × AreNamed keys part.items row
+  pub part_named : (keys : List X) (parts : List (Vec ℕ Global)) (named : List (List X)) → AreNamedParts keys (lists_of parts) named → (i : ℕ) (part : Vec ℕ Global) → i < length parts → part ≡ get_or parts i part → (row : List X) × AreNodeNumbers keys part.items row
   part_named keys [] named e i part h q = absurd (omega (arith, h))
   part_named keys (p ∷ parts) [] e i part h q = absurd (cc)
   part_named keys (p ∷ parts) (row ∷ named) e zero part h q =
-      let a : AreNamed keys p.items row = cc in (row, subst (λ (v : Vec ℕ Global). AreNamed keys v.items row) (sym q) a)
+      let a : AreNodeNumbers keys p.items row = cc in (row, subst (λ (v : Vec ℕ Global). AreNodeNumbers keys v.items row) (sym q) a)
   part_named keys (p ∷ parts) (row ∷ named) e (suc i) part h q =
       let b : AreNamedParts keys (lists_of parts) named = cc in part_named keys parts named b i part (omega (arith, h)) q
 
   -- the names of one more part stand behind the others
-  pub parts_more : (keys : List X) (parts : List (Vec ℕ Global)) (rows rows' : List (Vec X Global)) (i : ℕ) (part : Vec ℕ Global) (row : Vec X Global) → i < length parts → part ≡ get_or parts i part → AreNamed keys part.items row.items → rows' ≡ rows ++ row ∷ []
+  pub parts_more : (keys : List X) (parts : List (Vec ℕ Global)) (rows rows' : List (Vec X Global)) (i : ℕ) (part : Vec ℕ Global) (row : Vec X Global) → i < length parts → part ≡ get_or parts i part → AreNodeNumbers keys part.items row.items → rows' ≡ rows ++ row ∷ []
       → AreNamedParts keys (lists_of (take i parts)) (lists_of rows) → AreNamedParts keys (lists_of (take (i + 1) parts)) (lists_of rows')
   parts_more keys parts rows rows' i part row h q n e s =
       ap (map (map (slice_get keys))) (lists_more' parts i part h q) ∙ map-append (map (slice_get keys)) (lists_of (take i parts)) (part.items ∷ [])

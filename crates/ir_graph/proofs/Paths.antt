@@ -4,11 +4,11 @@ use Rattle.std.specs.Prelude.{Contains, ◌↔◌, slice_get}
 use Rattle.std.proofs.lemmas.Option.{same_Some}
 use Rattle.digraph.specs.Graph.{Reaches, Here, Along}
 use Rattle.digraph.specs.Sccs.{OnCycle}
-use Rattle.ir_graph.specs.Graphs.{AreDistinct, AreNamed}
+use Rattle.ir_graph.specs.Graphs.{AreDistinctNodes, AreNodeNumbers}
 use Rattle.ir_graph.proofs.Numbers.{node_at, number_of}
 
 module _ {X : Type 0} where
-  module _ (keys : List X) (next : X → List X) (succ : ℕ → List ℕ) (same : (i : ℕ) (n : X) → slice_get keys i ≡ Some n → AreNamed keys (succ i) (next n)) where
+  module _ (keys : List X) (next : X → List X) (succ : ℕ → List ℕ) (same : (i : ℕ) (n : X) → slice_get keys i ≡ Some n → AreNodeNumbers keys (succ i) (next n)) where
     pub to_nodes : (i : ℕ) (n : X) → slice_get keys i ≡ Some n → (j : ℕ) → Reaches succ i j → (m : X) × (slice_get keys j ≡ Some m) × Reaches next n m
     to_nodes i n e j Here = (n, e, Here)
     to_nodes i n e j (Along {b = b} r c) =
@@ -28,7 +28,7 @@ module _ {X : Type 0} where
     pub node_edge : (i j : ℕ) (n m : X) → slice_get keys i ≡ Some n → slice_get keys j ≡ Some m → Contains (succ i) j → Contains (next n) m
     node_edge i j n m e f c = let h = node_at keys (succ i) (next n) (same i n e) j c in subst (Contains (next n)) (same_Some h.0 m (sym h.2 ∙ f)) h.1
 
-    module _ (distinct : AreDistinct keys) where
+    module _ (distinct : AreDistinctNodes keys) where
       pub number_path : (i j : ℕ) (n m : X) → slice_get keys i ≡ Some n → slice_get keys j ≡ Some m → Reaches next n m → Reaches succ i j
       number_path i j n m e f r = let h = to_numbers i n e m r in subst (λ x. Reaches succ i x) (distinct h.0 j m h.1 f) h.2
 

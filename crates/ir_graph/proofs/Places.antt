@@ -3,7 +3,7 @@ use Rattle.std.proofs.Common.{◌≡◌, ◌⊎◌, inl, inr, ⊎_elim, ℕ, zer
 use Rattle.std.specs.Prelude.{Contains, slice_get}
 use Rattle.std.proofs.lemmas.List.{length-reverse, get_or-reverse}
 use Rattle.std.proofs.lemmas.Option.{slice_get-get_or, slice_get_within, get_or_from_slice_get, none-some, same_Some}
-use Rattle.ir_graph.specs.Graphs.{AreDistinct}
+use Rattle.ir_graph.specs.Graphs.{AreDistinctNodes}
 
 module _ {X : Type 0} where
   -- where a member of a list stands
@@ -45,13 +45,13 @@ module _ {X : Type 0} where
   push_cases (z ∷ xs) y x (suc i) e = ⊎_elim (λ a. inl a) (λ b. inr (ap suc b.0, b.1)) (push_cases xs y x i e)
 
   -- one more that is not there yet
-  pub distinct_push : (xs : List X) (y : X) → AreDistinct xs → (Contains xs y → ⊥) → AreDistinct (xs ++ y ∷ [])
+  pub distinct_push : (xs : List X) (y : X) → AreDistinctNodes xs → (Contains xs y → ⊥) → AreDistinctNodes (xs ++ y ∷ [])
   distinct_push xs y d f i j x a b = ⊎_elim
       (λ p. ⊎_elim (λ q. d i j x p q) (λ q. absurd (f (subst (Contains xs) (sym q.1) (stands_in xs i x p)))) (push_cases xs y x j b))
       (λ p. ⊎_elim (λ q. absurd (f (subst (Contains xs) (sym p.1) (stands_in xs j x q)))) (λ q. p.0 ∙ sym q.0) (push_cases xs y x j b))
       (push_cases xs y x i a)
 
-  pub distinct_none : AreDistinct {X = X} []
+  pub distinct_none : AreDistinctNodes {X = X} []
   distinct_none i j x a b = absurd (none-some x a)
 
   -- the place in the reverse of a list

@@ -10,10 +10,10 @@ use Rattle.std.specs.declared.vec.Vec.{Vec}
 use Rattle.std.specs.declared.alloc.Global.{Global}
 use Rattle.digraph.specs.Graph.{successors, InRange, Reaches, Here, Along}
 use Rattle.digraph.specs.Marks.{IsMarked}
-use Rattle.digraph.specs.Sccs.{nodes_of, IsIn, AreSccs}
+use Rattle.digraph.specs.Sccs.{nodes_of, IsInPart, AreSccs}
 use Rattle.digraph.specs.declared.components.Scc.{Scc}
 use Rattle.digraph.proofs.Marking.{mark_kept, mark_put, mark_only}
-use Rattle.ir_graph.specs.Graphs.{AreDistinct}
+use Rattle.ir_graph.specs.Graphs.{AreDistinctNodes}
 use Rattle.ir_graph.specs.Sinks.{IsSinkEnd, AreSinkEnds, LeadsOut, MarksAll, AddsEnd, IsLeft, IsEmpty, Ends}
 use Rattle.ir_graph.proofs.Places.{get_front, get_mid, distinct_push, distinct_none}
 
@@ -50,13 +50,13 @@ pub record Ended (next : ℕ → List ℕ) (count : ℕ) (parts rest : List (Scc
   pub len : length marks ≡ count
   pub behind : List (Scc ℕ)
   pub parts_are : parts ≡ rest ++ behind
-  pub marked : (n : ℕ) → IsMarked marks n → (k : ℕ) × (length rest ≤ k) × IsIn parts k n
-  pub marks_all : (k n : ℕ) → length rest ≤ k → IsIn parts k n → IsMarked marks n
-  pub only : (n : ℕ) → Contains ends n → IsSinkEnd next n × ((k : ℕ) × (length rest ≤ k) × IsIn parts k n)
-  pub all : (k n : ℕ) → length rest ≤ k → IsIn parts k n → IsSinkEnd next n → Contains ends n
-  pub once : AreDistinct ends
+  pub marked : (n : ℕ) → IsMarked marks n → (k : ℕ) × (length rest ≤ k) × IsInPart parts k n
+  pub marks_all : (k n : ℕ) → length rest ≤ k → IsInPart parts k n → IsMarked marks n
+  pub only : (n : ℕ) → Contains ends n → IsSinkEnd next n × ((k : ℕ) × (length rest ≤ k) × IsInPart parts k n)
+  pub all : (k n : ℕ) → length rest ≤ k → IsInPart parts k n → IsSinkEnd next n → Contains ends n
+  pub once : AreDistinctNodes ends
 
-nothing_in : (parts : List (Scc ℕ)) (k n : ℕ) → length parts ≤ k → IsIn parts k n → ⊥
+nothing_in : (parts : List (Scc ℕ)) (k n : ℕ) → length parts ≤ k → IsInPart parts k n → ⊥
 nothing_in [] k n h c = omega (arith, c.1)
 nothing_in (p ∷ parts) zero n h c = omega (arith, h)
 nothing_in (p ∷ parts) (suc k) n h c = nothing_in parts k n (omega (arith, h)) c
@@ -73,7 +73,7 @@ ended_none next count parts marks ends e l d p = record {
   marks_all = λ k n h c. absurd (nothing_in parts k n h c);
   only = λ n c. absurd (no_member ends ends n d c);
   all = λ k n h c s. absurd (nothing_in parts k n h c);
-  once = subst (λ xs. AreDistinct xs) (sym d) distinct_none;
+  once = subst (λ xs. AreDistinctNodes xs) (sym d) distinct_none;
 }
 
 module _ (g : List (Vec ℕ Global)) (range : InRange g) (parts : List (Scc ℕ)) (t : AreSccs (successors g) (λ n. n < length g) parts) where
@@ -85,16 +85,16 @@ module _ (g : List (Vec ℕ Global)) (range : InRange g) (parts : List (Scc ℕ)
     here = subst (λ ps. slice_get ps (length rest') ≡ Some part) (sym s.parts_are)
         (get_front rest s.behind (length rest') part (subst (λ ps. slice_get ps (length rest') ≡ Some part) (sym popped) (get_mid rest' [] part)))
 
-    pub in_part : (n : ℕ) → Contains part.nodes.items n → IsIn parts (length rest') n
+    pub in_part : (n : ℕ) → Contains part.nodes.items n → IsInPart parts (length rest') n
     in_part n c = subst (λ o. Contains (nodes_of o) n) (sym here) c
 
-    of_part : (n : ℕ) → IsIn parts (length rest') n → Contains part.nodes.items n
+    of_part : (n : ℕ) → IsInPart parts (length rest') n → Contains part.nodes.items n
     of_part n c = subst (λ o. Contains (nodes_of o) n) here c
 
     later_or : (k : ℕ) → length rest' ≤ k → (k ≡ length rest') ⊎ (length rest ≤ k)
     later_or k h = ⊎_elim (λ e. inl e) (λ f. inr (let l = long in omega (arith, h, l, f))) (cases_eq k (length rest'))
 
-    weaker : (n : ℕ) → (k : ℕ) × (length rest ≤ k) × IsIn parts k n → (k : ℕ) × (length rest' ≤ k) × IsIn parts k n
+    weaker : (n : ℕ) → (k : ℕ) × (length rest ≤ k) × IsInPart parts k n → (k : ℕ) × (length rest' ≤ k) × IsInPart parts k n
     weaker n h = (h.0, let a = h.1 in let l = long in omega (arith, a, l), h.2)
 
     pub nodes_in : All (λ n. n < length g) part.nodes.items
@@ -104,17 +104,17 @@ module _ (g : List (Vec ℕ Global)) (range : InRange g) (parts : List (Scc ℕ)
         there xs i d h = (i, h, get_or_from_slice_get xs i (get_or xs i d) (get_or xs i d) (slice_get-get_or xs i d h))
 
     -- what is not later is not marked
-    unmarked : (n : ℕ) → IsIn parts (length rest') n → IsMarked marks n → ⊥
+    unmarked : (n : ℕ) → IsInPart parts (length rest') n → IsMarked marks n → ⊥
     unmarked n c m = let k = s.marked n m in let e = t.apart (length rest') k.0 n c k.2 in let a = k.1 in let l = long in omega (arith, e, a, l)
 
     -- where no edge leads out, all that is reached is inside
-    closed : (LeadsOut (successors g) marks part.nodes.items → ⊥) → (a m : ℕ) → IsIn parts (length rest') a → Reaches (successors g) a m → IsIn parts (length rest') m
+    closed : (LeadsOut (successors g) marks part.nodes.items → ⊥) → (a m : ℕ) → IsInPart parts (length rest') a → Reaches (successors g) a m → IsInPart parts (length rest') m
     closed f a m c Here = c
     closed f a m c (Along {b = b} r d) =
         let i = closed f a b c r in
         let k = t.covers m (range b m d) in
         ⊎_elim
-        (λ e. subst (λ x. IsIn parts x m) e k.1)
+        (λ e. subst (λ x. IsInPart parts x m) e k.1)
         (λ h. absurd (f (b, m, of_part b i, d, s.marks_all k.0 m h k.1)))
         (later_or k.0 (t.topological (length rest') k.0 b m i k.1 d))
 
@@ -123,12 +123,12 @@ module _ (g : List (Vec ℕ Global)) (range : InRange g) (parts : List (Scc ℕ)
         let i = closed f last m (in_part last c) r in
         (t.both_ways (length rest') m last i (in_part last c), All-contains (λ n. n ≤ last) part.nodes.items m a (of_part m i))
 
-    only_ends : AddsEnd (successors g) marks part.nodes.items ends ends' → (n : ℕ) → Contains ends' n → IsSinkEnd (successors g) n × ((k : ℕ) × (length rest' ≤ k) × IsIn parts k n)
+    only_ends : AddsEnd (successors g) marks part.nodes.items ends ends' → (n : ℕ) → Contains ends' n → IsSinkEnd (successors g) n × ((k : ℕ) × (length rest' ≤ k) × IsInPart parts k n)
     only_ends (IsLeft o e) n c = let h = s.only n (subst (λ xs. Contains xs n) e c) in (h.0, weaker n h.1)
     only_ends (IsEmpty o e) n c = let h = s.only n (subst (λ xs. Contains xs n) e c) in (h.0, weaker n h.1)
     only_ends (Ends last f l a e) n c = ⊎_elim
         (λ b. let h = s.only n b in (h.0, weaker n h.1))
-        (λ q. subst (λ x. IsSinkEnd (successors g) x × ((k : ℕ) × (length rest' ≤ k) × IsIn parts k x)) q (sink_end f last l a, (length rest', omega arith, in_part last l)))
+        (λ q. subst (λ x. IsSinkEnd (successors g) x × ((k : ℕ) × (length rest' ≤ k) × IsInPart parts k x)) q (sink_end f last l a, (length rest', omega arith, in_part last l)))
         (Contains-push_cases ends last n (subst (λ xs. Contains xs n) e c))
 
     own_end : AddsEnd (successors g) marks part.nodes.items ends ends' → (n : ℕ) → Contains part.nodes.items n → IsSinkEnd (successors g) n → Contains ends' n
@@ -148,10 +148,10 @@ module _ (g : List (Vec ℕ Global)) (range : InRange g) (parts : List (Scc ℕ)
     old_end (IsEmpty o e) n c = subst (λ xs. Contains xs n) (sym e) c
     old_end (Ends last f l a e) n c = subst (λ xs. Contains xs n) (sym e) (Contains-append_left ends (last ∷ []) n c)
 
-    ends_once : AddsEnd (successors g) marks part.nodes.items ends ends' → AreDistinct ends'
-    ends_once (IsLeft o e) = subst (λ xs. AreDistinct xs) (sym e) s.once
-    ends_once (IsEmpty o e) = subst (λ xs. AreDistinct xs) (sym e) s.once
-    ends_once (Ends last f l a e) = subst (λ xs. AreDistinct xs) (sym e) (distinct_push ends last s.once
+    ends_once : AddsEnd (successors g) marks part.nodes.items ends ends' → AreDistinctNodes ends'
+    ends_once (IsLeft o e) = subst (λ xs. AreDistinctNodes xs) (sym e) s.once
+    ends_once (IsEmpty o e) = subst (λ xs. AreDistinctNodes xs) (sym e) s.once
+    ends_once (Ends last f l a e) = subst (λ xs. AreDistinctNodes xs) (sym e) (distinct_push ends last s.once
         (λ c. let k = (s.only last c).1 in let q = t.apart (length rest') k.0 last (in_part last l) k.2 in let b = k.1 in let w = long in omega (arith, q, b, w)))
 
     pub ended_more : MarksAll marks marks' part.nodes.items → AddsEnd (successors g) marks part.nodes.items ends ends' → Ended (successors g) (length g) parts rest' marks' ends'
@@ -160,9 +160,9 @@ module _ (g : List (Vec ℕ Global)) (range : InRange g) (parts : List (Scc ℕ)
       behind = part ∷ s.behind;
       parts_are = s.parts_are ∙ ap (λ ps. ps ++ s.behind) popped ∙ simp append_assoc;
       marked = λ n h. ⊎_elim (λ b. weaker n (s.marked n b)) (λ c. (length rest', omega arith, in_part n c)) (m.only n h);
-      marks_all = λ k n h c. ⊎_elim (λ e. m.has n (of_part n (subst (λ x. IsIn parts x n) e c))) (λ l. m.keeps n (s.marks_all k n l c)) (later_or k h);
+      marks_all = λ k n h c. ⊎_elim (λ e. m.has n (of_part n (subst (λ x. IsInPart parts x n) e c))) (λ l. m.keeps n (s.marks_all k n l c)) (later_or k h);
       only = only_ends a;
-      all = λ k n h c e. ⊎_elim (λ q. own_end a n (of_part n (subst (λ x. IsIn parts x n) q c)) e) (λ l. old_end a n (s.all k n l c e)) (later_or k h);
+      all = λ k n h c e. ⊎_elim (λ q. own_end a n (of_part n (subst (λ x. IsInPart parts x n) q c)) e) (λ l. old_end a n (s.all k n l c e)) (later_or k h);
       once = ends_once a;
     }
 

@@ -7,12 +7,12 @@ use Rattle.digraph.specs.declared.components.Scc.{Scc}
 
 module _ {X : Type 0} where
   -- nothing is in the list twice
-  abbrev pub AreDistinct : List X → Type 0
-  AreDistinct xs = (i j : ℕ) (x : X) → slice_get xs i ≡ Some x → slice_get xs j ≡ Some x → i ≡ j
+  abbrev pub AreDistinctNodes : List X → Type 0
+  AreDistinctNodes xs = (i j : ℕ) (x : X) → slice_get xs i ≡ Some x → slice_get xs j ≡ Some x → i ≡ j
 
   -- the numbers are those of these nodes, one by one
-  abbrev pub AreNamed : List X → List ℕ → List X → Type 0
-  AreNamed nodes numbers named = map (slice_get nodes) numbers ≡ map Some named
+  abbrev pub AreNodeNumbers : List X → List ℕ → List X → Type 0
+  AreNodeNumbers nodes numbers named = map (slice_get nodes) numbers ≡ map Some named
 
   -- the same, list by list
   abbrev pub AreNamedParts : List X → List (List ℕ) → List (List X) → Type 0
@@ -26,6 +26,6 @@ module _ {X : Type 0} where
   -- the nodes of a graph, the number of each, and for each the numbers of its successors
   pub record IsNumbering (next : X → List X) (nodes kept : List X) (numbers : List ℕ) (rows : List (Vec ℕ Global)) : Type 0 where
     pub all : kept ≡ nodes
-    pub named : AreNamed nodes numbers nodes
+    pub named : AreNodeNumbers nodes numbers nodes
     pub len : length rows ≡ length nodes
-    pub onward : (i : ℕ) (n : X) → slice_get nodes i ≡ Some n → AreNamed nodes (successors rows i) (next n)
+    pub onward : (i : ℕ) (n : X) → slice_get nodes i ≡ Some n → AreNodeNumbers nodes (successors rows i) (next n)

@@ -20,7 +20,7 @@ use Rattle.ir_program.specs.declared.handles.BasicBlock.{BasicBlock}
 use Rattle.ir_program.specs.declared.handles.Use.{Use}
 use Rattle.ir_context.specs.declared.notes.OperationData.{OperationData}
 use Rattle.ir_queries.specs.Edges.{ends_block, terminator_of, edges_of}
-use Rattle.ir_graph.specs.Graphs.{AreDistinct}
+use Rattle.ir_graph.specs.Graphs.{AreDistinctNodes}
 use Rattle.ir_graph.specs.Regions.{same, origin_in, predecessors_in, IsBlockGraph}
 
 both_left : (a b : Bool) → (a && b) ≡ true → a ≡ true
@@ -113,7 +113,7 @@ module _ {D TypeKind AttrKind TypeBody Saved Location OpKind Attr TypeKey B : Ty
 
   module _ (region : Ptr Region) (h : IsBlockGraph has c region) where
     -- no block is there twice
-    pub blocks_distinct : AreDistinct (blocks_in c region)
+    pub blocks_distinct : AreDistinctNodes (blocks_in c region)
     blocks_distinct i j b d e = (h.blocks_once b region region i j d e).1
 
     -- the operation of an edge to a block of the region is in the block from which the edge leads, one of the region

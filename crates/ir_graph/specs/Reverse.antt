@@ -4,7 +4,7 @@ use Rattle.std.specs.List.{list_any}
 use Rattle.digraph.specs.Graph.{Reaches}
 use Rattle.ir_graph.specs.declared.reverse.ReverseNode.{ReverseNode}
 use Rattle.ir_graph.specs.declared.reverse.ReverseNode.TheVariants.{Sentinel, Real}
-use Rattle.ir_graph.specs.Graphs.{AreDistinct}
+use Rattle.ir_graph.specs.Graphs.{AreDistinctNodes}
 
 module _ {X : Type 0} where
   -- all that a node reaches reaches it too, and stands in no later place: it is the last of a component that no edge leaves
@@ -15,7 +15,7 @@ module _ {X : Type 0} where
   pub record ArePreSentinels (next : X → List X) (nodes found : List X) : Type 0 where
     pub only : (n : X) → Contains found n → Contains nodes n × IsPreSentinel next nodes n
     pub all : (n : X) → Contains nodes n → IsPreSentinel next nodes n → Contains found n
-    pub once : AreDistinct found
+    pub once : AreDistinctNodes found
 
   -- a graph can be turned round with these pre-sentinels: there is room for the edges to any node
   pub record CanReverse (next : X → List X) (nodes found : List X) : Type 0 where

@@ -8,7 +8,7 @@ use Rattle.std.proofs.lemmas.List.Folds.{list_any_at}
 use Rattle.std.proofs.lemmas.Map.Views.{Contains-from_any}
 use Rattle.ir_graph.specs.declared.reverse.ReverseNode.{ReverseNode}
 use Rattle.ir_graph.specs.declared.reverse.ReverseNode.TheVariants.{Sentinel, Real}
-use Rattle.ir_graph.specs.Graphs.{AreDistinct}
+use Rattle.ir_graph.specs.Graphs.{AreDistinctNodes}
 use Rattle.ir_graph.specs.Reverse.{sentinel_if, reverse_nodes, reverse_successors, reverse_predecessors}
 
 module _ {X : Type 0} where
@@ -59,7 +59,7 @@ module _ {X : Type 0} where
   in_node nodes x c = ⊎_elim (λ a. let e = alone Sentinel (Real x) a in absurd (cc)) (λ b. real_among nodes x b) (Contains-append_cases (Sentinel ∷ []) (map Real nodes) (Real x) c)
 
   -- no node is there twice
-  pub reverse_distinct : (nodes : List X) → AreDistinct nodes → AreDistinct (reverse_nodes nodes)
+  pub reverse_distinct : (nodes : List X) → AreDistinctNodes nodes → AreDistinctNodes (reverse_nodes nodes)
   reverse_distinct nodes d zero zero n a b = refl
   reverse_distinct nodes d zero (suc j) n a b = let r = real_place nodes j n b in let e = r.1 in absurd (cc)
   reverse_distinct nodes d (suc i) zero n a b = let r = real_place nodes i n a in let e = r.1 in absurd (cc)

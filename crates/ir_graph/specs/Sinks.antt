@@ -2,7 +2,7 @@
 use Rattle.std.specs.Prelude.{◌≡◌, ◌⊎◌, ℕ, ◌≤◌, ◌<◌, List, [], ◌∷◌, ◌++◌, Bool, All, length, Contains}
 use Rattle.digraph.specs.Graph.{Reaches}
 use Rattle.digraph.specs.Marks.{IsMarked}
-use Rattle.ir_graph.specs.Graphs.{AreDistinct}
+use Rattle.ir_graph.specs.Graphs.{AreDistinctNodes}
 
 -- all that a number reaches reaches it too, and isn't greater
 abbrev pub IsSinkEnd : (ℕ → List ℕ) → ℕ → Type 0
@@ -12,7 +12,7 @@ IsSinkEnd next n = (m : ℕ) → Reaches next n m → Reaches next m n × (m ≤
 pub record AreSinkEnds (next : ℕ → List ℕ) (count : ℕ) (ends : List ℕ) : Type 0 where
   pub only : (n : ℕ) → Contains ends n → (n < count) × IsSinkEnd next n
   pub all : (n : ℕ) → n < count → IsSinkEnd next n → Contains ends n
-  pub once : AreDistinct ends
+  pub once : AreDistinctNodes ends
 
 -- one of the numbers is marked
 abbrev pub AnyMarked : List Bool → List ℕ → Type 0

@@ -1,6 +1,6 @@
 //! Strongly connected components.
 ghost use Rattle.std.specs.Prelude.{ℕ, ◌<◌, Contains, IfOk, length};
-ghost use Rattle.digraph.specs.Sccs.{AreSccs, IsIn};
+ghost use Rattle.digraph.specs.Sccs.{AreSccs, IsInPart};
 ghost use Rattle.ir_graph.specs.Graphs.{AreNamedSccs};
 
 use crate::ControlFlowGraph;
@@ -14,7 +14,7 @@ fn sccs_at<N: Copy + Drop>(
     nodes: &[N],
     parts: &[Scc<usize>],
 ) -> Result<Vec<Scc<N>>, AllocError>
-    requires { (k n : ℕ) → IsIn parts.now k n → n < length nodes.now }
+    requires { (k n : ℕ) → IsInPart parts.now k n → n < length nodes.now }
     ensures { IfOk result (λ named. AreNamedSccs nodes.now parts.now named.items) }
 {
     let mut named = Vec::new(alloc);

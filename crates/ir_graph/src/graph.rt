@@ -1,7 +1,7 @@
 //! What a graph of control flow is asked.
 ghost use Rattle.std.specs.Prelude.{◌≡◌, ◌↔◌, ◌<◌, ℕ, List, Option, Some, true, length, slice_get, Contains, IfOk, IfSome};
 ghost use Rattle.std.specs.String.{string_bytes};
-ghost use Rattle.ir_graph.specs.Graphs.{AreDistinct};
+ghost use Rattle.ir_graph.specs.Graphs.{AreDistinctNodes};
 
 use std::alloc::{AllocError, Global};
 use std::hash::Hash;
@@ -125,7 +125,7 @@ pub trait ControlFlowGraph<C> {
         ensures { IfOk result (λ nodes. nodes.items ≡ nodes_of self.now ctx.now) };
 
     /// No node is there twice.
-    ghost distinct: { (g : Self) (c : C) → is_graph g c → AreDistinct (nodes_of g c) };
+    ghost distinct: { (g : Self) (c : C) → is_graph g c → AreDistinctNodes (nodes_of g c) };
 
     /// The entry is a node.
     ghost entered: { (g : Self) (c : C) → is_graph g c → IfSome (entry_of g c) (λ n. Contains (nodes_of g c) n) };

@@ -1,6 +1,6 @@
 //! Nodes by number, so that the searches run on rows of numbers.
 ghost use Rattle.std.specs.Prelude.{◌≡◌, ℕ, true, Some, All, Contains, IfOk, map, slice_get};
-ghost use Rattle.ir_graph.specs.Graphs.{AreDistinct, AreNamed, IsNumbering};
+ghost use Rattle.ir_graph.specs.Graphs.{AreDistinctNodes, AreNodeNumbers, IsNumbering};
 
 use crate::ControlFlowGraph;
 use indexmap::IndexSet;
@@ -21,7 +21,7 @@ pub(crate) fn set_of<N: Copy + Eq + Hash + Drop>(
     nodes: &[N],
 ) -> Result<IndexSet<N>, AllocError>
     requires same { (a b : N) → N.eq a b ≡ true → a ≡ b }
-    requires distinct { AreDistinct nodes.now }
+    requires distinct { AreDistinctNodes nodes.now }
     ensures { IfOk result (λ set. set.keys ≡ nodes.now) }
 {
     let mut set = IndexSet::new(alloc);
@@ -39,7 +39,7 @@ pub(crate) fn number_row<N: Copy + Eq + Hash + Drop>(
 ) -> Result<Vec<usize>, AllocError>
     requires same { (a b : N) → N.eq a b ≡ true → a ≡ b }
     requires known { All (λ n. Contains set.now.keys n) row.now }
-    ensures { IfOk result (λ ids. AreNamed set.now.keys ids.items row.now) }
+    ensures { IfOk result (λ ids. AreNodeNumbers set.now.keys ids.items row.now) }
 {
     let mut ids = Vec::new(alloc);
     for node in row {
@@ -57,8 +57,8 @@ pub(crate) fn nodes_at<N: Copy>(
     nodes: &[N],
     ids: &[usize],
 ) -> Result<Vec<N>, AllocError>
-    requires { (named : _) × AreNamed nodes.now ids.now named }
-    ensures { IfOk result (λ row. AreNamed nodes.now ids.now row.items) }
+    requires { (named : _) × AreNodeNumbers nodes.now ids.now named }
+    ensures { IfOk result (λ row. AreNodeNumbers nodes.now ids.now row.items) }
 {
     let mut row = Vec::new(alloc);
     for id in ids {

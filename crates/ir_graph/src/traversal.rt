@@ -2,7 +2,7 @@
 ghost use Rattle.std.specs.Prelude.{◌≡◌, true, Some, All, Contains, IfOk, IsTrue, ◌↔◌, option_to_list, reverse, slice_get};
 ghost use Rattle.digraph.specs.Visits.{empty, Visits};
 ghost use Rattle.ir_graph.specs.EdgeKinds.{DescendsIf, HasEdgeKind};
-ghost use Rattle.ir_graph.specs.Graphs.{AreDistinct, AreNamed};
+ghost use Rattle.ir_graph.specs.Graphs.{AreDistinctNodes, AreNodeNumbers};
 
 use crate::ControlFlowGraph;
 use crate::numbering::{nodes_at, number, number_row, set_of};
@@ -37,13 +37,13 @@ pub struct DFSTraversal<N: Copy + Eq + Hash + Drop> {
 impl<N: Copy + Eq + Hash + Drop> Model for DFSTraversal<N> {
     ghost use Rattle.std.specs.Prelude.{◌≡◌, true};
     ghost use Rattle.digraph.specs.Visits.{Traversal};
-    ghost use Rattle.ir_graph.specs.Graphs.{AreNamed};
+    ghost use Rattle.ir_graph.specs.Graphs.{AreNodeNumbers};
 
     ghost Value = { Traversal N };
 
     ghost view = { λ t. record { seen = t.pre.keys; left = t.post.items } };
 
-    ghost invariant = { λ t. AreNamed t.post.items t.post_numbers.items t.pre.keys
+    ghost invariant = { λ t. AreNodeNumbers t.post.items t.post_numbers.items t.pre.keys
         × ((a b : N) → N.eq a b ≡ true → a ≡ b) };
 }
 
@@ -68,7 +68,7 @@ fn entry_numbers<C, G: ControlFlowGraph<C>>(
 ) -> Result<Vec<usize>, AllocError>
     requires graph { G.is_graph graph.now ctx.now }
     requires nodes { nodes.now ≡ G.nodes_of graph.now ctx.now }
-    ensures { IfOk result (λ ids. AreNamed nodes.now ids.items (option_to_list (G.entry_of graph.now ctx.now))) }
+    ensures { IfOk result (λ ids. AreNodeNumbers nodes.now ids.items (option_to_list (G.entry_of graph.now ctx.now))) }
 {
     let mut ids = Vec::new(alloc);
     if let Some(entry) = graph.entry_node(ctx) {
@@ -81,8 +81,8 @@ impl<N: Copy + Eq + Hash + Drop> DFSTraversal<N> {
     /// The traversal in which the nodes were seen and left in these orders.
     fn of_orders(alloc: Global, pre: &[N], post: Vec<N>) -> Result<DFSTraversal<N>, AllocError>
         requires same { (a b : N) → N.eq a b ≡ true → a ≡ b }
-        requires seen_once { AreDistinct pre.now }
-        requires left_once { AreDistinct post.items }
+        requires seen_once { AreDistinctNodes pre.now }
+        requires left_once { AreDistinctNodes post.items }
         requires both { All (λ n. Contains post.items n) pre.now }
         ensures { IfOk result (λ t. t ≡ record { seen = pre.now; left = post.items }) }
     {

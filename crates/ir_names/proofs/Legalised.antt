@@ -11,7 +11,7 @@ use Rattle.std.proofs.lemmas.Option.{none-some}
 use Rattle.std.proofs.lemmas.Slice.Eq.{bytes_eq-Decides}
 use Rattle.ir_names.specs.declared.identifier.Identifier.{Identifier}
 use Rattle.ir_names.specs.Identifier.{text_of}
-use Rattle.ir_names.specs.Legaliser.{Given, name_of, source_of, is_taken, IsOneToOne, with_name, numbered, AreTaken}
+use Rattle.ir_names.specs.Legaliser.{Given, name_of, source_of, is_taken, GivesOneToOne, with_name, numbered, AreTaken}
 use Rattle.ir_names.specs.Paired.{paired}
 
 same_some : {X : Type 0} (x y : X) → Some x ≡ Some y → x ≡ y
@@ -149,7 +149,7 @@ is_none None h = refl
 is_none (Some x) h = let no : true ≡ false = h in cc
 
 -- a source that has no identifier gets one that isn't taken
-pub one_to_one_append : (given : List Given) (source name : List ℕ) → IsOneToOne given → name_of given source ≡ None → is_taken given name ≡ false → IsOneToOne (with_name given source name)
+pub one_to_one_append : (given : List Given) (source name : List ℕ) → GivesOneToOne given → name_of given source ≡ None → is_taken given name ≡ false → GivesOneToOne (with_name given source name)
 one_to_one_append given source name one new free q x = (
   step (λ e. e.0) (λ e. e.1) given (source, name) q x (one q x).0 (is_none (source_of given name) free),
   step (λ e. e.1) (λ e. e.0) given (source, name) x q (one q x).1 new,
@@ -191,8 +191,8 @@ module _ {A : Type 0} (ss : List (String A)) (ns : List Identifier) (same : leng
       let other : length ms ≡ length ns + 1 = ap length names_are ∙ length-append ns (n ∷ []) in
       omega (arith, one, other, same)
 
-  pub noted_one : IsOneToOne (paired ss ns) → IsOneToOne (paired ts ms)
-  noted_one one = subst IsOneToOne (sym noted) (one_to_one_append (paired ss ns) (string_bytes s) (text_of n) one new free)
+  pub noted_one : GivesOneToOne (paired ss ns) → GivesOneToOne (paired ts ms)
+  noted_one one = subst GivesOneToOne (sym noted) (one_to_one_append (paired ss ns) (string_bytes s) (text_of n) one new free)
 
 taken_by : (given : List Given) (text : List ℕ) (from to n : ℕ) (b : Bool) → ltb n to ≡ b → AreTaken given text from to → is_taken given (numbered text to) ≡ true → from ≤ n → n < to + 1 → is_taken given (numbered text n) ≡ true
 taken_by given text from to n true e before here low high = before n low (ltb-true n to e)

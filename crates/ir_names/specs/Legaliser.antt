@@ -24,8 +24,8 @@ abbrev pub is_taken : List Given → List ℕ → Bool
 is_taken given name = is_some (source_of given name)
 
 -- a source has an identifier exactly where that was given to the source, so different sources have different identifiers
-abbrev pub IsOneToOne : List Given → Type 0
-IsOneToOne given = (source name : List ℕ) → (name_of given source ≡ Some name) ↔ (source_of given name ≡ Some source)
+abbrev pub GivesOneToOne : List Given → Type 0
+GivesOneToOne given = (source name : List ℕ) → (name_of given source ≡ Some name) ↔ (source_of given name ≡ Some source)
 
 -- what a number makes of a text: the text, `_` and the number
 abbrev pub numbered : List ℕ → ℕ → List ℕ
@@ -36,7 +36,7 @@ abbrev pub AreTaken : List Given → List ℕ → ℕ → ℕ → Type 0
 AreTaken given text from to = (n : ℕ) → from ≤ n → n < to → is_taken given (numbered text n) ≡ true
 
 -- the identifier is the text with the first number, from one on, that makes what isn't taken, and the counter goes past that
-pub record IsNumbered (given : List Given) (text : List ℕ) (from : ℕ) (name : List ℕ) (counter : ℕ) : Type 0 where
+pub record IsNumberedText (given : List Given) (text : List ℕ) (from : ℕ) (name : List ℕ) (counter : ℕ) : Type 0 where
   pub number : ℕ
   pub from_here : from ≤ number
   pub name_is : name ≡ numbered text number
@@ -46,7 +46,7 @@ pub record IsNumbered (given : List Given) (text : List ℕ) (from : ℕ) (name 
 
 -- the identifier is the text, where that isn't taken, else numbered
 abbrev pub IsFresh : List Given → List ℕ → ℕ → List ℕ → ℕ → Type 0
-IsFresh given text from name counter = ((is_taken given text ≡ false) × (name ≡ text) × (counter ≡ from)) ⊎ ((is_taken given text ≡ true) × IsNumbered given text from name counter)
+IsFresh given text from name counter = ((is_taken given text ≡ false) × (name ≡ text) × (counter ≡ from)) ⊎ ((is_taken given text ≡ true) × IsNumberedText given text from name counter)
 
 -- the text is taken, and so is what each number from the counter to below the greatest makes of it
 abbrev pub IsFull : Legalised → List ℕ → Type 0

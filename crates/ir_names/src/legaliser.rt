@@ -5,7 +5,7 @@ ghost use Rattle.std.specs.String.{string_bytes};
 ghost use Rattle.ir_base.specs.declared.growth.GrowError.TheVariants.{CounterFull};
 ghost use Rattle.ir_names.specs.Identifier.{text_of};
 ghost use Rattle.ir_names.specs.Text.{clean_text};
-ghost use Rattle.ir_names.specs.Legaliser.{Legalised, name_of, source_of, is_taken, IsOneToOne, numbered, AreTaken, IsNumbered, IsFresh, IsFull, with_name};
+ghost use Rattle.ir_names.specs.Legaliser.{Legalised, name_of, source_of, is_taken, GivesOneToOne, numbered, AreTaken, IsNumberedText, IsFresh, IsFull, with_name};
 ghost use Rattle.ir_names.specs.Paired.{paired};
 
 use crate::{GrowError, Identifier};
@@ -28,7 +28,7 @@ impl Model for Legaliser {
     ghost view = { λ l. record { given = paired l.sources.keys l.names.keys; counter = l.counter } };
 
     ghost invariant = { λ l. (length l.sources.keys ≡ length l.names.keys)
-        × IsOneToOne (paired l.sources.keys l.names.keys) };
+        × GivesOneToOne (paired l.sources.keys l.names.keys) };
 }
 
 impl Legaliser {
@@ -61,7 +61,7 @@ impl Legaliser {
     /// The source that the identifier was given to.
     pub fn source_name(&self, name: &Identifier) -> Option<&str>
         ensures source { option_map (λ source. source.now) result ≡ source_of self.now.given (text_of name.now) }
-        ensures back { IsOneToOne self.now.given }
+        ensures back { GivesOneToOne self.now.given }
     {
         let index = self.names.get_index_of(name)?;
         let source = self.sources.get_index(index)?;
@@ -77,7 +77,7 @@ impl Legaliser {
 
     /// The text with the first number, from the counter on, with which it isn't taken, and the number behind that.
     fn first_free(&self, text: &Identifier) -> Result<(Identifier, u64), GrowError>
-        ensures free { IfOk result (λ r. IsNumbered self.now.given (text_of text.now) self.now.counter
+        ensures free { IfOk result (λ r. IsNumberedText self.now.given (text_of text.now) self.now.counter
             (text_of r.0) r.1) }
         ensures full { result ≡ Err CounterFull
             → AreTaken self.now.given (text_of text.now) self.now.counter (2 ^ 64 - 1) }
@@ -133,7 +133,7 @@ impl Legaliser {
             (text_of id) self.new.counter) }
         ensures given { name_of self.old.given source.now ≡ None
             → IfOk result (λ id. self.new.given ≡ with_name self.old.given source.now (text_of id)) }
-        ensures one { IsOneToOne self.new.given }
+        ensures one { GivesOneToOne self.new.given }
         ensures full { result ≡ Err CounterFull → (name_of self.old.given source.now ≡ None)
             × IsFull self.old (clean_text (chars source.now)) }
         ensures err { OnErr result (self.new ≡ self.old) }

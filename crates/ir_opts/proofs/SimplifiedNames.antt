@@ -4,7 +4,7 @@ use Rattle.ir_trees.specs.Names.{Contents}
 use Rattle.ir_trees.specs.Renames.{named, Maps, rename_root}
 use Rattle.ir_trees.specs.Trees.{Root}
 use Rattle.ir_trees.proofs.Renamed.{own_root, root_twice}
-use Rattle.opt_trees.specs.Dce.{Around}
+use Rattle.opt_trees.specs.Dce.{TreeSurroundings}
 use Rattle.opt_trees.specs.Dialect.{Dialect}
 use Rattle.opt_trees.specs.Simplify.{all_of, decided, IsCut, IsJoined, IsSimplify}
 use Rattle.ir_opts.proofs.Involutions.{as_identity}
@@ -48,7 +48,7 @@ module _ (X B V : Type 0) (S : Contents) where
           (done_renamed (rename_root (of_operations X f) t) after g done)
 
       -- it is simplified, where it had its branches decided
-      pub simplified_by : (w : Around (named X B V) A) (t after : Root (named X B V) S) (g : V → V)
+      pub simplified_by : (w : TreeSurroundings (named X B V) A) (t after : Root (named X B V) S) (g : V → V)
           → CutsAndJoins X (decided d w t) after g → (s : IsSimplify d w t after) × (s.is_joined.names ≡ g)
       simplified_by w t after g done =
           let start = ap all_of done.is_cut.is in

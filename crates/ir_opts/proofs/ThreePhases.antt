@@ -6,7 +6,7 @@ use Rattle.ir_program.specs.declared.handles.Ptr.{Ptr}
 use Rattle.ir_program.specs.declared.handles.Operation.{Operation}
 use Rattle.ir_trees.specs.Stands.{by_handle, in_program, ProgramHead, ProgramTree, StandsFor}
 use Rattle.opt_trees.specs.Dialect.{Dialect}
-use Rattle.opt_trees.specs.Simplify.{Place, OfOperations, all_of}
+use Rattle.opt_trees.specs.Simplify.{StartingRegions, OfOperations, all_of}
 use Rattle.opt_dialect.specs.Statuses.{either}
 use Rattle.opt_dialect.specs.declared.status.IRStatus.{IRStatus}
 use Rattle.opt_dialect.specs.declared.status.IRStatus.TheVariants.{Unchanged, Changed}
@@ -25,7 +25,7 @@ module _ {O B : Type 0} (c : Program O B) (op : Ptr Operation) (t : ProgramTree 
 
   -- all regions of the root of its tree are visited first where looking begins at the operation
   pub begins : IsStartIn c (AtOperation op) (all_of t)
-  begins = let place : ProgramHead O B → Place by_handle = λ h. OfOperations (h.name ∷ []) in ap place stands.head
+  begins = let place : ProgramHead O B → StartingRegions by_handle = λ h. OfOperations (h.name ∷ []) in ap place stands.head
 
 both_unchanged : (a b : IRStatus) → either a b ≡ Unchanged → (a ≡ Unchanged) × (b ≡ Unchanged)
 both_unchanged Unchanged b e = (refl, e)

@@ -7,7 +7,7 @@ use Rattle.ir_program.specs.declared.handles.Operation.{Operation}
 use Rattle.ir_program.specs.declared.handles.Region.{Region}
 use Rattle.ir_trees.specs.Stands.{by_handle, in_program, ProgramTree, StandsFor}
 use Rattle.opt_trees.specs.Dialect.{Dialect}
-use Rattle.opt_trees.specs.Simplify.{Place}
+use Rattle.opt_trees.specs.Simplify.{StartingRegions}
 use Rattle.opt_dialect.specs.declared.status.IRStatus.{IRStatus}
 use Rattle.opt_dialect.specs.declared.status.IRStatus.TheVariants.{Unchanged}
 use Rattle.opt_dialect.specs.declared.status.OptError.{OptError}
@@ -28,8 +28,8 @@ IsRootOf c (AtRegion r) q = StandsInOperation c r q
 
 module _ {O B A : Type 0} (d : Dialect (in_program O B) A) (old new : Program O B) (start : Start) (op : Ptr Operation) where
   -- what holds of the places where looking begins, and of the tree of the operation that holds them
-  abbrev pub OfPlaces : (Place by_handle → ProgramTree O B → Type 0) → Type 0
-  OfPlaces P = (p : Place by_handle) → IsStartIn old start p → (t : ProgramTree O B) → StandsFor old op t → P p t
+  abbrev pub OfPlaces : (StartingRegions by_handle → ProgramTree O B → Type 0) → Type 0
+  OfPlaces P = (p : StartingRegions by_handle) → IsStartIn old start p → (t : ProgramTree O B) → StandsFor old op t → P p t
 
   -- the blocks that nothing reaches are gone, unless what stays takes a value of what goes
   pub record AnswersRemoval (result : Result IRStatus OptError) : Type 0 where

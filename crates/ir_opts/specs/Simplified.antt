@@ -27,8 +27,8 @@ module _ {O B A : Type 0} (d : Dialect (in_program O B) A) where
   Removes old new op = (t : ProgramTree O B) → StandsFor old op t → RemovesBlocks d (all_of t) old new op t
 
   -- the chains of blocks of visited regions are joined, each at its first
-  abbrev pub Joins : Program O B → Program O B → Ptr Operation → Type 0
-  Joins old new op = (t : ProgramTree O B) → StandsFor old op t → MergesBlocks d (all_of t) old new op t
+  abbrev pub JoinsChains : Program O B → Program O B → Ptr Operation → Type 0
+  JoinsChains old new op = (t : ProgramTree O B) → StandsFor old op t → MergesBlocks d (all_of t) old new op t
 
   -- 2. all three
 
@@ -40,7 +40,7 @@ module _ {O B A : Type 0} (d : Dialect (in_program O B) A) where
       pub cut : Program O B
       pub decides : Decides old decided op
       pub removes : Removes decided cut op
-      pub joins : Joins cut new op
+      pub joins : JoinsChains cut new op
       pub loses_none : LosesNone d decided op (AtOperation op)
       pub no_circle : HasNoCircle d cut op (AtOperation op)
 

@@ -5,7 +5,7 @@ use Rattle.ir_program.specs.declared.handles.Ptr.{Ptr}
 use Rattle.ir_program.specs.declared.handles.Operation.{Operation}
 use Rattle.ir_trees.specs.Renames.{rename_root}
 use Rattle.ir_trees.specs.Stands.{by_handle, in_program, ProgramTree, StandsFor}
-use Rattle.opt_trees.specs.Dce.{Around}
+use Rattle.opt_trees.specs.Dce.{TreeSurroundings}
 use Rattle.opt_trees.specs.Dialect.{Dialect}
 use Rattle.opt_trees.specs.Simplify.{IsSimplify}
 use Rattle.opt_inside.specs.Around.{SaysAround}
@@ -17,7 +17,7 @@ use Rattle.opt_decide.specs.Phase.{maps_of}
 -- for operands: in place of an argument of a block that went is what was forwarded to it; and nothing comes there
 pub record SimplifiesTree {O B A : Type 0} (d : Dialect (in_program O B) A) (old new : Program O B)
     (op : Ptr Operation) (t : ProgramTree O B) : Type 0 where
-  pub around : Around by_handle A
+  pub around : TreeSurroundings by_handle A
   pub says : SaysAround d old op around
   pub after : ProgramTree O B
   pub simplified : IsSimplify d around t after

@@ -6,7 +6,7 @@ use Rattle.ir_names.specs.declared.kinds.Signedness.TheVariants.{Signless, Signe
 use Rattle.ir_names.specs.Tree.{node, no_tree, a_tree}
 use Rattle.ir_print.specs.Formats as step
 use Rattle.ir_print.specs.Formats.{Formats, Kind, Step, Steps, no_steps}
-use Rattle.ir_print.specs.Pieces.{type_of_kind, attribute_of_kind, list, item, operands, region, name, number, width, ValueTree, Pieces, Head, operation, a_region, block, Entity, entity, Entities, no_entity, an_entity}
+use Rattle.ir_print.specs.Pieces.{type_of_kind, attribute_of_kind, list, item, operands, region, name, number, width, ValueTree, Pieces, EntityHead, operation, a_region, block, Entity, entity, Entities, no_entity, an_entity}
 
 -- A part of a text: white space, a token, or a word as it is printed, with white space around it, and as it is read.
 pub data Chunk : Type 0 where
@@ -181,7 +181,7 @@ all_parts_on f (a_tree (node region _) ts) us rs = Some (first_region_on rs) ∷
 all_parts_on f (a_tree t ts) us rs = Some (piece_on f t) ∷ all_parts_on f ts us rs
 
 -- the head of an operation, and what it says
-abbrev pub operation_head_on : Formats → Head (List ℕ) → List (List Chunk → List Chunk) → List Chunk → List Chunk
+abbrev pub operation_head_on : Formats → EntityHead (List ℕ) → List (List Chunk → List Chunk) → List Chunk → List Chunk
 operation_head_on f (operation kind results used pieces) rs rest = results_on results (kind_on (slice_get f.operations kind) (all_parts_on f pieces used rs) rest)
 operation_head_on f _ rs rest = rest
 
@@ -199,7 +199,7 @@ arguments_on f [] rest = rest
 arguments_on f (x ∷ xs) rest = argument_on f x (more_arguments_on f xs rest)
 
 -- the head of a block: `^`, its label, its arguments in parentheses, and `:`
-abbrev pub block_head_on : Formats → Head (List ℕ) → List Chunk → List Chunk
+abbrev pub block_head_on : Formats → EntityHead (List ℕ) → List Chunk → List Chunk
 block_head_on f (block label arguments) rest = token (codes "^") ∷ token label ∷ token (codes "(") ∷ arguments_on f arguments (token (codes ")") ∷ token (codes ":") ∷ rest)
 block_head_on f _ rest = rest
 
@@ -264,13 +264,13 @@ AreFlatArguments d [] = Unit {0}
 AreFlatArguments d (x ∷ xs) = IsFlat d x.1 × AreFlatArguments d xs
 
 -- the head has at most so many in one another
-abbrev pub IsFlatHead : {N : Type 0} → ℕ → Head N → Type 0
+abbrev pub IsFlatHead : {N : Type 0} → ℕ → EntityHead N → Type 0
 IsFlatHead d (operation kind results used pieces) = AreFlat d pieces
 IsFlatHead d a_region = Unit {0}
 IsFlatHead d (block label arguments) = AreFlatArguments d arguments
 
 -- how deep what stands in an entity may be, where so deep is what the entity is
-abbrev pub InHead : {N : Type 0} → ℕ → Head N → (ℕ → Type 0) → Type 0
+abbrev pub InHead : {N : Type 0} → ℕ → EntityHead N → (ℕ → Type 0) → Type 0
 InHead d a_region P = Deeper d P
 InHead d _ P = P d
 

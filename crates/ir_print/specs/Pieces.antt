@@ -1,7 +1,7 @@
 -- What types, attributes and operations say, whatever their dialect.
 use Rattle.std.specs.Prelude.{ℕ, Bool, List, Option}
 use Rattle.ir_names.specs.declared.kinds.Signedness.{Signedness}
-use Rattle.ir_names.specs.Tree.{Tree, Trees}
+use Rattle.ir_names.specs.Tree.{LabelledTree, Trees}
 
 -- A piece of what a type, an attribute or an operation says, one for each directive of its format that is no literal. Kinds are
 -- given by their numbers in the dialect.
@@ -27,7 +27,7 @@ pub data Piece : Type 0 where
 
 -- a type or an attribute
 abbrev pub ValueTree : Type 0
-ValueTree = Tree Piece
+ValueTree = LabelledTree Piece
 
 -- pieces, one after the other
 abbrev pub Pieces : Type 0
@@ -47,18 +47,18 @@ pub record Values : Type 0 where
   pub result_types : ℕ → Pieces → List ValueTree
 
 -- What an operation, a region or a block says of itself, where an N names a value.
-pub data Head (N : Type 0) : Type 0 where
+pub data EntityHead (N : Type 0) : Type 0 where
   -- An operation: its kind, its results with their types, its operands, and what it says beside them. Its regions are below it.
-  operation : (kind : ℕ) (results : List (N × ValueTree)) (operands : List N) (pieces : Pieces) → Head N
+  operation : (kind : ℕ) (results : List (N × ValueTree)) (operands : List N) (pieces : Pieces) → EntityHead N
   -- a region, with its blocks below it
-  a_region : Head N
+  a_region : EntityHead N
   -- A block: its label, and its arguments with their types. Its operations are below it.
-  block : (label : List ℕ) (arguments : List (N × ValueTree)) → Head N
+  block : (label : List ℕ) (arguments : List (N × ValueTree)) → EntityHead N
 
 mutual
   -- an operation, a region or a block, with all that stands in it
   pub data Entity (N : Type 0) : Type 0 where
-    entity : Head N → Entities N → Entity N
+    entity : EntityHead N → Entities N → Entity N
 
   pub data Entities (N : Type 0) : Type 0 where
     no_entity : Entities N

@@ -2,7 +2,7 @@
 use Rattle.std.specs.Prelude.{◌≡◌, ℕ, ◌^◌, ◌<◌, List, [], ◌∷◌, Some, None, true, slice_get}
 use Rattle.ir_base.specs.declared.types.TypeHandle.{TypeHandle}
 use Rattle.ir_names.specs.Text.{is_identifier}
-use Rattle.ir_names.specs.Tree.{Tree, Trees, node, no_tree, a_tree}
+use Rattle.ir_names.specs.Tree.{LabelledTree, Trees, node, no_tree, a_tree}
 use Rattle.ir_print.specs.Formats as step
 use Rattle.ir_print.specs.Formats.{Formats, Kind, Step, Steps, no_steps}
 use Rattle.ir_print.specs.Pieces.{type_of_kind, attribute_of_kind, list, item, operands, region, name, number, width, ValueTree, Pieces, Values}
@@ -36,7 +36,7 @@ TakesOperands _ n = ⊥
 module _ {A : Type 0} where
   -- What is said has its place at a step of a format, and steps have one each. What a type or an attribute says in turn isn't looked at.
   abbrev mutual
-    pub IsSaidAt : Step → Tree (Said A) → Type 0
+    pub IsSaidAt : Step → LabelledTree (Said A) → Type 0
     IsSaidAt s (node (said_type ty) us) = s ≡ step.a_type
     IsSaidAt s (node (said_attribute a) us) = s ≡ step.an_attribute
     IsSaidAt s (node said_list us) = IsListOf s (λ ss. AreMembersSaidAt ss us)
@@ -56,7 +56,7 @@ module _ {A : Type 0} where
     AreMembersSaidAt ss no_tree = Unit {0}
     AreMembersSaidAt ss (a_tree u us) = IsMemberSaidAt ss u × AreMembersSaidAt ss us
 
-    pub IsMemberSaidAt : List Step → Tree (Said A) → Type 0
+    pub IsMemberSaidAt : List Step → LabelledTree (Said A) → Type 0
     IsMemberSaidAt ss (node said_item us) = AreSaidAt ss us
     IsMemberSaidAt ss (node _ us) = ⊥
 

@@ -5,7 +5,7 @@ use Rattle.ir_base.specs.declared.types.TypeHandle.{TypeHandle}
 use Rattle.ir_names.specs.declared.kinds.Signedness.{Signedness}
 use Rattle.ir_names.specs.declared.identifier.Identifier.{Identifier}
 use Rattle.ir_names.specs.Identifier.{text_of}
-use Rattle.ir_names.specs.Tree.{Tree, Trees, node, no_tree, a_tree}
+use Rattle.ir_names.specs.Tree.{LabelledTree, Trees, node, no_tree, a_tree}
 use Rattle.ir_print.specs.declared.format.Number.{Number}
 use Rattle.ir_print.specs.declared.format.Part.{Part}
 use Rattle.ir_print.specs.declared.format.Part.TheVariants as part
@@ -24,7 +24,7 @@ pub data Said (A : Type 0) : Type 0 where
   said_width : Signedness → ℕ → Said A
 
 -- a piece with nothing below it
-abbrev pub leaf : {A : Type 0} → Said A → Tree (Said A)
+abbrev pub leaf : {A : Type 0} → Said A → LabelledTree (Said A)
 leaf x = node x no_tree
 
 -- What a dialect's types, attributes and operations say: the number of the kind, and the pieces. Those that no text has say none.
@@ -52,7 +52,7 @@ Pairs R _ _ = ⊥
 
 -- What is said is this piece, and these pieces one each. A type is what the key under its handle says.
 abbrev mutual
-  pub Shows : {K A T : Type 0} → Saying K A T → List T → Tree (Said A) → ValueTree → Type 0
+  pub Shows : {K A T : Type 0} → Saying K A T → List T → LabelledTree (Said A) → ValueTree → Type 0
   Shows {A = A} {T = T} says types x (node (type_of_kind n) ts) =
       (ty : TypeHandle) × (key : T) × (us : Trees (Said A))
       × (x ≡ leaf (said_type ty)) × (slice_get types ty.number ≡ Some key) × (says.of_type key ≡ Some (n, us)) × ShowsAll says types us ts

@@ -2,7 +2,7 @@
 use Rattle.std.specs.Prelude.{◌≡◌, ℕ, Some, None}
 use Rattle.ir_entities.specs.Forest.{Forest}
 use Rattle.ir_entities.specs.Shape.{Shape, IsInside}
-use Rattle.ir_entities.specs.Uses.{Uses, key_of, Names}
+use Rattle.ir_entities.specs.Uses.{Uses, key_of, NamesDefinition}
 use Rattle.ir_entities.specs.declared.forest.Place.{Place}
 use Rattle.ir_entities.specs.declared.forest.Place.TheVariants.{Op, Block}
 use Rattle.ir_program.specs.Sound.{IsProgram}
@@ -33,7 +33,7 @@ MakeProgram f u t = (n : ℕ) × IsProgram (record { forest = f; values = u; tar
 
 -- no place names what stands inside x
 abbrev pub NoneNames : {K : Type 0} → Shape → Place → (K → Place) → Uses K → Type 0
-NoneNames s x place u = (t q : ℕ) (v : _) → key_of u t ≡ Some v → IsInside s x (place v) → Names u q t → ⊥
+NoneNames s x place u = (t q : ℕ) (v : _) → key_of u t ≡ Some v → IsInside s x (place v) → NamesDefinition u q t → ⊥
 
 -- the keys of what stands inside x are out of use, and the others are as they were
 pub record ForgetsInside {K : Type 0} (s : Shape) (x : Place) (place : K → Place) (old new : Uses K) : Type 0 where

@@ -2,8 +2,8 @@
 use Rattle.std.specs.Prelude.{◌≡◌, ℕ, true, false, List, [], ◌∷◌, map, None, option_map, unwrap_or}
 use Rattle.ir_arena.specs.Arena.{held}
 use Rattle.ir_entities.specs.Forest.{Forest}
-use Rattle.ir_entities.specs.Links.{has, AreDistinct}
-use Rattle.ir_entities.specs.Uses.{Uses, key_of, Names, IsDefined}
+use Rattle.ir_entities.specs.Links.{has, AreDistinctNumbers}
+use Rattle.ir_entities.specs.Uses.{Uses, key_of, NamesDefinition, IsDefined}
 use Rattle.ir_entities.specs.declared.forest.Place.{Place}
 use Rattle.ir_entities.specs.declared.forest.Place.TheVariants.{Op, Block, Region}
 use Rattle.ir_program.specs.declared.records.Definition.{Definition}
@@ -34,9 +34,9 @@ module _ {O B : Type 0} where
 
 -- the threads are in use, each comes once, and no place names one of them
 pub record AreUnnamed {K : Type 0} (u : Uses K) (threads : List ℕ) : Type 0 where
-  pub distinct : AreDistinct threads
+  pub distinct : AreDistinctNumbers threads
   pub defined : (t : ℕ) → has t threads ≡ true → IsDefined u t
-  pub unnamed : (t q : ℕ) → has t threads ≡ true → Names u q t → ⊥
+  pub unnamed : (t q : ℕ) → has t threads ≡ true → NamesDefinition u q t → ⊥
 
 -- the threads are out of use, and the others are as they were
 pub record ForgetsThreads {K : Type 0} (old new : Uses K) (threads : List ℕ) : Type 0 where

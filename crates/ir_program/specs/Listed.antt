@@ -2,7 +2,7 @@
 use Rattle.std.specs.Prelude.{◌≡◌, ℕ, true, List, IsSome}
 use Rattle.ir_arena.specs.declared.arena.Slot.{Slot}
 use Rattle.ir_arena.specs.Arena.{held}
-use Rattle.ir_entities.specs.Links.{has, AreDistinct, AreApart, list_at}
+use Rattle.ir_entities.specs.Links.{has, AreDistinctNumbers, AreApart, list_at}
 use Rattle.ir_entities.specs.Forest.{IsForest}
 use Rattle.ir_program.specs.Program.{Program}
 
@@ -12,9 +12,9 @@ pub record AreListed {O B : Type 0} (c : Program O B) : Type 0 where
   pub ops_apart : AreApart c.forest.in_blocks.lists
   pub blocks_apart : AreApart c.forest.in_regions.lists
   pub regions_apart : AreApart c.forest.in_ops.lists
-  pub ops_once : (b : ℕ) → AreDistinct (list_at c.forest.in_blocks.lists b)
-  pub blocks_once : (r : ℕ) → AreDistinct (list_at c.forest.in_regions.lists r)
-  pub regions_once : (p : ℕ) → AreDistinct (list_at c.forest.in_ops.lists p)
+  pub ops_once : (b : ℕ) → AreDistinctNumbers (list_at c.forest.in_blocks.lists b)
+  pub blocks_once : (r : ℕ) → AreDistinctNumbers (list_at c.forest.in_regions.lists r)
+  pub regions_once : (p : ℕ) → AreDistinctNumbers (list_at c.forest.in_ops.lists p)
 
 -- there is a value in each of the slots
 abbrev pub AreHeld : {T : Type 0} → List (Slot T) → List ℕ → Type 0

@@ -19,7 +19,7 @@ IsNoneOf ps q = (k : ℕ) → slice_get ps k ≢ Some q
 
 module _ {O B : Type 0} where
   -- p, a handle that was never given out, leads to an operation with this payload and nothing else, and all else is as it was
-  pub record MakesOperation (old new : Program O B) (p : Ptr Operation) (payload : O) : Type 0 where
+  pub record MakesBareOperation (old new : Program O B) (p : Ptr Operation) (payload : O) : Type 0 where
     pub fresh : operation_at old p ≡ None
     pub unspent : IsSpent old.forest.ops p.key → ⊥
     pub made : operation_at new p ≡ Some (record { payload = payload; results = []; operands = []; successors = []; regions = [] })
@@ -30,7 +30,7 @@ module _ {O B : Type 0} where
     pub counter : new.counter ≡ old.counter
 
   -- p, a handle that was never given out, leads to a block with this payload and nothing else, and all else is as it was
-  pub record MakesBlock (old new : Program O B) (p : Ptr BasicBlock) (payload : B) : Type 0 where
+  pub record MakesBareBlock (old new : Program O B) (p : Ptr BasicBlock) (payload : B) : Type 0 where
     pub fresh : block_at old p ≡ None
     pub unspent : IsSpent old.forest.blocks p.key → ⊥
     pub made : block_at new p ≡ Some (record { payload = payload; arguments = []; operations = [] })

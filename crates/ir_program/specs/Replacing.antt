@@ -48,7 +48,7 @@ module _ {K : Type 0} where
     pub others : (u : Use K) → IsUseIn rows u → u.def ≢ x → chosen u ≡ false
 
 -- asked about use u in program c, the predicate f may answer b
-pub record Answers {F P U : Type 0} (g : Shared F (Bor P × (Bor U × Unit {0})) Bool) (f : F) (c : P) (u : U) (b : Bool) : Type 0 where
+pub record MayAnswerOfUse {F P U : Type 0} (g : Shared F (Bor P × (Bor U × Unit {0})) Bool) (f : F) (c : P) (u : U) (b : Bool) : Type 0 where
   pub program : Bor P
   pub asked : Bor U
   pub shows : (program.now ≡ c) × (asked.now ≡ u)

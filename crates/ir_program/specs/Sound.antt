@@ -1,7 +1,7 @@
 -- What every program keeps. No public clause cites this module.
 use Rattle.std.specs.Prelude.{◌≡◌, ◌↔◌, ℕ, ◌<◌, List, [], map, Option, Some, IsSome, option_map, unwrap_or, slice_get}
 use Rattle.ir_arena.specs.Arena.{get, held}
-use Rattle.ir_entities.specs.Links.{AreDistinct, IsLinked}
+use Rattle.ir_entities.specs.Links.{AreDistinctNumbers, IsLinked}
 use Rattle.ir_entities.specs.Placed.{IsPlaced}
 use Rattle.ir_entities.specs.Uses.{Uses, key_of, place_of}
 use Rattle.ir_program.specs.Program.{Program, definitions_of, definition_at}
@@ -19,12 +19,12 @@ IsThreaded thread u = (x : _) (t : ℕ) → (thread x ≡ Some t) ↔ (key_of u 
 
 -- the definitions of an entity have different numbers, all below the counter
 pub record AreNumbered (counter : ℕ) (ds : List Definition) : Type 0 where
-  pub distinct : AreDistinct (map (λ (d : Definition). d.number) ds)
+  pub distinct : AreDistinctNumbers (map (λ (d : Definition). d.number) ds)
   pub below : (i : ℕ) (d : Definition) → slice_get ds i ≡ Some d → d.number < counter
 
 -- no two entities have definitions with one number
-abbrev pub HaveOwnNumbers : (DefiningEntity → List Definition) → Type 0
-HaveOwnNumbers ds = (e f : DefiningEntity) (j k : ℕ) (d g : Definition) → slice_get (ds e) j ≡ Some d → slice_get (ds f) k ≡ Some g → d.number ≡ g.number → e ≡ f
+abbrev pub DefinitionsHaveOwnNumbers : (DefiningEntity → List Definition) → Type 0
+DefinitionsHaveOwnNumbers ds = (e f : DefiningEntity) (j k : ℕ) (d g : Definition) → slice_get (ds e) j ≡ Some d → slice_get (ds f) k ≡ Some g → d.number ≡ g.number → e ≡ f
 
 module _ {O B : Type 0} where
   -- the places of the operands of the operation in a slot
@@ -47,5 +47,5 @@ module _ {O B : Type 0} where
     pub values : IsThreaded (thread_of_value c) c.values
     pub blocks : IsThreaded (thread_of_block c) c.targets
     pub numbers : (e : DefiningEntity) → AreNumbered c.counter (definitions_of c e)
-    pub own : HaveOwnNumbers (definitions_of c)
+    pub own : DefinitionsHaveOwnNumbers (definitions_of c)
     pub homes : (i : ℕ) → IsSome (held c.forest.regions i) → IsLinked c.forest.in_ops.lists i

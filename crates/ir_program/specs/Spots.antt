@@ -3,7 +3,7 @@ use Rattle.std.specs.Prelude.{◌≡◌, ℕ, true, List, Option, Some, None}
 use Rattle.ir_arena.specs.declared.arena.Slot.{Slot}
 use Rattle.ir_entities.specs.Forest.{pointer_to}
 use Rattle.ir_entities.specs.Links.{has}
-use Rattle.ir_entities.specs.Uses.{Uses, Place, place_of, IsPlace}
+use Rattle.ir_entities.specs.Uses.{Uses, PlaceOfUse, place_of, IsPlace}
 use Rattle.ir_program.specs.Handles.{handle}
 use Rattle.ir_program.specs.Program.{Program, value_named, block_named}
 use Rattle.ir_program.specs.declared.handles.Ptr.{Ptr}
@@ -12,11 +12,11 @@ use Rattle.ir_program.specs.declared.handles.Value.{Value}
 use Rattle.ir_program.specs.declared.handles.Use.{Use}
 
 -- the user of a place, and its index there; 0 where the place is not in use
-abbrev pub user_at : Option Place → ℕ
+abbrev pub user_at : Option PlaceOfUse → ℕ
 user_at None = 0
 user_at (Some x) = x.user
 
-abbrev pub index_at : Option Place → ℕ
+abbrev pub index_at : Option PlaceOfUse → ℕ
 index_at None = 0
 index_at (Some x) = x.index
 

@@ -5,7 +5,7 @@ use Rattle.ir_entities.specs.Forest.{Forest, shape_of}
 use Rattle.ir_entities.specs.Links.{has}
 use Rattle.ir_entities.specs.Placed.{place_at}
 use Rattle.ir_entities.specs.Shape.{Shape, IsInside}
-use Rattle.ir_entities.specs.Uses.{Uses, place_of, Place as UsePlace}
+use Rattle.ir_entities.specs.Uses.{Uses, place_of, PlaceOfUse as UsePlace}
 use Rattle.ir_entities.specs.declared.forest.Place.{Place}
 use Rattle.ir_entities.specs.declared.forest.Place.TheVariants.{Op}
 use Rattle.ir_program.specs.Forgets.{value_threads_in, block_threads_in}

@@ -1,6 +1,6 @@
 //! What an operation, a region or a block stands in, and what that stands in.
 ghost use Rattle.std.specs.Prelude.{◌≡◌, ◌∷◌, Some, IfSome};
-ghost use Rattle.ir_entities.specs.Forest.{IsUsed};
+ghost use Rattle.ir_entities.specs.Forest.{HoldsInUse};
 ghost use Rattle.ir_program.specs.Lists.{IsLiveNode};
 ghost use Rattle.ir_program.specs.Around.{climb_from, nodes_around, IsWayUp};
 
@@ -19,7 +19,7 @@ pub struct NodesAround<'a, O, B> {
 impl<'a, O, B> Model for NodesAround<'a, O, B> {
     ghost use Rattle.std.specs.Prelude.{List, map};
     ghost use Rattle.std.specs.Option.{ForSome};
-    ghost use Rattle.ir_entities.specs.Forest.{IsUsed};
+    ghost use Rattle.ir_entities.specs.Forest.{HoldsInUse};
     ghost use Rattle.ir_program.specs.Around.{climb_from};
     ghost use Rattle.ir_program.specs.Preorder.{node_at};
     ghost use Rattle.ir_program.specs.declared.handles.IRNode.{IRNode};
@@ -28,7 +28,7 @@ impl<'a, O, B> Model for NodesAround<'a, O, B> {
 
     ghost view = { λ s. map (node_at s.program.now) (climb_from s.program.now.forest s.at) };
 
-    ghost invariant = { λ s. ForSome s.at (λ at. IsUsed s.program.now.forest at) };
+    ghost invariant = { λ s. ForSome s.at (λ at. HoldsInUse s.program.now.forest at) };
 }
 
 impl<'a, O, B> Iterator for NodesAround<'a, O, B> {
@@ -51,9 +51,9 @@ impl<'a, O, B> Iterator for NodesAround<'a, O, B> {
 impl<O, B> Program<O, B> {
     /// What stands around what is in this slot.
     fn place_around(&self, place: Place) -> Option<Place>
-        requires { IsUsed self.now.forest place }
+        requires { HoldsInUse self.now.forest place }
         ensures rest { climb_from self.now.forest (Some place) ≡ place ∷ climb_from self.now.forest result }
-        ensures used { IfSome result (λ around. IsUsed self.now.forest around) }
+        ensures used { IfSome result (λ around. HoldsInUse self.now.forest around) }
     {
         self.know_listed();
         self.forest.know_parents();

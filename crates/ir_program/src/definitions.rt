@@ -1,6 +1,6 @@
 //! The definitions of an operation's results or of a block's arguments.
 ghost use Rattle.std.specs.Prelude.{◌≡◌, ℕ, ◌≤◌, ◌<◌, length, Some, OnOk, OnErr, IfSome, slice_get, vec_capacity};
-ghost use Rattle.ir_entities.specs.Uses.{IsDefined, Names};
+ghost use Rattle.ir_entities.specs.Uses.{IsDefined, NamesDefinition};
 ghost use Rattle.ir_program.specs.Making.{InsertsDefinition, RemovesDefinition};
 
 use crate::Value;
@@ -58,7 +58,7 @@ pub(crate) fn remove_definition(
     requires defined { (d : Definition) → slice_get definitions.old.items index ≡ Some d
         → IsDefined values.old d.thread }
     requires unused { (d : Definition) (p : ℕ) → slice_get definitions.old.items index ≡ Some d
-        → Names values.old p d.thread → ⊥ }
+        → NamesDefinition values.old p d.thread → ⊥ }
     ensures removed { RemovesDefinition values.old values.new definitions.old.items definitions.new.items index }
     ensures answer { slice_get definitions.old.items index ≡ Some result }
 {

@@ -1,6 +1,6 @@
 //! Taking operands and successors away from all operations inside an entity.
 ghost use Rattle.std.specs.Prelude.{◌≡◌, [], IsSome};
-ghost use Rattle.ir_entities.specs.Forest.{IsUsed};
+ghost use Rattle.ir_entities.specs.Forest.{HoldsInUse};
 ghost use Rattle.ir_program.specs.Program.{operation_at};
 ghost use Rattle.ir_program.specs.Edits.{EditsOperation};
 ghost use Rattle.ir_program.specs.Lists.{IsLiveNode};
@@ -42,7 +42,7 @@ impl<O, B> Program<O, B> {
 
     /// Takes all operands and successors of an operation away, and leaves blocks and regions as they are.
     fn drop_at(&mut self, x: Place)
-        requires { IsUsed self.old.forest x }
+        requires { HoldsInUse self.old.forest x }
         ensures { DropsAt self.old self.new x }
     {
         if let Place::Op(slot) = x {
@@ -53,7 +53,7 @@ impl<O, B> Program<O, B> {
 
     /// Takes all operands and successors of all operations inside `x` away. No memory is asked for.
     pub(crate) fn drop_inside(&mut self, x: Place)
-        requires { IsUsed self.old.forest x }
+        requires { HoldsInUse self.old.forest x }
         ensures { DropsInside self.old self.new x }
     {
         self.forest.know_walk(x);

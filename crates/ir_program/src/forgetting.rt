@@ -1,5 +1,5 @@
 //! Taking what stands inside an entity out of the uses of values and of blocks.
-ghost use Rattle.ir_entities.specs.Forest.{IsUsed, shape_of};
+ghost use Rattle.ir_entities.specs.Forest.{HoldsInUse, shape_of};
 ghost use Rattle.ir_program.specs.Erases.{MakeProgram, NoneNames, ForgetsInside, value_place, block_place};
 ghost use Rattle.ir_program.specs.Forgets.{AreUnnamed, ForgetsThreads, threads_of, value_threads_in, block_threads_in};
 
@@ -25,7 +25,7 @@ fn forget_at<O, B>(
     targets: &mut Uses<Ptr<BasicBlock>>,
     place: Place,
 )
-    requires used { IsUsed forest.now place }
+    requires used { HoldsInUse forest.now place }
     requires values { AreUnnamed values.old (value_threads_in forest.now place) }
     requires targets { AreUnnamed targets.old (block_threads_in forest.now place) }
     ensures values { ForgetsThreads values.old values.new (value_threads_in forest.now place) }
@@ -53,7 +53,7 @@ pub(crate) fn forget_inside<O, B>(
     targets: &mut Uses<Ptr<BasicBlock>>,
     x: Place,
 )
-    requires used { IsUsed forest.now x }
+    requires used { HoldsInUse forest.now x }
     requires sound { MakeProgram forest.now values.old targets.old }
     requires values { NoneNames (shape_of forest.now) x value_place values.old }
     requires blocks { NoneNames (shape_of forest.now) x block_place targets.old }

@@ -3,7 +3,7 @@ ghost use Rattle.std.specs.Prelude.{IsSome, IfOk, OnOk, OnErr};
 ghost use Rattle.ir_program.specs.Program.{operation_at};
 ghost use Rattle.ir_program.specs.Edits.{IsUnchanged};
 ghost use Rattle.ir_program.specs.Lists.{IsUnlinkedOperation, IsUnlinkedBlock};
-ghost use Rattle.ir_program.specs.Made.{MakesOperation, MakesBlock, MakesRegion, AddsRegionCount, AddsFewerRegions};
+ghost use Rattle.ir_program.specs.Made.{MakesBareOperation, MakesBareBlock, MakesRegion, AddsRegionCount, AddsFewerRegions};
 
 use crate::records::{BlockRecord, OperationRecord, RegionRecord};
 use crate::{BasicBlock, Operation, Program, Ptr, Region};
@@ -15,7 +15,7 @@ impl<O: Drop, B: Drop> Program<O, B> {
     /// # Errors
     /// There may be no memory.
     pub fn new_operation(&mut self, alloc: Global, payload: O) -> Result<Ptr<Operation>, AllocError>
-        ensures made { IfOk result (λ p. MakesOperation self.old self.new p payload) }
+        ensures made { IfOk result (λ p. MakesBareOperation self.old self.new p payload) }
         ensures unlinked { IfOk result (λ p. IsUnlinkedOperation self.new p) }
         ensures err { OnErr result (IsUnchanged self.old self.new) }
     {
@@ -35,7 +35,7 @@ impl<O: Drop, B: Drop> Program<O, B> {
     /// # Errors
     /// There may be no memory.
     pub fn new_block(&mut self, alloc: Global, payload: B) -> Result<Ptr<BasicBlock>, AllocError>
-        ensures made { IfOk result (λ p. MakesBlock self.old self.new p payload) }
+        ensures made { IfOk result (λ p. MakesBareBlock self.old self.new p payload) }
         ensures unlinked { IfOk result (λ p. IsUnlinkedBlock self.new p) }
         ensures err { OnErr result (IsUnchanged self.old self.new) }
     {

@@ -1,13 +1,13 @@
 //! Other values in place of operands: at all uses of a value, at one, or at those that a predicate chooses.
 ghost use Rattle.std.specs.Prelude.{◌≡◌, ◌≢◌, ◌+◌, ℕ, true, Bool, cond, OnOk, OnErr, IfOk};
 ghost use Rattle.ir_entities.specs.Links.{has};
-ghost use Rattle.ir_entities.specs.Uses.{key_of, place_of, naming, IsDefined, IsPlace, Names};
+ghost use Rattle.ir_entities.specs.Uses.{key_of, place_of, naming, IsDefined, IsPlace, NamesDefinition};
 ghost use Rattle.ir_program.specs.Program.{IsLiveValue};
 ghost use Rattle.ir_program.specs.Rows.{operands_at};
 ghost use Rattle.ir_program.specs.Spots.{operand_use};
 ghost use Rattle.ir_program.specs.Uses.{IsUse, IsUsed, IsUseCount};
 ghost use Rattle.ir_program.specs.Edits.{IsUnchanged, KeepsValues};
-ghost use Rattle.ir_program.specs.Replacing.{Answers, Chooses};
+ghost use Rattle.ir_program.specs.Replacing.{MayAnswerOfUse, Chooses};
 ghost use Rattle.ir_program.specs.declared.handles.Use.{Use};
 ghost use Rattle.ir_program.specs.declared.handles.Value.{Value};
 ghost use Rattle.ir_program.specs.RowEdits.{ReplacesOperand};
@@ -61,7 +61,7 @@ impl<O, B> Program<O, B> {
         requires other { IsLiveValue self.old other }
         requires callable { F.IsAlwaysCallable predicate }
         ensures replaced { OnOk result ((chosen : Use Value → Bool)
-            × Chooses (operands_at self.old) (Answers F.Fn predicate self.old) value chosen
+            × Chooses (operands_at self.old) (MayAnswerOfUse F.Fn predicate self.old) value chosen
             × ReplacesChosen self.old self.new chosen other) }
         ensures err { OnErr result (IsUnchanged self.old self.new) }
         ensures values { KeepsValues self.old self.new }
@@ -83,9 +83,9 @@ impl<O, B> Program<O, B> {
     ) -> Result<Vec<usize>, AllocError>
         requires thread { IsDefined self.now.values thread }
         requires callable { F.IsAlwaysCallable predicate.now }
-        ensures among { IfOk result (λ qs. (q : ℕ) → has q qs.items ≡ true → Names self.now.values q thread) }
-        ensures answered { IfOk result (λ qs. (q : ℕ) → Names self.now.values q thread
-            → Answers F.Fn predicate.now self.now (operand_use self.now q) (has q qs.items)) }
+        ensures among { IfOk result (λ qs. (q : ℕ) → has q qs.items ≡ true → NamesDefinition self.now.values q thread) }
+        ensures answered { IfOk result (λ qs. (q : ℕ) → NamesDefinition self.now.values q thread
+            → MayAnswerOfUse F.Fn predicate.now self.now (operand_use self.now q) (has q qs.items)) }
     {
         let mut chosen = Vec::new(alloc);
         for place in self.values.iter(thread) {

@@ -1,13 +1,13 @@
 //! Other blocks in place of successors: at all edges to a block, at one, or at those that a predicate chooses.
 ghost use Rattle.std.specs.Prelude.{◌≡◌, ◌≢◌, ◌+◌, ℕ, true, Bool, IsSome, OnOk, OnErr, IfOk};
 ghost use Rattle.ir_entities.specs.Links.{has};
-ghost use Rattle.ir_entities.specs.Uses.{IsDefined, Names};
+ghost use Rattle.ir_entities.specs.Uses.{IsDefined, NamesDefinition};
 ghost use Rattle.ir_program.specs.Program.{block_at};
 ghost use Rattle.ir_program.specs.Rows.{successors_at};
 ghost use Rattle.ir_program.specs.Spots.{successor_use};
 ghost use Rattle.ir_program.specs.Uses.{IsBlockUse, HasPredecessor, IsPredecessorCount};
 ghost use Rattle.ir_program.specs.Edits.{IsUnchanged, KeepsValues};
-ghost use Rattle.ir_program.specs.Replacing.{Answers, Chooses};
+ghost use Rattle.ir_program.specs.Replacing.{MayAnswerOfUse, Chooses};
 ghost use Rattle.ir_program.specs.declared.handles.Ptr.{Ptr};
 ghost use Rattle.ir_program.specs.declared.handles.BasicBlock.{BasicBlock};
 ghost use Rattle.ir_program.specs.declared.handles.Use.{Use};
@@ -64,7 +64,7 @@ impl<O, B> Program<O, B> {
         requires other { IsSome (block_at self.old other) }
         requires callable { F.IsAlwaysCallable predicate }
         ensures retargeted { OnOk result ((chosen : Use (Ptr BasicBlock) → Bool)
-            × Chooses (successors_at self.old) (Answers F.Fn predicate self.old) block chosen
+            × Chooses (successors_at self.old) (MayAnswerOfUse F.Fn predicate self.old) block chosen
             × RetargetsChosen self.old self.new chosen other) }
         ensures err { OnErr result (IsUnchanged self.old self.new) }
         ensures values { KeepsValues self.old self.new }
@@ -86,9 +86,10 @@ impl<O, B> Program<O, B> {
     ) -> Result<Vec<usize>, AllocError>
         requires thread { IsDefined self.now.targets thread }
         requires callable { F.IsAlwaysCallable predicate.now }
-        ensures among { IfOk result (λ qs. (q : ℕ) → has q qs.items ≡ true → Names self.now.targets q thread) }
-        ensures answered { IfOk result (λ qs. (q : ℕ) → Names self.now.targets q thread
-            → Answers F.Fn predicate.now self.now (successor_use self.now q) (has q qs.items)) }
+        ensures among { IfOk result (λ qs. (q : ℕ) → has q qs.items ≡ true
+            → NamesDefinition self.now.targets q thread) }
+        ensures answered { IfOk result (λ qs. (q : ℕ) → NamesDefinition self.now.targets q thread
+            → MayAnswerOfUse F.Fn predicate.now self.now (successor_use self.now q) (has q qs.items)) }
     {
         let mut chosen = Vec::new(alloc);
         for place in self.targets.iter(thread) {

@@ -1,6 +1,6 @@
 //! Whether all that use what stands inside an entity stand in it too.
 ghost use Rattle.std.specs.Prelude.{◌≡◌, ◌↔◌, ℕ, true, IsTrue};
-ghost use Rattle.ir_entities.specs.Forest.{IsUsed, shape_of};
+ghost use Rattle.ir_entities.specs.Forest.{HoldsInUse, shape_of};
 ghost use Rattle.ir_entities.specs.Links.{has};
 ghost use Rattle.ir_entities.specs.Shape.{IsInside};
 ghost use Rattle.ir_entities.specs.Uses.{IsDefined};
@@ -62,7 +62,7 @@ fn is_apart_at<O, B>(
     x: Place,
     place: Place,
 ) -> bool
-    requires used { IsUsed forest.now place }
+    requires used { HoldsInUse forest.now place }
     requires sound { MakeProgram forest.now values.now targets.now }
     ensures { IsTrue result ↔ IsApartAt forest.now values.now targets.now x place }
 {
@@ -87,7 +87,7 @@ pub(crate) fn is_apart<O, B>(
     targets: &Uses<Ptr<BasicBlock>>,
     x: Place,
 ) -> bool
-    requires used { IsUsed forest.now x }
+    requires used { HoldsInUse forest.now x }
     requires sound { MakeProgram forest.now values.now targets.now }
     ensures { IsTrue result ↔ ((at : Place) → IsInside (shape_of forest.now) x at
         → IsApartAt forest.now values.now targets.now x at) }

@@ -1,6 +1,6 @@
 //! What values lead to.
 ghost use Rattle.std.specs.Prelude.{◌≡◌, Some, map, is_some, IsSome};
-ghost use Rattle.ir_entities.specs.Links.{AreDistinct};
+ghost use Rattle.ir_entities.specs.Links.{AreDistinctNumbers};
 ghost use Rattle.ir_entities.specs.Uses.{key_of};
 ghost use Rattle.ir_program.specs.declared.records.Definition.{Definition};
 ghost use Rattle.ir_program.specs.Program.{definition_at, definitions_of, numbered, type_at, IsLiveValue};
@@ -51,7 +51,7 @@ impl<O, B> Program<O, B> {
     /// The results or arguments of a definer, none where it is not there.
     fn definitions(&self, definer: DefiningEntity) -> &[Definition]
         ensures exact { result.now ≡ definitions_of self.now definer }
-        ensures distinct { AreDistinct (map (λ (d : Definition). d.number) result.now) }
+        ensures distinct { AreDistinctNumbers (map (λ (d : Definition). d.number) result.now) }
     {
         match definer {
             DefiningEntity::Op(op) if self.forest.has_op(op.key) => &self.forest.op(op.key).results,
@@ -65,7 +65,7 @@ impl<O, B> Program<O, B> {
 
 /// The definition with this number.
 fn numbered(definitions: &[Definition], number: u64) -> Option<Definition>
-    requires distinct { AreDistinct (map (λ (d : Definition). d.number) definitions.now) }
+    requires distinct { AreDistinctNumbers (map (λ (d : Definition). d.number) definitions.now) }
     ensures { result ≡ numbered number definitions.now }
 {
     // The numbers rise, unless definitions were moved since they were made.

@@ -1,6 +1,6 @@
 //! All that stands inside an operation, a region or a block.
 ghost use Rattle.std.specs.Prelude.{◌≡◌, ◌∷◌, []};
-ghost use Rattle.ir_entities.specs.Forest.{IsUsed};
+ghost use Rattle.ir_entities.specs.Forest.{HoldsInUse};
 ghost use Rattle.ir_program.specs.Lists.{IsLiveNode};
 ghost use Rattle.ir_program.specs.Preorder.{node_at, nodes_inside, AreInside, IsPreorder, StandOnceEach};
 
@@ -21,7 +21,7 @@ pub struct NodesInside<'a, O, B> {
 impl<'a, O, B> Model for NodesInside<'a, O, B> {
     ghost use Rattle.std.specs.Prelude.{List, map};
     ghost use Rattle.std.specs.Option.{ForSome};
-    ghost use Rattle.ir_entities.specs.Forest.{IsUsed, shape_of};
+    ghost use Rattle.ir_entities.specs.Forest.{HoldsInUse, shape_of};
     ghost use Rattle.ir_entities.specs.Shape.{IsInside};
     ghost use Rattle.ir_entities.specs.Walk.{places_from, walk_of};
     ghost use Rattle.ir_program.specs.Preorder.{node_at};
@@ -31,7 +31,7 @@ impl<'a, O, B> Model for NodesInside<'a, O, B> {
 
     ghost view = { λ s. map (node_at s.program.now) (places_from s.at (walk_of s.program.now.forest s.outer)) };
 
-    ghost invariant = { λ s. ForSome s.at (λ at. IsUsed s.program.now.forest at
+    ghost invariant = { λ s. ForSome s.at (λ at. HoldsInUse s.program.now.forest at
         × IsInside (shape_of s.program.now.forest) s.outer at) };
 }
 
@@ -55,7 +55,7 @@ impl<'a, O, B> Iterator for NodesInside<'a, O, B> {
 impl<O, B> Program<O, B> {
     /// What is in this slot.
     pub(crate) fn node_in(&self, place: Place) -> IRNode
-        requires { IsUsed self.now.forest place }
+        requires { HoldsInUse self.now.forest place }
         ensures { result ≡ node_at self.now place }
     {
         match place {

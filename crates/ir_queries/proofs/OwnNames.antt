@@ -8,7 +8,7 @@ use Rattle.ir_program.proofs.made.Frames.{same_handle}
 use Rattle.ir_program.proofs.made.Lent.{same_key}
 use Rattle.ir_context.specs.declared.notes.OperationData.{OperationData}
 use Rattle.ir_context.specs.declared.notes.BlockNotes.{BlockNotes}
-use Rattle.ir_queries.specs.Naming.{value, block, IsInRange, id_text, with_id, HaveOwnNames}
+use Rattle.ir_queries.specs.Naming.{value, block, HasProgramNumbers, id_text, with_id, HaveOwnNames}
 use Rattle.ir_queries.proofs.DigitLemmas.{decimal_same, next_low, low_enough}
 use Rattle.ir_queries.proofs.Splits.{decimal_low, split_once, ends_apart, empty_apart}
 
@@ -50,7 +50,7 @@ same-number p q v w v-low w-low same = decimal_same v.number w.number (low_enoug
 same-slot : (m n : ℕ) → m < 2 ^ 64 → n < 2 ^ 64 → decimal (m + 1) ≡ decimal (n + 1) → m ≡ n
 same-slot m n m-low n-low same = let next : m + 1 ≡ n + 1 = decimal_same (m + 1) (n + 1) (next_low m m-low) (next_low n n-low) same in omega (arith, next)
 
-same-block : (p q : Option (List ℕ)) (b d : Ptr BasicBlock) → IsInRange (block b) → IsInRange (block d) → with_id p (id_text (block b)) ≡ with_id q (id_text (block d)) → b ≡ d
+same-block : (p q : Option (List ℕ)) (b d : Ptr BasicBlock) → HasProgramNumbers (block b) → HasProgramNumbers (block d) → with_id p (id_text (block b)) ≡ with_id q (id_text (block d)) → b ≡ d
 same-block p q b d b-low d-low same =
     let at_v : (before_version p b ≡ before_version q d) × (decimal b.key.version ≡ decimal d.key.version) =
     split_once 118 (omega arith) (before_version p b) (before_version q d) (decimal b.key.version) (decimal d.key.version) (decimal_low b.key.version (low_enough b.key.version b-low.1)) (decimal_low d.key.version (low_enough d.key.version d-low.1)) (sym (block-written p b) ∙ same ∙ block-written q d) in
@@ -58,7 +58,7 @@ same-block p q b d b-low d-low same =
     split_once 107 (omega arith) (before_slot p) (before_slot q) (decimal (b.key.slot + 1)) (decimal (d.key.slot + 1)) (decimal_low (b.key.slot + 1) (next_low b.key.slot b-low.0)) (decimal_low (d.key.slot + 1) (next_low d.key.slot d-low.0)) at_v.0 in
     same_handle b d (same_key b.key d.key (same-slot b.key.slot d.key.slot b-low.0 d-low.0 at_k.1) (decimal_same b.key.version d.key.version (low_enough b.key.version b-low.1) (low_enough d.key.version d-low.1) at_v.1))
 
-never-same : (p q : Option (List ℕ)) (v : Value) (b : Ptr BasicBlock) → v.number < 2 ^ 64 → IsInRange (block b) → with_id p (id_text (value v)) ≡ with_id q (id_text (block b)) → ⊥
+never-same : (p q : Option (List ℕ)) (v : Value) (b : Ptr BasicBlock) → v.number < 2 ^ 64 → HasProgramNumbers (block b) → with_id p (id_text (value v)) ≡ with_id q (id_text (block b)) → ⊥
 never-same p q v b v-low b-low same = front-apart p (before_slot q) (b.key.slot + 1) (next_low b.key.slot b-low.0)
     (split_once 118 (omega arith) (front p) (before_version q b) (decimal v.number) (decimal b.key.version) (decimal_low v.number (low_enough v.number v-low)) (decimal_low b.key.version (low_enough b.key.version b-low.1)) (sym (value-written p v) ∙ same ∙ block-written q b)).0
 

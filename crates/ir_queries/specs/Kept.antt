@@ -20,8 +20,8 @@ uniqued_key u = record { key = u.key; of = record {} }
 
 module _ {K B S : Type 0} where
   -- the context keeps the value
-  abbrev pub IsKept : TypesView K B S → Uniqued S → Type 0
-  IsKept types u = IsSaved types (saved_key u)
+  abbrev pub IsKeptByContext : TypesView K B S → Uniqued S → Type 0
+  IsKeptByContext types u = IsSaved types (saved_key u)
 
   -- the value that the context keeps
   abbrev pub value_at : TypesView K B S → Uniqued S → Option S

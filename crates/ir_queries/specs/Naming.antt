@@ -25,9 +25,9 @@ IsLive c (value v) = IsLiveValue c v
 IsLive c (block b) = IsSome (block_at c b)
 
 -- the numbers of a value, or of a block's handle, are those of a program: each has at most 64 bits
-abbrev pub IsInRange : Nameable → Type 0
-IsInRange (value v) = v.number < 2 ^ 64
-IsInRange (block b) = (b.key.slot < 2 ^ 64) × (b.key.version < 2 ^ 64)
+abbrev pub HasProgramNumbers : Nameable → Type 0
+HasProgramNumbers (value v) = v.number < 2 ^ 64
+HasProgramNumbers (block b) = (b.key.slot < 2 ^ 64) × (b.key.version < 2 ^ 64)
 
 -- the id of a value is `v` and its number; that of a block is `block`, its slot counted from 1, `v` and its version
 abbrev pub id_text : Nameable → List ℕ
@@ -58,16 +58,16 @@ module _ {D TypeKind AttrKind TypeBody Saved Location OpKind Attr TypeKey : Type
   module _ (key : List ℕ) (names_in : Attr → Option (List (Option (List ℕ)))) where
     -- the name that a value or a block was given: the one at the value's index among the names that its definer's attributes hold, or
     -- the label of the block
-    abbrev pub IsGiven : Program (OperationData D TypeKind AttrKind TypeBody Saved Location OpKind Attr TypeKey) (BlockNotes D TypeKind AttrKind TypeBody Saved Location OpKind Attr TypeKey) → Nameable → Option (List ℕ) → Type 0
-    IsGiven c (value v) name = (k : ℕ) → value_in (values_at c v.definer) k ≡ Some v → name ≡ name_at (names_under key names_in (attributes_of c v.definer)) k
-    IsGiven c (block b) name = option_map (option_map text_of) (label_at c b) ≡ Some name
+    abbrev pub IsGivenName : Program (OperationData D TypeKind AttrKind TypeBody Saved Location OpKind Attr TypeKey) (BlockNotes D TypeKind AttrKind TypeBody Saved Location OpKind Attr TypeKey) → Nameable → Option (List ℕ) → Type 0
+    IsGivenName c (value v) name = (k : ℕ) → value_in (values_at c v.definer) k ≡ Some v → name ≡ name_at (names_under key names_in (attributes_of c v.definer)) k
+    IsGivenName c (block b) name = option_map (option_map text_of) (label_at c b) ≡ Some name
 
     -- the text is the name that was given, `_` and the id, or the id where no name was given
     pub record IsUnique (c : Program (OperationData D TypeKind AttrKind TypeBody Saved Location OpKind Attr TypeKey) (BlockNotes D TypeKind AttrKind TypeBody Saved Location OpKind Attr TypeKey)) (x : Nameable) (text : List ℕ) : Type 0 where
       pub name : Option (List ℕ)
-      pub given : IsGiven c x name
+      pub given : IsGivenName c x name
       pub joined : text ≡ with_id name (id_text x)
 
     -- values and blocks with one unique name are the same
     abbrev pub HaveOwnNames : Program (OperationData D TypeKind AttrKind TypeBody Saved Location OpKind Attr TypeKey) (BlockNotes D TypeKind AttrKind TypeBody Saved Location OpKind Attr TypeKey) → Type 0
-    HaveOwnNames c = (x y : Nameable) (text : List ℕ) → IsLive c x → IsLive c y → IsInRange x → IsInRange y → IsUnique c x text → IsUnique c y text → x ≡ y
+    HaveOwnNames c = (x y : Nameable) (text : List ℕ) → IsLive c x → IsLive c y → HasProgramNumbers x → HasProgramNumbers y → IsUnique c x text → IsUnique c y text → x ≡ y

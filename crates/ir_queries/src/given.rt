@@ -4,7 +4,7 @@ ghost use Rattle.ir_names.specs.Identifier.{text_of};
 ghost use Rattle.ir_program.specs.Program.{IsLiveValue, block_at};
 ghost use Rattle.ir_program.specs.Lists.{IsLiveNode};
 ghost use Rattle.ir_program.specs.Erased.{definer_node};
-ghost use Rattle.ir_queries.specs.Naming.{attributes_of, names_under, name_at, value as ValueName, block as BlockName, IsGiven};
+ghost use Rattle.ir_queries.specs.Naming.{attributes_of, names_under, name_at, value as ValueName, block as BlockName, IsGivenName};
 
 use crate::ValueUses;
 use ir_context::{BlockCalls, Context, OperationCalls};
@@ -50,7 +50,8 @@ fn name_at(names: &[Option<Identifier>], index: usize) -> Option<&Identifier>
 #[tactic(auto, using(crate::proofs::DefinerLemmas::definer_live))]
 pub(crate) fn value_name<D: DialectTables>(ctx: &Context<D>, value: Value) -> Option<&Identifier>
     requires { IsLiveValue ctx.now.program value }
-    ensures { IsGiven D.names D.names_in ctx.now.program (ValueName value) (option_map (λ id. text_of id.now) result) }
+    ensures { IsGivenName D.names D.names_in ctx.now.program (ValueName value)
+        (option_map (λ id. text_of id.now) result) }
 {
     ctx.program().know_values();
     let index = value.find_index(ctx);
@@ -63,7 +64,8 @@ pub(crate) fn block_name<D: DialectTables>(
     block: Ptr<BasicBlock>,
 ) -> Option<&Identifier>
     requires { IsSome (block_at ctx.now.program block) }
-    ensures { IsGiven D.names D.names_in ctx.now.program (BlockName block) (option_map (λ id. text_of id.now) result) }
+    ensures { IsGivenName D.names D.names_in ctx.now.program (BlockName block)
+        (option_map (λ id. text_of id.now) result) }
 {
     block.label(ctx)
 }

@@ -2,7 +2,7 @@
 ghost use Rattle.std.specs.Prelude.{◌≡◌, ◌++◌, ℕ, List, IfOk, OnOk, decimal, option_map};
 ghost use Rattle.std.specs.Fmt.{WritesInCalls};
 ghost use Rattle.ir_names.specs.Identifier.{text_of};
-ghost use Rattle.ir_queries.specs.Naming.{Nameable, value as ValueName, block as BlockName, IsLive, IsGiven, IsUnique, HaveOwnNames, id_text, with_id};
+ghost use Rattle.ir_queries.specs.Naming.{Nameable, value as ValueName, block as BlockName, IsLive, IsGivenName, IsUnique, HaveOwnNames, id_text, with_id};
 
 use crate::given::{block_name, value_name};
 use crate::writing::{write_block, write_value};
@@ -66,7 +66,7 @@ pub trait Named {
         ctx: &Context<D>,
     ) -> Result<Option<Identifier>, AllocError>
         requires { IsLive ctx.now.program (named self) }
-        ensures { IfOk result (λ name. IsGiven D.names D.names_in ctx.now.program (named self)
+        ensures { IfOk result (λ name. IsGivenName D.names D.names_in ctx.now.program (named self)
             (option_map text_of name)) };
 
     /// Its id: `v` and the number of a value; `block`, the slot counted from 1, `v` and the version of a block.

@@ -24,7 +24,7 @@ pub struct UniquedKey<S> {
 }
 
 impl<S> Uniqued<S> {
-    ghost use Rattle.ir_queries.specs.Kept.{uniqued, saved_key, uniqued_key, IsKept, value_at, AreKeptOnce};
+    ghost use Rattle.ir_queries.specs.Kept.{uniqued, saved_key, uniqued_key, IsKeptByContext, value_at, AreKeptOnce};
     ghost use Rattle.ir_queries.specs.declared.uniqued.Uniqued.{Uniqued};
 
     /// Keeps a value.
@@ -61,7 +61,7 @@ impl<S> Uniqued<S> {
 
     /// The value, as the context keeps it.
     pub fn get<D: DialectTables<Saved = S>>(self, ctx: &Context<D>) -> &S
-        requires { IsKept ctx.now.types self }
+        requires { IsKeptByContext ctx.now.types self }
         ensures { value_at ctx.now.types self ≡ Some result.now }
     {
         ctx.saved(self.key)

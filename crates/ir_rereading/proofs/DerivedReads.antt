@@ -11,7 +11,7 @@ use Rattle.ir_grammar.specs.declared.grammar.Rule.{Rule}
 use Rattle.ir_grammar.specs.declared.grammar.Grammar.{Grammar}
 use Rattle.ir_grammar.specs.declared.grammar.Stop.TheVariants.{Text}
 use Rattle.ir_grammar.specs.Grammar.{Derives, Finished, Shifted, Acted, Expanded, IsTextOf}
-use Rattle.ir_grammar.specs.Table.{column_of, pick, Follows, closing_of, Begins, IsFine, IsPredictive, CanRead}
+use Rattle.ir_grammar.specs.Table.{column_of, pick, MayFollowPart, closing_of, BeginsAtColumn, IsFine, IsPredictive, CanRead}
 use Rattle.ir_grammar.specs.Reading.{through, IsPrefix, OnlyBegins, IsMostly, IsMost, OpensMore, Reads}
 use Rattle.ir_grammar.proofs.Derivations.{after_none, after_sign, after_act, after_part, picks, fine_expanded}
 use Rattle.ir_grammar.proofs.Closing.{begins_append}
@@ -31,7 +31,7 @@ column_more k ts more = refl
 
 module _ (g : Grammar) (ok : IsPredictive g) where
   -- what goes on at a column takes a token there, and does nothing before it but begin members
-  begins_token : {ss : List Symbol} {ts : List ℕ} {es : List Event} → Derives g ss ts es → IsFine g ss → Begins g ss (column_of ts) → (0 < column_of ts) × OnlyBegins (through es 0)
+  begins_token : {ss : List Symbol} {ts : List ℕ} {es : List Event} → Derives g ss ts es → IsFine g ss → BeginsAtColumn g ss (column_of ts) → (0 < column_of ts) × OnlyBegins (through es 0)
   begins_token Finished h b = absurd b
   begins_token (Shifted a d) h b = (omega arith, tt)
   begins_token (Acted d) h b = let x = begins_token d h b.1 in (x.0, (b.0, x.1))
@@ -42,7 +42,7 @@ module _ (g : Grammar) (ok : IsPredictive g) where
       let fine = fine_expanded g ok p r ss e (subst (λ m. IsFine g (Part m ∷ ss)) (sym q) h) in
       elim (x.3) [
         | inl closing ↦ absurd (b.2 (let two : pick g n (column_of ts) ≡ Some b.0 = b.1 in cc))
-        | inr begins ↦ begins_token d fine (begins_append g r.body.items ss (column_of ts) (subst (λ y. Begins g y.body.items (column_of ts)) same begins))
+        | inr begins ↦ begins_token d fine (begins_append g r.body.items ss (column_of ts) (subst (λ y. BeginsAtColumn g y.body.items (column_of ts)) same begins))
       ]
 
   -- where the end picks a rule, it closes the part
@@ -53,7 +53,7 @@ module _ (g : Grammar) (ok : IsPredictive g) where
       let same : x.0 ≡ r = cc in
       elim (x.3) [
         | inl closing ↦ closing
-        | inr begins ↦ (let t = begins_token d (fine_expanded g ok p r ss e (subst (λ m. IsFine g (Part m ∷ ss)) (sym q) h)) (begins_append g r.body.items ss 0 (subst (λ y. Begins g y.body.items 0) same begins)) in absurd (omega (arith, t.0)))
+        | inr begins ↦ (let t = begins_token d (fine_expanded g ok p r ss e (subst (λ m. IsFine g (Part m ∷ ss)) (sym q) h)) (begins_append g r.body.items ss 0 (subst (λ y. BeginsAtColumn g y.body.items 0) same begins)) in absurd (omega (arith, t.0)))
       ]
 
   -- two rules of a part, one in a text and one in a text that goes on: they are one, or nothing is done before the next token but that members begin
@@ -102,7 +102,7 @@ through_all (Expanded p r e q d) = through_all d
 pub derived_reads : (g : Grammar) (ks : List ℕ) (es : List Event) → CanRead g 0 → Derives g (Part 0 ∷ []) ks es → (OpensMore 64 0 es → ⊥) → Reads g 0 64 ks Text (length ks) es
 derived_reads g ks es can d few =
     let all : take (length ks) ks ≡ ks = take_all (length ks) ks (omega arith) in
-    let fine : IsFine g (Part 0 ∷ []) = (λ c z. subst (λ x. Follows g 0 x) (sym z) can.ends, tt) in
+    let fine : IsFine g (Part 0 ∷ []) = (λ c z. subst (λ x. MayFollowPart g 0 x) (sym z) can.ends, tt) in
     let whole : IsTextOf g 0 (ks ++ []) es = subst (λ x. IsTextOf g 0 x es) (sym (append-nil ks)) d in
     let most : IsMost g 0 ks es = record {
       some = ([], es, whole, ([], through_all d ∙ sym (append-nil es), tt));

@@ -4,7 +4,7 @@ use Rattle.std.specs.Prelude.{IsUtf8}
 use Rattle.ir_print.specs.Pieces.{Entity}
 use Rattle.ir_print.specs.Printed.{value_name}
 use Rattle.ir_grammar.specs.declared.grammar.Grammar.{Grammar}
-use Rattle.ir_forest.specs.Closed.{IsClosed, IsNumbered, IsSameModule}
+use Rattle.ir_forest.specs.Closed.{IsClosedTree, IsNumbered, IsSameModule}
 use Rattle.ir_rereading.specs.Printable.{IsLayoutOf, CanPrint}
 use Rattle.ir_rereading.specs.Texts.{Says}
 use Rattle.ir_formats.specs.Rules.{IsGrammarOf}
@@ -17,14 +17,14 @@ use Rattle.ir_rereading.proofs.layouts.PrintedDefinitions.{printed_spelt}
 use Rattle.ir_rereading.proofs.ReadBack.{read_again}
 use Rattle.ir_rereading.proofs.trees.TreeClosed.{closed_renamed}
 
-module _ (l : Language) (can : CanPrint l) (tree : Entity ℕ) (text : List ℕ) (closed : IsClosed l tree) (of : IsLayoutOf l.formats tree text) where
+module _ (l : Language) (can : CanPrint l) (tree : Entity ℕ) (text : List ℕ) (closed : IsClosedTree l tree) (of : IsLayoutOf l.formats tree text) where
   abbrev ν : ℕ → List ℕ
   ν n = value_name (of.number n)
 
   spelt : IsSpelt of.printed
   spelt = printed_spelt of.number of.small of.printed tree of.named of.blocks
 
-  there : IsClosed l of.printed
+  there : IsClosedTree l of.printed
   there = closed_renamed ν l tree of.printed closed of.named of.labelled (printed_bare ν of.printed tree of.named closed.bare)
 
   same_text : text ++ 10 ∷ [] ≡ characters (marks l.formats of.printed) ++ 10 ∷ []

@@ -13,8 +13,8 @@ use Rattle.ir_tokens.specs.declared.tokens.TokenKind.{TokenKind}
 use Rattle.ir_tokens.specs.declared.faults.Fault.{Fault}
 use Rattle.ir_scopes.specs.declared.scopes.Resolution.{Resolution}
 use Rattle.ir_scopes.specs.declared.sites.Site.{Site}
-use Rattle.ir_forest.specs.Closed.{IsClosed, IsNumbered, AllDistinct, definitions_of, unlabelled, IsLabelled, IsScopedRoot, IsSameModule}
-use Rattle.ir_forest.specs.Forest.{Step, IsForest}
+use Rattle.ir_forest.specs.Closed.{IsClosedTree, IsNumbered, AllDistinct, definitions_of, unlabelled, IsLabelled, IsScopedRoot, IsSameModule}
+use Rattle.ir_forest.specs.Forest.{ActionSpan, IsForestOf}
 use Rattle.ir_forest.specs.Meaning.{operations_in, renamed}
 use Rattle.ir_grammar.specs.Nesting.{at_root, at_end}
 use Rattle.ir_formats.specs.Ordered as ordered
@@ -24,7 +24,7 @@ use Rattle.ir_rereading.specs.Printable.{is_printable}
 use Rattle.ir_forest.specs.Progress.{Leads}
 use Rattle.ir_grammar.specs.Reading.{Reads}
 use Rattle.ir_formats.specs.Rules.{words_of, rules_of, with_words, IsGrammarOf}
-use Rattle.ir_scopes.specs.Scopes.{definitions, mentions, labels, closings, AreApart, Means, Resolves, IsAgain, IsLacking}
+use Rattle.ir_scopes.specs.Scopes.{definitions, mentions, labels, closings, SitesAreApart, Means, Resolves, IsAgain, IsUnresolvedName}
 use Rattle.ir_rereading.specs.Texts.{IsReading, HasFault, Says}
 use Rattle.ir_formats.specs.Words.{token_text, text_of, kind_of, name_number, spelled_texts, AlikeInNumber}
 use Rattle.ir_forest.specs.Language.{Language}
@@ -106,9 +106,9 @@ tokens_few cs i (t ∷ ts) le r = go t.kind refl r.3 (tokens_few cs t.end ts r.2
 
 -- ---- a whole text
 
-module _ (l : Language) (lead : ordered.Leads) (ok : is_ordered lead (rules_of l.formats) ≡ true) (printable : is_printable l.formats ≡ true) (outer : has_outer_operands l.formats ≡ true)
+module _ (l : Language) (lead : ordered.PartPositions) (ok : is_ordered lead (rules_of l.formats) ≡ true) (printable : is_printable l.formats ≡ true) (outer : has_outer_operands l.formats ≡ true)
     (g : Grammar) (known : IsGrammarOf l.formats g) (t : Entity ℕ) (p : Entity (List ℕ)) (ν : ℕ → List ℕ)
-    (closed : IsClosed l t) (numbered : IsNumbered t) (same : unlabelled p ≡ unlabelled (renamed ν t)) (distinct : AllDistinct (definitions_of p)) (spelt : IsSpelt p) (labels_differ : IsLabelled p) where
+    (closed : IsClosedTree l t) (numbered : IsNumbered t) (same : unlabelled p ≡ unlabelled (renamed ν t)) (distinct : AllDistinct (definitions_of p)) (spelt : IsSpelt p) (labels_differ : IsLabelled p) where
   abbrev ms : List Mark
   ms = marks l.formats p
 
@@ -118,7 +118,7 @@ module _ (l : Language) (lead : ordered.Leads) (ok : is_ordered lead (rules_of l
   abbrev es : List Event
   es = events ms
 
-  there : IsClosed l p
+  there : IsClosedTree l p
   there = closed_renamed ν l t p closed same labels_differ (printed_bare ν p t same closed.bare)
 
   plain_there : IsPlainTree p
@@ -166,7 +166,7 @@ module _ (l : Language) (lead : ordered.Leads) (ok : is_ordered lead (rules_of l
       go None e a = absurd (cc)
       go (Some u) e a = cc
 
-  built : (forest : Trees Step) × (tree : Entity ℕ) × IsForest es forest × (operations_in l.values text [] forest ≡ an_entity tree no_entity) × (renamed text tree ≡ p) × Rattle.ir_forest.specs.ValueFaults.AreSound l.values text forest
+  built : (forest : Trees ActionSpan) × (tree : Entity ℕ) × IsForestOf es forest × (operations_in l.values text [] forest ≡ an_entity tree no_entity) × (renamed text tree ≡ p) × Rattle.ir_forest.specs.ValueFaults.AreSound l.values text forest
   built = layout_tree l.formats l.values p text there.fits plain_there there.operation has_text
 
   abbrev tree : Entity ℕ
@@ -175,7 +175,7 @@ module _ (l : Language) (lead : ordered.Leads) (ok : is_ordered lead (rules_of l
   leads : Leads at_root [] es at_end []
   leads = leads_along es at_root [] at_end [] (text_ends g (orders l lead ok cs ts numbers n es g known.rules) 64 n (map (kind_by ws) (tokens ms)) es reads)
 
-  abbrev forest : Trees Step
+  abbrev forest : Trees ActionSpan
   forest = built.0
 
   no_names : (f : Fault) → Rattle.ir_forest.specs.ValueFaults.HasNamesFault l.values text es f → ⊥
@@ -196,7 +196,7 @@ module _ (l : Language) (lead : ordered.Leads) (ok : is_ordered lead (rules_of l
   no_again : (f : Fault) → IsAgain numbers (definitions l.isolated es) f → ⊥
   no_again = text_none_again l cs ts numbers stops.Text n es reading forest tree built.2 built.3 leads no_names distinct_read scoped_read
 
-  no_lacking : (f : Fault) → IsLacking numbers (definitions l.isolated es) (mentions l.isolated es) (closings l.isolated es) f → ⊥
+  no_lacking : (f : Fault) → IsUnresolvedName numbers (definitions l.isolated es) (mentions l.isolated es) (closings l.isolated es) f → ⊥
   no_lacking = text_none_lacking l cs ts numbers stops.Text n es reading forest tree built.2 built.3 leads no_names distinct_read scoped_read
 
   means : (i : ℕ) (m : Site) → slice_get (mentions l.isolated es) i ≡ Some m → (j : ℕ) × Means numbers (definitions l.isolated es) m j
@@ -234,7 +234,7 @@ module _ (l : Language) (lead : ordered.Leads) (ok : is_ordered lead (rules_of l
         (λ s m i j e. spelled_alike l cs ts numbers stops.Text n es reading s.token m.token (value_spelled l cs ts numbers stops.Text n es reading s.token (s, inl i, refl)) (value_spelled l cs ts numbers stops.Text n es reading m.token (m, inr j, refl)) e),
   )
     where
-      apart : AreApart (definitions l.isolated es) (mentions l.isolated es)
+      apart : SitesAreApart (definitions l.isolated es) (mentions l.isolated es)
       apart = names_apart l cs ts numbers stops.Text n es reading lead ok
 
       bound : length numbers < 2 ^ 63

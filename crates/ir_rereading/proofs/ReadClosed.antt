@@ -17,7 +17,7 @@ use Rattle.ir_rereading.proofs.verdicts.TextReadings.{read_in_order}
 use Rattle.ir_rereading.proofs.trees.TreeLabels.{tree_labelled, renamed_labelled}
 use Rattle.ir_rereading.proofs.TreeTexts.{text_scoped, label_spelled, numbered_alike}
 
-module _ (l : Language) (lead : ordered.Leads) (ok : is_ordered lead (rules_of l.formats) ≡ true) (flat : (n d : ℕ) (ps : Pieces) → AreFlat d ps → AreFlat d (l.values.canonical n ps)) (keeps : KeepsBare l.values)
+module _ (l : Language) (lead : ordered.PartPositions) (ok : is_ordered lead (rules_of l.formats) ≡ true) (flat : (n d : ℕ) (ps : Pieces) → AreFlat d ps → AreFlat d (l.values.canonical n ps)) (keeps : KeepsBare l.values)
     (cs : List ℕ) (tree : Entity ℕ) (says : Says l cs tree) where
   -- what is known of the tree of a text, but for what its operations say
   pub record IsReadTree : Type 0 where

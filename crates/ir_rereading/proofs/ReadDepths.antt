@@ -11,7 +11,7 @@ use Rattle.ir_grammar.specs.declared.grammar.Event.{Event}
 use Rattle.ir_grammar.specs.declared.grammar.Event.TheVariants.{Took, Did}
 use Rattle.ir_tokens.specs.declared.faults.Fault.{Fault}
 use Rattle.ir_scopes.specs.Depth.{IsTooDeep, fault_deep}
-use Rattle.ir_forest.specs.Forest.{end_of, is_end, Deed, deeds_from, Step, ending, deeds_of, deeds_in, IsWholeStep, AreWhole, IsForest}
+use Rattle.ir_forest.specs.Forest.{end_of, is_end, Deed, deeds_from, ActionSpan, ending, deeds_of, deeds_in, IsWholeStep, AreWhole, IsForestOf}
 use Rattle.ir_forest.specs.Meaning.{pieces_in, arguments_in, operations_in, regions_in, blocks_in, renamed, all_renamed}
 use Rattle.ir_grammar.specs.Reading.{opens, depth_at, OpensAt}
 use Rattle.ir_forest.specs.Closed.{IsOperation}
@@ -40,7 +40,7 @@ low_deeds n d (Did a ∷ es) h = ((λ e. go e (cases_lt d 64)), low_deeds n (dep
     go e (inr x) = absurd (h (n - 1) (inl (e, x, refl)))
 
 -- the same of trees
-abbrev pub IsLow : ℕ → Trees Step → Type 0
+abbrev pub IsLow : ℕ → Trees ActionSpan → Type 0
 IsLow d no_tree = Unit {0}
 IsLow d (a_tree (node s ts) rest) = (opens s.action ≡ true → d < 64) × IsLow (depth_at d s.action) ts × IsLow d rest
 
@@ -67,11 +67,11 @@ alone_even act.Width d e f = refl
 alone_even act.Operand d e f = refl
 alone_even _ d e f = cc
 
-abbrev Lowers : Trees Step → Type 0
+abbrev Lowers : Trees ActionSpan → Type 0
 Lowers ts = AreWhole ts → (d : ℕ) (more : List Deed) → LowDeeds d (deeds_in ts ++ more) → IsLow d ts × LowDeeds d more
 
 -- what is in a step, and what comes behind it
-low_in : (s : Step) (ts : Trees Step) (x : Option Action) → end_of s.action ≡ x → IsWholeStep x s ts → AreWhole ts → Lowers ts → (d : ℕ) (more : List Deed)
+low_in : (s : ActionSpan) (ts : Trees ActionSpan) (x : Option Action) → end_of s.action ≡ x → IsWholeStep x s ts → AreWhole ts → Lowers ts → (d : ℕ) (more : List Deed)
     → LowDeeds (depth_at d s.action) ((deeds_in ts ++ ending x s.last) ++ more) → IsLow (depth_at d s.action) ts × LowDeeds d more
 low_in s ts None e w whole here d more h =
     let same : deeds_in ts ++ [] ≡ [] = ap (λ us. deeds_in us ++ []) w.2 in
@@ -80,7 +80,7 @@ low_in s ts (Some x) e w whole here d more h =
     let r = here whole (depth_at d s.action) ((x, s.last) ∷ more) (subst (LowDeeds (depth_at d s.action)) (append_assoc (deeds_in ts) ((x, s.last) ∷ []) more) h) in
     (r.0, subst (λ k. LowDeeds k more) (ends_even s.action x d e) r.1.1)
 
-lowers : (ts : Trees Step) → Lowers ts
+lowers : (ts : Trees ActionSpan) → Lowers ts
 lowers no_tree w d more h = (tt, h)
 lowers (a_tree (node s ts) rest) w d more h =
     let all = subst (LowDeeds d) (append_assoc (deeds_of (node s ts)) (deeds_in rest) more) h in
@@ -89,7 +89,7 @@ lowers (a_tree (node s ts) rest) w d more h =
     ((all.0, r.0, q.0), q.1)
 
 -- Where a text isn't too deep, its trees aren't.
-pub forest_low : (es : List Event) (ts : Trees Step) → IsForest es ts → ((f : Fault) → IsTooDeep es f → ⊥) → IsLow 0 ts
+pub forest_low : (es : List Event) (ts : Trees ActionSpan) → IsForestOf es ts → ((f : Fault) → IsTooDeep es f → ⊥) → IsLow 0 ts
 forest_low es ts f good =
     let low = low_deeds 0 0 es (λ k h. good (fault_deep k) (k, h, refl)) in
     (lowers ts f.0 0 [] (subst (LowDeeds 0) (f.1 ∙ sym (append-nil (deeds_in ts))) low)).0
@@ -103,10 +103,10 @@ more_deep P d (suc e) s lt f = f e (omega (arith, s))
 
 module _ (v : Values) (text : ℕ → List ℕ) (flat : (n d : ℕ) (ps : Pieces) → AreFlat d ps → AreFlat d (v.canonical n ps)) where
   -- with d parts open before, e more may be
-  abbrev Flat : Trees Step → Type 0
+  abbrev Flat : Trees ActionSpan → Type 0
   Flat ts = (d e : ℕ) → d + e ≡ 64 → IsLow d ts → AreFlat e (pieces_in v text ts)
 
-  piece_flat : (a : Action) (f l : ℕ) (ts rest : Trees Step) → Flat ts → (d e : ℕ) → d + e ≡ 64 → (opens a ≡ true → d < 64) → IsLow (depth_at d a) ts → AreFlat e (pieces_in v text rest)
+  piece_flat : (a : Action) (f l : ℕ) (ts rest : Trees ActionSpan) → Flat ts → (d e : ℕ) → d + e ≡ 64 → (opens a ≡ true → d < 64) → IsLow (depth_at d a) ts → AreFlat e (pieces_in v text rest)
       → AreFlat e (pieces_in v text (a_tree (node (step_of a f l) ts) rest))
   piece_flat (act.BeginType kind) f l ts rest inner d e s lt low more = (more_deep (λ e. AreFlat e (pieces_in v text ts)) d e s (lt refl) (λ e s. inner (d + 1) e s low), more)
   piece_flat (act.BeginAttribute kind) f l ts rest inner d e s lt low more =
@@ -120,15 +120,15 @@ module _ (v : Values) (text : ℕ → List ℕ) (flat : (n d : ℕ) (ps : Pieces
   piece_flat act.Width f l ts rest inner d e s lt low more = (width_so (λ z. IsFlat e (node z no_tree)) (λ bits. tt) (λ bits. tt) (λ bits. tt) (text f), more)
   piece_flat _ f l ts rest inner d e s lt low more = more
 
-  pieces_flat : (ts : Trees Step) → Flat ts
+  pieces_flat : (ts : Trees ActionSpan) → Flat ts
   pieces_flat no_tree d e s low = tt
   pieces_flat (a_tree (node s ts) rest) d e sum low = piece_flat s.action s.first s.last ts rest (pieces_flat ts) d e sum low.0 low.1 (pieces_flat rest d e sum low.2)
 
   -- the arguments of a header are flat, whatever the first is named
-  abbrev FlatArguments : Trees Step → Type 0
+  abbrev FlatArguments : Trees ActionSpan → Type 0
   FlatArguments ts = (named d e : ℕ) → d + e ≡ 64 → IsLow d ts → AreFlatArguments e (arguments_in v text named ts)
 
-  argument_flat : (a : Action) (f l : ℕ) (ts rest : Trees Step) (named d e : ℕ) → d + e ≡ 64 → (opens a ≡ true → d < 64) → IsLow (depth_at d a) ts → IsLow d rest → FlatArguments rest
+  argument_flat : (a : Action) (f l : ℕ) (ts rest : Trees ActionSpan) (named d e : ℕ) → d + e ≡ 64 → (opens a ≡ true → d < 64) → IsLow (depth_at d a) ts → IsLow d rest → FlatArguments rest
       → AreFlatArguments e (arguments_in v text named (a_tree (node (step_of a f l) ts) rest))
   argument_flat act.Argument f l ts rest named d e s lt low others more = more f d e s others
   argument_flat (act.BeginType kind) f l ts rest named d e s lt low others more =
@@ -136,17 +136,17 @@ module _ (v : Values) (text : ℕ → List ℕ) (flat : (n d : ℕ) (ps : Pieces
   argument_flat act.Header f l ts rest named d e s lt low others more = tt
   argument_flat _ f l ts rest named d e s lt low others more = more named d e s others
 
-  arguments_flat : (ts : Trees Step) → FlatArguments ts
+  arguments_flat : (ts : Trees ActionSpan) → FlatArguments ts
   arguments_flat no_tree named d e s low = tt
   arguments_flat (a_tree (node s ts) rest) named d e sum low = argument_flat s.action s.first s.last ts rest named d e sum low.0 low.1 low.2 (arguments_flat rest)
 
   -- what steps say in each of three ways is shallow: operations, regions and blocks
-  pub record Shallow (ts : Trees Step) : Type 0 where
+  pub record Shallow (ts : Trees ActionSpan) : Type 0 where
     pub operations : (names : List ℕ) (d e : ℕ) → d + e ≡ 64 → IsLow d ts → AreShallow e (operations_in v text names ts)
     pub regions : (d e : ℕ) → d + e ≡ 64 → IsLow d ts → AreShallow e (regions_in v text ts)
     pub blocks : (d e : ℕ) → d + e ≡ 64 → IsLow d ts → AreShallow e (blocks_in v text ts)
 
-  module _ (f l : ℕ) (ts rest : Trees Step) (inner : Shallow ts) (more : Shallow rest) (d e : ℕ) (sum : d + e ≡ 64) where
+  module _ (f l : ℕ) (ts rest : Trees ActionSpan) (inner : Shallow ts) (more : Shallow rest) (d e : ℕ) (sum : d + e ≡ 64) where
     operation_shallow : (a : Action) (names : List ℕ) → IsLow (depth_at d a) ts → IsLow d rest → AreShallow e (operations_in v text names (a_tree (node (step_of a f l) ts) rest))
     operation_shallow act.Result names low others = more.operations (names ++ f ∷ []) d e sum others
     operation_shallow (act.Operation kind) names low others = ((pieces_flat ts d e sum low, inner.regions d e sum low), more.operations [] d e sum others)
@@ -160,7 +160,7 @@ module _ (v : Values) (text : ℕ → List ℕ) (flat : (n d : ℕ) (ps : Pieces
     block_shallow act.Label low others = ((arguments_flat ts 0 d e sum low, inner.operations [] d e sum low), more.blocks d e sum others)
     block_shallow _ low others = more.blocks d e sum others
 
-  pub shallow : (ts : Trees Step) → Shallow ts
+  pub shallow : (ts : Trees ActionSpan) → Shallow ts
   shallow no_tree = record { operations = λ names d e s low. tt; regions = λ d e s low. tt; blocks = λ d e s low. tt }
   shallow (a_tree (node s ts) rest) = let inner = shallow ts in let more = shallow rest in record {
     operations = λ names d e sum low. operation_shallow s.first s.last ts rest inner more d e sum s.action names low.1 low.2;
@@ -199,6 +199,6 @@ says_shallow l flat cs tree (ts, names, stop, n, es, forest, t, r, reading, fine
     subst (IsShallow 64) (sym same) (shallow_renamed _ t 64 one.0)
 
 -- what a text says is a shallow operation
-pub read_tree : (l : Language) (leads : ordered.Leads) → is_ordered leads (rules_of l.formats) ≡ true → (cs : List ℕ) (tree : Entity ℕ) → Says l cs tree
+pub read_tree : (l : Language) (leads : ordered.PartPositions) → is_ordered leads (rules_of l.formats) ≡ true → (cs : List ℕ) (tree : Entity ℕ) → Says l cs tree
     → ((n d : ℕ) (ps : Pieces) → AreFlat d ps → AreFlat d (l.values.canonical n ps)) → IsOperation l.values tree × IsShallow 64 tree
 read_tree l leads ok cs tree says flat = (says_operation l leads ok cs tree says, says_shallow l flat cs tree says)

@@ -11,7 +11,7 @@ use Rattle.ir_tokens.specs.declared.tokens.Token.{Token}
 use Rattle.ir_forest.specs.Building.{with_name}
 use Rattle.ir_forest.specs.Closed.{regions_said, number_in as entities_in, IsOperation, AreRegions, IsRegion, AreBlocks, IsBlock, AreOperations}
 use Rattle.ir_tokens.specs.Faults.{IsNamed}
-use Rattle.ir_forest.specs.Forest.{Step, IsForest}
+use Rattle.ir_forest.specs.Forest.{ActionSpan, IsForestOf}
 use Rattle.ir_forest.specs.Meaning.{digits, tail, number_in, width_in, pieces_in, typed, operations_in, regions_in, blocks_in, renamed, all_renamed}
 use Rattle.ir_grammar.specs.Nesting.{Position, at_root, behind_root_results, at_end, in_operation, in_operands, in_region, in_header, in_argument, in_block, behind_results, in_type, in_attribute, in_list, in_item, move}
 use Rattle.ir_formats.specs.Ordered.{is_ordered}
@@ -61,19 +61,19 @@ width_so P h i u (c ∷ cs) = go (c == 115) (c == 117)
 -- ---- the shape of what is read
 
 -- a step of an action, with the tokens where it begins and ends
-abbrev pub step_of : Action → ℕ → ℕ → Step
+abbrev pub step_of : Action → ℕ → ℕ → ActionSpan
 step_of a f l = record { action = a; first = f; last = l }
 
 module _ (v : Values) (text : ℕ → List ℕ) where
   -- an operation's pieces say as many regions as it has
-  abbrev HasRegions : Trees Step → Type 0
+  abbrev HasRegions : Trees ActionSpan → Type 0
   HasRegions ts = (regions_said (pieces_in v text ts) ≡ entities_in (regions_in v text ts)) × AreRegions v (regions_in v text ts)
 
-  abbrev HasOperations : List ℕ → Trees Step → Type 0
+  abbrev HasOperations : List ℕ → Trees ActionSpan → Type 0
   HasOperations names ts = AreOperations v (operations_in v text names ts)
 
   -- what steps are at each position, these names of results standing before them
-  abbrev Shaped : Position → List ℕ → Trees Step → Type 0
+  abbrev Shaped : Position → List ℕ → Trees ActionSpan → Type 0
   Shaped at_root names ts = HasOperations names ts
   Shaped behind_root_results names ts = HasOperations names ts
   Shaped at_end names ts = HasOperations names ts
@@ -106,14 +106,14 @@ module _ (v : Values) (text : ℕ → List ℕ) where
   none in_item names = tt
 
   -- what is known of the trees in a step
-  abbrev Inner : Trees Step → Type 0
+  abbrev Inner : Trees ActionSpan → Type 0
   Inner ts = (q : Position) → Placed q ts → Shaped q [] ts
 
   -- and of those behind it
-  abbrev After : Trees Step → Type 0
+  abbrev After : Trees ActionSpan → Type 0
   After ts = (q : Position) (names : List ℕ) → Placed q ts → Counts v text names ts → Shaped q names ts
 
-  module _ (names : List ℕ) (f l : ℕ) (ts rest : Trees Step) (inner : Inner ts) (more : After rest) where
+  module _ (names : List ℕ) (f l : ℕ) (ts rest : Trees ActionSpan) (inner : Inner ts) (more : After rest) where
     -- an operation, and those behind it
     an_operation : (kind : ℕ) → length names ≡ length (v.result_types kind (pieces_in v text ts)) → Placed in_operation ts → HasOperations [] rest
         → HasOperations names (a_tree (node (step_of (act.Operation kind) f l) ts) rest)
@@ -165,7 +165,7 @@ module _ (v : Values) (text : ℕ → List ℕ) where
     shape in_item a pl many c = tt
 
   -- steps that have their places, with as many names before operations as these have results
-  pub shaped : (ts : Trees Step) (p : Position) (names : List ℕ) → Placed p ts → Counts v text names ts → Shaped p names ts
+  pub shaped : (ts : Trees ActionSpan) (p : Position) (names : List ℕ) → Placed p ts → Counts v text names ts → Shaped p names ts
   shaped no_tree p names pl c = none p names
   shaped (a_tree (node s ts) rest) p names pl c =
       shape names s.first s.last ts rest (λ q h. shaped ts q [] h c.1) (λ q ns h d. shaped rest q ns h d) p s.action pl c.0 c.2
@@ -208,13 +208,13 @@ module _ {M N : Type 0} (v : Values) (f : M → N) where
 
 -- ---- a text
 
-module _ (l : Language) (leads : ordered.Leads) (ok : is_ordered leads (rules_of l.formats) ≡ true) (cs : List ℕ) (ts : List Token) (names : List ℕ) (stop : Stop) (n : ℕ) (es : List Event) where
+module _ (l : Language) (leads : ordered.PartPositions) (ok : is_ordered leads (rules_of l.formats) ≡ true) (cs : List ℕ) (ts : List Token) (names : List ℕ) (stop : Stop) (n : ℕ) (es : List Event) where
   -- the steps of a text without faults have their places
-  pub steps_placed : (forest : Trees Step) → IsReading l cs ts names stop n es → IsNamed (HasFault l cs ts names stop n es) None → IsForest es forest → Placed at_root forest
+  pub steps_placed : (forest : Trees ActionSpan) → IsReading l cs ts names stop n es → IsNamed (HasFault l cs ts names stop n es) None → IsForestOf es forest → Placed at_root forest
   steps_placed forest r none f = forest_placed es forest f (read_whole l leads ok cs ts names n es stop r none)
 
 -- what a text says is an operation
-pub says_operation : (l : Language) (leads : ordered.Leads) → is_ordered leads (rules_of l.formats) ≡ true → (cs : List ℕ) (tree : Entity ℕ) → Says l cs tree → IsOperation l.values tree
+pub says_operation : (l : Language) (leads : ordered.PartPositions) → is_ordered leads (rules_of l.formats) ≡ true → (cs : List ℕ) (tree : Entity ℕ) → Says l cs tree → IsOperation l.values tree
 says_operation l leads ok cs tree (ts, names, stop, n, es, forest, t, r, reading, fine, whole, said, resolved, same) =
     let text = token_text cs ts in
     let placed = steps_placed l leads ok cs ts names stop n es forest reading fine whole in

@@ -1,6 +1,6 @@
 -- What a dialect says has the shape of its formats.
 use Rattle.std.proofs.Common.{List, [], ◌∷◌, subst}
-use Rattle.ir_names.specs.Tree.{Tree, Trees, node, no_tree, a_tree}
+use Rattle.ir_names.specs.Tree.{LabelledTree, Trees, node, no_tree, a_tree}
 use Rattle.ir_print.specs.Formats as step
 use Rattle.ir_print.specs.Formats.{Formats, Step}
 use Rattle.ir_print.specs.Pieces.{type_of_kind, attribute_of_kind, list, item, operands, region, name, number, width, ValueTree, Pieces, Values}
@@ -22,7 +22,7 @@ list_map step.a_width P Q f h = absurd h
 
 module _ {K A T : Type 0} (says : Saying K A T) (f : Formats) (v : Values) (types : List T) (say_types : SaysTypes says f v) (say_attributes : SaysAttributes says f v) where
   mutual
-    pub shown_fits : (t : ValueTree) (s : Step) (u : Tree (Said A)) → IsSaidAt s u → Shows says types u t → Fits f v s t
+    pub shown_fits : (t : ValueTree) (s : Step) (u : LabelledTree (Said A)) → IsSaidAt s u → Shows says types u t → Fits f v s t
     shown_fits (node (type_of_kind n) ts) s u at h =
         let said = say_types types h.1 n h.2 ts h.5 h.6 in
         (subst (IsSaidAt s) h.3 at, said.kind, said.at, all_fit ts (parts_in said.kind.format) h.2 said.shaped h.6, said.read)
@@ -50,7 +50,7 @@ module _ {K A T : Type 0} (says : Saying K A T) (f : Formats) (v : Values) (type
     members_fit (a_tree t ts) ss no_tree at h = absurd h
     members_fit (a_tree t ts) ss (a_tree u us) at h = (member_fits t ss u at.0 h.0, members_fit ts ss us at.1 h.1)
 
-    member_fits : (t : ValueTree) (ss : List Step) (u : Tree (Said A)) → IsMemberSaidAt ss u → Shows says types u t → FitsMember f v ss t
+    member_fits : (t : ValueTree) (ss : List Step) (u : LabelledTree (Said A)) → IsMemberSaidAt ss u → Shows says types u t → FitsMember f v ss t
     member_fits (node (type_of_kind n) ts) ss u at h = absurd (subst (IsMemberSaidAt ss) h.3 at)
     member_fits (node (attribute_of_kind n) ts) ss u at h = absurd (subst (IsMemberSaidAt ss) h.2 at)
     member_fits (node list ts) ss u at h = absurd (subst (IsMemberSaidAt ss) h.1 at)

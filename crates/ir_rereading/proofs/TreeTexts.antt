@@ -12,14 +12,14 @@ use Rattle.ir_scopes.specs.declared.scopes.Resolution.{Resolution}
 use Rattle.ir_scopes.specs.declared.sites.Site.{Site}
 use Rattle.ir_forest.specs.Closed.{AllDistinct, definitions_of, IsScopedRoot, IsNumbered}
 use Rattle.ir_tokens.specs.Faults.{IsNamed}
-use Rattle.ir_forest.specs.Forest.{Step, IsForest}
+use Rattle.ir_forest.specs.Forest.{ActionSpan, IsForestOf}
 use Rattle.ir_forest.specs.Meaning.{operations_in, renamed}
 use Rattle.ir_grammar.specs.Nesting.{at_root, at_end}
 use Rattle.ir_formats.specs.Ordered as ordered
 use Rattle.ir_formats.specs.Ordered.{is_ordered}
 use Rattle.ir_forest.specs.Progress.{Leads}
 use Rattle.ir_formats.specs.Rules.{rules_of}
-use Rattle.ir_scopes.specs.Scopes.{beginning, definitions, labels, mentions, closings, defined, labelled, mentioned, name_of, Means, IsAgain, IsLacking, AreApart, IsResolved}
+use Rattle.ir_scopes.specs.Scopes.{beginning, definitions, labels, mentions, closings, defined, labelled, mentioned, name_of, Means, IsAgain, IsUnresolvedName, SitesAreApart, IsResolved}
 use Rattle.ir_rereading.specs.Texts.{IsReading, HasFault}
 use Rattle.ir_formats.specs.Words.{token_text, text_of}
 use Rattle.ir_forest.specs.Language.{Language}
@@ -52,9 +52,9 @@ module _ (l : Language) (cs : List ℕ) (ts : List Token) (names : List ℕ) (st
   numbered_alike j k (s, at, a) (t, there, b) e =
       (reading.alike j k s t at there a b).1 (sym (ap (λ (x : Option Token). option_map_or (text_of cs) x []) at) ∙ (e ∙ ap (λ (x : Option Token). option_map_or (text_of cs) x []) there))
 
-  module _ (leads : ordered.Leads) (ok : is_ordered leads (rules_of l.formats) ≡ true) where
+  module _ (leads : ordered.PartPositions) (ok : is_ordered leads (rules_of l.formats) ≡ true) where
     -- names of values have tokens of their own
-    pub names_apart : AreApart (definitions l.isolated es) (mentions l.isolated es)
+    pub names_apart : SitesAreApart (definitions l.isolated es) (mentions l.isolated es)
     names_apart = are_apart l.isolated es (own_tokens es (read_in_order l leads ok cs ts names n es stop reading).follows)
 
     module _ (enough : length ts ≤ length names) where
@@ -70,7 +70,7 @@ module _ (l : Language) (cs : List ℕ) (ts : List Token) (names : List ℕ) (st
           let few = reading_taken l cs ts names stop n es reading in omega arith
 
       -- The tree of a text without fault, in which the number of its definition names a value, is scoped, and its definitions have the numbers from 0 on.
-      pub text_scoped : IsNamed (HasFault l cs ts names stop n es) None → (forest : Trees Step) (tree : Entity ℕ) (r : Resolution) → IsForest es forest
+      pub text_scoped : IsNamed (HasFault l cs ts names stop n es) None → (forest : Trees ActionSpan) (tree : Entity ℕ) (r : Resolution) → IsForestOf es forest
           → operations_in l.values (token_text cs ts) [] forest ≡ an_entity tree no_entity → IsResolved l.isolated names es r
           → IsScopedRoot l.isolated (renamed (slice_index r.definitions.items) tree) × IsNumbered (renamed (slice_index r.definitions.items) tree)
       text_scoped none forest tree r read says resolved =
@@ -82,7 +82,7 @@ module _ (l : Language) (cs : List ℕ) (ts : List Token) (names : List ℕ) (st
 
   -- ---- from the tree of a text to its names
 
-  module _ (forest : Trees Step) (tree : Entity ℕ) (read : IsForest es forest) (says : operations_in l.values (token_text cs ts) [] forest ≡ an_entity tree no_entity)
+  module _ (forest : Trees ActionSpan) (tree : Entity ℕ) (read : IsForestOf es forest) (says : operations_in l.values (token_text cs ts) [] forest ≡ an_entity tree no_entity)
       (led : Leads at_root [] es at_end []) (named : (f : Fault) → HasNamesFault l.values (token_text cs ts) es f → ⊥)
       (distinct : AllDistinct (definitions_of (renamed (token_text cs ts) tree))) (scoped : IsScopedRoot l.isolated (renamed (token_text cs ts) tree)) where
     spelled : (j k : ℕ) → NamesValue l.isolated es j → NamesValue l.isolated es k → name_of names j ≡ name_of names k → token_text cs ts j ≡ token_text cs ts k
@@ -96,7 +96,7 @@ module _ (l : Language) (cs : List ℕ) (ts : List Token) (names : List ℕ) (st
     text_none_again = none_again l.isolated l.values (token_text cs ts) es forest tree read says led named names distinct scoped spelled numbered
 
     -- none lacks its definition
-    pub text_none_lacking : (f : Fault) → IsLacking names (definitions l.isolated es) (mentions l.isolated es) (closings l.isolated es) f → ⊥
+    pub text_none_lacking : (f : Fault) → IsUnresolvedName names (definitions l.isolated es) (mentions l.isolated es) (closings l.isolated es) f → ⊥
     text_none_lacking = none_lacking l.isolated l.values (token_text cs ts) es forest tree read says led named names distinct scoped spelled numbered
 
     -- each mention means a definition
@@ -104,7 +104,7 @@ module _ (l : Language) (cs : List ℕ) (ts : List Token) (names : List ℕ) (st
     text_means = mention_means l.isolated l.values (token_text cs ts) es forest tree read says led named names distinct scoped spelled numbered
 
 -- Where reading ends with the text, all that was begun is ended.
-pub text_leads : (l : Language) (leads : ordered.Leads) → is_ordered leads (rules_of l.formats) ≡ true → (cs : List ℕ) (ts : List Token) (names : List ℕ) (n : ℕ) (es : List Event)
+pub text_leads : (l : Language) (leads : ordered.PartPositions) → is_ordered leads (rules_of l.formats) ≡ true → (cs : List ℕ) (ts : List Token) (names : List ℕ) (n : ℕ) (es : List Event)
     → IsReading l cs ts names stops.Text n es → Leads at_root [] es at_end []
 text_leads l leads ok cs ts names n es r =
     let s = r.reads in

@@ -4,13 +4,13 @@ use Rattle.std.specs.List.{list_all}
 use Rattle.ir_names.specs.declared.identifier.Identifier.{Identifier}
 use Rattle.ir_print.specs.Formats as step
 use Rattle.ir_print.specs.Formats.{Formats, Kind, Step, Steps, no_steps}
-use Rattle.ir_print.specs.Pieces.{Pieces, Values, Head, block, Entity, entity, Entities, no_entity, an_entity}
+use Rattle.ir_print.specs.Pieces.{Pieces, Values, EntityHead, block, Entity, entity, Entities, no_entity, an_entity}
 use Rattle.ir_print.specs.Layout.{layout, AreFlat}
 use Rattle.ir_print.specs.Printed.{value_name, label_front, block_name}
 use Rattle.ir_tokens.specs.Tokens.{is_letter, is_name_char, is_sign}
 use Rattle.ir_formats.specs.Words.{is_width}
 use Rattle.ir_formats.specs.Rules.{words_of, parts_of, rules_of}
-use Rattle.ir_formats.specs.Ordered.{Leads, is_ordered}
+use Rattle.ir_formats.specs.Ordered.{PartPositions, is_ordered}
 use Rattle.ir_rereading.specs.Outer.{has_outer_operands}
 use Rattle.ir_forest.specs.Bare.{KeepsBare}
 use Rattle.ir_forest.specs.Language.{Language}
@@ -27,7 +27,7 @@ pub record HasBlockName (label : List ℕ) : Type 0 where
   pub small : (slot < 2 ^ 64) × (version < 2 ^ 64)
   pub named : label ≡ block_name (label_front given) slot version
 
-abbrev pub HasLabelName : {N : Type 0} → Head N → Type 0
+abbrev pub HasLabelName : {N : Type 0} → EntityHead N → Type 0
 HasLabelName (block label arguments) = HasBlockName label
 HasLabelName _ = Unit {0}
 
@@ -95,19 +95,19 @@ ends_apart (c ∷ []) = not (is_name_char c)
 ends_apart (c ∷ d ∷ cs) = ends_apart (d ∷ cs)
 
 -- what stands before a step, as to whether it runs on: an id or white space, a word, or a part
-pub data Edge : Type 0 where
-  apart : Edge
-  behind : (printed : List ℕ) → Edge
-  part : Edge
+pub data BoundaryBefore : Type 0 where
+  apart : BoundaryBefore
+  behind : (printed : List ℕ) → BoundaryBefore
+  part : BoundaryBefore
 
 -- a word may stand behind this
-abbrev pub may_follow : Edge → List ℕ → Bool
+abbrev pub may_follow : BoundaryBefore → List ℕ → Bool
 may_follow apart printed = true
 may_follow (behind before) printed = ends_apart before || begins_apart printed
 may_follow part printed = begins_apart printed
 
 -- a part may stand behind this
-abbrev pub may_take : Edge → Bool
+abbrev pub may_take : BoundaryBefore → Bool
 may_take (behind before) = ends_apart before
 may_take _ = true
 
@@ -118,7 +118,7 @@ abbrev mutual
   is_step_apart (step.list_of member printed text) = is_printed printed text && begins_apart printed && ends_apart printed && are_steps_apart part member
   is_step_apart _ = true
 
-  pub are_steps_apart : Edge → Steps → Bool
+  pub are_steps_apart : BoundaryBefore → Steps → Bool
   are_steps_apart edge no_steps = true
   are_steps_apart edge (step.step (step.word printed text) ss) = is_printed printed text && may_follow edge printed && are_steps_apart (behind printed) ss
   are_steps_apart edge (step.step s ss) = may_take edge && is_step_apart s && are_steps_apart part ss
@@ -140,7 +140,7 @@ KeepsDepth v = (n d : ℕ) (ps : Pieces) → AreFlat d ps → AreFlat d (v.canon
 -- What is printed in the language is read as it was printed: its texts are read in order, its formats are printed as their tokens,
 -- operations alone say operands and regions, and attributes are printed no deeper than they are read.
 pub record CanPrint (l : Language) : Type 0 where
-  pub leads : Leads
+  pub leads : PartPositions
   pub ordered : is_ordered leads (rules_of l.formats) ≡ true
   pub printable : is_printable l.formats ≡ true
   pub outer : has_outer_operands l.formats ≡ true

@@ -24,7 +24,7 @@ use Rattle.ir_grammar.specs.Reading.{Reads}
 use Rattle.ir_tokens.specs.Faults.{IsNamed}
 use Rattle.ir_scopes.specs.Depth.{IsTooDeep}
 use Rattle.ir_scopes.specs.Scopes.{isolated_at, definitions, HasScopeFault, IsResolved}
-use Rattle.ir_forest.specs.Forest.{Step, IsForest}
+use Rattle.ir_forest.specs.Forest.{ActionSpan, IsForestOf}
 use Rattle.ir_forest.specs.Meaning.{operations_in, renamed}
 use Rattle.ir_forest.specs.ValueFaults.{HasNumberFault, HasNamesFault}
 use Rattle.ir_forest.specs.Language.{Language}
@@ -85,9 +85,9 @@ IsRefusal l cs (told.Scope line column cause) = IsTextFault l cs (told.Scope lin
 
 -- The text has no fault and says this tree, in which the number of its definition names a value.
 abbrev pub Says : Language → List ℕ → Entity ℕ → Type 0
-Says l cs tree = (ts : List Token) × (names : List ℕ) × (stop : Stop) × (n : ℕ) × (es : List Event) × (forest : Trees Step) × (t : Entity ℕ) × (r : Resolution)
+Says l cs tree = (ts : List Token) × (names : List ℕ) × (stop : Stop) × (n : ℕ) × (es : List Event) × (forest : Trees ActionSpan) × (t : Entity ℕ) × (r : Resolution)
     × IsReading l cs ts names stop n es × IsNamed (HasFault l cs ts names stop n es) None
-    × IsForest es forest × (operations_in l.values (token_text cs ts) [] forest ≡ an_entity t no_entity)
+    × IsForestOf es forest × (operations_in l.values (token_text cs ts) [] forest ≡ an_entity t no_entity)
     × IsResolved l.isolated names es r × (tree ≡ renamed (slice_index r.definitions.items) t)
 
 -- so many definitions of values stand in what is read of the text

@@ -16,14 +16,14 @@ ghost use Rattle.ir_scopes.specs.Depth.{IsTooDeep};
 ghost use Rattle.ir_tokens.specs.Faults.{IsNamed};
 ghost use Rattle.ir_rereading.specs.Texts.{HasFault, IsReading, IsTextFault, Says};
 ghost use Rattle.ir_forest.specs.Language.{Language};
-ghost use Rattle.ir_grammar.specs.Reading.{AreAlike, OpensMore, Reads, tooks};
+ghost use Rattle.ir_grammar.specs.Reading.{AreMostlyAlike, OpensMore, Reads, tooks};
 ghost use Rattle.ir_formats.specs.Rules.{plain_rules, rules_of, IsGrammarOf};
 ghost use Rattle.ir_grammar.specs.Nesting.{at_root, at_end, FollowTokens, OwnTokens};
-ghost use Rattle.ir_formats.specs.Ordered.{Leads, is_ordered, IsInOrder, LeadsTo, OrdersTexts};
+ghost use Rattle.ir_formats.specs.Ordered.{PartPositions, is_ordered, IsInOrder, LeadsToPosition, OrdersTexts};
 ghost use Rattle.ir_forest.specs.Identifiers.{AreSpelt};
 ghost use Rattle.ir_formats.specs.Words.{token_text};
-ghost use Rattle.ir_scopes.specs.Scopes.{HasScopeFault, AreApart, definitions, mentions};
-ghost use Rattle.ir_forest.specs.Closed.{IsClosed, IsNumbered, IsSameModule};
+ghost use Rattle.ir_scopes.specs.Scopes.{HasScopeFault, SitesAreApart, definitions, mentions};
+ghost use Rattle.ir_forest.specs.Closed.{IsClosedTree, IsNumbered, IsSameModule};
 ghost use Rattle.ir_rereading.specs.Printable.{CanPrint, IsLayoutOf};
 
 /// The characters of a text are one list of tokens.
@@ -40,7 +40,7 @@ pub fn one_reading()
 /// Where each name of a value has a token of its own, no two names of values have one token.
 pub fn names_are_apart()
     ensures { (isolated : ℕ → Bool) (es : List Event) → OwnTokens false es
-        → AreApart (definitions isolated es) (mentions isolated es) }
+        → SitesAreApart (definitions isolated es) (mentions isolated es) }
 {}
 
 /// A fault of names of a front stays one of all that begins with it, and what more there is has its faults later.
@@ -61,7 +61,8 @@ pub fn deep_faults_stay()
 
 /// Where the rules of a grammar pass the test of their order, reading its texts does all in order.
 pub fn texts_are_ordered()
-    ensures { (g : Grammar) (leads : Leads) → is_ordered leads (plain_rules g.rules.items) ≡ true → OrdersTexts g }
+    ensures { (g : Grammar) (leads : PartPositions) → is_ordered leads (plain_rules g.rules.items) ≡ true
+        → OrdersTexts g }
 {}
 
 /// So is all that reading any tokens does; and where they are a text, nothing is begun any more at its end.
@@ -69,7 +70,7 @@ pub fn readings_are_ordered()
     ensures order { (g : Grammar) → OrdersTexts g → (many n : ℕ) (ts : List ℕ) (stop : Stop) (es : List Event)
         → Reads g 0 many ts stop n es → IsInOrder es }
     ensures ends { (g : Grammar) → OrdersTexts g → (many n : ℕ) (ts : List ℕ) (es : List Event)
-        → Reads g 0 many ts Text n es → LeadsTo at_root es at_end }
+        → Reads g 0 many ts Text n es → LeadsToPosition at_root es at_end }
 {}
 
 /// Each name and each label that reading a text keeps is an identifier.
@@ -102,7 +103,7 @@ pub fn one_fault_is_named()
 /// What is alike has the same faults.
 pub fn alike_faults()
     ensures { (l : Language) (cs : List ℕ) (ts : List Token) (names : List ℕ) (stop : Stop) (n : ℕ)
-        (es fs : List Event) → AreAlike es fs
+        (es fs : List Event) → AreMostlyAlike es fs
         → (f : Fault) → HasFault l cs ts names stop n es f → HasFault l cs ts names stop n fs f }
 {}
 
@@ -115,12 +116,12 @@ pub fn readings_agree()
     ensures stops { (l : Language) (cs : List ℕ) (ts us : List Token) (names numbers : List ℕ) (stop halt : Stop)
         (n m : ℕ) (es fs : List Event)
         → IsReading l cs ts names stop n es → IsReading l cs us numbers halt m fs → stop ≢ Deep → halt ≢ Deep
-        → (stop ≡ halt) × (n ≡ m) × AreAlike es fs }
+        → (stop ≡ halt) × (n ≡ m) × AreMostlyAlike es fs }
 {}
 
 /// Where a language is in order, a text has one first fault, or none.
 pub fn one_verdict()
-    ensures { (l : Language) (leads : Leads) → is_ordered leads (rules_of l.formats) ≡ true
+    ensures { (l : Language) (leads : PartPositions) → is_ordered leads (rules_of l.formats) ≡ true
         → (cs : List ℕ) (ts us : List Token) (names numbers : List ℕ) (stop halt : Stop) (n m : ℕ)
         (es fs : List Event) (f g : Option Fault)
         → IsReading l cs ts names stop n es → IsReading l cs us numbers halt m fs
@@ -129,18 +130,18 @@ pub fn one_verdict()
 
 /// So it is refused with one fault at most, and with none where it says a tree.
 pub fn texts_have_one_answer()
-    ensures one { (l : Language) (leads : Leads) → is_ordered leads (rules_of l.formats) ≡ true
+    ensures one { (l : Language) (leads : PartPositions) → is_ordered leads (rules_of l.formats) ≡ true
         → (cs : List ℕ) (f g : TextFault) → IsTextFault l cs f → IsTextFault l cs g → f ≡ g }
-    ensures either { (l : Language) (leads : Leads) → is_ordered leads (rules_of l.formats) ≡ true
+    ensures either { (l : Language) (leads : PartPositions) → is_ordered leads (rules_of l.formats) ≡ true
         → (cs : List ℕ) (f : TextFault) (tree : Entity ℕ) → IsTextFault l cs f → Says l cs tree → ⊥ }
 {}
 
 /// What is printed of a closed tree is its characters as bytes, and is read again, as the same tree but for its labels.
 pub fn printed_texts_are_read()
-    ensures bytes { (l : Language) → CanPrint l → (tree : Entity ℕ) → (text : List ℕ) → IsClosed l tree
+    ensures bytes { (l : Language) → CanPrint l → (tree : Entity ℕ) → (text : List ℕ) → IsClosedTree l tree
         → IsLayoutOf l.formats tree text → IsUtf8 (text ++ 10 ∷ []) × (chars (text ++ 10 ∷ []) ≡ text ++ 10 ∷ []) }
     ensures read { (l : Language) → CanPrint l → (g : Grammar) → IsGrammarOf l.formats g → (tree : Entity ℕ)
-        → (text : List ℕ) → IsClosed l tree → IsNumbered tree → IsLayoutOf l.formats tree text
+        → (text : List ℕ) → IsClosedTree l tree → IsNumbered tree → IsLayoutOf l.formats tree text
         → length (text ++ 10 ∷ []) < 2 ^ 63 → (again : Entity ℕ) × Says l (text ++ 10 ∷ []) again
         × IsSameModule again tree }
 {}

@@ -5,13 +5,13 @@ use Rattle.ir_grammar.specs.declared.grammar.Action.TheVariants.{Result, Argumen
 use Rattle.ir_grammar.specs.declared.grammar.Event.{Event}
 use Rattle.ir_grammar.specs.declared.grammar.Event.TheVariants.{Took, Did}
 use Rattle.ir_scopes.specs.declared.sites.Site.{Site}
-use Rattle.ir_scopes.specs.Scopes.{Place, beginning, behind, last_token, defined, mentioned, each, AreDistinct, AreApart}
+use Rattle.ir_scopes.specs.Scopes.{EventPlace, beginning, behind, last_token, defined, mentioned, each, HaveDistinctTokens, SitesAreApart}
 use Rattle.ir_grammar.specs.Nesting.{names_value, OwnTokens}
 
 -- ---- what one event makes
 
 -- the event names a value, at the last token
-abbrev NamesHere : Place → Event → Site → Type 0
+abbrev NamesHere : EventPlace → Event → Site → Type 0
 NamesHere at Took s = ⊥
 NamesHere at (Did a) s = (names_value a ≡ true) × (s.token ≡ last_token at)
 
@@ -22,19 +22,19 @@ one x s (suc i) h = let wrong : None ≡ Some s = h in cc
 none : {A : Type 0} (s : Site) → None ≡ Some s → A
 none s h = cc
 
-pub defined_here : (at : Place) (e : Event) (i : ℕ) (s : Site) → slice_get (defined at e) i ≡ Some s → (i ≡ 0) × NamesHere at e s
+pub defined_here : (at : EventPlace) (e : Event) (i : ℕ) (s : Site) → slice_get (defined at e) i ≡ Some s → (i ≡ 0) × NamesHere at e s
 defined_here at Took i s h = none s h
 defined_here at (Did Result) i s h = let o = one _ s i h in (o.0, (refl, sym (ap (λ x. x.token) o.1)))
 defined_here at (Did Argument) i s h = let o = one _ s i h in (o.0, (refl, sym (ap (λ x. x.token) o.1)))
 defined_here at (Did _) i s h = none s h
 
-pub mentioned_here : (at : Place) (e : Event) (i : ℕ) (s : Site) → slice_get (mentioned at e) i ≡ Some s → (i ≡ 0) × NamesHere at e s
+pub mentioned_here : (at : EventPlace) (e : Event) (i : ℕ) (s : Site) → slice_get (mentioned at e) i ≡ Some s → (i ≡ 0) × NamesHere at e s
 mentioned_here at Took i s h = none s h
 mentioned_here at (Did Operand) i s h = let o = one _ s i h in (o.0, (refl, sym (ap (λ x. x.token) o.1)))
 mentioned_here at (Did _) i s h = none s h
 
 -- no event defines and mentions
-not_both : (at : Place) (e : Event) (i j : ℕ) (s t : Site) → slice_get (defined at e) i ≡ Some s → slice_get (mentioned at e) j ≡ Some t → ⊥
+not_both : (at : EventPlace) (e : Event) (i j : ℕ) (s t : Site) → slice_get (defined at e) i ≡ Some s → slice_get (mentioned at e) j ≡ Some t → ⊥
 not_both at Took i j s t h k = none s h
 not_both at (Did Result) i j s t h k = none t k
 not_both at (Did Argument) i j s t h k = none t k
@@ -49,21 +49,21 @@ get_append (x ∷ xs) ys (suc i) s h = elim (get_append xs ys i s h) [ inl e ↦
 
 -- ---- later names have later tokens
 
-abbrev Low : Bool → Place → ℕ → Type 0
+abbrev Low : Bool → EventPlace → ℕ → Type 0
 Low true at k = at.tokens ≤ k + 1
 Low false at k = at.tokens ≤ k
 
 -- a token that names none yet has been taken
-abbrev Fresh : Bool → Place → Type 0
+abbrev Fresh : Bool → EventPlace → Type 0
 Fresh true at = 0 < at.tokens
 Fresh false at = Unit {0}
 
-low_weaker : (fresh : Bool) (at : Place) (k : ℕ) → Low false at k → Low fresh at k
+low_weaker : (fresh : Bool) (at : EventPlace) (k : ℕ) → Low false at k → Low fresh at k
 low_weaker true at k h = omega arith
 low_weaker false at k h = h
 
 module _ (isolated : ℕ → Bool) where
-  after_event : (fresh : Bool) (at : Place) (e : Event) (es : List Event) → Fresh fresh at → OwnTokens fresh (e ∷ es)
+  after_event : (fresh : Bool) (at : EventPlace) (e : Event) (es : List Event) → Fresh fresh at → OwnTokens fresh (e ∷ es)
       → (next : Bool) × OwnTokens next es × Fresh next (behind isolated at e)
       × ((k : ℕ) → Low next (behind isolated at e) k → Low fresh at k)
       × ((s : Site) → NamesHere at e s → (fresh ≡ true) × ((k : ℕ) → Low next (behind isolated at e) k → s.token < k))
@@ -85,8 +85,8 @@ module _ (isolated : ℕ → Bool) where
           lower true k h = h
           lower false k h = h
 
-  module _ (f : Place → Event → List Site) (here : (at : Place) (e : Event) (i : ℕ) (s : Site) → slice_get (f at e) i ≡ Some s → (i ≡ 0) × NamesHere at e s) where
-    each_low : (fresh : Bool) (at : Place) (es : List Event) → Fresh fresh at → OwnTokens fresh es → (i : ℕ) (s : Site) → slice_get (each isolated f at es) i ≡ Some s → Low fresh at s.token
+  module _ (f : EventPlace → Event → List Site) (here : (at : EventPlace) (e : Event) (i : ℕ) (s : Site) → slice_get (f at e) i ≡ Some s → (i ≡ 0) × NamesHere at e s) where
+    each_low : (fresh : Bool) (at : EventPlace) (es : List Event) → Fresh fresh at → OwnTokens fresh es → (i : ℕ) (s : Site) → slice_get (each isolated f at es) i ≡ Some s → Low fresh at s.token
     each_low fresh at [] n own i s h = none s h
     each_low fresh at (e ∷ es) n own i s h =
         let go = after_event fresh at e es n own in
@@ -95,12 +95,12 @@ module _ (isolated : ℕ → Bool) where
           | inr x ↦ go.3 s.token (each_low go.0 (behind isolated at e) es go.2 go.1 x.0 s x.2)
         ]
       where
-        last : (at : Place) (e : Event) (s : Site) → NamesHere at e s → at.tokens ≤ s.token + 1
+        last : (at : EventPlace) (e : Event) (s : Site) → NamesHere at e s → at.tokens ≤ s.token + 1
         last at Took s p = absurd p
         last at (Did a) s p = omega (arith, p.1)
 
     -- two names with one token are one
-    pub each_distinct : (fresh : Bool) (at : Place) (es : List Event) → Fresh fresh at → OwnTokens fresh es → AreDistinct (each isolated f at es)
+    pub each_distinct : (fresh : Bool) (at : EventPlace) (es : List Event) → Fresh fresh at → OwnTokens fresh es → HaveDistinctTokens (each isolated f at es)
     each_distinct fresh at [] n own i j s t h k e = none s h
     each_distinct fresh at (e ∷ es) n own i j s t h k same =
         let rest = each isolated f (behind isolated at e) es in
@@ -121,7 +121,7 @@ module _ (isolated : ℕ → Bool) where
             let lt = (next.4 t (here at e j t y).1).1 s.token (each_low next.0 (behind isolated at e) es next.2 next.1 x.0 s x.2) in absurd (omega arith)
         go (inr x) (inr y) again = let same' = again x.0 y.0 x.2 y.2 in omega (arith, x.1, y.1)
 
-  each_both : (fresh : Bool) (at : Place) (es : List Event) → Fresh fresh at → OwnTokens fresh es → (i j : ℕ) (s t : Site) → slice_get (each isolated defined at es) i ≡ Some s → slice_get (each isolated mentioned at es) j ≡ Some t
+  each_both : (fresh : Bool) (at : EventPlace) (es : List Event) → Fresh fresh at → OwnTokens fresh es → (i j : ℕ) (s t : Site) → slice_get (each isolated defined at es) i ≡ Some s → slice_get (each isolated mentioned at es) j ≡ Some t
       → s.token ≡ t.token → ⊥
   each_both fresh at [] n own i j s t h k same = none s h
   each_both fresh at (e ∷ es) n own i j s t h k same =
@@ -143,7 +143,7 @@ module _ (isolated : ℕ → Bool) where
           let lt = (next.4 t (mentioned_here at e j t y).1).1 s.token (each_low defined defined_here next.0 (behind isolated at e) es next.2 next.1 x.0 s x.2) in omega arith
       go (inr x) (inr y) again = again x.0 y.0 x.2 y.2
 
-  pub are_apart : (es : List Event) → OwnTokens false es → AreApart (each isolated defined beginning es) (each isolated mentioned beginning es)
+  pub are_apart : (es : List Event) → OwnTokens false es → SitesAreApart (each isolated defined beginning es) (each isolated mentioned beginning es)
   are_apart es own = record {
     definitions = each_distinct defined defined_here false beginning es tt own;
     mentions = each_distinct mentioned mentioned_here false beginning es tt own;

@@ -3,22 +3,22 @@ use Rattle.std.proofs.Common.{◌≡◌, ℕ, ◌+◌, ◌<◌, ◌≤◌, List,
 use Rattle.std.proofs.lemmas.Bool.{cases_lt}
 use Rattle.ir_grammar.specs.declared.grammar.Event.{Event}
 use Rattle.ir_tokens.specs.declared.faults.Fault.{Fault}
-use Rattle.ir_tokens.specs.Faults.{Precedes, IsNamed}
+use Rattle.ir_tokens.specs.Faults.{FaultPrecedes, IsNamed}
 use Rattle.ir_grammar.specs.Reading.{tooks, OpensMore}
 use Rattle.ir_grammar.proofs.Depths.{opens_more, opens_stays, opens_later}
 use Rattle.ir_scopes.specs.Depth.{IsTooDeep, IsFirstTooDeep, fault_deep}
 
-in_order : (i j : ℕ) → i ≤ j → Precedes (fault_deep i) (fault_deep j)
+in_order : (i j : ℕ) → i ≤ j → FaultPrecedes (fault_deep i) (fault_deep j)
 in_order i j le = go (cases_lt i j)
   where
-    go : (i < j) ⊎ (j ≤ i) → Precedes (fault_deep i) (fault_deep j)
+    go : (i < j) ⊎ (j ≤ i) → FaultPrecedes (fault_deep i) (fault_deep j)
     go (inl x) = inl x
     go (inr x) = inr (omega arith, inr (refl, omega arith))
 
 -- where the first is known, it is named
 pub deep_named : (es : List Event) (first : Option ℕ) → IsFirstTooDeep es first → IsNamed (IsTooDeep es) (option_map fault_deep first)
 deep_named es None none = λ f h. none h.0 h.1
-deep_named es (Some k) first = ((k, first.0, refl), λ g x. subst (Precedes (fault_deep k)) (sym x.2) (in_order k x.0 (first.1 x.0 x.1)))
+deep_named es (Some k) first = ((k, first.0, refl), λ g x. subst (FaultPrecedes (fault_deep k)) (sym x.2) (in_order k x.0 (first.1 x.0 x.1)))
 
 -- ---- a front of events
 

@@ -15,7 +15,7 @@ use Rattle.ir_tokens.specs.declared.faults.Fault.{Fault}
 use Rattle.ir_scopes.specs.declared.sites.Site.{Site}
 use Rattle.ir_scopes.specs.declared.sites.Closing.{Closing}
 use Rattle.ir_tokens.specs.Faults.{IsFirstOf, IsNamed}
-use Rattle.ir_scopes.specs.Scopes.{name_of, Names, Means, IsUnresolved, LacksName, IsLacking, AreLacking, EndsAmong, fault_unresolved}
+use Rattle.ir_scopes.specs.Scopes.{name_of, SiteHasName, Means, IsUnresolved, LacksName, IsUnresolvedName, AreLacking, EndsAmong, fault_unresolved}
 use Rattle.ir_tokens.proofs.FirstFault.{first_more, named_along}
 use Rattle.ir_scopes.proofs.ListEnds.{get_more, get_last, get_cases}
 use Rattle.ir_scopes.proofs.ScopeOrders.{moved_to, moved_from}
@@ -23,22 +23,22 @@ use Rattle.ir_scopes.proofs.ScopeOrders.{moved_to, moved_from}
 -- ---- whether a mention has a definition
 
 module _ (names : List ℕ) (scope name : ℕ) where
-  is_named : (ds : List Site) → ((j : ℕ) × Names names ds scope name j) ⊎ ((j : ℕ) → Names names ds scope name j → ⊥)
+  is_named : (ds : List Site) → ((j : ℕ) × SiteHasName names ds scope name j) ⊎ ((j : ℕ) → SiteHasName names ds scope name j → ⊥)
   is_named [] = inr (λ j h. let wrong : None ≡ Some h.0 = h.1 in cc)
   is_named (d ∷ ds) = go (cases_eq d.scope scope) (cases_eq (name_of names d.token) name) (is_named ds)
     where
-      later : (((d.scope ≡ scope) × (name_of names d.token ≡ name)) → ⊥) → ((j : ℕ) × Names names ds scope name j) ⊎ ((j : ℕ) → Names names ds scope name j → ⊥)
-          → ((j : ℕ) × Names names (d ∷ ds) scope name j) ⊎ ((j : ℕ) → Names names (d ∷ ds) scope name j → ⊥)
+      later : (((d.scope ≡ scope) × (name_of names d.token ≡ name)) → ⊥) → ((j : ℕ) × SiteHasName names ds scope name j) ⊎ ((j : ℕ) → SiteHasName names ds scope name j → ⊥)
+          → ((j : ℕ) × SiteHasName names (d ∷ ds) scope name j) ⊎ ((j : ℕ) → SiteHasName names (d ∷ ds) scope name j → ⊥)
       later never (inl h) = inl (suc h.0, h.1)
       later never (inr none) = inr none_here
         where
-          none_here : (j : ℕ) → Names names (d ∷ ds) scope name j → ⊥
+          none_here : (j : ℕ) → SiteHasName names (d ∷ ds) scope name j → ⊥
           none_here zero h = let same : Some d ≡ Some h.0 = h.1 in let is : d ≡ h.0 = cc in never (subst (λ t. (t.scope ≡ scope) × (name_of names t.token ≡ name)) (sym is) h.2)
           none_here (suc j) h = none j h
 
       go : (d.scope ≡ scope) ⊎ (d.scope ≡ scope → ⊥) → (name_of names d.token ≡ name) ⊎ (name_of names d.token ≡ name → ⊥)
-          → ((j : ℕ) × Names names ds scope name j) ⊎ ((j : ℕ) → Names names ds scope name j → ⊥)
-          → ((j : ℕ) × Names names (d ∷ ds) scope name j) ⊎ ((j : ℕ) → Names names (d ∷ ds) scope name j → ⊥)
+          → ((j : ℕ) × SiteHasName names ds scope name j) ⊎ ((j : ℕ) → SiteHasName names ds scope name j → ⊥)
+          → ((j : ℕ) × SiteHasName names (d ∷ ds) scope name j) ⊎ ((j : ℕ) → SiteHasName names (d ∷ ds) scope name j → ⊥)
       go (inl a) (inl b) rest = inl (zero, (d, refl, (a, b)))
       go (inr a) b rest = later (λ h. a h.0) rest
       go (inl a) (inr b) rest = later (λ h. b h.1) rest
@@ -147,13 +147,13 @@ module _ (names : List ℕ) (ds ms : List Site) where
     in_set_so scope true e h = e
     in_set_so scope false e h = absurd (in_set scope false e h)
 
-    pub is_lacking : (cs : List Closing) (o : Option Fault) → IsNamed (EndsAmong set cs) o → IsNamed (IsLacking names ds ms cs) o
-    is_lacking cs o h = named_along (EndsAmong set cs) (IsLacking names ds ms cs) o
+    pub is_lacking : (cs : List Closing) (o : Option Fault) → IsNamed (EndsAmong set cs) o → IsNamed (IsUnresolvedName names ds ms cs) o
+    is_lacking cs o h = named_along (EndsAmong set cs) (IsUnresolvedName names ds ms cs) o
         (λ f y. (y.0, y.1, y.2, in_set y.1.scope true y.3, y.4))
         (λ f y. (y.0, y.1, y.2, in_set_so y.1.scope (bag.contains nat_cmp set y.1.scope) refl y.3, y.4)) h
 
   -- where nothing is lacking in a scope, what is mentioned there means a definition
-  pub is_meant : (cs : List Closing) → IsNamed (IsLacking names ds ms cs) None → (i k : ℕ) (m : Site) (c : Closing) → slice_get ms i ≡ Some m → slice_get cs k ≡ Some c → c.scope ≡ m.scope → (j : ℕ) × Means names ds m j
+  pub is_meant : (cs : List Closing) → IsNamed (IsUnresolvedName names ds ms cs) None → (i k : ℕ) (m : Site) (c : Closing) → slice_get ms i ≡ Some m → slice_get cs k ≡ Some c → c.scope ≡ m.scope → (j : ℕ) × Means names ds m j
   is_meant cs none i k m c at ends same = elim (is_named names m.scope (name_of names m.token) ds) [
     | inl h ↦ h
     | inr never ↦ absurd (none (fault_unresolved c) (k, c, ends, (i, m, at, sym same, never), refl))

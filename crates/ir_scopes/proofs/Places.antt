@@ -3,7 +3,7 @@ use Rattle.std.proofs.Common.{◌≡◌, ℕ, ◌+◌, ◌<◌, List, length, So
 use Rattle.std.proofs.lemmas.List.{get_or-set_same, get_or-set_other, length-set}
 use Rattle.std.proofs.lemmas.Bool.{cases_eq}
 use Rattle.ir_scopes.specs.declared.sites.Site.{Site}
-use Rattle.ir_scopes.specs.Scopes.{AreDistinct}
+use Rattle.ir_scopes.specs.Scopes.{HaveDistinctTokens}
 
 -- the first i sites have at their tokens what suits them
 abbrev pub AreWritten : (Site → ℕ → ℕ → Type 0) → List Site → ℕ → List ℕ → Type 0
@@ -16,7 +16,7 @@ module _ (Suits : Site → ℕ → ℕ → Type 0) (ss : List Site) (i : ℕ) (x
       let is : x ≡ s = cc in
       subst (λ t. P t k) is (subst (P x) (sym e) h)
 
-  pub written_more : (n : ℕ) → Suits x i n → AreDistinct ss → AreWritten Suits ss i ps → AreWritten Suits ss (i + 1) (set ps x.token n)
+  pub written_more : (n : ℕ) → Suits x i n → HaveDistinctTokens ss → AreWritten Suits ss i ps → AreWritten Suits ss (i + 1) (set ps x.token n)
   written_more n suits apart h k s lt at within = go (cases_eq k i)
     where
       inside : s.token < length ps

@@ -8,19 +8,19 @@ use Rattle.ir_scopes.specs.declared.scopes.Resolution.{Resolution}
 use Rattle.ir_scopes.specs.declared.sites.Site.{Site}
 use Rattle.ir_scopes.specs.declared.sites.Sites.{Sites}
 use Rattle.ir_tokens.specs.Faults.{IsFirstOf, IsNamed}
-use Rattle.ir_scopes.specs.Scopes.{name_of, Names, IsAgain, IsLacking, MeanNoted, AreApart, AreSites, HasScopeFault, Resolves, fault_again, definitions, labels, mentions, closings}
+use Rattle.ir_scopes.specs.Scopes.{name_of, SiteHasName, IsAgain, IsUnresolvedName, MeanNoted, SitesAreApart, AreSites, HasScopeFault, Resolves, fault_again, definitions, labels, mentions, closings}
 use Rattle.ir_tokens.proofs.FirstFault.{first_of_law}
 use Rattle.ir_scopes.proofs.Apart.{are_apart}
 use Rattle.ir_scopes.proofs.Lacking.{is_meant}
 
 -- a name that isn't defined twice has one number
-one_number : (names : List ℕ) (ds : List Site) → IsNamed (IsAgain names ds) None → (scope name i j : ℕ) → Names names ds scope name i → Names names ds scope name j → i ≡ j
+one_number : (names : List ℕ) (ds : List Site) → IsNamed (IsAgain names ds) None → (scope name i j : ℕ) → SiteHasName names ds scope name i → SiteHasName names ds scope name j → i ≡ j
 one_number names ds none scope name i j a b = go (cases_order i j)
   where
-    again : (i j : ℕ) → i < j → Names names ds scope name i → Names names ds scope name j → ⊥
+    again : (i j : ℕ) → i < j → SiteHasName names ds scope name i → SiteHasName names ds scope name j → ⊥
     again i j lt a b =
-        let at : Names names ds b.0.scope (name_of names b.0.token) i
-        = subst (λ n. Names names ds b.0.scope n i) (sym b.2.1) (subst (λ n. Names names ds n name i) (sym b.2.0) a) in
+        let at : SiteHasName names ds b.0.scope (name_of names b.0.token) i
+        = subst (λ n. SiteHasName names ds b.0.scope n i) (sym b.2.1) (subst (λ n. SiteHasName names ds n name i) (sym b.2.0) a) in
         none (fault_again b.0.token) (i, j, b.0, lt, b.1, at, refl)
 
     go : (i ≡ j) ⊎ ((i < j) ⊎ (j < i)) → i ≡ j
@@ -30,20 +30,20 @@ one_number names ds none scope name i j a b = go (cases_order i j)
 
 module _ (isolated : ℕ → Bool) (names : List ℕ) (es : List Event) (s : Sites) (are : AreSites isolated es s) where
   -- where each name has a token of its own, the definitions and mentions have one each
-  pub sites_apart : OwnTokens false es → AreApart s.definitions.items s.mentions.items
-  sites_apart own = subst (λ ds. AreApart ds s.mentions.items) (sym are.definitions) (subst (AreApart (definitions isolated es)) (sym are.mentions) (are_apart isolated es own))
+  pub sites_apart : OwnTokens false es → SitesAreApart s.definitions.items s.mentions.items
+  sites_apart own = subst (λ ds. SitesAreApart ds s.mentions.items) (sym are.definitions) (subst (SitesAreApart (definitions isolated es)) (sym are.mentions) (are_apart isolated es own))
 
   -- the first fault of three rows
   pub merged : (v l u w r : Option Fault) → IsNamed (IsAgain names s.definitions.items) v → IsNamed (IsAgain names s.labels.items) l
-      → IsNamed (IsLacking names s.definitions.items s.mentions.items s.closings.items) u → IsFirstOf l u w → IsFirstOf v w r → IsNamed (HasScopeFault isolated names es) r
+      → IsNamed (IsUnresolvedName names s.definitions.items s.mentions.items s.closings.items) u → IsFirstOf l u w → IsFirstOf v w r → IsNamed (HasScopeFault isolated names es) r
   merged v l u w r hv hl hu first second =
       let Labels : Fault → Type 0 = IsAgain names (labels isolated es) in
       let Values : Fault → Type 0 = IsAgain names (definitions isolated es) in
-      let Lacking : Fault → Type 0 = IsLacking names (definitions isolated es) (mentions isolated es) (closings isolated es) in
+      let Lacking : Fault → Type 0 = IsUnresolvedName names (definitions isolated es) (mentions isolated es) (closings isolated es) in
       let lacking : IsNamed Lacking u
-      = subst (λ ds. IsNamed (IsLacking names ds (mentions isolated es) (closings isolated es)) u) are.definitions
-      (subst (λ ms. IsNamed (IsLacking names s.definitions.items ms (closings isolated es)) u) are.mentions
-      (subst (λ cs. IsNamed (IsLacking names s.definitions.items s.mentions.items cs) u) are.closings hu)) in
+      = subst (λ ds. IsNamed (IsUnresolvedName names ds (mentions isolated es) (closings isolated es)) u) are.definitions
+      (subst (λ ms. IsNamed (IsUnresolvedName names s.definitions.items ms (closings isolated es)) u) are.mentions
+      (subst (λ cs. IsNamed (IsUnresolvedName names s.definitions.items s.mentions.items cs) u) are.closings hu)) in
       first_of_law Values (λ f. Labels f ⊎ Lacking f) (HasScopeFault isolated names es) v w r (λ f x. x) (λ f x. inl x) (λ f x. inr x)
       (subst (λ ds. IsNamed (IsAgain names ds) v) are.definitions hv)
       (first_of_law Labels Lacking (λ f. Labels f ⊎ Lacking f) l u w (λ f x. x) (λ f x. inl x) (λ f x. inr x) (subst (λ ls. IsNamed (IsAgain names ls) l) are.labels hl) lacking first)
@@ -51,8 +51,8 @@ module _ (isolated : ℕ → Bool) (names : List ℕ) (es : List Event) (s : Sit
 
   module _ (none : IsNamed (HasScopeFault isolated names es) None) where
     resolves_here : (r : Resolution) → r.count ≡ length s.definitions.items
-        → (AreApart s.definitions.items s.mentions.items → (j : ℕ) (d : Site) → slice_get s.definitions.items j ≡ Some d → d.token < length names → slice_index r.definitions.items d.token ≡ j)
-        → (AreApart s.definitions.items s.mentions.items → MeanNoted names s.definitions.items s.mentions.items r.definitions.items)
+        → (SitesAreApart s.definitions.items s.mentions.items → (j : ℕ) (d : Site) → slice_get s.definitions.items j ≡ Some d → d.token < length names → slice_index r.definitions.items d.token ≡ j)
+        → (SitesAreApart s.definitions.items s.mentions.items → MeanNoted names s.definitions.items s.mentions.items r.definitions.items)
         → Resolves names s.definitions.items s.mentions.items s.closings.items r
     resolves_here r count defined mentioned = record {
       count = count;
@@ -64,15 +64,15 @@ module _ (isolated : ℕ → Bool) (names : List ℕ) (es : List Event) (s : Sit
         no_again : IsNamed (IsAgain names s.definitions.items) None
         no_again = subst (λ ds. IsNamed (IsAgain names ds) None) (sym are.definitions) (λ f h. none f (inl h))
 
-        no_lacking : IsNamed (IsLacking names s.definitions.items s.mentions.items s.closings.items) None
+        no_lacking : IsNamed (IsUnresolvedName names s.definitions.items s.mentions.items s.closings.items) None
         no_lacking =
-            subst (λ cs. IsNamed (IsLacking names s.definitions.items s.mentions.items cs) None) (sym are.closings)
-            (subst (λ ms. IsNamed (IsLacking names s.definitions.items ms (closings isolated es)) None) (sym are.mentions)
-            (subst (λ ds. IsNamed (IsLacking names ds (mentions isolated es) (closings isolated es)) None) (sym are.definitions) (λ f h. none f (inr (inr h)))))
+            subst (λ cs. IsNamed (IsUnresolvedName names s.definitions.items s.mentions.items cs) None) (sym are.closings)
+            (subst (λ ms. IsNamed (IsUnresolvedName names s.definitions.items ms (closings isolated es)) None) (sym are.mentions)
+            (subst (λ ds. IsNamed (IsUnresolvedName names ds (mentions isolated es) (closings isolated es)) None) (sym are.definitions) (λ f h. none f (inr (inr h)))))
 
     pub resolves : (r : Resolution) → r.count ≡ length s.definitions.items
-        → (AreApart s.definitions.items s.mentions.items → (j : ℕ) (d : Site) → slice_get s.definitions.items j ≡ Some d → d.token < length names → slice_index r.definitions.items d.token ≡ j)
-        → (AreApart s.definitions.items s.mentions.items → MeanNoted names s.definitions.items s.mentions.items r.definitions.items)
+        → (SitesAreApart s.definitions.items s.mentions.items → (j : ℕ) (d : Site) → slice_get s.definitions.items j ≡ Some d → d.token < length names → slice_index r.definitions.items d.token ≡ j)
+        → (SitesAreApart s.definitions.items s.mentions.items → MeanNoted names s.definitions.items s.mentions.items r.definitions.items)
         → Resolves names (definitions isolated es) (mentions isolated es) (closings isolated es) r
     resolves r count defined mentioned =
         subst (λ cs. Resolves names (definitions isolated es) (mentions isolated es) cs r) are.closings

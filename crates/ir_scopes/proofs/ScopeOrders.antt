@@ -13,8 +13,8 @@ use Rattle.std.proofs.lemmas.List.Sorted.{IsPermutation-sym, Contains-permutatio
 use Rattle.std.proofs.lemmas.Map.Keys.{IsDistinct-from_apart, IsDistinct-IsPermutation, apart_from_distinct}
 use Rattle.std.proofs.lemmas.Option.{slice_get_within, slice_get-get_or, get_or_from_slice_get}
 use Rattle.ir_scopes.specs.declared.sites.Site.{Site}
-use Rattle.ir_scopes.specs.Scopes.{AreDistinct, AreApart}
-use Rattle.ir_scopes.specs.Orders.{AreNumbered, IsBefore, IsScopeOrder}
+use Rattle.ir_scopes.specs.Scopes.{HaveDistinctTokens, SitesAreApart}
+use Rattle.ir_scopes.specs.Orders.{AreNumberedSites, IsEarlierSite, IsScopeOrder}
 use Rattle.ir_scopes.proofs.ListEnds.{get_more, get_last}
 
 -- ---- where elements stand after they changed places
@@ -58,7 +58,7 @@ module _ {X : Type 0} where
         → (i j : ℕ) (x y : X) → i < j → slice_get ys i ≡ Some x → slice_get ys j ≡ Some y → n x ≡ n y → ⊥
     still_apart xs ys p apart = apart_at ys (IsDistinct-IsPermutation same (λ x y. nat_eq_equiv.symm (n x) (n y)) xs ys p (distinct xs apart))
 
-pub still_distinct : (xs ys : List Site) → IsPermutation xs ys → AreDistinct xs → AreDistinct ys
+pub still_distinct : (xs ys : List Site) → IsPermutation xs ys → HaveDistinctTokens xs → HaveDistinctTokens ys
 still_distinct xs ys p apart i j s t a b e = go (cases_order i j)
   where
     no : (i j : ℕ) (x y : Site) → i < j → slice_get ys i ≡ Some x → slice_get ys j ≡ Some y → x.token ≡ y.token → ⊥
@@ -69,7 +69,7 @@ still_distinct xs ys p apart i j s t a b e = go (cases_order i j)
     go (inr (inl lt)) = absurd (no i j s t lt a b e)
     go (inr (inr lt)) = absurd (no j i t s lt b a (sym e))
 
-pub still_own : (ds xs ys : List Site) → IsPermutation xs ys → AreApart ds xs → AreApart ds ys
+pub still_own : (ds xs ys : List Site) → IsPermutation xs ys → SitesAreApart ds xs → SitesAreApart ds ys
 still_own ds xs ys p apart = record {
   definitions = apart.definitions;
   mentions = still_distinct xs ys p apart.mentions;
@@ -86,10 +86,10 @@ pair_total : IsTotalOrder pair_cmp
 pair_total = then_total (on_total (λ (x : ℕ × ℕ). x.0) nat_cmp_total) (on_total (λ (x : ℕ × ℕ). x.1) nat_cmp_total)
 
 -- a pair that isn't behind another, with another number, is before it
-before : (x y : ℕ × ℕ) → is_lt (pair_cmp y x) ≡ false → (x.1 ≡ y.1 → ⊥) → IsBefore x y
+before : (x y : ℕ × ℕ) → is_lt (pair_cmp y x) ≡ false → (x.1 ≡ y.1 → ⊥) → IsEarlierSite x y
 before x y rises different = go (nat_cmp y.0 x.0) (ranked y.0 x.0 (nat_cmp y.0 x.0) refl) (nat_cmp y.1 x.1) (ranked y.1 x.1 (nat_cmp y.1 x.1) refl) rises
   where
-    go : (o : Ordering) → MatchOrdering o (y.0 < x.0) (y.0 ≡ x.0) (x.0 < y.0) → (p : Ordering) → MatchOrdering p (y.1 < x.1) (y.1 ≡ x.1) (x.1 < y.1) → is_lt (ordering_then o p) ≡ false → IsBefore x y
+    go : (o : Ordering) → MatchOrdering o (y.0 < x.0) (y.0 ≡ x.0) (x.0 < y.0) → (p : Ordering) → MatchOrdering p (y.1 < x.1) (y.1 ≡ x.1) (x.1 < y.1) → is_lt (ordering_then o p) ≡ false → IsEarlierSite x y
     go Less a p b h = absurd (let wrong : true ≡ false = h in cc)
     go Equal a Less b h = absurd (let wrong : true ≡ false = h in cc)
     go Equal a Equal b h = absurd (different (sym b))
@@ -111,7 +111,7 @@ numbered_more ss xs i x here long old j s lt at = go (cases_eq j i)
         last ∙ ap Some (ap (λ (t : Site). (t.scope, i)) is ∙ ap (λ (k : ℕ). (s.scope, k)) (sym e))
     go (inr ne) = get_more xs ((x.scope, i) ∷ []) j (s.scope, j) (old j s (omega arith) at)
 
-module _ (ss : List Site) (xs : List (ℕ × ℕ)) (numbered : AreNumbered ss xs) where
+module _ (ss : List Site) (xs : List (ℕ × ℕ)) (numbered : AreNumberedSites ss xs) where
   site_of : (k : ℕ) (x : ℕ × ℕ) → slice_get xs k ≡ Some x → (s : Site) × (slice_get ss k ≡ Some s) × (s.scope ≡ x.0) × (k ≡ x.1)
   site_of k x at =
       let s : Site = get_or ss k (record { scope = 0; token = 0 }) in

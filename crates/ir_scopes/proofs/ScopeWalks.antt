@@ -10,8 +10,8 @@ use Rattle.ir_tokens.specs.declared.faults.Fault.{Fault}
 use Rattle.ir_tokens.specs.Faults.{IsFirstOf, IsNamed}
 use Rattle.ir_tokens.proofs.FirstFault.{first_more, named_along}
 use Rattle.ir_scopes.specs.declared.sites.Site.{Site}
-use Rattle.ir_scopes.specs.Scopes.{name_of, Names, IsAgain, fault_again}
-use Rattle.ir_scopes.specs.Orders.{IsBefore, IsScopeOrder, found_token, token_at, name_at, AreNamedAlike, IsNameAt, IsLatest, IsAgainBefore, IsWalkAt, number_in, number_there, again_at, AreWithin, AreBehind}
+use Rattle.ir_scopes.specs.Scopes.{name_of, SiteHasName, IsAgain, fault_again}
+use Rattle.ir_scopes.specs.Orders.{IsEarlierSite, IsScopeOrder, found_token, token_at, name_at, AreNamedAlike, IsNameAt, IsLatest, IsAgainBefore, IsWalkAt, number_in, number_there, again_at, AreWithin, AreBehind}
 
 -- two that stand at one place are one
 one_there : {X : Type 0} (xs : List X) (i k : ℕ) (x y : X) → i ≡ k → slice_get xs i ≡ Some x → slice_get xs k ≡ Some y → x ≡ y
@@ -27,11 +27,11 @@ copied_there xs i x (Some b) r m e is = slice_get-get_or xs i b.now m.0 ∙ (ap 
 none_there : {X : Type 0} {A : Type 0} (xs : List X) (i : ℕ) (x : X) → length xs ≤ i → slice_get xs i ≡ Some x → A
 none_there xs i x past at = let lt = slice_get_within xs i x at in absurd (omega arith)
 
-not_before : (x y : ℕ × ℕ) → IsBefore x y → y.0 < x.0 → ⊥
+not_before : (x y : ℕ × ℕ) → IsEarlierSite x y → y.0 < x.0 → ⊥
 not_before x y (inl a) b = omega arith
 not_before x y (inr a) b = omega (arith, a.0)
 
-not_lower : (x y : ℕ × ℕ) → IsBefore x y → x.0 ≤ y.0
+not_lower : (x y : ℕ × ℕ) → IsEarlierSite x y → x.0 ≤ y.0
 not_lower x y (inl a) = omega arith
 not_lower x y (inr a) = omega (arith, a.0)
 
@@ -114,14 +114,14 @@ module _ (names : List ℕ) (ss : List Site) (order : List (ℕ × ℕ)) (passed
 
       -- where all of the scope was passed, it says which number the name has there
       pub numbered : AreBehind order passed scope → (o : Option ℕ) → number_there scope order (slice_get latest name) ≡ o
-          → MatchOption o ((j : ℕ) → Names names ss scope name j → ⊥) (Names names ss scope name)
+          → MatchOption o ((j : ℕ) → SiteHasName names ss scope name j → ⊥) (SiteHasName names ss scope name)
       numbered behind o e = go o (subst (λ p. MatchOption p NonePassed OnePassed) e says)
         where
           there : (j : ℕ) (i : ℕ) (s : Site) → slice_get ss j ≡ Some s → s.scope ≡ scope → name_of names s.token ≡ name → slice_get order i ≡ Some (scope, j) → NonePassed → (i < passed) ⊎ (passed ≤ i) → ⊥
           there j i s at same is b none (inl lt) = none i (scope, j) lt b refl (name_is j s at ∙ is)
           there j i s at same is b none (inr le) = let wrong : scope < scope = behind i (scope, j) le b in omega arith
 
-          go : (o : Option ℕ) → MatchOption o NonePassed OnePassed → MatchOption o ((j : ℕ) → Names names ss scope name j → ⊥) (Names names ss scope name)
+          go : (o : Option ℕ) → MatchOption o NonePassed OnePassed → MatchOption o ((j : ℕ) → SiteHasName names ss scope name j → ⊥) (SiteHasName names ss scope name)
           go None none = λ j h.
               let s = h.0 in
               let i = walk.ordered.all j s h.1 in
@@ -222,7 +222,7 @@ module _ (names : List ℕ) (ss : List Site) (order : List (ℕ × ℕ)) (passed
   pub walked : length order ≤ passed → IsNamed (IsAgain names ss) again
   walked end = named_along (IsAgainBefore names ss order passed) (IsAgain names ss) again up down walk.named
     where
-      lower : (x y : ℕ × ℕ) → x.0 ≡ y.0 → IsBefore x y → x.1 < y.1
+      lower : (x y : ℕ × ℕ) → x.0 ≡ y.0 → IsEarlierSite x y → x.1 < y.1
       lower x y e (inl a) = absurd (omega (arith, e))
       lower x y e (inr a) = a.1
 
@@ -257,7 +257,7 @@ module _ (names : List ℕ) (ss : List Site) (order : List (ℕ × ℕ)) (passed
             is ∙ ap fault_again (sym (token_is j s at)),
           )
             where
-              wrong : IsBefore (s.scope, j) (t.scope, i) → ⊥
+              wrong : IsEarlierSite (s.scope, j) (t.scope, i) → ⊥
               wrong (inl c) = omega (arith, scopes)
               wrong (inr c) = omega (arith, c.1)
 

@@ -3,10 +3,10 @@ use Rattle.std.proofs.Common.{◌≡◌, ℕ, ◌+◌, ◌<◌, ◌≤◌, Bool,
 use Rattle.std.proofs.lemmas.List.{drop_more, drop_all, append-nil}
 use Rattle.ir_grammar.specs.declared.grammar.Event.{Event}
 use Rattle.ir_grammar.specs.declared.grammar.Event.TheVariants.{Took, Did}
-use Rattle.ir_scopes.specs.Scopes.{Place, behind, each}
+use Rattle.ir_scopes.specs.Scopes.{EventPlace, behind, each}
 
-module _ {A : Type 0} (isolated : ℕ → Bool) (f : Place → Event → List A) where
-  pub each_step : (at after : Place) (es : List Event) (i : ℕ) (d : Event) (xs ys all : List A) → i < length es → after ≡ behind isolated at (get_or es i d) → ys ≡ xs ++ f at (get_or es i d)
+module _ {A : Type 0} (isolated : ℕ → Bool) (f : EventPlace → Event → List A) where
+  pub each_step : (at after : EventPlace) (es : List Event) (i : ℕ) (d : Event) (xs ys all : List A) → i < length es → after ≡ behind isolated at (get_or es i d) → ys ≡ xs ++ f at (get_or es i d)
       → xs ++ each isolated f at (drop i es) ≡ all → ys ++ each isolated f after (drop (i + 1) es) ≡ all
   each_step at after es i d xs ys all lt gone added so =
       let e = get_or es i d in
@@ -14,9 +14,9 @@ module _ {A : Type 0} (isolated : ℕ → Bool) (f : Place → Event → List A)
       ap (λ p. ys ++ each isolated f p (drop (i + 1) es)) gone
       ∙ (ap (λ x. x ++ rest) added ∙ (append_assoc xs (f at e) rest ∙ (ap (λ x. xs ++ each isolated f at x) (sym (drop_more es i d lt)) ∙ so)))
 
-  pub each_all : (at : Place) (es : List Event) (i : ℕ) (xs all : List A) → length es ≤ i → xs ++ each isolated f at (drop i es) ≡ all → xs ≡ all
+  pub each_all : (at : EventPlace) (es : List Event) (i : ℕ) (xs all : List A) → length es ≤ i → xs ++ each isolated f at (drop i es) ≡ all → xs ≡ all
   each_all at es i xs all le so = sym (append-nil xs) ∙ (ap (λ x. xs ++ each isolated f at x) (sym (drop_all i es le)) ∙ so)
 
-pub events_behind : (isolated : ℕ → Bool) (at after : Place) (e : Event) → after ≡ behind isolated at e → after.events ≡ at.events + 1
+pub events_behind : (isolated : ℕ → Bool) (at after : EventPlace) (e : Event) → after ≡ behind isolated at e → after.events ≡ at.events + 1
 events_behind isolated at after Took gone = ap (λ p. p.events) gone
 events_behind isolated at after (Did a) gone = ap (λ p. p.events) gone

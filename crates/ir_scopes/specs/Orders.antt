@@ -9,18 +9,18 @@ use Rattle.ir_scopes.specs.Scopes.{name_of, fault_again}
 -- ---- an order
 
 -- these are the scope and the number of each site, in the order of the text
-abbrev pub AreNumbered : List Site → List (ℕ × ℕ) → Type 0
-AreNumbered ss xs = (length xs ≡ length ss) × ((j : ℕ) (s : Site) → slice_get ss j ≡ Some s → slice_get xs j ≡ Some (s.scope, j))
+abbrev pub AreNumberedSites : List Site → List (ℕ × ℕ) → Type 0
+AreNumberedSites ss xs = (length xs ≡ length ss) × ((j : ℕ) (s : Site) → slice_get ss j ≡ Some s → slice_get xs j ≡ Some (s.scope, j))
 
 -- an earlier scope goes before, and in one scope a lower number
-abbrev pub IsBefore : ℕ × ℕ → ℕ × ℕ → Type 0
-IsBefore x y = (x.0 < y.0) ⊎ ((x.0 ≡ y.0) × (x.1 < y.1))
+abbrev pub IsEarlierSite : ℕ × ℕ → ℕ × ℕ → Type 0
+IsEarlierSite x y = (x.0 < y.0) ⊎ ((x.0 ≡ y.0) × (x.1 < y.1))
 
 -- these are the scope and the number of each site, each once, in the order of the scopes
 pub record IsScopeOrder (ss : List Site) (order : List (ℕ × ℕ)) : Type 0 where
   pub sites : (i : ℕ) (x : ℕ × ℕ) → slice_get order i ≡ Some x → (s : Site) × (slice_get ss x.1 ≡ Some s) × (s.scope ≡ x.0)
   pub all : (j : ℕ) (s : Site) → slice_get ss j ≡ Some s → (i : ℕ) × (slice_get order i ≡ Some (s.scope, j))
-  pub ascends : (i k : ℕ) (x y : ℕ × ℕ) → i < k → slice_get order i ≡ Some x → slice_get order k ≡ Some y → IsBefore x y
+  pub ascends : (i k : ℕ) (x y : ℕ × ℕ) → i < k → slice_get order i ≡ Some x → slice_get order k ≡ Some y → IsEarlierSite x y
 
 -- ---- names in it
 
@@ -69,8 +69,8 @@ pub record IsWalkAt (names : List ℕ) (ss : List Site) (order : List (ℕ × �
   pub recent : (name place : ℕ) → slice_get latest name ≡ Some place → IsLatest names ss order passed name place
   pub named : IsNamed (IsAgainBefore names ss order passed) again
 
-abbrev pub IsWalk : List ℕ → List Site → Walk → Type 0
-IsWalk names ss w = IsWalkAt names ss w.order.items w.passed w.latest.items w.again
+abbrev pub IsScopeWalk : List ℕ → List Site → Walk → Type 0
+IsScopeWalk names ss w = IsWalkAt names ss w.order.items w.passed w.latest.items w.again
 
 -- the number of what is found, if it is in this scope
 abbrev pub number_in : ℕ → Option (ℕ × ℕ) → Option ℕ
@@ -100,8 +100,8 @@ abbrev pub AreBehind : List (ℕ × ℕ) → ℕ → ℕ → Type 0
 AreBehind order n scope = (i : ℕ) (x : ℕ × ℕ) → n ≤ i → slice_get order i ≡ Some x → scope < x.0
 
 -- the walk has passed no site of a later scope
-abbrev pub IsWithin : Walk → ℕ → Type 0
-IsWithin w scope = AreWithin w.order.items w.passed scope
+abbrev pub IsWithinScope : Walk → ℕ → Type 0
+IsWithinScope w scope = AreWithin w.order.items w.passed scope
 
 -- it has passed all of this scope and of those before it
 abbrev pub IsThrough : Walk → ℕ → Type 0

@@ -37,7 +37,7 @@ is_marked marks n = slice_index_or marks n false
 
 -- A place among events: how many events and tokens stand before it, the innermost operation or region that it stands in, and
 -- those around that, the inner ones first. A scope is given by the number of events that stand before it.
-pub record Place : Type 0 where
+pub record EventPlace : Type 0 where
   pub events : ℕ
   pub tokens : ℕ
   pub here : Frame
@@ -48,11 +48,11 @@ abbrev pub outside : ℕ → Frame
 outside n = record { isolated = false; labels = n; values = n; opened = 0 }
 
 -- where a text begins
-abbrev pub beginning : Place
+abbrev pub beginning : EventPlace
 beginning = record { events = 0; tokens = 0; here = outside 0; around = [] }
 
 -- the token before a place
-abbrev pub last_token : Place → ℕ
+abbrev pub last_token : EventPlace → ℕ
 last_token at = at.tokens - 1
 
 -- in an operation names mean what they mean around it
@@ -60,7 +60,7 @@ abbrev pub operation_frame : Bool → Frame → Frame
 operation_frame isolated f = record { isolated = isolated; labels = f.labels; values = f.values; opened = f.opened }
 
 -- a region is a scope of labels, and that of an isolated operation one of values too
-abbrev pub region_frame : Place → Frame
+abbrev pub region_frame : EventPlace → Frame
 region_frame at = record {
   isolated = false;
   labels = at.events + 1;
@@ -85,7 +85,7 @@ rest [] = []
 rest (f ∷ fs) = fs
 
 -- the innermost of what is open behind an action
-abbrev pub here_after : (ℕ → Bool) → Place → Action → Frame
+abbrev pub here_after : (ℕ → Bool) → EventPlace → Action → Frame
 here_after isolated at (Operation n) = operation_frame (isolated n) at.here
 here_after isolated at EndOperation = here_behind_operation at.events at.around
 here_after isolated at BeginRegion = region_frame at
@@ -93,7 +93,7 @@ here_after isolated at EndRegion = here_behind_region at.here at.around
 here_after isolated at _ = at.here
 
 -- what is open around it
-abbrev pub around_after : Place → Action → List Frame
+abbrev pub around_after : EventPlace → Action → List Frame
 around_after at (Operation n) = at.here ∷ at.around
 around_after at EndOperation = rest at.around
 around_after at BeginRegion = at.here ∷ at.around
@@ -101,25 +101,25 @@ around_after at EndRegion = rest at.around
 around_after at _ = at.around
 
 -- the place behind an event
-abbrev pub behind : (ℕ → Bool) → Place → Event → Place
+abbrev pub behind : (ℕ → Bool) → EventPlace → Event → EventPlace
 behind isolated at Took = record { events = at.events + 1; tokens = at.tokens + 1; here = at.here; around = at.around }
 behind isolated at (Did a) = record { events = at.events + 1; tokens = at.tokens; here = here_after isolated at a; around = around_after at a }
 
 -- ---- the names
 
 -- the definitions of values that an event makes: results and arguments
-abbrev pub defined : Place → Event → List Site
+abbrev pub defined : EventPlace → Event → List Site
 defined at (Did Result) = record { scope = at.here.values; token = last_token at } ∷ []
 defined at (Did Argument) = record { scope = at.here.values; token = last_token at } ∷ []
 defined at _ = []
 
 -- the labels that it makes
-abbrev pub labelled : Place → Event → List Site
+abbrev pub labelled : EventPlace → Event → List Site
 labelled at (Did Label) = record { scope = at.here.labels; token = last_token at } ∷ []
 labelled at _ = []
 
 -- the values that it mentions
-abbrev pub mentioned : Place → Event → List Site
+abbrev pub mentioned : EventPlace → Event → List Site
 mentioned at (Did Operand) = record { scope = at.here.values; token = last_token at } ∷ []
 mentioned at _ = []
 
@@ -134,11 +134,11 @@ may_end (Did EndRegion) = true
 may_end _ = false
 
 -- the scope of values that an event ends
-abbrev pub closed : (ℕ → Bool) → Place → Event → List Closing
+abbrev pub closed : (ℕ → Bool) → EventPlace → Event → List Closing
 closed isolated at e = cond (may_end e) (ended (last_token at) at.here (behind isolated at e).here) []
 
 -- what events make, each at its place, in their order
-abbrev pub each : {A : Type 0} → (ℕ → Bool) → (Place → Event → List A) → Place → List Event → List A
+abbrev pub each : {A : Type 0} → (ℕ → Bool) → (EventPlace → Event → List A) → EventPlace → List Event → List A
 each isolated f at [] = []
 each isolated f at (e ∷ es) = f at e ++ each isolated f (behind isolated at e) es
 
@@ -166,7 +166,7 @@ pub record AreSites (isolated : ℕ → Bool) (es : List Event) (s : Sites) : Ty
   pub closings : s.closings.items ≡ closings isolated es
 
 -- where a walk over events has come to
-abbrev pub place_of : Walker → Place
+abbrev pub place_of : Walker → EventPlace
 place_of w = record { events = w.tokens + w.actions; tokens = w.tokens; here = w.here; around = reverse w.around.items }
 
 -- ---- what they mean
@@ -176,16 +176,16 @@ abbrev pub name_of : List ℕ → ℕ → ℕ
 name_of names k = slice_index names k
 
 -- the name at a site is this one of this scope
-abbrev pub IsOf : List ℕ → ℕ → ℕ → Site → Type 0
-IsOf names scope name s = (s.scope ≡ scope) × (name_of names s.token ≡ name)
+abbrev pub IsNameAtSite : List ℕ → ℕ → ℕ → Site → Type 0
+IsNameAtSite names scope name s = (s.scope ≡ scope) × (name_of names s.token ≡ name)
 
 -- the site with this number is of this name in this scope
-abbrev pub Names : List ℕ → List Site → ℕ → ℕ → ℕ → Type 0
-Names names ss scope name j = (s : Site) × (slice_get ss j ≡ Some s) × IsOf names scope name s
+abbrev pub SiteHasName : List ℕ → List Site → ℕ → ℕ → ℕ → Type 0
+SiteHasName names ss scope name j = (s : Site) × (slice_get ss j ≡ Some s) × IsNameAtSite names scope name s
 
 -- the mention means the definition with this number: it is of the same name in the same scope
 abbrev pub Means : List ℕ → List Site → Site → ℕ → Type 0
-Means names ds m j = Names names ds m.scope (name_of names m.token) j
+Means names ds m j = SiteHasName names ds m.scope (name_of names m.token) j
 
 -- ---- the faults
 
@@ -195,7 +195,7 @@ fault_again k = record { kind = MultipleDefinitions; met = k; place = k }
 
 -- The name at a site is that of an earlier site, in the same scope.
 abbrev pub IsAgain : List ℕ → List Site → Fault → Type 0
-IsAgain names ss f = (i : ℕ) × (j : ℕ) × (s : Site) × (i < j) × (slice_get ss j ≡ Some s) × Names names ss s.scope (name_of names s.token) i × (f ≡ fault_again s.token)
+IsAgain names ss f = (i : ℕ) × (j : ℕ) × (s : Site) × (i < j) × (slice_get ss j ≡ Some s) × SiteHasName names ss s.scope (name_of names s.token) i × (f ≡ fault_again s.token)
 
 -- what is mentioned has no definition in its scope
 abbrev pub IsUnresolved : List ℕ → List Site → Site → Type 0
@@ -210,13 +210,13 @@ abbrev pub LacksName : List ℕ → List Site → List Site → ℕ → Type 0
 LacksName names ds ms scope = (i : ℕ) × (m : Site) × (slice_get ms i ≡ Some m) × (m.scope ≡ scope) × IsUnresolved names ds m
 
 -- A scope ends, and a name that is mentioned in it has no definition there.
-abbrev pub IsLacking : List ℕ → List Site → List Site → List Closing → Fault → Type 0
-IsLacking names ds ms cs f = (i : ℕ) × (c : Closing) × (slice_get cs i ≡ Some c) × LacksName names ds ms c.scope × (f ≡ fault_unresolved c)
+abbrev pub IsUnresolvedName : List ℕ → List Site → List Site → List Closing → Fault → Type 0
+IsUnresolvedName names ds ms cs f = (i : ℕ) × (c : Closing) × (slice_get cs i ≡ Some c) × LacksName names ds ms c.scope × (f ≡ fault_unresolved c)
 
 -- the faults of names: values or labels that are defined twice, and values that have no definition
 abbrev pub HasScopeFault : (ℕ → Bool) → List ℕ → List Event → Fault → Type 0
 HasScopeFault isolated names es f =
-    IsAgain names (definitions isolated es) f ⊎ (IsAgain names (labels isolated es) f ⊎ IsLacking names (definitions isolated es) (mentions isolated es) (closings isolated es) f)
+    IsAgain names (definitions isolated es) f ⊎ (IsAgain names (labels isolated es) f ⊎ IsUnresolvedName names (definitions isolated es) (mentions isolated es) (closings isolated es) f)
 
 -- ---- looking up
 
@@ -235,21 +235,21 @@ EndsAmong set cs f = (i : ℕ) × (c : Closing) × (slice_get cs i ≡ Some c) �
 -- ---- what looking up answers
 
 -- no two of the sites have one token
-abbrev pub AreDistinct : List Site → Type 0
-AreDistinct ss = (i j : ℕ) (s t : Site) → slice_get ss i ≡ Some s → slice_get ss j ≡ Some t → s.token ≡ t.token → i ≡ j
+abbrev pub HaveDistinctTokens : List Site → Type 0
+HaveDistinctTokens ss = (i j : ℕ) (s t : Site) → slice_get ss i ≡ Some s → slice_get ss j ≡ Some t → s.token ≡ t.token → i ≡ j
 
 -- each token names at most one value
-pub record AreApart (ds ms : List Site) : Type 0 where
-  pub definitions : AreDistinct ds
-  pub mentions : AreDistinct ms
+pub record SitesAreApart (ds ms : List Site) : Type 0 where
+  pub definitions : HaveDistinctTokens ds
+  pub mentions : HaveDistinctTokens ms
   pub both : (i j : ℕ) (s t : Site) → slice_get ds i ≡ Some s → slice_get ms j ≡ Some t → s.token ≡ t.token → ⊥
 
 -- None of these definitions, labels, mentions and ends of scopes is at fault. Definitions have the numbers 0, 1, .. in the
 -- order of the text; at the token of each, and of each mention that means it, stands its number.
 pub record Resolves (names : List ℕ) (ds ms : List Site) (cs : List Closing) (r : Resolution) : Type 0 where
   pub count : r.count ≡ length ds
-  pub defined : AreApart ds ms → (j : ℕ) (s : Site) → slice_get ds j ≡ Some s → s.token < length names → slice_index r.definitions.items s.token ≡ j
-  pub mentioned : AreApart ds ms → (i j : ℕ) (m : Site) → slice_get ms i ≡ Some m → Means names ds m j → m.token < length names → slice_index r.definitions.items m.token ≡ j
+  pub defined : SitesAreApart ds ms → (j : ℕ) (s : Site) → slice_get ds j ≡ Some s → s.token < length names → slice_index r.definitions.items s.token ≡ j
+  pub mentioned : SitesAreApart ds ms → (i j : ℕ) (m : Site) → slice_get ms i ≡ Some m → Means names ds m j → m.token < length names → slice_index r.definitions.items m.token ≡ j
   pub resolved : (i k : ℕ) (m : Site) (c : Closing) → slice_get ms i ≡ Some m → slice_get cs k ≡ Some c → c.scope ≡ m.scope → (j : ℕ) × Means names ds m j
 
 -- what reading did has no fault of names, and its names are looked up

@@ -7,8 +7,8 @@ ghost use Rattle.std.specs.List.Sorted.{IsPermutation, IsNonDecreasingBy};
 ghost use Rattle.ir_scopes.specs.declared.sites.Site.{Site};
 ghost use Rattle.ir_grammar.specs.Nesting.{OwnTokens};
 ghost use Rattle.ir_tokens.specs.Faults.{IsNamed, IsFirstOf};
-ghost use Rattle.ir_scopes.specs.Scopes.{is_marked, name_of, fault_again, fault_unresolved, IsAgain, AreLacking, MeanNoted, EndsAmong, AreDistinct, AreApart, IsResolved, IsScopeFault};
-ghost use Rattle.ir_scopes.specs.Orders.{AreNumbered, IsScopeOrder, token_at, AreNamedAlike, HasPlaces, IsWalk, number_passed, again_at, IsWithin, IsThrough};
+ghost use Rattle.ir_scopes.specs.Scopes.{is_marked, name_of, fault_again, fault_unresolved, IsAgain, AreLacking, MeanNoted, EndsAmong, HaveDistinctTokens, SitesAreApart, IsResolved, IsScopeFault};
+ghost use Rattle.ir_scopes.specs.Orders.{AreNumberedSites, IsScopeOrder, token_at, AreNamedAlike, HasPlaces, IsScopeWalk, number_passed, again_at, IsWithinScope, IsThrough};
 
 use crate::sites::{Closing, Site, Sites, sites_of};
 use ir_grammar::grammar::Event;
@@ -120,7 +120,7 @@ fn fault_unresolved(closing: Closing) -> Fault
 
 /// The scope and the number of each site.
 fn numbered(alloc: Global, sites: &[Site]) -> Result<Vec<(usize, usize)>, AllocError>
-    ensures { IfOk result (λ v. AreNumbered sites.now v.items) }
+    ensures { IfOk result (λ v. AreNumberedSites sites.now v.items) }
 {
     let mut all = Vec::with_capacity(alloc, sites.len())?;
     for (number, site) in sites.iter().enumerate() {
@@ -174,7 +174,7 @@ fn token_at(sites: &[Site], number: usize) -> usize
 impl Walk {
     /// A walk over these sites, of which none was passed.
     fn new(alloc: Global, names: &[usize], sites: &[Site]) -> Result<Walk, AllocError>
-        ensures walk { IfOk result (IsWalk names.now sites.now) }
+        ensures walk { IfOk result (IsScopeWalk names.now sites.now) }
         ensures passed { IfOk result (λ w. w.passed ≡ 0) }
     {
         Ok(Walk {
@@ -211,12 +211,12 @@ impl Walk {
 
     /// Passes the next site, if there is one in the scopes up to this one, and says whether it did.
     fn step(&mut self, names: &[usize], sites: &[Site], last: usize) -> bool
-        ensures walk { (all : List ℕ) → AreNamedAlike all names.now sites.now → IsWalk all sites.now self.old
-            → IsWalk all sites.now self.new }
+        ensures walk { (all : List ℕ) → AreNamedAlike all names.now sites.now → IsScopeWalk all sites.now self.old
+            → IsScopeWalk all sites.now self.new }
         ensures order { self.new.order.items ≡ self.old.order.items }
         ensures passed { result ≡ true → (self.new.passed ≡ self.old.passed + 1)
             × (self.new.passed ≤ length self.new.order.items) }
-        ensures within { IsWithin self.old last → IsWithin self.new last }
+        ensures within { IsWithinScope self.old last → IsWithinScope self.new last }
         ensures through { result ≡ false → IsScopeOrder sites.now self.old.order.items → IsThrough self.new last }
         ensures all { result ≡ false → last ≡ LAST → length self.new.order.items ≤ self.new.passed }
     {
@@ -233,10 +233,10 @@ impl Walk {
 
     /// Passes all sites of the scopes up to this one.
     fn pass_through(&mut self, names: &[usize], sites: &[Site], last: usize)
-        ensures walk { (all : List ℕ) → AreNamedAlike all names.now sites.now → IsWalk all sites.now self.old
-            → IsWalk all sites.now self.new }
+        ensures walk { (all : List ℕ) → AreNamedAlike all names.now sites.now → IsScopeWalk all sites.now self.old
+            → IsScopeWalk all sites.now self.new }
         ensures order { self.new.order.items ≡ self.old.order.items }
-        ensures within { IsWithin self.old last → IsWithin self.new last }
+        ensures within { IsWithinScope self.old last → IsWithinScope self.new last }
         ensures through { IsScopeOrder sites.now self.old.order.items → IsThrough self.new last }
         ensures all { last ≡ LAST → length self.new.order.items ≤ self.new.passed }
     {
@@ -277,7 +277,7 @@ fn note(places: &mut [usize], token: usize, number: usize)
 
 /// Writes the number of each definition to the place of its token.
 fn note_definitions(places: &mut [usize], definitions: &[Site])
-    ensures noted { AreDistinct definitions.now → (j : ℕ) (s : Site) → slice_get definitions.now j ≡ Some s
+    ensures noted { HaveDistinctTokens definitions.now → (j : ℕ) (s : Site) → slice_get definitions.now j ≡ Some s
         → s.token < length places.old → slice_index places.new s.token ≡ j }
     ensures kept { (k : ℕ) → ((j : ℕ) (s : Site) → slice_get definitions.now j ≡ Some s → s.token ≡ k → ⊥)
         → slice_index places.new k ≡ slice_index places.old k }
@@ -299,11 +299,11 @@ fn note_mentions(
     mentions: &[Site],
     walk: &mut Walk,
 ) -> Result<BTreeSet<usize>, AllocError>
-    requires apart { AreApart definitions.now mentions.now }
+    requires apart { SitesAreApart definitions.now mentions.now }
     requires order { IsNonDecreasingBy (λ m. m.scope) mentions.now }
-    requires walk { IsWalk places.old definitions.now walk.old }
+    requires walk { IsScopeWalk places.old definitions.now walk.old }
     requires begins { walk.old.passed ≡ 0 }
-    ensures walk { OnOk result (IsWalk places.old definitions.now walk.new) }
+    ensures walk { OnOk result (IsScopeWalk places.old definitions.now walk.new) }
     ensures lacking { IfOk result (AreLacking places.old definitions.now mentions.now) }
     ensures noted { OnOk result (MeanNoted places.old definitions.now mentions.now places.new) }
     ensures many { OnOk result (length places.new ≡ length places.old) }
@@ -348,7 +348,7 @@ fn look_up_mentions(
     definitions: &[Site],
     mentions: &mut [Site],
 ) -> Result<ValueFaults, AllocError>
-    requires { AreApart definitions.now mentions.old }
+    requires { SitesAreApart definitions.now mentions.old }
     ensures again { IfOk result (λ a. IsNamed (IsAgain places.old definitions.now) a.again) }
     ensures lacking { IfOk result (λ a. AreLacking places.old definitions.now mentions.old a.lacking) }
     ensures noted { OnOk result (MeanNoted places.old definitions.now mentions.old places.new) }

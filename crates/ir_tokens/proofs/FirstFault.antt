@@ -4,9 +4,9 @@ use Rattle.std.proofs.lemmas.Bool.{cases_lt}
 use Rattle.ir_tokens.specs.declared.faults.Fault.{Fault}
 use Rattle.ir_tokens.specs.declared.faults.FaultKind.{FaultKind}
 use Rattle.ir_tokens.specs.declared.faults.FaultKind.TheVariants.{Syntax, Number, ResultNames, TooDeep, MultipleDefinitions, UnresolvedReference}
-use Rattle.ir_tokens.specs.Faults.{row, Precedes, IsFirstOf, IsNamed}
+use Rattle.ir_tokens.specs.Faults.{row, FaultPrecedes, IsFirstOf, IsNamed}
 
-pub precedes_trans : (f g h : Fault) → Precedes f g → Precedes g h → Precedes f h
+pub precedes_trans : (f g h : Fault) → FaultPrecedes f g → FaultPrecedes g h → FaultPrecedes f h
 precedes_trans f g h (inl a) (inl b) = inl (omega arith)
 precedes_trans f g h (inl a) (inr b) = inl (omega arith)
 precedes_trans f g h (inr a) (inl b) = inl (omega arith)
@@ -19,22 +19,22 @@ precedes_trans f g h (inr a) (inr b) = inr (omega arith, go a.1 b.1)
     go (inr x) (inl y) = inl (omega arith)
     go (inr x) (inr y) = inr (omega arith, omega arith)
 
-pub precedes_itself : (f : Fault) → Precedes f f
+pub precedes_itself : (f : Fault) → FaultPrecedes f f
 precedes_itself f = inr (refl, inr (refl, omega arith))
 
-pub precedes_total : (f g : Fault) → Precedes f g ⊎ Precedes g f
+pub precedes_total : (f g : Fault) → FaultPrecedes f g ⊎ FaultPrecedes g f
 precedes_total f g = met (cases_lt f.met g.met) (cases_lt g.met f.met)
   where
-    place : f.met ≡ g.met → row f.kind ≡ row g.kind → (f.place < g.place) ⊎ (g.place ≤ f.place) → Precedes f g ⊎ Precedes g f
+    place : f.met ≡ g.met → row f.kind ≡ row g.kind → (f.place < g.place) ⊎ (g.place ≤ f.place) → FaultPrecedes f g ⊎ FaultPrecedes g f
     place e r (inl x) = inl (inr (e, inr (r, omega arith)))
     place e r (inr x) = inr (inr (sym e, inr (sym r, x)))
 
-    kind : f.met ≡ g.met → (row f.kind < row g.kind) ⊎ (row g.kind ≤ row f.kind) → (row g.kind < row f.kind) ⊎ (row f.kind ≤ row g.kind) → Precedes f g ⊎ Precedes g f
+    kind : f.met ≡ g.met → (row f.kind < row g.kind) ⊎ (row g.kind ≤ row f.kind) → (row g.kind < row f.kind) ⊎ (row f.kind ≤ row g.kind) → FaultPrecedes f g ⊎ FaultPrecedes g f
     kind e (inl x) y = inl (inr (e, inl x))
     kind e (inr x) (inl y) = inr (inr (sym e, inl y))
     kind e (inr x) (inr y) = place e (omega arith) (cases_lt f.place g.place)
 
-    met : (f.met < g.met) ⊎ (g.met ≤ f.met) → (g.met < f.met) ⊎ (f.met ≤ g.met) → Precedes f g ⊎ Precedes g f
+    met : (f.met < g.met) ⊎ (g.met ≤ f.met) → (g.met < f.met) ⊎ (f.met ≤ g.met) → FaultPrecedes f g ⊎ FaultPrecedes g f
     met (inl x) y = inl (inl x)
     met (inr x) (inl y) = inr (inl y)
     met (inr x) (inr y) = kind (omega arith) (cases_lt (row f.kind) (row g.kind)) (cases_lt (row g.kind) (row f.kind))
@@ -50,7 +50,7 @@ first_of_law P Q H (Some f) (Some g) r split p q ha hb (inr e) = subst (IsNamed 
 
 -- the same for a row that has one fault more
 pub first_more : (P H : Fault → Type 0) (g : Fault) (a r : Option Fault) → ((f : Fault) → H f → P f ⊎ (f ≡ g)) → ((f : Fault) → P f → H f) → H g → IsNamed P a → IsFirstOf a (Some g) r → IsNamed H r
-first_more P H g a r split p here ha = first_of_law P (λ f. f ≡ g) H a (Some g) r split p (λ f e. subst H (sym e) here) ha (refl, λ h e. subst (Precedes g) (sym e) (precedes_itself g))
+first_more P H g a r split p here ha = first_of_law P (λ f. f ≡ g) H a (Some g) r split p (λ f e. subst H (sym e) here) ha (refl, λ h e. subst (FaultPrecedes g) (sym e) (precedes_itself g))
 
 -- faults that are the same have the same that is named
 pub named_along : (P Q : Fault → Type 0) (o : Option Fault) → ((f : Fault) → P f → Q f) → ((f : Fault) → Q f → P f) → IsNamed P o → IsNamed Q o
@@ -96,7 +96,7 @@ same_row UnresolvedReference MultipleDefinitions e = absurd (omega (arith, e))
 same_row UnresolvedReference UnresolvedReference e = refl
 
 -- two that precede each other are one
-pub precedes_one : (f g : Fault) → Precedes f g → Precedes g f → f ≡ g
+pub precedes_one : (f g : Fault) → FaultPrecedes f g → FaultPrecedes g f → f ≡ g
 precedes_one f g (inl a) (inl b) = absurd (omega (arith, a, b))
 precedes_one f g (inl a) (inr b) = absurd (omega (arith, a, b.0))
 precedes_one f g (inr a) (inl b) = absurd (omega (arith, a.0, b))

@@ -6,7 +6,7 @@ use native.Mathlib.Decide.{dec_lt}
 use Rattle.std.proofs.lemmas.Bool.Decides.{nat_tests}
 use Rattle.ir_tokens.specs.declared.tokens.TokenKind.{TokenKind}
 use Rattle.ir_tokens.specs.declared.tokens.TokenKind.TheVariants.{Name, Dotted, Digits, Negative, Mark, Text, Sign, Arrow, InMemory, Bad}
-use Rattle.ir_tokens.specs.Tokens.{is_letter, is_digit, is_name_char, is_sign, Runs, Spells, NoLonger, AreDigits, ClosesText, IsInMemory}
+use Rattle.ir_tokens.specs.Tokens.{is_letter, is_digit, is_name_char, is_sign, AreAllOfKind, Spells, NoLonger, AreDigits, ClosesText, IsInMemory}
 use Rattle.ir_tokens.specs.Tokens.ClosesText.{closing, plain, escaped}
 
 -- ---- characters
@@ -70,11 +70,11 @@ word_only c InMemory l f = apart is_letter c 60 l refl f
 word_only c Bad l f = absurd f
 
 -- a run that passes the place where another stopped
-past_stop : (p : ℕ → Bool) (cs : List ℕ) (from m j : ℕ) → Runs p cs from m → from ≤ j → j < m → p (slice_index cs j) ≡ false → ⊥
+past_stop : (p : ℕ → Bool) (cs : List ℕ) (from m j : ℕ) → AreAllOfKind p cs from m → from ≤ j → j < m → p (slice_index cs j) ≡ false → ⊥
 past_stop p cs from m j runs lo hi fails = let t : true ≡ false = sym (runs j lo hi) ∙ fails in cc
 
 -- a dot is no part of a name
-pub past_dot : (cs : List ℕ) (from m dot : ℕ) → Runs is_name_char cs from m → from ≤ dot → dot < m → slice_index cs dot ≡ 46 → ⊥
+pub past_dot : (cs : List ℕ) (from m dot : ℕ) → AreAllOfKind is_name_char cs from m → from ≤ dot → dot < m → slice_index cs dot ≡ 46 → ⊥
 past_dot cs from m dot runs lo hi e = past_stop is_name_char cs from m dot runs lo hi (rw e refl)
 
 at_least : (a b : ℕ) → ¬ (a < b) → b ≤ a
@@ -86,7 +86,7 @@ places a b = elim (dec_lt a b) [ yes h ↦ inl h | no h ↦ elim (eq-or-lt_of_le
 
 -- ---- words
 
-name_past : (cs : List ℕ) (i j : ℕ) → i < j → Runs is_name_char cs i j → (j < length cs → is_name_char (slice_index cs j) ≡ false)
+name_past : (cs : List ℕ) (i j : ℕ) → i < j → AreAllOfKind is_name_char cs i j → (j < length cs → is_name_char (slice_index cs j) ≡ false)
     → (slice_index cs j ≡ 46 → is_letter (slice_index cs (j + 1)) ≡ true → ⊥) → (m : ℕ) (k : TokenKind) → IsWord k → j < m → m ≤ length cs → Spells cs i m k → ⊥
 name_past cs i j lt runs stop no_dot m Name w h le s = past_stop is_name_char cs i m j s.2 (omega arith) h (stop (omega arith))
 name_past cs i j lt runs stop no_dot m Dotted w h le s = elim (places s.0 j) [
@@ -96,12 +96,12 @@ name_past cs i j lt runs stop no_dot m Dotted w h le s = elim (places s.0 j) [
 ]
 name_past cs i j lt runs stop no_dot m _ w h le s = absurd w
 
-pub name_longest : (cs : List ℕ) (i j : ℕ) → is_letter (slice_index cs i) ≡ true → i < j → Runs is_name_char cs i j
+pub name_longest : (cs : List ℕ) (i j : ℕ) → is_letter (slice_index cs i) ≡ true → i < j → AreAllOfKind is_name_char cs i j
     → (j < length cs → is_name_char (slice_index cs j) ≡ false) → (slice_index cs j ≡ 46 → is_letter (slice_index cs (j + 1)) ≡ true → ⊥) → NoLonger cs i j
 name_longest cs i j l lt runs stop no_dot m k h le s =
     name_past cs i j lt runs stop no_dot m k (word_only (slice_index cs i) k l (first cs i m k (omega arith) s)) h le s
 
-dotted_past : (cs : List ℕ) (i dot j : ℕ) → i < dot → Runs is_name_char cs i dot → slice_index cs dot ≡ 46 → dot + 1 < j → Runs is_name_char cs (dot + 1) j
+dotted_past : (cs : List ℕ) (i dot j : ℕ) → i < dot → AreAllOfKind is_name_char cs i dot → slice_index cs dot ≡ 46 → dot + 1 < j → AreAllOfKind is_name_char cs (dot + 1) j
     → (j < length cs → is_name_char (slice_index cs j) ≡ false) → (m : ℕ) (k : TokenKind) → IsWord k → j < m → m ≤ length cs → Spells cs i m k → ⊥
 dotted_past cs i dot j lt front e more back stop m Name w h le s = past_dot cs i m dot s.2 (omega arith) (omega arith) e
 dotted_past cs i dot j lt front e more back stop m Dotted w h le s = elim (places s.0 dot) [
@@ -111,8 +111,8 @@ dotted_past cs i dot j lt front e more back stop m Dotted w h le s = elim (place
 ]
 dotted_past cs i dot j lt front e more back stop m _ w h le s = absurd w
 
-pub dotted_longest : (cs : List ℕ) (i dot j : ℕ) → is_letter (slice_index cs i) ≡ true → i < dot → Runs is_name_char cs i dot → slice_index cs dot ≡ 46 → dot + 1 < j
-    → Runs is_name_char cs (dot + 1) j → (j < length cs → is_name_char (slice_index cs j) ≡ false) → NoLonger cs i j
+pub dotted_longest : (cs : List ℕ) (i dot j : ℕ) → is_letter (slice_index cs i) ≡ true → i < dot → AreAllOfKind is_name_char cs i dot → slice_index cs dot ≡ 46 → dot + 1 < j
+    → AreAllOfKind is_name_char cs (dot + 1) j → (j < length cs → is_name_char (slice_index cs j) ≡ false) → NoLonger cs i j
 dotted_longest cs i dot j l lt front e more back stop m k h le s =
     dotted_past cs i dot j lt front e more back stop m k (word_only (slice_index cs i) k l (first cs i m k (omega arith) s)) h le s
 

@@ -23,16 +23,16 @@ row MultipleDefinitions = 4
 row UnresolvedReference = 5
 
 -- The first fault is named where both stand: by the tokens at which they are met, then by kind, then by place.
-abbrev pub Precedes : Fault → Fault → Type 0
-Precedes f g = (f.met < g.met) ⊎ ((f.met ≡ g.met) × ((row f.kind < row g.kind) ⊎ ((row f.kind ≡ row g.kind) × (f.place ≤ g.place))))
+abbrev pub FaultPrecedes : Fault → Fault → Type 0
+FaultPrecedes f g = (f.met < g.met) ⊎ ((f.met ≡ g.met) × ((row f.kind < row g.kind) ⊎ ((row f.kind ≡ row g.kind) × (f.place ≤ g.place))))
 
 -- of two faults that may stand, the one that is named
 abbrev pub IsFirstOf : Option Fault → Option Fault → Option Fault → Type 0
 IsFirstOf None b r = r ≡ b
 IsFirstOf (Some f) None r = r ≡ Some f
-IsFirstOf (Some f) (Some g) r = ((r ≡ Some f) × Precedes f g) ⊎ ((r ≡ Some g) × Precedes g f)
+IsFirstOf (Some f) (Some g) r = ((r ≡ Some f) × FaultPrecedes f g) ⊎ ((r ≡ Some g) × FaultPrecedes g f)
 
 -- the fault that is named of those that a text has: one that it has and that precedes all, or none where it has none
 abbrev pub IsNamed : (Fault → Type 0) → Option Fault → Type 0
 IsNamed Has None = (f : Fault) → Has f → ⊥
-IsNamed Has (Some f) = Has f × ((g : Fault) → Has g → Precedes f g)
+IsNamed Has (Some f) = Has f × ((g : Fault) → Has g → FaultPrecedes f g)

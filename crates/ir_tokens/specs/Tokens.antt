@@ -28,16 +28,16 @@ is_sign c = list_any (λ s. c == s) (codes "{}()[]<>,;:=@^?")
 -- ---- what the characters from i to before j spell
 
 -- each of these characters is of this kind
-abbrev pub Runs : (ℕ → Bool) → List ℕ → ℕ → ℕ → Type 0
-Runs p cs i j = (k : ℕ) → i ≤ k → k < j → p (slice_index cs k) ≡ true
+abbrev pub AreAllOfKind : (ℕ → Bool) → List ℕ → ℕ → ℕ → Type 0
+AreAllOfKind p cs i j = (k : ℕ) → i ≤ k → k < j → p (slice_index cs k) ≡ true
 
 -- a letter, then letters and digits
 abbrev pub IsName : List ℕ → ℕ → ℕ → Type 0
-IsName cs i j = (i < j) × (is_letter (slice_index cs i) ≡ true) × Runs is_name_char cs i j
+IsName cs i j = (i < j) × (is_letter (slice_index cs i) ≡ true) × AreAllOfKind is_name_char cs i j
 
 -- one digit or more
 abbrev pub AreDigits : List ℕ → ℕ → ℕ → Type 0
-AreDigits cs i j = (i < j) × Runs is_digit cs i j
+AreDigits cs i j = (i < j) × AreAllOfKind is_digit cs i j
 
 -- From i on a text goes on, and its closing `"` (34) stands in front of j. A `\` (92) takes the next character with it.
 pub data ClosesText (cs : List ℕ) : ℕ → ℕ → Type 0 where
@@ -84,7 +84,7 @@ pub record IsToken (cs : List ℕ) (t : Token) : Type 0 where
 
 -- nothing but white space from i to before j
 abbrev pub IsGap : List ℕ → ℕ → ℕ → Type 0
-IsGap cs i j = Runs is_whitespace cs i j
+IsGap cs i j = AreAllOfKind is_whitespace cs i j
 
 -- the first of two facts behind a bad token, and the second behind any other
 abbrev pub LastIfBad : TokenKind → Type 0 → Type 0 → Type 0

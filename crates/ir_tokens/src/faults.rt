@@ -1,6 +1,6 @@
 //! The faults of a text.
 ghost use Rattle.std.specs.Prelude.{◌≡◌, ◌↔◌, IsTrue};
-ghost use Rattle.ir_tokens.specs.Faults.{row, Precedes, IsFirstOf};
+ghost use Rattle.ir_tokens.specs.Faults.{row, FaultPrecedes, IsFirstOf};
 
 use ir_names::GrowError;
 use std::alloc::{AllocError, AllocFailed};
@@ -69,7 +69,7 @@ pub struct Fault {
 impl Fault {
     /// Whether this fault is named where both stand: by the tokens at which they are met, then by kind, then by place.
     pub fn precedes(self, other: Fault) -> bool
-        ensures { IsTrue result ↔ Precedes self other }
+        ensures { IsTrue result ↔ FaultPrecedes self other }
     {
         if self.met != other.met {
             return self.met < other.met;

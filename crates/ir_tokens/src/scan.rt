@@ -1,7 +1,7 @@
 //! What begins at a character of a text.
 ghost use Rattle.std.specs.Prelude.{◌≡◌, ℕ, ◌+◌, ◌^◌, ◌<◌, ◌≤◌, ◌==◌, ◌⊎◌, true, false, length, slice_index, MatchBool, MatchOption};
 ghost use Rattle.ir_characters.specs.Texts.{codes_of};
-ghost use Rattle.ir_tokens.specs.Tokens.{is_letter, is_digit, is_name_char, is_sign, Runs, Spells, IsLongestToken, ClosesText, IsInMemory};
+ghost use Rattle.ir_tokens.specs.Tokens.{is_letter, is_digit, is_name_char, is_sign, AreAllOfKind, Spells, IsLongestToken, ClosesText, IsInMemory};
 
 use crate::tokens::TokenKind;
 use ir_characters::Text;
@@ -40,7 +40,7 @@ fn name_end(chars: Text, from: usize) -> usize
     requires { from ≤ length (codes_of chars) }
     ensures after { from ≤ result }
     ensures inside { result ≤ length (codes_of chars.entry) }
-    ensures runs { Runs is_name_char (codes_of chars.entry) from result }
+    ensures runs { AreAllOfKind is_name_char (codes_of chars.entry) from result }
     ensures stops { result < length (codes_of chars.entry)
         → is_name_char (slice_index (codes_of chars.entry) result) ≡ false }
 {
@@ -56,7 +56,7 @@ fn digits_end(chars: Text, from: usize) -> usize
     requires { from ≤ length (codes_of chars) }
     ensures after { from ≤ result }
     ensures inside { result ≤ length (codes_of chars.entry) }
-    ensures runs { Runs is_digit (codes_of chars.entry) from result }
+    ensures runs { AreAllOfKind is_digit (codes_of chars.entry) from result }
     ensures stops { result < length (codes_of chars.entry)
         → is_digit (slice_index (codes_of chars.entry) result) ≡ false }
 {

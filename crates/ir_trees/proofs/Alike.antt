@@ -2,7 +2,7 @@
 use Rattle.std.proofs.Common.{◌≡◌, ◌≢◌, ◌⊎◌, ℕ, zero, suc, List, [], ◌∷◌, ◌++◌, map, Option, Some, None, option_map, slice_get, refl, sym, ap, ◌∙◌, inl, inr, ⊎_elim}
 use Rattle.std.proofs.lemmas.Option.{slice_get-map}
 use Rattle.ir_trees.specs.Searched.{Lists}
-use Rattle.ir_trees.specs.Renames.{KeepsApart, AreAlike}
+use Rattle.ir_trees.specs.Renames.{KeepsApart, RepeatAlike}
 
 abbrev pub nothing : {X : Type 0} → X → Unit {0}
 nothing x = tt
@@ -20,13 +20,13 @@ split {X} (u ∷ us) vs (x ∷ xs) ys l e =
     let r = split us vs xs ys (let long : AsLong us xs = cc in long) (let more : us ++ vs ≡ xs ++ ys = cc in more) in
     ((λ i. same i ∷ r.0 i), r.1)
 
-pub alike_here : {X : Type 0} (xs : List X) → AreAlike xs xs
+pub alike_here : {X : Type 0} (xs : List X) → RepeatAlike xs xs
 alike_here xs j k = ((λ e. e), (λ e. e))
 
-pub alike_back : {X Y : Type 0} (xs : List X) (ys : List Y) → AreAlike xs ys → AreAlike ys xs
+pub alike_back : {X Y : Type 0} (xs : List X) (ys : List Y) → RepeatAlike xs ys → RepeatAlike ys xs
 alike_back xs ys a j k = ((a j k).1, (a j k).0)
 
-pub alike_on : {X Y Z : Type 0} (xs : List X) (ys : List Y) (zs : List Z) → AreAlike xs ys → AreAlike ys zs → AreAlike xs zs
+pub alike_on : {X Y Z : Type 0} (xs : List X) (ys : List Y) (zs : List Z) → RepeatAlike xs ys → RepeatAlike ys zs → RepeatAlike xs zs
 alike_on xs ys zs a b j k = ((λ e. (b j k).0 ((a j k).0 e)), (λ e. (a j k).1 ((b j k).1 e)))
 
 module _ {X Y : Type 0} (f : X → Y) (xs : List X) (apart : KeepsApart f xs) where
@@ -36,7 +36,7 @@ module _ {X Y : Type 0} (f : X → Y) (xs : List X) (apart : KeepsApart f xs) wh
   same_before (Some x) None la lb e = cc
   same_before (Some x) (Some y) la lb e = let same : f x ≡ f y = cc in ap Some (apart x y (la x refl) (lb y refl) same)
 
-  pub alike_map : (ys : List Y) → ys ≡ map f xs → AreAlike xs ys
+  pub alike_map : (ys : List Y) → ys ≡ map f xs → RepeatAlike xs ys
   alike_map ys e j k =
       let at : (i : ℕ) → slice_get ys i ≡ option_map f (slice_get xs i) = λ i. ap (λ l. slice_get l i) e ∙ slice_get-map f xs i in
       ((λ s. at j ∙ ap (option_map f) s ∙ sym (at k)), (λ s. same_before (slice_get xs j) (slice_get xs k) (λ x h. (j, h)) (λ x h. (k, h)) (sym (at j) ∙ s ∙ at k)))
@@ -75,7 +75,7 @@ module _ {X Y : Type 0} (test : (x y : X) → (x ≡ y) ⊎ (x ≢ y)) (other : 
         | inr differ ↦ (suc r.0, r.1, r.2)
       ]
 
-  module _ (xs : List X) (ys : List Y) (long : AsLong xs ys) (alike : AreAlike xs ys) where
+  module _ (xs : List X) (ys : List Y) (long : AsLong xs ys) (alike : RepeatAlike xs ys) where
     picked_at : (k : ℕ) (o : Option X) → slice_get xs k ≡ o → option_map (pick test other xs ys) o ≡ slice_get ys k
     picked_at k None e = none_too X (slice_get ys k) (
         ap (option_map (nothing {X = X})) (sym e) ∙ sym (slice_get-map (nothing {X = X}) xs k)

@@ -7,7 +7,7 @@ use Rattle.ir_trees.specs.Names.{Names, Contents}
 use Rattle.ir_trees.specs.Trees.{Head, Label, Sort, Operations, Tree, end, operation, block, region, Root}
 use Rattle.ir_trees.specs.Searched.{Lists, AreDistinct, heads_in, labels_in, heads_of, labels_of, operation_names, block_names}
 use Rattle.ir_trees.specs.Renames.{Maps, rename, rename_root}
-use Rattle.ir_trees.specs.Places.{AnOperation, ABlock, Place, reached, at_place, IsOperationAt, IsBlockAt, rename_item}
+use Rattle.ir_trees.specs.Places.{AnOperation, ABlock, PathFromRoot, reached, at_place, IsOperationAt, IsBlockAt, rename_item}
 use Rattle.ir_trees.proofs.Members.{Has, at_has, has_at, has_front, has_back, has_either, has_map}
 
 module _ {N M : Names} {S : Contents} (m : Maps N M) where
@@ -23,7 +23,7 @@ module _ {N M : Names} {S : Contents} (m : Maps N M) where
   reached_renamed (region bs rest) zero (k ∷ p) = reached_renamed bs k p
   reached_renamed (region bs rest) (suc n) p = reached_renamed rest n p
 
-  pub place_renamed : (t : Root N S) (p : Place) → at_place (rename_root m t) p ≡ option_map (rename_item m) (at_place t p)
+  pub place_renamed : (t : Root N S) (p : PathFromRoot) → at_place (rename_root m t) p ≡ option_map (rename_item m) (at_place t p)
   place_renamed t [] = refl
   place_renamed t (k ∷ p) = reached_renamed t.regions k p
 
@@ -149,7 +149,7 @@ module _ {N : Names} {S : Contents} where
   abbrev alone : Root N S → Tree N S Operations
   alone t = operation t.head t.regions end
 
-  from_root : (t : Root N S) (p : Place) → reached (alone t) zero p ≡ at_place t p
+  from_root : (t : Root N S) (p : PathFromRoot) → reached (alone t) zero p ≡ at_place t p
   from_root t [] = refl
   from_root t (k ∷ p) = refl
 
@@ -159,33 +159,33 @@ module _ {N : Names} {S : Contents} where
   labels_alone : (t : Root N S) → map thing (blocks_placed (alone t)) ≡ labels_of t
   labels_alone t = blocks_are (alone t) ∙ append-nil (labels_in t.regions)
 
-  pub operation_has_place : (t : Root N S) (h : Head N S) → Lists (heads_of t) h → (p : Place) × IsOperationAt t p h
+  pub operation_has_place : (t : Root N S) (h : Head N S) → Lists (heads_of t) h → (p : PathFromRoot) × IsOperationAt t p h
   operation_has_place t h l = ⊎_elim
       (λ same. ([], (t, refl, sym same)))
       (λ r. let i = operation_reached t.regions h r in (i.0 ∷ i.1, (i.2, i.3, i.4)))
       (at_has (heads_of t) l.0 h l.1)
 
-  pub operation_at_place : (t : Root N S) (p : Place) (u : Root N S) → at_place t p ≡ Some (AnOperation u) → Lists (heads_of t) u.head
+  pub operation_at_place : (t : Root N S) (p : PathFromRoot) (u : Root N S) → at_place t p ≡ Some (AnOperation u) → Lists (heads_of t) u.head
   operation_at_place t p u e =
       let has = has_map thing (operations_placed (alone t)) (record { first = zero; path = p; is = u.head }) (operation_placed (alone t) zero p u (from_root t p ∙ e)) in
       has_at (heads_of t) u.head (subst (Has u.head) (heads_alone t) has)
 
-  pub block_has_place : (t : Root N S) (l : Label N S) → Lists (labels_of t) l → (p : Place) × IsBlockAt t p l
+  pub block_has_place : (t : Root N S) (l : Label N S) → Lists (labels_of t) l → (p : PathFromRoot) × IsBlockAt t p l
   block_has_place t l h = let i = block_reached t.regions l (at_has (labels_of t) h.0 l h.1) in (i.0 ∷ i.1, (i.2, i.3))
 
-  pub block_at_place : (t : Root N S) (p : Place) (l : Label N S) (ops : Tree N S Operations) → at_place t p ≡ Some (ABlock l ops) → Lists (labels_of t) l
+  pub block_at_place : (t : Root N S) (p : PathFromRoot) (l : Label N S) (ops : Tree N S Operations) → at_place t p ≡ Some (ABlock l ops) → Lists (labels_of t) l
   block_at_place t p l ops e =
       let has = has_map thing (blocks_placed (alone t)) (record { first = zero; path = p; is = l }) (block_placed (alone t) zero p l ops (from_root t p ∙ e)) in
       has_at (labels_of t) l (subst (Has l) (labels_alone t) has)
 
-  pub one_place : (t : Root N S) → AreDistinct (operation_names t) → (p q : Place) (u v : Root N S) → at_place t p ≡ Some (AnOperation u) → at_place t q ≡ Some (AnOperation v) → u.head.name ≡ v.head.name → p ≡ q
+  pub one_place : (t : Root N S) → AreDistinct (operation_names t) → (p q : PathFromRoot) (u v : Root N S) → at_place t p ≡ Some (AnOperation u) → at_place t q ≡ Some (AnOperation v) → u.head.name ≡ v.head.name → p ≡ q
   one_place t distinct p q u v a b same =
       let e = one_entry (λ (h : Head N S). h.name) (operations_placed (alone t)) (record { first = zero; path = p; is = u.head }) (record { first = zero; path = q; is = v.head })
       (subst (λ l. AreDistinct (map (λ (h : Head N S). h.name) l)) (sym (heads_alone t)) distinct)
       (operation_placed (alone t) zero p u (from_root t p ∙ a)) (operation_placed (alone t) zero q v (from_root t q ∙ b)) same in
       ap (λ (x : Entry (Head N S)). x.path) e
 
-  pub one_block_place : (t : Root N S) → AreDistinct (block_names t) → (p q : Place) (l k : Label N S) (ops others : Tree N S Operations) → at_place t p ≡ Some (ABlock l ops) → at_place t q ≡ Some (ABlock k others) → l.name ≡ k.name → p ≡ q
+  pub one_block_place : (t : Root N S) → AreDistinct (block_names t) → (p q : PathFromRoot) (l k : Label N S) (ops others : Tree N S Operations) → at_place t p ≡ Some (ABlock l ops) → at_place t q ≡ Some (ABlock k others) → l.name ≡ k.name → p ≡ q
   one_block_place t distinct p q l k ops others a b same =
       let e = one_entry (λ (h : Label N S). h.name) (blocks_placed (alone t)) (record { first = zero; path = p; is = l }) (record { first = zero; path = q; is = k })
       (subst (λ x. AreDistinct (map (λ (h : Label N S). h.name) x)) (sym (labels_alone t)) distinct)

@@ -5,7 +5,7 @@ use Rattle.std.proofs.lemmas.Simd.{map-map}
 use Rattle.ir_trees.specs.Names.{Names, Contents}
 use Rattle.ir_trees.specs.Trees.{Defined, Head, Label, Sort, Tree, end, operation, block, region, Root}
 use Rattle.ir_trees.specs.Searched.{heads_in, operation_names}
-use Rattle.ir_trees.specs.Renames.{Maps, rename_defined, rename_head, rename_label, rename, rename_root, names_of, values_at, values_in, blocks_in, values_of, blocks_of, IsOneToOne, forget, IsSame, IsRenamed, HaveTests}
+use Rattle.ir_trees.specs.Renames.{Maps, rename_defined, rename_head, rename_label, rename, rename_root, names_of, values_at, values_in, blocks_in, values_of, blocks_of, IsOneToOne, forget, IsSameUpToNames, IsRenamed, HaveTests}
 use Rattle.ir_trees.proofs.Renamed.{root_twice, heads_under, names_renamed, values_at_renamed, values_under, blocks_under, operation_names_renamed, values_renamed, blocks_renamed}
 use Rattle.ir_trees.proofs.Alike.{nothing, AsLong, split, alike_here, alike_back, alike_on, alike_map, pick, picked_all, picked_apart}
 
@@ -116,11 +116,11 @@ module _ {N : Names} {S : Contents} where
       λ i. record { head = first i; regions = inner i }
 
 module _ {N : Names} {S : Contents} where
-  pub same_itself : (t : Root N S) → IsSame t t
+  pub same_itself : (t : Root N S) → IsSameUpToNames t t
   same_itself t = record { shape = refl; operations = alike_here (operation_names t); blocks = alike_here (blocks_of t); values = alike_here (values_of t) }
 
 module _ {N M : Names} {S : Contents} where
-  pub same_back : (t : Root N S) (u : Root M S) → IsSame t u → IsSame u t
+  pub same_back : (t : Root N S) (u : Root M S) → IsSameUpToNames t u → IsSameUpToNames u t
   same_back t u s = record {
     shape = sym s.shape;
     operations = alike_back (operation_names t) (operation_names u) s.operations;
@@ -128,7 +128,7 @@ module _ {N M : Names} {S : Contents} where
     values = alike_back (values_of t) (values_of u) s.values;
   }
 
-  pub same_on : {P : Names} (t : Root N S) (u : Root M S) (v : Root P S) → IsSame t u → IsSame u v → IsSame t v
+  pub same_on : {P : Names} (t : Root N S) (u : Root M S) (v : Root P S) → IsSameUpToNames t u → IsSameUpToNames u v → IsSameUpToNames t v
   same_on t u v s r = record {
     shape = s.shape ∙ r.shape;
     operations = alike_on (operation_names t) (operation_names u) (operation_names v) s.operations r.operations;
@@ -136,7 +136,7 @@ module _ {N M : Names} {S : Contents} where
     values = alike_on (values_of t) (values_of u) (values_of v) s.values r.values;
   }
 
-  pub same_renamed : (m : Maps N M) (t : Root N S) → IsOneToOne m t → IsSame t (rename_root m t)
+  pub same_renamed : (m : Maps N M) (t : Root N S) → IsOneToOne m t → IsSameUpToNames t (rename_root m t)
   same_renamed m t one = record {
     shape = sym (root_twice forget m t);
     operations = alike_map m.operation (operation_names t) one.operations _ (operation_names_renamed m t);
@@ -144,7 +144,7 @@ module _ {N M : Names} {S : Contents} where
     values = alike_map m.value (values_of t) one.values _ (values_renamed m t);
   }
 
-  module _ (tests : HaveTests N) (other : Maps N M) (t : Root N S) (u : Root M S) (s : IsSame t u) where
+  module _ (tests : HaveTests N) (other : Maps N M) (t : Root N S) (u : Root M S) (s : IsSameUpToNames t u) where
     names_as_long : AsLong (operation_names t) (operation_names u)
     names_as_long = sym (operation_names_renamed forget t) ∙ ap (λ x. operation_names x) s.shape ∙ operation_names_renamed forget u
 

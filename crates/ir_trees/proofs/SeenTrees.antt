@@ -4,7 +4,7 @@ use Rattle.ir_program.specs.declared.handles.Ptr.{Ptr}
 use Rattle.ir_program.specs.declared.handles.Operation.{Operation}
 use Rattle.ir_trees.specs.Trees.{Sort, Tree}
 use Rattle.ir_trees.specs.Stands.{by_handle, in_program, ProgramTree, Handles, AreTree, no_operations, no_blocks, no_regions, first_operation, first_block, first_region, StandsFor}
-use Rattle.ir_trees.specs.Seen.{AreSeen, no_operations as sees_no_operations, no_blocks as sees_no_blocks, no_regions as sees_no_regions, first_operation as sees_operation, first_block as sees_block, first_region as sees_region, IsSeenAs, Keeps, seen}
+use Rattle.ir_trees.specs.Seen.{AreSeen, no_operations as sees_no_operations, no_blocks as sees_no_blocks, no_regions as sees_no_regions, first_operation as sees_operation, first_block as sees_block, first_region as sees_region, IsSeenAs, KeepsLiveHandles, seen}
 
 module _ {O B : Type 0} (c : Program O B) where
   are_seen : (s : Sort) (ps : Handles s) (t : Tree by_handle (in_program O B) s) → AreTree c s ps t → AreSeen (seen c) s ps t
@@ -29,7 +29,7 @@ module _ {O B : Type 0} (c : Program O B) where
   pub stands_as : (op : Ptr Operation) (t : ProgramTree O B) → IsSeenAs (seen c) op t → StandsFor c op t
   stands_as op t h = record { view = h.view; there = h.there; head = h.head; regions = are_trees _ _ _ h.regions }
 
-module _ {O B : Type 0} (old new : Program O B) (keeps : Keeps (seen old) (seen new)) where
+module _ {O B : Type 0} (old new : Program O B) (keeps : KeepsLiveHandles (seen old) (seen new)) where
   kept : (s : Sort) (ps : Handles s) (t : Tree by_handle (in_program O B) s) → AreTree old s ps t → AreTree new s ps t
   kept _ _ _ no_operations = no_operations
   kept _ _ _ no_blocks = no_blocks

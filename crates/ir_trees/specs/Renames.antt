@@ -126,15 +126,15 @@ abbrev pub forget : {N : Names} → Maps N no_names
 forget = record { operation = λ _. tt; block = λ _. tt; value = λ _. tt }
 
 -- at two indices the one list has the same exactly where the other has the same
-abbrev pub AreAlike : {X Y : Type 0} → List X → List Y → Type 0
-AreAlike xs ys = (j k : ℕ) → (slice_get xs j ≡ slice_get xs k) ↔ (slice_get ys j ≡ slice_get ys k)
+abbrev pub RepeatAlike : {X Y : Type 0} → List X → List Y → Type 0
+RepeatAlike xs ys = (j k : ℕ) → (slice_get xs j ≡ slice_get xs k) ↔ (slice_get ys j ≡ slice_get ys k)
 
 -- the trees are the same up to names: they have one shape and say the same, and two places that have one name in the one tree have one in the other
-pub record IsSame {N M : Names} {S : Contents} (t : Root N S) (u : Root M S) : Type 0 where
+pub record IsSameUpToNames {N M : Names} {S : Contents} (t : Root N S) (u : Root M S) : Type 0 where
   pub shape : rename_root forget t ≡ rename_root forget u
-  pub operations : AreAlike (operation_names t) (operation_names u)
-  pub blocks : AreAlike (blocks_of t) (blocks_of u)
-  pub values : AreAlike (values_of t) (values_of u)
+  pub operations : RepeatAlike (operation_names t) (operation_names u)
+  pub blocks : RepeatAlike (blocks_of t) (blocks_of u)
+  pub values : RepeatAlike (values_of t) (values_of u)
 
 -- the one tree is the other under names that are kept apart
 abbrev pub IsRenamed : {N M : Names} {S : Contents} → Root N S → Root M S → Type 0

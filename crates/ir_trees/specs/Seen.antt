@@ -9,7 +9,7 @@ use Rattle.ir_program.specs.declared.handles.BasicBlock.{BasicBlock}
 use Rattle.ir_trees.specs.Trees.{Sort, Operations, Blocks, Regions, Tree, end, operation, block, region, Root}
 use Rattle.ir_trees.specs.Stands.{by_handle, in_program, Handles, head_of, label_of}
 
-pub record Seen (O B : Type 0) : Type 1 where
+pub record SeenProgram (O B : Type 0) : Type 1 where
   -- what a handle leads to; types of values are among what it says
   pub operation_under : Ptr Operation → Option (OperationView O)
   pub block_under : Ptr BasicBlock → Option (BlockView B)
@@ -22,7 +22,7 @@ pub record Seen (O B : Type 0) : Type 1 where
   pub next_number : ℕ
 
 -- what a program shows of itself
-abbrev pub seen : {O B : Type 0} → Program O B → Seen O B
+abbrev pub seen : {O B : Type 0} → Program O B → SeenProgram O B
 seen c = record {
   operation_under = operation_at c;
   block_under = block_at c;
@@ -33,7 +33,7 @@ seen c = record {
   next_number = c.counter;
 }
 
-module _ {O B : Type 0} (s : Seen O B) where
+module _ {O B : Type 0} (s : SeenProgram O B) where
   -- nothing is under the handle, and nothing ever was
   pub record IsFreshOperation (p : Ptr Operation) : Type 0 where
     pub nothing : s.operation_under p ≡ None
@@ -66,7 +66,7 @@ module _ {O B : Type 0} (s : Seen O B) where
     pub head : t.head ≡ head_of p view
     pub regions : AreSeen Regions view.regions t.regions
 
-module _ {O B : Type 0} (s t : Seen O B) where
+module _ {O B : Type 0} (s t : SeenProgram O B) where
   -- spent handles stay spent
   pub record KeepsSpentHandles : Type 0 where
     pub operations : (p : Ptr Operation) → s.spent_operation p → t.spent_operation p
@@ -74,14 +74,14 @@ module _ {O B : Type 0} (s t : Seen O B) where
     pub regions : (r : Ptr Region) → s.spent_region r → t.spent_region r
 
   -- what led somewhere leads to the same
-  pub record Keeps : Type 0 where
+  pub record KeepsLiveHandles : Type 0 where
     pub operations : (p : Ptr Operation) (v : OperationView O) → s.operation_under p ≡ Some v → t.operation_under p ≡ Some v
     pub blocks : (b : Ptr BasicBlock) (v : BlockView B) → s.block_under b ≡ Some v → t.block_under b ≡ Some v
     pub regions : (r : Ptr Region) (v : RegionView) → s.region_under r ≡ Some v → t.region_under r ≡ Some v
     pub spent : KeepsSpentHandles
 
   -- each handle leads to what it led to
-  pub record SameSeen : Type 0 where
+  pub record HandlesLeadAlike : Type 0 where
     pub operations : (p : Ptr Operation) → t.operation_under p ≡ s.operation_under p
     pub blocks : (b : Ptr BasicBlock) → t.block_under b ≡ s.block_under b
     pub regions : (r : Ptr Region) → t.region_under r ≡ s.region_under r

@@ -1,7 +1,7 @@
 //! What renaming keeps: laws of trees over any names.
 ghost use Rattle.std.specs.Prelude.{◌≡◌, ◌↔◌, ℕ, map, option_map};
-ghost use Rattle.ir_trees.specs.Places.{IsBlockAt, IsOperationAt, Place, at_place, rename_item};
-ghost use Rattle.ir_trees.specs.Renames.{ChangeAlike, HaveTests, IsOneToOne, IsRenamed, IsSame, NamedMaps, NamedTree, RewriteAlike, blocks_of, forget, holding, named, own_names, rename_head, rename_label, rename_root, twice, values_of};
+ghost use Rattle.ir_trees.specs.Places.{IsBlockAt, IsOperationAt, PathFromRoot, at_place, rename_item};
+ghost use Rattle.ir_trees.specs.Renames.{ChangeAlike, HaveTests, IsOneToOne, IsRenamed, IsSameUpToNames, NamedMaps, NamedTree, RewriteAlike, blocks_of, forget, holding, named, own_names, rename_head, rename_label, rename_root, twice, values_of};
 ghost use Rattle.ir_trees.specs.Rewrites.{Rewriting, changed_root, rewritten_root};
 ghost use Rattle.ir_trees.specs.Searched.{AreDistinct, Lists, UsesBlock, UsesValue, block_names, heads_of, labels_of, operation_names};
 ghost use Rattle.ir_trees.specs.Stands.{ProgramTree};
@@ -62,47 +62,48 @@ pub fn know_rewritten_renamed<O, B, V, O1, B1, V1, C, L, T>()
 
 /// Tells that being the same up to names is an equivalence, between trees over any names. It does nothing.
 pub fn know_same<O, B, V, O1, B1, V1, O2, B2, V2, C, L, T>()
-    ensures reflexive { (t : NamedTree O B V C L T) → IsSame t t }
-    ensures symmetric { (t : NamedTree O B V C L T) (u : NamedTree O1 B1 V1 C L T) → IsSame t u → IsSame u t }
+    ensures reflexive { (t : NamedTree O B V C L T) → IsSameUpToNames t t }
+    ensures symmetric { (t : NamedTree O B V C L T) (u : NamedTree O1 B1 V1 C L T) → IsSameUpToNames t u
+        → IsSameUpToNames u t }
     ensures transitive { (t : NamedTree O B V C L T) (u : NamedTree O1 B1 V1 C L T) (v : NamedTree O2 B2 V2 C L T)
-        → IsSame t u → IsSame u v → IsSame t v }
+        → IsSameUpToNames t u → IsSameUpToNames u v → IsSameUpToNames t v }
 {}
 
 /// Tells that trees that are the same up to names are those of which one is the other under names that are kept
 /// apart. The renaming is found where names can be told apart and there are any names for those that the tree does
 /// not have. It does nothing.
 pub fn know_same_renamed<O, B, V, O1, B1, V1, C, L, T>()
-    ensures renamed { (t : NamedTree O B V C L T) (u : NamedTree O1 B1 V1 C L T) → IsRenamed t u → IsSame t u }
+    ensures renamed { (t : NamedTree O B V C L T) (u : NamedTree O1 B1 V1 C L T) → IsRenamed t u → IsSameUpToNames t u }
     ensures found { (t : NamedTree O B V C L T) (u : NamedTree O1 B1 V1 C L T)
-        → HaveTests (named O B V) → NamedMaps O B V O1 B1 V1 → IsSame t u → IsRenamed t u }
+        → HaveTests (named O B V) → NamedMaps O B V O1 B1 V1 → IsSameUpToNames t u → IsRenamed t u }
 {}
 
 /// Tells that trees of programs are the same up to handles exactly where a renaming of handles that keeps them apart
 /// leads from the one to the other. It does nothing.
 pub fn know_same_trees<O, B>()
-    ensures { (t u : ProgramTree O B) → IsSame t u ↔ IsRenamed t u }
+    ensures { (t u : ProgramTree O B) → IsSameUpToNames t u ↔ IsRenamed t u }
 {}
 
 /// Tells that the operations and blocks that are found in a tree by search are those that are at its places; and that
 /// each is at one place alone where their names are distinct. It does nothing.
 pub fn know_places<O, B, V, C, L, T>()
     ensures operations { (t : NamedTree O B V C L T) (h : Head (named O B V) (holding C L T))
-        → Lists (heads_of t) h ↔ ((p : Place) × IsOperationAt t p h) }
+        → Lists (heads_of t) h ↔ ((p : PathFromRoot) × IsOperationAt t p h) }
     ensures blocks { (t : NamedTree O B V C L T) (l : Label (named O B V) (holding C L T))
-        → Lists (labels_of t) l ↔ ((p : Place) × IsBlockAt t p l) }
+        → Lists (labels_of t) l ↔ ((p : PathFromRoot) × IsBlockAt t p l) }
     ensures one { (t : NamedTree O B V C L T) → AreDistinct (operation_names t)
-        → (p q : Place) (h k : Head (named O B V) (holding C L T))
+        → (p q : PathFromRoot) (h k : Head (named O B V) (holding C L T))
         → IsOperationAt t p h → IsOperationAt t q k → h.name ≡ k.name → p ≡ q }
     ensures one_block { (t : NamedTree O B V C L T) → AreDistinct (block_names t)
-        → (p q : Place) (l k : Label (named O B V) (holding C L T))
+        → (p q : PathFromRoot) (l k : Label (named O B V) (holding C L T))
         → IsBlockAt t p l → IsBlockAt t q k → l.name ≡ k.name → p ≡ q }
 {}
 
 /// Tells that renaming keeps places: at a place of the renamed tree is what was there, renamed, or nothing in both.
 /// So trees that are the same up to names have the same at each place, up to names. It does nothing.
 pub fn know_places_renamed<O, B, V, O1, B1, V1, C, L, T>()
-    ensures renamed { (m : NamedMaps O B V O1 B1 V1) (t : NamedTree O B V C L T) (p : Place)
+    ensures renamed { (m : NamedMaps O B V O1 B1 V1) (t : NamedTree O B V C L T) (p : PathFromRoot)
         → at_place (rename_root m t) p ≡ option_map (rename_item m) (at_place t p) }
-    ensures same { (t : NamedTree O B V C L T) (u : NamedTree O1 B1 V1 C L T) → IsSame t u → (p : Place)
+    ensures same { (t : NamedTree O B V C L T) (u : NamedTree O1 B1 V1 C L T) → IsSameUpToNames t u → (p : PathFromRoot)
         → option_map (rename_item forget) (at_place t p) ≡ option_map (rename_item forget) (at_place u p) }
 {}

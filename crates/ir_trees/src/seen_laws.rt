@@ -7,7 +7,7 @@ ghost use Rattle.ir_program.specs.declared.handles.BasicBlock.{BasicBlock};
 ghost use Rattle.ir_program.specs.declared.handles.Operation.{Operation};
 ghost use Rattle.ir_program.specs.declared.handles.Ptr.{Ptr};
 ghost use Rattle.ir_program.specs.declared.handles.Value.{Value};
-ghost use Rattle.ir_trees.specs.Seen.{IsFreshBlock, IsFreshOperation, IsSeenAs, Keeps, SameSeen, seen};
+ghost use Rattle.ir_trees.specs.Seen.{IsFreshBlock, IsFreshOperation, IsSeenAs, KeepsLiveHandles, HandlesLeadAlike, seen};
 ghost use Rattle.ir_trees.specs.Stands.{ProgramTree, StandsFor};
 
 use ir_program::Program;
@@ -21,22 +21,23 @@ pub fn know_seen<O, B>(_program: &Program<O, B>)
 /// Tells what calls leave of what a program shows: a refused one all, one that makes something all that was there, under
 /// a handle that was never given out. It does nothing.
 pub fn know_kept<O, B>(_old: &Program<O, B>, _new: &Program<O, B>)
-    ensures unchanged { IsUnchanged _old.now _new.now → SameSeen (seen _old.now) (seen _new.now) }
+    ensures unchanged { IsUnchanged _old.now _new.now → HandlesLeadAlike (seen _old.now) (seen _new.now) }
     ensures operation { (p : Ptr Operation) (payload : O) (tys : List TypeHandle) (vs : List Value)
         (bs : List (Ptr BasicBlock)) (n : ℕ)
-        → BuildsOperation _old.now _new.now p payload tys vs bs n → Keeps (seen _old.now) (seen _new.now)
+        → BuildsOperation _old.now _new.now p payload tys vs bs n → KeepsLiveHandles (seen _old.now) (seen _new.now)
         × IsFreshOperation (seen _old.now) p }
     ensures block { (b : Ptr BasicBlock) (payload : B) (tys : List TypeHandle)
-        → BuildsBlock _old.now _new.now b payload tys → Keeps (seen _old.now) (seen _new.now)
+        → BuildsBlock _old.now _new.now b payload tys → KeepsLiveHandles (seen _old.now) (seen _new.now)
         × IsFreshBlock (seen _old.now) b }
 {}
 
 /// Tells of what is kept: what is the same is kept, and what is kept twice is kept; and what an operation stands for in a
 /// view it stands for in each that keeps it. It does nothing.
 pub fn know_keeping<O, B>(_old: &Program<O, B>, _middle: &Program<O, B>, _new: &Program<O, B>)
-    ensures same { SameSeen (seen _old.now) (seen _new.now) → Keeps (seen _old.now) (seen _new.now) }
-    ensures twice { Keeps (seen _old.now) (seen _middle.now) → Keeps (seen _middle.now) (seen _new.now)
-        → Keeps (seen _old.now) (seen _new.now) }
-    ensures tree { (op : Ptr Operation) (t : ProgramTree O B) → Keeps (seen _old.now) (seen _new.now)
+    ensures same { HandlesLeadAlike (seen _old.now) (seen _new.now) → KeepsLiveHandles (seen _old.now) (seen _new.now) }
+    ensures twice { KeepsLiveHandles (seen _old.now) (seen _middle.now)
+        → KeepsLiveHandles (seen _middle.now) (seen _new.now)
+        → KeepsLiveHandles (seen _old.now) (seen _new.now) }
+    ensures tree { (op : Ptr Operation) (t : ProgramTree O B) → KeepsLiveHandles (seen _old.now) (seen _new.now)
         → StandsFor _old.now op t → StandsFor _new.now op t }
 {}

@@ -12,7 +12,7 @@ use Rattle.ir_grammar.specs.declared.grammar.Event.TheVariants.{Took}
 use Rattle.ir_grammar.specs.declared.grammar.Stop.{Stop}
 use Rattle.ir_grammar.specs.declared.grammar.Stop.TheVariants as stops
 use Rattle.ir_grammar.specs.Nesting.{at_root, at_end}
-use Rattle.ir_grammar.specs.Reading.{AreAlike}
+use Rattle.ir_grammar.specs.Reading.{AreMostlyAlike}
 use Rattle.ir_formats.specs.Ordered.{is_ordered}
 use Rattle.ir_formats.specs.Ordered as ordered
 use Rattle.ir_formats.specs.Rules.{words_of, rules_of}
@@ -20,10 +20,10 @@ use Rattle.ir_formats.specs.Words.{kind_of, token_text}
 use Rattle.ir_scopes.specs.declared.scopes.Resolution.{Resolution}
 use Rattle.ir_scopes.specs.declared.sites.Site.{Site}
 use Rattle.ir_scopes.specs.Depth.{IsTooDeep}
-use Rattle.ir_scopes.specs.Scopes.{definitions, mentions, Means, AreApart, IsResolved}
+use Rattle.ir_scopes.specs.Scopes.{definitions, mentions, Means, SitesAreApart, IsResolved}
 use Rattle.ir_scopes.proofs.Depths.{deep_stays, deep_some}
 use Rattle.ir_forest.specs.Closed.{definitions_of}
-use Rattle.ir_forest.specs.Forest.{Step, IsForest}
+use Rattle.ir_forest.specs.Forest.{ActionSpan, IsForestOf}
 use Rattle.ir_forest.specs.Language.{Language}
 use Rattle.ir_forest.specs.Meaning.{operations_in, renamed}
 use Rattle.ir_forest.specs.Progress.{Leads}
@@ -43,11 +43,11 @@ use Rattle.ir_unique_trees.proofs.WholeTexts.{alike_whole}
 
 -- ---- names, under two numberings of them
 
-module _ (l : Language) (leads : ordered.Leads) (ok : is_ordered leads (rules_of l.formats) ≡ true) (cs : List ℕ)
+module _ (l : Language) (leads : ordered.PartPositions) (ok : is_ordered leads (rules_of l.formats) ≡ true) (cs : List ℕ)
     (ts : List Token) (names numbers : List ℕ) (stop : Stop) (n : ℕ) (es : List Event)
     (reading : IsReading l cs ts names stop n es) (other : IsReading l cs ts numbers stop n es)
     (r q : Resolution) (resolved : IsResolved l.isolated names es r) (again : IsResolved l.isolated numbers es q) where
-  apart : AreApart (definitions l.isolated es) (mentions l.isolated es)
+  apart : SitesAreApart (definitions l.isolated es) (mentions l.isolated es)
   apart = names_apart l cs ts names stop n es reading leads ok
 
   -- the number of its definition is the same for this token
@@ -85,17 +85,17 @@ module _ (l : Language) (leads : ordered.Leads) (ok : is_ordered leads (rules_of
 record IsSaidBy (l : Language) (cs : List ℕ) (tree : Entity ℕ) (ts : List Token) (stop : Stop) (n : ℕ) (es : List Event)
     : Type 0 where
   names : List ℕ
-  forest : Trees Step
+  forest : Trees ActionSpan
   body : Entity ℕ
   resolution : Resolution
   reading : IsReading l cs ts names stop n es
   fine : IsNamed (HasFault l cs ts names stop n es) None
-  grown : IsForest es forest
+  grown : IsForestOf es forest
   within : operations_in l.values (token_text cs ts) [] forest ≡ an_entity body no_entity
   resolved : IsResolved l.isolated names es resolution
   same : tree ≡ renamed (slice_index resolution.definitions.items) body
 
-module _ (l : Language) (leads : ordered.Leads) (ok : is_ordered leads (rules_of l.formats) ≡ true) (cs : List ℕ)
+module _ (l : Language) (leads : ordered.PartPositions) (ok : is_ordered leads (rules_of l.formats) ≡ true) (cs : List ℕ)
     (t u : Entity ℕ) (ts : List Token) where
   -- by one reading, one tree is said
   module _ (stop : Stop) (n : ℕ) (es : List Event) (a : IsSaidBy l cs t ts stop n es) (b : IsSaidBy l cs u ts stop n es) where
@@ -153,7 +153,7 @@ module _ (l : Language) (leads : ordered.Leads) (ok : is_ordered leads (rules_of
 
   module _ (stop halt : Stop) (n m : ℕ) (es fs : List Event) (a : IsSaidBy l cs t ts stop n es)
       (b : IsSaidBy l cs u ts halt m fs) where
-    stops_alike : (stop ≡ halt) × (n ≡ m) × AreAlike es fs
+    stops_alike : (stop ≡ halt) × (n ≡ m) × AreMostlyAlike es fs
     stops_alike =
         let here = a.reading.reads in
         let there = b.reading.reads in
@@ -190,7 +190,7 @@ said_by l cs t s = record {
 }
 
 -- Two trees that one text says are the same.
-pub one_tree_said : (l : Language) (leads : ordered.Leads) → is_ordered leads (rules_of l.formats) ≡ true →
+pub one_tree_said : (l : Language) (leads : ordered.PartPositions) → is_ordered leads (rules_of l.formats) ≡ true →
     (cs : List ℕ) (t u : Entity ℕ) → Says l cs t → Says l cs u → t ≡ u
 one_tree_said l leads ok cs t u s v =
     let a = said_by l cs t s in

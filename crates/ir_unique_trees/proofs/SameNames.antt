@@ -1,6 +1,6 @@
 -- A tree is renamed as the same by functions that agree on the names in it.
 use Rattle.std.proofs.Common.{◌≡◌, suc, List, [], ◌∷◌, map, refl, ap, ◌∙◌}
-use Rattle.ir_print.specs.Pieces.{ValueTree, Head, operation, a_region, block}
+use Rattle.ir_print.specs.Pieces.{ValueTree, EntityHead, operation, a_region, block}
 use Rattle.ir_print.specs.Pieces.{Entity, entity, Entities, no_entity, an_entity}
 use Rattle.ir_forest.specs.Closed.{names_of, head_defines, head_mentions, definitions_of, all_definitions_of}
 use Rattle.ir_forest.specs.Meaning.{renamed_head, renamed, all_renamed}
@@ -34,7 +34,7 @@ module _ {M N : Type 0} (f g : M → N) where
       ap (λ (n : N). let r : N × ValueTree = (n, x.1) in r ∷ map (under f) xs) first
       ∙ ap (λ (rs : List (N × ValueTree)). under g x ∷ rs) more
 
-  head_same : (h : Head M) → AgreeOn (head_defines h) → AgreeOn (head_mentions h) →
+  head_same : (h : EntityHead M) → AgreeOn (head_defines h) → AgreeOn (head_mentions h) →
       renamed_head f h ≡ renamed_head g h
   head_same (operation kind results used pieces) d m =
       ap (λ rs. operation kind rs (map f used) pieces) (typed_same results d)

@@ -6,7 +6,7 @@ use Rattle.ir_grammar.specs.declared.grammar.Event.{Event}
 use Rattle.ir_grammar.specs.declared.grammar.Event.TheVariants.{Took, Did}
 use Rattle.ir_grammar.specs.Nesting.{Position, at_root, at_end, in_list, in_item}
 use Rattle.ir_grammar.specs.Nesting.{Move, goes_to, goes_in, goes_out, nowhere, move, NestsBy}
-use Rattle.ir_grammar.specs.Reading.{begins_member, OnlyBegins, IsMostly, AreAlike}
+use Rattle.ir_grammar.specs.Reading.{begins_member, OnlyBegins, IsMostly, AreMostlyAlike}
 use Rattle.ir_forest.specs.Progress.{Leads}
 
 -- from a position on, the events lead to the end of a text
@@ -61,6 +61,6 @@ mostly_whole es front m h =
     let none = none_at_end front m.0 at_root [] m.2 (subst (λ x. Ends at_root [] x) m.1 h) in
     m.1 ∙ (ap (λ x. front ++ x) none ∙ append-nil front)
 
-pub alike_whole : (es fs : List Event) → AreAlike es fs → Leads at_root [] es at_end [] →
+pub alike_whole : (es fs : List Event) → AreMostlyAlike es fs → Leads at_root [] es at_end [] →
     Leads at_root [] fs at_end [] → es ≡ fs
 alike_whole es fs a h k = mostly_whole es a.0 a.1 h ∙ sym (mostly_whole fs a.0 a.2 k)

@@ -12,7 +12,7 @@ use Rattle.ir_program.specs.declared.handles.IRNode.TheVariants.{Operation as Op
 use Rattle.ir_verify.specs.Dialect.{DialectProgram}
 use Rattle.ir_verify.specs.Endings.{ends_in_terminator, IsFlawed, SomeHasFlaw, BlocksEndWell}
 use Rattle.ir_verify.specs.Tests.{Test, of_op, tests_of, tests_inside, operation_tests_of, operation_tests_inside}
-use Rattle.ir_verify.specs.Verified.{IsFirstFault, AnswersTests, AnswersOwn, own_answer, IsVerified, AnswersVerify}
+use Rattle.ir_verify.specs.Verified.{IsFirstTestFault, AnswersTests, AnswersOwn, own_answer, IsVerified, AnswersVerify}
 use Rattle.ir_verify.specs.declared.errors.BasicBlockVerifyErr.TheVariants.{MissingTerminator, TerminatorNotLast, NoParent}
 use Rattle.ir_verify.specs.declared.errors.VerifyErr.{VerifyErr}
 use Rattle.ir_verify.specs.declared.errors.VerifyErr.TheVariants.{Block, Own}
@@ -30,7 +30,7 @@ module _ {T F : Type 0} (accepts : T → Type 0) (answers : T → F → Type 0) 
   own-answers ts (Err f) a = a
 
   -- where a test refuses not all accept
-  pub not-all : (ts : List T) (f : F) → IsFirstFault accepts answers ts f → AllByRecursion accepts ts → ⊥
+  pub not-all : (ts : List T) (f : F) → IsFirstTestFault accepts answers ts f → AllByRecursion accepts ts → ⊥
   not-all ts f fault all = fault.refused (all-right accepts fault.before (fault.test ∷ fault.after) (subst (AllByRecursion accepts) fault.parts all)).0
 
   pub own-accepted : (ts : List T) (r : Result Unit F) → AnswersTests accepts answers ts r → IsOk (own_answer r) ↔ AllByRecursion accepts ts

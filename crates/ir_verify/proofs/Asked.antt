@@ -8,7 +8,7 @@ use Rattle.ir_base.specs.declared.types.TypeHandle.{TypeHandle}
 use Rattle.ir_program.specs.Program.{Program, TypedValue, value_in, type_in, type_at}
 use Rattle.ir_program.specs.declared.handles.Value.{Value}
 use Rattle.ir_verify.specs.Tests.{Test, of_type, tests_of_types}
-use Rattle.ir_verify.specs.Verified.{IsFirstFault, AnswersTests}
+use Rattle.ir_verify.specs.Verified.{IsFirstTestFault, AnswersTests}
 use Rattle.ir_verify.proofs.Passed.{all-from, fault-left, answers-both}
 
 not-ok : {F : Type 0} (r : Result Unit F) (f : F) → r ≡ Err f → IsOk r → ⊥
@@ -28,10 +28,10 @@ module _ {T F : Type 0} (accepts : T → Type 0) (answers : T → F → Type 0) 
   pub ok-of : (ts : List T) (r : Result Unit F) (u : Unit) → r ≡ Ok u → AnswersTests accepts answers ts r → AllByRecursion accepts ts
   ok-of ts r u is a = subst (AnswersTests accepts answers ts) is a
 
-  pub err-of : (ts : List T) (r : Result Unit F) (f : F) → r ≡ Err f → AnswersTests accepts answers ts r → IsFirstFault accepts answers ts f
+  pub err-of : (ts : List T) (r : Result Unit F) (f : F) → r ≡ Err f → AnswersTests accepts answers ts r → IsFirstTestFault accepts answers ts f
   err-of ts r f is a = subst (AnswersTests accepts answers ts) is a
 
-  pub answers-err : (ts : List T) (r : Result Unit F) (f : F) → r ≡ Err f → IsFirstFault accepts answers ts f → AnswersTests accepts answers ts r
+  pub answers-err : (ts : List T) (r : Result Unit F) (f : F) → r ≡ Err f → IsFirstTestFault accepts answers ts f → AnswersTests accepts answers ts r
   answers-err ts r f is a = subst (AnswersTests accepts answers ts) (sym is) a
 
   -- one test
@@ -52,7 +52,7 @@ module _ {T F : Type 0} (accepts : T → Type 0) (answers : T → F → Type 0) 
 module _ {T F : Type 0} (accepts : T → Type 0) (answers : T → F → Type 0) where
   pub first-refuses : (xs was ys : List T) (r from : Result Unit F) (f : F) → xs ≡ was → r ≡ Err f → AnswersTests accepts answers was r → IsErrAnd from (λ e. e ≡ f) → AnswersTests accepts answers (xs ++ ys) from
   first-refuses xs was ys r from f are is a handed =
-      answers-err accepts answers (xs ++ ys) from f (handed-on from f handed) (fault-left accepts answers xs ys f (subst (λ ts. IsFirstFault accepts answers ts f) (sym are) (err-of accepts answers was r f is a)))
+      answers-err accepts answers (xs ++ ys) from f (handed-on from f handed) (fault-left accepts answers xs ys f (subst (λ ts. IsFirstTestFault accepts answers ts f) (sym are) (err-of accepts answers was r f is a)))
 
   pub second-answers : (xs was ys : List T) (r later : Result Unit F) (u : Unit) → xs ≡ was → r ≡ Ok u → AnswersTests accepts answers was r → AnswersTests accepts answers ys later → AnswersTests accepts answers (xs ++ ys) later
   second-answers xs was ys r later u are is a b =

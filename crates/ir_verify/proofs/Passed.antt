@@ -5,8 +5,8 @@ use Rattle.std.proofs.lemmas.List.{append-nil}
 use Rattle.ir_program.specs.Preorder.{AreInside}
 use Rattle.ir_program.specs.Program.{Program}
 use Rattle.ir_program.specs.declared.handles.IRNode.{IRNode}
-use Rattle.ir_verify.specs.Tests.{IsThere}
-use Rattle.ir_verify.specs.Verified.{IsFirstFault, AnswersTests}
+use Rattle.ir_verify.specs.Tests.{NodeIsLive}
+use Rattle.ir_verify.specs.Verified.{IsFirstTestFault, AnswersTests}
 
 module _ {T : Type 0} where
   -- the items before the ones that are left pass
@@ -61,7 +61,7 @@ module _ {T : Type 0} where
 
 -- what the tests answer
 module _ {T F : Type 0} (accepts : T → Type 0) (answers : T → F → Type 0) where
-  pub fault-left : (xs ys : List T) (f : F) → IsFirstFault accepts answers xs f → IsFirstFault accepts answers (xs ++ ys) f
+  pub fault-left : (xs ys : List T) (f : F) → IsFirstTestFault accepts answers xs f → IsFirstTestFault accepts answers (xs ++ ys) f
   fault-left xs ys f r = record {
     before = r.before;
     test = r.test;
@@ -72,7 +72,7 @@ module _ {T F : Type 0} (accepts : T → Type 0) (answers : T → F → Type 0) 
     answered = r.answered;
   }
 
-  pub fault-right : (xs ys : List T) (f : F) → AllByRecursion accepts xs → IsFirstFault accepts answers ys f → IsFirstFault accepts answers (xs ++ ys) f
+  pub fault-right : (xs ys : List T) (f : F) → AllByRecursion accepts xs → IsFirstTestFault accepts answers ys f → IsFirstTestFault accepts answers (xs ++ ys) f
   fault-right xs ys f all r = record {
     before = xs ++ r.before;
     test = r.test;
@@ -89,7 +89,7 @@ module _ {T F : Type 0} (accepts : T → Type 0) (answers : T → F → Type 0) 
   answers-both xs ys (Err f) all a = fault-right xs ys f all a
 
   -- the next test of a list refuses
-  pub fault-next : (all was left : List T) (t : T) (f : F) → was ≡ t ∷ left → HasPassed accepts all was → (accepts t → ⊥) → answers t f → IsFirstFault accepts answers all f
+  pub fault-next : (all was left : List T) (t : T) (f : F) → was ≡ t ∷ left → HasPassed accepts all was → (accepts t → ⊥) → answers t f → IsFirstTestFault accepts answers all f
   fault-next all was left t f is done refused answered = record {
     before = done.before;
     test = t;
@@ -101,7 +101,7 @@ module _ {T F : Type 0} (accepts : T → Type 0) (answers : T → F → Type 0) 
   }
 
   -- the test at an index refuses, and all before it accept
-  pub fault-at : (all : List T) (i : ℕ) (t : T) (f : F) → slice_get all i ≡ Some t → ((k : ℕ) (s : T) → k < i → slice_get all k ≡ Some s → accepts s) → (accepts t → ⊥) → answers t f → IsFirstFault accepts answers all f
+  pub fault-at : (all : List T) (i : ℕ) (t : T) (f : F) → slice_get all i ≡ Some t → ((k : ℕ) (s : T) → k < i → slice_get all k ≡ Some s → accepts s) → (accepts t → ⊥) → answers t f → IsFirstTestFault accepts answers all f
   fault-at [] i t f here passed refused answered = cc
   fault-at (x ∷ all) zero t f here passed refused answered =
       let s : Some x ≡ Some t = here in
@@ -129,13 +129,13 @@ module _ {T F : Type 0} (accepts : T → Type 0) (answers : T → F → Type 0) 
     flat-all (e ∷ es) a = (all-left accepts (tests e) (flat_map tests es) a, flat-all es (all-right accepts (tests e) (flat_map tests es) a))
 
     -- the next item has a test that refuses
-    pub fault-inside : (all was left : List E) (e : E) (f : F) → was ≡ e ∷ left → HasPassed AcceptsAll all was → IsFirstFault accepts answers (tests e) f → IsFirstFault accepts answers (flat_map tests all) f
+    pub fault-inside : (all was left : List E) (e : E) (f : F) → was ≡ e ∷ left → HasPassed AcceptsAll all was → IsFirstTestFault accepts answers (tests e) f → IsFirstTestFault accepts answers (flat_map tests all) f
     fault-inside all was left e f is done fault =
-        subst (λ l. IsFirstFault accepts answers l f) (sym (ap (flat_map tests) (done.parts ∙ ap (λ l. done.before ++ l) is) ∙ flat-append done.before (e ∷ left)))
+        subst (λ l. IsFirstTestFault accepts answers l f) (sym (ap (flat_map tests) (done.parts ∙ ap (λ l. done.before ++ l) is) ∙ flat-append done.before (e ∷ left)))
         (fault-right (flat_map tests done.before) (flat_map tests (e ∷ left)) f (all-flat done.before done.passed) (fault-left (tests e) (flat_map tests left) f fault))
 
 -- the next of the entities inside one is there
-pub node_there : {O B : Type 0} (c : Program O B) (x : IRNode) (P : IRNode → Type 0) (all was left : List IRNode) (node : IRNode) → AreInside c x all → HasPassed P all was → was ≡ node ∷ left → IsThere c node
+pub node_there : {O B : Type 0} (c : Program O B) (x : IRNode) (P : IRNode → Type 0) (all was left : List IRNode) (node : IRNode) → AreInside c x all → HasPassed P all was → was ≡ node ∷ left → NodeIsLive c node
 node_there c x P all was left node inside done is =
     let at : (k : ℕ) × (slice_get all k ≡ Some node) = passed-at P all was left node is done in
     record { live = inside.live at.0 node at.1 }

@@ -61,10 +61,10 @@ module _ {D TypeKind AttrKind TypeBody Saved Location OpKind Attr TypeKey : Type
     pub flawed : IsFlawed flaw block
 
   -- the last operation of a block that needs a terminator is one, and no other of its operations is
-  pub record EndsWell (block : Ptr BasicBlock) : Type 0 where
+  pub record BlockEndsWell (block : Ptr BasicBlock) : Type 0 where
     pub last : NeedsTerminator block → ends_in_terminator block ≡ true
     pub others : NeedsTerminator block → HasEarlyTerminator block → ⊥
 
   -- each block that is x or stands inside x ends as it has to
   abbrev pub BlocksEndWell : IRNode → Type 0
-  BlocksEndWell x = (block : Ptr BasicBlock) → StandsInside c x (BlockNode block) → EndsWell block
+  BlocksEndWell x = (block : Ptr BasicBlock) → StandsInside c x (BlockNode block) → BlockEndsWell block

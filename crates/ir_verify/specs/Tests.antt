@@ -15,7 +15,7 @@ use Rattle.ir_context.specs.Kept.{notes_at}
 use Rattle.ir_verify.specs.Dialect.{DialectProgram}
 
 -- the handle leads to an operation, a region or a block
-pub record IsThere {O B : Type 0} (c : Program O B) (node : IRNode) : Type 0 where
+pub record NodeIsLive {O B : Type 0} (c : Program O B) (node : IRNode) : Type 0 where
   pub live : IsLiveNode c node
 
 -- a test of an operation, of an attribute or of a type

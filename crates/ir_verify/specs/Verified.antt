@@ -17,7 +17,7 @@ use Rattle.ir_verify.specs.declared.errors.VerifyErr.TheVariants.{Block, Own}
 -- tests, of which some accept, and the faults that others answer
 module _ {T F : Type 0} (accepts : T → Type 0) (answers : T → F → Type 0) where
   -- a test refuses and answers the fault, and each test before it accepts
-  pub record IsFirstFault (tests : List T) (fault : F) : Type 0 where
+  pub record IsFirstTestFault (tests : List T) (fault : F) : Type 0 where
     pub before : List T
     pub test : T
     pub after : List T
@@ -29,12 +29,12 @@ module _ {T F : Type 0} (accepts : T → Type 0) (answers : T → F → Type 0) 
   -- all tests accept, or the answer is the fault of the first that doesn't
   abbrev pub AnswersTests : List T → Result Unit F → Type 0
   AnswersTests tests (Ok u) = AllByRecursion accepts tests
-  AnswersTests tests (Err fault) = IsFirstFault tests fault
+  AnswersTests tests (Err fault) = IsFirstTestFault tests fault
 
   -- the same, where no block is looked at
   abbrev pub AnswersOwn : List T → Result Unit (VerifyErr F) → Type 0
   AnswersOwn tests (Ok u) = AllByRecursion accepts tests
-  AnswersOwn tests (Err (Own fault)) = IsFirstFault tests fault
+  AnswersOwn tests (Err (Own fault)) = IsFirstTestFault tests fault
   AnswersOwn tests (Err (Block flaw)) = ⊥
 
 -- a fault of a test, as the answer of a verifier
@@ -55,7 +55,7 @@ module _ {D TypeKind AttrKind TypeBody Saved Location OpKind Attr TypeKey F : Ty
   AnswersVerify x (Err (Block MissingTerminator)) = SomeHasFlaw has c MissingTerminator x
   AnswersVerify x (Err (Block TerminatorNotLast)) = (SomeHasFlaw has c MissingTerminator x → ⊥) × SomeHasFlaw has c TerminatorNotLast x
   AnswersVerify x (Err (Block NoParent)) = ⊥
-  AnswersVerify x (Err (Own fault)) = BlocksEndWell has c x × IsFirstFault accepts answers (tests_inside c x) fault
+  AnswersVerify x (Err (Own fault)) = BlocksEndWell has c x × IsFirstTestFault accepts answers (tests_inside c x) fault
 
   -- the same of a block, which a region has to hold
   pub record AnswersBlock (block : Ptr BasicBlock) (answer : Result Unit (VerifyErr F)) : Type 0 where

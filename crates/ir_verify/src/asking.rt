@@ -2,7 +2,7 @@
 ghost use Rattle.std.specs.Prelude.{◌≡◌, IsSome};
 ghost use Rattle.ir_program.specs.Program.{operation_at, block_at, results_at, arguments_at};
 ghost use Rattle.ir_program.specs.Lists.{IsLiveNode};
-ghost use Rattle.ir_verify.specs.Tests.{IsThere, tests_of_attributes, tests_of_types, tests_of_operation, tests_of_block, tests_of, tests_inside, operation_tests_of, operation_tests_inside};
+ghost use Rattle.ir_verify.specs.Tests.{NodeIsLive, tests_of_attributes, tests_of_types, tests_of_operation, tests_of_block, tests_of, tests_inside, operation_tests_of, operation_tests_inside};
 ghost use Rattle.ir_verify.specs.Verified.{AnswersTests};
 
 use crate::Verifiers;
@@ -98,7 +98,7 @@ fn ask_node<D: DialectTables, V: Verifiers<D>>(
     ctx: &Context<D>,
     verifiers: &V,
 ) -> Result<(), V::Fault>
-    ensures { IsThere ctx.now.program node
+    ensures { NodeIsLive ctx.now.program node
         → AnswersTests (V.accepts verifiers.now ctx.now) (V.answers verifiers.now ctx.now)
         (tests_of ctx.now.program node) result }
 {
@@ -131,7 +131,7 @@ fn ask_if_operation<D: DialectTables, V: Verifiers<D>>(
     ctx: &Context<D>,
     verifiers: &V,
 ) -> Result<(), V::Fault>
-    ensures { IsThere ctx.now.program node
+    ensures { NodeIsLive ctx.now.program node
         → AnswersTests (V.accepts verifiers.now ctx.now) (V.answers verifiers.now ctx.now)
         (operation_tests_of ctx.now.program node) result }
 {

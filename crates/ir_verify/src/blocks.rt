@@ -3,7 +3,7 @@ ghost use Rattle.std.specs.Prelude.{◌≡◌, ◌↔◌, IsSome, IsTrue};
 ghost use Rattle.ir_names.specs.declared.interfaces.OpInterface.TheVariants.{NoTerminator, IsTerminator};
 ghost use Rattle.ir_program.specs.Program.{operation_at, block_at};
 ghost use Rattle.ir_program.specs.Lists.{IsLiveNode};
-ghost use Rattle.ir_verify.specs.Tests.{IsThere};
+ghost use Rattle.ir_verify.specs.Tests.{NodeIsLive};
 ghost use Rattle.ir_verify.specs.Endings.{implements, NeedsTerminator, ends_in_terminator, HasEarlyTerminator, HasFlaw, IsFlawed, SomeHasFlaw};
 
 use crate::BasicBlockVerifyErr;
@@ -86,7 +86,7 @@ pub(crate) fn has_flaw<D: DialectTables>(
 
 /// Whether the entity is a block that has the flaw; a handle that leads nowhere has none.
 fn is_flawed<D: DialectTables>(flaw: BasicBlockVerifyErr, node: IRNode, ctx: &Context<D>) -> bool
-    ensures { IsThere ctx.now.program node → (IsTrue result ↔ IsFlawed D.op_has ctx.now.program flaw node) }
+    ensures { NodeIsLive ctx.now.program node → (IsTrue result ↔ IsFlawed D.op_has ctx.now.program flaw node) }
 {
     match node {
         IRNode::BasicBlock(block) => block.is_live(ctx) && has_flaw(flaw, block, ctx),

@@ -1,7 +1,7 @@
 -- Lists of passes that are cut, from one text to the next.
 use Rattle.std.proofs.Common.{◌≡◌, inl, inr, ℕ, List, [], ◌∷◌, ◌++◌, map, ap, sym, subst, chars, refl, ◌∙◌}
 use Rattle.std.proofs.lemmas.List.{map-append}
-use Rattle.ir_forest.specs.Closed.{IsClosed, IsNumbered, IsSameModule, unlabelled}
+use Rattle.ir_forest.specs.Closed.{IsClosedTree, IsNumbered, IsSameModule, unlabelled}
 use Rattle.ir_print.specs.Pieces.{Entity}
 use Rattle.ir_program.specs.declared.handles.Operation.{Operation}
 use Rattle.ir_program.specs.declared.handles.Ptr.{Ptr}
@@ -43,7 +43,7 @@ one_said bytes text other h k = one_tree_said kit_language leads refl (chars byt
 -- what a text says, and an operation stands for, is closed
 abbrev pub SaidAreClosed : Type 0
 SaidAreClosed = (values : List Value) (s : Seen KitOp KitAttr KitType) (root : Ptr Operation) (cs : List ℕ) (tree : Entity ℕ)
-    → Says kit_language cs tree → StandsForTexts says (Named values) s root tree → IsClosed kit_language tree × IsNumbered tree
+    → Says kit_language cs tree → StandsForTexts says (Named values) s root tree → IsClosedTree kit_language tree × IsNumbered tree
 
 -- an operation stands for the tree of texts that it holds
 holding : (text : Entity ℕ) (s : KitContext) (root : Ptr Operation) (h : HoldsText text s root) → StandsAs text s root h.tree
@@ -72,11 +72,11 @@ left passes before root text t h g =
 -- each of these trees is closed
 abbrev EachClosed : List (Entity ℕ) → Type 0
 EachClosed [] = Unit {0}
-EachClosed (x ∷ xs) = IsClosed kit_language x × EachClosed xs
+EachClosed (x ∷ xs) = IsClosedTree kit_language x × EachClosed xs
 
-one_closed : (xs : List (Entity ℕ)) → EachClosed xs → (a : Entity ℕ) → Has a xs → IsClosed kit_language a
+one_closed : (xs : List (Entity ℕ)) → EachClosed xs → (a : Entity ℕ) → Has a xs → IsClosedTree kit_language a
 one_closed [] c a h = absurd h
-one_closed (x ∷ xs) c a (inl e) = subst (IsClosed kit_language) (sym e) c.0
+one_closed (x ∷ xs) c a (inl e) = subst (IsClosedTree kit_language) (sym e) c.0
 one_closed (x ∷ xs) c a (inr h) = one_closed xs c.1 a h
 
 module _ (closed : SaidAreClosed) (numbers : TypesAreNumbered) (alike : OneTextSaysTheSame) (one : TheSameSayOneText)
@@ -84,7 +84,7 @@ module _ (closed : SaidAreClosed) (numbers : TypesAreNumbered) (alike : OneTextS
     (b : RunGives beginning bytes front) (r : RunGives rest front text) (w : RunGives (beginning ++ rest) bytes whole) where
   -- the tree that bytes say, and the operation holds, is closed
   closed_said : (passes : List KitPass) (input output : List ℕ) (g : RunGives passes input output)
-      → IsClosed kit_language g.accepted.0.text
+      → IsClosedTree kit_language g.accepted.0.text
   closed_said passes input output g =
       (closed g.accepted.0.holds.values (seen g.before) g.root (chars input) g.accepted.0.text g.accepted.0.says_it.1
       g.accepted.0.holds.stands).0

@@ -19,7 +19,7 @@ use Rattle.irkit_streams.specs.declared.faults.WriteFault.{WriteFault}
 use Rattle.irkit_streams.specs.declared.watched.Watched.{Watched}
 use Rattle.irkit_driver.proofs.ReadLemmas.{at_error}
 use Rattle.irkit_driver.specs.Outcomes.{Loads, EndsExecution, EndsLoad, EndsReport, ExecutionGives, GaveAnswer, GivesOutcome, Refuses}
-use Rattle.irkit_driver.specs.Paths.{Answers, SaysPath, names_in}
+use Rattle.irkit_driver.specs.Paths.{IsAnswerOfRun, SaysPath, names_in}
 use Rattle.irkit_driver.specs.Refusals.{of_exec_fault, of_write_fault}
 use Rattle.irkit_driver.specs.Reports.{lines_of}
 use Rattle.irkit_driver.specs.Texts.{Overfills}
@@ -56,7 +56,7 @@ module _ (s : KitContext) (root : Ptr Operation) (word xs : List ℕ) (limit : �
   -- the answer of the run at a path that the word says
   pub answers_at : (path : List Identifier) (answer : Result Outcome ExecFault) → SaysPath word path
       → Runs s root path xs limit answer
-      → Answers s root word xs limit answer
+      → IsAnswerOfRun s root word xs limit answer
   answers_at path (Ok outcome) says runs = (path, says, runs)
   answers_at path (Err exec.Memory) says runs = tt
   answers_at path (Err exec.WrongPath) says runs = λ other also.
@@ -66,7 +66,7 @@ module _ (s : KitContext) (root : Ptr Operation) (word xs : List ℕ) (limit : �
 -- the run in a module that was loaded is the run in what the bytes say
 pub answered : (bytes : List ℕ) (old ctx : KitContext) (root : Ptr Operation) (word xs : List ℕ) (limit : ℕ)
     (answer : Result Outcome ExecFault)
-    → Loads bytes old ctx root → Answers ctx root word xs limit answer → ExecutionGives bytes word xs limit answer
+    → Loads bytes old ctx root → IsAnswerOfRun ctx root word xs limit answer → ExecutionGives bytes word xs limit answer
 answered bytes old ctx root word xs limit answer loads answers =
     record { context = ctx; root = root; accepted = loads.accepted; answers = answers }
 
@@ -74,7 +74,7 @@ module _ {R : Type 0} (remaining : R → Option (List ℕ)) (old new : Watched R
   -- the answer of the run in a module that was loaded
   pub gave : (ctx new_ctx : KitContext) (root : Ptr Operation) (answer : Result Outcome ExecFault)
       → EndsLoad remaining old new ctx new_ctx (Ok root)
-      → Answers new_ctx root word xs limit answer → GaveAnswer remaining old new word xs limit answer
+      → IsAnswerOfRun new_ctx root word xs limit answer → GaveAnswer remaining old new word xs limit answer
   gave ctx new_ctx root answer ends answers =
       (ends.0, ends.1, answered ends.0 ctx new_ctx root word xs limit answer ends.2 answers)
 

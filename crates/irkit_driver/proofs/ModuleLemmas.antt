@@ -8,10 +8,10 @@ use Rattle.ir_trees.specs.Stands.{by_handle}
 use Rattle.ir_types.specs.Interned.{key_at}
 use Rattle.kit.specs.Lawful.{kit_lawful}
 use Rattle.kit.specs.Meaning.{kit}
-use Rattle.kit_behaviour.specs.ConstantPropagation.{all_wanted, FactsKept, IsSccp, propagated}
-use Rattle.kit_behaviour.specs.Facts.{Facts, IsMostPrecise}
+use Rattle.kit_behaviour.specs.ConstantPropagation.{all_wanted, KeepsFunctionFacts, IsSccpOfFunctions, propagated}
+use Rattle.kit_behaviour.specs.Facts.{FunctionFacts, AreMostPreciseFacts}
 use Rattle.kit_behaviour.specs.Laws.{AlikeWithin}
-use Rattle.kit_behaviour.specs.Machine.{Program}
+use Rattle.kit_behaviour.specs.Machine.{FunctionsByPath}
 use Rattle.kit_behaviour.specs.PassLists.{Fit, Goal, IsAfter, SameFaces}
 use Rattle.kit_behaviour.specs.Places.{Place}
 use Rattle.kit_behaviour.specs.Rules.{OperationsWithin}
@@ -51,7 +51,7 @@ accepted_module bytes s root said = record {
 
 -- a module has a program
 pub has_program : (s : KitContext) (numbered : List ℕ → ℕ) (t : KitTree) → IsModule s t
-    → (p : Program Place) × HasProgram s numbered t p
+    → (p : FunctionsByPath Place) × HasProgram s numbered t p
 has_program s numbered t ruled =
     let leads = key_at s.types in
     let typed = type_at s.program in
@@ -60,20 +60,20 @@ has_program s numbered t ruled =
     (sound_flat {N = by_handle} leads numbered (type_or_first typed) t sound)
 
 -- which is fit
-pub module_fit : (s : KitContext) (numbered : List ℕ → ℕ) (t : KitTree) (p : Program Place) → IsModule s t
+pub module_fit : (s : KitContext) (numbered : List ℕ → ℕ) (t : KitTree) (p : FunctionsByPath Place) → IsModule s t
     → HasProgram s numbered t p → Fit p
 module_fit s numbered t p ruled is =
     fit_program (key_at s.types) (type_at s.program) numbered same_value t p values_apart ruled.rules is ruled.names
     ruled.types
 
 -- and whose functions have no more operations than the module
-pub module_within : (s : KitContext) (numbered : List ℕ → ℕ) (t : KitTree) (p : Program Place)
+pub module_within : (s : KitContext) (numbered : List ℕ → ℕ) (t : KitTree) (p : FunctionsByPath Place)
     → HasProgram s numbered t p → OperationsWithin (operations_below t) p
 module_within s numbered t p is = program_within {N = by_handle} same_value (key_at s.types) numbered t p is
 
 -- what passes make of it has a program too
 pub have_programs : (passes : List KitPass) (s : KitContext) (numbered : List ℕ → ℕ) (t u : KitTree) → IsModule s t
-    → IsMadeBy passes s numbered t u → (p : Program Place) × (q : Program Place) × ArePassed passes t u p q
+    → IsMadeBy passes s numbered t u → (p : FunctionsByPath Place) × (q : FunctionsByPath Place) × ArePassed passes t u p q
 have_programs passes s numbered t u ruled made =
     let p = has_program s numbered t ruled in
     let q = list_on {N = by_handle} handles_told (key_at s.types) numbered (map pass_of passes) t u p.0 made p.1 in (
@@ -82,7 +82,7 @@ have_programs passes s numbered t u ruled made =
       record { context = s; is_module = ruled; numbered = numbered; made = made; first = p.1; last = q.1 },
     )
 
-module _ (passes : List KitPass) (t u : KitTree) (p q : Program Place) (h : ArePassed passes t u p q) where
+module _ (passes : List KitPass) (t u : KitTree) (p q : FunctionsByPath Place) (h : ArePassed passes t u p q) where
   fit : Fit p
   fit = module_fit h.context h.numbered t p h.is_module h.first
 
@@ -102,10 +102,10 @@ module _ (passes : List KitPass) (t u : KitTree) (p q : Program Place) (h : AreP
   pub goal : Goal (map pass_of passes) p q
   goal = after_goal (map pass_of passes) p q fit.rules after
 
-  pub facts_exist : (path : List ℕ) → (k : Facts Place) × IsMostPrecise (q path) k
+  pub facts_exist : (path : List ℕ) → (k : FunctionFacts Place) × AreMostPreciseFacts (q path) k
   facts_exist path = best_exists (q path) (after_rules (map pass_of passes) p q fit.rules after path)
 
-pub bound : (pass : KitPass) (t u : KitTree) (p q : Program Place) → ArePassed (pass ∷ []) t u p q
+pub bound : (pass : KitPass) (t u : KitTree) (p q : FunctionsByPath Place) → ArePassed (pass ∷ []) t u p q
     → AlikeWithin (suc (operations_below t + operations_below u)) p q
 bound pass t u p q h =
     one_pass (pass_of pass) p q (operations_below t) (operations_below u) (fit (pass ∷ []) t u p q h).rules
@@ -113,18 +113,18 @@ bound pass t u p q h =
     (module_within h.context h.numbered u q h.last)
 
 -- constant propagation on one program
-propagation : (t u : KitTree) (p q : Program Place) → ArePassed (Sccp ∷ []) t u p q → IsSccp all_wanted p q
-propagation t u p q h = let made = after (Sccp ∷ []) t u p q h in subst (IsSccp all_wanted p) made.2 made.1
+propagation : (t u : KitTree) (p q : FunctionsByPath Place) → ArePassed (Sccp ∷ []) t u p q → IsSccpOfFunctions all_wanted p q
+propagation t u p q h = let made = after (Sccp ∷ []) t u p q h in subst (IsSccpOfFunctions all_wanted p) made.2 made.1
 
-pub facts_are_kept : (t u : KitTree) (p q : Program Place) → ArePassed (Sccp ∷ []) t u p q → (path : List ℕ)
-    (k l : Facts Place) → IsMostPrecise (p path) k → IsMostPrecise (q path) l → FactsKept all_wanted (p path) k l
+pub facts_are_kept : (t u : KitTree) (p q : FunctionsByPath Place) → ArePassed (Sccp ∷ []) t u p q → (path : List ℕ)
+    (k l : FunctionFacts Place) → AreMostPreciseFacts (p path) k → AreMostPreciseFacts (q path) l → KeepsFunctionFacts all_wanted (p path) k l
 facts_are_kept t u p q h path k l best best_after =
     let made = propagation t u p q h in
     let one = best_unique (p path) (made.facts path) k (made.best path) best in
     let same : q path ≡ propagated all_wanted (p path) k =
     made.is path ∙ ap (propagated all_wanted (p path)) one in
     facts_stay all_wanted (p path) k l ((fit (Sccp ∷ []) t u p q h).rules path) best
-    (subst (λ f. IsMostPrecise f l) same best_after)
+    (subst (λ f. AreMostPreciseFacts f l) same best_after)
 
 pub tree_facts_stay : TreeFactsStay
 tree_facts_stay t after k l made best best_after = facts_kept kit t after k l kit_lawful made best best_after

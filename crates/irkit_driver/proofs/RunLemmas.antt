@@ -6,7 +6,7 @@ use Rattle.ir_program.specs.declared.handles.Operation.{Operation}
 use Rattle.ir_program.specs.declared.handles.Ptr.{Ptr}
 use Rattle.ir_trees.specs.Stands.{StandsFor}
 use Rattle.kit_behaviour.specs.Laws.{AlikeWithin}
-use Rattle.kit_behaviour.specs.Machine.{Program}
+use Rattle.kit_behaviour.specs.Machine.{FunctionsByPath}
 use Rattle.kit_behaviour.specs.PassLists.{Goal, IsAfter, SameFaces}
 use Rattle.kit_behaviour.specs.Places.{Place}
 use Rattle.kit_fit_programs.specs.Operations.{operations_below}
@@ -25,7 +25,7 @@ use Rattle.irkit_driver.proofs.ModuleLemmas.{accepted_module, has_program, modul
 
 -- what bytes are accepted as has a program
 pub some_program : (numbered : List ℕ → ℕ) (bytes : List ℕ) (s : KitContext) (root : Ptr Operation)
-    → IsAcceptedAs bytes s root → (p : Program Place) × SaysProgram numbered bytes p
+    → IsAcceptedAs bytes s root → (p : FunctionsByPath Place) × SaysProgram numbered bytes p
 some_program numbered bytes s root said =
     let p = has_program s numbered said.0.holds.tree (accepted_module bytes s root said) in
     (p.0, record { context = s; root = root; accepted = said; is = p.1 })
@@ -34,14 +34,14 @@ module _ (law : TextsHaveOneProgram) (numbered : List ℕ → ℕ) where
   -- trees that stand for texts that are the same but for labels have one program
   one_of_texts : (text other : Entity ℕ) → IsSameModule text other → (s z : KitContext) (root there : Ptr Operation)
       (h : HoldsText text s root) (k : HoldsText other z there) (t u : KitTree) → StandsFor s.program root t
-      → StandsFor z.program there u → (p q : Program Place) → HasProgram s numbered t p → HasProgram z numbered u q
+      → StandsFor z.program there u → (p q : FunctionsByPath Place) → HasProgram s numbered t p → HasProgram z numbered u q
       → p ≡ q
   one_of_texts text other same s z root there h k t u tree trees p q is was =
       law text other numbered s z root there h.values k.values t u p q same h.distinct k.distinct h.stands k.stands
       tree trees is was
 
   -- bytes have one program
-  pub one_program : (bytes : List ℕ) (p q : Program Place) → SaysProgram numbered bytes p
+  pub one_program : (bytes : List ℕ) (p q : FunctionsByPath Place) → SaysProgram numbered bytes p
       → SaysProgram numbered bytes q → p ≡ q
   one_program bytes p q a b =
       let x = a.accepted.0 in
@@ -49,7 +49,7 @@ module _ (law : TextsHaveOneProgram) (numbered : List ℕ → ℕ) where
       one_of_texts x.text y.text (ap unlabelled (one_said bytes x.text y.text x.says_it y.says_it)) a.context b.context
       a.root b.root x.holds y.holds x.holds.tree y.holds.tree x.holds.is_tree y.holds.is_tree p q a.is b.is
 
-module _ (law : TextsHaveOneProgram) (passes : List KitPass) (bytes text : List ℕ) (p q : Program Place)
+module _ (law : TextsHaveOneProgram) (passes : List KitPass) (bytes text : List ℕ) (p q : FunctionsByPath Place)
     (h : AreRun passes bytes text p q) where
   -- the programs of the module that was read, and of what the passes left of it
   given : PassedPrograms (map pass_of passes) h.gives.before h.gives.gives.after h.gives.root h.numbered
@@ -73,7 +73,7 @@ module _ (law : TextsHaveOneProgram) (passes : List KitPass) (bytes text : List 
       y.holds given.after y.holds.tree given.is_last.stands y.holds.is_tree given.last q given.is_last.is h.last.is
 
   -- what is so of those is so of these
-  moved : (P : Program Place → Program Place → Type 0) → P given.first given.last → P p q
+  moved : (P : FunctionsByPath Place → FunctionsByPath Place → Type 0) → P given.first given.last → P p q
   moved P x = subst (λ z. P z q) first_same (subst (P given.first) last_same x)
 
   pub run_alike : (c : ℕ) × AlikeWithin c p q
@@ -88,7 +88,7 @@ module _ (law : TextsHaveOneProgram) (passes : List KitPass) (bytes text : List 
   run_after : IsAfter (map pass_of passes) p q
   run_after = moved (IsAfter (map pass_of passes)) given.passed
 
-pub run_bound : TextsHaveOneProgram → (pass : KitPass) (bytes text : List ℕ) (p q : Program Place)
+pub run_bound : TextsHaveOneProgram → (pass : KitPass) (bytes text : List ℕ) (p q : FunctionsByPath Place)
     (h : AreRun (pass ∷ []) bytes text p q)
     → AlikeWithin (suc (operations_said h.first + operations_said h.last)) p q
 run_bound law pass bytes text p q h =

@@ -3,9 +3,9 @@ use Rattle.std.specs.Prelude.{ℕ, List, [], ◌∷◌}
 use Rattle.ir_trees.specs.Stands.{by_handle}
 use Rattle.ir_trees.specs.Trees.{Root}
 use Rattle.kit.specs.Meaning.{kit}
-use Rattle.kit_behaviour.specs.ConstantPropagation.{all_wanted, FactsKept}
+use Rattle.kit_behaviour.specs.ConstantPropagation.{all_wanted, KeepsFunctionFacts}
 use Rattle.kit_behaviour.specs.Facts as flat
-use Rattle.kit_behaviour.specs.Machine.{Program}
+use Rattle.kit_behaviour.specs.Machine.{FunctionsByPath}
 use Rattle.kit_behaviour.specs.Places.{Place}
 use Rattle.kit_ops.specs.declared.attributes.IntegerAttr.{IntegerAttr}
 use Rattle.kit_optimiser.specs.declared.pass.KitPass.{KitPass}
@@ -18,15 +18,15 @@ use Rattle.irkit_driver.specs.Programs.{ArePassed}
 
 -- each function of what passes make of a module has most precise facts
 abbrev pub FactsExist : Type 0
-FactsExist = (passes : List KitPass) (t u : KitTree) (p q : Program Place) → ArePassed passes t u p q →
-    (path : List ℕ) → (k : flat.Facts Place) × flat.IsMostPrecise (q path) k
+FactsExist = (passes : List KitPass) (t u : KitTree) (p q : FunctionsByPath Place) → ArePassed passes t u p q →
+    (path : List ℕ) → (k : flat.FunctionFacts Place) × flat.AreMostPreciseFacts (q path) k
 
 -- the most precise facts of each function after constant propagation say of each block that was there, and of each value
 -- that was there, what the most precise ones before said
-abbrev pub FactsStay : Type 0
-FactsStay = (t u : KitTree) (p q : Program Place) → ArePassed (Sccp ∷ []) t u p q →
-    (path : List ℕ) (k l : flat.Facts Place) → flat.IsMostPrecise (p path) k → flat.IsMostPrecise (q path) l →
-    FactsKept all_wanted (p path) k l
+abbrev pub PassedFactsStay : Type 0
+PassedFactsStay = (t u : KitTree) (p q : FunctionsByPath Place) → ArePassed (Sccp ∷ []) t u p q →
+    (path : List ℕ) (k l : flat.FunctionFacts Place) → flat.AreMostPreciseFacts (p path) k → flat.AreMostPreciseFacts (q path) l →
+    KeepsFunctionFacts all_wanted (p path) k l
 
 -- the same of trees, under names for the constants that were put in: also of regions inside functions, of any tree
 abbrev pub TreeFactsStay : Type 0

@@ -1,6 +1,6 @@
 -- What is known of a module of a context before it is written or its passes run.
 use Rattle.std.specs.Prelude.{ℕ}
-use Rattle.ir_forest.specs.Closed.{IsClosed, IsNumbered}
+use Rattle.ir_forest.specs.Closed.{IsClosedTree, IsNumbered}
 use Rattle.ir_formats.specs.Rules.{IsGrammarOf}
 use Rattle.ir_grammar.specs.declared.grammar.Grammar.{Grammar}
 use Rattle.ir_print.specs.Pieces.{Entity}
@@ -21,7 +21,7 @@ CanBeWritten s root = (t : KitTree) → StandsFor s.program root t → IsWritabl
 pub record HasOwnText (s : KitContext) (root : Ptr Operation) : Type 0 where
   pub tree : Entity ℕ
   pub holds : HoldsText tree s root
-  pub closed : IsClosed kit_language tree
+  pub closed : IsClosedTree kit_language tree
   pub numbered : IsNumbered tree
 
 -- there is a grammar of the language: where a text was read, it was read by one

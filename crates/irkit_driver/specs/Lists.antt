@@ -2,7 +2,7 @@
 use Rattle.std.specs.Prelude.{ℕ, List, map, Result, Ok, Err}
 use Rattle.ir_base.specs.declared.growth.GrowError.{GrowError}
 use Rattle.ir_base.specs.declared.growth.GrowError.TheVariants.{Memory, CounterFull}
-use Rattle.ir_forest.specs.Closed.{IsClosed, IsNumbered, IsSameModule}
+use Rattle.ir_forest.specs.Closed.{IsClosedTree, IsNumbered, IsSameModule}
 use Rattle.ir_print.specs.Pieces.{Entity}
 use Rattle.ir_program.specs.declared.handles.Operation.{Operation}
 use Rattle.ir_program.specs.declared.handles.Ptr.{Ptr}
@@ -10,7 +10,7 @@ use Rattle.kit_language.specs.Language.{kit_language}
 use Rattle.kit_optimised_programs.specs.Programs.{PassedPrograms}
 use Rattle.kit_optimiser.specs.Passed.{IsOptimised, FillsUp, pass_of}
 use Rattle.kit_optimiser.specs.declared.pass.KitPass.{KitPass}
-use Rattle.kit_program_runs.specs.Numberings.{IsNumbering}
+use Rattle.kit_program_runs.specs.Numberings.{NumbersTextsApart}
 use Rattle.kit_ruled_views.specs.Functions.{KitContext}
 use Rattle.module_printing.specs.Again.{IsTextOfModule}
 use Rattle.irkit_driver.specs.Texts.{HoldsText, IsAcceptedText}
@@ -20,7 +20,7 @@ use Rattle.irkit_driver.specs.Texts.{HoldsText, IsAcceptedText}
 pub record IsWrittenAs (s : KitContext) (root : Ptr Operation) (text : List ℕ) : Type 0 where
   pub tree : Entity ℕ
   pub holds : HoldsText tree s root
-  pub closed : IsClosed kit_language tree
+  pub closed : IsClosedTree kit_language tree
   pub numbered : IsNumbered tree
   pub laid_out : IsTextOfModule kit_language tree text
   pub again : Entity ℕ
@@ -33,7 +33,7 @@ pub record IsWrittenAs (s : KitContext) (root : Ptr Operation) (text : List ℕ)
 pub record PassesGive (passes : List KitPass) (before : KitContext) (root : Ptr Operation) (text : List ℕ) : Type 0 where
   pub after : KitContext
   pub passed : IsOptimised (map pass_of passes) before after root
-  pub programs : (numbered : List ℕ → ℕ) → IsNumbering numbered →
+  pub programs : (numbered : List ℕ → ℕ) → NumbersTextsApart numbered →
       PassedPrograms (map pass_of passes) before after root numbered
   pub written : IsWrittenAs after root text
 

@@ -22,7 +22,7 @@ use Rattle.irkit_driver.specs.declared.refusal.Refusal.TheVariants.{Memory, Coun
 use Rattle.irkit_driver.specs.declared.refusal.ExecutionFault.{ExecutionFault}
 use Rattle.irkit_driver.specs.declared.refusal.ExecutionFault.TheVariants.{Refused, WrongPath, WrongArguments}
 use Rattle.irkit_driver.specs.Lists.{PassesGive}
-use Rattle.irkit_driver.specs.Paths.{Answers}
+use Rattle.irkit_driver.specs.Paths.{IsAnswerOfRun}
 use Rattle.irkit_driver.specs.Refusals.{Deserves}
 use Rattle.irkit_driver.specs.Reports.{lines_of}
 use Rattle.irkit_driver.specs.Texts.{IsAcceptedAs, Overfills, SaysModule}
@@ -137,7 +137,7 @@ pub record ExecutionGives (bytes word xs : List ℕ) (limit : ℕ) (answer : Res
   pub context : KitContext
   pub root : Ptr Operation
   pub accepted : IsAcceptedAs bytes context root
-  pub answers : Answers context root word xs limit answer
+  pub answers : IsAnswerOfRun context root word xs limit answer
 
 module _ {R : Type 0} (remaining : R → Option (List ℕ)) (old new : Watched R) (word xs : List ℕ) (limit : ℕ) where
   -- All bytes that the reader gave are accepted, and the run of the function that the word says has this answer.

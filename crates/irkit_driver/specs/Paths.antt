@@ -22,11 +22,11 @@ SaysPath word path = map text_of path ≡ names_in word
 -- The answer of running the function that a word leads to from the root, on these numbers, for at most so many steps: it is
 -- that of the path that the word says, and the path is wrong where no function is at a path that the word says. Without
 -- memory nothing is known.
-abbrev pub Answers : KitContext → Ptr Operation → List ℕ → List ℕ → ℕ → Result Outcome ExecFault → Type 0
-Answers s root word xs limit (Ok outcome) =
+abbrev pub IsAnswerOfRun : KitContext → Ptr Operation → List ℕ → List ℕ → ℕ → Result Outcome ExecFault → Type 0
+IsAnswerOfRun s root word xs limit (Ok outcome) =
     (path : List Identifier) × SaysPath word path × Runs s root path xs limit (Ok outcome)
-Answers s root word xs limit (Err Memory) = Unit {0}
-Answers s root word xs limit (Err WrongPath) =
+IsAnswerOfRun s root word xs limit (Err Memory) = Unit {0}
+IsAnswerOfRun s root word xs limit (Err WrongPath) =
     (path : List Identifier) → SaysPath word path → Runs s root path xs limit (Err WrongPath)
-Answers s root word xs limit (Err WrongArguments) =
+IsAnswerOfRun s root word xs limit (Err WrongArguments) =
     (path : List Identifier) × SaysPath word path × Runs s root path xs limit (Err WrongArguments)

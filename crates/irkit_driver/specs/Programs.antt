@@ -6,7 +6,7 @@ use Rattle.ir_program.specs.declared.handles.Operation.{Operation}
 use Rattle.ir_program.specs.declared.handles.Ptr.{Ptr}
 use Rattle.ir_trees.specs.Stands.{by_handle}
 use Rattle.ir_types.specs.Interned.{key_at}
-use Rattle.kit_behaviour.specs.Machine.{Program}
+use Rattle.kit_behaviour.specs.Machine.{FunctionsByPath}
 use Rattle.kit_behaviour.specs.Places.{Place}
 use Rattle.kit_checks.specs.Faults.{KeptEverywhere}
 use Rattle.kit_checks.specs.World.{world_of}
@@ -16,7 +16,7 @@ use Rattle.kit_module_programs.specs.Programs.{IsProgramOf}
 use Rattle.kit_module_programs.specs.TreePasses.{IsTreeAfter}
 use Rattle.kit_optimiser.specs.Passed.{pass_of}
 use Rattle.kit_optimiser.specs.declared.pass.KitPass.{KitPass}
-use Rattle.kit_program_runs.specs.Numberings.{IsNumbering}
+use Rattle.kit_program_runs.specs.Numberings.{NumbersTextsApart}
 use Rattle.kit_ruled_views.specs.Functions.{KitContext}
 use Rattle.kit_ruled_views.specs.Ruled.{HasOwnNames, HaveTypesIn, KitTree}
 use Rattle.irkit_driver.specs.Outcomes.{RunGives}
@@ -36,11 +36,11 @@ abbrev pub IsMadeBy : List KitPass → KitContext → (List ℕ → ℕ) → Kit
 IsMadeBy passes s numbered t u = IsTreeAfter {N = by_handle} (key_at s.types) numbered (map pass_of passes) t u
 
 -- the tree, of a context with these types, has this program
-abbrev pub HasProgram : KitContext → (List ℕ → ℕ) → KitTree → Program Place → Type 0
+abbrev pub HasProgram : KitContext → (List ℕ → ℕ) → KitTree → FunctionsByPath Place → Type 0
 HasProgram s numbered t p = IsProgramOf {N = by_handle} same_value (key_at s.types) numbered t p
 
 -- A module's tree and what passes make of it, and the programs of both.
-pub record ArePassed (passes : List KitPass) (t u : KitTree) (p q : Program Place) : Type 0 where
+pub record ArePassed (passes : List KitPass) (t u : KitTree) (p q : FunctionsByPath Place) : Type 0 where
   pub context : KitContext
   pub is_module : IsModule context t
   pub numbered : List ℕ → ℕ
@@ -49,22 +49,22 @@ pub record ArePassed (passes : List KitPass) (t u : KitTree) (p q : Program Plac
   pub last : HasProgram context numbered u q
 
 -- The bytes are accepted as an operation of a context, and its tree has this program.
-pub record SaysProgram (numbered : List ℕ → ℕ) (bytes : List ℕ) (p : Program Place) : Type 0 where
+pub record SaysProgram (numbered : List ℕ → ℕ) (bytes : List ℕ) (p : FunctionsByPath Place) : Type 0 where
   pub context : KitContext
   pub root : Ptr Operation
   pub accepted : IsAcceptedAs bytes context root
   pub is : HasProgram context numbered accepted.0.holds.tree p
 
 -- how many operations are in what they are accepted as, below the module itself
-abbrev pub operations_said : {numbered : List ℕ → ℕ} {bytes : List ℕ} {p : Program Place} →
+abbrev pub operations_said : {numbered : List ℕ → ℕ} {bytes : List ℕ} {p : FunctionsByPath Place} →
     SaysProgram numbered bytes p → ℕ
 operations_said said = operations_below said.accepted.0.holds.tree
 
 -- What `run` reads, and the text that it writes, read again; and the programs that these two say. Names of functions
 -- have numbers, different ones different numbers.
-pub record AreRun (passes : List KitPass) (bytes text : List ℕ) (p q : Program Place) : Type 0 where
+pub record AreRun (passes : List KitPass) (bytes text : List ℕ) (p q : FunctionsByPath Place) : Type 0 where
   pub gives : RunGives passes bytes text
   pub numbered : List ℕ → ℕ
-  pub numbering : IsNumbering numbered
+  pub numbering : NumbersTextsApart numbered
   pub first : SaysProgram numbered bytes p
   pub last : SaysProgram numbered text q

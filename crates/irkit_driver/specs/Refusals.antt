@@ -18,7 +18,7 @@ use Rattle.irkit_driver.specs.declared.refusal.Refusal.{Refusal}
 use Rattle.irkit_driver.specs.declared.refusal.ExecutionFault.{ExecutionFault}
 use Rattle.irkit_driver.specs.declared.refusal.ExecutionFault.TheVariants.{Refused, WrongPath, WrongArguments}
 use Rattle.irkit_driver.specs.declared.refusal.Refusal.TheVariants.{NotUtf8, Syntax, TooDeep, Scope, Rule, Memory, CounterFull, Read, Write}
-use Rattle.irkit_driver.specs.Texts.{HasFault, BreaksRule}
+use Rattle.irkit_driver.specs.Texts.{HasFirstTextFault, BreaksRule}
 
 -- the number of a refusal, from 1
 abbrev pub number_of : Refusal → ℕ
@@ -35,9 +35,9 @@ number_of (Write _) = 9
 -- The whole input is refused so: it is no UTF-8 from that byte on, or this is the first fault of its characters, or they say a tree that breaks this rule.
 abbrev pub Deserves : List ℕ → Refusal → Type 0
 Deserves bytes (NotUtf8 b) = IsNotUtf8 bytes b
-Deserves bytes (Syntax line column) = HasFault bytes (text.Syntax line column)
-Deserves bytes (TooDeep line column) = HasFault bytes (text.TooDeep line column)
-Deserves bytes (Scope line column cause) = HasFault bytes (text.Scope line column cause)
+Deserves bytes (Syntax line column) = HasFirstTextFault bytes (text.Syntax line column)
+Deserves bytes (TooDeep line column) = HasFirstTextFault bytes (text.TooDeep line column)
+Deserves bytes (Scope line column cause) = HasFirstTextFault bytes (text.Scope line column cause)
 Deserves bytes (Rule rule place) = BreaksRule bytes rule place.children.items
 Deserves bytes Memory = ⊥
 Deserves bytes CounterFull = ⊥

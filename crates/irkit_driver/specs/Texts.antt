@@ -23,8 +23,8 @@ use Rattle.text_dialect.specs.Standing.{StandsForTexts}
 use Rattle.text_rereading.specs.Rereading.{Named}
 
 -- The bytes are UTF-8, and this is the first fault of their characters.
-abbrev pub HasFault : List ℕ → TextFault → Type 0
-HasFault bytes fault = IsUtf8 bytes × IsTextFault kit_language (chars bytes) fault
+abbrev pub HasFirstTextFault : List ℕ → TextFault → Type 0
+HasFirstTextFault bytes fault = IsUtf8 bytes × IsTextFault kit_language (chars bytes) fault
 
 -- The bytes are UTF-8, and their characters have no fault and say this tree.
 abbrev pub SaysTree : List ℕ → Entity ℕ → Type 0

@@ -6,7 +6,7 @@ ghost use Rattle.ir_program.specs.Program.{operation_at};
 ghost use Rattle.kit_execution.specs.Obeying.{ObeysRules};
 ghost use Rattle.irkit_streams.specs.Streams.{has_failed};
 ghost use Rattle.irkit_driver.specs.Outcomes.{EndsExecution, GivesOutcome};
-ghost use Rattle.irkit_driver.specs.Paths.{Answers, SaysPath, names_in};
+ghost use Rattle.irkit_driver.specs.Paths.{IsAnswerOfRun, SaysPath, names_in};
 
 use crate::loading::load;
 use crate::refusal::ExecutionFault;
@@ -94,7 +94,7 @@ fn outcome_in(
 ) -> Result<Outcome, ExecFault>
     requires live { IsSome (operation_at ctx.now.program root) }
     requires obeys { ObeysRules ctx.now root }
-    ensures { Answers ctx.now root path.now arguments.now limit result }
+    ensures { IsAnswerOfRun ctx.now root path.now arguments.now limit result }
 {
     match names_of_path(alloc, path) {
         Ok(Some(names)) => run_function(alloc, ctx, root, names.as_slice(), arguments, limit),

@@ -6,7 +6,7 @@ ghost use Rattle.ir_program.specs.declared.handles.Operation.{Operation};
 ghost use Rattle.ir_program.specs.declared.handles.Ptr.{Ptr};
 ghost use Rattle.ir_tokens.specs.declared.faults.TextFault.{TextFault};
 ghost use Rattle.kit_behaviour.specs.Laws.{AlikeWithin};
-ghost use Rattle.kit_behaviour.specs.Machine.{Program};
+ghost use Rattle.kit_behaviour.specs.Machine.{FunctionsByPath};
 ghost use Rattle.kit_behaviour.specs.PassLists.{Goal, SameFaces};
 ghost use Rattle.kit_behaviour.specs.Places.{Place};
 ghost use Rattle.kit_checks.specs.declared.rule.Rule.{Rule};
@@ -16,12 +16,12 @@ ghost use Rattle.kit_optimiser.specs.Passed.{pass_of};
 ghost use Rattle.kit_optimiser.specs.declared.pass.KitPass.{KitPass};
 ghost use Rattle.kit_ruled_views.specs.Functions.{KitContext};
 ghost use Rattle.kit_ruled_views.specs.Ruled.{KitTree};
-ghost use Rattle.irkit_driver.specs.Facts.{FactsExist, FactsStay, TreeFactsStay};
+ghost use Rattle.irkit_driver.specs.Facts.{FactsExist, PassedFactsStay, TreeFactsStay};
 ghost use Rattle.irkit_driver.specs.Outcomes.{RunGives};
 ghost use Rattle.irkit_driver.specs.Programs.{ArePassed, AreRun, IsMadeBy, IsModule};
 ghost use Rattle.irkit_driver.specs.Programs.{operations_said, SaysProgram};
 ghost use Rattle.irkit_driver.specs.Same.{HaveOneModule};
-ghost use Rattle.irkit_driver.specs.Texts.{BreaksRule, HasFault, IsAccepted, IsAcceptedAs, SaysTree};
+ghost use Rattle.irkit_driver.specs.Texts.{BreaksRule, HasFirstTextFault, IsAccepted, IsAcceptedAs, SaysTree};
 
 use kit::Kit;
 use kit_language::kit_can_print;
@@ -33,9 +33,9 @@ use text_rereading::laws::trees_of_texts_are_closed;
 /// The bytes of an input have one reading: they have one fault of the text at most, and none where they say a tree; and
 /// they say one tree.
 pub fn unique_reading()
-    ensures one { (bytes : List ℕ) (f g : TextFault) → HasFault bytes f → HasFault bytes g → f ≡ g }
+    ensures one { (bytes : List ℕ) (f g : TextFault) → HasFirstTextFault bytes f → HasFirstTextFault bytes g → f ≡ g }
     ensures either { (bytes : List ℕ) (f : TextFault) (text : Entity ℕ)
-        → HasFault bytes f → SaysTree bytes text → ⊥ }
+        → HasFirstTextFault bytes f → SaysTree bytes text → ⊥ }
     ensures one_tree { (bytes : List ℕ) (text other : Entity ℕ)
         → SaysTree bytes text → SaysTree bytes other → text ≡ other }
 {}
@@ -56,8 +56,8 @@ pub fn inputs_have_one_verdict()
 /// An input that is accepted has a program, whatever context it is read into, and one alone.
 pub fn inputs_have_one_program()
     ensures some { (numbered : List ℕ → ℕ) (bytes : List ℕ) (s : KitContext) (root : Ptr Operation)
-        → IsAcceptedAs bytes s root → (p : Program Place) × SaysProgram numbered bytes p }
-    ensures one { (numbered : List ℕ → ℕ) (bytes : List ℕ) (p q : Program Place)
+        → IsAcceptedAs bytes s root → (p : FunctionsByPath Place) × SaysProgram numbered bytes p }
+    ensures one { (numbered : List ℕ → ℕ) (bytes : List ℕ) (p q : FunctionsByPath Place)
         → SaysProgram numbered bytes p → SaysProgram numbered bytes q → p ≡ q }
 {
     texts_have_one_program();
@@ -71,24 +71,25 @@ pub fn alike_whole()
         → IsModule s said.0.holds.tree }
     ensures programs { (passes : List KitPass) (s : KitContext) (numbered : List ℕ → ℕ) (t u : KitTree)
         → IsModule s t → IsMadeBy passes s numbered t u
-        → (p : Program Place) × (q : Program Place) × ArePassed passes t u p q }
+        → (p : FunctionsByPath Place) × (q : FunctionsByPath Place) × ArePassed passes t u p q }
     // Functions keep their paths, and what they carry: their names and types.
-    ensures faces { (passes : List KitPass) (t u : KitTree) (p q : Program Place)
+    ensures faces { (passes : List KitPass) (t u : KitTree) (p q : FunctionsByPath Place)
         → ArePassed passes t u p q → SameFaces p q }
-    ensures content { (passes : List KitPass) (t u : KitTree) (p q : Program Place) (h : ArePassed passes t u p q)
+    ensures content { (passes : List KitPass) (t u : KitTree) (p q : FunctionsByPath Place)
+        (h : ArePassed passes t u p q)
         (path : List ℕ) → function_content h.numbered path u ≡ function_content h.numbered path t }
     // Neither program runs more than some number of times as long as the other. For one pass this number is one more
     // than the operations of both modules together.
-    ensures alike { (passes : List KitPass) (t u : KitTree) (p q : Program Place)
+    ensures alike { (passes : List KitPass) (t u : KitTree) (p q : FunctionsByPath Place)
         → ArePassed passes t u p q → (c : ℕ) × AlikeWithin c p q }
-    ensures bound { (pass : KitPass) (t u : KitTree) (p q : Program Place)
+    ensures bound { (pass : KitPass) (t u : KitTree) (p q : FunctionsByPath Place)
         → ArePassed (pass ∷ []) t u p q → AlikeWithin (suc (operations_below t + operations_below u)) p q }
 {}
 
 /// After a list of passes on a module that keeps the rules the goal of its last pass is met; the empty list leaves the
 /// program as it was.
 pub fn goal()
-    ensures { (passes : List KitPass) (t u : KitTree) (p q : Program Place)
+    ensures { (passes : List KitPass) (t u : KitTree) (p q : FunctionsByPath Place)
         → ArePassed passes t u p q → Goal (map pass_of passes) p q }
 {}
 
@@ -96,7 +97,7 @@ pub fn goal()
 /// function, of which there are some, say of each old value and block what they said before. The same is so of trees.
 pub fn facts_kept()
     ensures exist { FactsExist }
-    ensures stay { FactsStay }
+    ensures stay { PassedFactsStay }
     ensures trees { TreeFactsStay }
 {}
 
@@ -117,14 +118,14 @@ pub fn cut()
 /// The text that `run` writes, read again into whatever context, behaves as the text that it read, and meets the goal of
 /// the last pass: so both are said of texts alone.
 pub fn written_texts_behave_alike()
-    ensures faces { (passes : List KitPass) (bytes text : List ℕ) (p q : Program Place)
+    ensures faces { (passes : List KitPass) (bytes text : List ℕ) (p q : FunctionsByPath Place)
         → AreRun passes bytes text p q → SameFaces p q }
-    ensures alike { (passes : List KitPass) (bytes text : List ℕ) (p q : Program Place)
+    ensures alike { (passes : List KitPass) (bytes text : List ℕ) (p q : FunctionsByPath Place)
         → AreRun passes bytes text p q → (c : ℕ) × AlikeWithin c p q }
-    ensures bound { (pass : KitPass) (bytes text : List ℕ) (p q : Program Place)
+    ensures bound { (pass : KitPass) (bytes text : List ℕ) (p q : FunctionsByPath Place)
         (h : AreRun (pass ∷ []) bytes text p q)
         → AlikeWithin (suc (operations_said h.first + operations_said h.last)) p q }
-    ensures goal { (passes : List KitPass) (bytes text : List ℕ) (p q : Program Place)
+    ensures goal { (passes : List KitPass) (bytes text : List ℕ) (p q : FunctionsByPath Place)
         → AreRun passes bytes text p q → Goal (map pass_of passes) p q }
 {
     texts_have_one_program();

@@ -7,7 +7,7 @@ use Rattle.irkit_streams.specs.declared.faults.DecodeFault.{DecodeFault}
 use Rattle.irkit_streams.specs.declared.faults.DecodeFault.TheVariants as decode
 use Rattle.irkit_streams.specs.declared.faults.WriteFault.{WriteFault}
 use Rattle.irkit_streams.specs.declared.watched.Watched.{Watched}
-use Rattle.irkit_streams.specs.Streams.{has_failed, Gave, HasEnded, Took}
+use Rattle.irkit_streams.specs.Streams.{has_failed, Gave, HasNoByteLeft, Took}
 
 module _ {R : Type 0} (remaining : R → Option (List ℕ)) (old new : Watched R) where
   -- A call failed, or none did and the reader gave at least so many bytes.
@@ -17,7 +17,7 @@ module _ {R : Type 0} (remaining : R → Option (List ℕ)) (old new : Watched R
 
   -- The reader gave these bytes, then the end was met, and no call failed.
   abbrev pub GaveAll : List ℕ → Type 0
-  GaveAll bytes = Gave remaining old new bytes × HasEnded remaining new × (has_failed new ≡ false)
+  GaveAll bytes = Gave remaining old new bytes × HasNoByteLeft remaining new × (has_failed new ≡ false)
 
   -- Reading to the end: all bytes, or a fault. A reader that gives fewer bytes than the limit is refused only where a call failed.
   abbrev pub EndsReading : {V : Type 0} → ℕ → (V → List ℕ) → Result V ReadFault → Type 0

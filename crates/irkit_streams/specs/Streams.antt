@@ -16,8 +16,8 @@ abbrev pub Gave : {R : Type 0} → (R → Option (List ℕ)) → Watched R → W
 Gave remaining old new bytes = Consumes (remaining (inner_of old)) (remaining (inner_of new)) bytes
 
 -- the reader has no byte left
-abbrev pub HasEnded : {R : Type 0} → (R → Option (List ℕ)) → Watched R → Type 0
-HasEnded remaining new = IsAtEnd (remaining (inner_of new))
+abbrev pub HasNoByteLeft : {R : Type 0} → (R → Option (List ℕ)) → Watched R → Type 0
+HasNoByteLeft remaining new = IsAtEnd (remaining (inner_of new))
 
 -- From old to new the writer took these bytes and no others. `contents` is the writer's own word, as `W.contents`.
 abbrev pub Took : {W : Type 0} → (W → Option (List ℕ)) → Watched W → Watched W → List ℕ → Type 0

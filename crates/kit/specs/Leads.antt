@@ -1,8 +1,8 @@
 -- Where the parts of lists lead to in the grammar of `kit`.
 use Rattle.std.specs.Prelude.{[], ◌∷◌}
-use Rattle.ir_formats.specs.Ordered.{Leads, leads_with, operands_leads, list_leads}
+use Rattle.ir_formats.specs.Ordered.{PartPositions, leads_with, operands_leads, list_leads}
 
 -- the operands of `kit.return`, and the inputs and the results of a function type: for each list its own part, and that
 -- of what follows a member
-abbrev pub leads : Leads
+abbrev pub leads : PartPositions
 leads = leads_with (operands_leads ∷ operands_leads ∷ list_leads ∷ list_leads ∷ list_leads ∷ list_leads ∷ [])

@@ -1,13 +1,13 @@
 -- Which functions there are, and how many arguments they take.
 use Rattle.std.proofs.Common.{◌≡◌, ℕ, Bool, List, [], ◌∷◌, length, Option, Some, None, refl, ap, ◌∙◌}
 use Rattle.std.specs.Prelude.{not, if◌then◌else◌}
-use Rattle.kit_behaviour.specs.Machine.{Fun, Program, arguments_in}
-use Rattle.kit_behaviour.specs.Facts.{Facts}
+use Rattle.kit_behaviour.specs.Machine.{Fun, FunctionsByPath, arguments_in}
+use Rattle.kit_behaviour.specs.Facts.{FunctionFacts}
 use Rattle.kit_behaviour.specs.Rules.{Rules}
 use Rattle.kit_behaviour.specs.InsertedConstants.{same_name}
-use Rattle.kit_behaviour.specs.ConstantPropagation.{Wants, with_facts, IsSccp}
+use Rattle.kit_behaviour.specs.ConstantPropagation.{Wants, with_facts, IsSccpOfFunctions}
 use Rattle.kit_behaviour.specs.RemovedValues.{live, thin, AllLive}
-use Rattle.kit_behaviour.specs.DeadValues.{IsDce}
+use Rattle.kit_behaviour.specs.DeadValues.{IsDceOfFunctions}
 use Rattle.kit_behaviour.specs.Numbering.{place_fun}
 use Rattle.kit_behaviour.specs.SimplifiedBlocks.{constants, keep, join_fun, branched}
 use Rattle.kit_behaviour.proofs.ControlFlow.PlacesJoined.{replaced_args, IsSimplify}
@@ -28,11 +28,11 @@ use Rattle.kit_behaviour.proofs.ControlFlow.SimplifyBehaviour.{reach_entry, kept
 
 -- constant propagation
 
-sccp_there : (want : Wants) (f : Option (Fun Place)) (k : Facts Place) → is_there (place_fun (same_name same_place) (with_facts want f k)) ≡ is_there f
+sccp_there : (want : Wants) (f : Option (Fun Place)) (k : FunctionFacts Place) → is_there (place_fun (same_name same_place) (with_facts want f k)) ≡ is_there f
 sccp_there want None k = refl
 sccp_there want (Some f) k = refl
 
-pub sccp_faces : (want : Wants) (p q : Program Place) → ((path : List ℕ) → Rules (p path)) → IsSccp want p q → SameFaces p q
+pub sccp_faces : (want : Wants) (p q : FunctionsByPath Place) → ((path : List ℕ) → Rules (p path)) → IsSccpOfFunctions want p q → SameFaces p q
 sccp_faces want p q rules is =
     record {
       there = λ path. ap is_there (is.is path) ∙ sccp_there want (p path) (is.facts path);
@@ -49,7 +49,7 @@ live_all : (d : Place → Bool) (vs : List Place) → AllLive d vs → live d vs
 live_all d [] h = refl
 live_all d (v ∷ vs) h = ap (λ b. if b then live d vs else v ∷ live d vs) h.0 ∙ ap (λ l. v ∷ l) (live_all d vs h.1)
 
-pub dce_faces : (p q : Program Place) → IsDce p q → SameFaces p q
+pub dce_faces : (p q : FunctionsByPath Place) → IsDceOfFunctions p q → SameFaces p q
 dce_faces p q is =
     record {
       there = λ path. ap is_there (is.is path) ∙ thin_there (p path) (is.set path);
@@ -69,7 +69,7 @@ join_there : (j r : ℕ → Bool) (s : Place → Place) (k : ℕ) (f : Option (F
 join_there j r s k None = refl
 join_there j r s k (Some f) = refl
 
-pub simplify_faces : (p q : Program Place) → ((path : List ℕ) → Rules (p path)) → IsSimplify p q → SameFaces p q
+pub simplify_faces : (p q : FunctionsByPath Place) → ((path : List ℕ) → Rules (p path)) → IsSimplify p q → SameFaces p q
 simplify_faces p q rules is =
     record {
       there = λ path.
@@ -93,5 +93,5 @@ simplify_faces p q rules is =
           ∙ ap length (keep_takes e.reach b 0 (reach_entry b e.reach e.reached) ∙ decide_takes (constants (p path)) (p path) 0);
     }
 
-pub faces_trans : (p q r : Program Place) → SameFaces p q → SameFaces q r → SameFaces p r
+pub faces_trans : (p q r : FunctionsByPath Place) → SameFaces p q → SameFaces q r → SameFaces p r
 faces_trans p q r a b = record { there = λ path. b.there path ∙ a.there path; entry = λ path. b.entry path ∙ a.entry path }

@@ -1,7 +1,7 @@
 -- One number bounds finitely many functions.
 use Rattle.std.proofs.Common.{◌≡◌, ⊎_elim, ℕ, zero, suc, ◌+◌, ◌<◌, ◌≤◌, List, [], ◌∷◌, length, Option, Some, None, sym, ap, subst, arith}
 use Rattle.std.specs.Prelude.{slice_get}
-use Rattle.kit_behaviour.specs.Machine.{Block, Fun, Program, ops_left, left_in, arguments_of, arguments_in, size}
+use Rattle.kit_behaviour.specs.Machine.{Block, Fun, FunctionsByPath, ops_left, left_in, arguments_of, arguments_in, size}
 use Rattle.kit_behaviour.specs.Scopes.{In}
 use Rattle.kit_behaviour.specs.Rules.{Rules}
 use Rattle.kit_behaviour.specs.PassLists.{Fit, IsFinite}
@@ -68,7 +68,7 @@ funs_some (f ∷ fs) = let h = funs_some fs in omega (arith, h)
 none_within : (n : ℕ) → 0 < n → Within n None
 none_within n l = record { below = λ b. l; args = λ b. omega arith; few = omega arith }
 
-pub finite_fit : (p : Program Place) → ((path : List ℕ) → Rules (p path)) → IsFinite p → Fit p
+pub finite_fit : (p : FunctionsByPath Place) → ((path : List ℕ) → Rules (p path)) → IsFinite p → Fit p
 finite_fit p rules finite =
     record {
       rules = rules;

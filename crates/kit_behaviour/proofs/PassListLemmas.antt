@@ -1,15 +1,15 @@
 -- A list of passes: behaviour, and the rest of a list on what its beginning gave.
 use Rattle.std.proofs.Common.{◌≡◌, ◌⊎◌, ℕ, zero, suc, ◌+◌, ◌*◌, ◌≤◌, ◌<◌, Bool, true, false, List, [], ◌∷◌, ◌++◌, length, Option, Some, None, refl, sym, ap, ◌∙◌, subst, arith}
 use Rattle.std.specs.Prelude.{map, slice_get, if◌then◌else◌, not}
-use Rattle.kit_behaviour.specs.Machine.{Block, Fun, Program, State, Going, Ended, Trapped, start, run, ops_left, left_in, arguments_in, Shown, Alike, Op, size}
+use Rattle.kit_behaviour.specs.Machine.{Block, Fun, FunctionsByPath, State, Going, Ended, Trapped, start, run, ops_left, left_in, arguments_in, Shown, Alike, Op, size}
 use Rattle.kit_behaviour.specs.JoinedBlocks.{joined}
 use Rattle.kit_behaviour.specs.RemovedValues.{thinned}
 use Rattle.kit_behaviour.specs.Rules.{Rules, EndsWell, operations_of, operation_count, OperationsWithin}
-use Rattle.kit_behaviour.specs.ConstantPropagation.{Wants, all_wanted, used_wanted, sccp, IsSccp}
-use Rattle.kit_behaviour.specs.DeadValues.{IsDead, IsDce}
+use Rattle.kit_behaviour.specs.ConstantPropagation.{Wants, all_wanted, used_wanted, sccp, IsSccpOfFunctions}
+use Rattle.kit_behaviour.specs.DeadValues.{IsDeadSet, IsDceOfFunctions}
 use Rattle.kit_behaviour.specs.Numbering.{place_fun, placed}
 use Rattle.kit_behaviour.specs.Places.{Place, same_place}
-use Rattle.kit_behaviour.specs.SimplifiedBlocks.{constants, Reached, IsReached, between, retarget_block, keep_blocks, keep, IsTaken, Depth, join_block, join_fun, branched, IsSimplified, IsSimplify}
+use Rattle.kit_behaviour.specs.SimplifiedBlocks.{constants, Reached, IsReachedSet, between, retarget_block, keep_blocks, keep, IsJoinedSet, Depth, join_block, join_fun, branched, IsSimplifiedFunction, IsSimplifyOfFunctions}
 use Rattle.kit_behaviour.proofs.ControlFlow.PlacesJoined.{Follows, forward, replaced_args, merged, IsMerged, Simplifies}
 use Rattle.kit_behaviour.specs.PassLists.{SameFaces, LeanSccpPass, Pass, SccpPass, DcePass, SimplifyPass, IsPass, IsAfter, Fit, GoalOf, Goal}
 use Rattle.kit_behaviour.proofs.FaceLemmas.{sccp_faces, dce_faces, simplify_faces, faces_trans}
@@ -40,46 +40,46 @@ shown_self (Going fs o) = prefix_refl o
 shown_self (Ended ns o) = refl
 shown_self (Trapped o) = refl
 
-pub alike_self : {V : Type 0} (same : V → V → Bool) (p : Program V) → Alike same same 1 p p
+pub alike_self : {V : Type 0} (same : V → V → Bool) (p : FunctionsByPath V) → Alike same same 1 p p
 alike_self same p =
     record {
       there = λ path xs n. (n, omega arith, shown_self (run same p n (start same p path xs)));
       back = λ path xs n. (n, omega arith, shown_self (run same p n (start same p path xs)));
     }
 
-abbrev Some_bound : Program Place → Program Place → Type 0
+abbrev Some_bound : FunctionsByPath Place → FunctionsByPath Place → Type 0
 Some_bound p q = (c : ℕ) × Alike same_place same_place c p q
 
-pass_alike : (x : Pass) (p q : Program Place) → IsPass x p q → Fit p → Fit q → Some_bound p q
+pass_alike : (x : Pass) (p q : FunctionsByPath Place) → IsPass x p q → Fit p → Fit q → Some_bound p q
 pass_alike SccpPass p q h a b = (b.most, sccp_is_alike all_wanted p q b.most a.rules h b.below)
 pass_alike LeanSccpPass p q h a b = (b.most, sccp_is_alike used_wanted p q b.most a.rules h b.below)
 pass_alike DcePass p q h a b = (a.most, dce_is_alike p q a.most a.rules h a.below)
 pass_alike SimplifyPass p q h a b = (suc a.most, simplify_is_alike p q a.most a.rules (as_old_all p q a.rules h) a.few)
 
-pass_fit : (x : Pass) (p q : Program Place) → IsPass x p q → Fit p → Fit q
+pass_fit : (x : Pass) (p q : FunctionsByPath Place) → IsPass x p q → Fit p → Fit q
 pass_fit SccpPass p q h a = sccp_fit all_wanted p q a h
 pass_fit LeanSccpPass p q h a = sccp_fit used_wanted p q a h
 pass_fit DcePass p q h a = dce_fit p q a h
 pass_fit SimplifyPass p q h a = simplify_fit p q a (as_old_all p q a.rules h)
 
-abbrev KeepRules : Program Place → Type 0
+abbrev KeepRules : FunctionsByPath Place → Type 0
 KeepRules p = (path : List ℕ) → Rules (p path)
 
-pass_rules : (x : Pass) (p q : Program Place) → IsPass x p q → KeepRules p → KeepRules q
+pass_rules : (x : Pass) (p q : FunctionsByPath Place) → IsPass x p q → KeepRules p → KeepRules q
 pass_rules SccpPass p q h r path = subst Rules (sym (h.is path)) (sccp_rules all_wanted (p path) (h.facts path) (r path))
 pass_rules LeanSccpPass p q h r path = subst Rules (sym (h.is path)) (sccp_rules used_wanted (p path) (h.facts path) (r path))
 pass_rules DcePass p q h r path = subst Rules (sym (h.is path)) (thin_rules (p path) (h.set path) (dead_may_go same_place place_law (p path) (h.set path) (h.dead path)) (r path))
 pass_rules SimplifyPass p q h r path = simplify_rules (p path) (q path) (r path) (as_old_pass (p path) (q path) (r path) (h.each path))
 
-pub after_rules : (xs : List Pass) (p r : Program Place) → KeepRules p → IsAfter xs p r → KeepRules r
+pub after_rules : (xs : List Pass) (p r : FunctionsByPath Place) → KeepRules p → IsAfter xs p r → KeepRules r
 after_rules [] p r f h = subst KeepRules h f
 after_rules (x ∷ xs) p r f h = after_rules xs h.0 r (pass_rules x p h.0 h.1 f) h.2
 
-pub after_fit : (xs : List Pass) (p r : Program Place) → Fit p → IsAfter xs p r → Fit r
+pub after_fit : (xs : List Pass) (p r : FunctionsByPath Place) → Fit p → IsAfter xs p r → Fit r
 after_fit [] p r f h = subst Fit h f
 after_fit (x ∷ xs) p r f h = after_fit xs h.0 r (pass_fit x p h.0 h.1 f) h.2
 
-pub after_alike : (xs : List Pass) (p r : Program Place) → Fit p → IsAfter xs p r → (c : ℕ) × Alike same_place same_place c p r
+pub after_alike : (xs : List Pass) (p r : FunctionsByPath Place) → Fit p → IsAfter xs p r → (c : ℕ) × Alike same_place same_place c p r
 after_alike [] p r f h = (1, subst (λ q. Alike same_place same_place 1 p q) h (alike_self same_place p))
 after_alike (x ∷ xs) p r f h =
     let g = pass_fit x p h.0 h.1 f in
@@ -89,27 +89,27 @@ after_alike (x ∷ xs) p r f h =
 
 -- each pass gives one program
 
-sccp_one : (want : Wants) (p q r : Program Place) → IsSccp want p q → IsSccp want p r → q ≡ r
+sccp_one : (want : Wants) (p q r : FunctionsByPath Place) → IsSccpOfFunctions want p q → IsSccpOfFunctions want p r → q ≡ r
 sccp_one want p q r a b =
     let e : a.facts ≡ b.facts = λ i path. best_unique (p path) (a.facts path) (b.facts path) (a.best path) (b.best path) i in
     let x : q ≡ sccp want a.facts p = λ i path. a.is path i in
     let y : r ≡ sccp want b.facts p = λ i path. b.is path i in
     x ∙ ap (λ k. sccp want k p) e ∙ sym y
 
-dead_one : (f : Option (Fun Place)) (d e : Place → Bool) → IsDead same_place f d → IsDead same_place f e → d ≡ e
+dead_one : (f : Option (Fun Place)) (d e : Place → Bool) → IsDeadSet same_place f d → IsDeadSet same_place f e → d ≡ e
 dead_one f d e a b = λ i v. true_both (d v) (e v) (a.least e b.holds v) (b.least d a.holds v) i
 
-dce_one : (p q r : Program Place) → IsDce p q → IsDce p r → q ≡ r
+dce_one : (p q r : FunctionsByPath Place) → IsDceOfFunctions p q → IsDceOfFunctions p r → q ≡ r
 dce_one p q r a b =
     let e : a.set ≡ b.set = λ i path. dead_one (p path) (a.set path) (b.set path) (a.dead path) (b.dead path) i in
     let x : q ≡ placed same_place (thinned a.set p) = λ i path. a.is path i in
     let y : r ≡ placed same_place (thinned b.set p) = λ i path. b.is path i in
     x ∙ ap (λ k. placed same_place (thinned k p)) e ∙ sym y
 
-reach_one : (f : Option (Fun Place)) (r u : ℕ → Bool) → IsReached f r → IsReached f u → r ≡ u
+reach_one : (f : Option (Fun Place)) (r u : ℕ → Bool) → IsReachedSet f r → IsReachedSet f u → r ≡ u
 reach_one f r u a b = λ i x. true_both (r x) (u x) (λ e. b.full x (a.sound x e)) (λ e. a.full x (b.sound x e)) i
 
-taken_one : (f : Option (Fun Place)) (j k : ℕ → Bool) → IsTaken f j → IsTaken f k → j ≡ k
+taken_one : (f : Option (Fun Place)) (j k : ℕ → Bool) → IsJoinedSet f j → IsJoinedSet f k → j ≡ k
 taken_one f j k a b = λ i x. true_both (j x) (k x) (λ e. let h = a.there x e in b.back h.0 x h.1) (λ e. let h = b.there x e in a.back h.0 x h.1) i
 
 names_one : (n : Place → Option Place) (s u : Place → Place) → ((v : Place) → Follows n v (s v)) → ((v : Place) → Follows n v (u v)) → s ≡ u
@@ -160,46 +160,46 @@ simplifies_one f g h rules a b =
     let w : IsMerged (place_fun same_place (keep a.reach (branched f))) h = subst (λ u. IsMerged (place_fun same_place (keep u (branched f))) h) (sym r) b.merges in
     merged_one (place_fun same_place (keep a.reach (branched f))) g h (kept_rules (branched f) a.reach a.reached (decide_rules (constants f) f rules)) (kept_lives (branched f) a.reach a.reached) a.merges w
 
-pass_one : (x : Pass) (p q r : Program Place) → KeepRules p → IsPass x p q → IsPass x p r → q ≡ r
+pass_one : (x : Pass) (p q r : FunctionsByPath Place) → KeepRules p → IsPass x p q → IsPass x p r → q ≡ r
 pass_one SccpPass p q r f a b = sccp_one all_wanted p q r a b
 pass_one LeanSccpPass p q r f a b = sccp_one used_wanted p q r a b
 pass_one DcePass p q r f a b = dce_one p q r a b
 pass_one SimplifyPass p q r f a b = λ i path. simplifies_one (p path) (q path) (r path) (f path) (as_old_pass (p path) (q path) (f path) (a.each path)) (as_old_pass (p path) (r path) (f path) (b.each path)) i
 
-pub after_one : (xs : List Pass) (p r s : Program Place) → KeepRules p → IsAfter xs p r → IsAfter xs p s → r ≡ s
+pub after_one : (xs : List Pass) (p r s : FunctionsByPath Place) → KeepRules p → IsAfter xs p r → IsAfter xs p s → r ≡ s
 after_one [] p r s f h g = sym h ∙ g
 after_one (x ∷ xs) p r s f h g =
     after_one xs h.0 r s (pass_rules x p h.0 h.1 f) h.2 (subst (λ q. IsAfter xs q s) (sym (pass_one x p h.0 g.0 f h.1 g.1)) g.2)
 
 -- what the beginning made, and then the rest, is what the whole list makes
-after_append : (xs ys : List Pass) (p n s : Program Place) → IsAfter xs p n → IsAfter ys n s → IsAfter (xs ++ ys) p s
+after_append : (xs ys : List Pass) (p n s : FunctionsByPath Place) → IsAfter xs p n → IsAfter ys n s → IsAfter (xs ++ ys) p s
 after_append [] ys p n s h g = subst (λ q. IsAfter ys q s) (sym h) g
 after_append (x ∷ xs) ys p n s h g = (h.0, h.1, after_append xs ys h.0 n s h.2 g)
 
-pub after_cut : (xs ys : List Pass) (p n r s : Program Place) → KeepRules p → IsAfter xs p n → IsAfter (xs ++ ys) p r → IsAfter ys n s → r ≡ s
+pub after_cut : (xs ys : List Pass) (p n r s : FunctionsByPath Place) → KeepRules p → IsAfter xs p n → IsAfter (xs ++ ys) p r → IsAfter ys n s → r ≡ s
 after_cut xs ys p n r s f h w g = after_one (xs ++ ys) p r s f w (after_append xs ys p n s h g)
 
 -- goals
 
-pub simplified : (p q : Program Place) → ((path : List ℕ) → Rules (p path)) → IsSimplify p q → (path : List ℕ) → IsSimplified (q path)
+pub simplified : (p q : FunctionsByPath Place) → ((path : List ℕ) → Rules (p path)) → IsSimplifyOfFunctions p q → (path : List ℕ) → IsSimplifiedFunction (q path)
 simplified p q rules is path =
     record {
       reached = λ b l. simplified_reached (p path) (q path) (rules path) (as_old_pass (p path) (q path) (rules path) (is.each path)) b l;
       joined = λ b t h. simplified_joined (p path) (q path) (rules path) (as_old_pass (p path) (q path) (rules path) (is.each path)) b t h;
     }
 
-pass_goal : (x : Pass) (p q : Program Place) → KeepRules p → IsPass x p q → GoalOf x q
+pass_goal : (x : Pass) (p q : FunctionsByPath Place) → KeepRules p → IsPass x p q → GoalOf x q
 pass_goal SccpPass p q f h = sccp_known all_wanted (λ f v u. refl) p q f h
 pass_goal LeanSccpPass p q f h = sccp_known used_wanted (λ f v u. u) p q f h
 pass_goal DcePass p q f h = dce_none p q f h
 pass_goal SimplifyPass p q f h = simplified p q f h
 
-pub after_goal : (xs : List Pass) (p r : Program Place) → KeepRules p → IsAfter xs p r → Goal xs p r
+pub after_goal : (xs : List Pass) (p r : FunctionsByPath Place) → KeepRules p → IsAfter xs p r → Goal xs p r
 after_goal [] p r f h = h
 after_goal (x ∷ []) p r f h = subst (GoalOf x) h.2 (pass_goal x p h.0 f h.1)
 after_goal (x ∷ y ∷ xs) p r f h = goal_on y xs h.0 p r (after_goal (y ∷ xs) h.0 r (pass_rules x p h.0 h.1 f) h.2)
   where
-    goal_on : (y : Pass) (ys : List Pass) (p p' r : Program Place) → Goal (y ∷ ys) p r → Goal (y ∷ ys) p' r
+    goal_on : (y : Pass) (ys : List Pass) (p p' r : FunctionsByPath Place) → Goal (y ∷ ys) p r → Goal (y ∷ ys) p' r
     goal_on y [] p p' r g = g
     goal_on y (z ∷ zs) p p' r g = goal_on z zs p p' r g
 
@@ -230,7 +230,7 @@ size_count : (f : Option (Fun Place)) → Rules f → size f ≤ operation_count
 size_count None r = omega arith
 size_count (Some f) r = blocks_some f r.terminated
 
-pub pass_within : (x : Pass) (p q : Program Place) (c : ℕ) → ((path : List ℕ) → Rules (p path)) → IsPass x p q → OperationsWithin c p → OperationsWithin c q → Alike same_place same_place (suc c) p q
+pub pass_within : (x : Pass) (p q : FunctionsByPath Place) (c : ℕ) → ((path : List ℕ) → Rules (p path)) → IsPass x p q → OperationsWithin c p → OperationsWithin c q → Alike same_place same_place (suc c) p q
 pass_within LeanSccpPass p q c rules h before after = sccp_is_alike used_wanted p q (suc c) rules h (λ path b. omega (arith, left_count (q path) b, after path))
 pass_within SccpPass p q c rules h before after = sccp_is_alike all_wanted p q (suc c) rules h (λ path b. omega (arith, left_count (q path) b, after path))
 pass_within DcePass p q c rules h before after = dce_is_alike p q (suc c) rules h (λ path b. omega (arith, left_count (p path) b, before path))
@@ -238,13 +238,13 @@ pass_within SimplifyPass p q c rules h before after = simplify_is_alike p q c ru
 
 -- each pass has a result
 
-pass_exists : (x : Pass) (p : Program Place) → KeepRules p → (q : Program Place) × IsPass x p q
+pass_exists : (x : Pass) (p : FunctionsByPath Place) → KeepRules p → (q : FunctionsByPath Place) × IsPass x p q
 pass_exists SccpPass p f = sccp_exists all_wanted p f
 pass_exists LeanSccpPass p f = sccp_exists used_wanted p f
 pass_exists DcePass p f = dce_exists p
 pass_exists SimplifyPass p f = simplify_all p f
 
-pub after_exists : (xs : List Pass) (p : Program Place) → KeepRules p → (r : Program Place) × IsAfter xs p r
+pub after_exists : (xs : List Pass) (p : FunctionsByPath Place) → KeepRules p → (r : FunctionsByPath Place) × IsAfter xs p r
 after_exists [] p f = (p, refl)
 after_exists (x ∷ xs) p f =
     let q = pass_exists x p f in
@@ -253,12 +253,12 @@ after_exists (x ∷ xs) p f =
 
 -- faces
 
-pass_faces : (x : Pass) (p q : Program Place) → KeepRules p → IsPass x p q → SameFaces p q
+pass_faces : (x : Pass) (p q : FunctionsByPath Place) → KeepRules p → IsPass x p q → SameFaces p q
 pass_faces SccpPass p q f h = sccp_faces all_wanted p q f h
 pass_faces LeanSccpPass p q f h = sccp_faces used_wanted p q f h
 pass_faces DcePass p q f h = dce_faces p q h
 pass_faces SimplifyPass p q f h = simplify_faces p q f (as_old_all p q f h)
 
-pub after_faces : (xs : List Pass) (p r : Program Place) → KeepRules p → IsAfter xs p r → SameFaces p r
+pub after_faces : (xs : List Pass) (p r : FunctionsByPath Place) → KeepRules p → IsAfter xs p r → SameFaces p r
 after_faces [] p r f h = subst (SameFaces p) h (record { there = λ path. refl; entry = λ path. refl })
 after_faces (x ∷ xs) p r f h = faces_trans p h.0 r (pass_faces x p h.0 f h.1) (after_faces xs h.0 r (pass_rules x p h.0 h.1 f) h.2)

@@ -1,6 +1,6 @@
 -- Worked rows: a branch on a number, and what the pass makes of it.
 use Rattle.std.proofs.Common.{◌≡◌, ℕ, zero, suc, Bool, true, false, [], ◌∷◌, Some, refl}
-use Rattle.kit_behaviour.specs.Machine.{Cases, Const, Branch, Return, Fun, Ended, Program, start, run}
+use Rattle.kit_behaviour.specs.Machine.{Cases, Const, Branch, Return, Fun, Ended, FunctionsByPath, start, run}
 use Rattle.kit_behaviour.specs.Numbering.{place_fun}
 use Rattle.kit_behaviour.specs.Places.{Place, Arg, Res, same_place}
 use Rattle.kit_behaviour.specs.SimplifiedBlocks.{branched, keep}
@@ -14,7 +14,7 @@ switch v =
     ∷ record { arguments = Arg 2 0 ∷ []; ops = Return (Arg 2 0 ∷ []) ∷ [] }
     ∷ []
 
-abbrev only : Fun Place → Program Place
+abbrev only : Fun Place → FunctionsByPath Place
 only f path = Some f
 
 at_seven : run same_place (only (switch 7)) 5 (start same_place (only (switch 7)) (1 ∷ []) []) ≡ Ended (4 ∷ []) []

@@ -1,16 +1,16 @@
 -- Worked rows, by computation.
 use Rattle.std.proofs.Common.{◌≡◌, ℕ, zero, suc, Bool, true, false, [], ◌∷◌, Some, None, refl}
-use Rattle.kit_behaviour.specs.Machine.{Add, Sub, Mul, Eql, Edge, Const, Calc, Call, Plain, Nonzero, Branch, Return, Fun, State, Going, Ended, Trapped, Program, start, run, left_in}
+use Rattle.kit_behaviour.specs.Machine.{Add, Sub, Mul, Eql, Edge, Const, Calc, Call, Plain, Nonzero, Branch, Return, Fun, State, Going, Ended, Trapped, FunctionsByPath, start, run, left_in}
 use Rattle.kit_behaviour.specs.InsertedConstants.{same_name, Made, with_constants}
 use Rattle.kit_behaviour.specs.RemovedValues.{thinned}
 use Rattle.kit_behaviour.specs.Numbering.{placed}
 use Rattle.kit_behaviour.specs.Places.{Place, Arg, Res, same_place}
-use Rattle.kit_behaviour.specs.Facts.{branch_knows, Lacks, Open, Fact, Undetermined, Known, Unknown, AtOrBelow, folds_to, Facts, OpsClosed, IsClosed, IsMostPrecise}
-use Rattle.kit_behaviour.specs.ConstantPropagation.{all_wanted, IsSccp}
+use Rattle.kit_behaviour.specs.Facts.{branch_knows, Lacks, Open, Fact, Undetermined, Known, Unknown, FactAtOrBelow, folds_to, FunctionFacts, OpsClosed, AreClosedFacts, AreMostPreciseFacts}
+use Rattle.kit_behaviour.specs.ConstantPropagation.{all_wanted, IsSccpOfFunctions}
 use Rattle.kit_behaviour.specs.DeadValues.{all_uses_dead}
 use Rattle.kit_behaviour.proofs.Lattice.FactLemmas.{at_trans, fold_mono}
 
-abbrev only : Fun Place → Program Place
+abbrev only : Fun Place → FunctionsByPath Place
 only f path = Some f
 
 abbrev plain : ℕ → Edge Place
@@ -76,10 +76,10 @@ sum_value (Res zero (suc (suc (suc o))) i) = Undetermined
 sum_value (Res (suc b) o i) = Undetermined
 sum_value (Arg b i) = Undetermined
 
-abbrev sum_facts : Facts Place
+abbrev sum_facts : FunctionFacts Place
 sum_facts = record { runs = first_runs; of = sum_value }
 
-top : (z : Fact) → AtOrBelow z Undetermined
+top : (z : Fact) → FactAtOrBelow z Undetermined
 top Undetermined = tt
 top (Known n) = tt
 top Unknown = tt
@@ -87,14 +87,14 @@ top Unknown = tt
 later_closed : (b : ℕ) → OpsClosed (Some sum) sum_facts (left_in (Some sum) (suc b) 0)
 later_closed b = tt
 
-sum_closed : IsClosed (Some sum) sum_facts
+sum_closed : AreClosedFacts (Some sum) sum_facts
 sum_closed = record { entry_runs = refl; entry_unknown = tt; ops = each }
   where
     each : (b : ℕ) → first_runs b ≡ true → OpsClosed (Some sum) sum_facts (left_in (Some sum) b 0)
     each zero r = (refl, (refl, (refl, (tt, tt))))
     each (suc b) r = later_closed b
 
-sum_least : (l : Facts Place) → IsClosed (Some sum) l → (v : Place) → AtOrBelow (l.of v) (sum_value v)
+sum_least : (l : FunctionFacts Place) → AreClosedFacts (Some sum) l → (v : Place) → FactAtOrBelow (l.of v) (sum_value v)
 sum_least l c (Res zero zero zero) = (c.ops 0 c.entry_runs).0
 sum_least l c (Res zero (suc zero) zero) = (c.ops 0 c.entry_runs).1.0
 sum_least l c (Res zero (suc (suc zero)) zero) =
@@ -107,15 +107,15 @@ sum_least l c (Res zero (suc (suc (suc o))) i) = top (l.of (Res 0 (suc (suc (suc
 sum_least l c (Res (suc b) o i) = top (l.of (Res (suc b) o i))
 sum_least l c (Arg b i) = top (l.of (Arg b i))
 
-sum_best : IsMostPrecise (Some sum) sum_facts
+sum_best : AreMostPreciseFacts (Some sum) sum_facts
 sum_best = record { closed = sum_closed; best = λ l c. record { fewer = fewer l c; above = sum_least l c } }
   where
-    fewer : (l : Facts Place) → IsClosed (Some sum) l → (b : ℕ) → first_runs b ≡ true → l.runs b ≡ true
+    fewer : (l : FunctionFacts Place) → AreClosedFacts (Some sum) l → (b : ℕ) → first_runs b ≡ true → l.runs b ≡ true
     fewer l c zero r = c.entry_runs
     fewer l c (suc b) r = absurd (cc r)
 
 -- the row: the pass of these facts, and no other, gives this
-sum_is : IsSccp all_wanted (only sum) (λ path. Some (record { arguments = []; ops = Const (Res 0 0 0) 255 ∷ Const (Res 0 1 0) 1 ∷ Const (Res 0 2 0) 0 ∷ Calc Add 8 (Res 0 3 0) (Res 0 0 0) (Res 0 1 0) ∷ Return (Res 0 2 0 ∷ []) ∷ [] } ∷ []))
+sum_is : IsSccpOfFunctions all_wanted (only sum) (λ path. Some (record { arguments = []; ops = Const (Res 0 0 0) 255 ∷ Const (Res 0 1 0) 1 ∷ Const (Res 0 2 0) 0 ∷ Calc Add 8 (Res 0 3 0) (Res 0 0 0) (Res 0 1 0) ∷ Return (Res 0 2 0 ∷ []) ∷ [] } ∷ []))
 sum_is = record { facts = λ path. sum_facts; best = λ path. sum_best; is = λ path. refl }
 
 -- a loop that only passes an argument on keeps it: the least set is empty there
@@ -129,14 +129,14 @@ loop_kept : all_uses_dead same_place (Some looping) (λ v. false) (Arg 1 0) ≡ 
 loop_kept = refl
 
 -- a branch asks nothing while a value that it forwards is undetermined, whatever decides it
-abbrev nothing_known : Facts Place
+abbrev nothing_known : FunctionFacts Place
 nothing_known = record { runs = λ b. true; of = λ v. Undetermined }
 
 asks_nothing : branch_knows nothing_known [] (record { target = 1; forwards = Arg 0 0 ∷ [] } ∷ []) ≡ Lacks
 asks_nothing = refl
 
 -- and all of its edges, where none is and one that decides it is unknown
-abbrev all_unknown : Facts Place
+abbrev all_unknown : FunctionFacts Place
 all_unknown = record { runs = λ b. true; of = λ v. Unknown }
 
 asks_all : branch_knows all_unknown (Res 0 0 0 ∷ []) (record { target = 1; forwards = Arg 0 0 ∷ [] } ∷ []) ≡ Open

@@ -1,7 +1,7 @@
 -- Dead values: what nothing needs that stays. And the pass that removes them.
 use Rattle.std.specs.Prelude.{◌≡◌, ℕ, Bool, true, false, List, [], ◌∷◌, ◌++◌, Option, Some, None, if◌then◌else◌, not}
 use Rattle.std.specs.Prelude.{◌&&◌}
-use Rattle.kit_behaviour.specs.Machine.{Edge, Op, Const, Calc, Emit, Call, Branch, Return, Block, Fun, Program}
+use Rattle.kit_behaviour.specs.Machine.{Edge, Op, Const, Calc, Emit, Call, Branch, Return, Block, Fun, FunctionsByPath}
 use Rattle.kit_behaviour.specs.Machine.{arguments_in}
 use Rattle.kit_behaviour.specs.RemovedValues.{may_trap, thin, thinned}
 use Rattle.kit_behaviour.specs.Scopes.{is_in}
@@ -69,20 +69,20 @@ HoldsDead {V} same f d = (v : V) → may_die same f v && all_uses_dead same f d 
 
 -- the dead values: the least set that holds so. Arguments that are only forwarded to each other in a loop are not in
 -- it, and stay
-pub record IsDead {V : Type 0} (same : V → V → Bool) (f : Option (Fun V)) (d : V → Bool) : Type 0 where
+pub record IsDeadSet {V : Type 0} (same : V → V → Bool) (f : Option (Fun V)) (d : V → Bool) : Type 0 where
   pub holds : HoldsDead same f d
   pub least : (e : V → Bool) → HoldsDead same f e → (v : V) → d v ≡ true → e v ≡ true
 
 -- q is what the pass makes of p: each function without its dead values, then values named by their places again
-pub record IsDce (p q : Program Place) : Type 0 where
+pub record IsDceOfFunctions (p q : FunctionsByPath Place) : Type 0 where
   pub set : List ℕ → Place → Bool
-  pub dead : (path : List ℕ) → IsDead same_place (p path) (set path)
+  pub dead : (path : List ℕ) → IsDeadSet same_place (p path) (set path)
   pub is : (path : List ℕ) → q path ≡ placed same_place (thinned set p) path
 
 -- g is what the pass makes of the function f
-pub record Removes (f g : Option (Fun Place)) : Type 0 where
+pub record RemovesDeadValues (f g : Option (Fun Place)) : Type 0 where
   pub set : Place → Bool
-  pub dead : IsDead same_place f set
+  pub dead : IsDeadSet same_place f set
   pub is : g ≡ place_fun same_place (thin set f)
 
 -- what the pass leaves: nothing is dead, so the empty set holds all that it has to

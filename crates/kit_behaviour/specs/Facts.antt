@@ -11,14 +11,14 @@ pub data Fact : Type 0 where
   Unknown : Fact
 
 -- the first is at or below the second in the lattice
-abbrev pub AtOrBelow : Fact → Fact → Type 0
-AtOrBelow Unknown y = Unit {0}
-AtOrBelow Undetermined Undetermined = Unit {0}
-AtOrBelow (Known n) Undetermined = Unit {0}
-AtOrBelow (Known n) (Known m) = n ≡ m
-AtOrBelow Undetermined (Known m) = ⊥
-AtOrBelow Undetermined Unknown = ⊥
-AtOrBelow (Known n) Unknown = ⊥
+abbrev pub FactAtOrBelow : Fact → Fact → Type 0
+FactAtOrBelow Unknown y = Unit {0}
+FactAtOrBelow Undetermined Undetermined = Unit {0}
+FactAtOrBelow (Known n) Undetermined = Unit {0}
+FactAtOrBelow (Known n) (Known m) = n ≡ m
+FactAtOrBelow Undetermined (Known m) = ⊥
+FactAtOrBelow Undetermined Unknown = ⊥
+FactAtOrBelow (Known n) Unknown = ⊥
 
 -- an operation that traps isn't folded
 abbrev pub fold_known : Option ℕ → Fact
@@ -37,23 +37,23 @@ folds_to a w Unknown (Known m) = Unknown
 folds_to a w Unknown Unknown = Unknown
 
 -- which blocks are known to run, and what is known of each value. Of values that don't occur nothing is known
-pub record Facts (V : Type 0) : Type 0 where
+pub record FunctionFacts (V : Type 0) : Type 0 where
   pub runs : ℕ → Bool
   pub of : V → Fact
 
-abbrev pub AllUnknown : {V : Type 0} → Facts V → List V → Type 0
+abbrev pub AllUnknown : {V : Type 0} → FunctionFacts V → List V → Type 0
 AllUnknown k [] = Unit {0}
 AllUnknown k (v ∷ vs) = (k.of v ≡ Unknown) × AllUnknown k vs
 
 -- each of the first is at or below its partner among the second
-abbrev pub AllBelow : {V : Type 0} → Facts V → List V → List V → Type 0
-AllBelow k [] gs = Unit {0}
-AllBelow k (t ∷ ts) [] = Unit {0}
-AllBelow k (t ∷ ts) (g ∷ gs) = AtOrBelow (k.of t) (k.of g) × AllBelow k ts gs
+abbrev pub AllFactsAtOrBelow : {V : Type 0} → FunctionFacts V → List V → List V → Type 0
+AllFactsAtOrBelow k [] gs = Unit {0}
+AllFactsAtOrBelow k (t ∷ ts) [] = Unit {0}
+AllFactsAtOrBelow k (t ∷ ts) (g ∷ gs) = FactAtOrBelow (k.of t) (k.of g) × AllFactsAtOrBelow k ts gs
 
 -- an edge that may be taken: its target runs, and the target's arguments are at or below what is forwarded to them
-abbrev pub EdgeClosed : {V : Type 0} → Option (Fun V) → Facts V → Edge V → Type 0
-EdgeClosed f k e = (k.runs e.target ≡ true) × AllBelow k (arguments_in f e.target) e.forwards
+abbrev pub EdgeClosedIn : {V : Type 0} → Option (Fun V) → FunctionFacts V → Edge V → Type 0
+EdgeClosedIn f k e = (k.runs e.target ≡ true) × AllFactsAtOrBelow k (arguments_in f e.target) e.forwards
 
 -- what is known of some values together: one is undetermined; all are numbers; or none is undetermined and one is
 -- unknown
@@ -88,43 +88,43 @@ unless_lacking Open q = q
 
 -- what is known of the operands xs that decide a branch; nothing while any operand of it is undetermined, those that
 -- it forwards along its edges es too
-abbrev pub branch_knows : {V : Type 0} → Facts V → List V → List (Edge V) → Knows
+abbrev pub branch_knows : {V : Type 0} → FunctionFacts V → List V → List (Edge V) → Knows
 branch_knows k xs es = unless_lacking (knows (map k.of (all_forwarded es))) (knows (map k.of xs))
 
 -- what a branch asks: nothing while an operand is undetermined; of known operands, that each edge to the block of the
 -- chosen edge may be taken (two edges to one block both count); else that each edge may be taken
-abbrev pub BranchClosed :
-    {V : Type 0} → Option (Fun V) → Facts V → Select → Knows → Edge V → List (Edge V) → Type 0
-BranchClosed f k s Lacks e es = Unit {0}
-BranchClosed f k s (Numbers ns) e es =
-    AllEdges (λ x. x.target ≡ (edge_at e es (chosen s ns)).target → EdgeClosed f k x) (e ∷ es)
-BranchClosed f k s Open e es = AllEdges (EdgeClosed f k) (e ∷ es)
+abbrev pub BranchClosedIn :
+    {V : Type 0} → Option (Fun V) → FunctionFacts V → Select → Knows → Edge V → List (Edge V) → Type 0
+BranchClosedIn f k s Lacks e es = Unit {0}
+BranchClosedIn f k s (Numbers ns) e es =
+    AllEdges (λ x. x.target ≡ (edge_at e es (chosen s ns)).target → EdgeClosedIn f k x) (e ∷ es)
+BranchClosedIn f k s Open e es = AllEdges (EdgeClosedIn f k) (e ∷ es)
 
 -- what an operation of a block that runs asks: its results are at or below what it folds to (of a call: unknown)
-abbrev pub OpClosed : {V : Type 0} → Option (Fun V) → Facts V → Op V → Type 0
-OpClosed f k (Const r n) = AtOrBelow (k.of r) (Known n)
-OpClosed f k (Calc a w r x y) = AtOrBelow (k.of r) (folds_to a w (k.of x) (k.of y))
+abbrev pub OpClosed : {V : Type 0} → Option (Fun V) → FunctionFacts V → Op V → Type 0
+OpClosed f k (Const r n) = FactAtOrBelow (k.of r) (Known n)
+OpClosed f k (Calc a w r x y) = FactAtOrBelow (k.of r) (folds_to a w (k.of x) (k.of y))
 OpClosed f k (Emit x) = Unit {0}
 OpClosed f k (Call rs c xs) = AllUnknown k rs
-OpClosed f k (Branch s xs e es) = BranchClosed f k s (branch_knows k xs (e ∷ es)) e es
+OpClosed f k (Branch s xs e es) = BranchClosedIn f k s (branch_knows k xs (e ∷ es)) e es
 OpClosed f k (Return xs) = Unit {0}
 
-abbrev pub OpsClosed : {V : Type 0} → Option (Fun V) → Facts V → List (Op V) → Type 0
+abbrev pub OpsClosed : {V : Type 0} → Option (Fun V) → FunctionFacts V → List (Op V) → Type 0
 OpsClosed f k [] = Unit {0}
 OpsClosed f k (op ∷ ops) = OpClosed f k op × OpsClosed f k ops
 
 -- facts that no operation of a block that runs contradicts; the entry runs, on unknown arguments
-pub record IsClosed {V : Type 0} (f : Option (Fun V)) (k : Facts V) : Type 0 where
+pub record AreClosedFacts {V : Type 0} (f : Option (Fun V)) (k : FunctionFacts V) : Type 0 where
   pub entry_runs : k.runs 0 ≡ true
   pub entry_unknown : AllUnknown k (arguments_in f 0)
   pub ops : (b : ℕ) → k.runs b ≡ true → OpsClosed f k (left_in f b 0)
 
 -- the first are at least as precise as the second: fewer blocks run, and each value is at or above
-pub record MorePrecise {V : Type 0} (k l : Facts V) : Type 0 where
+pub record FactsMorePrecise {V : Type 0} (k l : FunctionFacts V) : Type 0 where
   pub fewer : (b : ℕ) → k.runs b ≡ true → l.runs b ≡ true
-  pub above : (v : V) → AtOrBelow (l.of v) (k.of v)
+  pub above : (v : V) → FactAtOrBelow (l.of v) (k.of v)
 
 -- closed, and at least as precise as all closed facts
-pub record IsMostPrecise {V : Type 0} (f : Option (Fun V)) (k : Facts V) : Type 0 where
-  pub closed : IsClosed f k
-  pub best : (l : Facts V) → IsClosed f l → MorePrecise k l
+pub record AreMostPreciseFacts {V : Type 0} (f : Option (Fun V)) (k : FunctionFacts V) : Type 0 where
+  pub closed : AreClosedFacts f k
+  pub best : (l : FunctionFacts V) → AreClosedFacts f l → FactsMorePrecise k l

@@ -37,7 +37,7 @@ Chains j f zero ops = JoinsTo j (λ t. ⊥) ops
 Chains j f (suc k) ops = JoinsTo j (λ t. (arguments_in f t ≡ []) × Chains j f k (left_in f t 0)) ops
 
 -- g is f with the blocks of the set joined behind those that lead to them
-pub record Joins {V : Type 0} (j : ℕ → Bool) (k : ℕ) (f g : Option (Fun V)) : Type 0 where
+pub record JoinsBlocksOf {V : Type 0} (j : ℕ → Bool) (k : ℕ) (f g : Option (Fun V)) : Type 0 where
   pub entry : j 0 ≡ false
   pub arguments : (b : ℕ) → j b ≡ false → arguments_in g b ≡ arguments_in f b
   pub left : (b : ℕ) → j b ≡ false → left_in g b 0 ≡ joined j f k (left_in f b 0)

@@ -2,7 +2,7 @@
 use Rattle.std.specs.Prelude.{◌≡◌, ℕ, true, List, [], ◌∷◌, Option}
 use Rattle.kit_behaviour.specs.Machine.{Op, Const, Calc, Emit, Call, Branch, Return, Fun, left_in}
 use Rattle.kit_behaviour.specs.Scopes.{In}
-use Rattle.kit_behaviour.specs.Facts.{Facts, Known, IsMostPrecise}
+use Rattle.kit_behaviour.specs.Facts.{FunctionFacts, Known, AreMostPreciseFacts}
 use Rattle.kit_behaviour.specs.Rules.{operands}
 use Rattle.kit_behaviour.specs.Places.{Place}
 
@@ -21,11 +21,11 @@ abbrev pub NamesConstant : {V : Type 0} → Option (Fun V) → V → Type 0
 NamesConstant g y = (b : ℕ) × In y (const_defs (left_in g b 0))
 
 -- in each block that the facts know to run, each operand that they know to be a number is the result of a constant
-abbrev pub KnownAreConstants : Option (Fun Place) → Facts Place → Type 0
+abbrev pub KnownAreConstants : Option (Fun Place) → FunctionFacts Place → Type 0
 KnownAreConstants f k =
     (b : ℕ) → k.runs b ≡ true → (op : Op Place) → In op (left_in f b 0) → (x : Place) → In x (operands op) → (n : ℕ)
     → k.of x ≡ Known n → NamesConstant f x
 
 -- what constant propagation leaves: the function has most precise facts, and by these each known operand is a constant
-abbrev pub IsPropagated : Option (Fun Place) → Type 0
-IsPropagated f = (k : Facts Place) × IsMostPrecise f k × KnownAreConstants f k
+abbrev pub KnownArePropagated : Option (Fun Place) → Type 0
+KnownArePropagated f = (k : FunctionFacts Place) × AreMostPreciseFacts f k × KnownAreConstants f k

@@ -91,8 +91,8 @@ abbrev pub Fun : Type 0 → Type 0
 Fun V = List (Block V)
 
 -- the functions below a root, by their paths; a path has the innermost name first
-abbrev pub Program : Type 0 → Type 0
-Program V = List ℕ → Option (Fun V)
+abbrev pub FunctionsByPath : Type 0 → Type 0
+FunctionsByPath V = List ℕ → Option (Fun V)
 
 -- how many blocks a function has
 abbrev pub size : {V : Type 0} → Option (Fun V) → ℕ
@@ -186,7 +186,7 @@ effect same fun f (Branch s xs e es ∷ ops) = Next (go same fun f (edge_at e es
 effect same fun f (Return xs ∷ ops) = Exit (map f.env xs)
 
 -- what the frame's operation does
-abbrev pub act : {V : Type 0} → (V → V → Bool) → Program V → Frame V → Effect V
+abbrev pub act : {V : Type 0} → (V → V → Bool) → FunctionsByPath V → Frame V → Effect V
 act same p f = effect same (p f.path) f (left_in (p f.path) f.block f.index)
 
 -- the path of a callee: a function of the nearest enclosing module
@@ -195,7 +195,7 @@ beside [] name = name ∷ []
 beside (own ∷ path) name = name ∷ path
 
 -- the frame of a call: at the entry's first operation, its arguments bound
-abbrev pub entry : {V : Type 0} → (V → V → Bool) → Program V → List ℕ → List ℕ → Frame V
+abbrev pub entry : {V : Type 0} → (V → V → Bool) → FunctionsByPath V → List ℕ → List ℕ → Frame V
 entry same p path xs =
     record { path = path; block = 0; index = 0; env = bind_all same (λ v. 0) (arguments_in (p path) 0) xs }
 
@@ -204,16 +204,16 @@ results_of (Call rs callee xs ∷ ops) = rs
 results_of _ = []
 
 -- a frame that waits at a call goes on, the call's results bound to what was returned
-abbrev pub resume : {V : Type 0} → (V → V → Bool) → Program V → Frame V → List ℕ → Frame V
+abbrev pub resume : {V : Type 0} → (V → V → Bool) → FunctionsByPath V → Frame V → List ℕ → Frame V
 resume same p f ns = next f (bind_all same f.env (results_of (left_in (p f.path) f.block f.index)) ns)
 
 -- a return to the frame that waits; from the first frame the run has ended
-abbrev pub return_to : {V : Type 0} → (V → V → Bool) → Program V → List (Frame V) → List ℕ → List ℕ → State V
+abbrev pub return_to : {V : Type 0} → (V → V → Bool) → FunctionsByPath V → List (Frame V) → List ℕ → List ℕ → State V
 return_to same p [] ns out = Ended ns out
 return_to same p (f ∷ fs) ns out = Going (resume same p f ns ∷ fs) out
 
 -- the state after an effect of the frame f above the frames fs
-abbrev pub done : {V : Type 0} → (V → V → Bool) → Program V → Frame V → List (Frame V) → List ℕ → Effect V → State V
+abbrev pub done : {V : Type 0} → (V → V → Bool) → FunctionsByPath V → Frame V → List (Frame V) → List ℕ → Effect V → State V
 done same p f fs out (Next g) = Going (g ∷ fs) out
 done same p f fs out (Out n g) = Going (g ∷ fs) (out ++ n ∷ [])
 done same p f fs out (Enter callee xs) = Going (entry same p (beside f.path callee) xs ∷ f ∷ fs) out
@@ -222,19 +222,19 @@ done same p f fs out Fault = Trapped out
 done same p f fs out Lost = Going (f ∷ fs) out
 
 -- one step; a run that is over stays as it is
-abbrev pub step : {V : Type 0} → (V → V → Bool) → Program V → State V → State V
+abbrev pub step : {V : Type 0} → (V → V → Bool) → FunctionsByPath V → State V → State V
 step same p (Going [] out) = Going [] out
 step same p (Going (f ∷ fs) out) = done same p f fs out (act same p f)
 step same p (Ended ns out) = Ended ns out
 step same p (Trapped out) = Trapped out
 
 -- the state after n steps, so after at most n steps of a run that ends
-abbrev pub run : {V : Type 0} → (V → V → Bool) → Program V → ℕ → State V → State V
+abbrev pub run : {V : Type 0} → (V → V → Bool) → FunctionsByPath V → ℕ → State V → State V
 run same p zero s = s
 run same p (suc n) s = run same p n (step same p s)
 
 -- a run of the function with this path on these numbers
-abbrev pub start : {V : Type 0} → (V → V → Bool) → Program V → List ℕ → List ℕ → State V
+abbrev pub start : {V : Type 0} → (V → V → Bool) → FunctionsByPath V → List ℕ → List ℕ → State V
 start same p path xs = Going (entry same p path xs ∷ []) []
 
 -- 3. behaviour
@@ -257,13 +257,13 @@ Shown (Trapped out) t = t ≡ Trapped out
 
 -- whatever p shows in n steps q shows in at most n * c steps, of each function, on any numbers
 abbrev pub FollowsWithin :
-    {V W : Type 0} → (V → V → Bool) → (W → W → Bool) → ℕ → Program V → Program W → Type 0
+    {V W : Type 0} → (V → V → Bool) → (W → W → Bool) → ℕ → FunctionsByPath V → FunctionsByPath W → Type 0
 FollowsWithin same same' c p q =
     (path xs : List ℕ) (n : ℕ)
     → (m : ℕ) × (m ≤ n * c) × Shown (run same p n (start same p path xs)) (run same' q m (start same' q path xs))
 
 -- the two programs behave alike, and neither takes more than c times as many steps as the other
-pub record Alike {V W : Type 0} (same : V → V → Bool) (same' : W → W → Bool) (c : ℕ) (p : Program V) (q : Program W)
+pub record Alike {V W : Type 0} (same : V → V → Bool) (same' : W → W → Bool) (c : ℕ) (p : FunctionsByPath V) (q : FunctionsByPath W)
     : Type 0 where
   pub there : FollowsWithin same same' c p q
   pub back : FollowsWithin same' same c q p

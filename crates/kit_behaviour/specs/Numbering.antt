@@ -1,7 +1,7 @@
 -- Values named by their places again: the one numbering, so that equal functions are the same.
 use Rattle.std.specs.Prelude.{◌≡◌, ℕ, suc, Bool, List, [], ◌∷◌, map, Option, Some, None, if◌then◌else◌, option_map}
 use Rattle.std.specs.Prelude.{unwrap_or}
-use Rattle.kit_behaviour.specs.Machine.{Op, Block, Fun, Program, left_in, arguments_in}
+use Rattle.kit_behaviour.specs.Machine.{Op, Block, Fun, FunctionsByPath, left_in, arguments_in}
 use Rattle.kit_behaviour.specs.Renaming.{rename_op, AllNamed, OpsNamed, same_block}
 use Rattle.kit_behaviour.specs.Scopes.{defs}
 use Rattle.kit_behaviour.specs.Places.{Place, Arg, Res}
@@ -48,7 +48,7 @@ place_fun same None = None
 place_fun same (Some f) = Some (map (place_block (place_of same f)) f)
 
 -- each function, its values named by their places
-abbrev pub placed : {V : Type 0} → (V → V → Bool) → Program V → Program Place
+abbrev pub placed : {V : Type 0} → (V → V → Bool) → FunctionsByPath V → FunctionsByPath Place
 placed same p path = place_fun same (p path)
 
 -- the name is defined in the function
@@ -61,6 +61,6 @@ abbrev pub AnyBlock : ℕ → Type 0
 AnyBlock b = Unit {0}
 
 -- each name that occurs is defined
-pub record IsDefined {V : Type 0} (same : V → V → Bool) (f : Option (Fun V)) : Type 0 where
+pub record NamesAreDefined {V : Type 0} (same : V → V → Bool) (f : Option (Fun V)) : Type 0 where
   pub ops : (b : ℕ) → OpsNamed (HasPlace same f) AnyBlock (left_in f b 0)
   pub arguments : (b : ℕ) → AllNamed (HasPlace same f) (arguments_in f b)

@@ -3,7 +3,7 @@
 use Rattle.std.specs.Prelude.{◌≡◌, ℕ, suc, ◌<◌, Bool, true, false, List, [], ◌∷◌, map, Option, Some, None}
 use Rattle.std.specs.Prelude.{if◌then◌else◌}
 use Rattle.kit_behaviour.specs.Machine.{Arith, Div, AllEdges, Edge, Op, Const, Calc, Emit, Call, Branch, Return, Block}
-use Rattle.kit_behaviour.specs.Machine.{Fun, Program, left_in, arguments_in}
+use Rattle.kit_behaviour.specs.Machine.{Fun, FunctionsByPath, left_in, arguments_in}
 
 -- arithmetic that may trap: it is never removed
 abbrev pub may_trap : Arith → Bool
@@ -55,7 +55,7 @@ thin d None = None
 thin d (Some f) = Some (map (thin_block (Some f) d) f)
 
 -- each function without its set
-abbrev pub thinned : {V : Type 0} → (List ℕ → V → Bool) → Program V → Program V
+abbrev pub thinned : {V : Type 0} → (List ℕ → V → Bool) → FunctionsByPath V → FunctionsByPath V
 thinned d p path = thin (d path) (p path)
 
 -- none of these is in the set
@@ -88,7 +88,7 @@ OpsLive f d [] = Unit {0}
 OpsLive f d (op ∷ ops) = (goes d op ≡ false → OpLive f d op) × OpsLive f d ops
 
 -- the set may go: no operation that stays uses it, and the entry keeps its arguments
-pub record MayGo {V : Type 0} (d : V → Bool) (f : Option (Fun V)) : Type 0 where
+pub record SetMayGo {V : Type 0} (d : V → Bool) (f : Option (Fun V)) : Type 0 where
   pub entry : AllLive d (arguments_in f 0)
   pub uses : (b : ℕ) → OpsLive f d (left_in f b 0)
 
@@ -98,5 +98,5 @@ going d [] = 0
 going d (op ∷ ops) = if goes d op then suc (going d ops) else going d ops
 
 -- fewer than c operations of each block go
-abbrev pub FewGo : {V : Type 0} → ℕ → (List ℕ → V → Bool) → Program V → Type 0
+abbrev pub FewGo : {V : Type 0} → ℕ → (List ℕ → V → Bool) → FunctionsByPath V → Type 0
 FewGo c d p = (path : List ℕ) (b : ℕ) → going (d path) (left_in (p path) b 0) < c

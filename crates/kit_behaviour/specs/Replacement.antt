@@ -1,7 +1,7 @@
 -- Other values in the places of operands.
 use Rattle.std.specs.Prelude.{◌≡◌, ◌⊎◌, ℕ, List, map, Option, Some, None}
-use Rattle.kit_behaviour.specs.Machine.{Edge, Op, Const, Calc, Emit, Call, Branch, Return, Block, Fun, Program}
-use Rattle.kit_behaviour.specs.Facts.{Known, Facts}
+use Rattle.kit_behaviour.specs.Machine.{Edge, Op, Const, Calc, Emit, Call, Branch, Return, Block, Fun, FunctionsByPath}
+use Rattle.kit_behaviour.specs.Facts.{Known, FunctionFacts}
 
 -- the values that an edge forwards, each replaced by the one that s gives
 abbrev pub replace_edge : {V : Type 0} → (V → V) → Edge V → Edge V
@@ -26,9 +26,9 @@ replace s None = None
 replace s (Some f) = Some (map (replace_block s) f)
 
 -- the operands of each function replaced, by a map for each
-abbrev pub replaced : {V : Type 0} → (List ℕ → V → V) → Program V → Program V
+abbrev pub replaced : {V : Type 0} → (List ℕ → V → V) → FunctionsByPath V → FunctionsByPath V
 replaced s p path = replace (s path) (p path)
 
 -- each value is its own replacement, or its replacement is known to be the same number
-abbrev pub SameKnown : {V : Type 0} → Facts V → (V → V) → Type 0
+abbrev pub SameKnown : {V : Type 0} → FunctionFacts V → (V → V) → Type 0
 SameKnown {V} k s = (v : V) → (s v ≡ v) ⊎ ((n : ℕ) × (k.of v ≡ Known n) × (k.of (s v) ≡ Known n))

@@ -2,7 +2,7 @@
 use Rattle.std.specs.Prelude.{◌≡◌, ℕ, zero, suc, ◌<◌, ◌≤◌, ◌+◌, Bool, true, false, List, [], ◌∷◌, ◌++◌, length, Option}
 use Rattle.std.specs.Prelude.{Some, None}
 use Rattle.kit_behaviour.specs.Machine.{AllEdges, Edge, Op, Const, Calc, Emit, Call, Branch, Return, Block, Fun}
-use Rattle.kit_behaviour.specs.Machine.{Program, left_in, arguments_in, size}
+use Rattle.kit_behaviour.specs.Machine.{FunctionsByPath, left_in, arguments_in, size}
 use Rattle.kit_behaviour.specs.Facts.{all_forwarded}
 use Rattle.kit_behaviour.specs.Scopes.{AllIn, defs, SameLength, BlocksWith}
 use Rattle.kit_behaviour.specs.Places.{Place, Arg, Res}
@@ -52,14 +52,14 @@ pub record EdgeFits {V : Type 0} (f : Option (Fun V)) (e : Edge V) : Type 0 wher
   pub leads : e.target < size f
 
 -- each edge of an operation fits
-abbrev pub EdgesFit : {V : Type 0} → Option (Fun V) → Op V → Type 0
-EdgesFit f (Branch s xs e es) = AllEdges (EdgeFits f) (e ∷ es)
-EdgesFit f _ = Unit {0}
+abbrev pub EdgesOfOpFit : {V : Type 0} → Option (Fun V) → Op V → Type 0
+EdgesOfOpFit f (Branch s xs e es) = AllEdges (EdgeFits f) (e ∷ es)
+EdgesOfOpFit f _ = Unit {0}
 
 -- each edge of these operations fits
 abbrev pub AllEdgesFit : {V : Type 0} → Option (Fun V) → List (Op V) → Type 0
 AllEdgesFit f [] = Unit {0}
-AllEdgesFit f (op ∷ ops) = EdgesFit f op × AllEdgesFit f ops
+AllEdgesFit f (op ∷ ops) = EdgesOfOpFit f op × AllEdgesFit f ops
 
 -- n places from the ith on
 abbrev pub from : (ℕ → Place) → ℕ → ℕ → List Place
@@ -86,7 +86,7 @@ pub record Rules (f : Option (Fun Place)) : Type 0 where
   pub args : (b : ℕ) → arguments_in f b ≡ from (Arg b) 0 (length (arguments_in f b))
 
 -- each block of these functions has fewer than c operations
-abbrev pub BlocksBelow : ℕ → Program Place → Type 0
+abbrev pub BlocksBelow : ℕ → FunctionsByPath Place → Type 0
 BlocksBelow c p = (path : List ℕ) (b : ℕ) → length (left_in (p path) b 0) < c
 
 -- how many operations these blocks have
@@ -100,5 +100,5 @@ operation_count None = 0
 operation_count (Some f) = operations_of f
 
 -- no function has more than c operations
-abbrev pub OperationsWithin : ℕ → Program Place → Type 0
+abbrev pub OperationsWithin : ℕ → FunctionsByPath Place → Type 0
 OperationsWithin c p = (path : List ℕ) → operation_count (p path) ≤ c

@@ -1,9 +1,9 @@
 -- The pass on control flow: branches that constants decide, blocks that are not reached, and chains of blocks.
 use Rattle.std.specs.Prelude.{◌≡◌, ◌⊎◌, ◌↔◌, ◌≤◌, ◌<◌, ℕ, zero, suc, Bool, true, false, not, List, [], ◌∷◌, ◌++◌, map}
 use Rattle.std.specs.Prelude.{Option, Some, None, if◌then◌else◌, slice_get, nat_eq}
-use Rattle.kit_behaviour.specs.Machine.{Edge, Op, Const, Calc, Emit, Call, Branch, Return, Block, Fun, Program, left_in}
+use Rattle.kit_behaviour.specs.Machine.{Edge, Op, Const, Calc, Emit, Call, Branch, Return, Block, Fun, FunctionsByPath, left_in}
 use Rattle.kit_behaviour.specs.Machine.{arguments_in, size}
-use Rattle.kit_behaviour.specs.Facts.{Fact, Known, Unknown, Facts}
+use Rattle.kit_behaviour.specs.Facts.{Fact, Known, Unknown, FunctionFacts}
 use Rattle.kit_behaviour.specs.Replacement.{replace}
 use Rattle.kit_behaviour.specs.RemovedValues.{thin}
 use Rattle.kit_behaviour.specs.Scopes.{In}
@@ -30,7 +30,7 @@ const_value f (Arg b i) = Unknown
 const_value f (Res b o i) = const_fact (slice_get (left_in f b 0) o)
 
 -- these facts; each block may run
-abbrev pub constants : Option (Fun Place) → Facts Place
+abbrev pub constants : Option (Fun Place) → FunctionFacts Place
 constants f = record { runs = λ b. true; of = const_value f }
 
 -- 2. blocks that no path from the entry reaches
@@ -60,7 +60,7 @@ pub data Reached {V : Type 0} (f : Option (Fun V)) : ℕ → Type 0 where
   further : (b t : ℕ) → Reached f b → LeadsTo t (all_edges (left_in f b 0)) → Reached f t
 
 -- the set r is that of the blocks that are reached
-pub record IsReached {V : Type 0} (f : Option (Fun V)) (r : ℕ → Bool) : Type 0 where
+pub record IsReachedSet {V : Type 0} (f : Option (Fun V)) (r : ℕ → Bool) : Type 0 where
   pub sound : (b : ℕ) → r b ≡ true → Reached f b
   pub full : (b : ℕ) → Reached f b → r b ≡ true
 
@@ -131,7 +131,7 @@ edges_in (Some f) = blocks_edges f
 
 -- b ends in a branch with one edge, to t, another block that is not the entry, and no other edge of the function
 -- leads to t
-pub record Joinable {V : Type 0} (f : Option (Fun V)) (b t : ℕ) : Type 0 where
+pub record BlocksAreJoinable {V : Type 0} (f : Option (Fun V)) (b t : ℕ) : Type 0 where
   pub edge : Edge V
   pub last : last_edge (left_in f b 0) ≡ Some edge
   pub target : edge.target ≡ t
@@ -140,14 +140,14 @@ pub record Joinable {V : Type 0} (f : Option (Fun V)) (b t : ℕ) : Type 0 where
   pub single : count_to t (edges_in f) ≡ 1
 
 -- the set j is that of the later blocks of chains: those that are joined behind another
-pub record IsTaken {V : Type 0} (f : Option (Fun V)) (j : ℕ → Bool) : Type 0 where
-  pub there : (t : ℕ) → j t ≡ true → (b : ℕ) × Joinable f b t
-  pub back : (b t : ℕ) → Joinable f b t → j t ≡ true
+pub record IsJoinedSet {V : Type 0} (f : Option (Fun V)) (j : ℕ → Bool) : Type 0 where
+  pub there : (t : ℕ) → j t ≡ true → (b : ℕ) × BlocksAreJoinable f b t
+  pub back : (b t : ℕ) → BlocksAreJoinable f b t → j t ≡ true
 
 -- the block is the nth further one of its chain
 pub data Depth {V : Type 0} (f : Option (Fun V)) (j : ℕ → Bool) : ℕ → ℕ → Type 0 where
   top : (b n : ℕ) → j b ≡ false → n ≡ 0 → Depth f j b n
-  below : (b t m n : ℕ) → Joinable f b t → n ≡ suc m → Depth f j b m → Depth f j t n
+  below : (b t m n : ℕ) → BlocksAreJoinable f b t → n ≡ suc m → Depth f j b m → Depth f j t n
 
 -- what the first of these edges to block t forwards
 abbrev pub forwarded_to : {V : Type 0} → ℕ → List (Edge V) → List V
@@ -157,7 +157,7 @@ forwarded_to t (e ∷ es) = if nat_eq e.target t then e.forwards else forwarded_
 module _ {V : Type 0} (j : ℕ → Bool) (f : Option (Fun V)) where
   -- v is an argument of a chain's later block (j is the set of these), and u is what the one edge to that block
   -- forwards to it
-  pub record IsGiven (v u : V) : Type 0 where
+  pub record IsGivenInChain (v u : V) : Type 0 where
     pub block : ℕ
     pub later : j block ≡ true
     pub place : ℕ
@@ -165,9 +165,9 @@ module _ {V : Type 0} (j : ℕ → Bool) (f : Option (Fun V)) where
     pub gives : slice_get (forwarded_to block (edges_in f)) place ≡ Some u
 
   -- v stands for u: followed until nothing is given
-  pub data StandsFor : V → V → Type 0 where
-    itself : (v u : V) → ((w : V) → IsGiven v w → ⊥) → u ≡ v → StandsFor v u
-    passed_on : (v w u : V) → IsGiven v w → StandsFor w u → StandsFor v u
+  pub data StandsForInChain : V → V → Type 0 where
+    itself : (v u : V) → ((w : V) → IsGivenInChain v w → ⊥) → u ≡ v → StandsForInChain v u
+    passed_on : (v w u : V) → IsGivenInChain v w → StandsForInChain w u → StandsForInChain v u
 
   -- v is an argument of a chain's later block
   abbrev pub IsLaterArgument : V → Type 0
@@ -191,11 +191,11 @@ merged j gone s k f = keep (λ b. not (j b)) (join_fun j k (thin gone (replace s
 -- gives the same g; where following an argument comes back to it there is no g
 pub record Merges {V : Type 0} (f g : Option (Fun V)) : Type 0 where
   pub later : ℕ → Bool
-  pub is_later : IsTaken f later
+  pub is_later : IsJoinedSet f later
   pub gone : V → Bool
   pub is_gone : (v : V) → (gone v ≡ true) ↔ IsLaterArgument later f v
   pub names : V → V
-  pub follows : (v : V) → StandsFor later f v (names v)
+  pub follows : (v : V) → StandsForInChain later f v (names v)
   pub most : ℕ
   pub long : (b n : ℕ) → Depth f later b n → n ≤ most
   pub is : g ≡ merged later gone names most f
@@ -212,16 +212,16 @@ branched f = decide (constants f) f
 
 -- g is what the pass makes of f: branches decided, then blocks that are not reached dropped, then chains joined;
 -- values are named by their places after each of the last two
-pub record Simplifies (f g : Option (Fun Place)) : Type 0 where
+pub record SimplifiesFunction (f g : Option (Fun Place)) : Type 0 where
   pub reach : ℕ → Bool
-  pub reached : IsReached (branched f) reach
+  pub reached : IsReachedSet (branched f) reach
   pub merges : IsMerged (place_fun same_place (keep reach (branched f))) g
 
 -- q is what the pass makes of p, function by function
-pub record IsSimplify (p q : Program Place) : Type 0 where
-  pub each : (path : List ℕ) → Simplifies (p path) (q path)
+pub record IsSimplifyOfFunctions (p q : FunctionsByPath Place) : Type 0 where
+  pub each : (path : List ℕ) → SimplifiesFunction (p path) (q path)
 
 -- what the pass leaves: each block is reached, and none may be joined behind another
-pub record IsSimplified {V : Type 0} (f : Option (Fun V)) : Type 0 where
+pub record IsSimplifiedFunction {V : Type 0} (f : Option (Fun V)) : Type 0 where
   pub reached : (b : ℕ) → b < size f → Reached f b
-  pub joined : (b t : ℕ) → Joinable f b t → ⊥
+  pub joined : (b t : ℕ) → BlocksAreJoinable f b t → ⊥

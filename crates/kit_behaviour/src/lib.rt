@@ -4,8 +4,8 @@
 
 ghost use Rattle.kit_behaviour.specs.Laws.{SccpAlike, DceAlike, SimplifyAlike, PassAlike, FiniteIsFit, PassesAlike};
 ghost use Rattle.kit_behaviour.specs.Laws.{PassesKeepRules, PassesKeepBounds, PassesKeepFaces, PassesExist, OneResult};
-ghost use Rattle.kit_behaviour.specs.Laws.{ListsCut, SccpGoal, DceGoal, SimplifyGoal, PassesGoal, DceSettles};
-ghost use Rattle.kit_behaviour.specs.Laws.{LeanSccpSettles, BestExists, DeadExists, OneBest, ScopesDetermined};
+ghost use Rattle.kit_behaviour.specs.Laws.{ListsCut, SccpOfFunctionsGoal, DceOfFunctionsGoal, SimplifyOfFunctionsGoal, PassesGoal, DceSettles};
+ghost use Rattle.kit_behaviour.specs.Laws.{LeanSccpSettles, BestExists, DeadExists, OneBestOfFunction, ScopesDetermined};
 ghost use Rattle.kit_behaviour.specs.Laws.{FactsStay, ValueFactsKept, BlockFactsKept, KnownAreNamed};
 ghost use Rattle.kit_behaviour.specs.Laws.{NumberingForgetsNames, NumberingStays, ConstantsAlike, RemovalAlike};
 ghost use Rattle.kit_behaviour.specs.Laws.{DecisionsAlike, ForwardingAlike, JoiningAlike, MergingByPlace};
@@ -74,17 +74,17 @@ pub fn lists_cut()
 
 /// After constant propagation each operand that the result's own most precise facts know is the result of a constant.
 pub fn sccp_goal()
-    ensures { SccpGoal }
+    ensures { SccpOfFunctionsGoal }
 {}
 
 /// After removal of dead values nothing is dead.
 pub fn dce_goal()
-    ensures { DceGoal }
+    ensures { DceOfFunctionsGoal }
 {}
 
 /// After the pass on control flow each block is reached, and no block may be joined behind another.
 pub fn simplify_goal()
-    ensures { SimplifyGoal }
+    ensures { SimplifyOfFunctionsGoal }
 {}
 
 /// A second removal of dead values, straight after the first, changes nothing.
@@ -110,7 +110,7 @@ pub fn analyses_exist()
 
 /// A function has one most precise list of facts at most.
 pub fn one_best()
-    ensures { OneBest }
+    ensures { OneBestOfFunction }
 {}
 
 /// The most precise facts leave no value undetermined that is in scope in a block known to run.

@@ -16,16 +16,16 @@ use Rattle.kit_checks.specs.Rules.{HasCondition, HasKindTypes}
 use Rattle.kit_checks.specs.World.{World}
 use Rattle.kit_checks.proofs.Trees.{operands_are, result_types}
 use Rattle.ir_trees.proofs.Members.{at_has, has_at, has_front, has_back, has_either, has_map, has_made}
-use Rattle.kit_checks.specs.Words.{AreAlike, Every, IsBit, is_arithmetic, is_comparison, is_cond_br, types_of}
+use Rattle.kit_checks.specs.Words.{AreAllEqual, Every, IsBit, is_arithmetic, is_comparison, is_cond_br, types_of}
 use Rattle.kit_checks.proofs.Passed.{every_has, has_every}
 
 module _ {X : Type 0} where
-  pub alike_none : (xs : List X) → length xs ≡ 0 → IsTrue true ↔ AreAlike xs
+  pub alike_none : (xs : List X) → length xs ≡ 0 → IsTrue true ↔ AreAllEqual xs
   alike_none [] none = (λ h x y a b. let e = a.1 in cc, λ h. refl)
   alike_none (x ∷ xs) none = absurd (omega arith)
 
   -- all are the same where all are the first one
-  pub alike_first : (xs : List X) (x : X) → slice_get xs 0 ≡ Some x → Every (λ y. y ≡ x) xs ↔ AreAlike xs
+  pub alike_first : (xs : List X) (x : X) → slice_get xs 0 ≡ Some x → Every (λ y. y ≡ x) xs ↔ AreAllEqual xs
   alike_first xs x first = (
     λ every a b in_a in_b. every in_a.0 a in_a.1 ∙ sym (every in_b.0 b in_b.1),
     λ alike k y here. alike y x (k, here) (0, first),
@@ -46,7 +46,7 @@ module _ {X : Type 0} where
     λ every. has_every (λ x. x ≡ h) hs (λ x has. let e : Some x ≡ Some h = every_has (λ o. o ≡ Some h) (map Some hs) every (Some x) (has_map Some hs x has) in cc),
   )
 
-  pub alike_some : (hs : List X) → AreAlike hs ↔ AreAlike (map Some hs)
+  pub alike_some : (hs : List X) → AreAllEqual hs ↔ AreAllEqual (map Some hs)
   alike_some hs = (
     λ alike a b in_a in_b.
         let m = has_made Some hs a (at_has (map Some hs) in_a.0 a in_a.1) in
@@ -65,17 +65,17 @@ nothing (x ∷ xs) h = absurd (omega arith)
 
 -- types of operands, which may be none, and of results
 module _ {X : Type 0} (os : List (Option X)) (hs : List X) where
-  pub alike_without : length os ≡ 0 → AreAlike hs ↔ AreAlike (os ++ map Some hs)
-  alike_without none = subst (λ l. AreAlike hs ↔ AreAlike (l ++ map Some hs)) (sym (nothing os none)) (alike_some hs)
+  pub alike_without : length os ≡ 0 → AreAllEqual hs ↔ AreAllEqual (os ++ map Some hs)
+  alike_without none = subst (λ l. AreAllEqual hs ↔ AreAllEqual (l ++ map Some hs)) (sym (nothing os none)) (alike_some hs)
 
   module _ (h : X) (first : slice_get os 0 ≡ Some (Some h)) where
-    pub alike_parts : Every (λ o. o ≡ Some h) os → Every (λ x. x ≡ h) hs → AreAlike (os ++ map Some hs)
+    pub alike_parts : Every (λ o. o ≡ Some h) os → Every (λ x. x ≡ h) hs → AreAllEqual (os ++ map Some hs)
     alike_parts a b = (alike_first (os ++ map Some hs) (Some h) (first_front os (map Some hs) (Some h) first)).0 (every_both (λ o. o ≡ Some h) os (map Some hs) a ((every_some h hs).0 b))
 
-    pub part_operands : AreAlike (os ++ map Some hs) → Every (λ o. o ≡ Some h) os
+    pub part_operands : AreAllEqual (os ++ map Some hs) → Every (λ o. o ≡ Some h) os
     part_operands alike = every_front (λ o. o ≡ Some h) os (map Some hs) ((alike_first (os ++ map Some hs) (Some h) (first_front os (map Some hs) (Some h) first)).1 alike)
 
-    pub part_results : AreAlike (os ++ map Some hs) → Every (λ x. x ≡ h) hs
+    pub part_results : AreAllEqual (os ++ map Some hs) → Every (λ x. x ≡ h) hs
     part_results alike = (every_some h hs).1 (every_back (λ o. o ≡ Some h) os (map Some hs) ((alike_first (os ++ map Some hs) (Some h) (first_front os (map Some hs) (Some h) first)).1 alike))
 
 -- the types of operands, in the program and in the tree
@@ -91,11 +91,11 @@ module _ {O B : Type 0} (c : Program O B) (op : Ptr Operation) (u : ProgramTree 
 
 -- which types an operation of a kind has
 module _ {O B : Type 0} (w : World O B) (u : ProgramTree O B) (r : Bool) where
-  pub arithmetic_types : (k : KitOp) → is_arithmetic k ≡ true → IsTrue r ↔ AreAlike (map w.value_type u.head.operands ++ map Some (types_of u.head.results)) → IsTrue r ↔ HasKindTypes w u k
+  pub arithmetic_types : (k : KitOp) → is_arithmetic k ≡ true → IsTrue r ↔ AreAllEqual (map w.value_type u.head.operands ++ map Some (types_of u.head.results)) → IsTrue r ↔ HasKindTypes w u k
   arithmetic_types (ops.Arithmetic a) is tells = tells
   arithmetic_types _ is tells = absurd (false≢true is)
 
-  pub comparison_types : (k : KitOp) → is_comparison k ≡ true → IsTrue r ↔ AreAlike (map w.value_type u.head.operands) × Every (IsBit w) (types_of u.head.results) → IsTrue r ↔ HasKindTypes w u k
+  pub comparison_types : (k : KitOp) → is_comparison k ≡ true → IsTrue r ↔ AreAllEqual (map w.value_type u.head.operands) × Every (IsBit w) (types_of u.head.results) → IsTrue r ↔ HasKindTypes w u k
   comparison_types (ops.Comparison a) is tells = tells
   comparison_types _ is tells = absurd (false≢true is)
 

@@ -12,7 +12,7 @@ use Rattle.ir_trees.specs.Trees.{Operations, Blocks, Regions, end, operation, bl
 use Rattle.ir_trees.specs.Places.{AnOperation, reached, at_place}
 use Rattle.opt_inside.proofs.Around.{HasLists, not_root}
 use Rattle.kit_checks.specs.Sites.{Listed, Body, operation_list, block_list, region_list, Site, site_from, site_at}
-use Rattle.kit_checks.specs.Located.{IsBody, IsRegion, AreOuter, at_root, further, IsSiteOf}
+use Rattle.kit_checks.specs.Located.{IsBody, RegionHasBlocks, AreOuter, at_root, further, IsSiteOf}
 
 module _ {O B : Type 0} (c : Program O B) where
   -- members of lists of trees, and of lists of handles
@@ -35,7 +35,7 @@ module _ {O B : Type 0} (c : Program O B) where
   block_listed _ _ (first_block p ps v rs rest there below behind) (suc k) u h = block_listed ps rest behind k u h
 
   pub region_listed : (rs : List (Ptr Region)) (regions : Listed O B Regions) → AreTree c Regions rs regions → (k : ℕ) (blocks : Listed O B Blocks) → slice_get (region_list regions) k ≡ Some blocks →
-      (r : Ptr Region) × (slice_get rs k ≡ Some r) × IsRegion c r blocks
+      (r : Ptr Region) × (slice_get rs k ≡ Some r) × RegionHasBlocks c r blocks
   region_listed _ _ no_regions k u h = cc
   region_listed _ _ (first_region p ps v bs rest there below behind) zero u h =
       let same : bs ≡ u = cc in

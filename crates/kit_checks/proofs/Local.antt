@@ -8,7 +8,7 @@ use Rattle.ir_program.specs.declared.handles.Operation.{Operation}
 use Rattle.ir_program.specs.declared.handles.BasicBlock.{BasicBlock}
 use Rattle.kit_ops.specs.declared.kinds.KitOp.TheVariants as ops
 use Rattle.kit_checks.specs.Located.{IsAround, IsAroundIf, IsSiteOf}
-use Rattle.kit_checks.specs.Reading.{IsInKind, EndsWell}
+use Rattle.kit_checks.specs.Reading.{IsInKind, KeepsBlockEnds}
 use Rattle.kit_checks.specs.Rules.{RootIsModule, FunctionHolds}
 use Rattle.kit_checks.specs.Sites.{Around, Site, operation_list, region_list}
 use Rattle.kit_checks.specs.Words.{is_instruction, is_terminator, kind_of}
@@ -58,7 +58,7 @@ module _ {O B : Type 0} (w : World O B) (c : Program O B) (root op : Ptr Operati
     λ h. let i = test.0 holds in let t = h i.0 i.1 in tells.1 (t.0, ap length t.1),
   )
 
-  pub ends_outside : (g : Bool) → g ≡ false → (s : Site O B) → IsTrue g ↔ IsInKind w s ops.Func → IsTrue true ↔ EndsWell w s
+  pub ends_outside : (g : Bool) → g ≡ false → (s : Site O B) → IsTrue g ↔ IsInKind w s ops.Func → IsTrue true ↔ KeepsBlockEnds w s
   ends_outside g fails s test = (λ h a is. absurd (true≢false (sym (test.1 (a, is)) ∙ fails)), λ h. refl)
 
   module _ (g last : Bool) (inside : g ≡ true) (s : Site O B) (at : IsSiteOf c root op s) (test : IsTrue g ↔ IsInKind w s ops.Func)
@@ -68,13 +68,13 @@ module _ {O B : Type 0} (w : World O B) (c : Program O B) (root op : Ptr Operati
         let it = around_some s.around a at.around here in
         subst (λ n. IsTrue last ↔ (a.index + 1 ≡ n)) (sym (operation_count c it.block a.body it.body)) (tells it.block a.index it.index)
 
-    pub ends_terminator : (t : Bool) → t ≡ true → is_terminator (kind_of w s.op) ≡ t → IsTrue last ↔ EndsWell w s
+    pub ends_terminator : (t : Bool) → t ≡ true → is_terminator (kind_of w s.op) ≡ t → IsTrue last ↔ KeepsBlockEnds w s
     ends_terminator t holds is = (
       λ h a in_f. (λ x. (last_of a in_f.0).0 h, λ x. is ∙ holds),
       λ h. let i = test.0 inside in (last_of i.0 i.1.0).1 ((h i.0 i.1).0 (is ∙ holds)),
     )
 
-    pub ends_other : (t r : Bool) → t ≡ false → is_terminator (kind_of w s.op) ≡ t → IsTrue r ↔ (IsTrue last → ⊥) → IsTrue r ↔ EndsWell w s
+    pub ends_other : (t r : Bool) → t ≡ false → is_terminator (kind_of w s.op) ≡ t → IsTrue r ↔ (IsTrue last → ⊥) → IsTrue r ↔ KeepsBlockEnds w s
     ends_other t r fails is neg = (
       λ h a in_f. (λ x. absurd (true≢false (sym x ∙ is ∙ fails)), λ x. absurd (neg.0 h ((last_of a in_f.0).1 x))),
       λ h. neg.1 (λ l. let i = test.0 inside in absurd (true≢false (sym ((h i.0 i.1).1 ((last_of i.0 i.1.0).0 l)) ∙ is ∙ fails))),

@@ -23,7 +23,7 @@ use Rattle.opt_inside.proofs.Around.{HasLists}
 use Rattle.kit_checks.specs.declared.naming.Spot.{Spot}
 use Rattle.kit_checks.specs.declared.walk_order.WalkOrder.{WalkOrder}
 use Rattle.kit_checks.specs.Located.{IsAround, IsBody, IsSiteOf}
-use Rattle.kit_checks.specs.Naming.{IsEarlier, IsSpotOf, IsOrderOf, MayName, MayNameFrom, number_in}
+use Rattle.kit_checks.specs.Naming.{IsEarlier, IsSpotOfOperation, IsOrderOf, MayName, MayNameFrom, number_in}
 use Rattle.kit_checks.specs.Rules.{OperandsAreVisible}
 use Rattle.kit_checks.specs.Sites.{Around, Body, Site, operation_list}
 use Rattle.kit_checks.specs.Words.{Every, first_body, results_of, values_before, values_if, values_in, values_of, visible}
@@ -241,7 +241,7 @@ module _ {O B : Type 0} (c : Program O B) (lists : HasLists c) (values : HasValu
 
 -- the rule at a site
 module _ {O B : Type 0} (w : World O B) (c : Program O B) (lists : HasLists c) (values : HasValues c) (root op : Ptr Operation) (s : Site O B) (at : IsSiteOf c root op s) where
-  module _ (spot : Spot) (is : IsSpotOf c op spot) (a : Around O B) (it : IsAround c root op a) where
+  module _ (spot : Spot) (is : IsSpotOfOperation c op spot) (a : Around O B) (it : IsAround c root op a) where
     same_block : it.block ≡ spot.block
     same_block = (lists.operations_once op it.block spot.block it.in_block.index is.in_block.index it.in_block.here is.in_block.here).0
 
@@ -264,7 +264,7 @@ module _ {O B : Type 0} (w : World O B) (c : Program O B) (lists : HasLists c) (
           sees c lists values op spot a it.region e.0 body index number start_of e.1 e.2 v live,
         )
 
-  pub operands_seen : (spot : Spot) → op ≢ root → IsSpotOf c op spot → ((k : ℕ) (v : Value) → slice_get (operands_at c op) k ≡ Some v → IsLiveValue c v) →
+  pub operands_seen : (spot : Spot) → op ≢ root → IsSpotOfOperation c op spot → ((k : ℕ) (v : Value) → slice_get (operands_at c op) k ≡ Some v → IsLiveValue c v) →
       (r : Bool) → IsTrue r ↔ Every (MayName c op spot) (operands_at c op) → IsTrue r ↔ OperandsAreVisible w s
   operands_seen spot other is live r tells =
       let are = operands_are c op s.op at.tree in (

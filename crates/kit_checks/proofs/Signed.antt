@@ -6,7 +6,7 @@ use Rattle.ir_program.specs.declared.handles.Operation.{Operation}
 use Rattle.ir_trees.specs.Stands.{ProgramTree, StandsFor}
 use Rattle.kit_ops.specs.declared.kinds.KitOp.TheVariants as ops
 use Rattle.kit_ops.specs.declared.types.FunctionType.{FunctionType}
-use Rattle.kit_checks.specs.Reading.{IsInFunction, IsInKind, IsOwner, OfTree, ReturnsTo, TakesInputs}
+use Rattle.kit_checks.specs.Reading.{IsInRegionOfFunction, IsInKind, IsOwner, OfTree, ReturnsTo, TakesInputs}
 use Rattle.kit_checks.specs.Rules.{InKind, ReturnsFit, HasFunctionBody}
 use Rattle.kit_checks.specs.Sites.{Around, Site}
 use Rattle.kit_checks.specs.Words.{Every, IsInteger, kind_of, signature}
@@ -14,7 +14,7 @@ use Rattle.kit_checks.specs.World.{World}
 
 module _ {O B : Type 0} (w : World O B) (c : Program O B) (s : Site O B) where
   -- the owner, where that is a function
-  owner_is : (around : Option (Around O B)) (o : Option (Ptr Operation)) → s.around ≡ around → IsOwner c around o → IsInKind w s ops.Func → IsInFunction w c s o
+  owner_is : (around : Option (Around O B)) (o : Option (Ptr Operation)) → s.around ≡ around → IsOwner c around o → IsInKind w s ops.Func → IsInRegionOfFunction w c s o
   owner_is None o here it h = let e : None ≡ Some h.0 = sym here ∙ h.1.0 in cc
   owner_is (Some a) None here it h = absurd it
   owner_is (Some a) (Some f) here it h =
@@ -22,17 +22,17 @@ module _ {O B : Type 0} (w : World O B) (c : Program O B) (s : Site O B) where
       let same : h.0 ≡ a = cc in
       (h.0, h.1, subst (λ (x : Around O B). StandsFor c f x.owner) (sym same) it)
 
-  pub function_is : (o : Option (Ptr Operation)) (is : Bool) → is ≡ true → IsTrue is ↔ IsInKind w s ops.Func → IsOwner c s.around o → IsInFunction w c s o
+  pub function_is : (o : Option (Ptr Operation)) (is : Bool) → is ≡ true → IsTrue is ↔ IsInKind w s ops.Func → IsOwner c s.around o → IsInRegionOfFunction w c s o
   function_is o is holds tells owner = owner_is s.around o refl owner (tells.0 holds)
 
-  pub no_function : (is : Bool) → is ≡ false → IsTrue is ↔ IsInKind w s ops.Func → IsInFunction w c s None
+  pub no_function : (is : Bool) → is ≡ false → IsTrue is ↔ IsInKind w s ops.Func → IsInRegionOfFunction w c s None
   no_function is fails tells h = true≢false (sym (tells.1 h) ∙ fails)
 
   -- what is returned
-  pub returns_from : (o : Option (Ptr Operation)) (f : Ptr Operation) (r : Bool) → o ≡ Some f → IsInFunction w c s o → kind_of w s.op ≡ ops.Return →
+  pub returns_from : (o : Option (Ptr Operation)) (f : Ptr Operation) (r : Bool) → o ≡ Some f → IsInRegionOfFunction w c s o → kind_of w s.op ≡ ops.Return →
       OfTree c f (λ x. IsTrue r ↔ ReturnsTo w s.op x) → IsTrue r ↔ ReturnsFit w s
   returns_from o f r is around kind tells =
-      let m : (a : Around O B) × InKind w s ops.Func a × StandsFor c f a.owner = subst (IsInFunction w c s) is around in
+      let m : (a : Around O B) × InKind w s ops.Func a × StandsFor c f a.owner = subst (IsInRegionOfFunction w c s) is around in
       let t = tells m.0.owner m.2 in (
         λ h k a ty inside sig.
             let e : Some a ≡ Some m.0 = sym inside.0 ∙ m.1.0 in
@@ -41,9 +41,9 @@ module _ {O B : Type 0} (w : World O B) (c : Program O B) (s : Site O B) where
         λ keeps. t.1 (λ ty sig. keeps kind m.0 ty m.1 sig),
       )
 
-  pub returns_nowhere : (o : Option (Ptr Operation)) → o ≡ None → IsInFunction w c s o → IsTrue true ↔ ReturnsFit w s
+  pub returns_nowhere : (o : Option (Ptr Operation)) → o ≡ None → IsInRegionOfFunction w c s o → IsTrue true ↔ ReturnsFit w s
   returns_nowhere o is around =
-      let none : IsInKind w s ops.Func → ⊥ = subst (IsInFunction w c s) is around in
+      let none : IsInKind w s ops.Func → ⊥ = subst (IsInRegionOfFunction w c s) is around in
       (λ h k a ty inside sig. absurd (none (a, inside)), λ h. refl)
 
 -- the parts of a function's type

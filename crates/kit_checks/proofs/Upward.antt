@@ -13,7 +13,7 @@ use Rattle.ir_program.specs.declared.handles.Region.{Region}
 use Rattle.ir_program.specs.declared.handles.BasicBlock.{BasicBlock}
 use Rattle.ir_trees.specs.Stands.{ProgramTree, head_of, label_of, AreTree, no_operations, no_blocks, no_regions, first_operation, first_block, first_region, StandsFor}
 use Rattle.ir_trees.specs.Trees.{Operations, Blocks, Regions}
-use Rattle.kit_checks.specs.Located.{IsBody, IsRegion, LeadsDown, IsPlaceOf}
+use Rattle.kit_checks.specs.Located.{IsBody, RegionHasBlocks, LeadsDown, IsPlaceOf}
 use Rattle.kit_checks.specs.Sites.{Listed, Body, operation_list, block_list, region_list, Site, site_from}
 use Rattle.kit_checks.proofs.Down.{operations_are, regions_are}
 
@@ -110,12 +110,12 @@ module _ {O B : Type 0} (c : Program O B) where
   block_tree _ _ (first_block q ps v ops rest there below behind) (suc k) p h = block_tree ps rest behind k p h
 
   pub region_tree : (rs : List (Ptr Region)) (regions : Listed O B Regions) → AreTree c Regions rs regions → (k : ℕ) (r : Ptr Region) → slice_get rs k ≡ Some r →
-      (blocks : Listed O B Blocks) × (slice_get (region_list regions) k ≡ Some blocks) × IsRegion c r blocks
+      (blocks : Listed O B Blocks) × (slice_get (region_list regions) k ≡ Some blocks) × RegionHasBlocks c r blocks
   region_tree _ _ no_regions k p h = cc
   region_tree _ _ (first_region q ps v bs rest there below behind) zero p h =
       let same : q ≡ p = cc in
       let list : v.blocks ≡ blocks_in c q = sym (ap (λ o. unwrap_or (option_map (λ (x : RegionView). x.blocks) o) []) there) in
-      (bs, refl, subst (λ z. IsRegion c z bs) same (record { there = subst IsSome (sym there) refl; listed = subst (λ l. AreTree c Blocks l bs) list below }))
+      (bs, refl, subst (λ z. RegionHasBlocks c z bs) same (record { there = subst IsSome (sym there) refl; listed = subst (λ l. AreTree c Blocks l bs) list below }))
   region_tree _ _ (first_region q ps v bs rest there below behind) (suc k) p h = region_tree ps rest behind k p h
 
   mapped : {X Y : Type 0} (f : X → Y) (xs : List X) (k : ℕ) (y : Y) → slice_get (map f xs) k ≡ Some y → (x : X) × (slice_get xs k ≡ Some x) × (f x ≡ y)

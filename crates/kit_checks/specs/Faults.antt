@@ -45,9 +45,9 @@ module _ {O B : Type 0} (w : World O B) where
       pub before : (q : List ℕ) (s : Site O B) → IsBefore q p → site_at t q ≡ Some s → Keeps r s
 
     -- what is answered of one rule: the first place where it is broken, or none where it is kept everywhere
-    abbrev pub IsFound : Rule → Option (List ℕ) → Type 0
-    IsFound r None = KeptEverywhere r
-    IsFound r (Some p) = IsFirstPlace r p
+    abbrev pub IsFirstBreak : Rule → Option (List ℕ) → Type 0
+    IsFirstBreak r None = KeptEverywhere r
+    IsFirstBreak r (Some p) = IsFirstPlace r p
 
     -- the first fault: the rule is the one with the smallest number that is broken anywhere, and the place the first one
     -- where it is broken

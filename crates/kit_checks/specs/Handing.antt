@@ -37,17 +37,17 @@ segment_of operands sizes edge = segment operands sizes (suc edge)
 
 module _ {O B : Type 0} (w : World O B) (c : Program O B) where
   -- the values have the types of the block's arguments, in number and order
-  abbrev pub FitArguments : List Value → Ptr BasicBlock → Type 0
-  FitArguments vs block = HaveTypes w vs (map (λ (t : TypedValue). t.ty) (arguments_at c block))
+  abbrev pub FitBlockArguments : List Value → Ptr BasicBlock → Type 0
+  FitBlockArguments vs block = HaveTypes w vs (map (λ (t : TypedValue). t.ty) (arguments_at c block))
 
   -- what is handed on along an edge fits the block that it leads to
   abbrev pub FitTargets : List (Ptr BasicBlock) → (ℕ → List Value) → Type 0
   FitTargets targets handed =
-      (edge : ℕ) (target : Ptr BasicBlock) → slice_get targets edge ≡ Some target → FitArguments (handed edge) target
+      (edge : ℕ) (target : Ptr BasicBlock) → slice_get targets edge ≡ Some target → FitBlockArguments (handed edge) target
 
   -- so of operands of the operation: of some in a row and one block, of all of them and each edge, of their segments
   abbrev pub RunFits : Ptr Operation → ℕ → ℕ → Ptr BasicBlock → Type 0
-  RunFits op first count block = FitArguments (take count (drop first (operands_at c op))) block
+  RunFits op first count block = FitBlockArguments (take count (drop first (operands_at c op))) block
 
   abbrev pub AllFit : Ptr Operation → Type 0
   AllFit op = FitTargets (successors_at c op) (λ edge. operands_at c op)

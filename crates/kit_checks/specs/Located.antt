@@ -22,7 +22,7 @@ module _ {O B : Type 0} (c : Program O B) where
     pub operations : AreTree c Operations view.operations body.operations
 
   -- the tree says what the blocks of the region are
-  pub record IsRegion (r : Ptr Region) (blocks : Listed O B Blocks) : Type 0 where
+  pub record RegionHasBlocks (r : Ptr Region) (blocks : Listed O B Blocks) : Type 0 where
     pub there : IsSome (region_at c r)
     pub listed : AreTree c Blocks (blocks_in c r) blocks
 

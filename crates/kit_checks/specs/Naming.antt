@@ -46,7 +46,7 @@ NumbersEntity old new (RegionNode r) number = KeepsNumbers old new
 
 module _ {O B : Type 0} (c : Program O B) where
   -- the operation is in this block, of a region with this entry
-  pub record IsSpotOf (op : Ptr Operation) (spot : Spot) : Type 0 where
+  pub record IsSpotOfOperation (op : Ptr Operation) (spot : Spot) : Type 0 where
     pub region : Ptr Region
     pub in_block : StandsInBlock c op spot.block
     pub in_region : StandsInRegion c spot.block region

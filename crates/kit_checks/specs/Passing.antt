@@ -11,7 +11,7 @@ use Rattle.kit_checks.specs.declared.blocks.BlockTest.TheVariants as of_blocks
 use Rattle.kit_checks.specs.declared.types.TypeTest.{TypeTest}
 use Rattle.kit_checks.specs.declared.types.TypeTest.TheVariants as of_types
 use Rattle.kit_checks.specs.World.{World}
-use Rattle.kit_checks.specs.Located.{IsBody, IsRegion}
+use Rattle.kit_checks.specs.Located.{IsBody, RegionHasBlocks}
 use Rattle.kit_checks.specs.Sites.{Listed, Body, operation_list}
 use Rattle.kit_checks.specs.Rules.{IsCommon}
 use Rattle.kit_checks.specs.Words.{Every, IsValueType, IsBit, types_of}
@@ -35,4 +35,4 @@ module _ {O B : Type 0} (c : Program O B) where
   OfBody block P = (b : Body O B) → IsBody c block b → P b
 
   abbrev pub OfRegion : Ptr Region → (Listed O B Blocks → Type 0) → Type 0
-  OfRegion region P = (blocks : Listed O B Blocks) → IsRegion c region blocks → P blocks
+  OfRegion region P = (blocks : Listed O B Blocks) → RegionHasBlocks c region blocks → P blocks

@@ -42,8 +42,8 @@ IsInKind {O} {B} w s k = (a : Around O B) × InKind w s k a
 
 module _ {O B : Type 0} (w : World O B) where
   -- the two clauses of the rule on the ends of blocks: of an operation in a function, and of the blocks of a function
-  abbrev pub EndsWell : Site O B → Type 0
-  EndsWell s = (a : Around O B) → InKind w s ops.Func a → (is_terminator (kind_of w s.op) ≡ true) ↔ (a.index + 1 ≡ length (operation_list a.body.operations))
+  abbrev pub KeepsBlockEnds : Site O B → Type 0
+  KeepsBlockEnds s = (a : Around O B) → InKind w s ops.Func a → (is_terminator (kind_of w s.op) ≡ true) ↔ (a.index + 1 ≡ length (operation_list a.body.operations))
 
   abbrev pub HasFilledBlocks : ProgramTree O B → Type 0
   HasFilledBlocks u = kind_of w u ≡ ops.Func → Every (λ (b : Body O B). operation_list b.operations ≢ []) (bodies_of u)
@@ -54,9 +54,9 @@ pub record IsIntegerOf {O B : Type 0} (w : World O B) (value : IntegerAttr) : Ty
   pub in_range : value.bits < 2 ^ value.integer.width
 
 -- the block is the entry of the operation: the first block of its first region; or it has none
-abbrev pub IsEntry : {O B : Type 0} → Program O B → ProgramTree O B → Option (Ptr BasicBlock) → Type 0
-IsEntry c u None = entry_of u ≡ None
-IsEntry {O} {B} c u (Some block) = (entry : Body O B) × (entry_of u ≡ Some entry) × IsBody c block entry
+abbrev pub IsEntryOrNone : {O B : Type 0} → Program O B → ProgramTree O B → Option (Ptr BasicBlock) → Type 0
+IsEntryOrNone c u None = entry_of u ≡ None
+IsEntryOrNone {O} {B} c u (Some block) = (entry : Body O B) × (entry_of u ≡ Some entry) × IsBody c block entry
 
 -- it has an entry, whose arguments have these types
 abbrev pub TakesInputs : {O B : Type 0} → ProgramTree O B → List TypeHandle → Type 0
@@ -69,9 +69,9 @@ module _ {O B : Type 0} (w : World O B) where
   IsTypedFunction u = kind_of w u ≡ ops.Func → HasFunctionBody w u
 
   -- the operation is in a region of this function, or in none of any function
-  abbrev pub IsInFunction : Program O B → Site O B → Option (Ptr Operation) → Type 0
-  IsInFunction c s None = IsInKind w s ops.Func → ⊥
-  IsInFunction c s (Some function) = (a : Around O B) × InKind w s ops.Func a × StandsFor c function a.owner
+  abbrev pub IsInRegionOfFunction : Program O B → Site O B → Option (Ptr Operation) → Type 0
+  IsInRegionOfFunction c s None = IsInKind w s ops.Func → ⊥
+  IsInRegionOfFunction c s (Some function) = (a : Around O B) × InKind w s ops.Func a × StandsFor c function a.owner
 
   -- the operands have the result types that the function says, if it says any
   abbrev pub ReturnsTo : ProgramTree O B → ProgramTree O B → Type 0

@@ -16,7 +16,7 @@ use Rattle.kit_ops.specs.declared.kinds.KitOp.TheVariants as ops
 use Rattle.kit_ops.specs.declared.types.FunctionType.{FunctionType}
 use Rattle.kit_checks.specs.World.{World}
 use Rattle.kit_checks.specs.Sites.{Body, operation_list, block_list, region_list, Around, Site}
-use Rattle.kit_checks.specs.Words.{Every, AreAlike, IsInteger, IsValueType, IsBit, HasType, HaveTypes, types_of, kind_of, attribute_of, symbol_name, own_type, signature, constant_value, callee_name, callee_type, callee_signature, segment_sizes, sizes_or_none, is_symbol, is_instruction, is_terminator, is_branch, along_edge, bodies_of, members_of, entry_of, visible, first_module, integer_type}
+use Rattle.kit_checks.specs.Words.{Every, AreAllEqual, IsInteger, IsValueType, IsBit, HasType, HaveTypes, types_of, kind_of, attribute_of, symbol_name, own_type, signature, constant_value, callee_name, callee_type, callee_signature, segment_sizes, sizes_or_none, is_symbol, is_instruction, is_terminator, is_branch, along_edge, bodies_of, members_of, entry_of, visible, first_module, integer_type}
 
 -- ---- what rules ask for in more than one clause
 
@@ -44,7 +44,7 @@ module _ {O B : Type 0} (w : World O B) where
 
   -- the block is one of the region, and where the operation is a branch the operands along the edge have the types of the
   -- block's arguments, in number and order
-  pub record LeadsTo (u : ProgramTree O B) (a : Around O B) (edge : ℕ) (target : Ptr BasicBlock) : Type 0 where
+  pub record EdgeLeadsTo (u : ProgramTree O B) (a : Around O B) (edge : ℕ) (target : Ptr BasicBlock) : Type 0 where
     pub body : Body O B
     pub here : Lists (block_list a.blocks) body
     pub named : body.label.name ≡ target
@@ -170,8 +170,8 @@ module _ {O B : Type 0} (w : World O B) (u : ProgramTree O B) where
 
   -- the types that an operation of a kind has: all alike; operands alike and bits as results; a bit as the condition
   abbrev pub HasKindTypes : KitOp → Type 0
-  HasKindTypes (ops.Arithmetic a) = AreAlike (map w.value_type u.head.operands ++ map Some (types_of u.head.results))
-  HasKindTypes (ops.Comparison a) = AreAlike (map w.value_type u.head.operands) × Every (IsBit w) (types_of u.head.results)
+  HasKindTypes (ops.Arithmetic a) = AreAllEqual (map w.value_type u.head.operands ++ map Some (types_of u.head.results))
+  HasKindTypes (ops.Comparison a) = AreAllEqual (map w.value_type u.head.operands) × Every (IsBit w) (types_of u.head.results)
   HasKindTypes ops.CondBr = HasCondition
   HasKindTypes _ = Unit {0}
 
@@ -179,15 +179,15 @@ module _ {O B : Type 0} (w : World O B) (u : ProgramTree O B) where
 
 module _ {O B : Type 0} (w : World O B) (s : Site O B) where
   -- around the operation is this
-  abbrev pub IsIn : Around O B → Type 0
-  IsIn a = s.around ≡ Some a
+  abbrev pub HasAround : Around O B → Type 0
+  HasAround a = s.around ≡ Some a
 
   -- the kind of the operation, the kind of the one that owns its region
   abbrev pub kind : KitOp
   kind = kind_of w s.op
 
   abbrev pub InKind : KitOp → Around O B → Type 0
-  InKind k a = IsIn a × (kind_of w a.owner ≡ k)
+  InKind k a = HasAround a × (kind_of w a.owner ≡ k)
 
   -- 1. The root is a module.
   abbrev pub RootIsModule : Type 0
@@ -224,7 +224,7 @@ module _ {O B : Type 0} (w : World O B) (s : Site O B) where
   -- 7. An operand is an earlier value of its own block or, outside the entry block, a value of the entry block. The root
   -- has no operand.
   pub record OperandsAreVisible : Type 0 where
-    pub inside : (a : Around O B) → IsIn a → Every (Lists (visible a)) s.op.head.operands
+    pub inside : (a : Around O B) → HasAround a → Every (Lists (visible a)) s.op.head.operands
     pub root : s.around ≡ None → s.op.head.operands ≡ []
 
   -- 8. Arithmetic has one type throughout: operands and results. The operands of a comparison have one type, and its results
@@ -236,12 +236,12 @@ module _ {O B : Type 0} (w : World O B) (s : Site O B) where
   -- and order. The root, which is in no region, has no successor.
   abbrev pub EdgesFit : Type 0
   EdgesFit = (edge : ℕ) (target : Ptr BasicBlock) → slice_get s.op.head.successors edge ≡ Some target →
-      (a : Around O B) × IsIn a × LeadsTo w s.op a edge target
+      (a : Around O B) × HasAround a × EdgeLeadsTo w s.op a edge target
 
   -- 10. A call's name is that of a function of the nearest enclosing module, whose type is the call's type; operands and
   -- results have it.
   abbrev pub CallsFit : Type 0
-  CallsFit = kind ≡ ops.Call → (a : Around O B) × IsIn a × CallsFunction w s.op a
+  CallsFit = kind ≡ ops.Call → (a : Around O B) × HasAround a × CallsFunction w s.op a
 
   -- 11. The operands of `return` have the result types of the function that it leaves.
   abbrev pub ReturnsFit : Type 0

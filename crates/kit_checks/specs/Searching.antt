@@ -11,7 +11,7 @@ use Rattle.ir_trees.specs.Stands.{ProgramTree, StandsFor}
 use Rattle.opt_trees.specs.Occurrences.{Has}
 use Rattle.kit_checks.specs.declared.rule.Rule.{Rule}
 use Rattle.kit_checks.specs.declared.rule.Rule.TheVariants as rule
-use Rattle.kit_checks.specs.Faults.{Keeps, IsFound}
+use Rattle.kit_checks.specs.Faults.{Keeps, IsFirstBreak}
 use Rattle.kit_checks.specs.Located.{IsSiteOf}
 use Rattle.kit_checks.specs.Sites.{Site}
 use Rattle.kit_checks.specs.World.{World}
@@ -53,8 +53,8 @@ module _ {O B : Type 0} (w : World O B) (c : Program O B) (root : Ptr Operation)
   IsBrokenAt e (Some op) = (e ≡ OperationNode op) × BrokenBy op
 
   -- the answer says of the tree that the root stands for where the rule is broken first
-  abbrev pub IsFoundIn : Option Place → Type 0
-  IsFoundIn found = (t : ProgramTree O B) → StandsFor c root t → IsFound w t r (option_map (λ (p : Place). p.children.items) found)
+  abbrev pub IsFirstBreakIn : Option Place → Type 0
+  IsFirstBreakIn found = (t : ProgramTree O B) → StandsFor c root t → IsFirstBreak w t r (option_map (λ (p : Place). p.children.items) found)
 
 -- the rules that are tested so far
 abbrev pub IsTested : Rule → Type 0
@@ -86,4 +86,4 @@ module _ {O B : Type 0} (w : World O B) (c : Program O B) (root : Ptr Operation)
   -- each rule that is tested, so each that asks for no table of names, is kept everywhere in the tree that the root
   -- stands for
   abbrev pub KeepsLocalRules : Type 0
-  KeepsLocalRules = (r : Rule) → IsTested r → IsFoundIn w c root r None
+  KeepsLocalRules = (r : Rule) → IsTested r → IsFirstBreakIn w c root r None

@@ -28,8 +28,8 @@ abbrev pub Every : {X : Type 0} → (X → Type 0) → List X → Type 0
 Every {X} P xs = (k : ℕ) (x : X) → slice_get xs k ≡ Some x → P x
 
 -- all members are the same
-abbrev pub AreAlike : {X : Type 0} → List X → Type 0
-AreAlike {X} xs = (x y : X) → Lists xs x → Lists xs y → x ≡ y
+abbrev pub AreAllEqual : {X : Type 0} → List X → Type 0
+AreAllEqual {X} xs = (x y : X) → Lists xs x → Lists xs y → x ≡ y
 
 -- the members of all the lists
 abbrev pub joined : {X : Type 0} → List (List X) → List X

@@ -31,16 +31,16 @@ pub record World (O B : Type 0) : Type 0 where
 -- a dialect whose kinds, attributes and types are those of `kit`
 module _ (D TypeKind AttrKind TypeBody Saved Location : Type 0) where
   -- what its operations and its blocks carry
-  abbrev pub KitOperation : Type 0
-  KitOperation = OperationData D TypeKind AttrKind TypeBody Saved Location KitOp KitAttr KitType
+  abbrev pub OperationOfDialect : Type 0
+  OperationOfDialect = OperationData D TypeKind AttrKind TypeBody Saved Location KitOp KitAttr KitType
 
-  abbrev pub KitBlock : Type 0
-  KitBlock = BlockNotes D TypeKind AttrKind TypeBody Saved Location KitOp KitAttr KitType
+  abbrev pub BlockOfDialect : Type 0
+  BlockOfDialect = BlockNotes D TypeKind AttrKind TypeBody Saved Location KitOp KitAttr KitType
 
 -- the world that a context of such a dialect is
 abbrev pub world_of : {D TypeKind AttrKind TypeBody Saved Location : Type 0} →
-    ContextView (KitOperation D TypeKind AttrKind TypeBody Saved Location) (KitBlock D TypeKind AttrKind TypeBody Saved Location) (TypesView KitType TypeBody Saved) →
-    World (KitOperation D TypeKind AttrKind TypeBody Saved Location) (KitBlock D TypeKind AttrKind TypeBody Saved Location)
+    ContextView (OperationOfDialect D TypeKind AttrKind TypeBody Saved Location) (BlockOfDialect D TypeKind AttrKind TypeBody Saved Location) (TypesView KitType TypeBody Saved) →
+    World (OperationOfDialect D TypeKind AttrKind TypeBody Saved Location) (BlockOfDialect D TypeKind AttrKind TypeBody Saved Location)
 world_of c = record {
   kind = λ o. o.kind;
   attributes = λ o. o.notes.attributes;

@@ -5,7 +5,7 @@ ghost use Rattle.ir_program.specs.Program.{operation_at, IsLiveValue};
 ghost use Rattle.ir_program.specs.Rows.{operands_at};
 ghost use Rattle.ir_program.specs.declared.handles.DefiningEntity.TheVariants.{Op as ByOp};
 ghost use Rattle.ir_program.specs.declared.handles.IRNode.TheVariants.{Operation as OperationNode};
-ghost use Rattle.kit_checks.specs.Naming.{AreInWalkOrder, IsOrderFor, IsOrderOf, IsSpotOf, MayName, MayNameFrom};
+ghost use Rattle.kit_checks.specs.Naming.{AreInWalkOrder, IsOrderFor, IsOrderOf, IsSpotOfOperation, MayName, MayNameFrom};
 ghost use Rattle.kit_checks.specs.Reading.{OfSite};
 ghost use Rattle.kit_checks.specs.Rules.{OperandsAreVisible};
 ghost use Rattle.kit_checks.specs.Words.{Every};
@@ -49,7 +49,7 @@ pub(crate) fn order_for<O, B>(
 /// Where an operation inside the root is; the root is nowhere.
 fn spot_of<O, B>(program: &Program<O, B>, root: Ptr<Operation>, op: Ptr<Operation>) -> Option<Spot>
     requires { IsSome (operation_at program.now op) }
-    ensures spot { IfSome result (λ spot. (op ≢ root) × IsSpotOf program.now op spot) }
+    ensures spot { IfSome result (λ spot. (op ≢ root) × IsSpotOfOperation program.now op spot) }
     ensures root { OfSite program.now root op (λ s. IsNone result ↔ (s.around ≡ None)) }
 {
     if op == root {
@@ -71,7 +71,7 @@ fn may_name_results<O, B>(
     definer: Ptr<Operation>,
 ) -> bool
     requires definer { IsSome (operation_at program.now definer) }
-    requires spot { IsSpotOf program.now op spot }
+    requires spot { IsSpotOfOperation program.now op spot }
     requires order { IsOrderOf program.now spot.block order.now }
     ensures { IsTrue result ↔ MayNameFrom program.now op spot (ByOp definer) }
 {
@@ -95,7 +95,7 @@ fn may_name<O, B>(
     value: Value,
 ) -> bool
     requires value { IsLiveValue program.now value }
-    requires spot { IsSpotOf program.now op spot }
+    requires spot { IsSpotOfOperation program.now op spot }
     requires order { IsOrderOf program.now spot.block order.now }
     ensures { IsTrue result ↔ MayName program.now op spot value }
 {
@@ -113,7 +113,7 @@ fn names_visible<O, B>(
     op: Ptr<Operation>,
     spot: Spot,
 ) -> bool
-    requires spot { IsSpotOf program.now op spot }
+    requires spot { IsSpotOfOperation program.now op spot }
     requires order { IsOrderOf program.now spot.block order.now }
     ensures { IsTrue result ↔ Every (MayName program.now op spot) (operands_at program.now op) }
 {

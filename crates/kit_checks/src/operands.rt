@@ -4,7 +4,7 @@ ghost use Rattle.ir_program.specs.Program.{operation_at, type_at};
 ghost use Rattle.ir_program.specs.Rows.{operands_at};
 ghost use Rattle.kit_checks.specs.Rules.{HasCondition, HasKindTypes};
 ghost use Rattle.kit_checks.specs.Reading.{OfTree};
-ghost use Rattle.kit_checks.specs.Words.{AreAlike, Every, IsBit, is_arithmetic, is_comparison, is_cond_br, kind_of, types_of};
+ghost use Rattle.kit_checks.specs.Words.{AreAllEqual, Every, IsBit, is_arithmetic, is_comparison, is_cond_br, kind_of, types_of};
 ghost use Rattle.kit_checks.specs.World.{world_of};
 
 use crate::reading::{is_bit, kind_of};
@@ -82,7 +82,7 @@ pub(crate) fn has_equal_operands<
     D: DialectTables<OpKind = KitOp, Attr = KitAttr, TypeKey = KitType>,
 >(ctx: &Context<D>, op: Ptr<Operation>) -> bool
     requires { IsSome (operation_at ctx.now.program op) }
-    ensures { OfTree ctx.now.program op (λ u. IsTrue result ↔ AreAlike
+    ensures { OfTree ctx.now.program op (λ u. IsTrue result ↔ AreAllEqual
         (map (world_of ctx.now).value_type u.head.operands)) }
 {
     if op.get_num_operands(ctx) == 0 {
@@ -98,7 +98,7 @@ fn has_equal_results<D: DialectTables<OpKind = KitOp, Attr = KitAttr, TypeKey = 
     op: Ptr<Operation>,
 ) -> bool
     requires { IsSome (operation_at ctx.now.program op) }
-    ensures { OfTree ctx.now.program op (λ u. IsTrue result ↔ AreAlike (types_of u.head.results)) }
+    ensures { OfTree ctx.now.program op (λ u. IsTrue result ↔ AreAllEqual (types_of u.head.results)) }
 {
     if op.get_num_results(ctx) == 0 {
         return true;
@@ -113,7 +113,7 @@ pub(crate) fn has_one_type<D: DialectTables<OpKind = KitOp, Attr = KitAttr, Type
     op: Ptr<Operation>,
 ) -> bool
     requires { IsSome (operation_at ctx.now.program op) }
-    ensures { OfTree ctx.now.program op (λ u. IsTrue result ↔ AreAlike
+    ensures { OfTree ctx.now.program op (λ u. IsTrue result ↔ AreAllEqual
         (map (world_of ctx.now).value_type u.head.operands ++ map Some (types_of u.head.results))) }
 {
     if op.get_num_operands(ctx) == 0 {
@@ -146,7 +146,7 @@ fn compares_bits<D: DialectTables<OpKind = KitOp, Attr = KitAttr, TypeKey = KitT
     op: Ptr<Operation>,
 ) -> bool
     requires { IsSome (operation_at ctx.now.program op) }
-    ensures { OfTree ctx.now.program op (λ u. IsTrue result ↔ AreAlike
+    ensures { OfTree ctx.now.program op (λ u. IsTrue result ↔ AreAllEqual
         (map (world_of ctx.now).value_type u.head.operands)
         × Every (IsBit (world_of ctx.now)) (types_of u.head.results)) }
 {

@@ -4,7 +4,7 @@ ghost use Rattle.ir_program.specs.Lists.{IsLiveNode, StandsInside};
 ghost use Rattle.ir_program.specs.Program.{operation_at};
 ghost use Rattle.ir_program.specs.declared.handles.IRNode.TheVariants.{Operation as OperationNode};
 ghost use Rattle.kit_checks.specs.Naming.{AreInWalkOrder, IsOrderFor};
-ghost use Rattle.kit_checks.specs.Searching.{IsBrokenAt, IsFoundIn, IsSearched, IsTested, KeepsLocalRules};
+ghost use Rattle.kit_checks.specs.Searching.{IsBrokenAt, IsFirstBreakIn, IsSearched, IsTested, KeepsLocalRules};
 ghost use Rattle.kit_checks.specs.Searching.{TellsAll, TellsAllAt};
 ghost use Rattle.kit_checks.specs.World.{world_of};
 
@@ -108,7 +108,7 @@ pub fn first_place<D: DialectTables<OpKind = KitOp, Attr = KitAttr, TypeKey = Ki
 ) -> Result<Option<Place>, RuleFault>
     requires tested { IsTested rule }
     requires root { IsSome (operation_at ctx.now.program root) }
-    ensures { IfOk result (IsFoundIn (world_of ctx.now) ctx.now.program root rule) }
+    ensures { IfOk result (IsFirstBreakIn (world_of ctx.now) ctx.now.program root rule) }
 {
     let program = ctx.program();
     program.know_lists();

@@ -2,7 +2,7 @@
 ghost use Rattle.std.specs.Prelude.{◌≡◌, ◌↔◌, IfSome, IsSome, IsTrue, option_copied};
 ghost use Rattle.ir_program.specs.Program.{block_at, operation_at};
 ghost use Rattle.kit_checks.specs.Passing.{OfBody};
-ghost use Rattle.kit_checks.specs.Reading.{IsEntry, IsInFunction, IsTypedFunction, OfSite, OfTree, OfTrees, ReturnsTo, TakesInputs};
+ghost use Rattle.kit_checks.specs.Reading.{IsEntryOrNone, IsInRegionOfFunction, IsTypedFunction, OfSite, OfTree, OfTrees, ReturnsTo, TakesInputs};
 ghost use Rattle.kit_checks.specs.Rules.{HasFunctionBody, ReturnsFit};
 ghost use Rattle.kit_checks.specs.Words.{Every, HaveTypes, IsInteger, signature, types_of};
 ghost use Rattle.kit_checks.specs.World.{world_of};
@@ -90,7 +90,7 @@ pub fn operands_are<D: DialectTables<OpKind = KitOp, Attr = KitAttr, TypeKey = K
 /// The first block of the first region of an operation.
 fn entry_of<O, B>(program: &Program<O, B>, op: Ptr<Operation>) -> Option<Ptr<BasicBlock>>
     requires { IsSome (operation_at program.now op) }
-    ensures entry { OfTree program.now op (λ u. IsEntry program.now u result) }
+    ensures entry { OfTree program.now op (λ u. IsEntryOrNone program.now u result) }
     ensures live { IfSome result (λ entry. IsSome (block_at program.now entry)) }
 {
     match program.region(op, 0) {
@@ -166,7 +166,8 @@ fn function_around<D: DialectTables<OpKind = KitOp, Attr = KitAttr, TypeKey = Ki
     op: Ptr<Operation>,
 ) -> Option<Ptr<Operation>>
     requires { IsSome (operation_at ctx.now.program op) }
-    ensures function { OfSite ctx.now.program root op (λ s. IsInFunction (world_of ctx.now) ctx.now.program s result) }
+    ensures function { OfSite ctx.now.program root op
+        (λ s. IsInRegionOfFunction (world_of ctx.now) ctx.now.program s result) }
     ensures live { IfSome result (λ function. IsSome (operation_at ctx.now.program function)) }
 {
     if !is_in_function(ctx, root, op) {

@@ -7,7 +7,7 @@ ghost use Rattle.ir_program.specs.declared.handles.IRNode.TheVariants.{Operation
 ghost use Rattle.ir_program.specs.declared.handles.Operation.{Operation};
 ghost use Rattle.ir_program.specs.declared.handles.Ptr.{Ptr};
 ghost use Rattle.kit_checks.specs.Naming.{IsOrderFor};
-ghost use Rattle.kit_checks.specs.Reading.{EndsWell, HasFilledBlocks, OfSite, OfTree};
+ghost use Rattle.kit_checks.specs.Reading.{KeepsBlockEnds, HasFilledBlocks, OfSite, OfTree};
 ghost use Rattle.kit_checks.specs.Rules.{AttributesAreKnown, BlocksEnd, FunctionHolds, RootIsModule, ValuesAreIntegers};
 ghost use Rattle.kit_checks.specs.Searching.{IsTested, Tells};
 ghost use Rattle.kit_checks.specs.Sites.{region_list};
@@ -111,7 +111,7 @@ fn ends_well<D: DialectTables<OpKind = KitOp, Attr = KitAttr, TypeKey = KitType>
     op: Ptr<Operation>,
 ) -> bool
     requires { IsSome (operation_at ctx.now.program op) }
-    ensures { OfSite ctx.now.program root op (λ s. IsTrue result ↔ EndsWell (world_of ctx.now) s) }
+    ensures { OfSite ctx.now.program root op (λ s. IsTrue result ↔ KeepsBlockEnds (world_of ctx.now) s) }
 {
     if !is_in_function(ctx, root, op) {
         return true;

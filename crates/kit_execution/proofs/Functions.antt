@@ -29,10 +29,10 @@ use Rattle.kit_checks.proofs.Down.{step_to, operation_listed, operations_are}
 use Rattle.kit_checks.proofs.Trees.{operands_are, successors_are, operation_count}
 use Rattle.kit_checks.proofs.Upward.{block_tree}
 use Rattle.kit_interpreter.specs.Numbers.{values_of}
-use Rattle.kit_interpreter.specs.Store.{KitData, KitNotes, KitContext, body_of, members, function_named, is_function_named, width_at, form_of, form_at, op_if, op_at}
+use Rattle.kit_interpreter.specs.Store.{KitData, KitNotes, InterpretedContext, body_of, members, function_named, is_function_named, width_at, form_of, form_at, op_if, op_at}
 use Rattle.kit_interpreter.specs.Lowering.{IsValueIn, CanRun, FunctionsCanRun}
 use Rattle.kit_interpreter.proofs.Located.{first_listed}
-use Rattle.kit_execution.specs.Obeying.{KitTree}
+use Rattle.kit_execution.specs.Obeying.{ExecutedTree}
 use Rattle.kit_execution.proofs.Reached.{outer_if, IsReached}
 use Rattle.kit_execution.proofs.First.{first_passes, passing_found}
 use Rattle.kit_execution.proofs.Words.{KitOperationNotes, tree_attribute, payload_is, function_kind, function_passes}
@@ -43,7 +43,7 @@ use Rattle.kit_execution.proofs.Safe.{IsCallee, IsSafe}
 use Rattle.kit_execution.proofs.Shapes.{GoesOn, is_executed}
 
 -- what the machine sees of an operation, by the tree that it stands for
-op_is : (s : KitContext) (m q : Ptr Operation) (u : KitTree) → StandsFor s.program q u
+op_is : (s : InterpretedContext) (m q : Ptr Operation) (u : ExecutedTree) → StandsFor s.program q u
     → op_at s m q ≡ op_if (form_of u.head.content.kind (tree_attribute u) (option_and_then (width_at s) (type_in (results_at s.program q) 0)) (function_named s.program m))
     (values_of (results_at s.program q)) u.head.operands u.head.successors
 op_is s m q u stands =
@@ -54,7 +54,7 @@ op_is s m q u stands =
     (option_map (λ (d : KitData). d.kind) o)) (payload_is s.program q u stands) in
     λ i. op_if (form i) (values_of (results_at s.program q)) (sym (operands_are s.program q u stands) i) (sym (successors_are s.program q u stands) i)
 
-module _ (s : KitContext) (t : KitTree) (obeys : (r : Rule) → KeptEverywhere (world_of s) t r) where
+module _ (s : InterpretedContext) (t : ExecutedTree) (obeys : (r : Rule) → KeptEverywhere (world_of s) t r) where
   pub keeps : (x : KitSite) → IsReached t x → (r : Rule) → Keeps (world_of s) r x
   keeps x at r = obeys r at.place x at.there
 
@@ -73,11 +73,11 @@ module _ (s : KitContext) (t : KitTree) (obeys : (r : Rule) → KeptEverywhere (
         (subst (λ (l : List (Ptr Operation)). slice_get l k ≡ Some p) body.members_are h)
 
     -- a function of its tree is found in it by its name
-    found : (u : KitTree) → Lists (members_of x.op) u → (name : List ℕ) → u.head.content.kind ≡ ops.Func
+    found : (u : ExecutedTree) → Lists (members_of x.op) u → (name : List ℕ) → u.head.content.kind ≡ ops.Func
         → option_and_then identifier_in (tree_attribute u keys.symbol_name) ≡ Some name → (g : Ptr Operation) × (function_named s.program m name ≡ Some g)
     found u l name kind named =
         let here : slice_get (operation_list body.body.operations) l.0 ≡ Some u =
-        ap (λ (us : List KitTree). slice_get us l.0) (sym (body.all ∙ append-nil (operation_list body.body.operations))) ∙ l.1 in
+        ap (λ (us : List ExecutedTree). slice_get us l.0) (sym (body.all ∙ append-nil (operation_list body.body.operations))) ∙ l.1 in
         let it = operation_listed s.program body.is.view.operations body.body.operations body.is.operations l.0 u here in
         let at_member : slice_get (members s.program m) l.0 ≡ Some u.head.name =
         ap (λ (ps : List (Ptr Operation)). slice_get ps l.0) (body.members_are ∙ sym (operations_are s.program body.block body.body body.is)) ∙ it.0 in
@@ -151,7 +151,7 @@ module _ (s : KitContext) (t : KitTree) (obeys : (r : Rule) → KeptEverywhere (
             let same : call.0 ≡ around = sym (same_Some around call.0 call.1) in
             let calls : CallsFunction (world_of s) it.op around = subst (CallsFunction (world_of s) it.op) same call.2 in
             let scope : calls.scope ≡ x.op = sym (same_Some x.op calls.scope (sym nearest_is ∙ calls.nearest)) in
-            let g = found calls.function (subst (λ (u : KitTree). Lists (members_of u) calls.function) scope calls.member) calls.name calls.is_function calls.named in
+            let g = found calls.function (subst (λ (u : ExecutedTree). Lists (members_of u) calls.function) scope calls.member) calls.name calls.is_function calls.named in
             (calls.name, g.0, calls.has_name, g.1, (calls.name, g.1))
 
         -- one that ends no block isn't the last there

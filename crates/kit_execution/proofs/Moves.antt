@@ -9,10 +9,10 @@ use Rattle.ir_program.specs.declared.handles.BasicBlock.{BasicBlock}
 use Rattle.ir_program.specs.declared.handles.Value.{Value}
 use Rattle.ir_trees.specs.Searched.{Lists}
 use Rattle.kit_flat.specs.Machine as machine
-use Rattle.kit_flat.specs.Machine.{Other, Code, Edge, Frame, State, Going, Ended, Trapped, next, follow, chosen, with_result, effect, after, first_frame, on_top, returned, operations_from, rest_of, step, run, start}
+use Rattle.kit_flat.specs.Machine.{Other, Code, MachineEdge, MachineFrame, MachineState, Going, Ended, Trapped, next, follow, chosen, with_result, effect, after, first_frame, on_top, returned, operations_from, rest_of, step, run, start}
 use Rattle.kit_checks.proofs.Everys.{at_index}
-use Rattle.kit_interpreter.specs.Store.{KitContext, KitNotes, body_of, block_seen, module_code, op_at}
-use Rattle.kit_execution.specs.Moving.{IsDone, Moves}
+use Rattle.kit_interpreter.specs.Store.{InterpretedContext, KitNotes, body_of, block_seen, module_code, op_at}
+use Rattle.kit_execution.specs.Moving.{HasExecuted, Moves}
 use Rattle.kit_execution.proofs.Safe.{IsCallee, IsSafe}
 use Rattle.kit_execution.proofs.Shapes.{KitSeen, GoesOn}
 
@@ -20,13 +20,13 @@ abbrev KitCode : Type 0
 KitCode = Code Value (Ptr BasicBlock) (Ptr Operation)
 
 abbrev KitFrame : Type 0
-KitFrame = Frame Value (Ptr BasicBlock) (Ptr Operation)
+KitFrame = MachineFrame Value (Ptr BasicBlock) (Ptr Operation)
 
 abbrev KitState : Type 0
-KitState = State Value (Ptr BasicBlock) (Ptr Operation)
+KitState = MachineState Value (Ptr BasicBlock) (Ptr Operation)
 
 abbrev KitEdge : Type 0
-KitEdge = Edge Value (Ptr BasicBlock)
+KitEdge = MachineEdge Value (Ptr BasicBlock)
 
 -- what is left of a list from a member on begins with it
 dropped : {X Y : Type 0} (g : X → Y) (xs : List X) (i : ℕ) (x : X) → slice_get xs i ≡ Some x → (rest : List Y) × (drop i (map g xs) ≡ g x ∷ rest)
@@ -34,7 +34,7 @@ dropped g [] i x h = cc
 dropped g (y ∷ ys) zero x h = let same : y ≡ x = cc in (map g ys, ap (λ z. g z ∷ map g ys) same)
 dropped g (y ∷ ys) (suc i) x h = dropped g ys i x h
 
-module _ (s : KitContext) (m : Ptr Operation) (safe : (g : Ptr Operation) → IsCallee s m g → IsSafe s m g) where
+module _ (s : InterpretedContext) (m : Ptr Operation) (safe : (g : Ptr Operation) → IsCallee s m g → IsSafe s m g) where
   abbrev code : KitCode
   code = module_code s m
 
@@ -97,10 +97,10 @@ module _ (s : KitContext) (m : Ptr Operation) (safe : (g : Ptr Operation) → Is
   module _ (f : KitFrame) (fs : List KitFrame) (out : List ℕ) (at : IsAt f) (waits : AllWait fs) where
     -- the effect of these operations isn't a standstill, and what comes of it goes on
     abbrev GoesWell : List KitSeen → Type 0
-    GoesWell os = IsDone same_value code (effect same_value code f os) × IsRunning (after same_value code f fs out (effect same_value code f os))
+    GoesWell os = HasExecuted same_value code (effect same_value code f os) × IsRunning (after same_value code f fs out (effect same_value code f os))
 
     result_well : (r : Value) (o : Option ℕ) → suc f.index < length (operations_in s.program f.block)
-        → IsDone same_value code (with_result same_value f r o) × IsRunning (after same_value code f fs out (with_result same_value f r o))
+        → HasExecuted same_value code (with_result same_value f r o) × IsRunning (after same_value code f fs out (with_result same_value f r o))
     result_well r None more = (tt, tt)
     result_well r (Some n) more = (tt, (next_at f (machine.bind same_value f.numbers r n) (waiting f at more), waits))
 

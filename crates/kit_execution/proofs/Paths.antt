@@ -14,11 +14,11 @@ use Rattle.kit_checks.specs.Faults.{KeptEverywhere}
 use Rattle.kit_checks.specs.World.{world_of}
 use Rattle.kit_checks.proofs.Down.{both, step_to}
 use Rattle.kit_interpreter.specs.declared.executing.Place.{Place}
-use Rattle.kit_interpreter.specs.Store.{KitContext, is_name, is_module, attribute_of, members, function_named, module_named, locate}
+use Rattle.kit_interpreter.specs.Store.{InterpretedContext, is_name, is_module, attribute_of, members, function_named, module_named, locate}
 use Rattle.kit_interpreter.specs.Lowering.{FunctionsCanRun}
 use Rattle.kit_interpreter.specs.Running.{PathCanRun, place_of}
 use Rattle.kit_interpreter.proofs.Located.{first_listed}
-use Rattle.kit_execution.specs.Obeying.{KitTree, ObeysRules}
+use Rattle.kit_execution.specs.Obeying.{ExecutedTree, ObeysRules}
 use Rattle.kit_execution.specs.Moving.{NeverStays, PathMoves}
 use Rattle.kit_execution.proofs.Reached.{outer_if, root_reached}
 use Rattle.kit_execution.proofs.First.{first_passes}
@@ -28,7 +28,7 @@ use Rattle.kit_execution.proofs.Functions.{keeps, IsModuleAt, body, member, func
 use Rattle.kit_execution.proofs.Safe.{IsCallee}
 use Rattle.kit_execution.proofs.Moves.{moves_on}
 
-module _ (s : KitContext) (t : KitTree) (obeys : (r : Rule) → KeptEverywhere (world_of s) t r) where
+module _ (s : InterpretedContext) (t : ExecutedTree) (obeys : (r : Rule) → KeptEverywhere (world_of s) t r) where
   -- a module in a module
   inner_module : (m : Ptr Operation) (x : KitSite) → IsModuleAt s t obeys m x → (name : List ℕ) (k : Ptr Operation) → module_named s.program m name ≡ Some k
       → (y : KitSite) × IsModuleAt s t obeys k y
@@ -79,7 +79,7 @@ module _ (s : KitContext) (t : KitTree) (obeys : (r : Rule) → KeptEverywhere (
     place_moves = moves_on s p.within (callees_safe s t obeys p.within sited.site sited.at) p.function sited.callee
 
 -- in a module that keeps the rules
-module _ (s : KitContext) (root : Ptr Operation) (obeys : ObeysRules s root) (tree : (t : KitTree) × StandsFor s.program root t) where
+module _ (s : InterpretedContext) (root : Ptr Operation) (obeys : ObeysRules s root) (tree : (t : ExecutedTree) × StandsFor s.program root t) where
   pub can_run : (path : List Identifier) → PathCanRun s root path
   can_run path p is = place_can_run s tree.0 (obeys tree.0 tree.1) root tree.1 path p is
 

@@ -8,13 +8,13 @@ use Rattle.ir_trees.specs.Searched.{Lists}
 use Rattle.kit_ops.specs.declared.kinds.Arithmetic.{Arithmetic}
 use Rattle.kit_ops.specs.declared.kinds.Comparison.{Comparison}
 use Rattle.kit_flat.specs.Machine as machine
-use Rattle.kit_flat.specs.Machine.{Op, Other}
+use Rattle.kit_flat.specs.Machine.{MachineOp, Other}
 use Rattle.kit_flat.specs.Forms.{Form, Constant, Calculate, Compare, Emit, Call, Br, CondBr, Return, op_of}
 use Rattle.kit_interpreter.specs.Store.{op_if}
 
 -- what the machine sees
 abbrev pub KitSeen : Type 0
-KitSeen = Op Value (Ptr BasicBlock) (Ptr Operation)
+KitSeen = MachineOp Value (Ptr BasicBlock) (Ptr Operation)
 
 none_of : {X : Type 0} (xs : List X) → length xs ≡ 0 → xs ≡ []
 none_of [] h = refl

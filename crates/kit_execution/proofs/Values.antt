@@ -17,9 +17,9 @@ use Rattle.kit_checks.specs.Words as words
 use Rattle.kit_checks.specs.Words.{joined, results_of, values_in, values_before, values_if, first_body, visible}
 use Rattle.kit_checks.proofs.Down.{block_listed, operation_listed, operations_are}
 use Rattle.kit_interpreter.specs.Numbers.{values_of}
-use Rattle.kit_interpreter.specs.Store.{KitData, KitNotes, KitProgram, body_of}
+use Rattle.kit_interpreter.specs.Store.{KitData, KitNotes, InterpretedProgram, body_of}
 use Rattle.kit_interpreter.specs.Lowering.{IsValueIn}
-use Rattle.kit_execution.specs.Obeying.{KitTree}
+use Rattle.kit_execution.specs.Obeying.{ExecutedTree}
 use Rattle.kit_execution.proofs.Bodies.{KitBlocks, KitBody}
 
 -- ---- lists
@@ -31,7 +31,7 @@ has_take (suc n) [] x h = h
 has_take (suc n) (y ∷ xs) x h = ⊎_elim (λ same. inl same) (λ rest. inr (has_take n xs x rest)) h
 
 -- a result of some of these operations is one of one of them
-made_by : (us : List KitTree) (v : Value) → Has v (results_of us) → (u : KitTree) × Has u us × Has v (words.values_of u.head.results)
+made_by : (us : List ExecutedTree) (v : Value) → Has v (results_of us) → (u : ExecutedTree) × Has u us × Has v (words.values_of u.head.results)
 made_by [] v h = absurd h
 made_by (u ∷ us) v h = ⊎_elim
     (λ here. (u, inl refl, here))
@@ -44,8 +44,8 @@ defined_values (t ∷ ts) = ap (λ l. t.value ∷ l) (defined_values ts)
 
 -- ---- definitions
 
-module _ (c : KitProgram) where
-  pub result_values : (q : Ptr Operation) (u : KitTree) → StandsFor c q u → words.values_of u.head.results ≡ values_of (results_at c q)
+module _ (c : InterpretedProgram) where
+  pub result_values : (q : Ptr Operation) (u : ExecutedTree) → StandsFor c q u → words.values_of u.head.results ≡ values_of (results_at c q)
   result_values q u s = ap (λ (h : ProgramHead KitData KitNotes). words.values_of h.results) s.head ∙ defined_values s.view.results
       ∙ sym (ap (λ (o : Option (OperationView KitData)). values_of (unwrap_or (option_map (λ (x : OperationView KitData). x.results) o) [])) s.there)
 
@@ -53,7 +53,7 @@ module _ (c : KitProgram) where
   argument_values b body s = ap (λ (l : ProgramLabel KitData KitNotes). words.values_of l.arguments) s.label ∙ defined_values s.view.arguments
       ∙ sym (ap (λ (o : Option (BlockView KitNotes)). values_of (unwrap_or (option_map (λ (x : BlockView KitNotes). x.arguments) o) [])) s.there)
 
-  pub result_count : (q : Ptr Operation) (u : KitTree) → StandsFor c q u → length (values_of (results_at c q)) ≡ length u.head.results
+  pub result_count : (q : Ptr Operation) (u : ExecutedTree) → StandsFor c q u → length (values_of (results_at c q)) ≡ length u.head.results
   result_count q u s = sym (ap length (result_values q u s)) ∙ length-map u.head.results (λ d. d.name)
 
   -- the value is an argument of the block, or a result of an operation there
@@ -63,7 +63,7 @@ module _ (c : KitProgram) where
   of_arguments : (b : Ptr BasicBlock) (body : KitBody) → IsBody c b body → (v : Value) → Has v (words.values_of body.label.arguments) → IsOf b v
   of_arguments b body is v has = inl (has_at (values_of (arguments_at c b)) v (subst (Has v) (argument_values b body is) has))
 
-  of_results : (b : Ptr BasicBlock) (body : KitBody) → IsBody c b body → (v : Value) (u : KitTree) → Has u (operation_list body.operations)
+  of_results : (b : Ptr BasicBlock) (body : KitBody) → IsBody c b body → (v : Value) (u : ExecutedTree) → Has u (operation_list body.operations)
       → Has v (words.values_of u.head.results) → IsOf b v
   of_results b body is v u in_block in_op =
       let k = has_at (operation_list body.operations) u in_block in

@@ -24,15 +24,15 @@ use Rattle.kit_ops.specs.declared.kinds.KitOp.TheVariants as ops
 use Rattle.kit_ops.specs.declared.types.KitType.{KitType}
 use Rattle.kit_ops.specs.declared.types.KitTypeKind.{KitTypeKind}
 use Rattle.kit_checks.specs.Words.{identifier_in}
-use Rattle.kit_interpreter.specs.Store.{KitData, KitNotes, KitProgram, is_name, is_function, is_module, attribute_of, is_function_named}
-use Rattle.kit_execution.specs.Obeying.{KitTree}
+use Rattle.kit_interpreter.specs.Store.{KitData, KitNotes, InterpretedProgram, is_name, is_function, is_module, attribute_of, is_function_named}
+use Rattle.kit_execution.specs.Obeying.{ExecutedTree}
 
 -- the notes of operations of `kit`
 abbrev pub KitOperationNotes : Type 0
 KitOperationNotes = OperationNotes Kit KitTypeKind KitAttrKind Unused Unused KitLocation KitOp KitAttr KitType
 
 -- the attribute of an operation of a tree under a key
-abbrev pub tree_attribute : KitTree → List ℕ → Option KitAttr
+abbrev pub tree_attribute : ExecutedTree → List ℕ → Option KitAttr
 tree_attribute u key = attribute_at u.head.content.notes.attributes key
 
 is_func : (k : KitOp) → is_function (Some k) ≡ true → k ≡ ops.Func
@@ -49,7 +49,7 @@ has_name (Some (attrs.Identifier id)) name h =
     subst (λ t. bytes_eq name t ≡ true) (sym same) (nat_list_eq_equiv.refl name)
 has_name _ name h = cc
 
-module _ (c : KitProgram) (p : Ptr Operation) (u : KitTree) (s : StandsFor c p u) where
+module _ (c : InterpretedProgram) (p : Ptr Operation) (u : ExecutedTree) (s : StandsFor c p u) where
   pub payload_is : payload_at c p ≡ Some u.head.content
   payload_is = ap (option_map (λ (v : OperationView KitData). v.payload)) s.there
       ∙ ap (λ (h : ProgramHead KitData KitNotes). Some h.content) (sym s.head)

@@ -4,33 +4,33 @@ use Rattle.ir_names.specs.declared.identifier.Identifier.{Identifier}
 use Rattle.ir_program.specs.Replacing.{same_value}
 use Rattle.ir_program.specs.declared.handles.Ptr.{Ptr}
 use Rattle.ir_program.specs.declared.handles.Operation.{Operation}
-use Rattle.kit_flat.specs.Machine.{Code, State, Going, Ended, Trapped, Effect, Next, Emits, Enters, Leaves, Traps, Stays, effect, rest_of, run, start}
+use Rattle.kit_flat.specs.Machine.{Code, MachineState, Going, Ended, Trapped, MachineEffect, Next, Emits, Enters, Leaves, Traps, Stays, effect, rest_of, run, start}
 use Rattle.kit_interpreter.specs.declared.executing.Place.{Place}
-use Rattle.kit_interpreter.specs.Store.{KitContext, module_code}
+use Rattle.kit_interpreter.specs.Store.{InterpretedContext, module_code}
 use Rattle.kit_interpreter.specs.Running.{place_of}
 
 module _ {V B F : Type 0} (same : V → V → Bool) (code : Code V B F) where
   -- the machine has executed an operation, and a function that is called has a block
-  abbrev pub IsDone : Effect V B F → Type 0
-  IsDone (Next f) = Unit {0}
-  IsDone (Emits n f) = Unit {0}
-  IsDone (Enters g xs) = IsSome (code.entry g)
-  IsDone (Leaves xs) = Unit {0}
-  IsDone Traps = Unit {0}
-  IsDone Stays = ⊥
+  abbrev pub HasExecuted : MachineEffect V B F → Type 0
+  HasExecuted (Next f) = Unit {0}
+  HasExecuted (Emits n f) = Unit {0}
+  HasExecuted (Enters g xs) = IsSome (code.entry g)
+  HasExecuted (Leaves xs) = Unit {0}
+  HasExecuted Traps = Unit {0}
+  HasExecuted Stays = ⊥
 
   -- the run is over, or there is an operation next, and the machine executes it
-  abbrev pub Moves : State V B F → Type 0
+  abbrev pub Moves : MachineState V B F → Type 0
   Moves (Going [] out) = ⊥
-  Moves (Going (f ∷ fs) out) = IsDone (effect same code f (rest_of code f))
+  Moves (Going (f ∷ fs) out) = HasExecuted (effect same code f (rest_of code f))
   Moves (Ended values out) = Unit {0}
   Moves (Trapped out) = Unit {0}
 
 -- however many steps a run of the function at the place makes on whatever numbers, it moves on from there
-abbrev pub NeverStays : KitContext → Place → Type 0
+abbrev pub NeverStays : InterpretedContext → Place → Type 0
 NeverStays s p = (xs : List ℕ) (n : ℕ) → Moves same_value (module_code s p.within)
     (run same_value (module_code s p.within) n (start same_value (module_code s p.within) p.function xs))
 
 -- so it is of the function that a path leads to
-abbrev pub PathMoves : KitContext → Ptr Operation → List Identifier → Type 0
+abbrev pub PathMoves : InterpretedContext → Ptr Operation → List Identifier → Type 0
 PathMoves s root path = (p : Place) → place_of s root path ≡ Some p → NeverStays s p

@@ -5,12 +5,12 @@ use Rattle.ir_trees.specs.Stands.{ProgramTree, StandsFor}
 use Rattle.kit_checks.specs.declared.rule.Rule.{Rule}
 use Rattle.kit_checks.specs.Faults.{KeptEverywhere}
 use Rattle.kit_checks.specs.World.{world_of}
-use Rattle.kit_interpreter.specs.Store.{KitData, KitNotes, KitContext}
+use Rattle.kit_interpreter.specs.Store.{KitData, KitNotes, InterpretedContext}
 
 -- trees of operations of `kit`
-abbrev pub KitTree : Type 0
-KitTree = ProgramTree KitData KitNotes
+abbrev pub ExecutedTree : Type 0
+ExecutedTree = ProgramTree KitData KitNotes
 
 -- each operation inside the root keeps each of the fourteen rules, where it is
-abbrev pub ObeysRules : KitContext → Ptr Operation → Type 0
-ObeysRules s root = (t : KitTree) → StandsFor s.program root t → (r : Rule) → KeptEverywhere (world_of s) t r
+abbrev pub ObeysRules : InterpretedContext → Ptr Operation → Type 0
+ObeysRules s root = (t : ExecutedTree) → StandsFor s.program root t → (r : Rule) → KeptEverywhere (world_of s) t r

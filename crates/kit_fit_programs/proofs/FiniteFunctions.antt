@@ -9,16 +9,16 @@ use Rattle.opt_trees.specs.Occurrences.{Has, Occurrence, occurrences_of, at_root
 use Rattle.kit_ops.specs.declared.kinds.KitOp.{KitOp}
 use Rattle.kit_ops.specs.declared.kinds.KitOp.TheVariants as ops
 use Rattle.kit_ops.specs.declared.types.KitType.{KitType}
-use Rattle.kit_behaviour.specs.Machine.{Fun, Program}
+use Rattle.kit_behaviour.specs.Machine.{Fun, FunctionsByPath}
 use Rattle.kit_behaviour.specs.Numbering.{place_of, place_block}
 use Rattle.kit_behaviour.specs.PassLists.{IsFinite}
 use Rattle.kit_behaviour.specs.Places.{Place}
 use Rattle.kit_behaviour.specs.Scopes.{In}
-use Rattle.kit_views.specs.FlatView.{IsFlat}
+use Rattle.kit_views.specs.FlatView.{FlattensTo}
 use Rattle.kit_views.specs.Reading.{Reading, kit_contents, kit_reading}
 use Rattle.kit_ruled_views.proofs.OneView.{one_view}
 use Rattle.kit_module_programs.specs.Paths.{locate}
-use Rattle.kit_module_programs.specs.Programs.{IsFunctionOf, IsProgramOf}
+use Rattle.kit_module_programs.specs.Programs.{HasFunctionView, IsProgramOf}
 use Rattle.kit_module_programs.specs.Sound.{tree_of, IsSound}
 use Rattle.kit_module_programs.proofs.Located.{located}
 
@@ -44,11 +44,11 @@ module _ {N : Names} (same : N.value → N.value → Bool) (r : Reading kit_cont
   record Lists (os : List (Occurrence N kit_contents)) : Type 0 where
     functions : List (Fun Place)
     all : (o : Occurrence N kit_contents) → Has o os → o.head.content.kind ≡ ops.Func → (f : Fun N.value) →
-        IsFlat r (tree_of o) f → In (placed same f) functions
+        FlattensTo r (tree_of o) f → In (placed same f) functions
 
   abbrev HaveViews : List (Occurrence N kit_contents) → Type 0
   HaveViews os = (o : Occurrence N kit_contents) → Has o os → o.head.content.kind ≡ ops.Func →
-      (f : Fun N.value) × IsFlat r (tree_of o) f
+      (f : Fun N.value) × FlattensTo r (tree_of o) f
 
   listed : (os : List (Occurrence N kit_contents)) → HaveViews os → Lists os
   listed [] views = record { functions = []; all = λ o i. absurd i }
@@ -61,8 +61,8 @@ module _ {N : Names} (same : N.value → N.value → Bool) (r : Reading kit_cont
         functions = placed same view.0 ∷ rest.functions;
         all = λ p i k f flat. ⊎_elim
             (λ e.
-            let own : IsFlat r (tree_of o) f =
-            subst (λ (x : Occurrence N kit_contents). IsFlat r (tree_of x) f) e flat in
+            let own : FlattensTo r (tree_of o) f =
+            subst (λ (x : Occurrence N kit_contents). FlattensTo r (tree_of x) f) e flat in
             inl (ap (placed same) (one_view r (tree_of o) f view.0 own.view view.1.view own.blocks)))
             (λ j. inr (rest.all p j k f flat))
             i;
@@ -79,7 +79,7 @@ module _ {N : Names} (same : N.value → N.value → Bool) (r : Reading kit_cont
 module _ {N : Names} (same : N.value → N.value → Bool) (leads : TypeHandle → Option KitType) (numbered : List ℕ → ℕ)
   where
     pub finite_program : (type_at : N.value → TypeHandle) (t : Root N kit_contents) →
-        IsSound {N = N} leads numbered type_at t → (p : Program Place) →
+        IsSound {N = N} leads numbered type_at t → (p : FunctionsByPath Place) →
         IsProgramOf {N = N} same leads numbered t p → IsFinite p
     finite_program type_at t sound p is = record {
       functions = l.functions;
@@ -91,11 +91,11 @@ module _ {N : Names} (same : N.value → N.value → Bool) (leads : TypeHandle �
             (λ o i kind. let f = sound.functions o i kind in (f.flat, f.is_flat))
 
         by_place : (path : List ℕ) (o : Option (Root N kit_contents)) → locate numbered (reverse path) t ≡ o →
-            (q : Option (Fun Place)) → IsFunctionOf {N = N} same leads numbered o q →
+            (q : Option (Fun Place)) → HasFunctionView {N = N} same leads numbered o q →
             (q ≡ None) ⊎ ((f : Fun Place) × In f l.functions × (q ≡ Some f))
         by_place path None e q h = inl h
         by_place path (Some u) e q h =
             let z = located numbered (reverse path) t (at_root t) u e in
-            let flat : IsFlat (kit_reading leads numbered) (tree_of z.it) h.0 =
-            subst (λ x. IsFlat (kit_reading leads numbered) x h.0) (sym z.is) h.1 in
+            let flat : FlattensTo (kit_reading leads numbered) (tree_of z.it) h.0 =
+            subst (λ x. FlattensTo (kit_reading leads numbered) x h.0) (sym z.is) h.1 in
             inr (placed same h.0, l.all z.it z.stands z.kind h.0 flat, h.2)

@@ -5,7 +5,7 @@ use Rattle.ir_base.specs.declared.types.TypeHandle.{TypeHandle}
 use Rattle.ir_program.specs.declared.handles.Value.{Value}
 use Rattle.ir_trees.specs.Stands.{by_handle}
 use Rattle.kit_ops.specs.declared.types.KitType.{KitType}
-use Rattle.kit_behaviour.specs.Machine.{Fun, Program}
+use Rattle.kit_behaviour.specs.Machine.{Fun, FunctionsByPath}
 use Rattle.kit_behaviour.specs.PassLists.{Fit}
 use Rattle.kit_behaviour.specs.Places.{Place}
 use Rattle.kit_behaviour.specs.Rules.{Rules}
@@ -15,7 +15,7 @@ use Rattle.kit_checks.specs.Faults.{KeptEverywhere}
 use Rattle.kit_views.specs.FlatView.{IsSameness}
 use Rattle.kit_ruled_views.specs.Ruled.{KitTree, kit_world, HasOwnNames, HaveTypesIn, type_or_first}
 use Rattle.kit_module_programs.specs.Paths.{locate}
-use Rattle.kit_module_programs.specs.Programs.{IsFunctionOf, IsProgramOf}
+use Rattle.kit_module_programs.specs.Programs.{HasFunctionView, IsProgramOf}
 use Rattle.kit_module_programs.proofs.RuledSound.{ruled_sound}
 use Rattle.kit_fit_programs.proofs.FiniteFunctions.{finite_program}
 use Rattle.kit_fit_programs.proofs.RuledFlat.{ruled_rules}
@@ -31,11 +31,11 @@ none_rules = record {
 }
 
 module _ (leads : TypeHandle → Option KitType) (typed : Value → Option TypeHandle) (numbered : List ℕ → ℕ)
-    (same : Value → Value → Bool) (t : KitTree) (p : Program Place) (law : IsSameness same)
+    (same : Value → Value → Bool) (t : KitTree) (p : FunctionsByPath Place) (law : IsSameness same)
     (keeps : (r : Rule) → KeptEverywhere (kit_world leads typed) t r)
     (is : IsProgramOf {N = by_handle} same leads numbered t p) where
   rules_at : (path : List ℕ) (o : Option KitTree) → locate numbered (reverse path) t ≡ o → (q : Option (Fun Place)) →
-      IsFunctionOf {N = by_handle} same leads numbered o q → Rules q
+      HasFunctionView {N = by_handle} same leads numbered o q → Rules q
   rules_at path None e q h = subst Rules (sym h) none_rules
   rules_at path (Some u) e q h = subst Rules (sym h.2)
       (ruled_rules leads typed numbered u (ruled_at leads typed numbered t keeps (reverse path) u e) h.0 h.1 same law)

@@ -17,7 +17,7 @@ use Rattle.kit_behaviour.specs.Scopes.{In, AllIn, defs, all_defs, entry_values, 
 use Rattle.kit_behaviour.proofs.Propagation.ScopeLemmas.{in_append}
 use Rattle.kit_checks.specs.Sites.{Listed, operation_list}
 use Rattle.kit_checks.specs.Words.{values_before, values_if, first_body, results_of}
-use Rattle.kit_views.specs.FlatView.{IsOp, AreOps, AreBlocks}
+use Rattle.kit_views.specs.FlatView.{IsOp, AreOps, AreFlatBlocks}
 use Rattle.kit_views.specs.Reading.{Reading, kit_contents}
 use Rattle.kit_ruled_views.specs.Ruled.{KitTree}
 use Rattle.kit_ruled_views.proofs.FunctionSites.{KitBlocks, KitBody}
@@ -86,7 +86,7 @@ module _ (r : Reading kit_contents) (names : List (Ptr BasicBlock)) where
   )
 
   -- the values of the entry block
-  pub entry_sees : (bs : KitBlocks) (f : Fun Value) → AreBlocks r names bs f → (x : Value) →
+  pub entry_sees : (bs : KitBlocks) (f : Fun Value) → AreFlatBlocks r names bs f → (x : Value) →
       Has x (values_if (first_body bs)) → In x (entry_values (Some f))
   entry_sees end f are x has = absurd has
   entry_sees (block l os more) [] are x has = absurd are
@@ -97,7 +97,7 @@ module _ (r : Reading kit_contents) (names : List (Ptr BasicBlock)) where
       (has_either (names_of l.arguments) (results_of (operation_list os)) x has))
 
   -- what a block's operation may name is in scope at the start of the block, or a result of an operation before it
-  pub start_sees : (bs : KitBlocks) (f : Fun Value) → AreBlocks r names bs f → (b : ℕ) (body : KitBody) →
+  pub start_sees : (bs : KitBlocks) (f : Fun Value) → AreFlatBlocks r names bs f → (b : ℕ) (body : KitBody) →
       names_of body.label.arguments ≡ arguments_in (Some f) b → (k : ℕ) (x : Value) →
       Has x (values_before body k ++ cond (b == 0) [] (values_if (first_body bs))) →
       Has x (results_of (take k (operation_list body.operations))) ⊎ In x (at_start (Some f) b)

@@ -6,12 +6,12 @@ use Rattle.std.specs.Prelude.{reverse}
 use Rattle.ir_base.specs.declared.types.TypeHandle.{TypeHandle}
 use Rattle.ir_trees.specs.Names.{Names}
 use Rattle.ir_trees.specs.Trees.{Sort, Operations, Blocks, Regions, Tree, end, operation, block, region, Root}
-use Rattle.opt_trees.specs.Occurrences.{Has, Occurrence, Inside, Site, Spot, inner, next_block, next_region}
+use Rattle.opt_trees.specs.Occurrences.{Has, Occurrence, Inside, OperationSite, Spot, inner, next_block, next_region}
 use Rattle.opt_trees.specs.Occurrences.{at_root, occurrences_in}
 use Rattle.opt_trees.proofs.NoneDead.{has-append}
 use Rattle.kit_ops.specs.declared.types.KitType.{KitType}
-use Rattle.kit_behaviour.specs.Laws.{AlikeWithin, KeepsRules}
-use Rattle.kit_behaviour.specs.Machine.{Fun, Op, Program}
+use Rattle.kit_behaviour.specs.Laws.{AlikeWithin, EachKeepsRules}
+use Rattle.kit_behaviour.specs.Machine.{Fun, Op, FunctionsByPath}
 use Rattle.kit_behaviour.specs.Numbering.{place_block, place_of}
 use Rattle.kit_behaviour.specs.PassLists.{IsAfter, IsPass, Pass}
 use Rattle.kit_behaviour.specs.Places.{Place}
@@ -19,10 +19,10 @@ use Rattle.kit_behaviour.specs.Renaming.{rename_op, same_block}
 use Rattle.kit_behaviour.specs.Rules.{operation_count, operations_of, OperationsWithin}
 use Rattle.kit_behaviour.proofs.Behaviour.SizeLemmas.{length_map}
 use Rattle.kit_behaviour.proofs.PassListLemmas.{pass_within}
-use Rattle.kit_views.specs.FlatView.{AreBlocks, AreOps, IsFlat, names_in}
+use Rattle.kit_views.specs.FlatView.{AreFlatBlocks, AreOps, FlattensTo, names_in}
 use Rattle.kit_views.specs.Reading.{Reading, kit_contents, kit_reading}
 use Rattle.kit_module_programs.specs.Paths.{locate}
-use Rattle.kit_module_programs.specs.Programs.{IsFunctionOf, IsProgramOf}
+use Rattle.kit_module_programs.specs.Programs.{HasFunctionView, IsProgramOf}
 use Rattle.kit_module_programs.specs.Sound.{tree_of}
 use Rattle.kit_module_programs.proofs.Located.{located}
 use Rattle.kit_fit_programs.specs.Operations.{operations_below}
@@ -63,7 +63,7 @@ module _ {N : Names} where
 
   -- a function has no more than its tree
   module _ (r : Reading kit_contents) (names : List N.block) where
-    operations_in : (os : Tree N kit_contents Operations) (ps : List (Op N.value)) (i : Site N kit_contents)
+    operations_in : (os : Tree N kit_contents Operations) (ps : List (Op N.value)) (i : OperationSite N kit_contents)
         → AreOps r names os ps → length ps ≤ length (occurrences_in os i)
     operations_in end [] i are = omega arith
     operations_in end (p ∷ ps) i are = absurd are
@@ -74,18 +74,18 @@ module _ {N : Names} where
         omega (arith, n, sum)
 
     blocks_in : (bs : Tree N kit_contents Blocks) (f : Fun N.value) (i : Spot N kit_contents)
-        → AreBlocks r names bs f → operations_of f ≤ length (occurrences_in bs i)
+        → AreFlatBlocks r names bs f → operations_of f ≤ length (occurrences_in bs i)
     blocks_in end [] i are = omega arith
     blocks_in end (k ∷ ks) i are = absurd are
     blocks_in (block l os more) [] i are = absurd are
     blocks_in (block l os more) (k ∷ ks) i are =
-        let here : Site N kit_contents = record { spot = i; label = l } in
+        let here : OperationSite N kit_contents = record { spot = i; label = l } in
         let n = operations_in os k.ops here are.1 in
         let m = blocks_in more ks (next_block i) are.2 in
         let sum = length-append (occurrences_in os here) (occurrences_in more (next_block i)) in
         omega (arith, n, m, sum)
 
-  view_in : (r : Reading kit_contents) (o : Occurrence N kit_contents) (f : Fun N.value) → IsFlat r (tree_of o) f
+  view_in : (r : Reading kit_contents) (o : Occurrence N kit_contents) (f : Fun N.value) → FlattensTo r (tree_of o) f
       → operations_of f ≤ inside o
   view_in r o f flat =
       let i = inner o.head o.site in
@@ -106,24 +106,24 @@ placed_count r (k ∷ ks) =
 module _ {N : Names} (same : N.value → N.value → Bool) (leads : TypeHandle → Option KitType) (numbered : List ℕ → ℕ)
     (t : Root N kit_contents) where
   function_within : (path : List ℕ) (o : Option (Root N kit_contents)) → locate numbered path t ≡ o
-      → (q : Option (Fun Place)) → IsFunctionOf {N = N} same leads numbered o q
+      → (q : Option (Fun Place)) → HasFunctionView {N = N} same leads numbered o q
       → operation_count q ≤ operations_below t
   function_within path None e q is = subst (λ x. operation_count x ≤ operations_below t) (sym is) (omega arith)
   function_within path (Some u) e q is =
       let z = located numbered path t (at_root t) u e in
-      let flat : IsFlat (kit_reading leads numbered) (tree_of z.it) is.0 =
-      subst (λ x. IsFlat (kit_reading leads numbered) x is.0) (sym z.is) is.1 in
+      let flat : FlattensTo (kit_reading leads numbered) (tree_of z.it) is.0 =
+      subst (λ x. FlattensTo (kit_reading leads numbered) x is.0) (sym z.is) is.1 in
       let n = view_in (kit_reading leads numbered) z.it is.0 flat in
       let m = in_tree Regions t.regions (at_root t) z.it z.stands in
       let k = placed_count (place_of same is.0) is.0 in
       subst (λ x. operation_count x ≤ operations_below t) (sym is.2) (omega (arith, n, m, k))
 
-  pub program_within : (p : Program Place) → IsProgramOf {N = N} same leads numbered t p
+  pub program_within : (p : FunctionsByPath Place) → IsProgramOf {N = N} same leads numbered t p
       → OperationsWithin (operations_below t) p
   program_within p is path = function_within (reverse path) (locate numbered (reverse path) t) refl (p path) (is path)
 
 -- one pass, by the numbers of operations of both modules
-pub one_pass : (x : Pass) (p q : Program Place) (a b : ℕ) → KeepsRules p → IsAfter (x ∷ []) p q
+pub one_pass : (x : Pass) (p q : FunctionsByPath Place) (a b : ℕ) → EachKeepsRules p → IsAfter (x ∷ []) p q
     → OperationsWithin a p → OperationsWithin b q → AlikeWithin (suc (a + b)) p q
 one_pass x p q a b rules made first last =
     pass_within x p q (a + b) rules (subst (IsPass x p) made.2 made.1)

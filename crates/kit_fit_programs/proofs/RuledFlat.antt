@@ -20,7 +20,7 @@ use Rattle.kit_behaviour.proofs.Numbering.NumberingRules.{Shaped, placed_rules}
 use Rattle.kit_checks.specs.declared.rule.Rule.TheVariants as rule
 use Rattle.kit_checks.specs.Sites.{Listed, operation_list, block_list, region_list}
 use Rattle.kit_checks.specs.Words.{joined, bodies_of, visible}
-use Rattle.kit_views.specs.FlatView.{IsSameness, AreOps, AreBlocks, IsFlat, names_in}
+use Rattle.kit_views.specs.FlatView.{IsSameness, AreOps, AreFlatBlocks, FlattensTo, names_in}
 use Rattle.kit_views.specs.Reading.{Reading, kit_contents, kit_reading}
 use Rattle.kit_ruled_views.specs.Ruled.{KitTree, IsRuledFunction}
 use Rattle.kit_ruled_views.proofs.FunctionSites.{KitBlocks, KitBody, KitAround, own_keeps, inner_around, inner_keeps}
@@ -37,7 +37,7 @@ record IsBodyOf (r : Reading kit_contents) (names : List (Ptr BasicBlock)) (bs :
   ops : AreOps r names body.operations k.ops
 
 body_of : (r : Reading kit_contents) (names : List (Ptr BasicBlock)) (bs : KitBlocks) (f : Fun Value) →
-    AreBlocks r names bs f → (b : ℕ) (k : Block Value) → slice_get f b ≡ Some k → IsBodyOf r names bs b k
+    AreFlatBlocks r names bs f → (b : ℕ) (k : Block Value) → slice_get f b ≡ Some k → IsBodyOf r names bs b k
 body_of r names end [] are b k at = absurd (cc at)
 body_of r names end (j ∷ ks) are b k at = absurd are
 body_of r names (block l os more) [] are b k at = absurd are
@@ -51,7 +51,7 @@ body_of r names (block l os more) (j ∷ ks) are (suc b) k at =
 
 module _ (leads : TypeHandle → Option KitType) (typed : Value → Option TypeHandle) (numbered : List ℕ → ℕ)
     (u : KitTree) (ruled : IsRuledFunction leads typed u) (f : Fun Value)
-    (flat : IsFlat (kit_reading leads numbered) u f) where
+    (flat : FlattensTo (kit_reading leads numbered) u f) where
   abbrev reading : Reading kit_contents
   reading = kit_reading leads numbered
 

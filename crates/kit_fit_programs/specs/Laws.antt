@@ -6,7 +6,7 @@ use Rattle.ir_trees.specs.Stands.{by_handle}
 use Rattle.kit_ops.specs.declared.types.KitType.{KitType}
 use Rattle.kit_checks.specs.declared.rule.Rule.{Rule}
 use Rattle.kit_checks.specs.Faults.{KeptEverywhere}
-use Rattle.kit_behaviour.specs.Machine.{Program}
+use Rattle.kit_behaviour.specs.Machine.{FunctionsByPath}
 use Rattle.kit_behaviour.specs.PassLists.{Fit}
 use Rattle.kit_behaviour.specs.Places.{Place}
 use Rattle.kit_behaviour.specs.Rules.{OperationsWithin}
@@ -19,12 +19,12 @@ use Rattle.kit_fit_programs.specs.Operations.{operations_below}
 -- bounds for its functions
 abbrev pub RulesMakeFit : Type 0
 RulesMakeFit = (leads : TypeHandle → Option KitType) (typed : Value → Option TypeHandle) (numbered : List ℕ → ℕ)
-    (same : Value → Value → Bool) (t : KitTree) (p : Program Place) → IsSameness same →
+    (same : Value → Value → Bool) (t : KitTree) (p : FunctionsByPath Place) → IsSameness same →
     ((r : Rule) → KeptEverywhere (kit_world leads typed) t r) → HasOwnNames t → HaveTypesIn typed t →
     IsProgramOf {N = by_handle} same leads numbered t p → Fit p
 
 -- no function of the program of a module has more operations than the module
 abbrev pub ModulesBoundFunctions : Type 0
 ModulesBoundFunctions = (leads : TypeHandle → Option KitType) (numbered : List ℕ → ℕ) (same : Value → Value → Bool)
-    (t : KitTree) (p : Program Place) → IsProgramOf {N = by_handle} same leads numbered t p →
+    (t : KitTree) (p : FunctionsByPath Place) → IsProgramOf {N = by_handle} same leads numbered t p →
     OperationsWithin (operations_below t) p

@@ -2,7 +2,7 @@
 use Rattle.std.proofs.Common.{◌≡◌, ℕ, ◌<◌, ◌≤◌, List, [], ◌∷◌, Some, None, subst}
 use Rattle.std.proofs.lemmas.List.Elements.{All-head, All-tail, All-take, All-drop}
 use Rattle.kit_flat.specs.Machine as machine
-use Rattle.kit_flat.specs.Machine.{Op, Other}
+use Rattle.kit_flat.specs.Machine.{MachineOp, Other}
 use Rattle.kit_flat.specs.declared.flat.Instruction.{Instruction}
 use Rattle.kit_flat.specs.declared.flat.Instruction.TheVariants as flat
 use Rattle.kit_flat.specs.declared.forming.FlatForm.{FlatForm}
@@ -11,9 +11,9 @@ use Rattle.kit_flat.specs.View.{op_view}
 use Rattle.kit_flat.specs.Sound.{AreBelow, InstructionFits}
 use Rattle.kit_flat.specs.Forms.{op_of, form_view}
 use Rattle.kit_flat.specs.Formed.{FormFits}
-use Rattle.kit_flat.specs.Renames.{LeadsInside}
+use Rattle.kit_flat.specs.Renames.{TargetsAreInside}
 
-abbrev OpFits : ℕ → ℕ → ℕ → Op ℕ ℕ ℕ → Type 0
+abbrev OpFits : ℕ → ℕ → ℕ → MachineOp ℕ ℕ ℕ → Type 0
 OpFits m n b (machine.Constant r k) = (r < n) × Unit {0}
 OpFits m n b (machine.Calculate f w r x y) = ((w ≤ 64) × (r < n) × (x < n) × (y < n)) × Unit {0}
 OpFits m n b (machine.Compare f r x y) = ((r < n) × (x < n) × (y < n)) × Unit {0}
@@ -47,7 +47,7 @@ module _ (m n b : ℕ) where
   op_fits form.Return f [] xs [] h l t = (l, tt)
   op_fits s f rs xs bs h l t = tt
 
-  both : (x : Instruction) → OpFits m n b (op_view x) → InstructionFits m n x × LeadsInside b x
+  both : (x : Instruction) → OpFits m n b (op_view x) → InstructionFits m n x × TargetsAreInside b x
   both (flat.Constant r k) h = h
   both (flat.Calculate f w r x y) h = h
   both (flat.Compare f r x y) h = h
@@ -59,5 +59,5 @@ module _ (m n b : ℕ) where
 
   pub formed_fits : (s : FlatForm) → FormFits m s → (rs xs bs : List ℕ) → AreBelow n rs → AreBelow n xs
       → AreBelow b bs → (x : Instruction) → op_of (form_view s) rs xs bs ≡ op_view x → InstructionFits m n x
-      × LeadsInside b x
+      × TargetsAreInside b x
   formed_fits s f rs xs bs h l t x e = both x (subst (OpFits m n b) e (op_fits s f rs xs bs h l t))

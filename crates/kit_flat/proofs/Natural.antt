@@ -1,7 +1,7 @@
 -- The operation of a form under other names is the operation of the form, under these names.
 use Rattle.std.proofs.Common.{◌≡◌, ℕ, zero, suc, List, [], ◌∷◌, map, take, drop, refl, ap}
 use Rattle.kit_flat.specs.Machine as machine
-use Rattle.kit_flat.specs.Machine.{Op, Other}
+use Rattle.kit_flat.specs.Machine.{MachineOp, Other}
 use Rattle.kit_flat.specs.Forms.{Form, Constant, Calculate, Compare, Emit, Call, Br, CondBr, Return, op_of, rename_form}
 use Rattle.kit_flat.specs.Renames.{rename_op}
 

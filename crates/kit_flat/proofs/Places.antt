@@ -8,7 +8,7 @@ use Rattle.kit_flat.specs.declared.flat.FlatBlock.{FlatBlock}
 use Rattle.kit_flat.specs.declared.flat.FlatFunction.{FlatFunction}
 use Rattle.kit_flat.specs.declared.frames.FlatFrame.{FlatFrame}
 use Rattle.kit_flat.specs.View.{op_view, block_view, block_in, flat_code, numbers_of, frame_view}
-use Rattle.kit_flat.specs.Sound.{IsSound, ArgumentsFit, instruction_in}
+use Rattle.kit_flat.specs.Sound.{FlatFunctionsFit, ArgumentsFit, instruction_in}
 
 pub arguments_at : (o : Option FlatBlock) (b : FlatBlock) → o ≡ Some b
     → arguments_of (option_map block_view o) ≡ b.arguments.items
@@ -17,7 +17,7 @@ arguments_at o b e = ap (λ q. arguments_of (option_map block_view q)) e
 pub arguments_none : (o : Option FlatBlock) → o ≡ None → arguments_of (option_map block_view o) ≡ []
 arguments_none o e = ap (λ q. arguments_of (option_map block_view q)) e
 
-pub arguments_fit : (fs : List FlatFunction) → IsSound fs → (i : ℕ) (f : FlatFunction) → slice_get fs i ≡ Some f
+pub arguments_fit : (fs : List FlatFunction) → FlatFunctionsFit fs → (i : ℕ) (f : FlatFunction) → slice_get fs i ≡ Some f
     → ArgumentsFit f.values f
 arguments_fit fs s i f e = λ j b h. ((s.functions_fit i f e).blocks_fit j b h).arguments_fit
 

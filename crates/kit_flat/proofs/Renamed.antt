@@ -3,7 +3,7 @@ use Rattle.std.proofs.Common.{◌≡◌, ℕ, zero, suc, ◌<◌, ◌≤◌, Boo
 use Rattle.std.specs.Option.{option_map}
 use Rattle.std.proofs.lemmas.Option.{slice_get-map, slice_get_cases}
 use Rattle.std.proofs.lemmas.List.Elements.{All-head, All-tail}
-use Rattle.kit_flat.specs.Machine.{Op, Code, Frame, State, Going, Ended, Trapped, Effect, Next, Emits, Enters, Leaves, Traps, Stays, arguments_of, operations_from, rest_of, arithmetic, compares, bit, effect, after, returned, bind, bind_all, next, follow, with_result, chosen, entered, on_top, first_frame, resumed, results_of, step, run, start}
+use Rattle.kit_flat.specs.Machine.{MachineOp, Code, MachineFrame, MachineState, Going, Ended, Trapped, MachineEffect, Next, Emits, Enters, Leaves, Traps, Stays, arguments_of, operations_from, rest_of, arithmetic, compares, bit, effect, after, returned, bind, bind_all, next, follow, with_result, chosen, entered, on_top, first_frame, resumed, results_of, step, run, start}
 use Rattle.kit_flat.specs.declared.flat.FlatEdge.{FlatEdge}
 use Rattle.kit_flat.specs.declared.flat.Instruction.{Instruction}
 use Rattle.kit_flat.specs.declared.flat.Instruction.TheVariants.{Constant, Calculate, Compare, Emit, Call, Br, CondBr, Return}
@@ -12,9 +12,9 @@ use Rattle.kit_flat.specs.declared.flat.FlatFunction.{FlatFunction}
 use Rattle.kit_flat.specs.declared.outcome.Outcome.{Outcome}
 use Rattle.kit_flat.specs.declared.outcome.Outcome.TheVariants as outcomes
 use Rattle.kit_flat.specs.View.{edge_view, op_view, block_view, block_in, flat_code}
-use Rattle.kit_flat.specs.Sound.{AreBelow, EdgeFits, InstructionFits}
+use Rattle.kit_flat.specs.Sound.{AreBelow, EdgeOperandsFit, InstructionFits}
 use Rattle.kit_flat.specs.Shows.{OutcomeShows}
-use Rattle.kit_flat.specs.Renames.{rename_edge, rename_op, rename_block, Names, LeadsInside, IsModuleOf}
+use Rattle.kit_flat.specs.Renames.{rename_edge, rename_op, rename_block, FlatNames, TargetsAreInside, IsModuleOf}
 use Rattle.kit_flat.proofs.Places.{drop_at_place, drop_past, rest_at, rest_none}
 
 -- ---- numbers of values
@@ -57,7 +57,7 @@ map_agree value n a b h (v ∷ vs) l =
 
 -- the results that a call names
 pub results_renamed : {W C G : Type 0} (value : ℕ → W) (block : ℕ → C) (function : ℕ → G) (x : Instruction)
-    (rest : List (Op ℕ ℕ ℕ)) (more : List (Op W C G)) → results_of
+    (rest : List (MachineOp ℕ ℕ ℕ)) (more : List (MachineOp W C G)) → results_of
     (rename_op value block function (op_view x) ∷ more) ≡ map value (results_of (op_view x ∷ rest))
 results_renamed value block function (Constant r n) rest more = refl
 results_renamed value block function (Calculate f w r x y) rest more = refl
@@ -68,7 +68,7 @@ results_renamed value block function (Br e) rest more = refl
 results_renamed value block function (CondBr x e d) rest more = refl
 results_renamed value block function (Return xs) rest more = refl
 
-results_below : (m n : ℕ) (x : Instruction) (rest : List (Op ℕ ℕ ℕ)) → InstructionFits m n x
+results_below : (m n : ℕ) (x : Instruction) (rest : List (MachineOp ℕ ℕ ℕ)) → InstructionFits m n x
     → AreBelow n (results_of (op_view x ∷ rest))
 results_below m n (Constant r k) rest h = λ i d l. absurd (omega (arith, l))
 results_below m n (Calculate f w r x y) rest h = λ i d l. absurd (omega (arith, l))
@@ -81,13 +81,13 @@ results_below m n (Return xs) rest h = λ i d l. absurd (omega (arith, l))
 
 -- ---- steps
 
-module _ {W C G : Type 0} (same : W → W → Bool) (q : Code W C G) (names : Names W C G) (fs : List FlatFunction)
+module _ {W C G : Type 0} (same : W → W → Bool) (q : Code W C G) (names : FlatNames W C G) (fs : List FlatFunction)
     (module_of : IsModuleOf same q names fs) where
   abbrev P : Code ℕ ℕ ℕ
   P = flat_code fs
 
   -- a frame of the flat module at a block, and the same frame under the names
-  pub record FrameAlike (f : Frame ℕ ℕ ℕ) (g : Frame W C G) : Type 0 where
+  pub record FrameAlike (f : MachineFrame ℕ ℕ ℕ) (g : MachineFrame W C G) : Type 0 where
     pub flat : FlatFunction
     pub flat_there : slice_get fs f.function ≡ Some flat
     pub here : FlatBlock
@@ -97,19 +97,19 @@ module _ {W C G : Type 0} (same : W → W → Bool) (q : Code W C G) (names : Na
     pub index : g.index ≡ f.index
     pub numbers : Agree (names.value f.function) flat.values f.numbers g.numbers
 
-  abbrev pub FramesAlike : List (Frame ℕ ℕ ℕ) → List (Frame W C G) → Type 0
+  abbrev pub FramesAlike : List (MachineFrame ℕ ℕ ℕ) → List (MachineFrame W C G) → Type 0
   FramesAlike [] [] = Unit {0}
   FramesAlike [] (g ∷ gs) = ⊥
   FramesAlike (f ∷ fs) [] = ⊥
   FramesAlike (f ∷ fs) (g ∷ gs) = FrameAlike f g × FramesAlike fs gs
 
-  abbrev pub StateAlike : State ℕ ℕ ℕ → State W C G → Type 0
+  abbrev pub StateAlike : MachineState ℕ ℕ ℕ → MachineState W C G → Type 0
   StateAlike (Going fs out) (Going gs shown) = FramesAlike fs gs × (shown ≡ out)
   StateAlike (Ended ns out) (Ended ms shown) = (ms ≡ ns) × (shown ≡ out)
   StateAlike (Trapped out) (Trapped shown) = shown ≡ out
   StateAlike s t = ⊥
 
-  abbrev EffectAlike : Effect ℕ ℕ ℕ → Effect W C G → Type 0
+  abbrev EffectAlike : MachineEffect ℕ ℕ ℕ → MachineEffect W C G → Type 0
   EffectAlike (Next f) (Next g) = FrameAlike f g
   EffectAlike (Emits n f) (Emits m g) = (m ≡ n) × FrameAlike f g
   EffectAlike (Enters i xs) (Enters h ys) = (h ≡ names.function i) × (ys ≡ xs) × (i < length fs)
@@ -127,17 +127,17 @@ module _ {W C G : Type 0} (same : W → W → Bool) (q : Code W C G) (names : Na
       (rename_block (names.value i) (names.block i) names.function (block_view x))
   block_named i b f x e h = (module_of.functions i f e).blocks b x h
 
-  module _ (f : Frame ℕ ℕ ℕ) (g : Frame W C G) (h : FrameAlike f g) where
+  module _ (f : MachineFrame ℕ ℕ ℕ) (g : MachineFrame W C G) (h : FrameAlike f g) where
     abbrev value : ℕ → W
     value = names.value f.function
 
-    abbrev ren : Op ℕ ℕ ℕ → Op W C G
+    abbrev ren : MachineOp ℕ ℕ ℕ → MachineOp W C G
     ren = rename_op value (names.block f.function) names.function
 
-    abbrev left : List (Op ℕ ℕ ℕ)
+    abbrev left : List (MachineOp ℕ ℕ ℕ)
     left = drop (suc f.index) (map op_view h.here.instructions.items)
 
-    abbrev more : List (Op W C G)
+    abbrev more : List (MachineOp W C G)
     more = drop (suc f.index) (map ren (map op_view h.here.instructions.items))
 
     block_q : q.block g.function g.block ≡ Some
@@ -176,7 +176,7 @@ module _ {W C G : Type 0} (same : W → W → Bool) (q : Code W C G) (names : Na
         h.here_there).instructions_fit f.index x e
 
     leads : (x : Instruction) → slice_get h.here.instructions.items f.index ≡ Some x
-        → LeadsInside (length h.flat.blocks.items) x
+        → TargetsAreInside (length h.flat.blocks.items) x
     leads x e = (module_of.functions f.function h.flat h.flat_there).inside f.block h.here h.here_there f.index x e
 
     abbrev apart : (v w : ℕ) → v < h.flat.values → w < h.flat.values → same (value v) (value w) ≡ nat_eq v w
@@ -207,7 +207,7 @@ module _ {W C G : Type 0} (same : W → W → Bool) (q : Code W C G) (names : Na
     read : (xs : List ℕ) → AreBelow h.flat.values xs → map g.numbers (map value xs) ≡ map f.numbers xs
     read xs l = map_agree value h.flat.values f.numbers g.numbers h.numbers xs l
 
-    follow_at : (e : FlatEdge) → EdgeFits h.flat.values e → (x : FlatBlock)
+    follow_at : (e : FlatEdge) → EdgeOperandsFit h.flat.values e → (x : FlatBlock)
         → slice_get h.flat.blocks.items e.target ≡ Some x → FrameAlike (follow nat_eq P f (edge_view e))
         (follow same q g (rename_edge value (names.block f.function) (edge_view e)))
     follow_at e l x at = record {
@@ -231,7 +231,7 @@ module _ {W C G : Type 0} (same : W → W → Bool) (q : Code W C G) (names : Na
           (read e.operands.items l);
     }
 
-    follow_alike : (e : FlatEdge) → EdgeFits h.flat.values e → e.target < length h.flat.blocks.items
+    follow_alike : (e : FlatEdge) → EdgeOperandsFit h.flat.values e → e.target < length h.flat.blocks.items
         → FrameAlike (follow nat_eq P f (edge_view e))
         (follow same q g (rename_edge value (names.block f.function) (edge_view e)))
     follow_alike e l t =
@@ -243,7 +243,7 @@ module _ {W C G : Type 0} (same : W → W → Bool) (q : Code W C G) (names : Na
         (omega (arith, w.0)))
         (slice_get_cases h.flat.blocks.items e.target).1
 
-    chosen_alike : (n : ℕ) (e d : FlatEdge) → EdgeFits h.flat.values e → EdgeFits h.flat.values d
+    chosen_alike : (n : ℕ) (e d : FlatEdge) → EdgeOperandsFit h.flat.values e → EdgeOperandsFit h.flat.values d
         → e.target < length h.flat.blocks.items → d.target < length h.flat.blocks.items
         → FrameAlike (follow nat_eq P f (chosen n (edge_view d) (edge_view e)))
         (follow same q g (chosen n (rename_edge value (names.block f.function) (edge_view d))
@@ -252,7 +252,7 @@ module _ {W C G : Type 0} (same : W → W → Bool) (q : Code W C G) (names : Na
     chosen_alike (suc n) e d k l s t = follow_alike e k s
 
     effect_alike : (x : Instruction) → InstructionFits (length fs) h.flat.values x
-        → LeadsInside (length h.flat.blocks.items) x → EffectAlike (effect nat_eq P f (op_view x ∷ left))
+        → TargetsAreInside (length h.flat.blocks.items) x → EffectAlike (effect nat_eq P f (op_view x ∷ left))
         (effect same q g (ren (op_view x) ∷ more))
     effect_alike (Constant r k) l t = set_alike r k l
     effect_alike (Calculate a w r x y) l t =
@@ -282,15 +282,15 @@ module _ {W C G : Type 0} (same : W → W → Bool) (q : Code W C G) (names : Na
         (λ (w : (x : Instruction) × (f.index < length h.here.instructions.items)
         × (slice_get h.here.instructions.items f.index ≡ Some x)
         × (get_or h.here.instructions.items f.index x ≡ x)).
-        subst (λ (r : List (Op W C G)). EffectAlike (effect nat_eq P f (rest_of P f)) (effect same q g r))
+        subst (λ (r : List (MachineOp W C G)). EffectAlike (effect nat_eq P f (rest_of P f)) (effect same q g r))
         (sym (rest_q w.0 w.2))
-        (subst (λ (r : List (Op ℕ ℕ ℕ)). EffectAlike (effect nat_eq P f r)
+        (subst (λ (r : List (MachineOp ℕ ℕ ℕ)). EffectAlike (effect nat_eq P f r)
         (effect same q g (ren (op_view w.0) ∷ more))) (sym (rest_p w.0 w.2))
         (effect_alike w.0 (fits w.0 w.2) (leads w.0 w.2))))
         (λ (w : (length h.here.instructions.items ≤ f.index) × (slice_get h.here.instructions.items f.index ≡ None)).
-        subst (λ (r : List (Op W C G)). EffectAlike (effect nat_eq P f (rest_of P f)) (effect same q g r))
+        subst (λ (r : List (MachineOp W C G)). EffectAlike (effect nat_eq P f (rest_of P f)) (effect same q g r))
         (sym (none_q w.1))
-        (subst (λ (r : List (Op ℕ ℕ ℕ)). EffectAlike (effect nat_eq P f r) (effect same q g [])) (sym (none_p w.1)) tt))
+        (subst (λ (r : List (MachineOp ℕ ℕ ℕ)). EffectAlike (effect nat_eq P f r) (effect same q g [])) (sym (none_p w.1)) tt))
         (slice_get_cases h.here.instructions.items f.index).1
 
     -- what a call returned is bound alike
@@ -342,7 +342,7 @@ module _ {W C G : Type 0} (same : W → W → Bool) (q : Code W C G) (names : Na
 
   -- a call's frame, on top of frames that are alike
   enter_at : (i : ℕ) (flat : FlatFunction) → slice_get fs i ≡ Some flat
-      → (xs : List ℕ) (gs : List (Frame ℕ ℕ ℕ)) (ks : List (Frame W C G)) (out : List ℕ) → FramesAlike gs ks
+      → (xs : List ℕ) (gs : List (MachineFrame ℕ ℕ ℕ)) (ks : List (MachineFrame W C G)) (out : List ℕ) → FramesAlike gs ks
       → StateAlike (on_top (entered nat_eq P i xs) gs out) (on_top (entered same q (names.function i) xs) ks out)
   enter_at i flat e xs gs ks out l =
       let entry = (module_of.functions i flat e).entry in
@@ -356,7 +356,7 @@ module _ {W C G : Type 0} (same : W → W → Bool) (q : Code W C G) (names : Na
       (let k = (module_of.functions i flat e).first in omega (arith, w.0, k)))
       (slice_get_cases flat.blocks.items 0).1
 
-  enter_alike : (i : ℕ) → i < length fs → (xs : List ℕ) (gs : List (Frame ℕ ℕ ℕ)) (ks : List (Frame W C G))
+  enter_alike : (i : ℕ) → i < length fs → (xs : List ℕ) (gs : List (MachineFrame ℕ ℕ ℕ)) (ks : List (MachineFrame W C G))
       (out : List ℕ) → FramesAlike gs ks
       → StateAlike (on_top (entered nat_eq P i xs) gs out) (on_top (entered same q (names.function i) xs) ks out)
   enter_alike i b xs gs ks out l =
@@ -366,16 +366,16 @@ module _ {W C G : Type 0} (same : W → W → Bool) (q : Code W C G) (names : Na
       (λ (w : (length fs ≤ i) × (slice_get fs i ≡ None)). absurd (omega (arith, w.0, b)))
       (slice_get_cases fs i).1
 
-  return_alike : (gs : List (Frame ℕ ℕ ℕ)) (ks : List (Frame W C G)) (ns out : List ℕ) → FramesAlike gs ks
+  return_alike : (gs : List (MachineFrame ℕ ℕ ℕ)) (ks : List (MachineFrame W C G)) (ns out : List ℕ) → FramesAlike gs ks
       → StateAlike (returned nat_eq P gs ns out) (returned same q ks ns out)
   return_alike [] [] ns out l = (refl, refl)
   return_alike [] (k ∷ ks) ns out l = absurd l
   return_alike (g ∷ gs) [] ns out l = absurd l
   return_alike (g ∷ gs) (k ∷ ks) ns out l = ((resumed_alike g k l.0 ns, l.1), refl)
 
-  after_alike : (f : Frame ℕ ℕ ℕ) (g : Frame W C G) → FrameAlike f g
-      → (gs : List (Frame ℕ ℕ ℕ)) (ks : List (Frame W C G)) → FramesAlike gs ks
-      → (out : List ℕ) (s : Effect ℕ ℕ ℕ) (t : Effect W C G) → EffectAlike s t
+  after_alike : (f : MachineFrame ℕ ℕ ℕ) (g : MachineFrame W C G) → FrameAlike f g
+      → (gs : List (MachineFrame ℕ ℕ ℕ)) (ks : List (MachineFrame W C G)) → FramesAlike gs ks
+      → (out : List ℕ) (s : MachineEffect ℕ ℕ ℕ) (t : MachineEffect W C G) → EffectAlike s t
       → StateAlike (after nat_eq P f gs out s) (after same q g ks out t)
   after_alike f g h gs ks l out (Next a) (Next b) e = ((e, l), refl)
   after_alike f g h gs ks l out (Emits n a) (Emits m b) e = ((e.1, l), ap (λ (k : ℕ). out ++ k ∷ []) e.0)
@@ -392,7 +392,7 @@ module _ {W C G : Type 0} (same : W → W → Bool) (q : Code W C G) (names : Na
   after_alike f g h gs ks l out Stays Stays e = ((h, l), refl)
   after_alike f g h gs ks l out s t e = absurd e
 
-  step_going : (gs : List (Frame ℕ ℕ ℕ)) (ks : List (Frame W C G)) (out : List ℕ) → FramesAlike gs ks
+  step_going : (gs : List (MachineFrame ℕ ℕ ℕ)) (ks : List (MachineFrame W C G)) (out : List ℕ) → FramesAlike gs ks
       → StateAlike (step nat_eq P (Going gs out)) (step same q (Going ks out))
   step_going [] [] out l = (tt, refl)
   step_going [] (k ∷ ks) out l = absurd l
@@ -400,7 +400,7 @@ module _ {W C G : Type 0} (same : W → W → Bool) (q : Code W C G) (names : Na
   step_going (g ∷ gs) (k ∷ ks) out l = after_alike g k l.0 gs ks l.1 out (effect nat_eq P g (rest_of P g))
       (effect same q k (rest_of q k)) (effects_alike g k l.0)
 
-  step_alike : (s : State ℕ ℕ ℕ) (t : State W C G) → StateAlike s t → StateAlike (step nat_eq P s) (step same q t)
+  step_alike : (s : MachineState ℕ ℕ ℕ) (t : MachineState W C G) → StateAlike s t → StateAlike (step nat_eq P s) (step same q t)
   step_alike (Going gs out) (Going ks shown) h = subst
       (λ (o : List ℕ). StateAlike (step nat_eq P (Going gs out)) (step same q (Going ks o))) (sym h.1)
       (step_going gs ks out h.0)
@@ -408,33 +408,33 @@ module _ {W C G : Type 0} (same : W → W → Bool) (q : Code W C G) (names : Na
   step_alike (Trapped out) (Trapped shown) h = h
   step_alike s t h = absurd h
 
-  pub run_alike : (n : ℕ) (s : State ℕ ℕ ℕ) (t : State W C G) → StateAlike s t
+  pub run_alike : (n : ℕ) (s : MachineState ℕ ℕ ℕ) (t : MachineState W C G) → StateAlike s t
       → StateAlike (run nat_eq P n s) (run same q n t)
   run_alike zero s t h = h
   run_alike (suc n) s t h = run_alike n (step nat_eq P s) (step same q t) (step_alike s t h)
 
-  ended_is : (ns out : List ℕ) (t : State W C G) → StateAlike (Ended ns out) t → t ≡ Ended ns out
+  ended_is : (ns out : List ℕ) (t : MachineState W C G) → StateAlike (Ended ns out) t → t ≡ Ended ns out
   ended_is ns out (Ended ms shown) h = λ i. Ended (h.0 i) (h.1 i)
   ended_is ns out t h = absurd h
 
-  trapped_is : (out : List ℕ) (t : State W C G) → StateAlike (Trapped out) t → t ≡ Trapped out
+  trapped_is : (out : List ℕ) (t : MachineState W C G) → StateAlike (Trapped out) t → t ≡ Trapped out
   trapped_is out (Trapped shown) h = ap Trapped h
   trapped_is out t h = absurd h
 
-  going_is : (gs : List (Frame ℕ ℕ ℕ)) (out : List ℕ) (t : State W C G) → StateAlike (Going gs out) t
-      → (ks : List (Frame W C G)) × (t ≡ Going ks out)
+  going_is : (gs : List (MachineFrame ℕ ℕ ℕ)) (out : List ℕ) (t : MachineState W C G) → StateAlike (Going gs out) t
+      → (ks : List (MachineFrame W C G)) × (t ≡ Going ks out)
   going_is gs out (Going ks shown) h = (ks, ap (Going ks) h.1)
   going_is gs out t h = absurd h
 
   -- an outcome of the one is one of the other
-  pub shows_alike : (s : State ℕ ℕ ℕ) (t : State W C G) (o : Outcome) → StateAlike s t → OutcomeShows s o
+  pub shows_alike : (s : MachineState ℕ ℕ ℕ) (t : MachineState W C G) (o : Outcome) → StateAlike s t → OutcomeShows s o
       → OutcomeShows t o
   shows_alike s t (outcomes.Ended values emissions) a h = ended_is values.items emissions.items t
-      (subst (λ (r : State ℕ ℕ ℕ). StateAlike r t) h a)
+      (subst (λ (r : MachineState ℕ ℕ ℕ). StateAlike r t) h a)
   shows_alike s t (outcomes.Trapped emissions) a h = trapped_is emissions.items t
-      (subst (λ (r : State ℕ ℕ ℕ). StateAlike r t) h a)
+      (subst (λ (r : MachineState ℕ ℕ ℕ). StateAlike r t) h a)
   shows_alike s t (outcomes.Limit emissions) a h = going_is h.0 emissions.items t
-      (subst (λ (r : State ℕ ℕ ℕ). StateAlike r t) h.1 a)
+      (subst (λ (r : MachineState ℕ ℕ ℕ). StateAlike r t) h.1 a)
 
   pub started_alike : (i : ℕ) → i < length fs → (xs : List ℕ)
       → StateAlike (start nat_eq P i xs) (start same q (names.function i) xs)

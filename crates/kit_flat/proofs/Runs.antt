@@ -1,17 +1,17 @@
 -- Runs that are over, or that stay where they are.
 use Rattle.std.proofs.Common.{◌≡◌, ℕ, zero, suc, ◌-◌, ◌<◌, List, [], ◌∷◌, refl, sym, ap, ◌∙◌, arith, nat_eq, map, reverse}
-use Rattle.kit_flat.specs.Machine.{Code, State, Going, step, run, start, first_frame}
+use Rattle.kit_flat.specs.Machine.{Code, MachineState, Going, step, run, start, first_frame}
 use Rattle.kit_flat.specs.declared.flat.FlatFunction.{FlatFunction}
 use Rattle.kit_flat.specs.declared.interpreter.Running.{Running}
 use Rattle.kit_flat.specs.View.{flat_code, state_view, frame_view}
 
 module _ (p : Code ℕ ℕ ℕ) where
-  pub still : (k : ℕ) (s : State ℕ ℕ ℕ) → step nat_eq p s ≡ s → run nat_eq p k s ≡ s
+  pub still : (k : ℕ) (s : MachineState ℕ ℕ ℕ) → step nat_eq p s ≡ s → run nat_eq p k s ≡ s
   still zero s e = refl
   still (suc k) s e = ap (run nat_eq p k) e ∙ still k s e
 
   -- one step off what is left
-  pub one_less : (n : ℕ) (s t : State ℕ ℕ ℕ) → 0 < n → step nat_eq p s ≡ t → run nat_eq p n s ≡ run nat_eq p (n - 1) t
+  pub one_less : (n : ℕ) (s t : MachineState ℕ ℕ ℕ) → 0 < n → step nat_eq p s ≡ t → run nat_eq p n s ≡ run nat_eq p (n - 1) t
   one_less zero s t h e = absurd (omega arith)
   one_less (suc k) s t h e =
       let d : suc k - 1 ≡ k = omega arith in

@@ -6,7 +6,7 @@ use Rattle.std.proofs.lemmas.List.{length-set, reverse-append}
 use Rattle.std.proofs.lemmas.List.Elements.{All-push, All-pop}
 use Rattle.kit_ops.specs.declared.kinds.Arithmetic.{Arithmetic}
 use Rattle.kit_ops.specs.declared.kinds.Comparison.{Comparison}
-use Rattle.kit_flat.specs.Machine.{Op, Code, Frame, State, Going, Ended, Trapped, Effect, Next, Stays, arguments_of, operations_from, rest_of, arithmetic, compares, bit, effect, after, returned, bind, bind_all, next, follow, with_result, chosen, first_frame, resumed, results_of, step}
+use Rattle.kit_flat.specs.Machine.{MachineOp, Code, MachineFrame, MachineState, Going, Ended, Trapped, MachineEffect, Next, Stays, arguments_of, operations_from, rest_of, arithmetic, compares, bit, effect, after, returned, bind, bind_all, next, follow, with_result, chosen, first_frame, resumed, results_of, step}
 use Rattle.kit_flat.specs.declared.flat.FlatEdge.{FlatEdge}
 use Rattle.kit_flat.specs.declared.flat.Instruction.{Instruction}
 use Rattle.kit_flat.specs.declared.flat.Instruction.TheVariants.{Constant, Calculate, Compare, Emit, Call, Br, CondBr, Return}
@@ -16,8 +16,8 @@ use Rattle.kit_flat.specs.declared.frames.FlatFrame.{FlatFrame}
 use Rattle.kit_flat.specs.declared.interpreter.Running.{Running}
 use Rattle.kit_flat.specs.declared.interpreter.Turn.TheVariants.{On}
 use Rattle.kit_flat.specs.View.{edge_view, op_view, block_view, block_in, flat_code, count_of, numbers_of, frame_view, state_view}
-use Rattle.kit_flat.specs.Sound.{IsSound, InstructionFits, Fetched, IsActive, IsWaiting, IsRunning, instruction_in, results_named}
-use Rattle.kit_flat.specs.Shows.{TurnShows, Follows}
+use Rattle.kit_flat.specs.Sound.{FlatFunctionsFit, InstructionFits, Fetched, IsActive, IsAtInstruction, IsRunning, instruction_in, results_named}
+use Rattle.kit_flat.specs.Shows.{TurnShows, FollowsEdge}
 use Rattle.kit_flat.proofs.Binds.{bind_set}
 use Rattle.kit_flat.proofs.Places.{rest_at, rest_none}
 
@@ -28,7 +28,7 @@ module _ (fs : List FlatFunction) where
   abbrev block_of : FlatFrame → Option FlatBlock
   block_of a = block_in (slice_get fs a.function) a.block
 
-  abbrev rest : FlatFrame → List (Op ℕ ℕ ℕ)
+  abbrev rest : FlatFrame → List (MachineOp ℕ ℕ ℕ)
   rest a = operations_from (option_map block_view (block_of a)) (suc a.index)
 
   effect_at : (a : FlatFrame) (x : Instruction) → Fetched fs a (Some x)
@@ -52,24 +52,24 @@ module _ (fs : List FlatFunction) where
   }
 
   module _ (r : Running) (running : IsRunning fs r) where
-    abbrev S : State ℕ ℕ ℕ
+    abbrev S : MachineState ℕ ℕ ℕ
     S = step nat_eq P (state_view r)
 
-    abbrev Gs : List (Frame ℕ ℕ ℕ)
+    abbrev Gs : List (MachineFrame ℕ ℕ ℕ)
     Gs = map frame_view (reverse r.waiting.items)
 
-    abbrev then : Effect ℕ ℕ ℕ → State ℕ ℕ ℕ
+    abbrev then : MachineEffect ℕ ℕ ℕ → MachineState ℕ ℕ ℕ
     then = after nat_eq P (frame_view r.top) Gs r.emissions.items
 
     step_at : (x : Instruction) → Fetched fs r.top (Some x) → S ≡ then
         (effect nat_eq P (frame_view r.top) (op_view x ∷ rest r.top))
     step_at x at = ap then (effect_at r.top x at)
 
-    on : (t : Running) (g : Frame ℕ ℕ ℕ) (out : List ℕ) → S ≡ Going (g ∷ Gs) out → g ≡ frame_view t.top
+    on : (t : Running) (g : MachineFrame ℕ ℕ ℕ) (out : List ℕ) → S ≡ Going (g ∷ Gs) out → g ≡ frame_view t.top
         → IsActive fs t.top → t.waiting.items ≡ r.waiting.items → t.emissions.items ≡ out → TurnShows fs S t On
     on t g out s e h w o = (
       s ∙ (λ i. Going (e i ∷ map frame_view (reverse (sym w i))) (sym o i)),
-      record { top_active = h; all_waiting = subst (All (IsWaiting fs)) (sym w) running.all_waiting },
+      record { top_active = h; all_waiting = subst (All (IsAtInstruction fs)) (sym w) running.all_waiting },
     )
 
     pub lost : Fetched fs r.top None → S ≡ state_view r
@@ -133,7 +133,7 @@ module _ (fs : List FlatFunction) where
         w
         o
 
-    pub br_turn : (e : FlatEdge) → Fetched fs r.top (Some (Br e)) → (t : Running) → Follows fs r t e
+    pub br_turn : (e : FlatEdge) → Fetched fs r.top (Some (Br e)) → (t : Running) → FollowsEdge fs r t e
         → TurnShows fs S t On
     br_turn e at t h = on t (follow nat_eq P (frame_view r.top) (edge_view e)) r.emissions.items (step_at (Br e) at)
         (sym h.goes) h.active h.waiting_same h.emissions_same
@@ -143,7 +143,7 @@ module _ (fs : List FlatFunction) where
     taken_is (suc n) a b h = refl
 
     pub taken_turn : (x : ℕ) (a b : FlatEdge) → Fetched fs r.top (Some (CondBr x a b))
-        → get_or r.top.values.items x 0 ≢ 0 → (t : Running) → Follows fs r t a → TurnShows fs S t On
+        → get_or r.top.values.items x 0 ≢ 0 → (t : Running) → FollowsEdge fs r t a → TurnShows fs S t On
     taken_turn x a b at n t h =
         on t (follow nat_eq P (frame_view r.top) (edge_view a)) r.emissions.items
         (step_at (CondBr x a b) at ∙ ap (λ e. Going (follow nat_eq P (frame_view r.top) e ∷ Gs) r.emissions.items)
@@ -154,7 +154,7 @@ module _ (fs : List FlatFunction) where
         h.emissions_same
 
     pub otherwise_turn : (x : ℕ) (a b : FlatEdge) → Fetched fs r.top (Some (CondBr x a b))
-        → get_or r.top.values.items x 0 ≡ 0 → (t : Running) → Follows fs r t b → TurnShows fs S t On
+        → get_or r.top.values.items x 0 ≡ 0 → (t : Running) → FollowsEdge fs r t b → TurnShows fs S t On
     otherwise_turn x a b at n t h =
         on t (follow nat_eq P (frame_view r.top) (edge_view b)) r.emissions.items
         (step_at (CondBr x a b) at ∙ ap (λ k. Going
@@ -171,7 +171,7 @@ module _ (fs : List FlatFunction) where
     call_turn rs xs g at t e h w o =
         let ws = ap (λ l. map frame_view (reverse l)) w ∙ ap (map frame_view)
         (reverse-append r.waiting.items (r.top ∷ [])) in
-        let here : IsWaiting fs r.top = record {
+        let here : IsAtInstruction fs r.top = record {
           active = running.top_active;
           instruction = Call rs g xs;
           here =
@@ -180,8 +180,8 @@ module _ (fs : List FlatFunction) where
           step_at (Call rs g xs) at ∙ (λ i. Going (sym e i ∷ sym ws i) (sym o i)),
           record {
             top_active = h;
-            all_waiting = subst (All (IsWaiting fs)) (sym w)
-                (All-push (IsWaiting fs) r.waiting.items r.top running.all_waiting here);
+            all_waiting = subst (All (IsAtInstruction fs)) (sym w)
+                (All-push (IsAtInstruction fs) r.waiting.items r.top running.all_waiting here);
           },
         )
 
@@ -203,12 +203,12 @@ module _ (fs : List FlatFunction) where
               ∙ (λ i. Going (sym e i ∷ map frame_view (reverse t.waiting.items)) (sym o i)),
           record {
             top_active = h;
-            all_waiting = (All-pop (IsWaiting fs) r.waiting.items t.waiting.items (Some a) w
+            all_waiting = (All-pop (IsAtInstruction fs) r.waiting.items t.waiting.items (Some a) w
                 running.all_waiting).0;
           },
         )
 
-  named : (x : Instruction) (rest : List (Op ℕ ℕ ℕ)) → results_of (op_view x ∷ rest) ≡ results_named x
+  named : (x : Instruction) (rest : List (MachineOp ℕ ℕ ℕ)) → results_of (op_view x ∷ rest) ≡ results_named x
   named (Constant r n) rest = refl
   named (Calculate f w r x y) rest = refl
   named (Compare f r x y) rest = refl
@@ -232,7 +232,7 @@ module _ (fs : List FlatFunction) where
       → t.top.index ≡ 0 → numbers_of t.top.values.items ≡ bind_all nat_eq (numbers_of r.top.values.items)
       (arguments_of (option_map block_view (block_in (Some f) e.target)))
       (map (numbers_of r.top.values.items) e.operands.items) → length t.top.values.items ≡ length r.top.values.items
-      → t.waiting.items ≡ r.waiting.items → t.emissions.items ≡ r.emissions.items → Follows fs r t e
+      → t.waiting.items ≡ r.waiting.items → t.emissions.items ≡ r.emissions.items → FollowsEdge fs r t e
   followed r t e f h s n b i v l w o = record {
     goes = λ j. record {
       function = n j;
@@ -247,7 +247,7 @@ module _ (fs : List FlatFunction) where
     emissions_same = o;
   }
 
-pub fits_there : (fs : List FlatFunction) → IsSound fs → (i : ℕ) (f : FlatFunction) → slice_get fs i ≡ Some f
+pub fits_there : (fs : List FlatFunction) → FlatFunctionsFit fs → (i : ℕ) (f : FlatFunction) → slice_get fs i ≡ Some f
     → (n : ℕ) → n ≡ count_of (slice_get fs i) → (b j : ℕ) (blk : FlatBlock) (x : Instruction)
     → slice_get f.blocks.items b ≡ Some blk → slice_get blk.instructions.items j ≡ Some x
     → InstructionFits (length fs) n x
@@ -273,7 +273,7 @@ fetched_no_op fs a f b e g h = record {
   fits = tt;
 }
 
-pub fetched_some : (fs : List FlatFunction) → IsSound fs → (a : FlatFrame) → IsActive fs a
+pub fetched_some : (fs : List FlatFunction) → FlatFunctionsFit fs → (a : FlatFrame) → IsActive fs a
     → (f : FlatFunction) (b : FlatBlock) (x : Instruction) → slice_get fs a.function ≡ Some f
     → slice_get f.blocks.items a.block ≡ Some b → slice_get b.instructions.items a.index ≡ Some x
     → a.index < 2 ^ 64 - 1 → Fetched fs a (Some x)

@@ -3,7 +3,7 @@ use Rattle.std.specs.Prelude.{ℕ, List, [], ◌∷◌, take, drop, Option, Some
 use Rattle.kit_ops.specs.declared.kinds.Arithmetic.{Arithmetic}
 use Rattle.kit_ops.specs.declared.kinds.Comparison.{Comparison}
 use Rattle.kit_flat.specs.Machine as machine
-use Rattle.kit_flat.specs.Machine.{Op, Other}
+use Rattle.kit_flat.specs.Machine.{MachineOp, Other}
 use Rattle.kit_flat.specs.declared.forming.FlatForm.{FlatForm}
 use Rattle.kit_flat.specs.declared.forming.FlatForm.TheVariants as flat
 
@@ -22,7 +22,7 @@ pub data Form (F : Type 0) : Type 0 where
 
 -- the operation of a form with these results, operands and successors. The machine executes it only if it has as many
 -- as its form asks for
-abbrev pub op_of : {V B F : Type 0} → Form F → List V → List V → List B → Op V B F
+abbrev pub op_of : {V B F : Type 0} → Form F → List V → List V → List B → MachineOp V B F
 op_of (Constant n) (r ∷ []) [] [] = machine.Constant r n
 op_of (Calculate f w) (r ∷ []) (x ∷ y ∷ []) [] = machine.Calculate f w r x y
 op_of (Compare f) (r ∷ []) (x ∷ y ∷ []) [] = machine.Compare f r x y

@@ -37,49 +37,49 @@ bit false = 0
 -- ---- functions
 
 -- a block that a branch may go on to, and the values that are forwarded to its arguments
-pub record Edge (V B : Type 0) : Type 0 where
+pub record MachineEdge (V B : Type 0) : Type 0 where
   pub target : B
   pub operands : List V
 
 -- an operation as the machine sees it. r and rs are results, x, y and xs operands, w a width; a callee is there only
 -- if a function has its name
-pub data Op (V B F : Type 0) : Type 0 where
-  Constant : (r : V) (n : ℕ) → Op V B F
-  Calculate : (f : Arithmetic) (w : ℕ) (r x y : V) → Op V B F
-  Compare : (f : Comparison) (r x y : V) → Op V B F
-  Emit : (x : V) → Op V B F
-  Call : (rs : List V) (callee : Option F) (xs : List V) → Op V B F
-  Br : (e : Edge V B) → Op V B F
-  CondBr : (x : V) (e d : Edge V B) → Op V B F
-  Return : (xs : List V) → Op V B F
+pub data MachineOp (V B F : Type 0) : Type 0 where
+  Constant : (r : V) (n : ℕ) → MachineOp V B F
+  Calculate : (f : Arithmetic) (w : ℕ) (r x y : V) → MachineOp V B F
+  Compare : (f : Comparison) (r x y : V) → MachineOp V B F
+  Emit : (x : V) → MachineOp V B F
+  Call : (rs : List V) (callee : Option F) (xs : List V) → MachineOp V B F
+  Br : (e : MachineEdge V B) → MachineOp V B F
+  CondBr : (x : V) (e d : MachineEdge V B) → MachineOp V B F
+  Return : (xs : List V) → MachineOp V B F
   -- what the machine doesn't execute
-  Other : Op V B F
+  Other : MachineOp V B F
 
 -- a block: its arguments, and its operations in order
-pub record Block (V B F : Type 0) : Type 0 where
+pub record MachineBlock (V B F : Type 0) : Type 0 where
   pub arguments : List V
-  pub operations : List (Op V B F)
+  pub operations : List (MachineOp V B F)
 
 -- the functions of a module: the entry block of a function, and its blocks
 pub record Code (V B F : Type 0) : Type 0 where
   pub entry : F → Option B
-  pub block : F → B → Option (Block V B F)
+  pub block : F → B → Option (MachineBlock V B F)
 
 -- ---- states
 
 -- a function that runs, the place of the operation that is next, and the numbers of its values. A value that isn't
 -- bound is 0
-pub record Frame (V B F : Type 0) : Type 0 where
+pub record MachineFrame (V B F : Type 0) : Type 0 where
   pub function : F
   pub block : B
   pub index : ℕ
   pub numbers : V → ℕ
 
 -- a run that goes on has its frames, the innermost first; each but the innermost waits at a call
-pub data State (V B F : Type 0) : Type 0 where
-  Going : (frames : List (Frame V B F)) (emissions : List ℕ) → State V B F
-  Ended : (values emissions : List ℕ) → State V B F
-  Trapped : (emissions : List ℕ) → State V B F
+pub data MachineState (V B F : Type 0) : Type 0 where
+  Going : (frames : List (MachineFrame V B F)) (emissions : List ℕ) → MachineState V B F
+  Ended : (values emissions : List ℕ) → MachineState V B F
+  Trapped : (emissions : List ℕ) → MachineState V B F
 
 -- one value bound
 abbrev pub bind : {V : Type 0} → (V → V → Bool) → (V → ℕ) → V → ℕ → V → ℕ
@@ -92,37 +92,37 @@ bind_all same numbers (v ∷ vs) [] = numbers
 bind_all same numbers (v ∷ vs) (n ∷ ns) = bind_all same (bind same numbers v n) vs ns
 
 -- the operations of a block from an index on
-abbrev pub operations_from : {V B F : Type 0} → Option (Block V B F) → ℕ → List (Op V B F)
+abbrev pub operations_from : {V B F : Type 0} → Option (MachineBlock V B F) → ℕ → List (MachineOp V B F)
 operations_from None i = []
 operations_from (Some b) i = drop i b.operations
 
 -- the arguments of a block, none where it isn't there
-abbrev pub arguments_of : {V B F : Type 0} → Option (Block V B F) → List V
+abbrev pub arguments_of : {V B F : Type 0} → Option (MachineBlock V B F) → List V
 arguments_of None = []
 arguments_of (Some b) = b.arguments
 
 -- the operations that are left where a frame is
-abbrev pub rest_of : {V B F : Type 0} → Code V B F → Frame V B F → List (Op V B F)
+abbrev pub rest_of : {V B F : Type 0} → Code V B F → MachineFrame V B F → List (MachineOp V B F)
 rest_of code f = operations_from (code.block f.function f.block) f.index
 
 -- ---- one operation
 
 -- what an operation does: the frame goes on, it goes on after a number was emitted, a function is called, the
 -- function is left, it traps, or nothing at all
-pub data Effect (V B F : Type 0) : Type 0 where
-  Next : (f : Frame V B F) → Effect V B F
-  Emits : (n : ℕ) (f : Frame V B F) → Effect V B F
-  Enters : (callee : F) (xs : List ℕ) → Effect V B F
-  Leaves : (xs : List ℕ) → Effect V B F
-  Traps : Effect V B F
-  Stays : Effect V B F
+pub data MachineEffect (V B F : Type 0) : Type 0 where
+  Next : (f : MachineFrame V B F) → MachineEffect V B F
+  Emits : (n : ℕ) (f : MachineFrame V B F) → MachineEffect V B F
+  Enters : (callee : F) (xs : List ℕ) → MachineEffect V B F
+  Leaves : (xs : List ℕ) → MachineEffect V B F
+  Traps : MachineEffect V B F
+  Stays : MachineEffect V B F
 
 -- on to the next operation of the block, with these numbers
-abbrev pub next : {V B F : Type 0} → Frame V B F → (V → ℕ) → Frame V B F
+abbrev pub next : {V B F : Type 0} → MachineFrame V B F → (V → ℕ) → MachineFrame V B F
 next f numbers = record { function = f.function; block = f.block; index = suc f.index; numbers = numbers }
 
 -- to the first operation of a block, its arguments bound all at once
-abbrev pub follow : {V B F : Type 0} → (V → V → Bool) → Code V B F → Frame V B F → Edge V B → Frame V B F
+abbrev pub follow : {V B F : Type 0} → (V → V → Bool) → Code V B F → MachineFrame V B F → MachineEdge V B → MachineFrame V B F
 follow same code f e =
     record {
       function = f.function;
@@ -132,7 +132,7 @@ follow same code f e =
     }
 
 -- a result bound, where there is one
-abbrev pub with_result : {V B F : Type 0} → (V → V → Bool) → Frame V B F → V → Option ℕ → Effect V B F
+abbrev pub with_result : {V B F : Type 0} → (V → V → Bool) → MachineFrame V B F → V → Option ℕ → MachineEffect V B F
 with_result same f r None = Traps
 with_result same f r (Some n) = Next (next f (bind same f.numbers r n))
 
@@ -142,12 +142,12 @@ chosen zero otherwise taken = otherwise
 chosen (suc n) otherwise taken = taken
 
 -- a function called, where it is there
-abbrev pub called : {V B F : Type 0} → Option F → List ℕ → Effect V B F
+abbrev pub called : {V B F : Type 0} → Option F → List ℕ → MachineEffect V B F
 called None xs = Stays
 called (Some g) xs = Enters g xs
 
 -- the effect of the first operation of those that are left
-abbrev pub effect : {V B F : Type 0} → (V → V → Bool) → Code V B F → Frame V B F → List (Op V B F) → Effect V B F
+abbrev pub effect : {V B F : Type 0} → (V → V → Bool) → Code V B F → MachineFrame V B F → List (MachineOp V B F) → MachineEffect V B F
 effect same code f [] = Stays
 effect same code f (Constant r n ∷ rest) = Next (next f (bind same f.numbers r n))
 effect same code f (Calculate a w r x y ∷ rest) = with_result same f r (arithmetic a w (f.numbers x) (f.numbers y))
@@ -163,7 +163,7 @@ effect same code f (Other ∷ rest) = Stays
 -- ---- steps
 
 -- the first frame of a function, at its entry block with the arguments bound
-abbrev pub first_frame : {V B F : Type 0} → (V → V → Bool) → Code V B F → F → List ℕ → B → Frame V B F
+abbrev pub first_frame : {V B F : Type 0} → (V → V → Bool) → Code V B F → F → List ℕ → B → MachineFrame V B F
 first_frame same code g xs b = record {
   function = g;
   block = b;
@@ -173,32 +173,32 @@ first_frame same code g xs b = record {
 }
 
 -- the frame of a call, where the function has a block
-abbrev pub entered : {V B F : Type 0} → (V → V → Bool) → Code V B F → F → List ℕ → Option (Frame V B F)
+abbrev pub entered : {V B F : Type 0} → (V → V → Bool) → Code V B F → F → List ℕ → Option (MachineFrame V B F)
 entered same code g xs = option_map (first_frame same code g xs) (code.entry g)
 
 -- the results that a call names
-abbrev pub results_of : {V B F : Type 0} → List (Op V B F) → List V
+abbrev pub results_of : {V B F : Type 0} → List (MachineOp V B F) → List V
 results_of (Call rs callee xs ∷ rest) = rs
 results_of _ = []
 
 -- a frame that waits at a call goes on with what the call returned
-abbrev pub resumed : {V B F : Type 0} → (V → V → Bool) → Code V B F → Frame V B F → List ℕ → Frame V B F
+abbrev pub resumed : {V B F : Type 0} → (V → V → Bool) → Code V B F → MachineFrame V B F → List ℕ → MachineFrame V B F
 resumed same code f ns = next f (bind_all same f.numbers (results_of (rest_of code f)) ns)
 
 -- a return to the frame that waits; from the first frame the run has ended
-abbrev pub returned : {V B F : Type 0} → (V → V → Bool) → Code V B F → List (Frame V B F) → List ℕ → List ℕ
-    → State V B F
+abbrev pub returned : {V B F : Type 0} → (V → V → Bool) → Code V B F → List (MachineFrame V B F) → List ℕ → List ℕ
+    → MachineState V B F
 returned same code [] ns out = Ended ns out
 returned same code (f ∷ fs) ns out = Going (resumed same code f ns ∷ fs) out
 
 -- a call's frame on top of those that wait; where there is none, all stays
-abbrev pub on_top : {V B F : Type 0} → Option (Frame V B F) → List (Frame V B F) → List ℕ → State V B F
+abbrev pub on_top : {V B F : Type 0} → Option (MachineFrame V B F) → List (MachineFrame V B F) → List ℕ → MachineState V B F
 on_top None fs out = Going fs out
 on_top (Some g) fs out = Going (g ∷ fs) out
 
 -- the state after an effect of the frame f, above the frames fs
-abbrev pub after : {V B F : Type 0} → (V → V → Bool) → Code V B F → Frame V B F → List (Frame V B F) → List ℕ
-    → Effect V B F → State V B F
+abbrev pub after : {V B F : Type 0} → (V → V → Bool) → Code V B F → MachineFrame V B F → List (MachineFrame V B F) → List ℕ
+    → MachineEffect V B F → MachineState V B F
 after same code f fs out (Next g) = Going (g ∷ fs) out
 after same code f fs out (Emits n g) = Going (g ∷ fs) (out ++ n ∷ [])
 after same code f fs out (Enters g xs) = on_top (entered same code g xs) (f ∷ fs) out
@@ -207,17 +207,17 @@ after same code f fs out Traps = Trapped out
 after same code f fs out Stays = Going (f ∷ fs) out
 
 -- one step executes one operation. A run that is over stays as it is
-abbrev pub step : {V B F : Type 0} → (V → V → Bool) → Code V B F → State V B F → State V B F
+abbrev pub step : {V B F : Type 0} → (V → V → Bool) → Code V B F → MachineState V B F → MachineState V B F
 step same code (Going [] out) = Going [] out
 step same code (Going (f ∷ fs) out) = after same code f fs out (effect same code f (rest_of code f))
 step same code (Ended ns out) = Ended ns out
 step same code (Trapped out) = Trapped out
 
 -- the state after at most n steps
-abbrev pub run : {V B F : Type 0} → (V → V → Bool) → Code V B F → ℕ → State V B F → State V B F
+abbrev pub run : {V B F : Type 0} → (V → V → Bool) → Code V B F → ℕ → MachineState V B F → MachineState V B F
 run same code zero s = s
 run same code (suc n) s = run same code n (step same code s)
 
 -- the first state of a function on these numbers
-abbrev pub start : {V B F : Type 0} → (V → V → Bool) → Code V B F → F → List ℕ → State V B F
+abbrev pub start : {V B F : Type 0} → (V → V → Bool) → Code V B F → F → List ℕ → MachineState V B F
 start same code g xs = on_top (entered same code g xs) [] []

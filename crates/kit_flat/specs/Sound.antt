@@ -15,8 +15,8 @@ abbrev pub AreBelow : ℕ → List ℕ → Type 0
 AreBelow n vs = All (λ v. v < n) vs
 
 -- the operands of an edge are among n values
-abbrev pub EdgeFits : ℕ → FlatEdge → Type 0
-EdgeFits n e = AreBelow n e.operands.items
+abbrev pub EdgeOperandsFit : ℕ → FlatEdge → Type 0
+EdgeOperandsFit n e = AreBelow n e.operands.items
 
 -- an instruction names some of n values, and a callee is one of m functions; a width is at most that of a number
 abbrev pub InstructionFits : ℕ → ℕ → Instruction → Type 0
@@ -25,8 +25,8 @@ InstructionFits m n (Calculate f w r x y) = (w ≤ 64) × (r < n) × (x < n) × 
 InstructionFits m n (Compare f r x y) = (r < n) × (x < n) × (y < n)
 InstructionFits m n (Emit x) = x < n
 InstructionFits m n (Call rs g xs) = AreBelow n rs.items × AreBelow n xs.items × (g < m)
-InstructionFits m n (Br e) = EdgeFits n e
-InstructionFits m n (CondBr x e d) = (x < n) × EdgeFits n e × EdgeFits n d
+InstructionFits m n (Br e) = EdgeOperandsFit n e
+InstructionFits m n (CondBr x e d) = (x < n) × EdgeOperandsFit n e × EdgeOperandsFit n d
 InstructionFits m n (Return xs) = AreBelow n xs.items
 
 -- so do all instructions of a block, and its arguments
@@ -39,7 +39,7 @@ pub record FunctionFits (m : ℕ) (f : FlatFunction) : Type 0 where
   pub blocks_fit : (i : ℕ) (b : FlatBlock) → slice_get f.blocks.items i ≡ Some b → BlockFits m f.values b
 
 -- so do all functions of a module
-pub record IsSound (fs : List FlatFunction) : Type 0 where
+pub record FlatFunctionsFit (fs : List FlatFunction) : Type 0 where
   pub functions_fit : (i : ℕ) (f : FlatFunction) → slice_get fs i ≡ Some f → FunctionFits (length fs) f
 
 -- ---- frames
@@ -59,7 +59,7 @@ pub record IsActive (fs : List FlatFunction) (a : FlatFrame) : Type 0 where
   pub sized : length a.values.items ≡ count_of (slice_get fs a.function)
 
 -- it is at an instruction
-pub record IsWaiting (fs : List FlatFunction) (a : FlatFrame) : Type 0 where
+pub record IsAtInstruction (fs : List FlatFunction) (a : FlatFrame) : Type 0 where
   pub active : IsActive fs a
   pub instruction : Instruction
   pub here : instruction_at fs a ≡ Some instruction
@@ -67,7 +67,7 @@ pub record IsWaiting (fs : List FlatFunction) (a : FlatFrame) : Type 0 where
 -- so are all frames of a run
 pub record IsRunning (fs : List FlatFunction) (r : Running) : Type 0 where
   pub top_active : IsActive fs r.top
-  pub all_waiting : All (IsWaiting fs) r.waiting.items
+  pub all_waiting : All (IsAtInstruction fs) r.waiting.items
 
 -- the arguments of all blocks of a function are among n values
 abbrev pub ArgumentsFit : ℕ → FlatFunction → Type 0

@@ -1,6 +1,6 @@
 //! Whether the numbers of a flat module are in their bounds.
 ghost use Rattle.std.specs.Prelude.{◌≡◌, ◌↔◌, IsTrue};
-ghost use Rattle.kit_flat.specs.Sound.{AreBelow, InstructionFits, BlockFits, FunctionFits, IsSound};
+ghost use Rattle.kit_flat.specs.Sound.{AreBelow, InstructionFits, BlockFits, FunctionFits, FlatFunctionsFit};
 
 use crate::flat::{FlatBlock, FlatFunction, FlatModule, Instruction};
 
@@ -83,7 +83,7 @@ fn function_fits(functions: usize, function: &FlatFunction) -> bool
 
 /// Whether the numbers of a module are in their bounds, so that `interpret` may run its functions.
 pub fn is_sound(code: &FlatModule) -> bool
-    ensures { IsTrue result → IsSound code.now.functions.items }
+    ensures { IsTrue result → FlatFunctionsFit code.now.functions.items }
 {
     for function in &code.functions {
         if !function_fits(code.functions.len(), function) {

@@ -1,6 +1,6 @@
 //! Instructions by the forms of operations.
 ghost use Rattle.std.specs.Prelude.{◌≡◌, IfOk, MatchOption};
-ghost use Rattle.kit_flat.specs.Machine.{Op, Other};
+ghost use Rattle.kit_flat.specs.Machine.{MachineOp, Other};
 ghost use Rattle.kit_flat.specs.Forms.{op_of, form_view};
 ghost use Rattle.kit_flat.specs.Formed.{IsFormed};
 ghost use Rattle.kit_flat.specs.declared.forming.FlatForm.TheVariants as form;

@@ -2,8 +2,8 @@
 ghost use Rattle.std.specs.Prelude.{◌≡◌, ◌<◌, Some, length, map, nat_eq, slice_get, option_copied, option_map, IfOk, OnOk};
 ghost use Rattle.kit_flat.specs.Machine.{bind_all, arguments_of, first_frame, resumed, step, run, start};
 ghost use Rattle.kit_flat.specs.View.{numbers_of, block_view, block_in, flat_code, frame_view, state_view};
-ghost use Rattle.kit_flat.specs.Sound.{EdgeFits, ArgumentsFit, Fetched, results_named, IsSound, IsActive, IsWaiting, IsRunning};
-ghost use Rattle.kit_flat.specs.Shows.{TurnShows, Follows, OutcomeShows};
+ghost use Rattle.kit_flat.specs.Sound.{EdgeOperandsFit, ArgumentsFit, Fetched, results_named, FlatFunctionsFit, IsActive, IsAtInstruction, IsRunning};
+ghost use Rattle.kit_flat.specs.Shows.{TurnShows, FollowsEdge, OutcomeShows};
 
 use crate::flat::{FlatEdge, FlatFunction, FlatModule, Instruction};
 use crate::frames::{FlatFrame, bind_list, gather};
@@ -54,7 +54,7 @@ fn forward(
     edge: &FlatEdge,
     scratch: &mut Vec<u64>,
 ) -> Result<(), AllocError>
-    requires edge { EdgeFits (length values.old.items) edge.now }
+    requires edge { EdgeOperandsFit (length values.old.items) edge.now }
     requires arguments { ArgumentsFit (length values.old.items) function.now }
     ensures bound { OnOk result (numbers_of values.new.items ≡ bind_all nat_eq (numbers_of values.old.items)
         (arguments_of (option_map block_view (block_in (Some function.now) edge.now.target)))
@@ -73,7 +73,7 @@ fn enter(
     function: usize,
     arguments: &[u64],
 ) -> Result<FlatFrame, AllocError>
-    requires sound { IsSound code.now.functions.items }
+    requires sound { FlatFunctionsFit code.now.functions.items }
     requires within { function < length code.now.functions.items }
     ensures enters { IfOk result (λ a. frame_view a ≡ first_frame nat_eq (flat_code code.now.functions.items)
         function arguments.now 0) }
@@ -92,7 +92,7 @@ fn enter(
 
 /// The instruction at which a frame is.
 fn fetch<'a>(code: &'a FlatModule, top: &FlatFrame) -> Option<&'a Instruction>
-    requires sound { IsSound code.now.functions.items }
+    requires sound { FlatFunctionsFit code.now.functions.items }
     requires active { IsActive code.now.functions.items top.now }
     ensures { Fetched code.now.functions.items top.now (option_copied result) }
 {
@@ -118,8 +118,8 @@ fn results_in(instruction: &Instruction) -> &[usize]
 
 /// Binds what a call returned in the frame that waits for it.
 fn resume(top: &mut FlatFrame, code: &FlatModule, numbers: &[u64])
-    requires sound { IsSound code.now.functions.items }
-    requires waiting { IsWaiting code.now.functions.items top.old }
+    requires sound { FlatFunctionsFit code.now.functions.items }
+    requires waiting { IsAtInstruction code.now.functions.items top.old }
     ensures resumes { frame_view top.new ≡ resumed nat_eq (flat_code code.now.functions.items) (frame_view top.old)
         numbers.now }
     ensures active { IsActive code.now.functions.items top.new }
@@ -136,7 +136,7 @@ fn resume(top: &mut FlatFrame, code: &FlatModule, numbers: &[u64])
 impl Running {
     /// One step.
     fn step(&mut self, alloc: Global, code: &FlatModule) -> Result<Turn, AllocError>
-        requires sound { IsSound code.now.functions.items }
+        requires sound { FlatFunctionsFit code.now.functions.items }
         requires running { IsRunning code.now.functions.items self.old }
         ensures { IfOk result (TurnShows code.now.functions.items
             (step nat_eq (flat_code code.now.functions.items) (state_view self.old)) self.new) }
@@ -245,10 +245,10 @@ impl Running {
 
     /// To the first instruction of the block that a branch leads to.
     fn follow(&mut self, code: &FlatModule, edge: &FlatEdge) -> Result<(), AllocError>
-        requires sound { IsSound code.now.functions.items }
+        requires sound { FlatFunctionsFit code.now.functions.items }
         requires running { IsRunning code.now.functions.items self.old }
-        requires edge { EdgeFits (length self.old.top.values.items) edge.now }
-        ensures { OnOk result (Follows code.now.functions.items self.old self.new edge.now) }
+        requires edge { EdgeOperandsFit (length self.old.top.values.items) edge.now }
+        ensures { OnOk result (FollowsEdge code.now.functions.items self.old self.new edge.now) }
     {
         let function = &code.functions[self.top.function];
         forward(&mut self.top.values, function, edge, &mut self.scratch)?;
@@ -265,7 +265,7 @@ fn drive(
     mut running: Running,
     limit: u64,
 ) -> Result<Outcome, AllocError>
-    requires sound { IsSound code.now.functions.items }
+    requires sound { FlatFunctionsFit code.now.functions.items }
     requires running { IsRunning code.now.functions.items running }
     ensures { IfOk result (OutcomeShows (run nat_eq (flat_code code.now.functions.items) limit (state_view running))) }
 {
@@ -293,7 +293,7 @@ pub fn interpret(
     arguments: &[u64],
     limit: u64,
 ) -> Result<Outcome, AllocError>
-    requires sound { IsSound code.now.functions.items }
+    requires sound { FlatFunctionsFit code.now.functions.items }
     requires within { function < length code.now.functions.items }
     ensures { IfOk result (OutcomeShows (run nat_eq (flat_code code.now.functions.items) limit
         (start nat_eq (flat_code code.now.functions.items) function arguments.now))) }

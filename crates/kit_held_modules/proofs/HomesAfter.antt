@@ -10,7 +10,7 @@ use Rattle.ir_trees.specs.Renames.{Maps, names_of, rename, rename_label}
 use Rattle.ir_trees.specs.Stands.{by_handle, ProgramHead}
 use Rattle.ir_trees.specs.Trees.{Sort, Operations, Blocks, Regions, end, operation, block, region}
 use Rattle.opt_trees.specs.Occurrences.{Has, at_root}
-use Rattle.opt_trees.specs.Simplify.{Place, IsCut, is_bare, along_edge, decide_head, decide, keep, entry}
+use Rattle.opt_trees.specs.Simplify.{StartingRegions, IsCut, is_bare, along_edge, decide_head, decide, keep, entry}
 use Rattle.kit.specs.Meaning.{KitOperation, KitBlock, kit}
 use Rattle.kit_ops.specs.declared.attributes.IntegerAttr.{IntegerAttr}
 use Rattle.kit_ruled_views.specs.Ruled.{KitTree}
@@ -126,7 +126,7 @@ module _ (E : Ptr BasicBlock → Type 0) where
     )
 
   -- no entry block goes, where it is cut
-  pub homed_cut : (p : Place by_handle) (t after : KitTree) → IsCut kit p t after → Homed E t.regions true
+  pub homed_cut : (p : StartingRegions by_handle) (t after : KitTree) → IsCut kit p t after → Homed E t.regions true
       → Homed E after.regions true
   homed_cut p t after cut q =
       let stay = entries_stay cut.gone t.regions (at_root t) refl (λ y has first.

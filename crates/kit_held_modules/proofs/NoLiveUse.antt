@@ -28,13 +28,13 @@ use Rattle.opt_merge.specs.Answers.{HasCircle}
 use Rattle.opt_reach.specs.declared.starts.Start.TheVariants as start
 use Rattle.opt_simplify.specs.Phases.{RemovesBlocks}
 use Rattle.opt_simplify.specs.Refusals.{LosesUses}
-use Rattle.opt_trees.specs.Dce.{Around}
+use Rattle.opt_trees.specs.Dce.{TreeSurroundings}
 use Rattle.opt_trees.specs.Simplify.{OfOperations, all_of, decided, decide}
 use Rattle.ir_opts.specs.Simplified.{StopsAt, while_deciding, while_removing, loses_uses, while_joining, comes_back}
 use Rattle.kit.specs.Meaning.{KitOperation, KitBlock, kit}
 use Rattle.kit_ops.specs.declared.attributes.IntegerAttr.{IntegerAttr}
 use Rattle.kit_ruled_views.specs.Ruled.{KitTree}
-use Rattle.kit_ruled_passes.specs.Phases.{Decides, Removes}
+use Rattle.kit_ruled_passes.specs.Phases.{DecidesBranchesBelow, RemovesBlocksBelow}
 use Rattle.kit_ruled_passes.specs.Scopes.{KitProgram, IsInScope, IsUntaken}
 use Rattle.kit_ruled_passes.proofs.Homes.{IsFirst, homed_regions}
 use Rattle.kit_ruled_passes.proofs.KeptScopes.{cut_scoped, none_lost}
@@ -90,7 +90,7 @@ module _ (old new : KitProgram) (root : Ptr Operation) (t : KitTree) (stands : S
   alone_as (ByOp p) v = d.around.alone v
   alone_as (ByBlock b) v = None
 
-  abbrev around_now : Around by_handle IntegerAttr
+  abbrev around_now : TreeSurroundings by_handle IntegerAttr
   around_now = record { alone = λ v. alone_as v.definer v; is_pinned = d.around.is_pinned }
 
   abbrev pub tree_now : KitTree
@@ -168,9 +168,9 @@ module _ (old new : KitProgram) (root : Ptr Operation) (t : KitTree) (stands : S
 -- what holds of operands in scope, and of trees, while control flow is simplified
 pub record StaysInScope (old : KitProgram) (root : Ptr Operation) : Type 0 where
   pub tree : (t : KitTree) × StandsFor old root t
-  pub decided_in : (new : KitProgram) → Decides old new root → IsInScope new root
-  pub untaken : (new : KitProgram) → Decides old new root → IsUntaken new root
-  pub cut_in : (mid new : KitProgram) → Decides old mid root → Removes mid new root → IsInScope new root
+  pub decided_in : (new : KitProgram) → DecidesBranchesBelow old new root → IsInScope new root
+  pub untaken : (new : KitProgram) → DecidesBranchesBelow old new root → IsUntaken new root
+  pub cut_in : (mid new : KitProgram) → DecidesBranchesBelow old mid root → RemovesBlocksBelow mid new root → IsInScope new root
 
 pub no_live_use : (old : KitProgram) (root : Ptr Operation) → HasLists old → HasValues old → StaysInScope old root
     → (new : KitProgram) → StopsAt kit old new root LiveUse → ⊥

@@ -10,7 +10,7 @@ use Rattle.opt_trees.specs.Dce.{Gone, Whole, gone_at, thin, thin_head, thin_labe
 use Rattle.opt_trees.specs.Dialect.{Dialect, drop}
 use Rattle.opt_trees.specs.Occurrences.{Has, BlockOccurrence, Inside, inner, next_block, next_region, at_root}
 use Rattle.opt_trees.specs.Occurrences.{block_occurrences_in, defined_in}
-use Rattle.opt_trees.specs.Simplify.{Place, is_bare, along_edge, decide_head, decide, keep, use_instead, use_head}
+use Rattle.opt_trees.specs.Simplify.{StartingRegions, is_bare, along_edge, decide_head, decide, keep, use_instead, use_head}
 use Rattle.opt_trees.specs.Simplify.{but_last, append, Joins}
 use Rattle.opt_trees.specs.Simplify as joining
 use Rattle.opt_trees.proofs.NoneDead.{has-append, has-left, has-right}
@@ -237,7 +237,7 @@ module _ {N : Names} {S : Contents} {A : Type 0} (d : Dialect S A) where
 
   -- ---- chains
 
-  module _ (p : Place N) (r : Root N S) where
+  module _ (p : StartingRegions N) (r : Root N S) where
     joined : (o : Option N.block) (s : Sort) (x y : Tree N S s) → Joins d p r o s x y → Includes x r.regions
         → Includes y r.regions
     joined _ _ _ _ (joining.ends s) all = end_within r.regions

@@ -17,7 +17,7 @@ use Rattle.ir_trees.specs.Stands.{by_handle, in_program, ProgramHead, ProgramLab
 use Rattle.ir_trees.specs.Trees.{Defined}
 use Rattle.ir_trees.proofs.Members.{has_at}
 use Rattle.ir_trees.proofs.OneTree.{one_tree}
-use Rattle.opt_trees.specs.Dce.{Around}
+use Rattle.opt_trees.specs.Dce.{TreeSurroundings}
 use Rattle.opt_trees.specs.Occurrences.{Has, Occurrence, BlockOccurrence, occurrences_of, block_occurrences_of}
 use Rattle.opt_trees.specs.Occurrences.{types_of}
 use Rattle.opt_trees.proofs.Lists.{none_some}
@@ -53,7 +53,7 @@ pub record IsKnownRoot (c : Program KitOperation KitBlock) (root : Ptr Operation
   pub operations : (t : KitTree) → StandsFor c root t → AreDistinct (operation_names t)
 
 module _ (s : KitContext) (root : Ptr Operation) (known : IsKnownRoot s.program root) (rules : KeepsRules s root)
-    (w : Around by_handle IntegerAttr) (says : SaysAround kit s.program root w) (t : KitTree)
+    (w : TreeSurroundings by_handle IntegerAttr) (says : SaysAround kit s.program root w) (t : KitTree)
     (stands : StandsFor s.program root t) where
   pub nothing_pinned : IsSelfContained s root → NothingPinned w t
   nothing_pinned closed v has pinned =

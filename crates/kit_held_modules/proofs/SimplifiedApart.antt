@@ -14,7 +14,7 @@ use Rattle.opt_decide.specs.Phase.{maps_of}
 use Rattle.opt_inside.specs.Occurring.{IsBelowRoot, IsBlockBelow, IsDefinedBelow}
 use Rattle.opt_inside.proofs.Values.{defined}
 use Rattle.opt_trees.specs.Occurrences.{Has, at_root, defined_in}
-use Rattle.opt_trees.specs.Simplify.{Place, Follows, stops, goes_on, all_of, decide, keep, use_instead}
+use Rattle.opt_trees.specs.Simplify.{StartingRegions, Follows, stops, goes_on, all_of, decide, keep, use_instead}
 use Rattle.opt_trees.proofs.Defined.{argument_defined}
 use Rattle.ir_opts.specs.SimplifiedTree.{SimplifiesTree}
 use Rattle.kit.specs.Meaning.{KitOperation, kit}
@@ -27,7 +27,7 @@ use Rattle.kit_held_modules.proofs.LeftApart.{IsKnownBefore, StoodOutside, Leave
 use Rattle.kit_held_modules.proofs.PassIncludes.{decided_less, kept_less, joined_less, renamed_operation, renamed_block}
 
 -- a value that is followed anywhere is an argument of a block of the tree
-followed : (p : Place by_handle) (r : KitTree) (v x : Value) → Follows kit p r v x
+followed : (p : StartingRegions by_handle) (r : KitTree) (v x : Value) → Follows kit p r v x
     → (x ≡ v) ⊎ Has v (defined_in r.regions)
 followed p r _ _ (stops v none) = inl refl
 followed p r _ _ (goes_on v u x g rest) =

@@ -5,7 +5,7 @@ use Rattle.ir_program.specs.declared.handles.Operation.{Operation}
 use Rattle.ir_program.specs.declared.handles.Ptr.{Ptr}
 use Rattle.ir_trees.specs.Stands.{by_handle, StandsFor}
 use Rattle.opt_inside.specs.Around.{SaysAround}
-use Rattle.opt_trees.specs.Dce.{Around}
+use Rattle.opt_trees.specs.Dce.{TreeSurroundings}
 use Rattle.text_dialect.specs.Seen.{Seen}
 use Rattle.kit.specs.Meaning.{kit}
 use Rattle.kit_ops.specs.declared.attributes.IntegerAttr.{IntegerAttr}
@@ -25,8 +25,8 @@ pub record HoldsModule (s : KitContext) (root : Ptr Operation) : Type 0 where
   pub contained : IsSelfContained s root
 
 -- it holds of the module's tree and of what the context says beside it
-abbrev pub OfModule : KitContext → Ptr Operation → (Around by_handle IntegerAttr → KitTree → Type 0) → Type 0
-OfModule s root P = (w : Around by_handle IntegerAttr) → SaysAround kit s.program root w →
+abbrev pub OfModule : KitContext → Ptr Operation → (TreeSurroundings by_handle IntegerAttr → KitTree → Type 0) → Type 0
+OfModule s root P = (w : TreeSurroundings by_handle IntegerAttr) → SaysAround kit s.program root w →
     (t : KitTree) → StandsFor s.program root t → P w t
 
 -- what texts need of a context of `kit`

@@ -16,14 +16,14 @@ use Rattle.ir_program.proofs.used.Renaming.{value-test}
 use Rattle.ir_trees.specs.Searched.{Lists, AreDistinct}
 use Rattle.opt_inside.specs.Numbered.{Numbers, NumbersInside, StandInOrder}
 use Rattle.opt_inside.specs.Occurring.{IsBelowRoot, IsBlockBelow}
-use Rattle.kit_flat.specs.Machine.{Op}
+use Rattle.kit_flat.specs.Machine.{MachineOp}
 use Rattle.kit_flat.specs.View.{op_view, block_view}
 use Rattle.kit_flat.specs.Sound.{BlockFits, FunctionFits}
-use Rattle.kit_flat.specs.Renames.{rename_op, rename_block, LeadsInside, IsFunctionOf}
+use Rattle.kit_flat.specs.Renames.{rename_op, rename_block, TargetsAreInside, IsFunctionOf}
 use Rattle.kit_flat.specs.declared.flat.FlatBlock.{FlatBlock}
 use Rattle.kit_flat.specs.declared.flat.FlatFunction.{FlatFunction}
 use Rattle.kit_interpreter.specs.Numbers.{values_of, no_value, value_at, block_with, operation_with}
-use Rattle.kit_interpreter.specs.Store.{KitContext, KitProgram, KitNotes, body_of, op_at, block_seen, module_code}
+use Rattle.kit_interpreter.specs.Store.{InterpretedContext, InterpretedProgram, KitNotes, body_of, op_at, block_seen, module_code}
 use Rattle.kit_interpreter.specs.Lowering.{IsValueIn, CanRun, IsBlockNumbered, LowersBlock, LowersFunction}
 
 -- values in a row are listed
@@ -52,7 +52,7 @@ map_map : {X Y Z : Type 0} (f : X → Y) (g : Y → Z) (xs : List X) → map (λ
 map_map f g [] = refl
 map_map f g (x ∷ xs) = ap (λ ys. g (f x) ∷ ys) (map_map f g xs)
 
-module _ (s : KitContext) (m op : Ptr Operation) (region : Ptr Region) (n : Numbers) (can : CanRun s m op)
+module _ (s : InterpretedContext) (m op : Ptr Operation) (region : Ptr Region) (n : Numbers) (can : CanRun s m op)
     (is : slice_get (regions_in s.program op) 0 ≡ Some region)
     (numbers : NumbersInside s.program op n) (stands : StandsInOperation s.program region op)
     (blocks_stand : (r : Ptr Region) (k : ℕ) (b : Ptr BasicBlock) → slice_get (blocks_in s.program r) k ≡ Some b
@@ -116,7 +116,7 @@ module _ (s : KitContext) (m op : Ptr Operation) (region : Ptr Region) (n : Numb
       (each : (i : ℕ) (x : FlatBlock) → slice_get f.blocks.items i ≡ Some x
       → LowersBlock s m n.values (blocks_in s.program region) handles
       (block_with (blocks_in s.program region) i) x) where
-    abbrev ren : Op ℕ ℕ ℕ → Op Value (Ptr BasicBlock) (Ptr Operation)
+    abbrev ren : MachineOp ℕ ℕ ℕ → MachineOp Value (Ptr BasicBlock) (Ptr Operation)
     ren = rename_op (value_at n.values) (block_with (blocks_in s.program region)) (operation_with handles)
 
     seen : (b : Ptr BasicBlock) (x : FlatBlock) → LowersBlock s m n.values (blocks_in s.program region) handles b x
@@ -166,7 +166,7 @@ module _ (s : KitContext) (m op : Ptr Operation) (region : Ptr Region) (n : Numb
       entry = ap (λ (bs : List (Ptr BasicBlock)). slice_get bs 0) body_is
           ∙ slice_get-get_or (blocks_in s.program region) 0 no_handle nonempty;
       blocks = block_there;
-      inside = λ b x e j o h. subst (λ k. LeadsInside k o) (sym len) ((each b x e).inside j o h);
+      inside = λ b x e j o h. subst (λ k. TargetsAreInside k o) (sym len) ((each b x e).inside j o h);
       apart = λ v w l k. apart_by_number same_value value-test no_value n.values numbers.values_once v w
           (omega (arith, l, values)) (omega (arith, k, values));
     }
@@ -187,7 +187,7 @@ module _ (s : KitContext) (m op : Ptr Operation) (region : Ptr Region) (n : Numb
     )
 
 -- a function's first region, the numbers of what is inside the function, and its blocks by number
-pub record IsSetting (p : KitProgram) (op : Ptr Operation) (region : Ptr Region) (n : Numbers)
+pub record IsSetting (p : InterpretedProgram) (op : Ptr Operation) (region : Ptr Region) (n : Numbers)
     (keys : List (Ptr BasicBlock)) : Type 0 where
   pub region_is : Some region ≡ slice_get (regions_in p op) 0
   pub numbers : NumbersInside p op n
@@ -200,7 +200,7 @@ pub record IsSetting (p : KitProgram) (op : Ptr Operation) (region : Ptr Region)
       → StandsInside p (OperationNode q) (BlockNode b) → ⊥
   pub keys_are : keys ≡ blocks_in p region
 
-module _ (s : KitContext) (m op : Ptr Operation) (region : Ptr Region) (n : Numbers) (keys : List (Ptr BasicBlock))
+module _ (s : InterpretedContext) (m op : Ptr Operation) (region : Ptr Region) (n : Numbers) (keys : List (Ptr BasicBlock))
     (can : CanRun s m op) (t : IsSetting s.program op region n keys) where
   pub live_at : (i : ℕ) (b : Ptr BasicBlock) → slice_get keys i ≡ Some b → IsSome (block_at s.program b)
   live_at i b e = (t.blocks_stand region i b

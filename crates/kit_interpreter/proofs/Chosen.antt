@@ -9,22 +9,22 @@ use Rattle.ir_program.specs.declared.handles.Value.{Value}
 use Rattle.kit_flat.specs.Machine.{run, start}
 use Rattle.kit_flat.specs.View.{flat_code}
 use Rattle.kit_flat.specs.Shows.{OutcomeShows}
-use Rattle.kit_flat.specs.Sound.{IsSound, FunctionFits}
-use Rattle.kit_flat.specs.Renames.{Names, IsFunctionOf, IsModuleOf}
+use Rattle.kit_flat.specs.Sound.{FlatFunctionsFit, FunctionFits}
+use Rattle.kit_flat.specs.Renames.{FlatNames, IsFunctionOf, IsModuleOf}
 use Rattle.kit_flat.specs.declared.flat.FlatFunction.{FlatFunction}
 use Rattle.kit_flat.specs.declared.outcome.Outcome.{Outcome}
 use Rattle.kit_flat.proofs.Renamed.{run_alike, shows_alike, started_alike}
 use Rattle.kit_interpreter.specs.Numbers.{no_value, block_with, operation_with}
-use Rattle.kit_interpreter.specs.Store.{KitContext, body_of, module_code}
+use Rattle.kit_interpreter.specs.Store.{InterpretedContext, body_of, module_code}
 use Rattle.kit_interpreter.specs.Lowering.{LowersModule}
 
-module _ (s : KitContext) (m : Ptr Operation) (handles : List (Ptr Operation)) (fs : List FlatFunction)
+module _ (s : InterpretedContext) (m : Ptr Operation) (handles : List (Ptr Operation)) (fs : List FlatFunction)
     (l : LowersModule s m handles fs) where
   abbrev pick : (i : ℕ) (o : Option FlatFunction) → slice_get fs i ≡ o → ℕ → Value
   pick i None e = λ v. no_value
   pick i (Some f) e = (l.each i f e).0
 
-  abbrev names : Names Value (Ptr BasicBlock) (Ptr Operation)
+  abbrev names : FlatNames Value (Ptr BasicBlock) (Ptr Operation)
   names = record {
     function = operation_with handles;
     block = λ i. block_with (body_of s.program (operation_with handles i));
@@ -40,7 +40,7 @@ module _ (s : KitContext) (m : Ptr Operation) (handles : List (Ptr Operation)) (
       (operation_with handles i) (block_with (body_of s.program (operation_with handles i))) ((l.each i g e).0) x)
       (same_Some g f h) (l.each i g e).1
 
-  pub sound : IsSound fs
+  pub sound : FlatFunctionsFit fs
   sound = record { functions_fit = λ i f e. subst (λ (n : ℕ). FunctionFits n f) (sym l.len) (l.each i f e).2 }
 
   module_is : IsModuleOf same_value (module_code s m) names fs
@@ -60,7 +60,7 @@ module _ (s : KitContext) (m : Ptr Operation) (handles : List (Ptr Operation)) (
       (started_alike same_value (module_code s m) names fs module_is i b xs))
       h
 
-pub ran : (s : KitContext) (within outer : Ptr Operation) (handles : List (Ptr Operation)) (fs : List FlatFunction)
+pub ran : (s : InterpretedContext) (within outer : Ptr Operation) (handles : List (Ptr Operation)) (fs : List FlatFunction)
     → LowersModule s outer handles fs → outer ≡ within → (f : Ptr Operation) (i : ℕ) → operation_with handles i ≡ f
     → i < length handles
     → (xs : List ℕ) (n : ℕ) (o : Outcome) → OutcomeShows

@@ -14,8 +14,8 @@ use Rattle.ir_program.specs.declared.handles.Ptr.{Ptr}
 use Rattle.ir_program.specs.declared.handles.Operation.{Operation}
 use Rattle.ir_trees.specs.Searched.{Lists}
 use Rattle.kit_interpreter.specs.declared.executing.Place.{Place}
-use Rattle.kit_interpreter.specs.Store.{KitProgram, body_of, members, function_named, module_named, first_with, locate}
-use Rattle.kit_interpreter.specs.Running.{IsPlaceOf, IsLocated}
+use Rattle.kit_interpreter.specs.Store.{InterpretedProgram, body_of, members, function_named, module_named, first_with, locate}
+use Rattle.kit_interpreter.specs.Running.{IsPlaceOfFunction, IsLocated}
 
 abbrev texts : List Identifier → List (List ℕ)
 texts = map text_of
@@ -35,7 +35,7 @@ nonempty_left [] n h = absurd (omega arith)
 nonempty_left (x ∷ xs) zero h = omega arith
 nonempty_left (x ∷ xs) (suc n) h = nonempty_left xs n (omega (arith, h))
 
-module _ (c : KitProgram) where
+module _ (c : InterpretedProgram) where
   at_more : (m : Ptr Operation) (x : Identifier) (rest : List Identifier) → 0 < length rest
       → locate c m (texts (x ∷ rest)) ≡ option_and_then (λ k. locate c k (texts rest)) (module_named c m (text_of x))
   at_more m x [] h = absurd (omega arith)
@@ -65,7 +65,7 @@ module _ (c : KitProgram) where
 
   -- the function at the last name
   pub located : (path : List Identifier) (i : ℕ) (x : Identifier) → i + 1 ≡ length path → x ≡ get_or path i x
-      → (r : Option Place) → IfSome r (IsPlaceOf c (text_of x)) → IfSome r (IsLocated c path)
+      → (r : Option Place) → IfSome r (IsPlaceOfFunction c (text_of x)) → IfSome r (IsLocated c path)
   located path i x l e None h = tt
   located path i x l e (Some p) h =
       let n : length path - 1 ≡ i = omega (arith, l) in
@@ -75,11 +75,11 @@ module _ (c : KitProgram) where
         within_live = h.within_live;
         function_live = h.function_live;
         place = λ y f. let s : x ≡ y = same_Some x y (sym at ∙ ap (slice_get path) (sym n) ∙ f) in subst
-            (λ (z : Identifier). IsPlaceOf c (text_of z) p) s h;
+            (λ (z : Identifier). IsPlaceOfFunction c (text_of z) p) s h;
       }
 
 -- what is found in a module is there
-pub member_live : (p c : KitProgram) → p ≡ c →
+pub member_live : (p c : InterpretedProgram) → p ≡ c →
     ((b : Ptr BasicBlock) (k : ℕ) (q : Ptr Operation) → slice_get (operations_in p b) k ≡ Some q
     → StandsInBlock p q b) → (m f : Ptr Operation) → Lists (members c m) f → IsSome (operation_at c f)
 member_live p c e know m f l = go (slice_get (body_of c m) 0) l
@@ -87,7 +87,7 @@ member_live p c e know m f l = go (slice_get (body_of c m) 0) l
     go : (o : Option (Ptr BasicBlock)) → Lists (unwrap_or (option_map (operations_in c) o) []) f
         → IsSome (operation_at c f)
     go None l = absurd (none-some f l.1)
-    go (Some b) l = (subst (λ (r : KitProgram). (b : Ptr BasicBlock) (k : ℕ) (q : Ptr Operation)
+    go (Some b) l = (subst (λ (r : InterpretedProgram). (b : Ptr BasicBlock) (k : ℕ) (q : Ptr Operation)
         → slice_get (operations_in r b) k ≡ Some q → StandsInBlock r q b) e know b l.0 f l.1).operation
 
 -- one more of two rows

@@ -13,8 +13,8 @@ use Rattle.ir_program.specs.Program.{no_handle}
 use Rattle.ir_program.specs.declared.handles.Ptr.{Ptr}
 use Rattle.ir_program.specs.declared.handles.Operation.{Operation}
 use Rattle.kit_interpreter.specs.Numbers.{operation_with}
-use Rattle.kit_interpreter.specs.Store.{KitProgram, is_function_named, first_with}
-use Rattle.kit_interpreter.specs.Lowering.{number_of, IsTable}
+use Rattle.kit_interpreter.specs.Store.{InterpretedProgram, is_function_named, first_with}
+use Rattle.kit_interpreter.specs.Lowering.{number_of, IsFunctionTable}
 use Rattle.kit_interpreter.proofs.Found.{appended, only, kept}
 
 -- the number of a name after one was put in
@@ -42,11 +42,11 @@ last_of [] y (suc i) x e = cc
 last_of (d ∷ done) y zero x e = inl e
 last_of (d ∷ done) y (suc i) x e = last_of done y i x e
 
-module _ {K : Type 0} (c : KitProgram) (done : List (Ptr Operation)) (p : Ptr Operation)
-    (handles : List (Ptr Operation)) (names : List (String K × ℕ)) (t : IsTable c done handles names) where
+module _ {K : Type 0} (c : InterpretedProgram) (done : List (Ptr Operation)) (p : Ptr Operation)
+    (handles : List (Ptr Operation)) (names : List (String K × ℕ)) (t : IsFunctionTable c done handles names) where
   -- an operation that changes no search changes no table
   unchanged : ((name : List ℕ) → first_with (is_function_named c name) (done ++ p ∷ []) ≡ first_with
-      (is_function_named c name) done) → IsTable c (done ++ p ∷ []) handles names
+      (is_function_named c name) done) → IsFunctionTable c (done ++ p ∷ []) handles names
   unchanged same = record {
     named = λ name. t.named name ∙ sym (same name);
     below = t.below;
@@ -54,12 +54,12 @@ module _ {K : Type 0} (c : KitProgram) (done : List (Ptr Operation)) (p : Ptr Op
   }
 
   -- an operation that is no function with a name
-  pub nameless : ((name : List ℕ) → is_function_named c name p ≡ false) → IsTable c (done ++ p ∷ []) handles names
+  pub nameless : ((name : List ℕ) → is_function_named c name p ≡ false) → IsFunctionTable c (done ++ p ∷ []) handles names
   nameless h = unchanged (λ name. appended (is_function_named c name) done p (h name))
 
   module _ (text : List ℕ) (is : (name : List ℕ) → is_function_named c name p ≡ bytes_eq name text) where
     -- a function of a name that the table has
-    pub known : (i : ℕ) → number_of names text ≡ Some i → IsTable c (done ++ p ∷ []) handles names
+    pub known : (i : ℕ) → number_of names text ≡ Some i → IsFunctionTable c (done ++ p ∷ []) handles names
     known i e = unchanged (λ name. ⊎_elim
         (λ (q : bytes_eq name text ≡ true).
         let s : name ≡ text = (bytes_eq-Decides name text).0 q in
@@ -102,7 +102,7 @@ module _ {K : Type 0} (c : KitProgram) (done : List (Ptr Operation)) (p : Ptr Op
       fronts None h = refl
       fronts (Some i) h = ap Some (front_is i (h i refl))
 
-      pub pushed : IsTable c (done ++ p ∷ []) all after
+      pub pushed : IsFunctionTable c (done ++ p ∷ []) all after
       pushed = record {
         named = λ name. ⊎_elim
             (λ (q : bytes_eq name text ≡ true). ap (option_map (operation_with all)) (at_new name q)

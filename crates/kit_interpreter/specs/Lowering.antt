@@ -17,12 +17,12 @@ use Rattle.kit_flat.specs.Forms.{Form, rename_form, form_view}
 use Rattle.kit_flat.specs.declared.forming.FlatForm.{FlatForm}
 use Rattle.kit_flat.specs.View.{op_view}
 use Rattle.kit_flat.specs.Sound.{InstructionFits, BlockFits, FunctionFits}
-use Rattle.kit_flat.specs.Renames.{rename_op, LeadsInside, IsFunctionOf}
+use Rattle.kit_flat.specs.Renames.{rename_op, TargetsAreInside, IsFunctionOf}
 use Rattle.kit_flat.specs.declared.flat.Instruction.{Instruction}
 use Rattle.kit_flat.specs.declared.flat.FlatBlock.{FlatBlock}
 use Rattle.kit_flat.specs.declared.flat.FlatFunction.{FlatFunction}
 use Rattle.kit_interpreter.specs.Numbers.{values_of, value_at, block_with, operation_with}
-use Rattle.kit_interpreter.specs.Store.{KitContext, KitProgram, body_of, function_named, is_function_named, first_with, op_at, module_code}
+use Rattle.kit_interpreter.specs.Store.{InterpretedContext, InterpretedProgram, body_of, function_named, is_function_named, first_with, op_at, module_code}
 
 -- ---- what it needs
 
@@ -37,7 +37,7 @@ module _ {O B : Type 0} (c : Program O B) where
 -- a function can run: it has a block, the machine executes each operation of its blocks, operands are values of these
 -- blocks, and successors are blocks of
 -- the function
-pub record CanRun (s : KitContext) (m f : Ptr Operation) : Type 0 where
+pub record CanRun (s : InterpretedContext) (m f : Ptr Operation) : Type 0 where
   pub entry : 0 < length (body_of s.program f)
   pub executes : (b : Ptr BasicBlock) (q : Ptr Operation) → Lists (body_of s.program f) b
       → Lists (operations_in s.program b) q → op_at s m q ≢ Other
@@ -48,7 +48,7 @@ pub record CanRun (s : KitContext) (m f : Ptr Operation) : Type 0 where
       → Lists (operations_in s.program b) q → Lists (successors_at s.program q) d → Lists (body_of s.program f) d
 
 -- so can each function of a module that a call may name
-abbrev pub FunctionsCanRun : KitContext → Ptr Operation → Type 0
+abbrev pub FunctionsCanRun : InterpretedContext → Ptr Operation → Type 0
 FunctionsCanRun s m = (name : List ℕ) (f : Ptr Operation) → function_named s.program m name ≡ Some f → CanRun s m f
 
 -- ---- tables of functions
@@ -65,9 +65,9 @@ pub record IsTableOf {K : Type 0} (found : List ℕ → Option (Ptr Operation)) 
   pub back : (i : ℕ) (f : Ptr Operation) → slice_get handles i ≡ Some f → (name : List ℕ) × (found name ≡ Some f)
 
 -- the table of the functions among these operations
-abbrev pub IsTable : {K : Type 0} → KitProgram → List (Ptr Operation) → List (Ptr Operation) → List (String K × ℕ)
+abbrev pub IsFunctionTable : {K : Type 0} → InterpretedProgram → List (Ptr Operation) → List (Ptr Operation) → List (String K × ℕ)
     → Type 0
-IsTable {K} c ops handles names = IsTableOf {K = K} (λ name. first_with (is_function_named c name) ops) handles names
+IsFunctionTable {K} c ops handles names = IsTableOf {K = K} (λ name. first_with (is_function_named c name) ops) handles names
 
 -- ---- what is made
 
@@ -76,7 +76,7 @@ abbrev pub IsFormOf : List (Ptr Operation) → Option (Form (Ptr Operation)) →
 IsFormOf handles form shape = option_map (λ s. rename_form (operation_with handles) (form_view s)) shape ≡ form
 
 -- the values and blocks that an operation names have numbers, and the machine executes it
-pub record IsNumbered (s : KitContext) (m : Ptr Operation) (values : List Value) (blocks : List (Ptr BasicBlock))
+pub record IsLowerable (s : InterpretedContext) (m : Ptr Operation) (values : List Value) (blocks : List (Ptr BasicBlock))
     (q : Ptr Operation) : Type 0 where
   pub executes : op_at s m q ≢ Other
   pub results : (v : Value) → Lists (values_of (results_at s.program q)) v → Lists values v
@@ -84,18 +84,18 @@ pub record IsNumbered (s : KitContext) (m : Ptr Operation) (values : List Value)
   pub successors : (b : Ptr BasicBlock) → Lists (successors_at s.program q) b → Lists blocks b
 
 -- the same of the operations of a block, and of its arguments
-pub record IsBlockNumbered (s : KitContext) (m : Ptr Operation) (values : List Value)
+pub record IsBlockNumbered (s : InterpretedContext) (m : Ptr Operation) (values : List Value)
     (blocks : List (Ptr BasicBlock)) (b : Ptr BasicBlock) : Type 0 where
   pub arguments : (v : Value) → Lists (values_of (arguments_at s.program b)) v → Lists values v
-  pub operations : (q : Ptr Operation) → Lists (operations_in s.program b) q → IsNumbered s m values blocks q
+  pub operations : (q : Ptr Operation) → Lists (operations_in s.program b) q → IsLowerable s m values blocks q
 
-module _ (s : KitContext) (m : Ptr Operation) (values : List Value) (blocks : List (Ptr BasicBlock))
+module _ (s : InterpretedContext) (m : Ptr Operation) (values : List Value) (blocks : List (Ptr BasicBlock))
     (handles : List (Ptr Operation)) where
   -- the instruction is the operation, by numbers that are in their bounds
   pub record LowersOperation (q : Ptr Operation) (x : Instruction) : Type 0 where
     pub seen : op_at s m q ≡ rename_op (value_at values) (block_with blocks) (operation_with handles) (op_view x)
     pub fits : InstructionFits (length handles) (length values) x
-    pub inside : LeadsInside (length blocks) x
+    pub inside : TargetsAreInside (length blocks) x
 
   -- so are the instructions the operations of a block, and its arguments are those of the block
   pub record LowersBlock (b : Ptr BasicBlock) (x : FlatBlock) : Type 0 where
@@ -103,16 +103,16 @@ module _ (s : KitContext) (m : Ptr Operation) (values : List Value) (blocks : Li
     pub operations : map (op_at s m) (operations_in s.program b) ≡ map
         (λ o. rename_op (value_at values) (block_with blocks) (operation_with handles) (op_view o)) x.instructions.items
     pub fits : BlockFits (length handles) (length values) x
-    pub inside : (j : ℕ) (o : Instruction) → slice_get x.instructions.items j ≡ Some o → LeadsInside (length blocks) o
+    pub inside : (j : ℕ) (o : Instruction) → slice_get x.instructions.items j ≡ Some o → TargetsAreInside (length blocks) o
 
 -- the flat function is the function, in which values have some names, and its numbers are in their bounds
-abbrev pub LowersFunction : KitContext → Ptr Operation → List (Ptr Operation) → Ptr Operation → FlatFunction → Type 0
+abbrev pub LowersFunction : InterpretedContext → Ptr Operation → List (Ptr Operation) → Ptr Operation → FlatFunction → Type 0
 LowersFunction s m handles f x =
     (value : ℕ → Value) × IsFunctionOf same_value (module_code s m) (operation_with handles) f
     (block_with (body_of s.program f)) value x × FunctionFits (length handles) x
 
 -- so is each function of the flat module that of the table with its number
-pub record LowersModule (s : KitContext) (m : Ptr Operation) (handles : List (Ptr Operation))
+pub record LowersModule (s : InterpretedContext) (m : Ptr Operation) (handles : List (Ptr Operation))
     (fs : List FlatFunction) : Type 0 where
   pub len : length fs ≡ length handles
   pub each : (i : ℕ) (x : FlatFunction) → slice_get fs i ≡ Some x

@@ -13,54 +13,54 @@ use Rattle.kit_flat.specs.declared.outcome.Outcome.{Outcome}
 use Rattle.kit_interpreter.specs.declared.executing.ExecFault.{ExecFault}
 use Rattle.kit_interpreter.specs.declared.executing.ExecFault.TheVariants.{Memory, WrongPath, WrongArguments}
 use Rattle.kit_interpreter.specs.declared.executing.Place.{Place}
-use Rattle.kit_interpreter.specs.Store.{KitContext, KitProgram, body_of, function_named, locate, width_at, module_code}
+use Rattle.kit_interpreter.specs.Store.{InterpretedContext, InterpretedProgram, body_of, function_named, locate, width_at, module_code}
 use Rattle.kit_interpreter.specs.Lowering.{FunctionsCanRun}
 
 -- the number is below 2 to the power of the width, where there is one
-abbrev pub IsBelow : ℕ → Option ℕ → Type 0
-IsBelow x None = Unit {0}
-IsBelow x (Some w) = x < 2 ^ w
+abbrev pub FitsWidth : ℕ → Option ℕ → Type 0
+FitsWidth x None = Unit {0}
+FitsWidth x (Some w) = x < 2 ^ w
 
 -- as many numbers as there are values, each below 2 to the power of the width of its type
-pub record AreFitting (s : KitContext) (ts : List TypedValue) (xs : List ℕ) : Type 0 where
+pub record AreFitting (s : InterpretedContext) (ts : List TypedValue) (xs : List ℕ) : Type 0 where
   pub count : length xs ≡ length ts
   pub each : (i x : ℕ) (t : TypedValue) → slice_get xs i ≡ Some x → slice_get ts i ≡ Some t
-      → IsBelow x (width_at s t.ty)
+      → FitsWidth x (width_at s t.ty)
 
 -- the function takes these numbers as the arguments of its entry block
-abbrev pub Takes : KitContext → Ptr Operation → List ℕ → Type 0
-Takes s f xs = (b : Ptr BasicBlock) × (slice_get (body_of s.program f) 0 ≡ Some b)
+abbrev pub TakesNumbers : InterpretedContext → Ptr Operation → List ℕ → Type 0
+TakesNumbers s f xs = (b : Ptr BasicBlock) × (slice_get (body_of s.program f) 0 ≡ Some b)
     × AreFitting s (arguments_at s.program b) xs
 
 -- where a path of names leads from a module
-abbrev pub place_of : KitContext → Ptr Operation → List Identifier → Option Place
+abbrev pub place_of : InterpretedContext → Ptr Operation → List Identifier → Option Place
 place_of s root path = locate s.program root (map text_of path)
 
 -- the place is that of a function of this name, and it is there
-pub record IsPlaceOf (c : KitProgram) (name : List ℕ) (p : Place) : Type 0 where
+pub record IsPlaceOfFunction (c : InterpretedProgram) (name : List ℕ) (p : Place) : Type 0 where
   pub within_live : IsSome (operation_at c p.within)
   pub function_live : IsSome (operation_at c p.function)
   pub named : function_named c p.within name ≡ Some p.function
 
 -- so it is for the last name of a path
-pub record IsLocated (c : KitProgram) (path : List Identifier) (p : Place) : Type 0 where
+pub record IsLocated (c : InterpretedProgram) (path : List Identifier) (p : Place) : Type 0 where
   pub nonempty : 0 < length path
   pub within_live : IsSome (operation_at c p.within)
   pub function_live : IsSome (operation_at c p.function)
-  pub place : (x : Identifier) → slice_get path (length path - 1) ≡ Some x → IsPlaceOf c (text_of x) p
+  pub place : (x : Identifier) → slice_get path (length path - 1) ≡ Some x → IsPlaceOfFunction c (text_of x) p
 
 -- all functions that a run may call can run
-abbrev pub PathCanRun : KitContext → Ptr Operation → List Identifier → Type 0
+abbrev pub PathCanRun : InterpretedContext → Ptr Operation → List Identifier → Type 0
 PathCanRun s root path = (p : Place) → place_of s root path ≡ Some p → FunctionsCanRun s p.within
 
 -- an outcome is that of at most n steps of the machine from the function's first state; a wrong path leads to no
 -- function; and wrong arguments are none that
 -- the function takes
-abbrev pub Runs : KitContext → Ptr Operation → List Identifier → List ℕ → ℕ → Result Outcome ExecFault → Type 0
+abbrev pub Runs : InterpretedContext → Ptr Operation → List Identifier → List ℕ → ℕ → Result Outcome ExecFault → Type 0
 Runs s root path xs n (Ok o) =
-    (p : Place) × (place_of s root path ≡ Some p) × Takes s p.function xs
+    (p : Place) × (place_of s root path ≡ Some p) × TakesNumbers s p.function xs
     × OutcomeShows (run same_value (module_code s p.within) n
     (start same_value (module_code s p.within) p.function xs)) o
 Runs s root path xs n (Err Memory) = Unit {0}
 Runs s root path xs n (Err WrongPath) = place_of s root path ≡ None
-Runs s root path xs n (Err WrongArguments) = (p : Place) × (place_of s root path ≡ Some p) × (Takes s p.function xs → ⊥)
+Runs s root path xs n (Err WrongArguments) = (p : Place) × (place_of s root path ≡ Some p) × (TakesNumbers s p.function xs → ⊥)

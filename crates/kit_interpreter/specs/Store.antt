@@ -30,7 +30,7 @@ use Rattle.kit_ops.specs.declared.attributes.KitAttr.{KitAttr}
 use Rattle.kit_ops.specs.declared.attributes.KitAttr.TheVariants as attrs
 use Rattle.kit_ops.specs.declared.attributes.KitAttrKind.{KitAttrKind}
 use Rattle.kit_ops.specs.declared.attributes.KitLocation.{KitLocation}
-use Rattle.kit_flat.specs.Machine.{Op, Other, Block, Code}
+use Rattle.kit_flat.specs.Machine.{MachineOp, Other, MachineBlock, Code}
 use Rattle.kit_flat.specs.Forms.{Form, Constant, Calculate, Compare, Emit, Call, Br, CondBr, Return, op_of}
 use Rattle.kit_interpreter.specs.declared.executing.Place.{Place}
 use Rattle.kit_interpreter.specs.Numbers.{values_of}
@@ -42,11 +42,11 @@ KitData = OperationData Kit KitTypeKind KitAttrKind Unused Unused KitLocation Ki
 abbrev pub KitNotes : Type 0
 KitNotes = BlockNotes Kit KitTypeKind KitAttrKind Unused Unused KitLocation KitOp KitAttr KitType
 
-abbrev pub KitProgram : Type 0
-KitProgram = Program KitData KitNotes
+abbrev pub InterpretedProgram : Type 0
+InterpretedProgram = Program KitData KitNotes
 
-abbrev pub KitContext : Type 0
-KitContext = ContextView KitData KitNotes (TypesView KitType Unused Unused)
+abbrev pub InterpretedContext : Type 0
+InterpretedContext = ContextView KitData KitNotes (TypesView KitType Unused Unused)
 
 -- ---- forms
 
@@ -92,7 +92,7 @@ form_of ops.Emit attribute width named = Some Emit
 form_of ops.Return attribute width named = Some Return
 
 -- the operation of a form, if there is one
-abbrev pub op_if : {V B F : Type 0} → Option (Form F) → List V → List V → List B → Op V B F
+abbrev pub op_if : {V B F : Type 0} → Option (Form F) → List V → List V → List B → MachineOp V B F
 op_if None rs xs bs = Other
 op_if (Some s) rs xs bs = op_of s rs xs bs
 
@@ -116,7 +116,7 @@ abbrev pub first_with : {X : Type 0} → (X → Bool) → List X → Option X
 first_with test [] = None
 first_with test (x ∷ xs) = if test x then Some x else first_with test xs
 
-module _ (c : KitProgram) where
+module _ (c : InterpretedProgram) where
   -- the attribute of an operation under a key
   abbrev pub attribute_of : Ptr Operation → List ℕ → Option KitAttr
   attribute_of p key = option_and_then (λ (n : OperationNotes Kit KitTypeKind KitAttrKind Unused Unused KitLocation
@@ -151,7 +151,7 @@ module _ (c : KitProgram) where
 
 -- ---- what the machine executes
 
-module _ (s : KitContext) where
+module _ (s : InterpretedContext) where
   -- the width of a type
   abbrev pub width_at : TypeHandle → Option ℕ
   width_at ty = width_of (key_at s.types ty)
@@ -164,11 +164,11 @@ module _ (s : KitContext) where
         (kind_at s.program p)
 
     -- the operation, as the machine sees it
-    abbrev pub op_at : Ptr Operation → Op Value (Ptr BasicBlock) (Ptr Operation)
+    abbrev pub op_at : Ptr Operation → MachineOp Value (Ptr BasicBlock) (Ptr Operation)
     op_at p = op_if (form_at p) (values_of (results_at s.program p)) (operands_at s.program p)
         (successors_at s.program p)
 
-    abbrev pub block_seen : BlockView KitNotes → Block Value (Ptr BasicBlock) (Ptr Operation)
+    abbrev pub block_seen : BlockView KitNotes → MachineBlock Value (Ptr BasicBlock) (Ptr Operation)
     block_seen b = record { arguments = values_of b.arguments; operations = map op_at b.operations }
 
     -- the functions of module m. A run never leaves the module of its function, since calls are of functions of the

@@ -9,7 +9,7 @@ ghost use Rattle.kit_flat.specs.Machine.{run, start};
 ghost use Rattle.kit_flat.specs.Shows.{OutcomeShows};
 ghost use Rattle.kit_interpreter.specs.Store.{function_named, width_at, module_code};
 ghost use Rattle.kit_interpreter.specs.Lowering.{FunctionsCanRun};
-ghost use Rattle.kit_interpreter.specs.Running.{IsPlaceOf, IsLocated, IsBelow, AreFitting, Takes, place_of, PathCanRun, Runs};
+ghost use Rattle.kit_interpreter.specs.Running.{IsPlaceOfFunction, IsLocated, FitsWidth, AreFitting, TakesNumbers, place_of, PathCanRun, Runs};
 
 use crate::functions::functions_of;
 use crate::lowering::lower_module;
@@ -63,7 +63,7 @@ fn place_in(ctx: &Context<Kit>, within: Ptr<Operation>, name: &Identifier) -> Op
     requires { IsSome (operation_at ctx.now.program within) }
     ensures found { result ≡ option_map (λ f. record { within = within; function = f })
         (function_named ctx.now.program within (text_of name.now)) }
-    ensures place { IfSome result (IsPlaceOf ctx.now.program (text_of name.now)) }
+    ensures place { IfSome result (IsPlaceOfFunction ctx.now.program (text_of name.now)) }
 {
     match find_function(ctx, within, name.as_str()) {
         Some(function) => Some(Place { within, function }),
@@ -99,7 +99,7 @@ fn is_below_power(x: u64, width: u32) -> bool
 
 /// The same where there is a width.
 fn is_below(x: u64, width: Option<u32>) -> bool
-    ensures { IsTrue result ↔ IsBelow x width }
+    ensures { IsTrue result ↔ FitsWidth x width }
 {
     match width {
         Some(width) => is_below_power(x, width),
@@ -112,7 +112,7 @@ fn fits_argument(ctx: &Context<Kit>, block: Ptr<BasicBlock>, index: usize, x: u6
     requires block { IsSome (block_at ctx.now.program block) }
     requires within { index < argument_count ctx.now.program block }
     ensures { IsTrue result ↔ ((t : TypedValue) → slice_get (arguments_at ctx.now.program block) index ≡ Some t
-        → IsBelow x (width_at ctx.now t.ty)) }
+        → FitsWidth x (width_at ctx.now t.ty)) }
 {
     let argument = block.get_argument(ctx, index);
     is_below(x, width(ctx, argument.get_type(ctx)))
@@ -137,7 +137,7 @@ fn are_fitting(ctx: &Context<Kit>, block: Ptr<BasicBlock>, numbers: &[u64]) -> b
 /// Whether a function takes these numbers.
 fn takes(ctx: &Context<Kit>, function: Ptr<Operation>, numbers: &[u64]) -> bool
     requires { IsSome (operation_at ctx.now.program function) }
-    ensures { IsTrue result ↔ Takes ctx.now function numbers.now }
+    ensures { IsTrue result ↔ TakesNumbers ctx.now function numbers.now }
 {
     match entry(ctx, function) {
         Some(block) => are_fitting(ctx, block, numbers),

@@ -6,7 +6,7 @@ ghost use Rattle.ir_program.specs.Lists.{operations_in};
 ghost use Rattle.ir_program.specs.declared.handles.Ptr.{Ptr};
 ghost use Rattle.ir_program.specs.declared.handles.Operation.{Operation};
 ghost use Rattle.kit_interpreter.specs.Store.{is_function_named, members};
-ghost use Rattle.kit_interpreter.specs.Lowering.{number_of, IsTable};
+ghost use Rattle.kit_interpreter.specs.Lowering.{number_of, IsFunctionTable};
 
 use crate::reading::{attribute, entry};
 use indexmap::IndexMap;
@@ -43,7 +43,7 @@ impl Functions {
     /// No functions.
     fn new(alloc: Global, outer: Ptr<Operation>) -> Functions
         ensures outer { result.outer ≡ outer }
-        ensures table { (c : _) → IsTable c [] result.handles.items result.names.entries }
+        ensures table { (c : _) → IsFunctionTable c [] result.handles.items result.names.entries }
     {
         Functions {
             outer,
@@ -84,8 +84,8 @@ impl Functions {
         requires live { IsSome (operation_at ctx.now.program op) }
         ensures outer { self.new.outer ≡ self.old.outer }
         ensures table { OnOk result ((done : List (Ptr Operation))
-            → IsTable ctx.now.program done self.old.handles.items self.old.names.entries
-            → IsTable ctx.now.program (done ++ op ∷ []) self.new.handles.items self.new.names.entries) }
+            → IsFunctionTable ctx.now.program done self.old.handles.items self.old.names.entries
+            → IsFunctionTable ctx.now.program (done ++ op ∷ []) self.new.handles.items self.new.names.entries) }
     {
         match function_name(ctx, op) {
             None => Ok(()),
@@ -107,9 +107,9 @@ impl Functions {
         block: Ptr<BasicBlock>,
     ) -> Result<(), AllocError>
         requires live { IsSome (block_at ctx.now.program block) }
-        requires empty { IsTable ctx.now.program [] self.old.handles.items self.old.names.entries }
+        requires empty { IsFunctionTable ctx.now.program [] self.old.handles.items self.old.names.entries }
         ensures outer { self.new.outer ≡ self.old.outer }
-        ensures table { OnOk result (IsTable ctx.now.program (operations_in ctx.now.program block)
+        ensures table { OnOk result (IsFunctionTable ctx.now.program (operations_in ctx.now.program block)
             self.new.handles.items self.new.names.entries) }
     {
         ctx.program().know_lists();
@@ -128,7 +128,7 @@ pub(crate) fn functions_of(
 ) -> Result<Functions, AllocError>
     requires { IsSome (operation_at ctx.now.program outer) }
     ensures outer { IfOk result (λ functions. functions.outer ≡ outer) }
-    ensures table { IfOk result (λ functions. IsTable ctx.now.program (members ctx.now.program outer)
+    ensures table { IfOk result (λ functions. IsFunctionTable ctx.now.program (members ctx.now.program outer)
         functions.handles.items functions.names.entries) }
 {
     let mut functions = Functions::new(alloc, outer);

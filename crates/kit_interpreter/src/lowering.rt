@@ -8,7 +8,7 @@ ghost use Rattle.kit_ops.specs.Keys.{constant_value, segment_sizes, callee};
 ghost use Rattle.kit_flat.specs.Formed.{FormFits};
 ghost use Rattle.kit_interpreter.specs.Numbers.{block_with, operation_with};
 ghost use Rattle.kit_interpreter.specs.Store.{attribute_of, constant_form, conditional_form, call_form, form_at, function_named, members};
-ghost use Rattle.kit_interpreter.specs.Lowering.{IsTable, IsFormOf, IsNumbered, IsBlockNumbered, FunctionsCanRun, CanRun, LowersOperation, LowersBlock, LowersFunction, LowersModule};
+ghost use Rattle.kit_interpreter.specs.Lowering.{IsFunctionTable, IsFormOf, IsLowerable, IsBlockNumbered, FunctionsCanRun, CanRun, LowersOperation, LowersBlock, LowersFunction, LowersModule};
 
 use crate::functions::Functions;
 use crate::numbering::{
@@ -56,7 +56,7 @@ fn conditional(ctx: &Context<Kit>, op: Ptr<Operation>) -> Option<FlatForm>
 /// The form of a call.
 fn call(ctx: &Context<Kit>, functions: &Functions, op: Ptr<Operation>) -> Option<FlatForm>
     requires live { IsSome (operation_at ctx.now.program op) }
-    requires table { IsTable ctx.now.program (members ctx.now.program functions.now.outer)
+    requires table { IsFunctionTable ctx.now.program (members ctx.now.program functions.now.outer)
         functions.now.handles.items functions.now.names.entries }
     ensures form { IsFormOf functions.now.handles.items
         (call_form (function_named ctx.now.program functions.now.outer) (attribute_of ctx.now.program op callee))
@@ -75,7 +75,7 @@ fn call(ctx: &Context<Kit>, functions: &Functions, op: Ptr<Operation>) -> Option
 /// The form of an operation, if the machine may execute it.
 fn form(ctx: &Context<Kit>, functions: &Functions, op: Ptr<Operation>) -> Option<FlatForm>
     requires live { IsSome (operation_at ctx.now.program op) }
-    requires table { IsTable ctx.now.program (members ctx.now.program functions.now.outer)
+    requires table { IsFunctionTable ctx.now.program (members ctx.now.program functions.now.outer)
         functions.now.handles.items functions.now.names.entries }
     ensures form { IsFormOf functions.now.handles.items (form_at ctx.now functions.now.outer op) result }
     ensures fits { IfSome result (FormFits (length functions.now.handles.items)) }
@@ -108,9 +108,9 @@ fn lower_operation(
     op: Ptr<Operation>,
 ) -> Result<Instruction, AllocError>
     requires live { IsSome (operation_at ctx.now.program op) }
-    requires table { IsTable ctx.now.program (members ctx.now.program functions.now.outer)
+    requires table { IsFunctionTable ctx.now.program (members ctx.now.program functions.now.outer)
         functions.now.handles.items functions.now.names.entries }
-    requires numbered { IsNumbered ctx.now functions.now.outer values.now.keys blocks.now.keys op }
+    requires numbered { IsLowerable ctx.now functions.now.outer values.now.keys blocks.now.keys op }
     ensures { IfOk result (LowersOperation ctx.now functions.now.outer values.now.keys blocks.now.keys
         functions.now.handles.items op) }
 {
@@ -137,7 +137,7 @@ fn lower_block(
     block: Ptr<BasicBlock>,
 ) -> Result<FlatBlock, AllocError>
     requires live { IsSome (block_at ctx.now.program block) }
-    requires table { IsTable ctx.now.program (members ctx.now.program functions.now.outer)
+    requires table { IsFunctionTable ctx.now.program (members ctx.now.program functions.now.outer)
         functions.now.handles.items functions.now.names.entries }
     requires numbered { IsBlockNumbered ctx.now functions.now.outer values.now.keys blocks.now.keys block }
     ensures { IfOk result (LowersBlock ctx.now functions.now.outer values.now.keys blocks.now.keys
@@ -165,7 +165,7 @@ fn lower_blocks(
 ) -> Result<Vec<FlatBlock>, AllocError>
     requires live { (i : ℕ) (b : Ptr BasicBlock) → slice_get blocks.now.keys i ≡ Some b
         → IsSome (block_at ctx.now.program b) }
-    requires table { IsTable ctx.now.program (members ctx.now.program functions.now.outer)
+    requires table { IsFunctionTable ctx.now.program (members ctx.now.program functions.now.outer)
         functions.now.handles.items functions.now.names.entries }
     requires numbered { (i : ℕ) (b : Ptr BasicBlock) → slice_get blocks.now.keys i ≡ Some b
         → IsBlockNumbered ctx.now functions.now.outer values.now.keys blocks.now.keys b }
@@ -194,7 +194,7 @@ fn lower_function(
     op: Ptr<Operation>,
 ) -> Result<FlatFunction, AllocError>
     requires live { IsSome (operation_at ctx.now.program op) }
-    requires table { IsTable ctx.now.program (members ctx.now.program functions.now.outer)
+    requires table { IsFunctionTable ctx.now.program (members ctx.now.program functions.now.outer)
         functions.now.handles.items functions.now.names.entries }
     requires can_run { CanRun ctx.now functions.now.outer op }
     ensures { IfOk result (LowersFunction ctx.now functions.now.outer functions.now.handles.items op) }
@@ -222,7 +222,7 @@ pub(crate) fn lower_module(
 ) -> Result<FlatModule, AllocError>
     requires live { (i : ℕ) (f : Ptr Operation) → slice_get functions.now.handles.items i ≡ Some f
         → IsSome (operation_at ctx.now.program f) }
-    requires table { IsTable ctx.now.program (members ctx.now.program functions.now.outer)
+    requires table { IsFunctionTable ctx.now.program (members ctx.now.program functions.now.outer)
         functions.now.handles.items functions.now.names.entries }
     requires can_run { FunctionsCanRun ctx.now functions.now.outer }
     ensures { IfOk result (λ lowered. LowersModule ctx.now functions.now.outer functions.now.handles.items

@@ -6,7 +6,7 @@ use Rattle.ir_base.specs.declared.types.TypeHandle.{TypeHandle}
 use Rattle.ir_trees.specs.Names.{Names}
 use Rattle.ir_trees.specs.Trees.{Root}
 use Rattle.opt_trees.specs.Dialect.{drop}
-use Rattle.opt_trees.specs.Dce.{Around, Item, Gone, Whole, May, IsDead, dies, thin, thin_head}
+use Rattle.opt_trees.specs.Dce.{TreeSurroundings, Item, Gone, Whole, May, IsDead, dies, thin, thin_head}
 use Rattle.opt_trees.specs.Occurrences.{Occurrence, occurrences_of, at_root}
 use Rattle.opt_trees.proofs.NoneDead.{true_false}
 use Rattle.kit_ops.specs.declared.attributes.IntegerAttr.{IntegerAttr}
@@ -15,19 +15,19 @@ use Rattle.kit_ops.specs.declared.types.KitType.{KitType}
 use Rattle.kit_ops.specs.Table.{row_of}
 use Rattle.kit.specs.Meaning.{kit}
 use Rattle.kit_behaviour.specs.DeadValues as flat
-use Rattle.kit_behaviour.specs.Machine.{Fun, Program}
+use Rattle.kit_behaviour.specs.Machine.{Fun, FunctionsByPath}
 use Rattle.kit_behaviour.specs.Numbering.{place_fun, placed}
 use Rattle.kit_behaviour.specs.RemovedValues as removed
 use Rattle.kit_behaviour.specs.Places.{Place, same_place}
 use Rattle.kit_behaviour.proofs.Behaviour.FrameLemmas as old
-use Rattle.kit_views.specs.FlatView.{IsFlat}
+use Rattle.kit_views.specs.FlatView.{FlattensTo}
 use Rattle.kit_views.specs.Laws.{IsThinned}
 use Rattle.kit_views.specs.Reading.{kit_contents, kit_reading}
 use Rattle.kit_views.proofs.FlatRemoval as views
 use Rattle.kit_views.proofs.Read.{kit_reads}
 use Rattle.kit_module_programs.specs.Laws.{AreTold}
 use Rattle.kit_module_programs.specs.Paths.{locate}
-use Rattle.kit_module_programs.specs.Programs.{IsFunctionOf, IsProgramOf}
+use Rattle.kit_module_programs.specs.Programs.{HasFunctionView, IsProgramOf}
 use Rattle.kit_module_programs.specs.Sound.{tree_of, IsSound}
 use Rattle.kit_module_programs.specs.TreePasses.{IsDceAlone}
 use Rattle.kit_module_programs.proofs.FlatDefined.{flat_defined}
@@ -40,7 +40,7 @@ use Rattle.kit_module_programs.proofs.RemovalByPlace.{placed_dead, dead_placed, 
 use Rattle.kit_module_programs.proofs.Restricted.{rest, function_dce, function_unpinned}
 
 -- nothing is dead in a function that is not there
-none_dead : flat.IsDead same_place None (λ v. false)
+none_dead : flat.IsDeadSet same_place None (λ v. false)
 none_dead = record { holds = λ v h. absurd (cc h); least = λ e h v d. absurd (cc d) }
 
 dropped_nothing : {X : Type 0} (p : ℕ → Bool) (xs : List X) → xs ≡ [] → drop p xs ≡ xs
@@ -49,7 +49,7 @@ dropped_nothing p xs e = ap (drop p) e ∙ sym e
 module _ {N : Names} (told : AreTold N) (leads : TypeHandle → Option KitType) (numbered : List ℕ → ℕ)
     (type_at : N.value → TypeHandle) (t : Root N kit_contents) (sound : IsSound {N = N} leads numbered type_at t)
     (after : Root N kit_contents) (pass : IsDceAlone {N = N} t after) where
-  abbrev w : Around N IntegerAttr
+  abbrev w : TreeSurroundings N IntegerAttr
   w = pass.around
 
   abbrev gone : Gone N
@@ -83,8 +83,8 @@ module _ {N : Names} (told : AreTold N) (leads : TypeHandle → Option KitType) 
   -- the pass on one function: the set of dead places, and the function after it
   record IsFunctionAfter (o : Option (Root N kit_contents)) (p : Option (Fun Place)) : Type 0 where
     set : Place → Bool
-    dead : flat.IsDead same_place p set
-    left : IsFunctionOf {N = N} told.value leads numbered (option_map (thin_root gone) o)
+    dead : flat.IsDeadSet same_place p set
+    left : HasFunctionView {N = N} told.value leads numbered (option_map (thin_root gone) o)
         (place_fun same_place (removed.thin set p))
 
   head_stays : (o : Occurrence N kit_contents) → o.head.content.kind ≡ ops.Func → o.head.operands ≡ [] →
@@ -105,10 +105,10 @@ module _ {N : Names} (told : AreTold N) (leads : TypeHandle → Option KitType) 
 
   function_after : (o : Option (Root N kit_contents)) (p : Option (Fun Place)) →
       ((k : Root N kit_contents) → o ≡ Some k → Located (occurrences_of t) k) →
-      IsFunctionOf {N = N} told.value leads numbered o p → IsFunctionAfter o p
+      HasFunctionView {N = N} told.value leads numbered o p → IsFunctionAfter o p
   function_after None p at is = record {
     set = λ v. false;
-    dead = subst (λ z. flat.IsDead same_place z (λ v. false)) (sym is) none_dead;
+    dead = subst (λ z. flat.IsDeadSet same_place z (λ v. false)) (sym is) none_dead;
     left = ap (λ z. place_fun same_place (removed.thin (λ v. false) z)) is;
   }
   function_after (Some k) p at is =
@@ -116,8 +116,8 @@ module _ {N : Names} (told : AreTold N) (leads : TypeHandle → Option KitType) 
       let o : Occurrence N kit_contents = l.it in
       let fn = function_at {N = N} leads numbered type_at t sound o l.stands l.kind in
       let g : Fun N.value = is.0 in
-      let is_flat : IsFlat (kit_reading leads numbered) (tree_of o) g =
-      subst (λ z. IsFlat (kit_reading leads numbered) z g) (sym l.is) is.1 in
+      let is_flat : FlattensTo (kit_reading leads numbered) (tree_of o) g =
+      subst (λ z. FlattensTo (kit_reading leads numbered) z g) (sym l.is) is.1 in
       let thinned : IsThinned kit w (tree_of o) told.value (kit_reading leads numbered) g
       (rest {N = N} told leads numbered type_at t sound w gone pass.is.is_gone o fn) =
       views.removed kit (kit_reading leads numbered) (kit_reads leads numbered) told.value told.values w (tree_of o)
@@ -132,25 +132,25 @@ module _ {N : Names} (told : AreTold N) (leads : TypeHandle → Option KitType) 
       ∙ ap (thin_root gone) l.is in
       record {
         set = set;
-        dead = subst (λ z. flat.IsDead same_place z set) (sym is.2)
+        dead = subst (λ z. flat.IsDeadSet same_place z set) (sym is.2)
             (dead_placed told.value value_law g defined thinned.dead thinned.is_dead);
         left = (
           thinned.rest,
-          subst (λ z. IsFlat (kit_reading leads numbered) z thinned.rest) heads thinned.is_view,
+          subst (λ z. FlattensTo (kit_reading leads numbered) z thinned.rest) heads thinned.is_view,
           ap (λ z. place_fun same_place (removed.thin set z)) is.2
               ∙ sym (thin_placed told.value value_law g defined thinned.dead thinned.is_dead)
               ∙ ap (place_fun told.value) thinned.is,
         );
       }
 
-  pub dce_on_programs : (p : Program Place) → IsProgramOf {N = N} told.value leads numbered t p →
-      (q : Program Place) × IsProgramOf {N = N} told.value leads numbered after q × flat.IsDce p q
+  pub dce_on_programs : (p : FunctionsByPath Place) → IsProgramOf {N = N} told.value leads numbered t p →
+      (q : FunctionsByPath Place) × IsProgramOf {N = N} told.value leads numbered after q × flat.IsDceOfFunctions p q
   dce_on_programs p is =
       let each = λ (path : List ℕ). function_after (locate numbered (reverse path) t) (p path)
       (λ k e. located numbered (reverse path) t (at_root t) k e) (is path) in
       let set : List ℕ → Place → Bool = λ path. (each path).set in (
         placed same_place (removed.thinned set p),
-        λ path. subst (λ z. IsFunctionOf {N = N} told.value leads numbered z (place_fun same_place (removed.thin (set
+        λ path. subst (λ z. HasFunctionView {N = N} told.value leads numbered z (place_fun same_place (removed.thin (set
             path) (p path))))
             (sym (where_after (reverse path))) (each path).left,
         record { set = set; dead = λ path. (each path).dead; is = λ path. refl },

@@ -6,7 +6,7 @@ use Rattle.ir_base.specs.declared.types.TypeHandle.{TypeHandle}
 use Rattle.ir_trees.specs.Names.{Names}
 use Rattle.ir_trees.specs.Renames.{names_of}
 use Rattle.ir_trees.specs.Trees.{end, Root}
-use Rattle.opt_trees.specs.Dce.{Around, Item, Whole, Slot, MayGo, May, Touches, Counts, IsUse, IsKept}
+use Rattle.opt_trees.specs.Dce.{TreeSurroundings, Item, Whole, Slot, MayGo, May, Touches, CountsForOperation, IsUseOfItem, IsKept}
 use Rattle.opt_trees.specs.Dce.{ForwardsTo, IsDead, dies, IsExcused, by_operation, by_argument}
 use Rattle.opt_trees.specs.Occurrences.{Has, Occurrence, BlockOccurrence, inner, occurrences_in, occurrences_of}
 use Rattle.opt_trees.specs.Occurrences.{at_root, defined_in}
@@ -32,7 +32,7 @@ pub holder_effects : (k : KitOp) → (k ≡ ops.Func) ⊎ (k ≡ ops.Module) →
 holder_effects k e = ⊎_elim (λ z. ap (λ x. (row_of x).has_effects) z) (λ z. ap (λ x. (row_of x).has_effects) z) e
 
 module _ {N : Names} (leads : TypeHandle → Option KitType) (numbered : List ℕ → ℕ) (type_at : N.value → TypeHandle)
-    (t : Root N kit_contents) (sound : IsSound {N = N} leads numbered type_at t) (w : Around N IntegerAttr) where
+    (t : Root N kit_contents) (sound : IsSound {N = N} leads numbered type_at t) (w : TreeSurroundings N IntegerAttr) where
   may_of : (x : Item N) → IsDead kit w t x → May kit t x
   may_of _ (dies x may kept uses) = may
 
@@ -174,7 +174,7 @@ module _ {N : Names} (leads : TypeHandle → Option KitType) (numbered : List �
     )
 
     -- uses
-    counts_up : (a : N.operation) (v : N.value) (p : Occurrence N kit_contents) → Counts u a v p → Counts t a v
+    counts_up : (a : N.operation) (v : N.value) (p : Occurrence N kit_contents) → CountsForOperation u a v p → CountsForOperation t a v
         (lifted_op p)
     counts_up a v p c = record {
       it = lifted_op c.it;
@@ -184,7 +184,7 @@ module _ {N : Names} (leads : TypeHandle → Option KitType) (numbered : List �
     }
 
     counts_down : (a : N.operation) (v : N.value) (p : Occurrence N kit_contents) → Inside (Whole a) →
-        Counts t a v (lifted_op p) → Counts u a v p
+        CountsForOperation t a v (lifted_op p) → CountsForOperation u a v p
     counts_down a v p i c =
         let same : lifted_op i.0 ≡ c.it =
         same_up {N = N} leads numbered type_at t sound o function i.0 c.it i.1 c.stands (c.name ∙ sym i.2) in
@@ -199,17 +199,17 @@ module _ {N : Names} (leads : TypeHandle → Option KitType) (numbered : List �
               (λ h. absurd (subst (λ z. Has v (defined_in z)) none h.0)) c.value;
         }
 
-    use_up : (x : Item N) (v : N.value) (p : Occurrence N kit_contents) → IsUse u x v p → IsUse t x v (lifted_op p)
+    use_up : (x : Item N) (v : N.value) (p : Occurrence N kit_contents) → IsUseOfItem u x v p → IsUseOfItem t x v (lifted_op p)
     use_up (Whole a) v p c = counts_up a v p c
     use_up (Slot y) v p c = c
 
-    use_down : (x : Item N) (v : N.value) (p : Occurrence N kit_contents) → Inside x → IsUse t x v (lifted_op p) →
-        IsUse u x v p
+    use_down : (x : Item N) (v : N.value) (p : Occurrence N kit_contents) → Inside x → IsUseOfItem t x v (lifted_op p) →
+        IsUseOfItem u x v p
     use_down (Whole a) v p i c = counts_down a v p i c
     use_down (Slot y) v p i c = c
 
     -- the value of an item's use is one of the function
-    used_inside : (x : Item N) (v : N.value) (q : Occurrence N kit_contents) → Inside x → IsUse t x v q →
+    used_inside : (x : Item N) (v : N.value) (q : Occurrence N kit_contents) → Inside x → IsUseOfItem t x v q →
         Has v (defined_in o.regions)
     used_inside (Slot y) v q i c = subst (λ z. Has z (defined_in o.regions)) c i
     used_inside (Whole a) v q i c =
@@ -289,7 +289,7 @@ module _ {N : Names} (leads : TypeHandle → Option KitType) (numbered : List �
           q i c) in
           subst (λ z. IsExcused kit w t z j) p.2
           (excused_up p.0 j
-          (uses v p.0 j (use_down x v p.0 i (subst (IsUse t x v) (sym p.2) c))
+          (uses v p.0 j (use_down x v p.0 i (subst (IsUseOfItem t x v) (sym p.2) c))
           (record {
             stands = p.1;
             operand = ap (λ (z : Occurrence N kit_contents). slice_get z.head.operands j) p.2 ∙ e.operand;

@@ -13,13 +13,13 @@ use Rattle.kit_behaviour.specs.Facts.{all_forwarded}
 use Rattle.kit_behaviour.specs.Machine.{AllEdges, Edge, Plain, Nonzero, Cases, Op, Const, Calc, Emit, Call, Branch}
 use Rattle.kit_behaviour.specs.Machine.{Return}
 use Rattle.kit_behaviour.specs.Machine.{Block, Fun, ops_left, arguments_of, arguments_in}
-use Rattle.kit_behaviour.specs.Numbering.{HasPlace, AnyBlock, IsDefined}
+use Rattle.kit_behaviour.specs.Numbering.{HasPlace, AnyBlock, NamesAreDefined}
 use Rattle.kit_behaviour.specs.Renaming.{AllNamed, EdgeNamed, OpNamed, OpsNamed}
 use Rattle.kit_behaviour.specs.Scopes.{In, defs, all_defs}
 use Rattle.kit_behaviour.proofs.Behaviour.FrameLemmas.{IsSameness}
 use Rattle.kit_behaviour.proofs.Numbering.DefinedNames.{has_place}
 use Rattle.kit_behaviour.proofs.Propagation.ScopeLemmas.{in_append}
-use Rattle.kit_views.specs.FlatView.{IsOp, IsFlat, names_in}
+use Rattle.kit_views.specs.FlatView.{IsOp, FlattensTo, names_in}
 use Rattle.kit_views.specs.Reading.{Reading}
 use Rattle.kit_views.proofs.Pairs.{pairs, backs, block_pairs}
 
@@ -91,7 +91,7 @@ module _ {N : Names} {S : Contents} (r : Reading S) (names : List N.block) where
   op_named P h (Return xs) is a b = all_named P xs (λ x i. b x (subst (Has x) (sym is.operands) i))
 
 module _ {N : Names} {S : Contents} (r : Reading S) (same : N.value → N.value → Bool) (law : IsSameness same)
-    (u : Root N S) (f : Fun N.value) (flat : IsFlat r u f)
+    (u : Root N S) (f : Fun N.value) (flat : FlattensTo r u f)
     (operands : (p : Occurrence N S) (x : N.value) → Has p (occurrences_of u) → Has x p.head.operands →
     Has x (defined_in u.regions)) where
   abbrev bs : Tree N S Blocks
@@ -137,7 +137,7 @@ module _ {N : Names} {S : Contents} (r : Reading S) (same : N.value → N.value 
   each_in b [] h = tt
   each_in b (x ∷ xs) h = (h x (inl refl), each_in b xs (λ y i. h y (inr i)))
 
-  pub flat_defined : IsDefined same (Some f)
+  pub flat_defined : NamesAreDefined same (Some f)
   flat_defined = record {
     ops = λ b. block_named b (slice_get f b) refl;
     arguments = λ b. each_in b (arguments_in (Some f) b) (λ x i. has_place same law (Some f) b x (inl i));

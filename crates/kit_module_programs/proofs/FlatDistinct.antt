@@ -12,7 +12,7 @@ use Rattle.kit_behaviour.specs.Places.{Place, Arg, Res}
 use Rattle.kit_behaviour.specs.Scopes.{defs, all_defs}
 use Rattle.kit_behaviour.proofs.Numbering.NumberingBehaviour.{block_of, name_op, name_in}
 use Rattle.kit_behaviour.proofs.Numbering.NumberingRules as places
-use Rattle.kit_views.specs.FlatView.{AreOps, AreBlocks, IsFlat, names_in}
+use Rattle.kit_views.specs.FlatView.{AreOps, AreFlatBlocks, FlattensTo, names_in}
 use Rattle.kit_views.specs.Reading.{Reading}
 use Rattle.kit_views.proofs.Lists.{Distinct, to_distinct, from_distinct, distinct_left, distinct_right, distinct_apart}
 use Rattle.kit_views.proofs.Lists.{has_get}
@@ -149,14 +149,14 @@ module _ {N : Names} {S : Contents} (r : Reading S) (names : List N.block) where
       ap (λ l. names_of g.results ++ (l ++ defined_in more)) (ap defined_in h.0)
       ∙ (λ i. results_are r names g op h.1 i ++ ops_values more ops h.2 i)
 
-  blocks_values : (bs : Tree N S Blocks) (f : Fun N.value) → AreBlocks r names bs f → defined_in bs ≡ flat_values f
+  blocks_values : (bs : Tree N S Blocks) (f : Fun N.value) → AreFlatBlocks r names bs f → defined_in bs ≡ flat_values f
   blocks_values end [] h = refl
   blocks_values end (k ∷ ks) h = absurd h
   blocks_values (block l os more) [] h = absurd h
   blocks_values (block l os more) (k ∷ ks) h =
       λ i. h.0 i ++ (ops_values os k.ops h.1 i ++ blocks_values more ks h.2 i)
 
-pub flat_distinct : {N : Names} {S : Contents} (r : Reading S) (u : Root N S) (f : Fun N.value) → IsFlat r u f →
+pub flat_distinct : {N : Names} {S : Contents} (r : Reading S) (u : Root N S) (f : Fun N.value) → FlattensTo r u f →
     places.Distinct (Some f)
 flat_distinct r u f flat =
     let all = to_distinct (defined_in u.regions) flat.values in

@@ -13,7 +13,7 @@ use Rattle.opt_trees.proofs.Reached as reached
 use Rattle.kit_ops.specs.declared.types.KitType.{KitType}
 use Rattle.kit_behaviour.specs.Machine.{Edge, Fun}
 use Rattle.kit_behaviour.specs.SimplifiedBlocks.{edges_of}
-use Rattle.kit_views.specs.FlatView.{AreBlocks, IsFlat, names_in}
+use Rattle.kit_views.specs.FlatView.{AreFlatBlocks, FlattensTo, names_in}
 use Rattle.kit_views.specs.Reading.{Reading, kit_contents, kit_reading}
 use Rattle.kit_views.proofs.Lists.{has_get}
 use Rattle.kit_views.proofs.Pairs.{no_blocks, pairs}
@@ -28,7 +28,7 @@ use Rattle.kit_module_programs.proofs.SuccessorsInside.{named_block}
 module _ {N : Names} (r : Reading kit_contents) (u : Root N kit_contents) where
   -- blocks of the first region stand at the root
   blocks_at : (names : List N.block) (bs : Tree N kit_contents Blocks) (ks : Fun N.value) (c : Spot N kit_contents) →
-      AreBlocks r names bs ks → IsAtRoot u c → (x : BlockOccurrence N kit_contents) →
+      AreFlatBlocks r names bs ks → IsAtRoot u c → (x : BlockOccurrence N kit_contents) →
       Has x (block_occurrences_in bs c) → IsAtRoot u x.spot
   blocks_at names end ks c are at x h = absurd h
   blocks_at names (block l os more) [] c are at x h = absurd are
@@ -43,7 +43,7 @@ module _ {N : Names} (r : Reading kit_contents) (u : Root N kit_contents) where
       (block_occurrences_in more (next_block c)) m))
       h
 
-  pub flat_shallow : (f : Fun N.value) → IsFlat r u f → IsShallow u
+  pub flat_shallow : (f : Fun N.value) → FlattensTo r u f → IsShallow u
   flat_shallow f flat = record {
     blocks = λ x h. blocks_at (names_in flat.view.blocks) flat.view.blocks f (at_root u) flat.view.are
         (record { owner = refl; around = refl; within = refl; region = refl }) x

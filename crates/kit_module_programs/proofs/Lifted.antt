@@ -4,7 +4,7 @@ use Rattle.ir_trees.specs.Names.{Names, Contents}
 use Rattle.ir_trees.specs.Searched.{AreDistinct, labels_in, operation_names, block_names}
 use Rattle.ir_trees.specs.Trees.{Head, Label, Sort, Operations, Blocks, Regions, Tree, end, operation, block, region}
 use Rattle.ir_trees.specs.Trees.{Root}
-use Rattle.opt_trees.specs.Occurrences.{Has, Spot, Site, Occurrence, BlockOccurrence, Inside, inner, next_block}
+use Rattle.opt_trees.specs.Occurrences.{Has, Spot, OperationSite, Occurrence, BlockOccurrence, Inside, inner, next_block}
 use Rattle.opt_trees.specs.Occurrences.{next_region, occurrences_in, block_occurrences_in, occurrences_of, at_root}
 use Rattle.opt_trees.specs.Occurrences.{block_occurrences_of, defined_in}
 use Rattle.opt_trees.proofs.Homes.{spot_at}
@@ -26,7 +26,7 @@ module _ {N : Names} {S : Contents} (around : List N.operation) (within : List N
     first = c.first;
   }
 
-  abbrev pub lift_site : Site N S → Site N S
+  abbrev pub lift_site : OperationSite N S → OperationSite N S
   lift_site c = record { spot = lift_spot c.spot; label = c.label }
 
   abbrev pub lift : Occurrence N S → Occurrence N S
@@ -97,7 +97,7 @@ module _ {N : Names} {S : Contents} where
       (has-append o (occurrences_in rs (inner g c)) (occurrences_in rest c) z))
       h
   blocks_inside (block l ops rest) c o x h k =
-      let b : Site N S = record { spot = c; label = l } in
+      let b : OperationSite N S = record { spot = c; label = l } in
       ⊎_elim
       (λ y. inr (has-left x (block_occurrences_in ops b) (block_occurrences_in rest (next_block c))
       (blocks_inside ops b o x y k)))
@@ -165,7 +165,7 @@ module _ {N : Names} {S : Contents} where
       (has-append o (occurrences_in rs (inner g c)) (occurrences_in rest c) z))
       h
   holder (block l ops rest) c o a h k =
-      let b : Site N S = record { spot = c; label = l } in
+      let b : OperationSite N S = record { spot = c; label = l } in
       ⊎_elim
       (λ y. ⊎_elim
       (λ w. inl w)

@@ -4,7 +4,7 @@ use Rattle.ir_base.specs.declared.types.TypeHandle.{TypeHandle}
 use Rattle.ir_trees.specs.Names.{Names}
 use Rattle.ir_trees.specs.Trees.{Root}
 use Rattle.kit_ops.specs.declared.types.KitType.{KitType}
-use Rattle.kit_behaviour.specs.Machine.{Program}
+use Rattle.kit_behaviour.specs.Machine.{FunctionsByPath}
 use Rattle.kit_behaviour.specs.PassLists.{Pass, SccpPass, LeanSccpPass, DcePass, SimplifyPass, IsPass, IsAfter}
 use Rattle.kit_behaviour.specs.Places.{Place}
 use Rattle.kit_views.specs.Reading.{kit_contents}
@@ -17,17 +17,17 @@ use Rattle.kit_module_programs.proofs.SimplifyOnPrograms.{simplify_on_programs}
 use Rattle.kit_module_programs.proofs.ProgramsOfTrees.{one_program}
 
 module _ {N : Names} (told : AreTold N) (leads : TypeHandle → Option KitType) (numbered : List ℕ → ℕ) where
-  pass_on : (x : Pass) (t u : Root N kit_contents) (p : Program Place) → IsSoundTree {N = N} leads numbered t →
+  pass_on : (x : Pass) (t u : Root N kit_contents) (p : FunctionsByPath Place) → IsSoundTree {N = N} leads numbered t →
       IsTreePass x t u → IsProgramOf {N = N} told.value leads numbered t p →
-      (q : Program Place) × IsProgramOf {N = N} told.value leads numbered u q × IsPass x p q
+      (q : FunctionsByPath Place) × IsProgramOf {N = N} told.value leads numbered u q × IsPass x p q
   pass_on DcePass t u p sound pass is = dce_on_programs told leads numbered sound.0 t sound.1 u pass p is
   pass_on SccpPass t u p sound pass is = sccp_on_programs told leads numbered sound.0 t sound.1 u pass p is
   pass_on LeanSccpPass t u p sound pass is = absurd pass
   pass_on SimplifyPass t u p sound pass is = simplify_on_programs told leads numbered sound.0 t sound.1 u pass p is
 
-  pub list_on : (xs : List Pass) (t r : Root N kit_contents) (p : Program Place) →
+  pub list_on : (xs : List Pass) (t r : Root N kit_contents) (p : FunctionsByPath Place) →
       IsTreeAfter {N = N} leads numbered xs t r → IsProgramOf {N = N} told.value leads numbered t p →
-      (q : Program Place) × IsProgramOf {N = N} told.value leads numbered r q × IsAfter xs p q
+      (q : FunctionsByPath Place) × IsProgramOf {N = N} told.value leads numbered r q × IsAfter xs p q
   list_on [] t r p after is = (p, subst (λ z. IsProgramOf {N = N} told.value leads numbered z p) after is, refl)
   list_on (x ∷ xs) t r p (sound, (u, pass, after)) is =
       let n = pass_on x t u p sound pass is in
@@ -35,7 +35,7 @@ module _ {N : Names} (told : AreTold N) (leads : TypeHandle → Option KitType) 
       (q.0, q.1, (n.0, n.2, q.2))
 
   -- so the program of the result is what the list makes
-  pub is_after : (xs : List Pass) (t r : Root N kit_contents) (p q : Program Place) →
+  pub is_after : (xs : List Pass) (t r : Root N kit_contents) (p q : FunctionsByPath Place) →
       IsTreeAfter {N = N} leads numbered xs t r → IsProgramOf {N = N} told.value leads numbered t p →
       IsProgramOf {N = N} told.value leads numbered r q → IsAfter xs p q
   is_after xs t r p q after is end_is =

@@ -7,7 +7,7 @@ use Rattle.ir_names.specs.Dictionary.{attribute_at}
 use Rattle.ir_trees.specs.Names.{Names}
 use Rattle.ir_trees.specs.Trees.{Head, Operations, Regions, Tree, end, operation, block, region, Root}
 use Rattle.opt_trees.specs.Dce.{Gone, Whole, thin, thin_head}
-use Rattle.opt_trees.specs.Occurrences.{Has, Spot, Site, Occurrence, inner, next_block, next_region, occurrences_in}
+use Rattle.opt_trees.specs.Occurrences.{Has, Spot, OperationSite, Occurrence, inner, next_block, next_region, occurrences_in}
 use Rattle.opt_trees.proofs.Lists.{some_same}
 use Rattle.opt_trees.proofs.NoneDead.{has-left, has-right}
 use Rattle.kit_ops.specs.declared.kinds.KitOp.{KitOp}
@@ -122,7 +122,7 @@ module _ {N : Names} where
     pub is : tree_of it ≡ k
     pub tested : test it.head.content ≡ true
 
-  first_found : (test : KitOperation → Bool) (ops : Tree N kit_contents Operations) (c : Site N kit_contents)
+  first_found : (test : KitOperation → Bool) (ops : Tree N kit_contents Operations) (c : OperationSite N kit_contents)
       (k : Root N kit_contents) → first_with test ops ≡ Some k → Found (occurrences_in ops c) test k
   first_found test end c k e = absurd (cc e)
   first_found test (operation h rs rest) c k e = by_test (test h.content) refl e (first_found test rest c k)
@@ -221,7 +221,7 @@ module _ {N : Names} where
         gone.item (Whole o.head.name) ≡ false
 
     first_thinned : (test : KitOperation → Bool) → Tests test → (os : Tree N kit_contents Operations)
-        (c : Site N kit_contents) → HoldersStay (occurrences_in os c) →
+        (c : OperationSite N kit_contents) → HoldersStay (occurrences_in os c) →
         first_with test (thin kit gone os) ≡ option_map thin_root (first_with test os)
     first_thinned test law end c stay = refl
     first_thinned test law (operation h rs rest) c stay =

@@ -5,11 +5,11 @@ use Rattle.std.specs.Prelude.{◌↔◌, slice_get, option_map, if◌then◌else
 use Rattle.opt_trees.specs.Occurrences.{Has}
 use Rattle.opt_trees.proofs.Lists.{option_both, at-map, some_same}
 use Rattle.kit_behaviour.specs.ConstantPropagation.{number_of, number_at, known_at, all_wanted, made_of}
-use Rattle.kit_behaviour.specs.Facts.{Fact, Undetermined, Known, Unknown, Facts}
+use Rattle.kit_behaviour.specs.Facts.{Fact, Undetermined, Known, Unknown, FunctionFacts}
 use Rattle.kit_behaviour.specs.InsertedConstants.{Made}
 use Rattle.kit_behaviour.specs.Machine.{Op, Const, Calc, Emit, Call, Branch, Return, Block, Fun, ops_left, left_in}
-use Rattle.kit_behaviour.specs.NamedPasses.{Gets}
-use Rattle.kit_behaviour.specs.Numbering.{place_fun, HasPlace, IsDefined}
+use Rattle.kit_behaviour.specs.NamedPasses.{GetsConstant}
+use Rattle.kit_behaviour.specs.Numbering.{place_fun, HasPlace, NamesAreDefined}
 use Rattle.kit_behaviour.specs.Places.{Place, Arg, Res}
 use Rattle.kit_behaviour.specs.Renaming.{rename_op, same_block}
 use Rattle.kit_behaviour.specs.Scopes.{defs}
@@ -25,16 +25,16 @@ known_number (Known m) n e = ap Known (some_same m n e)
 known_number Undetermined n e = absurd (cc e)
 known_number Unknown n e = absurd (cc e)
 
-module _ {V : Type 0} (same : V → V → Bool) (law : IsSameness same) (f : Fun V) (defined : IsDefined same (Some f))
-    (distinct : Distinct (Some f)) (k : Facts V) (made : Made V)
-    (is_made : (v : V) (n : ℕ) → (made v ≡ Some n) ↔ Gets (Some f) k v n) where
+module _ {V : Type 0} (same : V → V → Bool) (law : IsSameness same) (f : Fun V) (defined : NamesAreDefined same (Some f))
+    (distinct : Distinct (Some f)) (k : FunctionFacts V) (made : Made V)
+    (is_made : (v : V) (n : ℕ) → (made v ≡ Some n) ↔ GetsConstant (Some f) k v n) where
   abbrev r : V → Place
   r = place_name same law (Some f)
 
   abbrev G : Option (Fun Place)
   G = place_fun same (Some f)
 
-  abbrev l : Facts Place
+  abbrev l : FunctionFacts Place
   l = placed_facts same law f defined k
 
   -- the operation of the function at a place, and by places

@@ -21,7 +21,7 @@ use Rattle.kit_behaviour.specs.Machine.{Block, Fun, ops_left, arguments_of}
 use Rattle.kit_behaviour.specs.Numbering.{place_fun, AnyBlock}
 use Rattle.kit_behaviour.specs.Renaming.{rename_fun, AllNamed, OpsNamed}
 use Rattle.kit_behaviour.proofs.ControlFlow.NamedPlacing.{placed_on}
-use Rattle.kit_views.specs.FlatView.{IsSameness, IsFlat, names_in}
+use Rattle.kit_views.specs.FlatView.{IsSameness, FlattensTo, names_in}
 use Rattle.kit_views.specs.Reading.{Reading, kit_contents}
 use Rattle.kit_views.proofs.Lists.{has_get, at_has}
 use Rattle.kit_views.proofs.Pairs.{backs, block_backs}
@@ -165,7 +165,7 @@ one_to_one_sub {N} {M} {S} m t one q i = record {
 module _ {N M : Names} {S : Contents} (r : Reading S) (same : N.value → N.value → Bool) (other : M.value → M.value →
     Bool)
     (law : IsSameness same) (other_law : IsSameness other) (m : Maps N M) (t : Root N S) (f : Fun N.value)
-    (one : IsOneToOne m t) (flat : IsFlat r t f) where
+    (one : IsOneToOne m t) (flat : FlattensTo r t f) where
   abbrev P : N.value → Type 0
   P v = Lists (values_of t) v
 

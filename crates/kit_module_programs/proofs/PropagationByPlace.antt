@@ -6,11 +6,11 @@ use Rattle.std.specs.Prelude.{map, slice_get, if◌then◌else◌, unwrap_or}
 use Rattle.kit_behaviour.specs.Machine.{AllEdges, Edge, Op, Const, Calc, Emit, Call, Branch, Return, Block, Fun}
 use Rattle.kit_behaviour.specs.Machine.{left_in}
 use Rattle.kit_behaviour.specs.Machine.{arguments_in}
-use Rattle.kit_behaviour.specs.Facts.{Fact, Undetermined, Facts, AtOrBelow, MorePrecise}
-use Rattle.kit_behaviour.specs.Facts.{IsMostPrecise}
-use Rattle.kit_behaviour.specs.InsertedConstants.{Name, Old, New, same_name, Made, put_if, put_args, old, put_before}
+use Rattle.kit_behaviour.specs.Facts.{Fact, Undetermined, FunctionFacts, FactAtOrBelow, FactsMorePrecise}
+use Rattle.kit_behaviour.specs.Facts.{AreMostPreciseFacts}
+use Rattle.kit_behaviour.specs.InsertedConstants.{OldOrNewName, Old, New, same_name, Made, put_if, put_args, old, put_before}
 use Rattle.kit_behaviour.specs.InsertedConstants.{put_ops, put_block, put_in, constant_of, use_of}
-use Rattle.kit_behaviour.specs.Numbering.{place_block, place_fun, HasPlace, AnyBlock, IsDefined}
+use Rattle.kit_behaviour.specs.Numbering.{place_block, place_fun, HasPlace, AnyBlock, NamesAreDefined}
 use Rattle.kit_behaviour.specs.Places.{Place, Arg, same_place}
 use Rattle.kit_behaviour.specs.Renaming.{rename_edge, rename_op, rename_block, same_block, AllNamed, EdgeNamed}
 use Rattle.kit_behaviour.specs.Renaming.{OpNamed, OpsNamed}
@@ -25,7 +25,7 @@ use Rattle.kit_behaviour.proofs.Numbering.PlaceEquality.{place_law}
 use Rattle.kit_behaviour.proofs.ControlFlow.NamedCommuting.{blocks_replaced}
 use Rattle.kit_behaviour.proofs.ControlFlow.NamedPlacing.{AreNamed, replaced_named, placed_on}
 
-module _ {V : Type 0} (same : V → V → Bool) (law : IsSameness same) (f : Fun V) (defined : IsDefined same (Some f))
+module _ {V : Type 0} (same : V → V → Bool) (law : IsSameness same) (f : Fun V) (defined : NamesAreDefined same (Some f))
   where
     abbrev r : V → Place
     r = place_name same law (Some f)
@@ -37,12 +37,12 @@ module _ {V : Type 0} (same : V → V → Bool) (law : IsSameness same) (f : Fun
     G = place_fun same (Some f)
 
     -- facts of names, said of the first place of each
-    module _ (k : Facts V) where
+    module _ (k : FunctionFacts V) where
       abbrev said_of : Place → Option V → Fact
       said_of a None = Undetermined
       said_of a (Some v) = if same_place (r v) a then k.of v else Undetermined
 
-      abbrev pub placed_facts : Facts Place
+      abbrev pub placed_facts : FunctionFacts Place
       placed_facts = record { runs = k.runs; of = λ a. said_of a (name_at (Some f) a) }
 
       pub placed_of : (v : V) → N v → placed_facts.of (r v) ≡ k.of v
@@ -51,7 +51,7 @@ module _ {V : Type 0} (same : V → V → Bool) (law : IsSameness same) (f : Fun
           ap (said_of (r v)) (ap (name_at (Some f)) here ∙ at_place same law f v n.0 n.1)
           ∙ ap (λ b. if b then k.of v else Undetermined) (place_law.same_true (r v))
 
-      pub placed_best : IsMostPrecise (Some f) k → IsMostPrecise G placed_facts
+      pub placed_best : AreMostPreciseFacts (Some f) k → AreMostPreciseFacts G placed_facts
       placed_best best = record {
         closed = closed_there r N (Some f) G (place_takes same law (Some f)) (place_left same law (Some f))
             defined.arguments
@@ -61,43 +61,43 @@ module _ {V : Type 0} (same : V → V → Bool) (law : IsSameness same) (f : Fun
             record { fewer = m.fewer; above = λ a. above l m a (name_at (Some f) a) refl };
       }
         where
-          below_here : (l : Facts Place) → MorePrecise k (by_name same law (Some f) l) → (a : Place) (v : V) →
+          below_here : (l : FunctionFacts Place) → FactsMorePrecise k (by_name same law (Some f) l) → (a : Place) (v : V) →
               name_at (Some f) a ≡ Some v → (b : Bool) → same_place (r v) a ≡ b →
-              AtOrBelow (l.of a) (if b then k.of v else Undetermined)
+              FactAtOrBelow (l.of a) (if b then k.of v else Undetermined)
           below_here l m a v e false q = at_top (l.of a)
           below_here l m a v e true q =
               let at : r v ≡ a = place_law.true_same (r v) a q in
               let n : N v = named_has a v e in
-              subst (λ z. AtOrBelow z (k.of v)) (sym (by_name_of same law (Some f) l v n) ∙ ap l.of at) (m.above v)
+              subst (λ z. FactAtOrBelow z (k.of v)) (sym (by_name_of same law (Some f) l v n) ∙ ap l.of at) (m.above v)
             where
               named_has : (a : Place) (v : V) → name_at (Some f) a ≡ Some v → N v
               named_has a v e =
                   has_place same law (Some f) (block_of a) v
                   (block_at v (slice_get f (block_of a)) a e)
 
-          above : (l : Facts Place) → MorePrecise k (by_name same law (Some f) l) → (a : Place) (o : Option V) →
-              name_at (Some f) a ≡ o → AtOrBelow (l.of a) (said_of a (name_at (Some f) a))
-          above l m a None e = subst (λ z. AtOrBelow (l.of a) (said_of a z)) (sym e) (at_top (l.of a))
+          above : (l : FunctionFacts Place) → FactsMorePrecise k (by_name same law (Some f) l) → (a : Place) (o : Option V) →
+              name_at (Some f) a ≡ o → FactAtOrBelow (l.of a) (said_of a (name_at (Some f) a))
+          above l m a None e = subst (λ z. FactAtOrBelow (l.of a) (said_of a z)) (sym e) (at_top (l.of a))
           above l m a (Some v) e =
-              subst (λ z. AtOrBelow (l.of a) (said_of a z)) (sym e) (below_here l m a v e (same_place (r v) a) refl)
+              subst (λ z. FactAtOrBelow (l.of a) (said_of a z)) (sym e) (below_here l m a v e (same_place (r v) a) refl)
 
     -- constants of names, and of places, that agree
     module _ (m : Made V) (n : Made Place) (agree : (v : V) → N v → n (r v) ≡ m v) where
-      abbrev R : Name V → Name Place
+      abbrev R : OldOrNewName V → OldOrNewName Place
       R (Old v) = Old (r v)
       R (New v) = New (r v)
 
-      abbrev M : Name V → Type 0
+      abbrev M : OldOrNewName V → Type 0
       M (Old v) = N v
       M (New v) = N v
 
-      apart_names : (x y : Name V) → M x → M y → same_name same_place (R x) (R y) ≡ same_name same x y
+      apart_names : (x y : OldOrNewName V) → M x → M y → same_name same_place (R x) (R y) ≡ same_name same x y
       apart_names (Old a) (Old b) x y = apart same law (Some f) a b x y
       apart_names (New a) (New b) x y = apart same law (Some f) a b x y
       apart_names (Old a) (New b) x y = refl
       apart_names (New a) (Old b) x y = refl
 
-      uses_agree : (x : Name V) → M x → use_of n (R x) ≡ R (use_of m x)
+      uses_agree : (x : OldOrNewName V) → M x → use_of n (R x) ≡ R (use_of m x)
       uses_agree (New v) h = refl
       uses_agree (Old v) h = ap (λ o. constant_of o (r v)) (agree v h) ∙ by_made (m v)
         where
@@ -105,7 +105,7 @@ module _ {V : Type 0} (same : V → V → Bool) (law : IsSameness same) (f : Fun
           by_made None = refl
           by_made (Some c) = refl
 
-      uses_named : (x : Name V) → M x → M (use_of m x)
+      uses_named : (x : OldOrNewName V) → M x → M (use_of m x)
       uses_named (New v) h = h
       uses_named (Old v) h = by_made (m v)
         where
@@ -113,10 +113,10 @@ module _ {V : Type 0} (same : V → V → Bool) (law : IsSameness same) (f : Fun
           by_made None = h
           by_made (Some c) = h
 
-      abbrev rename_all : List (Op (Name V)) → List (Op (Name Place))
+      abbrev rename_all : List (Op (OldOrNewName V)) → List (Op (OldOrNewName Place))
       rename_all = map (rename_op R same_block)
 
-      if_placed : (v : V) → N v → (x : List (Op (Name V))) (y : List (Op (Name Place))) → rename_all x ≡ y →
+      if_placed : (v : V) → N v → (x : List (Op (OldOrNewName V))) (y : List (Op (OldOrNewName Place))) → rename_all x ≡ y →
           rename_all (put_if (m v) v x) ≡ put_if (n (r v)) (r v) y
       if_placed v h x y e = by_made (m v) ∙ ap (λ o. put_if o (r v) y) (sym (agree v h))
         where
@@ -124,7 +124,7 @@ module _ {V : Type 0} (same : V → V → Bool) (law : IsSameness same) (f : Fun
           by_made None = e
           by_made (Some c) = ap (λ z. Const (New (r v)) c ∷ z) e
 
-      args_placed : (vs : List V) → AllNamed N vs → (x : List (Op (Name V))) (y : List (Op (Name Place))) →
+      args_placed : (vs : List V) → AllNamed N vs → (x : List (Op (OldOrNewName V))) (y : List (Op (OldOrNewName Place))) →
           rename_all x ≡ y → rename_all (put_args m vs x) ≡ put_args n (map r vs) y
       args_placed [] h x y e = e
       args_placed (v ∷ vs) h x y e =
@@ -153,7 +153,7 @@ module _ {V : Type 0} (same : V → V → Bool) (law : IsSameness same) (f : Fun
       op_old (Branch s xs e es) = λ i. Branch s (list_old xs i) (edge_old e i) (edges_old es i)
       op_old (Return xs) = ap Return (list_old xs)
 
-      before_placed : (op : Op V) → OpNamed N AnyBlock op → (x : List (Op (Name V))) (y : List (Op (Name Place))) →
+      before_placed : (op : Op V) → OpNamed N AnyBlock op → (x : List (Op (OldOrNewName V))) (y : List (Op (OldOrNewName Place))) →
           rename_all x ≡ y → rename_all (put_before m op x) ≡ put_before n (rename_op r same_block op) y
       before_placed (Calc a w v x y) h p q e = if_placed v h.0 p q e
       before_placed (Const v c) h p q e = e
@@ -182,7 +182,7 @@ module _ {V : Type 0} (same : V → V → Bool) (law : IsSameness same) (f : Fun
           } ∷ blocks_placed ks (λ b. o (suc b)) (λ b. a (suc b)) i
 
       -- names of what constants were put into
-      if_named : (v : V) → N v → (x : List (Op (Name V))) → OpsNamed M AnyBlock x →
+      if_named : (v : V) → N v → (x : List (Op (OldOrNewName V))) → OpsNamed M AnyBlock x →
           OpsNamed M AnyBlock (put_if (m v) v x)
       if_named v h x o = by_made (m v)
         where
@@ -190,7 +190,7 @@ module _ {V : Type 0} (same : V → V → Bool) (law : IsSameness same) (f : Fun
           by_made None = o
           by_made (Some c) = (h, o)
 
-      args_named : (vs : List V) → AllNamed N vs → (x : List (Op (Name V))) → OpsNamed M AnyBlock x →
+      args_named : (vs : List V) → AllNamed N vs → (x : List (Op (OldOrNewName V))) → OpsNamed M AnyBlock x →
           OpsNamed M AnyBlock (put_args m vs x)
       args_named [] h x o = o
       args_named (v ∷ vs) h x o = args_named vs h.1 (put_if (m v) v x) (if_named v h.0 x o)
@@ -213,7 +213,7 @@ module _ {V : Type 0} (same : V → V → Bool) (law : IsSameness same) (f : Fun
       op_named (Branch s xs e es) h = (list_named xs h.0, edges_named (e ∷ es) h.1)
       op_named (Return xs) h = list_named xs h
 
-      before_named : (op : Op V) → OpNamed N AnyBlock op → (x : List (Op (Name V))) → OpsNamed M AnyBlock x →
+      before_named : (op : Op V) → OpNamed N AnyBlock op → (x : List (Op (OldOrNewName V))) → OpsNamed M AnyBlock x →
           OpsNamed M AnyBlock (put_before m op x)
       before_named (Calc a w v x y) h p o = if_named v h.0 p o
       before_named (Const v c) h p o = o
@@ -249,7 +249,7 @@ module _ {V : Type 0} (same : V → V → Bool) (law : IsSameness same) (f : Fun
       pub constants_placed : place_fun (same_name same) (replace (use_of m) (put_in m (Some f))) ≡ place_fun
           (same_name same_place) (replace (use_of n) (put_in n G))
       constants_placed =
-          let h : Option (Fun (Name V)) = put_in m (Some f) in
+          let h : Option (Fun (OldOrNewName V)) = put_in m (Some f) in
           sym (placed_on (same_name same) (same_name same_place) R M apart_names (replace (use_of m) h)
           (replaced_named M (use_of m) uses_named h put_named))
           ∙ ap (place_fun (same_name same_place))

@@ -7,7 +7,7 @@ use Rattle.ir_trees.specs.Names.{Names}
 use Rattle.ir_trees.specs.Renames.{Maps, rename_head, rename, rename_root}
 use Rattle.ir_trees.specs.Trees.{Defined, Operations, Regions, Tree, end, operation, block, region, Root}
 use Rattle.opt_trees.specs.Facts.{Facts, EntriesRun, IsClosed}
-use Rattle.opt_trees.specs.Occurrences.{Has, Spot, Site, Occurrence, inner, next_block, next_region, occurrences_in}
+use Rattle.opt_trees.specs.Occurrences.{Has, Spot, OperationSite, Occurrence, inner, next_block, next_region, occurrences_in}
 use Rattle.opt_trees.specs.Occurrences.{occurrences_of, at_root}
 use Rattle.opt_trees.specs.Sccp.{fresh, put_one, put_results, put_arguments, old_head, put, put_root}
 use Rattle.opt_trees.proofs.Lists.{some_same}
@@ -154,7 +154,7 @@ module _ {N : Names} (t : Root N kit_contents) (k : Facts N IntegerAttr) (closed
     pub tested : test it.head.content ≡ true
     pub runs : k.runs it.site.label.name ≡ true
 
-  first_running : (test : KitOperation → Bool) (os : Tree N kit_contents Operations) (c : Site N kit_contents)
+  first_running : (test : KitOperation → Bool) (os : Tree N kit_contents Operations) (c : OperationSite N kit_contents)
       (v : Root N kit_contents) →
       ((q : Occurrence N kit_contents) → Has q (occurrences_in os c) → Has q (occurrences_of t)) →
       k.runs c.label.name ≡ true → first_with test os ≡ Some v → Running test v

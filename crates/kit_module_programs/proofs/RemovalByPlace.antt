@@ -10,8 +10,8 @@ use Rattle.kit_behaviour.specs.Renaming.{EdgeNamed, OpNamed, OpsNamed}
 use Rattle.kit_behaviour.specs.Scopes.{In, all_defs, is_in}
 use Rattle.kit_behaviour.specs.RemovedValues.{may_trap, thin}
 use Rattle.kit_behaviour.specs.DeadValues.{forwards_dead, edges_dead, use_dead, ops_use_dead, blocks_use_dead}
-use Rattle.kit_behaviour.specs.DeadValues.{all_uses_dead, pure_results, candidates, may_die, HoldsDead, IsDead}
-use Rattle.kit_behaviour.specs.Numbering.{place_block, place_fun, HasPlace, AnyBlock, IsDefined}
+use Rattle.kit_behaviour.specs.DeadValues.{all_uses_dead, pure_results, candidates, may_die, HoldsDead, IsDeadSet}
+use Rattle.kit_behaviour.specs.Numbering.{place_block, place_fun, HasPlace, AnyBlock, NamesAreDefined}
 use Rattle.kit_behaviour.specs.Places.{Place, Arg, same_place}
 use Rattle.kit_behaviour.proofs.Behaviour.FrameLemmas.{IsSameness}
 use Rattle.kit_behaviour.proofs.Behaviour.EdgeLemmas.{map_append}
@@ -74,7 +74,7 @@ module _ {V : Type 0} (same : V → V → Bool) (law : IsSameness same) where
       (in_split w (pure_results k.ops) (candidates ks) r))
       (in_split w k.arguments (pure_results k.ops ++ candidates ks) i)
 
-  module _ (g : Fun V) (defined : IsDefined same (Some g)) where
+  module _ (g : Fun V) (defined : NamesAreDefined same (Some g)) where
     abbrev r : V → Place
     r = place_name same law (Some g)
 
@@ -195,7 +195,7 @@ module _ {V : Type 0} (same : V → V → Bool) (law : IsSameness same) where
         each_has [] h = tt
         each_has (x ∷ xs) h = (h x (inl refl), each_has xs (λ y i. h y (inr i)))
 
-    module _ (d : V → Bool) (is_dead : IsDead same (Some g) d) where
+    module _ (d : V → Bool) (is_dead : IsDeadSet same (Some g) d) where
       -- the name at a place is in the set
       abbrev dead_named : Place → Option V → Bool
       dead_named a None = false
@@ -241,7 +241,7 @@ module _ {V : Type 0} (same : V → V → Bool) (law : IsSameness same) where
               ap e (sym (place_law.true_same (r v) a (and_first (same_place (r v) a) (d v) q)))
               ∙ is_dead.least (λ x. e (r x)) (names_hold e holds) v (and_second (same_place (r v) a) (d v) q)
 
-      pub dead_placed : IsDead same_place G placed_dead
+      pub dead_placed : IsDeadSet same_place G placed_dead
       dead_placed = record { holds = holds_placed; least = least_placed }
 
       all_named : AreNamed N (Some g)

@@ -9,8 +9,8 @@ use Rattle.ir_trees.specs.Renames.{names_of}
 use Rattle.ir_trees.specs.Searched.{heads_in}
 use Rattle.ir_trees.specs.Trees.{Defined, Head, Label, Sort, Tree, end, operation, block, region, Root}
 use Rattle.opt_trees.specs.Dialect.{drop}
-use Rattle.opt_trees.specs.Dce.{Around, Item, Whole, Slot, May, ForwardsTo, IsDead, dies, IsLost, Gone}
-use Rattle.opt_trees.specs.Dce.{gone_at, thin_label, thin, IsGone, IsDce}
+use Rattle.opt_trees.specs.Dce.{TreeSurroundings, Item, Whole, Slot, May, ForwardsTo, IsDead, dies, IsLost, Gone}
+use Rattle.opt_trees.specs.Dce.{gone_at, thin_label, thin, IsGoneExactly, IsDce}
 use Rattle.opt_trees.specs.Occurrences.{Has, Occurrence, occurrences_of}
 use Rattle.opt_trees.specs.Occurrences.{at_root, defined_in}
 use Rattle.opt_trees.proofs.Defined.{result_defined, argument_defined, definer}
@@ -144,7 +144,7 @@ module _ {N : Names} (g k : Gone N) where
 
 module _ {N : Names} (told : AreTold N) (leads : TypeHandle → Option KitType) (numbered : List ℕ → ℕ)
     (type_at : N.value → TypeHandle) (t : Root N kit_contents) (sound : IsSound {N = N} leads numbered type_at t)
-    (w : Around N IntegerAttr) (gone : Gone N) (is_gone : IsGone kit w t gone) (o : Occurrence N kit_contents)
+    (w : TreeSurroundings N IntegerAttr) (gone : Gone N) (is_gone : IsGoneExactly kit w t gone) (o : Occurrence N kit_contents)
     (function : Function {N = N} leads numbered type_at t sound o) where
   abbrev u : Root N kit_contents
   u = tree_of o
@@ -217,7 +217,7 @@ module _ {N : Names} (told : AreTold N) (leads : TypeHandle → Option KitType) 
         (forwarded_inside {N = N} leads numbered type_at t sound w o function l.user i l.argument l.forwards);
   }
 
-  pub is_gone_in : IsGone kit w u gone_in
+  pub is_gone_in : IsGoneExactly kit w u gone_in
   is_gone_in = record {
     dead = λ x e. dead_down {N = N} leads numbered type_at t sound w o function x
         (is_gone.dead x (left_true (gone.item x) (here x) e)) (here_is_inside x (right_true (gone.item x) (here x) e));

@@ -24,7 +24,7 @@ use Rattle.kit_checks.specs.declared.rule.Rule.TheVariants as rule
 use Rattle.kit_checks.specs.Sites.{Listed, operation_list, block_list, region_list}
 use Rattle.kit_checks.specs.Words as words
 use Rattle.kit_checks.specs.Words.{bodies_of, first_body, joined, results_of, values_if, visible}
-use Rattle.kit_views.specs.FlatView.{kind_of, IsOp, AreOps, AreBlocks, IsFlat, names_in}
+use Rattle.kit_views.specs.FlatView.{kind_of, IsOp, AreOps, AreFlatBlocks, FlattensTo, names_in}
 use Rattle.kit_views.specs.Laws.{EndWell}
 use Rattle.kit_views.specs.Reading.{Reading, kit_contents, kit_reading}
 use Rattle.kit_ruled_views.specs.Ruled.{KitTree, IsRuledFunction}
@@ -136,7 +136,7 @@ module _ (leads : TypeHandle → Option KitType) (numbered : List ℕ → ℕ) (
       λ i. results_are r names h p are.1 i ++ all_results more ps are.2 i
 
   -- the block of the tree at the same index
-  body_at : (bs : KitBlocks) (ks : Fun Value) → AreBlocks r names bs ks → (j : ℕ) (k : Block Value) →
+  body_at : (bs : KitBlocks) (ks : Fun Value) → AreFlatBlocks r names bs ks → (j : ℕ) (k : Block Value) →
       slice_get ks j ≡ Some k → (body : KitBody) × (slice_get (block_list bs) j ≡ Some body)
       × (names_of body.label.arguments ≡ k.arguments) × AreOps r names body.operations k.ops
   body_at end [] are j k e = absurd (cc e)
@@ -152,7 +152,7 @@ module _ (leads : TypeHandle → Option KitType) (numbered : List ℕ → ℕ) (
   body_at (block l os more) (x ∷ ks) are (suc j) k e = body_at more ks are.2 j k e
 
 module _ (leads : TypeHandle → Option KitType) (typed : Value → Option TypeHandle) (numbered : List ℕ → ℕ) (u : KitTree)
-    (ruled : IsRuledFunction leads typed u) (f : Fun Value) (flat : IsFlat (kit_reading leads numbered) u f) where
+    (ruled : IsRuledFunction leads typed u) (f : Fun Value) (flat : FlattensTo (kit_reading leads numbered) u f) where
   abbrev bs : KitBlocks
   bs = flat.view.blocks
 
@@ -270,7 +270,7 @@ module _ (leads : TypeHandle → Option KitType) (typed : Value → Option TypeH
   entry_in : (x : Value) → Has x (values_if (first_body bs)) → In x (entry_values (Some f))
   entry_in x h = by_block (slice_get f 0) refl
     where
-      no_body : (ks : Fun Value) (cs : KitBlocks) → AreBlocks (kit_reading leads numbered) names cs ks →
+      no_body : (ks : Fun Value) (cs : KitBlocks) → AreFlatBlocks (kit_reading leads numbered) names cs ks →
           slice_get ks 0 ≡ None → first_body cs ≡ None
       no_body [] end are e = refl
       no_body [] (block l os more) are e = absurd are

@@ -12,7 +12,7 @@ use Rattle.opt_solvers.specs.Known.{AtOrBelow, MorePrecise}
 use Rattle.opt_trees.specs.Facts.{Facts, EntriesRun, OperationClosed, IsClosed, IsMostPrecise}
 use Rattle.opt_trees.specs.Occurrences.{Has, Occurrence, BlockOccurrence, inner, occurrences_of, block_occurrences_of}
 use Rattle.opt_trees.specs.Occurrences.{at_root, defined_in}
-use Rattle.opt_trees.specs.Sccp.{Old, fresh, IsResult, IsArgument, Gets, IsMade, used_as, put_one, put_results}
+use Rattle.opt_trees.specs.Sccp.{Old, fresh, IsResult, IsArgument, Gets, AreMadeConstants, used_as, put_one, put_results}
 use Rattle.opt_trees.specs.Sccp.{put_arguments, old_head, old_label, put, put_root, IsSccp}
 use Rattle.opt_trees.proofs.Defined.{result_defined, argument_defined, definer}
 use Rattle.opt_trees.proofs.Lists.{none_some, map-map, has-map, has-from_map}
@@ -238,7 +238,7 @@ module _ {N : Names} (told : AreTold N) (leads : TypeHandle → Option KitType) 
           (sym (c.outside v (λ i. true_false (is_in told.value v (defined_in o.regions))
           (has_is told.value told.values v (defined_in o.regions) i) e))) tt
 
-  module _ (k : Facts N IntegerAttr) (made : N.value → Option IntegerAttr) (is_made : IsMade kit t k made) where
+  module _ (k : Facts N IntegerAttr) (made : N.value → Option IntegerAttr) (is_made : AreMadeConstants kit t k made) where
     abbrev made_in : N.value → Option IntegerAttr
     made_in v = if is_in told.value v (defined_in o.regions) then made v else None
 

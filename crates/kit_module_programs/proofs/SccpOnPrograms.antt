@@ -13,10 +13,10 @@ use Rattle.opt_trees.specs.Sccp.{fresh, put_root}
 use Rattle.kit_ops.specs.declared.attributes.IntegerAttr.{IntegerAttr}
 use Rattle.kit_ops.specs.declared.types.KitType.{KitType}
 use Rattle.kit.specs.Meaning.{kit}
-use Rattle.kit_behaviour.specs.ConstantPropagation.{all_wanted, made_of, sccp, IsSccp}
+use Rattle.kit_behaviour.specs.ConstantPropagation.{all_wanted, made_of, sccp, IsSccpOfFunctions}
 use Rattle.kit_behaviour.specs.Facts as flat
-use Rattle.kit_behaviour.specs.InsertedConstants.{Name, Old, New, same_name, put_in, use_of}
-use Rattle.kit_behaviour.specs.Machine.{Fun, Program}
+use Rattle.kit_behaviour.specs.InsertedConstants.{OldOrNewName, Old, New, same_name, put_in, use_of}
+use Rattle.kit_behaviour.specs.Machine.{Fun, FunctionsByPath}
 use Rattle.kit_behaviour.specs.Numbering.{place_fun}
 use Rattle.kit_behaviour.specs.Places.{Place, same_place}
 use Rattle.kit_behaviour.specs.Renaming.{rename_block, rename_fun}
@@ -24,14 +24,14 @@ use Rattle.kit_behaviour.specs.Replacement.{replace}
 use Rattle.kit_behaviour.proofs.Behaviour.FrameLemmas as old
 use Rattle.kit_behaviour.proofs.Lattice.RenamedFacts.{at_top}
 use Rattle.kit_behaviour.proofs.Numbering.NumberingForgetsNames.{placed_renamed}
-use Rattle.kit_views.specs.FlatConstants.{as_name, IsPropagated}
-use Rattle.kit_views.specs.FlatView.{IsFlat}
+use Rattle.kit_views.specs.FlatConstants.{as_name, IsPropagatedView}
+use Rattle.kit_views.specs.FlatView.{FlattensTo}
 use Rattle.kit_views.specs.Reading.{kit_contents, kit_reading}
 use Rattle.kit_views.proofs.FlatPropagation as views
 use Rattle.kit_ruled_views.proofs.RenamedViews.{flat_under}
 use Rattle.kit_module_programs.specs.Laws.{AreTold}
 use Rattle.kit_module_programs.specs.Paths.{locate}
-use Rattle.kit_module_programs.specs.Programs.{IsFunctionOf, IsProgramOf}
+use Rattle.kit_module_programs.specs.Programs.{HasFunctionView, IsProgramOf}
 use Rattle.kit_module_programs.specs.Sound.{tree_of, IsSound}
 use Rattle.kit_module_programs.specs.TreePasses.{IsSccpNamed}
 use Rattle.kit_module_programs.proofs.FlatDefined.{flat_defined}
@@ -43,7 +43,7 @@ use Rattle.kit_module_programs.proofs.PropagationByPlace.{placed_facts, placed_b
 use Rattle.kit_module_programs.proofs.PutLocated.{old_root, locate_put, locate_renamed, RunningFunction, running}
 use Rattle.kit_module_programs.proofs.SccpInside.{function_sccp}
 
-told_as_name : {V : Type 0} (same : V → V → Bool) (x y : Name V) →
+told_as_name : {V : Type 0} (same : V → V → Bool) (x y : OldOrNewName V) →
     told_fresh same (as_name x) (as_name y) ≡ same_name same x y
 told_as_name same (Old a) (Old b) = refl
 told_as_name same (New a) (New b) = refl
@@ -55,14 +55,14 @@ is_entry zero = true
 is_entry (suc b) = false
 
 -- a function that is not there has most precise facts
-abbrev none_facts : flat.Facts Place
+abbrev none_facts : flat.FunctionFacts Place
 none_facts = record { runs = λ b. is_entry b; of = λ v. flat.Undetermined }
 
-none_fewer : (l : flat.Facts Place) → flat.IsClosed None l → (b : ℕ) → is_entry b ≡ true → l.runs b ≡ true
+none_fewer : (l : flat.FunctionFacts Place) → flat.AreClosedFacts None l → (b : ℕ) → is_entry b ≡ true → l.runs b ≡ true
 none_fewer l c zero h = c.entry_runs
 none_fewer l c (suc b) h = absurd (cc h)
 
-none_best : flat.IsMostPrecise None none_facts
+none_best : flat.AreMostPreciseFacts None none_facts
 none_best = record {
   closed = record { entry_runs = refl; entry_unknown = tt; ops = λ b h. tt };
   best = λ l c. record { fewer = none_fewer l c; above = λ v. at_top (l.of v) };
@@ -98,19 +98,19 @@ module _ {N : Names} (told : AreTold N) (leads : TypeHandle → Option KitType) 
 
   -- the pass on one function: its facts by places, and the function after it
   record IsFunctionAfter (o : Option (Root N kit_contents)) (p : Option (Fun Place)) : Type 0 where
-    facts_placed : flat.Facts Place
-    best : flat.IsMostPrecise p facts_placed
-    left : IsFunctionOf {N = N} told.value leads numbered (option_map out o)
+    facts_placed : flat.FunctionFacts Place
+    best : flat.AreMostPreciseFacts p facts_placed
+    left : HasFunctionView {N = N} told.value leads numbered (option_map out o)
         (place_fun (same_name same_place) (replace (use_of (made_of all_wanted p facts_placed))
         (put_in (made_of all_wanted p facts_placed) p)))
 
   function_after : (o : Option (Root N kit_contents)) (p : Option (Fun Place)) →
       ((k : Root N kit_contents) → o ≡ Some k → RunningFunction {N = N} t facts pass.is.best.closed k) →
-      IsFunctionOf {N = N} told.value leads numbered o p → IsFunctionAfter o p
+      HasFunctionView {N = N} told.value leads numbered o p → IsFunctionAfter o p
   function_after None p at is =
       record {
         facts_placed = none_facts;
-        best = subst (λ z. flat.IsMostPrecise z none_facts) (sym is) none_best;
+        best = subst (λ z. flat.AreMostPreciseFacts z none_facts) (sym is) none_best;
         left = ap (λ z. place_fun (same_name same_place) (replace (use_of (made_of all_wanted z none_facts))
             (put_in (made_of all_wanted z none_facts) z))) is;
       }
@@ -119,11 +119,11 @@ module _ {N : Names} (told : AreTold N) (leads : TypeHandle → Option KitType) 
       let o : Occurrence N kit_contents = z.it in
       let fn = function_at {N = N} leads numbered type_at t sound o z.stands z.kind in
       let g : Fun N.value = is.0 in
-      let is_flat : IsFlat (kit_reading leads numbered) (tree_of o) g =
-      subst (λ y. IsFlat (kit_reading leads numbered) y g) (sym z.is) is.1 in
+      let is_flat : FlattensTo (kit_reading leads numbered) (tree_of o) g =
+      subst (λ y. FlattensTo (kit_reading leads numbered) y g) (sym z.is) is.1 in
       let own = function_sccp {N = N} told leads numbered type_at t sound o fn facts made pass.is.is_made pass.is.best
       z.runs in
-      let prop : IsPropagated {N = N} leads numbered g (put_root {N = N} kit made (tree_of o)) =
+      let prop : IsPropagatedView {N = N} leads numbered g (put_root {N = N} kit made (tree_of o)) =
       views.propagated leads numbered told.value told.values told.block told.blocks type_at (tree_of o)
       (put_root {N = N} kit made (tree_of o)) g is_flat fn.sound_function.is_typed own in
       let defined = flat_defined (kit_reading leads numbered) told.value value_law (tree_of o) g is_flat
@@ -141,11 +141,11 @@ module _ {N : Names} (told : AreTold N) (leads : TypeHandle → Option KitType) 
       let same_tree = told_fresh told.value in
       record {
         facts_placed = l;
-        best = subst (λ y. flat.IsMostPrecise y l) (sym is.2)
+        best = subst (λ y. flat.AreMostPreciseFacts y l) (sym is.2)
             (placed_best told.value value_law g defined by.facts by.best);
         left = (
           under.0,
-          subst (λ y. IsFlat (kit_reading leads numbered) y under.0)
+          subst (λ y. FlattensTo (kit_reading leads numbered) y under.0)
               (ap out z.is) under.2,
           ap (λ y. place_fun (same_name same_place) (replace (use_of (made_of all_wanted y l))
               (put_in (made_of all_wanted y l) y))) is.2
@@ -161,14 +161,14 @@ module _ {N : Names} (told : AreTold N) (leads : TypeHandle → Option KitType) 
         );
       }
 
-  pub sccp_on_programs : (p : Program Place) → IsProgramOf {N = N} told.value leads numbered t p →
-      (q : Program Place) × IsProgramOf {N = N} told.value leads numbered after q × IsSccp all_wanted p q
+  pub sccp_on_programs : (p : FunctionsByPath Place) → IsProgramOf {N = N} told.value leads numbered t p →
+      (q : FunctionsByPath Place) × IsProgramOf {N = N} told.value leads numbered after q × IsSccpOfFunctions all_wanted p q
   sccp_on_programs p is =
       let each = λ (path : List ℕ). function_after (locate numbered (reverse path) t) (p path)
       (λ k e. running {N = N} t facts pass.is.best.closed numbered (reverse path) t (at_root t) k (λ q i. i)
       pass.is.best.closed.entries e) (is path) in (
         sccp all_wanted (λ path. (each path).facts_placed) p,
-        λ path. subst (λ z. IsFunctionOf {N = N} told.value leads numbered z
+        λ path. subst (λ z. HasFunctionView {N = N} told.value leads numbered z
             (sccp all_wanted (λ path. (each path).facts_placed) p path)) (sym (where_after (reverse path))) (each
             path).left,
         record { facts = λ path. (each path).facts_placed; best = λ path. (each path).best; is = λ path. refl },

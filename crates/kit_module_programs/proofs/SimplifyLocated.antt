@@ -6,8 +6,8 @@ use Rattle.ir_base.specs.declared.types.TypeHandle.{TypeHandle}
 use Rattle.ir_trees.specs.Names.{Names}
 use Rattle.ir_trees.specs.Trees.{Head, Label, Sort, Operations, Blocks, Regions, Tree, end, operation, block, region}
 use Rattle.ir_trees.specs.Trees.{Root}
-use Rattle.opt_trees.specs.Dce.{Around}
-use Rattle.opt_trees.specs.Occurrences.{Has, Spot, Site, Occurrence, BlockOccurrence, inner, occurrences_of}
+use Rattle.opt_trees.specs.Dce.{TreeSurroundings}
+use Rattle.opt_trees.specs.Occurrences.{Has, Spot, OperationSite, Occurrence, BlockOccurrence, inner, occurrences_of}
 use Rattle.opt_trees.specs.Occurrences.{block_occurrences_of, at_root}
 use Rattle.opt_trees.specs.Simplify.{is_empty, is_end, is_bare, along_edge, decide_head, decide, decided, IsReached}
 use Rattle.opt_trees.specs.Simplify.{entry, IsEntered, all_of, IsVisited, of_place, of_inner, keep, IsLocal, Joinable}
@@ -88,7 +88,7 @@ module _ {N : Names} (alone : N.value → Option IntegerAttr) where
       by_test false e = by_bare (is_bare kit h rs && not (kit.is_plain h.content)) e ∙ sym e
 
 module _ {N : Names} (leads : TypeHandle → Option KitType) (numbered : List ℕ → ℕ) (type_at : N.value → TypeHandle)
-    (t : Root N kit_contents) (sound : IsSound {N = N} leads numbered type_at t) (w : Around N IntegerAttr)
+    (t : Root N kit_contents) (sound : IsSound {N = N} leads numbered type_at t) (w : TreeSurroundings N IntegerAttr)
     (gone : N.block → Bool) where
   abbrev Op : Type 0
   Op = Occurrence N kit_contents
@@ -180,7 +180,7 @@ module _ {N : Names} (leads : TypeHandle → Option KitType) (numbered : List �
     Follow test (Some v) out = Member test v out
 
     -- what stands at the site is visited
-    record IsEnteredSite (r : Root N kit_contents) (e : Site N kit_contents) : Type 0 where
+    record IsEnteredSite (r : Root N kit_contents) (e : OperationSite N kit_contents) : Type 0 where
       owner : IsVisited kit (all_of r) r e.spot.owner.name e.spot.region
       block_entered : IsEntered r e.spot e.label.name (kit.is_ssa e.spot.owner.content e.spot.region)
 
@@ -198,7 +198,7 @@ module _ {N : Names} (leads : TypeHandle → Option KitType) (numbered : List �
 
     -- the operations of a module's block, one by one
     one_found : (test : KitOperation → Bool) → Tests test → NoBranch test → (h : Head N kit_contents)
-        (rs : Tree N kit_contents Regions) (rest : Tree N kit_contents Operations) (e : Site N kit_contents) →
+        (rs : Tree N kit_contents Regions) (rest : Tree N kit_contents Operations) (e : OperationSite N kit_contents) →
         Part (operation h rs rest) e (occurrences_of t) (block_occurrences_of t) →
         Part (left_of (operation h rs rest)) e (occurrences_of cut_tree) (block_occurrences_of cut_tree) →
         IsEnteredSite before e → IsEnteredSite cut_tree e → (inside : Tree N kit_contents Regions) →
@@ -238,7 +238,7 @@ module _ {N : Names} (leads : TypeHandle → Option KitType) (numbered : List �
         }
 
     ops_found : (test : KitOperation → Bool) → Tests test → NoBranch test → (os : Tree N kit_contents Operations)
-        (e : Site N kit_contents) → Part os e (occurrences_of t) (block_occurrences_of t) →
+        (e : OperationSite N kit_contents) → Part os e (occurrences_of t) (block_occurrences_of t) →
         Part (left_of os) e (occurrences_of cut_tree) (block_occurrences_of cut_tree) → IsEnteredSite before e →
         IsEnteredSite cut_tree e → (ps : Tree N kit_contents Operations) → JoinsCut None Operations (left_of os) ps →
         Follow test (first_with test os) (first_with test (use_instead names ps))

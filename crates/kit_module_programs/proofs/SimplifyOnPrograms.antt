@@ -7,7 +7,7 @@ use Rattle.ir_names.specs.Dictionary.{attribute_at}
 use Rattle.ir_trees.specs.Names.{Names}
 use Rattle.ir_trees.specs.Renames.{Maps, IsOneToOne, rename_root, names_of}
 use Rattle.ir_trees.specs.Trees.{Head, Regions, Tree, Root}
-use Rattle.opt_trees.specs.Dce.{Around}
+use Rattle.opt_trees.specs.Dce.{TreeSurroundings}
 use Rattle.opt_trees.specs.Occurrences.{Has, Occurrence, BlockOccurrence, occurrences_of, block_occurrences_of, at_root}
 use Rattle.opt_trees.specs.Occurrences.{defined_in, OperationsApart}
 use Rattle.opt_trees.specs.Simplify.{is_bare, along_edge, decide_head, decide, decided, IsReached, entry, all_of, keep}
@@ -25,20 +25,20 @@ use Rattle.kit_ops.specs.declared.types.KitType.{KitType}
 use Rattle.kit_ops.specs.Keys.{constant_value}
 use Rattle.kit.specs.Meaning.{KitOperation, kit, is_function, is_module}
 use Rattle.kit_behaviour.specs.DecidedBranches as flat
-use Rattle.kit_behaviour.specs.Facts.{Facts}
-use Rattle.kit_behaviour.specs.Machine.{Fun, Program}
+use Rattle.kit_behaviour.specs.Facts.{FunctionFacts}
+use Rattle.kit_behaviour.specs.Machine.{Fun, FunctionsByPath}
 use Rattle.kit_behaviour.specs.Numbering.{place_fun}
 use Rattle.kit_behaviour.specs.Places.{Place}
 use Rattle.kit_behaviour.specs.Rules.{operands, Rules}
 use Rattle.kit_behaviour.specs.Scopes.{AllIn, BlocksWith}
 use Rattle.kit_behaviour.specs.SimplifiedBlocks as blocks
 use Rattle.kit_behaviour.specs.SimplifiedNames.{AreConstants}
-use Rattle.kit_behaviour.specs.SimplifiedBlocks.{Joinable, Depth, top, below, itself, Simplifies}
+use Rattle.kit_behaviour.specs.SimplifiedBlocks.{BlocksAreJoinable, Depth, top, below, itself, SimplifiesFunction}
 use Rattle.kit_behaviour.proofs.Behaviour.FrameLemmas as old
 use Rattle.kit_behaviour.proofs.ControlFlow.NamedSimplifying.{simplifies_by_place}
 use Rattle.kit_behaviour.proofs.Numbering.NumberingRules.{placed_rules}
 use Rattle.kit_views.specs.FlatBranches.{KnowsConstants}
-use Rattle.kit_views.specs.FlatView.{IsFlat}
+use Rattle.kit_views.specs.FlatView.{FlattensTo}
 use Rattle.kit_views.specs.Laws.{EndWell, IsCutFlat, IsSimplifiedFlat}
 use Rattle.kit_views.specs.Reading.{Reading, kit_contents, kit_reading}
 use Rattle.kit_views.proofs.DecidedTree.{decided_by_own}
@@ -48,7 +48,7 @@ use Rattle.kit_ruled_views.proofs.OneView.{one_view}
 use Rattle.kit_ruled_views.proofs.RenamedViews.{flat_under}
 use Rattle.kit_module_programs.specs.Laws.{AreTold}
 use Rattle.kit_module_programs.specs.Paths.{locate}
-use Rattle.kit_module_programs.specs.Programs.{IsFunctionOf, IsProgramOf}
+use Rattle.kit_module_programs.specs.Programs.{HasFunctionView, IsProgramOf}
 use Rattle.kit_module_programs.specs.Sound.{tree_of, IsSound}
 use Rattle.kit_module_programs.specs.TreePasses.{maps_of, IsSimplifiedAlone}
 use Rattle.kit_module_programs.proofs.ChainsInside.{picked_has, joined_inside}
@@ -72,7 +72,7 @@ abbrev is_entry : ℕ → Bool
 is_entry zero = true
 is_entry (suc b) = false
 
-none_joinable : (b t : ℕ) → Joinable {V = Place} None b t → ⊥
+none_joinable : (b t : ℕ) → BlocksAreJoinable {V = Place} None b t → ⊥
 none_joinable b t j = no_edge j.edge j.last
   where
     no_edge : {X : Type 0} (x : X) → None ≡ Some x → ⊥
@@ -82,7 +82,7 @@ none_deep : (b n : ℕ) → Depth {V = Place} None (λ b. false) b n → n ≤ 0
 none_deep _ _ (top b n e z) = let least : 0 ≤ 0 = omega arith in subst (λ k. k ≤ 0) (sym z) least
 none_deep _ _ (below b t m n j z d) = absurd (none_joinable b t j)
 
-none_reached : blocks.IsReached {V = Place} None is_entry
+none_reached : blocks.IsReachedSet {V = Place} None is_entry
 none_reached = record { sound = λ b e. sound b e; full = λ b r. full b r }
   where
     sound : (b : ℕ) → is_entry b ≡ true → blocks.Reached {V = Place} None b
@@ -96,7 +96,7 @@ none_reached = record { sound = λ b e. sound b e; full = λ b r. full b r }
 false_true : false ≡ true → ⊥
 false_true e = absurd (cc e)
 
-none_simplifies : Simplifies None None
+none_simplifies : SimplifiesFunction None None
 none_simplifies = record {
   reach = is_entry;
   reached = none_reached;
@@ -149,7 +149,7 @@ module _ {N : Names} (told : AreTold N) (leads : TypeHandle → Option KitType) 
   abbrev r : Reading kit_contents
   r = kit_reading leads numbered
 
-  abbrev w : Around N IntegerAttr
+  abbrev w : TreeSurroundings N IntegerAttr
   w = pass.around
 
   abbrev cut : IsCut kit (all_of t) (decided kit w t) pass.is.cut
@@ -206,7 +206,7 @@ module _ {N : Names} (told : AreTold N) (leads : TypeHandle → Option KitType) 
   -- ---- one function
 
   module _ (v : Root N kit_contents) (out : Option (Root N kit_contents)) (m : IsMember v out) (f : Fun N.value)
-      (is_flat : IsFlat r (tree_of m.it) f) where
+      (is_flat : FlattensTo r (tree_of m.it) f) where
     abbrev o : Op
     o = m.it
 
@@ -279,8 +279,8 @@ module _ {N : Names} (told : AreTold N) (leads : TypeHandle → Option KitType) 
     ssa : kit.is_ssa o.head.content 0 ≡ true
     ssa = ap (λ k. not (is_module k)) kind
 
-    abbrev decided_flat : (k : Facts N.value) × AreConstants (Some f) k
-        × IsFlat r (decided kit w u) (map (flat.decide_block k) f)
+    abbrev decided_flat : (k : FunctionFacts N.value) × AreConstants (Some f) k
+        × FlattensTo r (decided kit w u) (map (flat.decide_block k) f)
     decided_flat =
         decided_by_own told.value leads numbered type_at w u f told.values is_flat fn.sound_function.is_typed constants
 
@@ -382,7 +382,7 @@ module _ {N : Names} (told : AreTold N) (leads : TypeHandle → Option KitType) 
         placed_rules told.value value_law (Some f) (flat_distinct r u f is_flat)
         (record { terminated = ends; sees = sees; fits = is_flat.edges })
 
-    placed_simplified : Simplifies (place_fun told.value (Some f)) (place_fun told.value (Some
+    placed_simplified : SimplifiesFunction (place_fun told.value (Some f)) (place_fun told.value (Some
         function_simplified.rest))
     placed_simplified =
         simplifies_by_place told.value value_law (Some f) (Some function_simplified.rest)
@@ -411,28 +411,28 @@ module _ {N : Names} (told : AreTold N) (leads : TypeHandle → Option KitType) 
   -- the pass on one function
   record IsFunctionAfter (out : Option (Root N kit_contents)) (p : Option (Fun Place)) : Type 0 where
     placed : Option (Fun Place)
-    simplifies : Simplifies p placed
-    left : IsFunctionOf {N = N} told.value leads numbered (option_map renamed out) placed
+    simplifies : SimplifiesFunction p placed
+    left : HasFunctionView {N = N} told.value leads numbered (option_map renamed out) placed
 
   function_after : (v out : Option (Root N kit_contents)) (p : Option (Fun Place)) → Follows v out →
-      IsFunctionOf {N = N} told.value leads numbered v p → IsFunctionAfter out p
+      HasFunctionView {N = N} told.value leads numbered v p → IsFunctionAfter out p
   function_after None out p e is = record {
     placed = None;
-    simplifies = subst (λ z. Simplifies z None) (sym is) none_simplifies;
-    left = subst (λ z. IsFunctionOf {N = N} told.value leads numbered (option_map renamed z) None) (sym e) refl;
+    simplifies = subst (λ z. SimplifiesFunction z None) (sym is) none_simplifies;
+    left = subst (λ z. HasFunctionView {N = N} told.value leads numbered (option_map renamed z) None) (sym e) refl;
   }
   function_after (Some v) out p m is =
       let f : Fun N.value = is.0 in
-      let is_flat : IsFlat r (tree_of m.it) f = subst (λ z. IsFlat r z f) (sym m.is) is.1 in
+      let is_flat : FlattensTo r (tree_of m.it) f = subst (λ z. FlattensTo r z f) (sym m.is) is.1 in
       let s = function_simplified v out m f is_flat in
       let root : Root N kit_contents =
       record { head = use_head joined.names m.it.head; regions = use_instead joined.names m.inside } in
       let under = flat_under {N = N} {M = N} r renames root s.rest (apart_names root) s.is_view in
       record {
         placed = place_fun told.value (Some s.rest);
-        simplifies = subst (λ z. Simplifies z (place_fun told.value (Some s.rest))) (sym is.2)
+        simplifies = subst (λ z. SimplifiesFunction z (place_fun told.value (Some s.rest))) (sym is.2)
             (placed_simplified v out m f is_flat);
-        left = subst (λ z. IsFunctionOf {N = N} told.value leads numbered (option_map renamed z) (place_fun told.value
+        left = subst (λ z. HasFunctionView {N = N} told.value leads numbered (option_map renamed z) (place_fun told.value
             (Some s.rest))) (sym m.left) (
               under.0,
               under.2,
@@ -442,13 +442,13 @@ module _ {N : Names} (told : AreTold N) (leads : TypeHandle → Option KitType) 
             );
       }
 
-  pub simplify_on_programs : (p : Program Place) → IsProgramOf {N = N} told.value leads numbered t p →
-      (q : Program Place) × IsProgramOf {N = N} told.value leads numbered after q × blocks.IsSimplify p q
+  pub simplify_on_programs : (p : FunctionsByPath Place) → IsProgramOf {N = N} told.value leads numbered t p →
+      (q : FunctionsByPath Place) × IsProgramOf {N = N} told.value leads numbered after q × blocks.IsSimplifyOfFunctions p q
   simplify_on_programs p is =
       let each = λ (path : List ℕ). function_after (locate numbered (reverse path) t)
       (locate numbered (reverse path) pass.simplified) (p path) (where_simplified (reverse path)) (is path) in (
         λ path. (each path).placed,
-        λ path. subst (λ z. IsFunctionOf {N = N} told.value leads numbered z (each path).placed)
+        λ path. subst (λ z. HasFunctionView {N = N} told.value leads numbered z (each path).placed)
             (sym (where_after (reverse path))) (each path).left,
         record { each = λ path. (each path).simplifies },
       )

@@ -5,7 +5,7 @@ use Rattle.ir_trees.specs.Names.{Names}
 use Rattle.ir_trees.specs.Trees.{Root}
 use Rattle.opt_trees.specs.Occurrences.{at_root}
 use Rattle.kit_ops.specs.declared.types.KitType.{KitType}
-use Rattle.kit_views.specs.FlatView.{IsFlat}
+use Rattle.kit_views.specs.FlatView.{FlattensTo}
 use Rattle.kit_views.specs.Reading.{kit_contents, kit_reading}
 use Rattle.kit_module_programs.specs.Programs.{FunctionsAreFlat}
 use Rattle.kit_module_programs.specs.Sound.{IsSound}
@@ -17,4 +17,4 @@ pub sound_flat : {N : Names} (leads : TypeHandle → Option KitType) (numbered :
 sound_flat leads numbered type_at t sound path u e =
     let l = located numbered path t (at_root t) u e in
     let f = sound.functions l.it l.stands l.kind in
-    (f.flat, subst (λ z. IsFlat (kit_reading leads numbered) z f.flat) l.is f.is_flat)
+    (f.flat, subst (λ z. FlattensTo (kit_reading leads numbered) z f.flat) l.is f.is_flat)

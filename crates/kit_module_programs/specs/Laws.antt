@@ -9,11 +9,11 @@ use Rattle.kit_ops.specs.declared.types.KitType.{KitType}
 use Rattle.kit_checks.specs.declared.rule.Rule.{Rule}
 use Rattle.kit_checks.specs.Faults.{KeptEverywhere}
 use Rattle.kit_ruled_views.specs.Ruled.{KitTree, kit_world, HasOwnNames, HaveTypesIn, type_or_first}
-use Rattle.kit_behaviour.specs.Machine.{Program}
+use Rattle.kit_behaviour.specs.Machine.{FunctionsByPath}
 use Rattle.kit_behaviour.specs.ConstantPropagation as constants
 use Rattle.kit_behaviour.specs.ConstantPropagation.{all_wanted}
 use Rattle.kit_behaviour.specs.DeadValues as dead
-use Rattle.kit_behaviour.specs.Laws.{AlikeWithin, KeepsRules}
+use Rattle.kit_behaviour.specs.Laws.{AlikeWithin, EachKeepsRules}
 use Rattle.kit_behaviour.specs.PassLists.{Pass, IsAfter, Fit, Goal, SameFaces}
 use Rattle.kit_behaviour.specs.Places.{Place}
 use Rattle.kit_behaviour.specs.SimplifiedBlocks as blocks
@@ -27,7 +27,7 @@ use Rattle.kit_module_programs.specs.TreePasses.{IsDceAlone, IsSccpNamed, IsSimp
 abbrev pub ProgramsExist : Names → Type 0
 ProgramsExist N = (same : N.value → N.value → Bool) (leads : TypeHandle → Option KitType) (numbered : List ℕ → ℕ)
     (t : Root N kit_contents) → FunctionsAreFlat {N = N} leads numbered t →
-    (p : Program Place) × IsProgramOf {N = N} same leads numbered t p
+    (p : FunctionsByPath Place) × IsProgramOf {N = N} same leads numbered t p
 
 -- the functions of a sound module have flat views
 abbrev pub SoundIsFlat : Names → Type 0
@@ -37,7 +37,7 @@ SoundIsFlat N = (leads : TypeHandle → Option KitType) (numbered : List ℕ →
 -- a module's tree has one program at most
 abbrev pub OneProgram : Names → Type 0
 OneProgram N = (same : N.value → N.value → Bool) (leads : TypeHandle → Option KitType) (numbered : List ℕ → ℕ)
-    (t : Root N kit_contents) (p q : Program Place) → IsProgramOf {N = N} same leads numbered t p →
+    (t : Root N kit_contents) (p q : FunctionsByPath Place) → IsProgramOf {N = N} same leads numbered t p →
     IsProgramOf {N = N} same leads numbered t q → p ≡ q
 
 -- a module that keeps the rules, under names that are distinct, is sound by the types that the rules read
@@ -57,36 +57,36 @@ pub record AreTold (N : Names) : Type 0 where
 
 -- the pass on the tree of a module makes a tree whose program is what the pass on programs makes of the program
 abbrev pub IsPassOn : (N : Names) → (Root N kit_contents → Root N kit_contents → Type 0) →
-    (Program Place → Program Place → Type 0) → Type 0
+    (FunctionsByPath Place → FunctionsByPath Place → Type 0) → Type 0
 IsPassOn N Tree Flat = (told : AreTold N) (leads : TypeHandle → Option KitType) (numbered : List ℕ → ℕ)
-    (type_at : N.value → TypeHandle) (t after : Root N kit_contents) (p : Program Place) →
+    (type_at : N.value → TypeHandle) (t after : Root N kit_contents) (p : FunctionsByPath Place) →
     IsSound {N = N} leads numbered type_at t → Tree t after → IsProgramOf {N = N} told.value leads numbered t p →
-    (q : Program Place) × IsProgramOf {N = N} told.value leads numbered after q × Flat p q
+    (q : FunctionsByPath Place) × IsProgramOf {N = N} told.value leads numbered after q × Flat p q
 
 -- removal of dead values on the tree of a module is removal of dead values on its program
 abbrev pub DceIsDce : Names → Type 0
-DceIsDce N = IsPassOn N IsDceAlone dead.IsDce
+DceIsDce N = IsPassOn N IsDceAlone dead.IsDceOfFunctions
 
 -- constants put into the tree of a module are constants put into its program, for all known values that may get one
 abbrev pub SccpIsSccp : Names → Type 0
-SccpIsSccp N = IsPassOn N IsSccpNamed (constants.IsSccp all_wanted)
+SccpIsSccp N = IsPassOn N IsSccpNamed (constants.IsSccpOfFunctions all_wanted)
 
 -- control flow simplified on the tree of a module is control flow simplified on its program
 abbrev pub SimplifyIsSimplify : Names → Type 0
-SimplifyIsSimplify N = IsPassOn N IsSimplifiedAlone blocks.IsSimplify
+SimplifyIsSimplify N = IsPassOn N IsSimplifiedAlone blocks.IsSimplifyOfFunctions
 
 -- of what a list of passes makes of a tree the program is what the list makes of the tree's program
 abbrev pub ListsAreLists : Names → Type 0
 ListsAreLists N = (told : AreTold N) (leads : TypeHandle → Option KitType) (numbered : List ℕ → ℕ) (xs : List Pass)
-    (t r : Root N kit_contents) (p : Program Place) → IsTreeAfter {N = N} leads numbered xs t r →
+    (t r : Root N kit_contents) (p : FunctionsByPath Place) → IsTreeAfter {N = N} leads numbered xs t r →
     IsProgramOf {N = N} told.value leads numbered t p →
-    (q : Program Place) × IsProgramOf {N = N} told.value leads numbered r q × IsAfter xs p q
+    (q : FunctionsByPath Place) × IsProgramOf {N = N} told.value leads numbered r q × IsAfter xs p q
 
 -- a property of the programs before and after a list of passes on trees, where the first has the property P
-abbrev pub OfTheirPrograms : (N : Names) → (Program Place → Type 0) →
-    (List Pass → Program Place → Program Place → Type 0) → Type 0
+abbrev pub OfTheirPrograms : (N : Names) → (FunctionsByPath Place → Type 0) →
+    (List Pass → FunctionsByPath Place → FunctionsByPath Place → Type 0) → Type 0
 OfTheirPrograms N P Q = (told : AreTold N) (leads : TypeHandle → Option KitType) (numbered : List ℕ → ℕ)
-    (xs : List Pass) (t r : Root N kit_contents) (p q : Program Place) → IsTreeAfter {N = N} leads numbered xs t r →
+    (xs : List Pass) (t r : Root N kit_contents) (p q : FunctionsByPath Place) → IsTreeAfter {N = N} leads numbered xs t r →
     IsProgramOf {N = N} told.value leads numbered t p → IsProgramOf {N = N} told.value leads numbered r q → P p →
     Q xs p q
 
@@ -96,16 +96,16 @@ TreesAlike N = OfTheirPrograms N Fit (λ xs p q. (c : ℕ) × AlikeWithin c p q)
 
 -- the goal of the last pass is met
 abbrev pub TreesGoal : Names → Type 0
-TreesGoal N = OfTheirPrograms N KeepsRules Goal
+TreesGoal N = OfTheirPrograms N EachKeepsRules Goal
 
 -- the paths of functions stay, and how many arguments each takes
 abbrev pub TreesKeepFaces : Names → Type 0
-TreesKeepFaces N = OfTheirPrograms N KeepsRules (λ xs p q. SameFaces p q)
+TreesKeepFaces N = OfTheirPrograms N EachKeepsRules (λ xs p q. SameFaces p q)
 
 -- what the beginning of a list makes of a tree, and the rest of that, has the program that the whole list makes
 abbrev pub TreeListsCut : Names → Type 0
 TreeListsCut N = (told : AreTold N) (leads : TypeHandle → Option KitType) (numbered : List ℕ → ℕ) (xs ys : List Pass)
-    (t m r s : Root N kit_contents) (p q k : Program Place) → IsTreeAfter {N = N} leads numbered xs t m →
+    (t m r s : Root N kit_contents) (p q k : FunctionsByPath Place) → IsTreeAfter {N = N} leads numbered xs t m →
     IsTreeAfter {N = N} leads numbered (xs ++ ys) t r → IsTreeAfter {N = N} leads numbered ys m s →
     IsProgramOf {N = N} told.value leads numbered t p → IsProgramOf {N = N} told.value leads numbered r q →
-    IsProgramOf {N = N} told.value leads numbered s k → KeepsRules p → q ≡ k
+    IsProgramOf {N = N} told.value leads numbered s k → EachKeepsRules p → q ≡ k

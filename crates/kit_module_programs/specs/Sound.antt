@@ -9,7 +9,7 @@ use Rattle.kit_ops.specs.declared.types.KitType.{KitType}
 use Rattle.kit_behaviour.specs.Machine.{Fun}
 use Rattle.kit_behaviour.specs.Rules.{operands}
 use Rattle.kit_behaviour.specs.Scopes.{AllIn, BlocksWith}
-use Rattle.kit_views.specs.FlatView.{IsFlat}
+use Rattle.kit_views.specs.FlatView.{FlattensTo}
 use Rattle.kit_views.specs.Laws.{EndWell}
 use Rattle.kit_views.specs.Reading.{kit_contents, kit_reading}
 use Rattle.kit_views.specs.Typed.{IsTyped}
@@ -38,7 +38,7 @@ module _ {N : Names} (leads : TypeHandle → Option KitType) (numbered : List �
     pub record IsSoundFunction (o : Occurrence N kit_contents) : Type 0 where
       pub kind : o.head.content.kind ≡ ops.Func
       pub flat : Fun N.value
-      pub is_flat : IsFlat (kit_reading leads numbered) (tree_of o) flat
+      pub is_flat : FlattensTo (kit_reading leads numbered) (tree_of o) flat
       pub ends : EndWell flat
       pub sees : BlocksWith (Some flat) (λ a op. AllIn (operands op) a)
       pub is_typed : IsTyped leads {N = N} type_at (tree_of o)

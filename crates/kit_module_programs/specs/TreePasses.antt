@@ -4,7 +4,7 @@ use Rattle.ir_base.specs.declared.types.TypeHandle.{TypeHandle}
 use Rattle.ir_trees.specs.Names.{Names}
 use Rattle.ir_trees.specs.Renames.{Maps, IsOneToOne, rename_root}
 use Rattle.ir_trees.specs.Trees.{Root}
-use Rattle.opt_trees.specs.Dce.{Around, IsDce}
+use Rattle.opt_trees.specs.Dce.{TreeSurroundings, IsDce}
 use Rattle.opt_trees.specs.Sccp.{fresh, IsSccp}
 use Rattle.opt_trees.specs.Simplify.{IsSimplify}
 use Rattle.kit_ops.specs.declared.attributes.IntegerAttr.{IntegerAttr}
@@ -26,7 +26,7 @@ pub record IsSccpNamed {N : Names} (t after : Root N kit_contents) : Type 0 wher
 
 -- what is dead is removed, and nothing in the tree is named from outside
 pub record IsDceAlone {N : Names} (t after : Root N kit_contents) : Type 0 where
-  pub around : Around N IntegerAttr
+  pub around : TreeSurroundings N IntegerAttr
   pub unpinned : NothingPinned around t
   pub is : IsDce kit around t after
 
@@ -37,7 +37,7 @@ maps_of names = record { operation = names; block = λ b. b; value = λ v. v }
 -- control flow is simplified, where of values exactly constants are known alone; operations may have other names, kept
 -- apart
 pub record IsSimplifiedAlone {N : Names} (t after : Root N kit_contents) : Type 0 where
-  pub around : Around N IntegerAttr
+  pub around : TreeSurroundings N IntegerAttr
   pub known : KnowsConstants around t
   pub simplified : Root N kit_contents
   pub is : IsSimplify kit around t simplified

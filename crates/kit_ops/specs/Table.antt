@@ -30,12 +30,12 @@ pub record KindRow : Type 0 where
   pub has_effects : Bool
 
 -- what the operations of arithmetic differ in: their names, and whether they do more than give their results
-pub record Named : Type 0 where
+pub record NameAndEffects : Type 0 where
   pub name : List ℕ
   pub has_effects : Bool
 
 -- a division by zero traps, so no division may be left out
-abbrev pub named_arithmetic : Arithmetic → Named
+abbrev pub named_arithmetic : Arithmetic → NameAndEffects
 named_arithmetic arithmetic.Add = record { name = codes "add"; has_effects = false }
 named_arithmetic arithmetic.Sub = record { name = codes "sub"; has_effects = false }
 named_arithmetic arithmetic.Mul = record { name = codes "mul"; has_effects = false }
@@ -49,7 +49,7 @@ comparison_name comparison.Less = codes "ult"
 comparison_name comparison.LessOrEqual = codes "ule"
 
 -- the row of the operations of arithmetic: two operands and one result, all of one type
-abbrev pub arithmetic_row : Named → KindRow
+abbrev pub arithmetic_row : NameAndEffects → KindRow
 arithmetic_row named = record {
   dialect = codes "kit";
   name = named.name;

@@ -8,7 +8,7 @@ use Rattle.ir_trees.specs.Stands.{by_handle, StandsFor}
 use Rattle.ir_types.specs.Interned.{key_at}
 use Rattle.ir_types.specs.Views.{TypesView}
 use Rattle.kit.specs.declared.dialect.Unused.{Unused}
-use Rattle.kit_behaviour.specs.Machine.{Program}
+use Rattle.kit_behaviour.specs.Machine.{FunctionsByPath}
 use Rattle.kit_behaviour.specs.PassLists.{Pass, Fit, IsAfter}
 use Rattle.kit_behaviour.specs.Places.{Place}
 use Rattle.kit_behaviour.proofs.PassListLemmas.{after_alike, after_goal, after_faces}
@@ -25,7 +25,7 @@ use Rattle.kit_fit_programs.proofs.FunctionSizes.{one_pass, program_within}
 use Rattle.kit_ops.specs.declared.types.KitType.{KitType}
 use Rattle.kit_optimiser.specs.Passed.{IsOptimised}
 use Rattle.kit_program_runs.specs.Laws.{IsProgramIn}
-use Rattle.kit_program_runs.specs.Numberings.{IsNumbering}
+use Rattle.kit_program_runs.specs.Numberings.{NumbersTextsApart}
 use Rattle.kit_ruled_views.specs.Functions.{KitContext}
 use Rattle.kit_ruled_views.specs.Ruled.{KitTree, type_or_first}
 use Rattle.kit_ruled_views.proofs.HandleSameness.{values_apart}
@@ -34,7 +34,7 @@ use Rattle.kit_optimised_programs.proofs.HandlesTold.{handles_told}
 use Rattle.kit_optimised_programs.proofs.HeadsKept.{list_keeps}
 
 -- the program of a tree of a context is fit
-pub fit : (s : KitContext) (root : Ptr Operation) (t : KitTree) (numbered : List ℕ → ℕ) (p : Program Place)
+pub fit : (s : KitContext) (root : Ptr Operation) (t : KitTree) (numbered : List ℕ → ℕ) (p : FunctionsByPath Place)
     → IsProgramIn s root t numbered p → Fit p
 fit s root t numbered p given =
     fit_program (key_at s.types) (type_at s.program) numbered same_value t p values_apart
@@ -42,12 +42,12 @@ fit s root t numbered p given =
 
 module _ (xs : List Pass) (old new : KitContext) (root : Ptr Operation) (t : KitTree) (numbered : List ℕ → ℕ)
     (held : HoldsModule old root) (stands : StandsFor old.program root t) (before : IsOrdinary old root)
-    (made : IsOptimised xs old new root) (after : IsOrdinary new root) (numbers : IsNumbering numbered) where
+    (made : IsOptimised xs old new root) (after : IsOrdinary new root) (numbers : NumbersTextsApart numbered) where
   sound : IsSound {N = by_handle} (key_at old.types) numbered (type_or_first (type_at old.program)) t
   sound = ruled_sound (key_at old.types) (type_at old.program) t (held.rules t stands) numbered (before t stands).0
       (before t stands).1
 
-  first : (p : Program Place) × IsProgramOf {N = by_handle} same_value (key_at old.types) numbered t p
+  first : (p : FunctionsByPath Place) × IsProgramOf {N = by_handle} same_value (key_at old.types) numbered t p
   first = program_exists {N = by_handle} same_value (key_at old.types) numbered t
       (sound_flat {N = by_handle} (key_at old.types) numbered (type_or_first (type_at old.program)) t sound)
 

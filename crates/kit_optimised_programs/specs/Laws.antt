@@ -11,7 +11,7 @@ use Rattle.kit_behaviour.specs.PassLists.{Pass}
 use Rattle.kit_held_modules.specs.Held.{HoldsModule}
 use Rattle.kit_module_programs.specs.TreePasses.{IsTreeAfter}
 use Rattle.kit_optimiser.specs.Passed.{IsOptimised}
-use Rattle.kit_program_runs.specs.Numberings.{IsNumbering}
+use Rattle.kit_program_runs.specs.Numberings.{NumbersTextsApart}
 use Rattle.kit_ruled_views.specs.Functions.{KitContext}
 use Rattle.kit_ruled_views.specs.Ruled.{KitTree}
 use Rattle.kit_views.specs.Reading.{kit_contents}
@@ -23,7 +23,7 @@ use Rattle.kit_optimised_programs.specs.Programs.{IsOrdinary, PassedPrograms}
 abbrev pub OptimisedModulesHavePrograms : Type 0
 OptimisedModulesHavePrograms = (xs : List Pass) (old new : KitContext) (root : Ptr Operation) (t : KitTree)
     (numbered : List ℕ → ℕ) → HoldsModule old root → StandsFor old.program root t → IsOrdinary old root →
-    IsOptimised xs old new root → IsOrdinary new root → IsNumbering numbered →
+    IsOptimised xs old new root → IsOrdinary new root → NumbersTextsApart numbered →
     PassedPrograms xs old new root numbered
 
 -- the beginning of a list of passes left one program, the whole list another, of modules with one program; where the

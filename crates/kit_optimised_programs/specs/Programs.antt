@@ -5,7 +5,7 @@ use Rattle.ir_program.specs.declared.handles.Operation.{Operation}
 use Rattle.ir_program.specs.declared.handles.Ptr.{Ptr}
 use Rattle.ir_trees.specs.Stands.{StandsFor}
 use Rattle.kit_behaviour.specs.Laws.{AlikeWithin}
-use Rattle.kit_behaviour.specs.Machine.{Program}
+use Rattle.kit_behaviour.specs.Machine.{FunctionsByPath}
 use Rattle.kit_behaviour.specs.PassLists.{Pass, IsAfter, Goal, SameFaces}
 use Rattle.kit_behaviour.specs.Places.{Place}
 use Rattle.kit_fit_programs.specs.Operations.{operations_below}
@@ -24,12 +24,12 @@ pub record PassedPrograms (xs : List Pass) (old new : KitContext) (root : Ptr Op
   -- the module's tree before the passes
   pub before : KitTree
   -- and its program
-  pub first : Program Place
+  pub first : FunctionsByPath Place
   pub is_first : IsProgramIn old root before numbered first
   -- the module's tree after the passes
   pub after : KitTree
   -- and its program
-  pub last : Program Place
+  pub last : FunctionsByPath Place
   pub is_last : IsProgramIn new root after numbered last
   -- the passes, one after another, make the last program of the first
   pub passed : IsAfter xs first last

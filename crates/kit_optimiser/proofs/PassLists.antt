@@ -18,7 +18,7 @@ use Rattle.kit_ruled_views.specs.Functions.{KitContext}
 use Rattle.kit_ruled_views.specs.Ruled.{KitTree}
 use Rattle.kit_writable_trees.specs.Writable.{IsWritableRoot}
 use Rattle.kit_optimiser.specs.declared.pass.KitPass.{KitPass}
-use Rattle.kit_optimiser.specs.Passed.{CountsTo, IsPassed, IsOptimised, IsSoundRoot, GoesOn, Runs, pass_of}
+use Rattle.kit_optimiser.specs.Passed.{CountsTo, IsPassed, IsOptimised, IsSoundRoot, ExtendsPasses, RunsPasses, pass_of}
 
 module _ (leads : TypeHandle → Option KitType) (numbered : List ℕ → ℕ) (x : Pass) where
   one_more : (xs : List Pass) (t u r : KitTree) → IsTreeAfter {N = by_handle} leads numbered xs t u
@@ -43,16 +43,16 @@ begins s root held = record {
 }
 
 -- a pass on what a list of passes made, with the numbers of values that it takes
-pub runs_on : (xs : List Pass) (x : Pass) (old mid new : KitContext) (root : Ptr Operation) → Runs xs old mid root
-    → IsPassed x mid new root → CountsTo x mid root new.program.counter → Runs (xs ++ x ∷ []) old new root
+pub runs_on : (xs : List Pass) (x : Pass) (old mid new : KitContext) (root : Ptr Operation) → RunsPasses xs old mid root
+    → IsPassed x mid new root → CountsTo x mid root new.program.counter → RunsPasses (xs ++ x ∷ []) old new root
 runs_on [] x old mid new root is passed counts =
-    subst (λ (s : KitContext). Runs (x ∷ []) s new root) is (new, passed, counts, refl)
+    subst (λ (s : KitContext). RunsPasses (x ∷ []) s new root) is (new, passed, counts, refl)
 runs_on (y ∷ ys) x old mid new root (next, first, counted, rest) passed counts =
     (next, first, counted, runs_on ys x next mid new root rest passed counts)
 
 -- a pass on what a list of passes left
 pub goes_on : (x : Pass) (old new : KitContext) (root : Ptr Operation) → IsSoundRoot old root → IsPassed x old new root
-    → GoesOn x old new root
+    → ExtendsPasses x old new root
 goes_on x old new root sound passed start xs before = record {
   holds = passed.holds;
   types = passed.types ∙ before.types;

@@ -11,9 +11,9 @@ use Rattle.opt_dialect.specs.declared.status.OptError.{OptError}
 use Rattle.opt_dialect.specs.Statuses.{error_of}
 use Rattle.opt_dialect.specs.declared.status.OptError.TheVariants.{Memory, CounterFull, LiveUse, UndeterminedOperand}
 use Rattle.opt_sccp.specs.Made.{IsShortage}
-use Rattle.opt_sccp.specs.Sccp.{IsRefusal}
+use Rattle.opt_sccp.specs.Sccp.{IsSccpRefusal}
 
-pub only_short : (e : OptError) → IsRefusal e → (e ≡ UndeterminedOperand → ⊥) → IsShortage e
+pub only_short : (e : OptError) → IsSccpRefusal e → (e ≡ UndeterminedOperand → ⊥) → IsShortage e
 only_short e (inl short) never = short
 only_short e (inr is) never = absurd (never is)
 

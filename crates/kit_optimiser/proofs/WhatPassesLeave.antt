@@ -16,8 +16,8 @@ use Rattle.kit_held_modules.specs.Held.{HoldsModule}
 use Rattle.kit_module_programs.specs.TreePasses.{IsTreePass, IsSccpNamed, IsDceAlone, IsSimplifiedAlone}
 use Rattle.kit_ops.specs.declared.types.KitType.{KitType}
 use Rattle.kit_pass_rules.specs.Laws as laws
-use Rattle.kit_pass_rules.specs.Laws.{IsGood, IsNamed, DceKeepsRules, SccpKeepsRules}
-use Rattle.kit_pass_rules.specs.Worlds.{kit_world, AreApart, IsTypedIn, ObeysIn}
+use Rattle.kit_pass_rules.specs.Laws.{IsGood, MakesUpToNames, DceKeepsRules, SccpKeepsRules}
+use Rattle.kit_pass_rules.specs.Worlds.{kit_world, HandlesAreApart, IsTypedIn, ObeysIn}
 use Rattle.kit_passed_trees.specs.Laws.{LeavesTree}
 use Rattle.kit_ruled_passes.specs.Entering.{IsEnteredNowhere}
 use Rattle.kit_ruled_passes.specs.Scopes.{KitProgram}
@@ -32,17 +32,17 @@ pub live : (c : KitProgram) (root : Ptr Operation) (t : KitTree) → StandsFor c
 live c root t stands = subst (λ o. IsSome o) (sym stands.there) refl
 
 -- under any handles, and under names of operations
-named : (t u : KitTree) → IsSccpNamed {N = by_handle} t u → laws.IsSccpNamed t u
+named : (t u : KitTree) → IsSccpNamed {N = by_handle} t u → laws.IsSccpUpToNames t u
 named t u m = record { put_in = m.put; is_sccp = m.is; names = m.names; is = m.same }
 
-simply : (t u : KitTree) (m : IsSimplifiedAlone {N = by_handle} t u) → IsNamed (IsSimplify kit m.around) t u
+simply : (t u : KitTree) (m : IsSimplifiedAlone {N = by_handle} t u) → MakesUpToNames (IsSimplify kit m.around) t u
 simply t u m = (m.simplified, m.is, m.names, m.same)
 
 -- what is known before the pass and after it, beside what the pass makes of trees
 pub record IsLeft (old new : KitContext) (root : Ptr Operation) : Type 0 where
   pub tree : (t : KitTree) × StandsFor old.program root t
   pub types : new.types ≡ old.types
-  pub apart : (t : KitTree) → StandsFor old.program root t → AreApart t
+  pub apart : (t : KitTree) → StandsFor old.program root t → HandlesAreApart t
   pub typed : (t : KitTree) → StandsFor old.program root t → IsTypedIn (type_at old.program) t
   pub typed_after : (t : KitTree) → StandsFor new.program root t → IsTypedIn (type_at new.program) t
   pub entered : IsEnteredNowhere new root

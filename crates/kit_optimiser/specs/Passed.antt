@@ -41,8 +41,8 @@ IsOptimised xs old new root =
     (λ t u. (numbered : List ℕ → ℕ) → IsTreeAfter {N = by_handle} (key_at old.types) numbered xs t u) old new root
 
 -- what the old context has come of by a list of passes, the new one has come of by the list with the pass behind it
-abbrev pub GoesOn : Pass → KitContext → KitContext → Ptr Operation → Type 0
-GoesOn x old new root = (start : KitContext) (xs : List Pass) → IsOptimised xs start old root →
+abbrev pub ExtendsPasses : Pass → KitContext → KitContext → Ptr Operation → Type 0
+ExtendsPasses x old new root = (start : KitContext) (xs : List Pass) → IsOptimised xs start old root →
     IsOptimised (xs ++ x ∷ []) start new root
 
 -- the tree that the operation stands for is sound, whatever numbers the names of functions have
@@ -59,10 +59,10 @@ CountsTo DcePass old root n = n ≡ old.program.counter
 CountsTo SimplifyPass old root n = n ≡ old.program.counter
 
 -- from context to context, one pass after another, each of which takes the numbers of values that it does
-abbrev pub Runs : List Pass → KitContext → KitContext → Ptr Operation → Type 0
-Runs [] old new root = new ≡ old
-Runs (x ∷ xs) old new root =
-    (next : KitContext) × IsPassed x old next root × CountsTo x old root next.program.counter × Runs xs next new root
+abbrev pub RunsPasses : List Pass → KitContext → KitContext → Ptr Operation → Type 0
+RunsPasses [] old new root = new ≡ old
+RunsPasses (x ∷ xs) old new root =
+    (next : KitContext) × IsPassed x old next root × CountsTo x old root next.program.counter × RunsPasses xs next new root
 
 -- the pass takes more numbers of values than are left
 abbrev pub StopsFull : Pass → KitContext → Ptr Operation → Type 0
@@ -76,5 +76,5 @@ pub record FillsUp (xs : List Pass) (old : KitContext) (root : Ptr Operation) : 
   pub rest : List Pass
   pub parts : done ++ next ∷ rest ≡ xs
   pub reached : KitContext
-  pub runs : Runs done old reached root
+  pub runs : RunsPasses done old reached root
   pub full : StopsFull next reached root

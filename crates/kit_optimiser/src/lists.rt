@@ -3,7 +3,7 @@ ghost use Rattle.std.specs.Prelude.{◌≡◌, Err, OnOk, map};
 ghost use Rattle.ir_base.specs.declared.growth.GrowError.TheVariants.{CounterFull};
 ghost use Rattle.kit_held_modules.specs.Held.{HoldsModule};
 ghost use Rattle.kit_optimiser.specs.Outside.{KeepsRest, StaysOutside};
-ghost use Rattle.kit_optimiser.specs.Passed.{CountsTo, FillsUp, GoesOn, IsOptimised, IsPassed, Runs, StopsFull, pass_of};
+ghost use Rattle.kit_optimiser.specs.Passed.{CountsTo, FillsUp, ExtendsPasses, IsOptimised, IsPassed, RunsPasses, StopsFull, pass_of};
 ghost use Rattle.opt_inside.specs.Outside.{AddsNoneOutside};
 
 use crate::{KitPass, know_sound, propagate_constants, remove_dead, simplify_control_flow};
@@ -50,7 +50,7 @@ fn run_next_pass(
     pass: KitPass,
 ) -> Result<(), GrowError>
     requires { HoldsModule ctx.old root }
-    ensures goes_on { OnOk result (GoesOn (pass_of pass) ctx.old ctx.new root) }
+    ensures goes_on { OnOk result (ExtendsPasses (pass_of pass) ctx.old ctx.new root) }
     ensures passed { OnOk result (IsPassed (pass_of pass) ctx.old ctx.new root) }
     ensures numbers { OnOk result (CountsTo (pass_of pass) ctx.old root ctx.new.program.counter) }
     ensures full { result ≡ Err CounterFull → StopsFull (pass_of pass) ctx.old root }
@@ -78,7 +78,7 @@ pub fn run_passes(
 ) -> Result<(), GrowError>
     requires { HoldsModule ctx.old root }
     ensures optimised { OnOk result (IsOptimised (map pass_of passes.now) ctx.old ctx.new root) }
-    ensures runs { OnOk result (Runs (map pass_of passes.now) ctx.old ctx.new root) }
+    ensures runs { OnOk result (RunsPasses (map pass_of passes.now) ctx.old ctx.new root) }
     ensures full { result ≡ Err CounterFull → FillsUp (map pass_of passes.now) ctx.old root }
     ensures outside { KeepsRest ctx.old.program ctx.new.program root }
     ensures stays { OnOk result (StaysOutside ctx.old.program ctx.new.program root) }

@@ -23,7 +23,7 @@ use Rattle.kit_ops.specs.declared.types.KitType.{KitType}
 use Rattle.kit_ops.specs.Keys as keys
 use Rattle.kit_ops.specs.Table.{has_interface}
 use Rattle.kit_pass_rules.specs.Laws.{IsGood}
-use Rattle.kit_pass_rules.specs.Worlds.{KitTree, kit_world, IsTypedIn}
+use Rattle.kit_pass_rules.specs.Worlds.{PassedTree, kit_world, IsTypedIn}
 use Rattle.kit_pass_rules.proofs.DceCame.{KitAround, thin_around, Old}
 use Rattle.kit_pass_rules.proofs.DceMore.{condition_stays}
 use Rattle.kit_pass_rules.proofs.DceRules.{keeps, lost_at, operands_same}
@@ -33,7 +33,7 @@ use Rattle.kit_pass_rules.proofs.Thin.{KitBody, thin_tree, thin_body, blocks_thi
 use Rattle.kit_pass_rules.proofs.Walk.{BlockOf, block_of, within, occurrence_of, child_of, block_here}
 use Rattle.std.proofs.lemmas.Option.{slice_get_within}
 use Rattle.opt_trees.specs.Dialect.{drop}
-use Rattle.opt_trees.specs.Dce.{Around as DceAround, Slot, Gone, IsGone, gone_at}
+use Rattle.opt_trees.specs.Dce.{TreeSurroundings as DceAround, Slot, Gone, IsGoneExactly, gone_at}
 use Rattle.opt_trees.specs.Occurrences.{Has}
 use Rattle.opt_trees.proofs.Lists.{some_same, length-map}
 use Rattle.opt_trees.proofs.NoneDead.{has-left, has-right}
@@ -43,9 +43,9 @@ same_bool true y f g = sym (f refl)
 same_bool false true f g = g refl
 same_bool false false f g = refl
 
-module _ (leads : TypeHandle → Option KitType) (old new : Value → Option TypeHandle) (w : DceAround by_handle IntegerAttr) (t : KitTree)
-    (good : IsGood leads old t) (g : Gone by_handle) (is_gone : IsGone kit w t g) (typed : IsTypedIn new (thin_tree g t))
-    (u : KitTree) (a : KitAround) (j : ℕ) (o : Old g t u a j) where
+module _ (leads : TypeHandle → Option KitType) (old new : Value → Option TypeHandle) (w : DceAround by_handle IntegerAttr) (t : PassedTree)
+    (good : IsGood leads old t) (g : Gone by_handle) (is_gone : IsGoneExactly kit w t g) (typed : IsTypedIn new (thin_tree g t))
+    (u : PassedTree) (a : KitAround) (j : ℕ) (o : Old g t u a j) where
   abbrev lost : ℕ → Bool
   lost = g.operand u.head.name
 
@@ -162,8 +162,8 @@ module _ (leads : TypeHandle → Option KitType) (old new : Value → Option Typ
     branch_types k e is fits have = absurd (cc is)
 
   -- rule 9
-  leads_left : (edge : ℕ) (target : Ptr BasicBlock) → slice_get u.head.successors edge ≡ Some target → rules.LeadsTo (kit_world leads old) u a edge target →
-      rules.LeadsTo (kit_world leads new) (thin_tree g u) (thin_around g a j) edge target
+  leads_left : (edge : ℕ) (target : Ptr BasicBlock) → slice_get u.head.successors edge ≡ Some target → rules.EdgeLeadsTo (kit_world leads old) u a edge target →
+      rules.EdgeLeadsTo (kit_world leads new) (thin_tree g u) (thin_around g a j) edge target
   leads_left edge target e h =
       let there : slice_get u.head.successors edge ≡ Some h.body.label.name = e ∙ ap Some (sym h.named) in
       record {
@@ -183,4 +183,4 @@ module _ (leads : TypeHandle → Option KitType) (old new : Value → Option Typ
   edges_fit edge target e =
       let r : rules.EdgesFit (kit_world leads old) (record { op = u; around = Some a }) = keeps leads old new w t good g is_gone u a j o rule.EdgesFit in
       let x = r edge target e in
-      (thin_around g a j, refl, leads_left edge target e (subst (λ (z : KitAround). rules.LeadsTo (kit_world leads old) u z edge target) (sym (some_same a x.0 x.1)) x.2))
+      (thin_around g a j, refl, leads_left edge target e (subst (λ (z : KitAround). rules.EdgeLeadsTo (kit_world leads old) u z edge target) (sym (some_same a x.0 x.1)) x.2))

@@ -12,18 +12,18 @@ use Rattle.kit_ops.specs.declared.attributes.IntegerAttr.{IntegerAttr}
 use Rattle.kit_ops.specs.declared.kinds.KitOp.TheVariants as ops
 use Rattle.kit_ops.specs.declared.types.KitType.{KitType}
 use Rattle.kit_pass_rules.specs.Laws.{IsGood, DceKeepsRules}
-use Rattle.kit_pass_rules.specs.Worlds.{KitTree, kit_world, IsTypedIn, ObeysIn}
+use Rattle.kit_pass_rules.specs.Worlds.{PassedTree, kit_world, IsTypedIn, ObeysIn}
 use Rattle.kit_pass_rules.proofs.DceCame.{KitSite, Came, at_root, below, came_from}
 use Rattle.kit_pass_rules.proofs.DceEdges.{edges_fit}
 use Rattle.kit_pass_rules.proofs.DceMore.{rule_function, rule_constants, rule_attributes, rule_types, rule_returns, rule_calls, rule_format}
 use Rattle.kit_pass_rules.proofs.DceRules.{root_keeps, rule_root, rule_module, rule_holds, rule_values, rule_ends, rule_visible}
 use Rattle.kit_pass_rules.proofs.Thin.{thin_tree}
 use Rattle.opt_trees.specs.Dialect.{drop}
-use Rattle.opt_trees.specs.Dce.{Around as DceAround, Gone, IsGone, thin}
+use Rattle.opt_trees.specs.Dce.{TreeSurroundings as DceAround, Gone, IsGoneExactly, thin}
 use Rattle.opt_trees.proofs.Lists.{none_some}
 
-module _ (leads : TypeHandle → Option KitType) (old new : Value → Option TypeHandle) (w : DceAround by_handle IntegerAttr) (t : KitTree)
-    (good : IsGood leads old t) (g : Gone by_handle) (is_gone : IsGone kit w t g) where
+module _ (leads : TypeHandle → Option KitType) (old new : Value → Option TypeHandle) (w : DceAround by_handle IntegerAttr) (t : PassedTree)
+    (good : IsGood leads old t) (g : Gone by_handle) (is_gone : IsGoneExactly kit w t g) where
   rule_edges : IsTypedIn new (thin_tree g t) → (s : KitSite) → Came g t s → rules.EdgesFit (kit_world leads new) s
   rule_edges typed _ at_root = λ edge target e.
       let r : rules.EdgesFit (kit_world leads old) (record { op = t; around = None }) = root_keeps leads old new w t good g is_gone rule.EdgesFit in
@@ -66,7 +66,7 @@ module _ (leads : TypeHandle → Option KitType) (old new : Value → Option Typ
         regions = thin kit g t.regions;
       }
 
-  pub left_keeps : (after : KitTree) → after ≡ record { head = t.head; regions = thin kit g t.regions } → IsTypedIn new after → ObeysIn (kit_world leads new) after
+  pub left_keeps : (after : PassedTree) → after ≡ record { head = t.head; regions = thin kit g t.regions } → IsTypedIn new after → ObeysIn (kit_world leads new) after
   left_keeps after e typed =
       let same : thin_tree g t ≡ after = root_same ∙ sym e in
       subst (ObeysIn (kit_world leads new)) same (λ r p s at. all_kept (subst (IsTypedIn new) (sym same) typed) r s (came_from g t p s at))

@@ -20,7 +20,7 @@ use Rattle.kit_ops.specs.declared.kinds.KitOp.TheVariants as ops
 use Rattle.kit_ops.specs.declared.types.KitType.{KitType}
 use Rattle.kit_ops.specs.Table.{has_interface}
 use Rattle.kit_pass_rules.specs.Laws.{IsGood}
-use Rattle.kit_pass_rules.specs.Worlds.{KitTree, kit_world}
+use Rattle.kit_pass_rules.specs.Worlds.{PassedTree, kit_world}
 use Rattle.kit_pass_rules.proofs.DceCame.{KitAround}
 use Rattle.kit_pass_rules.proofs.FactsClosed.{lowered, asked_lower, arguments_below, rule_here}
 use Rattle.kit_pass_rules.proofs.FactsFit.{Tests}
@@ -58,7 +58,7 @@ picks_run ps (x ∷ fs) ss n (suc m) e f =
     (ap (λ l. picks l (range (suc n) m)) (sym (append_assoc ps (x ∷ []) (fs ++ ss)))
     ∙ picks_run (ps ++ (x ∷ [])) fs ss (suc n) m (one_more ps x n e) (omega (arith, f)))
 
-module _ (leads : TypeHandle → Option KitType) (old : Value → Option TypeHandle) (t : KitTree) (good : IsGood leads old t)
+module _ (leads : TypeHandle → Option KitType) (old : Value → Option TypeHandle) (t : PassedTree) (good : IsGood leads old t)
     (test : Option TypeHandle → IntegerAttr → Bool) (tests : Tests leads test) (k : Facts by_handle IntegerAttr)
     (o : OccurrenceOf KitOperation KitBlock) (stands : Has o (occurrences_of t)) (l : Located t o) where
   cond_forwarded : (n : ℕ) (edge : ℕ) → edge ≡ n → edge < 2 → l.u.head.content.kind ≡ ops.CondBr → rules.HasSegments (kit_world leads old) l.u →
@@ -121,7 +121,7 @@ module _ (leads : TypeHandle → Option KitType) (old : Value → Option TypeHan
       let a : KitAround = record { owner = l.s.op; outer = l.outer; blocks = l.blocks; number = l.b; body = l.body; index = l.k } in
       let is = branch_kind l.u.head.content.kind branch in
       let r = rule_here leads old t good test tests k o stands l rule.EdgesFit edge target at in
-      let to : rules.LeadsTo (kit_world leads old) l.u a edge target = subst (λ (z : KitAround). rules.LeadsTo (kit_world leads old) l.u z edge target) (sym (some_same a r.0 r.1)) r.2 in
+      let to : rules.EdgeLeadsTo (kit_world leads old) l.u a edge target = subst (λ (z : KitAround). rules.EdgeLeadsTo (kit_world leads old) l.u z edge target) (sym (some_same a r.0 r.1)) r.2 in
       let b = block_here t l.s l.outer l.up l.r to.here.0 l.blocks to.body l.region_here to.here.1 in
       let same : x ≡ block_of b.spot to.body = good.apart.blocks x (block_of b.spot to.body) hx b.block (named ∙ sym to.named) in
       ap (map old) (along l.u.head.content.kind refl is (rule_here leads old t good test tests k o stands l rule.FitsFormat) edge target at)

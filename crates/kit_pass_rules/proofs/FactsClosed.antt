@@ -15,7 +15,7 @@ use Rattle.kit_checks.proofs.Down.{step_to}
 use Rattle.kit_ops.specs.declared.attributes.IntegerAttr.{IntegerAttr}
 use Rattle.kit_ops.specs.declared.types.KitType.{KitType}
 use Rattle.kit_pass_rules.specs.Laws.{IsGood}
-use Rattle.kit_pass_rules.specs.Worlds.{KitTree, kit_world}
+use Rattle.kit_pass_rules.specs.Worlds.{PassedTree, kit_world}
 use Rattle.kit_pass_rules.proofs.FactsFit.{Right, Tests}
 use Rattle.kit_pass_rules.proofs.Located.{Located}
 use Rattle.kit_pass_rules.proofs.Walk.{OccurrenceOf, child_of}
@@ -26,7 +26,7 @@ use Rattle.opt_trees.specs.Facts.{Facts, EntriesRun}
 use Rattle.opt_trees.specs.Occurrences.{Has, occurrences_of}
 use Rattle.opt_trees.proofs.Lists.{some_same, none_some}
 
-module _ (leads : TypeHandle → Option KitType) (old : Value → Option TypeHandle) (t : KitTree) (good : IsGood leads old t)
+module _ (leads : TypeHandle → Option KitType) (old : Value → Option TypeHandle) (t : PassedTree) (good : IsGood leads old t)
     (test : Option TypeHandle → IntegerAttr → Bool) (tests : Tests leads test) (k : Facts by_handle IntegerAttr) where
   -- what is known rightly; of what is known wrongly nothing
   abbrev pub lower : Option TypeHandle → Known IntegerAttr → Known IntegerAttr

@@ -11,7 +11,7 @@ use Rattle.ir_program.specs.declared.handles.Value.{Value}
 use Rattle.ir_trees.specs.Stands.{StandsFor, defined_by}
 use Rattle.ir_trees.specs.Trees.{Defined}
 use Rattle.kit.specs.Meaning.{KitOperation, KitBlock}
-use Rattle.kit_pass_rules.specs.Worlds.{KitTree, AreApart, IsTypedIn}
+use Rattle.kit_pass_rules.specs.Worlds.{PassedTree, HandlesAreApart, IsTypedIn}
 use Rattle.kit_pass_rules.proofs.Lists.{map_at, has_at_index, index_of_has}
 use Rattle.kit_pass_rules.proofs.Walk.{BlockOf}
 use Rattle.opt_inside.specs.Occurring.{OfItsTree, EachFound, EachBlock, IsOccurrence, IsBlockOccurrence}
@@ -28,7 +28,7 @@ pub record Told (c : Program KitOperation KitBlock) (op : Ptr Operation) : Type 
   pub blocks_sound : OfItsTree c op (λ t. EachBlock t (IsBlockOccurrence c op))
   pub blocks_one : OfItsTree c op BlocksApart
 
-module _ (c : Program KitOperation KitBlock) (op : Ptr Operation) (told : Told c op) (t : KitTree) (s : StandsFor c op t) where
+module _ (c : Program KitOperation KitBlock) (op : Ptr Operation) (told : Told c op) (t : PassedTree) (s : StandsFor c op t) where
   -- a definition of an entity has its type
   defined_type : (e : DefiningEntity) (vs : List TypedValue) → values_at c e ≡ vs → (d : Defined Value TypeHandle) → Has d (map defined_by vs) → type_at c d.name ≡ Some d.holds
   defined_type e vs same d h =
@@ -78,5 +78,5 @@ module _ (c : Program KitOperation KitBlock) (op : Ptr Operation) (told : Told c
       let b : j ≡ st.index = st.once j (ap (λ e. value_in (values_at c e) j) dy ∙ vy) in
       (told.blocks_one t s x y hx hy (block_name v.definer x y dx dy), a ∙ sym b)
 
-  pub apart : AreApart t
+  pub apart : HandlesAreApart t
   apart = record { operations = told.one t s; blocks = told.blocks_one t s; arguments = arguments_apart }

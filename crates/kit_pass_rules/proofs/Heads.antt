@@ -19,7 +19,7 @@ use Rattle.kit_ops.specs.declared.kinds.KitOp.TheVariants as ops
 use Rattle.kit_ops.specs.declared.types.KitType.{KitType}
 use Rattle.kit_ops.specs.Keys as keys
 use Rattle.kit_ops.specs.Table.{has_interface}
-use Rattle.kit_pass_rules.specs.Worlds.{KitTree, kit_world}
+use Rattle.kit_pass_rules.specs.Worlds.{PassedTree, kit_world}
 use Rattle.kit_pass_rules.proofs.Thin.{thin_tree}
 use Rattle.opt_trees.specs.Dce.{Gone}
 use Rattle.opt_trees.proofs.Lists.{some_same, none_some}
@@ -35,7 +35,7 @@ dropped_lookup : (k : KitOp) (p : ℕ → Bool) (es : Entries) (key : List ℕ) 
 dropped_lookup ops.CondBr p es key q = changed_lookup es (without_operands p) key (attribute_at es keys.segment_sizes) q
 dropped_lookup k p es key q = refl
 
-module _ (leads : TypeHandle → Option KitType) (old new : Value → Option TypeHandle) (g : Gone by_handle) (u : KitTree) where
+module _ (leads : TypeHandle → Option KitType) (old new : Value → Option TypeHandle) (g : Gone by_handle) (u : PassedTree) where
   pub attribute_same : (key : List ℕ) → bytes_eq keys.segment_sizes key ≡ false → attribute_of (kit_world leads new) (thin_tree g u) key ≡ attribute_of (kit_world leads old) u key
   attribute_same key q = dropped_lookup u.head.content.kind (g.operand u.head.name) u.head.content.notes.attributes key q
 

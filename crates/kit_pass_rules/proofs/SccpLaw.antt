@@ -22,7 +22,7 @@ use Rattle.kit_ops.specs.contracts.attributes.IntegerAttrPartialEq.TheImpl as of
 use Rattle.kit_ops.specs.declared.attributes.IntegerAttr.{IntegerAttr}
 use Rattle.kit_ops.specs.declared.types.KitType.{KitType}
 use Rattle.kit_pass_rules.specs.Laws.{IsGood, SccpKeepsRules}
-use Rattle.kit_pass_rules.specs.Worlds.{KitTree, kit_world, IsTypedIn, ObeysIn}
+use Rattle.kit_pass_rules.specs.Worlds.{PassedTree, kit_world, IsTypedIn, ObeysIn}
 use Rattle.kit_pass_rules.proofs.DceCame.{KitSite}
 use Rattle.kit_pass_rules.proofs.FactsBranches.{branch_lower}
 use Rattle.kit_pass_rules.proofs.FactsClosed.{lower, lowered, entries_lowered, rule_here}
@@ -75,7 +75,7 @@ module _ (leads : TypeHandle → Option KitType) where
   tests_right : (ty : TypeHandle) (a : IntegerAttr) → test (Some ty) a ≡ true → Right leads ty a
   tests_right ty a e = let x : Tests leads test = tests in x.right ty a e
 
-  module _ (old : Value → Option TypeHandle) (t : KitTree) (good : IsGood leads old t) (k : Facts by_handle IntegerAttr) (best : IsMostPrecise kit t k) where
+  module _ (old : Value → Option TypeHandle) (t : PassedTree) (good : IsGood leads old t) (k : Facts by_handle IntegerAttr) (best : IsMostPrecise kit t k) where
     abbrev lowest : Facts by_handle IntegerAttr
     lowest = lowered leads old t good test tests k
 
@@ -153,7 +153,7 @@ module _ (leads : TypeHandle → Option KitType) where
     pub fits : (v : Value) (a : IntegerAttr) → Gets kit t k v a → Fits leads old v a
     fits v a g = fits_of v a g.known (⊎_elim (result_type v) (argument_type v) g.place)
 
-module _ (leads : TypeHandle → Option KitType) (old new : Value → Option TypeHandle) (t : KitTree) (good : IsGood leads old t)
+module _ (leads : TypeHandle → Option KitType) (old new : Value → Option TypeHandle) (t : PassedTree) (good : IsGood leads old t)
     (made : Value → Option IntegerAttr) (names : Maps (fresh by_handle) by_handle) (fit : (v : Value) (a : IntegerAttr) → made v ≡ Some a → Fits leads old v a)
     (typed : IsTypedIn new (q_tree made names t)) where
   all_kept : (r : Rule) (s : KitSite) → Comes leads old t good made names s → Keeps (kit_world leads new) r s

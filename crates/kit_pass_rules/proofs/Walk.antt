@@ -2,7 +2,7 @@
 use Rattle.std.proofs.Common.{◌≡◌, inl, inr, ℕ, zero, suc, true, List, [], ◌∷◌, ◌++◌, Some, None, slice_get, option_and_then, refl, sym, ap, ◌∙◌, subst}
 use Rattle.ir_trees.specs.Stands.{by_handle, in_program, ProgramTree}
 use Rattle.ir_trees.specs.Trees.{Operations, Blocks, Regions, end, operation, block, region}
-use Rattle.opt_trees.specs.Occurrences.{Has, Spot, Site as OccurrenceSite, Occurrence, BlockOccurrence, inner, next_block, next_region, occurrences_in, block_occurrences_in, occurrences_of, block_occurrences_of, at_root}
+use Rattle.opt_trees.specs.Occurrences.{Has, Spot, OperationSite as OccurrenceSite, Occurrence, BlockOccurrence, inner, next_block, next_region, occurrences_in, block_occurrences_in, occurrences_of, block_occurrences_of, at_root}
 use Rattle.opt_trees.proofs.Lists.{some_same, none_some}
 use Rattle.opt_trees.proofs.NoneDead.{has-left, has-right}
 use Rattle.kit_checks.specs.Sites.{Listed, Body, Site, operation_list, block_list, region_list, site_from, site_at}

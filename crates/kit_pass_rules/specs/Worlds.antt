@@ -14,8 +14,8 @@ use Rattle.kit_checks.specs.declared.rule.Rule.{Rule}
 use Rattle.kit_ops.specs.declared.types.KitType.{KitType}
 
 -- a tree of operations of the dialect, by their handles
-abbrev pub KitTree : Type 0
-KitTree = ProgramTree KitOperation KitBlock
+abbrev pub PassedTree : Type 0
+PassedTree = ProgramTree KitOperation KitBlock
 
 -- the world in which handles lead to these types, and values have these types
 abbrev pub kit_world : (TypeHandle → Option KitType) → (Value → Option TypeHandle) → World KitOperation KitBlock
@@ -28,7 +28,7 @@ kit_world leads typed = record {
 }
 
 -- each value that is defined in the tree has the type that is said of it there
-pub record IsTypedIn (typed : Value → Option TypeHandle) (t : KitTree) : Type 0 where
+pub record IsTypedIn (typed : Value → Option TypeHandle) (t : PassedTree) : Type 0 where
   pub results : (o : Occurrence by_handle (in_program KitOperation KitBlock)) → Has o (occurrences_of t) →
       (d : Defined Value TypeHandle) → Has d o.head.results → typed d.name ≡ Some d.holds
   pub arguments : (b : BlockOccurrence by_handle (in_program KitOperation KitBlock)) →
@@ -36,11 +36,11 @@ pub record IsTypedIn (typed : Value → Option TypeHandle) (t : KitTree) : Type 
       typed d.name ≡ Some d.holds
 
 -- operations, blocks and arguments below the root have handles of their own
-pub record AreApart (t : KitTree) : Type 0 where
+pub record HandlesAreApart (t : PassedTree) : Type 0 where
   pub operations : OperationsApart t
   pub blocks : BlocksApart t
   pub arguments : ArgumentsApart t
 
 -- each operation of the tree keeps each of the fourteen rules
-abbrev pub ObeysIn : World KitOperation KitBlock → KitTree → Type 0
+abbrev pub ObeysIn : World KitOperation KitBlock → PassedTree → Type 0
 ObeysIn w t = (r : Rule) → KeptEverywhere w t r

@@ -3,7 +3,7 @@ use Rattle.ir_program.specs.declared.handles.Operation.{Operation}
 use Rattle.ir_program.specs.declared.handles.Ptr.{Ptr}
 use Rattle.ir_program.specs.declared.handles.Value.{Value}
 use Rattle.ir_trees.specs.Stands.{by_handle, StandsFor}
-use Rattle.opt_trees.specs.Dce.{Around}
+use Rattle.opt_trees.specs.Dce.{TreeSurroundings}
 use Rattle.opt_trees.specs.Occurrences.{Has, defined_in}
 use Rattle.opt_dialect.specs.declared.status.IRStatus.{IRStatus}
 use Rattle.opt_inside.specs.Around.{IsTakenOutside, SaysAround}
@@ -29,5 +29,5 @@ RemovedStandAlone = (old new : KitProgram) (root : Ptr Operation) (status : IRSt
 -- what simplification of control flow leaves is the simplified tree, under other names of operations that are kept apart
 abbrev pub SimplifiedStandAlone : Type 0
 SimplifiedStandAlone = (old new : KitProgram) (root : Ptr Operation) (t : KitTree) →
-    ((w : Around by_handle IntegerAttr) → SaysAround kit old root w → KnowsConstants w t) →
+    ((w : TreeSurroundings by_handle IntegerAttr) → SaysAround kit old root w → KnowsConstants w t) →
     SimplifiesTree kit old new root t → (u : KitTree) × StandsFor new root u × IsSimplifiedAlone t u

@@ -13,13 +13,13 @@ use Rattle.ir_trees.specs.Searched.{Lists}
 use Rattle.kit_ops.specs.declared.kinds.Arithmetic.{Arithmetic}
 use Rattle.kit_ops.specs.declared.kinds.Arithmetic.TheVariants as arithmetic
 use Rattle.kit_flat.specs.Machine as machine
-use Rattle.kit_interpreter.specs.Store.{KitContext, body_of, module_code}
+use Rattle.kit_interpreter.specs.Store.{InterpretedContext, body_of, module_code}
 use Rattle.kit_execution.proofs.Safe.{IsCallee}
 use Rattle.kit_ruled_views.proofs.HandleSameness.{values_apart}
 use Rattle.kit_program_runs.proofs.Lockstep.{SeenOp, SeenEdge, SeenFrame, SeenState, InRange, NextInRange}
 
 abbrev SeenEffect : Type 0
-SeenEffect = machine.Effect Value (Ptr BasicBlock) (Ptr Operation)
+SeenEffect = machine.MachineEffect Value (Ptr BasicBlock) (Ptr Operation)
 
 bit_small : (b : Bool) (w : ℕ) → 1 ≤ w → machine.bit b < 2 ^ w
 bit_small b zero h = absurd (omega (arith, h))
@@ -48,7 +48,7 @@ result_small arithmetic.Mul w x y n h e =
     subst (λ k. k < 2 ^ w) is (mod-lt (x * y) (pow_pos w))
 result_small arithmetic.Div w x y n h e = quotient_small x y w n h e
 
-module _ (s : KitContext) (m : Ptr Operation) (bits : Value → ℕ) (outs : Ptr Operation → List ℕ) where
+module _ (s : InterpretedContext) (m : Ptr Operation) (bits : Value → ℕ) (outs : Ptr Operation → List ℕ) where
   abbrev code : machine.Code Value (Ptr BasicBlock) (Ptr Operation)
   code = module_code s m
 

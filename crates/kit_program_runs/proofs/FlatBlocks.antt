@@ -16,14 +16,14 @@ use Rattle.ir_trees.specs.Trees.{Operations, Blocks}
 use Rattle.kit_behaviour.specs.Machine as flat
 use Rattle.kit_behaviour.specs.Rules.{AllEdgesFit}
 use Rattle.kit_checks.specs.Sites.{Listed, region_list}
-use Rattle.kit_execution.specs.Obeying.{KitTree}
+use Rattle.kit_execution.specs.Obeying.{ExecutedTree}
 use Rattle.kit_execution.proofs.Bodies.{KitBlocks, body_tree}
 use Rattle.kit_flat.specs.Machine as machine
 use Rattle.kit_interpreter.specs.Lowering.{CanRun}
 use Rattle.kit_interpreter.specs.Numbers.{values_of}
-use Rattle.kit_interpreter.specs.Store.{KitData, KitNotes, KitContext, body_of, op_at, block_seen, module_code}
+use Rattle.kit_interpreter.specs.Store.{KitData, KitNotes, InterpretedContext, body_of, op_at, block_seen, module_code}
 use Rattle.kit_interpreter.specs.Store.{function_named}
-use Rattle.kit_views.specs.FlatView.{AreOps, AreBlocks, IsFlat, names_in}
+use Rattle.kit_views.specs.FlatView.{AreOps, AreFlatBlocks, FlattensTo, names_in}
 use Rattle.kit_views.specs.Reading.{Reading, kit_contents, kit_reading}
 use Rattle.kit_program_runs.proofs.FlatOperations.{op_seen}
 use Rattle.kit_program_runs.proofs.Lockstep.{FlatOp, SeenOp, Names, seen, IsSeenAs}
@@ -45,13 +45,13 @@ edges_from f None i h = tt
 edges_from f (Some b) i h = edges_dropped f b.ops i h
 
 -- the tree lists these blocks
-names_are : (s : KitContext) (bs : List (Ptr BasicBlock)) (tree : KitBlocks) → AreTree s.program Blocks bs tree →
+names_are : (s : InterpretedContext) (bs : List (Ptr BasicBlock)) (tree : KitBlocks) → AreTree s.program Blocks bs tree →
     names_in tree ≡ bs
 names_are s _ _ AreTree.no_blocks = refl
 names_are s _ _ (AreTree.first_block b bs v os rest there inside behind) =
     ap (λ l. b ∷ l) (names_are s bs rest behind)
 
-module _ (s : KitContext) (m : Ptr Operation) (blocks : List (Ptr BasicBlock)) (named : Names) (numbered : List ℕ → ℕ)
+module _ (s : InterpretedContext) (m : Ptr Operation) (blocks : List (Ptr BasicBlock)) (named : Names) (numbered : List ℕ → ℕ)
     (agree : (text : List ℕ) → named (numbered text) ≡ function_named s.program m text) where
   abbrev reading : Reading kit_contents
   reading = kit_reading (key_at s.types) numbered
@@ -69,7 +69,7 @@ module _ (s : KitContext) (m : Ptr Operation) (blocks : List (Ptr BasicBlock)) (
   ops_seen _ _ AreTree.no_operations (f ∷ fs) are executes = absurd are
   ops_seen _ _ (AreTree.first_operation p ps v rs rest there inside behind) [] are executes = absurd are
   ops_seen _ _ (AreTree.first_operation p ps v rs rest there inside behind) (f ∷ fs) are executes =
-      let tree : KitTree = record { head = head_of p v; regions = rs } in
+      let tree : ExecutedTree = record { head = head_of p v; regions = rs } in
       let first : op_at s m p ≡ see f =
       op_seen s m p tree (record { view = v; there = there; head = refl; regions = inside }) blocks named numbered agree
       (executes p (0, refl)) f are.1 in
@@ -83,7 +83,7 @@ module _ (s : KitContext) (m : Ptr Operation) (blocks : List (Ptr BasicBlock)) (
         ≡ map see (flat.ops_left o i)
 
   blocks_seen : (bs : List (Ptr BasicBlock)) (tree : KitBlocks) → AreTree s.program Blocks bs tree →
-      (ks : flat.Fun Value) → AreBlocks reading blocks tree ks →
+      (ks : flat.Fun Value) → AreFlatBlocks reading blocks tree ks →
       ((b : Ptr BasicBlock) (q : Ptr Operation) → Lists bs b → Lists (operations_in s.program b) q →
       op_at s m q ≢ machine.Other) → (j : ℕ) (b : Ptr BasicBlock) → slice_get bs j ≡ Some b →
       IsBlockSeenAs b (slice_get ks j)
@@ -106,22 +106,22 @@ module _ (s : KitContext) (m : Ptr Operation) (blocks : List (Ptr BasicBlock)) (
       blocks_seen bs rest behind ks are.2 (λ d q l. executes d q (suc l.0, l.1)) j b at
 
   as_many : (bs : List (Ptr BasicBlock)) (tree : KitBlocks) → AreTree s.program Blocks bs tree →
-      (ks : flat.Fun Value) → AreBlocks reading blocks tree ks → length ks ≡ length bs
+      (ks : flat.Fun Value) → AreFlatBlocks reading blocks tree ks → length ks ≡ length bs
   as_many _ _ AreTree.no_blocks [] are = refl
   as_many _ _ AreTree.no_blocks (k ∷ ks) are = absurd are
   as_many _ _ (AreTree.first_block c bs v os rest there inside behind) [] are = absurd are
   as_many _ _ (AreTree.first_block c bs v os rest there inside behind) (k ∷ ks) are =
       ap suc (as_many bs rest behind ks are.2)
 
-module _ (s : KitContext) (m : Ptr Operation) (named : Names) (numbered : List ℕ → ℕ)
+module _ (s : InterpretedContext) (m : Ptr Operation) (named : Names) (numbered : List ℕ → ℕ)
     (agree : (text : List ℕ) → named (numbered text) ≡ function_named s.program m text) (f : Ptr Operation)
-    (u : KitTree) (stands : StandsFor s.program f u) (k : flat.Fun Value)
-    (view : IsFlat (kit_reading (key_at s.types) numbered) u k) (runs : CanRun s m f) where
+    (u : ExecutedTree) (stands : StandsFor s.program f u) (k : flat.Fun Value)
+    (view : FlattensTo (kit_reading (key_at s.types) numbered) u k) (runs : CanRun s m f) where
   tree : AreTree s.program Blocks (body_of s.program f) view.view.blocks
   tree = body_tree s.program f u view.view.blocks stands (ap (λ rs. slice_get (region_list rs) 0) view.view.region)
 
-  are : AreBlocks (kit_reading (key_at s.types) numbered) (body_of s.program f) view.view.blocks k
-  are = subst (λ bs. AreBlocks (kit_reading (key_at s.types) numbered) bs view.view.blocks k)
+  are : AreFlatBlocks (kit_reading (key_at s.types) numbered) (body_of s.program f) view.view.blocks k
+  are = subst (λ bs. AreFlatBlocks (kit_reading (key_at s.types) numbered) bs view.view.blocks k)
       (names_are s (body_of s.program f) view.view.blocks tree) view.view.are
 
   at_block : (j : ℕ) (b : Ptr BasicBlock) → slice_get (body_of s.program f) j ≡ Some b →

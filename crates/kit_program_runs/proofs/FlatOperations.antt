@@ -31,13 +31,13 @@ use Rattle.kit.specs.Meaning.{sizes_in}
 use Rattle.kit_behaviour.specs.Machine as flat
 use Rattle.kit_checks.specs.Words as words
 use Rattle.kit_checks.proofs.Trees.{result_types, operands_are, successors_are}
-use Rattle.kit_execution.specs.Obeying.{KitTree}
+use Rattle.kit_execution.specs.Obeying.{ExecutedTree}
 use Rattle.kit_execution.proofs.Values.{result_values}
 use Rattle.kit_execution.proofs.Words.{KitOperationNotes, tree_attribute, payload_is}
 use Rattle.kit_flat.specs.Forms.{Calculate, Call}
 use Rattle.kit_flat.specs.Machine as machine
 use Rattle.kit_interpreter.specs.Numbers.{block_with}
-use Rattle.kit_interpreter.specs.Store.{KitData, KitContext, width_of, width_at, constant_form, by_sizes}
+use Rattle.kit_interpreter.specs.Store.{KitData, InterpretedContext, width_of, width_at, constant_form, by_sizes}
 use Rattle.kit_interpreter.specs.Store.{conditional_form, call_form, form_of, form_at, op_if, op_at, function_named}
 use Rattle.kit_views.specs.FlatView.{IsOf, IsOp}
 use Rattle.kit_views.specs.Reading.{kit_reading, number_in, named_in, integer_of}
@@ -150,7 +150,7 @@ module _ (x : Value) (one two : List Value) (b d : Ptr BasicBlock) where
 
 -- ---- operations
 
-module _ (s : KitContext) (m q : Ptr Operation) (u : KitTree) (stands : StandsFor s.program q u) where
+module _ (s : InterpretedContext) (m q : Ptr Operation) (u : ExecutedTree) (stands : StandsFor s.program q u) where
   abbrev first_width : Option ℕ
   first_width = option_and_then (width_at s) (type_in (results_at s.program q) 0)
 

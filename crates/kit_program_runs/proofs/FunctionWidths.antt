@@ -26,13 +26,13 @@ use Rattle.kit_ops.specs.declared.kinds.KitOp.TheVariants as ops
 use Rattle.kit.specs.Meaning.{KitOperation, KitBlock, kit}
 use Rattle.kit_behaviour.specs.Facts.{all_forwarded}
 use Rattle.kit_behaviour.specs.Machine as flat
-use Rattle.kit_behaviour.specs.Rules.{EdgeFits, EdgesFit, AllEdgesFit}
+use Rattle.kit_behaviour.specs.Rules.{EdgeFits, EdgesOfOpFit, AllEdgesFit}
 use Rattle.kit_behaviour.specs.Scopes.{SameLength}
 use Rattle.kit_execution.proofs.Bodies.{KitBlocks}
 use Rattle.kit_execution.proofs.Safe.{IsCallee}
 use Rattle.kit_flat.specs.Machine as machine
 use Rattle.kit_interpreter.specs.Numbers.{block_with}
-use Rattle.kit_interpreter.specs.Store.{KitContext, body_of}
+use Rattle.kit_interpreter.specs.Store.{InterpretedContext, body_of}
 use Rattle.kit_ruled_views.specs.Ruled.{type_or_first}
 use Rattle.kit_views.specs.FlatView.{IsOf, IsOp, names_in}
 use Rattle.kit_views.specs.Reading.{Reading, kit_contents, kit_reading, number_in, integer_of}
@@ -49,7 +49,7 @@ dropped_has [] (suc i) x rest e = absurd (cc e)
 dropped_has (y ∷ ys) zero x rest e = let same : x ≡ y = cc e in inl same
 dropped_has (y ∷ ys) (suc i) x rest e = inr (dropped_has ys i x rest e)
 
-module _ (s : KitContext) where
+module _ (s : InterpretedContext) where
   -- the type and the width of a value
   abbrev pub type_of : Value → TypeHandle
   type_of = type_or_first (type_at s.program)
@@ -191,7 +191,7 @@ module _ (s : KitContext) where
         call_typed rs xs is None found = tt
         call_typed rs xs is (Some h) found = calls o stands rs xs is h found
 
-        op_typed : (p : FlatOp) → IsOp reading (names_in bs) o.head p → EdgesFit (Some k) p →
+        op_typed : (p : FlatOp) → IsOp reading (names_in bs) o.head p → EdgesOfOpFit (Some k) p →
             OpTyped s m bits outs g (see p)
         op_typed (flat.Const v n) is fit = constant v n is.0 is.1
         op_typed (flat.Calc flat.Add w v x y) is fit = arithmetic_typed arithmetic.Add w v x y is.0 is.1

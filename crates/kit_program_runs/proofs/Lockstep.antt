@@ -14,10 +14,10 @@ use Rattle.kit_ops.specs.declared.kinds.Arithmetic.TheVariants as arithmetic
 use Rattle.kit_ops.specs.declared.kinds.Comparison.TheVariants as comparison
 use Rattle.kit_behaviour.specs.Machine as flat
 use Rattle.kit_behaviour.specs.Rules.{EdgeFits, AllEdgesFit}
-use Rattle.kit_execution.specs.Moving.{IsDone, Moves}
+use Rattle.kit_execution.specs.Moving.{HasExecuted, Moves}
 use Rattle.kit_flat.specs.Machine as machine
 use Rattle.kit_interpreter.specs.Numbers.{block_with}
-use Rattle.kit_interpreter.specs.Store.{KitContext, body_of, module_code}
+use Rattle.kit_interpreter.specs.Store.{InterpretedContext, body_of, module_code}
 use Rattle.kit_program_runs.specs.Outcomes.{SameOutcome}
 
 -- ---- operations
@@ -27,10 +27,10 @@ abbrev pub FlatOp : Type 0
 FlatOp = flat.Op Value
 
 abbrev pub SeenOp : Type 0
-SeenOp = machine.Op Value (Ptr BasicBlock) (Ptr Operation)
+SeenOp = machine.MachineOp Value (Ptr BasicBlock) (Ptr Operation)
 
 abbrev pub SeenEdge : Type 0
-SeenEdge = machine.Edge Value (Ptr BasicBlock)
+SeenEdge = machine.MachineEdge Value (Ptr BasicBlock)
 
 abbrev pub Names : Type 0
 Names = ℕ → Option (Ptr Operation)
@@ -108,17 +108,17 @@ bind_same env (v ∷ vs) (n ∷ ns) = bind_same (flat.bind same_value env v n) v
 -- ---- states
 
 abbrev pub SeenFrame : Type 0
-SeenFrame = machine.Frame Value (Ptr BasicBlock) (Ptr Operation)
+SeenFrame = machine.MachineFrame Value (Ptr BasicBlock) (Ptr Operation)
 
 abbrev pub SeenState : Type 0
-SeenState = machine.State Value (Ptr BasicBlock) (Ptr Operation)
+SeenState = machine.MachineState Value (Ptr BasicBlock) (Ptr Operation)
 
 -- what a difference takes away is in the range of its width
 abbrev pub InRange : (Value → ℕ) → List SeenOp → Type 0
 InRange numbers (machine.Calculate arithmetic.Sub w r x y ∷ rest) = numbers y < 2 ^ w
 InRange numbers _ = Unit {0}
 
-module _ (s : KitContext) (m : Ptr Operation) where
+module _ (s : InterpretedContext) (m : Ptr Operation) where
   abbrev code : machine.Code Value (Ptr BasicBlock) (Ptr Operation)
   code = module_code s m
 
@@ -141,7 +141,7 @@ module _ (s : KitContext) (m : Ptr Operation) where
           (flat.left_in fun j i)
       pub edges : (j i : ℕ) → AllEdgesFit fun (flat.left_in fun j i)
 
-    module _ (q : flat.Program Value) (within : List ℕ)
+    module _ (q : flat.FunctionsByPath Value) (within : List ℕ)
         (views : (name : ℕ) (function : Ptr Operation) → named name ≡ Some function →
         IsSeenAs function (q (name ∷ within))) where
       -- a frame of both machines
@@ -260,7 +260,7 @@ module _ (s : KitContext) (m : Ptr Operation) where
           }
 
       module _ (p : Both) (ps : List Both) (out : List ℕ) where
-        abbrev Goes : machine.Effect Value (Ptr BasicBlock) (Ptr Operation) → flat.Effect Value → Type 0
+        abbrev Goes : machine.MachineEffect Value (Ptr BasicBlock) (Ptr Operation) → flat.Effect Value → Type 0
         Goes x y = InStep (machine.after same_value code (left p) (map left ps) out x)
             (flat.done same_value q (right p) (map right ps) out y)
 
@@ -310,7 +310,7 @@ module _ (s : KitContext) (m : Ptr Operation) where
             }
 
         call_goes : (o : Option (Ptr Operation)) (c : ℕ) → named c ≡ o → (xs : List ℕ) →
-            IsDone same_value code (machine.called o xs) → Goes (machine.called o xs) (flat.Enter c xs)
+            HasExecuted same_value code (machine.called o xs) → Goes (machine.called o xs) (flat.Enter c xs)
         call_goes None c is xs done = absurd done
         call_goes (Some h) c is xs done = record {
           both = Runs (entering h c is xs) (p ∷ ps) out;
@@ -331,11 +331,11 @@ module _ (s : KitContext) (m : Ptr Operation) where
         fork_more zero ns = refl
         fork_more (suc n) ns = refl
 
-        abbrev SeenAct : List FlatOp → machine.Effect Value (Ptr BasicBlock) (Ptr Operation)
+        abbrev SeenAct : List FlatOp → machine.MachineEffect Value (Ptr BasicBlock) (Ptr Operation)
         SeenAct ops = machine.effect same_value code (left p) (map (seen (blocks_of p) named) ops)
 
         op_goes : (ops : List FlatOp) → AllEdgesFit (fun_of p) ops →
-            InRange p.env (map (seen (blocks_of p) named) ops) → IsDone same_value code (SeenAct ops) →
+            InRange p.env (map (seen (blocks_of p) named) ops) → HasExecuted same_value code (SeenAct ops) →
             Goes (SeenAct ops) (flat.effect same_value (fun_of p) (right p) ops)
         op_goes [] fit range done = absurd done
         op_goes (flat.Const r n ∷ ops) fit range done = result_goes r (Some n)
@@ -388,7 +388,7 @@ module _ (s : KitContext) (m : Ptr Operation) where
           (flat.done same_value q (right p) (map right ps) out (flat.act same_value q (right p)))) (sym rest)
           (op_goes p ps out (rest_of p) ((views p.name p.function p.is).edges p.number p.index)
           (subst (InRange p.env) rest range)
-          (subst (λ os. IsDone same_value code (machine.effect same_value code (left p) os)) rest moves))
+          (subst (λ os. HasExecuted same_value code (machine.effect same_value code (left p) os)) rest moves))
       step_goes (Ends values out) moves range = record { both = Ends values out; left_is = refl; right_is = refl }
       step_goes (Faults out) moves range = record { both = Faults out; left_is = refl; right_is = refl }
 

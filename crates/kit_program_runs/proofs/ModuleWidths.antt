@@ -40,7 +40,7 @@ use Rattle.kit_checks.specs.Words as words
 use Rattle.kit_checks.specs.Words.{members_of, entry_of, first_module, first_body}
 use Rattle.kit_checks.specs.World.{World, world_of}
 use Rattle.kit_checks.proofs.Down.{both, step_to, block_listed}
-use Rattle.kit_execution.specs.Obeying.{KitTree}
+use Rattle.kit_execution.specs.Obeying.{ExecutedTree}
 use Rattle.kit_execution.proofs.Bodies.{KitBlocks, KitBody, KitSite, AreFirst, body_tree, IsModuleBody}
 use Rattle.kit_execution.proofs.First.{first_passes}
 use Rattle.kit_execution.proofs.Functions.{keeps, IsModuleAt, body, member}
@@ -49,9 +49,9 @@ use Rattle.kit_execution.proofs.Safe.{IsCallee}
 use Rattle.kit_execution.proofs.Words.{tree_attribute, attribute_is, function_kind, module_kind}
 use Rattle.kit_flat.specs.Machine as machine
 use Rattle.kit_interpreter.specs.Numbers.{values_of}
-use Rattle.kit_interpreter.specs.Running.{IsBelow, Takes}
+use Rattle.kit_interpreter.specs.Running.{FitsWidth, TakesNumbers}
 use Rattle.kit_interpreter.specs.Store as store
-use Rattle.kit_interpreter.specs.Store.{KitData, KitNotes, KitContext, width_at, attribute_of, body_of, block_seen}
+use Rattle.kit_interpreter.specs.Store.{KitData, KitNotes, InterpretedContext, width_at, attribute_of, body_of, block_seen}
 use Rattle.kit_interpreter.specs.Store.{members, function_named, module_named, is_function_named}
 use Rattle.kit_interpreter.specs.declared.executing.Place.{Place}
 use Rattle.kit_interpreter.proofs.Located.{first_listed}
@@ -61,7 +61,7 @@ use Rattle.kit_ruled_views.proofs.FunctionParts.{OpPlace, argument_defined}
 use Rattle.kit_ruled_views.proofs.FunctionSites.{KitAround, inner_around}
 use Rattle.kit_views.specs.FlatView.{IsOf, names_in}
 use Rattle.kit_views.specs.Reading.{Reading, kit_contents, kit_reading, named_in, integer_of}
-use Rattle.kit_views.specs.Typed.{IsTyped, IsInteger}
+use Rattle.kit_views.specs.Typed.{IsTyped, IsMachineInteger}
 use Rattle.kit_program_runs.proofs.FittingNumbers.{EntryTyped, AllBelow, taken_by}
 use Rattle.kit_program_runs.proofs.FunctionWidths.{type_of, width_of, bits}
 use Rattle.kit_program_runs.proofs.Lockstep.{Names}
@@ -89,7 +89,7 @@ named_has d (e ∷ ds) has = ⊎_elim
 
 -- ---- widths
 
-module _ (s : KitContext) where
+module _ (s : InterpretedContext) where
   -- the widths of what a function of a type gives
   abbrev out_widths : Option FunctionType → List ℕ
   out_widths None = []
@@ -103,7 +103,7 @@ module _ (s : KitContext) where
   abbrev pub outs : Ptr Operation → List ℕ
   outs g = out_widths (type_said g)
 
-  said_is : (g : Ptr Operation) (u : KitTree) → StandsFor s.program g u →
+  said_is : (g : Ptr Operation) (u : ExecutedTree) → StandsFor s.program g u →
       type_said g ≡ words.signature (world_of s) u
   said_is g u stands = ap (λ (o : Option KitAttr). option_and_then (words.function_type (world_of s))
       (option_and_then words.type_in o)) (attribute_is s.program g u stands FUNCTION_TYPE.now)
@@ -154,7 +154,7 @@ entry_occurs (region (block l os more) rest) c body h =
       ap (λ (b : KitBody). b.label) same,
     )
 
-module _ (s : KitContext) (t : KitTree) (obeys : (r : Rule) → KeptEverywhere (world_of s) t r) where
+module _ (s : InterpretedContext) (t : ExecutedTree) (obeys : (r : Rule) → KeptEverywhere (world_of s) t r) where
   -- ---- the site of a module that a path leads into
 
   inner_module : (m : Ptr Operation) (x : KitSite) → IsModuleAt s t obeys m x → (name : List ℕ) (k : Ptr Operation) →
@@ -203,7 +203,7 @@ module _ (s : KitContext) (t : KitTree) (obeys : (r : Rule) → KeptEverywhere (
     -- a function among the members
     pub record IsMember (name : List ℕ) (f : Ptr Operation) : Type 0 where
       pub index : ℕ
-      pub op : KitTree
+      pub op : ExecutedTree
       pub here : slice_get (operation_list own.body.operations) index ≡ Some op
       pub stands : StandsFor s.program f op
       pub kind : op.head.content.kind ≡ ops.Func
@@ -229,10 +229,10 @@ module _ (s : KitContext) (t : KitTree) (obeys : (r : Rule) → KeptEverywhere (
         }
 
     -- a member, at its site
-    abbrev site_of : ℕ → KitTree → KitSite
+    abbrev site_of : ℕ → ExecutedTree → KitSite
     site_of k u = step_to x (outer_if x.around) own.blocks 0 own.body k u
 
-    pub site_reached : (k : ℕ) (u : KitTree) → slice_get (operation_list own.body.operations) k ≡ Some u →
+    pub site_reached : (k : ℕ) (u : ExecutedTree) → slice_get (operation_list own.body.operations) k ≡ Some u →
         IsReached t (site_of k u)
     site_reached k u here =
         step_reached t x at.seen.reached 0 0 k own.blocks own.body u own.first own.block_here here
@@ -249,11 +249,11 @@ module _ (s : KitContext) (t : KitTree) (obeys : (r : Rule) → KeptEverywhere (
       function = it.kind;
     }
 
-    abbrev HasName : KitTree → List ℕ → Type 0
+    abbrev HasName : ExecutedTree → List ℕ → Type 0
     HasName u name = words.symbol_name (world_of s) u ≡ Some name
 
     -- no earlier member has the name of a later one
-    not_before : (j k : ℕ) (u w : KitTree) (name : List ℕ) → j < k →
+    not_before : (j k : ℕ) (u w : ExecutedTree) (name : List ℕ) → j < k →
         slice_get (operation_list own.body.operations) j ≡ Some u →
         slice_get (operation_list own.body.operations) k ≡ Some w → HasName u name → HasName w name → ⊥
     not_before j k u w name less hj hk one two =
@@ -267,7 +267,7 @@ module _ (s : KitContext) (t : KitTree) (obeys : (r : Rule) → KeptEverywhere (
           index = k;
         }) (refl, at.kind) j u name less hj one two
 
-    one_named : (j k : ℕ) (u w : KitTree) (name : List ℕ) →
+    one_named : (j k : ℕ) (u w : ExecutedTree) (name : List ℕ) →
         slice_get (operation_list own.body.operations) j ≡ Some u →
         slice_get (operation_list own.body.operations) k ≡ Some w → HasName u name → HasName w name → u ≡ w
     one_named j k u w name hj hk one two =
@@ -330,7 +330,7 @@ module _ (s : KitContext) (t : KitTree) (obeys : (r : Rule) → KeptEverywhere (
     module _ (numbered : List ℕ → ℕ) (named : Names)
         (agree : (text : List ℕ) → named (numbered text) ≡ function_named s.program m text)
         (all_typed : (name : List ℕ) (f : Ptr Operation) → function_named s.program m name ≡ Some f →
-        (u : KitTree) → StandsFor s.program f u → IsTyped (key_at s.types) {N = by_handle} (type_of s) u)
+        (u : ExecutedTree) → StandsFor s.program f u → IsTyped (key_at s.types) {N = by_handle} (type_of s) u)
         (name : List ℕ) (f : Ptr Operation) (is : function_named s.program m name ≡ Some f) (it : IsMember name f)
         (bs : KitBlocks) (region_is : it.op.regions ≡ region bs end) where
       abbrev reading : Reading kit_contents
@@ -381,9 +381,9 @@ module _ (s : KitContext) (t : KitTree) (obeys : (r : Rule) → KeptEverywhere (
             let c : CallsFunction world place.op around = subst (CallsFunction world place.op) same call.2 in
             let scope : c.scope ≡ x.op = sym (same_Some x.op c.scope (sym nearest_is ∙ c.nearest)) in
             let listed : Lists (members_of x.op) c.function =
-            subst (λ (u : KitTree). Lists (members_of u) c.function) scope c.member in
+            subst (λ (u : ExecutedTree). Lists (members_of u) c.function) scope c.member in
             let here : slice_get (operation_list own.body.operations) listed.0 ≡ Some c.function =
-            ap (λ (us : List KitTree). slice_get us listed.0)
+            ap (λ (us : List ExecutedTree). slice_get us listed.0)
             (sym (own.all ∙ append-nil (operation_list own.body.operations))) ∙ listed.1 in
             let number : reading.callee o.head.content ≡ numbered c.name =
             ap (λ (g : ProgramHead KitOperation KitBlock). reading.callee g.content) (sym place.head)
@@ -439,7 +439,7 @@ module _ (s : KitContext) (t : KitTree) (obeys : (r : Rule) → KeptEverywhere (
           region_is) ∙ (function_body name f is it typed).has_entry
 
       small : (d : Defined Value TypeHandle) → Has d entry.label.arguments → (n : ℕ) →
-          IsBelow n (width_at s d.holds) → n < 2 ^ bits s d.name
+          FitsWidth n (width_at s d.holds) → n < 2 ^ bits s d.name
       small d has n below =
           let x = entry_occurs it.op.regions (at_root it.op) entry (function_body name f is it typed).has_entry in
           let own_type : type_of s d.name ≡ d.holds = typed.arguments x.0 x.1 d
@@ -448,17 +448,17 @@ module _ (s : KitContext) (t : KitTree) (obeys : (r : Rule) → KeptEverywhere (
           subst (λ (rs : Listed KitData KitNotes Regions). Has d.name (defined_in rs)) (sym region_is)
           (has-left d.name (defined_in bs) []
           (argument_defined bs 0 entry d.name first_block (named_has d entry.label.arguments has))) in
-          let integer = subst (λ (h : TypeHandle). IsInteger (key_at s.types) h) own_type
+          let integer = subst (λ (h : TypeHandle). IsMachineInteger (key_at s.types) h) own_type
           (typed.integers d.name defined) in
           let wide : width_at s d.holds ≡ Some integer.0.width = ap store.width_of integer.1
           ∙ ap (λ b. if b then Some integer.0.width else None) (le-leb integer.0.width 64 integer.3) in
           let same : integer.0.width ≡ bits s d.name =
           sym (ap (λ (o : Option KitType). (integer_of o).width) integer.1) ∙ ap (width_of s) (sym own_type) in
-          subst (λ k. n < 2 ^ k) same (subst (IsBelow n) wide below)
+          subst (λ k. n < 2 ^ k) same (subst (FitsWidth n) wide below)
 
       all_small : (ts : List TypedValue) (xs : List ℕ) →
           ((i n : ℕ) (v : TypedValue) → slice_get xs i ≡ Some n → slice_get ts i ≡ Some v →
-          IsBelow n (width_at s v.ty)) →
+          FitsWidth n (width_at s v.ty)) →
           ((d : Defined Value TypeHandle) → Has d (map defined_by ts) → Has d entry.label.arguments) →
           AllBelow s m (bits s) (outs s) (values_of ts) xs
       all_small [] xs below inside = tt
@@ -475,7 +475,7 @@ module _ (s : KitContext) (t : KitTree) (obeys : (r : Rule) → KeptEverywhere (
       arguments_seen b (Some v) e = refl
 
       -- numbers that it takes are in the range of its arguments
-      pub taken_small : (xs : List ℕ) → Takes s f xs → (b : Ptr BasicBlock) →
+      pub taken_small : (xs : List ℕ) → TakesNumbers s f xs → (b : Ptr BasicBlock) →
           slice_get (body_of s.program f) 0 ≡ Some b →
           AllBelow s m (bits s) (outs s) (taken_by s m (bits s) (outs s) f b) xs
       taken_small xs takes b at_entry =

@@ -2,7 +2,7 @@
 use Rattle.std.proofs.Common.{◌≡◌, ℕ, ◌+◌, ◌-◌, ◌*◌, ◌≤◌, Bool, List, [], ◌∷◌, ◌++◌, length, refl, sym, ap, ◌∙◌, subst}
 use Rattle.std.proofs.Common.{arith}
 use Rattle.std.proofs.lemmas.List.{append-nil, length-append}
-use Rattle.kit_behaviour.specs.Machine.{Frame, State, Going, Ended, Trapped, Program, run, start, out_of, IsPrefixOf}
+use Rattle.kit_behaviour.specs.Machine.{Frame, State, Going, Ended, Trapped, FunctionsByPath, run, start, out_of, IsPrefixOf}
 use Rattle.kit_behaviour.specs.Machine.{Shown, Alike}
 use Rattle.kit_behaviour.proofs.Behaviour.RunLemmas.{run-add, ended_stays, trapped_stays, run_out, prefix_trans}
 use Rattle.kit_flat.specs.Machine as machine
@@ -16,7 +16,7 @@ BothSame (Trapped out) (Trapped emissions) = out ≡ emissions
 BothSame _ _ = ⊥
 
 -- one after the other
-pub outcome_on : {V B F U W : Type 0} (x : machine.State V B F) (y : State U) (z : State W) → SameOutcome x y →
+pub outcome_on : {V B F U W : Type 0} (x : machine.MachineState V B F) (y : State U) (z : State W) → SameOutcome x y →
     BothSame y z → SameOutcome x z
 outcome_on (machine.Going fs out) (Going gs emissions) (Going hs more) a b = a ∙ b
 outcome_on (machine.Ended xs out) (Ended ys emissions) (Ended zs more) a b = (a.0 ∙ b.0, a.1 ∙ b.1)
@@ -54,7 +54,7 @@ both_begin xs ys a b =
     let none : a.0 ≡ [] = none_left a.0 (omega (arith, one, two)) in
     sym (append-nil xs) ∙ ap (λ l. xs ++ l) (sym none) ∙ a.1
 
-module _ {V : Type 0} (same : V → V → Bool) (p : Program V) (path xs : List ℕ) where
+module _ {V : Type 0} (same : V → V → Bool) (p : FunctionsByPath V) (path xs : List ℕ) where
   abbrev after : ℕ → State V
   after n = run same p n (start same p path xs)
 
@@ -78,7 +78,7 @@ module _ {V : Type 0} (same : V → V → Bool) (p : Program V) (path xs : List 
       (prefix_trans out (out_of (after m)) (out_of (run same p (n - m) (after m))) begins
       (run_out same p (n - m) (after m)))
 
-module _ {V W : Type 0} (same : V → V → Bool) (other : W → W → Bool) (p : Program V) (q : Program W)
+module _ {V W : Type 0} (same : V → V → Bool) (other : W → W → Bool) (p : FunctionsByPath V) (q : FunctionsByPath W)
     (alike : Alike same other 1 p q) (path xs : List ℕ) (n : ℕ) where
   abbrev left : State V
   left = run same p n (start same p path xs)

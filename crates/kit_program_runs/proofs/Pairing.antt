@@ -1,6 +1,6 @@
 -- A numbering of texts, by pairs of numbers.
 use Rattle.std.proofs.Common.{◌≡◌, ℕ, zero, suc, ◌+◌, ◌≤◌, List, [], ◌∷◌, refl, ap, arith}
-use Rattle.kit_program_runs.specs.Numberings.{IsNumbering}
+use Rattle.kit_program_runs.specs.Numberings.{NumbersTextsApart}
 
 -- the number of a pair
 abbrev pair : ℕ → ℕ → ℕ
@@ -28,7 +28,7 @@ abbrev pub text_number : List ℕ → ℕ
 text_number [] = 0
 text_number (x ∷ xs) = pair x (text_number xs)
 
-pub numbers_apart : IsNumbering text_number
+pub numbers_apart : NumbersTextsApart text_number
 numbers_apart [] [] e = refl
 numbers_apart [] (y ∷ ys) e = absurd (omega (arith, e, pair_some y (text_number ys)))
 numbers_apart (x ∷ xs) [] e = absurd (omega (arith, e, pair_some x (text_number xs)))

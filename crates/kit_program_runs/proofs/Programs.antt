@@ -19,36 +19,36 @@ use Rattle.ir_trees.specs.Trees.{Regions}
 use Rattle.ir_trees.proofs.OneTree.{one_tree}
 use Rattle.opt_trees.specs.Occurrences.{Has, Occurrence, at_root, occurrences_in, occurrences_of, defined_in}
 use Rattle.kit_behaviour.specs.Machine as flat
-use Rattle.kit_behaviour.specs.Machine.{Fun, Program, Alike}
-use Rattle.kit_behaviour.specs.Numbering.{place_fun, placed, IsDefined}
+use Rattle.kit_behaviour.specs.Machine.{Fun, FunctionsByPath, Alike}
+use Rattle.kit_behaviour.specs.Numbering.{place_fun, placed, NamesAreDefined}
 use Rattle.kit_behaviour.specs.Places.{Place, same_place}
 use Rattle.kit_behaviour.proofs.Numbering.NumberingBehaviour.{placed_alike}
 use Rattle.kit_checks.specs.declared.rule.Rule.{Rule}
 use Rattle.kit_checks.specs.Faults.{KeptEverywhere}
 use Rattle.kit_checks.specs.Sites.{Listed}
 use Rattle.kit_checks.specs.World.{world_of}
-use Rattle.kit_execution.specs.Obeying.{KitTree}
+use Rattle.kit_execution.specs.Obeying.{ExecutedTree}
 use Rattle.kit_execution.proofs.Bodies.{KitBlocks, KitSite}
 use Rattle.kit_execution.proofs.Functions.{IsModuleAt}
 use Rattle.kit_execution.proofs.Paths.{can_run, path_moves}
 use Rattle.kit_flat.specs.Machine as machine
 use Rattle.kit_interpreter.specs.Lowering.{CanRun}
-use Rattle.kit_interpreter.specs.Running.{Takes, place_of}
-use Rattle.kit_interpreter.specs.Store.{KitData, KitNotes, KitContext, body_of, module_code, function_named}
+use Rattle.kit_interpreter.specs.Running.{TakesNumbers, place_of}
+use Rattle.kit_interpreter.specs.Store.{KitData, KitNotes, InterpretedContext, body_of, module_code, function_named}
 use Rattle.kit_interpreter.specs.declared.executing.Place as context
 use Rattle.kit_module_programs.specs.Paths as tree
-use Rattle.kit_module_programs.specs.Programs.{IsFunctionOf}
+use Rattle.kit_module_programs.specs.Programs.{HasFunctionView}
 use Rattle.kit_module_programs.specs.Sound.{IsSound}
 use Rattle.kit_module_programs.proofs.FlatDefined.{flat_defined}
 use Rattle.kit_module_programs.proofs.Located.{located}
 use Rattle.kit_module_programs.proofs.RuledSound.{ruled_sound}
 use Rattle.kit_ruled_views.specs.Ruled.{type_or_first}
 use Rattle.kit_ruled_views.proofs.HandleSameness.{values_apart}
-use Rattle.kit_views.specs.FlatView.{IsFlat}
+use Rattle.kit_views.specs.FlatView.{FlattensTo}
 use Rattle.kit_views.specs.Reading.{Reading, kit_contents, kit_reading}
 use Rattle.kit_views.specs.Typed.{IsTyped}
 use Rattle.kit_views.proofs.Standing.{whole, Given}
-use Rattle.kit_program_runs.specs.Laws.{IsProgramIn, Meets, program_path}
+use Rattle.kit_program_runs.specs.Laws.{IsProgramIn, ExistTogether, program_path}
 use Rattle.kit_program_runs.specs.Outcomes.{SameOutcome}
 use Rattle.kit_program_runs.proofs.FittingNumbers.{IsTypedFunction, AllBelow, taken_by, runs_in_range}
 use Rattle.kit_program_runs.proofs.FlatBlocks.{function_seen}
@@ -64,21 +64,21 @@ mapped_twice : {X Y Z : Type 0} (f : Y → Z) (g : X → Y) (xs : List X) → ma
 mapped_twice f g [] = refl
 mapped_twice f g (x ∷ xs) = ap (λ l. f (g x) ∷ l) (mapped_twice f g xs)
 
-module _ (s : KitContext) (root : Ptr Operation) (t : KitTree) (numbered : List ℕ → ℕ) (p : Program Place)
+module _ (s : InterpretedContext) (root : Ptr Operation) (t : ExecutedTree) (numbered : List ℕ → ℕ) (p : FunctionsByPath Place)
     (given : IsProgramIn s root t numbered p) where
   -- ---- the program under the names of values
 
-  abbrev IsFlatOf : Option KitTree → Option (Fun Place) → Type 0
-  IsFlatOf = IsFunctionOf {N = by_handle} same_value (key_at s.types) numbered
+  abbrev IsFlatOf : Option ExecutedTree → Option (Fun Place) → Type 0
+  IsFlatOf = HasFunctionView {N = by_handle} same_value (key_at s.types) numbered
 
-  abbrev flat_of : (o : Option KitTree) (g : Option (Fun Place)) → IsFlatOf o g → Option (Fun Value)
+  abbrev flat_of : (o : Option ExecutedTree) (g : Option (Fun Place)) → IsFlatOf o g → Option (Fun Value)
   flat_of None g is = None
   flat_of (Some u) g is = Some is.0
 
-  abbrev pub handled : Program Value
+  abbrev pub handled : FunctionsByPath Value
   handled path = flat_of (tree.locate numbered (reverse path) t) (p path) (given.is path)
 
-  flat_placed : (o : Option KitTree) (g : Option (Fun Place)) (is : IsFlatOf o g) →
+  flat_placed : (o : Option ExecutedTree) (g : Option (Fun Place)) (is : IsFlatOf o g) →
       g ≡ place_fun same_value (flat_of o g is)
   flat_placed None g is = is
   flat_placed (Some u) g is = is.2
@@ -91,15 +91,15 @@ module _ (s : KitContext) (root : Ptr Operation) (t : KitTree) (numbered : List 
       given.types
 
   -- what a path leads to is typed
-  pub function_typed : (path : List ℕ) (u : KitTree) → tree.locate numbered path t ≡ Some u →
+  pub function_typed : (path : List ℕ) (u : ExecutedTree) → tree.locate numbered path t ≡ Some u →
       IsTyped (key_at s.types) {N = by_handle} (type_or_first (type_at s.program)) u
   function_typed path u e =
       let l = located numbered path t (at_root t) u e in
       subst (IsTyped (key_at s.types) {N = by_handle} (type_or_first (type_at s.program))) l.is
       (sound.functions l.it l.stands l.kind).is_typed
 
-  flat_names : (path : List ℕ) (o : Option KitTree) → tree.locate numbered path t ≡ o → (g : Option (Fun Place))
-      (is : IsFlatOf o g) → IsDefined same_value (flat_of o g is)
+  flat_names : (path : List ℕ) (o : Option ExecutedTree) → tree.locate numbered path t ≡ o → (g : Option (Fun Place))
+      (is : IsFlatOf o g) → NamesAreDefined same_value (flat_of o g is)
   flat_names path None e g is = record { ops = λ b. tt; arguments = λ b. tt }
   flat_names path (Some u) e g is =
       let typed = function_typed path u e in
@@ -129,21 +129,21 @@ module _ (s : KitContext) (root : Ptr Operation) (t : KitTree) (numbered : List 
       (tree.locate numbered l t)) (texts_are path ∙ sym (path_back path))
       (paths_agree s.program numbered given.numbering root t given.stands (map text_of path))
 
-  meets : (path : List (List ℕ)) (x : Option context.Place) (o : Option KitTree) (g : Option (Fun Place)) →
-      IsFlatOf o g → PathsAgree s.program numbered given.numbering t path x o → Meets x g
+  meets : (path : List (List ℕ)) (x : Option context.Place) (o : Option ExecutedTree) (g : Option (Fun Place)) →
+      IsFlatOf o g → PathsAgree s.program numbered given.numbering t path x o → ExistTogether x g
   meets path None None g is agree = is
   meets path None (Some u) g is agree = absurd agree
   meets path (Some place) None g is agree = absurd agree
   meets path (Some place) (Some u) g is agree = subst IsSome (sym is.2) refl
 
-  pub path_meets : (path : List Identifier) → Meets (place_of s root path) (p (program_path numbered path))
+  pub path_meets : (path : List Identifier) → ExistTogether (place_of s root path) (p (program_path numbered path))
   path_meets path = meets (map text_of path) (place_of s root path)
       (tree.locate numbered (reverse (program_path numbered path)) t) (p (program_path numbered path))
       (given.is (program_path numbered path)) (agreed path)
 
-  pub led : (path : List (List ℕ)) (x : Option context.Place) (o : Option KitTree) →
+  pub led : (path : List (List ℕ)) (x : Option context.Place) (o : Option ExecutedTree) →
       PathsAgree s.program numbered given.numbering t path x o → (place : context.Place) → x ≡ Some place →
-      (u : KitTree) × IsLed s.program numbered given.numbering t path place u
+      (u : ExecutedTree) × IsLed s.program numbered given.numbering t path place u
   led path None o agree place is = absurd (cc is)
   led path (Some x) None agree place is = absurd agree
   led path (Some x) (Some u) agree place is =
@@ -151,7 +151,7 @@ module _ (s : KitContext) (root : Ptr Operation) (t : KitTree) (numbered : List 
       (u, subst (λ z. IsLed s.program numbered given.numbering t path z u) same agree)
 
   module _ (path : List Identifier) (place : context.Place) (is : place_of s root path ≡ Some place) where
-    abbrev leading : (u : KitTree) × IsLed s.program numbered given.numbering t (map text_of path) place u
+    abbrev leading : (u : ExecutedTree) × IsLed s.program numbered given.numbering t (map text_of path) place u
     leading = led (map text_of path) (place_of s root path)
         (tree.locate numbered (reverse (program_path numbered path)) t) (agreed path) place is
 
@@ -186,8 +186,8 @@ module _ (s : KitContext) (root : Ptr Operation) (t : KitTree) (numbered : List 
         can_run s root given.obeys (t, given.stands) path place is text.0 f
         (sym (agree text.0) ∙ ap named (sym text.1) ∙ found)
 
-    tree_found : (f : Ptr Operation) (x : Option (Ptr Operation)) (o : Option KitTree) → Agree s.program x o →
-        x ≡ Some f → (u : KitTree) × (o ≡ Some u) × StandsFor s.program f u
+    tree_found : (f : Ptr Operation) (x : Option (Ptr Operation)) (o : Option ExecutedTree) → Agree s.program x o →
+        x ≡ Some f → (u : ExecutedTree) × (o ≡ Some u) × StandsFor s.program f u
     tree_found f None o both e = absurd (cc e)
     tree_found f (Some g) None both e = absurd both
     tree_found f (Some g) (Some u) both e =
@@ -196,15 +196,15 @@ module _ (s : KitContext) (root : Ptr Operation) (t : KitTree) (numbered : List 
 
     -- the tree of a function of the module
     pub function_tree : (name : ℕ) (f : Ptr Operation) → named name ≡ Some f →
-        (u : KitTree) × (tree.locate numbered (reverse (name ∷ within)) t ≡ Some u) × StandsFor s.program f u
+        (u : ExecutedTree) × (tree.locate numbered (reverse (name ∷ within)) t ≡ Some u) × StandsFor s.program f u
     function_tree name f found =
         let u = tree_found f (named name)
         (tree.first_with (tree.is_function_named numbered name) (tree.members_in it.module_tree.regions))
         (functions_agree s.program numbered place.within it.module_tree it.module_stands name) found in
         (u.0, beside_leads name ∙ u.1, u.2)
 
-    seen_of : (f : Ptr Operation) → CanRun s place.within f → (u : KitTree) → StandsFor s.program f u →
-        (o : Option KitTree) → o ≡ Some u → (g : Option (Fun Place)) (is : IsFlatOf o g) →
+    seen_of : (f : Ptr Operation) → CanRun s place.within f → (u : ExecutedTree) → StandsFor s.program f u →
+        (o : Option ExecutedTree) → o ≡ Some u → (g : Option (Fun Place)) (is : IsFlatOf o g) →
         IsSeenAs s place.within named f (flat_of o g is)
     seen_of f runs u stands None e g is = absurd (cc e)
     seen_of f runs u stands (Some v) e g is =
@@ -228,7 +228,7 @@ module _ (s : KitContext) (root : Ptr Operation) (t : KitTree) (numbered : List 
         (map text_of path) place is
 
     all_typed : (name : List ℕ) (f : Ptr Operation) → function_named s.program place.within name ≡ Some f →
-        (u : KitTree) → StandsFor s.program f u → IsTyped (key_at s.types) {N = by_handle} (type_of s) u
+        (u : ExecutedTree) → StandsFor s.program f u → IsTyped (key_at s.types) {N = by_handle} (type_of s) u
     all_typed name f found u stands =
         let tree = function_tree (numbered name) f (agree name ∙ found) in
         subst (IsTyped (key_at s.types) {N = by_handle} (type_of s)) (one_tree s.program f tree.0 u tree.2 stands)
@@ -246,14 +246,14 @@ module _ (s : KitContext) (root : Ptr Operation) (t : KitTree) (numbered : List 
       abbrev reading : Reading kit_contents
       reading = kit_reading (key_at s.types) numbered
 
-      flat_there : (o : Option KitTree) (g : Option (Fun Place)) (flat_is : IsFlatOf o g) → o ≡ Some its.op →
-          (k : Fun Value) × IsFlat reading its.op k × (flat_of o g flat_is ≡ Some k)
+      flat_there : (o : Option ExecutedTree) (g : Option (Fun Place)) (flat_is : IsFlatOf o g) → o ≡ Some its.op →
+          (k : Fun Value) × FlattensTo reading its.op k × (flat_of o g flat_is ≡ Some k)
       flat_there None g flat_is e = absurd (cc e)
       flat_there (Some v) g flat_is e =
           let same : v ≡ its.op = cc e in
-          (flat_is.0, subst (λ z. IsFlat reading z flat_is.0) same flat_is.1, refl)
+          (flat_is.0, subst (λ z. FlattensTo reading z flat_is.0) same flat_is.1, refl)
 
-      its_flat : (k : Fun Value) × IsFlat reading its.op k × (handled (numbered name ∷ within) ≡ Some k)
+      its_flat : (k : Fun Value) × FlattensTo reading its.op k × (handled (numbered name ∷ within) ≡ Some k)
       its_flat = flat_there (tree.locate numbered (reverse (numbered name ∷ within)) t) (p (numbered name ∷ within))
           (given.is (numbered name ∷ within)) located_op
 
@@ -296,7 +296,7 @@ module _ (s : KitContext) (root : Ptr Operation) (t : KitTree) (numbered : List 
           (λ o stands. returns_typed s t obeys place.within module_at.0 module_at.1 numbered named agree all_typed name
           f found its blocks its_flat.1.view.region o (inside o stands))
 
-      takes_small : (xs : List ℕ) → Takes s f xs → (b : Ptr BasicBlock) → slice_get (body_of s.program f) 0 ≡ Some b →
+      takes_small : (xs : List ℕ) → TakesNumbers s f xs → (b : Ptr BasicBlock) → slice_get (body_of s.program f) 0 ≡ Some b →
           AllBelow s place.within (bits s) (outs s) (taken_by s place.within (bits s) (outs s) f b) xs
       takes_small xs takes = taken_small s t obeys place.within module_at.0 module_at.1 name f found its its_typed
           blocks its_flat.1.view.region xs takes
@@ -304,7 +304,7 @@ module _ (s : KitContext) (root : Ptr Operation) (t : KitTree) (numbered : List 
     -- ---- runs
 
     -- numbers stay in the range of their widths
-    in_range : (xs : List ℕ) → Takes s place.function xs → (k : ℕ) →
+    in_range : (xs : List ℕ) → TakesNumbers s place.function xs → (k : ℕ) →
         NextInRange s place.within (machine.run same_value (module_code s place.within) k
         (machine.start same_value (module_code s place.within) place.function xs))
     in_range xs takes =
@@ -313,7 +313,7 @@ module _ (s : KitContext) (root : Ptr Operation) (t : KitTree) (numbered : List 
         runs_in_range s place.within (bits s) (outs s) (λ g callee. function_fits callee.0 g callee.1) place.function xs
         (it.text, found) (takes_small it.text place.function found xs takes)
 
-    pub program_runs : (xs : List ℕ) → Takes s place.function xs → (n : ℕ) →
+    pub program_runs : (xs : List ℕ) → TakesNumbers s place.function xs → (n : ℕ) →
         SameOutcome (machine.run same_value (module_code s place.within) n
         (machine.start same_value (module_code s place.within) place.function xs))
         (flat.run same_place p n (flat.start same_place p (program_path numbered path) xs))

@@ -9,16 +9,16 @@ use Rattle.ir_program.specs.declared.handles.Operation.{Operation}
 use Rattle.ir_program.specs.declared.handles.Ptr.{Ptr}
 use Rattle.ir_trees.specs.Stands.{by_handle, StandsFor}
 use Rattle.kit_behaviour.specs.Machine as program
-use Rattle.kit_behaviour.specs.Machine.{Program}
+use Rattle.kit_behaviour.specs.Machine.{FunctionsByPath}
 use Rattle.kit_behaviour.specs.Places as flat
-use Rattle.kit_execution.specs.Obeying.{KitTree, ObeysRules}
+use Rattle.kit_execution.specs.Obeying.{ExecutedTree, ObeysRules}
 use Rattle.kit_flat.specs.Machine as context
-use Rattle.kit_interpreter.specs.Running.{Takes, place_of}
-use Rattle.kit_interpreter.specs.Store.{KitContext, module_code}
+use Rattle.kit_interpreter.specs.Running.{TakesNumbers, place_of}
+use Rattle.kit_interpreter.specs.Store.{InterpretedContext, module_code}
 use Rattle.kit_interpreter.specs.declared.executing.Place.{Place}
 use Rattle.kit_module_programs.specs.Programs.{IsProgramOf}
 use Rattle.kit_ruled_views.specs.Ruled.{HasOwnNames, HaveTypesIn}
-use Rattle.kit_program_runs.specs.Numberings.{IsNumbering}
+use Rattle.kit_program_runs.specs.Numberings.{NumbersTextsApart}
 use Rattle.kit_program_runs.specs.Outcomes.{SameOutcome}
 
 -- a path of names, as programs have it: the numbers of the names, the innermost first
@@ -27,36 +27,36 @@ program_path numbered path = reverse (map (λ x. numbered (text_of x)) path)
 
 -- the module keeps the rules, and the tree is its; in it names are distinct, and each value has the type that it has in
 -- the context; different texts have different numbers, and the program is that of the tree
-pub record IsProgramIn (s : KitContext) (root : Ptr Operation) (t : KitTree) (numbered : List ℕ → ℕ)
-    (p : Program flat.Place) : Type 0 where
+pub record IsProgramIn (s : InterpretedContext) (root : Ptr Operation) (t : ExecutedTree) (numbered : List ℕ → ℕ)
+    (p : FunctionsByPath flat.Place) : Type 0 where
   pub obeys : ObeysRules s root
   pub stands : StandsFor s.program root t
   pub names : HasOwnNames t
   pub types : HaveTypesIn (type_at s.program) t
-  pub numbering : IsNumbering numbered
+  pub numbering : NumbersTextsApart numbered
   pub is : IsProgramOf {N = by_handle} same_value (key_at s.types) numbered t p
 
 -- the run of the function that a path leads to, on numbers that it takes, is after as many steps that of its program
 -- from the same path
 abbrev pub RunsAsProgram : Type 0
-RunsAsProgram = (s : KitContext) (root : Ptr Operation) (t : KitTree) (numbered : List ℕ → ℕ)
-    (p : Program flat.Place) → IsProgramIn s root t numbered p → (path : List Identifier) (place : Place) →
-    place_of s root path ≡ Some place → (xs : List ℕ) → Takes s place.function xs → (n : ℕ) →
+RunsAsProgram = (s : InterpretedContext) (root : Ptr Operation) (t : ExecutedTree) (numbered : List ℕ → ℕ)
+    (p : FunctionsByPath flat.Place) → IsProgramIn s root t numbered p → (path : List Identifier) (place : Place) →
+    place_of s root path ≡ Some place → (xs : List ℕ) → TakesNumbers s place.function xs → (n : ℕ) →
     SameOutcome (context.run same_value (module_code s place.within) n
     (context.start same_value (module_code s place.within) place.function xs))
     (program.run flat.same_place p n (program.start flat.same_place p (program_path numbered path) xs))
 
 -- the program has a function at a path where there is a place, and none where there is none
-abbrev pub Meets : {X Y : Type 0} → Option X → Option Y → Type 0
-Meets None q = q ≡ None
-Meets (Some x) q = IsSome q
+abbrev pub ExistTogether : {X Y : Type 0} → Option X → Option Y → Type 0
+ExistTogether None q = q ≡ None
+ExistTogether (Some x) q = IsSome q
 
 -- a path leads to a function of the context where it leads to one of the program
 abbrev pub PathsMeet : Type 0
-PathsMeet = (s : KitContext) (root : Ptr Operation) (t : KitTree) (numbered : List ℕ → ℕ)
-    (p : Program flat.Place) → IsProgramIn s root t numbered p → (path : List Identifier) →
-    Meets (place_of s root path) (p (program_path numbered path))
+PathsMeet = (s : InterpretedContext) (root : Ptr Operation) (t : ExecutedTree) (numbered : List ℕ → ℕ)
+    (p : FunctionsByPath flat.Place) → IsProgramIn s root t numbered p → (path : List Identifier) →
+    ExistTogether (place_of s root path) (p (program_path numbered path))
 
 -- there is a numbering of texts
 abbrev pub NumberingsExist : Type 0
-NumberingsExist = (numbered : List ℕ → ℕ) × IsNumbering numbered
+NumberingsExist = (numbered : List ℕ → ℕ) × NumbersTextsApart numbered

@@ -2,5 +2,5 @@
 use Rattle.std.specs.Prelude.{◌≡◌, ℕ, List}
 
 -- different texts have different numbers
-abbrev pub IsNumbering : (List ℕ → ℕ) → Type 0
-IsNumbering numbered = (a b : List ℕ) → numbered a ≡ numbered b → a ≡ b
+abbrev pub NumbersTextsApart : (List ℕ → ℕ) → Type 0
+NumbersTextsApart numbered = (a b : List ℕ) → numbered a ≡ numbered b → a ≡ b

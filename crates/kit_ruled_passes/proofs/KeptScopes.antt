@@ -19,9 +19,9 @@ use Rattle.opt_inside.specs.Around.{CanTellTaken, IsTakenOutside}
 use Rattle.opt_reach.specs.declared.starts.Start.TheVariants as start
 use Rattle.opt_simplify.specs.Phases.{RemovesBlocks}
 use Rattle.opt_simplify.specs.Refusals.{LosesUses}
-use Rattle.opt_trees.specs.Dce.{Around}
+use Rattle.opt_trees.specs.Dce.{TreeSurroundings}
 use Rattle.opt_trees.specs.Occurrences.{Has, at_root, defined_in}
-use Rattle.opt_trees.specs.Simplify.{Place, OfOperations, IsCut, LosesUse, entry, all_of, decided, decide}
+use Rattle.opt_trees.specs.Simplify.{StartingRegions, OfOperations, IsCut, LosesUse, entry, all_of, decided, decide}
 use Rattle.kit.specs.Meaning.{KitOperation, kit}
 use Rattle.kit_ops.specs.declared.attributes.IntegerAttr.{IntegerAttr}
 use Rattle.kit_views.proofs.Lists.{has_get}
@@ -34,7 +34,7 @@ use Rattle.kit_ruled_passes.proofs.ScopeUses.{operand_defined}
 -- ---- of trees
 
 -- what is cut off holds no entry block
-pub cut_scoped : (p : Place by_handle) (t after : KitTree) → IsCut kit p t after → Scoped t.regions IsNone
+pub cut_scoped : (p : StartingRegions by_handle) (t after : KitTree) → IsCut kit p t after → Scoped t.regions IsNone
     → Scoped after.regions IsNone
 cut_scoped p t after cut q =
     let stay = entries_stay cut.gone t.regions (at_root t) refl (λ y has first.
@@ -46,7 +46,7 @@ cut_scoped p t after cut q =
     stays true e none = absurd (none e)
 
 -- where operands are in scope in what is left, none is lost
-pub none_lost : (w : Around by_handle IntegerAttr) (t after : KitTree) → Scoped after.regions IsNone
+pub none_lost : (w : TreeSurroundings by_handle IntegerAttr) (t after : KitTree) → Scoped after.regions IsNone
     → t.head.operands ≡ [] → ((v : Value) → Has v (defined_in t.regions) → w.is_pinned v ≡ true → ⊥)
     → LosesUse w t after → ⊥
 none_lost w t after q bare unpinned l = ⊎_elim
@@ -119,9 +119,9 @@ pub nothing_lost : (c : KitProgram) (root : Ptr Operation) (values : Said c) (to
     (t : KitTree) → StandsFor c root t → IsInScope c root → IsUntaken c root
     → LosesUses kit c root (start.Operation root) → ⊥
 nothing_lost c root values told t stands q untaken loses =
-    let place : Place by_handle = OfOperations (root ∷ []) in
+    let place : StartingRegions by_handle = OfOperations (root ∷ []) in
     let l = loses place refl t stands in
-    let w : Around by_handle IntegerAttr = around_root kit c values root told in
+    let w : TreeSurroundings by_handle IntegerAttr = around_root kit c values root told in
     let says = says_known kit c values root told in
     none_lost w t l.0 (cut_scoped place t l.0 l.1 (q.inside t stands)) (q.root_takes_none t stands)
     (λ v has pinned. untaken t stands v has ((says.pinned v).0 pinned)) (l.2 w says)

@@ -8,7 +8,7 @@ use Rattle.ir_trees.specs.Renames.{names_of}
 use Rattle.ir_trees.specs.Stands.{by_handle}
 use Rattle.opt_trees.specs.Facts.{forwarded}
 use Rattle.opt_trees.specs.Occurrences.{Has, at_root}
-use Rattle.opt_trees.specs.Simplify.{Place, IsReached, entry, further, IsGiven, Chases, goes, goes_by, ComesBack}
+use Rattle.opt_trees.specs.Simplify.{StartingRegions, IsReached, entry, further, IsGiven, Chases, goes, goes_by, ComesBack}
 use Rattle.kit.specs.Meaning.{kit}
 use Rattle.kit_views.proofs.Lists.{has_get}
 use Rattle.kit_ruled_views.specs.Ruled.{KitTree}
@@ -17,7 +17,7 @@ use Rattle.kit_ruled_passes.proofs.Scopes.{Homed, IsHome, AtEntry}
 use Rattle.kit_ruled_passes.proofs.ScopesAfter.{picks_has}
 use Rattle.kit_ruled_passes.proofs.ScopeUses.{KitOccurrence, block_home, own_block}
 
-module _ (E : Ptr BasicBlock → Type 0) (p : Place by_handle) (r : KitTree) (scoped : Scoped r.regions IsNone)
+module _ (E : Ptr BasicBlock → Type 0) (p : StartingRegions by_handle) (r : KitTree) (scoped : Scoped r.regions IsNone)
     (homed : Homed E r.regions true) where
   abbrev Given : Value → Value → Type 0
   Given v u = IsGiven kit p r v u
@@ -89,6 +89,6 @@ module _ (E : Ptr BasicBlock → Type 0) (p : Place by_handle) (r : KitTree) (sc
         let l : InLoop s.1.to = record { value = a; gives = s.0; given = s.1; named = refl; on = s.2 } in
         never_reached s.1.from s.1.joins.reached (before s.1.to l)
 
-pub no_circle : (E : Ptr BasicBlock → Type 0) (p : Place by_handle) (r : KitTree) → Scoped r.regions IsNone
+pub no_circle : (E : Ptr BasicBlock → Type 0) (p : StartingRegions by_handle) (r : KitTree) → Scoped r.regions IsNone
     → Homed E r.regions true → ComesBack kit p r → ⊥
 no_circle E p r scoped homed c = comes_never E p r scoped homed c.argument c.loop

@@ -22,7 +22,7 @@ use Rattle.kit_checks.specs.declared.rule.Rule.{Rule}
 use Rattle.kit_checks.specs.declared.rule.Rule.TheVariants as rule
 use Rattle.kit_checks.specs.Faults.{Keeps}
 use Rattle.kit_checks.specs.Located.{IsAround, IsAroundIf, IsSiteOf}
-use Rattle.kit_checks.specs.Rules.{FitsKind, LeadsTo}
+use Rattle.kit_checks.specs.Rules.{FitsKind, EdgeLeadsTo}
 use Rattle.kit_checks.specs.Sites.{Around, Site, region_list}
 use Rattle.kit_checks.specs.Words as words
 use Rattle.kit_checks.specs.World.{world_of}
@@ -46,7 +46,7 @@ pub record RuledEdge (s : KitContext) (root p : Ptr Operation) (x : RuledSite s 
   pub is : x.site.around ≡ Some around
   pub located : IsAround s.program root p around
   pub there : slice_get x.site.op.head.successors edge ≡ Some b
-  pub leads : LeadsTo (world_of s) x.site.op around edge b
+  pub leads : EdgeLeadsTo (world_of s) x.site.op around edge b
 
 module _ (s : KitContext) (u : KitTree) where
   -- only modules and functions have regions

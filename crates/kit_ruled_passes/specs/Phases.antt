@@ -10,9 +10,9 @@ use Rattle.kit_ruled_views.specs.Ruled.{KitTree}
 use Rattle.kit_ruled_passes.specs.Scopes.{KitProgram}
 
 -- the branches that their operands decide are unconditional ones
-abbrev pub Decides : KitProgram → KitProgram → Ptr Operation → Type 0
-Decides old new root = (t : KitTree) → StandsFor old root t → DecidesBranches kit old new root t
+abbrev pub DecidesBranchesBelow : KitProgram → KitProgram → Ptr Operation → Type 0
+DecidesBranchesBelow old new root = (t : KitTree) → StandsFor old root t → DecidesBranches kit old new root t
 
 -- the blocks of visited regions that nothing reaches are gone
-abbrev pub Removes : KitProgram → KitProgram → Ptr Operation → Type 0
-Removes old new root = (t : KitTree) → StandsFor old root t → RemovesBlocks kit (all_of t) old new root t
+abbrev pub RemovesBlocksBelow : KitProgram → KitProgram → Ptr Operation → Type 0
+RemovesBlocksBelow old new root = (t : KitTree) → StandsFor old root t → RemovesBlocks kit (all_of t) old new root t

@@ -2,7 +2,7 @@
 ghost use Rattle.std.specs.Prelude.{IsSome};
 ghost use Rattle.ir_program.specs.Program.{operation_at};
 ghost use Rattle.kit.specs.Meaning.{kit};
-ghost use Rattle.kit_ruled_passes.specs.Phases.{Decides, Removes};
+ghost use Rattle.kit_ruled_passes.specs.Phases.{DecidesBranchesBelow, RemovesBlocksBelow};
 ghost use Rattle.kit_ruled_passes.specs.Scopes.{IsInScope, IsUntaken, KitProgram};
 ghost use Rattle.kit_ruled_views.specs.Functions.{IsSelfContained, KeepsRules};
 ghost use Rattle.opt_merge.specs.Answers.{HasCircle};
@@ -21,10 +21,11 @@ pub fn know_scopes(ctx: &Context<Kit>, root: Ptr<Operation>)
     requires live { IsSome (operation_at ctx.now.program root) }
     requires rules { KeepsRules ctx.now root }
     ensures scoped { IsInScope ctx.now.program root }
-    ensures decided { (new : KitProgram) → Decides ctx.now.program new root → IsInScope new root }
+    ensures decided { (new : KitProgram) → DecidesBranchesBelow ctx.now.program new root → IsInScope new root }
     ensures untaken { IsSelfContained ctx.now root
-        → (new : KitProgram) → Decides ctx.now.program new root → IsUntaken new root }
-    ensures cut { (mid new : KitProgram) → Decides ctx.now.program mid root → Removes mid new root
+        → (new : KitProgram) → DecidesBranchesBelow ctx.now.program new root → IsUntaken new root }
+    ensures cut { (mid new : KitProgram) → DecidesBranchesBelow ctx.now.program mid root
+        → RemovesBlocksBelow mid new root
         → IsInScope new root }
 {
     let program = ctx.program();

@@ -18,7 +18,7 @@ use Rattle.ir_trees.specs.Searched.{Lists}
 use Rattle.ir_trees.specs.Stands.{by_handle, in_program, ProgramHead, ProgramLabel, defined_by}
 use Rattle.ir_trees.specs.Trees.{Defined}
 use Rattle.ir_trees.proofs.Members.{has_at}
-use Rattle.opt_trees.specs.Dce.{Around}
+use Rattle.opt_trees.specs.Dce.{TreeSurroundings}
 use Rattle.opt_trees.specs.Occurrences.{Has, Occurrence, BlockOccurrence, occurrences_of, block_occurrences_of}
 use Rattle.opt_trees.specs.Occurrences.{types_of}
 use Rattle.opt_trees.proofs.Lists.{none_some}
@@ -78,7 +78,7 @@ module _ (s : KitContext) (root function : Ptr Operation) (known : IsKnown s.pro
 
   -- ---- constants
 
-  module _ (w : Around by_handle IntegerAttr) (says : SaysAround kit s.program function w) (u : KitTree)
+  module _ (w : TreeSurroundings by_handle IntegerAttr) (says : SaysAround kit s.program function w) (u : KitTree)
       (is : IsTreeOf s function u) where
     -- what a result folds to alone, by the head of its operation
     abbrev head_alone : ProgramHead KitOperation KitBlock → ℕ → Option IntegerAttr

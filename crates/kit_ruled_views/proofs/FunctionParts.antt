@@ -5,7 +5,7 @@ use Rattle.ir_trees.specs.Names.{Names, Contents}
 use Rattle.ir_trees.specs.Renames.{names_of}
 use Rattle.ir_trees.specs.Stands.{by_handle, in_program, ProgramTree, ProgramHead}
 use Rattle.ir_trees.specs.Trees.{Operations, Blocks, Regions, Root, end, operation, block, region}
-use Rattle.opt_trees.specs.Occurrences.{Has, Occurrence, BlockOccurrence, Site, Spot, inner, next_block, at_root}
+use Rattle.opt_trees.specs.Occurrences.{Has, Occurrence, BlockOccurrence, OperationSite, Spot, inner, next_block, at_root}
 use Rattle.opt_trees.specs.Occurrences.{occurrences_in, occurrences_of, block_occurrences_in, block_occurrences_of}
 use Rattle.opt_trees.specs.Occurrences.{defined_in}
 use Rattle.opt_trees.proofs.NoneDead.{has-append, has-left, has-right}
@@ -53,7 +53,7 @@ module _ {O B : Type 0} where
 
   -- ---- operations
 
-  op_index : (os : Listed O B Operations) (c : Site by_handle (in_program O B)) → NoRegions os
+  op_index : (os : Listed O B Operations) (c : OperationSite by_handle (in_program O B)) → NoRegions os
       → (o : Occurrence by_handle (in_program O B)) → Has o (occurrences_in os c)
       → (k : ℕ) × (op : ProgramTree O B) × (slice_get (operation_list os) k ≡ Some op) × (op.head ≡ o.head)
   op_index end c none o has = absurd has
@@ -93,7 +93,7 @@ module _ {O B : Type 0} where
 
   -- ---- blocks
 
-  no_block : (os : Listed O B Operations) (c : Site by_handle (in_program O B)) → NoRegions os
+  no_block : (os : Listed O B Operations) (c : OperationSite by_handle (in_program O B)) → NoRegions os
       → (x : BlockOccurrence by_handle (in_program O B)) → Has x (block_occurrences_in os c) → ⊥
   no_block end c none x has = has
   no_block (operation h rs rest) c none x has = ⊎_elim

@@ -32,7 +32,7 @@ use Rattle.kit_checks.specs.Words as words
 use Rattle.kit_checks.specs.Words.{Every, IsValueType, joined, bodies_of, visible, values_before, values_in, values_if}
 use Rattle.kit_checks.specs.Words.{first_body, results_of}
 use Rattle.kit_checks.specs.World.{World}
-use Rattle.kit_views.specs.Typed.{IsInteger, IsBit, TypesFit, IsTyped, number_as, width_at}
+use Rattle.kit_views.specs.Typed.{IsMachineInteger, LeadsToBit, TypesFit, IsTyped, number_as, width_at}
 use Rattle.kit_ruled_views.specs.Ruled.{KitTree, kit_world, IsRuledFunction, HaveTypesIn, type_or_first}
 use Rattle.kit_ruled_views.proofs.FunctionSites.{KitBlocks, KitBody, KitAround, own_keeps, own_region, inner_around}
 use Rattle.kit_ruled_views.proofs.FunctionSites.{inner_keeps}
@@ -67,7 +67,7 @@ module _ (leads : TypeHandle → Option KitType) (typed : Value → Option TypeH
       ∙ ap (option_map (λ (x : Defined Value TypeHandle). x.holds)) d.2 in
       subst P (sym (has_type typed v d.0.holds (ap typed (sym d.4) ∙ are d.0 d.3))) (every d.1 d.0.holds at)
 
-  value_is_integer : (h : TypeHandle) → IsValueType world h → IsInteger leads h
+  value_is_integer : (h : TypeHandle) → IsValueType world h → IsMachineInteger leads h
   value_is_integer h is = (is.0, is_integer (leads h) is.0 is.1, is.2, is.3)
 
   module _ (u : KitTree) (are : AreTyped u.head.results) where
@@ -88,7 +88,7 @@ module _ (leads : TypeHandle → Option KitType) (typed : Value → Option TypeH
     lists_typed : (xs : List Value) (x : Value) → Has x xs → Lists (map typed xs) (typed x)
     lists_typed xs x has = has_at (map typed xs) (typed x) (has_map typed xs x has)
 
-    arithmetic_fits : words.AreAlike (map typed u.head.operands ++ map Some (words.types_of u.head.results))
+    arithmetic_fits : words.AreAllEqual (map typed u.head.operands ++ map Some (words.types_of u.head.results))
         → (x v : Value) → Has x u.head.operands → Has v (names_of u.head.results) → type_at x ≡ type_at v
     arithmetic_fits alike x v hx hv =
         let d = defined_as u.head.results v hv in
@@ -109,11 +109,11 @@ module _ (leads : TypeHandle → Option KitType) (typed : Value → Option TypeH
     fits (ops.Comparison a) agree constant = (
       λ x y hx hy. ap (λ o. unwrap_or o (record { number = 0 }))
           (agree.0 (typed x) (typed y) (lists_typed u.head.operands x hx) (lists_typed u.head.operands y hy)),
-      type_of_each (IsBit leads) u.head.results are (λ k h here. is_integer (leads h) _ (agree.1 k h here)),
+      type_of_each (LeadsToBit leads) u.head.results are (λ k h here. is_integer (leads h) _ (agree.1 k h here)),
     )
     fits ops.CondBr agree constant = λ x here.
         let c = agree x here in
-        subst (IsBit leads) (sym (has_type typed x c.0 c.1)) (is_integer (leads c.0) _ c.2)
+        subst (LeadsToBit leads) (sym (has_type typed x c.0 c.1)) (is_integer (leads c.0) _ c.2)
     fits _ agree constant = tt
 
 -- what is handed on to an argument has its type
@@ -210,7 +210,7 @@ module _ (leads : TypeHandle → Option KitType) (typed : Value → Option TypeH
       (at_has (visible (inner_around leads typed u ruled blocks is p.number p.body p.index)) sees.0 x sees.1)
 
   module _ (types : HaveTypesIn typed u) where
-    value_integer : (v : Value) → Maker u v → IsInteger leads (type_or_first typed v)
+    value_integer : (v : Value) → Maker u v → IsMachineInteger leads (type_or_first typed v)
     value_integer v (result o ho hv) =
         let p = place o ho in
         let all = (keeps o.head p rule.ValuesAreIntegers).results in

@@ -14,12 +14,12 @@ use Rattle.ir_trees.specs.Trees.{Label, Operations, Blocks, Regions, Tree, end, 
 use Rattle.kit_ops.specs.declared.types.KitType.{KitType}
 use Rattle.kit.specs.Meaning.{KitOperation, KitBlock}
 use Rattle.kit_behaviour.specs.Machine.{AllEdges, Edge, Op, Branch, Block, Fun, ops_left, arguments_of}
-use Rattle.kit_behaviour.specs.Rules.{EdgeFits, EdgesFit, AllEdgesFit}
+use Rattle.kit_behaviour.specs.Rules.{EdgeFits, EdgesOfOpFit, AllEdgesFit}
 use Rattle.kit_behaviour.specs.Scopes.{SameLength}
 use Rattle.kit_checks.specs.declared.rule.Rule.TheVariants as rule
 use Rattle.kit_checks.specs.Sites.{Listed, operation_list, block_list}
 use Rattle.kit_checks.specs.Words.{is_branch, types_of}
-use Rattle.kit_views.specs.FlatView.{AreOps, AreBlocks, names_in, IsFlat}
+use Rattle.kit_views.specs.FlatView.{AreOps, AreFlatBlocks, names_in, FlattensTo}
 use Rattle.kit_views.specs.Reading.{Reading, kit_contents, kit_reading}
 use Rattle.kit_ruled_views.specs.Ruled.{KitTree, IsRuledFunction, HasOwnNames}
 use Rattle.kit_ruled_views.proofs.FunctionSites.{KitBlocks, KitBody, KitAround, no_region, own_format, own_region}
@@ -60,7 +60,7 @@ module _ (leads : TypeHandle → Option KitType) (typed : Value → Option TypeH
   blocks_view : (bs : KitBlocks)
       → ((j k : ℕ) (body : KitBody) (op : KitTree) → slice_get (block_list bs) j ≡ Some body
       → slice_get (operation_list body.operations) k ≡ Some op → IsSeen op)
-      → (ks : Fun Value) × AreBlocks reading (names_in blocks) bs ks × BlocksLead blocks ks
+      → (ks : Fun Value) × AreFlatBlocks reading (names_in blocks) bs ks × BlocksLead blocks ks
   blocks_view end each = ([], tt, tt)
   blocks_view (block l os rest) each =
       let one = ops_view os (λ k op. each 0 k (record { label = l; operations = os }) op refl) in
@@ -77,7 +77,7 @@ same_length (v ∷ vs) (w ∷ ws) h = same_length vs ws cc
 
 module _ (r : Reading kit_contents) (names : List (Ptr BasicBlock)) where
   -- the block at an index, in the tree and in its flat view
-  block_both : (bs : KitBlocks) (ks : Fun Value) → AreBlocks r names bs ks → (j : ℕ) (body : KitBody)
+  block_both : (bs : KitBlocks) (ks : Fun Value) → AreFlatBlocks r names bs ks → (j : ℕ) (body : KitBody)
       → slice_get (block_list bs) j ≡ Some body
       → (k : Block Value) × (slice_get ks j ≡ Some k) × (names_of body.label.arguments ≡ k.arguments)
   block_both end ks are j body h = cc
@@ -88,7 +88,7 @@ module _ (r : Reading kit_contents) (names : List (Ptr BasicBlock)) where
       (k, refl, ap (λ (x : KitBody). names_of x.label.arguments) (sym same) ∙ are.0)
   block_both (block l os rest) (k ∷ ks) are (suc j) body h = block_both rest ks are.2 j body h
 
-  module _ (blocks : KitBlocks) (f : Fun Value) (are : AreBlocks r names blocks f) where
+  module _ (blocks : KitBlocks) (f : Fun Value) (are : AreFlatBlocks r names blocks f) where
     edge_fits : (e : Edge Value) → Leads blocks e → EdgeFits (Some f) e
     edge_fits e leads =
         let b = block_both blocks f are e.target leads.0 leads.1 in
@@ -104,7 +104,7 @@ module _ (r : Reading kit_contents) (names : List (Ptr BasicBlock)) where
     edges_fit [] lead = tt
     edges_fit (e ∷ es) lead = (edge_fits e lead.0, edges_fit es lead.1)
 
-    op_fits : (p : Op Value) → OpLeads blocks p → EdgesFit (Some f) p
+    op_fits : (p : Op Value) → OpLeads blocks p → EdgesOfOpFit (Some f) p
     op_fits (Branch s xs e es) lead = edges_fit (e ∷ es) lead
     op_fits _ lead = tt
 
@@ -125,7 +125,7 @@ module _ {N : Names} {S : Contents} (r : Reading S) (names : List N.block) where
   no_labels (operation h rs more) [] are = absurd are
   no_labels (operation h rs more) (p ∷ ps) are = λ i. labels_in (are.0 i) ++ no_labels more ps are.2 i
 
-  names_all : (bs : Tree N S Blocks) (ks : Fun N.value) → AreBlocks r names bs ks
+  names_all : (bs : Tree N S Blocks) (ks : Fun N.value) → AreFlatBlocks r names bs ks
       → map (λ (l : Label N S). l.name) (labels_in bs) ≡ names_in bs
   names_all end ks are = refl
   names_all (block l os more) [] are = absurd are
@@ -134,7 +134,7 @@ module _ {N : Names} {S : Contents} (r : Reading S) (names : List N.block) where
       ∙ ap (λ ns. l.name ∷ ns) (names_all more ks are.2)
 
   -- the names of the blocks of a function's tree are those of its blocks
-  pub names_are : (rs : Tree N S Regions) (bs : Tree N S Blocks) (ks : Fun N.value) → AreBlocks r names bs ks
+  pub names_are : (rs : Tree N S Regions) (bs : Tree N S Blocks) (ks : Fun N.value) → AreFlatBlocks r names bs ks
       → rs ≡ region bs end → map (λ (l : Label N S). l.name) (labels_in rs) ≡ names_in bs
   names_are rs bs ks are is =
       ap (λ (x : Tree N S Regions). map (λ (l : Label N S). l.name) (labels_in x)) is
@@ -195,7 +195,7 @@ module _ (leads : TypeHandle → Option KitType) (typed : Value → Option TypeH
 -- a function of a module that keeps the rules has a flat view
 pub flat_view : (leads : TypeHandle → Option KitType) (typed : Value → Option TypeHandle) (numbered : List ℕ → ℕ)
     (u : KitTree) → IsRuledFunction leads typed u → HasOwnNames u
-    → (f : Fun Value) × IsFlat (kit_reading leads numbered) u f
+    → (f : Fun Value) × FlattensTo (kit_reading leads numbered) u f
 flat_view leads typed numbered u ruled own =
     let r : Reading kit_contents = kit_reading leads numbered in
     let b = own_region leads typed u ruled in

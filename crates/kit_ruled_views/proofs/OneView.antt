@@ -11,7 +11,7 @@ use Rattle.kit_ops.specs.declared.kinds.KitOp.{KitOp}
 use Rattle.kit_ops.specs.declared.kinds.KitOp.TheVariants as ops
 use Rattle.kit_behaviour.specs.Machine.{Arith, Add, Sub, Mul, Div, Eql, Neq, Ult, Ule, Edge, Select, Plain, Nonzero}
 use Rattle.kit_behaviour.specs.Machine.{Cases, Op, Const, Calc, Emit, Call, Branch, Return, Fun}
-use Rattle.kit_views.specs.FlatView.{kind_of, IsBranch, IsOp, AreOps, AreBlocks, names_in, IsView}
+use Rattle.kit_views.specs.FlatView.{kind_of, IsFlatBranch, IsOp, AreOps, AreFlatBlocks, names_in, IsView}
 use Rattle.kit_views.specs.Reading.{Reading}
 
 -- ---- kinds
@@ -115,7 +115,7 @@ module _ {N : Names} {S : Contents} (r : Reading S) (names : List N.block) (apar
       leads : map Some h.successors ≡ slice_get names target ∷ []
       is : p ≡ Branch Plain [] (record { target = target; forwards = h.operands }) []
 
-    plain_is : (xs : List N.value) (e : Edge N.value) (es : List (Edge N.value)) → IsBranch r names h Plain xs e es
+    plain_is : (xs : List N.value) (e : Edge N.value) (es : List (Edge N.value)) → IsFlatBranch r names h Plain xs e es
         → IsPlain (Branch Plain xs e es)
     plain_is (x ∷ xs) e es is = absurd (omega (arith, is.1))
     plain_is [] e (g ∷ es) is = absurd (omega (arith, is.2))
@@ -136,7 +136,7 @@ module _ {N : Names} {S : Contents} (r : Reading S) (names : List N.block) (apar
           (record { target = second; forwards = drop (r.first h.content) (drop 1 h.operands) } ∷ [])
 
     choice_is : (xs : List N.value) (e : Edge N.value) (es : List (Edge N.value))
-        → IsBranch r names h Nonzero xs e es → IsChoice (Branch Nonzero xs e es)
+        → IsFlatBranch r names h Nonzero xs e es → IsChoice (Branch Nonzero xs e es)
     choice_is [] e es is = absurd (omega (arith, is.1))
     choice_is (x ∷ y ∷ xs) e es is = absurd (omega (arith, is.1))
     choice_is (x ∷ []) e [] is = absurd (omega (arith, is.2))
@@ -181,7 +181,7 @@ module _ {N : Names} {S : Contents} (r : Reading S) (names : List N.block) (apar
         behind_first (b ∷ bs) i j e = rest_same (Some b) (slice_get names i) (map Some bs) (slice_get names j ∷ []) e
 
     one_branch : (s t : Select) (xs ys : List N.value) (e g : Edge N.value) (es gs : List (Edge N.value))
-        → select_family s ≡ select_family t → IsBranch r names h s xs e es → IsBranch r names h t ys g gs
+        → select_family s ≡ select_family t → IsFlatBranch r names h s xs e es → IsFlatBranch r names h t ys g gs
         → Branch s xs e es ≡ Branch t ys g gs
     one_branch Plain Plain xs ys e g es gs same a b =
         one_plain (Branch Plain xs e es) (Branch Plain ys g gs) (plain_is xs e es a) (plain_is ys g gs b)
@@ -234,7 +234,7 @@ module _ {N : Names} {S : Contents} (r : Reading S) (names : List N.block) (apar
       let same : op_family p ≡ op_family q = sym (in_family h p a.1) ∙ in_family h q b.1 in
       λ i. one_op h p q same a.1 b.1 i ∷ one_ops more ps qs a.2 b.2 i
 
-  pub one_blocks : (bs : Tree N S Blocks) (ks js : Fun N.value) → AreBlocks r names bs ks → AreBlocks r names bs js
+  pub one_blocks : (bs : Tree N S Blocks) (ks js : Fun N.value) → AreFlatBlocks r names bs ks → AreFlatBlocks r names bs js
       → ks ≡ js
   one_blocks end [] [] a b = refl
   one_blocks end [] (j ∷ js) a b = absurd b
@@ -253,4 +253,4 @@ pub one_view : {N : Names} {S : Contents} (r : Reading S) (t : Root N S) (f g : 
 one_view r t f g view other apart =
     let same : other.blocks ≡ view.blocks = one_tree other.blocks view.blocks (sym other.region ∙ view.region) in
     one_blocks r (names_in view.blocks) apart view.blocks f g view.are
-    (subst (λ bs. AreBlocks r (names_in bs) bs g) same other.are)
+    (subst (λ bs. AreFlatBlocks r (names_in bs) bs g) same other.are)

@@ -23,7 +23,7 @@ use Rattle.kit_ops.specs.declared.types.KitType.{KitType}
 use Rattle.kit_ops.specs.Keys.{constant_value}
 use Rattle.kit.specs.Meaning.{kit}
 use Rattle.kit_views.specs.Reading.{kit_contents}
-use Rattle.kit_views.specs.Typed.{IsInteger, IsBit, TypesFit, IsTyped, number_as, width_at}
+use Rattle.kit_views.specs.Typed.{IsMachineInteger, LeadsToBit, TypesFit, IsTyped, number_as, width_at}
 use Rattle.kit_views.proofs.Lists.{at_has, has_get}
 use Rattle.kit_ruled_views.proofs.RenamedViews.{value_listed}
 use Rattle.kit_ruled_views.proofs.SmallLists.{at_mapped}
@@ -129,11 +129,11 @@ module _ {N M : Names} (leads : TypeHandle → Option KitType) (m : Maps N M) (t
       (λ u hu. argument_defined t.regions (at_root t) x.it u x.stands hu) v
       (subst (λ (z : BlockOccurrence M kit_contents). Has v z.label.arguments) (sym x.is) hv)
 
-  values_integer : (v : M.value) → Has v (defined_in under.regions) → IsInteger leads (type_under v)
+  values_integer : (v : M.value) → Has v (defined_in under.regions) → IsMachineInteger leads (type_under v)
   values_integer v has =
       let u = has-from_map m.value v (defined_in t.regions) (subst (Has v) (values_renamed m t.regions) has) in
-      subst (λ z. IsInteger leads (type_under z)) u.is
-      (subst (IsInteger leads) (sym (same_type u.it u.stands)) (typed.integers u.it u.stands))
+      subst (λ z. IsMachineInteger leads (type_under z)) u.is
+      (subst (IsMachineInteger leads) (sym (same_type u.it u.stands)) (typed.integers u.it u.stands))
 
   operands_defined : (p : Occurrence M kit_contents) (x : M.value) → Has p (occurrences_of under)
       → Has x p.head.operands → Has x (defined_in under.regions)
@@ -180,12 +180,12 @@ module _ {N M : Names} (leads : TypeHandle → Option KitType) (m : Maps N M) (t
           let a = operand_type x hx in
           let b = operand_type y hy in
           a.2 ∙ fits.0 a.0 b.0 a.1 b.1 ∙ sym b.2,
-      λ v hv. let u = result_type v hv in subst (IsBit leads) (sym u.2) (fits.1 u.0 u.1),
+      λ v hv. let u = result_type v hv in subst (LeadsToBit leads) (sym u.2) (fits.1 u.0 u.1),
     )
     fits_under ops.CondBr fits = λ x here.
         let u = at_mapped m.value o.head.operands 0 x here in
         let ty = ap type_under u.2 ∙ same_type u.0 (typed.operands o u.0 ho (has_get o.head.operands 0 u.0 u.1)) in
-        subst (IsBit leads) (sym ty) (fits u.0 u.1)
+        subst (LeadsToBit leads) (sym ty) (fits u.0 u.1)
     fits_under _ fits = tt
 
     -- ---- edges

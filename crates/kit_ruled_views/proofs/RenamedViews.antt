@@ -18,9 +18,9 @@ use Rattle.kit_behaviour.specs.Facts.{all_forwarded}
 use Rattle.kit_behaviour.specs.Machine.{AllEdges, Edge, Plain, Nonzero, Cases, Op, Const, Calc, Emit, Call, Branch}
 use Rattle.kit_behaviour.specs.Machine.{Return, Fun, ops_left, arguments_of}
 use Rattle.kit_behaviour.specs.Renaming.{rename_edge, rename_op, same_block, rename_block, rename_fun}
-use Rattle.kit_behaviour.specs.Rules.{EdgeFits, EdgesFit, AllEdgesFit}
+use Rattle.kit_behaviour.specs.Rules.{EdgeFits, EdgesOfOpFit, AllEdgesFit}
 use Rattle.kit_behaviour.specs.Scopes.{SameLength}
-use Rattle.kit_views.specs.FlatView.{kind_of, IsOf, IsOp, AreOps, AreBlocks, names_in, IsFlat}
+use Rattle.kit_views.specs.FlatView.{kind_of, IsOf, IsOp, AreOps, AreFlatBlocks, names_in, FlattensTo}
 use Rattle.kit_views.specs.Reading.{Reading}
 use Rattle.kit_views.proofs.Lists.{at_has, has_get}
 use Rattle.kit_ruled_views.proofs.SmallLists.{at_mapped}
@@ -110,7 +110,7 @@ module _ {V W : Type 0} (f : V → W) where
     edges_fit [] fits = tt
     edges_fit (e ∷ es) fits = (edge_fits e fits.0, edges_fit es fits.1)
 
-    op_fits : (p : Op V) → EdgesFit (Some ks) p → EdgesFit (Some all_under) (op_under p)
+    op_fits : (p : Op V) → EdgesOfOpFit (Some ks) p → EdgesOfOpFit (Some all_under) (op_under p)
     op_fits (Branch s xs e es) fits = (edge_fits e fits.0, edges_fit es fits.1)
     op_fits (Const v n) fits = tt
     op_fits (Calc a w v x y) fits = tt
@@ -195,8 +195,8 @@ module _ {N M : Names} {S : Contents} (r : Reading S) (m : Maps N M) where
     under_ops (operation h rs more) (p ∷ ps) are =
         (ap (λ (z : Tree N S Regions). rename m z) are.0, under_op h p are.1, under_ops more ps are.2)
 
-    under_blocks : (bs : Tree N S Blocks) (ks : Fun N.value) → AreBlocks r names bs ks
-        → AreBlocks r (map m.block names) (rename m bs) (map (rename_block m.value) ks)
+    under_blocks : (bs : Tree N S Blocks) (ks : Fun N.value) → AreFlatBlocks r names bs ks
+        → AreFlatBlocks r (map m.block names) (rename m bs) (map (rename_block m.value) ks)
     under_blocks end [] are = tt
     under_blocks end (k ∷ ks) are = absurd are
     under_blocks (block l os more) [] are = absurd are
@@ -211,8 +211,8 @@ module _ {N M : Names} {S : Contents} (r : Reading S) (m : Maps N M) where
   names_under (block l os more) = ap (λ ns. m.block l.name ∷ ns) (names_under more)
 
   -- a tree under names that are kept apart has its flat view under these names
-  pub flat_under : (t : Root N S) (f : Fun N.value) → IsOneToOne m t → IsFlat r t f
-      → (g : Fun M.value) × (rename_fun m.value (Some f) ≡ Some g) × IsFlat r (rename_root m t) g
+  pub flat_under : (t : Root N S) (f : Fun N.value) → IsOneToOne m t → FlattensTo r t f
+      → (g : Fun M.value) × (rename_fun m.value (Some f) ≡ Some g) × FlattensTo r (rename_root m t) g
   flat_under t f one is =
       let bs : Tree N S Blocks = is.view.blocks in
       let in_tree : (n : N.block) → Has n (names_in bs) → Has n (blocks_of t) =
@@ -227,7 +227,7 @@ module _ {N M : Names} {S : Contents} (r : Reading S) (m : Maps N M) where
             no_operands = ap (map m.value) is.view.no_operands;
             blocks = rename m bs;
             region = ap (λ (rs : Tree N S Regions). rename m rs) is.view.region;
-            are = subst (λ ns. AreBlocks r ns (rename m bs) (map (rename_block m.value) f)) (sym (names_under bs))
+            are = subst (λ ns. AreFlatBlocks r ns (rename m bs) (map (rename_block m.value) f)) (sym (names_under bs))
                 (under_blocks (names_in bs) bs f is.view.are);
           };
           operations = subst AreDistinct (sym (operation_names_renamed m t))

@@ -7,11 +7,11 @@ use Rattle.ir_trees.specs.Names.{Names, Contents}
 use Rattle.ir_trees.specs.Renames.{names_of}
 use Rattle.ir_trees.specs.Searched.{AreDistinct}
 use Rattle.ir_trees.specs.Trees.{Head, Label, Sort, Tree, Root, end, operation, block, region}
-use Rattle.opt_trees.specs.Dce.{Around, ForwardsTo}
+use Rattle.opt_trees.specs.Dce.{TreeSurroundings, ForwardsTo}
 use Rattle.opt_trees.specs.Occurrences.{Has, Occurrence, BlockOccurrence, Inside, inner, next_block, next_region}
 use Rattle.opt_trees.specs.Occurrences.{at_root, occurrences_in, occurrences_of, block_occurrences_in}
 use Rattle.opt_trees.specs.Occurrences.{block_occurrences_of, defined_in}
-use Rattle.opt_trees.specs.Simplify.{Place, keep, IsCut, LosesUse}
+use Rattle.opt_trees.specs.Simplify.{StartingRegions, keep, IsCut, LosesUse}
 use Rattle.opt_trees.proofs.NoneDead.{has-append, has-left, has-right}
 use Rattle.kit_ops.specs.declared.attributes.IntegerAttr.{IntegerAttr}
 use Rattle.kit_ops.specs.declared.types.KitType.{KitType}
@@ -229,7 +229,7 @@ module _ {N : Names} {S : Contents} (g : N.block → Bool) where
       (value_stays bs (distinct_left (defined_in bs) (defined_in rest) distinct) v)
       (value_stays rest (distinct_right (defined_in bs) (defined_in rest) distinct) v) has
 
-module _ {N : Names} (leads : TypeHandle → Option KitType) (type_at : N.value → TypeHandle) (w : Around N IntegerAttr)
+module _ {N : Names} (leads : TypeHandle → Option KitType) (type_at : N.value → TypeHandle) (w : TreeSurroundings N IntegerAttr)
     (t : Root N kit_contents) (distinct : AreDistinct (defined_in t.regions)) (typed : IsTyped leads {N = N} type_at t)
     (gone : N.block → Bool) where
   abbrev after : Root N kit_contents
@@ -295,7 +295,7 @@ module _ {N : Names} (leads : TypeHandle → Option KitType) (type_at : N.value 
   }
 
 pub typed_after_cut : {N : Names} (leads : TypeHandle → Option KitType) (type_at : N.value → TypeHandle)
-    (w : Around N IntegerAttr) (p : Place N) (t rest : Root N kit_contents) → AreDistinct (defined_in t.regions)
+    (w : TreeSurroundings N IntegerAttr) (p : StartingRegions N) (t rest : Root N kit_contents) → AreDistinct (defined_in t.regions)
     → IsTyped leads {N = N} type_at t → IsCut kit p t rest → (LosesUse w t rest → ⊥)
     → IsTyped leads {N = N} type_at rest
 typed_after_cut {N} leads type_at w p t rest distinct typed cut loses_none =

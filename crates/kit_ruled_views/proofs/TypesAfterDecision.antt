@@ -6,7 +6,7 @@ use Rattle.ir_base.specs.declared.types.TypeHandle.{TypeHandle}
 use Rattle.ir_trees.specs.Names.{Names, Contents}
 use Rattle.ir_trees.specs.Renames.{names_of}
 use Rattle.ir_trees.specs.Trees.{Head, Label, Regions, Sort, Tree, Root, end, operation, block, region}
-use Rattle.opt_trees.specs.Dce.{Around, ForwardsTo}
+use Rattle.opt_trees.specs.Dce.{TreeSurroundings, ForwardsTo}
 use Rattle.opt_trees.specs.Dialect.{Dialect}
 use Rattle.opt_trees.specs.Facts.{forwarded}
 use Rattle.opt_trees.specs.Occurrences.{Has, Occurrence, BlockOccurrence, Inside, inner, next_block, next_region}
@@ -181,7 +181,7 @@ module _ {N : Names} {S : Contents} {A : Type 0} (d : Dialect S A) (alone : N.va
   defined_same (block l os rest) = λ i. names_of l.arguments ++ (defined_same os i ++ defined_same rest i)
   defined_same (region bs rest) = λ i. defined_same bs i ++ defined_same rest i
 
-module _ {N : Names} (leads : TypeHandle → Option KitType) (type_at : N.value → TypeHandle) (w : Around N IntegerAttr)
+module _ {N : Names} (leads : TypeHandle → Option KitType) (type_at : N.value → TypeHandle) (w : TreeSurroundings N IntegerAttr)
     (t : Root N kit_contents) (typed : IsTyped leads {N = N} type_at t) where
   abbrev after : Root N kit_contents
   after = decided kit w t
@@ -319,6 +319,6 @@ module _ {N : Names} (leads : TypeHandle → Option KitType) (type_at : N.value 
   }
 
 pub typed_after_decided : {N : Names} (leads : TypeHandle → Option KitType) (type_at : N.value → TypeHandle)
-    (w : Around N IntegerAttr) (t : Root N kit_contents) → IsTyped leads {N = N} type_at t
+    (w : TreeSurroundings N IntegerAttr) (t : Root N kit_contents) → IsTyped leads {N = N} type_at t
     → IsTyped leads {N = N} type_at (decided kit w t)
 typed_after_decided leads type_at w t typed = decided_typed leads type_at w t typed

@@ -13,7 +13,7 @@ use Rattle.opt_trees.specs.Occurrences.{defined_in}
 use Rattle.opt_solvers.specs.declared.known.Known.{Known}
 use Rattle.opt_solvers.specs.declared.known.Known.TheVariants as known
 use Rattle.opt_trees.specs.Facts.{Facts, IsMostPrecise}
-use Rattle.opt_trees.specs.Sccp.{Name, Old, New, fresh, IsResult, IsArgument, IsMade, IsSccp, used_as, constant_head}
+use Rattle.opt_trees.specs.Sccp.{Name, Old, New, fresh, IsResult, IsArgument, AreMadeConstants, IsSccp, used_as, constant_head}
 use Rattle.opt_trees.specs.Sccp.{old_head, put, put_root}
 use Rattle.opt_trees.proofs.Defined.{result_defined, argument_defined}
 use Rattle.opt_trees.proofs.Lists.{some_same, names-map, length-map, has-from_map}
@@ -30,9 +30,9 @@ use Rattle.kit_behaviour.specs.Facts as flat
 use Rattle.kit_behaviour.specs.Facts.{Fact, Undetermined, Unknown}
 use Rattle.kit_behaviour.specs.Machine.{Fun}
 use Rattle.kit_views.specs.FlatFacts.{IsKnownAs}
-use Rattle.kit_views.specs.FlatView.{IsSameness, IsFlat}
+use Rattle.kit_views.specs.FlatView.{IsSameness, FlattensTo}
 use Rattle.kit_views.specs.Reading.{kit_contents, kit_reading}
-use Rattle.kit_views.specs.Typed.{IsInteger, IsBit, TypesFit, IsTyped, number_as, width_at}
+use Rattle.kit_views.specs.Typed.{IsMachineInteger, LeadsToBit, TypesFit, IsTyped, number_as, width_at}
 use Rattle.kit_views.proofs.FlatBest.{flat_best}
 use Rattle.kit_ruled_views.specs.Laws.{type_after}
 use Rattle.kit_ruled_views.proofs.FunctionParts.{Maker, result, argument, maker_of}
@@ -153,12 +153,12 @@ module _ {N : Names} (leads : TypeHandle → Option KitType) (type_at : N.value 
             let a = used_of x h hx in
             let b = used_of y h hy in
             used_typed x a.0 a.2 ∙ fits.0 a.0 b.0 a.1 b.1 ∙ sym (used_typed y b.0 b.2),
-        λ v hv. let u = old_name v h.results hv in subst (λ y. IsBit leads ((type_after type_at) y)) (sym u.2)
+        λ v hv. let u = old_name v h.results hv in subst (λ y. LeadsToBit leads ((type_after type_at) y)) (sym u.2)
             (fits.1 u.0 u.1),
       )
       old_fits ops.CondBr h fits = λ x here.
           let o = at_mapped used h.operands 0 x here in
-          subst (IsBit leads) (sym (used_typed x o.0 o.2)) (fits o.0 o.1)
+          subst (LeadsToBit leads) (sym (used_typed x o.0 o.2)) (fits o.0 o.1)
       old_fits _ h fits = tt
 
       -- ---- the tree
@@ -208,7 +208,7 @@ module _ {N : Names} (leads : TypeHandle → Option KitType) (type_at : N.value 
           not_old v u e = cc e
 
       values_integer : (v : Name N.value N.value) → Has v (defined_in after.regions)
-          → IsInteger leads ((type_after type_at) v)
+          → IsMachineInteger leads ((type_after type_at) v)
       values_integer (Old v) has = typed.integers v (value_was kit made t.regions v has)
       values_integer (New v) has =
           let m = new_defined v (maker_of {N = fresh N} after (New v) has) in
@@ -310,7 +310,7 @@ module _ {N : Names} (leads : TypeHandle → Option KitType) (type_at : N.value 
 module _ {N : Names} (leads : TypeHandle → Option KitType) (numbered : List ℕ → ℕ) (same : N.value → N.value → Bool)
     (sameness : IsSameness same) (same_block : N.block → N.block → Bool) (block_law : IsSameness same_block)
     (type_at : N.value → TypeHandle) (t : Root N kit_contents) (f : Fun N.value)
-    (is_flat : IsFlat (kit_reading leads numbered) t f) (typed : IsTyped leads {N = N} type_at t) where
+    (is_flat : FlattensTo (kit_reading leads numbered) t f) (typed : IsTyped leads {N = N} type_at t) where
   -- a value that is known to be an attribute is known to be a number of its type
   known_number : (v : N.value) (a : IntegerAttr) (k : Known IntegerAttr) (fact : Fact)
       → IsKnownAs leads (type_at v) k fact → k ≡ known.One a → IsNumber leads type_at v a
@@ -328,7 +328,7 @@ module _ {N : Names} (leads : TypeHandle → Option KitType) (numbered : List �
       not_any e = cc e
 
   module _ (facts : Facts N IntegerAttr) (best : IsMostPrecise kit t facts) (made : N.value → Option IntegerAttr)
-      (is_made : IsMade kit t facts made) where
+      (is_made : AreMadeConstants kit t facts made) where
     gets_defined : (v : N.value) (a : IntegerAttr) → made v ≡ Some a → Has v (defined_in t.regions)
     gets_defined v a is = ⊎_elim
         (λ (r : IsResult kit t facts v). result_defined t.regions (at_root t) r.definer v r.stands r.result)
@@ -373,7 +373,7 @@ module _ {N : Names} (leads : TypeHandle → Option KitType) (numbered : List �
 pub typed_after_sccp : {N : Names} (same : N.value → N.value → Bool) (same_block : N.block → N.block → Bool)
     (leads : TypeHandle → Option KitType) (numbered : List ℕ → ℕ) (type_at : N.value → TypeHandle)
     (t : Root N kit_contents) (after : Root (fresh N) kit_contents) (f : Fun N.value)
-    → IsSameness same → IsSameness same_block → IsFlat (kit_reading leads numbered) t f
+    → IsSameness same → IsSameness same_block → FlattensTo (kit_reading leads numbered) t f
     → IsTyped leads {N = N} type_at t → IsSccp kit t after → IsTyped leads {N = fresh N} (type_after type_at) after
 typed_after_sccp {N} same same_block leads numbered type_at t then_is f sameness block_law is_flat typed pass =
     subst (IsTyped leads {N = fresh N} (type_after type_at)) (sym pass.is)

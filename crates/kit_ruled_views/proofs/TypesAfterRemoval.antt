@@ -7,8 +7,8 @@ use Rattle.ir_names.specs.Dictionary.{attribute_at}
 use Rattle.ir_trees.specs.Names.{Names, Contents}
 use Rattle.ir_trees.specs.Renames.{names_of}
 use Rattle.ir_trees.specs.Trees.{Defined, Head, Label, Root}
-use Rattle.opt_trees.specs.Dce.{Around, Whole, Slot, ForwardsTo, IsDead, dies, IsExcused, by_operation, by_argument}
-use Rattle.opt_trees.specs.Dce.{IsUse, Gone, gone_at, thin_head, thin, IsGone, IsDce}
+use Rattle.opt_trees.specs.Dce.{TreeSurroundings, Whole, Slot, ForwardsTo, IsDead, dies, IsExcused, by_operation, by_argument}
+use Rattle.opt_trees.specs.Dce.{IsUseOfItem, Gone, gone_at, thin_head, thin, IsGoneExactly, IsDce}
 use Rattle.opt_trees.specs.Dialect.{Dialect, Lawful, PicksForwarded, drop, rank, renumber}
 use Rattle.opt_trees.specs.Occurrences.{Has, Occurrence, BlockOccurrence, Use, OperationsApart, BlocksApart, at_root}
 use Rattle.opt_trees.specs.Occurrences.{occurrences_of, block_occurrences_of, defined_in}
@@ -22,7 +22,7 @@ use Rattle.kit.specs.Lawful.{kit_lawful}
 use Rattle.kit.specs.Meaning.{kit, forwards_of, range, dropped_of}
 use Rattle.kit_ops.specs.Keys.{constant_value}
 use Rattle.kit_behaviour.specs.Machine.{Fun}
-use Rattle.kit_views.specs.FlatView.{IsFlat, names_in}
+use Rattle.kit_views.specs.FlatView.{FlattensTo, names_in}
 use Rattle.kit_views.specs.Reading.{kit_contents, kit_reading}
 use Rattle.kit_views.specs.Typed.{TypesFit, IsTyped}
 use Rattle.kit_views.proofs.Forwarded.{range_get}
@@ -163,8 +163,8 @@ dropped_was q (y ∷ xs) x has = go (q 0) has (λ more. dropped_was (λ i. q (su
 
 -- ---- what stays
 
-module _ {N : Names} {S : Contents} {A : Type 0} (d : Dialect S A) (lawful : Lawful d) (w : Around N A) (t : Root N S)
-    (g : Gone N) (is : IsGone d w t g) (apart_ops : OperationsApart t) (apart_blocks : BlocksApart t) where
+module _ {N : Names} {S : Contents} {A : Type 0} (d : Dialect S A) (lawful : Lawful d) (w : TreeSurroundings N A) (t : Root N S)
+    (g : Gone N) (is : IsGoneExactly d w t g) (apart_ops : OperationsApart t) (apart_blocks : BlocksApart t) where
   abbrev after : Root N S
   after = record { head = t.head; regions = thin d g t.regions }
 
@@ -180,7 +180,7 @@ module _ {N : Names} {S : Contents} {A : Type 0} (d : Dialect S A) (lawful : Law
   stays_in n [] all has = absurd has
   stays_in n (m ∷ ns) all has = ⊎_elim (λ e. ap (λ z. g.item (Whole z)) e ∙ all.0) (λ k. stays_in n ns all.1 k) has
 
-  uses_of : (x : _) → IsDead d w t x → (v : N.value) (o : Occurrence N S) (i : ℕ) → IsUse t x v o → Use t v o i
+  uses_of : (x : _) → IsDead d w t x → (v : N.value) (o : Occurrence N S) (i : ℕ) → IsUseOfItem t x v o → Use t v o i
       → IsExcused d w t o i
   uses_of _ (dies x may kept uses) v o i a b = uses v o i a b
 
@@ -372,8 +372,8 @@ no_condition k first n edge place kind gives =
     go : (edge : ℕ) → slice_get (forwards_of ops.CondBr first n edge) place ≡ Some 0 → ⊥
     go edge h = either (nat_eq edge 0) (nat_eq edge 1) h
 
-module _ {N : Names} (leads : TypeHandle → Option KitType) (type_at : N.value → TypeHandle) (w : Around N IntegerAttr)
-    (t : Root N kit_contents) (g : Gone N) (is : IsGone kit w t g) (apart_ops : OperationsApart t)
+module _ {N : Names} (leads : TypeHandle → Option KitType) (type_at : N.value → TypeHandle) (w : TreeSurroundings N IntegerAttr)
+    (t : Root N kit_contents) (g : Gone N) (is : IsGoneExactly kit w t g) (apart_ops : OperationsApart t)
     (apart_blocks : BlocksApart t)
     (typed : IsTyped leads {N = N} type_at t) where
   abbrev left : Root N kit_contents
@@ -463,8 +463,8 @@ module _ {N : Names} (leads : TypeHandle → Option KitType) (type_at : N.value 
   }
 
 pub typed_after_dce : {N : Names} (leads : TypeHandle → Option KitType) (numbered : List ℕ → ℕ)
-    (type_at : N.value → TypeHandle) (w : Around N IntegerAttr) (t after : Root N kit_contents) (f : Fun N.value)
-    → IsFlat (kit_reading leads numbered) t f → IsTyped leads {N = N} type_at t → IsDce kit w t after
+    (type_at : N.value → TypeHandle) (w : TreeSurroundings N IntegerAttr) (t after : Root N kit_contents) (f : Fun N.value)
+    → FlattensTo (kit_reading leads numbered) t f → IsTyped leads {N = N} type_at t → IsDce kit w t after
     → IsTyped leads {N = N} type_at after
 typed_after_dce {N} leads numbered type_at w t rest f is_flat typed pass =
     let names = names_are (kit_reading leads numbered) (names_in is_flat.view.blocks) t.regions is_flat.view.blocks f

@@ -8,7 +8,7 @@ use Rattle.ir_program.specs.declared.handles.Operation.{Operation}
 use Rattle.ir_program.specs.declared.handles.Ptr.{Ptr}
 use Rattle.ir_program.specs.declared.handles.Value.{Value}
 use Rattle.ir_trees.specs.Stands.{by_handle, StandsFor}
-use Rattle.opt_trees.specs.Dce.{Around}
+use Rattle.opt_trees.specs.Dce.{TreeSurroundings}
 use Rattle.opt_inside.specs.Around.{IsTakenOutside, SaysAround}
 use Rattle.opt_inside.specs.Occurring.{IsDefinedBelow}
 use Rattle.kit.specs.declared.dialect.Unused.{Unused}
@@ -21,7 +21,7 @@ use Rattle.kit_checks.specs.declared.rule.Rule.{Rule}
 use Rattle.kit_checks.specs.Faults.{KeptEverywhere}
 use Rattle.kit_checks.specs.World.{world_of}
 use Rattle.kit_views.specs.FlatBranches.{KnowsConstants}
-use Rattle.kit_views.specs.FlatView.{IsFlat}
+use Rattle.kit_views.specs.FlatView.{FlattensTo}
 use Rattle.kit_views.specs.Laws.{NothingPinned}
 use Rattle.kit_views.specs.Reading.{kit_reading}
 use Rattle.kit_views.specs.Typed.{IsTyped}
@@ -43,7 +43,7 @@ pub record IsTreeOf (s : KitContext) (function : Ptr Operation) (u : KitTree) : 
 -- it has a flat view, whatever numbers the names of functions have
 abbrev pub HasFlatView : KitContext → Ptr Operation → Type 0
 HasFlatView s function = (u : KitTree) → IsTreeOf s function u → (numbered : List ℕ → ℕ) →
-    (f : Fun Value) × IsFlat (kit_reading (key_at s.types) numbered) u f
+    (f : Fun Value) × FlattensTo (kit_reading (key_at s.types) numbered) u f
 
 -- it is typed, by the types of the context
 abbrev pub HasTypes : KitContext → Ptr Operation → Type 0
@@ -55,8 +55,8 @@ abbrev pub IsSelfContained : KitContext → Ptr Operation → Type 0
 IsSelfContained s root = (v : Value) → IsDefinedBelow s.program root v → IsTakenOutside s.program root v → ⊥
 
 -- it holds of the function's tree and of what the context says beside it
-abbrev pub OfSurroundings : KitContext → Ptr Operation → (Around by_handle IntegerAttr → KitTree → Type 0) → Type 0
-OfSurroundings s function P = (w : Around by_handle IntegerAttr) → SaysAround kit s.program function w →
+abbrev pub OfSurroundings : KitContext → Ptr Operation → (TreeSurroundings by_handle IntegerAttr → KitTree → Type 0) → Type 0
+OfSurroundings s function P = (w : TreeSurroundings by_handle IntegerAttr) → SaysAround kit s.program function w →
     (u : KitTree) → IsTreeOf s function u → P w u
 
 -- no value of the function is named from outside it

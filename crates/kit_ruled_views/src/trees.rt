@@ -1,14 +1,14 @@
 //! Of trees by themselves.
 ghost use Rattle.ir_program.specs.Replacing.{same_block, same_value};
 ghost use Rattle.ir_trees.specs.Renames.{holding, named};
-ghost use Rattle.kit_ruled_views.specs.Laws.{FlatUnderNames, FunctionsAreFlat, FunctionsAreTyped};
+ghost use Rattle.kit_ruled_views.specs.Laws.{FlatUnderNames, RuledFunctionsAreFlat, FunctionsAreTyped};
 ghost use Rattle.kit_ruled_views.specs.Laws.{TypedAfterCut, TypedAfterDce, TypedAfterDecided, TypedAfterSccp};
 ghost use Rattle.kit_ruled_views.specs.Laws.{TypedUnderNames, ViewsAreOne};
 ghost use Rattle.kit_views.specs.FlatView.{IsSameness};
 
 /// A function of a module that keeps the rules has a flat view.
 pub fn functions_are_flat()
-    ensures { FunctionsAreFlat }
+    ensures { RuledFunctionsAreFlat }
 {}
 
 /// A function of a module that keeps the rules is typed.

@@ -31,9 +31,9 @@ use Rattle.kit_behaviour.specs.Machine.{Op, Const, Calc, Emit, Call, Branch, Ret
 use Rattle.kit_behaviour.specs.Numbering.{AnyBlock}
 use Rattle.kit_behaviour.specs.Renaming.{rename_op, rename_block, same_block, AllNamed, OpNamed, OpsNamed}
 use Rattle.kit_behaviour.proofs.ControlFlow.NamedPlacing.{AreNamed}
-use Rattle.kit_views.specs.FlatView.{kind_of, IsOp, AreOps, AreBlocks}
+use Rattle.kit_views.specs.FlatView.{kind_of, IsOp, AreOps, AreFlatBlocks}
 use Rattle.kit_views.specs.Reading.{kit_reading}
-use Rattle.kit_writable_trees.specs.Laws.{KitContext}
+use Rattle.kit_writable_trees.specs.Laws.{WritableContext}
 use Rattle.kit_text_programs.specs.Laws.{HaveOwnNumbers}
 use Rattle.kit_text_programs.proofs.SaidPrograms.{width_said, bits_said, first_in, second_in, op_said, numbers_in}
 use Rattle.kit_text_programs.proofs.SaidPrograms.{widths_in, ops_said, fun_said}
@@ -60,7 +60,7 @@ calc_said Neq ds ws us ps = refl
 calc_said Ult ds ws us ps = refl
 calc_said Ule ds ws us ps = refl
 
-module _ (s : KitContext) (values : List Value) (own : HaveOwnNumbers values) (numbered : List ℕ → ℕ) where
+module _ (s : WritableContext) (values : List Value) (own : HaveOwnNumbers values) (numbered : List ℕ → ℕ) where
   -- values by their numbers in the text
   abbrev by_number : Value → ℕ
   by_number = number_of_value values own
@@ -249,7 +249,7 @@ module _ (s : KitContext) (values : List Value) (own : HaveOwnNumbers values) (n
 
     pub blocks_same : (bs : List (Ptr BasicBlock)) (x : KitPart Blocks) (ts : Entities ℕ) (f : Fun Value)
         → AreTree s.program Blocks bs x → HaveBlockTrees says (Named values) HasSomeLabel (seen s) bs ts
-        → AreBlocks (kit_reading (key_at s.types) numbered) names x f
+        → AreFlatBlocks (kit_reading (key_at s.types) numbered) names x f
         → (map (rename_block by_number) f ≡ fun_said ts) × BlocksNamed f
     blocks_same [] x no_entity [] no_blocks h are = (refl, tt)
     blocks_same [] x no_entity (k ∷ ks) no_blocks h are = absurd are

@@ -11,7 +11,7 @@ use Rattle.ir_names.specs.declared.kinds.Signedness.{Signedness}
 use Rattle.ir_names.specs.declared.identifier.Identifier.{Identifier}
 use Rattle.ir_names.specs.Dictionary.{attribute_at}
 use Rattle.ir_names.specs.Identifier.{text_of}
-use Rattle.ir_names.specs.Tree.{Tree, Trees, node, no_tree, a_tree}
+use Rattle.ir_names.specs.Tree.{LabelledTree, Trees, node, no_tree, a_tree}
 use Rattle.ir_print.specs.Pieces.{type_of_kind, attribute_of_kind, number, ValueTree, Pieces}
 use Rattle.ir_print.specs.Shown.{Said, said_type, said_attribute, said_list, said_name, said_number, said_width}
 use Rattle.ir_print.specs.Shown.{said_region, leaf, ShowsAll, ShowsType}
@@ -185,7 +185,7 @@ module _ (keys : List KitType) where
       let parts = some_pair_parts 2 n none us e in
       no_piece n ts (subst (λ (z : SaidTrees). ShowsAll says keys z ts) (sym parts.1) h)
 
-  type_same : (a b : TypeHandle) → ◌≡◌ {A = Tree (Said KitAttr)} (leaf (said_type a)) (leaf (said_type b)) → a ≡ b
+  type_same : (a b : TypeHandle) → ◌≡◌ {A = LabelledTree (Said KitAttr)} (leaf (said_type a)) (leaf (said_type b)) → a ≡ b
   type_same a b e = cc
 
   -- the type that is shown has the width that is said
@@ -233,7 +233,7 @@ module _ (keys : List KitType) where
   attribute_bits (attrs.Note a) n us ts e h = absurd (none-some {A = ℕ × SaidTrees} (n, us) e)
   attribute_bits (attrs.Origin a) n us ts e h = absurd (none-some {A = ℕ × SaidTrees} (n, us) e)
 
-  attr_same : (a b : KitAttr) → ◌≡◌ {A = Tree (Said KitAttr)} (leaf (said_attribute a)) (leaf (said_attribute b))
+  attr_same : (a b : KitAttr) → ◌≡◌ {A = LabelledTree (Said KitAttr)} (leaf (said_attribute a)) (leaf (said_attribute b))
       → a ≡ b
   attr_same a b e = cc
 

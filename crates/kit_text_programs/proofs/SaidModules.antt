@@ -21,15 +21,15 @@ use Rattle.kit.specs.Meaning.{KitOperation, is_function, is_module}
 use Rattle.kit_ops.specs.declared.attributes.KitAttr.{KitAttr}
 use Rattle.kit_ops.specs.declared.kinds.KitOp.{KitOp}
 use Rattle.kit_texts.specs.Says.{says}
-use Rattle.kit_behaviour.specs.Machine.{Fun, Program}
+use Rattle.kit_behaviour.specs.Machine.{Fun, FunctionsByPath}
 use Rattle.kit_behaviour.specs.Numbering.{place_fun}
 use Rattle.kit_behaviour.specs.Places.{Place}
 use Rattle.kit_behaviour.proofs.ControlFlow.NamedPlacing.{placed_on}
-use Rattle.kit_views.specs.FlatView.{AreBlocks, names_in}
+use Rattle.kit_views.specs.FlatView.{AreFlatBlocks, names_in}
 use Rattle.kit_views.specs.Reading.{kit_reading}
 use Rattle.kit_module_programs.specs.Paths.{is_function_named, is_module_named, first_with, members_in, locate}
-use Rattle.kit_module_programs.specs.Programs.{IsFunctionOf, IsProgramOf}
-use Rattle.kit_writable_trees.specs.Laws.{KitContext, KitTree}
+use Rattle.kit_module_programs.specs.Programs.{HasFunctionView, IsProgramOf}
+use Rattle.kit_writable_trees.specs.Laws.{WritableContext, WritableTree}
 use Rattle.kit_text_programs.specs.Laws.{HaveOwnNumbers}
 use Rattle.kit_text_programs.proofs.SaidPrograms.{fun_said, first_inside, members_said, regions_below, first_said}
 use Rattle.kit_text_programs.proofs.SaidPrograms.{is_called, locate_said, placed_said, program_said}
@@ -39,7 +39,7 @@ use Rattle.kit_text_programs.proofs.SaidFunctions.{KitPart, same_operation, same
 use Rattle.kit_text_programs.proofs.SaidFunctions.{blocks_same}
 use Rattle.kit_text_programs.proofs.Unlabelled.{HasSomeLabel}
 
-module _ (s : KitContext) (values : List Value) (own : HaveOwnNumbers values) (numbered : List ℕ → ℕ) where
+module _ (s : WritableContext) (values : List Value) (own : HaveOwnNumbers values) (numbered : List ℕ → ℕ) where
   -- the regions are those that the text says
   record AreSaidRegions (x : KitPart Regions) (us : Entities ℕ) : Type 0 where
     handles : List (Ptr Region)
@@ -53,7 +53,7 @@ module _ (s : KitContext) (values : List Value) (own : HaveOwnNumbers values) (n
     trees : HaveTrees says (Named values) HasSomeLabel (seen s) members us
 
   -- a tree is found where the text has one, with the regions that the text says
-  abbrev AreFoundAlike : Option KitTree → Option (Entities ℕ) → Type 0
+  abbrev AreFoundAlike : Option WritableTree → Option (Entities ℕ) → Type 0
   AreFoundAlike None None = Unit {0}
   AreFoundAlike (Some u) (Some us) = AreSaidRegions u.regions us
   AreFoundAlike None (Some us) = ⊥
@@ -107,7 +107,7 @@ module _ (s : KitContext) (values : List Value) (own : HaveOwnNumbers values) (n
 
   -- ---- paths
 
-  chosen_alike : (b c : Bool) (u : KitTree) (us : Entities ℕ) (o : Option KitTree) (x : Option (Entities ℕ)) → b ≡ c
+  chosen_alike : (b c : Bool) (u : WritableTree) (us : Entities ℕ) (o : Option WritableTree) (x : Option (Entities ℕ)) → b ≡ c
       → AreSaidRegions u.regions us → AreFoundAlike o x
       → AreFoundAlike (if b then Some u else o) (if c then Some us else x)
   chosen_alike true true u us o x e here rest = here
@@ -158,16 +158,16 @@ module _ (s : KitContext) (values : List Value) (own : HaveOwnNumbers values) (n
       module_called s.types.keys numbered x v.payload.kind v.payload.notes.attributes _ _ kind h.said pieces h.says_it
       h.shown
 
-  then_alike : (f : KitTree → Option KitTree) (g : Entities ℕ → Option (Entities ℕ)) (o : Option KitTree)
+  then_alike : (f : WritableTree → Option WritableTree) (g : Entities ℕ → Option (Entities ℕ)) (o : Option WritableTree)
       (x : Option (Entities ℕ))
-      → ((u : KitTree) (us : Entities ℕ) → AreSaidRegions u.regions us → AreFoundAlike (f u) (g us))
+      → ((u : WritableTree) (us : Entities ℕ) → AreSaidRegions u.regions us → AreFoundAlike (f u) (g us))
       → AreFoundAlike o x → AreFoundAlike (option_and_then f o) (option_and_then g x)
   then_alike f g None None each h = tt
   then_alike f g (Some u) (Some us) each h = each u us h
   then_alike f g None (Some us) each h = absurd h
   then_alike f g (Some u) None each h = absurd h
 
-  located_alike : (path : List ℕ) (t : KitTree) (us : Entities ℕ) → AreSaidRegions t.regions us
+  located_alike : (path : List ℕ) (t : WritableTree) (us : Entities ℕ) → AreSaidRegions t.regions us
       → AreFoundAlike (locate numbered path t) (locate_said numbered path us)
   located_alike [] t us h = tt
   located_alike (x ∷ []) t us h =
@@ -191,7 +191,7 @@ module _ (s : KitContext) (values : List Value) (own : HaveOwnNumbers values) (n
 
   -- the flat view of a function, its values named by their places
   module _ (blocks : KitPart Blocks) (f : Fun Value)
-      (are : AreBlocks (kit_reading (key_at s.types) numbered) (names_in blocks) blocks f) where
+      (are : AreFlatBlocks (kit_reading (key_at s.types) numbered) (names_in blocks) blocks f) where
     function_placed : (rs : List (Ptr Region)) (x : KitPart Regions) (us : Entities ℕ) → AreTree s.program Regions rs x
         → HaveRegionTrees says (Named values) HasSomeLabel (seen s) rs us → x ≡ region blocks end
         → place_fun same_value (Some f) ≡ place_fun nat_eq (Some (fun_said (first_inside us)))
@@ -212,8 +212,8 @@ module _ (s : KitContext) (values : List Value) (own : HaveOwnNumbers values) (n
     function_placed (r ∷ rs) x (an_entity (entity (block label arguments) us) ts)
         (first_region _ _ v bs rest there inner after) h e = absurd h.0
 
-  function_said : (o : Option KitTree) (x : Option (Entities ℕ)) (q : Option (Fun Place)) → AreFoundAlike o x
-      → IsFunctionOf {N = by_handle} same_value (key_at s.types) numbered o q → q ≡ placed_said numbered x
+  function_said : (o : Option WritableTree) (x : Option (Entities ℕ)) (q : Option (Fun Place)) → AreFoundAlike o x
+      → HasFunctionView {N = by_handle} same_value (key_at s.types) numbered o q → q ≡ placed_said numbered x
   function_said None None q h is = is
   function_said None (Some us) q h is = absurd h
   function_said (Some u) None q h is = absurd h
@@ -223,7 +223,7 @@ module _ (s : KitContext) (values : List Value) (own : HaveOwnNumbers values) (n
 
   -- ---- modules
 
-  regions_so : (text : Entity ℕ) (root : Ptr Operation) (t : KitTree)
+  regions_so : (text : Entity ℕ) (root : Ptr Operation) (t : WritableTree)
       → HasTree says (Named values) HasSomeLabel (seen s) root text → StandsFor s.program root t
       → AreSaidRegions t.regions (regions_below text)
   regions_so (entity (operation kind results used pieces) us) root t h stands =
@@ -240,7 +240,7 @@ module _ (s : KitContext) (values : List Value) (own : HaveOwnNumbers values) (n
   regions_so (entity (block label arguments) us) root t h stands = absurd h
 
   -- the program is the one that the text says
-  pub said_so : (root : Ptr Operation) (text : Entity ℕ) (t : KitTree) (p : Program Place)
+  pub said_so : (root : Ptr Operation) (text : Entity ℕ) (t : WritableTree) (p : FunctionsByPath Place)
       → HasTree says (Named values) HasSomeLabel (seen s) root text → StandsFor s.program root t
       → IsProgramOf {N = by_handle} same_value (key_at s.types) numbered t p
       → p ≡ program_said numbered (regions_below text)

@@ -12,7 +12,7 @@ use Rattle.kit.specs.Meaning.{is_function, is_module}
 use Rattle.kit_texts.specs.Forms.{read_ops}
 use Rattle.kit_texts.specs.Numbers.{number_modulo}
 use Rattle.kit_behaviour.specs.Machine.{Add, Sub, Mul, Div, Eql, Neq, Ult, Ule}
-use Rattle.kit_behaviour.specs.Machine.{Op, Const, Calc, Emit, Return, Fun, Program}
+use Rattle.kit_behaviour.specs.Machine.{Op, Const, Calc, Emit, Return, Fun, FunctionsByPath}
 use Rattle.kit_behaviour.specs.Numbering.{place_fun}
 use Rattle.kit_behaviour.specs.Places.{Place}
 
@@ -129,5 +129,5 @@ module _ (numbered : List ℕ → ℕ) where
   placed_said (Some us) = place_fun nat_eq (Some (fun_said (first_inside us)))
 
   -- the program that the regions of a module say
-  abbrev pub program_said : Entities ℕ → Program Place
+  abbrev pub program_said : Entities ℕ → FunctionsByPath Place
   program_said us path = placed_said (locate_said (reverse path) us)

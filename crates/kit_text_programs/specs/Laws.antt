@@ -11,11 +11,11 @@ use Rattle.ir_types.specs.Interned.{key_at}
 use Rattle.text_dialect.specs.Seen.{seen}
 use Rattle.text_dialect.specs.Standing.{StandsForTexts}
 use Rattle.text_rereading.specs.Rereading.{Named}
-use Rattle.kit_behaviour.specs.Machine.{Program}
+use Rattle.kit_behaviour.specs.Machine.{FunctionsByPath}
 use Rattle.kit_behaviour.specs.Places.{Place}
 use Rattle.kit_texts.specs.Says.{says}
 use Rattle.kit_module_programs.specs.Programs.{IsProgramOf}
-use Rattle.kit_writable_trees.specs.Laws.{KitContext, KitTree}
+use Rattle.kit_writable_trees.specs.Laws.{WritableContext, WritableTree}
 
 -- no two of the values have one number
 abbrev pub HaveOwnNumbers : List Value → Type 0
@@ -24,8 +24,8 @@ HaveOwnNumbers values = (i j : ℕ) (v w : Value) → slice_get values i ≡ Som
 
 -- modules that stand in two contexts for trees of texts that are the same but for their labels have the same program
 abbrev pub TextsHaveOneProgram : Type 0
-TextsHaveOneProgram = (text other_text : Entity ℕ) (numbered : List ℕ → ℕ) (s z : KitContext)
-    (root other : Ptr Operation) (values others : List Value) (t u : KitTree) (p q : Program Place) →
+TextsHaveOneProgram = (text other_text : Entity ℕ) (numbered : List ℕ → ℕ) (s z : WritableContext)
+    (root other : Ptr Operation) (values others : List Value) (t u : WritableTree) (p q : FunctionsByPath Place) →
     IsSameModule text other_text → HaveOwnNumbers values → HaveOwnNumbers others →
     StandsForTexts says (Named values) (seen s) root text →
     StandsForTexts says (Named others) (seen z) other other_text →

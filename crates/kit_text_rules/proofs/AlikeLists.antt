@@ -4,8 +4,8 @@ use Rattle.std.proofs.Common.{slice_get, refl}
 use Rattle.std.proofs.Common.{ap, ◌∙◌, subst}
 use Rattle.ir_print.specs.Shown.{Pairs}
 use Rattle.ir_trees.specs.Searched.{Lists}
-use Rattle.kit_checks.specs.Words.{Every, AreAlike, joined}
-use Rattle.kit_text_rules.specs.Alike.{AreBoth, ComesBack}
+use Rattle.kit_checks.specs.Words.{Every, AreAllEqual, joined}
+use Rattle.kit_text_rules.specs.Alike.{AreBoth, IsInjective}
 
 module _ {X Y : Type 0} (R : X → Y → Type 0) where
   pub same_length : (xs : List X) (ys : List Y) → Pairs R xs ys → length xs ≡ length ys
@@ -74,7 +74,7 @@ module _ {X Y : Type 0} (R : X → Y → Type 0) where
   every_back P Q each xs ys h all k x e =
       let other = beside xs ys h k x e in each x other.0 other.2 (all k other.0 other.1)
 
-  module _ (back : ComesBack R) where
+  module _ (back : IsInjective R) where
     pub list_back : (xs zs : List X) (ys us : List Y) → Pairs R xs ys → Pairs R zs us → ys ≡ us → xs ≡ zs
     list_back [] [] ys us h k e = refl
     list_back [] (z ∷ zs) [] [] h k e = absurd k
@@ -90,7 +90,7 @@ module _ {X Y : Type 0} (R : X → Y → Type 0) where
         let rest : ys ≡ us = cc in
         ap (λ v. v ∷ xs) (back x z y u h.0 k.0 first) ∙ ap (λ vs. z ∷ vs) (list_back xs zs ys us h.1 k.1 rest)
 
-    pub both_back : ComesBack (AreBoth R)
+    pub both_back : IsInjective (AreBoth R)
     both_back None None c d h k e = refl
     both_back None (Some b) None None h k e = absurd k
     both_back None (Some b) None (Some d) h k e = cc
@@ -108,7 +108,7 @@ module _ {X Y : Type 0} (R : X → Y → Type 0) where
         let other = before xs ys h at.0 y at.1 in
         (at.0, other.1 ∙ ap Some (back other.0 x y y other.2 r refl))
 
-    pub alike_back : (xs : List X) (ys : List Y) → Pairs R xs ys → AreAlike ys → AreAlike xs
+    pub alike_back : (xs : List X) (ys : List Y) → Pairs R xs ys → AreAllEqual ys → AreAllEqual xs
     alike_back xs ys h alike a b in_a in_b =
         let c = beside xs ys h in_a.0 a in_a.1 in
         let d = beside xs ys h in_b.0 b in_b.1 in

@@ -12,18 +12,18 @@ use Rattle.kit_checks.specs.Sites.{site_at}
 use Rattle.kit_checks.specs.Words.{bodies_of, entry_of, first_body, results_of, types_of, values_before, values_if}
 use Rattle.kit_checks.specs.Words.{values_in, values_of, visible}
 use Rattle.kit_checks.specs.World.{World}
-use Rattle.kit_text_rules.specs.Alike.{AreBoth, AreTyped, AreDefined, AreAlike, no_operations, no_blocks, no_regions}
+use Rattle.kit_text_rules.specs.Alike.{AreBoth, AreTypedAlike, AreDefinedAlike, AreAlike, no_operations, no_blocks, no_regions}
 use Rattle.kit_text_rules.specs.Alike.{operations, blocks, regions}
-use Rattle.kit_text_rules.specs.Alike.{AreTrees, AreBodies, AreAround, AreSites}
+use Rattle.kit_text_rules.specs.Alike.{AreTrees, AreBodies, AreAround, AreSitesAlike}
 use Rattle.kit_text_rules.proofs.AlikeLists.{both_at, all_joined, pairs_joined, pairs_mapped, pairs_taken}
 
 module _ {O B P C : Type 0} (w : World O B) (x : World P C) (OfTypes : TypeHandle → TypeHandle → Type 0)
     (OfValues : Value → Value → Type 0) where
   abbrev Defines : Defined Value TypeHandle → Defined Value TypeHandle → Type 0
-  Defines = AreDefined w x OfTypes OfValues
+  Defines = AreDefinedAlike w x OfTypes OfValues
 
   abbrev Typed : Value → Value → Type 0
-  Typed = AreTyped w x OfTypes OfValues
+  Typed = AreTypedAlike w x OfTypes OfValues
 
   abbrev Trees : ProgramTree O B → ProgramTree P C → Type 0
   Trees = AreTrees w x OfTypes OfValues
@@ -152,7 +152,7 @@ module _ {O B P C : Type 0} (w : World O B) (x : World P C) (OfTypes : TypeHandl
   -- ---- sites
 
   abbrev Sites : Site O B → Site P C → Type 0
-  Sites = AreSites w x OfTypes OfValues
+  Sites = AreSitesAlike w x OfTypes OfValues
 
   then_sites : {X Y U V : Type 0} (R : X → Y → Type 0) (Q : U → V → Type 0) (f : X → Option U) (g : Y → Option V)
       → ((a : X) (b : Y) → R a b → AreBoth Q (f a) (g b)) → (o : Option X) (p : Option Y) → AreBoth R o p

@@ -20,9 +20,9 @@ use Rattle.kit_checks.specs.Rules as rules
 use Rattle.kit_checks.specs.Sites.{Around, Body, Site, operation_list, block_list, region_list}
 use Rattle.kit_checks.specs.Words as words
 use Rattle.kit_checks.specs.World.{World}
-use Rattle.kit_text_rules.specs.Alike.{AreBoth, AreTyped, AreVisibleFirst, BelongTogether, AreSignatures, AreIntegers}
+use Rattle.kit_text_rules.specs.Alike.{AreBoth, AreTypedAlike, AreVisibleFirst, BelongTogether, AreSignatures, AreIntegers}
 use Rattle.kit_text_rules.specs.Alike.{AreAlike, AreTrees, AreBodies, AreAround}
-use Rattle.kit_text_rules.specs.Alike.{AreSites}
+use Rattle.kit_text_rules.specs.Alike.{AreSitesAlike}
 use Rattle.kit_text_rules.proofs.AlikeLists.{same_length, beside, before, none_left, every_back, list_back, both_back}
 use Rattle.kit_text_rules.proofs.AlikeLists.{member_back}
 use Rattle.kit_text_rules.proofs.AlikeLists.{alike_back, some_first, some_second, none_second, pairs_joined}
@@ -92,14 +92,14 @@ module _ {O B P C : Type 0} (w : World O B) (x : World P C) (OfTypes : TypeHandl
       (map x.value_type us) (map Some gs) values (map_some OfTypes hs gs types) have
 
   -- a value that is among typed ones has the type of the one beside it
-  typed_among : (vs us : List Value) (v u : Value) → Pairs (AreTyped w x OfTypes OfValues) vs us → OfValues v u
+  typed_among : (vs us : List Value) (v u : Value) → Pairs (AreTypedAlike w x OfTypes OfValues) vs us → OfValues v u
       → Lists us u → AreBoth OfTypes (w.value_type v) (x.value_type u)
   typed_among vs us v u h r at =
-      let other = before (AreTyped w x OfTypes OfValues) vs us h at.0 u at.1 in
+      let other = before (AreTypedAlike w x OfTypes OfValues) vs us h at.0 u at.1 in
       let same : other.0 ≡ v = agree.values_back other.0 v u u other.2.0 r refl in
       subst (λ a. AreBoth OfTypes (w.value_type a) (x.value_type u)) same other.2.1
 
-  operands_among : (vs us ds cs : List Value) → Pairs (AreTyped w x OfTypes OfValues) vs us → Pairs OfValues ds cs
+  operands_among : (vs us ds cs : List Value) → Pairs (AreTypedAlike w x OfTypes OfValues) vs us → Pairs OfValues ds cs
       → ((k : ℕ) (c : Value) → slice_get cs k ≡ Some c → Lists us c)
       → Pairs (AreBoth OfTypes) (map w.value_type ds) (map x.value_type cs)
   operands_among vs us [] [] h r among = tt
@@ -110,7 +110,7 @@ module _ {O B P C : Type 0} (w : World O B) (x : World P C) (OfTypes : TypeHandl
     operands_among vs us ds cs h r.1 (λ k d at. among (suc k) d at),
   )
 
-  module _ (s : Site O B) (z : Site P C) (h : AreSites w x OfTypes OfValues s z) where
+  module _ (s : Site O B) (z : Site P C) (h : AreSitesAlike w x OfTypes OfValues s z) where
     same_kind : words.kind_of w s.op ≡ words.kind_of x z.op
     same_kind = h.trees.heads.kinds
 
@@ -260,7 +260,7 @@ module _ {O B P C : Type 0} (w : World O B) (x : World P C) (OfTypes : TypeHandl
 
     -- ---- 7
 
-    untyped : (vs us : List Value) → Pairs (AreTyped w x OfTypes OfValues) vs us → Pairs OfValues vs us
+    untyped : (vs us : List Value) → Pairs (AreTypedAlike w x OfTypes OfValues) vs us → Pairs OfValues vs us
     untyped [] [] k = tt
     untyped [] (u ∷ us) k = absurd k
     untyped (v ∷ vs) [] k = absurd k
@@ -426,7 +426,7 @@ module _ {O B P C : Type 0} (w : World O B) (x : World P C) (OfTypes : TypeHandl
     fits_format : rules.FitsFormat x z → rules.FitsFormat w s
     fits_format keeps = fits_as (words.kind_of w s.op) refl (subst (rules.FitsKind x z.op) (sym same_kind) keeps)
 
-  pub keeps_back : (r : Rule) (s : Site O B) (z : Site P C) → AreSites w x OfTypes OfValues s z
+  pub keeps_back : (r : Rule) (s : Site O B) (z : Site P C) → AreSitesAlike w x OfTypes OfValues s z
       → (AreVisibleFirst r → rules.OperandsAreVisible x z) → Keeps x r z → Keeps w r s
   keeps_back rule.RootIsModule s z h seen keeps = root_is_module s z h keeps
   keeps_back rule.ModuleHolds s z h seen keeps = module_holds s z h keeps

@@ -10,7 +10,7 @@ use Rattle.std.proofs.lemmas.Slice.Eq.{bytes_eq-Decides}
 use Rattle.ir_base.specs.declared.types.TypeHandle.{TypeHandle}
 use Rattle.ir_names.specs.Dictionary.{attribute_at}
 use Rattle.ir_names.specs.Identifier.{text_of}
-use Rattle.ir_names.specs.Tree.{Tree, Trees, node, no_tree, a_tree}
+use Rattle.ir_names.specs.Tree.{LabelledTree, Trees, node, no_tree, a_tree}
 use Rattle.ir_print.specs.Pieces.{width, attribute_of_kind, ValueTree, Pieces}
 use Rattle.ir_print.specs.Shown.{Said, said_type, said_attribute, said_name, said_number, said_region, said_width}
 use Rattle.ir_print.specs.Shown.{leaf, ShowsAll, ShowsType}
@@ -242,7 +242,7 @@ module _ (keys : List KitType) (es : Entries) (n : ℕ) (tys : List TypeHandle) 
 
   -- ---- constants
 
-  attr_same : (a b : KitAttr) → ◌≡◌ {A = Tree (Said KitAttr)} (leaf (said_attribute a)) (leaf (said_attribute b))
+  attr_same : (a b : KitAttr) → ◌≡◌ {A = LabelledTree (Said KitAttr)} (leaf (said_attribute a)) (leaf (said_attribute b))
       → a ≡ b
   attr_same a b e = cc
 

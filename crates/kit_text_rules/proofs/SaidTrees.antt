@@ -28,12 +28,12 @@ use Rattle.kit_texts.specs.Says.{says}
 use Rattle.kit_checks.specs.Rules.{IsCommon}
 use Rattle.kit_checks.specs.Words.{Every, integer_in}
 use Rattle.kit_checks.specs.World.{Attributes, world_of}
-use Rattle.kit_writable_trees.specs.Laws.{KitContext, KitTree}
+use Rattle.kit_writable_trees.specs.Laws.{WritableContext, WritableTree}
 use Rattle.kit_text_programs.specs.Laws.{HaveOwnNumbers}
 use Rattle.kit_text_programs.proofs.SaidHeads.{kind_back, said_parts}
 use Rattle.kit_text_programs.proofs.SaidFunctions.{KitPart, same_operation, same_label, same_region}
 use Rattle.kit_text_programs.proofs.Unlabelled.{HasSomeLabel}
-use Rattle.kit_text_rules.specs.Alike.{AreBoth, AreDefined, AreHeads, AreIntegers, AreAlike, operations}
+use Rattle.kit_text_rules.specs.Alike.{AreBoth, AreDefinedAlike, AreHeads, AreIntegers, AreAlike, operations}
 use Rattle.kit_text_rules.specs.Alike.{blocks, regions}
 use Rattle.kit_text_rules.specs.Alike as alike
 use Rattle.kit_text_rules.specs.Same.{IsSameType, IsSameValue}
@@ -59,7 +59,7 @@ none_but_common : (es : Attributes) → length es ≡ 0 → Every IsCommon es
 none_but_common [] e = λ k x at. cc
 none_but_common (x ∷ es) e = absurd (omega arith)
 
-module _ (s z : KitContext) (values others : List Value) (own : HaveOwnNumbers values)
+module _ (s z : WritableContext) (values others : List Value) (own : HaveOwnNumbers values)
     (owns : HaveOwnNumbers others) where
   abbrev OfTypes : TypeHandle → TypeHandle → Type 0
   OfTypes = IsSameType (key_at s.types) (key_at z.types)
@@ -84,7 +84,7 @@ module _ (s z : KitContext) (values others : List Value) (own : HaveOwnNumbers v
       → Pairs (HasDefinition says (Named values) s.types.keys) vs xs
       → Pairs (HasDefinition says (Named others) z.types.keys) us xs
       → HasWrittenTypes s (map defined_by vs) → HasWrittenTypes z (map defined_by us)
-      → Pairs (AreDefined (world_of s) (world_of z) OfTypes OfValues) (map defined_by vs) (map defined_by us)
+      → Pairs (AreDefinedAlike (world_of s) (world_of z) OfTypes OfValues) (map defined_by vs) (map defined_by us)
   defines_alike [] [] xs h k a b = tt
   defines_alike [] (u ∷ us) [] h k a b = absurd k
   defines_alike [] (u ∷ us) (n ∷ xs) h k a b = absurd h
@@ -261,7 +261,7 @@ module _ (s z : KitContext) (values others : List Value) (own : HaveOwnNumbers v
         absurd h.0
 
   -- the trees that stand for one text are alike
-  pub trees_alike : (text : Entity ℕ) (root other : Ptr Operation) (t u : KitTree)
+  pub trees_alike : (text : Entity ℕ) (root other : Ptr Operation) (t u : WritableTree)
       → HasTree says (Named values) HasSomeLabel (seen s) root text
       → HasTree says (Named others) HasSomeLabel (seen z) other text → StandsFor s.program root t
       → StandsFor z.program other u → IsWritten s t → IsWritten z u → AreAlikeIn s z values others t u

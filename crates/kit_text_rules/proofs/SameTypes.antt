@@ -5,7 +5,7 @@ use Rattle.std.specs.Prelude.{nat_lt, ◌^◌, slice_get}
 use Rattle.std.proofs.lemmas.Option.{none-some, same_Some, some_pair_parts}
 use Rattle.ir_base.specs.declared.types.TypeHandle.{TypeHandle}
 use Rattle.ir_names.specs.declared.kinds.Signedness.{Signedness}
-use Rattle.ir_names.specs.Tree.{Tree, Trees, node, no_tree, a_tree}
+use Rattle.ir_names.specs.Tree.{LabelledTree, Trees, node, no_tree, a_tree}
 use Rattle.ir_print.specs.Pieces.{type_of_kind, attribute_of_kind, list, item, operands, region, name, number, width}
 use Rattle.ir_print.specs.Pieces.{ValueTree, Pieces}
 use Rattle.ir_print.specs.Shown.{Said, said_type, said_list, said_item, said_width, leaf, Pairs, Shows, ShowsAll}
@@ -133,7 +133,7 @@ module _ (leads others : TypeHandle → Option KitType) where
 
 -- ---- types that are shown
 
-said_one : (a b : TypeHandle) → ◌≡◌ {A = Tree (Said KitAttr)} (leaf (said_type a)) (leaf (said_type b)) → a ≡ b
+said_one : (a b : TypeHandle) → ◌≡◌ {A = LabelledTree (Said KitAttr)} (leaf (said_type a)) (leaf (said_type b)) → a ≡ b
 said_one a b e = cc
 
 clash : (n : ℕ) → 0 ≡ n → 1 ≡ n → ⊥
@@ -192,11 +192,11 @@ module _ (keys others : List KitType) where
       let same = width_one i.signedness j.signedness i.width j.width a.2.0 b.2.0 a.0 b.0 a.2.1 b.2.1 (sym a.1 ∙ b.1) in
       integer_one i j same.0 same.1
 
-  list_inside : (xs us : Trees (Said KitAttr)) → ◌≡◌ {A = Tree (Said KitAttr)} (node said_list xs) (node said_list us)
+  list_inside : (xs us : Trees (Said KitAttr)) → ◌≡◌ {A = LabelledTree (Said KitAttr)} (node said_list xs) (node said_list us)
       → us ≡ xs
   list_inside xs us e = cc
 
-  item_inside : (xs us : Trees (Said KitAttr)) → ◌≡◌ {A = Tree (Said KitAttr)} (node said_item xs) (node said_item us)
+  item_inside : (xs us : Trees (Said KitAttr)) → ◌≡◌ {A = LabelledTree (Said KitAttr)} (node said_item xs) (node said_item us)
       → us ≡ xs
   item_inside xs us e = cc
 

@@ -12,9 +12,9 @@ use Rattle.kit_checks.specs.Faults.{Keeps, KeptEverywhere, IsFirstFault}
 use Rattle.kit_checks.specs.Numbers.{number_of}
 use Rattle.kit_checks.specs.Sites.{Site, site_at}
 use Rattle.kit_checks.specs.World.{World, world_of}
-use Rattle.kit_writable_trees.specs.Laws.{KitContext, KitTree}
+use Rattle.kit_writable_trees.specs.Laws.{WritableContext, WritableTree}
 use Rattle.kit_text_programs.specs.Laws.{HaveOwnNumbers}
-use Rattle.kit_text_rules.specs.Alike.{BelongTogether, AreTrees, AreSites, AreVisibleFirst}
+use Rattle.kit_text_rules.specs.Alike.{BelongTogether, AreTrees, AreSitesAlike, AreVisibleFirst}
 use Rattle.kit_text_rules.specs.Same.{HaveOwnHandles, IsSameType, IsSameValue}
 use Rattle.kit_text_rules.specs.Laws.{AreAlikeIn, HasOneHandleEach, HasVerdictOf}
 use Rattle.kit_text_rules.proofs.AlikeLists.{some_second}
@@ -46,14 +46,14 @@ module _ {O B P C : Type 0} (w : World O B) (x : World P C) (OfTypes : TypeHandl
     (OfValues : Value → Value → Type 0) (agree : BelongTogether w x OfTypes OfValues) (t : ProgramTree O B)
     (u : ProgramTree P C) (trees : AreTrees w x OfTypes OfValues t u) where
   there : (p : List ℕ) (s : Site O B) → site_at t p ≡ Some s
-      → (z : Site P C) × (site_at u p ≡ Some z) × AreSites w x OfTypes OfValues s z
+      → (z : Site P C) × (site_at u p ≡ Some z) × AreSitesAlike w x OfTypes OfValues s z
   there p s at =
-      some_second (AreSites w x OfTypes OfValues) (site_at t p) (site_at u p) s
+      some_second (AreSitesAlike w x OfTypes OfValues) (site_at t p) (site_at u p) s
       (sites_alike w x OfTypes OfValues t u trees p) at
 
   -- what is kept beside it is kept
   kept_at : (r : Rule) (p : List ℕ) (s : Site O B) (z : Site P C) → site_at t p ≡ Some s → site_at u p ≡ Some z
-      → AreSites w x OfTypes OfValues s z → (AreVisibleFirst r → KeptEverywhere x u rule.OperandsAreVisible)
+      → AreSitesAlike w x OfTypes OfValues s z → (AreVisibleFirst r → KeptEverywhere x u rule.OperandsAreVisible)
       → Keeps x r z → Keeps w r s
   kept_at r p s z at beside alike seen keeps =
       keeps_back w x OfTypes OfValues agree r s z alike (λ q. seen q p z beside) keeps
@@ -93,11 +93,11 @@ module _ {O B P C : Type 0} (w : World O B) (x : World P C) (OfTypes Types : Typ
         (fault.smallest q less);
   }
     where
-      z : (y : Site P C) × (site_at u p ≡ Some y) × AreSites w x OfTypes OfValues fault.first.breaks.site y
+      z : (y : Site P C) × (site_at u p ≡ Some y) × AreSitesAlike w x OfTypes OfValues fault.first.breaks.site y
       z = there w x OfTypes OfValues agree t u trees p fault.first.breaks.site fault.first.breaks.there
 
 -- types and values of two contexts belong together
-pub together : (s z : KitContext) (values others : List Value) → HaveOwnHandles (key_at s.types)
+pub together : (s z : WritableContext) (values others : List Value) → HaveOwnHandles (key_at s.types)
     → HaveOwnHandles (key_at z.types)
     → HaveOwnNumbers values → HaveOwnNumbers others
     → BelongTogether (world_of s) (world_of z) (IsSameType (key_at s.types) (key_at z.types))
@@ -116,7 +116,7 @@ together s z values others handles again own owns = record {
         let same : h.0 ≡ k.0 = owns h.0 k.0 c d h.2 k.2 (ap (λ (v : Value). v.number) e) in
         same_Some a b (sym h.1 ∙ ap (slice_get vs) same ∙ k.1)
 
-pub one_verdict : (s z : KitContext) (values others : List Value) (t u : KitTree) → HaveOwnNumbers values
+pub one_verdict : (s z : WritableContext) (values others : List Value) (t u : WritableTree) → HaveOwnNumbers values
     → HaveOwnNumbers others → AreAlikeIn s z values others t u → AreAlikeIn z s others values u t → HasOneHandleEach s
     → HasOneHandleEach z → HasVerdictOf s z t u
 one_verdict s z values others t u own owns trees back handles again = record {

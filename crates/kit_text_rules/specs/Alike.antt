@@ -29,8 +29,8 @@ AreBoth R None (Some y) = ⊥
 AreBoth R (Some x) None = ⊥
 
 -- what belongs to the same is the same
-abbrev pub ComesBack : {X Y : Type 0} → (X → Y → Type 0) → Type 0
-ComesBack {X} {Y} R = (a b : X) (c d : Y) → R a c → R b d → c ≡ d → a ≡ b
+abbrev pub IsInjective : {X Y : Type 0} → (X → Y → Type 0) → Type 0
+IsInjective {X} {Y} R = (a b : X) (c d : Y) → R a c → R b d → c ≡ d → a ≡ b
 
 -- two worlds, and which types and values of the one belong to which of the other
 module _ {O B P C : Type 0} (w : World O B) (x : World P C) (OfTypes : TypeHandle → TypeHandle → Type 0)
@@ -42,18 +42,18 @@ module _ {O B P C : Type 0} (w : World O B) (x : World P C) (OfTypes : TypeHandl
   -- types and values of the first world are told apart where those of the second are, and values of the second where
   -- those of the first are; types that belong to one another are the same integer type or alike function types
   pub record BelongTogether : Type 0 where
-    pub types_back : ComesBack OfTypes
-    pub values_back : ComesBack OfValues
-    pub values_forth : ComesBack (λ u v. OfValues v u)
+    pub types_back : IsInjective OfTypes
+    pub values_back : IsInjective OfValues
+    pub values_forth : IsInjective (λ u v. OfValues v u)
     pub integers : (a c : TypeHandle) → OfTypes a c → integer_type w a ≡ integer_type x c
     pub functions : (a c : TypeHandle) → OfTypes a c → AreBoth AreSignatures (function_type w a) (function_type x c)
 
   -- values that belong to one another, and so do their types
-  abbrev pub AreTyped : Value → Value → Type 0
-  AreTyped v u = OfValues v u × AreBoth OfTypes (w.value_type v) (x.value_type u)
+  abbrev pub AreTypedAlike : Value → Value → Type 0
+  AreTypedAlike v u = OfValues v u × AreBoth OfTypes (w.value_type v) (x.value_type u)
 
-  abbrev pub AreDefined : Defined Value TypeHandle → Defined Value TypeHandle → Type 0
-  AreDefined d e = AreTyped d.name e.name × OfTypes d.holds e.holds
+  abbrev pub AreDefinedAlike : Defined Value TypeHandle → Defined Value TypeHandle → Type 0
+  AreDefinedAlike d e = AreTypedAlike d.name e.name × OfTypes d.holds e.holds
 
   -- the same number of the same integer type, and the types whose handles they hold belong to one another
   pub record AreIntegers (a b : IntegerAttr) : Type 0 where
@@ -68,7 +68,7 @@ module _ {O B P C : Type 0} (w : World O B) (x : World P C) (OfTypes : TypeHandl
     pub number : ℕ
     pub numbered : number_of (w.kind h.content) ≡ Some number
     pub operands : Pairs OfValues h.operands k.operands
-    pub results : Pairs AreDefined h.results k.results
+    pub results : Pairs AreDefinedAlike h.results k.results
     pub successors : h.successors ≡ []
     pub no_successors : k.successors ≡ []
     pub names : option_and_then identifier_in (attribute_at (w.attributes h.content) SYMBOL_NAME.now)
@@ -93,7 +93,7 @@ module _ {O B P C : Type 0} (w : World O B) (x : World P C) (OfTypes : TypeHandl
         (rest : Listed O B Operations) (others : Listed P C Operations) → AreHeads h k → AreAlike Regions rs qs →
         AreAlike Operations rest others → AreAlike Operations (operation h rs rest) (operation k qs others)
     blocks : (l : ProgramLabel O B) (m : ProgramLabel P C) (os : Listed O B Operations) (ps : Listed P C Operations)
-        (rest : Listed O B Blocks) (others : Listed P C Blocks) → Pairs AreDefined l.arguments m.arguments →
+        (rest : Listed O B Blocks) (others : Listed P C Blocks) → Pairs AreDefinedAlike l.arguments m.arguments →
         Every IsCommon (w.block_attributes l.content) → AreAlike Operations os ps → AreAlike Blocks rest others →
         AreAlike Blocks (block l os rest) (block m ps others)
     regions : (bs : Listed O B Blocks) (cs : Listed P C Blocks) (rest : Listed O B Regions)
@@ -105,7 +105,7 @@ module _ {O B P C : Type 0} (w : World O B) (x : World P C) (OfTypes : TypeHandl
     pub inside : AreAlike Regions t.regions u.regions
 
   pub record AreBodies (b : Body O B) (d : Body P C) : Type 0 where
-    pub arguments : Pairs AreDefined b.label.arguments d.label.arguments
+    pub arguments : Pairs AreDefinedAlike b.label.arguments d.label.arguments
     pub known : Every IsCommon (w.block_attributes b.label.content)
     pub listed : AreAlike Operations b.operations d.operations
 
@@ -117,7 +117,7 @@ module _ {O B P C : Type 0} (w : World O B) (x : World P C) (OfTypes : TypeHandl
     pub bodies : AreBodies a.body b.body
     pub indices : a.index ≡ b.index
 
-  pub record AreSites (s : Site O B) (z : Site P C) : Type 0 where
+  pub record AreSitesAlike (s : Site O B) (z : Site P C) : Type 0 where
     pub trees : AreTrees s.op z.op
     pub surroundings : AreBoth AreAround s.around z.around
 

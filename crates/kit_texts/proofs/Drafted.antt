@@ -6,7 +6,7 @@ use Rattle.ir_base.specs.declared.types.TypeHandle.{TypeHandle}
 use Rattle.ir_names.specs.declared.kinds.Signedness.{Signedness}
 use Rattle.ir_names.specs.declared.identifier.Identifier.{Identifier}
 use Rattle.ir_names.specs.Identifier.{text_of}
-use Rattle.ir_names.specs.Tree.{Tree, Trees, node, no_tree, a_tree}
+use Rattle.ir_names.specs.Tree.{LabelledTree, Trees, node, no_tree, a_tree}
 use Rattle.ir_print.specs.declared.format.Part.{Part}
 use Rattle.ir_print.specs.Pieces.{list, item, number, width, type_of_kind, attribute_of_kind, region, name, operands, ValueTree, Pieces}
 use Rattle.ir_print.specs.Shown.{Said, said_width, said_type, said_attribute, Shows, Pairs, said_name, said_region, said_operands, leaf, ShowsAll, ShowsPart, ShowsType}
@@ -100,7 +100,7 @@ says_integer other n us e f = cc
 
 mutual
   -- what is shown stays so where types are kept
-  pub shows_later : (old new : List KitType) → ((ty : TypeHandle) (key : KitType) → slice_get old ty.number ≡ Some key → slice_get new ty.number ≡ Some key) → (x : Tree (Said KitAttr)) (t : ValueTree) → Shows says old x t → Shows says new x t
+  pub shows_later : (old new : List KitType) → ((ty : TypeHandle) (key : KitType) → slice_get old ty.number ≡ Some key → slice_get new ty.number ≡ Some key) → (x : LabelledTree (Said KitAttr)) (t : ValueTree) → Shows says old x t → Shows says new x t
   shows_later old new kept x (node (type_of_kind n) ts) h = (h.0, h.1, h.2, h.3, kept h.0 h.1 h.4, h.5, all_later old new kept h.2 ts h.6)
   shows_later old new kept x (node (attribute_of_kind n) ts) h = (h.0, h.1, h.2, h.3, all_later old new kept h.1 ts h.4)
   shows_later old new kept x (node list ts) h = (h.0, h.1, all_later old new kept h.0 ts h.2)

@@ -3,7 +3,7 @@ use Rattle.std.proofs.Common.{◌≡◌, ℕ, ◌-◌, ◌*◌, ◌%◌, ◌^◌
 use Rattle.std.proofs.Math.Pow.{pow_mono}
 use Rattle.std.proofs.lemmas.Nat.{pow_pos}
 use Rattle.std.proofs.lemmas.Bool.Decides.{nat_tests}
-use Rattle.ir_names.specs.Tree.{Tree, node, no_tree, a_tree, label_of}
+use Rattle.ir_names.specs.Tree.{LabelledTree, node, no_tree, a_tree, label_of}
 use Rattle.ir_print.specs.declared.format.Number.{Number}
 use Rattle.ir_print.specs.declared.format.Part.{Part}
 use Rattle.ir_print.specs.Pieces.{width, list, item, region, name, operands, number, type_of_kind, attribute_of_kind, ValueTree, Pieces}
@@ -14,7 +14,7 @@ use Rattle.kit_ops.specs.declared.types.IntegerType.{IntegerType}
 use Rattle.kit_ops.specs.declared.attributes.IntegerAttr.{IntegerAttr}
 use Rattle.kit_ops.specs.declared.attributes.KitAttr.{KitAttr}
 use Rattle.kit_ops.specs.declared.attributes.KitAttr.TheVariants as attrs
-use Rattle.kit_texts.specs.Numbers.{HasValues, IsNumberOf, number_modulo, number_of_bits, printed_number}
+use Rattle.kit_texts.specs.Numbers.{HasValues, IsNumberOfType, number_modulo, number_of_bits, printed_number}
 use Rattle.kit_texts.specs.Parts.{number_part, integer_part}
 use Rattle.kit_texts.specs.Says.{says, only, integer_said, has_values, bits_of, is_number_of, refused_unless, refused_integer, refused_attribute, canonical}
 use Rattle.kit_texts.proofs.Shapes.{width_shown, number_shown, two_shown, wide}
@@ -46,7 +46,7 @@ range_fails : (w : ℕ) (b : Bool) (m : ℕ) → (cond b (2 * m ≤ 2 ^ w) (m < 
 range_fails w true m n = not_true (nat_le (2 * m) (2 ^ w)) (λ e. n (grind (arith, nat_tests)))
 range_fails w false m n = not_true (nat_lt m (2 ^ w)) (λ e. n (grind (arith, nat_tests)))
 
-abbrev number_leaf : Number → Tree (Said KitAttr)
+abbrev number_leaf : Number → LabelledTree (Said KitAttr)
 number_leaf n = leaf (said_number n.is_negative n.magnitude)
 
 -- bits that were read are those of the type
@@ -122,11 +122,11 @@ module _ {D : Type 0} where
   pub number_refused : (types : List KitType) (p q : Part D KitOp KitAttr KitType) (i : IntegerType) (ps : Pieces) → integer_part q ≡ Some i → HasValues i → number_part p ≡ None → ShowsParts says types (p ∷ q ∷ []) ps → refused_attribute 0 ps ≡ Some 0
   number_refused types p q i ps e v f h = let rest = of_number types p q i ps e v h in rest.2 ∙ ap (λ (b : Bool). refused_unless b 0) (no_number types i.width v.most p rest.0 f rest.1)
 
-  pub range_refused : (types : List KitType) (p q : Part D KitOp KitAttr KitType) (i : IntegerType) (n : Number) (ps : Pieces) → integer_part q ≡ Some i → HasValues i → number_part p ≡ Some n → (IsNumberOf i n → ⊥) → ShowsParts says types (p ∷ q ∷ []) ps → refused_attribute 0 ps ≡ Some 0
+  pub range_refused : (types : List KitType) (p q : Part D KitOp KitAttr KitType) (i : IntegerType) (n : Number) (ps : Pieces) → integer_part q ≡ Some i → HasValues i → number_part p ≡ Some n → (IsNumberOfType i n → ⊥) → ShowsParts says types (p ∷ q ∷ []) ps → refused_attribute 0 ps ≡ Some 0
   range_refused types p q i n ps e v f not h = let rest = of_number types p q i ps e v h in let shown = number_shown says types p n rest.0 f rest.1 in
       rest.2 ∙ ap (λ (b : Bool). refused_unless b 0) (ap (λ (t : ValueTree). is_number_of i.width (label_of t)) shown.1 ∙ range_fails i.width n.is_negative n.magnitude (λ r. not (record { values = v; range = r })))
 
-  pub integer_made : (types new : List KitType) (p q : Part D KitOp KitAttr KitType) (n : Number) (a : IntegerAttr) (ps : Pieces) → integer_part q ≡ Some a.integer → number_part p ≡ Some n → IsNumberOf a.integer n → a.bits ≡ number_modulo a.integer.width n → ShowsParts says types (p ∷ q ∷ []) ps →
+  pub integer_made : (types new : List KitType) (p q : Part D KitOp KitAttr KitType) (n : Number) (a : IntegerAttr) (ps : Pieces) → integer_part q ≡ Some a.integer → number_part p ≡ Some n → IsNumberOfType a.integer n → a.bits ≡ number_modulo a.integer.width n → ShowsParts says types (p ∷ q ∷ []) ps →
       (refused_attribute 0 ps ≡ None) × ShowsAttribute says new (attrs.Integer a) (node (attribute_of_kind 0) (canonical 0 ps))
   integer_made types new p q n a ps e f is bits h =
       let i = a.integer in

@@ -16,7 +16,7 @@ use Rattle.kit_ops.specs.declared.types.KitType.TheVariants as keys
 use Rattle.kit_ops.specs.declared.attributes.KitAttr.{KitAttr}
 use Rattle.kit_texts.specs.Parts.{list_part}
 use Rattle.kit_texts.specs.Says.{says, one, two, only as said_if, types_said, is_type, is_small_width, is_type_list, are_types, is_one, are_two, refused_unless, refused_type}
-use Rattle.kit_texts.specs.Making.{one_type, each_type, one_integer_type, MakesType, RefusesType}
+use Rattle.kit_texts.specs.Making.{one_type, each_type, one_integer_type, MakesTypeOfKind, RefusesTypeOfKind}
 use Rattle.kit_texts.proofs.Shapes.{width_shown, not_width, type_shown, not_type, list_shown, one_shown, two_shown, not_one, not_two, a_list}
 
 abbrev Equal : (X : Type 0) → X → X → Type 0
@@ -51,7 +51,7 @@ and_false true b (inr h) = h
 and_false false b h = refl
 
 module _ {D : Type 0} where
-  pub integer_type_made : (parts : List (Part D KitOp KitAttr KitType)) (i : IntegerType) → one_integer_type parts ≡ Some i → i.width < 2 ^ 32 → MakesType 0 parts (keys.Integer i)
+  pub integer_type_made : (parts : List (Part D KitOp KitAttr KitType)) (i : IntegerType) → one_integer_type parts ≡ Some i → i.width < 2 ^ 32 → MakesTypeOfKind 0 parts (keys.Integer i)
   integer_type_made [] i e small = cc
   integer_type_made (p ∷ q ∷ rs) i e small = cc
   integer_type_made (p ∷ []) i e small = λ types ps h.
@@ -61,7 +61,7 @@ module _ {D : Type 0} where
       subst (λ (qs : Pieces). (refused_type 0 qs ≡ None) × ShowsKey says types (keys.Integer i) 0 qs) (sym (only.1 ∙ ap (λ t. a_tree t no_tree) wide.1))
       (ap (λ (b : Bool). refused_unless b 0) test, (one (leaf (said_width i.signedness i.width)), ap (λ (b : Bool). said_if b (Some (0, one (leaf (said_width i.signedness i.width))))) test, (refl, tt)))
 
-  pub integer_type_refused : (parts : List (Part D KitOp KitAttr KitType)) → one_integer_type parts ≡ None → RefusesType 0 parts 0
+  pub integer_type_refused : (parts : List (Part D KitOp KitAttr KitType)) → one_integer_type parts ≡ None → RefusesTypeOfKind 0 parts 0
   integer_type_refused parts e = λ types ps h. ap (λ (b : Bool). refused_unless b 0) (not_one says types is_small_width parts ps h (λ p t f s. not_width says types p t (sym (ap one_integer_type f) ∙ e) s))
 
   -- a member that is one type
@@ -96,7 +96,7 @@ module _ {D : Type 0} where
       and_false (is_one is_type us) (are_types ts) (elim (not_both (one_type m.items) (each_type ms) (λ ty rest. ty ∷ rest) e) [ inl f ↦ inl (not_one_type types m.items us f h.0) | inr f ↦ inr (not_types types ms ts f h.1) ])
   not_types types (m ∷ ms) (a_tree (node _ us) ts) e h = absurd h.0
 
-  pub function_type_made : (p q : Part D KitOp KitAttr KitType) (ms ns : Vec (Vec (Part D KitOp KitAttr KitType) Global) Global) (ins outs : Vec TypeHandle Global) → list_part p ≡ Some ms → list_part q ≡ Some ns → each_type ms.items ≡ Some ins.items → each_type ns.items ≡ Some outs.items → MakesType 1 (p ∷ q ∷ []) (keys.Function (record { inputs = ins; results = outs }))
+  pub function_type_made : (p q : Part D KitOp KitAttr KitType) (ms ns : Vec (Vec (Part D KitOp KitAttr KitType) Global) Global) (ins outs : Vec TypeHandle Global) → list_part p ≡ Some ms → list_part q ≡ Some ns → each_type ms.items ≡ Some ins.items → each_type ns.items ≡ Some outs.items → MakesTypeOfKind 1 (p ∷ q ∷ []) (keys.Function (record { inputs = ins; results = outs }))
   function_type_made p q ms ns ins outs e f g k = λ types ps h.
       let pieces = two_shown says types p q ps h in
       let first = list_shown says types p ms pieces.0 e pieces.3 in
@@ -115,15 +115,15 @@ module _ {D : Type 0} where
 
   -- parts are refused that are not two lists of types
   pub function_type_refused : (p q : Part D KitOp KitAttr KitType) →
-      ((ms : Vec (Vec (Part D KitOp KitAttr KitType) Global) Global) → list_part p ≡ Some ms → each_type ms.items ≡ None) ⊎ ((ms : Vec (Vec (Part D KitOp KitAttr KitType) Global) Global) → list_part q ≡ Some ms → each_type ms.items ≡ None) → RefusesType 1 (p ∷ q ∷ []) 0
+      ((ms : Vec (Vec (Part D KitOp KitAttr KitType) Global) Global) → list_part p ≡ Some ms → each_type ms.items ≡ None) ⊎ ((ms : Vec (Vec (Part D KitOp KitAttr KitType) Global) Global) → list_part q ≡ Some ms → each_type ms.items ≡ None) → RefusesTypeOfKind 1 (p ∷ q ∷ []) 0
   function_type_refused p q k types ps h = let pieces = two_shown says types p q ps h in
       ap (λ (b : Bool). refused_unless b 0) (ap (λ (vs : Pieces). are_two is_type_list is_type_list vs) pieces.2 ∙
       and_false (is_type_list pieces.0) (is_type_list pieces.1) (elim k [ inl g ↦ inl (not_type_list types p pieces.0 g pieces.3) | inr g ↦ inr (not_type_list types q pieces.1 g pieces.4) ]))
 
-  pub two_refused : (parts : List (Part D KitOp KitAttr KitType)) → (length parts ≡ 2 → ⊥) → RefusesType 1 parts 0
+  pub two_refused : (parts : List (Part D KitOp KitAttr KitType)) → (length parts ≡ 2 → ⊥) → RefusesTypeOfKind 1 parts 0
   two_refused parts n types ps h = ap (λ (b : Bool). refused_unless b 0) (not_two says types is_type_list is_type_list parts ps h (λ p q t u f s v. absurd (n (ap length f))))
 
-  pub unit_type_made : (parts : List (Part D KitOp KitAttr KitType)) → length parts ≡ 0 → MakesType 2 parts keys.Unit
+  pub unit_type_made : (parts : List (Part D KitOp KitAttr KitType)) → length parts ≡ 0 → MakesTypeOfKind 2 parts keys.Unit
   unit_type_made [] e types no_tree h = (refl, (no_tree, refl, tt))
   unit_type_made [] e types (a_tree t ts) h = absurd h
   unit_type_made (p ∷ rs) e types ps h = cc

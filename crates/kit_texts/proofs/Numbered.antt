@@ -21,7 +21,7 @@ use Rattle.kit_ops.specs.declared.attributes.KitAttr.{KitAttr}
 use Rattle.kit_ops.specs.declared.attributes.KitAttrKind.{KitAttrKind}
 use Rattle.kit_ops.specs.declared.attributes.KitAttrKind.TheVariants as attr_kinds
 use Rattle.kit_texts.specs.Forms.{OpForm, form_of, number_of, read_ops, read_types, read_attrs}
-use Rattle.kit_texts.specs.Making.{MakesType, RefusesType, MakesForm, RefusesForm}
+use Rattle.kit_texts.specs.Making.{MakesTypeOfKind, RefusesTypeOfKind, MakesForm, RefusesForm}
 use Rattle.kit_texts.specs.Says.{says, values, said_in, numbered, refused_type, refused_attribute, refused_operation, refused_in, refused_by, result_types, result_types_in, result_types_by, canonical}
 use Rattle.kit_texts.proofs.Made.{refused_at}
 
@@ -74,12 +74,12 @@ typed_so : (n : ℕ) (ps : Pieces) (kind : KitOp) (form : OpForm) → slice_get 
 typed_so n ps kind form at f = ap (λ k. result_types_by (option_and_then form_of k) ps) at ∙ ap (λ g. result_types_by g ps) f
 
 module _ {D : Type 0} where
-  pub type_made : (m : ℕ) (kind : KitTypeKind) (parts : List (Part D KitOp KitAttr KitType)) (r : Result KitType MakeFault) → number_of_type kind ≡ m → IfOk r (λ key. MakesType m parts key) →
+  pub type_made : (m : ℕ) (kind : KitTypeKind) (parts : List (Part D KitOp KitAttr KitType)) (r : Result KitType MakeFault) → number_of_type kind ≡ m → IfOk r (λ key. MakesTypeOfKind m parts key) →
       IfOk r (made.MakesType says values read_types kind parts)
   type_made m kind parts (Ok key) e h = λ n ps types at s. subst (λ k. (refused_type k ps ≡ None) × ShowsKey says types key k ps) (sym e ∙ type_number n kind at) (h types ps s)
   type_made m kind parts (Err fault) e h = tt
 
-  pub type_refused : (m : ℕ) (kind : KitTypeKind) (parts : List (Part D KitOp KitAttr KitType)) (i : ℕ) → number_of_type kind ≡ m → RefusesType m parts i → made.RefusesType says values read_types kind parts i
+  pub type_refused : (m : ℕ) (kind : KitTypeKind) (parts : List (Part D KitOp KitAttr KitType)) (i : ℕ) → number_of_type kind ≡ m → RefusesTypeOfKind m parts i → made.RefusesType says values read_types kind parts i
   type_refused m kind parts i e h = λ n ps types at s. subst (λ k. refused_type k ps ≡ Some i) (sym e ∙ type_number n kind at) (h types ps s)
 
   form_made : (kind : KitOp) (form : OpForm) (parts : List (Part D KitOp KitAttr KitType)) (old new : List KitType) (attributes : List (List ℕ × KitAttr)) (tys : List TypeHandle) → form_of kind ≡ Some form →

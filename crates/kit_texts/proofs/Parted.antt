@@ -34,7 +34,7 @@ use Rattle.kit_ops.specs.declared.attributes.KitAttr.TheVariants as attrs
 use Rattle.kit_texts.specs.Parts.{IsTypeList, AreModuleParts, AreFunctionParts}
 use Rattle.kit_texts.specs.Says.{says, one, two, types_said, said_in, said_of_operation, said_of_module, said_of_function, said_of_constant, said_of_pair, pair_said}
 use Rattle.kit_texts.specs.Readable.{only_if, is_numbered, constant_says}
-use Rattle.kit_texts.specs.Seen.{Seen, seen, first_seen, one_seen, two_seen, three_seen}
+use Rattle.kit_texts.specs.Seen.{SeenPiece, seen, first_seen, one_seen, two_seen, three_seen}
 
 -- what follows for each value follows for that of a result
 pub if_ok : {X E : Type 0} (r : Result X E) (P Q : X → Type 0) → IfOk r P → ((x : X) → P x → Q x) → IfOk r Q
@@ -95,19 +95,19 @@ says_none kind o n us k f e =
 
 module _ (D : Type 0) (types : List KitType) where
   -- the part of what is said shows its piece
-  type_parted : (ty : TypeHandle) (t : ValueTree) → Seen says types (leaf (said_type ty)) t → ShowsPart {D = D} says types (part.Type ty) t
+  type_parted : (ty : TypeHandle) (t : ValueTree) → SeenPiece says types (leaf (said_type ty)) t → ShowsPart {D = D} says types (part.Type ty) t
   type_parted ty t s = subst (λ (v : ValueTree). ShowsPart {D = D} says types (part.Type ty) v) (sym s.2) (ty, refl, s.3)
 
-  name_parted : (id copy : Identifier) (t : ValueTree) → text_of copy ≡ text_of id → Seen says types (leaf (said_name (text_of id))) t → ShowsPart {D = D} says types (part.Name copy) t
+  name_parted : (id copy : Identifier) (t : ValueTree) → text_of copy ≡ text_of id → SeenPiece says types (leaf (said_name (text_of id))) t → ShowsPart {D = D} says types (part.Name copy) t
   name_parted id copy t e s = subst (λ (v : ValueTree). ShowsPart {D = D} says types (part.Name copy) v) (sym s.1) (copy, refl, e)
 
-  region_parted : (t : ValueTree) → Seen says types (leaf said_region) t → ShowsPart {D = D} says types part.Region t
+  region_parted : (t : ValueTree) → SeenPiece says types (leaf said_region) t → ShowsPart {D = D} says types part.Region t
   region_parted t s = subst (λ (v : ValueTree). ShowsPart {D = D} says types part.Region v) (sym s.1) refl
 
-  attribute_parted : (attr : KitAttr) (t : ValueTree) → Seen says types (leaf (said_attribute attr)) t → ShowsPart {D = D} says types (part.Attribute attr) t
+  attribute_parted : (attr : KitAttr) (t : ValueTree) → SeenPiece says types (leaf (said_attribute attr)) t → ShowsPart {D = D} says types (part.Attribute attr) t
   attribute_parted attr t s = subst (λ (v : ValueTree). ShowsPart {D = D} says types (part.Attribute attr) v) (sym s.2) (attr, refl, s.3)
 
-  operands_parted : (n : ℕ) (t : ValueTree) → Seen says types (leaf (said_operands n)) t → ShowsPart {D = D} says types (part.Operands n) t
+  operands_parted : (n : ℕ) (t : ValueTree) → SeenPiece says types (leaf (said_operands n)) t → ShowsPart {D = D} says types (part.Operands n) t
   operands_parted n t s = subst (λ (v : ValueTree). ShowsPart {D = D} says types (part.Operands n) v) (sym s.1) refl
 
 module _ {D : Type 0} (types : List KitType) where
@@ -118,7 +118,7 @@ module _ {D : Type 0} (types : List KitType) where
   type_alone ty = part.Type ty ∷ []
 
   -- the members of a list of types
-  member_parted : (ty : TypeHandle) (ps : List (Part D KitOp KitAttr KitType)) (t : ValueTree) → ps ≡ type_alone ty → Seen says types (node said_item (one (leaf (said_type ty)))) t → ShowsMember says types ps t
+  member_parted : (ty : TypeHandle) (ps : List (Part D KitOp KitAttr KitType)) (t : ValueTree) → ps ≡ type_alone ty → SeenPiece says types (node said_item (one (leaf (said_type ty)))) t → ShowsMember says types ps t
   member_parted ty ps t e s =
       let only_piece = one_seen says types (leaf (said_type ty)) s.0 s.2 in
       let shown : ShowsParts says types (type_alone ty) s.0 = subst (λ (us : Pieces). ShowsParts says types (type_alone ty) us) (sym only_piece.1) (type_parted D types ty only_piece.0 only_piece.2, tt) in
@@ -135,7 +135,7 @@ module _ {D : Type 0} (types : List KitType) where
       let same = first_same (items_of m) (type_alone ty) (map items_of ms) (map type_alone tys) e in
       (member_parted ty m.items t same.0 (seen says types (node said_item (one (leaf (said_type ty)))) t h.0), members_parted tys ms ts same.1 h.1)
 
-  list_parted : (tys : List TypeHandle) (p : Part D KitOp KitAttr KitType) (t : ValueTree) → IsTypeList tys p → Seen says types (node said_list (types_said tys)) t → ShowsPart says types p t
+  list_parted : (tys : List TypeHandle) (p : Part D KitOp KitAttr KitType) (t : ValueTree) → IsTypeList tys p → SeenPiece says types (node said_list (types_said tys)) t → ShowsPart says types p t
   list_parted tys p t is s = subst (λ (v : ValueTree). ShowsPart says types p v) (sym s.1) (is.0, is.1, members_parted tys is.0.items s.0 is.2 s.2)
 
   -- a function type's inputs and results

@@ -63,12 +63,12 @@ module _ {D : Type 0} where
   each_type (m ∷ ms) = option_and_then (λ ty. option_map (λ tys. ty ∷ tys) (each_type ms)) (one_type m.items)
 
   -- the parts give this type, of the kind with the number
-  abbrev pub MakesType : ℕ → List (Part D KitOp KitAttr KitType) → KitType → Type 0
-  MakesType n parts key = (types : List KitType) (ps : Pieces) → ShowsParts says types parts ps → (refused_type n ps ≡ None) × ShowsKey says types key n ps
+  abbrev pub MakesTypeOfKind : ℕ → List (Part D KitOp KitAttr KitType) → KitType → Type 0
+  MakesTypeOfKind n parts key = (types : List KitType) (ps : Pieces) → ShowsParts says types parts ps → (refused_type n ps ≡ None) × ShowsKey says types key n ps
 
   -- the parts give no type of the kind with the number: this part is refused
-  abbrev pub RefusesType : ℕ → List (Part D KitOp KitAttr KitType) → ℕ → Type 0
-  RefusesType n parts i = (types : List KitType) (ps : Pieces) → ShowsParts says types parts ps → refused_type n ps ≡ Some i
+  abbrev pub RefusesTypeOfKind : ℕ → List (Part D KitOp KitAttr KitType) → ℕ → Type 0
+  RefusesTypeOfKind n parts i = (types : List KitType) (ps : Pieces) → ShowsParts says types parts ps → refused_type n ps ≡ Some i
 
 -- an operation of a form with these attributes and results of these types says the pieces
 pub record FormDrafts (form : OpForm) (types : List KitType) (ps : Pieces) (attributes : List (List ℕ × KitAttr)) (tys : List TypeHandle) : Type 0 where

@@ -18,7 +18,7 @@ abbrev pub IsInRange : ℕ → Number → Type 0
 IsInRange w n = cond n.is_negative (2 * n.magnitude ≤ 2 ^ w) (n.magnitude < 2 ^ w)
 
 -- the number is one of the type
-pub record IsNumberOf (t : IntegerType) (n : Number) : Type 0 where
+pub record IsNumberOfType (t : IntegerType) (n : Number) : Type 0 where
   pub values : HasValues t
   pub range : IsInRange t.width n
 

@@ -4,7 +4,7 @@ use Rattle.ir_base.specs.declared.types.TypeHandle.{TypeHandle}
 use Rattle.ir_names.specs.declared.kinds.Signedness.{Signedness}
 use Rattle.ir_names.specs.Dictionary.{attribute_at}
 use Rattle.ir_names.specs.Identifier.{text_of}
-use Rattle.ir_names.specs.Tree.{Tree, Trees, node, no_tree, a_tree, label_of, below}
+use Rattle.ir_names.specs.Tree.{LabelledTree, Trees, node, no_tree, a_tree, label_of, below}
 use Rattle.ir_print.specs.declared.format.Number.{Number}
 use Rattle.ir_print.specs.Pieces.{Piece, type_of_kind, attribute_of_kind, list, item, operands, region, name, number, width, ValueTree, Pieces, Values}
 use Rattle.ir_print.specs.Shown.{Said, said_type, said_attribute, said_list, said_item, said_operands, said_region, said_name, said_number, said_width, leaf, Saying}
@@ -20,11 +20,11 @@ use Rattle.kit_texts.specs.Numbers.{number_of_bits, number_modulo, printed_numbe
 -- ---- what is in a context
 
 -- one tree
-abbrev pub one : {L : Type 0} → Tree L → Trees L
+abbrev pub one : {L : Type 0} → LabelledTree L → Trees L
 one t = a_tree t no_tree
 
 -- two trees
-abbrev pub two : {L : Type 0} → Tree L → Tree L → Trees L
+abbrev pub two : {L : Type 0} → LabelledTree L → LabelledTree L → Trees L
 two t u = a_tree t (one u)
 
 -- what is said, where this holds

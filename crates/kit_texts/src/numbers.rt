@@ -1,6 +1,6 @@
 //! The numbers of integer types, and the bits that stand for them.
 ghost use Rattle.std.specs.Prelude.{◌≡◌, ◌↔◌, ◌≤◌, ◌<◌, ◌+◌, ◌*◌, ◌-◌, ◌%◌, ◌^◌, IsTrue, MatchOption};
-ghost use Rattle.kit_texts.specs.Numbers.{HasValues, HasFittingBits, IsNumberOf, is_signed, number_modulo, printed_number};
+ghost use Rattle.kit_texts.specs.Numbers.{HasValues, HasFittingBits, IsNumberOfType, is_signed, number_modulo, printed_number};
 
 use ir_names::Signedness;
 use ir_print::Number;
@@ -26,7 +26,7 @@ pub fn has_values(integer: IntegerType) -> bool
 
 /// The bits of a number of this type, where it is one: from -(2^(width - 1)) to 2^width - 1.
 pub fn bits_of(integer: IntegerType, number: Number) -> Option<u64>
-    ensures { MatchOption result (IsNumberOf integer number → ⊥) (λ bits. IsNumberOf integer number
+    ensures { MatchOption result (IsNumberOfType integer number → ⊥) (λ bits. IsNumberOfType integer number
         × (bits ≡ number_modulo integer.width number)) }
 {
     if !has_values(integer) {
@@ -73,7 +73,7 @@ fn negative_bits(width: u32, magnitude: u64) -> Option<u64>
 /// The number of an attribute as it is printed. Reading it gives the bits again.
 pub fn number_of(attr: IntegerAttr) -> Number
     ensures printed { HasFittingBits attr → result ≡ printed_number attr }
-    ensures number { HasFittingBits attr → IsNumberOf attr.integer result }
+    ensures number { HasFittingBits attr → IsNumberOfType attr.integer result }
     ensures bits { HasFittingBits attr → number_modulo attr.integer.width result ≡ attr.bits }
 {
     let most = greatest(attr.integer.width);

@@ -6,7 +6,7 @@ ghost use Rattle.text_dialect.specs.Making as made;
 ghost use Rattle.text_dialect.specs.declared.dialect.MakeFault.TheVariants.{Refused};
 ghost use Rattle.kit_ops.specs.declared.types.KitType.{KitType};
 ghost use Rattle.kit_texts.specs.Forms.{read_types};
-ghost use Rattle.kit_texts.specs.Making.{MakesType, RefusesType};
+ghost use Rattle.kit_texts.specs.Making.{MakesTypeOfKind, RefusesTypeOfKind};
 ghost use Rattle.kit_texts.specs.Says.{says, values};
 
 use crate::parts::{integer_type_in, list_in, list_of, types_of};
@@ -20,8 +20,8 @@ use text_dialect::MakeFault;
 fn make_integer_type<D: Dialects<OpKind = KitOp, Attr = KitAttr, TypeKey = KitType>>(
     parts: &[Part<D>],
 ) -> Result<KitType, MakeFault>
-    ensures made { IfOk result (λ key. MakesType 0 parts.now key) }
-    ensures refused { (i : ℕ) → result ≡ Err (Refused i) → RefusesType 0 parts.now i }
+    ensures made { IfOk result (λ key. MakesTypeOfKind 0 parts.now key) }
+    ensures refused { (i : ℕ) → result ≡ Err (Refused i) → RefusesTypeOfKind 0 parts.now i }
 {
     let Some(integer) = integer_type_in(parts) else {
         return Err(MakeFault::Refused(0));
@@ -34,8 +34,8 @@ fn make_function_type<D: Dialects<OpKind = KitOp, Attr = KitAttr, TypeKey = KitT
     alloc: Global,
     parts: &[Part<D>],
 ) -> Result<KitType, MakeFault>
-    ensures made { IfOk result (λ key. MakesType 1 parts.now key) }
-    ensures refused { (i : ℕ) → result ≡ Err (Refused i) → RefusesType 1 parts.now i }
+    ensures made { IfOk result (λ key. MakesTypeOfKind 1 parts.now key) }
+    ensures refused { (i : ℕ) → result ≡ Err (Refused i) → RefusesTypeOfKind 1 parts.now i }
 {
     let [first, second] = parts else {
         return Err(MakeFault::Refused(0));
@@ -59,8 +59,8 @@ fn make_function_type<D: Dialects<OpKind = KitOp, Attr = KitAttr, TypeKey = KitT
 fn make_unit_type<D: Dialects<OpKind = KitOp, Attr = KitAttr, TypeKey = KitType>>(
     parts: &[Part<D>],
 ) -> Result<KitType, MakeFault>
-    ensures made { IfOk result (λ key. MakesType 2 parts.now key) }
-    ensures refused { (i : ℕ) → result ≡ Err (Refused i) → RefusesType 2 parts.now i }
+    ensures made { IfOk result (λ key. MakesTypeOfKind 2 parts.now key) }
+    ensures refused { (i : ℕ) → result ≡ Err (Refused i) → RefusesTypeOfKind 2 parts.now i }
 {
     if parts.is_empty() {
         Ok(KitType::Unit)

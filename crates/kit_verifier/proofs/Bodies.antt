@@ -10,7 +10,7 @@ use Rattle.ir_program.specs.declared.handles.Region.{Region}
 use Rattle.ir_program.specs.declared.handles.BasicBlock.{BasicBlock}
 use Rattle.ir_trees.specs.Stands.{defined_by}
 use Rattle.ir_trees.specs.Trees.{Blocks}
-use Rattle.kit_checks.specs.Located.{IsBody, IsRegion}
+use Rattle.kit_checks.specs.Located.{IsBody, RegionHasBlocks}
 use Rattle.kit_checks.specs.Passing.{OfRegion}
 use Rattle.kit_checks.specs.Reading.{OfTree}
 use Rattle.kit_checks.specs.Rules.{HasModuleBody}
@@ -40,7 +40,7 @@ from_map f (x ∷ xs) h = cc
 
 module _ {O B : Type 0} (c : Program O B) where
   -- no member at an index of the handles, none at the index of the trees
-  none_at : (r : Ptr Region) (blocks : Listed O B Blocks) → IsRegion c r blocks → (k : ℕ) → slice_get (blocks_in c r) k ≡ None → slice_get (block_list blocks) k ≡ None
+  none_at : (r : Ptr Region) (blocks : Listed O B Blocks) → RegionHasBlocks c r blocks → (k : ℕ) → slice_get (blocks_in c r) k ≡ None → slice_get (block_list blocks) k ≡ None
   none_at r blocks at k none = by (slice_get (block_list blocks) k) refl
     where
       by : (o : Option (Body O B)) → slice_get (block_list blocks) k ≡ o → slice_get (block_list blocks) k ≡ None

@@ -21,7 +21,7 @@ use Rattle.kit_ops.specs.declared.kinds.KitOp.TheVariants.{Call, Module}
 use Rattle.kit_checks.specs.Located.{IsAroundIf, IsSiteOf}
 use Rattle.kit_checks.specs.Reading.{OfTree}
 use Rattle.kit_checks.specs.Rules.{HasModuleBody, InKind, ModuleHolds}
-use Rattle.kit_checks.specs.Searching.{IsFoundIn, KeptAt, KeptBy, Tells}
+use Rattle.kit_checks.specs.Searching.{IsFirstBreakIn, KeptAt, KeptBy, Tells}
 use Rattle.kit_checks.specs.Sites.{Around, Site}
 use Rattle.kit_checks.specs.Words.{is_symbol, kind_of}
 use Rattle.kit_checks.specs.World.{World}
@@ -77,13 +77,13 @@ module _ {O B : Type 0} (w : World O B) (c : Program O B) (root : Ptr Operation)
 
   module _ (lists : HasLists c) (t : ProgramTree O B) (stands : StandsFor c root t) where
     -- where one doesn't keep it, it isn't kept everywhere
-    pub fit_fails : (op : Ptr Operation) (is : Bool) → StandsInside c (OperationNode root) (OperationNode op) → is ≡ false → Tells w c root rule.CallsFit op is → IsFoundIn w c root rule.CallsFit None → ⊥
+    pub fit_fails : (op : Ptr Operation) (is : Bool) → StandsInside c (OperationNode root) (OperationNode op) → is ≡ false → Tells w c root rule.CallsFit op is → IsFirstBreakIn w c root rule.CallsFit None → ⊥
     fit_fails op is inside fails tells found =
         let p = placed c lists root t stands op inside in
         true≢false (sym ((tells p.site p.at).1 (found t stands p.place p.site p.there)) ∙ fails)
 
     -- where modules hold what they may by the rule, each entity says so
-    module_body : IsFoundIn w c root rule.ModuleHolds None → (op : Ptr Operation) → StandsInside c (OperationNode root) (OperationNode op) → HoldsAt w c (OperationNode op)
+    module_body : IsFirstBreakIn w c root rule.ModuleHolds None → (op : Ptr Operation) → StandsInside c (OperationNode root) (OperationNode op) → HoldsAt w c (OperationNode op)
     module_body found op inside is u su =
         let p = placed c lists root t stands op inside in
         let body = (found t stands p.place p.site p.there).body (kind_from w c op p.site.op p.at.tree Module is) in
@@ -109,7 +109,7 @@ module _ {O B : Type 0} (w : World O B) (c : Program O B) (root : Ptr Operation)
         in_module : kind_of w around.owner ≡ Module
         holds : ModuleHolds w site
 
-      held_at : IsFoundIn w c root rule.ModuleHolds None → (op : Ptr Operation) → StandsInBlock c op b → IsHeldAt op
+      held_at : IsFirstBreakIn w c root rule.ModuleHolds None → (op : Ptr Operation) → StandsInBlock c op b → IsHeldAt op
       held_at found op s =
           let p = placed c lists root t stands op (in_block op b s inside) in
           let a = around_in op p.site.around s p.at.around in
@@ -122,7 +122,7 @@ module _ {O B : Type 0} (w : World O B) (c : Program O B) (root : Ptr Operation)
             holds = found t stands p.place p.site p.there;
           }
 
-      module_symbols : IsFoundIn w c root rule.ModuleHolds None → AreSymbols w c (operations_in c b)
+      module_symbols : IsFirstBreakIn w c root rule.ModuleHolds None → AreSymbols w c (operations_in c b)
       module_symbols found = record {
         kinds = λ op has k here.
             let i = has_at (operations_in c b) op has in
@@ -133,7 +133,7 @@ module _ {O B : Type 0} (w : World O B) (c : Program O B) (root : Ptr Operation)
             in_its_block w c root op h.site h.at h.around h.here lists (BlockNode b) r (h.holds.names h.around (h.here, h.in_module));
       }
 
-    pub each_holds : IsFoundIn w c root rule.ModuleHolds None → (e : IRNode) → StandsInside c (OperationNode root) e → HoldsAt w c e
+    pub each_holds : IsFirstBreakIn w c root rule.ModuleHolds None → (e : IRNode) → StandsInside c (OperationNode root) e → HoldsAt w c e
     each_holds found (OperationNode op) inside = module_body found op inside
     each_holds found (BlockNode b) inside = λ of. module_symbols b inside of found
     each_holds found (RegionNode r) inside = tt
@@ -165,7 +165,7 @@ module _ {O B : Type 0} (w : World O B) (c : Program O B) (root : Ptr Operation)
     module_kept each (RegionNode r) = tt
 
     -- where each entity inside the root says so, modules hold what they may by the rule
-    pub all_hold : ((e : IRNode) → StandsInside c (OperationNode root) e → HoldsAt w c e) → IsFoundIn w c root rule.ModuleHolds None
+    pub all_hold : ((e : IRNode) → StandsInside c (OperationNode root) e → HoldsAt w c e) → IsFirstBreakIn w c root rule.ModuleHolds None
     all_hold each = found_nowhere w c root rule.ModuleHolds inside lists (λ e has. module_kept each e)
 
     calls_kept : (calls : List (Ptr Operation)) → AreCalls w c root calls → ((op : Ptr Operation) → Has op calls → KeptBy w c root rule.CallsFit op) → (e : IRNode) → StandsInside c (OperationNode root) e → KeptAt w c root rule.CallsFit e
@@ -175,7 +175,7 @@ module _ {O B : Type 0} (w : World O B) (c : Program O B) (root : Ptr Operation)
     calls_kept calls are kept (RegionNode r) within = tt
 
     -- where each call keeps it, the rule on calls is kept
-    pub all_fit : (calls : List (Ptr Operation)) (n : ℕ) → n ≡ length calls → AreCalls w c root calls → FitBelow calls n → IsFoundIn w c root rule.CallsFit None
+    pub all_fit : (calls : List (Ptr Operation)) (n : ℕ) → n ≡ length calls → AreCalls w c root calls → FitBelow calls n → IsFirstBreakIn w c root rule.CallsFit None
     all_fit calls n all are fit = found_nowhere w c root rule.CallsFit inside lists
         (λ e has.
         let k = has_at (nodes_inside c (OperationNode root)) e has in
@@ -186,10 +186,10 @@ module _ {O B : Type 0} (w : World O B) (c : Program O B) (root : Ptr Operation)
         e (inside.inside k.0 e k.1))
 
   -- what is known of both rules, by each of them
-  pub one_broken : (IsFoundIn w c root rule.ModuleHolds None → ⊥) → IsTrue false ↔ (IsFoundIn w c root rule.ModuleHolds None × IsFoundIn w c root rule.CallsFit None)
+  pub one_broken : (IsFirstBreakIn w c root rule.ModuleHolds None → ⊥) → IsTrue false ↔ (IsFirstBreakIn w c root rule.ModuleHolds None × IsFirstBreakIn w c root rule.CallsFit None)
   one_broken broken = (λ h. absurd (false≢true h), λ both. absurd (broken both.0))
 
-  pub both_kept : (is : Bool) → IsFoundIn w c root rule.ModuleHolds None → IsTrue is ↔ IsFoundIn w c root rule.CallsFit None → IsTrue is ↔ (IsFoundIn w c root rule.ModuleHolds None × IsFoundIn w c root rule.CallsFit None)
+  pub both_kept : (is : Bool) → IsFirstBreakIn w c root rule.ModuleHolds None → IsTrue is ↔ IsFirstBreakIn w c root rule.CallsFit None → IsTrue is ↔ (IsFirstBreakIn w c root rule.ModuleHolds None × IsFirstBreakIn w c root rule.CallsFit None)
   both_kept is held tells = (λ h. (held, tells.0 h), λ both. tells.1 both.1)
 
   -- a call is inside the root

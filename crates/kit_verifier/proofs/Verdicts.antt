@@ -9,7 +9,7 @@ use Rattle.ir_program.specs.declared.handles.Operation.{Operation}
 use Rattle.ir_trees.specs.Stands.{ProgramTree, StandsFor}
 use Rattle.kit_checks.specs.Faults.{IsFirstFault, KeptEverywhere}
 use Rattle.kit_checks.specs.Numbers.{number_of}
-use Rattle.kit_checks.specs.Searching.{IsFoundIn, IsTested, KeepsLocalRules}
+use Rattle.kit_checks.specs.Searching.{IsFirstBreakIn, IsTested, KeepsLocalRules}
 use Rattle.kit_checks.specs.World.{World}
 use Rattle.kit_checks.specs.declared.rule.Rule.{Rule}
 use Rattle.kit_checks.specs.declared.rule.Rule.TheVariants as rule
@@ -95,7 +95,7 @@ module _ {O B : Type 0} (w : World O B) (c : Program O B) (root : Ptr Operation)
   pub kept_none : KeptUpTo 0
   kept_none t s r least = absurd (let one = at_least r in omega arith)
 
-  pub kept_more : (n : ℕ) (r : Rule) → slice_get rules_in_order n ≡ Some r → IsFoundIn w c root r None → KeptUpTo n → KeptUpTo (n + 1)
+  pub kept_more : (n : ℕ) (r : Rule) → slice_get rules_in_order n ≡ Some r → IsFirstBreakIn w c root r None → KeptUpTo n → KeptUpTo (n + 1)
   kept_more n r here found kept t s q most = ⊎_elim
       (λ (less : number_of q ≤ n). kept t s q less)
       (λ (same : number_of q ≡ n + 1).
@@ -111,7 +111,7 @@ module _ {O B : Type 0} (w : World O B) (c : Program O B) (root : Ptr Operation)
   pub kept_all : (n : ℕ) → n ≡ 14 → KeptUpTo n → (t : ProgramTree O B) → StandsFor c root t → (r : Rule) → KeptEverywhere w t r
   kept_all n all kept t s r = kept t s r (let most = at_most r in omega arith)
 
-  pub first_fault : (n : ℕ) (r : Rule) (place : Place) → slice_get rules_in_order n ≡ Some r → IsFoundIn w c root r (Some place) → KeptUpTo n →
+  pub first_fault : (n : ℕ) (r : Rule) (place : Place) → slice_get rules_in_order n ≡ Some r → IsFirstBreakIn w c root r (Some place) → KeptUpTo n →
       (t : ProgramTree O B) → StandsFor c root t → IsFirstFault w t r place.children.items
   first_fault n r place here found kept t s = record {
     first = found t s;
@@ -119,8 +119,8 @@ module _ {O B : Type 0} (w : World O B) (c : Program O B) (root : Ptr Operation)
   }
 
   -- what is found of the rules that ask for a table of names, and of all others, is found of all
-  all_rules : KeepsLocalRules w c root → IsFoundIn w c root rule.ModuleHolds None
-      → IsFoundIn w c root rule.CallsFit None → (r : Rule) → IsFoundIn w c root r None
+  all_rules : KeepsLocalRules w c root → IsFirstBreakIn w c root rule.ModuleHolds None
+      → IsFirstBreakIn w c root rule.CallsFit None → (r : Rule) → IsFirstBreakIn w c root r None
   all_rules kept m f rule.RootIsModule = kept rule.RootIsModule tt
   all_rules kept m f rule.ModuleHolds = m
   all_rules kept m f rule.FunctionHasType = kept rule.FunctionHasType tt
@@ -138,8 +138,8 @@ module _ {O B : Type 0} (w : World O B) (c : Program O B) (root : Ptr Operation)
 
   -- where the rules that ask for no table of names are kept, whether the others are decides
   pub names_decide : {E : Type 0} → KeepsLocalRules w c root → (r : Result Bool E)
-      → IfOk r (λ is. IsTrue is ↔ (IsFoundIn w c root rule.ModuleHolds None × IsFoundIn w c root rule.CallsFit None))
-      → IfOk r (λ is. IsTrue is ↔ ((q : Rule) → IsFoundIn w c root q None))
+      → IfOk r (λ is. IsTrue is ↔ (IsFirstBreakIn w c root rule.ModuleHolds None × IsFirstBreakIn w c root rule.CallsFit None))
+      → IfOk r (λ is. IsTrue is ↔ ((q : Rule) → IsFirstBreakIn w c root q None))
   names_decide local (Ok is) tells = (
     λ h. let both = tells.0 h in all_rules local both.0 both.1,
     λ kept. tells.1 (kept rule.ModuleHolds, kept rule.CallsFit),

@@ -14,7 +14,7 @@ use Rattle.kit_ops.specs.declared.attributes.keys.TheConstants.{FUNCTION_TYPE}
 use Rattle.kit_ops.specs.declared.kinds.KitOp.TheVariants.{Func}
 use Rattle.kit_ops.specs.declared.types.FunctionType.{FunctionType}
 use Rattle.kit_checks.specs.Located.{IsOwnedBy}
-use Rattle.kit_checks.specs.Rules.{IsIn, CallsFunction}
+use Rattle.kit_checks.specs.Rules.{HasAround, CallsFunction}
 use Rattle.kit_checks.specs.Sites.{Around, Site}
 use Rattle.kit_checks.specs.Words.{HaveTypes, callee_name, callee_type, first_module, function_type, types_of}
 use Rattle.kit_checks.specs.World.{World}
@@ -62,7 +62,7 @@ module _ {O B : Type 0} (w : World O B) (c : Program O B) where
   -- the operation says that it calls this: in the nearest module around it, by its callee's name and type
   pub record Calls (s : Site O B) (q : Callable) : Type 0 where
     pub around : Around O B
-    pub is_in : IsIn w s around
+    pub is_in : HasAround w s around
     pub scope : ProgramTree O B
     pub nearest : first_module w (around.owner ∷ around.outer) ≡ Some scope
     pub scope_is : StandsFor c q.scope scope
@@ -79,4 +79,4 @@ module _ {O B : Type 0} (w : World O B) where
 
   -- the operation is in something, and calls a function of the nearest module there
   abbrev pub CallsOne : Site O B → Type 0
-  CallsOne s = (a : Around O B) × IsIn w s a × CallsFunction w s.op a
+  CallsOne s = (a : Around O B) × HasAround w s a × CallsFunction w s.op a

@@ -5,7 +5,7 @@ ghost use Rattle.ir_program.specs.Program.{operation_at};
 ghost use Rattle.ir_program.specs.declared.handles.IRNode.TheVariants.{Operation as OperationNode};
 ghost use Rattle.kit_checks.specs.Reading.{OfSite};
 ghost use Rattle.kit_checks.specs.Rules.{CallsFit};
-ghost use Rattle.kit_checks.specs.Searching.{IsFoundIn};
+ghost use Rattle.kit_checks.specs.Searching.{IsFirstBreakIn};
 ghost use Rattle.kit_checks.specs.World.{world_of};
 ghost use Rattle.kit_checks.specs.declared.rule.Rule.TheVariants.{CallsFit as CallsRule};
 ghost use Rattle.kit_ops.specs.declared.kinds.KitOp.TheVariants.{Call};
@@ -109,7 +109,7 @@ pub(crate) fn all_fit<'a, D: DialectTables<OpKind = KitOp, Attr = KitAttr, TypeK
     requires root { IsSome (operation_at ctx.now.program root) }
     requires calls { AreCalls (world_of ctx.now) ctx.now.program root calls.now }
     requires table { AreCallees (world_of ctx.now) ctx.now.program root (callables_of callees.now.keys) }
-    ensures { IsTrue result ↔ IsFoundIn (world_of ctx.now) ctx.now.program root CallsRule None }
+    ensures { IsTrue result ↔ IsFirstBreakIn (world_of ctx.now) ctx.now.program root CallsRule None }
 {
     let program = ctx.program();
     program.know_lists();

@@ -5,7 +5,7 @@ ghost use Rattle.ir_program.specs.Program.{operation_at};
 ghost use Rattle.ir_program.specs.declared.handles.IRNode.TheVariants.{Operation as OperationNode};
 ghost use Rattle.kit_checks.specs.Reading.{OfTree};
 ghost use Rattle.kit_checks.specs.Rules.{HasModuleBody};
-ghost use Rattle.kit_checks.specs.Searching.{IsFoundIn};
+ghost use Rattle.kit_checks.specs.Searching.{IsFirstBreakIn};
 ghost use Rattle.kit_checks.specs.World.{world_of};
 ghost use Rattle.kit_checks.specs.declared.rule.Rule.TheVariants.{ModuleHolds, CallsFit};
 ghost use Rattle.kit_ops.specs.declared.kinds.KitOp.TheVariants.{Call};
@@ -144,8 +144,9 @@ pub(crate) fn keeps_names<D: DialectTables<OpKind = KitOp, Attr = KitAttr, TypeK
     root: Ptr<Operation>,
 ) -> Result<bool, AllocError>
     requires { IsSome (operation_at ctx.now.program root) }
-    ensures { IfOk result (λ kept. IsTrue kept ↔ (IsFoundIn (world_of ctx.now) ctx.now.program root ModuleHolds None
-        × IsFoundIn (world_of ctx.now) ctx.now.program root CallsFit None)) }
+    ensures { IfOk result
+        (λ kept. IsTrue kept ↔ (IsFirstBreakIn (world_of ctx.now) ctx.now.program root ModuleHolds None
+        × IsFirstBreakIn (world_of ctx.now) ctx.now.program root CallsFit None)) }
 {
     let program = ctx.program();
     program.know_lists();

@@ -3,7 +3,7 @@ ghost use Rattle.std.specs.Prelude.{IfOk, IsSome};
 ghost use Rattle.ir_program.specs.Lists.{IsLiveNode, StandsInside};
 ghost use Rattle.ir_program.specs.Program.{operation_at};
 ghost use Rattle.ir_program.specs.declared.handles.IRNode.TheVariants.{Operation as OperationNode};
-ghost use Rattle.kit_checks.specs.Searching.{IsBrokenAt, IsFoundIn, IsSearched};
+ghost use Rattle.kit_checks.specs.Searching.{IsBrokenAt, IsFirstBreakIn, IsSearched};
 ghost use Rattle.kit_checks.specs.World.{world_of};
 ghost use Rattle.kit_verifier.specs.Tables.{IsTable, rule_of};
 
@@ -75,7 +75,7 @@ pub(crate) fn first_place_by<
 ) -> Result<Option<Place>, AllocError>
     requires root { IsSome (operation_at ctx.now.program root) }
     requires table { IsTable (world_of ctx.now) ctx.now.program root table.now }
-    ensures { IfOk result (IsFoundIn (world_of ctx.now) ctx.now.program root (rule_of table.now)) }
+    ensures { IfOk result (IsFirstBreakIn (world_of ctx.now) ctx.now.program root (rule_of table.now)) }
 {
     let program = ctx.program();
     program.know_lists();

@@ -3,7 +3,7 @@ ghost use Rattle.std.specs.Prelude.{◌↔◌, IfOk, IsSome, IsTrue, None};
 ghost use Rattle.ir_program.specs.Program.{operation_at};
 ghost use Rattle.kit_checks.specs.Faults.{IsVerdict};
 ghost use Rattle.kit_checks.specs.Reading.{OfTree};
-ghost use Rattle.kit_checks.specs.Searching.{IsFoundIn, IsTested};
+ghost use Rattle.kit_checks.specs.Searching.{IsFirstBreakIn, IsTested};
 ghost use Rattle.kit_checks.specs.World.{world_of};
 ghost use Rattle.kit_checks.specs.declared.rule.Rule.{Rule};
 ghost use Rattle.kit_checks.specs.declared.rule.Rule.TheVariants.{ModuleHolds, CallsFit};
@@ -46,7 +46,7 @@ fn first_module_fault<D: DialectTables<OpKind = KitOp, Attr = KitAttr, TypeKey =
     root: Ptr<Operation>,
 ) -> Result<Option<Place>, AllocError>
     requires { IsSome (operation_at ctx.now.program root) }
-    ensures { IfOk result (IsFoundIn (world_of ctx.now) ctx.now.program root ModuleHolds) }
+    ensures { IfOk result (IsFirstBreakIn (world_of ctx.now) ctx.now.program root ModuleHolds) }
 {
     let table = Table::Repeats(repeats_inside(alloc, ctx, root)?);
     first_place_by(alloc, ctx, root, &table)
@@ -59,7 +59,7 @@ fn first_call_fault<D: DialectTables<OpKind = KitOp, Attr = KitAttr, TypeKey = K
     root: Ptr<Operation>,
 ) -> Result<Option<Place>, AllocError>
     requires { IsSome (operation_at ctx.now.program root) }
-    ensures { IfOk result (IsFoundIn (world_of ctx.now) ctx.now.program root CallsFit) }
+    ensures { IfOk result (IsFirstBreakIn (world_of ctx.now) ctx.now.program root CallsFit) }
 {
     let table = Table::Callees(callees_inside(alloc, ctx, root)?);
     first_place_by(alloc, ctx, root, &table)
@@ -74,7 +74,7 @@ fn first_local_fault<D: DialectTables<OpKind = KitOp, Attr = KitAttr, TypeKey = 
 ) -> Result<Option<Place>, AllocError>
     requires tested { IsTested rule }
     requires root { IsSome (operation_at ctx.now.program root) }
-    ensures { IfOk result (IsFoundIn (world_of ctx.now) ctx.now.program root rule) }
+    ensures { IfOk result (IsFirstBreakIn (world_of ctx.now) ctx.now.program root rule) }
 {
     match first_place(alloc, ctx, root, rule) {
         Ok(found) => Ok(found),
@@ -93,7 +93,7 @@ pub fn first_broken<D: DialectTables<OpKind = KitOp, Attr = KitAttr, TypeKey = K
     rule: Rule,
 ) -> Result<Option<Place>, AllocError>
     requires { IsSome (operation_at ctx.now.program root) }
-    ensures { IfOk result (IsFoundIn (world_of ctx.now) ctx.now.program root rule) }
+    ensures { IfOk result (IsFirstBreakIn (world_of ctx.now) ctx.now.program root rule) }
 {
     match rule {
         Rule::ModuleHolds => first_module_fault(alloc, ctx, root),
@@ -114,7 +114,7 @@ fn keeps_all_rules<D: DialectTables<OpKind = KitOp, Attr = KitAttr, TypeKey = Ki
 ) -> Result<bool, AllocError>
     requires { IsSome (operation_at ctx.now.program root) }
     ensures { IfOk result (λ kept.
-        IsTrue kept ↔ ((r : Rule) → IsFoundIn (world_of ctx.now) ctx.now.program root r None)) }
+        IsTrue kept ↔ ((r : Rule) → IsFirstBreakIn (world_of ctx.now) ctx.now.program root r None)) }
 {
     let keeps_local = keeps_local_rules(alloc, ctx, root)?;
     if !keeps_local {

@@ -48,12 +48,12 @@ below_self known.Any = tt
 below_self known.Undetermined = tt
 below_self (known.One a) = refl
 
-below_same : (t : Fact) → flat.AtOrBelow t t
+below_same : (t : Fact) → flat.FactAtOrBelow t t
 below_same Unknown = tt
 below_same Undetermined = tt
 below_same (flat.Known n) = refl
 
-below_top : (t : Fact) → flat.AtOrBelow t Undetermined
+below_top : (t : Fact) → flat.FactAtOrBelow t Undetermined
 below_top Unknown = tt
 below_top Undetermined = tt
 below_top (flat.Known n) = tt
@@ -106,7 +106,7 @@ module _ (leads : TypeHandle → Option KitType) (ty : TypeHandle) where
       step true e = let q = fits_is a e in number a.bits (ap known.One q.0) (ap (λ b. if b then flat.Known a.bits else Undetermined) e) q.1
       step false e = absurd (h (ap (λ b. if b then flat.Known a.bits else Undetermined) e))
 
-  order_known : (x y : Fact) → flat.AtOrBelow x y → tree.AtOrBelow (as_known x) (as_known y)
+  order_known : (x y : Fact) → flat.FactAtOrBelow x y → tree.AtOrBelow (as_known x) (as_known y)
   order_known Unknown y b = tt
   order_known Undetermined Undetermined b = tt
   order_known Undetermined (flat.Known m) b = absurd b
@@ -119,17 +119,17 @@ module _ (leads : TypeHandle → Option KitType) (ty : TypeHandle) where
       step false = tt
   order_known (flat.Known n) (flat.Known m) b = subst (λ z. tree.AtOrBelow (as_known (flat.Known n)) (as_known (flat.Known z))) b (below_self (as_known (flat.Known n)))
 
-  order_fact : (x y : Known IntegerAttr) → tree.AtOrBelow x y → flat.AtOrBelow (as_fact x) (as_fact y)
+  order_fact : (x y : Known IntegerAttr) → tree.AtOrBelow x y → flat.FactAtOrBelow (as_fact x) (as_fact y)
   order_fact known.Any y b = tt
   order_fact known.Undetermined known.Undetermined b = tt
   order_fact known.Undetermined (known.One c) b = absurd b
   order_fact known.Undetermined known.Any b = absurd b
   order_fact (known.One a) known.Any b = absurd b
   order_fact (known.One a) known.Undetermined b = below_top (as_fact (known.One a))
-  order_fact (known.One a) (known.One c) b = subst (λ z. flat.AtOrBelow (as_fact (known.One a)) (as_fact (known.One z))) b (below_same (as_fact (known.One a)))
+  order_fact (known.One a) (known.One c) b = subst (λ z. flat.FactAtOrBelow (as_fact (known.One a)) (as_fact (known.One z))) b (below_same (as_fact (known.One a)))
 
   -- what lies below in the tree lies below in the flat function
-  order_back : (x : Fact) (y : Known IntegerAttr) → tree.AtOrBelow (as_known x) y → flat.AtOrBelow x (as_fact y)
+  order_back : (x : Fact) (y : Known IntegerAttr) → tree.AtOrBelow (as_known x) y → flat.FactAtOrBelow x (as_fact y)
   order_back Unknown y b = tt
   order_back Undetermined known.Undetermined b = tt
   order_back Undetermined (known.One c) b = absurd b
@@ -137,13 +137,13 @@ module _ (leads : TypeHandle → Option KitType) (ty : TypeHandle) where
   order_back (flat.Known n) known.Undetermined b = tt
   order_back (flat.Known n) known.Any b = step (nat_lt n (2 ^ width_at leads ty)) b
     where
-      step : (c : Bool) → tree.AtOrBelow (if c then known.One (number_as leads ty n) else known.Undetermined) known.Any → flat.AtOrBelow (flat.Known n) Unknown
+      step : (c : Bool) → tree.AtOrBelow (if c then known.One (number_as leads ty n) else known.Undetermined) known.Any → flat.FactAtOrBelow (flat.Known n) Unknown
       step true b = b
       step false b = b
   order_back (flat.Known n) (known.One a) b = step (nat_lt n (2 ^ width_at leads ty)) refl b
     where
-      step : (c : Bool) → nat_lt n (2 ^ width_at leads ty) ≡ c → tree.AtOrBelow (if c then known.One (number_as leads ty n) else known.Undetermined) (known.One a) → flat.AtOrBelow (flat.Known n) (as_fact (known.One a))
-      step true e b = subst (λ z. flat.AtOrBelow (flat.Known n) (as_fact (known.One z))) b (subst (flat.AtOrBelow (flat.Known n)) (sym (fact_number n (ltb-true n (2 ^ width_at leads ty) e))) refl)
+      step : (c : Bool) → nat_lt n (2 ^ width_at leads ty) ≡ c → tree.AtOrBelow (if c then known.One (number_as leads ty n) else known.Undetermined) (known.One a) → flat.FactAtOrBelow (flat.Known n) (as_fact (known.One a))
+      step true e b = subst (λ z. flat.FactAtOrBelow (flat.Known n) (as_fact (known.One z))) b (subst (flat.FactAtOrBelow (flat.Known n)) (sym (fact_number n (ltb-true n (2 ^ width_at leads ty) e))) refl)
       step false e b = absurd b
 
   agree : (y : Known IntegerAttr) → tree.AtOrBelow (as_known (as_fact y)) y → IsKnownAs leads ty y (as_fact y)
@@ -181,12 +181,12 @@ module _ {N : Names} (leads : TypeHandle → Option KitType) (numbered : List �
       step true e = absurd (n (in_has same sameness v values e))
       step false e = e
 
-  abbrev runs_in : flat.Facts N.value → Option ℕ → Bool
+  abbrev runs_in : flat.FunctionFacts N.value → Option ℕ → Bool
   runs_in m None = false
   runs_in m (Some n) = m.runs n
 
   -- flat facts as facts of the tree
-  abbrev lift : flat.Facts N.value → trees.Facts N IntegerAttr
+  abbrev lift : flat.FunctionFacts N.value → trees.Facts N IntegerAttr
   lift m = record {
     runs = λ b. runs_in m (index_of same_block b (names_in bs));
     of = λ v. if_value v (as_known leads (type_at v) (m.of v)) known.Any;
@@ -197,25 +197,25 @@ module _ {N : Names} (leads : TypeHandle → Option KitType) (numbered : List �
   runs_at k (Some b) n = k.runs b
 
   -- and back
-  abbrev pub lower : trees.Facts N IntegerAttr → flat.Facts N.value
+  abbrev pub lower : trees.Facts N IntegerAttr → flat.FunctionFacts N.value
   lower k = record {
     runs = λ n. runs_at k (slice_get (names_in bs) n) n;
     of = λ v. if_value v (as_fact leads (type_at v) (k.of v)) Undetermined;
   }
 
-  lift_runs : (m : flat.Facts N.value) (n : ℕ) (b : N.block) → slice_get (names_in bs) n ≡ Some b → m.runs n ≡ (lift m).runs b
+  lift_runs : (m : flat.FunctionFacts N.value) (n : ℕ) (b : N.block) → slice_get (names_in bs) n ≡ Some b → m.runs n ≡ (lift m).runs b
   lift_runs m n b e = ap (runs_in m) (sym (index_at same_block block_law (names_in bs) (to_distinct (names_in bs) given.blocks) n b e))
 
   lower_runs : (k : trees.Facts N IntegerAttr) (n : ℕ) (b : N.block) → slice_get (names_in bs) n ≡ Some b → (lower k).runs n ≡ k.runs b
   lower_runs k n b e = ap (λ o. runs_at k o n) e
 
-  lift_of : (m : flat.Facts N.value) (v : N.value) → Has v values → (lift m).of v ≡ as_known leads (type_at v) (m.of v)
+  lift_of : (m : flat.FunctionFacts N.value) (v : N.value) → Has v values → (lift m).of v ≡ as_known leads (type_at v) (m.of v)
   lift_of m v i = is_value v (as_known leads (type_at v) (m.of v)) known.Any i
 
   lower_of : (k : trees.Facts N IntegerAttr) (v : N.value) → Has v values → (lower k).of v ≡ as_fact leads (type_at v) (k.of v)
   lower_of k v i = is_value v (as_fact leads (type_at v) (k.of v)) Undetermined i
 
-  lift_closed : (m : flat.Facts N.value) → flat.IsClosed (Some f) m → trees.IsClosed kit (whole (kit_reading leads numbered) h bs f) (lift m)
+  lift_closed : (m : flat.FunctionFacts N.value) → flat.AreClosedFacts (Some f) m → trees.IsClosed kit (whole (kit_reading leads numbered) h bs f) (lift m)
   lift_closed m c = tree_closed leads numbered h bs f given type_at typed (lift m) m (lift_runs m)
       (λ v i n. subst (λ z. Det leads (type_at v) z (m.of v)) (sym (lift_of m v i)) (det_known leads (type_at v) (m.of v) (λ e. n (lift_of m v i ∙ e))))
       (λ t g i j e b. subst (λ z. tree.AtOrBelow z ((lift m).of g)) (sym (lift_of m t i)) (subst (tree.AtOrBelow (as_known leads (type_at t) (m.of t))) (sym (lift_of m g j ∙ ap (λ z. as_known leads z (m.of g)) e)) (order_known leads (type_at t) (m.of t) (m.of g) b)))
@@ -223,15 +223,15 @@ module _ {N : Names} (leads : TypeHandle → Option KitType) (numbered : List �
       (λ v i e. lift_of m v i ∙ ap (as_known leads (type_at v)) e)
       (λ v n. no_value v (as_known leads (type_at v) (m.of v)) known.Any n) c
 
-  lower_closed : (k : trees.Facts N IntegerAttr) → trees.IsClosed kit (whole (kit_reading leads numbered) h bs f) k → flat.IsClosed (Some f) (lower k)
+  lower_closed : (k : trees.Facts N IntegerAttr) → trees.IsClosed kit (whole (kit_reading leads numbered) h bs f) k → flat.AreClosedFacts (Some f) (lower k)
   lower_closed k c = flat_closed leads numbered h bs f given type_at typed k (lower k) (lower_runs k)
       (λ v i n. subst (Det leads (type_at v) (k.of v)) (sym (lower_of k v i)) (det_fact leads (type_at v) (k.of v) (λ e. n (lower_of k v i ∙ e))))
-      (λ t g i j e b. subst (λ z. flat.AtOrBelow z ((lower k).of g)) (sym (lower_of k t i)) (subst (flat.AtOrBelow (as_fact leads (type_at t) (k.of t))) (sym (lower_of k g j ∙ ap (λ z. as_fact leads z (k.of g)) e)) (order_fact leads (type_at t) (k.of t) (k.of g) b)))
-      (λ v n i lt b. subst (λ z. flat.AtOrBelow z (flat.Known n)) (sym (lower_of k v i)) (subst (flat.AtOrBelow (as_fact leads (type_at v) (k.of v))) (fact_number leads (type_at v) n lt) (order_fact leads (type_at v) (k.of v) (known.One (number_as leads (type_at v) n)) b)))
+      (λ t g i j e b. subst (λ z. flat.FactAtOrBelow z ((lower k).of g)) (sym (lower_of k t i)) (subst (flat.FactAtOrBelow (as_fact leads (type_at t) (k.of t))) (sym (lower_of k g j ∙ ap (λ z. as_fact leads z (k.of g)) e)) (order_fact leads (type_at t) (k.of t) (k.of g) b)))
+      (λ v n i lt b. subst (λ z. flat.FactAtOrBelow z (flat.Known n)) (sym (lower_of k v i)) (subst (flat.FactAtOrBelow (as_fact leads (type_at v) (k.of v))) (fact_number leads (type_at v) n lt) (order_fact leads (type_at v) (k.of v) (known.One (number_as leads (type_at v) n)) b)))
       (λ v i e. lower_of k v i ∙ ap (as_fact leads (type_at v)) e)
       (λ e. ap (λ o. runs_at k o 0) e) c
 
-  pub best_flatly : (k : trees.Facts N IntegerAttr) → trees.IsMostPrecise kit (whole (kit_reading leads numbered) h bs f) k → flat.IsMostPrecise (Some f) (lower k)
+  pub best_flatly : (k : trees.Facts N IntegerAttr) → trees.IsMostPrecise kit (whole (kit_reading leads numbered) h bs f) k → flat.AreMostPreciseFacts (Some f) (lower k)
   best_flatly k best = record {
     closed = lower_closed k best.closed;
     best = λ m c.
@@ -242,15 +242,15 @@ module _ {N : Names} (leads : TypeHandle → Option KitType) (numbered : List �
         };
   }
     where
-      fewer : (m : flat.Facts N.value) → flat.IsClosed (Some f) m → (o : Option N.block) (n : ℕ) → slice_get (names_in bs) n ≡ o → ((b : N.block) → k.runs b ≡ true → (lift m).runs b ≡ true) → runs_at k o n ≡ true → m.runs n ≡ true
+      fewer : (m : flat.FunctionFacts N.value) → flat.AreClosedFacts (Some f) m → (o : Option N.block) (n : ℕ) → slice_get (names_in bs) n ≡ o → ((b : N.block) → k.runs b ≡ true → (lift m).runs b ≡ true) → runs_at k o n ≡ true → m.runs n ≡ true
       fewer m c None n e more q = ap m.runs (eqb-true n 0 q) ∙ c.entry_runs
       fewer m c (Some b) n e more q = lift_runs m n b e ∙ more b q
 
-      above : (m : flat.Facts N.value) (v : N.value) → tree.AtOrBelow ((lift m).of v) (k.of v) → (b : Bool) → is_in same v values ≡ b → flat.AtOrBelow (m.of v) ((lower k).of v)
+      above : (m : flat.FunctionFacts N.value) (v : N.value) → tree.AtOrBelow ((lift m).of v) (k.of v) → (b : Bool) → is_in same v values ≡ b → flat.FactAtOrBelow (m.of v) ((lower k).of v)
       above m v q true e =
           let i = in_has same sameness v values e in
-          subst (flat.AtOrBelow (m.of v)) (sym (lower_of k v i)) (order_back leads (type_at v) (m.of v) (k.of v) (subst (λ z. tree.AtOrBelow z (k.of v)) (lift_of m v i) q))
-      above m v q false e = subst (flat.AtOrBelow (m.of v)) (sym (ap (λ (b : Bool). if b then as_fact leads (type_at v) (k.of v) else Undetermined) e)) (below_top (m.of v))
+          subst (flat.FactAtOrBelow (m.of v)) (sym (lower_of k v i)) (order_back leads (type_at v) (m.of v) (k.of v) (subst (λ z. tree.AtOrBelow z (k.of v)) (lift_of m v i) q))
+      above m v q false e = subst (flat.FactAtOrBelow (m.of v)) (sym (ap (λ (b : Bool). if b then as_fact leads (type_at v) (k.of v) else Undetermined) e)) (below_top (m.of v))
 
   pub lower_agrees : (k : trees.Facts N IntegerAttr) → trees.IsMostPrecise kit (whole (kit_reading leads numbered) h bs f) k → AreFlatly leads {N = N} type_at (whole (kit_reading leads numbered) h bs f) (names_in bs) k (lower k)
   lower_agrees k best = record {

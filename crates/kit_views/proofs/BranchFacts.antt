@@ -14,7 +14,7 @@ use Rattle.opt_trees.specs.Facts.{forwarded, IsFeasible}
 use Rattle.opt_trees.specs.Occurrences.{Has, Occurrence, BlockOccurrence, occurrences_of, block_occurrences_of, defined_in, picks}
 use Rattle.opt_trees.proofs.Lists.{some_same, none_some}
 use Rattle.opt_trees.proofs.Defined.{argument_defined}
-use Rattle.kit_behaviour.specs.Facts.{Fact, Undetermined, Unknown, Knows, Lacks, Numbers, Open, knows_more, knows, all_forwarded, branch_knows, BranchClosed, EdgeClosed}
+use Rattle.kit_behaviour.specs.Facts.{Fact, Undetermined, Unknown, Knows, Lacks, Numbers, Open, knows_more, knows, all_forwarded, branch_knows, BranchClosedIn, EdgeClosedIn}
 use Rattle.kit_behaviour.specs.Facts as flat
 use Rattle.kit_behaviour.specs.Machine.{AllEdges, Edge, Select, Plain, Nonzero, Cases, chosen, edge_at, Fun}
 use Rattle.kit_behaviour.specs.Rules.{EdgeFits}
@@ -24,8 +24,8 @@ use Rattle.kit_ops.specs.declared.types.KitType.{KitType}
 use Rattle.kit.specs.Folded.{same_number}
 use Rattle.kit.specs.Meaning.{kit, feasible_of}
 use Rattle.kit_views.specs.Reading.{kit_contents, kit_reading, integer_of}
-use Rattle.kit_views.specs.FlatView.{IsBranch, names_in}
-use Rattle.kit_views.specs.Typed.{number_as, width_at, IsBit, TypesFit, IsTyped}
+use Rattle.kit_views.specs.FlatView.{IsFlatBranch, names_in}
+use Rattle.kit_views.specs.Typed.{number_as, width_at, LeadsToBit, TypesFit, IsTyped}
 use Rattle.kit_views.proofs.Lists.{has_get, at_has}
 use Rattle.kit_views.proofs.Read.{kit_reads}
 use Rattle.kit_views.proofs.Forwarded.{start, start_least, forwarded_at, get_right, get_there, IsForwarding, from_branch}
@@ -82,34 +82,34 @@ module _ {N : Names} (leads : TypeHandle → Option KitType) (numbered : List �
           same_type = typed.forwards o i g t here op (to_tree kit (kit_reading leads numbered) h bs f given o xs es v j e p i g t at ga refl takes);
         }
 
-    module _ (k : trees.Facts N IntegerAttr) (l : flat.Facts N.value) (runs : (n : ℕ) (b : N.block) → slice_get (names_in bs) n ≡ Some b → l.runs n ≡ k.runs b) where
-      edge_tree : ((t g : N.value) → Partners t g → flat.AtOrBelow (l.of t) (l.of g) → tree.AtOrBelow (k.of t) (k.of g)) → (j : ℕ) (e : Edge N.value) (b : N.block) → slice_get es j ≡ Some e → slice_get (names_in bs) e.target ≡ Some b → EdgeClosed (Some f) l e → trees.EdgeClosed kit (block_occurrences_of (whole (kit_reading leads numbered) h bs f)) k o.head j b
+    module _ (k : trees.Facts N IntegerAttr) (l : flat.FunctionFacts N.value) (runs : (n : ℕ) (b : N.block) → slice_get (names_in bs) n ≡ Some b → l.runs n ≡ k.runs b) where
+      edge_tree : ((t g : N.value) → Partners t g → flat.FactAtOrBelow (l.of t) (l.of g) → tree.AtOrBelow (k.of t) (k.of g)) → (j : ℕ) (e : Edge N.value) (b : N.block) → slice_get es j ≡ Some e → slice_get (names_in bs) e.target ≡ Some b → EdgeClosedIn (Some f) l e → trees.EdgeClosed kit (block_occurrences_of (whole (kit_reading leads numbered) h bs f)) k o.head j b
       edge_tree order j e b at name c = record {
         target = sym (runs e.target b name) ∙ c.0;
         arguments = λ x stands q.
             let n = name ∙ ap Some (sym q) in
             let a = arguments_are (kit_reading leads numbered) h bs f given x stands e.target n in
             subst (λ z. tree.AllBelow k.of (names_of x.label.arguments) (map k.of z)) (sym (forwards_are j e at))
-            (below_tree leads type_at k.of l.of (names_of x.label.arguments) e.forwards (λ p t g ta ga. order t g (partners j e x at stands n p t g ta ga)) l refl (subst (λ z. flat.AllBelow l z e.forwards) (sym a) c.1));
+            (below_tree leads type_at k.of l.of (names_of x.label.arguments) e.forwards (λ p t g ta ga. order t g (partners j e x at stands n p t g ta ga)) l refl (subst (λ z. flat.AllFactsAtOrBelow l z e.forwards) (sym a) c.1));
       }
 
-      edge_flat : ((t g : N.value) → Partners t g → tree.AtOrBelow (k.of t) (k.of g) → flat.AtOrBelow (l.of t) (l.of g)) → (j : ℕ) (e : Edge N.value) (b : N.block) → slice_get es j ≡ Some e → EdgeFits (Some f) e → slice_get (names_in bs) e.target ≡ Some b → trees.EdgeClosed kit (block_occurrences_of (whole (kit_reading leads numbered) h bs f)) k o.head j b → EdgeClosed (Some f) l e
+      edge_flat : ((t g : N.value) → Partners t g → tree.AtOrBelow (k.of t) (k.of g) → flat.FactAtOrBelow (l.of t) (l.of g)) → (j : ℕ) (e : Edge N.value) (b : N.block) → slice_get es j ≡ Some e → EdgeFits (Some f) e → slice_get (names_in bs) e.target ≡ Some b → trees.EdgeClosed kit (block_occurrences_of (whole (kit_reading leads numbered) h bs f)) k o.head j b → EdgeClosedIn (Some f) l e
       edge_flat order j e b at fits name c =
           let there = get_there f e.target fits.leads in
           let x = block_back (kit_reading leads numbered) h bs f given e.target there.0 there.1 in
           let q : x.it.label.name ≡ b = some_same x.it.label.name b (sym x.same.name ∙ name) in
           let a = arguments_are (kit_reading leads numbered) h bs f given x.it x.stands e.target x.same.name in (
             runs e.target b name ∙ c.target,
-            subst (λ z. flat.AllBelow l z e.forwards) a
+            subst (λ z. flat.AllFactsAtOrBelow l z e.forwards) a
                 (below_flat leads type_at k.of l.of (names_of x.it.label.arguments) e.forwards (λ p t g ta ga. order t g (partners j e x.it at x.stands x.same.name p t g ta ga)) l refl
                 (subst (λ z. tree.AllBelow k.of (names_of x.it.label.arguments) (map k.of z)) (forwards_are j e at) (c.arguments x.it x.stands q))),
           )
 
-  module _ (k : trees.Facts N IntegerAttr) (l : flat.Facts N.value) (runs : (n : ℕ) (b : N.block) → slice_get (names_in bs) n ≡ Some b → l.runs n ≡ k.runs b) (o : Occurrence N kit_contents) (here : Stands o) where
+  module _ (k : trees.Facts N IntegerAttr) (l : flat.FunctionFacts N.value) (runs : (n : ℕ) (b : N.block) → slice_get (names_in bs) n ≡ Some b → l.runs n ≡ k.runs b) (o : Occurrence N kit_contents) (here : Stands o) where
     abbrev IsDet : N.value → Type 0
     IsDet v = Det leads (type_at v) (k.of v) (l.of v)
 
-    one_bit : (x : N.value) (n : ℕ) → IsBit leads (type_at x) → n < 2 ^ width_at leads (type_at x) → n < 2
+    one_bit : (x : N.value) (n : ℕ) → LeadsToBit leads (type_at x) → n < 2 ^ width_at leads (type_at x) → n < 2
     one_bit x n b lt = subst (λ w. n < 2 ^ w) (ap (λ z. (integer_of z).width) b) lt
 
     feasible_number : (a : IntegerAttr) (ys : List (Option IntegerAttr)) (j : ℕ) → o.head.content.kind ≡ ops.CondBr → kit.feasible o.head.content (Some a ∷ ys) j ≡ nat_eq (pick_of a.bits) j
@@ -129,27 +129,27 @@ module _ {N : Names} (leads : TypeHandle → Option KitType) (numbered : List �
     among_two e e2 (suc (suc n)) h = absurd (omega (arith, h))
 
     module _ (kind_types : TypesFit leads {N = N} type_at o.head.content.kind o.head) where
-      condition_bit : (x : N.value) (rest : List N.value) → o.head.content.kind ≡ ops.CondBr → o.head.operands ≡ x ∷ rest → IsBit leads (type_at x)
+      condition_bit : (x : N.value) (rest : List N.value) → o.head.content.kind ≡ ops.CondBr → o.head.operands ≡ x ∷ rest → LeadsToBit leads (type_at x)
       condition_bit x rest e q = subst (λ z. TypesFit leads {N = N} type_at z o.head) e kind_types x (ap (λ z. slice_get z 0) q)
 
-      is_two : (xs : List N.value) (e : Edge N.value) (es : List (Edge N.value)) → IsBranch (kit_reading leads numbered) (names_in bs) o.head Nonzero xs e es → o.head.content.kind ≡ ops.CondBr
+      is_two : (xs : List N.value) (e : Edge N.value) (es : List (Edge N.value)) → IsFlatBranch (kit_reading leads numbered) (names_in bs) o.head Nonzero xs e es → o.head.content.kind ≡ ops.CondBr
       is_two xs e es is = is.0.kind
 
-      forwarding : (s : Select) (xs : List N.value) (e : Edge N.value) (es : List (Edge N.value)) → IsBranch (kit_reading leads numbered) (names_in bs) o.head s xs e es → IsForwarding kit (names_in bs) o.head xs (e ∷ es)
+      forwarding : (s : Select) (xs : List N.value) (e : Edge N.value) (es : List (Edge N.value)) → IsFlatBranch (kit_reading leads numbered) (names_in bs) o.head s xs e es → IsForwarding kit (names_in bs) o.head xs (e ∷ es)
       forwarding s xs e es is = from_branch kit (kit_reading leads numbered) (kit_reads leads numbered) (names_in bs) o.head s xs e es is
 
       -- a branch that is closed in the flat function is closed in the tree
-      module _ (det : (v : N.value) → Defined v → (k.of v ≡ known.Undetermined → ⊥) → IsDet v) (order : (t g : N.value) → Defined t → Defined g → type_at g ≡ type_at t → flat.AtOrBelow (l.of t) (l.of g) → tree.AtOrBelow (k.of t) (k.of g)) where
+      module _ (det : (v : N.value) → Defined v → (k.of v ≡ known.Undetermined → ⊥) → IsDet v) (order : (t g : N.value) → Defined t → Defined g → type_at g ≡ type_at t → flat.FactAtOrBelow (l.of t) (l.of g) → tree.AtOrBelow (k.of t) (k.of g)) where
         module _ (qs : List (Option IntegerAttr)) (asks : asked (map k.of o.head.operands) ≡ Some qs) where
           all_det : (v : N.value) → Has v o.head.operands → IsDet v
           all_det v i = det v (typed.operands o v here i) (asked_none leads type_at k.of l.of o.head.operands qs asks v i)
 
-          flat_edge : (s : Select) (xs : List N.value) (e : Edge N.value) (es : List (Edge N.value)) → IsBranch (kit_reading leads numbered) (names_in bs) o.head s xs e es → BranchClosed (Some f) l s (branch_knows l xs (e ∷ es)) e es → (i : ℕ) (g : Edge N.value) (b : N.block) → slice_get (e ∷ es) i ≡ Some g → slice_get (names_in bs) g.target ≡ Some b → IsFeasible kit o.head qs b → EdgeClosed (Some f) l g
+          flat_edge : (s : Select) (xs : List N.value) (e : Edge N.value) (es : List (Edge N.value)) → IsFlatBranch (kit_reading leads numbered) (names_in bs) o.head s xs e es → BranchClosedIn (Some f) l s (branch_knows l xs (e ∷ es)) e es → (i : ℕ) (g : Edge N.value) (b : N.block) → slice_get (e ∷ es) i ≡ Some g → slice_get (names_in bs) g.target ≡ Some b → IsFeasible kit o.head qs b → EdgeClosedIn (Some f) l g
           flat_edge Plain [] e [] is c i g b at name feas =
               let v = forwarding Plain [] e [] is in
               let n = det_knows leads type_at k.of l.of (all_forwarded (e ∷ [])) (λ u j. all_det u (subst (Has u) (sym v.operands) j)) in
-              let m = subst (λ z. BranchClosed (Some f) l Plain z e []) (unless (knows (map l.of (all_forwarded (e ∷ [])))) (Numbers []) n) c in
-              all_edges_at (λ x. x.target ≡ e.target → EdgeClosed (Some f) l x) (e ∷ []) m i g at (only i g at)
+              let m = subst (λ z. BranchClosedIn (Some f) l Plain z e []) (unless (knows (map l.of (all_forwarded (e ∷ [])))) (Numbers []) n) c in
+              all_edges_at (λ x. x.target ≡ e.target → EdgeClosedIn (Some f) l x) (e ∷ []) m i g at (only i g at)
             where
               only : (i : ℕ) (g : Edge N.value) → slice_get (e ∷ []) i ≡ Some g → g.target ≡ e.target
               only zero g at = ap (λ (z : Edge N.value). z.target) (sym (some_same e g at))
@@ -168,13 +168,13 @@ module _ {N : Names} (leads : TypeHandle → Option KitType) (numbered : List �
               n : knows (map l.of (all_forwarded (e ∷ e2 ∷ []))) ≡ Lacks → ⊥
               n = det_knows leads type_at k.of l.of (all_forwarded (e ∷ e2 ∷ [])) (λ u j. all_det u (subst (Has u) (sym v.operands) (inr j)))
 
-              m : BranchClosed (Some f) l Nonzero (knows (map l.of (x ∷ []))) e (e2 ∷ [])
-              m = subst (λ z. BranchClosed (Some f) l Nonzero z e (e2 ∷ [])) (unless (knows (map l.of (all_forwarded (e ∷ e2 ∷ [])))) (knows (map l.of (x ∷ []))) n) c
+              m : BranchClosedIn (Some f) l Nonzero (knows (map l.of (x ∷ []))) e (e2 ∷ [])
+              m = subst (λ z. BranchClosedIn (Some f) l Nonzero z e (e2 ∷ [])) (unless (knows (map l.of (all_forwarded (e ∷ e2 ∷ [])))) (knows (map l.of (x ∷ []))) n) c
 
               asked_first : asked (map k.of (x ∷ all_forwarded (e ∷ e2 ∷ []))) ≡ Some qs
               asked_first = ap (λ z. asked (map k.of z)) (sym v.operands) ∙ asks
 
-              step : IsDet x → EdgeClosed (Some f) l g
+              step : IsDet x → EdgeClosedIn (Some f) l g
               step (number w a q lt) =
                   let small = one_bit x w (condition_bit x (all_forwarded (e ∷ e2 ∷ [])) (is_two (x ∷ []) e (e2 ∷ []) is) v.operands) lt in
                   let ys = first_number leads type_at k.of l.of x (all_forwarded (e ∷ e2 ∷ [])) qs (number_as leads (type_at x) w) a asked_first in
@@ -185,14 +185,14 @@ module _ {N : Names} (leads : TypeHandle → Option KitType) (numbered : List �
                   let picked : ge.e ≡ edge_at e (e2 ∷ []) feas.0 = some_same ge.e (edge_at e (e2 ∷ []) feas.0) (sym ge.at ∙ among_two e e2 feas.0 two) in
                   let target : g.target ≡ (edge_at e (e2 ∷ []) (chosen Nonzero (w ∷ []))).target =
                   given.blocks g.target ge.e.target b name ge.name ∙ (ap (λ (z : Edge N.value). z.target) picked ∙ ap (λ z. (edge_at e (e2 ∷ []) z).target) (sym pick)) in
-                  let open_numbers = subst (λ z. BranchClosed (Some f) l Nonzero (knows_more z (Numbers [])) e (e2 ∷ [])) q m in
-                  all_edges_at (λ y. y.target ≡ (edge_at e (e2 ∷ []) (chosen Nonzero (w ∷ []))).target → EdgeClosed (Some f) l y) (e ∷ e2 ∷ []) open_numbers i g at target
+                  let open_numbers = subst (λ z. BranchClosedIn (Some f) l Nonzero (knows_more z (Numbers [])) e (e2 ∷ [])) q m in
+                  all_edges_at (λ y. y.target ≡ (edge_at e (e2 ∷ []) (chosen Nonzero (w ∷ []))).target → EdgeClosedIn (Some f) l y) (e ∷ e2 ∷ []) open_numbers i g at target
               step (any a q) =
-                  let all = subst (λ z. BranchClosed (Some f) l Nonzero (knows_more z (Numbers [])) e (e2 ∷ [])) q m in
-                  all_edges_at (EdgeClosed (Some f) l) (e ∷ e2 ∷ []) all i g at
+                  let all = subst (λ z. BranchClosedIn (Some f) l Nonzero (knows_more z (Numbers [])) e (e2 ∷ [])) q m in
+                  all_edges_at (EdgeClosedIn (Some f) l) (e ∷ e2 ∷ []) all i g at
           flat_edge (Cases ns) xs e es is c i g b at name feas = absurd is
 
-        pub branch_tree : (s : Select) (xs : List N.value) (e : Edge N.value) (es : List (Edge N.value)) → IsBranch (kit_reading leads numbered) (names_in bs) o.head s xs e es → BranchClosed (Some f) l s (branch_knows l xs (e ∷ es)) e es → trees.BranchClosed kit (block_occurrences_of (whole (kit_reading leads numbered) h bs f)) k o.head true (asked (map k.of o.head.operands))
+        pub branch_tree : (s : Select) (xs : List N.value) (e : Edge N.value) (es : List (Edge N.value)) → IsFlatBranch (kit_reading leads numbered) (names_in bs) o.head s xs e es → BranchClosedIn (Some f) l s (branch_knows l xs (e ∷ es)) e es → trees.BranchClosed kit (block_occurrences_of (whole (kit_reading leads numbered) h bs f)) k o.head true (asked (map k.of o.head.operands))
         branch_tree s xs e es is c = step (asked (map k.of o.head.operands)) refl
           where
             step : (q : trees.Asked IntegerAttr) → asked (map k.of o.head.operands) ≡ q → trees.BranchClosed kit (block_occurrences_of (whole (kit_reading leads numbered) h bs f)) k o.head true q
@@ -203,8 +203,8 @@ module _ {N : Names} (leads : TypeHandle → Option KitType) (numbered : List �
                 edge_tree o here xs (e ∷ es) v k l runs (λ t u p. order t u p.argument p.given_one p.same_type) i g.e b g.at g.name (flat_edge qs asks s xs e es is c i g.e b g.at g.name feas)
 
       -- and one that is closed in the tree is closed in the flat function
-      module _ (det : (v : N.value) → Defined v → (l.of v ≡ Undetermined → ⊥) → IsDet v) (order : (t g : N.value) → Defined t → Defined g → type_at g ≡ type_at t → tree.AtOrBelow (k.of t) (k.of g) → flat.AtOrBelow (l.of t) (l.of g)) where
-        module _ (s : Select) (xs : List N.value) (e : Edge N.value) (es : List (Edge N.value)) (is : IsBranch (kit_reading leads numbered) (names_in bs) o.head s xs e es) (fits : AllEdges (EdgeFits (Some f)) (e ∷ es)) (c : trees.BranchClosed kit (block_occurrences_of (whole (kit_reading leads numbered) h bs f)) k o.head true (asked (map k.of o.head.operands))) (full : branch_knows l xs (e ∷ es) ≡ Lacks → ⊥) where
+      module _ (det : (v : N.value) → Defined v → (l.of v ≡ Undetermined → ⊥) → IsDet v) (order : (t g : N.value) → Defined t → Defined g → type_at g ≡ type_at t → tree.AtOrBelow (k.of t) (k.of g) → flat.FactAtOrBelow (l.of t) (l.of g)) where
+        module _ (s : Select) (xs : List N.value) (e : Edge N.value) (es : List (Edge N.value)) (is : IsFlatBranch (kit_reading leads numbered) (names_in bs) o.head s xs e es) (fits : AllEdges (EdgeFits (Some f)) (e ∷ es)) (c : trees.BranchClosed kit (block_occurrences_of (whole (kit_reading leads numbered) h bs f)) k o.head true (asked (map k.of o.head.operands))) (full : branch_knows l xs (e ∷ es) ≡ Lacks → ⊥) where
           operands_det : (v : N.value) → Has v o.head.operands → IsDet v
           operands_det v i =
               let w = forwarding s xs e es is in
@@ -218,7 +218,7 @@ module _ {N : Names} (leads : TypeHandle → Option KitType) (numbered : List �
               either [] zs v i a b = b i
               either (y ∷ ys) zs v i a b = ⊎_elim (λ q. a (inl q)) (λ q. either ys zs v q (λ j. a (inr j)) b) i
 
-          tree_edge : (qs : List (Option IntegerAttr)) → asked (map k.of o.head.operands) ≡ Some qs → (i : ℕ) (g : Edge N.value) → slice_get (e ∷ es) i ≡ Some g → ((b : N.block) → slice_get (names_in bs) g.target ≡ Some b → IsFeasible kit o.head qs b) → EdgeClosed (Some f) l g
+          tree_edge : (qs : List (Option IntegerAttr)) → asked (map k.of o.head.operands) ≡ Some qs → (i : ℕ) (g : Edge N.value) → slice_get (e ∷ es) i ≡ Some g → ((b : N.block) → slice_get (names_in bs) g.target ≡ Some b → IsFeasible kit o.head qs b) → EdgeClosedIn (Some f) l g
           tree_edge qs asks i g at feas =
               let w = forwarding s xs e es is in
               let b = leads_by (names_in bs) o.head.successors (e ∷ es) w.successors i g at in
@@ -234,19 +234,19 @@ module _ {N : Names} (leads : TypeHandle → Option KitType) (numbered : List �
         same_numbers : (ns ms : List ℕ) → Numbers ns ≡ Numbers ms → ns ≡ ms
         same_numbers ns ms e = cc e
 
-        pub branch_flat : (s : Select) (xs : List N.value) (e : Edge N.value) (es : List (Edge N.value)) → IsBranch (kit_reading leads numbered) (names_in bs) o.head s xs e es → AllEdges (EdgeFits (Some f)) (e ∷ es) → trees.BranchClosed kit (block_occurrences_of (whole (kit_reading leads numbered) h bs f)) k o.head true (asked (map k.of o.head.operands)) → BranchClosed (Some f) l s (branch_knows l xs (e ∷ es)) e es
+        pub branch_flat : (s : Select) (xs : List N.value) (e : Edge N.value) (es : List (Edge N.value)) → IsFlatBranch (kit_reading leads numbered) (names_in bs) o.head s xs e es → AllEdges (EdgeFits (Some f)) (e ∷ es) → trees.BranchClosed kit (block_occurrences_of (whole (kit_reading leads numbered) h bs f)) k o.head true (asked (map k.of o.head.operands)) → BranchClosedIn (Some f) l s (branch_knows l xs (e ∷ es)) e es
         branch_flat Plain [] e [] is fits c = step (branch_knows l [] (e ∷ [])) refl
           where
             v : IsForwarding kit (names_in bs) o.head [] (e ∷ [])
             v = forwarding Plain [] e [] is
 
-            closed : (branch_knows l [] (e ∷ []) ≡ Lacks → ⊥) → EdgeClosed (Some f) l e
+            closed : (branch_knows l [] (e ∷ []) ≡ Lacks → ⊥) → EdgeClosedIn (Some f) l e
             closed full =
                 let a = asked_some leads type_at k.of l.of o.head.operands (operands_det Plain [] e [] is fits c full) in
                 let b = leads_by (names_in bs) o.head.successors (e ∷ []) v.successors 0 e refl in
                 tree_edge Plain [] e [] is fits c full a.0 a.1 0 e refl (λ z name. (0, b.successor ∙ (sym b.name ∙ name), feasible_plain a.0 0 is.0.kind))
 
-            step : (q : Knows) → branch_knows l [] (e ∷ []) ≡ q → BranchClosed (Some f) l Plain q e []
+            step : (q : Knows) → branch_knows l [] (e ∷ []) ≡ q → BranchClosedIn (Some f) l Plain q e []
             step Lacks z = tt
             step (Numbers ns) z = (λ t. closed (λ w. let u : Lacks ≡ Numbers ns = sym w ∙ z in cc u), tt)
             step Open z = (closed (λ w. let u : Lacks ≡ Open = sym w ∙ z in cc u), tt)
@@ -273,10 +273,10 @@ module _ {N : Names} (leads : TypeHandle → Option KitType) (numbered : List �
             asked_first : (qs : List (Option IntegerAttr)) → asked (map k.of o.head.operands) ≡ Some qs → asked (map k.of (x ∷ all_forwarded (e ∷ e2 ∷ []))) ≡ Some qs
             asked_first qs asks = ap (λ z. asked (map k.of z)) (sym v.operands) ∙ asks
 
-            by_number : (full : branch_knows l (x ∷ []) (e ∷ e2 ∷ []) ≡ Lacks → ⊥) (ns : List ℕ) → branch_knows l (x ∷ []) (e ∷ e2 ∷ []) ≡ Numbers ns → (i : ℕ) (g : Edge N.value) → slice_get (e ∷ e2 ∷ []) i ≡ Some g → g.target ≡ (edge_at e (e2 ∷ []) (chosen Nonzero ns)).target → EdgeClosed (Some f) l g
+            by_number : (full : branch_knows l (x ∷ []) (e ∷ e2 ∷ []) ≡ Lacks → ⊥) (ns : List ℕ) → branch_knows l (x ∷ []) (e ∷ e2 ∷ []) ≡ Numbers ns → (i : ℕ) (g : Edge N.value) → slice_get (e ∷ e2 ∷ []) i ≡ Some g → g.target ≡ (edge_at e (e2 ∷ []) (chosen Nonzero ns)).target → EdgeClosedIn (Some f) l g
             by_number full ns z i g at target = by_det (dets full x (subst (Has x) (sym v.operands) (inl refl)))
               where
-                by_det : IsDet x → EdgeClosed (Some f) l g
+                by_det : IsDet x → EdgeClosedIn (Some f) l g
                 by_det (number n a q lt) =
                     let r = asked_some leads type_at k.of l.of o.head.operands (dets full) in
                     let ys = first_number leads type_at k.of l.of x (all_forwarded (e ∷ e2 ∷ [])) r.0 (number_as leads (type_at x) n) a (asked_first r.0 r.1) in
@@ -289,10 +289,10 @@ module _ {N : Names} (leads : TypeHandle → Option KitType) (numbered : List �
                     (pick_of n, b.successor ∙ (sym b.name ∙ (ap (slice_get (names_in bs)) (sym t) ∙ name)), is_feasible n ys.0 r.0 (type_at x) two ys.1))
                 by_det (any a q) = let bad : Open ≡ Numbers ns = sym (ap (λ t. knows_more t (Numbers [])) q) ∙ (sym (knows_is full) ∙ z) in absurd (cc bad)
 
-            by_open : (full : branch_knows l (x ∷ []) (e ∷ e2 ∷ []) ≡ Lacks → ⊥) → branch_knows l (x ∷ []) (e ∷ e2 ∷ []) ≡ Open → (i : ℕ) (g : Edge N.value) → slice_get (e ∷ e2 ∷ []) i ≡ Some g → EdgeClosed (Some f) l g
+            by_open : (full : branch_knows l (x ∷ []) (e ∷ e2 ∷ []) ≡ Lacks → ⊥) → branch_knows l (x ∷ []) (e ∷ e2 ∷ []) ≡ Open → (i : ℕ) (g : Edge N.value) → slice_get (e ∷ e2 ∷ []) i ≡ Some g → EdgeClosedIn (Some f) l g
             by_open full z i g at = by_det (dets full x (subst (Has x) (sym v.operands) (inl refl)))
               where
-                by_det : IsDet x → EdgeClosed (Some f) l g
+                by_det : IsDet x → EdgeClosedIn (Some f) l g
                 by_det (number n a q lt) = let bad : Numbers (n ∷ []) ≡ Open = sym (ap (λ t. knows_more t (Numbers [])) q) ∙ (sym (knows_is full) ∙ z) in absurd (cc bad)
                 by_det (any a q) =
                     let r = asked_some leads type_at k.of l.of o.head.operands (dets full) in
@@ -300,7 +300,7 @@ module _ {N : Names} (leads : TypeHandle → Option KitType) (numbered : List �
                     let b = leads_by (names_in bs) o.head.successors (e ∷ e2 ∷ []) v.successors i g at in
                     tree_edge Nonzero (x ∷ []) e (e2 ∷ []) is fits c full r.0 r.1 i g at (λ y name. (i, b.successor ∙ (sym b.name ∙ name), feasible_any ys.0 r.0 i two ys.1))
 
-            step : (q : Knows) → branch_knows l (x ∷ []) (e ∷ e2 ∷ []) ≡ q → BranchClosed (Some f) l Nonzero q e (e2 ∷ [])
+            step : (q : Knows) → branch_knows l (x ∷ []) (e ∷ e2 ∷ []) ≡ q → BranchClosedIn (Some f) l Nonzero q e (e2 ∷ [])
             step Lacks z = tt
             step (Numbers ns) z =
                 let full : branch_knows l (x ∷ []) (e ∷ e2 ∷ []) ≡ Lacks → ⊥ = λ w. let u : Lacks ≡ Numbers ns = sym w ∙ z in absurd (cc u) in

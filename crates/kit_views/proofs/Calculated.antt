@@ -3,9 +3,9 @@ use Rattle.std.proofs.Common.{◌≡◌, ◌⊎◌, ⊎_elim, inl, inr, ℕ, tru
 use Rattle.std.proofs.Common.{subst}
 use Rattle.std.specs.Prelude.{slice_get, ◌↔◌}
 use Rattle.opt_trees.specs.Occurrences.{Has}
-use Rattle.kit_behaviour.specs.Facts.{Facts, Known}
+use Rattle.kit_behaviour.specs.Facts.{FunctionFacts, Known}
 use Rattle.kit_behaviour.specs.Machine.{Op, Const, Calc, Emit, Call, Branch, Return, Block, Fun, ops_left, arguments_of}
-use Rattle.kit_behaviour.specs.NamedPasses.{calc_defs, Gets}
+use Rattle.kit_behaviour.specs.NamedPasses.{calc_defs, GetsConstant}
 use Rattle.kit_behaviour.specs.Scopes.{In}
 
 -- the result of arithmetic or of a comparison
@@ -22,7 +22,7 @@ abbrev pub IsMadeIn : {V : Type 0} → V → Block V → Type 0
 IsMadeIn {V} v k = Has v k.arguments ⊎ ((p : Op V) × Has p k.ops × IsCalculated v p)
 
 -- facts know the value to be this number, and it is made so in a block that they know to run
-pub record GetsIn {V : Type 0} (f : Fun V) (k : Facts V) (v : V) (n : ℕ) : Type 0 where
+pub record GetsIn {V : Type 0} (f : Fun V) (k : FunctionFacts V) (v : V) (n : ℕ) : Type 0 where
   pub known : k.of v ≡ Known n
   pub b : ℕ
   pub runs : k.runs b ≡ true
@@ -69,8 +69,8 @@ defs_back v (Call rs d xs ∷ ops) i = let m = defs_back v ops i in (m.0, inr m.
 defs_back v (Branch s xs e es ∷ ops) i = let m = defs_back v ops i in (m.0, inr m.1, m.2)
 defs_back v (Return xs ∷ ops) i = let m = defs_back v ops i in (m.0, inr m.1, m.2)
 
-module _ {V : Type 0} (f : Fun V) (k : Facts V) (v : V) (n : ℕ) where
-  gets_there : GetsIn f k v n → Gets (Some f) k v n
+module _ {V : Type 0} (f : Fun V) (k : FunctionFacts V) (v : V) (n : ℕ) where
+  gets_there : GetsIn f k v n → GetsConstant (Some f) k v n
   gets_there g = record {
     known = g.known;
     block = g.b;
@@ -82,7 +82,7 @@ module _ {V : Type 0} (f : Fun V) (k : Facts V) (v : V) (n : ℕ) where
         g.place;
   }
 
-  gets_back : Gets (Some f) k v n → GetsIn f k v n
+  gets_back : GetsConstant (Some f) k v n → GetsIn f k v n
   gets_back g = by_block (slice_get f g.block) refl g.place
     where
       by_block : (o : Option (Block V)) → slice_get f g.block ≡ o →
@@ -98,5 +98,5 @@ module _ {V : Type 0} (f : Fun V) (k : Facts V) (v : V) (n : ℕ) where
       }
 
   -- both say the same
-  pub gets_both : GetsIn f k v n ↔ Gets (Some f) k v n
+  pub gets_both : GetsIn f k v n ↔ GetsConstant (Some f) k v n
   gets_both = (gets_there, gets_back)

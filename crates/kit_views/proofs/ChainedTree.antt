@@ -14,11 +14,11 @@ use Rattle.opt_trees.proofs.Lists.{none_some}
 use Rattle.opt_trees.proofs.NoneDead.{has-append, has-left, has-right}
 use Rattle.kit_behaviour.specs.Machine.{Edge, Op, Block, Fun, left_in}
 use Rattle.kit_behaviour.specs.Rules.{EndsWell}
-use Rattle.kit_behaviour.specs.SimplifiedBlocks.{Reached, last_edge, Joinable, IsTaken}
+use Rattle.kit_behaviour.specs.SimplifiedBlocks.{Reached, last_edge, BlocksAreJoinable, IsJoinedSet}
 use Rattle.kit_behaviour.proofs.ControlFlow.ChainLemmas.{last_in}
 use Rattle.kit_behaviour.proofs.ControlFlow.JoiningRules.{edge_fits_in}
 use Rattle.kit_views.specs.Reading.{Reading}
-use Rattle.kit_views.specs.FlatView.{AreOps, AreBlocks, names_in}
+use Rattle.kit_views.specs.FlatView.{AreOps, AreFlatBlocks, names_in}
 use Rattle.kit_views.proofs.Pairs.{no_blocks}
 use Rattle.kit_views.proofs.Read.{Reads}
 use Rattle.kit_views.proofs.Standing.{whole, Given, root_spot, strip}
@@ -44,7 +44,7 @@ module _ {N : Names} {S : Contents} (r : Reading S) (names : List N.block) where
 
 -- a block of the flat function has a name
 pub name_at : {N : Names} {S : Contents} (r : Reading S) (names : List N.block) (ts : Tree N S Blocks)
-    (ks : Fun N.value) → AreBlocks r names ts ks → (t : ℕ) → t < length ks →
+    (ks : Fun N.value) → AreFlatBlocks r names ts ks → (t : ℕ) → t < length ks →
     (m : N.block) × (slice_get (names_in ts) t ≡ Some m)
 name_at r names end [] a t l = absurd (omega (arith, l))
 name_at r names end (k ∷ ks) a t l = absurd a
@@ -82,7 +82,7 @@ module _ {N : Names} {S : Contents} {A : Type 0} (d : Dialect S A) (r : Reading 
   Stand i end = Unit {0}
   Stand i (block l os rest) = BlockAt i l os × Stand (suc i) rest
 
-  stand_all : (i : ℕ) (ts : Tree N S Blocks) (ks : Fun N.value) (c : Spot N S) → AreBlocks r (names_in bs) ts ks →
+  stand_all : (i : ℕ) (ts : Tree N S Blocks) (ks : Fun N.value) (c : Spot N S) → AreFlatBlocks r (names_in bs) ts ks →
       ((m : ℕ) (k : Block N.value) → slice_get ks m ≡ Some k → slice_get f (i + m) ≡ Some k) →
       ((m : ℕ) (n : N.block) → slice_get (names_in ts) m ≡ Some n → slice_get (names_in bs) (i + m) ≡ Some n) →
       ((x : BlockOccurrence N S) → Has x (block_occurrences_in ts c) → Has x (block_occurrences_of (whole r h bs f))) →
@@ -131,8 +131,8 @@ module _ {N : Names} {S : Contents} {A : Type 0} (d : Dialect S A) (r : Reading 
 
   -- the operations of block b become these
   pub data Chained : ℕ → Tree N S Operations → Tree N S Operations → Type 0 where
-    alone : (b : ℕ) (os : Tree N S Operations) → ((t : ℕ) → Joinable (Some f) b t → ⊥) → Chained b os os
-    behind : (b t : ℕ) (os more others : Tree N S Operations) (l : Label N S) → Joinable (Some f) b t →
+    alone : (b : ℕ) (os : Tree N S Operations) → ((t : ℕ) → BlocksAreJoinable (Some f) b t → ⊥) → Chained b os os
+    behind : (b t : ℕ) (os more others : Tree N S Operations) (l : Label N S) → BlocksAreJoinable (Some f) b t →
         BlockAt t l more → Chained t more others → Chained b os (append (but_last os) others)
 
   -- the blocks from the ith on become these
@@ -146,7 +146,7 @@ module _ {N : Names} {S : Contents} {A : Type 0} (d : Dialect S A) (r : Reading 
   abbrev JoinsTo : Option N.block → (s : Sort) → Tree N S s → Tree N S s → Type 0
   JoinsTo q s x u = Joins d (all_of (whole r h bs f)) (whole r h bs f) q s x u
 
-  module _ (j : ℕ → Bool) (is_taken : IsTaken (Some f) j) where
+  module _ (j : ℕ → Bool) (is_taken : IsJoinedSet (Some f) j) where
     -- what joining says of regions: of none, or of one
     abbrev SaysRegions : Tree N S Regions → Tree N S Regions → Type 0
     SaysRegions end u = u ≡ end
@@ -172,14 +172,14 @@ module _ {N : Names} {S : Contents} {A : Type 0} (d : Dialect S A) (r : Reading 
     name_of : (t : ℕ) → t < length f → (m : N.block) × (slice_get (names_in bs) t ≡ Some m)
     name_of t l = name_at r (names_in bs) bs f given.are t l
 
-    pub range : (b t : ℕ) → Joinable (Some f) b t → t < length f
+    pub range : (b t : ℕ) → BlocksAreJoinable (Some f) b t → t < length f
     range b t x = subst (λ z. z < length f) x.target (edge_fits_in (Some f) x.edge (left_in (Some f) b 0)
         (given.edges b) (last_in (left_in (Some f) b 0) x.edge x.last)).leads
 
     -- nothing is joined behind the block
     none_behind : (n : N.block) (b : ℕ) → slice_get (names_in bs) b ≡ Some n →
         ((m : N.block) → JoinableThere d r law h bs f given ssa good_ends all_reached n m → ⊥) → (t : ℕ) →
-        Joinable (Some f) b t → ⊥
+        BlocksAreJoinable (Some f) b t → ⊥
     none_behind n b e none t x =
         let m = name_of t (range b t x) in
         none m.0 (to_tree_join d r law h bs f given ssa good_ends all_reached b t x n m.0 e m.1)

@@ -19,7 +19,7 @@ use Rattle.opt_trees.proofs.Defined.{result_defined, argument_defined}
 use Rattle.kit_behaviour.specs.Facts.{Fact, Undetermined, Unknown, fold_known, folds_to, AllUnknown, OpClosed, OpsClosed}
 use Rattle.kit_behaviour.specs.Facts as flat
 use Rattle.kit_behaviour.specs.Machine.{Arith, Add, Sub, Mul, Div, Eql, Neq, Ult, Ule, Edge, Select, Plain, Nonzero, Cases, Op, Const, Calc, Emit, Call, Branch, Return, Block, Fun, ops_left, arguments_in}
-use Rattle.kit_behaviour.specs.Rules.{EdgesFit}
+use Rattle.kit_behaviour.specs.Rules.{EdgesOfOpFit}
 use Rattle.kit_ops.specs.declared.attributes.IntegerAttr.{IntegerAttr}
 use Rattle.kit_ops.specs.declared.kinds.KitOp.{KitOp}
 use Rattle.kit_ops.specs.declared.kinds.KitOp.TheVariants as ops
@@ -28,7 +28,7 @@ use Rattle.kit.specs.Meaning.{kit, integer_in, if_of_type, fold_of}
 use Rattle.kit_ops.specs.Keys.{constant_value}
 use Rattle.kit_ops.specs.Table.{has_interface}
 use Rattle.kit_views.specs.Reading.{kit_contents, kit_reading, number_in, integer_of}
-use Rattle.kit_views.specs.FlatView.{kind_of, IsBranch, IsOp, AreBlocks, names_in}
+use Rattle.kit_views.specs.FlatView.{kind_of, IsFlatBranch, IsOp, AreFlatBlocks, names_in}
 use Rattle.kit_views.specs.Typed.{number_as, width_at, TypesFit, IsTyped}
 use Rattle.kit_views.proofs.Lists.{at_has}
 use Rattle.kit_views.proofs.Uses.{edges_fit}
@@ -40,19 +40,19 @@ use Rattle.kit_views.proofs.BranchFacts.{branch_tree, branch_flat}
 
 -- lists
 
-unknown_any : {V : Type 0} (k : V → Known IntegerAttr) (l : flat.Facts V) (vs : List V) → ((v : V) → Has v vs → l.of v ≡ Unknown → k v ≡ known.Any) → AllUnknown l vs → AllAny k vs
+unknown_any : {V : Type 0} (k : V → Known IntegerAttr) (l : flat.FunctionFacts V) (vs : List V) → ((v : V) → Has v vs → l.of v ≡ Unknown → k v ≡ known.Any) → AllUnknown l vs → AllAny k vs
 unknown_any k l [] h u = tt
 unknown_any k l (v ∷ vs) h u = (h v (inl refl) u.0, unknown_any k l vs (λ w i. h w (inr i)) u.1)
 
-any_unknown : {V : Type 0} (k : V → Known IntegerAttr) (l : flat.Facts V) (vs : List V) → ((v : V) → Has v vs → k v ≡ known.Any → l.of v ≡ Unknown) → AllAny k vs → AllUnknown l vs
+any_unknown : {V : Type 0} (k : V → Known IntegerAttr) (l : flat.FunctionFacts V) (vs : List V) → ((v : V) → Has v vs → k v ≡ known.Any → l.of v ≡ Unknown) → AllAny k vs → AllUnknown l vs
 any_unknown k l [] h u = tt
 any_unknown k l (v ∷ vs) h u = (h v (inl refl) u.0, any_unknown k l vs (λ w i. h w (inr i)) u.1)
 
-each_unknown : {V : Type 0} (l : flat.Facts V) (vs : List V) → AllUnknown l vs → (v : V) → Has v vs → l.of v ≡ Unknown
+each_unknown : {V : Type 0} (l : flat.FunctionFacts V) (vs : List V) → AllUnknown l vs → (v : V) → Has v vs → l.of v ≡ Unknown
 each_unknown l [] u v i = absurd i
 each_unknown l (x ∷ vs) u v i = ⊎_elim (λ e. ap l.of e ∙ u.0) (λ j. each_unknown l vs u.1 v j) i
 
-all_unknown : {V : Type 0} (l : flat.Facts V) (vs : List V) → ((v : V) → Has v vs → l.of v ≡ Unknown) → AllUnknown l vs
+all_unknown : {V : Type 0} (l : flat.FunctionFacts V) (vs : List V) → ((v : V) → Has v vs → l.of v ≡ Unknown) → AllUnknown l vs
 all_unknown l [] h = tt
 all_unknown l (x ∷ vs) h = (h x (inl refl), all_unknown l vs (λ v i. h v (inr i)))
 
@@ -64,15 +64,15 @@ all_any : {V : Type 0} (k : V → Known IntegerAttr) (vs : List V) → ((v : V) 
 all_any k [] h = tt
 all_any k (x ∷ vs) h = (h x (inl refl), all_any k vs (λ v i. h v (inr i)))
 
-ops_closed : {V : Type 0} (F : Option (Fun V)) (l : flat.Facts V) (ps : List (Op V)) → OpsClosed F l ps → (p : Op V) → Has p ps → OpClosed F l p
+ops_closed : {V : Type 0} (F : Option (Fun V)) (l : flat.FunctionFacts V) (ps : List (Op V)) → OpsClosed F l ps → (p : Op V) → Has p ps → OpClosed F l p
 ops_closed F l [] c p i = absurd i
 ops_closed F l (q ∷ ps) c p i = ⊎_elim (λ e. subst (OpClosed F l) (sym e) c.0) (λ j. ops_closed F l ps c.1 p j) i
 
-all_closed : {V : Type 0} (F : Option (Fun V)) (l : flat.Facts V) (ps : List (Op V)) → ((p : Op V) → Has p ps → OpClosed F l p) → OpsClosed F l ps
+all_closed : {V : Type 0} (F : Option (Fun V)) (l : flat.FunctionFacts V) (ps : List (Op V)) → ((p : Op V) → Has p ps → OpClosed F l p) → OpsClosed F l ps
 all_closed F l [] h = tt
 all_closed F l (q ∷ ps) h = (h q (inl refl), all_closed F l ps (λ p i. h p (inr i)))
 
-below_unknown : (t : Fact) → flat.AtOrBelow t Unknown → t ≡ Unknown
+below_unknown : (t : Fact) → flat.FactAtOrBelow t Unknown → t ≡ Unknown
 below_unknown Unknown b = refl
 below_unknown Undetermined b = absurd b
 below_unknown (flat.Known n) b = absurd b
@@ -82,7 +82,7 @@ below_any known.Any b = refl
 below_any known.Undetermined b = absurd b
 below_any (known.One a) b = absurd b
 
-below_top : (t : Fact) → flat.AtOrBelow t Undetermined
+below_top : (t : Fact) → flat.FactAtOrBelow t Undetermined
 below_top Unknown = tt
 below_top Undetermined = tt
 below_top (flat.Known n) = tt
@@ -90,8 +90,8 @@ below_top (flat.Known n) = tt
 any_below : (k : Known IntegerAttr) (x : Known IntegerAttr) → k ≡ known.Any → tree.AtOrBelow k x
 any_below k x e = subst (λ z. tree.AtOrBelow z x) (sym e) tt
 
-unknown_below : (t x : Fact) → t ≡ Unknown → flat.AtOrBelow t x
-unknown_below t x e = subst (λ z. flat.AtOrBelow z x) (sym e) tt
+unknown_below : (t x : Fact) → t ≡ Unknown → flat.FactAtOrBelow t x
+unknown_below t x e = subst (λ z. flat.FactAtOrBelow z x) (sym e) tt
 
 one_type : {V : Type 0} (type_at : V → TypeHandle) (ds : List (Defined V TypeHandle)) (y : V) → names_of ds ≡ y ∷ [] → ((v : Defined V TypeHandle) → Has v ds → type_at v.name ≡ v.holds) → types_of ds ≡ type_at y ∷ []
 one_type type_at [] y e h = absurd (cc e)
@@ -129,7 +129,7 @@ module _ {N : Names} (leads : TypeHandle → Option KitType) (numbered : List �
   alike Ult h b c y t i j k = t.0 c b j i
   alike Ule h b c y t i j k = t.0 c b j i
 
-  pub branch_kind : (h : Head N kit_contents) (names : List N.block) (s : Select) (xs : List N.value) (e : Edge N.value) (es : List (Edge N.value)) → IsBranch (kit_reading leads numbered) names h s xs e es → (has_interface h.content.kind op.ConstFold ≡ false) × (has_interface h.content.kind op.Branch ≡ true) × (names_of h.results ≡ [])
+  pub branch_kind : (h : Head N kit_contents) (names : List N.block) (s : Select) (xs : List N.value) (e : Edge N.value) (es : List (Edge N.value)) → IsFlatBranch (kit_reading leads numbered) names h s xs e es → (has_interface h.content.kind op.ConstFold ≡ false) × (has_interface h.content.kind op.Branch ≡ true) × (names_of h.results ≡ [])
   branch_kind h names Plain xs e es is = (ap (λ k. has_interface k op.ConstFold) is.0.kind, ap (λ k. has_interface k op.Branch) is.0.kind, is.0.results)
   branch_kind h names Nonzero xs e es is = (ap (λ k. has_interface k op.ConstFold) is.0.kind, ap (λ k. has_interface k op.Branch) is.0.kind, is.0.results)
   branch_kind h names (Cases ns) xs e es is = absurd is
@@ -173,7 +173,7 @@ module _ {N : Names} (leads : TypeHandle → Option KitType) (numbered : List �
         subst (λ z. z < 2 ^ width_at leads (type_at y)) same v.2,
       )
 
-module _ {N : Names} (leads : TypeHandle → Option KitType) (numbered : List ℕ → ℕ) (h : Head N kit_contents) (bs : Tree N kit_contents Blocks) (f : Fun N.value) (given : Given (kit_reading leads numbered) h bs f) (type_at : N.value → TypeHandle) (typed : IsTyped leads {N = N} type_at (whole (kit_reading leads numbered) h bs f)) (k : trees.Facts N IntegerAttr) (l : flat.Facts N.value) (runs : (n : ℕ) (b : N.block) → slice_get (names_in bs) n ≡ Some b → l.runs n ≡ k.runs b) where
+module _ {N : Names} (leads : TypeHandle → Option KitType) (numbered : List ℕ → ℕ) (h : Head N kit_contents) (bs : Tree N kit_contents Blocks) (f : Fun N.value) (given : Given (kit_reading leads numbered) h bs f) (type_at : N.value → TypeHandle) (typed : IsTyped leads {N = N} type_at (whole (kit_reading leads numbered) h bs f)) (k : trees.Facts N IntegerAttr) (l : flat.FunctionFacts N.value) (runs : (n : ℕ) (b : N.block) → slice_get (names_in bs) n ≡ Some b → l.runs n ≡ k.runs b) where
   abbrev Whole : Occurrence N kit_contents → Type 0
   Whole o = Has o (occurrences_of (whole (kit_reading leads numbered) h bs f))
 
@@ -211,10 +211,10 @@ module _ {N : Names} (leads : TypeHandle → Option KitType) (numbered : List �
       (subst (λ z. Det leads z (k.of c) (l.of c)) (alike leads numbered type_at a o.head b c y t hb hc hy) dc)
 
   module _ (det : (v : N.value) → IsValue v → (k.of v ≡ known.Undetermined → ⊥) → IsDet v)
-      (order : (t g : N.value) → IsValue t → IsValue g → type_at g ≡ type_at t → flat.AtOrBelow (l.of t) (l.of g) → tree.AtOrBelow (k.of t) (k.of g))
-      (number_below : (v : N.value) (n : ℕ) → IsValue v → n < 2 ^ width_at leads (type_at v) → flat.AtOrBelow (l.of v) (flat.Known n) → tree.AtOrBelow (k.of v) (known.One (number_as leads (type_at v) n)))
+      (order : (t g : N.value) → IsValue t → IsValue g → type_at g ≡ type_at t → flat.FactAtOrBelow (l.of t) (l.of g) → tree.AtOrBelow (k.of t) (k.of g))
+      (number_below : (v : N.value) (n : ℕ) → IsValue v → n < 2 ^ width_at leads (type_at v) → flat.FactAtOrBelow (l.of v) (flat.Known n) → tree.AtOrBelow (k.of v) (known.One (number_as leads (type_at v) n)))
       (unknown_is : (v : N.value) → IsValue v → l.of v ≡ Unknown → k.of v ≡ known.Any)
-      (outside : (v : N.value) → (IsValue v → ⊥) → k.of v ≡ known.Any) (c : flat.IsClosed (Some f) l) where
+      (outside : (v : N.value) → (IsValue v → ⊥) → k.of v ≡ known.Any) (c : flat.AreClosedFacts (Some f) l) where
     abbrev Asks : Occurrence N kit_contents → Type 0
     Asks o = FoldClosed kit k.of o.head (kit.is_foldable o.head.content) (asked (map k.of o.head.operands))
 
@@ -225,7 +225,7 @@ module _ {N : Names} (leads : TypeHandle → Option KitType) (numbered : List �
     stays_here o e = subst (λ z. trees.BranchClosed kit (block_occurrences_of (whole (kit_reading leads numbered) h bs f)) k o.head z (asked (map k.of o.head.operands))) (sym e) tt
 
     -- a result that folds to this
-    folded_tree : (y : N.value) (q : Option ℕ) → IsValue y → Below leads (type_at y) q → flat.AtOrBelow (l.of y) (fold_known q) → tree.AtOrBelow (k.of y) (answer (option_map (number_as leads (type_at y)) q))
+    folded_tree : (y : N.value) (q : Option ℕ) → IsValue y → Below leads (type_at y) q → flat.FactAtOrBelow (l.of y) (fold_known q) → tree.AtOrBelow (k.of y) (answer (option_map (number_as leads (type_at y)) q))
     folded_tree y None i b e = any_below (k.of y) known.Any (unknown_is y i (below_unknown (l.of y) e))
     folded_tree y (Some n) i b e = number_below y n i b e
 
@@ -252,7 +252,7 @@ module _ {N : Names} (leads : TypeHandle → Option KitType) (numbered : List �
             let p = pair_of o a y x z i is.0.kind is.0.results is.0.operands dx dz in
             let value = is_value o y i (subst (Has y) (sym is.0.results) (inl refl)) in
             let width = width_is o y w i is.0.results is.1 in
-            let under : flat.AtOrBelow (l.of y) (fold_known p.o) = subst (flat.AtOrBelow (l.of y)) (ap (λ u. folds_to a u (l.of x) (l.of z)) (sym width) ∙ p.numbers_fold) b in
+            let under : flat.FactAtOrBelow (l.of y) (fold_known p.o) = subst (flat.FactAtOrBelow (l.of y)) (ap (λ u. folds_to a u (l.of x) (l.of z)) (sym width) ∙ p.numbers_fold) b in
             to_fold leads numbered type_at k.of o.head y p.qs (option_map (number_as leads (type_at y)) p.o) is.0.results (result_type o y i is.0.results) folds (ap (λ u. asked (map k.of u)) is.0.operands ∙ p.asks)
             (ap (λ u. fold_of u o.head.content.notes.attributes (type_at y ∷ []) p.qs) is.0.kind ∙ p.folds)
             (folded_tree y p.o value p.below under)
@@ -276,7 +276,7 @@ module _ {N : Names} (leads : TypeHandle → Option KitType) (numbered : List �
       stays_here o (of_kind leads numbered type_at o.head ops.Return (λ z. has_interface z op.Branch) false is.kind refl),
     )
 
-    entries_run : (ts : Tree N kit_contents Blocks) (ks : Fun N.value) → AreBlocks (kit_reading leads numbered) (names_in bs) ts ks → ((b : N.block) → slice_get (names_in ts) 0 ≡ Some b → k.runs b ≡ true) → ((v : N.value) → Has v (arguments_in (Some ks) 0) → k.of v ≡ known.Any) → EntriesRun k ts
+    entries_run : (ts : Tree N kit_contents Blocks) (ks : Fun N.value) → AreFlatBlocks (kit_reading leads numbered) (names_in bs) ts ks → ((b : N.block) → slice_get (names_in ts) 0 ≡ Some b → k.runs b ≡ true) → ((v : N.value) → Has v (arguments_in (Some ks) 0) → k.of v ≡ known.Any) → EntriesRun k ts
     entries_run end ks a r u = tt
     entries_run (block j os more) [] a r u = absurd a
     entries_run (block j os more) (q ∷ ks) a r u = (r j.name refl, all_any k.of (names_of j.arguments) (λ v i. u v (subst (Has v) a.0 i)))
@@ -293,12 +293,12 @@ module _ {N : Names} (leads : TypeHandle → Option KitType) (numbered : List �
     }
 
   module _ (det : (v : N.value) → IsValue v → (l.of v ≡ Undetermined → ⊥) → IsDet v)
-      (order : (t g : N.value) → IsValue t → IsValue g → type_at g ≡ type_at t → tree.AtOrBelow (k.of t) (k.of g) → flat.AtOrBelow (l.of t) (l.of g))
-      (number_below : (v : N.value) (n : ℕ) → IsValue v → n < 2 ^ width_at leads (type_at v) → tree.AtOrBelow (k.of v) (known.One (number_as leads (type_at v) n)) → flat.AtOrBelow (l.of v) (flat.Known n))
+      (order : (t g : N.value) → IsValue t → IsValue g → type_at g ≡ type_at t → tree.AtOrBelow (k.of t) (k.of g) → flat.FactAtOrBelow (l.of t) (l.of g))
+      (number_below : (v : N.value) (n : ℕ) → IsValue v → n < 2 ^ width_at leads (type_at v) → tree.AtOrBelow (k.of v) (known.One (number_as leads (type_at v) n)) → flat.FactAtOrBelow (l.of v) (flat.Known n))
       (any_is : (v : N.value) → IsValue v → k.of v ≡ known.Any → l.of v ≡ Unknown)
       (empty : slice_get (names_in bs) 0 ≡ None → l.runs 0 ≡ true) (c : trees.IsClosed kit (whole (kit_reading leads numbered) h bs f) k) where
     -- a result that folds to this
-    folded_flat : (y : N.value) (q : Option ℕ) → IsValue y → Below leads (type_at y) q → tree.AtOrBelow (k.of y) (answer (option_map (number_as leads (type_at y)) q)) → flat.AtOrBelow (l.of y) (fold_known q)
+    folded_flat : (y : N.value) (q : Option ℕ) → IsValue y → Below leads (type_at y) q → tree.AtOrBelow (k.of y) (answer (option_map (number_as leads (type_at y)) q)) → flat.FactAtOrBelow (l.of y) (fold_known q)
     folded_flat y None i b e = unknown_below (l.of y) Unknown (any_is y i (below_any (k.of y) e))
     folded_flat y (Some n) i b e = number_below y n i b e
 
@@ -315,7 +315,7 @@ module _ {N : Names} (leads : TypeHandle → Option KitType) (numbered : List �
     lacks_or (flat.Known n) = inr (λ e. cc e)
     lacks_or Unknown = inr (λ e. cc e)
 
-    op_flat : (o : Occurrence N kit_contents) (p : Op N.value) → Whole o → EdgesFit (Some f) p → IsOp (kit_reading leads numbered) (names_in bs) o.head p → trees.OperationClosed kit (block_occurrences_of (whole (kit_reading leads numbered) h bs f)) k o → OpClosed (Some f) l p
+    op_flat : (o : Occurrence N kit_contents) (p : Op N.value) → Whole o → EdgesOfOpFit (Some f) p → IsOp (kit_reading leads numbered) (names_in bs) o.head p → trees.OperationClosed kit (block_occurrences_of (whole (kit_reading leads numbered) h bs f)) k o → OpClosed (Some f) l p
     op_flat o (Const y n) i fits is b =
         let t = subst (λ z. TypesFit leads {N = N} type_at z o.head) is.0.kind (typed.operations o i) in
         let q = constant_fold leads numbered type_at o.head y n is.0.kind is.0.results is.1 t in
@@ -326,9 +326,9 @@ module _ {N : Names} (leads : TypeHandle → Option KitType) (numbered : List �
         folds : kit.is_foldable o.head.content ≡ true
         folds = of_kind leads numbered type_at o.head (kind_of a) (λ z. has_interface z op.ConstFold) true is.0.kind (arith_folds a)
 
-        step : (l.of x ≡ Undetermined) ⊎ (l.of x ≡ Undetermined → ⊥) → (l.of z ≡ Undetermined) ⊎ (l.of z ≡ Undetermined → ⊥) → flat.AtOrBelow (l.of y) (folds_to a w (l.of x) (l.of z))
-        step (inl e) g = subst (flat.AtOrBelow (l.of y)) (sym (lacks_left a w (l.of x) (l.of z) e)) (below_top (l.of y))
-        step (inr e) (inl g) = subst (flat.AtOrBelow (l.of y)) (sym (lacks_right a w (l.of x) (l.of z) g)) (below_top (l.of y))
+        step : (l.of x ≡ Undetermined) ⊎ (l.of x ≡ Undetermined → ⊥) → (l.of z ≡ Undetermined) ⊎ (l.of z ≡ Undetermined → ⊥) → flat.FactAtOrBelow (l.of y) (folds_to a w (l.of x) (l.of z))
+        step (inl e) g = subst (flat.FactAtOrBelow (l.of y)) (sym (lacks_left a w (l.of x) (l.of z) e)) (below_top (l.of y))
+        step (inr e) (inl g) = subst (flat.FactAtOrBelow (l.of y)) (sym (lacks_right a w (l.of x) (l.of z) g)) (below_top (l.of y))
         step (inr e) (inr g) =
             let hx : Has x o.head.operands = subst (Has x) (sym is.0.operands) (inl refl) in
             let hz : Has z o.head.operands = subst (Has z) (sym is.0.operands) (inr (inl refl)) in
@@ -339,7 +339,7 @@ module _ {N : Names} (leads : TypeHandle → Option KitType) (numbered : List �
             let width = width_is o y w i is.0.results is.1 in
             let under = from_fold leads numbered type_at k.of o.head y p.qs (option_map (number_as leads (type_at y)) p.o) is.0.results (result_type o y i is.0.results) folds (ap (λ u. asked (map k.of u)) is.0.operands ∙ p.asks)
             (ap (λ u. fold_of u o.head.content.notes.attributes (type_at y ∷ []) p.qs) is.0.kind ∙ p.folds) b.folds in
-            subst (flat.AtOrBelow (l.of y)) (sym (ap (λ u. folds_to a u (l.of x) (l.of z)) (sym width) ∙ p.numbers_fold)) (folded_flat y p.o value p.below under)
+            subst (flat.FactAtOrBelow (l.of y)) (sym (ap (λ u. folds_to a u (l.of x) (l.of z)) (sym width) ∙ p.numbers_fold)) (folded_flat y p.o value p.below under)
     op_flat o (Emit x) i fits is b = tt
     op_flat o (Call rs d xs) i fits is b =
         any_unknown k.of l rs (λ v j. any_is v (is_value o v i (subst (Has v) (sym is.0.results) j)))
@@ -354,7 +354,7 @@ module _ {N : Names} (leads : TypeHandle → Option KitType) (numbered : List �
     first_runs end r b e = absurd (none_some b e)
     first_runs (block j os more) r b e = ap k.runs (sym (some_same j.name b e)) ∙ r.0
 
-    first_any : (ts : Tree N kit_contents Blocks) (ks : Fun N.value) → AreBlocks (kit_reading leads numbered) (names_in bs) ts ks → EntriesRun k ts → (v : N.value) → Has v (arguments_in (Some ks) 0) → k.of v ≡ known.Any
+    first_any : (ts : Tree N kit_contents Blocks) (ks : Fun N.value) → AreFlatBlocks (kit_reading leads numbered) (names_in bs) ts ks → EntriesRun k ts → (v : N.value) → Has v (arguments_in (Some ks) 0) → k.of v ≡ known.Any
     first_any end [] a r v i = absurd i
     first_any end (q ∷ ks) a r v i = absurd a
     first_any (block j os more) [] a r v i = absurd a
@@ -373,7 +373,7 @@ module _ {N : Names} (leads : TypeHandle → Option KitType) (numbered : List �
         let w = back (kit_reading leads numbered) h bs f given b q p e i in
         op_flat w.it p w.stands (edges_fit (Some f) f given.edges b q e p i) w.is (c.inside w.it w.stands (sym (runs b w.it.site.label.name w.name) ∙ running)))
 
-    pub flat_closed : flat.IsClosed (Some f) l
+    pub flat_closed : flat.AreClosedFacts (Some f) l
     flat_closed = record {
       entry_runs = entry_runs;
       entry_unknown = all_unknown l (arguments_in (Some f) 0) (λ v i. any_is v (entry_value v i) (first_any bs f given.are c.entries.0 v i));

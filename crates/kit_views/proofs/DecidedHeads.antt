@@ -6,11 +6,11 @@ use Rattle.ir_names.specs.declared.interfaces.OpInterface.TheVariants as op
 use Rattle.ir_trees.specs.Names.{Names}
 use Rattle.ir_trees.specs.Renames.{names_of}
 use Rattle.ir_trees.specs.Trees.{Defined, Head, Blocks, Tree}
-use Rattle.opt_trees.specs.Dce.{Around}
+use Rattle.opt_trees.specs.Dce.{TreeSurroundings}
 use Rattle.opt_trees.specs.Occurrences.{Has, cons_if, Occurrence, occurrences_of}
 use Rattle.opt_trees.specs.Simplify.{is_empty, is_end, is_bare, along_edge, decide_head}
 use Rattle.kit_behaviour.specs.DecidedBranches.{branch_by, decide_op}
-use Rattle.kit_behaviour.specs.Facts.{Fact, Unknown, Known, Facts, Numbers, knows_more}
+use Rattle.kit_behaviour.specs.Facts.{Fact, Unknown, Known, FunctionFacts, Numbers, knows_more}
 use Rattle.kit_behaviour.specs.Machine.{Edge, Plain, Nonzero, Cases, chosen, edge_at, Op, Const, Calc, Emit, Call, Branch, Return, Fun}
 use Rattle.kit_ops.specs.declared.attributes.IntegerAttr.{IntegerAttr}
 use Rattle.kit_ops.specs.declared.kinds.KitOp.{KitOp}
@@ -20,7 +20,7 @@ use Rattle.kit.specs.Meaning.{kit, is_br, edge_of, picked_by}
 use Rattle.kit_ops.specs.Table.{has_interface}
 use Rattle.kit_views.specs.Reading.{kit_contents, kit_reading, integer_of}
 use Rattle.kit_views.specs.FlatView.{kind_of, IsOp, names_in}
-use Rattle.kit_views.specs.Typed.{number_as, width_at, IsBit, TypesFit, IsTyped}
+use Rattle.kit_views.specs.Typed.{number_as, width_at, LeadsToBit, TypesFit, IsTyped}
 use Rattle.kit_views.proofs.OwnConstants.{KnowsExactly}
 use Rattle.kit_views.proofs.Read.{kit_reads}
 use Rattle.kit_views.proofs.Excused.{arith_branch}
@@ -33,7 +33,7 @@ abbrev pub fact_of : Option IntegerAttr → Fact
 fact_of None = Unknown
 fact_of (Some a) = Known a.bits
 
-abbrev pub facts_of : {N : Names} → Around N IntegerAttr → Facts N.value
+abbrev pub facts_of : {N : Names} → TreeSurroundings N IntegerAttr → FunctionFacts N.value
 facts_of w = record { runs = λ b. true; of = λ v. fact_of (w.alone v) }
 
 empty_is : {V T : Type 0} (ds : List (Defined V T)) → names_of ds ≡ [] → is_empty ds ≡ true
@@ -53,7 +53,7 @@ among_two e e2 zero h = refl
 among_two e e2 (suc zero) h = refl
 among_two e e2 (suc (suc n)) h = absurd (omega (arith, h))
 
-module _ {N : Names} (leads : TypeHandle → Option KitType) (numbered : List ℕ → ℕ) (h : Head N kit_contents) (bs : Tree N kit_contents Blocks) (f : Fun N.value) (given : Given (kit_reading leads numbered) h bs f) (type_at : N.value → TypeHandle) (typed : IsTyped leads {N = N} type_at (whole (kit_reading leads numbered) h bs f)) (w : Around N IntegerAttr) (constants : KnowsExactly w (whole (kit_reading leads numbered) h bs f)) where
+module _ {N : Names} (leads : TypeHandle → Option KitType) (numbered : List ℕ → ℕ) (h : Head N kit_contents) (bs : Tree N kit_contents Blocks) (f : Fun N.value) (given : Given (kit_reading leads numbered) h bs f) (type_at : N.value → TypeHandle) (typed : IsTyped leads {N = N} type_at (whole (kit_reading leads numbered) h bs f)) (w : TreeSurroundings N IntegerAttr) (constants : KnowsExactly w (whole (kit_reading leads numbered) h bs f)) where
   abbrev Whole : Occurrence N kit_contents → Type 0
   Whole o = Has o (occurrences_of (whole (kit_reading leads numbered) h bs f))
 
@@ -113,7 +113,7 @@ module _ {N : Names} (leads : TypeHandle → Option KitType) (numbered : List �
           subst (IsOp (kit_reading leads numbered) (names_in bs) (decide_head kit w.alone o.head o.regions)) (flat_is None g)
           (subst (λ z. IsOp (kit_reading leads numbered) (names_in bs) z (Branch Nonzero (x ∷ []) e (e2 ∷ []))) (sym (along None g)) is)
       step (Some a) g =
-          let bit : IsBit leads (type_at x) = subst (λ z. TypesFit leads {N = N} type_at z o.head) is.0.kind (typed.operations o i) x (ap (λ z. slice_get z 0) v.operands) in
+          let bit : LeadsToBit leads (type_at x) = subst (λ z. TypesFit leads {N = N} type_at z o.head) is.0.kind (typed.operations o i) x (ap (λ z. slice_get z 0) v.operands) in
           let n : ℕ = a.bits in
           let lt : n < 2 = subst (λ z. n < 2 ^ z) (ap (λ z. (integer_of z).width) bit) (small x a g) in
           let b = leads_by (names_in bs) o.head.successors (e ∷ e2 ∷ []) v.successors (pick_of n) (edge_at e (e2 ∷ []) (pick_of n)) (among_two e e2 (pick_of n) (pick_small n)) in

@@ -8,15 +8,15 @@ use Rattle.ir_trees.specs.Names.{Names}
 use Rattle.ir_trees.specs.Renames.{names_of}
 use Rattle.ir_trees.specs.Searched.{AreDistinct, heads_in}
 use Rattle.ir_trees.specs.Trees.{Head, Sort, Operations, Blocks, Regions, Tree, end, operation, block, region, Root}
-use Rattle.opt_trees.specs.Dce.{Around}
-use Rattle.opt_trees.specs.Occurrences.{Has, Occurrence, Site, Spot, inner, next_block, occurrences_in, occurrences_of, defined_in}
+use Rattle.opt_trees.specs.Dce.{TreeSurroundings}
+use Rattle.opt_trees.specs.Occurrences.{Has, Occurrence, OperationSite, Spot, inner, next_block, occurrences_in, occurrences_of, defined_in}
 use Rattle.opt_trees.specs.Simplify.{is_bare, along_edge, decide_head, decide, decided}
 use Rattle.opt_trees.proofs.Lists.{map-append}
 use Rattle.opt_trees.proofs.NoneDead.{has-left, has-right}
 use Rattle.kit_behaviour.specs.DecidedBranches.{single, branch_by, decide_op, decide_block}
-use Rattle.kit_behaviour.specs.Facts.{Unknown, Known, Facts, Knows, Lacks, Numbers, Open, knows}
+use Rattle.kit_behaviour.specs.Facts.{Unknown, Known, FunctionFacts, Knows, Lacks, Numbers, Open, knows}
 use Rattle.kit_behaviour.specs.Machine.{AllEdges, Edge, Select, Plain, Nonzero, Cases, nth, edge_at, chosen, Op, Const, Calc, Emit, Call, Branch, Return, Block, Fun, ops_left, left_in, arguments_of, arguments_in}
-use Rattle.kit_behaviour.specs.Rules.{EdgeFits, EdgesFit, AllEdgesFit}
+use Rattle.kit_behaviour.specs.Rules.{EdgeFits, EdgesOfOpFit, AllEdgesFit}
 use Rattle.kit_behaviour.specs.Scopes.{In, SameLength}
 use Rattle.kit_behaviour.specs.SimplifiedNames.{IsConstantIn, AreConstants}
 use Rattle.kit_ops.specs.declared.attributes.IntegerAttr.{IntegerAttr}
@@ -26,7 +26,7 @@ use Rattle.kit_ops.specs.declared.types.KitType.{KitType}
 use Rattle.kit_ops.specs.Keys.{constant_value}
 use Rattle.kit.specs.Meaning.{KitOperation, kit, is_constant}
 use Rattle.kit_views.specs.Reading.{kit_contents, kit_reading, number_in}
-use Rattle.kit_views.specs.FlatView.{IsSameness, IsBranch, IsOp, AreOps, AreBlocks, names_in, IsFlat}
+use Rattle.kit_views.specs.FlatView.{IsSameness, IsFlatBranch, IsOp, AreOps, AreFlatBlocks, names_in, FlattensTo}
 use Rattle.kit_views.specs.Typed.{number_as, TypesFit, IsTyped}
 use Rattle.kit_views.specs.FlatBranches.{KnowsConstants}
 use Rattle.kit_views.proofs.OwnConstants.{own_alone, KnowsExactly, decided_own}
@@ -77,7 +77,7 @@ module _ {N : Names} (alone : N.value → Option IntegerAttr) where
   blocks_stay (block l os rest) = ap (λ z. l.name ∷ z) (blocks_stay rest)
 
 -- edges still fit
-module _ {V : Type 0} (k : Facts V) (f : Fun V) where
+module _ {V : Type 0} (k : FunctionFacts V) (f : Fun V) where
   takes_same : (b : ℕ) → arguments_in (Some (map (decide_block k) f)) b ≡ arguments_in (Some f) b
   takes_same b = ap arguments_of (slice_get-map (decide_block k) f b) ∙ step (slice_get f b)
     where
@@ -100,11 +100,11 @@ module _ {V : Type 0} (k : Facts V) (f : Fun V) where
   nth_fits d (e ∷ es) zero h a = a.0
   nth_fits d (e ∷ es) (suc n) h a = nth_fits d es n h a.1
 
-  single_fits : (s : Select) (xs : List V) (e : Edge V) (es : List (Edge V)) → AllEdges (EdgeFits (Some f)) (e ∷ es) → EdgesFit (Some (map (decide_block k) f)) (single s xs e es)
+  single_fits : (s : Select) (xs : List V) (e : Edge V) (es : List (Edge V)) → AllEdges (EdgeFits (Some f)) (e ∷ es) → EdgesOfOpFit (Some (map (decide_block k) f)) (single s xs e es)
   single_fits s xs e [] h = (edge_same e h.0, tt)
   single_fits s xs e (x ∷ es) h = edges_same (e ∷ x ∷ es) h
 
-  branch_fits : (q : Knows) (s : Select) (xs : List V) (e : Edge V) (es : List (Edge V)) → AllEdges (EdgeFits (Some f)) (e ∷ es) → EdgesFit (Some (map (decide_block k) f)) (branch_by q s xs e es)
+  branch_fits : (q : Knows) (s : Select) (xs : List V) (e : Edge V) (es : List (Edge V)) → AllEdges (EdgeFits (Some f)) (e ∷ es) → EdgesOfOpFit (Some (map (decide_block k) f)) (branch_by q s xs e es)
   branch_fits Lacks s xs e es h = single_fits s xs e es h
   branch_fits (Numbers ns) s xs e es h = (edge_same (edge_at e es (chosen s ns)) (nth_fits e (e ∷ es) (chosen s ns) h.0 h), tt)
   branch_fits Open s xs e es h = single_fits s xs e es h
@@ -113,7 +113,7 @@ module _ {V : Type 0} (k : Facts V) (f : Fun V) where
   ops_fit [] h = tt
   ops_fit (p ∷ ps) h = (step p h.0, ops_fit ps h.1)
     where
-      step : (p : Op V) → EdgesFit (Some f) p → EdgesFit (Some (map (decide_block k) f)) (decide_op k p)
+      step : (p : Op V) → EdgesOfOpFit (Some f) p → EdgesOfOpFit (Some (map (decide_block k) f)) (decide_op k p)
       step (Const y n) g = tt
       step (Calc a w y b c) g = tt
       step (Emit x) g = tt
@@ -156,11 +156,11 @@ module _ {V : Type 0} where
       by_block None e i = absurd i
       by_block (Some k) e i = record { b = c.0; block = k; stands = e; constant = in_has (Const v n) k.ops i }
 
-module _ {N : Names} (leads : TypeHandle → Option KitType) (numbered : List ℕ → ℕ) (h : Head N kit_contents) (bs : Tree N kit_contents Blocks) (f : Fun N.value) (given : Given (kit_reading leads numbered) h bs f) (type_at : N.value → TypeHandle) (typed : IsTyped leads {N = N} type_at (whole (kit_reading leads numbered) h bs f)) (w : Around N IntegerAttr) (constants : KnowsExactly w (whole (kit_reading leads numbered) h bs f)) where
+module _ {N : Names} (leads : TypeHandle → Option KitType) (numbered : List ℕ → ℕ) (h : Head N kit_contents) (bs : Tree N kit_contents Blocks) (f : Fun N.value) (given : Given (kit_reading leads numbered) h bs f) (type_at : N.value → TypeHandle) (typed : IsTyped leads {N = N} type_at (whole (kit_reading leads numbered) h bs f)) (w : TreeSurroundings N IntegerAttr) (constants : KnowsExactly w (whole (kit_reading leads numbered) h bs f)) where
   abbrev Whole : Occurrence N kit_contents → Type 0
   Whole o = Has o (occurrences_of (whole (kit_reading leads numbered) h bs f))
 
-  ops_decided : (os : Tree N kit_contents Operations) (ps : List (Op N.value)) (c : Site N kit_contents) → AreOps (kit_reading leads numbered) (names_in bs) os ps → ((o : Occurrence N kit_contents) → Has o (occurrences_in os c) → Whole o) → AreOps (kit_reading leads numbered) (names_in bs) (decide kit w.alone os) (map (decide_op (facts_of w)) ps)
+  ops_decided : (os : Tree N kit_contents Operations) (ps : List (Op N.value)) (c : OperationSite N kit_contents) → AreOps (kit_reading leads numbered) (names_in bs) os ps → ((o : Occurrence N kit_contents) → Has o (occurrences_in os c) → Whole o) → AreOps (kit_reading leads numbered) (names_in bs) (decide kit w.alone os) (map (decide_op (facts_of w)) ps)
   ops_decided end [] c a st = tt
   ops_decided end (p ∷ ps) c a st = absurd a
   ops_decided (operation j rs more) [] c a st = absurd a
@@ -170,7 +170,7 @@ module _ {N : Names} (leads : TypeHandle → Option KitType) (numbered : List �
     ops_decided more ps c a.2 (λ o i. st o (inr (has-right o (occurrences_in rs (inner j c)) (occurrences_in more c) i))),
   )
 
-  blocks_decided : (ts : Tree N kit_contents Blocks) (ks : Fun N.value) (c : Spot N kit_contents) → AreBlocks (kit_reading leads numbered) (names_in bs) ts ks → ((o : Occurrence N kit_contents) → Has o (occurrences_in ts c) → Whole o) → AreBlocks (kit_reading leads numbered) (names_in bs) (decide kit w.alone ts) (map (decide_block (facts_of w)) ks)
+  blocks_decided : (ts : Tree N kit_contents Blocks) (ks : Fun N.value) (c : Spot N kit_contents) → AreFlatBlocks (kit_reading leads numbered) (names_in bs) ts ks → ((o : Occurrence N kit_contents) → Has o (occurrences_in ts c) → Whole o) → AreFlatBlocks (kit_reading leads numbered) (names_in bs) (decide kit w.alone ts) (map (decide_block (facts_of w)) ks)
   blocks_decided end [] c a st = tt
   blocks_decided end (k ∷ ks) c a st = absurd a
   blocks_decided (block l os more) [] c a st = absurd a
@@ -180,14 +180,14 @@ module _ {N : Names} (leads : TypeHandle → Option KitType) (numbered : List �
     blocks_decided more ks (next_block c) a.2 (λ o i. st o (has-right o (occurrences_in os (record { spot = c; label = l })) (occurrences_in more (next_block c)) i)),
   )
 
-  decided_flat : IsFlat (kit_reading leads numbered) (decided kit w (whole (kit_reading leads numbered) h bs f)) (map (decide_block (facts_of w)) f)
+  decided_flat : FlattensTo (kit_reading leads numbered) (decided kit w (whole (kit_reading leads numbered) h bs f)) (map (decide_block (facts_of w)) f)
   decided_flat = record {
     view = record {
       function = given.function;
       no_operands = given.no_operands;
       blocks = decide kit w.alone bs;
       region = refl;
-      are = subst (λ z. AreBlocks (kit_reading leads numbered) z (decide kit w.alone bs) (map (decide_block (facts_of w)) f)) (sym (blocks_stay w.alone bs))
+      are = subst (λ z. AreFlatBlocks (kit_reading leads numbered) z (decide kit w.alone bs) (map (decide_block (facts_of w)) f)) (sym (blocks_stay w.alone bs))
           (blocks_decided bs f (root_spot (kit_reading leads numbered) h bs f given) given.are (λ o i. has-left o (occurrences_in bs (root_spot (kit_reading leads numbered) h bs f given)) [] i));
     };
     operations = subst (λ l. AreDistinct (h.name ∷ l)) (sym (names_stay w.alone (region bs end))) given.operations;
@@ -207,7 +207,7 @@ module _ {N : Names} (leads : TypeHandle → Option KitType) (numbered : List �
   as_constant o v a (Call rs c xs) is e i q = absurd (true_false (is_constant o.head.content.kind) (ap is_constant e) (ap is_constant is.0.kind))
   as_constant o v a (Branch s xs x es) is e i q = absurd (true_false (is_constant o.head.content.kind) (ap is_constant e) (branch_makes s xs x es is))
     where
-      branch_makes : (s : Select) (xs : List N.value) (x : Edge N.value) (es : List (Edge N.value)) → IsBranch (kit_reading leads numbered) (names_in bs) o.head s xs x es → is_constant o.head.content.kind ≡ false
+      branch_makes : (s : Select) (xs : List N.value) (x : Edge N.value) (es : List (Edge N.value)) → IsFlatBranch (kit_reading leads numbered) (names_in bs) o.head s xs x es → is_constant o.head.content.kind ≡ false
       branch_makes Plain xs x es is = ap is_constant is.0.kind
       branch_makes Nonzero xs x es is = ap is_constant is.0.kind
       branch_makes (Cases ns) xs x es is = absurd is
@@ -240,7 +240,7 @@ module _ {N : Names} (leads : TypeHandle → Option KitType) (numbered : List �
       step v none None e = ap fact_of e
       step v none (Some a) e = absurd (none a.bits (constant_there f v a.bits (known_there v a.bits (Some a) e refl)))
 
-pub branches_decided : {N : Names} (leads : TypeHandle → Option KitType) (numbered : List ℕ → ℕ) (type_at : N.value → TypeHandle) (w : Around N IntegerAttr) (t : Root N kit_contents) (f : Fun N.value) → IsFlat (kit_reading leads numbered) t f → IsTyped leads {N = N} type_at t → KnowsExactly w t → (k : Facts N.value) × AreConstants (Some f) k × IsFlat (kit_reading leads numbered) (decided kit w t) (map (decide_block k) f)
+pub branches_decided : {N : Names} (leads : TypeHandle → Option KitType) (numbered : List ℕ → ℕ) (type_at : N.value → TypeHandle) (w : TreeSurroundings N IntegerAttr) (t : Root N kit_contents) (f : Fun N.value) → FlattensTo (kit_reading leads numbered) t f → IsTyped leads {N = N} type_at t → KnowsExactly w t → (k : FunctionFacts N.value) × AreConstants (Some f) k × FlattensTo (kit_reading leads numbered) (decided kit w t) (map (decide_block k) f)
 branches_decided {N} leads numbered type_at w t f is_flat typed constants =
     let bs : Tree N kit_contents Blocks = is_flat.view.blocks in
     let given : Given (kit_reading leads numbered) t.head bs f = given_of (kit_reading leads numbered) t f is_flat in
@@ -249,16 +249,16 @@ branches_decided {N} leads numbered type_at w t f is_flat typed constants =
     let known = subst (KnowsExactly w) e constants in (
       facts_of w,
       constants_are leads numbered t.head bs f given type_at types w known,
-      subst (λ z. IsFlat (kit_reading leads numbered) (decided kit w z) (map (decide_block (facts_of w)) f)) (sym e) (decided_flat leads numbered t.head bs f given type_at types w known),
+      subst (λ z. FlattensTo (kit_reading leads numbered) (decided kit w z) (map (decide_block (facts_of w)) f)) (sym e) (decided_flat leads numbered t.head bs f given type_at types w known),
     )
 
 -- the same, where of the values of the tree exactly the results of constants are known alone
 pub decided_by_own : {N : Names} (same : N.value → N.value → Bool) (leads : TypeHandle → Option KitType)
-    (numbered : List ℕ → ℕ) (type_at : N.value → TypeHandle) (w : Around N IntegerAttr) (t : Root N kit_contents)
-    (f : Fun N.value) → IsSameness same → IsFlat (kit_reading leads numbered) t f → IsTyped leads {N = N} type_at t →
-    KnowsConstants w t → (k : Facts N.value) × AreConstants (Some f) k
-    × IsFlat (kit_reading leads numbered) (decided kit w t) (map (decide_block k) f)
+    (numbered : List ℕ → ℕ) (type_at : N.value → TypeHandle) (w : TreeSurroundings N IntegerAttr) (t : Root N kit_contents)
+    (f : Fun N.value) → IsSameness same → FlattensTo (kit_reading leads numbered) t f → IsTyped leads {N = N} type_at t →
+    KnowsConstants w t → (k : FunctionFacts N.value) × AreConstants (Some f) k
+    × FlattensTo (kit_reading leads numbered) (decided kit w t) (map (decide_block k) f)
 decided_by_own same leads numbered type_at w t f sameness is_flat typed constants =
     let own = decided_own same leads type_at w t sameness typed constants in
     let d = branches_decided leads numbered type_at (own_alone same t w) t f is_flat typed own.0 in
-    (d.0, d.1, subst (λ z. IsFlat (kit_reading leads numbered) z (map (decide_block d.0) f)) own.1 d.2)
+    (d.0, d.1, subst (λ z. FlattensTo (kit_reading leads numbered) z (map (decide_block d.0) f)) own.1 d.2)

@@ -105,15 +105,15 @@ module _ {V : Type 0} (leads : TypeHandle → Option KitType) (type_at : V → T
       ⊎_elim (λ z. p.0 (ap l (sym z) ∙ q)) (λ z. knows_none vs p.1 v z q) i
 
   -- pairs of arguments and of what is forwarded to them
-  pub below_tree : (ts gs : List V) → ((p : ℕ) (t g : V) → slice_get ts p ≡ Some t → slice_get gs p ≡ Some g → flat.AtOrBelow (l t) (l g) → tree.AtOrBelow (k t) (k g)) → (m : flat.Facts V) → m.of ≡ l → flat.AllBelow m ts gs → tree.AllBelow k ts (map k gs)
+  pub below_tree : (ts gs : List V) → ((p : ℕ) (t g : V) → slice_get ts p ≡ Some t → slice_get gs p ≡ Some g → flat.FactAtOrBelow (l t) (l g) → tree.AtOrBelow (k t) (k g)) → (m : flat.FunctionFacts V) → m.of ≡ l → flat.AllFactsAtOrBelow m ts gs → tree.AllBelow k ts (map k gs)
   below_tree [] gs h m e b = tt
   below_tree (t ∷ ts) [] h m e b = tt
-  below_tree (t ∷ ts) (g ∷ gs) h m e b = (h 0 t g refl refl (subst (λ z. flat.AtOrBelow (z t) (z g)) e b.0), below_tree ts gs (λ p. h (suc p)) m e b.1)
+  below_tree (t ∷ ts) (g ∷ gs) h m e b = (h 0 t g refl refl (subst (λ z. flat.FactAtOrBelow (z t) (z g)) e b.0), below_tree ts gs (λ p. h (suc p)) m e b.1)
 
-  pub below_flat : (ts gs : List V) → ((p : ℕ) (t g : V) → slice_get ts p ≡ Some t → slice_get gs p ≡ Some g → tree.AtOrBelow (k t) (k g) → flat.AtOrBelow (l t) (l g)) → (m : flat.Facts V) → m.of ≡ l → tree.AllBelow k ts (map k gs) → flat.AllBelow m ts gs
+  pub below_flat : (ts gs : List V) → ((p : ℕ) (t g : V) → slice_get ts p ≡ Some t → slice_get gs p ≡ Some g → tree.AtOrBelow (k t) (k g) → flat.FactAtOrBelow (l t) (l g)) → (m : flat.FunctionFacts V) → m.of ≡ l → tree.AllBelow k ts (map k gs) → flat.AllFactsAtOrBelow m ts gs
   below_flat [] gs h m e b = tt
   below_flat (t ∷ ts) [] h m e b = tt
-  below_flat (t ∷ ts) (g ∷ gs) h m e b = (subst (λ z. flat.AtOrBelow (z t) (z g)) (sym e) (h 0 t g refl refl b.0), below_flat ts gs (λ p. h (suc p)) m e b.1)
+  below_flat (t ∷ ts) (g ∷ gs) h m e b = (subst (λ z. flat.FactAtOrBelow (z t) (z g)) (sym e) (h 0 t g refl refl b.0), below_flat ts gs (λ p. h (suc p)) m e b.1)
 
 pub picks_range : {X : Type 0} (xs gs : List X) (s : ℕ) → ((p i : ℕ) (v : X) → slice_get gs p ≡ Some v → i ≡ s + p → slice_get xs i ≡ Some v) → picks xs (range s (length gs)) ≡ gs
 picks_range xs [] s h = refl

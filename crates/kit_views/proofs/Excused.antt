@@ -13,7 +13,7 @@ use Rattle.kit_behaviour.specs.Facts.{all_forwarded}
 use Rattle.kit_behaviour.specs.Machine.{Arith, Add, Sub, Mul, Div, Eql, Neq, Ult, Ule, Edge, Op, Const, Calc, Emit, Call, Branch, Return, Fun, arguments_in}
 use Rattle.kit_behaviour.specs.RemovedValues.{may_trap}
 use Rattle.kit_behaviour.specs.DeadValues.{forwards_dead, edges_dead, use_dead}
-use Rattle.kit_behaviour.specs.Rules.{EdgesFit}
+use Rattle.kit_behaviour.specs.Rules.{EdgesOfOpFit}
 use Rattle.kit_behaviour.specs.Scopes.{is_in}
 use Rattle.kit_ops.specs.declared.kinds.KitOp.{KitOp}
 use Rattle.kit_ops.specs.declared.kinds.KitOp.TheVariants as ops
@@ -145,7 +145,7 @@ module _ {N : Names} {S : Contents} {A : Type 0} (d : Dialect S A) (r : Reading 
     abbrev pub OwnIs : Type 0
     OwnIs = (d.has_effects o.head.content ≡ false) × ((u : N.value) × Has u (names_of o.head.results) × (E u ≡ true))
 
-    pub use_back : (p : Op N.value) → IsOp r (names_in bs) o.head p → EdgesFit (Some f) p → use_dead same (Some f) E v p ≡ true → (i : ℕ) → slice_get o.head.operands i ≡ Some v → OwnIs ⊎ Passed o i
+    pub use_back : (p : Op N.value) → IsOp r (names_in bs) o.head p → EdgesOfOpFit (Some f) p → use_dead same (Some f) E v p ≡ true → (i : ℕ) → slice_get o.head.operands i ≡ Some v → OwnIs ⊎ Passed o i
     use_back (Const y n) is fits u i e = absurd (none_some v (ap (λ z. slice_get z i) (sym is.0.operands) ∙ e))
     use_back (Calc a wd y b c) is fits u i e =
         let m : is_in same v (b ∷ c ∷ []) ≡ true = has_in same sameness v (b ∷ c ∷ []) (has_get (b ∷ c ∷ []) i v (ap (λ z. slice_get z i) (sym is.0.operands) ∙ e)) in

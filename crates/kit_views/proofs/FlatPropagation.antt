@@ -12,7 +12,7 @@ use Rattle.opt_solvers.specs.declared.known.Known.TheVariants as known
 use Rattle.opt_trees.specs.Facts as trees
 use Rattle.opt_trees.specs.Occurrences.{Has, Occurrence, occurrences_in, occurrences_of, defined_in}
 use Rattle.opt_trees.specs.Sccp as sccp
-use Rattle.opt_trees.specs.Sccp.{Name, fresh, IsResult, IsArgument, IsMade, put, put_root, IsSccp}
+use Rattle.opt_trees.specs.Sccp.{Name, fresh, IsResult, IsArgument, AreMadeConstants, put, put_root, IsSccp}
 use Rattle.opt_trees.proofs.Lists.{some_same, none_some}
 use Rattle.opt_trees.proofs.Defined.{result_defined, argument_defined}
 use Rattle.opt_trees.proofs.NoneDead.{has-left}
@@ -28,11 +28,11 @@ use Rattle.kit_ops.specs.Keys.{constant_value}
 use Rattle.kit.specs.Meaning.{kit, is_constant, operation_of}
 use Rattle.kit_ops.specs.Table.{has_interface}
 use Rattle.kit_views.specs.Reading.{kit_contents, kit_reading}
-use Rattle.kit_views.specs.FlatView.{IsSameness, kind_of, IsOp, AreBlocks, names_in, IsFlat}
+use Rattle.kit_views.specs.FlatView.{IsSameness, kind_of, IsOp, AreFlatBlocks, names_in, FlattensTo}
 use Rattle.kit_behaviour.specs.InsertedConstants.{put_block, use_of}
-use Rattle.kit_behaviour.specs.NamedPasses.{Gets}
+use Rattle.kit_behaviour.specs.NamedPasses.{GetsConstant}
 use Rattle.kit_behaviour.specs.Replacement.{replace_block}
-use Rattle.kit_views.specs.FlatConstants.{IsPropagated}
+use Rattle.kit_views.specs.FlatConstants.{IsPropagatedView}
 use Rattle.kit_views.proofs.Calculated.{IsCalculated, GetsIn, gets_both}
 use Rattle.kit_views.specs.FlatFacts.{IsKnownAs, AreFlatly}
 use Rattle.kit_views.specs.Typed.{number_as, IsTyped}
@@ -94,7 +94,7 @@ module _ {N : Names} (leads : TypeHandle → Option KitType) (numbered : List �
   makes_of h names v (Branch s xs e es) is c = absurd c
   makes_of h names v (Return xs) is c = absurd c
 
-  module _ (h : Head N kit_contents) (bs : Tree N kit_contents Blocks) (f : Fun N.value) (given : Given (kit_reading leads numbered) h bs f) (k : trees.Facts N IntegerAttr) (l : flat.Facts N.value) (agree : AreFlatly leads {N = N} type_at (whole (kit_reading leads numbered) h bs f) (names_in bs) k l) (made : N.value → Option IntegerAttr) (is_made : IsMade kit (whole (kit_reading leads numbered) h bs f) k made) where
+  module _ (h : Head N kit_contents) (bs : Tree N kit_contents Blocks) (f : Fun N.value) (given : Given (kit_reading leads numbered) h bs f) (k : trees.Facts N IntegerAttr) (l : flat.FunctionFacts N.value) (agree : AreFlatly leads {N = N} type_at (whole (kit_reading leads numbered) h bs f) (names_in bs) k l) (made : N.value → Option IntegerAttr) (is_made : AreMadeConstants kit (whole (kit_reading leads numbered) h bs f) k made) where
     result_gets : (v : N.value) (q : IsResult kit (whole (kit_reading leads numbered) h bs f) k v) (n : ℕ) → l.of v ≡ flat.Known n → GetsIn f l v n
     result_gets v q n e =
         let p = pair (kit_reading leads numbered) h bs f given q.definer q.stands in
@@ -146,14 +146,14 @@ module _ {N : Names} (leads : TypeHandle → Option KitType) (numbered : List �
             n (calculated o.head (names_in bs) v p is (ap (λ (z : Occurrence N kit_contents). kit.is_foldable z.head.content) (sym one) ∙ q.folds) (ap (λ (z : Occurrence N kit_contents). kit.is_constant z.head.content) (sym one) ∙ q.no_constant) j))
             (λ (q : IsArgument (whole (kit_reading leads numbered) h bs f) k.runs v). not_both (kit_reading leads numbered) h bs f given o q.definer v i q.stands j q.argument) (is_made.gets v a e).place)
 
-    pub put_flat : IsFlat {N = fresh N} (kit_reading leads numbered) (put_root {N = N} kit made (whole (kit_reading leads numbered) h bs f)) (rest made f)
+    pub put_flat : FlattensTo {N = fresh N} (kit_reading leads numbered) (put_root {N = N} kit made (whole (kit_reading leads numbered) h bs f)) (rest made f)
     put_flat = record {
       view = record {
         function = given.function;
         no_operands = ap (map (λ v. sccp.used_as v (made v))) given.no_operands;
         blocks = put {N = N} kit made bs;
         region = refl;
-        are = subst (λ z. AreBlocks {N = fresh N} (kit_reading leads numbered) z (put {N = N} kit made bs) (rest made f)) (sym (names_put {N = N} made bs))
+        are = subst (λ z. AreFlatBlocks {N = fresh N} (kit_reading leads numbered) z (put {N = N} kit made bs) (rest made f)) (sym (names_put {N = N} made bs))
             (blocks_put leads numbered (names_in bs) made bs f (root_spot (kit_reading leads numbered) h bs f given) given.are (λ o i. only o (has-left o (occurrences_in bs (root_spot (kit_reading leads numbered) h bs f given)) [] i)));
       };
       operations = from_distinct (sccp.Old h.name ∷ map (λ (z : Head (fresh N) kit_contents). z.name) (heads_in (put {N = N} kit made (region bs end)))) (operations_distinct {N = N} made h.name (region bs end) (to_distinct (operation_names (whole (kit_reading leads numbered) h bs f)) given.operations) (to_distinct (defined_in (region bs end)) given.values));
@@ -162,21 +162,21 @@ module _ {N : Names} (leads : TypeHandle → Option KitType) (numbered : List �
       edges = rest_fits made f given.edges;
     }
 
-    pub made_exactly : (v : N.value) (n : ℕ) → (numbers made v ≡ Some n) ↔ Gets (Some f) l v n
+    pub made_exactly : (v : N.value) (n : ℕ) → (numbers made v ≡ Some n) ↔ GetsConstant (Some f) l v n
     made_exactly v n = (
       λ e. (gets_both f l v n).0 (there v n (made v) refl e),
       λ g. back_again v n ((gets_both f l v n).1 g),
     )
 
 module _ {N : Names} (leads : TypeHandle → Option KitType) (numbered : List ℕ → ℕ) (same : N.value → N.value → Bool) (sameness : IsSameness same) (same_block : N.block → N.block → Bool) (block_law : IsSameness same_block) (type_at : N.value → TypeHandle) where
-  pub propagated : (t : Root N kit_contents) (after : Root (fresh N) kit_contents) (f : Fun N.value) → IsFlat (kit_reading leads numbered) t f → IsTyped leads {N = N} type_at t → IsSccp kit t after → IsPropagated {N = N} leads numbered f after
+  pub propagated : (t : Root N kit_contents) (after : Root (fresh N) kit_contents) (f : Fun N.value) → FlattensTo (kit_reading leads numbered) t f → IsTyped leads {N = N} type_at t → IsSccp kit t after → IsPropagatedView {N = N} leads numbered f after
   propagated t after f is_flat typed pass =
       let bs : Tree N kit_contents Blocks = is_flat.view.blocks in
       let given : Given (kit_reading leads numbered) t.head bs f = given_of (kit_reading leads numbered) t f is_flat in
       let e : t ≡ whole (kit_reading leads numbered) t.head bs f = λ i. record { head = t.head; regions = is_flat.view.region i } in
       let best = flat_best leads numbered same sameness same_block block_law type_at t f pass.facts is_flat typed pass.best in
       let agree = subst (λ z. AreFlatly leads {N = N} type_at z (names_in bs) pass.facts best.0) e best.2 in
-      let is_made = subst (λ z. IsMade kit z pass.facts pass.made) e pass.is_made in
+      let is_made = subst (λ z. AreMadeConstants kit z pass.facts pass.made) e pass.is_made in
       let is : after ≡ put_root {N = N} kit pass.made (whole (kit_reading leads numbered) t.head bs f) = pass.is ∙ ap (put_root {N = N} kit pass.made) e in
       record {
         put = map (replace_block (use_of (numbers pass.made))) (map (put_block (numbers pass.made)) f);
@@ -187,5 +187,5 @@ module _ {N : Names} (leads : TypeHandle → Option KitType) (numbered : List �
           gets = made_exactly leads numbered type_at t.head bs f given pass.facts best.0 agree pass.made is_made;
           is = refl;
         };
-        is_view = subst (λ z. IsFlat {N = fresh N} (kit_reading leads numbered) z (rest pass.made f)) (sym is) (put_flat leads numbered type_at t.head bs f given pass.facts best.0 agree pass.made is_made);
+        is_view = subst (λ z. FlattensTo {N = fresh N} (kit_reading leads numbered) z (rest pass.made f)) (sym is) (put_flat leads numbered type_at t.head bs f given pass.facts best.0 agree pass.made is_made);
       }

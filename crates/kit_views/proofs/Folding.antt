@@ -22,7 +22,7 @@ use Rattle.kit.specs.Folded.{same_number}
 use Rattle.kit.specs.Meaning.{Entries, are_numbers, with_bits, bit_of, if_of_type, fold_of}
 use Rattle.kit_views.specs.Reading.{integer_of}
 use Rattle.kit_views.specs.FlatView.{kind_of}
-use Rattle.kit_views.specs.Typed.{number_as, width_at, IsInteger, IsBit}
+use Rattle.kit_views.specs.Typed.{number_as, width_at, IsMachineInteger, LeadsToBit}
 
 -- a difference modulo 2^w, taken by way of 2^64
 difference : (x y w : ℕ) → w ≤ 64 → y < 2 ^ w → (x + (2 ^ 64 - y)) % 2 ^ w ≡ (x + 2 ^ w - y) % 2 ^ w
@@ -71,19 +71,19 @@ module _ (leads : TypeHandle → Option KitType) where
   Fits Sub tx tr = tx ≡ tr
   Fits Mul tx tr = tx ≡ tr
   Fits Div tx tr = tx ≡ tr
-  Fits Eql tx tr = IsBit leads tr
-  Fits Neq tx tr = IsBit leads tr
-  Fits Ult tx tr = IsBit leads tr
-  Fits Ule tx tr = IsBit leads tr
+  Fits Eql tx tr = LeadsToBit leads tr
+  Fits Neq tx tr = LeadsToBit leads tr
+  Fits Ult tx tr = LeadsToBit leads tr
+  Fits Ule tx tr = LeadsToBit leads tr
 
-  integer_width : (ty : TypeHandle) → IsInteger leads ty → (1 ≤ width_at leads ty) × (width_at leads ty ≤ 64)
+  integer_width : (ty : TypeHandle) → IsMachineInteger leads ty → (1 ≤ width_at leads ty) × (width_at leads ty ≤ 64)
   integer_width ty i =
       let e : width_at leads ty ≡ i.0.width = ap (λ z. (integer_of z).width) i.1 in (omega (arith, e, i.2), omega (arith, e, i.3))
 
   le_true : (a b : ℕ) → a ≤ b → nat_le a b ≡ true
   le_true a b h = grind (arith, h)
 
-  numbers : (ty : TypeHandle) (n m : ℕ) → IsInteger leads ty → are_numbers (number_as leads ty n) (number_as leads ty m) ≡ true
+  numbers : (ty : TypeHandle) (n m : ℕ) → IsMachineInteger leads ty → are_numbers (number_as leads ty n) (number_as leads ty m) ≡ true
   numbers ty n m i =
       let w = integer_width ty i in
       λ j. same_number ty.number j && (le_true 1 (width_at leads ty) w.0 j && le_true (width_at leads ty) 64 w.1 j)
@@ -92,7 +92,7 @@ module _ (leads : TypeHandle → Option KitType) where
   of_type ty n = ap (λ b. if b then Some (number_as leads ty n) else None) (same_number ty.number)
 
   -- arithmetic on two numbers of one type
-  fold_arith : (k : Arithmetic) (es : Entries) (ty : TypeHandle) (n m : ℕ) (o : Option ℕ) → IsInteger leads ty → whole.calc k (width_at leads ty) n m ≡ o → fold_of (ops.Arithmetic k) es (ty ∷ []) (Some (number_as leads ty n) ∷ Some (number_as leads ty m) ∷ []) ≡ option_map (number_as leads ty) o ∷ []
+  fold_arith : (k : Arithmetic) (es : Entries) (ty : TypeHandle) (n m : ℕ) (o : Option ℕ) → IsMachineInteger leads ty → whole.calc k (width_at leads ty) n m ≡ o → fold_of (ops.Arithmetic k) es (ty ∷ []) (Some (number_as leads ty n) ∷ Some (number_as leads ty m) ∷ []) ≡ option_map (number_as leads ty) o ∷ []
   fold_arith k es ty n m o i e =
       let a = number_as leads ty n in
       ap (λ b. if_of_type ty (if b then with_bits a (whole.calc k (width_at leads ty) n m) else None) ∷ []) (numbers ty n m i)
@@ -102,16 +102,16 @@ module _ (leads : TypeHandle → Option KitType) where
       step None = refl
       step (Some c) = ap (λ z. z ∷ []) (of_type ty c)
 
-  bit_is : (tr : TypeHandle) (b : Bool) (c : ℕ) → IsBit leads tr → (if b then 1 else 0) ≡ c → bit_of tr b ≡ number_as leads tr c
+  bit_is : (tr : TypeHandle) (b : Bool) (c : ℕ) → LeadsToBit leads tr → (if b then 1 else 0) ≡ c → bit_of tr b ≡ number_as leads tr c
   bit_is tr b c i e = λ j. record { ty = tr; integer = ap integer_of (sym i) j; bits = e j }
 
-  fold_compare : (k : Comparison) (es : Entries) (ty tr : TypeHandle) (n m c : ℕ) → IsInteger leads ty → IsBit leads tr → (if whole.compare k n m then 1 else 0) ≡ c → fold_of (ops.Comparison k) es (tr ∷ []) (Some (number_as leads ty n) ∷ Some (number_as leads ty m) ∷ []) ≡ Some (number_as leads tr c) ∷ []
+  fold_compare : (k : Comparison) (es : Entries) (ty tr : TypeHandle) (n m c : ℕ) → IsMachineInteger leads ty → LeadsToBit leads tr → (if whole.compare k n m then 1 else 0) ≡ c → fold_of (ops.Comparison k) es (tr ∷ []) (Some (number_as leads ty n) ∷ Some (number_as leads ty m) ∷ []) ≡ Some (number_as leads tr c) ∷ []
   fold_compare k es ty tr n m c i t e =
       ap (λ b. if_of_type tr (if b then Some (bit_of tr (whole.compare k n m)) else None) ∷ []) (numbers ty n m i)
       ∙ (ap (λ z. if_of_type tr (Some z) ∷ []) (bit_is tr (whole.compare k n m) c t e) ∙ ap (λ z. z ∷ []) (of_type tr c))
 
   -- of known operands both fold alike
-  fold_numbers : (a : Arith) (es : Entries) (tx tr : TypeHandle) (n m : ℕ) → IsInteger leads tx → Fits a tx tr → m < 2 ^ width_at leads tx → fold_of (kind_of a) es (tr ∷ []) (Some (number_as leads tx n) ∷ Some (number_as leads tx m) ∷ []) ≡ option_map (number_as leads tr) (calc a (width_at leads tr) n m) ∷ []
+  fold_numbers : (a : Arith) (es : Entries) (tx tr : TypeHandle) (n m : ℕ) → IsMachineInteger leads tx → Fits a tx tr → m < 2 ^ width_at leads tx → fold_of (kind_of a) es (tr ∷ []) (Some (number_as leads tx n) ∷ Some (number_as leads tx m) ∷ []) ≡ option_map (number_as leads tr) (calc a (width_at leads tr) n m) ∷ []
   fold_numbers Add es tx tr n m i t h = subst (λ z. fold_of (kind_of Add) es (z ∷ []) (Some (number_as leads tx n) ∷ Some (number_as leads tx m) ∷ []) ≡ option_map (number_as leads z) (calc Add (width_at leads z) n m) ∷ []) t (fold_arith arithmetic.Add es tx n m (calc Add (width_at leads tx) n m) i refl)
   fold_numbers Sub es tx tr n m i t h = subst (λ z. fold_of (kind_of Sub) es (z ∷ []) (Some (number_as leads tx n) ∷ Some (number_as leads tx m) ∷ []) ≡ option_map (number_as leads z) (calc Sub (width_at leads z) n m) ∷ []) t (fold_arith arithmetic.Sub es tx n m (calc Sub (width_at leads tx) n m) i (calc_sub n m (width_at leads tx) (integer_width tx i).1 h))
   fold_numbers Mul es tx tr n m i t h = subst (λ z. fold_of (kind_of Mul) es (z ∷ []) (Some (number_as leads tx n) ∷ Some (number_as leads tx m) ∷ []) ≡ option_map (number_as leads z) (calc Mul (width_at leads z) n m) ∷ []) t (fold_arith arithmetic.Mul es tx n m (calc Mul (width_at leads tx) n m) i refl)
@@ -122,7 +122,7 @@ module _ (leads : TypeHandle → Option KitType) where
   fold_numbers Ule es tx tr n m i t h = fold_compare comparison.LessOrEqual es tx tr n m (bit (nat_le n m)) i t (some_bit (nat_le n m))
 
   -- and what comes out fits
-  bit_small : (tr : TypeHandle) (b : Bool) → IsBit leads tr → bit b < 2 ^ width_at leads tr
+  bit_small : (tr : TypeHandle) (b : Bool) → LeadsToBit leads tr → bit b < 2 ^ width_at leads tr
   bit_small tr b t = subst (λ w. bit b < 2 ^ w) (sym (ap (λ z. (integer_of z).width) t)) (small b)
     where
       small : (b : Bool) → bit b < 2 ^ 1
@@ -184,7 +184,7 @@ module _ (leads : TypeHandle → Option KitType) where
   first_open Ult es tr y = refl
   first_open Ule es tr y = refl
 
-  pub fold_pair : (a : Arith) (es : Entries) (tx tr : TypeHandle) (kx ky : Known IntegerAttr) (lx ly : Fact) → IsInteger leads tx → Fits a tx tr → Det tx kx lx → Det tx ky ly → FoldPair a es tr kx ky lx ly
+  pub fold_pair : (a : Arith) (es : Entries) (tx tr : TypeHandle) (kx ky : Known IntegerAttr) (lx ly : Fact) → IsMachineInteger leads tx → Fits a tx tr → Det tx kx lx → Det tx ky ly → FoldPair a es tr kx ky lx ly
   fold_pair a es tx tr kx ky lx ly i t (number n e f h) (number m p q j) = record {
     qs = Some (number_as leads tx n) ∷ Some (number_as leads tx m) ∷ [];
     asks = λ z. asked (e z ∷ p z ∷ []);

@@ -13,7 +13,7 @@ use Rattle.kit_ops.specs.declared.kinds.KitOp.TheVariants as ops
 use Rattle.kit.specs.Meaning.{range, forwards_of}
 use Rattle.kit_ops.specs.Table.{row_of, has_interface}
 use Rattle.kit_views.specs.Reading.{Reading}
-use Rattle.kit_views.specs.FlatView.{IsOf, IsBranch}
+use Rattle.kit_views.specs.FlatView.{IsOf, IsFlatBranch}
 use Rattle.kit_views.proofs.Read.{Reads}
 
 -- lists
@@ -154,7 +154,7 @@ module _ {N : Names} {S : Contents} {A : Type 0} (d : Dialect S A) (r : Reading 
       law.forwards h.content (length h.operands) 1 ∙ ap (λ k. forwards_of k (r.first h.content) (length h.operands) 1) o.kind ∙ λ i. range (b i) (c i)
   two_forwards h x e e2 o f (suc (suc j)) g q = absurd (none_some g q)
 
-  pub from_branch : (h : Head N S) (s : Select) (xs : List N.value) (e : Edge N.value) (es : List (Edge N.value)) → IsBranch r names h s xs e es → IsForwarding d names h xs (e ∷ es)
+  pub from_branch : (h : Head N S) (s : Select) (xs : List N.value) (e : Edge N.value) (es : List (Edge N.value)) → IsFlatBranch r names h s xs e es → IsForwarding d names h xs (e ∷ es)
   from_branch h Plain [] e [] b = record {
     branch = law.branches h.content ∙ ap (λ k. has_interface k op.Branch) b.0.kind;
     effects = law.effects h.content ∙ ap (λ k. (row_of k).has_effects) b.0.kind;

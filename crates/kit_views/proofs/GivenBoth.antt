@@ -13,11 +13,11 @@ use Rattle.opt_trees.specs.Simplify.{all_of, stops, goes_on}
 use Rattle.kit_behaviour.specs.Facts.{all_forwarded}
 use Rattle.kit_behaviour.specs.Machine.{Plain, Nonzero, Cases, Op, Const, Calc, Emit, Call, Branch, Return, Block, Fun}
 use Rattle.kit_behaviour.specs.Machine.{ops_left, left_in, arguments_in}
-use Rattle.kit_behaviour.specs.SimplifiedNames.{AreApart}
+use Rattle.kit_behaviour.specs.SimplifiedNames.{DefinitionsAreApart}
 use Rattle.kit_behaviour.specs.Rules.{EndsWell}
 use Rattle.kit_behaviour.specs.Scopes.{In, is_in, defs, all_defs}
-use Rattle.kit_behaviour.specs.SimplifiedBlocks.{Reached, last_edge, count_to, edges_in, IsTaken, forwarded_to, IsGiven}
-use Rattle.kit_behaviour.specs.SimplifiedBlocks.{StandsFor, itself, passed_on, IsLaterArgument}
+use Rattle.kit_behaviour.specs.SimplifiedBlocks.{Reached, last_edge, count_to, edges_in, IsJoinedSet, forwarded_to, IsGivenInChain}
+use Rattle.kit_behaviour.specs.SimplifiedBlocks.{StandsForInChain, itself, passed_on, IsLaterArgument}
 use Rattle.kit_behaviour.proofs.ControlFlow.ChainLemmas.{gives_unique, last_in, edge_in}
 use Rattle.kit_behaviour.proofs.Propagation.ScopeLemmas.{in_split}
 use Rattle.kit_views.specs.Reading.{Reading}
@@ -45,7 +45,7 @@ has_to_in v (x ∷ xs) h = ⊎_elim (λ e. inl e) (λ k. inr (has_to_in v xs k))
 module _ {N : Names} {S : Contents} {A : Type 0} (d : Dialect S A) (r : Reading S) (law : Reads d r) (h : Head N S)
     (bs : Tree N S Blocks) (f : Fun N.value) (given : Given r h bs f) (ssa : d.is_ssa h.content 0 ≡ true)
     (good_ends : (b : ℕ) → b < length f → EndsWell (left_in (Some f) b 0))
-    (all_reached : (b : ℕ) → b < length f → Reached (Some f) b) (j : ℕ → Bool) (is_taken : IsTaken (Some f) j) where
+    (all_reached : (b : ℕ) → b < length f → Reached (Some f) b) (j : ℕ → Bool) (is_taken : IsJoinedSet (Some f) j) where
   abbrev There : N.block → N.block → Type 0
   There = JoinableThere d r law h bs f given ssa good_ends all_reached
 
@@ -76,7 +76,7 @@ module _ {N : Names} {S : Contents} {A : Type 0} (d : Dialect S A) (r : Reading 
       gives_unique t q.e (edges_in (Some f)) le (edge_in (Some f) q.e q.place
       (last_in (left_in (Some f) q.place 0) q.e last)) (given.blocks q.e.target t m q.target e)
 
-  to_flat_given : (v u : N.value) → GivenThere v u → IsGiven j (Some f) v u
+  to_flat_given : (v u : N.value) → GivenThere v u → IsGivenInChain j (Some f) v u
   to_flat_given v u g =
       let q = flat_end d r law h bs f given ssa good_ends all_reached g.from g.to g.joins in
       let y = block_pair r h bs f given g.joins.target g.joins.target_stands in
@@ -92,7 +92,7 @@ module _ {N : Names} {S : Contents} {A : Type 0} (d : Dialect S A) (r : Reading 
             ∙ sym (head_forwards g.from g.to g.joins q)) ∙ g.gives;
       }
 
-  to_tree_given : (v u : N.value) → IsGiven j (Some f) v u → GivenThere v u
+  to_tree_given : (v u : N.value) → IsGivenInChain j (Some f) v u → GivenThere v u
   to_tree_given v u g =
       let x = is_taken.there g.block g.later in
       let n = name_at r (names_in bs) bs f given.are x.0 (last_range f x.0 x.1.edge x.1.last) in
@@ -112,7 +112,7 @@ module _ {N : Names} {S : Contents} {A : Type 0} (d : Dialect S A) (r : Reading 
       }
 
   pub stands_for : (v u : N.value) → trees.Follows d (all_of (whole r h bs f)) (whole r h bs f) v u →
-      StandsFor j (Some f) v u
+      StandsForInChain j (Some f) v u
   stands_for _ _ (stops v none) = itself v v (λ w g. none w (to_tree_given v w g)) refl
   stands_for _ _ (goes_on v u x g m) = passed_on v u x (to_flat_given v u g) (stands_for u x m)
 
@@ -197,7 +197,7 @@ module _ {N : Names} {S : Contents} (r : Reading S) (h : Head N S) (bs : Tree N 
       (λ k. let q = a_result v ps k in record { op = q.op; stands = inr q.stands; has = q.has })
       (in_split v (defs p) (all_defs ps) i)
 
-  pub are_apart : AreApart (Some f)
+  pub are_apart : DefinitionsAreApart (Some f)
   are_apart = record {
     arguments = λ b c v i k.
         let x = at_has (arguments_in (Some f) b) v (in_to_has v (arguments_in (Some f) b) i) in

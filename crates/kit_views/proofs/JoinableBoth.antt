@@ -7,7 +7,7 @@ use Rattle.ir_trees.specs.Names.{Names, Contents}
 use Rattle.ir_trees.specs.Renames.{names_of}
 use Rattle.ir_trees.specs.Trees.{Defined, Head, Operations, Blocks, Tree, end, operation, block}
 use Rattle.opt_trees.specs.Dialect.{Dialect}
-use Rattle.opt_trees.specs.Occurrences.{Has, Occurrence, Site, Spot, inner, next_block, occurrences_in, occurrences_of}
+use Rattle.opt_trees.specs.Occurrences.{Has, Occurrence, OperationSite, Spot, inner, next_block, occurrences_in, occurrences_of}
 use Rattle.opt_trees.specs.Simplify as trees
 use Rattle.opt_trees.specs.Simplify.{is_empty, is_end, of_place, all_of, IsVisitedSsa}
 use Rattle.opt_trees.proofs.Lists.{some_same, none_some, length-map}
@@ -16,11 +16,11 @@ use Rattle.kit_behaviour.specs.Machine.{Edge, Op, Const, Calc, Emit, Call, Branc
 use Rattle.kit_behaviour.specs.Machine.{left_in}
 use Rattle.kit_behaviour.specs.Rules.{is_terminator, EndsWell}
 use Rattle.kit_behaviour.specs.SimplifiedBlocks.{edges_of, all_edges, LeadsTo, Reached, lone, last_edge, count_to}
-use Rattle.kit_behaviour.specs.SimplifiedBlocks.{blocks_edges, Joinable}
+use Rattle.kit_behaviour.specs.SimplifiedBlocks.{blocks_edges, BlocksAreJoinable}
 use Rattle.kit_behaviour.proofs.ControlFlow.ChainLemmas.{count_append, head_count, one_place, joinable_leads}
 use Rattle.kit_behaviour.proofs.ControlFlow.NamedChains.{no_edges}
 use Rattle.kit_views.specs.Reading.{Reading}
-use Rattle.kit_views.specs.FlatView.{IsOp, AreOps, AreBlocks, names_in}
+use Rattle.kit_views.specs.FlatView.{IsOp, AreOps, AreFlatBlocks, names_in}
 use Rattle.kit_views.proofs.Lists.{Distinct, has_get, at_has, to_distinct}
 use Rattle.kit_views.proofs.Read.{Reads}
 use Rattle.kit_views.proofs.Forwarded.{IsForwarding, from_branch, get_below}
@@ -123,7 +123,7 @@ module _ {V : Type 0} where
 
 module _ {N : Names} {S : Contents} (r : Reading S) (names : List N.block) where
   -- operations stand in the region of the root
-  site_spot : (ts : Tree N S Blocks) (ks : Fun N.value) (c : Spot N S) → AreBlocks r names ts ks →
+  site_spot : (ts : Tree N S Blocks) (ks : Fun N.value) (c : Spot N S) → AreFlatBlocks r names ts ks →
       (o : Occurrence N S) → Has o (occurrences_in ts c) →
       (o.site.spot.owner ≡ c.owner) × (o.site.spot.region ≡ c.region)
   site_spot end ks c a o i = absurd i
@@ -131,7 +131,7 @@ module _ {N : Names} {S : Contents} (r : Reading S) (names : List N.block) where
   site_spot (block l os more) (k ∷ ks) c a o i =
       ⊎_elim
       (λ y. let q = op_pairs r names os k.ops (record { spot = c; label = l }) a.1 o y in
-      (ap (λ (z : Site N S). z.spot.owner) q.where_it_is, ap (λ (z : Site N S). z.spot.region) q.where_it_is))
+      (ap (λ (z : OperationSite N S). z.spot.owner) q.where_it_is, ap (λ (z : OperationSite N S). z.spot.region) q.where_it_is))
       (λ y. site_spot more ks (next_block c) a.2 o y)
       (has-append o (occurrences_in os (record { spot = c; label = l })) (occurrences_in more (next_block c)) i)
 
@@ -152,7 +152,7 @@ module _ {N : Names} {S : Contents} (r : Reading S) (names : List N.block) where
       none_at (x ∷ xs) n i q w = cc q
 
   -- of the operations of a block one names successors
-  one_end_ops : (os : Tree N S Operations) (ps : List (Op N.value)) (c : Site N S) → AreOps r names os ps →
+  one_end_ops : (os : Tree N S Operations) (ps : List (Op N.value)) (c : OperationSite N S) → AreOps r names os ps →
       EndsWell ps → (o z : Occurrence N S) → Has o (occurrences_in os c) → Has z (occurrences_in os c) → Leads o →
       Leads z → o ≡ z
   unfolding Leads
@@ -177,7 +177,7 @@ module _ {N : Names} {S : Contents} (r : Reading S) (names : List N.block) where
           (λ x. ⊎_elim (λ y. absurd (subst (λ z. Has o (occurrences_in z (inner h c))) a.0 y)) (λ y. y)
           (has-append o (occurrences_in rs (inner h c)) (occurrences_in (operation g qs more) c) x)) i
 
-  one_end : (ts : Tree N S Blocks) (ks : Fun N.value) (c : Spot N S) → AreBlocks r names ts ks →
+  one_end : (ts : Tree N S Blocks) (ks : Fun N.value) (c : Spot N S) → AreFlatBlocks r names ts ks →
       Distinct (names_in ts) → ((b : ℕ) → b < length ks → EndsWell (left_in (Some ks) b 0)) → (o z : Occurrence N S) →
       Has o (occurrences_in ts c) → Has z (occurrences_in ts c) → o.site.label.name ≡ z.site.label.name →
       (n : N.block) → Has n o.head.successors → Has n z.head.successors → o ≡ z
@@ -202,7 +202,7 @@ module _ {N : Names} {S : Contents} (r : Reading S) (names : List N.block) where
           let p = pairs r names more ks (next_block c) a.2 o x in
           let q = op_pairs r names os j.ops (record { spot = c; label = l }) a.1 z y in
           dn.0 (has_get (names_in more) p.place l.name (p.name
-          ∙ ap Some (e ∙ ap (λ (s : Site N S). s.label.name) q.where_it_is)))
+          ∙ ap Some (e ∙ ap (λ (s : OperationSite N S). s.label.name) q.where_it_is)))
 
 -- 3. both
 
@@ -314,7 +314,7 @@ module _ {N : Names} {S : Contents} {A : Type 0} (d : Dialect S A) (r : Reading 
           }
 
   pub to_flat_join : (n m : N.block) → JoinableThere n m → (b t : ℕ) → slice_get (names_in bs) b ≡ Some n →
-      slice_get (names_in bs) t ≡ Some m → Joinable (Some f) b t
+      slice_get (names_in bs) t ≡ Some m → BlocksAreJoinable (Some f) b t
   to_flat_join n m x b t nb mt =
       let q = flat_end n m x in
       let l = end_edges n m x.last q in
@@ -324,7 +324,7 @@ module _ {N : Names} {S : Contents} {A : Type 0} (d : Dialect S A) (r : Reading 
       let at_t : y.place ≡ t = given.blocks y.place t m (y.same.name ∙ ap Some x.target_name) mt in
       let here : count_to t (all_edges (left_in (Some f) q.place 0)) ≡ 1 =
       ap (λ o. count_to t (all_edges (ops_left o 0))) q.at ∙ (ap (count_to t) l.1 ∙ head_count t q.e [] z) in
-      subst (λ w. Joinable (Some f) w t) at_b (record {
+      subst (λ w. BlocksAreJoinable (Some f) w t) at_b (record {
         edge = q.e;
         last = ap (λ o. last_edge (ops_left o 0)) q.at ∙ l.0;
         target = z;
@@ -354,7 +354,7 @@ module _ {N : Names} {S : Contents} {A : Type 0} (d : Dialect S A) (r : Reading 
       }
 
   -- the operation of the tree that a flat block of a chain ends in
-  pub to_tree_join : (b t : ℕ) → Joinable (Some f) b t → (n m : N.block) → slice_get (names_in bs) b ≡ Some n →
+  pub to_tree_join : (b t : ℕ) → BlocksAreJoinable (Some f) b t → (n m : N.block) → slice_get (names_in bs) b ≡ Some n →
       slice_get (names_in bs) t ≡ Some m → JoinableThere n m
   to_tree_join b t x n m nb mt = by_block (slice_get f b) refl x.last
     where

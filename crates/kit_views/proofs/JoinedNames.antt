@@ -5,16 +5,16 @@ use Rattle.std.specs.Prelude.{slice_get}
 use Rattle.ir_trees.specs.Names.{Names, Contents}
 use Rattle.ir_trees.specs.Trees.{Head, Label, Sort, Operations, Blocks, Tree, end, operation, block, region}
 use Rattle.opt_trees.specs.Dialect.{Dialect}
-use Rattle.opt_trees.specs.Occurrences.{Has, Occurrence, BlockOccurrence, Site, Spot, next_block, inner, occurrences_in}
+use Rattle.opt_trees.specs.Occurrences.{Has, Occurrence, BlockOccurrence, OperationSite, Spot, next_block, inner, occurrences_in}
 use Rattle.opt_trees.specs.Occurrences.{occurrences_of, block_occurrences_in, block_occurrences_of}
 use Rattle.opt_trees.specs.Simplify.{but_last, append}
 use Rattle.opt_trees.proofs.NoneDead.{has-append, has-left, has-right}
 use Rattle.kit_behaviour.specs.Machine.{Fun, left_in}
 use Rattle.kit_behaviour.specs.Rules.{EndsWell}
-use Rattle.kit_behaviour.specs.SimplifiedBlocks.{Reached, Joinable, IsTaken}
+use Rattle.kit_behaviour.specs.SimplifiedBlocks.{Reached, BlocksAreJoinable, IsJoinedSet}
 use Rattle.kit_behaviour.proofs.ControlFlow.ChainLemmas.{one_before}
 use Rattle.kit_views.specs.Reading.{Reading}
-use Rattle.kit_views.specs.FlatView.{AreOps, AreBlocks, names_in}
+use Rattle.kit_views.specs.FlatView.{AreOps, AreFlatBlocks, names_in}
 use Rattle.kit_views.proofs.Lists.{Distinct, Sub, sub_all, sub_none, sub_append, sub_has, sub_distinct}
 use Rattle.kit_views.proofs.Pairs.{op_pairs, no_blocks}
 use Rattle.kit_views.proofs.Read.{Reads}
@@ -74,7 +74,7 @@ module _ {N : Names} {S : Contents} {X : Type 0} (F : Head N S → List X) (G : 
     pub stands : Has it os
     pub has : Has x (F it.head)
 
-  from_ops : (os : Tree N S Operations) (c : Site N S) → NoRegions os → (x : X) → Has x (all_in os) →
+  from_ops : (os : Tree N S Operations) (c : OperationSite N S) → NoRegions os → (x : X) → Has x (all_in os) →
       FromOp (occurrences_in os c) x
   from_ops end c b x i = absurd i
   from_ops (operation o rs more) c b x i =
@@ -93,7 +93,7 @@ module _ {N : Names} {S : Contents} {X : Type 0} (F : Head N S → List X) (G : 
 
   -- a block's operations stand in the tree, and so does what they have
   module _ (r : Reading S) (names : List N.block) where
-    block_stand : (ts : Tree N S Blocks) (ks : Fun N.value) (c : Spot N S) → AreBlocks r names ts ks →
+    block_stand : (ts : Tree N S Blocks) (ks : Fun N.value) (c : Spot N S) → AreFlatBlocks r names ts ks →
         (x : BlockOccurrence N S) → Has x (block_occurrences_in ts c) → (o : Occurrence N S) →
         Has o (occurrences_in x.operations (record { spot = x.spot; label = x.label })) → Has o (occurrences_in ts c)
     block_stand end ks c a x i o w = absurd i
@@ -110,7 +110,7 @@ module _ {N : Names} {S : Contents} {X : Type 0} (F : Head N S → List X) (G : 
         (has-append x (block_occurrences_in os (record { spot = c; label = l }))
         (block_occurrences_in more (next_block c)) y)) i
 
-    block_sub : (ts : Tree N S Blocks) (ks : Fun N.value) (c : Spot N S) → AreBlocks r names ts ks →
+    block_sub : (ts : Tree N S Blocks) (ks : Fun N.value) (c : Spot N S) → AreFlatBlocks r names ts ks →
         (x : BlockOccurrence N S) → Has x (block_occurrences_in ts c) →
         Sub (all_in x.operations) (all_in ts) × Sub (G x.label) (all_in ts)
     block_sub end ks c a x i = absurd i
@@ -138,9 +138,9 @@ module _ {N : Names} {S : Contents} {X : Type 0} (F : Head N S → List X) (G : 
 -- the block c is the nth further one in the chain of b
 pub data InChain {V : Type 0} (f : Fun V) (j : ℕ → Bool) : ℕ → ℕ → ℕ → Type 0 where
   starts : (b c n : ℕ) → b ≡ c → n ≡ 0 → j c ≡ false → InChain f j b c n
-  steps : (b c t n m : ℕ) → m ≡ suc n → Joinable (Some f) c t → InChain f j b c n → InChain f j b t m
+  steps : (b c t n m : ℕ) → m ≡ suc n → BlocksAreJoinable (Some f) c t → InChain f j b c n → InChain f j b t m
 
-chain_one : {V : Type 0} (f : Fun V) (j : ℕ → Bool) → IsTaken (Some f) j → (a b c n m : ℕ) → InChain f j a c n →
+chain_one : {V : Type 0} (f : Fun V) (j : ℕ → Bool) → IsJoinedSet (Some f) j → (a b c n m : ℕ) → InChain f j a c n →
     InChain f j b c m → (a ≡ b) × (n ≡ m)
 chain_one f j is a b c n m (starts a1 c1 n1 e z w) (starts b2 c2 m2 q y v) = (e ∙ sym q, z ∙ sym y)
 chain_one f j is a b c n m (starts a1 c1 n1 e z w) (steps b2 c2 t2 n2 m2 y x g) =
@@ -156,7 +156,7 @@ module _ {N : Names} {S : Contents} {X : Type 0} (F : Head N S → List X) (G : 
     (d : Dialect S A) (r : Reading S) (law : Reads d r) (h : Head N S) (bs : Tree N S Blocks) (f : Fun N.value)
     (given : Given r h bs f) (ssa : d.is_ssa h.content 0 ≡ true)
     (good_ends : (b : ℕ) → b < length f → EndsWell (left_in (Some f) b 0))
-    (all_reached : (b : ℕ) → b < length f → Reached (Some f) b) (j : ℕ → Bool) (is_taken : IsTaken (Some f) j)
+    (all_reached : (b : ℕ) → b < length f → Reached (Some f) b) (j : ℕ → Bool) (is_taken : IsJoinedSet (Some f) j)
     (apart : Distinct (all_in F G bs))
     (one_op : (o p : Occurrence N S) (x : X) → Has o (occurrences_of (whole r h bs f)) →
     Has p (occurrences_of (whole r h bs f)) → Has x (F o.head) → Has x (F p.head) → o ≡ p)
@@ -214,7 +214,7 @@ module _ {N : Names} {S : Contents} {X : Type 0} (F : Head N S → List X) (G : 
       site_label : (o : Occurrence N S) → Has o (occurrences_in st.it.operations
           (record { spot = st.it.spot; label = st.it.label })) → o.site.label ≡ st.it.label
       site_label o w =
-          ap (λ (z : Site N S). z.label) (op_pairs r (names_in bs) st.it.operations st.k.ops
+          ap (λ (z : OperationSite N S). z.label) (op_pairs r (names_in bs) st.it.operations st.k.ops
           (record { spot = st.it.spot; label = st.it.label })
           (subst (λ z. AreOps r (names_in bs) z st.k.ops) (sym st.is) st.ops) o w).where_it_is
 

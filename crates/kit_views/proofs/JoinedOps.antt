@@ -11,12 +11,12 @@ use Rattle.kit_behaviour.specs.Facts.{all_forwarded}
 use Rattle.kit_behaviour.specs.JoinedBlocks.{joined}
 use Rattle.kit_behaviour.specs.Machine.{AllEdges, Edge, Plain, Nonzero, Cases, Op, Const, Calc, Emit, Call, Branch}
 use Rattle.kit_behaviour.specs.Machine.{Return, Block, Fun, ops_left, left_in, arguments_of}
-use Rattle.kit_behaviour.specs.SimplifiedNames.{AreApart}
+use Rattle.kit_behaviour.specs.SimplifiedNames.{DefinitionsAreApart}
 use Rattle.kit_behaviour.specs.RemovedValues.{thin_ops, thin_block}
 use Rattle.kit_behaviour.specs.Replacement.{replace_edge, replace_op, replace_block}
 use Rattle.kit_behaviour.specs.Rules.{EndsWell}
 use Rattle.kit_behaviour.specs.Scopes.{In}
-use Rattle.kit_behaviour.specs.SimplifiedBlocks.{all_edges, Reached, Joinable, IsTaken, Depth, top, below, between}
+use Rattle.kit_behaviour.specs.SimplifiedBlocks.{all_edges, Reached, BlocksAreJoinable, IsJoinedSet, Depth, top, below, between}
 use Rattle.kit_behaviour.specs.SimplifiedBlocks.{retarget, retarget_block, keep_blocks, join_block, IsLaterArgument}
 use Rattle.kit_behaviour.proofs.DeadCode.RemovalBehaviour.{thin_left}
 use Rattle.kit_behaviour.proofs.Lattice.ReplacementBehaviour.{replace_left}
@@ -24,7 +24,7 @@ use Rattle.kit_behaviour.proofs.ControlFlow.NamedChains.{front, front_edges, eac
 use Rattle.kit_behaviour.proofs.ControlFlow.NamedChains.{argument_stays, stays_free, chain_ends, chain_goes_on}
 use Rattle.kit_ops.specs.declared.kinds.KitOp.{KitOp}
 use Rattle.kit_views.specs.Reading.{Reading}
-use Rattle.kit_views.specs.FlatView.{IsOf, IsOp, AreOps, AreBlocks, names_in}
+use Rattle.kit_views.specs.FlatView.{IsOf, IsOp, AreOps, AreFlatBlocks, names_in}
 use Rattle.kit_views.proofs.Read.{Reads}
 use Rattle.kit_views.proofs.Forwarded.{get_below}
 use Rattle.kit_views.proofs.Uses.{true_false}
@@ -122,8 +122,8 @@ module _ {N : Names} {S : Contents} where
 module _ {N : Names} {S : Contents} {A : Type 0} (d : Dialect S A) (r : Reading S) (law : Reads d r) (h : Head N S)
     (bs : Tree N S Blocks) (f : Fun N.value) (given : Given r h bs f) (ssa : d.is_ssa h.content 0 ≡ true)
     (good_ends : (b : ℕ) → b < length f → EndsWell (left_in (Some f) b 0))
-    (all_reached : (b : ℕ) → b < length f → Reached (Some f) b) (apart : AreApart (Some f)) (j : ℕ → Bool)
-    (is_taken : IsTaken (Some f) j) (gone : N.value → Bool)
+    (all_reached : (b : ℕ) → b < length f → Reached (Some f) b) (apart : DefinitionsAreApart (Some f)) (j : ℕ → Bool)
+    (is_taken : IsJoinedSet (Some f) j) (gone : N.value → Bool)
     (there : (v : N.value) → gone v ≡ true → IsLaterArgument j (Some f) v)
     (back : (v : N.value) → IsLaterArgument j (Some f) v → gone v ≡ true) (s : N.value → N.value) (most : ℕ)
     (long : (b n : ℕ) → Depth (Some f) j b n → n ≤ most) where
@@ -172,12 +172,12 @@ module _ {N : Names} {S : Contents} {A : Type 0} (d : Dialect S A) (r : Reading 
     joined_at m b = joined j (f2 (Some f) apart j is_taken gone there back s) m
         (left_in (f2 (Some f) apart j is_taken gone there back s) b 0)
 
-    ends_chain : (m b : ℕ) → ((t : ℕ) → Joinable (Some f) b t → ⊥) →
+    ends_chain : (m b : ℕ) → ((t : ℕ) → BlocksAreJoinable (Some f) b t → ⊥) →
         joined_at m b ≡ map (replace_op s) (left_in (Some f) b 0)
     ends_chain m b none = chain_ends (Some f) apart j is_taken gone there back s good_ends given.edges most long m b
         none
 
-    goes_on_chain : (m b t : ℕ) → b < length f → Joinable (Some f) b t →
+    goes_on_chain : (m b t : ℕ) → b < length f → BlocksAreJoinable (Some f) b t →
         joined_at (suc m) b ≡ map (replace_op s) (front (left_in (Some f) b 0)) ++ joined_at m t
     goes_on_chain m b t l x = chain_goes_on (Some f) apart j is_taken gone there back s good_ends given.edges most long
         m b t l x
@@ -246,20 +246,20 @@ module _ {N : Names} {S : Contents} {A : Type 0} (d : Dialect S A) (r : Reading 
         omega arith in ap (slice_get f) (sym y) ∙ fs (suc m) z e
 
     pub blocks_joined : (i : ℕ) (ts more : Tree N S Blocks) → Blocks_from i ts more → At i ts → (ks : Fun N.value) →
-        AreBlocks r (names_in bs) ts ks → ((m : ℕ) (k : Block N.value) → slice_get ks m ≡ Some k →
-        slice_get f (i + m) ≡ Some k) → AreBlocks r others (use_instead s more)
+        AreFlatBlocks r (names_in bs) ts ks → ((m : ℕ) (k : Block N.value) → slice_get ks m ≡ Some k →
+        slice_get f (i + m) ≡ Some k) → AreFlatBlocks r others (use_instead s more)
         (keep_blocks stay number i (all_chained ks))
     blocks_joined _ _ _ (no_more i) st [] a fs = tt
     blocks_joined _ _ _ (no_more i) st (k ∷ ks) a fs = absurd a
     blocks_joined _ _ _ (later i l os rest more q x) st [] a fs = absurd a
     blocks_joined _ _ _ (later i l os rest more q x) st (k ∷ ks) a fs =
-        subst (AreBlocks r others (use_instead s more))
+        subst (AreFlatBlocks r others (use_instead s more))
         (sym (ap (λ b. if b then retarget_block number (with_chain k) ∷ keep_blocks stay number (suc i)
         (all_chained ks) else keep_blocks stay number (suc i) (all_chained ks)) (ap not q)))
         (blocks_joined (suc i) rest more x st.1 ks a.2 (next_blocks i k ks fs))
     blocks_joined _ _ _ (head i l os all rest more q c x) st [] a fs = absurd a
     blocks_joined _ _ _ (head i l os all rest more q c x) st (k ∷ ks) a fs =
-        subst (AreBlocks r others (block l (use_instead s all) (use_instead s more)))
+        subst (AreFlatBlocks r others (block l (use_instead s all) (use_instead s more)))
         (sym (ap (λ b. if b then retarget_block number (with_chain k) ∷ keep_blocks stay number (suc i)
         (all_chained ks) else keep_blocks stay number (suc i) (all_chained ks)) (ap not q))) (
           a.0 ∙ sym (live_all gone k.arguments (λ v w. argument_stays (Some f) apart j is_taken gone there back s i q v

@@ -13,14 +13,14 @@ use Rattle.opt_trees.specs.Simplify.{all_of, use_head, use_instead, IsJoined}
 use Rattle.opt_trees.proofs.Lists.{map-map, map-append, has-map}
 use Rattle.kit_behaviour.specs.Machine.{Block, Fun, left_in}
 use Rattle.kit_behaviour.specs.Rules.{EndsWell}
-use Rattle.kit_behaviour.specs.SimplifiedBlocks.{Reached, IsTaken, Depth, between, keep_blocks, IsLaterArgument, merged}
+use Rattle.kit_behaviour.specs.SimplifiedBlocks.{Reached, IsJoinedSet, Depth, between, keep_blocks, IsLaterArgument, merged}
 use Rattle.kit_behaviour.proofs.ControlFlow.NamedChains.{merged_fits}
 use Rattle.kit_behaviour.proofs.ControlFlow.SimplifyBehaviour.{depth_few}
 use Rattle.kit_behaviour.proofs.ControlFlow.SimplifyExists.{taken_exists}
 use Rattle.kit_ops.specs.declared.types.KitType.{KitType}
 use Rattle.kit.specs.Meaning.{kit, is_module}
 use Rattle.kit_views.specs.Reading.{Reading, kit_contents, kit_reading}
-use Rattle.kit_views.specs.FlatView.{IsSameness, AreBlocks, names_in, IsFlat}
+use Rattle.kit_views.specs.FlatView.{IsSameness, AreFlatBlocks, names_in, FlattensTo}
 use Rattle.kit_views.specs.Laws.{IsMergedFlat}
 use Rattle.kit_views.proofs.Definers.{heads_are}
 use Rattle.kit_views.proofs.Lists.{Distinct, to_distinct, from_distinct, Sub, sub_distinct}
@@ -96,7 +96,7 @@ module _ {N : Names} {S : Contents} {A : Type 0} (d : Dialect S A) (r : Reading 
   abbrev j : ℕ → Bool
   j = (taken_exists (Some f)).0
 
-  is_taken : IsTaken (Some f) j
+  is_taken : IsJoinedSet (Some f) j
   is_taken = (taken_exists (Some f)).1
 
   abbrev T : Root N S
@@ -196,14 +196,14 @@ module _ {N : Names} {S : Contents} {A : Type 0} (d : Dialect S A) (r : Reading 
       abbrev rest : Fun N.value
       rest = keep_blocks stays new_number 0 chained
 
-      are : AreBlocks r others (use_instead s more) rest
+      are : AreFlatBlocks r others (use_instead s more) rest
       are =
           blocks_joined d r law h bs f given ssa good_ends all_reached
           (are_apart r h bs f given) j is_taken G there back s (length f) long others stand 0 bs more joined
           (all_stand d r law h bs f given ssa good_ends all_reached) f given.are
           (λ m k e. let z : 0 + m ≡ m = omega arith in ap (slice_get f) z ∙ e)
 
-      flat : IsFlat r (record { head = use_head s h; regions = use_instead s (region more end) }) rest
+      flat : FlattensTo r (record { head = use_head s h; regions = use_instead s (region more end) }) rest
       flat = record {
         view = record {
           function = given.function;
@@ -250,12 +250,12 @@ module _ {N : Names} {S : Contents} {A : Type 0} (d : Dialect S A) (r : Reading 
           long = long m.0 m.2 w.names;
           is = is_merged m.0 m.2 w.names;
         };
-        is_view = subst (λ z. IsFlat r z (rest m.0 m.2 w.names)) (sym e) (flat m.0 m.2 w.names);
+        is_view = subst (λ z. FlattensTo r z (rest m.0 m.2 w.names)) (sym e) (flat m.0 m.2 w.names);
       }
 
 pub chains_merged : {N : Names} (same : N.value → N.value → Bool) (leads : TypeHandle → Option KitType)
     (numbered : List ℕ → ℕ) (t after : Root N kit_contents) (f : Fun N.value) → IsSameness same →
-    IsFlat (kit_reading leads numbered) t f → ((b : ℕ) → b < length f → EndsWell (left_in (Some f) b 0)) →
+    FlattensTo (kit_reading leads numbered) t f → ((b : ℕ) → b < length f → EndsWell (left_in (Some f) b 0)) →
     ((b : ℕ) → b < length f → Reached (Some f) b) → IsJoined kit (all_of t) t after →
     IsMergedFlat (kit_reading leads numbered) f after
 chains_merged {N} same leads numbered t after f sameness is_flat good_ends all_reached joined =

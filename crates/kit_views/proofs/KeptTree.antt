@@ -14,7 +14,7 @@ use Rattle.opt_trees.proofs.Lists.{map-append, some_same, length-map}
 use Rattle.kit_behaviour.specs.Facts.{all_forwarded}
 use Rattle.kit_behaviour.specs.Machine.{AllEdges, Edge, Plain, Nonzero, Cases, Op, Const, Calc, Emit, Call, Branch}
 use Rattle.kit_behaviour.specs.Machine.{Return, Block, Fun, left_in}
-use Rattle.kit_behaviour.specs.SimplifiedBlocks.{edges_of, all_edges, Reached, further, IsReached, between}
+use Rattle.kit_behaviour.specs.SimplifiedBlocks.{edges_of, all_edges, Reached, further, IsReachedSet, between}
 use Rattle.kit_behaviour.specs.SimplifiedBlocks.{retarget_edge, retarget, retarget_block, keep_blocks}
 use Rattle.kit_behaviour.proofs.ControlFlow.ChainLemmas.{in_leads}
 use Rattle.kit_behaviour.proofs.ControlFlow.JoiningPremises.{edges_by}
@@ -24,7 +24,7 @@ use Rattle.kit_ops.specs.declared.kinds.KitOp.{KitOp}
 use Rattle.kit_ops.specs.declared.types.KitType.{KitType}
 use Rattle.kit.specs.Meaning.{kit, is_module}
 use Rattle.kit_views.specs.Reading.{Reading, kit_contents, kit_reading}
-use Rattle.kit_views.specs.FlatView.{IsOf, IsOp, AreOps, AreBlocks, names_in, IsFlat}
+use Rattle.kit_views.specs.FlatView.{IsOf, IsOp, AreOps, AreFlatBlocks, names_in, FlattensTo}
 use Rattle.kit_views.specs.Laws.{IsCutFlat}
 use Rattle.kit_views.proofs.Lists.{Sub, sub_all, sub_none, sub_append, sub_distinct, to_distinct, from_distinct}
 use Rattle.kit_views.proofs.Pairs.{AreSame}
@@ -227,7 +227,7 @@ module _ {N : Names} {S : Contents} (r : Reading S) (gone : N.block → Bool) (s
       slice_get others (between stay 0 t) ≡ slice_get names t) where
     blocks_same : (i : ℕ) (ts : Tree N S Blocks) (ks : Fun N.value) → Agree i ts →
         ((m : ℕ) → stay (i + m) ≡ true → AllEdges (λ x. stay x.target ≡ true) (all_edges (left_in (Some ks) m 0))) →
-        AreBlocks r names ts ks → AreBlocks r others (trees.keep gone ts) (keep_blocks stay (between stay 0) i ks)
+        AreFlatBlocks r names ts ks → AreFlatBlocks r others (trees.keep gone ts) (keep_blocks stay (between stay 0) i ks)
     blocks_same i end [] ag w a = tt
     blocks_same i end (k ∷ ks) ag w a = absurd a
     blocks_same i (block l os more) [] ag w a = absurd a
@@ -236,9 +236,9 @@ module _ {N : Names} {S : Contents} (r : Reading S) (gone : N.block → Bool) (s
         (blocks_same (suc i) more ks (next_agree i l.name more ag)
         (λ m e. let s : i + suc m ≡ suc i + m = omega arith in w (suc m) (ap stay s ∙ e)) a.2)
       where
-        by_test : (x y : Bool) → stay i ≡ y → x ≡ not y → AreBlocks r others (trees.keep gone more)
+        by_test : (x y : Bool) → stay i ≡ y → x ≡ not y → AreFlatBlocks r others (trees.keep gone more)
             (keep_blocks stay (between stay 0) (suc i) ks) →
-            AreBlocks r others (if x then trees.keep gone more else block l (trees.keep gone os) (trees.keep gone more))
+            AreFlatBlocks r others (if x then trees.keep gone more else block l (trees.keep gone os) (trees.keep gone more))
             (if y then retarget_block (between stay 0) k ∷ keep_blocks stay (between stay 0)
             (suc i) ks else keep_blocks stay (between stay 0) (suc i) ks)
         by_test true true e q m = absurd (cc q)
@@ -260,7 +260,7 @@ module _ {N : Names} {S : Contents} {A : Type 0} (d : Dialect S A) (r : Reading 
     abbrev pub reach : ℕ → Bool
     reach = flat_set r h bs f given cut.reach
 
-    pub is_reach : IsReached (Some f) reach
+    pub is_reach : IsReachedSet (Some f) reach
     is_reach = set_reached r h bs f given cut.reach cut.reached cut.all_reached
 
     visited : (x : BlockOccurrence N S) (b : ℕ) (k : Block N.value) →
@@ -301,8 +301,8 @@ module _ {N : Names} {S : Contents} {A : Type 0} (d : Dialect S A) (r : Reading 
         (names_in bs) t
     there t e = let s : 0 + t ≡ t = omega arith in kept_names r cut.gone reach 0 t bs agree (ap reach s ∙ e)
 
-    pub cut_flat : IsFlat r after (keep_blocks reach (between reach 0) 0 f)
-    cut_flat = subst (λ z. IsFlat r z (keep_blocks reach (between reach 0) 0 f)) (sym cut.is) (record {
+    pub cut_flat : FlattensTo r after (keep_blocks reach (between reach 0) 0 f)
+    cut_flat = subst (λ z. FlattensTo r z (keep_blocks reach (between reach 0) 0 f)) (sym cut.is) (record {
       view = record {
         function = given.function;
         no_operands = given.no_operands;
@@ -327,7 +327,7 @@ module _ {N : Names} {S : Contents} {A : Type 0} (d : Dialect S A) (r : Reading 
     })
 
 pub unreached_cut : {N : Names} (leads : TypeHandle → Option KitType) (numbered : List ℕ → ℕ)
-    (t after : Root N kit_contents) (f : Fun N.value) → IsFlat (kit_reading leads numbered) t f →
+    (t after : Root N kit_contents) (f : Fun N.value) → FlattensTo (kit_reading leads numbered) t f →
     IsCut kit (all_of t) t after → IsCutFlat (kit_reading leads numbered) f after
 unreached_cut {N} leads numbered t after f flat cut =
     let r : Reading kit_contents = kit_reading leads numbered in

@@ -5,7 +5,7 @@ use Rattle.std.specs.Prelude.{◌↔◌, not, ◌&&◌, if◌then◌else◌}
 use Rattle.ir_base.specs.declared.types.TypeHandle.{TypeHandle}
 use Rattle.ir_trees.specs.Names.{Names, Contents}
 use Rattle.ir_trees.specs.Trees.{Head, Regions, Sort, Tree, Root, end, operation, block, region}
-use Rattle.opt_trees.specs.Dce.{Around}
+use Rattle.opt_trees.specs.Dce.{TreeSurroundings}
 use Rattle.opt_trees.specs.Dialect.{Dialect}
 use Rattle.opt_trees.specs.Occurrences.{Has, Occurrence, Inside, inner, next_block, next_region, at_root}
 use Rattle.opt_trees.specs.Occurrences.{occurrences_in, defined_in}
@@ -24,15 +24,15 @@ use Rattle.kit_views.specs.Typed.{IsTyped}
 use Rattle.kit_views.proofs.Lists.{in_has, has_in}
 
 -- what is known alone of the values of the tree, and of no others
-abbrev pub own_alone : {N : Names} → (N.value → N.value → Bool) → Root N kit_contents → Around N IntegerAttr →
-    Around N IntegerAttr
+abbrev pub own_alone : {N : Names} → (N.value → N.value → Bool) → Root N kit_contents → TreeSurroundings N IntegerAttr →
+    TreeSurroundings N IntegerAttr
 own_alone same t w = record {
   alone = λ v. if is_in same v (defined_in t.regions) then w.alone v else None;
   is_pinned = w.is_pinned;
 }
 
 -- exactly the results of constants are known alone
-abbrev pub KnowsExactly : {N : Names} → Around N IntegerAttr → Root N kit_contents → Type 0
+abbrev pub KnowsExactly : {N : Names} → TreeSurroundings N IntegerAttr → Root N kit_contents → Type 0
 KnowsExactly {N} w t = (v : N.value) (a : IntegerAttr) → (w.alone v ≡ Some a) ↔ IsConstantOf w t v a
 
 map_alike : {X Y : Type 0} (f g : X → Y) (xs : List X) → ((x : X) → Has x xs → f x ≡ g x) → map f xs ≡ map g xs
@@ -70,9 +70,9 @@ module _ {N : Names} {S : Contents} {A : Type 0} (d : Dialect S A) (f g : N.valu
       (decide_alike rest (next_region c) (λ o has. alike o
       (has-right o (occurrences_in bs c) (occurrences_in rest (next_region c)) has)) i)
 
-module _ {N : Names} (same : N.value → N.value → Bool) (sameness : IsSameness same) (w : Around N IntegerAttr)
+module _ {N : Names} (same : N.value → N.value → Bool) (sameness : IsSameness same) (w : TreeSurroundings N IntegerAttr)
     (t : Root N kit_contents) where
-  abbrev own : Around N IntegerAttr
+  abbrev own : TreeSurroundings N IntegerAttr
   own = own_alone same t w
 
   -- of a value of the tree as much is known
@@ -107,7 +107,7 @@ module _ {N : Names} (same : N.value → N.value → Bool) (sameness : IsSamenes
   )
 
 pub decided_own : {N : Names} (same : N.value → N.value → Bool) (leads : TypeHandle → Option KitType)
-    (type_at : N.value → TypeHandle) (w : Around N IntegerAttr) (t : Root N kit_contents) → IsSameness same
+    (type_at : N.value → TypeHandle) (w : TreeSurroundings N IntegerAttr) (t : Root N kit_contents) → IsSameness same
     → IsTyped leads {N = N} type_at t → KnowsConstants w t
     → KnowsExactly (own_alone same t w) t × (decided kit (own_alone same t w) t ≡ decided kit w t)
 decided_own same leads type_at w t sameness typed knows = (

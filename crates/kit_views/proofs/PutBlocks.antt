@@ -6,7 +6,7 @@ use Rattle.ir_base.specs.declared.types.TypeHandle.{TypeHandle}
 use Rattle.ir_trees.specs.Names.{Names}
 use Rattle.ir_trees.specs.Renames.{names_of}
 use Rattle.ir_trees.specs.Trees.{Defined, Head, Operations, Blocks, Tree, end, operation, block}
-use Rattle.opt_trees.specs.Occurrences.{Has, Occurrence, Site, Spot, inner, next_block, occurrences_in}
+use Rattle.opt_trees.specs.Occurrences.{Has, Occurrence, OperationSite, Spot, inner, next_block, occurrences_in}
 use Rattle.opt_trees.specs.Sccp.{Name, Old, fresh, put_one, put_results, put_arguments, old_head, put}
 use Rattle.opt_trees.proofs.Lists.{names-map}
 use Rattle.opt_trees.proofs.NoneDead.{has-left, has-right}
@@ -15,13 +15,13 @@ use Rattle.kit_behaviour.specs.InsertedConstants.{put_if, put_args, put_before, 
 use Rattle.kit_behaviour.specs.Machine.{AllEdges, Edge, Op, Const, Calc, Emit, Call, Branch, Return, Block, Fun, ops_left, left_in, arguments_of, arguments_in, size}
 use Rattle.kit_behaviour.specs.Renaming.{rename_block, rename_edge, same_block}
 use Rattle.kit_behaviour.specs.Replacement.{replace_block, replace_edge}
-use Rattle.kit_behaviour.specs.Rules.{EdgeFits, EdgesFit, AllEdgesFit}
+use Rattle.kit_behaviour.specs.Rules.{EdgeFits, EdgesOfOpFit, AllEdgesFit}
 use Rattle.kit_behaviour.specs.Scopes.{SameLength}
 use Rattle.kit_ops.specs.declared.attributes.IntegerAttr.{IntegerAttr}
 use Rattle.kit_ops.specs.declared.types.KitType.{KitType}
 use Rattle.kit.specs.Meaning.{kit}
 use Rattle.kit_views.specs.Reading.{kit_contents, kit_reading}
-use Rattle.kit_views.specs.FlatView.{IsOp, AreOps, AreBlocks, names_in}
+use Rattle.kit_views.specs.FlatView.{IsOp, AreOps, AreFlatBlocks, names_in}
 use Rattle.kit_views.specs.FlatConstants.{as_name}
 use Rattle.kit_views.proofs.Calculated.{IsCalculated}
 use Rattle.kit_views.proofs.PutIn.{numbers, after_op, after_edge, old_edge, after_ops, olds_same, old_op, length_map}
@@ -31,11 +31,11 @@ module _ {N : Names} (leads : TypeHandle → Option KitType) (numbered : List �
   Ops os ps = AreOps {N = fresh N} (kit_reading leads numbered) names os ps
 
   -- a constant
-  constant_put : (v : N.value) (o : Option IntegerAttr) (rest : Tree (fresh N) kit_contents Operations) (fr : List (Op (flat.Name N.value))) → Ops rest (after_ops made fr) → Ops (put_one {N = N} kit v o rest) (after_ops made (put_if (option_map (λ (a : IntegerAttr). a.bits) o) v fr))
+  constant_put : (v : N.value) (o : Option IntegerAttr) (rest : Tree (fresh N) kit_contents Operations) (fr : List (Op (flat.OldOrNewName N.value))) → Ops rest (after_ops made fr) → Ops (put_one {N = N} kit v o rest) (after_ops made (put_if (option_map (λ (a : IntegerAttr). a.bits) o) v fr))
   constant_put v None rest fr a = a
   constant_put v (Some x) rest fr a = (refl, (record { kind = refl; results = refl; operands = refl; successors = refl }, refl), a)
 
-  arguments_put : (vs : List (Defined N.value TypeHandle)) (rest : Tree (fresh N) kit_contents Operations) (fr : List (Op (flat.Name N.value))) → Ops rest (after_ops made fr) → Ops (put_arguments {N = N} kit made vs rest) (after_ops made (put_args (numbers made) (names_of vs) fr))
+  arguments_put : (vs : List (Defined N.value TypeHandle)) (rest : Tree (fresh N) kit_contents Operations) (fr : List (Op (flat.OldOrNewName N.value))) → Ops rest (after_ops made fr) → Ops (put_arguments {N = N} kit made vs rest) (after_ops made (put_args (numbers made) (names_of vs) fr))
   arguments_put [] rest fr a = a
   arguments_put (v ∷ vs) rest fr a = arguments_put vs (put_one {N = N} kit v.name (made v.name) rest) (put_if (numbers made v.name) v.name fr) (constant_put v.name (made v.name) rest fr a)
 
@@ -52,7 +52,7 @@ module _ {N : Names} (leads : TypeHandle → Option KitType) (numbered : List �
   abbrev Only : Head N kit_contents → Type 0
   Only h = (v : N.value) (p : Op N.value) → Has v (names_of h.results) → IsOp (kit_reading leads numbered) names h p → (IsCalculated v p → ⊥) → made v ≡ None
 
-  results_put : (h : Head N kit_contents) (p : Op N.value) → IsOp (kit_reading leads numbered) names h p → Only h → (rest : Tree (fresh N) kit_contents Operations) (fr : List (Op (flat.Name N.value))) → Ops rest (after_ops made fr) → Ops (put_results {N = N} kit made h.results rest) (after_ops made (put_before (numbers made) p fr))
+  results_put : (h : Head N kit_contents) (p : Op N.value) → IsOp (kit_reading leads numbered) names h p → Only h → (rest : Tree (fresh N) kit_contents Operations) (fr : List (Op (flat.OldOrNewName N.value))) → Ops rest (after_ops made fr) → Ops (put_results {N = N} kit made h.results rest) (after_ops made (put_before (numbers made) p fr))
   results_put h (Const y n) is only rest fr a = subst (λ z. Ops z (after_ops made fr)) (sym (none_put h.results rest (λ v i. only v (Const y n) i is (λ z. z)))) a
   results_put h (Calc k w y b c) is only rest fr a = subst (λ z. Ops z (after_ops made (put_if (numbers made y) y fr))) (sym (single_put h.results y rest is.0.results)) (constant_put y (made y) rest fr a)
   results_put h (Emit x) is only rest fr a = subst (λ z. Ops z (after_ops made fr)) (sym (none_put h.results rest (λ v i. only v (Emit x) i is (λ z. z)))) a
@@ -60,7 +60,7 @@ module _ {N : Names} (leads : TypeHandle → Option KitType) (numbered : List �
   results_put h (Branch s xs e es) is only rest fr a = subst (λ z. Ops z (after_ops made fr)) (sym (none_put h.results rest (λ v i. only v (Branch s xs e es) i is (λ z. z)))) a
   results_put h (Return xs) is only rest fr a = subst (λ z. Ops z (after_ops made fr)) (sym (none_put h.results rest (λ v i. only v (Return xs) i is (λ z. z)))) a
 
-  ops_put : (os : Tree N kit_contents Operations) (ps : List (Op N.value)) (c : Site N kit_contents) → AreOps (kit_reading leads numbered) names os ps → ((o : Occurrence N kit_contents) → Has o (occurrences_in os c) → Only o.head) → Ops (put {N = N} kit made os) (after_ops made (put_ops (numbers made) ps))
+  ops_put : (os : Tree N kit_contents Operations) (ps : List (Op N.value)) (c : OperationSite N kit_contents) → AreOps (kit_reading leads numbered) names os ps → ((o : Occurrence N kit_contents) → Has o (occurrences_in os c) → Only o.head) → Ops (put {N = N} kit made os) (after_ops made (put_ops (numbers made) ps))
   ops_put end [] c a only = tt
   ops_put end (p ∷ ps) c a only = absurd a
   ops_put (operation h rs more) [] c a only = absurd a
@@ -72,7 +72,7 @@ module _ {N : Names} (leads : TypeHandle → Option KitType) (numbered : List �
         ops_put more ps c a.2 (λ o i. only o (inr (has-right o (occurrences_in rs (inner h c)) (occurrences_in more c) i))),
       )
 
-  pub blocks_put : (bs : Tree N kit_contents Blocks) (ks : Fun N.value) (c : Spot N kit_contents) → AreBlocks (kit_reading leads numbered) names bs ks → ((o : Occurrence N kit_contents) → Has o (occurrences_in bs c) → Only o.head) → AreBlocks {N = fresh N} (kit_reading leads numbered) names (put {N = N} kit made bs) (map (rename_block as_name) (map (replace_block (use_of (numbers made))) (map (put_block (numbers made)) ks)))
+  pub blocks_put : (bs : Tree N kit_contents Blocks) (ks : Fun N.value) (c : Spot N kit_contents) → AreFlatBlocks (kit_reading leads numbered) names bs ks → ((o : Occurrence N kit_contents) → Has o (occurrences_in bs c) → Only o.head) → AreFlatBlocks {N = fresh N} (kit_reading leads numbered) names (put {N = N} kit made bs) (map (rename_block as_name) (map (replace_block (use_of (numbers made))) (map (put_block (numbers made)) ks)))
   blocks_put end [] c a only = tt
   blocks_put end (k ∷ ks) c a only = absurd a
   blocks_put (block l os more) [] c a only = absurd a
@@ -124,7 +124,7 @@ module _ {V : Type 0} (made : V → Option IntegerAttr) (f : Fun V) where
   edges_after [] h = tt
   edges_after (e ∷ es) h = (edge_after e h.0, edges_after es h.1)
 
-  op_after : (p : Op V) → EdgesFit (Some f) p → EdgesFit (Some rest) (after_op made (flat.old p))
+  op_after : (p : Op V) → EdgesOfOpFit (Some f) p → EdgesOfOpFit (Some rest) (after_op made (flat.old p))
   op_after (Const y n) h = tt
   op_after (Calc a w y b c) h = tt
   op_after (Emit x) h = tt
@@ -132,11 +132,11 @@ module _ {V : Type 0} (made : V → Option IntegerAttr) (f : Fun V) where
   op_after (Branch s xs e es) h = (edge_after e h.0, edges_after es h.1)
   op_after (Return xs) h = tt
 
-  put_fits : (o : Option ℕ) (v : V) (ps : List (Op (flat.Name V))) → AllEdgesFit (Some rest) (after_ops made ps) → AllEdgesFit (Some rest) (after_ops made (put_if o v ps))
+  put_fits : (o : Option ℕ) (v : V) (ps : List (Op (flat.OldOrNewName V))) → AllEdgesFit (Some rest) (after_ops made ps) → AllEdgesFit (Some rest) (after_ops made (put_if o v ps))
   put_fits None v ps h = h
   put_fits (Some n) v ps h = (tt, h)
 
-  before_fits : (p : Op V) (ps : List (Op (flat.Name V))) → AllEdgesFit (Some rest) (after_ops made ps) → AllEdgesFit (Some rest) (after_ops made (put_before (numbers made) p ps))
+  before_fits : (p : Op V) (ps : List (Op (flat.OldOrNewName V))) → AllEdgesFit (Some rest) (after_ops made ps) → AllEdgesFit (Some rest) (after_ops made (put_before (numbers made) p ps))
   before_fits (Const y n) ps h = h
   before_fits (Calc a w y b c) ps h = put_fits (numbers made y) y ps h
   before_fits (Emit x) ps h = h
@@ -148,7 +148,7 @@ module _ {V : Type 0} (made : V → Option IntegerAttr) (f : Fun V) where
   ops_fit [] h = tt
   ops_fit (p ∷ ps) h = before_fits p (flat.old p ∷ put_ops (numbers made) ps) (op_after p h.0, ops_fit ps h.1)
 
-  args_fit : (vs : List V) (ps : List (Op (flat.Name V))) → AllEdgesFit (Some rest) (after_ops made ps) → AllEdgesFit (Some rest) (after_ops made (put_args (numbers made) vs ps))
+  args_fit : (vs : List V) (ps : List (Op (flat.OldOrNewName V))) → AllEdgesFit (Some rest) (after_ops made ps) → AllEdgesFit (Some rest) (after_ops made (put_args (numbers made) vs ps))
   args_fit [] ps h = h
   args_fit (v ∷ vs) ps h = args_fit vs (put_if (numbers made v) v ps) (put_fits (numbers made v) v ps h)
 

@@ -33,19 +33,19 @@ module _ {V : Type 0} (made : V → Option IntegerAttr) where
   abbrev pub used : V → Name V V
   used v = used_as v (made v)
 
-  abbrev pub after_op : Op (flat.Name V) → Op (Name V V)
+  abbrev pub after_op : Op (flat.OldOrNewName V) → Op (Name V V)
   after_op p = rename_op as_name same_block (replace_op (use_of numbers) p)
 
-  abbrev pub after_edge : Edge (flat.Name V) → Edge (Name V V)
+  abbrev pub after_edge : Edge (flat.OldOrNewName V) → Edge (Name V V)
   after_edge e = rename_edge as_name same_block (replace_edge (use_of numbers) e)
 
-  abbrev pub old_edge : Edge V → Edge (flat.Name V)
+  abbrev pub old_edge : Edge V → Edge (flat.OldOrNewName V)
   old_edge e = rename_edge flat.Old same_block e
 
-  abbrev pub after_ops : List (Op (flat.Name V)) → List (Op (Name V V))
+  abbrev pub after_ops : List (Op (flat.OldOrNewName V)) → List (Op (Name V V))
   after_ops ps = map (rename_op as_name same_block) (map (replace_op (use_of numbers)) ps)
 
-  abbrev pub after_block : Block (flat.Name V) → Block (Name V V)
+  abbrev pub after_block : Block (flat.OldOrNewName V) → Block (Name V V)
   after_block k = rename_block as_name (replace_block (use_of numbers) k)
 
   pub use_same : (v : V) → as_name (use_of numbers (flat.Old v)) ≡ used v

@@ -10,11 +10,11 @@ use Rattle.opt_trees.specs.Simplify.{entry}
 use Rattle.opt_trees.proofs.Lists.{some_same, none_some}
 use Rattle.kit_behaviour.specs.Machine.{Edge, Plain, Nonzero, Cases, Op, Const, Calc, Emit, Call, Branch, Return, Block}
 use Rattle.kit_behaviour.specs.Machine.{Fun, ops_left, left_in}
-use Rattle.kit_behaviour.specs.SimplifiedBlocks.{edges_of, all_edges, LeadsTo, Reached, first, IsReached}
+use Rattle.kit_behaviour.specs.SimplifiedBlocks.{edges_of, all_edges, LeadsTo, Reached, first, IsReachedSet}
 use Rattle.kit_behaviour.specs.SimplifiedBlocks as flat
 use Rattle.kit_behaviour.proofs.ControlFlow.ChainLemmas.{leads_left, leads_right}
 use Rattle.kit_views.specs.Reading.{Reading}
-use Rattle.kit_views.specs.FlatView.{IsOp, AreBlocks, names_in}
+use Rattle.kit_views.specs.FlatView.{IsOp, AreFlatBlocks, names_in}
 use Rattle.kit_views.proofs.Lists.{has_get, at_has}
 use Rattle.kit_views.proofs.Pairs.{first_at}
 use Rattle.kit_views.proofs.Standing.{whole, Given, pair, back, block_pair, block_back, target_in, leads_by, edge_by}
@@ -96,7 +96,7 @@ module _ {V : Type 0} where
 
 -- a block with a name is one of the flat function
 pub named_block : {N : Names} {S : Contents} (r : Reading S) (names : List N.block) (ts : Tree N S Blocks)
-    (ks : Fun N.value) → AreBlocks r names ts ks → (b : ℕ) (n : N.block) → slice_get (names_in ts) b ≡ Some n →
+    (ks : Fun N.value) → AreFlatBlocks r names ts ks → (b : ℕ) (n : N.block) → slice_get (names_in ts) b ≡ Some n →
     (k : Block N.value) × (slice_get ks b ≡ Some k)
 named_block r names end ks a b n e = absurd (none_some n e)
 named_block r names (block l os more) [] a b n e = absurd a
@@ -202,7 +202,7 @@ module _ {N : Names} {S : Contents} (r : Reading S) (h : Head N S) (bs : Tree N 
         ⊎_elim (λ z. absurd (cc z)) (λ (x : NamedReached (suc b)). ap (set_at g) x.is ∙ full x.name x.reached)
         (reached_named (suc b) m)
 
-    pub set_reached : IsReached (Some f) (flat_set g)
+    pub set_reached : IsReachedSet (Some f) (flat_set g)
     set_reached = record { sound = set_sound; full = set_full }
 
     -- a block with a name is one of the set by its number as by its name

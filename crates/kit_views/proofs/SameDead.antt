@@ -6,7 +6,7 @@ use Rattle.ir_trees.specs.Names.{Names, Contents}
 use Rattle.ir_trees.specs.Renames.{names_of}
 use Rattle.ir_trees.specs.Trees.{Head, Blocks, Tree, end, region}
 use Rattle.opt_trees.specs.Dialect.{Dialect}
-use Rattle.opt_trees.specs.Dce.{Around, Item, Whole, Slot, MayClose, May, Touches, IsKept, IsDead, dies, IsExcused, by_operation, by_argument, Gone, IsGone}
+use Rattle.opt_trees.specs.Dce.{TreeSurroundings, Item, Whole, Slot, MayClose, May, Touches, IsKept, IsDead, dies, IsExcused, by_operation, by_argument, Gone, IsGoneExactly}
 use Rattle.opt_trees.specs.Occurrences.{Has, Occurrence, BlockOccurrence, defined_in, occurrences_of, block_occurrences_of, Use}
 use Rattle.opt_trees.proofs.Defined.{result_defined, argument_defined}
 use Rattle.kit_behaviour.specs.Machine.{Arith, Add, Sub, Mul, Div, Eql, Neq, Ult, Ule, Op, Const, Calc, Emit, Call, Branch, Return, Block, Fun, arguments_of, arguments_in}
@@ -84,7 +84,7 @@ module _ {N : Names} {S : Contents} {A : Type 0} (d : Dialect S A) (r : Reading 
   leads_branch h b (Branch s xs x es) is i = (from_branch d r law names h s xs x es is).branch
   leads_branch h b (Return xs) is i = absurd (no_successors h.successors b is.successors i)
 
-module _ {N : Names} {S : Contents} {A : Type 0} (d : Dialect S A) (r : Reading S) (law : Reads d r) (w : Around N A) (h : Head N S) (bs : Tree N S Blocks) (f : Fun N.value) (given : Given r h bs f) (same : N.value → N.value → Bool) (sameness : IsSameness same) where
+module _ {N : Names} {S : Contents} {A : Type 0} (d : Dialect S A) (r : Reading S) (law : Reads d r) (w : TreeSurroundings N A) (h : Head N S) (bs : Tree N S Blocks) (f : Fun N.value) (given : Given r h bs f) (same : N.value → N.value → Bool) (sameness : IsSameness same) where
   nested : (o : Occurrence N S) → Has o (occurrences_of (whole r h bs f)) → (v : N.value) → Has v (defined_in o.regions) → ⊥
   nested o i v k = subst (λ z. Has v (defined_in z)) (pair r h bs f given o i).regions k
 
@@ -115,7 +115,7 @@ module _ {N : Names} {S : Contents} {A : Type 0} (d : Dialect S A) (r : Reading 
     whole_defined : (a : N.operation) (u : N.value) → Touches (whole r h bs f) (Whole a) u → Has u (defined_in (region bs end))
     whole_defined a u m = ⊎_elim (λ i. result_defined (region bs end) (root_spot r h bs f given) m.it u m.stands i) (λ i. absurd (nested m.it m.stands u i)) m.value
 
-    module _ (g : Gone N) (is_gone : IsGone d w (whole r h bs f) g) where
+    module _ (g : Gone N) (is_gone : IsGoneExactly d w (whole r h bs f) g) where
       abbrev pub going : List N.value → List N.value
       going [] = []
       going (v ∷ vs) = if g.item (Slot v) then v ∷ going vs else going vs
@@ -291,7 +291,7 @@ module _ {N : Names} {S : Contents} {A : Type 0} (d : Dialect S A) (r : Reading 
             step (as_result o i k q) = member (Whole o.head.name) (is_gone.dead (Whole o.head.name) q) v (record { it = o; stands = i; name = refl; value = inl k })
             step (as_argument x i k q) = member (Slot v) (is_gone.dead (Slot v) q) v refl
 
-      pub same_dead : flat.IsDead same (Some f) lost
+      pub same_dead : flat.IsDeadSet same (Some f) lost
       same_dead = record { holds = holds; least = λ e all v q. least e all v q }
 
       -- the set is that of dead arguments and of results of dead operations

@@ -3,13 +3,13 @@ use Rattle.std.proofs.Common.{ℕ, ◌<◌, Bool, List, map, Option, Some, refl,
 use Rattle.ir_base.specs.declared.types.TypeHandle.{TypeHandle}
 use Rattle.ir_trees.specs.Names.{Names}
 use Rattle.ir_trees.specs.Trees.{Root}
-use Rattle.opt_trees.specs.Dce.{Around}
+use Rattle.opt_trees.specs.Dce.{TreeSurroundings}
 use Rattle.opt_trees.specs.Simplify.{all_of, decided, IsJoined, IsSimplify}
 use Rattle.kit_behaviour.specs.DecidedBranches.{decide_block, decide}
-use Rattle.kit_behaviour.specs.Facts.{Facts}
+use Rattle.kit_behaviour.specs.Facts.{FunctionFacts}
 use Rattle.kit_behaviour.specs.Machine.{Fun, left_in, size}
 use Rattle.kit_behaviour.specs.Rules.{EndsWell}
-use Rattle.kit_behaviour.specs.SimplifiedBlocks.{all_edges, LeadsTo, Reached, first, further, IsReached, retarget}
+use Rattle.kit_behaviour.specs.SimplifiedBlocks.{all_edges, LeadsTo, Reached, first, further, IsReachedSet, retarget}
 use Rattle.kit_behaviour.specs.SimplifiedBlocks.{retarget_edge, keep, Merges}
 use Rattle.kit_behaviour.proofs.Behaviour.SizeLemmas.{decide_size}
 use Rattle.kit_behaviour.proofs.Lattice.DecisionBehaviour.{decide_left}
@@ -20,7 +20,7 @@ use Rattle.kit_ops.specs.declared.attributes.IntegerAttr.{IntegerAttr}
 use Rattle.kit_ops.specs.declared.types.KitType.{KitType}
 use Rattle.kit.specs.Meaning.{kit}
 use Rattle.kit_views.specs.Reading.{kit_contents, kit_reading}
-use Rattle.kit_views.specs.FlatView.{IsSameness, IsFlat}
+use Rattle.kit_views.specs.FlatView.{IsSameness, FlattensTo}
 use Rattle.kit_views.specs.FlatBranches.{KnowsConstants}
 use Rattle.kit_views.specs.Laws.{EndWell, IsSimplifiedFlat}
 use Rattle.kit_views.specs.Typed.{IsTyped}
@@ -36,11 +36,11 @@ EndWells f = (b : ℕ) → b < size f → EndsWell (left_in f b 0)
 abbrev AllReached : {V : Type 0} → Option (Fun V) → Type 0
 AllReached f = (b : ℕ) → b < size f → Reached f b
 
-decided_ends : {V : Type 0} (k : Facts V) (f : Option (Fun V)) → EndWells f → EndWells (decide k f)
+decided_ends : {V : Type 0} (k : FunctionFacts V) (f : Option (Fun V)) → EndWells f → EndWells (decide k f)
 decided_ends k f ends b l = subst EndsWell (sym (decide_left k f b 0))
     (ends_decided k (left_in f b 0) (ends b (omega (arith, l, decide_size k f))))
 
-module _ {V : Type 0} (f : Option (Fun V)) (r : ℕ → Bool) (is : IsReached f r) where
+module _ {V : Type 0} (f : Option (Fun V)) (r : ℕ → Bool) (is : IsReachedSet f r) where
   kept_reached : (b : ℕ) → Reached f b → Reached (keep r f) (at r b)
   kept_reached b (first c e) = first (at r b) (ap (at r) e)
   kept_reached _ (further c t m l) =
@@ -61,8 +61,8 @@ module _ {V : Type 0} (f : Option (Fun V)) (r : ℕ → Bool) (is : IsReached f 
       (ends_kept (at r) (left_in f w.old 0) (ends w.old w.before)))
 
 pub simplified : {N : Names} (same : N.value → N.value → Bool) (leads : TypeHandle → Option KitType)
-    (numbered : List ℕ → ℕ) (type_at : N.value → TypeHandle) (w : Around N IntegerAttr) (t after : Root N kit_contents)
-    (f : Fun N.value) → IsSameness same → IsFlat (kit_reading leads numbered) t f → IsTyped leads {N = N} type_at t →
+    (numbered : List ℕ → ℕ) (type_at : N.value → TypeHandle) (w : TreeSurroundings N IntegerAttr) (t after : Root N kit_contents)
+    (f : Fun N.value) → IsSameness same → FlattensTo (kit_reading leads numbered) t f → IsTyped leads {N = N} type_at t →
     KnowsConstants w t → EndWell f → IsSimplify kit w t after → IsSimplifiedFlat (kit_reading leads numbered) f after
 simplified {N} same leads numbered type_at w t after f sameness is_flat typed constants ends s =
     let d = decided_by_own same leads numbered type_at w t f sameness is_flat typed constants in

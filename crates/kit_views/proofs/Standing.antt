@@ -14,7 +14,7 @@ use Rattle.kit_behaviour.specs.Machine.{Edge, Op, Block, Fun, left_in, arguments
 use Rattle.kit_behaviour.specs.Rules.{AllEdgesFit}
 use Rattle.kit_ops.specs.declared.kinds.KitOp.TheVariants as ops
 use Rattle.kit_views.specs.Reading.{Reading}
-use Rattle.kit_views.specs.FlatView.{AreBlocks, names_in}
+use Rattle.kit_views.specs.FlatView.{AreFlatBlocks, names_in}
 use Rattle.kit_views.proofs.Lists.{Distinct, to_distinct, one_named, one_source, gathered}
 use Rattle.kit_views.proofs.Definers.{Definer, ByOp, ByBlock, makes, definers, all_made, op_definer, block_definer, heads_are}
 use Rattle.kit_views.proofs.Pairs.{Pair, pairs, Back, backs, BlockPair, block_pairs, BlockBack, block_backs}
@@ -31,7 +31,7 @@ module _ {N : Names} {S : Contents} (r : Reading S) (h : Head N S) (bs : Tree N 
   pub record Given : Type 0 where
     pub function : r.kind h.content ≡ ops.Func
     pub no_operands : h.operands ≡ []
-    pub are : AreBlocks r (names_in bs) bs f
+    pub are : AreFlatBlocks r (names_in bs) bs f
     pub operations : AreDistinct (operation_names whole)
     pub blocks : AreDistinct (names_in bs)
     pub values : AreDistinct (defined_in (region bs end))

@@ -7,15 +7,15 @@ use Rattle.ir_trees.specs.Renames.{names_of}
 use Rattle.ir_trees.specs.Searched.{AreDistinct, heads_in}
 use Rattle.ir_trees.specs.Trees.{Defined, Head, Sort, Operations, Blocks, Regions, Tree, end, operation, block, region}
 use Rattle.opt_trees.specs.Dialect.{Dialect, drop}
-use Rattle.opt_trees.specs.Dce.{Around, Item, Whole, Slot, May, ForwardsTo, IsDead, dies, Gone, gone_at, thin_head, thin_label, thin, IsGone}
-use Rattle.opt_trees.specs.Occurrences.{Has, Occurrence, BlockOccurrence, Site, Spot, inner, next_block, occurrences_in, block_occurrences_in, occurrences_of, block_occurrences_of, defined_in}
+use Rattle.opt_trees.specs.Dce.{TreeSurroundings, Item, Whole, Slot, May, ForwardsTo, IsDead, dies, Gone, gone_at, thin_head, thin_label, thin, IsGoneExactly}
+use Rattle.opt_trees.specs.Occurrences.{Has, Occurrence, BlockOccurrence, OperationSite, Spot, inner, next_block, occurrences_in, block_occurrences_in, occurrences_of, block_occurrences_of, defined_in}
 use Rattle.opt_trees.proofs.Lists.{map-map, map-append, some_same, none_some}
 use Rattle.opt_trees.proofs.NoneDead.{has-left, has-right}
 use Rattle.kit_behaviour.specs.Facts.{all_forwarded}
 use Rattle.kit_behaviour.specs.Machine.{AllEdges, Edge, Plain, Nonzero, Cases, Op, Const, Calc, Emit, Call, Branch, Return, Fun, left_in, arguments_in}
 use Rattle.kit_behaviour.specs.RemovedValues as flat
 use Rattle.kit_behaviour.specs.RemovedValues.{may_trap, goes, live, thin_edge, thin_op, thin_ops, thin_block}
-use Rattle.kit_behaviour.specs.Rules.{EdgeFits, EdgesFit, AllEdgesFit}
+use Rattle.kit_behaviour.specs.Rules.{EdgeFits, EdgesOfOpFit, AllEdgesFit}
 use Rattle.kit_behaviour.specs.Scopes.{SameLength}
 use Rattle.kit_behaviour.proofs.DeadCode.RemovalBehaviour.{thin_left}
 use Rattle.kit_behaviour.proofs.DeadCode.RemovalScopes.{ops_fit}
@@ -24,7 +24,7 @@ use Rattle.kit_ops.specs.declared.kinds.KitOp.TheVariants as ops
 use Rattle.kit.specs.Dropped.{kept}
 use Rattle.kit_ops.specs.Table.{has_interface}
 use Rattle.kit_views.specs.Reading.{Reading}
-use Rattle.kit_views.specs.FlatView.{IsSameness, kind_of, IsOf, IsOp, AreOps, AreBlocks, names_in, IsFlat}
+use Rattle.kit_views.specs.FlatView.{IsSameness, kind_of, IsOf, IsOp, AreOps, AreFlatBlocks, names_in, FlattensTo}
 use Rattle.kit_views.specs.Laws.{NothingPinned}
 use Rattle.kit_views.proofs.Lists.{has_get, Sub, sub_all, sub_none, sub_append, sub_map, sub_distinct, to_distinct, from_distinct}
 use Rattle.kit_views.proofs.Read.{Reads}
@@ -102,7 +102,7 @@ module _ {N : Names} {S : Contents} {A : Type 0} (d : Dialect S A) (g : Gone N) 
   blocks_left end = refl
   blocks_left (block l os rest) = ap (λ z. l.name ∷ z) (blocks_left rest)
 
-module _ {N : Names} {S : Contents} {A : Type 0} (d : Dialect S A) (r : Reading S) (law : Reads d r) (w : Around N A) (h : Head N S) (bs : Tree N S Blocks) (f : Fun N.value) (given : Given r h bs f) (same : N.value → N.value → Bool) (sameness : IsSameness same) (unpinned : NothingPinned w (whole r h bs f)) (g : Gone N) (is_gone : IsGone d w (whole r h bs f) g) where
+module _ {N : Names} {S : Contents} {A : Type 0} (d : Dialect S A) (r : Reading S) (law : Reads d r) (w : TreeSurroundings N A) (h : Head N S) (bs : Tree N S Blocks) (f : Fun N.value) (given : Given r h bs f) (same : N.value → N.value → Bool) (sameness : IsSameness same) (unpinned : NothingPinned w (whole r h bs f)) (g : Gone N) (is_gone : IsGoneExactly d w (whole r h bs f) g) where
   abbrev D : N.value → Bool
   D = lost d r law w h bs f given same sameness unpinned g is_gone
 
@@ -203,7 +203,7 @@ module _ {N : Names} {S : Contents} {A : Type 0} (d : Dialect S A) (r : Reading 
     }
 
   -- an operation of the tree without the operands that go is the flat one without them
-  op_left : (o : Occurrence N S) (p : Op N.value) → Stands o → EdgesFit (Some f) p → IsOp r (names_in bs) o.head p → IsOp r (names_in bs) (thin_head d g o.head) (thin_op (Some f) D p)
+  op_left : (o : Occurrence N S) (p : Op N.value) → Stands o → EdgesOfOpFit (Some f) p → IsOp r (names_in bs) o.head p → IsOp r (names_in bs) (thin_head d g o.head) (thin_op (Some f) D p)
   op_left o (Const y n) i fits is = subst (λ z. IsOp r (names_in bs) z (Const y n)) (sym (keeps_head o ops.Constant i is.0.kind refl (not_two ops.Constant refl))) is
   op_left o (Calc a wd y b c) i fits is = subst (λ z. IsOp r (names_in bs) z (Calc a wd y b c)) (sym (keeps_head o (kind_of a) i is.0.kind (arith_branch a) (not_two (kind_of a) (arith_branch a)))) is
   op_left o (Emit x) i fits is = subst (λ z. IsOp r (names_in bs) z (Emit x)) (sym (keeps_head o ops.Emit i is.kind refl (not_two ops.Emit refl))) is
@@ -226,10 +226,10 @@ module _ {N : Names} {S : Contents} {A : Type 0} (d : Dialect S A) (r : Reading 
       )
   op_left o (Branch (Cases ns) xs e es) i fits is = absurd is
 
-  abbrev at_site : Site N S → Head N S → Tree N S Regions → Occurrence N S
+  abbrev at_site : OperationSite N S → Head N S → Tree N S Regions → Occurrence N S
   at_site c k rs = record { site = c; head = k; regions = rs }
 
-  ops_left_over : (os : Tree N S Operations) (ps : List (Op N.value)) (c : Site N S) → AreOps r (names_in bs) os ps → ((o : Occurrence N S) → Has o (occurrences_in os c) → Stands o) → AllEdgesFit (Some f) ps → AreOps r (names_in bs) (thin d g os) (thin_ops (Some f) D ps)
+  ops_left_over : (os : Tree N S Operations) (ps : List (Op N.value)) (c : OperationSite N S) → AreOps r (names_in bs) os ps → ((o : Occurrence N S) → Has o (occurrences_in os c) → Stands o) → AllEdgesFit (Some f) ps → AreOps r (names_in bs) (thin d g os) (thin_ops (Some f) D ps)
   ops_left_over end [] c a st fits = tt
   ops_left_over end (p ∷ ps) c a st fits = absurd a
   ops_left_over (operation k rs more) [] c a st fits = absurd a
@@ -248,7 +248,7 @@ module _ {N : Names} {S : Contents} {A : Type 0} (d : Dialect S A) (r : Reading 
       live_names g D x.label.arguments (λ v j. bool_same (g.item (Slot v)) (D v) (argument_lost d r law w h bs f given same sameness unpinned g is_gone x v i j) (lost_argument d r law w h bs f given same sameness unpinned g is_gone x v i j))
       ∙ ap (live D) e
 
-  blocks_left_over : (ts : Tree N S Blocks) (ks : Fun N.value) (c : Spot N S) → AreBlocks r (names_in bs) ts ks → ((o : Occurrence N S) → Has o (occurrences_in ts c) → Stands o) → ((x : BlockOccurrence N S) → Has x (block_occurrences_in ts c) → Has x (block_occurrences_of (whole r h bs f))) → ((b : ℕ) → AllEdgesFit (Some f) (left_in (Some ks) b 0)) → AreBlocks r (names_in bs) (thin d g ts) (map (thin_block (Some f) D) ks)
+  blocks_left_over : (ts : Tree N S Blocks) (ks : Fun N.value) (c : Spot N S) → AreFlatBlocks r (names_in bs) ts ks → ((o : Occurrence N S) → Has o (occurrences_in ts c) → Stands o) → ((x : BlockOccurrence N S) → Has x (block_occurrences_in ts c) → Has x (block_occurrences_of (whole r h bs f))) → ((b : ℕ) → AllEdgesFit (Some f) (left_in (Some ks) b 0)) → AreFlatBlocks r (names_in bs) (thin d g ts) (map (thin_block (Some f) D) ks)
   blocks_left_over end [] c a st sx fits = tt
   blocks_left_over end (k ∷ ks) c a st sx fits = absurd a
   blocks_left_over (block l os more) [] c a st sx fits = absurd a
@@ -261,14 +261,14 @@ module _ {N : Names} {S : Contents} {A : Type 0} (d : Dialect S A) (r : Reading 
         (λ b. fits (suc b)),
   )
 
-  pub flat_left : IsFlat r (record { head = h; regions = thin d g (region bs end) }) (map (thin_block (Some f) D) f)
+  pub flat_left : FlattensTo r (record { head = h; regions = thin d g (region bs end) }) (map (thin_block (Some f) D) f)
   flat_left = record {
     view = record {
       function = given.function;
       no_operands = given.no_operands;
       blocks = thin d g bs;
       region = refl;
-      are = subst (λ z. AreBlocks r z (thin d g bs) (map (thin_block (Some f) D) f)) (sym (blocks_left d g bs))
+      are = subst (λ z. AreFlatBlocks r z (thin d g bs) (map (thin_block (Some f) D) f)) (sym (blocks_left d g bs))
           (blocks_left_over bs f (root_spot r h bs f given) given.are
           (λ o i. has-left o (occurrences_in bs (root_spot r h bs f given)) [] i)
           (λ x i. has-left x (block_occurrences_in bs (root_spot r h bs f given)) [] i) given.edges);

@@ -7,7 +7,7 @@ use Rattle.opt_trees.proofs.NoneDead.{has-append, has-left, has-right}
 use Rattle.kit_behaviour.specs.Machine.{AllEdges, Edge, Op, Const, Calc, Emit, Call, Branch, Return, Block, Fun, ops_left, left_in}
 use Rattle.kit_behaviour.specs.RemovedValues.{may_trap}
 use Rattle.kit_behaviour.specs.DeadValues.{use_dead, ops_use_dead, blocks_use_dead, pure_results, candidates}
-use Rattle.kit_behaviour.specs.Rules.{EdgeFits, EdgesFit, AllEdgesFit}
+use Rattle.kit_behaviour.specs.Rules.{EdgeFits, EdgesOfOpFit, AllEdgesFit}
 use Rattle.kit_behaviour.specs.Scopes.{SameLength}
 
 pub and_both : (b c : Bool) → b ≡ true → c ≡ true → b && c ≡ true
@@ -138,11 +138,11 @@ module _ {V : Type 0} where
   result_candidate v (j ∷ ks) zero k p e i q = has-right v j.arguments (pure_results j.ops ++ candidates ks) (has-left v (pure_results j.ops) (candidates ks) (pure_is v j.ops p (subst (λ (z : Block V). Has p z.ops) (sym (some_same j k e)) i) q))
   result_candidate v (j ∷ ks) (suc b) k p e i q = has-right v j.arguments (pure_results j.ops ++ candidates ks) (has-right v (pure_results j.ops) (candidates ks) (result_candidate v ks b k p e i q))
 
-  fits_each : (F : Option (Fun V)) (ps : List (Op V)) → AllEdgesFit F ps → (p : Op V) → Has p ps → EdgesFit F p
+  fits_each : (F : Option (Fun V)) (ps : List (Op V)) → AllEdgesFit F ps → (p : Op V) → Has p ps → EdgesOfOpFit F p
   fits_each F [] h p i = absurd i
-  fits_each F (q ∷ ps) h p i = ⊎_elim (λ e. subst (EdgesFit F) (sym e) h.0) (λ j. fits_each F ps h.1 p j) i
+  fits_each F (q ∷ ps) h p i = ⊎_elim (λ e. subst (EdgesOfOpFit F) (sym e) h.0) (λ j. fits_each F ps h.1 p j) i
 
-  pub edges_fit : (F : Option (Fun V)) (ks : Fun V) → ((b : ℕ) → AllEdgesFit F (left_in (Some ks) b 0)) → (b : ℕ) (k : Block V) → slice_get ks b ≡ Some k → (p : Op V) → Has p k.ops → EdgesFit F p
+  pub edges_fit : (F : Option (Fun V)) (ks : Fun V) → ((b : ℕ) → AllEdgesFit F (left_in (Some ks) b 0)) → (b : ℕ) (k : Block V) → slice_get ks b ≡ Some k → (p : Op V) → Has p k.ops → EdgesOfOpFit F p
   edges_fit F ks h b k e p i = fits_each F k.ops (subst (λ o. AllEdgesFit F (ops_left o 0)) e (h b)) p i
 
   pub edge_fits : (F : Option (Fun V)) (es : List (Edge V)) → AllEdges (EdgeFits F) es → (j : ℕ) (e : Edge V) → slice_get es j ≡ Some e → EdgeFits F e

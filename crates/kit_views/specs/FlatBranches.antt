@@ -4,7 +4,7 @@ use Rattle.ir_names.specs.Dictionary.{attribute_at}
 use Rattle.ir_trees.specs.Names.{Names}
 use Rattle.ir_trees.specs.Renames.{names_of}
 use Rattle.ir_trees.specs.Trees.{Root}
-use Rattle.opt_trees.specs.Dce.{Around}
+use Rattle.opt_trees.specs.Dce.{TreeSurroundings}
 use Rattle.opt_trees.specs.Occurrences.{Has, Occurrence, occurrences_of, defined_in}
 use Rattle.kit_ops.specs.declared.attributes.IntegerAttr.{IntegerAttr}
 use Rattle.kit_ops.specs.declared.attributes.KitAttr.TheVariants as attrs
@@ -12,7 +12,7 @@ use Rattle.kit_ops.specs.declared.kinds.KitOp.TheVariants as ops
 use Rattle.kit_ops.specs.Keys.{constant_value}
 use Rattle.kit_views.specs.Reading.{kit_contents}
 
-module _ {N : Names} (w : Around N IntegerAttr) (t : Root N kit_contents) where
+module _ {N : Names} (w : TreeSurroundings N IntegerAttr) (t : Root N kit_contents) where
   -- the value is the result of a constant of this attribute
   pub record IsConstantOf (v : N.value) (a : IntegerAttr) : Type 0 where
     pub definer : Occurrence N kit_contents

@@ -11,17 +11,17 @@ use Rattle.kit_behaviour.specs.Machine.{Fun}
 use Rattle.kit_behaviour.specs.NamedPasses.{PropagatesNamed}
 use Rattle.kit_behaviour.specs.Renaming.{rename_block}
 use Rattle.kit_views.specs.Reading.{kit_contents, kit_reading}
-use Rattle.kit_views.specs.FlatView.{IsFlat}
+use Rattle.kit_views.specs.FlatView.{FlattensTo}
 
 -- names while constants are put in: those of the flat function as those of the tree
-abbrev pub as_name : {V : Type 0} → flat.Name V → trees.Name V V
+abbrev pub as_name : {V : Type 0} → flat.OldOrNewName V → trees.Name V V
 as_name (flat.Old v) = trees.Old v
 as_name (flat.New v) = trees.New v
 
 -- the flat view of the tree with constants is the flat view f with constants: for all values that the most precise
 -- facts know, and that may get one
-pub record IsPropagated {N : Names} (leads : TypeHandle → Option KitType) (numbered : List ℕ → ℕ) (f : Fun N.value)
+pub record IsPropagatedView {N : Names} (leads : TypeHandle → Option KitType) (numbered : List ℕ → ℕ) (f : Fun N.value)
     (after : Root (fresh N) kit_contents) : Type 0 where
-  pub put : Fun (flat.Name N.value)
+  pub put : Fun (flat.OldOrNewName N.value)
   pub propagates : PropagatesNamed (Some f) (Some put)
-  pub is_view : IsFlat (kit_reading leads numbered) after (map (rename_block as_name) put)
+  pub is_view : FlattensTo (kit_reading leads numbered) after (map (rename_block as_name) put)

@@ -23,7 +23,7 @@ module _ (leads : TypeHandle → Option KitType) where
 
   -- flat facts say of each block, by its index, and of each value what the facts of the tree say
   pub record AreFlatly {N : Names} (type_at : N.value → TypeHandle) (t : Root N kit_contents) (names : List N.block)
-      (k : trees.Facts N IntegerAttr) (l : flat.Facts N.value) : Type 0 where
+      (k : trees.Facts N IntegerAttr) (l : flat.FunctionFacts N.value) : Type 0 where
     pub runs : (n : ℕ) (b : N.block) → slice_get names n ≡ Some b → l.runs n ≡ k.runs b
     pub of : (v : N.value) → Has v (defined_in t.regions) → IsKnownAs (type_at v) (k.of v) (l.of v)
     -- of values that don't occur nothing is known

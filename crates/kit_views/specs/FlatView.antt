@@ -42,12 +42,12 @@ module _ {N : Names} {S : Contents} (r : Reading S) (names : List N.block) where
 
   -- a branch: of one edge, which forwards all operands; or with one operand as its condition and two edges, which
   -- forward the others, the first as many as the segments say
-  abbrev pub IsBranch : Head N S → Select → List N.value → Edge N.value → List (Edge N.value) → Type 0
-  IsBranch h Plain xs e es = IsOf h ops.Br [] (xs ++ all_forwarded (e ∷ es)) (e ∷ es) × (length xs ≡ 0)
+  abbrev pub IsFlatBranch : Head N S → Select → List N.value → Edge N.value → List (Edge N.value) → Type 0
+  IsFlatBranch h Plain xs e es = IsOf h ops.Br [] (xs ++ all_forwarded (e ∷ es)) (e ∷ es) × (length xs ≡ 0)
       × (length es ≡ 0)
-  IsBranch h Nonzero xs e es = IsOf h ops.CondBr [] (xs ++ all_forwarded (e ∷ es)) (e ∷ es) × (length xs ≡ 1)
+  IsFlatBranch h Nonzero xs e es = IsOf h ops.CondBr [] (xs ++ all_forwarded (e ∷ es)) (e ∷ es) × (length xs ≡ 1)
       × (length es ≡ 1) × (r.first h.content ≡ length e.forwards)
-  IsBranch h (Cases ns) xs e es = ⊥
+  IsFlatBranch h (Cases ns) xs e es = ⊥
 
   -- the operation is this one of the flat function; of arithmetic and comparisons the width is that of the result
   abbrev pub IsOp : Head N S → Op N.value → Type 0
@@ -55,7 +55,7 @@ module _ {N : Names} {S : Contents} (r : Reading S) (names : List N.block) where
   IsOp h (Calc f w v x y) = IsOf h (kind_of f) (v ∷ []) (x ∷ y ∷ []) [] × (map r.width (types_of h.results) ≡ w ∷ [])
   IsOp h (Emit x) = IsOf h ops.Emit [] (x ∷ []) []
   IsOp h (Call rs c xs) = IsOf h ops.Call rs xs [] × (r.callee h.content ≡ c)
-  IsOp h (Branch s xs e es) = IsBranch h s xs e es
+  IsOp h (Branch s xs e es) = IsFlatBranch h s xs e es
   IsOp h (Return xs) = IsOf h ops.Return [] xs []
 
   -- these operations, none of which has regions, are those of the flat block
@@ -66,11 +66,11 @@ module _ {N : Names} {S : Contents} (r : Reading S) (names : List N.block) where
   AreOps (operation h rs more) (op ∷ rest) = (rs ≡ end) × IsOp h op × AreOps more rest
 
   -- these blocks are those of the flat function
-  abbrev pub AreBlocks : Tree N S Blocks → Fun N.value → Type 0
-  AreBlocks end [] = Unit {0}
-  AreBlocks end (k ∷ ks) = ⊥
-  AreBlocks (block l os more) [] = ⊥
-  AreBlocks (block l os more) (k ∷ ks) = (names_of l.arguments ≡ k.arguments) × AreOps os k.ops × AreBlocks more ks
+  abbrev pub AreFlatBlocks : Tree N S Blocks → Fun N.value → Type 0
+  AreFlatBlocks end [] = Unit {0}
+  AreFlatBlocks end (k ∷ ks) = ⊥
+  AreFlatBlocks (block l os more) [] = ⊥
+  AreFlatBlocks (block l os more) (k ∷ ks) = (names_of l.arguments ≡ k.arguments) × AreOps os k.ops × AreFlatBlocks more ks
 
 -- the names of the blocks of a region, in order
 abbrev pub names_in : {N : Names} {S : Contents} → Tree N S Blocks → List N.block
@@ -83,11 +83,11 @@ pub record IsView {N : Names} {S : Contents} (r : Reading S) (t : Root N S) (f :
   pub no_operands : t.head.operands ≡ []
   pub blocks : Tree N S Blocks
   pub region : t.regions ≡ region blocks end
-  pub are : AreBlocks r (names_in blocks) blocks f
+  pub are : AreFlatBlocks r (names_in blocks) blocks f
 
 -- the function has the flat view f: what is defined has distinct names, and each edge of f leads to a block and
 -- forwards as many values as this has arguments
-pub record IsFlat {N : Names} {S : Contents} (r : Reading S) (t : Root N S) (f : Fun N.value) : Type 0 where
+pub record FlattensTo {N : Names} {S : Contents} (r : Reading S) (t : Root N S) (f : Fun N.value) : Type 0 where
   pub view : IsView r t f
   pub operations : AreDistinct (operation_names t)
   pub blocks : AreDistinct (names_in view.blocks)

@@ -9,7 +9,7 @@ use Rattle.opt_trees.specs.Facts as trees
 use Rattle.opt_trees.specs.Sccp.{fresh, IsSccp}
 use Rattle.opt_trees.specs.Simplify.{decided, all_of, IsCut, IsJoined, IsSimplify}
 use Rattle.opt_trees.specs.Occurrences.{Has, Occurrence, occurrences_of, defined_in}
-use Rattle.opt_trees.specs.Dce.{Around, Whole, Slot, IsDead, IsDce}
+use Rattle.opt_trees.specs.Dce.{TreeSurroundings, Whole, Slot, IsDead, IsDce}
 use Rattle.kit_ops.specs.declared.attributes.IntegerAttr.{IntegerAttr}
 use Rattle.kit_ops.specs.declared.types.KitType.{KitType}
 use Rattle.kit.specs.Meaning.{kit}
@@ -19,20 +19,20 @@ use Rattle.kit_behaviour.specs.Machine.{Fun, left_in}
 use Rattle.kit_behaviour.specs.RemovedValues.{thin}
 use Rattle.kit_behaviour.specs.SimplifiedNames.{AreConstants, SimplifiesNamed}
 use Rattle.kit_behaviour.specs.Rules.{EndsWell}
-use Rattle.kit_behaviour.specs.SimplifiedBlocks.{Reached, IsReached, keep, Merges}
+use Rattle.kit_behaviour.specs.SimplifiedBlocks.{Reached, IsReachedSet, keep, Merges}
 use Rattle.kit_behaviour.specs.DeadValues as flat
 use Rattle.kit_views.specs.Reading.{Reading, kit_contents, kit_reading}
-use Rattle.kit_views.specs.FlatView.{IsSameness, IsFlat, names_in}
+use Rattle.kit_views.specs.FlatView.{IsSameness, FlattensTo, names_in}
 use Rattle.kit_views.specs.FlatFacts.{AreFlatly}
-use Rattle.kit_views.specs.FlatConstants.{IsPropagated}
+use Rattle.kit_views.specs.FlatConstants.{IsPropagatedView}
 use Rattle.kit_views.specs.FlatBranches.{KnowsConstants}
 use Rattle.kit_views.specs.Typed.{IsTyped}
 
 -- no value that is defined below the root is named from outside it
-abbrev pub NothingPinned : {N : Names} {S : Contents} {A : Type 0} → Around N A → Root N S → Type 0
+abbrev pub NothingPinned : {N : Names} {S : Contents} {A : Type 0} → TreeSurroundings N A → Root N S → Type 0
 NothingPinned {N} w t = (v : N.value) → Has v (defined_in t.regions) → w.is_pinned v ≡ true → ⊥
 
-module _ {N : Names} {S : Contents} {A : Type 0} (d : Dialect S A) (w : Around N A) (t : Root N S) where
+module _ {N : Names} {S : Contents} {A : Type 0} (d : Dialect S A) (w : TreeSurroundings N A) (t : Root N S) where
   -- a result of a dead operation
   pub record IsOfDead (v : N.value) : Type 0 where
     pub definer : Occurrence N S
@@ -47,16 +47,16 @@ module _ {N : Names} {S : Contents} {A : Type 0} (d : Dialect S A) (w : Around N
     pub dead : N.value → Bool
     pub are : (v : N.value) → (dead v ≡ true) ↔ (IsDead d w t (Slot v) ⊎ IsOfDead v)
     -- these are the dead values of the flat view
-    pub is_dead : flat.IsDead same (Some f) dead
+    pub is_dead : flat.IsDeadSet same (Some f) dead
     pub rest : Fun N.value
     pub is : thin dead (Some f) ≡ Some rest
-    pub is_view : IsFlat r after rest
+    pub is_view : FlattensTo r after rest
 
 -- removal of dead values on the tree of a function is removal of dead values on its flat view
 abbrev pub FlatDce : Names → Type 0
 FlatDce N = (same : N.value → N.value → Bool) (leads : TypeHandle → Option KitType) (numbered : List ℕ → ℕ)
-    (w : Around N IntegerAttr) (t after : Root N kit_contents) (f : Fun N.value) →
-    IsSameness same → IsFlat (kit_reading leads numbered) t f → NothingPinned w t → IsDce kit w t after →
+    (w : TreeSurroundings N IntegerAttr) (t after : Root N kit_contents) (f : Fun N.value) →
+    IsSameness same → FlattensTo (kit_reading leads numbered) t f → NothingPinned w t → IsDce kit w t after →
     IsThinned kit w t same (kit_reading leads numbered) f after
 
 -- the most precise facts of the tree of a typed function say what the most precise facts of its flat view say
@@ -64,9 +64,9 @@ abbrev pub FlatFacts : Names → Type 0
 FlatFacts N = (same : N.value → N.value → Bool) (same_block : N.block → N.block → Bool)
     (leads : TypeHandle → Option KitType) (numbered : List ℕ → ℕ) (type_at : N.value → TypeHandle)
     (t : Root N kit_contents) (f : Fun N.value) (k : trees.Facts N IntegerAttr) →
-    IsSameness same → IsSameness same_block → (is_flat : IsFlat (kit_reading leads numbered) t f) →
+    IsSameness same → IsSameness same_block → (is_flat : FlattensTo (kit_reading leads numbered) t f) →
     IsTyped leads {N = N} type_at t → trees.IsMostPrecise kit t k →
-    (l : facts.Facts N.value) × facts.IsMostPrecise (Some f) l
+    (l : facts.FunctionFacts N.value) × facts.AreMostPreciseFacts (Some f) l
     × AreFlatly leads type_at t (names_in is_flat.view.blocks) k l
 
 -- constants put into the tree of a typed function are constants put into its flat view
@@ -74,30 +74,30 @@ abbrev pub FlatSccp : Names → Type 0
 FlatSccp N = (same : N.value → N.value → Bool) (same_block : N.block → N.block → Bool)
     (leads : TypeHandle → Option KitType) (numbered : List ℕ → ℕ) (type_at : N.value → TypeHandle)
     (t : Root N kit_contents) (after : Root (fresh N) kit_contents) (f : Fun N.value) →
-    IsSameness same → IsSameness same_block → IsFlat (kit_reading leads numbered) t f →
-    IsTyped leads {N = N} type_at t → IsSccp kit t after → IsPropagated {N = N} leads numbered f after
+    IsSameness same → IsSameness same_block → FlattensTo (kit_reading leads numbered) t f →
+    IsTyped leads {N = N} type_at t → IsSccp kit t after → IsPropagatedView {N = N} leads numbered f after
 
 -- branches that constants decide, decided in the tree of a typed function, are decided in its flat view
 abbrev pub FlatDecided : Names → Type 0
 FlatDecided N = (same : N.value → N.value → Bool) (leads : TypeHandle → Option KitType) (numbered : List ℕ → ℕ)
-    (type_at : N.value → TypeHandle) (w : Around N IntegerAttr) (t : Root N kit_contents) (f : Fun N.value) →
-    IsSameness same → IsFlat (kit_reading leads numbered) t f → IsTyped leads {N = N} type_at t → KnowsConstants w t →
-    (k : facts.Facts N.value) × AreConstants (Some f) k
-    × IsFlat (kit_reading leads numbered) (decided kit w t) (map (decide_block k) f)
+    (type_at : N.value → TypeHandle) (w : TreeSurroundings N IntegerAttr) (t : Root N kit_contents) (f : Fun N.value) →
+    IsSameness same → FlattensTo (kit_reading leads numbered) t f → IsTyped leads {N = N} type_at t → KnowsConstants w t →
+    (k : facts.FunctionFacts N.value) × AreConstants (Some f) k
+    × FlattensTo (kit_reading leads numbered) (decided kit w t) (map (decide_block k) f)
 
 -- the tree without the blocks that are not reached has as its flat view the blocks of f that are reached, numbered
 -- again
 pub record IsCutFlat {N : Names} {S : Contents} (r : Reading S) (f : Fun N.value) (after : Root N S) : Type 0 where
   pub reach : ℕ → Bool
-  pub is_reach : IsReached (Some f) reach
+  pub is_reach : IsReachedSet (Some f) reach
   pub rest : Fun N.value
   pub is : keep reach (Some f) ≡ Some rest
-  pub is_view : IsFlat r after rest
+  pub is_view : FlattensTo r after rest
 
 -- blocks that are not reached, removed from the tree of a function, are removed from its flat view
 abbrev pub FlatReached : Names → Type 0
 FlatReached N = (leads : TypeHandle → Option KitType) (numbered : List ℕ → ℕ) (t after : Root N kit_contents)
-    (f : Fun N.value) → IsFlat (kit_reading leads numbered) t f → IsCut kit (all_of t) t after →
+    (f : Fun N.value) → FlattensTo (kit_reading leads numbered) t f → IsCut kit (all_of t) t after →
     IsCutFlat (kit_reading leads numbered) f after
 
 -- each block ends in a branch or a return, and has no other
@@ -108,12 +108,12 @@ EndWell f = (b : ℕ) → b < length f → EndsWell (left_in (Some f) b 0)
 pub record IsMergedFlat {N : Names} {S : Contents} (r : Reading S) (f : Fun N.value) (after : Root N S) : Type 0 where
   pub rest : Fun N.value
   pub merges : Merges (Some f) (Some rest)
-  pub is_view : IsFlat r after rest
+  pub is_view : FlattensTo r after rest
 
 -- chains of blocks joined in the tree of a function each of whose blocks is reached are joined in its flat view
 abbrev pub FlatMerged : Names → Type 0
 FlatMerged N = (same : N.value → N.value → Bool) (leads : TypeHandle → Option KitType) (numbered : List ℕ → ℕ)
-    (t after : Root N kit_contents) (f : Fun N.value) → IsSameness same → IsFlat (kit_reading leads numbered) t f →
+    (t after : Root N kit_contents) (f : Fun N.value) → IsSameness same → FlattensTo (kit_reading leads numbered) t f →
     EndWell f → ((b : ℕ) → b < length f → Reached (Some f) b) → IsJoined kit (all_of t) t after →
     IsMergedFlat (kit_reading leads numbered) f after
 
@@ -123,11 +123,11 @@ pub record IsSimplifiedFlat {N : Names} {S : Contents} (r : Reading S) (f : Fun 
     : Type 0 where
   pub rest : Fun N.value
   pub simplifies : SimplifiesNamed (Some f) (Some rest)
-  pub is_view : IsFlat r after rest
+  pub is_view : FlattensTo r after rest
 
 -- the pass on control flow on the tree of a typed function is the pass on its flat view
 abbrev pub FlatSimplify : Names → Type 0
 FlatSimplify N = (same : N.value → N.value → Bool) (leads : TypeHandle → Option KitType) (numbered : List ℕ → ℕ)
-    (type_at : N.value → TypeHandle) (w : Around N IntegerAttr) (t after : Root N kit_contents) (f : Fun N.value) →
-    IsSameness same → IsFlat (kit_reading leads numbered) t f → IsTyped leads {N = N} type_at t →
+    (type_at : N.value → TypeHandle) (w : TreeSurroundings N IntegerAttr) (t after : Root N kit_contents) (f : Fun N.value) →
+    IsSameness same → FlattensTo (kit_reading leads numbered) t f → IsTyped leads {N = N} type_at t →
     KnowsConstants w t → EndWell f → IsSimplify kit w t after → IsSimplifiedFlat (kit_reading leads numbered) f after

@@ -30,12 +30,12 @@ module _ (leads : TypeHandle → Option KitType) where
   width_at ty = (integer_of (leads ty)).width
 
   -- an integer type of 1 to 64 bits
-  abbrev pub IsInteger : TypeHandle → Type 0
-  IsInteger ty = (i : IntegerType) × (leads ty ≡ Some (types.Integer i)) × (1 ≤ i.width) × (i.width ≤ 64)
+  abbrev pub IsMachineInteger : TypeHandle → Type 0
+  IsMachineInteger ty = (i : IntegerType) × (leads ty ≡ Some (types.Integer i)) × (1 ≤ i.width) × (i.width ≤ 64)
 
   -- the signless integer type of one bit
-  abbrev pub IsBit : TypeHandle → Type 0
-  IsBit ty = leads ty ≡ Some (types.Integer (record { signedness = Signless; width = 1 }))
+  abbrev pub LeadsToBit : TypeHandle → Type 0
+  LeadsToBit ty = leads ty ≡ Some (types.Integer (record { signedness = Signless; width = 1 }))
 
   module _ {N : Names} (type_at : N.value → TypeHandle) where
     -- a constant's value is a number of its result's type; arithmetic has one type throughout; a comparison's operands
@@ -47,8 +47,8 @@ module _ (leads : TypeHandle → Option KitType) where
     TypesFit (ops.Arithmetic k) h =
         (x v : N.value) → Has x h.operands → Has v (names_of h.results) → type_at x ≡ type_at v
     TypesFit (ops.Comparison k) h = ((x y : N.value) → Has x h.operands → Has y h.operands → type_at x ≡ type_at y)
-        × ((v : N.value) → Has v (names_of h.results) → IsBit (type_at v))
-    TypesFit ops.CondBr h = (x : N.value) → slice_get h.operands 0 ≡ Some x → IsBit (type_at x)
+        × ((v : N.value) → Has v (names_of h.results) → LeadsToBit (type_at v))
+    TypesFit ops.CondBr h = (x : N.value) → slice_get h.operands 0 ≡ Some x → LeadsToBit (type_at x)
     TypesFit _ h = Unit {0}
 
     -- each value has its type where it is defined; all are integers; each operand is defined in the function, and has
@@ -58,7 +58,7 @@ module _ (leads : TypeHandle → Option KitType) where
           Has v o.head.results → type_at v.name ≡ v.holds
       pub arguments : (x : BlockOccurrence N kit_contents) → Has x (block_occurrences_of t) →
           (v : Defined N.value TypeHandle) → Has v x.label.arguments → type_at v.name ≡ v.holds
-      pub integers : (v : N.value) → Has v (defined_in t.regions) → IsInteger (type_at v)
+      pub integers : (v : N.value) → Has v (defined_in t.regions) → IsMachineInteger (type_at v)
       pub operands : (o : Occurrence N kit_contents) (x : N.value) → Has o (occurrences_of t) → Has x o.head.operands →
           Has x (defined_in t.regions)
       pub operations : (o : Occurrence N kit_contents) → Has o (occurrences_of t) →

@@ -18,7 +18,7 @@ use Rattle.kit_ops.specs.declared.attributes.IntegerAttr.{IntegerAttr}
 use Rattle.kit_ops.specs.declared.types.IntegerType.{IntegerType}
 use Rattle.kit_ops.specs.declared.types.KitType.{KitType}
 use Rattle.kit_pass_rules.specs.Laws.{IsGood}
-use Rattle.kit_pass_rules.specs.Worlds.{KitTree, kit_world}
+use Rattle.kit_pass_rules.specs.Worlds.{PassedTree, kit_world}
 use Rattle.kit_pass_rules.proofs.Lists.{map_get, index_of_has}
 use Rattle.kit_pass_rules.proofs.Located.{located, located_block}
 use Rattle.kit_pass_rules.proofs.SccpCame.{body_in}
@@ -142,7 +142,7 @@ module _ {N : Names} (types : List KitType) (made : N.value → Option IntegerAt
 
 -- ---- which constants
 
-module _ (leads : TypeHandle → Option KitType) (old : Value → Option TypeHandle) (t : KitTree)
+module _ (leads : TypeHandle → Option KitType) (old : Value → Option TypeHandle) (t : PassedTree)
     (good : IsGood leads old t) where
   -- the type of a value that is defined in the tree, of 1 to 64 bits
   record TypeOf (v : Value) : Type 0 where

@@ -13,16 +13,16 @@ use Rattle.kit.specs.Meaning.{kit}
 use Rattle.kit_ops.specs.declared.attributes.IntegerAttr.{IntegerAttr}
 use Rattle.kit_ops.specs.declared.types.KitType.{KitType}
 use Rattle.kit_pass_rules.specs.Names.{maps_of}
-use Rattle.kit_pass_rules.specs.Worlds.{KitTree}
+use Rattle.kit_pass_rules.specs.Worlds.{PassedTree}
 use Rattle.kit_views.specs.Reading.{kit_contents}
 use Rattle.kit_writable_passes.specs.Laws.{SimplifyStaysWritable}
 use Rattle.kit_writable_passes.proofs.HeadLemmas.{head_no_branch, no_branches, head_like}
 use Rattle.kit_writable_passes.proofs.ListLemmas.{distinct_right, distinct_fewer}
 use Rattle.kit_writable_passes.proofs.RenameLemmas.{root_renamed}
 use Rattle.kit_writable_trees.specs.Writable.{count_of, label_text, labels_in, IsWritableHead, IsWritable, IsWritableRoot}
-use Rattle.opt_trees.specs.Dce.{Around}
+use Rattle.opt_trees.specs.Dce.{TreeSurroundings}
 use Rattle.opt_trees.specs.Occurrences.{Has, at_root}
-use Rattle.opt_trees.specs.Simplify.{Place, all_of, is_empty, is_end, along_edge, decide_head, decide, decided, keep, Joinable, Joins, ends, operations, regions, taken, first, chain_ends, chain_goes_on, use_head, use_instead, IsJoined, IsSimplify}
+use Rattle.opt_trees.specs.Simplify.{StartingRegions, all_of, is_empty, is_end, along_edge, decide_head, decide, decided, keep, Joinable, Joins, ends, operations, regions, taken, first, chain_ends, chain_goes_on, use_head, use_instead, IsJoined, IsSimplify}
 use Rattle.opt_trees.proofs.Lists.{length-map}
 use Rattle.opt_trees.proofs.NoneDead.{has-append, has-left, has-right, true_false}
 
@@ -106,7 +106,7 @@ module _ {N : Names} (types : List KitType) (gone : N.block → Bool) where
 -- ---- chains
 
 -- where nothing can be joined all stays
-module _ {N : Names} (p : Place N) (r : Root N kit_contents) (none : (b c : N.block) → Joinable kit p r b c → ⊥) where
+module _ {N : Names} (p : StartingRegions N) (r : Root N kit_contents) (none : (b c : N.block) → Joinable kit p r b c → ⊥) where
   tree_joined : (q : Option N.block) (s : Sort) (x y : Tree N kit_contents s) → Joins kit p r q s x y → x ≡ y
   tree_joined _ _ _ _ (ends s) = refl
   tree_joined _ _ _ _ (operations h rs qs rest more x y) =
@@ -162,14 +162,14 @@ module _ {N : Names} (types : List KitType) (f : N.value → N.value) where
 
 -- ---- the pass
 
-decided_writable : (types : List KitType) (w : Around by_handle IntegerAttr) (t : KitTree) → IsWritableRoot types t →
+decided_writable : (types : List KitType) (w : TreeSurroundings by_handle IntegerAttr) (t : PassedTree) → IsWritableRoot types t →
     IsWritableRoot types (decided kit w t)
 decided_writable types w t writable =
     let same : decide kit w.alone t.regions ≡ t.regions = tree_decided types w.alone 64 t.regions writable.regions in
     let whole : t ≡ decided kit w t = λ i. record { head = t.head; regions = sym same i } in
     subst (IsWritableRoot types) whole writable
 
-joined_writable : (types : List KitType) (p : Place by_handle) (t after : KitTree) → IsWritableRoot types t →
+joined_writable : (types : List KitType) (p : StartingRegions by_handle) (t after : PassedTree) → IsWritableRoot types t →
     IsJoined kit p t after → IsWritableRoot types after
 joined_writable types p t after writable joined =
     -- what can be joined ends in a branch
@@ -185,7 +185,7 @@ joined_writable types p t after writable joined =
 
 pub simplify_law : SimplifyStaysWritable
 simplify_law = λ types w t after writable named.
-    let made : KitTree = named.0 in
+    let made : PassedTree = named.0 in
     let pass : IsSimplify kit w t made = named.1 in
     let at_cut : IsWritableRoot types pass.cut = subst (IsWritableRoot types) (sym pass.is_cut.is)
     (root_cut types pass.is_cut.gone (decided kit w t) (decided_writable types w t writable)) in

@@ -7,10 +7,10 @@ use Rattle.ir_trees.specs.Stands.{by_handle}
 use Rattle.kit.specs.Meaning.{kit}
 use Rattle.kit_ops.specs.declared.attributes.IntegerAttr.{IntegerAttr}
 use Rattle.kit_ops.specs.declared.types.KitType.{KitType}
-use Rattle.kit_pass_rules.specs.Laws.{IsGood, IsNamed, IsSccpNamed}
-use Rattle.kit_pass_rules.specs.Worlds.{KitTree}
+use Rattle.kit_pass_rules.specs.Laws.{IsGood, MakesUpToNames, IsSccpUpToNames}
+use Rattle.kit_pass_rules.specs.Worlds.{PassedTree}
 use Rattle.kit_writable_trees.specs.Writable.{IsWritableRoot}
-use Rattle.opt_trees.specs.Dce.{Around, IsDce}
+use Rattle.opt_trees.specs.Dce.{TreeSurroundings, IsDce}
 use Rattle.opt_trees.specs.Simplify.{IsSimplify}
 
 -- what a handle leads to: the type with its number
@@ -19,15 +19,15 @@ leads_by types ty = slice_get types ty.number
 
 -- without what is dead
 abbrev pub DceStaysWritable : Type 0
-DceStaysWritable = (types : List KitType) (w : Around by_handle IntegerAttr) (t after : KitTree) →
+DceStaysWritable = (types : List KitType) (w : TreeSurroundings by_handle IntegerAttr) (t after : PassedTree) →
     IsWritableRoot types t → IsDce kit w t after → IsWritableRoot types after
 
 -- with constants put in for known values, under whatever handles, where the tree keeps the rules
 abbrev pub SccpStaysWritable : Type 0
-SccpStaysWritable = (types : List KitType) (typed : Value → Option TypeHandle) (t after : KitTree) →
-    IsWritableRoot types t → IsGood (leads_by types) typed t → IsSccpNamed t after → IsWritableRoot types after
+SccpStaysWritable = (types : List KitType) (typed : Value → Option TypeHandle) (t after : PassedTree) →
+    IsWritableRoot types t → IsGood (leads_by types) typed t → IsSccpUpToNames t after → IsWritableRoot types after
 
 -- with simpler control flow, up to handles of operations
 abbrev pub SimplifyStaysWritable : Type 0
-SimplifyStaysWritable = (types : List KitType) (w : Around by_handle IntegerAttr) (t after : KitTree) →
-    IsWritableRoot types t → IsNamed (IsSimplify kit w) t after → IsWritableRoot types after
+SimplifyStaysWritable = (types : List KitType) (w : TreeSurroundings by_handle IntegerAttr) (t after : PassedTree) →
+    IsWritableRoot types t → MakesUpToNames (IsSimplify kit w) t after → IsWritableRoot types after

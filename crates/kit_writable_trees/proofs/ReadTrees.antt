@@ -3,7 +3,7 @@ use Rattle.std.proofs.Common.{◌≡◌, ◌∙◌, ℕ, zero, suc, List, [], �
 use Rattle.std.proofs.lemmas.Option.{none-some}
 use Rattle.ir_names.specs.declared.identifier.Identifier.{Identifier}
 use Rattle.ir_forest.specs.Bare.{AreBare, AreBareTrees, IsBare, AreBareArguments}
-use Rattle.ir_forest.specs.Closed.{AllDistinct, IsClosed, AreLabelled, labels_of, number_in, regions_said, AreOperations, AreBlocks, AreRegions}
+use Rattle.ir_forest.specs.Closed.{AllDistinct, IsClosedTree, AreLabelled, labels_of, number_in, regions_said, AreOperations, AreBlocks, AreRegions}
 use Rattle.ir_print.specs.Layout.{Deeper, IsFlat, AreFlat, AreShallow, AreFlatArguments}
 use Rattle.ir_print.specs.Pieces.{ValueTree, Pieces, operation, a_region, block, Entity, entity, Entities, no_entity, an_entity}
 use Rattle.ir_print.specs.Shown.{Pairs, ShowsType}
@@ -22,7 +22,7 @@ use Rattle.kit_language.specs.Language.{kit_language}
 use Rattle.kit_ops.specs.declared.attributes.KitAttr.{KitAttr}
 use Rattle.kit_ops.specs.declared.kinds.KitOp.{KitOp}
 use Rattle.kit_texts.specs.Says.{says, values}
-use Rattle.kit_writable_trees.specs.Laws.{KitContext, KitTree}
+use Rattle.kit_writable_trees.specs.Laws.{WritableContext, WritableTree}
 use Rattle.kit_writable_trees.specs.Writable.{types_in, count_of, label_text, labels_in, IsWritableHead, IsWritable, IsWritableRoot}
 
 some_parts : {X : Type 0} (x y : X) → Some x ≡ Some y → x ≡ y
@@ -47,7 +47,7 @@ types_same (v ∷ vs) = ap (λ tys. v.ty ∷ tys) (types_same vs)
 abbrev KitPart : Sort → Type 0
 KitPart k = Tree by_handle (in_program KitOperation KitBlock) k
 
-module _ {N : Type 0} (s : KitContext) (Naming : Value → N → Type 0) where
+module _ {N : Type 0} (s : WritableContext) (Naming : Value → N → Type 0) where
   -- definitions have the types that are written beside them
   typed_so : (vs : List TypedValue) (xs : List (N × ValueTree)) → Pairs (HasDefinition says Naming s.types.keys) vs xs
       → Pairs (ShowsType says s.types.keys) (types_of vs) (map (λ x. x.1) xs)
@@ -202,8 +202,8 @@ module _ {N : Type 0} (s : KitContext) (Naming : Value → N → Type 0) where
     blocks_so d (b ∷ bs) x (an_entity (entity a_region us) ts) (first_block _ _ v os rest there inner after) h closed shallow bare labelled = absurd h.0
 
   -- so it is of an operation with a closed tree
-  pub root_so : (root : Ptr Operation) (e : Entity N) (t : KitTree) → StandsForTexts says Naming (seen s) root e
-      → IsClosed kit_language e → StandsFor s.program root t → IsWritableRoot s.types.keys t
+  pub root_so : (root : Ptr Operation) (e : Entity N) (t : WritableTree) → StandsForTexts says Naming (seen s) root e
+      → IsClosedTree kit_language e → StandsFor s.program root t → IsWritableRoot s.types.keys t
   root_so root (entity (operation kind results used pieces) us) t h closed stands =
       let is : seen_operation stands.view ≡ h.0 = same_operation root stands.view h.0 stands.there h.1 in
       let head = subst (λ o. HasHead says Naming s.types.keys o kind results used pieces) (sym is) h.2 in

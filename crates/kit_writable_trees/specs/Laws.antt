@@ -1,7 +1,7 @@
 -- The statements of the laws.
 use Rattle.std.specs.Prelude.{ℕ, List}
 use Rattle.ir_context.specs.Views.{ContextView}
-use Rattle.ir_forest.specs.Closed.{IsClosed}
+use Rattle.ir_forest.specs.Closed.{IsClosedTree}
 use Rattle.ir_print.specs.Pieces.{Entity}
 use Rattle.ir_program.specs.declared.handles.Operation.{Operation}
 use Rattle.ir_program.specs.declared.handles.Ptr.{Ptr}
@@ -19,15 +19,15 @@ use Rattle.kit_texts.specs.Says.{says}
 use Rattle.kit_writable_trees.specs.Writable.{IsWritableRoot}
 
 -- what is seen of a context of `kit`
-abbrev pub KitContext : Type 0
-KitContext = ContextView KitOperation KitBlock (TypesView KitType Unused Unused)
+abbrev pub WritableContext : Type 0
+WritableContext = ContextView KitOperation KitBlock (TypesView KitType Unused Unused)
 
 -- trees of operations of `kit`
-abbrev pub KitTree : Type 0
-KitTree = ProgramTree KitOperation KitBlock
+abbrev pub WritableTree : Type 0
+WritableTree = ProgramTree KitOperation KitBlock
 
 -- an operation that stands for a closed tree of texts can be written
 abbrev pub TextsAreWritable : Type 0
-TextsAreWritable = (s : KitContext) (root : Ptr Operation) (values : List Value) (text : Entity ℕ) (t : KitTree) →
-    StandsForTexts says (Named values) (seen s) root text → IsClosed kit_language text → StandsFor s.program root t →
+TextsAreWritable = (s : WritableContext) (root : Ptr Operation) (values : List Value) (text : Entity ℕ) (t : WritableTree) →
+    StandsForTexts says (Named values) (seen s) root text → IsClosedTree kit_language text → StandsFor s.program root t →
     IsWritableRoot s.types.keys t

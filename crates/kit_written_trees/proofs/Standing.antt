@@ -18,12 +18,12 @@ use Rattle.text_dialect.specs.Seen.{seen, seen_operation, seen_block, types_of}
 use Rattle.text_dialect.specs.Standing.{HasDefinition, HasHead, HasOwnLabel, IsLabel, HaveRegionTrees, HaveBlockTrees, HaveTrees}
 use Rattle.kit.specs.Meaning.{KitOperation}
 use Rattle.kit_texts.specs.Says.{says}
-use Rattle.kit_writable_trees.specs.Laws.{KitContext}
+use Rattle.kit_writable_trees.specs.Laws.{WritableContext}
 use Rattle.kit_writable_trees.specs.Writable.{types_in, count_of, IsWritableHead, IsWritable}
 use Rattle.kit_written_trees.proofs.Known.{KnownAll}
 use Rattle.kit_written_trees.proofs.Written.{Part, named_so, written}
 
-module _ {N : Type 0} (s : KitContext) (ν : Value → N) (Naming : Value → N → Type 0) (Known : Value → Type 0)
+module _ {N : Type 0} (s : WritableContext) (ν : Value → N) (Naming : Value → N → Type 0) (Known : Value → Type 0)
     (named : (v : Value) → Known v → Naming v (ν v)) where
   -- the types of definitions are those of the values
   types_same : (vs : List TypedValue) → types_in (map defined_by vs) ≡ types_of vs

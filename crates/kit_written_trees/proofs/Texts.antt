@@ -3,7 +3,7 @@ use Rattle.std.specs.Prelude.{slice_get}
 use Rattle.std.proofs.Common.{◌≡◌, ◌∙◌, ⊎_elim, ℕ, Some, [], ◌++◌, map, length, option_map, ap, sym, subst}
 use Rattle.std.specs.List.{range_with_len}
 use Rattle.std.proofs.lemmas.List.FromFn.{length-range_with_len}
-use Rattle.ir_forest.specs.Closed.{IsClosed, IsNumbered, IsScopedRoot, all_mentioned, all_defined, definitions_of, mentioned_by, defined_by, in_scope, is_isolated_head}
+use Rattle.ir_forest.specs.Closed.{IsClosedTree, IsNumbered, IsScopedRoot, all_mentioned, all_defined, definitions_of, mentioned_by, defined_by, in_scope, is_isolated_head}
 use Rattle.ir_forest.specs.Closed.{names_of as names_so}
 use Rattle.ir_print.specs.Pieces.{Entity, entity}
 use Rattle.ir_program.specs.declared.handles.Operation.{Operation}
@@ -23,7 +23,7 @@ use Rattle.kit_ruled_passes.specs.Scopes.{IsNone, Scoped}
 use Rattle.kit_texts.specs.Says.{says, values}
 use Rattle.kit_texts.specs.Forms.{formats}
 use Rattle.kit_texts.specs.Readable.{says_types, says_attributes, says_operations}
-use Rattle.kit_writable_trees.specs.Laws.{KitContext, KitTree}
+use Rattle.kit_writable_trees.specs.Laws.{WritableContext, WritableTree}
 use Rattle.kit_writable_trees.specs.Writable.{count_of, IsWritableHead, IsWritableRoot}
 use Rattle.kit_views.proofs.Lists.{has_get}
 use Rattle.kit_written_trees.specs.Laws.{AreToldByNumbers, HasText}
@@ -34,7 +34,7 @@ use Rattle.kit_written_trees.proofs.Standing.{head_so, have_region_trees}
 use Rattle.kit_written_trees.proofs.Written.{named_so, head_text, written, shapes_so, as_many, are_regions, is_shallow, is_bare, is_labelled, none_labelled, none_twice}
 use Rattle.ir_forest.specs.Closed.{AllDistinct}
 
-module _ (s : KitContext) (root : Ptr Operation) (t : KitTree) (stands : StandsFor s.program root t)
+module _ (s : WritableContext) (root : Ptr Operation) (t : WritableTree) (stands : StandsFor s.program root t)
     (w : IsWritableRoot {N = by_handle} s.types.keys t) (no_results : t.head.results ≡ []) (no_operands : t.head.operands ≡ [])
     (scoped : Scoped t.regions IsNone) (distinct : AreDistinct (defined_in t.regions))
     (told : AreToldByNumbers (defined_in t.regions)) where
@@ -92,7 +92,7 @@ module _ (s : KitContext) (root : Ptr Operation) (t : KitTree) (stands : StandsF
     ),
   )
 
-  closed : IsClosed kit_language text
+  closed : IsClosedTree kit_language text
   closed = record {
     operation = (
       shapes_so s.types.keys ν _ t.head.results w.head.shapes w.head.typed ∙ w.head.read,

@@ -6,7 +6,7 @@ use Rattle.ir_names.specs.Identifier.{text_of}
 use Rattle.ir_forest.specs.Bare.{AreBareTrees, IsBare, AreBareArguments}
 use Rattle.ir_forest.specs.Closed.{AllDistinct, AreLabelled, labels_of, number_in, AreOperations, AreBlocks, AreRegions}
 use Rattle.ir_print.specs.Layout.{IsFlat, AreShallow, AreFlatArguments}
-use Rattle.ir_print.specs.Pieces.{ValueTree, operation, a_region, block, Head, entity, Entities, no_entity, an_entity}
+use Rattle.ir_print.specs.Pieces.{ValueTree, operation, a_region, block, EntityHead, entity, Entities, no_entity, an_entity}
 use Rattle.ir_print.specs.Shown.{Pairs}
 use Rattle.ir_program.specs.declared.handles.Value.{Value}
 use Rattle.ir_trees.specs.Stands.{by_handle, ProgramHead, ProgramLabel}
@@ -34,10 +34,10 @@ module _ {N : Type 0} (types : List KitType) (ν : Value → N) where
   named_so (d ∷ ds) (y ∷ ys) = (ν d.name, y) ∷ named_so ds ys
 
   abbrev pub head_text : (d regions : ℕ) (h : ProgramHead KitOperation KitBlock)
-      → IsWritableHead {N = by_handle} types d regions h → Head N
+      → IsWritableHead {N = by_handle} types d regions h → EntityHead N
   head_text d regions h w = operation w.kind (named_so h.results w.shapes) (map ν h.operands) w.pieces
 
-  abbrev pub label_so : (d : ℕ) (l : ProgramLabel KitOperation KitBlock) → IsWritableLabel {N = by_handle} types d l → Head N
+  abbrev pub label_so : (d : ℕ) (l : ProgramLabel KitOperation KitBlock) → IsWritableLabel {N = by_handle} types d l → EntityHead N
   label_so d l w = block (text_of w.labelled.0) (named_so l.arguments w.arguments.shapes)
 
   abbrev pub written : {s : Sort} (d : ℕ) (x : Part s) → IsWritable {N = by_handle} types d x → Entities N

@@ -1,6 +1,6 @@
 -- The statements of the laws.
 use Rattle.std.specs.Prelude.{◌≡◌, ℕ, List, [], Some, slice_get}
-use Rattle.ir_forest.specs.Closed.{IsClosed, IsNumbered}
+use Rattle.ir_forest.specs.Closed.{IsClosedTree, IsNumbered}
 use Rattle.ir_print.specs.Pieces.{Entity}
 use Rattle.ir_program.specs.declared.handles.Operation.{Operation}
 use Rattle.ir_program.specs.declared.handles.Ptr.{Ptr}
@@ -14,17 +14,17 @@ use Rattle.text_rereading.specs.Rereading.{Named}
 use Rattle.kit_language.specs.Language.{kit_language}
 use Rattle.kit_ruled_passes.specs.Scopes.{IsNone, Scoped}
 use Rattle.kit_texts.specs.Says.{says}
-use Rattle.kit_writable_trees.specs.Laws.{KitContext, KitTree}
+use Rattle.kit_writable_trees.specs.Laws.{WritableContext, WritableTree}
 use Rattle.kit_writable_trees.specs.Writable.{IsWritableRoot}
 
 -- an operation of a context has a tree of texts: one that is closed, whose definitions have the numbers from 0 on, in the order
 -- of the text, and are these values, no two of which have one number
-pub record HasText (s : KitContext) (root : Ptr Operation) : Type 0 where
+pub record HasText (s : WritableContext) (root : Ptr Operation) : Type 0 where
   pub values : List Value
   pub text : Entity ℕ
   pub distinct : (i j : ℕ) (v w : Value) → slice_get values i ≡ Some v → slice_get values j ≡ Some w → v.number ≡ w.number → i ≡ j
   pub stands : StandsForTexts says (Named values) (seen s) root text
-  pub closed : IsClosed kit_language text
+  pub closed : IsClosedTree kit_language text
   pub numbered : IsNumbered text
 
 -- values of one number are one
@@ -35,6 +35,6 @@ AreToldByNumbers vs = (v w : Value) → Has v vs → Has w vs → v.number ≡ w
 -- its own block and of its region's entry block alone, and no value is defined twice, nor two with one
 -- number
 abbrev pub WritableHaveTexts : Type 0
-WritableHaveTexts = (s : KitContext) (root : Ptr Operation) (t : KitTree) → StandsFor s.program root t →
+WritableHaveTexts = (s : WritableContext) (root : Ptr Operation) (t : WritableTree) → StandsFor s.program root t →
     IsWritableRoot s.types.keys t → t.head.results ≡ [] → t.head.operands ≡ [] → Scoped t.regions IsNone →
     AreDistinct (defined_in t.regions) → AreToldByNumbers (defined_in t.regions) → HasText s root

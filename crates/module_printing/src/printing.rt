@@ -1,7 +1,7 @@
 //! The text of a module, which ends with a line feed.
 ghost use Rattle.std.specs.Prelude.{◌≡◌, ◌∷◌, ◌++◌, [], ℕ, List, IsSome, IfOk};
 ghost use Rattle.std.specs.String.{string_bytes};
-ghost use Rattle.ir_forest.specs.Closed.{IsClosed, IsNumbered};
+ghost use Rattle.ir_forest.specs.Closed.{IsClosedTree, IsNumbered};
 ghost use Rattle.ir_forest.specs.Language.{Language};
 ghost use Rattle.ir_formats.specs.Rules.{IsGrammarOf};
 ghost use Rattle.ir_grammar.specs.declared.grammar.Grammar.{Grammar};
@@ -42,11 +42,11 @@ pub fn print_module<D: TextDialect>(
     ensures text { (printed : Entity (List ℕ)) → PrintsAs D.says (seen ctx.now) root printed → IsShallow 64 printed →
         IfOk result (λ text. string_bytes text ≡ layout D.formats printed ++ 10 ∷ []) }
     ensures layout { (l : Language) → l.formats ≡ D.formats → (values : List Value) (tree : Entity ℕ)
-        → StandsForTexts D.says (Named values) (seen ctx.now) root tree → IsClosed l tree
+        → StandsForTexts D.says (Named values) (seen ctx.now) root tree → IsClosedTree l tree
         → IfOk result (λ text. IsTextOfModule l tree (string_bytes text)) }
     ensures again { (l : Language) → CanPrint l → l.formats ≡ D.formats → (g : Grammar) → IsGrammarOf l.formats g
         → (values : List Value) (tree : Entity ℕ)
-        → StandsForTexts D.says (Named values) (seen ctx.now) root tree → IsClosed l tree → IsNumbered tree
+        → StandsForTexts D.says (Named values) (seen ctx.now) root tree → IsClosedTree l tree → IsNumbered tree
         → IfOk result (λ text. IsReadAgain l tree (string_bytes text)) }
 {
     know_places(ctx);

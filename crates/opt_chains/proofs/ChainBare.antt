@@ -12,7 +12,7 @@ use Rattle.ir_trees.specs.Trees.{Regions, Tree}
 use Rattle.opt_inside.proofs.Around.{HasLists}
 use Rattle.opt_inside.specs.Occurring.{EachFound, IsOccurrence}
 use Rattle.opt_trees.specs.Dialect.{Dialect}
-use Rattle.opt_trees.specs.Simplify.{Place, Joinable, is_bare, is_empty, is_end}
+use Rattle.opt_trees.specs.Simplify.{StartingRegions, Joinable, is_bare, is_empty, is_end}
 use Rattle.opt_reach.specs.Edges.{IsUnder, IsBlockUnder, HasLocalEdgesFrom}
 use Rattle.opt_reach.specs.Starts.{IsStartIn}
 use Rattle.opt_reach.specs.declared.starts.Start.{Start}
@@ -32,7 +32,7 @@ no_handles : {O B : Type 0} (c : Program O B) (rs : List (Ptr Region)) (t : Tree
 no_handles c _ _ no_regions e = refl
 no_handles c _ _ (first_region r rs v blocks rest there inner more) e = let f : false ≡ true = e in cc
 
-module _ {O B A : Type 0} (d : Dialect (in_program O B) A) (place : Place by_handle) (c : Program O B) (op : Ptr Operation) (t : ProgramTree O B) (lists : HasLists c) (start : Start) (is_start : IsStartIn c start place) (edges : HasLocalEdgesFrom d.is_terminator c start)
+module _ {O B A : Type 0} (d : Dialect (in_program O B) A) (place : StartingRegions by_handle) (c : Program O B) (op : Ptr Operation) (t : ProgramTree O B) (lists : HasLists c) (start : Start) (is_start : IsStartIn c start place) (edges : HasLocalEdgesFrom d.is_terminator c start)
     (sound : EachFound t (IsOccurrence c op)) where
   pub source_under : (x y : Ptr BasicBlock) → Joinable d place t x y → IsBlockUnder c start x
   source_under x y joins =

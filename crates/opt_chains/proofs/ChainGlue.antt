@@ -8,9 +8,9 @@ use Rattle.ir_program.specs.declared.handles.BasicBlock.{BasicBlock}
 use Rattle.ir_trees.specs.Searched.{AreDistinct}
 use Rattle.ir_trees.specs.Stands.{by_handle, in_program, ProgramTree}
 use Rattle.opt_inside.proofs.Around.{HasLists}
-use Rattle.opt_inside.specs.Occurring.{EachFound, EachBlock, BlocksApart, IsBelowRoot, IsFound, IsOccurrence, IsBlockOccurrence}
+use Rattle.opt_inside.specs.Occurring.{EachFound, EachBlock, BlockNamesApart, IsBelowRoot, IsFound, IsOccurrence, IsBlockOccurrence}
 use Rattle.opt_trees.specs.Dialect.{Dialect}
-use Rattle.opt_trees.specs.Simplify.{Place}
+use Rattle.opt_trees.specs.Simplify.{StartingRegions}
 use Rattle.opt_reach.specs.Edges.{HasLocalEdgesFrom}
 use Rattle.opt_reach.specs.Starts.{IsStartIn}
 use Rattle.opt_reach.specs.declared.starts.Start.{Start}
@@ -26,8 +26,8 @@ use Rattle.opt_chains.proofs.ChainPaths.{links_named, from_first_named, single_b
 use Rattle.opt_chains.proofs.ChainRows.{IsRow}
 use Rattle.opt_chains.proofs.ChainsFound.{rows_taken, chains_found}
 
-module _ {O B A : Type 0} (d : Dialect (in_program O B) A) (place : Place by_handle) (c : Program O B) (op : Ptr Operation) (t : ProgramTree O B) (lists : HasLists c) (start : Start) (is_start : IsStartIn c start place) (edges : HasLocalEdgesFrom d.is_terminator c start)
-    (sound : EachFound t (IsOccurrence c op)) (found : (p : Ptr Operation) → IsBelowRoot c op p → IsFound t p) (blocks : EachBlock t (IsBlockOccurrence c op)) (apart : BlocksApart t)
+module _ {O B A : Type 0} (d : Dialect (in_program O B) A) (place : StartingRegions by_handle) (c : Program O B) (op : Ptr Operation) (t : ProgramTree O B) (lists : HasLists c) (start : Start) (is_start : IsStartIn c start place) (edges : HasLocalEdgesFrom d.is_terminator c start)
+    (sound : EachFound t (IsOccurrence c op)) (found : (p : Ptr Operation) → IsBelowRoot c op p → IsFound t p) (blocks : EachBlock t (IsBlockOccurrence c op)) (apart : BlockNamesApart t)
     (keys : List (Ptr BasicBlock)) (once : AreDistinct keys) (next : List (Option ℕ)) (leads : LeadsWhereJoinable d place t keys next) (ss : List ChainStep) where
   -- the first of a row that leads on, or ends where something leads on, has a block
   first_named : (a : ℕ) (ns : List ℕ) (z : Ptr BasicBlock) → IsRow next a ns → slice_get keys (end_of a ns) ≡ Some z → (x : Ptr BasicBlock) × (slice_get keys a ≡ Some x)

@@ -11,10 +11,10 @@ use Rattle.ir_trees.proofs.Members.{Has, at_has}
 use Rattle.ir_trees.specs.Searched.{AreDistinct}
 use Rattle.ir_trees.specs.Stands.{by_handle, in_program, ProgramTree, ProgramHead}
 use Rattle.opt_inside.proofs.Around.{HasLists}
-use Rattle.opt_inside.specs.Occurring.{Found, EachFound, EachBlock, BlocksApart, IsBelowRoot, IsFound, IsOccurrence, IsBlockOccurrence}
+use Rattle.opt_inside.specs.Occurring.{Found, EachFound, EachBlock, BlockNamesApart, IsBelowRoot, IsFound, IsOccurrence, IsBlockOccurrence}
 use Rattle.opt_trees.specs.Dialect.{Dialect}
 use Rattle.opt_trees.specs.Occurrences.{BlockOccurrence, occurrences_of}
-use Rattle.opt_trees.specs.Simplify.{Place, Joinable, IsReached, entry, further}
+use Rattle.opt_trees.specs.Simplify.{StartingRegions, Joinable, IsReached, entry, further}
 use Rattle.opt_reach.specs.Edges.{IsBlockUnder, HasLocalEdgesFrom}
 use Rattle.opt_reach.specs.Starts.{IsStartIn}
 use Rattle.opt_reach.specs.declared.starts.Start.{Start}
@@ -47,7 +47,7 @@ leads_or_not (o ∷ next) n = ⊎_elim
     at_each ne none zero h = let s : Some o ≡ Some (Some n) = h in let q : o ≡ Some n = cc in ne q
     at_each ne none (suc k) h = none k h
 
-module _ {O B A : Type 0} (d : Dialect (in_program O B) A) (place : Place by_handle) (c : Program O B) (op : Ptr Operation) (t : ProgramTree O B) (lists : HasLists c) (start : Start) (is_start : IsStartIn c start place) (edges : HasLocalEdgesFrom d.is_terminator c start)
+module _ {O B A : Type 0} (d : Dialect (in_program O B) A) (place : StartingRegions by_handle) (c : Program O B) (op : Ptr Operation) (t : ProgramTree O B) (lists : HasLists c) (start : Start) (is_start : IsStartIn c start place) (edges : HasLocalEdgesFrom d.is_terminator c start)
     (sound : EachFound t (IsOccurrence c op)) (found : (p : Ptr Operation) → IsBelowRoot c op p → IsFound t p) (blocks : EachBlock t (IsBlockOccurrence c op)) where
   -- the successors of an operation that is found
   successors_of : (o : Found O B) → Has o (occurrences_of t) → successors_at c o.head.name ≡ o.head.successors
@@ -91,7 +91,7 @@ module _ {O B A : Type 0} (d : Dialect (in_program O B) A) (place : Place by_han
       let same = a.single b.last b.stands row in
       sym a.in_block ∙ ap (λ (o : Found O B). o.site.label.name) (sym same) ∙ b.in_block
 
-  module _ (apart : BlocksApart t) (keys : List (Ptr BasicBlock)) (once : AreDistinct keys) (next : List (Option ℕ)) (len : length next ≡ length keys)
+  module _ (apart : BlockNamesApart t) (keys : List (Ptr BasicBlock)) (once : AreDistinct keys) (next : List (Option ℕ)) (len : length next ≡ length keys)
       (named : (n m : ℕ) → slice_get next n ≡ Some (Some m) → (x : Ptr BasicBlock) × (y : Ptr BasicBlock) × (slice_get keys n ≡ Some x) × (slice_get keys m ≡ Some y) × Joinable d place t x y) where
     in_length : {X : Type 0} (xs : List X) (k : ℕ) (x : X) → slice_get xs k ≡ Some x → k < length xs
     in_length [] k x h = absurd (none_listed k x h)

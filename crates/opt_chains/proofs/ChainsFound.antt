@@ -14,7 +14,7 @@ use Rattle.ir_trees.specs.Searched.{AreDistinct}
 use Rattle.ir_trees.specs.Stands.{by_handle, in_program, ProgramTree}
 use Rattle.opt_inside.proofs.Around.{HasLists}
 use Rattle.opt_trees.specs.Dialect.{Dialect}
-use Rattle.opt_trees.specs.Simplify.{Place, Joinable}
+use Rattle.opt_trees.specs.Simplify.{StartingRegions, Joinable}
 use Rattle.opt_chains.specs.Chained.{AreChains}
 use Rattle.opt_chains.specs.ChainSteps.{behind, end_of, IsFirst, IsBehind, AreLinks, AreSteps, no_steps, one_step, AreWalked}
 use Rattle.opt_chains.specs.Exits.{IsBareExit}
@@ -61,7 +61,7 @@ pub rows_taken : (next : List (Option ℕ)) (ss : List ChainStep) → AreSteps n
 rows_taken next ss steps k f = rows next (take k ss) (steps_taken next ss steps k) f
 
 -- what is known of the numbers of blocks, of what they lead to, and of the steps
-pub record AreNamed {O B A : Type 0} (d : Dialect (in_program O B) A) (place : Place by_handle) (c : Program O B) (t : ProgramTree O B) (keys : List (Ptr BasicBlock)) (next : List (Option ℕ)) (ss : List ChainStep) (js : List Join) : Type 0 where
+pub record AreNamed {O B A : Type 0} (d : Dialect (in_program O B) A) (place : StartingRegions by_handle) (c : Program O B) (t : ProgramTree O B) (keys : List (Ptr BasicBlock)) (next : List (Option ℕ)) (ss : List ChainStep) (js : List Join) : Type 0 where
   pub once : AreDistinct keys
   pub len : length next ≡ length keys
   pub links : AreLinks next
@@ -78,7 +78,7 @@ pub record AreNamed {O B A : Type 0} (d : Dialect (in_program O B) A) (place : P
   pub single : (x y : Ptr BasicBlock) (p : Ptr Operation) → Joinable d place t x y → IsBareExit d c x p y → (q : Ptr Operation) (k : ℕ) → slice_get (successors_at c q) k ≡ Some y → q ≡ p
   pub beside : (x y : Ptr BasicBlock) → Joinable d place t x y → AreTogether c x y
 
-module _ {O B A : Type 0} (d : Dialect (in_program O B) A) (place : Place by_handle) (c : Program O B) (t : ProgramTree O B) (lists : HasLists c) (keys : List (Ptr BasicBlock)) (next : List (Option ℕ)) (ss : List ChainStep) (js : List Join) (by : AreNamed d place c t keys next ss js) where
+module _ {O B A : Type 0} (d : Dialect (in_program O B) A) (place : StartingRegions by_handle) (c : Program O B) (t : ProgramTree O B) (lists : HasLists c) (keys : List (Ptr BasicBlock)) (next : List (Option ℕ)) (ss : List ChainStep) (js : List Join) (by : AreNamed d place c t keys next ss js) where
   steps : AreSteps next ss
   steps = by.walked.steps
 

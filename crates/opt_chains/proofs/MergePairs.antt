@@ -22,7 +22,7 @@ use Rattle.ir_program.proofs.made.Frames.{same_or_not}
 use Rattle.ir_trees.proofs.Members.{Has, Once, at_has, once_of}
 use Rattle.ir_trees.proofs.HandleTests.{block_no}
 use Rattle.opt_inside.proofs.Around.{HasLists, around_block}
-use Rattle.opt_chains.specs.Merging.{front, without, IsJoint, IsReady, JoinsBlocks}
+use Rattle.opt_chains.specs.Merging.{front, without, IsJoint, IsReadyToJoin, JoinsBlocks}
 use Rattle.opt_chains.specs.declared.merging.Join.{Join}
 use Rattle.opt_chains.proofs.MergeLists.{none_listed, something, last_at, remove_last, found_or_not, left_out, without_none}
 
@@ -83,7 +83,7 @@ module _ {O B : Type 0} where
     blocks = λ q k a h s. let e : BlockNode a ≡ OperationNode p = alone c p joint.view joint.there joint.regions (BlockNode a) s in cc;
   }
 
-  module _ (old m1 : Program O B) (j : Join) (ready : IsReady old j) (lists : HasLists old) (e1 : ErasesOperation old m1 j.branch) where
+  module _ (old m1 : Program O B) (j : Join) (ready : IsReadyToJoin old j) (lists : HasLists old) (e1 : ErasesOperation old m1 j.branch) where
     joint : IsJoint old j.first j.branch j.block
     joint = ready.joint
 

@@ -12,7 +12,7 @@ use Rattle.ir_program.proofs.made.Frames.{same_or_not}
 use Rattle.ir_trees.proofs.HandleTests.{block_yes, block_no}
 use Rattle.ir_trees.proofs.Members.{Has, at_has, has_at}
 use Rattle.opt_inside.proofs.Around.{HasLists}
-use Rattle.opt_chains.specs.Merging.{front, without, held, is_taken, last_of, along, AreTogether, IsReady, TakesNoArgument, IsNextJoin, JoinsBlocks, HasJoined}
+use Rattle.opt_chains.specs.Merging.{front, without, held, is_taken, last_of, along, AreTogether, IsReadyToJoin, TakesNoArgument, IsNextJoin, JoinsBlocks, HasJoined}
 use Rattle.opt_chains.specs.declared.merging.Join.{Join}
 use Rattle.opt_chains.proofs.MergeLists.{none_listed, last_at, front_last, front_both, without_none, without_both}
 
@@ -164,7 +164,7 @@ module _ {O B : Type 0} (old : Program O B) where
           of (Some v) = refl
 
     -- the next step can be taken
-    pub ready_now : TakesNoArgument old j.block → IsReady mid j
+    pub ready_now : TakesNoArgument old j.block → IsReadyToJoin mid j
     ready_now unused = record {
       first = subst IsSome (sym (done.blocks j.first next.kept)) (mapped (block_at old j.first) (λ ps. along old ps (held js j.first)) first_live);
       block = subst IsSome (sym block_now) next.together.2.block;

@@ -14,7 +14,7 @@ use Rattle.ir_trees.specs.Trees.{Sort, Operations, Blocks, Regions, Tree, end, o
 use Rattle.opt_inside.specs.Occurring.{FoundBlock}
 use Rattle.opt_trees.specs.Dialect.{Dialect}
 use Rattle.opt_trees.specs.Occurrences.{block_occurrences_of}
-use Rattle.opt_trees.specs.Simplify.{Place, Joinable, Joins, ends, operations, regions, taken, first, chain_ends, chain_goes_on, use_head, use_instead, but_last, append}
+use Rattle.opt_trees.specs.Simplify.{StartingRegions, Joinable, Joins, ends, operations, regions, taken, first, chain_ends, chain_goes_on, use_head, use_instead, but_last, append}
 use Rattle.opt_chains.specs.Merging.{front, without, along}
 
 -- what is known of the blocks of a tree and of its program after they were joined: which blocks are joined behind each
@@ -24,13 +24,13 @@ pub record IsMerged {O B A : Type 0} (d : Dialect (in_program O B) A) (old new :
   pub block : (b : Ptr BasicBlock) (v : BlockView B) → gone b ≡ false → block_at old b ≡ Some v → block_at new b ≡ Some (record v { operations = along old v.operations (behind b) })
   pub region : (r : Ptr Region) (v : RegionView) → region_at old r ≡ Some v → (w : RegionView) × (region_at new r ≡ Some w) × (w.blocks ≡ without gone v.blocks)
 
-module _ {O B A : Type 0} (d : Dialect (in_program O B) A) (place : Place by_handle) (old : Program O B) (t : ProgramTree O B) where
+module _ {O B A : Type 0} (d : Dialect (in_program O B) A) (place : StartingRegions by_handle) (old : Program O B) (t : ProgramTree O B) where
   -- the blocks are a chain behind b, to its end, and only the last of them has a last operation that is left
   pub data IsChain (is_left : Ptr Operation → Type 0) : Ptr BasicBlock → List (Ptr BasicBlock) → Type 0 where
     at_end : (b : Ptr BasicBlock) → ((c : Ptr BasicBlock) → Joinable d place t b c → ⊥) → ((p : Ptr Operation) → Has p (operations_in old b) → is_left p) → IsChain is_left b []
     before : (b c : Ptr BasicBlock) (cs : List (Ptr BasicBlock)) → Joinable d place t b c → ((p : Ptr Operation) → Has p (front (operations_in old b)) → is_left p) → IsChain is_left c cs → IsChain is_left b (c ∷ cs)
 
-module _ {O B A : Type 0} (d : Dialect (in_program O B) A) (place : Place by_handle) (old new : Program O B) (t : ProgramTree O B) (names : Value → Value) (is_left : Ptr Operation → Type 0) where
+module _ {O B A : Type 0} (d : Dialect (in_program O B) A) (place : StartingRegions by_handle) (old new : Program O B) (t : ProgramTree O B) (names : Value → Value) (is_left : Ptr Operation → Type 0) where
   -- operations of one block with what is below them, joined
   data OwnOf : List (Ptr Operation) → Tree by_handle (in_program O B) Operations → Tree by_handle (in_program O B) Operations → Type 0 where
     no_own : OwnOf [] end end

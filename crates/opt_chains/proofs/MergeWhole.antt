@@ -28,7 +28,7 @@ use Rattle.opt_inside.specs.Occurring.{FoundBlock, EachFound, EachBlock, IsOccur
 use Rattle.opt_inside.specs.Outside.{AddsNoneOutside, ChangesOperandsOutside}
 use Rattle.opt_trees.specs.Dialect.{Dialect}
 use Rattle.opt_trees.specs.Occurrences.{Occurrence, block_occurrences_of}
-use Rattle.opt_trees.specs.Simplify.{Place, Joinable, IsGiven, Follows, stops, use_head, use_instead}
+use Rattle.opt_trees.specs.Simplify.{StartingRegions, Joinable, IsGiven, Follows, stops, use_head, use_instead}
 use Rattle.opt_reach.specs.Edges.{HasLocalEdgesFrom}
 use Rattle.opt_reach.specs.Starts.{IsStartIn}
 use Rattle.opt_reach.specs.declared.starts.Start.{Start}
@@ -152,7 +152,7 @@ before_or_after (suc a) (suc b) = ⊎_elim
     (λ more. ⊎_elim (λ e. inr (inl (ap suc e))) (λ g. inr (inr (omega arith))) more)
     (before_or_after a b)
 
-module _ {O B A : Type 0} (d : Dialect (in_program O B) A) (place : Place by_handle) (t : ProgramTree O B) where
+module _ {O B A : Type 0} (d : Dialect (in_program O B) A) (place : StartingRegions by_handle) (t : ProgramTree O B) where
   -- each is joinable behind the one before
   abbrev IsRow : Ptr BasicBlock → List (Ptr BasicBlock) → Type 0
   IsRow b [] = Unit {0}
@@ -200,7 +200,7 @@ standing_is (s ∷ ss) v = ⊎_elim
     (value-test.decide v s.argument)
 
 -- what is known of a program before its blocks are joined
-pub record IsKnown {O B A : Type 0} (d : Dialect (in_program O B) A) (place : Place by_handle) (old : Program O B) (op : Ptr Operation) (t : ProgramTree O B) : Type 0 where
+pub record IsKnown {O B A : Type 0} (d : Dialect (in_program O B) A) (place : StartingRegions by_handle) (old : Program O B) (op : Ptr Operation) (t : ProgramTree O B) : Type 0 where
   pub lists : HasLists old
   pub start : Start
   pub is_start : IsStartIn old start place
@@ -210,7 +210,7 @@ pub record IsKnown {O B A : Type 0} (d : Dialect (in_program O B) A) (place : Pl
   pub used : (v : Value) → IsUsed old v → IsLiveValue old v
   pub stands : (v : Value) (ty : TypeHandle) → type_at old v ≡ Some ty → StandsAtDefiner old v ty
 
-module _ {O B A : Type 0} (d : Dialect (in_program O B) A) (place : Place by_handle) (old mid : Program O B) (op : Ptr Operation) (t : ProgramTree O B) (known : IsKnown d place old op t) (js : List Join) (ss : List StandIn) (chains : AreChains d place old t js) (ins : AreStandIns d place old t js ss) (takes : TakesInstead old mid (standing ss)) where
+module _ {O B A : Type 0} (d : Dialect (in_program O B) A) (place : StartingRegions by_handle) (old mid : Program O B) (op : Ptr Operation) (t : ProgramTree O B) (known : IsKnown d place old op t) (js : List Join) (ss : List StandIn) (chains : AreChains d place old t js) (ins : AreStandIns d place old t js ss) (takes : TakesInstead old mid (standing ss)) where
   lists : HasLists old
   lists = known.lists
 
@@ -591,7 +591,7 @@ module _ {O B A : Type 0} (d : Dialect (in_program O B) A) (place : Place by_han
         }
 
 -- where there is nothing to join, the program is merged as it is
-pub nothing_merged : {O B A : Type 0} (d : Dialect (in_program O B) A) (place : Place by_handle) (old : Program O B) (op : Ptr Operation) (t : ProgramTree O B) → IsKnown d place old op t → (js : List Join) → AreChains d place old t js → js ≡ [] → StandsFor old op t → MergesBlocks d place old old op t
+pub nothing_merged : {O B A : Type 0} (d : Dialect (in_program O B) A) (place : StartingRegions by_handle) (old : Program O B) (op : Ptr Operation) (t : ProgramTree O B) → IsKnown d place old op t → (js : List Join) → AreChains d place old t js → js ≡ [] → StandsFor old op t → MergesBlocks d place old old op t
 nothing_merged d place old op t known js chains none stands =
     let empty : AreChains d place old t [] = subst (AreChains d place old t) none chains in
     merges_blocks d place old old op t known [] [] empty (record {
@@ -603,10 +603,10 @@ nothing_merged d place old op t known js chains none stands =
     }) (none_instead old) old (none_joined old) stands
 
 -- where there is no step, no blocks are joinable; where there is one, two are
-pub none_joinable : {O B A : Type 0} (d : Dialect (in_program O B) A) (place : Place by_handle) (c : Program O B) (t : ProgramTree O B) (js : List Join) → AreChains d place c t js → js ≡ [] → (a b : Ptr BasicBlock) → Joinable d place t a b → ⊥
+pub none_joinable : {O B A : Type 0} (d : Dialect (in_program O B) A) (place : StartingRegions by_handle) (c : Program O B) (t : ProgramTree O B) (js : List Join) → AreChains d place c t js → js ≡ [] → (a b : Ptr BasicBlock) → Joinable d place t a b → ⊥
 none_joinable d place c t js chains none a b joins = let f : false ≡ true = (subst (AreChains d place c t) none chains).all a b joins in cc
 
-pub some_joinable : {O B A : Type 0} (d : Dialect (in_program O B) A) (place : Place by_handle) (c : Program O B) (t : ProgramTree O B) (js : List Join) → AreChains d place c t js → (js ≡ [] → ⊥) → ((a b : Ptr BasicBlock) → Joinable d place t a b → ⊥) → ⊥
+pub some_joinable : {O B A : Type 0} (d : Dialect (in_program O B) A) (place : StartingRegions by_handle) (c : Program O B) (t : ProgramTree O B) (js : List Join) → AreChains d place c t js → (js ≡ [] → ⊥) → ((a b : Ptr BasicBlock) → Joinable d place t a b → ⊥) → ⊥
 some_joinable d place c t [] chains some none = some refl
 some_joinable d place c t (j ∷ js) chains some none = none j.first j.block (chains.sound zero j refl)
 

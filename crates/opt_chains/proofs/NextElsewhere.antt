@@ -12,11 +12,11 @@ use Rattle.opt_inside.specs.Numbered.{Numbers, NumbersInside}
 use Rattle.opt_inside.specs.Occurring.{FoundBlock}
 use Rattle.opt_trees.specs.Dialect.{Dialect}
 use Rattle.opt_trees.specs.Occurrences.{block_occurrences_of}
-use Rattle.opt_trees.specs.Simplify.{Place, OfOperations, OfRegion, BeginsAt, Joinable, IsVisited, of_place, of_inner}
+use Rattle.opt_trees.specs.Simplify.{StartingRegions, OfOperations, OfRegion, BeginsAt, Joinable, IsVisited, of_place, of_inner}
 use Rattle.opt_reach.specs.Starts.{IsStartIn}
 use Rattle.opt_reach.specs.declared.starts.Start.{Start}
 use Rattle.opt_reach.specs.declared.starts.Start.TheVariants.{Operation as AtOperation, Block as AtBlock, Region as AtRegion}
-use Rattle.opt_chains.specs.Chained.{AreChains, Begins}
+use Rattle.opt_chains.specs.Chained.{AreChains, StartsSomewhere}
 use Rattle.opt_chains.specs.NextBlocks.{HoldsOne, IsElsewhere}
 use Rattle.opt_chains.specs.declared.merging.Join.{Join}
 use Rattle.opt_chains.proofs.ChainRows.{same_number}
@@ -33,7 +33,7 @@ none_more P xs i x none here misses k y less at h = ⊎_elim
     (λ (ne : k ≢ i). none k y (omega (arith, less, ne)) at h)
     (same_number k i)
 
-module _ {O B A : Type 0} (d : Dialect (in_program O B) A) (place : Place by_handle) (c : Program O B) (op : Ptr Operation) (t : ProgramTree O B) (by : Occurs c op t) (n : Numbers) (numbered : NumbersInside c op n) where
+module _ {O B A : Type 0} (d : Dialect (in_program O B) A) (place : StartingRegions by_handle) (c : Program O B) (op : Ptr Operation) (t : ProgramTree O B) (by : Occurs c op t) (n : Numbers) (numbered : NumbersInside c op n) where
   module _ (r : Ptr Region) (none : HoldsOne c r n.blocks → ⊥) (q : Ptr Operation) (i : ℕ) (v : OperationView O) (there : operation_at c q ≡ Some v) (here : slice_get v.regions i ≡ Some r) (is : place ≡ OfRegion q i) where
     not_visited : (a : Ptr Operation) (k : ℕ) → IsVisited d place t a k → (x : FoundBlock O B) → Has x (block_occurrences_of t) → a ≡ x.spot.owner.name → k ≡ x.spot.region → ⊥
     not_visited _ _ (of_place a k begins) x has owner region =
@@ -56,7 +56,7 @@ module _ {O B A : Type 0} (d : Dialect (in_program O B) A) (place : Place by_han
       not_visited r else begins.0 begins.1 begins.2 begins.3 begins.4 begins.5 joins.last.site.spot.owner.name joins.last.site.spot.region joins.visited.visited site.block site.found (ap (λ s. s.owner.name) (sym site.spot)) (ap (λ s. s.region) (sym site.spot))
 
 -- where none are joinable no step joins all chains
-pub no_chains : {O B A : Type 0} (d : Dialect (in_program O B) A) (place : Place by_handle) (c : Program O B) (t : ProgramTree O B) → ((a b : Ptr BasicBlock) → Joinable d place t a b → ⊥) → (js : List Join) → js ≡ [] → AreChains d place c t js
+pub no_chains : {O B A : Type 0} (d : Dialect (in_program O B) A) (place : StartingRegions by_handle) (c : Program O B) (t : ProgramTree O B) → ((a b : Ptr BasicBlock) → Joinable d place t a b → ⊥) → (js : List Join) → js ≡ [] → AreChains d place c t js
 no_chains d place c t none js e = subst (AreChains d place c t) (sym e) (record {
   joins = λ k j h. absurd (none_listed k j h);
   sound = λ k j h. absurd (none_listed k j h);
@@ -66,12 +66,12 @@ no_chains d place c t none js e = subst (AreChains d place c t) (sym e) (record 
 
 module _ {O B : Type 0} (c : Program O B) where
   -- looking begins somewhere where it doesn't begin at a region, or at one of an operation
-  pub begins_there : (start : Start) → ((r : Ptr Region) → start ≡ AtRegion r → ⊥) → Begins c start
+  pub begins_there : (start : Start) → ((r : Ptr Region) → start ≡ AtRegion r → ⊥) → StartsSomewhere c start
   begins_there (AtOperation p) other = (OfOperations (p ∷ []), refl)
   begins_there (AtBlock b) other = (OfOperations (operations_in c b), refl)
   begins_there (AtRegion r) other = absurd (other r refl)
 
-  pub begins_in : (r : Ptr Region) (q : Ptr Operation) → StandsInOperation c r q → Begins c (AtRegion r)
+  pub begins_in : (r : Ptr Region) (q : Ptr Operation) → StandsInOperation c r q → StartsSomewhere c (AtRegion r)
   begins_in r q s =
       let v = something (operation_at c q) s.operation in
       (OfRegion q s.index, (q, s.index, v.0, v.1, ap (λ o. slice_get (unwrap_or (option_map (λ (x : OperationView O). x.regions) o) []) s.index) (sym v.1) ∙ s.here, refl))

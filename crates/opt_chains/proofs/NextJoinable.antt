@@ -14,13 +14,13 @@ use Rattle.ir_trees.specs.Stands.{by_handle, in_program, ProgramTree, ProgramHea
 use Rattle.ir_trees.specs.Trees.{Regions, Tree}
 use Rattle.opt_inside.proofs.Around.{HasLists}
 use Rattle.opt_inside.specs.Numbered.{Numbers, NumbersInside}
-use Rattle.opt_inside.specs.Occurring.{Found, FoundBlock, EachFound, EachBlock, BlocksApart, IsBelowRoot, IsBlockBelow, IsFound, IsBlockFound, IsOccurrence, IsBlockOccurrence, IsSiteOf, OperationsFound}
+use Rattle.opt_inside.specs.Occurring.{Found, FoundBlock, EachFound, EachBlock, BlockNamesApart, IsBelowRoot, IsBlockBelow, IsFound, IsBlockFound, IsOccurrence, IsBlockOccurrence, SiteIsFound, OperationsFound}
 use Rattle.opt_solvers.specs.Chains.{IsJoinedTo}
 use Rattle.opt_solvers.specs.ChainsJoined.{AreJoined}
 use Rattle.opt_solvers.specs.declared.chains.ChainBlock.{ChainBlock}
 use Rattle.opt_trees.specs.Dialect.{Dialect}
 use Rattle.opt_trees.specs.Occurrences.{OperationsApart, occurrences_of, block_occurrences_of}
-use Rattle.opt_trees.specs.Simplify.{Place, Joinable, IsReached, IsVisited, IsEntered, is_bare, is_empty, is_end}
+use Rattle.opt_trees.specs.Simplify.{StartingRegions, Joinable, IsReached, IsVisited, IsEntered, is_bare, is_empty, is_end}
 use Rattle.opt_reach.specs.Edges.{HasLocalEdgesFrom}
 use Rattle.opt_reach.specs.Fates.{IsEnteredThere, IsFate, AreFates}
 use Rattle.opt_reach.specs.declared.fates.Fate.{Fate}
@@ -43,8 +43,8 @@ pub record Occurs {O B : Type 0} (c : Program O B) (op : Ptr Operation) (t : Pro
   pub one : OperationsApart t
   pub blocks_sound : EachBlock t (IsBlockOccurrence c op)
   pub blocks_found : (b : Ptr BasicBlock) → IsBlockBelow c op b → IsBlockFound t b
-  pub blocks_one : BlocksApart t
-  pub site : EachFound t (IsSiteOf c t)
+  pub blocks_one : BlockNamesApart t
+  pub site : EachFound t (SiteIsFound c t)
   pub operations : EachBlock t (OperationsFound c t)
 
 module _ {X : Type 0} where
@@ -79,7 +79,7 @@ ends_there c _ _ (first_region r rs v blocks rest there inner more) e = cc
 none_left : (ts : List TypedValue) → ts ≡ [] → is_empty (map defined_by ts) ≡ true
 none_left ts e = ap (λ l. is_empty (map defined_by l)) e
 
-module _ {O B A : Type 0} (d : Dialect (in_program O B) A) (place : Place by_handle) (c : Program O B) (op : Ptr Operation) (t : ProgramTree O B) (lists : HasLists c) (start : Start) (is_start : IsStartIn c start place) (edges : HasLocalEdgesFrom d.is_terminator c start)
+module _ {O B A : Type 0} (d : Dialect (in_program O B) A) (place : StartingRegions by_handle) (c : Program O B) (op : Ptr Operation) (t : ProgramTree O B) (lists : HasLists c) (start : Start) (is_start : IsStartIn c start place) (edges : HasLocalEdgesFrom d.is_terminator c start)
     (by : Occurs c op t) where
   successors_of : (o : Found O B) → Has o (occurrences_of t) → successors_at c o.head.name ≡ o.head.successors
   successors_of o stands =

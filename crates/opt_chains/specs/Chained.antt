@@ -8,15 +8,15 @@ use Rattle.ir_trees.specs.Searched.{Lists}
 use Rattle.ir_trees.specs.Stands.{by_handle, in_program, ProgramTree}
 use Rattle.opt_trees.specs.Dialect.{Dialect}
 use Rattle.opt_trees.specs.Occurrences.{Has}
-use Rattle.opt_trees.specs.Simplify.{Place, Joinable, IsGiven, Follows, ComesBack}
+use Rattle.opt_trees.specs.Simplify.{StartingRegions, Joinable, IsGiven, Follows, ComesBack}
 use Rattle.opt_reach.specs.Starts.{IsStartIn}
 use Rattle.opt_reach.specs.declared.starts.Start.{Start}
 use Rattle.opt_chains.specs.Merging.{AreJoins, held, is_taken, last_of}
-use Rattle.opt_chains.specs.MergedValues.{AreFinal, AreThere}
+use Rattle.opt_chains.specs.MergedValues.{AreFinal, StandInsAreThere}
 use Rattle.opt_chains.specs.declared.merging.Join.{Join}
 use Rattle.opt_chains.specs.declared.merge_values.StandIn.{StandIn}
 
-module _ {O B A : Type 0} (d : Dialect (in_program O B) A) (p : Place by_handle) (c : Program O B) (t : ProgramTree O B) where
+module _ {O B A : Type 0} (d : Dialect (in_program O B) A) (p : StartingRegions by_handle) (c : Program O B) (t : ProgramTree O B) where
   -- the steps join each chain below the root at its first block, to its end
   pub record AreChains (js : List Join) : Type 0 where
     pub joins : AreJoins c js
@@ -26,24 +26,24 @@ module _ {O B A : Type 0} (d : Dialect (in_program O B) A) (p : Place by_handle)
 
   -- for each argument of a block that is joined behind another, what was forwarded to it, followed to its end
   pub record AreStandIns (js : List Join) (ss : List StandIn) : Type 0 where
-    pub there : AreThere c ss
+    pub there : StandInsAreThere c ss
     pub fixed : AreFinal ss
     pub follows : (s : StandIn) → Lists ss s → Follows d p t s.argument s.value
     pub given : (v u : Value) → IsGiven d p t v u → (s : StandIn) × Has s ss × (s.argument ≡ v)
     pub arguments : (j : Join) → Lists js j → (i : ℕ) (v : Value) → value_in (arguments_at c j.block) i ≡ Some v → (s : StandIn) × Has s ss × (s.argument ≡ v)
 
 -- what is to be done below a root: all chains, and what stands for arguments, where following comes to an end
-pub record IsPlan {O B A : Type 0} (d : Dialect (in_program O B) A) (p : Place by_handle) (c : Program O B) (t : ProgramTree O B) (js : List Join) (ss : List StandIn) : Type 0 where
+pub record IsJoiningPlan {O B A : Type 0} (d : Dialect (in_program O B) A) (p : StartingRegions by_handle) (c : Program O B) (t : ProgramTree O B) (js : List Join) (ss : List StandIn) : Type 0 where
   pub chains : AreChains d p c t js
   pub stand_ins : AreStandIns d p c t js ss
   pub ends : ComesBack d p t → ⊥
 
 -- looking begins somewhere
-abbrev pub Begins : {O B : Type 0} → Program O B → Start → Type 0
-Begins c start = (p : Place by_handle) × IsStartIn c start p
+abbrev pub StartsSomewhere : {O B : Type 0} → Program O B → Start → Type 0
+StartsSomewhere c start = (p : StartingRegions by_handle) × IsStartIn c start p
 
 -- which blocks numbers lead to
-pub record LeadsWhereJoinable {O B A : Type 0} (d : Dialect (in_program O B) A) (p : Place by_handle) (t : ProgramTree O B) (keys : List (Ptr BasicBlock)) (next : List (Option ℕ)) : Type 0 where
+pub record LeadsWhereJoinable {O B A : Type 0} (d : Dialect (in_program O B) A) (p : StartingRegions by_handle) (t : ProgramTree O B) (keys : List (Ptr BasicBlock)) (next : List (Option ℕ)) : Type 0 where
   pub len : length next ≡ length keys
   pub named : (n m : ℕ) → slice_get next n ≡ Some (Some m) → (x : Ptr BasicBlock) × (y : Ptr BasicBlock) × (slice_get keys n ≡ Some x) × (slice_get keys m ≡ Some y) × Joinable d p t x y
   pub all : (x y : Ptr BasicBlock) → Joinable d p t x y → (n : ℕ) × (m : ℕ) × (slice_get keys n ≡ Some x) × (slice_get keys m ≡ Some y) × (slice_get next n ≡ Some (Some m))

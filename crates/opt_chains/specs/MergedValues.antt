@@ -21,8 +21,8 @@ AreFinal ss = (s u : StandIn) → Lists ss s → Lists ss u → s.value ≢ u.ar
 
 module _ {O B : Type 0} where
   -- each argument and each value in place of one is there
-  abbrev pub AreThere : Program O B → List StandIn → Type 0
-  AreThere c ss = (s : StandIn) → Lists ss s → IsLiveValue c s.argument × IsLiveValue c s.value
+  abbrev pub StandInsAreThere : Program O B → List StandIn → Type 0
+  StandInsAreThere c ss = (s : StandIn) → Lists ss s → IsLiveValue c s.argument × IsLiveValue c s.value
 
   -- each operand of each operation is what f makes of it, and nothing else changes
   pub record TakesInstead (old new : Program O B) (f : Value → Value) : Type 0 where

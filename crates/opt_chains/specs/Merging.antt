@@ -62,7 +62,7 @@ module _ {O B : Type 0} (c : Program O B) where
   TakesNoArgument b = (q : Ptr Operation) (k : ℕ) (v : Value) → slice_get (operands_at c q) k ≡ Some v → v.definer ≡ ByBlock b → ⊥
 
   -- the block can be joined behind the first
-  pub record IsReady (j : Join) : Type 0 where
+  pub record IsReadyToJoin (j : Join) : Type 0 where
     pub first : IsSome (block_at c j.first)
     pub block : IsSome (block_at c j.block)
     pub other : j.first ≢ j.block

@@ -9,8 +9,8 @@ ghost use Rattle.ir_trees.specs.Stands.{ProgramTree, StandsFor, by_handle};
 ghost use Rattle.opt_inside.specs.Numbered.{NumbersInside, numbers_of};
 ghost use Rattle.opt_reach.specs.Edges.{HasLocalEdgesFrom};
 ghost use Rattle.opt_reach.specs.Starts.{IsStartIn};
-ghost use Rattle.opt_trees.specs.Simplify.{Place};
-ghost use Rattle.opt_chains.specs.Chained.{AreChains, Begins, LeadsWhereJoinable};
+ghost use Rattle.opt_trees.specs.Simplify.{StartingRegions};
+ghost use Rattle.opt_chains.specs.Chained.{AreChains, StartsSomewhere, LeadsWhereJoinable};
 ghost use Rattle.opt_chains.specs.NextBlocks.{HoldsOne, IsElsewhere};
 
 use crate::chain_firsts::firsts;
@@ -52,7 +52,7 @@ fn holds_one<O, B>(program: &Program<O, B>, region: Ptr<Region>, blocks: &[Ptr<B
 /// Whether looking may come to these blocks: it doesn't begin at a region without any.
 fn may_come<O, B>(program: &Program<O, B>, start: Start, blocks: &[Ptr<BasicBlock>]) -> bool
     requires { (b : Ptr BasicBlock) → Lists blocks.now b → IsSome (block_at program.now b) }
-    ensures begins { result ≡ true → Begins program.now start }
+    ensures begins { result ≡ true → StartsSomewhere program.now start }
     ensures elsewhere { result ≡ false → IsElsewhere program.now start blocks.now }
 {
     let Start::Region(region) = start else {
@@ -82,11 +82,11 @@ fn joins_along<D: Meanings>(
     requires live { IsSome (operation_at program.now op) }
     requires edges { HasLocalEdgesFrom D.meaning.is_terminator program.now _start }
     requires numbered { NumbersInside program.now op (numbers_of inside.now) }
-    requires begins { Begins program.now _start }
-    requires next { (p : Place by_handle) → IsStartIn program.now _start p
+    requires begins { StartsSomewhere program.now _start }
+    requires next { (p : StartingRegions by_handle) → IsStartIn program.now _start p
         → (t : ProgramTree D.Operation D.Block) → StandsFor program.now op t
         → LeadsWhereJoinable D.meaning p t inside.now.blocks.keys next.now }
-    ensures { IfOk result (λ joins. (p : Place by_handle) → IsStartIn program.now _start p
+    ensures { IfOk result (λ joins. (p : StartingRegions by_handle) → IsStartIn program.now _start p
         → (t : ProgramTree D.Operation D.Block) → StandsFor program.now op t
         → AreChains D.meaning p program.now t joins.items) }
 {
@@ -113,10 +113,10 @@ pub fn find_joins<D: Meanings>(
     requires live { IsSome (operation_at program.now op) }
     requires edges { HasLocalEdgesFrom D.meaning.is_terminator program.now start }
     requires numbered { NumbersInside program.now op (numbers_of inside.now) }
-    ensures chains { IfOk result (λ joins. (p : Place by_handle) → IsStartIn program.now start p
+    ensures chains { IfOk result (λ joins. (p : StartingRegions by_handle) → IsStartIn program.now start p
         → (t : ProgramTree D.Operation D.Block) → StandsFor program.now op t
         → AreChains D.meaning p program.now t joins.items) }
-    ensures begins { IfOk result (λ joins. (joins.items ≡ []) ⊎ Begins program.now start) }
+    ensures begins { IfOk result (λ joins. (joins.items ≡ []) ⊎ StartsSomewhere program.now start) }
 {
     know_occurrences(program, op);
     know_tree(program, op);

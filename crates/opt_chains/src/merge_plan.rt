@@ -4,8 +4,8 @@ ghost use Rattle.ir_program.specs.Program.{operation_at};
 ghost use Rattle.ir_trees.specs.Stands.{ProgramTree, StandsFor, by_handle};
 ghost use Rattle.opt_reach.specs.Edges.{HasLocalEdgesFrom};
 ghost use Rattle.opt_reach.specs.Starts.{IsStartIn};
-ghost use Rattle.opt_trees.specs.Simplify.{Place};
-ghost use Rattle.opt_chains.specs.Chained.{Begins, IsPlan};
+ghost use Rattle.opt_trees.specs.Simplify.{StartingRegions};
+ghost use Rattle.opt_chains.specs.Chained.{StartsSomewhere, IsJoiningPlan};
 ghost use Rattle.opt_chains.specs.Phases.{MergesBlocks};
 
 use crate::merge_values::{StandIn, replace_arguments};
@@ -29,11 +29,11 @@ pub fn apply_plan<D: Meanings, T: TypeTable>(
 )
     requires live { IsSome (operation_at ctx.old.program op) }
     requires edges { HasLocalEdgesFrom D.meaning.is_terminator ctx.old.program _start }
-    requires begins { Begins ctx.old.program _start }
-    requires plan { (p : Place by_handle) → IsStartIn ctx.old.program _start p
+    requires begins { StartsSomewhere ctx.old.program _start }
+    requires plan { (p : StartingRegions by_handle) → IsStartIn ctx.old.program _start p
         → (t : ProgramTree D.Operation D.Block) → StandsFor ctx.old.program op t
-        → IsPlan D.meaning p ctx.old.program t joins.now stand_ins.now }
-    ensures merged { (p : Place by_handle) → IsStartIn ctx.old.program _start p
+        → IsJoiningPlan D.meaning p ctx.old.program t joins.now stand_ins.now }
+    ensures merged { (p : StartingRegions by_handle) → IsStartIn ctx.old.program _start p
         → (t : ProgramTree D.Operation D.Block) → StandsFor ctx.old.program op t
         → MergesBlocks D.meaning p ctx.old.program ctx.new.program op t }
     ensures numbers { ctx.new.program.counter ≡ ctx.old.program.counter }

@@ -3,7 +3,7 @@ ghost use Rattle.std.specs.Prelude.{◌≡◌};
 ghost use Rattle.ir_program.specs.Edits.{KeepsValues};
 ghost use Rattle.ir_program.specs.Program.{IsLiveValue};
 ghost use Rattle.ir_program.specs.UseEdits.{ReplacesValue};
-ghost use Rattle.opt_chains.specs.MergedValues.{AreFinal, AreThere, TakesInstead, standing};
+ghost use Rattle.opt_chains.specs.MergedValues.{AreFinal, StandInsAreThere, TakesInstead, standing};
 
 use ir_context::{TypeTable, TypedProgram, UseCalls};
 use ir_program::Value;
@@ -41,7 +41,7 @@ pub(crate) fn replace_arguments<O, B, T: TypeTable>(
     ctx: &mut TypedProgram<O, B, T>,
     stand_ins: &[StandIn],
 )
-    requires live { AreThere ctx.old.program stand_ins.now }
+    requires live { StandInsAreThere ctx.old.program stand_ins.now }
     requires fixed { AreFinal stand_ins.now }
     ensures replaced { TakesInstead ctx.old.program ctx.new.program (standing stand_ins.now) }
     ensures numbers { ctx.new.program.counter ≡ ctx.old.program.counter }

@@ -1,6 +1,6 @@
 //! Joining blocks behind others.
 ghost use Rattle.std.specs.Prelude.{◌≡◌};
-ghost use Rattle.opt_chains.specs.Merging.{AreJoins, HasJoined, IsReady, JoinsBlocks, TakesNoArgument};
+ghost use Rattle.opt_chains.specs.Merging.{AreJoins, HasJoined, IsReadyToJoin, JoinsBlocks, TakesNoArgument};
 ghost use Rattle.opt_chains.specs.declared.merging.Join.{Join};
 ghost use Rattle.ir_trees.specs.Searched.{Lists};
 
@@ -21,7 +21,7 @@ pub struct Join {
 /// Puts the operations of a block behind those of another, in place of its branch, and erases the branch and the block. No
 /// memory is asked for.
 fn join_blocks<O: Drop, B: Drop, T: TypeTable>(ctx: &mut TypedProgram<O, B, T>, join: Join)
-    requires ready { IsReady ctx.old.program join }
+    requires ready { IsReadyToJoin ctx.old.program join }
     ensures joined { JoinsBlocks ctx.old.program ctx.new.program join }
     ensures numbers { ctx.new.program.counter ≡ ctx.old.program.counter }
     ensures types { ctx.new.types ≡ ctx.old.types }

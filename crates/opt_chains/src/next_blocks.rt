@@ -10,7 +10,7 @@ ghost use Rattle.ir_trees.specs.Stands.{ProgramTree, StandsFor, by_handle};
 ghost use Rattle.opt_inside.specs.Numbered.{NumbersInside, numbers_of};
 ghost use Rattle.opt_reach.specs.Edges.{HasLocalEdgesFrom};
 ghost use Rattle.opt_reach.specs.Starts.{IsStartIn};
-ghost use Rattle.opt_trees.specs.Simplify.{Place};
+ghost use Rattle.opt_trees.specs.Simplify.{StartingRegions};
 ghost use Rattle.opt_chains.specs.Chained.{LeadsWhereJoinable};
 ghost use Rattle.opt_chains.specs.NextBlocks.{AreChainBlocks, GoesOn, IsChainBlock, StandsInSsa};
 
@@ -134,7 +134,7 @@ pub(crate) fn next_blocks<D: Meanings>(
     requires live { IsSome (operation_at program.now op) }
     requires edges { HasLocalEdgesFrom D.meaning.is_terminator program.now start }
     requires numbered { NumbersInside program.now op (numbers_of inside.now) }
-    ensures { IfOk result (λ next. (p : Place by_handle) → IsStartIn program.now start p
+    ensures { IfOk result (λ next. (p : StartingRegions by_handle) → IsStartIn program.now start p
         → (t : ProgramTree D.Operation D.Block) → StandsFor program.now op t
         → LeadsWhereJoinable D.meaning p t inside.now.blocks.keys next.items) }
 {

@@ -14,7 +14,7 @@ use Rattle.ir_trees.specs.ListRewrites.{same_operation, is_among}
 use Rattle.ir_trees.specs.Searched.{AreDistinct}
 use Rattle.ir_trees.proofs.Members.{at_has, has_at}
 use Rattle.opt_inside.proofs.Around.{HasLists}
-use Rattle.opt_dce.specs.Steps.{without, without_operations, IsWithin, DetachesPicked}
+use Rattle.opt_dce.specs.Steps.{without, without_operations, IsWithinPicked, DetachesPicked}
 use Rattle.opt_dce.proofs.Among.{and_also, among_more, among_has, has_among}
 use Rattle.opt_dce.proofs.BlockLists.{was_there, is_left, all_left, there_still, list_left, one_more_left, holder_left, other_left}
 use Rattle.opt_dce.proofs.Picking.{true_or_false, not_true}
@@ -53,7 +53,7 @@ module _ {O B : Type 0} where
     detached_was lists x _ (in_operation r p s i) = in_operation r p (lists.regions p s.index r (ap (λ ps. slice_get ps s.index) (sym (regions_are p)) ∙ s.here)) (detached_was lists x (OperationNode p) i)
 
     -- and what was inside something picked is inside something picked, the nearest
-    nearest : (a : Ptr Operation) → picks a ≡ true → (e : IRNode) → StandsInside old (OperationNode a) e → IsWithin new picks e
+    nearest : (a : Ptr Operation) → picks a ≡ true → (e : IRNode) → StandsInside old (OperationNode a) e → IsWithinPicked new picks e
     nearest a picked _ itself = (a, picked, itself)
     nearest a picked _ (in_block p b s i) =
         let above = nearest a picked (BlockNode b) i in
@@ -76,10 +76,10 @@ module _ {O B : Type 0} where
               (record { region = ap is_some (detaches.regions r) ∙ s.region; operation = ap is_some (detaches.operations p) ∙ s.operation; index = s.index; here = ap (λ ps. slice_get ps s.index) (regions_are p) ∙ s.here }) above.2,
         )
 
-    pub detached_within : (e : IRNode) → IsWithin old picks e → IsWithin new picks e
+    pub detached_within : (e : IRNode) → IsWithinPicked old picks e → IsWithinPicked new picks e
     detached_within e h = nearest h.0 h.1 e h.2
 
-    pub was_within : HasLists old → (e : IRNode) → IsWithin new picks e → IsWithin old picks e
+    pub was_within : HasLists old → (e : IRNode) → IsWithinPicked new picks e → IsWithinPicked old picks e
     was_within lists e h = (h.0, h.1, detached_was lists (OperationNode h.0) e h.2)
 
   -- one turn of the loop over the list of those that are taken out

@@ -11,7 +11,7 @@ use Rattle.ir_program.specs.declared.handles.Region.{Region}
 use Rattle.ir_program.specs.declared.handles.BasicBlock.{BasicBlock}
 use Rattle.ir_trees.specs.ListRewrites.{is_among}
 use Rattle.ir_trees.proofs.Members.{at_has}
-use Rattle.opt_dce.specs.Steps.{IsWithin, DropsPicked, DecidesInside}
+use Rattle.opt_dce.specs.Steps.{IsWithinPicked, DropsPicked, DecidesInside}
 use Rattle.opt_dce.proofs.Among.{and_also, also_it, also_picked, it_or_picked, among_more, has_among}
 
 -- all that was there is there, and stands where it stood
@@ -59,7 +59,7 @@ module _ {O B : Type 0} where
       (record { region = k.region r ∙ s.region; operation = k.operation p ∙ s.operation; index = s.index; here = ap (λ ps. slice_get ps s.index) (k.regions p) ∙ s.here })
       (inside_kept old new k x (OperationNode p) i)
 
-  pub within_kept : (old new : Program O B) → KeepsPlaces old new → (picks : Ptr Operation → Bool) (e : IRNode) → IsWithin old picks e → IsWithin new picks e
+  pub within_kept : (old new : Program O B) → KeepsPlaces old new → (picks : Ptr Operation → Bool) (e : IRNode) → IsWithinPicked old picks e → IsWithinPicked new picks e
   within_kept old new k picks e h = (h.0, h.1, inside_kept old new k (OperationNode h.0) e h.2)
 
   pub drops_kept : (old new : Program O B) (picks : Ptr Operation → Bool) → DropsPicked old new picks → KeepsPlaces old new

@@ -18,7 +18,7 @@ use Rattle.ir_trees.specs.ListRewrites.{same_operation, is_among}
 use Rattle.ir_trees.proofs.HandleTests.{operation_no}
 use Rattle.ir_trees.proofs.Members.{Has, at_has, has_at}
 use Rattle.opt_inside.proofs.Around.{HasLists, inside_both}
-use Rattle.opt_dce.specs.Steps.{without, without_operations, IsWithin, ErasesPicked, ErasesIfThere, DecidesInside, NamesNone}
+use Rattle.opt_dce.specs.Steps.{without, without_operations, IsWithinPicked, ErasesPicked, ErasesIfThere, DecidesInside, NamesNone}
 use Rattle.opt_dce.proofs.Among.{and_also, also_it, also_picked, it_or_picked, among_more, has_among}
 use Rattle.opt_dce.proofs.BlockLists.{found_or_not, was_there, is_left, all_left, there_still, list_left, one_more_left, with_list, holder_left, other_left, without_both}
 use Rattle.opt_dce.proofs.Picking.{not_true, without_none}
@@ -68,7 +68,7 @@ module _ {O B : Type 0} where
 
   module _ (old mid : Program O B) (lists : HasLists old) (picks : Ptr Operation → Bool) (done : ErasesPicked old mid picks) where
     -- what is inside something picked was there
-    was_live : (e : IRNode) → IsWithin old picks e → IsLiveNode old e
+    was_live : (e : IRNode) → IsWithinPicked old picks e → IsLiveNode old e
     was_live e h = live_inside e h.2 where
       live_inside : (f : IRNode) → StandsInside old (OperationNode h.0) f → IsLiveNode old f
       live_inside _ itself = done.there h.0 h.1
@@ -77,22 +77,22 @@ module _ {O B : Type 0} where
       live_inside _ (in_operation r p s i) = s.region
 
     -- what is there isn't inside something picked, and was there
-    pub live_outside : (e : IRNode) → IsLiveNode mid e → IsWithin old picks e → ⊥
+    pub live_outside : (e : IRNode) → IsLiveNode mid e → IsWithinPicked old picks e → ⊥
     live_outside e live h = no_longer mid e (done.gone e (was_live e h) h) live
 
-    still_live : (e : IRNode) → (IsWithin old picks e → ⊥) → IsLiveNode old e → IsLiveNode mid e
+    still_live : (e : IRNode) → (IsWithinPicked old picks e → ⊥) → IsLiveNode old e → IsLiveNode mid e
     still_live (OperationNode p) out live = subst IsSome (sym (done.operations p out)) live
     still_live (RegionNode r) out live = subst IsSome (sym (done.regions r out)) live
     still_live (BlockNode b) out live = ap is_some (done.blocks b out) ∙ there_still picks (block_at old b) ∙ live
 
     -- what the lists of what is left were
-    operations_were : (b : Ptr BasicBlock) → (IsWithin old picks (BlockNode b) → ⊥) → operations_in mid b ≡ without picks (operations_in old b)
+    operations_were : (b : Ptr BasicBlock) → (IsWithinPicked old picks (BlockNode b) → ⊥) → operations_in mid b ≡ without picks (operations_in old b)
     operations_were b out = ap (λ o. unwrap_or (option_map (λ (v : BlockView B). v.operations) o) []) (done.blocks b out) ∙ list_left picks (block_at old b)
 
-    blocks_were : (r : Ptr Region) → (IsWithin old picks (RegionNode r) → ⊥) → blocks_in mid r ≡ blocks_in old r
+    blocks_were : (r : Ptr Region) → (IsWithinPicked old picks (RegionNode r) → ⊥) → blocks_in mid r ≡ blocks_in old r
     blocks_were r out = ap (λ o. unwrap_or (option_map (λ (v : RegionView). v.blocks) o) []) (done.regions r out)
 
-    regions_were : (p : Ptr Operation) → (IsWithin old picks (OperationNode p) → ⊥) → regions_in mid p ≡ regions_in old p
+    regions_were : (p : Ptr Operation) → (IsWithinPicked old picks (OperationNode p) → ⊥) → regions_in mid p ≡ regions_in old p
     regions_were p out = ap (λ o. unwrap_or (option_map (λ (v : OperationView O). v.regions) o) []) (done.operations p out)
 
     -- so what is inside something was inside it
@@ -110,39 +110,39 @@ module _ {O B : Type 0} where
         in_operation r p (lists.regions p s.index r (ap (λ ps. slice_get ps s.index) (sym (regions_were p out)) ∙ s.here)) (was_inside x (OperationNode p) i)
 
     -- and what was inside something, and is left, is inside it
-    is_inside : (x e : IRNode) → (IsWithin old picks e → ⊥) → StandsInside old x e → StandsInside mid x e
+    is_inside : (x e : IRNode) → (IsWithinPicked old picks e → ⊥) → StandsInside old x e → StandsInside mid x e
     is_inside x _ out itself = itself
     is_inside x _ out (in_block p b s i) =
-        let above : IsWithin old picks (BlockNode b) → ⊥ = λ h. out (h.0, h.1, in_block p b s h.2) in
+        let above : IsWithinPicked old picks (BlockNode b) → ⊥ = λ h. out (h.0, h.1, in_block p b s h.2) in
         let stays : picks p ≡ false = not_true (picks p) (λ h. out (p, h, itself)) in
         let k = has_at (without picks (operations_in old b)) p (is_left picks (operations_in old b) p stays (at_has (operations_in old b) s.index p s.here)) in
         in_block p b
         (record { operation = still_live (OperationNode p) out s.operation; block = still_live (BlockNode b) above s.block; index = k.0; here = ap (λ ps. slice_get ps k.0) (operations_were b above) ∙ k.1 })
         (is_inside x (BlockNode b) above i)
     is_inside x _ out (in_region b r s i) =
-        let above : IsWithin old picks (RegionNode r) → ⊥ = λ h. out (h.0, h.1, in_region b r s h.2) in
+        let above : IsWithinPicked old picks (RegionNode r) → ⊥ = λ h. out (h.0, h.1, in_region b r s h.2) in
         in_region b r
         (record { block = still_live (BlockNode b) out s.block; region = still_live (RegionNode r) above s.region; index = s.index; here = ap (λ ps. slice_get ps s.index) (blocks_were r above) ∙ s.here })
         (is_inside x (RegionNode r) above i)
     is_inside x _ out (in_operation r p s i) =
-        let above : IsWithin old picks (OperationNode p) → ⊥ = λ h. out (h.0, h.1, in_operation r p s h.2) in
+        let above : IsWithinPicked old picks (OperationNode p) → ⊥ = λ h. out (h.0, h.1, in_operation r p s h.2) in
         in_operation r p
         (record { region = still_live (RegionNode r) out s.region; operation = still_live (OperationNode p) above s.operation; index = s.index; here = ap (λ ps. slice_get ps s.index) (regions_were p above) ∙ s.here })
         (is_inside x (OperationNode p) above i)
 
     -- what isn't inside one picked or one more
     module _ (a : Ptr Operation) where
-      not_picked : (e : IRNode) → (IsWithin old (and_also a picks) e → ⊥) → IsWithin old picks e → ⊥
+      not_picked : (e : IRNode) → (IsWithinPicked old (and_also a picks) e → ⊥) → IsWithinPicked old picks e → ⊥
       not_picked e out h = out (h.0, also_picked a picks h.0 h.1, h.2)
 
-      not_it : (e : IRNode) → (IsWithin old (and_also a picks) e → ⊥) → StandsInside old (OperationNode a) e → ⊥
+      not_it : (e : IRNode) → (IsWithinPicked old (and_also a picks) e → ⊥) → StandsInside old (OperationNode a) e → ⊥
       not_it e out i = out (a, also_it a picks, i)
 
       there_too : IsLiveNode old (OperationNode a) → (p : Ptr Operation) → and_also a picks p ≡ true → IsLiveNode old (OperationNode p)
       there_too live p h = ⊎_elim (λ (e : p ≡ a). subst (λ q. IsLiveNode old (OperationNode q)) (sym e) live) (λ t. done.there p t) (it_or_picked a picks p h)
 
       -- what is left, and goes with one more, stands inside that one
-      inside_it : (e : IRNode) → IsLiveNode mid e → IsWithin old (and_also a picks) e → StandsInside old (OperationNode a) e
+      inside_it : (e : IRNode) → IsLiveNode mid e → IsWithinPicked old (and_also a picks) e → StandsInside old (OperationNode a) e
       inside_it e live h = ⊎_elim
           (λ (s : h.0 ≡ a). subst (λ q. StandsInside old (OperationNode q) e) s h.2)
           (λ t. absurd (live_outside e live (h.0, t, h.2)))
@@ -166,11 +166,11 @@ module _ {O B : Type 0} where
             let k = has_at (operations_in mid b) p has in
             nothing (operation_at mid a) none (subst (λ q. IsSome (operation_at mid q)) same (now.operations b k.0 p k.1).operation))
 
-        same_list : (b : Ptr BasicBlock) → (IsWithin old picks (BlockNode b) → ⊥) → without picks (operations_in old b) ≡ without (and_also a picks) (operations_in old b)
+        same_list : (b : Ptr BasicBlock) → (IsWithinPicked old picks (BlockNode b) → ⊥) → without picks (operations_in old b) ≡ without (and_also a picks) (operations_in old b)
         same_list b out = sym (without_none (λ p. same_operation p a) (without picks (operations_in old b)) (λ p has. none_of b p (subst (Has p) (sym (operations_were b out)) has)))
             ∙ without_both a picks (operations_in old b)
 
-        block_without : (b : Ptr BasicBlock) → (IsWithin old picks (BlockNode b) → ⊥) → block_at mid b ≡ option_map (without_operations (and_also a picks)) (block_at old b)
+        block_without : (b : Ptr BasicBlock) → (IsWithinPicked old picks (BlockNode b) → ⊥) → block_at mid b ≡ option_map (without_operations (and_also a picks)) (block_at old b)
         block_without b out = done.blocks b out ∙ with_list (without picks) (without (and_also a picks)) (block_at old b) (same_list b out)
 
       -- one more that is erased
@@ -186,7 +186,7 @@ module _ {O B : Type 0} where
         live_still (RegionNode r) out l = subst IsSome (sym (erases.regions r out)) l
         live_still (BlockNode b) out l = ap is_some (block_now b out) ∙ there_still (λ p. same_operation p a) (block_at mid b) ∙ l
 
-        outside_now : (e : IRNode) → (IsWithin old (and_also a picks) e → ⊥) → StandsInside mid (OperationNode a) e → ⊥
+        outside_now : (e : IRNode) → (IsWithinPicked old (and_also a picks) e → ⊥) → StandsInside mid (OperationNode a) e → ⊥
         outside_now e out i = not_it e out (was_inside (OperationNode a) e i)
 
         pub one_more : ErasesPicked old new (and_also a picks)
@@ -245,7 +245,7 @@ module _ {O B : Type 0} where
     among_here : is_among ops a ≡ true
     among_here = has_among ops a (at_has ops i a here)
 
-    inside_then : (e : IRNode) → StandsInside mid (OperationNode a) e → IsWithin old (is_among ops) e
+    inside_then : (e : IRNode) → StandsInside mid (OperationNode a) e → IsWithinPicked old (is_among ops) e
     inside_then e s = (a, among_here, was_inside old mid lists (is_among (take i ops)) done (OperationNode a) e s)
 
     pub apart_now : NamesNone old (is_among ops) → IsApart mid (OperationNode a)

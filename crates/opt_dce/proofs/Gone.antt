@@ -18,12 +18,12 @@ use Rattle.ir_trees.specs.Stands.{by_handle, in_program, ProgramTree, defined_by
 use Rattle.ir_trees.specs.Trees.{Defined, Head, Label, Sort, Operations, Blocks, Regions, Tree, end, operation, block, region, Root}
 use Rattle.ir_trees.proofs.Members.{has_at, has_either}
 use Rattle.opt_trees.specs.Dialect.{Dialect, drop, Lawful}
-use Rattle.opt_trees.specs.Dce.{Around, Gone, Item, Whole, Slot, May, IsDead, dies, IsGone, gone_at, thin, thin_head, thin_label}
+use Rattle.opt_trees.specs.Dce.{TreeSurroundings, Gone, Item, Whole, Slot, May, IsDead, dies, IsGoneExactly, gone_at, thin, thin_head, thin_label}
 use Rattle.opt_trees.specs.Occurrences.{Has, Inside, Occurrence, BlockOccurrence, inner, next_block, next_region, at_root, occurrences_in, block_occurrences_in, occurrences_of, block_occurrences_of}
 use Rattle.opt_inside.specs.Occurring.{Found, FoundBlock, IsBelowRoot, IsOccurrence, IsBlockOccurrence}
 use Rattle.opt_dead.specs.Plans.{IsPlan}
 use Rattle.opt_dead.specs.declared.plan.DeadPlan.{DeadPlan}
-use Rattle.opt_dce.specs.Steps.{IsBelow}
+use Rattle.opt_dce.specs.Steps.{GoesBelowRoot}
 use Rattle.opt_dce.specs.Thins.{IsIdle}
 use Rattle.opt_dce.proofs.Picking.{not_true, drop_none}
 use Rattle.opt_dce.proofs.Thinned.{was_at, at_value}
@@ -125,14 +125,14 @@ module _ {N : Names} {S : Contents} {A : Type 0} (d : Dialect S A) (g : Gone N) 
       (has_either (block_occurrences_in (thin d g bs) i) (block_occurrences_in (thin d g rest) (next_region i)) x h)
 
 -- what is dead may go
-may_go : {N : Names} {S : Contents} {A : Type 0} (d : Dialect S A) (w : Around N A) (t : Root N S) (x : Item N) → IsDead d w t x → May d t x
+may_go : {N : Names} {S : Contents} {A : Type 0} (d : Dialect S A) (w : TreeSurroundings N A) (t : Root N S) (x : Item N) → IsDead d w t x → May d t x
 may_go d w t _ (dies x may kept used) = may
 
 module _ {O B A : Type 0} (d : Dialect (in_program O B) A) (law : Lawful d) (c : Program O B) (op : Ptr Operation) (t : ProgramTree O B)
     (sound : (o : Found O B) → Has o (occurrences_of t) → IsOccurrence c op o)
     (blocks_sound : (x : FoundBlock O B) → Has x (block_occurrences_of t) → IsBlockOccurrence c op x)
     (definer : (e : DefiningEntity) (k : ℕ) (v : Value) → value_in (values_at c e) k ≡ Some v → v.definer ≡ e)
-    (w : Around by_handle A) (g : Gone by_handle) (is : IsGone d w t g) where
+    (w : TreeSurroundings by_handle A) (g : Gone by_handle) (is : IsGoneExactly d w t g) where
   -- an argument of a block that is found
   argument_at : (x : FoundBlock O B) → Has x (block_occurrences_of t) → (v : Value) → Has v (names_of x.label.arguments) → (k : ℕ) × (value_in (values_at c (ByBlock x.label.name)) k ≡ Some v)
   argument_at x found v has =
@@ -141,7 +141,7 @@ module _ {O B A : Type 0} (d : Dialect (in_program O B) A) (law : Lawful d) (c :
       let k = has_at (names_of (map defined_by it.view.arguments)) v listed in
       (k.0, ap (λ o. value_in (unwrap_or (option_map (λ (y : BlockView B). y.arguments) o) []) k.0) it.there ∙ sym (named_at it.view.arguments k.0) ∙ k.1)
 
-  pub gone_below : IsBelow c op g
+  pub gone_below : GoesBelowRoot c op g
   gone_below = record {
     operations = λ a h.
         let m = may_go d w t (Whole a) (is.dead (Whole a) h) in

@@ -7,12 +7,12 @@ use Rattle.ir_program.specs.declared.handles.Operation.{Operation}
 use Rattle.ir_trees.specs.Searched.{Lists}
 use Rattle.ir_trees.specs.Stands.{by_handle, in_program, ProgramTree, StandsFor}
 use Rattle.opt_trees.specs.Dialect.{Dialect}
-use Rattle.opt_trees.specs.Dce.{Around, Gone, IsGone}
+use Rattle.opt_trees.specs.Dce.{TreeSurroundings, Gone, IsGoneExactly}
 use Rattle.opt_dialect.specs.declared.status.IRStatus.TheVariants.{Unchanged, Changed}
 use Rattle.opt_dead.specs.Plans.{IsPlan, UsesGo, IsDeadPlan}
 use Rattle.opt_dead.specs.declared.plan.DeadPlan.{DeadPlan}
 use Rattle.opt_dead.specs.declared.plan.DeadArguments.{DeadArguments}
-use Rattle.opt_dce.specs.Steps.{IsBelow}
+use Rattle.opt_dce.specs.Steps.{GoesBelowRoot}
 use Rattle.opt_dce.specs.Thins.{TakesOut, IsIdle, IsOutcome, thinned_root}
 
 module _ {O B A : Type 0} (d : Dialect (in_program O B) A) (c : Program O B) (op : Ptr Operation) (plan : DeadPlan) where
@@ -93,12 +93,12 @@ idle_else plan b no_more empty = (λ h. let f : false ≡ true = sym no_more ∙
 -- what is known of what is dead in an operation
 pub record KnowsGone {O B A : Type 0} (d : Dialect (in_program O B) A) (c : Program O B) (op : Ptr Operation) : Type 0 where
   pub tree : (t : ProgramTree O B) × StandsFor c op t
-  pub below : (t : ProgramTree O B) → StandsFor c op t → (w : Around by_handle A) (g : Gone by_handle) → IsGone d w t g → IsBelow c op g
-  pub idle : (t : ProgramTree O B) → StandsFor c op t → (w : Around by_handle A) (g : Gone by_handle) → IsGone d w t g → (plan : DeadPlan) → IsPlan c g plan → IsIdle plan ↔ (thinned_root d g t ≡ t)
+  pub below : (t : ProgramTree O B) → StandsFor c op t → (w : TreeSurroundings by_handle A) (g : Gone by_handle) → IsGoneExactly d w t g → GoesBelowRoot c op g
+  pub idle : (t : ProgramTree O B) → StandsFor c op t → (w : TreeSurroundings by_handle A) (g : Gone by_handle) → IsGoneExactly d w t g → (plan : DeadPlan) → IsPlan c g plan → IsIdle plan ↔ (thinned_root d g t ≡ t)
 
 module _ {O B A : Type 0} (d : Dialect (in_program O B) A) (c : Program O B) (op : Ptr Operation) (plan : DeadPlan) (knows : KnowsGone d c op) (dead : (t : ProgramTree O B) → IsDeadPlan d c op plan t) where
   -- what goes, by the tree that the operation stands for
-  pub some_gone : (g : Gone by_handle) × IsPlan c g plan × UsesGo c g × IsBelow c op g
+  pub some_gone : (g : Gone by_handle) × IsPlan c g plan × UsesGo c g × GoesBelowRoot c op g
   some_gone =
       let t = knows.tree.0 in
       let stands = knows.tree.1 in
@@ -112,7 +112,7 @@ module _ {O B A : Type 0} (d : Dialect (in_program O B) A) (c : Program O B) (op
     nothing_made idle = same_outcome d c op plan t stands (dead t) (idle_is.0 idle)
 
     pub something_made : (new : Program O B) → (IsIdle plan → ⊥)
-        → ((g : Gone by_handle) → IsPlan c g plan → UsesGo c g → IsBelow c op g → (u : ProgramTree O B) → StandsFor c op u → TakesOut d c new op g u)
+        → ((g : Gone by_handle) → IsPlan c g plan → UsesGo c g → GoesBelowRoot c op g → (u : ProgramTree O B) → StandsFor c op u → TakesOut d c new op g u)
         → IsOutcome d c new op t Changed
     something_made new busy takes =
         other_outcome d c op plan t stands (dead t) new

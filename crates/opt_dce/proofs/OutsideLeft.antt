@@ -13,7 +13,7 @@ use Rattle.ir_trees.specs.Stands.{by_handle, in_program}
 use Rattle.opt_trees.specs.Dialect.{Dialect}
 use Rattle.opt_trees.specs.Dce.{Gone, Whole}
 use Rattle.opt_dead.specs.Plans.{GoesWith}
-use Rattle.opt_dce.specs.Steps.{without, IsBelow, loses, thin_block, HasThinned}
+use Rattle.opt_dce.specs.Steps.{without, GoesBelowRoot, loses, thin_block, HasThinned}
 use Rattle.opt_inside.specs.Outside.{AddsNoneOutside}
 use Rattle.opt_dce.proofs.Picking.{not_true}
 
@@ -41,7 +41,7 @@ some_mapped f None h = h
 some_mapped f (Some x) h = refl
 
 module _ {O B A : Type 0} (d : Dialect (in_program O B) A) (old new : Program O B) (op : Ptr Operation)
-    (g : Gone by_handle) (below : IsBelow old op g) (thinned : HasThinned d g old new) where
+    (g : Gone by_handle) (below : GoesBelowRoot old op g) (thinned : HasThinned d g old new) where
   same_regions : (picks : ℕ → Bool) (o : Option (OperationView O))
       → unwrap_or (option_map (λ (v : OperationView O). v.regions) (option_map (loses d picks) o)) []
       ≡ unwrap_or (option_map (λ (v : OperationView O). v.regions) o) []

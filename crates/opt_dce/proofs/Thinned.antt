@@ -32,7 +32,7 @@ use Rattle.opt_dead.specs.Plans.{GoesWith, IsGoing, UsesGo, IsPlan}
 use Rattle.opt_dead.specs.declared.plan.DeadPlan.{DeadPlan}
 use Rattle.opt_dead.specs.declared.plan.LostOperands.{LostOperands}
 use Rattle.opt_dead.specs.declared.plan.DeadArguments.{DeadArguments}
-use Rattle.opt_dce.specs.Steps.{without, without_operations, IsWithin, loses, loses_arguments, arguments_gone, thin_block, HasThinned, ErasesPicked, DropsPicked, DetachesPicked, NamesNone, LosesListed, LosesArguments, IsBelow}
+use Rattle.opt_dce.specs.Steps.{without, without_operations, IsWithinPicked, loses, loses_arguments, arguments_gone, thin_block, HasThinned, ErasesPicked, DropsPicked, DetachesPicked, NamesNone, LosesListed, LosesArguments, GoesBelowRoot}
 use Rattle.opt_dce.proofs.Among.{among_has, has_among}
 use Rattle.opt_dce.proofs.BlockLists.{left_twice, arguments_left}
 use Rattle.opt_dce.proofs.Detached.{block_is, detached_within, was_within}
@@ -156,14 +156,14 @@ module _ {O B A : Type 0} (d : Dialect (in_program O B) A) (law : Lawful d) (old
     pub lost_live : (p : Ptr Operation) → among p ≡ true → IsLiveNode lost (OperationNode p)
     lost_live p h = lost_kept.operation p ∙ among_there p h
 
-    within_lost : (e : IRNode) → GoesWith old g e → IsWithin lost among e
+    within_lost : (e : IRNode) → GoesWith old g e → IsWithinPicked lost among e
     within_lost e h = (h.0, among_goes h.0 ∙ h.1, inside_kept old lost lost_kept (OperationNode h.0) e h.2)
 
-    goes_lost : (e : IRNode) → IsWithin lost among e → GoesWith old g e
+    goes_lost : (e : IRNode) → IsWithinPicked lost among e → GoesWith old g e
     goes_lost e h = (h.0, sym (among_goes h.0) ∙ h.1, inside_kept lost old (kept_back old lost lost_kept) (OperationNode h.0) e h.2)
 
     -- what goes stands in a block, as all below the root does
-    pub lost_linked : (op : Ptr Operation) → IsBelow old op g → (p : Ptr Operation) → among p ≡ true → IsLinkedOperation lost p
+    pub lost_linked : (op : Ptr Operation) → GoesBelowRoot old op g → (p : Ptr Operation) → among p ≡ true → IsLinkedOperation lost p
     lost_linked op below p h =
         let b = below.operations p (sym (among_goes p) ∙ h) in
         ⊎_elim
@@ -176,10 +176,10 @@ module _ {O B A : Type 0} (d : Dialect (in_program O B) A) (law : Lawful d) (old
       pub apart_live : (p : Ptr Operation) → among p ≡ true → IsLiveNode apart (OperationNode p)
       apart_live p h = ap is_some (detaches.operations p) ∙ lost_live p h
 
-      within_apart : (e : IRNode) → GoesWith old g e → IsWithin apart among e
+      within_apart : (e : IRNode) → GoesWith old g e → IsWithinPicked apart among e
       within_apart e h = detached_within lost apart among detaches e (within_lost e h)
 
-      goes_apart : (e : IRNode) → IsWithin apart among e → GoesWith old g e
+      goes_apart : (e : IRNode) → IsWithinPicked apart among e → GoesWith old g e
       goes_apart e h = goes_lost e (was_within lost apart among detaches lost_lists e h)
 
       module _ (bare : Program O B) (drops : DropsPicked apart bare among) where
@@ -189,10 +189,10 @@ module _ {O B A : Type 0} (d : Dialect (in_program O B) A) (law : Lawful d) (old
         pub bare_live : (p : Ptr Operation) → among p ≡ true → IsLiveNode bare (OperationNode p)
         bare_live p h = bare_kept.operation p ∙ apart_live p h
 
-        goes_if : (e : IRNode) → IsWithin bare among e → GoesWith old g e
+        goes_if : (e : IRNode) → IsWithinPicked bare among e → GoesWith old g e
         goes_if e h = goes_apart e (within_kept bare apart (kept_back apart bare bare_kept) among e h)
 
-        within_if : (e : IRNode) → GoesWith old g e → IsWithin bare among e
+        within_if : (e : IRNode) → GoesWith old g e → IsWithinPicked bare among e
         within_if e h = within_kept apart bare bare_kept among e (within_apart e h)
 
         no_going : (p : Ptr Operation) (k : ℕ) (v : Value) → slice_get (operands_at bare p) k ≡ Some v → IsGoing old g v → ⊥
@@ -252,7 +252,7 @@ module _ {O B A : Type 0} (d : Dialect (in_program O B) A) (law : Lawful d) (old
             among_is : among ≡ (λ p. g.item (Whole p))
             among_is = λ j p. among_goes p j
 
-            outside : (e : IRNode) → (GoesWith old g e → ⊥) → IsWithin bare among e → ⊥
+            outside : (e : IRNode) → (GoesWith old g e → ⊥) → IsWithinPicked bare among e → ⊥
             outside e out h = out (goes_if e h)
 
             -- which of a block's arguments are marked

@@ -27,7 +27,7 @@ use Rattle.opt_trees.specs.Occurrences.{Has}
 use Rattle.opt_trees.specs.Dce.{Gone, Whole, Slot, gone_at, thin, thin_head, thin_label}
 use Rattle.opt_inside.proofs.Around.{HasLists, inside_both, around_operation, around_block, around_region, is_root}
 use Rattle.opt_dead.specs.Plans.{GoesWith}
-use Rattle.opt_dce.specs.Steps.{without, IsBelow, loses, arguments_gone, thin_block, HasThinned}
+use Rattle.opt_dce.specs.Steps.{without, GoesBelowRoot, loses, arguments_gone, thin_block, HasThinned}
 use Rattle.opt_dce.specs.Thins.{TakesOut}
 use Rattle.opt_inside.specs.Outside.{KeepsOutside}
 use Rattle.opt_dce.proofs.OutsideLeft.{adds_none}
@@ -74,7 +74,7 @@ value_of [] i x e = cc
 value_of (t ∷ ts) zero x e = ap (option_map (λ (y : Defined Value TypeHandle). y.name)) e
 value_of (t ∷ ts) (suc i) x e = value_of ts i x e
 
-module _ {O B A : Type 0} (d : Dialect (in_program O B) A) (law : Lawful d) (old new : Program O B) (lists : HasLists old) (op : Ptr Operation) (g : Gone by_handle) (below : IsBelow old op g) where
+module _ {O B A : Type 0} (d : Dialect (in_program O B) A) (law : Lawful d) (old new : Program O B) (lists : HasLists old) (op : Ptr Operation) (g : Gone by_handle) (below : GoesBelowRoot old op g) where
   -- what is inside something that goes is below the root
   under_root : (e : IRNode) → GoesWith old g e → StandsInside old (OperationNode op) e
   under_root e h = inside_both old (OperationNode op) (OperationNode h.0) e (below.operations h.0 h.1).inside h.2

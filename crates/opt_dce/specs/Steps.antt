@@ -33,7 +33,7 @@ abbrev pub without_operations : {B : Type 0} → (Ptr Operation → Bool) → Bl
 without_operations picks v = record v { operations = without picks v.operations }
 
 -- what goes is below the root: operations that go or lose operands, and the blocks of arguments that go
-pub record IsBelow {O B : Type 0} (c : Program O B) (op : Ptr Operation) (g : Gone by_handle) : Type 0 where
+pub record GoesBelowRoot {O B : Type 0} (c : Program O B) (op : Ptr Operation) (g : Gone by_handle) : Type 0 where
   pub operations : (a : Ptr Operation) → g.item (Whole a) ≡ true → IsBelowRoot c op a
   pub arguments : (v : Value) → g.item (Slot v) ≡ true → StandsInside c (OperationNode op) (definer_node v.definer)
   pub operands : (p : Ptr Operation) (i : ℕ) → g.operand p i ≡ true → IsBelowRoot c op p
@@ -72,19 +72,19 @@ module _ {O B A : Type 0} (d : Dialect (in_program O B) A) (g : Gone by_handle) 
 
 module _ {O B : Type 0} where
   -- the entity is one of the operations that are picked, or stands in one
-  abbrev pub IsWithin : Program O B → (Ptr Operation → Bool) → IRNode → Type 0
-  IsWithin c picks e = (a : Ptr Operation) × (picks a ≡ true) × StandsInside c (OperationNode a) e
+  abbrev pub IsWithinPicked : Program O B → (Ptr Operation → Bool) → IRNode → Type 0
+  IsWithinPicked c picks e = (a : Ptr Operation) × (picks a ≡ true) × StandsInside c (OperationNode a) e
 
   -- the operations that are picked are erased with all that is in them, and each other operation, block and region is
   -- as it was, without them
   pub record ErasesPicked (old new : Program O B) (picks : Ptr Operation → Bool) : Type 0 where
     pub there : (p : Ptr Operation) → picks p ≡ true → IsLiveNode old (OperationNode p)
-    pub operations : (p : Ptr Operation) → (IsWithin old picks (OperationNode p) → ⊥) →
+    pub operations : (p : Ptr Operation) → (IsWithinPicked old picks (OperationNode p) → ⊥) →
         operation_at new p ≡ operation_at old p
-    pub blocks : (b : Ptr BasicBlock) → (IsWithin old picks (BlockNode b) → ⊥) →
+    pub blocks : (b : Ptr BasicBlock) → (IsWithinPicked old picks (BlockNode b) → ⊥) →
         block_at new b ≡ option_map (without_operations picks) (block_at old b)
-    pub regions : (r : Ptr Region) → (IsWithin old picks (RegionNode r) → ⊥) → region_at new r ≡ region_at old r
-    pub gone : (e : IRNode) → IsLiveNode old e → IsWithin old picks e → IsErased new e
+    pub regions : (r : Ptr Region) → (IsWithinPicked old picks (RegionNode r) → ⊥) → region_at new r ≡ region_at old r
+    pub gone : (e : IRNode) → IsLiveNode old e → IsWithinPicked old picks e → IsErased new e
     pub decided : (e : IRNode) → IsLiveNode old e → IsLiveNode new e ⊎ IsErased new e
 
   -- each entity is inside the operation or isn't
@@ -106,15 +106,15 @@ module _ {O B : Type 0} where
   -- no operation takes a value that is defined in what is picked, or may go on to a block there
   pub record NamesNone (c : Program O B) (picks : Ptr Operation → Bool) : Type 0 where
     pub values : (p : Ptr Operation) (k : ℕ) (v : Value) → slice_get (operands_at c p) k ≡ Some v →
-        IsWithin c picks (definer_node v.definer) → ⊥
+        IsWithinPicked c picks (definer_node v.definer) → ⊥
     pub blocks : (p : Ptr Operation) (k : ℕ) (b : Ptr BasicBlock) → slice_get (successors_at c p) k ≡ Some b →
-        IsWithin c picks (BlockNode b) → ⊥
+        IsWithinPicked c picks (BlockNode b) → ⊥
 
   -- the operations that are picked, and those in them, have no operands and no successors, and all else is as it was
   pub record DropsPicked (old new : Program O B) (picks : Ptr Operation → Bool) : Type 0 where
-    pub within : (p : Ptr Operation) → IsWithin old picks (OperationNode p) →
+    pub within : (p : Ptr Operation) → IsWithinPicked old picks (OperationNode p) →
         operation_at new p ≡ option_map without_uses (operation_at old p)
-    pub outside : (p : Ptr Operation) → (IsWithin old picks (OperationNode p) → ⊥) →
+    pub outside : (p : Ptr Operation) → (IsWithinPicked old picks (OperationNode p) → ⊥) →
         operation_at new p ≡ operation_at old p
     pub either : (p : Ptr Operation) →
         (operation_at new p ≡ operation_at old p) ⊎ (operation_at new p ≡ option_map without_uses (operation_at old p))

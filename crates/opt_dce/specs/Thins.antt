@@ -9,7 +9,7 @@ use Rattle.ir_program.specs.declared.handles.Operation.{Operation}
 use Rattle.ir_trees.specs.Searched.{Lists}
 use Rattle.ir_trees.specs.Stands.{by_handle, in_program, ProgramTree, StandsFor}
 use Rattle.opt_trees.specs.Dialect.{Dialect}
-use Rattle.opt_trees.specs.Dce.{Around, Gone, IsDce, thin}
+use Rattle.opt_trees.specs.Dce.{TreeSurroundings, Gone, IsDce, thin}
 use Rattle.opt_dialect.specs.declared.status.IRStatus.{IRStatus}
 use Rattle.opt_dialect.specs.declared.status.IRStatus.TheVariants.{Unchanged}
 use Rattle.opt_dead.specs.declared.plan.DeadPlan.{DeadPlan}
@@ -29,7 +29,7 @@ pub record TakesOut {O B A : Type 0} (d : Dialect (in_program O B) A) (old new :
 -- the operation stands for its tree without what is dead
 pub record MakesDce {O B A : Type 0} (d : Dialect (in_program O B) A) (old new : Program O B) (op : Ptr Operation)
     (t : ProgramTree O B) : Type 0 where
-  pub around : Around by_handle A
+  pub around : TreeSurroundings by_handle A
   pub pins : SaysPins old op around
   pub after : ProgramTree O B
   pub dce : IsDce d around t after

@@ -3,14 +3,14 @@ ghost use Rattle.std.specs.Prelude.{◌≡◌, ◌↔◌, Ok, IfErr, IfOk, IsSom
 ghost use Rattle.std.specs.List.{list_any};
 ghost use Rattle.ir_program.specs.Program.{operation_at};
 ghost use Rattle.ir_trees.specs.Stands.{ProgramTree, StandsFor, by_handle};
-ghost use Rattle.opt_dce.specs.Steps.{IsBelow};
+ghost use Rattle.opt_dce.specs.Steps.{GoesBelowRoot};
 ghost use Rattle.opt_dce.specs.Thins.{IsIdle, IsOutcome, thinned_root};
 ghost use Rattle.opt_dead.specs.Plans.{IsPlan};
 ghost use Rattle.opt_dead.specs.declared.plan.DeadPlan.{DeadPlan};
 ghost use Rattle.opt_dialect.specs.declared.status.IRStatus.TheVariants.{Unchanged};
 ghost use Rattle.opt_dialect.specs.declared.status.OptError.TheVariants.{Memory};
 ghost use Rattle.opt_inside.specs.Edges.{HasLocalEdgesBelow};
-ghost use Rattle.opt_trees.specs.Dce.{Around, Gone, IsGone};
+ghost use Rattle.opt_trees.specs.Dce.{TreeSurroundings, Gone, IsGoneExactly};
 
 use crate::taking::take_out;
 use ir_context::{TypeTable, TypedProgram};
@@ -48,9 +48,10 @@ fn know_gone<D: OptDialect>(program: &Program<D::Operation, D::Block>, op: Ptr<O
     requires { IsSome (operation_at program.now op) }
     ensures tree { (t : ProgramTree D.Operation D.Block) × StandsFor program.now op t }
     ensures below { (t : ProgramTree D.Operation D.Block) → StandsFor program.now op t
-        → (w : Around by_handle D.Constant) (g : Gone by_handle) → IsGone D.meaning w t g → IsBelow program.now op g }
+        → (w : TreeSurroundings by_handle D.Constant) (g : Gone by_handle) → IsGoneExactly D.meaning w t g
+        → GoesBelowRoot program.now op g }
     ensures idle { (t : ProgramTree D.Operation D.Block) → StandsFor program.now op t
-        → (w : Around by_handle D.Constant) (g : Gone by_handle) → IsGone D.meaning w t g
+        → (w : TreeSurroundings by_handle D.Constant) (g : Gone by_handle) → IsGoneExactly D.meaning w t g
         → (plan : DeadPlan) → IsPlan program.now g plan → IsIdle plan ↔ (thinned_root D.meaning g t ≡ t) }
 {
     know_tree(program, op);

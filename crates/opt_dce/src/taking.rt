@@ -1,7 +1,7 @@
 //! Taking out what a plan lists.
 ghost use Rattle.std.specs.Prelude.{◌≡◌};
 ghost use Rattle.ir_trees.specs.Stands.{ProgramTree, StandsFor, by_handle};
-ghost use Rattle.opt_dce.specs.Steps.{IsBelow};
+ghost use Rattle.opt_dce.specs.Steps.{GoesBelowRoot};
 ghost use Rattle.opt_dce.specs.Thins.{TakesOut};
 ghost use Rattle.opt_dead.specs.Plans.{IsPlan, UsesGo};
 ghost use Rattle.opt_trees.specs.Dce.{Gone};
@@ -26,9 +26,9 @@ pub fn take_out<D: OptDialect, T: TypeTable>(
     plan: &DeadPlan,
 )
     requires { (g : Gone by_handle) × IsPlan ctx.old.program g plan.now × UsesGo ctx.old.program g
-        × IsBelow ctx.old.program _op g }
+        × GoesBelowRoot ctx.old.program _op g }
     ensures taken { (g : Gone by_handle) → IsPlan ctx.old.program g plan.now → UsesGo ctx.old.program g
-        → IsBelow ctx.old.program _op g → (t : ProgramTree D.Operation D.Block) → StandsFor ctx.old.program _op t
+        → GoesBelowRoot ctx.old.program _op g → (t : ProgramTree D.Operation D.Block) → StandsFor ctx.old.program _op t
         → TakesOut D.meaning ctx.old.program ctx.new.program _op g t }
     ensures numbers { ctx.new.program.counter ≡ ctx.old.program.counter }
     ensures types { ctx.new.types ≡ ctx.old.types }

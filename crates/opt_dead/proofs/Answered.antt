@@ -5,7 +5,7 @@ use Rattle.ir_program.specs.declared.handles.Ptr.{Ptr}
 use Rattle.ir_program.specs.declared.handles.Operation.{Operation}
 use Rattle.ir_trees.specs.Stands.{by_handle, in_program, ProgramTree, StandsFor}
 use Rattle.opt_trees.specs.Dialect.{Dialect}
-use Rattle.opt_trees.specs.Dce.{Around}
+use Rattle.opt_trees.specs.Dce.{TreeSurroundings}
 use Rattle.opt_solvers.specs.declared.dead_problem.DeadProblem.{DeadProblem}
 use Rattle.opt_solvers.specs.declared.dead_problem.DeadItems.{DeadItems}
 use Rattle.opt_inside.specs.Numbered.{Numbers}
@@ -21,7 +21,7 @@ use Rattle.opt_dead.proofs.Planned.{is_plan}
 
 module _ {O B A : Type 0} {d : Dialect (in_program O B) A} {c : Program O B} {op : Ptr Operation} {n : Numbers} {problem : DeadProblem} (g : Ground d c op n problem) (items : DeadItems) (solved : Solved problem items) (plan : DeadPlan) (takes : TakesMarked c n problem items plan) where
   -- the context: what is pinned, and nothing of constants
-  around : Around by_handle A
+  around : TreeSurroundings by_handle A
   around = record { alone = λ v. None; is_pinned = λ v. truth (told_pinned c op n g.numbers v) }
 
   says_pins : SaysPins c op around

@@ -11,11 +11,11 @@ use Rattle.ir_trees.specs.Trees.{Head}
 use Rattle.ir_trees.specs.Stands.{by_handle, in_program, ProgramTree}
 use Rattle.opt_trees.specs.Dialect.{Dialect}
 use Rattle.opt_trees.specs.Occurrences.{Has, occurrences_of}
-use Rattle.opt_trees.specs.Dce.{Around, Item, Whole, Slot, IsDead, dies, IsExcused, by_operation, by_argument}
+use Rattle.opt_trees.specs.Dce.{TreeSurroundings, Item, Whole, Slot, IsDead, dies, IsExcused, by_operation, by_argument}
 use Rattle.opt_solvers.specs.declared.dead_problem.Operand.{Operand}
 use Rattle.opt_solvers.specs.DeadCandidates.{Candidate}
 use Rattle.opt_solvers.specs.declared.dead_problem.DeadProblem.{DeadProblem}
-use Rattle.opt_solvers.specs.Dead.{Item as Number, Whole as WholeAt, Slot as SlotAt, IsIn, itself as alone, further, IsDead as IsDeadAt, dies as dies_at, IsExcused as IsExcusedAt, by_operation as by_operation_at, by_argument as by_argument_at}
+use Rattle.opt_solvers.specs.Dead.{NumberedItem as Number, Whole as WholeAt, Slot as SlotAt, IsInOperation, itself as alone, further, IsDeadItem as IsDeadAt, dies as dies_at, IsExcusedOperand as IsExcusedAt, by_operation as by_operation_at, by_argument as by_argument_at}
 use Rattle.opt_inside.specs.Numbered.{Numbers}
 use Rattle.opt_inside.specs.Occurring.{Found}
 use Rattle.opt_dead.specs.Plans.{SaysPins}
@@ -33,7 +33,7 @@ at_contains xs x h = (h.0, slice_get-get_or xs h.0 x h.1 ∙ ap Some h.2)
 
 module _ {O B A : Type 0} {d : Dialect (in_program O B) A} {c : Program O B} {op : Ptr Operation} {n : Numbers} {problem : DeadProblem} (g : Ground d c op n problem) where
   -- what an operation with a number is in has a number
-  pub start_of : (a j : ℕ) → IsIn problem a j → (q : Ptr Operation) → slice_get n.operations j ≡ Some q → (p : Ptr Operation) × (slice_get n.operations a ≡ Some p)
+  pub start_of : (a j : ℕ) → IsInOperation problem a j → (q : Ptr Operation) → slice_get n.operations j ≡ Some q → (p : Ptr Operation) × (slice_get n.operations a ≡ Some p)
   start_of a _ alone q h = (q, h)
   start_of a _ (further i j row there e w) q h =
       let r = row_of g i q h in
@@ -49,13 +49,13 @@ module _ {O B A : Type 0} {d : Dialect (in_program O B) A} {c : Program O B} {op
     at_operand : (o : Found O B) → Has o (occurrences_of t) → (i : ℕ) (v : Value) → slice_get (operands_at c o.head.name) i ≡ Some v → slice_get o.head.operands i ≡ Some v
     at_operand o has i v h = let s = f.sound o has in ap (λ (z : Head by_handle (in_program O B)). slice_get z.operands i) s.head ∙ (ap (λ l. slice_get l i) (sym (operands_here c o.head.name s.view s.there)) ∙ h)
 
-    around_in : (a j : ℕ) (p : Ptr Operation) → slice_get n.operations a ≡ Some p → (o : Found O B) → Has o (occurrences_of t) → slice_get n.operations j ≡ Some o.head.name → IsIn problem a j → Has p (o.head.name ∷ o.site.spot.around)
+    around_in : (a j : ℕ) (p : Ptr Operation) → slice_get n.operations a ≡ Some p → (o : Found O B) → Has o (occurrences_of t) → slice_get n.operations j ≡ Some o.head.name → IsInOperation problem a j → Has p (o.head.name ∷ o.site.spot.around)
     around_in a j p h o has k w = ⊎_elim
         (λ e. inl (same_Some p o.head.name (sym h ∙ (ap (slice_get n.operations) (sym e) ∙ k))))
         (λ m. inr (around_from g t f a j p h o has k (record { candidate = m.1; there = m.2; parent = m.0; around = m.3; inside = m.4 })))
         (into problem a j w)
 
-    in_around : (j : ℕ) (p : Ptr Operation) (o : Found O B) → Has o (occurrences_of t) → slice_get n.operations j ≡ Some o.head.name → Has p (o.head.name ∷ o.site.spot.around) → (a : ℕ) × (slice_get n.operations a ≡ Some p) × IsIn problem a j
+    in_around : (j : ℕ) (p : Ptr Operation) (o : Found O B) → Has o (occurrences_of t) → slice_get n.operations j ≡ Some o.head.name → Has p (o.head.name ∷ o.site.spot.around) → (a : ℕ) × (slice_get n.operations a ≡ Some p) × IsInOperation problem a j
     in_around j p o has k h = ⊎_elim
         (λ e. (j, k ∙ ap Some (sym e), alone))
         (λ r. let m = number_of g p (((f.sound o has).spot.around p).0 r).0 in
@@ -63,7 +63,7 @@ module _ {O B A : Type 0} {d : Dialect (in_program O B) A} {c : Program O B} {op
         (m.0, m.1, further j w.parent w.candidate w.there w.around w.inside))
         h
 
-    module _ (w : Around by_handle A) (pins : SaysPins c op w) where
+    module _ (w : TreeSurroundings by_handle A) (pins : SaysPins c op w) where
       mutual
         pub tree_dead : (x : Number) → IsDeadAt problem x → (y : Item by_handle) → SameItem g t f x y → IsDead d w t y
         tree_dead _ (dies_at x may kept uses) y s = dies y (may_from g t f x y s may) (λ k. kept (kept_to g t f w pins x y s k)) (λ v o i is u.

@@ -15,17 +15,17 @@ use Rattle.ir_trees.specs.Trees.{Label}
 use Rattle.ir_trees.specs.Stands.{by_handle, in_program, ProgramTree}
 use Rattle.opt_trees.specs.Dialect.{Dialect}
 use Rattle.opt_trees.specs.Occurrences.{Has}
-use Rattle.opt_trees.specs.Dce.{Around, Gone, Item, Whole, Slot, May, IsDead, dies, IsLost, IsGone}
+use Rattle.opt_trees.specs.Dce.{TreeSurroundings, Gone, Item, Whole, Slot, May, IsDead, dies, IsLost, IsGoneExactly}
 use Rattle.opt_solvers.specs.declared.dead_problem.Argument.{Argument}
 use Rattle.opt_solvers.specs.declared.dead_problem.Operand.{Operand}
 use Rattle.opt_solvers.specs.DeadCandidates.{Candidate}
 use Rattle.opt_solvers.specs.declared.dead_problem.DeadProblem.{DeadProblem}
 use Rattle.opt_solvers.specs.declared.dead_problem.DeadItems.{DeadItems}
-use Rattle.opt_solvers.specs.Dead.{Item as Number, Whole as WholeAt, Slot as SlotAt, May as MayAt, IsDead as IsDeadAt, dies as dies_at}
+use Rattle.opt_solvers.specs.Dead.{NumberedItem as Number, Whole as WholeAt, Slot as SlotAt, ItemMayGo as MayAt, IsDeadItem as IsDeadAt, dies as dies_at}
 use Rattle.opt_inside.specs.Numbered.{Numbers}
 use Rattle.opt_dead.specs.Plans.{SaysPins}
 use Rattle.opt_dead.specs.Problems.{Forwards}
-use Rattle.opt_dead.specs.Taken.{IsMarked, ArePaired, OperandGoes, ArgumentGoes}
+use Rattle.opt_dead.specs.Taken.{HasMarkAt, ArePaired, OperandGoes, ArgumentGoes}
 use Rattle.opt_dead.proofs.Ground.{Ground, Occurs, none_or, has_value_in, arguments_here, operands_here}
 use Rattle.opt_dead.proofs.Within.{row_of, value_row_of, number_of}
 use Rattle.opt_dead.proofs.Made.{SameItem, occurrence_of}
@@ -39,11 +39,11 @@ pub record Solved (problem : DeadProblem) (items : DeadItems) : Type 0 where
   pub arguments : (x : ℕ) → (slice_get items.arguments.items x ≡ Some true) ↔ IsDeadAt problem (SlotAt x)
 
 -- of distinct keys, whether the one at the key's number is marked
-told_at : {X : Type 0} → ((x y : X) → Told (x ≡ y)) → (keys : List X) → AreDistinct keys → (marks : List Bool) (x : X) → Told ((k : ℕ) × (slice_get keys k ≡ Some x) × IsMarked marks k)
+told_at : {X : Type 0} → ((x y : X) → Told (x ≡ y)) → (keys : List X) → AreDistinct keys → (marks : List Bool) (x : X) → Told ((k : ℕ) × (slice_get keys k ≡ Some x) × HasMarkAt marks k)
 told_at same keys once marks x = ⊎_elim
     (λ l. ⊎_elim
     (λ m. inl (l.0, l.1, m))
-    (λ n. inr (λ w. n (subst (IsMarked marks) (once w.0 l.0 x w.1 l.1) w.2)))
+    (λ n. inr (λ w. n (subst (HasMarkAt marks) (once w.0 l.0 x w.1 l.1) w.2)))
     (told_marked marks l.0))
     (λ n. inr (λ w. n (w.0, w.1)))
     (look same keys x)
@@ -58,7 +58,7 @@ told_goes row arguments i = ⊎_elim
     (λ n. inr (λ w.
     let q : o.0 ≡ w.0 = same_Some o.0 w.0 (sym o.1 ∙ w.2) in
     let r : w.1 ≡ x.0 = same_Some w.1 x.0 (sym w.3 ∙ (ap (λ (z : Operand). z.argument) (sym q) ∙ x.1)) in
-    n (subst (IsMarked arguments) r w.4)))
+    n (subst (HasMarkAt arguments) r w.4)))
     (told_marked arguments x.0))
     (none_or o.0.argument))
     (none_or (slice_get row.operands i))
@@ -88,7 +88,7 @@ told_loses n once rows arguments p i = ⊎_elim
 module _ {O B A : Type 0} {d : Dialect (in_program O B) A} {c : Program O B} {op : Ptr Operation} {n : Numbers} {problem : DeadProblem} (g : Ground d c op n problem) (items : DeadItems) where
   -- an item goes where its number is marked
   abbrev pub Goes : Item by_handle → Type 0
-  Goes (Whole p) = (k : ℕ) × (slice_get n.operations k ≡ Some p) × IsMarked items.operations.items k
+  Goes (Whole p) = (k : ℕ) × (slice_get n.operations k ≡ Some p) × HasMarkAt items.operations.items k
   Goes (Slot v) = ArgumentGoes n items.arguments.items v
 
   pub told_item : (x : Item by_handle) → Told (Goes x)
@@ -117,7 +117,7 @@ module _ {O B A : Type 0} {d : Dialect (in_program O B) A} {c : Program O B} {op
   pub may_at : (x : Number) → IsDeadAt problem x → MayAt problem x
   may_at _ (dies_at x may kept uses) = may
 
-  module _ (solved : Solved problem items) (w : Around by_handle A) (pins : SaysPins c op w) (t : ProgramTree O B) (f : Occurs c op t) where
+  module _ (solved : Solved problem items) (w : TreeSurroundings by_handle A) (pins : SaysPins c op w) (t : ProgramTree O B) (f : Occurs c op t) where
     -- what may go has a number
     item_of : (y : Item by_handle) → May d t y → (x : Number) × SameItem g t f x y
     item_of (Whole p) m = let k = number_of g m.it.head.name (f.sound m.it m.stands).below in (WholeAt k.0, k.1 ∙ ap Some m.name)
@@ -170,7 +170,7 @@ module _ {O B A : Type 0} {d : Dialect (in_program O B) A} {c : Program O B} {op
         (none_or o.0.argument))
         (none_or (slice_get r.0.operands i))
 
-    pub is_gone : IsGone d w t gone
+    pub is_gone : IsGoneExactly d w t gone
     is_gone = record {
       dead = λ x e. dead_item x (truth_yes (told_item x) e);
       all = λ x dead. truth_of (told_item x) (item_dead x dead);

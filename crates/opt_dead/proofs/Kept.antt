@@ -5,10 +5,10 @@ use Rattle.std.proofs.lemmas.Option.{same_Some}
 use Rattle.ir_program.specs.declared.handles.Value.{Value}
 use Rattle.opt_solvers.specs.declared.dead_problem.Definer.{Definer}
 use Rattle.opt_inside.specs.Numbered.{Numbers}
-use Rattle.opt_dead.specs.Problems.{IsDefiner, Keeps, KeepsIf}
+use Rattle.opt_dead.specs.Problems.{IsDefiner, ListsDefiners, KeepsIf}
 
 module _ (n : Numbers) where
-  pub keeps_none : (Of : Value → Type 0) → ((v : Value) → Of v → ⊥) → Keeps n Of []
+  pub keeps_none : (Of : Value → Type 0) → ((v : Value) → Of v → ⊥) → ListsDefiners n Of []
   keeps_none Of never = record { sound = λ x h. absurd (omega (arith, h.1)); all = λ v of. absurd (never v of) }
 
   pub keeps_if : (If : Type 0) (v : Value) (x : Definer) (old : List Definer) → If → IsDefiner n v x → KeepsIf n If v old (old ++ x ∷ [])
@@ -21,7 +21,7 @@ module _ (n : Numbers) where
   pub keeps_not : (If : Type 0) (v : Value) (old : List Definer) → (If → ⊥) → KeepsIf n If v old old
   keeps_not If v old never = record { sound = λ y h. inl h; kept = λ y h. h; noted = λ so. absurd (never so) }
 
-  pub keeps_step : (Of All : Value → Type 0) (If : Type 0) (v : Value) (old new : List Definer) → ((w : Value) → All w → Of w ⊎ (If × (w ≡ v))) → ((w : Value) → Of w → All w) → (If → All v) → Keeps n Of old → KeepsIf n If v old new → Keeps n All new
+  pub keeps_step : (Of All : Value → Type 0) (If : Type 0) (v : Value) (old new : List Definer) → ((w : Value) → All w → Of w ⊎ (If × (w ≡ v))) → ((w : Value) → Of w → All w) → (If → All v) → ListsDefiners n Of old → KeepsIf n If v old new → ListsDefiners n All new
   keeps_step Of All If v old new split up here first second = record {
     sound = λ x h. ⊎_elim
         (λ w. let f = first.sound x w in (f.0, up f.0 f.1, f.2))

@@ -17,11 +17,11 @@ use Rattle.ir_trees.specs.Trees.{Head}
 use Rattle.ir_trees.specs.Stands.{by_handle, in_program, ProgramTree}
 use Rattle.opt_trees.specs.Dialect.{Dialect}
 use Rattle.opt_trees.specs.Occurrences.{Has, occurrences_of, defined_in}
-use Rattle.opt_trees.specs.Dce.{Item, Whole, Slot, Touches, IsUse}
+use Rattle.opt_trees.specs.Dce.{Item, Whole, Slot, Touches, IsUseOfItem}
 use Rattle.opt_solvers.specs.declared.dead_problem.Definer.{Definer}
 use Rattle.opt_solvers.specs.declared.dead_problem.Definer.TheVariants.{Result, Argument as ByArgument, Outside}
 use Rattle.opt_solvers.specs.declared.dead_problem.DeadProblem.{DeadProblem}
-use Rattle.opt_solvers.specs.Dead.{Item as Number, Whole as WholeAt, Slot as SlotAt, IsInner, IsBelow, Makes, Counts}
+use Rattle.opt_solvers.specs.Dead.{NumberedItem as Number, Whole as WholeAt, Slot as SlotAt, IsInner, IsBelow, ItemMakes, CountsForItem}
 use Rattle.opt_inside.specs.Numbered.{Numbers}
 use Rattle.opt_inside.specs.Occurring.{Found}
 use Rattle.opt_inside.proofs.Around.{inside_both, not_root}
@@ -122,7 +122,7 @@ module _ {O B A : Type 0} {d : Dialect (in_program O B) A} {c : Program O B} {op
     pub occurrence_of : (a : ℕ) (p : Ptr Operation) → slice_get n.operations a ≡ Some p → (o : Found O B) × Has o (occurrences_of t) × (o.head.name ≡ p) × (slice_get n.operations a ≡ Some o.head.name)
     occurrence_of a p h = let o = f.found p (below_of g a p h) in (o.0, o.1, o.2, h ∙ ap Some (sym o.2))
 
-    pub touches_to : (x : Number) (y : Item by_handle) → SameItem x y → (v : Value) (e : Definer) → IsDefiner n v e → Touches t y v → Makes problem x e
+    pub touches_to : (x : Number) (y : Item by_handle) → SameItem x y → (v : Value) (e : Definer) → IsDefiner n v e → Touches t y v → ItemMakes problem x e
     touches_to (WholeAt a) (Whole p) s v e i m =
         let h : slice_get n.operations a ≡ Some m.it.head.name = s ∙ ap Some (sym m.name) in
         ⊎_elim (λ r. inl (results_to a m.it m.stands h v e i r)) (λ r. inr (inner_to a m.it m.stands h v e i r)) m.value
@@ -130,7 +130,7 @@ module _ {O B A : Type 0} {d : Dialect (in_program O B) A} {c : Program O B} {op
     touches_to (WholeAt a) (Slot z) s v e i m = absurd s
     touches_to (SlotAt k) (Whole p) s v e i m = absurd s
 
-    pub touches_from : (x : Number) (y : Item by_handle) → SameItem x y → (v : Value) (e : Definer) → IsLiveValue c v → IsDefiner n v e → Makes problem x e → Touches t y v
+    pub touches_from : (x : Number) (y : Item by_handle) → SameItem x y → (v : Value) (e : Definer) → IsLiveValue c v → IsDefiner n v e → ItemMakes problem x e → Touches t y v
     touches_from (WholeAt a) (Whole p) s v e live i m =
         let o = occurrence_of a p s in
         record { it = o.0; stands = o.1; name = o.2; value = ⊎_elim (λ r. inl (results_from a o.0 o.1 o.3 v e i live r)) (λ r. inr (inner_from a o.0 o.1 o.3 v live e i r)) m }
@@ -139,7 +139,7 @@ module _ {O B A : Type 0} {d : Dialect (in_program O B) A} {c : Program O B} {op
     touches_from (SlotAt k) (Whole p) s v e live i m = absurd s
 
     module _ (j : ℕ) (u : Found O B) (has : Has u (occurrences_of t)) (k : slice_get n.operations j ≡ Some u.head.name) where
-      pub use_to : (x : Number) (y : Item by_handle) → SameItem x y → (v : Value) (e : Definer) → IsDefiner n v e → IsUse t y v u → Counts problem x e j
+      pub use_to : (x : Number) (y : Item by_handle) → SameItem x y → (v : Value) (e : Definer) → IsDefiner n v e → IsUseOfItem t y v u → CountsForItem problem x e j
       use_to (WholeAt a) (Whole p) s v e i m =
           let h : slice_get n.operations a ≡ Some m.it.head.name = s ∙ ap Some (sym m.name) in
           ⊎_elim (λ r. inl (results_to a m.it m.stands h v e i r)) (λ r. inr (inner_to a m.it m.stands h v e i r.0, λ w. r.1 (around_from a j p s u has k w))) m.value
@@ -147,7 +147,7 @@ module _ {O B A : Type 0} {d : Dialect (in_program O B) A} {c : Program O B} {op
       use_to (WholeAt a) (Slot z) s v e i m = absurd s
       use_to (SlotAt q) (Whole p) s v e i m = absurd s
 
-      pub use_from : (x : Number) (y : Item by_handle) → SameItem x y → (v : Value) (e : Definer) → IsLiveValue c v → IsDefiner n v e → Counts problem x e j → IsUse t y v u
+      pub use_from : (x : Number) (y : Item by_handle) → SameItem x y → (v : Value) (e : Definer) → IsLiveValue c v → IsDefiner n v e → CountsForItem problem x e j → IsUseOfItem t y v u
       use_from (WholeAt a) (Whole p) s v e live i m =
           let o = occurrence_of a p s in
           record { it = o.0; stands = o.1; name = o.2; value = ⊎_elim (λ r. inl (results_from a o.0 o.1 o.3 v e i live r)) (λ r. inr (inner_from a o.0 o.1 o.3 v live e i r.0, λ w. r.1 (around_to a j p s u has k w))) m }

@@ -6,17 +6,17 @@ use Rattle.std.proofs.lemmas.Option.{slice_get_cases, slice_get_within}
 use Rattle.ir_program.specs.Program.{TypedValue, value_in}
 use Rattle.ir_program.specs.declared.handles.Value.{Value}
 use Rattle.ir_trees.specs.Searched.{AreDistinct}
-use Rattle.opt_dead.specs.Problems.{IsNumber}
-use Rattle.opt_dead.specs.Taken.{IsMarked}
+use Rattle.opt_dead.specs.Problems.{IsNumberAmong}
+use Rattle.opt_dead.specs.Taken.{HasMarkAt}
 use Rattle.opt_dead.proofs.Ground.{none_or}
 
-pub number_marked : {X : Type 0} (keys : List X) (v : X) (o : Option ℕ) (marks : List Bool) → IsNumber keys v o → ((x : ℕ) × (o ≡ Some x) × IsMarked marks x) → (x : ℕ) × (slice_get keys x ≡ Some v) × IsMarked marks x
+pub number_marked : {X : Type 0} (keys : List X) (v : X) (o : Option ℕ) (marks : List Bool) → IsNumberAmong keys v o → ((x : ℕ) × (o ≡ Some x) × HasMarkAt marks x) → (x : ℕ) × (slice_get keys x ≡ Some v) × HasMarkAt marks x
 number_marked keys v o marks number w = (w.0, number.found w.0 w.1, w.2)
 
-pub marked_number : {X : Type 0} (keys : List X) → AreDistinct keys → (v : X) (o : Option ℕ) (marks : List Bool) → IsNumber keys v o → ((x : ℕ) × (slice_get keys x ≡ Some v) × IsMarked marks x) → (x : ℕ) × (o ≡ Some x) × IsMarked marks x
+pub marked_number : {X : Type 0} (keys : List X) → AreDistinct keys → (v : X) (o : Option ℕ) (marks : List Bool) → IsNumberAmong keys v o → ((x : ℕ) × (slice_get keys x ≡ Some v) × HasMarkAt marks x) → (x : ℕ) × (o ≡ Some x) × HasMarkAt marks x
 marked_number keys once v o marks number w = ⊎_elim
     (λ e. absurd (number.none e (w.0, w.1)))
-    (λ x. (x.0, x.1, subst (IsMarked marks) (once w.0 x.0 v w.1 (number.found x.0 x.1)) w.2))
+    (λ x. (x.0, x.1, subst (HasMarkAt marks) (once w.0 x.0 v w.1 (number.found x.0 x.1)) w.2))
     (none_or o)
 
 pub value_within : (ts : List TypedValue) (i : ℕ) (v : Value) → value_in ts i ≡ Some v → i < length ts
@@ -26,7 +26,7 @@ value_within ts i v h = ⊎_elim
     (none_or (slice_get ts i))
 
 -- a search for marks finds one exactly where there is one
-pub any_marked : (test : Bool → Bool) → test true ≡ true → test false ≡ false → (xs : List Bool) → (list_any test xs ≡ true) ↔ ((i : ℕ) × IsMarked xs i)
+pub any_marked : (test : Bool → Bool) → test true ≡ true → test false ≡ false → (xs : List Bool) → (list_any test xs ≡ true) ↔ ((i : ℕ) × HasMarkAt xs i)
 any_marked test yes_is no_is [] = (λ e. absurd (cc e), λ w. absurd (cc w.1))
 any_marked test yes_is no_is (true ∷ xs) = (λ e. (zero, refl), λ w. ap (λ b. b || list_any test xs) yes_is)
 any_marked test yes_is no_is (false ∷ xs) =
@@ -36,7 +36,7 @@ any_marked test yes_is no_is (false ∷ xs) =
       λ w. skip ∙ rest.1 (behind w.0 w.1),
     )
   where
-    behind : (i : ℕ) → IsMarked (false ∷ xs) i → (k : ℕ) × IsMarked xs k
+    behind : (i : ℕ) → HasMarkAt (false ∷ xs) i → (k : ℕ) × HasMarkAt xs k
     behind zero h = absurd (cc h)
     behind (suc k) h = (k, h)
 

@@ -18,11 +18,11 @@ use Rattle.ir_trees.specs.Stands.{by_handle, in_program, defined_by, ProgramTree
 use Rattle.ir_trees.proofs.Members.{at_has, has_at}
 use Rattle.opt_trees.specs.Dialect.{Dialect}
 use Rattle.opt_trees.specs.Occurrences.{Has, Spot, occurrences_of}
-use Rattle.opt_trees.specs.Dce.{Around, Item, Whole, Slot, Touches, May, IsKept, ForwardsTo}
+use Rattle.opt_trees.specs.Dce.{TreeSurroundings, Item, Whole, Slot, Touches, May, IsKept, ForwardsTo}
 use Rattle.opt_solvers.specs.DeadCandidates.{Candidate}
 use Rattle.opt_solvers.specs.declared.dead_problem.Argument.{Argument}
 use Rattle.opt_solvers.specs.declared.dead_problem.DeadProblem.{DeadProblem}
-use Rattle.opt_solvers.specs.Dead.{Item as Number, Whole as WholeAt, Slot as SlotAt, May as MayAt, IsKept as IsKeptAt}
+use Rattle.opt_solvers.specs.Dead.{NumberedItem as Number, Whole as WholeAt, Slot as SlotAt, ItemMayGo as MayAt, IsKeptItem as IsKeptAt}
 use Rattle.opt_inside.specs.Numbered.{Numbers}
 use Rattle.opt_inside.specs.Occurring.{Found, IsBelowRoot, IsSpotOf}
 use Rattle.opt_inside.proofs.Around.{inside_both, is_root}
@@ -152,7 +152,7 @@ module _ {O B A : Type 0} {d : Dialect (in_program O B) A} {c : Program O B} {op
     operand_root : (v : Value) → Lists (operands_at c op) v → Has v t.head.operands
     operand_root v l = subst (λ (z : Head by_handle (in_program O B)). Has v z.operands) (sym f.root.head) (at_has f.root.view.operands l.0 v (ap (λ z. slice_get z l.0) (sym (operands_here c op f.root.view f.root.there)) ∙ l.1))
 
-    module _ (w : Around by_handle A) (pins : SaysPins c op w) where
+    module _ (w : TreeSurroundings by_handle A) (pins : SaysPins c op w) where
       pub kept_to : (x : Number) (y : Item by_handle) → SameItem g t f x y → IsKept w t y → IsKeptAt problem x
       kept_to x y s k =
           let v = k.0 in

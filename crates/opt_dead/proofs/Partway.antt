@@ -4,7 +4,7 @@ use Rattle.std.specs.Prelude.{◌↔◌}
 use Rattle.std.proofs.Math.ListN.{set}
 use Rattle.std.proofs.lemmas.List.{get_or-set_same, length-set}
 use Rattle.std.proofs.lemmas.Option.{same_Some, slice_get-get_or, slice_get_read, get_or_from_slice_get}
-use Rattle.opt_dead.specs.Taken.{IsMarked}
+use Rattle.opt_dead.specs.Taken.{HasMarkAt}
 
 pub at_middle : {X : Type 0} (done rest : List X) (x : X) → slice_get (done ++ x ∷ rest) (length done) ≡ Some x
 at_middle [] rest x = refl
@@ -41,7 +41,7 @@ each_push P xs x each here k y e = ⊎_elim
     (at_last xs x k y e)
 
 -- marks up to here
-pub marks_push : (P : ℕ → Type 0) (xs : List Bool) (b : Bool) → ((i : ℕ) → IsMarked xs i ↔ ((i < length xs) × P i)) → ((b ≡ true) ↔ P (length xs)) → (i : ℕ) → IsMarked (xs ++ b ∷ []) i ↔ ((i < length (xs ++ b ∷ [])) × P i)
+pub marks_push : (P : ℕ → Type 0) (xs : List Bool) (b : Bool) → ((i : ℕ) → HasMarkAt xs i ↔ ((i < length xs) × P i)) → ((b ≡ true) ↔ P (length xs)) → (i : ℕ) → HasMarkAt (xs ++ b ∷ []) i ↔ ((i < length (xs ++ b ∷ [])) × P i)
 marks_push P xs b so_far here i = (
   λ m. ⊎_elim
       (λ (old : slice_get xs i ≡ Some true). let w = (so_far i).0 old in (let lt = w.0 in omega (arith, length-append xs (b ∷ [])), w.1))
@@ -49,7 +49,7 @@ marks_push P xs b so_far here i = (
       (at_last xs b i true m),
   λ w. ⊎_elim
       (λ (old : i < length xs). at_front xs (b ∷ []) i true ((so_far i).1 (old, w.1)))
-      (λ (new : i ≡ length xs). subst (λ k. IsMarked (xs ++ b ∷ []) k) (sym new) (at_middle xs [] b ∙ ap Some (here.1 (subst P new w.1))))
+      (λ (new : i ≡ length xs). subst (λ k. HasMarkAt (xs ++ b ∷ []) k) (sym new) (at_middle xs [] b ∙ ap Some (here.1 (subst P new w.1))))
       (earlier i (length xs) (let lt = w.0 in omega (arith, length-append xs (b ∷ [])))),
 )
   where

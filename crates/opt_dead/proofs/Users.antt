@@ -24,7 +24,7 @@ use Rattle.opt_solvers.specs.declared.dead_problem.Operand.{Operand}
 use Rattle.opt_solvers.specs.DeadCandidates.{Candidate}
 use Rattle.opt_solvers.specs.declared.dead_problem.DeadProblem.{DeadProblem}
 use Rattle.opt_solvers.specs.declared.dead_problem.DeadItems.{DeadItems}
-use Rattle.opt_solvers.specs.Dead.{Item as Number, Whole as WholeAt, Slot as SlotAt, IsIn, further, IsInner, Makes, IsKept as IsKeptAt, IsDead as IsDeadAt, dies as dies_at, IsExcused as IsExcusedAt, by_operation as by_operation_at, by_argument as by_argument_at, Counts, HasOperand, IsDeadProblem}
+use Rattle.opt_solvers.specs.Dead.{NumberedItem as Number, Whole as WholeAt, Slot as SlotAt, IsInOperation, further, IsInner, ItemMakes, IsKeptItem as IsKeptAt, IsDeadItem as IsDeadAt, dies as dies_at, IsExcusedOperand as IsExcusedAt, by_operation as by_operation_at, by_argument as by_argument_at, CountsForItem, HasOperand, IsDeadProblem}
 use Rattle.opt_inside.specs.Numbered.{Numbers}
 use Rattle.opt_inside.proofs.Around.{inside_both, around_block}
 use Rattle.opt_dead.specs.Plans.{GoesWith, IsGoing, UsesGo}
@@ -50,7 +50,7 @@ module _ {O B A : Type 0} {d : Dialect (in_program O B) A} {c : Program O B} {op
     dead : IsDeadAt problem item
     definer : Definer
     is : IsDefiner n v definer
-    makes : Makes problem item definer
+    makes : ItemMakes problem item definer
 
   -- a value that is made inside has a number
   listed : (v : Value) → IsLiveValue c v → (e : Definer) → IsDefiner n v e → (e ≡ Outside → ⊥) → Lists n.values v
@@ -61,7 +61,7 @@ module _ {O B A : Type 0} {d : Dialect (in_program O B) A} {c : Program O B} {op
   listed v live (ByArgument k) i inner = (k, i.2)
   listed v live Outside i inner = absurd (inner refl)
 
-  not_outside : (x : Number) (e : Definer) → Makes problem x e → e ≡ Outside → ⊥
+  not_outside : (x : Number) (e : Definer) → ItemMakes problem x e → e ≡ Outside → ⊥
   not_outside (WholeAt a) e m q = ⊎_elim (λ r. cc (r, q)) (λ i. subst (IsInner problem a) q i) m
   not_outside (SlotAt k) e m q = cc (m, q)
 
@@ -97,7 +97,7 @@ module _ {O B A : Type 0} {d : Dialect (in_program O B) A} {c : Program O B} {op
       w
 
   -- an operation with a number inside a dead one goes
-  goes_with : (a j : ℕ) (p : Ptr Operation) → slice_get n.operations j ≡ Some p → IsIn problem a j → IsDeadAt problem (WholeAt a) → GoesWith c (gone g items) (OperationNode p)
+  goes_with : (a j : ℕ) (p : Ptr Operation) → slice_get n.operations j ≡ Some p → IsInOperation problem a j → IsDeadAt problem (WholeAt a) → GoesWith c (gone g items) (OperationNode p)
   goes_with a j p h i dead =
       let q = start_of g a j i p h in
       (q.0, truth_of (told_item g items (Whole q.0)) (a, q.1, (solved.operations a).1 dead), inside_of g a j i q.0 p q.1 h)
@@ -109,11 +109,11 @@ module _ {O B A : Type 0} {d : Dialect (in_program O B) A} {c : Program O B} {op
   not_kept : (x : Number) → IsDeadAt problem x → IsKeptAt problem x → ⊥
   not_kept _ (dies_at x may kept uses) = kept
 
-  excuse : (x : Number) → IsDeadAt problem x → (j : ℕ) (o : Operand) → HasOperand problem j o → Counts problem x o.definer j → IsExcusedAt problem j o
+  excuse : (x : Number) → IsDeadAt problem x → (j : ℕ) (o : Operand) → HasOperand problem j o → CountsForItem problem x o.definer j → IsExcusedAt problem j o
   excuse _ (dies_at x may kept uses) = uses
 
   -- the operation that uses it is in the item, or its use counts
-  counts_or : (x : Number) → IsDeadAt problem x → (e : Definer) → Makes problem x e → (j : ℕ) (p : Ptr Operation) → slice_get n.operations j ≡ Some p → GoesWith c (gone g items) (OperationNode p) ⊎ Counts problem x e j
+  counts_or : (x : Number) → IsDeadAt problem x → (e : Definer) → ItemMakes problem x e → (j : ℕ) (p : Ptr Operation) → slice_get n.operations j ≡ Some p → GoesWith c (gone g items) (OperationNode p) ⊎ CountsForItem problem x e j
   counts_or (WholeAt a) dead e m j p h = ⊎_elim
       (λ r. inr (inl r))
       (λ i. ⊎_elim
@@ -133,7 +133,7 @@ module _ {O B A : Type 0} {d : Dialect (in_program O B) A} {c : Program O B} {op
       let definer : o.0.definer ≡ w.definer = one_definer v w.definer o.0.definer w.is (not_outside w.item w.definer w.makes) (subst (λ z. IsDefiner n z o.0.definer) value spec.definer) in
       ⊎_elim
       (λ goes. inl goes)
-      (λ counts. excused_goes l.0 o.0 (excuse w.item w.dead l.0 o.0 (record { candidate = r.0; there = r.1; operand = contains_at r.0.operands k o.0 o.1 }) (subst (λ z. Counts problem w.item z l.0) (sym definer) counts)) p l.1 k r.0 r.1 o.1)
+      (λ counts. excused_goes l.0 o.0 (excuse w.item w.dead l.0 o.0 (record { candidate = r.0; there = r.1; operand = contains_at r.0.operands k o.0 o.1 }) (subst (λ z. CountsForItem problem w.item z l.0) (sym definer) counts)) p l.1 k r.0 r.1 o.1)
       (counts_or w.item w.dead w.definer w.makes l.0 p l.1))
       (λ out.
       let kept : IsKeptValue c n op v = ⊎_elim
@@ -142,7 +142,7 @@ module _ {O B A : Type 0} {d : Dialect (in_program O B) A} {c : Program O B} {op
       (same_handle p op) in
       let e = g.rows.kept.all v kept in
       let definer : e.0 ≡ w.definer = one_definer v w.definer e.0 w.is (not_outside w.item w.definer w.makes) e.2 in
-      absurd (not_kept w.item w.dead (e.0, e.1, subst (Makes problem w.item) (sym definer) w.makes)))
+      absurd (not_kept w.item w.dead (e.0, e.1, subst (ItemMakes problem w.item) (sym definer) w.makes)))
       (look same_handle n.operations p)
 
   block_goes : (p : Ptr Operation) (k : ℕ) (b : Ptr BasicBlock) → slice_get (successors_at c p) k ≡ Some b → GoesWith c (gone g items) (BlockNode b) → GoesWith c (gone g items) (OperationNode p)

@@ -15,11 +15,11 @@ use Rattle.opt_trees.specs.Dialect.{Dialect}
 use Rattle.opt_solvers.specs.DeadCandidates.{Candidate}
 use Rattle.opt_solvers.specs.declared.dead_problem.Argument.{Argument}
 use Rattle.opt_solvers.specs.declared.dead_problem.DeadProblem.{DeadProblem}
-use Rattle.opt_solvers.specs.Dead.{IsIn, itself as alone, further, IsBelow, IsArgumentIn}
+use Rattle.opt_solvers.specs.Dead.{IsInOperation, itself as alone, further, IsBelow, IsArgumentIn}
 use Rattle.opt_inside.specs.Numbered.{Numbers}
 use Rattle.opt_inside.specs.Occurring.{IsBelowRoot}
 use Rattle.opt_inside.proofs.Around.{inside_both, not_root}
-use Rattle.opt_dead.specs.Problems.{Holds, IsAround, IsCandidate, IsValueRow}
+use Rattle.opt_dead.specs.Problems.{HoldsBlock, IsNumberOfHolder, IsCandidate, IsValueRow}
 use Rattle.opt_dead.proofs.Ground.{Ground, at_index, none_or, same_or}
 
 -- the block that an operation inside something else stands in
@@ -30,7 +30,7 @@ block_around c x _ p (in_region b r s i) same other = cc
 block_around c x _ p (in_operation r q s i) same other = cc
 
 -- an operation is inside a by number, or is a
-pub into : (problem : DeadProblem) (a i : ℕ) → IsIn problem a i → (i ≡ a) ⊎ ((j : ℕ) × (row : Candidate) × (slice_get problem.operations i ≡ Some row) × (row.around ≡ Some j) × IsIn problem a j)
+pub into : (problem : DeadProblem) (a i : ℕ) → IsInOperation problem a i → (i ≡ a) ⊎ ((j : ℕ) × (row : Candidate) × (slice_get problem.operations i ≡ Some row) × (row.around ≡ Some j) × IsInOperation problem a j)
 into problem a _ alone = inl refl
 into problem a _ (further i j row h e w) = inr (j, row, h, e, w)
 
@@ -57,27 +57,27 @@ module _ {O B A : Type 0} {d : Dialect (in_program O B) A} {c : Program O B} {op
   pub below_in_block : (p : Ptr Operation) (b : Ptr BasicBlock) → StandsInBlock c p b → StandsInside c (OperationNode op) (BlockNode b) → IsBelowRoot c op p
   below_in_block p b s i = record { inside = in_block p b s i; other = not_root c g.lists op p b s i }
 
-  one_holder : (q r : Ptr Operation) (b : Ptr BasicBlock) → Holds c q b → Holds c r b → q ≡ r
+  one_holder : (q r : Ptr Operation) (b : Ptr BasicBlock) → HoldsBlock c q b → HoldsBlock c r b → q ≡ r
   one_holder q r b h k =
       let e : h.region ≡ k.region = (g.lists.blocks_once b h.region k.region h.in_region.index k.in_region.index h.in_region.here k.in_region.here).0 in
       let s : StandsInOperation c k.region q = subst (λ z. StandsInOperation c z q) e h.in_operation in
       (g.lists.regions_once k.region q r s.index k.in_operation.index s.here k.in_operation.here).0
 
-  pub around_is : (b : Ptr BasicBlock) (o : Option ℕ) (q : Ptr Operation) (j : ℕ) → IsAround c n b o → Holds c q b → slice_get n.operations j ≡ Some q → o ≡ Some j
+  pub around_is : (b : Ptr BasicBlock) (o : Option ℕ) (q : Ptr Operation) (j : ℕ) → IsNumberOfHolder c n b o → HoldsBlock c q b → slice_get n.operations j ≡ Some q → o ≡ Some j
   around_is b None q j a h e = absurd (a.none refl q h (j, e))
   around_is b (Some i) q j a h e =
       let f = a.found i refl in
       let same : f.0 ≡ q = one_holder f.0 q b f.1 h in
       ap Some (g.numbers.operations_once i j q (f.2 ∙ ap Some same) e)
 
-  down : (x : IRNode) (q : Ptr Operation) (b : Ptr BasicBlock) → Holds c q b → StandsInside c x (OperationNode q) → StandsInside c x (BlockNode b)
+  down : (x : IRNode) (q : Ptr Operation) (b : Ptr BasicBlock) → HoldsBlock c q b → StandsInside c x (OperationNode q) → StandsInside c x (BlockNode b)
   down x q b h i = in_region b h.region h.in_region (in_operation h.region q h.in_operation i)
 
   -- the block that an operation with a number stands in
   pub its_block : (i : ℕ) (p : Ptr Operation) → slice_get n.operations i ≡ Some p → (b : Ptr BasicBlock) × StandsInBlock c p b × StandsInside c (OperationNode op) (BlockNode b)
   its_block i p h = let w = below_of i p h in block_around c (OperationNode op) (OperationNode p) p w.inside refl (λ e. let same : p ≡ op = cc in w.other same)
 
-  pub inside_of : (a i : ℕ) → IsIn problem a i → (p q : Ptr Operation) → slice_get n.operations a ≡ Some p → slice_get n.operations i ≡ Some q → StandsInside c (OperationNode p) (OperationNode q)
+  pub inside_of : (a i : ℕ) → IsInOperation problem a i → (p q : Ptr Operation) → slice_get n.operations a ≡ Some p → slice_get n.operations i ≡ Some q → StandsInside c (OperationNode p) (OperationNode q)
   inside_of a _ alone p q h k = let e : p ≡ q = same_Some p q (sym h ∙ k) in subst (λ z. StandsInside c (OperationNode p) (OperationNode z)) e itself
   inside_of a _ (further i j row there e w) p q h k =
       let b = its_block i q k in
@@ -88,9 +88,9 @@ module _ {O B A : Type 0} {d : Dialect (in_program O B) A} {c : Program O B} {op
 
   -- what stands inside a, by numbers: the operation, or the one that holds the region or block
   abbrev InNode : ℕ → IRNode → Type 0
-  InNode a (OperationNode q) = (j : ℕ) × (slice_get n.operations j ≡ Some q) × IsIn problem a j
-  InNode a (RegionNode r) = (q : Ptr Operation) × StandsInOperation c r q × ((j : ℕ) × (slice_get n.operations j ≡ Some q) × IsIn problem a j)
-  InNode a (BlockNode b) = (q : Ptr Operation) × Holds c q b × ((j : ℕ) × (slice_get n.operations j ≡ Some q) × IsIn problem a j)
+  InNode a (OperationNode q) = (j : ℕ) × (slice_get n.operations j ≡ Some q) × IsInOperation problem a j
+  InNode a (RegionNode r) = (q : Ptr Operation) × StandsInOperation c r q × ((j : ℕ) × (slice_get n.operations j ≡ Some q) × IsInOperation problem a j)
+  InNode a (BlockNode b) = (q : Ptr Operation) × HoldsBlock c q b × ((j : ℕ) × (slice_get n.operations j ≡ Some q) × IsInOperation problem a j)
 
   pub in_node : (a : ℕ) (p : Ptr Operation) → slice_get n.operations a ≡ Some p → (e : IRNode) → StandsInside c (OperationNode p) e → InNode a e
   in_node a p h _ itself = (a, h, alone)
@@ -131,10 +131,10 @@ module _ {O B A : Type 0} {d : Dialect (in_program O B) A} {c : Program O B} {op
       down (OperationNode p) f.0 b f.1 (inside_of a w.parent w.inside p f.0 h f.2)
 
   -- whether an operation is in another can be told
-  pub decide_in : ((i j : ℕ) (row : Candidate) → slice_get problem.operations i ≡ Some row → row.around ≡ Some j → j < i) → (fuel a i : ℕ) → i < fuel → IsIn problem a i ⊎ (IsIn problem a i → ⊥)
+  pub decide_in : ((i j : ℕ) (row : Candidate) → slice_get problem.operations i ≡ Some row → row.around ≡ Some j → j < i) → (fuel a i : ℕ) → i < fuel → IsInOperation problem a i ⊎ (IsInOperation problem a i → ⊥)
   decide_in up zero a i lt = absurd (omega arith)
   decide_in up (suc fuel) a i lt = ⊎_elim
-      (λ same. inl (subst (IsIn problem a) (sym same) alone))
+      (λ same. inl (subst (IsInOperation problem a) (sym same) alone))
       (λ other. ⊎_elim
       (λ gone. inr (λ w. ⊎_elim (λ e. other e) (λ f. absurd (cc (gone, f.2))) (into problem a i w)))
       (λ row. ⊎_elim
@@ -144,7 +144,7 @@ module _ {O B A : Type 0} {d : Dialect (in_program O B) A} {c : Program O B} {op
       (λ no. inr (λ w. ⊎_elim (λ e. other e) (λ f.
       let e : row.0 ≡ f.1 = same_Some row.0 f.1 (sym row.1 ∙ f.2) in
       let k : f.0 ≡ j.0 = same_Some f.0 j.0 (sym f.3 ∙ sym (ap (λ (z : Candidate). z.around) e) ∙ j.1) in
-      no (subst (IsIn problem a) k f.4)) (into problem a i w)))
+      no (subst (IsInOperation problem a) k f.4)) (into problem a i w)))
       (decide_in up fuel a j.0 (let lower = up i j.0 row.0 row.1 j.1 in omega arith)))
       (none_or row.0.around))
       (none_or (slice_get problem.operations i)))

@@ -14,13 +14,13 @@ use Rattle.ir_program.specs.declared.handles.Value.{Value}
 use Rattle.ir_trees.specs.Searched.{Lists, AreDistinct}
 use Rattle.ir_trees.specs.Stands.{by_handle, in_program, StandsFor, ProgramTree}
 use Rattle.opt_trees.specs.Dialect.{Dialect}
-use Rattle.opt_trees.specs.Dce.{Around, Gone, Whole, Slot, IsGone}
+use Rattle.opt_trees.specs.Dce.{TreeSurroundings, Gone, Whole, Slot, IsGoneExactly}
 use Rattle.opt_dead.specs.declared.plan.DeadPlan.{DeadPlan}
 use Rattle.opt_dead.specs.declared.plan.LostOperands.{LostOperands}
 use Rattle.opt_dead.specs.declared.plan.DeadArguments.{DeadArguments}
 
 -- a value is pinned where an operation that isn't inside the root takes it
-pub record SaysPins {O B A : Type 0} (c : Program O B) (op : Ptr Operation) (w : Around by_handle A) : Type 0 where
+pub record SaysPins {O B A : Type 0} (c : Program O B) (op : Ptr Operation) (w : TreeSurroundings by_handle A) : Type 0 where
   pub pinned : (v : Value) → (w.is_pinned v ≡ true) ↔ ((p : Ptr Operation) × (StandsInside c (OperationNode op) (OperationNode p) → ⊥) × Lists (operands_at c p) v)
 
 module _ {O B : Type 0} (c : Program O B) (g : Gone by_handle) where
@@ -55,11 +55,11 @@ pub record IsPlan {O B : Type 0} (c : Program O B) (g : Gone by_handle) (plan : 
 
 -- what is dead in each tree that the operation stands for, and the plan of it
 pub record IsDeadPlan {O B A : Type 0} (d : Dialect (in_program O B) A) (c : Program O B) (op : Ptr Operation) (plan : DeadPlan) (t : ProgramTree O B) : Type 0 where
-  pub around : Around by_handle A
+  pub around : TreeSurroundings by_handle A
   pub pins : SaysPins c op around
   pub gone : Gone by_handle
-  pub is_gone : StandsFor c op t → IsGone d around t gone
+  pub is_gone : StandsFor c op t → IsGoneExactly d around t gone
   -- so with any other context that pins these values
-  pub is_gone_with : (w : Around by_handle A) → SaysPins c op w → StandsFor c op t → IsGone d w t gone
+  pub is_gone_with : (w : TreeSurroundings by_handle A) → SaysPins c op w → StandsFor c op t → IsGoneExactly d w t gone
   pub plan_of : IsPlan c gone plan
   pub uses : UsesGo c gone

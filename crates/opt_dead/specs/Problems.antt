@@ -22,7 +22,7 @@ use Rattle.opt_solvers.specs.declared.dead_problem.DeadProblem.{DeadProblem}
 use Rattle.opt_inside.specs.Numbered.{Numbers}
 
 -- the number of x among these, where it has one
-pub record IsNumber {X : Type 0} (keys : List X) (x : X) (o : Option ℕ) : Type 0 where
+pub record IsNumberAmong {X : Type 0} (keys : List X) (x : X) (o : Option ℕ) : Type 0 where
   pub found : (i : ℕ) → o ≡ Some i → slice_get keys i ≡ Some x
   pub none : o ≡ None → Lists keys x → ⊥
 
@@ -33,25 +33,25 @@ IsDefiner n v (ByArgument k) = (b : Ptr BasicBlock) × (v.definer ≡ ByBlock b)
 IsDefiner n v Outside = ((p : Ptr Operation) → v.definer ≡ ByOp p → Lists n.operations p → ⊥) × ((b : Ptr BasicBlock) → v.definer ≡ ByBlock b → Lists n.values v → ⊥)
 
 -- the list has what defines these values, and nothing else
-pub record Keeps (n : Numbers) (Of : Value → Type 0) (kept : List Definer) : Type 0 where
+pub record ListsDefiners (n : Numbers) (Of : Value → Type 0) (kept : List Definer) : Type 0 where
   pub sound : (x : Definer) → Contains kept x → (v : Value) × Of v × IsDefiner n v x
   pub all : (v : Value) → Of v → (x : Definer) × Contains kept x × IsDefiner n v x
 
 module _ {O B : Type 0} (c : Program O B) where
   -- a region of the operation has the block
-  pub record Holds (q : Ptr Operation) (b : Ptr BasicBlock) : Type 0 where
+  pub record HoldsBlock (q : Ptr Operation) (b : Ptr BasicBlock) : Type 0 where
     pub region : Ptr Region
     pub in_region : StandsInRegion c b region
     pub in_operation : StandsInOperation c region q
 
   -- the number of the operation that has the block, where this one has a number
-  pub record IsAround (n : Numbers) (b : Ptr BasicBlock) (o : Option ℕ) : Type 0 where
-    pub found : (j : ℕ) → o ≡ Some j → (q : Ptr Operation) × Holds q b × (slice_get n.operations j ≡ Some q)
-    pub none : o ≡ None → (q : Ptr Operation) → Holds q b → Lists n.operations q → ⊥
+  pub record IsNumberOfHolder (n : Numbers) (b : Ptr BasicBlock) (o : Option ℕ) : Type 0 where
+    pub found : (j : ℕ) → o ≡ Some j → (q : Ptr Operation) × HoldsBlock q b × (slice_get n.operations j ≡ Some q)
+    pub none : o ≡ None → (q : Ptr Operation) → HoldsBlock q b → Lists n.operations q → ⊥
 
   -- the number of the operation that has the block in which the operation stands, where this one has a number
   abbrev pub IsAroundOperation : Numbers → Ptr Operation → Option ℕ → Type 0
-  IsAroundOperation n p o = (b : Ptr BasicBlock) → StandsInBlock c p b → IsAround n b o
+  IsAroundOperation n p o = (b : Ptr BasicBlock) → StandsInBlock c p b → IsNumberOfHolder n b o
 
   -- an operation that isn't inside the root takes the value
   abbrev pub IsPinned : Ptr Operation → Value → Type 0
@@ -64,7 +64,7 @@ module _ {O B : Type 0} (c : Program O B) (n : Numbers) where
 
   -- what defines these values is kept, and nothing else
   abbrev pub AreKept : Ptr Operation → List Definer → Type 0
-  AreKept op kept = Keeps n (IsKeptValue op) kept
+  AreKept op kept = ListsDefiners n (IsKeptValue op) kept
 
   -- x is the number of the block's argument at this place
   pub record HasNumberAt (b : Ptr BasicBlock) (place x : ℕ) : Type 0 where
@@ -91,8 +91,8 @@ module _ {O B A : Type 0} (d : Dialect (in_program O B) A) (c : Program O B) whe
   IsBranch p = (view : OperationView O) → operation_at c p ≡ Some view → d.is_branch view.payload ≡ true
 
   -- nothing but uses keeps the operation exactly where this is true: it has no side effects, and ends no block
-  abbrev pub MayGo : Ptr Operation → Bool → Type 0
-  MayGo p may_go = (view : OperationView O) → operation_at c p ≡ Some view → (may_go ≡ true) ↔ ((d.has_effects view.payload ≡ false) × (d.is_terminator view.payload ≡ false))
+  abbrev pub SaysMayGo : Ptr Operation → Bool → Type 0
+  SaysMayGo p may_go = (view : OperationView O) → operation_at c p ≡ Some view → (may_go ≡ true) ↔ ((d.has_effects view.payload ≡ false) × (d.is_terminator view.payload ≡ false))
 
   -- each edge to the block comes from a branch
   abbrev pub HasBranchesOnly : Ptr BasicBlock → Type 0
@@ -102,7 +102,7 @@ module _ {O B A : Type 0} (d : Dialect (in_program O B) A) (c : Program O B) whe
     -- what is said of each argument of the block
     pub record IsBlockRow (b : Ptr BasicBlock) (row : Argument) : Type 0 where
       pub may_go : (row.may_go ≡ true) ↔ (IsRemovable b × HasBranchesOnly b)
-      pub around : IsAround c n b row.around
+      pub around : IsNumberOfHolder c n b row.around
 
     -- what is said of the value: a result never goes as an argument does
     pub record IsValueRow (v : Value) (row : Argument) : Type 0 where
@@ -132,8 +132,8 @@ module _ {O B A : Type 0} (d : Dialect (in_program O B) A) (c : Program O B) whe
       pub takes : HasNumberAt c n target place x
 
     -- an operand with a target is forwarded to it
-    abbrev pub AreForwarded : Ptr Operation → List (Option ℕ) → Type 0
-    AreForwarded p targets = (k x : ℕ) → slice_get targets k ≡ Some (Some x) → Forwards p k x
+    abbrev pub AreForwardTargets : Ptr Operation → List (Option ℕ) → Type 0
+    AreForwardTargets p targets = (k x : ℕ) → slice_get targets k ≡ Some (Some x) → Forwards p k x
 
     -- an operand without a target is forwarded to no argument that has a number
     abbrev pub OthersStay : Ptr Operation → List (Option ℕ) → Type 0

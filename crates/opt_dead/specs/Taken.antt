@@ -16,8 +16,8 @@ use Rattle.opt_dead.specs.declared.plan.LostOperands.{LostOperands}
 use Rattle.opt_dead.specs.declared.plan.DeadArguments.{DeadArguments}
 
 -- there is a mark at this index
-abbrev pub IsMarked : List Bool → ℕ → Type 0
-IsMarked marks k = slice_get marks k ≡ Some true
+abbrev pub HasMarkAt : List Bool → ℕ → Type 0
+HasMarkAt marks k = slice_get marks k ≡ Some true
 
 -- the two lists have these at one index
 abbrev pub ArePaired : {X Y : Type 0} → List X → List Y → X → Y → Type 0
@@ -35,21 +35,21 @@ TakesIf {X} {R} name Is x wanted old new = (wanted × ((r : R) × (name r ≡ x)
 
 -- the operand at this index goes to a marked argument
 abbrev pub OperandGoes : List Operand → List Bool → ℕ → Type 0
-OperandGoes operands arguments i = (o : Operand) × (x : ℕ) × (slice_get operands i ≡ Some o) × (o.argument ≡ Some x) × IsMarked arguments x
+OperandGoes operands arguments i = (o : Operand) × (x : ℕ) × (slice_get operands i ≡ Some o) × (o.argument ≡ Some x) × HasMarkAt arguments x
 
 -- of each operand, whether it goes to a marked argument
 pub record AreLost (operands : List Operand) (arguments goes : List Bool) : Type 0 where
   pub len : length goes ≡ length operands
-  pub marks : (i : ℕ) → IsMarked goes i ↔ OperandGoes operands arguments i
+  pub marks : (i : ℕ) → HasMarkAt goes i ↔ OperandGoes operands arguments i
 
 -- the value's number is marked
 abbrev pub ArgumentGoes : Numbers → List Bool → Value → Type 0
-ArgumentGoes n arguments v = (x : ℕ) × (slice_get n.values x ≡ Some v) × IsMarked arguments x
+ArgumentGoes n arguments v = (x : ℕ) × (slice_get n.values x ≡ Some v) × HasMarkAt arguments x
 
 -- of each argument of the block, whether its number is marked
 pub record AreGoing {O B : Type 0} (c : Program O B) (n : Numbers) (arguments : List Bool) (b : Ptr BasicBlock) (goes : List Bool) : Type 0 where
   pub len : length goes ≡ argument_count c b
-  pub marks : (i : ℕ) (v : Value) → value_in (arguments_at c b) i ≡ Some v → IsMarked goes i ↔ ArgumentGoes n arguments v
+  pub marks : (i : ℕ) (v : Value) → value_in (arguments_at c b) i ≡ Some v → HasMarkAt goes i ↔ ArgumentGoes n arguments v
 
 -- an argument of the block goes
 abbrev pub HasGoing : {O B : Type 0} → Program O B → Numbers → List Bool → Ptr BasicBlock → Type 0

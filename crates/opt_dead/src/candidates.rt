@@ -4,7 +4,7 @@ ghost use Rattle.ir_program.specs.Program.{operation_at};
 ghost use Rattle.ir_program.specs.Rows.{operands_at};
 ghost use Rattle.opt_inside.specs.Numbered.{numbers_of};
 ghost use Rattle.opt_solvers.specs.DeadCandidates.{Candidate};
-ghost use Rattle.opt_dead.specs.Problems.{AreCandidates, AreOperandsOf, AreThere, IsBranch, IsCandidate, MayGo};
+ghost use Rattle.opt_dead.specs.Problems.{AreCandidates, AreOperandsOf, AreThere, IsBranch, IsCandidate, SaysMayGo};
 
 use crate::definers::{around_operation, definer_of};
 use crate::forwarding::targets_of;
@@ -67,7 +67,7 @@ fn operands_of<D: OptDialect>(
 /// Whether nothing but uses keeps an operation.
 fn may_go<D: OptDialect>(program: &Program<D::Operation, D::Block>, op: Ptr<Operation>) -> bool
     requires { IsSome (operation_at program.now op) }
-    ensures { MayGo D.meaning program.now op result }
+    ensures { SaysMayGo D.meaning program.now op result }
 {
     let payload = program.payload(op);
     !D::has_side_effects(payload) && !D::is_terminator(payload)

@@ -2,7 +2,7 @@
 ghost use Rattle.std.specs.Prelude.{IsSome};
 ghost use Rattle.ir_program.specs.Program.{block_at, operation_at};
 ghost use Rattle.opt_inside.specs.Numbered.{numbers_of};
-ghost use Rattle.opt_dead.specs.Problems.{IsAround, IsAroundOperation, IsDefiner};
+ghost use Rattle.opt_dead.specs.Problems.{IsNumberOfHolder, IsAroundOperation, IsDefiner};
 
 use crate::numbers::{operation_number, value_number};
 use ir_program::{BasicBlock, DefiningEntity, Operation, Program, Ptr, Value};
@@ -32,7 +32,7 @@ pub(crate) fn around_block<O, B>(
     block: Ptr<BasicBlock>,
 ) -> Option<usize>
     requires { IsSome (block_at program.now block) }
-    ensures { IsAround program.now (numbers_of inside.now) block result }
+    ensures { IsNumberOfHolder program.now (numbers_of inside.now) block result }
 {
     program.know_lists();
     let Some(region) = program.parent_region(block) else {

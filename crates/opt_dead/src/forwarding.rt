@@ -3,7 +3,7 @@ ghost use Rattle.std.specs.Prelude.{◌≡◌, IfOk, IsSome, OnOk, length};
 ghost use Rattle.ir_program.specs.Program.{block_at, operation_at};
 ghost use Rattle.ir_program.specs.Rows.{operands_at};
 ghost use Rattle.opt_inside.specs.Numbered.{numbers_of};
-ghost use Rattle.opt_dead.specs.Problems.{AreForwarded, Forwards, GoesAlong, GoesAt, IsBranch, Notes, OthersStay};
+ghost use Rattle.opt_dead.specs.Problems.{AreForwardTargets, Forwards, GoesAlong, GoesAt, IsBranch, Notes, OthersStay};
 
 use crate::numbers::value_number;
 use ir_program::{BasicBlock, Operation, Program, Ptr};
@@ -85,7 +85,7 @@ pub(crate) fn targets_of<D: OptDialect>(
     requires live { IsSome (operation_at program.now op) }
     requires branch { IsBranch D.meaning program.now op }
     ensures len { IfOk result (λ targets. length targets.items ≡ length (operands_at program.now op)) }
-    ensures found { IfOk result (λ targets. AreForwarded D.meaning program.now
+    ensures found { IfOk result (λ targets. AreForwardTargets D.meaning program.now
         (numbers_of inside.now) op targets.items) }
     ensures none { IfOk result (λ targets. OthersStay D.meaning program.now (numbers_of inside.now) op targets.items) }
 {

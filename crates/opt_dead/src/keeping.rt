@@ -4,7 +4,7 @@ ghost use Rattle.ir_program.specs.Program.{IsLiveValue, operation_at};
 ghost use Rattle.ir_program.specs.Rows.{operands_at};
 ghost use Rattle.ir_trees.specs.Searched.{Lists};
 ghost use Rattle.opt_inside.specs.Numbered.{NumbersInside, numbers_of};
-ghost use Rattle.opt_dead.specs.Problems.{AreKept, AreThere, IsPinned, Keeps, KeepsIf};
+ghost use Rattle.opt_dead.specs.Problems.{AreKept, AreThere, IsPinned, ListsDefiners, KeepsIf};
 
 use crate::definers::definer_of;
 use crate::numbers::operation_number;
@@ -60,7 +60,8 @@ fn root_operands<O, B>(
     op: Ptr<Operation>,
 ) -> Result<Vec<Definer>, AllocError>
     requires { IsSome (operation_at program.now op) }
-    ensures { IfOk result (λ kept. Keeps (numbers_of inside.now) (Lists (operands_at program.now op)) kept.items) }
+    ensures { IfOk result
+        (λ kept. ListsDefiners (numbers_of inside.now) (Lists (operands_at program.now op)) kept.items) }
 {
     let mut kept = Vec::new(alloc);
     for index in 0..program.operand_count(op) {

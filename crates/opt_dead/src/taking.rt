@@ -6,7 +6,7 @@ ghost use Rattle.ir_program.specs.declared.handles.Ptr.{Ptr};
 ghost use Rattle.ir_trees.specs.Searched.{AreDistinct};
 ghost use Rattle.opt_inside.specs.Numbered.{numbers_of};
 ghost use Rattle.opt_dead.specs.Problems.{AreThere};
-ghost use Rattle.opt_dead.specs.Taken.{AreDeadArguments, AreDeadOperations, AreGoing, AreLost, AreLostOperands, IsMarked, OperandGoes};
+ghost use Rattle.opt_dead.specs.Taken.{AreDeadArguments, AreDeadOperations, AreGoing, AreLost, AreLostOperands, HasMarkAt, OperandGoes};
 ghost use Rattle.opt_dead.specs.Taken.{TakesArguments, TakesLost, TakesMarked, TakesOperation};
 
 use crate::numbers::value_number;
@@ -18,7 +18,7 @@ use std::alloc::{AllocError, Global};
 
 /// Whether there is a mark at an index, if there is one.
 fn is_marked(marks: &[bool], index: Option<usize>) -> bool
-    ensures { IsTrue result ↔ ((x : ℕ) × (index ≡ Some x) × IsMarked marks.now x) }
+    ensures { IsTrue result ↔ ((x : ℕ) × (index ≡ Some x) × HasMarkAt marks.now x) }
 {
     match index {
         Some(index) => index < marks.len() && marks[index],
@@ -28,7 +28,7 @@ fn is_marked(marks: &[bool], index: Option<usize>) -> bool
 
 /// Whether there is a mark.
 fn has_mark(marks: &[bool]) -> bool
-    ensures { IsTrue result ↔ ((i : ℕ) × IsMarked marks.now i) }
+    ensures { IsTrue result ↔ ((i : ℕ) × HasMarkAt marks.now i) }
 {
     marks.contains(&true)
 }

@@ -18,9 +18,9 @@ use Rattle.ir_trees.specs.Stands.{in_program}
 use Rattle.ir_trees.proofs.HandleTests.{operation_yes, operation_no}
 use Rattle.opt_trees.specs.Dialect.{Dialect}
 use Rattle.opt_trees.specs.Simplify.{is_empty}
-use Rattle.opt_decide.specs.Phase.{IsUndecided, IsDone, HasDecided}
+use Rattle.opt_decide.specs.Phase.{IsUndecided, IsDecidedBranch, HasDecided}
 use Rattle.opt_decide.specs.Planned.{can_decide, edge_if, known_alone, picked_edge, decided_edge, AreDecisions}
-use Rattle.opt_decide.specs.Replaced.{in_place_of, along, DecidesBranch, LeadsAlike}
+use Rattle.opt_decide.specs.Replaced.{in_place_of, along, DecidesBranch, LeadsAlikeForGood}
 use Rattle.opt_decide.specs.declared.plan.Decision.{Decision}
 use Rattle.opt_decide.proofs.Filled.{take_next}
 use Rattle.opt_decide.proofs.Folded.{same_some}
@@ -131,13 +131,13 @@ module _ {O B A : Type 0} (d : Dialect (in_program O B) A) (old mid new : Progra
   here : renamed x.op ≡ q
   here = goes (has.names x.op) (has.same x.op none)
 
-  done_before : (y : Decision) → Lists ds y → IsDone d old new y (renamed y.op)
+  done_before : (y : Decision) → Lists ds y → IsDecidedBranch d old new y (renamed y.op)
   done_before y l =
       let m = has.done y l in
       let o = given_other y l in
       let ne : y.op ≢ x.op = none y l in
       let other : y.op ≢ q = λ e. step.puts.unspent (subst (λ z. IsGone mid (OperationNode z)) e m.gone) in
-      subst (λ z. IsDone d old new y z) (sym (kept y l)) (record {
+      subst (λ z. IsDecidedBranch d old new y z) (sym (kept y l)) (record {
         payload = m.payload;
         plain = m.plain;
         view = m.view;
@@ -147,8 +147,8 @@ module _ {O B A : Type 0} (d : Dialect (in_program O B) A) (old mid new : Progra
         gone = (step.puts.others y.op ne other ∙ m.gone.0, step.puts.erased.operations y.op.key m.gone.1);
       })
 
-  done_now : IsDone d old new x (renamed x.op)
-  done_now = subst (λ z. IsDone d old new x z) (sym here) (record {
+  done_now : IsDecidedBranch d old new x (renamed x.op)
+  done_now = subst (λ z. IsDecidedBranch d old new x z) (sym here) (record {
     payload = step.payload;
     plain = step.plain;
     view = step.view;
@@ -208,7 +208,7 @@ module _ {O B A : Type 0} (d : Dialect (in_program O B) A) (old mid new : Progra
   one_more_decided = record {
     names = renamed;
     same = λ p none_of. ap (in_place_of x.op q) (has.same p (undecided p none_of)) ∙ stays p (other p none_of);
-    done = λ y l. ⊎_elim (λ m. done_before y m) (λ (e : y ≡ x). subst (λ (z : Decision). IsDone d old new z (renamed z.op)) (sym e) done_now) (before_or_now y l);
+    done = λ y l. ⊎_elim (λ m. done_before y m) (λ (e : y ≡ x). subst (λ (z : Decision). IsDecidedBranch d old new z (renamed z.op)) (sym e) done_now) (before_or_now y l);
     apart = apart_all;
     others = λ p u there none_of.
         let now = has.others p u there (undecided p none_of) in
@@ -219,7 +219,7 @@ module _ {O B A : Type 0} (d : Dialect (in_program O B) A) (old mid new : Progra
   }
 
 -- where each handle leads to what it led to, what was carried out is so still
-pub carried_alike : {O B A : Type 0} (d : Dialect (in_program O B) A) (old mid new : Program O B) (ds : List Decision) → HasDecided d old mid ds → LeadsAlike mid new → HasDecided d old new ds
+pub carried_alike : {O B A : Type 0} (d : Dialect (in_program O B) A) (old mid new : Program O B) (ds : List Decision) → HasDecided d old mid ds → LeadsAlikeForGood mid new → HasDecided d old new ds
 carried_alike d old mid new ds has alike = record {
   names = has.names;
   same = has.same;

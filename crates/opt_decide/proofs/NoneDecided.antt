@@ -9,7 +9,7 @@ use Rattle.ir_trees.specs.Searched.{Lists}
 use Rattle.ir_trees.specs.Stands.{by_handle, in_program, ProgramHead, ProgramTree, head_of, StandsFor}
 use Rattle.ir_trees.specs.Trees.{Sort, Operations, Blocks, Regions, Tree, end, operation, block, region}
 use Rattle.ir_trees.proofs.Members.{has_front, has_back, has_either}
-use Rattle.opt_trees.specs.Dce.{Around}
+use Rattle.opt_trees.specs.Dce.{TreeSurroundings}
 use Rattle.opt_trees.specs.Dialect.{Dialect, Lawful}
 use Rattle.opt_trees.specs.Occurrences.{Has, Inside, Occurrence, inner, next_block, next_region, at_root, occurrences_in, occurrences_of}
 use Rattle.opt_trees.specs.Simplify.{is_bare, along_edge, decide, decide_head}
@@ -72,7 +72,7 @@ module _ {O B A : Type 0} (d : Dialect (in_program O B) A) (c : Program O B) (op
     by_edge (Some i) is = let l = subst (λ z. Lists z (record { op = p; edge = i })) e (are.all p i low is) in let n = l.1 in cc
 
   module _ (values : HasValues c) (found : (t : ProgramTree O B) → StandsFor c op t → (o : Found O B) → Has o (occurrences_of t) → IsOccurrence c op o) where
-    occurrence_left : ds ≡ [] → (w : Around by_handle A) → SaysAround d c op w → (o : Found O B) → IsOccurrence c op o → IsLeft d w.alone o
+    occurrence_left : ds ≡ [] → (w : TreeSurroundings by_handle A) → SaysAround d c op w → (o : Found O B) → IsOccurrence c op o → IsLeft d w.alone o
     occurrence_left e w says o is =
         let p = o.head.name in
         let h : ProgramHead O B = head_of {B = B} p is.view in

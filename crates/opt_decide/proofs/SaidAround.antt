@@ -12,7 +12,7 @@ use Rattle.ir_program.specs.declared.handles.Operation.{Operation}
 use Rattle.ir_program.specs.declared.handles.BasicBlock.{BasicBlock}
 use Rattle.ir_program.specs.declared.handles.Value.{Value}
 use Rattle.ir_trees.specs.Stands.{by_handle, in_program}
-use Rattle.opt_trees.specs.Dce.{Around}
+use Rattle.opt_trees.specs.Dce.{TreeSurroundings}
 use Rattle.opt_trees.specs.Dialect.{Dialect}
 use Rattle.opt_inside.specs.Around.{CanTellTaken, SaysAround, folded_alone}
 use Rattle.opt_decide.specs.Planned.{folded_if, known_by, known_alone}
@@ -60,7 +60,7 @@ module _ {O B A : Type 0} (d : Dialect (in_program O B) A) (c : Program O B) (va
       ap (λ e. known_by d c e v) (values.definer (ByBlock b) i v (ap (λ ts. value_in ts i) arguments ∙ at))
 
   module _ (op : Ptr Operation) where
-    abbrev pub around_root : CanTellTaken c op → Around by_handle A
+    abbrev pub around_root : CanTellTaken c op → TreeSurroundings by_handle A
     around_root told = record { alone = known_alone d c; is_pinned = told.0 }
 
     pub says_known : (told : CanTellTaken c op) → SaysAround d c op (around_root told)
@@ -71,7 +71,7 @@ module _ {O B A : Type 0} (d : Dialect (in_program O B) A) (c : Program O B) (va
     }
 
     -- whatever says so knows the same of what is there
-    module _ (w : Around by_handle A) (says : SaysAround d c op w) where
+    module _ (w : TreeSurroundings by_handle A) (says : SaysAround d c op w) where
       alike_by : (v : Value) (ty : TypeHandle) (i : ℕ) (e : DefiningEntity) → slice_get (values_at c e) i ≡ Some (record { value = v; ty = ty }) → w.alone v ≡ known_alone d c v
       alike_by v ty i (ByOp p) at =
           let o = something (operation_at c p) (there_with (operation_at c p) i (record { value = v; ty = ty }) at) in

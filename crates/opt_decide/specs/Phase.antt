@@ -13,7 +13,7 @@ use Rattle.ir_program.specs.declared.handles.Value.{Value}
 use Rattle.ir_trees.specs.Searched.{Lists}
 use Rattle.ir_trees.specs.Stands.{by_handle, in_program, ProgramTree, StandsFor}
 use Rattle.ir_trees.specs.Renames.{Maps, IsOneToOne, rename_root}
-use Rattle.opt_trees.specs.Dce.{Around}
+use Rattle.opt_trees.specs.Dce.{TreeSurroundings}
 use Rattle.opt_trees.specs.Dialect.{Dialect}
 use Rattle.opt_trees.specs.Simplify.{decide, decided}
 use Rattle.opt_dialect.specs.declared.status.IRStatus.{IRStatus}
@@ -29,7 +29,7 @@ abbrev pub IsUndecided : List Decision → Ptr Operation → Type 0
 IsUndecided ds p = (x : Decision) → Lists ds x → x.op ≢ p
 
 -- q, which led nowhere, is the unconditional branch of the decision now
-pub record IsDone {O B A : Type 0} (d : Dialect (in_program O B) A) (old new : Program O B) (x : Decision) (q : Ptr Operation) : Type 0 where
+pub record IsDecidedBranch {O B A : Type 0} (d : Dialect (in_program O B) A) (old new : Program O B) (x : Decision) (q : Ptr Operation) : Type 0 where
   pub payload : O
   pub plain : d.plain ≡ Some payload
   pub view : OperationView O
@@ -42,7 +42,7 @@ pub record IsDone {O B A : Type 0} (d : Dialect (in_program O B) A) (old new : P
 pub record HasDecided {O B A : Type 0} (d : Dialect (in_program O B) A) (old new : Program O B) (ds : List Decision) : Type 0 where
   pub names : Ptr Operation → Ptr Operation
   pub same : (p : Ptr Operation) → IsUndecided ds p → names p ≡ p
-  pub done : (x : Decision) → Lists ds x → IsDone d old new x (names x.op)
+  pub done : (x : Decision) → Lists ds x → IsDecidedBranch d old new x (names x.op)
   pub apart : (x y : Decision) → Lists ds x → Lists ds y → names x.op ≡ names y.op → x.op ≡ y.op
   pub others : (p : Ptr Operation) (v : OperationView O) → operation_at old p ≡ Some v → IsUndecided ds p → operation_at new p ≡ Some v
   pub came : (p : Ptr Operation) (v : OperationView O) → operation_at new p ≡ Some v
@@ -90,7 +90,7 @@ BringsNoneOutside {O} old new op = (p : Ptr Operation) (v : OperationView O)
 -- places, and all else keeps its handle
 pub record DecidesBranches {O B A : Type 0} (d : Dialect (in_program O B) A) (old new : Program O B)
     (op : Ptr Operation) (t : ProgramTree O B) : Type 0 where
-  pub around : Around by_handle A
+  pub around : TreeSurroundings by_handle A
   pub says : SaysAround d old op around
   pub names : Maps by_handle by_handle
   pub operations : (p : Ptr Operation) → IsSome (operation_at old p)
@@ -107,5 +107,5 @@ pub record DecidesBranches {O B A : Type 0} (d : Dialect (in_program O B) A) (ol
 
 -- no branch below the root is decided: deciding leaves its tree as it is
 abbrev pub HasNoneDecided : {O B A : Type 0} → Dialect (in_program O B) A → Program O B → Ptr Operation → Type 0
-HasNoneDecided {O} {B} {A} d c op = (w : Around by_handle A) (t : ProgramTree O B)
+HasNoneDecided {O} {B} {A} d c op = (w : TreeSurroundings by_handle A) (t : ProgramTree O B)
     → SaysAround d c op w → StandsFor c op t → decided d w t ≡ t

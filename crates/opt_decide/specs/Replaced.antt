@@ -21,7 +21,7 @@ in_place_of p q x = cond (same_operation x p) q x
 
 module _ {O B : Type 0} where
   -- each handle leads to what it led to, and those that lead nowhere for good do so still
-  pub record LeadsAlike (old new : Program O B) : Type 0 where
+  pub record LeadsAlikeForGood (old new : Program O B) : Type 0 where
     pub operations : (p : Ptr Operation) → operation_at new p ≡ operation_at old p
     pub blocks : (b : Ptr BasicBlock) → block_at new b ≡ block_at old b
     pub regions : (r : Ptr Region) → region_at new r ≡ region_at old r

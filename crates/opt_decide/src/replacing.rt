@@ -4,7 +4,7 @@ ghost use Rattle.ir_program.specs.Lists.{IsLinkedOperation, IsUnlinkedOperation,
 ghost use Rattle.ir_program.specs.Program.{operation_at, results_at};
 ghost use Rattle.ir_program.specs.Rows.{successors_at};
 ghost use Rattle.opt_dialect.specs.declared.status.OptError.TheVariants.{Memory};
-ghost use Rattle.opt_decide.specs.Replaced.{BuildsBranch, DecidesBranch, LeadsAlike, SwapsIn};
+ghost use Rattle.opt_decide.specs.Replaced.{BuildsBranch, DecidesBranch, LeadsAlikeForGood, SwapsIn};
 ghost use Rattle.opt_trees.specs.Occurrences.{cons_if};
 
 use crate::Decision;
@@ -43,7 +43,7 @@ fn new_branch<D: OptDialect, T: TypeTable>(
     requires there { IsSome (operation_at ctx.old.program decision.op) }
     requires plain { IsSome D.meaning.plain }
     ensures built { IfOk result (λ branch. BuildsBranch D.meaning ctx.old.program ctx.new.program decision branch) }
-    ensures same { OnErr result (LeadsAlike ctx.old.program ctx.new.program) }
+    ensures same { OnErr result (LeadsAlikeForGood ctx.old.program ctx.new.program) }
     ensures refused { IfErr result (λ e. e ≡ Memory) }
     ensures numbers { ctx.new.program.counter ≡ ctx.old.program.counter }
     ensures types { ctx.new.types ≡ ctx.old.types }
@@ -101,7 +101,7 @@ pub(crate) fn decide_branch<D: OptDialect, T: TypeTable>(
     requires regions { regions_in ctx.old.program decision.op ≡ [] }
     requires plain { IsSome D.meaning.plain }
     ensures decided { IfOk result (λ branch. DecidesBranch D.meaning ctx.old.program ctx.new.program decision branch) }
-    ensures same { OnErr result (LeadsAlike ctx.old.program ctx.new.program) }
+    ensures same { OnErr result (LeadsAlikeForGood ctx.old.program ctx.new.program) }
     ensures refused { IfErr result (λ e. e ≡ Memory) }
     ensures numbers { ctx.new.program.counter ≡ ctx.old.program.counter }
     ensures types { ctx.new.types ≡ ctx.old.types }

@@ -11,11 +11,11 @@ use Rattle.ir_program.specs.declared.handles.Operation.{Operation}
 use Rattle.ir_program.specs.declared.handles.BasicBlock.{BasicBlock}
 use Rattle.ir_program.specs.declared.handles.Value.{Value}
 use Rattle.ir_trees.specs.Stands.{in_program}
-use Rattle.opt_solvers.specs.OperationRows.{Edge, Row}
+use Rattle.opt_solvers.specs.OperationRows.{BranchEdge, Row}
 use Rattle.opt_trees.specs.Occurrences.{cons_if, picks}
 use Rattle.opt_trees.specs.Dialect.{Dialect}
 use Rattle.opt_inside.specs.Numbered.{Numbers}
-use Rattle.opt_facts.specs.Problem.{value_number, block_number, values_of, role_of, edges_if, branches_to, entries_in, IsEdge, IsEdgeCount, AreForwarded, AreEdges, IsRowOf}
+use Rattle.opt_facts.specs.Problem.{value_number, block_number, values_of, role_of, edges_if, branches_to, entries_in, IsEdge, IsEdgeCount, AreForwarded, AreEdges, IsRowOfOperation}
 
 is_less : (i n : ℕ) → i < n → nat_lt i n ≡ true
 is_less i n h = grind arith
@@ -68,7 +68,7 @@ module _ {O B A : Type 0} (d : Dialect (in_program O B) A) (c : Program O B) (n 
       let row = ap (λ (w : Option (OperationView O)). unwrap_or (option_map (λ (v : OperationView O). v.successors) w) []) there in
       ap (λ bs. slice_get bs i) (edge_of (d.is_branch o.payload) o.successors i count (is o there) h ∙ sym row) ∙ at
 
-  pub edge_is : (o : OperationView O) → operation_at c p ≡ Some o → (i : ℕ) (s : Ptr BasicBlock) (e : Edge) → e.target ≡ block_number n s
+  pub edge_is : (o : OperationView O) → operation_at c p ≡ Some o → (i : ℕ) (s : Ptr BasicBlock) (e : BranchEdge) → e.target ≡ block_number n s
       → AreForwarded d c p i e.forwards → IsEdge d n o i s e
   edge_is o there i s e target forwards =
       let row = ap (λ (w : Option (OperationView O)). unwrap_or (option_map (λ (v : OperationView O). v.operands) w) []) there in
@@ -80,7 +80,7 @@ module _ {O B A : Type 0} (d : Dialect (in_program O B) A) (c : Program O B) (n 
 
   pub row_is : IsSome (operation_at c p) → (r : Row) → ((b : Ptr BasicBlock) → StandsInBlock c p b → r.block ≡ block_number n b) → (w : O) → payload_at c p ≡ Some w → r.role ≡ role_of (d.is_foldable w) (d.is_branch w)
       → r.operands ≡ map (value_number n) (operands_at c p) → r.results ≡ map (value_number n) (values_of (results_at c p))
-      → AreEdges d c n p r.edges → r.entries ≡ map (block_number n) (entries_in c (regions_in c p)) → IsRowOf d c n p r
+      → AreEdges d c n p r.edges → r.entries ≡ map (block_number n) (entries_in c (regions_in c p)) → IsRowOfOperation d c n p r
   row_is live r block w payload role operands results edges entries =
       let v = shown (operation_at c p) live in
       let same : w ≡ v.0.payload = let e : Some w ≡ Some v.0.payload = sym payload ∙ ap (option_map (λ (o : OperationView O). o.payload)) v.1 in cc in

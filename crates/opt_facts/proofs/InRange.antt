@@ -22,7 +22,7 @@ use Rattle.opt_solvers.specs.Facts.{IsRow, IsProblem}
 use Rattle.opt_trees.specs.Occurrences.{Has, picks}
 use Rattle.opt_trees.specs.Dialect.{Dialect}
 use Rattle.opt_inside.specs.Numbered.{Numbers}
-use Rattle.opt_facts.specs.Problem.{value_number, block_number, values_of, edges_if, entries_in, IsRowOf, IsProblemOf}
+use Rattle.opt_facts.specs.Problem.{value_number, block_number, values_of, edges_if, entries_in, IsRowOfOperation, IsFactsProblemOf}
 use Rattle.opt_facts.specs.Folds.{operation_if, operation_numbered}
 use Rattle.opt_facts.proofs.Places.{placed}
 use Rattle.opt_facts.proofs.Members.{made_of, contains_lists, picked_within}
@@ -47,7 +47,7 @@ module _ {O B A : Type 0} (d : Dialect (in_program O B) A) (c : Program O B) (op
   blocks_in_range : (bs : List (Ptr BasicBlock)) (ns : List ℕ) → ((b : Ptr BasicBlock) → Has b bs → Lists n.blocks b) → ns ≡ map (block_number n) bs → (b : ℕ) → Contains ns b → b < length p.arguments.items
   blocks_in_range bs ns all e b h = let m = made_of (block_number n) bs ns b e h in subst (λ x. x < length p.arguments.items) m.2 (block_in_range m.0 (all m.0 m.1))
 
-  row_in_range : (i : ℕ) (q : Ptr Operation) (r : Row) → slice_get n.operations i ≡ Some q → IsRowOf d c n q r → IsRow p r
+  row_in_range : (i : ℕ) (q : Ptr Operation) (r : Row) → slice_get n.operations i ≡ Some q → IsRowOfOperation d c n q r → IsRow p r
   row_in_range i q r at is =
       let below = (s.numbered.operations q).0 (i, at) in
       let around = block_around c op q below in
@@ -94,7 +94,7 @@ module _ {O B A : Type 0} (d : Dialect (in_program O B) A) (c : Program O B) (op
       only (suc j) v e = cc
 
 -- the operation of each row can be asked
-pub can_be_asked : {O B A : Type 0} (d : Dialect (in_program O B) A) (c : Program O B) (op : Ptr Operation) (n : Numbers) (p : FactsProblem) (operations : List (Ptr Operation)) → operations ≡ n.operations → IsProblemOf d c op n p
+pub can_be_asked : {O B A : Type 0} (d : Dialect (in_program O B) A) (c : Program O B) (op : Ptr Operation) (n : Numbers) (p : FactsProblem) (operations : List (Ptr Operation)) → operations ≡ n.operations → IsFactsProblemOf d c op n p
     → (i : ℕ) (r : Row) → slice_get p.rows i ≡ Some r → IsSome (operation_numbered c operations i)
 can_be_asked d c op n p operations e problem i r at =
     let q = problem.rows.from i r at in

@@ -3,7 +3,7 @@ use Rattle.std.proofs.Common.{◌≡◌, ◌⊎◌, inl, inr, ⊎_elim, ℕ, zer
 use Rattle.std.specs.Prelude.{map}
 use Rattle.std.proofs.lemmas.List.{take_more, map-append}
 use Rattle.std.proofs.lemmas.Option.{slice_get_within, slice_get-get_or, get_or_from_slice_get, same_Some}
-use Rattle.opt_facts.specs.Problem.{Pairs}
+use Rattle.opt_facts.specs.Problem.{PairsByIndex}
 
 -- the first i and the next are the first i + 1
 pub take_next : {X : Type 0} (xs : List X) (i : ℕ) (x : X) → slice_get xs i ≡ Some x → take (i + 1) xs ≡ take i xs ++ x ∷ []
@@ -46,11 +46,11 @@ get_front (d ∷ done) rest zero x e = e
 get_front (d ∷ done) rest (suc k) x e = get_front done rest k x e
 
 module _ {X Y : Type 0} (P : ℕ → X → Y → Type 0) where
-  pub no_pairs : Pairs P [] []
+  pub no_pairs : PairsByIndex P [] []
   no_pairs = record { onto = λ i x h. absurd (cc); from = λ i y h. absurd (cc) }
 
   -- one more of each
-  pub one_pair_more : (xs : List X) (ys : List Y) (x : X) (y : Y) → length xs ≡ length ys → P (length xs) x y → Pairs P xs ys → Pairs P (xs ++ x ∷ []) (ys ++ y ∷ [])
+  pub one_pair_more : (xs : List X) (ys : List Y) (x : X) (y : Y) → length xs ≡ length ys → P (length xs) x y → PairsByIndex P xs ys → PairsByIndex P (xs ++ x ∷ []) (ys ++ y ∷ [])
   one_pair_more xs ys x y len p s = record {
     onto = λ i a h. ⊎_elim
         (λ e. let r = s.onto i a e in (r.0, get_front ys (y ∷ []) i r.0 r.1, r.2))
@@ -65,10 +65,10 @@ module _ {X Y : Type 0} (P : ℕ → X → Y → Type 0) where
   -- the first i of the list, with as many partners
   pub record Paired (xs : List X) (i : ℕ) (ys : List Y) : Type 0 where
     pub len : length ys ≡ i
-    pub pairs : Pairs P (take i xs) ys
+    pub pairs : PairsByIndex P (take i xs) ys
 
   pub paired_none : (xs : List X) (ys : List Y) → ys ≡ [] → Paired xs 0 ys
-  paired_none xs ys e = subst (Paired xs 0) (sym e) (record { len = refl; pairs = subst (λ zs. Pairs P zs []) (sym (nothing xs)) no_pairs })
+  paired_none xs ys e = subst (Paired xs 0) (sym e) (record { len = refl; pairs = subst (λ zs. PairsByIndex P zs []) (sym (nothing xs)) no_pairs })
     where
       nothing : (zs : List X) → take 0 zs ≡ []
       nothing [] = refl
@@ -79,7 +79,7 @@ module _ {X Y : Type 0} (P : ℕ → X → Y → Type 0) where
       let short : length (take i xs) ≡ i = taken xs i (slice_get_within xs i x h) in
       subst (λ zs. Paired xs (i + 1) zs) (sym e) (record {
         len = longer ys y ∙ ap (λ k. k + 1) s.len;
-        pairs = subst (λ zs. Pairs P zs (ys ++ y ∷ [])) (sym (take_next xs i x h)) (one_pair_more (take i xs) ys x y (short ∙ sym s.len) (subst (λ k. P k x y) (sym short) p) s.pairs);
+        pairs = subst (λ zs. PairsByIndex P zs (ys ++ y ∷ [])) (sym (take_next xs i x h)) (one_pair_more (take i xs) ys x y (short ∙ sym s.len) (subst (λ k. P k x y) (sym short) p) s.pairs);
       })
     where
       taken : (zs : List X) (k : ℕ) → k < length zs → length (take k zs) ≡ k
@@ -91,8 +91,8 @@ module _ {X Y : Type 0} (P : ℕ → X → Y → Type 0) where
       longer [] z = refl
       longer (w ∷ zs) z = let h = longer zs z in omega (arith, h)
 
-  pub paired_all : (xs : List X) (ys : List Y) (i : ℕ) → length xs ≤ i → Paired xs i ys → Pairs P xs ys
-  paired_all xs ys i h s = subst (λ zs. Pairs P zs ys) (take_all xs i h) s.pairs
+  pub paired_all : (xs : List X) (ys : List Y) (i : ℕ) → length xs ≤ i → Paired xs i ys → PairsByIndex P xs ys
+  paired_all xs ys i h s = subst (λ zs. PairsByIndex P zs ys) (take_all xs i h) s.pairs
 
 -- what stands at an index within a list that is this one
 pub at_index : {X : Type 0} (xs ys : List X) (i : ℕ) (x : X) → ys ≡ xs → i < length ys → slice_get xs i ≡ Some (get_or ys i x)

@@ -7,7 +7,7 @@ use Rattle.ir_program.specs.declared.handles.BasicBlock.{BasicBlock}
 use Rattle.ir_program.specs.declared.handles.Value.{Value}
 use Rattle.ir_trees.specs.Stands.{by_handle, in_program, ProgramTree, StandsFor}
 use Rattle.opt_trees.specs.Occurrences.{Has, Occurrence, BlockOccurrence, occurrences_of, block_occurrences_of, defined_in, OperationsApart}
-use Rattle.opt_inside.specs.Occurring.{IsBelowRoot, IsBlockBelow, IsBlockOccurrence, IsOccurrence, IsDefinedBelow, OfItsTree, EachFound, EachBlock, IsFound, IsBlockFound, BlocksApart, IsSiteOf, DefinesAllBelow}
+use Rattle.opt_inside.specs.Occurring.{IsBelowRoot, IsBlockBelow, IsBlockOccurrence, IsOccurrence, IsDefinedBelow, OfItsTree, EachFound, EachBlock, IsFound, IsBlockFound, BlockNamesApart, SiteIsFound, DefinesAllBelow}
 
 pub record Occurs {O B : Type 0} (c : Program O B) (op : Ptr Operation) (t : ProgramTree O B) : Type 0 where
   pub sound : (o : Occurrence by_handle (in_program O B)) → Has o (occurrences_of t) → IsOccurrence c op o
@@ -21,8 +21,8 @@ pub record Occurs {O B : Type 0} (c : Program O B) (op : Ptr Operation) (t : Pro
 
 -- the law of what is found tells it of each tree that the operation stands for
 pub occurs_by : {O B : Type 0} (c : Program O B) (op : Ptr Operation) → OfItsTree c op (λ t. EachFound t (IsOccurrence c op)) → OfItsTree c op (λ t. (p : Ptr Operation) → IsBelowRoot c op p → IsFound t p) → OfItsTree c op OperationsApart
-    → OfItsTree c op (λ t. EachBlock t (IsBlockOccurrence c op)) → OfItsTree c op (λ t. (b : Ptr BasicBlock) → IsBlockBelow c op b → IsBlockFound t b) → OfItsTree c op (λ t. BlocksApart t)
-    → OfItsTree c op (λ t. EachFound t (IsSiteOf c t)) → OfItsTree c op (λ t. DefinesAllBelow c op t.regions) → (t : ProgramTree O B) → StandsFor c op t → Occurs c op t
+    → OfItsTree c op (λ t. EachBlock t (IsBlockOccurrence c op)) → OfItsTree c op (λ t. (b : Ptr BasicBlock) → IsBlockBelow c op b → IsBlockFound t b) → OfItsTree c op (λ t. BlockNamesApart t)
+    → OfItsTree c op (λ t. EachFound t (SiteIsFound c t)) → OfItsTree c op (λ t. DefinesAllBelow c op t.regions) → (t : ProgramTree O B) → StandsFor c op t → Occurs c op t
 occurs_by c op sound found one blocks_sound blocks_found blocks_one site defined t stands = record {
   sound = sound t stands;
   found = found t stands;

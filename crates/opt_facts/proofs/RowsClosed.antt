@@ -13,17 +13,17 @@ use Rattle.ir_trees.specs.Trees.{Head, Regions}
 use Rattle.ir_trees.specs.Renames.{names_of}
 use Rattle.ir_trees.specs.Searched.{Lists}
 use Rattle.ir_trees.specs.Stands.{by_handle, in_program, ProgramTree, head_of, defined_by, AreTree}
-use Rattle.opt_solvers.specs.OperationRows.{Edge, Row}
+use Rattle.opt_solvers.specs.OperationRows.{BranchEdge, Row}
 use Rattle.opt_solvers.specs.declared.facts_problem.FactsProblem.{FactsProblem}
 use Rattle.opt_solvers.specs.Known.{asked, answer, AllBelow, AllAny}
-use Rattle.opt_solvers.specs.Facts.{NumberedFacts, Enters, ForwardedBelow, arguments_of, picked, ResultsClosed, EdgesClosed, RoleClosed, RowClosed, EdgeClosed as IsNumberEdgeClosed}
+use Rattle.opt_solvers.specs.Facts.{NumberedFacts, RunsWithAny, ForwardedBelow, arguments_of, picked, ResultsClosed, EdgesClosed, RoleClosed, RowClosed, RowEdgeClosed as IsNumberEdgeClosed}
 use Rattle.opt_trees.specs.Occurrences.{Has, Occurrence, occurrences_of, block_occurrences_of, picks}
 use Rattle.opt_trees.specs.Dialect.{Dialect}
 use Rattle.opt_trees.specs.Facts.{Facts, FoldClosed, forwarded, EdgeClosed, BranchClosed, OperationClosed}
 use Rattle.opt_inside.specs.Occurring.{IsOccurrence}
 use Rattle.opt_inside.specs.Numbered.{Numbers}
 use Rattle.opt_facts.specs.Folds.{answers_of, operation_if, fold_if, feasible_if}
-use Rattle.opt_facts.specs.Problem.{value_number, block_number, values_of, role_of, edges_if, entries_in, IsEdge, IsRowOf}
+use Rattle.opt_facts.specs.Problem.{value_number, block_number, values_of, role_of, edges_if, entries_in, IsEdge, IsRowOfOperation}
 use Rattle.opt_facts.proofs.Places.{one_place}
 use Rattle.opt_facts.proofs.Members.{made_of, made_in, picked_made}
 use Rattle.opt_facts.proofs.Occurs.{Occurs}
@@ -34,7 +34,7 @@ use Rattle.opt_facts.proofs.Setting.{IsSet, values_names, types_same, entries_be
 pub record Meets {O B A : Type 0} (d : Dialect (in_program O B) A) (c : Program O B) (n : Numbers) (t : ProgramTree O B) (o : Occurrence by_handle (in_program O B)) (i : ℕ) (r : Row) : Type 0 where
   pub stands : Has o (occurrences_of t)
   pub numbered : slice_get n.operations i ≡ Some o.head.name
-  pub row : IsRowOf d c n o.head.name r
+  pub row : IsRowOfOperation d c n o.head.name r
 
 module _ {O B A : Type 0} (d : Dialect (in_program O B) A) (c : Program O B) (op : Ptr Operation) (n : Numbers) (p : FactsProblem) (s : IsSet d c op n p) (t : ProgramTree O B) (occurs : Occurs c op t) (K : NumberedFacts A) (k : Facts by_handle A) (agree : Agree n K k)
     (o : Occurrence by_handle (in_program O B)) (i : ℕ) (r : Row) (m : Meets d c n t o i r) where
@@ -83,13 +83,13 @@ module _ {O B A : Type 0} (d : Dialect (in_program O B) A) (c : Program O B) (op
       listed d c op n p s b (s.leads o.head.name b (occurs.sound o m.stands).below (j, ap (λ bs. slice_get bs j) row ∙ at))
 
   -- what an edge forwards
-  picked_is : (b : Ptr BasicBlock) (j : ℕ) (e : Edge) → IsEdge {B = B} d n m.row.view j b e → picked r.operands e.forwards ≡ map Some (map (value_number n) (forwarded d (head_of {B = B} o.head.name m.row.view) j))
+  picked_is : (b : Ptr BasicBlock) (j : ℕ) (e : BranchEdge) → IsEdge {B = B} d n m.row.view j b e → picked r.operands e.forwards ≡ map Some (map (value_number n) (forwarded d (head_of {B = B} o.head.name m.row.view) j))
   picked_is b j e is = picked_made (value_number n) m.row.view.operands (picks m.row.view.operands (d.forwards m.row.view.payload (length m.row.view.operands) j)) r.operands e.forwards m.row.operands is.forwards
 
-  arguments_at_target : (b : Ptr BasicBlock) (j : ℕ) (e : Edge) → IsEdge {B = B} d n m.row.view j b e → Lists n.blocks b → arguments_of p e.target ≡ map (value_number n) (values_of (arguments_at c b))
+  arguments_at_target : (b : Ptr BasicBlock) (j : ℕ) (e : BranchEdge) → IsEdge {B = B} d n m.row.view j b e → Lists n.blocks b → arguments_of p e.target ≡ map (value_number n) (values_of (arguments_at c b))
   arguments_at_target b j e is l = ap (arguments_of p) is.target ∙ arguments_are d c op n p s b l
 
-  edge_to : (b : Ptr BasicBlock) (j : ℕ) (e : Edge) → slice_get m.row.view.successors j ≡ Some b → IsEdge {B = B} d n m.row.view j b e → IsNumberEdgeClosed p K r e → EdgeClosed d (block_occurrences_of t) k (head_of o.head.name m.row.view) j b
+  edge_to : (b : Ptr BasicBlock) (j : ℕ) (e : BranchEdge) → slice_get m.row.view.successors j ≡ Some b → IsEdge {B = B} d n m.row.view j b e → IsNumberEdgeClosed p K r e → EdgeClosed d (block_occurrences_of t) k (head_of o.head.name m.row.view) j b
   edge_to b j e at is h =
       let l = leads_listed b j at in
       record {
@@ -103,7 +103,7 @@ module _ {O B A : Type 0} (d : Dialect (in_program O B) A) (c : Program O B) (op
             subst (λ xs. AllBelow k.of xs (map k.of us)) named below;
       }
 
-  edge_from : (b : Ptr BasicBlock) (j : ℕ) (e : Edge) → slice_get m.row.view.successors j ≡ Some b → IsEdge {B = B} d n m.row.view j b e → EdgeClosed d (block_occurrences_of t) k (head_of o.head.name m.row.view) j b → IsNumberEdgeClosed p K r e
+  edge_from : (b : Ptr BasicBlock) (j : ℕ) (e : BranchEdge) → slice_get m.row.view.successors j ≡ Some b → IsEdge {B = B} d n m.row.view j b e → EdgeClosed d (block_occurrences_of t) k (head_of o.head.name m.row.view) j b → IsNumberEdgeClosed p K r e
   edge_from b j e at is h =
       let l = leads_listed b j at in
       let us = forwarded d (head_of {B = B} o.head.name m.row.view) j in
@@ -126,10 +126,10 @@ module _ {O B A : Type 0} (d : Dialect (in_program O B) A) (c : Program O B) (op
   successors b = edges_if b m.row.view.successors
 
   module _ (branch : d.is_branch m.row.view.payload ≡ true) where
-    edge_at : (j : ℕ) (b : Ptr BasicBlock) → slice_get m.row.view.successors j ≡ Some b → (e : Edge) × (slice_get r.edges j ≡ Some e) × IsEdge {B = B} d n m.row.view j b e
+    edge_at : (j : ℕ) (b : Ptr BasicBlock) → slice_get m.row.view.successors j ≡ Some b → (e : BranchEdge) × (slice_get r.edges j ≡ Some e) × IsEdge {B = B} d n m.row.view j b e
     edge_at j b at = m.row.edges.onto j b (ap (λ f. slice_get (edges_if f m.row.view.successors) j) branch ∙ at)
 
-    successor_at : (j : ℕ) (e : Edge) → slice_get r.edges j ≡ Some e → (b : Ptr BasicBlock) × (slice_get m.row.view.successors j ≡ Some b) × IsEdge {B = B} d n m.row.view j b e
+    successor_at : (j : ℕ) (e : BranchEdge) → slice_get r.edges j ≡ Some e → (b : Ptr BasicBlock) × (slice_get m.row.view.successors j ≡ Some b) × IsEdge {B = B} d n m.row.view j b e
     successor_at j e at = let b = m.row.edges.from j e at in (b.0, ap (λ f. slice_get (edges_if f m.row.view.successors) j) (sym branch) ∙ b.1, b.2)
 
     edges_to : (q : Option (List (Option A))) → EdgesClosed (answers_of d c n.operations) p K i r q → BranchClosed d (block_occurrences_of t) k (head_of o.head.name m.row.view) true q
@@ -193,5 +193,5 @@ module _ {O B A : Type 0} (d : Dialect (in_program O B) A) (c : Program O B) (op
             (subst (λ (g : Head by_handle (in_program O B)). BranchClosed d (block_occurrences_of t) k g (d.is_branch g.content) (asked (map k.of g.operands))) head_is h.goes));
         entries = λ e contains.
             let b = made_of (block_number n) (entries_in c m.row.view.regions) r.entries e m.row.entries contains in
-            subst (Enters p K) b.2 (enters_from d c op n p s K k agree b.0 (entry_listed b.0 b.1) (entries_from c k m.row.view.regions o.regions regions_are h.entries b.0 b.1));
+            subst (RunsWithAny p K) b.2 (enters_from d c op n p s K k agree b.0 (entry_listed b.0 b.1) (entries_from c k m.row.view.regions o.regions regions_are h.entries b.0 b.1));
       }

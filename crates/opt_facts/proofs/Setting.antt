@@ -19,7 +19,7 @@ use Rattle.ir_trees.specs.Searched.{Lists}
 use Rattle.ir_trees.specs.Stands.{by_handle, in_program, ProgramTree, defined_by, AreTree, no_blocks, no_regions, first_block, first_region}
 use Rattle.opt_solvers.specs.declared.facts_problem.FactsProblem.{FactsProblem}
 use Rattle.opt_solvers.specs.Known.{AllAny}
-use Rattle.opt_solvers.specs.Facts.{NumberedFacts, Enters, arguments_of}
+use Rattle.opt_solvers.specs.Facts.{NumberedFacts, RunsWithAny, arguments_of}
 use Rattle.opt_trees.specs.Occurrences.{Has, BlockOccurrence, block_occurrences_of, types_of}
 use Rattle.opt_trees.specs.Dialect.{Dialect, Lawful}
 use Rattle.opt_trees.specs.Facts.{Facts, EntriesRun}
@@ -27,7 +27,7 @@ use Rattle.opt_inside.specs.Occurring.{IsBlockBelow}
 use Rattle.opt_inside.specs.Numbered.{Numbers, NumbersInside}
 use Rattle.opt_facts.specs.ByNumber.{LeadsBelow}
 use Rattle.opt_facts.specs.Folds.{result_types}
-use Rattle.opt_facts.specs.Problem.{value_number, block_number, values_of, entries_in, IsProblemOf}
+use Rattle.opt_facts.specs.Problem.{value_number, block_number, values_of, entries_in, IsFactsProblemOf}
 use Rattle.opt_facts.proofs.Places.{placed}
 use Rattle.opt_facts.proofs.Members.{has_lists, has_front, has_behind, front_or_behind}
 use Rattle.opt_facts.proofs.Occurs.{Occurs}
@@ -44,11 +44,11 @@ pub record IsSet {O B A : Type 0} (d : Dialect (in_program O B) A) (c : Program 
   pub held : AreHeld c
   pub numbered : NumbersInside c op n
   pub leads : LeadsBelow c op
-  pub problem : IsProblemOf d c op n p
+  pub problem : IsFactsProblemOf d c op n p
 
 pub is_set : {O B A : Type 0} (d : Dialect (in_program O B) A) (c : Program O B) (op : Ptr Operation) (n : Numbers) (p : FactsProblem) → Lawful d
     → ((r : Ptr Region) (k : ℕ) (b : Ptr BasicBlock) → slice_get (blocks_in c r) k ≡ Some b → StandsInRegion c b r) → ((q : Ptr Operation) (k : ℕ) (r : Ptr Region) → slice_get (regions_in c q) k ≡ Some r → StandsInOperation c r q)
-    → NumbersInside c op n → LeadsBelow c op → IsProblemOf d c op n p → IsSet d c op n p
+    → NumbersInside c op n → LeadsBelow c op → IsFactsProblemOf d c op n p → IsSet d c op n p
 is_set d c op n p lawful blocks regions numbered leads problem = record { exclude = lawful.exclude; held = record { blocks = blocks; regions = regions }; numbered = numbered; leads = leads; problem = problem }
 
 names_values : (ts : List TypedValue) → names_of (map defined_by ts) ≡ values_of ts
@@ -118,10 +118,10 @@ module _ {O B : Type 0} (c : Program O B) where
         (front_or_behind (slice_get (blocks_in c r) 0) (entries_in c rs) b h)
 
 module _ {O B A : Type 0} (d : Dialect (in_program O B) A) (c : Program O B) (op : Ptr Operation) (n : Numbers) (p : FactsProblem) (s : IsSet d c op n p) (K : NumberedFacts A) (k : Facts by_handle A) (agree : Agree n K k) where
-  pub enters_to : (b : Ptr BasicBlock) → Lists n.blocks b → Enters p K (block_number n b) → Runs c k b
+  pub enters_to : (b : Ptr BasicBlock) → Lists n.blocks b → RunsWithAny p K (block_number n b) → Runs c k b
   enters_to b l h = (sym (agree.runs b l) ∙ h.runs, cast (any_of n K k agree (values_of (arguments_at c b))) (subst (AllAny K.of) (arguments_are d c op n p s b l) h.arguments))
 
-  pub enters_from : (b : Ptr BasicBlock) → Lists n.blocks b → Runs c k b → Enters p K (block_number n b)
+  pub enters_from : (b : Ptr BasicBlock) → Lists n.blocks b → Runs c k b → RunsWithAny p K (block_number n b)
   enters_from b l h = record { runs = agree.runs b l ∙ h.0; arguments = subst (AllAny K.of) (sym (arguments_are d c op n p s b l)) (uncast (any_of n K k agree (values_of (arguments_at c b))) h.1) }
 
 -- the arguments of a block of the tree

@@ -17,14 +17,14 @@ use Rattle.opt_solvers.specs.declared.facts_problem.FactsProblem.{FactsProblem}
 use Rattle.opt_solvers.specs.declared.known.Known.{Known}
 use Rattle.opt_solvers.specs.declared.known.Known.TheVariants.{Any, Undetermined}
 use Rattle.opt_solvers.specs.Known.{AtOrBelow}
-use Rattle.opt_solvers.specs.Facts.{NumberedFacts, Enters, IsClosed as IsNumberClosed, IsMostPrecise as IsMostPreciseByNumber, as_facts}
+use Rattle.opt_solvers.specs.Facts.{NumberedFacts, RunsWithAny, IsClosedSolution as IsNumberClosed, IsMostPreciseSolution as IsMostPreciseByNumber, as_facts}
 use Rattle.opt_trees.specs.Occurrences.{Has, Occurrence, occurrences_of, defined_in}
 use Rattle.opt_trees.specs.Dialect.{Dialect}
 use Rattle.opt_trees.specs.Facts.{Facts, IsClosed, IsMostPrecise}
 use Rattle.opt_inside.specs.Numbered.{Numbers}
 use Rattle.opt_facts.specs.ByNumber.{AreFactsBy, AreBestFacts}
 use Rattle.opt_facts.specs.Folds.{answers_of}
-use Rattle.opt_facts.specs.Problem.{value_number, block_number, entries_in, IsRowOf}
+use Rattle.opt_facts.specs.Problem.{value_number, block_number, entries_in, IsRowOfOperation}
 use Rattle.opt_facts.proofs.Places.{placed, unplaced, listed_or_not, own_place}
 use Rattle.opt_facts.proofs.Members.{made_of, made_in, contains_lists, lists_contains}
 use Rattle.opt_facts.proofs.Occurs.{Occurs}
@@ -43,7 +43,7 @@ module _ {O B A : Type 0} (d : Dialect (in_program O B) A) (c : Program O B) (op
       let x = occurs.site o h in
       subst (Lists n.blocks) (ap (λ (l : Label by_handle (in_program O B)). l.name) x.2) (listed d c op n p s x.0.label.name (occurs.blocks_sound x.0 x.1).below)
 
-  row_block : (o : Occurrence by_handle (in_program O B)) → Has o (occurrences_of t) → (r : Row) → IsRowOf d c n o.head.name r → r.block ≡ block_number n o.site.label.name
+  row_block : (o : Occurrence by_handle (in_program O B)) → Has o (occurrences_of t) → (r : Row) → IsRowOfOperation d c n o.head.name r → r.block ≡ block_number n o.site.label.name
   row_block o h r is = is.block o.site.label.name (occurs.sound o h).in_block
 
   -- an operation of the tree has a row
@@ -58,7 +58,7 @@ module _ {O B A : Type 0} (d : Dialect (in_program O B) A) (c : Program O B) (op
   operation_of i r at =
       let q = s.problem.rows.from i r at in
       let o = occurs.found q.0 ((s.numbered.operations q.0).0 (i, q.1)) in
-      (o.0, record { stands = o.1; numbered = q.1 ∙ ap Some (sym o.2); row = subst (λ x. IsRowOf d c n x r) (sym o.2) q.2 })
+      (o.0, record { stands = o.1; numbered = q.1 ∙ ap Some (sym o.2); row = subst (λ x. IsRowOfOperation d c n x r) (sym o.2) q.2 })
 
   root_entry_listed : (b : Ptr BasicBlock) → Has b (entries_in c (regions_in c op)) → Lists n.blocks b
   root_entry_listed b h = listed d c op n p s b (entries_below c op s.held op itself b h)
@@ -87,7 +87,7 @@ module _ {O B A : Type 0} (d : Dialect (in_program O B) A) (c : Program O B) (op
     closed_from any h = record {
       entries = λ e contains.
           let b = made_of (block_number n) (entries_in c (regions_in c op)) p.entries.items e s.problem.entries contains in
-          subst (Enters p K) b.2 (enters_from d c op n p s K k agree b.0 (root_entry_listed b.0 b.1)
+          subst (RunsWithAny p K) b.2 (enters_from d c op n p s K k agree b.0 (root_entry_listed b.0 b.1)
           (entries_from c k stands.view.regions t.regions stands.regions h.entries b.0 (subst (λ rs. Has b.0 (entries_in c rs)) root_regions b.1)));
       outside = λ v contains.
           let l = contains_lists p.outside.items v contains in

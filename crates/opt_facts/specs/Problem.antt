@@ -16,7 +16,7 @@ use Rattle.ir_program.specs.declared.handles.Value.{Value}
 use Rattle.ir_trees.specs.Stands.{in_program}
 use Rattle.opt_solvers.specs.declared.facts_problem.Role.{Role}
 use Rattle.opt_solvers.specs.declared.facts_problem.Role.TheVariants.{Folds, Branches, Other}
-use Rattle.opt_solvers.specs.OperationRows.{Edge, Row}
+use Rattle.opt_solvers.specs.OperationRows.{BranchEdge, Row}
 use Rattle.opt_solvers.specs.declared.facts_problem.FactsProblem.{FactsProblem}
 use Rattle.opt_trees.specs.Occurrences.{cons_if, picks}
 use Rattle.opt_trees.specs.Dialect.{Dialect}
@@ -46,7 +46,7 @@ edges_if true bs = bs
 edges_if false bs = []
 
 -- the lists are equally long, and what stands at one index in both belongs together
-pub record Pairs {X Y : Type 0} (P : ℕ → X → Y → Type 0) (xs : List X) (ys : List Y) : Type 0 where
+pub record PairsByIndex {X Y : Type 0} (P : ℕ → X → Y → Type 0) (xs : List X) (ys : List Y) : Type 0 where
   pub onto : (i : ℕ) (x : X) → slice_get xs i ≡ Some x → (y : Y) × (slice_get ys i ≡ Some y) × P i x y
   pub from : (i : ℕ) (y : Y) → slice_get ys i ≡ Some y → (x : X) × (slice_get xs i ≡ Some x) × P i x y
 
@@ -56,7 +56,7 @@ entries_in c [] = []
 entries_in c (r ∷ rs) = cons_if (slice_get (blocks_in c r) 0) (entries_in c rs)
 
 -- the edge of this index of an operation: its target, and the indices of the operands that it forwards
-pub record IsEdge {O B A : Type 0} (d : Dialect (in_program O B) A) (n : Numbers) (v : OperationView O) (index : ℕ) (successor : Ptr BasicBlock) (e : Edge) : Type 0 where
+pub record IsEdge {O B A : Type 0} (d : Dialect (in_program O B) A) (n : Numbers) (v : OperationView O) (index : ℕ) (successor : Ptr BasicBlock) (e : BranchEdge) : Type 0 where
   pub target : e.target ≡ block_number n successor
   pub forwards : map (slice_get v.operands) e.forwards ≡ map Some (picks v.operands (d.forwards v.payload (length v.operands) index))
 
@@ -73,32 +73,32 @@ abbrev pub IsEdgeCount : {O B A : Type 0} → Dialect (in_program O B) A → Pro
 IsEdgeCount {O} d c p count = (v : OperationView O) → operation_at c p ≡ Some v → count ≡ length (branches_to d v)
 
 -- the edges of an operation
-abbrev pub AreEdges : {O B A : Type 0} → Dialect (in_program O B) A → Program O B → Numbers → Ptr Operation → List Edge → Type 0
-AreEdges {O} {B} d c n p edges = (v : OperationView O) → operation_at c p ≡ Some v → Pairs (IsEdge {B = B} d n v) (branches_to d v) edges
+abbrev pub AreEdges : {O B A : Type 0} → Dialect (in_program O B) A → Program O B → Numbers → Ptr Operation → List BranchEdge → Type 0
+AreEdges {O} {B} d c n p edges = (v : OperationView O) → operation_at c p ≡ Some v → PairsByIndex (IsEdge {B = B} d n v) (branches_to d v) edges
 
 -- the row of an operation
-pub record IsRowOf {O B A : Type 0} (d : Dialect (in_program O B) A) (c : Program O B) (n : Numbers) (p : Ptr Operation) (r : Row) : Type 0 where
+pub record IsRowOfOperation {O B A : Type 0} (d : Dialect (in_program O B) A) (c : Program O B) (n : Numbers) (p : Ptr Operation) (r : Row) : Type 0 where
   pub view : OperationView O
   pub there : operation_at c p ≡ Some view
   pub block : (b : Ptr BasicBlock) → StandsInBlock c p b → r.block ≡ block_number n b
   pub role : r.role ≡ role_of (d.is_foldable view.payload) (d.is_branch view.payload)
   pub operands : r.operands ≡ map (value_number n) view.operands
   pub results : r.results ≡ map (value_number n) (values_of view.results)
-  pub edges : Pairs (IsEdge {B = B} d n view) (branches_to d view) r.edges
+  pub edges : PairsByIndex (IsEdge {B = B} d n view) (branches_to d view) r.edges
   pub entries : r.entries ≡ map (block_number n) (entries_in c view.regions)
 
 -- the rows of these operations
-abbrev pub AreRows : {O B A : Type 0} → Dialect (in_program O B) A → Program O B → Numbers → List (Ptr Operation) → List Row → Type 0
-AreRows d c n ps rows = Pairs (λ i p r. IsRowOf d c n p r) ps rows
+abbrev pub AreRowsOfOperations : {O B A : Type 0} → Dialect (in_program O B) A → Program O B → Numbers → List (Ptr Operation) → List Row → Type 0
+AreRowsOfOperations d c n ps rows = PairsByIndex (λ i p r. IsRowOfOperation d c n p r) ps rows
 
 -- the numbers of the arguments of a block
 abbrev pub AreArguments : {O B : Type 0} → Program O B → Numbers → ℕ → Ptr BasicBlock → Vec ℕ Global → Type 0
 AreArguments c n i b arguments = arguments.items ≡ map (value_number n) (values_of (arguments_at c b))
 
 -- the problem of what is inside an operation, with one number for all values from outside
-pub record IsProblemOf {O B A : Type 0} (d : Dialect (in_program O B) A) (c : Program O B) (op : Ptr Operation) (n : Numbers) (p : FactsProblem) : Type 0 where
-  pub rows : AreRows d c n n.operations p.rows
-  pub arguments : Pairs (AreArguments c n) n.blocks p.arguments.items
+pub record IsFactsProblemOf {O B A : Type 0} (d : Dialect (in_program O B) A) (c : Program O B) (op : Ptr Operation) (n : Numbers) (p : FactsProblem) : Type 0 where
+  pub rows : AreRowsOfOperations d c n n.operations p.rows
+  pub arguments : PairsByIndex (AreArguments c n) n.blocks p.arguments.items
   pub values : p.values ≡ length n.values + 1
   pub entries : p.entries.items ≡ map (block_number n) (entries_in c (regions_in c op))
   pub outside : p.outside.items ≡ length n.values ∷ []

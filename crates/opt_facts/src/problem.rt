@@ -4,7 +4,7 @@ ghost use Rattle.ir_program.specs.Program.{operation_at, block_at};
 ghost use Rattle.ir_program.specs.Lists.{IsLinkedOperation};
 ghost use Rattle.ir_trees.specs.Searched.{Lists};
 ghost use Rattle.opt_inside.specs.Numbered.{NumbersInside, numbers_of};
-ghost use Rattle.opt_facts.specs.Problem.{AreArguments, AreRows, IsProblemOf, Pairs};
+ghost use Rattle.opt_facts.specs.Problem.{AreArguments, AreRowsOfOperations, IsFactsProblemOf, PairsByIndex};
 
 use crate::numbers::{argument_numbers, entry_numbers};
 use crate::rows::row_of;
@@ -21,7 +21,7 @@ fn rows_of<D: OptDialect>(
     inside: &Inside,
 ) -> Result<OperationRows, AllocError>
     requires { (p : _) → Lists inside.now.operations.keys p → IsLinkedOperation program.now p }
-    ensures { IfOk result (λ rows. AreRows D.meaning program.now
+    ensures { IfOk result (λ rows. AreRowsOfOperations D.meaning program.now
         (numbers_of inside.now) inside.now.operations.keys rows) }
 {
     let mut rows = OperationRows::with_capacity(alloc, inside.operations.len())?;
@@ -40,7 +40,7 @@ fn arguments_of_blocks<O, B>(
     inside: &Inside,
 ) -> Result<Vec<Vec<usize>>, AllocError>
     requires { (b : _) → Lists inside.now.blocks.keys b → IsSome (block_at program.now b) }
-    ensures { IfOk result (λ arguments. Pairs
+    ensures { IfOk result (λ arguments. PairsByIndex
         (AreArguments program.now (numbers_of inside.now)) inside.now.blocks.keys arguments.items) }
 {
     let mut arguments = Vec::new(alloc);
@@ -60,7 +60,7 @@ pub(crate) fn problem_of<D: OptDialect>(
 ) -> Result<FactsProblem, AllocError>
     requires live { IsSome (operation_at program.now op) }
     requires numbered { NumbersInside program.now op (numbers_of inside.now) }
-    ensures { IfOk result (λ problem. IsProblemOf D.meaning program.now op (numbers_of inside.now) problem) }
+    ensures { IfOk result (λ problem. IsFactsProblemOf D.meaning program.now op (numbers_of inside.now) problem) }
 {
     let rows = rows_of::<D>(alloc, program, inside)?;
     let arguments = arguments_of_blocks(alloc, program, inside)?;

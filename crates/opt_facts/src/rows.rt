@@ -4,7 +4,7 @@ ghost use Rattle.ir_program.specs.Program.{operation_at};
 ghost use Rattle.ir_program.specs.Lists.{IsLinkedOperation};
 ghost use Rattle.opt_inside.specs.Numbered.{numbers_of};
 ghost use Rattle.opt_solvers.specs.OperationColumns.{buffered};
-ghost use Rattle.opt_facts.specs.Problem.{role_of, AreForwarded, IsEdgeCount, AreEdges, IsRowOf};
+ghost use Rattle.opt_facts.specs.Problem.{role_of, AreForwarded, IsEdgeCount, AreEdges, IsRowOfOperation};
 
 use crate::numbers::{entry_numbers, number_of_block, operand_numbers, result_numbers};
 use ir_program::{Operation, Program, Ptr};
@@ -88,7 +88,7 @@ pub(crate) fn row_of<D: OptDialect>(
 ) -> Result<(), AllocError>
     requires live { IsSome (operation_at program.now op) }
     requires linked { IsLinkedOperation program.now op }
-    ensures { OnOk result (IsRowOf D.meaning program.now (numbers_of inside.now) op (buffered row.new)) }
+    ensures { OnOk result (IsRowOfOperation D.meaning program.now (numbers_of inside.now) op (buffered row.new)) }
 {
     row.block = match program.parent_block(op) {
         Some(block) => number_of_block(inside, block),

@@ -17,7 +17,7 @@ use Rattle.ir_trees.specs.Stands.{ProgramTree, StandsFor, defined_by, head_of, l
 use Rattle.ir_trees.proofs.Members.{Once, at_has, has_at, has_front, has_back, has_either, once_at}
 use Rattle.ir_trees.proofs.Picked.{operations_among, blocks_among, operations_joined, blocks_joined, operation_picked, operation_from, block_picked, block_from, operations_once, blocks_once}
 use Rattle.opt_trees.specs.Occurrences.{Has}
-use Rattle.opt_inside.specs.Numbered.{AreInPreorder, Numbers, IsNumbered, NumbersInside, StandInOrder, values_in, with_node}
+use Rattle.opt_inside.specs.Numbered.{AreInPreorder, Numbers, DefinerHasNumber, NumbersInside, StandInOrder, values_in, with_node}
 use Rattle.opt_inside.specs.Occurring.{IsBelowRoot, IsBlockBelow, IsDefinedBelow}
 use Rattle.opt_inside.proofs.Added.{HasValues, definer_of, values_apart}
 use Rattle.opt_inside.proofs.Lookups.{AreNew}
@@ -163,9 +163,9 @@ module _ {O B : Type 0} (c : Program O B) where
           inr (b, w.0, inside_of (BlockNode b) has, w.1, subst (Has v) (sym (arguments_are b w.0 w.1)) h)
       defined_by_node (RegionNode r) v has h = absurd h
 
-      numbered_by_node : (e : IRNode) (v : Value) → Has e ns → Has v (values_of e) → IsNumbered (numbers_among ns) v.definer
-      numbered_by_node (OperationNode p) v has h = subst (IsNumbered (numbers_among ns)) (sym (definer_of c values (ByOp p) v h)) (has_at (operations_among ns) p (operation_picked ns p has))
-      numbered_by_node (BlockNode b) v has h = subst (IsNumbered (numbers_among ns)) (sym (definer_of c values (ByBlock b) v h)) (has_at (blocks_among ns) b (block_picked ns b has))
+      numbered_by_node : (e : IRNode) (v : Value) → Has e ns → Has v (values_of e) → DefinerHasNumber (numbers_among ns) v.definer
+      numbered_by_node (OperationNode p) v has h = subst (DefinerHasNumber (numbers_among ns)) (sym (definer_of c values (ByOp p) v h)) (has_at (operations_among ns) p (operation_picked ns p has))
+      numbered_by_node (BlockNode b) v has h = subst (DefinerHasNumber (numbers_among ns)) (sym (definer_of c values (ByBlock b) v h)) (has_at (blocks_among ns) b (block_picked ns b has))
       numbered_by_node (RegionNode r) v has h = absurd h
 
       values_are : (v : Value) → Lists (values_among ns) v ↔ IsDefinedBelow c op v

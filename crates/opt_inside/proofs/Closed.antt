@@ -11,7 +11,7 @@ use Rattle.ir_trees.specs.Trees.{Sort, Operations, Blocks, Regions, Tree, end, o
 use Rattle.ir_trees.specs.Stands.{by_handle, in_program, head_of, label_of, AreTree, no_operations, no_blocks, no_regions, first_operation, first_block, first_region}
 use Rattle.ir_trees.proofs.Members.{has_front, has_back, has_either}
 use Rattle.opt_inside.specs.Occurring.{AreBeside}
-use Rattle.opt_trees.specs.Occurrences.{Has, Spot, Site, Inside, Occurrence, BlockOccurrence, inner, next_block, next_region, occurrences_in, block_occurrences_in}
+use Rattle.opt_trees.specs.Occurrences.{Has, Spot, OperationSite, Inside, Occurrence, BlockOccurrence, inner, next_block, next_region, occurrences_in, block_occurrences_in}
 
 module _ {N : Names} {S : Contents} where
   beside : (a : Spot N S) → AreBeside a a
@@ -75,7 +75,7 @@ module _ {N : Names} {S : Contents} where
 
 module _ {O B : Type 0} (c : Program O B) where
   -- the operation of a list that a handle leads to
-  pub record IsOperationOf (p : Ptr Operation) (k : ℕ) (t : Tree by_handle (in_program O B) Operations) (i : Site by_handle (in_program O B)) : Type 0 where
+  pub record IsOperationOf (p : Ptr Operation) (k : ℕ) (t : Tree by_handle (in_program O B) Operations) (i : OperationSite by_handle (in_program O B)) : Type 0 where
     pub view : OperationView O
     pub there : operation_at c p ≡ Some view
     pub regions : Tree by_handle (in_program O B) Regions
@@ -83,7 +83,7 @@ module _ {O B : Type 0} (c : Program O B) where
     pub has : Has (record { site = i; head = head_of p view; regions = regions }) (occurrences_in t i)
     pub reach : reached t k [] ≡ Some (AnOperation (record { head = head_of p view; regions = regions }))
 
-  pub operation_of : (ps : List (Ptr Operation)) (t : Tree by_handle (in_program O B) Operations) (i : Site by_handle (in_program O B)) → AreTree c Operations ps t → (k : ℕ) (p : Ptr Operation) → slice_get ps k ≡ Some p → IsOperationOf p k t i
+  pub operation_of : (ps : List (Ptr Operation)) (t : Tree by_handle (in_program O B) Operations) (i : OperationSite by_handle (in_program O B)) → AreTree c Operations ps t → (k : ℕ) (p : Ptr Operation) → slice_get ps k ≡ Some p → IsOperationOf p k t i
   operation_of _ _ i no_operations k p at = cc
   operation_of _ _ i (first_operation q qs v rs left there below behind) zero p at =
       let same : q ≡ p = cc in

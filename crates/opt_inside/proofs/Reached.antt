@@ -16,7 +16,7 @@ use Rattle.ir_trees.specs.Trees.{Head, Label, Sort, Operations, Blocks, Regions,
 use Rattle.ir_trees.specs.Stands.{by_handle, in_program, ProgramTree, head_of, AreTree, StandsFor}
 use Rattle.ir_trees.proofs.Members.{Once, once_of, has_map}
 use Rattle.opt_trees.specs.Occurrences.{Has, Spot, Inside, Occurrence, BlockOccurrence, inner, next_block, next_region, at_root, occurrences_in, block_occurrences_in, occurrences_of, block_occurrences_of}
-use Rattle.opt_inside.specs.Occurring.{Found, FoundBlock, AreBeside, IsFoundIn, IsSiteOf, IsBelowRoot, IsBlockBelow}
+use Rattle.opt_inside.specs.Occurring.{Found, FoundBlock, AreBeside, IsFoundIn, SiteIsFound, IsBelowRoot, IsBlockBelow}
 use Rattle.opt_inside.proofs.Closed.{blocks_below, operations_of_block, operation_of, block_of, region_of}
 use Rattle.opt_inside.proofs.Around.{HasLists, around_operation, around_block}
 use Rattle.opt_inside.proofs.Spots.{operations_are, blocks_are, regions_are}
@@ -153,7 +153,7 @@ module _ {O B : Type 0} (c : Program O B) (op : Ptr Operation) (lists : HasLists
   pub blocks_found : (b : Ptr BasicBlock) → IsBlockBelow c op b → (x : FoundBlock O B) × Has x (block_occurrences_of t) × (x.label.name ≡ b)
   blocks_found b below = meets (BlockNode b) below
 
-  sited : (o : Found O B) (x : FoundBlock O B) (k : ℕ) (p : Ptr Operation) → Has x (block_occurrences_of t) → (q : IsFoundIn t x k p) → q.operation ≡ o → slice_get (operations_in c o.site.label.name) k ≡ Some o.head.name → IsSiteOf c t o
+  sited : (o : Found O B) (x : FoundBlock O B) (k : ℕ) (p : Ptr Operation) → Has x (block_occurrences_of t) → (q : IsFoundIn t x k p) → q.operation ≡ o → slice_get (operations_in c o.site.label.name) k ≡ Some o.head.name → SiteIsFound c t o
   sited o x k p has q same here =
       let site : o.site ≡ record { spot = x.spot; label = x.label } = ap (λ (z : Found O B). z.site) (sym same) ∙ q.site in
       record {
@@ -167,7 +167,7 @@ module _ {O B : Type 0} (c : Program O B) (op : Ptr Operation) (lists : HasLists
       }
 
   module _ (distinct : AreDistinct (operation_names t)) (blocks_distinct : AreDistinct (block_names t)) where
-    pub site : (o : Found O B) → Has o (occurrences_of t) → IsSiteOf c t o
+    pub site : (o : Found O B) → Has o (occurrences_of t) → SiteIsFound c t o
     site o has =
         let i = sound c op lists t stands o has in
         let b = o.site.label.name in

@@ -9,7 +9,7 @@ use Rattle.ir_program.specs.declared.handles.Region.{Region}
 use Rattle.ir_program.specs.declared.handles.BasicBlock.{BasicBlock}
 use Rattle.ir_trees.specs.Trees.{Sort, Operations, Blocks, Regions}
 use Rattle.ir_trees.specs.Stands.{by_handle, in_program, Handles, ProgramTree, head_of, label_of, StandsFor}
-use Rattle.opt_trees.specs.Occurrences.{Has, Spot, Site, Inside, inner, next_block, next_region, at_root}
+use Rattle.opt_trees.specs.Occurrences.{Has, Spot, OperationSite, Inside, inner, next_block, next_region, at_root}
 use Rattle.opt_inside.specs.Occurring.{IsBelowRoot, IsBlockBelow, IsSpotOf}
 use Rattle.opt_inside.proofs.Around.{HasLists, around_operation, around_block, not_root, is_root, down_to, operation_up, block_up, not_within}
 
@@ -20,7 +20,7 @@ abbrev pub SpotIn : Type 0 → Type 0 → Type 0
 SpotIn O B = Spot by_handle (in_program O B)
 
 abbrev pub SiteIn : Type 0 → Type 0 → Type 0
-SiteIn O B = Site by_handle (in_program O B)
+SiteIn O B = OperationSite by_handle (in_program O B)
 
 module _ {O B : Type 0} where
   module _ (c : Program O B) where

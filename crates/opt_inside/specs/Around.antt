@@ -11,7 +11,7 @@ use Rattle.ir_program.specs.declared.handles.Value.{Value}
 use Rattle.ir_trees.specs.Searched.{Lists}
 use Rattle.ir_trees.specs.Stands.{by_handle, in_program}
 use Rattle.opt_trees.specs.Dialect.{Dialect}
-use Rattle.opt_trees.specs.Dce.{Around}
+use Rattle.opt_trees.specs.Dce.{TreeSurroundings}
 use Rattle.opt_inside.specs.Numbered.{values_in}
 
 -- what a result of an operation folds to with no operand known
@@ -31,7 +31,7 @@ abbrev pub CanTellTaken : {O B : Type 0} → Program O B → Ptr Operation → T
 CanTellTaken c op = (f : Value → Bool) × ((v : Value) → (f v ≡ true) ↔ IsTakenOutside c op v)
 
 -- which values are taken outside the root, and what values are known to be by their definers alone
-pub record SaysAround {O B A : Type 0} (d : Dialect (in_program O B) A) (c : Program O B) (op : Ptr Operation) (w : Around by_handle A) : Type 0 where
+pub record SaysAround {O B A : Type 0} (d : Dialect (in_program O B) A) (c : Program O B) (op : Ptr Operation) (w : TreeSurroundings by_handle A) : Type 0 where
   pub pinned : (v : Value) → (w.is_pinned v ≡ true) ↔ IsTakenOutside c op v
   pub result : (p : Ptr Operation) (o : OperationView O) (i : ℕ) (v : Value) → operation_at c p ≡ Some o → slice_get (values_in o.results) i ≡ Some v → w.alone v ≡ folded_alone d o i
   pub argument : (b : Ptr BasicBlock) (x : BlockView B) (v : Value) → block_at c b ≡ Some x → Lists (values_in x.arguments) v → w.alone v ≡ None

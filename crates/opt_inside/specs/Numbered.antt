@@ -37,9 +37,9 @@ abbrev pub StandInOrder : List Value → List Value → Type 0
 StandInOrder all vs = (j : ℕ) × ((i : ℕ) (v : Value) → slice_get vs i ≡ Some v → slice_get all (j + i) ≡ Some v)
 
 -- the operation or the block has a number
-abbrev pub IsNumbered : Numbers → DefiningEntity → Type 0
-IsNumbered n (ByOp p) = Lists n.operations p
-IsNumbered n (ByBlock b) = Lists n.blocks b
+abbrev pub DefinerHasNumber : Numbers → DefiningEntity → Type 0
+DefinerHasNumber n (ByOp p) = Lists n.operations p
+DefinerHasNumber n (ByBlock b) = Lists n.blocks b
 
 -- the order is that in which operations and blocks are found in the tree, and values are defined there
 pub record AreInPreorder {O B : Type 0} (t : ProgramTree O B) (n : Numbers) : Type 0 where
@@ -59,7 +59,7 @@ pub record NumbersInside {O B : Type 0} (c : Program O B) (op : Ptr Operation) (
   pub in_preorder : (t : ProgramTree O B) → StandsFor c op t → AreInPreorder t n
   pub results_in_order : (p : Ptr Operation) → IsBelowRoot c op p → StandInOrder n.values (values_in (results_at c p))
   pub arguments_in_order : (b : Ptr BasicBlock) → IsBlockBelow c op b → StandInOrder n.values (values_in (arguments_at c b))
-  pub definers : (v : Value) → Lists n.values v → IsNumbered n v.definer
+  pub definers : (v : Value) → Lists n.values v → DefinerHasNumber n v.definer
 
 -- what numbering one entity more makes of the numbers
 module _ {O B : Type 0} (c : Program O B) where

@@ -39,8 +39,8 @@ module _ {N : Names} {S : Contents} (t : Root N S) where
   IsBlockFound b = (x : BlockOccurrence N S) × Has x (block_occurrences_of t) × (x.label.name ≡ b)
 
   -- names of blocks are distinct
-  abbrev pub BlocksApart : Type 0
-  BlocksApart = (x y : BlockOccurrence N S) → Has x (block_occurrences_of t) → Has y (block_occurrences_of t) → x.label.name ≡ y.label.name → x ≡ y
+  abbrev pub BlockNamesApart : Type 0
+  BlockNamesApart = (x y : BlockOccurrence N S) → Has x (block_occurrences_of t) → Has y (block_occurrences_of t) → x.label.name ≡ y.label.name → x ≡ y
 
 -- the same region, with the same around it
 pub record AreBeside {N : Names} {S : Contents} (a b : Spot N S) : Type 0 where
@@ -106,7 +106,7 @@ module _ {O B : Type 0} (c : Program O B) (op : Ptr Operation) where
 
 -- the block that an operation is found in is found itself, where the site says, and has the operation at one index in the
 -- program and in the tree
-pub record IsSiteOf {O B : Type 0} (c : Program O B) (t : ProgramTree O B) (o : Found O B) : Type 0 where
+pub record SiteIsFound {O B : Type 0} (c : Program O B) (t : ProgramTree O B) (o : Found O B) : Type 0 where
   pub block : FoundBlock O B
   pub found : Has block (block_occurrences_of t)
   pub label : block.label ≡ o.site.label

@@ -6,7 +6,7 @@ ghost use Rattle.ir_program.specs.declared.handles.Operation.{Operation};
 ghost use Rattle.ir_program.specs.declared.handles.Ptr.{Ptr};
 ghost use Rattle.opt_trees.specs.Occurrences.{OperationsApart};
 ghost use Rattle.opt_inside.specs.Around.{CanTellTaken};
-ghost use Rattle.opt_inside.specs.Occurring.{BlocksApart, DefinesAllBelow, EachBlock, EachFound, IsBelowRoot, IsBlockBelow, IsBlockFound, IsBlockOccurrence, IsFound, IsNestedIn, IsOccurrence, IsSiteOf, OfItsTree, OperationsFound, RegionsTogether};
+ghost use Rattle.opt_inside.specs.Occurring.{BlockNamesApart, DefinesAllBelow, EachBlock, EachFound, IsBelowRoot, IsBlockBelow, IsBlockFound, IsBlockOccurrence, IsFound, IsNestedIn, IsOccurrence, SiteIsFound, OfItsTree, OperationsFound, RegionsTogether};
 
 use ir_program::{IRNode, Operation, Program, Ptr};
 use ir_trees::know_handles;
@@ -21,8 +21,8 @@ pub fn know_occurrences<O, B>(program: &Program<O, B>, op: Ptr<Operation>)
     ensures blocks_sound { OfItsTree program.now op (λ t. EachBlock t (IsBlockOccurrence program.now op)) }
     ensures blocks_found { OfItsTree program.now op (λ t. (b : Ptr BasicBlock) → IsBlockBelow program.now op b
         → IsBlockFound t b) }
-    ensures blocks_one { OfItsTree program.now op (λ t. BlocksApart t) }
-    ensures site { OfItsTree program.now op (λ t. EachFound t (IsSiteOf program.now t)) }
+    ensures blocks_one { OfItsTree program.now op (λ t. BlockNamesApart t) }
+    ensures site { OfItsTree program.now op (λ t. EachFound t (SiteIsFound program.now t)) }
     ensures operations { OfItsTree program.now op (λ t. EachBlock t (OperationsFound program.now t)) }
     ensures beside { OfItsTree program.now op (RegionsTogether program.now) }
     ensures nested { OfItsTree program.now op (λ t. EachBlock t (λ x. IsNestedIn t x.spot)) }

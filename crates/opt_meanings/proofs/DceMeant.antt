@@ -7,8 +7,8 @@ use Rattle.ir_trees.specs.Renames.{names_of}
 use Rattle.ir_trees.specs.Trees.{Defined, Head, Label, Sort, Tree, end, operation, block, region, Root}
 use Rattle.opt_trees.specs.Occurrences.{Has, Occurrence, defined_in}
 use Rattle.opt_trees.specs.Dialect.{Dialect, drop}
-use Rattle.opt_trees.specs.Dce.{Around, Item, Whole, Slot, May, Touches, IsKept, IsUse, ForwardsTo, IsDead, dies, IsExcused}
-use Rattle.opt_trees.specs.Dce.{by_operation, by_argument, IsLost, Gone, gone_at, thin_head, thin_label, thin, IsGone, IsDce}
+use Rattle.opt_trees.specs.Dce.{TreeSurroundings, Item, Whole, Slot, May, Touches, IsKept, IsUseOfItem, ForwardsTo, IsDead, dies, IsExcused}
+use Rattle.opt_trees.specs.Dce.{by_operation, by_argument, IsLost, Gone, gone_at, thin_head, thin_label, thin, IsGoneExactly, IsDce}
 use Rattle.opt_trees.proofs.Lists.{at-map}
 use Rattle.opt_meanings.specs.Meanings.{Meanings, IsMeant, mean_defined, mean_head, mean_label, mean, mean_root}
 use Rattle.opt_meanings.proofs.Said.{names-mean, defined_meant, mean_occurrence, mean_block_occurrence}
@@ -35,7 +35,7 @@ module _ {S R : Contents} {A : Type 0} (m : Meanings S R) (d : Dialect S A) (e :
     can_remove = λ c region first. meant.can_remove c region first i;
   }
 
-module _ {N : Names} {S R : Contents} {A : Type 0} (m : Meanings S R) (d : Dialect S A) (e : Dialect R A) (w : Around N A) (t : Root N S) where
+module _ {N : Names} {S R : Contents} {A : Type 0} (m : Meanings S R) (d : Dialect S A) (e : Dialect R A) (w : TreeSurroundings N A) (t : Root N S) where
   abbrev s : Dialect S A
   s = seen m d e
 
@@ -125,7 +125,7 @@ module _ {N : Names} {S R : Contents} {A : Type 0} (m : Meanings S R) (d : Diale
   kept_from x k = (k.0, touches_from x k.0 k.1, k.2)
 
   -- a use of an item by an operation is one by its meaning
-  is_use_to : (x : Item N) (v : N.value) (o : Occurrence N S) → IsUse t x v o → IsUse mt x v (mean_occurrence m o)
+  is_use_to : (x : Item N) (v : N.value) (o : Occurrence N S) → IsUseOfItem t x v o → IsUseOfItem mt x v (mean_occurrence m o)
   is_use_to (Whole a) v o p = record {
     it = mean_occurrence m p.it;
     stands = operation_there m t p.it p.stands;
@@ -134,7 +134,7 @@ module _ {N : Names} {S R : Contents} {A : Type 0} (m : Meanings S R) (d : Diale
   }
   is_use_to (Slot x) v o p = p
 
-  is_use_from : (x : Item N) (v : N.value) (o : Occurrence N S) → IsUse mt x v (mean_occurrence m o) → IsUse t x v o
+  is_use_from : (x : Item N) (v : N.value) (o : Occurrence N S) → IsUseOfItem mt x v (mean_occurrence m o) → IsUseOfItem t x v o
   is_use_from (Whole a) v o p =
       let q = operation_from m t p.it p.stands in
       record {
@@ -179,7 +179,7 @@ module _ {N : Names} {S R : Contents} {A : Type 0} (m : Meanings S R) (d : Diale
     dead_to : (x : Item N) → IsDead s w t x → IsDead e w mt x
     dead_to _ (dies x may kept uses) = dies x (may_to x may) (λ k. kept (kept_from x k)) (λ v p i c u.
         let q = operation_from m t p u.stands in
-        let c' = is_use_from x v q.it (subst (IsUse mt x v) (sym q.is) c) in
+        let c' = is_use_from x v q.it (subst (IsUseOfItem mt x v) (sym q.is) c) in
         let named = ap (λ z. slice_get z.head.operands i) q.is ∙ u.operand in
         subst (λ z. IsExcused e w mt z i) q.is (excused_to q.it i (uses v q.it i c' (record { stands = q.stands; operand = named }))))
 
@@ -222,7 +222,7 @@ module _ {N : Names} {S R : Contents} {A : Type 0} (m : Meanings S R) (d : Diale
       }
 
   -- the same goes from the meaning
-  pub gone_meant : (g : Gone N) → IsGone s w t g → IsGone e w mt g
+  pub gone_meant : (g : Gone N) → IsGoneExactly s w t g → IsGoneExactly e w mt g
   gone_meant g is = record {
     dead = λ x h. dead_to x (is.dead x h);
     all = λ x h. is.all x (dead_from x h);
@@ -284,9 +284,9 @@ module _ {N : Names} {S R : Contents} {A : Type 0} (m : Meanings S R) (d : Diale
 
 -- what dce makes of what a tree means is the meaning of what it makes of the tree
 pub dce_meant : {N : Names} {S R : Contents} {A : Type 0} (m : Meanings S R) (d : Dialect S A) (e : Dialect R A) →
-    IsMeant m d e → (w : Around N A) (t after : Root N S) → IsDce d w t after → IsDce e w (mean_root m t) (mean_root m after)
+    IsMeant m d e → (w : TreeSurroundings N A) (t after : Root N S) → IsDce d w t after → IsDce e w (mean_root m t) (mean_root m after)
 dce_meant m d e meant w t after p = record {
   gone = p.gone;
-  is_gone = gone_meant m d e w t p.gone (subst (λ z. IsGone z w t p.gone) (sym (seen_same m d e meant)) p.is_gone);
+  is_gone = gone_meant m d e w t p.gone (subst (λ z. IsGoneExactly z w t p.gone) (sym (seen_same m d e meant)) p.is_gone);
   is = ap (mean_root m) p.is ∙ λ i. record { head = mean_head m t.head; regions = sym (thinned m d e meant p.gone t.regions) i };
 }

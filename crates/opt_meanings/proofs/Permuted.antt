@@ -5,7 +5,7 @@ use Rattle.std.proofs.lemmas.Option.{slice_get-map}
 use Rattle.std.proofs.lemmas.Simd.{map-map}
 use Rattle.ir_trees.specs.Names.{Names, Contents}
 use Rattle.ir_trees.specs.Renames.{Maps, rename_defined, rename_head, rename_label, rename, rename_root, own_names}
-use Rattle.ir_trees.specs.Renames.{names_of, values_at, values_in, blocks_in, values_of, blocks_of, AreAlike, IsSame, HaveTests}
+use Rattle.ir_trees.specs.Renames.{names_of, values_at, values_in, blocks_in, values_of, blocks_of, RepeatAlike, IsSameUpToNames, HaveTests}
 use Rattle.ir_trees.specs.Searched.{heads_in, operation_names}
 use Rattle.ir_trees.specs.Trees.{Defined, Head, Label, Sort, Tree, end, operation, block, region, Root}
 use Rattle.ir_trees.proofs.Alike.{nothing, AsLong}
@@ -104,7 +104,7 @@ module _ {X : Type 0} (test : (x y : X) → (x ≡ y) ⊎ (x ≢ y)) where
   }
 
   -- it does it for the longer lists
-  further_is : (x y : X) (xs ys : List X) (f : Permutation X) → map f.fun xs ≡ ys → AreAlike (x ∷ xs) (y ∷ ys) →
+  further_is : (x y : X) (xs ys : List X) (f : Permutation X) → map f.fun xs ≡ ys → RepeatAlike (x ∷ xs) (y ∷ ys) →
       map (further x y f).fun (x ∷ xs) ≡ y ∷ ys
   unfolding further
   further_is x y xs ys f e alike =
@@ -122,7 +122,7 @@ module _ {X : Type 0} (test : (x y : X) → (x ≡ y) ⊎ (x ≢ y)) where
       λ i. swap_left (f.fun x) y (f.fun x) refl i ∷ rest i
 
   -- of lists of one length that are the same at the same indices the one is the other under a map of all
-  pub permutation : (xs ys : List X) → AsLong xs ys → AreAlike xs ys → (f : Permutation X) × (map f.fun xs ≡ ys)
+  pub permutation : (xs ys : List X) → AsLong xs ys → RepeatAlike xs ys → (f : Permutation X) × (map f.fun xs ≡ ys)
   permutation [] [] long alike = (record { fun = λ x. x; inv = λ x. x; there = λ x. refl; back = λ x. refl }, refl)
   permutation [] (y ∷ ys) long alike = cc
   permutation (x ∷ xs) [] long alike = cc
@@ -241,7 +241,7 @@ long_map : {X Y : Type 0} (f : X → Y) (xs : List X) (ys : List Y) → ys ≡ m
 long_map {X} {Y} f xs ys e = sym (map-map (nothing {X = Y}) f xs) ∙ ap (map (nothing {X = Y})) (sym e)
 
 -- trees that are the same up to names are the same under a renaming of all names
-pub permuted : {N : Names} {S : Contents} (t u : Root N S) → HaveTests N → IsSame t u →
+pub permuted : {N : Names} {S : Contents} (t u : Root N S) → HaveTests N → IsSameUpToNames t u →
     (r : Renaming N N) × (rename_root (maps r) t ≡ u)
 permuted {N} t u tests s =
     let m = renaming_found tests own_names t u s in

@@ -1,7 +1,7 @@
 -- A tree is the same up to names under a renaming.
 use Rattle.std.proofs.Common.{◌≡◌, sym, ap, ◌∙◌}
 use Rattle.ir_trees.specs.Names.{Names, Contents}
-use Rattle.ir_trees.specs.Renames.{rename_root, IsSame}
+use Rattle.ir_trees.specs.Renames.{rename_root, IsSameUpToNames}
 use Rattle.ir_trees.specs.Trees.{Root}
 use Rattle.ir_trees.proofs.Same.{same_renamed}
 use Rattle.opt_trees.specs.Occurrences.{Injection, Renaming, maps}
@@ -22,7 +22,7 @@ fresh_apart f g (New x) (New y) e = let same : g.to x ≡ g.to y = cc in ap New 
 
 module _ {N M : Names} {S : Contents} (r : Renaming N M) where
   -- a tree is the same under other names
-  pub renamed_same : (t : Root N S) → IsSame t (rename_root (maps r) t)
+  pub renamed_same : (t : Root N S) → IsSameUpToNames t (rename_root (maps r) t)
   renamed_same t = same_renamed (maps r) t (record {
     operations = λ x y a b e. apart r.operation x y e;
     blocks = λ x y a b e. apart r.block x y e;
@@ -30,7 +30,7 @@ module _ {N M : Names} {S : Contents} (r : Renaming N M) where
   })
 
   -- what sccp makes of it is the same under other names
-  pub fresh_same : (t : Root (fresh N) S) → IsSame t (rename_root (fresh_maps {N = N} {M = M} (maps r)) t)
+  pub fresh_same : (t : Root (fresh N) S) → IsSameUpToNames t (rename_root (fresh_maps {N = N} {M = M} (maps r)) t)
   fresh_same t = same_renamed (fresh_maps {N = N} {M = M} (maps r)) t (record {
     operations = λ x y a b e. fresh_apart r.operation r.value x y e;
     blocks = λ x y a b e. apart r.block x y e;

@@ -4,7 +4,7 @@ use Rattle.std.specs.Prelude.{map}
 use Rattle.ir_trees.specs.Names.{Names, Contents}
 use Rattle.ir_trees.specs.Renames.{names_of}
 use Rattle.ir_trees.specs.Trees.{Defined, Sort, Operations, Blocks, Regions, Tree, end, operation, block, region, Root}
-use Rattle.opt_trees.specs.Occurrences.{Has, types_of, Spot, Site, Occurrence, BlockOccurrence, Inside, inner, next_block, next_region}
+use Rattle.opt_trees.specs.Occurrences.{Has, types_of, Spot, OperationSite, Occurrence, BlockOccurrence, Inside, inner, next_block, next_region}
 use Rattle.opt_trees.specs.Occurrences.{occurrences_in, block_occurrences_in, defined_in, occurrences_of, block_occurrences_of, at_root}
 use Rattle.opt_trees.proofs.Lists.{map-append, has-map, has-from_map, Preimage}
 use Rattle.opt_meanings.specs.Meanings.{Meanings, mean_defined, mean_head, mean_label, mean, mean_root}
@@ -31,7 +31,7 @@ module _ {N : Names} {S R : Contents} (m : Meanings S R) where
   }
 
   -- where an operation stands there
-  abbrev pub mean_site : Site N S → Site N R
+  abbrev pub mean_site : OperationSite N S → OperationSite N R
   mean_site c = record { spot = mean_spot c.spot; label = mean_label m c.label }
 
   -- an operation there

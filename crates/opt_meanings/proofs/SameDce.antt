@@ -1,12 +1,12 @@
 -- Of trees that are the same up to names dce makes what is the same up to names.
 use Rattle.std.proofs.Common.{◌≡◌, ⊎_elim, inr, ℕ, true, false, ◌++◌, None, refl, subst}
 use Rattle.ir_trees.specs.Names.{Names, Contents}
-use Rattle.ir_trees.specs.Renames.{names_of, rename_root, IsSame, HaveTests}
+use Rattle.ir_trees.specs.Renames.{names_of, rename_root, IsSameUpToNames, HaveTests}
 use Rattle.ir_trees.specs.Trees.{Sort, Tree, end, operation, block, region, Root}
 use Rattle.opt_trees.specs.Occurrences.{Has, Inside, Occurrence, inner, next_block, next_region, occurrences_in, defined_in, at_root}
 use Rattle.opt_trees.specs.Occurrences.{maps}
 use Rattle.opt_trees.specs.Dialect.{Dialect}
-use Rattle.opt_trees.specs.Dce.{Around, Agree, Item, Whole, Slot, May, Touches, IsKept, IsDead, dies, IsExcused}
+use Rattle.opt_trees.specs.Dce.{TreeSurroundings, Agree, Item, Whole, Slot, May, Touches, IsKept, IsDead, dies, IsExcused}
 use Rattle.opt_trees.specs.Dce.{by_operation, by_argument, IsLost, IsDce}
 use Rattle.opt_trees.proofs.NoneDead.{has-append, has-left, has-right}
 use Rattle.opt_trees.proofs.Defined.{result_defined, argument_defined}
@@ -39,14 +39,14 @@ module _ {N : Names} {S : Contents} where
       (has-append o (occurrences_in bs c) (occurrences_in rest (next_region c)) h)
 
 -- a context that knows and names nothing
-abbrev pub nothing_around : {N : Names} {A : Type 0} → Around N A
+abbrev pub nothing_around : {N : Names} {A : Type 0} → TreeSurroundings N A
 nothing_around = record { alone = λ v. None; is_pinned = λ v. false }
 
 no_true : false ≡ true → ⊥
 no_true e = cc e
 
-module _ {N : Names} {S : Contents} {A : Type 0} (d : Dialect S A) (w : Around N A) (t : Root N S) (none : NonePinned w t) where
-  abbrev w0 : Around N A
+module _ {N : Names} {S : Contents} {A : Type 0} (d : Dialect S A) (w : TreeSurroundings N A) (t : Root N S) (none : NonePinned w t) where
+  abbrev w0 : TreeSurroundings N A
   w0 = nothing_around
 
   -- what an item that may go touches is defined below the root
@@ -117,15 +117,15 @@ module _ {N : Names} {S : Contents} {A : Type 0} (d : Dialect S A) (w : Around N
 
 -- trees that are the same up to names
 module _ {N : Names} {S : Contents} {A : Type 0}
-    (d : Dialect S A) (tests : HaveTests N) (t u : Root N S) (same : IsSame t u) where
+    (d : Dialect S A) (tests : HaveTests N) (t u : Root N S) (same : IsSameUpToNames t u) where
   -- what dce makes of them is the same up to names
-  pub same_dces : (w z : Around N A) → NonePinned w t → NonePinned z u → (a b : Root N S) → IsDce d w t a → IsDce d z u b → IsSame a b
+  pub same_dces : (w z : TreeSurroundings N A) → NonePinned w t → NonePinned z u → (a b : Root N S) → IsDce d w t a → IsDce d z u b → IsSameUpToNames a b
   same_dces w z pw pz a b x y =
       let p = permuted t u tests same in
-      let w0 : Around N A = nothing_around in
+      let w0 : TreeSurroundings N A = nothing_around in
       let agree : Agree p.0 w0 w0 = record { knows = λ v. refl; pins = λ v. refl } in
       let renamed : IsDce d w0 (rename_root (maps p.0) t) (rename_root (maps p.0) a) =
       dce_renamed d p.0 t w0 w0 agree a (dce_alone d w t pw a x) in
       let one : rename_root (maps p.0) a ≡ b =
       dce_unique d w0 u (rename_root (maps p.0) a) b (subst (λ q. IsDce d w0 q (rename_root (maps p.0) a)) p.1 renamed) (dce_alone d z u pz b y) in
-      subst (λ q. IsSame a q) one (renamed_same p.0 a)
+      subst (λ q. IsSameUpToNames a q) one (renamed_same p.0 a)

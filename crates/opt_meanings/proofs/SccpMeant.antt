@@ -7,7 +7,7 @@ use Rattle.ir_trees.specs.Trees.{Defined, Head, Label, Sort, Operations, Tree, e
 use Rattle.opt_trees.specs.Occurrences.{Has}
 use Rattle.opt_trees.specs.Dialect.{Dialect}
 use Rattle.opt_trees.specs.Facts.{Facts}
-use Rattle.opt_trees.specs.Sccp.{Old, New, fresh, IsResult, IsArgument, Gets, IsMade, IsSccp, used_as}
+use Rattle.opt_trees.specs.Sccp.{Old, New, fresh, IsResult, IsArgument, Gets, AreMadeConstants, IsSccp, used_as}
 use Rattle.opt_trees.specs.Sccp.{constant_before, put_one, put_results, put_arguments, old_head, old_label, put, put_root}
 use Rattle.opt_trees.proofs.Lists.{map-map, from_some}
 use Rattle.opt_meanings.specs.Meanings.{Meanings, IsMeant, mean_defined, mean_head, mean_label, mean, mean_root}
@@ -161,7 +161,7 @@ module _ {N : Names} {S R : Contents} {A : Type 0} (m : Meanings S R) (d : Diale
         }
 
     -- the same constants are made
-    pub made_meant : (made : N.value → Option A) → IsMade d t k made → IsMade e (mean_root m t) k made
+    pub made_meant : (made : N.value → Option A) → AreMadeConstants d t k made → AreMadeConstants e (mean_root m t) k made
     made_meant made p = record {
       gets = λ v a h. gets_forth v a (p.gets v a h);
       all = λ v a h. p.all v a (gets_back v a h);

@@ -10,8 +10,8 @@ use Rattle.ir_trees.specs.Trees.{Root}
 use Rattle.opt_trees.specs.Occurrences.{Has, Spot, OperationsApart}
 use Rattle.opt_trees.specs.Dialect.{Dialect}
 use Rattle.opt_trees.specs.Facts.{forwarded}
-use Rattle.opt_trees.specs.Dce.{Around}
-use Rattle.opt_trees.specs.Simplify.{Place, all_of, is_empty, is_end, is_bare, along_edge, decide_head, decide, decided}
+use Rattle.opt_trees.specs.Dce.{TreeSurroundings}
+use Rattle.opt_trees.specs.Simplify.{StartingRegions, all_of, is_empty, is_end, is_bare, along_edge, decide_head, decide, decided}
 use Rattle.opt_trees.specs.Simplify.{IsReached, entry, further, IsEntered, IsVisited, of_place, of_inner, IsVisitedSsa}
 use Rattle.opt_trees.specs.Simplify.{IsUnreached, keep, IsCut, use_head, Joinable, IsGiven, Follows, stops, goes_on}
 use Rattle.opt_trees.specs.Simplify.{use_instead, but_last, append, Joins, ends, operations, regions, taken, first}
@@ -116,7 +116,7 @@ module _ {N : Names} {S R : Contents} {A : Type 0} (m : Meanings S R) (e : Diale
     decide_meant (region bs rest) = λ i. region (decide_meant bs i) (decide_meant rest i)
 
   -- what a tree means is decided as the tree is
-  decided_meant : e.plain ≡ option_map m.operation d.plain → (w : Around N A) (t : Root N S) →
+  decided_meant : e.plain ≡ option_map m.operation d.plain → (w : TreeSurroundings N A) (t : Root N S) →
       decided e w (mean_root m t) ≡ mean_root m (decided (seen m e d) w t)
   decided_meant plain w t = λ i. record { head = mean_head m t.head; regions = decide_meant plain w.alone t.regions i }
 
@@ -165,7 +165,7 @@ module _ {N : Names} {S R : Contents} {A : Type 0} (m : Meanings S R) (e : Diale
     entered_from c b true h = reached_from b h
     entered_from c b false h = h
 
-  module _ (start : Place N) (t : Root N S) where
+  module _ (start : StartingRegions N) (t : Root N S) where
     -- a region that is visited is visited in what the tree means
     visited_to : (o : N.operation) (i : ℕ) → IsVisited (seen m e d) start t o i → IsVisited e start (mean_root m t) o i
     visited_to _ _ (of_place o i h) = of_place o i h
@@ -251,7 +251,7 @@ module _ {N : Names} {S R : Contents} {A : Type 0} (m : Meanings S R) (e : Diale
   append_meant end y = refl
   append_meant (operation h rs rest) y = ap (operation (mean_head m h) (mean m rs)) (append_meant rest y)
 
-  module _ (start : Place N) (t : Root N S) where
+  module _ (start : StartingRegions N) (t : Root N S) where
     -- blocks that can be joined can be joined in what the tree means
     joinable_to : (b c : N.block) → Joinable (seen m e d) start t b c → Joinable e start (mean_root m t) b c
     joinable_to b c j = record {
@@ -285,7 +285,7 @@ module _ {N : Names} {S R : Contents} {A : Type 0} (m : Meanings S R) (e : Diale
       gives = g.gives;
     }
 
-  module _ (start : Place N) (t : Root N S) (o : OperationsApart t) where
+  module _ (start : StartingRegions N) (t : Root N S) (o : OperationsApart t) where
     -- with the origins of its last operation and its target
     record From (b c : N.block) (j' : Joinable e start (mean_root m t) b c) : Type 0 where
       pub j : Joinable (seen m e d) start t b c
@@ -380,7 +380,7 @@ module _ {N : Names} {S R : Contents} {A : Type 0} (m : Meanings S R) (e : Diale
     }
 
   -- what a tree means is simplified as the tree is, by the dialect that says what is said of what is meant
-  seen_simplify : e.plain ≡ option_map m.operation d.plain → (w : Around N A) (t after : Root N S) →
+  seen_simplify : e.plain ≡ option_map m.operation d.plain → (w : TreeSurroundings N A) (t after : Root N S) →
       OperationsApart t → IsSimplify (seen m e d) w t after → IsSimplify e w (mean_root m t) (mean_root m after)
   seen_simplify plain w t after apart x = record {
     cut = mean_root m x.cut;
@@ -390,7 +390,7 @@ module _ {N : Names} {S R : Contents} {A : Type 0} (m : Meanings S R) (e : Diale
   }
 
   -- what simplify makes of what a tree means is the meaning of what it makes of the tree
-  pub simplify_meant : IsMeant m d e → (w : Around N A) (t after : Root N S) → OperationsApart t →
+  pub simplify_meant : IsMeant m d e → (w : TreeSurroundings N A) (t after : Root N S) → OperationsApart t →
       IsSimplify d w t after → IsSimplify e w (mean_root m t) (mean_root m after)
   simplify_meant meant w t after apart x =
       seen_simplify meant.plain w t after apart

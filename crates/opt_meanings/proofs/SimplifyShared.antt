@@ -4,12 +4,12 @@ use Rattle.std.proofs.Common.{Some, refl, sym, ap, ◌∙◌, subst}
 use Rattle.std.specs.Prelude.{map, option_map, if◌then◌else◌, ◌&&◌}
 use Rattle.std.specs.Prelude.{slice_get}
 use Rattle.ir_trees.specs.Names.{Names, Contents}
-use Rattle.ir_trees.specs.Renames.{rename_root, HaveTests, IsSame}
+use Rattle.ir_trees.specs.Renames.{rename_root, HaveTests, IsSameUpToNames}
 use Rattle.ir_trees.specs.Trees.{Head, Sort, Regions, Tree, end, operation, block, region, Root}
 use Rattle.opt_trees.specs.Occurrences.{Has, Occurrence, Inside, inner, next_block, next_region, occurrences_in}
 use Rattle.opt_trees.specs.Occurrences.{occurrences_of, at_root, rename_occurrence, Renaming, maps}
 use Rattle.opt_trees.specs.Dialect.{Dialect}
-use Rattle.opt_trees.specs.Dce.{Around}
+use Rattle.opt_trees.specs.Dce.{TreeSurroundings}
 use Rattle.opt_trees.specs.Simplify.{all_of, is_empty, is_end, along_edge, decide_head, decide, decided, IsCut}
 use Rattle.opt_trees.specs.Simplify.{IsSimplify, IsOrderly}
 use Rattle.opt_trees.proofs.Lists.{at-map}
@@ -86,7 +86,7 @@ module _ {N : Names} {S : Contents} {A : Type 0} (d : Dialect S A) (f g : N.valu
       (λ o k. same o (has_second o (occurrences_in bs c) (occurrences_in rest (next_region c)) k)) in
       λ i. region (below i) (after i)
 
-module _ {N : Names} {S : Contents} {A : Type 0} (d : Dialect S A) (r : Renaming N N) (t : Root N S) (w z : Around N A) where
+module _ {N : Names} {S : Contents} {A : Type 0} (d : Dialect S A) (r : Renaming N N) (t : Root N S) (w z : TreeSurroundings N A) where
   -- what is known of the operands of branches of the tree under other names is known of those of the tree
   known_alike : KnowAlike d w z t (rename_root (maps r) t) →
       BranchesAlike d w.alone (λ v. z.alone (r.value.to v)) (occurrences_of t)
@@ -100,7 +100,7 @@ module _ {N : Names} {S : Contents} {A : Type 0} (d : Dialect S A) (r : Renaming
       (at-map r.value.to o.head.operands q.0 ∙ ap (option_map r.value.to) q.1)
 
   -- what the other context says of names of the tree
-  abbrev pulled : Around N A
+  abbrev pulled : TreeSurroundings N A
   pulled = record { alone = λ v. z.alone (r.value.to v); is_pinned = λ v. z.is_pinned (r.value.to v) }
 
   -- where it says the same the same is made
@@ -119,9 +119,9 @@ module _ {N : Names} {S : Contents} {A : Type 0} (d : Dialect S A) (r : Renaming
 
 module _ {N : Names} {S : Contents} {A : Type 0} (d : Dialect S A) where
   -- of a tree and of it under other names the same up to names is made
-  pub simplify_shared : (r : Renaming N N) (t u : Root N S) → rename_root (maps r) t ≡ u → (w z : Around N A) →
-      KnowAlike d w z t u → IsOrderly t → IsOrderly u → (a b : Root N S) → IsSimplify d w t a → IsSimplify d z u b → IsSame a b
-  simplify_shared r t u is w z alike o p a b x y = subst (IsSame a) made (renamed_same r a)
+  pub simplify_shared : (r : Renaming N N) (t u : Root N S) → rename_root (maps r) t ≡ u → (w z : TreeSurroundings N A) →
+      KnowAlike d w z t u → IsOrderly t → IsOrderly u → (a b : Root N S) → IsSimplify d w t a → IsSimplify d z u b → IsSameUpToNames a b
+  simplify_shared r t u is w z alike o p a b x y = subst (IsSameUpToNames a) made (renamed_same r a)
     where
       -- of the tree by what the other context says
       here : IsSimplify d (pulled d r t w z) t a
@@ -140,6 +140,6 @@ module _ {N : Names} {S : Contents} {A : Type 0} (d : Dialect S A) where
 -- trees that are the same up to names
 module _ {N : Names} {S : Contents} where
   -- of trees that are the same up to names the same up to names is made
-  pub same_simplifies : {A : Type 0} (d : Dialect S A) → HaveTests N → (t u : Root N S) → IsSame t u → (w z : Around N A) →
-      KnowAlike d w z t u → IsOrderly t → IsOrderly u → (a b : Root N S) → IsSimplify d w t a → IsSimplify d z u b → IsSame a b
+  pub same_simplifies : {A : Type 0} (d : Dialect S A) → HaveTests N → (t u : Root N S) → IsSameUpToNames t u → (w z : TreeSurroundings N A) →
+      KnowAlike d w z t u → IsOrderly t → IsOrderly u → (a b : Root N S) → IsSimplify d w t a → IsSimplify d z u b → IsSameUpToNames a b
   same_simplifies d tests t u same = let p = permuted t u tests same in simplify_shared d p.0 t u p.1

@@ -2,7 +2,7 @@
 use Rattle.std.proofs.Common.{◌≡◌, false, List, [], ◌∷◌, map, Option, Some, None, option_map, refl, sym, ap, subst}
 use Rattle.ir_trees.specs.Names.{Names, Contents}
 use Rattle.ir_trees.specs.Trees.{Root}
-use Rattle.opt_trees.specs.Dce.{Around, IsDce}
+use Rattle.opt_trees.specs.Dce.{TreeSurroundings, IsDce}
 use Rattle.opt_trees.specs.Dialect.{Dialect}
 use Rattle.opt_trees.specs.Sccp.{fresh, IsSccp}
 use Rattle.opt_trees.specs.Simplify.{IsSimplify}
@@ -53,17 +53,17 @@ own_worded d = λ i. record {
 }
 
 -- what is around in its own words
-own_around : {N : Names} {A : Type 0} (a : Around N A) → worded_around (bijection_of (id_equiv A)) a ≡ a
+own_around : {N : Names} {A : Type 0} (a : TreeSurroundings N A) → worded_around (bijection_of (id_equiv A)) a ≡ a
 unfolding id_equiv
 own_around a = λ i. record { alone = λ v. own_word (a.alone v) i; is_pinned = a.is_pinned }
 
 module _ {N : Names} {S : Contents} where
   -- what holds in some words holds in others: by univalence it is enough that it does in its own
-  in_other_words : {A B : Type 0} (P : (X : Type 0) → Dialect S X → Around N X → Type 0) (w : Bijection A B)
-      (d : Dialect S A) (a : Around N A) → P A d a → P B (worded w d) (worded_around w a)
+  in_other_words : {A B : Type 0} (P : (X : Type 0) → Dialect S X → TreeSurroundings N X → Type 0) (w : Bijection A B)
+      (d : Dialect S A) (a : TreeSurroundings N A) → P A d a → P B (worded w d) (worded_around w a)
   in_other_words {A} {B} P w d a p =
       equiv_j
-      (λ X e. (d : Dialect S X) (a : Around N X) → P X d a → P B (worded (bijection_of e) d) (worded_around (bijection_of e) a))
+      (λ X e. (d : Dialect S X) (a : TreeSurroundings N X) → P X d a → P B (worded (bijection_of e) d) (worded_around (bijection_of e) a))
       (λ d a p. subst (λ z. P B z (worded_around (bijection_of (id_equiv B)) a)) (sym (own_worded d))
       (subst (λ z. P B d z) (sym (own_around a)) p))
       (iso_to_equiv (record { fun = w.to; inv = w.from; rinv = w.back; linv = w.there }))
@@ -75,10 +75,10 @@ module _ {N : Names} {S : Contents} where
     sccp_worded t after x =
         in_other_words (λ X e b. IsSccp e t after) w d (record { alone = λ v. None; is_pinned = λ v. false }) x
 
-    pub dce_worded : (a : Around N A) (t after : Root N S) → IsDce d a t after →
+    pub dce_worded : (a : TreeSurroundings N A) (t after : Root N S) → IsDce d a t after →
         IsDce (worded w d) (worded_around w a) t after
     dce_worded a t after x = in_other_words (λ X e b. IsDce e b t after) w d a x
 
-    pub simplify_worded : (a : Around N A) (t after : Root N S) → IsSimplify d a t after →
+    pub simplify_worded : (a : TreeSurroundings N A) (t after : Root N S) → IsSimplify d a t after →
         IsSimplify (worded w d) (worded_around w a) t after
     simplify_worded a t after x = in_other_words (λ X e b. IsSimplify e b t after) w d a x

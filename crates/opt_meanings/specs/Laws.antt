@@ -1,9 +1,9 @@
 -- The statements of the laws.
 use Rattle.std.specs.Prelude.{◌≡◌, ℕ, true, Some, slice_get}
 use Rattle.ir_trees.specs.Names.{Names, Contents}
-use Rattle.ir_trees.specs.Renames.{HaveTests, IsSame}
+use Rattle.ir_trees.specs.Renames.{HaveTests, IsSameUpToNames}
 use Rattle.ir_trees.specs.Trees.{Root}
-use Rattle.opt_trees.specs.Dce.{Around, IsDce}
+use Rattle.opt_trees.specs.Dce.{TreeSurroundings, IsDce}
 use Rattle.opt_trees.specs.Dialect.{Dialect}
 use Rattle.opt_trees.specs.Occurrences.{Has, OperationsApart, Occurrence, occurrences_of, defined_in}
 use Rattle.opt_trees.specs.Sccp.{fresh, IsSccp}
@@ -11,11 +11,11 @@ use Rattle.opt_trees.specs.Simplify.{IsOrderly, IsSimplify}
 use Rattle.opt_meanings.specs.Meanings.{Meanings, IsMeant, Bijection, mean_root, worded, worded_around}
 
 -- no value that is defined below the root is named from outside it
-abbrev pub NonePinned : {N : Names} {S : Contents} {A : Type 0} → Around N A → Root N S → Type 0
+abbrev pub NonePinned : {N : Names} {S : Contents} {A : Type 0} → TreeSurroundings N A → Root N S → Type 0
 NonePinned {N} w t = (v : N.value) → Has v (defined_in t.regions) → w.is_pinned v ≡ true → ⊥
 
 -- at the same place of the two trees, in the order of the text, the contexts know the same of each operand of a branch
-abbrev pub KnowAlike : {N : Names} {S : Contents} {A : Type 0} → Dialect S A → Around N A → Around N A → Root N S →
+abbrev pub KnowAlike : {N : Names} {S : Contents} {A : Type 0} → Dialect S A → TreeSurroundings N A → TreeSurroundings N A → Root N S →
     Root N S → Type 0
 KnowAlike {N} {S} d w z t u = (i j : ℕ) (o p : Occurrence N S) (v x : N.value) →
     slice_get (occurrences_of t) i ≡ Some o → slice_get (occurrences_of u) i ≡ Some p →
@@ -31,12 +31,12 @@ module _ (N : Names) (S R : Contents) (A : Type 0) where
 
   abbrev pub DceMeans : Type 0
   DceMeans = (m : Meanings S R) (d : Dialect S A) (e : Dialect R A) → IsMeant m d e →
-      (w : Around N A) (t after : Root N S) → IsDce d w t after → IsDce e w (mean_root m t) (mean_root m after)
+      (w : TreeSurroundings N A) (t after : Root N S) → IsDce d w t after → IsDce e w (mean_root m t) (mean_root m after)
 
   -- where operations have distinct names
   abbrev pub SimplifyMeans : Type 0
   SimplifyMeans = (m : Meanings S R) (d : Dialect S A) (e : Dialect R A) → IsMeant m d e →
-      (w : Around N A) (t after : Root N S) → OperationsApart t → IsSimplify d w t after →
+      (w : TreeSurroundings N A) (t after : Root N S) → OperationsApart t → IsSimplify d w t after →
       IsSimplify e w (mean_root m t) (mean_root m after)
 
 -- the same is made of a tree whatever words attributes are in
@@ -46,24 +46,24 @@ module _ (N : Names) (S : Contents) (A B : Type 0) where
       IsSccp (worded w d) t after
 
   abbrev pub DceWorded : Type 0
-  DceWorded = (w : Bijection A B) (d : Dialect S A) (a : Around N A) (t after : Root N S) → IsDce d a t after →
+  DceWorded = (w : Bijection A B) (d : Dialect S A) (a : TreeSurroundings N A) (t after : Root N S) → IsDce d a t after →
       IsDce (worded w d) (worded_around w a) t after
 
   abbrev pub SimplifyWorded : Type 0
-  SimplifyWorded = (w : Bijection A B) (d : Dialect S A) (a : Around N A) (t after : Root N S) →
+  SimplifyWorded = (w : Bijection A B) (d : Dialect S A) (a : TreeSurroundings N A) (t after : Root N S) →
       IsSimplify d a t after → IsSimplify (worded w d) (worded_around w a) t after
 
 -- of trees that are the same up to names, which can be told apart, what is the same up to names is made
 module _ (N : Names) (S : Contents) (A : Type 0) where
   abbrev pub SameSccps : Type 0
-  SameSccps = (d : Dialect S A) → HaveTests N → (t u : Root N S) → IsSame t u →
-      (a b : Root (fresh N) S) → IsSccp d t a → IsSccp d u b → IsSame a b
+  SameSccps = (d : Dialect S A) → HaveTests N → (t u : Root N S) → IsSameUpToNames t u →
+      (a b : Root (fresh N) S) → IsSccp d t a → IsSccp d u b → IsSameUpToNames a b
 
   abbrev pub SameDces : Type 0
-  SameDces = (d : Dialect S A) → HaveTests N → (t u : Root N S) → IsSame t u → (w z : Around N A) →
-      NonePinned w t → NonePinned z u → (a b : Root N S) → IsDce d w t a → IsDce d z u b → IsSame a b
+  SameDces = (d : Dialect S A) → HaveTests N → (t u : Root N S) → IsSameUpToNames t u → (w z : TreeSurroundings N A) →
+      NonePinned w t → NonePinned z u → (a b : Root N S) → IsDce d w t a → IsDce d z u b → IsSameUpToNames a b
 
   abbrev pub SameSimplifies : Type 0
-  SameSimplifies = (d : Dialect S A) → HaveTests N → (t u : Root N S) → IsSame t u → (w z : Around N A) →
+  SameSimplifies = (d : Dialect S A) → HaveTests N → (t u : Root N S) → IsSameUpToNames t u → (w z : TreeSurroundings N A) →
       KnowAlike d w z t u → IsOrderly t → IsOrderly u → (a b : Root N S) → IsSimplify d w t a →
-      IsSimplify d z u b → IsSame a b
+      IsSimplify d z u b → IsSameUpToNames a b

@@ -3,7 +3,7 @@ use Rattle.std.specs.Prelude.{◌≡◌, ℕ, Bool, List, map, Option, option_ma
 use Rattle.ir_trees.specs.Names.{Names, Contents}
 use Rattle.ir_trees.specs.Trees.{Defined, Head, Label, Sort, Tree, end, operation, block, region, Root}
 use Rattle.opt_trees.specs.Dialect.{Dialect}
-use Rattle.opt_trees.specs.Dce.{Around}
+use Rattle.opt_trees.specs.Dce.{TreeSurroundings}
 
 -- what is said of operations, blocks and values, by what is said of them elsewhere
 pub record Meanings (S R : Contents) : Type 0 where
@@ -104,5 +104,5 @@ module _ {A B : Type 0} (w : Bijection A B) where
   }
 
   -- what the context says, with attributes in the other words
-  abbrev pub worded_around : {N : Names} → Around N A → Around N B
+  abbrev pub worded_around : {N : Names} → TreeSurroundings N A → TreeSurroundings N B
   worded_around a = record { alone = λ v. option_map w.to (a.alone v); is_pinned = a.is_pinned }

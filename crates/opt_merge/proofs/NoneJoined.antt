@@ -10,7 +10,7 @@ use Rattle.ir_trees.specs.Names.{Names, Contents}
 use Rattle.ir_trees.specs.Stands.{by_handle, in_program, ProgramTree, StandsFor}
 use Rattle.ir_trees.specs.Trees.{Head, Sort, Operations, Blocks, Regions, Tree, end, operation, block, region, Root}
 use Rattle.opt_trees.specs.Dialect.{Dialect}
-use Rattle.opt_trees.specs.Simplify.{Place, Joinable, IsGiven, stops, use_head, use_instead, Joins, ends, operations, regions, first, chain_ends, Chases, goes, goes_by, ComesBack}
+use Rattle.opt_trees.specs.Simplify.{StartingRegions, Joinable, IsGiven, stops, use_head, use_instead, Joins, ends, operations, regions, first, chain_ends, Chases, goes, goes_by, ComesBack}
 use Rattle.opt_inside.specs.Outside.{ChangesOperandsOutside}
 use Rattle.opt_chains.specs.Phases.{MergesBlocks}
 use Rattle.opt_reach.specs.Starts.{IsStartIn}
@@ -44,7 +44,7 @@ module _ {N : Names} {S : Contents} where
       let below = sym (tree_same Regions t.regions) in
       λ i. record { head = head i; regions = below i }
 
-module _ {N : Names} {S : Contents} {A : Type 0} (d : Dialect S A) (p : Place N) (t : Root N S) (none : (a b : N.block) → Joinable d p t a b → ⊥) where
+module _ {N : Names} {S : Contents} {A : Type 0} (d : Dialect S A) (p : StartingRegions N) (t : Root N S) (none : (a b : N.block) → Joinable d p t a b → ⊥) where
   pub none_given : (v u : N.value) → IsGiven d p t v u → ⊥
   none_given v u given = none given.from given.to given.joins
 
@@ -71,7 +71,7 @@ module _ {O B A : Type 0} (d : Dialect (in_program O B) A) (c : Program O B) (op
     regions = λ r v outside there. there;
   }
 
-  none_merged_at : (p : Place by_handle) (t : ProgramTree O B) → ((a b : Ptr BasicBlock) → Joinable d p t a b → ⊥) → StandsFor c op t → MergesBlocks d p c c op t
+  none_merged_at : (p : StartingRegions by_handle) (t : ProgramTree O B) → ((a b : Ptr BasicBlock) → Joinable d p t a b → ⊥) → StandsFor c op t → MergesBlocks d p c c op t
   none_merged_at p t none stands = record {
     after = t;
     joined = record { names = λ v. v; follows = λ v. stops v (none_given d p t none v); regions = t.regions; joins = none_joined d p t none Regions t.regions; is = root_same t };
@@ -82,7 +82,7 @@ module _ {O B A : Type 0} (d : Dialect (in_program O B) A) (c : Program O B) (op
 
   module _ (start : Start) (none : HasNoneJoinable d c op start) where
     -- the program is its own with each chain joined
-    pub none_merged : (p : Place by_handle) → IsStartIn c start p → (t : ProgramTree O B) → StandsFor c op t → MergesBlocks d p c c op t
+    pub none_merged : (p : StartingRegions by_handle) → IsStartIn c start p → (t : ProgramTree O B) → StandsFor c op t → MergesBlocks d p c c op t
     none_merged p is t stands = none_merged_at p t (none p is t stands) stands
 
     -- following never comes back

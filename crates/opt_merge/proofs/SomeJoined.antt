@@ -7,8 +7,8 @@ use Rattle.ir_program.specs.declared.handles.Operation.{Operation}
 use Rattle.ir_program.specs.declared.handles.BasicBlock.{BasicBlock}
 use Rattle.ir_trees.specs.Stands.{by_handle, in_program, ProgramTree, StandsFor}
 use Rattle.opt_trees.specs.Dialect.{Dialect}
-use Rattle.opt_trees.specs.Simplify.{Place, Joinable}
-use Rattle.opt_chains.specs.Chained.{AreChains, Begins}
+use Rattle.opt_trees.specs.Simplify.{StartingRegions, Joinable}
+use Rattle.opt_chains.specs.Chained.{AreChains, StartsSomewhere}
 use Rattle.opt_chains.specs.Merging.{is_taken}
 use Rattle.opt_chains.specs.declared.merging.Join.{Join}
 use Rattle.opt_reach.specs.declared.starts.Start.{Start}
@@ -28,7 +28,7 @@ no_empty xs n len unequal e =
     cc
 
 module _ {O B A : Type 0} (d : Dialect (in_program O B) A) (c : Program O B) where
-  module _ (p : Place by_handle) (t : ProgramTree O B) where
+  module _ (p : StartingRegions by_handle) (t : ProgramTree O B) where
     none_taken : (js : List Join) → js ≡ [] → AreChains d p c t js → (a b : Ptr BasicBlock) → Joinable d p t a b → ⊥
     none_taken js e chains a b joins = let f : false ≡ true = sym (ap (λ l. is_taken l b) e) ∙ chains.all a b joins in cc
 
@@ -41,10 +41,10 @@ module _ {O B A : Type 0} (d : Dialect (in_program O B) A) (c : Program O B) whe
     pub none_joinable : js ≡ [] → HasNoneJoinable d c op start
     none_joinable e p is t stands = none_taken p t js e (all p is t stands)
 
-    pub some_joinable : (js ≡ [] → ⊥) → Begins c start → ((t : ProgramTree O B) × StandsFor c op t) → HasNoneJoinable d c op start → ⊥
+    pub some_joinable : (js ≡ [] → ⊥) → StartsSomewhere c start → ((t : ProgramTree O B) × StandsFor c op t) → HasNoneJoinable d c op start → ⊥
     some_joinable some begins tree none =
         let both = first_joined begins.0 tree.0 js some (all begins.0 begins.1 tree.0 tree.1) in
         none begins.0 begins.1 tree.0 tree.1 both.0 both.1 both.2
 
-    pub begins_somewhere : (js ≡ [] → ⊥) → (js ≡ []) ⊎ Begins c start → Begins c start
+    pub begins_somewhere : (js ≡ [] → ⊥) → (js ≡ []) ⊎ StartsSomewhere c start → StartsSomewhere c start
     begins_somewhere some either = ⊎_elim (λ (e : js ≡ []). absurd (some e)) (λ b. b) either

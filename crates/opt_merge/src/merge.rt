@@ -8,7 +8,7 @@ ghost use Rattle.opt_dialect.specs.declared.status.OptError.TheVariants.{LiveUse
 ghost use Rattle.opt_merge.specs.Answers.{HasCircle, HasNoCircle, HasNoneJoinable};
 ghost use Rattle.opt_reach.specs.Edges.{FitsEdgesFrom, HasLocalEdgesFrom};
 ghost use Rattle.opt_reach.specs.Starts.{IsStartIn};
-ghost use Rattle.opt_trees.specs.Simplify.{Place};
+ghost use Rattle.opt_trees.specs.Simplify.{StartingRegions};
 
 use crate::plan::find_plan;
 use ir_context::{TypeTable, TypedProgram};
@@ -33,7 +33,7 @@ pub fn merge_chains<D: OptDialect, T: TypeTable>(
     requires live { IsSome (operation_at ctx.old.program op) }
     requires edges { HasLocalEdgesFrom D.meaning.is_terminator ctx.old.program start }
     requires fits { FitsEdgesFrom D.meaning ctx.old.program start }
-    ensures merged { OnOk result ((p : Place by_handle) → IsStartIn ctx.old.program start p
+    ensures merged { OnOk result ((p : StartingRegions by_handle) → IsStartIn ctx.old.program start p
         → (t : ProgramTree D.Operation D.Block) → StandsFor ctx.old.program op t
         → MergesBlocks D.meaning p ctx.old.program ctx.new.program op t) }
     ensures accepted { OnOk result (HasNoCircle D.meaning ctx.old.program op start) }

@@ -12,7 +12,7 @@ use Rattle.ir_program.specs.declared.handles.BasicBlock.{BasicBlock}
 use Rattle.ir_program.proofs.made.Frames.{same_or_not}
 use Rattle.ir_trees.proofs.HandleTests.{block_yes, block_no}
 use Rattle.ir_trees.specs.Stands.{by_handle}
-use Rattle.opt_trees.specs.Simplify.{Place, OfOperations, OfRegion, BeginsAt}
+use Rattle.opt_trees.specs.Simplify.{StartingRegions, OfOperations, OfRegion, BeginsAt}
 use Rattle.opt_inside.proofs.Around.{HasLists}
 use Rattle.opt_reach.specs.Starts.{IsStartIn, BeginsAtRegion}
 use Rattle.opt_reach.specs.declared.starts.Start.{Start}
@@ -20,7 +20,7 @@ use Rattle.opt_reach.specs.declared.starts.Start.TheVariants.{Operation, Block, 
 use Rattle.opt_reach.proofs.Members.{has_lists, lists_has}
 
 -- looking begins at a region of the place exactly where it begins at this region in the program
-pub begins_exactly : {O B : Type 0} (c : Program O B) (lists : HasLists c) (start : Start) (p : Place by_handle) → IsStartIn c start p
+pub begins_exactly : {O B : Type 0} (c : Program O B) (lists : HasLists c) (start : Start) (p : StartingRegions by_handle) → IsStartIn c start p
     → (q : Ptr AnOperation) (i : ℕ) (r : Ptr ARegion) → slice_get (regions_in c q) i ≡ Some r → BeginsAt p q i ↔ BeginsAtRegion c start q r
 begins_exactly c lists (Operation op) p is q i r here = subst (λ z. BeginsAt z q i ↔ (q ≡ op)) (sym is) (
   λ h. ⊎_elim (λ (e : q ≡ op). e) (λ none. absurd none) h,
@@ -46,19 +46,19 @@ tested p q is says = (
 
 -- there is a place for each start, but for a region of no operation
 module _ {O B : Type 0} (c : Program O B) (start : Start) where
-  pub starts_at_operation : (op : Ptr AnOperation) → start ≡ Operation op → (p : Place by_handle) × IsStartIn c start p
+  pub starts_at_operation : (op : Ptr AnOperation) → start ≡ Operation op → (p : StartingRegions by_handle) × IsStartIn c start p
   starts_at_operation op e = (OfOperations (op ∷ []), subst (λ s. IsStartIn c s (OfOperations (op ∷ []))) (sym e) refl)
 
-  pub starts_at_block : (b : Ptr BasicBlock) → start ≡ Block b → (p : Place by_handle) × IsStartIn c start p
+  pub starts_at_block : (b : Ptr BasicBlock) → start ≡ Block b → (p : StartingRegions by_handle) × IsStartIn c start p
   starts_at_block b e = (OfOperations (operations_in c b), subst (λ s. IsStartIn c s (OfOperations (operations_in c b))) (sym e) refl)
 
-  pub starts_at_region : (r : Ptr ARegion) → start ≡ Region r → (q : Ptr AnOperation) × StandsInOperation c r q → (p : Place by_handle) × IsStartIn c start p
+  pub starts_at_region : (r : Ptr ARegion) → start ≡ Region r → (q : Ptr AnOperation) × StandsInOperation c r q → (p : StartingRegions by_handle) × IsStartIn c start p
   starts_at_region r e h = by_view (operation_at c h.0) refl h.1.here where
-    by_view : (o : Option (OperationView O)) → operation_at c h.0 ≡ o → slice_get (unwrap_or (option_map (λ (v : OperationView O). v.regions) o) []) h.1.index ≡ Some r → (p : Place by_handle) × IsStartIn c start p
+    by_view : (o : Option (OperationView O)) → operation_at c h.0 ≡ o → slice_get (unwrap_or (option_map (λ (v : OperationView O). v.regions) o) []) h.1.index ≡ Some r → (p : StartingRegions by_handle) × IsStartIn c start p
     by_view None there at = absurd (none-some r at)
     by_view (Some v) there at = (OfRegion h.0 h.1.index, subst (λ s. IsStartIn c s (OfRegion h.0 h.1.index)) (sym e) (h.0, h.1.index, v, there, at, refl))
 
-  pub starts_nowhere : HasLists c → (r : Ptr ARegion) → start ≡ Region r → ((q : Ptr AnOperation) × StandsInOperation c r q → ⊥) → (p : Place by_handle) → IsStartIn c start p → ⊥
+  pub starts_nowhere : HasLists c → (r : Ptr ARegion) → start ≡ Region r → ((q : Ptr AnOperation) × StandsInOperation c r q → ⊥) → (p : StartingRegions by_handle) → IsStartIn c start p → ⊥
   starts_nowhere lists r e none p is =
       let h : IsStartIn c (Region r) p = subst (λ s. IsStartIn c s p) e is in
       none (h.0, lists.regions h.0 h.1 r (ap (λ o. slice_get (unwrap_or (option_map (λ (v : OperationView O). v.regions) o) []) h.1) h.3 ∙ h.4))

@@ -21,12 +21,12 @@ use Rattle.ir_program.specs.declared.handles.BasicBlock.{BasicBlock}
 use Rattle.ir_trees.specs.Searched.{Lists}
 use Rattle.ir_trees.specs.Stands.{by_handle, in_program, ProgramTree, StandsFor}
 use Rattle.opt_trees.specs.Dialect.{Dialect}
-use Rattle.opt_trees.specs.Simplify.{Place, IsReached, IsUnreached}
+use Rattle.opt_trees.specs.Simplify.{StartingRegions, IsReached, IsUnreached}
 use Rattle.opt_inside.specs.Numbered.{Numbers, NumbersInside}
 use Rattle.opt_inside.specs.Occurring.{IsBlockBelow}
 use Rattle.opt_inside.proofs.Around.{HasLists}
 use Rattle.opt_reach.specs.Edges.{IsBlockUnder, HasLocalEdgesFrom}
-use Rattle.opt_reach.specs.Fates.{IsJudged, IsLeftOut, IsFate, AreFates}
+use Rattle.opt_reach.specs.Fates.{IsJudgedFate, IsLeftOut, IsFate, AreFates}
 use Rattle.opt_reach.specs.Paths.{number_in, exits_of, IsPathGraph}
 use Rattle.opt_reach.specs.Starts.{IsStartIn}
 use Rattle.opt_reach.specs.declared.fates.Fate.{Fate}
@@ -40,16 +40,16 @@ use Rattle.opt_reach.proofs.Occurs.{Occurs}
 use Rattle.opt_reach.proofs.PathGraph.{reached_exactly}
 use Rattle.opt_reach.proofs.Judged.{within, fate_there, left_out_fate}
 
-module _ {O B A : Type 0} (d : Dialect (in_program O B) A) (place : Place by_handle) (c : Program O B) (lists : HasLists c) (op : Ptr Operation) (n : Numbers) (numbered : NumbersInside c op n) (t : ProgramTree O B) (occurs : Occurs c op t) where
+module _ {O B A : Type 0} (d : Dialect (in_program O B) A) (place : StartingRegions by_handle) (c : Program O B) (lists : HasLists c) (op : Ptr Operation) (n : Numbers) (numbered : NumbersInside c op n) (t : ProgramTree O B) (occurs : Occurs c op t) where
   -- one block more
-  pub fates_more : (start : Start) → IsStartIn c start place → (fates fates' : List Fate) (b : Ptr BasicBlock) (reach : Bool) (f : Fate) → slice_get n.blocks (length fates) ≡ Some b → (IsBlockUnder c start b → (reach ≡ true) ↔ IsReached t b) → IsJudged d c start n.blocks fates b reach f
+  pub fates_more : (start : Start) → IsStartIn c start place → (fates fates' : List Fate) (b : Ptr BasicBlock) (reach : Bool) (f : Fate) → slice_get n.blocks (length fates) ≡ Some b → (IsBlockUnder c start b → (reach ≡ true) ↔ IsReached t b) → IsJudgedFate d c start n.blocks fates b reach f
       → fates' ≡ fates ++ f ∷ [] → AreFates d place t n.blocks fates → AreFates d place t n.blocks fates'
   fates_more start is_start fates fates' b reach f here reached judged e known k g x at has named = ⊎_elim
       (λ (h : slice_get fates k ≡ Some g). known k g x h has named)
       (λ (h : (k ≡ length fates) × (g ≡ f)).
       let name : b ≡ x.label.name = same_Some b x.label.name (sym here ∙ ap (slice_get n.blocks) (sym h.0) ∙ named) in
       subst (IsFate d place t x) (sym h.1) (fate_there d place c lists op n numbered t occurs start is_start fates known k (sym h.0) x has named reach
-      (subst (λ a. IsBlockUnder c start a → (reach ≡ true) ↔ IsReached t a) name reached) f (subst (λ a. IsJudged d c start n.blocks fates a reach f) name judged)))
+      (subst (λ a. IsBlockUnder c start a → (reach ≡ true) ↔ IsReached t a) name reached) f (subst (λ a. IsJudgedFate d c start n.blocks fates a reach f) name judged)))
       (get_last fates f k g (ap (λ fs. slice_get fs k) (sym e) ∙ at))
 
   pub unreached_are : (fates : List Fate) → length fates ≡ length n.blocks → AreFates d place t n.blocks fates → (row : List (Ptr BasicBlock)) → ((b : Ptr BasicBlock) → Lists row b ↔ ((k : ℕ) × (slice_get n.blocks k ≡ Some b) × (slice_get fates k ≡ Some Unreached)))

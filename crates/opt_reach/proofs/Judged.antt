@@ -12,12 +12,12 @@ use Rattle.ir_trees.specs.Trees.{Head, Label}
 use Rattle.ir_trees.specs.Stands.{by_handle, in_program, ProgramTree}
 use Rattle.opt_trees.specs.Dialect.{Dialect}
 use Rattle.opt_trees.specs.Occurrences.{Has, Spot, occurrences_of, block_occurrences_of}
-use Rattle.opt_trees.specs.Simplify.{Place, IsReached, IsVisited, of_place, of_inner, IsEntered}
+use Rattle.opt_trees.specs.Simplify.{StartingRegions, IsReached, IsVisited, of_place, of_inner, IsEntered}
 use Rattle.opt_inside.specs.Numbered.{Numbers, NumbersInside}
 use Rattle.opt_inside.specs.Occurring.{Found, FoundBlock}
 use Rattle.opt_inside.proofs.Around.{HasLists}
 use Rattle.opt_reach.specs.Edges.{IsBlockUnder}
-use Rattle.opt_reach.specs.Fates.{IsEnteredThere, IsLeftOut, IsFate, AreFates, HasVisit, fate, IsJudged}
+use Rattle.opt_reach.specs.Fates.{IsEnteredThere, IsLeftOut, IsFate, AreFates, HasVisit, fate, IsJudgedFate}
 use Rattle.opt_reach.specs.Starts.{IsStartIn, BeginsAtRegion}
 use Rattle.opt_reach.specs.declared.fates.Fate.{Fate}
 use Rattle.opt_reach.specs.declared.fates.Fate.TheVariants.{Entered, Unreached, Unvisited}
@@ -34,7 +34,7 @@ within [] j l = absurd (omega (arith, l))
 within (x ∷ xs) zero l = (x, refl)
 within (x ∷ xs) (suc j) l = within xs j (omega (arith, l))
 
-module _ {O B A : Type 0} (d : Dialect (in_program O B) A) (place : Place by_handle) (c : Program O B) (lists : HasLists c) (op : Ptr Operation) (n : Numbers) (numbered : NumbersInside c op n) (t : ProgramTree O B) (occurs : Occurs c op t) where
+module _ {O B A : Type 0} (d : Dialect (in_program O B) A) (place : StartingRegions by_handle) (c : Program O B) (lists : HasLists c) (op : Ptr Operation) (n : Numbers) (numbered : NumbersInside c op n) (t : ProgramTree O B) (occurs : Occurs c op t) where
   -- the block of this number is found at this place
   found_at : (k : ℕ) (x : FoundBlock O B) → Has x (block_occurrences_of t) → slice_get n.blocks k ≡ Some x.label.name → slice_get (block_occurrences_of t) k ≡ Some x
   found_at k x has h = at (slice_get (block_occurrences_of t) k) refl where
@@ -110,7 +110,7 @@ module _ {O B A : Type 0} (d : Dialect (in_program O B) A) (place : Place by_han
               let is = known j f.0 site.block f.1 site.found (number ∙ ap (λ (m : Label by_handle (in_program O B)). Some m.name) (sym site.label)) in
               f.1 ∙ ap Some (entered_fate site.block f.0 is (spot_entered site.block o.site.label o.site.spot site.label site.spot visited entered))
 
-      module _ (reach : Bool) (reached : IsBlockUnder c start x.label.name → (reach ≡ true) ↔ IsReached t x.label.name) (f : Fate) (judged : IsJudged d c start n.blocks fates x.label.name reach f) where
+      module _ (reach : Bool) (reached : IsBlockUnder c start x.label.name → (reach ≡ true) ↔ IsReached t x.label.name) (f : Fate) (judged : IsJudgedFate d c start n.blocks fates x.label.name reach f) where
         owner_here : slice_get (regions_in c judged.owner) judged.index ≡ Some judged.region
         owner_here = ap (λ o. slice_get (unwrap_or (option_map (λ (v : OperationView O). v.regions) o) []) judged.index) judged.there ∙ judged.here
 

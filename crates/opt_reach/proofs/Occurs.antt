@@ -10,7 +10,7 @@ use Rattle.ir_program.specs.declared.handles.BasicBlock.{BasicBlock}
 use Rattle.ir_trees.specs.Trees.{Head}
 use Rattle.ir_trees.specs.Stands.{by_handle, in_program, ProgramTree, StandsFor}
 use Rattle.opt_trees.specs.Occurrences.{Has, occurrences_of, block_occurrences_of}
-use Rattle.opt_inside.specs.Occurring.{Found, FoundBlock, IsBelowRoot, IsBlockBelow, IsBlockOccurrence, IsOccurrence, IsSiteOf, IsNestedIn, RegionsTogether}
+use Rattle.opt_inside.specs.Occurring.{Found, FoundBlock, IsBelowRoot, IsBlockBelow, IsBlockOccurrence, IsOccurrence, SiteIsFound, IsNestedIn, RegionsTogether}
 use Rattle.opt_inside.proofs.Around.{HasLists, around_block, not_root}
 
 pub record Occurs {O B : Type 0} (c : Program O B) (op : Ptr Operation) (t : ProgramTree O B) : Type 0 where
@@ -21,7 +21,7 @@ pub record Occurs {O B : Type 0} (c : Program O B) (op : Ptr Operation) (t : Pro
   pub blocks_sound : (x : FoundBlock O B) → Has x (block_occurrences_of t) → IsBlockOccurrence c op x
   pub blocks_found : (b : Ptr BasicBlock) → IsBlockBelow c op b → (x : FoundBlock O B) × Has x (block_occurrences_of t) × (x.label.name ≡ b)
   pub blocks_one : (x y : FoundBlock O B) → Has x (block_occurrences_of t) → Has y (block_occurrences_of t) → x.label.name ≡ y.label.name → x ≡ y
-  pub site : (o : Found O B) → Has o (occurrences_of t) → IsSiteOf c t o
+  pub site : (o : Found O B) → Has o (occurrences_of t) → SiteIsFound c t o
   pub beside : RegionsTogether c t
   pub nested : (x : FoundBlock O B) → Has x (block_occurrences_of t) → IsNestedIn t x.spot
 

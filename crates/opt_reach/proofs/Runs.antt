@@ -14,7 +14,7 @@ use Rattle.ir_program.proofs.used.Renaming.{block-test}
 use Rattle.ir_trees.specs.Searched.{Lists, AreDistinct}
 use Rattle.ir_trees.specs.Stands.{in_program}
 use Rattle.opt_trees.specs.Dialect.{Dialect}
-use Rattle.opt_reach.specs.Fates.{HasVisit, fate, IsJudged}
+use Rattle.opt_reach.specs.Fates.{HasVisit, fate, IsJudgedFate}
 use Rattle.opt_reach.specs.Paths.{number_in}
 use Rattle.opt_reach.specs.Starts.{BeginsAtRegion}
 use Rattle.opt_reach.specs.declared.fates.Fate.{Fate}
@@ -45,9 +45,9 @@ module _ {O B : Type 0} (c : Program O B) (start : Start) (keys : List (Ptr Basi
 module _ {O B A : Type 0} (d : Dialect (in_program O B) A) (c : Program O B) (start : Start) (keys : List (Ptr BasicBlock)) (fates : List Fate) (b : Ptr BasicBlock) (reach : Bool) (f : Fate) where
   pub judged : (r : Ptr Region) → StandsInRegion c b r → (q : Ptr Operation) → StandsInOperation c r q → (visited : Bool) → (visited ≡ true) ↔ HasVisit c start keys fates q r
       → (w : O) → payload_at c q ≡ Some w → (i : ℕ) → ((p : Ptr Operation) (k : ℕ) → slice_get (regions_in c p) k ≡ Some r → i ≡ k) → (ssa : Bool) → ssa ≡ d.is_ssa w i
-      → (first : Bool) → (first ≡ true) ↔ (slice_get (blocks_in c r) 0 ≡ Some b) → f ≡ fate visited ssa reach first → IsJudged d c start keys fates b reach f
+      → (first : Bool) → (first ≡ true) ↔ (slice_get (blocks_in c r) 0 ≡ Some b) → f ≡ fate visited ssa reach first → IsJudgedFate d c start keys fates b reach f
   judged r in_r q of_q visited visit w holds i index ssa is_ssa first entry is = from_view (operation_at c q) refl of_q.operation where
-    from_view : (o : Option (OperationView O)) → operation_at c q ≡ o → IsSome o → IsJudged d c start keys fates b reach f
+    from_view : (o : Option (OperationView O)) → operation_at c q ≡ o → IsSome o → IsJudgedFate d c start keys fates b reach f
     from_view None e h = absurd (cc)
     from_view (Some v) e h =
         let at : i ≡ of_q.index = index q of_q.index of_q.here in

@@ -14,7 +14,7 @@ use Rattle.ir_trees.specs.Searched.{Lists}
 use Rattle.ir_trees.specs.Stands.{by_handle, in_program, ProgramTree}
 use Rattle.opt_trees.specs.Dialect.{Dialect}
 use Rattle.opt_trees.specs.Occurrences.{Has, Spot, occurrences_of}
-use Rattle.opt_trees.specs.Simplify.{Place, IsVisited, of_place, of_inner}
+use Rattle.opt_trees.specs.Simplify.{StartingRegions, IsVisited, of_place, of_inner}
 use Rattle.opt_inside.specs.Occurring.{Found, IsBelowRoot, IsBlockBelow, IsSpotOf, IsOccurrence}
 use Rattle.opt_inside.proofs.Around.{HasLists, inside_both, around_operation, around_block}
 use Rattle.opt_reach.specs.Edges.{IsNodeUnder, IsUnder, IsBlockUnder, HasLocalEdgesFrom}
@@ -84,7 +84,7 @@ module _ {O B : Type 0} (c : Program O B) (start : Start) where
         below_block c lists op p h.0 h.2 (beside_below c lists op s h.0 h.1 (edges.leaving p s h.0 h.1 u l h.2 h.3) h.3 below)
 
 -- what is visited is under the place
-module _ {O B A : Type 0} (d : Dialect (in_program O B) A) (place : Place by_handle) (c : Program O B) (lists : HasLists c) (start : Start) (is_start : IsStartIn c start place)
+module _ {O B A : Type 0} (d : Dialect (in_program O B) A) (place : StartingRegions by_handle) (c : Program O B) (lists : HasLists c) (start : Start) (is_start : IsStartIn c start place)
     (op : Ptr Operation) (t : ProgramTree O B) (sound : (o : Found O B) → Has o (occurrences_of t) → IsOccurrence c op o) where
   -- the region that a block's spot says
   spot_here : (b : Ptr BasicBlock) (s : Spot by_handle (in_program O B)) (is : IsSpotOf c op b s) → slice_get (regions_in c s.owner.name) s.region ≡ Some is.region

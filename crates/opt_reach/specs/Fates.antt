@@ -9,14 +9,14 @@ use Rattle.ir_program.specs.declared.handles.BasicBlock.{BasicBlock}
 use Rattle.ir_trees.specs.Stands.{by_handle, in_program, ProgramTree}
 use Rattle.opt_trees.specs.Dialect.{Dialect}
 use Rattle.opt_trees.specs.Occurrences.{Has, block_occurrences_of}
-use Rattle.opt_trees.specs.Simplify.{Place, IsReached, IsVisited, IsEntered, IsVisitedSsa}
+use Rattle.opt_trees.specs.Simplify.{StartingRegions, IsReached, IsVisited, IsEntered, IsVisitedSsa}
 use Rattle.opt_inside.specs.Occurring.{FoundBlock}
 use Rattle.opt_reach.specs.Starts.{BeginsAtRegion}
 use Rattle.opt_reach.specs.declared.fates.Fate.{Fate}
 use Rattle.opt_reach.specs.declared.fates.Fate.TheVariants.{Entered, Unreached, Unvisited}
 use Rattle.opt_reach.specs.declared.starts.Start.{Start}
 
-module _ {O B A : Type 0} (d : Dialect (in_program O B) A) (p : Place by_handle) (t : ProgramTree O B) where
+module _ {O B A : Type 0} (d : Dialect (in_program O B) A) (p : StartingRegions by_handle) (t : ProgramTree O B) where
   -- the block's region is visited, and the block is entered
   abbrev pub IsEnteredThere : FoundBlock O B → Type 0
   IsEnteredThere x = IsVisited d p t x.spot.owner.name x.spot.region × IsEntered t x.spot x.label.name (d.is_ssa x.spot.owner.content x.spot.region)
@@ -54,7 +54,7 @@ fate true false reach true = Entered
 fate true false reach false = Unvisited
 
 -- where a block stands, and that its fate follows from that
-pub record IsJudged {O B A : Type 0} (d : Dialect (in_program O B) A) (c : Program O B) (start : Start)
+pub record IsJudgedFate {O B A : Type 0} (d : Dialect (in_program O B) A) (c : Program O B) (start : Start)
     (keys : List (Ptr BasicBlock)) (fates : List Fate) (b : Ptr BasicBlock) (reach : Bool) (f : Fate) : Type 0 where
   pub region : Ptr Region
   pub in_region : StandsInRegion c b region

@@ -8,10 +8,10 @@ ghost use Rattle.ir_program.specs.declared.handles.Ptr.{Ptr};
 ghost use Rattle.ir_trees.specs.Searched.{AreDistinct, Lists};
 ghost use Rattle.ir_trees.specs.Stands.{ProgramTree, StandsFor, by_handle};
 ghost use Rattle.opt_inside.specs.Numbered.{NumbersInside, numbers_of};
-ghost use Rattle.opt_trees.specs.Simplify.{IsReached, Place};
+ghost use Rattle.opt_trees.specs.Simplify.{IsReached, StartingRegions};
 ghost use Rattle.opt_reach.specs.declared.fates.Fate.TheVariants.{Entered, Unreached};
 ghost use Rattle.opt_reach.specs.Edges.{HasLocalEdgesFrom, IsBlockUnder};
-ghost use Rattle.opt_reach.specs.Fates.{AreFates, HasReachTest, HasVisit, IsJudged, fate};
+ghost use Rattle.opt_reach.specs.Fates.{AreFates, HasReachTest, HasVisit, IsJudgedFate, fate};
 ghost use Rattle.opt_reach.specs.Starts.{IsStartIn};
 
 use crate::paths::{is_first, number_of_block, push_if, reached_blocks};
@@ -102,7 +102,7 @@ fn judge<D: Meanings>(
     requires linked { IsLinkedBlock program.now block }
     requires once { AreDistinct inside.now.blocks.keys }
     requires first { length fates.now ≤ length inside.now.blocks.keys }
-    ensures { IsJudged D.meaning program.now start inside.now.blocks.keys fates.now block is_reached result }
+    ensures { IsJudgedFate D.meaning program.now start inside.now.blocks.keys fates.now block is_reached result }
 {
     program.know_lists();
     let Some(region) = program.parent_region(block) else {
@@ -130,7 +130,7 @@ fn judge_all<D: Meanings>(
         → (k : ℕ) (b : Ptr BasicBlock) → slice_get inside.now.blocks.keys k ≡ Some b → IsBlockUnder program.now start b
         → IsMarked is_reached.now k ↔ IsReached t b }
     ensures len { IfOk result (λ fates. length fates.items ≡ length inside.now.blocks.keys) }
-    ensures fates { IfOk result (λ fates. (p : Place by_handle) → IsStartIn program.now start p
+    ensures fates { IfOk result (λ fates. (p : StartingRegions by_handle) → IsStartIn program.now start p
         → (t : ProgramTree D.Operation D.Block) → StandsFor program.now op t
         → AreFates D.meaning p t inside.now.blocks.keys fates.items) }
 {
@@ -160,7 +160,7 @@ pub fn find_fates<D: Meanings>(
     requires edges { HasLocalEdgesFrom D.meaning.is_terminator program.now start }
     requires numbered { NumbersInside program.now op (numbers_of inside.now) }
     ensures len { IfOk result (λ fates. length fates.items ≡ length inside.now.blocks.keys) }
-    ensures fates { IfOk result (λ fates. (p : Place by_handle) → IsStartIn program.now start p
+    ensures fates { IfOk result (λ fates. (p : StartingRegions by_handle) → IsStartIn program.now start p
         → (t : ProgramTree D.Operation D.Block) → StandsFor program.now op t
         → AreFates D.meaning p t inside.now.blocks.keys fates.items) }
     ensures reached { IfOk result (λ fates. (t : ProgramTree D.Operation D.Block) → StandsFor program.now op t

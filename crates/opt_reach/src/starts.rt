@@ -5,7 +5,7 @@ ghost use Rattle.ir_program.specs.Program.{operation_at};
 ghost use Rattle.ir_program.specs.declared.handles.Operation.{Operation};
 ghost use Rattle.ir_program.specs.declared.handles.Ptr.{Ptr};
 ghost use Rattle.ir_trees.specs.Stands.{by_handle};
-ghost use Rattle.opt_trees.specs.Simplify.{Place};
+ghost use Rattle.opt_trees.specs.Simplify.{StartingRegions};
 ghost use Rattle.opt_reach.specs.Starts.{BeginsAtRegion, IsStartIn};
 
 use ir_program::{BasicBlock, Operation, Program, Ptr, Region};
@@ -62,8 +62,8 @@ fn has_owner<O, B>(program: &Program<O, B>, region: Ptr<Region>) -> bool
 
 /// Whether looking can begin there: a region has to be one of an operation.
 pub fn has_start<O, B>(program: &Program<O, B>, start: Start) -> bool
-    ensures there { result ≡ true → (p : Place by_handle) × IsStartIn program.now start p }
-    ensures nowhere { result ≡ false → (p : Place by_handle) → IsStartIn program.now start p → ⊥ }
+    ensures there { result ≡ true → (p : StartingRegions by_handle) × IsStartIn program.now start p }
+    ensures nowhere { result ≡ false → (p : StartingRegions by_handle) → IsStartIn program.now start p → ⊥ }
 {
     program.know_lists();
     match start {

@@ -11,7 +11,7 @@ use Rattle.ir_program.specs.declared.handles.BasicBlock.{BasicBlock}
 use Rattle.ir_program.specs.declared.handles.Operation.{Operation}
 use Rattle.ir_program.specs.declared.handles.Ptr.{Ptr}
 use Rattle.ir_program.proofs.made.Frames.{same_or_not}
-use Rattle.opt_rewriter.specs.Points.{IsIn, IsPlace}
+use Rattle.opt_rewriter.specs.Points.{PointIsIn, PointIsThere}
 use Rattle.opt_rewriter.specs.declared.point.OpInsertionPoint.{OpInsertionPoint}
 use Rattle.opt_rewriter.specs.declared.point.OpInsertionPoint.TheVariants.{Unset, AtBlockStart, AtBlockEnd, BeforeOperation, AfterOperation}
 
@@ -67,7 +67,7 @@ module _ {O B : Type 0} (old new : Program O B) (op : Ptr Operation) (at : IsLin
   other_than : (p : Ptr Operation) → (StandsInside old (OperationNode op) (OperationNode p) → ⊥) → p ≢ op
   other_than p h e = h (subst (λ x. StandsInside old (OperationNode op) (OperationNode x)) (sym e) itself)
 
-  pub still_place : (p : OpInsertionPoint) → IsPlace old p → (IsIn old (OperationNode op) p → ⊥) → IsPlace new p
+  pub still_place : (p : OpInsertionPoint) → PointIsThere old p → (PointIsIn old (OperationNode op) p → ⊥) → PointIsThere new p
   still_place Unset h n = h
   still_place (AtBlockStart b) h n = same_block b h
   still_place (AtBlockEnd b) h n = same_block b h

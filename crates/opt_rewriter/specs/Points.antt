@@ -12,20 +12,20 @@ use Rattle.opt_rewriter.specs.declared.point.OpInsertionPoint.TheVariants.{Unset
 
 module _ {O B : Type 0} where
   -- the place is there: its block is, or its operation is in a block
-  abbrev pub IsPlace : Program O B → OpInsertionPoint → Type 0
-  IsPlace c Unset = ⊥
-  IsPlace c (AtBlockStart b) = IsSome (block_at c b)
-  IsPlace c (AtBlockEnd b) = IsSome (block_at c b)
-  IsPlace c (BeforeOperation p) = IsLinkedOperation c p
-  IsPlace c (AfterOperation p) = IsLinkedOperation c p
+  abbrev pub PointIsThere : Program O B → OpInsertionPoint → Type 0
+  PointIsThere c Unset = ⊥
+  PointIsThere c (AtBlockStart b) = IsSome (block_at c b)
+  PointIsThere c (AtBlockEnd b) = IsSome (block_at c b)
+  PointIsThere c (BeforeOperation p) = IsLinkedOperation c p
+  PointIsThere c (AfterOperation p) = IsLinkedOperation c p
 
   -- the place's block or operation is this entity or in it
-  abbrev pub IsIn : Program O B → IRNode → OpInsertionPoint → Type 0
-  IsIn c x Unset = ⊥
-  IsIn c x (AtBlockStart b) = StandsInside c x (BlockNode b)
-  IsIn c x (AtBlockEnd b) = StandsInside c x (BlockNode b)
-  IsIn c x (BeforeOperation p) = StandsInside c x (OperationNode p)
-  IsIn c x (AfterOperation p) = StandsInside c x (OperationNode p)
+  abbrev pub PointIsIn : Program O B → IRNode → OpInsertionPoint → Type 0
+  PointIsIn c x Unset = ⊥
+  PointIsIn c x (AtBlockStart b) = StandsInside c x (BlockNode b)
+  PointIsIn c x (AtBlockEnd b) = StandsInside c x (BlockNode b)
+  PointIsIn c x (BeforeOperation p) = StandsInside c x (OperationNode p)
+  PointIsIn c x (AfterOperation p) = StandsInside c x (OperationNode p)
 
   -- the place's block or operation is there no more
   abbrev pub IsErasedPoint : Program O B → OpInsertionPoint → Type 0
@@ -45,8 +45,8 @@ module _ {O B : Type 0} where
 
   -- what a point becomes where an entity is erased: it stays, but where it is in what goes
   pub record LeavesPoint (c : Program O B) (x : IRNode) (old new : OpInsertionPoint) : Type 0 where
-    pub lost : IsIn c x old → new ≡ Unset
-    pub kept : (IsIn c x old → ⊥) → new ≡ old
+    pub lost : PointIsIn c x old → new ≡ Unset
+    pub kept : (PointIsIn c x old → ⊥) → new ≡ old
 
   -- what a point becomes where entities were erased: it stays, but where its block or operation is gone
   pub record LeavesErased (c : Program O B) (old new : OpInsertionPoint) : Type 0 where

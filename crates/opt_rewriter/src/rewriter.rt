@@ -7,7 +7,7 @@ ghost use Rattle.ir_program.specs.Lists.{IsLinkedOperation, IsLiveNode, IsUnlink
 ghost use Rattle.ir_program.specs.Program.{Program, block_at, operation_at, IsLiveValue};
 ghost use Rattle.ir_program.specs.UseEdits.{ReplacesValue};
 ghost use Rattle.ir_program.specs.declared.handles.IRNode.TheVariants.{Operation as OperationNode, BasicBlock as BlockNode};
-ghost use Rattle.opt_rewriter.specs.Points.{IsErasedPoint, IsIn, IsPlace, LeavesErased, LeavesPoint, PutsAt};
+ghost use Rattle.opt_rewriter.specs.Points.{IsErasedPoint, PointIsIn, PointIsThere, LeavesErased, LeavesPoint, PutsAt};
 ghost use Rattle.opt_rewriter.specs.declared.point.OpInsertionPoint.TheVariants as point;
 
 use crate::point::OpInsertionPoint;
@@ -30,10 +30,10 @@ fn put<O, B, T: TypeTable>(
     op: Ptr<Operation>,
     point: OpInsertionPoint,
 )
-    requires place { IsPlace ctx.old.program point }
+    requires place { PointIsThere ctx.old.program point }
     requires op { IsSome (operation_at ctx.old.program op) }
     requires unlinked { IsUnlinkedOperation ctx.old.program op }
-    requires apart { IsIn ctx.old.program (OperationNode op) point → ⊥ }
+    requires apart { PointIsIn ctx.old.program (OperationNode op) point → ⊥ }
     ensures put { PutsAt ctx.old.program ctx.new.program point op }
     ensures values { KeepsValues ctx.old.program ctx.new.program }
     ensures types { ctx.new.types ≡ ctx.old.types }
@@ -54,7 +54,7 @@ fn is_in<O, B, T: TypeTable>(
     point: OpInsertionPoint,
 ) -> bool
     requires outer { IsLiveNode ctx.now.program outer }
-    ensures { IsTrue result ↔ IsIn ctx.now.program outer point }
+    ensures { IsTrue result ↔ PointIsIn ctx.now.program outer point }
 {
     match point {
         OpInsertionPoint::Unset => false,
@@ -119,10 +119,10 @@ impl Rewriter {
         ctx: &mut TypedProgram<O, B, T>,
         op: Ptr<Operation>,
     )
-        requires place { IsPlace ctx.old.program self.old.point }
+        requires place { PointIsThere ctx.old.program self.old.point }
         requires op { IsSome (operation_at ctx.old.program op) }
         requires unlinked { IsUnlinkedOperation ctx.old.program op }
-        requires apart { IsIn ctx.old.program (OperationNode op) self.old.point → ⊥ }
+        requires apart { PointIsIn ctx.old.program (OperationNode op) self.old.point → ⊥ }
         ensures put { PutsAt ctx.old.program ctx.new.program self.old.point op }
         ensures point { self.new.point ≡ point.BeforeOperation op }
         ensures values { KeepsValues ctx.old.program ctx.new.program }
@@ -139,10 +139,10 @@ impl Rewriter {
         ctx: &mut TypedProgram<O, B, T>,
         op: Ptr<Operation>,
     )
-        requires place { IsPlace ctx.old.program self.old.point }
+        requires place { PointIsThere ctx.old.program self.old.point }
         requires op { IsSome (operation_at ctx.old.program op) }
         requires unlinked { IsUnlinkedOperation ctx.old.program op }
-        requires apart { IsIn ctx.old.program (OperationNode op) self.old.point → ⊥ }
+        requires apart { PointIsIn ctx.old.program (OperationNode op) self.old.point → ⊥ }
         ensures put { PutsAt ctx.old.program ctx.new.program self.old.point op }
         ensures point { self.new.point ≡ point.AfterOperation op }
         ensures values { KeepsValues ctx.old.program ctx.new.program }
@@ -179,8 +179,8 @@ impl Rewriter {
         to: OpInsertionPoint,
     )
         requires linked { IsLinkedOperation ctx.old.program op }
-        requires place { IsPlace ctx.old.program to }
-        requires apart { IsIn ctx.old.program (OperationNode op) to → ⊥ }
+        requires place { PointIsThere ctx.old.program to }
+        requires apart { PointIsIn ctx.old.program (OperationNode op) to → ⊥ }
         ensures moved { (middle : Program O B) × TakesOutOperation ctx.old.program middle op
             × PutsAt middle ctx.new.program to op }
         ensures point { self.new ≡ self.old }

@@ -23,11 +23,11 @@ use Rattle.opt_solvers.specs.declared.known.Known.TheVariants.{One}
 use Rattle.opt_trees.specs.Dialect.{Dialect, Lawful}
 use Rattle.opt_trees.specs.Facts.{Facts}
 use Rattle.opt_trees.specs.Occurrences.{Has, types_of}
-use Rattle.opt_trees.specs.Sccp.{IsMade}
+use Rattle.opt_trees.specs.Sccp.{AreMadeConstants}
 use Rattle.opt_sccp.specs.declared.putting.Made.{Made}
 use Rattle.opt_sccp.specs.Made.{made_of, IsPutList}
 use Rattle.opt_sccp.specs.Sccp.{IsDecided, LacksIn}
-use Rattle.opt_sccp.specs.Placed.{HasPlace}
+use Rattle.opt_sccp.specs.Placed.{DefinerIsPlaced}
 use Rattle.opt_sccp.specs.Wanted.{AreMade, LacksAt}
 use Rattle.opt_sccp.proofs.Definitions.{AreDefined, results_are, result_at, block_around, result_or_argument}
 use Rattle.opt_sccp.proofs.KnownTypes.{constants_typed}
@@ -101,7 +101,7 @@ module _ {O B A : Type 0} (d : Dialect (in_program O B) A) (c : Program O B) (op
     one_each v a h = entry_found made v a h (λ b has. let s : One b ≡ One a = sym (are.gets (entry v b) has).known ∙ (are.gets (entry v a) h).known in cc)
 
     module _ (t : ProgramTree O B) (seen : IsSeen c op t) where
-      made_in_tree : IsMade d t k (made_of made)
+      made_in_tree : AreMadeConstants d t k (made_of made)
       made_in_tree = record {
         gets = λ v a h. let has = found_entry made v a h in gets_found d c op orderly values t seen k v a (is_below v (are.among (entry v a) has)) (are.gets (entry v a) has);
         all = λ v a g.
@@ -111,10 +111,10 @@ module _ {O B A : Type 0} (d : Dialect (in_program O B) A) (c : Program O B) (op
       }
 
   -- what defines a value with a number has a place
-  pub placed : (v : Value) → Lists n.values v → HasPlace c v.definer
+  pub placed : (v : Value) → Lists n.values v → DefinerIsPlaced c v.definer
   placed v h = ⊎_elim
-      (λ r. subst (HasPlace c) (sym r.1.definer) (let around = block_around c op r.0 r.1.below in (around.0, around.1)))
-      (λ r. subst (HasPlace c) (sym r.1.definer) (is_something (block_at c r.0) r.1.view r.1.there))
+      (λ r. subst (DefinerIsPlaced c) (sym r.1.definer) (let around = block_around c op r.0 r.1.below in (around.0, around.1)))
+      (λ r. subst (DefinerIsPlaced c) (sym r.1.definer) (is_something (block_at c r.0) r.1.view r.1.there))
       (result_or_argument c op values v ((numbers.values v).0 h))
 
   -- an operation with a number is there

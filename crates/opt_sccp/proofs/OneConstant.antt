@@ -15,7 +15,7 @@ use Rattle.ir_program.specs.UseEdits.{ReplacesValue}
 use Rattle.ir_trees.specs.Stands.{in_program}
 use Rattle.opt_trees.specs.Dialect.{Dialect}
 use Rattle.opt_sccp.specs.declared.putting.Made.{Made}
-use Rattle.opt_sccp.specs.Placed.{Placed, HasPlace, CanPutAt, PutsAtDefiner, PutsOne}
+use Rattle.opt_sccp.specs.Placed.{Placed, DefinerIsPlaced, CanPutAt, PutsAtDefiner, PutsOne}
 use Rattle.opt_sccp.proofs.Definitions.{type_there}
 
 there_or_not : {X : Type 0} (o p : Option X) → IsSome o → o ≡ p → p ≡ None → ⊥
@@ -28,11 +28,11 @@ live_type c v e k at typed = let ty = type_there (values_at c e) k v at in subst
 
 module _ {O B : Type 0} (old built : Program O B) (p : Ptr Operation) (content : O) (tys : List TypeHandle) (n : ℕ) (builds : BuildsOperation old built p content tys [] [] n) where
   -- what is somewhere isn't the new operation
-  pub placed_other : (e : DefiningEntity) → HasPlace old e → e ≢ ByOp p
+  pub placed_other : (e : DefiningEntity) → DefinerIsPlaced old e → e ≢ ByOp p
   placed_other (ByOp q) place e = let same : q ≡ p = cc in there_or_not (operation_at old q) (operation_at old p) place.1.operation (ap (operation_at old) same) builds.fresh
   placed_other (ByBlock b) place e = cc
 
-  pub place_kept : (e : DefiningEntity) → HasPlace old e → HasPlace built e
+  pub place_kept : (e : DefiningEntity) → DefinerIsPlaced old e → DefinerIsPlaced built e
   place_kept (ByOp q) place =
       let other : q ≢ p = λ same. placed_other (ByOp q) place (ap ByOp same) in (
         place.0,
@@ -46,7 +46,7 @@ module _ {O B : Type 0} (old built : Program O B) (p : Ptr Operation) (content :
   place_kept (ByBlock b) place = subst IsSome (sym (builds.blocks b)) place
 
 -- putting an operation somewhere changes no operation
-pub puts_keep : {O B : Type 0} (old new : Program O B) (e : DefiningEntity) (p : Ptr Operation) → HasPlace old e → PutsAtDefiner old new e p → (q : Ptr Operation) → operation_at new q ≡ operation_at old q
+pub puts_keep : {O B : Type 0} (old new : Program O B) (e : DefiningEntity) (p : Ptr Operation) → DefinerIsPlaced old e → PutsAtDefiner old new e p → (q : Ptr Operation) → operation_at new q ≡ operation_at old q
 puts_keep old new (ByOp m) p place puts q = (puts place.0 place.1.index place.1.here).operations q
 puts_keep old new (ByBlock b) p place puts q = puts.operations q
 

@@ -16,7 +16,7 @@ use Rattle.opt_trees.specs.Dialect.{Dialect}
 use Rattle.opt_trees.specs.Sccp.{used_as}
 use Rattle.opt_inside.specs.Occurring.{IsBelowRoot, IsBlockBelow}
 use Rattle.opt_sccp.specs.Made.{made_of, IsPutList}
-use Rattle.opt_sccp.specs.Placed.{Placed, PlacedFor, placed_for, used_for, renamed, constant_if, for_results, for_arguments, puts_constants, HasPut}
+use Rattle.opt_sccp.specs.Placed.{Placed, PlacedFor, placed_for, used_for, renamed, constant_if, for_results, for_arguments, puts_constants, HasPutConstants}
 use Rattle.opt_inside.specs.Outside.{ChangesOperandsOutside}
 use Rattle.opt_sccp.specs.Puts.{PutsConstants}
 use Rattle.opt_sccp.proofs.Definitions.{AreDefined, index_name, result_at, argument_at, block_around}
@@ -49,7 +49,7 @@ is_placed : {O A : Type 0} (o : Option (Placed O A)) (a : A) → constant_in o �
 is_placed None a h = cc
 is_placed (Some x) a h = (x, refl)
 
-module _ {O B A : Type 0} (d : Dialect (in_program O B) A) (old new : Program O B) (ps : List (Placed O A)) (put : HasPut d old new ps)
+module _ {O B A : Type 0} (d : Dialect (in_program O B) A) (old new : Program O B) (ps : List (Placed O A)) (put : HasPutConstants d old new ps)
     (lists : AreOrderly old) (values : AreDefined old) (op : Ptr Operation) (list : IsPutList d old op (made_in ps)) where
   -- what isn't below the root has no constants
   no_result : (q : Ptr Operation) (u : OperationView O) → operation_at old q ≡ Some u → (IsBelowRoot old op q → ⊥) → roots (for_results d (placed_for ps) (map defined_by u.results)) ≡ []

@@ -13,10 +13,10 @@ use Rattle.ir_trees.proofs.ListEdited.{AreOrderly, all_blocks}
 use Rattle.ir_trees.proofs.Rewritten.{rewritten_tree}
 use Rattle.opt_trees.specs.Dialect.{Dialect}
 use Rattle.opt_trees.specs.Occurrences.{Has}
-use Rattle.opt_sccp.specs.Placed.{Placed, placed_for, renamed, constant_if, for_results, for_arguments, puts_constants, HasPut}
+use Rattle.opt_sccp.specs.Placed.{Placed, placed_for, renamed, constant_if, for_results, for_arguments, puts_constants, HasPutConstants}
 use Rattle.opt_sccp.proofs.PlacedLists.{placed_has}
 
-module _ {O B A : Type 0} (d : Dialect (in_program O B) A) (old new : Program O B) (ps : List (Placed O A)) (put : HasPut d old new ps) where
+module _ {O B A : Type 0} (d : Dialect (in_program O B) A) (old new : Program O B) (ps : List (Placed O A)) (put : HasPutConstants d old new ps) where
   -- what was there is none of the constants
   pub not_placed : (p : Ptr Operation) (v : OperationView O) → operation_at old p ≡ Some v → (x : Placed O A) → Has x ps → p ≢ x.op
   not_placed p v there x h e = let n : Some v ≡ None = sym there ∙ ap (operation_at old) e ∙ (put.constants x h).fresh in cc

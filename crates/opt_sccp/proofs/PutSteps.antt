@@ -23,7 +23,7 @@ use Rattle.ir_trees.proofs.ListEdited.{AreOrderly, listed_there, listed_once, el
 use Rattle.opt_trees.specs.Dialect.{Dialect}
 use Rattle.opt_trees.specs.Occurrences.{Has}
 use Rattle.opt_sccp.specs.Made.{IsPutList}
-use Rattle.opt_sccp.specs.Placed.{Placed, PlacedFor, placed_for, used_for, renamed, for_results, for_arguments, puts_constants, IsConstant, HasPut, PutsAtDefiner, PutsOne}
+use Rattle.opt_sccp.specs.Placed.{Placed, PlacedFor, placed_for, used_for, renamed, for_results, for_arguments, puts_constants, IsConstant, HasPutConstants, PutsAtDefiner, PutsOne}
 use Rattle.opt_sccp.proofs.Definitions.{AreDefined, index_name, results_are, arguments_are, name_at, block_around, IsResultBelow, IsArgumentBelow}
 use Rattle.opt_sccp.proofs.GrownLists.{same_results, same_arguments, AddsAt, results_more, arguments_more}
 use Rattle.opt_sccp.proofs.Insertions.{with_before, behind, listed_at, insert_behind, same_before, one_more}
@@ -66,7 +66,7 @@ module _ {O B A : Type 0} (d : Dialect (in_program O B) A) (old : Program O B) (
       ∙ (λ i. before_at (Some v.0) ++ (x ∷ rest i))
       ∙ ap (λ o. before_at o ++ (x ∷ with_before (λ q. before_at (operation_at old q)) xs)) (sym v.1)
 
-module _ {O B A : Type 0} (d : Dialect (in_program O B) A) (old mid new : Program O B) (ps : List (Placed O A)) (put : HasPut d old mid ps)
+module _ {O B A : Type 0} (d : Dialect (in_program O B) A) (old mid new : Program O B) (ps : List (Placed O A)) (put : HasPutConstants d old mid ps)
     (lists : AreOrderly old) (values : AreDefined old) (op : Ptr Operation) (x : Placed O A) (list : IsPutList d old op (made_in (ps ++ x ∷ []))) (step : PutsOne d mid new x) where
   abbrev more : List (Placed O A)
   more = ps ++ x ∷ []
@@ -184,7 +184,7 @@ module _ {O B A : Type 0} (d : Dialect (in_program O B) A) (old mid new : Progra
         (λ r. ⊎_elim (λ s. absurd (other_op z s (sym e ∙ ap (λ (w : Placed O A). w.op) r))) (λ s. ap (λ (w : Placed O A). w.made.value) (r ∙ sym s)) (has_last ps z x g))
         (has_last ps y x h)
 
-    grown : ((q : Ptr BasicBlock) → block_at step.put q ≡ option_map (with_listing d old (placed_for more) q) (block_at old q)) → HasPut d old new more
+    grown : ((q : Ptr BasicBlock) → block_at step.put q ≡ option_map (with_listing d old (placed_for more) q) (block_at old q)) → HasPutConstants d old new more
     grown blocks = record {
       constants = constant_more;
       apart = apart_more;
@@ -253,7 +253,7 @@ module _ {O B A : Type 0} (d : Dialect (in_program O B) A) (old mid new : Progra
         λ i. record k { operations = roots (sym none i) ++ sym rest i }))
         (same_or_not q b)
 
-    pub result_put : HasPut d old new more
+    pub result_put : HasPutConstants d old new more
     result_put = grown b _ result_edits result_blocks
 
   -- of an argument
@@ -287,11 +287,11 @@ module _ {O B A : Type 0} (d : Dialect (in_program O B) A) (old mid new : Progra
         λ i. record k { operations = roots (sym none i) ++ sym rest i }))
         (same_or_not q b)
 
-    pub argument_put : HasPut d old new more
+    pub argument_put : HasPutConstants d old new more
     argument_put = grown b _ argument_edits argument_blocks
 
   -- one more constant was put in
-  pub one_more_put : HasPut d old new (ps ++ x ∷ [])
+  pub one_more_put : HasPutConstants d old new (ps ++ x ∷ [])
   one_more_put = ⊎_elim
       (λ r. let around = block_around old op r.0 r.1.below in let l = something (block_at old around.0) around.1.block in result_put r.0 r.1 around.0 around.1 l.0 l.1)
       (λ r. argument_put r.0 r.1)

@@ -20,7 +20,7 @@ use Rattle.opt_trees.specs.Dialect.{Dialect}
 use Rattle.opt_trees.specs.Occurrences.{Has}
 use Rattle.opt_sccp.specs.declared.putting.Made.{Made}
 use Rattle.opt_sccp.specs.Made.{IsPutList, PutsList}
-use Rattle.opt_sccp.specs.Placed.{Placed, placed_for, renamed, for_arguments, HasPut, HasPlace, CanPutAt, PutsOne, LeadsAlike}
+use Rattle.opt_sccp.specs.Placed.{Placed, placed_for, renamed, for_arguments, HasPutConstants, DefinerIsPlaced, CanPutAt, PutsOne, LeadsAlike}
 use Rattle.opt_sccp.proofs.Definitions.{AreDefined, results_are, arguments_are, block_around, IsResultBelow, IsArgumentBelow, result_or_argument}
 use Rattle.opt_sccp.proofs.Insertions.{with_before, behind, get_behind, listed_at}
 use Rattle.opt_sccp.proofs.Options.{something, is_something}
@@ -35,7 +35,7 @@ pub record IsPutting {O B A : Type 0} (d : Dialect (in_program O B) A) (old now 
   pub defined : AreDefined old
   pub placed : List (Placed O A)
   pub are : made_in placed ≡ take k made
-  pub put : HasPut d old now placed
+  pub put : HasPutConstants d old now placed
 
 -- the first elements of a list
 pub get_take : {X : Type 0} (xs : List X) (n i : ℕ) (x : X) → slice_get (take n xs) i ≡ Some x → slice_get xs i ≡ Some x
@@ -71,7 +71,7 @@ module _ {O B A : Type 0} (d : Dialect (in_program O B) A) (old : Program O B) (
   pub begins : AreOrderly old → AreDefined old → (made : List (Made A)) → IsPutting d old old made 0
   begins orderly defined made = record { orderly = orderly; defined = defined; placed = []; are = refl; put = none_put }
     where
-      none_put : HasPut d old old []
+      none_put : HasPutConstants d old old []
       none_put = record {
         constants = λ x h. absurd h;
         apart = λ x y h g e. absurd h;
@@ -97,7 +97,7 @@ module _ {O B A : Type 0} (d : Dialect (in_program O B) A) (old : Program O B) (
         let in_list : operations_in now b ≡ listing d old f b l.0 = ap (λ o. unwrap_or (option_map (λ (x : BlockView B). x.operations) o) []) listed in
         let split : listing d old f b l.0 ≡ front ++ with_before (λ q. before_at d old f (operation_at old q)) l.0.operations = ap (λ zs. front ++ zs) (after_is d old f l.0.operations (listed_there old putting.orderly b l.0 l.1)) in
         let at = member_at (λ q. before_at d old f (operation_at old q)) l.0.operations p (at_has l.0.operations around.1.index p (at_index old putting.orderly b l.0 around.1.index p l.1 around.1.here)) in
-        let place : HasPlace now (ByOp p) = (
+        let place : DefinerIsPlaced now (ByOp p) = (
           b,
           record {
             operation = is_something (operation_at now p) _ there;
@@ -107,7 +107,7 @@ module _ {O B A : Type 0} (d : Dialect (in_program O B) A) (old : Program O B) (
           },
         ) in
         record {
-          place = subst (HasPlace now) (sym r.definer) place;
+          place = subst (DefinerIsPlaced now) (sym r.definer) place;
           index = r.index;
           stands = ap (λ e. value_in (values_at now e) r.index) r.definer ∙ ap (λ ts. value_in ts r.index) (results_are now p _ there) ∙ r.stands;
         }
@@ -116,7 +116,7 @@ module _ {O B A : Type 0} (d : Dialect (in_program O B) A) (old : Program O B) (
     argument_place v b r =
         let listed : block_at now b ≡ Some (with_listing d old (placed_for putting.placed) b r.view) = putting.put.blocks b ∙ ap (option_map (with_listing d old (placed_for putting.placed) b)) r.there in
         record {
-          place = subst (HasPlace now) (sym r.definer) (is_something (block_at now b) _ listed);
+          place = subst (DefinerIsPlaced now) (sym r.definer) (is_something (block_at now b) _ listed);
           index = r.index;
           stands = ap (λ e. value_in (values_at now e) r.index) r.definer ∙ ap (λ ts. value_in ts r.index) (arguments_are now b _ listed) ∙ r.stands;
         }

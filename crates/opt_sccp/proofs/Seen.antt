@@ -16,7 +16,7 @@ use Rattle.opt_trees.specs.Facts.{Facts, IsLacking}
 use Rattle.opt_trees.specs.Occurrences.{Has}
 use Rattle.opt_trees.specs.Sccp.{Gets, IsResult, IsArgument}
 use Rattle.opt_inside.specs.Occurring.{Found, EachFound, EachBlock, IsFound, IsBlockFound, IsBelowRoot, IsBlockBelow, IsDefinedBelow, IsOccurrence, IsBlockOccurrence, IsSpotOf}
-use Rattle.opt_sccp.specs.Wanted.{StandsInSsa, LacksAt, FoldsAt, IsWantedAt, GetsAt}
+use Rattle.opt_sccp.specs.Wanted.{IsInSsaRegion, LacksAt, FoldsAt, IsWantedAt, GetsAt}
 use Rattle.opt_sccp.proofs.AskedOperands.{asked_none, none_asked}
 use Rattle.opt_sccp.proofs.Definitions.{AreDefined, name_index, result_at, argument_at, IsResultBelow, IsArgumentBelow, result_or_argument}
 use Rattle.opt_sccp.proofs.Options.{something, is_something, same_some}
@@ -49,7 +49,7 @@ module _ {O B A : Type 0} (d : Dialect (in_program O B) A) (c : Program O B) (op
   content_is o i v there = i.head ∙ ap (λ w. head_of o.head.name w) (one_view o.head.name i.view v i.there there)
 
   -- the block that it is found in is in an SSA region
-  ssa_found : (o : Found O B) → IsSpotOf c op o.site.label.name o.site.spot → StandsInSsa d c o.site.label.name → d.is_ssa o.site.spot.owner.content o.site.spot.region ≡ true
+  ssa_found : (o : Found O B) → IsSpotOf c op o.site.label.name o.site.spot → IsInSsaRegion d c o.site.label.name → d.is_ssa o.site.spot.owner.content o.site.spot.region ≡ true
   ssa_found o spot s =
       let region : spot.region ≡ s.region = (orderly.blocks_once o.site.label.name spot.region s.region spot.in_region.index s.in_region.index spot.in_region.here s.in_region.here).0 in
       let here : slice_get (regions_in c s.owner) s.index ≡ Some spot.region = ap (λ rs. slice_get rs s.index) (regions_are s.owner s.view s.there) ∙ s.here ∙ ap Some (sym region) in
@@ -58,7 +58,7 @@ module _ {O B A : Type 0} (d : Dialect (in_program O B) A) (c : Program O B) (op
       let view : spot.owner_view ≡ s.view = one_view s.owner spot.owner_view s.view (ap (operation_at c) (sym same.0) ∙ spot.owner_there) s.there in
       (λ i. d.is_ssa (ap (λ (h : ProgramHead O B). h.content) spot.owner i) (same.1 i)) ∙ ap (λ (v : OperationView O). d.is_ssa v.payload s.index) view ∙ s.ssa
 
-  found_ssa : (o : Found O B) → IsSpotOf c op o.site.label.name o.site.spot → d.is_ssa o.site.spot.owner.content o.site.spot.region ≡ true → StandsInSsa d c o.site.label.name
+  found_ssa : (o : Found O B) → IsSpotOf c op o.site.label.name o.site.spot → d.is_ssa o.site.spot.owner.content o.site.spot.region ≡ true → IsInSsaRegion d c o.site.label.name
   found_ssa o spot e = record {
     region = spot.region;
     in_region = spot.in_region;
@@ -83,7 +83,7 @@ module _ {O B A : Type 0} (d : Dialect (in_program O B) A) (c : Program O B) (op
         user = o;
         stands = f.1;
         runs = ap k.runs block ∙ l.runs;
-        ssa = ssa_found o i.spot (subst (λ b. StandsInSsa d c b) (sym block) l.ssa);
+        ssa = ssa_found o i.spot (subst (λ b. IsInSsaRegion d c b) (sym block) l.ssa);
         asks = subst (λ (h : ProgramHead O B). (d.is_foldable h.content ≡ true) ⊎ (d.is_branch h.content ≡ true)) (sym head) l.asks;
         lacks = ap (λ (h : ProgramHead O B). asked (map k.of h.operands)) head ∙ asked_none k l.view.operands l.lacks;
       }

@@ -22,7 +22,7 @@ use Rattle.opt_solvers.specs.declared.known.Known.TheVariants.{Any, Undetermined
 use Rattle.opt_trees.specs.Dialect.{Dialect}
 use Rattle.opt_trees.specs.Facts.{Facts}
 use Rattle.opt_sccp.proofs.Options.{something, is_something, same_some}
-use Rattle.opt_sccp.specs.Wanted.{is_determined, StandsInSsa, HasUndetermined, LacksAt, FoldsAt}
+use Rattle.opt_sccp.specs.Wanted.{is_determined, IsInSsaRegion, HasUndetermined, LacksAt, FoldsAt}
 
 -- what stands in a list of which all pass a test passes it
 passes : {X : Type 0} (p : X → Bool) (xs : List X) (i : ℕ) (x : X) → list_all p xs ≡ true → slice_get xs i ≡ Some x → p x ≡ true
@@ -49,7 +49,7 @@ module _ {O B A : Type 0} (d : Dialect (in_program O B) A) (c : Program O B) whe
       → StandsInRegion c b region → ((r : Ptr Region) → StandsInRegion c b r → Some region ≡ Some r)
       → StandsInOperation c region owner → ((p : Ptr Operation) → StandsInOperation c region p → owner ≡ p)
       → payload_at c owner ≡ Some payload → ((p : Ptr Operation) (k : ℕ) → slice_get (regions_in c p) k ≡ Some region → index ≡ k)
-      → result ≡ d.is_ssa payload index → IsTrue result ↔ StandsInSsa d c b
+      → result ≡ d.is_ssa payload index → IsTrue result ↔ IsInSsaRegion d c b
   ssa_is b region owner payload index result in_region only stands owner_only held index_is is = (
     λ yes.
         let v = something (operation_at c owner) stands.operation in
@@ -72,7 +72,7 @@ module _ {O B A : Type 0} (d : Dialect (in_program O B) A) (c : Program O B) whe
         is ∙ (λ i. d.is_ssa (sym p i) (index_is s.owner s.index here i)) ∙ s.ssa,
   )
 
-  pub not_in_ssa : (b : Ptr BasicBlock) → IsUnlinkedBlock c b → IsTrue false ↔ StandsInSsa d c b
+  pub not_in_ssa : (b : Ptr BasicBlock) → IsUnlinkedBlock c b → IsTrue false ↔ IsInSsaRegion d c b
   not_in_ssa b unlinked = (λ no. let e : false ≡ true = no in cc, λ s. absurd (unlinked s.region s.in_region))
 
   module _ (k : Facts by_handle A) (p : Ptr Operation) (b : Ptr BasicBlock) (payload : O) (stands : StandsInBlock c p b) (only : (q : Ptr BasicBlock) → StandsInBlock c p q → Some b ≡ Some q) (held : payload_at c p ≡ Some payload) where
@@ -80,7 +80,7 @@ module _ {O B A : Type 0} (d : Dialect (in_program O B) A) (c : Program O B) whe
     block_is q s = same_some b q (only q s)
 
     -- what it takes to lack an operand
-    pub lacks : k.runs b ≡ true → StandsInSsa d c b → ((d.is_foldable payload ≡ true) ⊎ (d.is_branch payload ≡ true)) → HasUndetermined k (operands_at c p) → LacksAt d c k p
+    pub lacks : k.runs b ≡ true → IsInSsaRegion d c b → ((d.is_foldable payload ≡ true) ⊎ (d.is_branch payload ≡ true)) → HasUndetermined k (operands_at c p) → LacksAt d c k p
     lacks runs ssa asks und =
         let v = something (operation_at c p) stands.operation in
         let e = payload_is c p v.0 payload v.1 held in
@@ -98,8 +98,8 @@ module _ {O B A : Type 0} (d : Dialect (in_program O B) A) (c : Program O B) whe
     pub lacks_runs : LacksAt d c k p → k.runs b ≡ true
     lacks_runs l = ap k.runs (block_is l.block l.in_block) ∙ l.runs
 
-    pub lacks_ssa : LacksAt d c k p → StandsInSsa d c b
-    lacks_ssa l = subst (λ q. StandsInSsa d c q) (sym (block_is l.block l.in_block)) l.ssa
+    pub lacks_ssa : LacksAt d c k p → IsInSsaRegion d c b
+    lacks_ssa l = subst (λ q. IsInSsaRegion d c q) (sym (block_is l.block l.in_block)) l.ssa
 
     pub lacks_asks : LacksAt d c k p → (d.is_foldable payload ≡ true) ⊎ (d.is_branch payload ≡ true)
     lacks_asks l = subst (λ o. (d.is_foldable o ≡ true) ⊎ (d.is_branch o ≡ true)) (payload_is c p l.view payload l.there held) l.asks

@@ -103,7 +103,7 @@ pub record IsConstant {O B A : Type 0} (d : Dialect (in_program O B) A) (old new
   pub own : x.result.definer ≡ ByOp x.op
 
 -- these constants were put in one after the other, and nothing else has changed
-pub record HasPut {O B A : Type 0} (d : Dialect (in_program O B) A) (old new : Program O B) (ps : List (Placed O A)) : Type 0 where
+pub record HasPutConstants {O B A : Type 0} (d : Dialect (in_program O B) A) (old new : Program O B) (ps : List (Placed O A)) : Type 0 where
   pub constants : (x : Placed O A) → Has x ps → IsConstant d old new x
   -- each its own operation
   pub apart : (x y : Placed O A) → Has x ps → Has y ps → x.op ≡ y.op → x.made.value ≡ y.made.value
@@ -137,13 +137,13 @@ abbrev pub PutsMade : {O B A : Type 0} → Dialect (in_program O B) A → Progra
 PutsMade {O} {B} {A} d old new made = (x : Placed O A) × (x.made ≡ made) × PutsOne d old new x
 
 -- the operation is in a block, or the block is there
-abbrev pub HasPlace : {O B : Type 0} → Program O B → DefiningEntity → Type 0
-HasPlace c (ByOp p) = IsLinkedOperation c p
-HasPlace c (ByBlock b) = IsSome (block_at c b)
+abbrev pub DefinerIsPlaced : {O B : Type 0} → Program O B → DefiningEntity → Type 0
+DefinerIsPlaced c (ByOp p) = IsLinkedOperation c p
+DefinerIsPlaced c (ByBlock b) = IsSome (block_at c b)
 
 -- the value stands at its definer, where a constant can be put
 pub record CanPutAt {O B : Type 0} (c : Program O B) (v : Value) : Type 0 where
-  pub place : HasPlace c v.definer
+  pub place : DefinerIsPlaced c v.definer
   pub index : ℕ
   pub stands : value_in (values_at c v.definer) index ≡ Some v
 

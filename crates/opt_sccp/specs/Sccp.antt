@@ -13,7 +13,7 @@ use Rattle.opt_inside.specs.Occurring.{IsDefinedBelow, OfItsTree}
 use Rattle.opt_trees.specs.Dialect.{Dialect}
 use Rattle.opt_trees.specs.Facts.{Facts, IsMostPrecise, IsLacking}
 use Rattle.opt_trees.specs.Occurrences.{Has}
-use Rattle.opt_trees.specs.Sccp.{Gets, IsMade}
+use Rattle.opt_trees.specs.Sccp.{Gets, AreMadeConstants}
 use Rattle.opt_sccp.specs.declared.putting.Made.{Made}
 use Rattle.opt_sccp.specs.Made.{made_of, IsPutList, IsShortage}
 use Rattle.opt_sccp.specs.Puts.{PutsConstants}
@@ -23,7 +23,7 @@ pub record IsDecidedIn {O B A : Type 0} (d : Dialect (in_program O B) A) (made :
   pub facts : Facts by_handle A
   pub best : IsMostPrecise d t facts
   pub complete : IsLacking d t facts → ⊥
-  pub is_made : IsMade d t facts made
+  pub is_made : AreMadeConstants d t facts made
 
 -- by its most precise facts an operand lacks in the tree
 pub record LacksIn {O B A : Type 0} (d : Dialect (in_program O B) A) (t : ProgramTree O B) : Type 0 where
@@ -60,8 +60,8 @@ pub record PropagatesPart {O B A : Type 0} (d : Dialect (in_program O B) A) (old
   pub puts : PutsConstants d old new op made t
 
 -- something can't grow, or an operand lacks
-abbrev pub IsRefusal : OptError → Type 0
-IsRefusal e = IsShortage e ⊎ (e ≡ UndeterminedOperand)
+abbrev pub IsSccpRefusal : OptError → Type 0
+IsSccpRefusal e = IsShortage e ⊎ (e ≡ UndeterminedOperand)
 
 -- so in the tree of the root
 abbrev pub IsPropagated : {O B A : Type 0} → Dialect (in_program O B) A

@@ -41,7 +41,7 @@ pub record HasUndetermined {A : Type 0} (k : Facts by_handle A) (operands : List
 
 module _ {O B A : Type 0} (d : Dialect (in_program O B) A) (c : Program O B) where
   -- the block is in a region in which what comes first runs first
-  pub record StandsInSsa (b : Ptr BasicBlock) : Type 0 where
+  pub record IsInSsaRegion (b : Ptr BasicBlock) : Type 0 where
     pub region : Ptr Region
     pub in_region : StandsInRegion c b region
     pub owner : Ptr Operation
@@ -59,7 +59,7 @@ module _ {O B A : Type 0} (d : Dialect (in_program O B) A) (c : Program O B) whe
       pub block : Ptr BasicBlock
       pub in_block : StandsInBlock c p block
       pub runs : k.runs block ≡ true
-      pub ssa : StandsInSsa block
+      pub ssa : IsInSsaRegion block
       pub asks : (d.is_foldable view.payload ≡ true) ⊎ (d.is_branch view.payload ≡ true)
       pub lacks : HasUndetermined k view.operands
 

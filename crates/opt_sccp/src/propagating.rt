@@ -9,7 +9,7 @@ ghost use Rattle.opt_dialect.specs.declared.status.OptError.TheVariants.{Counter
 ghost use Rattle.opt_facts.specs.ByNumber.{LeadsBelow};
 ghost use Rattle.opt_inside.specs.Occurring.{OfItsTree};
 ghost use Rattle.opt_sccp.specs.Made.{AreTyped, PutsList};
-ghost use Rattle.opt_sccp.specs.Sccp.{IsDecided, IsPartlyPropagated, IsPropagated, IsRefusal, LacksIn, MovesCounterTo};
+ghost use Rattle.opt_sccp.specs.Sccp.{IsDecided, IsPartlyPropagated, IsPropagated, IsSccpRefusal, LacksIn, MovesCounterTo};
 
 use crate::wanted::{is_lacking, made_constants};
 use crate::{Made, put_constants};
@@ -37,7 +37,7 @@ fn decide<D: OptDialect>(
     ensures known { IfOk result (λ made. (count : ℕ) → HasKnownTypes count program.now
         → AreTyped D.meaning count made.items) }
     ensures lacking { result ≡ Err UndeterminedOperand → OfItsTree program.now op (LacksIn D.meaning) }
-    ensures refused { IfErr result IsRefusal }
+    ensures refused { IfErr result IsSccpRefusal }
     ensures counted { result ≢ Err CounterFull }
 {
     program.know_lists();
@@ -83,7 +83,7 @@ pub fn sccp<D: OptDialect, T: TypeTable>(
     ensures unchanged { result ≡ Ok Unchanged → ctx.new ≡ ctx.old }
     ensures part { OnErr result (IsPartlyPropagated D.meaning ctx.old.program ctx.new.program op) }
     ensures lacking { result ≡ Err UndeterminedOperand → OfItsTree ctx.old.program op (LacksIn D.meaning) }
-    ensures refused { IfErr result IsRefusal }
+    ensures refused { IfErr result IsSccpRefusal }
     ensures numbers { OnOk result (MovesCounterTo D.meaning ctx.old.program op ctx.new.program.counter) }
     ensures full { result ≡ Err CounterFull → (n : ℕ) × MovesCounterTo D.meaning ctx.old.program op n × (2 ^ 64 ≤ n) }
     ensures refused_same { result ≡ Err UndeterminedOperand → ctx.new ≡ ctx.old }

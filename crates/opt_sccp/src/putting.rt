@@ -8,7 +8,7 @@ ghost use Rattle.ir_program.specs.declared.handles.DefiningEntity.TheVariants.{O
 ghost use Rattle.ir_context.specs.Known.{IsKnownIn};
 ghost use Rattle.opt_dialect.specs.declared.status.OptError.TheVariants.{CounterFull};
 ghost use Rattle.opt_sccp.specs.Made.{AreTyped, IsPutList, IsShortage, PutsList};
-ghost use Rattle.opt_sccp.specs.Placed.{CanPutAt, HasPlace, LeadsAlike, PutsAtDefiner, PutsMade};
+ghost use Rattle.opt_sccp.specs.Placed.{CanPutAt, DefinerIsPlaced, LeadsAlike, PutsAtDefiner, PutsMade};
 
 use ir_context::{OperationLists, ResultCalls, TypeTable, TypedProgram, UseCalls};
 use ir_program::{DefiningEntity, Operation, Ptr, Value};
@@ -95,7 +95,7 @@ fn put_at_definer<O, B, T: TypeTable>(
     op: Ptr<Operation>,
     definer: DefiningEntity,
 )
-    requires place { HasPlace ctx.old.program definer }
+    requires place { DefinerIsPlaced ctx.old.program definer }
     requires live { IsSome (operation_at ctx.old.program op) }
     requires unlinked { IsUnlinkedOperation ctx.old.program op }
     requires bare { regions_in ctx.old.program op ≡ [] }

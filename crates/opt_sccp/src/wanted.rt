@@ -8,8 +8,8 @@ ghost use Rattle.ir_program.specs.declared.handles.Operation.{Operation};
 ghost use Rattle.ir_program.specs.declared.handles.Ptr.{Ptr};
 ghost use Rattle.ir_program.specs.declared.handles.Value.{Value};
 ghost use Rattle.ir_trees.specs.Searched.{Lists};
-ghost use Rattle.opt_sccp.specs.Placed.{HasPlace};
-ghost use Rattle.opt_sccp.specs.Wanted.{is_determined, AreMade, FoldsAt, HasUndetermined, IsConstantFor, IsWantedAt, LacksAt, OfFacts, SomeLacks, StandsInSsa};
+ghost use Rattle.opt_sccp.specs.Placed.{DefinerIsPlaced};
+ghost use Rattle.opt_sccp.specs.Wanted.{is_determined, AreMade, FoldsAt, HasUndetermined, IsConstantFor, IsWantedAt, LacksAt, OfFacts, SomeLacks, IsInSsaRegion};
 
 use crate::Made;
 use ir_program::{BasicBlock, DefiningEntity, Operation, Program, Ptr, Value};
@@ -55,7 +55,7 @@ fn is_in_ssa<D: OptDialect>(
     block: Ptr<BasicBlock>,
 ) -> bool
     requires { IsSome (block_at program.now block) }
-    ensures { IsTrue result ↔ StandsInSsa D.meaning program.now block }
+    ensures { IsTrue result ↔ IsInSsaRegion D.meaning program.now block }
 {
     match program.parent_region(block) {
         Some(region) => {
@@ -185,7 +185,7 @@ fn is_wanted<D: OptDialect>(
     facts: &KnownFacts<D::Constant>,
     definer: DefiningEntity,
 ) -> bool
-    requires { HasPlace program.now definer }
+    requires { DefinerIsPlaced program.now definer }
     ensures { OfFacts inside.now facts.now (λ k. IsTrue result ↔ IsWantedAt D.meaning program.now k definer) }
 {
     match definer {
@@ -206,7 +206,7 @@ fn constant_for<D: OptDialect>(
     value: Value,
     fact: Known<D::Constant>,
 ) -> Result<Option<D::Constant>, AllocError>
-    requires { HasPlace program.now value.definer }
+    requires { DefinerIsPlaced program.now value.definer }
     ensures { IfOk result (λ constant. OfFacts inside.now facts.now
         (λ k. fact ≡ k.of value → IsConstantFor D.meaning program.now k value constant)) }
 {
@@ -233,7 +233,7 @@ pub(crate) fn made_constants<D: OptDialect>(
     inside: &Inside,
     facts: &KnownFacts<D::Constant>,
 ) -> Result<Vec<Made<D::Constant>>, AllocError>
-    requires { (v : Value) → Lists inside.now.values.keys v → HasPlace program.now v.definer }
+    requires { (v : Value) → Lists inside.now.values.keys v → DefinerIsPlaced program.now v.definer }
     ensures { IfOk result (λ made. OfFacts inside.now facts.now
         (λ k. AreMade D.meaning program.now k inside.now.values.keys made.items)) }
 {

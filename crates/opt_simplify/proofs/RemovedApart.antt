@@ -14,7 +14,7 @@ use Rattle.ir_trees.specs.Searched.{Lists}
 use Rattle.ir_trees.specs.Stands.{by_handle, in_program, ProgramTree}
 use Rattle.opt_trees.specs.Dialect.{Dialect}
 use Rattle.opt_trees.specs.Occurrences.{Has, Spot, occurrences_of, block_occurrences_of}
-use Rattle.opt_trees.specs.Simplify.{Place, BeginsAt, IsReached, further, IsVisited, of_place, of_inner, IsVisitedSsa, IsUnreached}
+use Rattle.opt_trees.specs.Simplify.{StartingRegions, BeginsAt, IsReached, further, IsVisited, of_place, of_inner, IsVisitedSsa, IsUnreached}
 use Rattle.opt_inside.specs.Numbered.{Numbers, NumbersInside}
 use Rattle.opt_inside.specs.Occurring.{Found, FoundBlock, AreBeside, IsBlockBelow}
 use Rattle.opt_inside.proofs.Around.{HasLists, inside_both, around_block}
@@ -23,13 +23,13 @@ use Rattle.opt_reach.specs.Fates.{IsEnteredThere}
 use Rattle.opt_reach.specs.Starts.{IsStartIn}
 use Rattle.opt_reach.specs.declared.starts.Start.{Start}
 use Rattle.opt_simplify.proofs.RemovedStarts.{around_owner, block_below_start, starts_apart}
-use Rattle.opt_simplify.specs.Removed.{IsWithin, ArePickedApart, NamesWithin, TakesWithin}
+use Rattle.opt_simplify.specs.Removed.{IsWithinPickedBlocks, ArePickedApart, NamesWithin, TakesWithin}
 use Rattle.opt_reach.proofs.Members.{lists_has}
 use Rattle.opt_reach.proofs.Occurs.{Occurs, not_the_root}
 use Rattle.opt_reach.proofs.Judged.{spot_entered, not_both}
 use Rattle.opt_reach.proofs.Under.{under_into, entering_below, spot_under}
 
-module _ {O B A : Type 0} (d : Dialect (in_program O B) A) (place : Place by_handle) (c : Program O B) (lists : HasLists c) (op : Ptr Operation) (n : Numbers) (numbered : NumbersInside c op n) (t : ProgramTree O B) (occurs : Occurs c op t) where
+module _ {O B A : Type 0} (d : Dialect (in_program O B) A) (place : StartingRegions by_handle) (c : Program O B) (lists : HasLists c) (op : Ptr Operation) (n : Numbers) (numbered : NumbersInside c op n) (t : ProgramTree O B) (occurs : Occurs c op t) where
   -- each block around a visited region is entered, or is around an operation where looking begins
   around_entered : (q : Ptr Operation) (i : ℕ) → IsVisited d place t q i → (x : FoundBlock O B) → Has x (block_occurrences_of t) → x.spot.owner.name ≡ q → x.spot.region ≡ i → (a : Ptr BasicBlock) → Has a x.spot.within
       → ((y : FoundBlock O B) × Has y (block_occurrences_of t) × (y.label.name ≡ a) × IsEnteredThere d place t y) ⊎ ((b : Ptr Operation) × (k : ℕ) × BeginsAt place b k × StandsInside c (BlockNode a) (OperationNode b))
@@ -105,7 +105,7 @@ module _ {O B A : Type 0} (d : Dialect (in_program O B) A) (place : Place by_han
           }) in
           let f : true ≡ false = sym goes ∙ stays in cc
 
-      pub edges_within : (p : Ptr Operation) (k : ℕ) (s : Ptr BasicBlock) → slice_get (successors_at c p) k ≡ Some s → IsWithin c picks (BlockNode s) → IsWithin c picks (OperationNode p)
+      pub edges_within : (p : Ptr Operation) (k : ℕ) (s : Ptr BasicBlock) → slice_get (successors_at c p) k ≡ Some s → IsWithinPickedBlocks c picks (BlockNode s) → IsWithinPickedBlocks c picks (OperationNode p)
       edges_within p k s h w =
           let s_below : IsBlockBelow c op s = inside_both c (OperationNode op) (BlockNode w.0) (BlockNode s) (picked_below w.0 w.1) w.2 in
           let s_under = under_into c start (BlockNode w.0) (BlockNode s) (picked_under w.0 w.1) w.2 in
@@ -113,14 +113,14 @@ module _ {O B A : Type 0} (d : Dialect (in_program O B) A) (place : Place by_han
           let is = occurs.sound o.0 o.1 in
           let row : slice_get (successors_at c o.0.head.name) k ≡ Some s = ap (λ q. slice_get (successors_at c q) k) o.2 ∙ h in
           let in_r : StandsInRegion c s is.spot.region = edges.leaving o.0.head.name s o.0.site.label.name is.spot.region (edges.entering o.0.head.name s (k, row) s_under) (k, row) is.in_block is.spot.in_region in
-          subst (λ q. IsWithin c picks (OperationNode q)) o.2 (⊎_elim
+          subst (λ q. IsWithinPickedBlocks c picks (OperationNode q)) o.2 (⊎_elim
           (λ (e : BlockNode w.0 ≡ BlockNode s).
           let same : w.0 ≡ s = cc in
           by_test o.0 o.1 s (subst (λ x. picks x ≡ true) same w.1) (k, row) (picks o.0.site.label.name) refl)
           (λ i. (w.0, w.1, in_block o.0.head.name o.0.site.label.name is.in_block (in_region o.0.site.label.name is.spot.region is.spot.in_region i)))
           (around_block c lists (BlockNode w.0) s is.spot.region in_r w.2))
         where
-          by_test : (o : Found O B) (has : Has o (occurrences_of t)) (b : Ptr BasicBlock) → picks b ≡ true → Lists (successors_at c o.head.name) b → (g : Bool) → picks o.site.label.name ≡ g → IsWithin c picks (OperationNode o.head.name)
+          by_test : (o : Found O B) (has : Has o (occurrences_of t)) (b : Ptr BasicBlock) → picks b ≡ true → Lists (successors_at c o.head.name) b → (g : Bool) → picks o.site.label.name ≡ g → IsWithinPickedBlocks c picks (OperationNode o.head.name)
           by_test o has b pb l true e = (o.site.label.name, e, in_block o.head.name o.site.label.name (occurs.sound o has).in_block itself)
           by_test o has b pb l false e = absurd (edge_from o has b pb l e)
 

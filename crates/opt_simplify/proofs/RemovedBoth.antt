@@ -11,10 +11,10 @@ use Rattle.ir_program.specs.declared.handles.IRNode.TheVariants.{Operation as Op
 use Rattle.ir_program.specs.declared.handles.Ptr.{Ptr}
 use Rattle.ir_program.specs.declared.handles.BasicBlock.{BasicBlock}
 use Rattle.ir_program.specs.declared.handles.Value.{Value}
-use Rattle.opt_simplify.specs.Removed.{without, IsWithin, ArePickedApart, DropsPicked, ErasesPicked, NamesNone, NamesWithin}
+use Rattle.opt_simplify.specs.Removed.{without, IsWithinPickedBlocks, ArePickedApart, DropsPickedBlocks, ErasesPickedBlocks, NamesNoneOfBlocks, NamesWithin}
 use Rattle.opt_simplify.proofs.RemovedDropped.{KeepsPlaces, drops_kept, kept_back, inside_kept, within_kept}
 
-module _ {O B : Type 0} (old mid : Program O B) (picks : Ptr BasicBlock → Bool) (drops : DropsPicked old mid picks) where
+module _ {O B : Type 0} (old mid : Program O B) (picks : Ptr BasicBlock → Bool) (drops : DropsPickedBlocks old mid picks) where
   kept : KeepsPlaces old mid
   kept = drops_kept old mid picks drops
 
@@ -23,7 +23,7 @@ module _ {O B : Type 0} (old mid : Program O B) (picks : Ptr BasicBlock → Bool
   live_kept (BlockNode b) live = kept.block b ∙ live
   live_kept (RegionNode r) live = kept.region r ∙ live
 
-  was_within : (e : IRNode) → IsWithin mid picks e → IsWithin old picks e
+  was_within : (e : IRNode) → IsWithinPickedBlocks mid picks e → IsWithinPickedBlocks old picks e
   was_within e h = within_kept mid old (kept_back old mid kept) picks e h
 
   pub still_apart : ArePickedApart old picks → ArePickedApart mid picks
@@ -37,7 +37,7 @@ module _ {O B : Type 0} (old mid : Program O B) (picks : Ptr BasicBlock → Bool
   no_successor None k b h = none-some b h
   no_successor (Some x) k b h = none-some b h
 
-  pub none_named : NamesWithin old picks → NamesNone mid picks
+  pub none_named : NamesWithin old picks → NamesNoneOfBlocks mid picks
   none_named named = record {
     values = λ p k v h w. ⊎_elim
         (λ (e : operation_at mid p ≡ operation_at old p).
@@ -53,7 +53,7 @@ module _ {O B : Type 0} (old mid : Program O B) (picks : Ptr BasicBlock → Bool
         (drops.either p);
   }
 
-  pub both_erase : ((b : Ptr BasicBlock) → picks b ≡ true → IsLiveNode old (BlockNode b)) → (new : Program O B) → ErasesPicked mid new picks → ErasesPicked old new picks
+  pub both_erase : ((b : Ptr BasicBlock) → picks b ≡ true → IsLiveNode old (BlockNode b)) → (new : Program O B) → ErasesPickedBlocks mid new picks → ErasesPickedBlocks old new picks
   both_erase there new erases = record {
     there = there;
     decided = λ e live. erases.decided e (live_kept e live);

@@ -10,7 +10,7 @@ use Rattle.ir_program.specs.declared.handles.Operation.{Operation}
 use Rattle.ir_program.specs.declared.handles.Region.{Region}
 use Rattle.ir_program.specs.declared.handles.BasicBlock.{BasicBlock}
 use Rattle.ir_trees.proofs.Members.{at_has}
-use Rattle.opt_simplify.specs.Removed.{is_listed, IsWithin, DropsPicked, DecidesInside}
+use Rattle.opt_simplify.specs.Removed.{is_listed, IsWithinPickedBlocks, DropsPickedBlocks, DecidesInsideBlock}
 use Rattle.opt_simplify.proofs.RemovedAmong.{and_also, also_it, also_picked, it_or_picked, among_more, has_among}
 
 -- all that was there is there, and stands where it stood
@@ -68,10 +68,10 @@ module _ {O B : Type 0} where
       (record { region = k.region r ∙ s.region; operation = k.operation p ∙ s.operation; index = s.index; here = ap (λ ps. slice_get ps s.index) (k.regions p) ∙ s.here })
       (inside_kept old new k x (OperationNode p) i)
 
-  pub within_kept : (old new : Program O B) → KeepsPlaces old new → (picks : Ptr BasicBlock → Bool) (e : IRNode) → IsWithin old picks e → IsWithin new picks e
+  pub within_kept : (old new : Program O B) → KeepsPlaces old new → (picks : Ptr BasicBlock → Bool) (e : IRNode) → IsWithinPickedBlocks old picks e → IsWithinPickedBlocks new picks e
   within_kept old new k picks e h = (h.0, h.1, inside_kept old new k (BlockNode h.0) e h.2)
 
-  pub drops_kept : (old new : Program O B) (picks : Ptr BasicBlock → Bool) → DropsPicked old new picks → KeepsPlaces old new
+  pub drops_kept : (old new : Program O B) (picks : Ptr BasicBlock → Bool) → DropsPickedBlocks old new picks → KeepsPlaces old new
   drops_kept old new picks drops = record {
     operation = λ p. ⊎_elim (λ e. ap is_some e) (λ e. ap is_some e ∙ bare_there (operation_at old p)) (drops.either p);
     block = λ b. ap is_some (drops.blocks b);
@@ -84,7 +84,7 @@ module _ {O B : Type 0} where
         (drops.either p);
   }
 
-  pub none_dropped : (c : Program O B) → DropsPicked c c (λ p. false)
+  pub none_dropped : (c : Program O B) → DropsPickedBlocks c c (λ p. false)
   none_dropped c = record {
     within = λ p h. let f : false ≡ true = h.1 in cc;
     outside = λ p out. refl;
@@ -94,7 +94,7 @@ module _ {O B : Type 0} where
   }
 
   -- one operation more
-  module _ (old mid new : Program O B) (picks : Ptr BasicBlock → Bool) (a : Ptr BasicBlock) (done : DropsPicked old mid picks) (decides : DecidesInside mid a) (drops : DropsUses mid new (BlockNode a)) where
+  module _ (old mid new : Program O B) (picks : Ptr BasicBlock → Bool) (a : Ptr BasicBlock) (done : DropsPickedBlocks old mid picks) (decides : DecidesInsideBlock mid a) (drops : DropsUses mid new (BlockNode a)) where
     kept : KeepsPlaces old mid
     kept = drops_kept old mid picks done
 
@@ -108,7 +108,7 @@ module _ {O B : Type 0} where
     bare_now : (p : Ptr Operation) → operation_at new p ≡ option_map without_uses (operation_at mid p) → operation_at new p ≡ option_map without_uses (operation_at old p)
     bare_now p s = ⊎_elim (λ e. s ∙ ap (option_map without_uses) e) (λ e. bare p e) (done.either p)
 
-    pub one_dropped : DropsPicked old new (and_also a picks)
+    pub one_dropped : DropsPickedBlocks old new (and_also a picks)
     one_dropped = record {
       within = λ p h. ⊎_elim
           (λ (e : h.0 ≡ a). bare_now p (drops.inside p (inside_kept old mid kept (BlockNode a) (OperationNode p) (subst (λ q. StandsInside old (BlockNode q) (OperationNode p)) e h.2))))
@@ -126,9 +126,9 @@ module _ {O B : Type 0} where
     }
 
   -- one turn of the loop over the list of those whose uses are taken away
-  module _ (old mid : Program O B) (bs : List (Ptr BasicBlock)) (i : ℕ) (a : Ptr BasicBlock) (here : slice_get bs i ≡ Some a) (done : DropsPicked old mid (is_listed (take i bs))) where
+  module _ (old mid : Program O B) (bs : List (Ptr BasicBlock)) (i : ℕ) (a : Ptr BasicBlock) (here : slice_get bs i ≡ Some a) (done : DropsPickedBlocks old mid (is_listed (take i bs))) where
     pub live_now : ((b : Ptr BasicBlock) → is_listed bs b ≡ true → IsLiveNode old (BlockNode b)) → IsSome (block_at mid a)
     live_now there = (drops_kept old mid (is_listed (take i bs)) done).block a ∙ there a (has_among bs a (at_has bs i a here))
 
-    pub dropped_next : (new : Program O B) → DecidesInside mid a → DropsUses mid new (BlockNode a) → DropsPicked old new (is_listed (take (i + 1) bs))
-    dropped_next new decides drops = subst (DropsPicked old new) (among_more bs i a here) (one_dropped old mid new (is_listed (take i bs)) a done decides drops)
+    pub dropped_next : (new : Program O B) → DecidesInsideBlock mid a → DropsUses mid new (BlockNode a) → DropsPickedBlocks old new (is_listed (take (i + 1) bs))
+    dropped_next new decides drops = subst (DropsPickedBlocks old new) (among_more bs i a here) (one_dropped old mid new (is_listed (take i bs)) a done decides drops)

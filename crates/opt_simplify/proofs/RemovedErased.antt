@@ -20,7 +20,7 @@ use Rattle.ir_trees.proofs.HandleTests.{block_yes, block_no}
 use Rattle.ir_trees.specs.Searched.{AreDistinct}
 use Rattle.ir_trees.proofs.Members.{Has, Once, at_has, has_at, once_of}
 use Rattle.opt_inside.proofs.Around.{HasLists}
-use Rattle.opt_simplify.specs.Removed.{is_listed, without, IsWithin, ArePickedApart, ErasesPicked, DecidesInside, DecidesWithin, NamesNone}
+use Rattle.opt_simplify.specs.Removed.{is_listed, without, IsWithinPickedBlocks, ArePickedApart, ErasesPickedBlocks, DecidesInsideBlock, DecidesWithin, NamesNoneOfBlocks}
 use Rattle.opt_simplify.proofs.RemovedAmong.{and_also, also_it, also_picked, it_or_picked, among_more, among_has, has_among, has_taken}
 use Rattle.opt_simplify.proofs.RemovedPicking.{not_true, without_none}
 
@@ -68,7 +68,7 @@ node_found e (x ∷ es) = ⊎_elim
     (node_or_not e x)
 
 -- what is among the entities inside an operation is inside it
-pub decided_by : {O B : Type 0} (c : Program O B) (op : Ptr BasicBlock) (es : List IRNode) → AreInside c (BlockNode op) es → DecidesInside c op
+pub decided_by : {O B : Type 0} (c : Program O B) (op : Ptr BasicBlock) (es : List IRNode) → AreInside c (BlockNode op) es → DecidesInsideBlock c op
 decided_by c op es members e = ⊎_elim
     (λ (k : (k : ℕ) × (slice_get es k ≡ Some e)). inl (members.inside k.0 e k.1))
     (λ none. inr (λ i. let k = members.all e i in none (at_has es k.0 e k.1)))
@@ -129,9 +129,9 @@ module _ {O B : Type 0} where
   gone_still old new erased (BlockNode b) g = let s = erased.blocks b.key g.1 in (ap (option_map (block_of new b)) s.gone, s)
   gone_still old new erased (RegionNode r) g = let s = erased.regions r.key g.1 in (ap (option_map (λ u. region_of new r)) s.gone, s)
 
-  module _ (old mid : Program O B) (lists : HasLists old) (picks : Ptr BasicBlock → Bool) (done : ErasesPicked old mid picks) where
+  module _ (old mid : Program O B) (lists : HasLists old) (picks : Ptr BasicBlock → Bool) (done : ErasesPickedBlocks old mid picks) where
     -- what is inside something picked was there
-    was_live : (e : IRNode) → IsWithin old picks e → IsLiveNode old e
+    was_live : (e : IRNode) → IsWithinPickedBlocks old picks e → IsLiveNode old e
     was_live e h = live_inside e h.2 where
       live_inside : (f : IRNode) → StandsInside old (BlockNode h.0) f → IsLiveNode old f
       live_inside _ itself = done.there h.0 h.1
@@ -140,10 +140,10 @@ module _ {O B : Type 0} where
       live_inside _ (in_operation r p s i) = s.region
 
     -- what is there isn't inside something picked, and was there
-    pub live_outside : (e : IRNode) → IsLiveNode mid e → IsWithin old picks e → ⊥
+    pub live_outside : (e : IRNode) → IsLiveNode mid e → IsWithinPickedBlocks old picks e → ⊥
     live_outside e live h = no_longer mid e (done.gone e (was_live e h) h) live
 
-    pub still_live : (e : IRNode) → (IsWithin old picks e → ⊥) → IsLiveNode old e → IsLiveNode mid e
+    pub still_live : (e : IRNode) → (IsWithinPickedBlocks old picks e → ⊥) → IsLiveNode old e → IsLiveNode mid e
     still_live (OperationNode p) out live = subst IsSome (sym (done.operations p out)) live
     still_live (BlockNode b) out live = subst IsSome (sym (done.blocks b out)) live
     still_live (RegionNode r) out live = subst IsSome (sym (done.regions r out)) (mapped (region_at old r) live) where
@@ -152,16 +152,16 @@ module _ {O B : Type 0} where
       mapped (Some v) h = h
 
     -- what the lists of what is left were
-    pub blocks_were : (r : Ptr Region) → (IsWithin old picks (RegionNode r) → ⊥) → blocks_in mid r ≡ without picks (blocks_in old r)
+    pub blocks_were : (r : Ptr Region) → (IsWithinPickedBlocks old picks (RegionNode r) → ⊥) → blocks_in mid r ≡ without picks (blocks_in old r)
     blocks_were r out = ap (λ o. unwrap_or (option_map (λ (v : RegionView). v.blocks) o) []) (done.regions r out) ∙ listed (region_at old r) where
       listed : (o : Option RegionView) → unwrap_or (option_map (λ (v : RegionView). v.blocks) (option_map (λ (v : RegionView). record v { blocks = without picks v.blocks }) o)) [] ≡ without picks (unwrap_or (option_map (λ (v : RegionView). v.blocks) o) [])
       listed None = refl
       listed (Some v) = refl
 
-    pub operations_were : (b : Ptr BasicBlock) → (IsWithin old picks (BlockNode b) → ⊥) → operations_in mid b ≡ operations_in old b
+    pub operations_were : (b : Ptr BasicBlock) → (IsWithinPickedBlocks old picks (BlockNode b) → ⊥) → operations_in mid b ≡ operations_in old b
     operations_were b out = ap (λ o. unwrap_or (option_map (λ (v : BlockView B). v.operations) o) []) (done.blocks b out)
 
-    pub regions_were : (p : Ptr Operation) → (IsWithin old picks (OperationNode p) → ⊥) → regions_in mid p ≡ regions_in old p
+    pub regions_were : (p : Ptr Operation) → (IsWithinPickedBlocks old picks (OperationNode p) → ⊥) → regions_in mid p ≡ regions_in old p
     regions_were p out = ap (λ o. unwrap_or (option_map (λ (v : OperationView O). v.regions) o) []) (done.operations p out)
 
     -- so what is inside something was inside it
@@ -179,46 +179,46 @@ module _ {O B : Type 0} where
         in_operation r p (lists.regions p s.index r (ap (λ ps. slice_get ps s.index) (sym (regions_were p out)) ∙ s.here)) (was_inside x (OperationNode p) i)
 
     -- and what was inside something, and is left, is inside it
-    pub is_inside : (x e : IRNode) → (IsWithin old picks e → ⊥) → StandsInside old x e → StandsInside mid x e
+    pub is_inside : (x e : IRNode) → (IsWithinPickedBlocks old picks e → ⊥) → StandsInside old x e → StandsInside mid x e
     is_inside x _ out itself = itself
     is_inside x _ out (in_block p b s i) =
-        let above : IsWithin old picks (BlockNode b) → ⊥ = λ h. out (h.0, h.1, in_block p b s h.2) in
+        let above : IsWithinPickedBlocks old picks (BlockNode b) → ⊥ = λ h. out (h.0, h.1, in_block p b s h.2) in
         in_block p b
         (record { operation = still_live (OperationNode p) out s.operation; block = still_live (BlockNode b) above s.block; index = s.index; here = ap (λ ps. slice_get ps s.index) (operations_were b above) ∙ s.here })
         (is_inside x (BlockNode b) above i)
     is_inside x _ out (in_region b r s i) =
-        let above : IsWithin old picks (RegionNode r) → ⊥ = λ h. out (h.0, h.1, in_region b r s h.2) in
+        let above : IsWithinPickedBlocks old picks (RegionNode r) → ⊥ = λ h. out (h.0, h.1, in_region b r s h.2) in
         let stays : picks b ≡ false = not_true (picks b) (λ h. out (b, h, itself)) in
         let k = has_at (without picks (blocks_in old r)) b (is_left picks (blocks_in old r) b stays (at_has (blocks_in old r) s.index b s.here)) in
         in_region b r
         (record { block = still_live (BlockNode b) out s.block; region = still_live (RegionNode r) above s.region; index = k.0; here = ap (λ ps. slice_get ps k.0) (blocks_were r above) ∙ k.1 })
         (is_inside x (RegionNode r) above i)
     is_inside x _ out (in_operation r p s i) =
-        let above : IsWithin old picks (OperationNode p) → ⊥ = λ h. out (h.0, h.1, in_operation r p s h.2) in
+        let above : IsWithinPickedBlocks old picks (OperationNode p) → ⊥ = λ h. out (h.0, h.1, in_operation r p s h.2) in
         in_operation r p
         (record { region = still_live (RegionNode r) out s.region; operation = still_live (OperationNode p) above s.operation; index = s.index; here = ap (λ ps. slice_get ps s.index) (regions_were p above) ∙ s.here })
         (is_inside x (OperationNode p) above i)
 
     -- what isn't inside one picked or one more
     module _ (a : Ptr BasicBlock) where
-      not_picked : (e : IRNode) → (IsWithin old (and_also a picks) e → ⊥) → IsWithin old picks e → ⊥
+      not_picked : (e : IRNode) → (IsWithinPickedBlocks old (and_also a picks) e → ⊥) → IsWithinPickedBlocks old picks e → ⊥
       not_picked e out h = out (h.0, also_picked a picks h.0 h.1, h.2)
 
-      not_it : (e : IRNode) → (IsWithin old (and_also a picks) e → ⊥) → StandsInside old (BlockNode a) e → ⊥
+      not_it : (e : IRNode) → (IsWithinPickedBlocks old (and_also a picks) e → ⊥) → StandsInside old (BlockNode a) e → ⊥
       not_it e out i = out (a, also_it a picks, i)
 
       there_too : IsLiveNode old (BlockNode a) → (b : Ptr BasicBlock) → and_also a picks b ≡ true → IsLiveNode old (BlockNode b)
       there_too live b h = ⊎_elim (λ (e : b ≡ a). subst (λ q. IsLiveNode old (BlockNode q)) (sym e) live) (λ t. done.there b t) (it_or_picked a picks b h)
 
       -- what is left, and goes with one more, stands inside that one
-      inside_it : (e : IRNode) → IsLiveNode mid e → IsWithin old (and_also a picks) e → StandsInside old (BlockNode a) e
+      inside_it : (e : IRNode) → IsLiveNode mid e → IsWithinPickedBlocks old (and_also a picks) e → StandsInside old (BlockNode a) e
       inside_it e live h = ⊎_elim
           (λ (s : h.0 ≡ a). subst (λ q. StandsInside old (BlockNode q) e) s h.2)
           (λ t. absurd (live_outside e live (h.0, t, h.2)))
           (it_or_picked a picks h.0 h.1)
 
       -- one more that is erased
-      module _ (new : Program O B) (now : HasLists mid) (live : IsLiveNode mid (BlockNode a)) (decides : DecidesInside mid a) (erases : ErasesBlock mid new a) where
+      module _ (new : Program O B) (now : HasLists mid) (live : IsLiveNode mid (BlockNode a)) (decides : DecidesInsideBlock mid a) (erases : ErasesBlock mid new a) where
         with_list : (f g : List (Ptr BasicBlock) → List (Ptr BasicBlock)) (o : Option RegionView) → f (unwrap_or (option_map (λ (v : RegionView). v.blocks) o) []) ≡ g (unwrap_or (option_map (λ (v : RegionView). v.blocks) o) [])
             → option_map (λ (v : RegionView). record v { blocks = f v.blocks }) o ≡ option_map (λ (v : RegionView). record v { blocks = g v.blocks }) o
         with_list f g None e = refl
@@ -251,10 +251,10 @@ module _ {O B : Type 0} where
         twice_left None = refl
         twice_left (Some v) = ap (λ ps. Some (record v { blocks = ps })) (without_both a picks v.blocks)
 
-        outside_now : (e : IRNode) → (IsWithin old (and_also a picks) e → ⊥) → StandsInside mid (BlockNode a) e → ⊥
+        outside_now : (e : IRNode) → (IsWithinPickedBlocks old (and_also a picks) e → ⊥) → StandsInside mid (BlockNode a) e → ⊥
         outside_now e out i = not_it e out (was_inside (BlockNode a) e i)
 
-        pub one_more : IsLiveNode old (BlockNode a) → ErasesPicked old new (and_also a picks)
+        pub one_more : IsLiveNode old (BlockNode a) → ErasesPickedBlocks old new (and_also a picks)
         one_more was = record {
           there = there_too was;
           operations = λ p out. erases.operations p (outside_now (OperationNode p) out) ∙ done.operations p (not_picked (OperationNode p) out);
@@ -269,7 +269,7 @@ module _ {O B : Type 0} where
         }
 
   -- nothing is erased
-  pub none_erased : (c : Program O B) → ErasesPicked c c (λ p. false)
+  pub none_erased : (c : Program O B) → ErasesPickedBlocks c c (λ p. false)
   none_erased c = record {
     there = λ p h. cc;
     operations = λ p out. refl;
@@ -283,7 +283,7 @@ module _ {O B : Type 0} where
     all_left (Some v) = ap (λ ps. Some (record v { blocks = ps })) (sym (without_none (λ p. false) v.blocks (λ p has. refl)))
 
   -- what operations name of what is left they named before
-  module _ (old mid : Program O B) (lists : HasLists old) (picks : Ptr BasicBlock → Bool) (done : ErasesPicked old mid picks) where
+  module _ (old mid : Program O B) (lists : HasLists old) (picks : Ptr BasicBlock → Bool) (done : ErasesPickedBlocks old mid picks) where
     same_or_none : (p : Ptr Operation) → (operation_at mid p ≡ operation_at old p) ⊎ (operation_at mid p ≡ None)
     same_or_none p = by_case (operation_at old p) refl where
       by_case : (o : Option (OperationView O)) → operation_at old p ≡ o → (operation_at mid p ≡ operation_at old p) ⊎ (operation_at mid p ≡ None)
@@ -309,14 +309,14 @@ module _ {O B : Type 0} where
         (same_or_none p)
 
   -- one turn of the loop over the list of those that are erased
-  module _ (old mid : Program O B) (lists : HasLists old) (bs : List (Ptr BasicBlock)) (i : ℕ) (a : Ptr BasicBlock) (here : slice_get bs i ≡ Some a) (done : ErasesPicked old mid (is_listed (take i bs))) where
+  module _ (old mid : Program O B) (lists : HasLists old) (bs : List (Ptr BasicBlock)) (i : ℕ) (a : Ptr BasicBlock) (here : slice_get bs i ≡ Some a) (done : ErasesPickedBlocks old mid (is_listed (take i bs))) where
     among_here : is_listed bs a ≡ true
     among_here = has_among bs a (at_has bs i a here)
 
-    inside_then : (e : IRNode) → StandsInside mid (BlockNode a) e → IsWithin old (is_listed bs) e
+    inside_then : (e : IRNode) → StandsInside mid (BlockNode a) e → IsWithinPickedBlocks old (is_listed bs) e
     inside_then e s = (a, among_here, was_inside old mid lists (is_listed (take i bs)) done (BlockNode a) e s)
 
-    pub apart_now : NamesNone old (is_listed bs) → IsApart mid (BlockNode a)
+    pub apart_now : NamesNoneOfBlocks old (is_listed bs) → IsApart mid (BlockNode a)
     apart_now names = record {
       values = λ p k v h s. absurd (names.values p k v (operands_were old mid lists (is_listed (take i bs)) done p k v h) (inside_then (definer_node v.definer) s));
       blocks = λ p k b h s. absurd (names.blocks p k b (successors_were old mid lists (is_listed (take i bs)) done p k b h) (inside_then (BlockNode b) s));
@@ -334,5 +334,5 @@ module _ {O B : Type 0} where
         omega (arith, l, e))
         (there a among_here)
 
-    pub erased_next : HasLists mid → (new : Program O B) → ((b : Ptr BasicBlock) → is_listed bs b ≡ true → IsLiveNode old (BlockNode b)) → IsLiveNode mid (BlockNode a) → DecidesInside mid a → ErasesBlock mid new a → ErasesPicked old new (is_listed (take (i + 1) bs))
-    erased_next now new there live decides erases = subst (ErasesPicked old new) (among_more bs i a here) (one_more old mid lists (is_listed (take i bs)) done a new now live decides erases (there a among_here))
+    pub erased_next : HasLists mid → (new : Program O B) → ((b : Ptr BasicBlock) → is_listed bs b ≡ true → IsLiveNode old (BlockNode b)) → IsLiveNode mid (BlockNode a) → DecidesInsideBlock mid a → ErasesBlock mid new a → ErasesPickedBlocks old new (is_listed (take (i + 1) bs))
+    erased_next now new there live decides erases = subst (ErasesPickedBlocks old new) (among_more bs i a here) (one_more old mid lists (is_listed (take i bs)) done a new now live decides erases (there a among_here))

@@ -18,14 +18,14 @@ use Rattle.ir_trees.specs.Stands.{by_handle, in_program, ProgramTree, StandsFor}
 use Rattle.ir_trees.proofs.Members.{has_at, at_has}
 use Rattle.opt_trees.specs.Dialect.{Dialect}
 use Rattle.opt_trees.specs.Occurrences.{Has}
-use Rattle.opt_trees.specs.Simplify.{Place, IsUnreached}
+use Rattle.opt_trees.specs.Simplify.{StartingRegions, IsUnreached}
 use Rattle.opt_inside.specs.Numbered.{Numbers, NumbersInside, values_in}
 use Rattle.opt_inside.specs.Occurring.{IsBlockBelow}
 use Rattle.opt_inside.proofs.Added.{HasValues, value_at, at_value}
 use Rattle.opt_inside.proofs.Among.{results_are, arguments_are}
 use Rattle.opt_inside.proofs.Around.{HasLists, inside_both, is_root}
 use Rattle.opt_simplify.specs.Refusals.{AreUnreached}
-use Rattle.opt_simplify.specs.Removed.{is_listed, IsWithin}
+use Rattle.opt_simplify.specs.Removed.{is_listed, IsWithinPickedBlocks}
 use Rattle.opt_reach.specs.Edges.{HasLocalEdgesFrom}
 use Rattle.opt_reach.specs.Fates.{HasReachTest}
 use Rattle.opt_reach.specs.Starts.{IsStartIn}
@@ -35,9 +35,9 @@ use Rattle.opt_simplify.proofs.RemovedApart.{picked_below, picked_there, picked_
 use Rattle.opt_reach.proofs.Occurs.{Occurs}
 
 module _ {O B A : Type 0} (d : Dialect (in_program O B) A) (c : Program O B) (lists : HasLists c) (op : Ptr Operation) (n : Numbers) (numbered : NumbersInside c op n)
-    (start : Start) (edges : HasLocalEdgesFrom d.is_terminator c start) (place : Place by_handle) (is_start : IsStartIn c start place) (t : ProgramTree O B) (stands : StandsFor c op t) (occurs : (u : ProgramTree O B) → StandsFor c op u → Occurs c op u) (row : List (Ptr BasicBlock))
-    (unreached : (p : Place by_handle) → IsStartIn c start p → (u : ProgramTree O B) → StandsFor c op u → (b : Ptr BasicBlock) → Lists row b ↔ IsUnreached d p u b) where
-  listed : (p : Place by_handle) → IsStartIn c start p → (u : ProgramTree O B) → StandsFor c op u → (b : Ptr BasicBlock) → (is_listed row b ≡ true) ↔ IsUnreached d p u b
+    (start : Start) (edges : HasLocalEdgesFrom d.is_terminator c start) (place : StartingRegions by_handle) (is_start : IsStartIn c start place) (t : ProgramTree O B) (stands : StandsFor c op t) (occurs : (u : ProgramTree O B) → StandsFor c op u → Occurs c op u) (row : List (Ptr BasicBlock))
+    (unreached : (p : StartingRegions by_handle) → IsStartIn c start p → (u : ProgramTree O B) → StandsFor c op u → (b : Ptr BasicBlock) → Lists row b ↔ IsUnreached d p u b) where
+  listed : (p : StartingRegions by_handle) → IsStartIn c start p → (u : ProgramTree O B) → StandsFor c op u → (b : Ptr BasicBlock) → (is_listed row b ≡ true) ↔ IsUnreached d p u b
   listed p is u s b = (
     λ h. (unreached p is u s b).0 (has_at row b (among_has row b h)),
     λ h. let l = (unreached p is u s b).1 h in has_among row b (at_has row l.0 b l.1),
@@ -78,13 +78,13 @@ module _ {O B : Type 0} (c : Program O B) (lists : HasLists c) (op : Ptr Operati
       ((numbered.values v).0 l)
 
   -- values that are defined below the root have a number
-  pub live_numbered : (picks : Ptr BasicBlock → Bool) → ((b : Ptr BasicBlock) → picks b ≡ true → IsBlockBelow c op b) → (v : Value) → IsLiveValue c v → IsWithin c picks (definer_node v.definer) → Lists n.values v
+  pub live_numbered : (picks : Ptr BasicBlock → Bool) → ((b : Ptr BasicBlock) → picks b ≡ true → IsBlockBelow c op b) → (v : Value) → IsLiveValue c v → IsWithinPickedBlocks c picks (definer_node v.definer) → Lists n.values v
   live_numbered picks below v live w =
       let ty = something (type_at c v) live in
       let s = values.stands v ty.0 ty.1 in
       by_definer v.definer s.index (ap (option_map (λ (x : TypedValue). x.value)) s.stands) w
     where
-      by_definer : (e : DefiningEntity) (k : ℕ) → value_in (values_at c e) k ≡ Some v → IsWithin c picks (definer_node e) → Lists n.values v
+      by_definer : (e : DefiningEntity) (k : ℕ) → value_in (values_at c e) k ≡ Some v → IsWithinPickedBlocks c picks (definer_node e) → Lists n.values v
       by_definer (ByOp p) k at h =
           let inside = inside_both c (OperationNode op) (BlockNode h.0) (OperationNode p) (below h.0 h.1) h.2 in
           let other : p ≢ op = λ e. (let i : StandsInside c (BlockNode h.0) (OperationNode op) = subst (λ q. StandsInside c (BlockNode h.0) (OperationNode q)) e h.2 in

@@ -5,7 +5,7 @@ use Rattle.ir_trees.specs.Names.{Names, Contents}
 use Rattle.ir_trees.specs.Trees.{Head, Label, Sort, Operations, Blocks, Regions, Tree, end, operation, block, region, Root}
 use Rattle.ir_trees.specs.Renames.{names_of}
 use Rattle.ir_trees.proofs.Members.{has_front, has_back, has_either}
-use Rattle.opt_trees.specs.Occurrences.{Has, Site, Spot, Occurrence, BlockOccurrence, Inside, inner, next_block, next_region, occurrences_in, block_occurrences_in, occurrences_of, block_occurrences_of, at_root, defined_in}
+use Rattle.opt_trees.specs.Occurrences.{Has, OperationSite, Spot, Occurrence, BlockOccurrence, Inside, inner, next_block, next_region, occurrences_in, block_occurrences_in, occurrences_of, block_occurrences_of, at_root, defined_in}
 use Rattle.opt_trees.specs.Simplify.{keep}
 use Rattle.opt_simplify.proofs.RemovedValues.{defined_by_found, result_defined, argument_defined}
 use Rattle.opt_reach.proofs.Order.{Around}
@@ -22,7 +22,7 @@ module _ {N : Names} {S : Contents} where
   abbrev pub over_block : BlockOccurrence N S → List N.block
   over_block x = x.label.name ∷ x.spot.within
 
-  abbrev at_site : Spot N S → (l : Label N S) → Site N S
+  abbrev at_site : Spot N S → (l : Label N S) → OperationSite N S
   at_site c l = record { spot = c; label = l }
 
   -- what is around a list is around what is found in it

@@ -22,12 +22,12 @@ use Rattle.opt_reach.specs.Starts.{BeginsAtRegion}
 use Rattle.opt_reach.specs.declared.starts.Start.{Start}
 use Rattle.opt_reach.specs.declared.starts.Start.TheVariants.{Operation as AtOperation, Block as AtBlock, Region as AtRegion}
 use Rattle.opt_simplify.specs.Phases.{KeepsEdges}
-use Rattle.opt_simplify.specs.Removed.{without, IsWithin, ErasesPicked}
+use Rattle.opt_simplify.specs.Removed.{without, IsWithinPickedBlocks, ErasesPickedBlocks}
 use Rattle.opt_simplify.proofs.RemovedErased.{was_there, is_left, live_outside, still_live, blocks_were, operations_were, regions_were, was_inside, is_inside, successors_were}
 use Rattle.opt_simplify.proofs.RemovedPicking.{not_true}
 
-module _ {O B : Type 0} (old new : Program O B) (lists : HasLists old) (op : Ptr Operation) (picks : Ptr BasicBlock → Bool) (done : ErasesPicked old new picks)
-    (named : (p : Ptr Operation) (k : ℕ) (s : Ptr BasicBlock) → slice_get (successors_at old p) k ≡ Some s → IsWithin old picks (BlockNode s) → IsWithin old picks (OperationNode p)) where
+module _ {O B : Type 0} (old new : Program O B) (lists : HasLists old) (op : Ptr Operation) (picks : Ptr BasicBlock → Bool) (done : ErasesPickedBlocks old new picks)
+    (named : (p : Ptr Operation) (k : ℕ) (s : Ptr BasicBlock) → slice_get (successors_at old p) k ≡ Some s → IsWithinPickedBlocks old picks (BlockNode s) → IsWithinPickedBlocks old picks (OperationNode p)) where
   -- what names a block, or has an operation, is there
   names_live : (p : Ptr Operation) (s : Ptr BasicBlock) → Lists (successors_at new p) s → IsLiveNode new (OperationNode p)
   names_live p s l = by_view (operation_at new p) l.1 where
@@ -53,7 +53,7 @@ module _ {O B : Type 0} (old new : Program O B) (lists : HasLists old) (op : Ptr
       let k = has_at (blocks_in old r) b (was_there picks (blocks_in old r) b (at_has (without picks (blocks_in old r)) s.index b (ap (λ bs. slice_get bs s.index) (sym (blocks_were old new lists picks done r out)) ∙ s.here))) in
       lists.blocks r k.0 b k.1
 
-  region_is : (b : Ptr BasicBlock) (r : Ptr Region) → (IsWithin old picks (BlockNode b) → ⊥) → IsLiveNode new (RegionNode r) → StandsInRegion old b r → StandsInRegion new b r
+  region_is : (b : Ptr BasicBlock) (r : Ptr Region) → (IsWithinPickedBlocks old picks (BlockNode b) → ⊥) → IsLiveNode new (RegionNode r) → StandsInRegion old b r → StandsInRegion new b r
   region_is b r out live s =
       let above = live_outside old new lists picks done (RegionNode r) live in
       let stays : picks b ≡ false = not_true (picks b) (λ h. out (b, h, itself)) in
@@ -66,7 +66,7 @@ module _ {O B : Type 0} (old new : Program O B) (lists : HasLists old) (op : Ptr
   named_was : (p : Ptr Operation) (s : Ptr BasicBlock) → Lists (successors_at new p) s → Lists (successors_at old p) s
   named_was p s l = (l.0, successors_were old new lists picks done p l.0 s l.1)
 
-  op_out : (p : Ptr Operation) → IsLiveNode new (OperationNode p) → IsWithin old picks (OperationNode p) → ⊥
+  op_out : (p : Ptr Operation) → IsLiveNode new (OperationNode p) → IsWithinPickedBlocks old picks (OperationNode p) → ⊥
   op_out p live = live_outside old new lists picks done (OperationNode p) live
 
   pub still_local : (is_terminator : O → Bool) → HasLocalEdgesBelow is_terminator old op → HasLocalEdgesBelow is_terminator new op
@@ -98,10 +98,10 @@ module _ {O B : Type 0} (old new : Program O B) (lists : HasLists old) (op : Ptr
   begins_was (AtBlock b) q r h = block_was q b h
   begins_was (AtRegion f) q r h = h
 
-  begins_is : (start : Start) (q : Ptr Operation) (r : Ptr Region) → (IsWithin old picks (OperationNode q) → ⊥) → BeginsAtRegion old start q r → BeginsAtRegion new start q r
+  begins_is : (start : Start) (q : Ptr Operation) (r : Ptr Region) → (IsWithinPickedBlocks old picks (OperationNode q) → ⊥) → BeginsAtRegion old start q r → BeginsAtRegion new start q r
   begins_is (AtOperation o) q r out h = h
   begins_is (AtBlock b) q r out h =
-      let above : IsWithin old picks (BlockNode b) → ⊥ = λ w. out (w.0, w.1, in_block q b h w.2) in
+      let above : IsWithinPickedBlocks old picks (BlockNode b) → ⊥ = λ w. out (w.0, w.1, in_block q b h w.2) in
       record {
         operation = still_live old new lists picks done (OperationNode q) out h.operation;
         block = still_live old new lists picks done (BlockNode b) above h.block;
@@ -123,11 +123,11 @@ module _ {O B : Type 0} (old new : Program O B) (lists : HasLists old) (op : Ptr
           inside = was_inside old new lists picks done (RegionNode u.region) e u.inside;
         }
 
-    is_under : (e : IRNode) → (IsWithin old picks e → ⊥) → IsNodeUnder old start e → IsNodeUnder new start e
+    is_under : (e : IRNode) → (IsWithinPickedBlocks old picks e → ⊥) → IsNodeUnder old start e → IsNodeUnder new start e
     is_under e out u =
         let s = u.of_operation in
-        let region_out : IsWithin old picks (RegionNode u.region) → ⊥ = λ w. out (w.0, w.1, inside_both old (BlockNode w.0) (RegionNode u.region) e w.2 u.inside) in
-        let owner_out : IsWithin old picks (OperationNode u.operation) → ⊥ = λ w. region_out (w.0, w.1, in_operation u.region u.operation s w.2) in
+        let region_out : IsWithinPickedBlocks old picks (RegionNode u.region) → ⊥ = λ w. out (w.0, w.1, inside_both old (BlockNode w.0) (RegionNode u.region) e w.2 u.inside) in
+        let owner_out : IsWithinPickedBlocks old picks (OperationNode u.operation) → ⊥ = λ w. region_out (w.0, w.1, in_operation u.region u.operation s w.2) in
         record {
           operation = u.operation;
           region = u.region;

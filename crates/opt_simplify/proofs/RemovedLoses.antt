@@ -20,9 +20,9 @@ use Rattle.ir_trees.specs.Renames.{names_of}
 use Rattle.ir_trees.specs.Stands.{by_handle, in_program, ProgramTree}
 use Rattle.ir_trees.proofs.Members.{has_at, at_has}
 use Rattle.opt_trees.specs.Dialect.{Dialect}
-use Rattle.opt_trees.specs.Dce.{Around}
+use Rattle.opt_trees.specs.Dce.{TreeSurroundings}
 use Rattle.opt_trees.specs.Occurrences.{Has, occurrences_of, block_occurrences_of, defined_in, at_root}
-use Rattle.opt_trees.specs.Simplify.{Place, IsUnreached, IsCut, LosesUse, IsUsedBelow}
+use Rattle.opt_trees.specs.Simplify.{StartingRegions, IsUnreached, IsCut, LosesUse, IsUsedBelow}
 use Rattle.opt_inside.specs.Numbered.{Numbers, NumbersInside, values_in}
 use Rattle.opt_inside.specs.Occurring.{Found, FoundBlock, IsBlockBelow, IsDefinedBelow}
 use Rattle.opt_inside.proofs.Added.{HasValues, at_value}
@@ -30,7 +30,7 @@ use Rattle.opt_inside.proofs.Among.{results_are, arguments_are}
 use Rattle.opt_inside.proofs.Around.{HasLists, inside_both, around_operation, is_root}
 use Rattle.opt_inside.specs.Around.{SaysAround}
 use Rattle.opt_reach.specs.Fates.{HasReachTest}
-use Rattle.opt_simplify.specs.Removed.{IsWithin, TakesWithin, IsTakenOutside}
+use Rattle.opt_simplify.specs.Removed.{IsWithinPickedBlocks, TakesWithin, IsTakenOutsideBlocks}
 use Rattle.opt_simplify.proofs.RemovedFound.{live_numbered}
 use Rattle.opt_simplify.proofs.RemovedKept.{Clear, over, over_block, cut_root, operation_kept, operation_was, result_kept, argument_kept, defined_clear}
 use Rattle.opt_simplify.proofs.RemovedPicking.{not_true}
@@ -45,7 +45,7 @@ same_truth false false f g = refl
 module _ {O B : Type 0} (c : Program O B) (lists : HasLists c) (op : Ptr Operation) (t : ProgramTree O B) (occurs : Occurs c op t) (values : HasValues c)
     (picks : Ptr BasicBlock → Bool) (below : (b : Ptr BasicBlock) → picks b ≡ true → IsBlockBelow c op b) where
   -- what is found stands in no block that goes exactly where none of those over it goes
-  op_outside : (o : Found O B) → Has o (occurrences_of t) → Clear picks (over o) → IsWithin c picks (OperationNode o.head.name) → ⊥
+  op_outside : (o : Found O B) → Has o (occurrences_of t) → Clear picks (over o) → IsWithinPickedBlocks c picks (OperationNode o.head.name) → ⊥
   op_outside o has clear h =
       let is = occurs.sound o has in
       let m : Has h.0 (over o) = ⊎_elim
@@ -54,7 +54,7 @@ module _ {O B : Type 0} (c : Program O B) (lists : HasLists c) (op : Ptr Operati
       (around_operation c lists (BlockNode h.0) o.head.name o.site.label.name is.in_block h.2) in
       let f : true ≡ false = sym h.1 ∙ clear h.0 m in cc
 
-  op_clear : (o : Found O B) → Has o (occurrences_of t) → (IsWithin c picks (OperationNode o.head.name) → ⊥) → Clear picks (over o)
+  op_clear : (o : Found O B) → Has o (occurrences_of t) → (IsWithinPickedBlocks c picks (OperationNode o.head.name) → ⊥) → Clear picks (over o)
   op_clear o has out w m =
       let is = occurs.sound o has in
       not_true (picks w) (λ h. out (
@@ -66,13 +66,13 @@ module _ {O B : Type 0} (c : Program O B) (lists : HasLists c) (op : Ptr Operati
             m),
       ))
 
-  block_outside : (x : FoundBlock O B) → Has x (block_occurrences_of t) → Clear picks (over_block x) → IsWithin c picks (BlockNode x.label.name) → ⊥
+  block_outside : (x : FoundBlock O B) → Has x (block_occurrences_of t) → Clear picks (over_block x) → IsWithinPickedBlocks c picks (BlockNode x.label.name) → ⊥
   block_outside x has clear h =
       let is = occurs.blocks_sound x has in
       let m : Has h.0 (over_block x) = ⊎_elim (λ e. inl e) (λ ne. inr ((is.spot.within h.0).1 (below h.0 h.1, ne, h.2))) (same_or_not h.0 x.label.name) in
       let f : true ≡ false = sym h.1 ∙ clear h.0 m in cc
 
-  block_clear : (x : FoundBlock O B) → Has x (block_occurrences_of t) → (IsWithin c picks (BlockNode x.label.name) → ⊥) → Clear picks (over_block x)
+  block_clear : (x : FoundBlock O B) → Has x (block_occurrences_of t) → (IsWithinPickedBlocks c picks (BlockNode x.label.name) → ⊥) → Clear picks (over_block x)
   block_clear x has out w m =
       let is = occurs.blocks_sound x has in
       not_true (picks w) (λ h. out (
@@ -100,20 +100,20 @@ module _ {O B : Type 0} (c : Program O B) (lists : HasLists c) (op : Ptr Operati
       values.definer (ByBlock x.label.name) k.0 v (at_value (arguments_at c x.label.name) k.0 v k.1)
 
   -- the values of what stays are those that are defined there
-  went_within : (v : Value) → IsWithin c picks (definer_node v.definer) → Has v (defined_in (cut_root picks t).regions) → ⊥
+  went_within : (v : Value) → IsWithinPickedBlocks c picks (definer_node v.definer) → Has v (defined_in (cut_root picks t).regions) → ⊥
   went_within v w h = ⊎_elim
       (λ (f : (o : Found O B) × Has o (occurrences_of t) × Has v (names_of o.head.results) × Clear picks (over o)).
-      op_outside f.0 f.1 f.3 (subst (λ e. IsWithin c picks (definer_node e)) (result_definer f.0 f.1 v f.2) w))
+      op_outside f.0 f.1 f.3 (subst (λ e. IsWithinPickedBlocks c picks (definer_node e)) (result_definer f.0 f.1 v f.2) w))
       (λ (f : (x : FoundBlock O B) × Has x (block_occurrences_of t) × Has v (names_of x.label.arguments) × Clear picks (over_block x)).
-      block_outside f.0 f.1 f.3 (subst (λ e. IsWithin c picks (definer_node e)) (argument_definer f.0 f.1 v f.2) w))
+      block_outside f.0 f.1 f.3 (subst (λ e. IsWithinPickedBlocks c picks (definer_node e)) (argument_definer f.0 f.1 v f.2) w))
       (defined_clear picks t v h)
 
-  stays_outside : (v : Value) → Has v (defined_in t.regions) → (IsWithin c picks (definer_node v.definer) → ⊥) → Has v (defined_in (cut_root picks t).regions)
+  stays_outside : (v : Value) → Has v (defined_in t.regions) → (IsWithinPickedBlocks c picks (definer_node v.definer) → ⊥) → Has v (defined_in (cut_root picks t).regions)
   stays_outside v h out = ⊎_elim
       (λ (f : (o : Found O B) × Has o (occurrences_of t) × Has v (names_of o.head.results)).
-      result_kept picks t f.0 v f.1 (op_clear f.0 f.1 (λ w. out (subst (λ e. IsWithin c picks (definer_node e)) (sym (result_definer f.0 f.1 v f.2)) w))) f.2)
+      result_kept picks t f.0 v f.1 (op_clear f.0 f.1 (λ w. out (subst (λ e. IsWithinPickedBlocks c picks (definer_node e)) (sym (result_definer f.0 f.1 v f.2)) w))) f.2)
       (λ (f : (x : FoundBlock O B) × Has x (block_occurrences_of t) × Has v (names_of x.label.arguments)).
-      argument_kept picks t f.0 v f.1 (block_clear f.0 f.1 (λ w. out (subst (λ e. IsWithin c picks (definer_node e)) (sym (argument_definer f.0 f.1 v f.2)) w))) f.2)
+      argument_kept picks t f.0 v f.1 (block_clear f.0 f.1 (λ w. out (subst (λ e. IsWithinPickedBlocks c picks (definer_node e)) (sym (argument_definer f.0 f.1 v f.2)) w))) f.2)
       (defined_by_found Regions t.regions (at_root t) v h)
 
   -- operands of what is found
@@ -125,9 +125,9 @@ module _ {O B : Type 0} (c : Program O B) (lists : HasLists c) (op : Ptr Operati
   root_row : operands_at c op ≡ t.head.operands
   root_row = ap (λ v. unwrap_or (option_map (λ (w : OperationView O). w.operands) v) []) occurs.stands.there ∙ sym (ap (λ (g : Head by_handle (in_program O B)). g.operands) occurs.stands.head)
 
-  module _ {A : Type 0} (d : Dialect (in_program O B) A) (w : Around by_handle A) (says : SaysAround d c op w) where
+  module _ {A : Type 0} (d : Dialect (in_program O B) A) (w : TreeSurroundings by_handle A) (says : SaysAround d c op w) where
     pub loses_use : (n : Numbers) → NumbersInside c op n → ((v : Value) → IsUsed c v → IsLiveValue c v) → ((v : Value) → Has v (defined_in t.regions) ↔ IsDefinedBelow c op v)
-        → ((e : IRNode) → StandsInside c (OperationNode op) e ⊎ (StandsInside c (OperationNode op) e → ⊥)) → IsTakenOutside c picks → LosesUse w t (cut_root picks t)
+        → ((e : IRNode) → StandsInside c (OperationNode op) e ⊎ (StandsInside c (OperationNode op) e → ⊥)) → IsTakenOutsideBlocks c picks → LosesUse w t (cut_root picks t)
     loses_use n numbered used defined decides taken = record {
       value = taken.value;
       was = (defined taken.value).1 ((numbered.values taken.value).0 (live_numbered c lists op n numbered values picks below taken.value (used taken.value (used_there taken.user taken.takes.0 taken.value taken.takes.1)) taken.defined));
@@ -137,7 +137,7 @@ module _ {O B : Type 0} (c : Program O B) (lists : HasLists c) (op : Ptr Operati
           (λ (e : taken.user ≡ op). inr (inl (subst (Has taken.value) root_row (subst (λ q. Has taken.value (operands_at c q)) e (at_has (operands_at c taken.user) taken.takes.0 taken.value taken.takes.1)))))
           (λ ne.
           let o = occurs.found taken.user (record { inside = inside; other = ne }) in
-          let clear = op_clear o.0 o.1 (λ h. taken.outside (subst (λ q. IsWithin c picks (OperationNode q)) o.2 h)) in
+          let clear = op_clear o.0 o.1 (λ h. taken.outside (subst (λ q. IsWithinPickedBlocks c picks (OperationNode q)) o.2 h)) in
           let p = operation_kept picks t o.0 o.1 clear in
           let at : slice_get o.0.head.operands taken.takes.0 ≡ Some taken.value = ap (λ vs. slice_get vs taken.takes.0) (sym (row o.0 o.1)) ∙ ap (λ q. slice_get (operands_at c q) taken.takes.0) o.2 ∙ taken.takes.1 in
           inl (record { user = p.0; place = taken.takes.0; operand = record { stands = p.1; operand = ap (λ (h : Head by_handle (in_program O B)). slice_get h.operands taken.takes.0) p.2 ∙ at } }))
@@ -152,7 +152,7 @@ module _ {O B : Type 0} (c : Program O B) (lists : HasLists c) (op : Ptr Operati
         by_view (Some o) e m = (p, o, e, k, m)
 
     -- where all are taken within what goes, none is lost
-    none_named : TakesWithin c picks → (v : Value) → IsUsedBelow (cut_root picks t) v ⊎ (Has v t.head.operands ⊎ (w.is_pinned v ≡ true)) → IsWithin c picks (definer_node v.definer) → ⊥
+    none_named : TakesWithin c picks → (v : Value) → IsUsedBelow (cut_root picks t) v ⊎ (Has v t.head.operands ⊎ (w.is_pinned v ≡ true)) → IsWithinPickedBlocks c picks (definer_node v.definer) → ⊥
     none_named takes v named within = ⊎_elim
         (λ (u : IsUsedBelow (cut_root picks t) v).
         let r = operation_was picks t u.user u.operand.stands in
@@ -170,7 +170,7 @@ module _ {O B : Type 0} (c : Program O B) (lists : HasLists c) (op : Ptr Operati
         more)
         named
 
-    pub loses_none : (place : Place by_handle) → ((b : Ptr BasicBlock) → (picks b ≡ true) ↔ IsUnreached d place t b) → TakesWithin c picks → (after : ProgramTree O B) → IsCut d place t after → LosesUse w t after → ⊥
+    pub loses_none : (place : StartingRegions by_handle) → ((b : Ptr BasicBlock) → (picks b ≡ true) ↔ IsUnreached d place t b) → TakesWithin c picks → (after : ProgramTree O B) → IsCut d place t after → LosesUse w t after → ⊥
     loses_none place exact takes after cut loses =
         let same : cut.gone ≡ picks = λ i b. same_truth (cut.gone b) (picks b) (λ h. (exact b).1 (cut.there b h)) (λ h. cut.all b ((exact b).0 h)) i in
         let is : after ≡ cut_root picks t = cut.is ∙ ap (λ g. cut_root g t) same in
@@ -179,7 +179,7 @@ module _ {O B : Type 0} (c : Program O B) (lists : HasLists c) (op : Ptr Operati
         here.went (stays_outside here.value here.was none)
 
 -- the tree without the blocks that are unreached
-pub cut_is : {O B A : Type 0} (d : Dialect (in_program O B) A) (place : Place by_handle) (c : Program O B) (picks : Ptr BasicBlock → Bool) (t : ProgramTree O B) → ((b : Ptr BasicBlock) → (picks b ≡ true) ↔ IsUnreached d place t b) → HasReachTest t → IsCut d place t (cut_root picks t)
+pub cut_is : {O B A : Type 0} (d : Dialect (in_program O B) A) (place : StartingRegions by_handle) (c : Program O B) (picks : Ptr BasicBlock → Bool) (t : ProgramTree O B) → ((b : Ptr BasicBlock) → (picks b ≡ true) ↔ IsUnreached d place t b) → HasReachTest t → IsCut d place t (cut_root picks t)
 cut_is d place c picks t exact reach = record {
   reach = reach.0;
   reached = λ b. (reach.1 b).0;

@@ -11,7 +11,7 @@ use Rattle.ir_program.specs.declared.handles.IRNode.TheVariants.{BasicBlock as B
 use Rattle.ir_program.specs.declared.handles.Operation.{Operation}
 use Rattle.ir_program.specs.declared.handles.Ptr.{Ptr}
 use Rattle.opt_inside.specs.Outside.{AddsNoneOutside}
-use Rattle.opt_simplify.specs.Removed.{without, IsWithin, ErasesPicked}
+use Rattle.opt_simplify.specs.Removed.{without, IsWithinPickedBlocks, ErasesPickedBlocks}
 use Rattle.opt_simplify.proofs.RemovedPicking.{not_true}
 
 -- what isn't picked is still listed
@@ -38,13 +38,13 @@ mapped_some f None h = h
 mapped_some f (Some x) h = refl
 
 module _ {O B : Type 0} (old new : Program O B) (op : Ptr Operation) (picks : Ptr BasicBlock → Bool)
-    (loses : ErasesPicked old new picks) where
+    (loses : ErasesPickedBlocks old new picks) where
   -- what is inside the root and doesn't go is inside it still
-  still_inside : (e : IRNode) → StandsInside old (OperationNode op) e → (IsWithin old picks e → ⊥)
+  still_inside : (e : IRNode) → StandsInside old (OperationNode op) e → (IsWithinPickedBlocks old picks e → ⊥)
       → StandsInside new (OperationNode op) e
   still_inside _ itself stays = itself
   still_inside _ (in_block p b s i) stays =
-      let around : IsWithin old picks (BlockNode b) → ⊥ = λ h. stays (h.0, h.1, in_block p b s h.2) in
+      let around : IsWithinPickedBlocks old picks (BlockNode b) → ⊥ = λ h. stays (h.0, h.1, in_block p b s h.2) in
       let same = loses.blocks b around in
       in_block p b (record {
         operation = subst IsSome (sym (loses.operations p stays)) s.operation;
@@ -53,7 +53,7 @@ module _ {O B : Type 0} (old new : Program O B) (op : Ptr Operation) (picks : Pt
         here = ap (λ o. slice_get (unwrap_or (option_map (λ (v : BlockView B). v.operations) o) []) s.index) same ∙ s.here;
       }) (still_inside (BlockNode b) i around)
   still_inside _ (in_region b r s i) stays =
-      let around : IsWithin old picks (RegionNode r) → ⊥ = λ h. stays (h.0, h.1, in_region b r s h.2) in
+      let around : IsWithinPickedBlocks old picks (RegionNode r) → ⊥ = λ h. stays (h.0, h.1, in_region b r s h.2) in
       let v = something (region_at old r) s.region in
       let now : region_at new r ≡ Some (record v.0 { blocks = without picks v.0.blocks }) =
       loses.regions r around ∙ ap (option_map (λ (x : RegionView). record x { blocks = without picks x.blocks })) v.1 in
@@ -67,7 +67,7 @@ module _ {O B : Type 0} (old new : Program O B) (op : Ptr Operation) (picks : Pt
         here = ap (λ o. slice_get (unwrap_or (option_map (λ (x : RegionView). x.blocks) o) []) listed.0) now ∙ listed.1;
       }) (still_inside (RegionNode r) i around)
   still_inside _ (in_operation r p s i) stays =
-      let around : IsWithin old picks (OperationNode p) → ⊥ = λ h. stays (h.0, h.1, in_operation r p s h.2) in
+      let around : IsWithinPickedBlocks old picks (OperationNode p) → ⊥ = λ h. stays (h.0, h.1, in_operation r p s h.2) in
       let same = loses.operations p around in
       in_operation r p (record {
         region = subst IsSome (sym (loses.regions r stays)) (mapped_some (λ (x : RegionView). record x { blocks = without picks x.blocks }) (region_at old r)
@@ -88,7 +88,7 @@ module _ {O B : Type 0} (old new : Program O B) (op : Ptr Operation) (picks : Pt
 
   pub adds_none : AddsNoneOutside old new op
   adds_none p live out =
-      let stays : IsWithin old picks (OperationNode p) → ⊥ = λ h.
+      let stays : IsWithinPickedBlocks old picks (OperationNode p) → ⊥ = λ h.
       let none = (loses.gone (OperationNode p) (there_in h.0 (OperationNode p) h.2 p refl) h).0 in
       let some : IsSome {T = OperationView O} None = subst IsSome none live in cc in (
         subst IsSome (loses.operations p stays) live,

@@ -11,7 +11,7 @@ use Rattle.ir_trees.specs.Trees.{Label}
 use Rattle.ir_trees.specs.Stands.{by_handle, in_program, ProgramTree}
 use Rattle.opt_trees.specs.Dialect.{Dialect}
 use Rattle.opt_trees.specs.Occurrences.{Has, Spot, block_occurrences_of}
-use Rattle.opt_trees.specs.Simplify.{Place, BeginsAt, IsVisited, of_place, of_inner}
+use Rattle.opt_trees.specs.Simplify.{StartingRegions, BeginsAt, IsVisited, of_place, of_inner}
 use Rattle.opt_inside.specs.Occurring.{FoundBlock}
 use Rattle.opt_inside.proofs.Around.{HasLists, inside_both, around_operation, around_block, around_region}
 use Rattle.opt_reach.specs.Starts.{IsStartIn}
@@ -44,7 +44,7 @@ module _ {O B : Type 0} (c : Program O B) (lists : HasLists c) where
       (around_operation c lists (BlockNode a) q b q_in above)
 
   -- no operation where looking begins is in a block that is in one
-  pub starts_apart : (p : Place by_handle) (start : Start) → IsStartIn c start p → (q s : Ptr AnOperation) (i k : ℕ) → BeginsAt p q i → BeginsAt p s k
+  pub starts_apart : (p : StartingRegions by_handle) (start : Start) → IsStartIn c start p → (q s : Ptr AnOperation) (i k : ℕ) → BeginsAt p q i → BeginsAt p s k
       → (a : Ptr BasicBlock) → StandsInside c (OperationNode s) (BlockNode a) → StandsInside c (BlockNode a) (OperationNode q) → ⊥
   starts_apart p (Operation op) is q s i k begins ends a below above =
       let only = λ (r : Ptr AnOperation) (j : ℕ) (h : BeginsAt p r j). ⊎_elim (λ (e : r ≡ op). e) (λ none. absurd none) (subst (λ z. BeginsAt z r j) is h) in
@@ -79,7 +79,7 @@ module _ {O B : Type 0} (c : Program O B) (lists : HasLists c) where
         (λ h. ⊎_elim (λ (e : BlockNode a ≡ RegionNode s.region). cc) (λ i. i) (around_region c lists (BlockNode a) s.region x.spot.owner.name (owner_stands x has) h))
         (around_block c lists (BlockNode a) x.label.name s.region s.in_region w.2)
 
-    module _ {A : Type 0} (d : Dialect (in_program O B) A) (p : Place by_handle) where
+    module _ {A : Type 0} (d : Dialect (in_program O B) A) (p : StartingRegions by_handle) where
       -- a visited region is one of an operation that is inside one where looking begins
       below_start : (q : Ptr AnOperation) (i : ℕ) → IsVisited d p t q i → (s : Ptr AnOperation) × (k : ℕ) × BeginsAt p s k × StandsInside c (OperationNode s) (OperationNode q)
       below_start _ _ (of_place q i begins) = (q, i, begins, itself)

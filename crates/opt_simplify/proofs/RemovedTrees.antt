@@ -19,12 +19,12 @@ use Rattle.ir_trees.proofs.ListEdited.{AreOrderly, all_operations}
 use Rattle.ir_trees.proofs.Rewritten.{rewritten_tree}
 use Rattle.opt_trees.specs.Occurrences.{Has}
 use Rattle.opt_trees.specs.Dialect.{Dialect}
-use Rattle.opt_trees.specs.Simplify.{Place, keep, IsUnreached, IsCut}
+use Rattle.opt_trees.specs.Simplify.{StartingRegions, keep, IsUnreached, IsCut}
 use Rattle.opt_inside.specs.Occurring.{IsBlockBelow}
 use Rattle.opt_inside.specs.Outside.{KeepsOutside}
 use Rattle.opt_inside.proofs.Around.{HasLists, inside_both, around_operation, around_block, around_region, is_root}
 use Rattle.opt_simplify.specs.Phases.{RemovesBlocks}
-use Rattle.opt_simplify.specs.Removed.{without, IsWithin, ErasesPicked}
+use Rattle.opt_simplify.specs.Removed.{without, IsWithinPickedBlocks, ErasesPickedBlocks}
 use Rattle.opt_reach.specs.Fates.{HasReachTest}
 use Rattle.opt_simplify.proofs.RemovedErased.{was_inside}
 use Rattle.opt_simplify.proofs.RemovedOutside.{adds_none}
@@ -58,16 +58,16 @@ module _ {O B : Type 0} (picks : Ptr BasicBlock → Bool) where
       let later = cut Regions rest in
       λ i. region (inner i) (later i)
 
-module _ {O B : Type 0} (old new : Program O B) (lists : HasLists old) (op : Ptr Operation) (picks : Ptr BasicBlock → Bool) (below : (b : Ptr BasicBlock) → picks b ≡ true → IsBlockBelow old op b) (loses : ErasesPicked old new picks) where
+module _ {O B : Type 0} (old new : Program O B) (lists : HasLists old) (op : Ptr Operation) (picks : Ptr BasicBlock → Bool) (below : (b : Ptr BasicBlock) → picks b ≡ true → IsBlockBelow old op b) (loses : ErasesPickedBlocks old new picks) where
   -- what is inside a block that goes is below the root
-  under_root : (e : IRNode) → IsWithin old picks e → StandsInside old (OperationNode op) e
+  under_root : (e : IRNode) → IsWithinPickedBlocks old picks e → StandsInside old (OperationNode op) e
   under_root e h = inside_both old (OperationNode op) (BlockNode h.0) e (below h.0 h.1) h.2
 
-  pub root_stays : IsWithin old picks (OperationNode op) → ⊥
+  pub root_stays : IsWithinPickedBlocks old picks (OperationNode op) → ⊥
   root_stays h = let e : BlockNode h.0 ≡ OperationNode op = is_root old lists op (BlockNode h.0) (below h.0 h.1) h.2 in cc
 
   -- what stays doesn't go
-  stays : (e : IRNode) → Stays old (cutting picks) op e → IsWithin old picks e → ⊥
+  stays : (e : IRNode) → Stays old (cutting picks) op e → IsWithinPickedBlocks old picks e → ⊥
   stays _ root h = root_stays h
   stays _ (in_operation p v r s there listed) h =
       let at = lists.regions p listed.0 r (ap (λ o. slice_get (unwrap_or (option_map (λ (x : OperationView O). x.regions) o) []) listed.0) there ∙ listed.1) in
@@ -135,7 +135,7 @@ module _ {O B : Type 0} (old new : Program O B) (lists : HasLists old) (op : Ptr
         ∙ ap (λ bs. Some (record v { blocks = bs })) (without_none picks v.blocks (none_goes r v out there));
   }
 
-  module _ {A : Type 0} (d : Dialect (in_program O B) A) (place : Place by_handle) (t : ProgramTree O B) (stands : StandsFor old op t) (unreached : (b : Ptr BasicBlock) → (picks b ≡ true) ↔ IsUnreached d place t b) (reach : HasReachTest t) where
+  module _ {A : Type 0} (d : Dialect (in_program O B) A) (place : StartingRegions by_handle) (t : ProgramTree O B) (stands : StandsFor old op t) (unreached : (b : Ptr BasicBlock) → (picks b ≡ true) ↔ IsUnreached d place t b) (reach : HasReachTest t) where
     abbrev pub is_cut : IsCut d place t (record { head = t.head; regions = keep picks t.regions })
     is_cut = record {
       reach = reach.0;
@@ -159,7 +159,7 @@ module _ {O B : Type 0} (old new : Program O B) (lists : HasLists old) (op : Ptr
     }
 
 -- nothing is lost where nothing is picked
-pub none_lost : {O B : Type 0} (c : Program O B) (picks : Ptr BasicBlock → Bool) → ((b : Ptr BasicBlock) → picks b ≡ false) → ErasesPicked c c picks
+pub none_lost : {O B : Type 0} (c : Program O B) (picks : Ptr BasicBlock → Bool) → ((b : Ptr BasicBlock) → picks b ≡ false) → ErasesPickedBlocks c c picks
 none_lost {O} {B} c picks none = record {
   operations = λ p out. refl;
   blocks = λ b out. refl;

@@ -21,7 +21,7 @@ use Rattle.ir_program.specs.declared.handles.BasicBlock.{BasicBlock}
 use Rattle.ir_program.specs.declared.handles.Use.{Use}
 use Rattle.ir_program.specs.declared.handles.Value.{Value}
 use Rattle.ir_trees.specs.Searched.{Lists}
-use Rattle.opt_simplify.specs.Removed.{Gains, IsTakenBy, IsTakenOutside, IsWithin, TakesListed, TakesWithin, is_listed}
+use Rattle.opt_simplify.specs.Removed.{GainsMembers, IsTakenBy, IsTakenOutsideBlocks, IsWithinPickedBlocks, TakesListed, TakesWithin, is_listed}
 use Rattle.ir_trees.proofs.Members.{Has, at_has}
 use Rattle.opt_simplify.proofs.RemovedErased.{node_found}
 use Rattle.opt_simplify.proofs.RemovedAmong.{among_more, also_it, also_picked, it_or_picked}
@@ -36,9 +36,9 @@ module _ {X : Type 0} where
   )
 
   -- a set with an item more
-  pub gained : (eq : X → X → Bool) → ((a b : X) → eq a b ≡ true → a ≡ b) → (keys after : List X) (x : X) → after ≡ insert_key eq keys x → Gains keys after (λ y. y ≡ x)
-  gained eq same keys after x is = subst (λ ks. Gains keys ks (λ y. y ≡ x)) (sym is) (by_test (list_any (eq x) keys) refl) where
-    by_test : (b : Bool) → list_any (eq x) keys ≡ b → Gains keys (if b then keys else keys ++ x ∷ []) (λ y. y ≡ x)
+  pub gained : (eq : X → X → Bool) → ((a b : X) → eq a b ≡ true → a ≡ b) → (keys after : List X) (x : X) → after ≡ insert_key eq keys x → GainsMembers keys after (λ y. y ≡ x)
+  gained eq same keys after x is = subst (λ ks. GainsMembers keys ks (λ y. y ≡ x)) (sym is) (by_test (list_any (eq x) keys) refl) where
+    by_test : (b : Bool) → list_any (eq x) keys ≡ b → GainsMembers keys (if b then keys else keys ++ x ∷ []) (λ y. y ≡ x)
     by_test true e y = (λ l. inl l, λ h. ⊎_elim (λ l. l) (λ (s : y ≡ x). subst (Lists keys) (sym s) (contains_lists keys x (Contains-list_any eq same keys x e))) h)
     by_test false e y = lists_more keys x y
 
@@ -49,10 +49,10 @@ module _ {X : Type 0} where
   )
 
   -- gained one after the other
-  pub gains_none : (keys : List X) → Gains keys keys (λ y. ⊥)
+  pub gains_none : (keys : List X) → GainsMembers keys keys (λ y. ⊥)
   gains_none keys y = (λ l. inl l, λ h. ⊎_elim (λ l. l) (λ (n : ⊥). absurd n) h)
 
-  pub gains_both : (a b c : List X) (P Q R : X → Type 0) → Gains a b P → Gains b c Q → ((y : X) → R y ↔ (P y ⊎ Q y)) → Gains a c R
+  pub gains_both : (a b c : List X) (P Q R : X → Type 0) → GainsMembers a b P → GainsMembers b c Q → ((y : X) → R y ↔ (P y ⊎ Q y)) → GainsMembers a c R
   gains_both a b c P Q R p q r y = (
     λ l. ⊎_elim
         (λ m. ⊎_elim (λ n. inl n) (λ h. inr ((r y).1 (inl h))) ((p y).0 m))
@@ -73,10 +73,10 @@ module _ {O B : Type 0} (c : Program O B) where
   none_yet x l = none-some x l.1
 
   -- a block and what is in it, one after the other
-  pub node_gained : (old mid new : List IRNode) (done : List IRNode) (e : IRNode) → Gains old mid (Lists done) → Gains mid new (λ x. x ≡ e) → Gains old new (Lists (done ++ e ∷ []))
+  pub node_gained : (old mid new : List IRNode) (done : List IRNode) (e : IRNode) → GainsMembers old mid (Lists done) → GainsMembers mid new (λ x. x ≡ e) → GainsMembers old new (Lists (done ++ e ∷ []))
   node_gained old mid new done e p q = gains_both old mid new (Lists done) (λ x. x ≡ e) (Lists (done ++ e ∷ [])) p q (λ y. lists_more done e y)
 
-  pub block_gained : (b : Ptr BasicBlock) (old new done all : List IRNode) → AreInside c (BlockNode b) all → done ≡ all → Gains old new (Lists done) → Gains old new (StandsInside c (BlockNode b))
+  pub block_gained : (b : Ptr BasicBlock) (old new done all : List IRNode) → AreInside c (BlockNode b) all → done ≡ all → GainsMembers old new (Lists done) → GainsMembers old new (StandsInside c (BlockNode b))
   block_gained b old new done all members same g y =
       let h = subst (λ es. Lists new y ↔ (Lists old y ⊎ Lists es y)) same (g y) in (
         λ l. ⊎_elim (λ m. inl m) (λ (m : Lists all y). inr (members.inside m.0 y m.1)) (h.0 l),
@@ -84,12 +84,12 @@ module _ {O B : Type 0} (c : Program O B) where
       )
 
   -- the first blocks
-  pub within_none : (nodes : List IRNode) → ((e : IRNode) → Lists nodes e → ⊥) → (e : IRNode) → Lists nodes e ↔ IsWithin c (λ b. false) e
+  pub within_none : (nodes : List IRNode) → ((e : IRNode) → Lists nodes e → ⊥) → (e : IRNode) → Lists nodes e ↔ IsWithinPickedBlocks c (λ b. false) e
   within_none nodes none e = (λ l. absurd (none e l), λ h. let f : false ≡ true = h.1 in cc)
 
-  pub within_next : (bs : List (Ptr BasicBlock)) (i : ℕ) (a : Ptr BasicBlock) → slice_get bs i ≡ Some a → (nodes nodes' : List IRNode) → Gains nodes nodes' (StandsInside c (BlockNode a))
-      → ((e : IRNode) → Lists nodes e ↔ IsWithin c (is_listed (take i bs)) e) → (e : IRNode) → Lists nodes' e ↔ IsWithin c (is_listed (take (i + 1) bs)) e
-  within_next bs i a here nodes nodes' g known e = subst (λ picks. Lists nodes' e ↔ IsWithin c picks e) (among_more bs i a here) (
+  pub within_next : (bs : List (Ptr BasicBlock)) (i : ℕ) (a : Ptr BasicBlock) → slice_get bs i ≡ Some a → (nodes nodes' : List IRNode) → GainsMembers nodes nodes' (StandsInside c (BlockNode a))
+      → ((e : IRNode) → Lists nodes e ↔ IsWithinPickedBlocks c (is_listed (take i bs)) e) → (e : IRNode) → Lists nodes' e ↔ IsWithinPickedBlocks c (is_listed (take (i + 1) bs)) e
+  within_next bs i a here nodes nodes' g known e = subst (λ picks. Lists nodes' e ↔ IsWithinPickedBlocks c picks e) (among_more bs i a here) (
     λ l. ⊎_elim
         (λ m. let w = (known e).0 m in (w.0, also_picked a (is_listed (take i bs)) w.0 w.1, w.2))
         (λ s. (a, also_it a (is_listed (take i bs)), s))
@@ -100,8 +100,8 @@ module _ {O B : Type 0} (c : Program O B) where
         (it_or_picked a (is_listed (take i bs)) w.0 w.1)),
   )
 
-  pub within_all : (bs : List (Ptr BasicBlock)) (i : ℕ) → length bs ≤ i → (nodes : List IRNode) → ((e : IRNode) → Lists nodes e ↔ IsWithin c (is_listed (take i bs)) e) → (e : IRNode) → Lists nodes e ↔ IsWithin c (is_listed bs) e
-  within_all bs i all nodes h = subst (λ xs. (e : IRNode) → Lists nodes e ↔ IsWithin c (is_listed xs) e) (take_all bs i all) h
+  pub within_all : (bs : List (Ptr BasicBlock)) (i : ℕ) → length bs ≤ i → (nodes : List IRNode) → ((e : IRNode) → Lists nodes e ↔ IsWithinPickedBlocks c (is_listed (take i bs)) e) → (e : IRNode) → Lists nodes e ↔ IsWithinPickedBlocks c (is_listed bs) e
+  within_all bs i all nodes h = subst (λ xs. (e : IRNode) → Lists nodes e ↔ IsWithinPickedBlocks c (is_listed xs) e) (take_all bs i all) h
 
   -- uses of a value
   pub taken_here : (nodes : List IRNode) (v : Value) (us : List (Use Value)) → AreUsesOf c v us → (done rest : List (Use Value)) (u : Use Value) → done ++ u ∷ rest ≡ us → (Lists nodes (OperationNode u.user_op) → ⊥) → IsTakenBy c nodes v
@@ -121,13 +121,13 @@ module _ {O B : Type 0} (c : Program O B) where
       t.2 (inside u (k.0, k.1))
 
 -- nothing is gained yet
-pub begun : {X : Type 0} (keys : List X) → Gains keys keys (Lists [])
+pub begun : {X : Type 0} (keys : List X) → GainsMembers keys keys (Lists [])
 begun keys y = (λ l. inl l, λ h. ⊎_elim (λ l. l) (λ (n : Lists [] y). absurd (none-some y n.1)) h)
 
 -- whether values of these entities are taken by others
 module _ {O B : Type 0} (c : Program O B) (picks : Ptr BasicBlock → Bool) (used : (v : Value) → IsUsed c v → IsLiveValue c v) (values : List Value)
-    (all : (v : Value) → IsLiveValue c v → IsWithin c picks (definer_node v.definer) → Lists values v) (nodes : List IRNode) (known : (e : IRNode) → Lists nodes e ↔ IsWithin c picks e) where
-  pub taken_outside : TakesListed c nodes values → IsTakenOutside c picks
+    (all : (v : Value) → IsLiveValue c v → IsWithinPickedBlocks c picks (definer_node v.definer) → Lists values v) (nodes : List IRNode) (known : (e : IRNode) → Lists nodes e ↔ IsWithinPickedBlocks c picks e) where
+  pub taken_outside : TakesListed c nodes values → IsTakenOutsideBlocks c picks
   taken_outside t = record { user = t.3.0; value = t.0; takes = t.3.1; defined = (known (definer_node t.0.definer)).0 t.2; outside = λ w. t.3.2 ((known (OperationNode t.3.0)).1 w) }
 
   used_at : (p : Ptr Operation) (k : ℕ) (v : Value) → slice_get (operands_at c p) k ≡ Some v → IsUsed c v

@@ -10,14 +10,14 @@ use Rattle.ir_program.specs.declared.handles.Operation.{Operation}
 use Rattle.ir_program.specs.declared.handles.BasicBlock.{BasicBlock}
 use Rattle.ir_trees.specs.Stands.{by_handle, in_program, ProgramTree, StandsFor}
 use Rattle.opt_trees.specs.Dialect.{Dialect}
-use Rattle.opt_trees.specs.Simplify.{Place, IsCut}
+use Rattle.opt_trees.specs.Simplify.{StartingRegions, IsCut}
 use Rattle.opt_inside.specs.Edges.{HasLocalEdgesBelow, FitsEdgesBelow}
 use Rattle.opt_inside.specs.Outside.{AddsNoneOutside, KeepsOutside}
 use Rattle.opt_reach.specs.Edges.{HasLocalEdgesFrom, FitsEdgesFrom}
 use Rattle.opt_reach.specs.declared.starts.Start.{Start}
 
 -- the blocks of visited regions that nothing reaches are gone, with all that is in them; nothing has come inside
-pub record RemovesBlocks {O B A : Type 0} (d : Dialect (in_program O B) A) (p : Place by_handle) (old new : Program O B)
+pub record RemovesBlocks {O B A : Type 0} (d : Dialect (in_program O B) A) (p : StartingRegions by_handle) (old new : Program O B)
     (op : Ptr Operation) (t : ProgramTree O B) : Type 0 where
   pub after : ProgramTree O B
   pub cut : IsCut d p t after

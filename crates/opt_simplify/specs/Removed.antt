@@ -27,63 +27,63 @@ without picks (x ∷ xs) = if picks x then without picks xs else x ∷ without p
 
 module _ {O B : Type 0} where
   -- the entity is one of the blocks that are picked, or stands in one
-  abbrev pub IsWithin : Program O B → (Ptr BasicBlock → Bool) → IRNode → Type 0
-  IsWithin c picks e = (a : Ptr BasicBlock) × (picks a ≡ true) × StandsInside c (BlockNode a) e
+  abbrev pub IsWithinPickedBlocks : Program O B → (Ptr BasicBlock → Bool) → IRNode → Type 0
+  IsWithinPickedBlocks c picks e = (a : Ptr BasicBlock) × (picks a ≡ true) × StandsInside c (BlockNode a) e
 
   -- no block that is picked stands in another
   abbrev pub ArePickedApart : Program O B → (Ptr BasicBlock → Bool) → Type 0
   ArePickedApart c picks = (a b : Ptr BasicBlock) → picks a ≡ true → picks b ≡ true → StandsInside c (BlockNode a) (BlockNode b) → a ≡ b
 
   -- each entity is inside the block or isn't
-  abbrev pub DecidesInside : Program O B → Ptr BasicBlock → Type 0
-  DecidesInside c b = (e : IRNode) → StandsInside c (BlockNode b) e ⊎ (StandsInside c (BlockNode b) e → ⊥)
+  abbrev pub DecidesInsideBlock : Program O B → Ptr BasicBlock → Type 0
+  DecidesInsideBlock c b = (e : IRNode) → StandsInside c (BlockNode b) e ⊎ (StandsInside c (BlockNode b) e → ⊥)
 
   -- each entity is inside the operation or isn't
   abbrev pub DecidesWithin : Program O B → Ptr Operation → Type 0
   DecidesWithin c op = (e : IRNode) → StandsInside c (OperationNode op) e ⊎ (StandsInside c (OperationNode op) e → ⊥)
 
   -- the operations in the blocks that are picked have no operands and no successors, and all else is as it was
-  pub record DropsPicked (old new : Program O B) (picks : Ptr BasicBlock → Bool) : Type 0 where
-    pub within : (p : Ptr Operation) → IsWithin old picks (OperationNode p) → operation_at new p ≡ option_map without_uses (operation_at old p)
-    pub outside : (p : Ptr Operation) → (IsWithin old picks (OperationNode p) → ⊥) → operation_at new p ≡ operation_at old p
+  pub record DropsPickedBlocks (old new : Program O B) (picks : Ptr BasicBlock → Bool) : Type 0 where
+    pub within : (p : Ptr Operation) → IsWithinPickedBlocks old picks (OperationNode p) → operation_at new p ≡ option_map without_uses (operation_at old p)
+    pub outside : (p : Ptr Operation) → (IsWithinPickedBlocks old picks (OperationNode p) → ⊥) → operation_at new p ≡ operation_at old p
     pub either : (p : Ptr Operation) → (operation_at new p ≡ operation_at old p) ⊎ (operation_at new p ≡ option_map without_uses (operation_at old p))
     pub blocks : (b : Ptr BasicBlock) → block_at new b ≡ block_at old b
     pub regions : (r : Ptr Region) → region_at new r ≡ region_at old r
 
   -- the blocks that are picked are erased with all that is in them, and each other operation, block and region is as it was, without them
-  pub record ErasesPicked (old new : Program O B) (picks : Ptr BasicBlock → Bool) : Type 0 where
+  pub record ErasesPickedBlocks (old new : Program O B) (picks : Ptr BasicBlock → Bool) : Type 0 where
     pub there : (b : Ptr BasicBlock) → picks b ≡ true → IsLiveNode old (BlockNode b)
-    pub operations : (p : Ptr Operation) → (IsWithin old picks (OperationNode p) → ⊥) → operation_at new p ≡ operation_at old p
-    pub blocks : (b : Ptr BasicBlock) → (IsWithin old picks (BlockNode b) → ⊥) → block_at new b ≡ block_at old b
-    pub regions : (r : Ptr Region) → (IsWithin old picks (RegionNode r) → ⊥) → region_at new r ≡ option_map (λ (v : RegionView). record v { blocks = without picks v.blocks }) (region_at old r)
-    pub gone : (e : IRNode) → IsLiveNode old e → IsWithin old picks e → IsErased new e
+    pub operations : (p : Ptr Operation) → (IsWithinPickedBlocks old picks (OperationNode p) → ⊥) → operation_at new p ≡ operation_at old p
+    pub blocks : (b : Ptr BasicBlock) → (IsWithinPickedBlocks old picks (BlockNode b) → ⊥) → block_at new b ≡ block_at old b
+    pub regions : (r : Ptr Region) → (IsWithinPickedBlocks old picks (RegionNode r) → ⊥) → region_at new r ≡ option_map (λ (v : RegionView). record v { blocks = without picks v.blocks }) (region_at old r)
+    pub gone : (e : IRNode) → IsLiveNode old e → IsWithinPickedBlocks old picks e → IsErased new e
     pub decided : (e : IRNode) → IsLiveNode old e → IsLiveNode new e ⊎ IsErased new e
 
   -- no operation takes a value that is defined in what is picked, or may go on to a block there
-  pub record NamesNone (c : Program O B) (picks : Ptr BasicBlock → Bool) : Type 0 where
-    pub values : (p : Ptr Operation) (k : ℕ) (v : Value) → slice_get (operands_at c p) k ≡ Some v → IsWithin c picks (definer_node v.definer) → ⊥
-    pub blocks : (p : Ptr Operation) (k : ℕ) (b : Ptr BasicBlock) → slice_get (successors_at c p) k ≡ Some b → IsWithin c picks (BlockNode b) → ⊥
+  pub record NamesNoneOfBlocks (c : Program O B) (picks : Ptr BasicBlock → Bool) : Type 0 where
+    pub values : (p : Ptr Operation) (k : ℕ) (v : Value) → slice_get (operands_at c p) k ≡ Some v → IsWithinPickedBlocks c picks (definer_node v.definer) → ⊥
+    pub blocks : (p : Ptr Operation) (k : ℕ) (b : Ptr BasicBlock) → slice_get (successors_at c p) k ≡ Some b → IsWithinPickedBlocks c picks (BlockNode b) → ⊥
 
   -- values that are defined in what is picked are taken there alone
   abbrev pub TakesWithin : Program O B → (Ptr BasicBlock → Bool) → Type 0
-  TakesWithin c picks = (p : Ptr Operation) (k : ℕ) (v : Value) → slice_get (operands_at c p) k ≡ Some v → IsWithin c picks (definer_node v.definer) → IsWithin c picks (OperationNode p)
+  TakesWithin c picks = (p : Ptr Operation) (k : ℕ) (v : Value) → slice_get (operands_at c p) k ≡ Some v → IsWithinPickedBlocks c picks (definer_node v.definer) → IsWithinPickedBlocks c picks (OperationNode p)
 
   -- what is picked is named in what is picked alone
   pub record NamesWithin (c : Program O B) (picks : Ptr BasicBlock → Bool) : Type 0 where
-    pub values : (p : Ptr Operation) (k : ℕ) (v : Value) → slice_get (operands_at c p) k ≡ Some v → IsWithin c picks (definer_node v.definer) → IsWithin c picks (OperationNode p)
-    pub blocks : (p : Ptr Operation) (k : ℕ) (b : Ptr BasicBlock) → slice_get (successors_at c p) k ≡ Some b → IsWithin c picks (BlockNode b) → IsWithin c picks (OperationNode p)
+    pub values : (p : Ptr Operation) (k : ℕ) (v : Value) → slice_get (operands_at c p) k ≡ Some v → IsWithinPickedBlocks c picks (definer_node v.definer) → IsWithinPickedBlocks c picks (OperationNode p)
+    pub blocks : (p : Ptr Operation) (k : ℕ) (b : Ptr BasicBlock) → slice_get (successors_at c p) k ≡ Some b → IsWithinPickedBlocks c picks (BlockNode b) → IsWithinPickedBlocks c picks (OperationNode p)
 
   -- an operation outside these blocks takes a value that is defined in them
-  pub record IsTakenOutside (c : Program O B) (picks : Ptr BasicBlock → Bool) : Type 0 where
+  pub record IsTakenOutsideBlocks (c : Program O B) (picks : Ptr BasicBlock → Bool) : Type 0 where
     pub user : Ptr Operation
     pub value : Value
     pub takes : Lists (operands_at c user) value
-    pub defined : IsWithin c picks (definer_node value.definer)
-    pub outside : IsWithin c picks (OperationNode user) → ⊥
+    pub defined : IsWithinPickedBlocks c picks (definer_node value.definer)
+    pub outside : IsWithinPickedBlocks c picks (OperationNode user) → ⊥
 
 -- the new list has what the old one has, and those of which it holds
-abbrev pub Gains : {X : Type 0} → List X → List X → (X → Type 0) → Type 0
-Gains {X} old new P = (x : X) → Lists new x ↔ (Lists old x ⊎ P x)
+abbrev pub GainsMembers : {X : Type 0} → List X → List X → (X → Type 0) → Type 0
+GainsMembers {X} old new P = (x : X) → Lists new x ↔ (Lists old x ⊎ P x)
 
 -- an operation that isn't one of these entities takes the value
 abbrev pub IsTakenBy : {O B : Type 0} → Program O B → List IRNode → Value → Type 0

@@ -11,7 +11,7 @@ ghost use Rattle.opt_inside.specs.Numbered.{NumbersInside, numbers_of};
 ghost use Rattle.opt_reach.specs.Edges.{HasLocalEdgesFrom};
 ghost use Rattle.opt_reach.specs.Fates.{HasReachTest};
 ghost use Rattle.opt_reach.specs.Starts.{IsStartIn};
-ghost use Rattle.opt_trees.specs.Simplify.{IsUnreached, Place};
+ghost use Rattle.opt_trees.specs.Simplify.{IsUnreached, StartingRegions};
 ghost use Rattle.opt_simplify.specs.Phases.{KeepsEdges, RemovesBlocks};
 ghost use Rattle.opt_simplify.specs.Refusals.{AreUnreached, HasNoneUnreached, LosesNone, LosesUses};
 ghost use Rattle.opt_simplify.specs.Removed.{DecidesWithin, TakesWithin, is_listed};
@@ -54,7 +54,7 @@ fn unreached_blocks<D: Meanings>(
     requires live { IsSome (operation_at program.now op) }
     requires edges { HasLocalEdgesFrom D.meaning.is_terminator program.now start }
     requires numbered { NumbersInside program.now op (numbers_of inside.now) }
-    ensures unreached { IfOk result (λ unreached. (p : Place by_handle) → IsStartIn program.now start p
+    ensures unreached { IfOk result (λ unreached. (p : StartingRegions by_handle) → IsStartIn program.now start p
         → (t : ProgramTree D.Operation D.Block) → StandsFor program.now op t
         → (b : Ptr BasicBlock) → Lists unreached.items b ↔ IsUnreached D.meaning p t b) }
     ensures once { IfOk result (λ unreached. AreDistinct unreached.items) }
@@ -75,7 +75,7 @@ fn find_unreached<D: Meanings>(
     start: Start,
 ) -> Result<Unreached, AllocError>
     requires live { IsSome (operation_at program.now op) }
-    requires start { (p : Place by_handle) × IsStartIn program.now start p }
+    requires start { (p : StartingRegions by_handle) × IsStartIn program.now start p }
     requires edges { HasLocalEdgesFrom D.meaning.is_terminator program.now start }
     ensures found { IfOk result (λ u. AreUnreached D.meaning program.now op start u.blocks.items) }
     ensures taken { IfOk result (λ u. u.is_taken ≡ true → LosesUses D.meaning program.now op start) }
@@ -111,7 +111,7 @@ pub fn remove_unreached<D: OptDialect, T: TypeTable>(
 ) -> Result<IRStatus, OptError>
     requires live { IsSome (operation_at ctx.old.program op) }
     requires edges { HasLocalEdgesFrom D.meaning.is_terminator ctx.old.program start }
-    ensures removed { OnOk result ((p : Place by_handle) → IsStartIn ctx.old.program start p
+    ensures removed { OnOk result ((p : StartingRegions by_handle) → IsStartIn ctx.old.program start p
         → (t : ProgramTree D.Operation D.Block) → StandsFor ctx.old.program op t
         → RemovesBlocks D.meaning p ctx.old.program ctx.new.program op t) }
     ensures unchanged { IfOk result (λ status. (status ≡ Unchanged)

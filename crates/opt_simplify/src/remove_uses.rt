@@ -9,7 +9,7 @@ ghost use Rattle.ir_program.specs.declared.handles.IRNode.TheVariants.{BasicBloc
 ghost use Rattle.ir_program.specs.declared.handles.Ptr.{Ptr};
 ghost use Rattle.ir_program.specs.declared.handles.Value.{Value};
 ghost use Rattle.ir_trees.specs.Searched.{Lists};
-ghost use Rattle.opt_simplify.specs.Removed.{Gains, IsTakenBy, IsTakenOutside, IsWithin, TakesListed, TakesWithin, is_listed};
+ghost use Rattle.opt_simplify.specs.Removed.{GainsMembers, IsTakenBy, IsTakenOutsideBlocks, IsWithinPickedBlocks, TakesListed, TakesWithin, is_listed};
 
 use indexmap::IndexSet;
 use ir_program::{BasicBlock, DefiningEntity, IRNode, Program, Ptr, Value};
@@ -17,7 +17,7 @@ use std::alloc::{AllocError, Global};
 
 /// Puts an entity to others, if it isn't one of them.
 fn add_node(nodes: &mut IndexSet<IRNode>, node: IRNode) -> Result<(), AllocError>
-    ensures { OnOk result (Gains nodes.old.keys nodes.new.keys (λ e. e ≡ node)) }
+    ensures { OnOk result (GainsMembers nodes.old.keys nodes.new.keys (λ e. e ≡ node)) }
 {
     nodes.insert(node)?;
     Ok(())
@@ -47,7 +47,7 @@ fn add_block<O, B>(
     block: Ptr<BasicBlock>,
 ) -> Result<(), AllocError>
     requires { IsSome (block_at program.now block) }
-    ensures { OnOk result (Gains nodes.old.keys nodes.new.keys (StandsInside program.now (BlockNode block))) }
+    ensures { OnOk result (GainsMembers nodes.old.keys nodes.new.keys (StandsInside program.now (BlockNode block))) }
 {
     for node in program.nodes_inside(IRNode::BasicBlock(block)) {
         add_node(nodes, node)?;
@@ -62,7 +62,8 @@ fn nodes_in<O, B>(
     blocks: &[Ptr<BasicBlock>],
 ) -> Result<IndexSet<IRNode>, AllocError>
     requires { (b : Ptr BasicBlock) → is_listed blocks.now b ≡ true → IsLiveNode program.now (BlockNode b) }
-    ensures { IfOk result (λ nodes. (e : IRNode) → Lists nodes.keys e ↔ IsWithin program.now (is_listed blocks.now) e) }
+    ensures { IfOk result (λ nodes. (e : IRNode) → Lists nodes.keys e
+        ↔ IsWithinPickedBlocks program.now (is_listed blocks.now) e) }
 {
     let mut nodes = IndexSet::new(alloc);
     for block in blocks {
@@ -111,8 +112,8 @@ pub(crate) fn is_taken_outside<O, B>(
     requires there { (b : Ptr BasicBlock) → is_listed blocks.now b ≡ true → IsLiveNode program.now (BlockNode b) }
     requires values { (v : Value) → Lists values.now v → IsLiveValue program.now v }
     requires all { (v : Value) → IsLiveValue program.now v
-        → IsWithin program.now (is_listed blocks.now) (definer_node v.definer) → Lists values.now v }
-    ensures taken { IfOk result (λ taken. taken ≡ true → IsTakenOutside program.now (is_listed blocks.now)) }
+        → IsWithinPickedBlocks program.now (is_listed blocks.now) (definer_node v.definer) → Lists values.now v }
+    ensures taken { IfOk result (λ taken. taken ≡ true → IsTakenOutsideBlocks program.now (is_listed blocks.now)) }
     ensures within { IfOk result (λ taken. taken ≡ false → TakesWithin program.now (is_listed blocks.now)) }
 {
     program.know_values();

@@ -9,8 +9,8 @@ use Rattle.std.proofs.lemmas.Option.{none-some, same_Some, slice_get_within, sli
 use Rattle.opt_solvers.specs.declared.chains_followed.Mark.{Mark}
 use Rattle.opt_solvers.specs.declared.chains_followed.Mark.TheVariants.{New, OnPath, Done}
 use Rattle.opt_solvers.specs.declared.chains_followed.Following.{Following}
-use Rattle.opt_solvers.specs.Chains.{Follows, stops, goes_on, Chases, goes, goes_by}
-use Rattle.opt_solvers.specs.ChainsFollowed.{IsInRange, HasMark, HasFinal, IsFollowing, Enters, Ends, WritesBack, IsResolved, Answers}
+use Rattle.opt_solvers.specs.Chains.{EndsUpAt, stops, goes_on, StepsAlong, goes, goes_by}
+use Rattle.opt_solvers.specs.ChainsFollowed.{AreLinksInRange, HasMark, HasFinal, IsFollowing, EntersPath, EndsPath, WritesBack, FinalIsKnown, AreFinals}
 
 abbrev pub is_new : Mark → Bool
 is_new New = true
@@ -29,20 +29,20 @@ get_set (y ∷ xs) (suc i) x (suc k) h = ⊎_elim
     (get_set xs i x k (omega (arith, h)))
 
 module _ (next : List (Option ℕ)) where
-  pub chase_more : (v u x : ℕ) → Chases next v u → slice_get next u ≡ Some (Some x) → Chases next v x
+  pub chase_more : (v u x : ℕ) → StepsAlong next v u → slice_get next u ≡ Some (Some x) → StepsAlong next v x
   chase_more v u x (goes _ _ e) q = goes_by v u x e (goes u x q)
   chase_more v u x (goes_by _ w _ e c) q = goes_by v w x e (chase_more w u x c q)
 
-  pub chase_ends : (v u f : ℕ) → Chases next v u → Follows next u f → Follows next v f
+  pub chase_ends : (v u f : ℕ) → StepsAlong next v u → EndsUpAt next u f → EndsUpAt next v f
   chase_ends v u f (goes _ _ e) q = goes_on v u f e q
   chase_ends v u f (goes_by _ w _ e c) q = goes_on v w f e (chase_ends w u f c q)
 
-  turned : (v u : ℕ) → slice_get next v ≡ Some (Some u) → Chases next v v → Chases next u u
-  turned v u e (goes _ _ q) = let s = same_Some v u (same_Some (Some v) (Some u) (sym q ∙ e)) in subst (λ x. Chases next x x) s (goes v v q)
-  turned v u e (goes_by _ w _ q c) = let s = same_Some w u (same_Some (Some w) (Some u) (sym q ∙ e)) in chase_more u v u (subst (λ x. Chases next x v) s c) e
+  turned : (v u : ℕ) → slice_get next v ≡ Some (Some u) → StepsAlong next v v → StepsAlong next u u
+  turned v u e (goes _ _ q) = let s = same_Some v u (same_Some (Some v) (Some u) (sym q ∙ e)) in subst (λ x. StepsAlong next x x) s (goes v v q)
+  turned v u e (goes_by _ w _ q c) = let s = same_Some w u (same_Some (Some w) (Some u) (sym q ∙ e)) in chase_more u v u (subst (λ x. StepsAlong next x v) s c) e
 
   -- what has an end doesn't come back
-  pub never_back : (v f : ℕ) → Follows next v f → Chases next v v → ⊥
+  pub never_back : (v f : ℕ) → EndsUpAt next v f → StepsAlong next v v → ⊥
   never_back v f (stops _ n) (goes _ _ e) = n v e
   never_back v f (stops _ n) (goes_by _ w _ e c) = n w e
   never_back v f (goes_on _ u _ e r) c = never_back u f r (turned v u e c)
@@ -58,7 +58,7 @@ module _ (next : List (Option ℕ)) where
     pub leads : (v : ℕ) → Contains path v → Leads v
 
   pub record IsWalking (old new : Following) (path : List ℕ) (start at : ℕ) : Type 0 where
-    pub walked : IsPath old new path (λ v. Chases next v at)
+    pub walked : IsPath old new path (λ v. StepsAlong next v at)
     pub at_in : at < length next
     pub begun : (at ≡ start) ⊎ Contains path start
 
@@ -80,7 +80,7 @@ module _ (next : List (Option ℕ)) where
       none : (v : ℕ) → Contains path v → ⊥
       none v c = omega (arith, c.1, ap length e)
 
-  path_more : (old a b : Following) (path longer : List ℕ) (at : ℕ) (Leads Next : ℕ → Type 0) → IsPath old a path Leads → at < length next → HasMark a at New → Enters a b path longer at
+  path_more : (old a b : Following) (path longer : List ℕ) (at : ℕ) (Leads Next : ℕ → Type 0) → IsPath old a path Leads → at < length next → HasMark a at New → EntersPath a b path longer at
       → ((v : ℕ) → Leads v → Next v) → Next at → IsPath old b longer Next
   path_more old a b path longer at Leads Next s h m e f g = record {
     marks = ap length e.marks ∙ length-set a.marks.items at OnPath ∙ s.marks;
@@ -114,14 +114,14 @@ module _ (next : List (Option ℕ)) where
       other q = cc
 
   -- a step to what the number stands for
-  pub walking_goes_on : (old a b : Following) (path longer : List ℕ) (start at to : ℕ) → IsInRange next → IsWalking old a path start at → HasMark a at New → Enters a b path longer at → slice_get next at ≡ Some (Some to) → IsWalking old b longer start to
+  pub walking_goes_on : (old a b : Following) (path longer : List ℕ) (start at to : ℕ) → AreLinksInRange next → IsWalking old a path start at → HasMark a at New → EntersPath a b path longer at → slice_get next at ≡ Some (Some to) → IsWalking old b longer start to
   walking_goes_on old a b path longer start at to r s m e q = record {
-    walked = path_more old a b path longer at (λ v. Chases next v at) (λ v. Chases next v to) s.walked s.at_in m e (λ v c. chase_more v at to c q) (goes at to q);
+    walked = path_more old a b path longer at (λ v. StepsAlong next v at) (λ v. StepsAlong next v to) s.walked s.at_in m e (λ v c. chase_more v at to c q) (goes at to q);
     at_in = r at to q;
     begun = inr (subst (λ xs. Contains xs start) (sym e.pushed) (⊎_elim (λ o. subst (Contains (path ++ at ∷ [])) o (Contains-push path at)) (λ c. Contains-append_left path (at ∷ []) start c) s.begun));
   }
 
-  ended : (old new : Following) (path : List ℕ) (start end : ℕ) → IsPath old new path (λ v. Follows next v end) → HasMark old start Done ⊎ Contains path start → Ends next old new path start end
+  ended : (old new : Following) (path : List ℕ) (start end : ℕ) → IsPath old new path (λ v. EndsUpAt next v end) → HasMark old start Done ⊎ Contains path start → EndsPath next old new path start end
   ended old new path start end s b = record {
     marks = s.marks;
     finals = s.finals;
@@ -134,16 +134,16 @@ module _ (next : List (Option ℕ)) where
   }
 
   -- the number stands for no other
-  pub walking_stops : (old a b : Following) (path longer : List ℕ) (start at : ℕ) → IsWalking old a path start at → HasMark a at New → Enters a b path longer at → slice_get next at ≡ Some None → Ends next old b longer start at
+  pub walking_stops : (old a b : Following) (path longer : List ℕ) (start at : ℕ) → IsWalking old a path start at → HasMark a at New → EntersPath a b path longer at → slice_get next at ≡ Some None → EndsPath next old b longer start at
   walking_stops old a b path longer start at s m e q = ended old b longer start at
-      (path_more old a b path longer at (λ v. Chases next v at) (λ v. Follows next v at) s.walked s.at_in m e (λ v c. chase_ends v at at c here) here)
+      (path_more old a b path longer at (λ v. StepsAlong next v at) (λ v. EndsUpAt next v at) s.walked s.at_in m e (λ v c. chase_ends v at at c here) here)
       (inr (subst (λ xs. Contains xs start) (sym e.pushed) (⊎_elim (λ o. subst (Contains (path ++ at ∷ [])) o (Contains-push path at)) (λ c. Contains-append_left path (at ∷ []) start c) s.begun)))
     where
-      here : Follows next at at
+      here : EndsUpAt next at at
       here = stops at (λ u e. absurd (none-some u (same_Some None (Some u) (sym q ∙ e))))
 
   -- the number has been followed
-  pub walking_meets : (old a : Following) (path : List ℕ) (start at end : ℕ) → IsFollowing next old → IsWalking old a path start at → HasMark a at Done → HasFinal a at end → Ends next old a path start end
+  pub walking_meets : (old a : Following) (path : List ℕ) (start at end : ℕ) → IsFollowing next old → IsWalking old a path start at → HasMark a at Done → HasFinal a at end → EndsPath next old a path start end
   walking_meets old a path start at end o s m f = ended old a path start end
       (record {
         marks = s.walked.marks;
@@ -157,13 +157,13 @@ module _ (next : List (Option ℕ)) where
       (⊎_elim (λ q. inl (subst (λ v. HasMark old v Done) q (s.walked.done at m))) (λ c. inr c) s.begun)
 
   -- all on the path got their end
-  pub resolved : (old a b : Following) (path : List ℕ) (start end : ℕ) → IsFollowing next old → Ends next old a path start end → WritesBack a b path end → IsResolved next old b start
+  pub resolved : (old a b : Following) (path : List ℕ) (start end : ℕ) → IsFollowing next old → EndsPath next old a path start end → WritesBack a b path end → FinalIsKnown next old b start
   resolved old a b path start end o s w = record {
     following = record {
       marks = w.marks ∙ s.marks;
       finals = w.finals ∙ ap length s.finals ∙ o.finals;
       done = λ v f m q. ⊎_elim
-          (λ c. subst (Follows next v) (same_Some end f (sym (w.here v c).1 ∙ q)) (s.follows v c))
+          (λ c. subst (EndsUpAt next v) (same_Some end f (sym (w.here v c).1 ∙ q)) (s.follows v c))
           (λ c. o.done v f (s.done v (sym c.0 ∙ m)) (sym (ap (λ xs. slice_get xs v) s.finals) ∙ sym c.1 ∙ q))
           (w.cases v);
       no_path = λ v m. ⊎_elim (λ c. both v c m) (λ c. both v (s.on_path v (sym c.0 ∙ m)) m) (w.cases v);
@@ -183,20 +183,20 @@ module _ (next : List (Option ℕ)) where
     pub following : IsFollowing next s
     pub below : (v : ℕ) → v < k → HasMark s v Done
 
-  pub followed_more : (a b : Following) (k : ℕ) → AreResolved a k → IsResolved next a b k → AreResolved b (k + 1)
+  pub followed_more : (a b : Following) (k : ℕ) → AreResolved a k → FinalIsKnown next a b k → AreResolved b (k + 1)
   followed_more a b k s r = record {
     following = r.following;
     below = below_more (λ v. HasMark b v Done) k (λ v h. r.keeps v (s.below v h)) r.there;
   }
 
-  pub followed_all : (s : Following) (k : ℕ) → k ≡ length next → AreResolved s k → Answers next s.finals.items
+  pub followed_all : (s : Following) (k : ℕ) → k ≡ length next → AreResolved s k → AreFinals next s.finals.items
   followed_all s k e r = record {
     len = r.following.finals;
     follows = λ v f q. let h = slice_get_within s.finals.items v f q in let l = r.following.finals in r.following.done v f (r.below v (omega (arith, h, l, e))) q;
     never_back = λ v c. let h = starts v v c in let q = final v h in never_back v q.0 (r.following.done v q.0 (r.below v (omega (arith, h, e))) q.1) c;
   }
     where
-      starts : (v x : ℕ) → Chases next v x → v < length next
+      starts : (v x : ℕ) → StepsAlong next v x → v < length next
       starts v x (goes _ u q) = slice_get_within next v (Some u) q
       starts v x (goes_by _ u _ q c) = slice_get_within next v (Some u) q
 
@@ -204,7 +204,7 @@ module _ (next : List (Option ℕ)) where
       final v h = (get_or s.finals.items v 0, slice_get-get_or s.finals.items v 0 (let l = r.following.finals in omega (arith, h, l)))
 
 -- how many numbers are new falls when one is entered
-pub fewer_new : (a b : Following) (path longer : List ℕ) (at : ℕ) → at < length a.marks.items → HasMark a at New → Enters a b path longer at → count_by is_new b.marks.items < count_by is_new a.marks.items
+pub fewer_new : (a b : Following) (path longer : List ℕ) (at : ℕ) → at < length a.marks.items → HasMark a at New → EntersPath a b path longer at → count_by is_new b.marks.items < count_by is_new a.marks.items
 fewer_new a b path longer at h m e =
     let s = sum_by-set (λ x. cond (is_new x) 1 0) a.marks.items at OnPath New h in
     let q = get_or_from_slice_get a.marks.items at New New m in

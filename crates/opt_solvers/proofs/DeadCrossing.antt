@@ -8,8 +8,8 @@ use Rattle.digraph.specs.Counts.{one, count_of}
 use Rattle.digraph.proofs.Counting.{count-append, contained, same_numbers}
 use Rattle.opt_solvers.specs.DeadCandidates.{Candidate, around_of}
 use Rattle.opt_solvers.specs.declared.dead_problem.DeadProblem.{DeadProblem}
-use Rattle.opt_solvers.specs.Dead.{IsIn, itself, further, IsDeadProblem}
-use Rattle.opt_solvers.specs.DeadPlaces.{around_operation, IsAround, IsBetween, IsNumber, GoesOut, IsBehind, Crosses}
+use Rattle.opt_solvers.specs.Dead.{IsInOperation, itself, further, IsDeadProblem}
+use Rattle.opt_solvers.specs.DeadPlaces.{around_operation, IsAtOrAround, IsBetween, IsOperationNumber, GoesOut, AreNumbersAbove, Crosses}
 
 pub some_or_none : (n : ℕ) → (1 ≤ n) ⊎ (n ≡ 0)
 some_or_none zero = inr refl
@@ -37,35 +37,35 @@ module _ (p : DeadProblem) where
       go None q e = absurd (none-some j e)
       go (Some c) q e = (c, q, e)
 
-  pub in_more : (a i j : ℕ) → around_operation p i ≡ Some j → IsIn p a j → IsIn p a i
+  pub in_more : (a i j : ℕ) → around_operation p i ≡ Some j → IsInOperation p a j → IsInOperation p a i
   in_more a i j e r = let c = around_there i j e in further i j c.0 c.1 c.2 r
 
   -- an operation is around itself, and what is around the one directly around it
-  pub around_cases : (s x : ℕ) → IsIn p x s → (x ≡ s) ⊎ IsAround p (around_operation p s) x
+  pub around_cases : (s x : ℕ) → IsInOperation p x s → (x ≡ s) ⊎ IsAtOrAround p (around_operation p s) x
   around_cases s x itself = inl refl
   around_cases s x (further _ j c e q r) = inr (j, ap around_of e ∙ q, r)
 
-  pub around_split : (s x : ℕ) → IsAround p (Some s) x → (x ≡ s) ⊎ IsAround p (around_operation p s) x
-  around_split s x (j, e, r) = around_cases s x (subst (IsIn p x) (sym (same_Some s j e)) r)
+  pub around_split : (s x : ℕ) → IsAtOrAround p (Some s) x → (x ≡ s) ⊎ IsAtOrAround p (around_operation p s) x
+  around_split s x (j, e, r) = around_cases s x (subst (IsInOperation p x) (sym (same_Some s j e)) r)
 
-  pub around_more : (s x : ℕ) → IsAround p (around_operation p s) x → IsAround p (Some s) x
+  pub around_more : (s x : ℕ) → IsAtOrAround p (around_operation p s) x → IsAtOrAround p (Some s) x
   around_more s x (j, e, r) = (s, refl, in_more x s j e r)
 
   -- so far outwards
   pub record IsGoingOut (from : Option ℕ) (limit : ℕ) (now : Option ℕ) : Type 0 where
-    pub number : IsNumber p now
-    pub around : (a : ℕ) → a ≤ limit → IsAround p from a ↔ IsAround p now a
+    pub number : IsOperationNumber p now
+    pub around : (a : ℕ) → a ≤ limit → IsAtOrAround p from a ↔ IsAtOrAround p now a
 
   -- what the row has and what is still to come is what is wanted
   pub record IsCrossing (inner outer : Option ℕ) (old : List ℕ) (definer user : Option ℕ) (row : List ℕ) : Type 0 where
-    pub definer_number : IsNumber p definer
-    pub user_number : IsNumber p user
+    pub definer_number : IsOperationNumber p definer
+    pub user_number : IsOperationNumber p user
     pub into : (x : ℕ) → Contains row x ⊎ IsBetween p definer user x → Contains old x ⊎ IsBetween p inner outer x
     pub back : (x : ℕ) → Contains old x ⊎ IsBetween p inner outer x → Contains row x ⊎ IsBetween p definer user x
-    pub behind : IsBehind definer row
+    pub behind : AreNumbersAbove definer row
 
   module _ (ok : IsDeadProblem p) where
-    pub in_below : (a i : ℕ) → IsIn p a i → a ≤ i
+    pub in_below : (a i : ℕ) → IsInOperation p a i → a ≤ i
     in_below a i itself = omega arith
     in_below a i (further _ j c e q r) = let l = ok.around i j c e q in let h = in_below a j r in omega (arith, l, h)
 
@@ -79,18 +79,18 @@ module _ (p : DeadProblem) where
         go None q = omega arith
         go (Some j) q = let l = around_below at j (sym q) in omega (arith, l)
 
-    pub around_number : (i : ℕ) → i < length p.operations → IsNumber p (around_operation p i)
+    pub around_number : (i : ℕ) → i < length p.operations → IsOperationNumber p (around_operation p i)
     around_number i h j e = let l = around_below i j e in omega (arith, h, l)
 
-    pub going_begins : (from : Option ℕ) (limit : ℕ) → IsNumber p from → IsGoingOut from limit from
+    pub going_begins : (from : Option ℕ) (limit : ℕ) → IsOperationNumber p from → IsGoingOut from limit from
     going_begins from limit n = record { number = n; around = λ a h. ((λ r. r), (λ r. r)) }
 
     pub going_on : (from now next : Option ℕ) (limit at : ℕ) → now ≡ Some at → limit < at → next ≡ around_operation p at → IsGoingOut from limit now → IsGoingOut from limit next
     going_on from now next limit at e l q s = subst (IsGoingOut from limit) (sym q) (record {
       number = around_number at (s.number at e);
       around = λ a h. (
-        (λ r. ⊎_elim (λ t. absurd (omega (arith, t, h, l))) (λ t. t) (around_split at a (subst (λ o. IsAround p o a) e ((s.around a h).0 r)))),
-        (λ r. (s.around a h).1 (subst (λ o. IsAround p o a) (sym e) (around_more at a r))),
+        (λ r. ⊎_elim (λ t. absurd (omega (arith, t, h, l))) (λ t. t) (around_split at a (subst (λ o. IsAtOrAround p o a) e ((s.around a h).0 r)))),
+        (λ r. (s.around a h).1 (subst (λ o. IsAtOrAround p o a) (sym e) (around_more at a r))),
       );
     })
 
@@ -101,17 +101,17 @@ module _ (p : DeadProblem) where
     going_nowhere from now limit e s = record {
       number = λ j q. absurd (none-some j q);
       low = λ j q. absurd (none-some j q);
-      around = subst (λ o. (a : ℕ) → a ≤ limit → IsAround p from a ↔ IsAround p o a) e s.around;
+      around = subst (λ o. (a : ℕ) → a ≤ limit → IsAtOrAround p from a ↔ IsAtOrAround p o a) e s.around;
     }
 
-    pub crossing_begins : (inner outer : Option ℕ) (old : List ℕ) → IsNumber p inner → IsNumber p outer → IsBehind inner old → IsCrossing inner outer old inner outer old
+    pub crossing_begins : (inner outer : Option ℕ) (old : List ℕ) → IsOperationNumber p inner → IsOperationNumber p outer → AreNumbersAbove inner old → IsCrossing inner outer old inner outer old
     crossing_begins inner outer old i o b = record { definer_number = i; user_number = o; into = λ x h. h; back = λ x h. h; behind = b }
 
     -- what is around an operation is around the user where it is around what the user was narrowed to
-    same_user : (user low : Option ℕ) (at x : ℕ) → GoesOut p user at low → IsAround p (Some at) x → IsAround p user x ↔ IsAround p low x
+    same_user : (user low : Option ℕ) (at x : ℕ) → GoesOut p user at low → IsAtOrAround p (Some at) x → IsAtOrAround p user x ↔ IsAtOrAround p low x
     same_user user low at x g (j, e, r) = g.around x (let l = in_below x j r in let q = same_Some at j e in omega (arith, l, q))
 
-    not_around : (user low : Option ℕ) (at : ℕ) → GoesOut p user at low → (low ≡ Some at → ⊥) → IsAround p low at → ⊥
+    not_around : (user low : Option ℕ) (at : ℕ) → GoesOut p user at low → (low ≡ Some at → ⊥) → IsAtOrAround p low at → ⊥
     not_around user low at g n (j, e, r) = let l = g.low j e in let h = in_below at j r in n (e ∙ ap Some (omega (arith, l, h)))
 
     pub crossing_goes_on : (inner outer definer user low next : Option ℕ) (old row new : List ℕ) (at : ℕ) → definer ≡ Some at → GoesOut p user at low → (low ≡ Some at → ⊥) → new ≡ row ++ at ∷ [] → next ≡ around_operation p at
@@ -121,11 +121,11 @@ module _ (p : DeadProblem) where
       user_number = g.number;
       into = λ x h. s.into x (⊎_elim
           (λ c. ⊎_elim (λ c. inl c) (λ t. inr (subst (IsBetween p definer user) t here)) (Contains-push_cases row at x c))
-          (λ r. inr (let a = around_more at x r.0 in (subst (λ o. IsAround p o x) (sym e) a, (λ u. r.1 ((same_user user low at x g a).0 u)))))
+          (λ r. inr (let a = around_more at x r.0 in (subst (λ o. IsAtOrAround p o x) (sym e) a, (λ u. r.1 ((same_user user low at x g a).0 u)))))
           h);
       back = λ x h. ⊎_elim
           (λ c. inl (Contains-append_left row (at ∷ []) x c))
-          (λ r. let a = subst (λ o. IsAround p o x) e r.0 in ⊎_elim
+          (λ r. let a = subst (λ o. IsAtOrAround p o x) e r.0 in ⊎_elim
           (λ t. inl (subst (Contains (row ++ at ∷ [])) (sym t) (Contains-push row at)))
           (λ t. inr (t, (λ u. r.1 ((same_user user low at x g a).1 u))))
           (around_split at x a))
@@ -138,7 +138,7 @@ module _ (p : DeadProblem) where
       where
         here : IsBetween p definer user at
         here = (
-          subst (λ o. IsAround p o at) (sym e) (at, refl, itself),
+          subst (λ o. IsAtOrAround p o at) (sym e) (at, refl, itself),
           (λ u. not_around user low at g n ((same_user user low at at g (at, refl, itself)).0 u)),
         )
 
@@ -159,4 +159,4 @@ module _ (p : DeadProblem) where
     none_rests definer user e x ((j, q, r), n) = none-some j (sym e ∙ q)
 
     pub met : (definer user low : Option ℕ) (at : ℕ) → definer ≡ Some at → GoesOut p user at low → low ≡ Some at → (x : ℕ) → IsBetween p definer user x → ⊥
-    met definer user low at e g q x (a, n) = let b = subst (λ o. IsAround p o x) e a in n ((same_user user low at x g b).1 (subst (λ o. IsAround p o x) (sym q) b))
+    met definer user low at e g q x (a, n) = let b = subst (λ o. IsAtOrAround p o x) e a in n ((same_user user low at x g b).1 (subst (λ o. IsAtOrAround p o x) (sym q) b))

@@ -6,16 +6,16 @@ use Rattle.std.proofs.lemmas.Option.{same_Some, none-some, slice_get_within, sli
 use Rattle.std.proofs.lemmas.List.{length-append, length-map, length-replicate, length-take, length-drop, get_or-take, get_or-drop}
 use Rattle.digraph.specs.Counts.{count_of}
 use Rattle.digraph.specs.Marks.{IsMarked}
-use Rattle.digraph.specs.Work.{Has, Waits, Adds, Takes, IsDone}
+use Rattle.digraph.specs.Work.{HasNode, Waits, Adds, Takes, IsDone}
 use Rattle.digraph.specs.declared.worklist.Worklist.{Worklist}
 use Rattle.digraph.proofs.Counting.{same_numbers}
 use Rattle.opt_solvers.specs.declared.dead_problem.Operand.{Operand}
 use Rattle.opt_solvers.specs.declared.dead_problem.DeadProblem.{DeadProblem}
 use Rattle.opt_solvers.specs.declared.dead_problem.DeadItems.{DeadItems}
 use Rattle.opt_solvers.specs.declared.dead_items.DeadTables.{DeadTables}
-use Rattle.opt_solvers.specs.Dead.{Item, Whole, Slot, IsIn, itself, further, IsDead, dies, IsExcused, by_operation, by_argument, IsDeadProblem}
+use Rattle.opt_solvers.specs.Dead.{NumberedItem, Whole, Slot, IsInOperation, itself, further, IsDeadItem, dies, IsExcusedOperand, by_operation, by_argument, IsDeadProblem}
 use Rattle.opt_solvers.specs.DeadCandidates.{around_of}
-use Rattle.opt_solvers.specs.DeadPlaces.{Place, operand_place, kept_place, all_places, around_operation, slot, items, Keeps}
+use Rattle.opt_solvers.specs.DeadPlaces.{ValueUse, operand_place, kept_place, all_places, around_operation, slot, items, PlaceKeeps}
 use Rattle.opt_solvers.specs.DeadRows.{slot_of, Excuses, IsExcusedBy, AreDeadTables}
 use Rattle.opt_solvers.specs.Rows.{row_at}
 use Rattle.opt_solvers.specs.DeadUses.{held_operation, held_argument, first_uses, kept_by, CountsItems}
@@ -45,7 +45,7 @@ none_marked (suc n) zero m = let e = same_Some false true m in absurd (cc e)
 none_marked (suc n) (suc k) m = none_marked n k m
 
 module _ (p : DeadProblem) (held : DeadTables) where
-  abbrev places : List Place
+  abbrev places : List ValueUse
   places = all_places p
 
   abbrev keeps : List (List ℕ)
@@ -55,20 +55,20 @@ module _ (p : DeadProblem) (held : DeadTables) where
   pub record IsSound (excused : List Bool) (uses : List ℕ) : Type 0 where
     pub places_len : length excused ≡ length keeps
     pub counts : (x : ℕ) → get_or uses x 0 ≡ get_or (first_uses p) x 0 + keeping excused keeps x
-    pub by_dead : (k : ℕ) (q : Place) → IsMarked excused k → slice_get places k ≡ Some q → IsExcusedPlace p q
+    pub by_dead : (k : ℕ) (q : ValueUse) → IsMarked excused k → slice_get places k ≡ Some q → IsExcusedPlace p q
 
   -- what a gone item excuses is excused, and what is inside it is gone
   pub record IsSettled (excused : List Bool) (work : Worklist) (x : ℕ) : Type 0 where
     pub marked : (k : ℕ) → IsExcusedBy p x k → IsMarked excused k
-    pub inside : (i : ℕ) → Contains (row_at held.inner x) i → Has work i
+    pub inside : (i : ℕ) → Contains (row_at held.inner x) i → HasNode work i
 
   pub record IsDying (excused : List Bool) (uses : List ℕ) (work : Worklist) : Type 0 where
     pub counted : IsCounted keeps excused uses work
     pub len : length uses ≡ items p
     pub is_sound : IsSound excused uses
-    pub unused : (x : ℕ) → x < items p → get_or uses x 0 ≡ 0 → Has work x
-    pub gone : (x : ℕ) → Has work x → IsGone p x
-    pub closed : (x : ℕ) → Has work x → Waits work x ⊎ IsSettled excused work x
+    pub unused : (x : ℕ) → x < items p → get_or uses x 0 ≡ 0 → HasNode work x
+    pub gone : (x : ℕ) → HasNode work x → IsGone p x
+    pub closed : (x : ℕ) → HasNode work x → Waits work x ⊎ IsSettled excused work x
 
   -- an item that is taken is one
   pub item_taken : (excused : List Bool) (uses : List ℕ) (u v : Worklist) (x : ℕ) → IsDying excused uses u → Takes u v x → x < items p
@@ -76,24 +76,24 @@ module _ (p : DeadProblem) (held : DeadTables) where
 
   module _ (ok : IsDeadProblem p) (tables : AreDeadTables p held) where
     -- what a row has, the place keeps
-    row_of : (k x : ℕ) → Contains (row_at keeps k) x → (q : Place) × (slice_get places k ≡ Some q) × Keeps p q.user q.operand.definer x
+    row_of : (k x : ℕ) → Contains (row_at keeps k) x → (q : ValueUse) × (slice_get places k ≡ Some q) × PlaceKeeps p q.user q.operand.definer x
     row_of k x c =
         let h : k < length places = (let l = row_within keeps k x c in let e = tables.kept.len in omega (arith, l, e)) in
         let t = slice_get-get_or places k default h in
         (get_or places k default, t, ((tables.kept.row k (get_or places k default) t).exact x).0 c)
 
-    row_has : (k x : ℕ) (q : Place) → slice_get places k ≡ Some q → Keeps p q.user q.operand.definer x → Contains (row_at keeps k) x
+    row_has : (k x : ℕ) (q : ValueUse) → slice_get places k ≡ Some q → PlaceKeeps p q.user q.operand.definer x → Contains (row_at keeps k) x
     row_has k x q t h = ((tables.kept.row k q t).exact x).1 h
 
     -- an item without uses is dead
-    unused_dies : (excused : List Bool) (uses : List ℕ) (x : Item) → IsSound excused uses → IsItem p x → get_or uses (number p x) 0 ≡ 0 → IsDead p x
+    unused_dies : (excused : List Bool) (uses : List ℕ) (x : NumberedItem) → IsSound excused uses → IsItem p x → get_or uses (number p x) 0 ≡ 0 → IsDeadItem p x
     unused_dies excused uses x s h z = dies x
         (unused_may p x h (let c = s.counts (number p x) in omega (arith, c, z)))
         (λ (d, c, m). let at = is_place p (kept_place d) (inr (refl, refl, c)) in let r = s.by_dead at.0 (kept_place d) (marked at.0 (kept_place d) at.1 (makes_keeps p x d m)) at.1 in none-some r.0 r.1)
         (λ i o u c. let at = is_place p (operand_place i o) (inl (i, refl, u)) in let r = s.by_dead at.0 (operand_place i o) (marked at.0 (operand_place i o) at.1 (counts_keeps p x i o c)) at.1 in
-        subst (λ n. IsExcused p n o) (sym (same_Some i r.0 r.1)) r.2)
+        subst (λ n. IsExcusedOperand p n o) (sym (same_Some i r.0 r.1)) r.2)
       where
-        marked : (k : ℕ) (q : Place) → slice_get places k ≡ Some q → Keeps p q.user q.operand.definer (number p x) → IsMarked excused k
+        marked : (k : ℕ) (q : ValueUse) → slice_get places k ≡ Some q → PlaceKeeps p q.user q.operand.definer (number p x) → IsMarked excused k
         marked k q t h = keeping_zero excused keeps k (number p x) s.places_len (let c = s.counts (number p x) in omega (arith, c, z)) (row_has k (number p x) q t h)
 
     unused_goes : (excused : List Bool) (uses : List ℕ) (x : ℕ) → IsSound excused uses → x < items p → get_or uses x 0 ≡ 0 → IsGone p x
@@ -180,13 +180,13 @@ module _ (p : DeadProblem) (held : DeadTables) where
           (b.fresh y h);
     }
       where
-        back : (y : ℕ) → Has t y → Has u y
+        back : (y : ℕ) → HasNode t y → HasNode u y
         back y h = subst (λ (m : Vec Bool Global). IsMarked m.items y) (sym e) h
 
-        there : (y : ℕ) → Has u y → Has t y
+        there : (y : ℕ) → HasNode u y → HasNode t y
         there y h = subst (λ (m : Vec Bool Global). IsMarked m.items y) e h
 
-        excuse : (j : ℕ) (q : Place) → slice_get places j ≡ Some q → IsExcusedBy p x j → IsExcusedPlace p q
+        excuse : (j : ℕ) (q : ValueUse) → slice_get places j ≡ Some q → IsExcusedBy p x j → IsExcusedPlace p q
         excuse j q n r = excused_by p ok q x (place_is p j q n) (subst (λ z. Excuses p z x) (same_Some r.0 q (sym r.1 ∙ n)) r.2) (s.gone x k.has)
 
         sound : IsSound more new
@@ -204,30 +204,30 @@ module _ (p : DeadProblem) (held : DeadTables) where
         inside y q (inr (d, r, z)) = absurd (let c = around_there p y x q in let l = around_number p ok y (slice_get_within p.operations y c.0 c.1) x q in omega (arith, l, r))
 
     module _ (excused : List Bool) (uses : List ℕ) (work : Worklist) (s : IsDying excused uses work) (done : IsDone work) where
-      settled : (x : ℕ) → Has work x → IsSettled excused work x
+      settled : (x : ℕ) → HasNode work x → IsSettled excused work x
       settled x h = ⊎_elim (λ c. absurd (done.done x c)) (λ c. c) (s.closed x h)
 
-      inside_goes : (a x : ℕ) → IsIn p a x → Has work a → Has work x
+      inside_goes : (a x : ℕ) → IsInOperation p a x → HasNode work a → HasNode work x
       inside_goes a x itself h = h
       inside_goes a x (further _ j c e q r) h = (settled j (inside_goes a j r h)).inside x (tables.inner.has j x (ap around_of e ∙ q))
 
       mutual
         -- a dead item has no uses
-        dead_unused : (x : Item) → IsDead p x → get_or uses (number p x) 0 ≡ 0
+        dead_unused : (x : NumberedItem) → IsDeadItem p x → get_or uses (number p x) 0 ≡ 0
         dead_unused x (dies _ m n f) =
             let h = may_item p x m in
             let z = may_unused p x m in
             let c = s.is_sound.counts (number p x) in
             let k = none_keeping excused keeps (number p x) s.is_sound.places_len (λ k c. let r = row_of k (number p x) c in let q = place_is p k r.0 r.1 in ⊎_elim
             (λ (i, e, u). let o = same_operand r.0 i e in
-            excused_marked i r.0.operand k (f i r.0.operand u (keeps_counts p ok x i r.0.operand h (known p ok r.0 q) (subst (λ (z : Place). Keeps p z.user z.operand.definer (number p x)) o r.2))) (r.1 ∙ ap Some o))
+            excused_marked i r.0.operand k (f i r.0.operand u (keeps_counts p ok x i r.0.operand h (known p ok r.0 q) (subst (λ (z : ValueUse). PlaceKeeps p z.user z.operand.definer (number p x)) o r.2))) (r.1 ∙ ap Some o))
             (λ (e, a, u). let o = same_kept r.0 e a in
-            absurd (n (r.0.operand.definer, u, keeps_makes p ok x r.0.operand.definer h (known p ok r.0 q) (subst (λ (z : Place). Keeps p z.user z.operand.definer (number p x)) o r.2))))
+            absurd (n (r.0.operand.definer, u, keeps_makes p ok x r.0.operand.definer h (known p ok r.0 q) (subst (λ (z : ValueUse). PlaceKeeps p z.user z.operand.definer (number p x)) o r.2))))
             q) in
             omega (arith, z, c, k)
 
         -- a place that is excused by the dead is marked
-        excused_marked : (i : ℕ) (o : Operand) (k : ℕ) → IsExcused p i o → slice_get places k ≡ Some (operand_place i o) → IsMarked excused k
+        excused_marked : (i : ℕ) (o : Operand) (k : ℕ) → IsExcusedOperand p i o → slice_get places k ≡ Some (operand_place i o) → IsMarked excused k
         excused_marked i o k (by_operation _ _ a r d) t =
             let g = s.unused a (item_within p (Whole a) (dead_item p (Whole a) d)) (dead_unused (Whole a) d) in
             (settled i (inside_goes a i r g)).marked k (operand_place i o, t, inl refl)
@@ -235,7 +235,7 @@ module _ (p : DeadProblem) (held : DeadTables) where
             let g = s.unused (slot p v) (item_within p (Slot v) (dead_item p (Slot v) d)) (dead_unused (Slot v) d) in
             (settled (slot p v) g).marked k (operand_place i o, t, inr (ap (slot_of p) e))
 
-      pub dying_ends : (x : Item) → IsItem p x → (get_or uses (number p x) 0 ≡ 0) ↔ IsDead p x
+      pub dying_ends : (x : NumberedItem) → IsItem p x → (get_or uses (number p x) 0 ≡ 0) ↔ IsDeadItem p x
       dying_ends x h = (unused_dies excused uses x s.is_sound h, dead_unused x)
 
 -- marks of zeros
@@ -244,7 +244,7 @@ mark_zero [] a = ((λ e. absurd (none-some true e)), (λ (h, z). absurd (omega (
 mark_zero (x ∷ xs) zero = ((λ e. (omega arith, same_numbers x 0 (same_Some (nat_eq x 0) true e))), (λ (h, z). ap Some (eq-eqb x 0 z)))
 mark_zero (x ∷ xs) (suc a) = ((λ e. let r = (mark_zero xs a).0 e in (let h = r.0 in omega (arith, h), r.1)), (λ (h, z). (mark_zero xs a).1 (omega (arith, h), z)))
 
-module _ (p : DeadProblem) (n : ℕ) (uses : List ℕ) (dead : DeadItems) (e : n ≡ length p.operations) (l : length uses ≡ items p) (f : (x : Item) → IsItem p x → (get_or uses (number p x) 0 ≡ 0) ↔ IsDead p x) (m : AreMarked n uses dead) where
+module _ (p : DeadProblem) (n : ℕ) (uses : List ℕ) (dead : DeadItems) (e : n ≡ length p.operations) (l : length uses ≡ items p) (f : (x : NumberedItem) → IsItem p x → (get_or uses (number p x) 0 ≡ 0) ↔ IsDeadItem p x) (m : AreMarked n uses dead) where
   operations_taken : length (take n uses) ≡ n
   operations_taken = let t = length-take n uses in grind (arith, t)
 
@@ -254,7 +254,7 @@ module _ (p : DeadProblem) (n : ℕ) (uses : List ℕ) (dead : DeadItems) (e : n
   arguments_len : length dead.arguments.items ≡ length p.arguments.items
   arguments_len = let a = ap length m.arguments_are in let b = length-map (drop n uses) (λ k. nat_eq k 0) in let c = length-drop n uses in omega (arith, a, b, c, e, l)
 
-  operation_marked : (a : ℕ) → slice_get dead.operations.items a ≡ Some true ↔ IsDead p (Whole a)
+  operation_marked : (a : ℕ) → slice_get dead.operations.items a ≡ Some true ↔ IsDeadItem p (Whole a)
   operation_marked a = (
     (λ h. let r = (mark_zero (take n uses) a).0 (sym (ap (λ xs. slice_get xs a) m.operations_are) ∙ h) in
         let k : a < n = (let t = operations_taken in let z = r.0 in omega (arith, t, z)) in
@@ -264,7 +264,7 @@ module _ (p : DeadProblem) (n : ℕ) (uses : List ℕ) (dead : DeadItems) (e : n
         ap (λ xs. slice_get xs a) m.operations_are ∙ (mark_zero (take n uses) a).1 ((let t = operations_taken in omega (arith, t, k)), get_or-take n uses a 0 k ∙ (f (Whole a) i).1 d)),
   )
 
-  argument_marked : (v : ℕ) → slice_get dead.arguments.items v ≡ Some true ↔ IsDead p (Slot v)
+  argument_marked : (v : ℕ) → slice_get dead.arguments.items v ≡ Some true ↔ IsDeadItem p (Slot v)
   argument_marked v = (
     (λ h. let r = (mark_zero (drop n uses) v).0 (sym (ap (λ xs. slice_get xs v) m.arguments_are) ∙ h) in
         let k : v < length p.arguments.items = (let t = length-drop n uses in let z = r.0 in omega (arith, t, z, e, l)) in

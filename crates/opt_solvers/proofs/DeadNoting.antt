@@ -5,11 +5,11 @@ use Rattle.std.proofs.lemmas.Option.{same_Some, none-some, slice_get_within}
 use Rattle.opt_solvers.specs.declared.dead_problem.Operand.{Operand}
 use Rattle.opt_solvers.specs.declared.dead_problem.DeadProblem.{DeadProblem}
 use Rattle.opt_solvers.specs.Dead.{IsDeadProblem}
-use Rattle.opt_solvers.specs.LinkedRows.{Gains}
+use Rattle.opt_solvers.specs.LinkedRows.{RowsGain}
 use Rattle.opt_solvers.specs.Rows.{row_at}
 use Rattle.opt_solvers.specs.DeadCandidates.{all_operands, operands_before}
-use Rattle.opt_solvers.specs.DeadPlaces.{Place, IsPlace, all_places, slot, around_operation}
-use Rattle.opt_solvers.specs.DeadRows.{slot_of, IsExcusedBy, ForwardsOperand, AreForwarded, AreInner}
+use Rattle.opt_solvers.specs.DeadPlaces.{ValueUse, IsValueUse, all_places, slot, around_operation}
+use Rattle.opt_solvers.specs.DeadRows.{slot_of, IsExcusedBy, ForwardsOperand, AreForwardedPlaces, AreInner}
 use Rattle.opt_solvers.proofs.FactsTabling.{gained_then, gained_as, all_listed, emptied, get_more_left, get_more_last, get_more_cases}
 use Rattle.opt_solvers.proofs.DeadCrossing.{around_there}
 use Rattle.opt_solvers.proofs.DeadKeeping.{user_number}
@@ -17,7 +17,7 @@ use Rattle.opt_solvers.proofs.DeadPlacing.{place_is, user_between, between_user,
 
 -- the next operand
 pub operands_noted : (a b c : List (List ℕ)) (os : List Operand) (i : ℕ) (o : Operand) → i < length os → o ≡ get_or os i o
-    → Gains (ForwardsOperand (take i os)) a b → Gains (λ v k. (o.argument ≡ Some v) × (k ≡ i)) b c → Gains (ForwardsOperand (take (i + 1) os)) a c
+    → RowsGain (ForwardsOperand (take i os)) a b → RowsGain (λ v k. (o.argument ≡ Some v) × (k ≡ i)) b c → RowsGain (ForwardsOperand (take (i + 1) os)) a c
 operands_noted a b c os i o h e p q = gained_then _ _ _
     (λ v k (x, t, m). (x, get_more_left os i o x k h e t, m))
     (λ v k (m, n). (o, ap (slice_get (take (i + 1) os)) n ∙ get_more_last os i o h e, m))
@@ -31,7 +31,7 @@ module _ (p : DeadProblem) where
 
   -- the next operation
   pub inside_noted : (a b c : List (List ℕ)) (n : ℕ) (around : Option ℕ) → around ≡ around_operation p n
-      → Gains (InsideOf n) a b → Gains (λ x i. (around ≡ Some x) × (i ≡ n)) b c → Gains (InsideOf (n + 1)) a c
+      → RowsGain (InsideOf n) a b → RowsGain (λ x i. (around ≡ Some x) × (i ≡ n)) b c → RowsGain (InsideOf (n + 1)) a c
   inside_noted a b c n around e s t = gained_then _ _ _
       (λ x i (h, q). (omega (arith, h), q))
       (λ x i (q, m). (omega (arith, m), ap (around_operation p) m ∙ sym e ∙ q))
@@ -44,12 +44,12 @@ module _ (p : DeadProblem) where
   inside_below : (x i : ℕ) → around_operation p i ≡ Some x → i < length p.operations
   inside_below x i q = let c = around_there p i x q in slice_get_within p.operations i c.0 c.1
 
-  pub inside_listed : (a b : List (List ℕ)) (n : ℕ) → a ≡ replicate (length p.operations) [] → n ≡ length p.operations → Gains (InsideOf n) a b → AreInner p b
+  pub inside_listed : (a b : List (List ℕ)) (n : ℕ) → a ≡ replicate (length p.operations) [] → n ≡ length p.operations → RowsGain (InsideOf n) a b → AreInner p b
   inside_listed a b n e l s = all_listed _ (length p.operations) a b (emptied a (length p.operations) e)
       (gained_as (InsideOf n) _ (λ x i (h, q). q) (λ x i q. (subst (λ m. i < m) (sym l) (inside_below x i q), q)) a b s)
 
-  pub operands_listed : (a b : List (List ℕ)) (os : List Operand) → a ≡ replicate (length p.arguments.items) [] → os ≡ all_operands p.operations → Gains (ForwardsOperand os) a b → AreForwarded p b
-  operands_listed a b os e l s = all_listed _ (length p.arguments.items) a b (emptied a (length p.arguments.items) e) (subst (λ xs. Gains (ForwardsOperand xs) a b) l s)
+  pub operands_listed : (a b : List (List ℕ)) (os : List Operand) → a ≡ replicate (length p.arguments.items) [] → os ≡ all_operands p.operations → RowsGain (ForwardsOperand os) a b → AreForwardedPlaces p b
+  operands_listed a b os e l s = all_listed _ (length p.arguments.items) a b (emptied a (length p.arguments.items) e) (subst (λ xs. RowsGain (ForwardsOperand xs) a b) l s)
 
   slot_past : (o : Option ℕ) (x : ℕ) → slot_of p o ≡ Some x → (v : ℕ) × (o ≡ Some v) × (x ≡ length p.operations + v)
   slot_past None x e = absurd (none-some x e)
@@ -57,7 +57,7 @@ module _ (p : DeadProblem) where
 
   module _ (ok : IsDeadProblem p) where
     -- the rows that are noted in are there
-    argument_within : (q : Place) → IsPlace p q → (v : ℕ) → q.operand.argument ≡ Some v → v < length p.arguments.items
+    argument_within : (q : ValueUse) → IsValueUse p q → (v : ℕ) → q.operand.argument ≡ Some v → v < length p.arguments.items
     argument_within q h v e = ⊎_elim (λ r. ok.forwarded r.0 v q.operand r.2 e) (λ r. absurd (none-some v (sym r.1 ∙ e))) h
 
     pub forward_within : (k : ℕ) (o : Operand) (v : ℕ) → slice_get (all_operands p.operations) k ≡ Some o → o.argument ≡ Some v → v < length p.arguments.items
@@ -75,7 +75,7 @@ module _ (p : DeadProblem) where
         (λ s. absurd (let r = slot_past q.operand.argument x s in let n = r.2 in omega (arith, h, n)))
         e
 
-    module _ (rows : List (List ℕ)) (f : AreForwarded p rows) (x v : ℕ) (past : x ≡ length p.operations + v) where
+    module _ (rows : List (List ℕ)) (f : AreForwardedPlaces p rows) (x v : ℕ) (past : x ≡ length p.operations + v) where
       -- an argument excuses what is forwarded to it
       pub argument_excuses : (k : ℕ) → Contains (row_at rows v) k → IsExcusedBy p x k
       argument_excuses k c =

@@ -7,7 +7,7 @@ use Rattle.std.proofs.lemmas.List.Elements.{Contains-push, Contains-push_cases, 
 use Rattle.digraph.specs.Counts.{one, count_of}
 use Rattle.opt_solvers.specs.Rows.{row_at}
 use Rattle.digraph.specs.Marks.{IsMarked}
-use Rattle.digraph.specs.Work.{Has, Waits, Adds, IsFresh}
+use Rattle.digraph.specs.Work.{HasNode, Waits, Adds, IsEmptyWorklist}
 use Rattle.digraph.specs.declared.worklist.Worklist.{Worklist}
 use Rattle.digraph.proofs.Counting.{counted, contained, same_numbers}
 use Rattle.digraph.proofs.Marking.{only_one, none_added, added_more, mark_kept, mark_put, mark_only}
@@ -29,11 +29,11 @@ is_newly uses item e = subst (λ xs. Contains xs item) (sym (ap (λ b. if b then
 -- the first k items have been looked at
 pub record IsStarting (uses : List ℕ) (k : ℕ) (work : Worklist) : Type 0 where
   pub len : length work.marked.items ≡ length uses
-  pub has : (x : ℕ) → x < k → get_or uses x 0 ≡ 0 → Has work x
-  pub only : (x : ℕ) → Has work x → (x < length uses) × (get_or uses x 0 ≡ 0)
-  pub waits : (x : ℕ) → Has work x → Waits work x
+  pub has : (x : ℕ) → x < k → get_or uses x 0 ≡ 0 → HasNode work x
+  pub only : (x : ℕ) → HasNode work x → (x < length uses) × (get_or uses x 0 ≡ 0)
+  pub waits : (x : ℕ) → HasNode work x → Waits work x
 
-pub starting_begins : (uses : List ℕ) (count : ℕ) (work : Worklist) → count ≡ length uses → IsFresh work count → IsStarting uses 0 work
+pub starting_begins : (uses : List ℕ) (count : ℕ) (work : Worklist) → count ≡ length uses → IsEmptyWorklist work count → IsStarting uses 0 work
 starting_begins uses count work e f = record {
   len = f.len ∙ e;
   has = λ x h. absurd (omega (arith, h));
@@ -44,7 +44,7 @@ starting_begins uses count work e f = record {
 pub starting_goes_on : (uses : List ℕ) (k : ℕ) (v w : Worklist) → k < length uses → Adds v w (newly (get_or uses k 0) k) → IsStarting uses k v → IsStarting uses (k + 1) w
 starting_goes_on uses k v w l a s = record {
   len = a.len ∙ s.len;
-  has = λ x h z. ⊎_elim (λ m. a.keeps x (s.has x m z)) (λ m. subst (Has w) (sym m) (a.has k (is_newly (get_or uses k 0) k (ap (λ y. get_or uses y 0) (sym m) ∙ z)))) (below_or x h);
+  has = λ x h z. ⊎_elim (λ m. a.keeps x (s.has x m z)) (λ m. subst (HasNode w) (sym m) (a.has k (is_newly (get_or uses k 0) k (ap (λ y. get_or uses y 0) (sym m) ∙ z)))) (below_or x h);
   only = λ x h. ⊎_elim (λ m. s.only x m) (λ m. let t = newly_is (get_or uses k 0) k x m in (subst (λ y. y < length uses) (sym t.0) l, ap (λ y. get_or uses y 0) t.0 ∙ t.1)) (a.only x h);
   waits = λ x h. ⊎_elim (λ m. a.waits x (s.waits x m)) (λ m. m) (a.fresh x h);
 }

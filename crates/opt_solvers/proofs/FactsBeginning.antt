@@ -15,9 +15,9 @@ use Rattle.opt_solvers.specs.FactsTaken.{untaken}
 use Rattle.opt_solvers.specs.declared.facts_found.Found.{Found}
 use Rattle.opt_solvers.specs.declared.facts_solver.Solver.{Solver}
 use Rattle.opt_solvers.specs.Known.{AtOrBelow, AllAny}
-use Rattle.opt_solvers.specs.Facts.{Answers, NumberedFacts, Enters, IsMostPrecise}
+use Rattle.opt_solvers.specs.Facts.{Answers, NumberedFacts, RunsWithAny, IsMostPreciseSolution}
 use Rattle.opt_solvers.specs.FactsFound.{facts_of, Meets, IsNothing}
-use Rattle.opt_solvers.specs.FactsSolving.{seen_of, IsTaken, IsSolving, IsWaiting, Begins}
+use Rattle.opt_solvers.specs.FactsSolving.{seen_of, IsTaken, IsSolving, IsWaiting, IsInitialSolver}
 use Rattle.opt_solvers.proofs.FactsFalling.{at_top}
 use Rattle.opt_solvers.proofs.FactsEntering.{enters_stays}
 use Rattle.opt_solvers.proofs.FactsTabling.{contains_get}
@@ -49,8 +49,8 @@ module _ {A : Type 0} where
   all_any_at f (u ∷ vs) v h (suc i) e = all_any_at f vs v h.1 i e
 
   -- the entries were entered, and the values from outside given up
-  pub begun : (p : FactsProblem) (a b c : Found A) (blocks values : List ℕ) (seen : List (List (Known A))) (taken : List (List Bool)) (marks : Vec (Option ℕ) Global) → blocks ≡ p.entries.items → values ≡ p.outside.items → IsNothing a (length p.arguments.items) p.values → Meets (λ l. (n : ℕ) → Contains blocks n → Enters p l n) a b → Meets (λ l. AllAny l.of values) b c
-      → seen ≡ map unseen p.rows → taken ≡ map untaken p.rows → marks.items ≡ replicate (length p.arguments.items) None → Begins p (record { found = c; seen = seen; taken = taken; marks = marks })
+  pub begun : (p : FactsProblem) (a b c : Found A) (blocks values : List ℕ) (seen : List (List (Known A))) (taken : List (List Bool)) (marks : Vec (Option ℕ) Global) → blocks ≡ p.entries.items → values ≡ p.outside.items → IsNothing a (length p.arguments.items) p.values → Meets (λ l. (n : ℕ) → Contains blocks n → RunsWithAny p l n) a b → Meets (λ l. AllAny l.of values) b c
+      → seen ≡ map unseen p.rows → taken ≡ map untaken p.rows → marks.items ≡ replicate (length p.arguments.items) None → IsInitialSolver p (record { found = c; seen = seen; taken = taken; marks = marks })
   begun p a b c blocks values seen taken marks x y n f g s t m = record {
     blocks_len = g.steps.blocks_len ∙ (f.steps.blocks_len ∙ n.blocks_len);
     values_len = g.steps.values_len ∙ (f.steps.values_len ∙ n.values_len);
@@ -73,7 +73,7 @@ module _ {A : Type 0} where
     marks = m;
   }
 
-  module _ (ask : Answers A) (p : FactsProblem) (s : Solver A) (b : Begins p s) where
+  module _ (ask : Answers A) (p : FactsProblem) (s : Solver A) (b : IsInitialSolver p s) where
     edges_at : (i : ℕ) (r : Row) → slice_get p.rows i ≡ Some r → row_at s.taken i ≡ untaken r
     edges_at i r a = ap (λ ts. row_at ts i) b.taken ∙ untaken_at p.rows i r a
 
@@ -122,7 +122,7 @@ module _ {A : Type 0} where
   at_both Any Any a b = refl
 
   -- most precise facts are the same
-  pub one_facts : (ask : Answers A) (p : FactsProblem) (k l : NumberedFacts A) → IsMostPrecise ask p k → IsMostPrecise ask p l → k ≡ l
+  pub one_facts : (ask : Answers A) (p : FactsProblem) (k l : NumberedFacts A) → IsMostPreciseSolution ask p k → IsMostPreciseSolution ask p l → k ≡ l
   one_facts ask p k l f g = λ i. record { runs = λ b. same_runs b i; of = λ v. at_both (k.of v) (l.of v) ((g.best k f.closed).above v) ((f.best l g.closed).above v) i }
     where
       same_runs : (b : ℕ) → k.runs b ≡ l.runs b

@@ -6,14 +6,14 @@ use Rattle.std.proofs.Math.ListN.{set}
 use Rattle.std.proofs.lemmas.Option.{slice_get_within, slice_get-map, none-some, same_Some}
 use Rattle.std.proofs.lemmas.List.{length-set}
 use Rattle.opt_solvers.specs.declared.known.Known.{Known}
-use Rattle.opt_solvers.specs.OperationRows.{Edge, Row, row_numbered, edge_numbered}
+use Rattle.opt_solvers.specs.OperationRows.{BranchEdge, Row, row_numbered, edge_numbered}
 use Rattle.opt_solvers.specs.declared.facts_problem.FactsProblem.{FactsProblem}
 use Rattle.opt_solvers.specs.declared.facts_found.Found.{Found}
 use Rattle.opt_solvers.specs.Known.{AtOrBelow}
 use Rattle.opt_solvers.specs.Rows.{row_at}
-use Rattle.opt_solvers.specs.Facts.{Answers, IsProblem, NumberedFacts, arguments_of, picked, ForwardedBelow, EdgeClosed}
+use Rattle.opt_solvers.specs.Facts.{Answers, IsProblem, NumberedFacts, arguments_of, picked, ForwardedBelow, RowEdgeClosed}
 use Rattle.opt_solvers.specs.FactsFound.{facts_of, Falls, Meets}
-use Rattle.opt_solvers.specs.FactsSolving.{IsTaken, Marks, ForwardsBelow, ForwardsLie, ForwardsAll, EdgeLies, TakesEdge, MarkedClosed, TakesMarked}
+use Rattle.opt_solvers.specs.FactsSolving.{IsTaken, Marks, ForwardsBelow, ForwardsLie, ForwardsAll, EdgeLies, TakesEdge, MarkedClosed, TakesMarkedEdges}
 use Rattle.opt_solvers.proofs.OperationLists.{row_contained, edge_contained}
 use Rattle.opt_solvers.proofs.FactsFalling.{decide, same_numbers, at_trans, falls_none, falls_then, falls_when, falls_as}
 use Rattle.opt_solvers.proofs.FactsTabling.{get-set_same, get-set_other, table-set_same, table-set_other, get_take, get_from_take, get_more_cases, get_more_left}
@@ -28,12 +28,12 @@ module _ {A : Type 0} (ask : Answers A) (i : ℕ) (r : Row) (xs : List (Option A
   }
 
   -- the target of a feasible edge is marked
-  pub mark_more : (n : ℕ) (e : Edge) (old mid new : List (Option ℕ)) → slice_get r.edges n ≡ Some e → ask.feasible i xs n ≡ true → e.target < length mid → new ≡ set mid e.target (Some i) → Marks ask i r xs n old mid → Marks ask i r xs (n + 1) old new
+  pub mark_more : (n : ℕ) (e : BranchEdge) (old mid new : List (Option ℕ)) → slice_get r.edges n ≡ Some e → ask.feasible i xs n ≡ true → e.target < length mid → new ≡ set mid e.target (Some i) → Marks ask i r xs n old mid → Marks ask i r xs (n + 1) old new
   mark_more n e old mid new q f h d m = record {
     len = ap length d ∙ (length-set mid e.target (Some i) ∙ m.len);
     keeps = λ b h. stays b (m.keeps b h);
     has = λ k u l s g. ⊎_elim
-        (λ t. subst (λ (y : Edge). slice_get new y.target ≡ Some (Some i)) (same_Some e u (sym q ∙ (ap (slice_get r.edges) (sym t) ∙ s))) here)
+        (λ t. subst (λ (y : BranchEdge). slice_get new y.target ≡ Some (Some i)) (same_Some e u (sym q ∙ (ap (slice_get r.edges) (sym t) ∙ s))) here)
         (λ t. stays u.target (m.has k u (omega (arith, l, t)) s g))
         (decide k n);
     only = λ b j s. ⊎_elim
@@ -52,7 +52,7 @@ module _ {A : Type 0} (ask : Answers A) (i : ℕ) (r : Row) (xs : List (Option A
       stays b s = ⊎_elim (λ t. ap (slice_get new) t ∙ here) (λ t. other b t ∙ s) (decide b e.target)
 
   -- an edge that is not feasible
-  pub mark_same : (n : ℕ) (e : Edge) (old mid new : List (Option ℕ)) → slice_get r.edges n ≡ Some e → ask.feasible i xs n ≡ false → new ≡ mid → Marks ask i r xs n old mid → Marks ask i r xs (n + 1) old new
+  pub mark_same : (n : ℕ) (e : BranchEdge) (old mid new : List (Option ℕ)) → slice_get r.edges n ≡ Some e → ask.feasible i xs n ≡ false → new ≡ mid → Marks ask i r xs n old mid → Marks ask i r xs (n + 1) old new
   mark_same n e old mid new q f d m = subst (Marks ask i r xs (n + 1) old) (sym d) (record {
     len = m.len;
     keeps = m.keeps;
@@ -97,7 +97,7 @@ module _ {A : Type 0} where
       (λ s. ⊎_elim (λ c. inr (inl (p.keeps_values v c))) (λ c. inr (inr c)) s)
       (f v w t)
 
-  pub edge_stays : (D : NumberedFacts A → Type 0) (p : FactsProblem) (popped : List ℕ) (r : Row) (e : Edge) (a b : Found A) → Falls D a b → EdgeLies p a popped r e → EdgeLies p b popped r e
+  pub edge_stays : (D : NumberedFacts A → Type 0) (p : FactsProblem) (popped : List ℕ) (r : Row) (e : BranchEdge) (a b : Found A) → Falls D a b → EdgeLies p a popped r e → EdgeLies p b popped r e
   edge_stays D p popped r e a b f l = record {
     target = f.falls.fewer e.target l.target;
     arguments = lie_stays D (arguments_of p e.target) e.forwards r.operands popped a b f l.arguments;
@@ -133,11 +133,11 @@ module _ {A : Type 0} where
   }
 
   -- an edge is taken
-  pub edge_taken : (p : FactsProblem) (r : Row) (e : Edge) (arguments forwards operands : List ℕ) (a b c : Found A) → arguments ≡ arguments_of p e.target → forwards ≡ e.forwards → operands ≡ r.operands → Meets (λ l. l.runs e.target ≡ true) a b → ForwardsAll arguments forwards operands b c → TakesEdge p r e a c
+  pub edge_taken : (p : FactsProblem) (r : Row) (e : BranchEdge) (arguments forwards operands : List ℕ) (a b c : Found A) → arguments ≡ arguments_of p e.target → forwards ≡ e.forwards → operands ≡ r.operands → Meets (λ l. l.runs e.target ≡ true) a b → ForwardsAll arguments forwards operands b c → TakesEdge p r e a c
   edge_taken p r e arguments forwards operands a b c x y z m f = record {
-    steps = falls_then (λ l. EdgeClosed p l r e) a b c
-        (falls_as (λ l. l.runs e.target ≡ true) (λ l. EdgeClosed p l r e) (λ l d. d.target) a b m.steps)
-        (falls_as (ForwardsBelow (arguments_of p e.target) e.forwards r.operands) (λ l. EdgeClosed p l r e) (λ l d. forwards_from l (arguments_of p e.target) e.forwards r.operands d.arguments) b c g.steps);
+    steps = falls_then (λ l. RowEdgeClosed p l r e) a b c
+        (falls_as (λ l. l.runs e.target ≡ true) (λ l. RowEdgeClosed p l r e) (λ l d. d.target) a b m.steps)
+        (falls_as (ForwardsBelow (arguments_of p e.target) e.forwards r.operands) (λ l. RowEdgeClosed p l r e) (λ l d. forwards_from l (arguments_of p e.target) e.forwards r.operands d.arguments) b c g.steps);
     lies = record { target = g.steps.falls.fewer e.target m.holds; arguments = g.lie };
   }
     where
@@ -145,7 +145,7 @@ module _ {A : Type 0} where
       g = subst (λ us. ForwardsAll us e.forwards r.operands b c) x (subst (λ us. ForwardsAll arguments us r.operands b c) y (subst (λ us. ForwardsAll arguments forwards us b c) z f))
 
   module _ (p : FactsProblem) (i : ℕ) (r : Row) (marks : List (Option ℕ)) where
-    pub no_edges : (taken : List (List Bool)) (a : Found A) → TakesMarked p i r marks 0 taken taken a a
+    pub no_edges : (taken : List (List Bool)) (a : Found A) → TakesMarkedEdges p i r marks 0 taken taken a a
     no_edges taken a = record {
       len = refl;
       edges_len = refl;
@@ -157,18 +157,18 @@ module _ {A : Type 0} where
     }
 
     -- the next edge leads to a marked block
-    pub edge_more : (n : ℕ) (e : Edge) (taken mid after : List (List Bool)) (a b c : Found A) → slice_get r.edges n ≡ Some e → slice_get marks e.target ≡ Some (Some i) → i < length mid → n < length (row_at mid i) → after ≡ set mid i (set (row_at mid i) n true) → TakesMarked p i r marks n taken mid a b → TakesEdge p r e b c → TakesMarked p i r marks (n + 1) taken after a c
+    pub edge_more : (n : ℕ) (e : BranchEdge) (taken mid after : List (List Bool)) (a b c : Found A) → slice_get r.edges n ≡ Some e → slice_get marks e.target ≡ Some (Some i) → i < length mid → n < length (row_at mid i) → after ≡ set mid i (set (row_at mid i) n true) → TakesMarkedEdges p i r marks n taken mid a b → TakesEdge p r e b c → TakesMarkedEdges p i r marks (n + 1) taken after a c
     edge_more n e taken mid after a b c q k w h d m t = record {
       len = ap length d ∙ (length-set mid i (set (row_at mid i) n true) ∙ m.len);
       edges_len = ap length row ∙ (length-set (row_at mid i) n true ∙ m.edges_len);
       others = λ j z. ap (λ ts. row_at ts j) d ∙ (table-set_other mid i j (set (row_at mid i) n true) z ∙ m.others j z);
-      steps = falls_then (MarkedClosed p i r marks) a b c m.steps (falls_as (λ l. EdgeClosed p l r e) (MarkedClosed p i r marks) (λ l g. g n e q k) b c t.steps);
+      steps = falls_then (MarkedClosed p i r marks) a b c m.steps (falls_as (λ l. RowEdgeClosed p l r e) (MarkedClosed p i r marks) (λ l g. g n e q k) b c t.steps);
       keeps = λ j g. stays j (m.keeps j g);
       has = λ j u l s g. ⊎_elim (λ z. subst (IsTaken after i) (sym z) here) (λ z. stays j (m.has j u (omega (arith, l, z)) s g)) (decide j n);
       only = λ j u s g. ⊎_elim
           (λ z. let v : e ≡ u = same_Some e u (sym q ∙ (ap (slice_get r.edges) (sym z) ∙ s)) in
-          inr (subst (λ (y : Edge). slice_get marks y.target ≡ Some (Some i)) v k, subst (EdgeLies p c [] r) v t.lies))
-          (λ z. ⊎_elim (λ o. inl o) (λ o. inr (o.0, edge_stays (λ l. EdgeClosed p l r e) p [] r u b c t.steps o.1)) (m.only j u s (sym (other j z) ∙ g)))
+          inr (subst (λ (y : BranchEdge). slice_get marks y.target ≡ Some (Some i)) v k, subst (EdgeLies p c [] r) v t.lies))
+          (λ z. ⊎_elim (λ o. inl o) (λ o. inr (o.0, edge_stays (λ l. RowEdgeClosed p l r e) p [] r u b c t.steps o.1)) (m.only j u s (sym (other j z) ∙ g)))
           (decide j n);
     }
       where
@@ -185,21 +185,21 @@ module _ {A : Type 0} where
         stays j s = ⊎_elim (λ z. subst (IsTaken after i) (sym z) here) (λ z. other j z ∙ s) (decide j n)
 
     -- the next edge is taken already, or leads elsewhere
-    pub edge_same : (n : ℕ) (e : Edge) (taken mid after : List (List Bool)) (a b c : Found A) → slice_get r.edges n ≡ Some e → (slice_get marks e.target ≡ Some (Some i) → IsTaken mid i n) → after ≡ mid → c ≡ b → TakesMarked p i r marks n taken mid a b → TakesMarked p i r marks (n + 1) taken after a c
-    edge_same n e taken mid after a b c q k d f m = subst (λ ys. TakesMarked p i r marks (n + 1) taken ys a c) (sym d) (subst (λ y. TakesMarked p i r marks (n + 1) taken mid a y) (sym f) (record {
+    pub edge_same : (n : ℕ) (e : BranchEdge) (taken mid after : List (List Bool)) (a b c : Found A) → slice_get r.edges n ≡ Some e → (slice_get marks e.target ≡ Some (Some i) → IsTaken mid i n) → after ≡ mid → c ≡ b → TakesMarkedEdges p i r marks n taken mid a b → TakesMarkedEdges p i r marks (n + 1) taken after a c
+    edge_same n e taken mid after a b c q k d f m = subst (λ ys. TakesMarkedEdges p i r marks (n + 1) taken ys a c) (sym d) (subst (λ y. TakesMarkedEdges p i r marks (n + 1) taken mid a y) (sym f) (record {
       len = m.len;
       edges_len = m.edges_len;
       others = m.others;
       steps = m.steps;
       keeps = m.keeps;
       has = λ j u l s g. ⊎_elim
-          (λ z. subst (IsTaken mid i) (sym z) (k (subst (λ (y : Edge). slice_get marks y.target ≡ Some (Some i)) (same_Some u e (sym s ∙ (ap (slice_get r.edges) z ∙ q))) g)))
+          (λ z. subst (IsTaken mid i) (sym z) (k (subst (λ (y : BranchEdge). slice_get marks y.target ≡ Some (Some i)) (same_Some u e (sym s ∙ (ap (slice_get r.edges) z ∙ q))) g)))
           (λ z. m.has j u (omega (arith, l, z)) s g)
           (decide j n);
       only = m.only;
     }))
 
-    pub edges_all : (n : ℕ) (taken after : List (List Bool)) (a b : Found A) → length r.edges ≤ n → TakesMarked p i r marks n taken after a b → TakesMarked p i r marks (length r.edges) taken after a b
+    pub edges_all : (n : ℕ) (taken after : List (List Bool)) (a b : Found A) → length r.edges ≤ n → TakesMarkedEdges p i r marks n taken after a b → TakesMarkedEdges p i r marks (length r.edges) taken after a b
     edges_all n taken after a b h m = record { len = m.len; edges_len = m.edges_len; others = m.others; steps = m.steps; keeps = m.keeps; has = λ j e l. m.has j e (omega (arith, l, h)); only = m.only }
 
 -- what a test of two numbers that may be missing says

@@ -11,7 +11,7 @@ use Rattle.opt_solvers.specs.declared.known.Known.TheVariants.{Any}
 use Rattle.opt_solvers.specs.declared.facts_problem.FactsProblem.{FactsProblem}
 use Rattle.opt_solvers.specs.declared.facts_found.Found.{Found}
 use Rattle.opt_solvers.specs.Known.{AtOrBelow, AllAny, MorePrecise}
-use Rattle.opt_solvers.specs.Facts.{NumberedFacts, Enters, arguments_of}
+use Rattle.opt_solvers.specs.Facts.{NumberedFacts, RunsWithAny, arguments_of}
 use Rattle.opt_solvers.specs.FactsFound.{Meets}
 use Rattle.opt_solvers.proofs.FactsFalling.{at_any, at_same, any_below, meets_then}
 
@@ -40,7 +40,7 @@ module _ {A : Type 0} where
   all_any_stays [] k l m h = tt
   all_any_stays (x ∷ xs) k l m h = (any_below (l.of x) (k.of x) (m.above x) h.0, all_any_stays xs k l m h.1)
 
-  pub enters_stays : (p : FactsProblem) (b : ℕ) (k l : NumberedFacts A) → MorePrecise k l → Enters p k b → Enters p l b
+  pub enters_stays : (p : FactsProblem) (b : ℕ) (k l : NumberedFacts A) → MorePrecise k l → RunsWithAny p k b → RunsWithAny p l b
   enters_stays p b k l m h = record { runs = m.fewer b h.runs; arguments = all_any_stays (arguments_of p b) k l m h.arguments }
 
   pub gave_up_more : (a b c : Found A) (xs : List ℕ) (i x : ℕ) → i < length xs → x ≡ get_or xs i x → Meets (λ l. AllAny l.of (take i xs)) a b → Meets (λ l. AtOrBelow (l.of x) Any) b c → Meets (λ l. AllAny l.of (take (i + 1) xs)) a c
@@ -51,17 +51,17 @@ module _ {A : Type 0} where
       (λ l d g. any_push l.of (take i xs) x d (at_any (l.of x) g))
       (all_any_stays (take i xs)) a b c p q)
 
-  pub entered : (p : FactsProblem) (n : ℕ) (a b c : Found A) (xs : List ℕ) → arguments_of p n ≡ xs → Meets (λ l. l.runs n ≡ true) a b → Meets (λ l. AllAny l.of xs) b c → Meets (λ l. Enters p l n) a c
-  entered p n a b c xs e q r = meets_then (λ l. l.runs n ≡ true) (λ l. AllAny l.of xs) (λ l. Enters p l n)
+  pub entered : (p : FactsProblem) (n : ℕ) (a b c : Found A) (xs : List ℕ) → arguments_of p n ≡ xs → Meets (λ l. l.runs n ≡ true) a b → Meets (λ l. AllAny l.of xs) b c → Meets (λ l. RunsWithAny p l n) a c
+  entered p n a b c xs e q r = meets_then (λ l. l.runs n ≡ true) (λ l. AllAny l.of xs) (λ l. RunsWithAny p l n)
       (λ l g. g.runs)
       (λ l g. subst (AllAny l.of) e g.arguments)
       (λ l d g. record { runs = d; arguments = subst (AllAny l.of) (sym e) g })
       (λ k l m d. m.fewer n d) a b c q r
 
-  pub entered_more : (p : FactsProblem) (a b c : Found A) (xs : List ℕ) (i x : ℕ) → i < length xs → x ≡ get_or xs i x → Meets (λ l. (n : ℕ) → Contains (take i xs) n → Enters p l n) a b → Meets (λ l. Enters p l x) b c → Meets (λ l. (n : ℕ) → Contains (take (i + 1) xs) n → Enters p l n) a c
-  entered_more p a b c xs i x h e q r = subst (λ ys. Meets (λ l. (n : ℕ) → Contains ys n → Enters p l n) a c) (sym (next_of xs i x h e))
-      (meets_then (λ l. (n : ℕ) → Contains (take i xs) n → Enters p l n) (λ l. Enters p l x) (λ l. (n : ℕ) → Contains (take i xs ++ x ∷ []) n → Enters p l n)
+  pub entered_more : (p : FactsProblem) (a b c : Found A) (xs : List ℕ) (i x : ℕ) → i < length xs → x ≡ get_or xs i x → Meets (λ l. (n : ℕ) → Contains (take i xs) n → RunsWithAny p l n) a b → Meets (λ l. RunsWithAny p l x) b c → Meets (λ l. (n : ℕ) → Contains (take (i + 1) xs) n → RunsWithAny p l n) a c
+  entered_more p a b c xs i x h e q r = subst (λ ys. Meets (λ l. (n : ℕ) → Contains ys n → RunsWithAny p l n) a c) (sym (next_of xs i x h e))
+      (meets_then (λ l. (n : ℕ) → Contains (take i xs) n → RunsWithAny p l n) (λ l. RunsWithAny p l x) (λ l. (n : ℕ) → Contains (take i xs ++ x ∷ []) n → RunsWithAny p l n)
       (λ l g n t. g n (Contains-append_left (take i xs) (x ∷ []) n t))
       (λ l g. g x (Contains-push (take i xs) x))
-      (λ l d g n t. ⊎_elim (λ s. d n s) (λ s. subst (Enters p l) s g) (Contains-push_cases (take i xs) x n t))
+      (λ l d g n t. ⊎_elim (λ s. d n s) (λ s. subst (RunsWithAny p l) s g) (Contains-push_cases (take i xs) x n t))
       (λ k l m d n t. enters_stays p n k l m (d n t)) a b c q r)

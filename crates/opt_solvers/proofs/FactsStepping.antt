@@ -6,7 +6,7 @@ use Rattle.std.proofs.lemmas.List.Elements.{Contains-push, Contains-push_cases}
 use Rattle.opt_solvers.specs.declared.known.Known.TheVariants.{Any}
 use Rattle.opt_solvers.specs.declared.facts_problem.Role.{Role}
 use Rattle.opt_solvers.specs.declared.facts_problem.Role.TheVariants.{Folds, Branches, Other}
-use Rattle.opt_solvers.specs.OperationRows.{Edge, Row}
+use Rattle.opt_solvers.specs.OperationRows.{BranchEdge, Row}
 use Rattle.opt_solvers.specs.declared.facts_problem.FactsProblem.{FactsProblem}
 use Rattle.opt_solvers.specs.declared.facts_found.Found.{Found}
 use Rattle.opt_solvers.specs.declared.facts_tables.Place.{Place}
@@ -14,11 +14,11 @@ use Rattle.opt_solvers.specs.declared.facts_tables.Tables.{Tables}
 use Rattle.opt_solvers.specs.declared.facts_solver.Solver.{Solver}
 use Rattle.opt_solvers.specs.Known.{AtOrBelow, MorePrecise, asked}
 use Rattle.opt_solvers.specs.KnownFalls.{heights}
-use Rattle.opt_solvers.specs.Facts.{Answers, NumberedFacts, as_facts, arguments_of, Enters, EdgeClosed, EdgesClosed, ResultsClosed, RoleClosed, IsMostPrecise}
+use Rattle.opt_solvers.specs.Facts.{Answers, NumberedFacts, as_facts, arguments_of, RunsWithAny, RowEdgeClosed, EdgesClosed, ResultsClosed, RoleClosed, IsMostPreciseSolution}
 use Rattle.opt_solvers.specs.FactsFound.{facts_of, TakesBlock, TakesValue, HasNoBlock, HasNoValue}
 use Rattle.opt_solvers.specs.Rows.{row_at}
 use Rattle.opt_solvers.specs.FactsTables.{AreTables}
-use Rattle.opt_solvers.specs.FactsSolving.{seen_of, IsTaken, AnyResults, Started, EdgesTaken, Refreshed, IsSolving, IsWaiting, Visits, Tells, IsStep}
+use Rattle.opt_solvers.specs.FactsSolving.{seen_of, IsTaken, AnyResults, Started, EdgesTaken, Refreshed, IsSolving, IsWaiting, VisitsOperations, HasToTell, IsStep}
 use Rattle.opt_solvers.proofs.FactsEdging.{forwards_to}
 use Rattle.opt_solvers.proofs.FactsAsking.{same_lists}
 use Rattle.opt_solvers.proofs.FactsTelling.{waiting_steps}
@@ -56,7 +56,7 @@ module _ {A : Type 0} (ask : Answers A) (p : FactsProblem) where
         → ((i j v : ℕ) (r : Row) → slice_get p.rows i ≡ Some r → slice_get r.operands j ≡ Some v → Contains s.found.values.items v ⊎ Contains rest (record { row = i; operand = j }) → Contains f.values.items v ⊎ Contains places (record { row = i; operand = j }))
         → IsWaiting ask p s rows rest → IsWaiting ask p (record { found = f; seen = s.seen; taken = s.taken; marks = s.marks }) after places
     waiting_popped rest places rows after g h d = record {
-      entries = λ b c. subst (λ k. Enters p k b) same_facts (d.entries b c);
+      entries = λ b c. subst (λ k. RunsWithAny p k b) same_facts (d.entries b c);
       outside = λ v c. subst (λ (k : NumberedFacts A). k.of v ≡ Any) same_facts (d.outside v c);
       rows = λ i r a e. ⊎_elim
           (λ o. inl (record { started = subst (Started p r) same_facts o.started; refreshed = subst (λ k. Refreshed ask k i r r.role (seen_of s.seen i) (row_at s.taken i)) same_facts o.refreshed }))
@@ -81,7 +81,7 @@ module _ {A : Type 0} (ask : Answers A) (p : FactsProblem) where
           (λ c. absurd (none_contained [] i refl c)) o)
           (λ i j v r a e o. subst (λ x. Contains x.items v ⊎ Contains {X = Place} [] (record { row = i; operand = j })) (sym k.values) o) w
 
-      pub block_stepped : (t : Solver A) → Visits ask p (record { found = f; seen = s.seen; taken = s.taken; marks = s.marks }) t (λ i r. r.block ≡ b) → IsStep ask p s t true
+      pub block_stepped : (t : Solver A) → VisitsOperations ask p (record { found = f; seen = s.seen; taken = s.taken; marks = s.marks }) t (λ i r. r.block ≡ b) → IsStep ask p s t true
       block_stepped t v = record {
         solving = v.solving;
         waiting = record {
@@ -120,7 +120,7 @@ module _ {A : Type 0} (ask : Answers A) (p : FactsProblem) where
             (λ c. ⊎_elim (λ z. inl z) (λ z. inr (ok.readers.has v (record { row = i; operand = j }) (record { row = r; there = a; operand = e ∙ ap (λ y. Some y) (sym z) }))) (popped_value u c))
             (λ c. absurd (none_contained {X = Place} [] (record { row = i; operand = j }) refl c)) o) w
 
-        pub value_stepped : (t : Solver A) → Tells ask p h t [] → IsStep ask p s t true
+        pub value_stepped : (t : Solver A) → HasToTell ask p h t [] → IsStep ask p s t true
         value_stepped t g = record {
           solving = g.solving;
           waiting = g.waiting;
@@ -152,7 +152,7 @@ module _ {A : Type 0} (ask : Answers A) (p : FactsProblem) where
     all_seen i r a = same_lists (facts_of s.found).of r.operands (seen_of s.seen i) (d.operands_len i r a)
         (λ j v x b e. ⊎_elim (λ o. o) (λ o. absurd (⊎_elim (λ c. none_contained s.found.values.items v no_values c) (λ c. none_contained {X = Place} [] (record { row = i; operand = j }) refl c) o)) (w.seen i j v r x a b e))
 
-    edge_closed : (i n : ℕ) (r : Row) (e : Edge) → slice_get p.rows i ≡ Some r → slice_get r.edges n ≡ Some e → IsTaken s.taken i n → EdgeClosed p (facts_of s.found) r e
+    edge_closed : (i n : ℕ) (r : Row) (e : BranchEdge) → slice_get p.rows i ≡ Some r → slice_get r.edges n ≡ Some e → IsTaken s.taken i n → RowEdgeClosed p (facts_of s.found) r e
     edge_closed i n r e a b t = record {
       target = (d.edges i n r e a b t).target;
       arguments = forwards_to (facts_of s.found) (arguments_of p e.target) e.forwards r.operands
@@ -168,7 +168,7 @@ module _ {A : Type 0} (ask : Answers A) (p : FactsProblem) where
     role_closed i r Branches a g h = (g, subst (λ xs. EdgesClosed ask p (facts_of s.found) i r (asked xs)) (all_seen i r a) (edges_closed i r (asked (seen_of s.seen i)) a h))
     role_closed i r Other a g h = g
 
-    pub solved : IsMostPrecise ask p (facts_of s.found)
+    pub solved : IsMostPreciseSolution ask p (facts_of s.found)
     solved = record {
       closed = record {
         entries = w.entries;

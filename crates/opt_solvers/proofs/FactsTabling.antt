@@ -4,15 +4,15 @@ use Rattle.std.specs.Prelude.{Contains, slice_get}
 use Rattle.std.proofs.Math.ListN.{set}
 use Rattle.std.proofs.lemmas.Option.{slice_get_read, slice_get_within, none-some, same_Some, get_or_from_slice_get}
 use Rattle.std.proofs.lemmas.List.{length-set, length-replicate, length-take-le}
-use Rattle.opt_solvers.specs.OperationRows.{Edge, Row}
+use Rattle.opt_solvers.specs.OperationRows.{BranchEdge, Row}
 use Rattle.opt_solvers.specs.declared.facts_problem.FactsProblem.{FactsProblem}
 use Rattle.opt_solvers.specs.declared.facts_tables.Place.{Place}
 use Rattle.opt_solvers.specs.declared.facts_tables.Slot.{Slot}
 use Rattle.opt_solvers.specs.declared.facts_tables.Tables.{Tables}
 use Rattle.opt_solvers.specs.Rows.{listed, row_at}
 use Rattle.opt_solvers.specs.Facts.{arguments_of}
-use Rattle.opt_solvers.specs.LinkedRows.{Gains, Lists}
-use Rattle.opt_solvers.specs.FactsTables.{IsIn, Reads, ForwardsTo, ForwardsAlong, IsForwarded, AreTables, AddsRow, HoldRows}
+use Rattle.opt_solvers.specs.LinkedRows.{RowsGain, TableLists}
+use Rattle.opt_solvers.specs.FactsTables.{IsRowInBlock, ReadsValue, ForwardsToArgument, ForwardsAlong, IsForwardSlot, AreTables, AddsRow, HoldRows}
 use Rattle.opt_solvers.proofs.FactsFalling.{decide}
 use Rattle.opt_solvers.proofs.FactsEntering.{next_of}
 
@@ -112,8 +112,8 @@ module _ {X : Type 0} where
   pub table-set_other : (t : List (List X)) (i j : ℕ) (row : List X) → (j ≡ i → ⊥) → row_at (set t i row) j ≡ row_at t j
   table-set_other t i j row h = ap listed (get-set_other t i j row h)
 
-  pub gained_one : (t u : List (List X)) (i : ℕ) (x : X) → i < length t → u ≡ set t i (x ∷ row_at t i) → Gains (λ n y. (n ≡ i) × (y ≡ x)) t u
-  gained_one t u i x h q = subst (Gains (λ n y. (n ≡ i) × (y ≡ x)) t) (sym q) (record {
+  pub gained_one : (t u : List (List X)) (i : ℕ) (x : X) → i < length t → u ≡ set t i (x ∷ row_at t i) → RowsGain (λ n y. (n ≡ i) × (y ≡ x)) t u
+  gained_one t u i x h q = subst (RowsGain (λ n y. (n ≡ i) × (y ≡ x)) t) (sym q) (record {
     len = length-set t i (x ∷ row_at t i);
     keeps = λ n y c. ⊎_elim
         (λ s. subst (λ m. Contains (row_at (set t i (x ∷ row_at t i)) m) y) (sym s) (subst (λ xs. Contains xs y) (sym there) (contains_behind x (row_at t i) y (subst (λ m. Contains (row_at t m) y) s c))))
@@ -129,7 +129,7 @@ module _ {X : Type 0} where
       there : row_at (set t i (x ∷ row_at t i)) i ≡ x ∷ row_at t i
       there = table-set_same t i (x ∷ row_at t i) h
 
-  pub gained_then : (P Q R : ℕ → X → Type 0) → ((n : ℕ) (x : X) → P n x → R n x) → ((n : ℕ) (x : X) → Q n x → R n x) → ((n : ℕ) (x : X) → R n x → P n x ⊎ Q n x) → (a b c : List (List X)) → Gains P a b → Gains Q b c → Gains R a c
+  pub gained_then : (P Q R : ℕ → X → Type 0) → ((n : ℕ) (x : X) → P n x → R n x) → ((n : ℕ) (x : X) → Q n x → R n x) → ((n : ℕ) (x : X) → R n x → P n x ⊎ Q n x) → (a b c : List (List X)) → RowsGain P a b → RowsGain Q b c → RowsGain R a c
   gained_then P Q R f g h a b c p q = record {
     len = q.len ∙ p.len;
     keeps = λ n x s. q.keeps n x (p.keeps n x s);
@@ -137,7 +137,7 @@ module _ {X : Type 0} where
     only = λ n x s. ⊎_elim (λ d. ⊎_elim (λ o. inl o) (λ o. inr (f n x o)) (p.only n x d)) (λ d. inr (g n x d)) (q.only n x s);
   }
 
-  pub gained_none : (P : ℕ → X → Type 0) → ((n : ℕ) (x : X) → P n x → ⊥) → (a : List (List X)) → Gains P a a
+  pub gained_none : (P : ℕ → X → Type 0) → ((n : ℕ) (x : X) → P n x → ⊥) → (a : List (List X)) → RowsGain P a a
   gained_none P f a = record {
     len = refl;
     keeps = λ n x s. s;
@@ -145,7 +145,7 @@ module _ {X : Type 0} where
     only = λ n x s. inl s;
   }
 
-  pub gained_as : (P Q : ℕ → X → Type 0) → ((n : ℕ) (x : X) → P n x → Q n x) → ((n : ℕ) (x : X) → Q n x → P n x) → (a b : List (List X)) → Gains P a b → Gains Q a b
+  pub gained_as : (P Q : ℕ → X → Type 0) → ((n : ℕ) (x : X) → P n x → Q n x) → ((n : ℕ) (x : X) → Q n x → P n x) → (a b : List (List X)) → RowsGain P a b → RowsGain Q a b
   gained_as P Q f g a b p = record {
     len = p.len;
     keeps = p.keeps;
@@ -154,7 +154,7 @@ module _ {X : Type 0} where
   }
 
   -- a table that was empty lists what it gained
-  pub all_listed : (P : ℕ → X → Type 0) (count : ℕ) (a b : List (List X)) → Lists (λ n x. ⊥) a count → Gains P a b → Lists P b count
+  pub all_listed : (P : ℕ → X → Type 0) (count : ℕ) (a b : List (List X)) → TableLists (λ n x. ⊥) a count → RowsGain P a b → TableLists P b count
   all_listed P count a b e p = record {
     len = p.len ∙ e.len;
     has = p.has;
@@ -167,7 +167,7 @@ module _ {X : Type 0} where
   nothing_at row (suc count) (suc n) e = nothing_at row count n e
 
   -- a table of empty rows
-  pub emptied : (t : List (List X)) (count : ℕ) → t ≡ replicate count [] → Lists (λ n x. ⊥) t count
+  pub emptied : (t : List (List X)) (count : ℕ) → t ≡ replicate count [] → TableLists (λ n x. ⊥) t count
   emptied t count e = record {
     len = ap length e ∙ length-replicate count [];
     has = λ n x s. absurd s;
@@ -176,7 +176,7 @@ module _ {X : Type 0} where
 
 -- the next operand of an operation
 pub places_more : (a b c : List (List Place)) (number : ℕ) (xs : List ℕ) (i v : ℕ) → i < length xs → v ≡ get_or xs i v
-    → Gains (λ u x. (x.row ≡ number) × (slice_get (take i xs) x.operand ≡ Some u)) a b → Gains (λ u x. (u ≡ v) × (x ≡ record { row = number; operand = i })) b c → Gains (λ u x. (x.row ≡ number) × (slice_get (take (i + 1) xs) x.operand ≡ Some u)) a c
+    → RowsGain (λ u x. (x.row ≡ number) × (slice_get (take i xs) x.operand ≡ Some u)) a b → RowsGain (λ u x. (u ≡ v) × (x ≡ record { row = number; operand = i })) b c → RowsGain (λ u x. (x.row ≡ number) × (slice_get (take (i + 1) xs) x.operand ≡ Some u)) a c
 places_more a b c number xs i v h e p q = gained_then _ _ _
     (λ u x s. (s.0, get_more_left xs i v u x.operand h e s.1))
     (λ u x s. (ap (λ (y : Place). y.row) s.1, subst (λ (y : Place). slice_get (take (i + 1) xs) y.operand ≡ Some u) (sym s.1) (get_more_last xs i v h e ∙ ap (λ w. Some w) (sym s.0))))
@@ -185,7 +185,7 @@ places_more a b c number xs i v h e p q = gained_then _ _ _
 
 -- the next argument of a block
 pub forwards_more : (a b c : List (List Slot)) (n m : ℕ) (arguments forwards operands : List ℕ) (i w q v : ℕ) → i < length arguments → w ≡ get_or arguments i w → slice_get forwards i ≡ Some q → slice_get operands q ≡ Some v
-    → Gains (λ u x. (x.row ≡ n) × (x.edge ≡ m) × ForwardsTo (take i arguments) forwards operands u x.argument) a b → Gains (λ u x. (u ≡ v) × (x ≡ record { row = n; edge = m; argument = w })) b c → Gains (λ u x. (x.row ≡ n) × (x.edge ≡ m) × ForwardsTo (take (i + 1) arguments) forwards operands u x.argument) a c
+    → RowsGain (λ u x. (x.row ≡ n) × (x.edge ≡ m) × ForwardsToArgument (take i arguments) forwards operands u x.argument) a b → RowsGain (λ u x. (u ≡ v) × (x ≡ record { row = n; edge = m; argument = w })) b c → RowsGain (λ u x. (x.row ≡ n) × (x.edge ≡ m) × ForwardsToArgument (take (i + 1) arguments) forwards operands u x.argument) a c
 forwards_more a b c n m arguments forwards operands i w q v h e f o s t = gained_then _ _ _
     (λ u x d. (d.0, d.1, record { index = d.2.index; argument = get_more_left arguments i w x.argument d.2.index h e d.2.argument; operand = d.2.operand; forwards = d.2.forwards; value = d.2.value }))
     (λ u x d. (ap (λ (y : Slot). y.row) d.1, ap (λ (y : Slot). y.edge) d.1, record { index = i; argument = get_more_last arguments i w h e ∙ ap (λ (y : Slot). Some y.argument) (sym d.1); operand = q; forwards = f; value = o ∙ ap (λ y. Some y) (sym d.0) }))
@@ -196,25 +196,25 @@ forwards_more a b c n m arguments forwards operands i w q v h e f o s t = gained
     a b c s t
 
 pub forwards_all : (a b : List (List Slot)) (n m : ℕ) (arguments forwards operands : List ℕ) (i : ℕ) → ((j : ℕ) → j < length arguments → j < length forwards → j < i)
-    → Gains (λ u x. (x.row ≡ n) × (x.edge ≡ m) × ForwardsTo (take i arguments) forwards operands u x.argument) a b → Gains (λ u x. (x.row ≡ n) × (x.edge ≡ m) × ForwardsTo arguments forwards operands u x.argument) a b
+    → RowsGain (λ u x. (x.row ≡ n) × (x.edge ≡ m) × ForwardsToArgument (take i arguments) forwards operands u x.argument) a b → RowsGain (λ u x. (x.row ≡ n) × (x.edge ≡ m) × ForwardsToArgument arguments forwards operands u x.argument) a b
 forwards_all a b n m arguments forwards operands i h = gained_as _ _
     (λ u x d. (d.0, d.1, record { index = d.2.index; argument = get_from_take arguments i d.2.index x.argument d.2.argument; operand = d.2.operand; forwards = d.2.forwards; value = d.2.value }))
     (λ u x d. (d.0, d.1, record { index = d.2.index; argument = get_take arguments i d.2.index x.argument d.2.argument (h d.2.index (slice_get_within arguments d.2.index x.argument d.2.argument) (slice_get_within forwards d.2.index d.2.operand d.2.forwards)); operand = d.2.operand; forwards = d.2.forwards; value = d.2.value }))
     a b
 
 -- the next edge of an operation
-pub edges_more : (p : FactsProblem) (a b c : List (List Slot)) (n : ℕ) (edges : List Edge) (operands : List ℕ) (i : ℕ) (edge : Edge) → i < length edges → edge ≡ get_or edges i edge
-    → Gains (λ u x. (x.row ≡ n) × ForwardsAlong p (take i edges) operands u x.edge x.argument) a b → Gains (λ u x. (x.row ≡ n) × (x.edge ≡ i) × ForwardsTo (arguments_of p edge.target) edge.forwards operands u x.argument) b c → Gains (λ u x. (x.row ≡ n) × ForwardsAlong p (take (i + 1) edges) operands u x.edge x.argument) a c
+pub edges_more : (p : FactsProblem) (a b c : List (List Slot)) (n : ℕ) (edges : List BranchEdge) (operands : List ℕ) (i : ℕ) (edge : BranchEdge) → i < length edges → edge ≡ get_or edges i edge
+    → RowsGain (λ u x. (x.row ≡ n) × ForwardsAlong p (take i edges) operands u x.edge x.argument) a b → RowsGain (λ u x. (x.row ≡ n) × (x.edge ≡ i) × ForwardsToArgument (arguments_of p edge.target) edge.forwards operands u x.argument) b c → RowsGain (λ u x. (x.row ≡ n) × ForwardsAlong p (take (i + 1) edges) operands u x.edge x.argument) a c
 edges_more p a b c n edges operands i edge h e s t = gained_then _ _ _
     (λ u x d. (d.0, record { edge = d.1.edge; there = get_more_left edges i edge d.1.edge x.edge h e d.1.there; forwards = d.1.forwards }))
     (λ u x d. (d.0, record { edge = edge; there = ap (slice_get (take (i + 1) edges)) d.1 ∙ get_more_last edges i edge h e; forwards = d.2 }))
     (λ u x d. ⊎_elim
     (λ r. inl (d.0, record { edge = d.1.edge; there = r; forwards = d.1.forwards }))
-    (λ r. inr (d.0, r.0, subst (λ (y : Edge). ForwardsTo (arguments_of p y.target) y.forwards operands u x.argument) (sym r.1) d.1.forwards))
+    (λ r. inr (d.0, r.0, subst (λ (y : BranchEdge). ForwardsToArgument (arguments_of p y.target) y.forwards operands u x.argument) (sym r.1) d.1.forwards))
     (get_more_cases edges i edge d.1.edge x.edge h e d.1.there))
     a b c s t
 
-pub row_put : (p : FactsProblem) (a b : Tables) (n : ℕ) (r : Row) → Gains (λ m i. (m ≡ r.block) × (i ≡ n)) a.rows b.rows → Gains (λ v x. (x.row ≡ n) × (slice_get r.operands x.operand ≡ Some v)) a.readers b.readers → Gains (λ v x. (x.row ≡ n) × ForwardsAlong p r.edges r.operands v x.edge x.argument) a.slots b.slots → AddsRow p a b n r
+pub row_put : (p : FactsProblem) (a b : Tables) (n : ℕ) (r : Row) → RowsGain (λ m i. (m ≡ r.block) × (i ≡ n)) a.rows b.rows → RowsGain (λ v x. (x.row ≡ n) × (slice_get r.operands x.operand ≡ Some v)) a.readers b.readers → RowsGain (λ v x. (x.row ≡ n) × ForwardsAlong p r.edges r.operands v x.edge x.argument) a.slots b.slots → AddsRow p a b n r
 row_put p a b n r f g h = record {
   rows = gained_as _ _ (λ m i d. (d.1, sym d.0)) (λ m i d. (sym d.1, d.0)) a.rows b.rows f;
   readers = g;
@@ -243,14 +243,14 @@ rows_more p a b c rows i row h e s t = record {
 
 pub no_rows : (p : FactsProblem) (t : Tables) → HoldRows p t t []
 no_rows p t = record {
-  rows = gained_none (IsIn []) (λ n x d. none-some d.row d.there) t.rows;
-  readers = gained_none (Reads []) (λ n x d. none-some d.row d.there) t.readers;
-  slots = gained_none (IsForwarded p []) (λ n x d. none-some d.row d.there) t.slots;
+  rows = gained_none (IsRowInBlock []) (λ n x d. none-some d.row d.there) t.rows;
+  readers = gained_none (ReadsValue []) (λ n x d. none-some d.row d.there) t.readers;
+  slots = gained_none (IsForwardSlot p []) (λ n x d. none-some d.row d.there) t.slots;
 }
 
-pub tables_end : (p : FactsProblem) (a b : Tables) → Lists (λ n x. ⊥) a.rows (length p.arguments.items) → Lists (λ n x. ⊥) a.readers p.values → Lists (λ n x. ⊥) a.slots p.values → HoldRows p a b p.rows → AreTables p b
+pub tables_end : (p : FactsProblem) (a b : Tables) → TableLists (λ n x. ⊥) a.rows (length p.arguments.items) → TableLists (λ n x. ⊥) a.readers p.values → TableLists (λ n x. ⊥) a.slots p.values → HoldRows p a b p.rows → AreTables p b
 tables_end p a b r s t h = record {
-  rows = all_listed (IsIn p.rows) (length p.arguments.items) a.rows b.rows r h.rows;
-  readers = all_listed (Reads p.rows) p.values a.readers b.readers s h.readers;
-  slots = all_listed (IsForwarded p p.rows) p.values a.slots b.slots t h.slots;
+  rows = all_listed (IsRowInBlock p.rows) (length p.arguments.items) a.rows b.rows r h.rows;
+  readers = all_listed (ReadsValue p.rows) p.values a.readers b.readers s h.readers;
+  slots = all_listed (IsForwardSlot p p.rows) p.values a.slots b.slots t h.slots;
 }

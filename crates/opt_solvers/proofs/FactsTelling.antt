@@ -16,10 +16,10 @@ use Rattle.opt_solvers.specs.declared.facts_tables.Slot.{Slot}
 use Rattle.opt_solvers.specs.declared.facts_tables.Tables.{Tables}
 use Rattle.opt_solvers.specs.declared.facts_solver.Solver.{Solver}
 use Rattle.opt_solvers.specs.Known.{AtOrBelow, MorePrecise}
-use Rattle.opt_solvers.specs.Facts.{Answers, NumberedFacts, arguments_of, IsClosed, IsProblem}
+use Rattle.opt_solvers.specs.Facts.{Answers, NumberedFacts, arguments_of, IsClosedSolution, IsProblem}
 use Rattle.opt_solvers.specs.FactsFound.{facts_of, Falls, Meets}
-use Rattle.opt_solvers.specs.FactsTables.{Reads, ForwardsTo, AreTables}
-use Rattle.opt_solvers.specs.FactsSolving.{seen_of, IsTaken, SlotBelow, SlotsBelow, Refreshed, IsSolving, IsWaiting, Steps, Refreshes, Sees, Tells}
+use Rattle.opt_solvers.specs.FactsTables.{ReadsValue, ForwardsToArgument, AreTables}
+use Rattle.opt_solvers.specs.FactsSolving.{seen_of, IsTaken, SlotBelow, SlotsBelow, Refreshed, IsSolving, IsWaiting, SolverSteps, Refreshes, Sees, HasToTell}
 use Rattle.opt_solvers.proofs.FactsFalling.{decide, at_same, at_trans, falls_none, falls_as, meets_then, meets_as, meets_none, any_below, or_read}
 use Rattle.opt_solvers.proofs.FactsEntering.{enters_stays}
 use Rattle.opt_solvers.proofs.FactsTabling.{get-set_same, get-set_other, get_contains, table-set_same, table-set_other, contains_first, contains_behind}
@@ -57,7 +57,7 @@ module _ {A : Type 0} where
 
   module _ (ask : Answers A) (p : FactsProblem) where
     -- what is left to do after steps
-    pub waiting_steps : (s t : Solver A) (rest : List ℕ) (places : List Place) → Steps ask p s t → IsWaiting ask p s rest places → IsWaiting ask p t rest places
+    pub waiting_steps : (s t : Solver A) (rest : List ℕ) (places : List Place) → SolverSteps ask p s t → IsWaiting ask p s rest places → IsWaiting ask p t rest places
     waiting_steps s t rest places f d = record {
       entries = λ b c. enters_stays p b (facts_of s.found) (facts_of t.found) f.found.falls (d.entries b c);
       outside = λ v c. any_below ((facts_of t.found).of v) ((facts_of s.found).of v) (f.found.falls.above v) (d.outside v c);
@@ -76,14 +76,14 @@ module _ {A : Type 0} where
 
     -- the arguments that a value is forwarded to are lowered
     module _ (tables : Tables) (ok : AreTables p tables) (s : Solver A) (v : ℕ) (fact : Known A) (f : Found A) (d : IsSolving ask p s (v ∷ [])) (is : (facts_of s.found).of v ≡ fact) (m : Meets (SlotsBelow s.taken (row_at tables.slots v) fact) s.found f) where
-      pub slots_best : (l : NumberedFacts A) → IsClosed ask p l → SlotsBelow s.taken (row_at tables.slots v) fact l
+      pub slots_best : (l : NumberedFacts A) → IsClosedSolution ask p l → SlotsBelow s.taken (row_at tables.slots v) fact l
       slots_best l c x o t =
           let w = ok.slots.only v x o in
           let e = d.taken_best l c x.row x.edge w.row w.along.edge w.there w.along.there t in
           subst (AtOrBelow (l.of x.argument)) is (at_trans (l.of x.argument) (l.of v) ((facts_of s.found).of v) (forwards_from l (arguments_of p w.along.edge.target) w.along.edge.forwards w.row.operands e.arguments v x.argument w.along.forwards) ((d.best l c).above v))
 
-      pub slots_fall : Falls (IsClosed ask p) s.found f
-      slots_fall = falls_as (SlotsBelow s.taken (row_at tables.slots v) fact) (IsClosed ask p) slots_best s.found f m.steps
+      pub slots_fall : Falls (IsClosedSolution ask p) s.found f
+      slots_fall = falls_as (SlotsBelow s.taken (row_at tables.slots v) fact) (IsClosedSolution ask p) slots_best s.found f m.steps
 
       pub value_forwarded : IsSolving ask p (record { found = f; seen = s.seen; taken = s.taken; marks = s.marks }) []
       value_forwarded = record {
@@ -107,16 +107,16 @@ module _ {A : Type 0} where
               (λ y. let q : u ≡ v = one_contained v u y in
               ⊎_elim
               (λ k. inl (subst (λ g. AtOrBelow ((facts_of f).of w) ((facts_of f).of g)) (sym q) (subst (AtOrBelow ((facts_of f).of w)) (sym (k ∙ is))
-              (m.holds (record { row = i; edge = n; argument = w }) (ok.slots.has v (record { row = i; edge = n; argument = w }) (record { row = r; there = a; along = record { edge = e; there = b; forwards = subst (λ g. ForwardsTo (arguments_of p e.target) e.forwards r.operands g w) q z } })) t))))
+              (m.holds (record { row = i; edge = n; argument = w }) (ok.slots.has v (record { row = i; edge = n; argument = w }) (record { row = r; there = a; along = record { edge = e; there = b; forwards = subst (λ g. ForwardsToArgument (arguments_of p e.target) e.forwards r.operands g w) q z } })) t))))
               (λ k. inr (inl (subst (Contains f.values.items) (sym q) k)))
               (slots_fall.value_waits v))
               o)
-              (lie_stays (IsClosed ask p) (arguments_of p e.target) e.forwards r.operands (v ∷ []) s.found f slots_fall (d.edges i n r e a b t).arguments u w z);
+              (lie_stays (IsClosedSolution ask p) (arguments_of p e.target) e.forwards r.operands (v ∷ []) s.found f slots_fall (d.edges i n r e a b t).arguments u w z);
         };
       }
 
     -- one place sees what is known
-    module _ (s : Solver A) (v : ℕ) (x : Place) (seen : List (List (Known A))) (fact : Known A) (ok : IsProblem p) (d : IsSolving ask p s []) (w : Reads p.rows v x) (read : fact ≡ get_or s.found.known.items v fact) (all : seen ≡ set s.seen x.row (set (seen_of s.seen x.row) x.operand fact)) where
+    module _ (s : Solver A) (v : ℕ) (x : Place) (seen : List (List (Known A))) (fact : Known A) (ok : IsProblem p) (d : IsSolving ask p s []) (w : ReadsValue p.rows v x) (read : fact ≡ get_or s.found.known.items v fact) (all : seen ≡ set s.seen x.row (set (seen_of s.seen x.row) x.operand fact)) where
       at : x.row < length s.seen
       at = subst (λ n. x.row < n) (sym d.seen_len) (slice_get_within p.rows x.row w.row w.there)
 
@@ -181,7 +181,7 @@ module _ {A : Type 0} where
       pub place_idle : ((facts_of s.found).runs w.row.block ≡ true → ⊥) → Sees ask p s (record { found = s.found; seen = seen; taken = s.taken; marks = s.marks }) v x
       place_idle h = record {
         solving = place_solving;
-        found = falls_none (IsClosed ask p) s.found;
+        found = falls_none (IsClosedSolution ask p) s.found;
         taken = λ i n t. t;
         others = others;
         other_places = other_places;
@@ -190,7 +190,7 @@ module _ {A : Type 0} where
       }
 
     -- the next place is told
-    pub place_told : (s t : Solver A) (v : ℕ) (x : Place) (places rest : List Place) → places ≡ x ∷ rest → Reads p.rows v x → Sees ask p s t v x → IsWaiting ask p s [] places → IsWaiting ask p t [] rest
+    pub place_told : (s t : Solver A) (v : ℕ) (x : Place) (places rest : List Place) → places ≡ x ∷ rest → ReadsValue p.rows v x → Sees ask p s t v x → IsWaiting ask p s [] places → IsWaiting ask p t [] rest
     place_told s t v x places rest e w f d = record {
       entries = λ b c. enters_stays p b (facts_of s.found) (facts_of t.found) f.found.falls (d.entries b c);
       outside = λ u c. any_below ((facts_of t.found).of u) ((facts_of s.found).of u) (f.found.falls.above u) (d.outside u c);
@@ -230,10 +230,10 @@ module _ {A : Type 0} where
 
     -- these places have still to be told, each of which reads the value
     pub record ToldUpTo (o : Found A) (s : Solver A) (v : ℕ) (places : List Place) : Type 0 where
-      pub tells : Tells ask p o s places
-      pub reads : (x : Place) → Contains places x → Reads p.rows v x
+      pub tells : HasToTell ask p o s places
+      pub reads : (x : Place) → Contains places x → ReadsValue p.rows v x
 
-    pub next_reads : (o : Found A) (s : Solver A) (v : ℕ) (x : Place) (places rest : List Place) → places ≡ x ∷ rest → ToldUpTo o s v places → Reads p.rows v x
+    pub next_reads : (o : Found A) (s : Solver A) (v : ℕ) (x : Place) (places rest : List Place) → places ≡ x ∷ rest → ToldUpTo o s v places → ReadsValue p.rows v x
     next_reads o s v x places rest e d = d.reads x (subst (λ xs. Contains xs x) (sym e) (contains_first x rest))
 
     pub next_told : (o : Found A) (s t : Solver A) (v : ℕ) (x : Place) (places rest : List Place) → places ≡ x ∷ rest → ToldUpTo o s v places → Sees ask p s t v x → ToldUpTo o t v rest
@@ -255,5 +255,5 @@ module _ {A : Type 0} where
           reads = λ x c. ok.readers.only v x (subst (λ xs. Contains xs x) g c);
         }
 
-    pub told_all : (o : Found A) (s : Solver A) (v : ℕ) (places : List Place) → places ≡ [] → ToldUpTo o s v places → Tells ask p o s []
-    told_all o s v places e d = subst (Tells ask p o s) e d.tells
+    pub told_all : (o : Found A) (s : Solver A) (v : ℕ) (places : List Place) → places ≡ [] → ToldUpTo o s v places → HasToTell ask p o s []
+    told_all o s v places e d = subst (HasToTell ask p o s) e d.tells

@@ -8,15 +8,15 @@ use Rattle.std.proofs.lemmas.List.Elements.{Contains-push_cases}
 use Rattle.opt_solvers.specs.declared.known.Known.{Known}
 use Rattle.opt_solvers.specs.declared.facts_problem.Role.{Role}
 use Rattle.opt_solvers.specs.declared.facts_problem.Role.TheVariants.{Folds, Branches, Other}
-use Rattle.opt_solvers.specs.OperationRows.{Edge, Row}
+use Rattle.opt_solvers.specs.OperationRows.{BranchEdge, Row}
 use Rattle.opt_solvers.specs.declared.facts_problem.FactsProblem.{FactsProblem}
 use Rattle.opt_solvers.specs.declared.facts_found.Found.{Found}
 use Rattle.opt_solvers.specs.declared.facts_solver.Solver.{Solver}
 use Rattle.opt_solvers.specs.Known.{AtOrBelow, AllBelow, MorePrecise, asked, answer}
-use Rattle.opt_solvers.specs.Facts.{Answers, NumberedFacts, Enters, IsFeasible, EdgeClosed, EdgesClosed, ResultsClosed, RoleClosed, IsClosed}
+use Rattle.opt_solvers.specs.Facts.{Answers, NumberedFacts, RunsWithAny, IsFeasibleTarget, RowEdgeClosed, EdgesClosed, ResultsClosed, RoleClosed, IsClosedSolution}
 use Rattle.opt_solvers.specs.FactsFound.{facts_of, Falls, Meets}
 use Rattle.opt_solvers.specs.Rows.{row_at}
-use Rattle.opt_solvers.specs.FactsSolving.{seen_of, IsTaken, Marks, EdgeLies, MarkedClosed, TakesMarked, AnyResults, Started, EdgesTaken, Refreshed, RowDone, IsSolving, Steps, Refreshes, Visits}
+use Rattle.opt_solvers.specs.FactsSolving.{seen_of, IsTaken, Marks, EdgeLies, MarkedClosed, TakesMarkedEdges, AnyResults, Started, EdgesTaken, Refreshed, RowDone, IsSolving, SolverSteps, Refreshes, VisitsOperations}
 use Rattle.opt_solvers.proofs.FactsFalling.{decide, at_trans, falls_none, falls_then, falls_as, meets_then, meets_as, meets_none}
 use Rattle.opt_solvers.proofs.FactsEntering.{all_any_stays, enters_stays}
 use Rattle.opt_solvers.proofs.FactsEdging.{edge_stays}
@@ -59,8 +59,8 @@ module _ {A : Type 0} where
   pub started_stays : (p : FactsProblem) (r : Row) (k l : NumberedFacts A) → MorePrecise k l → Started p r k → Started p r l
   started_stays p r k l m d = record { results = any_results_stays r.results r.role k l m d.results; entries = λ b c. enters_stays p b k l m (d.entries b c) }
 
-  pub row_started : (p : FactsProblem) (r : Row) (blocks : List ℕ) (a b c : Found A) → blocks ≡ r.entries → Meets (AnyResults r.results r.role) a b → Meets (λ l. (n : ℕ) → Contains blocks n → Enters p l n) b c → Meets (Started p r) a c
-  row_started p r blocks a b c e = meets_then (AnyResults r.results r.role) (λ l. (n : ℕ) → Contains blocks n → Enters p l n) (Started p r)
+  pub row_started : (p : FactsProblem) (r : Row) (blocks : List ℕ) (a b c : Found A) → blocks ≡ r.entries → Meets (AnyResults r.results r.role) a b → Meets (λ l. (n : ℕ) → Contains blocks n → RunsWithAny p l n) b c → Meets (Started p r) a c
+  row_started p r blocks a b c e = meets_then (AnyResults r.results r.role) (λ l. (n : ℕ) → Contains blocks n → RunsWithAny p l n) (Started p r)
       (λ l d. d.results)
       (λ l d n t. d.entries n (subst (λ xs. Contains xs n) e t))
       (λ l d g. record { results = d; entries = λ n t. g n (subst (λ xs. Contains xs n) (sym e) t) })
@@ -90,13 +90,13 @@ module _ {A : Type 0} where
   any_from_role ask p l i r Other d = d
 
   module _ (ask : Answers A) (p : FactsProblem) where
-    pub steps_none : (s : Solver A) → Steps ask p s s
-    steps_none s = record { found = falls_none (IsClosed ask p) s.found; seen = refl; taken = λ i n t. t }
+    pub steps_none : (s : Solver A) → SolverSteps ask p s s
+    steps_none s = record { found = falls_none (IsClosedSolution ask p) s.found; seen = refl; taken = λ i n t. t }
 
-    pub steps_then : (a b c : Solver A) → Steps ask p a b → Steps ask p b c → Steps ask p a c
-    steps_then a b c f g = record { found = falls_then (IsClosed ask p) a.found b.found c.found f.found g.found; seen = g.seen ∙ f.seen; taken = λ i n t. g.taken i n (f.taken i n t) }
+    pub steps_then : (a b c : Solver A) → SolverSteps ask p a b → SolverSteps ask p b c → SolverSteps ask p a c
+    steps_then a b c f g = record { found = falls_then (IsClosedSolution ask p) a.found b.found c.found f.found g.found; seen = g.seen ∙ f.seen; taken = λ i n t. g.taken i n (f.taken i n t) }
 
-    pub done_stays : (a b : Solver A) (i : ℕ) (r : Row) → Steps ask p a b → RowDone ask p a i r → RowDone ask p b i r
+    pub done_stays : (a b : Solver A) (i : ℕ) (r : Row) → SolverSteps ask p a b → RowDone ask p a i r → RowDone ask p b i r
     done_stays a b i r f d = record {
       started = started_stays p r (facts_of a.found) (facts_of b.found) f.found.falls d.started;
       refreshed = subst (λ x. Refreshed ask (facts_of b.found) i r r.role (seen_of x i) (row_at b.taken i)) (sym f.seen)
@@ -104,7 +104,7 @@ module _ {A : Type 0} where
     }
 
     -- facts that fall, and nothing else
-    pub solving_falls : (s : Solver A) (f : Found A) (popped : List ℕ) → Falls (IsClosed ask p) s.found f → IsSolving ask p s popped → IsSolving ask p (record { found = f; seen = s.seen; taken = s.taken; marks = s.marks }) popped
+    pub solving_falls : (s : Solver A) (f : Found A) (popped : List ℕ) → Falls (IsClosedSolution ask p) s.found f → IsSolving ask p s popped → IsSolving ask p (record { found = f; seen = s.seen; taken = s.taken; marks = s.marks }) popped
     solving_falls s f popped g d = record {
       blocks_len = g.blocks_len ∙ d.blocks_len;
       values_len = g.values_len ∙ d.values_len;
@@ -117,25 +117,25 @@ module _ {A : Type 0} where
       marks_best = d.marks_best;
       taken_best = d.taken_best;
       above = λ i j v r x a b e. at_trans ((facts_of f).of v) ((facts_of s.found).of v) x (g.falls.above v) (d.above i j v r x a b e);
-      edges = λ i n r e a b t. edge_stays (IsClosed ask p) p popped r e s.found f g (d.edges i n r e a b t);
+      edges = λ i n r e a b t. edge_stays (IsClosedSolution ask p) p popped r e s.found f g (d.edges i n r e a b t);
     }
 
     module _ (laws : AreLawful ask) (s : Solver A) (popped : List ℕ) (d : IsSolving ask p s popped) (i : ℕ) (r : Row) (at : slice_get p.rows i ≡ Some r) (running : (facts_of s.found).runs r.block ≡ true) where
-      pub started_best : (l : NumberedFacts A) → IsClosed ask p l → Started p r l
+      pub started_best : (l : NumberedFacts A) → IsClosedSolution ask p l → Started p r l
       started_best l c = let w = c.rows i r at ((d.best l c).fewer r.block running) in record { results = any_from_role ask p l i r r.role w.role; entries = w.entries }
 
       -- facts that are closed ask more
-      asks_below : (l : NumberedFacts A) → IsClosed ask p l → (q : List (Option A)) → asked (seen_of s.seen i) ≡ Some q → AskedBelow (map l.of r.operands) q
+      asks_below : (l : NumberedFacts A) → IsClosedSolution ask p l → (q : List (Option A)) → asked (seen_of s.seen i) ≡ Some q → AskedBelow (map l.of r.operands) q
       asks_below l c q e = asked_below (map l.of r.operands) (seen_of s.seen i) q
           (pairs l.of r.operands (seen_of s.seen i) (d.operands_len i r at) (λ j v x a b. at_trans (l.of v) ((facts_of s.found).of v) x ((d.best l c).above v) (d.above i j v r x at a b))) e
 
-      pub folds_best : r.role ≡ Folds → (q : List (Option A)) → asked (seen_of s.seen i) ≡ Some q → (l : NumberedFacts A) → IsClosed ask p l → AllBelow l.of r.results (map answer (ask.fold i q))
+      pub folds_best : r.role ≡ Folds → (q : List (Option A)) → asked (seen_of s.seen i) ≡ Some q → (l : NumberedFacts A) → IsClosedSolution ask p l → AllBelow l.of r.results (map answer (ask.fold i q))
       folds_best role q e l c =
           let w : RoleClosed ask p l i r Folds = subst (RoleClosed ask p l i r) role (c.rows i r at ((d.best l c).fewer r.block running)).role in
           let b = asks_below l c q e in
           answers_below l.of r.results (ask.fold i b.asks) (ask.fold i q) (laws.folds_more i b.asks q b.less) (subst (ResultsClosed ask l i r) b.asked_is w)
 
-      pub branches_best : r.role ≡ Branches → (q : List (Option A)) → asked (seen_of s.seen i) ≡ Some q → (l : NumberedFacts A) → IsClosed ask p l → (n : ℕ) (e : Edge) → slice_get r.edges n ≡ Some e → IsFeasible ask i r q e.target → EdgeClosed p l r e
+      pub branches_best : r.role ≡ Branches → (q : List (Option A)) → asked (seen_of s.seen i) ≡ Some q → (l : NumberedFacts A) → IsClosedSolution ask p l → (n : ℕ) (e : BranchEdge) → slice_get r.edges n ≡ Some e → IsFeasibleTarget ask i r q e.target → RowEdgeClosed p l r e
       branches_best role q e l c n edge t f =
           let w : RoleClosed ask p l i r Branches = subst (RoleClosed ask p l i r) role (c.rows i r at ((d.best l c).fewer r.block running)).role in
           let b = asks_below l c q e in
@@ -158,12 +158,12 @@ module _ {A : Type 0} where
           (subst (λ x. Refreshed ask (facts_of f) i r x (seen_of s.seen i) (row_at s.taken i)) (sym role) (subst (ResultsClosed ask (facts_of f) i r) (sym e) m.holds));
     }
       where
-        g : Falls (IsClosed ask p) s.found f
-        g = falls_as (λ l. AllBelow l.of r.results (map answer (ask.fold i q))) (IsClosed ask p) (folds_best laws s [] d i r at running role q e) s.found f m.steps
+        g : Falls (IsClosedSolution ask p) s.found f
+        g = falls_as (λ l. AllBelow l.of r.results (map answer (ask.fold i q))) (IsClosedSolution ask p) (folds_best laws s [] d i r at running role q e) s.found f m.steps
 
     -- the edges of a branch are tested
     pub row_tested : AreLawful ask → (s : Solver A) (i : ℕ) (r : Row) (q : List (Option A)) (f : Found A) (taken : List (List Bool)) (marks : Vec (Option ℕ) Global) → IsSolving ask p s [] → slice_get p.rows i ≡ Some r → (facts_of s.found).runs r.block ≡ true → r.role ≡ Branches → asked (seen_of s.seen i) ≡ Some q
-        → Marks ask i r q (length r.edges) s.marks.items marks.items → TakesMarked p i r marks.items (length r.edges) s.taken taken s.found f → Refreshes ask p s (record { found = f; seen = s.seen; taken = taken; marks = marks }) i
+        → Marks ask i r q (length r.edges) s.marks.items marks.items → TakesMarkedEdges p i r marks.items (length r.edges) s.taken taken s.found f → Refreshes ask p s (record { found = f; seen = s.seen; taken = taken; marks = marks }) i
     row_tested laws s i r q f taken marks d at running role e m t = record {
       solving = record {
         blocks_len = t.steps.blocks_len ∙ d.blocks_len;
@@ -190,10 +190,10 @@ module _ {A : Type 0} where
         edges = λ j n u y a b w. ⊎_elim
             (λ z. let v : r ≡ u = same_row j u z a in
             ⊎_elim
-            (λ o. edge_stays (IsClosed ask p) p [] u y s.found f g (d.edges j n u y a b (subst (λ x. IsTaken s.taken x n) (sym z) o)))
+            (λ o. edge_stays (IsClosedSolution ask p) p [] u y s.found f g (d.edges j n u y a b (subst (λ x. IsTaken s.taken x n) (sym z) o)))
             (λ o. subst (λ (x : Row). EdgeLies p f [] x y) v o.1)
             (t.only n y (subst (λ (x : Row). slice_get x.edges n ≡ Some y) (sym v) b) (subst (λ x. IsTaken taken x n) z w)))
-            (λ z. edge_stays (IsClosed ask p) p [] u y s.found f g (d.edges j n u y a b (sym (ap (λ xs. slice_get xs n) (t.others j z)) ∙ w)))
+            (λ z. edge_stays (IsClosedSolution ask p) p [] u y s.found f g (d.edges j n u y a b (sym (ap (λ xs. slice_get xs n) (t.others j z)) ∙ w)))
             (decide j i);
       };
       steps = record {
@@ -211,25 +211,25 @@ module _ {A : Type 0} where
         same_row : (j : ℕ) (u : Row) → j ≡ i → slice_get p.rows j ≡ Some u → r ≡ u
         same_row j u z a = same_Some r u (sym at ∙ (ap (slice_get p.rows) (sym z) ∙ a))
 
-        marked : (l : NumberedFacts A) → IsClosed ask p l → (j : ℕ) (u : Row) → slice_get p.rows j ≡ Some u → MarkedClosed p j u marks.items l
+        marked : (l : NumberedFacts A) → IsClosedSolution ask p l → (j : ℕ) (u : Row) → slice_get p.rows j ≡ Some u → MarkedClosed p j u marks.items l
         marked l c j u a n y b w = ⊎_elim
             (λ o. d.marks_best l c j u a n y b o)
             (λ o. let v : r ≡ u = same_row j u o.0 a in
-            subst (λ (x : Row). EdgeClosed p l x y) v (branches_best laws s [] d i r at running role q e l c n y (subst (λ (x : Row). slice_get x.edges n ≡ Some y) (sym v) b) o.1))
+            subst (λ (x : Row). RowEdgeClosed p l x y) v (branches_best laws s [] d i r at running role q e l c n y (subst (λ (x : Row). slice_get x.edges n ≡ Some y) (sym v) b) o.1))
             (m.only y.target j w)
 
-        g : Falls (IsClosed ask p) s.found f
-        g = falls_as (MarkedClosed p i r marks.items) (IsClosed ask p) (λ l c. marked l c i r at) s.found f t.steps
+        g : Falls (IsClosedSolution ask p) s.found f
+        g = falls_as (MarkedClosed p i r marks.items) (IsClosedSolution ask p) (λ l c. marked l c i r at) s.found f t.steps
 
-        all_taken : (n : ℕ) (y : Edge) → slice_get r.edges n ≡ Some y → IsFeasible ask i r q y.target → slice_get (row_at taken i) n ≡ Some true
+        all_taken : (n : ℕ) (y : BranchEdge) → slice_get r.edges n ≡ Some y → IsFeasibleTarget ask i r q y.target → slice_get (row_at taken i) n ≡ Some true
         all_taken n y b o = t.has n y (slice_get_within r.edges n y b) b
             (subst (λ x. slice_get marks.items x ≡ Some (Some i)) o.leads (m.has o.index o.edge (slice_get_within r.edges o.index o.edge o.stands) o.stands o.feasible))
 
     -- an operation of a block that runs is started
-    pub started_solving : AreLawful ask → (s : Solver A) (i : ℕ) (r : Row) (f : Found A) → IsSolving ask p s [] → slice_get p.rows i ≡ Some r → (facts_of s.found).runs r.block ≡ true → Meets (Started p r) s.found f → Falls (IsClosed ask p) s.found f
-    started_solving laws s i r f d at running m = falls_as (Started p r) (IsClosed ask p) (started_best laws s [] d i r at running) s.found f m.steps
+    pub started_solving : AreLawful ask → (s : Solver A) (i : ℕ) (r : Row) (f : Found A) → IsSolving ask p s [] → slice_get p.rows i ≡ Some r → (facts_of s.found).runs r.block ≡ true → Meets (Started p r) s.found f → Falls (IsClosedSolution ask p) s.found f
+    started_solving laws s i r f d at running m = falls_as (Started p r) (IsClosedSolution ask p) (started_best laws s [] d i r at running) s.found f m.steps
 
-    pub row_visited : AreLawful ask → (s t : Solver A) (i : ℕ) (r : Row) (f : Found A) → IsSolving ask p s [] → slice_get p.rows i ≡ Some r → (facts_of s.found).runs r.block ≡ true → Meets (Started p r) s.found f → Refreshes ask p (record { found = f; seen = s.seen; taken = s.taken; marks = s.marks }) t i → Visits ask p s t (λ j u. j ≡ i)
+    pub row_visited : AreLawful ask → (s t : Solver A) (i : ℕ) (r : Row) (f : Found A) → IsSolving ask p s [] → slice_get p.rows i ≡ Some r → (facts_of s.found).runs r.block ≡ true → Meets (Started p r) s.found f → Refreshes ask p (record { found = f; seen = s.seen; taken = s.taken; marks = s.marks }) t i → VisitsOperations ask p s t (λ j u. j ≡ i)
     row_visited laws s t i r f d at running m h = record {
       solving = h.solving;
       steps = steps_then s (record { found = f; seen = s.seen; taken = s.taken; marks = s.marks }) t (record { found = started_solving laws s i r f d at running m; seen = refl; taken = λ j n w. w }) h.steps;
@@ -239,7 +239,7 @@ module _ {A : Type 0} where
     }
 
     -- one operation more of a list
-    pub visited_more : (a b c : Solver A) (xs : List ℕ) (x : ℕ) → Visits ask p a b (λ i r. Contains xs i) → Visits ask p b c (λ i r. i ≡ x) → Visits ask p a c (λ i r. Contains (xs ++ x ∷ []) i)
+    pub visited_more : (a b c : Solver A) (xs : List ℕ) (x : ℕ) → VisitsOperations ask p a b (λ i r. Contains xs i) → VisitsOperations ask p b c (λ i r. i ≡ x) → VisitsOperations ask p a c (λ i r. Contains (xs ++ x ∷ []) i)
     visited_more a b c xs x f g = record {
       solving = g.solving;
       steps = steps_then a b c f.steps g.steps;
@@ -249,8 +249,8 @@ module _ {A : Type 0} where
           (Contains-push_cases xs x i t);
     }
 
-    pub visited_none : (s : Solver A) → IsSolving ask p s [] → Visits ask p s s (λ i r. Contains [] i)
+    pub visited_none : (s : Solver A) → IsSolving ask p s [] → VisitsOperations ask p s s (λ i r. Contains [] i)
     visited_none s d = record { solving = d; steps = steps_none s; done = λ i r t a. absurd (omega (arith, t.1)) }
 
-    pub visited_as : (a b : Solver A) (P Q : ℕ → Row → Type 0) → ((i : ℕ) (r : Row) → slice_get p.rows i ≡ Some r → Q i r → P i r) → Visits ask p a b P → Visits ask p a b Q
+    pub visited_as : (a b : Solver A) (P Q : ℕ → Row → Type 0) → ((i : ℕ) (r : Row) → slice_get p.rows i ≡ Some r → Q i r → P i r) → VisitsOperations ask p a b P → VisitsOperations ask p a b Q
     visited_as a b P Q f v = record { solving = v.solving; steps = v.steps; done = λ i r t s. v.done i r (f i r s t) s }

@@ -4,7 +4,7 @@ use Rattle.std.specs.Prelude.{Contains, slice_get, unwrap_or}
 use Rattle.std.proofs.lemmas.List.{length-append, length-drop, length-take-le}
 use Rattle.std.proofs.lemmas.Option.{get_or_from_slice_get}
 use Rattle.opt_solvers.specs.Rows.{rows_from, AreEnds, row_at, listed, start_from}
-use Rattle.opt_solvers.specs.OperationRows.{Edge, Row, no_edge, no_row, edge_numbered, row_numbered, numbered, edge_in}
+use Rattle.opt_solvers.specs.OperationRows.{BranchEdge, Row, no_edge, no_row, edge_numbered, row_numbered, numbered, edge_in}
 use Rattle.opt_solvers.specs.declared.facts_problem.Role.TheVariants.{Other}
 use Rattle.opt_solvers.specs.declared.operation_rows.Columns.{Columns}
 use Rattle.opt_solvers.specs.OperationColumns.{edges_of, row_in, rows_in, AreInStep, GainRow}
@@ -102,11 +102,11 @@ edge_more ts us fs gs t f l u g = numbered_more (edge_in us gs) (edge_in ts fs) 
     (ap (λ (xs : List ℕ). slice_get xs (length ts)) u ∙ push_last ts t (length ts) refl)
     (ap (λ (xs : List (List ℕ)). slice_get xs (length ts)) g ∙ push_last fs f (length ts) (sym l)))
 
-pub edge_at : (es : List Edge) (ts : List ℕ) (fs : List (List ℕ)) (i : ℕ) → numbered (edge_in ts fs) (length ts) ≡ es → i < length es → (i < length ts) × (edge_numbered es i ≡ edge_in ts fs i)
+pub edge_at : (es : List BranchEdge) (ts : List ℕ) (fs : List (List ℕ)) (i : ℕ) → numbered (edge_in ts fs) (length ts) ≡ es → i < length es → (i < length ts) × (edge_numbered es i ≡ edge_in ts fs i)
 edge_at es ts fs i v h =
-    let n = numbered_len (edge_in ts fs) (length ts) in let l = ap (λ (xs : List Edge). length xs) v in
+    let n = numbered_len (edge_in ts fs) (length ts) in let l = ap (λ (xs : List BranchEdge). length xs) v in
     let k : i < length ts = omega (arith, n, l, h) in
-    (k, ap (λ (xs : List Edge). edge_numbered xs i) (sym v) ∙ ap (λ o. unwrap_or o no_edge) (numbered_at (edge_in ts fs) (length ts) i k))
+    (k, ap (λ (xs : List BranchEdge). edge_numbered xs i) (sym v) ∙ ap (λ o. unwrap_or o no_edge) (numbered_at (edge_in ts fs) (length ts) i k))
 
 -- ---- operations
 
@@ -158,7 +158,7 @@ that_row c i row b r o x e n = λ j. record { block = unwrap_or (b j) 0; role = 
 
 module _ (c d : Columns) (row : Row) (a : AreInStep c) (g : GainRow c d row) where
   more_edges : length d.edges ≡ length c.edges + length row.edges
-  more_edges = ap (λ (es : List Edge). length es) g.edges ∙ length-append c.edges row.edges
+  more_edges = ap (λ (es : List BranchEdge). length es) g.edges ∙ length-append c.edges row.edges
 
   edges_gain : edges_of d ≡ edges_of c ++ row.edges ∷ []
   edges_gain =
@@ -227,8 +227,8 @@ row_read rows i h = numbered_read rows i no_row h
 pub row_contained : (rows : List Row) (i : ℕ) → i < length rows → Contains rows (row_numbered rows i)
 row_contained rows i h = (i, h, sym (row_read rows i h))
 
-pub edge_there : (edges : List Edge) (i : ℕ) → i < length edges → slice_get edges i ≡ Some (edge_numbered edges i)
+pub edge_there : (edges : List BranchEdge) (i : ℕ) → i < length edges → slice_get edges i ≡ Some (edge_numbered edges i)
 edge_there edges i h = numbered_there edges i no_edge h
 
-pub edge_contained : (edges : List Edge) (i : ℕ) → i < length edges → Contains edges (edge_numbered edges i)
+pub edge_contained : (edges : List BranchEdge) (i : ℕ) → i < length edges → Contains edges (edge_numbered edges i)
 edge_contained edges i h = (i, h, sym (numbered_read edges i no_edge h))

@@ -14,11 +14,11 @@ pub record IsJoinedTo (blocks : List ChainBlock) (a b : ℕ) : Type 0 where
   pub other : a ≡ b → ⊥
 
 -- followed until it stands for no other
-pub data Follows (next : List (Option ℕ)) : ℕ → ℕ → Type 0 where
-  stops : (v : ℕ) → ((u : ℕ) → slice_get next v ≡ Some (Some u) → ⊥) → Follows next v v
-  goes_on : (v u x : ℕ) → slice_get next v ≡ Some (Some u) → Follows next u x → Follows next v x
+pub data EndsUpAt (next : List (Option ℕ)) : ℕ → ℕ → Type 0 where
+  stops : (v : ℕ) → ((u : ℕ) → slice_get next v ≡ Some (Some u) → ⊥) → EndsUpAt next v v
+  goes_on : (v u x : ℕ) → slice_get next v ≡ Some (Some u) → EndsUpAt next u x → EndsUpAt next v x
 
 -- following leads from the one to the other, by one step at least
-pub data Chases (next : List (Option ℕ)) : ℕ → ℕ → Type 0 where
-  goes : (v u : ℕ) → slice_get next v ≡ Some (Some u) → Chases next v u
-  goes_by : (v u x : ℕ) → slice_get next v ≡ Some (Some u) → Chases next u x → Chases next v x
+pub data StepsAlong (next : List (Option ℕ)) : ℕ → ℕ → Type 0 where
+  goes : (v u : ℕ) → slice_get next v ≡ Some (Some u) → StepsAlong next v u
+  goes_by : (v u x : ℕ) → slice_get next v ≡ Some (Some u) → StepsAlong next u x → StepsAlong next v x

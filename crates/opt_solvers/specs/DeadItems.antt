@@ -2,14 +2,14 @@
 use Rattle.std.specs.Prelude.{◌≡◌, ℕ, List, length, map, nat_eq, take, drop, true, Some, slice_get, ◌↔◌}
 use Rattle.opt_solvers.specs.declared.dead_problem.DeadProblem.{DeadProblem}
 use Rattle.opt_solvers.specs.declared.dead_problem.DeadItems.{DeadItems}
-use Rattle.opt_solvers.specs.Dead.{Whole, Slot, IsDead}
+use Rattle.opt_solvers.specs.Dead.{Whole, Slot, IsDeadItem}
 
 -- the lists are as long as there are operations and arguments, and exactly the dead are marked
 pub record AreDead (p : DeadProblem) (dead : DeadItems) : Type 0 where
   pub operations_len : length dead.operations.items ≡ length p.operations
   pub arguments_len : length dead.arguments.items ≡ length p.arguments.items
-  pub operations : (a : ℕ) → slice_get dead.operations.items a ≡ Some true ↔ IsDead p (Whole a)
-  pub arguments : (v : ℕ) → slice_get dead.arguments.items v ≡ Some true ↔ IsDead p (Slot v)
+  pub operations : (a : ℕ) → slice_get dead.operations.items a ≡ Some true ↔ IsDeadItem p (Whole a)
+  pub arguments : (v : ℕ) → slice_get dead.arguments.items v ≡ Some true ↔ IsDeadItem p (Slot v)
 
 -- the first so many counts are those of the operations, the others those of the arguments; zeros are marked
 pub record AreMarked (operations : ℕ) (uses : List ℕ) (dead : DeadItems) : Type 0 where

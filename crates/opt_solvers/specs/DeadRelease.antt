@@ -3,7 +3,7 @@ use Rattle.std.specs.Prelude.{◌≡◌, ◌⊎◌, ◌<◌, ◌≤◌, ◌+◌,
 use Rattle.digraph.specs.Counts.{count_of}
 use Rattle.opt_solvers.specs.Rows.{row_at}
 use Rattle.digraph.specs.Marks.{IsMarked}
-use Rattle.digraph.specs.Work.{Has, Waits, Adds}
+use Rattle.digraph.specs.Work.{HasNode, Waits, Adds}
 use Rattle.digraph.specs.declared.worklist.Worklist.{Worklist}
 use Rattle.opt_solvers.specs.declared.dead_release.Counts.{Counts}
 
@@ -14,9 +14,9 @@ newly uses item = if nat_eq uses 0 then item ∷ [] else []
 -- the items without uses wait
 pub record IsStarted (uses : List ℕ) (work : Worklist) : Type 0 where
   pub len : length work.marked.items ≡ length uses
-  pub has : (x : ℕ) → x < length uses → slice_index uses x ≡ 0 → Has work x
-  pub only : (x : ℕ) → Has work x → (x < length uses) × (slice_index uses x ≡ 0)
-  pub waits : (x : ℕ) → Has work x → Waits work x
+  pub has : (x : ℕ) → x < length uses → slice_index uses x ≡ 0 → HasNode work x
+  pub only : (x : ℕ) → HasNode work x → (x < length uses) × (slice_index uses x ≡ 0)
+  pub waits : (x : ℕ) → HasNode work x → Waits work x
 
 -- items have at least so many uses as they are to lose
 pub record IsReleasable (items uses : List ℕ) (work : Worklist) : Type 0 where

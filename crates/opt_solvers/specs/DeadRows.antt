@@ -7,9 +7,9 @@ use Rattle.opt_solvers.specs.declared.dead_problem.DeadProblem.{DeadProblem}
 use Rattle.opt_solvers.specs.declared.dead_release.Counts.{Counts}
 use Rattle.opt_solvers.specs.declared.dead_items.DeadTables.{DeadTables}
 use Rattle.opt_solvers.specs.Rows.{row_at}
-use Rattle.opt_solvers.specs.LinkedRows.{Lists}
+use Rattle.opt_solvers.specs.LinkedRows.{TableLists}
 use Rattle.opt_solvers.specs.DeadCandidates.{all_operands}
-use Rattle.opt_solvers.specs.DeadPlaces.{Place, all_places, slot, around_operation, AreKept}
+use Rattle.opt_solvers.specs.DeadPlaces.{ValueUse, all_places, slot, around_operation, AreKeptRows}
 use Rattle.opt_solvers.specs.DeadRelease.{ExcusesAll}
 
 -- the number of an argument among the items, if there is one
@@ -18,29 +18,29 @@ slot_of p None = None
 slot_of p (Some v) = Some (slot p v)
 
 -- the item is the user of the place, or the argument that it is forwarded to
-abbrev pub Excuses : DeadProblem → Place → ℕ → Type 0
+abbrev pub Excuses : DeadProblem → ValueUse → ℕ → Type 0
 Excuses p q x = (q.user ≡ Some x) ⊎ (slot_of p q.operand.argument ≡ Some x)
 
 -- the number is that of a place that the item excuses
 abbrev pub IsExcusedBy : DeadProblem → ℕ → ℕ → Type 0
-IsExcusedBy p x k = (q : Place) × (slice_get (all_places p) k ≡ Some q) × Excuses p q x
+IsExcusedBy p x k = (q : ValueUse) × (slice_get (all_places p) k ≡ Some q) × Excuses p q x
 
 -- the operand with this number is forwarded to the argument
 abbrev pub ForwardsOperand : List Operand → ℕ → ℕ → Type 0
 ForwardsOperand operands v k = (o : Operand) × (slice_get operands k ≡ Some o) × (o.argument ≡ Some v)
 
 -- the numbers of the operands that are forwarded to each argument
-abbrev pub AreForwarded : DeadProblem → List (List ℕ) → Type 0
-AreForwarded p rows = Lists (ForwardsOperand (all_operands p.operations)) rows (length p.arguments.items)
+abbrev pub AreForwardedPlaces : DeadProblem → List (List ℕ) → Type 0
+AreForwardedPlaces p rows = TableLists (ForwardsOperand (all_operands p.operations)) rows (length p.arguments.items)
 
 -- the operations that are directly in each operation
 abbrev pub AreInner : DeadProblem → List (List ℕ) → Type 0
-AreInner p rows = Lists (λ x i. around_operation p i ≡ Some x) rows (length p.operations)
+AreInner p rows = TableLists (λ x i. around_operation p i ≡ Some x) rows (length p.operations)
 
 -- what each place keeps, which are forwarded to each argument, and what is in each operation
 pub record AreDeadTables (p : DeadProblem) (t : DeadTables) : Type 0 where
-  pub kept : AreKept p (all_places p) t.keeps
-  pub forwarded : AreForwarded p t.forwarded
+  pub kept : AreKeptRows p (all_places p) t.keeps
+  pub forwarded : AreForwardedPlaces p t.forwarded
   pub inner : AreInner p t.inner
 
 -- an item goes: what it excuses is excused, and what is directly in it is added to the work

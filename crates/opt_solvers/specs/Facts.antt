@@ -7,7 +7,7 @@ use Rattle.opt_solvers.specs.declared.known.Known.{Known}
 use Rattle.opt_solvers.specs.declared.known.Known.TheVariants.{Any, Undetermined}
 use Rattle.opt_solvers.specs.declared.facts_problem.Role.{Role}
 use Rattle.opt_solvers.specs.declared.facts_problem.Role.TheVariants.{Folds, Branches, Other}
-use Rattle.opt_solvers.specs.OperationRows.{Edge, Row}
+use Rattle.opt_solvers.specs.OperationRows.{BranchEdge, Row}
 use Rattle.opt_solvers.specs.declared.facts_problem.FactsProblem.{FactsProblem}
 use Rattle.opt_solvers.specs.Known.{asked, answer, FactsOf, AllBelow, AllAny, MorePrecise}
 
@@ -25,7 +25,7 @@ abbrev pub arguments_of : FactsProblem → ℕ → List ℕ
 arguments_of p b = unwrap_or (option_map (λ (v : Vec ℕ Global). v.items) (slice_get p.arguments.items b)) []
 
 -- the block runs, with any arguments
-pub record Enters {A : Type 0} (p : FactsProblem) (k : NumberedFacts A) (b : ℕ) : Type 0 where
+pub record RunsWithAny {A : Type 0} (p : FactsProblem) (k : NumberedFacts A) (b : ℕ) : Type 0 where
   pub runs : k.runs b ≡ true
   pub arguments : AllAny k.of (arguments_of p b)
 
@@ -38,22 +38,22 @@ abbrev pub ForwardedBelow : {A : Type 0} → NumberedFacts A → List ℕ → Li
 ForwardedBelow k arguments values = (i v u : ℕ) → slice_get arguments i ≡ Some v → slice_get values i ≡ Some (Some u) → AllBelow k.of (v ∷ []) (k.of u ∷ [])
 
 -- the block is the target of a feasible edge: one edge to it is enough for all
-pub record IsFeasible {A : Type 0} (ask : Answers A) (i : ℕ) (r : Row) (xs : List (Option A)) (b : ℕ) : Type 0 where
+pub record IsFeasibleTarget {A : Type 0} (ask : Answers A) (i : ℕ) (r : Row) (xs : List (Option A)) (b : ℕ) : Type 0 where
   pub index : ℕ
-  pub edge : Edge
+  pub edge : BranchEdge
   pub stands : slice_get r.edges index ≡ Some edge
   pub leads : edge.target ≡ b
   pub feasible : ask.feasible i xs index ≡ true
 
 -- the target of the edge runs, and its arguments lie at or below what is forwarded
-pub record EdgeClosed {A : Type 0} (p : FactsProblem) (k : NumberedFacts A) (r : Row) (e : Edge) : Type 0 where
+pub record RowEdgeClosed {A : Type 0} (p : FactsProblem) (k : NumberedFacts A) (r : Row) (e : BranchEdge) : Type 0 where
   pub target : k.runs e.target ≡ true
   pub arguments : ForwardedBelow k (arguments_of p e.target) (picked r.operands e.forwards)
 
 -- each edge of a branch whose target is feasible; nothing, where an operand is undetermined
 abbrev pub EdgesClosed : {A : Type 0} → Answers A → FactsProblem → NumberedFacts A → ℕ → Row → Option (List (Option A)) → Type 0
 EdgesClosed ask p k i r None = Unit {0}
-EdgesClosed ask p k i r (Some xs) = (n : ℕ) (e : Edge) → slice_get r.edges n ≡ Some e → IsFeasible ask i r xs e.target → EdgeClosed p k r e
+EdgesClosed ask p k i r (Some xs) = (n : ℕ) (e : BranchEdge) → slice_get r.edges n ≡ Some e → IsFeasibleTarget ask i r xs e.target → RowEdgeClosed p k r e
 
 -- the results lie at or below what the operation folds to; nothing, where an operand is undetermined
 abbrev pub ResultsClosed : {A : Type 0} → Answers A → NumberedFacts A → ℕ → Row → Option (List (Option A)) → Type 0
@@ -68,26 +68,26 @@ RoleClosed ask p k i r Other = AllAny k.of r.results
 
 pub record RowClosed {A : Type 0} (ask : Answers A) (p : FactsProblem) (k : NumberedFacts A) (i : ℕ) (r : Row) : Type 0 where
   pub role : RoleClosed ask p k i r r.role
-  pub entries : (b : ℕ) → Contains r.entries b → Enters p k b
+  pub entries : (b : ℕ) → Contains r.entries b → RunsWithAny p k b
 
 -- the facts are closed: entries run with any arguments, values from outside may be any, and what operations in blocks that run ask holds
-pub record IsClosed {A : Type 0} (ask : Answers A) (p : FactsProblem) (k : NumberedFacts A) : Type 0 where
-  pub entries : (b : ℕ) → Contains p.entries.items b → Enters p k b
+pub record IsClosedSolution {A : Type 0} (ask : Answers A) (p : FactsProblem) (k : NumberedFacts A) : Type 0 where
+  pub entries : (b : ℕ) → Contains p.entries.items b → RunsWithAny p k b
   pub outside : (v : ℕ) → Contains p.outside.items v → k.of v ≡ Any
   pub rows : (i : ℕ) (r : Row) → slice_get p.rows i ≡ Some r → k.runs r.block ≡ true → RowClosed ask p k i r
 
 -- closed, and more precise than all that are closed
-pub record IsMostPrecise {A : Type 0} (ask : Answers A) (p : FactsProblem) (k : NumberedFacts A) : Type 0 where
-  pub closed : IsClosed ask p k
-  pub best : (l : NumberedFacts A) → IsClosed ask p l → MorePrecise k l
+pub record IsMostPreciseSolution {A : Type 0} (ask : Answers A) (p : FactsProblem) (k : NumberedFacts A) : Type 0 where
+  pub closed : IsClosedSolution ask p k
+  pub best : (l : NumberedFacts A) → IsClosedSolution ask p l → MorePrecise k l
 
 -- the numbers of a row are below the numbers of blocks, values and operands
 pub record IsRow (p : FactsProblem) (r : Row) : Type 0 where
   pub block : r.block < length p.arguments.items
   pub operands : (v : ℕ) → Contains r.operands v → v < p.values
   pub results : (v : ℕ) → Contains r.results v → v < p.values
-  pub targets : (e : Edge) → Contains r.edges e → e.target < length p.arguments.items
-  pub forwards : (e : Edge) (i : ℕ) → Contains r.edges e → Contains e.forwards i → i < length r.operands
+  pub targets : (e : BranchEdge) → Contains r.edges e → e.target < length p.arguments.items
+  pub forwards : (e : BranchEdge) (i : ℕ) → Contains r.edges e → Contains e.forwards i → i < length r.operands
   pub entries : (b : ℕ) → Contains r.entries b → b < length p.arguments.items
 
 -- the numbers of a problem are in range

@@ -5,7 +5,7 @@ use Rattle.opt_solvers.specs.declared.facts_problem.FactsProblem.{FactsProblem}
 use Rattle.opt_solvers.specs.declared.facts_found.Found.{Found}
 use Rattle.opt_solvers.specs.Known.{MorePrecise}
 use Rattle.opt_solvers.specs.KnownFalls.{heights}
-use Rattle.opt_solvers.specs.Facts.{NumberedFacts, as_facts, Enters}
+use Rattle.opt_solvers.specs.Facts.{NumberedFacts, as_facts, RunsWithAny}
 
 abbrev pub facts_of : {A : Type 0} → Found A → NumberedFacts A
 facts_of s = as_facts s.runs.items s.known.items
@@ -33,7 +33,7 @@ pub record Meets {A : Type 0} (demand : NumberedFacts A → Type 0) (old new : F
 
 -- each of the blocks runs, with any arguments
 abbrev pub EntersAll : {A : Type 0} → FactsProblem → List ℕ → NumberedFacts A → Type 0
-EntersAll p blocks k = (b : ℕ) → Contains blocks b → Enters p k b
+EntersAll p blocks k = (b : ℕ) → Contains blocks b → RunsWithAny p k b
 
 -- nothing is found
 pub record IsNothing {A : Type 0} (s : Found A) (blocks values : ℕ) : Type 0 where

@@ -4,7 +4,7 @@ use Rattle.opt_solvers.specs.declared.known.Known.{Known}
 use Rattle.opt_solvers.specs.declared.known.Known.TheVariants.{Any, Undetermined}
 use Rattle.opt_solvers.specs.declared.facts_problem.Role.{Role}
 use Rattle.opt_solvers.specs.declared.facts_problem.Role.TheVariants.{Folds, Branches, Other}
-use Rattle.opt_solvers.specs.OperationRows.{Edge, Row}
+use Rattle.opt_solvers.specs.OperationRows.{BranchEdge, Row}
 use Rattle.opt_solvers.specs.declared.facts_problem.FactsProblem.{FactsProblem}
 use Rattle.opt_solvers.specs.Rows.{row_at}
 use Rattle.opt_solvers.specs.declared.facts_found.Found.{Found}
@@ -12,9 +12,9 @@ use Rattle.opt_solvers.specs.declared.facts_tables.Place.{Place}
 use Rattle.opt_solvers.specs.declared.facts_tables.Slot.{Slot}
 use Rattle.opt_solvers.specs.declared.facts_solver.Solver.{Solver}
 use Rattle.opt_solvers.specs.Known.{AtOrBelow, AllBelow, AllAny, MorePrecise, asked, answer}
-use Rattle.opt_solvers.specs.Facts.{Answers, NumberedFacts, arguments_of, Enters, IsFeasible, EdgeClosed, ResultsClosed, IsClosed}
+use Rattle.opt_solvers.specs.Facts.{Answers, NumberedFacts, arguments_of, RunsWithAny, IsFeasibleTarget, RowEdgeClosed, ResultsClosed, IsClosedSolution}
 use Rattle.opt_solvers.specs.FactsFound.{facts_of, left, Falls}
-use Rattle.opt_solvers.specs.FactsTables.{ForwardsTo}
+use Rattle.opt_solvers.specs.FactsTables.{ForwardsToArgument}
 use Rattle.opt_solvers.specs.FactsSeen.{unseen}
 use Rattle.opt_solvers.specs.FactsTaken.{untaken}
 
@@ -42,8 +42,8 @@ IsTaken ts i n = slice_get (row_at ts i) n ≡ Some true
 pub record Marks {A : Type 0} (ask : Answers A) (i : ℕ) (r : Row) (xs : List (Option A)) (upto : ℕ) (old new : List (Option ℕ)) : Type 0 where
   pub len : length new ≡ length old
   pub keeps : (b : ℕ) → slice_get old b ≡ Some (Some i) → slice_get new b ≡ Some (Some i)
-  pub has : (n : ℕ) (e : Edge) → n < upto → slice_get r.edges n ≡ Some e → ask.feasible i xs n ≡ true → slice_get new e.target ≡ Some (Some i)
-  pub only : (b j : ℕ) → slice_get new b ≡ Some (Some j) → (slice_get old b ≡ Some (Some j)) ⊎ ((j ≡ i) × IsFeasible ask i r xs b)
+  pub has : (n : ℕ) (e : BranchEdge) → n < upto → slice_get r.edges n ≡ Some e → ask.feasible i xs n ≡ true → slice_get new e.target ≡ Some (Some i)
+  pub only : (b j : ℕ) → slice_get new b ≡ Some (Some j) → (slice_get old b ≡ Some (Some j)) ⊎ ((j ≡ i) × IsFeasibleTarget ask i r xs b)
 
 -- all edges were looked at
 abbrev pub MarksTargets : {A : Type 0} → Answers A → ℕ → Row → List (Option A) → List (Option ℕ) → List (Option ℕ) → Type 0
@@ -51,11 +51,11 @@ MarksTargets ask i r xs = Marks ask i r xs (length r.edges)
 
 -- each argument lies at or below what is forwarded to it
 abbrev pub ForwardsBelow : {A : Type 0} → List ℕ → List ℕ → List ℕ → NumberedFacts A → Type 0
-ForwardsBelow arguments forwards operands k = (v w : ℕ) → ForwardsTo arguments forwards operands v w → AtOrBelow (k.of w) (k.of v)
+ForwardsBelow arguments forwards operands k = (v w : ℕ) → ForwardsToArgument arguments forwards operands v w → AtOrBelow (k.of w) (k.of v)
 
 -- or what is forwarded waits
 abbrev pub ForwardsLie : {A : Type 0} → List ℕ → List ℕ → List ℕ → Found A → List ℕ → Type 0
-ForwardsLie arguments forwards operands s popped = (v w : ℕ) → ForwardsTo arguments forwards operands v w → AtOrBelow ((facts_of s).of w) ((facts_of s).of v) ⊎ (Contains s.values.items v ⊎ Contains popped v)
+ForwardsLie arguments forwards operands s popped = (v w : ℕ) → ForwardsToArgument arguments forwards operands v w → AtOrBelow ((facts_of s).of w) ((facts_of s).of v) ⊎ (Contains s.values.items v ⊎ Contains popped v)
 
 -- the arguments were lowered by what is forwarded to them
 pub record ForwardsAll {A : Type 0} (arguments forwards operands : List ℕ) (old new : Found A) : Type 0 where
@@ -63,32 +63,32 @@ pub record ForwardsAll {A : Type 0} (arguments forwards operands : List ℕ) (ol
   pub lie : ForwardsLie arguments forwards operands new []
 
 -- a taken edge: its target runs, and its arguments lie at or below what is forwarded, unless that waits
-pub record EdgeLies {A : Type 0} (p : FactsProblem) (s : Found A) (popped : List ℕ) (r : Row) (e : Edge) : Type 0 where
+pub record EdgeLies {A : Type 0} (p : FactsProblem) (s : Found A) (popped : List ℕ) (r : Row) (e : BranchEdge) : Type 0 where
   pub target : (facts_of s).runs e.target ≡ true
   pub arguments : ForwardsLie (arguments_of p e.target) e.forwards r.operands s popped
 
 -- an edge was taken
-pub record TakesEdge {A : Type 0} (p : FactsProblem) (r : Row) (e : Edge) (old new : Found A) : Type 0 where
-  pub steps : Falls (λ l. EdgeClosed p l r e) old new
+pub record TakesEdge {A : Type 0} (p : FactsProblem) (r : Row) (e : BranchEdge) (old new : Found A) : Type 0 where
+  pub steps : Falls (λ l. RowEdgeClosed p l r e) old new
   pub lies : EdgeLies p new [] r e
 
 -- the edges with marked targets are closed
 abbrev pub MarkedClosed : {A : Type 0} → FactsProblem → ℕ → Row → List (Option ℕ) → NumberedFacts A → Type 0
-MarkedClosed p i r marks l = (n : ℕ) (e : Edge) → slice_get r.edges n ≡ Some e → slice_get marks e.target ≡ Some (Some i) → EdgeClosed p l r e
+MarkedClosed p i r marks l = (n : ℕ) (e : BranchEdge) → slice_get r.edges n ≡ Some e → slice_get marks e.target ≡ Some (Some i) → RowEdgeClosed p l r e
 
 -- the edges with marked targets are taken, as far as they were looked at, and no other operation's
-pub record TakesMarked {A : Type 0} (p : FactsProblem) (i : ℕ) (r : Row) (marks : List (Option ℕ)) (upto : ℕ) (taken after : List (List Bool)) (old new : Found A) : Type 0 where
+pub record TakesMarkedEdges {A : Type 0} (p : FactsProblem) (i : ℕ) (r : Row) (marks : List (Option ℕ)) (upto : ℕ) (taken after : List (List Bool)) (old new : Found A) : Type 0 where
   pub len : length after ≡ length taken
   pub edges_len : length (row_at after i) ≡ length (row_at taken i)
   pub others : (j : ℕ) → (j ≡ i → ⊥) → row_at after j ≡ row_at taken j
   pub steps : Falls (MarkedClosed p i r marks) old new
   pub keeps : (n : ℕ) → IsTaken taken i n → IsTaken after i n
-  pub has : (n : ℕ) (e : Edge) → n < upto → slice_get r.edges n ≡ Some e → slice_get marks e.target ≡ Some (Some i) → IsTaken after i n
-  pub only : (n : ℕ) (e : Edge) → slice_get r.edges n ≡ Some e → IsTaken after i n → IsTaken taken i n ⊎ ((slice_get marks e.target ≡ Some (Some i)) × EdgeLies p new [] r e)
+  pub has : (n : ℕ) (e : BranchEdge) → n < upto → slice_get r.edges n ≡ Some e → slice_get marks e.target ≡ Some (Some i) → IsTaken after i n
+  pub only : (n : ℕ) (e : BranchEdge) → slice_get r.edges n ≡ Some e → IsTaken after i n → IsTaken taken i n ⊎ ((slice_get marks e.target ≡ Some (Some i)) × EdgeLies p new [] r e)
 
 -- all edges were looked at
 abbrev pub TakesAllMarked : {A : Type 0} → FactsProblem → ℕ → Row → List (Option ℕ) → List (List Bool) → List (List Bool) → Found A → Found A → Type 0
-TakesAllMarked p i r marks = TakesMarked p i r marks (length r.edges)
+TakesAllMarked p i r marks = TakesMarkedEdges p i r marks (length r.edges)
 
 -- the results lie at or below what the operation folds to
 abbrev pub FoldsBelow : {A : Type 0} → Answers A → ℕ → List ℕ → List (Option A) → NumberedFacts A → Type 0
@@ -103,12 +103,12 @@ AnyResults results Other k = AllAny k.of results
 -- what an operation asks whatever its operands are
 pub record Started {A : Type 0} (p : FactsProblem) (r : Row) (k : NumberedFacts A) : Type 0 where
   pub results : AnyResults r.results r.role k
-  pub entries : (b : ℕ) → Contains r.entries b → Enters p k b
+  pub entries : (b : ℕ) → Contains r.entries b → RunsWithAny p k b
 
 -- edges with feasible targets are taken
 abbrev pub EdgesTaken : {A : Type 0} → Answers A → ℕ → Row → List Bool → Option (List (Option A)) → Type 0
 EdgesTaken ask i r taken None = Unit {0}
-EdgesTaken ask i r taken (Some xs) = (n : ℕ) (e : Edge) → slice_get r.edges n ≡ Some e → IsFeasible ask i r xs e.target → slice_get taken n ≡ Some true
+EdgesTaken ask i r taken (Some xs) = (n : ℕ) (e : BranchEdge) → slice_get r.edges n ≡ Some e → IsFeasibleTarget ask i r xs e.target → slice_get taken n ≡ Some true
 
 -- what an operation asks by what it has seen
 abbrev pub Refreshed : {A : Type 0} → Answers A → NumberedFacts A → ℕ → Row → Role → List (Known A) → List Bool → Type 0
@@ -130,41 +130,41 @@ pub record IsSolving {A : Type 0} (ask : Answers A) (p : FactsProblem) (s : Solv
   pub taken_len : length s.taken ≡ length p.rows
   pub operands_len : (i : ℕ) (r : Row) → slice_get p.rows i ≡ Some r → length (seen_of s.seen i) ≡ length r.operands
   pub edges_len : (i : ℕ) (r : Row) → slice_get p.rows i ≡ Some r → length (row_at s.taken i) ≡ length r.edges
-  pub best : (l : NumberedFacts A) → IsClosed ask p l → MorePrecise (facts_of s.found) l
-  pub marks_best : (l : NumberedFacts A) → IsClosed ask p l → (i : ℕ) (r : Row) → slice_get p.rows i ≡ Some r → MarkedClosed p i r s.marks.items l
-  pub taken_best : (l : NumberedFacts A) → IsClosed ask p l → (i n : ℕ) (r : Row) (e : Edge) → slice_get p.rows i ≡ Some r → slice_get r.edges n ≡ Some e → IsTaken s.taken i n → EdgeClosed p l r e
+  pub best : (l : NumberedFacts A) → IsClosedSolution ask p l → MorePrecise (facts_of s.found) l
+  pub marks_best : (l : NumberedFacts A) → IsClosedSolution ask p l → (i : ℕ) (r : Row) → slice_get p.rows i ≡ Some r → MarkedClosed p i r s.marks.items l
+  pub taken_best : (l : NumberedFacts A) → IsClosedSolution ask p l → (i n : ℕ) (r : Row) (e : BranchEdge) → slice_get p.rows i ≡ Some r → slice_get r.edges n ≡ Some e → IsTaken s.taken i n → RowEdgeClosed p l r e
   pub above : (i j v : ℕ) (r : Row) (x : Known A) → slice_get p.rows i ≡ Some r → slice_get r.operands j ≡ Some v → slice_get (seen_of s.seen i) j ≡ Some x → AtOrBelow ((facts_of s.found).of v) x
-  pub edges : (i n : ℕ) (r : Row) (e : Edge) → slice_get p.rows i ≡ Some r → slice_get r.edges n ≡ Some e → IsTaken s.taken i n → EdgeLies p s.found popped r e
+  pub edges : (i n : ℕ) (r : Row) (e : BranchEdge) → slice_get p.rows i ≡ Some r → slice_get r.edges n ≡ Some e → IsTaken s.taken i n → EdgeLies p s.found popped r e
 
 -- what is left to do waits: operations of blocks that run, and places that have not seen what is known
 pub record IsWaiting {A : Type 0} (ask : Answers A) (p : FactsProblem) (s : Solver A) (rest : List ℕ) (places : List Place) : Type 0 where
-  pub entries : (b : ℕ) → Contains p.entries.items b → Enters p (facts_of s.found) b
+  pub entries : (b : ℕ) → Contains p.entries.items b → RunsWithAny p (facts_of s.found) b
   pub outside : (v : ℕ) → Contains p.outside.items v → (facts_of s.found).of v ≡ Any
   pub rows : (i : ℕ) (r : Row) → slice_get p.rows i ≡ Some r → (facts_of s.found).runs r.block ≡ true → RowDone ask p s i r ⊎ (Contains s.found.blocks.items r.block ⊎ Contains rest i)
   pub seen : (i j v : ℕ) (r : Row) (x : Known A) → slice_get p.rows i ≡ Some r → slice_get r.operands j ≡ Some v → slice_get (seen_of s.seen i) j ≡ Some x → ((facts_of s.found).of v ≡ x) ⊎ (Contains s.found.values.items v ⊎ Contains places (record { row = i; operand = j }))
 
 -- the facts fell, and what was taken stays taken
-pub record Steps {A : Type 0} (ask : Answers A) (p : FactsProblem) (old new : Solver A) : Type 0 where
-  pub found : Falls (IsClosed ask p) old.found new.found
+pub record SolverSteps {A : Type 0} (ask : Answers A) (p : FactsProblem) (old new : Solver A) : Type 0 where
+  pub found : Falls (IsClosedSolution ask p) old.found new.found
   pub seen : new.seen ≡ old.seen
   pub taken : (i n : ℕ) → IsTaken old.taken i n → IsTaken new.taken i n
 
 -- an operation was looked at
 pub record Refreshes {A : Type 0} (ask : Answers A) (p : FactsProblem) (old new : Solver A) (i : ℕ) : Type 0 where
   pub solving : IsSolving ask p new []
-  pub steps : Steps ask p old new
+  pub steps : SolverSteps ask p old new
   pub done : (r : Row) → slice_get p.rows i ≡ Some r → Refreshed ask (facts_of new.found) i r r.role (seen_of new.seen i) (row_at new.taken i)
 
 -- such operations were visited
-pub record Visits {A : Type 0} (ask : Answers A) (p : FactsProblem) (old new : Solver A) (such : ℕ → Row → Type 0) : Type 0 where
+pub record VisitsOperations {A : Type 0} (ask : Answers A) (p : FactsProblem) (old new : Solver A) (such : ℕ → Row → Type 0) : Type 0 where
   pub solving : IsSolving ask p new []
-  pub steps : Steps ask p old new
+  pub steps : SolverSteps ask p old new
   pub done : (i : ℕ) (r : Row) → such i r → slice_get p.rows i ≡ Some r → RowDone ask p new i r
 
 -- the place sees what is known of the value
 pub record Sees {A : Type 0} (ask : Answers A) (p : FactsProblem) (old new : Solver A) (v : ℕ) (x : Place) : Type 0 where
   pub solving : IsSolving ask p new []
-  pub found : Falls (IsClosed ask p) old.found new.found
+  pub found : Falls (IsClosedSolution ask p) old.found new.found
   pub taken : (i n : ℕ) → IsTaken old.taken i n → IsTaken new.taken i n
   pub others : (i : ℕ) → (i ≡ x.row → ⊥) → seen_of new.seen i ≡ seen_of old.seen i
   pub other_places : (j : ℕ) → (j ≡ x.operand → ⊥) → slice_get (seen_of new.seen x.row) j ≡ slice_get (seen_of old.seen x.row) j
@@ -180,7 +180,7 @@ abbrev pub SlotsBelow : {A : Type 0} → List (List Bool) → List Slot → Know
 SlotsBelow taken slots fact l = (x : Slot) → Contains slots x → SlotBelow taken x fact l
 
 -- what a solver keeps true holds, where these places have still to be told
-pub record Tells {A : Type 0} (ask : Answers A) (p : FactsProblem) (old : Found A) (new : Solver A) (places : List Place) : Type 0 where
+pub record HasToTell {A : Type 0} (ask : Answers A) (p : FactsProblem) (old : Found A) (new : Solver A) (places : List Place) : Type 0 where
   pub solving : IsSolving ask p new []
   pub waiting : IsWaiting ask p new [] places
   pub work : left new.found ≤ left old
@@ -194,16 +194,16 @@ pub record IsStep {A : Type 0} (ask : Answers A) (p : FactsProblem) (old new : S
   pub no_values : more ≡ false → new.found.values.items ≡ []
 
 -- what the root asks of facts
-pub record IsEntered {A : Type 0} (p : FactsProblem) (k : NumberedFacts A) : Type 0 where
-  pub entries : (b : ℕ) → Contains p.entries.items b → Enters p k b
+pub record MeetsRootDemand {A : Type 0} (p : FactsProblem) (k : NumberedFacts A) : Type 0 where
+  pub entries : (b : ℕ) → Contains p.entries.items b → RunsWithAny p k b
   pub outside : AllAny k.of p.outside.items
 
 -- what the root asks is found, nothing else, and nobody has looked at it
-pub record Begins {A : Type 0} (p : FactsProblem) (s : Solver A) : Type 0 where
+pub record IsInitialSolver {A : Type 0} (p : FactsProblem) (s : Solver A) : Type 0 where
   pub blocks_len : length s.found.runs.items ≡ length p.arguments.items
   pub values_len : length s.found.known.items ≡ p.values
-  pub entered : IsEntered p (facts_of s.found)
-  pub best : (l : NumberedFacts A) → IsEntered p l → MorePrecise (facts_of s.found) l
+  pub entered : MeetsRootDemand p (facts_of s.found)
+  pub best : (l : NumberedFacts A) → MeetsRootDemand p l → MorePrecise (facts_of s.found) l
   pub blocks_wait : (b : ℕ) → (facts_of s.found).runs b ≡ true → Contains s.found.blocks.items b
   pub values_wait : (v : ℕ) → ((facts_of s.found).of v ≡ Undetermined) ⊎ Contains s.found.values.items v
   pub seen : s.seen ≡ map unseen p.rows

@@ -23,14 +23,14 @@ pub record AreLinked {X : Type 0} (links : List (Linked X)) (firsts : List ℕ) 
   pub inside : (i first : ℕ) → slice_get firsts i ≡ Some first → first ≤ length links
 
 -- the rows gain exactly such items
-pub record Gains {X : Type 0} (such : ℕ → X → Type 0) (old new : List (List X)) : Type 0 where
+pub record RowsGain {X : Type 0} (such : ℕ → X → Type 0) (old new : List (List X)) : Type 0 where
   pub len : length new ≡ length old
   pub keeps : (n : ℕ) (x : X) → Contains (row_at old n) x → Contains (row_at new n) x
   pub has : (n : ℕ) (x : X) → such n x → Contains (row_at new n) x
   pub only : (n : ℕ) (x : X) → Contains (row_at new n) x → Contains (row_at old n) x ⊎ such n x
 
 -- a row of the table lists exactly such items
-pub record Lists {X : Type 0} (such : ℕ → X → Type 0) (t : List (List X)) (count : ℕ) : Type 0 where
+pub record TableLists {X : Type 0} (such : ℕ → X → Type 0) (t : List (List X)) (count : ℕ) : Type 0 where
   pub len : length t ≡ count
   pub has : (n : ℕ) (x : X) → such n x → Contains (row_at t n) x
   pub only : (n : ℕ) (x : X) → Contains (row_at t n) x → such n x

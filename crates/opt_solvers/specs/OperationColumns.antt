@@ -4,14 +4,14 @@ use Rattle.opt_solvers.specs.declared.facts_problem.Role.TheVariants.{Other}
 use Rattle.opt_solvers.specs.declared.operation_rows.RowBuffer.{RowBuffer}
 use Rattle.opt_solvers.specs.declared.operation_rows.Columns.{Columns}
 use Rattle.opt_solvers.specs.Rows.{rows_from, AreEnds, row_at}
-use Rattle.opt_solvers.specs.OperationRows.{Edge, Row, numbered}
+use Rattle.opt_solvers.specs.OperationRows.{BranchEdge, Row, numbered}
 
 -- the operation that was put together
 abbrev pub buffered : RowBuffer → Row
 buffered r = record { block = r.block; role = r.role; operands = r.operands.items; results = r.results.items; edges = r.edges; entries = r.entries.items }
 
 -- the edges of each operation
-abbrev pub edges_of : Columns → List (List Edge)
+abbrev pub edges_of : Columns → List (List BranchEdge)
 edges_of c = rows_from 0 c.edge_ends.items c.edges
 
 -- the operation with this number

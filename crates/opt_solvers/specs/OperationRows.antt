@@ -5,7 +5,7 @@ use Rattle.opt_solvers.specs.declared.facts_problem.Role.TheVariants.{Other}
 use Rattle.opt_solvers.specs.Rows.{row_at}
 
 -- an edge of a branch: the block that it leads to, and which operands are forwarded along it, by their indices, in the order of the arguments of the block
-pub record Edge : Type 0 where
+pub record BranchEdge : Type 0 where
   pub target : ℕ
   pub forwards : List ℕ
 
@@ -15,17 +15,17 @@ pub record Row : Type 0 where
   pub role : Role
   pub operands : List ℕ
   pub results : List ℕ
-  pub edges : List Edge
+  pub edges : List BranchEdge
   pub entries : List ℕ
 
-abbrev pub no_edge : Edge
+abbrev pub no_edge : BranchEdge
 no_edge = record { target = 0; forwards = [] }
 
 abbrev pub no_row : Row
 no_row = record { block = 0; role = Other; operands = []; results = []; edges = []; entries = [] }
 
 -- the edge with this index, nothing where it isn't there
-abbrev pub edge_numbered : List Edge → ℕ → Edge
+abbrev pub edge_numbered : List BranchEdge → ℕ → BranchEdge
 edge_numbered edges i = unwrap_or (slice_get edges i) no_edge
 
 -- the operation with this number, nothing where it isn't there
@@ -38,5 +38,5 @@ numbered f zero = []
 numbered f (suc n) = numbered f n ++ f n ∷ []
 
 -- the edge with this index, by lists of targets and of what is forwarded
-abbrev pub edge_in : List ℕ → List (List ℕ) → ℕ → Edge
+abbrev pub edge_in : List ℕ → List (List ℕ) → ℕ → BranchEdge
 edge_in targets forwards i = record { target = unwrap_or (slice_get targets i) 0; forwards = row_at forwards i }

@@ -1,7 +1,7 @@
 //! Values that stand for others, followed to what they stand for in the end.
 ghost use Rattle.std.specs.Prelude.{ℕ, ◌≡◌, ◌<◌, [], All, IfOk, OnOk, MatchOption, length};
-ghost use Rattle.opt_solvers.specs.Chains.{Chases};
-ghost use Rattle.opt_solvers.specs.ChainsFollowed.{IsInRange, IsFollowing, Enters, Walks, WritesBack, Resolves, Answers};
+ghost use Rattle.opt_solvers.specs.Chains.{StepsAlong};
+ghost use Rattle.opt_solvers.specs.ChainsFollowed.{AreLinksInRange, IsFollowing, EntersPath, Walks, WritesBack, FindsFinal, AreFinals};
 
 use std::alloc::{AllocError, Global};
 
@@ -26,7 +26,7 @@ struct Following {
 /// Puts a number on the path.
 fn enter(known: &mut Following, path: &mut Vec<usize>, at: usize) -> Result<(), AllocError>
     requires { at < length known.old.marks.items }
-    ensures { OnOk result (Enters known.old known.new path.old.items path.new.items at) }
+    ensures { OnOk result (EntersPath known.old known.new path.old.items path.new.items at) }
 {
     known.marks[at] = Mark::OnPath;
     path.push(at)?;
@@ -41,7 +41,7 @@ fn walk(
     path: &mut Vec<usize>,
     start: usize,
 ) -> Result<Option<usize>, AllocError>
-    requires next { IsInRange next.now }
+    requires next { AreLinksInRange next.now }
     requires known { IsFollowing next.now known.old }
     requires path { path.old.items ≡ [] }
     requires start { start < length next.now }
@@ -81,10 +81,10 @@ fn resolve(
     known: &mut Following,
     start: usize,
 ) -> Result<bool, AllocError>
-    requires next { IsInRange next.now }
+    requires next { AreLinksInRange next.now }
     requires known { IsFollowing next.now known.old }
     requires start { start < length next.now }
-    ensures { IfOk result (Resolves next.now known.old known.new start) }
+    ensures { IfOk result (FindsFinal next.now known.old known.new start) }
 {
     let mut path = Vec::new(alloc);
     let Some(end) = walk(next, known, &mut path, start)? else {
@@ -100,9 +100,9 @@ fn resolve(
 /// # Errors
 /// There may be no memory.
 pub fn followed(alloc: Global, next: &[Option<usize>]) -> Result<Option<Vec<usize>>, AllocError>
-    requires { IsInRange next.now }
+    requires { AreLinksInRange next.now }
     ensures { IfOk result (λ r. MatchOption r ((v : ℕ)
-        × Chases next.now v v) (λ finals. Answers next.now finals.items)) }
+        × StepsAlong next.now v v) (λ finals. AreFinals next.now finals.items)) }
 {
     let mut known = Following {
         marks: vec![in alloc; Mark::New; next.len()]?,

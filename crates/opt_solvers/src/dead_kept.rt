@@ -2,7 +2,7 @@
 ghost use Rattle.std.specs.Prelude.{◌≡◌, ◌<◌, IfOk, OnOk, length, map, option_to_list, slice_get};
 ghost use Rattle.opt_solvers.specs.Dead.{IsDeadProblem};
 ghost use Rattle.opt_solvers.specs.DeadCandidates.{operands_of};
-ghost use Rattle.opt_solvers.specs.DeadPlaces.{maker, around_definer, around_user, IsNumber, IsKnown, GoesOut, IsBehind, Crosses, KeepsRow, KeepMore, AreKept, operand_place, kept_place, all_places};
+ghost use Rattle.opt_solvers.specs.DeadPlaces.{maker, around_definer, around_user, IsOperationNumber, IsKnownDefiner, GoesOut, AreNumbersAbove, Crosses, KeepsRow, KeepMore, AreKeptRows, operand_place, kept_place, all_places};
 
 use crate::dead_problem::{DeadProblem, Definer};
 use crate::number_rows::NumberRows;
@@ -11,7 +11,7 @@ use std::alloc::{AllocError, Global};
 /// The number of the item that makes a value: that of the operation, or of the argument, which come behind all
 /// operations.
 fn maker(problem: &DeadProblem, definer: Definer) -> Option<usize>
-    requires { IsKnown problem.now definer }
+    requires { IsKnownDefiner problem.now definer }
     ensures { result ≡ maker problem.now definer }
 {
     match definer {
@@ -23,7 +23,7 @@ fn maker(problem: &DeadProblem, definer: Definer) -> Option<usize>
 
 /// The operation that the definition of a value is directly in.
 fn around_definer(problem: &DeadProblem, definer: Definer) -> Option<usize>
-    requires { IsKnown problem.now definer }
+    requires { IsKnownDefiner problem.now definer }
     ensures { result ≡ around_definer problem.now definer }
 {
     match definer {
@@ -35,7 +35,7 @@ fn around_definer(problem: &DeadProblem, definer: Definer) -> Option<usize>
 
 /// The operation that a user is directly in.
 fn around_user(problem: &DeadProblem, user: Option<usize>) -> Option<usize>
-    requires { IsNumber problem.now user }
+    requires { IsOperationNumber problem.now user }
     ensures { result ≡ around_user problem.now user }
 {
     match user {
@@ -47,7 +47,7 @@ fn around_user(problem: &DeadProblem, user: Option<usize>) -> Option<usize>
 /// Goes outwards to an operation whose number is not above the limit. Those around have smaller numbers.
 fn outwards(problem: &DeadProblem, from: Option<usize>, limit: usize) -> Option<usize>
     requires problem { IsDeadProblem problem.now }
-    requires from { IsNumber problem.now from }
+    requires from { IsOperationNumber problem.now from }
     ensures { GoesOut problem.now from limit result }
 {
     let mut operation = from;
@@ -69,9 +69,9 @@ fn push_crossed(
     outer: Option<usize>,
 ) -> Result<(), AllocError>
     requires problem { IsDeadProblem problem.now }
-    requires inner { IsNumber problem.now inner }
-    requires outer { IsNumber problem.now outer }
-    requires behind { IsBehind inner kept.old.items }
+    requires inner { IsOperationNumber problem.now inner }
+    requires outer { IsOperationNumber problem.now outer }
+    requires behind { AreNumbersAbove inner kept.old.items }
     ensures { OnOk result (Crosses problem.now inner outer kept.old.items kept.new.items) }
 {
     let mut definer = inner;
@@ -107,8 +107,8 @@ fn keep_items(
     row: &mut Vec<usize>,
 ) -> Result<(), AllocError>
     requires problem { IsDeadProblem problem.now }
-    requires user { IsNumber problem.now user }
-    requires definer { IsKnown problem.now definer }
+    requires user { IsOperationNumber problem.now user }
+    requires definer { IsKnownDefiner problem.now definer }
     ensures { OnOk result (KeepsRow problem.now user definer row.new.items) }
 {
     begin_row(row, maker(problem, definer))?;
@@ -160,7 +160,7 @@ fn keep_kept(
 /// There may be no memory.
 pub fn kept_rows(alloc: Global, problem: &DeadProblem) -> Result<NumberRows, AllocError>
     requires { IsDeadProblem problem.now }
-    ensures { IfOk result (AreKept problem.now (all_places problem.now)) }
+    ensures { IfOk result (AreKeptRows problem.now (all_places problem.now)) }
 {
     // Most uses keep one item.
     let operands = problem.operations.all_operands().len();

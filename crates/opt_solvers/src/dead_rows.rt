@@ -1,8 +1,8 @@
 //! What each item excuses once it goes: places, and what is inside it.
 ghost use Rattle.std.specs.Prelude.{ℕ, ◌≡◌, ◌<◌, IfOk, OnOk, length};
 ghost use Rattle.opt_solvers.specs.Dead.{IsDeadProblem};
-ghost use Rattle.opt_solvers.specs.LinkedRows.{Gains};
-ghost use Rattle.opt_solvers.specs.DeadRows.{AreForwarded, AreInner};
+ghost use Rattle.opt_solvers.specs.LinkedRows.{RowsGain};
+ghost use Rattle.opt_solvers.specs.DeadRows.{AreForwardedPlaces, AreInner};
 
 use crate::dead_problem::DeadProblem;
 use crate::linked_rows::LinkedRows;
@@ -11,7 +11,7 @@ use std::alloc::{AllocError, Global};
 /// Puts a number into a row, if there is one.
 fn note(rows: &mut LinkedRows<usize>, row: Option<usize>, number: usize) -> Result<(), AllocError>
     requires { (r : ℕ) → row ≡ Some r → r < length rows.old }
-    ensures { OnOk result (Gains (λ r k. (row ≡ Some r) × (k ≡ number)) rows.old rows.new) }
+    ensures { OnOk result (RowsGain (λ r k. (row ≡ Some r) × (k ≡ number)) rows.old rows.new) }
 {
     if let Some(row) = row {
         rows.put(row, number)?;
@@ -25,7 +25,7 @@ fn note(rows: &mut LinkedRows<usize>, row: Option<usize>, number: usize) -> Resu
 /// There may be no memory.
 pub fn forwarded_rows(alloc: Global, problem: &DeadProblem) -> Result<LinkedRows<usize>, AllocError>
     requires { IsDeadProblem problem.now }
-    ensures { IfOk result (AreForwarded problem.now) }
+    ensures { IfOk result (AreForwardedPlaces problem.now) }
 {
     let count = problem.arguments.len();
     let mut rows = LinkedRows::with_capacity(alloc, count, count)?;

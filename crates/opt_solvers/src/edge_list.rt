@@ -17,9 +17,9 @@ pub struct EdgeList {
 
 impl Model for EdgeList {
     ghost use Rattle.std.specs.Prelude.{◌≡◌, List, length};
-    ghost use Rattle.opt_solvers.specs.OperationRows.{Edge, numbered, edge_in};
+    ghost use Rattle.opt_solvers.specs.OperationRows.{BranchEdge, numbered, edge_in};
 
-    ghost Value = { List Edge };
+    ghost Value = { List BranchEdge };
 
     ghost view = { λ e. numbered (edge_in e.targets.items e.forwards) (length e.targets.items) };
 

@@ -4,10 +4,10 @@
 //! run, and values of which less is known than those that look at them saw.
 ghost use Rattle.std.specs.Prelude.{ℕ, ◌≡◌, true, length, IfOk, Some, slice_get, []};
 ghost use Rattle.opt_solvers.specs.OperationRows.{Row};
-ghost use Rattle.opt_solvers.specs.Facts.{IsProblem, IsMostPrecise, as_facts};
+ghost use Rattle.opt_solvers.specs.Facts.{IsProblem, IsMostPreciseSolution, as_facts};
 ghost use Rattle.opt_solvers.specs.FactsLaw.{OneMostPrecise};
 ghost use Rattle.opt_solvers.specs.FactsTables.{AreTables};
-ghost use Rattle.opt_solvers.specs.FactsSolving.{Begins, CanAskRows, IsSolving, IsWaiting, IsStep};
+ghost use Rattle.opt_solvers.specs.FactsSolving.{IsInitialSolver, CanAskRows, IsSolving, IsWaiting, IsStep};
 
 use crate::facts_found::Found;
 use crate::facts_problem::{FactsProblem, Folding};
@@ -34,7 +34,7 @@ pub struct Solution<K> {
 fn begin<K: Copy + Eq>(alloc: Global, problem: &FactsProblem) -> Result<Solver<K>, AllocError>
     requires problem { IsProblem problem.now }
     requires same { (x y : K) → K.eq x y ≡ true → x ≡ y }
-    ensures { IfOk result (Begins problem.now) }
+    ensures { IfOk result (IsInitialSolver problem.now) }
 {
     let mut found = Found::new(alloc, problem.arguments.len(), problem.values)?;
     found.enter_all(problem, &problem.entries)?;
@@ -90,7 +90,7 @@ pub fn most_precise<F: Folding>(
     requires problem { IsProblem problem.now }
     requires asks { (i : ℕ) (r : Row) → slice_get problem.now.rows i ≡ Some r
         → F.can_ask folding.now i (length r.operands) }
-    ensures { IfOk result (λ s. IsMostPrecise (F.answers folding.now) problem.now
+    ensures { IfOk result (λ s. IsMostPreciseSolution (F.answers folding.now) problem.now
         (as_facts s.runs.items s.known.items)) }
 {
     let tables = tables_of(alloc, problem)?;

@@ -1,6 +1,6 @@
 //! Edges of a branch, taken as their targets become feasible.
 ghost use Rattle.std.specs.Prelude.{ℕ, ◌≡◌, ◌<◌, true, [], length, OnOk, Contains};
-ghost use Rattle.opt_solvers.specs.OperationRows.{Edge, edge_numbered, row_numbered};
+ghost use Rattle.opt_solvers.specs.OperationRows.{BranchEdge, edge_numbered, row_numbered};
 ghost use Rattle.opt_solvers.specs.Facts.{IsProblem};
 ghost use Rattle.opt_solvers.specs.Rows.{row_at};
 ghost use Rattle.opt_solvers.specs.FactsSolving.{MarksTargets, ForwardsAll, TakesEdge, TakesAllMarked};
@@ -23,7 +23,7 @@ pub fn mark_targets<F: Folding>(
     requires in_range { number < length problem.now.rows }
     requires asks { F.can_ask folding.now number (length known.now) }
     requires targets { let edges = (row_numbered problem.now.rows number).edges in
-        (e : Edge) → Contains edges e → e.target < length marks.old.items }
+        (e : BranchEdge) → Contains edges e → e.target < length marks.old.items }
     ensures { let marks_them = MarksTargets (F.answers folding.now) number (row_numbered problem.now.rows number) in
         marks_them known.now marks.old.items marks.new.items }
 {

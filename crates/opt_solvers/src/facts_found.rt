@@ -25,7 +25,7 @@ impl<K: Copy + Eq> Found<K> {
     ghost use Rattle.std.specs.Prelude.{Contains, IfOk, OnOk, IfSome, IfNone, []};
     ghost use Rattle.opt_solvers.specs.declared.known.Known.TheVariants.{Any};
     ghost use Rattle.opt_solvers.specs.Known.{AtOrBelow, AllAny};
-    ghost use Rattle.opt_solvers.specs.Facts.{Enters, arguments_of};
+    ghost use Rattle.opt_solvers.specs.Facts.{RunsWithAny, arguments_of};
     ghost use Rattle.opt_solvers.specs.FactsFound.{Meets, EntersAll, IsNothing};
     ghost use Rattle.opt_solvers.specs.FactsFound.{TakesBlock, TakesValue, HasNoBlock, HasNoValue};
 
@@ -99,7 +99,7 @@ impl<K: Copy + Eq> Found<K> {
         requires blocks { length self.old.runs.items ≡ length problem.now.arguments.items }
         requires arguments { (v : ℕ) → Contains (arguments_of problem.now block) v → v < length self.old.known.items }
         requires same { (x y : K) → K.eq x y ≡ true → x ≡ y }
-        ensures { OnOk result (Meets (λ l. Enters problem.now l block) self.old self.new) }
+        ensures { OnOk result (Meets (λ l. RunsWithAny problem.now l block) self.old self.new) }
     {
         self.run(block)?;
         self.give_up(&problem.arguments[block])?;

@@ -6,7 +6,7 @@ ghost use Rattle.opt_solvers.specs.Facts.{IsProblem};
 ghost use Rattle.opt_solvers.specs.FactsFound.{facts_of, Meets};
 ghost use Rattle.opt_solvers.specs.FactsTables.{AreTables};
 ghost use Rattle.opt_solvers.specs.FactsSolving.{CanAskRows, HasRole, RowRuns, FoldsBelow, AnyResults};
-ghost use Rattle.opt_solvers.specs.FactsSolving.{Started, IsSolving, Refreshes, Visits};
+ghost use Rattle.opt_solvers.specs.FactsSolving.{Started, IsSolving, Refreshes, VisitsOperations};
 
 use crate::facts_edges::{mark_targets, take_marked};
 use crate::facts_found::Found;
@@ -163,7 +163,8 @@ fn visit_row<F: Folding>(
     requires asks { CanAskRows (F.can_ask folding.now) problem.now }
     requires solving { IsSolving (F.answers folding.now) problem.now solver.old [] }
     requires running { RowRuns problem.now solver.old.found number }
-    ensures { OnOk result (Visits (F.answers folding.now) problem.now solver.old solver.new (λ i r. i ≡ number)) }
+    ensures { OnOk result (VisitsOperations (F.answers folding.now) problem.now solver.old solver.new
+        (λ i r. i ≡ number)) }
 {
     start_row(problem, number, &mut solver.found)?;
     refresh_row(alloc, problem, folding, number, solver)?;
@@ -188,7 +189,8 @@ pub fn visit_block<F: Folding>(
     requires asks { CanAskRows (F.can_ask folding.now) problem.now }
     requires solving { IsSolving (F.answers folding.now) problem.now solver.old [] }
     requires running { (facts_of solver.old.found).runs block ≡ true }
-    ensures { OnOk result (Visits (F.answers folding.now) problem.now solver.old solver.new (λ i r. r.block ≡ block)) }
+    ensures { OnOk result (VisitsOperations (F.answers folding.now) problem.now solver.old solver.new
+        (λ i r. r.block ≡ block)) }
 {
     for number in tables.rows.row(block) {
         visit_row(alloc, problem, folding, number, solver)?;

@@ -2,7 +2,7 @@
 ghost use Rattle.std.specs.Prelude.{ℕ, ◌≡◌, ◌<◌, length, IfOk, OnOk, Contains};
 ghost use Rattle.opt_solvers.specs.OperationRows.{row_numbered};
 ghost use Rattle.opt_solvers.specs.Facts.{IsProblem};
-ghost use Rattle.opt_solvers.specs.LinkedRows.{Gains, Lists};
+ghost use Rattle.opt_solvers.specs.LinkedRows.{RowsGain, TableLists};
 ghost use Rattle.opt_solvers.specs.FactsTables.{PlacesOf, SlotsOfEdge, SlotsOf, AreTables, AddsRow};
 
 use crate::facts_problem::FactsProblem;
@@ -44,7 +44,7 @@ pub struct Tables {
 /// Puts an item into a row.
 fn put<T: Copy>(table: &mut LinkedRows<T>, index: usize, item: T) -> Result<(), AllocError>
     requires { index < length table.old }
-    ensures { OnOk result (Gains (λ n x. (n ≡ index) × (x ≡ item)) table.old table.new) }
+    ensures { OnOk result (RowsGain (λ n x. (n ≡ index) × (x ≡ item)) table.old table.new) }
 {
     table.put(index, item)?;
     Ok(())
@@ -57,7 +57,7 @@ fn put_places(
     operands: &[usize],
 ) -> Result<(), AllocError>
     requires { (v : ℕ) → Contains operands.now v → v < length readers.old }
-    ensures { OnOk result (Gains (PlacesOf number operands.now) readers.old readers.new) }
+    ensures { OnOk result (RowsGain (PlacesOf number operands.now) readers.old readers.new) }
 {
     for (operand, value) in operands.iter().enumerate() {
         put(
@@ -85,7 +85,7 @@ fn put_forwards(
     requires operands { (v : ℕ) → Contains operands.now v → v < length slots.old }
     requires forwards { (i : ℕ) → Contains forwards.now i → i < length operands.now }
     ensures { let such = SlotsOfEdge row edge arguments.now forwards.now operands.now in
-        OnOk result (Gains such slots.old slots.new) }
+        OnOk result (RowsGain such slots.old slots.new) }
 {
     for index in 0..arguments.len().min(forwards.len()) {
         let argument = arguments[index];
@@ -113,7 +113,7 @@ fn put_edges(
     requires in_range { number < length problem.now.rows }
     ensures { let row = row_numbered problem.now.rows number in
         let such = SlotsOf problem.now number row.edges row.operands in
-        OnOk result (Gains such slots.old slots.new) }
+        OnOk result (RowsGain such slots.old slots.new) }
 {
     let operands = problem.rows.operands(number);
     for index in 0..problem.rows.edge_count(number) {

@@ -4,8 +4,8 @@ ghost use Rattle.opt_solvers.specs.declared.facts_tables.Slot.{Slot};
 ghost use Rattle.opt_solvers.specs.Facts.{IsProblem};
 ghost use Rattle.opt_solvers.specs.FactsFound.{Meets};
 ghost use Rattle.opt_solvers.specs.Rows.{row_at};
-ghost use Rattle.opt_solvers.specs.FactsTables.{Reads, AreTables};
-ghost use Rattle.opt_solvers.specs.FactsSolving.{CanAskRows, SlotBelow, SlotsBelow, IsSolving, IsWaiting, Sees, Tells};
+ghost use Rattle.opt_solvers.specs.FactsTables.{ReadsValue, AreTables};
+ghost use Rattle.opt_solvers.specs.FactsSolving.{CanAskRows, SlotBelow, SlotsBelow, IsSolving, IsWaiting, Sees, HasToTell};
 
 use crate::facts_found::Found;
 use crate::facts_problem::{FactsProblem, Folding};
@@ -66,7 +66,7 @@ fn see_place<F: Folding>(
 ) -> Result<(), AllocError>
     requires problem { IsProblem problem.now }
     requires asks { CanAskRows (F.can_ask folding.now) problem.now }
-    requires reads { Reads problem.now.rows value place }
+    requires reads { ReadsValue problem.now.rows value place }
     requires solving { IsSolving (F.answers folding.now) problem.now solver.old [] }
     ensures { OnOk result (Sees (F.answers folding.now) problem.now solver.old solver.new value place) }
 {
@@ -98,7 +98,7 @@ pub fn tell_value<F: Folding>(
     requires solving { IsSolving (F.answers folding.now) problem.now solver.old (value ∷ []) }
     requires waiting { let places = row_at tables.now.readers value in
         IsWaiting (F.answers folding.now) problem.now solver.old [] places }
-    ensures { OnOk result (Tells (F.answers folding.now) problem.now solver.old.found solver.new []) }
+    ensures { OnOk result (HasToTell (F.answers folding.now) problem.now solver.old.found solver.new []) }
 {
     let fact = solver.found.known[value];
     forward(

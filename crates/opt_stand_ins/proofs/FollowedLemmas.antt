@@ -3,16 +3,16 @@ use Rattle.std.proofs.Common.{◌≡◌, ⊎_elim, ℕ, ◌<◌, List, length, O
 use Rattle.ir_program.specs.declared.handles.Value.{Value}
 use Rattle.ir_trees.specs.Searched.{Lists}
 use Rattle.ir_trees.specs.Stands.{by_handle, in_program, ProgramTree}
-use Rattle.opt_solvers.specs.Chains.{Follows as FollowsNumbers, stops as stops_at, goes_on as goes_on_to, Chases as ChasesNumbers, goes as goes_to, goes_by as goes_by_to}
-use Rattle.opt_solvers.specs.ChainsFollowed.{IsInRange}
+use Rattle.opt_solvers.specs.Chains.{EndsUpAt as FollowsNumbers, stops as stops_at, goes_on as goes_on_to, StepsAlong as ChasesNumbers, goes as goes_to, goes_by as goes_by_to}
+use Rattle.opt_solvers.specs.ChainsFollowed.{AreLinksInRange}
 use Rattle.opt_trees.specs.Dialect.{Dialect}
-use Rattle.opt_trees.specs.Simplify.{Place, IsGiven, Follows, stops, goes_on, Chases, goes, goes_by, ComesBack}
+use Rattle.opt_trees.specs.Simplify.{StartingRegions, IsGiven, Follows, stops, goes_on, Chases, goes, goes_by, ComesBack}
 use Rattle.opt_stand_ins.specs.Tables.{IsGivenTable, AreNumbersOf, IsEnd}
 use Rattle.opt_stand_ins.proofs.TableLemmas.{same_some, in_length, element}
 
 module _ (next : List (Option ℕ)) where
   -- where following begins and ends in range
-  pub end_in_range : IsInRange next → (n e : ℕ) → FollowsNumbers next n e → n < length next → e < length next
+  pub end_in_range : AreLinksInRange next → (n e : ℕ) → FollowsNumbers next n e → n < length next → e < length next
   end_in_range range _ _ (stops_at n none) less = less
   end_in_range range _ _ (goes_on_to n m e step rest) less = end_in_range range m e rest (range n m step)
 
@@ -36,13 +36,13 @@ module _ (keys : List Value) (given : List (Option Value)) (next : List (Option 
       let is = ((numbers.each n (Some u) number.0 here number.1) m).1 (u, refl, at) in
       number.1 ∙ ap Some is
 
-  pub steps_in_range : length given ≡ length keys → IsInRange next
+  pub steps_in_range : length given ≡ length keys → AreLinksInRange next
   steps_in_range len n m step =
       let s = step_named n m step in
       let less = in_length keys m s.0 s.2 in
       omega (arith, less, len, numbers.len)
 
-module _ {O B A : Type 0} (d : Dialect (in_program O B) A) (place : Place by_handle) (t : ProgramTree O B) where
+module _ {O B A : Type 0} (d : Dialect (in_program O B) A) (place : StartingRegions by_handle) (t : ProgramTree O B) where
   -- following ends at a value to which nothing is given
   pub end_is_last : (v x : Value) → Follows d place t v x → (u : Value) → IsGiven d place t x u → ⊥
   end_is_last _ _ (stops v none) u g = none u g

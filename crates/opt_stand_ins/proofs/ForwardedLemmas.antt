@@ -32,7 +32,7 @@ use Rattle.opt_reach.specs.declared.starts.Start.{Start}
 use Rattle.opt_trees.specs.Dialect.{Dialect, Lawful}
 use Rattle.opt_trees.specs.Facts.{forwarded}
 use Rattle.opt_trees.specs.Occurrences.{cons_if, picks, occurrences_of, block_occurrences_of}
-use Rattle.opt_trees.specs.Simplify.{Place, Joinable, IsGiven}
+use Rattle.opt_trees.specs.Simplify.{StartingRegions, Joinable, IsGiven}
 use Rattle.opt_stand_ins.specs.Forwarded.{forwarded_by, IsForwarded}
 use Rattle.opt_stand_ins.proofs.TableLemmas.{none_listed, same_some, element}
 
@@ -81,7 +81,7 @@ module _ {X : Type 0} (xs : List X) where
       let here = element xs i (within zero i refl) in
       ap (λ o. length (cons_if o (picks xs is))) here.1 ∙ ap suc (picked_count is (λ k j h. within (suc k) j h))
 
-module _ {O B A : Type 0} (d : Dialect (in_program O B) A) (place : Place by_handle) (c : Program O B) (op : Ptr Operation) (t : ProgramTree O B) (occurs : Occurs c op t) where
+module _ {O B A : Type 0} (d : Dialect (in_program O B) A) (place : StartingRegions by_handle) (c : Program O B) (op : Ptr Operation) (t : ProgramTree O B) (occurs : Occurs c op t) where
   forwards_same : (o : Found O B) → Has o (occurrences_of t) → forwarded d o.head 0 ≡ forwarded_by d c o.head.name
   forwards_same o has =
       let i = occurs.sound o has in

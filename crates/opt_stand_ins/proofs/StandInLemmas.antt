@@ -11,7 +11,7 @@ use Rattle.ir_program.specs.declared.handles.Value.{Value}
 use Rattle.ir_trees.proofs.Members.{at_has}
 use Rattle.ir_trees.specs.Searched.{Lists}
 use Rattle.ir_trees.specs.Stands.{by_handle, in_program, ProgramTree}
-use Rattle.opt_chains.specs.Chained.{AreChains, AreStandIns, IsPlan}
+use Rattle.opt_chains.specs.Chained.{AreChains, AreStandIns, IsJoiningPlan}
 use Rattle.opt_chains.specs.declared.merging.Join.{Join}
 use Rattle.opt_chains.specs.declared.merge_values.StandIn.{StandIn}
 use Rattle.opt_chains.proofs.NextJoinable.{Occurs}
@@ -20,10 +20,10 @@ use Rattle.opt_inside.specs.Numbered.{Numbers, NumbersInside}
 use Rattle.opt_reach.specs.Edges.{FitsEdgesFrom, HasLocalEdgesFrom}
 use Rattle.opt_reach.specs.Starts.{IsStartIn}
 use Rattle.opt_reach.specs.declared.starts.Start.{Start}
-use Rattle.opt_solvers.specs.Chains.{Chases as ChasesNumbers}
-use Rattle.opt_solvers.specs.ChainsFollowed.{Answers}
+use Rattle.opt_solvers.specs.Chains.{StepsAlong as ChasesNumbers}
+use Rattle.opt_solvers.specs.ChainsFollowed.{AreFinals}
 use Rattle.opt_trees.specs.Dialect.{Dialect, Lawful}
-use Rattle.opt_trees.specs.Simplify.{Place, IsGiven, Follows, ComesBack}
+use Rattle.opt_trees.specs.Simplify.{StartingRegions, IsGiven, Follows, ComesBack}
 use Rattle.opt_stand_ins.specs.Forwarded.{IsForwarded}
 use Rattle.opt_stand_ins.specs.Tables.{IsGivenTable, AreNumbersOf, AreFollowed}
 use Rattle.opt_stand_ins.proofs.TableLemmas.{same_some, table_alike}
@@ -37,7 +37,7 @@ pub record KnowsValues {O B : Type 0} (c : Program O B) : Type 0 where
   pub stands : (v : Value) (ty : TypeHandle) → type_at c v ≡ Some ty → StandsAtDefiner c v ty
   pub used : (v : Value) → IsUsed c v → IsLiveValue c v
 
-module _ {O B A : Type 0} (d : Dialect (in_program O B) A) (place : Place by_handle) (c : Program O B) (op : Ptr Operation) (t : ProgramTree O B) (occurs : Occurs c op t) (values : KnowsValues c) (n : Numbers) (numbered : NumbersInside c op n)
+module _ {O B A : Type 0} (d : Dialect (in_program O B) A) (place : StartingRegions by_handle) (c : Program O B) (op : Ptr Operation) (t : ProgramTree O B) (occurs : Occurs c op t) (values : KnowsValues c) (n : Numbers) (numbered : NumbersInside c op n)
     (js : List Join) (chains : AreChains d place c t js) (given : List (Option Value)) (table : IsGivenTable n.values (IsForwarded d c js) given) (next : List (Option ℕ)) (numbers : AreNumbersOf n.values given next) where
   to_forwarded : (v u : Value) → IsGiven d place t v u → IsForwarded d c js v u
   to_forwarded = given_forwarded d place c op t occurs js chains
@@ -58,7 +58,7 @@ module _ {O B A : Type 0} (d : Dialect (in_program O B) A) (place : Place by_han
   pub circle_found : (k : ℕ) → ChasesNumbers next k k → ComesBack d place t
   circle_found = comes_back d place t n.values given given_table one_given given_numbered next numbers
 
-  module _ (lists : HasLists c) (start : Start) (is_start : IsStartIn c start place) (edges : HasLocalEdgesFrom d.is_terminator c start) (fits : FitsEdgesFrom d c start) (lawful : Lawful d) (finals : List ℕ) (answers : Answers next finals) (ss : List StandIn) (found : AreFollowed n.values given finals ss) where
+  module _ (lists : HasLists c) (start : Start) (is_start : IsStartIn c start place) (edges : HasLocalEdgesFrom d.is_terminator c start) (fits : FitsEdgesFrom d c start) (lawful : Lawful d) (finals : List ℕ) (answers : AreFinals next finals) (ss : List StandIn) (found : AreFollowed n.values given finals ss) where
     -- what stands for an argument is what it is followed to
     follows : (s : StandIn) → Lists ss s → Follows d place t s.argument s.value
     follows s listed =
@@ -101,7 +101,7 @@ module _ {O B A : Type 0} (d : Dialect (in_program O B) A) (place : Place by_han
           (f.0, at_has ss f.1.0 f.0 f.1.1, f.2);
     }
 
-    pub plan_found : IsPlan d place c t js ss
+    pub plan_found : IsJoiningPlan d place c t js ss
     plan_found = record {
       chains = chains;
       stand_ins = stand_ins;

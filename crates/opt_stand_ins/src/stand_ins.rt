@@ -4,12 +4,12 @@ ghost use Rattle.std.specs.declared.alloc.Global.{Global as AGlobal};
 ghost use Rattle.std.specs.declared.vec.Vec.{Vec as AVec};
 ghost use Rattle.ir_program.specs.Program.{operation_at};
 ghost use Rattle.ir_trees.specs.Stands.{ProgramTree, StandsFor, by_handle};
-ghost use Rattle.opt_chains.specs.Chained.{AreChains, Begins, IsPlan};
+ghost use Rattle.opt_chains.specs.Chained.{AreChains, StartsSomewhere, IsJoiningPlan};
 ghost use Rattle.opt_chains.specs.declared.merge_values.StandIn.{StandIn as AStandIn};
 ghost use Rattle.opt_inside.specs.Numbered.{NumbersInside, numbers_of};
 ghost use Rattle.opt_reach.specs.Edges.{FitsEdgesFrom, HasLocalEdgesFrom};
 ghost use Rattle.opt_reach.specs.Starts.{IsStartIn};
-ghost use Rattle.opt_trees.specs.Simplify.{ComesBack, Place};
+ghost use Rattle.opt_trees.specs.Simplify.{ComesBack, StartingRegions};
 
 use crate::following::{numbers_of_given, stand_ins_at_ends};
 use crate::forwarding::forwarded_values;
@@ -40,15 +40,15 @@ pub fn find_stand_ins<D: OptDialect>(
     requires edges { HasLocalEdgesFrom D.meaning.is_terminator program.now _start }
     requires fits { FitsEdgesFrom D.meaning program.now _start }
     requires numbered { NumbersInside program.now op (numbers_of inside.now) }
-    requires begins { Begins program.now _start }
-    requires chains { (p : Place by_handle) → IsStartIn program.now _start p
+    requires begins { StartsSomewhere program.now _start }
+    requires chains { (p : StartingRegions by_handle) → IsStartIn program.now _start p
         → (t : ProgramTree D.Operation D.Block) → StandsFor program.now op t
         → AreChains D.meaning p program.now t joins.now }
     ensures plan { (found : AVec AStandIn AGlobal) → result ≡ Ok (Some found)
-        → (p : Place by_handle) → IsStartIn program.now _start p
+        → (p : StartingRegions by_handle) → IsStartIn program.now _start p
         → (t : ProgramTree D.Operation D.Block) → StandsFor program.now op t
-        → IsPlan D.meaning p program.now t joins.now found.items }
-    ensures circle { result ≡ Ok None → (p : Place by_handle) → IsStartIn program.now _start p
+        → IsJoiningPlan D.meaning p program.now t joins.now found.items }
+    ensures circle { result ≡ Ok None → (p : StartingRegions by_handle) → IsStartIn program.now _start p
         → (t : ProgramTree D.Operation D.Block) → StandsFor program.now op t
         → ComesBack D.meaning p t }
 {

@@ -2,14 +2,14 @@
 use Rattle.std.proofs.Common.{◌≡◌, ⊎_elim, inl, false, suc, Option, Some, None, refl, sym, ap, ◌∙◌, subst}
 use Rattle.ir_trees.specs.Names.{Names, Contents}
 use Rattle.ir_trees.specs.Trees.{Head, Label, Sort, Operations, Blocks, Regions, Tree, block, Root}
-use Rattle.opt_trees.specs.Occurrences.{Has, Occurrence, BlockOccurrence, Site, Spot, Inside, inner, next_block, next_region, occurrences_in, block_occurrences_in, occurrences_of, block_occurrences_of, at_root}
+use Rattle.opt_trees.specs.Occurrences.{Has, Occurrence, BlockOccurrence, OperationSite, Spot, Inside, inner, next_block, next_region, occurrences_in, block_occurrences_in, occurrences_of, block_occurrences_of, at_root}
 use Rattle.opt_trees.specs.Dialect.{Dialect}
-use Rattle.opt_trees.specs.Simplify.{Place, is_end, Joinable, use_head, use_instead, but_last, Joins, ends, operations, regions, taken, first, chain_ends, chain_goes_on, IsOrderly, IsLocal}
+use Rattle.opt_trees.specs.Simplify.{StartingRegions, is_end, Joinable, use_head, use_instead, but_last, Joins, ends, operations, regions, taken, first, chain_ends, chain_goes_on, IsOrderly, IsLocal}
 use Rattle.opt_trees.proofs.NoneDead.{has-append, true_false}
 use Rattle.opt_trees.proofs.Reached.{holder}
 use Rattle.opt_trees.proofs.Homes.{IsPart, part_regions, part_rest, part_block, part_blocks, part_region, part_more, part_part, block_inside, but_last_inside, appended, blocks_appended, use_append, owner_same}
 
-module _ {N : Names} {S : Contents} {A : Type 0} (d : Dialect S A) (start : Place N) (r : Root N S) where
+module _ {N : Names} {S : Contents} {A : Type 0} (d : Dialect S A) (start : StartingRegions N) (r : Root N S) where
   -- the chain from the first block, which nothing is joined to, goes to the second
   pub data InChain : N.block → N.block → Type 0 where
     itself : (b : N.block) → ((a : N.block) → Joinable d start r a b → ⊥) → InChain b b
@@ -22,7 +22,7 @@ module _ {N : Names} {S : Contents} {A : Type 0} (d : Dialect S A) (start : Plac
     pub region : e.region ≡ c.region
 
   -- the place afterwards, in the chain's first block
-  pub record LikeSite (c e : Site N S) : Type 0 where
+  pub record LikeSite (c e : OperationSite N S) : Type 0 where
     pub spot : LikeSpot c.spot e.spot
     pub first : d.is_ssa c.spot.owner.content c.spot.region ≡ false → e.spot.first ≡ c.spot.first
     pub chain : InChain e.label.name c.label.name
@@ -37,7 +37,7 @@ module _ {N : Names} {S : Contents} {A : Type 0} (d : Dialect S A) (start : Plac
   LikeInside Regions c e = LikeBlock c e
 
   -- the block of a place
-  pub record AtHome (c : Site N S) : Type 0 where
+  pub record AtHome (c : OperationSite N S) : Type 0 where
     pub it : BlockOccurrence N S
     pub stands : Has it (block_occurrences_of r)
     pub spot : it.spot ≡ c.spot
@@ -57,7 +57,7 @@ module _ {N : Names} {S : Contents} {A : Type 0} (d : Dialect S A) (start : Plac
   abbrev pub InTree : {s : Sort} → Tree N S s → Inside N S s → Type 0
   InTree t c = IsPart (occurrences_in t c) (block_occurrences_in t c) (occurrences_of r) (block_occurrences_of r)
 
-  pub like_inner : (f : N.value → N.value) (h : Head N S) (c e : Site N S) → LikeBlock (inner h c) (inner (use_head f h) e)
+  pub like_inner : (f : N.value → N.value) (h : Head N S) (c e : OperationSite N S) → LikeBlock (inner h c) (inner (use_head f h) e)
   like_inner f h c e = record { spot = record { name = refl; content = refl; region = refl }; first = refl }
 
   pub like_next : (c e : Spot N S) → LikeBlock c e → LikeBlock (next_block c) (next_block e)
@@ -85,14 +85,14 @@ module _ {N : Names} {S : Contents} {A : Type 0} (d : Dialect S A) (start : Plac
     holder_of o h = ⊎_elim (λ z. absurd z) (λ p. record { it = p.it; stands = p.stands; spot = p.spot; label = p.label }) (holder r.regions (at_root r) o h)
 
     -- the last operation of a block stands in it
-    last_home : (a b : N.block) (j : Joinable d start r a b) (c : Site N S) → AtHome c → c.label.name ≡ a → j.last.site.spot ≡ c.spot
+    last_home : (a b : N.block) (j : Joinable d start r a b) (c : OperationSite N S) → AtHome c → c.label.name ≡ a → j.last.site.spot ≡ c.spot
     last_home a b j c h e =
         let p = holder_of j.last j.stands in
         let same = orderly.blocks p.it h.it p.stands h.stands (ap (λ l. l.name) p.label ∙ j.in_block ∙ sym e ∙ ap (λ l. l.name) (sym h.label)) in
         sym p.spot ∙ ap (λ x. x.spot) same ∙ h.spot
 
     -- the next block of a chain is in the same region
-    pub next_like : (a : N.block) (x : BlockOccurrence N S) (j : Joinable d start r a x.label.name) → Has x (block_occurrences_of r) → (c e : Site N S) → AtHome c → c.label.name ≡ a → LikeSite c e → LikeSite (record { spot = x.spot; label = x.label }) e
+    pub next_like : (a : N.block) (x : BlockOccurrence N S) (j : Joinable d start r a x.label.name) → Has x (block_occurrences_of r) → (c e : OperationSite N S) → AtHome c → c.label.name ≡ a → LikeSite c e → LikeSite (record { spot = x.spot; label = x.label }) e
     next_like a x j h c e home n k =
         let last = last_home a x.label.name j c home n in
         let region = local.edges j.last x j.stands h (leads_to a x.label.name j) in

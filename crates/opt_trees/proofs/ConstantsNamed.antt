@@ -10,7 +10,7 @@ use Rattle.opt_solvers.specs.Known.{AtOrBelow, asked, answer, AllAny}
 use Rattle.opt_trees.specs.Occurrences.{Has, types_of, Occurrence, BlockOccurrence, occurrences_of, block_occurrences_of, at_root, rename_occurrence, Renaming, maps, Use}
 use Rattle.opt_trees.specs.Dialect.{Dialect, Lawful}
 use Rattle.opt_trees.specs.Facts.{Facts, Asked, FoldClosed, forwarded, EdgeClosed, BranchClosed, EntriesRun, IsClosed, IsMostPrecise}
-use Rattle.opt_trees.specs.Sccp.{Name, Old, New, fresh, IsResult, IsArgument, IsMade, used_as, put_root, IsSccp, CanTell, IsOfConstant, NamesConstants}
+use Rattle.opt_trees.specs.Sccp.{Name, Old, New, fresh, IsResult, IsArgument, AreMadeConstants, used_as, put_root, IsSccp, CanTell, IsOfConstant, NamesConstants}
 use Rattle.opt_trees.proofs.Lists.{at-map, from_some, none_some, has-map, names-map}
 use Rattle.opt_trees.proofs.Best.{best_unique}
 use Rattle.opt_trees.proofs.FactsRenamed.{pushed, pulled_pushed, best_pushed}
@@ -144,7 +144,7 @@ module _ {N : Names} {S : Contents} {A : Type 0} (d : Dialect S A) (t : Root N S
       (find BlockRunsWith (λ x. tell_both (k.runs x.label.name) (tell_has tell v (names_of x.label.arguments))) (block_occurrences_of t)))
       (find RunsWith (λ o. tell_both (k.runs o.site.label.name) (tell_has tell v (names_of o.head.results))) (occurrences_of t))
 
-module _ {N : Names} {S : Contents} {A : Type 0} (d : Dialect S A) (law : Lawful d) (t : Root N S) (k : Facts N A) (best : IsMostPrecise d t k) (made : N.value → Option A) (is_made : IsMade d t k made) (tell : CanTell N.value) where
+module _ {N : Names} {S : Contents} {A : Type 0} (d : Dialect S A) (law : Lawful d) (t : Root N S) (k : Facts N A) (best : IsMostPrecise d t k) (made : N.value → Option A) (is_made : AreMadeConstants d t k made) (tell : CanTell N.value) where
   abbrev after : Root (fresh N) S
   after = put_root {N = N} d made t
 

@@ -3,9 +3,9 @@ use Rattle.std.proofs.Common.{◌≡◌, ◌⊎◌, ⊎_elim, inl, inr, Bool, tr
 use Rattle.std.specs.Prelude.{◌&&◌}
 use Rattle.ir_trees.specs.Names.{Names, Contents}
 use Rattle.ir_trees.specs.Trees.{Head, Label, Sort, Operations, Blocks, Regions, Tree, end, operation, block, region, Root}
-use Rattle.opt_trees.specs.Occurrences.{Has, Occurrence, BlockOccurrence, Site, Spot, Inside, inner, next_block, next_region, occurrences_in, block_occurrences_in, occurrences_of, block_occurrences_of}
+use Rattle.opt_trees.specs.Occurrences.{Has, Occurrence, BlockOccurrence, OperationSite, Spot, Inside, inner, next_block, next_region, occurrences_in, block_occurrences_in, occurrences_of, block_occurrences_of}
 use Rattle.opt_trees.specs.Dialect.{Dialect}
-use Rattle.opt_trees.specs.Simplify.{Place, is_end, IsReached, entry, further, Joinable, use_head, use_instead, but_last, append, Joins, ends, operations, regions, taken, first, chain_ends, chain_goes_on, EndsIn, IsOrderly, IsLocal, BranchesLast}
+use Rattle.opt_trees.specs.Simplify.{StartingRegions, is_end, IsReached, entry, further, Joinable, use_head, use_instead, but_last, append, Joins, ends, operations, regions, taken, first, chain_ends, chain_goes_on, EndsIn, IsOrderly, IsLocal, BranchesLast}
 use Rattle.opt_trees.proofs.NoneDead.{has-append, has-left, has-right, true_false}
 use Rattle.opt_trees.proofs.One.{leads_one}
 use Rattle.opt_trees.proofs.Homes.{direct, no_direct, direct_there, direct_spot, Part, part_regions, part_rest, part_block, part_blocks, part_region, part_more, part_part, append_left, append_right, use_append, operation_level}
@@ -24,7 +24,7 @@ no_blocks_in : {N : Names} {S : Contents} (rs : Tree N S Regions) (c : Spot N S)
 no_blocks_in end c x e h = h
 no_blocks_in (region bs rest) c x e h = absurd (cc e)
 
-module _ {N : Names} {S : Contents} {A : Type 0} (d : Dialect S A) (start : Place N) (r : Root N S) where
+module _ {N : Names} {S : Contents} {A : Type 0} (d : Dialect S A) (start : StartingRegions N) (r : Root N S) where
   -- how a list was joined
 
   pub record OperationJoined (h : Head N S) (rs : Tree N S Regions) (rest u : Tree N S Operations) : Type 0 where
@@ -92,14 +92,14 @@ module _ {N : Names} {S : Contents} {A : Type 0} (d : Dialect S A) (start : Plac
       pub spot : LikeBlock d start r x.spot it.spot
       pub label : it.label ≡ x.label
 
-    abbrev pub site_of : BlockOccurrence N S → Site N S
+    abbrev pub site_of : BlockOccurrence N S → OperationSite N S
     site_of x = record { spot = x.spot; label = x.label }
 
     -- the operations of the block's chain, from it on, stand there
     pub record Holds (x : BlockOccurrence N S) : Type 0 where
       pub all : Tree N S Operations
       pub joins : Joins d start r (Some x.label.name) Operations x.operations all
-      pub site : Site N S
+      pub site : OperationSite N S
       pub like : LikeSite d start r (record { spot = x.spot; label = x.label }) site
       pub part : Part (use_instead names all) site ps ys
 
@@ -124,10 +124,10 @@ module _ {N : Names} {S : Contents} {A : Type 0} (d : Dialect S A) (start : Plac
     level _ _ _ _ (chain_goes_on b y ops own others all j s x q m) c e k i p z h = absurd (no_direct ops c z h)
 
     -- of a chain that goes on, the rest stands there
-    rest_part : (u own others : Tree N S Operations) (e : Site N S) → u ≡ append own others → PartAfter u e → PartAfter others e
+    rest_part : (u own others : Tree N S Operations) (e : OperationSite N S) → u ≡ append own others → PartAfter u e → PartAfter others e
     rest_part u own others e q p = part_part (append_right (use_instead names own) (use_instead names others) e) (subst (λ w. Part w e ps ys) (ap (use_instead names) q ∙ use_append names own others) p)
 
-    own_part : (u own others : Tree N S Operations) (e : Site N S) → u ≡ append own others → PartAfter u e → PartAfter own e
+    own_part : (u own others : Tree N S Operations) (e : OperationSite N S) → u ≡ append own others → PartAfter u e → PartAfter own e
     own_part u own others e q p = part_part (append_left (use_instead names own) (use_instead names others) e) (subst (λ w. Part w e ps ys) (ap (use_instead names) q ∙ use_append names own others) p)
 
     follow : (w z : BlockOccurrence N S) → Has w (block_occurrences_of r) → Holds w → Has z (block_occurrences_of r) → Joinable d start r w.label.name z.label.name → Holds z
@@ -183,17 +183,17 @@ module _ {N : Names} {S : Contents} {A : Type 0} (d : Dialect S A) (start : Plac
 
     module _ (last : BranchesLast r) where
       -- operations that are joined, all, or all but the branch to the next block
-      pub record Whole (t : Tree N S Operations) (c : Site N S) : Type 0 where
+      pub record Whole (t : Tree N S Operations) (c : OperationSite N S) : Type 0 where
         pub own : Tree N S Operations
         pub joins : Joins d start r None Operations t own
-        pub site : Site N S
+        pub site : OperationSite N S
         pub like : LikeSite d start r c site
         pub part : Part (use_instead names own) site ps ys
 
-      pub record ButLast (t : Tree N S Operations) (c : Site N S) : Type 0 where
+      pub record ButLast (t : Tree N S Operations) (c : OperationSite N S) : Type 0 where
         pub own : Tree N S Operations
         pub joins : Joins d start r None Operations (but_last t) own
-        pub site : Site N S
+        pub site : OperationSite N S
         pub like : LikeSite d start r c site
         pub part : Part (use_instead names own) site ps ys
         pub target : N.block
@@ -222,10 +222,10 @@ module _ {N : Names} {S : Contents} {A : Type 0} (d : Dialect S A) (start : Plac
           (inverted (Some l.name) Operations ops h.all h.joins)
 
       -- the regions of an operation that stands there
-      pub of_regions : (h : Head N S) (rs qs : Tree N S Regions) (c e : Site N S) → Has (record { site = c; head = h; regions = rs }) (occurrences_of r) → InTree d start r rs (inner h c) → Joins d start r None Regions rs qs → PartAfter qs (inner (use_head names h) e) → Given Regions rs (inner h c)
+      pub of_regions : (h : Head N S) (rs qs : Tree N S Regions) (c e : OperationSite N S) → Has (record { site = c; head = h; regions = rs }) (occurrences_of r) → InTree d start r rs (inner h c) → Joins d start r None Regions rs qs → PartAfter qs (inner (use_head names h) e) → Given Regions rs (inner h c)
       of_regions h rs qs c e s i j p = hold rs (inner h c) (level None Regions rs qs j (inner h c) (inner (use_head names h) e) (like_inner d start r names h c e) i p) i (λ z m q. operation_level r orderly.operations (record { site = c; head = h; regions = rs }) s z m q)
 
-      moved : (h : Head N S) (rs qs : Tree N S Regions) (more : Tree N S Operations) (c e : Site N S) → LikeSite d start r c e → Joins d start r None Regions rs qs → PartAfter (operation h qs more) e → IsMoved (record { site = c; head = h; regions = rs })
+      moved : (h : Head N S) (rs qs : Tree N S Regions) (more : Tree N S Operations) (c e : OperationSite N S) → LikeSite d start r c e → Joins d start r None Regions rs qs → PartAfter (operation h qs more) e → IsMoved (record { site = c; head = h; regions = rs })
       moved h rs qs more c e k j p = record {
         it = record { site = e; head = use_head names h; regions = use_instead names qs };
         stands = p.operations (record { site = e; head = use_head names h; regions = use_instead names qs }) (inl refl);

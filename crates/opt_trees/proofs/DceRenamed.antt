@@ -7,7 +7,7 @@ use Rattle.ir_trees.specs.Renames.{Maps, rename_defined, rename_head, rename_lab
 use Rattle.ir_trees.specs.Trees.{Defined, Head, Label, Sort, Tree, end, operation, block, region, Root}
 use Rattle.opt_trees.specs.Occurrences.{Has, Occurrence, BlockOccurrence, occurrences_of, block_occurrences_of, defined_in, rename_occurrence, rename_block_occurrence, Renaming, maps}
 use Rattle.opt_trees.specs.Dialect.{Dialect, drop}
-use Rattle.opt_trees.specs.Dce.{Around, Item, Whole, Slot, May, Touches, IsKept, IsUse, ForwardsTo, IsDead, dies, IsExcused, by_operation, by_argument, IsLost, Gone, gone_at, thin_head, thin_label, thin, IsGone, IsDce, Agree}
+use Rattle.opt_trees.specs.Dce.{TreeSurroundings, Item, Whole, Slot, May, Touches, IsKept, IsUseOfItem, ForwardsTo, IsDead, dies, IsExcused, by_operation, by_argument, IsLost, Gone, gone_at, thin_head, thin_label, thin, IsGoneExactly, IsDce, Agree}
 use Rattle.opt_trees.proofs.Lists.{names-map, at-map, length-map, has-map, has-from_map, has-apart, apart, at-apart, at-to, from_some, Preimage}
 use Rattle.opt_trees.proofs.Trees.{operations_renamed, blocks_renamed, values_renamed}
 
@@ -50,7 +50,7 @@ module _ {N M : Names} {S : Contents} (r : Renaming N M) (t : Root N S) where
   pub same_value : {s : Sort} (v : N.value) (x : Tree N S s) → Has (r.value.to v) (defined_in (rename m x)) → Has v (defined_in x)
   same_value v x h = let p = value_from (r.value.to v) x h in subst (λ z. Has z (defined_in x)) (apart r.value p.it v p.is) p.stands
 
-module _ {N M : Names} {S : Contents} {A : Type 0} (d : Dialect S A) (r : Renaming N M) (t : Root N S) (w : Around N A) (w' : Around M A) (agree : Agree r w w') where
+module _ {N M : Names} {S : Contents} {A : Type 0} (d : Dialect S A) (r : Renaming N M) (t : Root N S) (w : TreeSurroundings N A) (w' : TreeSurroundings M A) (agree : Agree r w w') where
   abbrev pub rename_item : Item N → Item M
   rename_item (Whole o) = Whole (r.operation.to o)
   rename_item (Slot v) = Slot (r.value.to v)
@@ -110,7 +110,7 @@ module _ {N M : Names} {S : Contents} {A : Type 0} (d : Dialect S A) (r : Renami
       let p = touches_from x k.0 k.1 in
       (p.0, p.2, ⊎_elim (λ z. inl (sym (agree.pins p.0) ∙ ap w'.is_pinned p.1 ∙ z)) (λ z. inr (has-apart r.value p.0 t.head.operands (subst (λ y. Has y (map r.value.to t.head.operands)) (sym p.1) z))) k.2)
 
-  is_use_to : (x : Item N) (v : N.value) (o : Occurrence N S) → IsUse t x v o → IsUse (rt r t) (rename_item x) (r.value.to v) (rename_occurrence (m r t) o)
+  is_use_to : (x : Item N) (v : N.value) (o : Occurrence N S) → IsUseOfItem t x v o → IsUseOfItem (rt r t) (rename_item x) (r.value.to v) (rename_occurrence (m r t) o)
   is_use_to (Whole a) v o p = record {
     it = rename_occurrence (m r t) p.it;
     stands = operation_to r t p.it p.stands;
@@ -119,7 +119,7 @@ module _ {N M : Names} {S : Contents} {A : Type 0} (d : Dialect S A) (r : Renami
   }
   is_use_to (Slot x) v o p = ap r.value.to p
 
-  is_use_from : (x : Item N) (v : N.value) (o : Occurrence N S) → IsUse (rt r t) (rename_item x) (r.value.to v) (rename_occurrence (m r t) o) → IsUse t x v o
+  is_use_from : (x : Item N) (v : N.value) (o : Occurrence N S) → IsUseOfItem (rt r t) (rename_item x) (r.value.to v) (rename_occurrence (m r t) o) → IsUseOfItem t x v o
   is_use_from (Whole a) v o p =
       let q = operation_from r t p.it p.stands in
       record {
@@ -168,7 +168,7 @@ module _ {N M : Names} {S : Contents} {A : Type 0} (d : Dialect S A) (r : Renami
     dead_to _ (dies x may kept uses) = dies (rename_item x) (may_to x may) (λ k. kept (kept_from x k)) (λ u p i c e.
         let q = operation_from r t p e.stands in
         let v = from_some r.value.to (slice_get q.it.head.operands i) u (sym (at-map r.value.to q.it.head.operands i) ∙ ap (λ z. slice_get z.head.operands i) q.is ∙ e.operand) in
-        let c' = is_use_from x v.it q.it (subst (λ z. IsUse (rt r t) (rename_item x) z (rename_occurrence (m r t) q.it)) (sym v.is) (subst (IsUse (rt r t) (rename_item x) u) (sym q.is) c)) in
+        let c' = is_use_from x v.it q.it (subst (λ z. IsUseOfItem (rt r t) (rename_item x) z (rename_occurrence (m r t) q.it)) (sym v.is) (subst (IsUseOfItem (rt r t) (rename_item x) u) (sym q.is) c)) in
         subst (λ z. IsExcused d w' (rt r t) z i) q.is (excused_to q.it i (uses v.it q.it i c' (record { stands = q.stands; operand = v.some }))))
 
     excused_to : (o : Occurrence N S) (i : ℕ) → IsExcused d w t o i → IsExcused d w' (rt r t) (rename_occurrence (m r t) o) i
@@ -178,7 +178,7 @@ module _ {N M : Names} {S : Contents} {A : Type 0} (d : Dialect S A) (r : Renami
   mutual
     dead_from : (y : Item M) → IsDead d w' (rt r t) y → (x : Item N) → rename_item x ≡ y → IsDead d w t x
     dead_from _ (dies y may kept uses) x e = dies x (may_from x (subst (May d (rt r t)) (sym e) may)) (λ k. kept (subst (IsKept w' (rt r t)) e (kept_to x k))) (λ v o i c q.
-        excused_from (rename_occurrence (m r t) o) i (uses (r.value.to v) (rename_occurrence (m r t) o) i (subst (λ z. IsUse (rt r t) z (r.value.to v) (rename_occurrence (m r t) o)) e (is_use_to x v o c)) (record { stands = operation_to r t o q.stands; operand = at-to r.value o.head.operands i v q.operand })) o refl)
+        excused_from (rename_occurrence (m r t) o) i (uses (r.value.to v) (rename_occurrence (m r t) o) i (subst (λ z. IsUseOfItem (rt r t) z (r.value.to v) (rename_occurrence (m r t) o)) e (is_use_to x v o c)) (record { stands = operation_to r t o q.stands; operand = at-to r.value o.head.operands i v q.operand })) o refl)
 
     excused_from : (p : Occurrence M S) (i : ℕ) → IsExcused d w' (rt r t) p i → (o : Occurrence N S) → rename_occurrence (m r t) o ≡ p → IsExcused d w t o i
     excused_from _ _ (by_operation p i a h dead) o e =
@@ -226,7 +226,7 @@ module _ {N M : Names} {S : Contents} {A : Type 0} (d : Dialect S A) (r : Renami
   operand_agrees : (g : Gone N) (a : N.operation) (i : ℕ) → (gone_pushed g).operand (r.operation.to a) i ≡ g.operand a i
   operand_agrees g a i = ap (λ q. operand_gone g q i) (r.operation.there a)
 
-  module _ (g : Gone N) (is : IsGone d w t g) where
+  module _ (g : Gone N) (is : IsGoneExactly d w t g) where
     pushed_dead : (y : Item M) → item_gone g y ≡ true → IsDead d w' (rt r t) y
     pushed_dead (Whole o) e = by_case (r.operation.back o) refl
       where
@@ -255,7 +255,7 @@ module _ {N M : Names} {S : Contents} {A : Type 0} (d : Dialect S A) (r : Renami
     pushed_all_lost : (b : M.operation) (i : ℕ) → IsLost d w' (rt r t) b i → (gone_pushed g).operand b i ≡ true
     pushed_all_lost b i l = let p = lost_from b i l in ap (λ z. (gone_pushed g).operand z i) (sym p.1) ∙ operand_agrees g p.0 i ∙ is.all_lost p.0 i p.2
 
-    pub gone_renamed : IsGone d w' (rt r t) (gone_pushed g)
+    pub gone_renamed : IsGoneExactly d w' (rt r t) (gone_pushed g)
     gone_renamed = record { dead = pushed_dead; all = pushed_all; lost = pushed_lost; all_lost = pushed_all_lost }
 
   drop_map : {X Y : Type 0} (f : X → Y) (p : ℕ → Bool) (xs : List X) → drop p (map f xs) ≡ map f (drop p xs)

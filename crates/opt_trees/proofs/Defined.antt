@@ -3,7 +3,7 @@ use Rattle.std.proofs.Common.{◌⊎◌, ⊎_elim, inl, inr, List, ◌++◌, ref
 use Rattle.ir_trees.specs.Names.{Names, Contents}
 use Rattle.ir_trees.specs.Renames.{names_of}
 use Rattle.ir_trees.specs.Trees.{Sort, Tree, end, operation, block, region}
-use Rattle.opt_trees.specs.Occurrences.{Has, Occurrence, BlockOccurrence, Site, Inside, inner, next_block, next_region, occurrences_in, block_occurrences_in, defined_in}
+use Rattle.opt_trees.specs.Occurrences.{Has, Occurrence, BlockOccurrence, OperationSite, Inside, inner, next_block, next_region, occurrences_in, block_occurrences_in, defined_in}
 use Rattle.opt_trees.proofs.NoneDead.{has-append, has-left, has-right}
 
 module _ {N : Names} {S : Contents} where
@@ -79,7 +79,7 @@ module _ {N : Names} {S : Contents} where
       (has-append v (defined_in rs) (defined_in rest) z))
       (has-append v (names_of k.results) (defined_in rs ++ defined_in rest) h)
   definer (block l ops rest) c v h =
-      let b : Site N S = record { spot = c; label = l } in
+      let b : OperationSite N S = record { spot = c; label = l } in
       ⊎_elim
       (λ z. inr (record { it = record { spot = c; label = l; operations = ops }; stands = inl refl; value = z }))
       (λ z. ⊎_elim

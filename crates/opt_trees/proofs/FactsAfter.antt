@@ -10,7 +10,7 @@ use Rattle.opt_solvers.specs.Known.{AtOrBelow, and_known, asked, answer, AllBelo
 use Rattle.opt_trees.specs.Occurrences.{Has, types_of, Occurrence, BlockOccurrence, occurrences_of, block_occurrences_of, defined_in, at_root}
 use Rattle.opt_trees.specs.Dialect.{Dialect, Lawful}
 use Rattle.opt_trees.specs.Facts.{Facts, Asked, FoldClosed, forwarded, EdgeClosed, BranchClosed, EntriesRun, OperationClosed, IsClosed, IsMostPrecise}
-use Rattle.opt_trees.specs.Sccp.{Name, Old, New, fresh, IsMade, used_as, old_head, put_root, IsSccp, facts_after, CanTell}
+use Rattle.opt_trees.specs.Sccp.{Name, Old, New, fresh, AreMadeConstants, used_as, old_head, put_root, IsSccp, facts_after, CanTell}
 use Rattle.opt_trees.proofs.Lists.{none_some}
 use Rattle.opt_trees.proofs.Defined.{ByResult, ByArgument, definer}
 use Rattle.opt_trees.proofs.Put.{Constant, operation_was, operation_is, result_there, argument_there, block_was, block_is, value_was}
@@ -136,7 +136,7 @@ no_new {V} v (u ∷ vs) h = ⊎_elim (λ e. apart v u.name e) (λ z. no_new v vs
     apart : (x y : V) → ◌≡◌ {A = Name V V} (New x) (Old y) → ⊥
     apart x y e = cc e
 
-module _ {N : Names} {S : Contents} {A : Type 0} (d : Dialect S A) (made : N.value → Option A) (law : Lawful d) (tell : CanTell A) (t : Root N S) (k : Facts N A) (best : IsMostPrecise d t k) (is_made : IsMade d t k made) where
+module _ {N : Names} {S : Contents} {A : Type 0} (d : Dialect S A) (made : N.value → Option A) (law : Lawful d) (tell : CanTell A) (t : Root N S) (k : Facts N A) (best : IsMostPrecise d t k) (is_made : AreMadeConstants d t k made) where
   abbrev after : Root (fresh N) S
   after = put_root {N = N} d made t
 

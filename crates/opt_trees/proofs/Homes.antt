@@ -2,7 +2,7 @@
 use Rattle.std.proofs.Common.{◌≡◌, ◌⊎◌, ⊎_elim, inl, inr, List, [], ◌∷◌, ◌++◌, refl, sym, ap, ◌∙◌, subst}
 use Rattle.ir_trees.specs.Names.{Names, Contents}
 use Rattle.ir_trees.specs.Trees.{Head, Label, Sort, Operations, Blocks, Regions, Tree, end, operation, block, region, Root}
-use Rattle.opt_trees.specs.Occurrences.{Has, Occurrence, BlockOccurrence, Site, Spot, Inside, inner, next_block, next_region, occurrences_in, block_occurrences_in, occurrences_of, block_occurrences_of, at_root, OperationsApart}
+use Rattle.opt_trees.specs.Occurrences.{Has, Occurrence, BlockOccurrence, OperationSite, Spot, Inside, inner, next_block, next_region, occurrences_in, block_occurrences_in, occurrences_of, block_occurrences_of, at_root, OperationsApart}
 use Rattle.opt_trees.specs.Simplify.{but_last, append, use_head, use_instead}
 use Rattle.opt_trees.proofs.NoneDead.{has-append, has-left, has-right}
 
@@ -14,7 +14,7 @@ module _ {N : Names} {S : Contents} where
   direct (block l ops rest) c = record { spot = c; label = l; operations = ops } ∷ direct rest (next_block c)
   direct (region bs rest) c = direct bs c ++ direct rest (next_region c)
 
-  pub no_direct : (t : Tree N S Operations) (c : Site N S) (x : BlockOccurrence N S) → Has x (direct t c) → ⊥
+  pub no_direct : (t : Tree N S Operations) (c : OperationSite N S) (x : BlockOccurrence N S) → Has x (direct t c) → ⊥
   no_direct end c x h = h
   no_direct (operation k rs rest) c x h = h
 
@@ -70,7 +70,7 @@ module _ {N : Names} {S : Contents} where
       (home rest c x z))
       (has-append x (block_occurrences_in rs (inner k c)) (block_occurrences_in rest c) h)
   home (block l ops rest) c x h =
-      let b : Site N S = record { spot = c; label = l } in
+      let b : OperationSite N S = record { spot = c; label = l } in
       ⊎_elim
       (λ z. inl (inl z))
       (λ z. ⊎_elim
@@ -105,13 +105,13 @@ module _ {N : Names} {S : Contents} where
   Part t c ps ys = IsPart (occurrences_in t c) (block_occurrences_in t c) ps ys
 
   module _ (ps : List (Occurrence N S)) (ys : List (BlockOccurrence N S)) where
-    pub part_regions : (h : Head N S) (rs : Tree N S Regions) (rest : Tree N S Operations) (c : Site N S) → Part (operation h rs rest) c ps ys → Part rs (inner h c) ps ys
+    pub part_regions : (h : Head N S) (rs : Tree N S Regions) (rest : Tree N S Operations) (c : OperationSite N S) → Part (operation h rs rest) c ps ys → Part rs (inner h c) ps ys
     part_regions h rs rest c i = record {
       operations = λ o m. i.operations o (inr (has-left o (occurrences_in rs (inner h c)) (occurrences_in rest c) m));
       blocks = λ x m. i.blocks x (has-left x (block_occurrences_in rs (inner h c)) (block_occurrences_in rest c) m);
     }
 
-    pub part_rest : (h : Head N S) (rs : Tree N S Regions) (rest : Tree N S Operations) (c : Site N S) → Part (operation h rs rest) c ps ys → Part rest c ps ys
+    pub part_rest : (h : Head N S) (rs : Tree N S Regions) (rest : Tree N S Operations) (c : OperationSite N S) → Part (operation h rs rest) c ps ys → Part rest c ps ys
     part_rest h rs rest c i = record {
       operations = λ o m. i.operations o (inr (has-right o (occurrences_in rs (inner h c)) (occurrences_in rest c) m));
       blocks = λ x m. i.blocks x (has-right x (block_occurrences_in rs (inner h c)) (block_occurrences_in rest c) m);
@@ -119,7 +119,7 @@ module _ {N : Names} {S : Contents} where
 
     pub part_block : (l : Label N S) (ops : Tree N S Operations) (rest : Tree N S Blocks) (c : Spot N S) → Part (block l ops rest) c ps ys → Part ops (record { spot = c; label = l }) ps ys
     part_block l ops rest c i =
-        let b : Site N S = record { spot = c; label = l } in
+        let b : OperationSite N S = record { spot = c; label = l } in
         record {
           operations = λ o m. i.operations o (has-left o (occurrences_in ops b) (occurrences_in rest (next_block c)) m);
           blocks = λ x m. i.blocks x (inr (has-left x (block_occurrences_in ops b) (block_occurrences_in rest (next_block c)) m));
@@ -127,7 +127,7 @@ module _ {N : Names} {S : Contents} where
 
     pub part_blocks : (l : Label N S) (ops : Tree N S Operations) (rest : Tree N S Blocks) (c : Spot N S) → Part (block l ops rest) c ps ys → Part rest (next_block c) ps ys
     part_blocks l ops rest c i =
-        let b : Site N S = record { spot = c; label = l } in
+        let b : OperationSite N S = record { spot = c; label = l } in
         record {
           operations = λ o m. i.operations o (has-right o (occurrences_in ops b) (occurrences_in rest (next_block c)) m);
           blocks = λ x m. i.blocks x (inr (has-right x (block_occurrences_in ops b) (block_occurrences_in rest (next_block c)) m));
@@ -163,7 +163,7 @@ module _ {N : Names} {S : Contents} where
       })
       (has-append x (block_occurrences_in rs (inner k c)) (block_occurrences_in rest c) h)
   block_inside (block l ops rest) c x h =
-      let b : Site N S = record { spot = c; label = l } in
+      let b : OperationSite N S = record { spot = c; label = l } in
       ⊎_elim
       (λ z. record {
         operations = λ o w. has-left o (occurrences_in ops b) (occurrences_in rest (next_block c)) (subst (λ y. Has o (occurrences_in y.operations (record { spot = y.spot; label = y.label }))) z w);
@@ -191,7 +191,7 @@ module _ {N : Names} {S : Contents} where
       (has-append x (block_occurrences_in bs c) (block_occurrences_in rest (next_region c)) h)
 
   -- without its last operation, a list is a part of itself
-  pub but_last_inside : (t : Tree N S Operations) (c : Site N S) → IsPart (occurrences_in (but_last t) c) (block_occurrences_in (but_last t) c) (occurrences_in t c) (block_occurrences_in t c)
+  pub but_last_inside : (t : Tree N S Operations) (c : OperationSite N S) → IsPart (occurrences_in (but_last t) c) (block_occurrences_in (but_last t) c) (occurrences_in t c) (block_occurrences_in t c)
   but_last_inside end c = record { operations = λ o h. h; blocks = λ x h. h }
   but_last_inside (operation k rs end) c = record { operations = λ o h. absurd h; blocks = λ x h. absurd h }
   but_last_inside (operation k rs (operation g qs rest)) c =
@@ -211,7 +211,7 @@ module _ {N : Names} {S : Contents} where
 
   -- what stands in two lists, one after the other
 
-  pub appended : (a b : Tree N S Operations) (e : Site N S) (p : Occurrence N S) → Has p (occurrences_in (append a b) e) → Has p (occurrences_in a e) ⊎ Has p (occurrences_in b e)
+  pub appended : (a b : Tree N S Operations) (e : OperationSite N S) (p : Occurrence N S) → Has p (occurrences_in (append a b) e) → Has p (occurrences_in a e) ⊎ Has p (occurrences_in b e)
   appended end b e p h = inr h
   appended (operation k rs rest) b e p h = ⊎_elim
       (λ z. inl (inl z))
@@ -220,14 +220,14 @@ module _ {N : Names} {S : Contents} where
       (λ y. ⊎_elim (λ w. inl (inr (has-right p (occurrences_in rs (inner k e)) (occurrences_in rest e) w))) (λ w. inr w) (appended rest b e p y))
       (has-append p (occurrences_in rs (inner k e)) (occurrences_in (append rest b) e) z)) h
 
-  pub blocks_appended : (a b : Tree N S Operations) (e : Site N S) (p : BlockOccurrence N S) → Has p (block_occurrences_in (append a b) e) → Has p (block_occurrences_in a e) ⊎ Has p (block_occurrences_in b e)
+  pub blocks_appended : (a b : Tree N S Operations) (e : OperationSite N S) (p : BlockOccurrence N S) → Has p (block_occurrences_in (append a b) e) → Has p (block_occurrences_in a e) ⊎ Has p (block_occurrences_in b e)
   blocks_appended end b e p h = inr h
   blocks_appended (operation k rs rest) b e p h = ⊎_elim
       (λ y. inl (has-left p (block_occurrences_in rs (inner k e)) (block_occurrences_in rest e) y))
       (λ y. ⊎_elim (λ w. inl (has-right p (block_occurrences_in rs (inner k e)) (block_occurrences_in rest e) w)) (λ w. inr w) (blocks_appended rest b e p y))
       (has-append p (block_occurrences_in rs (inner k e)) (block_occurrences_in (append rest b) e) h)
 
-  pub append_left : (a b : Tree N S Operations) (e : Site N S) → IsPart (occurrences_in a e) (block_occurrences_in a e) (occurrences_in (append a b) e) (block_occurrences_in (append a b) e)
+  pub append_left : (a b : Tree N S Operations) (e : OperationSite N S) → IsPart (occurrences_in a e) (block_occurrences_in a e) (occurrences_in (append a b) e) (block_occurrences_in (append a b) e)
   append_left end b e = record { operations = λ o h. absurd h; blocks = λ x h. absurd h }
   append_left (operation k rs rest) b e =
       let p = append_left rest b e in
@@ -244,7 +244,7 @@ module _ {N : Names} {S : Contents} where
             (has-append x (block_occurrences_in rs (inner k e)) (block_occurrences_in rest e) h);
       }
 
-  pub append_right : (a b : Tree N S Operations) (e : Site N S) → IsPart (occurrences_in b e) (block_occurrences_in b e) (occurrences_in (append a b) e) (block_occurrences_in (append a b) e)
+  pub append_right : (a b : Tree N S Operations) (e : OperationSite N S) → IsPart (occurrences_in b e) (block_occurrences_in b e) (occurrences_in (append a b) e) (block_occurrences_in (append a b) e)
   append_right end b e = record { operations = λ o h. h; blocks = λ x h. h }
   append_right (operation k rs rest) b e =
       let p = append_right rest b e in

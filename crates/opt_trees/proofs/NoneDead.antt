@@ -5,9 +5,9 @@ use Rattle.std.specs.Prelude.{slice_get}
 use Rattle.ir_trees.specs.Names.{Names, Contents}
 use Rattle.ir_trees.specs.Renames.{names_of}
 use Rattle.ir_trees.specs.Trees.{Defined, Head, Sort, Operations, Blocks, Regions, Tree, end, operation, block, region, Root}
-use Rattle.opt_trees.specs.Occurrences.{Has, Occurrence, BlockOccurrence, Site, Spot, Inside, inner, next_block, next_region, occurrences_in, block_occurrences_in, defined_in, occurrences_of, block_occurrences_of, at_root, Use}
+use Rattle.opt_trees.specs.Occurrences.{Has, Occurrence, BlockOccurrence, OperationSite, Spot, Inside, inner, next_block, next_region, occurrences_in, block_occurrences_in, defined_in, occurrences_of, block_occurrences_of, at_root, Use}
 use Rattle.opt_trees.specs.Dialect.{Dialect, Lawful, drop}
-use Rattle.opt_trees.specs.Dce.{Around, Item, Whole, Slot, MayGo, MayClose, May, IsKept, Counts, IsUse, ForwardsTo, IsDead, dies, IsExcused, by_operation, by_argument, Gone, gone_at, thin_head, thin_label, thin, IsGone, IsWell}
+use Rattle.opt_trees.specs.Dce.{TreeSurroundings, Item, Whole, Slot, MayGo, MayClose, May, IsKept, CountsForOperation, IsUseOfItem, ForwardsTo, IsDead, dies, IsExcused, by_operation, by_argument, Gone, gone_at, thin_head, thin_label, thin, IsGoneExactly, IsWell}
 
 pub has-append : {X : Type 0} (x : X) (xs ys : List X) → Has x (xs ++ ys) → Has x xs ⊎ Has x ys
 has-append x [] ys h = inr h
@@ -129,7 +129,7 @@ module _ {N : Names} {S : Contents} {A : Type 0} (d : Dialect S A) (g : Gone N) 
   spot_of Blocks c = c
   spot_of Regions c = c
 
-  like_inner : Lawful d → (h : Head N S) (c e : Site N S) → LikeSpot (inner h c) (inner (thin_head d g h) e)
+  like_inner : Lawful d → (h : Head N S) (c e : OperationSite N S) → LikeSpot (inner h c) (inner (thin_head d g h) e)
   like_inner law h c e = record { removes = λ i f. law.drop_removes h.content (g.operand h.name) i f; region = refl; first = refl }
 
   like_next : (c e : Spot N S) → LikeSpot c e → LikeSpot (next_block c) (next_block e)
@@ -160,8 +160,8 @@ module _ {N : Names} {S : Contents} {A : Type 0} (d : Dialect S A) (g : Gone N) 
           (λ x. block_in (λ o y. has-right o (block_occurrences_in rs (inner k c)) (block_occurrences_in rest c) y) (ih x))
           (has-append p (block_occurrences_in (thin d g rs) (inner (thin_head d g k) e)) (block_occurrences_in (thin d g rest) e) h)
   block_was law (block l ops rest) c e like a p h =
-      let b : Site N S = record { spot = c; label = l } in
-      let b' : Site N S = record { spot = e; label = thin_label d g l } in
+      let b : OperationSite N S = record { spot = c; label = l } in
+      let b' : OperationSite N S = record { spot = e; label = thin_label d g l } in
       ⊎_elim
       (λ z. record { it = record { spot = c; label = l; operations = ops }; stands = inl refl; stays = a; label = ap (λ y. y.label) z; removes = ap (λ y. d.can_remove y.spot.owner.content y.spot.region y.spot.first) z ∙ like_removes c e like })
       (λ z. ⊎_elim
@@ -215,8 +215,8 @@ module _ {N : Names} {S : Contents} {A : Type 0} (d : Dialect S A) (g : Gone N) 
       by_rest true x = x
       by_rest false x = left_in (λ y z. inr (has-right y (occurrences_in (thin d g rs) (inner (thin_head d g k) e)) (occurrences_in (thin d g rest) e) z)) x
   still_there (block l ops rest) c e q o h a =
-      let b : Site N S = record { spot = c; label = l } in
-      let b' : Site N S = record { spot = e; label = thin_label d g l } in
+      let b : OperationSite N S = record { spot = c; label = l } in
+      let b' : OperationSite N S = record { spot = e; label = thin_label d g l } in
       ⊎_elim
       (λ x. left_in (λ y z. has-left y (occurrences_in (thin d g ops) b') (occurrences_in (thin d g rest) (next_block e)) z) (still_there ops b b' q o x a))
       (λ x. left_in (λ y z. has-right y (occurrences_in (thin d g ops) b') (occurrences_in (thin d g rest) (next_block e)) z) (still_there rest (next_block c) (next_block e) q o x a))
@@ -233,7 +233,7 @@ module _ {N : Names} {S : Contents} {A : Type 0} (d : Dialect S A) (g : Gone N) 
       (λ z. inr (has-left p (occurrences_in rs (inner x c)) (occurrences_in rest c) (subst (λ y. Has p (occurrences_in y.regions (inner y.head y.site))) z k)))
       (λ z. ⊎_elim (λ y. inr (has-left p (occurrences_in rs (inner x c)) (occurrences_in rest c) (inside_is rs (inner x c) o p y k))) (λ y. inr (has-right p (occurrences_in rs (inner x c)) (occurrences_in rest c) (inside_is rest c o p y k))) (has-append o (occurrences_in rs (inner x c)) (occurrences_in rest c) z)) h
   inside_is (block l ops rest) c o p h k =
-      let b : Site N S = record { spot = c; label = l } in
+      let b : OperationSite N S = record { spot = c; label = l } in
       ⊎_elim (λ y. has-left p (occurrences_in ops b) (occurrences_in rest (next_block c)) (inside_is ops b o p y k)) (λ y. has-right p (occurrences_in ops b) (occurrences_in rest (next_block c)) (inside_is rest (next_block c) o p y k)) (has-append o (occurrences_in ops b) (occurrences_in rest (next_block c)) h)
   inside_is (region bs rest) c o p h k =
       ⊎_elim (λ y. has-left p (occurrences_in bs c) (occurrences_in rest (next_region c)) (inside_is bs c o p y k)) (λ y. has-right p (occurrences_in bs c) (occurrences_in rest (next_region c)) (inside_is rest (next_region c) o p y k)) (has-append o (occurrences_in bs c) (occurrences_in rest (next_region c)) h)
@@ -248,7 +248,7 @@ module _ {N : Names} {S : Contents} {A : Type 0} (d : Dialect S A) (g : Gone N) 
   went_in : {os ps : List (Occurrence N S)} {v : N.value} → ((x : Occurrence N S) → Has x os → Has x ps) → Went os v ⊎ (g.item (Slot v) ≡ true) → Went ps v ⊎ (g.item (Slot v) ≡ true)
   went_in f x = ⊎_elim (λ y. inl (record { it = y.it; stands = f y.it y.stands; goes = y.goes; value = y.value })) (λ y. inr y) x
 
-  abbrev pub Goes : Bool → Head N S → Tree N S Regions → Tree N S Operations → Site N S → N.value → Type 0
+  abbrev pub Goes : Bool → Head N S → Tree N S Regions → Tree N S Operations → OperationSite N S → N.value → Type 0
   Goes b k rs rest c v = Has v (defined_in (after b k rs rest)) ⊎ (Went (occurrences_in (operation k rs rest) c) v ⊎ (g.item (Slot v) ≡ true))
 
   pub value_goes : {s : Sort} (t : Tree N S s) (c : Inside N S s) (v : N.value) → Has v (defined_in t) → Has v (defined_in (thin d g t)) ⊎ (Went (occurrences_in t c) v ⊎ (g.item (Slot v) ≡ true))
@@ -277,7 +277,7 @@ module _ {N : Names} {S : Contents} {A : Type 0} (d : Dialect S A) (g : Gone N) 
           (λ z. inl (has-right v (names_of k.results) (defined_in (thin d g rs) ++ defined_in (thin d g rest)) (has-right v (defined_in (thin d g rs)) (defined_in (thin d g rest)) z)))
           (λ z. inr (went_in (λ o u. inr (has-right o (occurrences_in rs (inner k c)) (occurrences_in rest c) u)) z)) ih
   value_goes (block l ops rest) c v h =
-      let b : Site N S = record { spot = c; label = l } in
+      let b : OperationSite N S = record { spot = c; label = l } in
       let l' = names_of (drop (λ i. gone_at g (slice_get l.arguments i)) l.arguments) in
       ⊎_elim
       (λ x. ⊎_elim (λ y. inl (has-left v l' (defined_in (thin d g ops) ++ defined_in (thin d g rest)) y)) (λ y. inr (inr y)) (argument_goes v l.arguments x))
@@ -291,7 +291,7 @@ module _ {N : Names} {S : Contents} {A : Type 0} (d : Dialect S A) (g : Gone N) 
       (λ y. ⊎_elim (λ z. inl (has-right v (defined_in (thin d g bs)) (defined_in (thin d g rest)) z)) (λ z. inr (went_in (λ o u. has-right o (occurrences_in bs c) (occurrences_in rest (next_region c)) u) z)) (value_goes rest (next_region c) v y))
       (has-append v (defined_in bs) (defined_in rest) h)
 
-module _ {N : Names} {S : Contents} {A : Type 0} (d : Dialect S A) (lawful : Lawful d) (w : Around N A) (t : Root N S) (g : Gone N) (is : IsGone d w t g) (well : IsWell d t) where
+module _ {N : Names} {S : Contents} {A : Type 0} (d : Dialect S A) (lawful : Lawful d) (w : TreeSurroundings N A) (t : Root N S) (g : Gone N) (is : IsGoneExactly d w t g) (well : IsWell d t) where
   abbrev u : Root N S
   u = record { head = t.head; regions = thin d g t.regions }
 
@@ -331,7 +331,7 @@ module _ {N : Names} {S : Contents} {A : Type 0} (d : Dialect S A) (lawful : Law
           absurd (none p.it s.place p.thinned.around (record { stands = p.stands; operand = ap (λ h. slice_get h.operands s.place) p.thinned.head ∙ s.is }))
 
   -- what stays of an operation that stays: each value of it is still there, or went
-  uses_of : (x : Item N) → IsDead d w t x → (v : N.value) (o : Occurrence N S) (i : ℕ) → IsUse t x v o → Use t v o i → IsExcused d w t o i
+  uses_of : (x : Item N) → IsDead d w t x → (v : N.value) (o : Occurrence N S) (i : ℕ) → IsUseOfItem t x v o → Use t v o i → IsExcused d w t o i
   uses_of _ (dies x may kept uses) v o i a b = uses v o i a b
 
   keeps_not : (x : Item N) → IsDead d w t x → IsKept w t x → ⊥
@@ -350,7 +350,7 @@ module _ {N : Names} {S : Contents} {A : Type 0} (d : Dialect S A) (lawful : Law
       (λ y. keeps_not (Slot v) (is.dead (Slot v) y) (v, refl, k)) x
 
   -- an operation that may go and that nothing needs is dead before
-  whole_step : (a : N.operation) → MayGo d u a → (IsKept w u (Whole a) → ⊥) → ((v : N.value) (o : Occurrence N S) (i : ℕ) → IsUse u (Whole a) v o → Use u v o i → ⊥) → ⊥
+  whole_step : (a : N.operation) → MayGo d u a → (IsKept w u (Whole a) → ⊥) → ((v : N.value) (o : Occurrence N S) (i : ℕ) → IsUseOfItem u (Whole a) v o → Use u v o i → ⊥) → ⊥
   whole_step a may kept uses =
       let f = found may.it may.stands in
       let named : f.it.head.name ≡ a = sym (ap (λ h. h.name) f.thinned.head) ∙ may.name in
@@ -370,7 +370,7 @@ module _ {N : Names} {S : Contents} {A : Type 0} (d : Dialect S A) (lawful : Law
       operand_or f v o i c same ue) in
       true_false (g.item (Whole a)) (is.all (Whole a) dead) (sym (ap (λ n. g.item (Whole n)) named) ∙ f.stays.0)
     where
-      operand_or : (f : Found d g (occurrences_of t) may.it) (v : N.value) (o : Occurrence N S) (i : ℕ) (c : Counts t a v o) → c.it ≡ f.it → Use t v o i → IsExcused d w t o i
+      operand_or : (f : Found d g (occurrences_of t) may.it) (v : N.value) (o : Occurrence N S) (i : ℕ) (c : CountsForOperation t a v o) → c.it ≡ f.it → Use t v o i → IsExcused d w t o i
       operand_or f v o i c same ue = ⊎_elim
           (λ x. by_operation o i x.0 x.1 (is.dead (Whole x.0) x.2))
           (λ stay. ⊎_elim
@@ -382,7 +382,7 @@ module _ {N : Names} {S : Contents} {A : Type 0} (d : Dialect S A) (lawful : Law
           (one_goes d g (o.head.name ∷ o.site.spot.around))
 
   -- an argument that may be removed and that nothing needs is dead before
-  slot_step : (v : N.value) → MayClose d u v → (IsKept w u (Slot v) → ⊥) → ((x : N.value) (o : Occurrence N S) (i : ℕ) → IsUse u (Slot v) x o → Use u x o i → ⊥) → ⊥
+  slot_step : (v : N.value) → MayClose d u v → (IsKept w u (Slot v) → ⊥) → ((x : N.value) (o : Occurrence N S) (i : ℕ) → IsUseOfItem u (Slot v) x o → Use u x o i → ⊥) → ⊥
   slot_step v may kept uses =
       let f = block_was d g lawful t.regions (at_root t) (at_root u) (record { removes = λ i f. refl; region = refl; first = refl }) tt may.it may.stands in
       let arg = argument_stays d g v f.it.label.arguments (subst (λ l. Has v (names_of l.arguments)) f.label may.argument) in
@@ -410,7 +410,7 @@ module _ {N : Names} {S : Contents} {A : Type 0} (d : Dialect S A) (lawful : Law
           sym (lawful.drop_branch o.head.content (g.operand o.head.name)) ∙ sym (ap (λ y. d.is_branch y.content) p.thinned.head)
           ∙ may.predecessors p.it p.stands (subst (λ n. Has n p.it.head.successors) (ap (λ l. l.name) (sym f.label)) (subst (λ y. Has f.it.label.name y.successors) (sym p.thinned.head) k))
 
-  step : (x : Item N) → May d u x → (IsKept w u x → ⊥) → ((v : N.value) (o : Occurrence N S) (i : ℕ) → IsUse u x v o → Use u v o i → ⊥) → ⊥
+  step : (x : Item N) → May d u x → (IsKept w u x → ⊥) → ((v : N.value) (o : Occurrence N S) (i : ℕ) → IsUseOfItem u x v o → Use u v o i → ⊥) → ⊥
   step (Whole a) may kept uses = whole_step a may kept uses
   step (Slot v) may kept uses = slot_step v may kept uses
 

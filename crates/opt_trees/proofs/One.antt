@@ -6,8 +6,8 @@ use Rattle.ir_trees.specs.Trees.{Defined, Sort, Operations, Blocks, Regions, Tre
 use Rattle.opt_trees.specs.Occurrences.{Has}
 use Rattle.opt_trees.specs.Dialect.{Dialect, Lawful, drop}
 use Rattle.opt_trees.specs.Facts.{forwarded}
-use Rattle.opt_trees.specs.Dce.{Around, Item, IsDead, Gone, gone_at, thin_label, thin, IsGone, IsDce, IsWell}
-use Rattle.opt_trees.specs.Simplify.{Place, all_of, use_head, Joinable, IsGiven, Follows, stops, goes_on, Joins, ends, operations, regions, taken, first, chain_ends, chain_goes_on, append, keep, use_instead, IsCut, IsJoined, Chases, goes, goes_by, ComesBack, IsSimplify, IsOrderly, decided}
+use Rattle.opt_trees.specs.Dce.{TreeSurroundings, Item, IsDead, Gone, gone_at, thin_label, thin, IsGoneExactly, IsDce, IsWell}
+use Rattle.opt_trees.specs.Simplify.{StartingRegions, all_of, use_head, Joinable, IsGiven, Follows, stops, goes_on, Joins, ends, operations, regions, taken, first, chain_ends, chain_goes_on, append, keep, use_instead, IsCut, IsJoined, Chases, goes, goes_by, ComesBack, IsSimplify, IsOrderly, decided}
 use Rattle.opt_trees.proofs.Lists.{some_same}
 use Rattle.opt_trees.proofs.Best.{true_both}
 use Rattle.opt_trees.proofs.NoneDead.{no_dead}
@@ -24,13 +24,13 @@ none_gone N None = refl
 none_gone N (Some v) = refl
 
 module _ {N : Names} {S : Contents} {A : Type 0} (d : Dialect S A) where
-  gone_unique : (w : Around N A) (t : Root N S) (g h : Gone N) → IsGone d w t g → IsGone d w t h → g ≡ h
+  gone_unique : (w : TreeSurroundings N A) (t : Root N S) (g h : Gone N) → IsGoneExactly d w t g → IsGoneExactly d w t h → g ≡ h
   gone_unique w t g h a b = λ i. record {
     item = λ x. true_both (g.item x) (h.item x) (λ e. b.all x (a.dead x e)) (λ e. a.all x (b.dead x e)) i;
     operand = λ o n. true_both (g.operand o n) (h.operand o n) (λ e. b.all_lost o n (a.lost o n e)) (λ e. a.all_lost o n (b.lost o n e)) i;
   }
 
-  pub dce_unique : (w : Around N A) (t x y : Root N S) → IsDce d w t x → IsDce d w t y → x ≡ y
+  pub dce_unique : (w : TreeSurroundings N A) (t x y : Root N S) → IsDce d w t x → IsDce d w t y → x ≡ y
   dce_unique w t x y a b = a.is ∙ ap (λ g. record { head = t.head; regions = thin d g t.regions }) (gone_unique w t a.gone b.gone a.is_gone b.is_gone) ∙ sym b.is
 
   thin_nothing : Lawful d → {s : Sort} (t : Tree N S s) → thin d (nothing {N = N}) t ≡ t
@@ -46,11 +46,11 @@ module _ {N : Names} {S : Contents} {A : Type 0} (d : Dialect S A) where
   thin_nothing law (region bs rest) = λ i. region (thin_nothing law bs i) (thin_nothing law rest i)
 
   -- nothing is dead after it
-  pub dce_none : Lawful d → (w : Around N A) (t x : Root N S) → IsWell d t → IsDce d w t x → (z : Item N) → IsDead d w x z → ⊥
+  pub dce_none : Lawful d → (w : TreeSurroundings N A) (t x : Root N S) → IsWell d t → IsDce d w t x → (z : Item N) → IsDead d w x z → ⊥
   dce_none law w t x well a z h = no_dead d law w t a.gone a.is_gone well z (subst (λ r. IsDead d w r z) a.is h)
 
   -- a second dce changes nothing
-  pub dce_twice : Lawful d → (w : Around N A) (t x y : Root N S) → IsWell d t → IsDce d w t x → IsDce d w x y → y ≡ x
+  pub dce_twice : Lawful d → (w : TreeSurroundings N A) (t x y : Root N S) → IsWell d t → IsDce d w t x → IsDce d w x y → y ≡ x
   dce_twice law w t x y well a b =
       let none : (z : Item N) → b.gone.item z ≡ false = λ z. off (b.gone.item z) (λ e. no z (b.is_gone.dead z e)) in
       let lost : (o : N.operation) (i : ℕ) → b.gone.operand o i ≡ false = λ o i. off (b.gone.operand o i) (λ e. let l = b.is_gone.lost o i e in no (_) l.dead) in
@@ -66,7 +66,7 @@ module _ {N : Names} {S : Contents} {A : Type 0} (d : Dialect S A) where
 
   -- simplify
 
-  module _ (start : Place N) (r : Root N S) (o : IsOrderly r) where
+  module _ (start : StartingRegions N) (r : Root N S) (o : IsOrderly r) where
     pub leads_one : (b t u : N.block) → Joinable d start r b t → Joinable d start r b u → t ≡ u
     leads_one b t u j k =
         let same = o.ends j.last k.last t u j.stands k.stands (j.in_block ∙ sym k.in_block) (subst (Has t) (sym j.leads) (inl refl)) (subst (Has u) (sym k.leads) (inl refl)) in
@@ -128,12 +128,12 @@ module _ {N : Names} {S : Contents} {A : Type 0} (d : Dialect S A) where
         let same : z' ≡ z = o.blocks z' z h' h (leads_one b z'.label.name z.label.name j' j) in
         e ∙ (λ i. append (joins_one None Operations _ own own' x x' i) (joins_one (Some z.label.name) Operations z.operations others others' y (subst (λ q. Joins d start r (Some q.label.name) Operations q.operations others') same y') i)) ∙ sym e'
 
-  pub cut_unique : (start : Place N) (t x y : Root N S) → IsCut d start t x → IsCut d start t y → x ≡ y
+  pub cut_unique : (start : StartingRegions N) (t x y : Root N S) → IsCut d start t x → IsCut d start t y → x ≡ y
   cut_unique start t x y a b =
       let same : a.gone ≡ b.gone = λ i z. true_both (a.gone z) (b.gone z) (λ e. b.all z (a.there z e)) (λ e. a.all z (b.there z e)) i in
       a.is ∙ ap (λ g. record { head = t.head; regions = keep g t.regions }) same ∙ sym b.is
 
-  pub joined_unique : (start : Place N) (t x y : Root N S) →
+  pub joined_unique : (start : StartingRegions N) (t x y : Root N S) →
       IsOrderly t → IsJoined d start t x → IsJoined d start t y → x ≡ y
   joined_unique start t x y o a b =
       let names : a.names ≡ b.names =
@@ -142,7 +142,7 @@ module _ {N : Names} {S : Contents} {A : Type 0} (d : Dialect S A) where
       a.is ∙ (λ i. record { head = use_head (names i) t.head; regions = use_instead (names i) (trees i) }) ∙ sym b.is
 
   -- of a tree that is orderly once it is cut
-  pub simplify_unique : (w : Around N A) (t x y : Root N S) → ((u : Root N S) → IsCut d (all_of t) (decided d w t) u → IsOrderly u) → IsSimplify d w t x → IsSimplify d w t y → x ≡ y
+  pub simplify_unique : (w : TreeSurroundings N A) (t x y : Root N S) → ((u : Root N S) → IsCut d (all_of t) (decided d w t) u → IsOrderly u) → IsSimplify d w t x → IsSimplify d w t y → x ≡ y
   simplify_unique w t x y o a b =
       let same = cut_unique (all_of t) (decided d w t) b.cut a.cut b.is_cut a.is_cut in
       joined_unique (all_of t) a.cut x y (o a.cut a.is_cut) a.is_joined

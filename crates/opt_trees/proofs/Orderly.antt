@@ -4,10 +4,10 @@ use Rattle.std.specs.Prelude.{map, slice_get, if◌then◌else◌, ◌&&◌}
 use Rattle.ir_trees.specs.Names.{Names, Contents}
 use Rattle.ir_trees.specs.Renames.{Maps, rename_root, names_of}
 use Rattle.ir_trees.specs.Trees.{Head, Sort, Operations, Regions, Tree, end, operation, block, region, Root}
-use Rattle.opt_trees.specs.Occurrences.{Has, cons_if, Occurrence, BlockOccurrence, Site, Spot, Inside, inner, next_block, next_region, occurrences_in, block_occurrences_in, occurrences_of, block_occurrences_of, at_root, rename_occurrence, rename_block_occurrence, Renaming, maps, OperationsApart}
+use Rattle.opt_trees.specs.Occurrences.{Has, cons_if, Occurrence, BlockOccurrence, OperationSite, Spot, Inside, inner, next_block, next_region, occurrences_in, block_occurrences_in, occurrences_of, block_occurrences_of, at_root, rename_occurrence, rename_block_occurrence, Renaming, maps, OperationsApart}
 use Rattle.opt_trees.specs.Dialect.{Dialect}
-use Rattle.opt_trees.specs.Dce.{Around}
-use Rattle.opt_trees.specs.Simplify.{Place, is_bare, is_empty, along_edge, decide_head, decide, decided, entry, keep, EndsIn, BranchesLast, IsCut, IsOrderly, IsLocal}
+use Rattle.opt_trees.specs.Dce.{TreeSurroundings}
+use Rattle.opt_trees.specs.Simplify.{StartingRegions, is_bare, is_empty, along_edge, decide_head, decide, decided, entry, keep, EndsIn, BranchesLast, IsCut, IsOrderly, IsLocal}
 use Rattle.opt_trees.proofs.Lists.{none_some, some_same, map-append, has-from_map, Preimage, names-map, at-map, from_some, apart}
 use Rattle.opt_trees.proofs.Trees.{operations_renamed, blocks_renamed}
 use Rattle.opt_trees.proofs.NoneDead.{has-append, has-left, has-right, true_false}
@@ -116,7 +116,7 @@ module _ {N : Names} {S : Contents} {A : Type 0} (d : Dialect S A) (alone : N.va
   decide_block x = record { spot = x.spot; label = x.label; operations = decide d alone x.operations }
 
   -- what holds regions isn't decided
-  holder_same : (h : Head N S) (rs : Tree N S Regions) (e : Site N S) → occurrences_in (decide d alone rs) (inner (decide_head d alone h rs) e) ≡ occurrences_in (decide d alone rs) (inner h e)
+  holder_same : (h : Head N S) (rs : Tree N S Regions) (e : OperationSite N S) → occurrences_in (decide d alone rs) (inner (decide_head d alone h rs) e) ≡ occurrences_in (decide d alone rs) (inner h e)
   holder_same h end e = refl
   holder_same h (region bs rest) e = ap (λ b. occurrences_in (decide d alone (region bs rest)) (inner (if b && not (d.is_plain h.content) then along_edge d h (d.edge h.content (map alone h.operands)) d.plain else h) e)) (not_bare (d.is_branch h.content) (is_empty h.results))
     where
@@ -125,7 +125,7 @@ module _ {N : Names} {S : Contents} {A : Type 0} (d : Dialect S A) (alone : N.va
       not_bare true false = refl
       not_bare false b = refl
 
-  holder_blocks : (h : Head N S) (rs : Tree N S Regions) (e : Site N S) → block_occurrences_in (decide d alone rs) (inner (decide_head d alone h rs) e) ≡ block_occurrences_in (decide d alone rs) (inner h e)
+  holder_blocks : (h : Head N S) (rs : Tree N S Regions) (e : OperationSite N S) → block_occurrences_in (decide d alone rs) (inner (decide_head d alone h rs) e) ≡ block_occurrences_in (decide d alone rs) (inner h e)
   holder_blocks h end e = refl
   holder_blocks h (region bs rest) e = ap (λ b. block_occurrences_in (decide d alone (region bs rest)) (inner (if b && not (d.is_plain h.content) then along_edge d h (d.edge h.content (map alone h.operands)) d.plain else h) e)) (not_bare (d.is_branch h.content) (is_empty h.results))
     where
@@ -264,7 +264,7 @@ module _ {N : Names} {S : Contents} (g : N.block → Bool) where
 
 -- the first two phases
 
-module _ {N : Names} {S : Contents} {A : Type 0} (d : Dialect S A) (w : Around N A) (t : Root N S) where
+module _ {N : Names} {S : Contents} {A : Type 0} (d : Dialect S A) (w : TreeSurroundings N A) (t : Root N S) where
   decided_made : MadeOf (decide_occurrence d w.alone) (decide_block d w.alone) t (decided d w t)
   decided_made = record {
     operations = λ p h. has-from_map (decide_occurrence d w.alone) p (occurrences_of t) (subst (Has p) (decided_operations d w.alone t.regions (at_root t)) h);
@@ -286,7 +286,7 @@ module _ {N : Names} {S : Contents} {A : Type 0} (d : Dialect S A) (w : Around N
   pub decided_last : BranchesLast t → BranchesLast (decided d w t)
   decided_last = last_made (decide_occurrence d w.alone) (decide_block d w.alone) (decide_turns d w.alone) decide_turns_blocks t (decided d w t) decided_made (λ o x e. decide_last d w.alone x.operations o.head o.regions e)
 
-module _ {N : Names} {S : Contents} {A : Type 0} (d : Dialect S A) (start : Place N)
+module _ {N : Names} {S : Contents} {A : Type 0} (d : Dialect S A) (start : StartingRegions N)
     (t u : Root N S) (cut : IsCut d start t u) where
   entries_kept : EntriesKept cut.gone (block_occurrences_of t)
   entries_kept y h f = not_true (cut.gone y.label.name) (λ e. (cut.there y.label.name e).unreached (entry y h f))
@@ -306,7 +306,7 @@ module _ {N : Names} {S : Contents} {A : Type 0} (d : Dialect S A) (start : Plac
   pub cut_last : BranchesLast t → BranchesLast u
   cut_last = last_made (keep_occurrence cut.gone) (keep_block cut.gone) (keep_turns cut.gone) (keep_turns_blocks cut.gone) t u cut_made (λ o x e. keep_last cut.gone x.operations o.head o.regions e)
 
-module _ {N : Names} {S : Contents} {A : Type 0} (d : Dialect S A) (start : Place N) (w : Around N A) (t u : Root N S) (cut : IsCut d start (decided d w t) u) where
+module _ {N : Names} {S : Contents} {A : Type 0} (d : Dialect S A) (start : StartingRegions N) (w : TreeSurroundings N A) (t u : Root N S) (cut : IsCut d start (decided d w t) u) where
   pub phases_orderly : IsOrderly t → IsOrderly u
   phases_orderly o = cut_orderly d start (decided d w t) u cut (decided_orderly d w t o)
 

@@ -8,7 +8,7 @@ use Rattle.opt_trees.specs.Occurrences.{Injection, Renaming, maps}
 use Rattle.opt_trees.specs.Dialect.{Dialect}
 use Rattle.opt_trees.specs.Sccp.{Name, Old, New, fresh, rename_name, IsSccp}
 use Rattle.opt_trees.proofs.Lists.{none_some, some_same}
-use Rattle.opt_trees.specs.Dce.{Around, Agree, IsDce}
+use Rattle.opt_trees.specs.Dce.{TreeSurroundings, Agree, IsDce}
 use Rattle.opt_trees.specs.Simplify.{all_of, IsSimplify, IsOrderly}
 use Rattle.opt_trees.proofs.SccpRenamed.{sccp_unique, sccp_renamed}
 use Rattle.opt_trees.proofs.DceRenamed.{dce_renamed}
@@ -48,7 +48,7 @@ module _ {N M P : Names} {S : Contents} {A : Type 0} (d : Dialect S A) (f : Rena
   pub sccp_same : (a : Root (fresh N) S) (b : Root (fresh M) S) → IsSccp d t a → IsSccp d u b → rename_root (maps (fresh_renaming f)) a ≡ rename_root (maps (fresh_renaming g)) b
   sccp_same a b x y = sccp_unique d (rename_root (maps g) u) (rename_root (maps (fresh_renaming f)) a) (rename_root (maps (fresh_renaming g)) b) (subst (λ z. IsSccp d z (rename_root (maps (fresh_renaming f)) a)) same (sccp_renamed d f t a x)) (sccp_renamed d g u b y)
 
-  module _ (v : Around N A) (w : Around M A) (z : Around P A) (e : Agree f v z) (h : Agree g w z) where
+  module _ (v : TreeSurroundings N A) (w : TreeSurroundings M A) (z : TreeSurroundings P A) (e : Agree f v z) (h : Agree g w z) where
     pub dce_same : (a : Root N S) (b : Root M S) → IsDce d v t a → IsDce d w u b → rename_root (maps f) a ≡ rename_root (maps g) b
     dce_same a b x y = dce_unique d z (rename_root (maps g) u) (rename_root (maps f) a) (rename_root (maps g) b) (subst (λ q. IsDce d z q (rename_root (maps f) a)) same (dce_renamed d f t v z e a x)) (dce_renamed d g u w z h b y)
 

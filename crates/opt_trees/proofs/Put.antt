@@ -4,7 +4,7 @@ use Rattle.std.specs.Prelude.{map}
 use Rattle.ir_trees.specs.Names.{Names, Contents}
 use Rattle.ir_trees.specs.Renames.{rename_defined, names_of}
 use Rattle.ir_trees.specs.Trees.{Defined, Head, Label, Sort, Operations, Blocks, Regions, Tree, end, operation, block, region}
-use Rattle.opt_trees.specs.Occurrences.{Has, Occurrence, BlockOccurrence, Site, Inside, inner, next_block, next_region, occurrences_in, block_occurrences_in, defined_in}
+use Rattle.opt_trees.specs.Occurrences.{Has, Occurrence, BlockOccurrence, OperationSite, Inside, inner, next_block, next_region, occurrences_in, block_occurrences_in, defined_in}
 use Rattle.opt_trees.specs.Dialect.{Dialect}
 use Rattle.opt_trees.specs.Sccp.{Name, Old, New, fresh, constant_head, constant_before, put_one, put_results, put_arguments, old_head, old_label, put}
 use Rattle.opt_trees.proofs.Lists.{names-map, has-map, none_some, some_same}
@@ -61,7 +61,7 @@ module _ {N : Names} {S : Contents} {A : Type 0} (d : Dialect S A) (made : N.val
 
   -- one constant, or none, before operations
 
-  one_was : (v : N.value) (q : Option A) → made v ≡ q → (rest : Tree (fresh N) S Operations) (e : Site (fresh N) S) (p : Occurrence (fresh N) S) → Has p (occurrences_in (put_one {N = N} d v q rest) e) → Constant p ⊎ Has p (occurrences_in rest e)
+  one_was : (v : N.value) (q : Option A) → made v ≡ q → (rest : Tree (fresh N) S Operations) (e : OperationSite (fresh N) S) (p : Occurrence (fresh N) S) → Has p (occurrences_in (put_one {N = N} d v q rest) e) → Constant p ⊎ Has p (occurrences_in rest e)
   one_was v None m rest e p h = inr h
   one_was v (Some a) m rest e p h = by_case (d.constant a) refl h
     where
@@ -69,7 +69,7 @@ module _ {N : Names} {S : Contents} {A : Type 0} (d : Dialect S A) (made : N.val
       by_case None k h = inr h
       by_case (Some c) k h = ⊎_elim (λ z. inl (v, a, c, record { gets = m; made_by = k; block = refl; head = ap (λ y. y.head) z; regions = ap (λ y. y.regions) z })) (λ z. inr z) h
 
-  one_is : (v : N.value) (q : Option A) (rest : Tree (fresh N) S Operations) (e : Site (fresh N) S) (p : Occurrence (fresh N) S) → Has p (occurrences_in rest e) → Has p (occurrences_in (put_one {N = N} d v q rest) e)
+  one_is : (v : N.value) (q : Option A) (rest : Tree (fresh N) S Operations) (e : OperationSite (fresh N) S) (p : Occurrence (fresh N) S) → Has p (occurrences_in rest e) → Has p (occurrences_in (put_one {N = N} d v q rest) e)
   one_is v None rest e p h = h
   one_is v (Some a) rest e p h = by_case (d.constant a)
     where
@@ -77,14 +77,14 @@ module _ {N : Names} {S : Contents} {A : Type 0} (d : Dialect S A) (made : N.val
       by_case None = h
       by_case (Some c) = inr h
 
-  one_there : (v : N.value) (q : Option A) (a : A) (c : S.of_operation) → made v ≡ Some a → q ≡ Some a → d.constant a ≡ Some c → (rest : Tree (fresh N) S Operations) (e : Site (fresh N) S) → IsThere (occurrences_in (put_one {N = N} d v q rest) e) v a c e.label.name
+  one_there : (v : N.value) (q : Option A) (a : A) (c : S.of_operation) → made v ≡ Some a → q ≡ Some a → d.constant a ≡ Some c → (rest : Tree (fresh N) S Operations) (e : OperationSite (fresh N) S) → IsThere (occurrences_in (put_one {N = N} d v q rest) e) v a c e.label.name
   one_there v None a c m n k rest e = absurd (none_some a n)
   one_there v (Some b) a c m n k rest e =
       subst (λ y. IsThere (occurrences_in (put_one {N = N} d v (Some y) rest) e) v a c e.label.name) (sym (some_same b a n))
       (subst (λ y. IsThere (occurrences_in (constant_before {N = N} d v a y rest) e) v a c e.label.name) (sym k)
       (record { it = record { site = e; head = constant_head {N = N} d v a c; regions = end }; stands = inl refl; is = record { gets = m; made_by = k; block = refl; head = refl; regions = refl } }))
 
-  one_blocks : (v : N.value) (q : Option A) (rest : Tree (fresh N) S Operations) (e : Site (fresh N) S) → block_occurrences_in (put_one {N = N} d v q rest) e ≡ block_occurrences_in rest e
+  one_blocks : (v : N.value) (q : Option A) (rest : Tree (fresh N) S Operations) (e : OperationSite (fresh N) S) → block_occurrences_in (put_one {N = N} d v q rest) e ≡ block_occurrences_in rest e
   one_blocks v None rest e = refl
   one_blocks v (Some a) rest e = by_case (d.constant a)
     where
@@ -113,21 +113,21 @@ module _ {N : Names} {S : Contents} {A : Type 0} (d : Dialect S A) (made : N.val
 
   -- those of results
 
-  results_was : (vs : List (Defined N.value S.of_value)) (rest : Tree (fresh N) S Operations) (e : Site (fresh N) S) (p : Occurrence (fresh N) S) → Has p (occurrences_in (put_results {N = N} d made vs rest) e) → Constant p ⊎ Has p (occurrences_in rest e)
+  results_was : (vs : List (Defined N.value S.of_value)) (rest : Tree (fresh N) S Operations) (e : OperationSite (fresh N) S) (p : Occurrence (fresh N) S) → Has p (occurrences_in (put_results {N = N} d made vs rest) e) → Constant p ⊎ Has p (occurrences_in rest e)
   results_was [] rest e p h = inr h
   results_was (v ∷ vs) rest e p h = ⊎_elim (λ z. inl z) (λ z. results_was vs rest e p z) (one_was v.name (made v.name) refl (put_results {N = N} d made vs rest) e p h)
 
-  results_is : (vs : List (Defined N.value S.of_value)) (rest : Tree (fresh N) S Operations) (e : Site (fresh N) S) (p : Occurrence (fresh N) S) → Has p (occurrences_in rest e) → Has p (occurrences_in (put_results {N = N} d made vs rest) e)
+  results_is : (vs : List (Defined N.value S.of_value)) (rest : Tree (fresh N) S Operations) (e : OperationSite (fresh N) S) (p : Occurrence (fresh N) S) → Has p (occurrences_in rest e) → Has p (occurrences_in (put_results {N = N} d made vs rest) e)
   results_is [] rest e p h = h
   results_is (v ∷ vs) rest e p h = one_is v.name (made v.name) (put_results {N = N} d made vs rest) e p (results_is vs rest e p h)
 
-  results_there : (v : N.value) (a : A) (c : S.of_operation) → made v ≡ Some a → d.constant a ≡ Some c → (vs : List (Defined N.value S.of_value)) (rest : Tree (fresh N) S Operations) (e : Site (fresh N) S) → Has v (names_of vs) → IsThere (occurrences_in (put_results {N = N} d made vs rest) e) v a c e.label.name
+  results_there : (v : N.value) (a : A) (c : S.of_operation) → made v ≡ Some a → d.constant a ≡ Some c → (vs : List (Defined N.value S.of_value)) (rest : Tree (fresh N) S Operations) (e : OperationSite (fresh N) S) → Has v (names_of vs) → IsThere (occurrences_in (put_results {N = N} d made vs rest) e) v a c e.label.name
   results_there v a c m k [] rest e h = absurd h
   results_there v a c m k (u ∷ vs) rest e h = ⊎_elim
       (λ z. subst (λ y. IsThere (occurrences_in (put_one {N = N} d y (made y) (put_results {N = N} d made vs rest)) e) v a c e.label.name) z (one_there v (made v) a c m m k (put_results {N = N} d made vs rest) e))
       (λ z. let p = results_there v a c m k vs rest e z in record { it = p.it; stands = one_is u.name (made u.name) (put_results {N = N} d made vs rest) e p.it p.stands; is = p.is }) h
 
-  results_blocks : (vs : List (Defined N.value S.of_value)) (rest : Tree (fresh N) S Operations) (e : Site (fresh N) S) → block_occurrences_in (put_results {N = N} d made vs rest) e ≡ block_occurrences_in rest e
+  results_blocks : (vs : List (Defined N.value S.of_value)) (rest : Tree (fresh N) S Operations) (e : OperationSite (fresh N) S) → block_occurrences_in (put_results {N = N} d made vs rest) e ≡ block_occurrences_in rest e
   results_blocks [] rest e = refl
   results_blocks (v ∷ vs) rest e = one_blocks v.name (made v.name) (put_results {N = N} d made vs rest) e ∙ results_blocks vs rest e
 
@@ -141,22 +141,22 @@ module _ {N : Names} {S : Contents} {A : Type 0} (d : Dialect S A) (made : N.val
 
   -- those of arguments
 
-  arguments_was : (vs : List (Defined N.value S.of_value)) (rest : Tree (fresh N) S Operations) (e : Site (fresh N) S) (p : Occurrence (fresh N) S) → Has p (occurrences_in (put_arguments {N = N} d made vs rest) e) → Constant p ⊎ Has p (occurrences_in rest e)
+  arguments_was : (vs : List (Defined N.value S.of_value)) (rest : Tree (fresh N) S Operations) (e : OperationSite (fresh N) S) (p : Occurrence (fresh N) S) → Has p (occurrences_in (put_arguments {N = N} d made vs rest) e) → Constant p ⊎ Has p (occurrences_in rest e)
   arguments_was [] rest e p h = inr h
   arguments_was (v ∷ vs) rest e p h = ⊎_elim (λ z. inl z) (λ z. one_was v.name (made v.name) refl rest e p z) (arguments_was vs (put_one {N = N} d v.name (made v.name) rest) e p h)
 
-  arguments_is : (vs : List (Defined N.value S.of_value)) (rest : Tree (fresh N) S Operations) (e : Site (fresh N) S) (p : Occurrence (fresh N) S) → Has p (occurrences_in rest e) → Has p (occurrences_in (put_arguments {N = N} d made vs rest) e)
+  arguments_is : (vs : List (Defined N.value S.of_value)) (rest : Tree (fresh N) S Operations) (e : OperationSite (fresh N) S) (p : Occurrence (fresh N) S) → Has p (occurrences_in rest e) → Has p (occurrences_in (put_arguments {N = N} d made vs rest) e)
   arguments_is [] rest e p h = h
   arguments_is (v ∷ vs) rest e p h = arguments_is vs (put_one {N = N} d v.name (made v.name) rest) e p (one_is v.name (made v.name) rest e p h)
 
-  arguments_there : (v : N.value) (a : A) (c : S.of_operation) → made v ≡ Some a → d.constant a ≡ Some c → (vs : List (Defined N.value S.of_value)) (rest : Tree (fresh N) S Operations) (e : Site (fresh N) S) → Has v (names_of vs) → IsThere (occurrences_in (put_arguments {N = N} d made vs rest) e) v a c e.label.name
+  arguments_there : (v : N.value) (a : A) (c : S.of_operation) → made v ≡ Some a → d.constant a ≡ Some c → (vs : List (Defined N.value S.of_value)) (rest : Tree (fresh N) S Operations) (e : OperationSite (fresh N) S) → Has v (names_of vs) → IsThere (occurrences_in (put_arguments {N = N} d made vs rest) e) v a c e.label.name
   arguments_there v a c m k [] rest e h = absurd h
   arguments_there v a c m k (u ∷ vs) rest e h = ⊎_elim
       (λ z. let p = subst (λ y. IsThere (occurrences_in (put_one {N = N} d y (made y) rest) e) v a c e.label.name) z (one_there v (made v) a c m m k rest e) in
       record { it = p.it; stands = arguments_is vs (put_one {N = N} d u.name (made u.name) rest) e p.it p.stands; is = p.is })
       (λ z. arguments_there v a c m k vs (put_one {N = N} d u.name (made u.name) rest) e z) h
 
-  arguments_blocks : (vs : List (Defined N.value S.of_value)) (rest : Tree (fresh N) S Operations) (e : Site (fresh N) S) → block_occurrences_in (put_arguments {N = N} d made vs rest) e ≡ block_occurrences_in rest e
+  arguments_blocks : (vs : List (Defined N.value S.of_value)) (rest : Tree (fresh N) S Operations) (e : OperationSite (fresh N) S) → block_occurrences_in (put_arguments {N = N} d made vs rest) e ≡ block_occurrences_in rest e
   arguments_blocks [] rest e = refl
   arguments_blocks (v ∷ vs) rest e = arguments_blocks vs (put_one {N = N} d v.name (made v.name) rest) e ∙ one_blocks v.name (made v.name) rest e
 
@@ -186,8 +186,8 @@ module _ {N : Names} {S : Contents} {A : Type 0} (d : Dialect S A) (made : N.val
       (has-append p (occurrences_in (put {N = N} d made rs) (inner (old_head {N = N} made k) e)) (occurrences_in (put {N = N} d made rest) e) y)) z)
       (results_was k.results (operation (old_head {N = N} made k) (put {N = N} d made rs) (put {N = N} d made rest)) e p h)
   operation_was (block l ops rest) c e n p h =
-      let b : Site N S = record { spot = c; label = l } in
-      let b' : Site (fresh N) S = record { spot = e; label = old_label {N = N} l } in
+      let b : OperationSite N S = record { spot = c; label = l } in
+      let b' : OperationSite (fresh N) S = record { spot = e; label = old_label {N = N} l } in
       ⊎_elim
       (λ z. ⊎_elim
       (λ y. inl y)
@@ -201,13 +201,13 @@ module _ {N : Names} {S : Contents} {A : Type 0} (d : Dialect S A) (made : N.val
       (has-append p (occurrences_in (put {N = N} d made bs) e) (occurrences_in (put {N = N} d made rest) (next_region e)) h)
 
   -- where the lists of a tree after it lie
-  in_operation : (k : Head N S) (rs : Tree N S Regions) (rest : Tree N S Operations) (e : Site (fresh N) S) (p : Occurrence (fresh N) S) → Has p (occurrences_in (operation (old_head {N = N} made k) (put {N = N} d made rs) (put {N = N} d made rest)) e) → Has p (occurrences_in (put {N = N} d made (operation k rs rest)) e)
+  in_operation : (k : Head N S) (rs : Tree N S Regions) (rest : Tree N S Operations) (e : OperationSite (fresh N) S) (p : Occurrence (fresh N) S) → Has p (occurrences_in (operation (old_head {N = N} made k) (put {N = N} d made rs) (put {N = N} d made rest)) e) → Has p (occurrences_in (put {N = N} d made (operation k rs rest)) e)
   in_operation k rs rest e p h = results_is k.results (operation (old_head {N = N} made k) (put {N = N} d made rs) (put {N = N} d made rest)) e p h
 
-  in_regions : (k : Head N S) (rs : Tree N S Regions) (rest : Tree N S Operations) (e : Site (fresh N) S) (p : Occurrence (fresh N) S) → Has p (occurrences_in (put {N = N} d made rs) (inner (old_head {N = N} made k) e)) → Has p (occurrences_in (put {N = N} d made (operation k rs rest)) e)
+  in_regions : (k : Head N S) (rs : Tree N S Regions) (rest : Tree N S Operations) (e : OperationSite (fresh N) S) (p : Occurrence (fresh N) S) → Has p (occurrences_in (put {N = N} d made rs) (inner (old_head {N = N} made k) e)) → Has p (occurrences_in (put {N = N} d made (operation k rs rest)) e)
   in_regions k rs rest e p h = in_operation k rs rest e p (inr (has-left p (occurrences_in (put {N = N} d made rs) (inner (old_head {N = N} made k) e)) (occurrences_in (put {N = N} d made rest) e) h))
 
-  in_rest : (k : Head N S) (rs : Tree N S Regions) (rest : Tree N S Operations) (e : Site (fresh N) S) (p : Occurrence (fresh N) S) → Has p (occurrences_in (put {N = N} d made rest) e) → Has p (occurrences_in (put {N = N} d made (operation k rs rest)) e)
+  in_rest : (k : Head N S) (rs : Tree N S Regions) (rest : Tree N S Operations) (e : OperationSite (fresh N) S) (p : Occurrence (fresh N) S) → Has p (occurrences_in (put {N = N} d made rest) e) → Has p (occurrences_in (put {N = N} d made (operation k rs rest)) e)
   in_rest k rs rest e p h = in_operation k rs rest e p (inr (has-right p (occurrences_in (put {N = N} d made rs) (inner (old_head {N = N} made k) e)) (occurrences_in (put {N = N} d made rest) e) h))
 
   in_block : (l : Label N S) (ops : Tree N S Operations) (rest : Tree N S Blocks) (e : Inside (fresh N) S Blocks) (p : Occurrence (fresh N) S) → Has p (occurrences_in (put_arguments {N = N} d made l.arguments (put {N = N} d made ops)) (record { spot = e; label = old_label {N = N} l })) → Has p (occurrences_in (put {N = N} d made (block l ops rest)) e)
@@ -232,8 +232,8 @@ module _ {N : Names} {S : Contents} {A : Type 0} (d : Dialect S A) (made : N.val
       (λ y. is_in (in_rest k rs rest e) (operation_is rest c e n o y))
       (has-append o (occurrences_in rs (inner k c)) (occurrences_in rest c) z)) h
   operation_is (block l ops rest) c e n o h =
-      let b : Site N S = record { spot = c; label = l } in
-      let b' : Site (fresh N) S = record { spot = e; label = old_label {N = N} l } in
+      let b : OperationSite N S = record { spot = c; label = l } in
+      let b' : OperationSite (fresh N) S = record { spot = e; label = old_label {N = N} l } in
       ⊎_elim
       (λ z. is_in (λ p w. in_block l ops rest e p (arguments_is l.arguments (put {N = N} d made ops) b' p w)) (operation_is ops b b' refl o z))
       (λ z. is_in (in_blocks l ops rest e) (operation_is rest (next_block c) (next_block e) tt o z))
@@ -256,8 +256,8 @@ module _ {N : Names} {S : Contents} {A : Type 0} (d : Dialect S A) (made : N.val
         (λ y. there_in (in_rest k rs rest e) (result_there rest c e n o y r))
         (has-append o (occurrences_in rs (inner k c)) (occurrences_in rest c) z)) h
     result_there (block l ops rest) c e n o h r =
-        let b : Site N S = record { spot = c; label = l } in
-        let b' : Site (fresh N) S = record { spot = e; label = old_label {N = N} l } in
+        let b : OperationSite N S = record { spot = c; label = l } in
+        let b' : OperationSite (fresh N) S = record { spot = e; label = old_label {N = N} l } in
         ⊎_elim
         (λ z. there_in (λ p w. in_block l ops rest e p (arguments_is l.arguments (put {N = N} d made ops) b' p w)) (result_there ops b b' refl o z r))
         (λ z. there_in (in_blocks l ops rest e) (result_there rest (next_block c) (next_block e) tt o z r))
@@ -275,8 +275,8 @@ module _ {N : Names} {S : Contents} {A : Type 0} (d : Dialect S A) (made : N.val
         (λ y. there_in (in_rest k rs rest e) (argument_there rest c e x y r))
         (has-append x (block_occurrences_in rs (inner k c)) (block_occurrences_in rest c) h)
     argument_there (block l ops rest) c e x h r =
-        let b : Site N S = record { spot = c; label = l } in
-        let b' : Site (fresh N) S = record { spot = e; label = old_label {N = N} l } in
+        let b : OperationSite N S = record { spot = c; label = l } in
+        let b' : OperationSite (fresh N) S = record { spot = e; label = old_label {N = N} l } in
         ⊎_elim
         (λ z. subst (IsThere (occurrences_in (put {N = N} d made (block l ops rest)) e) v a q) (ap (λ y. y.label.name) (sym z)) (there_in (in_block l ops rest e) (arguments_there v a q m by l.arguments (put {N = N} d made ops) b' (subst (λ y. Has v (names_of y.label.arguments)) z r))))
         (λ z. ⊎_elim
@@ -299,7 +299,7 @@ module _ {N : Names} {S : Contents} {A : Type 0} (d : Dialect S A) (made : N.val
   abbrev BlocksAfter : {s : Sort} → Tree N S s → Inside (fresh N) S s → List (BlockOccurrence (fresh N) S)
   BlocksAfter t e = block_occurrences_in (put {N = N} d made t) e
 
-  of_operation : (k : Head N S) (rs : Tree N S Regions) (rest : Tree N S Operations) (e : Site (fresh N) S) → BlocksAfter (operation k rs rest) e ≡ BlocksAfter rs (inner (old_head {N = N} made k) e) ++ BlocksAfter rest e
+  of_operation : (k : Head N S) (rs : Tree N S Regions) (rest : Tree N S Operations) (e : OperationSite (fresh N) S) → BlocksAfter (operation k rs rest) e ≡ BlocksAfter rs (inner (old_head {N = N} made k) e) ++ BlocksAfter rest e
   of_operation k rs rest e = results_blocks k.results (operation (old_head {N = N} made k) (put {N = N} d made rs) (put {N = N} d made rest)) e
 
   of_block : (l : Label N S) (ops : Tree N S Operations) (rest : Tree N S Blocks) (e : Inside (fresh N) S Blocks) → BlocksAfter (block l ops rest) e ≡ record { spot = e; label = old_label {N = N} l; operations = put_arguments {N = N} d made l.arguments (put {N = N} d made ops) } ∷ (BlocksAfter ops (record { spot = e; label = old_label {N = N} l }) ++ BlocksAfter rest (next_block e))
@@ -312,8 +312,8 @@ module _ {N : Names} {S : Contents} {A : Type 0} (d : Dialect S A) (made : N.val
       (λ z. let w = block_was rest c e y z in (w.0, has-right w.0 (block_occurrences_in rs (inner k c)) (block_occurrences_in rest c) w.1, w.2))
       (has-append y (BlocksAfter rs (inner (old_head {N = N} made k) e)) (BlocksAfter rest e) (subst (Has y) (of_operation k rs rest e) h))
   block_was (block l ops rest) c e y h =
-      let b : Site N S = record { spot = c; label = l } in
-      let b' : Site (fresh N) S = record { spot = e; label = old_label {N = N} l } in
+      let b : OperationSite N S = record { spot = c; label = l } in
+      let b' : OperationSite (fresh N) S = record { spot = e; label = old_label {N = N} l } in
       ⊎_elim
       (λ z. (record { spot = c; label = l; operations = ops }, inl refl, ap (λ q. q.label) z))
       (λ z. ⊎_elim
@@ -332,8 +332,8 @@ module _ {N : Names} {S : Contents} {A : Type 0} (d : Dialect S A) (made : N.val
       (λ z. let w = block_is rest c e x z in (w.0, subst (Has w.0) (sym (of_operation k rs rest e)) (has-right w.0 (BlocksAfter rs (inner (old_head {N = N} made k) e)) (BlocksAfter rest e) w.1), w.2))
       (has-append x (block_occurrences_in rs (inner k c)) (block_occurrences_in rest c) h)
   block_is (block l ops rest) c e x h =
-      let b : Site N S = record { spot = c; label = l } in
-      let b' : Site (fresh N) S = record { spot = e; label = old_label {N = N} l } in
+      let b : OperationSite N S = record { spot = c; label = l } in
+      let b' : OperationSite (fresh N) S = record { spot = e; label = old_label {N = N} l } in
       let own : BlockOccurrence (fresh N) S = record { spot = e; label = old_label {N = N} l; operations = put_arguments {N = N} d made l.arguments (put {N = N} d made ops) } in
       ⊎_elim
       (λ z. (own, inl refl, ap (λ q. old_label {N = N} q.label) (sym z)))

@@ -3,9 +3,9 @@ use Rattle.std.proofs.Common.{◌≡◌, ◌⊎◌, ⊎_elim, inl, inr, ℕ, suc
 use Rattle.std.specs.Prelude.{if◌then◌else◌}
 use Rattle.ir_trees.specs.Names.{Names, Contents}
 use Rattle.ir_trees.specs.Trees.{Head, Sort, Operations, Blocks, Regions, Tree, end, operation, block, region, Root}
-use Rattle.opt_trees.specs.Occurrences.{Has, Occurrence, BlockOccurrence, Site, Spot, Inside, inner, next_block, next_region, occurrences_in, block_occurrences_in, block_occurrences_of, at_root}
+use Rattle.opt_trees.specs.Occurrences.{Has, Occurrence, BlockOccurrence, OperationSite, Spot, Inside, inner, next_block, next_region, occurrences_in, block_occurrences_in, block_occurrences_of, at_root}
 use Rattle.opt_trees.specs.Dialect.{Dialect}
-use Rattle.opt_trees.specs.Simplify.{Place, IsReached, entry, further, IsEntered, IsVisited, of_place, of_inner, IsVisitedSsa, keep, IsCut, IsLocal}
+use Rattle.opt_trees.specs.Simplify.{StartingRegions, IsReached, entry, further, IsEntered, IsVisited, of_place, of_inner, IsVisitedSsa, keep, IsCut, IsLocal}
 use Rattle.opt_trees.proofs.NoneDead.{has-append, has-left, has-right, true_false}
 
 abbrev pub blocks_round : (N : Names) (S : Contents) (s : Sort) → Inside N S s → List N.block
@@ -35,7 +35,7 @@ module _ {N : Names} {S : Contents} (g : N.block → Bool) where
   spot_of Blocks c = c
   spot_of Regions c = c
 
-  like_inner : (h : Head N S) (c e : Site N S) → Like (inner h c) (inner h e)
+  like_inner : (h : Head N S) (c e : OperationSite N S) → Like (inner h c) (inner h e)
   like_inner h c e = record { owner = refl; region = refl; is_first = λ x. x; was_first = λ x. x }
 
   like_next : (c e : Spot N S) → Like c e → Like (next_block c) (next_block e)
@@ -258,7 +258,7 @@ module _ {N : Names} {S : Contents} where
       (λ y. inr (⊎_elim (λ q. absurd q) (λ q. held_in (λ z w. has-right z (block_occurrences_in bs c) (block_occurrences_in rest (next_region c)) w) q) (holder rest (next_region c) o y)))
       (has-append o (occurrences_in bs c) (occurrences_in rest (next_region c)) h)
 
-module _ {N : Names} {S : Contents} {A : Type 0} (d : Dialect S A) (start : Place N) (t after : Root N S) (cut : IsCut d start t after) (local : IsLocal t) where
+module _ {N : Names} {S : Contents} {A : Type 0} (d : Dialect S A) (start : StartingRegions N) (t after : Root N S) (cut : IsCut d start t after) (local : IsLocal t) where
   abbrev g : N.block → Bool
   g = cut.gone
 

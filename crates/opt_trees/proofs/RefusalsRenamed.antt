@@ -8,7 +8,7 @@ use Rattle.opt_solvers.specs.Known.{asked}
 use Rattle.opt_trees.specs.Occurrences.{rename_occurrence, Renaming, maps}
 use Rattle.opt_trees.specs.Dialect.{Dialect}
 use Rattle.opt_trees.specs.Facts.{Facts, IsMostPrecise, IsLacking}
-use Rattle.opt_trees.specs.Dce.{Around, Agree}
+use Rattle.opt_trees.specs.Dce.{TreeSurroundings, Agree}
 use Rattle.opt_trees.specs.Simplify.{IsUsedBelow, LosesUse}
 use Rattle.opt_trees.proofs.Lists.{at-to, has-map}
 use Rattle.opt_trees.proofs.Best.{best_unique}
@@ -29,7 +29,7 @@ module _ {N M : Names} {S : Contents} {A : Type 0} (d : Dialect S A) (r : Renami
   pub lacking_renamed : (k : Facts N A) (l : Facts M A) → IsMostPrecise d t k → IsMostPrecise d (rename_root (maps r) t) l → IsLacking d t k → IsLacking d (rename_root (maps r) t) l
   lacking_renamed k l a b h = subst (IsLacking d (rename_root (maps r) t)) (best_unique d (rename_root (maps r) t) (pushed d r k) l (best_pushed d r t k a) b) (lacking_pushed k h)
 
-module _ {N M : Names} {S : Contents} {A : Type 0} (r : Renaming N M) (t after : Root N S) (w : Around N A) (w' : Around M A) (agree : Agree r w w') where
+module _ {N M : Names} {S : Contents} {A : Type 0} (r : Renaming N M) (t after : Root N S) (w : TreeSurroundings N A) (w' : TreeSurroundings M A) (agree : Agree r w w') where
   used_renamed : (v : N.value) → IsUsedBelow after v → IsUsedBelow (rename_root (maps r) after) (r.value.to v)
   used_renamed v h = record {
     user = rename_occurrence (maps r) h.user;

@@ -7,7 +7,7 @@ use Rattle.ir_trees.specs.Trees.{Defined, Head, Label, Sort, Operations, Tree, e
 use Rattle.opt_trees.specs.Occurrences.{Has, occurrences_of, block_occurrences_of, rename_occurrence, rename_block_occurrence, Renaming, maps}
 use Rattle.opt_trees.specs.Dialect.{Dialect}
 use Rattle.opt_trees.specs.Facts.{Facts}
-use Rattle.opt_trees.specs.Sccp.{Old, fresh, rename_name, fresh_maps, IsResult, IsArgument, Gets, IsMade, constant_before, put_one, put_results, put_arguments, used_as, old_head, old_label, put, put_root, IsSccp}
+use Rattle.opt_trees.specs.Sccp.{Old, fresh, rename_name, fresh_maps, IsResult, IsArgument, Gets, AreMadeConstants, constant_before, put_one, put_results, put_arguments, used_as, old_head, old_label, put, put_root, IsSccp}
 use Rattle.opt_trees.proofs.Lists.{map-map, names-map, has-map, has-from_map, option_both, none_some}
 use Rattle.opt_trees.proofs.Trees.{operations_renamed, blocks_renamed}
 use Rattle.opt_trees.proofs.Best.{best_unique}
@@ -15,7 +15,7 @@ use Rattle.opt_trees.proofs.FactsRenamed.{pushed, pulled_pushed, best_pushed}
 
 module _ {N : Names} {S : Contents} {A : Type 0} (d : Dialect S A) (t : Root N S) where
   -- which constants are made is decided
-  pub made_unique : (k l : Facts N A) (f g : N.value → Option A) → k ≡ l → IsMade d t k f → IsMade d t l g → f ≡ g
+  pub made_unique : (k l : Facts N A) (f g : N.value → Option A) → k ≡ l → AreMadeConstants d t k f → AreMadeConstants d t l g → f ≡ g
   made_unique k l f g e a b = λ i v. option_both (f v) (g v) (λ x h. b.all v x (subst (λ z. Gets d t z v x) e (a.gets v x h))) (λ x h. a.all v x (subst (λ z. Gets d t z v x) (sym e) (b.gets v x h))) i
 
   pub sccp_unique : (x y : Root (fresh N) S) → IsSccp d t x → IsSccp d t y → x ≡ y
@@ -146,13 +146,13 @@ module _ {N M : Names} {S : Contents} {A : Type 0} (d : Dialect S A) (r : Renami
           }),
         )
 
-    made_all : (made : N.value → Option A) → IsMade d t k made → (w : M.value) (a : A) → Gets d (rename_root m t) (pushed d r k) w a → made_pushed made w ≡ Some a
+    made_all : (made : N.value → Option A) → AreMadeConstants d t k made → (w : M.value) (a : A) → Gets d (rename_root m t) (pushed d r k) w a → made_pushed made w ≡ Some a
     made_all made e w a p =
         let q = ⊎_elim (result_pulled w) (argument_pulled w) p.place in
         ap (made_pushed made) (sym q.1) ∙ ap (option_of made) (r.value.there q.0)
         ∙ e.all q.0 a (record { known = sym (ap (λ f. f.of q.0) (pulled_pushed d r k)) ∙ ap (pushed d r k).of q.1 ∙ p.known; maker = p.maker; made_by = p.made_by; place = q.2 })
 
-    made_gets : (made : N.value → Option A) → IsMade d t k made → (w : M.value) (a : A) → made_pushed made w ≡ Some a → Gets d (rename_root m t) (pushed d r k) w a
+    made_gets : (made : N.value → Option A) → AreMadeConstants d t k made → (w : M.value) (a : A) → made_pushed made w ≡ Some a → Gets d (rename_root m t) (pushed d r k) w a
     made_gets made e w a h = by_case (r.value.back w) refl
       where
         by_case : (q : Option N.value) → r.value.back w ≡ q → Gets d (rename_root m t) (pushed d r k) w a

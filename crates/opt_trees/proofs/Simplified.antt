@@ -5,8 +5,8 @@ use Rattle.ir_trees.specs.Names.{Names, Contents}
 use Rattle.ir_trees.specs.Trees.{Regions, Tree, Root}
 use Rattle.opt_trees.specs.Occurrences.{Has, Occurrence, BlockOccurrence, Spot, occurrences_of, block_occurrences_of, at_root}
 use Rattle.opt_trees.specs.Dialect.{Dialect}
-use Rattle.opt_trees.specs.Dce.{Around}
-use Rattle.opt_trees.specs.Simplify.{Place, all_of, is_empty, is_bare, decided, IsReached, entry, further, IsEntered, IsVisited, of_place, of_inner, IsVisitedSsa, Joinable, use_head, use_instead, Joins, IsOrderly, IsLocal, BranchesLast, IsSimplify, IsSimplified}
+use Rattle.opt_trees.specs.Dce.{TreeSurroundings}
+use Rattle.opt_trees.specs.Simplify.{StartingRegions, all_of, is_empty, is_bare, decided, IsReached, entry, further, IsEntered, IsVisited, of_place, of_inner, IsVisitedSsa, Joinable, use_head, use_instead, Joins, IsOrderly, IsLocal, BranchesLast, IsSimplify, IsSimplified}
 use Rattle.opt_trees.proofs.NoneDead.{true_false}
 use Rattle.opt_trees.proofs.Reached.{cut_goal}
 use Rattle.opt_trees.proofs.Orderly.{decided_local, phases_orderly, phases_local, phases_last}
@@ -14,7 +14,7 @@ use Rattle.opt_trees.proofs.Homes.{direct, root_level}
 use Rattle.opt_trees.proofs.Chains.{InChain, itself, next, LikeSpot, LikeBlock, target_is, leads_to, WasMoved, WasFirst, operation_was, block_was}
 use Rattle.opt_trees.proofs.Covered.{IsTaken, Holds, IsDropped, IsMoved, IsFirst, hold, level, cover, cover_block}
 
-module _ {N : Names} {S : Contents} {A : Type 0} (d : Dialect S A) (start : Place N) (r : Root N S) (orderly : IsOrderly r) (local : IsLocal r) (last : BranchesLast r) (names : N.value → N.value) (joined : Tree N S Regions) (joins : Joins d start r None Regions r.regions joined) where
+module _ {N : Names} {S : Contents} {A : Type 0} (d : Dialect S A) (start : StartingRegions N) (r : Root N S) (orderly : IsOrderly r) (local : IsLocal r) (last : BranchesLast r) (names : N.value → N.value) (joined : Tree N S Regions) (joins : Joins d start r None Regions r.regions joined) where
   abbrev pub after : Root N S
   after = record { head = use_head names r.head; regions = use_instead names joined }
 
@@ -151,7 +151,7 @@ module _ {N : Names} {S : Contents} {A : Type 0} (d : Dialect S A) (start : Plac
     }
 
 -- what simplify leaves
-pub simplify_goal : {N : Names} {S : Contents} {A : Type 0} (d : Dialect S A) (w : Around N A) (t after : Root N S) →
+pub simplify_goal : {N : Names} {S : Contents} {A : Type 0} (d : Dialect S A) (w : TreeSurroundings N A) (t after : Root N S) →
     IsOrderly t → IsLocal t → BranchesLast t → IsSimplify d w t after → IsSimplified d after
 simplify_goal d w t after orderly local last p =
     subst (IsSimplified d) (sym p.is_joined.is)

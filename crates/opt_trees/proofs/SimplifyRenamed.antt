@@ -8,8 +8,8 @@ use Rattle.ir_trees.specs.Trees.{Defined, Head, Sort, Operations, Blocks, Region
 use Rattle.opt_trees.specs.Occurrences.{Has, cons_if, Spot, rename_spot, rename_occurrence, rename_block_occurrence, Renaming, maps, OperationsApart}
 use Rattle.opt_trees.specs.Dialect.{Dialect}
 use Rattle.opt_trees.specs.Facts.{forwarded}
-use Rattle.opt_trees.specs.Dce.{Around, Agree}
-use Rattle.opt_trees.specs.Simplify.{Place, OfOperations, OfRegion, BeginsAt, all_of, rename_place, use_head, is_empty, is_end, is_bare, along_edge, decide_head, decide, decided, IsReached, entry, further, IsEntered, IsVisited, of_place, of_inner, IsVisitedSsa, IsUnreached, keep, IsCut, Joinable, IsGiven, Follows, stops, goes_on, use_instead, but_last, append, Joins, ends, operations, regions, taken, first, chain_ends, chain_goes_on, IsJoined, IsSimplify, Chases, goes, goes_by, ComesBack}
+use Rattle.opt_trees.specs.Dce.{TreeSurroundings, Agree}
+use Rattle.opt_trees.specs.Simplify.{StartingRegions, OfOperations, OfRegion, BeginsAt, all_of, rename_place, use_head, is_empty, is_end, is_bare, along_edge, decide_head, decide, decided, IsReached, entry, further, IsEntered, IsVisited, of_place, of_inner, IsVisitedSsa, IsUnreached, keep, IsCut, Joinable, IsGiven, Follows, stops, goes_on, use_instead, but_last, append, Joins, ends, operations, regions, taken, first, chain_ends, chain_goes_on, IsJoined, IsSimplify, Chases, goes, goes_by, ComesBack}
 use Rattle.opt_trees.proofs.Lists.{map-map, names-map, at-map, cons_if-map, has-map, has-from_map, has-apart, apart, at-to, from_some, none_some}
 use Rattle.opt_trees.proofs.FactsRenamed.{forwarded_under}
 use Rattle.opt_trees.proofs.DceRenamed.{rt, operation_to, operation_from, block_to, block_from}
@@ -38,7 +38,7 @@ module _ {N M : Names} {S : Contents} {A : Type 0} (d : Dialect S A) (r : Renami
   along_under h (Some i) None = refl
   along_under h (Some i) (Some c) = λ j. record { name = r.operation.to h.name; content = c; results = map (rename_defined r.value.to) h.results; operands = forwarded_under d r h i j; successors = (ap (λ q. cons_if q []) (at-map r.block.to h.successors i) ∙ cons_if-map r.block.to (slice_get h.successors i) []) j }
 
-  module _ (w : Around N A) (w' : Around M A) (agree : Agree r w w') where
+  module _ (w : TreeSurroundings N A) (w' : TreeSurroundings M A) (agree : Agree r w w') where
     decide_head_under : (h : Head N S) (rs : Tree N S Regions) → decide_head d w'.alone (rename_head (maps r) h) (rename (maps r) rs) ≡ rename_head (maps r) (decide_head d w.alone h rs)
     decide_head_under h rs =
         (λ i. if bare_under h rs i && not (d.is_plain h.content) then along_edge d (rename_head (maps r) h) (d.edge h.content (known i)) d.plain else rename_head (maps r) h)
@@ -60,18 +60,18 @@ module _ {N M : Names} {S : Contents} {A : Type 0} (d : Dialect S A) (r : Renami
     pub decided_renamed : (t : Root N S) → decided d w' (rename_root (maps r) t) ≡ rename_root (maps r) (decided d w t)
     decided_renamed t = λ i. record { head = rename_head (maps r) t.head; regions = decide_under t.regions i }
 
-module _ {N M : Names} {S : Contents} {A : Type 0} (d : Dialect S A) (r : Renaming N M) (start : Place N) where
+module _ {N M : Names} {S : Contents} {A : Type 0} (d : Dialect S A) (r : Renaming N M) (start : StartingRegions N) where
   -- 2. blocks
 
-  abbrev new_start : Place M
+  abbrev new_start : StartingRegions M
   new_start = rename_place (maps r) start
 
-  begins_to : (p : Place N) (o : N.operation) (i : ℕ) →
+  begins_to : (p : StartingRegions N) (o : N.operation) (i : ℕ) →
       BeginsAt p o i → BeginsAt (rename_place (maps r) p) (r.operation.to o) i
   begins_to (OfOperations os) o i h = has-map r.operation.to o os h
   begins_to (OfRegion a k) o i h = (ap r.operation.to h.0, h.1)
 
-  begins_from : (p : Place N) (o : N.operation) (i : ℕ) →
+  begins_from : (p : StartingRegions N) (o : N.operation) (i : ℕ) →
       BeginsAt (rename_place (maps r) p) (r.operation.to o) i → BeginsAt p o i
   begins_from (OfOperations os) o i h = has-apart r.operation o os h
   begins_from (OfRegion a k) o i h = (apart r.operation o a h.0, h.1)
@@ -370,7 +370,7 @@ module _ {N M : Names} {S : Contents} {A : Type 0} (d : Dialect S A) (r : Renami
 
 module _ {N M : Names} {S : Contents} {A : Type 0} (d : Dialect S A) (r : Renaming N M) where
   -- what simplify makes of the tree under other names is what it makes of the tree, under those names
-  pub simplify_renamed : (t after : Root N S) (w : Around N A) (w' : Around M A) → Agree r w w' → ((u : Root N S) → IsCut d (all_of t) (decided d w t) u → OperationsApart u) → IsSimplify d w t after → IsSimplify d w' (rename_root (maps r) t) (rename_root (maps r) after)
+  pub simplify_renamed : (t after : Root N S) (w : TreeSurroundings N A) (w' : TreeSurroundings M A) → Agree r w w' → ((u : Root N S) → IsCut d (all_of t) (decided d w t) u → OperationsApart u) → IsSimplify d w t after → IsSimplify d w' (rename_root (maps r) t) (rename_root (maps r) after)
   simplify_renamed t after w w' agree o p = record {
     cut = rename_root (maps r) p.cut;
     is_cut = subst (λ z. IsCut d (rename_place (maps r) (all_of t)) z (rename_root (maps r) p.cut)) (sym (decided_renamed d r w w' agree t)) (cut_renamed d r (all_of t) (decided d w t) p.cut p.is_cut);

@@ -12,7 +12,7 @@ use Rattle.opt_trees.specs.Occurrences.{Has, defined_in, Occurrence, BlockOccurr
 use Rattle.opt_trees.specs.Dialect.{Dialect, drop}
 
 -- what the context says beside the tree
-pub record Around (N : Names) (A : Type 0) : Type 0 where
+pub record TreeSurroundings (N : Names) (A : Type 0) : Type 0 where
   -- what its definer folds to, with no operand known
   pub alone : N.value → Option A
   -- it is named from outside the root
@@ -58,18 +58,18 @@ module _ {N : Names} {S : Contents} (t : Root N S) where
   Touches (Slot x) v = x ≡ v
 
   -- the value's use by this operation is a use of the operation a: of a result, or, from outside a, of a value inside a
-  pub record Counts (a : N.operation) (v : N.value) (o : Occurrence N S) : Type 0 where
+  pub record CountsForOperation (a : N.operation) (v : N.value) (o : Occurrence N S) : Type 0 where
     pub it : Occurrence N S
     pub stands : Has it (occurrences_of t)
     pub name : it.head.name ≡ a
     pub value : Has v (names_of it.head.results) ⊎ (Has v (defined_in it.regions) × (Has a o.site.spot.around → ⊥))
 
-  abbrev pub IsUse : Item N → N.value → Occurrence N S → Type 0
-  IsUse (Whole a) v o = Counts a v o
-  IsUse (Slot x) v o = x ≡ v
+  abbrev pub IsUseOfItem : Item N → N.value → Occurrence N S → Type 0
+  IsUseOfItem (Whole a) v o = CountsForOperation a v o
+  IsUseOfItem (Slot x) v o = x ≡ v
 
 -- something outside the root, or the root itself, names it
-abbrev pub IsKept : {N : Names} {S : Contents} {A : Type 0} → Around N A → Root N S → Item N → Type 0
+abbrev pub IsKept : {N : Names} {S : Contents} {A : Type 0} → TreeSurroundings N A → Root N S → Item N → Type 0
 IsKept {N} w t x = (v : N.value) × Touches t x v × ((w.is_pinned v ≡ true) ⊎ Has v t.head.operands)
 
 module _ {N : Names} {S : Contents} {A : Type 0} (d : Dialect S A) (t : Root N S) where
@@ -84,12 +84,12 @@ module _ {N : Names} {S : Contents} {A : Type 0} (d : Dialect S A) (t : Root N S
     pub gives : slice_get (d.forwards o.head.content (length o.head.operands) edge) place ≡ Some i
     pub takes : slice_get (names_of target.label.arguments) place ≡ Some v
 
-module _ {N : Names} {S : Contents} {A : Type 0} (d : Dialect S A) (w : Around N A) (t : Root N S) where
+module _ {N : Names} {S : Contents} {A : Type 0} (d : Dialect S A) (w : TreeSurroundings N A) (t : Root N S) where
   mutual
     -- the least set: what may go, is not kept, and is used by the dead alone
     pub data IsDead : Item N → Type 0 where
       dies : (x : Item N) → May d t x → (IsKept w t x → ⊥) →
-          ((v : N.value) (o : Occurrence N S) (i : ℕ) → IsUse t x v o → Use t v o i → IsExcused o i) → IsDead x
+          ((v : N.value) (o : Occurrence N S) (i : ℕ) → IsUseOfItem t x v o → Use t v o i → IsExcused o i) → IsDead x
 
     -- the operand doesn't keep what it names:
     -- its operation, or one that holds it, is dead, or the operand is forwarded to a dead argument
@@ -142,8 +142,8 @@ module _ {N : Names} {S : Contents} {A : Type 0} (d : Dialect S A) (g : Gone N) 
   thin (block l ops rest) = block (thin_label l) (thin ops) (thin rest)
   thin (region bs rest) = region (thin bs) (thin rest)
 
-module _ {N : Names} {S : Contents} {A : Type 0} (d : Dialect S A) (w : Around N A) (t : Root N S) where
-  pub record IsGone (g : Gone N) : Type 0 where
+module _ {N : Names} {S : Contents} {A : Type 0} (d : Dialect S A) (w : TreeSurroundings N A) (t : Root N S) where
+  pub record IsGoneExactly (g : Gone N) : Type 0 where
     pub dead : (x : Item N) → g.item x ≡ true → IsDead d w t x
     pub all : (x : Item N) → IsDead d w t x → g.item x ≡ true
     pub lost : (a : N.operation) (i : ℕ) → g.operand a i ≡ true → IsLost d w t a i
@@ -152,7 +152,7 @@ module _ {N : Names} {S : Contents} {A : Type 0} (d : Dialect S A) (w : Around N
   -- the pass
   pub record IsDce (after : Root N S) : Type 0 where
     pub gone : Gone N
-    pub is_gone : IsGone gone
+    pub is_gone : IsGoneExactly gone
     pub is : after ≡ record { head = t.head; regions = thin d gone t.regions }
 
 module _ {N : Names} {S : Contents} {A : Type 0} (d : Dialect S A) (t : Root N S) where
@@ -164,6 +164,6 @@ module _ {N : Names} {S : Contents} {A : Type 0} (d : Dialect S A) (t : Root N S
         Has o (occurrences_of t) → Has b o.head.successors → d.is_terminator o.head.content ≡ true
 
 -- the same is said of the same things under other names
-pub record Agree {N M : Names} {A : Type 0} (r : Renaming N M) (w : Around N A) (w' : Around M A) : Type 0 where
+pub record Agree {N M : Names} {A : Type 0} (r : Renaming N M) (w : TreeSurroundings N A) (w' : TreeSurroundings M A) : Type 0 where
   pub knows : (v : N.value) → w'.alone (r.value.to v) ≡ w.alone v
   pub pins : (v : N.value) → w'.is_pinned (r.value.to v) ≡ w.is_pinned v

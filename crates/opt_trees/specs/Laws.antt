@@ -7,8 +7,8 @@ use Rattle.opt_trees.specs.Occurrences.{Renaming, maps, OperationsApart, Has, Bl
 use Rattle.opt_trees.specs.Dialect.{Dialect, Lawful}
 use Rattle.opt_trees.specs.Facts.{Facts, IsMostPrecise, IsLacking}
 use Rattle.opt_trees.specs.Sccp.{fresh, fresh_maps, IsSccp, KeepsFacts, facts_after, CanTell, NamesConstants}
-use Rattle.opt_trees.specs.Dce.{Around, Item, IsDead, IsDce, IsWell, Agree}
-use Rattle.opt_trees.specs.Simplify.{Place, rename_place, IsReached, IsVisitedSsa, IsLocal, BranchesLast, IsSimplified, LosesUse, ComesBack, IsJoined, IsCut, IsSimplify, IsOrderly, decided}
+use Rattle.opt_trees.specs.Dce.{TreeSurroundings, Item, IsDead, IsDce, IsWell, Agree}
+use Rattle.opt_trees.specs.Simplify.{StartingRegions, rename_place, IsReached, IsVisitedSsa, IsLocal, BranchesLast, IsSimplified, LosesUse, ComesBack, IsJoined, IsCut, IsSimplify, IsOrderly, decided}
 
 module _ (N : Names) (S : Contents) (A : Type 0) where
   -- there is one list of most precise facts at most
@@ -37,50 +37,50 @@ module _ (N : Names) (S : Contents) (A : Type 0) where
 
   -- the dead goes in one way
   abbrev pub OneDce : Type 0
-  OneDce = (d : Dialect S A) (w : Around N A) (t a b : Root N S) → IsDce d w t a → IsDce d w t b → a ≡ b
+  OneDce = (d : Dialect S A) (w : TreeSurroundings N A) (t a b : Root N S) → IsDce d w t a → IsDce d w t b → a ≡ b
 
   -- nothing is dead afterwards
   abbrev pub DceGoal : Type 0
-  DceGoal = (d : Dialect S A) (w : Around N A) (t after : Root N S) →
+  DceGoal = (d : Dialect S A) (w : TreeSurroundings N A) (t after : Root N S) →
       Lawful d → IsWell d t → IsDce d w t after → (x : Item N) → IsDead d w after x → ⊥
 
   -- a second time changes nothing
   abbrev pub DceTwice : Type 0
-  DceTwice = (d : Dialect S A) (w : Around N A) (t after again : Root N S) →
+  DceTwice = (d : Dialect S A) (w : TreeSurroundings N A) (t after again : Root N S) →
       Lawful d → IsWell d t → IsDce d w t after → IsDce d w after again → again ≡ after
 
   -- what the first two phases make of an orderly tree is orderly, and of a local one local
   abbrev pub CutOrderly : Type 0
-  CutOrderly = (d : Dialect S A) (p : Place N) (w : Around N A) (t cut : Root N S) →
+  CutOrderly = (d : Dialect S A) (p : StartingRegions N) (w : TreeSurroundings N A) (t cut : Root N S) →
       IsCut d p (decided d w t) cut → IsOrderly t → IsOrderly cut
 
   abbrev pub CutLocal : Type 0
-  CutLocal = (d : Dialect S A) (p : Place N) (w : Around N A) (t cut : Root N S) →
+  CutLocal = (d : Dialect S A) (p : StartingRegions N) (w : TreeSurroundings N A) (t cut : Root N S) →
       IsCut d p (decided d w t) cut → IsLocal t → IsLocal cut
 
   abbrev pub CutLast : Type 0
-  CutLast = (d : Dialect S A) (p : Place N) (w : Around N A) (t cut : Root N S) →
+  CutLast = (d : Dialect S A) (p : StartingRegions N) (w : TreeSurroundings N A) (t cut : Root N S) →
       IsCut d p (decided d w t) cut → BranchesLast t → BranchesLast cut
 
   -- branches are decided, blocks cut and chains joined in one way
   abbrev pub OneSimplify : Type 0
-  OneSimplify = (d : Dialect S A) (w : Around N A) (t a b : Root N S) →
+  OneSimplify = (d : Dialect S A) (w : TreeSurroundings N A) (t a b : Root N S) →
       IsOrderly t → IsSimplify d w t a → IsSimplify d w t b → a ≡ b
 
   -- each block of a visited SSA region that is left is reached
   abbrev pub CutGoal : Type 0
-  CutGoal = (d : Dialect S A) (p : Place N) (t after : Root N S) →
+  CutGoal = (d : Dialect S A) (p : StartingRegions N) (t after : Root N S) →
       IsLocal t → IsCut d p t after → (x : BlockOccurrence N S) →
       Has x (block_occurrences_of after) → IsVisitedSsa d p after x.spot → IsReached after x.label.name
 
   -- each block of a visited SSA region that simplify leaves is reached, and no two can be joined
   abbrev pub SimplifyGoal : Type 0
-  SimplifyGoal = (d : Dialect S A) (w : Around N A) (t after : Root N S) →
+  SimplifyGoal = (d : Dialect S A) (w : TreeSurroundings N A) (t after : Root N S) →
       IsOrderly t → IsLocal t → BranchesLast t → IsSimplify d w t after → IsSimplified d after
 
   -- where following what was forwarded comes back nothing is joined
   abbrev pub BackRefuses : Type 0
-  BackRefuses = (d : Dialect S A) (p : Place N) (t after : Root N S) →
+  BackRefuses = (d : Dialect S A) (p : StartingRegions N) (t after : Root N S) →
       IsOrderly t → ComesBack d p t → IsJoined d p t after → ⊥
 
 -- under other names the same is made of a tree
@@ -96,11 +96,11 @@ module _ (N M : Names) (S : Contents) (A : Type 0) where
       IsMostPrecise d t k → NamesConstants d t → NamesConstants d (rename_root (maps r) t)
 
   abbrev pub DceRenames : Type 0
-  DceRenames = (d : Dialect S A) (r : Renaming N M) (t after : Root N S) (w : Around N A) (w' : Around M A) →
+  DceRenames = (d : Dialect S A) (r : Renaming N M) (t after : Root N S) (w : TreeSurroundings N A) (w' : TreeSurroundings M A) →
       Agree r w w' → IsDce d w t after → IsDce d w' (rename_root (maps r) t) (rename_root (maps r) after)
 
   abbrev pub SimplifyRenames : Type 0
-  SimplifyRenames = (d : Dialect S A) (r : Renaming N M) (t after : Root N S) (w : Around N A) (w' : Around M A) →
+  SimplifyRenames = (d : Dialect S A) (r : Renaming N M) (t after : Root N S) (w : TreeSurroundings N A) (w' : TreeSurroundings M A) →
       Agree r w w' → OperationsApart t → IsSimplify d w t after →
       IsSimplify d w' (rename_root (maps r) t) (rename_root (maps r) after)
 
@@ -112,11 +112,11 @@ module _ (N M : Names) (S : Contents) (A : Type 0) where
       IsLacking d t k → IsLacking d (rename_root (maps r) t) l
 
   abbrev pub BackRenames : Type 0
-  BackRenames = (d : Dialect S A) (r : Renaming N M) (p : Place N) (t : Root N S) →
+  BackRenames = (d : Dialect S A) (r : Renaming N M) (p : StartingRegions N) (t : Root N S) →
       ComesBack d p t → ComesBack d (rename_place (maps r) p) (rename_root (maps r) t)
 
   abbrev pub LosesRenames : Type 0
-  LosesRenames = (r : Renaming N M) (t after : Root N S) (w : Around N A) (w' : Around M A) → Agree r w w' →
+  LosesRenames = (r : Renaming N M) (t after : Root N S) (w : TreeSurroundings N A) (w' : TreeSurroundings M A) → Agree r w w' →
       LosesUse w t after → LosesUse w' (rename_root (maps r) t) (rename_root (maps r) after)
 
 -- trees that are the same under two renamings into common names are made into trees that are the same under them
@@ -133,12 +133,12 @@ module _ (N M P : Names) (S : Contents) (A : Type 0) where
 
   abbrev pub SameDce : Type 0
   SameDce = (d : Dialect S A) (f : Renaming N P) (g : Renaming M P) (t : Root N S) (u : Root M S) → AreSame f g t u →
-      (v : Around N A) (w : Around M A) (z : Around P A) → Agree f v z → Agree g w z →
+      (v : TreeSurroundings N A) (w : TreeSurroundings M A) (z : TreeSurroundings P A) → Agree f v z → Agree g w z →
       (a : Root N S) (b : Root M S) → IsDce d v t a → IsDce d w u b → AreSame f g a b
 
   abbrev pub SameSimplify : Type 0
   SameSimplify = (d : Dialect S A) (f : Renaming N P) (g : Renaming M P) (t : Root N S) (u : Root M S) →
       AreSame f g t u →
-      (v : Around N A) (w : Around M A) (z : Around P A) → Agree f v z → Agree g w z →
+      (v : TreeSurroundings N A) (w : TreeSurroundings M A) (z : TreeSurroundings P A) → Agree f v z → Agree g w z →
       (a : Root N S) (b : Root M S) → IsOrderly t → IsOrderly u → IsSimplify d v t a → IsSimplify d w u b →
       AreSame f g a b

@@ -33,13 +33,13 @@ pub record Spot (N : Names) (S : Contents) : Type 0 where
   pub first : Bool
 
 -- where an operation stands: in which block, and where that one stands
-pub record Site (N : Names) (S : Contents) : Type 0 where
+pub record OperationSite (N : Names) (S : Contents) : Type 0 where
   pub spot : Spot N S
   pub label : Label N S
 
 -- an operation below the root, with its regions
 pub record Occurrence (N : Names) (S : Contents) : Type 0 where
-  pub site : Site N S
+  pub site : OperationSite N S
   pub head : Head N S
   pub regions : Tree N S Regions
 
@@ -51,13 +51,13 @@ pub record BlockOccurrence (N : Names) (S : Contents) : Type 0 where
 
 -- where a list of operations stands, a list of blocks, a list of regions
 abbrev pub Inside : Names → Contents → Sort → Type 0
-Inside N S Operations = Site N S
+Inside N S Operations = OperationSite N S
 Inside N S Blocks = Spot N S
 Inside N S Regions = Spot N S
 
 module _ {N : Names} {S : Contents} where
   -- the first block of the first region of an operation
-  abbrev pub inner : Head N S → Site N S → Spot N S
+  abbrev pub inner : Head N S → OperationSite N S → Spot N S
   inner h c = record {
     owner = h;
     around = h.name ∷ c.spot.around;
@@ -132,7 +132,7 @@ module _ {N M : Names} {S : Contents} (r : Maps N M) where
     first = c.first;
   }
 
-  abbrev pub rename_site : Site N S → Site M S
+  abbrev pub rename_site : OperationSite N S → OperationSite M S
   rename_site c = record { spot = rename_spot c.spot; label = rename_label r c.label }
 
   abbrev pub rename_occurrence : Occurrence N S → Occurrence M S

@@ -56,7 +56,7 @@ module _ {N : Names} {S : Contents} {A : Type 0} (d : Dialect S A) (t : Root N S
     pub place : IsResult d t k v ⊎ IsArgument t k.runs v
 
   -- which values get constants, and which
-  pub record IsMade (made : N.value → Option A) : Type 0 where
+  pub record AreMadeConstants (made : N.value → Option A) : Type 0 where
     pub gets : (v : N.value) (a : A) → made v ≡ Some a → Gets v a
     pub all : (v : N.value) (a : A) → Gets v a → made v ≡ Some a
 
@@ -127,7 +127,7 @@ module _ {N : Names} {S : Contents} {A : Type 0} (d : Dialect S A) where
     pub facts : Facts N A
     pub best : IsMostPrecise d t facts
     pub made : N.value → Option A
-    pub is_made : IsMade d t facts made
+    pub is_made : AreMadeConstants d t facts made
     pub is : after ≡ put_root {N = N} d made t
 
   -- of what stood there as much is known as before, and a new value is known to be its constant

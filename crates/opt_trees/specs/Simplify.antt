@@ -9,7 +9,7 @@ use Rattle.ir_trees.specs.Trees.{Head, Label, Sort, Operations, Blocks, Regions,
 use Rattle.opt_trees.specs.Occurrences.{Has, cons_if, Occurrence, BlockOccurrence, Spot, occurrences_of, block_occurrences_of, defined_in, Use, OperationsApart, BlocksApart, EdgesLocal}
 use Rattle.opt_trees.specs.Dialect.{Dialect}
 use Rattle.opt_trees.specs.Facts.{forwarded}
-use Rattle.opt_trees.specs.Dce.{Around}
+use Rattle.opt_trees.specs.Dce.{TreeSurroundings}
 
 -- 1. branches
 
@@ -54,7 +54,7 @@ module _ {N : Names} {S : Contents} {A : Type 0} (d : Dialect S A) (alone : N.va
   decide (block l ops rest) = block l (decide ops) (decide rest)
   decide (region bs rest) = region (decide bs) (decide rest)
 
-abbrev pub decided : {N : Names} {S : Contents} {A : Type 0} → Dialect S A → Around N A → Root N S → Root N S
+abbrev pub decided : {N : Names} {S : Contents} {A : Type 0} → Dialect S A → TreeSurroundings N A → Root N S → Root N S
 decided d w t = record { head = t.head; regions = decide d w.alone t.regions }
 
 -- 2. blocks that no path from the entry of their region reaches
@@ -72,24 +72,24 @@ module _ {N : Names} {S : Contents} (t : Root N S) where
   IsEntered c b false = c.first ≡ true
 
 -- where looking begins: at all regions of these operations, or at one region of one operation
-pub data Place (N : Names) : Type 0 where
-  OfOperations : (os : List N.operation) → Place N
-  OfRegion : (o : N.operation) (i : ℕ) → Place N
+pub data StartingRegions (N : Names) : Type 0 where
+  OfOperations : (os : List N.operation) → StartingRegions N
+  OfRegion : (o : N.operation) (i : ℕ) → StartingRegions N
 
 -- looking begins at the region at this index of the operation
-abbrev pub BeginsAt : {N : Names} → Place N → N.operation → ℕ → Type 0
+abbrev pub BeginsAt : {N : Names} → StartingRegions N → N.operation → ℕ → Type 0
 BeginsAt (OfOperations os) a i = Has a os
 BeginsAt (OfRegion o k) a i = (a ≡ o) × (i ≡ k)
 
 -- all regions of the root
-abbrev pub all_of : {N : Names} {S : Contents} → Root N S → Place N
+abbrev pub all_of : {N : Names} {S : Contents} → Root N S → StartingRegions N
 all_of t = OfOperations (t.head.name ∷ [])
 
-abbrev pub rename_place : {N M : Names} → Maps N M → Place N → Place M
+abbrev pub rename_place : {N M : Names} → Maps N M → StartingRegions N → StartingRegions M
 rename_place r (OfOperations os) = OfOperations (map r.operation os)
 rename_place r (OfRegion o i) = OfRegion (r.operation o) i
 
-module _ {N : Names} {S : Contents} {A : Type 0} (d : Dialect S A) (p : Place N) (t : Root N S) where
+module _ {N : Names} {S : Contents} {A : Type 0} (d : Dialect S A) (p : StartingRegions N) (t : Root N S) where
   -- the region at this index of the operation of this name is visited
   pub data IsVisited : N.operation → ℕ → Type 0 where
     of_place : (a : N.operation) (i : ℕ) → BeginsAt p a i → IsVisited a i
@@ -117,7 +117,7 @@ keep g (operation h rs rest) = operation h (keep g rs) (keep g rest)
 keep g (block l ops rest) = if g l.name then keep g rest else block l (keep g ops) (keep g rest)
 keep g (region bs rest) = region (keep g bs) (keep g rest)
 
-module _ {N : Names} {S : Contents} {A : Type 0} (d : Dialect S A) (p : Place N) where
+module _ {N : Names} {S : Contents} {A : Type 0} (d : Dialect S A) (p : StartingRegions N) where
   pub record IsCut (t after : Root N S) : Type 0 where
     pub reach : N.block → Bool
     pub reached : (b : N.block) → reach b ≡ true → IsReached t b
@@ -129,7 +129,7 @@ module _ {N : Names} {S : Contents} {A : Type 0} (d : Dialect S A) (p : Place N)
 
 -- 3. chains
 
-module _ {N : Names} {S : Contents} {A : Type 0} (d : Dialect S A) (p : Place N) (r : Root N S) where
+module _ {N : Names} {S : Contents} {A : Type 0} (d : Dialect S A) (p : StartingRegions N) (r : Root N S) where
   -- in a visited SSA region b, which is reached, ends in a bare branch whose one successor is t,
   -- another block, not the entry, that nothing else leads to
   pub record Joinable (b t : N.block) : Type 0 where
@@ -187,7 +187,7 @@ module _ {N : Names} {S : Contents} where
   append end ys = ys
   append (operation h rs rest) ys = operation h rs (append rest ys)
 
-module _ {N : Names} {S : Contents} {A : Type 0} (d : Dialect S A) (p : Place N) (r : Root N S) where
+module _ {N : Names} {S : Contents} {A : Type 0} (d : Dialect S A) (p : StartingRegions N) (r : Root N S) where
   -- each chain joined at its first: all under a tree, or, from the block b on, the operations of its chain
   pub data Joins : Option N.block → (s : Sort) → Tree N S s → Tree N S s → Type 0 where
     ends : (s : Sort) → Joins None s end end
@@ -208,7 +208,7 @@ module _ {N : Names} {S : Contents} {A : Type 0} (d : Dialect S A) (p : Place N)
         Joins (Some x.label.name) Operations x.operations others → all ≡ append own others →
         Joins (Some b) Operations ops all
 
-module _ {N : Names} {S : Contents} {A : Type 0} (d : Dialect S A) (p : Place N) where
+module _ {N : Names} {S : Contents} {A : Type 0} (d : Dialect S A) (p : StartingRegions N) where
   -- the root may itself use an argument of a block below it
   pub record IsJoined (t after : Root N S) : Type 0 where
     pub names : N.value → N.value
@@ -224,13 +224,13 @@ pub record IsUsedBelow {N : Names} {S : Contents} (t : Root N S) (v : N.value) :
   pub operand : Use t v user place
 
 -- the first refusal: what is left, the root and what is outside it among it, names a value of what went
-pub record LosesUse {N : Names} {S : Contents} {A : Type 0} (w : Around N A) (t after : Root N S) : Type 0 where
+pub record LosesUse {N : Names} {S : Contents} {A : Type 0} (w : TreeSurroundings N A) (t after : Root N S) : Type 0 where
   pub value : N.value
   pub was : Has value (defined_in t.regions)
   pub went : Has value (defined_in after.regions) → ⊥
   pub named : IsUsedBelow after value ⊎ (Has value t.head.operands ⊎ (w.is_pinned value ≡ true))
 
-module _ {N : Names} {S : Contents} {A : Type 0} (d : Dialect S A) (p : Place N) (r : Root N S) where
+module _ {N : Names} {S : Contents} {A : Type 0} (d : Dialect S A) (p : StartingRegions N) (r : Root N S) where
   -- following what was forwarded leads from the one value to the other
   pub data Chases : N.value → N.value → Type 0 where
     goes : (v u : N.value) → IsGiven d p r v u → Chases v u
@@ -241,7 +241,7 @@ module _ {N : Names} {S : Contents} {A : Type 0} (d : Dialect S A) (p : Place N)
     pub argument : N.value
     pub loop : Chases argument argument
 
-module _ {N : Names} {S : Contents} {A : Type 0} (d : Dialect S A) (w : Around N A) where
+module _ {N : Names} {S : Contents} {A : Type 0} (d : Dialect S A) (w : TreeSurroundings N A) where
   -- the pass
   pub record IsSimplify (t after : Root N S) : Type 0 where
     pub cut : Root N S

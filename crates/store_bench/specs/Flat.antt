@@ -6,7 +6,7 @@ use Rattle.ir_program.specs.declared.handles.BasicBlock.{BasicBlock}
 use Rattle.ir_program.specs.declared.handles.Region.{Region}
 
 -- the block is there, and no region is
-pub record IsFlat {O B : Type 0} (c : Program O B) (b : Ptr BasicBlock) : Type 0 where
+pub record IsFlatProgram {O B : Type 0} (c : Program O B) (b : Ptr BasicBlock) : Type 0 where
   pub block : IsSome (block_at c b)
   pub regions : (r : Ptr Region) → region_at c r ≡ None
 

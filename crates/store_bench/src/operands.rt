@@ -3,7 +3,7 @@ ghost use Rattle.std.specs.Prelude.{◌≡◌, ◌≤◌, ◌<◌, ◌*◌, ◌+
 ghost use Rattle.ir_program.specs.Program.{operation_at, type_at, IsLiveValue};
 ghost use Rattle.ir_program.specs.Rows.{operands_at};
 ghost use Rattle.ir_program.specs.declared.handles.Value.{Value as AnyValue};
-ghost use Rattle.store_bench.specs.Flat.{IsFlat, KeepsPlaces};
+ghost use Rattle.store_bench.specs.Flat.{IsFlatProgram, KeepsPlaces};
 
 use ir_program::{BasicBlock, Operation, Program, Ptr, Value};
 use std::alloc::AllocError;
@@ -33,7 +33,7 @@ fn result_or(program: &Program<u32, u32>, op: Ptr<Operation>, value: Value) -> V
 
 /// The first result of the first operation of a block.
 pub fn first_value(program: &Program<u32, u32>, block: Ptr<BasicBlock>) -> Option<Value>
-    requires { IsFlat program.now block }
+    requires { IsFlatProgram program.now block }
     ensures { IfSome result (λ v. IsLiveValue program.now v) }
 {
     let op = program.first_operation(block)?;
@@ -69,7 +69,7 @@ pub fn give_operands(
     block: Ptr<BasicBlock>,
     size: u32,
 ) -> Result<u64, AllocError>
-    requires { IsFlat program.old block }
+    requires { IsFlatProgram program.old block }
     ensures { OnOk result (KeepsPlaces program.old program.new) }
 {
     let Some(start) = program.first_operation(block) else {
@@ -113,7 +113,7 @@ fn replace_all(program: &mut Program<u32, u32>, op: Ptr<Operation>, value: Value
 
 /// Puts the first operation's result in place of each operand.
 pub fn replace_operands(program: &mut Program<u32, u32>, block: Ptr<BasicBlock>, size: u32) -> u64
-    requires { IsFlat program.old block }
+    requires { IsFlatProgram program.old block }
     ensures { KeepsPlaces program.old program.new }
 {
     let Some(first) = first_value(program, block) else {
@@ -150,7 +150,7 @@ fn remove_all(program: &mut Program<u32, u32>, op: Ptr<Operation>) -> u64
 
 /// Takes away the operands of all operations of a block.
 pub fn remove_operands(program: &mut Program<u32, u32>, block: Ptr<BasicBlock>, size: u32) -> u64
-    requires { IsFlat program.old block }
+    requires { IsFlatProgram program.old block }
     ensures { KeepsPlaces program.old program.new }
 {
     let mut removed: u64 = 0;

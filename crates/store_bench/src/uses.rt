@@ -1,13 +1,13 @@
 //! Where the first operation's result is used, and another value in its place.
 ghost use Rattle.std.specs.Prelude.{◌≡◌};
-ghost use Rattle.store_bench.specs.Flat.{IsFlat, KeepsPlaces};
+ghost use Rattle.store_bench.specs.Flat.{IsFlatProgram, KeepsPlaces};
 
 use crate::operands::{first_result, first_value};
 use ir_program::{BasicBlock, Program, Ptr};
 
 /// How many operands are the first operation's result.
 pub fn count_uses(program: &Program<u32, u32>, block: Ptr<BasicBlock>) -> usize
-    requires { IsFlat program.now block }
+    requires { IsFlatProgram program.now block }
 {
     match first_value(program, block) {
         Some(value) => program.use_count(value),
@@ -18,7 +18,7 @@ pub fn count_uses(program: &Program<u32, u32>, block: Ptr<BasicBlock>) -> usize
 /// Puts the last operation's result in place of each operand that is the first one's, and answers how many operands are
 /// the last one's then.
 pub fn replace_uses(program: &mut Program<u32, u32>, block: Ptr<BasicBlock>) -> usize
-    requires { IsFlat program.old block }
+    requires { IsFlatProgram program.old block }
     ensures { KeepsPlaces program.old program.new }
 {
     let Some(first) = first_value(program, block) else {

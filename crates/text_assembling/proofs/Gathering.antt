@@ -33,8 +33,8 @@ use Rattle.text_frames.specs.declared.opened.Open.{Open}
 use Rattle.text_frames.specs.Frames.{Contains, sort_of}
 use Rattle.text_frames.specs.Raised.{RaisesAll, IsAssembled, block_nodes}
 use Rattle.text_assembling.specs.declared.assembling.Assembler.{Assembler}
-use Rattle.text_assembling.specs.Assembling.{HasMade, IsNew, Stage, blocks_of, numbers_of, root_nodes, stage, world_of}
-use Rattle.text_assembling.specs.Steps.{CanStep, HasStepped, IsAt, MayGo, Progress}
+use Rattle.text_assembling.specs.Assembling.{HasMade, HasReadNothing, Stage, blocks_of, numbers_of, root_nodes, stage, world_of}
+use Rattle.text_assembling.specs.Steps.{CanStep, HasStepped, IsAt, ActionIsInPlace, Progress}
 use Rattle.text_frames.proofs.Ended.{is_text}
 use Rattle.text_frames.proofs.Framing.{innermost}
 use Rattle.text_assembling.proofs.Held.{held_list, held_none}
@@ -93,7 +93,7 @@ no_around xs e = sym (reverse-reverse xs) ∙ ap reverse e
 
 module _ {D K A T : Type 0} (says : Saying K A T) (values : Values) (text : ℕ → List ℕ) where
   -- nothing is read yet
-  made_first : (s : Stage K A T) (a : Assembler D K A T) → IsNew a → NamesWhatIsThere s.ctx → HasMade says values text s.ctx s.counter s a nothing_built (alone at_root) [] []
+  made_first : (s : Stage K A T) (a : Assembler D K A T) → HasReadNothing a → NamesWhatIsThere s.ctx → HasMade says values text s.ctx s.counter s a nothing_built (alone at_root) [] []
   made_first s a new named =
       let numbers : numbers_of a ≡ [] = rw (new.around, new.here.numbers) refl in
       let blocks : blocks_of a ≡ [] = rw (new.around, new.here.body) refl in
@@ -125,7 +125,7 @@ module _ {D K A T : Type 0} (says : Saying K A T) (values : Values) (text : ℕ 
         });
       }
 
-  pub gathers_first : (s : Stage K A T) (a : Assembler D K A T) (es : List Event) → IsNew a → NamesWhatIsThere s.ctx → Nests at_root [] es → AreSpelt text 0 es
+  pub gathers_first : (s : Stage K A T) (a : Assembler D K A T) (es : List Event) → HasReadNothing a → NamesWhatIsThere s.ctx → Nests at_root [] es → AreSpelt text 0 es
       → Gathers says values text s.ctx s.counter s a es es
   gathers_first s a es new named nests spelt = record {
     so_far = nothing_built;
@@ -188,7 +188,7 @@ module _ {D K A T : Type 0} (says : Saying K A T) (values : Values) (text : ℕ 
     next : (n : Standing) × (moved_by (move h.standing.here x) h.standing.around ≡ Some n) × Nests n.here n.around rest
     next = next_of (move h.standing.here x) h.standing.around (λ here around. Nests here around rest) h.nests
 
-    goes : MayGo text a x so_far next.0
+    goes : ActionIsInPlace text a x so_far next.0
     goes = record { leads = next.1; spelt = h.spelt.0 }
 
     pub gathers_can : CanStep says values text s a x
@@ -213,7 +213,7 @@ module _ {D K A T : Type 0} (says : Saying K A T) (values : Values) (text : ℕ 
         }
 
     -- a value that is refused is the first one
-    pub gathers_refused : (f : Fault) → ((g : Progress K A T) (n : Standing) → IsAt says values text s a g → MayGo text a x g n → fault_after values text g.built x (a.taken - 1) ≡ Some f)
+    pub gathers_refused : (f : Fault) → ((g : Progress K A T) (n : Standing) → IsAt says values text s a g → ActionIsInPlace text a x g n → fault_after values text g.built x (a.taken - 1) ≡ Some f)
         → first_refusal values text es ≡ Some f
     gathers_refused f refused = h.refuses ∙ ap (λ o. or_else o (first_refusal_from values text (after h.so_far x (a.taken - 1)) a.taken rest)) (refused so_far next.0 h.at goes)
 
@@ -223,7 +223,7 @@ module _ {D K A T : Type 0} (says : Saying K A T) (values : Values) (text : ℕ 
         let some : length h.tokens + length (defined_from a.taken (Did x ∷ rest)) ≡ length (defined_from 0 es) = sym (length-append h.tokens (defined_from a.taken (Did x ∷ rest))) ∙ ap length h.defines in
         omega (arith, full, some)
 
-    pub gathers_full : ((g : Progress K A T) (n : Standing) → IsAt says values text s a g → MayGo text a x g n → 2 ^ 64 ≤ g.first + length g.tokens)
+    pub gathers_full : ((g : Progress K A T) (n : Standing) → IsAt says values text s a g → ActionIsInPlace text a x g n → 2 ^ 64 ≤ g.first + length g.tokens)
         → 2 ^ 64 ≤ first + length (defined_from 0 es)
     gathers_full full = long (full so_far next.0 h.at goes)
 

@@ -11,10 +11,10 @@ use Rattle.ir_program.specs.declared.handles.Operation.{Operation}
 use Rattle.ir_program.specs.declared.handles.Ptr.{Ptr}
 use Rattle.text_dialect.specs.Seen.{Seen}
 use Rattle.text_building.specs.Came.{IsAmong}
-use Rattle.text_building.specs.Inside.{IsForest, IsLoose, NamesWhatIsThere}
+use Rattle.text_building.specs.Inside.{IsSeenForest, IsLoose, NamesWhatIsThere}
 use Rattle.text_building.specs.Kept.{SameSeen}
-use Rattle.text_building.specs.Loose.{AreAllLoose, AreApart, IsLooseBlock, IsLooseOperation}
-use Rattle.text_building.specs.Made.{AppendsOperation, MakesOperation, OpensBlock}
+use Rattle.text_building.specs.Loose.{AreAllLoose, ListsAreApart, IsLooseBlock, IsLooseOperation}
+use Rattle.text_building.specs.Made.{AppendsOperation, MakesDetachedOperation, OpensBlock}
 use Rattle.text_building.proofs.Came.{came_none, came_same, came_opens, came_makes, came_appends}
 use Rattle.text_building.proofs.Later.{appends_loose_block, appends_loose_operation, makes_loose_block, makes_loose_operation, opens_loose_block, opens_loose_operation}
 use Rattle.text_building.proofs.Options.{is_there, no_some}
@@ -91,7 +91,7 @@ module _ {K A T : Type 0} (start s : Seen K A T) (outer : List IRNode) (bss : Li
   pub taken_loose : AreAllLoose s bss
   taken_loose i bs e k b f = let j = taken_at i k bs b e f in h.loose.loose (length outer + j.0) (BlockNode b) (get_shifted outer (block_nodes (joined bss)) j.0 (BlockNode b) j.1)
 
-  pub taken_apart : AreApart bss
+  pub taken_apart : ListsAreApart bss
   taken_apart = once_lists bss (once_image BlockNode (joined bss) (once_right outer (block_nodes (joined bss)) h.loose.once))
 
   -- what is among the others is none of them
@@ -102,7 +102,7 @@ module _ {K A T : Type 0} (start s : Seen K A T) (outer : List IRNode) (bss : Li
   pub outer_loose : (n : ℕ) (x : IRNode) → slice_get outer n ≡ Some x → IsLoose s x
   outer_loose n x at = h.loose.loose n x (get_left outer (block_nodes (joined bss)) n x at)
 
-  module _ (t : Seen K A T) (p : Ptr Operation) (kind : K) (attributes : List (List ℕ × A)) (tys : List TypeHandle) (m : ℕ) (made : MakesOperation s t p kind attributes tys m bss) where
+  module _ (t : Seen K A T) (p : Ptr Operation) (kind : K) (attributes : List (List ℕ × A)) (tys : List TypeHandle) (m : ℕ) (made : MakesDetachedOperation s t p kind attributes tys m bss) where
     made_still : (n : ℕ) (x : IRNode) → slice_get outer n ≡ Some x → IsLoose s x → IsLoose t x
     made_still n (OperationNode q) at l = makes_loose_operation s t p kind attributes tys m bss made q l
     made_still n (BlockNode b) at l = makes_loose_block s t p kind attributes tys m bss made b l (outer_apart n b at)
@@ -117,7 +117,7 @@ module _ {K A T : Type 0} (start s : Seen K A T) (outer : List IRNode) (bss : Li
     loose_made x k (inl e) = made_still k x e (outer_loose k x e)
     loose_made x k (inr e) = subst (λ (y : IRNode). IsLoose t y) (only_one (OperationNode p) e.0 x e.1).1 made.loose
 
-    pub held_makes : IsForest s → HoldsAllNew start t (outer ++ OperationNode p ∷ [])
+    pub held_makes : IsSeenForest s → HoldsAllNew start t (outer ++ OperationNode p ∷ [])
     held_makes forest = record {
       loose = record {
         loose = λ k x e. loose_made x k (get_either outer (OperationNode p ∷ []) k x e);

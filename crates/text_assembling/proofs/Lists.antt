@@ -5,7 +5,7 @@ use Rattle.text_frames.specs.Worlds.{joined}
 use Rattle.ir_program.specs.declared.handles.BasicBlock.{BasicBlock}
 use Rattle.ir_program.specs.declared.handles.IRNode.TheVariants.{BasicBlock as BlockNode}
 use Rattle.ir_program.specs.declared.handles.Ptr.{Ptr}
-use Rattle.text_building.specs.Loose.{AreApart}
+use Rattle.text_building.specs.Loose.{ListsAreApart}
 use Rattle.text_frames.specs.Raised.{block_nodes}
 use Rattle.text_frames.proofs.LaterWorlds.{get_left}
 use Rattle.text_frames.proofs.Rising.{get_below, some_is}
@@ -82,7 +82,7 @@ of_concat (ys ∷ xss) j x h = elim (get_either ys (joined xss) j x h) [
   | inr e ↦ (let more = of_concat xss e.0 x e.1 in (suc more.0, more.1, more.2, more.3, more.4))
 ]
 
-pub once_lists : {E : Type 0} (pss : List (List (Ptr E))) → AreOnce (joined pss) → AreApart pss
+pub once_lists : {E : Type 0} (pss : List (List (Ptr E))) → AreOnce (joined pss) → ListsAreApart pss
 once_lists [] h i j k l ps qs p a b c d = cc
 once_lists (rs ∷ pss) h zero zero k l ps qs p a b c d =
     let e : rs ≡ ps = some_is rs ps a in

@@ -13,7 +13,7 @@ use Rattle.text_building.specs.Kept.{GivesNumbers, KeepsPayloads, SameSeen}
 use Rattle.text_building.proofs.Numbers.{erased_both, gives_still}
 use Rattle.text_building.proofs.Payloads.{payloads_both}
 use Rattle.text_building.specs.Loose.{IsLooseBlock}
-use Rattle.text_building.specs.Made.{MakesOperation}
+use Rattle.text_building.specs.Made.{MakesDetachedOperation}
 use Rattle.text_building.proofs.Later.{makes_loose_block}
 use Rattle.text_frames.specs.declared.opened.Body.{Body}
 use Rattle.text_frames.specs.Makes.{block_in}
@@ -38,18 +38,18 @@ module _ {K A T : Type 0} (s t : Seen K A T) (same : SameSeen s t) where
   }
 
 module _ {K A T : Type 0} (s t : Seen K A T) (p : Ptr Operation) (kind : K) (attributes : List (List ℕ × A)) (tys : List TypeHandle) (n : ℕ) (bss : List (List (Ptr BasicBlock)))
-    (made : MakesOperation s t p kind attributes tys n bss) where
+    (made : MakesDetachedOperation s t p kind attributes tys n bss) where
   -- the open block is loose still
   pub open_after : {D : Type 0} (b : Body D K A T) → CanMake s b bss → (q : Ptr BasicBlock) → block_in b ≡ Some q → IsLooseBlock t q
   open_after b can q e = makes_loose_block s t p kind attributes tys n bss made q (can.open_loose q e) (can.open_apart q e)
 
 -- the same under other names
 pub makes_so : {K A T : Type 0} (s t : Seen K A T) (p : Ptr Operation) (kind : K) (attributes : List (List ℕ × A)) (tys us : List TypeHandle) (n m : ℕ) (bss css : List (List (Ptr BasicBlock)))
-    → tys ≡ us → n ≡ m → bss ≡ css → MakesOperation s t p kind attributes tys n bss → MakesOperation s t p kind attributes us m css
+    → tys ≡ us → n ≡ m → bss ≡ css → MakesDetachedOperation s t p kind attributes tys n bss → MakesDetachedOperation s t p kind attributes us m css
 makes_so s t p kind attributes tys us n m bss css e f g h =
-    subst (λ (xs : List TypeHandle). MakesOperation s t p kind attributes xs m css) e
-    (subst (λ (k : ℕ). MakesOperation s t p kind attributes tys k css) f
-    (subst (λ (ds : List (List (Ptr BasicBlock))). MakesOperation s t p kind attributes tys n ds) g h))
+    subst (λ (xs : List TypeHandle). MakesDetachedOperation s t p kind attributes xs m css) e
+    (subst (λ (k : ℕ). MakesDetachedOperation s t p kind attributes tys k css) f
+    (subst (λ (ds : List (List (Ptr BasicBlock))). MakesDetachedOperation s t p kind attributes tys n ds) g h))
 
 -- only a full counter is answered as one
 pub growth_full : (e : GrowError) → of_growth e ≡ CounterFull → e ≡ growth.CounterFull

@@ -18,15 +18,15 @@ use Rattle.text_frames.specs.declared.opened.Body.{Body}
 use Rattle.text_frames.specs.declared.opened.Body.TheVariants as body
 use Rattle.text_frames.specs.declared.opened.Open.{Open}
 use Rattle.text_frames.specs.declared.opened.OpenOperation.{OpenOperation}
-use Rattle.ir_forest.specs.Forest.{Step}
+use Rattle.ir_forest.specs.Forest.{ActionSpan}
 use Rattle.ir_forest.specs.Building as building
 use Rattle.ir_forest.specs.Building.{Built, with_begin, names_behind}
 use Rattle.ir_grammar.specs.Nesting.{Position, at_root, behind_root_results, at_end, in_operation, in_operands, in_region, in_header, in_argument, in_block, behind_results, in_type, in_attribute, in_list, in_item, move}
-use Rattle.text_frames.specs.Opened.{IsFresh}
+use Rattle.text_frames.specs.Opened.{IsFreshFrame}
 use Rattle.ir_formats.specs.Ordered.{Standing, moved_by}
 use Rattle.text_assembling.specs.Assembling.{Begun, HasMade, Stage, world_of}
 use Rattle.text_frames.specs.Raised.{result_names, IsAroundRoot, RaisesRoot, RaisesBlock, Raises, IsRaised, RaisesAll, begun_at, named_tokens, blocks_of_body}
-use Rattle.text_frames.specs.Worlds.{World}
+use Rattle.text_frames.specs.Worlds.{PartialModule}
 use Rattle.text_assembling.proofs.Held.{held_list}
 use Rattle.text_assembling.proofs.SettledDefinitions.{numbers_begun, blocks_begun, settled_same}
 use Rattle.text_assembling.proofs.Settling.{stack_same, still_unrooted}
@@ -40,10 +40,10 @@ Becomes at p = p ≡ at
 -- ---- the innermost of what is open
 
 -- what is known around the root, where nothing else is open
-abbrev pub AtRoot : {K A T : Type 0} → Saying K A T → Values → (ℕ → List ℕ) → World K A T → Option (Ptr Operation) → Position → Trees Step → Type 0
+abbrev pub AtRoot : {K A T : Type 0} → Saying K A T → Values → (ℕ → List ℕ) → PartialModule K A T → Option (Ptr Operation) → Position → Trees ActionSpan → Type 0
 AtRoot says values text w root at ts = (result_names [] ts ≡ names_behind [] ts) × IsAroundRoot at (names_behind [] ts) × RaisesRoot says values text w root at ts
 
-root_becomes : {K A T : Type 0} (says : Saying K A T) (values : Values) (text : ℕ → List ℕ) (w : World K A T) (root : Option (Ptr Operation)) (at to : Position) (ts : Trees Step) → Becomes at to → AtRoot says values text w root at ts → AtRoot says values text w root to ts
+root_becomes : {K A T : Type 0} (says : Saying K A T) (values : Values) (text : ℕ → List ℕ) (w : PartialModule K A T) (root : Option (Ptr Operation)) (at to : Position) (ts : Trees ActionSpan) → Becomes at to → AtRoot says values text w root at ts → AtRoot says values text w root to ts
 root_becomes says values text w root at_root to ts e h = subst (λ (p : Position). AtRoot says values text w root p ts) (sym e) (h.0, tt, h.2)
 root_becomes says values text w root in_block to ts e h = absurd h.1
 root_becomes says values text w root behind_root_results to ts e h = subst (λ (p : Position). AtRoot says values text w root p ts) (sym e) h
@@ -59,9 +59,9 @@ root_becomes says values text w root in_attribute to ts e h = absurd h.1
 root_becomes says values text w root in_list to ts e h = absurd h.1
 root_becomes says values text w root in_item to ts e h = absurd h.1
 
-module _ {D K A T : Type 0} (says : Saying K A T) (values : Values) (text : ℕ → List ℕ) (w : World K A T) where
+module _ {D K A T : Type 0} (says : Saying K A T) (values : Values) (text : ℕ → List ℕ) (w : PartialModule K A T) where
   -- the innermost of what is open is something else, at another position
-  pub raises_with : (root : Option (Ptr Operation)) (f g : Open D K A T) (at to : Position) (ts us : Trees Step) (gs : List (Open D K A T)) (os : List building.Open) (qs : List Position)
+  pub raises_with : (root : Option (Ptr Operation)) (f g : Open D K A T) (at to : Position) (ts us : Trees ActionSpan) (gs : List (Open D K A T)) (os : List building.Open) (qs : List Position)
       → IsRaised says values text w g to us → (AtRoot says values text w root at ts → AtRoot says values text w root to us) → RaisesAll says values text w root f at ts gs os qs → RaisesAll says values text w root g to us gs os qs
   raises_with root f g at to ts us [] [] [] new root_so h = let r = root_so (h.1, h.2, h.3) in (new, r.0, r.1, r.2)
   raises_with root f g at to ts us [] [] (q ∷ qs) new root_so h = absurd h
@@ -70,7 +70,7 @@ module _ {D K A T : Type 0} (says : Saying K A T) (values : Values) (text : ℕ 
   raises_with root f g at to ts us (k ∷ gs) (o ∷ os) [] new root_so h = absurd h
   raises_with root f g at to ts us (k ∷ gs) (o ∷ os) (q ∷ qs) new root_so h = (new, h.1)
 
-  pub raised_here : (root : Option (Ptr Operation)) (f : Open D K A T) (at : Position) (ts : Trees Step) (gs : List (Open D K A T)) (os : List building.Open) (qs : List Position)
+  pub raised_here : (root : Option (Ptr Operation)) (f : Open D K A T) (at : Position) (ts : Trees ActionSpan) (gs : List (Open D K A T)) (os : List building.Open) (qs : List Position)
       → RaisesAll says values text w root f at ts gs os qs → IsRaised says values text w f at ts
   raised_here root f at ts [] [] [] h = h.0
   raised_here root f at ts [] [] (q ∷ qs) h = absurd h
@@ -80,7 +80,7 @@ module _ {D K A T : Type 0} (says : Saying K A T) (values : Values) (text : ℕ 
   raised_here root f at ts (k ∷ gs) (o ∷ os) (q ∷ qs) h = h.0
 
   -- Nothing else of what is known of a body depends on its position, but at the header of a block.
-  raises_behind_root : (b : Body D K A T) (f : Open D K A T) (ts : Trees Step) → Raises says values text w b f at_root ts → Raises says values text w b f behind_root_results ts
+  raises_behind_root : (b : Body D K A T) (f : Open D K A T) (ts : Trees ActionSpan) → Raises says values text w b f at_root ts → Raises says values text w b f behind_root_results ts
   raises_behind_root body.Text f ts h = tt
   raises_behind_root (body.«Type» n) f ts h = tt
   raises_behind_root (body.Attribute n) f ts h = tt
@@ -94,7 +94,7 @@ module _ {D K A T : Type 0} (says : Saying K A T) (values : Values) (text : ℕ 
     of_block None i = absurd i.typed_so
     of_block (Some p) i = absurd i.among
 
-  raises_among : (b : Body D K A T) (f : Open D K A T) (ts : Trees Step) → Raises says values text w b f in_block ts → Raises says values text w b f behind_results ts
+  raises_among : (b : Body D K A T) (f : Open D K A T) (ts : Trees ActionSpan) → Raises says values text w b f in_block ts → Raises says values text w b f behind_results ts
   raises_among body.Text f ts h = tt
   raises_among (body.«Type» n) f ts h = tt
   raises_among (body.Attribute n) f ts h = tt
@@ -108,7 +108,7 @@ module _ {D K A T : Type 0} (says : Saying K A T) (values : Values) (text : ℕ 
     of_block None i = absurd i.typed_so
     of_block (Some p) i = record { among = tt; header = i.header; names = i.names; block = i.block }
 
-  raised_becomes : (f : Open D K A T) (at to : Position) (ts : Trees Step) → Becomes at to → IsRaised says values text w f at ts → IsRaised says values text w f to ts
+  raised_becomes : (f : Open D K A T) (at to : Position) (ts : Trees ActionSpan) → Becomes at to → IsRaised says values text w f at ts → IsRaised says values text w f to ts
   raised_becomes f at_root to ts e h = subst (λ (p : Position). IsRaised says values text w f p ts) (sym e) (record { made = raises_behind_root f.body f ts h.made; numbered = h.numbered })
   raised_becomes f in_block to ts e h = subst (λ (p : Position). IsRaised says values text w f p ts) (sym e) (record { made = raises_among f.body f ts h.made; numbered = h.numbered })
   raised_becomes f behind_root_results to ts e h = subst (λ (p : Position). IsRaised says values text w f p ts) (sym e) h
@@ -124,7 +124,7 @@ module _ {D K A T : Type 0} (says : Saying K A T) (values : Values) (text : ℕ 
   raised_becomes f in_list to ts e h = subst (λ (p : Position). IsRaised says values text w f p ts) (sym e) h
   raised_becomes f in_item to ts e h = subst (λ (p : Position). IsRaised says values text w f p ts) (sym e) h
 
-  pub raises_becomes : (root : Option (Ptr Operation)) (f : Open D K A T) (at to : Position) (ts : Trees Step) (gs : List (Open D K A T)) (os : List building.Open) (qs : List Position)
+  pub raises_becomes : (root : Option (Ptr Operation)) (f : Open D K A T) (at to : Position) (ts : Trees ActionSpan) (gs : List (Open D K A T)) (os : List building.Open) (qs : List Position)
       → Becomes at to → RaisesAll says values text w root f at ts gs os qs → RaisesAll says values text w root f to ts gs os qs
   raises_becomes root f at to ts gs os qs e h =
       raises_with root f f at to ts ts gs os qs (raised_becomes f at to ts e (raised_here root f at ts gs os qs h)) (root_becomes says values text w root at to ts e) h
@@ -187,11 +187,11 @@ module _ {D K A T : Type 0} (says : Saying K A T) (values : Values) (text : ℕ 
   same_world = ap (λ (x : Assembly). record { ctx = s.ctx; values = x.values.items; tokens = tokens; mentions = mentions; pending = x.pending.items }) (sym made)
 
   -- what begins has nothing in it
-  pub begins_made : (x : Action) (y : Body D K A T) (inner : Position) → Enters inner here.here here.around next → IsFresh c.here y k → c.around.items ≡ a.around.items ++ a.here ∷ [] → blocks_of_body y ≡ [] → named_tokens inner no_tree ≡ []
+  pub begins_made : (x : Action) (y : Body D K A T) (inner : Position) → Enters inner here.here here.around next → IsFreshFrame c.here y k → c.around.items ≡ a.around.items ++ a.here ∷ [] → blocks_of_body y ≡ [] → named_tokens inner no_tree ≡ []
       → Raises says values text (world_of s c tokens mentions) y c.here inner no_tree → HasMade says values text start counter s c (with_begin b x k) next (tokens ++ []) (mentions ++ [])
   begins_made x y inner (outer, leads, becomes) fresh around none unnamed made_so =
       let o : building.Open = record { action = x; first = k; before = b.here } in
-      let w : World K A T = world_of s c tokens mentions in
+      let w : PartialModule K A T = world_of s c tokens mentions in
       let top : reverse c.around.items ≡ a.here ∷ reverse a.around.items = ap reverse around ∙ reverse-append a.around.items (a.here ∷ []) in
       let new : IsRaised says values text w c.here inner no_tree = record {
         made = subst (λ (z : Body D K A T). Raises says values text w z c.here inner no_tree) (sym fresh.body) made_so;
@@ -199,7 +199,7 @@ module _ {D K A T : Type 0} (says : Saying K A T) (values : Values) (text : ℕ 
       } in
       let old : RaisesAll says values text w c.made.root a.here here.here b.here (reverse a.around.items) b.around here.around =
       subst (λ (r : Option (Ptr Operation)). RaisesAll says values text w r a.here here.here b.here (reverse a.around.items) b.around here.around) (sym (ap (λ (z : Assembly). z.root) made))
-      (subst (λ (v : World K A T). RaisesAll says values text v a.made.root a.here here.here b.here (reverse a.around.items) b.around here.around) same_world has.frames) in
+      (subst (λ (v : PartialModule K A T). RaisesAll says values text v a.made.root a.here here.here b.here (reverse a.around.items) b.around here.around) same_world has.frames) in
       let all : RaisesAll says values text w c.made.root c.here inner no_tree (a.here ∷ reverse a.around.items) (o ∷ b.around) (outer ∷ here.around) =
       (new, raises_becomes says values text w c.made.root a.here here.here (begun_at outer) b.here (reverse a.around.items) b.around here.around becomes old) in
       rw (append-nil tokens, append-nil mentions) (record {

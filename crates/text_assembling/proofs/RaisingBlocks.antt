@@ -17,7 +17,7 @@ use Rattle.ir_program.specs.declared.handles.Ptr.{Ptr}
 use Rattle.ir_grammar.specs.declared.grammar.Action.{Action}
 use Rattle.ir_grammar.specs.declared.grammar.Action.TheVariants as act
 use Rattle.ir_grammar.specs.Nesting.{Position, at_end, in_operation, in_region, in_header, in_argument, in_block, behind_results, move}
-use Rattle.ir_forest.specs.Forest.{Step}
+use Rattle.ir_forest.specs.Forest.{ActionSpan}
 use Rattle.ir_forest.specs.Building as building
 use Rattle.ir_forest.specs.Building.{Built, with_end, behind, ended_tree, names_behind}
 use Rattle.ir_forest.specs.Meaning.{tokens_in, by_operands, by_region, by_label, operands_in, regions_in, blocks_in, arguments_in, operations_in}
@@ -37,7 +37,7 @@ use Rattle.text_frames.specs.declared.opened.OpenOperation.{OpenOperation}
 use Rattle.text_frames.specs.Frames.{a_region, a_block, sort_at, sort_of, EndsAt, Begins, Stands, Ending}
 use Rattle.text_frames.specs.Opened.{HasPut}
 use Rattle.text_frames.specs.Raised.{HoldsAllNew, MayEnd, listed_block, blocks_of_body, begun_at, named_tokens, IsAroundRoot, IsOpened, RaisesBlock, Raises, IsRaised, RaisesAll, AreWaiting}
-use Rattle.text_frames.specs.Worlds.{World, LaterWorld, AreAmong, IsReady, AreReady, AreReadyRegions, IsOpenBlock}
+use Rattle.text_frames.specs.Worlds.{PartialModule, LaterWorld, AreAmong, IsReady, AreReady, AreReadyRegions, IsOpenBlock}
 use Rattle.text_frames.proofs.BuiltBehind.{operands_behind, regions_behind, blocks_behind, ready_put, regions_put}
 use Rattle.text_frames.proofs.Ended.{outer_list, outer_of_region, outer_of_operands, outer_region, is_text}
 use Rattle.text_frames.proofs.Framing.{innermost}
@@ -67,9 +67,9 @@ module _ {D K A T Y : Type 0} (F : Open D K A T → List Y) where
 
 -- ---- what ends, in what is around it
 
-module _ {D K A T : Type 0} (says : Saying K A T) (values : Values) (text : ℕ → List ℕ) (w v : World K A T) (l : LaterWorld w v) where
+module _ {D K A T : Type 0} (says : Saying K A T) (values : Values) (text : ℕ → List ℕ) (w v : PartialModule K A T) (l : LaterWorld w v) where
   -- what is around something is another one now, and the rest of it stays as it was
-  pub around_with : (old new : Option (Ptr Operation)) (g h : Open D K A T) (next : Position) (ts us : Trees Step) (gs : List (Open D K A T)) (os : List building.Open) (more : List Position)
+  pub around_with : (old new : Option (Ptr Operation)) (g h : Open D K A T) (next : Position) (ts us : Trees ActionSpan) (gs : List (Open D K A T)) (os : List building.Open) (more : List Position)
       → (IsAroundRoot (begun_at next) (names_behind [] ts) → ⊥) → KeepsBlocks w.ctx v.ctx gs → IsRaised says values text v h next us
       → RaisesAll says values text w old g (begun_at next) ts gs os more → RaisesAll says values text v new h next us gs os more
   around_with old new g h next ts us [] [] [] inner blocks made all = absurd (inner all.2)
@@ -77,14 +77,14 @@ module _ {D K A T : Type 0} (says : Saying K A T) (values : Values) (text : ℕ 
       (made, around_later says values text w v l old new g2 next2 o.before gs os more blocks all.1)
   around_with old new g h next ts us _ _ _ inner blocks made all = absurd all
 
-  pub innermost_raised : (root : Option (Ptr Operation)) (f : Open D K A T) (at : Position) (ts : Trees Step) (gs : List (Open D K A T)) (os : List building.Open) (more : List Position)
+  pub innermost_raised : (root : Option (Ptr Operation)) (f : Open D K A T) (at : Position) (ts : Trees ActionSpan) (gs : List (Open D K A T)) (os : List building.Open) (more : List Position)
       → RaisesAll says values text w root f at ts gs os more → IsRaised says values text w f at ts
   innermost_raised root f at ts [] [] [] h = h.0
   innermost_raised root f at ts (g ∷ gs) (o ∷ os) (next ∷ more) h = h.0
   innermost_raised root f at ts _ _ _ h = absurd h
 
 -- where something ends in what is around it, no root is made yet
-module _ {D K A T : Type 0} (says : Saying K A T) (values : Values) (text : ℕ → List ℕ) (types : List T) (f g : Open D K A T) (o : building.Open) (q : Position) (ts : Trees Step) where
+module _ {D K A T : Type 0} (says : Saying K A T) (values : Values) (text : ℕ → List ℕ) (types : List T) (f g : Open D K A T) (o : building.Open) (q : Position) (ts : Trees ActionSpan) where
   pub begun_unrooted : (at : Position) → Ending says values text types f g o at q ts → (root : Option (Ptr Operation)) → IsUnrooted at root → root ≡ None
   begun_unrooted at_end ending root h = absurd (subst (λ (b : Body D K A T). Begins b o.action) (is_text f.body ending.frame.sort) ending.begun.begins)
   begun_unrooted _ ending root h = h
@@ -141,7 +141,7 @@ module _ {D K A T : Type 0} (says : Saying K A T) (values : Values) (text : ℕ 
 module _ {D K A T : Type 0} (says : Saying K A T) (values : Values) (text : ℕ → List ℕ) (start : Seen K A T) (counter : ℕ) (s t : Stage K A T) (whole c : Assembler D K A T) (f g : Open D K A T) (rest : List (Open D K A T))
     (tokens mentions : List ℕ) (is_f : whole.here ≡ f) (is_around : whole.around.items ≡ rest ++ g ∷ []) (kept : c.around.items ≡ rest) where
   -- what is to be shown of something that ends in what is around it
-  pub record EndsMade (o : building.Open) (os : List building.Open) (q : Position) (qs : List Position) (ts : Trees Step) (last : ℕ) : Type 0 where
+  pub record EndsMade (o : building.Open) (os : List building.Open) (q : Position) (qs : List Position) (ts : Trees ActionSpan) (last : ℕ) : Type 0 where
     pub frames : RaisesAll says values text (world_of t c tokens mentions) c.made.root c.here q (behind o.before (ended_tree o ts last)) (reverse rest) os qs
     pub held : HoldsAllNew start t.ctx c.made.loose.items
     pub stack : IsStacked c
@@ -215,7 +215,7 @@ nothing_made s = record { same = record { operations = λ p. refl; blocks = λ b
 -- ---- positions
 
 -- in a region nothing is named
-region_unnamed : (p : Position) (ts : Trees Step) → sort_at p ≡ a_region → named_tokens p ts ≡ []
+region_unnamed : (p : Position) (ts : Trees ActionSpan) → sort_at p ≡ a_region → named_tokens p ts ≡ []
 region_unnamed in_region ts e = refl
 region_unnamed _ ts e = cc
 
@@ -263,7 +263,7 @@ module _ (around : List Position) (next : Standing) (p : Position) where
 
 module _ {D K A T : Type 0} (says : Saying K A T) (values : Values) (text : ℕ → List ℕ) (start : Seen K A T) (counter : ℕ) (s : Stage K A T) (whole c : Assembler D K A T) (f g : Open D K A T) (rest : List (Open D K A T))
     (tokens mentions : List ℕ) (is_f : whole.here ≡ f) (is_around : whole.around.items ≡ rest ++ g ∷ []) (kept : c.around.items ≡ rest) (made : c.made ≡ whole.made) where
-  abbrev v : World K A T
+  abbrev v : PartialModule K A T
   v = world_of s c tokens mentions
 
   later : LaterWorld (world_of s whole tokens mentions) v
@@ -271,7 +271,7 @@ module _ {D K A T : Type 0} (says : Saying K A T) (values : Values) (text : ℕ 
 
   -- what has the same numbers in the end, and the same blocks, as before
   ends_with_same : (blocks_of c ≡ blocks_of whole) → (numbers_of c ≡ numbers_of whole) → (b : Built) (at : Standing) → HasMade says values text start counter s whole b at tokens mentions → whole.made.root ≡ None
-      → (o : building.Open) (os : List building.Open) (q : Position) (qs : List Position) (ts : Trees Step) (last : ℕ)
+      → (o : building.Open) (os : List building.Open) (q : Position) (qs : List Position) (ts : Trees ActionSpan) (last : ℕ)
       → RaisesAll says values text (world_of s c tokens mentions) c.made.root c.here q (behind o.before (ended_tree o ts last)) (reverse rest) os qs
       → EndsMade says values text start counter s s whole c f g rest tokens mentions is_f is_around kept o os q qs ts last
   ends_with_same blocks numbers b at h none_yet o os q qs ts last frames = record {
@@ -311,8 +311,8 @@ module _ {D K A T : Type 0} (says : Saying K A T) (values : Values) (text : ℕ 
       let unnamed : f.numbers.items ≡ [] =
       pairs_none (λ n k. slice_get tokens n ≡ Some k) f.numbers.items
       (subst (λ (ks : List ℕ). Pairs (λ n k. slice_get tokens n ≡ Some k) f.numbers.items ks) (region_unnamed at.here b.here (sym ending.frame.sort ∙ ap sort_of is_region)) inner.numbered) in
-      let us : Trees Step = behind o.before (ended_tree o b.here last) in
-      let step : Step = record { action = o.action; first = o.first; last = last } in
+      let us : Trees ActionSpan = behind o.before (ended_tree o b.here last) in
+      let step : ActionSpan = record { action = o.action; first = o.first; last = last } in
       let ready : AreReady says v bs.items (blocks_in values text b.here) =
       are_ready_later says (world_of s whole tokens mentions) v later bs.items (blocks_in values text b.here) (keeps_same s.ctx bs.items)
       (subst (λ (x : Body D K A T). Raises says values text (world_of s whole tokens mentions) x f at.here b.here) is_region inner.made) in
@@ -347,7 +347,7 @@ module _ {D K A T : Type 0} (says : Saying K A T) (values : Values) (text : ℕ 
   -- ---- a block that ends
 
   -- a block that ends was made where its header ended
-  block_made : (ob : Option (Ptr BasicBlock)) (ts : Trees Step) → RaisesBlock says values text v ob f in_block ts → (b : Ptr BasicBlock) × (ob ≡ Some b) × IsOpened says values text v b f in_block ts
+  block_made : (ob : Option (Ptr BasicBlock)) (ts : Trees ActionSpan) → RaisesBlock says values text v ob f in_block ts → (b : Ptr BasicBlock) × (ob ≡ Some b) × IsOpened says values text v b f in_block ts
   block_made None ts h = absurd h.typed_so
   block_made (Some b) ts h = (b, refl, h)
 
@@ -366,8 +366,8 @@ module _ {D K A T : Type 0} (says : Saying K A T) (values : Values) (text : ℕ 
       let place : to ≡ in_region = subst (λ (x : Body D K A T). EndsAt (sort_of x) to) is_block ending.begun.ends in
       let begins : o.action ≡ act.Label = subst (λ (x : Body D K A T). Begins x o.action) is_block ending.begun.begins in
       let where_it_is : at.here ≡ in_block = block_place at.here (sym ending.frame.sort ∙ ap sort_of is_block) may in
-      let us : Trees Step = behind o.before (ended_tree o b.here last) in
-      let step : Step = record { action = o.action; first = o.first; last = last } in
+      let us : Trees ActionSpan = behind o.before (ended_tree o b.here last) in
+      let step : ActionSpan = record { action = o.action; first = o.first; last = last } in
       let f_raised : IsRaised says values text v f in_block b.here = subst (λ (x : Position). IsRaised says values text v f x b.here) where_it_is
       (raised_later says values text (world_of s whole tokens mentions) v later f at.here b.here (keeps_same s.ctx (blocks_of_body f.body)) inner) in
       let opened = block_made ended.block b.here (subst (λ (x : Body D K A T). Raises says values text v x f in_block b.here) is_block f_raised.made) in

@@ -20,12 +20,12 @@ use Rattle.ir_program.specs.declared.handles.Ptr.{Ptr}
 use Rattle.ir_grammar.specs.declared.grammar.Action.TheVariants as act
 use Rattle.ir_grammar.specs.Nesting.{Position, in_header, in_block, move}
 use Rattle.ir_forest.specs.Building.{Built, with_leaf, names_behind}
-use Rattle.ir_forest.specs.Forest.{Step}
+use Rattle.ir_forest.specs.Forest.{ActionSpan}
 use Rattle.ir_forest.specs.Meaning.{pieces_in, arguments_in, typed, operations_in}
 use Rattle.ir_forest.proofs.PiecesBehind.{name_behind}
 use Rattle.ir_formats.specs.Ordered.{Standing, moved_by}
 use Rattle.text_dialect.specs.Seen.{Seen}
-use Rattle.text_building.specs.Kept.{Keeps}
+use Rattle.text_building.specs.Kept.{KeepsAllSeen}
 use Rattle.text_building.specs.Later.{IsLater}
 use Rattle.text_building.proofs.Later.{keeps_later, opens_keeps}
 use Rattle.text_frames.specs.Waiting.{Waiting}
@@ -35,7 +35,7 @@ use Rattle.text_frames.specs.declared.opened.Open.{Open}
 use Rattle.text_frames.specs.declared.opened.OpenBlock.{OpenBlock}
 use Rattle.text_frames.specs.Makes.{types_in}
 use Rattle.text_frames.specs.Raised.{argument_tokens, blocks_of_body, listed, listed_block, IsAroundRoot, IsHeader, RaisesBlock, Raises, IsRaised}
-use Rattle.text_frames.specs.Worlds.{IsOpenBlock, LaterWorld, Rises, World, values_alone}
+use Rattle.text_frames.specs.Worlds.{IsOpenBlock, LaterWorld, Rises, PartialModule, values_alone}
 use Rattle.text_frames.proofs.BuiltBehind.{operations_behind, arguments_behind, has_header_behind, result_names_behind, listed_length}
 use Rattle.text_frames.proofs.Defining.{arguments_made}
 use Rattle.text_frames.proofs.LaterWorlds.{KeepsBlocks, KeepsEach, keeps_left, keeps_right}
@@ -61,7 +61,7 @@ types_in_types : (D K A T : Type 0) (types : List TypeHandle) → types_in {D = 
 types_in_types D K A T [] = refl
 types_in_types D K A T (ty ∷ types) = ap (λ (ts : List TypeHandle). ty ∷ ts) (types_in_types D K A T types)
 
-module _ {D K A T : Type 0} (says : Saying K A T) (values : Values) (text : ℕ → List ℕ) (w : World K A T) (f : Open D K A T) (ts : Trees Step) where
+module _ {D K A T : Type 0} (says : Saying K A T) (values : Values) (text : ℕ → List ℕ) (w : PartialModule K A T) (f : Open D K A T) (ts : Trees ActionSpan) where
   in_a_header : (p : Option (Ptr BasicBlock)) → RaisesBlock says values text w p f in_header ts → (p ≡ None) × IsHeader says values text w f in_header ts
   in_a_header None h = (refl, h)
   in_a_header (Some p) h = absurd h.among
@@ -109,10 +109,10 @@ module _ {D K A T : Type 0} (says : Saying K A T) (values : Values) (text : ℕ 
   -- The block is made.
   module _ (none_yet : a.made.root ≡ None) (t : Stage K A T) (c : Assembler D K A T) (kept : KeepsAround a c) (first : c.here.first ≡ a.here.first) (new : MakesBlock s t.ctx a c (text a.here.first))
       (given : t.counter ≡ s.counter + length (types_in a.here.content.value.parts.items)) (k : ℕ) where
-    abbrev ts : Trees Step
+    abbrev ts : Trees ActionSpan
     ts = b.here
 
-    abbrev more : Trees Step
+    abbrev more : Trees ActionSpan
     more = leaf_behind ts act.Header k
 
     abbrev types : List TypeHandle
@@ -121,13 +121,13 @@ module _ {D K A T : Type 0} (says : Saying K A T) (values : Values) (text : ℕ 
     abbrev p : Ptr BasicBlock
     p = new.block
 
-    abbrev w : World K A T
+    abbrev w : PartialModule K A T
     w = world_of s a tokens mentions
 
-    abbrev v : World K A T
+    abbrev v : PartialModule K A T
     v = world_of t c tokens mentions
 
-    all_kept : Keeps s.ctx t.ctx
+    all_kept : KeepsAllSeen s.ctx t.ctx
     all_kept = opens_keeps s.ctx t.ctx p (Some new.id) types s.counter new.opens
 
     later : IsLater s.ctx t.ctx

@@ -17,16 +17,16 @@ use Rattle.ir_grammar.specs.declared.grammar.Action.TheVariants as act
 use Rattle.text_frames.specs.declared.opened.Body.{Body}
 use Rattle.text_frames.specs.declared.opened.Body.TheVariants as body
 use Rattle.text_frames.specs.declared.opened.Open.{Open}
-use Rattle.ir_forest.specs.Forest.{Step}
+use Rattle.ir_forest.specs.Forest.{ActionSpan}
 use Rattle.ir_forest.specs.Building.{Built, behind, with_leaf, names_behind}
 use Rattle.ir_forest.specs.Meaning.{pieces_in, operands_in, arguments_in, tokens_in, by_operands, by_region, by_label}
 use Rattle.ir_grammar.specs.Nesting.{Position, at_root, behind_root_results, in_operation, in_operands, in_header, in_argument, in_block, behind_results, in_type, in_attribute, in_item, move}
-use Rattle.text_frames.specs.Opened.{HasName, HasBody}
+use Rattle.text_frames.specs.Opened.{HasOneMoreName, HasBody}
 use Rattle.ir_formats.specs.Ordered.{Standing, moved_by}
 use Rattle.text_frames.specs.Frames.{sort_at, sort_of, TakesParts}
 use Rattle.text_assembling.specs.Assembling.{HasMade, KeepsAround, NamesOne, Stage, world_of}
 use Rattle.text_frames.specs.Raised.{argument_tokens, listed, IsAroundRoot, IsHeader, IsOpened, RaisesBlock, Raises, IsRaised, RaisesAll, named_tokens, blocks_of_body, AreWaiting}
-use Rattle.text_frames.specs.Worlds.{World, AreAmong, LaterWorld}
+use Rattle.text_frames.specs.Worlds.{PartialModule, AreAmong, LaterWorld}
 use Rattle.text_frames.proofs.BuiltBehind.{operations_behind, regions_behind, blocks_behind, operands_behind, arguments_behind, arguments_behind_header, argument_tokens_behind, last_argument_behind, has_header_behind, result_names_behind, listed_behind, listed_length, typed_longer}
 use Rattle.text_frames.proofs.LaterWorlds.{get_left, get_right, among_both, later_same, world_same, KeepsBlocks, all_keep_same, all_later}
 use Rattle.text_frames.proofs.Moving.{Stays}
@@ -39,7 +39,7 @@ use Rattle.text_assembling.proofs.Held.{held_list}
 use Rattle.text_assembling.proofs.Stepping.{lone}
 
 -- trees with one more that stands alone
-abbrev pub leaf_behind : Trees Step → Action → ℕ → Trees Step
+abbrev pub leaf_behind : Trees ActionSpan → Action → ℕ → Trees ActionSpan
 leaf_behind ts a k = behind ts (node (lone a k) no_tree)
 
 pub pairs_put : {X Y : Type 0} (R : X → Y → Type 0) (xs : List X) (ys : List Y) (x : X) (y : Y) → Pairs R xs ys → R x y → Pairs R (xs ++ x ∷ []) (ys ++ y ∷ [])
@@ -55,7 +55,7 @@ pub record IsNeutral (a : Action) : Type 0 where
   pub operand : (xs : List ℕ) → by_operands a xs [] ≡ []
 
 -- where parts are taken, nothing is named
-pub unnamed_parts : (at : Position) → TakesParts (sort_at at) → (ts : Trees Step) → named_tokens at ts ≡ []
+pub unnamed_parts : (at : Position) → TakesParts (sort_at at) → (ts : Trees ActionSpan) → named_tokens at ts ≡ []
 unnamed_parts in_operation h ts = refl
 unnamed_parts in_type h ts = refl
 unnamed_parts in_attribute h ts = refl
@@ -69,9 +69,9 @@ no_root_parts in_attribute h names r = absurd r
 no_root_parts in_item h names r = absurd r
 no_root_parts _ h names r = absurd h
 
-module _ {D K A T : Type 0} (says : Saying K A T) (values : Values) (text : ℕ → List ℕ) (w : World K A T) where
+module _ {D K A T : Type 0} (says : Saying K A T) (values : Values) (text : ℕ → List ℕ) (w : PartialModule K A T) where
   -- what is made in a body stays so with a tree that adds nothing to it
-  pub raises_more : (b : Body D K A T) (f g : Open D K A T) (at to : Position) (ts : Trees Step) (s : Step) (us : Trees Step) → IsNeutral s.action
+  pub raises_more : (b : Body D K A T) (f g : Open D K A T) (at to : Position) (ts : Trees ActionSpan) (s : ActionSpan) (us : Trees ActionSpan) → IsNeutral s.action
       → ((p : Option (Ptr BasicBlock)) → b ≡ body.Block (record { block = p }) → RaisesBlock says values text w p f at ts → RaisesBlock says values text w p g to (behind ts (node s us)))
       → Raises says values text w b f at ts → Raises says values text w b g to (behind ts (node s us))
   raises_more body.Text f g at to ts s us neutral of_block h = tt
@@ -98,12 +98,12 @@ module _ {D K A T : Type 0} (says : Saying K A T) (values : Values) (text : ℕ 
       (λ e. root) keeps frames
 
   -- and where the innermost has one more tree
-  pub frames_leaf : (to : Position) (more : Trees Step) → record { here = to; around = here.around } ≡ next
+  pub frames_leaf : (to : Position) (more : Trees ActionSpan) → record { here = to; around = here.around } ≡ next
       → (IsRaised says values text (world_of t c new_tokens new_mentions) a.here here.here b.here → IsRaised says values text (world_of t c new_tokens new_mentions) c.here to more)
       → (AtRoot says values text (world_of t c new_tokens new_mentions) c.made.root here.here b.here → AtRoot says values text (world_of t c new_tokens new_mentions) c.made.root to more)
       → RaisesAll says values text (world_of t c new_tokens new_mentions) c.made.root c.here next.here more (reverse c.around.items) b.around next.around
   frames_leaf to more leads made root_so =
-      let v : World K A T = world_of t c new_tokens new_mentions in
+      let v : PartialModule K A T = world_of t c new_tokens new_mentions in
       let old = raised_here says values text v c.made.root a.here here.here b.here (reverse a.around.items) b.around here.around frames_later in
       let all : RaisesAll says values text v c.made.root c.here to more (reverse a.around.items) b.around here.around =
       raises_with says values text v c.made.root a.here c.here here.here to b.here more (reverse a.around.items) b.around here.around (made old) root_so frames_later in
@@ -112,12 +112,12 @@ module _ {D K A T : Type 0} (says : Saying K A T) (values : Values) (text : ℕ 
 
 -- ---- parts
 
-module _ {D K A T : Type 0} (says : Saying K A T) (values : Values) (text : ℕ → List ℕ) (w : World K A T) where
+module _ {D K A T : Type 0} (says : Saying K A T) (values : Values) (text : ℕ → List ℕ) (w : PartialModule K A T) where
   no_block : {P : Type 0} (b : Body D K A T) (p : Option (Ptr BasicBlock)) → TakesParts (sort_of b) → b ≡ body.Block (record { block = p }) → P
   no_block b p takes e = absurd (subst (λ (x : Body D K A T). TakesParts (sort_of x)) e takes)
 
   -- one more part stands in what takes parts
-  pub raised_part : (f g : Open D K A T) (at : Position) (ts : Trees Step) (s : Step) (us : Trees Step) → TakesParts (sort_at at) → sort_of f.body ≡ sort_at at → g.body ≡ f.body → g.numbers ≡ f.numbers → IsNeutral s.action
+  pub raised_part : (f g : Open D K A T) (at : Position) (ts : Trees ActionSpan) (s : ActionSpan) (us : Trees ActionSpan) → TakesParts (sort_at at) → sort_of f.body ≡ sort_at at → g.body ≡ f.body → g.numbers ≡ f.numbers → IsNeutral s.action
       → IsRaised says values text w f at ts → IsRaised says values text w g at (behind ts (node s us))
   raised_part f g at ts s us takes sort same numbers neutral h = record {
     made = subst (λ (x : Body D K A T). Raises says values text w x g at (behind ts (node s us))) (sym same)
@@ -134,7 +134,7 @@ module _ {D K A T : Type 0} (says : Saying K A T) (values : Values) (text : ℕ 
   pub part_made : (x : Action) → IsNeutral x → sort_of a.here.body ≡ sort_at here.here → Stays here.here here.around next → KeepsAround a c → c.made ≡ a.made → c.here.body ≡ a.here.body → c.here.numbers ≡ a.here.numbers
       → HasMade says values text start counter s c (with_leaf b x k) next (tokens ++ []) (mentions ++ [])
   part_made x neutral sort stays kept made same numbers =
-      let more : Trees Step = behind b.here (node (lone x k) no_tree) in
+      let more : Trees ActionSpan = behind b.here (node (lone x k) no_tree) in
       rw (append-nil tokens, append-nil mentions) (record {
         frames = frames_leaf says values text s s a c b here next tokens mentions tokens mentions has.frames (kept_world made) (ap (λ (z : Assembly). z.root) made) (all_keep_same s.ctx (a.here ∷ reverse a.around.items)) kept.around
             here.here more stays.leads (raised_part says values text (world_of s c tokens mentions) a.here c.here here.here b.here (lone x k) no_tree stays.takes sort same numbers neutral)
@@ -177,9 +177,9 @@ module _ {D K A T : Type 0} (says : Saying K A T) (values : Values) (text : ℕ 
       → c.here ≡ record a.here { body = body.Operands ls } → ls.items ≡ ks.items ++ k ∷ [] → HasMade says values text start counter s c (with_leaf b act.Operand k) next (tokens ++ []) (mentions ++ k ∷ [])
   operand_made moved kept made ks ls is new items =
       let place = operand_at here.around next here.here moved in
-      let more : Trees Step = behind b.here (node (lone act.Operand k) no_tree) in
+      let more : Trees ActionSpan = behind b.here (node (lone act.Operand k) no_tree) in
       let all : List ℕ = mentions ++ k ∷ [] in
-      let v : World K A T = world_of s c tokens all in
+      let v : PartialModule K A T = world_of s c tokens all in
       let longer : AreAmong mentions all = λ i n e. (i, get_left mentions (k ∷ []) i n e) in
       let last : AreAmong (k ∷ []) all = λ i n e. get_right mentions (k ∷ []) i n e in
       let l : LaterWorld (world_of s a tokens mentions) v = record {
@@ -223,7 +223,7 @@ argument_at : (around : List Position) (next : Standing) (p : Position) → move
 argument_at around next in_header h = (refl, cc)
 argument_at around next _ h = cc
 
-named_result : (ts : Trees Step) (to : Position) → IsResults to → named_tokens to ts ≡ names_behind [] ts
+named_result : (ts : Trees ActionSpan) (to : Position) → IsResults to → named_tokens to ts ≡ names_behind [] ts
 named_result ts behind_results is = refl
 named_result ts behind_root_results is = refl
 named_result ts _ is = absurd is
@@ -234,7 +234,7 @@ neutral_result = record { region = λ x y. refl; block = λ x y. refl; operand =
 neutral_argument : IsNeutral act.Argument
 neutral_argument = record { region = λ x y. refl; block = λ x y. refl; operand = λ xs. refl }
 
-module _ {D K A T : Type 0} (says : Saying K A T) (values : Values) (text : ℕ → List ℕ) (w : World K A T) (f g : Open D K A T) (ts : Trees Step) (k n : ℕ)
+module _ {D K A T : Type 0} (says : Saying K A T) (values : Values) (text : ℕ → List ℕ) (w : PartialModule K A T) (f g : Open D K A T) (ts : Trees ActionSpan) (k n : ℕ)
     (same : g.body ≡ f.body) (first : g.first ≡ f.first) (numbers : g.numbers.items ≡ f.numbers.items ++ n ∷ []) (token : slice_get w.tokens n ≡ Some k) where
   opened_result : (p : Ptr BasicBlock) (to : Position) → IsResults to → IsOpened says values text w p f to ts → IsOpened says values text w p g to (leaf_behind ts act.Result k)
   opened_result p behind_results is h = record {
@@ -298,7 +298,7 @@ module _ {D K A T : Type 0} (says : Saying K A T) (values : Values) (text : ℕ 
     numbered = rw (numbers, argument_tokens_behind ts (lone act.Argument k) no_tree) (pairs_put (λ n k. slice_get w.tokens n ≡ Some k) f.numbers.items (argument_tokens ts) n k h.numbered token);
   }
 
-module _ {K A T : Type 0} (says : Saying K A T) (values : Values) (text : ℕ → List ℕ) (w : World K A T) (root : Option (Ptr Operation)) (ts : Trees Step) (k : ℕ) where
+module _ {K A T : Type 0} (says : Saying K A T) (values : Values) (text : ℕ → List ℕ) (w : PartialModule K A T) (root : Option (Ptr Operation)) (ts : Trees ActionSpan) (k : ℕ) where
   root_result : (to : Position) → IsResults to → AtRoot says values text w root to ts → AtRoot says values text w root to (leaf_behind ts act.Result k)
   root_result behind_root_results is h = (
     result_names_behind [] ts (lone act.Result k) no_tree ∙ (ap (λ (ks : List ℕ). ks ++ k ∷ []) h.0 ∙ sym (name_behind [] ts (lone act.Result k) no_tree)),
@@ -330,16 +330,16 @@ module _ {D K A T : Type 0} (says : Saying K A T) (values : Values) (text : ℕ 
       })
 
   -- a result is named
-  pub result_made : moved_by (move here.here act.Result) here.around ≡ Some next → HasName a.here c.here k → HasMade says values text start counter s c (with_leaf b act.Result k) next (tokens ++ k ∷ []) (mentions ++ [])
+  pub result_made : moved_by (move here.here act.Result) here.around ≡ Some next → HasOneMoreName a.here c.here k → HasMade says values text start counter s c (with_leaf b act.Result k) next (tokens ++ k ∷ []) (mentions ++ [])
   result_made moved new =
       let place = result_at here.around next here.here moved in
       let to : Position = place.0 in
-      let v : World K A T = world_of s c (tokens ++ k ∷ []) mentions in
+      let v : PartialModule K A T = world_of s c (tokens ++ k ∷ []) mentions in
       let later = frames_later says values text s s a c b here next tokens mentions (tokens ++ k ∷ []) mentions has.frames named_world named.root (all_keep_same s.ctx (a.here ∷ reverse a.around.items)) kept.around in
       let there : RaisesAll says values text v c.made.root a.here to b.here (reverse a.around.items) b.around here.around =
       raises_becomes says values text v c.made.root a.here here.here to b.here (reverse a.around.items) b.around here.around place.2 later in
       let old : IsRaised says values text v a.here to b.here = raised_here says values text v c.made.root a.here to b.here (reverse a.around.items) b.around here.around there in
-      let more : Trees Step = leaf_behind b.here act.Result k in
+      let more : Trees ActionSpan = leaf_behind b.here act.Result k in
       let all : RaisesAll says values text v c.made.root c.here to more (reverse a.around.items) b.around here.around =
       raises_with says values text v c.made.root a.here c.here to to b.here more (reverse a.around.items) b.around here.around
       (raised_result says values text v a.here c.here b.here k (length a.made.values.items) new.body new.first named.numbers named_token to place.3 old)
@@ -353,7 +353,7 @@ module _ {D K A T : Type 0} (says : Saying K A T) (values : Values) (text : ℕ 
       → HasMade says values text start counter s c (with_leaf b act.Argument k) next (tokens ++ k ∷ []) (mentions ++ [])
   argument_made moved new content =
       let place = argument_at here.around next here.here moved in
-      let v : World K A T = world_of s c (tokens ++ k ∷ []) mentions in
+      let v : PartialModule K A T = world_of s c (tokens ++ k ∷ []) mentions in
       named_made (with_leaf b act.Argument k)
       (frames_leaf says values text s s a c b here next tokens mentions (tokens ++ k ∷ []) mentions has.frames named_world named.root (all_keep_same s.ctx (a.here ∷ reverse a.around.items)) kept.around
       in_argument (leaf_behind b.here act.Argument k) place.1

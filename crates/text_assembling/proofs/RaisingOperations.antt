@@ -19,13 +19,13 @@ use Rattle.ir_grammar.specs.declared.grammar.Action.TheVariants as act
 use Rattle.ir_grammar.specs.Nesting.{Position, behind_root_results, at_end, in_operation, in_block, behind_results}
 use Rattle.ir_forest.specs.Building as building
 use Rattle.ir_forest.specs.Building.{Built, with_end, behind, ended_tree, names_behind, with_name, names_fault}
-use Rattle.ir_forest.specs.Forest.{Step}
+use Rattle.ir_forest.specs.Forest.{ActionSpan}
 use Rattle.ir_forest.specs.Meaning.{by_operation, operations_in, arguments_in, pieces_in, regions_in, head_of}
 use Rattle.ir_forest.specs.ValueFaults.{first_token}
 use Rattle.ir_forest.proofs.PiecesBehind.{name_behind}
 use Rattle.ir_formats.specs.Ordered.{Standing, moved_out}
 use Rattle.text_dialect.specs.Seen.{SeenOperation, Seen}
-use Rattle.text_building.specs.Kept.{Keeps}
+use Rattle.text_building.specs.Kept.{KeepsAllSeen}
 use Rattle.text_building.specs.Later.{IsLater}
 use Rattle.text_building.specs.Loose.{IsLooseBlock}
 use Rattle.text_building.specs.Made.{AppendsOperation, lists_of}
@@ -44,7 +44,7 @@ use Rattle.text_frames.specs.Frames.{an_operation, sort_at, sort_of, StandsAlone
 use Rattle.text_frames.specs.Makes.{block_in}
 use Rattle.text_frames.specs.Opened.{HasBody}
 use Rattle.text_frames.specs.Raised.{AreWaiting, HoldsAllNew, block_nodes, blocks_of_body, listed_block, with_result, result_names, is_header, has_header, begun_at, named_tokens, IsAroundRoot, IsOpened, RaisesBlock, Raises, IsRaised, RaisesAll}
-use Rattle.text_frames.specs.Worlds.{IsMade, IsOpenBlock, LaterWorld, Rises, World, values_alone}
+use Rattle.text_frames.specs.Worlds.{IsMade, IsOpenBlock, LaterWorld, Rises, PartialModule, values_alone}
 use Rattle.text_frames.proofs.BuiltBehind.{operations_behind, arguments_behind_header, has_header_behind, result_names_behind}
 use Rattle.text_frames.proofs.Defining.{results_made}
 use Rattle.text_frames.proofs.Ended.{is_text, is_block, alone_names}
@@ -70,12 +70,12 @@ alone_place in_block h = inr refl
 alone_place _ h = absurd h
 
 -- there it began behind the names of its results, if it has any
-pub named_before : (p : Position) (ts : Trees Step) → StandsAlone p → named_tokens (begun_at p) ts ≡ names_behind [] ts
+pub named_before : (p : Position) (ts : Trees ActionSpan) → StandsAlone p → named_tokens (begun_at p) ts ≡ names_behind [] ts
 named_before at_end ts h = refl
 named_before in_block ts h = refl
 named_before _ ts h = absurd h
 
-operation_unnamed : (p : Position) (ts : Trees Step) → sort_at p ≡ an_operation → named_tokens p ts ≡ []
+operation_unnamed : (p : Position) (ts : Trees ActionSpan) → sort_at p ≡ an_operation → named_tokens p ts ≡ []
 operation_unnamed in_operation ts e = refl
 operation_unnamed _ ts e = cc
 
@@ -87,19 +87,19 @@ names_many names first many last h = go (length names == many) (record { kind = 
     go true f e k = eqb-true (length names) many e
     go false f e k = cc
 
-module _ {D K A T : Type 0} (says : Saying K A T) (values : Values) (text : ℕ → List ℕ) (w : World K A T) where
+module _ {D K A T : Type 0} (says : Saying K A T) (values : Values) (text : ℕ → List ℕ) (w : PartialModule K A T) where
   -- the block that is open around an operation is there
-  pub open_around : (ob : Option (Ptr BasicBlock)) (g : Open D K A T) (before : Trees Step) → RaisesBlock says values text w ob g behind_results before
+  pub open_around : (ob : Option (Ptr BasicBlock)) (g : Open D K A T) (before : Trees ActionSpan) → RaisesBlock says values text w ob g behind_results before
       → (p : Ptr BasicBlock) × (ob ≡ Some p) × IsOpened says values text w p g behind_results before
   open_around None g before h = absurd h.typed_so
   open_around (Some p) g before h = (p, refl, h)
 
   -- What is around an operation: the text, or a block that was opened.
-  pub data Surrounding (g : Open D K A T) (q : Position) (before : Trees Step) : Type 0 where
+  pub data Surrounding (g : Open D K A T) (q : Position) (before : Trees ActionSpan) : Type 0 where
     in_text : q ≡ at_end → g.body ≡ body.Text → Surrounding g q before
     in_open_block : (ob : OpenBlock) (p : Ptr BasicBlock) → q ≡ in_block → g.body ≡ body.Block ob → ob.block ≡ Some p → IsOpened says values text w p g behind_results before → Surrounding g q before
 
-  pub surrounding : (g : Open D K A T) (q : Position) (before : Trees Step) → StandsAlone q → sort_of g.body ≡ sort_at q → IsRaised says values text w g (begun_at q) before → Surrounding g q before
+  pub surrounding : (g : Open D K A T) (q : Position) (before : Trees ActionSpan) → StandsAlone q → sort_of g.body ≡ sort_at q → IsRaised says values text w g (begun_at q) before → Surrounding g q before
   surrounding g q before alone sorts raised = go (alone_place q alone)
     where
       go : (q ≡ at_end) ⊎ (q ≡ in_block) → Surrounding g q before
@@ -127,11 +127,11 @@ open_first _ p h = cc
 
 module _ {D K A T : Type 0} (says : Saying K A T) (values : Values) (text : ℕ → List ℕ) (start : Seen K A T) (counter : ℕ) (s : Stage K A T) (whole a : Assembler D K A T) (f : Open D K A T) (ended : OpenOperation)
     (tokens mentions : List ℕ) (is_f : whole.here ≡ f) (is_around : whole.around.items ≡ a.around.items ++ a.here ∷ []) (is_made : a.made ≡ whole.made) (is_body : f.body ≡ body.Operation ended)
-    (o : building.Open) (os : List building.Open) (at q : Position) (qs : List Position) (ts : Trees Step)
+    (o : building.Open) (os : List building.Open) (at q : Position) (qs : List Position) (ts : Trees ActionSpan)
     (ending : Ending says values text s.ctx.types f a.here o at q ts) (inner : IsRaised says values text (world_of s whole tokens mentions) f at ts)
     (all : RaisesAll says values text (world_of s whole tokens mentions) whole.made.root a.here (begun_at q) o.before (reverse a.around.items) os qs)
     (none_yet : whole.made.root ≡ None) (held : HoldsAllNew start s.ctx whole.made.loose.items) (stack : IsStacked whole) (definitions : AreSettled s whole tokens counter) where
-  abbrev w : World K A T
+  abbrev w : PartialModule K A T
   w = world_of s whole tokens mentions
 
   alone : StandsAlone q
@@ -221,16 +221,16 @@ module _ {D K A T : Type 0} (says : Saying K A T) (values : Values) (text : ℕ 
       (given : t.counter ≡ s.counter + length a.here.names.items) (same : HasBody a.here c.here a.here.body) (first last : ℕ)
       (no_fault : names_fault a.here.names.items first (length (values.result_types ended.kind (pieces_in values text ts))) last ≡ None)
       (waits : AreWaiting start s.ctx whole.made.pending.items mentions) where
-    abbrev v : World K A T
+    abbrev v : PartialModule K A T
     v = world_of t c tokens mentions
 
     abbrev op : Ptr Operation
     op = new.op
 
-    abbrev step : Step
+    abbrev step : ActionSpan
     step = record { action = o.action; first = o.first; last = last }
 
-    abbrev us : Trees Step
+    abbrev us : Trees ActionSpan
     us = behind o.before (ended_tree o ts last)
 
     abbrev tree : Entity ℕ
@@ -252,10 +252,10 @@ module _ {D K A T : Type 0} (says : Saying K A T) (values : Values) (text : ℕ 
 
     -- ---- the context with the operation
 
-    typed_keeps : Keeps s.ctx new.typed
+    typed_keeps : KeepsAllSeen s.ctx new.typed
     typed_keeps = same_keeps s.ctx new.typed new.same
 
-    made_keeps : Keeps s.ctx new.with_it
+    made_keeps : KeepsAllSeen s.ctx new.with_it
     made_keeps = keeps_both s.ctx new.typed new.with_it typed_keeps
         (makes_keeps new.typed new.with_it op new.kind new.attributes new.result_types s.counter taken new.makes)
 

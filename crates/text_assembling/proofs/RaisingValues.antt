@@ -21,16 +21,16 @@ use Rattle.text_frames.specs.declared.opened.Body.{Body}
 use Rattle.text_frames.specs.declared.opened.Body.TheVariants as body
 use Rattle.text_frames.specs.declared.opened.Open.{Open}
 use Rattle.text_frames.specs.declared.opened.OpenOperation.{OpenOperation}
-use Rattle.ir_forest.specs.Forest.{Step}
+use Rattle.ir_forest.specs.Forest.{ActionSpan}
 use Rattle.ir_forest.specs.Building as building
 use Rattle.ir_forest.specs.Building.{Built, with_end, behind, ended_tree, names_behind}
 use Rattle.ir_forest.specs.Meaning.{pieces_in, tokens_in, operands_in, arguments_in, typed}
 use Rattle.ir_grammar.specs.Nesting.{Position, in_operation, in_operands, in_header, in_argument, in_type, in_attribute, in_list, in_item}
 use Rattle.text_frames.specs.Opened.{HasPut}
 use Rattle.ir_formats.specs.Ordered.{Standing, moved_out}
-use Rattle.text_frames.specs.Frames.{Sort, some_operands, a_type, an_attribute, a_list, an_item, sort_at, sort_of, TakesParts, TakesTypes, EndsAt, Begins, SaysParts, Contains, Ending}
+use Rattle.text_frames.specs.Frames.{FrameSort, some_operands, a_type, an_attribute, a_list, an_item, sort_at, sort_of, TakesParts, TakesTypes, EndsAt, Begins, SaysParts, Contains, Ending}
 use Rattle.text_assembling.specs.Assembling.{Holds, Stage, numbers_of, blocks_of, world_of, HasMade}
-use Rattle.text_frames.specs.Worlds.{World, AreAmong}
+use Rattle.text_frames.specs.Worlds.{PartialModule, AreAmong}
 use Rattle.text_frames.specs.Raised.{blocks_of_body, begun_at, argument_tokens, last_argument, listed, named_tokens, IsAroundRoot, IsHeader, RaisesBlock, Raises, IsRaised}
 use Rattle.text_frames.proofs.BuiltBehind.{operations_behind, regions_behind, operands_behind, arguments_behind, argument_tokens_behind, has_header_behind, result_names_behind, listed_behind, listed_length, typed_longer, typed_more}
 use Rattle.text_frames.proofs.LaterWorlds.{raised_later}
@@ -43,7 +43,7 @@ use Rattle.text_assembling.proofs.Settling.{still_unrooted}
 use Rattle.text_frames.specs.declared.assembly.Assembly.{Assembly}
 
 -- values, and operands
-abbrev pub IsValue : Sort → Type 0
+abbrev pub IsValue : FrameSort → Type 0
 IsValue a_type = Unit {0}
 IsValue an_attribute = Unit {0}
 IsValue a_list = Unit {0}
@@ -59,7 +59,7 @@ no_blocks body.Item h = refl
 no_blocks (body.Operands ks) h = refl
 no_blocks _ h = absurd h
 
-value_unnamed : (p : Position) (ts : Trees Step) → IsValue (sort_at p) → named_tokens p ts ≡ []
+value_unnamed : (p : Position) (ts : Trees ActionSpan) → IsValue (sort_at p) → named_tokens p ts ≡ []
 value_unnamed in_type ts h = refl
 value_unnamed in_attribute ts h = refl
 value_unnamed in_list ts h = refl
@@ -79,7 +79,7 @@ begun_parts _ h = absurd h
 module _ {D K A T : Type 0} (says : Saying K A T) (values : Values) (text : ℕ → List ℕ) (start : Seen K A T) (counter : ℕ) (s t : Stage K A T) (whole c : Assembler D K A T) (f g : Open D K A T) (rest : List (Open D K A T))
     (tokens mentions : List ℕ) (is_f : whole.here ≡ f) (is_around : whole.around.items ≡ rest ++ g ∷ []) (kept : c.around.items ≡ rest) (only : OnlyTypes s t) (made : c.made ≡ whole.made) where
   -- what a value that ends leaves of what is around it
-  pub record Leaves (o : building.Open) (q : Position) (ts : Trees Step) (last : ℕ) : Type 0 where
+  pub record Leaves (o : building.Open) (q : Position) (ts : Trees ActionSpan) (last : ℕ) : Type 0 where
     pub inner : IsAroundRoot (begun_at q) (names_behind [] o.before) → ⊥
     pub numbers : c.here.numbers.items ≡ g.numbers.items
     pub blocks : blocks_of_body c.here.body ≡ blocks_of_body g.body
@@ -91,8 +91,8 @@ module _ {D K A T : Type 0} (says : Saying K A T) (values : Values) (text : ℕ 
       → IsRaised says values text (world_of t c tokens mentions) g (begun_at q) o.before → OnOk r (Leaves o q b.here last))
       → OnOk r (HasMade says values text start counter t c (with_end b.here b.around last) next tokens mentions)
   value_ends b at next last r holds has out value leaves =
-      let w : World K A T = world_of s whole tokens mentions in
-      let v : World K A T = world_of t c tokens mentions in
+      let w : PartialModule K A T = world_of s whole tokens mentions in
+      let v : PartialModule K A T = world_of t c tokens mentions in
       let later = same_world_later s t only whole c tokens mentions made in
       let two : whole.around.items ≡ c.around.items ++ g ∷ [] = is_around ∙ ap (λ (xs : List (Open D K A T)). xs ++ g ∷ []) (sym kept) in
       ends_made says values text start counter s t whole c f g rest tokens mentions is_f is_around kept b at next last r holds has out
@@ -115,7 +115,7 @@ module _ {D K A T : Type 0} (says : Saying K A T) (values : Values) (text : ℕ 
       (raised_later says values text w v later g (begun_at q) o.before (λ p i h. block_stays s t only p) outer))))
 
   -- one more part stands in what is around it
-  part_leaves : (o : building.Open) (q : Position) (ts : Trees Step) (last k : ℕ) (p : Part D K A T) → IsNeutral o.action → TakesParts (sort_at q) → sort_of g.body ≡ sort_at q → HasPut g c.here g.body p k
+  part_leaves : (o : building.Open) (q : Position) (ts : Trees ActionSpan) (last k : ℕ) (p : Part D K A T) → IsNeutral o.action → TakesParts (sort_at q) → sort_of g.body ≡ sort_at q → HasPut g c.here g.body p k
       → IsRaised says values text (world_of t c tokens mentions) g (begun_at q) o.before → Leaves o q ts last
   part_leaves o q ts last k p neutral takes sort put old = record {
     inner = λ r. no_root_parts q takes (names_behind [] o.before) (subst (λ (x : Position). IsAroundRoot x (names_behind [] o.before)) (begun_parts q takes) r);
@@ -127,11 +127,11 @@ module _ {D K A T : Type 0} (says : Saying K A T) (values : Values) (text : ℕ 
 
 -- ---- a type in a header
 
-module _ {D K A T : Type 0} (says : Saying K A T) (values : Values) (text : ℕ → List ℕ) (w : World K A T) (g h : Open D K A T) (ts us : Trees Step) (kind first last k : ℕ) (ty : TypeHandle)
+module _ {D K A T : Type 0} (says : Saying K A T) (values : Values) (text : ℕ → List ℕ) (w : PartialModule K A T) (g h : Open D K A T) (ts us : Trees ActionSpan) (kind first last k : ℕ) (ty : TypeHandle)
     (put : HasPut g h g.body (part.«Type» ty) k) (shows : ShowsType says w.ctx.types ty (node (type_of_kind kind) (pieces_in values text us))) where
   header_type : IsHeader says values text w g in_argument ts → IsHeader says values text w h in_header (behind ts (node (record { action = act.BeginType kind; first = first; last = last }) us))
   header_type old =
-      let step : Step = record { action = act.BeginType kind; first = first; last = last } in
+      let step : ActionSpan = record { action = act.BeginType kind; first = first; last = last } in
       let x : ValueTree = node (type_of_kind kind) (pieces_in values text us) in
       let before : List ValueTree = listed (pieces_in values text ts) in
       let front : List ℕ = old.typed_so.0 in
@@ -161,7 +161,7 @@ module _ {D K A T : Type 0} (says : Saying K A T) (values : Values) (text : ℕ 
 
   pub raised_type : IsRaised says values text w g in_argument ts → IsRaised says values text w h in_header (behind ts (node (record { action = act.BeginType kind; first = first; last = last }) us))
   raised_type old =
-      let step : Step = record { action = act.BeginType kind; first = first; last = last } in
+      let step : ActionSpan = record { action = act.BeginType kind; first = first; last = last } in
       let tokens_so : argument_tokens (behind ts (node step us)) ≡ argument_tokens ts = argument_tokens_behind ts step us ∙ append-nil (argument_tokens ts) in
       record {
         made = subst (λ (x : Body D K A T). Raises says values text w x h in_header (behind ts (node step us))) (sym put.body)
@@ -191,7 +191,7 @@ neutral_list = record { region = λ x y. refl; block = λ x y. refl; operand = �
 module _ {D K A T : Type 0} (says : Saying K A T) (values : Values) (text : ℕ → List ℕ) (start : Seen K A T) (counter : ℕ) (s t : Stage K A T) (whole c : Assembler D K A T) (f g : Open D K A T) (rest : List (Open D K A T))
     (tokens mentions : List ℕ) (is_f : whole.here ≡ f) (is_around : whole.around.items ≡ rest ++ g ∷ []) (kept : c.around.items ≡ rest) (only : OnlyTypes s t) (made : c.made ≡ whole.made)
     (b : Built) (at next : Standing) (last : ℕ) (r : Result (Unit {0}) AssemblyFault) (holds : Holds says values text s.ctx.types whole b at) (has : HasMade says values text start counter s whole b at tokens mentions) (out : moved_out at.around ≡ Some next) where
-  abbrev v : World K A T
+  abbrev v : PartialModule K A T
   v = world_of t c tokens mentions
 
   -- a type that ends is a part, or that of the last argument
@@ -250,7 +250,7 @@ module _ {D K A T : Type 0} (says : Saying K A T) (values : Values) (text : ℕ 
       value_ends says values text start counter s t whole c f g rest tokens mentions is_f is_around kept only made b at next last r holds has out (subst (λ (x : Body D K A T). IsValue (sort_of x)) (sym is) tt)
       (λ o q ending inner outer. (
       let place : q ≡ in_list = subst (λ (x : Body D K A T). EndsAt (sort_of x) q) is ending.begun.ends in
-      let more : Trees Step = behind o.before (ended_tree o b.here last) in
+      let more : Trees ActionSpan = behind o.before (ended_tree o b.here last) in
       let old : IsRaised says values text v g in_list o.before = subst (λ (p : Position). IsRaised says values text v g (begun_at p) o.before) place outer in
       on_ok_weaker r (λ (x : (ns : Vec (Vec (Part D K A T) Global) Global) × (c.here ≡ record g { body = body.List ns }) × (ns.items ≡ ms.items ++ parts ∷ [])). record {
         inner = λ i. subst (λ (p : Position). IsAroundRoot (begun_at p) (names_behind [] o.before)) place i;
@@ -269,7 +269,7 @@ module _ {D K A T : Type 0} (says : Saying K A T) (values : Values) (text : ℕ 
       (λ o q ending inner outer. (
       let place : q ≡ in_operation = subst (λ (x : Body D K A T). EndsAt (sort_of x) q) is ending.begun.ends in
       let begins : o.action ≡ act.BeginOperands = subst (λ (x : Body D K A T). Begins x o.action) is ending.begun.begins in
-      let step : Step = record { action = act.BeginOperands; first = o.first; last = last } in
+      let step : ActionSpan = record { action = act.BeginOperands; first = o.first; last = last } in
       let contains : ks.items ≡ tokens_in b.here = subst (λ (x : Body D K A T). Contains says values text s.ctx.types x f.content.value b.here) is ending.frame.contains in
       let among : AreAmong ks.items mentions = subst (λ (x : Body D K A T). Raises says values text v x f at.here b.here) is inner.made in
       let old : IsRaised says values text v g in_operation o.before = subst (λ (x : Position). IsRaised says values text v g (begun_at x) o.before) place outer in

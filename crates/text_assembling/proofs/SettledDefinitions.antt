@@ -7,7 +7,7 @@ use Rattle.ir_program.specs.declared.handles.Ptr.{Ptr}
 use Rattle.ir_program.specs.declared.handles.Value.{Value}
 use Rattle.ir_scopes.proofs.Apart.{get_append}
 use Rattle.text_dialect.specs.Seen.{Seen}
-use Rattle.text_building.specs.Loose.{IsDefined}
+use Rattle.text_building.specs.Loose.{IsDefinedValue}
 use Rattle.text_frames.specs.declared.opened.Open.{Open}
 use Rattle.text_frames.specs.Raised.{blocks_of_body}
 use Rattle.text_frames.specs.Worlds.{Rises, set_all}
@@ -26,7 +26,7 @@ pub record Settled {K A T : Type 0} (s : Stage K A T) (ns : List ℕ) (values : 
   pub waiting : (i n : ℕ) → slice_get ns i ≡ Some n → slice_get values n ≡ Some None
   pub settled : (n : ℕ) → n < length values → ((i : ℕ) × (slice_get ns i ≡ Some n)) ⊎ ((v : Value) × (slice_get values n ≡ Some (Some v)))
   pub distinct : (m n : ℕ) (v w : Value) → slice_get values m ≡ Some (Some v) → slice_get values n ≡ Some (Some w) → v.number ≡ w.number → m ≡ n
-  pub live : (n : ℕ) (v : Value) → slice_get values n ≡ Some (Some v) → IsDefined s.ctx v × (v.number < s.counter)
+  pub live : (n : ℕ) (v : Value) → slice_get values n ≡ Some (Some v) → IsDefinedValue s.ctx v × (v.number < s.counter)
   pub counted : s.counter + length ns ≡ counter + length values
 
 module _ {D K A T : Type 0} (s : Stage K A T) (a : Assembler D K A T) (ns : List ℕ) (values : List (Option Value)) (tokens : List ℕ) (counter : ℕ) where
@@ -46,7 +46,7 @@ module _ {D K A T : Type 0} (s : Stage K A T) (a : Assembler D K A T) (ns : List
 
 module _ {K A T : Type 0} where
   -- the context may change where no value is made
-  pub settled_later : (s t : Stage K A T) (ns : List ℕ) (values : List (Option Value)) (tokens : List ℕ) (counter : ℕ) → ((v : Value) → IsDefined s.ctx v → IsDefined t.ctx v)
+  pub settled_later : (s t : Stage K A T) (ns : List ℕ) (values : List (Option Value)) (tokens : List ℕ) (counter : ℕ) → ((v : Value) → IsDefinedValue s.ctx v → IsDefinedValue t.ctx v)
       → t.counter ≡ s.counter → Settled s ns values tokens counter → Settled t ns values tokens counter
   settled_later s t ns values tokens counter keeps same h = record {
     many = h.many;
@@ -96,8 +96,8 @@ module _ {K A T : Type 0} where
 
   -- the last numbers that wait get values that are fresh
   pub settled_made : (s t : Stage K A T) (ms ns : List ℕ) (vs : List Value) (values : List (Option Value)) (tokens : List ℕ) (counter : ℕ) → length vs ≡ length ns
-      → ((i : ℕ) (v : Value) → slice_get vs i ≡ Some v → IsDefined t.ctx v × (v.number ≡ s.counter + i))
-      → ((v : Value) → IsDefined s.ctx v → IsDefined t.ctx v) → t.counter ≡ s.counter + length vs
+      → ((i : ℕ) (v : Value) → slice_get vs i ≡ Some v → IsDefinedValue t.ctx v × (v.number ≡ s.counter + i))
+      → ((v : Value) → IsDefinedValue s.ctx v → IsDefinedValue t.ctx v) → t.counter ≡ s.counter + length vs
       → Settled s (ms ++ ns) values tokens counter → Settled t ms (set_all ns vs values) tokens counter
   settled_made s t ms ns vs values tokens counter many fresh keeps count h = record {
     many = omega (arith, h.many, long);
@@ -229,8 +229,8 @@ module _ {D K A T : Type 0} where
   -- what is named innermost gets values that are fresh
   pub settled_here : (s t : Stage K A T) (a c : Assembler D K A T) (tokens : List ℕ) (counter : ℕ) (vs : List Value) → c.around.items ≡ a.around.items → c.here.numbers.items ≡ []
       → c.made.values.items ≡ set_all a.here.numbers.items vs a.made.values.items → length vs ≡ length a.here.numbers.items
-      → ((i : ℕ) (v : Value) → slice_get vs i ≡ Some v → IsDefined t.ctx v × (v.number ≡ s.counter + i))
-      → ((v : Value) → IsDefined s.ctx v → IsDefined t.ctx v) → t.counter ≡ s.counter + length vs → AreSettled s a tokens counter → AreSettled t c tokens counter
+      → ((i : ℕ) (v : Value) → slice_get vs i ≡ Some v → IsDefinedValue t.ctx v × (v.number ≡ s.counter + i))
+      → ((v : Value) → IsDefinedValue s.ctx v → IsDefinedValue t.ctx v) → t.counter ≡ s.counter + length vs → AreSettled s a tokens counter → AreSettled t c tokens counter
   settled_here s t a c tokens counter vs e none made many fresh keeps count h =
       let outer = joined (map (λ (f : Open D K A T). f.numbers.items) a.around.items) in
       let all : numbers_of c ≡ outer =
@@ -242,7 +242,7 @@ module _ {D K A T : Type 0} where
 
   -- no definition is named or made
   pub settled_same : (s t : Stage K A T) (a c : Assembler D K A T) (tokens : List ℕ) (counter : ℕ) → numbers_of c ≡ numbers_of a → c.made.values.items ≡ a.made.values.items
-      → ((v : Value) → IsDefined s.ctx v → IsDefined t.ctx v) → t.counter ≡ s.counter → AreSettled s a tokens counter → AreSettled t c tokens counter
+      → ((v : Value) → IsDefinedValue s.ctx v → IsDefinedValue t.ctx v) → t.counter ≡ s.counter → AreSettled s a tokens counter → AreSettled t c tokens counter
   settled_same s t a c tokens counter e k keeps count h =
       are_settled t c (numbers_of a) a.made.values.items tokens counter e k
       (settled_later s t (numbers_of a) a.made.values.items tokens counter keeps count (settled_of s a (numbers_of a) a.made.values.items tokens counter refl refl h))

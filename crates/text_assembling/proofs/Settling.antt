@@ -15,9 +15,9 @@ use Rattle.ir_grammar.specs.Nesting.{Position, at_end, move}
 use Rattle.ir_grammar.specs.declared.grammar.Action.{Action}
 use Rattle.ir_formats.specs.Ordered.{Standing, moved_by}
 use Rattle.text_dialect.specs.Seen.{SeenOperation, Seen}
-use Rattle.text_building.specs.Kept.{Keeps}
+use Rattle.text_building.specs.Kept.{KeepsAllSeen}
 use Rattle.text_building.specs.Later.{IsLater}
-use Rattle.text_building.specs.Loose.{AreDistinct, IsLooseBlock, values_of}
+use Rattle.text_building.specs.Loose.{AreDistinctHandles, IsLooseBlock, values_of}
 use Rattle.text_building.proofs.Later.{defined_later}
 use Rattle.text_building.proofs.Options.{is_there, there}
 use Rattle.text_frames.specs.Waiting.{Pending, Waiting}
@@ -123,7 +123,7 @@ module _ {K A T : Type 0} (start : Seen K A T) where
       → start.operation new.op ≡ None → ((i : ℕ) (x : Pending) → slice_get pending i ≡ Some x → x.op ≢ new.op) → AreAmong new.tokens mentions
       → AreWaiting start s pending mentions → AreWaiting start s (pending ++ new ∷ []) mentions
   waiting_more s pending new o mentions at none fresh other among h = record {
-    once = subst (λ (ps : List (Ptr Operation)). AreDistinct ps) (sym (map-append (λ (x : Pending). x.op) pending (new ∷ [])))
+    once = subst (λ (ps : List (Ptr Operation)). AreDistinctHandles ps) (sym (map-append (λ (x : Pending). x.op) pending (new ∷ [])))
         (once_put (map (λ (x : Pending). x.op) pending) new.op h.once (λ k e. not_there k e));
     there = λ i x e. elim (get_either pending (new ∷ []) i x e) [
       | inl f ↦ h.there i x f
@@ -164,5 +164,5 @@ module _ {K A T : Type 0} (start s : Seen K A T) (xs : List IRNode) (bs : List (
   each_loose i b at = held.loose.loose i (BlockNode b) (ap (λ (ys : List IRNode). slice_get ys i) is ∙ get_image BlockNode bs i b at)
 
   -- and stays as it was where all is kept
-  pub each_kept : (t : Seen K A T) → Keeps s t → KeepsEach s t bs
+  pub each_kept : (t : Seen K A T) → KeepsAllSeen s t → KeepsEach s t bs
   each_kept t keeps b i at = let m = is_there (s.block b) (each_loose i b at).there in keeps.blocks b m.0 m.1 ∙ sym m.1

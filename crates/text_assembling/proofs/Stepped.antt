@@ -25,13 +25,13 @@ use Rattle.text_frames.specs.declared.opened.OpenBlock.{OpenBlock}
 use Rattle.text_frames.specs.declared.opened.OpenOperation.{OpenOperation}
 use Rattle.text_frames.specs.Frames.{sort_at, sort_of}
 use Rattle.text_frames.specs.Makes.{types_in}
-use Rattle.text_frames.specs.Opened.{HasBody, HasName, HasPut}
+use Rattle.text_frames.specs.Opened.{HasBody, HasOneMoreName, HasPut}
 use Rattle.text_frames.proofs.Framing.{innermost}
 use Rattle.text_frames.proofs.Moving as moving
 use Rattle.text_frames.proofs.Moving.{type_begins, name_stays, number_stays, width_stays, result_goes, argument_goes, header_goes, operand_goes}
 use Rattle.text_assembling.specs.declared.assembling.Assembler.{Assembler}
 use Rattle.text_assembling.specs.Assembling.{Begun, KeepsAround, NamesOne, Stage}
-use Rattle.text_assembling.specs.Steps.{HasEnded, HasStepped, IsAt, MakesBlock, MayGo, MayGoOut, Progress, progress_after, progress_ended}
+use Rattle.text_assembling.specs.Steps.{HasEnded, HasStepped, IsAt, MakesBlock, ActionIsInPlace, MayGoOut, Progress, progress_after, progress_ended}
 use Rattle.text_assembling.proofs.RaisingBegins.{type_enters, attribute_enters, list_enters, item_enters, value_begins, operation_begins, region_begins, operands_begin, block_begins}
 use Rattle.text_assembling.proofs.RaisingBlocks.{may_end}
 use Rattle.text_assembling.proofs.RaisingHeaders.{header_at, header_full, header_known, header_made, header_spelt}
@@ -52,7 +52,7 @@ ok_case (Err e) P f = tt
 
 module _ {D K A T : Type 0} (text : ℕ → List ℕ) (a : Assembler D K A T) where
   -- what is open innermost may end where an action ends it
-  pub goes_out : (g : Progress K A T) (next : Standing) (x : Action) → IsAnEnd x → MayGo text a x g next → MayGoOut g next
+  pub goes_out : (g : Progress K A T) (next : Standing) (x : Action) → IsAnEnd x → ActionIsInPlace text a x g next → MayGoOut g next
   goes_out g next x is goes = record {
     out = ends_out g.standing.around next g.standing.here x is goes.leads;
     may = may_end g.standing.around next g.standing.here x is goes.leads;
@@ -102,7 +102,7 @@ module _ {D K A T : Type 0} (says : Saying K A T) (values : Values) (text : ℕ 
       (w.0, record { holds = w.1; made = header_made says values text g.start g.first s a g.built g.standing g.tokens g.mentions at.made place.0 o.0 o.1 none_yet t c kept first new given k next place.1 })
 
 module _ {D K A T : Type 0} (says : Saying K A T) (values : Values) (text : ℕ → List ℕ) (s : Stage K A T) (a c : Assembler D K A T) where
-  pub stepped_result : KeepsAround a c → HasName a.here c.here (a.taken - 1) → NamesOne a c → HasStepped says values text s a s c act.Result
+  pub stepped_result : KeepsAround a c → HasOneMoreName a.here c.here (a.taken - 1) → NamesOne a c → HasStepped says values text s a s c act.Result
   stepped_result kept name named g next at goes =
       let none_yet = unrooted g.standing.here act.Result g.standing.around next a.made.root goes.leads at.made.unrooted in
       let w = went_result says values text s.ctx.types a c g.built g.standing next (a.taken - 1) at.holds (result_goes g.standing.around next g.standing.here goes.leads) kept name in
@@ -115,7 +115,7 @@ module _ {D K A T : Type 0} (says : Saying K A T) (values : Values) (text : ℕ 
       (w.0, record { holds = w.1; made = argument_made says values text g.start g.first s a c g.built g.standing next (a.taken - 1) g.tokens g.mentions at.made none_yet kept named goes.leads here content })
 
   -- the operands that are open where one more is named
-  pub open_operands : (g : Progress K A T) (next : Standing) → IsAt says values text s a g → MayGo text a act.Operand g next → (ks : Vec ℕ Global) × (a.here.body ≡ body.Operands ks)
+  pub open_operands : (g : Progress K A T) (next : Standing) → IsAt says values text s a g → ActionIsInPlace text a act.Operand g next → (ks : Vec ℕ Global) × (a.here.body ≡ body.Operands ks)
   open_operands g next at goes =
       the_operands says values text s.ctx.types a c g.built g.standing next (a.taken - 1) at.holds (operand_goes g.standing.around next g.standing.here goes.leads).1
 
@@ -256,7 +256,7 @@ module _ {D K A T : Type 0} (says : Saying K A T) (values : Values) (text : ℕ 
 -- ---- what a header asks for
 
 module _ {D K A T : Type 0} (says : Saying K A T) (values : Values) (text : ℕ → List ℕ) (s : Stage K A T) (a : Assembler D K A T) (g : Progress K A T) (next : Standing)
-    (at : IsAt says values text s a g) (x : Action) (is : x ≡ act.Header) (goes : MayGo text a x g next) where
+    (at : IsAt says values text s a g) (x : Action) (is : x ≡ act.Header) (goes : ActionIsInPlace text a x g next) where
   leads : moved_by (move g.standing.here act.Header) g.standing.around ≡ Some next
   leads = subst (λ (y : Action). moved_by (move g.standing.here y) g.standing.around ≡ Some next) is goes.leads
 

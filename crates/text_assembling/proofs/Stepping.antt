@@ -22,15 +22,15 @@ use Rattle.text_frames.specs.declared.opened.Body.{Body}
 use Rattle.text_frames.specs.declared.opened.Body.TheVariants as body
 use Rattle.text_frames.specs.declared.opened.Open as opened
 use Rattle.text_frames.specs.declared.opened.OpenBlock.{OpenBlock}
-use Rattle.ir_forest.specs.Forest.{Step}
+use Rattle.ir_forest.specs.Forest.{ActionSpan}
 use Rattle.ir_forest.specs.Meaning.{with_piece, number_in, width_in, tokens_in}
 use Rattle.ir_forest.specs.Building as building
 use Rattle.ir_forest.specs.Building.{Built, after, behind, with_begin, with_leaf, with_end, with_name, names_behind, fault_after, fault_at_end}
 use Rattle.ir_grammar.specs.Nesting.{Position, move}
 use Rattle.text_building.specs.Kept.{KeepsKeys}
-use Rattle.text_frames.specs.Opened.{HasPut, HasName, HasBody, IsFresh}
+use Rattle.text_frames.specs.Opened.{HasPut, HasOneMoreName, HasBody, IsFreshFrame}
 use Rattle.ir_formats.specs.Ordered.{Standing, moved_by, moved_out}
-use Rattle.text_frames.specs.Frames.{Sort, some_operands, a_region, a_block, a_list, an_item, sort_at, sort_of, EndsAt, Begins, IsEmpty, NamesResults, Contains, IsFrame, HasBegun, Stands, BeganSo}
+use Rattle.text_frames.specs.Frames.{FrameSort, some_operands, a_region, a_block, a_list, an_item, sort_at, sort_of, EndsAt, Begins, IsEmpty, NamesResults, Contains, IsFrame, HasBegun, Stands, BeganSo}
 use Rattle.text_assembling.specs.Assembling.{Holds, KeepsAround}
 use Rattle.ir_forest.proofs.PiecesBehind.{tokens_behind}
 use Rattle.text_frames.proofs.Framing.{stands_later, stands_at, stands_with, innermost, frame_put, fresh_frame}
@@ -42,7 +42,7 @@ abbrev pub Goes : {D K A T : Type 0} → Saying K A T → Values → (ℕ → Li
 Goes says values text types c b a k next = (fault_after values text b a k ≡ None) × Holds says values text types c (after b a k) next
 
 -- the step of an action that stands alone
-abbrev pub lone : Action → ℕ → Step
+abbrev pub lone : Action → ℕ → ActionSpan
 lone a k = record { action = a; first = k; last = k }
 
 module _ {D K A T : Type 0} (says : Saying K A T) (values : Values) (text : ℕ → List ℕ) (types : List T) (a c : Assembler D K A T) (b : Built) (s next : Standing) (k : ℕ)
@@ -51,7 +51,7 @@ module _ {D K A T : Type 0} (says : Saying K A T) (values : Values) (text : ℕ 
   frame = innermost says values text types a.here s.here b.here (reverse a.around.items) b.around s.around holds
 
   -- something begins
-  pub begins : (x : Action) (y : Body D K A T) → GoesIn (sort_of y) s.here s.around next → IsFresh c.here y k → c.around.items ≡ a.around.items ++ a.here ∷ [] → Begins y x → IsEmpty y
+  pub begins : (x : Action) (y : Body D K A T) → GoesIn (sort_of y) s.here s.around next → IsFreshFrame c.here y k → c.around.items ≡ a.around.items ++ a.here ∷ [] → Begins y x → IsEmpty y
       → Holds says values text types c (with_begin b x k) next
   begins x y goes fresh around starts empty =
       let o : building.Open = record { action = x; first = k; before = b.here } in
@@ -73,7 +73,7 @@ module _ {D K A T : Type 0} (says : Saying K A T) (values : Values) (text : ℕ 
   leaf : (t : List T) → KeepsKeys types t → (x : Action) (goes : GoesTo s.here s.around next) → KeepsAround a c → BeganSo a.here c.here
       → IsFrame says values text t c.here goes.to (behind b.here (node (lone x k) no_tree)) → Holds says values text t c (with_leaf b x k) next
   leaf t keeps x goes kept so new =
-      let more : Trees Step = behind b.here (node (lone x k) no_tree) in
+      let more : Trees ActionSpan = behind b.here (node (lone x k) no_tree) in
       let all : Stands says values text t c.here goes.to more (reverse a.around.items) b.around s.around =
       stands_with says values text t a.here c.here s.here goes.to b.here more (reverse a.around.items) b.around s.around goes.stays so new
       (stands_later says values text types t keeps a.here s.here b.here (reverse a.around.items) b.around s.around holds) in
@@ -108,7 +108,7 @@ module _ {D K A T : Type 0} (says : Saying K A T) (values : Values) (text : ℕ 
         (ap (λ (x : Piece). a_tree (node x no_tree) no_tree) (ap width_in (sym is) ∙ says_it)) (n, refl, shown),
   )
 
-  pub went_result : GoesTo s.here s.around next × Hollow (sort_at s.here) → KeepsAround a c → HasName a.here c.here k → Goes says values text types c b act.Result k next
+  pub went_result : GoesTo s.here s.around next × Hollow (sort_at s.here) → KeepsAround a c → HasOneMoreName a.here c.here k → Goes says values text types c b act.Result k next
   went_result goes kept new =
       let named : a.here.names.items ≡ names_behind [] b.here = hollow_names (sort_at s.here) a.here.names.items b.here goes.1 frame.named in (
         refl,
@@ -147,7 +147,7 @@ module _ {D K A T : Type 0} (says : Saying K A T) (values : Values) (text : ℕ 
   pub went_operand : GoesTo s.here s.around next × (sort_at s.here ≡ some_operands) → KeepsAround a c → (ks ls : Vec ℕ Global) → a.here.body ≡ body.Operands ks
       → c.here ≡ record a.here { body = body.Operands ls } → ls.items ≡ ks.items ++ k ∷ [] → Goes says values text types c b act.Operand k next
   went_operand goes kept ks ls is new items =
-      let more : Trees Step = behind b.here (node (lone act.Operand k) no_tree) in
+      let more : Trees ActionSpan = behind b.here (node (lone act.Operand k) no_tree) in
       let old : ks.items ≡ tokens_in b.here = subst (λ (x : Body D K A T). Contains says values text types x a.here.content.value b.here) is frame.contains in
       let sorts : some_operands ≡ sort_at goes.0.to = sym (goes.0.stays ∙ goes.1) in (
         refl,
@@ -156,14 +156,14 @@ module _ {D K A T : Type 0} (says : Saying K A T) (values : Values) (text : ℕ 
             (subst (λ (x : opened.Open D K A T). IsFrame says values text types x goes.0.to more) (sym new) (record {
               sort = sorts;
               contains = items ∙ (ap (λ (xs : List ℕ). xs ++ k ∷ []) old ∙ sym (tokens_behind b.here (lone act.Operand k) no_tree));
-              named = subst (λ (x : Sort). NamesResults x a.here.names.items more) sorts tt;
+              named = subst (λ (x : FrameSort). NamesResults x a.here.names.items more) sorts tt;
             })),
       )
 
 -- ---- ends that refuse nothing
 
 -- only types, attributes and operations are refused
-abbrev pub Silent : Sort → Type 0
+abbrev pub Silent : FrameSort → Type 0
 Silent a_block = Unit {0}
 Silent a_region = Unit {0}
 Silent some_operands = Unit {0}
@@ -171,7 +171,7 @@ Silent a_list = Unit {0}
 Silent an_item = Unit {0}
 Silent _ = ⊥
 
-module _ {D K A T : Type 0} (values : Values) (text : ℕ → List ℕ) (o : building.Open) (ts : Trees Step) (k : ℕ) where
+module _ {D K A T : Type 0} (values : Values) (text : ℕ → List ℕ) (o : building.Open) (ts : Trees ActionSpan) (k : ℕ) where
   silent_end : (y : Body D K A T) → Silent (sort_of y) → Begins y o.action → fault_at_end values text ts (o ∷ []) k ≡ None
   silent_end body.Text h e = absurd h
   silent_end (body.«Type» n) h e = absurd h
@@ -185,7 +185,7 @@ module _ {D K A T : Type 0} (values : Values) (text : ℕ → List ℕ) (o : bui
 
 module _ {D K A T : Type 0} (says : Saying K A T) (values : Values) (text : ℕ → List ℕ) (types : List T) where
   -- what ends with a fault is none of these
-  pub silent : (f : opened.Open D K A T) (at : Position) (ts : Trees Step) (gs : List (opened.Open D K A T)) (os : List building.Open) (qs : List Position) (k : ℕ)
+  pub silent : (f : opened.Open D K A T) (at : Position) (ts : Trees ActionSpan) (gs : List (opened.Open D K A T)) (os : List building.Open) (qs : List Position) (k : ℕ)
       → Stands says values text types f at ts gs os qs → Silent (sort_at at) → fault_at_end values text ts os k ≡ None
   silent f at ts [] [] [] k h quiet = refl
   silent f at ts [] [] (q ∷ qs) k h quiet = absurd h

@@ -17,14 +17,14 @@ use Rattle.ir_forest.specs.Building.{Built}
 use Rattle.ir_formats.specs.Ordered.{Standing}
 use Rattle.ir_grammar.specs.Nesting.{Position, at_end}
 use Rattle.text_dialect.specs.Seen.{Seen, seen}
-use Rattle.text_building.specs.Loose.{IsDefined}
+use Rattle.text_building.specs.Loose.{IsDefinedValue}
 use Rattle.text_frames.specs.declared.opened.Body.{Body}
 use Rattle.text_frames.specs.declared.opened.Body.TheVariants as body
 use Rattle.text_frames.specs.declared.opened.Open.{Open}
 use Rattle.text_frames.specs.Frames.{Stands}
-use Rattle.text_frames.specs.Opened.{IsFresh}
+use Rattle.text_frames.specs.Opened.{IsFreshFrame}
 use Rattle.text_frames.specs.Raised.{HoldsAllNew, RaisesAll, AreWaiting, block_nodes, blocks_of_body}
-use Rattle.text_frames.specs.Worlds.{Rises, World}
+use Rattle.text_frames.specs.Worlds.{Rises, PartialModule}
 use Rattle.text_assembling.specs.declared.assembling.Assembler.{Assembler}
 
 -- ---- a context
@@ -51,7 +51,7 @@ module _ {D K A T : Type 0} (says : Saying K A T) (values : Values) (text : ℕ 
 module _ {D K A T : Type 0} where
   -- something with this body begins at the last token
   pub record Begun (a c : Assembler D K A T) (b : Body D K A T) : Type 0 where
-    pub here : IsFresh c.here b (a.taken - 1)
+    pub here : IsFreshFrame c.here b (a.taken - 1)
     pub around : c.around.items ≡ a.around.items ++ a.here ∷ []
     pub taken : c.taken ≡ a.taken
 
@@ -94,7 +94,7 @@ module _ {D K A T : Type 0} where
   blocks_of a = joined (map (λ f. blocks_of_body f.body) (all_open a))
 
   -- what has been made so far, these tokens naming the definitions, and these mentioning values
-  abbrev pub world_of : Stage K A T → Assembler D K A T → List ℕ → List ℕ → World K A T
+  abbrev pub world_of : Stage K A T → Assembler D K A T → List ℕ → List ℕ → PartialModule K A T
   world_of s a tokens mentions = record {
     ctx = s.ctx;
     values = a.made.values.items;
@@ -114,7 +114,7 @@ module _ {D K A T : Type 0} where
     pub distinct : (m n : ℕ) (v w : Value) → slice_get a.made.values.items m ≡ Some (Some v)
         → slice_get a.made.values.items n ≡ Some (Some w) → v.number ≡ w.number → m ≡ n
     pub live : (n : ℕ) (v : Value) → slice_get a.made.values.items n ≡ Some (Some v)
-        → IsDefined s.ctx v × (v.number < s.counter)
+        → IsDefinedValue s.ctx v × (v.number < s.counter)
     pub counted : s.counter + length (numbers_of a) ≡ counter + length a.made.values.items
 
 -- All that has been made of what is built, since a start, at which the next value had this number. What has come since
@@ -131,8 +131,8 @@ pub record HasMade {D K A T : Type 0} (says : Saying K A T) (values : Values) (t
   pub operands : AreWaiting start s.ctx a.made.pending.items mentions
 
 -- nothing was read yet
-pub record IsNew {D K A T : Type 0} (a : Assembler D K A T) : Type 0 where
-  pub here : IsFresh a.here body.Text 0
+pub record HasReadNothing {D K A T : Type 0} (a : Assembler D K A T) : Type 0 where
+  pub here : IsFreshFrame a.here body.Text 0
   pub around : a.around.items ≡ []
   pub taken : a.taken ≡ 0
   pub root : a.made.root ≡ None

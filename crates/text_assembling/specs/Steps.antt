@@ -26,10 +26,10 @@ use Rattle.ir_grammar.specs.declared.grammar.Action.{Action}
 use Rattle.ir_tokens.specs.declared.faults.Fault.{Fault}
 use Rattle.ir_scopes.specs.Naming.{defined_by, mentioned_by}
 use Rattle.text_dialect.specs.Seen.{Seen, seen}
-use Rattle.text_building.specs.Inside.{IsForest}
+use Rattle.text_building.specs.Inside.{IsSeenForest}
 use Rattle.text_building.specs.Kept.{SameSeen}
-use Rattle.text_building.specs.Loose.{AreAllLoose, AreApart, IsLooseBlock}
-use Rattle.text_building.specs.Made.{OpensBlock, MakesOperation, AppendsOperation, lists_of}
+use Rattle.text_building.specs.Loose.{AreAllLoose, ListsAreApart, IsLooseBlock}
+use Rattle.text_building.specs.Made.{OpensBlock, MakesDetachedOperation, AppendsOperation, lists_of}
 use Rattle.text_frames.specs.declared.opened.Body.{Body}
 use Rattle.text_frames.specs.declared.opened.Body.TheVariants as body
 use Rattle.text_frames.specs.declared.opened.Open.{Open}
@@ -75,7 +75,7 @@ module _ {K A T : Type 0} where
 
 module _ {D K A T : Type 0} where
   -- an action at the last token has its place, and is spelt so
-  pub record MayGo (text : ℕ → List ℕ) (a : Assembler D K A T) (x : Action) (g : Progress K A T) (next : Standing) :
+  pub record ActionIsInPlace (text : ℕ → List ℕ) (a : Assembler D K A T) (x : Action) (g : Progress K A T) (next : Standing) :
       Type 0 where
     pub leads : moved_by (move g.standing.here x) g.standing.around ≡ Some next
     pub spelt : IsSpelt x (text (a.taken - 1))
@@ -91,11 +91,11 @@ module _ {D K A T : Type 0} (says : Saying K A T) (values : Values) (text : ℕ 
     pub progress : Progress K A T
     pub next : Standing
     pub at : IsAt s a progress
-    pub goes : MayGo text a x progress next
+    pub goes : ActionIsInPlace text a x progress next
 
   -- the action has come, with no fault
   abbrev pub HasStepped : Stage K A T → Assembler D K A T → Stage K A T → Assembler D K A T → Action → Type 0
-  HasStepped s a t c x = (g : Progress K A T) (next : Standing) → IsAt s a g → MayGo text a x g next
+  HasStepped s a t c x = (g : Progress K A T) (next : Standing) → IsAt s a g → ActionIsInPlace text a x g next
       → (fault_after values text g.built x (a.taken - 1) ≡ None) × IsAt t c (progress_after g x (a.taken - 1) next)
 
 module _ {D K A T : Type 0} (says : Saying K A T) (values : Values) where
@@ -151,7 +151,7 @@ module _ {D K A T : Type 0} where
   -- An operation of the blocks of these lists can be made, and put into the open block, if there is one.
   pub record CanMake (s : Seen K A T) (b : Body D K A T) (bss : List (List (Ptr BasicBlock))) : Type 0 where
     pub all_loose : AreAllLoose s bss
-    pub apart : AreApart bss
+    pub apart : ListsAreApart bss
     pub open_loose : (p : Ptr BasicBlock) → block_in b ≡ Some p → IsLooseBlock s p
     pub open_apart : (p : Ptr BasicBlock) → block_in b ≡ Some p
         → (k : ℕ) (bs : List (Ptr BasicBlock)) → slice_get bss k ≡ Some bs → IsNoneOf bs p
@@ -172,10 +172,10 @@ module _ {D K A T : Type 0} where
     pub known : kind_at ended.kind ≡ Some kind
     pub typed : Seen K A T
     pub same : SameSeen s.ctx typed
-    pub forest : IsForest typed
+    pub forest : IsSeenForest typed
     pub drafts : Drafts says typed.types values kind ended.kind ps attributes result_types
     pub with_it : Seen K A T
-    pub makes : MakesOperation typed with_it op kind attributes result_types s.counter (lists_of ended.regions.items)
+    pub makes : MakesDetachedOperation typed with_it op kind attributes result_types s.counter (lists_of ended.regions.items)
     pub put : PutsInto with_it t (block_in a.here.body) op
     pub defines : length a.here.numbers.items ≡ length result_types
         → c.made.values.items ≡ set_all a.here.numbers.items
@@ -219,13 +219,13 @@ module _ {D TypeKind AttrKind TypeBody Saved Location OpKind Attr TypeKey : Type
     pub record RefusesStep (c : ContextOf D TypeKind AttrKind TypeBody Saved Location OpKind Attr TypeKey)
         (a : Assembler D OpKind Attr TypeKey) (x : Action) (f : Fault) : Type 0 where
       pub fails : (g : Progress OpKind Attr TypeKey) (next : Standing) → IsAt says values text (stage c) a g
-          → MayGo text a x g next → fault_after values text g.built x (a.taken - 1) ≡ Some f
+          → ActionIsInPlace text a x g next → fault_after values text g.built x (a.taken - 1) ≡ Some f
 
     -- wherever reading has come to, there are not so many numbers as it has read values
     pub record LacksNumbers (c : ContextOf D TypeKind AttrKind TypeBody Saved Location OpKind Attr TypeKey)
         (a : Assembler D OpKind Attr TypeKey) (x : Action) : Type 0 where
       pub fills : (g : Progress OpKind Attr TypeKey) (next : Standing) → IsAt says values text (stage c) a g
-          → MayGo text a x g next → 2 ^ 64 ≤ g.first + length g.tokens
+          → ActionIsInPlace text a x g next → 2 ^ 64 ≤ g.first + length g.tokens
 
   -- nothing but types has been made, and the loose things are what they were
   pub record UndoesStep (c d : ContextOf D TypeKind AttrKind TypeBody Saved Location OpKind Attr TypeKey)

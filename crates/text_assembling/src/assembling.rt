@@ -19,7 +19,7 @@ ghost use Rattle.text_dialect.specs.Seen.{seen};
 ghost use Rattle.text_building.specs.Kept.{KeepsPayloads, SameSeen};
 ghost use Rattle.text_frames.specs.Raised.{HoldsAllNew, IsAssembled};
 ghost use Rattle.text_frames.specs.declared.opened.AssemblyFault.TheVariants.{CounterFull, Text};
-ghost use Rattle.text_assembling.specs.Assembling.{IsNew};
+ghost use Rattle.text_assembling.specs.Assembling.{HasReadNothing};
 ghost use Rattle.text_assembling.specs.Steps.{DoesStep, LacksNumbers, MayStep, RefusesStep, UndoesStep};
 
 use ir_context::Context;
@@ -51,7 +51,7 @@ pub struct Assembler<D: Dialects> {
 
 impl<D: TextDialect> Assembler<D> {
     fn new(alloc: Global, content: Box<Content<D>>) -> Self
-        ensures { IsNew result }
+        ensures { HasReadNothing result }
     {
         Assembler {
             alloc,

@@ -12,7 +12,7 @@ ghost use Rattle.ir_program.specs.declared.handles.Ptr.{Ptr};
 ghost use Rattle.text_frames.specs.declared.opened.AssemblyFault.TheVariants.{Memory};
 ghost use Rattle.text_frames.specs.declared.opened.OpenOperation.{OpenOperation};
 ghost use Rattle.text_assembling.specs.Assembling.{Begun, KeepsAround, NamesOne};
-ghost use Rattle.text_frames.specs.Opened.{HasName, HasBody, HasPut};
+ghost use Rattle.text_frames.specs.Opened.{HasOneMoreName, HasBody, HasPut};
 ghost use Rattle.ir_forest.specs.Meaning.{number_in, width_in};
 
 use crate::assembling::Assembler;
@@ -179,7 +179,7 @@ impl<D: TextDialect> Assembler<D> {
 
     /// The last token names a result of the operation that comes.
     pub fn result(&mut self) -> Result<(), AssemblyFault>
-        ensures name { OnOk result (HasName self.old.here self.new.here (self.old.taken - 1)) }
+        ensures name { OnOk result (HasOneMoreName self.old.here self.new.here (self.old.taken - 1)) }
         ensures named { OnOk result (NamesOne self.old self.new) }
         ensures loose { self.new.made.loose ≡ self.old.made.loose }
         ensures around { KeepsAround self.old self.new }

@@ -2,7 +2,7 @@
 ghost use Rattle.std.specs.Prelude.{◌≡◌, ◌≤◌, ◌-◌, ◌+◌, ◌^◌, ◌∷◌, [], ℕ, length, List, Some, Err, OnErr, OnOk};
 ghost use Rattle.ir_forest.specs.Building as building;
 ghost use Rattle.ir_forest.specs.Building.{fault_at_end, with_end};
-ghost use Rattle.ir_forest.specs.Forest.{Step};
+ghost use Rattle.ir_forest.specs.Forest.{ActionSpan};
 ghost use Rattle.ir_formats.specs.Ordered.{Standing};
 ghost use Rattle.ir_grammar.specs.Nesting.{Position};
 ghost use Rattle.ir_names.specs.Tree.{Trees};
@@ -34,11 +34,11 @@ impl<D: TextDialect> Assembler<D> {
         ended: Open<D>,
     ) -> Result<(), AssemblyFault>
         requires going { CanEndIn D.says D.values (stage ctx.old) ended self.old }
-        ensures ended { (text : ℕ → List ℕ) (o : building.Open) (at next : Position) (ts : Trees Step)
+        ensures ended { (text : ℕ → List ℕ) (o : building.Open) (at next : Position) (ts : Trees ActionSpan)
             → Ending D.says D.values text (seen ctx.old).types ended self.old.here o at next ts
             → OnOk result (Ended D.says D.values text (seen ctx.new).types self.old.here self.new.here o next ts
             (self.old.taken - 1)) }
-        ensures refused { (text : ℕ → List ℕ) (o : building.Open) (at next : Position) (ts : Trees Step)
+        ensures refused { (text : ℕ → List ℕ) (o : building.Open) (at next : Position) (ts : Trees ActionSpan)
             → Ending D.says D.values text (seen ctx.old).types ended self.old.here o at next ts
             → (f : Fault) → result ≡ Err (Text f)
             → fault_at_end D.values text ts (o ∷ []) (self.old.taken - 1) ≡ Some f }

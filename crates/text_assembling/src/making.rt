@@ -4,7 +4,7 @@ ghost use Rattle.text_frames.specs.Worlds.{joined};
 ghost use Rattle.std.specs.Option.{option_map_or};
 ghost use Rattle.ir_context.specs.Known.{AreKnownIn};
 ghost use Rattle.ir_forest.specs.Building.{names_fault, number_fault};
-ghost use Rattle.ir_forest.specs.Forest.{Step};
+ghost use Rattle.ir_forest.specs.Forest.{ActionSpan};
 ghost use Rattle.ir_forest.specs.Meaning.{tokens_in};
 ghost use Rattle.ir_tokens.specs.Tokens.{text_between};
 ghost use Rattle.ir_names.specs.Text.{is_identifier};
@@ -155,7 +155,7 @@ impl<D: TextDialect> Assembler<D> {
         ensures here { OnOk result (HasBody self.old.here self.new.here self.old.here.body) }
         ensures given { OnOk result (GivesNumbers ctx.old.program ctx.new.program
             (length self.old.here.names.items)) }
-        ensures refused { (ps : Pieces) (ts : Trees Step)
+        ensures refused { (ps : Pieces) (ts : Trees ActionSpan)
             → ShowsParts D.says ctx.old.types.keys content.now.parts.items ps
             → content.now.tokens.items ≡ tokens_in ts → (f : Fault) → result ≡ Err (Text f)
             → option_map_or (λ i. number_fault ts (self.old.taken - 1) i) (D.values.refused_operation ended.kind ps)

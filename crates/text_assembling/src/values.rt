@@ -2,7 +2,7 @@
 ghost use Rattle.std.specs.Prelude.{◌≡◌, ◌-◌, ◌∷◌, ◌++◌, [], ℕ, Vec, length, Some, None, Err, OnOk, IfErr, MatchOption};
 ghost use Rattle.ir_base.specs.declared.types.TypeHandle.{TypeHandle};
 ghost use Rattle.ir_forest.specs.Building.{number_fault};
-ghost use Rattle.ir_forest.specs.Forest.{Step};
+ghost use Rattle.ir_forest.specs.Forest.{ActionSpan};
 ghost use Rattle.ir_forest.specs.Meaning.{tokens_in};
 ghost use Rattle.ir_names.specs.Tree.{Trees, node};
 ghost use Rattle.ir_print.specs.Pieces.{Pieces, type_of_kind, attribute_of_kind};
@@ -35,7 +35,8 @@ impl<D: TextDialect> Assembler<D> {
 
     /// The fault that a value with this content isn't made.
     pub fn refused(&self, content: &Content<D>, fault: MakeFault) -> AssemblyFault
-        ensures number { (ts : Trees Step) (i : ℕ) → content.now.tokens.items ≡ tokens_in ts → fault ≡ make.Refused i
+        ensures number { (ts : Trees ActionSpan) (i : ℕ) → content.now.tokens.items ≡ tokens_in ts
+            → fault ≡ make.Refused i
             → (f : Fault) × (result ≡ Text f) × (number_fault ts (self.now.taken - 1) i ≡ Some f) }
         ensures memory { fault ≡ make.Memory → result ≡ Memory }
         ensures not_full { result ≡ CounterFull → ⊥ }
@@ -62,7 +63,7 @@ impl<D: TextDialect> Assembler<D> {
             → OnOk result ((D.values.refused_type kind ps ≡ None) × (ty : TypeHandle)
             × ShowsType D.says ctx.new.types.keys ty (node (type_of_kind kind) ps)
             × HasPut self.old.here self.new.here self.old.here.body (part.«Type» ty) first) }
-        ensures refused { (ps : Pieces) (ts : Trees Step)
+        ensures refused { (ps : Pieces) (ts : Trees ActionSpan)
             → ShowsParts D.says ctx.old.types.keys content.now.parts.items ps
             → content.now.tokens.items ≡ tokens_in ts → (f : Fault) → result ≡ Err (Text f)
             → (i : ℕ) × (D.values.refused_type kind ps ≡ Some i)
@@ -91,7 +92,7 @@ impl<D: TextDialect> Assembler<D> {
             → OnOk result ((D.values.refused_attribute kind ps ≡ None) × (attr : D.Attr)
             × ShowsAttribute D.says ctx.new.types.keys attr (node (attribute_of_kind kind) (D.values.canonical kind ps))
             × HasPut self.old.here self.new.here self.old.here.body (part.Attribute attr) first) }
-        ensures refused { (ps : Pieces) (ts : Trees Step)
+        ensures refused { (ps : Pieces) (ts : Trees ActionSpan)
             → ShowsParts D.says ctx.old.types.keys content.now.parts.items ps
             → content.now.tokens.items ≡ tokens_in ts → (f : Fault) → result ≡ Err (Text f)
             → (i : ℕ) × (D.values.refused_attribute kind ps ≡ Some i)

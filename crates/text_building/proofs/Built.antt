@@ -11,7 +11,7 @@ use Rattle.ir_context.specs.declared.notes.OperationData.{OperationData}
 use Rattle.text_dialect.specs.Seen.{seen, seen_operation, seen_block}
 use Rattle.text_building.specs.Kept.{GivesNumbers}
 use Rattle.text_building.specs.Loose.{IsLooseOperation, AreAllLoose, regions_of}
-use Rattle.text_building.specs.Made.{FillsRegions, MakesOperation}
+use Rattle.text_building.specs.Made.{FillsRegions, MakesDetachedOperation}
 use Rattle.text_building.proofs.Filled.{still_loose_operation}
 use Rattle.text_building.proofs.Members.{found_or_not, pairs_map}
 use Rattle.text_building.proofs.Opened.{ContextOf, loose_operation}
@@ -52,7 +52,7 @@ module _ {D TypeKind AttrKind TypeBody Saved Location OpKind Attr TypeKey : Type
     filled_handles : FillsRegions (seen d) (seen e) built.handles bss
     filled_handles = subst (λ rs. FillsRegions (seen d) (seen e) rs bss) built_regions fills
 
-    pub makes : MakesOperation (seen c) (seen e) p data_of.kind data_of.notes.attributes tys c.program.counter bss
+    pub makes : MakesDetachedOperation (seen c) (seen e) p data_of.kind data_of.notes.attributes tys c.program.counter bss
     makes = record {
       handles = built.handles;
       fresh = ap (option_map seen_operation) built.fresh;

@@ -10,7 +10,7 @@ use Rattle.ir_program.specs.declared.handles.BasicBlock.{BasicBlock}
 use Rattle.ir_program.specs.declared.handles.Value.{Value}
 use Rattle.text_dialect.specs.Seen.{SeenOperation, SeenBlock, Seen}
 use Rattle.text_building.specs.Kept.{SameSeen}
-use Rattle.text_building.specs.Inside.{IsThere, IsNowhere, IsInside, itself, IsLoose, AreLoose, IsInsideSome, AreUsedInside, AreUnused, without_names, DropsUses, Erases, CameSince, IsForest, IsOutside}
+use Rattle.text_building.specs.Inside.{IsThere, IsNowhere, IsNodeInside, itself, IsLoose, AreLoose, IsInsideSome, AreUsedInside, AreUnused, without_names, DropsUsesInNodes, ErasesNodes, CameSince, IsSeenForest, StartIsOutside}
 use Rattle.text_building.proofs.Insides.{inside_there, loose_there, apart_before, some_front, some_back, some_either, some_one, one_some, none_inside, inside_now, inside_then}
 use Rattle.text_building.proofs.Members.{take_step}
 use Rattle.text_building.proofs.Options.{no_some, same_some, there, is_there, mapped}
@@ -29,7 +29,7 @@ abbrev pub HaveApart : {K A T : Type 0} → Seen K A T → List IRNode → List 
 HaveApart s xs ys = (e : IRNode) → IsInsideSome s xs e → IsInsideSome s ys e → ⊥
 
 module _ {K A T : Type 0} where
-  pub drops_none : (s : Seen K A T) → DropsUses s s []
+  pub drops_none : (s : Seen K A T) → DropsUsesInNodes s s []
   drops_none s = record {
     inside = λ p h. absurd (none_inside s (OperationNode p) h);
     outside = λ p out. refl;
@@ -38,7 +38,7 @@ module _ {K A T : Type 0} where
     types = refl;
   }
 
-  pub erases_none : (s : Seen K A T) → Erases s s []
+  pub erases_none : (s : Seen K A T) → ErasesNodes s s []
   erases_none s = record {
     gone = λ e h. absurd (none_inside s e h);
     operations = λ p out. refl;
@@ -48,8 +48,8 @@ module _ {K A T : Type 0} where
   }
 
   -- the uses of the first go, and then those of the second
-  module _ (s t u : Seen K A T) (xs ys : List IRNode) (apart : HaveApart s xs ys) (a : DropsUses s t xs) where
-    same_regions : (y : IRNode) (j : ℕ) → slice_get ys j ≡ Some y → (p : Ptr Operation) → IsInside s y (OperationNode p) → option_map (λ (o : SeenOperation K A). o.regions) (t.operation p) ≡ option_map (λ (o : SeenOperation K A). o.regions) (s.operation p)
+  module _ (s t u : Seen K A T) (xs ys : List IRNode) (apart : HaveApart s xs ys) (a : DropsUsesInNodes s t xs) where
+    same_regions : (y : IRNode) (j : ℕ) → slice_get ys j ≡ Some y → (p : Ptr Operation) → IsNodeInside s y (OperationNode p) → option_map (λ (o : SeenOperation K A). o.regions) (t.operation p) ≡ option_map (λ (o : SeenOperation K A). o.regions) (s.operation p)
     same_regions y j here p i = ap (option_map (λ (o : SeenOperation K A). o.regions)) (a.outside p (λ h. apart (OperationNode p) h (record { index = j; thing = y; here = here; inside = i })))
 
     some_now : (e : IRNode) → IsInsideSome s ys e → IsInsideSome t ys e
@@ -58,7 +58,7 @@ module _ {K A T : Type 0} where
     some_then : (e : IRNode) → IsInsideSome t ys e → IsInsideSome s ys e
     some_then e h = record { index = h.index; thing = h.thing; here = h.here; inside = inside_then s t h.thing (same_regions h.thing h.index h.here) (λ b i. a.blocks b) (λ r i. a.regions r) e h.inside }
 
-    pub drops_both : DropsUses t u ys → DropsUses s u (xs ++ ys)
+    pub drops_both : DropsUsesInNodes t u ys → DropsUsesInNodes s u (xs ++ ys)
     drops_both b = record {
       inside = λ p h. ⊎_elim
           (λ (l : IsInsideSome s xs (OperationNode p)). b.outside p (λ i. apart (OperationNode p) l (some_then (OperationNode p) i)) ∙ a.inside p l)
@@ -77,28 +77,28 @@ module _ {K A T : Type 0} where
     dropped_there (BlockNode b) h l = subst IsSome (sym (a.blocks b)) l
 
   -- one thing more
-  pub drops_step : (s t u : Seen K A T) → IsForest s → (xs : List IRNode) → AreLoose s xs → (i : ℕ) (x : IRNode) → slice_get xs i ≡ Some x → DropsUses s t (take i xs) → DropsUses t u (x ∷ []) → DropsUses s u (take (i + 1) xs)
-  drops_step s t u f xs loose i x here a b = subst (λ zs. DropsUses s u zs) (sym (take_step xs i x here)) (drops_both s t u (take i xs) (x ∷ []) (apart_before s f xs loose i x here) a b)
+  pub drops_step : (s t u : Seen K A T) → IsSeenForest s → (xs : List IRNode) → AreLoose s xs → (i : ℕ) (x : IRNode) → slice_get xs i ≡ Some x → DropsUsesInNodes s t (take i xs) → DropsUsesInNodes t u (x ∷ []) → DropsUsesInNodes s u (take (i + 1) xs)
+  drops_step s t u f xs loose i x here a b = subst (λ zs. DropsUsesInNodes s u zs) (sym (take_step xs i x here)) (drops_both s t u (take i xs) (x ∷ []) (apart_before s f xs loose i x here) a b)
 
-  pub next_there : (s t : Seen K A T) → IsForest s → (xs : List IRNode) → AreLoose s xs → (i : ℕ) (x : IRNode) → slice_get xs i ≡ Some x → DropsUses s t (take i xs) → IsThere t x
+  pub next_there : (s t : Seen K A T) → IsSeenForest s → (xs : List IRNode) → AreLoose s xs → (i : ℕ) (x : IRNode) → slice_get xs i ≡ Some x → DropsUsesInNodes s t (take i xs) → IsThere t x
   next_there s t f xs loose i x here a = dropped_there s t t (take i xs) (x ∷ []) (apart_before s f xs loose i x here) a x (some_one s x x itself) (loose_there s x (loose.loose i x here))
 
   -- what is inside none of the things isn't inside the next
-  pub next_outside : (s t : Seen K A T) → IsForest s → (xs : List IRNode) → AreLoose s xs → (i : ℕ) (x : IRNode) → slice_get xs i ≡ Some x → DropsUses s t (take i xs) → (start : Seen K A T) → IsOutside start s xs → IsOutside start t (x ∷ [])
+  pub next_outside : (s t : Seen K A T) → IsSeenForest s → (xs : List IRNode) → AreLoose s xs → (i : ℕ) (x : IRNode) → slice_get xs i ≡ Some x → DropsUsesInNodes s t (take i xs) → (start : Seen K A T) → StartIsOutside start s xs → StartIsOutside start t (x ∷ [])
   next_outside s t f xs loose i x here a start out e shown h =
       let was = some_then s t t (take i xs) (x ∷ []) (apart_before s f xs loose i x here) a e h in
       out e shown (record { index = i; thing = x; here = here; inside = one_some s x e was })
 
   -- the first are erased, and then the second
-  module _ (s t u : Seen K A T) (xs ys : List IRNode) (apart : HaveApart s xs ys) (a : Erases s t xs) where
+  module _ (s t u : Seen K A T) (xs ys : List IRNode) (apart : HaveApart s xs ys) (a : ErasesNodes s t xs) where
     module _ (y : IRNode) (j : ℕ) (here : slice_get ys j ≡ Some y) where
-      out_of : (e : IRNode) → IsInside s y e → IsInsideSome s xs e → ⊥
+      out_of : (e : IRNode) → IsNodeInside s y e → IsInsideSome s xs e → ⊥
       out_of e i h = apart e h (record { index = j; thing = y; here = here; inside = i })
 
-      erased_now : (e : IRNode) → IsInside s y e → IsInside t y e
+      erased_now : (e : IRNode) → IsNodeInside s y e → IsNodeInside t y e
       erased_now e i = inside_now s t y (λ p k. ap (option_map (λ (o : SeenOperation K A). o.regions)) (a.operations p (out_of (OperationNode p) k))) (λ b k. a.blocks b (out_of (BlockNode b) k)) (λ r k. a.regions r (out_of (RegionNode r) k)) e i
 
-      erased_then : (e : IRNode) → IsInside t y e → IsInside s y e
+      erased_then : (e : IRNode) → IsNodeInside t y e → IsNodeInside s y e
       erased_then e i = inside_then s t y (λ p k. ap (option_map (λ (o : SeenOperation K A). o.regions)) (a.operations p (out_of (OperationNode p) k))) (λ b k. a.blocks b (out_of (BlockNode b) k)) (λ r k. a.regions r (out_of (RegionNode r) k)) e i
 
     left_now : (e : IRNode) → IsInsideSome s ys e → IsInsideSome t ys e
@@ -107,7 +107,7 @@ module _ {K A T : Type 0} where
     pub left_then : (e : IRNode) → IsInsideSome t ys e → IsInsideSome s ys e
     left_then e h = record { index = h.index; thing = h.thing; here = h.here; inside = erased_then h.thing h.index h.here e h.inside }
 
-    pub erases_both : Erases t u ys → Erases s u (xs ++ ys)
+    pub erases_both : ErasesNodes t u ys → ErasesNodes s u (xs ++ ys)
     erases_both b = record {
       gone = λ e h. ⊎_elim (λ (l : IsInsideSome s xs e). nowhere_still e l (a.gone e l)) (λ (r : IsInsideSome s ys e). b.gone e (left_now e r)) (some_either s xs ys e h);
       operations = λ p out. b.operations p (λ i. out (some_back s xs ys (OperationNode p) (left_then (OperationNode p) i))) ∙ a.operations p (λ l. out (some_front s xs ys (OperationNode p) l));
@@ -121,7 +121,7 @@ module _ {K A T : Type 0} where
       nowhere_still (BlockNode q) l none = b.blocks q (λ i. apart (BlockNode q) l (left_then (BlockNode q) i)) ∙ none
 
   -- what leads somewhere isn't inside what was erased, and led there before
-  module _ (s t : Seen K A T) (xs : List IRNode) (a : Erases s t xs) where
+  module _ (s t : Seen K A T) (xs : List IRNode) (a : ErasesNodes s t xs) where
     pub block_was : (b : Ptr BasicBlock) (v : SeenBlock) → t.block b ≡ Some v → s.block b ≡ Some v
     block_was b v e = sym (a.blocks b (λ h. no_some v (sym (a.gone (BlockNode b) h) ∙ e))) ∙ e
 
@@ -131,12 +131,12 @@ module _ {K A T : Type 0} where
     pub operation_was : (p : Ptr Operation) (o : SeenOperation K A) → t.operation p ≡ Some o → s.operation p ≡ Some o
     operation_was p o e = sym (a.operations p (λ h. no_some o (sym (a.gone (OperationNode p) h) ∙ e))) ∙ e
 
-  module _ (s t : Seen K A T) (f : IsForest s) (xs : List IRNode) (loose : AreLoose s xs) (i : ℕ) (x : IRNode) (here : slice_get xs i ≡ Some x) (a : Erases s t (take i xs)) where
+  module _ (s t : Seen K A T) (f : IsSeenForest s) (xs : List IRNode) (loose : AreLoose s xs) (i : ℕ) (x : IRNode) (here : slice_get xs i ≡ Some x) (a : ErasesNodes s t (take i xs)) where
     apart : HaveApart s (take i xs) (x ∷ [])
     apart = apart_before s f xs loose i x here
 
-    pub erases_step : (u : Seen K A T) → Erases t u (x ∷ []) → Erases s u (take (i + 1) xs)
-    erases_step u b = subst (λ zs. Erases s u zs) (sym (take_step xs i x here)) (erases_both s t u (take i xs) (x ∷ []) apart a b)
+    pub erases_step : (u : Seen K A T) → ErasesNodes t u (x ∷ []) → ErasesNodes s u (take (i + 1) xs)
+    erases_step u b = subst (λ zs. ErasesNodes s u zs) (sym (take_step xs i x here)) (erases_both s t u (take i xs) (x ∷ []) apart a b)
 
     -- the next thing is loose still
     pub next_thing_loose : IsLoose t x
@@ -153,7 +153,7 @@ module _ {K A T : Type 0} where
       }
 
     -- what is inside none of the things isn't inside it
-    pub left_outside : (start : Seen K A T) → IsOutside start s xs → IsOutside start t (x ∷ [])
+    pub left_outside : (start : Seen K A T) → StartIsOutside start s xs → StartIsOutside start t (x ∷ [])
     left_outside start out e shown h = out e shown (record { index = i; thing = x; here = here; inside = one_some s x e (left_then s t t (take i xs) (x ∷ []) apart a e h) })
 
     -- and unused
@@ -166,8 +166,8 @@ module _ {K A T : Type 0} where
       of_all e h = record { index = i; thing = x; here = here; inside = one_some s x e h }
 
   -- where all uses inside the things are taken away
-  module _ (s t : Seen K A T) (xs : List IRNode) (a : DropsUses s t xs) where
-    things_regions : (y : IRNode) (j : ℕ) → slice_get xs j ≡ Some y → (p : Ptr Operation) → IsInside s y (OperationNode p) → option_map (λ (o : SeenOperation K A). o.regions) (t.operation p) ≡ option_map (λ (o : SeenOperation K A). o.regions) (s.operation p)
+  module _ (s t : Seen K A T) (xs : List IRNode) (a : DropsUsesInNodes s t xs) where
+    things_regions : (y : IRNode) (j : ℕ) → slice_get xs j ≡ Some y → (p : Ptr Operation) → IsNodeInside s y (OperationNode p) → option_map (λ (o : SeenOperation K A). o.regions) (t.operation p) ≡ option_map (λ (o : SeenOperation K A). o.regions) (s.operation p)
     things_regions y j here p i = ap (option_map (λ (o : SeenOperation K A). o.regions)) (a.inside p (record { index = j; thing = y; here = here; inside = i })) ∙ bare_regions (s.operation p)
 
     things_now : (e : IRNode) → IsInsideSome s xs e → IsInsideSome t xs e
@@ -212,11 +212,11 @@ module _ {K A T : Type 0} where
           no_some b (ap (λ (y : SeenOperation K A). slice_get y.successors k) m.2 ∙ named)
 
     -- what is inside none of them is so still
-    pub bare_outside : (start : Seen K A T) → IsOutside start s xs → IsOutside start t xs
+    pub bare_outside : (start : Seen K A T) → StartIsOutside start s xs → StartIsOutside start t xs
     bare_outside start out e shown h = out e shown (things_then e h)
 
     -- erasing them then is erasing them
-    pub erases_bare : (u : Seen K A T) → Erases t u xs → Erases s u xs
+    pub erases_bare : (u : Seen K A T) → ErasesNodes t u xs → ErasesNodes s u xs
     erases_bare u b = record {
       gone = λ e h. b.gone e (things_now e h);
       operations = λ p out. b.operations p (λ i. out (things_then (OperationNode p) i)) ∙ a.outside p out;
@@ -247,7 +247,7 @@ module _ {K A T : Type 0} (start s : Seen K A T) (xs : List IRNode) (came : Came
         (some_or_none (start.operation p));
   }
 
-  module _ (f : IsForest s) (loose : AreLoose s xs) (u : Seen K A T) (b : Erases s u xs) where
+  module _ (f : IsSeenForest s) (loose : AreLoose s xs) (u : Seen K A T) (b : ErasesNodes s u xs) where
     inside_live : (e : IRNode) → IsInsideSome s xs e → IsThere s e
     inside_live e h = inside_there s f h.thing (loose_there s h.thing (loose.loose h.index h.thing h.here)) e h.inside
 

@@ -12,7 +12,7 @@ use Rattle.ir_program.specs.declared.handles.IRNode.TheVariants.{Region as Regio
 use Rattle.ir_context.specs.declared.notes.OperationData.{OperationData}
 use Rattle.ir_program.proofs.made.Frames.{same_or_not}
 use Rattle.text_dialect.specs.Seen.{SeenOperation, Seen, seen, seen_operation, seen_block}
-use Rattle.text_building.specs.Loose.{AreDistinct, AreApart, IsLooseOperation, IsLooseBlock, AreLooseBlocks, AreAllLoose, regions_of, HasLooseHolder}
+use Rattle.text_building.specs.Loose.{AreDistinctHandles, ListsAreApart, IsLooseOperation, IsLooseBlock, AreLooseBlocks, AreAllLoose, regions_of, HasLooseHolder}
 use Rattle.text_building.specs.Made.{FillsRegion, FillsRegions}
 use Rattle.text_building.proofs.Members.{in_append, take_step, at_take, found_or_not, nothing_more, twice_more, pairs_map, pairs_push, pairs_at, last_of, in_front}
 use Rattle.text_building.proofs.Apart.{AreRegionsListed, block_apart}
@@ -64,7 +64,7 @@ module _ {K A T : Type 0} where
   }
 
   -- the next of distinct blocks is in no region still
-  pub next_loose : (s t : Seen K A T) (r : Ptr Region) (bs : List (Ptr BasicBlock)) (i : ℕ) (b : Ptr BasicBlock) → AreLooseBlocks s bs → AreDistinct bs
+  pub next_loose : (s t : Seen K A T) (r : Ptr Region) (bs : List (Ptr BasicBlock)) (i : ℕ) (b : Ptr BasicBlock) → AreLooseBlocks s bs → AreDistinctHandles bs
       → slice_get bs i ≡ Some b → FillsRegion s t r (take i bs) → IsLooseBlock t b
   next_loose s t r bs i b loose distinct here fills = still_loose_block s t r (take i bs) fills b (loose i b here)
       (λ k e. let a = at_take bs i k b e in let same : k ≡ i = distinct k i b a.1 here in let l : k < i = a.0 in absurd (omega arith))
@@ -106,7 +106,7 @@ module _ {K A T : Type 0} where
   }
 
   -- a block of the next list is in no region still
-  pub next_list_loose : (s t : Seen K A T) (rs : List (Ptr Region)) (bss : List (List (Ptr BasicBlock))) (i : ℕ) (bs : List (Ptr BasicBlock)) → AreAllLoose s bss → AreApart bss
+  pub next_list_loose : (s t : Seen K A T) (rs : List (Ptr Region)) (bss : List (List (Ptr BasicBlock))) (i : ℕ) (bs : List (Ptr BasicBlock)) → AreAllLoose s bss → ListsAreApart bss
       → slice_get bss i ≡ Some bs → FillsRegions s t rs (take i bss) → AreLooseBlocks t bs
   next_list_loose s t rs bss i bs loose apart here fills k b listed = let h = loose i bs here k b listed in record {
     there = subst IsSome (sym (fills.blocks b)) h.there;
@@ -125,7 +125,7 @@ module _ {K A T : Type 0} where
 
   -- one region more of an operation's is filled
   pub fills_step : (s t u : Seen K A T) (rs : List (Ptr Region)) (bss : List (List (Ptr BasicBlock))) (i : ℕ) (r : Ptr Region) (bs : List (Ptr BasicBlock))
-      → FillsRegions s t (take i rs) (take i bss) → slice_get rs i ≡ Some r → slice_get bss i ≡ Some bs → AreDistinct rs → FillsRegion t u r bs → FillsRegions s u (take (i + 1) rs) (take (i + 1) bss)
+      → FillsRegions s t (take i rs) (take i bss) → slice_get rs i ≡ Some r → slice_get bss i ≡ Some bs → AreDistinctHandles rs → FillsRegion t u r bs → FillsRegions s u (take (i + 1) rs) (take (i + 1) bss)
   fills_step s t u rs bss i r bs a here beside distinct b =
       let none : IsNoneOf (take i rs) r = λ k e. let f = at_take rs i k r e in let same : k ≡ i = distinct k i r f.1 here in let l : k < i = f.0 in absurd (omega arith) in
       let next : FillsRegions s u (take i rs ++ r ∷ []) (take i bss ++ bs ∷ []) = fills_next s t u (take i rs) (take i bss) r bs a b none in
@@ -151,5 +151,5 @@ module _ {D TypeKind AttrKind TypeBody Saved Location OpKind Attr TypeKey : Type
     pub can_put : (b : Ptr BasicBlock) (r : Ptr Region) → HasLooseHolder (seen c) r → StandsInside c.program (BlockNode b) (RegionNode r) → ⊥
     can_put b r h = block_apart c.program b r h.holder listed.1 (holder_stands r h) (unlinked_operation c h.holder h.loose)
 
-    pub regions_distinct : (p : Ptr Operation) → AreDistinct (regions_of (seen c) p)
+    pub regions_distinct : (p : Ptr Operation) → AreDistinctHandles (regions_of (seen c) p)
     regions_distinct p j k r a b = (listed.1 r p p j k (ap (λ rs. slice_get rs j) (regions_seen p) ∙ a) (ap (λ rs. slice_get rs k) (regions_seen p) ∙ b)).1

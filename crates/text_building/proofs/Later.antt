@@ -13,9 +13,9 @@ use Rattle.ir_program.specs.declared.handles.DefiningEntity.{DefiningEntity}
 use Rattle.ir_program.specs.declared.handles.DefiningEntity.TheVariants.{Op as ByOp, Block as ByBlock}
 use Rattle.ir_program.proofs.made.Frames.{same_or_not}
 use Rattle.text_dialect.specs.Seen.{SeenOperation, SeenBlock, Seen}
-use Rattle.text_building.specs.Kept.{Keeps, SameSeen}
-use Rattle.text_building.specs.Loose.{IsLooseOperation, IsLooseBlock, values_of, IsDefined}
-use Rattle.text_building.specs.Made.{OpensBlock, MakesOperation, AppendsOperation, LinksOperands}
+use Rattle.text_building.specs.Kept.{KeepsAllSeen, SameSeen}
+use Rattle.text_building.specs.Loose.{IsLooseOperation, IsLooseBlock, values_of, IsDefinedValue}
+use Rattle.text_building.specs.Made.{OpensBlock, MakesDetachedOperation, AppendsOperation, LinksOperands}
 use Rattle.text_building.specs.Later.{IsLater}
 use Rattle.text_building.proofs.Members.{in_append, only_member, found_or_not, pairs_at}
 use Rattle.text_building.proofs.Options.{no_some, same_some, is_there, there, mapped, mapped_there}
@@ -31,7 +31,7 @@ no_more_operations : (v : SeenBlock) → Some v ≡ Some (record v { operations 
 no_more_operations v = ap (λ ps. Some (record v { operations = ps })) (sym (append-nil v.operations))
 
 module _ {K A T : Type 0} where
-  pub keeps_both : (s t u : Seen K A T) → Keeps s t → Keeps t u → Keeps s u
+  pub keeps_both : (s t u : Seen K A T) → KeepsAllSeen s t → KeepsAllSeen t u → KeepsAllSeen s u
   keeps_both s t u a b = record {
     operations = λ p o e. b.operations p o (a.operations p o e);
     blocks = λ q v e. b.blocks q v (a.blocks q v e);
@@ -39,7 +39,7 @@ module _ {K A T : Type 0} where
     types = λ n key e. b.types n key (a.types n key e);
   }
 
-  pub same_keeps : (s t : Seen K A T) → SameSeen s t → Keeps s t
+  pub same_keeps : (s t : Seen K A T) → SameSeen s t → KeepsAllSeen s t
   same_keeps s t h = record {
     operations = λ p o e. h.operations p ∙ e;
     blocks = λ b v e. h.blocks b ∙ e;
@@ -47,7 +47,7 @@ module _ {K A T : Type 0} where
     types = h.types;
   }
 
-  pub opens_keeps : (s t : Seen K A T) (b : Ptr BasicBlock) (label : Option Identifier) (tys : List TypeHandle) (n : ℕ) → OpensBlock s t b label tys n → Keeps s t
+  pub opens_keeps : (s t : Seen K A T) (b : Ptr BasicBlock) (label : Option Identifier) (tys : List TypeHandle) (n : ℕ) → OpensBlock s t b label tys n → KeepsAllSeen s t
   opens_keeps s t b label tys n h = record {
     operations = λ p o e. h.operations p ∙ e;
     blocks = λ q v e. h.others q (not_fresh s.block b q v h.fresh e) ∙ e;
@@ -56,7 +56,7 @@ module _ {K A T : Type 0} where
   }
 
   pub makes_keeps : (s t : Seen K A T) (p : Ptr Operation) (kind : K) (attributes : List (List ℕ × A)) (tys : List TypeHandle) (n : ℕ) (bss : List (List (Ptr BasicBlock)))
-      → MakesOperation s t p kind attributes tys n bss → Keeps s t
+      → MakesDetachedOperation s t p kind attributes tys n bss → KeepsAllSeen s t
   makes_keeps s t p kind attributes tys n bss h = record {
     operations = λ q o e. h.others q (not_fresh s.operation p q o h.fresh e) ∙ e;
     blocks = λ b v e. h.blocks b ∙ e;
@@ -65,7 +65,7 @@ module _ {K A T : Type 0} where
   }
 
   -- what is kept is whole
-  pub keeps_later : (s t : Seen K A T) → Keeps s t → IsLater s t
+  pub keeps_later : (s t : Seen K A T) → KeepsAllSeen s t → IsLater s t
   keeps_later s t h = record {
     types = h.types;
     operations = λ p o e. ([], h.operations p o e ∙ no_more_operands o);
@@ -120,7 +120,7 @@ module _ {K A T : Type 0} where
   }
 
   -- a value that is defined is so later
-  pub defined_later : (s t : Seen K A T) → IsLater s t → (v : Value) → IsDefined s v → IsDefined t v
+  pub defined_later : (s t : Seen K A T) → IsLater s t → (v : Value) → IsDefinedValue s v → IsDefinedValue t v
   defined_later s t later v h = record { index = h.index; ty = h.ty; here = still v.definer (slice_get (values_of s v.definer) h.index) h.index (record { value = v; ty = h.ty }) refl h.here } where
     from_operation : (p : Ptr Operation) (o : Option (SeenOperation K A)) → s.operation p ≡ o → (k : ℕ) (x : TypedValue) → slice_get (unwrap_or (option_map (λ (u : SeenOperation K A). u.results) o) []) k ≡ Some x
         → slice_get (values_of t (ByOp p)) k ≡ Some x
@@ -156,7 +156,7 @@ module _ {K A T : Type 0} where
   }
 
   pub makes_loose_block : (s t : Seen K A T) (p : Ptr Operation) (kind : K) (attributes : List (List ℕ × A)) (tys : List TypeHandle) (n : ℕ) (bss : List (List (Ptr BasicBlock)))
-      → MakesOperation s t p kind attributes tys n bss → (q : Ptr BasicBlock) → IsLooseBlock s q
+      → MakesDetachedOperation s t p kind attributes tys n bss → (q : Ptr BasicBlock) → IsLooseBlock s q
       → ((k : ℕ) (bs : List (Ptr BasicBlock)) → slice_get bss k ≡ Some bs → IsNoneOf bs q) → IsLooseBlock t q
   makes_loose_block s t p kind attributes tys n bss h q loose none = record {
     there = subst IsSome (sym (h.blocks q)) loose.there;
@@ -169,7 +169,7 @@ module _ {K A T : Type 0} where
   }
 
   pub makes_loose_operation : (s t : Seen K A T) (p : Ptr Operation) (kind : K) (attributes : List (List ℕ × A)) (tys : List TypeHandle) (n : ℕ) (bss : List (List (Ptr BasicBlock)))
-      → MakesOperation s t p kind attributes tys n bss → (q : Ptr Operation) → IsLooseOperation s q → IsLooseOperation t q
+      → MakesDetachedOperation s t p kind attributes tys n bss → (q : Ptr Operation) → IsLooseOperation s q → IsLooseOperation t q
   makes_loose_operation s t p kind attributes tys n bss h q loose = let m = is_there (s.operation q) loose.there in record {
     there = there (t.operation q) m.0 ((makes_keeps s t p kind attributes tys n bss h).operations q m.0 m.1);
     loose = λ b v k e listed. loose.loose b v k (sym (h.blocks b) ∙ e) listed;

@@ -2,7 +2,7 @@
 use Rattle.std.proofs.Common.{◌≡◌, Some, option_map, sym, ap, ◌∙◌}
 use Rattle.ir_program.specs.Program.{Program, operation_at, block_at}
 use Rattle.text_dialect.specs.Seen.{Seen, seen, seen_operation, seen_block}
-use Rattle.text_building.specs.Kept.{Keeps, KeepsPayloads, KeepsPayloadsOf, operation_payload, block_payload}
+use Rattle.text_building.specs.Kept.{KeepsAllSeen, KeepsPayloads, KeepsPayloadsOf, operation_payload, block_payload}
 use Rattle.text_building.proofs.Opened.{ContextOf}
 use Rattle.text_building.proofs.Options.{is_there, there, mapped_there, unmapped_there}
 
@@ -16,7 +16,7 @@ module _ {K A T O B : Type 0} (start : Seen K A T) where
 
 module _ {D TypeKind AttrKind TypeBody Saved Location OpKind Attr TypeKey : Type 0} where
   -- what the start shows is there still, and keeps its payload where all do
-  pub payloads_shown : (start : Seen OpKind Attr TypeKey) (c d : ContextOf D TypeKind AttrKind TypeBody Saved Location OpKind Attr TypeKey) → Keeps start (seen c) → KeepsPayloads c.program d.program → KeepsPayloadsOf start c.program d.program
+  pub payloads_shown : (start : Seen OpKind Attr TypeKey) (c d : ContextOf D TypeKind AttrKind TypeBody Saved Location OpKind Attr TypeKey) → KeepsAllSeen start (seen c) → KeepsPayloads c.program d.program → KeepsPayloadsOf start c.program d.program
   payloads_shown start c d keeps h = record {
     operations = λ p shown.
         let was = is_there (start.operation p) shown in

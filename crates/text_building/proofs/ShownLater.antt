@@ -1,6 +1,6 @@
 -- What parts show stays shown where types are kept.
 use Rattle.std.proofs.Common.{List, [], ◌∷◌, ◌++◌}
-use Rattle.ir_names.specs.Tree.{Tree, Trees, node, no_tree, a_tree, join}
+use Rattle.ir_names.specs.Tree.{LabelledTree, Trees, node, no_tree, a_tree, join}
 use Rattle.ir_print.specs.declared.format.Part.{Part}
 use Rattle.ir_print.specs.Pieces.{type_of_kind, attribute_of_kind, list, item, operands, region, name, number, width, ValueTree, Pieces}
 use Rattle.ir_print.specs.Shown.{Said, Saying, Shows, ShowsAll, ShowsPart, ShowsParts, ShowsMembers, ShowsMember}
@@ -10,7 +10,7 @@ use Rattle.text_building.specs.Kept.{KeepsKeys}
 
 module _ {K A T : Type 0} (says : Saying K A T) (s t : List T) (keeps : KeepsKeys s t) where
   mutual
-    pub shows_later : (x : Tree (Said A)) (p : ValueTree) → Shows says s x p → Shows says t x p
+    pub shows_later : (x : LabelledTree (Said A)) (p : ValueTree) → Shows says s x p → Shows says t x p
     shows_later x (node (type_of_kind n) ts) (ty, key, us, e, at, says_it, all) = (ty, key, us, e, keeps ty.number key at, says_it, all_later us ts all)
     shows_later x (node (attribute_of_kind n) ts) (attr, us, e, says_it, all) = (attr, us, e, says_it, all_later us ts all)
     shows_later x (node list ts) (us, e, all) = (us, e, all_later us ts all)

@@ -19,7 +19,7 @@ use Rattle.ir_program.specs.declared.handles.Value.{Value}
 use Rattle.ir_context.specs.declared.notes.OperationData.{OperationData}
 use Rattle.text_dialect.specs.Seen.{SeenOperation, SeenBlock, Seen, seen, seen_operation, seen_block}
 use Rattle.text_building.specs.Loose.{IsLooseOperation, IsLooseBlock}
-use Rattle.text_building.specs.Inside.{IsThere, IsNowhere, IsInside, itself, in_block, in_region, in_operation, IsLoose, IsInsideSome, AreUnused, without_names, DropsUses, Erases, IsForest, IsOutside, KeepsPayloadsOutside, NamesWhatIsThere}
+use Rattle.text_building.specs.Inside.{IsThere, IsNowhere, IsNodeInside, itself, in_block, in_region, in_operation, IsLoose, IsInsideSome, AreUnused, without_names, DropsUsesInNodes, ErasesNodes, IsSeenForest, StartIsOutside, KeepsPayloadsOutside, NamesWhatIsThere}
 use Rattle.text_building.proofs.Insides.{inside_there, loose_there, some_one, one_some}
 use Rattle.text_building.proofs.Opened.{ContextOf, unlinked_operation, unlinked_block}
 use Rattle.text_building.proofs.Options.{no_some, is_there, there, mapped, mapped_there, unmapped_there}
@@ -58,7 +58,7 @@ module _ {D TypeKind AttrKind TypeBody Saved Location OpKind Attr TypeKey : Type
       let m = mapped seen_operation (operation_at c.program p) o e in
       ap (λ x. slice_get (unwrap_or (option_map (λ y. y.regions) x) []) k) m.1 ∙ ap (λ (y : SeenOperation OpKind Attr). slice_get y.regions k) m.2 ∙ listed
 
-  pub stands_seen : (x e : IRNode) → StandsInside c.program x e → IsInside (seen c) x e
+  pub stands_seen : (x e : IRNode) → StandsInside c.program x e → IsNodeInside (seen c) x e
   stands_seen x _ itself_there = itself
   stands_seen x _ (stands_in_block p b s i) =
       let m = in_row (λ v. v.operations) (block_at c.program b) s.index p s.here in
@@ -114,7 +114,7 @@ module _ {D TypeKind AttrKind TypeBody Saved Location OpKind Attr TypeKey : Type
     definer_there (ByBlock b) k x here = let m = in_row (λ v. v.arguments) (block_at c.program b) k x here in mapped_there seen_block (block_at c.program b) (there (block_at c.program b) m.0 m.1)
 
   module _ (lists : HasLists c.program) where
-    pub seen_forest : IsForest (seen c)
+    pub seen_forest : IsSeenForest (seen c)
     seen_forest = record {
       operation_there = λ b v k p e listed. mapped_there seen_operation (operation_at c.program p) (lists.operations b k p (listed_operation b v k p e listed)).operation;
       block_there = λ r bs k b e listed. mapped_there seen_block (block_at c.program b) (lists.blocks r k b (listed_block r bs k b e listed)).block;
@@ -124,7 +124,7 @@ module _ {D TypeKind AttrKind TypeBody Saved Location OpKind Attr TypeKey : Type
       region_once = λ p q o u j k r e f here there. (lists.regions_once r p q j k (listed_region p o j r e here) (listed_region q u k r f there)).0;
     }
 
-    pub seen_stands : (x e : IRNode) → IsInside (seen c) x e → StandsInside c.program x e
+    pub seen_stands : (x e : IRNode) → IsNodeInside (seen c) x e → StandsInside c.program x e
     seen_stands x _ itself = itself_there
     seen_stands x _ (in_block p b v k e listed i) = stands_in_block p b (lists.operations b k p (listed_operation b v k p e listed)) (seen_stands x (BlockNode b) i)
     seen_stands x _ (in_region b r bs k e listed i) = stands_in_region b r (lists.blocks r k b (listed_block r bs k b e listed)) (seen_stands x (RegionNode r) i)
@@ -138,7 +138,7 @@ seen_bare (Some v) = refl
 
 module _ {D TypeKind AttrKind TypeBody Saved Location OpKind Attr TypeKey : Type 0}
     (c d : ContextOf D TypeKind AttrKind TypeBody Saved Location OpKind Attr TypeKey) (same : d.types ≡ c.types) (lists : HasLists c.program) where
-  pub drops_seen : (x : IRNode) → DropsInProgram c.program d.program x → DropsUses (seen c) (seen d) (x ∷ [])
+  pub drops_seen : (x : IRNode) → DropsInProgram c.program d.program x → DropsUsesInNodes (seen c) (seen d) (x ∷ [])
   drops_seen x h = record {
     inside = λ p i. ap (option_map seen_operation) (h.inside p (seen_stands c lists x (OperationNode p) (one_some (seen c) x (OperationNode p) i))) ∙ seen_bare (operation_at c.program p);
     outside = λ p out. ap (option_map seen_operation) (h.outside p (λ i. out (some_one (seen c) x (OperationNode p) (stands_seen c x (OperationNode p) i))));
@@ -156,7 +156,7 @@ module _ {D TypeKind AttrKind TypeBody Saved Location OpKind Attr TypeKey : Type
   inside x loose e i = let j = one_some (seen c) x e i in
       (there_live c e (inside_there (seen c) (seen_forest c lists) x (loose_there (seen c) x loose) e j), seen_stands c lists x e j)
 
-  pub operation_erased : (p : Ptr Operation) → IsLooseOperation (seen c) p → ErasesOperation c.program d.program p → Erases (seen c) (seen d) (OperationNode p ∷ [])
+  pub operation_erased : (p : Ptr Operation) → IsLooseOperation (seen c) p → ErasesOperation c.program d.program p → ErasesNodes (seen c) (seen d) (OperationNode p ∷ [])
   operation_erased p loose h = record {
     gone = λ e i. let j = inside (OperationNode p) loose e i in gone_nowhere d e (h.gone e j.0 j.1);
     operations = λ q out. ap (option_map seen_operation) (h.operations q (outside (OperationNode p) (OperationNode q) out));
@@ -165,7 +165,7 @@ module _ {D TypeKind AttrKind TypeBody Saved Location OpKind Attr TypeKey : Type
     types = ap (λ ts. ts.keys) same;
   }
 
-  pub block_erased : (b : Ptr BasicBlock) → IsLooseBlock (seen c) b → ErasesBlock c.program d.program b → Erases (seen c) (seen d) (BlockNode b ∷ [])
+  pub block_erased : (b : Ptr BasicBlock) → IsLooseBlock (seen c) b → ErasesBlock c.program d.program b → ErasesNodes (seen c) (seen d) (BlockNode b ∷ [])
   block_erased b loose h = record {
     gone = λ e i. let j = inside (BlockNode b) loose e i in gone_nowhere d e (h.gone e j.0 j.1);
     operations = λ q out. ap (option_map seen_operation) (h.operations q (outside (BlockNode b) (OperationNode q) out));
@@ -177,7 +177,7 @@ module _ {D TypeKind AttrKind TypeBody Saved Location OpKind Attr TypeKey : Type
 -- what isn't inside a thing keeps its payload where the thing is bared or erased
 module _ {D TypeKind AttrKind TypeBody Saved Location OpKind Attr TypeKey : Type 0}
     (c d : ContextOf D TypeKind AttrKind TypeBody Saved Location OpKind Attr TypeKey) where
-  apart_from : (start : Seen OpKind Attr TypeKey) (x e : IRNode) → IsOutside start (seen c) (x ∷ []) → IsThere start e → StandsInside c.program x e → ⊥
+  apart_from : (start : Seen OpKind Attr TypeKey) (x e : IRNode) → StartIsOutside start (seen c) (x ∷ []) → IsThere start e → StandsInside c.program x e → ⊥
   apart_from start x e out shown i = out e shown (some_one (seen c) x e (stands_seen c x e i))
 
   pub drops_outside : (x : IRNode) → DropsInProgram c.program d.program x → KeepsPayloadsOutside (seen c) (x ∷ []) c.program d.program

@@ -11,9 +11,9 @@ use Rattle.ir_print.specs.Pieces.{ValueTree, Pieces, operation, a_region, block,
 use Rattle.ir_print.specs.Shown.{Saying, Pairs}
 use Rattle.text_dialect.specs.Seen.{SeenOperation, SeenBlock, Seen}
 use Rattle.text_dialect.specs.Standing.{HasDefinition, HasHead, HasTree, HasRegionTree, HasBlockTree, HaveRegionTrees, HaveBlockTrees, HaveTrees}
-use Rattle.text_building.specs.Kept.{Keeps, KeepsKeys}
+use Rattle.text_building.specs.Kept.{KeepsAllSeen, KeepsKeys}
 use Rattle.text_building.specs.Later.{IsLater}
-use Rattle.text_building.specs.Made.{MakesOperation}
+use Rattle.text_building.specs.Made.{MakesDetachedOperation}
 use Rattle.text_building.specs.Trees.{with_last, HaveListTrees}
 use Rattle.text_building.proofs.Members.{pairs_map}
 use Rattle.text_building.proofs.ShownLater.{shows_later, all_later}
@@ -32,7 +32,7 @@ module _ {K A T N : Type 0} (says : Saying K A T) (Named : Value → N → Type 
     no_successors = h.no_successors;
   }
 
-module _ {K A T N : Type 0} (says : Saying K A T) (Named : Value → N → Type 0) (Labels : Ptr BasicBlock → SeenBlock → List ℕ → Type 0) (s t : Seen K A T) (keeps : Keeps s t) where
+module _ {K A T N : Type 0} (says : Saying K A T) (Named : Value → N → Type 0) (Labels : Ptr BasicBlock → SeenBlock → List ℕ → Type 0) (s t : Seen K A T) (keeps : KeepsAllSeen s t) where
   mutual
     -- a tree stays where all is kept
     pub tree_kept : (p : Ptr Operation) (x : Entity N) → HasTree says Named Labels s p x → HasTree says Named Labels t p x
@@ -96,7 +96,7 @@ module _ {K A T N : Type 0} (says : Saying K A T) (Named : Value → N → Type 
   list_trees (r ∷ rs) (bs ∷ bss) (an_entity (entity (block label arguments) ts) xs) e h = absurd h
 
 module _ {K A T N : Type 0} (says : Saying K A T) (Named : Value → N → Type 0) (Labels : Ptr BasicBlock → SeenBlock → List ℕ → Type 0) (s t end : Seen K A T)
-    (p : Ptr Operation) (kind : K) (attributes : List (List ℕ × A)) (tys : List TypeHandle) (n : ℕ) (bss : List (List (Ptr BasicBlock))) (made : MakesOperation s t p kind attributes tys n bss) (later : IsLater t end) where
+    (p : Ptr Operation) (kind : K) (attributes : List (List ℕ × A)) (tys : List TypeHandle) (n : ℕ) (bss : List (List (Ptr BasicBlock))) (made : MakesDetachedOperation s t p kind attributes tys n bss) (later : IsLater t end) where
   -- an operation that was made has the tree of its head and of the lists, however making ends
   pub made_tree : (u : SeenOperation K A) (number : ℕ) (results : List (N × ValueTree)) (operands : List N) (pieces : Pieces) (xs : Entities N)
       → end.operation p ≡ Some u → HasHead says Named end.types u number results operands pieces → HaveListTrees says Named Labels end bss xs

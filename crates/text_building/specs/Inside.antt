@@ -10,7 +10,7 @@ use Rattle.ir_program.specs.declared.handles.Value.{Value}
 use Rattle.ir_program.specs.declared.handles.IRNode.{IRNode}
 use Rattle.ir_program.specs.declared.handles.IRNode.TheVariants.{Operation as OperationNode, Region as RegionNode, BasicBlock as BlockNode}
 use Rattle.text_dialect.specs.Seen.{SeenOperation, SeenBlock, Seen}
-use Rattle.text_building.specs.Kept.{Keeps, KeepsPayloadsOf}
+use Rattle.text_building.specs.Kept.{KeepsAllSeen, KeepsPayloadsOf}
 use Rattle.text_building.specs.Loose.{IsLooseOperation, IsLooseBlock}
 
 module _ {K A T : Type 0} (s : Seen K A T) where
@@ -27,17 +27,17 @@ module _ {K A T : Type 0} (s : Seen K A T) where
   IsNowhere (BlockNode b) = s.block b ≡ None
 
   -- the inner is the outer, or is in it, however far down
-  pub data IsInside (outer : IRNode) : IRNode → Type 0 where
-    itself : IsInside outer outer
+  pub data IsNodeInside (outer : IRNode) : IRNode → Type 0 where
+    itself : IsNodeInside outer outer
     in_block : (p : Ptr Operation) (b : Ptr BasicBlock) (v : SeenBlock) (k : ℕ) → s.block b ≡ Some v
-        → slice_get v.operations k ≡ Some p → IsInside outer (BlockNode b) → IsInside outer (OperationNode p)
+        → slice_get v.operations k ≡ Some p → IsNodeInside outer (BlockNode b) → IsNodeInside outer (OperationNode p)
     in_region : (b : Ptr BasicBlock) (r : Ptr Region) (bs : List (Ptr BasicBlock)) (k : ℕ) → s.region r ≡ Some bs
-        → slice_get bs k ≡ Some b → IsInside outer (RegionNode r) → IsInside outer (BlockNode b)
+        → slice_get bs k ≡ Some b → IsNodeInside outer (RegionNode r) → IsNodeInside outer (BlockNode b)
     in_operation : (r : Ptr Region) (p : Ptr Operation) (o : SeenOperation K A) (k : ℕ) → s.operation p ≡ Some o
-        → slice_get o.regions k ≡ Some r → IsInside outer (OperationNode p) → IsInside outer (RegionNode r)
+        → slice_get o.regions k ≡ Some r → IsNodeInside outer (OperationNode p) → IsNodeInside outer (RegionNode r)
 
 -- What is in a list is there, and in no other list: so it is in every context.
-pub record IsForest {K A T : Type 0} (s : Seen K A T) : Type 0 where
+pub record IsSeenForest {K A T : Type 0} (s : Seen K A T) : Type 0 where
   pub operation_there : (b : Ptr BasicBlock) (v : SeenBlock) (k : ℕ) (p : Ptr Operation) → s.block b ≡ Some v
       → slice_get v.operations k ≡ Some p → IsSome (s.operation p)
   pub block_there : (r : Ptr Region) (bs : List (Ptr BasicBlock)) (k : ℕ) (b : Ptr BasicBlock)
@@ -70,7 +70,7 @@ module _ {K A T : Type 0} (s : Seen K A T) where
     pub index : ℕ
     pub thing : IRNode
     pub here : slice_get xs index ≡ Some thing
-    pub inside : IsInside s thing inner
+    pub inside : IsNodeInside s thing inner
 
   -- each operation that takes a value of what is inside these, or goes on to a block inside these, is inside these
   pub record AreUsedInside (xs : List IRNode) : Type 0 where
@@ -105,7 +105,7 @@ without_names o = record o { operands = []; successors = [] }
 
 module _ {K A T : Type 0} (old new : Seen K A T) where
   -- the operations inside these have no operands and no successors, and all else is as it was
-  pub record DropsUses (xs : List IRNode) : Type 0 where
+  pub record DropsUsesInNodes (xs : List IRNode) : Type 0 where
     pub inside : (p : Ptr Operation) → IsInsideSome old xs (OperationNode p)
         → new.operation p ≡ option_map without_names (old.operation p)
     pub outside : (p : Ptr Operation) → (IsInsideSome old xs (OperationNode p) → ⊥) → new.operation p ≡ old.operation p
@@ -114,7 +114,7 @@ module _ {K A T : Type 0} (old new : Seen K A T) where
     pub types : new.types ≡ old.types
 
   -- these and all that is inside them is gone, and all else is as it was
-  pub record Erases (xs : List IRNode) : Type 0 where
+  pub record ErasesNodes (xs : List IRNode) : Type 0 where
     pub gone : (e : IRNode) → IsInsideSome old xs e → IsNowhere new e
     pub operations : (p : Ptr Operation) → (IsInsideSome old xs (OperationNode p) → ⊥)
         → new.operation p ≡ old.operation p
@@ -125,15 +125,15 @@ module _ {K A T : Type 0} (old new : Seen K A T) where
 -- All that was there at the start is there as it was, and inside none of these; all that came since is inside one of
 -- these; and what operations named at the start was there.
 pub record CameSince {K A T : Type 0} (start now : Seen K A T) (xs : List IRNode) : Type 0 where
-  pub keeps : Keeps start now
+  pub keeps : KeepsAllSeen start now
   pub named : NamesWhatIsThere start
   pub old : (e : IRNode) → IsThere start e → IsInsideSome now xs e → ⊥
   pub came : (e : IRNode) → IsNowhere start e → IsThere now e → IsInsideSome now xs e
 
 -- what is there at the start is inside none of these
-abbrev pub IsOutside : {K A T : Type 0} → Seen K A T → Seen K A T → List IRNode → Type 0
-IsOutside start now xs = (e : IRNode) → IsThere start e → IsInsideSome now xs e → ⊥
+abbrev pub StartIsOutside : {K A T : Type 0} → Seen K A T → Seen K A T → List IRNode → Type 0
+StartIsOutside start now xs = (e : IRNode) → IsThere start e → IsInsideSome now xs e → ⊥
 
 -- what is inside none of these, where the old context is seen so, keeps its payload
 abbrev pub KeepsPayloadsOutside : {K A T O B : Type 0} → Seen K A T → List IRNode → Program O B → Program O B → Type 0
-KeepsPayloadsOutside {K} {A} {T} s xs old new = (start : Seen K A T) → IsOutside start s xs → KeepsPayloadsOf start old new
+KeepsPayloadsOutside {K} {A} {T} s xs old new = (start : Seen K A T) → StartIsOutside start s xs → KeepsPayloadsOf start old new

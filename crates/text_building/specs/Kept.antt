@@ -14,7 +14,7 @@ KeepsKeys {T} old new = (n : ℕ) (key : T) → slice_get old n ≡ Some key →
 
 module _ {K A T : Type 0} (old new : Seen K A T) where
   -- what led somewhere leads to the same, and types keep their keys
-  pub record Keeps : Type 0 where
+  pub record KeepsAllSeen : Type 0 where
     pub operations : (p : Ptr Operation) (o : SeenOperation K A) → old.operation p ≡ Some o → new.operation p ≡ Some o
     pub blocks : (b : Ptr BasicBlock) (v : SeenBlock) → old.block b ≡ Some v → new.block b ≡ Some v
     pub regions : (r : Ptr Region) (bs : List (Ptr BasicBlock)) → old.region r ≡ Some bs → new.region r ≡ Some bs

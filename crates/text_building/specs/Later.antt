@@ -9,7 +9,7 @@ use Rattle.text_dialect.specs.Seen.{SeenOperation, SeenBlock, Seen}
 use Rattle.text_building.specs.Kept.{KeepsKeys}
 
 -- some region has the block
-pub record IsPlaced {K A T : Type 0} (s : Seen K A T) (b : Ptr BasicBlock) : Type 0 where
+pub record IsInSomeRegion {K A T : Type 0} (s : Seen K A T) (b : Ptr BasicBlock) : Type 0 where
   pub region : Ptr Region
   pub blocks : List (Ptr BasicBlock)
   pub index : ℕ
@@ -24,6 +24,6 @@ pub record IsLater {K A T : Type 0} (s t : Seen K A T) : Type 0 where
   pub operations : (p : Ptr Operation) (o : SeenOperation K A) → s.operation p ≡ Some o
       → (vs : List Value) × (t.operation p ≡ Some (record o { operands = o.operands ++ vs }))
   pub regions : (r : Ptr Region) (bs : List (Ptr BasicBlock)) → s.region r ≡ Some bs → t.region r ≡ Some bs
-  pub placed : (b : Ptr BasicBlock) (v : SeenBlock) → s.block b ≡ Some v → IsPlaced s b → t.block b ≡ Some v
+  pub placed : (b : Ptr BasicBlock) (v : SeenBlock) → s.block b ≡ Some v → IsInSomeRegion s b → t.block b ≡ Some v
   pub open_blocks : (b : Ptr BasicBlock) (v : SeenBlock) → s.block b ≡ Some v
       → (ps : List (Ptr Operation)) × (t.block b ≡ Some (record v { operations = v.operations ++ ps }))

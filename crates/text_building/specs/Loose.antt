@@ -12,12 +12,12 @@ use Rattle.ir_program.specs.declared.handles.DefiningEntity.TheVariants.{Op as B
 use Rattle.text_dialect.specs.Seen.{SeenOperation, SeenBlock, Seen}
 
 -- no handle comes twice
-abbrev pub AreDistinct : {E : Type 0} → List (Ptr E) → Type 0
-AreDistinct {E} ps = (j k : ℕ) (p : Ptr E) → slice_get ps j ≡ Some p → slice_get ps k ≡ Some p → j ≡ k
+abbrev pub AreDistinctHandles : {E : Type 0} → List (Ptr E) → Type 0
+AreDistinctHandles {E} ps = (j k : ℕ) (p : Ptr E) → slice_get ps j ≡ Some p → slice_get ps k ≡ Some p → j ≡ k
 
 -- no handle is in two of the lists, or twice in one
-abbrev pub AreApart : {E : Type 0} → List (List (Ptr E)) → Type 0
-AreApart {E} pss = (i j k l : ℕ) (ps qs : List (Ptr E)) (p : Ptr E) → slice_get pss i ≡ Some ps
+abbrev pub ListsAreApart : {E : Type 0} → List (List (Ptr E)) → Type 0
+ListsAreApart {E} pss = (i j k l : ℕ) (ps qs : List (Ptr E)) (p : Ptr E) → slice_get pss i ≡ Some ps
     → slice_get pss j ≡ Some qs
     → slice_get ps k ≡ Some p → slice_get qs l ≡ Some p → (i ≡ j) × (k ≡ l)
 
@@ -59,11 +59,11 @@ module _ {K A T : Type 0} (s : Seen K A T) where
   values_of (ByBlock b) = unwrap_or (option_map (λ (v : SeenBlock). v.arguments) (s.block b)) []
 
   -- the value is one of the results or arguments of its definer
-  pub record IsDefined (v : Value) : Type 0 where
+  pub record IsDefinedValue (v : Value) : Type 0 where
     pub index : ℕ
     pub ty : TypeHandle
     pub here : slice_get (values_of v.definer) index ≡ Some (record { value = v; ty = ty })
 
   -- each of the values is
   abbrev pub AreDefined : List Value → Type 0
-  AreDefined vs = (k : ℕ) (v : Value) → slice_get vs k ≡ Some v → IsDefined v
+  AreDefined vs = (k : ℕ) (v : Value) → slice_get vs k ≡ Some v → IsDefinedValue v

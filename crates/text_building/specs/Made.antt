@@ -13,7 +13,7 @@ use Rattle.ir_program.specs.declared.handles.Value.{Value}
 use Rattle.ir_program.specs.declared.handles.DefiningEntity.TheVariants.{Op as ByOp, Block as ByBlock}
 use Rattle.ir_print.specs.Shown.{Pairs}
 use Rattle.text_dialect.specs.Seen.{SeenOperation, SeenBlock, Seen}
-use Rattle.text_building.specs.Loose.{IsLooseOperation, IsLooseBlock, AreDistinct}
+use Rattle.text_building.specs.Loose.{IsLooseOperation, IsLooseBlock, AreDistinctHandles}
 
 -- the lists of these vectors
 abbrev pub lists_of : {X : Type 0} → List (Vec X Global) → List (List X)
@@ -40,13 +40,13 @@ module _ {K A T : Type 0} (old new : Seen K A T) where
   -- p, under which there was nothing, is an operation in no block of this kind, with these attributes, results of
   -- these types that are numbered from n on, no operands and no successors, and a region for each of the lists, which
   -- has the blocks of the list in this order; under the regions there was nothing; all else is as it was
-  pub record MakesOperation (p : Ptr Operation) (kind : K) (attributes : List (List ℕ
+  pub record MakesDetachedOperation (p : Ptr Operation) (kind : K) (attributes : List (List ℕ
       × A)) (tys : List TypeHandle) (n : ℕ)
       (bss : List (List (Ptr BasicBlock))) : Type 0 where
     pub handles : List (Ptr Region)
     pub fresh : old.operation p ≡ None
     pub fresh_regions : (k : ℕ) (r : Ptr Region) → slice_get handles k ≡ Some r → old.region r ≡ None
-    pub distinct : AreDistinct handles
+    pub distinct : AreDistinctHandles handles
     pub made : new.operation p ≡ Some (record {
       kind = kind;
       attributes = attributes;

@@ -11,9 +11,9 @@ ghost use Rattle.ir_program.specs.declared.handles.Value.{Value};
 ghost use Rattle.std.specs.Prelude.{Option};
 ghost use Rattle.text_dialect.specs.Seen.{Seen};
 ghost use Rattle.text_building.specs.Came.{Attached, OneMore, TakenIn};
-ghost use Rattle.text_building.specs.Inside.{AreLoose, AreUsedInside, CameSince, IsForest, IsNowhere, IsThere, NamesWhatIsThere};
+ghost use Rattle.text_building.specs.Inside.{AreLoose, AreUsedInside, CameSince, IsSeenForest, IsNowhere, IsThere, NamesWhatIsThere};
 ghost use Rattle.text_building.specs.Kept.{SameSeen};
-ghost use Rattle.text_building.specs.Made.{AppendsOperation, LinksOperands, MakesOperation, OpensBlock};
+ghost use Rattle.text_building.specs.Made.{AppendsOperation, LinksOperands, MakesDetachedOperation, OpensBlock};
 
 /// Tells that all that came since the start is inside the loose things: at the start there are none; a new block is
 /// one more; a new operation is one in place of the blocks that it takes in; an operation that goes into one of the
@@ -29,8 +29,8 @@ pub fn know_came<K, A, T>()
     ensures makes { (start s t : Seen K A T) (xs ys : List IRNode) (p : Ptr Operation) (kind : K)
         (attributes : List (List ℕ × A)) (tys : List TypeHandle)
         (n : ℕ) (bss : List (List (Ptr BasicBlock))) → CameSince start s xs
-        → MakesOperation s t p kind attributes tys n bss
-        → IsForest s → AreLoose s xs → TakenIn xs ys p bss → CameSince start t ys }
+        → MakesDetachedOperation s t p kind attributes tys n bss
+        → IsSeenForest s → AreLoose s xs → TakenIn xs ys p bss → CameSince start t ys }
     ensures appends { (start s t : Seen K A T) (xs ys : List IRNode) (b : Ptr BasicBlock) (p : Ptr Operation)
         → CameSince start s xs → AppendsOperation s t b p → Attached xs ys b p → IsThere s (BlockNode b)
         → CameSince start t ys }

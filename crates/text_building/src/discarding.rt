@@ -3,7 +3,7 @@ ghost use Rattle.std.specs.Prelude.{◌≡◌, ◌∷◌, []};
 ghost use Rattle.ir_program.specs.Edits.{KeepsErased};
 ghost use Rattle.text_dialect.specs.Seen.{Seen, seen};
 ghost use Rattle.text_building.specs.Kept.{SameSeen};
-ghost use Rattle.text_building.specs.Inside.{AreLoose, AreUnused, AreUsedInside, CameSince, DropsUses, Erases};
+ghost use Rattle.text_building.specs.Inside.{AreLoose, AreUnused, AreUsedInside, CameSince, DropsUsesInNodes, ErasesNodes};
 ghost use Rattle.text_building.specs.Inside.{IsLoose, KeepsPayloadsOutside};
 
 use ir_context::{BlockErasing, Context, OperationErasing};
@@ -13,7 +13,7 @@ use ir_types::DialectTables;
 /// Takes the operands and successors of all operations inside these things away.
 fn drop_uses<D: DialectTables>(ctx: &mut Context<D>, things: &[IRNode])
     requires loose { AreLoose (seen ctx.old) things.now }
-    ensures dropped { DropsUses (seen ctx.old) (seen ctx.new) things.now }
+    ensures dropped { DropsUsesInNodes (seen ctx.old) (seen ctx.new) things.now }
     ensures erased { KeepsErased ctx.old.program ctx.new.program }
     ensures payloads { KeepsPayloadsOutside (seen ctx.old) things.now ctx.old.program ctx.new.program }
     ensures types { ctx.new.types ≡ ctx.old.types }
@@ -29,7 +29,7 @@ fn drop_uses<D: DialectTables>(ctx: &mut Context<D>, things: &[IRNode])
 fn erase_thing<D: DialectTables>(ctx: &mut Context<D>, thing: IRNode)
     requires loose { IsLoose (seen ctx.old) thing }
     requires unused { AreUnused (seen ctx.old) (thing ∷ []) }
-    ensures gone { Erases (seen ctx.old) (seen ctx.new) (thing ∷ []) }
+    ensures gone { ErasesNodes (seen ctx.old) (seen ctx.new) (thing ∷ []) }
     ensures erased { KeepsErased ctx.old.program ctx.new.program }
     ensures payloads { KeepsPayloadsOutside (seen ctx.old) (thing ∷ []) ctx.old.program ctx.new.program }
     ensures types { ctx.new.types ≡ ctx.old.types }
@@ -46,7 +46,7 @@ fn erase_thing<D: DialectTables>(ctx: &mut Context<D>, thing: IRNode)
 fn erase_all<D: DialectTables>(ctx: &mut Context<D>, things: &[IRNode])
     requires loose { AreLoose (seen ctx.old) things.now }
     requires unused { AreUnused (seen ctx.old) things.now }
-    ensures gone { Erases (seen ctx.old) (seen ctx.new) things.now }
+    ensures gone { ErasesNodes (seen ctx.old) (seen ctx.new) things.now }
     ensures erased { KeepsErased ctx.old.program ctx.new.program }
     ensures payloads { KeepsPayloadsOutside (seen ctx.old) things.now ctx.old.program ctx.new.program }
     ensures types { ctx.new.types ≡ ctx.old.types }
@@ -63,7 +63,7 @@ fn erase_all<D: DialectTables>(ctx: &mut Context<D>, things: &[IRNode])
 pub fn discard<D: DialectTables>(ctx: &mut Context<D>, things: &[IRNode])
     requires loose { AreLoose (seen ctx.old) things.now }
     requires used { AreUsedInside (seen ctx.old) things.now }
-    ensures gone { Erases (seen ctx.old) (seen ctx.new) things.now }
+    ensures gone { ErasesNodes (seen ctx.old) (seen ctx.new) things.now }
     // Where all that came since the start is inside these things, all is as it was at the start.
     ensures undone { (start : Seen D.OpKind D.Attr D.TypeKey) → CameSince start (seen ctx.old) things.now
         → SameSeen start (seen ctx.new) }

@@ -2,7 +2,7 @@
 ghost use Rattle.std.specs.Prelude.{◌≡◌, length};
 ghost use Rattle.text_dialect.specs.Seen.{seen};
 ghost use Rattle.text_building.specs.Kept.{GivesNumbers};
-ghost use Rattle.text_building.specs.Loose.{AreApart, AreAllLoose, AreDistinct, AreLooseBlocks, HasLooseHolder, IsLooseOperation, regions_of};
+ghost use Rattle.text_building.specs.Loose.{ListsAreApart, AreAllLoose, AreDistinctHandles, AreLooseBlocks, HasLooseHolder, IsLooseOperation, regions_of};
 ghost use Rattle.text_building.specs.Made.{FillsRegion, FillsRegions, lists_of};
 
 use ir_context::{BlockLists, Context, OperationCalls};
@@ -17,7 +17,7 @@ fn fill_region<D: DialectTables>(
 )
     requires holder { HasLooseHolder (seen ctx.old) region }
     requires loose { AreLooseBlocks (seen ctx.old) blocks.now }
-    requires distinct { AreDistinct blocks.now }
+    requires distinct { AreDistinctHandles blocks.now }
     ensures filled { FillsRegion (seen ctx.old) (seen ctx.new) region blocks.now }
     ensures numbers { GivesNumbers ctx.old.program ctx.new.program 0 }
     ensures types { ctx.new.types ≡ ctx.old.types }
@@ -38,7 +38,7 @@ pub fn fill_regions<D: DialectTables>(
     requires op { IsLooseOperation (seen ctx.old) op }
     requires count { length (regions_of (seen ctx.old) op) ≡ length lists.now }
     requires loose { AreAllLoose (seen ctx.old) (lists_of lists.now) }
-    requires apart { AreApart (lists_of lists.now) }
+    requires apart { ListsAreApart (lists_of lists.now) }
     ensures filled { FillsRegions (seen ctx.old) (seen ctx.new) (regions_of (seen ctx.old) op) (lists_of lists.now) }
     ensures numbers { GivesNumbers ctx.old.program ctx.new.program 0 }
     ensures types { ctx.new.types ≡ ctx.old.types }

@@ -6,8 +6,8 @@ ghost use Rattle.ir_program.specs.Edits.{KeepsErased};
 ghost use Rattle.ir_program.specs.Made.{BuildsOperation};
 ghost use Rattle.text_dialect.specs.Seen.{seen};
 ghost use Rattle.text_building.specs.Kept.{SameSeen, GivesNumbers, KeepsPayloads};
-ghost use Rattle.text_building.specs.Loose.{AreAllLoose, AreApart};
-ghost use Rattle.text_building.specs.Made.{MakesOperation, OpensBlock, lists_of};
+ghost use Rattle.text_building.specs.Loose.{AreAllLoose, ListsAreApart};
+ghost use Rattle.text_building.specs.Made.{MakesDetachedOperation, OpensBlock, lists_of};
 
 use crate::filling::fill_regions;
 use ir_context::{Context, NewBlock, OperationData, OperationNotes};
@@ -85,8 +85,9 @@ pub fn make_operation<D: DialectTables>(
 ) -> Result<Ptr<Operation>, GrowError>
     requires known { AreKnownIn (length ctx.old.types.keys) result_types.now }
     requires loose { AreAllLoose (seen ctx.old) (lists_of regions.now) }
-    requires apart { AreApart (lists_of regions.now) }
-    ensures made { IfOk result (λ p. MakesOperation (seen ctx.old) (seen ctx.new) p kind attributes result_types.now
+    requires apart { ListsAreApart (lists_of regions.now) }
+    ensures made { IfOk result
+        (λ p. MakesDetachedOperation (seen ctx.old) (seen ctx.new) p kind attributes result_types.now
         ctx.old.program.counter (lists_of regions.now)) }
     ensures numbers { OnOk result (GivesNumbers ctx.old.program ctx.new.program (length result_types.now)) }
     ensures err { OnErr result (SameSeen (seen ctx.old) (seen ctx.new)) }

@@ -1,7 +1,7 @@
 //! The table by which the texts of a dialect are read, as the dialect gives it.
 ghost use Rattle.std.specs.Prelude.{◌≡◌, map, true};
 ghost use Rattle.ir_formats.specs.Given.{grammar_value, plain_part};
-ghost use Rattle.ir_formats.specs.Ordered.{Leads, is_ordered};
+ghost use Rattle.ir_formats.specs.Ordered.{PartPositions, is_ordered};
 ghost use Rattle.ir_formats.specs.Predicting.{fits};
 ghost use Rattle.ir_formats.specs.Rules.{rules_of};
 
@@ -11,7 +11,7 @@ use text_dialect::TextDialect;
 /// A dialect whose texts can be read: the next token decides each step.
 pub trait ReadDialect: TextDialect {
     /// Where each part of the grammar may stand, and where it leads to.
-    ghost leads: { Leads };
+    ghost leads: { PartPositions };
 
     /// The table of the grammar that the dialect's formats make, as [`table_of`](crate::table_of) writes it.
     fn table() -> &'static [PartTable]

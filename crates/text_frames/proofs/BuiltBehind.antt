@@ -9,11 +9,11 @@ use Rattle.ir_print.specs.Pieces.{Piece, type_of_kind, ValueTree, Pieces, Values
 use Rattle.ir_print.specs.Shown.{Saying, operands_said}
 use Rattle.ir_grammar.specs.declared.grammar.Action.{Action}
 use Rattle.ir_grammar.specs.declared.grammar.Action.TheVariants as act
-use Rattle.ir_forest.specs.Forest.{Step}
+use Rattle.ir_forest.specs.Forest.{ActionSpan}
 use Rattle.ir_forest.specs.Meaning.{with_piece, pieces_in, tokens_in, operands_in, arguments_in, typed, head_of, operations_in, regions_in, blocks_in, by_operation, by_region, by_label, by_operands, by_argument}
 use Rattle.ir_forest.specs.Building.{behind}
 use Rattle.text_building.specs.Trees.{with_last}
-use Rattle.text_frames.specs.Worlds.{World, IsReady, AreReady, AreReadyRegions}
+use Rattle.text_frames.specs.Worlds.{PartialModule, IsReady, AreReady, AreReadyRegions}
 use Rattle.text_frames.specs.Raised.{listed, with_result, result_names, argument_token, argument_tokens, named_last, last_argument, is_header, has_header}
 use Rattle.text_frames.proofs.Moving.{is_number, is_width}
 use Rattle.ir_forest.proofs.PiecesBehind.{pieces_behind}
@@ -37,7 +37,7 @@ by_label_ap F _ x y = refl
 
 module _ (values : Values) (text : ℕ → List ℕ) where
   -- an operation is one more at the end, whose results have the names that stand before it
-  pub operations_behind : (names : List ℕ) (ts : Trees Step) (s : Step) (us : Trees Step)
+  pub operations_behind : (names : List ℕ) (ts : Trees ActionSpan) (s : ActionSpan) (us : Trees ActionSpan)
       → operations_in values text names (behind ts (node s us)) ≡ by_operation s.action (operations_in values text names ts)
       (λ kind. with_last (operations_in values text names ts) (entity (head_of values text (result_names names ts) us kind) (regions_in values text us)))
       (operations_in values text names ts)
@@ -68,7 +68,7 @@ module _ (values : Values) (text : ℕ → List ℕ) where
           (operations_in values text [] ts)
       go _ more = more names
 
-  pub regions_behind : (ts : Trees Step) (s : Step) (us : Trees Step)
+  pub regions_behind : (ts : Trees ActionSpan) (s : ActionSpan) (us : Trees ActionSpan)
       → regions_in values text (behind ts (node s us)) ≡ by_region s.action (with_last (regions_in values text ts) (entity a_region (blocks_in values text us))) (regions_in values text ts)
   regions_behind no_tree s us = refl
   regions_behind (a_tree (node r rs) ts) s us = go r.action (regions_behind ts s us)
@@ -85,7 +85,7 @@ module _ (values : Values) (text : ℕ → List ℕ) where
           ap F more ∙ by_region_ap F s.action (with_last (regions_in values text ts) (entity a_region (blocks_in values text us))) (regions_in values text ts)
       go _ more = more
 
-  pub blocks_behind : (ts : Trees Step) (s : Step) (us : Trees Step)
+  pub blocks_behind : (ts : Trees ActionSpan) (s : ActionSpan) (us : Trees ActionSpan)
       → blocks_in values text (behind ts (node s us)) ≡ by_label s.action
       (with_last (blocks_in values text ts) (entity (block (text s.first) (arguments_in values text 0 us)) (operations_in values text [] us))) (blocks_in values text ts)
   blocks_behind no_tree s us = refl
@@ -110,7 +110,7 @@ module _ (values : Values) (text : ℕ → List ℕ) where
   -- ---- arguments
 
   -- behind a header there are no arguments
-  pub arguments_behind_header : (named : ℕ) (ts : Trees Step) (s : Step) (us : Trees Step) → has_header ts ≡ true
+  pub arguments_behind_header : (named : ℕ) (ts : Trees ActionSpan) (s : ActionSpan) (us : Trees ActionSpan) → has_header ts ≡ true
       → arguments_in values text named (behind ts (node s us)) ≡ arguments_in values text named ts
   arguments_behind_header named no_tree s us h = cc
   arguments_behind_header named (a_tree (node r rs) ts) s us h = go r.action h (λ n k. arguments_behind_header n ts s us k)
@@ -128,7 +128,7 @@ module _ (values : Values) (text : ℕ → List ℕ) where
       go _ k more = more named k
 
   -- in a header a type is that of the last argument that is named
-  pub arguments_behind : (named : ℕ) (ts : Trees Step) (s : Step) (us : Trees Step) → has_header ts ≡ false
+  pub arguments_behind : (named : ℕ) (ts : Trees ActionSpan) (s : ActionSpan) (us : Trees ActionSpan) → has_header ts ≡ false
       → arguments_in values text named (behind ts (node s us)) ≡ arguments_in values text named ts
       ++ by_argument s.action [] (λ kind. (last_argument named ts, node (type_of_kind kind) (pieces_in values text us)) ∷ []) [] []
   arguments_behind named no_tree s us h = refl
@@ -151,19 +151,19 @@ module _ (values : Values) (text : ℕ → List ℕ) where
 
 -- ---- tokens and names
 
-pub operands_behind : (ts : Trees Step) (s : Step) (us : Trees Step) → operands_in (behind ts (node s us)) ≡ operands_in ts ++ by_operands s.action (tokens_in us) []
+pub operands_behind : (ts : Trees ActionSpan) (s : ActionSpan) (us : Trees ActionSpan) → operands_in (behind ts (node s us)) ≡ operands_in ts ++ by_operands s.action (tokens_in us) []
 operands_behind no_tree s us = append-nil (by_operands s.action (tokens_in us) [])
 operands_behind (a_tree (node r rs) ts) s us =
     ap (λ (ks : List ℕ). by_operands r.action (tokens_in rs) [] ++ ks) (operands_behind ts s us)
     ∙ sym (append_assoc (by_operands r.action (tokens_in rs) []) (operands_in ts) (by_operands s.action (tokens_in us) []))
 
-pub argument_tokens_behind : (ts : Trees Step) (s : Step) (us : Trees Step) → argument_tokens (behind ts (node s us)) ≡ argument_tokens ts ++ argument_token s.action s.first
+pub argument_tokens_behind : (ts : Trees ActionSpan) (s : ActionSpan) (us : Trees ActionSpan) → argument_tokens (behind ts (node s us)) ≡ argument_tokens ts ++ argument_token s.action s.first
 argument_tokens_behind no_tree s us = append-nil (argument_token s.action s.first)
 argument_tokens_behind (a_tree (node r rs) ts) s us =
     ap (λ (ks : List ℕ). argument_token r.action r.first ++ ks) (argument_tokens_behind ts s us)
     ∙ sym (append_assoc (argument_token r.action r.first) (argument_tokens ts) (argument_token s.action s.first))
 
-pub last_argument_behind : (k : ℕ) (ts : Trees Step) (s : Step) (us : Trees Step) → last_argument k (behind ts (node s us)) ≡ named_last (last_argument k ts) s.action s.first
+pub last_argument_behind : (k : ℕ) (ts : Trees ActionSpan) (s : ActionSpan) (us : Trees ActionSpan) → last_argument k (behind ts (node s us)) ≡ named_last (last_argument k ts) s.action s.first
 last_argument_behind k no_tree s us = refl
 last_argument_behind k (a_tree (node r rs) ts) s us = last_argument_behind (named_last k r.action r.first) ts s us
 
@@ -175,11 +175,11 @@ is_header_any act.Header b h = sym (always b)
     always _ = refl
 is_header_any _ b h = refl
 
-pub has_header_behind : (ts : Trees Step) (s : Step) (us : Trees Step) → has_header (behind ts (node s us)) ≡ is_header s.action (has_header ts)
+pub has_header_behind : (ts : Trees ActionSpan) (s : ActionSpan) (us : Trees ActionSpan) → has_header (behind ts (node s us)) ≡ is_header s.action (has_header ts)
 has_header_behind no_tree s us = refl
 has_header_behind (a_tree (node r rs) ts) s us = ap (λ (b : Bool). is_header r.action b) (has_header_behind ts s us) ∙ is_header_any r.action s.action (has_header ts)
 
-pub result_names_behind : (names : List ℕ) (ts : Trees Step) (s : Step) (us : Trees Step) → result_names names (behind ts (node s us)) ≡ with_result (result_names names ts) s.action s.first
+pub result_names_behind : (names : List ℕ) (ts : Trees ActionSpan) (s : ActionSpan) (us : Trees ActionSpan) → result_names names (behind ts (node s us)) ≡ with_result (result_names names ts) s.action s.first
 result_names_behind names no_tree s us = refl
 result_names_behind names (a_tree (node r rs) ts) s us = result_names_behind (with_result names r.action r.first) ts s us
 
@@ -194,7 +194,7 @@ listed_length no_tree = refl
 listed_length (a_tree p ps) = ap suc (listed_length ps)
 
 -- the pieces of trees with one more behind them, as a list
-pub listed_behind : (values : Values) (text : ℕ → List ℕ) (ts : Trees Step) (s : Step) (us : Trees Step)
+pub listed_behind : (values : Values) (text : ℕ → List ℕ) (ts : Trees ActionSpan) (s : ActionSpan) (us : Trees ActionSpan)
     → listed (pieces_in values text (behind ts (node s us))) ≡ listed (pieces_in values text ts) ++ listed (with_piece values s.action (text s.first) (count us) (pieces_in values text us) no_tree)
 listed_behind values text ts s us = ap listed (pieces_behind values text ts s us) ∙ listed_join (pieces_in values text ts) _
 
@@ -214,12 +214,12 @@ typed_more (j ∷ ks) k (q ∷ ps) p e = ap (λ (xs : List (ℕ × ValueTree)). 
 
 -- ---- operands
 
-pub tokens_count : (ts : Trees Step) → length (tokens_in ts) ≡ count ts
+pub tokens_count : (ts : Trees ActionSpan) → length (tokens_in ts) ≡ count ts
 tokens_count no_tree = refl
 tokens_count (a_tree (node s us) ts) = ap suc (tokens_count ts)
 
 -- pieces say as many operands as tokens name
-pub operands_are_said : (values : Values) (text : ℕ → List ℕ) (ts : Trees Step) → operands_said (pieces_in values text ts) ≡ length (operands_in ts)
+pub operands_are_said : (values : Values) (text : ℕ → List ℕ) (ts : Trees ActionSpan) → operands_said (pieces_in values text ts) ≡ length (operands_in ts)
 operands_are_said values text no_tree = refl
 operands_are_said values text (a_tree (node s us) ts) = go s.action (operands_are_said values text ts)
   where
@@ -232,7 +232,7 @@ operands_are_said values text (a_tree (node s us) ts) = go s.action (operands_ar
 
 -- ---- one more that stands for its tree
 
-module _ {K A T : Type 0} (says : Saying K A T) (w : World K A T) where
+module _ {K A T : Type 0} (says : Saying K A T) (w : PartialModule K A T) where
   pub ready_put : (bs : List (Ptr BasicBlock)) (ts : Entities ℕ) (b : Ptr BasicBlock) (t : Entity ℕ) → AreReady says w bs ts → IsReady says w b t → AreReady says w (bs ++ b ∷ []) (with_last ts t)
   ready_put [] no_entity b t h k = (k, tt)
   ready_put (c ∷ bs) (an_entity u ts) b t h k = (h.0, ready_put bs ts b t h.1 k)

@@ -13,8 +13,8 @@ use Rattle.ir_program.specs.declared.handles.DefiningEntity.TheVariants.{Op as B
 use Rattle.ir_program.specs.Adds.{numbered_values}
 use Rattle.ir_program.specs.Program.{TypedValue}
 use Rattle.text_dialect.specs.Seen.{SeenOperation, SeenBlock, Seen}
-use Rattle.text_building.specs.Loose.{values_of, IsDefined}
-use Rattle.text_building.specs.Made.{OpensBlock, MakesOperation}
+use Rattle.text_building.specs.Loose.{values_of, IsDefinedValue}
+use Rattle.text_building.specs.Made.{OpensBlock, MakesDetachedOperation}
 use Rattle.text_frames.specs.Worlds.{set_all, values_alone}
 use Rattle.text_frames.proofs.Rising.{get_map, numbered_length, numbered_value, made_at}
 
@@ -78,7 +78,7 @@ module _ {K A T : Type 0} where
   -- the results of an operation that was made
   pub results_made : (s t : Seen K A T) (p : Ptr Operation) (kind : K) (attributes : List (List ℕ × A))
       (types : List TypeHandle) (n : ℕ) (bss : List (List (Ptr BasicBlock)))
-      → MakesOperation s t p kind attributes types n bss → values_of t (ByOp p) ≡ numbered_values (ByOp p) n types
+      → MakesDetachedOperation s t p kind attributes types n bss → values_of t (ByOp p) ≡ numbered_values (ByOp p) n types
   results_made s t p kind attributes types n bss h = ap
       (λ (o : Option (SeenOperation K A)). unwrap_or (option_map (λ (u : SeenOperation K A). u.results) o) []) h.made
 
@@ -86,7 +86,7 @@ module _ {K A T : Type 0} where
   pub numbered_defined : (t : Seen K A T) (e : DefiningEntity) (n : ℕ) (types : List TypeHandle)
       → values_of t e ≡ numbered_values e n types
       → (i : ℕ) (v : Value) → slice_get (values_alone (numbered_values e n types)) i ≡ Some v
-      → IsDefined t v × (v.number ≡ n + i)
+      → IsDefinedValue t v × (v.number ≡ n + i)
   numbered_defined t e n types same i v h =
       let x = get_map (λ (u : TypedValue). u.value) (numbered_values e n types) i v h in
       let is : v ≡ numbered_value e (n + i) = made_at e n types i v h in

@@ -20,7 +20,7 @@ use Rattle.text_frames.specs.declared.opened.Content.{Content}
 use Rattle.text_frames.specs.declared.opened.Open as opened
 use Rattle.text_frames.specs.declared.opened.OpenBlock.{OpenBlock}
 use Rattle.text_frames.specs.declared.opened.OpenOperation.{OpenOperation}
-use Rattle.ir_forest.specs.Forest.{Step}
+use Rattle.ir_forest.specs.Forest.{ActionSpan}
 use Rattle.ir_forest.specs.Meaning.{pieces_in, with_piece, tokens_in}
 use Rattle.ir_forest.specs.ValueFaults.{refused}
 use Rattle.ir_forest.specs.Building as building
@@ -28,7 +28,7 @@ use Rattle.ir_forest.specs.Building.{behind, ended_tree, names_behind, with_name
 use Rattle.ir_grammar.specs.Nesting.{Position, at_end, in_operation, in_header, in_block, in_type, in_attribute, in_list, in_item}
 use Rattle.text_frames.specs.Opened.{HasPut, HasBody}
 use Rattle.text_building.specs.Kept.{KeepsKeys}
-use Rattle.text_frames.specs.Frames.{Sort, a_text, an_operation, some_operands, a_region, a_block, a_type, an_attribute, a_list, an_item, sort_at, sort_of, TakesParts, TakesTypes, StandsAlone, EndsAt, Begins, NamesResults, SaysParts, Contains, IsFrame, BeganSo, Ending, Ended}
+use Rattle.text_frames.specs.Frames.{FrameSort, a_text, an_operation, some_operands, a_region, a_block, a_type, an_attribute, a_list, an_item, sort_at, sort_of, TakesParts, TakesTypes, StandsAlone, EndsAt, Begins, NamesResults, SaysParts, Contains, IsFrame, BeganSo, Ending, Ended}
 use Rattle.text_building.proofs.ShownLater.{members_put}
 use Rattle.ir_forest.proofs.PiecesBehind.{pieces_behind, name_behind}
 use Rattle.text_frames.proofs.Framing.{frame_later, frame_put, count_tokens}
@@ -73,12 +73,12 @@ module _ {D K A T : Type 0} where
 -- ---- what holds no pieces
 
 -- neither parts, members nor operands are said in it
-abbrev pub Hollow : Sort → Type 0
+abbrev pub Hollow : FrameSort → Type 0
 Hollow a_text = Unit {0}
 Hollow a_block = Unit {0}
 Hollow _ = ⊥
 
-pub named_by : (s : Sort) (names : List ℕ) (ts : Trees Step) → names ≡ names_behind [] ts → NamesResults s names ts
+pub named_by : (s : FrameSort) (names : List ℕ) (ts : Trees ActionSpan) → names ≡ names_behind [] ts → NamesResults s names ts
 named_by an_operation names ts e = tt
 named_by a_type names ts e = tt
 named_by an_attribute names ts e = tt
@@ -94,7 +94,7 @@ alone_is_hollow at_end h = tt
 alone_is_hollow in_block h = tt
 alone_is_hollow _ h = absurd h
 
-pub hollow_names : (s : Sort) (names : List ℕ) (ts : Trees Step) → Hollow s → NamesResults s names ts → names ≡ names_behind [] ts
+pub hollow_names : (s : FrameSort) (names : List ℕ) (ts : Trees ActionSpan) → Hollow s → NamesResults s names ts → names ≡ names_behind [] ts
 hollow_names a_text names ts h e = e
 hollow_names a_block names ts h e = e
 hollow_names an_operation names ts h e = absurd h
@@ -105,7 +105,7 @@ hollow_names an_attribute names ts h e = absurd h
 hollow_names a_list names ts h e = absurd h
 hollow_names an_item names ts h e = absurd h
 
-pub alone_names : (p : Position) (names : List ℕ) (ts : Trees Step) → StandsAlone p → NamesResults (sort_at p) names ts → names ≡ names_behind [] ts
+pub alone_names : (p : Position) (names : List ℕ) (ts : Trees ActionSpan) → StandsAlone p → NamesResults (sort_at p) names ts → names ≡ names_behind [] ts
 alone_names p names ts h e = hollow_names (sort_at p) names ts (alone_is_hollow p h) e
 
 pub type_place : (p : Position) → TakesTypes p → (p ≡ in_header) ⊎ TakesParts (sort_at p)
@@ -117,7 +117,7 @@ type_place in_item h = inr tt
 type_place _ h = absurd h
 
 module _ {D K A T : Type 0} (says : Saying K A T) (values : Values) (text : ℕ → List ℕ) (types : List T) where
-  hollow_contains : (b : Body D K A T) (c : Content D K A T) (ts : Trees Step) → Hollow (sort_of b) → Contains says values text types b c ts
+  hollow_contains : (b : Body D K A T) (c : Content D K A T) (ts : Trees ActionSpan) → Hollow (sort_of b) → Contains says values text types b c ts
   hollow_contains body.Text c ts h = tt
   hollow_contains (body.«Type» n) c ts h = absurd h
   hollow_contains (body.Attribute n) c ts h = absurd h
@@ -129,7 +129,7 @@ module _ {D K A T : Type 0} (says : Saying K A T) (values : Values) (text : ℕ 
   hollow_contains (body.Block b) c ts h = tt
 
   -- where no pieces are said, one more tree changes the names alone
-  pub frame_hollow : (g : opened.Open D K A T) (at : Position) (ts : Trees Step) (s : Step) (us : Trees Step)
+  pub frame_hollow : (g : opened.Open D K A T) (at : Position) (ts : Trees ActionSpan) (s : ActionSpan) (us : Trees ActionSpan)
       → sort_of g.body ≡ sort_at at → Hollow (sort_at at) → g.names.items ≡ with_name (names_behind [] ts) s.action s.first → IsFrame says values text types g at (behind ts (node s us))
   frame_hollow g at ts s us sorts hollow names = record {
     sort = sorts;
@@ -139,7 +139,7 @@ module _ {D K A T : Type 0} (says : Saying K A T) (values : Values) (text : ℕ 
 
 -- ---- faults
 
-module _ (values : Values) (text : ℕ → List ℕ) (o : building.Open) (ts : Trees Step) (last : ℕ) (a : Action) (e : o.action ≡ a) where
+module _ (values : Values) (text : ℕ → List ℕ) (o : building.Open) (ts : Trees ActionSpan) (last : ℕ) (a : Action) (e : o.action ≡ a) where
   pub fault_of : (r : Option Fault) → option_map_or (λ i. number_fault ts last i) (refused values a (pieces_in values text ts)) (names_fault_of values text a o.first o.before ts last) ≡ r
       → fault_at_end values text ts (o ∷ []) last ≡ r
   fault_of r h = subst (λ (x : Action). option_map_or (λ i. number_fault ts last i) (refused values x (pieces_in values text ts)) (names_fault_of values text x o.first o.before ts last) ≡ r) (sym e) h
@@ -153,7 +153,7 @@ module _ (values : Values) (text : ℕ → List ℕ) (o : building.Open) (ts : T
 -- ---- what ends
 
 -- what that stands in, and what is in it
-module _ {D K A T : Type 0} (says : Saying K A T) (values : Values) (text : ℕ → List ℕ) (s : List T) (f g : opened.Open D K A T) (o : building.Open) (at next : Position) (ts : Trees Step) (e : Ending says values text s f g o at next ts) where
+module _ {D K A T : Type 0} (says : Saying K A T) (values : Values) (text : ℕ → List ℕ) (s : List T) (f g : opened.Open D K A T) (o : building.Open) (at next : Position) (ts : Trees ActionSpan) (e : Ending says values text s f g o at next ts) where
   pub in_it : (b : Body D K A T) → f.body ≡ b → Contains says values text s b f.content.value ts
   in_it b eb = subst (λ (x : Body D K A T). Contains says values text s x f.content.value ts) eb e.frame.contains
 
@@ -173,7 +173,7 @@ module _ {D K A T : Type 0} (says : Saying K A T) (values : Values) (text : ℕ 
   outer_region b eb = is_region g.body (e.outer.sort ∙ ap sort_at (ends_as (body.Block b) eb))
 
 module _ {D K A T : Type 0} (says : Saying K A T) (values : Values) (text : ℕ → List ℕ) (s t : List T) (keeps : KeepsKeys s t)
-    (f g h : opened.Open D K A T) (o : building.Open) (at next : Position) (ts : Trees Step) (last : ℕ) (e : Ending says values text s f g o at next ts) where
+    (f g h : opened.Open D K A T) (o : building.Open) (at next : Position) (ts : Trees ActionSpan) (last : ℕ) (e : Ending says values text s f g o at next ts) where
   begins_as : (b : Body D K A T) → f.body ≡ b → Begins b o.action
   begins_as b eb = subst (λ (x : Body D K A T). Begins x o.action) eb e.begun.begins
 
@@ -289,7 +289,7 @@ module _ {D K A T : Type 0} (says : Saying K A T) (values : Values) (text : ℕ 
       subst (λ (x : Body D K A T). Contains says values text t x f.content.value ts) eb (frame_later says values text s t keeps f at ts e.frame).contains in
       let before : ShowsMembers says t ms.items (pieces_in values text o.before) =
       subst (λ (x : Body D K A T). Contains says values text t x g.content.value o.before) eg (frame_later says values text s t keeps g next o.before e.outer).contains in
-      let more : Trees Step = behind o.before (ended_tree o ts last) in
+      let more : Trees ActionSpan = behind o.before (ended_tree o ts last) in
       let q : pieces_in values text more ≡ join (pieces_in values text o.before) (a_tree (node item (pieces_in values text ts)) no_tree) =
       pieces_behind values text o.before (record { action = o.action; first = o.first; last = last }) ts
       ∙ ap (λ (a : Action). join (pieces_in values text o.before) (with_piece values a (text o.first) (count ts) (pieces_in values text ts) no_tree)) begins in
@@ -303,7 +303,7 @@ module _ {D K A T : Type 0} (says : Saying K A T) (values : Values) (text : ℕ 
         subst (λ (x : opened.Open D K A T). IsFrame says values text t x next more) (sym eh) (record {
           sort = sorts;
           contains = all;
-          named = subst (λ (k : Sort). NamesResults k g.names.items more) sorts tt;
+          named = subst (λ (k : FrameSort). NamesResults k g.names.items more) sorts tt;
         }),
         began_other g h (body.List ms) (body.List ns) eg (ap (λ (x : opened.Open D K A T). x.body) eh) (λ a w. w) refl (ap (λ (x : opened.Open D K A T). x.first) eh),
       )
@@ -316,7 +316,7 @@ module _ {D K A T : Type 0} (says : Saying K A T) (values : Values) (text : ℕ 
         subst (λ (x : opened.Open D K A T). IsFrame says values text t x next (behind o.before (ended_tree o ts last))) (sym eh) (record {
           sort = sorts;
           contains = tt;
-          named = subst (λ (k : Sort). NamesResults k g.names.items (behind o.before (ended_tree o ts last))) sorts tt;
+          named = subst (λ (k : FrameSort). NamesResults k g.names.items (behind o.before (ended_tree o ts last))) sorts tt;
         }),
         began_other g h (body.Region bs) (body.Region cs) eg (ap (λ (x : opened.Open D K A T). x.body) eh) (λ a w. w) refl (ap (λ (x : opened.Open D K A T). x.first) eh),
       )

@@ -9,18 +9,18 @@ use Rattle.ir_tokens.specs.declared.faults.Fault.{Fault}
 use Rattle.text_frames.specs.declared.opened.AssemblyFault.{AssemblyFault}
 use Rattle.text_frames.specs.declared.opened.Body.TheVariants as body
 use Rattle.text_frames.specs.declared.opened.Open as opened
-use Rattle.ir_forest.specs.Forest.{Step}
+use Rattle.ir_forest.specs.Forest.{ActionSpan}
 use Rattle.ir_forest.specs.Building as building
 use Rattle.ir_forest.specs.Building.{fault_at_end, with_end, behind, ended_tree}
 use Rattle.ir_grammar.specs.Nesting.{Position, at_end}
 use Rattle.text_building.specs.Kept.{KeepsKeys}
 use Rattle.ir_formats.specs.Ordered.{Standing, alone, moved_out}
-use Rattle.text_frames.specs.Frames.{Sort, a_text, an_operation, some_operands, a_region, a_block, a_type, an_attribute, a_list, an_item, sort_at, sort_of, EndsAt, Stands, Ending, Ended}
+use Rattle.text_frames.specs.Frames.{FrameSort, a_text, an_operation, some_operands, a_region, a_block, a_type, an_attribute, a_list, an_item, sort_at, sort_of, EndsAt, Stands, Ending, Ended}
 use Rattle.text_frames.proofs.Framing.{stands_later, stands_with, innermost}
 use Rattle.text_frames.proofs.Ended.{is_text}
 
 -- only an operation ends at the end of the text
-root_sort : (s : Sort) → EndsAt s at_end → s ≡ an_operation
+root_sort : (s : FrameSort) → EndsAt s at_end → s ≡ an_operation
 root_sort an_operation h = refl
 root_sort a_text h = absurd h
 root_sort some_operands h = cc
@@ -32,7 +32,7 @@ root_sort a_list h = absurd h
 root_sort an_item h = cc
 
 module _ {D K A T : Type 0} (says : Saying K A T) (values : Values) (text : ℕ → List ℕ) (s : List T)
-    (f g f0 g0 : opened.Open D K A T) (gs rest : List (opened.Open D K A T)) (last_is : gs ≡ rest ++ g ∷ []) (is_f : f0 ≡ f) (is_g : g0 ≡ g) (at : Position) (ts : Trees Step) where
+    (f g f0 g0 : opened.Open D K A T) (gs rest : List (opened.Open D K A T)) (last_is : gs ≡ rest ++ g ∷ []) (is_f : f0 ≡ f) (is_g : g0 ≡ g) (at : Position) (ts : Trees ActionSpan) where
   -- the last of what is around is what the innermost ends in
   opens : (os : List building.Open) (qs : List Position) → Stands says values text s f at ts (reverse gs) os qs → Stands says values text s f0 at ts (g0 ∷ reverse rest) os qs
   opens os qs h =

@@ -17,9 +17,9 @@ use Rattle.text_frames.specs.declared.opened.Body.{Body}
 use Rattle.text_frames.specs.declared.opened.Body.TheVariants as body
 use Rattle.text_frames.specs.declared.opened.Open.{Open}
 use Rattle.ir_forest.specs.Building as building
-use Rattle.ir_forest.specs.Forest.{Step}
+use Rattle.ir_forest.specs.Forest.{ActionSpan}
 use Rattle.ir_grammar.specs.Nesting.{Position, at_root, behind_root_results, at_end, in_operation, in_operands, in_region, in_header, in_argument, in_block, behind_results, in_type, in_attribute, in_list, in_item}
-use Rattle.text_frames.specs.Worlds.{joined, World, AreAmong, LaterWorld, End, Reaches, IsMade, IsReady, AreReady, AreReadyRegions, IsOpenBlock}
+use Rattle.text_frames.specs.Worlds.{joined, PartialModule, AreAmong, LaterWorld, End, MayEndAs, IsMade, IsReady, AreReady, AreReadyRegions, IsOpenBlock}
 use Rattle.text_frames.specs.Raised.{listed_block, blocks_of_body, begun_at, RaisesRoot, IsHeader, IsOpened, RaisesBlock, Raises, IsRaised, RaisesAll}
 
 -- ---- lists
@@ -59,7 +59,7 @@ module _ {K A T : Type 0} where
         = λ n key h. h;
   })
 
-  pub world_same : (w : World K A T) → LaterWorld w w
+  pub world_same : (w : PartialModule K A T) → LaterWorld w w
   world_same w = record {
     ctx = later_same w.ctx;
     values = λ n x h. h;
@@ -68,7 +68,7 @@ module _ {K A T : Type 0} where
     pending = λ i x h. h;
   }
 
-  pub world_both : (w v u : World K A T) → LaterWorld w v → LaterWorld v u → LaterWorld w u
+  pub world_both : (w v u : PartialModule K A T) → LaterWorld w v → LaterWorld v u → LaterWorld w u
   world_both w v u f g = record {
     ctx = later_both w.ctx v.ctx u.ctx f.ctx g.ctx;
     values = λ n x h. g.values n x (f.values n x h);
@@ -78,7 +78,7 @@ module _ {K A T : Type 0} where
   }
 
   -- what a later world may become, an earlier one may
-  pub reaches_before : (w v : World K A T) (e : End K A T) → LaterWorld w v → Reaches v e → Reaches w e
+  pub reaches_before : (w v : PartialModule K A T) (e : End K A T) → LaterWorld w v → MayEndAs v e → MayEndAs w e
   reaches_before w v e l r = record {
     ctx = later_both w.ctx v.ctx e.ctx l.ctx r.ctx;
     values = λ n x h. r.values n x (l.values n x h);
@@ -113,7 +113,7 @@ module _ {K A T : Type 0} where
 
 -- ---- what is made
 
-module _ {K A T : Type 0} (says : Saying K A T) (w v : World K A T) (l : LaterWorld w v) where
+module _ {K A T : Type 0} (says : Saying K A T) (w v : PartialModule K A T) (l : LaterWorld w v) where
   pub made_later : (p : Ptr Operation) (t : Entity ℕ) → IsMade says w p t → IsMade says v p t
   made_later p t h e r = h e (reaches_before w v e l r)
 
@@ -171,10 +171,10 @@ begun_behind in_attribute h = cc
 begun_behind in_list h = cc
 begun_behind in_item h = cc
 
-module _ {K A T : Type 0} (says : Saying K A T) (values : Values) (text : ℕ → List ℕ) (w v : World K A T)
+module _ {K A T : Type 0} (says : Saying K A T) (values : Values) (text : ℕ → List ℕ) (w v : PartialModule K A T)
     (l : LaterWorld w v) where
   -- no root is there yet but behind the root operation
-  pub root_later : (old new : Option (Ptr Operation)) (at : Position) (ts : Trees Step)
+  pub root_later : (old new : Option (Ptr Operation)) (at : Position) (ts : Trees ActionSpan)
       → (at ≡ at_end → new ≡ old)
       → RaisesRoot says values text w old at ts → RaisesRoot says values text v new at ts
   root_later old new at_end ts keeps h = (h.0, h.1, keeps refl ∙ h.2, h.3, made_later says w v l h.0 h.1 h.4)
@@ -192,9 +192,9 @@ module _ {K A T : Type 0} (says : Saying K A T) (values : Values) (text : ℕ �
   root_later old new in_list ts keeps h = h
   root_later old new in_item ts keeps h = h
 
-module _ {D K A T : Type 0} (says : Saying K A T) (values : Values) (text : ℕ → List ℕ) (w v : World K A T)
+module _ {D K A T : Type 0} (says : Saying K A T) (values : Values) (text : ℕ → List ℕ) (w v : PartialModule K A T)
     (l : LaterWorld w v) where
-  pub header_later : (f : Open D K A T) (at : Position) (ts : Trees Step) → IsHeader says values text w f at ts
+  pub header_later : (f : Open D K A T) (at : Position) (ts : Trees ActionSpan) → IsHeader says values text w f at ts
       → IsHeader says values text v f at ts
   header_later f at ts h = record {
     open_still = h.open_still;
@@ -210,7 +210,7 @@ module _ {D K A T : Type 0} (says : Saying K A T) (values : Values) (text : ℕ 
     typed_so = h.typed_so;
   }
 
-  pub opened_later : (p : Ptr BasicBlock) (f : Open D K A T) (at : Position) (ts : Trees Step)
+  pub opened_later : (p : Ptr BasicBlock) (f : Open D K A T) (at : Position) (ts : Trees ActionSpan)
       → v.ctx.block p ≡ w.ctx.block p
       → IsOpened says values text w p f at ts → IsOpened says values text v p f at ts
   opened_later p f at ts same h = record {
@@ -220,7 +220,7 @@ module _ {D K A T : Type 0} (says : Saying K A T) (values : Values) (text : ℕ 
     block = open_block_later says w v l p _ _ _ same h.block;
   }
 
-  pub raises_later : (b : Body D K A T) (f : Open D K A T) (at : Position) (ts : Trees Step)
+  pub raises_later : (b : Body D K A T) (f : Open D K A T) (at : Position) (ts : Trees ActionSpan)
       → KeepsEach w.ctx v.ctx (blocks_of_body b) → Raises says values text w b f at ts
       → Raises says values text v b f at ts
   raises_later (body.Operands ks) f at ts keeps h = among_both ks.items w.mentions v.mentions h l.mentions
@@ -243,7 +243,7 @@ module _ {D K A T : Type 0} (says : Saying K A T) (values : Values) (text : ℕ 
   raises_later (body.List ms) f at ts keeps h = tt
   raises_later body.Item f at ts keeps h = tt
 
-  pub raised_later : (f : Open D K A T) (at : Position) (ts : Trees Step)
+  pub raised_later : (f : Open D K A T) (at : Position) (ts : Trees ActionSpan)
       → KeepsEach w.ctx v.ctx (blocks_of_body f.body) → IsRaised says values text w f at ts
       → IsRaised says values text v f at ts
   raised_later f at ts keeps h = record {
@@ -253,7 +253,7 @@ module _ {D K A T : Type 0} (says : Saying K A T) (values : Values) (text : ℕ 
   }
 
   -- all that is open stays raised where its blocks stay as they were
-  pub all_later : (old new : Option (Ptr Operation)) (f : Open D K A T) (at : Position) (ts : Trees Step)
+  pub all_later : (old new : Option (Ptr Operation)) (f : Open D K A T) (at : Position) (ts : Trees ActionSpan)
       (gs : List (Open D K A T)) (os : List building.Open) (more : List Position)
       → (at ≡ at_end → new ≡ old)
       → KeepsBlocks w.ctx v.ctx (f ∷ gs) → RaisesAll says values text w old f at ts gs os more
@@ -267,7 +267,7 @@ module _ {D K A T : Type 0} (says : Saying K A T) (values : Values) (text : ℕ 
   all_later old new f at ts _ _ _ keeps blocks h = absurd h
 
   -- the same of what is around something, whatever has become of the root
-  pub around_later : (old new : Option (Ptr Operation)) (g : Open D K A T) (next : Position) (ts : Trees Step)
+  pub around_later : (old new : Option (Ptr Operation)) (g : Open D K A T) (next : Position) (ts : Trees ActionSpan)
       (gs : List (Open D K A T)) (os : List building.Open) (more : List Position)
       → KeepsBlocks w.ctx v.ctx (g ∷ gs) → RaisesAll says values text w old g (begun_at next) ts gs os more
       → RaisesAll says values text v new g (begun_at next) ts gs os more

@@ -13,7 +13,7 @@ use Rattle.ir_print.specs.Shown.{Pairs}
 use Rattle.text_dialect.specs.Seen.{SeenOperation, Seen}
 use Rattle.text_building.specs.Inside.{IsLoose, AreLoose}
 use Rattle.text_building.specs.Later.{IsLater}
-use Rattle.text_building.specs.Loose.{IsDefined, AreDefined}
+use Rattle.text_building.specs.Loose.{IsDefinedValue, AreDefined}
 use Rattle.text_building.specs.Made.{LinksOperands}
 use Rattle.text_building.proofs.Came.{came_links}
 use Rattle.text_building.proofs.Later.{links_later, defined_later, links_loose_block, links_loose_operation}
@@ -43,23 +43,23 @@ module _ {K A T : Type 0} where
   pub meant_later : (s t : Seen K A T) (values : List (Option Value)) (numbers : List ℕ) (vs : List Value)
       (ks : List ℕ) → IsLater s t → AreMeant s values numbers vs ks → AreMeant t values numbers vs ks
   meant_later s t values numbers vs ks later h = pairs_weaker
-      (λ v n. (meant values numbers n ≡ Some v) × IsDefined s v)
-      (λ v n. (meant values numbers n ≡ Some v) × IsDefined t v)
+      (λ v n. (meant values numbers n ≡ Some v) × IsDefinedValue s v)
+      (λ v n. (meant values numbers n ≡ Some v) × IsDefinedValue t v)
       (λ v n x. (x.0, defined_later s t later v x.1)) vs ks h
 
   -- the value that the token at an index means
   pub named_value : (s : Seen K A T) (values : List (Option Value)) (numbers : List ℕ) (vs : List Value)
       (ks there : List ℕ) (i : ℕ) (o : Option Value) → there ≡ ks → AreMeant s values numbers vs ks
       → i < length there → o ≡ meant values numbers (get_or there i 0)
-      → (v : Value) × (slice_get vs i ≡ Some v) × (o ≡ Some v) × IsDefined s v
+      → (v : Value) × (slice_get vs i ≡ Some v) × (o ≡ Some v) × IsDefinedValue s v
   named_value s values numbers vs ks there i o e said lt is =
       let here : AreMeant s values numbers vs there = rw e said in
-      let p = pair_at (λ v k. (meant values numbers k ≡ Some v) × IsDefined s v) vs there i here lt in
+      let p = pair_at (λ v k. (meant values numbers k ≡ Some v) × IsDefinedValue s v) vs there i here lt in
       (p.0, p.1, is ∙ p.2.0, p.2.1)
 
   -- a value alone that is defined
-  pub one_defined : (s : Seen K A T) (v : Value) → IsDefined s v → AreDefined s (v ∷ [])
-  one_defined s v h k x at = subst (λ (y : Value). IsDefined s y) (sym (only_member v k x at)) h
+  pub one_defined : (s : Seen K A T) (v : Value) → IsDefinedValue s v → AreDefined s (v ∷ [])
+  one_defined s v h k x at = subst (λ (y : Value). IsDefinedValue s y) (sym (only_member v k x at)) h
 
   -- one operand more
   pub linked_more : (s t u : Seen K A T) (p : Ptr Operation) (vs : List Value) (i : ℕ) (v : Value)

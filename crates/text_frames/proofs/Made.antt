@@ -16,28 +16,28 @@ use Rattle.ir_program.specs.declared.handles.BasicBlock.{BasicBlock}
 use Rattle.ir_program.specs.declared.handles.Value.{Value}
 use Rattle.ir_print.specs.Pieces.{ValueTree, Values, operation, a_region, block, Entity, entity, Entities, no_entity, an_entity}
 use Rattle.ir_print.specs.Shown.{Saying, Pairs, ShowsType, Drafts, operands_said}
-use Rattle.ir_forest.specs.Forest.{Step}
+use Rattle.ir_forest.specs.Forest.{ActionSpan}
 use Rattle.ir_forest.specs.Meaning.{pieces_in, operands_in, typed, head_of, regions_in}
 use Rattle.text_dialect.specs.Seen.{SeenOperation, SeenBlock, Seen}
 use Rattle.text_dialect.specs.Standing.{HasDefinition, HaveBlockTrees, HasOwnLabel}
 use Rattle.text_building.specs.Later.{IsLater}
-use Rattle.text_building.specs.Made.{OpensBlock, MakesOperation, AppendsOperation, lists_of}
+use Rattle.text_building.specs.Made.{OpensBlock, MakesDetachedOperation, AppendsOperation, lists_of}
 use Rattle.text_building.specs.Trees.{with_last, HaveListTrees}
 use Rattle.text_building.proofs.Later.{later_both}
 use Rattle.text_building.proofs.Members.{pairs_back}
 use Rattle.text_building.proofs.ShownLater.{shows_later, all_later}
 use Rattle.text_building.proofs.Trees.{one_tree_more, made_tree}
-use Rattle.text_frames.specs.Worlds.{operands_of, World, LaterWorld, End, Means, Reaches, IsMade, IsReady, AreReady, AreReadyRegions, IsOpenBlock}
+use Rattle.text_frames.specs.Worlds.{operands_of, PartialModule, LaterWorld, End, MeansInTheEnd, MayEndAs, IsMade, IsReady, AreReady, AreReadyRegions, IsOpenBlock}
 use Rattle.text_frames.proofs.BuiltBehind.{operands_are_said}
 use Rattle.text_frames.proofs.LaterWorlds.{reaches_before}
 use Rattle.text_frames.proofs.Opening.{as_many}
 use Rattle.text_frames.proofs.Rising.{numbered_types}
 
 -- a token names this value among what has been made
-abbrev pub IsNamed : {K A T : Type 0} → World K A T → Value → ℕ → Type 0
+abbrev pub IsNamed : {K A T : Type 0} → PartialModule K A T → Value → ℕ → Type 0
 IsNamed w x k = (n : ℕ) × (slice_get w.tokens n ≡ Some k) × (slice_get w.values n ≡ Some (Some x))
 
-module _ {K A T : Type 0} (w : World K A T) where
+module _ {K A T : Type 0} (w : PartialModule K A T) where
   -- values with numbers whose tokens are names are named so
   pub all_named : (ns : List ℕ) (ds : List TypedValue) (names : List ℕ)
       → Pairs (λ n k. slice_get w.tokens n ≡ Some k) ns names → length ns ≡ length ds
@@ -52,9 +52,9 @@ module _ {K A T : Type 0} (w : World K A T) where
   all_named (n ∷ ns) (d ∷ ds) (k ∷ ks) h many at =
       ((n, h.0, at 0 n d refl refl), all_named ns ds ks h.1 (cc many) (λ i. at (suc i)))
 
-  module _ (e : End K A T) (r : Reaches w e) where
+  module _ (e : End K A T) (r : MayEndAs w e) where
     -- what is named is meant in the end
-    pub named_means : (x : Value) (k : ℕ) → IsNamed w x k → Means e x k
+    pub named_means : (x : Value) (k : ℕ) → IsNamed w x k → MeansInTheEnd e x k
     named_means x k (n, token, value) = subst (λ (m : ℕ). slice_get e.values m ≡ Some x) (sym (r.tokens n k token))
         (r.values n x value)
 
@@ -62,7 +62,7 @@ module _ {K A T : Type 0} (w : World K A T) where
     pub definitions_named : (says : Saying K A T) (d : DefiningEntity) (n : ℕ) (tys : List TypeHandle)
         (names : List ℕ) (ts : List ValueTree)
         → Pairs (λ v k. IsNamed w v.value k) (numbered_values d n tys) names → Pairs (ShowsType says w.ctx.types) tys ts
-        → Pairs (HasDefinition says (Means e) e.ctx.types) (numbered_values d n tys) (typed names ts)
+        → Pairs (HasDefinition says (MeansInTheEnd e) e.ctx.types) (numbered_values d n tys) (typed names ts)
     definitions_named says d n [] [] ts h k = tt
     definitions_named says d n [] (name ∷ names) ts h k = absurd h
     definitions_named says d n (ty ∷ tys) [] ts h k = absurd h
@@ -77,7 +77,7 @@ module _ {K A T : Type 0} (w : World K A T) where
 
 -- ---- blocks
 
-module _ {K A T : Type 0} (says : Saying K A T) (w : World K A T) where
+module _ {K A T : Type 0} (says : Saying K A T) (w : PartialModule K A T) where
   -- a block that is opened has no operation yet
   pub block_opened : (s : Seen K A T) (b : Ptr BasicBlock) (id : Identifier) (label : List ℕ) (tys : List TypeHandle)
       (n : ℕ) (names : List ℕ) (ts : List ValueTree)
@@ -102,7 +102,7 @@ module _ {K A T : Type 0} (says : Saying K A T) (w : World K A T) where
     made = λ e r same. (h.view, same, h.labelled, h.defines e r, h.holds e r);
   }
 
-module _ {K A T : Type 0} (says : Saying K A T) (w v : World K A T) (l : LaterWorld w v) where
+module _ {K A T : Type 0} (says : Saying K A T) (w v : PartialModule K A T) (l : LaterWorld w v) where
   -- an open block with one more operation, where it was what it was until it got that
   pub block_more : (s : Seen K A T) (b : Ptr BasicBlock) (label : List ℕ) (arguments : List (ℕ × ValueTree))
       (ts : Entities ℕ) (p : Ptr Operation) (t : Entity ℕ)
@@ -114,18 +114,18 @@ module _ {K A T : Type 0} (says : Saying K A T) (w v : World K A T) (l : LaterWo
         (same ∙ h.at);
     labelled = record { labelled = h.labelled.labelled; no_attributes = h.labelled.no_attributes };
     defines = λ e r. h.defines e (reaches_before w v e l r);
-    holds = λ e r. one_tree_more says (Means e) HasOwnLabel e.ctx h.view.operations ts p t
+    holds = λ e r. one_tree_more says (MeansInTheEnd e) HasOwnLabel e.ctx h.view.operations ts p t
         (h.holds e (reaches_before w v e l r)) (made e r);
   }
 
 -- ---- operations
 
-module _ {K A T : Type 0} (says : Saying K A T) (w : World K A T) (e : End K A T) (r : Reaches w e) where
+module _ {K A T : Type 0} (says : Saying K A T) (w : PartialModule K A T) (e : End K A T) (r : MayEndAs w e) where
   -- ready blocks that stay as they are have their trees
   pub ready_trees : (bs : List (Ptr BasicBlock)) (ts : Entities ℕ) → AreReady says w bs ts
       → ((k : ℕ) (b : Ptr BasicBlock) (x : SeenBlock) → slice_get bs k ≡ Some b → w.ctx.block b ≡ Some x
       → e.ctx.block b ≡ Some x)
-      → HaveBlockTrees says (Means e) HasOwnLabel e.ctx bs ts
+      → HaveBlockTrees says (MeansInTheEnd e) HasOwnLabel e.ctx bs ts
   ready_trees [] no_entity h stays = tt
   ready_trees [] (an_entity t ts) h stays = absurd h
   ready_trees (b ∷ bs) no_entity h stays = absurd h
@@ -136,7 +136,7 @@ module _ {K A T : Type 0} (says : Saying K A T) (w : World K A T) (e : End K A T
   pub ready_list_trees : (rs : List (Vec (Ptr BasicBlock) Global)) (ts : Entities ℕ) → AreReadyRegions says w rs ts
       → ((i k : ℕ) (bs : List (Ptr BasicBlock)) (b : Ptr BasicBlock) (x : SeenBlock)
       → slice_get (lists_of rs) i ≡ Some bs → slice_get bs k ≡ Some b → w.ctx.block b ≡ Some x → e.ctx.block b ≡ Some x)
-      → HaveListTrees says (Means e) HasOwnLabel e.ctx (lists_of rs) ts
+      → HaveListTrees says (MeansInTheEnd e) HasOwnLabel e.ctx (lists_of rs) ts
   ready_list_trees [] no_entity h stays = tt
   ready_list_trees [] (an_entity t ts) h stays = absurd h
   ready_list_trees (bs ∷ rs) no_entity h stays = absurd h
@@ -147,14 +147,14 @@ module _ {K A T : Type 0} (says : Saying K A T) (w : World K A T) (e : End K A T
     ready_list_trees rs ts h.1 (λ i. stays (suc i)),
   )
 
-module _ {K A T : Type 0} (says : Saying K A T) (values : Values) (text : ℕ → List ℕ) (w v : World K A T)
+module _ {K A T : Type 0} (says : Saying K A T) (values : Values) (text : ℕ → List ℕ) (w v : PartialModule K A T)
     (l : LaterWorld w v) (s t : Seen K A T) (p : Ptr Operation) where
   -- An operation has its tree in the end that is made of the pieces of the tree, with results that are named so, takes
   -- in ready blocks, and waits for its operands. What is whole when it is made is so in the later world.
   pub operation_made : (number : ℕ) (kind : K) (attributes : List (List ℕ × A)) (tys : List TypeHandle) (n : ℕ)
       (rs : List (Vec (Ptr BasicBlock) Global)) (used : List ℕ)
-      (place : ℕ) (names : List ℕ) (ts : Trees Step)
-      → MakesOperation s t p kind attributes tys n (lists_of rs) → IsLater t v.ctx
+      (place : ℕ) (names : List ℕ) (ts : Trees ActionSpan)
+      → MakesDetachedOperation s t p kind attributes tys n (lists_of rs) → IsLater t v.ctx
       → ((b : Ptr BasicBlock) (x : SeenBlock) → w.ctx.block b ≡ Some x → s.block b ≡ Some x)
       → Drafts says v.ctx.types values kind number (pieces_in values text ts) attributes tys
       → Pairs (λ d k. IsNamed v d.value k) (numbered_values (ByOp p) n tys) names
@@ -169,12 +169,12 @@ module _ {K A T : Type 0} (says : Saying K A T) (values : Values) (text : ℕ �
       let given : operands_of e.ctx p ≡ q.0 = ap
       (λ (o : Option (SeenOperation K A)). unwrap_or (option_map (λ (u : SeenOperation K A). u.operands) o) [])
       q.1 in
-      let mentions : Pairs (Means e) q.0 (operands_in ts) =
-      subst (λ (ks : List ℕ). Pairs (Means e) q.0 ks) uses
-      (subst (λ (vs : List Value). Pairs (Means e) vs used) given (r.operands place _ waits)) in
-      let many : length q.0 ≡ operands_said (pieces_in values text ts) = as_many (Means e) q.0 (operands_in ts)
+      let mentions : Pairs (MeansInTheEnd e) q.0 (operands_in ts) =
+      subst (λ (ks : List ℕ). Pairs (MeansInTheEnd e) q.0 ks) uses
+      (subst (λ (vs : List Value). Pairs (MeansInTheEnd e) vs used) given (r.operands place _ waits)) in
+      let many : length q.0 ≡ operands_said (pieces_in values text ts) = as_many (MeansInTheEnd e) q.0 (operands_in ts)
       mentions ∙ sym (operands_are_said values text ts) in
-      made_tree says (Means e) HasOwnLabel s t e.ctx p kind attributes tys n (lists_of rs) made all _ number
+      made_tree says (MeansInTheEnd e) HasOwnLabel s t e.ctx p kind attributes tys n (lists_of rs) made all _ number
       (typed names (values.result_types number (pieces_in values text ts))) (operands_in ts)
       (pieces_in values text ts) (regions_in values text ts)
       q.1

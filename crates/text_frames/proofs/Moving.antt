@@ -8,11 +8,11 @@ use Rattle.ir_grammar.specs.declared.grammar.Action.TheVariants as act
 use Rattle.ir_forest.specs.Meaning.{digits, number_in, width_in, tail}
 use Rattle.ir_grammar.specs.Nesting.{Position, at_root, behind_root_results, at_end, in_operation, in_operands, in_region, in_header, in_argument, in_block, behind_results, in_type, in_attribute, in_list, in_item, move}
 use Rattle.ir_formats.specs.Ordered.{Standing, moved_by, moved_out}
-use Rattle.text_frames.specs.Frames.{Sort, an_operation, some_operands, a_region, a_block, a_type, an_attribute, a_list, an_item, sort_at, TakesParts, EndsAt}
+use Rattle.text_frames.specs.Frames.{FrameSort, an_operation, some_operands, a_region, a_block, a_type, an_attribute, a_list, an_item, sort_at, TakesParts, EndsAt}
 use Rattle.text_frames.proofs.Ended.{Hollow}
 
 -- something of this sort begins, and behind it reading goes on in what is around it
-pub record GoesIn (sort : Sort) (at : Position) (around : List Position) (next : Standing) : Type 0 where
+pub record GoesIn (sort : FrameSort) (at : Position) (around : List Position) (next : Standing) : Type 0 where
   pub inner : Position
   pub outer : Position
   pub leads : record { here = inner; around = outer ∷ around } ≡ next

@@ -18,7 +18,7 @@ use Rattle.text_frames.specs.declared.opened.AssemblyFault.TheVariants.{Memory, 
 use Rattle.text_frames.specs.declared.opened.Body.{Body}
 use Rattle.text_frames.specs.declared.opened.Open.{Open}
 use Rattle.ir_forest.specs.Building.{number_fault}
-use Rattle.ir_forest.specs.Forest.{Step}
+use Rattle.ir_forest.specs.Forest.{ActionSpan}
 use Rattle.text_frames.specs.Opened.{HasPut}
 use Rattle.text_dialect.specs.Seen.{seen, seen_operation, seen_block}
 use Rattle.text_building.specs.Kept.{KeepsKeys, SameSeen}
@@ -40,7 +40,7 @@ put_with_body f between g b p q token e ep h = record {
 }
 
 -- what a value isn't made for is a fault at the piece that its dialect refuses
-pub refused_at_piece : (r : AssemblyFault) (fault : MakeFault) (ts : Trees Step) (at : Option ℕ) (last : ℕ)
+pub refused_at_piece : (r : AssemblyFault) (fault : MakeFault) (ts : Trees ActionSpan) (at : Option ℕ) (last : ℕ)
     → ((i : ℕ) → fault ≡ make.Refused i → at ≡ Some i)
     → ((i : ℕ) → fault ≡ make.Refused i → (f : Fault) × (r ≡ Text f) × (number_fault ts last i ≡ Some f))
     → (fault ≡ make.Memory → r ≡ Memory)

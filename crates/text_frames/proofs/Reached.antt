@@ -11,13 +11,13 @@ use Rattle.ir_scopes.specs.Naming.{defined_from, mentioned_from}
 use Rattle.text_dialect.specs.Seen.{Seen}
 use Rattle.text_dialect.specs.Standing.{HasTree, HasOwnLabel}
 use Rattle.text_building.specs.Later.{IsLater}
-use Rattle.text_building.specs.Loose.{IsDefined}
+use Rattle.text_building.specs.Loose.{IsDefinedValue}
 use Rattle.text_building.proofs.Later.{defined_later}
 use Rattle.text_frames.specs.declared.assembly.Assembly.{Assembly}
 use Rattle.text_frames.specs.Waiting.{Pending}
 use Rattle.text_frames.specs.Linking.{value_at, meant, AreMeant, CanLink, Links}
 use Rattle.text_frames.specs.Raised.{IsAssembled}
-use Rattle.text_frames.specs.Worlds.{operands_of, End, Means, Reaches}
+use Rattle.text_frames.specs.Worlds.{operands_of, End, MeansInTheEnd, MayEndAs}
 use Rattle.text_frames.proofs.LaterWorlds.{pairs_weaker}
 
 -- ---- lists of values, all made
@@ -65,7 +65,7 @@ made_length (Some v ∷ xs) all = ap suc (made_length xs (rest_made (Some v) xs 
 module _ {K A T : Type 0} (s : Seen K A T) (values : List (Option Value)) (numbers : List ℕ) where
   -- where each token means a value, together they do
   all_meant : (ks : List ℕ) → ((i k : ℕ) → slice_get ks i ≡ Some k
-      → (v : Value) × (meant values numbers k ≡ Some v) × IsDefined s v)
+      → (v : Value) × (meant values numbers k ≡ Some v) × IsDefinedValue s v)
       → (vs : List Value) × AreMeant s values numbers vs ks
   all_meant [] each = ([], tt)
   all_meant (k ∷ ks) each =
@@ -131,12 +131,12 @@ module _ {K A T : Type 0} (says : Saying K A T) (values : Values) (text : ℕ �
 
   -- each is defined, and has a number below the counter
   pub assembled_defined : (i : ℕ) (v : Value) → slice_get assembled_values i ≡ Some v
-      → IsDefined s v × (v.number < next)
+      → IsDefinedValue s v × (v.number < next)
   assembled_defined i v x =
       let at = made_back a.values.items all_made i v x in
       let p = made.settled i (slice_get_within a.values.items i (Some v) at) in
       let same : p.0 ≡ v = same_made p.0 v (sym p.1 ∙ at) in
-      (subst (λ (w : Value). IsDefined s w) same p.2, subst (λ (w : Value). w.number < next) same p.3)
+      (subst (λ (w : Value). IsDefinedValue s w) same p.2, subst (λ (w : Value). w.number < next) same p.3)
 
   module _ (numbers : List ℕ) where
     -- where each token that mentions a value has the number of a definition, each token of an operand means a value
@@ -163,7 +163,7 @@ module _ {K A T : Type 0} (says : Saying K A T) (values : Values) (text : ℕ �
 
       -- what was assembled ends so, where at the token of each definition stands its number
       pub reached : ((i k : ℕ) → slice_get (defined_from 0 es) i ≡ Some k → slice_index numbers k ≡ i)
-          → Reaches (record {
+          → MayEndAs (record {
             ctx = s;
             values = a.values.items;
             tokens = defined_from 0 es;
@@ -175,8 +175,8 @@ module _ {K A T : Type 0} (says : Saying K A T) (values : Values) (text : ℕ �
         ctx = assembled_later;
         values = λ i x h. made_get a.values.items all_made i x h;
         tokens = defined;
-        operands = λ i x h. pairs_weaker (λ v k. (meant a.values.items numbers k ≡ Some v) × IsDefined s v)
-            (Means the_end)
+        operands = λ i x h. pairs_weaker (λ v k. (meant a.values.items numbers k ≡ Some v) × IsDefinedValue s v)
+            (MeansInTheEnd the_end)
             (λ v k m. meant_value a.values.items numbers all_made v k m.0) (operands_of t x.op) x.tokens
             (links.operands i x h);
       }
@@ -188,5 +188,5 @@ module _ {K A T : Type 0} (says : Saying K A T) (values : Values) (text : ℕ �
       root_tree defined = made.made the_end (reached defined)
 
       -- the values are defined still
-      pub assembled_still : (i : ℕ) (v : Value) → slice_get assembled_values i ≡ Some v → IsDefined t v
+      pub assembled_still : (i : ℕ) (v : Value) → slice_get assembled_values i ≡ Some v → IsDefinedValue t v
       assembled_still i v x = defined_later s t assembled_later v (assembled_defined i v x).0

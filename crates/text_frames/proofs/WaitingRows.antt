@@ -4,20 +4,20 @@ use Rattle.std.proofs.Math.Seq.{drop-append_seam, take-length}
 use Rattle.std.proofs.lemmas.List.{take-append-le, drop-append-le, length-drop}
 use Rattle.std.proofs.lemmas.Option.{slice_get_read}
 use Rattle.text_frames.specs.declared.waiting.WaitingRow.{WaitingRow}
-use Rattle.text_frames.specs.Waiting.{Pending, waiting_from, AreEnds, start_from}
+use Rattle.text_frames.specs.Waiting.{Pending, waiting_from, AreRowEnds, start_from}
 
 -- ends don't fall
-ends_rise : (low : ℕ) (rs : List WaitingRow) (high : ℕ) → AreEnds low rs high → low ≤ high
+ends_rise : (low : ℕ) (rs : List WaitingRow) (high : ℕ) → AreRowEnds low rs high → low ≤ high
 ends_rise low [] high h = omega (arith, h)
 ends_rise low (r ∷ rs) high h = let b = ends_rise r.end rs high h.1 in let l = h.0 in omega (arith, b, l)
 
 -- a row more ends
-pub ends_more : (low : ℕ) (rs : List WaitingRow) (high : ℕ) (r : WaitingRow) → high ≤ r.end → AreEnds low rs high → AreEnds low (rs ++ r ∷ []) r.end
+pub ends_more : (low : ℕ) (rs : List WaitingRow) (high : ℕ) (r : WaitingRow) → high ≤ r.end → AreRowEnds low rs high → AreRowEnds low (rs ++ r ∷ []) r.end
 ends_more low [] high r l h = (omega (arith, l, h), refl)
 ends_more low (q ∷ rs) high r l h = (h.0, ends_more q.end rs high r l h.1)
 
 -- the tokens of a row are inside the list
-pub row_inside : (low : ℕ) (rs : List WaitingRow) (high k : ℕ) (r : WaitingRow) → slice_get rs k ≡ Some r → AreEnds low rs high → (start_from low rs k ≤ r.end) × (r.end ≤ high)
+pub row_inside : (low : ℕ) (rs : List WaitingRow) (high k : ℕ) (r : WaitingRow) → slice_get rs k ≡ Some r → AreRowEnds low rs high → (start_from low rs k ≤ r.end) × (r.end ≤ high)
 row_inside low [] high k r e h = absurd (cc e)
 row_inside low (q ∷ rs) high zero r e h = let same : q ≡ r = cc e in
     (subst (λ (x : WaitingRow). low ≤ x.end) same h.0, subst (λ (x : WaitingRow). x.end ≤ high) same (ends_rise q.end rs high h.1))
@@ -44,7 +44,7 @@ last_part low n ks more l h =
     ap (λ k. take (n - low) (drop k (ks ++ more))) l ∙ ap (take (n - low)) (drop-append_seam ks more) ∙ ap (λ k. take k more) m ∙ take-length more
 
 -- one more operation waits
-pub one_more_waits : (low : ℕ) (rs : List WaitingRow) (ks more : List ℕ) (r : WaitingRow) → r.end ≡ length ks + length more → AreEnds low rs (length ks)
+pub one_more_waits : (low : ℕ) (rs : List WaitingRow) (ks more : List ℕ) (r : WaitingRow) → r.end ≡ length ks + length more → AreRowEnds low rs (length ks)
     → waiting_from low (rs ++ r ∷ []) (ks ++ more) ≡ waiting_from low rs ks ++ record { op = r.op; tokens = more } ∷ []
 one_more_waits low [] ks more r e h = ap (λ (xs : List ℕ). record { op = r.op; tokens = xs } ∷ []) (last_part low r.end ks more h e)
 one_more_waits low (q ∷ rs) ks more r e h =
@@ -79,7 +79,7 @@ module _ (ps : List Pending) (rs : List WaitingRow) (ks : List ℕ) (k : ℕ) (r
     start_here : start ≡ start_from 0 rs k
     start_here = starts ∙ ap (λ (xs : List WaitingRow). start_from 0 xs k) same
 
-    pub tokens_inside : AreEnds 0 rs (length ks) → (start ≤ r.end) × (r.end ≤ length ks)
+    pub tokens_inside : AreRowEnds 0 rs (length ks) → (start ≤ r.end) × (r.end ≤ length ks)
     tokens_inside ends = let i = row_inside 0 rs (length ks) k r at ends in (let l = i.0 in let s = start_here in omega (arith, l, s), i.1)
 
     pub tokens_found : (ls : List ℕ) → ls ≡ ks → (x : Pending) → slice_get ps k ≡ Some x → take (r.end - start) (drop start ls) ≡ x.tokens

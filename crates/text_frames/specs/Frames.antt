@@ -9,7 +9,7 @@ use Rattle.text_frames.specs.declared.opened.Body.{Body}
 use Rattle.text_frames.specs.declared.opened.Body.TheVariants as body
 use Rattle.text_frames.specs.declared.opened.Content.{Content}
 use Rattle.text_frames.specs.declared.opened.Open.{Open}
-use Rattle.ir_forest.specs.Forest.{Step}
+use Rattle.ir_forest.specs.Forest.{ActionSpan}
 use Rattle.ir_forest.specs.Meaning.{pieces_in, tokens_in}
 use Rattle.ir_forest.specs.Building as building
 use Rattle.ir_forest.specs.Building.{behind, ended_tree, names_behind, fault_at_end}
@@ -18,11 +18,11 @@ use Rattle.ir_grammar.specs.Nesting.{Position, at_root, behind_root_results, at_
 -- ---- sorts
 
 -- the sorts of what may be open
-pub data Sort : Type 0 where
-  a_text an_operation some_operands a_region a_block a_type an_attribute a_list an_item : Sort
+pub data FrameSort : Type 0 where
+  a_text an_operation some_operands a_region a_block a_type an_attribute a_list an_item : FrameSort
 
 -- the sort of what is open at a position
-abbrev pub sort_at : Position → Sort
+abbrev pub sort_at : Position → FrameSort
 sort_at at_root = a_text
 sort_at behind_root_results = a_text
 sort_at at_end = a_text
@@ -39,7 +39,7 @@ sort_at in_list = a_list
 sort_at in_item = an_item
 
 -- what is said in something of this sort is its parts, one for each tree
-abbrev pub TakesParts : Sort → Type 0
+abbrev pub TakesParts : FrameSort → Type 0
 TakesParts an_operation = Unit {0}
 TakesParts a_type = Unit {0}
 TakesParts an_attribute = Unit {0}
@@ -58,7 +58,7 @@ TakesTypes in_header = Unit {0}
 TakesTypes p = TakesParts (sort_at p)
 
 -- Behind the end of something of a sort reading goes on at such a position.
-abbrev pub EndsAt : Sort → Position → Type 0
+abbrev pub EndsAt : FrameSort → Position → Type 0
 EndsAt a_text p = ⊥
 EndsAt an_operation p = StandsAlone p
 EndsAt some_operands p = p ≡ in_operation
@@ -71,7 +71,7 @@ EndsAt an_item p = p ≡ in_list
 
 module _ {D K A T : Type 0} where
   -- the sort of a body
-  abbrev pub sort_of : Body D K A T → Sort
+  abbrev pub sort_of : Body D K A T → FrameSort
   sort_of body.Text = a_text
   sort_of (body.«Type» n) = a_type
   sort_of (body.Attribute n) = an_attribute
@@ -101,19 +101,19 @@ module _ {D K A T : Type 0} where
   IsEmpty b = Unit {0}
 
 -- The names of results behind the trees are these. Only a block and the text have such.
-abbrev pub NamesResults : Sort → List ℕ → Trees Step → Type 0
+abbrev pub NamesResults : FrameSort → List ℕ → Trees ActionSpan → Type 0
 NamesResults a_text names ts = names ≡ names_behind [] ts
 NamesResults a_block names ts = names ≡ names_behind [] ts
 NamesResults _ names ts = Unit {0}
 
 module _ {D K A T : Type 0} (says : Saying K A T) (values : Values) (text : ℕ → List ℕ) (types : List T) where
   -- the parts are what these trees say, each at the token of its tree
-  pub record SaysParts (c : Content D K A T) (ts : Trees Step) : Type 0 where
+  pub record SaysParts (c : Content D K A T) (ts : Trees ActionSpan) : Type 0 where
     pub parts : ShowsParts says types c.parts.items (pieces_in values text ts)
     pub tokens : c.tokens.items ≡ tokens_in ts
 
   -- What is in it is what these trees say: members of a list, tokens of operands, or parts. Nothing is said here of blocks.
-  abbrev pub Contains : Body D K A T → Content D K A T → Trees Step → Type 0
+  abbrev pub Contains : Body D K A T → Content D K A T → Trees ActionSpan → Type 0
   Contains body.Text c ts = Unit {0}
   Contains (body.«Type» n) c ts = SaysParts c ts
   Contains (body.Attribute n) c ts = SaysParts c ts
@@ -125,7 +125,7 @@ module _ {D K A T : Type 0} (says : Saying K A T) (values : Values) (text : ℕ 
   Contains (body.Block b) c ts = Unit {0}
 
   -- what is open at a position holds what these trees say
-  pub record IsFrame (f : Open D K A T) (at : Position) (ts : Trees Step) : Type 0 where
+  pub record IsFrame (f : Open D K A T) (at : Position) (ts : Trees ActionSpan) : Type 0 where
     pub sort : sort_of f.body ≡ sort_at at
     pub contains : Contains f.body f.content.value ts
     pub named : NamesResults (sort_at at) f.names.items ts
@@ -137,7 +137,7 @@ module _ {D K A T : Type 0} (says : Saying K A T) (values : Values) (text : ℕ 
     pub ends : EndsAt (sort_of f.body) next
 
   -- The innermost of what is open holds these trees, and each around it those that stood there where what is in it began, the innermost first.
-  abbrev pub Stands : Open D K A T → Position → Trees Step → List (Open D K A T) → List building.Open → List Position → Type 0
+  abbrev pub Stands : Open D K A T → Position → Trees ActionSpan → List (Open D K A T) → List building.Open → List Position → Type 0
   Stands f at ts [] [] [] = IsFrame f at ts × (sort_at at ≡ a_text)
   Stands f at ts (g ∷ gs) (o ∷ os) (next ∷ more) = IsFrame f at ts × HasBegun f o next × Stands g next o.before gs os more
   Stands f at ts _ _ _ = ⊥
@@ -150,11 +150,11 @@ module _ {D K A T : Type 0} where
     pub sort : sort_of g.body ≡ sort_of f.body
 
 -- The first of two ends: it holds these trees. The second is around it, and holds those that stood before it.
-pub record Ending {D K A T : Type 0} (says : Saying K A T) (values : Values) (text : ℕ → List ℕ) (types : List T) (f g : Open D K A T) (o : building.Open) (at next : Position) (ts : Trees Step) : Type 0 where
+pub record Ending {D K A T : Type 0} (says : Saying K A T) (values : Values) (text : ℕ → List ℕ) (types : List T) (f g : Open D K A T) (o : building.Open) (at next : Position) (ts : Trees ActionSpan) : Type 0 where
   pub frame : IsFrame says values text types f at ts
   pub begun : HasBegun says values text types f o next
   pub outer : IsFrame says values text types g next o.before
 
 -- It has ended at a token with no fault. What was around it, the first of two, is the second now, and holds one more tree.
-abbrev pub Ended : {D K A T : Type 0} → Saying K A T → Values → (ℕ → List ℕ) → List T → Open D K A T → Open D K A T → building.Open → Position → Trees Step → ℕ → Type 0
+abbrev pub Ended : {D K A T : Type 0} → Saying K A T → Values → (ℕ → List ℕ) → List T → Open D K A T → Open D K A T → building.Open → Position → Trees ActionSpan → ℕ → Type 0
 Ended says values text types g h o next ts last = (fault_at_end values text ts (o ∷ []) last ≡ None) × IsFrame says values text types h next (behind o.before (ended_tree o ts last)) × BeganSo g h

@@ -7,7 +7,7 @@ use Rattle.ir_program.specs.declared.handles.BasicBlock.{BasicBlock}
 use Rattle.ir_program.specs.declared.handles.Value.{Value}
 use Rattle.ir_print.specs.Shown.{Pairs}
 use Rattle.text_dialect.specs.Seen.{SeenOperation, Seen}
-use Rattle.text_building.specs.Loose.{IsDefined}
+use Rattle.text_building.specs.Loose.{IsDefinedValue}
 use Rattle.text_frames.specs.Waiting.{Pending}
 use Rattle.text_frames.specs.Worlds.{operands_of}
 
@@ -21,7 +21,7 @@ meant values numbers k = option_and_then (value_at values) (slice_get numbers k)
 
 -- the tokens mean these values, which are defined in the context
 abbrev pub AreMeant : {K A T : Type 0} → Seen K A T → List (Option Value) → List ℕ → List Value → List ℕ → Type 0
-AreMeant s values numbers vs ks = Pairs (λ v k. (meant values numbers k ≡ Some v) × IsDefined s v) vs ks
+AreMeant s values numbers vs ks = Pairs (λ v k. (meant values numbers k ≡ Some v) × IsDefinedValue s v) vs ks
 
 -- each token of an operand means a value
 abbrev pub CanLink : {K A T : Type 0} → Seen K A T → List (Option Value) → List ℕ → List Pending → Type 0

@@ -22,7 +22,7 @@ IsOfContext (Text f) = ⊥
 
 module _ {D K A T : Type 0} where
   -- what begins at a token with this body, and nothing in it yet
-  pub record IsFresh (f : Open D K A T) (b : Body D K A T) (token : ℕ) : Type 0 where
+  pub record IsFreshFrame (f : Open D K A T) (b : Body D K A T) (token : ℕ) : Type 0 where
     pub body : f.body ≡ b
     pub first : f.first ≡ token
     pub parts : f.content.value.parts.items ≡ []
@@ -44,7 +44,7 @@ module _ {D K A T : Type 0} where
     pub numbers : g.numbers ≡ f.numbers
 
   -- one more name of a result stands behind the others
-  pub record HasName (f g : Open D K A T) (token : ℕ) : Type 0 where
+  pub record HasOneMoreName (f g : Open D K A T) (token : ℕ) : Type 0 where
     pub body : g.body ≡ f.body
     pub first : g.first ≡ f.first
     pub content : g.content ≡ f.content

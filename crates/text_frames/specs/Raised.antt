@@ -12,7 +12,7 @@ use Rattle.ir_program.specs.declared.handles.Value.{Value}
 use Rattle.text_dialect.specs.Seen.{Seen}
 use Rattle.text_building.specs.Inside.{AreLoose, CameSince}
 use Rattle.text_building.specs.Made.{lists_of}
-use Rattle.text_building.specs.Loose.{AreDistinct, IsDefined}
+use Rattle.text_building.specs.Loose.{AreDistinctHandles, IsDefinedValue}
 use Rattle.ir_print.specs.declared.format.Part.TheVariants as part
 use Rattle.ir_print.specs.Pieces.{Pieces, Values, ValueTree, Entity, no_entity, an_entity}
 use Rattle.ir_print.specs.Shown.{Saying, Pairs, ShowsType}
@@ -26,10 +26,10 @@ use Rattle.text_frames.specs.declared.opened.Body.TheVariants as body
 use Rattle.text_frames.specs.declared.opened.Open.{Open}
 use Rattle.ir_forest.specs.Building as building
 use Rattle.ir_forest.specs.Building.{built, names_behind}
-use Rattle.ir_forest.specs.Forest.{Step}
+use Rattle.ir_forest.specs.Forest.{ActionSpan}
 use Rattle.ir_forest.specs.Meaning.{pieces_in, operands_in, arguments_in, typed, operations_in, regions_in, blocks_in}
 use Rattle.ir_grammar.specs.Nesting.{Position, at_root, behind_root_results, at_end, in_header, in_argument, in_block, behind_results}
-use Rattle.text_frames.specs.Worlds.{joined, AreAmong, World, IsMade, AreReady, AreReadyRegions, IsOpenBlock, operands_of}
+use Rattle.text_frames.specs.Worlds.{joined, AreAmong, PartialModule, IsMade, AreReady, AreReadyRegions, IsOpenBlock, operands_of}
 use Rattle.ir_scopes.specs.Naming.{defined_from, mentioned_from}
 
 -- ---- what stands among steps
@@ -46,7 +46,7 @@ with_result names (act.Operation kind) k = []
 with_result names _ k = names
 
 -- the names of results behind the last operation, these standing before
-abbrev pub result_names : List ℕ → Trees Step → List ℕ
+abbrev pub result_names : List ℕ → Trees ActionSpan → List ℕ
 result_names names no_tree = names
 result_names names (a_tree (node s ts) rest) = result_names (with_result names s.action s.first) rest
 
@@ -56,7 +56,7 @@ argument_token act.Argument k = k ∷ []
 argument_token _ k = []
 
 -- the tokens that name arguments
-abbrev pub argument_tokens : Trees Step → List ℕ
+abbrev pub argument_tokens : Trees ActionSpan → List ℕ
 argument_tokens no_tree = []
 argument_tokens (a_tree (node s ts) rest) = argument_token s.action s.first ++ argument_tokens rest
 
@@ -65,7 +65,7 @@ abbrev pub named_last : ℕ → Action → ℕ → ℕ
 named_last k act.Argument n = n
 named_last k _ n = k
 
-abbrev pub last_argument : ℕ → Trees Step → ℕ
+abbrev pub last_argument : ℕ → Trees ActionSpan → ℕ
 last_argument k no_tree = k
 last_argument k (a_tree (node s ts) rest) = last_argument (named_last k s.action s.first) rest
 
@@ -74,14 +74,14 @@ abbrev pub is_header : Action → Bool → Bool
 is_header act.Header b = true
 is_header _ b = b
 
-abbrev pub has_header : Trees Step → Bool
+abbrev pub has_header : Trees ActionSpan → Bool
 has_header no_tree = false
 has_header (a_tree (node s ts) rest) = is_header s.action (has_header rest)
 
 -- ---- frames
 
 -- the tokens that name what isn't made yet of these trees at a position
-abbrev pub named_tokens : Position → Trees Step → List ℕ
+abbrev pub named_tokens : Position → Trees ActionSpan → List ℕ
 named_tokens in_header ts = argument_tokens ts
 named_tokens in_argument ts = argument_tokens ts
 named_tokens at_root ts = names_behind [] ts
@@ -92,11 +92,11 @@ named_tokens behind_results ts = names_behind [] ts
 named_tokens _ ts = []
 
 -- each argument has a type; behind the name of one, the last has none yet
-abbrev pub HaveTypes : Position → Trees Step → Pieces → Type 0
-HaveTypes in_header ts ps = length (argument_tokens ts) ≡ count ps
-HaveTypes in_argument ts ps = (front : List ℕ) × (argument_tokens ts ≡ front ++ last_argument 0 ts ∷ [])
+abbrev pub ArgumentsHaveTypes : Position → Trees ActionSpan → Pieces → Type 0
+ArgumentsHaveTypes in_header ts ps = length (argument_tokens ts) ≡ count ps
+ArgumentsHaveTypes in_argument ts ps = (front : List ℕ) × (argument_tokens ts ≡ front ++ last_argument 0 ts ∷ [])
     × (length front ≡ count ps)
-HaveTypes _ ts ps = ⊥
+ArgumentsHaveTypes _ ts ps = ⊥
 
 -- a position among the operations of a block, where these names of results may stand before it
 abbrev pub IsAmongOperations : Position → List ℕ → Type 0
@@ -142,15 +142,15 @@ abbrev pub block_nodes : List (Ptr BasicBlock) → List IRNode
 block_nodes bs = map BlockNode bs
 
 -- Before the root operation nothing is made; behind it the root has its tree.
-abbrev pub RaisesRoot : {K A T : Type 0} → Saying K A T → Values → (ℕ → List ℕ) → World K A T → Option (Ptr Operation)
-    → Position → Trees Step → Type 0
+abbrev pub RaisesRoot : {K A T : Type 0} → Saying K A T → Values → (ℕ → List ℕ) → PartialModule K A T → Option (Ptr Operation)
+    → Position → Trees ActionSpan → Type 0
 RaisesRoot says values text w root at_end ts = (p : Ptr Operation) × (t : Entity ℕ) × (root ≡ Some p)
     × (operations_in values text [] ts ≡ an_entity t no_entity) × IsMade says w p t
 RaisesRoot says values text w root at ts = operations_in values text [] ts ≡ no_entity
 
-module _ {D K A T : Type 0} (says : Saying K A T) (values : Values) (text : ℕ → List ℕ) (w : World K A T) where
+module _ {D K A T : Type 0} (says : Saying K A T) (values : Values) (text : ℕ → List ℕ) (w : PartialModule K A T) where
   -- The header of a block is being read: the types of its arguments are known.
-  pub record IsHeader (f : Open D K A T) (at : Position) (ts : Trees Step) : Type 0 where
+  pub record IsHeader (f : Open D K A T) (at : Position) (ts : Trees ActionSpan) : Type 0 where
     pub open_still : has_header ts ≡ false
     pub spelt : is_identifier (text f.first) ≡ true
     pub unnamed : names_behind [] ts ≡ []
@@ -160,22 +160,22 @@ module _ {D K A T : Type 0} (says : Saying K A T) (values : Values) (text : ℕ 
     pub parts : f.content.value.parts.items ≡ map part.«Type» types
     pub shown : Pairs (ShowsType says w.ctx.types) types (listed (pieces_in values text ts))
     pub arguments : arguments_in values text 0 ts ≡ typed (argument_tokens ts) (listed (pieces_in values text ts))
-    pub typed_so : HaveTypes at ts (pieces_in values text ts)
+    pub typed_so : ArgumentsHaveTypes at ts (pieces_in values text ts)
 
   -- The header of a block was read, and its operations are.
-  pub record IsOpened (p : Ptr BasicBlock) (f : Open D K A T) (at : Position) (ts : Trees Step) : Type 0 where
+  pub record IsOpened (p : Ptr BasicBlock) (f : Open D K A T) (at : Position) (ts : Trees ActionSpan) : Type 0 where
     pub among : IsAmongOperations at (names_behind [] ts)
     pub header : has_header ts ≡ true
     pub names : result_names [] ts ≡ names_behind [] ts
     pub block : IsOpenBlock says w p (text f.first) (arguments_in values text 0 ts) (operations_in values text [] ts)
 
   -- Of a block: what is known of its header, or what is made of it.
-  abbrev pub RaisesBlock : Option (Ptr BasicBlock) → Open D K A T → Position → Trees Step → Type 0
+  abbrev pub RaisesBlock : Option (Ptr BasicBlock) → Open D K A T → Position → Trees ActionSpan → Type 0
   RaisesBlock None f at ts = IsHeader f at ts
   RaisesBlock (Some b) f at ts = IsOpened b f at ts
 
   -- What is made of these trees in a body.
-  abbrev pub Raises : Body D K A T → Open D K A T → Position → Trees Step → Type 0
+  abbrev pub Raises : Body D K A T → Open D K A T → Position → Trees ActionSpan → Type 0
   Raises (body.Operands ks) f at ts = AreAmong ks.items w.mentions
   Raises (body.Operation o) f at ts = (o.operands.items ≡ operands_in ts) × AreAmong o.operands.items w.mentions
       × AreReadyRegions says w o.regions.items (regions_in values text ts)
@@ -184,12 +184,12 @@ module _ {D K A T : Type 0} (says : Saying K A T) (values : Values) (text : ℕ 
   Raises b f at ts = Unit {0}
 
   -- of what is open at a position: what is made of its trees, and the numbers of what is named in it and isn't made yet
-  pub record IsRaised (f : Open D K A T) (at : Position) (ts : Trees Step) : Type 0 where
+  pub record IsRaised (f : Open D K A T) (at : Position) (ts : Trees ActionSpan) : Type 0 where
     pub made : Raises f.body f at ts
     pub numbered : Pairs (λ n k. slice_get w.tokens n ≡ Some k) f.numbers.items (named_tokens at ts)
 
   -- The same of all that is open, the innermost first.
-  abbrev pub RaisesAll : Option (Ptr Operation) → Open D K A T → Position → Trees Step → List (Open D K A T)
+  abbrev pub RaisesAll : Option (Ptr Operation) → Open D K A T → Position → Trees ActionSpan → List (Open D K A T)
       → List building.Open → List Position → Type 0
   RaisesAll root f at ts [] [] [] = IsRaised f at ts × (result_names [] ts ≡ names_behind [] ts)
       × IsAroundRoot at (names_behind [] ts) × RaisesRoot says values text w root at ts
@@ -200,7 +200,7 @@ module _ {D K A T : Type 0} (says : Saying K A T) (values : Values) (text : ℕ 
 -- The operations that wait for their operands have come since the start, each is there once, and they have none yet.
 pub record AreWaiting {K A T : Type 0} (start s : Seen K A T) (pending : List Pending) (mentions : List ℕ) :
     Type 0 where
-  pub once : AreDistinct (map (λ x. x.op) pending)
+  pub once : AreDistinctHandles (map (λ x. x.op) pending)
   pub there : (i : ℕ) (x : Pending) → slice_get pending i ≡ Some x → IsSome (s.operation x.op)
   pub came : (i : ℕ) (x : Pending) → slice_get pending i ≡ Some x → start.operation x.op ≡ None
   pub empty : (i : ℕ) (x : Pending) → slice_get pending i ≡ Some x → operands_of s x.op ≡ []
@@ -229,7 +229,7 @@ pub record IsAssembled {K A T : Type 0} (says : Saying K A T) (values : Values) 
   }) root tree
   pub many : length (defined_from 0 es) ≡ length a.values.items
   pub settled : (n : ℕ) → n < length a.values.items
-      → (v : Value) × (slice_get a.values.items n ≡ Some (Some v)) × IsDefined s v × (v.number < next)
+      → (v : Value) × (slice_get a.values.items n ≡ Some (Some v)) × IsDefinedValue s v × (v.number < next)
   pub distinct : (i j : ℕ) (v w : Value) → slice_get a.values.items i ≡ Some (Some v)
       → slice_get a.values.items j ≡ Some (Some w) → v.number ≡ w.number → i ≡ j
   pub counted : next ≡ first + length a.values.items

@@ -27,9 +27,9 @@ waiting_from low [] ks = []
 waiting_from low (r ∷ rs) ks = record { op = r.op; tokens = take (r.end - low) (drop low ks) } ∷ waiting_from r.end rs ks
 
 -- the ends of the rows don't fall, from low on, and the last is high
-abbrev pub AreEnds : ℕ → List WaitingRow → ℕ → Type 0
-AreEnds low [] high = low ≡ high
-AreEnds low (r ∷ rs) high = (low ≤ r.end) × AreEnds r.end rs high
+abbrev pub AreRowEnds : ℕ → List WaitingRow → ℕ → Type 0
+AreRowEnds low [] high = low ≡ high
+AreRowEnds low (r ∷ rs) high = (low ≤ r.end) × AreRowEnds r.end rs high
 
 -- where the tokens of the row at an index begin
 abbrev pub start_from : ℕ → List WaitingRow → ℕ → ℕ

@@ -39,7 +39,7 @@ operands_of {K} {A} s p = unwrap_or (option_map (λ (o : SeenOperation K A). o.o
 
 -- What has been made so far: a context, the values of definitions by their numbers, the tokens that name the
 -- definitions, those that mention values, and the operands that are still to be linked.
-pub record World (K A T : Type 0) : Type 0 where
+pub record PartialModule (K A T : Type 0) : Type 0 where
   pub ctx : Seen K A T
   pub values : List (Option Value)
   pub tokens : List ℕ
@@ -51,7 +51,7 @@ abbrev pub AreAmong : List ℕ → List ℕ → Type 0
 AreAmong ks ms = (i k : ℕ) → slice_get ks i ≡ Some k → (j : ℕ) × (slice_get ms j ≡ Some k)
 
 -- more is made, and what is whole stays so
-pub record LaterWorld {K A T : Type 0} (w v : World K A T) : Type 0 where
+pub record LaterWorld {K A T : Type 0} (w v : PartialModule K A T) : Type 0 where
   pub ctx : IsLater w.ctx v.ctx
   pub values : (n : ℕ) (x : Value) → slice_get w.values n ≡ Some (Some x) → slice_get v.values n ≡ Some (Some x)
   pub tokens : (n k : ℕ) → slice_get w.tokens n ≡ Some k → slice_get v.tokens n ≡ Some k
@@ -66,32 +66,32 @@ pub record End (K A T : Type 0) : Type 0 where
   pub number : ℕ → ℕ
 
 -- a token names this value in the end
-abbrev pub Means : {K A T : Type 0} → End K A T → Value → ℕ → Type 0
-Means e v k = slice_get e.values (e.number k) ≡ Some v
+abbrev pub MeansInTheEnd : {K A T : Type 0} → End K A T → Value → ℕ → Type 0
+MeansInTheEnd e v k = slice_get e.values (e.number k) ≡ Some v
 
 -- What has been made may end so: what is whole stays, each definition is named by its token, and the operands are
 -- linked.
-pub record Reaches {K A T : Type 0} (w : World K A T) (e : End K A T) : Type 0 where
+pub record MayEndAs {K A T : Type 0} (w : PartialModule K A T) (e : End K A T) : Type 0 where
   pub ctx : IsLater w.ctx e.ctx
   pub values : (n : ℕ) (x : Value) → slice_get w.values n ≡ Some (Some x) → slice_get e.values n ≡ Some x
   pub tokens : (n k : ℕ) → slice_get w.tokens n ≡ Some k → e.number k ≡ n
   pub operands : (i : ℕ) (x : Pending) → slice_get w.pending i ≡ Some x
-      → Pairs (Means e) (operands_of e.ctx x.op) x.tokens
+      → Pairs (MeansInTheEnd e) (operands_of e.ctx x.op) x.tokens
 
 -- however making ends
-abbrev pub Surely : {K A T : Type 0} → World K A T → (End K A T → Type 0) → Type 0
-Surely {K = K} {A = A} {T = T} w P = (e : End K A T) → Reaches w e → P e
+abbrev pub Surely : {K A T : Type 0} → PartialModule K A T → (End K A T → Type 0) → Type 0
+Surely {K = K} {A = A} {T = T} w P = (e : End K A T) → MayEndAs w e → P e
 
-module _ {K A T : Type 0} (says : Saying K A T) (w : World K A T) where
+module _ {K A T : Type 0} (says : Saying K A T) (w : PartialModule K A T) where
   -- an operation that is made has a tree in the end
   abbrev pub IsMade : Ptr Operation → Entity ℕ → Type 0
-  IsMade p t = Surely w (λ e. HasTree says (Means e) HasOwnLabel e.ctx p t)
+  IsMade p t = Surely w (λ e. HasTree says (MeansInTheEnd e) HasOwnLabel e.ctx p t)
 
   -- a block that is in no region yet, but is as it will be in one
   pub record IsReady (p : Ptr BasicBlock) (t : Entity ℕ) : Type 0 where
     pub view : SeenBlock
     pub at : w.ctx.block p ≡ Some view
-    pub made : Surely w (λ e. e.ctx.block p ≡ Some view → HasBlockTree says (Means e) HasOwnLabel e.ctx p t)
+    pub made : Surely w (λ e. e.ctx.block p ≡ Some view → HasBlockTree says (MeansInTheEnd e) HasOwnLabel e.ctx p t)
 
   abbrev pub AreReady : List (Ptr BasicBlock) → Entities ℕ → Type 0
   AreReady [] no_entity = Unit {0}
@@ -110,5 +110,5 @@ module _ {K A T : Type 0} (says : Saying K A T) (w : World K A T) where
     pub view : SeenBlock
     pub at : w.ctx.block p ≡ Some view
     pub labelled : HasOwnLabel p view label
-    pub defines : Surely w (λ e. Pairs (HasDefinition says (Means e) e.ctx.types) view.arguments arguments)
-    pub holds : Surely w (λ e. HaveTrees says (Means e) HasOwnLabel e.ctx view.operations operations)
+    pub defines : Surely w (λ e. Pairs (HasDefinition says (MeansInTheEnd e) e.ctx.types) view.arguments arguments)
+    pub holds : Surely w (λ e. HaveTrees says (MeansInTheEnd e) HasOwnLabel e.ctx view.operations operations)

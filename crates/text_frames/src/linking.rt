@@ -4,7 +4,7 @@ ghost use Rattle.ir_program.specs.declared.handles.IRNode.{IRNode};
 ghost use Rattle.ir_program.specs.declared.handles.Value.{Value};
 ghost use Rattle.text_dialect.specs.Seen.{Seen, seen};
 ghost use Rattle.text_building.specs.Kept.{GivesNumbers};
-ghost use Rattle.text_building.specs.Loose.{IsDefined};
+ghost use Rattle.text_building.specs.Loose.{IsDefinedValue};
 ghost use Rattle.text_building.specs.Made.{LinksOperands};
 ghost use Rattle.text_frames.specs.Linking.{meant, AreMeant, CanLink, Links};
 ghost use Rattle.text_frames.specs.Raised.{AreWaiting, HoldsAllNew};

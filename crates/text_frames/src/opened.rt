@@ -2,9 +2,9 @@
 ghost use Rattle.std.specs.Prelude.{◌≡◌, [], OnOk, IfErr};
 ghost use Rattle.ir_names.specs.Tree.{Trees};
 ghost use Rattle.text_frames.specs.declared.opened.AssemblyFault.TheVariants.{Memory};
-ghost use Rattle.ir_forest.specs.Forest.{Step};
+ghost use Rattle.ir_forest.specs.Forest.{ActionSpan};
 ghost use Rattle.ir_forest.specs.Meaning.{tokens_in};
-ghost use Rattle.text_frames.specs.Opened.{IsFresh, HasPart, HasPut};
+ghost use Rattle.text_frames.specs.Opened.{IsFreshFrame, HasPart, HasPut};
 ghost use Rattle.ir_forest.specs.ValueFaults.{piece_token};
 
 use ir_names::{Dialects, GrowError};
@@ -145,7 +145,8 @@ impl<D: Dialects> Content<D> {
 
     /// The token at which the part with a number begins, or another one where there is no such part.
     pub fn token(&self, number: usize, other: usize) -> usize
-        ensures { (ts : Trees Step) → self.now.tokens.items ≡ tokens_in ts → result ≡ piece_token ts number other }
+        ensures { (ts : Trees ActionSpan) → self.now.tokens.items ≡ tokens_in ts
+            → result ≡ piece_token ts number other }
     {
         match self.tokens.get(number) {
             Some(token) => *token,
@@ -157,7 +158,7 @@ impl<D: Dialects> Content<D> {
 impl<D: Dialects> Open<D> {
     /// What begins at a token, with nothing in it, in the memory of a content whose parts are let go.
     pub fn reusing(alloc: Global, mut content: Box<Content<D>>, body: Body<D>, first: usize) -> Self
-        ensures { IsFresh result body first }
+        ensures { IsFreshFrame result body first }
     {
         content.clear();
         Open {

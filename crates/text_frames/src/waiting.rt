@@ -23,7 +23,7 @@ pub struct WaitingOperands {
 
 impl Model for WaitingOperands {
     ghost use Rattle.std.specs.Prelude.{◌-◌, length, vec_len, vec_capacity};
-    ghost use Rattle.text_frames.specs.Waiting.{Waiting, waiting_from, AreEnds};
+    ghost use Rattle.text_frames.specs.Waiting.{Waiting, waiting_from, AreRowEnds};
 
     ghost Value = { Waiting };
 
@@ -33,7 +33,7 @@ impl Model for WaitingOperands {
       spare_tokens = vec_capacity w.tokens - vec_len w.tokens;
     } };
 
-    ghost invariant = { λ w. AreEnds 0 w.rows.items (length w.tokens.items) };
+    ghost invariant = { λ w. AreRowEnds 0 w.rows.items (length w.tokens.items) };
 }
 
 impl WaitingOperands {

@@ -19,9 +19,9 @@ use Rattle.ir_print.specs.Shown.{Saying, Said, ShowsAll, ShowsParts, Pairs}
 use Rattle.text_dialect.specs.Seen.{SeenOperation, SeenBlock, Seen, types_of}
 use Rattle.text_dialect.specs.Standing.{HasDefinition}
 use Rattle.text_dialect.specs.Printed.{IsValueName, block_name, label_front}
-use Rattle.text_printing.specs.Added.{AddsResults, AddsArguments, AddsOperation, AddsRegion, AddsBlock, PrintsRegions, PrintsBlocks, PrintsOperations}
+use Rattle.text_printing.specs.Added.{AddsResultList, AddsArgumentList, AddsOperation, AddsRegion, AddsBlock, PrintsRegions, PrintsBlocks, PrintsOperations}
 use Rattle.text_printing.specs.PartPrinted.{AreLeft}
-use Rattle.text_printing.specs.Printing.{Adds, AreReadable}
+use Rattle.text_printing.specs.Printing.{AddsText, AreReadable}
 use Rattle.text_printing.proofs.KindsPrinted.{kind_printed}
 use Rattle.text_printing.proofs.Owed.{Owed, wrote}
 use Rattle.text_printing.proofs.Read.{IsOperationRead}
@@ -37,14 +37,14 @@ module _ {K A T : Type 0} (says : Saying K A T) (f : Formats) (s : Seen K A T) (
       says.of_operation kind entries count tys ≡ Some (k, us) → kind_at k ≡ Some kind) →
       (kind : K) (results : List TypedValue) (values : List Value) (its_regions : List (Ptr Region)) →
       IsOperationRead s op kind results values its_regions →
-      (parts : List (Part D K A T)) (format : Steps) (a b c d : List ℕ) → AddsResults says f s.types results a b →
+      (parts : List (Part D K A T)) (format : Steps) (a b c d : List ℕ) → AddsResultList says f s.types results a b →
       c ≡ b ++ (text kind).id → format ≡ (text kind).format →
       ((types : List T) → (o : SeenOperation K A) → (k : ℕ) → (us : Trees (Said A)) → (ps : Pieces) → s.operation op ≡ Some o →
       says.of_operation o.kind o.attributes (length o.operands) (types_of o.results) ≡ Some (k, us) →
       ShowsAll says types us ps → ShowsParts says types parts ps) →
       ((ts : Pieces) (us : List (List ℕ)) (es : Entities (List ℕ)) (rest : List Chunk) → ShowsParts says s.types parts ts →
       AreFlat left ts → AreReadable 64 ts → AreLeft says s values its_regions left 0 0 us es →
-      Adds c d rest (format_on an_id format (all_parts_on f ts us (regions_on f n es)) rest)) →
+      AddsText c d rest (format_on an_id format (all_parts_on f ts us (regions_on f n es)) rest)) →
       AddsOperation says s f n left op a d
   operation_printed v op kind_at text little law tie kinds kind results values its_regions read parts format a b c d print_results e
       g shows print (entity (operation k rs used pieces) ts) rest h q =
@@ -63,7 +63,7 @@ module _ {K A T : Type 0} (says : Saying K A T) (f : Formats) (s : Seen K A T) (
         shallow = q.1;
       } in
       kind_printed (text kind) (slice_get f.operations k) (all_parts_on f pieces used (regions_on f n ts)) rest b c d et e
-      (subst (λ y. Adds c d rest (format_on an_id y (all_parts_on f pieces used (regions_on f n ts)) rest)) g
+      (subst (λ y. AddsText c d rest (format_on an_id y (all_parts_on f pieces used (regions_on f n ts)) rest)) g
       (print pieces used ts rest (shows s.types o k head.said pieces at head.says_it head.shown) q.0
       (readable says s.types 64 x.kind.format head.said pieces (operation_nested f little k x.kind x.at) x.shaped head.shown) left_over))
       ∙ print_results rs tail (subst (λ ds. Pairs (HasDefinition says IsValueName s.types) ds rs) was.results head.defines)
@@ -85,7 +85,7 @@ module _ {K A T : Type 0} (says : Saying K A T) (f : Formats) (s : Seen K A T) (
       ((bs : List (Ptr BasicBlock)) → s.region r ≡ Some bs → bs ≡ blocks) → (a b c d e g : List ℕ) → b ≡ a ++ line n →
       c ≡ b ++ codes "{" →
       ((ts : Entities (List ℕ)) (rest : List Chunk) → Each (ShallowBlock says s f (n + 2) left) blocks ts →
-      Adds c d rest (blocks_on f (n + 2) ts rest)) →
+      AddsText c d rest (blocks_on f (n + 2) ts rest)) →
       e ≡ d ++ line n → g ≡ e ++ codes "}" → AddsRegion says s f n left r a g
   region_lines r blocks read a b c d e g l1 o1 print l2 o2 a_region ts rest h k =
       let tail = white (line n) ∷ token (codes "}") ∷ rest in
@@ -102,9 +102,9 @@ module _ {K A T : Type 0} (says : Saying K A T) (f : Formats) (s : Seen K A T) (
       ((v : SeenBlock) → s.block bl ≡ Some v → (v.arguments ≡ arguments) × (v.operations ≡ operations)) →
       (a b c d e g i : List ℕ) → b ≡ a ++ codes "^" →
       ((v : SeenBlock) → s.block bl ≡ Some v → c ≡ b ++ block_name (label_front v.label) bl.key.slot bl.key.version) →
-      d ≡ c ++ codes "(" → AddsArguments says f s.types left arguments d e → g ≡ e ++ codes "):" →
+      d ≡ c ++ codes "(" → AddsArgumentList says f s.types left arguments d e → g ≡ e ++ codes "):" →
       ((ts : Entities (List ℕ)) (rest : List Chunk) → Each (ShallowOperation says s f (n + 2) left) operations ts →
-      Adds g i rest (operations_on f (n + 2) ts rest)) →
+      AddsText g i rest (operations_on f (n + 2) ts rest)) →
       AddsBlock says s f n left bl a i
   block_lines bl arguments operations read a b c d e g i o1 o2 o3 args o4 ops (entity (block label xs) ts) rest h k =
       let v = h.0 in

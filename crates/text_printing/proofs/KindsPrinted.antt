@@ -3,12 +3,12 @@ use Rattle.std.proofs.Common.{◌≡◌, ℕ, suc, zero, ◌-◌, ◌<◌, List,
 use Rattle.std.specs.Prelude.{true, Option, Some, slice_get, option_map, Vec}
 use Rattle.std.specs.Global.{Global}
 use Rattle.ir_base.specs.declared.types.TypeHandle.{TypeHandle}
-use Rattle.ir_names.specs.Tree.{Tree, Trees, node, label_of}
+use Rattle.ir_names.specs.Tree.{LabelledTree, Trees, node, label_of}
 use Rattle.ir_print.specs.Formats.{Formats, Kind, Step, Steps, list_of}
 use Rattle.ir_print.specs.Layout.{Chunk, spell, an_id, Printer, piece_on, type_on, parts_on, format_on, kind_on, members_on, Deeper, IsFlat, AreFlat}
 use Rattle.ir_print.specs.Nested.{is_nested_little}
 use Rattle.ir_print.specs.Pieces.{Piece, type_of_kind, attribute_of_kind, list, item, operands, region, name, number, width, ValueTree, Pieces, Values}
-use Rattle.text_printing.specs.Printing.{Adds, IsReadable, AreReadable}
+use Rattle.text_printing.specs.Printing.{AddsText, IsReadable, AreReadable}
 use Rattle.ir_print.specs.Shapes.{SaysTypes, SaysAttributes}
 use Rattle.ir_print.specs.Shown.{Saying, Shows, ShowsAll, ShowsKey, ShowsPart, ShowsParts, ShowsMembers, ShowsType, ShowsAttribute, IsKindOf, leaf, Said, said_type, said_attribute, said_list, said_item, said_operands, said_region, said_name, said_number, said_width}
 use Rattle.ir_print.specs.declared.format.Part.{Part, Part-F, out-Part}
@@ -54,7 +54,7 @@ part_sort (Part-F.Number o) = 7
 part_sort (Part-F.Width sign o) = 8
 
 module _ {K A T : Type 0} (says : Saying K A T) (types : List T) where
-  said_sorts : (x : Tree (Said A)) (p : Piece) (ts : Pieces) → Shows says types x (node p ts) → said_sort (label_of x) ≡ sort_of p
+  said_sorts : (x : LabelledTree (Said A)) (p : Piece) (ts : Pieces) → Shows says types x (node p ts) → said_sort (label_of x) ≡ sort_of p
   said_sorts x (type_of_kind n) ts h = ap (λ y. said_sort (label_of y)) h.3
   said_sorts x (attribute_of_kind n) ts h = ap (λ y. said_sort (label_of y)) h.2
   said_sorts x list ts h = ap (λ y. said_sort (label_of y)) h.1
@@ -80,7 +80,7 @@ flat_below zero ts h = absurd h
 flat_below (suc d) ts h = let e : d ≡ suc d - 1 = omega arith in subst (λ n. AreFlat n ts) e h
 
 -- the id of a kind, and what its format says
-pub kind_printed : (k : Kind) (o : Option Kind) (ps : List (Option Printer)) (rest : List Chunk) (a b c : List ℕ) → o ≡ Some k → b ≡ a ++ k.id → Adds b c rest (format_on an_id k.format ps rest) → Adds a c rest (kind_on o ps rest)
+pub kind_printed : (k : Kind) (o : Option Kind) (ps : List (Option Printer)) (rest : List Chunk) (a b c : List ℕ) → o ≡ Some k → b ≡ a ++ k.id → AddsText b c rest (format_on an_id k.format ps rest) → AddsText a c rest (kind_on o ps rest)
 kind_printed k o ps rest a b c e h p = p ∙ wrote a b k.id (spell (format_on an_id k.format ps rest)) h ∙ ap (λ x. a ++ spell (kind_on x ps rest)) (sym e)
 
 module _ {D K A T X : Type 0} (says : Saying K A T) (f : Formats) (v : Values) (types : List T) (kinds : List X) (text : X → Kind) (little : is_nested_little f ≡ true) where
@@ -88,15 +88,15 @@ module _ {D K A T X : Type 0} (says : Saying K A T) (f : Formats) (v : Values) (
   pub type_printed : SaysTypes says f v → ((n : ℕ) → slice_get f.types n ≡ option_map text (slice_get kinds n)) → (ty : TypeHandle) (key : T) (kind : X) (parts : List (Part D K A T)) (left : ℕ) (format : Steps) (a b c : List ℕ)
       → slice_get types ty.number ≡ Some key → IsKindOf (says.of_type key) kinds kind → b ≡ a ++ (text kind).id → format ≡ (text kind).format
       → ((types : List T) → (n : ℕ) → (ps : Pieces) → ShowsKey says types key n ps → ShowsParts says types parts ps)
-      → ((ts : Pieces) (rest : List Chunk) → ShowsParts says types parts ts → AreFlat (left - 1) ts → AreReadable 64 ts → Adds b c rest (format_on an_id format (parts_on f ts) rest))
-      → (t : ValueTree) (rest : List Chunk) → ShowsType says types ty t → IsFlat left t → Adds a c rest (type_on f t rest)
+      → ((ts : Pieces) (rest : List Chunk) → ShowsParts says types parts ts → AreFlat (left - 1) ts → AreReadable 64 ts → AddsText b c rest (format_on an_id format (parts_on f ts) rest))
+      → (t : ValueTree) (rest : List Chunk) → ShowsType says types ty t → IsFlat left t → AddsText a c rest (type_on f t rest)
   type_printed law tie ty key kind parts left format a b c at of e g shows print (node (type_of_kind n) ts) rest h flat =
       let w = type_key says types ty key ts n at h in
       let s = law types key n w.0 ts w.1 w.2 in
       let ek : slice_get f.types n ≡ Some (text kind) = tie n ∙ ap (option_map text) (of n w.0 w.1) in
       let er : s.kind ≡ text kind = cc (s.at, ek) in
       kind_printed (text kind) (slice_get f.types n) (parts_on f ts) rest a b c ek e
-      (subst (λ y. Adds b c rest (format_on an_id y (parts_on f ts) rest)) g
+      (subst (λ y. AddsText b c rest (format_on an_id y (parts_on f ts) rest)) g
       (print ts rest (shows types n ts w) (flat_below left ts flat) (readable says types 64 s.kind.format w.0 ts (type_nested f little n s.kind s.at) s.shaped w.2)))
   type_printed law tie ty key kind parts left format a b c at of e g shows print (node p ts) rest h flat =
       absurd (omega (arith, said_sorts says types (leaf (said_type ty)) p ts h))
@@ -105,14 +105,14 @@ module _ {D K A T X : Type 0} (says : Saying K A T) (f : Formats) (v : Values) (
   pub attribute_printed : SaysAttributes says f v → ((n : ℕ) → slice_get f.attributes n ≡ option_map text (slice_get kinds n)) → (attr : A) (kind : X) (parts : List (Part D K A T)) (left : ℕ) (format : Steps) (a b c : List ℕ)
       → IsKindOf (says.of_attribute attr) kinds kind → b ≡ a ++ (text kind).id → format ≡ (text kind).format
       → ((types : List T) → (n : ℕ) → (ps : Pieces) → ShowsAttribute says types attr (node (attribute_of_kind n) ps) → ShowsParts says types parts ps)
-      → ((ts : Pieces) (rest : List Chunk) → ShowsParts says types parts ts → AreFlat (left - 1) ts → AreReadable 64 ts → Adds b c rest (format_on an_id format (parts_on f ts) rest))
-      → (t : ValueTree) (rest : List Chunk) → ShowsAttribute says types attr t → IsFlat left t → Adds a c rest (type_on f t rest)
+      → ((ts : Pieces) (rest : List Chunk) → ShowsParts says types parts ts → AreFlat (left - 1) ts → AreReadable 64 ts → AddsText b c rest (format_on an_id format (parts_on f ts) rest))
+      → (t : ValueTree) (rest : List Chunk) → ShowsAttribute says types attr t → IsFlat left t → AddsText a c rest (type_on f t rest)
   attribute_printed law tie attr kind parts left format a b c of e g shows print (node (attribute_of_kind n) ts) rest h flat =
       let w = attribute_said says types attr ts n h in
       let s = law types attr n w.0 ts w.1 w.2 in
       let ek : slice_get f.attributes n ≡ Some (text kind) = tie n ∙ ap (option_map text) (of n w.0 w.1) in
       kind_printed (text kind) (slice_get f.attributes n) (parts_on f ts) rest a b c ek e
-      (subst (λ y. Adds b c rest (format_on an_id y (parts_on f ts) rest)) g
+      (subst (λ y. AddsText b c rest (format_on an_id y (parts_on f ts) rest)) g
       (print ts rest (shows types n ts h) (flat_below left ts flat) (readable says types 64 s.kind.format w.0 ts (attribute_nested f little n s.kind s.at) s.shaped w.2)))
   attribute_printed law tie attr kind parts left format a b c of e g shows print (node p ts) rest h flat =
       absurd (omega (arith, said_sorts says types (leaf (said_attribute attr)) p ts h))
@@ -148,12 +148,12 @@ module _ {D K A T : Type 0} (says : Saying K A T) (types : List T) where
       let o : Part-F.List x ≡ Part-F.List y = sym (outs-List x) ∙ ap (out-Part D K A T) (sym e ∙ h) ∙ outs-List y in cc
 
   module _ (f : Formats) (left lists : ℕ) (p : Part D K A T) (s : Step) where
-    pub type_part_printed : (ty : TypeHandle) (a b : List ℕ) → p ≡ part.Type ty → ((t : ValueTree) (rest : List Chunk) → ShowsType says types ty t → IsFlat left t → Adds a b rest (type_on f t rest)) → PrintsPart says types f left lists p s a b
+    pub type_part_printed : (ty : TypeHandle) (a b : List ℕ) → p ≡ part.Type ty → ((t : ValueTree) (rest : List Chunk) → ShowsType says types ty t → IsFlat left t → AddsText a b rest (type_on f t rest)) → PrintsPart says types f left lists p s a b
     type_part_printed ty a b e print (node (type_of_kind n) ts) rest h flat r =
         print (node (type_of_kind n) ts) rest (subst (λ x. ShowsType says types x (node (type_of_kind n) ts)) (same_type h.0 ty p h.1 e) h.2) flat
     type_part_printed ty a b e print (node q ts) rest h flat r = absurd (omega (arith, part_sorts p q ts h, ap sort_in e ∙ ap part_sort (outs-Type ty)))
 
-    pub attribute_part_printed : (attr : A) (a b : List ℕ) → p ≡ part.Attribute attr → ((t : ValueTree) (rest : List Chunk) → ShowsAttribute says types attr t → IsFlat left t → Adds a b rest (type_on f t rest)) → PrintsPart says types f left lists p s a b
+    pub attribute_part_printed : (attr : A) (a b : List ℕ) → p ≡ part.Attribute attr → ((t : ValueTree) (rest : List Chunk) → ShowsAttribute says types attr t → IsFlat left t → AddsText a b rest (type_on f t rest)) → PrintsPart says types f left lists p s a b
     attribute_part_printed attr a b e print (node (attribute_of_kind n) ts) rest h flat r =
         print (node (attribute_of_kind n) ts) rest (subst (λ x. ShowsAttribute says types x (node (attribute_of_kind n) ts)) (same_attribute h.0 attr p h.1 e) h.2) flat
     attribute_part_printed attr a b e print (node q ts) rest h flat r = absurd (omega (arith, part_sorts p q ts h, ap sort_in e ∙ ap part_sort (outs-Attribute attr)))
@@ -165,15 +165,15 @@ module _ {D K A T : Type 0} (says : Saying K A T) (types : List T) where
 
   -- a list there is printed by its members
   list_by : (f : Formats) (left lists : ℕ) (p : Part D K A T) (s : Step) (member : Steps) (printed text : List ℕ) (ms : Vec (Vec (Part D K A T) Global) Global) (a b : List ℕ) → p ≡ part.List ms → s ≡ list_of member printed text
-      → ((ts : Pieces) (rest : List Chunk) → ShowsMembers says types ms.items ts → AreFlat left ts → AreReadable lists ts → Adds a b rest (members_on (list_of member printed text) (parts_on f ts) rest))
-      → (t : ValueTree) (rest : List Chunk) → ShowsPart says types p t → IsFlat left t → IsReadable (suc lists) t → Adds a b rest (piece_on f t s rest)
+      → ((ts : Pieces) (rest : List Chunk) → ShowsMembers says types ms.items ts → AreFlat left ts → AreReadable lists ts → AddsText a b rest (members_on (list_of member printed text) (parts_on f ts) rest))
+      → (t : ValueTree) (rest : List Chunk) → ShowsPart says types p t → IsFlat left t → IsReadable (suc lists) t → AddsText a b rest (piece_on f t s rest)
   list_by f left lists p s member printed text ms a b e es print (node list ts) rest h flat r =
-      subst (λ x. Adds a b rest (members_on x (parts_on f ts) rest)) (sym es)
+      subst (λ x. AddsText a b rest (members_on x (parts_on f ts) rest)) (sym es)
       (print ts rest (subst (λ v. ShowsMembers says types v.items ts) (same_list h.0 ms p h.1 e) h.2) flat r)
   list_by f left lists p s member printed text ms a b e es print (node q ts) rest h flat r = absurd (omega (arith, part_sorts p q ts h, ap sort_in e ∙ ap part_sort (outs-List ms)))
 
   pub list_printed : (f : Formats) (left lists : ℕ) (p : Part D K A T) (s : Step) (member : Steps) (printed text : List ℕ) (ms : Vec (Vec (Part D K A T) Global) Global) (a b : List ℕ) → 0 < lists → p ≡ part.List ms → s ≡ list_of member printed text
-      → ((ts : Pieces) (rest : List Chunk) → ShowsMembers says types ms.items ts → AreFlat left ts → AreReadable (lists - 1) ts → Adds a b rest (members_on (list_of member printed text) (parts_on f ts) rest))
+      → ((ts : Pieces) (rest : List Chunk) → ShowsMembers says types ms.items ts → AreFlat left ts → AreReadable (lists - 1) ts → AddsText a b rest (members_on (list_of member printed text) (parts_on f ts) rest))
       → PrintsPart says types f left lists p s a b
   list_printed f left zero p s member printed text ms a b lt e es print = absurd (omega arith)
   list_printed f left (suc d) p s member printed text ms a b lt e es print =

@@ -17,7 +17,7 @@ use Rattle.ir_print.specs.Formats.{Formats, Step, step_of, steps_of}
 use Rattle.ir_print.specs.Layout.{Chunk, spell, Before, an_id, a_word, Printer, gap_of_word, format_on, step_on, word_of, all_parts_on, regions_on, AreFlat}
 use Rattle.text_printing.specs.PartPrinted.{head_on, names_after, entities_after, gapped_on, before_after, AreLeft, PartPrinted}
 use Rattle.ir_print.specs.Pieces.{type_of_kind, attribute_of_kind, list, item, operands, region, name, number, width, ValueTree, Pieces, Entities, no_entity, an_entity}
-use Rattle.text_printing.specs.Printing.{before_of, Adds, AreReadable}
+use Rattle.text_printing.specs.Printing.{before_of, AddsText, AreReadable}
 use Rattle.ir_print.specs.Shown.{Saying, ShowsParts}
 use Rattle.text_printing.proofs.FormatSteps.{step_of-Literal}
 use Rattle.text_printing.proofs.Owed.{wrote, drop_at}
@@ -162,7 +162,7 @@ module _ {D K A T : Type 0} (says : Saying K A T) (f : Formats) (s : Seen K A T)
 
   pub operation_past : (parts parts_left : List (Part D K A T)) (format : List Directive) (i : ℕ) (progress : Progress) (old now : List ℕ) → length format ≤ i → OperationOwed parts parts_left format (drop i format) progress old now
       → (ts : Pieces) (us : List (List ℕ)) (es : Entities (List ℕ)) (rest : List Chunk) → ShowsParts says s.types parts ts → AreFlat left ts → AreReadable 64 ts → AreLeft says s values its_regions left 0 0 us es
-      → Adds old now rest (format_on an_id (steps_of format) (all_parts_on f ts us (regions_on f n es)) rest)
+      → AddsText old now rest (format_on an_id (steps_of format) (all_parts_on f ts us (regions_on f n es)) rest)
   operation_past parts parts_left format i progress old now le o ts us es rest h k r w =
       let x = o.owed ts us es rest h k r w in
       ap (λ ds. now ++ spell (format_on (before_of progress.before) (steps_of ds) (all_parts_on f x.pieces x.names (regions_on f n x.entities)) rest)) (sym (drop_of_length-le format le)) ∙ x.text

@@ -18,8 +18,8 @@ use Rattle.text_printing.specs.PartPrinted.{other_entities, gapped_on, before_af
 use Rattle.ir_print.specs.Pieces.{type_of_kind, attribute_of_kind, list, item, operands, region, name, number, width, ValueTree, operation, a_region, block, entity, Entities, no_entity, an_entity}
 use Rattle.text_dialect.specs.Seen.{Seen}
 use Rattle.text_dialect.specs.Printed.{IsValueName}
-use Rattle.text_printing.specs.Added.{AddsOperands, AddsRegion, PrintsRegions}
-use Rattle.text_printing.specs.Printing.{before_of, Adds, IsReadable}
+use Rattle.text_printing.specs.Added.{AddsOperandNames, AddsRegion, PrintsRegions}
+use Rattle.text_printing.specs.Printing.{before_of, AddsText, IsReadable}
 use Rattle.ir_print.specs.Shown.{Saying, Pairs, ShowsPart}
 use Rattle.text_printing.proofs.KindsPrinted.{part_sort, sort_in, part_sorts}
 use Rattle.text_printing.proofs.Owed.{wrote, drop_at}
@@ -90,7 +90,7 @@ module _ {D K A T : Type 0} (says : Saying K A T) (f : Formats) (s : Seen K A T)
   -- operands, if there are any
   pub operands_printed : (n : ℕ) (a b c : List ℕ) → p ≡ part.Operands n → progress.operands < after.operands → after.operands ≤ progress.operands + n → after.operands ≤ length values
       → (after.operands < length values → after.operands ≡ progress.operands + n) → before_of after.before ≡ a_part → after.regions ≡ progress.regions → b ≡ a ++ gap_of_part (before_of progress.before)
-      → AddsOperands (drop progress.operands (take after.operands values)) b c
+      → AddsOperandNames (drop progress.operands (take after.operands values)) b c
       → PartPrinted says s values its_regions left f indent at p progress after a c
   operands_printed n a b c e some tn within full eb er gap print = record { printed = one }
     where
@@ -122,7 +122,7 @@ module _ {D K A T : Type 0} (says : Saying K A T) (f : Formats) (s : Seen K A T)
       same : {us : List (List ℕ)} {es : Entities (List ℕ)} → AreLeft says s values its_regions left progress.operands progress.regions us es → AreLeft says s values its_regions left after.operands after.regions us es
       same w = rw (eo, er) w
 
-      plain : (t : ValueTree) (rest : List Chunk) → ShowsPart says s.types p t → IsFlat left t → IsReadable 64 t → Adds a c rest (white (gap_of_part (before_of progress.before)) ∷ piece_on f t at rest)
+      plain : (t : ValueTree) (rest : List Chunk) → ShowsPart says s.types p t → IsFlat left t → IsReadable 64 t → AddsText a c rest (white (gap_of_part (before_of progress.before)) ∷ piece_on f t at rest)
       plain t rest h k r = print t rest h k r ∙ wrote a b (gap_of_part (before_of progress.before)) (spell (piece_on f t at rest)) gap
 
       one : (t : ValueTree) (us : List (List ℕ)) (es : Entities (List ℕ)) (rest : List Chunk) → ShowsPart says s.types p t → IsFlat left t → IsReadable 64 t
@@ -172,7 +172,7 @@ module _ {D K A T : Type 0} (says : Saying K A T) (f : Formats) (s : Seen K A T)
   -- the first region
   region_by : (r : Ptr Region) (rs : List (Ptr Region)) (us : List (List ℕ)) (es : Entities (List ℕ)) (rest : List Chunk) (a b c : List ℕ) → 0 < left → PrintsRegions says s (r ∷ rs) es → AreShallow left es
       → AddsRegion says s f indent (left - 1) r b c
-      → Adds b c rest (first_region_on (regions_on f indent es) at rest) × PrintsRegions says s rs (other_entities es) × AreShallow left (other_entities es)
+      → AddsText b c rest (first_region_on (regions_on f indent es) at rest) × PrintsRegions says s rs (other_entities es) × AreShallow left (other_entities es)
   region_by r rs us no_entity rest a b c lt h k print = absurd h
   region_by r rs us (an_entity (entity (operation kind results used pieces) ts) es) rest a b c lt h k print = absurd h.0
   region_by r rs us (an_entity (entity (block label arguments) ts) es) rest a b c lt h k print = absurd h.0

@@ -4,7 +4,7 @@ use Rattle.std.specs.Prelude.{Option, Some, None, slice_get, option_map}
 use Rattle.std.proofs.lemmas.List.{append_assoc, append-nil}
 use Rattle.std.proofs.Math.ListN.{drop_of_length-le}
 use Rattle.ir_print.specs.Layout.{Chunk, spell}
-use Rattle.text_printing.specs.Printing.{Adds}
+use Rattle.text_printing.specs.Printing.{AddsText}
 
 -- The members X of a list show the parts U of a T, and `on` lays out a T, as the first of its list or behind others.
 pub record IsRow {X U T : Type 0} (ShowsOne : X → U → Type 0) (Shows : List X → T → Type 0) (on : Bool → T → List Chunk → List Chunk) (part : U → List Chunk → List Chunk) (separator : List ℕ) : Type 0 where
@@ -27,7 +27,7 @@ pub record Owed {X T : Type 0} (Shows : List X → T → Type 0) (on : Bool → 
 
 -- printing adds this part
 abbrev pub Prints : {X U : Type 0} → (X → U → Type 0) → (U → List Chunk → List Chunk) → X → List ℕ → List ℕ → Type 0
-Prints {U = U} ShowsOne part x now next = (u : U) (rest : List Chunk) → ShowsOne x u → Adds now next rest (part u rest)
+Prints {U = U} ShowsOne part x now next = (u : U) (rest : List Chunk) → ShowsOne x u → AddsText now next rest (part u rest)
 
 -- the member at an index, and the others behind it
 pub drop_at : {X : Type 0} (xs : List X) (i : ℕ) (x : X) → slice_get xs i ≡ Some x → drop i xs ≡ x ∷ drop (suc i) xs
@@ -49,7 +49,7 @@ module _ {X U T : Type 0} {ShowsOne : X → U → Type 0} {Shows : List X → T 
             ∙ ap (λ s. now ++ s) (sym (row.begins x xs w.tree w.shown b rest)) ∙ w.text rest;
       }
 
-  pub owed_end : (all : List X) (b : Bool) (old now : List ℕ) → Owed Shows on all [] b old now → (whole : T) (rest : List Chunk) → Shows all whole → Adds old now rest (on true whole rest)
+  pub owed_end : (all : List X) (b : Bool) (old now : List ℕ) → Owed Shows on all [] b old now → (whole : T) (rest : List Chunk) → Shows all whole → AddsText old now rest (on true whole rest)
   owed_end all b old now o whole rest h = let w = o.owed whole h in ap (λ ps. now ++ spell ps) (sym (row.ends w.tree b rest w.shown)) ∙ w.text rest
 
   -- one iteration of a loop over the list, where the member is read by its index
@@ -61,7 +61,7 @@ module _ {X U T : Type 0} {ShowsOne : X → U → Type 0} {Shows : List X → T 
       (subst (λ m. Prints ShowsOne part x m next) e p))
 
   -- and behind the loop
-  pub owed_past : (all list : List X) (i : ℕ) (b : Bool) (old now : List ℕ) → length list ≤ i → Owed Shows on all (drop i list) b old now → (whole : T) (rest : List Chunk) → Shows all whole → Adds old now rest (on true whole rest)
+  pub owed_past : (all list : List X) (i : ℕ) (b : Bool) (old now : List ℕ) → length list ≤ i → Owed Shows on all (drop i list) b old now → (whole : T) (rest : List Chunk) → Shows all whole → AddsText old now rest (on true whole rest)
   owed_past all list i b old now le o = owed_end all b old now (subst (λ xs. Owed Shows on all xs b old now) (drop_of_length-le list le) o)
 
 pub owed_start : {X T : Type 0} (Shows : List X → T → Type 0) (on : Bool → T → List Chunk → List Chunk) (all : List X) (old : List ℕ) → Owed Shows on all all true old old

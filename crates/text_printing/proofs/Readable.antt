@@ -1,7 +1,7 @@
 -- What is said at the steps of a format can be read.
 use Rattle.std.proofs.Common.{◌≡◌, ℕ, suc, zero, Bool, true, false, List, [], ◌∷◌, refl, subst}
 use Rattle.std.specs.Prelude.{◌&&◌, Some, slice_get}
-use Rattle.ir_names.specs.Tree.{Tree, Trees, node, no_tree, a_tree}
+use Rattle.ir_names.specs.Tree.{LabelledTree, Trees, node, no_tree, a_tree}
 use Rattle.ir_print.specs.Formats as step
 use Rattle.ir_print.specs.Formats.{Formats, Kind, Step, Steps}
 use Rattle.ir_print.specs.Layout.{Deeper}
@@ -44,7 +44,7 @@ readable_list d _ us ts n h members = absurd h
 
 module _ {K A T : Type 0} (says : Saying K A T) (types : List T) where
   mutual
-    readable_one : (d : ℕ) (s : Step) (u : Tree (Said A)) (t : ValueTree) → is_nested d s ≡ true → IsSaidAt s u → Shows says types u t → IsReadable d t
+    readable_one : (d : ℕ) (s : Step) (u : LabelledTree (Said A)) (t : ValueTree) → is_nested d s ≡ true → IsSaidAt s u → Shows says types u t → IsReadable d t
     readable_one d s u (node (type_of_kind n) ts) k h x = tt
     readable_one d s u (node (attribute_of_kind n) ts) k h x = tt
     readable_one d s u (node list ts) k h x = readable_list d s x.0 ts k (subst (λ y. IsSaidAt s y) x.1 h) (λ e ss n m. readable_members e ss x.0 ts n m x.2)
@@ -67,7 +67,7 @@ module _ {K A T : Type 0} (says : Saying K A T) (types : List T) where
     readable_members d ss no_tree (a_tree t ts) k h x = absurd x
     readable_members d ss (a_tree u us) (a_tree t ts) k h x = (readable_member d ss u t k h.0 x.0, readable_members d ss us ts k h.1 x.1)
 
-    readable_member : (d : ℕ) (ss : List Step) (u : Tree (Said A)) (t : ValueTree) → AllNested d ss → IsMemberSaidAt ss u → Shows says types u t → IsReadable d t
+    readable_member : (d : ℕ) (ss : List Step) (u : LabelledTree (Said A)) (t : ValueTree) → AllNested d ss → IsMemberSaidAt ss u → Shows says types u t → IsReadable d t
     readable_member d ss u (node (type_of_kind n) ts) k h x = tt
     readable_member d ss u (node (attribute_of_kind n) ts) k h x = tt
     readable_member d ss u (node list ts) k h x = let o : IsMemberSaidAt ss (node said_list x.0) = subst (λ y. IsMemberSaidAt ss y) x.1 h in absurd o

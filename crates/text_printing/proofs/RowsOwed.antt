@@ -15,7 +15,7 @@ use Rattle.text_dialect.specs.Seen.{Seen}
 use Rattle.text_dialect.specs.Standing.{HasDefinition}
 use Rattle.text_dialect.specs.Printed.{PrintsAs, IsValueName, value_name}
 use Rattle.text_printing.specs.Added.{AddsType, AddsOperation, AddsBlock, PrintsBlock, PrintsBlocks, PrintsOperations}
-use Rattle.text_printing.specs.Printing.{Adds}
+use Rattle.text_printing.specs.Printing.{AddsText}
 use Rattle.text_printing.proofs.Owed.{IsRow, Prints, wrote}
 
 -- ---- pairs
@@ -88,9 +88,9 @@ module _ {K A T : Type 0} (says : Saying K A T) (types : List T) where
 
   -- results, and `=` behind them
   pub all_results : (ds : List TypedValue) (a b c : List ℕ) → 0 < length ds →
-      ((rs : List (List ℕ × ValueTree)) (rest : List Chunk) → Pairs HasName ds rs → Adds a b rest (results_left true rs rest)) →
+      ((rs : List (List ℕ × ValueTree)) (rest : List Chunk) → Pairs HasName ds rs → AddsText a b rest (results_left true rs rest)) →
       c ≡ b ++ codes " = " → (rs : List (List ℕ × ValueTree)) (rest : List Chunk) → Pairs HasName ds rs →
-      Adds a c rest (results_on rs rest)
+      AddsText a c rest (results_on rs rest)
   all_results [] a b c lt print e rs rest h = absurd (omega arith)
   all_results (d ∷ ds) a b c lt print e [] rest h = absurd h
   all_results (d ∷ ds) a b c lt print e (r ∷ rs) rest h =

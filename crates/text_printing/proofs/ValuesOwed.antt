@@ -9,7 +9,7 @@ use Rattle.ir_print.specs.Formats as step
 use Rattle.ir_print.specs.Formats.{Formats, Step, Steps, step_of, steps_of, step_by, list_of}
 use Rattle.ir_print.specs.Layout.{Chunk, white, spell, Before, a_word, a_part, Printer, piece_on, parts_on, format_on, word_of, step_on, gap_of_word, gap_of_part, member_of, separator_of, IsFlat, AreFlat}
 use Rattle.ir_print.specs.Pieces.{ValueTree, Pieces}
-use Rattle.text_printing.specs.Printing.{Adds, IsReadable, AreReadable}
+use Rattle.text_printing.specs.Printing.{AddsText, IsReadable, AreReadable}
 use Rattle.ir_print.specs.Shown.{Saying, ShowsPart, ShowsParts}
 use Rattle.ir_print.specs.declared.format.Directive.{Directive, Directive-F, fold-Directive, map-Directive, fold_out-Directive, out-Directive, roll-Directive, roll-out-Directive}
 use Rattle.ir_print.specs.declared.format.Directive as directive
@@ -70,7 +70,7 @@ module _ {D K A T : Type 0} (says : Saying K A T) (types : List T) (f : Formats)
         → IsFormatOwed parts_left format_left before rest (old ++ spell (format_on from (steps_of format) (parts_on f ts) rest)) now
 
   pub format_end : (parts parts_left : List (Part D K A T)) (format : List Directive) (from before : Before) (old now : List ℕ) → FormatOwed parts parts_left format [] from before old now
-      → (ts : Pieces) (rest : List Chunk) → ShowsParts says types parts ts → AreFlat left ts → AreReadable lists ts → Adds old now rest (format_on from (steps_of format) (parts_on f ts) rest)
+      → (ts : Pieces) (rest : List Chunk) → ShowsParts says types parts ts → AreFlat left ts → AreReadable lists ts → AddsText old now rest (format_on from (steps_of format) (parts_on f ts) rest)
   format_end parts parts_left format from before old now o ts rest h k r = (o.owed ts rest h k r).text
 
   pub format_word : (parts parts_left : List (Part D K A T)) (format format_left : List Directive) (text : Bor (List ℕ)) (from before : Before) (old now next : List ℕ)
@@ -93,7 +93,7 @@ module _ {D K A T : Type 0} (says : Saying K A T) (types : List T) (f : Formats)
 
   -- printing adds this part at a step
   abbrev pub PrintsPart : Part D K A T → Step → List ℕ → List ℕ → Type 0
-  PrintsPart p s now next = (t : ValueTree) (rest : List Chunk) → ShowsPart says types p t → IsFlat left t → IsReadable lists t → Adds now next rest (piece_on f t s rest)
+  PrintsPart p s now next = (t : ValueTree) (rest : List Chunk) → ShowsPart says types p t → IsFlat left t → IsReadable lists t → AddsText now next rest (piece_on f t s rest)
 
   pub format_part : (parts : List (Part D K A T)) (p : Part D K A T) (parts_left : List (Part D K A T)) (format : List Directive) (d : Directive) (format_left : List Directive) (from before : Before) (old now mid next : List ℕ)
       → FormatOwed parts (p ∷ parts_left) format (d ∷ format_left) from before old now → word_of (step_of d) ≡ None → mid ≡ now ++ gap_of_part before → PrintsPart p (step_of d) mid next
@@ -158,5 +158,5 @@ module _ {D K A T : Type 0} (says : Saying K A T) (types : List T) (f : Formats)
       (subst (λ ds. FormatOwed parts (drop k parts) format ds from before old now) (drop_at format i d at) o)) (no_word d other)))
 
   pub format_past : (parts parts_left : List (Part D K A T)) (format : List Directive) (i : ℕ) (from before : Before) (old now : List ℕ) → length format ≤ i → FormatOwed parts parts_left format (drop i format) from before old now
-      → (ts : Pieces) (rest : List Chunk) → ShowsParts says types parts ts → AreFlat left ts → AreReadable lists ts → Adds old now rest (format_on from (steps_of format) (parts_on f ts) rest)
+      → (ts : Pieces) (rest : List Chunk) → ShowsParts says types parts ts → AreFlat left ts → AreReadable lists ts → AddsText old now rest (format_on from (steps_of format) (parts_on f ts) rest)
   format_past parts parts_left format i from before old now le o = format_end parts parts_left format from before old now (subst (λ ds. FormatOwed parts parts_left format ds from before old now) (drop_of_length-le format le) o)

@@ -7,7 +7,7 @@ use Rattle.ir_print.specs.Shown.{Saying}
 use Rattle.ir_program.specs.declared.handles.Ptr.{Ptr}
 use Rattle.ir_program.specs.declared.handles.BasicBlock.{BasicBlock}
 use Rattle.text_dialect.specs.Seen.{Seen}
-use Rattle.text_printing.specs.Printing.{Adds}
+use Rattle.text_printing.specs.Printing.{AddsText}
 use Rattle.text_printing.proofs.EntitiesPrinted.{any_first}
 use Rattle.text_printing.proofs.RowsOwed.{Each, ShallowBlock, blocks_left}
 use Rattle.text_printing.proofs.Owed.{IsRow, Owed, Prints, owed_start, owed_step, owed_end}
@@ -51,7 +51,7 @@ module _ {X U T : Type 0} (P : X → Type 0) {ShowsOne : X → U → Type 0} {Sh
     holds = (subst (EachHolds P) e walked.holds).1;
   }
 
-  pub walk_end : left ≡ [] → (whole : T) (rest : List Chunk) → Shows all whole → Adds old now rest (on true whole rest)
+  pub walk_end : left ≡ [] → (whole : T) (rest : List Chunk) → Shows all whole → AddsText old now rest (on true whole rest)
   walk_end e = owed_end row all b old now (subst (λ xs. Owed Shows on all xs b old now) e walked.owed)
 
 -- there is nothing between two blocks

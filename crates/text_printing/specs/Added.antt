@@ -12,62 +12,62 @@ use Rattle.ir_program.specs.declared.handles.Value.{Value}
 use Rattle.ir_print.specs.declared.format.Part.{Part}
 use Rattle.ir_print.specs.Formats.{Formats, Step, Steps, list_of}
 use Rattle.ir_print.specs.Layout.{Chunk, Before, type_on, piece_on, parts_on, format_on, members_on, names_on, results_on, arguments_on, operation_on, region_on, block_on, IsFlat, AreFlat, AreFlatArguments, IsShallow, AreShallow}
-use Rattle.ir_print.specs.Pieces.{ValueTree, Pieces, Head, Entity, entity, Entities}
+use Rattle.ir_print.specs.Pieces.{ValueTree, Pieces, EntityHead, Entity, entity, Entities}
 use Rattle.ir_print.specs.Shown.{Saying, Pairs, ShowsType, ShowsAttribute, ShowsPart, ShowsParts, ShowsMembers}
 use Rattle.text_dialect.specs.Seen.{Seen}
 use Rattle.text_dialect.specs.Standing.{HasDefinition, HasRegionTree, HasBlockTree, HaveRegionTrees, HaveBlockTrees, HaveTrees}
 use Rattle.text_dialect.specs.Printed.{IsValueName, IsBlockName, PrintsAs}
-use Rattle.text_printing.specs.Printing.{Adds, IsReadable, AreReadable}
+use Rattle.text_printing.specs.Printing.{AddsText, IsReadable, AreReadable}
 
 -- the names of operands were written
-abbrev pub AddsOperands : List Value → (old new : List ℕ) → Type 0
-AddsOperands vs old new =
-    (xs : List (List ℕ)) (rest : List Chunk) → Pairs IsValueName vs xs → Adds old new rest (names_on xs rest)
+abbrev pub AddsOperandNames : List Value → (old new : List ℕ) → Type 0
+AddsOperandNames vs old new =
+    (xs : List (List ℕ)) (rest : List Chunk) → Pairs IsValueName vs xs → AddsText old new rest (names_on xs rest)
 
 -- In each of these at most `left` types and attributes stand in one another, and at most `lists` lists.
 module _ {K A T : Type 0} (says : Saying K A T) (f : Formats) (types : List T) where
   -- the type under a handle was written
   abbrev pub AddsType : (left : ℕ) → TypeHandle → (old new : List ℕ) → Type 0
   AddsType left ty old new =
-      (t : ValueTree) (rest : List Chunk) → ShowsType says types ty t → IsFlat left t → Adds old new rest (type_on f t rest)
+      (t : ValueTree) (rest : List Chunk) → ShowsType says types ty t → IsFlat left t → AddsText old new rest (type_on f t rest)
 
   -- an attribute was written
   abbrev pub AddsAttribute : (left : ℕ) → A → (old new : List ℕ) → Type 0
   AddsAttribute left attr old new =
       (t : ValueTree) (rest : List Chunk) → ShowsAttribute says types attr t → IsFlat left t →
-      Adds old new rest (type_on f t rest)
+      AddsText old new rest (type_on f t rest)
 
   module _ {D : Type 0} (left lists : ℕ) where
     -- parts were written, one for each step of a format that is no word
     abbrev pub AddsParts : Before → Steps → List (Part D K A T) → (old new : List ℕ) → Type 0
     AddsParts before format parts old new =
         (ts : Pieces) (rest : List Chunk) → ShowsParts says types parts ts → AreFlat left ts → AreReadable lists ts →
-        Adds old new rest (format_on before format (parts_on f ts) rest)
+        AddsText old new rest (format_on before format (parts_on f ts) rest)
 
     -- a part was written, at this step of a format
     abbrev pub AddsPart : Step → Part D K A T → (old new : List ℕ) → Type 0
     AddsPart s part old new =
         (t : ValueTree) (rest : List Chunk) → ShowsPart says types part t → IsFlat left t → IsReadable lists t →
-        Adds old new rest (piece_on f t s rest)
+        AddsText old new rest (piece_on f t s rest)
 
     -- the members of a list were written, with a word between two
     abbrev pub AddsMembers : (member : Steps) (separator : List ℕ) → List (Vec (Part D K A T) Global) → (old new : List ℕ) →
         Type 0
     AddsMembers member separator members old new =
         (ts : Pieces) (rest : List Chunk) → ShowsMembers says types members ts → AreFlat left ts → AreReadable lists ts →
-        Adds old new rest (members_on (list_of member separator (trim separator)) (parts_on f ts) rest)
+        AddsText old new rest (members_on (list_of member separator (trim separator)) (parts_on f ts) rest)
 
   -- the results of an operation were written, and `=` behind them
-  abbrev pub AddsResults : List TypedValue → (old new : List ℕ) → Type 0
-  AddsResults vs old new =
+  abbrev pub AddsResultList : List TypedValue → (old new : List ℕ) → Type 0
+  AddsResultList vs old new =
       (rs : List (List ℕ × ValueTree)) (rest : List Chunk) → Pairs (HasDefinition says IsValueName types) vs rs →
-      Adds old new rest (results_on rs rest)
+      AddsText old new rest (results_on rs rest)
 
   -- the arguments of a block were written
-  abbrev pub AddsArguments : (left : ℕ) → List TypedValue → (old new : List ℕ) → Type 0
-  AddsArguments left vs old new =
+  abbrev pub AddsArgumentList : (left : ℕ) → List TypedValue → (old new : List ℕ) → Type 0
+  AddsArgumentList left vs old new =
       (xs : List (List ℕ × ValueTree)) (rest : List Chunk) → Pairs (HasDefinition says IsValueName types) vs xs →
-      AreFlatArguments left xs → Adds old new rest (arguments_on f xs rest)
+      AreFlatArguments left xs → AddsText old new rest (arguments_on f xs rest)
 
 module _ {K A T : Type 0} (says : Saying K A T) (s : Seen K A T) where
   -- a region is printed as a tree with these names, and so is a block
@@ -93,16 +93,16 @@ module _ {K A T : Type 0} (says : Saying K A T) (s : Seen K A T) where
     abbrev pub AddsOperation : Ptr Operation → (old new : List ℕ) → Type 0
     AddsOperation op old new =
         (t : Entity (List ℕ)) (rest : List Chunk) → PrintsAs says s op t → IsShallow left t →
-        Adds old new rest (operation_on f indent t rest)
+        AddsText old new rest (operation_on f indent t rest)
 
     -- a region was written; as deep may be what stands in it
     abbrev pub AddsRegion : Ptr Region → (old new : List ℕ) → Type 0
     AddsRegion r old new =
-        (h : Head (List ℕ)) (ts : Entities (List ℕ)) (rest : List Chunk) → PrintsRegion r (entity h ts) → AreShallow left ts →
-        Adds old new rest (region_on f indent (entity h ts) rest)
+        (h : EntityHead (List ℕ)) (ts : Entities (List ℕ)) (rest : List Chunk) → PrintsRegion r (entity h ts) → AreShallow left ts →
+        AddsText old new rest (region_on f indent (entity h ts) rest)
 
     -- a block was written
     abbrev pub AddsBlock : Ptr BasicBlock → (old new : List ℕ) → Type 0
     AddsBlock b old new =
         (t : Entity (List ℕ)) (rest : List Chunk) → PrintsBlock b t → IsShallow left t →
-        Adds old new rest (block_on f indent t rest)
+        AddsText old new rest (block_on f indent t rest)

@@ -13,7 +13,7 @@ use Rattle.text_dialect.specs.Seen.{Seen}
 use Rattle.text_dialect.specs.Printed.{IsValueName}
 use Rattle.text_printing.specs.declared.operations.Progress.{Progress}
 use Rattle.text_printing.specs.Added.{PrintsRegions}
-use Rattle.text_printing.specs.Printing.{before_of, Adds, IsReadable}
+use Rattle.text_printing.specs.Printing.{before_of, AddsText, IsReadable}
 
 -- how a piece of an operation is printed, with the names of the operands and the regions that are left
 abbrev pub head_on : Formats → ValueTree → List (List ℕ) → List (List Chunk → List Chunk) → Option Printer
@@ -60,7 +60,7 @@ module _ {K A T : Type 0} (says : Saying K A T) (s : Seen K A T) (values : List 
     -- A piece was printed at a step: the text has it, and what is left is what the layout has left.
     pub record IsPartPrinted (at : Step) (t : ValueTree) (us : List (List ℕ)) (es : Entities (List ℕ)) (before : Before)
         (after : Progress) (rest : List Chunk) (old new : List ℕ) : Type 0 where
-      pub text : Adds old new rest (gapped_on before at (head_on f t us (regions_on f indent es)) rest)
+      pub text : AddsText old new rest (gapped_on before at (head_on f t us (regions_on f indent es)) rest)
       pub before_is : before_of after.before ≡ before_after before (head_on f t us (regions_on f indent es))
       pub are_left : AreLeft after.operands after.regions (names_after t us) (entities_after t es)
 

@@ -17,12 +17,12 @@ before_of code_before.Literal = a_word
 before_of code_before.Part = a_part
 
 -- a text that was written, where these chunks stand for the rest
-abbrev pub Adds : (old new : List ℕ) → List Chunk → List Chunk → Type 0
-Adds old new rest whole = new ++ spell rest ≡ old ++ spell whole
+abbrev pub AddsText : (old new : List ℕ) → List Chunk → List Chunk → Type 0
+AddsText old new rest whole = new ++ spell rest ≡ old ++ spell whole
 
 -- a name was written, at this step of a format
 abbrev pub AddsName : Step → List ℕ → (old new : List ℕ) → Type 0
-AddsName s cs old new = (rest : List Chunk) → Adds old new rest (name_on s cs rest)
+AddsName s cs old new = (rest : List Chunk) → AddsText old new rest (name_on s cs rest)
 
 -- a number was written, where 64 bits hold it
 abbrev pub AddsNumber : Option Number → (old new : List ℕ) → Type 0

@@ -10,7 +10,7 @@ ghost use Rattle.ir_program.specs.Program.{operation_at, block_at, region_at, re
 ghost use Rattle.ir_program.specs.Rows.{operands_at};
 ghost use Rattle.text_dialect.specs.Printed.{PrintsAs, block_name, label_front};
 ghost use Rattle.text_dialect.specs.Seen.{seen};
-ghost use Rattle.text_printing.specs.Added.{AddsResults, AddsOperands, AddsArguments, AddsOperation, AddsRegion, AddsBlock};
+ghost use Rattle.text_printing.specs.Added.{AddsResultList, AddsOperandNames, AddsArgumentList, AddsOperation, AddsRegion, AddsBlock};
 ghost use Rattle.text_printing.specs.PartPrinted.{PartPrinted};
 ghost use Rattle.text_printing.specs.Printing.{before_of};
 
@@ -55,7 +55,7 @@ fn print_results<D: TextDialect>(
     op: Ptr<Operation>,
 ) -> Result<(), AllocError>
     requires { IsSome (operation_at ctx.now.program op) }
-    ensures { OnOk result (AddsResults D.says D.formats ctx.now.types.keys (results_at ctx.now.program op)
+    ensures { OnOk result (AddsResultList D.says D.formats ctx.now.types.keys (results_at ctx.now.program op)
         (string_bytes out.old) (string_bytes out.new)) }
 {
     let program = ctx.program();
@@ -86,7 +86,7 @@ fn print_operands<D: TextDialect>(
     requires live { IsSome (operation_at ctx.now.program op) }
     requires ordered { from ≤ to }
     requires within { to ≤ length (operands_at ctx.now.program op) }
-    ensures { OnOk result (AddsOperands (drop from (take to (operands_at ctx.now.program op)))
+    ensures { OnOk result (AddsOperandNames (drop from (take to (operands_at ctx.now.program op)))
         (string_bytes out.old) (string_bytes out.new)) }
 {
     let program = ctx.program();
@@ -131,8 +131,8 @@ fn print_arguments<D: TextDialect>(
     left: u32,
 ) -> Result<(), AllocError>
     requires { IsSome (block_at ctx.now.program block) }
-    ensures { OnOk result (AddsArguments D.says D.formats ctx.now.types.keys left (arguments_at ctx.now.program block)
-        (string_bytes out.old) (string_bytes out.new)) }
+    ensures { OnOk result (AddsArgumentList D.says D.formats ctx.now.types.keys left
+        (arguments_at ctx.now.program block) (string_bytes out.old) (string_bytes out.new)) }
 {
     let program = ctx.program();
     let mut is_first = true;

@@ -8,7 +8,7 @@ use Rattle.ir_scopes.specs.declared.scopes.Resolution.{Resolution}
 use Rattle.ir_scopes.specs.declared.scopes.ScopeFault.{ScopeFault}
 use Rattle.ir_scopes.specs.Depth.{IsFirstTooDeep}
 use Rattle.ir_scopes.specs.Scopes.{IsResolved, IsScopeFault}
-use Rattle.ir_formats.specs.Ordered.{Leads, is_ordered}
+use Rattle.ir_formats.specs.Ordered.{PartPositions, is_ordered}
 use Rattle.ir_formats.specs.Rules.{rules_of}
 use Rattle.ir_formats.specs.Words.{token_text}
 use Rattle.ir_forest.specs.Building.{first_refusal}
@@ -21,7 +21,7 @@ use Rattle.text_frames.specs.declared.opened.AssemblyFault.TheVariants.{Text}
 use Rattle.text_reading.specs.Judged.{IsJudged}
 
 -- a reading, with what the values and the names of the text were found to be
-pub judged_so : (l : Language) (leads : Leads) → is_ordered leads (rules_of l.formats) ≡ true
+pub judged_so : (l : Language) (leads : PartPositions) → is_ordered leads (rules_of l.formats) ≡ true
     → (cs : List ℕ) (ts : List Token) (names : List ℕ) (r : Reading) (xs ys : List Event)
     → (assembled : Result Assembly AssemblyFault) (resolved : Result Resolution ScopeFault)
     → (text : ℕ → List ℕ) → text ≡ token_text cs ts → xs ≡ r.events.items → ys ≡ r.events.items

@@ -23,7 +23,7 @@ use Rattle.ir_forest.specs.Progress.{Leads}
 use Rattle.ir_grammar.specs.Nesting.{at_root, at_end, OwnTokens}
 use Rattle.ir_grammar.specs.Reading.{tooks}
 use Rattle.ir_scopes.specs.Naming.{defined_from, mentioned_from}
-use Rattle.ir_scopes.specs.Scopes.{IsResolved, AreApart, definitions, mentions}
+use Rattle.ir_scopes.specs.Scopes.{IsResolved, SitesAreApart, definitions, mentions}
 use Rattle.ir_rereading.specs.Texts.{IsReading, HasFault}
 use Rattle.ir_formats.specs.Words.{token_text}
 use Rattle.text_reading.specs.Understood.{IsSaid, IsRead}
@@ -42,7 +42,7 @@ use Rattle.text_reading.proofs.Renamed.{renamed_tree}
 
 module _ (l : Language) (cs : List ℕ) (ts : List Token) (names : List ℕ) (stop : Stop) (n : ℕ) (es : List Event) (r : Resolution) (reading : IsReading l cs ts names stop n es)
     (leads : Leads at_root [] es at_end []) (own : OwnTokens false es) (resolved : IsResolved l.isolated names es r) (enough : length ts ≤ length names) (many : length r.definitions.items ≡ length names) where
-  apart : AreApart (definitions l.isolated es) (mentions l.isolated es)
+  apart : SitesAreApart (definitions l.isolated es) (mentions l.isolated es)
   apart = are_apart l.isolated es own
 
   within : (k : ℕ) → k < tooks es → k < length names

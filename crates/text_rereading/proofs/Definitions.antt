@@ -15,7 +15,7 @@ use Rattle.text_dialect.specs.Printed.{value_name, IsValueName}
 use Rattle.text_dialect.specs.Seen.{SeenOperation, SeenBlock, Seen}
 use Rattle.text_dialect.specs.Standing.{HasDefinition, HasTree, HasRegionTree, HasBlockTree, HaveRegionTrees, HaveBlockTrees, HaveTrees}
 use Rattle.text_rereading.proofs.InPlace.{one_place}
-use Rattle.text_rereading.specs.Places.{DefinesSmall, IsAt, IsInside, itself, within, values_of, AreSmallInside, HasOwnPlaces}
+use Rattle.text_rereading.specs.Places.{DefinesSmall, IsDirectlyIn, IsAnywhereIn, itself, within, values_of, AreSmallInside, HasOwnPlaces}
 
 -- ---- lists
 
@@ -58,7 +58,7 @@ module _ {K A T : Type 0} (s : Seen K A T) (places : HasOwnPlaces s) where
 
   -- the same inside x
   abbrev IsNameIn : IRNode → List ℕ → Type 0
-  IsNameIn x n = (e : IRNode) × (k : ℕ) × IsInside s x e × IsNameAt e k n
+  IsNameIn x n = (e : IRNode) × (k : ℕ) × IsAnywhereIn s x e × IsNameAt e k n
 
   -- one name is defined at one place
   one_name : (e f : IRNode) (j k : ℕ) (n : List ℕ) → IsNameAt e j n → IsNameAt f k n → (e ≡ f) × (j ≡ k)
@@ -77,19 +77,19 @@ module _ {K A T : Type 0} (s : Seen K A T) (places : HasOwnPlaces s) where
   -- the names are distinct, and defined inside things that are directly in x, from this index on
   abbrev AreNamesFrom : IRNode → ℕ → List (List ℕ) → Type 0
   AreNamesFrom x m ns = AllDistinct ns
-      × ((i : ℕ) (n : List ℕ) → slice_get ns i ≡ Some n → (y : IRNode) × (k : ℕ) × (m ≤ k) × IsAt s y x k
+      × ((i : ℕ) (n : List ℕ) → slice_get ns i ≡ Some n → (y : IRNode) × (k : ℕ) × (m ≤ k) × IsDirectlyIn s y x k
       × IsNameIn y n)
 
   no_names : (x : IRNode) (m : ℕ) → AreNamesFrom x m []
   no_names x m = ((λ i j n e f. absurd (cc)), (λ i n e. absurd (cc)))
 
   -- names of one thing more
-  more_names : (x y : IRNode) (j m : ℕ) (ns more : List (List ℕ)) → IsAt s y x j → j ≡ m → AreNamesIn y ns
+  more_names : (x y : IRNode) (j m : ℕ) (ns more : List (List ℕ)) → IsDirectlyIn s y x j → j ≡ m → AreNamesIn y ns
       → AreNamesFrom x (suc m) more → AreNamesFrom x m (ns ++ more)
   more_names x y j m ns more at is first rest = (distinct_both ns more first.0 rest.0 apart, among)
     where
       among : (i : ℕ) (n : List ℕ) → slice_get (ns ++ more) i ≡ Some n
-          → (z : IRNode) × (k : ℕ) × (m ≤ k) × IsAt s z x k × IsNameIn z n
+          → (z : IRNode) × (k : ℕ) × (m ≤ k) × IsDirectlyIn s z x k × IsNameIn z n
       among i n e = ⊎_elim
           (λ (a : slice_get ns i ≡ Some n). (y, j, omega (arith, is), at, first.1 i n a))
           (λ (a : IsBehind ns more i n).
@@ -102,7 +102,7 @@ module _ {K A T : Type 0} (s : Seen K A T) (places : HasOwnPlaces s) where
           let r = rest.1 k n f in
           let b = r.4 in
           let same = one_name a.0 b.0 a.1 b.1 n a.3 b.3 in
-          let one = one_place s places y r.0 x b.0 j r.1 at r.3 (subst (IsInside s y) same.0 a.2) b.2 in
+          let one = one_place s places y r.0 x b.0 j r.1 at r.3 (subst (IsAnywhereIn s y) same.0 a.2) b.2 in
           let later = r.2 in
           omega (arith, one, later, is)
 
@@ -112,7 +112,7 @@ module _ {K A T : Type 0} (s : Seen K A T) (places : HasOwnPlaces s) where
   all_names x ns more own rest =
       (distinct_both ns more (λ i j n e f. (one_name x x i j n (own i n e) (own j n f)).1) rest.0 apart, among)
     where
-      around : (y e : IRNode) (k : ℕ) → IsAt s y x k → IsInside s y e → IsInside s x e
+      around : (y e : IRNode) (k : ℕ) → IsDirectlyIn s y x k → IsAnywhereIn s y e → IsAnywhereIn s x e
       around y _ k at itself = within y x k at itself
       around y _ k at (within e h j here i) = within e h j here (around y h k at i)
 
@@ -128,7 +128,7 @@ module _ {K A T : Type 0} (s : Seen K A T) (places : HasOwnPlaces s) where
           let r = rest.1 k n f in
           let b = r.4 in
           let same = one_name x b.0 i b.1 n (own i n e) b.3 in
-          places.apart r.0 x r.1 r.3 (subst (IsInside s r.0) (sym same.0) b.2)
+          places.apart r.0 x r.1 r.3 (subst (IsAnywhereIn s r.0) (sym same.0) b.2)
 
 -- ---- trees
 
@@ -169,7 +169,7 @@ module _ {K A T : Type 0} (says : Saying K A T) (Labels : Ptr BasicBlock → See
 
   -- the things of a list are directly in x, from this index on
   abbrev AreAt : {E : Type 0} → (E → IRNode) → IRNode → ℕ → List E → Type 0
-  AreAt {E} node x m es = (k : ℕ) (e : E) → slice_get es k ≡ Some e → (j : ℕ) × (j ≡ m + k) × IsAt s (node e) x j
+  AreAt {E} node x m es = (k : ℕ) (e : E) → slice_get es k ≡ Some e → (j : ℕ) × (j ≡ m + k) × IsDirectlyIn s (node e) x j
 
   others_at : {E : Type 0} (node : E → IRNode) (x : IRNode) (m : ℕ) (e : E) (es : List E) → AreAt node x m (e ∷ es)
       → AreAt node x (suc m) es
@@ -177,7 +177,7 @@ module _ {K A T : Type 0} (says : Saying K A T) (Labels : Ptr BasicBlock → See
 
   mutual
     -- the definitions of what an operation is printed as have distinct names, of values that are defined inside it
-    pub tree_names : (u : Entity (List ℕ)) (p : Ptr Operation) → IsInside s (OperationNode root) (OperationNode p)
+    pub tree_names : (u : Entity (List ℕ)) (p : Ptr Operation) → IsAnywhereIn s (OperationNode root) (OperationNode p)
         → HasTree says IsValueName Labels s p u
         → AreNamesIn s places (OperationNode p) (definitions_of u)
     tree_names (entity (operation kind results used pieces) us) p i h =
@@ -189,7 +189,7 @@ module _ {K A T : Type 0} (says : Saying K A T) (Labels : Ptr BasicBlock → See
     tree_names (entity (block label arguments) us) p i h = absurd h
 
     regions_names : (us : Entities (List ℕ)) (p : Ptr Operation) (m : ℕ) (rs : List (Ptr Region))
-        → AreAt RegionNode (OperationNode p) m rs → IsInside s (OperationNode root) (OperationNode p)
+        → AreAt RegionNode (OperationNode p) m rs → IsAnywhereIn s (OperationNode root) (OperationNode p)
         → HaveRegionTrees says IsValueName Labels s rs us
         → AreNamesFrom s places (OperationNode p) m (all_definitions_of us)
     regions_names no_entity p m rs at i h = no_names s places (OperationNode p) m
@@ -201,7 +201,7 @@ module _ {K A T : Type 0} (says : Saying K A T) (Labels : Ptr BasicBlock → See
         (region_names u r (within (RegionNode r) (OperationNode p) a.0 a.2 i) h.0)
         (regions_names us p (suc m) rs (others_at RegionNode (OperationNode p) m r rs at) i h.1)
 
-    region_names : (u : Entity (List ℕ)) (r : Ptr Region) → IsInside s (OperationNode root) (RegionNode r)
+    region_names : (u : Entity (List ℕ)) (r : Ptr Region) → IsAnywhereIn s (OperationNode root) (RegionNode r)
         → HasRegionTree says IsValueName Labels s r u
         → AreNamesIn s places (RegionNode r) (definitions_of u)
     region_names (entity a_region us) r i h =
@@ -211,7 +211,7 @@ module _ {K A T : Type 0} (says : Saying K A T) (Labels : Ptr BasicBlock → See
     region_names (entity (block label arguments) us) r i h = absurd h
 
     blocks_names : (us : Entities (List ℕ)) (r : Ptr Region) (m : ℕ) (bs : List (Ptr BasicBlock))
-        → AreAt BlockNode (RegionNode r) m bs → IsInside s (OperationNode root) (RegionNode r)
+        → AreAt BlockNode (RegionNode r) m bs → IsAnywhereIn s (OperationNode root) (RegionNode r)
         → HaveBlockTrees says IsValueName Labels s bs us
         → AreNamesFrom s places (RegionNode r) m (all_definitions_of us)
     blocks_names no_entity r m bs at i h = no_names s places (RegionNode r) m
@@ -223,7 +223,7 @@ module _ {K A T : Type 0} (says : Saying K A T) (Labels : Ptr BasicBlock → See
         (block_names u b (within (BlockNode b) (RegionNode r) a.0 a.2 i) h.0)
         (blocks_names us r (suc m) bs (others_at BlockNode (RegionNode r) m b bs at) i h.1)
 
-    block_names : (u : Entity (List ℕ)) (b : Ptr BasicBlock) → IsInside s (OperationNode root) (BlockNode b)
+    block_names : (u : Entity (List ℕ)) (b : Ptr BasicBlock) → IsAnywhereIn s (OperationNode root) (BlockNode b)
         → HasBlockTree says IsValueName Labels s b u
         → AreNamesIn s places (BlockNode b) (definitions_of u)
     block_names (entity (block label arguments) us) b i h =
@@ -235,7 +235,7 @@ module _ {K A T : Type 0} (says : Saying K A T) (Labels : Ptr BasicBlock → See
     block_names (entity a_region us) b i h = absurd h
 
     trees_names : (us : Entities (List ℕ)) (b : Ptr BasicBlock) (m : ℕ) (ps : List (Ptr Operation))
-        → AreAt OperationNode (BlockNode b) m ps → IsInside s (OperationNode root) (BlockNode b)
+        → AreAt OperationNode (BlockNode b) m ps → IsAnywhereIn s (OperationNode root) (BlockNode b)
         → HaveTrees says IsValueName Labels s ps us → AreNamesFrom s places (BlockNode b) m (all_definitions_of us)
     trees_names no_entity b m ps at i h = no_names s places (BlockNode b) m
     trees_names (an_entity u us) b m [] at i h = absurd h

@@ -19,7 +19,7 @@ use Rattle.ir_context.specs.Views.{ContextView}
 use Rattle.ir_context.specs.declared.notes.OperationData.{OperationData}
 use Rattle.ir_context.specs.declared.notes.BlockNotes.{BlockNotes}
 use Rattle.text_dialect.specs.Seen.{SeenOperation, SeenBlock, seen, seen_operation, seen_block}
-use Rattle.text_rereading.specs.Places.{IsAt, IsInside, itself, within, values_of, HasOwnPlaces}
+use Rattle.text_rereading.specs.Places.{IsDirectlyIn, IsAnywhereIn, itself, within, values_of, HasOwnPlaces}
 
 -- the contexts of a dialect
 abbrev pub ContextOf : (D TypeKind AttrKind TypeBody Saved Location OpKind Attr TypeKey : Type 0) → Type 0
@@ -70,18 +70,18 @@ there o x e = subst IsSome (sym e) refl
 
 module _ {D TypeKind AttrKind TypeBody Saved Location OpKind Attr TypeKey : Type 0}
     (c : ContextOf D TypeKind AttrKind TypeBody Saved Location OpKind Attr TypeKey) where
-  at_operation : (p : Ptr Operation) (b : Ptr BasicBlock) (k : ℕ) → IsAt (seen c) (OperationNode p) (BlockNode b) k
+  at_operation : (p : Ptr Operation) (b : Ptr BasicBlock) (k : ℕ) → IsDirectlyIn (seen c) (OperationNode p) (BlockNode b) k
       → slice_get (operations_in c.program b) k ≡ Some p
   at_operation p b k h =
       let m = mapped seen_block (block_at c.program b) h.0 h.1 in
       ap (λ o. slice_get (unwrap_or (option_map (λ x. x.operations) o) []) k) m.1
       ∙ ap (λ (y : SeenBlock). slice_get y.operations k) m.2 ∙ h.2
 
-  at_block : (b : Ptr BasicBlock) (r : Ptr Region) (k : ℕ) → IsAt (seen c) (BlockNode b) (RegionNode r) k
+  at_block : (b : Ptr BasicBlock) (r : Ptr Region) (k : ℕ) → IsDirectlyIn (seen c) (BlockNode b) (RegionNode r) k
       → slice_get (blocks_in c.program r) k ≡ Some b
   at_block b r k h = ap (λ o. slice_get (unwrap_or o []) k) h.1 ∙ h.2
 
-  at_region : (r : Ptr Region) (p : Ptr Operation) (k : ℕ) → IsAt (seen c) (RegionNode r) (OperationNode p) k
+  at_region : (r : Ptr Region) (p : Ptr Operation) (k : ℕ) → IsDirectlyIn (seen c) (RegionNode r) (OperationNode p) k
       → slice_get (regions_in c.program p) k ≡ Some r
   at_region r p k h =
       let m = mapped seen_operation (operation_at c.program p) h.0 h.1 in
@@ -89,7 +89,7 @@ module _ {D TypeKind AttrKind TypeBody Saved Location OpKind Attr TypeKey : Type
       ∙ ap (λ (y : SeenOperation OpKind Attr). slice_get y.regions k) m.2 ∙ h.2
 
   module _ (lists : KeepsLists c.program) where
-    is_once : (e f g : IRNode) (j k : ℕ) → IsAt (seen c) e f j → IsAt (seen c) e g k → (f ≡ g) × (j ≡ k)
+    is_once : (e f g : IRNode) (j k : ℕ) → IsDirectlyIn (seen c) e f j → IsDirectlyIn (seen c) e g k → (f ≡ g) × (j ≡ k)
     is_once (OperationNode p) (BlockNode a) (BlockNode b) j k x y =
         let r = lists.operations_once p a b j k (at_operation p a j x) (at_operation p b k y) in
         (ap BlockNode r.0, r.1)
@@ -111,7 +111,7 @@ module _ {D TypeKind AttrKind TypeBody Saved Location OpKind Attr TypeKey : Type
     is_once (RegionNode r) (BlockNode q) g j k x y = absurd x
 
     -- what is inside a thing stands in it
-    one_more : (x e h : IRNode) (k : ℕ) → IsAt (seen c) e h k → StandsInside c.program x h
+    one_more : (x e h : IRNode) (k : ℕ) → IsDirectlyIn (seen c) e h k → StandsInside c.program x h
         → StandsInside c.program x e
     one_more x (OperationNode p) (BlockNode b) k at i =
         in_block p b (lists.operations b k p (at_operation p b k at)) i
@@ -124,11 +124,11 @@ module _ {D TypeKind AttrKind TypeBody Saved Location OpKind Attr TypeKey : Type
     one_more x (RegionNode r) (RegionNode q) k at i = absurd at
     one_more x (RegionNode r) (BlockNode q) k at i = absurd at
 
-    pub stands_inside : (x e : IRNode) → IsInside (seen c) x e → StandsInside c.program x e
+    pub stands_inside : (x e : IRNode) → IsAnywhereIn (seen c) x e → StandsInside c.program x e
     stands_inside x _ itself = itself_there
     stands_inside x _ (within e h k at i) = one_more x e h k at (stands_inside x h i)
 
-    is_apart : (e f : IRNode) (k : ℕ) → IsAt (seen c) e f k → IsInside (seen c) e f → ⊥
+    is_apart : (e f : IRNode) (k : ℕ) → IsDirectlyIn (seen c) e f k → IsAnywhereIn (seen c) e f → ⊥
     is_apart (OperationNode p) (BlockNode b) k at i =
         lists.operation_apart p b (lists.operations b k p (at_operation p b k at))
         (stands_inside (OperationNode p) (BlockNode b) i)

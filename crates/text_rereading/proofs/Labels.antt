@@ -16,7 +16,7 @@ use Rattle.text_dialect.specs.Printed.{label_front, block_name, IsBlockName}
 use Rattle.text_dialect.specs.Seen.{SeenBlock, Seen}
 use Rattle.text_dialect.specs.Standing.{HasTree, HasRegionTree, HasBlockTree, HaveRegionTrees, HaveBlockTrees, HaveTrees}
 use Rattle.text_rereading.proofs.BlockNames.{one_block}
-use Rattle.text_rereading.specs.Places.{IsAt, IsInside, within, AreSmallInside, HasOwnPlaces}
+use Rattle.text_rereading.specs.Places.{IsDirectlyIn, IsAnywhereIn, within, AreSmallInside, HasOwnPlaces}
 
 none_distinct : AllDistinct {N = List ℕ} []
 none_distinct i j x e k = absurd (cc)
@@ -48,13 +48,13 @@ module _ {K A T : Type 0} (says : Saying K A T) (Naming : Value → List ℕ →
   label_at (an_entity (entity a_region ts) us) (b ∷ bs) h i x e = absurd h.0
 
   distinct_labels : (us : Entities (List ℕ)) (r : Ptr Region) (bs : List (Ptr BasicBlock)) → s.region r ≡ Some bs
-      → IsInside s (OperationNode root) (RegionNode r)
+      → IsAnywhereIn s (OperationNode root) (RegionNode r)
       → HaveBlockTrees says Naming IsBlockName s bs us → AllDistinct (labels_of us)
   distinct_labels us r bs there inside h i j x e k =
       let a = label_at us bs h i x e in
       let c = label_at us bs h j x k in
-      let one : IsAt s (BlockNode a.at_block) (RegionNode r) i = (bs, there, a.listed) in
-      let two : IsAt s (BlockNode c.at_block) (RegionNode r) j = (bs, there, c.listed) in
+      let one : IsDirectlyIn s (BlockNode a.at_block) (RegionNode r) i = (bs, there, a.listed) in
+      let two : IsDirectlyIn s (BlockNode c.at_block) (RegionNode r) j = (bs, there, c.listed) in
       let fits =
       small (BlockNode a.at_block) (within (BlockNode a.at_block) (RegionNode r) i one inside) a.view a.there in
       let fit =
@@ -66,7 +66,7 @@ module _ {K A T : Type 0} (says : Saying K A T) (Naming : Value → List ℕ →
       let same : a.at_block ≡ c.at_block =
       same_handle a.at_block c.at_block (same_key a.at_block.key c.at_block.key parts.0 parts.1) in
       (places.once (BlockNode c.at_block) (RegionNode r) (RegionNode r) i j
-      (subst (λ b. IsAt s (BlockNode b) (RegionNode r) i) same one) two).1
+      (subst (λ b. IsDirectlyIn s (BlockNode b) (RegionNode r) i) same one) two).1
 
   no_labels_regions : (us : Entities (List ℕ)) (rs : List (Ptr Region))
       → HaveRegionTrees says Naming IsBlockName s rs us → labels_of us ≡ []
@@ -87,7 +87,7 @@ module _ {K A T : Type 0} (says : Saying K A T) (Naming : Value → List ℕ →
 
   mutual
     -- the labels of what an operation is printed as are names of blocks, distinct in each region
-    pub labelled_tree : (u : Entity (List ℕ)) (p : Ptr Operation) → IsInside s (OperationNode root) (OperationNode p)
+    pub labelled_tree : (u : Entity (List ℕ)) (p : Ptr Operation) → IsAnywhereIn s (OperationNode root) (OperationNode p)
         → HasTree says Naming IsBlockName s p u → HasBlockNames u × IsLabelled u
     labelled_tree (entity (operation kind results used pieces) us) p i h =
         let rest =
@@ -97,7 +97,7 @@ module _ {K A T : Type 0} (says : Saying K A T) (Naming : Value → List ℕ →
     labelled_tree (entity (block label arguments) us) p i h = absurd h
 
     labelled_regions : (us : Entities (List ℕ)) (rs : List (Ptr Region))
-        → ((k : ℕ) (r : Ptr Region) → slice_get rs k ≡ Some r → IsInside s (OperationNode root) (RegionNode r))
+        → ((k : ℕ) (r : Ptr Region) → slice_get rs k ≡ Some r → IsAnywhereIn s (OperationNode root) (RegionNode r))
         → HaveRegionTrees says Naming IsBlockName s rs us → HaveBlockNames us × AreLabelled us
     labelled_regions no_entity rs inside h = (tt, tt)
     labelled_regions (an_entity u us) [] inside h = absurd h
@@ -106,7 +106,7 @@ module _ {K A T : Type 0} (says : Saying K A T) (Naming : Value → List ℕ →
         let b = labelled_regions us rs (λ k q e. inside (suc k) q e) h.1 in
         ((a.0, b.0), (a.1, b.1))
 
-    labelled_region : (u : Entity (List ℕ)) (r : Ptr Region) → IsInside s (OperationNode root) (RegionNode r)
+    labelled_region : (u : Entity (List ℕ)) (r : Ptr Region) → IsAnywhereIn s (OperationNode root) (RegionNode r)
         → HasRegionTree says Naming IsBlockName s r u → HasBlockNames u × IsLabelled u
     labelled_region (entity a_region us) r i h =
         let rest = labelled_blocks us h.0 (λ k b e. within (BlockNode b) (RegionNode r) k (h.0, h.1, e) i) h.2 in
@@ -115,7 +115,7 @@ module _ {K A T : Type 0} (says : Saying K A T) (Naming : Value → List ℕ →
     labelled_region (entity (block label arguments) us) r i h = absurd h
 
     labelled_blocks : (us : Entities (List ℕ)) (bs : List (Ptr BasicBlock))
-        → ((k : ℕ) (b : Ptr BasicBlock) → slice_get bs k ≡ Some b → IsInside s (OperationNode root) (BlockNode b))
+        → ((k : ℕ) (b : Ptr BasicBlock) → slice_get bs k ≡ Some b → IsAnywhereIn s (OperationNode root) (BlockNode b))
         → HaveBlockTrees says Naming IsBlockName s bs us → HaveBlockNames us × AreLabelled us
     labelled_blocks no_entity bs inside h = (tt, tt)
     labelled_blocks (an_entity u us) [] inside h = absurd h
@@ -124,7 +124,7 @@ module _ {K A T : Type 0} (says : Saying K A T) (Naming : Value → List ℕ →
         let c = labelled_blocks us bs (λ k q e. inside (suc k) q e) h.1 in
         ((a.0, c.0), (a.1, c.1))
 
-    labelled_block : (u : Entity (List ℕ)) (b : Ptr BasicBlock) → IsInside s (OperationNode root) (BlockNode b)
+    labelled_block : (u : Entity (List ℕ)) (b : Ptr BasicBlock) → IsAnywhereIn s (OperationNode root) (BlockNode b)
         → HasBlockTree says Naming IsBlockName s b u → HasBlockNames u × IsLabelled u
     labelled_block (entity (block label arguments) us) b i h =
         let v = h.0 in
@@ -138,7 +138,7 @@ module _ {K A T : Type 0} (says : Saying K A T) (Naming : Value → List ℕ →
     labelled_block (entity a_region us) b i h = absurd h
 
     labelled_trees : (us : Entities (List ℕ)) (ps : List (Ptr Operation))
-        → ((k : ℕ) (p : Ptr Operation) → slice_get ps k ≡ Some p → IsInside s (OperationNode root) (OperationNode p))
+        → ((k : ℕ) (p : Ptr Operation) → slice_get ps k ≡ Some p → IsAnywhereIn s (OperationNode root) (OperationNode p))
         → HaveTrees says Naming IsBlockName s ps us → HaveBlockNames us × AreLabelled us
     labelled_trees no_entity ps inside h = (tt, tt)
     labelled_trees (an_entity u us) [] inside h = absurd h

@@ -16,7 +16,7 @@ use Rattle.ir_program.specs.declared.handles.Value.{Value}
 use Rattle.text_dialect.specs.Printed.{value_name, label_front, block_name, IsValueName, IsBlockName}
 use Rattle.text_dialect.specs.Seen.{SeenBlock, Seen}
 use Rattle.text_dialect.specs.Standing.{HasDefinition, HasTree, HasRegionTree, HasBlockTree, HaveRegionTrees, HaveBlockTrees, HaveTrees}
-use Rattle.text_rereading.specs.Places.{DefinesSmall, AreSmall, IsInside, within, AreSmallInside}
+use Rattle.text_rereading.specs.Places.{DefinesSmall, AreSmall, IsAnywhereIn, within, AreSmallInside}
 use Rattle.text_rereading.specs.Rereading.{Named}
 
 -- ---- numbers
@@ -117,7 +117,7 @@ module _ {K A T : Type 0} (says : Saying K A T) (Labels : Ptr BasicBlock → See
       × (all_unlabelled us ≡ all_unlabelled (all_renamed ν ts))
 
   mutual
-    pub named_tree : (t : Entity ℕ) (p : Ptr Operation) → IsInside s (OperationNode root) (OperationNode p)
+    pub named_tree : (t : Entity ℕ) (p : Ptr Operation) → IsAnywhereIn s (OperationNode root) (OperationNode p)
         → HasTree says (Named values) Labels s p t → NamedTree p t
     named_tree (entity (operation kind results used pieces) ts) p i h =
         let o = h.0 in
@@ -145,7 +145,7 @@ module _ {K A T : Type 0} (says : Saying K A T) (Labels : Ptr BasicBlock → See
     named_tree (entity (block label arguments) ts) p i h = absurd h
 
     named_regions : (ts : Entities ℕ) (rs : List (Ptr Region))
-        → ((k : ℕ) (r : Ptr Region) → slice_get rs k ≡ Some r → IsInside s (OperationNode root) (RegionNode r))
+        → ((k : ℕ) (r : Ptr Region) → slice_get rs k ≡ Some r → IsAnywhereIn s (OperationNode root) (RegionNode r))
         → HaveRegionTrees says (Named values) Labels s rs ts → NamedRegions rs ts
     named_regions no_entity [] inside h = (no_entity, tt, refl)
     named_regions no_entity (r ∷ rs) inside h = absurd h
@@ -157,7 +157,7 @@ module _ {K A T : Type 0} (says : Saying K A T) (Labels : Ptr BasicBlock → See
         let others : all_unlabelled us.0 ≡ all_unlabelled (all_renamed ν ts) = us.2 in
         (an_entity u.0 us.0, (u.1, us.1), cc)
 
-    named_region : (t : Entity ℕ) (r : Ptr Region) → IsInside s (OperationNode root) (RegionNode r)
+    named_region : (t : Entity ℕ) (r : Ptr Region) → IsAnywhereIn s (OperationNode root) (RegionNode r)
         → HasRegionTree says (Named values) Labels s r t → NamedRegion r t
     named_region (entity a_region ts) r i h =
         let rest = named_blocks ts h.0 (λ k b e. within (BlockNode b) (RegionNode r) k (h.0, h.1, e) i) h.2 in
@@ -166,7 +166,7 @@ module _ {K A T : Type 0} (says : Saying K A T) (Labels : Ptr BasicBlock → See
     named_region (entity (block label arguments) ts) r i h = absurd h
 
     named_blocks : (ts : Entities ℕ) (bs : List (Ptr BasicBlock))
-        → ((k : ℕ) (b : Ptr BasicBlock) → slice_get bs k ≡ Some b → IsInside s (OperationNode root) (BlockNode b))
+        → ((k : ℕ) (b : Ptr BasicBlock) → slice_get bs k ≡ Some b → IsAnywhereIn s (OperationNode root) (BlockNode b))
         → HaveBlockTrees says (Named values) Labels s bs ts → NamedBlocks bs ts
     named_blocks no_entity [] inside h = (no_entity, tt, refl)
     named_blocks no_entity (b ∷ bs) inside h = absurd h
@@ -178,7 +178,7 @@ module _ {K A T : Type 0} (says : Saying K A T) (Labels : Ptr BasicBlock → See
         let others : all_unlabelled us.0 ≡ all_unlabelled (all_renamed ν ts) = us.2 in
         (an_entity u.0 us.0, (u.1, us.1), cc)
 
-    named_block : (t : Entity ℕ) (b : Ptr BasicBlock) → IsInside s (OperationNode root) (BlockNode b)
+    named_block : (t : Entity ℕ) (b : Ptr BasicBlock) → IsAnywhereIn s (OperationNode root) (BlockNode b)
         → HasBlockTree says (Named values) Labels s b t → NamedBlock b t
     named_block (entity (block label arguments) ts) b i h =
         let v = h.0 in
@@ -194,7 +194,7 @@ module _ {K A T : Type 0} (says : Saying K A T) (Labels : Ptr BasicBlock → See
     named_block (entity a_region ts) b i h = absurd h
 
     named_trees : (ts : Entities ℕ) (ps : List (Ptr Operation))
-        → ((k : ℕ) (p : Ptr Operation) → slice_get ps k ≡ Some p → IsInside s (OperationNode root) (OperationNode p))
+        → ((k : ℕ) (p : Ptr Operation) → slice_get ps k ≡ Some p → IsAnywhereIn s (OperationNode root) (OperationNode p))
         → HaveTrees says (Named values) Labels s ps ts → NamedTrees ps ts
     named_trees no_entity [] inside h = (no_entity, tt, refl)
     named_trees no_entity (p ∷ ps) inside h = absurd h

@@ -1,7 +1,7 @@
 -- From a context to its text, and back to its tree.
 use Rattle.std.proofs.Common.{◌≡◌, ℕ, ◌<◌, ◌^◌, List, [], ◌∷◌, ◌++◌, length, chars, refl, sym, subst}
 use Rattle.std.specs.Prelude.{IsUtf8}
-use Rattle.ir_forest.specs.Closed.{IsClosed, IsNumbered, IsSameModule, unlabelled}
+use Rattle.ir_forest.specs.Closed.{IsClosedTree, IsNumbered, IsSameModule, unlabelled}
 use Rattle.ir_forest.specs.Language.{Language}
 use Rattle.ir_forest.specs.Meaning.{renamed}
 use Rattle.ir_formats.specs.Rules.{IsGrammarOf}
@@ -33,7 +33,7 @@ pub stood_closed : {K A T : Type 0} (l : Language) → CanPrint l → (says : Sa
     → SaysTypes says l.formats l.values → SaysAttributes says l.formats l.values
     → SaysOperations says l.formats l.values
     → (Naming : Value → ℕ → Type 0) (s : Seen K A T) (p : Ptr Operation) (cs : List ℕ) (tree : Entity ℕ)
-    → Says l cs tree → StandsForTexts says Naming s p tree → IsClosed l tree × IsNumbered tree
+    → Says l cs tree → StandsForTexts says Naming s p tree → IsClosedTree l tree × IsNumbered tree
 stood_closed l can says types attributes operations Naming s p cs tree said stands =
     let known = read_closed l can.leads can.ordered can.depth can.bare cs tree said in (
       record {
@@ -50,7 +50,7 @@ stood_closed l can says types attributes operations Naming s p cs tree said stan
 -- An operation that stands for a closed tree is printed as a text of it.
 pub stood_printed : {K A T : Type 0} (l : Language) (says : Saying K A T) (s : Seen K A T) (p : Ptr Operation)
     (values : List Value) (tree : Entity ℕ) → HasOwnPlaces s → StandsForTexts says (Named values) s p tree
-    → AreSmallInside s p → IsClosed l tree → IsPrintedAs l says s p tree
+    → AreSmallInside s p → IsClosedTree l tree → IsPrintedAs l says s p tree
 stood_printed l says s p values tree places stands small closed =
     let named = named_tree says HasOwnLabel s values p small tree p itself stands in
     let labels = labelled_tree says IsValueName s places p small named.0 p itself named.1 in
@@ -77,7 +77,7 @@ stood_printed l says s p values tree places stands small closed =
 module _ {K A T : Type 0} (l : Language) (says : Saying K A T) (s : Seen K A T) (p : Ptr Operation)
     (values : List Value) (tree : Entity ℕ) (text : List ℕ)
     (places : HasOwnPlaces s) (stands : StandsForTexts says (Named values) s p tree) (small : AreSmallInside s p)
-    (closed : IsClosed l tree)
+    (closed : IsClosedTree l tree)
     (is_printed : IsPrinted l.formats says s p text) where
   -- What is printed is a layout of the tree.
   pub printed_layout : IsLayoutOf l.formats tree text

@@ -19,19 +19,19 @@ DefinesSmall vs = (k : ℕ) (v : Value) → value_in vs k ≡ Some v → v.numbe
 
 module _ {K A T : Type 0} (s : Seen K A T) where
   -- the first is directly in the second, at this index
-  abbrev pub IsAt : IRNode → IRNode → ℕ → Type 0
-  IsAt (OperationNode p) (BlockNode b) k =
+  abbrev pub IsDirectlyIn : IRNode → IRNode → ℕ → Type 0
+  IsDirectlyIn (OperationNode p) (BlockNode b) k =
       (v : SeenBlock) × (s.block b ≡ Some v) × (slice_get v.operations k ≡ Some p)
-  IsAt (BlockNode b) (RegionNode r) k =
+  IsDirectlyIn (BlockNode b) (RegionNode r) k =
       (bs : List (Ptr BasicBlock)) × (s.region r ≡ Some bs) × (slice_get bs k ≡ Some b)
-  IsAt (RegionNode r) (OperationNode p) k =
+  IsDirectlyIn (RegionNode r) (OperationNode p) k =
       (o : SeenOperation K A) × (s.operation p ≡ Some o) × (slice_get o.regions k ≡ Some r)
-  IsAt _ _ k = ⊥
+  IsDirectlyIn _ _ k = ⊥
 
   -- the inner is the outer, or is in it, however far down
-  pub data IsInside (outer : IRNode) : IRNode → Type 0 where
-    itself : IsInside outer outer
-    within : (e holder : IRNode) (k : ℕ) → IsAt e holder k → IsInside outer holder → IsInside outer e
+  pub data IsAnywhereIn (outer : IRNode) : IRNode → Type 0 where
+    itself : IsAnywhereIn outer outer
+    within : (e holder : IRNode) (k : ℕ) → IsDirectlyIn e holder k → IsAnywhereIn outer holder → IsAnywhereIn outer e
 
   -- the results of an operation, or the arguments of a block
   abbrev pub values_of : IRNode → List TypedValue
@@ -50,13 +50,13 @@ module _ {K A T : Type 0} (s : Seen K A T) where
 
   -- so do those of an operation and of all that is inside it
   abbrev pub AreSmallInside : Ptr Operation → Type 0
-  AreSmallInside p = (e : IRNode) → IsInside (OperationNode p) e → HasSmallNumbers e
+  AreSmallInside p = (e : IRNode) → IsAnywhereIn (OperationNode p) e → HasSmallNumbers e
 
 -- Each thing is in one place at most, and in nothing that is inside it; no two places define values of one number. So
 -- it
 -- is in every context.
 pub record HasOwnPlaces {K A T : Type 0} (s : Seen K A T) : Type 0 where
-  pub once : (e f g : IRNode) (j k : ℕ) → IsAt s e f j → IsAt s e g k → (f ≡ g) × (j ≡ k)
-  pub apart : (e f : IRNode) (k : ℕ) → IsAt s e f k → IsInside s e f → ⊥
+  pub once : (e f g : IRNode) (j k : ℕ) → IsDirectlyIn s e f j → IsDirectlyIn s e g k → (f ≡ g) × (j ≡ k)
+  pub apart : (e f : IRNode) (k : ℕ) → IsDirectlyIn s e f k → IsAnywhereIn s e f → ⊥
   pub values : (e f : IRNode) (j k : ℕ) (v w : TypedValue) → slice_get (values_of s e) j ≡ Some v
       → slice_get (values_of s f) k ≡ Some w → v.value.number ≡ w.value.number → (e ≡ f) × (j ≡ k)

@@ -1,6 +1,6 @@
 //! Laws of operations of contexts that stand for texts: their trees are closed, and what is printed is read again.
 ghost use Rattle.std.specs.Prelude.{◌≡◌, ◌<◌, ◌^◌, ◌++◌, ◌∷◌, [], ℕ, List, IsUtf8, chars, length};
-ghost use Rattle.ir_forest.specs.Closed.{IsClosed, IsNumbered, IsSameModule};
+ghost use Rattle.ir_forest.specs.Closed.{IsClosedTree, IsNumbered, IsSameModule};
 ghost use Rattle.ir_forest.specs.Language.{Language};
 ghost use Rattle.ir_formats.specs.Rules.{IsGrammarOf};
 ghost use Rattle.ir_grammar.specs.declared.grammar.Grammar.{Grammar};
@@ -35,7 +35,7 @@ pub fn trees_of_texts_are_closed<D: TextDialect>()
     ensures { (l : Language) → CanPrint l → l.formats ≡ D.formats → l.values ≡ D.values
         → (values : List Value) (s : Seen D.OpKind D.Attr D.TypeKey) (root : Ptr Operation)
         → (cs : List ℕ) (tree : Entity ℕ)
-        → Says l cs tree → StandsForTexts D.says (Named values) s root tree → IsClosed l tree × IsNumbered tree }
+        → Says l cs tree → StandsForTexts D.says (Named values) s root tree → IsClosedTree l tree × IsNumbered tree }
 {}
 
 /// An operation that stands for a closed tree is printed, where its numbers fit in 64 bits; and what is printed of it
@@ -43,11 +43,11 @@ pub fn trees_of_texts_are_closed<D: TextDialect>()
 pub fn printed_trees_are_layouts<D: TextDialect>()
     ensures printed { (l : Language) → l.formats ≡ D.formats → (s : Seen D.OpKind D.Attr D.TypeKey) → HasOwnPlaces s
         → (values : List Value) (root : Ptr Operation) (tree : Entity ℕ)
-        → StandsForTexts D.says (Named values) s root tree → AreSmallInside s root → IsClosed l tree
+        → StandsForTexts D.says (Named values) s root tree → AreSmallInside s root → IsClosedTree l tree
         → IsPrintedAs l D.says s root tree }
     ensures layouts { (l : Language) → l.formats ≡ D.formats → (s : Seen D.OpKind D.Attr D.TypeKey) → HasOwnPlaces s
         → (values : List Value) (root : Ptr Operation) (tree : Entity ℕ) (text : List ℕ)
-        → StandsForTexts D.says (Named values) s root tree → AreSmallInside s root → IsClosed l tree
+        → StandsForTexts D.says (Named values) s root tree → AreSmallInside s root → IsClosedTree l tree
         → IsPrinted D.formats D.says s root text → IsLayoutOf l.formats tree text }
 {}
 
@@ -56,13 +56,14 @@ pub fn printed_trees_are_layouts<D: TextDialect>()
 pub fn printed_modules_are_read_again<D: TextDialect>()
     ensures bytes { (l : Language) → CanPrint l → l.formats ≡ D.formats → (s : Seen D.OpKind D.Attr D.TypeKey)
         → HasOwnPlaces s → (values : List Value) (root : Ptr Operation) (tree : Entity ℕ) (text : List ℕ)
-        → StandsForTexts D.says (Named values) s root tree → AreSmallInside s root → IsClosed l tree
+        → StandsForTexts D.says (Named values) s root tree → AreSmallInside s root → IsClosedTree l tree
         → IsPrinted D.formats D.says s root text
         → IsUtf8 (text ++ 10 ∷ []) × (chars (text ++ 10 ∷ []) ≡ text ++ 10 ∷ []) }
     ensures read { (l : Language) → CanPrint l → l.formats ≡ D.formats → (g : Grammar) → IsGrammarOf l.formats g
         → (s : Seen D.OpKind D.Attr D.TypeKey) → HasOwnPlaces s
         → (values : List Value) (root : Ptr Operation) (tree : Entity ℕ) (text : List ℕ)
-        → StandsForTexts D.says (Named values) s root tree → AreSmallInside s root → IsClosed l tree → IsNumbered tree
+        → StandsForTexts D.says (Named values) s root tree → AreSmallInside s root → IsClosedTree l tree
+        → IsNumbered tree
         → IsPrinted D.formats D.says s root text → length (text ++ 10 ∷ []) < 2 ^ 63
         → (again : Entity ℕ) × Says l (text ++ 10 ∷ []) again × IsSameModule again tree }
 {}

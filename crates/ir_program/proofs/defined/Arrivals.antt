@@ -1,7 +1,7 @@
 -- A value joins those of its definer, or leaves them: what is found of it, and of each other value.
 use Rattle.std.proofs.Common.{◌≡◌, ◌≢◌, ◌⊎◌, ⊎_elim, inl, inr, ℕ, ◌≤◌, List, length, Option, Some, None, refl, sym, ap, ◌∙◌, subst, slice_get, insert, remove}
 use Rattle.std.proofs.lemmas.Bool.{cases_eq}
-use Rattle.ir_entities.specs.Links.{AreDistinct}
+use Rattle.ir_entities.specs.Links.{AreDistinctNumbers}
 use Rattle.ir_program.specs.Program.{numbered}
 use Rattle.ir_program.specs.Sound.{AreNumbered}
 use Rattle.ir_program.specs.declared.handles.Value.{Value}
@@ -78,8 +78,8 @@ module _ (old new : DefiningEntity → List Definition) (e : DefiningEntity) (re
   joined-fresh n are = numbered-none n (old e) (counter-free n (old e) are)
 
   -- the value that left was found, and is not
-  pub left-was : (k : ℕ) (d : Definition) → slice_get (old e) k ≡ Some d → AreDistinct (numbers_of (old e)) → at old (record { definer = e; number = d.number }) ≡ Some d
+  pub left-was : (k : ℕ) (d : Definition) → slice_get (old e) k ≡ Some d → AreDistinctNumbers (numbers_of (old e)) → at old (record { definer = e; number = d.number }) ≡ Some d
   left-was k d stood distinct = stands-found (old e) k d distinct stood
 
-  pub left-nowhere : (k : ℕ) (d : Definition) → slice_get (old e) k ≡ Some d → new e ≡ remove (old e) k → AreDistinct (numbers_of (old e)) → at new (record { definer = e; number = d.number }) ≡ None
+  pub left-nowhere : (k : ℕ) (d : Definition) → slice_get (old e) k ≡ Some d → new e ≡ remove (old e) k → AreDistinctNumbers (numbers_of (old e)) → at new (record { definer = e; number = d.number }) ≡ None
   left-nowhere k d stood is distinct = ap (numbered d.number) is ∙ numbered-none d.number (remove (old e) k) (remove-here (old e) k d stood distinct)

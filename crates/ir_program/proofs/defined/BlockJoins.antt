@@ -3,11 +3,11 @@ use Rattle.std.proofs.Common.{◌≡◌, ◌↔◌, ℕ, ◌≤◌, ◌+◌, ⊎
 use Rattle.std.proofs.lemmas.List.{length-map}
 use Rattle.ir_base.specs.declared.types.TypeHandle.{TypeHandle}
 use Rattle.ir_arena.specs.Arena.{get}
-use Rattle.ir_entities.specs.Links.{AreDistinct}
-use Rattle.ir_entities.specs.Uses.{Uses, key_of, place_of, Names, IsDefined}
+use Rattle.ir_entities.specs.Links.{AreDistinctNumbers}
+use Rattle.ir_entities.specs.Uses.{Uses, key_of, place_of, NamesDefinition, IsDefined}
 use Rattle.ir_entities.proofs.Placed.{placed-same}
 use Rattle.ir_program.specs.Program.{Program, BlockView, typed_value, operation_of, block_of, definitions_of, numbered, value_named, type_at, value_in, arguments_at, argument_count}
-use Rattle.ir_program.specs.Sound.{IsProgram, IsThreaded, AreNumbered, HaveOwnNumbers, operand_row, thread_of_block}
+use Rattle.ir_program.specs.Sound.{IsProgram, IsThreaded, AreNumbered, DefinitionsHaveOwnNumbers, operand_row, thread_of_block}
 use Rattle.ir_program.specs.Edits.{EditsBlock, IsUnchanged}
 use Rattle.ir_program.specs.Making.{InsertsDefinition, RemovesDefinition}
 use Rattle.ir_program.specs.Uses.{IsUsed}
@@ -39,7 +39,7 @@ module _ {O B : Type 0} (c : Program O B) (p : Ptr BasicBlock) (b w : BlockRecor
   -- all is sound where threads and numbers are
   pub arguments-sound : (u : Uses Value) (n : ℕ) → IsProgram c → u.places ≡ c.values.places → c.counter ≤ n
       → IsThreaded (found (definitions_of (with_block c p b w here u c.targets n))) u
-      → AreNumbered n w.arguments.items → HaveOwnNumbers (definitions_of (with_block c p b w here u c.targets n))
+      → AreNumbered n w.arguments.items → DefinitionsHaveOwnNumbers (definitions_of (with_block c p b w here u c.targets n))
       → IsProgram (with_block c p b w here u c.targets n)
   arguments-sound u n inv places later threads numbers own = record {
     operands = placed-same (place_of c.values) (operand_row c) inv.operands (place_of u) (operand_row c) (λ q. ap (λ ps. place_of (record u { places = ps }) q) places) (λ i. refl);
@@ -55,7 +55,7 @@ module _ {O B : Type 0} (c : Program O B) (p : Ptr BasicBlock) (b w : BlockRecor
   }
 
   -- what is seen of the block and of all else
-  pub arguments-seen : (u : Uses Value) (n : ℕ) (f : BlockView B → BlockView B) → u.places ≡ c.values.places → ((q d : ℕ) → Names c.values q d → key_of u d ≡ key_of c.values d)
+  pub arguments-seen : (u : Uses Value) (n : ℕ) (f : BlockView B → BlockView B) → u.places ≡ c.values.places → ((q d : ℕ) → NamesDefinition c.values q d → key_of u d ≡ key_of c.values d)
       → w.payload ≡ b.payload
       → ((v : BlockView B) → f v ≡ record v { arguments = (f v).arguments })
       → map (typed_value (ByBlock p)) w.arguments.items ≡ (f (block_of c p b)).arguments
@@ -103,7 +103,7 @@ module _ {O B : Type 0} (c : Program O B) (p : Ptr BasicBlock) (b w : BlockRecor
         (rw (joins.inserted, is) (numbered-joined c.counter b.arguments.items k _ within refl was))
         (own-joined (definitions_of c) (definitions_of (with_block c p b w here u c.targets n)) inv.own (ByBlock p) c.counter inv.numbers (λ f ne. arguments-elsewhere c p b w here u c.targets n f ne) k (record { number = c.counter; ty = ty; thread = joins.thread }) (arguments-here c p b w here u c.targets n ∙ joins.inserted ∙ ap (λ l. insert l k (record { number = c.counter; ty = ty; thread = joins.thread })) (sym (arguments-of c p b here))) refl)
 
-    pub argument-joined-seen : (n : ℕ) → w.payload ≡ b.payload → ((q d : ℕ) → Names c.values q d → IsDefined c.values d)
+    pub argument-joined-seen : (n : ℕ) → w.payload ≡ b.payload → ((q d : ℕ) → NamesDefinition c.values q d → IsDefined c.values d)
         → EditsBlock c (with_block c p b w here u c.targets n) p (λ x. record x { arguments = insert x.arguments k (record { value = v; ty = ty }) })
     argument-joined-seen n payload known =
         subst (λ y. EditsBlock c (with_block c p b w here u c.targets n) p (λ x. record x { arguments = insert x.arguments k (record { value = y; ty = ty }) })) (sym is_new) (arguments-seen u n _ joins.places
@@ -131,7 +131,7 @@ module _ {O B : Type 0} (c : Program O B) (p : Ptr BasicBlock) (b w : BlockRecor
 
     pub argument-gone : (x : Definition) → slice_get b.arguments.items k ≡ Some x → (v : Value) → v ≡ value_for (ByBlock p) x → type_at (with_block c p b w here u c.targets c.counter) v ≡ None
     argument-gone x stood v is = rw is (type-gone (with_block c p b w here u c.targets c.counter) (ByBlock p) b.arguments.items k x (arguments-here c p b w here u c.targets c.counter ∙ left.removed) stood
-        (subst (λ l. AreDistinct (numbers_of l)) (arguments-of c p b here) (inv.numbers (ByBlock p)).distinct))
+        (subst (λ l. AreDistinctNumbers (numbers_of l)) (arguments-of c p b here) (inv.numbers (ByBlock p)).distinct))
 
 -- so many arguments are seen as the record has
 pub arguments-within : {O B : Type 0} (c d : Program O B) → c ≡ d → (p : Ptr BasicBlock) (b : BlockRecord B) → get c.forest.blocks p.key ≡ Some b → (k : ℕ) → k ≤ argument_count d p → k ≤ length b.arguments.items
@@ -145,7 +145,7 @@ module _ {O B : Type 0} (c d : Program O B) (view : c ≡ d) (p : Ptr BasicBlock
   pub argument-defined : IsProgram c → (x : Definition) → slice_get b.arguments.items k ≡ Some x → IsDefined c.values x.thread
   argument-defined inv = thread-defined c inv (ByBlock p) b.arguments.items (arguments-of c p b here) k
 
-  pub argument-unnamed : IsProgram c → ((v : Value) → value_in (arguments_at d p) k ≡ Some v → IsUsed d v → ⊥) → (x : Definition) (q : ℕ) → slice_get b.arguments.items k ≡ Some x → Names c.values q x.thread → ⊥
+  pub argument-unnamed : IsProgram c → ((v : Value) → value_in (arguments_at d p) k ≡ Some v → IsUsed d v → ⊥) → (x : Definition) (q : ℕ) → slice_get b.arguments.items k ≡ Some x → NamesDefinition c.values q x.thread → ⊥
   argument-unnamed inv free = thread-unnamed c inv (ByBlock p) b.arguments.items (arguments-of c p b here) k (free-argument c d view p k free)
 
   pub argument-left_value : (x : Definition) → slice_get b.arguments.items k ≡ Some x → (v : Value) → v ≡ value_for (ByBlock p) x → value_in (arguments_at d p) k ≡ Some v

@@ -4,11 +4,11 @@ use Rattle.std.proofs.lemmas.Bool.{cases_eq}
 use Rattle.std.proofs.lemmas.List.{length-map}
 use Rattle.ir_base.specs.declared.types.TypeHandle.{TypeHandle}
 use Rattle.ir_arena.specs.Arena.{get}
-use Rattle.ir_entities.specs.Links.{AreDistinct}
-use Rattle.ir_entities.specs.Uses.{Uses, key_of, place_of, Names, IsDefined}
+use Rattle.ir_entities.specs.Links.{AreDistinctNumbers}
+use Rattle.ir_entities.specs.Uses.{Uses, key_of, place_of, NamesDefinition, IsDefined}
 use Rattle.ir_entities.proofs.Placed.{placed-same}
 use Rattle.ir_program.specs.Program.{result_count, Program, OperationView, typed_value, operation_of, definitions_of, numbered, value_named}
-use Rattle.ir_program.specs.Sound.{IsProgram, IsThreaded, AreNumbered, HaveOwnNumbers, operand_row, successor_row}
+use Rattle.ir_program.specs.Sound.{IsProgram, IsThreaded, AreNumbered, DefinitionsHaveOwnNumbers, operand_row, successor_row}
 use Rattle.ir_program.specs.Edits.{EditsOperation, IsUnchanged}
 use Rattle.ir_program.specs.Making.{InsertsDefinition, RemovesDefinition}
 use Rattle.ir_program.specs.declared.handles.Ptr.{Ptr}
@@ -67,7 +67,7 @@ module _ (old new : DefiningEntity → List Definition) (e : DefiningEntity) (re
           (cases_eq t joins.thread)
 
   -- threads and keys fit still once a value has left
-  pub threaded-left : (u w : Uses Value) (k : ℕ) → AreDistinct (numbers_of (old e))
+  pub threaded-left : (u w : Uses Value) (k : ℕ) → AreDistinctNumbers (numbers_of (old e))
       → RemovesDefinition u w (old e) (new e) k
       → IsThreaded (found old) u → IsThreaded (found new) w
   threaded-left u w k distinct leaves threads v t = (to, from)
@@ -137,7 +137,7 @@ module _ {O B : Type 0} (c : Program O B) (p : Ptr Operation) (o w : OperationRe
   -- all is sound where threads and numbers are
   pub results-sound : (u : Uses Value) (n : ℕ) → IsProgram c → u.places ≡ c.values.places → c.counter ≤ n
       → IsThreaded (found (definitions_of (with_operation c p o w here u c.targets n))) u
-      → AreNumbered n w.results.items → HaveOwnNumbers (definitions_of (with_operation c p o w here u c.targets n))
+      → AreNumbered n w.results.items → DefinitionsHaveOwnNumbers (definitions_of (with_operation c p o w here u c.targets n))
       → IsProgram (with_operation c p o w here u c.targets n)
   results-sound u n inv places later threads numbers own = record {
     operands = placed-same (place_of c.values) (operand_row c) inv.operands (place_of u) (operand_row (with_operation c p o w here u c.targets n)) (λ q. ap (λ ps. place_of (record u { places = ps }) q) places) (operand_rows u n);
@@ -153,7 +153,7 @@ module _ {O B : Type 0} (c : Program O B) (p : Ptr Operation) (o w : OperationRe
   }
 
   -- what is seen of the operation and of all else
-  pub results-seen : (u : Uses Value) (n : ℕ) (f : OperationView O → OperationView O) → u.places ≡ c.values.places → ((q d : ℕ) → Names c.values q d → key_of u d ≡ key_of c.values d)
+  pub results-seen : (u : Uses Value) (n : ℕ) (f : OperationView O → OperationView O) → u.places ≡ c.values.places → ((q d : ℕ) → NamesDefinition c.values q d → key_of u d ≡ key_of c.values d)
       → w.payload ≡ o.payload
       → ((v : OperationView O) → f v ≡ record v { results = (f v).results })
       → map (typed_value (ByOp p)) w.results.items ≡ (f (operation_of c p o)).results
@@ -204,7 +204,7 @@ module _ {O B : Type 0} (c : Program O B) (p : Ptr Operation) (o w : OperationRe
         (rw (joins.inserted, is) (numbered-joined c.counter o.results.items k _ within refl was))
         (own-joined (definitions_of c) (definitions_of (with_operation c p o w here u c.targets n)) inv.own (ByOp p) c.counter inv.numbers (λ f ne. definitions-elsewhere c p o w here u c.targets n f ne) k (record { number = c.counter; ty = ty; thread = joins.thread }) (definitions-here c p o w here u c.targets n ∙ joins.inserted ∙ ap (λ l. insert l k (record { number = c.counter; ty = ty; thread = joins.thread })) (sym was-results)) refl)
 
-    pub result-joined-seen : (n : ℕ) → w.payload ≡ o.payload → ((q d : ℕ) → Names c.values q d → IsDefined c.values d)
+    pub result-joined-seen : (n : ℕ) → w.payload ≡ o.payload → ((q d : ℕ) → NamesDefinition c.values q d → IsDefined c.values d)
         → EditsOperation c (with_operation c p o w here u c.targets n) p (λ x. record x { results = insert x.results k (record { value = v; ty = ty }) })
     result-joined-seen n payload known =
         subst (λ y. EditsOperation c (with_operation c p o w here u c.targets n) p (λ x. record x { results = insert x.results k (record { value = y; ty = ty }) })) (sym is_new) (results-seen u n _ joins.places

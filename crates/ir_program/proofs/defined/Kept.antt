@@ -4,7 +4,7 @@ use Rattle.std.proofs.lemmas.Option.{slice_get-map}
 use Rattle.ir_base.specs.declared.types.TypeHandle.{TypeHandle}
 use Rattle.ir_arena.specs.Arena.{get}
 use Rattle.ir_entities.specs.Placed.{place_at}
-use Rattle.ir_entities.specs.Uses.{Uses, key_of, place_of, named_of, Names, IsDefined}
+use Rattle.ir_entities.specs.Uses.{Uses, key_of, place_of, named_of, NamesDefinition, IsDefined}
 use Rattle.ir_program.specs.Program.{Program, OperationView, BlockView, key_if, no_handle, operation_of, operation_at, definitions_of, definition_at, type_at, value_named, IsLiveValue}
 use Rattle.ir_program.specs.Sound.{IsProgram, operand_row}
 use Rattle.ir_program.specs.Edits.{EditsOperation, EditsBlock}
@@ -33,8 +33,8 @@ pub counter-fresh : {O B : Type 0} (c : Program O B) → IsProgram c → (e : De
 counter-fresh c inv e = numbered-none c.counter (definitions_of c e) (counter-free c.counter (definitions_of c e) (inv.numbers e))
 
 -- what an operation takes is a value that stands at its definer
-module _ {O B : Type 0} (c : Program O B) (inv : IsProgram c) (known : (q d : ℕ) → Names c.values q d → IsDefined c.values d) where
-  named-live : (q d : ℕ) → Names c.values q d → IsLiveValue c (value_named c.values q)
+module _ {O B : Type 0} (c : Program O B) (inv : IsProgram c) (known : (q d : ℕ) → NamesDefinition c.values q d → IsDefined c.values d) where
+  named-live : (q d : ℕ) → NamesDefinition c.values q d → IsLiveValue c (value_named c.values q)
   named-live q d names = by (key_of c.values d) refl
     where
       by : (o : Option Value) → key_of c.values d ≡ o → IsLiveValue c (value_named c.values q)
@@ -103,7 +103,7 @@ module _ {O B : Type 0} (c d : Program O B) (e : DefiningEntity) (rest : (f : De
   number : v.number ≡ c.counter
   number = ap (λ (x : Value). x.number) is
 
-  pub value-defined : (IsUsed d v → IsUsed c v) → ((q t : ℕ) → Names c.values q t → IsDefined c.values t) → DefinesValue c d v ty
+  pub value-defined : (IsUsed d v → IsUsed c v) → ((q t : ℕ) → NamesDefinition c.values q t → IsDefined c.values t) → DefinesValue c d v ty
   value-defined used known =
       let none : type_at c v ≡ None = ap (type_at c) is ∙ ap (option_map (λ (x : Definition). x.ty)) (counter-fresh c inv e) in
       record {
@@ -125,7 +125,7 @@ value-forgotten c d e rest inv k x stood removed v is = record {
 module _ {O B : Type 0} (c : Program O B) (p : Ptr Operation) (o w : OperationRecord O) (here : get c.forest.ops p.key ≡ Some o) (u : Uses Value) (n : ℕ) (inv : IsProgram c) (k : ℕ) (v : Value) where
   pub result-defined_now : w.payload ≡ o.payload → w.operands.items ≡ o.operands.items → w.successors.items ≡ o.successors.items
       → (ty : TypeHandle) → v ≡ record { definer = ByOp p; number = c.counter } → k ≤ length o.results.items → InsertsDefinition c.values u o.results.items w.results.items k v ty
-      → ((q t : ℕ) → Names c.values q t → IsDefined c.values t)
+      → ((q t : ℕ) → NamesDefinition c.values q t → IsDefined c.values t)
       → DefinesValue c (with_operation c p o w here u c.targets n) v ty
   result-defined_now payload operands successors ty is within joined known = value-defined c (with_operation c p o w here u c.targets n) (ByOp p) (λ f ne. definitions-elsewhere c p o w here u c.targets n f ne) inv
       k v ty joined.thread is (subst (λ ds. k ≤ length ds) (sym (results-of c p o here)) within)
@@ -144,7 +144,7 @@ module _ {O B : Type 0} (c : Program O B) (p : Ptr Operation) (o w : OperationRe
 module _ {O B : Type 0} (c : Program O B) (p : Ptr BasicBlock) (b w : BlockRecord B) (here : get c.forest.blocks p.key ≡ Some b) (u : Uses Value) (n : ℕ) (inv : IsProgram c) (k : ℕ) (v : Value) where
   pub argument-defined_now : w.payload ≡ b.payload → w.thread ≡ b.thread
       → (ty : TypeHandle) → v ≡ record { definer = ByBlock p; number = c.counter } → k ≤ length b.arguments.items → InsertsDefinition c.values u b.arguments.items w.arguments.items k v ty
-      → ((q t : ℕ) → Names c.values q t → IsDefined c.values t)
+      → ((q t : ℕ) → NamesDefinition c.values q t → IsDefined c.values t)
       → DefinesValue c (with_block c p b w here u c.targets n) v ty
   argument-defined_now payload thread ty is within joined known = value-defined c (with_block c p b w here u c.targets n) (ByBlock p) (λ f ne. arguments-elsewhere c p b w here u c.targets n f ne) inv
       k v ty joined.thread is (subst (λ ds. k ≤ length ds) (sym (arguments-of c p b here)) within)

@@ -1,8 +1,8 @@
 -- A value that no operation takes leaves the results of an operation or the arguments of a block.
 use Rattle.std.proofs.Common.{◌≡◌, ℕ, List, map, Some, None, refl, sym, ap, ◌∙◌, subst, arith, slice_get, remove}
 use Rattle.ir_arena.specs.Arena.{get}
-use Rattle.ir_entities.specs.Links.{AreDistinct}
-use Rattle.ir_entities.specs.Uses.{Uses, key_of, Names, IsDefined}
+use Rattle.ir_entities.specs.Links.{AreDistinctNumbers}
+use Rattle.ir_entities.specs.Uses.{Uses, key_of, NamesDefinition, IsDefined}
 use Rattle.ir_program.specs.Program.{Program, typed_value, definitions_of, type_at, value_in, results_at, arguments_at}
 use Rattle.ir_program.specs.Sound.{IsProgram, AreNumbered}
 use Rattle.ir_program.specs.Edits.{EditsOperation}
@@ -35,27 +35,27 @@ module _ {O B : Type 0} (c d : Program O B) (view : c ≡ d) where
 
 -- its thread is in use, and no place names it
 module _ {O B : Type 0} (c : Program O B) (inv : IsProgram c) (e : DefiningEntity) (ds : List Definition) (are : definitions_of c e ≡ ds) (k : ℕ) where
-  distinct_numbers : AreDistinct (numbers_of ds)
-  distinct_numbers = subst (λ l. AreDistinct (numbers_of l)) are (inv.numbers e).distinct
+  distinct_numbers : AreDistinctNumbers (numbers_of ds)
+  distinct_numbers = subst (λ l. AreDistinctNumbers (numbers_of l)) are (inv.numbers e).distinct
 
   pub thread-defined : (x : Definition) → slice_get ds k ≡ Some x → IsDefined c.values x.thread
   thread-defined x stands = rw (thread-stands c e ds are k x stands distinct_numbers inv.values) refl
 
-  pub thread-unnamed : IsFreeAt c e k → (x : Definition) (q : ℕ) → slice_get ds k ≡ Some x → Names c.values q x.thread → ⊥
+  pub thread-unnamed : IsFreeAt c e k → (x : Definition) (q : ℕ) → slice_get ds k ≡ Some x → NamesDefinition c.values q x.thread → ⊥
   thread-unnamed free x q stands names = free (value_for e x)
       (ap (λ l. value_in (map (typed_value e) l) k) are ∙ value-seen e ds k x stands)
       (named-used c inv (value_for e x) x.thread q (thread-stands c e ds are k x stands distinct_numbers inv.values) names)
 
   -- once it has left, all places name what they named
-  pub names-left : IsFreeAt c e k → (u : Uses Value) (now : List Definition) → RemovesDefinition c.values u ds now k → (q t : ℕ) → Names c.values q t → key_of u t ≡ key_of c.values t
-  names-left free u now left q t names = left.gone.others t (λ (is : t ≡ left.definition.thread). thread-unnamed free left.definition q left.stood (subst (Names c.values q) is names))
+  pub names-left : IsFreeAt c e k → (u : Uses Value) (now : List Definition) → RemovesDefinition c.values u ds now k → (q t : ℕ) → NamesDefinition c.values q t → key_of u t ≡ key_of c.values t
+  names-left free u now left q t names = left.gone.others t (λ (is : t ≡ left.definition.thread). thread-unnamed free left.definition q left.stood (subst (NamesDefinition c.values q) is names))
 
 -- of a result
 module _ {O B : Type 0} (c d : Program O B) (view : c ≡ d) (p : Ptr Operation) (o : OperationRecord O) (here : get c.forest.ops p.key ≡ Some o) (k : ℕ) where
   pub result-defined : IsProgram c → (x : Definition) → slice_get o.results.items k ≡ Some x → IsDefined c.values x.thread
   result-defined inv = thread-defined c inv (ByOp p) o.results.items (results-of c p o here) k
 
-  pub result-unnamed : IsProgram c → ((v : Value) → value_in (results_at d p) k ≡ Some v → IsUsed d v → ⊥) → (x : Definition) (q : ℕ) → slice_get o.results.items k ≡ Some x → Names c.values q x.thread → ⊥
+  pub result-unnamed : IsProgram c → ((v : Value) → value_in (results_at d p) k ≡ Some v → IsUsed d v → ⊥) → (x : Definition) (q : ℕ) → slice_get o.results.items k ≡ Some x → NamesDefinition c.values q x.thread → ⊥
   result-unnamed inv free = thread-unnamed c inv (ByOp p) o.results.items (results-of c p o here) k (free-result c d view p k free)
 
   pub result-left_value : (x : Definition) → slice_get o.results.items k ≡ Some x → (v : Value) → v ≡ value_for (ByOp p) x → value_in (results_at d p) k ≡ Some v
@@ -85,4 +85,4 @@ module _ {O B : Type 0} (c : Program O B) (p : Ptr Operation) (o w : OperationRe
 
   pub result-gone : (x : Definition) → slice_get o.results.items k ≡ Some x → (v : Value) → v ≡ value_for (ByOp p) x → type_at (with_operation c p o w here u c.targets c.counter) v ≡ None
   result-gone x stood v is = rw is (type-gone (with_operation c p o w here u c.targets c.counter) (ByOp p) o.results.items k x (definitions-here c p o w here u c.targets c.counter ∙ left.removed) stood
-      (subst (λ l. AreDistinct (numbers_of l)) was-results (inv.numbers (ByOp p)).distinct))
+      (subst (λ l. AreDistinctNumbers (numbers_of l)) was-results (inv.numbers (ByOp p)).distinct))

@@ -1,7 +1,7 @@
 -- The definitions of an entity, found by their numbers, as some come and go.
 use Rattle.std.proofs.Common.{◌≡◌, ◌≢◌, ⊎_elim, ℕ, zero, suc, ◌<◌, ◌+◌, ◌≤◌, true, false, cond, ◌||◌, eqb, List, [], ◌∷◌, length, map, Some, None, refl, sym, ap, ◌∙◌, subst, arith, slice_get, insert, remove}
 use Rattle.std.proofs.lemmas.Bool.{eq-eqb, ne_eqb, cases_eq}
-use Rattle.ir_entities.specs.Links.{has, AreDistinct}
+use Rattle.ir_entities.specs.Links.{has, AreDistinctNumbers}
 use Rattle.ir_program.specs.Program.{numbered}
 use Rattle.ir_program.specs.Sound.{AreNumbered}
 use Rattle.ir_program.specs.declared.records.Definition.{Definition}
@@ -49,7 +49,7 @@ has-insert n [] (suc k) d h ne = absurd (omega arith)
 has-insert n (e ∷ ds) zero d h ne = let f : eqb n d.number ≡ false = ne_eqb n d.number ne in rw f refl
 has-insert n (e ∷ ds) (suc k) d h ne = ap (λ b. eqb n e.number || b) (has-insert n ds k d (omega arith) ne)
 
-distinct-insert : (ds : List Definition) (k : ℕ) (d : Definition) → k ≤ length ds → has d.number (numbers_of ds) ≡ false → AreDistinct (numbers_of ds) → AreDistinct (numbers_of (insert ds k d))
+distinct-insert : (ds : List Definition) (k : ℕ) (d : Definition) → k ≤ length ds → has d.number (numbers_of ds) ≡ false → AreDistinctNumbers (numbers_of ds) → AreDistinctNumbers (numbers_of (insert ds k d))
 distinct-insert [] zero d h f a = (refl, a)
 distinct-insert [] (suc k) d h f a = absurd (omega arith)
 distinct-insert (e ∷ ds) zero d h f a = (f, a)
@@ -103,7 +103,7 @@ found-number n (e ∷ ds) d h = ⊎_elim
     (cases_eq e.number n)
 
 -- what stands among definitions with different numbers is found by its number
-pub stands-found : (ds : List Definition) (k : ℕ) (d : Definition) → AreDistinct (numbers_of ds) → slice_get ds k ≡ Some d → numbered d.number ds ≡ Some d
+pub stands-found : (ds : List Definition) (k : ℕ) (d : Definition) → AreDistinctNumbers (numbers_of ds) → slice_get ds k ≡ Some d → numbered d.number ds ≡ Some d
 stands-found [] k d a h = cc
 stands-found (e ∷ ds) zero d a h = let t : e ≡ d = cc in numbered-first d.number e ds (ap (λ (x : Definition). x.number) t) ∙ ap Some t
 stands-found (e ∷ ds) (suc k) d a h = numbered-other d.number e ds (λ q. let f : has d.number (numbers_of ds) ≡ false = subst (λ n. has n (numbers_of ds) ≡ false) (sym q) a.0 in let s : numbered d.number ds ≡ Some d = stands-found ds k d a.1 h in let t : numbered d.number ds ≡ None = numbered-none d.number ds f in cc) ∙ stands-found ds k d a.1 h
@@ -124,7 +124,7 @@ has-remove n (e ∷ ds) (suc k) h = ⊎_elim (λ q. let t : eqb n e.number ≡ t
     (λ ne. let f : eqb n e.number ≡ false = ne_eqb n e.number ne in rw f (has-remove n ds k (subst (λ b. (b || has n (numbers_of ds)) ≡ false) f h)))
     (cases_eq n e.number)
 
-pub remove-here : (ds : List Definition) (k : ℕ) (d : Definition) → slice_get ds k ≡ Some d → AreDistinct (numbers_of ds) → has d.number (numbers_of (remove ds k)) ≡ false
+pub remove-here : (ds : List Definition) (k : ℕ) (d : Definition) → slice_get ds k ≡ Some d → AreDistinctNumbers (numbers_of ds) → has d.number (numbers_of (remove ds k)) ≡ false
 remove-here [] k d h a = cc
 remove-here (e ∷ ds) zero d h a = let t : e ≡ d = cc in subst (λ (x : Definition). has x.number (numbers_of ds) ≡ false) t a.0
 remove-here (e ∷ ds) (suc k) d h a =
@@ -133,7 +133,7 @@ remove-here (e ∷ ds) (suc k) d h a =
     let f : eqb d.number e.number ≡ false = ne_eqb d.number e.number ne in
     rw f (remove-here ds k d h a.1)
 
-distinct-remove : (ds : List Definition) (k : ℕ) → AreDistinct (numbers_of ds) → AreDistinct (numbers_of (remove ds k))
+distinct-remove : (ds : List Definition) (k : ℕ) → AreDistinctNumbers (numbers_of ds) → AreDistinctNumbers (numbers_of (remove ds k))
 distinct-remove [] zero a = a
 distinct-remove [] (suc k) a = a
 distinct-remove (e ∷ ds) zero a = a.1

@@ -1,6 +1,6 @@
 -- No two entities come to have definitions with one number.
 use Rattle.std.proofs.Common.{◌≡◌, ◌≢◌, ℕ, zero, suc, ◌<◌, ◌≤◌, ◌⊎◌, inl, inr, ⊎_elim, List, [], ◌∷◌, Some, insert, remove, slice_get, sym, ap, ◌∙◌, arith}
-use Rattle.ir_program.specs.Sound.{AreNumbered, HaveOwnNumbers}
+use Rattle.ir_program.specs.Sound.{AreNumbered, DefinitionsHaveOwnNumbers}
 use Rattle.ir_program.specs.declared.handles.DefiningEntity.{DefiningEntity}
 use Rattle.ir_program.specs.declared.records.Definition.{Definition}
 use Rattle.ir_program.proofs.defined.Arrivals.{same_definer}
@@ -24,12 +24,12 @@ removed-stood (e ∷ ds) zero i g h = (suc i, h)
 removed-stood (e ∷ ds) (suc k) zero g h = (zero, h)
 removed-stood (e ∷ ds) (suc k) (suc i) g h = let at : (j : ℕ) × (slice_get ds j ≡ Some g) = removed-stood ds k i g h in (suc at.0, at.1)
 
-module _ (old new : DefiningEntity → List Definition) (own : HaveOwnNumbers old) where
+module _ (old new : DefiningEntity → List Definition) (own : DefinitionsHaveOwnNumbers old) where
   -- where nothing came
-  pub own-within : ((e : DefiningEntity) (i : ℕ) (d : Definition) → slice_get (new e) i ≡ Some d → (j : ℕ) × (slice_get (old e) j ≡ Some d)) → HaveOwnNumbers new
+  pub own-within : ((e : DefiningEntity) (i : ℕ) (d : Definition) → slice_get (new e) i ≡ Some d → (j : ℕ) × (slice_get (old e) j ≡ Some d)) → DefinitionsHaveOwnNumbers new
   own-within stood e f j k d g h i same = let a : (m : ℕ) × (slice_get (old e) m ≡ Some d) = stood e j d h in let b : (m : ℕ) × (slice_get (old f) m ≡ Some g) = stood f k g i in own e f a.0 b.0 d g a.1 b.1 same
 
-  pub own-same : ((e : DefiningEntity) → new e ≡ old e) → HaveOwnNumbers new
+  pub own-same : ((e : DefiningEntity) → new e ≡ old e) → DefinitionsHaveOwnNumbers new
   own-same same = own-within (λ e i d h. (i, ap (λ l. slice_get l i) (sym (same e)) ∙ h))
 
   -- where one entity changed, and what came there has the counter's number or a later one
@@ -44,7 +44,7 @@ module _ (old new : DefiningEntity → List Definition) (own : HaveOwnNumbers ol
         (λ (late : n ≤ d.number). let low : g.number < n = (numbers f).below k g was in absurd (omega arith))
         (here j d h)
 
-    pub own-changed : HaveOwnNumbers new
+    pub own-changed : DefinitionsHaveOwnNumbers new
     own-changed e f j k d g h i same = ⊎_elim
         (λ (q : e ≡ x). ⊎_elim
         (λ (r : f ≡ x). q ∙ sym r)
@@ -57,9 +57,9 @@ module _ (old new : DefiningEntity → List Definition) (own : HaveOwnNumbers ol
         (same_definer e x)
 
   -- one came, with the counter's number
-  pub own-joined : (x : DefiningEntity) (n : ℕ) → ((e : DefiningEntity) → AreNumbered n (old e)) → ((e : DefiningEntity) → e ≢ x → new e ≡ old e) → (k : ℕ) (d : Definition) → new x ≡ insert (old x) k d → d.number ≡ n → HaveOwnNumbers new
+  pub own-joined : (x : DefiningEntity) (n : ℕ) → ((e : DefiningEntity) → AreNumbered n (old e)) → ((e : DefiningEntity) → e ≢ x → new e ≡ old e) → (k : ℕ) (d : Definition) → new x ≡ insert (old x) k d → d.number ≡ n → DefinitionsHaveOwnNumbers new
   own-joined x n numbers others k d is number = own-changed x n numbers others (λ i g h. ⊎_elim (λ at. inl at) (λ (same : g ≡ d). let late : g.number ≡ n = ap (λ (y : Definition). y.number) same ∙ number in inr (omega (arith, late))) (inserted-stood (old x) k d i g (ap (λ l. slice_get l i) (sym is) ∙ h)))
 
   -- one left
-  pub own-left : (x : DefiningEntity) (n : ℕ) → ((e : DefiningEntity) → AreNumbered n (old e)) → ((e : DefiningEntity) → e ≢ x → new e ≡ old e) → (k : ℕ) → new x ≡ remove (old x) k → HaveOwnNumbers new
+  pub own-left : (x : DefiningEntity) (n : ℕ) → ((e : DefiningEntity) → AreNumbered n (old e)) → ((e : DefiningEntity) → e ≢ x → new e ≡ old e) → (k : ℕ) → new x ≡ remove (old x) k → DefinitionsHaveOwnNumbers new
   own-left x n numbers others k is = own-changed x n numbers others (λ i g h. inl (removed-stood (old x) k i g (ap (λ l. slice_get l i) (sym is) ∙ h)))

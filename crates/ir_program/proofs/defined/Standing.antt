@@ -3,7 +3,7 @@ use Rattle.std.proofs.Common.{◌≡◌, ◌≢◌, ⊎_elim, ℕ, zero, suc, �
 use Rattle.std.proofs.lemmas.Bool.{cases_eq}
 use Rattle.std.proofs.lemmas.Option.{slice_get-map}
 use Rattle.ir_base.specs.declared.types.TypeHandle.{TypeHandle}
-use Rattle.ir_entities.specs.Links.{has, AreDistinct}
+use Rattle.ir_entities.specs.Links.{has, AreDistinctNumbers}
 use Rattle.ir_program.specs.Program.{Program, typed_value, definitions_of, definition_at, numbered, type_at, value_in, type_in, IsLiveValue}
 use Rattle.ir_program.specs.Sound.{IsProgram}
 use Rattle.ir_program.specs.Definers.{StandsAtDefiner, values_at}
@@ -23,13 +23,13 @@ numbered-index n (e ∷ ds) d h = ⊎_elim
     (cases_eq e.number n)
 
 -- no two definitions have one number
-twice : (e d : Definition) (ds : List Definition) (k : ℕ) → has e.number (numbers_of ds) ≡ false → AreDistinct (numbers_of ds) → slice_get ds k ≡ Some d → d.number ≢ e.number
+twice : (e d : Definition) (ds : List Definition) (k : ℕ) → has e.number (numbers_of ds) ≡ false → AreDistinctNumbers (numbers_of ds) → slice_get ds k ≡ Some d → d.number ≢ e.number
 twice e d ds k free a h q =
     let there : numbered d.number ds ≡ Some d = stands-found ds k d a h in
     let nowhere : numbered d.number ds ≡ None = numbered-none d.number ds (subst (λ n. has n (numbers_of ds) ≡ false) (sym q) free) in
     cc
 
-same-index : (ds : List Definition) (j k : ℕ) (d e : Definition) → AreDistinct (numbers_of ds) → slice_get ds j ≡ Some d → slice_get ds k ≡ Some e → d.number ≡ e.number → j ≡ k
+same-index : (ds : List Definition) (j k : ℕ) (d e : Definition) → AreDistinctNumbers (numbers_of ds) → slice_get ds j ≡ Some d → slice_get ds k ≡ Some e → d.number ≡ e.number → j ≡ k
 same-index [] j k d e a h i q = cc
 same-index (x ∷ ds) zero zero d e a h i q = refl
 same-index (x ∷ ds) zero (suc k) d e a h i q = let is : x ≡ d = cc in absurd (twice x e ds k a.0 a.1 i (sym q ∙ ap (λ (y : Definition). y.number) (sym is)))

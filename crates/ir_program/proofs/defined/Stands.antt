@@ -6,8 +6,8 @@ use Rattle.std.proofs.lemmas.Option.{slice_get-map, slice_get_read}
 use Rattle.ir_arena.specs.declared.arena.Slot.{Slot}
 use Rattle.ir_arena.specs.Arena.{get, held, slot_at}
 use Rattle.ir_entities.specs.Forest.{pointer_to}
-use Rattle.ir_entities.specs.Links.{AreDistinct}
-use Rattle.ir_entities.specs.Uses.{Place, key_of, place_of, named_of, Names}
+use Rattle.ir_entities.specs.Links.{AreDistinctNumbers}
+use Rattle.ir_entities.specs.Uses.{PlaceOfUse, key_of, place_of, named_of, NamesDefinition}
 use Rattle.ir_program.specs.Handles.{handle}
 use Rattle.ir_program.specs.Program.{Program, TypedValue, OperationView, BlockView, typed_value, key_if, no_handle, operation_of, block_of, results_at, arguments_at, result_count, argument_count, definitions_of, definition_at, type_at, numbered, value_named, value_in, type_in}
 use Rattle.ir_program.specs.Sound.{IsProgram, IsThreaded, operand_row, thread_of_value}
@@ -61,7 +61,7 @@ module _ {O B : Type 0} (c : Program O B) where
   pub arguments-of : (p : Ptr BasicBlock) (b : BlockRecord B) → get c.forest.blocks p.key ≡ Some b → definitions_of c (ByBlock p) ≡ b.arguments.items
   arguments-of p b here = ap (λ x. unwrap_or (option_map (λ (r : BlockRecord B). r.arguments.items) x) []) here
 
-  module _ (e : DefiningEntity) (ds : List Definition) (are : definitions_of c e ≡ ds) (k : ℕ) (d : Definition) (stands : slice_get ds k ≡ Some d) (distinct : AreDistinct (numbers_of ds)) where
+  module _ (e : DefiningEntity) (ds : List Definition) (are : definitions_of c e ≡ ds) (k : ℕ) (d : Definition) (stands : slice_get ds k ≡ Some d) (distinct : AreDistinctNumbers (numbers_of ds)) where
     pub definition-stands : definition_at c (value_for e d) ≡ Some d
     definition-stands = ap (numbered d.number) are ∙ stands-found ds k d distinct stands
 
@@ -84,24 +84,24 @@ module _ {O B : Type 0} (c : Program O B) where
   type-of-argument inv p k v h = type-of-seen inv (ByBlock p) (arguments_at c p) (arguments-seen_as p) k v h
 
   -- what left stands no more
-  pub type-gone : (e : DefiningEntity) (ds : List Definition) (k : ℕ) (d : Definition) → definitions_of c e ≡ remove ds k → slice_get ds k ≡ Some d → AreDistinct (numbers_of ds) → type_at c (value_for e d) ≡ None
+  pub type-gone : (e : DefiningEntity) (ds : List Definition) (k : ℕ) (d : Definition) → definitions_of c e ≡ remove ds k → slice_get ds k ≡ Some d → AreDistinctNumbers (numbers_of ds) → type_at c (value_for e d) ≡ None
   type-gone e ds k d are stood distinct = ap (option_map (λ (x : Definition). x.ty)) (ap (numbered d.number) are ∙ numbered-none d.number (remove ds k) (remove-here ds k d stood distinct))
 
   -- a value whose thread has a place is an operand
-  pub named-used : IsProgram c → (v : Value) (t p : ℕ) → key_of c.values t ≡ Some v → Names c.values p t → IsUsed c v
+  pub named-used : IsProgram c → (v : Value) (t p : ℕ) → key_of c.values t ≡ Some v → NamesDefinition c.values p t → IsUsed c v
   named-used inv v t p key names = by_place (place_of c.values p) refl
     where
       named : value_named c.values p ≡ v
       named = ap (λ o. unwrap_or o (record { definer = ByOp no_handle; number = 0 })) (ap (key_if c.values) names ∙ key)
 
-      by_operation : (x : Place) (r : Option (OperationRecord O)) → held c.forest.ops x.user ≡ r → slice_get (operand_row c x.user) x.index ≡ Some p → IsUsed c v
+      by_operation : (x : PlaceOfUse) (r : Option (OperationRecord O)) → held c.forest.ops x.user ≡ r → slice_get (operand_row c x.user) x.index ≡ Some p → IsUsed c v
       by_operation x None none stands = let e : slice_get (operand_row c x.user) x.index ≡ None = ap (λ o. slice_get (unwrap_or (option_map (λ (y : OperationRecord O). y.operands.items) o) []) x.index) none in cc
       by_operation x (Some r) some stands =
           let q : Ptr Operation = handle (pointer_to c.forest.ops x.user) in
           let at : slice_get r.operands.items x.index ≡ Some p = sym (ap (λ o. slice_get (unwrap_or (option_map (λ (y : OperationRecord O). y.operands.items) o) []) x.index) some) ∙ stands in
           (q, operation_of c q r, ap (option_map (operation_of c q)) (get-held c.forest.ops x.user ∙ some), x.index, slice_get-map (value_named c.values) r.operands.items x.index ∙ ap (option_map (value_named c.values)) at ∙ ap Some named)
 
-      by_place : (o : Option Place) → place_of c.values p ≡ o → IsUsed c v
+      by_place : (o : Option PlaceOfUse) → place_of c.values p ≡ o → IsUsed c v
       by_place None none = let e : named_of (place_of c.values p) ≡ None = ap named_of none in cc
       by_place (Some x) some = by_operation x (held c.forest.ops x.user) refl (inv.operands.all p x some)
 

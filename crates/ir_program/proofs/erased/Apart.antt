@@ -6,7 +6,7 @@ use Rattle.ir_entities.specs.declared.forest.Place.TheVariants.{Op, Block}
 use Rattle.ir_arena.specs.Arena.{get, held}
 use Rattle.ir_entities.specs.Shape.{IsInside}
 use Rattle.ir_entities.specs.Forest.{Forest, shape_of, pointer_to}
-use Rattle.ir_entities.specs.Uses.{key_of, place_of, named_of, Names, Place as UsePlace}
+use Rattle.ir_entities.specs.Uses.{key_of, place_of, named_of, NamesDefinition, PlaceOfUse as UsePlace}
 use Rattle.ir_program.specs.Handles.{handle}
 use Rattle.ir_program.specs.Program.{Program, OperationView, operation_at, operation_of, definitions_of, definition_at, numbered, value_named, block_named, key_if, no_handle}
 use Rattle.ir_program.specs.Rows.{operands_at, successors_at}
@@ -78,7 +78,7 @@ module _ {O B : Type 0} where
   GoesTo c b = (p : Ptr Operation) × (o : OperationView O) × (operation_at c p ≡ Some o) × (k : ℕ) × (slice_get o.successors k ≡ Some b)
 
   -- a block whose thread has a place is a successor
-  pub named-gone_to : (c : Program O B) → IsProgram c → (b : Ptr BasicBlock) (t p : ℕ) → key_of c.targets t ≡ Some b → Names c.targets p t → GoesTo c b
+  pub named-gone_to : (c : Program O B) → IsProgram c → (b : Ptr BasicBlock) (t p : ℕ) → key_of c.targets t ≡ Some b → NamesDefinition c.targets p t → GoesTo c b
   named-gone_to c inv b t p key names = by_place (place_of c.targets p) refl
     where
       named : block_named c.targets p ≡ b

@@ -7,8 +7,8 @@ use Rattle.ir_arena.specs.declared.arena.Key.{Key}
 use Rattle.ir_arena.specs.declared.arena.Slot.{Slot}
 use Rattle.ir_arena.specs.Arena.{get, held}
 use Rattle.ir_arena.specs.Lends.{with_value}
-use Rattle.ir_entities.specs.Uses.{Uses, Place, place_of, named_of}
-use Rattle.ir_entities.specs.Placed.{IsPlaced, Releases, place_at}
+use Rattle.ir_entities.specs.Uses.{Uses, PlaceOfUse, place_of, named_of}
+use Rattle.ir_entities.specs.Placed.{IsPlaced, ReleasesPlaces, place_at}
 use Rattle.ir_entities.specs.Rows.{IsRowOf}
 use Rattle.ir_entities.proofs.Placed.{placed-cleared}
 use Rattle.ir_entities.proofs.RowEdits.{clears-row, placed-row}
@@ -28,9 +28,9 @@ use Rattle.ir_program.proofs.rows.OperandEdits as Operands
 use Rattle.ir_program.proofs.rows.SuccessorEdits as Successors
 
 -- the places of a row that is released were its user's
-pub released-keeps : (place new : ℕ → Option Place) (row : List ℕ) (i : ℕ) → IsRowOf place row i → Releases place new row → KeepsNames place new i
+pub released-keeps : (place new : ℕ → Option PlaceOfUse) (row : List ℕ) (i : ℕ) → IsRowOf place row i → ReleasesPlaces place new row → KeepsNames place new i
 released-keeps place new row i rowed releases q x e ne =
-    ap named_of (releases.others q (λ k h. let its = rowed.held k q h in let s : Some x ≡ Some (place_at its.0 i k) = sym e ∙ its.1 in let t : x ≡ place_at its.0 i k = cc in ne (ap (λ (y : Place). y.user) t)) ∙ e)
+    ap named_of (releases.others q (λ k h. let its = rowed.held k q h in let s : Some x ≡ Some (place_at its.0 i k) = sym e ∙ its.1 in let t : x ≡ place_at its.0 i k = cc in ne (ap (λ (y : PlaceOfUse). y.user) t)) ∙ e)
 
 -- a slot keeps whether it is in use
 pub used-lent : {T : Type 0} (slots : List (Slot T)) (k : Key) (v w : T) → get slots k ≡ Some v → (i : ℕ) → is_some (held (with_value slots k w) i) ≡ is_some (held slots i)
@@ -41,11 +41,11 @@ used-lent slots k v w here i = ⊎_elim
 
 module _ {O B : Type 0} (c : Program O B) (p : Ptr Operation) (o : OperationRecord O) (here : get c.forest.ops p.key ≡ Some o) (rows : Vec ℕ) (inv : IsProgram c) (emptied : rows.items ≡ []) where
   -- without operands
-  module _ (u : Uses Value) (keys : u.definitions ≡ c.values.definitions) (releases : Releases (place_of c.values) (place_of u) o.operands.items) where
+  module _ (u : Uses Value) (keys : u.definitions ≡ c.values.definitions) (releases : ReleasesPlaces (place_of c.values) (place_of u) o.operands.items) where
     operands-placed : IsPlaced (place_of u) (operand_row (Operands.edited c p o here rows u))
     operands-placed = placed-cleared (place_of c.values) (operand_row c) inv.operands (place_of u) (operand_row (Operands.edited c p o here rows u)) p.key.slot
         (clears-row (place_of c.values) (place_of u) (operand_row c) (operand_row (Operands.edited c p o here rows u)) p.key.slot (Operands.rows-other c p o here rows u)
-        (subst (λ r. Releases (place_of c.values) (place_of u) r) (sym (Operands.row-here c p o here rows u)) releases) (Operands.row-now c p o here rows u ∙ emptied))
+        (subst (λ r. ReleasesPlaces (place_of c.values) (place_of u) r) (sym (Operands.row-here c p o here rows u)) releases) (Operands.row-now c p o here rows u ∙ emptied))
 
     pub operands-cleared-sound : IsProgram (Operands.edited c p o here rows u)
     operands-cleared-sound = Operands.operands-sound c p o here rows u inv keys operands-placed
@@ -71,11 +71,11 @@ module _ {O B : Type 0} (c : Program O B) (p : Ptr Operation) (o : OperationReco
     }
 
   -- without successors
-  module _ (u : Uses (Ptr BasicBlock)) (keys : u.definitions ≡ c.targets.definitions) (releases : Releases (place_of c.targets) (place_of u) o.successors.items) where
+  module _ (u : Uses (Ptr BasicBlock)) (keys : u.definitions ≡ c.targets.definitions) (releases : ReleasesPlaces (place_of c.targets) (place_of u) o.successors.items) where
     successors-placed : IsPlaced (place_of u) (successor_row (Successors.edited c p o here rows u))
     successors-placed = placed-cleared (place_of c.targets) (successor_row c) inv.successors (place_of u) (successor_row (Successors.edited c p o here rows u)) p.key.slot
         (clears-row (place_of c.targets) (place_of u) (successor_row c) (successor_row (Successors.edited c p o here rows u)) p.key.slot (Successors.rows-other c p o here rows u)
-        (subst (λ r. Releases (place_of c.targets) (place_of u) r) (sym (Successors.row-here c p o here rows u)) releases) (Successors.row-now c p o here rows u ∙ emptied))
+        (subst (λ r. ReleasesPlaces (place_of c.targets) (place_of u) r) (sym (Successors.row-here c p o here rows u)) releases) (Successors.row-now c p o here rows u ∙ emptied))
 
     pub successors-cleared-sound : IsProgram (Successors.edited c p o here rows u)
     successors-cleared-sound = Successors.successors-sound c p o here rows u inv keys successors-placed

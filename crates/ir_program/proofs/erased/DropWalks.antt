@@ -5,7 +5,7 @@ use Rattle.ir_entities.specs.declared.forest.Place.{Place}
 use Rattle.ir_entities.specs.declared.forest.Place.TheVariants.{Op, Block, Region as RegionPlace}
 use Rattle.ir_arena.specs.Arena.{get, held, slot_at}
 use Rattle.ir_entities.specs.Shape.{IsInside, itself}
-use Rattle.ir_entities.specs.Forest.{Forest, IsUsed, shape_of, pointer_to}
+use Rattle.ir_entities.specs.Forest.{Forest, HoldsInUse, shape_of, pointer_to}
 use Rattle.ir_entities.specs.Walk.{walk, levels, same_place, drop_to_place, walk_of, places_from, AreOnce, IsOneOf}
 use Rattle.ir_arena.proofs.Slots.{Live, live_slot}
 use Rattle.ir_program.specs.Handles.{handle}
@@ -66,7 +66,7 @@ module _ {O B : Type 0} where
   unfolding walk_of
   frame-walk a b x f = ap (λ n. walk (suc (suc (levels n))) (shape_of b.forest) (x ∷ [])) f.slots ∙ ap (λ s. walk (suc (suc (levels (length a.forest.ops)))) s (x ∷ [])) (frame-shape a b f)
 
-  pub frame-used : (a b : Program O B) (e : Place) → KeepsFrame a b → IsUsed a.forest e → IsUsed b.forest e
+  pub frame-used : (a b : Program O B) (e : Place) → KeepsFrame a b → HoldsInUse a.forest e → HoldsInUse b.forest e
   frame-used a b (Op i) f used = f.used i ∙ used
   frame-used a b (Block i) f used = subst (λ bs. IsSome (held bs i)) (sym (ap (λ (g : Forest _ _ _). g.blocks) f.forest)) used
   frame-used a b (RegionPlace i) f used = subst (λ rs. IsSome (held rs i)) (sym (ap (λ (g : Forest _ _ _). g.regions) f.forest)) used
@@ -113,7 +113,7 @@ module _ {O B : Type 0} where
                 absurd (ne (same_handle q p (same_key q.key p.key (e ∙ sym slot) version)))
 
   -- one step of the walk
-  pub drop-step : (old new later : Program O B) (x : Place) (at : Place) (rest : List Place) → AreOnce (at ∷ rest) → IsInside (shape_of old.forest) x at → IsUsed new.forest at → DropsTo old new x (at ∷ rest) → DropsAt new later at → DropsTo old later x rest
+  pub drop-step : (old new later : Program O B) (x : Place) (at : Place) (rest : List Place) → AreOnce (at ∷ rest) → IsInside (shape_of old.forest) x at → HoldsInUse new.forest at → DropsTo old new x (at ∷ rest) → DropsAt new later at → DropsTo old later x rest
   drop-step old new later x (Op i) rest once inside used done drops =
       drop-cleared old new later x (Op i) rest once done i refl inside (handle (pointer_to new.forest.ops i)) refl (pointer_live new.forest.ops i used) (drops.cleared i refl) drops.frame
   drop-step old new later x (Block i) rest once inside used done drops =
@@ -147,10 +147,10 @@ module _ {O B : Type 0} where
   abbrev pub HasCome : Program O B → Program O B → Place → Option Place → Type 0
   HasCome old new x at =
       DropsTo old new x (places_from at (walk_of old.forest x))
-      × IfSome at (λ k. IsUsed new.forest k × IsInside (shape_of new.forest) x k)
+      × IfSome at (λ k. HoldsInUse new.forest k × IsInside (shape_of new.forest) x k)
       × AreOnce (places_from at (walk_of old.forest x))
 
-  pub come-first : (f : Forest (OperationRecord O) (BlockRecord B) RegionRecord) (c : Program O B) (x : Place) → f ≡ c.forest → IsUsed c.forest x → AreOnce (walk_of f x)
+  pub come-first : (f : Forest (OperationRecord O) (BlockRecord B) RegionRecord) (c : Program O B) (x : Place) → f ≡ c.forest → HoldsInUse c.forest x → AreOnce (walk_of f x)
       → ((e : Place) → IsOneOf e (walk_of f x) ↔ IsInside (shape_of f) x e) → places_from (Some x) (walk_of f x) ≡ walk_of f x → HasCome c c x (Some x)
   come-first f c x seen used once all begins =
       let once' : AreOnce (walk_of c.forest x) = subst (λ g. AreOnce (walk_of g x)) seen once in
@@ -161,15 +161,15 @@ module _ {O B : Type 0} where
   module _ (old new later : Program O B) (x place : Place) (at next : Option Place) (is : at ≡ Some place) (come : HasCome old new x at) (drops : DropsAt new later place)
       (f : Forest (OperationRecord O) (BlockRecord B) RegionRecord) (seen : f ≡ later.forest)
       (rest : places_from (Some place) (walk_of f x) ≡ place ∷ places_from next (walk_of f x))
-      (inside : IfSome next (λ k. IsUsed f k × IsInside (shape_of f) x k)) where
+      (inside : IfSome next (λ k. HoldsInUse f k × IsInside (shape_of f) x k)) where
     same-walk : walk_of f x ≡ walk_of old.forest x
     same-walk = ap (λ g. walk_of g x) seen ∙ frame-walk old later x (frame-then old new later come.0.frame drops.frame)
 
     goes-on : places_from at (walk_of old.forest x) ≡ place ∷ places_from next (walk_of old.forest x)
     goes-on = ap (λ o. places_from o (walk_of old.forest x)) is ∙ subst (λ w. places_from (Some place) w ≡ place ∷ places_from next w) same-walk rest
 
-    stands : IsUsed new.forest place × IsInside (shape_of new.forest) x place
-    stands = subst (λ o. IfSome o (λ k. IsUsed new.forest k × IsInside (shape_of new.forest) x k)) is come.1
+    stands : HoldsInUse new.forest place × IsInside (shape_of new.forest) x place
+    stands = subst (λ o. IfSome o (λ k. HoldsInUse new.forest k × IsInside (shape_of new.forest) x k)) is come.1
 
     once-here : AreOnce (place ∷ places_from next (walk_of old.forest x))
     once-here = subst AreOnce goes-on come.2
@@ -177,7 +177,7 @@ module _ {O B : Type 0} where
     pub come-next : HasCome old later x next
     come-next = (
       drop-step old new later x place (places_from next (walk_of old.forest x)) once-here (subst (λ s. IsInside s x place) (frame-shape old new come.0.frame) stands.1) stands.0 (subst (DropsTo old new x) goes-on come.0) drops,
-      subst (λ g. IfSome next (λ k. IsUsed g k × IsInside (shape_of g) x k)) seen inside,
+      subst (λ g. IfSome next (λ k. HoldsInUse g k × IsInside (shape_of g) x k)) seen inside,
       once-here.1,
     )
 

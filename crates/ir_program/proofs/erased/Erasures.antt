@@ -8,7 +8,7 @@ use Rattle.ir_entities.specs.Shape.{IsInside}
 use Rattle.ir_entities.specs.Forest.{Forest, shape_of}
 use Rattle.ir_entities.specs.Walk.{IsOneOf, StandInOne, walk_of}
 use Rattle.ir_entities.specs.Prune.{ErasesInside, StandsNowhere}
-use Rattle.ir_entities.specs.Uses.{Uses, Names, IsDefined}
+use Rattle.ir_entities.specs.Uses.{Uses, NamesDefinition, IsDefined}
 use Rattle.ir_program.specs.Program.{Program, operation_at, block_at, region_at, definitions_of, numbered}
 use Rattle.ir_program.specs.Sound.{IsProgram, operand_row, successor_row}
 use Rattle.ir_program.specs.Listed.{AreListed}
@@ -86,7 +86,7 @@ module _ {O B : Type 0} (old mid : Program O B) (x : IRNode) (inv : IsProgram mi
   was_inside e = subst (λ s. IsInside s (place_of_node x) e) (sym (frame-shape old mid drops.frame))
 
   module _ (one : StandInOne (shape_of mid.forest)) (nowhere : StandsNowhere mid.forest (place_of_node x))
-      (known_values : (q d : ℕ) → Names mid.values q d → IsDefined mid.values d) (known_blocks : (q d : ℕ) → Names mid.targets q d → IsDefined mid.targets d) where
+      (known_values : (q d : ℕ) → NamesDefinition mid.values q d → IsDefined mid.values d) (known_blocks : (q d : ℕ) → NamesDefinition mid.targets q d → IsDefined mid.targets d) where
     names_v : NoneNames (shape_of mid.forest) (place_of_node x) value_place mid.values
     names_v = values-unnamed old mid x inv live listed apart decide_old drops
 

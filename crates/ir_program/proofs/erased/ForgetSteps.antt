@@ -3,7 +3,7 @@ use Rattle.std.proofs.Common.{◌≡◌, ◌≢◌, ⊎_elim, ℕ, ◌<◌, ◌+
 use Rattle.std.proofs.lemmas.Bool.{cases_eq, both_ways}
 use Rattle.std.proofs.lemmas.Option.{slice_get-map, slice_get_within}
 use Rattle.ir_entities.specs.Links.{has}
-use Rattle.ir_entities.specs.Uses.{Uses, key_of, place_of, named_of, Names, IsDefined, SetsKey}
+use Rattle.ir_entities.specs.Uses.{Uses, key_of, place_of, named_of, NamesDefinition, IsDefined, SetsKey}
 use Rattle.ir_program.specs.Forgets.{threads_of, AreUnnamed, ForgetsThreads}
 use Rattle.ir_program.specs.declared.handles.Value.{Value}
 use Rattle.ir_program.specs.declared.records.Definition.{Definition}
@@ -32,7 +32,7 @@ at-thread ds t h =
     by j at (Some d) some = let s : Some d.thread ≡ Some t = sym (thread-at ds j d some) ∙ at in (j, d, some, cc)
 
 -- nothing is named that was not
-pub same-names : {K : Type 0} (old new : Uses K) (q t : ℕ) → new.places ≡ old.places → Names new q t → Names old q t
+pub same-names : {K : Type 0} (old new : Uses K) (q t : ℕ) → new.places ≡ old.places → NamesDefinition new q t → NamesDefinition old q t
 same-names old new q t places names = subst (λ ps. named_of (place_of (record old { places = ps }) q) ≡ Some t) places names
 
 module _ (old new : Uses Value) (ds : List Definition) (k : ℕ) (d : Definition) (unnamed : AreUnnamed old (threads_of ds)) (done : ForgetsTo old new ds k) (at : slice_get ds k ≡ Some d) where
@@ -44,7 +44,7 @@ module _ (old new : Uses Value) (ds : List Definition) (k : ℕ) (d : Definition
       let one : j ≡ k = once_at (threads_of ds) j k d.thread unnamed.distinct (thread-at ds j e here ∙ ap Some same) (thread-at ds k d at) in
       omega (arith, one, lt)))) was
 
-  pub forget-unnamed : (q : ℕ) → Names new q d.thread → ⊥
+  pub forget-unnamed : (q : ℕ) → NamesDefinition new q d.thread → ⊥
   forget-unnamed q names = unnamed.unnamed d.thread q (has-thread ds k d at) (same-names old new q d.thread done.places names)
 
   -- one step of the loop

@@ -5,7 +5,7 @@ use Rattle.std.proofs.lemmas.Option.{slice_get-map}
 use Rattle.ir_arena.specs.declared.arena.Key.{Key}
 use Rattle.ir_arena.specs.Arena.{get, held}
 use Rattle.ir_entities.specs.Forest.{Forest, pointer_to}
-use Rattle.ir_entities.specs.Links.{has, AreDistinct}
+use Rattle.ir_entities.specs.Links.{has, AreDistinctNumbers}
 use Rattle.ir_entities.specs.Uses.{Uses, key_of}
 use Rattle.ir_entities.specs.declared.forest.Place.{Place}
 use Rattle.ir_entities.specs.declared.forest.Place.TheVariants.{Op, Block, Region}
@@ -43,9 +43,9 @@ numbered-has n (d ∷ ds) t h = ⊎_elim
     (cases_Bool (eqb d.number n))
 
 -- definitions with different numbers whose threads have the keys of their values have different threads
-distinct-threads : (u : Uses Value) (e : DefiningEntity) (ds : List Definition) → AreDistinct (numbers_of ds)
+distinct-threads : (u : Uses Value) (e : DefiningEntity) (ds : List Definition) → AreDistinctNumbers (numbers_of ds)
     → ((j : ℕ) (d : Definition) → slice_get ds j ≡ Some d → key_of u d.thread ≡ Some (value_for e d))
-    → AreDistinct (threads_of ds)
+    → AreDistinctNumbers (threads_of ds)
 distinct-threads u e [] numbers keys = tt
 distinct-threads u e (d ∷ ds) numbers keys = (
   ⊎_elim

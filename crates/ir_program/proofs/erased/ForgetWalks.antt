@@ -3,8 +3,8 @@ use Rattle.std.proofs.Common.{◌≡◌, ◌↔◌, ⊎_elim, inl, inr, ℕ, ◌
 use Rattle.std.proofs.lemmas.Bool.{cases_Bool, both_ways}
 use Rattle.ir_entities.specs.declared.forest.Place.{Place}
 use Rattle.ir_entities.specs.Shape.{Shape, IsInside, itself}
-use Rattle.ir_entities.specs.Forest.{Forest, IsUsed, shape_of}
-use Rattle.ir_entities.specs.Links.{has, AreDistinct}
+use Rattle.ir_entities.specs.Forest.{Forest, HoldsInUse, shape_of}
+use Rattle.ir_entities.specs.Links.{has, AreDistinctNumbers}
 use Rattle.ir_entities.specs.Uses.{Uses, key_of}
 use Rattle.ir_entities.specs.Walk.{walk_of, places_from, AreOnce, IsOneOf}
 use Rattle.ir_program.specs.Erases.{NoneNames}
@@ -14,7 +14,7 @@ use Rattle.ir_program.proofs.erased.ForgetSteps.{same-names}
 
 -- the threads are those of the keys that stand at a place, each once
 pub record AreThreadsAt {K : Type 0} (place : K → Place) (at : Place) (u : Uses K) (threads : List ℕ) : Type 0 where
-  pub distinct : AreDistinct threads
+  pub distinct : AreDistinctNumbers threads
   pub stands : (t : ℕ) → has t threads ≡ true → (v : K) × (key_of u t ≡ Some v) × (place v ≡ at)
   pub all : (t : ℕ) (v : K) → key_of u t ≡ Some v → place v ≡ at → has t threads ≡ true
 
@@ -83,11 +83,11 @@ forgets-begins s x place u rest all = record {
 
 -- what holds where the walk of x has come to `at`: it stands inside x, and none that comes after it has come before
 pub record IsAt {O B R : Type 0} (f : Forest O B R) (x : Place) (at : Option Place) : Type 0 where
-  pub stands : IfSome at (λ k. IsUsed f k × IsInside (shape_of f) x k)
+  pub stands : IfSome at (λ k. HoldsInUse f k × IsInside (shape_of f) x k)
   pub once : AreOnce (places_from at (walk_of f x))
 
 module _ {O B R : Type 0} (f : Forest O B R) (x : Place) where
-  pub at-first : IsUsed f x → AreOnce (walk_of f x) → IsAt f x (Some x)
+  pub at-first : HoldsInUse f x → AreOnce (walk_of f x) → IsAt f x (Some x)
   at-first used once = record { stands = (used, itself); once = once-from (Some x) (walk_of f x) once }
 
   pub all-first : ((e : Place) → IsOneOf e (walk_of f x) ↔ IsInside (shape_of f) x e) → places_from (Some x) (walk_of f x) ≡ walk_of f x → (e : Place) → IsInside (shape_of f) x e → IsOneOf e (places_from (Some x) (walk_of f x))
@@ -101,10 +101,10 @@ module _ {O B R : Type 0} (f : Forest O B R) (x : Place) where
     once-here : AreOnce (here ∷ places_from next (walk_of f x))
     once-here = subst AreOnce goes-on come.once
 
-    stands-here : IsUsed f here × IsInside (shape_of f) x here
-    stands-here = subst (λ o. IfSome o (λ k. IsUsed f k × IsInside (shape_of f) x k)) is come.stands
+    stands-here : HoldsInUse f here × IsInside (shape_of f) x here
+    stands-here = subst (λ o. IfSome o (λ k. HoldsInUse f k × IsInside (shape_of f) x k)) is come.stands
 
-    pub at-next : IfSome next (λ k. IsUsed f k × IsInside (shape_of f) x k) → IsAt f x next
+    pub at-next : IfSome next (λ k. HoldsInUse f k × IsInside (shape_of f) x k) → IsAt f x next
     at-next inside = record { stands = inside; once = once-here.1 }
 
     pub at-less : length (places_from next (walk_of f x)) < length (places_from at (walk_of f x))

@@ -11,12 +11,12 @@ use Rattle.ir_entities.specs.Shape.{IsIn, IsInside, deeper}
 use Rattle.ir_entities.specs.Forest.{Forest, shape_of}
 use Rattle.ir_entities.specs.Prune.{ErasesInside, StandsNowhere}
 use Rattle.ir_entities.specs.Walk.{StandInOne}
-use Rattle.ir_entities.specs.Uses.{Uses, key_of, place_of, Names, IsDefined}
+use Rattle.ir_entities.specs.Uses.{Uses, key_of, place_of, NamesDefinition, IsDefined}
 use Rattle.ir_entities.proofs.Placed.{placed-same}
 use Rattle.ir_entities.proofs.Prunes.{outside_in}
 use Rattle.ir_program.specs.Handles.{handle}
 use Rattle.ir_program.specs.Program.{Program, handles_of, operation_of, operation_at, block_of, block_at, region_of, region_at, definitions_of, numbered, value_named, block_named}
-use Rattle.ir_program.specs.Sound.{IsProgram, IsThreaded, AreNumbered, HaveOwnNumbers, operand_row, successor_row, thread_of_value, thread_of_block}
+use Rattle.ir_program.specs.Sound.{IsProgram, IsThreaded, AreNumbered, DefinitionsHaveOwnNumbers, operand_row, successor_row, thread_of_value, thread_of_block}
 use Rattle.ir_program.specs.Erases.{ForgetsInside, NoneNames, value_place, block_place, definer_place}
 use Rattle.ir_program.specs.Edits.{KeepsErased}
 use Rattle.ir_program.specs.declared.handles.Ptr.{Ptr}
@@ -69,8 +69,8 @@ gone-threads {K} thread new u w In decide lost stays gone kept none threads v t 
 -- names that stay
 gone-names : {K : Type 0} (u w : Uses K) (In : K → Type 0) → ((v : K) → In v ⊎ (In v → ⊥))
     → w.places ≡ u.places → ((t : ℕ) (v : K) → key_of u t ≡ Some v → (In v → ⊥) → key_of w t ≡ Some v)
-    → ((t q : ℕ) (v : K) → key_of u t ≡ Some v → In v → Names u q t → ⊥) → ((q d : ℕ) → Names u q d → IsDefined u d)
-    → (q d : ℕ) → Names u q d → key_of w d ≡ key_of u d
+    → ((t q : ℕ) (v : K) → key_of u t ≡ Some v → In v → NamesDefinition u q t → ⊥) → ((q d : ℕ) → NamesDefinition u q d → IsDefined u d)
+    → (q d : ℕ) → NamesDefinition u q d → key_of w d ≡ key_of u d
 gone-names u w In decide places kept unnamed known q d names = by (key_of u d) refl
   where
     by : (o : Option _) → key_of u d ≡ o → key_of w d ≡ key_of u d
@@ -84,7 +84,7 @@ pub record IsSoundBut {O B : Type 0} (c : Program O B) (x : Place) : Type 0 wher
   pub values : IsThreaded (thread_of_value c) c.values
   pub blocks : IsThreaded (thread_of_block c) c.targets
   pub numbers : (e : DefiningEntity) → AreNumbered c.counter (definitions_of c e)
-  pub own : HaveOwnNumbers (definitions_of c)
+  pub own : DefinitionsHaveOwnNumbers (definitions_of c)
   pub homes : (i : ℕ) → IsSome (held c.forest.regions i) → (IsInside (shape_of c.forest) x (RegionPlace i) → ⊥) → IsLinked c.forest.in_ops.lists i
 
 pub sound-but : {O B : Type 0} (c : Program O B) (x : Place) → IsProgram c → IsSoundBut c x
@@ -163,7 +163,7 @@ module _ {O B : Type 0} (c : Program O B) (f : Forest (OperationRecord O) (Block
   -- what is seen of what stays
   module _ (one : StandInOne (shape_of c.forest)) (nowhere : StandsNowhere c.forest x)
       (unnamed_values : NoneNames (shape_of c.forest) x value_place c.values) (unnamed_blocks : NoneNames (shape_of c.forest) x block_place c.targets)
-      (known_values : (q d : ℕ) → Names c.values q d → IsDefined c.values d) (known_blocks : (q d : ℕ) → Names c.targets q d → IsDefined c.targets d) where
+      (known_values : (q d : ℕ) → NamesDefinition c.values q d → IsDefined c.values d) (known_blocks : (q d : ℕ) → NamesDefinition c.targets q d → IsDefined c.targets d) where
     value_names : (q : ℕ) → value_named u q ≡ value_named c.values q
     value_names = names-kept _ c.values u values.places (gone-names c.values u (λ v. IsInside (shape_of c.forest) x (value_place v)) (λ v. decide (value_place v)) values.places values.kept unnamed_values known_values)
 

@@ -3,13 +3,13 @@ use Rattle.std.proofs.Common.{◌≡◌, ◌≢◌, ℕ, ⊎_elim, ◌⊎◌, in
 use Rattle.ir_entities.specs.declared.forest.Place.{Place}
 use Rattle.ir_entities.specs.declared.forest.Place.TheVariants.{Op, Block, Region as RegionPlace}
 use Rattle.ir_arena.specs.Arena.{get, held}
-use Rattle.ir_entities.specs.Lists.{Lists}
+use Rattle.ir_entities.specs.Lists.{ListsView}
 use Rattle.ir_entities.specs.Links.{has, list_at, without}
 use Rattle.ir_entities.specs.Shape.{IsIn, IsInside, itself, deeper}
 use Rattle.ir_entities.specs.Forest.{Forest, shape_of}
 use Rattle.ir_entities.specs.Walk.{StandInOne}
 use Rattle.ir_entities.specs.Prune.{ErasesInside, StandsNowhere}
-use Rattle.ir_entities.specs.Uses.{Uses, Names, IsDefined}
+use Rattle.ir_entities.specs.Uses.{Uses, NamesDefinition, IsDefined}
 use Rattle.ir_entities.proofs.Trees.{less_by_levels, has_without_at, list_at-map, inside_less, held_is}
 use Rattle.ir_program.specs.Program.{Program, OperationView, operation_at, block_at, region_at, definitions_of, numbered}
 use Rattle.ir_program.specs.Sound.{IsProgram, AreNumbered, operand_row, successor_row, thread_of_value}
@@ -47,7 +47,7 @@ use Rattle.ir_program.proofs.defined.OwnNumbers.{own-same}
 module _ {O B : Type 0} (old mid : Program O B) (r : Ptr Region) (inv : IsProgram mid) (live : IsSome (region_at old r)) (listed : AreListed old) (apart : IsApart old (RegionNode r))
     (decide_old : (e : Place) → IsInside (shape_of old.forest) (RegionPlace r.key.slot) e ⊎ (IsInside (shape_of old.forest) (RegionPlace r.key.slot) e → ⊥))
     (drops : DropsInside old mid (RegionPlace r.key.slot))
-    (l : Lists) (taken : l.lists ≡ map (without r.key.slot) mid.forest.in_ops.lists)
+    (l : ListsView) (taken : l.lists ≡ map (without r.key.slot) mid.forest.in_ops.lists)
     (f : Forest (OperationRecord O) (BlockRecord B) RegionRecord) (u : Uses Value) (w : Uses (Ptr BasicBlock))
     (erases : ErasesInside (record mid.forest { in_ops = l }) f (RegionPlace r.key.slot))
     (values : ForgetsInside (shape_of mid.forest) (RegionPlace r.key.slot) value_place mid.values u) (targets : ForgetsInside (shape_of mid.forest) (RegionPlace r.key.slot) block_place mid.targets w) where
@@ -129,7 +129,7 @@ module _ {O B : Type 0} (old mid : Program O B) (r : Ptr Region) (inv : IsProgra
   region_erased-sound = gone-sound cut f u w x but decide erases operands_none successors_none (forgets value_place mid.values u values) (forgets block_place mid.targets w targets)
 
   module _ (one : StandInOne (shape_of cut.forest)) (nowhere : StandsNowhere cut.forest x)
-      (known_values : (q d : ℕ) → Names mid.values q d → IsDefined mid.values d) (known_blocks : (q d : ℕ) → Names mid.targets q d → IsDefined mid.targets d) where
+      (known_values : (q d : ℕ) → NamesDefinition mid.values q d → IsDefined mid.values d) (known_blocks : (q d : ℕ) → NamesDefinition mid.targets q d → IsDefined mid.targets d) where
     names_v : NoneNames (shape_of cut.forest) x value_place mid.values
     names_v t q v key i n = values-unnamed old mid (RegionNode r) inv live listed apart decide_old drops t q v key (was (value_place v) i) n
 
@@ -174,7 +174,7 @@ module _ {O B : Type 0} (old mid : Program O B) (r : Ptr Region) (inv : IsProgra
 
       takes : SetsList mid.forest.in_ops.lists l.lists a.key.slot (remove (list_at mid.forest.in_ops.lists a.key.slot) k)
       takes = subst (λ ls. SetsList mid.forest.in_ops.lists ls a.key.slot (remove (list_at mid.forest.in_ops.lists a.key.slot) k)) (sym taken)
-          (subst (λ (t : Lists). SetsList t.lists (map (without r.key.slot) t.lists) a.key.slot (remove (list_at t.lists a.key.slot) k)) (sym same_lists) takes_old)
+          (subst (λ (t : ListsView). SetsList t.lists (map (without r.key.slot) t.lists) a.key.slot (remove (list_at t.lists a.key.slot) k)) (sym same_lists) takes_old)
 
       holder_out : IsInside (shape_of old.forest) x (Op a.key.slot) → ⊥
       holder_out i = region_not_around old listed r a stands (inside_by_handles old listed (RegionNode r) live (OperationNode a) stands.operation i)
@@ -199,7 +199,7 @@ module _ {O B : Type 0} (old mid : Program O B) (r : Ptr Region) (inv : IsProgra
     home =
         let used : IsSome (held mid.forest.regions r.key.slot) = held_is mid.forest.regions r.key (region_got mid r (subst IsSome (sym (drops.frame.regions r)) live)) in
         let at = inv.homes r.key.slot used in
-        (of_slot old.forest.ops at.0, operation_of_slot old (in_ops old listed) r at.0 live (subst (λ (t : Lists). has r.key.slot (list_at t.lists at.0) ≡ true) same_lists at.1))
+        (of_slot old.forest.ops at.0, operation_of_slot old (in_ops old listed) r at.0 live (subst (λ (t : ListsView). has r.key.slot (list_at t.lists at.0) ≡ true) same_lists at.1))
 
     operations : (p : Ptr Operation) → (StandsInside old (RegionNode r) (OperationNode p) → ⊥) → (StandsInOperation old r p → ⊥) → operation_at erased p ≡ operation_at old p
     operations p out free = ⊎_elim

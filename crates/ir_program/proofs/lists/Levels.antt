@@ -5,7 +5,7 @@ use Rattle.std.proofs.lemmas.List.{length-map}
 use Rattle.std.proofs.lemmas.Option.{slice_get-map}
 use Rattle.ir_arena.specs.declared.arena.Slot.{Slot}
 use Rattle.ir_arena.specs.Arena.{get, held}
-use Rattle.ir_entities.specs.Links.{has, list_at, next_in, prev_in, first_or, last_or, AreDistinct, AreApart, IsLinked, IsUnlinked}
+use Rattle.ir_entities.specs.Links.{has, list_at, next_in, prev_in, first_or, last_or, AreDistinctNumbers, AreApart, IsLinked, IsUnlinked}
 use Rattle.ir_program.specs.declared.handles.Ptr.{Ptr}
 use Rattle.ir_program.proofs.lists.Slotted.{of_slot, pointer_live, one_handle, at_slot, at_handle, at_has, has_at, once_at, first_at, last_at, next_at, prev_at, prev_first}
 
@@ -31,7 +31,7 @@ pub record IsLevel {T C E F : Type 0} (slots : List (Slot T)) (containers : List
   pub members : (c i : ℕ) → has i (list_at lists c) ≡ true → IsSome (held slots i)
   pub holders : (c i : ℕ) → has i (list_at lists c) ≡ true → IsSome (held containers c)
   pub apart : AreApart lists
-  pub distinct : (c : ℕ) → AreDistinct (list_at lists c)
+  pub distinct : (c : ℕ) → AreDistinctNumbers (list_at lists c)
 
 module _ {T C E F : Type 0} (slots : List (Slot T)) (containers : List (Slot C)) (lists : List (List ℕ)) (listed : Ptr F → List (Ptr E)) (level : IsLevel slots containers lists listed) where
   -- the slot at the same index

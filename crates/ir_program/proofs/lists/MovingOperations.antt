@@ -3,7 +3,7 @@ use Rattle.std.proofs.Common.{◌≡◌, ◌≢◌, ℕ, ◌<◌, ◌≤◌, ◌
 use Rattle.std.proofs.lemmas.List.{map-append, length-set}
 use Rattle.std.proofs.lemmas.Bool.{both_ways}
 use Rattle.ir_arena.specs.Arena.{get}
-use Rattle.ir_entities.specs.Lists.{Lists}
+use Rattle.ir_entities.specs.Lists.{ListsView}
 use Rattle.ir_entities.specs.Links.{has, list_at, put_after, put_before, without, IsLinked, IsUnlinked}
 use Rattle.ir_entities.specs.Forest.{Forest, shape_of}
 use Rattle.ir_entities.specs.Shape.{IsInside}
@@ -32,11 +32,11 @@ use Rattle.ir_program.proofs.lists.Rearranged.{still_program}
 
 module _ {O B : Type 0} where
   -- with other lists of operations in blocks
-  abbrev pub with_in_blocks : Program O B → Lists → Program O B
+  abbrev pub with_in_blocks : Program O B → ListsView → Program O B
   with_in_blocks c l = record c { forest = record c.forest { in_blocks = l } }
 
   -- the list of one block changes
-  block_edited : (c : Program O B) (l : Lists) (b : Ptr BasicBlock) (is : List ℕ) (edit : List (Ptr Operation) → List (Ptr Operation))
+  block_edited : (c : Program O B) (l : ListsView) (b : Ptr BasicBlock) (is : List ℕ) (edit : List (Ptr Operation) → List (Ptr Operation))
       → IsSome (block_at c b) → SetsList c.forest.in_blocks.lists l.lists b.key.slot is
       → map (of_slot c.forest.ops) is ≡ edit (map (of_slot c.forest.ops) (list_at c.forest.in_blocks.lists b.key.slot))
       → EditsBlock c (with_in_blocks c l) b (λ v. record v { operations = edit v.operations })
@@ -59,7 +59,7 @@ module _ {O B : Type 0} where
       (at_has (list_at c.forest.in_blocks.lists b.key.slot) s.index p.key.slot (at_slot c.forest.ops (list_at c.forest.in_blocks.lists b.key.slot) s.index p (rw listed at s.here)))
 
   -- the lists of two blocks change
-  blocks_appended : (c : Program O B) (l : Lists) (b d : Ptr BasicBlock) → IsSome (block_at c b) → IsSome (block_at c d) → b ≢ d
+  blocks_appended : (c : Program O B) (l : ListsView) (b d : Ptr BasicBlock) → IsSome (block_at c b) → IsSome (block_at c d) → b ≢ d
       → l.lists ≡ set (set c.forest.in_blocks.lists b.key.slot (list_at c.forest.in_blocks.lists b.key.slot ++ list_at c.forest.in_blocks.lists d.key.slot)) d.key.slot []
       → b.key.slot < length c.forest.in_blocks.lists → d.key.slot < length c.forest.in_blocks.lists
       → AppendsBlock c (with_in_blocks c l) b d
@@ -89,7 +89,7 @@ module _ {O B : Type 0} where
       }
 
   -- once an operation is out, nothing stands inside what it did not
-  inside_before : (c : Program O B) → AreListed c → (l : Lists) (m : ℕ) → l.lists ≡ map (without m) c.forest.in_blocks.lists → (x e : IRNode) → StandsInside (with_in_blocks c l) x e → StandsInside c x e
+  inside_before : (c : Program O B) → AreListed c → (l : ListsView) (m : ℕ) → l.lists ≡ map (without m) c.forest.in_blocks.lists → (x e : IRNode) → StandsInside (with_in_blocks c l) x e → StandsInside c x e
   inside_before c known l m out = inside_fewer c (with_in_blocks c l)
       (λ p b s.
       let now : has p.key.slot (list_at (map (without m) c.forest.in_blocks.lists) b.key.slot) ≡ true = subst (λ ls. has p.key.slot (list_at ls b.key.slot) ≡ true) out (slot_in_block (with_in_blocks c l) p b s) in

@@ -3,7 +3,7 @@ use Rattle.std.proofs.Common.{◌≡◌, ◌≢◌, ℕ, ◌<◌, ◌≤◌, ⊎
 use Rattle.std.proofs.lemmas.List.{map-append, length-map}
 use Rattle.std.proofs.lemmas.Bool.{eqb-true, or_cases, or_left, or_right, cases_eq}
 use Rattle.ir_arena.specs.Arena.{get}
-use Rattle.ir_entities.specs.Lists.{Lists}
+use Rattle.ir_entities.specs.Lists.{ListsView}
 use Rattle.ir_entities.specs.Links.{has, list_at, without, IsLinked}
 use Rattle.ir_entities.specs.Forest.{Forest, shape_of}
 use Rattle.ir_entities.specs.Shape.{Shape, IsIn, IsInside, itself, deeper}
@@ -54,20 +54,20 @@ kept_without r j (y ∷ ys) ne h = kept_cases (eqb r y) (kept_without r j ys ne)
 
 module _ {O B : Type 0} where
   -- with other lists of regions in operations
-  abbrev pub with_in_ops : Program O B → Lists → Program O B
+  abbrev pub with_in_ops : Program O B → ListsView → Program O B
   with_in_ops c l = record c { forest = record c.forest { in_ops = l } }
 
   abbrev regions_of_slots : Program O B → List ℕ → List (Ptr Region)
   regions_of_slots c is = map (of_slot c.forest.regions) is
 
   -- the list of one operation changes
-  pub operation_is : (c : Program O B) (l : Lists) (q : Ptr Operation) (is : List ℕ) (edit : List (Ptr Region) → List (Ptr Region)) → list_at l.lists q.key.slot ≡ is → regions_of_slots c is ≡ edit (regions_of_slots c (list_at c.forest.in_ops.lists q.key.slot))
+  pub operation_is : (c : Program O B) (l : ListsView) (q : Ptr Operation) (is : List ℕ) (edit : List (Ptr Region) → List (Ptr Region)) → list_at l.lists q.key.slot ≡ is → regions_of_slots c is ≡ edit (regions_of_slots c (list_at c.forest.in_ops.lists q.key.slot))
       → operation_at (with_in_ops c l) q ≡ option_map (λ (v : OperationView O). record v { regions = edit v.regions }) (operation_at c q)
   operation_is c l q is edit here e = map_edited (get c.forest.ops q.key) (operation_of c q) (operation_of (with_in_ops c l) q) (λ (v : OperationView O). record v { regions = edit v.regions })
       (λ o. ap (λ rs. record (operation_of c q o) { regions = rs }) (ap (regions_of_slots c) here ∙ e))
 
   -- that of an operation stays
-  pub operation_stays : (c : Program O B) (l : Lists) (q : Ptr Operation) → (IsSome (get c.forest.ops q.key) → list_at l.lists q.key.slot ≡ list_at c.forest.in_ops.lists q.key.slot) → operation_at (with_in_ops c l) q ≡ operation_at c q
+  pub operation_stays : (c : Program O B) (l : ListsView) (q : Ptr Operation) → (IsSome (get c.forest.ops q.key) → list_at l.lists q.key.slot ≡ list_at c.forest.in_ops.lists q.key.slot) → operation_at (with_in_ops c l) q ≡ operation_at c q
   operation_stays c l q same = map_same (get c.forest.ops q.key) (operation_of c q) (operation_of (with_in_ops c l) q)
       (λ live o. ap (λ is. record (operation_of c q o) { regions = regions_of_slots c is }) (same live))
 

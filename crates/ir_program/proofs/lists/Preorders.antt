@@ -5,7 +5,7 @@ use Rattle.std.proofs.lemmas.Option.{slice_get-map}
 use Rattle.ir_entities.specs.declared.forest.Place.{Place}
 use Rattle.ir_entities.specs.declared.forest.Place.TheVariants.{Op, Block, Region as RegionPlace}
 use Rattle.ir_arena.specs.Arena.{get}
-use Rattle.ir_entities.specs.Forest.{shape_of, IsUsed, pointer_to}
+use Rattle.ir_entities.specs.Forest.{shape_of, HoldsInUse, pointer_to}
 use Rattle.ir_entities.specs.Links.{list_at}
 use Rattle.ir_entities.specs.Shape.{IsInside, itself as inside_itself, deeper}
 use Rattle.ir_entities.specs.Walk.{walk_of, children, places_from, IsOneOf, AreOnce, IsWalk, nothing as nothing_walked, more as more_walked}
@@ -56,12 +56,12 @@ module _ {O B : Type 0} (c : Program O B) where
   node_back (BlockNode p) live = ap BlockNode (handle_is c.forest.blocks p (block_got c p live))
   node_back (RegionNode p) live = ap RegionNode (handle_is c.forest.regions p (region_got c p live))
 
-  pub node_live : (e : Place) → IsUsed c.forest e → IsLiveNode c (node_at c e)
+  pub node_live : (e : Place) → HoldsInUse c.forest e → IsLiveNode c (node_at c e)
   node_live (Op i) used = operation_there c (handle (pointer_to c.forest.ops i)) (pointer_live c.forest.ops i used)
   node_live (Block i) used = block_there c (handle (pointer_to c.forest.blocks i)) (pointer_live c.forest.blocks i used)
   node_live (RegionPlace i) used = region_there c (handle (pointer_to c.forest.regions i)) (pointer_live c.forest.regions i used)
 
-  pub place_used : (x : IRNode) → IsLiveNode c x → IsUsed c.forest (place_of_node x)
+  pub place_used : (x : IRNode) → IsLiveNode c x → HoldsInUse c.forest (place_of_node x)
   place_used (OperationNode p) live = held_is c.forest.ops p.key (operation_got c p live)
   place_used (BlockNode p) live = held_is c.forest.blocks p.key (block_got c p live)
   place_used (RegionNode p) live = held_is c.forest.regions p.key (region_got c p live)
@@ -80,7 +80,7 @@ module _ {O B : Type 0} (c : Program O B) where
       by (Some d) some = let s : Some (node_at c d) ≡ Some e = sym (slice_get-map (node_at c) xs k ∙ ap (option_map (node_at c)) some) ∙ h in (d, some, cc)
 
   -- what stands in a place, by handles
-  children_seen : (e : Place) → IsUsed c.forest e → map (node_at c) (children (shape_of c.forest) e) ≡ nodes_in c (node_at c e)
+  children_seen : (e : Place) → HoldsInUse c.forest e → map (node_at c) (children (shape_of c.forest) e) ≡ nodes_in c (node_at c e)
   children_seen (Op i) used =
       let listed : regions_in c (of_slot c.forest.ops i) ≡ map (of_slot c.forest.regions) (list_at c.forest.in_ops.lists i) = list_of_some (λ (v : OperationView O). v.regions) (operation_of c (of_slot c.forest.ops i)) (get c.forest.ops (pointer_to c.forest.ops i)) (map (of_slot c.forest.regions) (list_at c.forest.in_ops.lists i)) (λ a. refl) (pointer_live c.forest.ops i used) in
       map_twice (node_at c) RegionPlace (λ j. RegionNode (of_slot c.forest.regions j)) (λ j. refl) (list_at c.forest.in_ops.lists i)
@@ -95,14 +95,14 @@ module _ {O B : Type 0} (c : Program O B) where
       ∙ sym (ap (map BlockNode) listed ∙ map_twice BlockNode (of_slot c.forest.blocks) (λ j. BlockNode (of_slot c.forest.blocks j)) (λ j. refl) (list_at c.forest.in_regions.lists i))
 
   module _ (known : AreListed c) where
-    inside_used : (x e : Place) → IsUsed c.forest x → IsInside (shape_of c.forest) x e → IsUsed c.forest e
+    inside_used : (x e : Place) → HoldsInUse c.forest x → IsInside (shape_of c.forest) x e → HoldsInUse c.forest e
     inside_used x _ used inside_itself = used
     inside_used x _ used (deeper e d h w) = member_used c.forest known.forest e d h
 
-    preorder : (es ys : List Place) → IsWalk (shape_of c.forest) es ys → ((e : Place) → IsOneOf e es → IsUsed c.forest e) → IsPreorder c (map (node_at c) es) (map (node_at c) ys)
+    preorder : (es ys : List Place) → IsWalk (shape_of c.forest) es ys → ((e : Place) → IsOneOf e es → HoldsInUse c.forest e) → IsPreorder c (map (node_at c) es) (map (node_at c) ys)
     preorder _ _ nothing_walked used = nothing
     preorder _ _ (more_walked e es inner rest wi wr) used =
-        let here : IsUsed c.forest e = used e (inl refl) in
+        let here : HoldsInUse c.forest e = used e (inl refl) in
         let within : IsPreorder c (map (node_at c) (children (shape_of c.forest) e)) (map (node_at c) inner) = preorder (children (shape_of c.forest) e) inner wi (λ d one. member_used c.forest known.forest d e (child_in (shape_of c.forest) d e one)) in
         let later : IsPreorder c (map (node_at c) es) (map (node_at c) rest) = preorder es rest wr (λ d one. used d (inr one)) in
         subst (λ ns. IsPreorder c (node_at c e ∷ map (node_at c) es) (node_at c e ∷ ns)) (sym (map-append (node_at c) inner rest))
@@ -113,7 +113,7 @@ module _ {O B : Type 0} (c : Program O B) where
       unfolding nodes_inside
       in-order =
           subst (λ n. IsPreorder c (n ∷ []) (map (node_at c) (walk_of c.forest (place_of_node x)))) (node_back x live)
-          (preorder (place_of_node x ∷ []) (walk_of c.forest (place_of_node x)) (walk_is c.forest known.forest (place_of_node x) (place_used x live)) (λ e one. ⊎_elim (λ s. subst (IsUsed c.forest) (sym s) (place_used x live)) (λ n. absurd n) one))
+          (preorder (place_of_node x ∷ []) (walk_of c.forest (place_of_node x)) (walk_is c.forest known.forest (place_of_node x) (place_used x live)) (λ e one. ⊎_elim (λ s. subst (HoldsInUse c.forest) (sym s) (place_used x live)) (λ n. absurd n) one))
 
       module _ (all : (e : Place) → IsOneOf e (walk_of c.forest (place_of_node x)) ↔ IsInside (shape_of c.forest) (place_of_node x) e) where
         node_inside : (d : Place) → IsOneOf d (walk_of c.forest (place_of_node x)) → StandsInside c x (node_at c d)

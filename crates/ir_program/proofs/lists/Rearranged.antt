@@ -1,7 +1,7 @@
 -- What every program keeps says nothing of which operations stand in which blocks, nor of which blocks in which regions; and of regions only that each stands somewhere.
 use Rattle.std.proofs.Common.{◌≡◌, ℕ, Some, IsSome, option_map, refl, sym, ap, subst, ◌∙◌}
 use Rattle.ir_arena.specs.Arena.{held}
-use Rattle.ir_entities.specs.Lists.{Lists}
+use Rattle.ir_entities.specs.Lists.{ListsView}
 use Rattle.ir_entities.specs.Links.{IsLinked}
 use Rattle.ir_entities.specs.Forest.{Forest}
 use Rattle.ir_entities.specs.Uses.{key_of}
@@ -18,10 +18,10 @@ use Rattle.ir_program.proofs.defined.OwnNumbers.{own-same}
 
 module _ {O B : Type 0} where
   -- the program with other lists
-  abbrev pub rearranged : Program O B → Lists → Lists → Lists → Program O B
+  abbrev pub rearranged : Program O B → ListsView → ListsView → ListsView → Program O B
   rearranged c in_blocks in_regions in_ops = record c { forest = record c.forest { in_blocks = in_blocks; in_regions = in_regions; in_ops = in_ops } }
 
-  module _ (c : Program O B) (in_blocks in_regions in_ops : Lists) where
+  module _ (c : Program O B) (in_blocks in_regions in_ops : ListsView) where
     pub same_definitions : (e : DefiningEntity) → definitions_of (rearranged c in_blocks in_regions in_ops) e ≡ definitions_of c e
     same_definitions (ByOp p) = refl
     same_definitions (ByBlock p) = refl
@@ -48,7 +48,7 @@ module _ {O B : Type 0} where
       still_program kept homes = subst (λ (t : Forest (OperationRecord O) (BlockRecord B) RegionRecord). IsProgram (record c { forest = t })) (sym is) (rearranged_program kept homes)
 
 -- the types of the values stay
-pub types_stay : {O B : Type 0} (i c : Program O B) → i ≡ c → (in_blocks in_regions in_ops : Lists) (f : Forest (OperationRecord O) (BlockRecord B) RegionRecord) → f ≡ record i.forest { in_blocks = in_blocks; in_regions = in_regions; in_ops = in_ops } → (v : Value) → type_at (record i { forest = f }) v ≡ type_at c v
+pub types_stay : {O B : Type 0} (i c : Program O B) → i ≡ c → (in_blocks in_regions in_ops : ListsView) (f : Forest (OperationRecord O) (BlockRecord B) RegionRecord) → f ≡ record i.forest { in_blocks = in_blocks; in_regions = in_regions; in_ops = in_ops } → (v : Value) → type_at (record i { forest = f }) v ≡ type_at c v
 types_stay i c seen in_blocks in_regions in_ops f is v =
     ap (λ (t : Forest (OperationRecord _) (BlockRecord _) RegionRecord). type_at (record i { forest = t }) v) is
     ∙ ap (option_map (λ (d : Definition). d.ty)) (same_definition i in_blocks in_regions in_ops v)

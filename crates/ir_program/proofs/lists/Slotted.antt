@@ -7,7 +7,7 @@ use Rattle.std.specs.List.{AllWithin, HoldsAt}
 use Rattle.ir_arena.specs.declared.arena.Key.{Key}
 use Rattle.ir_arena.specs.declared.arena.Slot.{Slot}
 use Rattle.ir_arena.specs.Arena.{get, held, slot_at}
-use Rattle.ir_entities.specs.Links.{has, list_at, first_or, last_or, next_in, prev_in, prev_from, put_after, put_before, without, AreDistinct, AreApart}
+use Rattle.ir_entities.specs.Links.{has, list_at, first_or, last_or, next_in, prev_in, prev_from, put_after, put_before, without, AreDistinctNumbers, AreApart}
 use Rattle.ir_entities.specs.Forest.{pointer_to}
 use Rattle.ir_entities.proofs.Trees.{pointer_is, list_at-map}
 use Rattle.ir_arena.proofs.Slots.{live_slot}
@@ -65,7 +65,7 @@ found_at (y ∷ ys) x zero lt h = ap Some (h x)
 found_at (y ∷ ys) x (suc k) lt h = let less : k < length ys = omega arith in found_at ys x k less h
 
 -- the same number stands at one index only
-pub once_at : (xs : List ℕ) (j k i : ℕ) → AreDistinct xs → slice_get xs j ≡ Some i → slice_get xs k ≡ Some i → j ≡ k
+pub once_at : (xs : List ℕ) (j k i : ℕ) → AreDistinctNumbers xs → slice_get xs j ≡ Some i → slice_get xs k ≡ Some i → j ≡ k
 once_at [] j k i d h g = cc
 once_at (x ∷ xs) zero zero i d h g = refl
 once_at (x ∷ xs) zero (suc k) i d h g = let e : x ≡ i = cc in absurd (both_ways (has i xs) (rw e at d.0) (at_has xs k i g))
@@ -88,15 +88,15 @@ pub last_at : (xs : List ℕ) → last_or None xs ≡ slice_get xs (length xs - 
 last_at [] = refl
 last_at (x ∷ xs) = let e : length (x ∷ xs) - 1 ≡ length xs = omega arith in rw e (last_from x xs)
 
-next_suc : (xs : List ℕ) (k i : ℕ) → AreDistinct xs → slice_get xs k ≡ Some i → next_in i xs ≡ slice_get xs (suc k)
+next_suc : (xs : List ℕ) (k i : ℕ) → AreDistinctNumbers xs → slice_get xs k ≡ Some i → next_in i xs ≡ slice_get xs (suc k)
 next_suc [] k i d h = cc
 next_suc (x ∷ xs) zero i d h = let e : eqb i x ≡ true = eq-eqb i x (cc) in rw e (first_at xs)
 next_suc (x ∷ xs) (suc k) i d h = let e : eqb i x ≡ false = differs x i k xs d.0 h in rw e (next_suc xs k i d.1 h)
 
-pub next_at : (xs : List ℕ) (k i : ℕ) → AreDistinct xs → slice_get xs k ≡ Some i → next_in i xs ≡ slice_get xs (k + 1)
+pub next_at : (xs : List ℕ) (k i : ℕ) → AreDistinctNumbers xs → slice_get xs k ≡ Some i → next_in i xs ≡ slice_get xs (k + 1)
 next_at xs k i d h = rw (add-one k) (next_suc xs k i d h)
 
-prev_suc : (i : ℕ) (p : Option ℕ) (xs : List ℕ) (k : ℕ) → AreDistinct xs → slice_get xs (suc k) ≡ Some i → prev_from p i xs ≡ slice_get xs k
+prev_suc : (i : ℕ) (p : Option ℕ) (xs : List ℕ) (k : ℕ) → AreDistinctNumbers xs → slice_get xs (suc k) ≡ Some i → prev_from p i xs ≡ slice_get xs k
 prev_suc i p [] k d h = cc
 prev_suc i p (x ∷ []) k d h = let e : None ≡ Some i = h in cc
 prev_suc i p (x ∷ y ∷ ys) zero d h =
@@ -107,7 +107,7 @@ prev_suc i p (x ∷ y ∷ ys) (suc k) d h =
     let e : eqb i x ≡ false = differs x i (suc k) (y ∷ ys) d.0 h in
     rw e (prev_suc i (Some x) (y ∷ ys) k d.1 h)
 
-pub prev_at : (xs : List ℕ) (k i : ℕ) → AreDistinct xs → slice_get xs (k + 1) ≡ Some i → prev_in i xs ≡ slice_get xs k
+pub prev_at : (xs : List ℕ) (k i : ℕ) → AreDistinctNumbers xs → slice_get xs (k + 1) ≡ Some i → prev_in i xs ≡ slice_get xs k
 prev_at xs k i d h = prev_suc i None xs k d (rw (add-one k) at h)
 
 pub prev_first : (xs : List ℕ) (i : ℕ) → slice_get xs 0 ≡ Some i → prev_in i xs ≡ None
@@ -115,20 +115,20 @@ prev_first [] i h = refl
 prev_first (x ∷ xs) i h = let e : eqb i x ≡ true = eq-eqb i x (cc) in rw e refl
 
 -- the edits by the index
-put_after_suc : (xs : List ℕ) (k m x : ℕ) → AreDistinct xs → slice_get xs k ≡ Some m → put_after m x xs ≡ insert xs (suc k) x
+put_after_suc : (xs : List ℕ) (k m x : ℕ) → AreDistinctNumbers xs → slice_get xs k ≡ Some m → put_after m x xs ≡ insert xs (suc k) x
 put_after_suc [] k m x d h = cc
 put_after_suc (y ∷ ys) zero m x d h = let e : eqb m y ≡ true = eq-eqb m y (cc) in rw e refl
 put_after_suc (y ∷ ys) (suc k) m x d h = let e : eqb m y ≡ false = differs y m k ys d.0 h in rw e (ap (λ zs. y ∷ zs) (put_after_suc ys k m x d.1 h))
 
-pub put_after_at : (xs : List ℕ) (k m x : ℕ) → AreDistinct xs → slice_get xs k ≡ Some m → put_after m x xs ≡ insert xs (k + 1) x
+pub put_after_at : (xs : List ℕ) (k m x : ℕ) → AreDistinctNumbers xs → slice_get xs k ≡ Some m → put_after m x xs ≡ insert xs (k + 1) x
 put_after_at xs k m x d h = rw (add-one k) (put_after_suc xs k m x d h)
 
-pub put_before_at : (xs : List ℕ) (k m x : ℕ) → AreDistinct xs → slice_get xs k ≡ Some m → put_before m x xs ≡ insert xs k x
+pub put_before_at : (xs : List ℕ) (k m x : ℕ) → AreDistinctNumbers xs → slice_get xs k ≡ Some m → put_before m x xs ≡ insert xs k x
 put_before_at [] k m x d h = cc
 put_before_at (y ∷ ys) zero m x d h = let e : eqb m y ≡ true = eq-eqb m y (cc) in rw e refl
 put_before_at (y ∷ ys) (suc k) m x d h = let e : eqb m y ≡ false = differs y m k ys d.0 h in rw e (ap (λ zs. y ∷ zs) (put_before_at ys k m x d.1 h))
 
-pub without_at : (xs : List ℕ) (k m : ℕ) → AreDistinct xs → slice_get xs k ≡ Some m → without m xs ≡ remove xs k
+pub without_at : (xs : List ℕ) (k m : ℕ) → AreDistinctNumbers xs → slice_get xs k ≡ Some m → without m xs ≡ remove xs k
 without_at [] k m d h = cc
 without_at (y ∷ ys) zero m d h = let e : eqb m y ≡ true = eq-eqb m y (cc) in rw e refl
 without_at (y ∷ ys) (suc k) m d h = let e : eqb m y ≡ false = differs y m k ys d.0 h in rw e (ap (λ zs. y ∷ zs) (without_at ys k m d.1 h))
@@ -154,7 +154,7 @@ pub record SetsList (old new : List (List ℕ)) (c : ℕ) (xs : List ℕ) : Type
 pub set_list : (ls : List (List ℕ)) (c : ℕ) (xs : List ℕ) → c < length ls → SetsList ls (set ls c xs) c xs
 set_list ls c xs lt = record { here = get_or-set_same ls c xs [] lt; others = λ d ne. get_or-set_other ls c d xs [] ne }
 
-module _ (ls : List (List ℕ)) (apart : AreApart ls) (c k m : ℕ) (d : AreDistinct (list_at ls c)) (at : slice_get (list_at ls c) k ≡ Some m) where
+module _ (ls : List (List ℕ)) (apart : AreApart ls) (c k m : ℕ) (d : AreDistinctNumbers (list_at ls c)) (at : slice_get (list_at ls c) k ≡ Some m) where
   elsewhere : (e : ℕ) → e ≢ c → has m (list_at ls e) ≡ false
   elsewhere e ne = ⊎_elim (λ t. absurd (ne (apart m e c t (at_has (list_at ls c) k m at)))) (λ f. f) (cases_Bool (has m (list_at ls e)))
 

@@ -3,7 +3,7 @@ use Rattle.std.proofs.Common.{◌≡◌, ℕ, zero, suc, ◌<◌, ◌≤◌, ◌
 use Rattle.std.proofs.lemmas.Bool.{both_ways}
 use Rattle.ir_entities.specs.declared.forest.Place.{Place}
 use Rattle.ir_entities.specs.declared.forest.Place.TheVariants.{Op, Block, Region as RegionPlace}
-use Rattle.ir_entities.specs.Forest.{Forest, IsForest, IsUsed, shape_of, pointer_to}
+use Rattle.ir_entities.specs.Forest.{Forest, IsForest, HoldsInUse, shape_of, pointer_to}
 use Rattle.ir_entities.specs.Links.{has, list_at}
 use Rattle.ir_entities.specs.Shape.{Shape, IsIn}
 use Rattle.ir_entities.specs.Walk.{levels, StandInOne}
@@ -98,9 +98,9 @@ module _ {O B R : Type 0} (f : Forest O B R) (forest : IsForest f) (one : StandI
   abbrev nowhere : Place
   nowhere = Op (length f.ops)
 
-  not_nowhere : (e : Place) → IsUsed f e → e ≡ nowhere → ⊥
+  not_nowhere : (e : Place) → HoldsInUse f e → e ≡ nowhere → ⊥
   not_nowhere e used is =
-      let below : length f.ops < length f.ops = used_below f.ops (length f.ops) (subst (λ (z : Place). IsUsed f z) is used) in
+      let below : length f.ops < length f.ops = used_below f.ops (length f.ops) (subst (λ (z : Place). HoldsInUse f z) is used) in
       omega (arith, below)
 
   -- one step further up, fewer are left
@@ -126,7 +126,7 @@ module _ {O B R : Type 0} (f : Forest O B R) (forest : IsForest f) (one : StandI
         let r : (fewer : ℕ) × Climbs f nowhere x d fewer × (3 * fewer + steps d < n) = one_up x at d left n h (around_in (shape_of f) at d is) lt in
         goes_on n at d is (rest d r.0 r.1 r.2)
 
-  all_end : (e : Place) → IsUsed f e → EndsWithin (shape_of f) (levels (suc (length f.ops))) e
+  all_end : (e : Place) → HoldsInUse f e → EndsWithin (shape_of f) (levels (suc (length f.ops))) e
   all_end e used =
       let count : levels (suc (length f.ops)) ≡ 3 * suc (length f.ops) = levels_are (suc (length f.ops)) in
       let few : steps e ≤ 2 = steps_few e in
@@ -134,7 +134,7 @@ module _ {O B R : Type 0} (f : Forest O B R) (forest : IsForest f) (one : StandI
       ends (levels (suc (length f.ops))) e e (length f.ops) (climb_begins f nowhere e used) enough
 
   -- what is left one step further up
-  climb-next : (e : Place) → IsUsed f e → climb_of f e ≡ e ∷ climb_from f (place_around (shape_of f) e)
+  climb-next : (e : Place) → HoldsInUse f e → climb_of f e ≡ e ∷ climb_from f (place_around (shape_of f) e)
   unfolding climb_of
   climb-next e used = stable (shape_of f) (levels (suc (length f.ops))) e (all_end e used) ∙ ap (λ r. e ∷ r) (same (place_around (shape_of f) e)) where
     same : (o : Option Place) → climb (levels (suc (length f.ops))) (shape_of f) o ≡ climb_from f o
@@ -142,7 +142,7 @@ module _ {O B R : Type 0} (f : Forest O B R) (forest : IsForest f) (one : StandI
     same (Some d) = refl
 
   -- what the forest answers stands around
-  around-is : (e : Place) (r : Option Place) → MatchOption r ((d : Place) → IsIn (shape_of f) e d → ⊥) (λ d. IsIn (shape_of f) e d × IsUsed f d × ((x : Place) → IsIn (shape_of f) e x → x ≡ d)) → r ≡ place_around (shape_of f) e
+  around-is : (e : Place) (r : Option Place) → MatchOption r ((d : Place) → IsIn (shape_of f) e d → ⊥) (λ d. IsIn (shape_of f) e d × HoldsInUse f d × ((x : Place) → IsIn (shape_of f) e x → x ≡ d)) → r ≡ place_around (shape_of f) e
   around-is e None h = none (place_around (shape_of f) e) refl where
     none : (o : Option Place) → place_around (shape_of f) e ≡ o → None ≡ place_around (shape_of f) e
     none None is = sym is
@@ -152,17 +152,17 @@ module _ {O B R : Type 0} (f : Forest O B R) (forest : IsForest f) (one : StandI
     some None is = absurd (around_none (shape_of f) e is d h.0)
     some (Some k) is = ap Some (sym (h.2 k (around_in (shape_of f) e k is))) ∙ sym is
 
-  pub climb-answered : (e : Place) (r : Option Place) → IsUsed f e → MatchOption r ((d : Place) → IsIn (shape_of f) e d → ⊥) (λ d. IsIn (shape_of f) e d × IsUsed f d × ((x : Place) → IsIn (shape_of f) e x → x ≡ d)) → climb_of f e ≡ e ∷ climb_from f r
+  pub climb-answered : (e : Place) (r : Option Place) → HoldsInUse f e → MatchOption r ((d : Place) → IsIn (shape_of f) e d → ⊥) (λ d. IsIn (shape_of f) e d × HoldsInUse f d × ((x : Place) → IsIn (shape_of f) e x → x ≡ d)) → climb_of f e ≡ e ∷ climb_from f r
   climb-answered e r used h = climb-next e used ∙ ap (λ o. e ∷ climb_from f o) (sym (around-is e r h))
 
 -- the same of the program as its calls see it
-pub answered : {O B : Type 0} (i c : Program O B) → i ≡ c → (e : Place) (r : Option Place) → MatchOption r ((d : Place) → IsIn (shape_of i.forest) e d → ⊥) (λ d. IsIn (shape_of i.forest) e d × IsUsed i.forest d × ((x : Place) → IsIn (shape_of i.forest) e x → x ≡ d))
-    → MatchOption r ((d : Place) → IsIn (shape_of c.forest) e d → ⊥) (λ d. IsIn (shape_of c.forest) e d × IsUsed c.forest d × ((x : Place) → IsIn (shape_of c.forest) e x → x ≡ d))
-answered i c seen e r h = subst (λ (w : Program _ _). MatchOption r ((d : Place) → IsIn (shape_of w.forest) e d → ⊥) (λ d. IsIn (shape_of w.forest) e d × IsUsed w.forest d × ((x : Place) → IsIn (shape_of w.forest) e x → x ≡ d))) seen h
+pub answered : {O B : Type 0} (i c : Program O B) → i ≡ c → (e : Place) (r : Option Place) → MatchOption r ((d : Place) → IsIn (shape_of i.forest) e d → ⊥) (λ d. IsIn (shape_of i.forest) e d × HoldsInUse i.forest d × ((x : Place) → IsIn (shape_of i.forest) e x → x ≡ d))
+    → MatchOption r ((d : Place) → IsIn (shape_of c.forest) e d → ⊥) (λ d. IsIn (shape_of c.forest) e d × HoldsInUse c.forest d × ((x : Place) → IsIn (shape_of c.forest) e x → x ≡ d))
+answered i c seen e r h = subst (λ (w : Program _ _). MatchOption r ((d : Place) → IsIn (shape_of w.forest) e d → ⊥) (λ d. IsIn (shape_of w.forest) e d × HoldsInUse w.forest d × ((x : Place) → IsIn (shape_of w.forest) e x → x ≡ d))) seen h
 
 module _ {O B : Type 0} (c : Program O B) (known : AreListed c) where
   -- what a place stands in, by handles
-  by_handles : (e d : Place) → IsUsed c.forest e → IsIn (shape_of c.forest) e d → StandsIn c (node_at c e) (node_at c d)
+  by_handles : (e d : Place) → HoldsInUse c.forest e → IsIn (shape_of c.forest) e d → StandsIn c (node_at c e) (node_at c d)
   by_handles (Op i) (Block k) used w = block_of_slot c (in_blocks c known) (handle (pointer_to c.forest.ops i)) k (node_live c (Op i) used) w
   by_handles (Block i) (RegionPlace k) used w = region_of_slot c (in_regions c known) (handle (pointer_to c.forest.blocks i)) k (node_live c (Block i) used) w
   by_handles (RegionPlace i) (Op k) used w = operation_of_slot c (in_ops c known) (handle (pointer_to c.forest.regions i)) k (node_live c (RegionPlace i) used) w
@@ -215,7 +215,7 @@ module _ {O B : Type 0} (c : Program O B) (known : AreListed c) where
       let z : (p : Ptr Operation) × (k ≡ OperationNode p) × StandsInOperation c r p = holds_region r k t in
       a.1 ∙ ap OperationNode (one_operation c (in_ops c known) r a.0 z.0 a.2 z.2) ∙ sym z.1
 
-  holder_used : (e d : Place) → IsIn (shape_of c.forest) e d → IsUsed c.forest d
+  holder_used : (e d : Place) → IsIn (shape_of c.forest) e d → HoldsInUse c.forest d
   holder_used (Op i) (Block k) w = known.forest.ops.holders k i w
   holder_used (Block i) (RegionPlace k) w = known.forest.blocks.holders k i w
   holder_used (RegionPlace i) (Op k) w = known.forest.regions.holders k i w
@@ -226,7 +226,7 @@ module _ {O B : Type 0} (c : Program O B) (known : AreListed c) where
   holder_used (RegionPlace i) (Block k) w = absurd w
   holder_used (RegionPlace i) (RegionPlace k) w = absurd w
 
-  way : (n : ℕ) (e : Place) → EndsWithin (shape_of c.forest) n e → IsUsed c.forest e → IsWayUp c (node_at c e) (map (node_at c) (climb n (shape_of c.forest) (Some e)))
+  way : (n : ℕ) (e : Place) → EndsWithin (shape_of c.forest) n e → HoldsInUse c.forest e → IsWayUp c (node_at c e) (map (node_at c) (climb n (shape_of c.forest) (Some e)))
   way _ _ (ends_here n e none) used =
       subst (λ (r : List Place). IsWayUp c (node_at c e) (node_at c e ∷ map (node_at c) r)) (sym (ap (climb n (shape_of c.forest)) none ∙ climb_none n (shape_of c.forest)))
       (top (node_at c e) (λ d s. around_none (shape_of c.forest) e none (place_of_node d) (by_slots e d s)))

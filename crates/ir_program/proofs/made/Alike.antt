@@ -28,7 +28,7 @@ use Rattle.ir_program.proofs.lists.Levels.{has_slot}
 use Rattle.ir_program.proofs.lists.InBlocks.{in_blocks}
 use Rattle.ir_program.specs.Listed.{AreListed}
 use Rattle.ir_program.specs.Lists.{IsUnlinkedOperation, operations_in}
-use Rattle.ir_program.specs.Made.{MakesOperation}
+use Rattle.ir_program.specs.Made.{MakesBareOperation}
 use Rattle.ir_program.proofs.defined.OwnNumbers.{own-same}
 
 module _ {O B : Type 0} (c : Program O B) (f : Forest (OperationRecord O) (BlockRecord B) RegionRecord) where
@@ -141,7 +141,7 @@ module _ {O B : Type 0} (c : Program O B) (f : Forest (OperationRecord O) (Block
       (λ i h. let home = inv.homes i (subst (λ s. IsSome (held s i)) regions h) in (home.0, ap (has i) (in_ops home.0) ∙ home.1))
       inv
 
-  pub operation-made : (unspent : IsSpent c.forest.ops p.key → ⊥) → KeepsSpent c.forest.ops f.ops → list_at f.in_ops.lists p.key.slot ≡ [] → IsForest c.forest → MakesOperation c (in_forest c f) p o.payload
+  pub operation-made : (unspent : IsSpent c.forest.ops p.key → ⊥) → KeepsSpent c.forest.ops f.ops → list_at f.in_ops.lists p.key.slot ≡ [] → IsForest c.forest → MakesBareOperation c (in_forest c f) p o.payload
   operation-made unspent kept bare forest = record {
     fresh = ap (option_map (operation_of c p)) fresh;
     unspent = unspent;

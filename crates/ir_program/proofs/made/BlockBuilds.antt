@@ -8,7 +8,7 @@ use Rattle.ir_program.specs.Lists.{operations_in, IsUnlinkedBlock}
 use Rattle.ir_program.specs.Edits.{IsUnchanged}
 use Rattle.ir_program.specs.Definers.{values_at}
 use Rattle.ir_program.specs.Adds.{numbered_values, AddsArguments}
-use Rattle.ir_program.specs.Made.{MakesBlock, BuildsBlock, TakesBackBlock}
+use Rattle.ir_program.specs.Made.{MakesBareBlock, BuildsBlock, TakesBackBlock}
 use Rattle.ir_program.specs.declared.handles.Ptr.{Ptr}
 use Rattle.ir_program.specs.declared.handles.Operation.{Operation}
 use Rattle.ir_program.specs.declared.handles.BasicBlock.{BasicBlock}
@@ -21,7 +21,7 @@ use Rattle.ir_program.proofs.made.AddSteps.{erased-then}
 use Rattle.ir_program.proofs.made.TakeBacks.{no-argument}
 use Rattle.ir_program.proofs.made.BuildSteps.{takes-used}
 
-module _ {O B : Type 0} (a b : Program O B) (p : Ptr BasicBlock) (payload : B) (makes : MakesBlock a b p payload) where
+module _ {O B : Type 0} (a b : Program O B) (p : Ptr BasicBlock) (payload : B) (makes : MakesBareBlock a b p payload) where
   pub made_block-types : (v : Value) → type_at b v ≡ type_at a v
   made_block-types = types-kept a b kept
     where

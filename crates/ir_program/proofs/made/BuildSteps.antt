@@ -8,7 +8,7 @@ use Rattle.ir_program.specs.Lists.{regions_in, IsUnlinkedOperation}
 use Rattle.ir_program.specs.Edits.{EditsOperation, IsUnchanged}
 use Rattle.ir_program.specs.Definers.{values_at}
 use Rattle.ir_program.specs.Adds.{SomeCame, numbered_values, AreLiveValues, AreLiveBlocks, AddsResults, AddsOperands, AddsSuccessors}
-use Rattle.ir_program.specs.Made.{MakesOperation, MakesRegions, AddsRegions, AddsRegionCount, AddsFewerRegions, FillsOperation, FillsSome, HasBareRegions, BuildsOperation, TakesBackOperation}
+use Rattle.ir_program.specs.Made.{MakesBareOperation, MakesRegions, AddsRegions, AddsRegionCount, AddsFewerRegions, FillsOperation, FillsSome, HasBareRegions, BuildsOperation, TakesBackOperation}
 use Rattle.ir_program.specs.declared.handles.Ptr.{Ptr}
 use Rattle.ir_program.specs.declared.handles.Operation.{Operation}
 use Rattle.ir_program.specs.declared.handles.BasicBlock.{BasicBlock}
@@ -80,7 +80,7 @@ module _ {O B : Type 0} where
       by None none = let e : slice_get (operands_at c p) k ≡ None = ap (λ y. slice_get (unwrap_or (option_map (λ (o : OperationView O). o.operands) y) []) k) none in cc
       by (Some o) some = (p, o, some, k, sym (ap (λ y. slice_get (unwrap_or (option_map (λ (z : OperationView O). z.operands) y) []) k) some) ∙ takes)
 
-  module _ (a b : Program O B) (p : Ptr Operation) (payload : O) (makes : MakesOperation a b p payload) where
+  module _ (a b : Program O B) (p : Ptr Operation) (payload : O) (makes : MakesBareOperation a b p payload) where
     pub made-types : (v : Value) → type_at b v ≡ type_at a v
     made-types = types-kept a b kept
       where

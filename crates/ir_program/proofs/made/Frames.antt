@@ -5,7 +5,7 @@ use Rattle.ir_arena.specs.declared.arena.Key.{Key}
 use Rattle.ir_arena.specs.declared.arena.Slot.{Slot}
 use Rattle.ir_arena.specs.Arena.{get}
 use Rattle.ir_arena.specs.Lends.{with_value}
-use Rattle.ir_entities.specs.Uses.{Uses, Place, key_of, place_of, named_of, Names}
+use Rattle.ir_entities.specs.Uses.{Uses, PlaceOfUse, key_of, place_of, named_of, NamesDefinition}
 use Rattle.ir_program.specs.Handles.{handle}
 use Rattle.ir_program.specs.Program.{Program, OperationView, BlockView, named_or, key_if, handles_of, operation_of, operation_at, block_of, block_at, definitions_of}
 use Rattle.ir_program.specs.Edits.{EditsOperation, EditsBlock, IsUnchanged}
@@ -36,15 +36,15 @@ map-same f g [] h = refl
 map-same f g (x ∷ xs) h = let here : f x ≡ g x = h 0 x refl in let rest : map f xs ≡ map g xs = map-same f g xs (λ k y e. h (suc k) y e) in rw (here, rest) refl
 
 -- where the places are the same, and the definitions that they name have their keys still, all places name what they named
-pub names-kept : {K : Type 0} (none : K) (u w : Uses K) → w.places ≡ u.places → ((q d : ℕ) → Names u q d → key_of w d ≡ key_of u d) → (x : ℕ) → named_or none w x ≡ named_or none u x
+pub names-kept : {K : Type 0} (none : K) (u w : Uses K) → w.places ≡ u.places → ((q d : ℕ) → NamesDefinition u q d → key_of w d ≡ key_of u d) → (x : ℕ) → named_or none w x ≡ named_or none u x
 names-kept none u w same keys x =
     let e : place_of w x ≡ place_of u x = ap (λ ps. slice_get_or ps x) same in
     ap (λ k. unwrap_or k none) (ap (λ o. key_if w (named_of o)) e ∙ by (place_of u x) refl)
   where
-    slice_get_or : List (Option Place) → ℕ → Option Place
+    slice_get_or : List (Option PlaceOfUse) → ℕ → Option PlaceOfUse
     slice_get_or ps x = place_of (record u { places = ps }) x
 
-    by : (o : Option Place) → place_of u x ≡ o → key_if w (named_of o) ≡ key_if u (named_of o)
+    by : (o : Option PlaceOfUse) → place_of u x ≡ o → key_if w (named_of o) ≡ key_if u (named_of o)
     by None h = refl
     by (Some y) h = keys x y.definition (ap named_of h)
 

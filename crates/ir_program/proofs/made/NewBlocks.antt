@@ -9,12 +9,12 @@ use Rattle.ir_arena.specs.Arena.{get, held, slot_at, SetsSlot, ClearsSlot, Updat
 use Rattle.ir_arena.specs.Lends.{with_value}
 use Rattle.ir_entities.specs.Links.{list_at, has}
 use Rattle.ir_entities.specs.Forest.{Forest, IsForest}
-use Rattle.ir_entities.specs.Uses.{Uses, key_of, place_of, Names, IsDefined, SetsKey}
+use Rattle.ir_entities.specs.Uses.{Uses, key_of, place_of, NamesDefinition, IsDefined, SetsKey}
 use Rattle.ir_entities.proofs.Placed.{placed-same}
 use Rattle.ir_program.specs.Program.{Program, handles_of, operation_of, block_of, block_named, region_of, definitions_of, numbered}
 use Rattle.ir_program.specs.Sound.{IsProgram, IsThreaded, AreNumbered, operand_row, successor_row, thread_of_block}
 use Rattle.ir_program.specs.Edits.{IsUnchanged}
-use Rattle.ir_program.specs.Made.{MakesBlock}
+use Rattle.ir_program.specs.Made.{MakesBareBlock}
 use Rattle.ir_program.specs.Listed.{AreListed}
 use Rattle.ir_program.specs.Lists.{IsUnlinkedBlock, blocks_in}
 use Rattle.ir_program.specs.declared.handles.Ptr.{Ptr}
@@ -161,7 +161,7 @@ module _ {O B : Type 0} (c : Program O B) (f : Forest (OperationRecord O) (Block
     }
 
     pub block-made : (unspent : IsSpent c.forest.blocks p.key → ⊥) → KeepsSpent c.forest.blocks f.blocks → list_at f.in_blocks.lists p.key.slot ≡ [] → IsForest c.forest
-        → ((q d : ℕ) → Names c.targets q d → IsDefined c.targets d) → (payload : B) → b.payload ≡ payload → MakesBlock c with_new_block p payload
+        → ((q d : ℕ) → NamesDefinition c.targets q d → IsDefined c.targets d) → (payload : B) → b.payload ≡ payload → MakesBareBlock c with_new_block p payload
     block-made unspent kept bare forest known payload carried =
         let named : (x : ℕ) → block_named w x ≡ block_named c.targets x = names-kept _ c.targets w places (λ q d names. defined.others d (λ e. let h : IsSome (key_of c.targets d) = known q d names in let n : key_of c.targets d ≡ None = ap (key_of c.targets) e ∙ free in cc)) in
         record {

@@ -2,7 +2,7 @@
 use Rattle.std.proofs.Common.{◌≡◌, ◌≢◌, ℕ, zero, suc, ◌≤◌, ◌++◌, List, [], ◌∷◌, length, map, insert, remove, set, Option, Some, None, unwrap_or, slice_get, ⊎_elim, refl, sym, ap, ◌∙◌, subst, arith}
 use Rattle.std.proofs.lemmas.Bool.{cases_eq}
 use Rattle.std.proofs.lemmas.List.{map-append}
-use Rattle.ir_entities.specs.Uses.{Uses, Place, key_of, place_of, named_of, SetsPlace, naming}
+use Rattle.ir_entities.specs.Uses.{Uses, PlaceOfUse, key_of, place_of, named_of, SetsPlace, naming}
 use Rattle.ir_entities.specs.Placed.{place_at, shifted_up, shifted_down, StandsAlike}
 use Rattle.ir_entities.specs.Rows.{IsRowOf, PushesIn, InsertsIn, RemovesIn}
 use Rattle.ir_entities.proofs.Placed.{no_place, user_kept}
@@ -32,18 +32,18 @@ map-set f g (x ∷ xs) zero y here others = let first : f x ≡ y = here x refl 
 map-set f g (x ∷ xs) (suc k) y here others = let first : f x ≡ g x = others zero x (λ h. omega arith) refl in let rest : map f xs ≡ set (map g xs) k y = map-set f g xs k y here (λ j z n e. others (suc j) z (λ h. n (omega arith)) e) in rw (first, rest) refl
 
 -- a place of another user than i names what it named
-abbrev pub KeepsNames : (ℕ → Option Place) → (ℕ → Option Place) → ℕ → Type 0
-KeepsNames place new i = (q : ℕ) (x : Place) → place q ≡ Some x → x.user ≢ i → named_of (new q) ≡ Some x.definition
+abbrev pub KeepsNames : (ℕ → Option PlaceOfUse) → (ℕ → Option PlaceOfUse) → ℕ → Type 0
+KeepsNames place new i = (q : ℕ) (x : PlaceOfUse) → place q ≡ Some x → x.user ≢ i → named_of (new q) ≡ Some x.definition
 
-up_named : (i k : ℕ) (o : Option Place) → named_of (shifted_up i k o) ≡ named_of o
+up_named : (i k : ℕ) (o : Option PlaceOfUse) → named_of (shifted_up i k o) ≡ named_of o
 up_named i k None = refl
 up_named i k (Some x) = refl
 
-down_named : (i k : ℕ) (o : Option Place) → named_of (shifted_down i k o) ≡ named_of o
+down_named : (i k : ℕ) (o : Option PlaceOfUse) → named_of (shifted_down i k o) ≡ named_of o
 down_named i k None = refl
 down_named i k (Some x) = refl
 
-module _ (place new : ℕ → Option Place) (row rows : List ℕ) (i : ℕ) where
+module _ (place new : ℕ → Option PlaceOfUse) (row rows : List ℕ) (i : ℕ) where
   pub pushed-keeps : (p d : ℕ) → PushesIn place new row rows i p d → KeepsNames place new i
   pushed-keeps p d pushes q x e n = ap named_of (pushes.others q (λ s. no_place x (sym pushes.fresh ∙ (ap place (sym s) ∙ e))) ∙ e)
 
@@ -105,7 +105,7 @@ module _ {K : Type 0} (none : K) (u w : Uses K) (definitions : w.definitions ≡
     pub renamed-named : (k p d : ℕ) (v : K) → slice_get row k ≡ Some p → SetsPlace u w p (naming d (place_of u p)) → key_of u d ≡ Some v → map (named_or none w) row ≡ set (map (named_or none u) row) k v
     renamed-named k p d v stood sets e = map-set _ _ row k v here others
       where
-        named_naming : (o : Option Place) (x : Place) → o ≡ Some x → named_of (naming d o) ≡ Some d
+        named_naming : (o : Option PlaceOfUse) (x : PlaceOfUse) → o ≡ Some x → named_of (naming d o) ≡ Some d
         named_naming None x h = absurd (no_place x h)
         named_naming (Some y) x h = refl
 
@@ -119,11 +119,11 @@ module _ {K : Type 0} (none : K) (u w : Uses K) (definitions : w.definitions ≡
         others j x n s = named-same x (ap named_of (sets.others x (λ h. n (row-distinct (place_of u) row i rowed j k x s (stood ∙ ap Some (sym h))))))
 
 -- a place that names another definition stands where it stood, and so do the others
-stands-self : (o : Option Place) → StandsAlike o o
+stands-self : (o : Option PlaceOfUse) → StandsAlike o o
 stands-self None = refl
 stands-self (Some x) = (x.definition, refl)
 
-stands-naming : (d : ℕ) (o : Option Place) → StandsAlike o (naming d o)
+stands-naming : (d : ℕ) (o : Option PlaceOfUse) → StandsAlike o (naming d o)
 stands-naming d None = refl
 stands-naming d (Some x) = (d, refl)
 

@@ -3,7 +3,7 @@ use Rattle.std.proofs.Common.{◌≡◌, ℕ, zero, suc, ◌<◌, ◌++◌, get_
 use Rattle.std.proofs.lemmas.List.{length-map}
 use Rattle.std.proofs.lemmas.Option.{slice_get-map, slice_get_read, same_Some}
 use Rattle.ir_arena.specs.Arena.{get}
-use Rattle.ir_entities.specs.Uses.{Uses, Place, key_of, place_of, named_of, IsDefined, Names}
+use Rattle.ir_entities.specs.Uses.{Uses, PlaceOfUse, key_of, place_of, named_of, IsDefined, NamesDefinition}
 use Rattle.ir_entities.specs.Rows.{IsRowOf}
 use Rattle.ir_entities.proofs.RowEdits.{placed-row}
 use Rattle.ir_program.specs.Program.{Program, OperationView, operation_at, operation_of, block_at, block_of, definition_at, named_or, value_named, block_named, IsLiveValue}
@@ -21,15 +21,15 @@ use Rattle.ir_program.proofs.made.Lent.{held-was}
 use Rattle.ir_program.proofs.rows.RowNames.{named-is}
 
 -- what stands in a row is in use
-pub row-place : (place : ℕ → Option Place) (row : List ℕ) (i k x : ℕ) → IsRowOf place row i → slice_get row k ≡ Some x → IsSome (place x)
+pub row-place : (place : ℕ → Option PlaceOfUse) (row : List ℕ) (i k x : ℕ) → IsRowOf place row i → slice_get row k ≡ Some x → IsSome (place x)
 row-place place row i k x rowed e = let its = rowed.held k x e in rw its.1 refl
 
 -- what is seen at an index of a row is the key of what the place there names
-pub row-named : {K : Type 0} (none : K) (u : Uses K) (row : List ℕ) (k x d : ℕ) (v : K) → slice_get row k ≡ Some x → Names u x d → key_of u d ≡ Some v → slice_get (map (named_or none u) row) k ≡ Some v
+pub row-named : {K : Type 0} (none : K) (u : Uses K) (row : List ℕ) (k x d : ℕ) (v : K) → slice_get row k ≡ Some x → NamesDefinition u x d → key_of u d ≡ Some v → slice_get (map (named_or none u) row) k ≡ Some v
 row-named none u row k x d v e names key = slice_get-map (named_or none u) row k ∙ (ap (option_map (named_or none u)) e ∙ ap Some (named-is none u u refl x d v names key))
 
 -- what is seen at an index of a row is a key in use
-pub row-keyed : {K : Type 0} (none : K) (u : Uses K) (row : List ℕ) (i k : ℕ) (v : K) → IsRowOf (place_of u) row i → ((x d : ℕ) → Names u x d → IsDefined u d)
+pub row-keyed : {K : Type 0} (none : K) (u : Uses K) (row : List ℕ) (i k : ℕ) (v : K) → IsRowOf (place_of u) row i → ((x d : ℕ) → NamesDefinition u x d → IsDefined u d)
     → slice_get (map (named_or none u) row) k ≡ Some v → (d : ℕ) × (key_of u d ≡ Some v)
 row-keyed {K} none u row i k v rowed named seen = by (slice_get row k) refl (sym (slice_get-map (named_or none u) row k) ∙ seen)
   where
@@ -66,10 +66,10 @@ module _ {O B : Type 0} (c : Program O B) (p : Ptr Operation) (o : OperationReco
   operand-stood k x l h = slice_get_read o.operands.items _ k x (ap length operands-are ∙ length-map o.operands.items (value_named c.values)) l h
 
   -- the operand that is seen there
-  pub operand-named : (k x d : ℕ) (v : Value) → slice_get o.operands.items k ≡ Some x → Names c.values x d → key_of c.values d ≡ Some v → slice_get (operands_at c p) k ≡ Some v
+  pub operand-named : (k x d : ℕ) (v : Value) → slice_get o.operands.items k ≡ Some x → NamesDefinition c.values x d → key_of c.values d ≡ Some v → slice_get (operands_at c p) k ≡ Some v
   operand-named k x d v e names key = ap (λ xs. slice_get xs k) operands-are ∙ row-named _ c.values o.operands.items k x d v e names key
 
-  pub successor-named : (k x d : ℕ) (b : Ptr BasicBlock) → slice_get o.successors.items k ≡ Some x → Names c.targets x d → key_of c.targets d ≡ Some b → slice_get (successors_at c p) k ≡ Some b
+  pub successor-named : (k x d : ℕ) (b : Ptr BasicBlock) → slice_get o.successors.items k ≡ Some x → NamesDefinition c.targets x d → key_of c.targets d ≡ Some b → slice_get (successors_at c p) k ≡ Some b
   successor-named k x d b e names key = ap (λ xs. slice_get xs k) successors-are ∙ row-named _ c.targets o.successors.items k x d b e names key
 
   pub successor-stood : (k x : ℕ) → k < length (successors_at c p) → x ≡ get_or o.successors.items k x → slice_get o.successors.items k ≡ Some x
@@ -94,7 +94,7 @@ known-block {O} {B} c d b inv key = by (get c.forest.blocks b.key) ((inv.blocks 
     by (Some y) h = refl
 
 -- each operand stands at its definer
-pub operand-live : {O B : Type 0} (c : Program O B) → IsProgram c → ((x d : ℕ) → Names c.values x d → IsDefined c.values d)
+pub operand-live : {O B : Type 0} (c : Program O B) → IsProgram c → ((x d : ℕ) → NamesDefinition c.values x d → IsDefined c.values d)
     → (p : Ptr Operation) (k : ℕ) (v : Value) → slice_get (operands_at c p) k ≡ Some v → IsLiveValue c v
 operand-live {O} {B} c inv named p k v seen = by (get c.forest.ops p.key) refl
   where
@@ -107,7 +107,7 @@ operand-live {O} {B} c inv named p k v seen = by (get c.forest.ops p.key) refl
         known-value c key.0 v inv key.1
 
 -- each successor is there
-pub successor-live : {O B : Type 0} (c : Program O B) → IsProgram c → ((x d : ℕ) → Names c.targets x d → IsDefined c.targets d)
+pub successor-live : {O B : Type 0} (c : Program O B) → IsProgram c → ((x d : ℕ) → NamesDefinition c.targets x d → IsDefined c.targets d)
     → (p : Ptr Operation) (k : ℕ) (b : Ptr BasicBlock) → slice_get (successors_at c p) k ≡ Some b → IsSome (block_at c b)
 successor-live {O} {B} c inv named p k b seen = by (get c.forest.ops p.key) refl
   where

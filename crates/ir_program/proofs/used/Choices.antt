@@ -4,21 +4,21 @@ use Rattle.std.proofs.lemmas.Bool.{cases_eq, cases_Bool, eq-eqb, ne_eqb, both_wa
 use Rattle.std.proofs.lemmas.Fn.{says}
 use denote.Param.Members.{Shared}
 use denote.Ref.{Bor}
-use Rattle.ir_entities.specs.Links.{has, AreDistinct}
-use Rattle.ir_entities.specs.Uses.{Uses, Names, AreUsesOf}
-use Rattle.ir_program.specs.Replacing.{Answers}
+use Rattle.ir_entities.specs.Links.{has, AreDistinctNumbers}
+use Rattle.ir_entities.specs.Uses.{Uses, NamesDefinition, AreNamingPlaces}
+use Rattle.ir_program.specs.Replacing.{MayAnswerOfUse}
 use Rattle.ir_program.proofs.used.Renames.{has-pushed, has-other}
 
 -- of the places that name definition d, all but the rest were asked about, and those to which the answer was true are chosen
 pub record IsChoosing {K : Type 0} (u : Uses K) (d : ℕ) (answers : ℕ → Bool → Type 0) (rest chosen : List ℕ) : Type 0 where
-  pub distinct : AreDistinct rest
-  pub left : (q : ℕ) → has q rest ≡ true → Names u q d
-  pub among : (q : ℕ) → has q chosen ≡ true → Names u q d
+  pub distinct : AreDistinctNumbers rest
+  pub left : (q : ℕ) → has q rest ≡ true → NamesDefinition u q d
+  pub among : (q : ℕ) → has q chosen ≡ true → NamesDefinition u q d
   pub apart : (q : ℕ) → has q chosen ≡ true → has q rest ≡ false
-  pub answered : (q : ℕ) → Names u q d → has q rest ≡ false → answers q (has q chosen)
+  pub answered : (q : ℕ) → NamesDefinition u q d → has q rest ≡ false → answers q (has q chosen)
 
 module _ {K : Type 0} (u : Uses K) (d : ℕ) (answers : ℕ → Bool → Type 0) where
-  pub choosing-none : (all : List ℕ) → AreUsesOf u d all → IsChoosing u d answers all []
+  pub choosing-none : (all : List ℕ) → AreNamingPlaces u d all → IsChoosing u d answers all []
   choosing-none all uses = record {
     distinct = uses.distinct;
     left = λ q h. (uses.exact q).0 h;
@@ -78,5 +78,5 @@ module _ {K : Type 0} (u : Uses K) (d : ℕ) (answers : ℕ → Bool → Type 0)
     }
 
 -- what a call of the predicate answered
-pub answers-called : {F P U : Type 0} (g : Shared F (Bor P × (Bor U × Unit {0})) Bool) {f : F} {p : Bor P} {q : Bor U} {r b : Bool} (c : P) (u : U) → g.post f (p, (q, tt)) r → r ≡ b → p.now ≡ c → q.now ≡ u → Answers g f c u b
+pub answers-called : {F P U : Type 0} (g : Shared F (Bor P × (Bor U × Unit {0})) Bool) {f : F} {p : Bor P} {q : Bor U} {r b : Bool} (c : P) (u : U) → g.post f (p, (q, tt)) r → r ≡ b → p.now ≡ c → q.now ≡ u → MayAnswerOfUse g f c u b
 answers-called g {f} {p} {q} c u h e program asked = record { program = p; asked = q; shows = (program, asked); says = says g h e }

@@ -5,7 +5,7 @@ use Rattle.ir_arena.specs.declared.arena.Slot.{Slot}
 use Rattle.ir_arena.specs.Arena.{get, held}
 use Rattle.ir_entities.specs.Links.{has}
 use Rattle.ir_entities.specs.Placed.{IsPlaced, place_at}
-use Rattle.ir_entities.specs.Uses.{Uses, key_of, place_of, naming, IsDefined, Names}
+use Rattle.ir_entities.specs.Uses.{Uses, key_of, place_of, naming, IsDefined, NamesDefinition}
 use Rattle.ir_program.specs.Program.{named_or}
 use Rattle.ir_program.specs.Replacing.{with_chosen, Chooses}
 use Rattle.ir_program.specs.Spots.{use_at}
@@ -29,18 +29,18 @@ is_chosen chosen None = false
 is_chosen chosen (Some q) = has q chosen
 
 module _ {R K : Type 0} (none : K) (u : Uses K) (ops : List (Slot R)) (cell : R → List ℕ) (placed : IsPlaced (place_of u) (λ i. unwrap_or (option_map cell (held ops i)) []))
-    (t : ℕ) (x : K) (key : key_of u t ≡ Some x) (only : (d : ℕ) → key_of u d ≡ Some x → d ≡ t) (known : (q d : ℕ) → Names u q d → IsDefined u d)
+    (t : ℕ) (x : K) (key : key_of u t ≡ Some x) (only : (d : ℕ) → key_of u d ≡ Some x → d ≡ t) (known : (q d : ℕ) → NamesDefinition u q d → IsDefined u d)
     (chosen : List ℕ) where
   -- the uses at these places
   abbrev pub choice : Use K → Bool
   choice y = is_chosen chosen (slice_get (unwrap_or (option_map cell (get ops y.user_op.key)) []) y.index)
 
-  pub choice-chooses : (among : (q : ℕ) → has q chosen ≡ true → Names u q t) (answers : Use K → Bool → Type 0)
-      → ((q : ℕ) → Names u q t → answers (use_at (named_or none u) ops u q) (has q chosen)) → Chooses (seen_rows none u ops cell) answers x choice
+  pub choice-chooses : (among : (q : ℕ) → has q chosen ≡ true → NamesDefinition u q t) (answers : Use K → Bool → Type 0)
+      → ((q : ℕ) → NamesDefinition u q t → answers (use_at (named_or none u) ops u q) (has q chosen)) → Chooses (seen_rows none u ops cell) answers x choice
   choice-chooses among answers answered = record {
     answered = λ y given is.
         let at = use-stands none u ops cell placed y given in
-        let names : Names u at.0 t = named-thread none u ops cell placed t x key only known at.0 at.2 (ap (λ (z : Use K). z.def) at.3 ∙ is) in
+        let names : NamesDefinition u at.0 t = named-thread none u ops cell placed t x key only known at.0 at.2 (ap (λ (z : Use K). z.def) at.3 ∙ is) in
         subst (answers y) (sym (ap (is_chosen chosen) at.1)) (subst (λ z. answers z (has at.0 chosen)) at.3 (answered at.0 names));
     others = λ y given ne.
         let at = use-stands none u ops cell placed y given in

@@ -6,7 +6,7 @@ use Rattle.ir_arena.specs.declared.arena.Slot.{Slot}
 use Rattle.ir_arena.specs.Arena.{get, held}
 use Rattle.ir_entities.specs.Forest.{pointer_to}
 use Rattle.ir_entities.specs.Placed.{IsPlaced, place_at}
-use Rattle.ir_entities.specs.Uses.{Uses, Place, key_of, place_of, named_of, IsDefined, IsPlace, Names, AreUsesOf}
+use Rattle.ir_entities.specs.Uses.{Uses, PlaceOfUse, key_of, place_of, named_of, IsDefined, IsPlace, NamesDefinition, AreNamingPlaces}
 use Rattle.ir_program.specs.Handles.{handle}
 use Rattle.ir_program.specs.Program.{named_or}
 use Rattle.ir_program.specs.Spots.{user_at, index_at, use_at}
@@ -31,10 +31,10 @@ from_map {X} {Y} f xs i y e = by (slice_get xs i) refl
     by (Some x) h = (x, h, same_Some (f x) y (sym (slice_get-map f xs i ∙ ap (option_map f) h) ∙ e))
 
 -- what names a definition is in use
-pub named-place : {K : Type 0} (u : Uses K) (q d : ℕ) → Names u q d → IsPlace u q
+pub named-place : {K : Type 0} (u : Uses K) (q d : ℕ) → NamesDefinition u q d → IsPlace u q
 named-place u q d names = by (place_of u q) names
   where
-    by : (o : Option Place) → named_of o ≡ Some d → IsSome o
+    by : (o : Option PlaceOfUse) → named_of o ≡ Some d → IsSome o
     by None h = cc
     by (Some x) h = refl
 
@@ -59,7 +59,7 @@ module _ {R K : Type 0} (none : K) (u : Uses K) (ops : List (Slot R)) (cell : R 
     stands : (q : ℕ) → IsPlace u q → slice_get (places_in (held ops (user_at (place_of u q)))) (index_at (place_of u q)) ≡ Some q
     stands q used = by (place_of u q) refl used
       where
-        by : (o : Option Place) → place_of u q ≡ o → IsSome o → slice_get (places_in (held ops (user_at o))) (index_at o) ≡ Some q
+        by : (o : Option PlaceOfUse) → place_of u q ≡ o → IsSome o → slice_get (places_in (held ops (user_at o))) (index_at o) ≡ Some q
         by None e h = cc
         by (Some x) e h = placed.all q x e
 
@@ -94,30 +94,30 @@ module _ {R K : Type 0} (none : K) (u : Uses K) (ops : List (Slot R)) (cell : R 
             let user : (use_of at.0).user_op ≡ y.user_op = ap (λ o. handle (pointer_to ops (user_at o))) its.1 ∙ handle_is ops y.user_op live in
             (at.0, at.1, some_is (place_of u at.0) (place_at its.0 y.user_op.key.slot y.index) its.1, same_use (use_of at.0) y user (ap index_at its.1) at.2)
 
-    module _ (t : ℕ) (x : K) (key : key_of u t ≡ Some x) (only : (d : ℕ) → key_of u d ≡ Some x → d ≡ t) (known : (q d : ℕ) → Names u q d → IsDefined u d) where
+    module _ (t : ℕ) (x : K) (key : key_of u t ≡ Some x) (only : (d : ℕ) → key_of u d ≡ Some x → d ≡ t) (known : (q d : ℕ) → NamesDefinition u q d → IsDefined u d) where
       -- a place that names x names its thread
-      pub named-thread : (q : ℕ) → IsPlace u q → named_or none u q ≡ x → Names u q t
+      pub named-thread : (q : ℕ) → IsPlace u q → named_or none u q ≡ x → NamesDefinition u q t
       named-thread q used is = by (place_of u q) refl used
         where
-          by_key : (d : ℕ) → Names u q d → (o : Option K) → key_of u d ≡ o → Names u q t
+          by_key : (d : ℕ) → NamesDefinition u q d → (o : Option K) → key_of u d ≡ o → NamesDefinition u q t
           by_key d names None e = let k : IsDefined u d = known q d names in cc
           by_key d names (Some z) e = let v : named_or none u q ≡ z = named-is none u u refl q d z names e in names ∙ ap Some (only d (e ∙ ap Some (sym v ∙ is)))
 
-          by : (o : Option Place) → place_of u q ≡ o → IsSome o → Names u q t
+          by : (o : Option PlaceOfUse) → place_of u q ≡ o → IsSome o → NamesDefinition u q t
           by None e h = cc
           by (Some y) e h = by_key y.definition (ap named_of e) (key_of u y.definition) refl
 
       -- a use of x stands at a place of its thread
-      pub use-place : (y : Use K) → IsUseIn seen_rows y → y.def ≡ x → (q : ℕ) × Names u q t × (use_of q ≡ y)
+      pub use-place : (y : Use K) → IsUseIn seen_rows y → y.def ≡ x → (q : ℕ) × NamesDefinition u q t × (use_of q ≡ y)
       use-place y given is =
           let at = use-stands y given in
           (at.0, named-thread at.0 at.2 (ap (λ (z : Use K). z.def) at.3 ∙ is), at.3)
 
       -- a place of its thread is a use of x
-      pub thread-use : (q : ℕ) → Names u q t → IsUseIn seen_rows (use_of q) × ((use_of q).def ≡ x)
+      pub thread-use : (q : ℕ) → NamesDefinition u q t → IsUseIn seen_rows (use_of q) × ((use_of q).def ≡ x)
       thread-use q names = (place-use q (named-place u q t names), named-is none u u refl q t x names key)
 
-      pub uses-seen : (ps : List ℕ) → AreUsesOf u t ps → AreUsesIn seen_rows x (map use_of ps)
+      pub uses-seen : (ps : List ℕ) → AreNamingPlaces u t ps → AreUsesIn seen_rows x (map use_of ps)
       uses-seen ps uses = record {
         once = λ i j y e f.
             let a = from_map use_of ps i y e in
@@ -136,5 +136,5 @@ module _ {R K : Type 0} (none : K) (u : Uses K) (ops : List (Slot R)) (cell : R 
           used : (i q : ℕ) → slice_get ps i ≡ Some q → IsPlace u q
           used i q e = named-place u q t ((uses.exact q).0 (at_has ps i q e))
 
-      pub count-seen : (n : ℕ) → (ps : List ℕ) × AreUsesOf u t ps × (length ps ≡ n) → IsUseCountIn seen_rows x n
+      pub count-seen : (n : ℕ) → (ps : List ℕ) × AreNamingPlaces u t ps × (length ps ≡ n) → IsUseCountIn seen_rows x n
       count-seen n uses = (map use_of uses.0, uses-seen uses.0 uses.1, length-map uses.0 use_of ∙ uses.2)

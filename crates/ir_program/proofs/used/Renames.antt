@@ -3,7 +3,7 @@ use Rattle.std.proofs.Common.{◌≡◌, ◌≢◌, ℕ, suc, ◌+◌, Bool, tru
 use Rattle.std.proofs.lemmas.Bool.{cases_eq, eq-eqb, ne_eqb}
 use Rattle.ir_entities.specs.Links.{has}
 use Rattle.ir_entities.specs.Placed.{StandsAlike}
-use Rattle.ir_entities.specs.Uses.{Uses, Place, key_of, place_of, named_of, naming, renamed, SetsPlace, IsDefined, IsPlace, Names}
+use Rattle.ir_entities.specs.Uses.{Uses, PlaceOfUse, key_of, place_of, named_of, naming, renamed, SetsPlace, IsDefined, IsPlace, NamesDefinition}
 use Rattle.ir_entities.proofs.Segments.{has-append}
 use Rattle.ir_program.specs.Program.{named_or}
 use Rattle.ir_program.specs.Replacing.{with_chosen}
@@ -28,25 +28,25 @@ chosen-row chosen y p f g (q ∷ qs) k h =
     rw (first, rest) refl
 
 -- a place that names another definition stands where it stood
-pub renamed-alike : (from to : ℕ) (o : Option Place) → StandsAlike o (renamed from to o)
+pub renamed-alike : (from to : ℕ) (o : Option PlaceOfUse) → StandsAlike o (renamed from to o)
 renamed-alike from to None = refl
 renamed-alike from to (Some x) = (cond (eqb x.definition from) to x.definition, refl)
 
-pub chosen-alike : (b : Bool) (d : ℕ) (o : Option Place) → StandsAlike o (cond b (naming d o) o)
+pub chosen-alike : (b : Bool) (d : ℕ) (o : Option PlaceOfUse) → StandsAlike o (cond b (naming d o) o)
 chosen-alike true d None = refl
 chosen-alike true d (Some x) = (d, refl)
 chosen-alike false d None = refl
 chosen-alike false d (Some x) = (x.definition, refl)
 
-named_renamed : (from to : ℕ) (o : Option Place) → named_of o ≡ Some from → named_of (renamed from to o) ≡ Some to
+named_renamed : (from to : ℕ) (o : Option PlaceOfUse) → named_of o ≡ Some from → named_of (renamed from to o) ≡ Some to
 named_renamed from to None e = cc
 named_renamed from to (Some x) e = let same : x.definition ≡ from = cc in let t : eqb x.definition from ≡ true = eq-eqb x.definition from same in rw t refl
 
-named_kept : (from to d : ℕ) (o : Option Place) → d ≢ from → named_of o ≡ Some d → named_of (renamed from to o) ≡ Some d
+named_kept : (from to d : ℕ) (o : Option PlaceOfUse) → d ≢ from → named_of o ≡ Some d → named_of (renamed from to o) ≡ Some d
 named_kept from to d None ne e = cc
 named_kept from to d (Some x) ne e = let same : x.definition ≡ d = cc in let t : eqb x.definition from ≡ false = ne_eqb x.definition from (λ h. ne (sym same ∙ h)) in rw (t, same) refl
 
-named_naming : (d : ℕ) (o : Option Place) → IsSome o → named_of (naming d o) ≡ Some d
+named_naming : (d : ℕ) (o : Option PlaceOfUse) → IsSome o → named_of (naming d o) ≡ Some d
 named_naming d None h = cc
 named_naming d (Some x) h = refl
 
@@ -56,16 +56,16 @@ pub record IsTestOf {K : Type 0} (same : K → K → Bool) : Type 0 where
   pub yes : (x y : K) → x ≡ y → same x y ≡ true
   pub no : (x y : K) → x ≢ y → same x y ≡ false
 
-module _ {K : Type 0} (none : K) (u w : Uses K) (definitions : w.definitions ≡ u.definitions) (known : (q d : ℕ) → Names u q d → IsDefined u d) where
+module _ {K : Type 0} (none : K) (u w : Uses K) (definitions : w.definitions ≡ u.definitions) (known : (q d : ℕ) → NamesDefinition u q d → IsDefined u d) where
   -- what a place in use names has a key
-  keyed : (q : ℕ) → IsPlace u q → (d : ℕ) × (x : K) × Names u q d × (key_of u d ≡ Some x)
+  keyed : (q : ℕ) → IsPlace u q → (d : ℕ) × (x : K) × NamesDefinition u q d × (key_of u d ≡ Some x)
   keyed q used = by (place_of u q) refl used
     where
-      by_key : (d : ℕ) → Names u q d → (o : Option K) → key_of u d ≡ o → (d : ℕ) × (x : K) × Names u q d × (key_of u d ≡ Some x)
+      by_key : (d : ℕ) → NamesDefinition u q d → (o : Option K) → key_of u d ≡ o → (d : ℕ) × (x : K) × NamesDefinition u q d × (key_of u d ≡ Some x)
       by_key d names None e = let k : IsDefined u d = known q d names in cc
       by_key d names (Some x) e = (d, x, names, e)
 
-      by : (o : Option Place) → place_of u q ≡ o → IsSome o → (d : ℕ) × (x : K) × Names u q d × (key_of u d ≡ Some x)
+      by : (o : Option PlaceOfUse) → place_of u q ≡ o → IsSome o → (d : ℕ) × (x : K) × NamesDefinition u q d × (key_of u d ≡ Some x)
       by None e h = cc
       by (Some y) e h = by_key y.definition (ap named_of e) (key_of u y.definition) refl
 
@@ -76,7 +76,7 @@ module _ {K : Type 0} (none : K) (u w : Uses K) (definitions : w.definitions ≡
       let at = keyed q used in
       ⊎_elim
       (λ (e : at.0 ≡ from).
-      let names : Names u q from = at.2 ∙ ap Some e in
+      let names : NamesDefinition u q from = at.2 ∙ ap Some e in
       let was : named_or none u q ≡ x = named-is none u u refl q from x names key in
       let now : named_or none w q ≡ y = named-is none u w definitions q to y (ap named_of is ∙ named_renamed from to (place_of u q) names) key_to in
       now ∙ sym (ap (λ b. cond b y (named_or none u q)) (test.yes (named_or none u q) x was)))
@@ -92,12 +92,12 @@ module _ {K : Type 0} (none : K) (u w : Uses K) (definitions : w.definitions ≡
   chosen-named to y key false q used is = named-same none u w definitions q (ap named_of is)
 
 -- places that are renamed one after the other
-naming_twice : (d : ℕ) (b : Bool) (o : Option Place) → naming d (cond b (naming d o) o) ≡ naming d o
+naming_twice : (d : ℕ) (b : Bool) (o : Option PlaceOfUse) → naming d (cond b (naming d o) o) ≡ naming d o
 naming_twice d true None = refl
 naming_twice d true (Some x) = refl
 naming_twice d false o = refl
 
-pub still_place : (d : ℕ) (b : Bool) (o : Option Place) → IsSome o → IsSome (cond b (naming d o) o)
+pub still_place : (d : ℕ) (b : Bool) (o : Option PlaceOfUse) → IsSome o → IsSome (cond b (naming d o) o)
 still_place d true None h = cc
 still_place d true (Some x) h = refl
 still_place d false o h = h
@@ -118,10 +118,10 @@ has-other q p xs ne = has-append q xs (p ∷ []) ∙ ap (λ b. has q xs || (b ||
     or_false false = refl
 
 -- each place of the list now names d
-abbrev pub RenamesEach : (ℕ → Option Place) → (ℕ → Option Place) → List ℕ → ℕ → Type 0
+abbrev pub RenamesEach : (ℕ → Option PlaceOfUse) → (ℕ → Option PlaceOfUse) → List ℕ → ℕ → Type 0
 RenamesEach place new done d = (q : ℕ) → new q ≡ cond (has q done) (naming d (place q)) (place q)
 
-pub rename-one : {K : Type 0} (place : ℕ → Option Place) (u w : Uses K) (done : List ℕ) (p d : ℕ) → RenamesEach place (place_of u) done d → SetsPlace u w p (naming d (place_of u p)) → RenamesEach place (place_of w) (done ++ p ∷ []) d
+pub rename-one : {K : Type 0} (place : ℕ → Option PlaceOfUse) (u w : Uses K) (done : List ℕ) (p d : ℕ) → RenamesEach place (place_of u) done d → SetsPlace u w p (naming d (place_of u p)) → RenamesEach place (place_of w) (done ++ p ∷ []) d
 rename-one place u w done p d so_far sets q = ⊎_elim
     (λ (e : q ≡ p).
     let now : place_of w q ≡ naming d (place q) = ap (place_of w) e ∙ sets.changed ∙ ap (λ i. naming d (place_of u i)) (sym e) ∙ ap (naming d) (so_far q) ∙ naming_twice d (has q done) (place q) in

@@ -6,7 +6,7 @@ use Rattle.ir_arena.specs.declared.arena.Key.{Key}
 use Rattle.ir_arena.specs.Arena.{get, same}
 use Rattle.ir_entities.specs.Links.{has}
 use Rattle.ir_entities.specs.Placed.{StandsAlike}
-use Rattle.ir_entities.specs.Uses.{Uses, key_of, place_of, IsPlace, SetsPlace, naming, renamed, IsDefined, Names}
+use Rattle.ir_entities.specs.Uses.{Uses, key_of, place_of, IsPlace, SetsPlace, naming, renamed, IsDefined, NamesDefinition}
 use Rattle.ir_entities.proofs.Placed.{placed-renamed}
 use Rattle.ir_program.specs.Program.{Program, OperationView, no_handle, operation_of, value_named, block_named}
 use Rattle.ir_program.specs.Sound.{IsProgram, operand_row, successor_row, thread_of_value, thread_of_block}
@@ -133,7 +133,7 @@ module _ {O B : Type 0} (c : Program O B) (inv : IsProgram c) where
 -- of a program as it stands and as it was seen
 module _ {O B : Type 0} (c d : Program O B) (view : c ≡ d) (inv : IsProgram c) where
   -- all uses of a value
-  module _ (w : Uses Value) (keys : w.definitions ≡ c.values.definitions) (known : (q e : ℕ) → Names c.values q e → IsDefined c.values e)
+  module _ (w : Uses Value) (keys : w.definitions ≡ c.values.definitions) (known : (q e : ℕ) → NamesDefinition c.values q e → IsDefined c.values e)
       (from to : ℕ) (value other : Value) (key : key_of d.values from ≡ Some value) (key_to : key_of d.values to ≡ Some other)
       (renames : (q : ℕ) → place_of w q ≡ renamed from to (place_of c.values q)) where
     pub replaced-sound : IsProgram (record c { values = w })
@@ -155,13 +155,13 @@ module _ {O B : Type 0} (c d : Program O B) (view : c ≡ d) (inv : IsProgram c)
     pub chosen-sound : IsProgram (record c { values = w })
     chosen-sound = values-sound c inv w keys (λ q. subst (StandsAlike (place_of c.values q)) (sym (renames q)) (chosen-alike (has q chosen) to (place_of c.values q)))
 
-    module _ (known : (q e : ℕ) → Names c.values q e → IsDefined c.values e) (from : ℕ) (value other : Value) (answers : Program O B → Use Value → Bool → Type 0) where
+    module _ (known : (q e : ℕ) → NamesDefinition c.values q e → IsDefined c.values e) (from : ℕ) (value other : Value) (answers : Program O B → Use Value → Bool → Type 0) where
       -- some uses are chosen, and the other value stands there
       abbrev ReplacesChosen : Program O B → Type 0
       ReplacesChosen y = (choice : Use Value → Bool) × Chooses (operands_at y) (answers y) value choice × EditsOperations y (record c { values = w }) (λ p o. record o { operands = with_chosen choice other p 0 o.operands })
 
       abbrev HasChosen : Program O B → Type 0
-      HasChosen y = (key_of y.values from ≡ Some value) → (key_of y.values to ≡ Some other) → ((q : ℕ) → has q chosen ≡ true → Names y.values q from) → ((q : ℕ) → Names y.values q from → answers y (operand_use y q) (has q chosen)) → ReplacesChosen y
+      HasChosen y = (key_of y.values from ≡ Some value) → (key_of y.values to ≡ Some other) → ((q : ℕ) → has q chosen ≡ true → NamesDefinition y.values q from) → ((q : ℕ) → NamesDefinition y.values q from → answers y (operand_use y q) (has q chosen)) → ReplacesChosen y
 
       chosen-here : HasChosen c
       chosen-here key key_to among answered =
@@ -176,7 +176,7 @@ module _ {O B : Type 0} (c d : Program O B) (view : c ≡ d) (inv : IsProgram c)
       chosen-seen = subst HasChosen view chosen-here
 
   -- all edges to a block
-  module _ (w : Uses (Ptr BasicBlock)) (keys : w.definitions ≡ c.targets.definitions) (known : (q e : ℕ) → Names c.targets q e → IsDefined c.targets e)
+  module _ (w : Uses (Ptr BasicBlock)) (keys : w.definitions ≡ c.targets.definitions) (known : (q e : ℕ) → NamesDefinition c.targets q e → IsDefined c.targets e)
       (from to : ℕ) (block other : Ptr BasicBlock) (key : key_of d.targets from ≡ Some block) (key_to : key_of d.targets to ≡ Some other)
       (renames : (q : ℕ) → place_of w q ≡ renamed from to (place_of c.targets q)) where
     pub retargeted-sound : IsProgram (record c { targets = w })
@@ -198,13 +198,13 @@ module _ {O B : Type 0} (c d : Program O B) (view : c ≡ d) (inv : IsProgram c)
     pub edges-sound : IsProgram (record c { targets = w })
     edges-sound = targets-sound c inv w keys (λ q. subst (StandsAlike (place_of c.targets q)) (sym (renames q)) (chosen-alike (has q chosen) to (place_of c.targets q)))
 
-    module _ (known : (q e : ℕ) → Names c.targets q e → IsDefined c.targets e) (from : ℕ) (block other : Ptr BasicBlock) (answers : Program O B → Use (Ptr BasicBlock) → Bool → Type 0) where
+    module _ (known : (q e : ℕ) → NamesDefinition c.targets q e → IsDefined c.targets e) (from : ℕ) (block other : Ptr BasicBlock) (answers : Program O B → Use (Ptr BasicBlock) → Bool → Type 0) where
       -- some edges are chosen, and lead to the other block
       abbrev RetargetsChosen : Program O B → Type 0
       RetargetsChosen y = (choice : Use (Ptr BasicBlock) → Bool) × Chooses (successors_at y) (answers y) block choice × EditsOperations y (record c { targets = w }) (λ p o. record o { successors = with_chosen choice other p 0 o.successors })
 
       abbrev HasEdges : Program O B → Type 0
-      HasEdges y = (key_of y.targets from ≡ Some block) → (key_of y.targets to ≡ Some other) → ((q : ℕ) → has q chosen ≡ true → Names y.targets q from) → ((q : ℕ) → Names y.targets q from → answers y (successor_use y q) (has q chosen)) → RetargetsChosen y
+      HasEdges y = (key_of y.targets from ≡ Some block) → (key_of y.targets to ≡ Some other) → ((q : ℕ) → has q chosen ≡ true → NamesDefinition y.targets q from) → ((q : ℕ) → NamesDefinition y.targets q from → answers y (successor_use y q) (has q chosen)) → RetargetsChosen y
 
       edges-here : HasEdges c
       edges-here key key_to among answered =

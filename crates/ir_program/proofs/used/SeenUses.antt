@@ -3,7 +3,7 @@ use Rattle.std.proofs.Common.{◌≡◌, ℕ, List, [], map, length, Option, Som
 use Rattle.std.proofs.lemmas.Option.{same_Some}
 use Rattle.ir_entities.specs.declared.uses.Spot.{Spot}
 use Rattle.ir_arena.specs.Arena.{get, held}
-use Rattle.ir_entities.specs.Uses.{Uses, Place, key_of, place_of, spot_of, IsDefined, Names, AreUsesOf as ArePlacesOf}
+use Rattle.ir_entities.specs.Uses.{Uses, PlaceOfUse, key_of, place_of, spot_of, IsDefined, NamesDefinition, AreNamingPlaces as ArePlacesOf}
 use Rattle.ir_program.specs.Program.{Program, OperationView, no_handle, operation_of, value_named, block_named}
 use Rattle.ir_program.specs.Rows.{operands_at, successors_at}
 use Rattle.ir_program.specs.Sound.{IsProgram, IsThreaded, thread_of_value, thread_of_block}
@@ -54,7 +54,7 @@ module _ {O B : Type 0} (c : Program O B) where
 pub edge-key : {O B : Type 0} (c : Program O B) (b : Ptr BasicBlock) (r : BlockRecord B) → IsProgram c → get c.forest.blocks b.key ≡ Some r → key_of c.targets r.thread ≡ Some b
 edge-key c b r inv here = (inv.blocks b r.thread).0 (ap (option_map (λ (x : BlockRecord _). x.thread)) here)
 
-spotted : (o : Option Place) (s : Spot) → spot_of o ≡ Some s → IsSome o × (user_at o ≡ s.user)
+spotted : (o : Option PlaceOfUse) (s : Spot) → spot_of o ≡ Some s → IsSome o × (user_at o ≡ s.user)
 spotted None s e = cc
 spotted (Some x) s e = (refl, ap (λ (y : Spot). y.user) (same_Some (record { user = x.user; index = x.index }) s e))
 
@@ -71,7 +71,7 @@ module _ {O B : Type 0} (c d : Program O B) (view : c ≡ d) (inv : IsProgram c)
       let at = spotted (place_of c.targets q) s e in
       subst (λ y. IsSome (held y.forest.ops s.user)) view (subst (λ i. IsSome (held c.forest.ops i)) at.1 (user-held no_handle c.targets c.forest.ops successor_cell inv.successors q at.0))
 
-  module _ (t : ℕ) (v : Value) (key : key_of d.values t ≡ Some v) (known : (q e : ℕ) → Names c.values q e → IsDefined c.values e) where
+  module _ (t : ℕ) (v : Value) (key : key_of d.values t ≡ Some v) (known : (q e : ℕ) → NamesDefinition c.values q e → IsDefined c.values e) where
     value-key : key_of c.values t ≡ Some v
     value-key = subst (λ y. key_of y.values t ≡ Some v) (sym view) key
 
@@ -88,16 +88,16 @@ module _ {O B : Type 0} (c d : Program O B) (view : c ≡ d) (inv : IsProgram c)
         subst (λ y. IsUseCount y v n) view (counted.0, uses-same _ (operands_at c) (operands-rows c) v counted.0 counted.1, counted.2)
 
     -- some operation takes the value exactly where a place names its thread
-    pub value-used : (((q : ℕ) × Names c.values q t) → IsUsed d v) × (IsUsed d v → (q : ℕ) × Names c.values q t)
+    pub value-used : (((q : ℕ) × NamesDefinition c.values q t) → IsUsed d v) × (IsUsed d v → (q : ℕ) × NamesDefinition c.values q t)
     value-used = (λ h. subst (λ y. IsUsed y v) view (named-used c inv v t h.0 value-key h.1), λ h. from (subst (λ y. IsUsed y v) (sym view) h))
       where
-        from : IsUsed c v → (q : ℕ) × Names c.values q t
+        from : IsUsed c v → (q : ℕ) × NamesDefinition c.values q t
         from (p, o, e, k, f) =
             let row : slice_get (operands_at c p) k ≡ Some v = ap (λ x. slice_get (unwrap_or (option_map (λ (w : OperationView O). w.operands) x) []) k) e ∙ f in
             let at = use-place no_value c.values c.forest.ops operand_cell inv.operands t v value-key value-thread known (record { user_op = p; index = k; def = v }) (ap (λ xs. slice_get xs k) (sym (operands-rows c p)) ∙ row) refl in
             (at.0, at.1)
 
-  module _ (t : ℕ) (b : Ptr BasicBlock) (key : key_of d.targets t ≡ Some b) (known : (q e : ℕ) → Names c.targets q e → IsDefined c.targets e) where
+  module _ (t : ℕ) (b : Ptr BasicBlock) (key : key_of d.targets t ≡ Some b) (known : (q e : ℕ) → NamesDefinition c.targets q e → IsDefined c.targets e) where
     block-key : key_of c.targets t ≡ Some b
     block-key = subst (λ y. key_of y.targets t ≡ Some b) (sym view) key
 
@@ -113,15 +113,15 @@ module _ {O B : Type 0} (c d : Program O B) (view : c ≡ d) (inv : IsProgram c)
         let counted = count-seen no_handle c.targets c.forest.ops successor_cell inv.successors t b block-key block-thread known n uses in
         subst (λ y. IsPredecessorCount y b n) view (counted.0, uses-same _ (successors_at c) (successors-rows c) b counted.0 counted.1, counted.2)
 
-    pub block-used : (((q : ℕ) × Names c.targets q t) → HasPredecessor d b) × (HasPredecessor d b → (q : ℕ) × Names c.targets q t)
+    pub block-used : (((q : ℕ) × NamesDefinition c.targets q t) → HasPredecessor d b) × (HasPredecessor d b → (q : ℕ) × NamesDefinition c.targets q t)
     block-used = (λ h. subst (λ y. HasPredecessor y b) view (to h), λ h. from (subst (λ y. HasPredecessor y b) (sym view) h))
       where
-        to : (q : ℕ) × Names c.targets q t → HasPredecessor c b
+        to : (q : ℕ) × NamesDefinition c.targets q t → HasPredecessor c b
         to (q, names) =
             let x = thread-use no_handle c.targets c.forest.ops successor_cell inv.successors t b block-key block-thread known q names in
             (successor_use c q, ap (λ xs. slice_get xs (successor_use c q).index) (successors-rows c (successor_use c q).user_op) ∙ x.0, x.1)
 
-        from : HasPredecessor c b → (q : ℕ) × Names c.targets q t
+        from : HasPredecessor c b → (q : ℕ) × NamesDefinition c.targets q t
         from (y, given, is) =
             let at = use-place no_handle c.targets c.forest.ops successor_cell inv.successors t b block-key block-thread known y (ap (λ xs. slice_get xs y.index) (sym (successors-rows c y.user_op)) ∙ given) is in
             (at.0, at.1)

@@ -8,7 +8,7 @@ use Rattle.ir_entities.specs.Links.{has}
 use Rattle.ir_entities.specs.Placed.{place_at}
 use Rattle.ir_entities.specs.Rows.{IsRowOf}
 use Rattle.ir_entities.specs.Shape.{IsInside}
-use Rattle.ir_entities.specs.Uses.{Uses, key_of, place_of, named_of, Names, IsDefined}
+use Rattle.ir_entities.specs.Uses.{Uses, key_of, place_of, named_of, NamesDefinition, IsDefined}
 use Rattle.ir_program.specs.Erases.{MakeProgram, value_place, block_place}
 use Rattle.ir_program.specs.Erased.{IsApart, definer_node}
 use Rattle.ir_program.specs.Forgets.{value_threads_in, block_threads_in}
@@ -37,7 +37,7 @@ use Rattle.ir_program.proofs.defined.Stands.{get-held}
 use Rattle.ir_program.proofs.lists.There.{operation_there}
 
 -- what is seen at an index of a row is the key of what a place of that user and index names
-pub row-placed : {K : Type 0} (none : K) (u : Uses K) (row : List ℕ) (i k : ℕ) (v : K) → IsRowOf (place_of u) row i → ((x d : ℕ) → Names u x d → IsDefined u d)
+pub row-placed : {K : Type 0} (none : K) (u : Uses K) (row : List ℕ) (i k : ℕ) (v : K) → IsRowOf (place_of u) row i → ((x d : ℕ) → NamesDefinition u x d → IsDefined u d)
     → slice_get (map (named_or none u) row) k ≡ Some v → (t : ℕ) × (q : ℕ) × (place_of u q ≡ Some (place_at t i k)) × (key_of u t ≡ Some v)
 row-placed {K} none u row i k v rowed known seen = by (slice_get row k) refl (sym (slice_get-map (named_or none u) row k) ∙ seen)
   where
@@ -105,7 +105,7 @@ module _ {O B : Type 0} (c : Program O B) (inv : IsProgram c) where
     }
 
     module _ (all : AllApart) where
-      values-apart : ((q d : ℕ) → Names c.values q d → IsDefined c.values d) → (p : Ptr Operation) (k : ℕ) (v : Value) → slice_get (operands_at c p) k ≡ Some v → StandsInside c x (definer_node v.definer) → StandsInside c x (OperationNode p)
+      values-apart : ((q d : ℕ) → NamesDefinition c.values q d → IsDefined c.values d) → (p : Ptr Operation) (k : ℕ) (v : Value) → slice_get (operands_at c p) k ≡ Some v → StandsInside c x (definer_node v.definer) → StandsInside c x (OperationNode p)
       values-apart known p k v takes w = by (get c.forest.ops p.key) refl
         where
           inside : IsInside (shape_of c.forest) (place_of_node x) (value_place v)
@@ -118,7 +118,7 @@ module _ {O B : Type 0} (c : Program O B) (inv : IsProgram c) where
               let thread : has placed.0 (value_threads_in c.forest (value_place v)) ≡ true = (values-at c.forest c.values c.targets sound (value_place v)).all placed.0 v placed.3 refl in
               inside_by_handles c listed x live (OperationNode p) (operation_there c p (some_is (get c.forest.ops p.key) o here)) ((all (value_place v) inside).values placed.0 thread placed.1 p.key.slot k placed.2)
 
-      blocks-apart : ((q d : ℕ) → Names c.targets q d → IsDefined c.targets d) → (p : Ptr Operation) (k : ℕ) (b : Ptr BasicBlock) → slice_get (successors_at c p) k ≡ Some b → StandsInside c x (BlockNode b) → StandsInside c x (OperationNode p)
+      blocks-apart : ((q d : ℕ) → NamesDefinition c.targets q d → IsDefined c.targets d) → (p : Ptr Operation) (k : ℕ) (b : Ptr BasicBlock) → slice_get (successors_at c p) k ≡ Some b → StandsInside c x (BlockNode b) → StandsInside c x (OperationNode p)
       blocks-apart known p k b goes w = by (get c.forest.ops p.key) refl
         where
           by : (r : Option (OperationRecord O)) → get c.forest.ops p.key ≡ r → StandsInside c x (OperationNode p)
@@ -128,12 +128,12 @@ module _ {O B : Type 0} (c : Program O B) (inv : IsProgram c) where
               let thread : has placed.0 (block_threads_in c.forest (block_place b)) ≡ true = (blocks-at c.forest c.values c.targets sound (block_place b)).all placed.0 b placed.3 refl in
               inside_by_handles c listed x live (OperationNode p) (operation_there c p (some_is (get c.forest.ops p.key) o here)) ((all (block_place b) (inside_by_slots c x (BlockNode b) w)).blocks placed.0 thread placed.1 p.key.slot k placed.2)
 
-    pub apart-seen : ((q d : ℕ) → Names c.values q d → IsDefined c.values d) → ((q d : ℕ) → Names c.targets q d → IsDefined c.targets d) → AllApart → IsApart c x
+    pub apart-seen : ((q d : ℕ) → NamesDefinition c.values q d → IsDefined c.values d) → ((q d : ℕ) → NamesDefinition c.targets q d → IsDefined c.targets d) → AllApart → IsApart c x
     apart-seen known_values known_blocks all = record { values = values-apart all known_values; blocks = blocks-apart all known_blocks }
 
 -- the same of the program as its calls see it
 pub apart-told : {O B : Type 0} (i c : Program O B) → i ≡ c → IsProgram i → AreListed c → (x : IRNode) → IsLiveNode c x
-    → ((q d : ℕ) → Names i.values q d → IsDefined i.values d) → ((q d : ℕ) → Names i.targets q d → IsDefined i.targets d)
+    → ((q d : ℕ) → NamesDefinition i.values q d → IsDefined i.values d) → ((q d : ℕ) → NamesDefinition i.targets q d → IsDefined i.targets d)
     → (b : Bool) → IsTrue b ↔ ((at : Place) → IsInside (shape_of i.forest) (place_of_node x) at → IsApartAt i.forest i.values i.targets (place_of_node x) at)
     → IsTrue b ↔ IsApart c x
 apart-told i c seen inv listed x live known_values known_blocks b told =

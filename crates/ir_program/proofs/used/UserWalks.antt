@@ -8,7 +8,7 @@ use Rattle.ir_entities.specs.Forest.{Forest, shape_of}
 use Rattle.ir_entities.specs.Links.{has}
 use Rattle.ir_entities.specs.Placed.{IsPlaced, place_at}
 use Rattle.ir_entities.specs.Shape.{Shape, IsInside}
-use Rattle.ir_entities.specs.Uses.{Uses, key_of, place_of, Names, IsDefined, Place as UsePlace}
+use Rattle.ir_entities.specs.Uses.{Uses, key_of, place_of, NamesDefinition, IsDefined, PlaceOfUse as UsePlace}
 use Rattle.ir_entities.specs.Walk.{walk_of, places_from, IsOneOf}
 use Rattle.ir_entities.specs.declared.forest.Place.{Place}
 use Rattle.ir_entities.specs.declared.forest.Place.TheVariants.{Op, Block}
@@ -29,7 +29,7 @@ use Rattle.ir_program.proofs.made.Lent.{some_is, held-was}
 
 -- the users of a thread's places are inside x, but for those of the places that are still to come
 pub record AreSeen {K : Type 0} (s : Shape) (x : Place) (u : Uses K) (t : ℕ) (rest : List ℕ) : Type 0 where
-  pub named : (p : ℕ) → has p rest ≡ true → Names u p t
+  pub named : (p : ℕ) → has p rest ≡ true → NamesDefinition u p t
   pub seen : (p i k : ℕ) → place_of u p ≡ Some (place_at t i k) → (has p rest ≡ true) ⊎ IsInside s x (Op i)
 
 -- what holds of the thread of each definition holds of each thread

@@ -5,7 +5,7 @@ use Rattle.ir_print.specs.Formats as step
 use Rattle.ir_print.specs.Formats.{Formats, Kind, Step, Steps, no_steps}
 use Rattle.ir_print.specs.Layout as layout
 use Rattle.ir_print.specs.Layout.{Chunk, Before, an_id, a_word, a_part, gap_of_word, gap_of_part, line, word_of, member_of, spell, width_text, number_text, Printer}
-use Rattle.ir_print.specs.Pieces.{type_of_kind, attribute_of_kind, list, item, operands, region, name, number, width, ValueTree, Pieces, Head, operation, a_region, block, Entity, entity, Entities, no_entity, an_entity}
+use Rattle.ir_print.specs.Pieces.{type_of_kind, attribute_of_kind, list, item, operands, region, name, number, width, ValueTree, Pieces, EntityHead, operation, a_region, block, Entity, entity, Entities, no_entity, an_entity}
 use Rattle.ir_grammar.specs.declared.grammar.Action.{Action}
 use Rattle.ir_grammar.specs.declared.grammar.Action.TheVariants as act
 use Rattle.ir_rereading.proofs.layouts.Marks.{Mark, white, token, word, did, chunks, characters, Marker, part_on, step_on, format_on, kind_on, name_on, separator_of, some_on, more_members_on, members_on, piece_on, parts_on, more_names_on, names_on, results_on, operands_on, first_region_on, all_parts_on, operation_head_on, argument_on, more_arguments_on, arguments_on, block_head_on, operation_on, regions_on, region_on, blocks_on, block_on, operations_on, more_operations_on, marks}
@@ -155,7 +155,7 @@ module _ (f : Formats) where
   all_parts_alike (a_tree (node region x) ts) us rs qs h = (first_alike rs qs h, all_parts_alike ts us (drop 1 rs) (drop 1 qs) (drop_alike 1 rs qs h))
   all_parts_alike (a_tree (node p x) ts) us rs qs h = ((λ s ms. piece_alike (node p x) s ms), all_parts_alike ts us rs qs h)
 
-  operation_head_alike : (h : Head (List ℕ)) (rs : List (List Mark → List Mark)) (qs : List (List Chunk → List Chunk)) (rest : List Mark) → RegionsAlike rs qs
+  operation_head_alike : (h : EntityHead (List ℕ)) (rs : List (List Mark → List Mark)) (qs : List (List Chunk → List Chunk)) (rest : List Mark) → RegionsAlike rs qs
       → chunks (operation_head_on f h rs rest) ≡ layout.operation_head_on f h qs (chunks rest)
   operation_head_alike (operation kind results used pieces) rs qs rest h =
       results_alike results _ ∙ ap (layout.results_on results) (kind_alike (slice_get f.operations kind) (act.Operation kind) act.EndOperation _ _ rest (all_parts_alike pieces used rs qs h))
@@ -173,7 +173,7 @@ module _ (f : Formats) where
   arguments_alike [] rest = refl
   arguments_alike (x ∷ xs) rest = argument_alike x _ ∙ ap (layout.argument_on f x) (more_arguments_alike xs rest)
 
-  block_head_alike : (h : Head (List ℕ)) (inner : List Mark → List Mark) (printed : List Chunk → List Chunk) (rest : List Mark) → ((ms : List Mark) → chunks (inner ms) ≡ printed (chunks ms))
+  block_head_alike : (h : EntityHead (List ℕ)) (inner : List Mark → List Mark) (printed : List Chunk → List Chunk) (rest : List Mark) → ((ms : List Mark) → chunks (inner ms) ≡ printed (chunks ms))
       → chunks (block_head_on f h inner rest) ≡ layout.block_head_on f h (printed (chunks rest))
   block_head_alike (operation kind results used pieces) inner printed rest k = k rest
   block_head_alike a_region inner printed rest k = k rest

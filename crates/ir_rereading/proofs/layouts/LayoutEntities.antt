@@ -5,7 +5,7 @@ use Rattle.ir_names.specs.Tree.{Trees, node, no_tree, a_tree, join}
 use Rattle.ir_print.specs.Layout.{AreFlat, AreFlatArguments, AreShallow}
 use Rattle.ir_print.specs.Pieces.{type_of_kind, region, ValueTree, Pieces, Values, operation, a_region, block, Entity, entity, Entities, no_entity, an_entity}
 use Rattle.ir_grammar.specs.declared.grammar.Action.TheVariants as act
-use Rattle.ir_forest.specs.Forest.{Step}
+use Rattle.ir_forest.specs.Forest.{ActionSpan}
 use Rattle.ir_forest.specs.Meaning.{pieces_in, operands_in, arguments_in, typed, operations_in, regions_in, blocks_in, all_renamed}
 use Rattle.ir_forest.proofs.BuiltTrees.{join_assoc}
 use Rattle.ir_rereading.proofs.layouts.LayoutParts.{joined, joined_none, AreLow, AreFine, Reads, then, worded, nothing, IsNode, IsLeaf, Says}
@@ -21,16 +21,16 @@ module _ (v : Values) (text : ℕ → List ℕ) where
   -- ---- arguments
 
   -- these trees say these arguments, before whatever trees come next
-  pub record SaysArguments (xs : List (List ℕ × ValueTree)) (ts : Trees Step) : Type 0 where
-    pub fine : (rest : Trees Step) → AreFine v text [] rest → AreFine v text [] (join ts rest)
-    pub arguments : (rest : Trees Step) (ys : List (List ℕ × ValueTree)) → ((i : ℕ) → spelt (arguments_in v text i rest) ≡ ys) → (i : ℕ) → spelt (arguments_in v text i (join ts rest)) ≡ xs ++ ys
-    pub operations : (rest : Trees Step) → operations_in v text [] (join ts rest) ≡ operations_in v text [] rest
-    pub low : (d e : ℕ) → d + e ≡ 64 → AreFlatArguments e xs → (rest : Trees Step) → AreLow d rest → AreLow d (join ts rest)
+  pub record SaysArguments (xs : List (List ℕ × ValueTree)) (ts : Trees ActionSpan) : Type 0 where
+    pub fine : (rest : Trees ActionSpan) → AreFine v text [] rest → AreFine v text [] (join ts rest)
+    pub arguments : (rest : Trees ActionSpan) (ys : List (List ℕ × ValueTree)) → ((i : ℕ) → spelt (arguments_in v text i rest) ≡ ys) → (i : ℕ) → spelt (arguments_in v text i (join ts rest)) ≡ xs ++ ys
+    pub operations : (rest : Trees ActionSpan) → operations_in v text [] (join ts rest) ≡ operations_in v text [] rest
+    pub low : (d e : ℕ) → d + e ≡ 64 → AreFlatArguments e xs → (rest : Trees ActionSpan) → AreLow d rest → AreLow d (join ts rest)
 
   pub no_arguments : SaysArguments [] no_tree
   no_arguments = record { fine = λ rest h. h; arguments = λ rest ys h i. h i; operations = λ rest. refl; low = λ d e s f rest h. h }
 
-  pub more_arguments : (x : List ℕ × ValueTree) (xs : List (List ℕ × ValueTree)) (ts us : Trees Step) → SaysArguments (x ∷ []) ts → SaysArguments xs us → SaysArguments (x ∷ xs) (join ts us)
+  pub more_arguments : (x : List ℕ × ValueTree) (xs : List (List ℕ × ValueTree)) (ts us : Trees ActionSpan) → SaysArguments (x ∷ []) ts → SaysArguments xs us → SaysArguments (x ∷ xs) (join ts us)
   more_arguments x xs ts us a b = record {
     fine = λ rest h. subst (AreFine v text []) (sym (join_assoc ts us rest)) (a.fine (join us rest) (b.fine rest h));
     arguments = λ rest ys h i. ap (λ z. spelt (arguments_in v text i z)) (join_assoc ts us rest) ∙ a.arguments (join us rest) (xs ++ ys) (b.arguments rest ys h) i;
@@ -39,13 +39,13 @@ module _ (v : Values) (text : ℕ → List ℕ) where
   }
 
   -- an argument, and its type
-  pub argument_says : (x : List ℕ) (n i j : ℕ) (ts : Pieces) (ys zs : Trees Step) → text i ≡ x → v.refused_type n ts ≡ None → IsLeaf act.Argument i ys → IsNode (act.BeginType n) j (Says v text ts [] no_entity) zs
+  pub argument_says : (x : List ℕ) (n i j : ℕ) (ts : Pieces) (ys zs : Trees ActionSpan) → text i ≡ x → v.refused_type n ts ≡ None → IsLeaf act.Argument i ys → IsNode (act.BeginType n) j (Says v text ts [] no_entity) zs
       → SaysArguments ((x, node (type_of_kind n) ts) ∷ []) (join ys zs)
   argument_says x n i j ts ys zs named fit l q =
       let t = node (type_of_kind n) ts in
       let a = say_all v text ts [] no_entity q.1 q.3 in
-      let s : Step = record { action = act.Argument; first = i; last = i } in
-      let tree : Trees Step = a_tree (node s no_tree) (a_tree (node (record { action = act.BeginType n; first = j; last = q.0 }) q.1) no_tree) in
+      let s : ActionSpan = record { action = act.Argument; first = i; last = i } in
+      let tree : Trees ActionSpan = a_tree (node s no_tree) (a_tree (node (record { action = act.BeginType n; first = j; last = q.0 }) q.1) no_tree) in
       let same : join ys zs ≡ tree = ap (λ z. join z zs) l ∙ ap (a_tree (node s no_tree)) q.2 in
       subst (SaysArguments ((x, t) ∷ [])) (sym same) (record {
         fine = λ rest h. ((refl, refl, refl), refl, tt, tt, (tt, ap (v.refused_type n) a.pieces ∙ fit, tt, a.fine, h));
@@ -58,15 +58,15 @@ module _ (v : Values) (text : ℕ → List ℕ) where
   -- ---- operations and blocks
 
   -- These trees, from the first on, say these entities before whatever trees come next.
-  pub record SaysEntities (read : Trees Step → Entities ℕ) (es : Entities (List ℕ)) (xs : Trees Step) : Type 0 where
-    pub fine : (rest : Trees Step) → AreFine v text [] rest → AreFine v text [] (join xs rest)
-    pub entities : (rest : Trees Step) → all_renamed text (read (join xs rest)) ≡ joined es (all_renamed text (read rest))
-    pub low : (d e : ℕ) → d + e ≡ 64 → AreShallow e es → (rest : Trees Step) → AreLow d rest → AreLow d (join xs rest)
+  pub record SaysEntities (read : Trees ActionSpan → Entities ℕ) (es : Entities (List ℕ)) (xs : Trees ActionSpan) : Type 0 where
+    pub fine : (rest : Trees ActionSpan) → AreFine v text [] rest → AreFine v text [] (join xs rest)
+    pub entities : (rest : Trees ActionSpan) → all_renamed text (read (join xs rest)) ≡ joined es (all_renamed text (read rest))
+    pub low : (d e : ℕ) → d + e ≡ 64 → AreShallow e es → (rest : Trees ActionSpan) → AreLow d rest → AreLow d (join xs rest)
 
-  pub none_said : (read : Trees Step → Entities ℕ) → SaysEntities read no_entity no_tree
+  pub none_said : (read : Trees ActionSpan → Entities ℕ) → SaysEntities read no_entity no_tree
   none_said read = record { fine = λ rest h. h; entities = λ rest. refl; low = λ d e s f rest h. h }
 
-  pub more_said : (read : Trees Step → Entities ℕ) (t : Entity (List ℕ)) (ts : Entities (List ℕ)) (xs ys : Trees Step) → SaysEntities read (an_entity t no_entity) xs → SaysEntities read ts ys
+  pub more_said : (read : Trees ActionSpan → Entities ℕ) (t : Entity (List ℕ)) (ts : Entities (List ℕ)) (xs ys : Trees ActionSpan) → SaysEntities read (an_entity t no_entity) xs → SaysEntities read ts ys
       → SaysEntities read (an_entity t ts) (join xs ys)
   more_said read t ts xs ys a b = record {
     fine = λ rest h. subst (AreFine v text []) (sym (join_assoc xs ys rest)) (a.fine (join ys rest) (b.fine rest h));
@@ -75,12 +75,12 @@ module _ (v : Values) (text : ℕ → List ℕ) where
   }
 
   -- the same of all trees
-  pub record SaysAllEntities (read : Trees Step → Entities ℕ) (es : Entities (List ℕ)) (xs : Trees Step) : Type 0 where
+  pub record SaysAllEntities (read : Trees ActionSpan → Entities ℕ) (es : Entities (List ℕ)) (xs : Trees ActionSpan) : Type 0 where
     pub fine : AreFine v text [] xs
     pub entities : all_renamed text (read xs) ≡ es
     pub low : (d e : ℕ) → d + e ≡ 64 → AreShallow e es → AreLow d xs
 
-  pub say_all_entities : (read : Trees Step → Entities ℕ) (es : Entities (List ℕ)) (xs : Trees Step) → read no_tree ≡ no_entity → SaysEntities read es xs → SaysAllEntities read es xs
+  pub say_all_entities : (read : Trees ActionSpan → Entities ℕ) (es : Entities (List ℕ)) (xs : Trees ActionSpan) → read no_tree ≡ no_entity → SaysEntities read es xs → SaysAllEntities read es xs
   say_all_entities read es xs none s =
       let same = join_none xs in record {
         fine = subst (AreFine v text []) same (s.fine no_tree tt);
@@ -91,17 +91,17 @@ module _ (v : Values) (text : ℕ → List ℕ) where
   -- ---- blocks
 
   -- what stands in a block: arguments, the end of the header, and operations
-  pub record SaysBody (args : List (List ℕ × ValueTree)) (es : Entities (List ℕ)) (xs : Trees Step) : Type 0 where
+  pub record SaysBody (args : List (List ℕ × ValueTree)) (es : Entities (List ℕ)) (xs : Trees ActionSpan) : Type 0 where
     pub fine : AreFine v text [] xs
     pub arguments : spelt (arguments_in v text 0 xs) ≡ args
     pub operations : all_renamed text (operations_in v text [] xs) ≡ es
     pub low : (d e : ℕ) → d + e ≡ 64 → AreFlatArguments e args → AreShallow e es → AreLow d xs
 
-  pub body_says : (args : List (List ℕ × ValueTree)) (es : Entities (List ℕ)) (i : ℕ) (xs ys zs : Trees Step) → SaysArguments args xs → IsLeaf act.Header i ys → SaysEntities (operations_in v text []) es zs
+  pub body_says : (args : List (List ℕ × ValueTree)) (es : Entities (List ℕ)) (i : ℕ) (xs ys zs : Trees ActionSpan) → SaysArguments args xs → IsLeaf act.Header i ys → SaysEntities (operations_in v text []) es zs
       → SaysBody args es (join xs (join ys zs))
   body_says args es i xs ys zs a l b =
       let c = say_all_entities (operations_in v text []) es zs refl b in
-      let header : Trees Step = a_tree (node (record { action = act.Header; first = i; last = i }) no_tree) zs in
+      let header : Trees ActionSpan = a_tree (node (record { action = act.Header; first = i; last = i }) no_tree) zs in
       subst (λ z. SaysBody args es (join xs (join z zs))) (sym l) (record {
         fine = a.fine header ((refl, refl, refl), refl, tt, tt, c.fine);
         arguments = a.arguments header [] (λ i. refl) 0 ∙ append-nil args;
@@ -109,7 +109,7 @@ module _ (v : Values) (text : ℕ → List ℕ) where
         low = λ d e s f g. a.low d e s f header (λ w. cc, tt, c.low d e s g);
       })
 
-  pub block_says : (label : List ℕ) (args : List (List ℕ × ValueTree)) (es : Entities (List ℕ)) (i : ℕ) (xs : Trees Step) → text i ≡ label → IsNode act.Label i (SaysBody args es) xs
+  pub block_says : (label : List ℕ) (args : List (List ℕ × ValueTree)) (es : Entities (List ℕ)) (i : ℕ) (xs : Trees ActionSpan) → text i ≡ label → IsNode act.Label i (SaysBody args es) xs
       → SaysEntities (blocks_in v text) (an_entity (entity (block label args) es) no_entity) xs
   block_says label args es i xs h q =
       let a = q.3 in
@@ -123,7 +123,7 @@ module _ (v : Values) (text : ℕ → List ℕ) where
 
   -- ---- regions
 
-  pub region_says : (es : Entities (List ℕ)) (i : ℕ) (xs : Trees Step) → IsNode act.BeginRegion i (SaysEntities (blocks_in v text) es) xs
+  pub region_says : (es : Entities (List ℕ)) (i : ℕ) (xs : Trees ActionSpan) → IsNode act.BeginRegion i (SaysEntities (blocks_in v text) es) xs
       → Says v text (a_tree (node region no_tree) no_tree) [] (an_entity (entity a_region es) no_entity) xs
   region_says es i xs q =
       let a = say_all_entities (blocks_in v text) es q.1 refl q.3 in
@@ -137,15 +137,15 @@ module _ (v : Values) (text : ℕ → List ℕ) where
 
   -- ---- operations
 
-  results_fine : (names ks : List ℕ) (rest : Trees Step) → AreFine v text (names ++ ks) rest → AreFine v text names (join (leaves act.Result ks) rest)
+  results_fine : (names ks : List ℕ) (rest : Trees ActionSpan) → AreFine v text (names ++ ks) rest → AreFine v text names (join (leaves act.Result ks) rest)
   results_fine names [] rest h = subst (λ z. AreFine v text z rest) (append-nil names) h
   results_fine names (k ∷ ks) rest h = ((refl, refl, refl), refl, tt, tt, results_fine (names ++ k ∷ []) ks rest (subst (λ z. AreFine v text z rest) (sym (append_assoc names (k ∷ []) ks)) h))
 
-  results_named : (names ks : List ℕ) (rest : Trees Step) → operations_in v text names (join (leaves act.Result ks) rest) ≡ operations_in v text (names ++ ks) rest
+  results_named : (names ks : List ℕ) (rest : Trees ActionSpan) → operations_in v text names (join (leaves act.Result ks) rest) ≡ operations_in v text (names ++ ks) rest
   results_named names [] rest = ap (λ z. operations_in v text z rest) (sym (append-nil names))
   results_named names (k ∷ ks) rest = results_named (names ++ k ∷ []) ks rest ∙ ap (λ z. operations_in v text z rest) (append_assoc names (k ∷ []) ks)
 
-  results_low : (d : ℕ) (ks : List ℕ) (rest : Trees Step) → AreLow d rest → AreLow d (join (leaves act.Result ks) rest)
+  results_low : (d : ℕ) (ks : List ℕ) (rest : Trees ActionSpan) → AreLow d rest → AreLow d (join (leaves act.Result ks) rest)
   results_low d [] rest h = h
   results_low d (k ∷ ks) rest h = (λ w. cc, tt, results_low d ks rest h)
 
@@ -158,7 +158,7 @@ module _ (v : Values) (text : ℕ → List ℕ) where
       let others : map text ks ≡ map (λ x. x.0) rs = cc in
       ap (λ z. (z, r.1) ∷ spelt (typed ks (map (λ x. x.1) rs))) first ∙ ap (λ z. r ∷ z) (typed_again ks rs others)
 
-  pub operation_says : (kind i : ℕ) (results : List (List ℕ × ValueTree)) (used : List (List ℕ)) (pieces : Pieces) (es : Entities (List ℕ)) (xs ys : Trees Step)
+  pub operation_says : (kind i : ℕ) (results : List (List ℕ × ValueTree)) (used : List (List ℕ)) (pieces : Pieces) (es : Entities (List ℕ)) (xs ys : Trees ActionSpan)
       → v.refused_operation kind pieces ≡ None → map (λ x. x.1) results ≡ v.result_types kind pieces → AreNames v text act.Result (map (λ x. x.0) results) xs
       → IsNode (act.Operation kind) i (Says v text pieces used es) ys
       → SaysEntities (operations_in v text []) (an_entity (entity (operation kind results used pieces) es) no_entity) (join xs ys)
@@ -166,11 +166,11 @@ module _ (v : Values) (text : ℕ → List ℕ) where
       let ks = n.0 in
       let us = q.1 in
       let a = say_all v text pieces used es us q.3 in
-      let op : Step = record { action = act.Operation kind; first = i; last = q.0 } in
-      let tree : Trees Step = join (leaves act.Result ks) (a_tree (node op us) no_tree) in
+      let op : ActionSpan = record { action = act.Operation kind; first = i; last = q.0 } in
+      let tree : Trees ActionSpan = join (leaves act.Result ks) (a_tree (node op us) no_tree) in
       let same : join xs ys ≡ tree = ap (λ z. join z ys) n.1 ∙ ap (join (leaves act.Result ks)) q.2 in
-      let whole : Trees Step → Trees Step = λ rest. join (leaves act.Result ks) (a_tree (node op us) rest) in
-      let split : (rest : Trees Step) → join tree rest ≡ whole rest = λ rest. join_assoc (leaves act.Result ks) (a_tree (node op us) no_tree) rest in
+      let whole : Trees ActionSpan → Trees ActionSpan = λ rest. join (leaves act.Result ks) (a_tree (node op us) rest) in
+      let split : (rest : Trees ActionSpan) → join tree rest ≡ whole rest = λ rest. join_assoc (leaves act.Result ks) (a_tree (node op us) no_tree) rest in
       let many : length ks ≡ length (v.result_types kind (pieces_in v text us)) =
       sym (length-map ks text) ∙ (ap length n.2 ∙ (length-map results (λ x. x.0) ∙ (sym (length-map results (λ x. x.1)) ∙ (ap length types ∙ ap (λ z. length (v.result_types kind z)) (sym a.pieces))))) in
       let named : spelt (typed ks (v.result_types kind pieces)) ≡ results = ap (λ z. spelt (typed ks z)) (sym types) ∙ typed_again ks results n.2 in

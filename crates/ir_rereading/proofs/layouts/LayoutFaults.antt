@@ -2,7 +2,7 @@
 use Rattle.std.proofs.Common.{◌≡◌, ℕ, zero, suc, ◌+◌, ◌<◌, ◌≤◌, ◌⊎◌, inl, inr, List, [], ◌∷◌, ◌++◌, true, false, length, Option, Some, None, slice_get, arith, refl, ap, sym, subst, ◌∙◌}
 use Rattle.std.specs.Option.{option_map_or}
 use Rattle.std.proofs.lemmas.List.{append-nil, append_assoc}
-use Rattle.ir_names.specs.Tree.{Tree, Trees, node, no_tree, a_tree, join}
+use Rattle.ir_names.specs.Tree.{LabelledTree, Trees, node, no_tree, a_tree, join}
 use Rattle.ir_print.specs.Formats.{Formats}
 use Rattle.ir_print.specs.Layout.{IsShallow}
 use Rattle.ir_print.specs.Pieces.{Values, Entity}
@@ -14,7 +14,7 @@ use Rattle.ir_grammar.specs.declared.grammar.Event.TheVariants.{Took, Did}
 use Rattle.ir_tokens.specs.declared.faults.Fault.{Fault}
 use Rattle.ir_forest.specs.Building.{Open, Built, nothing_built, ended_tree, with_end, after, with_name, names_behind}
 use Rattle.ir_scopes.specs.Depth.{IsTooDeep}
-use Rattle.ir_forest.specs.Forest.{end_of, is_end, Deed, deeds, deeds_from, Step, ending, deeds_of, deeds_in, IsWholeStep, AreWhole}
+use Rattle.ir_forest.specs.Forest.{end_of, is_end, Deed, deeds, deeds_from, ActionSpan, ending, deeds_of, deeds_in, IsWholeStep, AreWhole}
 use Rattle.ir_forest.specs.Meaning.{pieces_in}
 use Rattle.ir_forest.specs.Progress.{run}
 use Rattle.ir_grammar.specs.Reading.{opens, depth_at, OpensMore, OpensAt}
@@ -28,7 +28,7 @@ use Rattle.ir_rereading.proofs.layouts.Marks.{tokens, events, marks}
 
 -- ---- names of results
 
-names_join : (ts us : Trees Step) (names : List ℕ) → names_behind names (join ts us) ≡ names_behind (names_behind names ts) us
+names_join : (ts us : Trees ActionSpan) (names : List ℕ) → names_behind names (join ts us) ≡ names_behind (names_behind names ts) us
 names_join no_tree us names = refl
 names_join (a_tree (node s is) ts) us names = names_join ts us (with_name names s.action s.first)
 
@@ -64,7 +64,7 @@ sort_opening a x alone e n = let y = subst (λ z. EndsBy z a) e (ends_by a) in l
 sort_opening a x opening e n = e
 sort_opening a x closing e n = let y = subst (λ z. EndsBy z a) e (ends_by a) in let wrong : None ≡ Some x = sym y.0 ∙ n in cc
 
-balances_node : (s : Step) (ts : Trees Step) (more : List Deed) (n : ℕ) (e : Option Action) → end_of s.action ≡ e → IsWholeStep e s ts
+balances_node : (s : ActionSpan) (ts : Trees ActionSpan) (more : List Deed) (n : ℕ) (e : Option Action) → end_of s.action ≡ e → IsWholeStep e s ts
     → ((m : ℕ) (rest : List Deed) → Balances m rest → Balances m (deeds_in ts ++ rest)) → Balances n more → Balances n ((s.action, s.first) ∷ (deeds_in ts ++ (ending e s.last ++ more)))
 balances_node s ts more n None e w inner h =
     subst (λ z. EndsAfter z n (λ m. Balances m (deeds_in ts ++ more))) (sym (sort_alone s.action (sort_of s.action) refl e w.0)) (inner n more h)
@@ -73,7 +73,7 @@ balances_node s ts more n (Some x) e w inner h =
     (inner (suc n) ((x, s.last) ∷ more) (subst (λ z. EndsAfter z (suc n) (λ m. Balances m more)) (sym (end_sort s.action x e)) h))
 
 -- the deeds of a tree, and those behind it
-deeds_apart : (s : Step) (is ts : Trees Step) (more : List Deed)
+deeds_apart : (s : ActionSpan) (is ts : Trees ActionSpan) (more : List Deed)
     → deeds_in (a_tree (node s is) ts) ++ more ≡ (s.action, s.first) ∷ (deeds_in is ++ (ending (end_of s.action) s.last ++ (deeds_in ts ++ more)))
 deeds_apart s is ts more =
     let first : Deed = (s.action, s.first) in
@@ -81,7 +81,7 @@ deeds_apart s is ts more =
     ap (λ z. first ∷ z)
     (append_assoc (deeds_in is ++ end) (deeds_in ts) more ∙ append_assoc (deeds_in is) end (deeds_in ts ++ more))
 
-balances_trees : (ts : Trees Step) → AreWhole ts → (n : ℕ) (more : List Deed) → Balances n more → Balances n (deeds_in ts ++ more)
+balances_trees : (ts : Trees ActionSpan) → AreWhole ts → (n : ℕ) (more : List Deed) → Balances n more → Balances n (deeds_in ts ++ more)
 balances_trees no_tree w n more h = h
 balances_trees (a_tree (node s is) ts) w n more h =
     subst (Balances n) (sym (deeds_apart s is ts more))
@@ -134,10 +134,10 @@ quiet (d ∷ ds) done rest b n o h q =
 
 module _ (v : Values) (text : ℕ → List ℕ) where
   -- trees with no names of results before them
-  abbrev Fine : Trees Step → Type 0
+  abbrev Fine : Trees ActionSpan → Type 0
   Fine ts = AreFine v text [] ts
 
-  fine_apart : (ts us : Trees Step) (names : List ℕ) → AreFine v text names (join ts us) → AreFine v text names ts × AreFine v text (names_behind names ts) us
+  fine_apart : (ts us : Trees ActionSpan) (names : List ℕ) → AreFine v text names (join ts us) → AreFine v text names ts × AreFine v text (names_behind names ts) us
   fine_apart no_tree us names h = (tt, h)
   fine_apart (a_tree (node s is) ts) us names h = let r = fine_apart ts us (with_name names s.action s.first) h.4 in ((h.0, h.1, h.2, h.3, r.0), r.1)
 
@@ -155,11 +155,11 @@ module _ (v : Values) (text : ℕ → List ℕ) where
   fine_before [] b h = h
   fine_before (d ∷ ds) b h = fine_back (sort_of d.0) b d.0 d.1 (subst (AllBuilt Fine) (after_is d.0 b d.1) (fine_before ds (after b d.0 d.1) h))
 
-  fine_forest : (ts : Trees Step) → Fine ts → (ds : List Deed) → ds ≡ deeds_in ts → AllBuilt Fine (run nothing_built ds)
+  fine_forest : (ts : Trees ActionSpan) → Fine ts → (ds : List Deed) → ds ≡ deeds_in ts → AllBuilt Fine (run nothing_built ds)
   fine_forest ts h ds e = subst (AllBuilt Fine) (sym (ap (run nothing_built) e ∙ run_trees ts (fine_whole v text [] ts h) nothing_built)) (h, tt)
 
   -- a tree among the deeds of a forest
-  fine_tree : (forest : Trees Step) → Fine forest → (t : Tree Step) (front more : List Deed) → AreWhole (a_tree t no_tree) → deeds_in forest ≡ front ++ (deeds_of t ++ more)
+  fine_tree : (forest : Trees ActionSpan) → Fine forest → (t : LabelledTree ActionSpan) (front more : List Deed) → AreWhole (a_tree t no_tree) → deeds_in forest ≡ front ++ (deeds_of t ++ more)
       → AreFine v text (names_behind [] (run nothing_built front).here) (a_tree t no_tree)
   fine_tree forest h t front more w e =
       let b = run nothing_built front in
@@ -168,7 +168,7 @@ module _ (v : Values) (text : ℕ → List ℕ) where
       let there : AllBuilt Fine (pushed b (a_tree t no_tree)) = subst (AllBuilt Fine) (run_tree t b w) (fine_before more (run b (deeds_of t)) last) in
       (fine_apart b.here (a_tree t no_tree) [] there.0).1
 
-  pub no_number : (forest : Trees Step) (es : List Event) → Fine forest → deeds es ≡ deeds_in forest → (fault : Fault) → HasNumberFault v text es fault → ⊥
+  pub no_number : (forest : Trees ActionSpan) (es : List Event) → Fine forest → deeds es ≡ deeds_in forest → (fault : Fault) → HasNumberFault v text es fault → ⊥
   no_number forest es h e fault n =
       let t = n.3 in
       let one = fine_tree forest h (node n.0 n.1) t.1 t.2 t.0 (sym e ∙ t.3) in
@@ -178,13 +178,13 @@ module _ (v : Values) (text : ℕ → List ℕ) where
   run_results : (names : List ℕ) (b : Built) → names_behind [] (run b (results names)).here ≡ names_behind [] b.here ++ names
   run_results [] b = sym (append-nil (names_behind [] b.here))
   run_results (k ∷ ks) b =
-      let leaf : Trees Step = a_tree (node (record { action = act.Result; first = k; last = k }) no_tree) no_tree in
+      let leaf : Trees ActionSpan = a_tree (node (record { action = act.Result; first = k; last = k }) no_tree) no_tree in
       run_results ks (after b act.Result k) ∙ (ap (λ z. z ++ ks) (names_join b.here leaf []) ∙ append_assoc (names_behind [] b.here) (k ∷ []) ks)
 
-  counted_at : (a : Action) (kind : ℕ) (names : List ℕ) (ts : Trees Step) → a ≡ act.Operation kind → IsCounted v text a names ts → length names ≡ length (v.result_types kind (pieces_in v text ts))
+  counted_at : (a : Action) (kind : ℕ) (names : List ℕ) (ts : Trees ActionSpan) → a ≡ act.Operation kind → IsCounted v text a names ts → length names ≡ length (v.result_types kind (pieces_in v text ts))
   counted_at a kind names ts e h = subst (λ z. IsCounted v text z names ts) e h
 
-  pub no_names : (forest : Trees Step) (es : List Event) → Fine forest → deeds es ≡ deeds_in forest → (fault : Fault) → HasNamesFault v text es fault → ⊥
+  pub no_names : (forest : Trees ActionSpan) (es : List Event) → Fine forest → deeds es ≡ deeds_in forest → (fault : Fault) → HasNamesFault v text es fault → ⊥
   no_names forest es h e fault n =
       let names = n.0 in
       let s = n.2 in
@@ -244,7 +244,7 @@ alone_depth act.Width d e f = refl
 alone_depth act.Operand d e f = refl
 alone_depth _ d e f = cc
 
-low_node : (s : Step) (ts : Trees Step) (more : List Deed) (d : ℕ) (e : Option Action) → end_of s.action ≡ e → IsWholeStep e s ts → (opens s.action ≡ true → d < 64)
+low_node : (s : ActionSpan) (ts : Trees ActionSpan) (more : List Deed) (d : ℕ) (e : Option Action) → end_of s.action ≡ e → IsWholeStep e s ts → (opens s.action ≡ true → d < 64)
     → ((rest : List Deed) → OpensLate (depth_at d s.action) (deeds_in ts ++ rest) → OpensLate (depth_at d s.action) rest)
     → OpensLate d ((s.action, s.first) ∷ (deeds_in ts ++ (ending e s.last ++ more))) → OpensLate d more
 low_node s ts more d e is w low inner (inl h) = let few = low h.0 in absurd (omega (arith, few, h.1))
@@ -256,14 +256,14 @@ low_node s ts more d (Some x) is w low inner (inr h) =
       | inr m ↦ subst (λ z. OpensLate z more) after.1 m
     ]
 
-low_trees : (ts : Trees Step) (d : ℕ) (more : List Deed) → AreWhole ts → AreLow d ts → OpensLate d (deeds_in ts ++ more) → OpensLate d more
+low_trees : (ts : Trees ActionSpan) (d : ℕ) (more : List Deed) → AreWhole ts → AreLow d ts → OpensLate d (deeds_in ts ++ more) → OpensLate d more
 low_trees no_tree d more w low h = h
 low_trees (a_tree (node s is) ts) d more w low h =
     low_trees ts d more w.2 low.2
     (low_node s is (deeds_in ts ++ more) d (end_of s.action) refl w.0 low.0 (λ rest h. low_trees is (depth_at d s.action) rest w.1 low.1 h)
     (subst (OpensLate d) (deeds_apart s is ts more) h))
 
-low_forest : (ts : Trees Step) (es : List Event) → AreWhole ts → AreLow 0 ts → deeds es ≡ deeds_in ts → OpensLate 0 (deeds es) → ⊥
+low_forest : (ts : Trees ActionSpan) (es : List Event) → AreWhole ts → AreLow 0 ts → deeds es ≡ deeds_in ts → OpensLate 0 (deeds es) → ⊥
 low_forest ts es w low e h = low_trees ts 0 [] w low (subst (OpensLate 0) (e ∙ sym (append-nil (deeds_in ts))) h)
 
 -- ---- layouts

@@ -4,13 +4,13 @@ use Rattle.std.proofs.lemmas.List.{map-append, length-map, length-take-le, lengt
 use Rattle.ir_names.specs.Tree.{Trees, node, no_tree, a_tree, join, count}
 use Rattle.ir_print.specs.Formats as step
 use Rattle.ir_print.specs.Formats.{Formats, Kind, Steps, no_steps}
-use Rattle.ir_print.specs.Pieces.{operands, region, ValueTree, Pieces, Values, Head, operation, a_region, block, Entity, entity, Entities, no_entity, an_entity}
+use Rattle.ir_print.specs.Pieces.{operands, region, ValueTree, Pieces, Values, EntityHead, operation, a_region, block, Entity, entity, Entities, no_entity, an_entity}
 use Rattle.ir_print.specs.Shapes.{FitAll}
 use Rattle.ir_print.specs.Shown.{operands_said}
 use Rattle.ir_forest.specs.Closed.{regions_said, number_in}
 use Rattle.ir_grammar.specs.declared.grammar.Action.{Action}
 use Rattle.ir_grammar.specs.declared.grammar.Action.TheVariants as act
-use Rattle.ir_forest.specs.Forest.{end_of, Step}
+use Rattle.ir_forest.specs.Forest.{end_of, ActionSpan}
 use Rattle.ir_forest.specs.Meaning.{tokens_in, pieces_in, operands_in}
 use Rattle.ir_rereading.proofs.layouts.LayoutParts.{AreLow, AreFine, Reads, so, then, taken, worded, nothing, IsNode, IsLeaf, between, single, Says, IsRead, AreRead}
 use Rattle.ir_rereading.proofs.layouts.LayoutValues.{IsPlain, here, piece_read}
@@ -35,7 +35,7 @@ ArePlainArguments [] = Unit {0}
 ArePlainArguments (x ∷ xs) = IsPlain x.1 × ArePlainArguments xs
 
 -- operands and regions stand in no type, no attribute and no list, and nothing stands below operands, regions, names and numbers
-abbrev pub IsPlainHead : {N : Type 0} → Head N → Type 0
+abbrev pub IsPlainHead : {N : Type 0} → EntityHead N → Type 0
 IsPlainHead (operation kind results used pieces) = ArePlainParts pieces
 IsPlainHead a_region = Unit {0}
 IsPlainHead (block label arguments) = ArePlainArguments arguments
@@ -53,7 +53,7 @@ abbrev mutual
 -- ---- names
 
 -- steps that name something, at these tokens
-abbrev pub leaves : Action → List ℕ → Trees Step
+abbrev pub leaves : Action → List ℕ → Trees ActionSpan
 leaves a [] = no_tree
 leaves a (k ∷ ks) = a_tree (node (record { action = a; first = k; last = k }) no_tree) (leaves a ks)
 
@@ -67,10 +67,10 @@ count_leaves a (k ∷ ks) = ap suc (count_leaves a ks)
 
 module _ (v : Values) (text : ℕ → List ℕ) where
   -- these trees name something, with these names
-  abbrev pub AreNames : Action → List (List ℕ) → Trees Step → Type 0
+  abbrev pub AreNames : Action → List (List ℕ) → Trees ActionSpan → Type 0
   AreNames a xs ts = (ks : List ℕ) × (ts ≡ leaves a ks) × (map text ks ≡ xs)
 
-  more_names : (a : Action) (x : List ℕ) (xs : List (List ℕ)) (i : ℕ) (ys zs : Trees Step) → text i ≡ x → IsLeaf a i ys → AreNames a xs zs → AreNames a (x ∷ xs) (join ys zs)
+  more_names : (a : Action) (x : List ℕ) (xs : List (List ℕ)) (i : ℕ) (ys zs : Trees ActionSpan) → text i ≡ x → IsLeaf a i ys → AreNames a xs zs → AreNames a (x ∷ xs) (join ys zs)
   more_names a x xs i ys zs h l n = (i ∷ n.0, ap (λ y. join y zs) l ∙ ap (a_tree (node (record { action = a; first = i; last = i }) no_tree)) n.1, ap (λ z. z ∷ map text n.0) h ∙ ap (λ z. x ∷ z) n.2)
 
   name_read : (a : Action) → end_of a ≡ None → (x : List ℕ) (xs : List (List ℕ)) (m : List Mark → List Mark) → Reads text (AreNames a xs) m
@@ -99,11 +99,11 @@ module _ (v : Values) (text : ℕ → List ℕ) where
   low_operands d [] = tt
   low_operands d (k ∷ ks) = (λ w. cc, tt, low_operands d ks)
 
-  operands_says : (n i : ℕ) (us : List (List ℕ)) (ts : Pieces) (xs : Trees Step) → length us ≡ n → ts ≡ no_tree → IsNode act.BeginOperands i (AreNames act.Operand us) xs
+  operands_says : (n i : ℕ) (us : List (List ℕ)) (ts : Pieces) (xs : Trees ActionSpan) → length us ≡ n → ts ≡ no_tree → IsNode act.BeginOperands i (AreNames act.Operand us) xs
       → Says v text (a_tree (node (operands n) ts) no_tree) us no_entity xs
   operands_says n i us ts xs e b q =
       let ks = q.3.0 in
-      let tree : Trees Step → Trees Step = λ us. a_tree (node (record { action = act.BeginOperands; first = i; last = q.0 }) us) no_tree in
+      let tree : Trees ActionSpan → Trees ActionSpan = λ us. a_tree (node (record { action = act.BeginOperands; first = i; last = q.0 }) us) no_tree in
       let many : count (leaves act.Operand ks) ≡ n = count_leaves act.Operand ks ∙ (sym (length-map ks text) ∙ (ap length q.3.2 ∙ e)) in
       subst (Says v text (a_tree (node (operands n) ts) no_tree) us no_entity) (sym (q.2 ∙ ap tree q.3.1)) (record {
         fine = λ rest h. (tt, refl, tt, fine_operands ks, h);

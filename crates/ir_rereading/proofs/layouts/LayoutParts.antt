@@ -10,7 +10,7 @@ use Rattle.ir_print.specs.Shapes.{parts_in}
 use Rattle.ir_grammar.specs.declared.grammar.Action.{Action}
 use Rattle.ir_grammar.specs.declared.grammar.Action.TheVariants as act
 use Rattle.ir_forest.specs.Building.{with_name}
-use Rattle.ir_forest.specs.Forest.{end_of, Deed, deeds_from, Step, ending, deeds_in, IsWholeStep}
+use Rattle.ir_forest.specs.Forest.{end_of, Deed, deeds_from, ActionSpan, ending, deeds_in, IsWholeStep}
 use Rattle.ir_forest.specs.Meaning.{pieces_in, operands_in, regions_in, all_renamed}
 use Rattle.ir_grammar.specs.Reading.{opens, depth_at}
 use Rattle.ir_forest.specs.ValueFaults.{refused}
@@ -39,18 +39,18 @@ shallow_apart d (an_entity t ts) us h = let r = shallow_apart d ts us h.1 in ((h
 -- ---- trees of steps
 
 -- regions, types and attributes begin where fewer than 64 are open
-abbrev pub AreLow : ℕ → Trees Step → Type 0
+abbrev pub AreLow : ℕ → Trees ActionSpan → Type 0
 AreLow d no_tree = Unit {0}
 AreLow d (a_tree (node s ts) rest) = (opens s.action ≡ true → d < 64) × AreLow (depth_at d s.action) ts × AreLow d rest
 
 module _ (v : Values) (text : ℕ → List ℕ) where
   -- an operation has as many names as results
-  abbrev pub IsCounted : Action → List ℕ → Trees Step → Type 0
+  abbrev pub IsCounted : Action → List ℕ → Trees ActionSpan → Type 0
   IsCounted (act.Operation kind) names ts = length names ≡ length (v.result_types kind (pieces_in v text ts))
   IsCounted _ names ts = Unit {0}
 
   -- each step is what its action is, nothing is refused, and operations have as many names as results; these names stand before
-  abbrev pub AreFine : List ℕ → Trees Step → Type 0
+  abbrev pub AreFine : List ℕ → Trees ActionSpan → Type 0
   AreFine names no_tree = Unit {0}
   AreFine names (a_tree (node s ts) rest) =
       IsWholeStep (end_of s.action) s ts × (refused v s.action (pieces_in v text ts) ≡ None) × IsCounted s.action names ts
@@ -67,25 +67,25 @@ HaveTexts text k (word printed cs ∷ ms) = (text k ≡ cs) × HaveTexts text (k
 HaveTexts text k (did a ∷ ms) = HaveTexts text k ms
 
 -- Reading marks, up to the rest, gives trees that are so.
-pub record Gives (text : ℕ → List ℕ) (P : Trees Step → Type 0) (k : ℕ) (ms rest : List Mark) : Type 0 where
+pub record Gives (text : ℕ → List ℕ) (P : Trees ActionSpan → Type 0) (k : ℕ) (ms rest : List Mark) : Type 0 where
   pub next : ℕ
-  pub trees : Trees Step
+  pub trees : Trees ActionSpan
   pub done : deeds_from k (events ms) ≡ deeds_in trees ++ deeds_from next (events rest)
   pub texts : HaveTexts text next rest
   pub is : P trees
 
 -- reading what is printed before any rest gives trees that are so
-abbrev pub Reads : (ℕ → List ℕ) → (Trees Step → Type 0) → (List Mark → List Mark) → Type 0
+abbrev pub Reads : (ℕ → List ℕ) → (Trees ActionSpan → Type 0) → (List Mark → List Mark) → Type 0
 Reads text P m = (k : ℕ) (rest : List Mark) → HaveTexts text k (m rest) → Gives text P k (m rest) rest
 
 module _ (text : ℕ → List ℕ) where
-  pub nothing : (P : Trees Step → Type 0) (k : ℕ) (rest : List Mark) → P no_tree → HaveTexts text k rest → Gives text P k rest rest
+  pub nothing : (P : Trees ActionSpan → Type 0) (k : ℕ) (rest : List Mark) → P no_tree → HaveTexts text k rest → Gives text P k rest rest
   nothing P k rest p h = record { next = k; trees = no_tree; done = refl; texts = h; is = p }
 
-  pub so : {P Q : Trees Step → Type 0} (k : ℕ) (ms rest : List Mark) → ((xs : Trees Step) → P xs → Q xs) → Gives text P k ms rest → Gives text Q k ms rest
+  pub so : {P Q : Trees ActionSpan → Type 0} (k : ℕ) (ms rest : List Mark) → ((xs : Trees ActionSpan) → P xs → Q xs) → Gives text P k ms rest → Gives text Q k ms rest
   so k ms rest f g = record { next = g.next; trees = g.trees; done = g.done; texts = g.texts; is = f g.trees g.is }
 
-  pub then : {P Q R : Trees Step → Type 0} (k : ℕ) (ms mid rest : List Mark) → ((xs ys : Trees Step) → P xs → Q ys → R (join xs ys))
+  pub then : {P Q R : Trees ActionSpan → Type 0} (k : ℕ) (ms mid rest : List Mark) → ((xs ys : Trees ActionSpan) → P xs → Q ys → R (join xs ys))
       → Gives text P k ms mid → ((n : ℕ) → HaveTexts text n mid → Gives text Q n mid rest) → Gives text R k ms rest
   then k ms mid rest f g h = let a = h g.next g.texts in record {
     next = a.next;
@@ -97,24 +97,24 @@ module _ (text : ℕ → List ℕ) where
     is = f g.trees a.trees g.is a.is;
   }
 
-  pub spaced : {P : Trees Step → Type 0} (k : ℕ) (ms rest : List Mark) (cs : List ℕ) → Gives text P k ms rest → Gives text P k (white cs ∷ ms) rest
+  pub spaced : {P : Trees ActionSpan → Type 0} (k : ℕ) (ms rest : List Mark) (cs : List ℕ) → Gives text P k ms rest → Gives text P k (white cs ∷ ms) rest
   spaced k ms rest cs g = record { next = g.next; trees = g.trees; done = g.done; texts = g.texts; is = g.is }
 
-  pub taken : {P : Trees Step → Type 0} (k : ℕ) (ms rest : List Mark) (cs : List ℕ) → Gives text P (k + 1) ms rest → Gives text P k (token cs ∷ ms) rest
+  pub taken : {P : Trees ActionSpan → Type 0} (k : ℕ) (ms rest : List Mark) (cs : List ℕ) → Gives text P (k + 1) ms rest → Gives text P k (token cs ∷ ms) rest
   taken k ms rest cs g = record { next = g.next; trees = g.trees; done = g.done; texts = g.texts; is = g.is }
 
-  pub worded : {P : Trees Step → Type 0} (k : ℕ) (ms rest : List Mark) (printed cs : List ℕ) → Gives text P (k + 1) ms rest → Gives text P k (word printed cs ∷ ms) rest
+  pub worded : {P : Trees ActionSpan → Type 0} (k : ℕ) (ms rest : List Mark) (printed cs : List ℕ) → Gives text P (k + 1) ms rest → Gives text P k (word printed cs ∷ ms) rest
   worded k ms rest printed cs g = record { next = g.next; trees = g.trees; done = g.done; texts = g.texts; is = g.is }
 
 -- one tree, of a step with this action and this token, in which trees are so
-abbrev pub IsNode : Action → ℕ → (Trees Step → Type 0) → Trees Step → Type 0
-IsNode a i P xs = (j : ℕ) × (us : Trees Step) × (xs ≡ a_tree (node (record { action = a; first = i; last = j }) us) no_tree) × P us
+abbrev pub IsNode : Action → ℕ → (Trees ActionSpan → Type 0) → Trees ActionSpan → Type 0
+IsNode a i P xs = (j : ℕ) × (us : Trees ActionSpan) × (xs ≡ a_tree (node (record { action = a; first = i; last = j }) us) no_tree) × P us
 
 -- one tree, of a step that stands alone at this token
-abbrev pub IsLeaf : Action → ℕ → Trees Step → Type 0
+abbrev pub IsLeaf : Action → ℕ → Trees ActionSpan → Type 0
 IsLeaf a i xs = xs ≡ a_tree (node (record { action = a; first = i; last = i }) no_tree) no_tree
 
-bracket : (s : Step) (us : Trees Step) (a : Action) (ds xs : List Deed) → end_of s.action ≡ Some a → xs ≡ deeds_in us ++ ((a, s.last) ∷ ds)
+bracket : (s : ActionSpan) (us : Trees ActionSpan) (a : Action) (ds xs : List Deed) → end_of s.action ≡ Some a → xs ≡ deeds_in us ++ ((a, s.last) ∷ ds)
     → (s.action, s.first) ∷ xs ≡ deeds_in (a_tree (node s us) no_tree) ++ ds
 bracket s us a ds xs e h =
     let first : Deed = (s.action, s.first) in
@@ -126,10 +126,10 @@ bracket s us a ds xs e h =
 
 module _ (text : ℕ → List ℕ) where
   -- what an action begins, up to what ends it
-  pub between : {P : Trees Step → Type 0} (begins ends : Action) → end_of begins ≡ Some ends → (k : ℕ) (ms rest : List Mark)
+  pub between : {P : Trees ActionSpan → Type 0} (begins ends : Action) → end_of begins ≡ Some ends → (k : ℕ) (ms rest : List Mark)
       → Gives text P k ms (did ends ∷ rest) → Gives text (IsNode begins (k - 1) P) k (did begins ∷ ms) rest
   between begins ends e k ms rest g =
-      let s : Step = record { action = begins; first = k - 1; last = g.next - 1 } in record {
+      let s : ActionSpan = record { action = begins; first = k - 1; last = g.next - 1 } in record {
         next = g.next;
         trees = a_tree (node s g.trees) no_tree;
         done = bracket s g.trees ends (deeds_from g.next (events rest)) (deeds_from k (events ms)) e g.done;
@@ -140,7 +140,7 @@ module _ (text : ℕ → List ℕ) where
   -- an action that stands alone
   pub single : (a : Action) → end_of a ≡ None → (k : ℕ) (rest : List Mark) → HaveTexts text k rest → Gives text (IsLeaf a (k - 1)) k (did a ∷ rest) rest
   single a e k rest h =
-      let s : Step = record { action = a; first = k - 1; last = k - 1 } in
+      let s : ActionSpan = record { action = a; first = k - 1; last = k - 1 } in
       let first : Deed = (a, k - 1) in record {
         next = k;
         trees = a_tree (node s no_tree) no_tree;
@@ -152,18 +152,18 @@ module _ (text : ℕ → List ℕ) where
 -- ---- what the parts of an operation, a type or an attribute say
 
 -- These trees say these pieces, operands with these names, and these regions, before whatever trees come next.
-pub record Says (v : Values) (text : ℕ → List ℕ) (ps : Pieces) (us : List (List ℕ)) (rs : Entities (List ℕ)) (xs : Trees Step) : Type 0 where
-  pub fine : (rest : Trees Step) → AreFine v text [] rest → AreFine v text [] (join xs rest)
-  pub pieces : (rest : Trees Step) → pieces_in v text (join xs rest) ≡ join ps (pieces_in v text rest)
-  pub operands : (rest : Trees Step) → map text (operands_in (join xs rest)) ≡ us ++ map text (operands_in rest)
-  pub regions : (rest : Trees Step) → all_renamed text (regions_in v text (join xs rest)) ≡ joined rs (all_renamed text (regions_in v text rest))
-  pub low : (d e : ℕ) → d + e ≡ 64 → AreFlat e ps → AreShallow e rs → (rest : Trees Step) → AreLow d rest → AreLow d (join xs rest)
+pub record Says (v : Values) (text : ℕ → List ℕ) (ps : Pieces) (us : List (List ℕ)) (rs : Entities (List ℕ)) (xs : Trees ActionSpan) : Type 0 where
+  pub fine : (rest : Trees ActionSpan) → AreFine v text [] rest → AreFine v text [] (join xs rest)
+  pub pieces : (rest : Trees ActionSpan) → pieces_in v text (join xs rest) ≡ join ps (pieces_in v text rest)
+  pub operands : (rest : Trees ActionSpan) → map text (operands_in (join xs rest)) ≡ us ++ map text (operands_in rest)
+  pub regions : (rest : Trees ActionSpan) → all_renamed text (regions_in v text (join xs rest)) ≡ joined rs (all_renamed text (regions_in v text rest))
+  pub low : (d e : ℕ) → d + e ≡ 64 → AreFlat e ps → AreShallow e rs → (rest : Trees ActionSpan) → AreLow d rest → AreLow d (join xs rest)
 
 module _ (v : Values) (text : ℕ → List ℕ) where
   pub says_none : Says v text no_tree [] no_entity no_tree
   says_none = record { fine = λ rest h. h; pieces = λ rest. refl; operands = λ rest. refl; regions = λ rest. refl; low = λ d e s f g rest h. h }
 
-  pub says_more : (t : ValueTree) (ts : Pieces) (us ws : List (List ℕ)) (rs qs : Entities (List ℕ)) (xs ys : Trees Step)
+  pub says_more : (t : ValueTree) (ts : Pieces) (us ws : List (List ℕ)) (rs qs : Entities (List ℕ)) (xs ys : Trees ActionSpan)
       → Says v text (a_tree t no_tree) us rs xs → Says v text ts ws qs ys → Says v text (a_tree t ts) (us ++ ws) (joined rs qs) (join xs ys)
   says_more t ts us ws rs qs xs ys a b = record {
     fine = λ rest h. subst (AreFine v text []) (sym (join_assoc xs ys rest)) (a.fine (join ys rest) (b.fine rest h));
@@ -197,16 +197,16 @@ module _ (v : Values) (text : ℕ → List ℕ) where
       (λ xs n. subst (Says v text (a_tree (node (operands 0) no_tree) no_tree) [] no_entity) (sym n.2) (subst (λ us. Says v text (a_tree (node (operands 0) no_tree) no_tree) [] no_entity (tree n.0 us)) (sym n.3) (empty n.0)))
       (between text act.BeginOperands act.EndOperands refl k (did act.EndOperands ∷ rest) rest (nothing text (λ us. us ≡ no_tree) k (did act.EndOperands ∷ rest) refl h))
     where
-      tree : ℕ → Trees Step → Trees Step
+      tree : ℕ → Trees ActionSpan → Trees ActionSpan
       tree j us = a_tree (node (record { action = act.BeginOperands; first = k - 1; last = j }) us) no_tree
 
       empty : (j : ℕ) → Says v text (a_tree (node (operands 0) no_tree) no_tree) [] no_entity (tree j no_tree)
       empty j = record { fine = λ rest h. (tt, refl, tt, tt, h); pieces = λ rest. refl; operands = λ rest. refl; regions = λ rest. refl; low = λ d e s f g rest h. (λ w. cc, tt, h) }
 
-  part_read : (before : Before) (s : step.Step) (t : ValueTree) (us : List (List ℕ)) (rs : Entities (List ℕ)) (p : Option Marker) (ps : List (Option Marker)) (Q : Trees Step → Type 0)
+  part_read : (before : Before) (s : step.Step) (t : ValueTree) (us : List (List ℕ)) (rs : Entities (List ℕ)) (p : Option Marker) (ps : List (Option Marker)) (Q : Trees ActionSpan → Type 0)
       (more : Before → List (Option Marker) → List Mark) (rest : List Mark) → IsRead s t us rs p → ((b : Before) (n : ℕ) → HaveTexts text n (more b ps) → Gives text Q n (more b ps) rest)
       → (k : ℕ) → HaveTexts text k (part_on before s (p ∷ ps) more)
-      → Gives text (λ zs. (xs : Trees Step) × (ys : Trees Step) × (zs ≡ join xs ys) × Says v text (a_tree t no_tree) us rs xs × Q ys) k (part_on before s (p ∷ ps) more) rest
+      → Gives text (λ zs. (xs : Trees ActionSpan) × (ys : Trees ActionSpan) × (zs ≡ join xs ys) × Says v text (a_tree t no_tree) us rs xs × Q ys) k (part_on before s (p ∷ ps) more) rest
   part_read before s t us rs None ps Q more rest r q k h =
       let one : Gives text (Says v text (a_tree t no_tree) us rs) k (did act.BeginOperands ∷ did act.EndOperands ∷ more before ps) (more before ps) =
       so text k (did act.BeginOperands ∷ did act.EndOperands ∷ more before ps) (more before ps)

@@ -10,7 +10,7 @@ use Rattle.ir_grammar.specs.declared.grammar.Action.{Action}
 use Rattle.ir_grammar.specs.declared.grammar.Action.TheVariants as act
 use Rattle.ir_forest.specs.Bare.{IsBare, AreBare, AreBareArguments, IsBareTree, AreBareTrees, KeepsBare}
 use Rattle.ir_forest.specs.Closed.{FitsTree, FitTrees, unlabelled, all_unlabelled}
-use Rattle.ir_forest.specs.Forest.{Step}
+use Rattle.ir_forest.specs.Forest.{ActionSpan}
 use Rattle.ir_forest.specs.Meaning.{digits, number_in, tail, width_in, head_of, with_piece, pieces_in, by_operation, by_region, by_label, by_argument, arguments_in, operations_in, regions_in, blocks_in, renamed, all_renamed}
 use Rattle.ir_rereading.specs.Outer.{is_value_step, is_plain_step, has_outer_operands}
 use Rattle.ir_rereading.proofs.layouts.LayoutValues.{IsPlain, ArePlain}
@@ -123,7 +123,7 @@ module _ (v : Values) (text : ℕ → List ℕ) (keeps : KeepsBare v) where
   piece_bare act.Width cs many ts rest h r = (width_bare cs, r)
   piece_bare _ cs many ts rest h r = r
 
-  pieces_bare : (ts : Trees Step) → AreBare (pieces_in v text ts)
+  pieces_bare : (ts : Trees ActionSpan) → AreBare (pieces_in v text ts)
   pieces_bare no_tree = tt
   pieces_bare (a_tree (node s ts) rest) = piece_bare s.action (text s.first) (count ts) (pieces_in v text ts) (pieces_in v text rest) (pieces_bare ts) (pieces_bare rest)
 
@@ -134,7 +134,7 @@ module _ (v : Values) (text : ℕ → List ℕ) (keeps : KeepsBare v) where
   by_argument_bare act.Header x y z g hx hg hy hz = hy
   by_argument_bare _ x y z g hx hg hy hz = hz
 
-  arguments_bare : (ts : Trees Step) (named : ℕ) → AreBareArguments (arguments_in v text named ts)
+  arguments_bare : (ts : Trees ActionSpan) (named : ℕ) → AreBareArguments (arguments_in v text named ts)
   arguments_bare no_tree named = tt
   arguments_bare (a_tree (node s ts) rest) named =
       by_argument_bare s.action (arguments_in v text s.first rest) [] (arguments_in v text named rest) (λ kind. (named, node (type_of_kind kind) (pieces_in v text ts)) ∷ arguments_in v text named rest)
@@ -154,12 +154,12 @@ module _ (v : Values) (text : ℕ → List ℕ) (keeps : KeepsBare v) where
   by_label_bare _ x y hx hy = hy
 
   -- what steps say, however they are read
-  record AllBare (ts : Trees Step) : Type 0 where
+  record AllBare (ts : Trees ActionSpan) : Type 0 where
     operations : (names : List ℕ) → AreBareTrees (operations_in v text names ts)
     regions : AreBareTrees (regions_in v text ts)
     blocks : AreBareTrees (blocks_in v text ts)
 
-  all_bare : (ts : Trees Step) → AllBare ts
+  all_bare : (ts : Trees ActionSpan) → AllBare ts
   all_bare no_tree = record { operations = λ names. tt; regions = tt; blocks = tt }
   all_bare (a_tree (node s ts) rest) =
       let inner = all_bare ts in
@@ -173,7 +173,7 @@ module _ (v : Values) (text : ℕ → List ℕ) (keeps : KeepsBare v) where
       }
 
 -- an operation that was read
-pub read_bare : (v : Values) (text : ℕ → List ℕ) → KeepsBare v → (forest : Trees Step) (tree : Entity ℕ) → operations_in v text [] forest ≡ an_entity tree no_entity → IsBareTree tree
+pub read_bare : (v : Values) (text : ℕ → List ℕ) → KeepsBare v → (forest : Trees ActionSpan) (tree : Entity ℕ) → operations_in v text [] forest ≡ an_entity tree no_entity → IsBareTree tree
 read_bare v text keeps forest tree e = (subst AreBareTrees e ((all_bare v text keeps forest).operations [])).0
 
 -- ---- other names and labels

@@ -8,14 +8,14 @@ use Rattle.ir_names.specs.Text.{is_identifier}
 use Rattle.ir_print.specs.Formats as step
 use Rattle.ir_print.specs.Formats.{Formats, Kind, Step, Steps, no_steps}
 use Rattle.ir_print.specs.Layout.{Before, an_id, a_word, a_part, gap_of_word, gap_of_part, line}
-use Rattle.ir_print.specs.Pieces.{type_of_kind, attribute_of_kind, list, item, operands, region, name, number, width, ValueTree, Pieces, Values, Head, operation, a_region, block, Entity, entity, Entities, no_entity, an_entity}
+use Rattle.ir_print.specs.Pieces.{type_of_kind, attribute_of_kind, list, item, operands, region, name, number, width, ValueTree, Pieces, Values, EntityHead, operation, a_region, block, Entity, entity, Entities, no_entity, an_entity}
 use Rattle.ir_print.specs.Shapes.{parts_in, Fits, FitAll, FitMembers, FitsMember, FitArguments}
 use Rattle.ir_grammar.specs.declared.grammar.Action.{Action}
 use Rattle.ir_grammar.specs.declared.grammar.Action.TheVariants as act
 use Rattle.ir_tokens.specs.declared.tokens.Token.{Token}
 use Rattle.ir_tokens.specs.Tokens.{is_sign, ReadsAs}
 use Rattle.ir_formats.specs.Words.{text_of}
-use Rattle.ir_rereading.specs.Printable.{is_word, less_spaces, is_before_spaces, is_printed, begins_apart, ends_apart, Edge, apart, behind, part, may_follow, may_take, is_step_apart, are_steps_apart, is_kind_printable, is_printable}
+use Rattle.ir_rereading.specs.Printable.{is_word, less_spaces, is_before_spaces, is_printed, begins_apart, ends_apart, BoundaryBefore, apart, behind, part, may_follow, may_take, is_step_apart, are_steps_apart, is_kind_printable, is_printable}
 use Rattle.ir_forest.specs.Closed.{names_of, FitsHead, FitsTree, FitTrees}
 use Rattle.ir_rereading.proofs.layouts.Marks.{Mark, white, token, word, did, characters, tokens, Marker, part_on, format_on, kind_on, more_members_on, members_on, piece_on, parts_on, type_on, more_names_on, names_on, results_on, operands_on, first_region_on, all_parts_on, operation_head_on, argument_on, more_arguments_on, arguments_on, block_head_on, operation_on, regions_on, region_on, blocks_on, block_on, operations_on, more_operations_on, marks, sort_of, AreIdentifiers, IsSpeltHead, IsSpelt, AreSpelt}
 use Rattle.ir_rereading.proofs.layouts.Lexemes as lexemes
@@ -102,7 +102,7 @@ AreMarked (s ∷ ss) (p ∷ ps) = IsMarked s p × AreMarked ss ps
 AreMarked _ _ = ⊥
 
 -- What has to come next in a format: behind a token that runs on it stops every token.
-abbrev Owes : Before → Edge → List Mark → Type 0
+abbrev Owes : Before → BoundaryBefore → List Mark → Type 0
 Owes an_id e ms = IsNext ms
 Owes a_part part ms = IsNext ms
 Owes a_part _ ms = IsLexed ms
@@ -113,7 +113,7 @@ word_of_next : (b : Bool) (ms : List Mark) → IsNext ms → WordNext b ms
 word_of_next true ms k = loose k
 word_of_next false ms k = k
 
-owes_next : (before : Before) (edge : Edge) (ms : List Mark) → IsNext ms → Owes before edge ms
+owes_next : (before : Before) (edge : BoundaryBefore) (ms : List Mark) → IsNext ms → Owes before edge ms
 owes_next an_id edge ms k = k
 owes_next a_part apart ms k = loose k
 owes_next a_part (behind p) ms k = loose k
@@ -127,7 +127,7 @@ take_after true ms h l = l
 take_after false ms h l = absurd (let t : false ≡ true = h in cc)
 
 -- a part that may stand here
-owes_part : (before : Before) (edge : Edge) (ms : List Mark) → may_take edge ≡ true → IsLexed ms → Owes before edge (white (gap_of_part before) ∷ ms)
+owes_part : (before : Before) (edge : BoundaryBefore) (ms : List Mark) → may_take edge ≡ true → IsLexed ms → Owes before edge (white (gap_of_part before) ∷ ms)
 owes_part an_id edge ms h l = spaced l
 owes_part a_part apart ms h l = loose (spaced l)
 owes_part a_part (behind p) ms h l = loose (spaced l)
@@ -137,7 +137,7 @@ owes_part a_word (behind p) ms h l = take_after (ends_apart p) _ h (unset l)
 owes_part a_word part ms h l = unset l
 
 -- no operands, where a part may stand
-owes_none : (before : Before) (edge : Edge) (ms : List Mark) → may_take edge ≡ true → Owes before part ms → Owes before edge (did act.BeginOperands ∷ did act.EndOperands ∷ ms)
+owes_none : (before : Before) (edge : BoundaryBefore) (ms : List Mark) → may_take edge ≡ true → Owes before part ms → Owes before edge (did act.BeginOperands ∷ did act.EndOperands ∷ ms)
 owes_none an_id edge ms h k = done (done k)
 owes_none a_part apart ms h k = loose (done (done k))
 owes_none a_part (behind p) ms h k = loose (done (done k))
@@ -151,7 +151,7 @@ follow_after true b ms h l k = l
 follow_after false b ms h l k = k h
 
 -- a word that may stand here
-owes_word : (before : Before) (edge : Edge) (printed text : List ℕ) (ms : List Mark) → is_printed printed text ≡ true → may_follow edge printed ≡ true → WordNext (ends_apart printed) ms
+owes_word : (before : Before) (edge : BoundaryBefore) (printed text : List ℕ) (ms : List Mark) → is_printed printed text ≡ true → may_follow edge printed ≡ true → WordNext (ends_apart printed) ms
     → Owes before edge (white (gap_of_word before) ∷ word printed text ∷ ms)
 owes_word an_id edge printed text ms h m w = spaced (format_word printed text ms h w)
 owes_word a_part apart printed text ms h m w = unset (format_word printed text ms h w)
@@ -163,14 +163,14 @@ owes_word a_word (behind p) printed text ms h m w =
 owes_word a_word part printed text ms h m w = unset (format_word printed text ms h w)
 
 -- the next part, or none
-owes_step : (before : Before) (edge : Edge) (s : Step) (ss : List Step) (ps : List (Option Marker)) (more : Before → List (Option Marker) → List Mark) → may_take edge ≡ true → is_step_apart s ≡ true
+owes_step : (before : Before) (edge : BoundaryBefore) (s : Step) (ss : List Step) (ps : List (Option Marker)) (more : Before → List (Option Marker) → List Mark) → may_take edge ≡ true → is_step_apart s ≡ true
     → AreMarked (s ∷ ss) ps → ((b : Before) (qs : List (Option Marker)) → AreMarked ss qs → Owes b part (more b qs)) → Owes before edge (part_on before s ps more)
 owes_step before edge s ss [] more h a m k = absurd m
 owes_step before edge s ss (None ∷ ps) more h a m k = owes_none before edge _ h (k before ps m.1)
 owes_step before edge s ss (Some p ∷ ps) more h a m k = owes_part before edge _ h (m.0 a _ (k a_part ps m.1))
 
 -- what a format says
-lex_format : (before : Before) (edge : Edge) (ss : Steps) (ps : List (Option Marker)) (rest : List Mark) → are_steps_apart edge ss ≡ true → AreMarked (parts_in ss) ps → IsNext rest
+lex_format : (before : Before) (edge : BoundaryBefore) (ss : Steps) (ps : List (Option Marker)) (rest : List Mark) → are_steps_apart edge ss ≡ true → AreMarked (parts_in ss) ps → IsNext rest
     → Owes before edge (format_on before ss ps rest)
 lex_format before edge no_steps ps rest h m k = owes_next before edge rest k
 lex_format before edge (step.step (step.word printed text) ss) ps rest h m k =
@@ -339,14 +339,14 @@ module _ (f : Formats) (v : Values) (printable : is_printable f ≡ true) where
   lex_arguments [] rest h g k = loose k
   lex_arguments (x ∷ xs) rest h g k = lex_argument x _ h.0 g.0 (lex_more_arguments xs rest h.1 g.1 k)
 
-  lex_operation_head : (h : Head (List ℕ)) (rs : List (List Mark → List Mark)) (rest : List Mark) → FitsHead f v h → IsSpeltHead h → AllNext rs → IsNext rest → IsLexed (operation_head_on f h rs rest)
+  lex_operation_head : (h : EntityHead (List ℕ)) (rs : List (List Mark → List Mark)) (rest : List Mark) → FitsHead f v h → IsSpeltHead h → AllNext rs → IsNext rest → IsLexed (operation_head_on f h rs rest)
   lex_operation_head (operation kind results used pieces) rs rest g s r k =
       lex_results results _ s.0 (lex_found _ g.0 (act.Operation kind) act.EndOperation _ rest g.1 (kind_at f.operations kind g.0 printable_operations g.1)
       (lex_all_parts pieces (parts_in g.0.format) used rs g.2 s.1 r) k)
   lex_operation_head a_region rs rest g s r k = loose k
   lex_operation_head (block label arguments) rs rest g s r k = loose k
 
-  lex_block_head : (h : Head (List ℕ)) (inner : List Mark → List Mark) (rest : List Mark) → FitsHead f v h → IsSpeltHead h → ((r : List Mark) → IsNext r → IsNext (inner r)) → IsNext rest
+  lex_block_head : (h : EntityHead (List ℕ)) (inner : List Mark → List Mark) (rest : List Mark) → FitsHead f v h → IsSpeltHead h → ((r : List Mark) → IsNext r → IsNext (inner r)) → IsNext rest
       → IsLexed (block_head_on f h inner rest)
   lex_block_head (operation kind results used pieces) inner rest g s i k = loose (i rest k)
   lex_block_head a_region inner rest g s i k = loose (i rest k)

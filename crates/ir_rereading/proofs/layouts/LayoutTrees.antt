@@ -9,7 +9,7 @@ use Rattle.ir_print.specs.Pieces.{type_of_kind, attribute_of_kind, list, item, o
 use Rattle.ir_print.specs.Shapes.{parts_in, Fits, FitArguments}
 use Rattle.ir_forest.specs.Closed.{IsOperation, AreRegions, IsRegion, AreBlocks, IsBlock, AreOperations, FitsTree, FitTrees}
 use Rattle.ir_grammar.specs.declared.grammar.Action.TheVariants as act
-use Rattle.ir_forest.specs.Forest.{deeds, Step, deeds_in, AreWhole, IsForest}
+use Rattle.ir_forest.specs.Forest.{deeds, ActionSpan, deeds_in, AreWhole, IsForestOf}
 use Rattle.ir_forest.specs.Meaning.{operations_in, blocks_in, renamed, all_renamed}
 use Rattle.ir_forest.specs.ValueFaults.{AreSound}
 use Rattle.ir_forest.specs.Building.{with_name}
@@ -23,7 +23,7 @@ module _ (f : Formats) (v : Values) (text : ℕ → List ℕ) where
   -- ---- arguments
 
   -- one tree that says a type
-  abbrev IsType : ℕ → Pieces → Trees Step → Type 0
+  abbrev IsType : ℕ → Pieces → Trees ActionSpan → Type 0
   IsType n ts xs = (i : ℕ) × IsNode (act.BeginType n) i (Says v text ts [] no_entity) xs
 
   typed_read : (cs : List ℕ) (t : ValueTree) → Fits f v step.a_type t → IsPlain t
@@ -62,15 +62,15 @@ module _ (f : Formats) (v : Values) (text : ℕ → List ℕ) where
   -- ---- operations, regions and blocks
 
   -- these trees say an operation, or a block
-  abbrev IsOneOperation : Entity (List ℕ) → Trees Step → Type 0
+  abbrev IsOneOperation : Entity (List ℕ) → Trees ActionSpan → Type 0
   IsOneOperation t xs = SaysEntities v text (operations_in v text []) (an_entity t no_entity) xs
 
-  abbrev IsOneBlock : Entity (List ℕ) → Trees Step → Type 0
+  abbrev IsOneBlock : Entity (List ℕ) → Trees ActionSpan → Type 0
   IsOneBlock t xs = SaysEntities v text (blocks_in v text) (an_entity t no_entity) xs
 
   -- the end of a header, and operations
-  abbrev IsEnded : Entities (List ℕ) → Trees Step → Type 0
-  IsEnded es zs = (ys : Trees Step) × (ws : Trees Step) × (i : ℕ) × (zs ≡ join ys ws) × IsLeaf act.Header i ys × SaysEntities v text (operations_in v text []) es ws
+  abbrev IsEnded : Entities (List ℕ) → Trees ActionSpan → Type 0
+  IsEnded es zs = (ys : Trees ActionSpan) × (ws : Trees ActionSpan) × (i : ℕ) × (zs ≡ join ys ws) × IsLeaf act.Header i ys × SaysEntities v text (operations_in v text []) es ws
 
   mutual
     pub operation_read : (t : Entity (List ℕ)) (n : ℕ) → FitsTree f v t → IsPlainTree t → IsOperation v t → Reads text (IsOneOperation t) (operation_on f n t)
@@ -177,11 +177,11 @@ have_texts text (word printed cs ∷ ms) k h =
     (ap text first ∙ h 0 cs refl, have_texts text ms (k + 1) (λ j x e. ap text (next j) ∙ h (suc j) x e))
 have_texts text (did a ∷ ms) k h = have_texts text ms k h
 
-pub fine_whole : (v : Values) (text : ℕ → List ℕ) (names : List ℕ) (ts : Trees Step) → AreFine v text names ts → AreWhole ts
+pub fine_whole : (v : Values) (text : ℕ → List ℕ) (names : List ℕ) (ts : Trees ActionSpan) → AreFine v text names ts → AreWhole ts
 fine_whole v text names no_tree h = tt
 fine_whole v text names (a_tree (node s ts) rest) h = (h.0, fine_whole v text [] ts h.3, fine_whole v text (with_name names s.action s.first) rest h.4)
 
-fine_sound : (v : Values) (text : ℕ → List ℕ) (names : List ℕ) (ts : Trees Step) → AreFine v text names ts → AreSound v text ts
+fine_sound : (v : Values) (text : ℕ → List ℕ) (names : List ℕ) (ts : Trees ActionSpan) → AreFine v text names ts → AreSound v text ts
 fine_sound v text names no_tree h = tt
 fine_sound v text names (a_tree (node s ts) rest) h = (h.1, fine_sound v text [] ts h.3, fine_sound v text (with_name names s.action s.first) rest h.4)
 
@@ -192,7 +192,7 @@ one_renamed text (an_entity e (an_entity d ds)) t h = cc
 
 -- what reading a layout builds
 pub record Builds (v : Values) (t : Entity (List ℕ)) (text : ℕ → List ℕ) (ms : List Mark) : Type 0 where
-  pub forest : Trees Step
+  pub forest : Trees ActionSpan
   pub done : deeds (events ms) ≡ deeds_in forest
   pub says : SaysAllEntities v text (operations_in v text []) (an_entity t no_entity) forest
 
@@ -206,7 +206,7 @@ layout_builds f v t text fit plain is h =
     }
 
 pub layout_tree : (f : Formats) (v : Values) (t : Entity (List ℕ)) (text : ℕ → List ℕ) → FitsTree f v t → IsPlainTree t → IsOperation v t → HasTexts text (marks f t)
-    → (forest : Trees Step) × (tree : Entity ℕ) × IsForest (events (marks f t)) forest × (operations_in v text [] forest ≡ an_entity tree no_entity) × (renamed text tree ≡ t) × AreSound v text forest
+    → (forest : Trees ActionSpan) × (tree : Entity ℕ) × IsForestOf (events (marks f t)) forest × (operations_in v text [] forest ≡ an_entity tree no_entity) × (renamed text tree ≡ t) × AreSound v text forest
 layout_tree f v t text fit plain is h =
     let b = layout_builds f v t text fit plain is h in
     let r = one_renamed text (operations_in v text [] b.forest) t b.says.entities in

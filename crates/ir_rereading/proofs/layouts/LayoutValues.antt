@@ -9,7 +9,7 @@ use Rattle.ir_print.specs.Pieces.{type_of_kind, attribute_of_kind, list, item, o
 use Rattle.ir_print.specs.Shapes.{parts_in, IsListOf, TakesName, Fits, FitAll, FitMembers, FitsMember}
 use Rattle.ir_grammar.specs.declared.grammar.Action.{Action}
 use Rattle.ir_grammar.specs.declared.grammar.Action.TheVariants as act
-use Rattle.ir_forest.specs.Forest.{end_of, Step}
+use Rattle.ir_forest.specs.Forest.{end_of, ActionSpan}
 use Rattle.ir_forest.specs.Meaning.{number_in, width_in, pieces_in, operands_in, regions_in, all_renamed}
 use Rattle.ir_rereading.proofs.layouts.LayoutNumbers.{number_again, width_again}
 use Rattle.ir_rereading.proofs.layouts.LayoutParts.{joined_none, AreLow, AreFine, HaveTexts, Gives, Reads, so, then, taken, worded, nothing, IsNode, IsLeaf, between, single, Says, says_none, says_more, AreRead, format_read, kind_read}
@@ -47,14 +47,14 @@ deeper P Q d zero s p f = absurd p
 deeper P Q d (suc e) s p f = (omega (arith, s), f (d + 1) e (omega (arith, s)) p)
 
 -- what trees say that are all there are
-pub record SaysAll (v : Values) (text : ℕ → List ℕ) (ps : Pieces) (us : List (List ℕ)) (rs : Entities (List ℕ)) (xs : Trees Step) : Type 0 where
+pub record SaysAll (v : Values) (text : ℕ → List ℕ) (ps : Pieces) (us : List (List ℕ)) (rs : Entities (List ℕ)) (xs : Trees ActionSpan) : Type 0 where
   pub fine : AreFine v text [] xs
   pub pieces : pieces_in v text xs ≡ ps
   pub operands : map text (operands_in xs) ≡ us
   pub regions : all_renamed text (regions_in v text xs) ≡ rs
   pub low : (d e : ℕ) → d + e ≡ 64 → AreFlat e ps → AreShallow e rs → AreLow d xs
 
-pub say_all : (v : Values) (text : ℕ → List ℕ) (ps : Pieces) (us : List (List ℕ)) (rs : Entities (List ℕ)) (xs : Trees Step) → Says v text ps us rs xs → SaysAll v text ps us rs xs
+pub say_all : (v : Values) (text : ℕ → List ℕ) (ps : Pieces) (us : List (List ℕ)) (rs : Entities (List ℕ)) (xs : Trees ActionSpan) → Says v text ps us rs xs → SaysAll v text ps us rs xs
 say_all v text ps us rs xs s =
     let same = join_none xs in record {
       fine = subst (AreFine v text []) same (s.fine no_tree tt);
@@ -66,12 +66,12 @@ say_all v text ps us rs xs s =
 
 module _ (v : Values) (text : ℕ → List ℕ) where
   -- these trees say this piece, no operands and no regions
-  abbrev pub SaysOne : ValueTree → Trees Step → Type 0
+  abbrev pub SaysOne : ValueTree → Trees ActionSpan → Type 0
   SaysOne t xs = Says v text (a_tree t no_tree) [] no_entity xs
 
   -- ---- pieces with others in them
 
-  pub type_says : (n i : ℕ) (ts : Pieces) (xs : Trees Step) → v.refused_type n ts ≡ None → IsNode (act.BeginType n) i (Says v text ts [] no_entity) xs → SaysOne (node (type_of_kind n) ts) xs
+  pub type_says : (n i : ℕ) (ts : Pieces) (xs : Trees ActionSpan) → v.refused_type n ts ≡ None → IsNode (act.BeginType n) i (Says v text ts [] no_entity) xs → SaysOne (node (type_of_kind n) ts) xs
   type_says n i ts xs fit q =
       let a = say_all v text ts [] no_entity q.1 q.3 in
       subst (SaysOne (node (type_of_kind n) ts)) (sym q.2) (record {
@@ -82,7 +82,7 @@ module _ (v : Values) (text : ℕ → List ℕ) where
         low = λ d e s f g rest h. let r = deeper (λ e. AreFlat e ts) (λ d. AreLow d q.1) d e s f.0 (λ d e s f. a.low d e s f tt) in (λ w. r.0, r.1, h);
       })
 
-  pub attribute_says : (n i : ℕ) (ts : Pieces) (xs : Trees Step) → v.refused_attribute n ts ≡ None → v.canonical n ts ≡ ts → IsNode (act.BeginAttribute n) i (Says v text ts [] no_entity) xs
+  pub attribute_says : (n i : ℕ) (ts : Pieces) (xs : Trees ActionSpan) → v.refused_attribute n ts ≡ None → v.canonical n ts ≡ ts → IsNode (act.BeginAttribute n) i (Says v text ts [] no_entity) xs
       → SaysOne (node (attribute_of_kind n) ts) xs
   attribute_says n i ts xs fit canonical q =
       let a = say_all v text ts [] no_entity q.1 q.3 in
@@ -94,7 +94,7 @@ module _ (v : Values) (text : ℕ → List ℕ) where
         low = λ d e s f g rest h. let r = deeper (λ e. AreFlat e ts) (λ d. AreLow d q.1) d e s f.0 (λ d e s f. a.low d e s f tt) in (λ w. r.0, r.1, h);
       })
 
-  pub list_says : (i : ℕ) (ts : Pieces) (xs : Trees Step) → IsNode act.BeginList i (Says v text ts [] no_entity) xs → SaysOne (node list ts) xs
+  pub list_says : (i : ℕ) (ts : Pieces) (xs : Trees ActionSpan) → IsNode act.BeginList i (Says v text ts [] no_entity) xs → SaysOne (node list ts) xs
   list_says i ts xs q =
       let a = say_all v text ts [] no_entity q.1 q.3 in
       subst (SaysOne (node list ts)) (sym q.2) (record {
@@ -105,7 +105,7 @@ module _ (v : Values) (text : ℕ → List ℕ) where
         low = λ d e s f g rest h. (λ w. cc, a.low d e s f.0 tt, h);
       })
 
-  pub item_says : (i : ℕ) (ts : Pieces) (xs : Trees Step) → IsNode act.BeginItem i (Says v text ts [] no_entity) xs → SaysOne (node item ts) xs
+  pub item_says : (i : ℕ) (ts : Pieces) (xs : Trees ActionSpan) → IsNode act.BeginItem i (Says v text ts [] no_entity) xs → SaysOne (node item ts) xs
   item_says i ts xs q =
       let a = say_all v text ts [] no_entity q.1 q.3 in
       subst (SaysOne (node item ts)) (sym q.2) (record {
@@ -121,7 +121,7 @@ module _ (v : Values) (text : ℕ → List ℕ) where
   pub here : (k : ℕ) (cs : List ℕ) → text k ≡ cs → text (k + 1 - 1) ≡ cs
   here k cs h = let same : k + 1 - 1 ≡ k = omega arith in ap text same ∙ h
 
-  name_says : (i : ℕ) (cs : List ℕ) (ts : Pieces) (xs : Trees Step) → text i ≡ cs → ts ≡ no_tree → IsLeaf act.Name i xs → SaysOne (node (name cs) ts) xs
+  name_says : (i : ℕ) (cs : List ℕ) (ts : Pieces) (xs : Trees ActionSpan) → text i ≡ cs → ts ≡ no_tree → IsLeaf act.Name i xs → SaysOne (node (name cs) ts) xs
   name_says i cs ts xs h e q = subst (SaysOne (node (name cs) ts)) (sym q) (subst (λ z. SaysOne (node (name cs) z) (a_tree (node (record { action = act.Name; first = i; last = i }) no_tree) no_tree)) (sym e) (record {
     fine = λ rest h. ((refl, refl, refl), refl, tt, tt, h);
     pieces = λ rest. ap (λ z. a_tree (node (name z) no_tree) (pieces_in v text rest)) h;
@@ -130,7 +130,7 @@ module _ (v : Values) (text : ℕ → List ℕ) where
     low = λ d e s f g rest h. (λ w. cc, tt, h);
   }))
 
-  number_says : (i : ℕ) (cs : List ℕ) (negative : Bool) (magnitude : ℕ) (ts : Pieces) (xs : Trees Step) → text i ≡ cs → number_in cs ≡ number negative magnitude → ts ≡ no_tree → IsLeaf act.Number i xs
+  number_says : (i : ℕ) (cs : List ℕ) (negative : Bool) (magnitude : ℕ) (ts : Pieces) (xs : Trees ActionSpan) → text i ≡ cs → number_in cs ≡ number negative magnitude → ts ≡ no_tree → IsLeaf act.Number i xs
       → SaysOne (node (number negative magnitude) ts) xs
   number_says i cs negative magnitude ts xs h r e q = subst (SaysOne (node (number negative magnitude) ts)) (sym q) (subst (λ z. SaysOne (node (number negative magnitude) z) (a_tree (node (record { action = act.Number; first = i; last = i }) no_tree) no_tree)) (sym e) (record {
     fine = λ rest h. ((refl, refl, refl), refl, tt, tt, h);
@@ -140,7 +140,7 @@ module _ (v : Values) (text : ℕ → List ℕ) where
     low = λ d e s f g rest h. (λ w. cc, tt, h);
   }))
 
-  width_says : (i : ℕ) (cs : List ℕ) (p : ValueTree) (ts : Pieces) (xs : Trees Step) → text i ≡ cs → node (width_in cs) ts ≡ p → ts ≡ no_tree → IsLeaf act.Width i xs → SaysOne p xs
+  width_says : (i : ℕ) (cs : List ℕ) (p : ValueTree) (ts : Pieces) (xs : Trees ActionSpan) → text i ≡ cs → node (width_in cs) ts ≡ p → ts ≡ no_tree → IsLeaf act.Width i xs → SaysOne p xs
   width_says i cs p ts xs h r e q = subst (SaysOne p) (sym q) (subst (λ z. SaysOne z (a_tree (node (record { action = act.Width; first = i; last = i }) no_tree) no_tree)) r (subst (λ z. SaysOne (node (width_in cs) z) (a_tree (node (record { action = act.Width; first = i; last = i }) no_tree) no_tree)) (sym e) (record {
     fine = λ rest h. ((refl, refl, refl), refl, tt, tt, h);
     pieces = λ rest. ap (λ z. a_tree (node (width_in z) no_tree) (pieces_in v text rest)) h;
@@ -164,7 +164,7 @@ module _ (f : Formats) (v : Values) (text : ℕ → List ℕ) where
 
   -- what a kind's texts are read as
   pub kind_at_read : (o : Option Kind) (c : Kind) → o ≡ Some c → (begins ends : Action) → end_of begins ≡ Some ends → (ts : Pieces) (us : List (List ℕ)) (rs : Entities (List ℕ)) (ps : List (Option Marker)) → AreRead v text (parts_in c.format) ts us rs ps
-      → (P : Trees Step → Type 0) → ((i : ℕ) (xs : Trees Step) → IsNode begins i (Says v text ts us rs) xs → P xs) → Reads text P (kind_on o begins ends ps)
+      → (P : Trees ActionSpan → Type 0) → ((i : ℕ) (xs : Trees ActionSpan) → IsNode begins i (Says v text ts us rs) xs → P xs) → Reads text P (kind_on o begins ends ps)
   kind_at_read o c at begins ends e ts us rs ps r P f k rest =
       subst (λ o. HaveTexts text k (kind_on o begins ends ps rest) → Gives text P k (kind_on o begins ends ps rest) rest) (sym at)
       (λ h. so text k (kind_on (Some c) begins ends ps rest) rest (f (k + 1 - 1)) (kind_read v text c begins ends e ts us rs ps r k rest h))

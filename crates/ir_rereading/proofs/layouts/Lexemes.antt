@@ -12,7 +12,7 @@ use Rattle.std.proofs.lemmas.Bool.Decides.{nat_tests}
 use Rattle.ir_tokens.specs.declared.tokens.TokenKind.{TokenKind}
 use Rattle.ir_tokens.specs.declared.tokens.TokenKind.TheVariants as kinds
 use Rattle.ir_tokens.specs.declared.tokens.Token as place
-use Rattle.ir_tokens.specs.Tokens.{is_letter, is_digit, is_name_char, is_sign, Runs, IsName, AreDigits, IsInMemory, Spells, NoLonger, ReadsAs}
+use Rattle.ir_tokens.specs.Tokens.{is_letter, is_digit, is_name_char, is_sign, AreAllOfKind, IsName, AreDigits, IsInMemory, Spells, NoLonger, ReadsAs}
 use Rattle.ir_formats.specs.Words as words
 use Rattle.ir_rereading.proofs.layouts.Marks.{sort_of, has_dot, behind_minus}
 use Rattle.ir_tokens.proofs.TokenLongest.{name_longest, dotted_longest, digits_longest, negative_longest, arrow_longest, sign_longest}
@@ -215,7 +215,7 @@ all_at p [] n h lt = absurd (let z : n < 0 = lt in omega arith)
 all_at p (c ∷ cs) zero h lt = (both_hold (p c) (list_all p cs) h).0
 all_at p (c ∷ cs) (suc n) h lt = all_at p cs n (both_hold (p c) (list_all p cs) h).1 (omega arith)
 
-runs_in : (p : ℕ → Bool) (whole : List ℕ) (i : ℕ) (x cs : List ℕ) → IsRest whole i (x ++ cs) → list_all p x ≡ true → (j : ℕ) → j ≡ i + length x → Runs p whole i j
+runs_in : (p : ℕ → Bool) (whole : List ℕ) (i : ℕ) (x cs : List ℕ) → IsRest whole i (x ++ cs) → list_all p x ≡ true → (j : ℕ) → j ≡ i + length x → AreAllOfKind p whole i j
 runs_in p whole i x cs r h j e n lo hi =
     let m : i + (n - i) ≡ n = omega arith in
     subst (λ v. p (slice_index whole v) ≡ true) m (rw (inner whole i x cs r (n - i) (omega arith)) (all_at p x (n - i) h (omega arith)))

@@ -5,7 +5,7 @@ use Rattle.ir_print.specs.Formats as step
 use Rattle.ir_print.specs.Formats.{Formats, Kind, Step, Steps, no_steps}
 use Rattle.ir_print.specs.Layout as layout
 use Rattle.ir_print.specs.Layout.{Chunk, Before, an_id, a_word, a_part, gap_of_word, gap_of_part, space, line, word_of, member_of, width_text, number_text}
-use Rattle.ir_print.specs.Pieces.{type_of_kind, attribute_of_kind, list, item, operands, region, name, number, width, ValueTree, Pieces, Head, operation, a_region, block, Entity, entity, Entities, no_entity, an_entity}
+use Rattle.ir_print.specs.Pieces.{type_of_kind, attribute_of_kind, list, item, operands, region, name, number, width, ValueTree, Pieces, EntityHead, operation, a_region, block, Entity, entity, Entities, no_entity, an_entity}
 use Rattle.ir_grammar.specs.declared.grammar.Action.{Action}
 use Rattle.ir_grammar.specs.declared.grammar.Action.TheVariants as act
 use Rattle.ir_grammar.specs.declared.grammar.Event.{Event}
@@ -155,7 +155,7 @@ all_parts_on f (a_tree (node (operands n) _) ts) us rs = operands_on (take n us)
 all_parts_on f (a_tree (node region _) ts) us rs = Some (first_region_on rs) ∷ all_parts_on f ts us (drop 1 rs)
 all_parts_on f (a_tree t ts) us rs = Some (piece_on f t) ∷ all_parts_on f ts us rs
 
-abbrev pub operation_head_on : Formats → Head (List ℕ) → List (List Mark → List Mark) → List Mark → List Mark
+abbrev pub operation_head_on : Formats → EntityHead (List ℕ) → List (List Mark → List Mark) → List Mark → List Mark
 operation_head_on f (operation kind results used pieces) rs rest =
     results_on results (kind_on (slice_get f.operations kind) (act.Operation kind) act.EndOperation (all_parts_on f pieces used rs) rest)
 operation_head_on f _ rs rest = rest
@@ -172,7 +172,7 @@ arguments_on f [] rest = rest
 arguments_on f (x ∷ xs) rest = argument_on f x (more_arguments_on f xs rest)
 
 -- the head of a block, what is in it, and its end
-abbrev pub block_head_on : Formats → Head (List ℕ) → (List Mark → List Mark) → List Mark → List Mark
+abbrev pub block_head_on : Formats → EntityHead (List ℕ) → (List Mark → List Mark) → List Mark → List Mark
 block_head_on f (block label arguments) inner rest = token (codes "^") ∷ token label ∷ did act.Label ∷ token (codes "(")
     ∷ arguments_on f arguments (token (codes ")") ∷ token (codes ":") ∷ did act.Header ∷ inner (did act.EndBlock ∷ rest))
 block_head_on f _ inner rest = inner rest
@@ -215,7 +215,7 @@ AreIdentifiers [] = Unit {0}
 AreIdentifiers (x ∷ xs) = (is_identifier x ≡ true) × AreIdentifiers xs
 
 -- the names in a head are identifiers
-abbrev pub IsSpeltHead : Head (List ℕ) → Type 0
+abbrev pub IsSpeltHead : EntityHead (List ℕ) → Type 0
 IsSpeltHead (operation kind results used pieces) = AreIdentifiers (names_of results) × AreIdentifiers used
 IsSpeltHead a_region = Unit {0}
 IsSpeltHead (block label arguments) = (is_identifier label ≡ true) × AreIdentifiers (names_of arguments)

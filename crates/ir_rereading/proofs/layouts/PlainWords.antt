@@ -15,7 +15,7 @@ use Rattle.ir_tokens.specs.declared.tokens.TokenKind.TheVariants as kinds
 use Rattle.ir_tokens.specs.Tokens.{is_letter, is_digit, is_name_char, is_sign}
 use Rattle.ir_formats.specs.Words.{is_width, is_spelled}
 use Rattle.ir_formats.specs.Rules.{words_in_step, words_in, words_of, parts_of, kinds_of, frame_words}
-use Rattle.ir_rereading.specs.Printable.{ends_name, is_word, less_spaces, is_before_spaces, is_printed, Edge, apart, part, behind, begins_apart, ends_apart, may_follow, may_take, is_step_apart, are_steps_apart, is_kind_printable, is_printable}
+use Rattle.ir_rereading.specs.Printable.{ends_name, is_word, less_spaces, is_before_spaces, is_printed, BoundaryBefore, apart, part, behind, begins_apart, ends_apart, may_follow, may_take, is_step_apart, are_steps_apart, is_kind_printable, is_printable}
 use Rattle.ir_rereading.proofs.layouts.Marks.{has_dot, behind_minus, sort_of}
 use Rattle.ir_rereading.proofs.layouts.Among.{IsAmong, among_either, WordFrom, of_frame, of_kind, word_source}
 use Rattle.ir_formats.proofs.Booleans.{both_hold}
@@ -88,7 +88,7 @@ mutual
       steps_words member part w t.1 i
   step_words _ w h own i = absurd i
 
-  steps_words : (ss : Steps) (edge : Edge) (w : List ℕ) → are_steps_apart edge ss ≡ true → IsAmong w (words_in ss) → is_word w ≡ true
+  steps_words : (ss : Steps) (edge : BoundaryBefore) (w : List ℕ) → are_steps_apart edge ss ≡ true → IsAmong w (words_in ss) → is_word w ≡ true
   steps_words no_steps edge w h i = absurd i
   steps_words (step.step (step.word printed text) ss) edge w h i =
       let t = mid_test (is_printed printed text) (may_follow edge printed) (are_steps_apart (behind printed) ss) h in

@@ -1,7 +1,7 @@
 -- The names in a printed tree are identifiers.
 use Rattle.std.proofs.Common.{◌≡◌, ℕ, ◌<◌, ◌^◌, true, List, [], ◌∷◌, map, refl, sym, ap, subst, ◌∙◌}
 use Rattle.ir_names.specs.Text.{is_identifier}
-use Rattle.ir_print.specs.Pieces.{ValueTree, Head, operation, a_region, block, Entity, entity, Entities, no_entity, an_entity}
+use Rattle.ir_print.specs.Pieces.{ValueTree, EntityHead, operation, a_region, block, Entity, entity, Entities, no_entity, an_entity}
 use Rattle.ir_print.specs.Printed.{value_name}
 use Rattle.ir_forest.specs.Meaning.{renamed, all_renamed, renamed_head}
 use Rattle.ir_rereading.specs.Printable.{HasBlockName, HasLabelName, HasBlockNames, HaveBlockNames}
@@ -24,7 +24,7 @@ module _ (number : ℕ → ℕ) (small : (n : ℕ) → number n < 2 ^ 64) where
   name_spelt : (label : List ℕ) → HasBlockName label → is_identifier label ≡ true
   name_spelt label h = subst (λ cs. is_identifier cs ≡ true) (sym h.named) (block_name_identifier h.given h.slot h.version h.small.0 h.small.1)
 
-  head_spelt : (h : Head (List ℕ)) (k : Head ℕ) → unlabelled_head h ≡ unlabelled_head (renamed_head ν k) → HasLabelName h → IsSpeltHead h
+  head_spelt : (h : EntityHead (List ℕ)) (k : EntityHead ℕ) → unlabelled_head h ≡ unlabelled_head (renamed_head ν k) → HasLabelName h → IsSpeltHead h
   head_spelt (operation kind results used pieces) (operation kind2 results2 used2 pieces2) e n =
       let rs : results ≡ map (λ r. (ν r.0, r.1)) results2 = cc in
       let us : used ≡ map ν used2 = cc in

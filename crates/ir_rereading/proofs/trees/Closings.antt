@@ -11,7 +11,7 @@ use Rattle.ir_scopes.specs.declared.sites.Frame.{Frame}
 use Rattle.ir_scopes.specs.declared.sites.Site.{Site}
 use Rattle.ir_grammar.specs.Nesting.{Position, at_root, behind_root_results, at_end, in_operation, in_operands, in_region, in_header, in_argument, in_block, behind_results, in_type, in_attribute, in_list, in_item, Move, goes_to, goes_in, goes_out, nowhere, move, NestsBy}
 use Rattle.ir_forest.specs.Progress.{Leads}
-use Rattle.ir_scopes.specs.Scopes.{Place, beginning, behind, last_token, rest, here_behind_operation, here_behind_region, mentioned, closed, ended, each, mentions, closings}
+use Rattle.ir_scopes.specs.Scopes.{EventPlace, beginning, behind, last_token, rest, here_behind_operation, here_behind_region, mentioned, closed, ended, each, mentions, closings}
 use Rattle.ir_scopes.proofs.Apart.{get_append}
 use Rattle.ir_scopes.proofs.ScopeFronts.{IsOrdered, ordered_next}
 
@@ -175,24 +175,24 @@ first_get (x ∷ xs) ys s h = h
 
 module _ (isolated : ℕ → Bool) where
   -- the scope ends in what follows
-  abbrev Closes : Place → List Event → ℕ → Type 0
+  abbrev Closes : EventPlace → List Event → ℕ → Type 0
   Closes at es v = (k : ℕ) × (c : Closing) × (slice_get (each isolated (closed isolated) at es) k ≡ Some c) × (c.scope ≡ v)
 
-  abbrev ClosesNow : Place → Event → ℕ → Type 0
+  abbrev ClosesNow : EventPlace → Event → ℕ → Type 0
   ClosesNow at e v = (c : Closing) × (slice_get (closed isolated at e) 0 ≡ Some c) × (c.scope ≡ v)
 
-  later : (at : Place) (e : Event) (es : List Event) (v : ℕ) → Closes (behind isolated at e) es v → Closes at (e ∷ es) v
+  later : (at : EventPlace) (e : Event) (es : List Event) (v : ℕ) → Closes (behind isolated at e) es v → Closes at (e ∷ es) v
   later at e es v h = let r = later_get (closed isolated at e) (each isolated (closed isolated) (behind isolated at e) es) h.0 h.1 h.2 in (r.0, h.1, r.1, h.3)
 
-  now : (at : Place) (e : Event) (es : List Event) (v : ℕ) → ClosesNow at e v → Closes at (e ∷ es) v
+  now : (at : EventPlace) (e : Event) (es : List Event) (v : ℕ) → ClosesNow at e v → Closes at (e ∷ es) v
   now at e es v h = (0, h.0, first_get (closed isolated at e) (each isolated (closed isolated) (behind isolated at e) es) h.0 h.1, h.2)
 
   -- where what follows an event goes on, inside of the root
-  abbrev Goes : Position → Position → List Position → Place → List Event → Type 0
+  abbrev Goes : Position → Position → List Position → EventPlace → List Event → Type 0
   Goes p q qs at es = Fits (inside p) (inside q) (map inside qs) at.here at.around × Leads p (q ∷ qs) es at_end []
 
   -- behind an event: what is open stays so or ends, or all ends
-  abbrev Advances : Place → Event → List Event → Type 0
+  abbrev Advances : EventPlace → Event → List Event → Type 0
   Advances at e es =
       ((p : Position) × (q : Position) × (qs : List Position) × Goes p q qs (behind isolated at e) es
       × ((v : ℕ) → HasScope v at.here at.around → HasScope v (behind isolated at e).here (behind isolated at e).around ⊎ ClosesNow at e v))
@@ -237,13 +237,13 @@ module _ (isolated : ℕ → Bool) where
   root_fits parts f fs h = absurd h
 
   -- the place behind the end of an operation, with these frames around
-  abbrev behind_operation : Place → List Frame → Place
+  abbrev behind_operation : EventPlace → List Frame → EventPlace
   behind_operation at fs = record { events = at.events + 1; tokens = at.tokens; here = here_behind_operation at.events fs; around = rest fs }
 
-  abbrev behind_region : Place → List Frame → Place
+  abbrev behind_region : EventPlace → List Frame → EventPlace
   behind_region at fs = record { events = at.events + 1; tokens = at.tokens; here = here_behind_region at.here fs; around = rest fs }
 
-  end_of_operation : (at : Place) (es : List Event) (q : Position) (qs : List Position) → Fits operations (inside q) (map inside qs) at.here at.around → IsOrdered at → Leads q qs es at_end []
+  end_of_operation : (at : EventPlace) (es : List Event) (q : Position) (qs : List Position) → Fits operations (inside q) (map inside qs) at.here at.around → IsOrdered at → Leads q qs es at_end []
       → Advances at (Did EndOperation) es
   end_of_operation at es q [] fit o h = inr (subst (λ z. Leads z [] es at_end []) (is_end q r.0) h, λ v has. closing v (only at.around v has r.2))
     where
@@ -274,7 +274,7 @@ module _ (isolated : ℕ → Bool) where
       keep v (g ∷ k ∷ gs) x (inl e) = inl (sym x.0 ∙ e)
       keep v (g ∷ k ∷ gs) x (inr e) = e
 
-  end_of_region : (at : Place) (es : List Event) (q : Position) (qs : List Position) → Fits regions (inside q) (map inside qs) at.here at.around → Leads q qs es at_end []
+  end_of_region : (at : EventPlace) (es : List Event) (q : Position) (qs : List Position) → Fits regions (inside q) (map inside qs) at.here at.around → Leads q qs es at_end []
       → Advances at (Did EndRegion) es
   end_of_region at es q [] fit h = absurd fit
   end_of_region at es q (r ∷ rs) fit h = inl (q, r, rs, (go at.around fit, h), λ v has. keep v at.around fit has)
@@ -293,7 +293,7 @@ module _ (isolated : ℕ → Bool) where
         | inr y ↦ inr (let c = ends_now (last_token at) at.here g y in (c.0, c.1, c.2 ∙ e))
       ]
 
-  advances : (a : Action) (at : Place) (es : List Event) (p q : Position) (qs : List Position) → Fits (inside p) (inside q) (map inside qs) at.here at.around → IsOrdered at
+  advances : (a : Action) (at : EventPlace) (es : List Event) (p q : Position) (qs : List Position) → Fits (inside p) (inside q) (map inside qs) at.here at.around → IsOrdered at
       → NestsBy (move p a) (q ∷ qs) (λ next more. Leads next more es at_end []) → Advances at (Did a) es
   unfolding changes
   advances (Operation n) at es p q qs fit o h =
@@ -316,7 +316,7 @@ module _ (isolated : ℕ → Bool) where
       inl (s.0, s.1, s.2, (s.3, s.4), λ v has. inl has)
 
   -- what is open ends
-  closes : (es : List Event) (at : Place) (p q : Position) (qs : List Position) → Fits (inside p) (inside q) (map inside qs) at.here at.around → IsOrdered at
+  closes : (es : List Event) (at : EventPlace) (p q : Position) (qs : List Position) → Fits (inside p) (inside q) (map inside qs) at.here at.around → IsOrdered at
       → Leads p (q ∷ qs) es at_end [] → (v : ℕ) → HasScope v at.here at.around → Closes at es v
   closes [] at p q qs fit o h v has = let wrong : q ∷ qs ≡ [] = h.1 in cc
   closes (Took ∷ es) at p q qs fit o h v has = later at Took es v (closes es (behind isolated at Took) p q qs fit (ordered_next isolated at Took o) h v has)
@@ -334,23 +334,23 @@ module _ (isolated : ℕ → Bool) where
 
   -- ---- mentions
 
-  mentioned_in : (at : Place) (e : Event) (i : ℕ) (s : Site) → slice_get (mentioned at e) i ≡ Some s → at.here.values ≡ s.scope
+  mentioned_in : (at : EventPlace) (e : Event) (i : ℕ) (s : Site) → slice_get (mentioned at e) i ≡ Some s → at.here.values ≡ s.scope
   mentioned_in at Took i s h = none s h
   mentioned_in at (Did Operand) zero s h = let same : Some (record { scope = at.here.values; token = last_token at }) ≡ Some s = h in cc
   mentioned_in at (Did Operand) (suc i) s h = none s h
   mentioned_in at (Did _) i s h = none s h
 
   -- the scope of each mention ends
-  abbrev Ends : Place → List Event → Type 0
+  abbrev Ends : EventPlace → List Event → Type 0
   Ends at es = (i : ℕ) (m : Site) → slice_get (each isolated mentioned at es) i ≡ Some m → Closes at es m.scope
 
   -- behind all nothing is mentioned
-  quiet : (es : List Event) (at : Place) → Leads at_end [] es at_end [] → Ends at es
+  quiet : (es : List Event) (at : EventPlace) → Leads at_end [] es at_end [] → Ends at es
   quiet [] at h i m x = none m x
   quiet (Took ∷ es) at h i m x = later at Took es m.scope (quiet es (behind isolated at Took) h i m x)
   quiet (Did a ∷ es) at h i m x = absurd h
 
-  inner : (es : List Event) (at : Place) (p q : Position) (qs : List Position) → Fits (inside p) (inside q) (map inside qs) at.here at.around → IsOrdered at
+  inner : (es : List Event) (at : EventPlace) (p q : Position) (qs : List Position) → Fits (inside p) (inside q) (map inside qs) at.here at.around → IsOrdered at
       → Leads p (q ∷ qs) es at_end [] → Ends at es
   inner [] at p q qs fit o h i m x = none m x
   inner (Took ∷ es) at p q qs fit o h i m x = later at Took es m.scope (inner es (behind isolated at Took) p q qs fit (ordered_next isolated at Took o) h i m x)
@@ -371,7 +371,7 @@ module _ (isolated : ℕ → Bool) where
   root_at false = at_root
   root_at true = behind_root_results
 
-  outer : (es : List Event) (at : Place) (b : Bool) → at.around ≡ [] → IsOrdered at → Leads (root_at b) [] es at_end [] → Ends at es
+  outer : (es : List Event) (at : EventPlace) (b : Bool) → at.around ≡ [] → IsOrdered at → Leads (root_at b) [] es at_end [] → Ends at es
   outer [] at b e o h i m x = none m x
   outer (Took ∷ es) at b e o h i m x = later at Took es m.scope (outer es (behind isolated at Took) b e (ordered_next isolated at Took o) h i m x)
   outer (Did Result ∷ es) at false e o h i m x = later at (Did Result) es m.scope (outer es (behind isolated at (Did Result)) true e (ordered_next isolated at (Did Result) o) h i m x)

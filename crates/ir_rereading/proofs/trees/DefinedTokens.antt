@@ -7,7 +7,7 @@ use Rattle.ir_grammar.specs.declared.grammar.Event.TheVariants.{Took, Did}
 use Rattle.ir_scopes.specs.declared.sites.Site.{Site}
 use Rattle.ir_grammar.specs.Reading.{tooks}
 use Rattle.ir_scopes.specs.Naming.{defined_from, mentioned_from}
-use Rattle.ir_scopes.specs.Scopes.{Place, beginning, behind, defined, mentioned, each, definitions, mentions}
+use Rattle.ir_scopes.specs.Scopes.{EventPlace, beginning, behind, defined, mentioned, each, definitions, mentions}
 use Rattle.ir_grammar.specs.Nesting.{names_value, OwnTokens}
 use Rattle.ir_scopes.proofs.Apart.{get_append}
 
@@ -20,14 +20,14 @@ tokens_append [] ys = refl
 tokens_append (x ∷ xs) ys = ap (λ zs. x.token ∷ zs) (tokens_append xs ys)
 
 module _ (isolated : ℕ → Bool) where
-  defined_tokens_from : (at : Place) (es : List Event) → tokens_at (each isolated defined at es) ≡ defined_from at.tokens es
+  defined_tokens_from : (at : EventPlace) (es : List Event) → tokens_at (each isolated defined at es) ≡ defined_from at.tokens es
   defined_tokens_from at [] = refl
   defined_tokens_from at (Took ∷ es) = defined_tokens_from (behind isolated at Took) es
   defined_tokens_from at (Did Result ∷ es) = ap (λ zs. (at.tokens - 1) ∷ zs) (defined_tokens_from (behind isolated at (Did Result)) es)
   defined_tokens_from at (Did Argument ∷ es) = ap (λ zs. (at.tokens - 1) ∷ zs) (defined_tokens_from (behind isolated at (Did Argument)) es)
   defined_tokens_from at (Did a ∷ es) = defined_tokens_from (behind isolated at (Did a)) es
 
-  mentioned_tokens_from : (at : Place) (es : List Event) → tokens_at (each isolated mentioned at es) ≡ mentioned_from at.tokens es
+  mentioned_tokens_from : (at : EventPlace) (es : List Event) → tokens_at (each isolated mentioned at es) ≡ mentioned_from at.tokens es
   mentioned_tokens_from at [] = refl
   mentioned_tokens_from at (Took ∷ es) = mentioned_tokens_from (behind isolated at Took) es
   mentioned_tokens_from at (Did Operand ∷ es) = ap (λ zs. (at.tokens - 1) ∷ zs) (mentioned_tokens_from (behind isolated at (Did Operand)) es)
@@ -73,15 +73,15 @@ one : (x s : Site) (i : ℕ) → slice_get (x ∷ []) i ≡ Some s → x ≡ s
 one x s zero h = cc
 one x s (suc i) h = nowhere s h
 
-abbrev Taken : Bool → Place → Type 0
+abbrev Taken : Bool → EventPlace → Type 0
 Taken true at = 0 < at.tokens
 Taken false at = Unit {0}
 
 -- what an event makes names the last token, which has been taken
-abbrev IsTaken : (Place → Event → List Site) → Type 0
-IsTaken f = (at : Place) (e : Event) (fresh : Bool) (es : List Event) (i : ℕ) (s : Site) → slice_get (f at e) i ≡ Some s → Taken fresh at → OwnTokens fresh (e ∷ es) → s.token < at.tokens
+abbrev IsTaken : (EventPlace → Event → List Site) → Type 0
+IsTaken f = (at : EventPlace) (e : Event) (fresh : Bool) (es : List Event) (i : ℕ) (s : Site) → slice_get (f at e) i ≡ Some s → Taken fresh at → OwnTokens fresh (e ∷ es) → s.token < at.tokens
 
-last_taken : (at : Place) (fresh : Bool) (s : Site) → s.token ≡ at.tokens - 1 → fresh ≡ true → Taken fresh at → s.token < at.tokens
+last_taken : (at : EventPlace) (fresh : Bool) (s : Site) → s.token ≡ at.tokens - 1 → fresh ≡ true → Taken fresh at → s.token < at.tokens
 last_taken at true s e f t = omega arith
 last_taken at false s e f t = let wrong : false ≡ true = f in cc
 
@@ -96,8 +96,8 @@ mentioned_taken at Took fresh es i s h t own = nowhere s h
 mentioned_taken at (Did Operand) fresh es i s h t own = last_taken at fresh s (sym (ap (λ x. x.token) (one _ s i h))) own.0 t
 mentioned_taken at (Did _) fresh es i s h t own = nowhere s h
 
-module _ (isolated : ℕ → Bool) (f : Place → Event → List Site) (taken : IsTaken f) where
-  each_taken : (fresh : Bool) (at : Place) (es : List Event) → Taken fresh at → OwnTokens fresh es → (i : ℕ) (s : Site) → slice_get (each isolated f at es) i ≡ Some s → s.token < at.tokens + tooks es
+module _ (isolated : ℕ → Bool) (f : EventPlace → Event → List Site) (taken : IsTaken f) where
+  each_taken : (fresh : Bool) (at : EventPlace) (es : List Event) → Taken fresh at → OwnTokens fresh es → (i : ℕ) (s : Site) → slice_get (each isolated f at es) i ≡ Some s → s.token < at.tokens + tooks es
   each_taken fresh at [] t own i s h = nowhere s h
   each_taken fresh at (Took ∷ es) t own i s h = elim (get_append (f at Took) (each isolated f (behind isolated at Took) es) i s h) [
     | inl x ↦ (let lt = taken at Took fresh es i s x t own in omega arith)

@@ -1,13 +1,13 @@
 -- The tree of a printed text is the tree that was printed.
 use Rattle.std.proofs.Common.{◌≡◌, ℕ, zero, suc, ◌+◌, ◌<◌, Bool, true, false, List, [], ◌∷◌, ◌++◌, map, length, Some, None, slice_get, slice_index, refl, sym, subst, ap, ◌∙◌, arith, ◌⊎◌, inl, inr, if◌then◌else◌}
 use Rattle.std.specs.List.{range_with_len}
-use Rattle.ir_print.specs.Pieces.{Values, Head, operation, a_region, block, Entity, entity, Entities, no_entity, an_entity}
+use Rattle.ir_print.specs.Pieces.{Values, EntityHead, operation, a_region, block, Entity, entity, Entities, no_entity, an_entity}
 use Rattle.ir_print.specs.Shown.{Pairs}
 use Rattle.ir_scopes.specs.declared.scopes.Resolution.{Resolution}
 use Rattle.ir_scopes.specs.declared.sites.Closing.{Closing}
 use Rattle.ir_scopes.specs.declared.sites.Site.{Site}
 use Rattle.ir_forest.specs.Meaning.{renamed}
-use Rattle.ir_scopes.specs.Scopes.{name_of, Means, AreApart, Resolves}
+use Rattle.ir_scopes.specs.Scopes.{name_of, Means, SitesAreApart, Resolves}
 use Rattle.ir_forest.specs.Closed.{AllDistinct, names_of, head_defines, is_isolated_head, in_scope, defined_by, all_defined, mentioned_by, all_mentioned, definitions_of, all_definitions_of, IsScope, IsScoped, AreScoped, IsScopedRoot, unlabelled, IsOperation, AreRegions, AreBlocks, IsBlock, AreOperations, IsNumbered}
 use Rattle.ir_rereading.proofs.trees.TreeSites.{In, in_left, in_right, in_either, in_none}
 use Rattle.ir_rereading.proofs.trees.TreeRenamed.{operands_of, all_operands_of}
@@ -16,7 +16,7 @@ use Rattle.ir_rereading.proofs.trees.TreeAlike.{Alike, pairs_first, pairs_second
 -- ---- what is mentioned is defined
 
 module _ {N : Type 0} (isolated : ℕ → Bool) (x : N) where
-  in_scope_too : (h : Head N) (xs : List N) → In x (in_scope isolated h xs) → In x xs
+  in_scope_too : (h : EntityHead N) (xs : List N) → In x (in_scope isolated h xs) → In x xs
   in_scope_too h xs i = go (is_isolated_head isolated h) i
     where
       go : (b : Bool) → In x (if b then [] else xs) → In x xs
@@ -165,7 +165,7 @@ module _ (isolated : ℕ → Bool) (v : Values) (names : List ℕ) (ds ms : List
   -- number that it stands for.
   pub tree_again : unlabelled (renamed text tree) ≡ unlabelled (renamed ν t) → IsOperation v t → IsNumbered t → IsScopedRoot isolated t → AllDistinct (definitions_of (renamed text tree))
       → definitions_of tree ≡ map (λ s. s.token) ds → ((k : ℕ) → In k (operands_of tree) → (m : Site) × In m ms × (m.token ≡ k))
-      → Resolves names ds ms cs r → AreApart ds ms → ((m : Site) → In m ms → (j : ℕ) × Means names ds m j)
+      → Resolves names ds ms cs r → SitesAreApart ds ms → ((m : Site) → In m ms → (j : ℕ) × Means names ds m j)
       → ((s : Site) → In s ds → s.token < length names) → ((m : Site) → In m ms → m.token < length names)
       → ((s m : Site) → In s ds → In m ms → name_of names s.token ≡ name_of names m.token → text s.token ≡ text m.token)
       → unlabelled (renamed (slice_index r.definitions.items) tree) ≡ unlabelled t

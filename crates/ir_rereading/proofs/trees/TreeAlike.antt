@@ -1,6 +1,6 @@
 -- Trees that are the same but for their names and labels.
 use Rattle.std.proofs.Common.{◌≡◌, ℕ, zero, suc, List, [], ◌∷◌, ◌++◌, map, length, Some, None, slice_get, refl, sym, subst, ap, ◌∙◌}
-use Rattle.ir_print.specs.Pieces.{ValueTree, Head, operation, a_region, block, Entity, entity, Entities, no_entity, an_entity}
+use Rattle.ir_print.specs.Pieces.{ValueTree, EntityHead, operation, a_region, block, Entity, entity, Entities, no_entity, an_entity}
 use Rattle.ir_print.specs.Shown.{Pairs}
 use Rattle.ir_forest.specs.Meaning.{renamed_head, renamed, all_renamed}
 use Rattle.ir_forest.specs.Closed.{names_of, head_defines, head_mentions, definitions_of, all_definitions_of, unlabelled_head, unlabelled, all_unlabelled}
@@ -63,7 +63,7 @@ abbrev pub AlikeTyped : {M N : Type 0} → (M → N → Type 0) → M × ValueTr
 AlikeTyped R x y = R x.0 y.0 × (x.1 ≡ y.1)
 
 -- the same of heads: what they say is the same but for names and labels
-abbrev pub AlikeHead : {M N : Type 0} → (M → N → Type 0) → Head M → Head N → Type 0
+abbrev pub AlikeHead : {M N : Type 0} → (M → N → Type 0) → EntityHead M → EntityHead N → Type 0
 AlikeHead R (operation kind results used pieces) (operation kind' results' used' pieces') = (kind ≡ kind') × Pairs (AlikeTyped R) results results' × Pairs R used used' × (pieces ≡ pieces')
 AlikeHead R a_region a_region = Unit {0}
 AlikeHead R (block label arguments) (block label' arguments') = Pairs (AlikeTyped R) arguments arguments'
@@ -87,7 +87,7 @@ typed_flip R (x ∷ xs) (y ∷ ys) h = ((h.0.0, sym h.0.1), typed_flip R xs ys h
 typed_flip R [] (y ∷ ys) h = absurd h
 typed_flip R (x ∷ xs) [] h = absurd h
 
-flip_head : {M N : Type 0} (R : M → N → Type 0) (h : Head M) (k : Head N) → AlikeHead R h k → AlikeHead (λ n m. R m n) k h
+flip_head : {M N : Type 0} (R : M → N → Type 0) (h : EntityHead M) (k : EntityHead N) → AlikeHead R h k → AlikeHead (λ n m. R m n) k h
 flip_head R (operation kind results used pieces) (operation kind' results' used' pieces') a = (sym a.0, typed_flip R results results' a.1, pairs_flip R used used' a.2, sym a.3)
 flip_head R (block label arguments) (block label' arguments') a = typed_flip R arguments arguments' a
 flip_head R a_region a_region a = tt
@@ -125,7 +125,7 @@ module _ {X N : Type 0} (ν : N → X) where
   typed_from_map [] (y ∷ ys) e = let first : X × ValueTree = (ν y.0, y.1) in let wrong : [] ≡ first ∷ map (λ r. (ν r.0, r.1)) ys = e in cc
   typed_from_map (x ∷ xs) [] e = let wrong : x ∷ xs ≡ [] = e in cc
 
-  head_from : (h : Head X) (k : Head N) → unlabelled_head h ≡ unlabelled_head (renamed_head ν k) → AlikeHead (λ x n. x ≡ ν n) h k
+  head_from : (h : EntityHead X) (k : EntityHead N) → unlabelled_head h ≡ unlabelled_head (renamed_head ν k) → AlikeHead (λ x n. x ≡ ν n) h k
   head_from (operation kind results used pieces) (operation kind' results' used' pieces') e =
       let kinds : kind ≡ kind' = cc in
       let defined : results ≡ map (λ r. (ν r.0, r.1)) results' = cc in
@@ -173,7 +173,7 @@ module _ {L M N : Type 0} (R : M → N → Type 0) (f : L → M) where
   typed_left [] (y ∷ ys) h = absurd h
   typed_left (x ∷ xs) [] h = absurd h
 
-  head_left : (h : Head L) (k : Head N) → AlikeHead R (renamed_head f h) k → AlikeHead (λ u n. R (f u) n) h k
+  head_left : (h : EntityHead L) (k : EntityHead N) → AlikeHead R (renamed_head f h) k → AlikeHead (λ u n. R (f u) n) h k
   head_left (operation kind results used pieces) (operation kind' results' used' pieces') a = (a.0, typed_left results results' a.1, pairs_left used used' a.2, a.3)
   head_left (block label arguments) (block label' arguments') a = typed_left arguments arguments' a
   head_left a_region a_region a = tt
@@ -211,7 +211,7 @@ module _ {M N : Type 0} (g : M → N) where
   map_from_typed [] (y ∷ ys) h = absurd h
   map_from_typed (x ∷ xs) [] h = absurd h
 
-  head_to : (h : Head M) (k : Head N) → AlikeHead (λ x n. g x ≡ n) h k → unlabelled_head (renamed_head g h) ≡ unlabelled_head k
+  head_to : (h : EntityHead M) (k : EntityHead N) → AlikeHead (λ x n. g x ≡ n) h k → unlabelled_head (renamed_head g h) ≡ unlabelled_head k
   head_to (operation kind results used pieces) (operation kind' results' used' pieces') a =
       let defined = map_from_typed results results' a.1 in
       let mentioned = map_from_pairs used used' a.2 in
@@ -248,7 +248,7 @@ module _ {M N : Type 0} (R : M → N → Type 0) where
   typed_names [] (y ∷ ys) h = absurd h
   typed_names (x ∷ xs) [] h = absurd h
 
-  pub head_names : (h : Head M) (k : Head N) → AlikeHead R h k → Pairs R (head_defines h) (head_defines k) × Pairs R (head_mentions h) (head_mentions k)
+  pub head_names : (h : EntityHead M) (k : EntityHead N) → AlikeHead R h k → Pairs R (head_defines h) (head_defines k) × Pairs R (head_mentions h) (head_mentions k)
   head_names (operation kind results used pieces) (operation kind' results' used' pieces') a = (typed_names results results' a.1, a.2)
   head_names (block label arguments) (block label' arguments') a = (typed_names arguments arguments' a, tt)
   head_names a_region a_region a = (tt, tt)
@@ -290,7 +290,7 @@ module _ {M N : Type 0} (R Q : M → N → Type 0) where
   typed_rebuild [] (y ∷ ys) h k = absurd h
   typed_rebuild (x ∷ xs) [] h k = absurd h
 
-  head_rebuild : (h : Head M) (k : Head N) → AlikeHead R h k → Pairs Q (head_defines h) (head_defines k) → Pairs Q (head_mentions h) (head_mentions k) → AlikeHead Q h k
+  head_rebuild : (h : EntityHead M) (k : EntityHead N) → AlikeHead R h k → Pairs Q (head_defines h) (head_defines k) → Pairs Q (head_mentions h) (head_mentions k) → AlikeHead Q h k
   head_rebuild (operation kind results used pieces) (operation kind' results' used' pieces') a d m = (a.0, typed_rebuild results results' a.1 d, m, a.3)
   head_rebuild (block label arguments) (block label' arguments') a d m = typed_rebuild arguments arguments' a d
   head_rebuild a_region a_region a d m = tt

@@ -2,14 +2,14 @@
 use Rattle.std.proofs.Common.{◌≡◌, ℕ, zero, suc, Bool, true, false, List, [], ◌∷◌, map, Some, refl, sym, subst, ap, ◌∙◌, if◌then◌else◌}
 use Rattle.ir_print.specs.Formats.{Formats}
 use Rattle.ir_print.specs.Formats as step
-use Rattle.ir_print.specs.Pieces.{ValueTree, Values, Head, operation, a_region, block, Entity, entity, Entities, no_entity, an_entity}
+use Rattle.ir_print.specs.Pieces.{ValueTree, Values, EntityHead, operation, a_region, block, Entity, entity, Entities, no_entity, an_entity}
 use Rattle.ir_print.specs.Shapes.{Fits, FitArguments}
 use Rattle.ir_print.specs.Layout.{IsFlat, AreFlat, Deeper, AreFlatArguments, IsFlatHead, InHead, IsShallow, AreShallow}
 use Rattle.ir_print.specs.Shown.{Pairs}
 use Rattle.ir_forest.specs.Meaning.{renamed}
 use Rattle.ir_forest.specs.Language.{Language}
 use Rattle.ir_forest.specs.Bare.{IsBareTree}
-use Rattle.ir_forest.specs.Closed.{AreIn, head_defines, head_mentions, is_isolated_head, in_scope, defined_by, all_defined, mentioned_by, all_mentioned, IsScope, IsScoped, AreScoped, IsScopedRoot, IsLabelled, unlabelled, regions_said, number_in, IsOperation, AreRegions, IsRegion, AreBlocks, IsBlock, AreOperations, FitsHead, FitsTree, FitTrees, IsClosed}
+use Rattle.ir_forest.specs.Closed.{AreIn, head_defines, head_mentions, is_isolated_head, in_scope, defined_by, all_defined, mentioned_by, all_mentioned, IsScope, IsScoped, AreScoped, IsScopedRoot, IsLabelled, unlabelled, regions_said, number_in, IsOperation, AreRegions, IsRegion, AreBlocks, IsBlock, AreOperations, FitsHead, FitsTree, FitTrees, IsClosedTree}
 use Rattle.ir_rereading.proofs.trees.TreeAlike.{AlikeTyped, AlikeHead, Alike, AllAlike, pairs_append, pairs_length, pairs_first, pairs_second, alike_flip, alike_from, head_names}
 
 module _ {M N : Type 0} (R : M → N → Type 0) where
@@ -81,7 +81,7 @@ module _ {M N : Type 0} (R : M → N → Type 0) where
     fit_arguments [] (y ∷ ys) a h = absurd a
     fit_arguments (x ∷ xs) [] a h = absurd a
 
-    head_fits : (h : Head M) (k : Head N) → AlikeHead R h k → FitsHead f v h → FitsHead f v k
+    head_fits : (h : EntityHead M) (k : EntityHead N) → AlikeHead R h k → FitsHead f v h → FitsHead f v k
     head_fits (operation kind results used pieces) (operation kind' results' used' pieces') a p =
         let q : FitsHead f v (operation kind' results used pieces) = subst (λ n. FitsHead f v (operation n results used pieces)) a.0 p in
         let r : FitsHead f v (operation kind' results used pieces') = subst (λ ps. FitsHead f v (operation kind' results used ps)) a.3 q in
@@ -118,7 +118,7 @@ module _ {M N : Type 0} (R : M → N → Type 0) where
   deeper_along (suc d) P Q go h = go d h
 
   -- a head that is flat, and what is in it
-  head_shallow : (d : ℕ) (h : Head M) (k : Head N) → AlikeHead R h k → (P Q : ℕ → Type 0) → ((e : ℕ) → P e → Q e) → IsFlatHead d h → InHead d h P → IsFlatHead d k × InHead d k Q
+  head_shallow : (d : ℕ) (h : EntityHead M) (k : EntityHead N) → AlikeHead R h k → (P Q : ℕ → Type 0) → ((e : ℕ) → P e → Q e) → IsFlatHead d h → InHead d h P → IsFlatHead d k × InHead d k Q
   head_shallow d (operation kind results used pieces) (operation kind' results' used' pieces') a P Q go p q = (subst (λ ps. AreFlat d ps) a.3 p, go d q)
   head_shallow d (block label arguments) (block label' arguments') a P Q go p q = (flat_arguments d arguments arguments' a p, go d q)
   head_shallow d a_region a_region a P Q go p q = (tt, deeper_along d P Q go q)
@@ -143,7 +143,7 @@ module _ {M N : Type 0} (R : M → N → Type 0) where
   -- ---- scopes
 
   module _ (isolated : ℕ → Bool) where
-    isolated_alike : (h : Head M) (k : Head N) → AlikeHead R h k → is_isolated_head isolated h ≡ is_isolated_head isolated k
+    isolated_alike : (h : EntityHead M) (k : EntityHead N) → AlikeHead R h k → is_isolated_head isolated h ≡ is_isolated_head isolated k
     isolated_alike (operation kind results used pieces) (operation kind' results' used' pieces') a = ap isolated a.0
     isolated_alike (block label arguments) (block label' arguments') a = refl
     isolated_alike a_region a_region a = refl
@@ -194,7 +194,7 @@ module _ {M N : Type 0} (R : M → N → Type 0) where
           let other = pairs_first R zs ws q there.0 here.0 there.1 in
           (there.0, other.1 ∙ ap (λ (w : N). Some w) (one here.0 other.0 y other.2 here.2))
 
-      scope_alike : (inner : Bool) (h : Head M) (k : Head N) (ts : Entities M) (us : Entities N) → AlikeHead R h k → AllAlike R ts us → IsScope isolated inner h ts → IsScope isolated inner k us
+      scope_alike : (inner : Bool) (h : EntityHead M) (k : EntityHead N) (ts : Entities M) (us : Entities N) → AlikeHead R h k → AllAlike R ts us → IsScope isolated inner h ts → IsScope isolated inner k us
       scope_alike true a_region a_region ts us a b p = among_alike (all_mentioned isolated ts) (all_defined isolated ts) (all_mentioned isolated us) (all_defined isolated us) (all_mentioned_alike ts us b) (all_defined_alike ts us b) p
       scope_alike true h (operation kind results used pieces) ts us a b p = tt
       scope_alike true h (block label arguments) ts us a b p = tt
@@ -219,8 +219,8 @@ module _ {M N : Type 0} (R : M → N → Type 0) where
           (among_alike (mentioned_by isolated t) (defined_by isolated t) (mentioned_by isolated u) (defined_by isolated u) (mentioned_alike t u a) (defined_alike t u a) p.0, scoped_alike t u a false p.1)
 
 -- A tree with labels of its own is closed where one is closed that is alike, and each name of which goes with one name.
-pub closed_alike : {M N : Type 0} (R : M → N → Type 0) → ((x : M) (y z : N) → R x y → R x z → y ≡ z) → (l : Language) (t : Entity M) (u : Entity N) → Alike R t u → IsClosed l t → IsLabelled u → IsBareTree u
-    → IsClosed l u
+pub closed_alike : {M N : Type 0} (R : M → N → Type 0) → ((x : M) (y z : N) → R x y → R x z → y ≡ z) → (l : Language) (t : Entity M) (u : Entity N) → Alike R t u → IsClosedTree l t → IsLabelled u → IsBareTree u
+    → IsClosedTree l u
 closed_alike R one l t u a c labelled bare = record {
   operation = operation_alike R l.values t u a c.operation;
   fits = fits_alike R l.formats l.values t u a c.fits;
@@ -231,7 +231,7 @@ closed_alike R one l t u a c labelled bare = record {
 }
 
 -- A tree with other names and labels is closed.
-pub closed_renamed : {X N : Type 0} (ν : N → X) (l : Language) (t : Entity N) (p : Entity X) → IsClosed l t → unlabelled p ≡ unlabelled (renamed ν t) → IsLabelled p → IsBareTree p
-    → IsClosed l p
+pub closed_renamed : {X N : Type 0} (ν : N → X) (l : Language) (t : Entity N) (p : Entity X) → IsClosedTree l t → unlabelled p ≡ unlabelled (renamed ν t) → IsLabelled p → IsBareTree p
+    → IsClosedTree l p
 closed_renamed {X = X} {N = N} ν l t p c e labelled bare =
     closed_alike (λ n x. x ≡ ν n) (λ n x y d f. d ∙ sym f) l t p (alike_flip (λ x n. x ≡ ν n) p t (alike_from ν p t e)) c labelled bare

@@ -10,7 +10,7 @@ use Rattle.ir_grammar.specs.declared.grammar.Event.{Event}
 use Rattle.ir_tokens.specs.declared.faults.Fault.{Fault}
 use Rattle.ir_tokens.specs.declared.faults.FaultKind.TheVariants as kinds
 use Rattle.ir_forest.specs.Building.{with_name}
-use Rattle.ir_forest.specs.Forest.{end_of, Deed, deeds, Step, ending, deeds_of, deeds_in, IsWholeStep, AreWhole, IsForest}
+use Rattle.ir_forest.specs.Forest.{end_of, Deed, deeds, ActionSpan, ending, deeds_of, deeds_in, IsWholeStep, AreWhole, IsForestOf}
 use Rattle.ir_forest.specs.Meaning.{pieces_in}
 use Rattle.ir_forest.specs.ValueFaults.{results, first_token, EndsInResult, HasNamesFault}
 use Rattle.ir_forest.proofs.BuiltSteps.{alone, closing, sort_of, end_sort}
@@ -40,17 +40,17 @@ nothing_last e = let wrong : None ≡ Some act.Result = ap (last_of None) e.2 �
 
 module _ (values : Values) (text : ℕ → List ℕ) where
   -- as many names as results
-  abbrev pub CountsAt : Action → List ℕ → Trees Step → Type 0
+  abbrev pub CountsAt : Action → List ℕ → Trees ActionSpan → Type 0
   CountsAt (act.Operation kind) names ts = length names ≡ length (values.result_types kind (pieces_in values text ts))
   CountsAt _ names ts = Unit {0}
 
   -- before each operation among the trees, at any depth, there are as many names as it has results, these standing before the first
-  abbrev pub Counts : List ℕ → Trees Step → Type 0
+  abbrev pub Counts : List ℕ → Trees ActionSpan → Type 0
   Counts names no_tree = Unit {0}
   Counts names (a_tree (node s ts) rest) = CountsAt s.action names ts × Counts [] ts × Counts (with_name names s.action s.first) rest
 
   module _ (es : List Event) (good : (f : Fault) → HasNamesFault values text es f → ⊥) where
-    counts_here : (a : Action) (names : List ℕ) (s : Step) (ts : Trees Step) (before after : List Deed) → s.action ≡ a → AreWhole (a_tree (node s ts) no_tree)
+    counts_here : (a : Action) (names : List ℕ) (s : ActionSpan) (ts : Trees ActionSpan) (before after : List Deed) → s.action ≡ a → AreWhole (a_tree (node s ts) no_tree)
         → deeds es ≡ before ++ (results names ++ (deeds_of (node s ts) ++ after)) → (EndsInResult before → ⊥) → CountsAt a names ts
     counts_here (act.Operation kind) names s ts before after e w all not = elim (cases_eq (length names) (length (values.result_types kind (pieces_in values text ts)))) [
       | inl same ↦ same
@@ -59,7 +59,7 @@ module _ (values : Values) (text : ℕ → List ℕ) where
     counts_here _ names s ts before after e w all not = tt
 
     -- so it is of trees that were read behind names of results
-    abbrev CountsWell : Trees Step → Type 0
+    abbrev CountsWell : Trees ActionSpan → Type 0
     CountsWell ts = AreWhole ts → (names : List ℕ) (before after : List Deed) → deeds es ≡ before ++ (results names ++ (deeds_in ts ++ after)) → (EndsInResult before → ⊥) → Counts names ts
 
     results_more : (names : List ℕ) (k : ℕ) (ds : List Deed) → results (names ++ k ∷ []) ++ ds ≡ results names ++ ((act.Result, k) ∷ ds)
@@ -70,7 +70,7 @@ module _ (values : Values) (text : ℕ → List ℕ) where
     result_or act.Result = inl refl
     result_or _ = inr ((λ e. cc), λ names k. refl)
 
-    inside : (s : Step) (ts : Trees Step) (x : Option Action) → end_of s.action ≡ x → IsWholeStep x s ts → CountsWell ts → AreWhole ts → (before after : List Deed)
+    inside : (s : ActionSpan) (ts : Trees ActionSpan) (x : Option Action) → end_of s.action ≡ x → IsWholeStep x s ts → CountsWell ts → AreWhole ts → (before after : List Deed)
         → deeds es ≡ before ++ ((s.action, s.first) ∷ (deeds_in ts ++ after)) → Counts [] ts
     inside s ts None e w here whole before after all = subst (Counts []) (sym w.2) tt
     inside s ts (Some x) e w here whole before after all =
@@ -78,7 +78,7 @@ module _ (values : Values) (text : ℕ → List ℕ) where
         (other_last before (s.action, s.first) (λ is. (let wrong : None ≡ Some x = sym (ap end_of is) ∙ e in cc)))
 
     -- the last deed of a tree that is no result
-    tree_last : (s : Step) (ts : Trees Step) (x : Option Action) → end_of s.action ≡ x → IsWholeStep x s ts → (s.action ≡ act.Result → ⊥) → (before : List Deed)
+    tree_last : (s : ActionSpan) (ts : Trees ActionSpan) (x : Option Action) → end_of s.action ≡ x → IsWholeStep x s ts → (s.action ≡ act.Result → ⊥) → (before : List Deed)
         → EndsInResult (before ++ ((s.action, s.first) ∷ (deeds_in ts ++ ending x s.last))) → ⊥
     tree_last s ts None e w not before h =
         other_last before (s.action, s.first) not (subst (λ us. EndsInResult (before ++ ((s.action, s.first) ∷ (deeds_in us ++ [])))) w.2 h)
@@ -86,7 +86,7 @@ module _ (values : Values) (text : ℕ → List ℕ) where
         other_last (before ++ ((s.action, s.first) ∷ deeds_in ts)) (x, s.last) (λ is. (let wrong : closing ≡ alone = sym (end_sort s.action x e) ∙ ap sort_of is in cc))
         (subst EndsInResult (sym (append_assoc before ((s.action, s.first) ∷ deeds_in ts) ((x, s.last) ∷ []))) h)
 
-    step : (s : Step) (ts rest : Trees Step) → IsWholeStep (end_of s.action) s ts → AreWhole ts → AreWhole rest → CountsWell ts → CountsWell rest → (names : List ℕ) (before after : List Deed)
+    step : (s : ActionSpan) (ts rest : Trees ActionSpan) → IsWholeStep (end_of s.action) s ts → AreWhole ts → AreWhole rest → CountsWell ts → CountsWell rest → (names : List ℕ) (before after : List Deed)
         → deeds es ≡ before ++ (results names ++ (deeds_of (node s ts) ++ (deeds_in rest ++ after))) → (EndsInResult before → ⊥)
         → CountsAt s.action names ts × Counts [] ts × Counts (with_name names s.action s.first) rest
     step s ts rest w whole more here there names before after all not = (
@@ -113,12 +113,12 @@ module _ (values : Values) (text : ℕ → List ℕ) where
             (all ∙ (sym (append_assoc before (results names) (deeds_of (node s ts) ++ (deeds_in rest ++ after))) ∙ sym (append_assoc (before ++ results names) (deeds_of (node s ts)) (deeds_in rest ++ after))))
             (tree_last s ts (end_of s.action) refl w other.0 (before ++ results names)))
 
-    counts_well : (ts : Trees Step) → CountsWell ts
+    counts_well : (ts : Trees ActionSpan) → CountsWell ts
     counts_well no_tree w names before after all not = tt
     counts_well (a_tree (node s ts) rest) w names before after all not =
         step s ts rest w.0 w.1 w.2 (counts_well ts) (counts_well rest) names before after
         (all ∙ ap (λ z. before ++ (results names ++ z)) (append_assoc (deeds_of (node s ts)) (deeds_in rest) after)) not
 
     -- so it is in a whole text
-    pub forest_counts : (ts : Trees Step) → IsForest es ts → Counts [] ts
+    pub forest_counts : (ts : Trees ActionSpan) → IsForestOf es ts → Counts [] ts
     forest_counts ts f = counts_well ts f.0 [] [] [] (f.1 ∙ sym (append-nil (deeds_in ts))) nothing_last

@@ -5,7 +5,7 @@ use Rattle.ir_names.specs.Tree.{Trees, node, no_tree, a_tree}
 use Rattle.ir_grammar.specs.declared.grammar.Action.{Action}
 use Rattle.ir_grammar.specs.declared.grammar.Action.TheVariants.{Result, Operation, EndOperation, BeginRegion, EndRegion, Label, Argument, Header, BeginType, EndType, BeginAttribute, EndAttribute, Name, Number, Width, BeginOperands, Operand, BeginList, BeginItem, EndItem}
 use Rattle.ir_grammar.specs.declared.grammar.Event.{Event}
-use Rattle.ir_forest.specs.Forest.{end_of, is_end, Deed, deeds, Step, ending, deeds_in, IsWholeStep, AreWhole, IsForest}
+use Rattle.ir_forest.specs.Forest.{end_of, is_end, Deed, deeds, ActionSpan, ending, deeds_in, IsWholeStep, AreWhole, IsForestOf}
 use Rattle.ir_grammar.specs.Nesting.{Position, at_root, behind_root_results, at_end, in_operation, in_operands, in_region, in_header, in_argument, in_block, behind_results, in_type, in_attribute, in_list, in_item, Move, goes_to, goes_in, goes_out, nowhere, move, Nests, NestsBy}
 use Rattle.ir_forest.proofs.BuiltSteps.{alone, opening, closing, sort_of, EndsBy, ends_by, end_sort, Says, says, Follows, nests_deeds}
 
@@ -59,7 +59,7 @@ OnContent None P = ⊥
 OnContent (Some c) P = P c
 
 -- each step has its place
-abbrev pub AreOf : Content → Trees Step → Type 0
+abbrev pub AreOf : Content → Trees ActionSpan → Type 0
 AreOf c no_tree = Unit {0}
 AreOf c (a_tree (node s ts) rest) = OnContent (inside c s.action) (λ d. AreOf d ts) × AreOf c rest
 
@@ -178,17 +178,17 @@ out p a goes_out q qs F s e h = h
 out p a nowhere q qs F s e h = absurd h
 
 -- trees that stand at a position, and what comes behind them
-abbrev Stand : Trees Step → Position → List Position → List Deed → Type 0
+abbrev Stand : Trees ActionSpan → Position → List Position → List Deed → Type 0
 Stand ts p ps more = AreOf (content_at p) ts × ((q : Position) × (content_at q ≡ content_at p) × Follows q ps more)
 
-pub split_deeds : (is rest : Trees Step) (a : Action) (y : ℕ) (more : List Deed) → ((deeds_in is ++ (a, y) ∷ []) ++ deeds_in rest) ++ more ≡ deeds_in is ++ ((a, y) ∷ (deeds_in rest ++ more))
+pub split_deeds : (is rest : Trees ActionSpan) (a : Action) (y : ℕ) (more : List Deed) → ((deeds_in is ++ (a, y) ∷ []) ++ deeds_in rest) ++ more ≡ deeds_in is ++ ((a, y) ∷ (deeds_in rest ++ more))
 split_deeds is rest a y more =
     append_assoc (deeds_in is ++ (a, y) ∷ []) (deeds_in rest) more ∙ append_assoc (deeds_in is) ((a, y) ∷ []) (deeds_in rest ++ more)
 
-stand_first : (a : Action) (y : ℕ) (is rest : Trees Step) (p : Position) (ps : List Position) (more : List Deed)
+stand_first : (a : Action) (y : ℕ) (is rest : Trees ActionSpan) (p : Position) (ps : List Position) (more : List Deed)
     → ((q : Position) (qs : List Position) (ds : List Deed) → Follows q qs (deeds_in is ++ ds) → Stand is q qs ds)
     → ((q : Position) (qs : List Position) → Follows q qs (deeds_in rest ++ more) → Stand rest q qs more)
-    → (s : Step) → s.action ≡ a → (e : Option Action) → end_of a ≡ e → IsWholeStep e s is → (m : Move) → Says p a m → Keeps p a m
+    → (s : ActionSpan) → s.action ≡ a → (e : Option Action) → end_of a ≡ e → IsWholeStep e s is → (m : Move) → Says p a m → Keeps p a m
     → NestsBy m ps (λ q qs. Follows q qs (((deeds_in is ++ ending e y) ++ deeds_in rest) ++ more))
     → OnContent (inside (content_at p) a) (λ d. AreOf d is) × Stand rest p ps more
 stand_first a y is rest p ps more inner next s at None e w (goes_to q) said kept f =
@@ -219,14 +219,14 @@ stand_first a y is rest p ps more inner next s at (Some x) e w goes_out said kep
 stand_first a y is rest p ps more inner next s at None e w nowhere said kept f = absurd f
 stand_first a y is rest p ps more inner next s at (Some x) e w nowhere said kept f = absurd f
 
-stand : (ts : Trees Step) → AreWhole ts → (p : Position) (ps : List Position) (more : List Deed) → Follows p ps (deeds_in ts ++ more) → Stand ts p ps more
+stand : (ts : Trees ActionSpan) → AreWhole ts → (p : Position) (ps : List Position) (more : List Deed) → Follows p ps (deeds_in ts ++ more) → Stand ts p ps more
 stand no_tree w p ps more f = (tt, (p, refl, f))
 stand (a_tree (node s is) rest) w p ps more f =
     let r = stand_first s.action s.last is rest p ps more (λ q qs ds g. stand is w.1 q qs ds g) (λ q qs g. stand rest w.2 q qs more g) s refl (end_of s.action) refl w.0 (move p s.action) (says p s.action) (keeps p s.action) f in
     ((r.0, r.1.0), r.1.1)
 
 -- What was read is operations, each with what may stand in it.
-pub forest_stands : (es : List Event) (ts : Trees Step) → Nests at_root [] es → IsForest es ts → AreOf of_block ts
+pub forest_stands : (es : List Event) (ts : Trees ActionSpan) → Nests at_root [] es → IsForestOf es ts → AreOf of_block ts
 forest_stands es ts h forest =
     let follows : Follows at_root [] (deeds es) = nests_deeds es at_root [] 0 h in
     (stand ts forest.0 at_root [] [] (subst (λ ds. Follows at_root [] ds) (forest.1 ∙ sym (append-nil (deeds_in ts))) follows)).0

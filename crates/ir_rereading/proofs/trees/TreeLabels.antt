@@ -1,12 +1,12 @@
 -- A text has no label twice in a region where its tree has none.
 use Rattle.std.proofs.Common.{◌≡◌, ℕ, zero, suc, ◌<◌, ◌≤◌, Bool, List, [], ◌∷◌, ◌++◌, Some, None, slice_get, refl, sym, subst, ap, ◌∙◌, arith, ◌⊎◌, inl, inr}
 use Rattle.ir_names.specs.Tree.{Trees}
-use Rattle.ir_print.specs.Pieces.{Values, Head, operation, a_region, block, Entity, entity, Entities, no_entity, an_entity}
+use Rattle.ir_print.specs.Pieces.{Values, EntityHead, operation, a_region, block, Entity, entity, Entities, no_entity, an_entity}
 use Rattle.ir_tokens.specs.declared.faults.Fault.{Fault}
 use Rattle.ir_grammar.specs.declared.grammar.Event.{Event}
 use Rattle.ir_scopes.specs.declared.sites.Site.{Site}
 use Rattle.ir_forest.specs.Closed.{AllDistinct, label_in, labels_of, IsLabelled, AreLabelled}
-use Rattle.ir_forest.specs.Forest.{Step, IsForest}
+use Rattle.ir_forest.specs.Forest.{ActionSpan, IsForestOf}
 use Rattle.ir_forest.specs.Meaning.{operations_in, renamed_head, renamed, all_renamed}
 use Rattle.ir_grammar.specs.Nesting.{Nests, at_root}
 use Rattle.ir_scopes.specs.Scopes.{labels, name_of, IsAgain, fault_again}
@@ -296,8 +296,8 @@ module _ (text : ℕ → List ℕ) where
 
 -- ---- texts
 
-module _ (isolated : ℕ → Bool) (v : Values) (text : ℕ → List ℕ) (names : List ℕ) (es : List Event) (forest : Trees Step) (tree : Entity ℕ)
-    (nests : Nests at_root [] es) (is : IsForest es forest) (says : operations_in v text [] forest ≡ an_entity tree no_entity) where
+module _ (isolated : ℕ → Bool) (v : Values) (text : ℕ → List ℕ) (names : List ℕ) (es : List Event) (forest : Trees ActionSpan) (tree : Entity ℕ)
+    (nests : Nests at_root [] es) (is : IsForestOf es forest) (says : operations_in v text [] forest ≡ an_entity tree no_entity) where
   -- Where no label of a text comes again in its region, the blocks of each region of its tree have distinct labels.
   pub tree_labelled : ((i j : ℕ) (s t : Site) → slice_get (labels isolated es) i ≡ Some s → slice_get (labels isolated es) j ≡ Some t → text s.token ≡ text t.token → name_of names s.token ≡ name_of names t.token)
       → ((f : Fault) → IsAgain names (labels isolated es) f → ⊥) → IsLabelled tree
@@ -316,7 +316,7 @@ module _ (isolated : ℕ → Bool) (v : Values) (text : ℕ → List ℕ) (names
 -- ---- other names
 
 module _ {M N : Type 0} (f : M → N) where
-  label_renamed : (h : Head M) → label_in (renamed_head f h) ≡ label_in h
+  label_renamed : (h : EntityHead M) → label_in (renamed_head f h) ≡ label_in h
   label_renamed (operation kind results used pieces) = refl
   label_renamed a_region = refl
   label_renamed (block label arguments) = refl

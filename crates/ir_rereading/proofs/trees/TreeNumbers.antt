@@ -8,7 +8,7 @@ use Rattle.ir_tokens.specs.declared.faults.Fault.{Fault}
 use Rattle.ir_scopes.specs.declared.scopes.Resolution.{Resolution}
 use Rattle.ir_scopes.specs.declared.sites.Closing.{Closing}
 use Rattle.ir_scopes.specs.declared.sites.Site.{Site}
-use Rattle.ir_scopes.specs.Scopes.{name_of, Names, Means, IsAgain, fault_again, AreApart, Resolves}
+use Rattle.ir_scopes.specs.Scopes.{name_of, SiteHasName, Means, IsAgain, fault_again, SitesAreApart, Resolves}
 
 -- a site with this token
 abbrev IsAt : ℕ → List Site → Type 0
@@ -32,13 +32,13 @@ site_of k (x ∷ ss) = go (cases_eq x.token k) (site_of k ss)
     go (inr not) (inr none) = inr (nowhere not none)
 
 -- a name that isn't defined twice has one number
-one_number : (names : List ℕ) (ds : List Site) → ((f : Fault) → IsAgain names ds f → ⊥) → (scope name i j : ℕ) → Names names ds scope name i → Names names ds scope name j → i ≡ j
+one_number : (names : List ℕ) (ds : List Site) → ((f : Fault) → IsAgain names ds f → ⊥) → (scope name i j : ℕ) → SiteHasName names ds scope name i → SiteHasName names ds scope name j → i ≡ j
 one_number names ds none scope name i j a b = go (cases_order i j)
   where
-    again : (i j : ℕ) → i < j → Names names ds scope name i → Names names ds scope name j → ⊥
+    again : (i j : ℕ) → i < j → SiteHasName names ds scope name i → SiteHasName names ds scope name j → ⊥
     again i j lt a b =
-        let at : Names names ds b.0.scope (name_of names b.0.token) i
-        = subst (λ n. Names names ds b.0.scope n i) (sym b.2.1) (subst (λ n. Names names ds n name i) (sym b.2.0) a) in
+        let at : SiteHasName names ds b.0.scope (name_of names b.0.token) i
+        = subst (λ n. SiteHasName names ds b.0.scope n i) (sym b.2.1) (subst (λ n. SiteHasName names ds n name i) (sym b.2.0) a) in
         none (fault_again b.0.token) (i, j, b.0, lt, b.1, at, refl)
 
     go : (i ≡ j) ⊎ ((i < j) ⊎ (j < i)) → i ≡ j
@@ -62,7 +62,7 @@ module _ (names : List ℕ) (ds ms : List Site) (meant : (i : ℕ) (m : Site) �
   at_token : (k : ℕ) → k < length names → slice_index numbers k ≡ number_at k
   at_token k lt = get_or-map-range_with_len number_at 0 (length names) k k 0 lt (omega arith)
 
-  number_defined : AreApart ds ms → (j : ℕ) (s : Site) → slice_get ds j ≡ Some s → number_at s.token ≡ j
+  number_defined : SitesAreApart ds ms → (j : ℕ) (s : Site) → slice_get ds j ≡ Some s → number_at s.token ≡ j
   unfolding number_at
   number_defined apart j s at = go (site_of s.token ds) (site_of s.token ms)
     where
@@ -70,7 +70,7 @@ module _ (names : List ℕ) (ds ms : List Site) (meant : (i : ℕ) (m : Site) �
       go (inl d) m = apart.definitions d.0 j d.1 s d.2 at d.3
       go (inr none) m = absurd (none j s at refl)
 
-  number_mentioned : ((f : Fault) → IsAgain names ds f → ⊥) → AreApart ds ms → (i j : ℕ) (m : Site) → slice_get ms i ≡ Some m → Means names ds m j → number_at m.token ≡ j
+  number_mentioned : ((f : Fault) → IsAgain names ds f → ⊥) → SitesAreApart ds ms → (i j : ℕ) (m : Site) → slice_get ms i ≡ Some m → Means names ds m j → number_at m.token ≡ j
   unfolding number_at
   number_mentioned once apart i j m at means = go (site_of m.token ds) (site_of m.token ms)
     where

@@ -9,7 +9,7 @@ use Rattle.ir_scopes.specs.declared.sites.Frame.{Frame}
 use Rattle.ir_scopes.specs.declared.sites.Site.{Site}
 use Rattle.ir_forest.specs.Closed.{AreIn}
 use Rattle.ir_forest.specs.Forest.{Deed, deeds_from}
-use Rattle.ir_scopes.specs.Scopes.{Place, behind, last_token, operation_frame, region_frame, rest, here_behind_operation, here_behind_region, here_after, around_after, defined, mentioned}
+use Rattle.ir_scopes.specs.Scopes.{EventPlace, behind, last_token, operation_frame, region_frame, rest, here_behind_operation, here_behind_region, here_after, around_after, defined, mentioned}
 use Rattle.ir_rereading.proofs.trees.TreeSites.{In, in_none, in_map, of_map, Alike, arrived, arrived_append, each_append, arrived_events, all_defined_at, all_mentioned_at, site, Stands, AreMeant, Has, change, has_nothing, has_definition, has_mention, has_append}
 
 -- ---- deeds and events
@@ -25,20 +25,20 @@ cons_both x y xs ys e h = ap (λ z. z ∷ xs) e ∙ ap (λ zs. y ∷ zs) h
 
 module _ (isolated : ℕ → Bool) where
   -- Events without deeds: nothing is named, and what is open stays so.
-  record IsStill (at : Place) (es : List Event) : Type 0 where
+  record IsStill (at : EventPlace) (es : List Event) : Type 0 where
     here : (arrived isolated at es).here ≡ at.here
     around : (arrived isolated at es).around ≡ at.around
     defines : all_defined_at isolated at es ≡ []
     mentions : all_mentioned_at isolated at es ≡ []
 
-  still : (at : Place) (es : List Event) → deeds_from at.tokens es ≡ [] → IsStill at es
+  still : (at : EventPlace) (es : List Event) → deeds_from at.tokens es ≡ [] → IsStill at es
   still at [] e = record { here = refl; around = refl; defines = refl; mentions = refl }
   still at (Took ∷ es) e = let r = still (behind isolated at Took) es e in record { here = r.here; around = r.around; defines = r.defines; mentions = r.mentions }
   still at (Did a ∷ es) e = cc
 
   -- Events with one deed, and the place straight before it.
-  pub record IsDeed (at : Place) (es : List Event) (a : Action) (k : ℕ) : Type 0 where
-    pub before : Place
+  pub record IsDeed (at : EventPlace) (es : List Event) (a : Action) (k : ℕ) : Type 0 where
+    pub before : EventPlace
     pub here : before.here ≡ at.here
     pub around : before.around ≡ at.around
     pub token : last_token before ≡ k
@@ -49,7 +49,7 @@ module _ (isolated : ℕ → Bool) where
     pub defines : all_defined_at isolated at es ≡ defined before (Did a)
     pub mentions : all_mentioned_at isolated at es ≡ mentioned before (Did a)
 
-  pub one_deed : (at : Place) (es : List Event) (a : Action) (k : ℕ) → deeds_from at.tokens es ≡ (a, k) ∷ [] → IsDeed at es a k
+  pub one_deed : (at : EventPlace) (es : List Event) (a : Action) (k : ℕ) → deeds_from at.tokens es ≡ (a, k) ∷ [] → IsDeed at es a k
   one_deed at [] a k e = cc
   one_deed at (Took ∷ es) a k e =
       let r = one_deed (behind isolated at Took) es a k e in record {
@@ -84,7 +84,7 @@ module _ (isolated : ℕ → Bool) where
       subst (λ (d : Deed). IsDeed at (Did x ∷ es) d.0 d.1) same here
 
   -- where deeds are two lists, the events are
-  pub split_deeds : (at : Place) (es : List Event) (xs ys : List Deed) → deeds_from at.tokens es ≡ xs ++ ys
+  pub split_deeds : (at : EventPlace) (es : List Event) (xs ys : List Deed) → deeds_from at.tokens es ≡ xs ++ ys
       → (a : List Event) × (b : List Event) × (es ≡ a ++ b) × (deeds_from at.tokens a ≡ xs) × (deeds_from (arrived isolated at a).tokens b ≡ ys)
   split_deeds at es [] ys e = ([], es, refl, refl, e)
   split_deeds at [] (x ∷ xs) ys e = cc
@@ -95,11 +95,11 @@ module _ (isolated : ℕ → Bool) where
 
   -- an action that names no value and leaves open what is
   abbrev pub IsQuiet : Action → Type 0
-  IsQuiet a = (p : Place) → (defined p (Did a) ≡ []) × (mentioned p (Did a) ≡ []) × (here_after isolated p a ≡ p.here) × (around_after p a ≡ p.around)
+  IsQuiet a = (p : EventPlace) → (defined p (Did a) ≡ []) × (mentioned p (Did a) ≡ []) × (here_after isolated p a ≡ p.here) × (around_after p a ≡ p.around)
 
   module _ {N : Type 0} (g : ℕ → N) where
     -- What a part of a text has of names, behind which is open what was before it.
-    pub record Part (at : Place) (es : List Event) (all own used said : List ℕ) (Q : Type 0) : Type 0 where
+    pub record Part (at : EventPlace) (es : List Event) (all own used said : List ℕ) (Q : Type 0) : Type 0 where
       pub has : Has isolated g at es all own used said Q
       pub here : (arrived isolated at es).here ≡ at.here
       pub around : (arrived isolated at es).around ≡ at.around
@@ -107,7 +107,7 @@ module _ (isolated : ℕ → Bool) where
     alike : (xs : List ℕ) → Alike xs xs
     alike xs k = (λ h. h, λ h. h)
 
-    pub part_append : (at : Place) (a b : List Event) (all own used said all' own' used' said' : List ℕ) (Q R : Type 0) → at.here.values ≤ at.events → Part at a all own used said Q
+    pub part_append : (at : EventPlace) (a b : List Event) (all own used said all' own' used' said' : List ℕ) (Q R : Type 0) → at.here.values ≤ at.events → Part at a all own used said Q
         → Part (arrived isolated at a) b all' own' used' said' R → Part at (a ++ b) (all ++ all') (own ++ own') (used ++ used') (said ++ said') (Q × R)
     part_append at a b all own used said all' own' used' said' Q R low p q = record {
       has = has_append isolated g at a b all own used said all' own' used' said' Q R p.has q.has low (ap (λ f. f.values) p.here);
@@ -115,7 +115,7 @@ module _ (isolated : ℕ → Bool) where
       around = ap (λ z. z.around) (arrived_append isolated at a b) ∙ (q.around ∙ p.around);
     }
 
-    pub part_change : (at : Place) (es : List Event) (all own used said all' own' used' said' : List ℕ) (Q R : Type 0)
+    pub part_change : (at : EventPlace) (es : List Event) (all own used said all' own' used' said' : List ℕ) (Q R : Type 0)
         → all ≡ all' → Alike own own' → Alike used used' → ((k : ℕ) → In k said' → In k said) → (Q → R) → (R → Q) → Part at es all own used said Q → Part at es all' own' used' said' R
     part_change at es all own used said all' own' used' said' Q R e o u s f b p = record {
       has = change isolated g at es all own used said all' own' used' said' Q R e o u s f b p.has;
@@ -123,12 +123,12 @@ module _ (isolated : ℕ → Bool) where
       around = p.around;
     }
 
-    pub part_still : (at : Place) (es : List Event) → deeds_from at.tokens es ≡ [] → Part at es [] [] [] [] (Unit {0})
+    pub part_still : (at : EventPlace) (es : List Event) → deeds_from at.tokens es ≡ [] → Part at es [] [] [] [] (Unit {0})
     part_still at es e = let r = still at es e in record { has = has_nothing isolated g at es r.defines r.mentions; here = r.here; around = r.around }
 
     -- ---- one deed
 
-    pub part_quiet : (at : Place) (es : List Event) (a : Action) (k : ℕ) → IsQuiet a → IsDeed at es a k → Part at es [] [] [] [] (Unit {0})
+    pub part_quiet : (at : EventPlace) (es : List Event) (a : Action) (k : ℕ) → IsQuiet a → IsDeed at es a k → Part at es [] [] [] [] (Unit {0})
     part_quiet at es a k q d = let r = q d.before in record {
       has = has_nothing isolated g at es (d.defines ∙ r.0) (d.mentions ∙ r.1);
       here = d.here_now ∙ (r.2 ∙ d.here);
@@ -137,19 +137,19 @@ module _ (isolated : ℕ → Bool) where
 
     -- an action that defines a value
     abbrev pub IsDefining : Action → Type 0
-    IsDefining a = (p : Place) → (defined p (Did a) ≡ site isolated p.here.values (last_token p) ∷ []) × (mentioned p (Did a) ≡ []) × (here_after isolated p a ≡ p.here) × (around_after p a ≡ p.around)
+    IsDefining a = (p : EventPlace) → (defined p (Did a) ≡ site isolated p.here.values (last_token p) ∷ []) × (mentioned p (Did a) ≡ []) × (here_after isolated p a ≡ p.here) × (around_after p a ≡ p.around)
 
-    here_site : (at : Place) (es : List Event) (a : Action) (k : ℕ) (d : IsDeed at es a k) → site isolated d.before.here.values (last_token d.before) ∷ [] ≡ site isolated at.here.values k ∷ []
+    here_site : (at : EventPlace) (es : List Event) (a : Action) (k : ℕ) (d : IsDeed at es a k) → site isolated d.before.here.values (last_token d.before) ∷ [] ≡ site isolated at.here.values k ∷ []
     here_site at es a k d = ap (λ (f : Frame). site isolated f.values (last_token d.before) ∷ []) d.here ∙ ap (λ n. site isolated at.here.values n ∷ []) d.token
 
-    pub part_defines : (at : Place) (es : List Event) (a : Action) (k : ℕ) → IsDefining a → IsDeed at es a k → Part at es (k ∷ []) (k ∷ []) [] [] (Unit {0})
+    pub part_defines : (at : EventPlace) (es : List Event) (a : Action) (k : ℕ) → IsDefining a → IsDeed at es a k → Part at es (k ∷ []) (k ∷ []) [] [] (Unit {0})
     part_defines at es a k q d = let r = q d.before in record {
       has = has_definition isolated g at es k (d.defines ∙ (r.0 ∙ here_site at es a k d)) (d.mentions ∙ r.1);
       here = d.here_now ∙ (r.2 ∙ d.here);
       around = d.around_now ∙ (r.3 ∙ d.around);
     }
 
-    pub part_mentions : (at : Place) (es : List Event) (k : ℕ) → IsDeed at es Operand k → Part at es [] [] (k ∷ []) (k ∷ []) (Unit {0})
+    pub part_mentions : (at : EventPlace) (es : List Event) (k : ℕ) → IsDeed at es Operand k → Part at es [] [] (k ∷ []) (k ∷ []) (Unit {0})
     part_mentions at es k d = record {
       has = has_mention isolated g at es k d.defines (d.mentions ∙ here_site at es Operand k d);
       here = d.here_now ∙ d.here;
@@ -163,7 +163,7 @@ module _ (isolated : ℕ → Bool) where
       drop_nil xs ys e k = (λ h. subst (In k) e h, λ h. subst (In k) (sym e) h)
 
       -- nothing is named around
-      around_has : (at : Place) (a b c : List Event) → at.here.values ≤ at.events → Has isolated g at a [] [] [] [] (Unit {0}) → (arrived isolated at a).here.values ≡ at.here.values
+      around_has : (at : EventPlace) (a b c : List Event) → at.here.values ≤ at.events → Has isolated g at a [] [] [] [] (Unit {0}) → (arrived isolated at a).here.values ≡ at.here.values
           → Has isolated g (arrived isolated at a) b all own used said Q → (arrived isolated (arrived isolated at a) b).here.values ≡ (arrived isolated at a).here.values
           → Has isolated g (arrived isolated (arrived isolated at a) b) c [] [] [] [] (Unit {0})
           → Has isolated g at (a ++ (b ++ c)) all own used said Q
@@ -176,9 +176,9 @@ module _ (isolated : ℕ → Bool) where
           (λ x. x.1.0) (λ q. (tt, (q, tt))) abc
 
       -- a scope begins
-      module _ (at : Place) (e b : List Event) (none : all_defined_at isolated at e ≡ []) (unused : all_mentioned_at isolated at e ≡ []) (low : at.here.values ≤ at.events)
+      module _ (at : EventPlace) (e b : List Event) (none : all_defined_at isolated at e ≡ []) (unused : all_mentioned_at isolated at e ≡ []) (low : at.here.values ≤ at.events)
           (new : at.events < (arrived isolated at e).here.values) (old : (arrived isolated at e).here.values ≤ (arrived isolated at e).events) (h : Has isolated g (arrived isolated at e) b all own used said Q) where
-        within : Place
+        within : EventPlace
         within = arrived isolated at e
 
         all_defs : all_defined_at isolated at (e ++ b) ≡ all_defined_at isolated (arrived isolated at e) b
@@ -249,12 +249,12 @@ module _ (isolated : ℕ → Bool) where
           up = meant;
         }
 
-      module _ (at : Place) (es : List Event) (a x : Action) (k last : ℕ) (xs : List Deed) (low : at.here.values ≤ at.events) (read : deeds_from at.tokens es ≡ (a, k) ∷ (xs ++ (x, last) ∷ [])) where
+      module _ (at : EventPlace) (es : List Event) (a x : Action) (k last : ℕ) (xs : List Deed) (low : at.here.values ≤ at.events) (read : deeds_from at.tokens es ≡ (a, k) ∷ (xs ++ (x, last) ∷ [])) where
         -- the events of what begins, of what is in it and of what ends
         first : (e : List Event) × (m : List Event) × (es ≡ e ++ m) × (deeds_from at.tokens e ≡ (a, k) ∷ []) × (deeds_from (arrived isolated at e).tokens m ≡ xs ++ (x, last) ∷ [])
         first = split_deeds at es ((a, k) ∷ []) (xs ++ (x, last) ∷ []) read
 
-        inner : Place
+        inner : EventPlace
         inner = arrived isolated at first.0
 
         second : (i : List Event) × (t : List Event) × (first.1 ≡ i ++ t) × (deeds_from inner.tokens i ≡ xs) × (deeds_from (arrived isolated inner i).tokens t ≡ (x, last) ∷ [])
@@ -277,7 +277,7 @@ module _ (isolated : ℕ → Bool) where
 
         -- types, attributes, lists, operands and blocks
         pub part_bracket : IsQuiet a → IsQuiet x
-            → ((p : Place) (i : List Event) → p.here ≡ at.here → p.around ≡ at.around → at.events ≤ p.events → deeds_from p.tokens i ≡ xs → Part p i all own used said Q)
+            → ((p : EventPlace) (i : List Event) → p.here ≡ at.here → p.around ≡ at.around → at.events ≤ p.events → deeds_from p.tokens i ≡ xs → Part p i all own used said Q)
             → Part at es all own used said Q
         unfolding inner
         part_bracket qa qx go =
@@ -292,9 +292,9 @@ module _ (isolated : ℕ → Bool) where
 
         -- ---- operations
 
-        module _ (n : ℕ) (opens : (p : Place) → (defined p (Did a) ≡ []) × (mentioned p (Did a) ≡ []) × (here_after isolated p a ≡ operation_frame (isolated n) p.here) × (around_after p a ≡ p.here ∷ p.around))
-            (closes : (p : Place) → (defined p (Did x) ≡ []) × (mentioned p (Did x) ≡ []) × (here_after isolated p x ≡ here_behind_operation p.events p.around) × (around_after p x ≡ rest p.around))
-            (go : (p : Place) (i : List Event) → p.here ≡ operation_frame (isolated n) at.here → p.around ≡ at.here ∷ at.around → at.events ≤ p.events → deeds_from p.tokens i ≡ xs → Part p i all own used said Q) where
+        module _ (n : ℕ) (opens : (p : EventPlace) → (defined p (Did a) ≡ []) × (mentioned p (Did a) ≡ []) × (here_after isolated p a ≡ operation_frame (isolated n) p.here) × (around_after p a ≡ p.here ∷ p.around))
+            (closes : (p : EventPlace) → (defined p (Did x) ≡ []) × (mentioned p (Did x) ≡ []) × (here_after isolated p x ≡ here_behind_operation p.events p.around) × (around_after p x ≡ rest p.around))
+            (go : (p : EventPlace) (i : List Event) → p.here ≡ operation_frame (isolated n) at.here → p.around ≡ at.here ∷ at.around → at.events ≤ p.events → deeds_from p.tokens i ≡ xs → Part p i all own used said Q) where
           op_here : (arrived isolated at first.0).here ≡ operation_frame (isolated n) at.here
           op_here = began.here_now ∙ ((opens began.before).2 ∙ ap (operation_frame (isolated n)) began.here)
 
@@ -325,9 +325,9 @@ module _ (isolated : ℕ → Bool) where
 
         -- ---- regions
 
-        module _ (opens : (p : Place) → (defined p (Did a) ≡ []) × (mentioned p (Did a) ≡ []) × (here_after isolated p a ≡ region_frame p) × (around_after p a ≡ p.here ∷ p.around))
-            (closes : (p : Place) → (defined p (Did x) ≡ []) × (mentioned p (Did x) ≡ []) × (here_after isolated p x ≡ here_behind_region p.here p.around) × (around_after p x ≡ rest p.around))
-            (go : (p : Place) (i : List Event) → p.here.values ≤ p.events → p.around ≡ at.here ∷ at.around → deeds_from p.tokens i ≡ xs → Part p i all own used said Q) where
+        module _ (opens : (p : EventPlace) → (defined p (Did a) ≡ []) × (mentioned p (Did a) ≡ []) × (here_after isolated p a ≡ region_frame p) × (around_after p a ≡ p.here ∷ p.around))
+            (closes : (p : EventPlace) → (defined p (Did x) ≡ []) × (mentioned p (Did x) ≡ []) × (here_after isolated p x ≡ here_behind_region p.here p.around) × (around_after p x ≡ rest p.around))
+            (go : (p : EventPlace) (i : List Event) → p.here.values ≤ p.events → p.around ≡ at.here ∷ at.around → deeds_from p.tokens i ≡ xs → Part p i all own used said Q) where
           region_around : (arrived isolated at first.0).around ≡ at.here ∷ at.around
           region_around = began.around_now ∙ ((opens began.before).3 ∙ (ap (λ f. f ∷ began.before.around) began.here ∙ ap (λ fs. at.here ∷ fs) began.around))
 

@@ -6,7 +6,7 @@ use Rattle.ir_grammar.specs.declared.grammar.Action.{Action}
 use Rattle.ir_grammar.specs.declared.grammar.Action.TheVariants.{EndBlock}
 use Rattle.ir_grammar.specs.declared.grammar.Event.{Event}
 use Rattle.ir_grammar.specs.declared.grammar.Event.TheVariants.{Took, Did}
-use Rattle.ir_forest.specs.Forest.{end_of, Deed, deeds_from, Step, ending, deeds_of, deeds_in, IsWholeStep, AreWhole, IsForest}
+use Rattle.ir_forest.specs.Forest.{end_of, Deed, deeds_from, ActionSpan, ending, deeds_of, deeds_in, IsWholeStep, AreWhole, IsForestOf}
 use Rattle.ir_grammar.specs.Nesting.{Position, at_root, behind_root_results, at_end, in_header, in_argument, behind_results, Move, goes_to, goes_in, goes_out, nowhere, move, header_move, argument_move, NestsBy}
 use Rattle.ir_forest.specs.Progress.{Leads}
 use Rattle.ir_forest.proofs.BuiltSteps.{alone, opening, closing, sort_of, EndsBy, ends_by, end_sort, Says, says, by_move}
@@ -30,7 +30,7 @@ PlacedBy goes_out Inner Rest = ⊥
 PlacedBy nowhere Inner Rest = ⊥
 
 -- from a position on, each step has its place, and the trees may end where they do
-abbrev pub Placed : Position → Trees Step → Type 0
+abbrev pub Placed : Position → Trees ActionSpan → Type 0
 Placed p no_tree = IsFinal p
 Placed p (a_tree (node s ts) rest) = PlacedBy (move p s.action) (λ q. Placed q ts) (λ q. Placed q rest)
 
@@ -89,18 +89,18 @@ ends_out p a nowhere e s c ps R q h = absurd h
 -- ---- trees
 
 -- where deeds of trees lead on, the trees have their places
-abbrev Places : Trees Step → Type 0
+abbrev Places : Trees ActionSpan → Type 0
 Places ts = AreWhole ts → (p : Position) (ps : List Position) (more : List Deed) (to : Position) (back : List Position) → LeadsBy p ps (deeds_in ts ++ more) to back
     → (q : Position) × LeadsBy q ps more to back × (IsFinal q → Placed p ts)
 
 -- what stands alone ends nothing, and has nothing in it
-alone_whole : (s : Step) (ts : Trees Step) → sort_of s.action ≡ alone → IsWholeStep (end_of s.action) s ts → (end_of s.action ≡ None) × (ts ≡ no_tree)
+alone_whole : (s : ActionSpan) (ts : Trees ActionSpan) → sort_of s.action ≡ alone → IsWholeStep (end_of s.action) s ts → (end_of s.action ≡ None) × (ts ≡ no_tree)
 alone_whole s ts e w =
     let x = subst (λ z. EndsBy z s.action) e (ends_by s.action) in
     let r : IsWholeStep None s ts = subst (λ z. IsWholeStep z s ts) x.0 w in
     (x.0, r.2)
 
-module _ (s : Step) (ts rest : Trees Step) (p : Position) (ps : List Position) (more : List Deed) (to : Position) (back : List Position) where
+module _ (s : ActionSpan) (ts rest : Trees ActionSpan) (p : Position) (ps : List Position) (more : List Deed) (to : Position) (back : List Position) where
   place : (m : Move) → move p s.action ≡ m → Says p s.action m → IsWholeStep (end_of s.action) s ts → AreWhole ts → AreWhole rest → Places ts → Places rest
       → NestsBy m ps (λ q qs. LeadsBy q qs ((deeds_in ts ++ ending (end_of s.action) s.last) ++ (deeds_in rest ++ more)) to back)
       → (q : Position) × LeadsBy q ps more to back × (IsFinal q → PlacedBy m (λ q. Placed q ts) (λ q. Placed q rest))
@@ -125,14 +125,14 @@ module _ (s : Step) (ts rest : Trees Step) (p : Position) (ps : List Position) (
           let no : true ≡ false = sym x.1 ∙ r.0 in cc
   place nowhere e does w inner after here there h = absurd h
 
-places : (ts : Trees Step) → Places ts
+places : (ts : Trees ActionSpan) → Places ts
 places no_tree w p ps more to back h = (p, h, λ f. f)
 places (a_tree (node s ts) rest) w p ps more to back h =
     place s ts rest p ps more to back (move p s.action) refl (says p s.action) w.0 w.1 w.2 (places ts) (places rest)
     (subst (λ z. LeadsBy p ps z to back) (append_assoc (deeds_of (node s ts)) (deeds_in rest) more) h)
 
 -- each step of a whole text has its place
-pub forest_placed : (es : List Event) (ts : Trees Step) → IsForest es ts → Leads at_root [] es at_end [] → Placed at_root ts
+pub forest_placed : (es : List Event) (ts : Trees ActionSpan) → IsForestOf es ts → Leads at_root [] es at_end [] → Placed at_root ts
 forest_placed es ts f h =
     let led : LeadsBy at_root [] (deeds_in ts ++ []) at_end [] = subst (λ z. LeadsBy at_root [] z at_end []) (f.1 ∙ sym (append-nil (deeds_in ts))) (by_deeds es at_root [] 0 at_end [] h) in
     let r = places ts f.0 at_root [] [] at_end [] led in

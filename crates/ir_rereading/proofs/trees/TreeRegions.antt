@@ -9,7 +9,7 @@ use Rattle.ir_grammar.specs.declared.grammar.Event.{Event}
 use Rattle.ir_grammar.specs.declared.grammar.Event.TheVariants.{Took, Did}
 use Rattle.ir_scopes.specs.declared.sites.Frame.{Frame}
 use Rattle.ir_scopes.specs.declared.sites.Site.{Site}
-use Rattle.ir_forest.specs.Forest.{end_of, Deed, deeds_from, Step, ending, deeds_in, IsWholeStep, AreWhole, IsForest}
+use Rattle.ir_forest.specs.Forest.{end_of, Deed, deeds_from, ActionSpan, ending, deeds_in, IsWholeStep, AreWhole, IsForestOf}
 use Rattle.ir_forest.specs.Meaning.{by_operation, by_region, head_of, operations_in, regions_in, blocks_in}
 use Rattle.ir_grammar.specs.Nesting.{Nests, at_root}
 use Rattle.ir_scopes.specs.Scopes.{outside, operation_frame, region_frame, labelled, each, labels}
@@ -150,7 +150,7 @@ module _ (isolated : ℕ → Bool) where
   none_left (Did a ∷ es) n k h fs e = let first : Deed = (a, k - 1) in let wrong : first ∷ deeds_from k es ≡ [] = e in cc
 
   -- what is passed up to an end
-  closes : (is rest : Trees Step) (end : Action) (y : ℕ) (n k : ℕ) (h : Frame) (fs : List Frame) (es : List Event) (more : List Deed) (Makes : ℕ → List Site → Type 0)
+  closes : (is rest : Trees ActionSpan) (end : Action) (y : ℕ) (n k : ℕ) (h : Frame) (fs : List Frame) (es : List Event) (more : List Deed) (Makes : ℕ → List Site → Type 0)
       → Walk n k h fs es [] ((end, y) ∷ (deeds_in rest ++ more)) Makes → Walk n k h fs es (Did end ∷ []) (deeds_in rest ++ more) (λ m ss. (a : ℕ) × (a ≤ m) × Makes a ss)
   closes is rest end y n k h fs es more Makes w =
       let r = next w.rest w.events w.tokens h fs end y (deeds_in rest ++ more) w.does in
@@ -178,7 +178,7 @@ module _ (isolated : ℕ → Bool) where
   plain_end BeginItem x p e = let same : EndItem ≡ x = cc in ap is_plain (sym same)
   plain_end _ x p e = let wrong : None ≡ Some x = e in cc
 
-  plain_piece : (a : Action) (ts : Trees Step) → OnContent (inside of_pieces a) (λ d. AreOf d ts) → (is_plain a ≡ true) × AreOf of_pieces ts
+  plain_piece : (a : Action) (ts : Trees ActionSpan) → OnContent (inside of_pieces a) (λ d. AreOf d ts) → (is_plain a ≡ true) × AreOf of_pieces ts
   plain_piece (Operation kind) ts h = absurd h
   plain_piece EndOperation ts h = absurd h
   plain_piece BeginRegion ts h = absurd h
@@ -190,11 +190,11 @@ module _ (isolated : ℕ → Bool) where
   No m ss = ss ≡ []
 
   -- trees that make no labels, in whatever frames
-  abbrev PassesPieces : Trees Step → Type 0
+  abbrev PassesPieces : Trees ActionSpan → Type 0
   PassesPieces ts = (n k : ℕ) (h : Frame) (fs : List Frame) (es : List Event) (more : List Deed) → deeds_from k es ≡ deeds_in ts ++ more → Walk n k h fs es [] more No
 
   -- a tree that begins with a plain action and holds pieces makes none
-  plain_tree : (a : Action) (x y : ℕ) (is rest : Trees Step) → is_plain a ≡ true → PassesPieces is → (e : Option Action) → end_of a ≡ e
+  plain_tree : (a : Action) (x y : ℕ) (is rest : Trees ActionSpan) → is_plain a ≡ true → PassesPieces is → (e : Option Action) → end_of a ≡ e
       → IsWholeStep e (record { action = a; first = x; last = y }) is
       → (n k : ℕ) (h : Frame) (fs : List Frame) (es : List Event) (more : List Deed) → deeds_from k es ≡ (a, x) ∷ (((deeds_in is ++ ending e y) ++ deeds_in rest) ++ more)
       → Walk n k h fs es [] (deeds_in rest ++ more) No
@@ -207,7 +207,7 @@ module _ (isolated : ℕ → Bool) where
         rest = begun.rest;
         labels = followed (labels_from n k h fs es) (labels_from begun.events begun.tokens h fs (Did a ∷ begun.rest)) (labels_from (begun.events + 1) begun.tokens h fs begun.rest) begun.labels
             (plain_labels a p begun.events begun.tokens h fs begun.rest);
-        does = begun.does ∙ ap (λ (ts : Trees Step). ((deeds_in ts ++ []) ++ deeds_in rest) ++ more) w.2;
+        does = begun.does ∙ ap (λ (ts : Trees ActionSpan). ((deeds_in ts ++ []) ++ deeds_in rest) ++ more) w.2;
         later = (let l = begun.later in omega arith);
         makes = refl;
       }
@@ -244,7 +244,7 @@ module _ (isolated : ℕ → Bool) where
     makes = go r.events r.sites r.makes;
   }
 
-  pieces_pass : (ts : Trees Step) → AreWhole ts → AreOf of_pieces ts → PassesPieces ts
+  pieces_pass : (ts : Trees ActionSpan) → AreWhole ts → AreOf of_pieces ts → PassesPieces ts
   pieces_pass no_tree w o n k h fs es more d = record { sites = []; events = n; tokens = k; rest = es; labels = refl; does = d; later = omega arith; makes = refl }
   pieces_pass (a_tree (node s is) rest) w o n k h fs es more d =
       let p = plain_piece s.action is o.0 in
@@ -255,13 +255,13 @@ module _ (isolated : ℕ → Bool) where
 
   module _ (v : Values) (text : ℕ → List ℕ) where
     -- what the labels of trees are, by what stands side by side in them
-    abbrev Reached : Content → ℕ → ℕ → Trees Step → ℕ → List Site → Type 0
+    abbrev Reached : Content → ℕ → ℕ → Trees ActionSpan → ℕ → List Site → Type 0
     Reached of_pieces scope n ts m ss = ss ≡ []
     Reached of_operation scope n ts m ss = OfRegions text n m (regions_in v text ts) ss
     Reached of_region scope n ts m ss = OfBlocks text scope n m (blocks_in v text ts) ss
     Reached of_block scope n ts m ss = (names : List ℕ) → OfOperations text n m (operations_in v text names ts) ss
 
-    abbrev Passes : Trees Step → Type 0
+    abbrev Passes : Trees ActionSpan → Type 0
     Passes ts = (c : Content) → AreOf c ts → (n k : ℕ) (h g : Frame) (gs : List Frame) (es : List Event) (more : List Deed)
         → deeds_from k es ≡ deeds_in ts ++ more → Walk n k h (g ∷ gs) es [] more (Reached c h.labels n ts)
 
@@ -269,15 +269,15 @@ module _ (isolated : ℕ → Bool) where
     skip_region BeginRegion p x y = let wrong : false ≡ true = p in cc
     skip_region _ p x y = refl
 
-    skip_operations : (a : Action) (x n m : ℕ) (X : List ℕ → ℕ → Entities ℕ) (rest : Trees Step) (ss : List Site) → is_plain a ≡ true → ((names : List ℕ) → OfOperations text n m (operations_in v text names rest) ss)
+    skip_operations : (a : Action) (x n m : ℕ) (X : List ℕ → ℕ → Entities ℕ) (rest : Trees ActionSpan) (ss : List Site) → is_plain a ≡ true → ((names : List ℕ) → OfOperations text n m (operations_in v text names rest) ss)
         → (names : List ℕ) → OfOperations text n m (by_operation a (operations_in v text (names ++ x ∷ []) rest) (X names) (operations_in v text names rest)) ss
     skip_operations Result x n m X rest ss p h names = h (names ++ x ∷ [])
     skip_operations (Operation kind) x n m X rest ss p h names = let wrong : false ≡ true = p in cc
     skip_operations _ x n m X rest ss p h names = h names
 
-    module _ (x y : ℕ) (is rest : Trees Step) where
+    module _ (x y : ℕ) (is rest : Trees ActionSpan) where
       -- the tree that an action begins, and those behind it
-      abbrev begun_by : Action → Trees Step
+      abbrev begun_by : Action → Trees ActionSpan
       begun_by a = a_tree (node (record { action = a; first = x; last = y }) is) rest
 
       pass_region : Passes is → Passes rest → AreOf of_region is → AreOf of_operation rest → (n k : ℕ) (h g : Frame) (gs : List Frame) (es : List Event) (more : List Deed)
@@ -438,23 +438,23 @@ module _ (isolated : ℕ → Bool) where
     nothing_passes of_region o n k h g gs es more d = record { sites = []; events = n; tokens = k; rest = es; labels = refl; does = d; later = omega arith; makes = (omega arith, refl) }
     nothing_passes of_block o n k h g gs es more d = record { sites = []; events = n; tokens = k; rest = es; labels = refl; does = d; later = omega arith; makes = λ names. (omega arith, refl) }
 
-    node_passes : (s : Step) (is rest : Trees Step) → IsWholeStep (end_of s.action) s is → AreWhole is → AreWhole rest → Passes is → Passes rest → Passes (a_tree (node s is) rest)
+    node_passes : (s : ActionSpan) (is rest : Trees ActionSpan) → IsWholeStep (end_of s.action) s is → AreWhole is → AreWhole rest → Passes is → Passes rest → Passes (a_tree (node s is) rest)
     node_passes s is rest w ws wr inner onward of_pieces o = λ n k h g gs es more d. pieces_pass (a_tree (node s is) rest) (w, ws, wr) o n k h (g ∷ gs) es more d
     node_passes s is rest w ws wr inner onward of_operation o = said_passes s.first s.last is rest s.action w ws inner onward o.0 o.1
     node_passes s is rest w ws wr inner onward of_region o = block_passes s.first s.last is rest s.action w ws inner onward o.0 o.1
     node_passes s is rest w ws wr inner onward of_block o = operation_passes s.first s.last is rest s.action w ws inner onward o.0 o.1
 
-    all_pass : (ts : Trees Step) → AreWhole ts → Passes ts
+    all_pass : (ts : Trees ActionSpan) → AreWhole ts → Passes ts
     all_pass no_tree w = nothing_passes
     all_pass (a_tree (node s is) rest) w = node_passes s is rest w.0 w.1 w.2 (all_pass is w.1) (all_pass rest w.2)
 
     -- ---- the root
 
     -- the labels of all that comes from a place outside of all operations on
-    abbrev Outside : Trees Step → Type 0
+    abbrev Outside : Trees ActionSpan → Type 0
     Outside ts = (n k : ℕ) (h : Frame) (es : List Event) → deeds_from k es ≡ deeds_in ts → (m : ℕ) × ((names : List ℕ) → OfOperations text n m (operations_in v text names ts) (labels_from n k h [] es))
 
-    module _ (x y : ℕ) (is rest : Trees Step) where
+    module _ (x y : ℕ) (is rest : Trees ActionSpan) where
       root_operation : (kind : ℕ) → Passes is → Outside rest → AreOf of_operation is → (n k : ℕ) (h : Frame) (es : List Event) → deeds_from k es ≡ deeds_in (begun_by x y is rest (Operation kind))
           → (m : ℕ) × ((names : List ℕ) → OfOperations text n m (operations_in v text names (begun_by x y is rest (Operation kind))) (labels_from n k h [] es))
       root_operation kind inner onward o n k h es d =
@@ -498,12 +498,12 @@ module _ (isolated : ℕ → Bool) where
       root_passes Label w ws inner onward o = absurd o
       root_passes a w ws inner onward o = root_other a refl w ws o onward
 
-    all_outside : (ts : Trees Step) → AreWhole ts → AreOf of_block ts → Outside ts
+    all_outside : (ts : Trees ActionSpan) → AreWhole ts → AreOf of_block ts → Outside ts
     all_outside no_tree w o = λ n k h es d. (n, λ names. (omega arith, none_left es n k h [] d))
     all_outside (a_tree (node s is) rest) w o = root_passes s.first s.last is rest s.action w.0 w.1 (all_pass is w.1) (all_outside rest w.2 o.1) o.0
 
     -- The labels of a text are those of its tree, one after the other.
-    pub labels_of_tree : (es : List Event) (forest : Trees Step) (tree : Entity ℕ) → Nests at_root [] es → IsForest es forest → operations_in v text [] forest ≡ an_entity tree no_entity
+    pub labels_of_tree : (es : List Event) (forest : Trees ActionSpan) (tree : Entity ℕ) → Nests at_root [] es → IsForestOf es forest → operations_in v text [] forest ≡ an_entity tree no_entity
         → (m : ℕ) × OfOperations text 0 m (an_entity tree no_entity) (labels isolated es)
     labels_of_tree es forest tree nests is e =
         let r = all_outside forest is.0 (forest_stands es forest nests is) 0 0 (outside 0) es is.1 in

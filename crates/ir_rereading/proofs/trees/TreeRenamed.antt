@@ -1,7 +1,7 @@
 -- What a renamed tree defines and mentions.
 use Rattle.std.proofs.Common.{◌≡◌, ℕ, Bool, true, false, if◌then◌else◌, List, [], ◌∷◌, ◌++◌, map, refl, sym, ap, ◌∙◌}
 use Rattle.std.proofs.lemmas.List.{map-append}
-use Rattle.ir_print.specs.Pieces.{ValueTree, Head, operation, a_region, block, Entity, entity, Entities, no_entity, an_entity}
+use Rattle.ir_print.specs.Pieces.{ValueTree, EntityHead, operation, a_region, block, Entity, entity, Entities, no_entity, an_entity}
 use Rattle.ir_forest.specs.Closed.{names_of, head_defines, head_mentions, in_scope, defined_by, all_defined, mentioned_by, all_mentioned, definitions_of, all_definitions_of}
 use Rattle.ir_forest.specs.Meaning.{renamed_head, renamed, all_renamed}
 
@@ -19,12 +19,12 @@ module _ {M N : Type 0} (f : M → N) where
   names_renamed [] = refl
   names_renamed (x ∷ xs) = ap (λ z. f x.0 ∷ z) (names_renamed xs)
 
-  head_defines_renamed : (h : Head M) → head_defines (renamed_head f h) ≡ map f (head_defines h)
+  head_defines_renamed : (h : EntityHead M) → head_defines (renamed_head f h) ≡ map f (head_defines h)
   head_defines_renamed (operation kind results used pieces) = names_renamed results
   head_defines_renamed a_region = refl
   head_defines_renamed (block label arguments) = names_renamed arguments
 
-  head_mentions_renamed : (h : Head M) → head_mentions (renamed_head f h) ≡ map f (head_mentions h)
+  head_mentions_renamed : (h : EntityHead M) → head_mentions (renamed_head f h) ≡ map f (head_mentions h)
   head_mentions_renamed (operation kind results used pieces) = refl
   head_mentions_renamed a_region = refl
   head_mentions_renamed (block label arguments) = refl
@@ -33,7 +33,7 @@ module _ {M N : Type 0} (f : M → N) where
   if_mapped true xs ys e = refl
   if_mapped false xs ys e = e
 
-  scope_renamed : (isolated : ℕ → Bool) (h : Head M) (xs : List M) (ys : List N) → ys ≡ map f xs → in_scope isolated (renamed_head f h) ys ≡ map f (in_scope isolated h xs)
+  scope_renamed : (isolated : ℕ → Bool) (h : EntityHead M) (xs : List M) (ys : List N) → ys ≡ map f xs → in_scope isolated (renamed_head f h) ys ≡ map f (in_scope isolated h xs)
   scope_renamed isolated (operation kind results used pieces) xs ys e = if_mapped (isolated kind) xs ys e
   scope_renamed isolated a_region xs ys e = e
   scope_renamed isolated (block label arguments) xs ys e = e

@@ -9,11 +9,11 @@ use Rattle.ir_tokens.specs.declared.faults.Fault.{Fault}
 use Rattle.ir_scopes.specs.declared.scopes.Resolution.{Resolution}
 use Rattle.ir_scopes.specs.declared.sites.Site.{Site}
 use Rattle.ir_forest.specs.Closed.{AreIn, AllDistinct, defined_by, mentioned_by, all_defined, all_mentioned, definitions_of, all_definitions_of, IsScoped, AreScoped, IsScopedRoot, IsNumbered}
-use Rattle.ir_forest.specs.Forest.{Step, IsForest}
+use Rattle.ir_forest.specs.Forest.{ActionSpan, IsForestOf}
 use Rattle.ir_forest.specs.Meaning.{operations_in, renamed, all_renamed}
 use Rattle.ir_grammar.specs.Nesting.{at_root, at_end}
 use Rattle.ir_forest.specs.Progress.{Leads}
-use Rattle.ir_scopes.specs.Scopes.{beginning, definitions, mentions, closings, name_of, Means, IsAgain, IsLacking, AreApart, IsResolved}
+use Rattle.ir_scopes.specs.Scopes.{beginning, definitions, mentions, closings, name_of, Means, IsAgain, IsUnresolvedName, SitesAreApart, IsResolved}
 use Rattle.ir_forest.specs.ValueFaults.{HasNamesFault}
 use Rattle.ir_rereading.proofs.trees.Closings.{mentions_end}
 use Rattle.ir_rereading.proofs.trees.TreeCounts.{forest_counts}
@@ -52,7 +52,7 @@ NamesValue isolated es k = (s : Site) × (In s (definitions isolated es) ⊎ In 
 abbrev pub AllMeant : {N : Type 0} → (ℕ → Bool) → List Event → (ℕ → N) → Type 0
 AllMeant isolated es g = (m : Site) → In m (mentions isolated es) → (d : Site) × In d (definitions isolated es) × (d.scope ≡ m.scope) × (g d.token ≡ g m.token)
 
-module _ (isolated : ℕ → Bool) (values : Values) (text : ℕ → List ℕ) (es : List Event) (forest : Trees Step) (tree : Entity ℕ) (read : IsForest es forest)
+module _ (isolated : ℕ → Bool) (values : Values) (text : ℕ → List ℕ) (es : List Event) (forest : Trees ActionSpan) (tree : Entity ℕ) (read : IsForestOf es forest)
     (says : operations_in values text [] forest ≡ an_entity tree no_entity) (leads : Leads at_root [] es at_end []) (named : (f : Fault) → HasNamesFault values text es f → ⊥) where
   module _ {N : Type 0} (g : ℕ → N) where
     -- what the text has of names, by its tree
@@ -117,7 +117,7 @@ module _ (isolated : ℕ → Bool) (values : Values) (text : ℕ → List ℕ) (
 
   -- ---- from a text to its tree
 
-  module _ (names : List ℕ) (r : Resolution) (resolved : IsResolved isolated names es r) (apart : AreApart (definitions isolated es) (mentions isolated es))
+  module _ (names : List ℕ) (r : Resolution) (resolved : IsResolved isolated names es r) (apart : SitesAreApart (definitions isolated es) (mentions isolated es))
       (within : (s : Site) → In s (definitions isolated es) → s.token < length names) (within_too : (m : Site) → In m (mentions isolated es) → m.token < length names) where
     numbers_meant : AllMeant isolated es (slice_index r.definitions.items)
     numbers_meant m i =
@@ -171,5 +171,5 @@ module _ (isolated : ℕ → Bool) (values : Values) (text : ℕ → List ℕ) (
         omega arith
 
     -- no name lacks its definition
-    pub none_lacking : (f : Fault) → IsLacking names (definitions isolated es) (mentions isolated es) (closings isolated es) f → ⊥
+    pub none_lacking : (f : Fault) → IsUnresolvedName names (definitions isolated es) (mentions isolated es) (closings isolated es) f → ⊥
     none_lacking f h = let lacks = h.3 in let means = mention_means lacks.0 lacks.1 lacks.2 in lacks.4 means.0 means.1

@@ -4,7 +4,7 @@ use Rattle.std.proofs.lemmas.List.{append_assoc, map-append}
 use Rattle.ir_grammar.specs.declared.grammar.Event.{Event}
 use Rattle.ir_grammar.specs.declared.grammar.Event.TheVariants.{Took, Did}
 use Rattle.ir_scopes.specs.declared.sites.Site.{Site}
-use Rattle.ir_scopes.specs.Scopes.{Place, behind, defined, mentioned, each}
+use Rattle.ir_scopes.specs.Scopes.{EventPlace, behind, defined, mentioned, each}
 use Rattle.ir_scopes.proofs.ListEnds.{get_more}
 use Rattle.ir_scopes.proofs.Apart.{get_append}
 
@@ -49,33 +49,33 @@ Alike {X = X} xs ys = (x : X) → (In x xs → In x ys) × (In x ys → In x xs)
 
 module _ (isolated : ℕ → Bool) where
   -- the place behind events
-  abbrev pub arrived : Place → List Event → Place
+  abbrev pub arrived : EventPlace → List Event → EventPlace
   arrived at [] = at
   arrived at (e ∷ es) = arrived (behind isolated at e) es
 
-  pub arrived_append : (at : Place) (a b : List Event) → arrived at (a ++ b) ≡ arrived (arrived at a) b
+  pub arrived_append : (at : EventPlace) (a b : List Event) → arrived at (a ++ b) ≡ arrived (arrived at a) b
   arrived_append at [] b = refl
   arrived_append at (e ∷ a) b = arrived_append (behind isolated at e) a b
 
-  pub each_append : {A : Type 0} (f : Place → Event → List A) (at : Place) (a b : List Event) → each isolated f at (a ++ b) ≡ each isolated f at a ++ each isolated f (arrived at a) b
+  pub each_append : {A : Type 0} (f : EventPlace → Event → List A) (at : EventPlace) (a b : List Event) → each isolated f at (a ++ b) ≡ each isolated f at a ++ each isolated f (arrived at a) b
   each_append f at [] b = refl
   each_append f at (e ∷ a) b =
       ap (λ x. f at e ++ x) (each_append f (behind isolated at e) a b) ∙ sym (append_assoc (f at e) (each isolated f (behind isolated at e) a) (each isolated f (arrived (behind isolated at e) a) b))
 
-  next_events : (at : Place) (e : Event) → (behind isolated at e).events ≡ at.events + 1
+  next_events : (at : EventPlace) (e : Event) → (behind isolated at e).events ≡ at.events + 1
   next_events at Took = refl
   next_events at (Did a) = refl
 
-  pub arrived_events : (at : Place) (es : List Event) → at.events ≤ (arrived at es).events
+  pub arrived_events : (at : EventPlace) (es : List Event) → at.events ≤ (arrived at es).events
   arrived_events at [] = omega arith
   arrived_events at (e ∷ es) = omega (arith, next_events at e, arrived_events (behind isolated at e) es)
 
   -- the definitions of values that events make from a place on
-  abbrev pub all_defined_at : Place → List Event → List Site
+  abbrev pub all_defined_at : EventPlace → List Event → List Site
   all_defined_at at es = each isolated defined at es
 
   -- the mentions of values that they make
-  abbrev pub all_mentioned_at : Place → List Event → List Site
+  abbrev pub all_mentioned_at : EventPlace → List Event → List Site
   all_mentioned_at at es = each isolated mentioned at es
 
   -- the name of a value in this scope, at this token
@@ -83,18 +83,18 @@ module _ (isolated : ℕ → Bool) where
   site scope token = record { scope = scope; token = token }
 
   -- the site is in the scope of the place, or in one that begins in the events
-  abbrev pub Stands : Place → List Event → Site → Type 0
+  abbrev pub Stands : EventPlace → List Event → Site → Type 0
   Stands at es s = (s.scope ≡ at.here.values) ⊎ ((at.events < s.scope) × (s.scope ≤ (arrived at es).events))
 
   module _ {N : Type 0} (g : ℕ → N) where
     -- each value that is mentioned in a scope that begins in the events is defined there, by a token that has the same name
-    abbrev pub AreMeant : Place → List Event → Type 0
+    abbrev pub AreMeant : EventPlace → List Event → Type 0
     AreMeant at es = (m : Site) → In m (all_mentioned_at at es) → (m.scope ≡ at.here.values → ⊥)
         → (d : Site) × In d (all_defined_at at es) × (d.scope ≡ m.scope) × (g d.token ≡ g m.token)
 
     -- What events have of names from a place on: the tokens of all definitions; those of the definitions and of the mentions in the
     -- scope of the place; the tokens of all mentions; and what says that the others are defined.
-    pub record Has (at : Place) (es : List Event) (all own used said : List ℕ) (Q : Type 0) : Type 0 where
+    pub record Has (at : EventPlace) (es : List Event) (all own used said : List ℕ) (Q : Type 0) : Type 0 where
       pub tokens : map (λ s. s.token) (all_defined_at at es) ≡ all
       pub stand : (s : Site) → In s (all_defined_at at es) → Stands at es s
       pub mentions_stand : (s : Site) → In s (all_mentioned_at at es) → Stands at es s
@@ -107,7 +107,7 @@ module _ (isolated : ℕ → Bool) where
       pub up : Q → AreMeant at es
 
     -- other lists that say the same
-    pub change : (at : Place) (es : List Event) (all own used said all' own' used' said' : List ℕ) (Q R : Type 0)
+    pub change : (at : EventPlace) (es : List Event) (all own used said all' own' used' said' : List ℕ) (Q R : Type 0)
         → all ≡ all' → Alike own own' → Alike used used' → ((k : ℕ) → In k said' → In k said) → (Q → R) → (R → Q) → Has at es all own used said Q → Has at es all' own' used' said' R
     change at es all own used said all' own' used' said' Q R e o u s f b h = record {
       tokens = h.tokens ∙ e;
@@ -123,7 +123,7 @@ module _ (isolated : ℕ → Bool) where
     }
 
     -- events without names
-    pub has_nothing : (at : Place) (es : List Event) → all_defined_at at es ≡ [] → all_mentioned_at at es ≡ [] → Has at es [] [] [] [] (Unit {0})
+    pub has_nothing : (at : EventPlace) (es : List Event) → all_defined_at at es ≡ [] → all_mentioned_at at es ≡ [] → Has at es [] [] [] [] (Unit {0})
     has_nothing at es d m = record {
       tokens = ap (map (λ (s : Site). s.token)) d;
       stand = λ s i. in_none s (subst (In s) d i);
@@ -138,7 +138,7 @@ module _ (isolated : ℕ → Bool) where
     }
 
     -- one definition
-    pub has_definition : (at : Place) (es : List Event) (k : ℕ) → all_defined_at at es ≡ site at.here.values k ∷ [] → all_mentioned_at at es ≡ [] → Has at es (k ∷ []) (k ∷ []) [] [] (Unit {0})
+    pub has_definition : (at : EventPlace) (es : List Event) (k : ℕ) → all_defined_at at es ≡ site at.here.values k ∷ [] → all_mentioned_at at es ≡ [] → Has at es (k ∷ []) (k ∷ []) [] [] (Unit {0})
     has_definition at es k d m = record {
       tokens = ap (map (λ (s : Site). s.token)) d;
       stand = λ s i. inl (sym (ap (λ x. x.scope) (in_one s (site at.here.values k) (subst (In s) d i))));
@@ -153,7 +153,7 @@ module _ (isolated : ℕ → Bool) where
     }
 
     -- one mention
-    pub has_mention : (at : Place) (es : List Event) (k : ℕ) → all_defined_at at es ≡ [] → all_mentioned_at at es ≡ site at.here.values k ∷ [] → Has at es [] [] (k ∷ []) (k ∷ []) (Unit {0})
+    pub has_mention : (at : EventPlace) (es : List Event) (k : ℕ) → all_defined_at at es ≡ [] → all_mentioned_at at es ≡ site at.here.values k ∷ [] → Has at es [] [] (k ∷ []) (k ∷ []) (Unit {0})
     has_mention at es k d m = record {
       tokens = ap (map (λ (s : Site). s.token)) d;
       stand = λ s i. in_none s (subst (In s) d i);
@@ -172,9 +172,9 @@ module _ (isolated : ℕ → Bool) where
 
     -- ---- parts one behind the other
 
-    module _ (at : Place) (a b : List Event) (all own used said all' own' used' said' : List ℕ) (Q R : Type 0) (first : Has at a all own used said Q) (second : Has (arrived at a) b all' own' used' said' R)
+    module _ (at : EventPlace) (a b : List Event) (all own used said all' own' used' said' : List ℕ) (Q R : Type 0) (first : Has at a all own used said Q) (second : Has (arrived at a) b all' own' used' said' R)
         (low : at.here.values ≤ at.events) (same : (arrived at a).here.values ≡ at.here.values) where
-      split : {A : Type 0} (f : Place → Event → List A) → each isolated f at (a ++ b) ≡ each isolated f at a ++ each isolated f (arrived at a) b
+      split : {A : Type 0} (f : EventPlace → Event → List A) → each isolated f at (a ++ b) ≡ each isolated f at a ++ each isolated f (arrived at a) b
       split f = each_append f at a b
 
       ends : (arrived at (a ++ b)).events ≡ (arrived (arrived at a) b).events
@@ -186,13 +186,13 @@ module _ (isolated : ℕ → Bool) where
       wider : (arrived at a).events ≤ (arrived (arrived at a) b).events
       wider = arrived_events (arrived at a) b
 
-      cases : (f : Place → Event → List Site) (s : Site) → In s (each isolated f at (a ++ b)) → In s (each isolated f at a) ⊎ In s (each isolated f (arrived at a) b)
+      cases : (f : EventPlace → Event → List Site) (s : Site) → In s (each isolated f at (a ++ b)) → In s (each isolated f at a) ⊎ In s (each isolated f (arrived at a) b)
       cases f s i = in_either s (each isolated f at a) (each isolated f (arrived at a) b) (subst (In s) (split f) i)
 
-      left : (f : Place → Event → List Site) (s : Site) → In s (each isolated f at a) → In s (each isolated f at (a ++ b))
+      left : (f : EventPlace → Event → List Site) (s : Site) → In s (each isolated f at a) → In s (each isolated f at (a ++ b))
       left f s i = subst (In s) (sym (split f)) (in_left s (each isolated f at a) (each isolated f (arrived at a) b) i)
 
-      right : (f : Place → Event → List Site) (s : Site) → In s (each isolated f (arrived at a) b) → In s (each isolated f at (a ++ b))
+      right : (f : EventPlace → Event → List Site) (s : Site) → In s (each isolated f (arrived at a) b) → In s (each isolated f at (a ++ b))
       right f s i = subst (In s) (sym (split f)) (in_right s (each isolated f at a) (each isolated f (arrived at a) b) i)
 
       stands_left : (s : Site) → Stands at a s → Stands at (a ++ b) s
@@ -203,7 +203,7 @@ module _ (isolated : ℕ → Bool) where
       stands_right s (inl e) = inl (e ∙ same)
       stands_right s (inr r) = inr (omega (arith, r.0, wide), omega (arith, r.1, ends))
 
-      stands : (f : Place → Event → List Site) → ((s : Site) → In s (each isolated f at a) → Stands at a s) → ((s : Site) → In s (each isolated f (arrived at a) b) → Stands (arrived at a) b s)
+      stands : (f : EventPlace → Event → List Site) → ((s : Site) → In s (each isolated f at a) → Stands at a s) → ((s : Site) → In s (each isolated f (arrived at a) b) → Stands (arrived at a) b s)
           → (s : Site) → In s (each isolated f at (a ++ b)) → Stands at (a ++ b) s
       stands f x y s i = elim (cases f s i) [ inl j ↦ stands_left s (x s j) | inr j ↦ stands_right s (y s j) ]
 
@@ -236,14 +236,14 @@ module _ (isolated : ℕ → Bool) where
         | inr j ↦ (let r = second.up q.1 m j (λ e. off (e ∙ same)) in (r.0, right defined r.0 r.1, r.2, r.3))
       ]
 
-      forward : (f : Place → Event → List Site) (xs ys : List ℕ) → ((k : ℕ) → In k xs → In (site at.here.values k) (each isolated f at a))
+      forward : (f : EventPlace → Event → List Site) (xs ys : List ℕ) → ((k : ℕ) → In k xs → In (site at.here.values k) (each isolated f at a))
           → ((k : ℕ) → In k ys → In (site (arrived at a).here.values k) (each isolated f (arrived at a) b)) → (k : ℕ) → In k (xs ++ ys) → In (site at.here.values k) (each isolated f at (a ++ b))
       forward f xs ys x y k i = elim (in_either k xs ys i) [
         | inl j ↦ left f (site at.here.values k) (x k j)
         | inr j ↦ right f (site at.here.values k) (subst (λ v. In (site v k) (each isolated f (arrived at a) b)) same (y k j))
       ]
 
-      backward : (f : Place → Event → List Site) (xs ys : List ℕ) → ((s : Site) → In s (each isolated f at a) → s.scope ≡ at.here.values → In s.token xs)
+      backward : (f : EventPlace → Event → List Site) (xs ys : List ℕ) → ((s : Site) → In s (each isolated f at a) → s.scope ≡ at.here.values → In s.token xs)
           → ((s : Site) → In s (each isolated f (arrived at a) b) → s.scope ≡ (arrived at a).here.values → In s.token ys) → (s : Site) → In s (each isolated f at (a ++ b)) → s.scope ≡ at.here.values → In s.token (xs ++ ys)
       backward f xs ys x y s i e = elim (cases f s i) [
         | inl j ↦ in_left s.token xs ys (x s j e)

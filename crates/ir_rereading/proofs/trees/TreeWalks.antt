@@ -1,7 +1,7 @@
 -- The names of values in what is read, by its trees.
 use Rattle.std.proofs.Common.{◌≡◌, ℕ, suc, ◌≤◌, Bool, true, false, if◌then◌else◌, List, [], ◌∷◌, ◌++◌, map, length, Some, None, refl, sym, subst, ap, ◌∙◌, arith, inl, inr}
 use Rattle.std.proofs.lemmas.List.{append_assoc, append-nil}
-use Rattle.ir_names.specs.Tree.{Tree, Trees, node, no_tree, a_tree}
+use Rattle.ir_names.specs.Tree.{LabelledTree, Trees, node, no_tree, a_tree}
 use Rattle.ir_print.specs.Pieces.{ValueTree, Values, Entities, no_entity}
 use Rattle.ir_grammar.specs.declared.grammar.Action.{Action}
 use Rattle.ir_grammar.specs.declared.grammar.Action.TheVariants as act
@@ -9,10 +9,10 @@ use Rattle.ir_grammar.specs.declared.grammar.Event.{Event}
 use Rattle.ir_scopes.specs.declared.sites.Frame.{Frame}
 use Rattle.ir_forest.specs.Building.{with_name}
 use Rattle.ir_forest.specs.Closed.{AreIn, names_of, all_defined, all_mentioned, all_definitions_of, AreScoped}
-use Rattle.ir_forest.specs.Forest.{end_of, Deed, deeds_from, Step, ending, deeds_of, deeds_in, IsWholeStep, AreWhole}
+use Rattle.ir_forest.specs.Forest.{end_of, Deed, deeds_from, ActionSpan, ending, deeds_of, deeds_in, IsWholeStep, AreWhole}
 use Rattle.ir_forest.specs.Meaning.{pieces_in, tokens_in, operands_in, arguments_in, typed, operations_in, regions_in, blocks_in, all_renamed}
 use Rattle.ir_grammar.specs.Nesting.{Position, at_root, behind_root_results, at_end, in_operation, in_operands, in_region, in_header, in_argument, in_block, behind_results, in_type, in_attribute, in_list, in_item, move, piece_move}
-use Rattle.ir_scopes.specs.Scopes.{Place}
+use Rattle.ir_scopes.specs.Scopes.{EventPlace}
 use Rattle.ir_rereading.proofs.trees.TreeCounts.{CountsAt, Counts}
 use Rattle.ir_rereading.proofs.trees.TreeParts.{IsDeed, one_deed, split_deeds, IsQuiet, Part, part_append, part_change, part_still, part_quiet, part_defines, part_mentions, part_bracket, has_operation, part_operation, part_region, part_scope}
 use Rattle.ir_rereading.proofs.trees.TreePlaces.{IsFinal, PlacedBy, Placed}
@@ -45,31 +45,31 @@ names_typed (k ∷ ks) [] e = let wrong : suc (length ks) ≡ 0 = e in absurd (o
 names_typed (k ∷ ks) (t ∷ ts) e = let same : suc (length ks) ≡ suc (length ts) = e in ap (λ z. k ∷ z) (names_typed ks ts (omega arith))
 
 -- a step of an action, with the tokens where it begins and ends
-abbrev step_of : Action → ℕ → ℕ → Step
+abbrev step_of : Action → ℕ → ℕ → ActionSpan
 step_of a f l = record { action = a; first = f; last = l }
 
 module _ (isolated : ℕ → Bool) (values : Values) (text : ℕ → List ℕ) {N : Type 0} (g : ℕ → N) where
   -- the deeds of events from a place on are those of the trees
-  abbrev Reads : Place → List Event → Trees Step → Type 0
+  abbrev Reads : EventPlace → List Event → Trees ActionSpan → Type 0
   Reads at es ts = deeds_from at.tokens es ≡ deeds_in ts
 
   -- the scope of a place has begun before it
-  abbrev IsLow : Place → Type 0
+  abbrev IsLow : EventPlace → Type 0
   IsLow at = at.here.values ≤ at.events
 
   -- something is open around what is open here
-  abbrev IsInside : Place → Type 0
+  abbrev IsInside : EventPlace → Type 0
   IsInside at = (f : Frame) × (fs : List Frame) × (at.around ≡ f ∷ fs)
 
   -- ---- what parts have of names, at each position
 
   -- types, attributes, lists and their members name no values
-  abbrev QuietGoal : Trees Step → Type 0
-  QuietGoal ts = (at : Place) (es : List Event) → IsLow at → Reads at es ts → Part isolated g at es [] [] [] [] (Unit {0})
+  abbrev QuietGoal : Trees ActionSpan → Type 0
+  QuietGoal ts = (at : EventPlace) (es : List Event) → IsLow at → Reads at es ts → Part isolated g at es [] [] [] [] (Unit {0})
 
   -- operands mention values
-  abbrev OperandsGoal : Trees Step → Type 0
-  OperandsGoal ts = (at : Place) (es : List Event) → IsLow at → Reads at es ts → Part isolated g at es [] [] (tokens_in ts) (tokens_in ts) (Unit {0})
+  abbrev OperandsGoal : Trees ActionSpan → Type 0
+  OperandsGoal ts = (at : EventPlace) (es : List Event) → IsLow at → Reads at es ts → Part isolated g at es [] [] (tokens_in ts) (tokens_in ts) (Unit {0})
 
   -- what regions define in the scope around them: nothing in an isolated operation
   abbrev inner_defined : Bool → Entities ℕ → List ℕ
@@ -80,49 +80,49 @@ module _ (isolated : ℕ → Bool) (values : Values) (text : ℕ → List ℕ) {
   inner_mentioned b rs = if b then [] else all_mentioned isolated rs
 
   -- operands, and these regions, in an operation that is isolated or not
-  abbrev RegionsPart : Place → List Event → Bool → List ℕ → Entities ℕ → Type 0
+  abbrev RegionsPart : EventPlace → List Event → Bool → List ℕ → Entities ℕ → Type 0
   RegionsPart at es b used rs = Part isolated g at es (all_definitions_of rs) (inner_defined b rs) (used ++ inner_mentioned b rs) (used ++ all_operands_of rs) (AreScoped isolated b (all_renamed g rs))
 
   -- what stands in an operation
-  abbrev OperationGoal : Trees Step → Type 0
-  OperationGoal ts = (at : Place) (es : List Event) → IsLow at → Reads at es ts → (b : Bool) → at.here.isolated ≡ b → RegionsPart at es b (operands_in ts) (regions_in values text ts)
+  abbrev OperationGoal : Trees ActionSpan → Type 0
+  OperationGoal ts = (at : EventPlace) (es : List Event) → IsLow at → Reads at es ts → (b : Bool) → at.here.isolated ≡ b → RegionsPart at es b (operands_in ts) (regions_in values text ts)
 
   -- names that are defined first, and then these entities
-  abbrev EntitiesPart : Place → List Event → List ℕ → Entities ℕ → Type 0
+  abbrev EntitiesPart : EventPlace → List Event → List ℕ → Entities ℕ → Type 0
   EntitiesPart at es names ts = Part isolated g at es (names ++ all_definitions_of ts) (names ++ all_defined isolated ts) (all_mentioned isolated ts) (all_operands_of ts) (AreScoped isolated false (all_renamed g ts))
 
   -- the same where the names were defined before
-  abbrev BehindPart : Place → List Event → List ℕ → List ℕ → Entities ℕ → Type 0
+  abbrev BehindPart : EventPlace → List Event → List ℕ → List ℕ → Entities ℕ → Type 0
   BehindPart at es before names ts = (all : List ℕ) × (own : List ℕ)
       × Part isolated g at es all own (all_mentioned isolated ts) (all_operands_of ts) (AreScoped isolated false (all_renamed g ts))
       × (before ++ all ≡ names ++ all_definitions_of ts) × (before ++ own ≡ names ++ all_defined isolated ts)
 
   -- the blocks of a region
-  abbrev RegionGoal : Trees Step → Type 0
-  RegionGoal ts = (at : Place) (es : List Event) → IsLow at → IsInside at → Reads at es ts → EntitiesPart at es [] (blocks_in values text ts)
+  abbrev RegionGoal : Trees ActionSpan → Type 0
+  RegionGoal ts = (at : EventPlace) (es : List Event) → IsLow at → IsInside at → Reads at es ts → EntitiesPart at es [] (blocks_in values text ts)
 
   -- the header of a block from here on, this argument being named last, and its operations
-  abbrev HeaderGoal : Trees Step → Type 0
-  HeaderGoal ts = (named : ℕ) (at : Place) (es : List Event) → IsLow at → IsInside at → Reads at es ts
+  abbrev HeaderGoal : Trees ActionSpan → Type 0
+  HeaderGoal ts = (named : ℕ) (at : EventPlace) (es : List Event) → IsLow at → IsInside at → Reads at es ts
       → EntitiesPart at es (names_of (arguments_in values text named ts)) (operations_in values text [] ts)
 
   -- the same behind the name of an argument, whose type comes first
-  abbrev ArgumentGoal : Trees Step → Type 0
-  ArgumentGoal ts = (named : ℕ) (at : Place) (es : List Event) → IsLow at → IsInside at → Reads at es ts
+  abbrev ArgumentGoal : Trees ActionSpan → Type 0
+  ArgumentGoal ts = (named : ℕ) (at : EventPlace) (es : List Event) → IsLow at → IsInside at → Reads at es ts
       → BehindPart at es (named ∷ []) (names_of (arguments_in values text named ts)) (operations_in values text [] ts)
 
   -- the operations of a block from here on, with these names of results before the first
-  abbrev BlockGoal : List ℕ → Trees Step → Type 0
-  BlockGoal names ts = (at : Place) (es : List Event) → IsLow at → IsInside at → Reads at es ts → BehindPart at es names [] (operations_in values text names ts)
+  abbrev BlockGoal : List ℕ → Trees ActionSpan → Type 0
+  BlockGoal names ts = (at : EventPlace) (es : List Event) → IsLow at → IsInside at → Reads at es ts → BehindPart at es names [] (operations_in values text names ts)
 
   -- the root from here on, with these names of results before it
-  abbrev RootGoal : List ℕ → Trees Step → Type 0
-  RootGoal names ts = (at : Place) (es : List Event) → IsLow at → Reads at es ts → (all : List ℕ) × (own : List ℕ)
+  abbrev RootGoal : List ℕ → Trees ActionSpan → Type 0
+  RootGoal names ts = (at : EventPlace) (es : List Event) → IsLow at → Reads at es ts → (all : List ℕ) × (own : List ℕ)
       × Has isolated g at es all own (all_mentioned isolated (operations_in values text names ts)) (all_operands_of (operations_in values text names ts)) (AreScoped isolated false (all_renamed g (operations_in values text names ts)))
       × (names ++ all ≡ all_definitions_of (operations_in values text names ts)) × (names ++ own ≡ all_defined isolated (operations_in values text names ts))
 
   -- what is shown of trees, by the position where they begin
-  abbrev Goal : Position → List ℕ → Trees Step → Type 0
+  abbrev Goal : Position → List ℕ → Trees ActionSpan → Type 0
   Goal at_root names ts = RootGoal names ts
   Goal behind_root_results names ts = RootGoal names ts
   Goal at_end names ts = ts ≡ no_tree
@@ -145,7 +145,7 @@ module _ (isolated : ℕ → Bool) (values : Values) (text : ℕ → List ℕ) {
 
   -- ---- no trees
 
-  operation_none : (at : Place) (es : List Event) (b : Bool) → Reads at es no_tree → RegionsPart at es b [] no_entity
+  operation_none : (at : EventPlace) (es : List Event) (b : Bool) → Reads at es no_tree → RegionsPart at es b [] no_entity
   operation_none at es true e = part_still isolated g at es e
   operation_none at es false e = part_still isolated g at es e
 
@@ -167,7 +167,7 @@ module _ (isolated : ℕ → Bool) (values : Values) (text : ℕ → List ℕ) {
 
   -- ---- one tree and those behind it
 
-  module _ (at : Place) (es : List Event) (t : Tree Step) (rest : Trees Step) (low : IsLow at) (read : Reads at es (a_tree t rest)) where
+  module _ (at : EventPlace) (es : List Event) (t : LabelledTree ActionSpan) (rest : Trees ActionSpan) (low : IsLow at) (read : Reads at es (a_tree t rest)) where
     cut : (a : List Event) × (b : List Event) × (es ≡ a ++ b) × (deeds_from at.tokens a ≡ deeds_of t) × (deeds_from (arrived isolated at a).tokens b ≡ deeds_in rest)
     cut = split_deeds isolated at es (deeds_of t) (deeds_in rest) read
 
@@ -199,39 +199,39 @@ module _ (isolated : ℕ → Bool) (values : Values) (text : ℕ → List ℕ) {
   -- ---- one step
 
   -- a step that stands alone
-  leaf_deeds : (a : Action) (f l : ℕ) (ts : Trees Step) → end_of a ≡ None → IsWholeStep (end_of a) (step_of a f l) ts → deeds_of (node (step_of a f l) ts) ≡ (a, f) ∷ []
+  leaf_deeds : (a : Action) (f l : ℕ) (ts : Trees ActionSpan) → end_of a ≡ None → IsWholeStep (end_of a) (step_of a f l) ts → deeds_of (node (step_of a f l) ts) ≡ (a, f) ∷ []
   leaf_deeds a f l ts e w =
       let w' : IsWholeStep None (step_of a f l) ts = subst (λ x. IsWholeStep x (step_of a f l) ts) e w in
       ap (λ us. let d : Deed = (a, f) in d ∷ (deeds_in us ++ ending (end_of a) l)) w'.2 ∙ ap (λ x. let d : Deed = (a, f) in d ∷ ending x l) e
 
-  leaf : (at : Place) (es : List Event) (a : Action) (f l : ℕ) (ts : Trees Step) → end_of a ≡ None → IsWholeStep (end_of a) (step_of a f l) ts
+  leaf : (at : EventPlace) (es : List Event) (a : Action) (f l : ℕ) (ts : Trees ActionSpan) → end_of a ≡ None → IsWholeStep (end_of a) (step_of a f l) ts
       → deeds_from at.tokens es ≡ deeds_of (node (step_of a f l) ts) → IsDeed isolated at es a f
   leaf at es a f l ts e w read = one_deed isolated at es a f (read ∙ leaf_deeds a f l ts e w)
 
-  quiet_leaf : (at : Place) (es : List Event) (a : Action) (f l : ℕ) (ts : Trees Step) → IsQuiet isolated a → end_of a ≡ None → IsWholeStep (end_of a) (step_of a f l) ts
+  quiet_leaf : (at : EventPlace) (es : List Event) (a : Action) (f l : ℕ) (ts : Trees ActionSpan) → IsQuiet isolated a → end_of a ≡ None → IsWholeStep (end_of a) (step_of a f l) ts
       → deeds_from at.tokens es ≡ deeds_of (node (step_of a f l) ts) → Part isolated g at es [] [] [] [] (Unit {0})
   quiet_leaf at es a f l ts q e w read = part_quiet isolated g at es a f q (leaf at es a f l ts e w read)
 
-  node_deeds : (a x : Action) (f l : ℕ) (ts : Trees Step) → end_of a ≡ Some x → deeds_of (node (step_of a f l) ts) ≡ (a, f) ∷ (deeds_in ts ++ (x, l) ∷ [])
+  node_deeds : (a x : Action) (f l : ℕ) (ts : Trees ActionSpan) → end_of a ≡ Some x → deeds_of (node (step_of a f l) ts) ≡ (a, f) ∷ (deeds_in ts ++ (x, l) ∷ [])
   node_deeds a x f l ts e = ap (λ z. let d : Deed = (a, f) in d ∷ (deeds_in ts ++ ending z l)) e
 
-  quiet_node : (at : Place) (es : List Event) (a x : Action) (f l : ℕ) (ts : Trees Step) → IsQuiet isolated a → IsQuiet isolated x → end_of a ≡ Some x → IsLow at → QuietGoal ts
+  quiet_node : (at : EventPlace) (es : List Event) (a x : Action) (f l : ℕ) (ts : Trees ActionSpan) → IsQuiet isolated a → IsQuiet isolated x → end_of a ≡ Some x → IsLow at → QuietGoal ts
       → deeds_from at.tokens es ≡ deeds_of (node (step_of a f l) ts) → Part isolated g at es [] [] [] [] (Unit {0})
   quiet_node at es a x f l ts q r e low inner read =
       part_bracket isolated g [] [] [] [] (Unit {0}) at es a x f l (deeds_in ts) low (read ∙ node_deeds a x f l ts e) q r
       (λ p i here around later reads. inner p i (let same : p.here.values ≡ at.here.values = ap (λ (f : Frame). f.values) here in omega (arith, low, same, later)) reads)
 
   -- a quiet part, and those behind it, by position
-  module _ (a x : Action) (f l : ℕ) (ts rest : Trees Step) where
-    quiet_then : ((at : Place) (es : List Event) → IsLow at → deeds_from at.tokens es ≡ deeds_of (node (step_of a f l) ts) → Part isolated g at es [] [] [] [] (Unit {0}))
+  module _ (a x : Action) (f l : ℕ) (ts rest : Trees ActionSpan) where
+    quiet_then : ((at : EventPlace) (es : List Event) → IsLow at → deeds_from at.tokens es ≡ deeds_of (node (step_of a f l) ts) → Part isolated g at es [] [] [] [] (Unit {0}))
         → QuietGoal rest → QuietGoal (a_tree (node (step_of a f l) ts) rest)
     quiet_then first more at es low read =
         beside_quiet at es (node (step_of a f l) ts) rest low read [] [] [] [] (Unit {0}) (λ e. first at e low)
         (λ e b here around. more (arrived isolated at e) b (low_behind at es (node (step_of a f l) ts) rest low read e here))
 
-    operation_then : ((at : Place) (es : List Event) → IsLow at → deeds_from at.tokens es ≡ deeds_of (node (step_of a f l) ts) → Part isolated g at es [] [] [] [] (Unit {0}))
+    operation_then : ((at : EventPlace) (es : List Event) → IsLow at → deeds_from at.tokens es ≡ deeds_of (node (step_of a f l) ts) → Part isolated g at es [] [] [] [] (Unit {0}))
         → OperationGoal rest
-        → (at : Place) (es : List Event) → IsLow at → Reads at es (a_tree (node (step_of a f l) ts) rest) → (b : Bool) → at.here.isolated ≡ b → RegionsPart at es b (operands_in rest) (regions_in values text rest)
+        → (at : EventPlace) (es : List Event) → IsLow at → Reads at es (a_tree (node (step_of a f l) ts) rest) → (b : Bool) → at.here.isolated ≡ b → RegionsPart at es b (operands_in rest) (regions_in values text rest)
     operation_then first more at es low read b iso =
         let rs = regions_in values text rest in
         let us = operands_in rest in
@@ -242,8 +242,8 @@ module _ (isolated : ℕ → Bool) (values : Values) (text : ℕ → List ℕ) {
   -- ---- pieces
 
   -- a step of a piece, at a position where it is quiet
-  piece_quiet : (p : Position) (a : Action) (f l : ℕ) (ts rest : Trees Step) → PlacedBy (piece_move p a) (λ q. Placed q ts) (λ q. Placed q rest) → IsWholeStep (end_of a) (step_of a f l) ts
-      → ((q : Position) → Placed q ts → Goal q [] ts) → (at : Place) (es : List Event) → IsLow at → deeds_from at.tokens es ≡ deeds_of (node (step_of a f l) ts) → Part isolated g at es [] [] [] [] (Unit {0})
+  piece_quiet : (p : Position) (a : Action) (f l : ℕ) (ts rest : Trees ActionSpan) → PlacedBy (piece_move p a) (λ q. Placed q ts) (λ q. Placed q rest) → IsWholeStep (end_of a) (step_of a f l) ts
+      → ((q : Position) → Placed q ts → Goal q [] ts) → (at : EventPlace) (es : List Event) → IsLow at → deeds_from at.tokens es ≡ deeds_of (node (step_of a f l) ts) → Part isolated g at es [] [] [] [] (Unit {0})
   piece_quiet p act.Name f l ts rest pl w inner at es low read = quiet_leaf at es act.Name f l ts (λ p. (refl, refl, refl, refl)) refl w read
   piece_quiet p act.Number f l ts rest pl w inner at es low read = quiet_leaf at es act.Number f l ts (λ p. (refl, refl, refl, refl)) refl w read
   piece_quiet p act.Width f l ts rest pl w inner at es low read = quiet_leaf at es act.Width f l ts (λ p. (refl, refl, refl, refl)) refl w read
@@ -255,7 +255,7 @@ module _ (isolated : ℕ → Bool) (values : Values) (text : ℕ → List ℕ) {
       quiet_node at es act.BeginList act.EndList f l ts (λ p. (refl, refl, refl, refl)) (λ p. (refl, refl, refl, refl)) refl low (inner in_list pl.0) read
   piece_quiet p _ f l ts rest pl w inner at es low read = absurd pl
 
-  piece_rest : (p : Position) (a : Action) (ts rest : Trees Step) → PlacedBy (piece_move p a) (λ q. Placed q ts) (λ q. Placed q rest) → Placed p rest
+  piece_rest : (p : Position) (a : Action) (ts rest : Trees ActionSpan) → PlacedBy (piece_move p a) (λ q. Placed q ts) (λ q. Placed q rest) → Placed p rest
   piece_rest p act.Name ts rest pl = pl
   piece_rest p act.Number ts rest pl = pl
   piece_rest p act.Width ts rest pl = pl
@@ -265,10 +265,10 @@ module _ (isolated : ℕ → Bool) (values : Values) (text : ℕ → List ℕ) {
   piece_rest p _ ts rest pl = absurd pl
 
   -- what is known of the trees in a step, and behind it
-  abbrev Known : Trees Step → List ℕ → Type 0
+  abbrev Known : Trees ActionSpan → List ℕ → Type 0
   Known ts names = (q : Position) → Placed q ts → MayName q names → Goal q names ts
 
-  quiet_known : (ts : Trees Step) → Known ts [] → (q : Position) → Placed q ts → Goal q [] ts
+  quiet_known : (ts : Trees ActionSpan) → Known ts [] → (q : Position) → Placed q ts → Goal q [] ts
   quiet_known ts k at_root pl = k at_root pl tt
   quiet_known ts k behind_root_results pl = k behind_root_results pl tt
   quiet_known ts k at_end pl = k at_end pl tt
@@ -277,7 +277,7 @@ module _ (isolated : ℕ → Bool) (values : Values) (text : ℕ → List ℕ) {
 
   -- ---- steps in an operation
 
-  operation_piece : (a : Action) (f l : ℕ) (ts rest : Trees Step) → PlacedBy (piece_move in_operation a) (λ q. Placed q ts) (λ q. Placed q rest) → IsWholeStep (end_of a) (step_of a f l) ts
+  operation_piece : (a : Action) (f l : ℕ) (ts rest : Trees ActionSpan) → PlacedBy (piece_move in_operation a) (λ q. Placed q ts) (λ q. Placed q rest) → IsWholeStep (end_of a) (step_of a f l) ts
       → Known ts [] → OperationGoal rest → OperationGoal (a_tree (node (step_of a f l) ts) rest)
   operation_piece act.Name f l ts rest pl w inner more = operation_then act.Name act.Name f l ts rest (piece_quiet in_operation act.Name f l ts rest pl w (quiet_known ts inner)) more
   operation_piece act.Number f l ts rest pl w inner more = operation_then act.Number act.Name f l ts rest (piece_quiet in_operation act.Number f l ts rest pl w (quiet_known ts inner)) more
@@ -287,9 +287,9 @@ module _ (isolated : ℕ → Bool) (values : Values) (text : ℕ → List ℕ) {
   operation_piece act.BeginList f l ts rest pl w inner more = operation_then act.BeginList act.Name f l ts rest (piece_quiet in_operation act.BeginList f l ts rest pl w (quiet_known ts inner)) more
   operation_piece _ f l ts rest pl w inner more = absurd pl
 
-  operands_part : (f l : ℕ) (ts rest : Trees Step) → OperandsGoal ts → OperationGoal rest → OperationGoal (a_tree (node (step_of act.BeginOperands f l) ts) rest)
+  operands_part : (f l : ℕ) (ts rest : Trees ActionSpan) → OperandsGoal ts → OperationGoal rest → OperationGoal (a_tree (node (step_of act.BeginOperands f l) ts) rest)
   operands_part f l ts rest inner more at es low read b iso =
-      let t : Tree Step = node (step_of act.BeginOperands f l) ts in
+      let t : LabelledTree ActionSpan = node (step_of act.BeginOperands f l) ts in
       let rs = regions_in values text rest in
       let ks = tokens_in ts in
       let us = operands_in rest in
@@ -303,9 +303,9 @@ module _ (isolated : ℕ → Bool) (values : Values) (text : ℕ → List ℕ) {
       (λ p i here around later r. inner p i (let same : p.here.values ≡ at.here.values = ap (λ (f : Frame). f.values) here in omega (arith, low, same, later)) r))
       (λ e c here around r. more (arrived isolated at e) c (low_behind at es t rest low read e here) r b (ap (λ (f : Frame). f.isolated) here ∙ iso)))
 
-  region_part : (f l : ℕ) (ts rest : Trees Step) → RegionGoal ts → OperationGoal rest → OperationGoal (a_tree (node (step_of act.BeginRegion f l) ts) rest)
+  region_part : (f l : ℕ) (ts rest : Trees ActionSpan) → RegionGoal ts → OperationGoal rest → OperationGoal (a_tree (node (step_of act.BeginRegion f l) ts) rest)
   region_part f l ts rest inner more at es low read true iso =
-      let t : Tree Step = node (step_of act.BeginRegion f l) ts in
+      let t : LabelledTree ActionSpan = node (step_of act.BeginRegion f l) ts in
       let bs = blocks_in values text ts in
       let rs = regions_in values text rest in
       let us = operands_in rest in
@@ -323,7 +323,7 @@ module _ (isolated : ℕ → Bool) (values : Values) (text : ℕ → List ℕ) {
       (λ p. (refl, refl, refl, refl)) (λ p. (refl, refl, refl, refl)) (λ p i lower around r. inner p i lower (at.here, at.around, around) r) iso)
       (λ e c here around r. more (arrived isolated at e) c (low_behind at es t rest low read e here) r true (ap (λ (f : Frame). f.isolated) here ∙ iso)))
   region_part f l ts rest inner more at es low read false iso =
-      let t : Tree Step = node (step_of act.BeginRegion f l) ts in
+      let t : LabelledTree ActionSpan = node (step_of act.BeginRegion f l) ts in
       let bs = blocks_in values text ts in
       let rs = regions_in values text rest in
       let us = operands_in rest in
@@ -340,9 +340,9 @@ module _ (isolated : ℕ → Bool) (values : Values) (text : ℕ → List ℕ) {
 
   -- ---- blocks
 
-  label_part : (f l : ℕ) (ts rest : Trees Step) → HeaderGoal ts → RegionGoal rest → RegionGoal (a_tree (node (step_of act.Label f l) ts) rest)
+  label_part : (f l : ℕ) (ts rest : Trees ActionSpan) → HeaderGoal ts → RegionGoal rest → RegionGoal (a_tree (node (step_of act.Label f l) ts) rest)
   label_part f l ts rest inner more at es low inside read =
-      let t : Tree Step = node (step_of act.Label f l) ts in
+      let t : LabelledTree ActionSpan = node (step_of act.Label f l) ts in
       let ns = names_of (arguments_in values text 0 ts) in
       let os = operations_in values text [] ts in
       let bs = blocks_in values text rest in
@@ -360,9 +360,9 @@ module _ (isolated : ℕ → Bool) (values : Values) (text : ℕ → List ℕ) {
       (λ p i here around later r. inner 0 p i (let same : p.here.values ≡ at.here.values = ap (λ (f : Frame). f.values) here in omega (arith, low, same, later)) (inside.0, inside.1, around ∙ inside.2) r))
       (λ e c here around r. more (arrived isolated at e) c (low_behind at es t rest low read e here) (inside_behind at es t rest low read e around inside) r))
 
-  argument_part : (f l : ℕ) (ts rest : Trees Step) → IsWholeStep None (step_of act.Argument f l) ts → ArgumentGoal rest → HeaderGoal (a_tree (node (step_of act.Argument f l) ts) rest)
+  argument_part : (f l : ℕ) (ts rest : Trees ActionSpan) → IsWholeStep None (step_of act.Argument f l) ts → ArgumentGoal rest → HeaderGoal (a_tree (node (step_of act.Argument f l) ts) rest)
   argument_part f l ts rest w more named at es low inside read =
-      let t : Tree Step = node (step_of act.Argument f l) ts in
+      let t : LabelledTree ActionSpan = node (step_of act.Argument f l) ts in
       let ns = names_of (arguments_in values text f rest) in
       let os = operations_in values text [] rest in
       let Q : Type 0 = AreScoped isolated false (all_renamed g os) in
@@ -374,9 +374,9 @@ module _ (isolated : ℕ → Bool) (values : Values) (text : ℕ → List ℕ) {
       r.3 (alike_is (f ∷ r.1) (ns ++ all_defined isolated os) r.4) (alike (all_mentioned isolated os)) (λ k h. h) (λ z. z.1) (λ q. (tt, q))
       (part_append isolated g at c.0 c.1 (f ∷ []) (f ∷ []) [] [] r.0 r.1 (all_mentioned isolated os) (all_operands_of os) (Unit {0}) Q low first r.2))
 
-  header_part : (f l : ℕ) (ts rest : Trees Step) → IsWholeStep None (step_of act.Header f l) ts → BlockGoal [] rest → HeaderGoal (a_tree (node (step_of act.Header f l) ts) rest)
+  header_part : (f l : ℕ) (ts rest : Trees ActionSpan) → IsWholeStep None (step_of act.Header f l) ts → BlockGoal [] rest → HeaderGoal (a_tree (node (step_of act.Header f l) ts) rest)
   header_part f l ts rest w more named at es low inside read =
-      let t : Tree Step = node (step_of act.Header f l) ts in
+      let t : LabelledTree ActionSpan = node (step_of act.Header f l) ts in
       let os = operations_in values text [] rest in
       let Q : Type 0 = AreScoped isolated false (all_renamed g os) in
       let c = cut at es t rest low read in
@@ -387,9 +387,9 @@ module _ (isolated : ℕ → Bool) (values : Values) (text : ℕ → List ℕ) {
       r.3 (alike_is r.1 (all_defined isolated os) r.4) (alike (all_mentioned isolated os)) (λ k h. h) (λ z. z.1) (λ q. (tt, q))
       (part_append isolated g at c.0 c.1 [] [] [] [] r.0 r.1 (all_mentioned isolated os) (all_operands_of os) (Unit {0}) Q low first r.2))
 
-  type_part : (kind f l : ℕ) (ts rest : Trees Step) → QuietGoal ts → HeaderGoal rest → ArgumentGoal (a_tree (node (step_of (act.BeginType kind) f l) ts) rest)
+  type_part : (kind f l : ℕ) (ts rest : Trees ActionSpan) → QuietGoal ts → HeaderGoal rest → ArgumentGoal (a_tree (node (step_of (act.BeginType kind) f l) ts) rest)
   type_part kind f l ts rest inner more named at es low inside read =
-      let t : Tree Step = node (step_of (act.BeginType kind) f l) ts in
+      let t : LabelledTree ActionSpan = node (step_of (act.BeginType kind) f l) ts in
       let ns = names_of (arguments_in values text named rest) in
       let os = operations_in values text [] rest in (
         ns ++ all_definitions_of os,
@@ -401,9 +401,9 @@ module _ (isolated : ℕ → Bool) (values : Values) (text : ℕ → List ℕ) {
         refl,
       )
 
-  result_part : (names : List ℕ) (f l : ℕ) (ts rest : Trees Step) → IsWholeStep None (step_of act.Result f l) ts → BlockGoal (names ++ f ∷ []) rest → BlockGoal names (a_tree (node (step_of act.Result f l) ts) rest)
+  result_part : (names : List ℕ) (f l : ℕ) (ts rest : Trees ActionSpan) → IsWholeStep None (step_of act.Result f l) ts → BlockGoal (names ++ f ∷ []) rest → BlockGoal names (a_tree (node (step_of act.Result f l) ts) rest)
   result_part names f l ts rest w more at es low inside read =
-      let t : Tree Step = node (step_of act.Result f l) ts in
+      let t : LabelledTree ActionSpan = node (step_of act.Result f l) ts in
       let os = operations_in values text (names ++ f ∷ []) rest in
       let Q : Type 0 = AreScoped isolated false (all_renamed g os) in
       let c = cut at es t rest low read in
@@ -423,10 +423,10 @@ module _ (isolated : ℕ → Bool) (values : Values) (text : ℕ → List ℕ) {
   define_both : (names ns xs ys zs : List ℕ) → ns ≡ names → ys ≡ zs → names ++ (xs ++ ys) ≡ (ns ++ xs) ++ zs
   define_both names ns xs ys zs e h = ap (λ z. names ++ (xs ++ z)) h ∙ (sym (append_assoc names xs zs) ∙ ap (λ z. (z ++ xs) ++ zs) (sym e))
 
-  block_part : (names : List ℕ) (kind f l : ℕ) (ts rest : Trees Step) → length names ≡ length (values.result_types kind (pieces_in values text ts))
+  block_part : (names : List ℕ) (kind f l : ℕ) (ts rest : Trees ActionSpan) → length names ≡ length (values.result_types kind (pieces_in values text ts))
       → OperationGoal ts → BlockGoal [] rest → BlockGoal names (a_tree (node (step_of (act.Operation kind) f l) ts) rest)
   block_part names kind f l ts rest many inner more at es low inside read =
-      let t : Tree Step = node (step_of (act.Operation kind) f l) ts in
+      let t : LabelledTree ActionSpan = node (step_of (act.Operation kind) f l) ts in
       let b = isolated kind in
       let rs = regions_in values text ts in
       let us = operands_in ts in
@@ -455,9 +455,9 @@ module _ (isolated : ℕ → Bool) (values : Values) (text : ℕ → List ℕ) {
 
   -- ---- the root
 
-  root_result : (names : List ℕ) (f l : ℕ) (ts rest : Trees Step) → IsWholeStep None (step_of act.Result f l) ts → RootGoal (names ++ f ∷ []) rest → RootGoal names (a_tree (node (step_of act.Result f l) ts) rest)
+  root_result : (names : List ℕ) (f l : ℕ) (ts rest : Trees ActionSpan) → IsWholeStep None (step_of act.Result f l) ts → RootGoal (names ++ f ∷ []) rest → RootGoal names (a_tree (node (step_of act.Result f l) ts) rest)
   root_result names f l ts rest w more at es low read =
-      let t : Tree Step = node (step_of act.Result f l) ts in
+      let t : LabelledTree ActionSpan = node (step_of act.Result f l) ts in
       let os = operations_in values text (names ++ f ∷ []) rest in
       let Q : Type 0 = AreScoped isolated false (all_renamed g os) in
       let c = cut at es t rest low read in
@@ -473,7 +473,7 @@ module _ (isolated : ℕ → Bool) (values : Values) (text : ℕ → List ℕ) {
         sym (append_assoc names (f ∷ []) r.1) ∙ r.4,
       )
 
-  root_operation : (names : List ℕ) (kind f l : ℕ) (ts : Trees Step) → length names ≡ length (values.result_types kind (pieces_in values text ts))
+  root_operation : (names : List ℕ) (kind f l : ℕ) (ts : Trees ActionSpan) → length names ≡ length (values.result_types kind (pieces_in values text ts))
       → OperationGoal ts → RootGoal names (a_tree (node (step_of (act.Operation kind) f l) ts) no_tree)
   root_operation names kind f l ts many inner at es low read =
       let b = isolated kind in
@@ -500,20 +500,20 @@ module _ (isolated : ℕ → Bool) (values : Values) (text : ℕ → List ℕ) {
   -- ---- all steps
 
   -- before a step, in it and behind it operations have as many names as results
-  abbrev CountedStep : Action → ℕ → List ℕ → Trees Step → Trees Step → Type 0
+  abbrev CountedStep : Action → ℕ → List ℕ → Trees ActionSpan → Trees ActionSpan → Type 0
   CountedStep a f names ts rest = CountsAt values text a names ts × Counts values text [] ts × Counts values text (with_name names a f) rest
 
   -- what is known of the trees in a step, and of those behind it
-  abbrev AllKnown : Trees Step → Type 0
+  abbrev AllKnown : Trees ActionSpan → Type 0
   AllKnown ts = (p : Position) (names : List ℕ) → Placed p ts → Counts values text names ts → MayName p names → Goal p names ts
 
   -- how a step at a position is known
   abbrev Steps : Position → Action → Type 0
-  Steps p a = (names : List ℕ) (f l : ℕ) (ts rest : Trees Step) → PlacedBy (move p a) (λ q. Placed q ts) (λ q. Placed q rest) → IsWholeStep (end_of a) (step_of a f l) ts
+  Steps p a = (names : List ℕ) (f l : ℕ) (ts rest : Trees ActionSpan) → PlacedBy (move p a) (λ q. Placed q ts) (λ q. Placed q rest) → IsWholeStep (end_of a) (step_of a f l) ts
       → CountedStep a f names ts rest → AllKnown ts → AllKnown rest → Goal p names (a_tree (node (step_of a f l) ts) rest)
 
   -- the names behind a piece are none
-  piece_names : (p : Position) (a : Action) (f : ℕ) (names : List ℕ) (ts rest : Trees Step) → PlacedBy (piece_move p a) (λ q. Placed q ts) (λ q. Placed q rest)
+  piece_names : (p : Position) (a : Action) (f : ℕ) (names : List ℕ) (ts rest : Trees ActionSpan) → PlacedBy (piece_move p a) (λ q. Placed q ts) (λ q. Placed q rest)
       → Counts values text (with_name names a f) rest → Counts values text [] rest
   piece_names p act.Name f names ts rest pl c = c
   piece_names p act.Number f names ts rest pl c = c
@@ -523,7 +523,7 @@ module _ (isolated : ℕ → Bool) (values : Values) (text : ℕ → List ℕ) {
   piece_names p act.BeginList f names ts rest pl c = c
   piece_names p _ f names ts rest pl c = absurd pl
 
-  inner_known : (ts : Trees Step) → AllKnown ts → Counts values text [] ts → Known ts []
+  inner_known : (ts : Trees ActionSpan) → AllKnown ts → Counts values text [] ts → Known ts []
   inner_known ts k c q pl m = k q [] pl c m
 
   operation_steps : (a : Action) → Steps in_operation a
@@ -534,7 +534,7 @@ module _ (isolated : ℕ → Bool) (values : Values) (text : ℕ → List ℕ) {
       operation_piece a f l ts rest pl w (inner_known ts inner c.1) (more in_operation [] (piece_rest in_operation a ts rest pl) (piece_names in_operation a f names ts rest pl c.2) tt)
 
   -- a step of a piece where all is quiet
-  piece_steps : (p : Position) (a : Action) (names : List ℕ) (f l : ℕ) (ts rest : Trees Step) → PlacedBy (piece_move p a) (λ q. Placed q ts) (λ q. Placed q rest) → IsWholeStep (end_of a) (step_of a f l) ts
+  piece_steps : (p : Position) (a : Action) (names : List ℕ) (f l : ℕ) (ts rest : Trees ActionSpan) → PlacedBy (piece_move p a) (λ q. Placed q ts) (λ q. Placed q rest) → IsWholeStep (end_of a) (step_of a f l) ts
       → CountedStep a f names ts rest → AllKnown ts → QuietGoal rest → QuietGoal (a_tree (node (step_of a f l) ts) rest)
   piece_steps p a names f l ts rest pl w c inner more = quiet_then a a f l ts rest (piece_quiet p a f l ts rest pl w (quiet_known ts (inner_known ts inner c.1))) more
 
@@ -560,9 +560,9 @@ module _ (isolated : ℕ → Bool) (values : Values) (text : ℕ → List ℕ) {
       (more in_list [] pl.1 c.2 tt)
   list_steps _ names f l ts rest pl w c inner more = absurd pl
 
-  operand_part : (f l : ℕ) (ts rest : Trees Step) → IsWholeStep None (step_of act.Operand f l) ts → OperandsGoal rest → OperandsGoal (a_tree (node (step_of act.Operand f l) ts) rest)
+  operand_part : (f l : ℕ) (ts rest : Trees ActionSpan) → IsWholeStep None (step_of act.Operand f l) ts → OperandsGoal rest → OperandsGoal (a_tree (node (step_of act.Operand f l) ts) rest)
   operand_part f l ts rest w more at es low read =
-      let t : Tree Step = node (step_of act.Operand f l) ts in
+      let t : LabelledTree ActionSpan = node (step_of act.Operand f l) ts in
       let ks = tokens_in rest in
       part_change isolated g at es [] [] (f ∷ ks) (f ∷ ks) [] [] (f ∷ ks) (f ∷ ks) (Unit {0} × Unit {0}) (Unit {0}) refl (alike []) (alike (f ∷ ks)) (λ k h. h) (λ z. tt) (λ z. (tt, tt))
       (both at es t rest low read [] [] (f ∷ []) (f ∷ []) [] [] ks ks (Unit {0}) (Unit {0})
@@ -597,7 +597,7 @@ module _ (isolated : ℕ → Bool) (values : Values) (text : ℕ → List ℕ) {
   results_steps _ names f l ts rest pl w c inner more = absurd pl
 
   -- nothing stands behind the root
-  root_last : (names : List ℕ) (kind f l : ℕ) (ts rest : Trees Step) → length names ≡ length (values.result_types kind (pieces_in values text ts)) → OperationGoal ts → rest ≡ no_tree
+  root_last : (names : List ℕ) (kind f l : ℕ) (ts rest : Trees ActionSpan) → length names ≡ length (values.result_types kind (pieces_in values text ts)) → OperationGoal ts → rest ≡ no_tree
       → RootGoal names (a_tree (node (step_of (act.Operation kind) f l) ts) rest)
   root_last names kind f l ts rest many inner e = subst (λ us. RootGoal names (a_tree (node (step_of (act.Operation kind) f l) ts) us)) (sym e) (root_operation names kind f l ts many inner)
 
@@ -627,12 +627,12 @@ module _ (isolated : ℕ → Bool) (values : Values) (text : ℕ → List ℕ) {
   steps in_list a = list_steps a
   steps in_item a = item_steps a
 
-  walk : (ts : Trees Step) → AreWhole ts → AllKnown ts
+  walk : (ts : Trees ActionSpan) → AreWhole ts → AllKnown ts
   walk no_tree w p names pl c m = none p names pl m
   walk (a_tree (node s ts) rest) w p names pl c m = steps p s.action names s.first s.last ts rest pl w.0 c (walk ts w.1) (walk rest w.2)
 
   -- of a whole text: what its names are, by its tree
-  pub root_known : (ts : Trees Step) → AreWhole ts → Placed at_root ts → Counts values text [] ts → (at : Place) (es : List Event) → at.here.values ≤ at.events → deeds_from at.tokens es ≡ deeds_in ts
+  pub root_known : (ts : Trees ActionSpan) → AreWhole ts → Placed at_root ts → Counts values text [] ts → (at : EventPlace) (es : List Event) → at.here.values ≤ at.events → deeds_from at.tokens es ≡ deeds_in ts
       → Has isolated g at es (all_definitions_of (operations_in values text [] ts)) (all_defined isolated (operations_in values text [] ts)) (all_mentioned isolated (operations_in values text [] ts))
       (all_operands_of (operations_in values text [] ts)) (AreScoped isolated false (all_renamed g (operations_in values text [] ts)))
   root_known ts w pl c at es low read =

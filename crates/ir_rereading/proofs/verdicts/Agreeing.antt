@@ -15,7 +15,7 @@ use Rattle.ir_grammar.specs.declared.grammar.Stop.{Stop}
 use Rattle.ir_grammar.specs.declared.grammar.Stop.TheVariants as stops
 use Rattle.ir_formats.specs.Rules.{plain_rule, plain_rules, plain_classes}
 use Rattle.ir_grammar.specs.Grammar.{accepted, accepts, Derives, Finished, Shifted, Acted, Expanded, IsTextOf, IsViable}
-use Rattle.ir_grammar.specs.Reading.{IsLongestFront, IsPrefix, begins_member, OnlyBegins, IsMostly, IsMost, Reads, AreAlike}
+use Rattle.ir_grammar.specs.Reading.{IsLongestFront, IsPrefix, begins_member, OnlyBegins, IsMostly, IsMost, Reads, AreMostlyAlike}
 
 -- ---- grammars of the same rules and signs have the same texts
 
@@ -174,18 +174,18 @@ module _ (g : Grammar) (root : ℕ) (front : List ℕ) where
       let longer : front_of fs ≡ front_of (upto.0 ++ upto.2.0) = ap front_of upto.2.1 in
       subst (λ x. IsPrefix x (front_of fs)) (sym same) (subst (λ x. IsPrefix (front_of upto.0) x) (sym longer) (front_prefix upto.0 upto.2.0))
 
-  alike : (es fs : List Event) → IsMost g root front es → IsMost g root front fs → AreAlike es fs
+  alike : (es fs : List Event) → IsMost g root front es → IsMost g root front fs → AreMostlyAlike es fs
   alike es fs a b =
       (front_of es, mostly_front es, subst (IsMostly fs) (sym (prefix_same (front_of es) (front_of fs) (half es fs a b) (half fs es b a))) (mostly_front fs))
 
 -- ---- two readings
 
 module _ (g : Grammar) (root many : ℕ) (ts : List ℕ) where
-  at_front : (n m : ℕ) (es fs : List Event) → IsLongestFront g root ts n → IsLongestFront g root ts m → IsMost g root (take n ts) es → IsMost g root (take m ts) fs → (n ≡ m) × AreAlike es fs
+  at_front : (n m : ℕ) (es fs : List Event) → IsLongestFront g root ts n → IsLongestFront g root ts m → IsMost g root (take n ts) es → IsMost g root (take m ts) fs → (n ≡ m) × AreMostlyAlike es fs
   at_front n m es fs l k a b = let e = one_front g root ts n m l k in (e, alike g root (take n ts) es fs a (subst (λ x. IsMost g root (take x ts) fs) (sym e) b))
 
   pub one_stop : (stop halt : Stop) (n m : ℕ) (es fs : List Event) → Reads g root many ts stop n es → Reads g root many ts halt m fs → stop ≢ stops.Deep → halt ≢ stops.Deep
-      → (stop ≡ halt) × (n ≡ m) × AreAlike es fs
+      → (stop ≡ halt) × (n ≡ m) × AreMostlyAlike es fs
   one_stop stops.Deep halt n m es fs r s a b = absurd (a refl)
   one_stop stop stops.Deep n m es fs r s a b = absurd (b refl)
   one_stop stops.Text stops.Text n m es fs r s a b = let e = at_front n m es fs r.0 s.0 r.1 s.1 in (refl, e.0, e.1)

@@ -1,6 +1,6 @@
 -- Members that begin at the end of what was read make no fault.
 use Rattle.std.proofs.Common.{◌≡◌, ℕ, ◌+◌, ◌-◌, List, [], ◌∷◌, ◌++◌, Bool, true, false, Option, Some, None, refl, sym, subst, ap, ◌∙◌, arith, append_assoc, inl, inr}
-use Rattle.ir_names.specs.Tree.{Tree, Trees, node}
+use Rattle.ir_names.specs.Tree.{LabelledTree, Trees, node}
 use Rattle.ir_print.specs.Pieces.{Values}
 use Rattle.ir_grammar.specs.declared.grammar.Action.{Action}
 use Rattle.ir_grammar.specs.declared.grammar.Action.TheVariants.{Operation, BeginRegion, Label, BeginType, BeginAttribute, BeginOperands, BeginList, BeginItem}
@@ -9,11 +9,11 @@ use Rattle.ir_grammar.specs.declared.grammar.Event.TheVariants.{Took, Did}
 use Rattle.ir_grammar.specs.declared.grammar.Stop.{Stop}
 use Rattle.ir_tokens.specs.declared.tokens.Token.{Token}
 use Rattle.ir_tokens.specs.declared.faults.Fault.{Fault}
-use Rattle.ir_grammar.specs.Reading.{opens, depth_at, tooks, begins_member, OnlyBegins, AreAlike, OpensAt}
+use Rattle.ir_grammar.specs.Reading.{opens, depth_at, tooks, begins_member, OnlyBegins, AreMostlyAlike, OpensAt}
 use Rattle.ir_scopes.specs.Depth.{IsTooDeep}
-use Rattle.ir_forest.specs.Forest.{Deed, deeds, deeds_from, deeds_of, deeds_in, ending, end_of, Step, IsWholeStep, HasTree}
+use Rattle.ir_forest.specs.Forest.{Deed, deeds, deeds_from, deeds_of, deeds_in, ending, end_of, ActionSpan, IsWholeStep, HasWholeTree}
 use Rattle.ir_forest.specs.ValueFaults.{results, HasNumberFault, HasNamesFault}
-use Rattle.ir_scopes.specs.Scopes.{Place, beginning, behind, defined, labelled, mentioned, closed, each, definitions, mentions, closings, IsAgain, IsLacking, HasScopeFault}
+use Rattle.ir_scopes.specs.Scopes.{EventPlace, beginning, behind, defined, labelled, mentioned, closed, each, definitions, mentions, closings, IsAgain, IsUnresolvedName, HasScopeFault}
 use Rattle.ir_rereading.specs.Texts.{HasFault}
 use Rattle.ir_formats.specs.Words.{token_text}
 use Rattle.ir_forest.specs.Language.{Language}
@@ -40,14 +40,14 @@ deep_front a b f only h = (h.0, opens_front 64 0 0 a b h.0 only h.1, h.2)
 
 -- ---- scopes
 
-module _ {A : Type 0} (isolated : ℕ → Bool) (f : Place → Event → List A) (none : (at : Place) → f at (Did BeginItem) ≡ []) where
-  each_begins : (at : Place) (b : List Event) → OnlyBegins b → each isolated f at b ≡ []
+module _ {A : Type 0} (isolated : ℕ → Bool) (f : EventPlace → Event → List A) (none : (at : EventPlace) → f at (Did BeginItem) ≡ []) where
+  each_begins : (at : EventPlace) (b : List Event) → OnlyBegins b → each isolated f at b ≡ []
   each_begins at [] only = refl
   each_begins at (Took ∷ b) only = absurd only
   each_begins at (Did x ∷ b) only =
       ap (λ xs. xs ++ each isolated f (behind isolated at (Did x)) b) (ap (λ y. f at (Did y)) (begins_item x only.0) ∙ none at) ∙ each_begins (behind isolated at (Did x)) b only.1
 
-  each_front : (at : Place) (a b : List Event) → OnlyBegins b → each isolated f at (a ++ b) ≡ each isolated f at a
+  each_front : (at : EventPlace) (a b : List Event) → OnlyBegins b → each isolated f at (a ++ b) ≡ each isolated f at a
   each_front at [] b only = each_begins at b only
   each_front at (e ∷ a) b only = ap (λ xs. f at e ++ xs) (each_front (behind isolated at e) a b only)
 
@@ -55,9 +55,9 @@ scopes_front : (isolated : ℕ → Bool) (names : List ℕ) (a b : List Event) (
 scopes_front isolated names a b f only (inl h) = inl (subst (λ ds. IsAgain names ds f) (each_front isolated defined (λ at. refl) beginning a b only) h)
 scopes_front isolated names a b f only (inr (inl h)) = inr (inl (subst (λ ds. IsAgain names ds f) (each_front isolated labelled (λ at. refl) beginning a b only) h))
 scopes_front isolated names a b f only (inr (inr h)) = inr (inr (
-    subst (λ cs. IsLacking names (definitions isolated a) (mentions isolated a) cs f) (each_front isolated (closed isolated) (λ at. refl) beginning a b only)
-    (subst (λ ms. IsLacking names (definitions isolated a) ms (closings isolated (a ++ b)) f) (each_front isolated mentioned (λ at. refl) beginning a b only)
-    (subst (λ ds. IsLacking names ds (mentions isolated (a ++ b)) (closings isolated (a ++ b)) f) (each_front isolated defined (λ at. refl) beginning a b only) h))))
+    subst (λ cs. IsUnresolvedName names (definitions isolated a) (mentions isolated a) cs f) (each_front isolated (closed isolated) (λ at. refl) beginning a b only)
+    (subst (λ ms. IsUnresolvedName names (definitions isolated a) ms (closings isolated (a ++ b)) f) (each_front isolated mentioned (λ at. refl) beginning a b only)
+    (subst (λ ds. IsUnresolvedName names ds (mentions isolated (a ++ b)) (closings isolated (a ++ b)) f) (each_front isolated defined (λ at. refl) beginning a b only) h))))
 
 -- ---- trees
 
@@ -127,14 +127,14 @@ alone_plain BeginItem h = cc
 alone_plain _ h = refl
 
 -- a whole tree ends so
-tree_ends : (s : Step) (ts : Trees Step) → IsWholeStep (end_of s.action) s ts → Ends (deeds_of (node s ts))
+tree_ends : (s : ActionSpan) (ts : Trees ActionSpan) → IsWholeStep (end_of s.action) s ts → Ends (deeds_of (node s ts))
 tree_ends s ts whole = go (end_of s.action) refl whole
   where
     go : (o : Option Action) → end_of s.action ≡ o → IsWholeStep o s ts → Ends ((s.action, s.first) ∷ (deeds_in ts ++ ending o s.last))
     go None e w = subst (λ us. Ends ((s.action, s.first) ∷ (deeds_in us ++ []))) (sym w.2) (alone_plain s.action e)
     go (Some x) e w = ends_append ((s.action, s.first) ∷ deeds_in ts) (x, s.last) [] (end_plain s.action x e)
 
-module _ (a b : List Event) (only : OnlyBegins b) (s : Step) (ts : Trees Step) (whole : IsWholeStep (end_of s.action) s ts) where
+module _ (a b : List Event) (only : OnlyBegins b) (s : ActionSpan) (ts : Trees ActionSpan) (whole : IsWholeStep (end_of s.action) s ts) where
   -- a whole tree of what was read stands before the members that begin
   tree_before : (before after : List Deed) → deeds (a ++ b) ≡ before ++ (deeds_of (node s ts) ++ after) → (rest : List Deed) × (deeds a ≡ before ++ (deeds_of (node s ts) ++ rest))
   tree_before before after e =
@@ -143,7 +143,7 @@ module _ (a b : List Event) (only : OnlyBegins b) (s : Step) (ts : Trees Step) (
       (sym (deeds_append 0 a b) ∙ e ∙ sym (append_assoc before (deeds_of (node s ts)) after)) in
       (r.0, r.1 ∙ append_assoc before (deeds_of (node s ts)) r.0)
 
-tree_front : (a b : List Event) (s : Step) (ts : Trees Step) → OnlyBegins b → HasTree (a ++ b) (node s ts) → HasTree a (node s ts)
+tree_front : (a b : List Event) (s : ActionSpan) (ts : Trees ActionSpan) → OnlyBegins b → HasWholeTree (a ++ b) (node s ts) → HasWholeTree a (node s ts)
 tree_front a b s ts only (whole, before, after, e) = let r = tree_before a b only s ts whole.0 before after e in (whole, before, r.0, r.1)
 
 -- what stands before them stays
@@ -152,7 +152,7 @@ deeds_more a b before tree after e =
     deeds_append 0 a b ∙ ap (λ l. l ++ deeds_from (0 + tooks a) b) e ∙ append_assoc before (tree ++ after) (deeds_from (0 + tooks a) b)
     ∙ ap (λ l. before ++ l) (append_assoc tree after (deeds_from (0 + tooks a) b))
 
-tree_stays : (a b : List Event) (t : Tree Step) → HasTree a t → HasTree (a ++ b) t
+tree_stays : (a b : List Event) (t : LabelledTree ActionSpan) → HasWholeTree a t → HasWholeTree (a ++ b) t
 tree_stays a b t (whole, before, after, e) = (whole, before, after ++ deeds_from (0 + tooks a) b, deeds_more a b before (deeds_of t) after e)
 
 module _ (values : Values) (text : ℕ → List ℕ) (a b : List Event) (f : Fault) where
@@ -190,6 +190,6 @@ module _ (l : Language) (cs : List ℕ) (ts : List Token) (names : List ℕ) (st
   faults_stay a b f (inr (inr (inr (inr h)))) = inr (inr (inr (inr (stays l.isolated names a b f h))))
 
   -- what is alike has the same faults
-  pub alike_faults : (es fs : List Event) → AreAlike es fs → (f : Fault) → HasFault l cs ts names stop n es f → HasFault l cs ts names stop n fs f
+  pub alike_faults : (es fs : List Event) → AreMostlyAlike es fs → (f : Fault) → HasFault l cs ts names stop n es f → HasFault l cs ts names stop n fs f
   alike_faults es fs (front, (b, e, only), (c, k, _)) f h =
       subst (λ x. HasFault l cs ts names stop n x f) (sym k) (faults_stay front c f (faults_front front b f only (subst (λ x. HasFault l cs ts names stop n x f) e h)))

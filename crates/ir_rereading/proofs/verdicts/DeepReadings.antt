@@ -15,12 +15,12 @@ use Rattle.ir_grammar.specs.declared.grammar.Stop.TheVariants as stops
 use Rattle.ir_tokens.specs.declared.tokens.Token.{Token}
 use Rattle.ir_tokens.specs.declared.faults.Fault.{Fault}
 use Rattle.ir_grammar.specs.Grammar.{IsTextOf, IsViable}
-use Rattle.ir_grammar.specs.Reading.{IsLongestFront, IsMost, IsPrefix, IsCut, Reads, OpensMore, OpensAt, opens, depth_at, through, tooks, AreAlike}
+use Rattle.ir_grammar.specs.Reading.{IsLongestFront, IsMost, IsPrefix, IsCutShort, Reads, OpensMore, OpensAt, opens, depth_at, through, tooks, AreMostlyAlike}
 use Rattle.ir_grammar.specs.Nesting.{has_own_token, FollowTokens}
 use Rattle.ir_formats.specs.Ordered.{IsInOrder, OrdersTexts}
-use Rattle.ir_tokens.specs.Faults.{Precedes, IsNamed}
+use Rattle.ir_tokens.specs.Faults.{FaultPrecedes, IsNamed}
 use Rattle.ir_scopes.specs.Depth.{IsTooDeep}
-use Rattle.ir_forest.specs.Forest.{Deed, deeds, deeds_from, deeds_of, deeds_in, ending, end_of, Step, IsWholeStep}
+use Rattle.ir_forest.specs.Forest.{Deed, deeds, deeds_from, deeds_of, deeds_in, ending, end_of, ActionSpan, IsWholeStep}
 use Rattle.ir_forest.specs.ValueFaults.{results, HasNumberFault, HasNamesFault}
 use Rattle.ir_scopes.specs.Scopes.{HasScopeFault}
 use Rattle.ir_rereading.specs.Texts.{IsSyntaxFault, HasFault}
@@ -76,7 +76,7 @@ module _ (low : ℕ) where
   late_behind (x ∷ []) d ds h = h
   late_behind (x ∷ y ∷ xs) d ds h = late_behind (y ∷ xs) d ds h
 
-  tree_late : (s : Step) (ts : Trees Step) → IsWholeStep (end_of s.action) s ts → EndsLate (deeds_of (node s ts)) → low ≤ s.last + 1
+  tree_late : (s : ActionSpan) (ts : Trees ActionSpan) → IsWholeStep (end_of s.action) s ts → EndsLate (deeds_of (node s ts)) → low ≤ s.last + 1
   tree_late s ts whole h = go (end_of s.action) whole h
     where
       go : (o : Option Action) → IsWholeStep o s ts → EndsLate ((s.action, s.first) ∷ (deeds_in ts ++ ending o s.last)) → low ≤ s.last + 1
@@ -86,7 +86,7 @@ module _ (low : ℕ) where
           omega (arith, alone, at)
       go (Some x) w h = late_behind ((s.action, s.first) ∷ deeds_in ts) (x, s.last) [] h
 
-module _ (a b : List Event) (s : Step) (ts : Trees Step) (whole : IsWholeStep (end_of s.action) s ts) where
+module _ (a b : List Event) (s : ActionSpan) (ts : Trees ActionSpan) (whole : IsWholeStep (end_of s.action) s ts) where
   tree_later : (before after : List Deed) → deeds (a ++ b) ≡ before ++ (deeds_of (node s ts) ++ after)
       → ((rest : List Deed) × (deeds a ≡ before ++ (deeds_of (node s ts) ++ rest))) ⊎ (tooks a ≤ s.last + 1)
   tree_later before after e =
@@ -141,7 +141,7 @@ one_option Has None (Some g) a b = absurd (a g b.0)
 one_option Has (Some f) None a b = absurd (b f a.0)
 one_option Has (Some f) (Some g) a b = ap Some (one_named Has f g a b)
 
-precedes_met : (f g : Fault) → Precedes f g → f.met ≤ g.met
+precedes_met : (f g : Fault) → FaultPrecedes f g → f.met ≤ g.met
 precedes_met f g (inl a) = omega (arith, a)
 precedes_met f g (inr a) = omega (arith, a.0)
 
@@ -227,7 +227,7 @@ module _ (l : Language) (cs : List ℕ) (ts : List Token) (names : List ℕ) (g 
   abbrev Named : Stop → ℕ → List Event → Option Fault → Type 0
   Named stop n es o = IsNamed (HasFault l cs ts names stop n es) o
 
-  each_on : (n m : ℕ) (es : List Event) → IsCut g 0 64 ks n es → n ≤ m → (more : List ℕ) (all : List Event) → IsTextOf g 0 (take m ks ++ more) all → IsPrefix es all
+  each_on : (n m : ℕ) (es : List Event) → IsCutShort g 0 64 ks n es → n ≤ m → (more : List ℕ) (all : List Event) → IsTextOf g 0 (take m ks ++ more) all → IsPrefix es all
   each_on n m es c le more all text =
       let d = m - n in
       let e : m ≡ n + d = omega (arith, le) in
@@ -235,7 +235,7 @@ module _ (l : Language) (cs : List ℕ) (ts : List Token) (names : List ℕ) (g 
       c.each (take d (drop n ks) ++ more) all (subst (λ us. IsTextOf g 0 us all) (ap (λ us. us ++ more) parts ∙ append_assoc (take n ks) (take d (drop n ks)) more) text)
 
   -- alike readings
-  alike_named : (stop : Stop) (n : ℕ) (es fs : List Event) → AreAlike es fs → (o : Option Fault) → Named stop n es o → Named stop n fs o
+  alike_named : (stop : Stop) (n : ℕ) (es fs : List Event) → AreMostlyAlike es fs → (o : Option Fault) → Named stop n es o → Named stop n fs o
   alike_named stop n es fs a o h = named_along (HasFault l cs ts names stop n es) (HasFault l cs ts names stop n fs) o (alike_faults l cs ts names stop n es fs a) (alike_faults l cs ts names stop n fs es (a.0, a.2, a.1)) h
 
   near : (stop halt : Stop) (n m : ℕ) (es fs : List Event) → Reads g 0 64 ks stop n es → Reads g 0 64 ks halt m fs → stop ≢ stops.Deep → halt ≢ stops.Deep
@@ -253,7 +253,7 @@ module _ (l : Language) (cs : List ℕ) (ts : List Token) (names : List ℕ) (g 
       let mostly = most.some.3 in
       let size : length (take m ks) ≡ m = length-take-le m ks longest.within in
       let pre = through_prefix es all (length (take m ks)) (each_on n m es c le most.some.0 all most.some.2) (let t = c.took in omega (arith, t, le, size)) in
-      let same : AreAlike fs (through all (length (take m ks))) = (fs, ([], sym (append-nil fs), tt), mostly) in
+      let same : AreMostlyAlike fs (through all (length (take m ks))) = (fs, ([], sym (append-nil fs), tt), mostly) in
       let order = reading_in_order g orders 64 n ks stops.Deep es c in
       one_option (HasFault l cs ts names stops.Deep n es) o p named
       (deep_named l cs ts names n m es pre.0 halt c.took order c.last le p (subst (λ x. Named halt m x p) pre.1 (alike_named halt m fs (through all (length (take m ks))) same p other)))
@@ -266,7 +266,7 @@ module _ (l : Language) (cs : List ℕ) (ts : List Token) (names : List ℕ) (g 
           let within = c.within in
           absurd (longest.longest (omega (arith, lt, within)) (viable_front g 0 ks (m + 1) d (subst (λ x. IsViable g 0 (take x ks)) e c.viable)))
 
-  deep_longer : (n m : ℕ) (es fs : List Event) → IsCut g 0 64 ks n es → IsCut g 0 64 ks m fs → IsPrefix es fs → (o p : Option Fault) → Named stops.Deep n es o → Named stops.Deep m fs p → o ≡ p
+  deep_longer : (n m : ℕ) (es fs : List Event) → IsCutShort g 0 64 ks n es → IsCutShort g 0 64 ks m fs → IsPrefix es fs → (o p : Option Fault) → Named stops.Deep n es o → Named stops.Deep m fs p → o ≡ p
   deep_longer n m es fs c k pre o p named other =
       let t = c.took in
       let u = k.took in
@@ -275,7 +275,7 @@ module _ (l : Language) (cs : List ℕ) (ts : List Token) (names : List ℕ) (g 
       one_option (HasFault l cs ts names stops.Deep n es) o p named
       (deep_named l cs ts names n m es pre.0 stops.Deep c.took order c.last (omega (arith, t, u, sum)) p (subst (λ x. Named stops.Deep m x p) pre.1 other))
 
-  deep_deep : (n m : ℕ) (es fs : List Event) → IsCut g 0 64 ks n es → IsCut g 0 64 ks m fs → n ≤ m → (o p : Option Fault) → Named stops.Deep n es o → Named stops.Deep m fs p → o ≡ p
+  deep_deep : (n m : ℕ) (es fs : List Event) → IsCutShort g 0 64 ks n es → IsCutShort g 0 64 ks m fs → n ≤ m → (o p : Option Fault) → Named stops.Deep n es o → Named stops.Deep m fs p → o ≡ p
   deep_deep n m es fs c k le o p named other =
       let v = k.viable in
       elim (comparable es fs v.1.0 (each_on n m es c le v.0 v.1.0 v.1.1) (k.each v.0 v.1.0 v.1.1)) [

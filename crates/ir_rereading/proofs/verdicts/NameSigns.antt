@@ -9,7 +9,7 @@ use Rattle.ir_grammar.specs.declared.grammar.Symbol.TheVariants.{Sign, Part, Act
 use Rattle.ir_grammar.specs.declared.grammar.Rule.{Rule}
 use Rattle.ir_formats.specs.declared.rules.Sort.{Sort}
 use Rattle.ir_formats.specs.declared.rules.Sort.TheVariants as sort
-use Rattle.ir_formats.specs.Rules.{PlainRule, Made, up, sign, number_of, several, step_made, steps_made, part_of, begin_of, end_of, kinds_made, words_of, operation_rules, region_rules, block_rules, argument_rules, rules_of, plain_rules}
+use Rattle.ir_formats.specs.Rules.{PlainRule, MadeOfSteps, up, sign, number_of, several, step_made, steps_made, part_of, begin_of, end_of, kinds_made, words_of, operation_rules, region_rules, block_rules, argument_rules, rules_of, plain_rules}
 
 -- ---- the test
 
@@ -35,7 +35,7 @@ AreBehindNames [] = Unit {0}
 AreBehindNames (r ∷ rs) = BehindNames false r.1 × AreBehindNames rs
 
 -- and so is what is made of a format
-abbrev MadeBehindNames : Made → Type 0
+abbrev MadeBehindNames : MadeOfSteps → Type 0
 MadeBehindNames m = BehindNames false m.symbols × AreBehindNames m.rules
 
 pub behind_weaker : (fresh : Bool) (ss : List Symbol) → BehindNames false ss → BehindNames fresh ss

@@ -25,7 +25,7 @@ use Rattle.ir_grammar.specs.Grammar.{accepted, accepts, Derives, Finished, Shift
 use Rattle.ir_grammar.specs.Reading.{through, tooks, IsMostly, Reads}
 use Rattle.ir_formats.specs.Rules.{words_of, may_be_name, takes, class_of, classes_of, plain_rules, plain_classes}
 use Rattle.ir_formats.specs.Words.{text_of, shape_kind, is_spelled, kind_of, AlikeInNumber}
-use Rattle.ir_scopes.specs.Scopes.{Place, beginning, behind, last_token, defined, labelled, mentioned, each, definitions, labels, mentions, closings, name_of, Names, IsAgain, IsLacking}
+use Rattle.ir_scopes.specs.Scopes.{EventPlace, beginning, behind, last_token, defined, labelled, mentioned, each, definitions, labels, mentions, closings, name_of, SiteHasName, IsAgain, IsUnresolvedName}
 use Rattle.ir_rereading.specs.Texts.{IsReading, HasFault}
 use Rattle.ir_forest.specs.Language.{Language}
 use Rattle.ir_scopes.proofs.Apart.{get_append}
@@ -183,8 +183,8 @@ reading_spelled l cs ts names stop n es r =
 no_site : {A : Type 0} (s : Site) → None ≡ Some s → A
 no_site s h = cc
 
-abbrev pub IsOwn : (Place → Event → List Site) → Type 0
-IsOwn f = (at : Place) (a : Action) (i : ℕ) (s : Site) → slice_get (f at (Did a)) i ≡ Some s → (keeps_name a ≡ true) × (s.token ≡ last_token at)
+abbrev pub IsOwn : (EventPlace → Event → List Site) → Type 0
+IsOwn f = (at : EventPlace) (a : Action) (i : ℕ) (s : Site) → slice_get (f at (Did a)) i ≡ Some s → (keeps_name a ≡ true) × (s.token ≡ last_token at)
 
 one_site : (x s : Site) (i : ℕ) → slice_get (x ∷ []) i ≡ Some s → x ≡ s
 one_site x s zero h = cc
@@ -203,8 +203,8 @@ pub mentioned_own : IsOwn mentioned
 mentioned_own at act.Operand i s h = (refl, ap (λ x. x.token) (sym (one_site _ s i h)))
 mentioned_own at _ i s h = no_site s h
 
-module _ (isolated : ℕ → Bool) (P : ℕ → Type 0) (f : Place → Event → List Site) (took : (at : Place) → f at Took ≡ []) (own : IsOwn f) where
-  pub sites_at : (at : Place) (es : List Event) → AllAt P at.tokens es → (i : ℕ) (s : Site) → slice_get (each isolated f at es) i ≡ Some s → P s.token
+module _ (isolated : ℕ → Bool) (P : ℕ → Type 0) (f : EventPlace → Event → List Site) (took : (at : EventPlace) → f at Took ≡ []) (own : IsOwn f) where
+  pub sites_at : (at : EventPlace) (es : List Event) → AllAt P at.tokens es → (i : ℕ) (s : Site) → slice_get (each isolated f at es) i ≡ Some s → P s.token
   sites_at at [] all i s h = no_site s h
   sites_at at (Took ∷ es) all i s h =
       sites_at (behind isolated at Took) es all i s (subst (λ xs. slice_get (xs ++ each isolated f (behind isolated at Took) es) i ≡ Some s) (took at) h)
@@ -225,11 +225,11 @@ module _ (cs : List ℕ) (ts : List Token) (names numbers : List ℕ) (one : Ali
 
 module _ (cs : List ℕ) (ts : List Token) (names numbers : List ℕ) (one : AlikeInNumber cs ts names) (two : AlikeInNumber cs ts numbers) where
   lacking_named : (ds ms : List Site) (ends : List Closing) (f : Fault) → ((i : ℕ) (s : Site) → slice_get ds i ≡ Some s → SpelledAt ts s.token) → ((i : ℕ) (s : Site) → slice_get ms i ≡ Some s → SpelledAt ts s.token)
-      → IsLacking names ds ms ends f → IsLacking numbers ds ms ends f
+      → IsUnresolvedName names ds ms ends f → IsUnresolvedName numbers ds ms ends f
   lacking_named ds ms ends f known named (i, c, at, (k, m, there, scope, unresolved), is) =
       (i, c, at, (k, m, there, scope, λ j means. unresolved j (back j means)), is)
     where
-      back : (j : ℕ) → Names numbers ds m.scope (name_of numbers m.token) j → Names names ds m.scope (name_of names m.token) j
+      back : (j : ℕ) → SiteHasName numbers ds m.scope (name_of numbers m.token) j → SiteHasName names ds m.scope (name_of names m.token) j
       back j (x, found, (within, name)) = (x, found, (within, same_name cs ts numbers names two one x.token m.token (known j x found) (named k m there) name))
 
 -- the faults of a text are the same, whichever numbers its names have

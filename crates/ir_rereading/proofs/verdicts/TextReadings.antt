@@ -8,7 +8,7 @@ use Rattle.ir_grammar.specs.declared.grammar.Stop.TheVariants as stops
 use Rattle.ir_tokens.specs.declared.tokens.Token.{Token}
 use Rattle.ir_tokens.specs.declared.faults.Fault.{Fault}
 use Rattle.ir_grammar.specs.Nesting.{Nests, FollowTokens, Position, at_root, at_end, Move, goes_to, goes_in, goes_out, nowhere, move, NestsBy}
-use Rattle.ir_formats.specs.Ordered.{Standing, alone, moved_by, passed_all, LeadsTo, IsInOrder, OrdersTexts, is_ordered}
+use Rattle.ir_formats.specs.Ordered.{Standing, alone, moved_by, passed_all, LeadsToPosition, IsInOrder, OrdersTexts, is_ordered}
 use Rattle.ir_formats.specs.Ordered as ordered
 use Rattle.ir_forest.specs.Progress.{Leads}
 use Rattle.ir_forest.specs.Building.{first_refusal}
@@ -48,7 +48,7 @@ leads_along (Did a ∷ es) here around to back h = go (move here a) around h (λ
     go goes_out (next ∷ ps) h again = again next ps h
     go nowhere ps h again = nothing (sym (passed_none es) ∙ h)
 
-module _ (l : Language) (leads : ordered.Leads) (ok : is_ordered leads (rules_of l.formats) ≡ true) (cs : List ℕ) (ts : List Token) (names : List ℕ) (n : ℕ) (es : List Event) where
+module _ (l : Language) (leads : ordered.PartPositions) (ok : is_ordered leads (rules_of l.formats) ≡ true) (cs : List ℕ) (ts : List Token) (names : List ℕ) (n : ℕ) (es : List Event) where
   pub orders : (g : Grammar) → plain_rules g.rules.items ≡ rules_of l.formats → OrdersTexts g
   orders g same = orders_texts g leads (ap (is_ordered leads) same ∙ ok)
 

@@ -1,7 +1,7 @@
 -- A program under other names, without blocks that no run reaches, behaves alike, step by step.
 use Rattle.std.proofs.Common.{◌≡◌, ℕ, suc, Bool, List, [], ◌∷◌, Option, Some, None, refl, sym, ap, ◌∙◌, subst, arith}
 use Rattle.std.specs.Prelude.{map, if◌then◌else◌}
-use Rattle.kit_behaviour.specs.Machine.{AllEdges, edge_at, chosen, Edge, Op, Const, Calc, Emit, Call, Branch, Return, Frame, Effect, Program, Env, bind, bind_all, calc, go, with_result, effect, act, entry, results_of, left_in, arguments_in, Alike}
+use Rattle.kit_behaviour.specs.Machine.{AllEdges, edge_at, chosen, Edge, Op, Const, Calc, Emit, Call, Branch, Return, Frame, Effect, FunctionsByPath, Env, bind, bind_all, calc, go, with_result, effect, act, entry, results_of, left_in, arguments_in, Alike}
 use Rattle.kit_behaviour.specs.Renaming.{EdgeNamed, rename_edge, rename_op, AllNamed, OpsNamed, Renames}
 use Rattle.kit_behaviour.proofs.Behaviour.FrameLemmas.{left_next, fr}
 use Rattle.kit_behaviour.proofs.Behaviour.Simulation.{EffectsAlike, WaitAlike, Meet, alike}
@@ -30,7 +30,7 @@ module _ {V W : Type 0} (sv : V → V → Bool) (sw : W → W → Bool) where
     bind_all_under apart e e' (v ∷ vs) (n ∷ ns) h u =
         bind_all_under apart (bind sv e v n) (bind sw e' (r v) n) vs ns h.1 (bind_under apart e e' v n h.0 u)
 
-  module _ (p : Program V) (q : Program W) (r : List ℕ → V → W) (k : List ℕ → ℕ → ℕ) (N : List ℕ → V → Type 0) (S : List ℕ → ℕ → Type 0) (apart : (path : List ℕ) → StaysApart (r path) (N path)) (same : (path : List ℕ) → Renames (r path) (k path) (N path) (S path) (p path) (q path)) where
+  module _ (p : FunctionsByPath V) (q : FunctionsByPath W) (r : List ℕ → V → W) (k : List ℕ → ℕ → ℕ) (N : List ℕ → V → Type 0) (S : List ℕ → ℕ → Type 0) (apart : (path : List ℕ) → StaysApart (r path) (N path)) (same : (path : List ℕ) → Renames (r path) (k path) (N path) (S path) (p path) (q path)) where
     pub record Other (f : Frame V) (g : Frame W) : Type 0 where
       pub path : g.path ≡ f.path
       pub block : g.block ≡ k f.path f.block

@@ -1,11 +1,11 @@
 -- Two programs that do the same wherever a run of the first can be behave alike, step by step.
 use Rattle.std.proofs.Common.{◌≡◌, ℕ, Bool, List, refl, sym, ap, ◌∙◌, subst, arith}
-use Rattle.kit_behaviour.specs.Machine.{Frame, State, Going, Ended, Trapped, Effect, Next, Out, Enter, Exit, Fault, Lost, Program, act, entry, resume, out_of, Shown, Alike}
+use Rattle.kit_behaviour.specs.Machine.{Frame, State, Going, Ended, Trapped, Effect, Next, Out, Enter, Exit, Fault, Lost, FunctionsByPath, act, entry, resume, out_of, Shown, Alike}
 use Rattle.kit_behaviour.proofs.Behaviour.RunLemmas.{prefix_trans}
 use Rattle.kit_behaviour.proofs.Behaviour.Simulation.{EffectsAlike, alike}
 
 -- what a effect leaves in its frame keeps the invariant; at a call whatever it returns
-abbrev pub EffectKeeps : {V : Type 0} (same : V → V → Bool) (p : Program V) (I : Frame V → Type 0) → Frame V → Effect V → Type 0
+abbrev pub EffectKeeps : {V : Type 0} (same : V → V → Bool) (p : FunctionsByPath V) (I : Frame V → Type 0) → Frame V → Effect V → Type 0
 EffectKeeps same p I f (Next g) = I g
 EffectKeeps same p I f (Out n g) = I g
 EffectKeeps same p I f (Enter c xs) = (ns : List ℕ) → I (resume same p f ns)
@@ -13,17 +13,17 @@ EffectKeeps same p I f (Exit xs) = Unit {0}
 EffectKeeps same p I f Fault = Unit {0}
 EffectKeeps same p I f Lost = Unit {0}
 
-pub record IsInvariant {V : Type 0} (same : V → V → Bool) (p : Program V) (I : Frame V → Type 0) : Type 0 where
+pub record IsInvariant {V : Type 0} (same : V → V → Bool) (p : FunctionsByPath V) (I : Frame V → Type 0) : Type 0 where
   pub enters : (path xs : List ℕ) → I (entry same p path xs)
   pub keeps : (f : Frame V) → I f → EffectKeeps same p I f (act same p f)
 
 -- q does what p does in each frame that meets the invariant
-pub record DoesSame {V : Type 0} (same : V → V → Bool) (p q : Program V) (I : Frame V → Type 0) : Type 0 where
+pub record DoesSame {V : Type 0} (same : V → V → Bool) (p q : FunctionsByPath V) (I : Frame V → Type 0) : Type 0 where
   pub entries : (path xs : List ℕ) → entry same p path xs ≡ entry same q path xs
   pub effects : (f : Frame V) → I f → act same p f ≡ act same q f
   pub resumes : (f : Frame V) (ns : List ℕ) → I f → resume same p f ns ≡ resume same q f ns
 
-module _ {V : Type 0} (same : V → V → Bool) (p q : Program V) (I : Frame V → Type 0) where
+module _ {V : Type 0} (same : V → V → Bool) (p q : FunctionsByPath V) (I : Frame V → Type 0) where
   record Equal (f g : Frame V) : Type 0 where
     is : f ≡ g
     holds : I f

@@ -1,20 +1,20 @@
 -- A simulation of frames, in stretches of one step or more on both sides, is a simulation of runs, calls
 -- and returns included. Both directions come from one relation, since a stretch is bounded on both sides.
 use Rattle.std.proofs.Common.{◌≡◌, ℕ, zero, suc, ◌+◌, ◌-◌, ◌*◌, ◌<◌, ◌≤◌, Bool, List, [], ◌∷◌, ◌++◌, refl, sym, ap, ◌∙◌, subst, arith}
-use Rattle.kit_behaviour.specs.Machine.{Frame, State, Going, Ended, Trapped, Effect, Next, Out, Enter, Exit, Fault, Lost, Program, act, done, return_to, entry, beside, resume, start, run, out_of, Shown, FollowsWithin, Alike}
+use Rattle.kit_behaviour.specs.Machine.{Frame, State, Going, Ended, Trapped, Effect, Next, Out, Enter, Exit, Fault, Lost, FunctionsByPath, act, done, return_to, entry, beside, resume, start, run, out_of, Shown, FollowsWithin, Alike}
 use Rattle.kit_behaviour.proofs.Behaviour.RunLemmas.{run-add, ended_stays, trapped_stays, run_out}
 
 -- k steps within one frame, without an emission
-abbrev pub Quiet : {V : Type 0} → (V → V → Bool) → Program V → ℕ → Frame V → Frame V → Type 0
+abbrev pub Quiet : {V : Type 0} → (V → V → Bool) → FunctionsByPath V → ℕ → Frame V → Frame V → Type 0
 Quiet same p zero f g = f ≡ g
 Quiet {V} same p (suc k) f g = (h : Frame V) × (act same p f ≡ Next h) × Quiet same p k h g
 
-quiet_run : {V : Type 0} (same : V → V → Bool) (p : Program V) (k : ℕ) (f g : Frame V) (fs : List (Frame V)) (out : List ℕ) → Quiet same p k f g → run same p k (Going (f ∷ fs) out) ≡ Going (g ∷ fs) out
+quiet_run : {V : Type 0} (same : V → V → Bool) (p : FunctionsByPath V) (k : ℕ) (f g : Frame V) (fs : List (Frame V)) (out : List ℕ) → Quiet same p k f g → run same p k (Going (f ∷ fs) out) ≡ Going (g ∷ fs) out
 quiet_run same p zero f g fs out q = ap (λ h. Going (h ∷ fs) out) q
 quiet_run same p (suc k) f g fs out q =
     ap (λ d. run same p k (done same p f fs out d)) q.1 ∙ quiet_run same p k q.0 g fs out q.2
 
-module _ {V W : Type 0} (same : V → V → Bool) (same' : W → W → Bool) (p : Program V) (q : Program W) (R : Frame V → Frame W → Type 0) where
+module _ {V W : Type 0} (same : V → V → Bool) (same' : W → W → Bool) (p : FunctionsByPath V) (q : FunctionsByPath W) (R : Frame V → Frame W → Type 0) where
   -- two frames that wait at a call go on alike, whatever the call returns
   abbrev pub WaitAlike : Frame V → Frame W → Type 0
   WaitAlike f g = (ns : List ℕ) → R (resume same p f ns) (resume same' q g ns)
@@ -185,7 +185,7 @@ module _ {V W : Type 0} (same : V → V → Bool) (same' : W → W → Bool) (p 
       let split = ap (λ j. run same p j (start same p path xs)) (sym k) ∙ run-add same p n (x.a - n) (start same p path xs) in
       (x.b, x.b_few, match_shown (x.a - n) (run same p n (start same p path xs)) (run same' q x.b (start same' q path xs)) (subst (λ s. Match s (run same' q x.b (start same' q path xs))) split x.match))
 
-module _ {V W : Type 0} (same : V → V → Bool) (same' : W → W → Bool) (p : Program V) (q : Program W) (R : Frame V → Frame W → Type 0) where
+module _ {V W : Type 0} (same : V → V → Bool) (same' : W → W → Bool) (p : FunctionsByPath V) (q : FunctionsByPath W) (R : Frame V → Frame W → Type 0) where
   effects_flip : (f : Frame V) (g : Frame W) (d : Effect V) (e : Effect W) → EffectsAlike same same' p q R f g d e → EffectsAlike same' same q p (λ y x. R x y) g f e d
   effects_flip f g (Next f') (Next g') h = h
   effects_flip f g (Out n f') (Out m g') h = (sym h.0, h.1)

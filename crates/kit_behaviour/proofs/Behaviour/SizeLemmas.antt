@@ -2,7 +2,7 @@
 use Rattle.std.proofs.Common.{◌≡◌, ℕ, zero, suc, ◌<◌, Bool, List, [], ◌∷◌, length, Option, Some, None, refl, ap, arith}
 use Rattle.std.specs.Prelude.{map, slice_get}
 use Rattle.kit_behaviour.specs.Machine.{Fun, ops_left, left_in, size}
-use Rattle.kit_behaviour.specs.Facts.{Facts}
+use Rattle.kit_behaviour.specs.Facts.{FunctionFacts}
 use Rattle.kit_behaviour.specs.Replacement.{replace_block, replace}
 use Rattle.kit_behaviour.specs.Rules.{EndsWell}
 use Rattle.kit_behaviour.specs.RemovedValues.{thin_block, thin}
@@ -48,6 +48,6 @@ pub put_size : {V : Type 0} (m : Made V) (f : Option (Fun V)) → size (put_in m
 put_size m None = refl
 put_size m (Some f) = length_map (put_block m) f
 
-pub decide_size : {V : Type 0} (k : Facts V) (f : Option (Fun V)) → size (decide k f) ≡ size f
+pub decide_size : {V : Type 0} (k : FunctionFacts V) (f : Option (Fun V)) → size (decide k f) ≡ size f
 decide_size k None = refl
 decide_size k (Some f) = length_map (decide_block k) f

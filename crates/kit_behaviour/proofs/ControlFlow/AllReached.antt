@@ -10,7 +10,7 @@ use Rattle.kit_behaviour.specs.Replacement.{replace_edge, replace_op, replace}
 use Rattle.kit_behaviour.specs.Rules.{is_terminator, EndsWell, Rules}
 use Rattle.kit_behaviour.specs.Numbering.{place_fun}
 use Rattle.kit_behaviour.specs.Places.{Place, same_place}
-use Rattle.kit_behaviour.specs.SimplifiedBlocks.{constants, edges_of, all_edges, LeadsTo, Reached, first, further, IsReached, retarget_edge, retarget, keep, last_edge, Joinable, IsTaken, Depth, top, below, join_fun, branched}
+use Rattle.kit_behaviour.specs.SimplifiedBlocks.{constants, edges_of, all_edges, LeadsTo, Reached, first, further, IsReachedSet, retarget_edge, retarget, keep, last_edge, BlocksAreJoinable, IsJoinedSet, Depth, top, below, join_fun, branched}
 use Rattle.kit_behaviour.proofs.ControlFlow.PlacesJoined.{forward, Follows, taken_arg, replaced_args, Simplifies}
 use Rattle.kit_behaviour.proofs.Numbering.PlaceEquality.{place_law}
 use Rattle.kit_behaviour.proofs.Numbering.NumberingBehaviour.{place_name, place_left}
@@ -21,7 +21,7 @@ use Rattle.kit_behaviour.proofs.ControlFlow.JoiningPremises.{left_two, not_free}
 use Rattle.kit_behaviour.proofs.ControlFlow.ScopesAfterJoining.{pass_on, left_three}
 use Rattle.kit_behaviour.proofs.ControlFlow.SimplifyBehaviour.{leads_split, leads_through, edges_retarget, edges_renamed, reached_kept, kept_lives, kept_rules}
 
-pub kept_reached : (f : Option (Fun Place)) (r : ℕ → Bool) → IsReached f r → (b : ℕ) → b < size (place_fun same_place (keep r f)) → Reached (place_fun same_place (keep r f)) b
+pub kept_reached : (f : Option (Fun Place)) (r : ℕ → Bool) → IsReachedSet f r → (b : ℕ) → b < size (place_fun same_place (keep r f)) → Reached (place_fun same_place (keep r f)) b
 kept_reached f r is b l =
     let w = stood r f b (omega (arith, l, place_size same_place (keep r f))) in
     subst (Reached (place_fun same_place (keep r f))) (sym w.is) (reached_kept f r is w.old (is.sound w.old w.kept))
@@ -30,7 +30,7 @@ pub join_size : {V : Type 0} (j : ℕ → Bool) (k : ℕ) (g : Option (Fun V)) �
 join_size j k None = refl
 join_size j k (Some g) = length_map _ g
 
-module _ (f : Option (Fun Place)) (rules : Rules f) (j : ℕ → Bool) (taken : IsTaken f j) (s : Place → Place) (fol : (v : Place) → Follows (forward j f) v (s v)) (lives : (b : ℕ) → (arguments_in f b ≡ []) ⊎ Reached f b) (k : ℕ) (long : (b n : ℕ) → Depth f j b n → n ≤ k) where
+module _ (f : Option (Fun Place)) (rules : Rules f) (j : ℕ → Bool) (taken : IsJoinedSet f j) (s : Place → Place) (fol : (v : Place) → Follows (forward j f) v (s v)) (lives : (b : ℕ) → (arguments_in f b ≡ []) ⊎ Reached f b) (k : ℕ) (long : (b n : ℕ) → Depth f j b n → n ≤ k) where
   abbrev f1 : Option (Fun Place)
   f1 = replace s f
 
@@ -118,7 +118,7 @@ module _ (f : Option (Fun Place)) (rules : Rules f) (j : ℕ → Bool) (taken : 
   joined_head zero b t jt l = leads_head (λ u. []) t (left_in f b 0) jt (leads_ends b t l) l
   joined_head (suc m) b t jt l = leads_head (λ u. joined j f2 m (left_in f2 u 0)) t (left_in f b 0) jt (leads_ends b t l) l
 
-  joined_tail : (m c b t : ℕ) → Joinable f c b → LeadsTo t (all_edges (joined j f2 m (map tw (left_in f b 0)))) → LeadsTo t (all_edges (joined j f2 (suc m) (map tw (left_in f c 0))))
+  joined_tail : (m c b t : ℕ) → BlocksAreJoinable f c b → LeadsTo t (all_edges (joined j f2 m (map tw (left_in f b 0)))) → LeadsTo t (all_edges (joined j f2 (suc m) (map tw (left_in f c 0))))
   joined_tail m c b t h l =
       leads_tail (λ u. joined j f2 m (left_in f2 u 0)) b t (left_in f c 0) h.edge (leads_ends c b (joinable_leads f c b h)) h.last h.target (taken.back c b h)
       (subst (λ o. LeadsTo t (all_edges (joined j f2 m o))) (sym (left_two f rules j taken s fol lives k long b)) l)

@@ -5,7 +5,7 @@ use Rattle.std.proofs.lemmas.Bool.{eq-eqb}
 use Rattle.kit_behaviour.specs.Machine.{Edge, Op, Const, Calc, Emit, Call, Branch, Return, Block, Fun, ops_left, left_in}
 use Rattle.kit_behaviour.specs.Scopes.{In, defs, all_defs, EdgeScoped, OpScoped, OpsWith}
 use Rattle.kit_behaviour.specs.Places.{Place}
-use Rattle.kit_behaviour.specs.SimplifiedBlocks.{edges_of, all_edges, LeadsTo, Reached, first, further, lone, last_edge, count_to, blocks_edges, edges_in, Joinable, IsTaken, Depth, top, below, forwarded_to}
+use Rattle.kit_behaviour.specs.SimplifiedBlocks.{edges_of, all_edges, LeadsTo, Reached, first, further, lone, last_edge, count_to, blocks_edges, edges_in, BlocksAreJoinable, IsJoinedSet, Depth, top, below, forwarded_to}
 use Rattle.kit_behaviour.proofs.ControlFlow.PlacesJoined.{Follows, stop, more}
 use Rattle.kit_behaviour.proofs.Propagation.ScopeLemmas.{in_append, in_split}
 
@@ -118,14 +118,14 @@ module _ {V : Type 0} where
   edge_in None e b i = absurd i
   edge_in (Some f) e b i = blocks_in e f b i
 
-  pub joinable_leads : (f : Option (Fun V)) (b t : ℕ) → Joinable f b t → LeadsTo t (all_edges (left_in f b 0))
+  pub joinable_leads : (f : Option (Fun V)) (b t : ℕ) → BlocksAreJoinable f b t → LeadsTo t (all_edges (left_in f b 0))
   joinable_leads f b t h = in_leads t h.edge (all_edges (left_in f b 0)) (last_in (left_in f b 0) h.edge h.last) h.target
 
-  pub one_before : (f : Option (Fun V)) (b c t : ℕ) → Joinable f b t → Joinable f c t → b ≡ c
+  pub one_before : (f : Option (Fun V)) (b c t : ℕ) → BlocksAreJoinable f b t → BlocksAreJoinable f c t → b ≡ c
   one_before f b c t h g = one_place t f b c h.single (joinable_leads f b t h) (joinable_leads f c t g)
 
-  module _ (f : Option (Fun V)) (j : ℕ → Bool) (taken : IsTaken f j) where
-    not_taken : (b t : ℕ) → Joinable f b t → j t ≡ false → ⊥
+  module _ (f : Option (Fun V)) (j : ℕ → Bool) (taken : IsJoinedSet f j) where
+    not_taken : (b t : ℕ) → BlocksAreJoinable f b t → j t ≡ false → ⊥
     not_taken b t h e = let bad : true ≡ false = sym (taken.back b t h) ∙ e in cc bad
 
     pub entry_free : j 0 ≡ false
@@ -151,7 +151,7 @@ module _ {V : Type 0} where
         by_test true e ih =
             let h = taken.there u e in
             let q = one_place u f h.0 b h.1.single (joinable_leads f h.0 u h.1) l in
-            (suc ih.0, below b u ih.0 (suc ih.0) (subst (λ x. Joinable f x u) q h.1) refl ih.1)
+            (suc ih.0, below b u ih.0 (suc ih.0) (subst (λ x. BlocksAreJoinable f x u) q h.1) refl ih.1)
 
 -- what is followed
 

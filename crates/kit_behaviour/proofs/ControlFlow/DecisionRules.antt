@@ -2,10 +2,10 @@
 use Rattle.std.proofs.Common.{◌≡◌, ℕ, zero, suc, ◌+◌, ◌<◌, List, [], ◌∷◌, ◌++◌, length, Option, Some, refl, sym, ap, ◌∙◌, subst, arith}
 use Rattle.std.specs.Prelude.{map, slice_get}
 use Rattle.kit_behaviour.proofs.Behaviour.SizeLemmas.{decide_size}
-use Rattle.kit_behaviour.specs.Machine.{Select, edge_at, chosen, AllEdges, Edge, Op, Const, Calc, Emit, Call, Branch, Return, Fun, Program, left_in, arguments_in, Alike}
-use Rattle.kit_behaviour.specs.Facts.{Known, Unknown, AtOrBelow, folds_to, Facts, Knows, Lacks, Numbers, Open, knows, branch_knows, AllUnknown, AllBelow, EdgeClosed, BranchClosed, OpsClosed, IsClosed, all_forwarded}
+use Rattle.kit_behaviour.specs.Machine.{Select, edge_at, chosen, AllEdges, Edge, Op, Const, Calc, Emit, Call, Branch, Return, Fun, FunctionsByPath, left_in, arguments_in, Alike}
+use Rattle.kit_behaviour.specs.Facts.{Known, Unknown, FactAtOrBelow, folds_to, FunctionFacts, Knows, Lacks, Numbers, Open, knows, branch_knows, AllUnknown, AllFactsAtOrBelow, EdgeClosedIn, BranchClosedIn, OpsClosed, AreClosedFacts, all_forwarded}
 use Rattle.kit_behaviour.specs.Scopes.{AllIn, defs, all_defs, entry_values, at_start, SameLength, OpsWith}
-use Rattle.kit_behaviour.specs.Rules.{operands, is_terminator, EndsWell, EdgeFits, EdgesFit, AllEdgesFit, from, OpsPlaced, Rules}
+use Rattle.kit_behaviour.specs.Rules.{operands, is_terminator, EndsWell, EdgeFits, EdgesOfOpFit, AllEdgesFit, from, OpsPlaced, Rules}
 use Rattle.kit_behaviour.specs.DecidedBranches.{single, branch_by, decide_op, decide}
 use Rattle.kit_behaviour.specs.Places.{Place, Arg, Res, same_place}
 use Rattle.kit_behaviour.specs.SimplifiedBlocks.{const_fact, const_value, constants, branched}
@@ -20,18 +20,18 @@ module _ (f : Option (Fun Place)) (rules : Rules f) where
   args_unknown b i zero = tt
   args_unknown b i (suc n) = (refl, args_unknown b (suc i) n)
 
-  args_below : (b i n : ℕ) (gs : List Place) → AllBelow (constants f) (from (Arg b) i n) gs
+  args_below : (b i n : ℕ) (gs : List Place) → AllFactsAtOrBelow (constants f) (from (Arg b) i n) gs
   args_below b i zero gs = tt
   args_below b i (suc n) [] = tt
   args_below b i (suc n) (g ∷ gs) = (tt, args_below b (suc i) n gs)
 
-  edge_closed : (x : Edge Place) → EdgeClosed f (constants f) x
-  edge_closed x = (refl, subst (λ ts. AllBelow (constants f) ts x.forwards) (sym (rules.args x.target)) (args_below x.target 0 (length (arguments_in f x.target)) x.forwards))
+  edge_closed : (x : Edge Place) → EdgeClosedIn f (constants f) x
+  edge_closed x = (refl, subst (λ ts. AllFactsAtOrBelow (constants f) ts x.forwards) (sym (rules.args x.target)) (args_below x.target 0 (length (arguments_in f x.target)) x.forwards))
 
-  branch_closed : (s : Select) (q : Knows) (e : Edge Place) (es : List (Edge Place)) → BranchClosed f (constants f) s q e es
+  branch_closed : (s : Select) (q : Knows) (e : Edge Place) (es : List (Edge Place)) → BranchClosedIn f (constants f) s q e es
   branch_closed s Lacks e es = tt
-  branch_closed s (Numbers ns) e es = edges_any (λ x. x.target ≡ (edge_at e es (chosen s ns)).target → EdgeClosed f (constants f) x) (λ x h. edge_closed x) (e ∷ es)
-  branch_closed s Open e es = edges_any (EdgeClosed f (constants f)) edge_closed (e ∷ es)
+  branch_closed s (Numbers ns) e es = edges_any (λ x. x.target ≡ (edge_at e es (chosen s ns)).target → EdgeClosedIn f (constants f) x) (λ x h. edge_closed x) (e ∷ es)
+  branch_closed s Open e es = edges_any (EdgeClosedIn f (constants f)) edge_closed (e ∷ es)
 
   results_unknown : (b o i n : ℕ) → const_fact (slice_get (left_in f b 0) o) ≡ Unknown → AllUnknown (constants f) (from (Res b o) i n)
   results_unknown b o i zero e = tt
@@ -39,7 +39,7 @@ module _ (f : Option (Fun Place)) (rules : Rules f) where
 
   abbrev AllHere : List Place → ℕ → Type 0
   AllHere [] n = Unit {0}
-  AllHere (v ∷ vs) n = AtOrBelow (const_value f v) (Known n) × AllHere vs n
+  AllHere (v ∷ vs) n = FactAtOrBelow (const_value f v) (Known n) × AllHere vs n
 
   ops_closed : (b o : ℕ) (ops : List (Op Place)) → ((n : ℕ) → slice_get (left_in f b 0) (o + n) ≡ slice_get ops n) → OpsPlaced b o ops → OpsClosed f (constants f) ops
   ops_closed b o [] at h = tt
@@ -49,17 +49,17 @@ module _ (f : Option (Fun Place)) (rules : Rules f) where
     where
       by_kind : (q : Op Place) → slice_get (left_in f b 0) o ≡ Some q → defs q ≡ from (Res b o) 0 (length (defs q)) → OpsClosed f (constants f) ops → OpsClosed f (constants f) (q ∷ ops)
       by_kind (Const r n) e d rest =
-          let u : AllHere (r ∷ []) n = subst (λ l. AllHere l n) (sym d) (subst (λ t. AtOrBelow t (Known n)) (sym (ap const_fact e)) refl, tt) in
+          let u : AllHere (r ∷ []) n = subst (λ l. AllHere l n) (sym d) (subst (λ t. FactAtOrBelow t (Known n)) (sym (ap const_fact e)) refl, tt) in
           (u.0, rest)
       by_kind (Calc a w r x y) e d rest =
           let u : AllUnknown (constants f) (r ∷ []) = subst (AllUnknown (constants f)) (sym d) (results_unknown b o 0 1 (ap const_fact e)) in
-          (subst (λ t. AtOrBelow t (folds_to a w (const_value f x) (const_value f y))) (sym u.0) tt, rest)
+          (subst (λ t. FactAtOrBelow t (folds_to a w (const_value f x) (const_value f y))) (sym u.0) tt, rest)
       by_kind (Emit x) e d rest = (tt, rest)
       by_kind (Call rs c xs) e d rest = (subst (AllUnknown (constants f)) (sym d) (results_unknown b o 0 (length rs) (ap const_fact e)), rest)
       by_kind (Branch s xs x es) e d rest = (branch_closed s (branch_knows (constants f) xs (x ∷ es)) x es, rest)
       by_kind (Return xs) e d rest = (tt, rest)
 
-  pub constants_closed : IsClosed f (constants f)
+  pub constants_closed : AreClosedFacts f (constants f)
   constants_closed =
       record {
         entry_runs = refl;
@@ -69,7 +69,7 @@ module _ (f : Option (Fun Place)) (rules : Rules f) where
 
 -- the rules after the decisions
 
-module _ {V : Type 0} (k : Facts V) where
+module _ {V : Type 0} (k : FunctionFacts V) where
   defs_single : (s : Select) (xs : List V) (e : Edge V) (es : List (Edge V)) → defs (single s xs e es) ≡ []
   defs_single s xs e [] = refl
   defs_single s xs e (x ∷ es) = refl
@@ -151,16 +151,16 @@ module _ {V : Type 0} (k : Facts V) where
     each_fits [] h = tt
     each_fits (e ∷ es) h = (edge_fits e h.0, each_fits es h.1)
 
-    fits_single : (s : Select) (xs : List V) (e : Edge V) (es : List (Edge V)) → AllEdges (EdgeFits f) (e ∷ es) → EdgesFit (decide k f) (single s xs e es)
+    fits_single : (s : Select) (xs : List V) (e : Edge V) (es : List (Edge V)) → AllEdges (EdgeFits f) (e ∷ es) → EdgesOfOpFit (decide k f) (single s xs e es)
     fits_single s xs e [] h = each_fits (e ∷ []) h
     fits_single s xs e (x ∷ es) h = each_fits (e ∷ x ∷ es) h
 
-    fits_by : (q : Knows) (s : Select) (xs : List V) (e : Edge V) (es : List (Edge V)) → AllEdges (EdgeFits f) (e ∷ es) → EdgesFit (decide k f) (branch_by q s xs e es)
+    fits_by : (q : Knows) (s : Select) (xs : List V) (e : Edge V) (es : List (Edge V)) → AllEdges (EdgeFits f) (e ∷ es) → EdgesOfOpFit (decide k f) (branch_by q s xs e es)
     fits_by (Numbers ns) s xs e es h = (taken_has (EdgeFits (decide k f)) e es (chosen s ns) (each_fits (e ∷ es) h), tt)
     fits_by Lacks s xs e es h = fits_single s xs e es h
     fits_by Open s xs e es h = fits_single s xs e es h
 
-    fits_decided : (op : Op V) → EdgesFit f op → EdgesFit (decide k f) (decide_op k op)
+    fits_decided : (op : Op V) → EdgesOfOpFit f op → EdgesOfOpFit (decide k f) (decide_op k op)
     fits_decided (Const r n) h = tt
     fits_decided (Calc o w r x y) h = tt
     fits_decided (Emit x) h = tt
@@ -179,11 +179,11 @@ module _ {V : Type 0} (k : Facts V) where
         ∙ ap (λ l. arguments_in f (suc b) ++ l)
         (ap (λ l. l ++ all_defs (left_in (decide k f) 0 0)) (decide_takes k f 0) ∙ ap (λ l. arguments_in f 0 ++ l) (ap all_defs (decide_left k f 0 0) ∙ all_defs_decided (left_in f 0 0)))
 
-ops_placed : (k : Facts Place) (b o : ℕ) (ops : List (Op Place)) → OpsPlaced b o ops → OpsPlaced b o (map (decide_op k) ops)
+ops_placed : (k : FunctionFacts Place) (b o : ℕ) (ops : List (Op Place)) → OpsPlaced b o ops → OpsPlaced b o (map (decide_op k) ops)
 ops_placed k b o [] h = tt
 ops_placed k b o (op ∷ ops) h = (subst (λ l. l ≡ from (Res b o) 0 (length l)) (sym (defs_decided k op)) h.0, ops_placed k b (suc o) ops h.1)
 
-pub decide_rules : (k : Facts Place) (f : Option (Fun Place)) → Rules f → Rules (decide k f)
+pub decide_rules : (k : FunctionFacts Place) (f : Option (Fun Place)) → Rules f → Rules (decide k f)
 decide_rules k f h =
     record {
       terminated = λ b l. subst EndsWell (sym (decide_left k f b 0)) (ends_decided k (left_in f b 0) (h.terminated b (omega (arith, l, decide_size k f))));
@@ -193,6 +193,6 @@ decide_rules k f h =
       args = λ b. subst (λ l. l ≡ from (Arg b) 0 (length l)) (sym (decide_takes k f b)) (h.args b);
     }
 
-pub branched_alike : (p : Program Place) → ((path : List ℕ) → Rules (p path)) → Alike same_place same_place 1 p (λ path. branched (p path))
+pub branched_alike : (p : FunctionsByPath Place) → ((path : List ℕ) → Rules (p path)) → Alike same_place same_place 1 p (λ path. branched (p path))
 branched_alike p rules =
     decided_alike same_place place_law p (λ path. constants (p path)) (λ path. constants_closed (p path) (rules path)) (λ path b. with_unit (p path) (at_start (p path) b) (left_in (p path) b 0) (rules_scoped (p path) (rules path) b))

@@ -5,7 +5,7 @@ use Rattle.kit_behaviour.specs.Machine.{Fun, left_in, arguments_in}
 use Rattle.kit_behaviour.specs.Scopes.{In, AllIn, all_defs, entry_values, at_start, SameLength}
 use Rattle.kit_behaviour.specs.Rules.{Rules}
 use Rattle.kit_behaviour.specs.Places.{Place, Arg, Res}
-use Rattle.kit_behaviour.specs.SimplifiedBlocks.{Reached, edges_in, IsTaken, Depth, top, below, forwarded_to}
+use Rattle.kit_behaviour.specs.SimplifiedBlocks.{Reached, edges_in, IsJoinedSet, Depth, top, below, forwarded_to}
 use Rattle.kit_behaviour.proofs.ControlFlow.PlacesJoined.{forward, Follows, stop, more}
 use Rattle.kit_behaviour.proofs.Propagation.ScopeLemmas.{in_split}
 use Rattle.kit_behaviour.proofs.Numbering.NumberingRules.{slice_in}
@@ -13,7 +13,7 @@ use Rattle.kit_behaviour.proofs.Numbering.RuleLemmas.{rules_scoped}
 use Rattle.kit_behaviour.proofs.ControlFlow.ChainLemmas.{gives_unique, last_in, last_scope, edge_in, entry_free, reached_depth}
 use Rattle.kit_behaviour.proofs.ControlFlow.ForwardingPremises.{in_from, IsRes, defs_res}
 
-module _ (f : Option (Fun Place)) (rules : Rules f) (j : ℕ → Bool) (taken : IsTaken f j) where
+module _ (f : Option (Fun Place)) (rules : Rules f) (j : ℕ → Bool) (taken : IsJoinedSet f j) where
   abbrev fwd : Place → Option Place
   fwd = forward j f
 

@@ -1,7 +1,7 @@
 -- Uses of arguments replaced by what was forwarded to them.
 use Rattle.std.proofs.Common.{◌≡◌, ⊎_elim, inl, inr, ℕ, suc, Bool, true, false, List, [], ◌∷◌, ◌++◌, Option, Some, None, refl, sym, ap, ◌∙◌, subst}
 use Rattle.std.specs.Prelude.{map, if◌then◌else◌}
-use Rattle.kit_behaviour.specs.Machine.{AllEdges, edge_at, chosen, Edge, Op, Const, Calc, Emit, Call, Branch, Return, Frame, Next, Out, Enter, Exit, Program, Env, bind, bind_all, calc, next, go, with_result, effect, results_of, left_in, arguments_in, Alike}
+use Rattle.kit_behaviour.specs.Machine.{AllEdges, edge_at, chosen, Edge, Op, Const, Calc, Emit, Call, Branch, Return, Frame, Next, Out, Enter, Exit, FunctionsByPath, Env, bind, bind_all, calc, next, go, with_result, effect, results_of, left_in, arguments_in, Alike}
 use Rattle.kit_behaviour.specs.Scopes.{In, AllIn, OpsWith}
 use Rattle.kit_behaviour.specs.Replacement.{replace_edge, replace_op, replaced}
 use Rattle.kit_behaviour.specs.ForwardedArguments.{Untouched, Forwarded, EdgeKeeps, OpKeeps, MayForward}
@@ -68,7 +68,7 @@ module _ {V : Type 0} (same : V → V → Bool) (law : IsSameness same) where
             ∙ old1 (s g) w.1 ∙ k g i.0 ∙ sym last)
             f.0
 
-  module _ (p : Program V) (s : List ℕ → V → V) (start : List ℕ → ℕ → List V) (may : (path : List ℕ) → MayForward (s path) (start path) (p path)) where
+  module _ (p : FunctionsByPath V) (s : List ℕ → V → V) (start : List ℕ → ℕ → List V) (may : (path : List ℕ) → MayForward (s path) (start path) (p path)) where
     abbrev Fine : List ℕ → List V → List (Op V) → Type 0
     Fine path = OpsWith (OpKeeps (p path) (start path) (s path))
 

@@ -6,7 +6,7 @@ use Rattle.kit_behaviour.specs.Scopes.{In, AllIn, defs, all_defs, entry_values, 
 use Rattle.kit_behaviour.specs.ForwardedArguments.{Untouched, Forwarded, EdgeKeeps, OpKeeps, MayForward}
 use Rattle.kit_behaviour.specs.Rules.{from, OpsPlaced, Rules}
 use Rattle.kit_behaviour.specs.Places.{Place, Arg, Res}
-use Rattle.kit_behaviour.specs.SimplifiedBlocks.{edges_of, all_edges, Reached, count_to, edges_in, Joinable, IsTaken, Depth, top, below, forwarded_to}
+use Rattle.kit_behaviour.specs.SimplifiedBlocks.{edges_of, all_edges, Reached, count_to, edges_in, BlocksAreJoinable, IsJoinedSet, Depth, top, below, forwarded_to}
 use Rattle.kit_behaviour.proofs.ControlFlow.PlacesJoined.{forward, Follows, stop, more, taken_arg}
 use Rattle.kit_behaviour.proofs.Propagation.ScopeLemmas.{in_append, in_split}
 use Rattle.kit_behaviour.proofs.Numbering.RuleLemmas.{rules_scoped}
@@ -45,7 +45,7 @@ defs_res b o (op ∷ ops) h x i =
     (λ k. defs_res b (suc o) ops h.1 x k)
     (in_split x (defs op) (all_defs ops) i)
 
-module _ (f : Option (Fun Place)) (rules : Rules f) (j : ℕ → Bool) (taken : IsTaken f j) (s : Place → Place) (fol : (v : Place) → Follows (forward j f) v (s v)) (lives : (b : ℕ) → (arguments_in f b ≡ []) ⊎ Reached f b) where
+module _ (f : Option (Fun Place)) (rules : Rules f) (j : ℕ → Bool) (taken : IsJoinedSet f j) (s : Place → Place) (fol : (v : Place) → Follows (forward j f) v (s v)) (lives : (b : ℕ) → (arguments_in f b ≡ []) ⊎ Reached f b) where
   abbrev fwd : Place → Option Place
   fwd = forward j f
 
@@ -93,7 +93,7 @@ module _ (f : Option (Fun Place)) (rules : Rules f) (j : ℕ → Bool) (taken : 
   abbrev Into : ℕ → ℕ → Edge Place → List Place → Type 0
   Into p t e c = (e.target ≡ t) × (forwarded_to t (edges_in f) ≡ e.forwards) × EdgeScoped f c e × ((x : Place) → In x c → In x (all_defs (left_in f p 0)) ⊎ In x (at_start f p))
 
-  into : (p t : ℕ) → Joinable f p t → (e : Edge Place) × (c : List Place) × Into p t e c
+  into : (p t : ℕ) → BlocksAreJoinable f p t → (e : Edge Place) × (c : List Place) × Into p t e c
   into p t h =
       let m = last_scope f (at_start f p) (left_in f p 0) h.edge (rules_scoped f rules p) h.last in
       let le : count_to t (edges_in f) ≤ 1 = omega (arith, h.single) in

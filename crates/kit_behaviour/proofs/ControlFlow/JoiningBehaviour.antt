@@ -1,8 +1,8 @@
 -- A program whose blocks were taken in by the ones before them behaves alike.
 use Rattle.std.proofs.Common.{◌≡◌, ℕ, zero, suc, ◌≤◌, Bool, true, false, List, [], ◌∷◌, Option, Some, None, refl, sym, ap, ◌∙◌, subst, arith}
 use Rattle.std.specs.Prelude.{map, if◌then◌else◌}
-use Rattle.kit_behaviour.specs.Machine.{AllEdges, edge_at, chosen, Select, Edge, Op, Const, Calc, Emit, Call, Branch, Return, Fun, Frame, Effect, Next, Program, Env, bind_all, calc, go, with_result, effect, act, entry, results_of, left_in, arguments_in, Alike}
-use Rattle.kit_behaviour.specs.JoinedBlocks.{join_ops, joined, JoinsTo, Chains, Joins}
+use Rattle.kit_behaviour.specs.Machine.{AllEdges, edge_at, chosen, Select, Edge, Op, Const, Calc, Emit, Call, Branch, Return, Fun, Frame, Effect, Next, FunctionsByPath, Env, bind_all, calc, go, with_result, effect, act, entry, results_of, left_in, arguments_in, Alike}
+use Rattle.kit_behaviour.specs.JoinedBlocks.{join_ops, joined, JoinsTo, Chains, JoinsBlocksOf}
 use Rattle.kit_behaviour.proofs.Behaviour.FrameLemmas.{left_next, fr}
 use Rattle.kit_behaviour.proofs.Behaviour.Simulation.{EffectsAlike, WaitAlike, Meet, alike}
 use Rattle.kit_behaviour.proofs.Behaviour.EdgeLemmas.{taken_has, only_taken}
@@ -28,7 +28,7 @@ inner_chains : {V : Type 0} (j : ℕ → Bool) (f : Option (Fun V)) (k : ℕ) (o
 inner_chains j f zero ops h = h
 inner_chains j f (suc k) ops h = h
 
-module _ {V : Type 0} (same : V → V → Bool) (p q : Program V) (js : List ℕ → ℕ → Bool) (c : ℕ) (joins : (path : List ℕ) → Joins (js path) c (p path) (q path)) where
+module _ {V : Type 0} (same : V → V → Bool) (p q : FunctionsByPath V) (js : List ℕ → ℕ → Bool) (c : ℕ) (joins : (path : List ℕ) → JoinsBlocksOf (js path) c (p path) (q path)) where
   -- the blocks may differ; what is left is the same, with the chain behind it
   pub record Inside (f g : Frame V) : Type 0 where
     pub path : g.path ≡ f.path

@@ -3,13 +3,13 @@ use Rattle.std.proofs.Common.{◌≡◌, ◌⊎◌, inl, inr, ℕ, zero, suc, �
 use Rattle.std.specs.Prelude.{map, slice_get, option_map, if◌then◌else◌, not}
 use Rattle.std.proofs.lemmas.Option.{slice_get-map}
 use Rattle.kit_behaviour.specs.Machine.{AllEdges, Edge, Op, Const, Calc, Emit, Call, Branch, Return, Block, Fun, ops_left, left_in, arguments_of, arguments_in}
-use Rattle.kit_behaviour.specs.RemovedValues.{may_trap, goes, live, thin_edge, thin_op, thin_ops, AllLive, GivesLive, EdgeLive, OpLive, OpsLive, MayGo, going}
-use Rattle.kit_behaviour.specs.JoinedBlocks.{join_ops, joined, JoinsTo, Chains, Joins}
+use Rattle.kit_behaviour.specs.RemovedValues.{may_trap, goes, live, thin_edge, thin_op, thin_ops, AllLive, GivesLive, EdgeLive, OpLive, OpsLive, SetMayGo, going}
+use Rattle.kit_behaviour.specs.JoinedBlocks.{join_ops, joined, JoinsTo, Chains, JoinsBlocksOf}
 use Rattle.kit_behaviour.specs.Scopes.{In, defs, all_defs}
 use Rattle.kit_behaviour.specs.Replacement.{replace_edge, replace_op, replace}
 use Rattle.kit_behaviour.specs.Rules.{from, Rules}
 use Rattle.kit_behaviour.specs.Places.{Place, Arg}
-use Rattle.kit_behaviour.specs.SimplifiedBlocks.{edges_of, all_edges, LeadsTo, Reached, lone, last_edge, count_to, Joinable, IsTaken, Depth, top, below, join_block, join_fun}
+use Rattle.kit_behaviour.specs.SimplifiedBlocks.{edges_of, all_edges, LeadsTo, Reached, lone, last_edge, count_to, BlocksAreJoinable, IsJoinedSet, Depth, top, below, join_block, join_fun}
 use Rattle.kit_behaviour.proofs.ControlFlow.PlacesJoined.{forward, Follows, taken_arg, replaced_args}
 use Rattle.kit_behaviour.proofs.Behaviour.EdgeLemmas.{edges_map}
 use Rattle.kit_behaviour.proofs.Lattice.ReplacementBehaviour.{replace_left, replace_takes}
@@ -75,7 +75,7 @@ module _ {V : Type 0} (j : ℕ → Bool) where
   joined_stays g zero ops h = stays_ops (λ t. ⊥) (λ t. []) (λ t n. tt) ops h
   joined_stays g (suc k) ops h = stays_ops (λ t. (arguments_in g t ≡ []) × Chains j g k (left_in g t 0)) (λ t. joined j g k (left_in g t 0)) (λ t n. joined_stays g k (left_in g t 0) n.1) ops h
 
-module _ (f : Option (Fun Place)) (rules : Rules f) (j : ℕ → Bool) (taken : IsTaken f j) (s : Place → Place) (fol : (v : Place) → Follows (forward j f) v (s v)) (lives : (b : ℕ) → (arguments_in f b ≡ []) ⊎ Reached f b) (k : ℕ) (long : (b n : ℕ) → Depth f j b n → n ≤ k) where
+module _ (f : Option (Fun Place)) (rules : Rules f) (j : ℕ → Bool) (taken : IsJoinedSet f j) (s : Place → Place) (fol : (v : Place) → Follows (forward j f) v (s v)) (lives : (b : ℕ) → (arguments_in f b ≡ []) ⊎ Reached f b) (k : ℕ) (long : (b n : ℕ) → Depth f j b n → n ≤ k) where
   abbrev d : Place → Bool
   d = taken_arg j
 
@@ -175,7 +175,7 @@ module _ (f : Option (Fun Place)) (rules : Rules f) (j : ℕ → Bool) (taken : 
   entry_live i zero = tt
   entry_live i (suc n) = (entry_free f j taken, entry_live (suc i) n)
 
-  pub args_may_go : MayGo d f1
+  pub args_may_go : SetMayGo d f1
   args_may_go =
       record {
         entry = subst (AllLive d) (sym (replace_takes s f 0 ∙ rules.args 0)) (entry_live 0 (length (arguments_in f 0)));
@@ -191,13 +191,13 @@ module _ (f : Option (Fun Place)) (rules : Rules f) (j : ℕ → Bool) (taken : 
 
   -- a taken block that these operations lead to is the one after b
   abbrev pub ToNext : ℕ → List (Op Place) → Type 0
-  ToNext b ops = (t : ℕ) → j t ≡ true → LeadsTo t (all_edges ops) → Joinable f b t × (count_to t (all_edges ops) ≤ 1) × ((e : Edge Place) × (last_edge ops ≡ Some e) × (e.target ≡ t))
+  ToNext b ops = (t : ℕ) → j t ≡ true → LeadsTo t (all_edges ops) → BlocksAreJoinable f b t × (count_to t (all_edges ops) ≤ 1) × ((e : Edge Place) × (last_edge ops ≡ Some e) × (e.target ≡ t))
 
   pub to_next : (b : ℕ) → ToNext b (left_in f b 0)
   to_next b t q l =
       let h = taken.there t q in
       let e = one_place t f h.0 b h.1.single (joinable_leads f h.0 t h.1) l in
-      let n = subst (λ x. Joinable f x t) e h.1 in
+      let n = subst (λ x. BlocksAreJoinable f x t) e h.1 in
       (n, omega (arith, left_count t f b, h.1.single), (n.edge, n.last, n.target))
 
   tail_last : (t : ℕ) (op : Op Place) (ops : List (Op Place)) → LeadsTo t (all_edges ops) → (e : Edge Place) × (last_edge (op ∷ ops) ≡ Some e) × (e.target ≡ t) → (e : Edge Place) × (last_edge ops ≡ Some e) × (e.target ≡ t)
@@ -224,7 +224,7 @@ module _ (f : Option (Fun Place)) (rules : Rules f) (j : ℕ → Bool) (taken : 
           let r = p z.target e (leads_left z.target (edges_of op) (all_edges ops) l) in
           absurd (twice z.target op ops l n r.2 r.1)
 
-  pub join_to : (N : ℕ → Type 0) (b : ℕ) (ops : List (Op Place)) → ToNext b ops → ((t : ℕ) → j t ≡ true → Joinable f b t → N t) → JoinsTo j N (map tw ops)
+  pub join_to : (N : ℕ → Type 0) (b : ℕ) (ops : List (Op Place)) → ToNext b ops → ((t : ℕ) → j t ≡ true → BlocksAreJoinable f b t → N t) → JoinsTo j N (map tw ops)
   join_to N b [] p n = tt
   join_to N b (Branch t xs e [] ∷ ops) p n = (λ q. n e.target q (p e.target q (inl refl)).0, join_to N b ops (next_tail b (Branch t xs e []) ops p) n)
   join_to N b (Branch t xs e (y ∷ es) ∷ ops) p n = (
@@ -248,7 +248,7 @@ module _ (f : Option (Fun Place)) (rules : Rules f) (j : ℕ → Bool) (taken : 
   pub chains_free : (b : ℕ) → j b ≡ false → Chains j f2 k (left_in f2 b 0)
   chains_free b e = chains_at k b 0 (top b 0 e refl) (omega arith)
 
-  pub join_joins : Joins j k f2 f3
+  pub join_joins : JoinsBlocksOf j k f2 f3
   join_joins =
       record {
         entry = entry_free f j taken;

@@ -6,10 +6,10 @@ use Rattle.kit_behaviour.specs.RemovedValues.{thin_op}
 use Rattle.kit_behaviour.specs.JoinedBlocks.{join_ops, joined, JoinsTo, Chains}
 use Rattle.kit_behaviour.specs.Scopes.{In, defs, SameLength}
 use Rattle.kit_behaviour.specs.Replacement.{replace_op, replace}
-use Rattle.kit_behaviour.specs.Rules.{is_terminator, EndsWell, EdgeFits, EdgesFit, AllEdgesFit, Rules}
+use Rattle.kit_behaviour.specs.Rules.{is_terminator, EndsWell, EdgeFits, EdgesOfOpFit, AllEdgesFit, Rules}
 use Rattle.kit_behaviour.specs.Places.{Place, Arg, Res, same_place}
 use Rattle.kit_behaviour.specs.Numbering.{place_fun}
-use Rattle.kit_behaviour.specs.SimplifiedBlocks.{edges_of, all_edges, Reached, Joinable, IsTaken, Depth, join_fun, keep}
+use Rattle.kit_behaviour.specs.SimplifiedBlocks.{edges_of, all_edges, Reached, BlocksAreJoinable, IsJoinedSet, Depth, join_fun, keep}
 use Rattle.kit_behaviour.proofs.ControlFlow.PlacesJoined.{forward, Follows, taken_arg, replaced_args}
 use Rattle.kit_behaviour.proofs.Numbering.PlaceEquality.{place_law}
 use Rattle.kit_behaviour.proofs.Behaviour.SizeLemmas.{has_block, replace_size, thin_size}
@@ -36,7 +36,7 @@ edge_fits_in {V} f e (op ∷ ops) h i = ⊎_elim (λ l. of_op op h.0 l) (λ r. e
     of_list [] a j = absurd j
     of_list (x ∷ es) a j = ⊎_elim (λ q. subst (EdgeFits f) (sym q) a.0) (λ r. of_list es a.1 r) j
 
-    of_op : (o : Op V) → EdgesFit f o → In e (edges_of o) → EdgeFits f e
+    of_op : (o : Op V) → EdgesOfOpFit f o → In e (edges_of o) → EdgeFits f e
     of_op (Branch s xs x es) a j = of_list (x ∷ es) a j
     of_op (Const r n) a j = absurd j
     of_op (Calc o w r x y) a j = absurd j
@@ -102,7 +102,7 @@ joined_length j g l few zero ops = join_length j (λ t. []) (0 * l) (λ t. omega
 joined_length j g l few (suc m) ops =
     join_length j (λ t. joined j g m (left_in g t 0)) (suc m * l) (λ t. let a = joined_length j g l few m (left_in g t 0) in let e : suc m * l ≡ l + m * l = omega arith in omega (arith, a, few t, e)) ops
 
-module _ (f : Option (Fun Place)) (rules : Rules f) (j : ℕ → Bool) (taken : IsTaken f j) (s : Place → Place) (fol : (v : Place) → Follows (forward j f) v (s v)) (lives : (b : ℕ) → (arguments_in f b ≡ []) ⊎ Reached f b) (k : ℕ) (long : (b n : ℕ) → Depth f j b n → n ≤ k) where
+module _ (f : Option (Fun Place)) (rules : Rules f) (j : ℕ → Bool) (taken : IsJoinedSet f j) (s : Place → Place) (fol : (v : Place) → Follows (forward j f) v (s v)) (lives : (b : ℕ) → (arguments_in f b ≡ []) ⊎ Reached f b) (k : ℕ) (long : (b n : ℕ) → Depth f j b n → n ≤ k) where
   abbrev d : Place → Bool
   d = taken_arg j
 
@@ -127,7 +127,7 @@ module _ (f : Option (Fun Place)) (rules : Rules f) (j : ℕ → Bool) (taken : 
   pub three_is : size f3 ≡ size f
   three_is = join_size j k f2 ∙ two_size
 
-  joinable_range : (b t : ℕ) → Joinable f b t → t < size f
+  joinable_range : (b t : ℕ) → BlocksAreJoinable f b t → t < size f
   joinable_range b t h = subst (λ x. x < size f) h.target (edge_fits_in f h.edge (left_in f b 0) (rules.fits b) (last_in (left_in f b 0) h.edge h.last)).leads
 
   taken_range : (t : ℕ) → j t ≡ true → t < size f
@@ -175,7 +175,7 @@ module _ (f : Option (Fun Place)) (rules : Rules f) (j : ℕ → Bool) (taken : 
   -- the operations of block c are those of the chain that begins at the block b, from its nth on
   data Inside (b : ℕ) : ℕ → ℕ → Type 0 where
     itself : (c n : ℕ) → c ≡ b → j b ≡ false → n ≡ 0 → Inside b c n
-    behind : (c t m n : ℕ) → Inside b c m → Joinable f c t → suc n ≡ m + length (left_in f c 0) → Inside b t n
+    behind : (c t m n : ℕ) → Inside b c m → BlocksAreJoinable f c t → suc n ≡ m + length (left_in f c 0) → Inside b t n
 
   inside_one : (b b' c n n' : ℕ) → Inside b c n → Inside b' c n' → (b ≡ b') × (n ≡ n')
   inside_one b b' c n n' (itself c1 n1 e h z) (itself c2 n2 e' h' z') = (sym e ∙ e', z ∙ sym z')
@@ -204,7 +204,7 @@ module _ (f : Option (Fun Place)) (rules : Rules f) (j : ℕ → Bool) (taken : 
   joins_tail N (Branch t xs x es) rest e q = absurd (cc e)
   joins_tail N (Return xs) rest e q = absurd (cc e)
 
-  module _ (b : ℕ) (N : ℕ → Type 0) (n : ℕ → List (Op Place)) (c base : ℕ) (ins : Inside b c base) (next : (t : ℕ) → Joinable f c t → N t → (w : ℕ) → Inside b t w → (o i : ℕ) (v : Place) → name_op (slice_get (n t) o) i ≡ Some v → JoinedAt b (w + o) i v) where
+  module _ (b : ℕ) (N : ℕ → Type 0) (n : ℕ → List (Op Place)) (c base : ℕ) (ins : Inside b c base) (next : (t : ℕ) → BlocksAreJoinable f c t → N t → (w : ℕ) → Inside b t w → (o i : ℕ) (v : Place) → name_op (slice_get (n t) o) i ≡ Some v → JoinedAt b (w + o) i v) where
     no_name : (o i : ℕ) (op : Op Place) (v : Place) → defs op ≡ [] → name_op (slice_get (op ∷ []) o) i ≡ Some v → ⊥
     no_name zero i op v d e = let bad : None ≡ Some v = sym (ap (λ l. slice_get l i) d) ∙ e in cc bad
     no_name (suc o) i op v d e = cc e

@@ -3,11 +3,11 @@ use Rattle.std.proofs.Common.{◌≡◌, ◌⊎◌, ⊎_elim, inl, inr, ℕ, zer
 use Rattle.std.specs.Prelude.{map, slice_get, option_map, if◌then◌else◌}
 use Rattle.std.proofs.lemmas.Option.{slice_get-map}
 use Rattle.kit_behaviour.proofs.Behaviour.SizeLemmas.{slice_in_range, out_of_range}
-use Rattle.kit_behaviour.specs.Machine.{Edge, Op, Const, Calc, Emit, Call, Branch, Return, Block, Fun, Program, AllEdges, ops_left, left_in, arguments_of, arguments_in, size, Alike}
+use Rattle.kit_behaviour.specs.Machine.{Edge, Op, Const, Calc, Emit, Call, Branch, Return, Block, Fun, FunctionsByPath, AllEdges, ops_left, left_in, arguments_of, arguments_in, size, Alike}
 use Rattle.kit_behaviour.specs.Renaming.{rename_edge, rename_op, AllNamed, EdgeNamed, OpNamed, OpsNamed, Renames}
 use Rattle.kit_behaviour.specs.Scopes.{AllIn, defs, all_defs, entry_values, at_start, SameLength, OpsWith, BlocksWith}
 use Rattle.kit_behaviour.specs.Facts.{all_forwarded}
-use Rattle.kit_behaviour.specs.Rules.{operands, is_terminator, EndsWell, EdgeFits, EdgesFit, AllEdgesFit, from, OpsPlaced, Rules}
+use Rattle.kit_behaviour.specs.Rules.{operands, is_terminator, EndsWell, EdgeFits, EdgesOfOpFit, AllEdgesFit, from, OpsPlaced, Rules}
 use Rattle.kit_behaviour.specs.Places.{Place, Arg, Res}
 use Rattle.kit_behaviour.specs.SimplifiedBlocks.{edges_of, all_edges, between, retarget_edge, retarget, retarget_block, keep_blocks, keep}
 use Rattle.kit_behaviour.proofs.Behaviour.EdgeLemmas.{edges_map, edges_two}
@@ -255,7 +255,7 @@ module _ {V : Type 0} (r : ℕ → Bool) where
         ∙ ap (λ l. l ++ entry_values (keep r f)) (ap (arguments_in (keep r f)) (sym z) ∙ keep_takes f (suc b) e)
         ∙ ap (λ l. arguments_in f (suc b) ++ l) entry_kept
 
-    op_fits : (op : Op V) → AllEdges (λ x. r x.target ≡ true) (edges_of op) → EdgesFit f op → EdgesFit (keep r f) (retarget (at r) op)
+    op_fits : (op : Op V) → AllEdges (λ x. r x.target ≡ true) (edges_of op) → EdgesOfOpFit f op → EdgesOfOpFit (keep r f) (retarget (at r) op)
     op_fits (Branch s xs e es) q h =
         edges_map (λ x. (r x.target ≡ true) × EdgeFits f x) (EdgeFits (keep r f)) (retarget_edge (at r)) (λ x c. record {
           count = subst (λ l. SameLength l x.forwards) (sym (keep_takes f x.target c.0)) c.1.count;
@@ -331,10 +331,10 @@ module _ {V : Type 0} (r : ℕ → Bool) where
           takes_named = λ b e. all_any (arguments_in f b);
         }
 
-abbrev pub kept : {V : Type 0} → (List ℕ → ℕ → Bool) → Program V → Program V
+abbrev pub kept : {V : Type 0} → (List ℕ → ℕ → Bool) → FunctionsByPath V → FunctionsByPath V
 kept r p path = keep (r path) (p path)
 
-pub keep_alike : {V : Type 0} (same : V → V → Bool) (p : Program V) (r : List ℕ → ℕ → Bool) → ((path : List ℕ) → r path 0 ≡ true) → ((path : List ℕ) (b : ℕ) → r path b ≡ true → AllEdges (λ x. r path x.target ≡ true) (all_edges (left_in (p path) b 0))) → Alike same same 1 p (kept r p)
+pub keep_alike : {V : Type 0} (same : V → V → Bool) (p : FunctionsByPath V) (r : List ℕ → ℕ → Bool) → ((path : List ℕ) → r path 0 ≡ true) → ((path : List ℕ) (b : ℕ) → r path b ≡ true → AllEdges (λ x. r path x.target ≡ true) (all_edges (left_in (p path) b 0))) → Alike same same 1 p (kept r p)
 keep_alike same p r entry stays =
     renamed_alike same same p (kept r p) (λ path v. v) (λ path. between (r path) 0) (λ path v. Unit {0}) (λ path b. r path b ≡ true) (λ path x y a b. refl) (λ path. keep_renames (r path) (p path) (entry path) (stays path))
 

@@ -5,12 +5,12 @@ use Rattle.std.specs.Prelude.{map, if◌then◌else◌, not}
 use Rattle.kit_behaviour.specs.Machine.{AllEdges, Edge, Op, Const, Calc, Emit, Call, Branch, Return, Fun, left_in}
 use Rattle.kit_behaviour.specs.Machine.{arguments_in, size}
 use Rattle.kit_behaviour.specs.JoinedBlocks.{join_ops, joined}
-use Rattle.kit_behaviour.specs.SimplifiedNames.{AreApart}
+use Rattle.kit_behaviour.specs.SimplifiedNames.{DefinitionsAreApart}
 use Rattle.kit_behaviour.specs.RemovedValues.{may_trap, goes, live, pick, thin_edge, thin_op, thin_ops, thin}
 use Rattle.kit_behaviour.specs.Replacement.{replace_edge, replace_op, replace}
 use Rattle.kit_behaviour.specs.Rules.{is_terminator, EndsWell, EdgeFits, AllEdgesFit}
 use Rattle.kit_behaviour.specs.Scopes.{In, defs, all_defs, SameLength}
-use Rattle.kit_behaviour.specs.SimplifiedBlocks.{edges_of, all_edges, LeadsTo, last_edge, Joinable, IsTaken, Depth, top}
+use Rattle.kit_behaviour.specs.SimplifiedBlocks.{edges_of, all_edges, LeadsTo, last_edge, BlocksAreJoinable, IsJoinedSet, Depth, top}
 use Rattle.kit_behaviour.specs.SimplifiedBlocks.{below, join_fun, keep, IsLaterArgument, Merges}
 use Rattle.kit_behaviour.proofs.Behaviour.SizeLemmas.{has_block, replace_size, thin_size}
 use Rattle.kit_behaviour.proofs.DeadCode.RemovalBehaviour.{thin_left, thin_takes}
@@ -117,7 +117,7 @@ module _ {V : Type 0} where
 
 -- 2. the blocks of a function whose names are distinct
 
-module _ {V : Type 0} (f : Option (Fun V)) (apart : AreApart f) (j : ℕ → Bool) (taken : IsTaken f j) (gone : V → Bool)
+module _ {V : Type 0} (f : Option (Fun V)) (apart : DefinitionsAreApart f) (j : ℕ → Bool) (taken : IsJoinedSet f j) (gone : V → Bool)
     (there : (v : V) → gone v ≡ true → IsLaterArgument j f v) (back : (v : V) → IsLaterArgument j f v → gone v ≡ true)
     (s : V → V) where
   abbrev pub f1 : Option (Fun V)
@@ -247,7 +247,7 @@ module _ {V : Type 0} (f : Option (Fun V)) (apart : AreApart f) (j : ℕ → Boo
   -- 3. chains
 
   -- no block may be joined behind b
-  pub stays_free : (b : ℕ) → ((t : ℕ) → Joinable f b t → ⊥) → AllEdges Free (all_edges (left_in f b 0))
+  pub stays_free : (b : ℕ) → ((t : ℕ) → BlocksAreJoinable f b t → ⊥) → AllEdges Free (all_edges (left_in f b 0))
   stays_free b none = edges_by Free (all_edges (left_in f b 0)) (λ z i. by_test z i (j z.target) refl)
     where
       by_test : (z : Edge V) → In z (all_edges (left_in f b 0)) → (t : Bool) → j z.target ≡ t → Free z
@@ -256,17 +256,17 @@ module _ {V : Type 0} (f : Option (Fun V)) (apart : AreApart f) (j : ℕ → Boo
           let h = taken.there z.target e in
           let q = one_place z.target f h.0 b h.1.single (joinable_leads f h.0 z.target h.1)
           (in_leads z.target z (all_edges (left_in f b 0)) i refl) in
-          absurd (none z.target (subst (λ x. Joinable f x z.target) q h.1))
+          absurd (none z.target (subst (λ x. BlocksAreJoinable f x z.target) q h.1))
 
   -- what comes behind b: nothing, or one block
   pub data After (b : ℕ) : Type 0 where
-    nothing : ((t : ℕ) → Joinable f b t → ⊥) → After b
-    a_block : (t : ℕ) → Joinable f b t → After b
+    nothing : ((t : ℕ) → BlocksAreJoinable f b t → ⊥) → After b
+    a_block : (t : ℕ) → BlocksAreJoinable f b t → After b
 
   pub after : (b : ℕ) → After b
   after b = by_last (last_edge (left_in f b 0)) refl
     where
-      same_target : (t : ℕ) (e : Edge V) (h : Joinable f b t) → last_edge (left_in f b 0) ≡ Some e → t ≡ e.target
+      same_target : (t : ℕ) (e : Edge V) (h : BlocksAreJoinable f b t) → last_edge (left_in f b 0) ≡ Some e → t ≡ e.target
       same_target t e h q = let w : Some h.edge ≡ Some e = sym h.last ∙ q in let z : h.edge ≡ e =
           cc w in sym h.target ∙ ap (λ (y : Edge V). y.target) z
 
@@ -275,7 +275,7 @@ module _ {V : Type 0} (f : Option (Fun V)) (apart : AreApart f) (j : ℕ → Boo
       by_test e q true z =
           let h = taken.there e.target z in
           let l = last_leads e q in
-          a_block e.target (subst (λ x. Joinable f x e.target)
+          a_block e.target (subst (λ x. BlocksAreJoinable f x e.target)
           (one_place e.target f h.0 b h.1.single (joinable_leads f h.0 e.target h.1) l) h.1)
         where
           last_leads : (e : Edge V) → last_edge (left_in f b 0) ≡ Some e → LeadsTo e.target (all_edges (left_in f b 0))
@@ -323,7 +323,7 @@ module _ {V : Type 0} (f : Option (Fun V)) (apart : AreApart f) (j : ℕ → Boo
     front_good ps w = each_replaced (λ x. Free x × EdgeFits f x) Good s good_edge (front ps)
         (subst (AllEdges (λ x. Free x × EdgeFits f x)) (sym (front_edges ps w)) tt)
 
-    pub target_range : (b t : ℕ) → Joinable f b t → t < size f
+    pub target_range : (b t : ℕ) → BlocksAreJoinable f b t → t < size f
     target_range b t h = subst (λ x. x < size f) h.target
         (edge_fits_in f h.edge (left_in f b 0) (fits b) (last_in (left_in f b 0) h.edge h.last)).leads
 
@@ -335,14 +335,14 @@ module _ {V : Type 0} (f : Option (Fun V)) (apart : AreApart f) (j : ℕ → Boo
         (edges_both ps qs (some_rest Good (edges_of p) (all_edges ps) h) g)
 
     -- the operations of b, and what is joined behind them
-    pub chain_ends : (m b : ℕ) → ((t : ℕ) → Joinable f b t → ⊥) →
+    pub chain_ends : (m b : ℕ) → ((t : ℕ) → BlocksAreJoinable f b t → ⊥) →
         joined j f2 m (left_in f2 b 0) ≡ map (replace_op s) (left_in f b 0)
     chain_ends zero b none = ap (join_ops j (λ t. [])) (left_two b)
         ∙ join_same (λ t. []) (left_in f b 0) (stays_free b none)
     chain_ends (suc m) b none = ap (join_ops j (λ t. joined j f2 m (left_in f2 t 0))) (left_two b)
         ∙ join_same (λ t. joined j f2 m (left_in f2 t 0)) (left_in f b 0) (stays_free b none)
 
-    pub chain_goes_on : (m b t : ℕ) → b < size f → Joinable f b t →
+    pub chain_goes_on : (m b t : ℕ) → b < size f → BlocksAreJoinable f b t →
         joined j f2 (suc m) (left_in f2 b 0) ≡ map (replace_op s) (front (left_in f b 0)) ++ joined j f2 m
         (left_in f2 t 0)
     chain_goes_on m b t l h =
@@ -365,7 +365,7 @@ module _ {V : Type 0} (f : Option (Fun V)) (apart : AreApart f) (j : ℕ → Boo
     chain_good (suc m) b n l dp e = by_after (after b)
         (λ t h. chain_good m t (suc n) (target_range b t h) (below b t n (suc n) h refl dp) (omega (arith, e)))
       where
-        by_after : After b → ((t : ℕ) → Joinable f b t → AllEdges Good (all_edges (joined j f2 m (left_in f2 t 0)))) →
+        by_after : After b → ((t : ℕ) → BlocksAreJoinable f b t → AllEdges Good (all_edges (joined j f2 m (left_in f2 t 0)))) →
             AllEdges Good (all_edges (joined j f2 (suc m) (left_in f2 b 0)))
         by_after (nothing none) ih =
             subst (λ ps. AllEdges Good (all_edges ps)) (sym (chain_ends (suc m) b none))
@@ -408,7 +408,7 @@ module _ {V : Type 0} (f : Option (Fun V)) (apart : AreApart f) (j : ℕ → Boo
         (λ b e. each_fits f3 (left_in f3 b 0) (second_of_each (λ x. not (j x.target) ≡ true) (EdgeFits f3)
         (all_edges (left_in f3 b 0)) (good_left b e)))
 
-pub merges_fit : {V : Type 0} (f g : Option (Fun V)) → AreApart f → ((b : ℕ) → b < size f → EndsWell (left_in f b 0)) →
+pub merges_fit : {V : Type 0} (f g : Option (Fun V)) → DefinitionsAreApart f → ((b : ℕ) → b < size f → EndsWell (left_in f b 0)) →
     ((b : ℕ) → AllEdgesFit f (left_in f b 0)) → Merges f g → (b : ℕ) → AllEdgesFit g (left_in g b 0)
 merges_fit f g apart ends fits m b =
     subst (λ z. AllEdgesFit z (left_in z b 0)) (sym m.is)

@@ -2,14 +2,14 @@
 use Rattle.std.proofs.Common.{◌≡◌, ◌⊎◌, ⊎_elim, ℕ, suc, Bool, true, false, List, [], ◌∷◌, Option, Some, None, refl, sym}
 use Rattle.std.proofs.Common.{ap, ◌∙◌, subst}
 use Rattle.std.specs.Prelude.{slice_get, if◌then◌else◌, unwrap_or}
-use Rattle.kit_behaviour.specs.Machine.{Fun, Program, arguments_in, size}
-use Rattle.kit_behaviour.specs.Numbering.{place_of, place_fun, HasPlace, IsDefined}
+use Rattle.kit_behaviour.specs.Machine.{Fun, FunctionsByPath, arguments_in, size}
+use Rattle.kit_behaviour.specs.Numbering.{place_of, place_fun, HasPlace, NamesAreDefined}
 use Rattle.kit_behaviour.specs.Places.{Place, Arg, Res, same_place}
 use Rattle.kit_behaviour.specs.Rules.{Rules}
 use Rattle.kit_behaviour.specs.Scopes.{In}
-use Rattle.kit_behaviour.specs.SimplifiedBlocks.{constants, Reached, keep, edges_in, IsTaken, forwarded_to, IsGiven}
-use Rattle.kit_behaviour.specs.SimplifiedBlocks.{StandsFor, itself, passed_on, IsLaterArgument, merged, IsMerged}
-use Rattle.kit_behaviour.specs.SimplifiedBlocks.{branched, Simplifies, IsSimplify}
+use Rattle.kit_behaviour.specs.SimplifiedBlocks.{constants, Reached, keep, edges_in, IsJoinedSet, forwarded_to, IsGivenInChain}
+use Rattle.kit_behaviour.specs.SimplifiedBlocks.{StandsForInChain, itself, passed_on, IsLaterArgument, merged, IsMerged}
+use Rattle.kit_behaviour.specs.SimplifiedBlocks.{branched, SimplifiesFunction, IsSimplifyOfFunctions}
 use Rattle.kit_behaviour.proofs.ControlFlow.PlacesJoined as old
 use Rattle.kit_behaviour.proofs.ControlFlow.PlacesJoined.{forward, Follows, stop, more, taken_arg}
 use Rattle.kit_behaviour.proofs.Numbering.NumberingRules.{name_at, arg_name, name_arg, slice_in}
@@ -26,7 +26,7 @@ use Rattle.kit_behaviour.proofs.ControlFlow.SimplifyExists.{reached_exists, take
 
 -- 1. the pass that the proofs speak of
 
-pub as_old_pass : (f g : Option (Fun Place)) → Rules f → Simplifies f g → old.Simplifies f g
+pub as_old_pass : (f g : Option (Fun Place)) → Rules f → SimplifiesFunction f g → old.Simplifies f g
 as_old_pass f g rules m = record {
   reach = m.reach;
   reached = m.reached;
@@ -34,16 +34,16 @@ as_old_pass f g rules m = record {
       (kept_rules (branched f) m.reach m.reached (decide_rules (constants f) f rules)) m.merges;
 }
 
-pub as_old_all : (p q : Program Place) → ((path : List ℕ) → Rules (p path)) → IsSimplify p q → old.IsSimplify p q
+pub as_old_all : (p q : FunctionsByPath Place) → ((path : List ℕ) → Rules (p path)) → IsSimplifyOfFunctions p q → old.IsSimplify p q
 as_old_all p q rules is = record { each = λ path. as_old_pass (p path) (q path) (rules path) (is.each path) }
 
 -- 2. what an argument stands for, by its name
 
-module _ (f : Fun Place) (rules : Rules (Some f)) (j : ℕ → Bool) (is_taken : IsTaken (Some f) j) where
+module _ (f : Fun Place) (rules : Rules (Some f)) (j : ℕ → Bool) (is_taken : IsJoinedSet (Some f) j) where
   abbrev F : Option (Fun Place)
   F = Some f
 
-  defined : IsDefined same_place F
+  defined : NamesAreDefined same_place F
   defined = sees_defined same_place place_law F rules.sees
 
   placed : Rules (place_fun same_place F)
@@ -61,10 +61,10 @@ module _ (f : Fun Place) (rules : Rules (Some f)) (j : ℕ → Bool) (is_taken :
       let n = named_back same_place place_law f defined placed g h in
       ap (name_at F) (home (place_of same_place f g) g n) ∙ n
 
-  stands : (v u : Place) → Follows (forward j F) v u → name_at F v ≡ Some v → StandsFor j F v u
+  stands : (v u : Place) → Follows (forward j F) v u → name_at F v ≡ Some v → StandsForInChain j F v u
   stands v u (stop a b e q) n = itself a b (λ w g. nothing w g) q
     where
-      nothing : (w : Place) → IsGiven j F a w → ⊥
+      nothing : (w : Place) → IsGivenInChain j F a w → ⊥
       nothing w g =
           let z : a ≡ Arg g.block g.place = home (Arg g.block g.place) a
           (name_arg same_place place_law F g.block g.place a g.takes) in
@@ -75,7 +75,7 @@ module _ (f : Fun Place) (rules : Rules (Some f)) (j : ℕ → Bool) (is_taken :
   stands v u (more (Res b o i) w x e m) n = absurd (no_some w e)
   stands v u (more (Arg t i) w x e m) n = by_test (j t) refl (λ q. stands w x m q)
     where
-      by_test : (b : Bool) → j t ≡ b → (name_at F w ≡ Some w → StandsFor j F w x) → StandsFor j F (Arg t i) x
+      by_test : (b : Bool) → j t ≡ b → (name_at F w ≡ Some w → StandsForInChain j F w x) → StandsForInChain j F (Arg t i) x
       by_test false z ih = absurd (no_some w (sym (ap (λ b. if b then Some
           (unwrap_or (slice_get (forwarded_to t (edges_in F)) i) (Arg 0 0)) else None) z) ∙ e))
       by_test true z ih =
@@ -102,16 +102,16 @@ module _ (f : Fun Place) (rules : Rules (Some f)) (j : ℕ → Bool) (is_taken :
     there : (v x : Place) → name_at F v ≡ Some x → name_at F v ≡ Some v
     there v x e = e ∙ ap Some (home v x e)
 
-    stand_is : (v : Place) → StandsFor j F v (stand v)
+    stand_is : (v : Place) → StandsForInChain j F v (stand v)
     stand_is v = by_name (name_at F v) refl
       where
-        by_name : (o : Option Place) → name_at F v ≡ o → StandsFor j F v (stand_by v (name_at F v))
+        by_name : (o : Option Place) → name_at F v ≡ o → StandsForInChain j F v (stand_by v (name_at F v))
         by_name None e =
-            subst (StandsFor j F v) (sym (ap (stand_by v) e))
+            subst (StandsForInChain j F v) (sym (ap (stand_by v) e))
             (itself v v (λ w g.
             let q = name_arg same_place place_law F g.block g.place v g.takes in
             no_some v (sym e ∙ (ap (name_at F) (home (Arg g.block g.place) v q) ∙ q))) refl)
-        by_name (Some x) e = subst (StandsFor j F v) (sym (ap (stand_by v) e))
+        by_name (Some x) e = subst (StandsForInChain j F v) (sym (ap (stand_by v) e))
             (stands v (ends v).0 (ends v).1 (there v x e))
 
   abbrev gone_by : Place → Option Place → Bool
@@ -196,7 +196,7 @@ merged_exists (Some f) rules lives =
       },
     )
 
-simplify_exists : (f : Option (Fun Place)) → Rules f → (g : Option (Fun Place)) × Simplifies f g
+simplify_exists : (f : Option (Fun Place)) → Rules f → (g : Option (Fun Place)) × SimplifiesFunction f g
 simplify_exists f rules =
     let decided = decide_rules (constants f) f rules in
     let r = reached_exists (branched f) decided in
@@ -204,7 +204,7 @@ simplify_exists f rules =
     (kept_lives (branched f) r.0 r.1) in
     (m.0, record { reach = r.0; reached = r.1; merges = m.1 })
 
-pub simplify_all : (p : Program Place) → ((path : List ℕ) → Rules (p path)) → (q : Program Place) × IsSimplify p q
+pub simplify_all : (p : FunctionsByPath Place) → ((path : List ℕ) → Rules (p path)) → (q : FunctionsByPath Place) × IsSimplifyOfFunctions p q
 simplify_all p rules = (
   λ path. (simplify_exists (p path) (rules path)).0,
   record { each = λ path. (simplify_exists (p path) (rules path)).1 },

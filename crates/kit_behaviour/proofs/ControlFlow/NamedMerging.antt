@@ -11,10 +11,10 @@ use Rattle.kit_behaviour.specs.Replacement.{replace_block}
 use Rattle.kit_behaviour.specs.Rules.{Rules}
 use Rattle.kit_behaviour.specs.Scopes.{In, defs, SameLength}
 use Rattle.kit_behaviour.specs.Places.{Place, Arg, Res, same_place}
-use Rattle.kit_behaviour.specs.Numbering.{place_of, place_block, place_fun, HasPlace, AnyBlock, IsDefined}
-use Rattle.kit_behaviour.specs.SimplifiedBlocks.{all_edges, last_edge, count_to, edges_in, Joinable, IsTaken, Depth}
+use Rattle.kit_behaviour.specs.Numbering.{place_of, place_block, place_fun, HasPlace, AnyBlock, NamesAreDefined}
+use Rattle.kit_behaviour.specs.SimplifiedBlocks.{all_edges, last_edge, count_to, edges_in, BlocksAreJoinable, IsJoinedSet, Depth}
 use Rattle.kit_behaviour.specs.SimplifiedBlocks.{top, below, forwarded_to, between, keep_blocks, keep, join_block}
-use Rattle.kit_behaviour.specs.SimplifiedBlocks.{join_fun, IsGiven, StandsFor, itself, passed_on, IsLaterArgument}
+use Rattle.kit_behaviour.specs.SimplifiedBlocks.{join_fun, IsGivenInChain, StandsForInChain, itself, passed_on, IsLaterArgument}
 use Rattle.kit_behaviour.specs.SimplifiedBlocks.{merged, Merges, IsMerged}
 use Rattle.kit_behaviour.proofs.ControlFlow.PlacesJoined as old
 use Rattle.kit_behaviour.proofs.ControlFlow.PlacesJoined.{forward, Follows, stop, more, taken_arg}
@@ -78,7 +78,7 @@ module _ {V : Type 0} (N : V → Type 0) where
           (λ w. of_list ih es q.1 w) k
   edges_named (Return xs ∷ ops) h e i = edges_named ops h.1 e i
 
-module _ {V : Type 0} (same : V → V → Bool) (law : IsSameness same) (f : Fun V) (defined : IsDefined same (Some f))
+module _ {V : Type 0} (same : V → V → Bool) (law : IsSameness same) (f : Fun V) (defined : NamesAreDefined same (Some f))
     (rules : Rules (place_fun same (Some f))) where
   abbrev F : Option (Fun V)
   F = Some f
@@ -136,7 +136,7 @@ module _ {V : Type 0} (same : V → V → Bool) (law : IsSameness same) (f : Fun
   last_same : (b : ℕ) → last_edge (left_in P b 0) ≡ option_map (ren_edge r) (last_edge (left_in F b 0))
   last_same b = ap last_edge (place_left same law F b) ∙ last_renamed r (left_in F b 0)
 
-  join_there : (b t : ℕ) → Joinable F b t → Joinable P b t
+  join_there : (b t : ℕ) → BlocksAreJoinable F b t → BlocksAreJoinable P b t
   join_there b t x = record {
     edge = ren_edge r x.edge;
     last = last_same b ∙ ap (option_map (ren_edge r)) x.last;
@@ -146,11 +146,11 @@ module _ {V : Type 0} (same : V → V → Bool) (law : IsSameness same) (f : Fun
     single = count_same t ∙ x.single;
   }
 
-  join_back : (b t : ℕ) → Joinable P b t → Joinable F b t
+  join_back : (b t : ℕ) → BlocksAreJoinable P b t → BlocksAreJoinable F b t
   join_back b t x = by_last (last_edge (left_in F b 0)) refl (sym (last_same b) ∙ x.last)
     where
       by_last : (o : Option (Edge V)) → last_edge (left_in F b 0) ≡ o →
-          option_map (ren_edge r) (last_edge (left_in F b 0)) ≡ Some x.edge → Joinable F b t
+          option_map (ren_edge r) (last_edge (left_in F b 0)) ≡ Some x.edge → BlocksAreJoinable F b t
       by_last None e q = absurd (no_some x.edge (sym (ap (option_map (ren_edge r)) e) ∙ q))
       by_last (Some d) e q =
           let z : ren_edge r d ≡ x.edge = some_is (ren_edge r d) x.edge (sym (ap (option_map (ren_edge r)) e) ∙ q) in
@@ -163,8 +163,8 @@ module _ {V : Type 0} (same : V → V → Bool) (law : IsSameness same) (f : Fun
             single = sym (count_same t) ∙ x.single;
           }
 
-  module _ (j : ℕ → Bool) (is_taken : IsTaken F j) where
-    pub taken_there : IsTaken P j
+  module _ (j : ℕ → Bool) (is_taken : IsJoinedSet F j) where
+    pub taken_there : IsJoinedSet P j
     taken_there = record {
       there = λ t e. let x = is_taken.there t e in (x.0, join_there x.0 t x.1);
       back = λ b t x. is_taken.back b t (join_back b t x);
@@ -210,7 +210,7 @@ module _ {V : Type 0} (same : V → V → Bool) (law : IsSameness same) (f : Fun
     forward_free t i e = ap (λ b. if b then Some (unwrap_or (slice_get (forwarded_to t (edges_in P)) i) (Arg 0 0)) else
         None) e
 
-    module _ (names : V → V) (follows : (v : V) → StandsFor j F v (names v)) where
+    module _ (names : V → V) (follows : (v : V) → StandsForInChain j F v (names v)) where
       -- what places stand for: names that are there as they did
       abbrev alone : Place → Place
       alone (Arg t i) = if j t then Arg 0 0 else Arg t i
@@ -226,7 +226,7 @@ module _ {V : Type 0} (same : V → V → Bool) (law : IsSameness same) (f : Fun
       places_same : (x : V) → H x → places (r x) ≡ r (names x)
       places_same x h = ap (of_name (r x)) (named_back x h)
 
-      follow_named : (x u : V) → StandsFor j F x u → (a : Place) → name_at F a ≡ Some x → Follows (forward j P) a (r u)
+      follow_named : (x u : V) → StandsForInChain j F x u → (a : Place) → name_at F a ≡ Some x → Follows (forward j P) a (r u)
       follow_named x u (itself v w none q) a e = stop a (r w) (nothing a e) (ap r q ∙ home a v e)
         where
           at_arg : (t i : ℕ) → name_at F (Arg t i) ≡ Some v → (b : Bool) → j t ≡ b → forward j P (Arg t i) ≡ None
@@ -282,7 +282,7 @@ module _ {V : Type 0} (same : V → V → Bool) (law : IsSameness same) (f : Fun
 
       -- 4. what stands for a name has a place
 
-      stands_named : (x u : V) → StandsFor j F x u → H x → H u
+      stands_named : (x u : V) → StandsForInChain j F x u → H x → H u
       stands_named x u (itself v w none q) h = subst H (sym q) h
       stands_named x u (passed_on v w y g m) h = stands_named w y m
           (named_at H (forwarded_to g.block (edges_in F)) (given_named g.block g.later) g.place w g.gives)
@@ -420,10 +420,10 @@ module _ {V : Type 0} (same : V → V → Bool) (law : IsSameness same) (f : Fun
         by_case None q w = absurd (no_some y (sym (ap (option_map r) q) ∙ w))
         by_case (Some x) q w = (x, q)
 
-    stand_named : (x u : V) → StandsFor m.later F x u → (a : Place) → name_at F a ≡ Some x → StandsFor m.later P a (r u)
+    stand_named : (x u : V) → StandsForInChain m.later F x u → (a : Place) → name_at F a ≡ Some x → StandsForInChain m.later P a (r u)
     stand_named x u (itself v w none q) a e = itself a (r w) (λ y g. nothing y g) (ap r q ∙ home a v e)
       where
-        nothing : (y : Place) → IsGiven m.later P a y → ⊥
+        nothing : (y : Place) → IsGivenInChain m.later P a y → ⊥
         nothing y g =
             let x = arg_of g.block g.place a g.takes in
             let z = given_of g.block g.place y g.gives in
@@ -451,14 +451,14 @@ module _ {V : Type 0} (same : V → V → Bool) (law : IsSameness same) (f : Fun
         })
         (stand_named w y n (r w) (named_back w h))
 
-    stands : (a : Place) → StandsFor m.later P a (stand a)
+    stands : (a : Place) → StandsForInChain m.later P a (stand a)
     stands a = by_name (name_at F a) refl
       where
-        by_name : (o : Option V) → name_at F a ≡ o → StandsFor m.later P a (stand_by a (name_at F a))
+        by_name : (o : Option V) → name_at F a ≡ o → StandsForInChain m.later P a (stand_by a (name_at F a))
         by_name None e =
-            subst (StandsFor m.later P a) (sym (ap (stand_by a) e))
+            subst (StandsForInChain m.later P a) (sym (ap (stand_by a) e))
             (itself a a (λ y g. let x = arg_of g.block g.place a g.takes in no_some x.0 (sym e ∙ x.2)) refl)
-        by_name (Some x) e = subst (StandsFor m.later P a) (sym (ap (stand_by a) e))
+        by_name (Some x) e = subst (StandsForInChain m.later P a) (sym (ap (stand_by a) e))
             (stand_named x (m.names x) (m.follows x) a e)
 
     gone_there : (a : Place) → gone a ≡ true → IsLaterArgument m.later P a
@@ -516,7 +516,7 @@ module _ {V : Type 0} (same : V → V → Bool) (law : IsSameness same) (f : Fun
     }
 
 -- of a function that is not there
-module _ {V : Type 0} (j : ℕ → Bool) (is : IsTaken {V = V} None j) where
+module _ {V : Type 0} (j : ℕ → Bool) (is : IsJoinedSet {V = V} None j) where
   none_later : (t : ℕ) → j t ≡ false
   none_later t = by_test (j t) refl
     where
@@ -524,7 +524,7 @@ module _ {V : Type 0} (j : ℕ → Bool) (is : IsTaken {V = V} None j) where
       by_test false q = q
       by_test true q = let x = is.there t q in absurd (no_some x.1.edge x.1.last)
 
-  none_taken : {W : Type 0} → IsTaken {V = W} None j
+  none_taken : {W : Type 0} → IsJoinedSet {V = W} None j
   none_taken = record {
     there = λ t e. let x = is.there t e in absurd (no_some x.1.edge x.1.last);
     back = λ b t x. absurd (no_some x.edge x.last);
@@ -534,7 +534,7 @@ no_depth : {V : Type 0} (j : ℕ → Bool) (b n : ℕ) → Depth {V = V} None j 
 no_depth j b n (top c m e z) = omega (arith, z)
 no_depth j b n (below c t m k x z d) = absurd (no_some x.edge x.last)
 
-none_old : {V : Type 0} (j : ℕ → Bool) → IsTaken {V = V} None j → (g : Option (Fun Place)) → g ≡ None →
+none_old : {V : Type 0} (j : ℕ → Bool) → IsJoinedSet {V = V} None j → (g : Option (Fun Place)) → g ≡ None →
     old.IsMerged None g
 none_old {V} j is g e = record {
   taken = j;
@@ -551,7 +551,7 @@ none_old {V} j is g e = record {
         (Arg 0 0)) else None) (none_later j is t)
     nothing (Res b o i) = refl
 
-none_new : {V : Type 0} (j : ℕ → Bool) → IsTaken {V = V} None j → (g : Option (Fun Place)) → g ≡ None → IsMerged None g
+none_new : {V : Type 0} (j : ℕ → Bool) → IsJoinedSet {V = V} None j → (g : Option (Fun Place)) → g ≡ None → IsMerged None g
 none_new {V} j is g e = record {
   left = None;
   merges = record {
@@ -568,13 +568,13 @@ none_new {V} j is g e = record {
   is = e;
 }
 
-pub merges_by_place : {V : Type 0} (same : V → V → Bool) → IsSameness same → (f g : Option (Fun V)) → IsDefined same f →
+pub merges_by_place : {V : Type 0} (same : V → V → Bool) → IsSameness same → (f g : Option (Fun V)) → NamesAreDefined same f →
     Rules (place_fun same f) → Merges f g → IsMerged (place_fun same f) (place_fun same g)
 merges_by_place same law None g defined rules m = none_new m.later m.is_later (place_fun same g)
     (ap (place_fun same) m.is)
 merges_by_place same law (Some f) g defined rules m = by_place same law f defined rules g m
 
-old_merges_by_place : {V : Type 0} (same : V → V → Bool) → IsSameness same → (f g : Option (Fun V)) → IsDefined same f →
+old_merges_by_place : {V : Type 0} (same : V → V → Bool) → IsSameness same → (f g : Option (Fun V)) → NamesAreDefined same f →
     Rules (place_fun same f) → Merges f g → old.IsMerged (place_fun same f) (place_fun same g)
 old_merges_by_place same law None g defined rules m =
     none_old m.later m.is_later (place_fun same g) (ap (place_fun same) m.is)

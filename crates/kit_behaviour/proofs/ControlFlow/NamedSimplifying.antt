@@ -4,7 +4,7 @@ use Rattle.std.proofs.Common.{refl, sym, ap, ◌∙◌, subst}
 use Rattle.std.specs.Prelude.{map, slice_get, option_map}
 use Rattle.std.proofs.lemmas.Option.{slice_get-map}
 use Rattle.kit_behaviour.specs.DecidedBranches.{single, branch_by, decide_op, decide_block, decide}
-use Rattle.kit_behaviour.specs.Facts.{Facts, Knows, Lacks, Numbers, Open, knows, all_forwarded}
+use Rattle.kit_behaviour.specs.Facts.{FunctionFacts, Knows, Lacks, Numbers, Open, knows, all_forwarded}
 use Rattle.kit_behaviour.specs.Machine.{AllEdges, Edge, Select, Plain, chosen, Op, Const, Calc, Emit, Call, Branch}
 use Rattle.kit_behaviour.specs.Machine.{Return, Block, Fun, left_in, arguments_in}
 use Rattle.kit_behaviour.specs.SimplifiedNames.{IsConstantIn, AreConstants, SimplifiesNamed}
@@ -12,9 +12,9 @@ use Rattle.kit_behaviour.specs.Renaming.{rename_block, AllNamed, EdgeNamed, OpNa
 use Rattle.kit_behaviour.specs.Rules.{operands, Rules}
 use Rattle.kit_behaviour.specs.Scopes.{In, AllIn, defs, all_defs, entry_values, at_start, OpsWith}
 use Rattle.kit_behaviour.specs.Places.{Place, Arg, Res, same_place}
-use Rattle.kit_behaviour.specs.Numbering.{place_of, place_fun, HasPlace, AnyBlock, IsDefined}
+use Rattle.kit_behaviour.specs.Numbering.{place_of, place_fun, HasPlace, AnyBlock, NamesAreDefined}
 use Rattle.kit_behaviour.specs.SimplifiedBlocks.{const_fact, const_value, constants, all_edges, LeadsTo, Reached, first}
-use Rattle.kit_behaviour.specs.SimplifiedBlocks.{further, IsReached, between, keep, branched, IsMerged, Simplifies}
+use Rattle.kit_behaviour.specs.SimplifiedBlocks.{further, IsReachedSet, between, keep, branched, IsMerged, SimplifiesFunction}
 use Rattle.kit_behaviour.proofs.Behaviour.EdgeLemmas.{taken_has, taken_map, map_append}
 use Rattle.kit_behaviour.proofs.Behaviour.FrameLemmas.{IsSameness}
 use Rattle.kit_behaviour.proofs.Lattice.DecisionBehaviour.{decide_left, decide_takes}
@@ -99,7 +99,7 @@ module _ {V : Type 0} (N : V → Type 0) where
   all_defs_named (op ∷ ops) h = both_named (defs op) (all_defs ops) (defs_named N op h.0) (all_defs_named ops h.1)
 
   -- branches that are decided name no others
-  module _ (k : Facts V) where
+  module _ (k : FunctionFacts V) where
     single_named : (s : Select) (xs : List V) (e : Edge V) (es : List (Edge V)) → AllNamed N xs →
         AllEdges (EdgeNamed N AnyBlock) (e ∷ es) → OpNamed N AnyBlock (single s xs e es)
     single_named s xs e [] a h = (tt, h)
@@ -131,7 +131,7 @@ module _ {V : Type 0} (N : V → Type 0) where
 
 -- 3. branches decided
 
-module _ {V : Type 0} (same : V → V → Bool) (law : IsSameness same) (f : Fun V) (defined : IsDefined same (Some f))
+module _ {V : Type 0} (same : V → V → Bool) (law : IsSameness same) (f : Fun V) (defined : NamesAreDefined same (Some f))
     (rules : Rules (place_fun same (Some f))) where
   abbrev F : Option (Fun V)
   F = Some f
@@ -205,7 +205,7 @@ module _ {V : Type 0} (same : V → V → Bool) (law : IsSameness same) (f : Fun
       (subst (λ l. OpsWith (λ a op. AllIn (operands op) a) l (map (ren r) (left_in F b 0))) (start_ren b)
       (subst (OpsWith (λ a op. AllIn (operands op) a) (at_start P b)) (place_left same law F b) (rules.sees b)))
 
-  module _ (k : Facts V) (are : AreConstants F k) where
+  module _ (k : FunctionFacts V) (are : AreConstants F k) where
     record ConstAt (x : V) (n : ℕ) : Type 0 where
       b : ℕ
       o : ℕ
@@ -299,10 +299,10 @@ module _ {V : Type 0} (same : V → V → Bool) (law : IsSameness same) (f : Fun
     branched_is : branched P ≡ Some (map (rename_block r) G)
     branched_is = ap Some (blocks_decided f defined.ops)
 
-    module _ (reach : ℕ → Bool) (is : IsReached (Some G) reach) where
-      pub reached_by_place : IsReached (branched P) reach
+    module _ (reach : ℕ → Bool) (is : IsReachedSet (Some G) reach) where
+      pub reached_by_place : IsReachedSet (branched P) reach
       reached_by_place =
-          subst (λ z. IsReached z reach) (sym branched_is)
+          subst (λ z. IsReachedSet z reach) (sym branched_is)
           (record { sound = λ b e. reached_there r G b (is.sound b e); full = λ b m. is.full b (reached_back r G b m) })
 
       abbrev pub Q : Option (Fun V)
@@ -327,7 +327,7 @@ module _ {V : Type 0} (same : V → V → Bool) (law : IsSameness same) (f : Fun
           (subst (OpsWith (λ a op. AllIn (operands op) a) (at_start F b)) (sym (decide_left k F b 0))
           (ops_see k (at_start F b) (left_in F b 0) (sees_names b)))
 
-      pub defined_left : IsDefined same Q
+      pub defined_left : NamesAreDefined same Q
       defined_left = sees_defined same law Q (keep_sees reach (Some G) (is.full 0 (first 0 refl)) stays
           (λ b e. sees_left b))
 
@@ -336,7 +336,7 @@ module _ {V : Type 0} (same : V → V → Bool) (law : IsSameness same) (f : Fun
           (decide_rules (constants P) P rules))
 
 pub simplifies_by_place : {V : Type 0} (same : V → V → Bool) → IsSameness same → (f g : Option (Fun V)) →
-    IsDefined same f → Rules (place_fun same f) → SimplifiesNamed f g → Simplifies (place_fun same f) (place_fun same g)
+    NamesAreDefined same f → Rules (place_fun same f) → SimplifiesNamed f g → SimplifiesFunction (place_fun same f) (place_fun same g)
 simplifies_by_place {V} same law None g defined rules m = record {
   reach = m.reach;
   reached = record { sound = λ b e. there b (m.reached.sound b e); full = λ b x. m.reached.full b (back b x) };

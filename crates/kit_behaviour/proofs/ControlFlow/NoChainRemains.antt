@@ -12,7 +12,7 @@ use Rattle.kit_behaviour.specs.Replacement.{replace_edge, replace_op, replace}
 use Rattle.kit_behaviour.specs.Rules.{is_terminator, EndsWell, Rules}
 use Rattle.kit_behaviour.specs.Numbering.{place_fun}
 use Rattle.kit_behaviour.specs.Places.{Place, same_place}
-use Rattle.kit_behaviour.specs.SimplifiedBlocks.{constants, edges_of, all_edges, LeadsTo, Reached, between, retarget_edge, retarget, keep, lone, last_edge, count_to, blocks_edges, edges_in, Joinable, IsTaken, Depth, top, below, join_fun, branched}
+use Rattle.kit_behaviour.specs.SimplifiedBlocks.{constants, edges_of, all_edges, LeadsTo, Reached, between, retarget_edge, retarget, keep, lone, last_edge, count_to, blocks_edges, edges_in, BlocksAreJoinable, IsJoinedSet, Depth, top, below, join_fun, branched}
 use Rattle.kit_behaviour.proofs.ControlFlow.PlacesJoined.{forward, Follows, taken_arg, replaced_args, Simplifies}
 use Rattle.kit_behaviour.proofs.Numbering.PlaceEquality.{place_law}
 use Rattle.kit_behaviour.proofs.Numbering.NumberingBehaviour.{place_name, place_left}
@@ -122,7 +122,7 @@ lone_renamed r (Emit x) e h = absurd (cc h)
 lone_renamed r (Call vs c xs) e h = absurd (cc h)
 lone_renamed r (Return xs) e h = absurd (cc h)
 
-module _ (f : Option (Fun Place)) (rules : Rules f) (j : ℕ → Bool) (taken : IsTaken f j) (s : Place → Place) (fol : (v : Place) → Follows (forward j f) v (s v)) (lives : (b : ℕ) → (arguments_in f b ≡ []) ⊎ Reached f b) (k : ℕ) (long : (b n : ℕ) → Depth f j b n → n ≤ k) (all : (b : ℕ) → b < size f → Reached f b) where
+module _ (f : Option (Fun Place)) (rules : Rules f) (j : ℕ → Bool) (taken : IsJoinedSet f j) (s : Place → Place) (fol : (v : Place) → Follows (forward j f) v (s v)) (lives : (b : ℕ) → (arguments_in f b ≡ []) ⊎ Reached f b) (k : ℕ) (long : (b n : ℕ) → Depth f j b n → n ≤ k) (all : (b : ℕ) → b < size f → Reached f b) where
   abbrev f1 : Option (Fun Place)
   f1 = replace s f
 
@@ -179,7 +179,7 @@ module _ (f : Option (Fun Place)) (rules : Rules f) (j : ℕ → Bool) (taken : 
 
   -- blocks of one chain
 
-  next_one : (c x y : ℕ) → Joinable f c x → Joinable f c y → x ≡ y
+  next_one : (c x y : ℕ) → BlocksAreJoinable f c x → BlocksAreJoinable f c y → x ≡ y
   next_one c x y h g =
       let p : Some h.edge ≡ Some g.edge = sym h.last ∙ g.last in
       let e : h.edge ≡ g.edge = cc p in
@@ -190,18 +190,18 @@ module _ (f : Option (Fun Place)) (rules : Rules f) (j : ℕ → Bool) (taken : 
   same_depth b n (top u1 n1 h1 z1) c m (below p t i m1 h2 z2 d2) q e = absurd (omega (arith, q, z1, z2))
   same_depth b n (below p t i n1 h1 z1 d1) c m (top u2 m1 h2 z2) q e = absurd (omega (arith, q, z1, z2))
   same_depth b n (below p t i n1 h1 z1 d1) c m (below p2 t2 i2 m1 h2 z2 d2) q e =
-      let r = same_depth p i d1 p2 i2 d2 (omega (arith, q, z1, z2)) e in next_one p2 t t2 (subst (λ x. Joinable f x t) r h1) h2
+      let r = same_depth p i d1 p2 i2 d2 (omega (arith, q, z1, z2)) e in next_one p2 t t2 (subst (λ x. BlocksAreJoinable f x t) r h1) h2
 
   -- of two blocks of a chain the upper one has a next
-  upper_next : (c m : ℕ) (e : Depth f j c m) (b n : ℕ) (d : Depth f j b n) → n ≤ m → first_of b n d ≡ first_of c m e → (b ≡ c) ⊎ ((x : ℕ) × Joinable f b x)
+  upper_next : (c m : ℕ) (e : Depth f j c m) (b n : ℕ) (d : Depth f j b n) → n ≤ m → first_of b n d ≡ first_of c m e → (b ≡ c) ⊎ ((x : ℕ) × BlocksAreJoinable f b x)
   upper_next c m (top u m1 h z) b n d le e = inl (same_depth b n d u m1 (top u m1 h z) (omega (arith, le, z)) e)
   upper_next c m (below p t i m1 h z w) b n d le e =
       ⊎_elim
-      (λ l. ⊎_elim (λ y. inr (t, subst (λ x. Joinable f x t) (sym y) h)) (λ y. inr y) (upper_next p i w b n d l e))
+      (λ l. ⊎_elim (λ y. inr (t, subst (λ x. BlocksAreJoinable f x t) (sym y) h)) (λ y. inr y) (upper_next p i w b n d l e))
       (λ y. inl (same_depth b n d t m1 (below p t i m1 h z w) (y ∙ sym z) e))
       (le_or n i (omega (arith, le, z)))
 
-  free_last : (b t x : ℕ) → j t ≡ false → LeadsTo t (all_edges (left_in f b 0)) → Joinable f b x → ⊥
+  free_last : (b t x : ℕ) → j t ≡ false → LeadsTo t (all_edges (left_in f b 0)) → BlocksAreJoinable f b x → ⊥
   free_last b t x jt l h =
       let e = lone_leads t (left_in f b 0) h.edge (ends b t l) h.last l in
       let bad : true ≡ false = sym (taken.back b x h) ∙ ap j (sym h.target ∙ e) ∙ jt in cc bad
@@ -296,7 +296,7 @@ module _ (f : Option (Fun Place)) (rules : Rules f) (j : ℕ → Bool) (taken : 
   stays_at P (x ∷ es) e a i = ⊎_elim (λ y. subst P (sym y) a.0) (λ r. stays_at P es e a.1 r) i
 
   -- the two blocks would have been joined
-  pub no_chain : size f3 ≡ size f → (b t : ℕ) → Joinable q b t → ⊥
+  pub no_chain : size f3 ≡ size f → (b t : ℕ) → BlocksAreJoinable q b t → ⊥
   no_chain sz b t h =
       let lq = joinable_leads q b t h in
       let rq = leads_range t q b lq in
@@ -330,7 +330,7 @@ module _ (f : Option (Fun Place)) (rules : Rules f) (j : ℕ → Bool) (taken : 
       (leads_or T (all_edges (left_in f b2 0))))
       (λ b2 c2 x y. only b2 x ∙ sym (only c2 y)) in
       let some : 1 ≤ count_to T (edges_in f) = some_count T c.block lc in
-      let g : Joinable f c.block T =
+      let g : BlocksAreJoinable f c.block T =
       record {
         edge = c.edge;
         last = c.last;
@@ -349,9 +349,9 @@ module _ (f : Option (Fun Place)) (rules : Rules f) (j : ℕ → Bool) (taken : 
       first_same c n (below p u i m a z d) e = let bad : true ≡ false = sym (taken.back p u a) ∙ e in absurd (cc bad)
 
 -- what the pass leaves has no chain of two
-pub simplified_joined : (f g : Option (Fun Place)) → Rules f → Simplifies f g → (b t : ℕ) → Joinable g b t → ⊥
+pub simplified_joined : (f g : Option (Fun Place)) → Rules f → Simplifies f g → (b t : ℕ) → BlocksAreJoinable g b t → ⊥
 simplified_joined f g rules is b t h =
     let m = is.merges in
     let g2 = place_fun same_place (keep is.reach (branched f)) in
     let r2 = kept_rules (branched f) is.reach is.reached (decide_rules (constants f) f rules) in
-    no_chain g2 r2 m.taken m.is_taken m.names m.follows (kept_lives (branched f) is.reach is.reached) m.most m.long (kept_reached (branched f) is.reach is.reached) (three_size m.taken m.names m.most g2) b t (subst (λ x. Joinable x b t) m.is h)
+    no_chain g2 r2 m.taken m.is_taken m.names m.follows (kept_lives (branched f) is.reach is.reached) m.most m.long (kept_reached (branched f) is.reach is.reached) (three_size m.taken m.names m.most g2) b t (subst (λ x. BlocksAreJoinable x b t) m.is h)

@@ -2,12 +2,12 @@
 -- is then told by its name alone.
 use Rattle.std.specs.Prelude.{◌≡◌, ◌≤◌, ℕ, Bool, false, not, List, Option, Some, None, if◌then◌else◌, slice_get}
 use Rattle.std.specs.Prelude.{unwrap_or}
-use Rattle.kit_behaviour.specs.Machine.{Fun, Program}
+use Rattle.kit_behaviour.specs.Machine.{Fun, FunctionsByPath}
 use Rattle.kit_behaviour.specs.Numbering.{place_fun}
 use Rattle.kit_behaviour.specs.Places.{Place, Arg, Res, same_place}
 use Rattle.kit_behaviour.specs.RemovedValues.{thin}
 use Rattle.kit_behaviour.specs.Replacement.{replace}
-use Rattle.kit_behaviour.specs.SimplifiedBlocks.{IsReached, keep, edges_in, IsTaken, Depth, forwarded_to, join_fun}
+use Rattle.kit_behaviour.specs.SimplifiedBlocks.{IsReachedSet, keep, edges_in, IsJoinedSet, Depth, forwarded_to, join_fun}
 use Rattle.kit_behaviour.specs.SimplifiedBlocks.{branched}
 
 -- what an argument of a chain's later block stands for: what the one edge to that block forwards to it; of any other
@@ -40,7 +40,7 @@ pub record IsMerged (f g : Option (Fun Place)) : Type 0 where
   pub taken : ℕ → Bool
   pub names : Place → Place
   pub most : ℕ
-  pub is_taken : IsTaken f taken
+  pub is_taken : IsJoinedSet f taken
   pub follows : (v : Place) → Follows (forward taken f) v (names v)
   pub long : (b n : ℕ) → Depth f taken b n → n ≤ most
   pub is : g ≡ place_fun same_place (merged taken names most f)
@@ -48,9 +48,9 @@ pub record IsMerged (f g : Option (Fun Place)) : Type 0 where
 -- g is what the pass makes of f
 pub record Simplifies (f g : Option (Fun Place)) : Type 0 where
   pub reach : ℕ → Bool
-  pub reached : IsReached (branched f) reach
+  pub reached : IsReachedSet (branched f) reach
   pub merges : IsMerged (place_fun same_place (keep reach (branched f))) g
 
 -- q is what the pass makes of p, function by function
-pub record IsSimplify (p q : Program Place) : Type 0 where
+pub record IsSimplify (p q : FunctionsByPath Place) : Type 0 where
   pub each : (path : List ℕ) → Simplifies (p path) (q path)

@@ -9,9 +9,9 @@ use Rattle.kit_behaviour.specs.Scopes.{In, AllIn, defs, all_defs, entry_values, 
 use Rattle.kit_behaviour.specs.Replacement.{replace_edge, replace_op, replace}
 use Rattle.kit_behaviour.specs.Facts.{all_forwarded}
 use Rattle.kit_behaviour.specs.Rules.{operands, is_terminator, EndsWell, Rules}
-use Rattle.kit_behaviour.specs.Numbering.{HasPlace, AnyBlock, IsDefined}
+use Rattle.kit_behaviour.specs.Numbering.{HasPlace, AnyBlock, NamesAreDefined}
 use Rattle.kit_behaviour.specs.Places.{Place, Arg}
-use Rattle.kit_behaviour.specs.SimplifiedBlocks.{all_edges, Reached, edges_in, IsTaken, Depth, join_fun}
+use Rattle.kit_behaviour.specs.SimplifiedBlocks.{all_edges, Reached, edges_in, IsJoinedSet, Depth, join_fun}
 use Rattle.kit_behaviour.proofs.ControlFlow.PlacesJoined.{forward, Follows, taken_arg, replaced_args}
 use Rattle.kit_behaviour.proofs.Behaviour.SizeLemmas.{some_end}
 use Rattle.kit_behaviour.proofs.Behaviour.FrameLemmas.{IsSameness}
@@ -47,14 +47,14 @@ module _ {V : Type 0} (same : V → V → Bool) (law : IsSameness same) (f : Opt
       let more : Has same law f (defs op ++ a) = λ x i. ⊎_elim (λ l. own x l) (λ r. h x r) (in_split x (defs op) a i) in
       (op_named a op h own s.0, ops_named (defs op ++ a) ops more (λ x i. d x (in_append x (defs op) (all_defs ops) (inr i))) s.1)
 
-  pub sees_defined : BlocksWith f (λ a op. AllIn (operands op) a) → IsDefined same f
+  pub sees_defined : BlocksWith f (λ a op. AllIn (operands op) a) → NamesAreDefined same f
   sees_defined s =
       record {
         ops = λ b. ops_named (at_start f b) (left_in f b 0) (start_has same law f b) (λ x i. has_place same law f b x (inr i)) (s b);
         arguments = λ b. these_have same law f (arguments_in f b) (λ x i. has_place same law f b x (inl i));
       }
 
-module _ (f : Option (Fun Place)) (rules : Rules f) (j : ℕ → Bool) (taken : IsTaken f j) (s : Place → Place) (fol : (v : Place) → Follows (forward j f) v (s v)) (lives : (b : ℕ) → (arguments_in f b ≡ []) ⊎ Reached f b) (k : ℕ) (long : (b n : ℕ) → Depth f j b n → n ≤ k) where
+module _ (f : Option (Fun Place)) (rules : Rules f) (j : ℕ → Bool) (taken : IsJoinedSet f j) (s : Place → Place) (fol : (v : Place) → Follows (forward j f) v (s v)) (lives : (b : ℕ) → (arguments_in f b ≡ []) ⊎ Reached f b) (k : ℕ) (long : (b n : ℕ) → Depth f j b n → n ≤ k) where
   abbrev f1 : Option (Fun Place)
   f1 = replace s f
 

@@ -3,17 +3,17 @@ use Rattle.std.proofs.Common.{◌≡◌, ◌⊎◌, ⊎_elim, inl, inr, ℕ, zer
 use Rattle.std.specs.Prelude.{map, slice_get, if◌then◌else◌, not, nat_eq}
 use Rattle.std.proofs.lemmas.Bool.{eqb-true, eq-eqb}
 use Rattle.kit_behaviour.proofs.Behaviour.SizeLemmas.{length_map}
-use Rattle.kit_behaviour.specs.Machine.{AllEdges, Edge, Op, Const, Calc, Emit, Call, Branch, Return, Block, Fun, Program, ops_left, left_in, arguments_in, Alike, size}
+use Rattle.kit_behaviour.specs.Machine.{AllEdges, Edge, Op, Const, Calc, Emit, Call, Branch, Return, Block, Fun, FunctionsByPath, ops_left, left_in, arguments_in, Alike, size}
 use Rattle.kit_behaviour.specs.Renaming.{rename_edge, rename_op, same_block}
 use Rattle.kit_behaviour.specs.RemovedValues.{thinned}
-use Rattle.kit_behaviour.specs.JoinedBlocks.{join_ops, joined, JoinsTo, Chains, Joins}
+use Rattle.kit_behaviour.specs.JoinedBlocks.{join_ops, joined, JoinsTo, Chains, JoinsBlocksOf}
 use Rattle.kit_behaviour.specs.Scopes.{In, at_start}
 use Rattle.kit_behaviour.specs.Replacement.{replaced}
 use Rattle.kit_behaviour.specs.Rules.{Rules}
 use Rattle.kit_behaviour.specs.DecidedBranches.{decide_block}
 use Rattle.kit_behaviour.specs.Numbering.{place_of, place_block, place_fun, placed}
 use Rattle.kit_behaviour.specs.Places.{Place, same_place}
-use Rattle.kit_behaviour.specs.SimplifiedBlocks.{constants, edges_of, all_edges, LeadsTo, Reached, first, further, IsReached, between, retarget_edge, retarget, retarget_block, keep_blocks, keep, last_edge, IsTaken, Depth, top, below, join_fun, branched}
+use Rattle.kit_behaviour.specs.SimplifiedBlocks.{constants, edges_of, all_edges, LeadsTo, Reached, first, further, IsReachedSet, between, retarget_edge, retarget, retarget_block, keep_blocks, keep, last_edge, IsJoinedSet, Depth, top, below, join_fun, branched}
 use Rattle.kit_behaviour.proofs.ControlFlow.PlacesJoined.{taken_arg, IsMerged, IsSimplify}
 use Rattle.kit_behaviour.proofs.Numbering.PlaceEquality.{place_law}
 use Rattle.kit_behaviour.proofs.Numbering.NumberingBehaviour.{place_name, place_left, place_takes, placed_alike}
@@ -55,26 +55,26 @@ module _ {V : Type 0} (j : ℕ → Bool) where
 
 -- 2. chains
 
-module _ (p q : Program Place) (rules : (path : List ℕ) → Rules (p path)) (is : (path : List ℕ) → IsMerged (p path) (q path)) (lives : (path : List ℕ) (b : ℕ) → (arguments_in (p path) b ≡ []) ⊎ Reached (p path) b) (c : ℕ) (few : (path : List ℕ) (b n : ℕ) → Depth (p path) (is path).taken b n → n ≤ c) where
+module _ (p q : FunctionsByPath Place) (rules : (path : List ℕ) → Rules (p path)) (is : (path : List ℕ) → IsMerged (p path) (q path)) (lives : (path : List ℕ) (b : ℕ) → (arguments_in (p path) b ≡ []) ⊎ Reached (p path) b) (c : ℕ) (few : (path : List ℕ) (b n : ℕ) → Depth (p path) (is path).taken b n → n ≤ c) where
   abbrev names : List ℕ → Place → Place
   names path = (is path).names
 
   abbrev gone : List ℕ → Place → Bool
   gone path = taken_arg (is path).taken
 
-  abbrev p1 : Program Place
+  abbrev p1 : FunctionsByPath Place
   p1 = replaced names p
 
-  abbrev p2 : Program Place
+  abbrev p2 : FunctionsByPath Place
   p2 = thinned gone p1
 
-  abbrev p3 : Program Place
+  abbrev p3 : FunctionsByPath Place
   p3 path = join_fun (is path).taken (is path).most (p2 path)
 
   abbrev stays : List ℕ → ℕ → Bool
   stays path b = not ((is path).taken b)
 
-  abbrev p4 : Program Place
+  abbrev p4 : FunctionsByPath Place
   p4 = kept stays p3
 
   a1 : Alike same_place same_place 1 p p1
@@ -85,7 +85,7 @@ module _ (p q : Program Place) (rules : (path : List ℕ) → Rules (p path)) (i
       thin_alike same_place place_law p1 gone (λ path. args_may_go (p path) (rules path) (is path).taken (is path).is_taken (names path) (is path).follows (lives path) (is path).most (is path).long) 1
       (λ path b. none_goes (p path) (rules path) (is path).taken (is path).is_taken (names path) (is path).follows (lives path) (is path).most (is path).long b)
 
-  joins : (path : List ℕ) → Joins (is path).taken c (p2 path) (p3 path)
+  joins : (path : List ℕ) → JoinsBlocksOf (is path).taken c (p2 path) (p3 path)
   joins path =
       let m = is path in
       let ck = λ (b : ℕ) (e : m.taken b ≡ false). chains_free (p path) (rules path) m.taken m.is_taken m.names m.follows (lives path) m.most m.long b e in
@@ -162,7 +162,7 @@ edges_renamed r (Call rs c xs) = refl
 edges_renamed r (Branch s xs e es) = refl
 edges_renamed r (Return xs) = refl
 
-module _ (f : Option (Fun Place)) (r : ℕ → Bool) (is : IsReached f r) where
+module _ (f : Option (Fun Place)) (r : ℕ → Bool) (is : IsReachedSet f r) where
   abbrev left_over : Option (Fun Place)
   left_over = place_fun same_place (keep r f)
 
@@ -254,7 +254,7 @@ pigeons (suc n) xs h b =
     let r = pigeons n (without n xs) (without_no n xs h) (λ x i. let w = without_in n x xs i in lower x n (b x w.0) w.1) in
     omega (arith, r, without_length n xs h)
 
-module _ {V : Type 0} (f : Option (Fun V)) (j : ℕ → Bool) (taken : IsTaken f j) where
+module _ {V : Type 0} (f : Option (Fun V)) (j : ℕ → Bool) (taken : IsJoinedSet f j) where
   block_range : (ks : List (Block V)) (b : ℕ) (e : Edge V) → last_edge (ops_left (slice_get ks b) 0) ≡ Some e → b < length ks
   block_range [] b e h = absurd (cc h)
   block_range (k ∷ ks) zero e h = omega arith
@@ -308,14 +308,14 @@ size_after (Some f) r =
 
 -- 5. the whole pass
 
-pub simplify_is_alike : (p q : Program Place) (c : ℕ) → ((path : List ℕ) → Rules (p path)) → IsSimplify p q → ((path : List ℕ) → size (p path) ≤ c) → Alike same_place same_place (suc c) p q
+pub simplify_is_alike : (p q : FunctionsByPath Place) (c : ℕ) → ((path : List ℕ) → Rules (p path)) → IsSimplify p q → ((path : List ℕ) → size (p path) ≤ c) → Alike same_place same_place (suc c) p q
 simplify_is_alike p q c rules is few =
     let S = same_place in
     let r1 = λ (path : List ℕ). decide_rules (constants (p path)) (p path) (rules path) in
-    let p1 : Program Place = λ path. branched (p path) in
+    let p1 : FunctionsByPath Place = λ path. branched (p path) in
     let reach = λ (path : List ℕ). (is.each path).reach in
-    let p2 : Program Place = kept reach p1 in
-    let p3 : Program Place = placed S p2 in
+    let p2 : FunctionsByPath Place = kept reach p1 in
+    let p3 : FunctionsByPath Place = placed S p2 in
     let r3 = λ (path : List ℕ). kept_rules (p1 path) (reach path) (is.each path).reached (r1 path) in
     let b1 = branched_alike p rules in
     let b2 = keep_alike S p1 reach (λ path. reach_entry (p1 path) (reach path) (is.each path).reached) (λ path. reach_stays (p1 path) (reach path) (is.each path).reached) in

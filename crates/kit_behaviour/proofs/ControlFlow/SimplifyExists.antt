@@ -6,7 +6,7 @@ use Rattle.kit_behaviour.specs.Machine.{Edge, Op, Fun, left_in, size}
 use Rattle.kit_behaviour.specs.Scopes.{In}
 use Rattle.kit_behaviour.specs.Rules.{Rules}
 use Rattle.kit_behaviour.specs.Places.{Place}
-use Rattle.kit_behaviour.specs.SimplifiedBlocks.{all_edges, LeadsTo, Reached, first, further, IsReached, last_edge, count_to, edges_in, Joinable, IsTaken}
+use Rattle.kit_behaviour.specs.SimplifiedBlocks.{all_edges, LeadsTo, Reached, first, further, IsReachedSet, last_edge, count_to, edges_in, BlocksAreJoinable, IsJoinedSet}
 use Rattle.kit_behaviour.proofs.Behaviour.FiniteLists.{below_other, upto, in_upto}
 use Rattle.kit_behaviour.proofs.Behaviour.SizeLemmas.{has_block}
 use Rattle.kit_behaviour.proofs.Behaviour.Iteration.{after_steps, still_after}
@@ -128,7 +128,7 @@ module _ (f : Option (Fun Place)) (rules : Rules f) where
       held true h = refl
       held false h = h
 
-  pub reached_exists : (r : ℕ → Bool) × IsReached f r
+  pub reached_exists : (r : ℕ → Bool) × IsReachedSet f r
   reached_exists =
       let s = still_after (upto (size f)) step grows within entry_only in
       (at s.0, record { sound = at_sound s.0; full = at_full s.0 s.1 })
@@ -162,7 +162,7 @@ module _ {V : Type 0} (h : Option (Fun V)) where
       by_test true e = absurd (n (eqb-true x y e))
       by_test false e = ap not e
 
-  joins_sound : (t b : ℕ) → joins_test t b ≡ true → Joinable h b t
+  joins_sound : (t b : ℕ) → joins_test t b ≡ true → BlocksAreJoinable h b t
   unfolding joins_test
   joins_sound t b e =
       let l = and_first (last_to (last_edge (left_in h b 0)) t && not (nat_eq t 0)) (not (nat_eq b t) && nat_eq (count_to t (edges_in h)) 1) e in
@@ -177,7 +177,7 @@ module _ {V : Type 0} (h : Option (Fun V)) where
         single = eqb-true (count_to t (edges_in h)) 1 (and_second (not (nat_eq b t)) (nat_eq (count_to t (edges_in h)) 1) r);
       }
 
-  joins_full : (b t : ℕ) → Joinable h b t → joins_test t b ≡ true
+  joins_full : (b t : ℕ) → BlocksAreJoinable h b t → joins_test t b ≡ true
   unfolding joins_test
   joins_full b t q =
       and_true _ _
@@ -188,7 +188,7 @@ module _ {V : Type 0} (h : Option (Fun V)) where
   last_some [] e q = absurd (cc q)
   last_some (op ∷ ops) e q = omega arith
 
-  pub taken_exists : (j : ℕ → Bool) × IsTaken h j
+  pub taken_exists : (j : ℕ → Bool) × IsJoinedSet h j
   taken_exists = (
     λ t. any_below (size h) (joins_test t),
     record {

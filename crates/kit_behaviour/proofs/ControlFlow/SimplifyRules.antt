@@ -2,7 +2,7 @@
 use Rattle.std.proofs.Common.{◌≡◌, ◌⊎◌, ⊎_elim, ℕ, suc, ◌+◌, ◌*◌, ◌≤◌, Bool, true, [], length, Option, Some, None, sym, ap, ◌∙◌, subst, arith}
 use Rattle.std.specs.Prelude.{not}
 use Rattle.std.proofs.Math.Nat.{mul-le-mul_right}
-use Rattle.kit_behaviour.specs.Machine.{Fun, Program, left_in, arguments_in, size}
+use Rattle.kit_behaviour.specs.Machine.{Fun, FunctionsByPath, left_in, arguments_in, size}
 use Rattle.kit_behaviour.specs.RemovedValues.{live}
 use Rattle.kit_behaviour.specs.JoinedBlocks.{joined}
 use Rattle.kit_behaviour.specs.Rules.{Rules}
@@ -138,7 +138,7 @@ module _ (f g : Option (Fun Place)) (rules : Rules f) (is : Simplifies f g) wher
   simplify_fewer = let a = join_fewer kept g kept_rule lives is.merges in omega (arith, a, kept_fewer)
 
 -- so after the pass the program is fit
-pub simplify_fit : (p q : Program Place) → Fit p → IsSimplify p q → Fit q
+pub simplify_fit : (p q : FunctionsByPath Place) → Fit p → IsSimplify p q → Fit q
 simplify_fit p q h is =
     record {
       rules = λ path. simplify_rules (p path) (q path) (h.rules path) (is.each path);

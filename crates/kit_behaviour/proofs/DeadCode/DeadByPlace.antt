@@ -9,7 +9,7 @@ use Rattle.kit_behaviour.specs.Scopes.{In, all_defs, is_in}
 use Rattle.kit_behaviour.specs.RemovedValues.{may_trap}
 use Rattle.kit_behaviour.specs.DeadValues.{forwards_dead, edges_dead, use_dead, ops_use_dead, blocks_use_dead}
 use Rattle.kit_behaviour.specs.DeadValues.{all_uses_dead, pure_results, candidates, may_die, HoldsDead}
-use Rattle.kit_behaviour.specs.Numbering.{place_block, place_fun, HasPlace, AnyBlock, IsDefined}
+use Rattle.kit_behaviour.specs.Numbering.{place_block, place_fun, HasPlace, AnyBlock, NamesAreDefined}
 use Rattle.kit_behaviour.specs.Places.{Place, same_place}
 use Rattle.kit_behaviour.proofs.Behaviour.EdgeLemmas.{map_append}
 use Rattle.kit_behaviour.proofs.Behaviour.FiniteLists.{is_in_in}
@@ -59,7 +59,7 @@ module _ {V : Type 0} (same : V → V → Bool) (law : IsSameness same) where
       (in_split w (pure_results k.ops) (candidates ks) r))
       (in_split w k.arguments (pure_results k.ops ++ candidates ks) i)
 
-  module _ (g : Fun V) (defined : IsDefined same (Some g)) where
+  module _ (g : Fun V) (defined : NamesAreDefined same (Some g)) where
     abbrev r : V → Place
     r = place_name same law (Some g)
 

@@ -1,10 +1,10 @@
 -- Each function has a least set of dead values.
 use Rattle.std.proofs.Common.{◌≡◌, ℕ, zero, suc, Bool, true, false, List, [], Option, Some, None, refl, sym, ap, ◌∙◌}
 use Rattle.std.specs.Prelude.{if◌then◌else◌, not, ◌&&◌}
-use Rattle.kit_behaviour.specs.Machine.{Fun, Program, arguments_in}
+use Rattle.kit_behaviour.specs.Machine.{Fun, FunctionsByPath, arguments_in}
 use Rattle.kit_behaviour.specs.Scopes.{In, is_in}
 use Rattle.kit_behaviour.specs.RemovedValues.{thinned}
-use Rattle.kit_behaviour.specs.DeadValues.{candidates, may_die, all_uses_dead, HoldsDead, IsDead, IsDce}
+use Rattle.kit_behaviour.specs.DeadValues.{candidates, may_die, all_uses_dead, HoldsDead, IsDeadSet, IsDceOfFunctions}
 use Rattle.kit_behaviour.specs.Numbering.{placed}
 use Rattle.kit_behaviour.specs.Places.{Place, same_place}
 use Rattle.kit_behaviour.proofs.Behaviour.FiniteLists.{is_in_in}
@@ -62,12 +62,12 @@ module _ {V : Type 0} (same : V → V → Bool) (law : IsSameness same) where
         by_test true h = refl
         by_test false h = h
 
-    pub dead_exists : (d : V → Bool) × IsDead same f d
+    pub dead_exists : (d : V → Bool) × IsDeadSet same f d
     dead_exists =
         let s = still_after (may_be f) step grows within none in
         (at s.0, record { holds = λ v h. s.1 v (held (at s.0) v h); least = λ e h v g. found e h s.0 v g })
 
-pub dce_exists : (p : Program Place) → (q : Program Place) × IsDce p q
+pub dce_exists : (p : FunctionsByPath Place) → (q : FunctionsByPath Place) × IsDceOfFunctions p q
 dce_exists p =
     let d = λ (path : List ℕ). dead_exists same_place place_law (p path) in
     (placed same_place (thinned (λ path. (d path).0) p), record { set = λ path. (d path).0; dead = λ path. (d path).1; is = λ path. refl })

@@ -2,8 +2,8 @@
 use Rattle.std.proofs.Common.{◌≡◌, ℕ, zero, suc, Bool, true, false, List, [], ◌∷◌, Option, Some, None, refl, sym, ap, ◌∙◌}
 use Rattle.std.specs.Prelude.{if◌then◌else◌, not, ◌&&◌, slice_get}
 use Rattle.kit_behaviour.specs.Machine.{AllEdges, Edge, Op, Const, Calc, Emit, Call, Branch, Return, Block, Fun, ops_left, left_in, arguments_in}
-use Rattle.kit_behaviour.specs.RemovedValues.{EdgeLive, may_trap, goes, AllLive, GivesLive, OpLive, OpsLive, MayGo}
-use Rattle.kit_behaviour.specs.DeadValues.{edges_dead, forwards_dead, use_dead, ops_use_dead, blocks_use_dead, all_uses_dead, may_die, HoldsDead, IsDead}
+use Rattle.kit_behaviour.specs.RemovedValues.{EdgeLive, may_trap, goes, AllLive, GivesLive, OpLive, OpsLive, SetMayGo}
+use Rattle.kit_behaviour.specs.DeadValues.{edges_dead, forwards_dead, use_dead, ops_use_dead, blocks_use_dead, all_uses_dead, may_die, HoldsDead, IsDeadSet}
 use Rattle.kit_behaviour.specs.Scopes.{is_in}
 use Rattle.kit_behaviour.proofs.Behaviour.FrameLemmas.{IsSameness}
 use Rattle.kit_behaviour.proofs.Propagation.FactsAfterwards.{and_true, and_first, and_second}
@@ -55,7 +55,7 @@ all_more same None d e w v h = refl
 all_more same (Some f) d e w v h = blocks_more same (Some f) d e w v f h
 
 -- a member of the least set may be dead, and all its uses are: else the others would do
-pub member_dies : {V : Type 0} (same : V → V → Bool) (f : Option (Fun V)) (d : V → Bool) → IsDead same f d → (v : V) → d v ≡ true → may_die same f v && all_uses_dead same f d v ≡ true
+pub member_dies : {V : Type 0} (same : V → V → Bool) (f : Option (Fun V)) (d : V → Bool) → IsDeadSet same f d → (v : V) → d v ≡ true → may_die same f v && all_uses_dead same f d v ≡ true
 member_dies {V} same f d dead = dead.least (λ v. may_die same f v && all_uses_dead same f d v) holds
   where
     holds : HoldsDead same f (λ v. may_die same f v && all_uses_dead same f d v)
@@ -145,7 +145,7 @@ entry_stays : {V : Type 0} (same : V → V → Bool) (f : Option (Fun V)) (v : V
 entry_stays same None v h = absurd (cc h)
 entry_stays same (Some f) v h = and_first (not (is_in same v (arguments_in (Some f) 0))) _ h
 
-pub dead_may_go : {V : Type 0} (same : V → V → Bool) → IsSameness same → (f : Option (Fun V)) (d : V → Bool) → IsDead same f d → MayGo d f
+pub dead_may_go : {V : Type 0} (same : V → V → Bool) → IsSameness same → (f : Option (Fun V)) (d : V → Bool) → IsDeadSet same f d → SetMayGo d f
 dead_may_go same law f d dead =
     record {
       entry = all_live same law f d (arguments_in f 0) (λ x i m. not_both same law f d (is_in same x (arguments_in f 0)) (entry_stays same f x (and_first (may_die same f x) (all_uses_dead same f d x) (member_dies same f d dead x m))) i);

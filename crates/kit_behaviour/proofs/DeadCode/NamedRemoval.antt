@@ -5,10 +5,10 @@ use Rattle.kit_behaviour.specs.Machine.{Block, Fun}
 use Rattle.kit_behaviour.specs.RemovedValues.{thin_block, thin}
 use Rattle.kit_behaviour.specs.Renaming.{rename_block}
 use Rattle.kit_behaviour.specs.Rules.{Rules}
-use Rattle.kit_behaviour.specs.DeadValues.{HoldsDead, IsDead, Removes}
+use Rattle.kit_behaviour.specs.DeadValues.{HoldsDead, IsDeadSet, RemovesDeadValues}
 use Rattle.kit_behaviour.specs.NamedPasses.{RemovesNamed}
 use Rattle.kit_behaviour.specs.Places.{Place, same_place}
-use Rattle.kit_behaviour.specs.Numbering.{place_of, place_fun, HasPlace, IsDefined}
+use Rattle.kit_behaviour.specs.Numbering.{place_of, place_fun, HasPlace, NamesAreDefined}
 use Rattle.kit_behaviour.proofs.Behaviour.FrameLemmas.{IsSameness}
 use Rattle.kit_behaviour.proofs.Numbering.DefinedNames.{scoped_defined}
 use Rattle.kit_behaviour.proofs.Numbering.DefinedUnderNames.{defined_back}
@@ -22,8 +22,8 @@ use Rattle.kit_behaviour.proofs.DeadCode.DeadByPlace.{holds_there, holds_back}
 use Rattle.kit_behaviour.proofs.DeadCode.DeadMayGo.{dead_may_go}
 use Rattle.kit_behaviour.proofs.DeadCode.RemovalScopes.{thin_scoped}
 
-module _ {V : Type 0} (same : V → V → Bool) (law : IsSameness same) (f : Fun V) (defined : IsDefined same (Some f))
-    (rules : Rules (place_fun same (Some f))) (dead : V → Bool) (is : IsDead same (Some f) dead) where
+module _ {V : Type 0} (same : V → V → Bool) (law : IsSameness same) (f : Fun V) (defined : NamesAreDefined same (Some f))
+    (rules : Rules (place_fun same (Some f))) (dead : V → Bool) (is : IsDeadSet same (Some f) dead) where
   abbrev F : Option (Fun V)
   F = Some f
 
@@ -57,7 +57,7 @@ module _ {V : Type 0} (same : V → V → Bool) (law : IsSameness same) (f : Fun
           ap e (sym (home same law f defined rules a x q))
           ∙ is.least (λ v. e (r v)) (holds_back same law f defined (λ v. e (r v)) e (λ v h. refl) holds) x d
 
-  set_dead : IsDead same_place P set
+  set_dead : IsDeadSet same_place P set
   set_dead = record {
     holds = holds_there same law f defined dead set set_same is.holds;
     least = found;
@@ -77,34 +77,34 @@ module _ {V : Type 0} (same : V → V → Bool) (law : IsSameness same) (f : Fun
   stay_apart : (x y : V) → H x → H y → same_place (r x) (r y) ≡ same x y
   stay_apart x y a b = apart same law F x y a b
 
-  pub removes : Removes P (place_fun same (Some G))
+  pub removes : RemovesDeadValues P (place_fun same (Some G))
   removes = record {
     set = set;
     dead = set_dead;
     is = sym (ap (place_fun same_place) thinned_is ∙ placed_on same same_place r H stay_apart (Some G) left_named);
   }
 
-  pub defined_left : IsDefined same (Some G)
+  pub defined_left : NamesAreDefined same (Some G)
   defined_left =
       defined_back same same_place r H stay_apart G left_named
-      (subst (IsDefined same_place) thinned_is
+      (subst (NamesAreDefined same_place) thinned_is
       (scoped_defined same_place place_law (thin set P)
       (thin_scoped P set (dead_may_go same_place place_law P set set_dead) rules.terminated rules.sees rules.fits)))
 
 module _ {V : Type 0} (same : V → V → Bool) (law : IsSameness same) where
-  pub removes_by_place : (f g : Option (Fun V)) → IsDefined same f → Rules (place_fun same f) →
-      RemovesNamed same f g → Removes (place_fun same f) (place_fun same g)
+  pub removes_by_place : (f g : Option (Fun V)) → NamesAreDefined same f → Rules (place_fun same f) →
+      RemovesNamed same f g → RemovesDeadValues (place_fun same f) (place_fun same g)
   removes_by_place None g defined rules m = record {
     set = λ a. false;
     dead = record { holds = λ a h. absurd (cc h); least = λ e h a s. absurd (cc s) };
     is = ap (place_fun same) m.is;
   }
   removes_by_place (Some f) g defined rules m =
-      subst (λ z. Removes (place_fun same (Some f)) (place_fun same z)) (sym m.is)
+      subst (λ z. RemovesDeadValues (place_fun same (Some f)) (place_fun same z)) (sym m.is)
       (removes same law f defined rules m.set m.dead)
 
-  pub removal_defines : (f g : Option (Fun V)) → IsDefined same f → Rules (place_fun same f) →
-      RemovesNamed same f g → IsDefined same g
-  removal_defines None g defined rules m = subst (IsDefined same) (sym m.is) defined
+  pub removal_defines : (f g : Option (Fun V)) → NamesAreDefined same f → Rules (place_fun same f) →
+      RemovesNamed same f g → NamesAreDefined same g
+  removal_defines None g defined rules m = subst (NamesAreDefined same) (sym m.is) defined
   removal_defines (Some f) g defined rules m =
-      subst (IsDefined same) (sym m.is) (defined_left same law f defined rules m.set m.dead)
+      subst (NamesAreDefined same) (sym m.is) (defined_left same law f defined rules m.set m.dead)

@@ -3,7 +3,7 @@ use Rattle.std.proofs.Common.{◌≡◌, ◌⊎◌, ⊎_elim, inl, inr, Bool, tr
 use Rattle.std.specs.Prelude.{if◌then◌else◌, not, map}
 use Rattle.kit_behaviour.specs.Machine.{Edge, Op, Const, Calc, Emit, Call, Branch, Return, Block, Fun, arguments_in}
 use Rattle.kit_behaviour.specs.RemovedValues.{thin_edge, may_trap, goes, live, pick, thin_op, thin_ops, thin_block, thin}
-use Rattle.kit_behaviour.specs.DeadValues.{edges_dead, forwards_dead, use_dead, ops_use_dead, blocks_use_dead, all_uses_dead, pure_results, candidates, may_die, HoldsDead, IsDead}
+use Rattle.kit_behaviour.specs.DeadValues.{edges_dead, forwards_dead, use_dead, ops_use_dead, blocks_use_dead, all_uses_dead, pure_results, candidates, may_die, HoldsDead, IsDeadSet}
 use Rattle.kit_behaviour.specs.Scopes.{is_in}
 use Rattle.kit_behaviour.proofs.Behaviour.FrameLemmas.{IsSameness}
 use Rattle.kit_behaviour.proofs.DeadCode.RemovalBehaviour.{thin_takes}
@@ -187,7 +187,7 @@ not_swap a true f h = let x : false ≡ true = sym (ap not (f refl)) ∙ h in ab
 not_swap a false f h = refl
 
 -- the empty set holds what it must, so the least set is empty
-pub none_dead : {V : Type 0} (same : V → V → Bool) → IsSameness same → (f : Option (Fun V)) (d : V → Bool) → IsDead same f d → HoldsDead same (thin d f) (λ v. false)
+pub none_dead : {V : Type 0} (same : V → V → Bool) → IsSameness same → (f : Option (Fun V)) (d : V → Bool) → IsDeadSet same f d → HoldsDead same (thin d f) (λ v. false)
 none_dead same law None d dead v h = absurd (cc h)
 none_dead same law (Some f) d dead v h =
     let g = Some (map (thin_block (Some f) d) f) in

@@ -3,8 +3,8 @@ use Rattle.std.proofs.Common.{◌≡◌, ℕ, zero, suc, ◌≤◌, ◌+◌, ◌
 use Rattle.std.specs.Prelude.{map, slice_get, drop, if◌then◌else◌, nat_eq, nat_lt, nat_le}
 use Rattle.std.proofs.lemmas.Option.{slice_get-map}
 use Rattle.std.specs.Prelude.{option_map}
-use Rattle.kit_behaviour.specs.Machine.{AllEdges, edge_at, chosen, Arith, bit, Add, Sub, Mul, Div, Eql, Neq, Ult, Ule, Edge, Op, Const, Calc, Emit, Call, Branch, Return, Block, Fun, Frame, Effect, Next, Program, Env, bind, bind_all, calc, next, go, with_result, effect, act, entry, results_of, ops_left, left_in, arguments_of, arguments_in, Alike}
-use Rattle.kit_behaviour.specs.RemovedValues.{EdgeLive, may_trap, goes, live, pick, thin_edge, thin_op, thin_ops, thin_block, thin, thinned, AllLive, GivesLive, OpLive, OpsLive, MayGo, going, FewGo}
+use Rattle.kit_behaviour.specs.Machine.{AllEdges, edge_at, chosen, Arith, bit, Add, Sub, Mul, Div, Eql, Neq, Ult, Ule, Edge, Op, Const, Calc, Emit, Call, Branch, Return, Block, Fun, Frame, Effect, Next, FunctionsByPath, Env, bind, bind_all, calc, next, go, with_result, effect, act, entry, results_of, ops_left, left_in, arguments_of, arguments_in, Alike}
+use Rattle.kit_behaviour.specs.RemovedValues.{EdgeLive, may_trap, goes, live, pick, thin_edge, thin_op, thin_ops, thin_block, thin, thinned, AllLive, GivesLive, OpLive, OpsLive, SetMayGo, going, FewGo}
 use Rattle.kit_behaviour.proofs.Behaviour.FrameLemmas.{IsSameness, left_next, fr}
 use Rattle.kit_behaviour.proofs.Behaviour.Simulation.{EffectsAlike, WaitAlike, Meet, alike}
 use Rattle.kit_behaviour.proofs.Behaviour.EdgeLemmas.{taken_has, taken_map}
@@ -112,7 +112,7 @@ module _ {V : Type 0} (same : V → V → Bool) (law : IsSameness same) where
       by_test ih1 ih2 true u = subst (λ b. Agree d (bind_all same (bind same e t (e0 g)) ts (map e0 gs)) (bind_all same e' (if b then live d ts else t ∷ live d ts) (map e0' (if b then pick d ts gs else g ∷ pick d ts gs)))) (sym u) (ih1 (bind_dead d e e' t (e0 g) ag u) ag0 h.1)
       by_test ih1 ih2 false u = subst (λ b. Agree d (bind_all same (bind same e t (e0 g)) ts (map e0 gs)) (bind_all same e' (if b then live d ts else t ∷ live d ts) (map e0' (if b then pick d ts gs else g ∷ pick d ts gs)))) (sym u) (ih2 (bind_agree d e e' t (e0 g) (e0' g) ag (λ live_t. ag0 g (h.0 u))) ag0 h.1)
 
-  module _ (p : Program V) (d : List ℕ → V → Bool) (may : (path : List ℕ) → MayGo (d path) (p path)) where
+  module _ (p : FunctionsByPath V) (d : List ℕ → V → Bool) (may : (path : List ℕ) → SetMayGo (d path) (p path)) where
     -- at related frames the same blocks are left, but for what goes
     pub record Thinner (f : Frame V) (g : Frame V) : Type 0 where
       pub path : g.path ≡ f.path

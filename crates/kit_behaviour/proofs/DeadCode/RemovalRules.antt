@@ -3,11 +3,11 @@ use Rattle.std.proofs.Common.{◌≡◌, ℕ, zero, suc, ◌≤◌, Bool, true, 
 use Rattle.std.specs.Prelude.{slice_get, option_map, if◌then◌else◌}
 use Rattle.std.proofs.lemmas.Option.{slice_get-map}
 use Rattle.kit_behaviour.proofs.Behaviour.SizeLemmas.{thin_size, length_map, place_size}
-use Rattle.kit_behaviour.specs.Machine.{Op, Block, Fun, Program, ops_left, left_in, arguments_of, arguments_in, size}
+use Rattle.kit_behaviour.specs.Machine.{Op, Block, Fun, FunctionsByPath, ops_left, left_in, arguments_of, arguments_in, size}
 use Rattle.kit_behaviour.specs.Scopes.{AllIn, at_start, OpsWith}
-use Rattle.kit_behaviour.specs.RemovedValues.{goes, live, thin_op, thin_ops, thin_block, thin, MayGo}
+use Rattle.kit_behaviour.specs.RemovedValues.{goes, live, thin_op, thin_ops, thin_block, thin, SetMayGo}
 use Rattle.kit_behaviour.specs.Rules.{operands, EndsWell, AllEdgesFit, Rules}
-use Rattle.kit_behaviour.specs.DeadValues.{IsDce}
+use Rattle.kit_behaviour.specs.DeadValues.{IsDceOfFunctions}
 use Rattle.kit_behaviour.specs.Numbering.{place_fun}
 use Rattle.kit_behaviour.specs.Places.{Place, Arg, Res, same_place}
 use Rattle.kit_behaviour.specs.PassLists.{Fit}
@@ -97,7 +97,7 @@ thin_distinct (Some f) d h v a b ea eb =
     let y = name_kept f d b v eb in
     x.2 ∙ ap (shift (Some f) d) (h v x.0 y.0 x.1 y.1) ∙ sym y.2
 
-pub thin_rules : (f : Option (Fun Place)) (d : Place → Bool) → MayGo d f → Rules f → Rules (place_fun same_place (thin d f))
+pub thin_rules : (f : Option (Fun Place)) (d : Place → Bool) → SetMayGo d f → Rules f → Rules (place_fun same_place (thin d f))
 thin_rules f d may h =
     placed_rules same_place place_law (thin d f) (thin_distinct f d (rules_distinct f h))
     (record {
@@ -115,7 +115,7 @@ live_length d (v ∷ vs) = by_test (d v) (live_length d vs)
     by_test false h = omega (arith, h)
 
 -- so after the pass the program is fit
-pub dce_fit : (p q : Program Place) → Fit p → IsDce p q → Fit q
+pub dce_fit : (p q : FunctionsByPath Place) → Fit p → IsDceOfFunctions p q → Fit q
 dce_fit p q h is =
     record {
       rules = λ path. subst Rules (sym (is.is path)) (thin_rules (p path) (is.set path) (dead_may_go same_place place_law (p path) (is.set path) (is.dead path)) (h.rules path));

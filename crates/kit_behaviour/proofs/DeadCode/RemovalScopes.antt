@@ -1,12 +1,12 @@
 -- Rules outlast the removal, so the pass goes from places to places.
 use Rattle.std.proofs.Common.{◌≡◌, ◌⊎◌, ⊎_elim, inl, inr, ℕ, zero, suc, ◌*◌, ◌<◌, Bool, true, false, List, [], ◌∷◌, ◌++◌, length, Option, refl, sym, ap, ◌∙◌, subst, arith}
 use Rattle.std.specs.Prelude.{map, if◌then◌else◌}
-use Rattle.kit_behaviour.specs.Machine.{AllEdges, Edge, Op, Const, Calc, Emit, Call, Branch, Return, Fun, Program, left_in, arguments_in, size, Alike}
-use Rattle.kit_behaviour.specs.RemovedValues.{EdgeLive, thin_edge, may_trap, goes, live, pick, thin_op, thin_ops, thin, thinned, AllLive, GivesLive, OpLive, OpsLive, MayGo, FewGo}
+use Rattle.kit_behaviour.specs.Machine.{AllEdges, Edge, Op, Const, Calc, Emit, Call, Branch, Return, Fun, FunctionsByPath, left_in, arguments_in, size, Alike}
+use Rattle.kit_behaviour.specs.RemovedValues.{EdgeLive, thin_edge, may_trap, goes, live, pick, thin_op, thin_ops, thin, thinned, AllLive, GivesLive, OpLive, OpsLive, SetMayGo, FewGo}
 use Rattle.kit_behaviour.specs.Scopes.{In, AllIn, defs, all_defs, entry_values, at_start, SameLength, OpScoped, OpsWith, BlocksWith}
 use Rattle.kit_behaviour.specs.Facts.{all_forwarded}
-use Rattle.kit_behaviour.specs.Rules.{EdgeFits, operands, is_terminator, EndsWell, EdgesFit, AllEdgesFit, Rules, BlocksBelow}
-use Rattle.kit_behaviour.specs.DeadValues.{IsDce}
+use Rattle.kit_behaviour.specs.Rules.{EdgeFits, operands, is_terminator, EndsWell, EdgesOfOpFit, AllEdgesFit, Rules, BlocksBelow}
+use Rattle.kit_behaviour.specs.DeadValues.{IsDceOfFunctions}
 use Rattle.kit_behaviour.specs.Numbering.{placed}
 use Rattle.kit_behaviour.specs.Places.{Place, same_place}
 use Rattle.kit_behaviour.proofs.Behaviour.SizeLemmas.{some_end, thin_size}
@@ -77,7 +77,7 @@ module _ {V : Type 0} (f : Option (Fun V)) (d : V → Bool) where
   edges_see a a' (e ∷ es) c s h g =
       all_append (pick d (arguments_in f e.target) e.forwards) (all_forwarded (map (thin_edge f d) es)) a' (pick_in (arguments_in f e.target) e.forwards a a' c (all_front e.forwards (all_forwarded es) a s) h.0 g.0.count) (edges_see a a' es c (all_back e.forwards (all_forwarded es) a s) h.1 g.1)
 
-  op_sees : (a a' : List V) (op : Op V) → Covers a a' → Sees f a op → OpLive f d op → EdgesFit f op → AllIn (operands (thin_op f d op)) a'
+  op_sees : (a a' : List V) (op : Op V) → Covers a a' → Sees f a op → OpLive f d op → EdgesOfOpFit f op → AllIn (operands (thin_op f d op)) a'
   op_sees a a' (Const r n) c s h g = tt
   op_sees a a' (Calc o w r x y) c s h g = (c x s.0 h.0, (c y s.1.0 h.1, tt))
   op_sees a a' (Emit x) c s h g = (c x s.0 h, tt)
@@ -156,7 +156,7 @@ module _ {V : Type 0} (f : Option (Fun V)) (d : V → Bool) where
       by_test true r = r
       by_test false r = before_ends (thin_op f d op) (thin_ops f d (next ∷ ops)) (terminator_thin op ∙ e.0) r
 
-  edge_fits : (op : Op V) → EdgesFit f op → EdgesFit (thin d f) (thin_op f d op)
+  edge_fits : (op : Op V) → EdgesOfOpFit f op → EdgesOfOpFit (thin d f) (thin_op f d op)
   edge_fits (Branch s xs e es) g =
       edges_map (EdgeFits f) (EdgeFits (thin d f)) (thin_edge f d)
       (λ x (h : EdgeFits f x). record {
@@ -197,7 +197,7 @@ module _ {V : Type 0} (f : Option (Fun V)) (d : V → Bool) where
   had_one [] e l = absurd (omega arith)
   had_one (op ∷ ops) e l = ops_end (op ∷ ops) (e (omega arith))
 
-  pub thin_scoped : MayGo d f → ((b : ℕ) → b < size f → EndsWell (left_in f b 0)) → BlocksWith f (Sees f) → ((b : ℕ) → AllEdgesFit f (left_in f b 0)) → BlocksWith (thin d f) (OpScoped (thin d f))
+  pub thin_scoped : SetMayGo d f → ((b : ℕ) → b < size f → EndsWell (left_in f b 0)) → BlocksWith f (Sees f) → ((b : ℕ) → AllEdgesFit f (left_in f b 0)) → BlocksWith (thin d f) (OpScoped (thin d f))
   thin_scoped may ends sees fits b =
       any_scoped (thin d f) (at_start (thin d f) b) (left_in (thin d f) b 0)
       (subst (λ l. 0 < length l → EndsWell l) (sym (thin_left d f b)) (had_one (left_in f b 0) (some_end f ends b)))
@@ -206,7 +206,7 @@ module _ {V : Type 0} (f : Option (Fun V)) (d : V → Bool) where
       (start_coming (thin d f) b)
 
 -- the whole pass
-pub dce_is_alike : (p q : Program Place) (c : ℕ) → ((path : List ℕ) → Rules (p path)) → IsDce p q → BlocksBelow c p → Alike same_place same_place c p q
+pub dce_is_alike : (p q : FunctionsByPath Place) (c : ℕ) → ((path : List ℕ) → Rules (p path)) → IsDceOfFunctions p q → BlocksBelow c p → Alike same_place same_place c p q
 dce_is_alike p q c rules is below =
     let may = λ (path : List ℕ). dead_may_go same_place place_law (p path) (is.set path) (is.dead path) in
     let few : FewGo c is.set p = λ path b. omega (arith, going_few (is.set path) (left_in (p path) b 0), below path b) in

@@ -1,10 +1,10 @@
 -- A second removal of dead values changes nothing.
 use Rattle.std.proofs.Common.{◌≡◌, ℕ, Bool, true, false, List, [], ◌∷◌, Option, Some, None, refl, sym, ap, ◌∙◌, subst}
 use Rattle.std.specs.Prelude.{map, if◌then◌else◌}
-use Rattle.kit_behaviour.specs.Machine.{Edge, Op, Const, Calc, Emit, Call, Branch, Return, Block, Fun, Program, arguments_in}
+use Rattle.kit_behaviour.specs.Machine.{Edge, Op, Const, Calc, Emit, Call, Branch, Return, Block, Fun, FunctionsByPath, arguments_in}
 use Rattle.kit_behaviour.specs.RemovedValues.{may_trap, goes, live, pick, thin_edge, thin_op, thin_ops, thin_block, thin}
 use Rattle.kit_behaviour.specs.Rules.{Rules}
-use Rattle.kit_behaviour.specs.DeadValues.{NoneDead, IsDead, IsDce}
+use Rattle.kit_behaviour.specs.DeadValues.{NoneDead, IsDeadSet, IsDceOfFunctions}
 use Rattle.kit_behaviour.specs.Numbering.{place_fun}
 use Rattle.kit_behaviour.specs.Places.{Place, same_place}
 use Rattle.kit_behaviour.proofs.Numbering.PlaceEquality.{place_law}
@@ -73,14 +73,14 @@ module _ {V : Type 0} where
   thin_none (Some f) = ap Some (blocks_none (Some f) f)
 
 -- where nothing is dead, the set of dead values is empty
-none_set : (f : Option (Fun Place)) (d : Place → Bool) → NoneDead f → IsDead same_place f d → d ≡ (λ v. false)
+none_set : (f : Option (Fun Place)) (d : Place → Bool) → NoneDead f → IsDeadSet same_place f d → d ≡ (λ v. false)
 none_set f d n is = λ i v. false_is (d v) (λ t. is.least (λ v. false) n v t) i
   where
     false_is : (c : Bool) → (c ≡ true → false ≡ true) → c ≡ false
     false_is true h = sym (h refl)
     false_is false h = refl
 
-pub dce_settles : (p q r : Program Place) → ((path : List ℕ) → Rules (p path)) → IsDce p q → IsDce q r → r ≡ q
+pub dce_settles : (p q r : FunctionsByPath Place) → ((path : List ℕ) → Rules (p path)) → IsDceOfFunctions p q → IsDceOfFunctions q r → r ≡ q
 dce_settles p q r rules a b = λ i path. at_path path i
   where
     at_path : (path : List ℕ) → r path ≡ q path

@@ -2,8 +2,8 @@
 use Rattle.std.proofs.Common.{◌≡◌, ℕ, Bool, List, [], ◌∷◌, Option, Some, None, refl, sym, ap, ◌∙◌}
 use Rattle.std.specs.Prelude.{map, slice_get, option_map}
 use Rattle.std.proofs.lemmas.Option.{slice_get-map}
-use Rattle.kit_behaviour.specs.Machine.{edge_at, chosen, Select, Edge, Op, Const, Calc, Emit, Call, Branch, Return, Block, Fun, Frame, Next, Program, bind_all, next, go, effect, results_of, ops_left, left_in, arguments_of, arguments_in, Alike}
-use Rattle.kit_behaviour.specs.Facts.{Knows, Lacks, Numbers, Open, knows, Facts, IsClosed}
+use Rattle.kit_behaviour.specs.Machine.{edge_at, chosen, Select, Edge, Op, Const, Calc, Emit, Call, Branch, Return, Block, Fun, Frame, Next, FunctionsByPath, bind_all, next, go, effect, results_of, ops_left, left_in, arguments_of, arguments_in, Alike}
+use Rattle.kit_behaviour.specs.Facts.{Knows, Lacks, Numbers, Open, knows, FunctionFacts, AreClosedFacts}
 use Rattle.kit_behaviour.specs.Scopes.{OpScoped, OpsWith, BlocksWith}
 use Rattle.kit_behaviour.specs.DecidedBranches.{single, branch_by, decide_op, decide_block, decide, decided}
 use Rattle.kit_behaviour.proofs.Behaviour.FrameLemmas.{IsSameness, fr}
@@ -12,19 +12,19 @@ use Rattle.kit_behaviour.proofs.Lattice.Soundness.{Told, knows_told, all_in_hold
 use Rattle.kit_behaviour.proofs.Lattice.ReplacementBehaviour.{drop-map}
 use Rattle.kit_behaviour.proofs.Behaviour.EdgeLemmas.{only_taken}
 
-decide_left_block : {V : Type 0} (k : Facts V) (o : Option (Block V)) (i : ℕ) → ops_left (option_map (decide_block k) o) i ≡ map (decide_op k) (ops_left o i)
+decide_left_block : {V : Type 0} (k : FunctionFacts V) (o : Option (Block V)) (i : ℕ) → ops_left (option_map (decide_block k) o) i ≡ map (decide_op k) (ops_left o i)
 decide_left_block k None i = refl
 decide_left_block k (Some b) i = drop-map (decide_op k) b.ops i
 
-pub decide_left : {V : Type 0} (k : Facts V) (f : Option (Fun V)) (b i : ℕ) → left_in (decide k f) b i ≡ map (decide_op k) (left_in f b i)
+pub decide_left : {V : Type 0} (k : FunctionFacts V) (f : Option (Fun V)) (b i : ℕ) → left_in (decide k f) b i ≡ map (decide_op k) (left_in f b i)
 decide_left k None b i = refl
 decide_left k (Some f) b i = ap (λ o. ops_left o i) (slice_get-map (decide_block k) f b) ∙ decide_left_block k (slice_get f b) i
 
-decide_takes_block : {V : Type 0} (k : Facts V) (o : Option (Block V)) → arguments_of (option_map (decide_block k) o) ≡ arguments_of o
+decide_takes_block : {V : Type 0} (k : FunctionFacts V) (o : Option (Block V)) → arguments_of (option_map (decide_block k) o) ≡ arguments_of o
 decide_takes_block k None = refl
 decide_takes_block k (Some b) = refl
 
-pub decide_takes : {V : Type 0} (k : Facts V) (f : Option (Fun V)) (b : ℕ) → arguments_in (decide k f) b ≡ arguments_in f b
+pub decide_takes : {V : Type 0} (k : FunctionFacts V) (f : Option (Fun V)) (b : ℕ) → arguments_in (decide k f) b ≡ arguments_in f b
 decide_takes k None b = refl
 decide_takes k (Some f) b = ap arguments_of (slice_get-map (decide_block k) f b) ∙ decide_takes_block k (slice_get f b)
 
@@ -37,7 +37,7 @@ results_by (Numbers ns) s xs e es rest = refl
 results_by Lacks s xs e es rest = results_single s xs e es rest
 results_by Open s xs e es rest = results_single s xs e es rest
 
-results_decided : {V : Type 0} (k : Facts V) (ops : List (Op V)) → results_of (map (decide_op k) ops) ≡ results_of ops
+results_decided : {V : Type 0} (k : FunctionFacts V) (ops : List (Op V)) → results_of (map (decide_op k) ops) ≡ results_of ops
 results_decided k [] = refl
 results_decided k (Const r n ∷ ops) = refl
 results_decided k (Calc a w r x y ∷ ops) = refl
@@ -46,7 +46,7 @@ results_decided k (Call rs c xs ∷ ops) = refl
 results_decided k (Branch s xs e es ∷ ops) = results_by (knows (map k.of xs)) s xs e es (map (decide_op k) ops)
 results_decided k (Return xs ∷ ops) = refl
 
-module _ {V : Type 0} (same : V → V → Bool) (law : IsSameness same) (p : Program V) (k : List ℕ → Facts V) (closed : (path : List ℕ) → IsClosed (p path) (k path)) (scoped : (path : List ℕ) → BlocksWith (p path) (λ a op. OpScoped (p path) a op × Unit {0})) where
+module _ {V : Type 0} (same : V → V → Bool) (law : IsSameness same) (p : FunctionsByPath V) (k : List ℕ → FunctionFacts V) (closed : (path : List ℕ) → AreClosedFacts (p path) (k path)) (scoped : (path : List ℕ) → BlocksWith (p path) (λ a op. OpScoped (p path) a op × Unit {0})) where
   abbrev Is : Frame V → Type 0
   Is = Sound same law p k closed (λ path a op. Unit {0}) scoped
 

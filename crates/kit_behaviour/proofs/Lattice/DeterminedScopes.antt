@@ -2,7 +2,7 @@
 use Rattle.std.proofs.Common.{◌≡◌, ⊎_elim, ℕ, zero, suc, Bool, true, false, List, [], ◌∷◌, ◌++◌, Option, Some, None, refl, ap, ◌∙◌}
 use Rattle.std.specs.Prelude.{◌&&◌}
 use Rattle.kit_behaviour.specs.Machine.{AllEdges, edge_at, chosen, Select, Arith, Edge, Op, Const, Calc, Emit, Call, Branch, Return, Fun, left_in, arguments_in, calc}
-use Rattle.kit_behaviour.specs.Facts.{Knows, Lacks, Numbers, Open, branch_knows, Fact, Undetermined, Known, Unknown, AtOrBelow, fold_known, folds_to, Facts, AllUnknown, AllBelow, EdgeClosed, BranchClosed, OpClosed, OpsClosed, IsClosed, IsMostPrecise}
+use Rattle.kit_behaviour.specs.Facts.{Knows, Lacks, Numbers, Open, branch_knows, Fact, Undetermined, Known, Unknown, FactAtOrBelow, fold_known, folds_to, FunctionFacts, AllUnknown, AllFactsAtOrBelow, EdgeClosedIn, BranchClosedIn, OpClosed, OpsClosed, AreClosedFacts, AreMostPreciseFacts}
 use Rattle.kit_behaviour.specs.Scopes.{In, AllIn, defs, all_defs, entry_values, at_start, SameLength, EdgeScoped, OpScoped, OpsWith, BlocksWith}
 use Rattle.kit_behaviour.specs.Rules.{Rules}
 use Rattle.kit_behaviour.specs.Places.{Place}
@@ -16,7 +16,7 @@ determined Undetermined = false
 determined (Known n) = true
 determined Unknown = true
 
-det_below : (x y : Fact) → AtOrBelow x y → determined y ≡ true → determined x ≡ true
+det_below : (x y : Fact) → FactAtOrBelow x y → determined y ≡ true → determined x ≡ true
 det_below Unknown y h d = refl
 det_below (Known n) y h d = refl
 det_below Undetermined Undetermined h d = d
@@ -36,7 +36,7 @@ det_folds a w (Known n) Unknown d e = refl
 det_folds a w Unknown (Known m) d e = refl
 det_folds a w Unknown Unknown d e = refl
 
-module _ {V : Type 0} (f : Option (Fun V)) (k : Facts V) (scoped : BlocksWith f (OpScoped f)) where
+module _ {V : Type 0} (f : Option (Fun V)) (k : FunctionFacts V) (scoped : BlocksWith f (OpScoped f)) where
   abbrev pub AllDet : List V → Type 0
   AllDet a = (x : V) → In x a → determined (k.of x) ≡ true
 
@@ -44,7 +44,7 @@ module _ {V : Type 0} (f : Option (Fun V)) (k : Facts V) (scoped : BlocksWith f 
   all_det [] = true
   all_det (v ∷ vs) = determined (k.of v) && all_det vs
 
-  fewer : Facts V
+  fewer : FunctionFacts V
   fewer = record { runs = λ b. k.runs b && all_det (arguments_in f b); of = k.of }
 
   det_all : (vs : List V) → all_det vs ≡ true → AllDet vs
@@ -53,13 +53,13 @@ module _ {V : Type 0} (f : Option (Fun V)) (k : Facts V) (scoped : BlocksWith f 
   det_all (v ∷ vs) h x i =
       ⊎_elim (λ q. ap (λ y. determined (k.of y)) q ∙ and_first (determined (k.of v)) (all_det vs) h) (λ j. det_all vs (and_second (determined (k.of v)) (all_det vs) h) x j) i
 
-  det_edge : (ts gs a : List V) → AllDet a → AllIn gs a → SameLength ts gs → AllBelow k ts gs → all_det ts ≡ true
+  det_edge : (ts gs a : List V) → AllDet a → AllIn gs a → SameLength ts gs → AllFactsAtOrBelow k ts gs → all_det ts ≡ true
   unfolding all_det
   det_edge [] gs a d i l h = refl
   det_edge (t ∷ ts) [] a d i l h = absurd l
   det_edge (t ∷ ts) (g ∷ gs) a d i l h = and_true _ _ (det_below (k.of t) (k.of g) h.0 (d g i.0)) (det_edge ts gs a d i.1 l h.1)
 
-  below_same : (ts gs : List V) → AllBelow k ts gs → AllBelow fewer ts gs
+  below_same : (ts gs : List V) → AllFactsAtOrBelow k ts gs → AllFactsAtOrBelow fewer ts gs
   unfolding fewer
   below_same [] gs h = tt
   below_same (t ∷ ts) [] h = tt
@@ -70,15 +70,15 @@ module _ {V : Type 0} (f : Option (Fun V)) (k : Facts V) (scoped : BlocksWith f 
   unknown_same [] h = tt
   unknown_same (v ∷ vs) h = (h.0, unknown_same vs h.1)
 
-  edge_fewer : (a : List V) (e : Edge V) → AllDet a → EdgeScoped f a e → EdgeClosed f k e → EdgeClosed f fewer e
+  edge_fewer : (a : List V) (e : Edge V) → AllDet a → EdgeScoped f a e → EdgeClosedIn f k e → EdgeClosedIn f fewer e
   unfolding fewer
   edge_fewer a e d s c = (and_true _ _ c.0 (det_edge (arguments_in f e.target) e.forwards a d s.0 s.2 c.1), below_same (arguments_in f e.target) e.forwards c.1)
 
-  fork_fewer : (a : List V) (s : Select) (t : Knows) (e : Edge V) (es : List (Edge V)) → AllDet a → AllEdges (EdgeScoped f a) (e ∷ es) → BranchClosed f k s t e es → BranchClosed f fewer s t e es
+  fork_fewer : (a : List V) (s : Select) (t : Knows) (e : Edge V) (es : List (Edge V)) → AllDet a → AllEdges (EdgeScoped f a) (e ∷ es) → BranchClosedIn f k s t e es → BranchClosedIn f fewer s t e es
   fork_fewer a s Lacks e es d w c = tt
   fork_fewer a s (Numbers ns) e es d w c =
-      edges_two (EdgeScoped f a) (λ x. x.target ≡ (edge_at e es (chosen s ns)).target → EdgeClosed f k x) (λ x. x.target ≡ (edge_at e es (chosen s ns)).target → EdgeClosed f fewer x) (λ x g h q. edge_fewer a x d g (h q)) (e ∷ es) w c
-  fork_fewer a s Open e es d w c = edges_two (EdgeScoped f a) (EdgeClosed f k) (EdgeClosed f fewer) (λ x g h. edge_fewer a x d g h) (e ∷ es) w c
+      edges_two (EdgeScoped f a) (λ x. x.target ≡ (edge_at e es (chosen s ns)).target → EdgeClosedIn f k x) (λ x. x.target ≡ (edge_at e es (chosen s ns)).target → EdgeClosedIn f fewer x) (λ x g h q. edge_fewer a x d g (h q)) (e ∷ es) w c
+  fork_fewer a s Open e es d w c = edges_two (EdgeScoped f a) (EdgeClosedIn f k) (EdgeClosedIn f fewer) (λ x g h. edge_fewer a x d g h) (e ∷ es) w c
 
   op_fewer : (a : List V) (op : Op V) → AllDet a → OpScoped f a op → OpClosed f k op → OpClosed f fewer op
   unfolding fewer
@@ -117,7 +117,7 @@ module _ {V : Type 0} (f : Option (Fun V)) (k : Facts V) (scoped : BlocksWith f 
   only_closed a [] h = tt
   only_closed a (op ∷ ops) h = (h.0.1, only_closed (defs op ++ a) ops h.1)
 
-  module _ (closed : IsClosed f k) where
+  module _ (closed : AreClosedFacts f k) where
     entry_det : AllDet (arguments_in f 0)
     entry_det = det_unknown (arguments_in f 0) closed.entry_unknown
 
@@ -133,7 +133,7 @@ module _ {V : Type 0} (f : Option (Fun V)) (k : Facts V) (scoped : BlocksWith f 
     entry_all [] h = refl
     entry_all (v ∷ vs) h = and_true _ _ (ap determined h.0) (entry_all vs h.1)
 
-    fewer_closed : IsClosed f fewer
+    fewer_closed : AreClosedFacts f fewer
     unfolding fewer
     fewer_closed =
         record {
@@ -149,7 +149,7 @@ module _ {V : Type 0} (f : Option (Fun V)) (k : Facts V) (scoped : BlocksWith f 
   drop_closed a (op ∷ ops) h = (h.0.0, drop_closed (defs op ++ a) ops h.1)
 
   -- in a block known to run everything in scope is determined
-  pub scope_determined : IsMostPrecise f k → (b : ℕ) → k.runs b ≡ true → OpsWith (λ a op. AllDet a) (at_start f b) (left_in f b 0)
+  pub scope_determined : AreMostPreciseFacts f k → (b : ℕ) → k.runs b ≡ true → OpsWith (λ a op. AllDet a) (at_start f b) (left_in f b 0)
   unfolding fewer
   scope_determined best b r =
       let all = and_second (k.runs b) (all_det (arguments_in f b)) ((best.best fewer (fewer_closed best.closed)).fewer b r) in
@@ -160,12 +160,12 @@ not_undetermined Undetermined d e = cc d
 not_undetermined (Known n) d e = cc e
 not_undetermined Unknown d e = cc e
 
-none_undetermined : (k : Facts Place) (f : Option (Fun Place)) (scoped : BlocksWith f (OpScoped f)) (a : List Place) (ops : List (Op Place)) → OpsWith (λ a op. AllDet f k scoped a) a ops → OpsWith (λ a op. (x : Place) → In x a → k.of x ≡ Undetermined → ⊥) a ops
+none_undetermined : (k : FunctionFacts Place) (f : Option (Fun Place)) (scoped : BlocksWith f (OpScoped f)) (a : List Place) (ops : List (Op Place)) → OpsWith (λ a op. AllDet f k scoped a) a ops → OpsWith (λ a op. (x : Place) → In x a → k.of x ≡ Undetermined → ⊥) a ops
 none_undetermined k f scoped a [] h = tt
 none_undetermined k f scoped a (op ∷ ops) h = (λ x i e. not_undetermined (k.of x) (h.0 x i) e, none_undetermined k f scoped (defs op ++ a) ops h.1)
 
 -- where the rules are kept
-pub rules_determined : (f : Option (Fun Place)) (k : Facts Place) → Rules f → IsMostPrecise f k → (b : ℕ) → k.runs b ≡ true → OpsWith (λ a op. (x : Place) → In x a → k.of x ≡ Undetermined → ⊥) (at_start f b) (left_in f b 0)
+pub rules_determined : (f : Option (Fun Place)) (k : FunctionFacts Place) → Rules f → AreMostPreciseFacts f k → (b : ℕ) → k.runs b ≡ true → OpsWith (λ a op. (x : Place) → In x a → k.of x ≡ Undetermined → ⊥) (at_start f b) (left_in f b 0)
 rules_determined f k rules best b r =
     let scoped = rules_scoped f rules in
     none_undetermined k f scoped (at_start f b) (left_in f b 0) (scope_determined f k scoped best b r)

@@ -2,8 +2,8 @@
 use Rattle.std.proofs.Common.{◌≡◌, ⊎_elim, ℕ, zero, suc, Bool, List, [], ◌∷◌, Option, Some, None, refl, sym, ap, ◌∙◌, subst}
 use Rattle.std.specs.Prelude.{map, slice_get, drop, option_map}
 use Rattle.std.proofs.lemmas.Option.{slice_get-map}
-use Rattle.kit_behaviour.specs.Machine.{AllEdges, edge_at, chosen, Edge, Op, Const, Calc, Emit, Call, Branch, Return, Block, Fun, Frame, Next, Out, Enter, Exit, Program, Env, bind_all, calc, next, go, with_result, effect, results_of, ops_left, left_in, arguments_of, arguments_in, Alike}
-use Rattle.kit_behaviour.specs.Facts.{Facts, IsClosed}
+use Rattle.kit_behaviour.specs.Machine.{AllEdges, edge_at, chosen, Edge, Op, Const, Calc, Emit, Call, Branch, Return, Block, Fun, Frame, Next, Out, Enter, Exit, FunctionsByPath, Env, bind_all, calc, next, go, with_result, effect, results_of, ops_left, left_in, arguments_of, arguments_in, Alike}
+use Rattle.kit_behaviour.specs.Facts.{FunctionFacts, AreClosedFacts}
 use Rattle.kit_behaviour.specs.Scopes.{In, AllIn, EdgeScoped, OpScoped, OpsWith, BlocksWith}
 use Rattle.kit_behaviour.specs.Replacement.{replace_edge, replace_op, replace_block, replace, replaced, SameKnown}
 use Rattle.kit_behaviour.proofs.Behaviour.FrameLemmas.{IsSameness, fr}
@@ -42,7 +42,7 @@ results_replaced s (Call rs c xs ∷ ops) = refl
 results_replaced s (Branch t xs e es ∷ ops) = refl
 results_replaced s (Return xs ∷ ops) = refl
 
-module _ {V : Type 0} (same : V → V → Bool) (law : IsSameness same) (p : Program V) (k : List ℕ → Facts V) (closed : (path : List ℕ) → IsClosed (p path) (k path)) (s : List ℕ → V → V) (known : (path : List ℕ) → SameKnown (k path) (s path)) (scoped : (path : List ℕ) → BlocksWith (p path) (λ a op. OpScoped (p path) a op × OpScoped (p path) a (replace_op (s path) op))) where
+module _ {V : Type 0} (same : V → V → Bool) (law : IsSameness same) (p : FunctionsByPath V) (k : List ℕ → FunctionFacts V) (closed : (path : List ℕ) → AreClosedFacts (p path) (k path)) (s : List ℕ → V → V) (known : (path : List ℕ) → SameKnown (k path) (s path)) (scoped : (path : List ℕ) → BlocksWith (p path) (λ a op. OpScoped (p path) a op × OpScoped (p path) a (replace_op (s path) op))) where
   abbrev After : List ℕ → List V → Op V → Type 0
   After path a op = OpScoped (p path) a (replace_op (s path) op)
 

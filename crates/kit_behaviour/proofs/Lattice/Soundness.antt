@@ -1,8 +1,8 @@
 -- In each state of a run the values in scope are what closed facts say.
 use Rattle.std.proofs.Common.{◌≡◌, ⊎_elim, ℕ, zero, suc, Bool, true, false, List, [], ◌∷◌, ◌++◌, Option, Some, None, refl, sym, ap, ◌∙◌, subst}
 use Rattle.std.specs.Prelude.{map, if◌then◌else◌}
-use Rattle.kit_behaviour.specs.Machine.{AllEdges, edge_at, chosen, Select, Arith, Edge, Op, Const, Calc, Emit, Call, Branch, Return, Fun, Frame, Program, Env, bind, bind_all, calc, go, with_result, effect, entry, results_of, left_in, arguments_in}
-use Rattle.kit_behaviour.specs.Facts.{Knows, Lacks, Numbers, Open, knows, knows_more, unless_lacking, branch_knows, all_forwarded, Fact, Undetermined, Known, Unknown, AtOrBelow, fold_known, folds_to, Facts, AllUnknown, AllBelow, EdgeClosed, BranchClosed, OpsClosed, IsClosed}
+use Rattle.kit_behaviour.specs.Machine.{AllEdges, edge_at, chosen, Select, Arith, Edge, Op, Const, Calc, Emit, Call, Branch, Return, Fun, Frame, FunctionsByPath, Env, bind, bind_all, calc, go, with_result, effect, entry, results_of, left_in, arguments_in}
+use Rattle.kit_behaviour.specs.Facts.{Knows, Lacks, Numbers, Open, knows, knows_more, unless_lacking, branch_knows, all_forwarded, Fact, Undetermined, Known, Unknown, FactAtOrBelow, fold_known, folds_to, FunctionFacts, AllUnknown, AllFactsAtOrBelow, EdgeClosedIn, BranchClosedIn, OpsClosed, AreClosedFacts}
 use Rattle.kit_behaviour.specs.Scopes.{In, AllIn, entry_values, at_start, SameLength, EdgeScoped, OpScoped, OpsWith, BlocksWith}
 use Rattle.kit_behaviour.proofs.Behaviour.FrameLemmas.{IsSameness, left_next, fr}
 use Rattle.kit_behaviour.proofs.Behaviour.SameEffects.{EffectKeeps, IsInvariant}
@@ -14,7 +14,7 @@ Holds Undetermined n = ⊥
 Holds (Known m) n = n ≡ m
 Holds Unknown n = Unit {0}
 
-pub holds_below : (x y : Fact) (n : ℕ) → AtOrBelow x y → Holds y n → Holds x n
+pub holds_below : (x y : Fact) (n : ℕ) → FactAtOrBelow x y → Holds y n → Holds x n
 holds_below Unknown y n h k = tt
 holds_below Undetermined Undetermined n h k = k
 holds_below Undetermined (Known m) n h k = absurd h
@@ -69,7 +69,7 @@ gives_in {V} f a (e ∷ es) h = both e.forwards h.0.0 (gives_in f a es h.1)
     both (x ∷ xs) g k = (g.0, both xs g.1 k)
 
 module _ {V : Type 0} (same : V → V → Bool) (law : IsSameness same) where
-  module _ (k : Facts V) where
+  module _ (k : FunctionFacts V) where
     abbrev pub AllHold : Env V → List V → Type 0
     AllHold e [] = Unit {0}
     AllHold e (v ∷ vs) = Holds (k.of v) (e v) × AllHold e vs
@@ -122,7 +122,7 @@ module _ {V : Type 0} (same : V → V → Bool) (law : IsSameness same) where
     bind_all_self e (t ∷ ts) (n ∷ ns) hp =
         ((bind_all_keeps (bind same e t n) ts ns (t ∷ []) hp.1 (bind_self e t n hp.0, tt)).0, bind_all_self (bind same e t n) ts ns hp.1)
 
-    pairs_edge : (e : Env V) (ts gs : List V) → SameLength ts gs → AllBelow k ts gs → AllHold e gs → Pairs ts (map e gs)
+    pairs_edge : (e : Env V) (ts gs : List V) → SameLength ts gs → AllFactsAtOrBelow k ts gs → AllHold e gs → Pairs ts (map e gs)
     pairs_edge e [] gs l b h = tt
     pairs_edge e (t ∷ ts) [] l b h = absurd l
     pairs_edge e (t ∷ ts) (g ∷ gs) l b h = (holds_below (k.of t) (k.of g) (e g) b.0 h.0, pairs_edge e ts gs l b.1 h.1)
@@ -141,7 +141,7 @@ module _ {V : Type 0} (same : V → V → Bool) (law : IsSameness same) where
     start_hold f e zero h g = h
     start_hold f e (suc b) h g = append_hold e (arguments_in f (suc b)) (entry_values f) h g
 
-  module _ (p : Program V) (k : List ℕ → Facts V) (closed : (path : List ℕ) → IsClosed (p path) (k path)) (T : List ℕ → List V → Op V → Type 0) (scoped : (path : List ℕ) → BlocksWith (p path) (λ a op. OpScoped (p path) a op × T path a op)) where
+  module _ (p : FunctionsByPath V) (k : List ℕ → FunctionFacts V) (closed : (path : List ℕ) → AreClosedFacts (p path) (k path)) (T : List ℕ → List V → Op V → Type 0) (scoped : (path : List ℕ) → BlocksWith (p path) (λ a op. OpScoped (p path) a op × T path a op)) where
     abbrev pub Fine : List ℕ → List V → List (Op V) → Type 0
     Fine path = OpsWith (λ a op. OpScoped (p path) a op × T path a op)
 
@@ -158,7 +158,7 @@ module _ {V : Type 0} (same : V → V → Bool) (law : IsSameness same) where
         let n = sym (left_next (p path) b i op ops l) in
         record { runs = r; scope = a; hold = h; closed_left = subst (OpsClosed (p path) (k path)) n c; scoped_left = subst (Fine path a) n s }
 
-    go_sound : (path : List ℕ) (b i : ℕ) (e : Env V) (x : Edge V) (a : List V) → AllHold (k path) e a → EdgeClosed (p path) (k path) x → EdgeScoped (p path) a x → Sound (go same (p path) (fr path b i e) x)
+    go_sound : (path : List ℕ) (b i : ℕ) (e : Env V) (x : Edge V) (a : List V) → AllHold (k path) e a → EdgeClosedIn (p path) (k path) x → EdgeScoped (p path) a x → Sound (go same (p path) (fr path b i e) x)
     go_sound path b i e x a h c s =
         let ps = pairs_edge (k path) e (arguments_in (p path) x.target) x.forwards s.2 c.1 (all_in_hold (k path) e x.forwards a h s.0) in
         let own = bind_all_self (k path) e (arguments_in (p path) x.target) (map e x.forwards) ps in
@@ -177,13 +177,13 @@ module _ {V : Type 0} (same : V → V → Bool) (law : IsSameness same) where
         let hn = hr n refl in
         next_sound path b i (bind same e r n) op ops (r ∷ a) rb l (bind_self (k path) e r n hn, bind_keeps (k path) e r n a hn h) c s
 
-    fork_sound : (path : List ℕ) (b i : ℕ) (e : Env V) (s : Select) (x : Edge V) (xs : List (Edge V)) (a : List V) (t : Knows) (ns : List ℕ) → Told t ns → AllHold (k path) e a → BranchClosed (p path) (k path) s t x xs → AllEdges (EdgeScoped (p path) a) (x ∷ xs) → Sound (go same (p path) (fr path b i e) (edge_at x xs (chosen s ns)))
+    fork_sound : (path : List ℕ) (b i : ℕ) (e : Env V) (s : Select) (x : Edge V) (xs : List (Edge V)) (a : List V) (t : Knows) (ns : List ℕ) → Told t ns → AllHold (k path) e a → BranchClosedIn (p path) (k path) s t x xs → AllEdges (EdgeScoped (p path) a) (x ∷ xs) → Sound (go same (p path) (fr path b i e) (edge_at x xs (chosen s ns)))
     fork_sound path b i e s x xs a Lacks ns ht h c sx = absurd ht
     fork_sound path b i e s x xs a Open ns ht h c sx =
-        go_sound path b i e (edge_at x xs (chosen s ns)) a h (taken_has (EdgeClosed (p path) (k path)) x xs (chosen s ns) c) (taken_has (EdgeScoped (p path) a) x xs (chosen s ns) sx)
+        go_sound path b i e (edge_at x xs (chosen s ns)) a h (taken_has (EdgeClosedIn (p path) (k path)) x xs (chosen s ns) c) (taken_has (EdgeScoped (p path) a) x xs (chosen s ns) sx)
     fork_sound path b i e s x xs a (Numbers ms) ns ht h c sx =
         go_sound path b i e (edge_at x xs (chosen s ns)) a h
-        (taken_has (λ z. z.target ≡ (edge_at x xs (chosen s ms)).target → EdgeClosed (p path) (k path) z) x xs (chosen s ns) c (ap (λ l. (edge_at x xs (chosen s l)).target) (sym ht)))
+        (taken_has (λ z. z.target ≡ (edge_at x xs (chosen s ms)).target → EdgeClosedIn (p path) (k path) z) x xs (chosen s ns) c (ap (λ l. (edge_at x xs (chosen s l)).target) (sym ht)))
         (taken_has (EdgeScoped (p path) a) x xs (chosen s ns) sx)
 
     op_sound : (path : List ℕ) (b i : ℕ) (e : Env V) (a : List V) (ops : List (Op V)) → (k path).runs b ≡ true → left_in (p path) b i ≡ ops → AllHold (k path) e a → OpsClosed (p path) (k path) ops → Fine path a ops → EffectKeeps same p Sound (fr path b i e) (effect same (p path) (fr path b i e) ops)

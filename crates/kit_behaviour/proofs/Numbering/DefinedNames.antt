@@ -6,7 +6,7 @@ use Rattle.kit_behaviour.specs.Renaming.{EdgeNamed, AllNamed, OpNamed, OpsNamed}
 use Rattle.kit_behaviour.specs.Scopes.{In, AllIn, defs, all_defs, entry_values, at_start, SameLength, EdgeScoped, OpScoped, OpsWith, BlocksWith}
 use Rattle.kit_behaviour.specs.Replacement.{replace_op, replace}
 use Rattle.kit_behaviour.specs.Places.{Place, Arg, Res}
-use Rattle.kit_behaviour.specs.Numbering.{index_of, or_else, place_in_ops, place_in_blocks, HasPlace, AnyBlock, IsDefined}
+use Rattle.kit_behaviour.specs.Numbering.{index_of, or_else, place_in_ops, place_in_blocks, HasPlace, AnyBlock, NamesAreDefined}
 use Rattle.kit_behaviour.proofs.Behaviour.FrameLemmas.{IsSameness}
 use Rattle.kit_behaviour.proofs.Lattice.ReplacementBehaviour.{replace_left, replace_takes}
 use Rattle.kit_behaviour.proofs.Propagation.ScopeLemmas.{in_split, in_append}
@@ -102,7 +102,7 @@ module _ {V : Type 0} (same : V → V → Bool) (law : IsSameness same) where
         let more : Has (defs op ++ a) = λ x i. ⊎_elim (λ l. own x l) (λ r. h x r) (in_split x (defs op) a i) in
         (op_named a op h own s.0, ops_named (defs op ++ a) ops more (λ x i. d x (in_append x (defs op) (all_defs ops) (inr i))) s.1)
 
-    pub scoped_defined : BlocksWith f (OpScoped f) → IsDefined same f
+    pub scoped_defined : BlocksWith f (OpScoped f) → NamesAreDefined same f
     scoped_defined s =
         record {
           ops = λ b. ops_named (at_start f b) (left_in f b 0) (start_has b) (λ x i. has_place f b x (inr i)) (s b);

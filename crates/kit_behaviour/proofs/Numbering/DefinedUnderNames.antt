@@ -4,7 +4,7 @@ use Rattle.std.specs.Prelude.{map}
 use Rattle.kit_behaviour.specs.Machine.{AllEdges, Edge, Op, Const, Calc, Emit, Call, Branch, Return, Block}
 use Rattle.kit_behaviour.specs.Machine.{left_in, arguments_in}
 use Rattle.kit_behaviour.specs.Renaming.{rename_block, AllNamed, EdgeNamed, OpNamed, OpsNamed}
-use Rattle.kit_behaviour.specs.Numbering.{HasPlace, AnyBlock, IsDefined}
+use Rattle.kit_behaviour.specs.Numbering.{HasPlace, AnyBlock, NamesAreDefined}
 use Rattle.kit_behaviour.proofs.ControlFlow.NamedCommuting.{ren, ren_edge, left_renamed, takes_renamed}
 use Rattle.kit_behaviour.proofs.ControlFlow.NamedPlacing.{AreNamed, blocks_on}
 
@@ -42,7 +42,7 @@ module _ {V W : Type 0} (same : V → V → Bool) (other : W → W → Bool) (r 
     ops_back [] n h = tt
     ops_back (op ∷ ops) n h = (op_back op n.0 h.0, ops_back ops n.1 h.1)
 
-    pub defined_back : IsDefined other (Some (map (rename_block r) f)) → IsDefined same (Some f)
+    pub defined_back : NamesAreDefined other (Some (map (rename_block r) f)) → NamesAreDefined same (Some f)
     defined_back d = record {
       ops = λ b.
           ops_back (left_in (Some f) b 0) (named.ops b)

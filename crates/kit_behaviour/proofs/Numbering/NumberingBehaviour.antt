@@ -2,11 +2,11 @@
 use Rattle.std.proofs.Common.{◌≡◌, ℕ, suc, ◌+◌, Bool, true, false, List, [], ◌∷◌, Option, Some, None, refl, sym, ap, ◌∙◌, subst, arith}
 use Rattle.std.specs.Prelude.{map, slice_get, if◌then◌else◌, option_map, unwrap_or}
 use Rattle.std.proofs.lemmas.Option.{slice_get-map}
-use Rattle.kit_behaviour.specs.Machine.{Op, Block, Fun, Program, ops_left, left_in, arguments_of, arguments_in, Alike}
+use Rattle.kit_behaviour.specs.Machine.{Op, Block, Fun, FunctionsByPath, ops_left, left_in, arguments_of, arguments_in, Alike}
 use Rattle.kit_behaviour.specs.Renaming.{rename_op, same_block}
 use Rattle.kit_behaviour.specs.Scopes.{defs}
 use Rattle.kit_behaviour.specs.Places.{Place, Arg, Res, same_place}
-use Rattle.kit_behaviour.specs.Numbering.{index_of, or_else, place_in_ops, place_in_blocks, place_of, place_block, place_fun, placed, HasPlace, AnyBlock, IsDefined}
+use Rattle.kit_behaviour.specs.Numbering.{index_of, or_else, place_in_ops, place_in_blocks, place_of, place_block, place_fun, placed, HasPlace, AnyBlock, NamesAreDefined}
 use Rattle.kit_behaviour.proofs.Behaviour.FrameLemmas.{IsSameness}
 use Rattle.kit_behaviour.proofs.Numbering.PlaceEquality.{place_law}
 use Rattle.kit_behaviour.proofs.Behaviour.RenamingLemmas.{StaysApart, renamed_alike}
@@ -145,7 +145,7 @@ module _ {V : Type 0} (same : V → V → Bool) (law : IsSameness same) where
   place_takes None b = refl
   place_takes (Some f) b = ap arguments_of (slice_get-map (place_block (place_of same f)) f b) ∙ place_takes_block (place_of same f) (slice_get f b)
 
-  pub placed_alike : (p : Program V) → ((path : List ℕ) → IsDefined same (p path)) → Alike same same_place 1 p (placed same p)
+  pub placed_alike : (p : FunctionsByPath V) → ((path : List ℕ) → NamesAreDefined same (p path)) → Alike same same_place 1 p (placed same p)
   placed_alike p h =
       renamed_alike same same_place p (placed same p) (λ path. place_name (p path)) (λ path. same_block) (λ path. HasPlace same (p path)) (λ path. AnyBlock) (λ path. apart (p path))
       (λ path.

@@ -5,7 +5,7 @@ use Rattle.kit_behaviour.specs.Machine.{Op, Const, Calc, Emit, Call, Branch, Ret
 use Rattle.kit_behaviour.specs.Renaming.{rename_edge, rename_op, same_block}
 use Rattle.kit_behaviour.specs.Scopes.{In, AllIn, defs, all_defs, entry_values, at_start, SameLength, OpsWith, BlocksWith}
 use Rattle.kit_behaviour.specs.Facts.{all_forwarded}
-use Rattle.kit_behaviour.specs.Rules.{operands, is_terminator, EndsWell, EdgeFits, EdgesFit, AllEdgesFit, from, OpsPlaced, Rules}
+use Rattle.kit_behaviour.specs.Rules.{operands, is_terminator, EndsWell, EdgeFits, EdgesOfOpFit, AllEdgesFit, from, OpsPlaced, Rules}
 use Rattle.kit_behaviour.specs.Numbering.{place_of, place_fun}
 use Rattle.kit_behaviour.specs.Places.{Place, Arg, Res}
 use Rattle.kit_behaviour.proofs.Behaviour.SizeLemmas.{place_size}
@@ -125,7 +125,7 @@ module _ {V W : Type 0} (r : V → W) where
   abbrev AsMany : Option (Fun V) → Option (Fun W) → Type 0
   AsMany f g = ((b : ℕ) → arguments_in g b ≡ map r (arguments_in f b)) × (size g ≡ size f)
 
-  pub edges_fit_under : (f : Option (Fun V)) (g : Option (Fun W)) → AsMany f g → (op : Op V) → EdgesFit f op → EdgesFit g (rename_op r same_block op)
+  pub edges_fit_under : (f : Option (Fun V)) (g : Option (Fun W)) → AsMany f g → (op : Op V) → EdgesOfOpFit f op → EdgesOfOpFit g (rename_op r same_block op)
   edges_fit_under f g t (Branch s xs e es) h =
       edges_map (EdgeFits f) (EdgeFits g) (rename_edge r same_block)
       (λ x (c : EdgeFits f x). record {

@@ -1,14 +1,14 @@
 -- From the rules to what the laws ask.
 use Rattle.std.proofs.Common.{◌≡◌, ◌⊎◌, ⊎_elim, inl, inr, ℕ, zero, suc, ◌+◌, ◌*◌, ◌<◌, ◌≤◌, Bool, true, false, List, [], ◌∷◌, ◌++◌, length, Option, Some, None, refl, sym, ap, ◌∙◌, subst, arith}
 use Rattle.std.specs.Prelude.{map, slice_get, if◌then◌else◌}
-use Rattle.kit_behaviour.specs.Machine.{AllEdges, Edge, Op, Const, Calc, Emit, Call, Branch, Return, Fun, Program, left_in, arguments_in, Alike}
+use Rattle.kit_behaviour.specs.Machine.{AllEdges, Edge, Op, Const, Calc, Emit, Call, Branch, Return, Fun, FunctionsByPath, left_in, arguments_in, Alike}
 use Rattle.kit_behaviour.specs.Scopes.{EdgeScoped, In, AllIn, defs, all_defs, entry_values, at_start, OpScoped, OpsWith, BlocksWith}
-use Rattle.kit_behaviour.specs.Facts.{Fact, Undetermined, Known, Unknown, Facts, IsMostPrecise, all_forwarded}
+use Rattle.kit_behaviour.specs.Facts.{Fact, Undetermined, Known, Unknown, FunctionFacts, AreMostPreciseFacts, all_forwarded}
 use Rattle.kit_behaviour.specs.RemovedValues.{goes, going, FewGo}
 use Rattle.kit_behaviour.specs.InsertedConstants.{is_new, same_name, Made, put_in, use_of, AllUnmade, OpsUnmade, MayPut}
 use Rattle.kit_behaviour.specs.Places.{Place, Arg, Res, same_place}
-use Rattle.kit_behaviour.specs.Rules.{EdgeFits, operands, is_terminator, EndsWell, EdgesFit, AllEdgesFit, results_at, OpsPlaced, Rules, BlocksBelow}
-use Rattle.kit_behaviour.specs.ConstantPropagation.{Wants, known_at, number_of, number_at, made_of, sccp, IsSccp}
+use Rattle.kit_behaviour.specs.Rules.{EdgeFits, operands, is_terminator, EndsWell, EdgesOfOpFit, AllEdgesFit, results_at, OpsPlaced, Rules, BlocksBelow}
+use Rattle.kit_behaviour.specs.ConstantPropagation.{Wants, known_at, number_of, number_at, made_of, sccp, IsSccpOfFunctions}
 use Rattle.kit_behaviour.specs.Replacement.{replace_op, replace}
 use Rattle.kit_behaviour.proofs.Behaviour.SizeLemmas.{some_end}
 use Rattle.kit_behaviour.proofs.Propagation.ScopeLemmas.{in_split, in_append}
@@ -41,7 +41,7 @@ module _ {V : Type 0} (f : Option (Fun V)) where
   edges_scoped a [] ent s g = tt
   edges_scoped a (e ∷ es) ent s g = ((front_in e.forwards (all_forwarded es) a s, ent, g.0.count), edges_scoped a es ent (back_in e.forwards (all_forwarded es) a s) g.1)
 
-  last_scoped : (a : List V) (op : Op V) → is_terminator op ≡ true → Sees a op → EdgesFit f op → Coming a (op ∷ []) → OpScoped f a op
+  last_scoped : (a : List V) (op : Op V) → is_terminator op ≡ true → Sees a op → EdgesOfOpFit f op → Coming a (op ∷ []) → OpScoped f a op
   last_scoped a (Branch t xs e es) w s g c =
       let ent = all_of (entry_values f) a (λ x i. ⊎_elim (λ l. absurd l) (λ r. r) (c x i)) in
       (front_in xs (all_forwarded (e ∷ es)) a s, edges_scoped a (e ∷ es) ent (back_in xs (all_forwarded (e ∷ es)) a s) g)
@@ -105,12 +105,12 @@ if_none : (b : Bool) (o : Option ℕ) → o ≡ None → (if b then o else None)
 if_none true o e = e
 if_none false o e = refl
 
-module _ (f : Option (Fun Place)) (k : Facts Place) where
+module _ (f : Option (Fun Place)) (k : FunctionFacts Place) where
   known_known : (v : Place) (n : ℕ) → known_at f k v ≡ Some n → k.of v ≡ Known n
   known_known (Arg b i) n e = number_known (k.of (Arg b i)) n (if_some (k.runs b) (number_of (k.of (Arg b i))) n e)
   known_known (Res b o i) n e = number_at_known (slice_get (left_in f b 0) o) (k.of (Res b o i)) n (if_some (k.runs b) _ n e)
 
-module _ (want : Wants) (f : Option (Fun Place)) (k : Facts Place) where
+module _ (want : Wants) (f : Option (Fun Place)) (k : FunctionFacts Place) where
   pub made_known : (v : Place) (n : ℕ) → made_of want f k v ≡ Some n → k.of v ≡ Known n
   made_known v n e = known_known f k v n (if_some (want f v) (known_at f k v) n e)
 
@@ -167,7 +167,7 @@ length-map g (x ∷ xs) = ap suc (length-map g xs)
 
 -- the whole pass
 
-module _ (want : Wants) (p : Program Place) (k : List ℕ → Facts Place) (best : (path : List ℕ) → IsMostPrecise (p path) (k path)) (rules : (path : List ℕ) → Rules (p path)) where
+module _ (want : Wants) (p : FunctionsByPath Place) (k : List ℕ → FunctionFacts Place) (best : (path : List ℕ) → AreMostPreciseFacts (p path) (k path)) (rules : (path : List ℕ) → Rules (p path)) where
   abbrev made : List ℕ → Made Place
   made path = made_of want (p path) (k path)
 
@@ -186,7 +186,7 @@ module _ (want : Wants) (p : Program Place) (k : List ℕ → Facts Place) (best
       subst (λ n. Alike same_place same_place n p (sccp want k p)) e
       (sccp_placed_alike same_place place_law p k made (λ path. (best path).closed) (λ path. rules_scoped (p path) (rules path)) (λ path. made_may_put want (p path) (k path) (rules path)) c (few_put c below))
 
-pub sccp_is_alike : (want : Wants) (p q : Program Place) (c : ℕ) → ((path : List ℕ) → Rules (p path)) → IsSccp want p q → BlocksBelow c q → Alike same_place same_place c p q
+pub sccp_is_alike : (want : Wants) (p q : FunctionsByPath Place) (c : ℕ) → ((path : List ℕ) → Rules (p path)) → IsSccpOfFunctions want p q → BlocksBelow c q → Alike same_place same_place c p q
 sccp_is_alike want p q c rules is below =
     let e : q ≡ sccp want is.facts p = λ i path. is.is path i in
     subst (λ r. Alike same_place same_place c p r) (sym e) (pass_alike want p is.facts is.best rules c (subst (BlocksBelow c) e below))

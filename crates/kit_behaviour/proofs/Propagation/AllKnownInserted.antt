@@ -2,7 +2,7 @@
 use Rattle.std.proofs.Common.{◌≡◌, ℕ, suc, ◌+◌, true, List, [], ◌∷◌, length, Option, Some, None, refl, sym, ap, ◌∙◌, subst, arith}
 use Rattle.std.specs.Prelude.{slice_get, if◌then◌else◌}
 use Rattle.kit_behaviour.specs.Machine.{Op, Const, Calc, Emit, Call, Branch, Return, Fun, left_in, arguments_in}
-use Rattle.kit_behaviour.specs.Facts.{Known, Facts, IsMostPrecise}
+use Rattle.kit_behaviour.specs.Facts.{Known, FunctionFacts, AreMostPreciseFacts}
 use Rattle.kit_behaviour.specs.Scopes.{In, defs, at_start, OpsWith}
 use Rattle.kit_behaviour.specs.InsertedConstants.{Old, use_of}
 use Rattle.kit_behaviour.specs.Rules.{from, OpsPlaced, Rules}
@@ -13,7 +13,7 @@ use Rattle.kit_behaviour.proofs.Numbering.RuleLemmas.{made_may_put}
 use Rattle.kit_behaviour.proofs.ControlFlow.ForwardingPremises.{in_from}
 use Rattle.kit_behaviour.proofs.Propagation.NamedConstants.{Full, OpsFull, PutsAll, known_are_constants}
 
-module _ (want : Wants) (f : Option (Fun Place)) (k : Facts Place) (rules : Rules f) where
+module _ (want : Wants) (f : Option (Fun Place)) (k : FunctionFacts Place) (rules : Rules f) where
   made_wanted : (v : Place) (n : ℕ) → want f v ≡ true → known_at f k v ≡ Some n → made_of want f k v ≡ Some n
   made_wanted v n w e = ap (λ t. if t then known_at f k v else None) w ∙ e
 
@@ -51,5 +51,5 @@ module _ (want : Wants) (f : Option (Fun Place)) (k : Facts Place) (rules : Rule
         ops = λ b r. ops_full b 0 (left_in f b 0) r (λ n. let z : 0 + n ≡ n = omega arith in ap (slice_get (left_in f b 0)) z) (rules.names b);
       }
 
-  pub known_named : IsMostPrecise f k → (b : ℕ) → k.runs b ≡ true → OpsWith (λ a op. (x : Place) → In x a → want f x ≡ true → (n : ℕ) → k.of x ≡ Known n → NamesConstant (with_facts want f k) (use_of (made_of want f k) (Old x))) (at_start f b) (left_in f b 0)
+  pub known_named : AreMostPreciseFacts f k → (b : ℕ) → k.runs b ≡ true → OpsWith (λ a op. (x : Place) → In x a → want f x ≡ true → (n : ℕ) → k.of x ≡ Known n → NamesConstant (with_facts want f k) (use_of (made_of want f k) (Old x))) (at_start f b) (left_in f b 0)
   known_named best b r = known_are_constants (want f) (made_of want f k) k f puts_all (made_may_put want f k rules).others best.closed rules.sees b r

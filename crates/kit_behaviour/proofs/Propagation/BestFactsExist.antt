@@ -2,11 +2,11 @@
 use Rattle.std.proofs.Common.{◌≡◌, ◌⊎◌, ⊎_elim, inl, inr, ℕ, zero, suc, ◌+◌, ◌<◌, ◌≤◌, Bool, true, false, List, [], ◌∷◌, ◌++◌, length, Option, Some, None, refl, sym, ap, ◌∙◌, subst, arith}
 use Rattle.std.specs.Prelude.{map, slice_get, if◌then◌else◌, nat_eq}
 use Rattle.std.proofs.lemmas.Bool.{eqb-true, eq-eqb}
-use Rattle.kit_behaviour.specs.Machine.{Select, edge_at, chosen, AllEdges, Edge, Op, Const, Calc, Emit, Call, Branch, Return, Block, Fun, Program, ops_left, left_in, arguments_of, arguments_in, size}
-use Rattle.kit_behaviour.specs.Facts.{Knows, Lacks, Numbers, Open, knows, branch_knows, all_forwarded, Fact, Undetermined, Known, Unknown, AtOrBelow, folds_to, Facts, AllUnknown, AllBelow, EdgeClosed, BranchClosed, OpClosed, OpsClosed, IsClosed, MorePrecise, IsMostPrecise}
+use Rattle.kit_behaviour.specs.Machine.{Select, edge_at, chosen, AllEdges, Edge, Op, Const, Calc, Emit, Call, Branch, Return, Block, Fun, FunctionsByPath, ops_left, left_in, arguments_of, arguments_in, size}
+use Rattle.kit_behaviour.specs.Facts.{Knows, Lacks, Numbers, Open, knows, branch_knows, all_forwarded, Fact, Undetermined, Known, Unknown, FactAtOrBelow, folds_to, FunctionFacts, AllUnknown, AllFactsAtOrBelow, EdgeClosedIn, BranchClosedIn, OpClosed, OpsClosed, AreClosedFacts, FactsMorePrecise, AreMostPreciseFacts}
 use Rattle.kit_behaviour.specs.Scopes.{In, defs, all_defs}
-use Rattle.kit_behaviour.specs.Rules.{EdgeFits, EdgesFit, AllEdgesFit, Rules}
-use Rattle.kit_behaviour.specs.ConstantPropagation.{Wants, sccp, IsSccp}
+use Rattle.kit_behaviour.specs.Rules.{EdgeFits, EdgesOfOpFit, AllEdgesFit, Rules}
+use Rattle.kit_behaviour.specs.ConstantPropagation.{Wants, sccp, IsSccpOfFunctions}
 use Rattle.kit_behaviour.specs.Places.{Place, same_place}
 use Rattle.kit_behaviour.proofs.Behaviour.FiniteLists.{below_other, upto, in_upto}
 use Rattle.kit_behaviour.proofs.Numbering.PlaceEquality.{place_law}
@@ -38,7 +38,7 @@ rank_meet (Known n) (Known m) = by_test (nat_eq n m)
 rank_meet (Known n) Unknown = omega arith
 rank_meet Unknown y = omega arith
 
-rank_lower : (x y : Fact) → (AtOrBelow x y → ⊥) → suc (rank x) ≤ rank (meet x y)
+rank_lower : (x y : Fact) → (FactAtOrBelow x y → ⊥) → suc (rank x) ≤ rank (meet x y)
 rank_lower Undetermined Undetermined h = absurd (h tt)
 rank_lower Undetermined (Known m) h = omega arith
 rank_lower Undetermined Unknown h = omega arith
@@ -51,7 +51,7 @@ rank_lower (Known n) (Known m) h = by_test (nat_eq n m) refl
 rank_lower (Known n) Unknown h = omega arith
 rank_lower Unknown y h = absurd (h tt)
 
-at_or : (x y : Fact) → AtOrBelow x y ⊎ (AtOrBelow x y → ⊥)
+at_or : (x y : Fact) → FactAtOrBelow x y ⊎ (FactAtOrBelow x y → ⊥)
 at_or Unknown y = inl tt
 at_or Undetermined Undetermined = inl tt
 at_or Undetermined (Known m) = inr (λ h. h)
@@ -64,7 +64,7 @@ at_or (Known n) (Known m) = by_test (nat_eq n m) refl
     by_test false e = inr (λ q. let bad : true ≡ false = sym (eq-eqb n m q) ∙ e in cc bad)
 at_or (Known n) Unknown = inr (λ h. h)
 
-unknown_or : (x : Fact) → (x ≡ Unknown) ⊎ (AtOrBelow x Unknown → ⊥)
+unknown_or : (x : Fact) → (x ≡ Unknown) ⊎ (FactAtOrBelow x Unknown → ⊥)
 unknown_or Undetermined = inr (λ h. h)
 unknown_or (Known n) = inr (λ h. h)
 unknown_or Unknown = inl refl
@@ -136,27 +136,27 @@ left_end (Some f) b l = blocks_end f b l
 
 module _ (f : Option (Fun Place)) (rules : Rules f) where
   -- facts that say nothing that closed facts don't say
-  abbrev IsBelow : Facts Place → Type 0
-  IsBelow k = (l : Facts Place) → IsClosed f l → MorePrecise k l
+  abbrev IsBelow : FunctionFacts Place → Type 0
+  IsBelow k = (l : FunctionFacts Place) → AreClosedFacts f l → FactsMorePrecise k l
 
-  abbrev Asks : Facts Place → (Facts Place → Type 0) → Type 0
-  Asks k P = (l : Facts Place) → IsClosed f l → MorePrecise k l → P l
+  abbrev Asks : FunctionFacts Place → (FunctionFacts Place → Type 0) → Type 0
+  Asks k P = (l : FunctionFacts Place) → AreClosedFacts f l → FactsMorePrecise k l → P l
 
   -- a demand that isn't met: a block has to run, or a value to be lower
-  data Fix (k : Facts Place) : Type 0 where
+  data Fix (k : FunctionFacts Place) : Type 0 where
     fix_block : (b : ℕ) → b < suc (size f) → k.runs b ≡ false → Asks k (λ l. l.runs b ≡ true) → Fix k
-    fix_value : (v : Place) (t : Fact) → In v (values f) → (AtOrBelow (k.of v) t → ⊥) → Asks k (λ l. AtOrBelow (l.of v) t) → Fix k
+    fix_value : (v : Place) (t : Fact) → In v (values f) → (FactAtOrBelow (k.of v) t → ⊥) → Asks k (λ l. FactAtOrBelow (l.of v) t) → Fix k
 
-  module _ (k : Facts Place) where
+  module _ (k : FunctionFacts Place) where
     unknown_check : (vs : List Place) → ((v : Place) → In v vs → In v (values f)) → Asks k (λ l. AllUnknown l vs) → AllUnknown k vs ⊎ Fix k
     unknown_check [] sub asks = inl tt
     unknown_check (v ∷ vs) sub asks =
         ⊎_elim
         (λ e. ⊎_elim (λ h. inl (e, h)) (λ x. inr x) (unknown_check vs (λ w i. sub w (inr i)) (λ l c m. (asks l c m).1)))
-        (λ n. inr (fix_value v Unknown (sub v (inl refl)) n (λ l c m. subst (λ t. AtOrBelow t Unknown) (sym (asks l c m).0) tt)))
+        (λ n. inr (fix_value v Unknown (sub v (inl refl)) n (λ l c m. subst (λ t. FactAtOrBelow t Unknown) (sym (asks l c m).0) tt)))
         (unknown_or (k.of v))
 
-    below_check : (ts gs : List Place) → ((v : Place) → In v ts → In v (values f)) → Asks k (λ l. AllBelow l ts gs) → AllBelow k ts gs ⊎ Fix k
+    below_check : (ts gs : List Place) → ((v : Place) → In v ts → In v (values f)) → Asks k (λ l. AllFactsAtOrBelow l ts gs) → AllFactsAtOrBelow k ts gs ⊎ Fix k
     below_check [] gs sub asks = inl tt
     below_check (t ∷ ts) [] sub asks = inl tt
     below_check (t ∷ ts) (g ∷ gs) sub asks =
@@ -165,15 +165,15 @@ module _ (f : Option (Fun Place)) (rules : Rules f) where
         (λ n. inr (fix_value t (k.of g) (sub t (inl refl)) n (λ l c m. at_trans (l.of t) (l.of g) (k.of g) (asks l c m).0 (m.above g))))
         (at_or (k.of t) (k.of g))
 
-    edge_check : (e : Edge Place) → EdgeFits f e → Asks k (λ l. EdgeClosed f l e) → EdgeClosed f k e ⊎ Fix k
+    edge_check : (e : Edge Place) → EdgeFits f e → Asks k (λ l. EdgeClosedIn f l e) → EdgeClosedIn f k e ⊎ Fix k
     edge_check e fits asks = by_test (k.runs e.target) refl
       where
-        by_test : (b : Bool) → k.runs e.target ≡ b → EdgeClosed f k e ⊎ Fix k
+        by_test : (b : Bool) → k.runs e.target ≡ b → EdgeClosedIn f k e ⊎ Fix k
         by_test true r =
             ⊎_elim (λ h. inl (r, h)) (λ x. inr x) (below_check (arguments_in f e.target) e.forwards (λ v i. in_values f v e.target (inl i)) (λ l c m. (asks l c m).1))
         by_test false r = let w = fits.leads in inr (fix_block e.target (omega (arith, w)) r (λ l c m. (asks l c m).0))
 
-    edges_check : (es : List (Edge Place)) → AllEdges (EdgeFits f) es → Asks k (λ l. AllEdges (EdgeClosed f l) es) → AllEdges (EdgeClosed f k) es ⊎ Fix k
+    edges_check : (es : List (Edge Place)) → AllEdges (EdgeFits f) es → Asks k (λ l. AllEdges (EdgeClosedIn f l) es) → AllEdges (EdgeClosedIn f k) es ⊎ Fix k
     edges_check [] fits asks = inl tt
     edges_check (e ∷ es) fits asks =
         ⊎_elim
@@ -181,11 +181,11 @@ module _ (f : Option (Fun Place)) (rules : Rules f) where
         (λ x. inr x)
         (edge_check e fits.0 (λ l c m. (asks l c m).0))
 
-    to_check : (t : ℕ) (es : List (Edge Place)) → AllEdges (EdgeFits f) es → Asks k (λ l. AllEdges (λ x. x.target ≡ t → EdgeClosed f l x) es) → AllEdges (λ x. x.target ≡ t → EdgeClosed f k x) es ⊎ Fix k
+    to_check : (t : ℕ) (es : List (Edge Place)) → AllEdges (EdgeFits f) es → Asks k (λ l. AllEdges (λ x. x.target ≡ t → EdgeClosedIn f l x) es) → AllEdges (λ x. x.target ≡ t → EdgeClosedIn f k x) es ⊎ Fix k
     to_check t [] fits asks = inl tt
     to_check t (e ∷ es) fits asks = by_test (nat_eq e.target t) refl (to_check t es fits.1 (λ l c m. (asks l c m).1))
       where
-        by_test : (b : Bool) → nat_eq e.target t ≡ b → AllEdges (λ x. x.target ≡ t → EdgeClosed f k x) es ⊎ Fix k → AllEdges (λ x. x.target ≡ t → EdgeClosed f k x) (e ∷ es) ⊎ Fix k
+        by_test : (b : Bool) → nat_eq e.target t ≡ b → AllEdges (λ x. x.target ≡ t → EdgeClosedIn f k x) es ⊎ Fix k → AllEdges (λ x. x.target ≡ t → EdgeClosedIn f k x) (e ∷ es) ⊎ Fix k
         by_test true q rest =
             ⊎_elim
             (λ h. ⊎_elim (λ g. inl ((λ z. h), g)) (λ x. inr x) rest)
@@ -193,16 +193,16 @@ module _ (f : Option (Fun Place)) (rules : Rules f) where
             (edge_check e fits.0 (λ l c m. (asks l c m).0 (eqb-true e.target t q)))
         by_test false q rest = ⊎_elim (λ g. inl ((λ z. let bad : true ≡ false = sym (eq-eqb e.target t z) ∙ q in absurd (cc bad)), g)) (λ x. inr x) rest
 
-    knows_less : (l : Facts Place) → MorePrecise k l → (xs : List Place) → KnowsBelow (knows (map l.of xs)) (knows (map k.of xs))
+    knows_less : (l : FunctionFacts Place) → FactsMorePrecise k l → (xs : List Place) → KnowsBelow (knows (map l.of xs)) (knows (map k.of xs))
     knows_less l m [] = refl
     knows_less l m (x ∷ xs) = more_below (l.of x) (k.of x) (knows (map l.of xs)) (knows (map k.of xs)) (m.above x) (knows_less l m xs)
 
-    branch_check : (s : Select) (t : Knows) (e : Edge Place) (es : List (Edge Place)) → AllEdges (EdgeFits f) (e ∷ es) → Asks k (λ l. BranchClosed f l s t e es) → BranchClosed f k s t e es ⊎ Fix k
+    branch_check : (s : Select) (t : Knows) (e : Edge Place) (es : List (Edge Place)) → AllEdges (EdgeFits f) (e ∷ es) → Asks k (λ l. BranchClosedIn f l s t e es) → BranchClosedIn f k s t e es ⊎ Fix k
     branch_check s Lacks e es fits asks = inl tt
     branch_check s (Numbers ns) e es fits asks = to_check (edge_at e es (chosen s ns)).target (e ∷ es) fits asks
     branch_check s Open e es fits asks = edges_check (e ∷ es) fits asks
 
-    op_check : (op : Op Place) → EdgesFit f op → ((v : Place) → In v (defs op) → In v (values f)) → Asks k (λ l. OpClosed f l op) → OpClosed f k op ⊎ Fix k
+    op_check : (op : Op Place) → EdgesOfOpFit f op → ((v : Place) → In v (defs op) → In v (values f)) → Asks k (λ l. OpClosed f l op) → OpClosed f k op ⊎ Fix k
     op_check (Const r n) fits sub asks = ⊎_elim (λ h. inl h) (λ n2. inr (fix_value r (Known n) (sub r (inl refl)) n2 asks)) (at_or (k.of r) (Known n))
     op_check (Calc a w r x y) fits sub asks =
         ⊎_elim (λ h. inl h)
@@ -249,16 +249,16 @@ module _ (f : Option (Fun Place)) (rules : Rules f) where
             by_test true e = subst BlockClosed (sym (eqb-true b n e)) h
             by_test false e = g b (below_other b n l (λ z. let bad : true ≡ false = sym (eq-eqb b n z) ∙ e in cc bad))
 
-    check : IsClosed f k ⊎ Fix k
+    check : AreClosedFacts f k ⊎ Fix k
     check = by_test (k.runs 0) refl
       where
-        closed : k.runs 0 ≡ true → AllUnknown k (arguments_in f 0) → ((b : ℕ) → b < size f → BlockClosed b) → IsClosed f k
+        closed : k.runs 0 ≡ true → AllUnknown k (arguments_in f 0) → ((b : ℕ) → b < size f → BlockClosed b) → AreClosedFacts f k
         closed r u h = record { entry_runs = r; entry_unknown = u; ops = λ b q. ops_of b q h }
           where
             ops_of : (b : ℕ) → k.runs b ≡ true → ((b : ℕ) → b < size f → BlockClosed b) → OpsClosed f k (left_in f b 0)
             ops_of b q h = ⊎_elim (λ l. h b l q) (λ l. subst (OpsClosed f k) (sym (left_end f b l)) tt) (less_or b (size f))
 
-        by_test : (q : Bool) → k.runs 0 ≡ q → IsClosed f k ⊎ Fix k
+        by_test : (q : Bool) → k.runs 0 ≡ q → AreClosedFacts f k ⊎ Fix k
         by_test false e = inr (fix_block 0 (omega arith) e (λ l c m. c.entry_runs))
         by_test true e =
             ⊎_elim
@@ -276,35 +276,35 @@ module _ (f : Option (Fun Place)) (rules : Rules f) where
   run_most true = omega arith
   run_most false = omega arith
 
-  abbrev measure : Facts Place → ℕ
+  abbrev measure : FunctionFacts Place → ℕ
   measure k = total (λ b. run_rank (k.runs b)) (upto (suc (size f))) + total (λ v. rank (k.of v)) (values f)
 
   abbrev bound : ℕ
   bound = length (upto (suc (size f))) + length (upto (suc (size f))) + (length (values f) + length (values f))
 
-  measure_most : (k : Facts Place) → measure k ≤ bound
+  measure_most : (k : FunctionFacts Place) → measure k ≤ bound
   measure_most k =
       let a = total_most (λ b. run_rank (k.runs b)) 0 (λ b. run_most (k.runs b)) (upto (suc (size f))) in
       let b = total_most (λ v. rank (k.of v)) 0 (λ v. rank_most (k.of v)) (values f) in
       omega (arith, a, b)
 
-  abbrev with_block : Facts Place → ℕ → Facts Place
+  abbrev with_block : FunctionFacts Place → ℕ → FunctionFacts Place
   with_block k b = record { runs = λ c. if nat_eq b c then true else k.runs c; of = k.of }
 
-  abbrev lowered : Facts Place → Place → Fact → Facts Place
+  abbrev lowered : FunctionFacts Place → Place → Fact → FunctionFacts Place
   lowered k v t = record { runs = k.runs; of = λ w. if same_place v w then meet (k.of w) t else k.of w }
 
-  abbrev Better : Facts Place → Type 0
-  Better k = (k' : Facts Place) × IsBelow k' × (suc (measure k) ≤ measure k')
+  abbrev Better : FunctionFacts Place → Type 0
+  Better k = (k' : FunctionFacts Place) × IsBelow k' × (suc (measure k) ≤ measure k')
 
-  mend : (k : Facts Place) → IsBelow k → Fix k → Better k
+  mend : (k : FunctionFacts Place) → IsBelow k → Fix k → Better k
   mend k below (fix_block b l n asks) = (
     with_block k b,
     λ m c. record { fewer = λ d e. fewer m c d e; above = (below m c).above },
     let g = total_grows (λ d. run_rank (k.runs d)) (λ d. run_rank ((with_block k b).runs d)) more b (upto (suc (size f))) (in_upto (suc (size f)) b l) strict in omega (arith, g),
   )
     where
-      fewer : (m : Facts Place) → IsClosed f m → (d : ℕ) → (if nat_eq b d then true else k.runs d) ≡ true → m.runs d ≡ true
+      fewer : (m : FunctionFacts Place) → AreClosedFacts f m → (d : ℕ) → (if nat_eq b d then true else k.runs d) ≡ true → m.runs d ≡ true
       fewer m c d e = by_test (nat_eq b d) refl
         where
           by_test : (q : Bool) → nat_eq b d ≡ q → m.runs d ≡ true
@@ -330,14 +330,14 @@ module _ (f : Option (Fun Place)) (rules : Rules f) where
     let g = total_grows (λ w. rank (k.of w)) (λ w. rank ((lowered k v t).of w)) more v (values f) i strict in omega (arith, g),
   )
     where
-      above : (m : Facts Place) → IsClosed f m → (w : Place) → AtOrBelow (m.of w) (if same_place v w then meet (k.of w) t else k.of w)
+      above : (m : FunctionFacts Place) → AreClosedFacts f m → (w : Place) → FactAtOrBelow (m.of w) (if same_place v w then meet (k.of w) t else k.of w)
       above m c w = by_test (same_place v w) refl
         where
-          by_test : (q : Bool) → same_place v w ≡ q → AtOrBelow (m.of w) (if same_place v w then meet (k.of w) t else k.of w)
+          by_test : (q : Bool) → same_place v w ≡ q → FactAtOrBelow (m.of w) (if same_place v w then meet (k.of w) t else k.of w)
           by_test true e =
-              subst (λ b. AtOrBelow (m.of w) (if b then meet (k.of w) t else k.of w)) (sym e)
-              (meet_below (k.of w) t (m.of w) ((below m c).above w) (subst (λ u. AtOrBelow (m.of u) t) (place_law.true_same v w e) (asks m c (below m c))))
-          by_test false e = subst (λ b. AtOrBelow (m.of w) (if b then meet (k.of w) t else k.of w)) (sym e) ((below m c).above w)
+              subst (λ b. FactAtOrBelow (m.of w) (if b then meet (k.of w) t else k.of w)) (sym e)
+              (meet_below (k.of w) t (m.of w) ((below m c).above w) (subst (λ u. FactAtOrBelow (m.of u) t) (place_law.true_same v w e) (asks m c (below m c))))
+          by_test false e = subst (λ b. FactAtOrBelow (m.of w) (if b then meet (k.of w) t else k.of w)) (sym e) ((below m c).above w)
 
       more : (w : Place) → rank (k.of w) ≤ rank (if same_place v w then meet (k.of w) t else k.of w)
       more w = by_test (same_place v w)
@@ -352,7 +352,7 @@ module _ (f : Option (Fun Place)) (rules : Rules f) where
           let r = rank_lower (k.of v) t n in
           omega (arith, q, r)
 
-  solve : (m : ℕ) (k : Facts Place) → IsBelow k → bound < m + measure k → (k' : Facts Place) × IsMostPrecise f k'
+  solve : (m : ℕ) (k : FunctionFacts Place) → IsBelow k → bound < m + measure k → (k' : FunctionFacts Place) × AreMostPreciseFacts f k'
   solve zero k below l = absurd (omega (arith, l, measure_most k))
   solve (suc m) k below l =
       ⊎_elim
@@ -360,16 +360,16 @@ module _ (f : Option (Fun Place)) (rules : Rules f) where
       (λ x. let b = mend k below x in let g = b.2 in solve m b.0 b.1 (omega (arith, l, g)))
       (check k)
 
-  abbrev top_facts : Facts Place
+  abbrev top_facts : FunctionFacts Place
   top_facts = record { runs = λ b. false; of = λ v. Undetermined }
 
   top_below : IsBelow top_facts
   top_below l c = record { fewer = λ b e. absurd (cc e); above = λ v. at_top (l.of v) }
 
-  pub best_exists : (k : Facts Place) × IsMostPrecise f k
+  pub best_exists : (k : FunctionFacts Place) × AreMostPreciseFacts f k
   best_exists = solve (suc bound) top_facts top_below (omega arith)
 
-pub sccp_exists : (want : Wants) (p : Program Place) → ((path : List ℕ) → Rules (p path)) → (q : Program Place) × IsSccp want p q
+pub sccp_exists : (want : Wants) (p : FunctionsByPath Place) → ((path : List ℕ) → Rules (p path)) → (q : FunctionsByPath Place) × IsSccpOfFunctions want p q
 sccp_exists want p rules =
     let k = λ (path : List ℕ). best_exists (p path) (rules path) in
     (sccp want (λ path. (k path).0) p, record { facts = λ path. (k path).0; best = λ path. (k path).1; is = λ path. refl })

@@ -2,12 +2,12 @@
 use Rattle.std.proofs.Common.{◌≡◌, ◌⊎◌, ⊎_elim, inl, inr, ℕ, Bool, Option, Some, None, refl, sym, ap, ◌∙◌, subst}
 use Rattle.std.specs.Prelude.{slice_get}
 use Rattle.kit_behaviour.specs.Machine.{Fun, left_in, arguments_in}
-use Rattle.kit_behaviour.specs.Facts.{Facts, IsMostPrecise}
+use Rattle.kit_behaviour.specs.Facts.{FunctionFacts, AreMostPreciseFacts}
 use Rattle.kit_behaviour.specs.Scopes.{In, all_defs}
-use Rattle.kit_behaviour.specs.InsertedConstants.{Name, Old, same_name, Made, put_args, put_ops, put_in, use_of}
+use Rattle.kit_behaviour.specs.InsertedConstants.{OldOrNewName, Old, same_name, Made, put_args, put_ops, put_in, use_of}
 use Rattle.kit_behaviour.specs.Rules.{Rules}
-use Rattle.kit_behaviour.specs.ConstantPropagation.{Wants, made_of, with_facts, propagated, FactsKept}
-use Rattle.kit_behaviour.specs.Numbering.{place_in, HasPlace, IsDefined}
+use Rattle.kit_behaviour.specs.ConstantPropagation.{Wants, made_of, with_facts, propagated, KeepsFunctionFacts}
+use Rattle.kit_behaviour.specs.Numbering.{place_in, HasPlace, NamesAreDefined}
 use Rattle.kit_behaviour.specs.Places.{Place, same_place}
 use Rattle.kit_behaviour.proofs.Behaviour.FrameLemmas.{IsSameness}
 use Rattle.kit_behaviour.proofs.Numbering.PlaceEquality.{place_law}
@@ -32,14 +32,14 @@ module _ (f : Fun Place) (v : Place) (h : HasPlace same_place (Some f) v) where
   defined_at : In v (arguments_in (Some f) (block_of h.0)) ⊎ In v (all_defs (left_in (Some f) (block_of h.0) 0))
   defined_at = block_at v (slice_get f (block_of h.0)) h.0 (at_place same_place place_law f v h.0 h.1)
 
-module _ (want : Wants) (f : Option (Fun Place)) (k : Facts Place) (rules : Rules f) where
+module _ (want : Wants) (f : Option (Fun Place)) (k : FunctionFacts Place) (rules : Rules f) where
   abbrev m : Made Place
   m = made_of want f k
 
-  abbrev g : Option (Fun (Name Place))
+  abbrev g : Option (Fun (OldOrNewName Place))
   g = with_facts want f k
 
-  abbrev same : Name Place → Name Place → Bool
+  abbrev same : OldOrNewName Place → OldOrNewName Place → Bool
   same = same_name same_place
 
   old_at : (b : ℕ) (v : Place) → In v (arguments_in f b) ⊎ In v (all_defs (left_in f b 0)) → In (Old v) (arguments_in g b) ⊎ In (Old v) (all_defs (left_in g b 0))
@@ -56,14 +56,14 @@ module _ (want : Wants) (f : Option (Fun Place)) (k : Facts Place) (rules : Rule
   old_has : (b : ℕ) (v : Place) → In v (arguments_in f b) ⊎ In v (all_defs (left_in f b 0)) → HasPlace same g (Old v)
   old_has b v i = has_place same (same_name_law same_place place_law) g b (Old v) (old_at b v i)
 
-  defined : IsDefined same g
+  defined : NamesAreDefined same g
   defined = scoped_defined same (same_name_law same_place place_law) g (facts_scoped want f k rules)
 
-has_old : (want : Wants) (f : Option (Fun Place)) (k : Facts Place) → Rules f → (v : Place) → HasPlace same_place f v → HasPlace (same_name same_place) (with_facts want f k) (Old v)
+has_old : (want : Wants) (f : Option (Fun Place)) (k : FunctionFacts Place) → Rules f → (v : Place) → HasPlace same_place f v → HasPlace (same_name same_place) (with_facts want f k) (Old v)
 has_old want None k rules v h = absurd h
 has_old want (Some f) k rules v h = old_has want (Some f) k rules (block_of h.0) v (defined_at f v h)
 
-pub facts_stay : (want : Wants) (f : Option (Fun Place)) (k l : Facts Place) → Rules f → IsMostPrecise f k → IsMostPrecise (propagated want f k) l → FactsKept want f k l
+pub facts_stay : (want : Wants) (f : Option (Fun Place)) (k l : FunctionFacts Place) → Rules f → AreMostPreciseFacts f k → AreMostPreciseFacts (propagated want f k) l → KeepsFunctionFacts want f k l
 facts_stay want f k l rules best best_l =
     let law = same_name_law same_place place_law in
     let same = same_name same_place in

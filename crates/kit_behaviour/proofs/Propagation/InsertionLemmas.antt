@@ -3,11 +3,11 @@ use Rattle.std.proofs.Common.{◌≡◌, ◌⊎◌, inl, inr, ℕ, Bool, true, f
 use Rattle.std.specs.Prelude.{map, slice_get, if◌then◌else◌, option_map}
 use Rattle.std.proofs.lemmas.Option.{slice_get-map}
 use Rattle.kit_behaviour.specs.Machine.{edge_at, chosen, Select, Edge, Op, Const, Calc, Emit, Call, Branch, Return, Block, Fun, ops_left, left_in, arguments_of, arguments_in}
-use Rattle.kit_behaviour.specs.RemovedValues.{EdgeLive, may_trap, goes, live, pick, thin_edge, thin_op, thin_ops, thin_block, thin, AllLive, GivesLive, OpLive, OpsLive, MayGo}
+use Rattle.kit_behaviour.specs.RemovedValues.{EdgeLive, may_trap, goes, live, pick, thin_edge, thin_op, thin_ops, thin_block, thin, AllLive, GivesLive, OpLive, OpsLive, SetMayGo}
 use Rattle.kit_behaviour.specs.Renaming.{rename_edge, same_block}
-use Rattle.kit_behaviour.specs.Facts.{Knows, Lacks, Numbers, Open, knows, unless_lacking, branch_knows, all_forwarded, Fact, Known, AtOrBelow, Facts, AllUnknown, AllBelow, EdgeClosed, BranchClosed, OpClosed, OpsClosed, IsClosed}
+use Rattle.kit_behaviour.specs.Facts.{Knows, Lacks, Numbers, Open, knows, unless_lacking, branch_knows, all_forwarded, Fact, Known, FactAtOrBelow, FunctionFacts, AllUnknown, AllFactsAtOrBelow, EdgeClosedIn, BranchClosedIn, OpClosed, OpsClosed, AreClosedFacts}
 use Rattle.kit_behaviour.specs.Replacement.{SameKnown}
-use Rattle.kit_behaviour.specs.InsertedConstants.{Name, Old, New, is_new, Made, put_if, put_args, old, put_before, put_ops, put_block, put_in, constant_of, use_of, MayPut}
+use Rattle.kit_behaviour.specs.InsertedConstants.{OldOrNewName, Old, New, is_new, Made, put_if, put_args, old, put_before, put_ops, put_block, put_in, constant_of, use_of, MayPut}
 use Rattle.kit_behaviour.proofs.Behaviour.EdgeLemmas.{taken_map, edges_map, edges_any, gives_renamed}
 
 put_left_block : {V : Type 0} (m : Made V) (o : Option (Block V)) → ops_left (option_map (put_block m) o) 0 ≡ put_args m (arguments_of o) (put_ops m (ops_left o 0))
@@ -32,7 +32,7 @@ live_old : {V : Type 0} (vs : List V) → live is_new (map Old vs) ≡ map Old v
 live_old [] = refl
 live_old (v ∷ vs) = ap (λ l. Old v ∷ l) (live_old vs)
 
-pick_old : {V : Type 0} (ts : List V) (gs : List (Name V)) → pick is_new (map Old ts) gs ≡ gs
+pick_old : {V : Type 0} (ts : List V) (gs : List (OldOrNewName V)) → pick is_new (map Old ts) gs ≡ gs
 pick_old [] gs = refl
 pick_old (t ∷ ts) [] = refl
 pick_old (t ∷ ts) (g ∷ gs) = ap (λ l. g ∷ l) (pick_old ts gs)
@@ -67,15 +67,15 @@ stays_old (Call rs c xs) = refl
 stays_old (Branch s xs e es) = refl
 stays_old (Return xs) = refl
 
-thin_put : {V : Type 0} (f : Option (Fun (Name V))) (o : Option ℕ) (v : V) (rest : List (Op (Name V))) → thin_ops f is_new (put_if o v rest) ≡ thin_ops f is_new rest
+thin_put : {V : Type 0} (f : Option (Fun (OldOrNewName V))) (o : Option ℕ) (v : V) (rest : List (Op (OldOrNewName V))) → thin_ops f is_new (put_if o v rest) ≡ thin_ops f is_new rest
 thin_put f None v rest = refl
 thin_put f (Some n) v rest = refl
 
-thin_args : {V : Type 0} (m : Made V) (f : Option (Fun (Name V))) (vs : List V) (rest : List (Op (Name V))) → thin_ops f is_new (put_args m vs rest) ≡ thin_ops f is_new rest
+thin_args : {V : Type 0} (m : Made V) (f : Option (Fun (OldOrNewName V))) (vs : List V) (rest : List (Op (OldOrNewName V))) → thin_ops f is_new (put_args m vs rest) ≡ thin_ops f is_new rest
 thin_args m f [] rest = refl
 thin_args m f (v ∷ vs) rest = thin_args m f vs (put_if (m v) v rest) ∙ thin_put f (m v) v rest
 
-thin_before : {V : Type 0} (m : Made V) (f : Option (Fun (Name V))) (op : Op V) (rest : List (Op (Name V))) → thin_ops f is_new (put_before m op rest) ≡ thin_ops f is_new rest
+thin_before : {V : Type 0} (m : Made V) (f : Option (Fun (OldOrNewName V))) (op : Op V) (rest : List (Op (OldOrNewName V))) → thin_ops f is_new (put_before m op rest) ≡ thin_ops f is_new rest
 thin_before m f (Calc a w r x y) rest = thin_put f (m r) r rest
 thin_before m f (Const r n) rest = refl
 thin_before m f (Emit x) rest = refl
@@ -91,10 +91,10 @@ thin_put_ops m f (op ∷ ops) =
     ∙ ap (λ z. z ∷ thin_ops (put_in m f) is_new (put_ops m ops)) (thin_old m f op)
     ∙ ap (λ l. old op ∷ l) (thin_put_ops m f ops)
 
-abbrev pub old_block : {V : Type 0} → Block V → Block (Name V)
+abbrev pub old_block : {V : Type 0} → Block V → Block (OldOrNewName V)
 old_block b = record { arguments = map Old b.arguments; ops = map old b.ops }
 
-abbrev pub old_fun : {V : Type 0} → Option (Fun V) → Option (Fun (Name V))
+abbrev pub old_fun : {V : Type 0} → Option (Fun V) → Option (Fun (OldOrNewName V))
 old_fun None = None
 old_fun (Some f) = Some (map old_block f)
 
@@ -131,15 +131,15 @@ op_old m f (Call rs c xs) = all_old xs
 op_old m f (Branch s xs e es) = (all_old xs, edges_map (λ x. Unit {0}) (EdgeLive (put_in m f) is_new) (rename_edge Old same_block) (λ x h. edge_old m f x) (e ∷ es) (edges_any (λ x. Unit {0}) (λ x. tt) (e ∷ es)))
 op_old m f (Return xs) = all_old xs
 
-ops_put : {V : Type 0} (f : Option (Fun (Name V))) (o : Option ℕ) (v : V) (rest : List (Op (Name V))) → OpsLive f is_new rest → OpsLive f is_new (put_if o v rest)
+ops_put : {V : Type 0} (f : Option (Fun (OldOrNewName V))) (o : Option ℕ) (v : V) (rest : List (Op (OldOrNewName V))) → OpsLive f is_new rest → OpsLive f is_new (put_if o v rest)
 ops_put f None v rest h = h
 ops_put f (Some n) v rest h = (λ x. tt, h)
 
-ops_args : {V : Type 0} (m : Made V) (f : Option (Fun (Name V))) (vs : List V) (rest : List (Op (Name V))) → OpsLive f is_new rest → OpsLive f is_new (put_args m vs rest)
+ops_args : {V : Type 0} (m : Made V) (f : Option (Fun (OldOrNewName V))) (vs : List V) (rest : List (Op (OldOrNewName V))) → OpsLive f is_new rest → OpsLive f is_new (put_args m vs rest)
 ops_args m f [] rest h = h
 ops_args m f (v ∷ vs) rest h = ops_args m f vs (put_if (m v) v rest) (ops_put f (m v) v rest h)
 
-ops_before : {V : Type 0} (m : Made V) (f : Option (Fun (Name V))) (op : Op V) (rest : List (Op (Name V))) → OpsLive f is_new rest → OpsLive f is_new (put_before m op rest)
+ops_before : {V : Type 0} (m : Made V) (f : Option (Fun (OldOrNewName V))) (op : Op V) (rest : List (Op (OldOrNewName V))) → OpsLive f is_new rest → OpsLive f is_new (put_before m op rest)
 ops_before m f (Calc a w r x y) rest h = ops_put f (m r) r rest h
 ops_before m f (Const r n) rest h = h
 ops_before m f (Emit x) rest h = h
@@ -151,7 +151,7 @@ ops_live : {V : Type 0} (m : Made V) (f : Option (Fun V)) (ops : List (Op V)) �
 ops_live m f [] = tt
 ops_live m f (op ∷ ops) = ops_before m (put_in m f) op (old op ∷ put_ops m ops) (λ h. op_old m f op, ops_live m f ops)
 
-pub put_may_go : {V : Type 0} (m : Made V) (f : Option (Fun V)) → MayGo is_new (put_in m f)
+pub put_may_go : {V : Type 0} (m : Made V) (f : Option (Fun V)) → SetMayGo is_new (put_in m f)
 put_may_go m f =
     record {
       entry = subst (AllLive is_new) (sym (put_takes m f 0)) (all_old (arguments_in f 0));
@@ -160,32 +160,32 @@ put_may_go m f =
 
 -- 3. closed facts stay closed
 
-abbrev pub of_name : {V : Type 0} → Facts V → Name V → Fact
+abbrev pub of_name : {V : Type 0} → FunctionFacts V → OldOrNewName V → Fact
 of_name k (Old v) = k.of v
 of_name k (New v) = k.of v
 
-abbrev pub name_facts : {V : Type 0} → Facts V → Facts (Name V)
+abbrev pub name_facts : {V : Type 0} → FunctionFacts V → FunctionFacts (OldOrNewName V)
 name_facts k = record { runs = k.runs; of = of_name k }
 
-unknown_old : {V : Type 0} (k : Facts V) (vs : List V) → AllUnknown k vs → AllUnknown (name_facts k) (map Old vs)
+unknown_old : {V : Type 0} (k : FunctionFacts V) (vs : List V) → AllUnknown k vs → AllUnknown (name_facts k) (map Old vs)
 unknown_old k [] h = tt
 unknown_old k (v ∷ vs) h = (h.0, unknown_old k vs h.1)
 
-below_old : {V : Type 0} (k : Facts V) (ts gs : List V) → AllBelow k ts gs → AllBelow (name_facts k) (map Old ts) (map Old gs)
+below_old : {V : Type 0} (k : FunctionFacts V) (ts gs : List V) → AllFactsAtOrBelow k ts gs → AllFactsAtOrBelow (name_facts k) (map Old ts) (map Old gs)
 below_old k [] gs h = tt
 below_old k (t ∷ ts) [] h = tt
 below_old k (t ∷ ts) (g ∷ gs) h = (h.0, below_old k ts gs h.1)
 
-module _ {V : Type 0} (m : Made V) (k : Facts V) (f : Option (Fun V)) (may : MayPut m k f) where
-  closed_edge : (e : Edge V) → EdgeClosed f k e → EdgeClosed (put_in m f) (name_facts k) (rename_edge Old same_block e)
-  closed_edge e h = (h.0, subst (λ ts. AllBelow (name_facts k) ts (map Old e.forwards)) (sym (put_takes m f e.target)) (below_old k (arguments_in f e.target) e.forwards h.1))
+module _ {V : Type 0} (m : Made V) (k : FunctionFacts V) (f : Option (Fun V)) (may : MayPut m k f) where
+  closed_edge : (e : Edge V) → EdgeClosedIn f k e → EdgeClosedIn (put_in m f) (name_facts k) (rename_edge Old same_block e)
+  closed_edge e h = (h.0, subst (λ ts. AllFactsAtOrBelow (name_facts k) ts (map Old e.forwards)) (sym (put_takes m f e.target)) (below_old k (arguments_in f e.target) e.forwards h.1))
 
-  closed_fork : (s : Select) (t : Knows) (e : Edge V) (es : List (Edge V)) → BranchClosed f k s t e es → BranchClosed (put_in m f) (name_facts k) s t (rename_edge Old same_block e) (map (rename_edge Old same_block) es)
+  closed_fork : (s : Select) (t : Knows) (e : Edge V) (es : List (Edge V)) → BranchClosedIn f k s t e es → BranchClosedIn (put_in m f) (name_facts k) s t (rename_edge Old same_block e) (map (rename_edge Old same_block) es)
   closed_fork s Lacks e es h = tt
-  closed_fork s Open e es h = edges_map (EdgeClosed f k) (EdgeClosed (put_in m f) (name_facts k)) (rename_edge Old same_block) (λ x c. closed_edge x c) (e ∷ es) h
+  closed_fork s Open e es h = edges_map (EdgeClosedIn f k) (EdgeClosedIn (put_in m f) (name_facts k)) (rename_edge Old same_block) (λ x c. closed_edge x c) (e ∷ es) h
   closed_fork s (Numbers ns) e es h =
-      edges_map (λ x. x.target ≡ (edge_at e es (chosen s ns)).target → EdgeClosed f k x) (λ x. x.target ≡ (edge_at (rename_edge Old same_block e) (map (rename_edge Old same_block) es) (chosen s ns)).target → EdgeClosed (put_in m f) (name_facts k) x) (rename_edge Old same_block)
-      (λ x c q. let t = ap (λ (y : Edge (Name V)). y.target) (taken_map (rename_edge Old same_block) e es (chosen s ns)) in closed_edge x (c (q ∙ t))) (e ∷ es) h
+      edges_map (λ x. x.target ≡ (edge_at e es (chosen s ns)).target → EdgeClosedIn f k x) (λ x. x.target ≡ (edge_at (rename_edge Old same_block e) (map (rename_edge Old same_block) es) (chosen s ns)).target → EdgeClosedIn (put_in m f) (name_facts k) x) (rename_edge Old same_block)
+      (λ x c q. let t = ap (λ (y : Edge (OldOrNewName V)). y.target) (taken_map (rename_edge Old same_block) e es (chosen s ns)) in closed_edge x (c (q ∙ t))) (e ∷ es) h
 
   facts_old : (xs : List V) → map (of_name k) (map Old xs) ≡ map k.of xs
   facts_old [] = refl
@@ -202,18 +202,18 @@ module _ {V : Type 0} (m : Made V) (k : Facts V) (f : Option (Fun V)) (may : May
   closed_op (Calc a w r x y) h = h
   closed_op (Emit x) h = tt
   closed_op (Call rs c xs) h = unknown_old k rs h
-  closed_op (Branch s xs e es) h = subst (λ q. BranchClosed (put_in m f) (name_facts k) s q (rename_edge Old same_block e) (map (rename_edge Old same_block) es)) (sym (knows_same xs (e ∷ es))) (closed_fork s (branch_knows k xs (e ∷ es)) e es h)
+  closed_op (Branch s xs e es) h = subst (λ q. BranchClosedIn (put_in m f) (name_facts k) s q (rename_edge Old same_block e) (map (rename_edge Old same_block) es)) (sym (knows_same xs (e ∷ es))) (closed_fork s (branch_knows k xs (e ∷ es)) e es h)
   closed_op (Return xs) h = tt
 
-  closed_put : (o : Option ℕ) (v : V) (rest : List (Op (Name V))) → m v ≡ o → OpsClosed (put_in m f) (name_facts k) rest → OpsClosed (put_in m f) (name_facts k) (put_if o v rest)
+  closed_put : (o : Option ℕ) (v : V) (rest : List (Op (OldOrNewName V))) → m v ≡ o → OpsClosed (put_in m f) (name_facts k) rest → OpsClosed (put_in m f) (name_facts k) (put_if o v rest)
   closed_put None v rest e h = h
-  closed_put (Some n) v rest e h = (subst (λ t. AtOrBelow t (Known n)) (sym (may.known v n e)) refl, h)
+  closed_put (Some n) v rest e h = (subst (λ t. FactAtOrBelow t (Known n)) (sym (may.known v n e)) refl, h)
 
-  closed_args : (vs : List V) (rest : List (Op (Name V))) → OpsClosed (put_in m f) (name_facts k) rest → OpsClosed (put_in m f) (name_facts k) (put_args m vs rest)
+  closed_args : (vs : List V) (rest : List (Op (OldOrNewName V))) → OpsClosed (put_in m f) (name_facts k) rest → OpsClosed (put_in m f) (name_facts k) (put_args m vs rest)
   closed_args [] rest h = h
   closed_args (v ∷ vs) rest h = closed_args vs (put_if (m v) v rest) (closed_put (m v) v rest refl h)
 
-  closed_before : (op : Op V) (rest : List (Op (Name V))) → OpsClosed (put_in m f) (name_facts k) rest → OpsClosed (put_in m f) (name_facts k) (put_before m op rest)
+  closed_before : (op : Op V) (rest : List (Op (OldOrNewName V))) → OpsClosed (put_in m f) (name_facts k) rest → OpsClosed (put_in m f) (name_facts k) (put_before m op rest)
   closed_before (Calc a w r x y) rest h = closed_put (m r) r rest refl h
   closed_before (Const r n) rest h = h
   closed_before (Emit x) rest h = h
@@ -225,7 +225,7 @@ module _ {V : Type 0} (m : Made V) (k : Facts V) (f : Option (Fun V)) (may : May
   closed_ops [] h = tt
   closed_ops (op ∷ ops) h = closed_before op (old op ∷ put_ops m ops) (closed_op op h.0, closed_ops ops h.1)
 
-  pub put_closed : IsClosed f k → IsClosed (put_in m f) (name_facts k)
+  pub put_closed : AreClosedFacts f k → AreClosedFacts (put_in m f) (name_facts k)
   put_closed c =
       record {
         entry_runs = c.entry_runs;

@@ -3,14 +3,14 @@ use Rattle.std.proofs.Common.{◌≡◌, ◌⊎◌, ⊎_elim, inl, inr, ℕ, Boo
 use Rattle.std.specs.Prelude.{map, slice_get}
 use Rattle.kit_behaviour.specs.Machine.{Block, ops_left, AllEdges, Edge, Op, Const, Calc, Emit, Call, Branch, Return, Fun, left_in, arguments_in}
 use Rattle.kit_behaviour.specs.Renaming.{rename_op, AllNamed, EdgeNamed, OpNamed, OpsNamed, same_block}
-use Rattle.kit_behaviour.specs.Facts.{all_forwarded, Known, Facts, IsMostPrecise}
+use Rattle.kit_behaviour.specs.Facts.{all_forwarded, Known, FunctionFacts, AreMostPreciseFacts}
 use Rattle.kit_behaviour.specs.Scopes.{is_in, In, AllIn, defs, at_start, OpsWith}
 use Rattle.kit_behaviour.specs.Replacement.{replace_op}
-use Rattle.kit_behaviour.specs.InsertedConstants.{Name, Old, same_name, Made, put_if, put_args, old, put_before, put_ops, constant_of, use_of}
+use Rattle.kit_behaviour.specs.InsertedConstants.{OldOrNewName, Old, same_name, Made, put_if, put_args, old, put_before, put_ops, constant_of, use_of}
 use Rattle.kit_behaviour.specs.Rules.{all_operands, blocks_operands, uses_in, operands, Rules}
 use Rattle.kit_behaviour.specs.ConstantPropagation.{propagated, Wants, WantsUsed, made_of, with_facts}
 use Rattle.kit_behaviour.specs.KnownOperands.{const_defs, NamesConstant, KnownAreConstants}
-use Rattle.kit_behaviour.specs.Numbering.{place_fun, HasPlace, AnyBlock, IsDefined}
+use Rattle.kit_behaviour.specs.Numbering.{place_fun, HasPlace, AnyBlock, NamesAreDefined}
 use Rattle.kit_behaviour.specs.Places.{Place, same_place}
 use Rattle.kit_behaviour.proofs.Behaviour.FiniteLists.{in_is}
 use Rattle.kit_behaviour.proofs.Behaviour.EdgeLemmas.{map_append, gives_replaced}
@@ -77,18 +77,18 @@ module _ {V : Type 0} (N : V → Type 0) (S : ℕ → Type 0) where
 
 module _ {V : Type 0} (m : Made V) where
   -- it has no operand, or it was one of these
-  abbrev Was : List (Op V) → Op (Name V) → Type 0
-  Was ops o = ((y : Name V) → In y (operands o) → ⊥) ⊎ ((op : Op V) × In op ops × (o ≡ old op))
+  abbrev Was : List (Op V) → Op (OldOrNewName V) → Type 0
+  Was ops o = ((y : OldOrNewName V) → In y (operands o) → ⊥) ⊎ ((op : Op V) × In op ops × (o ≡ old op))
 
-  was_put : (ops : List (Op V)) (o : Op (Name V)) (t : Option ℕ) (v : V) (rest : List (Op (Name V))) → (In o rest → Was ops o) → In o (put_if t v rest) → Was ops o
+  was_put : (ops : List (Op V)) (o : Op (OldOrNewName V)) (t : Option ℕ) (v : V) (rest : List (Op (OldOrNewName V))) → (In o rest → Was ops o) → In o (put_if t v rest) → Was ops o
   was_put ops o None v rest h i = h i
   was_put ops o (Some n) v rest h i = ⊎_elim (λ e. inl (λ y j. subst (λ z. In y (operands z)) e j)) (λ k. h k) i
 
-  was_args : (ops : List (Op V)) (o : Op (Name V)) (vs : List V) (rest : List (Op (Name V))) → (In o rest → Was ops o) → In o (put_args m vs rest) → Was ops o
+  was_args : (ops : List (Op V)) (o : Op (OldOrNewName V)) (vs : List V) (rest : List (Op (OldOrNewName V))) → (In o rest → Was ops o) → In o (put_args m vs rest) → Was ops o
   was_args ops o [] rest h i = h i
   was_args ops o (v ∷ vs) rest h i = was_args ops o vs (put_if (m v) v rest) (λ j. was_put ops o (m v) v rest h j) i
 
-  was_before : (ops : List (Op V)) (o : Op (Name V)) (op : Op V) (rest : List (Op (Name V))) → (In o rest → Was ops o) → In o (put_before m op rest) → Was ops o
+  was_before : (ops : List (Op V)) (o : Op (OldOrNewName V)) (op : Op V) (rest : List (Op (OldOrNewName V))) → (In o rest → Was ops o) → In o (put_before m op rest) → Was ops o
   was_before ops o (Calc a w r x y) rest h i = was_put ops o (m r) r rest h i
   was_before ops o (Const r n) rest h i = h i
   was_before ops o (Emit x) rest h i = h i
@@ -96,10 +96,10 @@ module _ {V : Type 0} (m : Made V) where
   was_before ops o (Branch s xs e es) rest h i = h i
   was_before ops o (Return xs) rest h i = h i
 
-  more : (op : Op V) (ops : List (Op V)) (o : Op (Name V)) → Was ops o → Was (op ∷ ops) o
+  more : (op : Op V) (ops : List (Op V)) (o : Op (OldOrNewName V)) → Was ops o → Was (op ∷ ops) o
   more op ops o w = ⊎_elim (λ n. inl n) (λ h. inr (h.0, inr h.1, h.2)) w
 
-  was_ops : (ops : List (Op V)) (o : Op (Name V)) → In o (put_ops m ops) → Was ops o
+  was_ops : (ops : List (Op V)) (o : Op (OldOrNewName V)) → In o (put_ops m ops) → Was ops o
   was_ops [] o i = absurd i
   was_ops (op ∷ ops) o i = was_before (op ∷ ops) o op (old op ∷ put_ops m ops) (λ j. ⊎_elim (λ e. inr (op, inl refl, e)) (λ k. more op ops o (was_ops ops o k)) j) i
 
@@ -132,9 +132,9 @@ in_all x (y ∷ ys) a h i = ⊎_elim (λ e. subst (λ z. In z a) (sym e) h.0) (�
 
 -- where an operand after the pass comes from
 
-module _ (want : Wants) (f : Option (Fun Place)) (k : Facts Place) (rules : Rules f) where
+module _ (want : Wants) (f : Option (Fun Place)) (k : FunctionFacts Place) (rules : Rules f) where
   -- the place of a name after the pass
-  abbrev pub placed_name : Name Place → Place
+  abbrev pub placed_name : OldOrNewName Place → Place
   placed_name = place_name (same_name same_place) (same_name_law same_place place_law) (with_facts want f k)
 
   -- an operand is the place of what a use of an operand z of block b names
@@ -166,23 +166,23 @@ module _ (want : Wants) (f : Option (Fun Place)) (k : Facts Place) (rules : Rule
       record { z = old_use.0; op = w.0; op_in = w.1; z_in = old_use.1; is = used.2 ∙ ap placed_name y; has = subst (HasPlace same g) y has })
       (was_args m (left_in f b 0) was_at.0 (arguments_in f b) (put_ops m (left_in f b 0)) (was_ops m (left_in f b 0) was_at.0) was_at.1)
 
-module _ (want : Wants) (wants : WantsUsed want) (f : Option (Fun Place)) (k : Facts Place) (rules : Rules f) (best : IsMostPrecise f k) where
+module _ (want : Wants) (wants : WantsUsed want) (f : Option (Fun Place)) (k : FunctionFacts Place) (rules : Rules f) (best : AreMostPreciseFacts f k) where
   abbrev m : Made Place
   m = made_of want f k
 
-  abbrev same : Name Place → Name Place → Bool
+  abbrev same : OldOrNewName Place → OldOrNewName Place → Bool
   same = same_name same_place
 
-  abbrev g : Option (Fun (Name Place))
+  abbrev g : Option (Fun (OldOrNewName Place))
   g = with_facts want f k
 
   abbrev q : Option (Fun Place)
   q = place_fun same g
 
-  abbrev r : Name Place → Place
+  abbrev r : OldOrNewName Place → Place
   r = place_name same (same_name_law same_place place_law) g
 
-  defined : IsDefined same g
+  defined : NamesAreDefined same g
   defined = scoped_defined same (same_name_law same_place place_law) g (facts_scoped want f k rules)
 
   -- before the places are numbered again
@@ -193,18 +193,18 @@ module _ (want : Wants) (wants : WantsUsed want) (f : Option (Fun Place)) (k : F
       (at_start f b) (left_in f b 0) (rules.sees b) (known_named want f k rules best b h) op i x j (wants f x (use_is f b op x i j)) n e
 
   -- a use after the pass is known only where the old value is
-  use_known : (l : Facts (Name Place)) → ((v : Place) → l.of (Old v) ≡ k.of v) → (x : Place) (n : ℕ) → l.of (use_of m (Old x)) ≡ Known n → (i : ℕ) × (k.of x ≡ Known i)
+  use_known : (l : FunctionFacts (OldOrNewName Place)) → ((v : Place) → l.of (Old v) ≡ k.of v) → (x : Place) (n : ℕ) → l.of (use_of m (Old x)) ≡ Known n → (i : ℕ) × (k.of x ≡ Known i)
   use_known l kept x n e = by_made (m x) refl
     where
       by_made : (o : Option ℕ) → m x ≡ o → (i : ℕ) × (k.of x ≡ Known i)
       by_made None w = (n, sym (kept x) ∙ ap l.of (sym (ap (λ o. constant_of o x) w)) ∙ e)
       by_made (Some i) w = (i, made_known want f k x i w)
 
-  names_placed : (y : Name Place) → NamesConstant g y → NamesConstant q (r y)
+  names_placed : (y : OldOrNewName Place) → NamesConstant g y → NamesConstant q (r y)
   names_placed y c =
       (c.0, subst (In (r y)) (sym (ap const_defs (place_left same (same_name_law same_place place_law) g c.0) ∙ consts_under r (left_in g c.0 0))) (all_map r y (const_defs (left_in g c.0 0)) c.1))
 
-  pub known_placed : (l : Facts Place) → IsMostPrecise q l → KnownAreConstants q l
+  pub known_placed : (l : FunctionFacts Place) → AreMostPreciseFacts q l → KnownAreConstants q l
   known_placed l best_l b h op i x j n e =
       let law = same_name_law same_place place_law in
       let gl = by_name same law g l in

@@ -2,10 +2,10 @@
 use Rattle.std.proofs.Common.{◌≡◌, ⊎_elim, inl, inr, ℕ, zero, suc, Bool, true, List, [], ◌∷◌, ◌++◌, Option, Some, None, refl, sym, ap, ◌∙◌, subst}
 use Rattle.std.specs.Prelude.{map}
 use Rattle.kit_behaviour.specs.Machine.{Op, Const, Calc, Emit, Call, Branch, Return, Fun, left_in, arguments_in}
-use Rattle.kit_behaviour.specs.Facts.{Known, Unknown, Facts, AllUnknown, OpsClosed, IsClosed}
+use Rattle.kit_behaviour.specs.Facts.{Known, Unknown, FunctionFacts, AllUnknown, OpsClosed, AreClosedFacts}
 use Rattle.kit_behaviour.specs.Scopes.{In, AllIn, all_defs, entry_values, at_start, OpsWith, BlocksWith}
 use Rattle.kit_behaviour.specs.Replacement.{replace_op, replace}
-use Rattle.kit_behaviour.specs.InsertedConstants.{Name, Old, New, Made, put_if, put_args, old, put_ops, put_in, constant_of, use_of, OpsUnmade}
+use Rattle.kit_behaviour.specs.InsertedConstants.{OldOrNewName, Old, New, Made, put_if, put_args, old, put_ops, put_in, constant_of, use_of, OpsUnmade}
 use Rattle.kit_behaviour.specs.Rules.{operands}
 use Rattle.kit_behaviour.specs.KnownOperands.{const_defs}
 use Rattle.kit_behaviour.proofs.Lattice.ReplacementBehaviour.{replace_left}
@@ -22,10 +22,10 @@ consts_replaced s (Branch t xs e es ∷ ops) = consts_replaced s ops
 consts_replaced s (Return xs ∷ ops) = consts_replaced s ops
 
 -- each known argument and each known result of a fold has its constant
-abbrev pub Full : {V : Type 0} → (V → Bool) → Made V → Facts V → List V → Type 0
+abbrev pub Full : {V : Type 0} → (V → Bool) → Made V → FunctionFacts V → List V → Type 0
 Full {V} want m k vs = (v : V) → In v vs → want v ≡ true → (n : ℕ) → k.of v ≡ Known n → m v ≡ Some n
 
-abbrev pub OpsFull : {V : Type 0} → (V → Bool) → Made V → Facts V → List (Op V) → Type 0
+abbrev pub OpsFull : {V : Type 0} → (V → Bool) → Made V → FunctionFacts V → List (Op V) → Type 0
 OpsFull want m k [] = Unit {0}
 OpsFull want m k (Calc a w r x y ∷ ops) = Full want m k (r ∷ []) × OpsFull want m k ops
 OpsFull want m k (Const r n ∷ ops) = OpsFull want m k ops
@@ -34,19 +34,19 @@ OpsFull want m k (Call rs c xs ∷ ops) = OpsFull want m k ops
 OpsFull want m k (Branch s xs e es ∷ ops) = OpsFull want m k ops
 OpsFull want m k (Return xs ∷ ops) = OpsFull want m k ops
 
-pub record PutsAll {V : Type 0} (want : V → Bool) (m : Made V) (k : Facts V) (f : Option (Fun V)) : Type 0 where
+pub record PutsAll {V : Type 0} (want : V → Bool) (m : Made V) (k : FunctionFacts V) (f : Option (Fun V)) : Type 0 where
   pub arguments : (b : ℕ) → k.runs b ≡ true → Full want m k (arguments_in f b)
   pub ops : (b : ℕ) → k.runs b ≡ true → OpsFull want m k (left_in f b 0)
 
-module _ {V : Type 0} (want : V → Bool) (m : Made V) (k : Facts V) (f : Option (Fun V)) (all : PutsAll want m k f) (others : (b : ℕ) → OpsUnmade m (left_in f b 0)) (closed : IsClosed f k) (sees : BlocksWith f (λ a op. AllIn (operands op) a)) where
+module _ {V : Type 0} (want : V → Bool) (m : Made V) (k : FunctionFacts V) (f : Option (Fun V)) (all : PutsAll want m k f) (others : (b : ℕ) → OpsUnmade m (left_in f b 0)) (closed : AreClosedFacts f k) (sees : BlocksWith f (λ a op. AllIn (operands op) a)) where
   -- y names a constant of the function after the pass
-  abbrev pub IsConstant : Name V → Type 0
+  abbrev pub IsConstant : OldOrNewName V → Type 0
   IsConstant y = (b : ℕ) × In y (const_defs (left_in (replace (use_of m) (put_in m f)) b 0))
 
-  abbrev Consts : ℕ → List (Name V)
+  abbrev Consts : ℕ → List (OldOrNewName V)
   Consts b = const_defs (put_args m (arguments_in f b) (put_ops m (left_in f b 0)))
 
-  is_constant : (b : ℕ) (y : Name V) → In y (Consts b) → IsConstant y
+  is_constant : (b : ℕ) (y : OldOrNewName V) → In y (Consts b) → IsConstant y
   is_constant b y i =
       (b, subst (In y) (sym (ap const_defs (replace_left (use_of m) (put_in m f) b 0) ∙ consts_replaced (use_of m) (left_in (put_in m f) b 0) ∙ ap const_defs (put_left m f b))) i)
 
@@ -54,19 +54,19 @@ module _ {V : Type 0} (want : V → Bool) (m : Made V) (k : Facts V) (f : Option
   abbrev Named : List V → Type 0
   Named a = (x : V) → In x a → want x ≡ true → (n : ℕ) → k.of x ≡ Known n → IsConstant (use_of m (Old x))
 
-  put_has : (y : Name V) (o : Option ℕ) (v : V) (rest : List (Op (Name V))) → In y (const_defs rest) → In y (const_defs (put_if o v rest))
+  put_has : (y : OldOrNewName V) (o : Option ℕ) (v : V) (rest : List (Op (OldOrNewName V))) → In y (const_defs rest) → In y (const_defs (put_if o v rest))
   put_has y None v rest i = i
   put_has y (Some n) v rest i = inr i
 
-  args_has : (y : Name V) (vs : List V) (rest : List (Op (Name V))) → In y (const_defs rest) → In y (const_defs (put_args m vs rest))
+  args_has : (y : OldOrNewName V) (vs : List V) (rest : List (Op (OldOrNewName V))) → In y (const_defs rest) → In y (const_defs (put_args m vs rest))
   args_has y [] rest i = i
   args_has y (v ∷ vs) rest i = args_has y vs (put_if (m v) v rest) (put_has y (m v) v rest i)
 
-  put_new : (x v : V) (o : Option ℕ) (n : ℕ) (rest : List (Op (Name V))) → x ≡ v → o ≡ Some n → In (New x) (const_defs (put_if o v rest))
+  put_new : (x v : V) (o : Option ℕ) (n : ℕ) (rest : List (Op (OldOrNewName V))) → x ≡ v → o ≡ Some n → In (New x) (const_defs (put_if o v rest))
   put_new x v None n rest q e = absurd (cc e)
   put_new x v (Some j) n rest q e = inl (ap New q)
 
-  args_new : (x : V) (n : ℕ) (vs : List V) (rest : List (Op (Name V))) → m x ≡ Some n → In x vs → In (New x) (const_defs (put_args m vs rest))
+  args_new : (x : V) (n : ℕ) (vs : List V) (rest : List (Op (OldOrNewName V))) → m x ≡ Some n → In x vs → In (New x) (const_defs (put_args m vs rest))
   args_new x n [] rest e i = absurd i
   args_new x n (v ∷ vs) rest e i =
       ⊎_elim (λ q. args_has (New x) vs (put_if (m v) v rest) (put_new x v (m v) n rest q (ap m (sym q) ∙ e))) (λ j. args_new x n vs (put_if (m v) v rest) e j) i
@@ -84,7 +84,7 @@ module _ {V : Type 0} (want : V → Bool) (m : Made V) (k : Facts V) (f : Option
       ⊎_elim (λ q. let bad : Unknown ≡ Known n = sym u.0 ∙ ap k.of (sym q) ∙ e in cc bad) (λ j. unknown_none x rs n u.1 j e) i
 
   -- where block b has these constants, what its operations define is named
-  ops_named : (b : ℕ) (a : List V) (ops : List (Op V)) → ((y : Name V) → In y (const_defs (put_ops m ops)) → In y (Consts b)) → Named a → OpsFull want m k ops → OpsUnmade m ops → OpsClosed f k ops → OpsWith (λ a op. AllIn (operands op) a) a ops → OpsWith (λ c op. Named c) a ops × Named (all_defs ops)
+  ops_named : (b : ℕ) (a : List V) (ops : List (Op V)) → ((y : OldOrNewName V) → In y (const_defs (put_ops m ops)) → In y (Consts b)) → Named a → OpsFull want m k ops → OpsUnmade m ops → OpsClosed f k ops → OpsWith (λ a op. AllIn (operands op) a) a ops → OpsWith (λ c op. Named c) a ops × Named (all_defs ops)
   ops_named b a [] has h w u c s = (tt, λ x i wx n e. absurd i)
   ops_named b a (Const r j ∷ ops) has h w u c s =
       let here : Named (r ∷ []) = λ x i wx n e. ⊎_elim (λ q. use_unmade x (ap m q ∙ u.0) (is_constant b (Old x) (has (Old x) (inl (ap Old q))))) (λ z. absurd z) i in

@@ -1,7 +1,7 @@
 -- Constants put in, and uses that name them, in a function under other names of values.
 use Rattle.std.proofs.Common.{◌≡◌, ℕ, suc, Bool, List, [], ◌∷◌, Option, Some, None, refl, sym, ap, ◌∙◌, subst}
 use Rattle.std.specs.Prelude.{map}
-use Rattle.kit_behaviour.specs.InsertedConstants.{Name, Old, New, same_name, Made, put_if, put_args, old, put_before}
+use Rattle.kit_behaviour.specs.InsertedConstants.{OldOrNewName, Old, New, same_name, Made, put_if, put_args, old, put_before}
 use Rattle.kit_behaviour.specs.InsertedConstants.{put_ops, put_block, put_in, constant_of, use_of}
 use Rattle.kit_behaviour.specs.Machine.{AllEdges, Edge, Op, Const, Calc, Emit, Call, Branch, Return, Block, Fun}
 use Rattle.kit_behaviour.specs.Machine.{left_in, arguments_in}
@@ -14,17 +14,17 @@ use Rattle.kit_behaviour.proofs.ControlFlow.NamedPlacing.{AreNamed, replaced_nam
 use Rattle.kit_behaviour.proofs.Propagation.InsertionLemmas.{put_left, put_takes}
 
 -- names with constants, where values are renamed
-abbrev pub both_renamed : {V W : Type 0} → (V → W) → Name V → Name W
+abbrev pub both_renamed : {V W : Type 0} → (V → W) → OldOrNewName V → OldOrNewName W
 both_renamed r (Old v) = Old (r v)
 both_renamed r (New v) = New (r v)
 
 -- the value has the property
-abbrev pub OfValue : {V : Type 0} → (V → Type 0) → Name V → Type 0
+abbrev pub OfValue : {V : Type 0} → (V → Type 0) → OldOrNewName V → Type 0
 OfValue N (Old v) = N v
 OfValue N (New v) = N v
 
 pub names_apart : {V W : Type 0} (same : V → V → Bool) (other : W → W → Bool) (r : V → W) (N : V → Type 0) →
-    ((x y : V) → N x → N y → other (r x) (r y) ≡ same x y) → (x y : Name V) → OfValue N x → OfValue N y →
+    ((x y : V) → N x → N y → other (r x) (r y) ≡ same x y) → (x y : OldOrNewName V) → OfValue N x → OfValue N y →
     same_name other (both_renamed r x) (both_renamed r y) ≡ same_name same x y
 names_apart same other r N apart (Old x) (Old y) a b = apart x y a b
 names_apart same other r N apart (New x) (New y) a b = apart x y a b
@@ -51,18 +51,18 @@ module _ {V : Type 0} (N : V → Type 0) (m : Made V) where
   old_named (Branch s xs e es) h = (list_named xs h.0, edges_named (e ∷ es) h.1)
   old_named (Return xs) h = list_named xs h
 
-  abbrev Named : List (Op (Name V)) → Type 0
+  abbrev Named : List (Op (OldOrNewName V)) → Type 0
   Named = OpsNamed (OfValue N) AnyBlock
 
-  if_named : (o : Option ℕ) (v : V) → N v → (rest : List (Op (Name V))) → Named rest → Named (put_if o v rest)
+  if_named : (o : Option ℕ) (v : V) → N v → (rest : List (Op (OldOrNewName V))) → Named rest → Named (put_if o v rest)
   if_named None v h rest q = q
   if_named (Some n) v h rest q = (h, q)
 
-  args_named : (vs : List V) → AllNamed N vs → (rest : List (Op (Name V))) → Named rest → Named (put_args m vs rest)
+  args_named : (vs : List V) → AllNamed N vs → (rest : List (Op (OldOrNewName V))) → Named rest → Named (put_args m vs rest)
   args_named [] h rest q = q
   args_named (v ∷ vs) h rest q = args_named vs h.1 (put_if (m v) v rest) (if_named (m v) v h.0 rest q)
 
-  before_named : (op : Op V) → OpNamed N AnyBlock op → (rest : List (Op (Name V))) → Named rest →
+  before_named : (op : Op V) → OpNamed N AnyBlock op → (rest : List (Op (OldOrNewName V))) → Named rest →
       Named (put_before m op rest)
   before_named (Const v n) h rest q = q
   before_named (Calc a w v x y) h rest q = if_named (m v) v h.0 rest q
@@ -90,7 +90,7 @@ module _ {V : Type 0} (N : V → Type 0) (m : Made V) where
   constant_named None v h = h
   constant_named (Some n) v h = h
 
-  use_named : (x : Name V) → OfValue N x → OfValue N (use_of m x)
+  use_named : (x : OldOrNewName V) → OfValue N x → OfValue N (use_of m x)
   use_named (Old v) h = constant_named (m v) v h
   use_named (New v) h = h
 
@@ -101,7 +101,7 @@ module _ {V : Type 0} (N : V → Type 0) (m : Made V) where
 
 module _ {V W : Type 0} (r : V → W) (N : V → Type 0) (m : Made V) (z : Made W)
     (alike : (x : V) → N x → z (r x) ≡ m x) where
-  abbrev R : Name V → Name W
+  abbrev R : OldOrNewName V → OldOrNewName W
   R = both_renamed r
 
   list_old : (xs : List V) → map Old (map r xs) ≡ map R (map Old xs)
@@ -126,22 +126,22 @@ module _ {V W : Type 0} (r : V → W) (N : V → Type 0) (m : Made V) (z : Made 
   op_old (Branch s xs e es) = λ i. Branch s (list_old xs i) (edge_old e i) (edges_old es i)
   op_old (Return xs) = ap Return (list_old xs)
 
-  if_put : (o : Option ℕ) (v : V) (after : List (Op (Name W))) (rest : List (Op (Name V))) →
+  if_put : (o : Option ℕ) (v : V) (after : List (Op (OldOrNewName W))) (rest : List (Op (OldOrNewName V))) →
       after ≡ map (ren R) rest → put_if o (r v) after ≡ map (ren R) (put_if o v rest)
   if_put None v after rest e = e
   if_put (Some n) v after rest e = ap (λ l. Const (New (r v)) n ∷ l) e
 
-  one_put : (v : V) → N v → (after : List (Op (Name W))) (rest : List (Op (Name V))) → after ≡ map (ren R) rest →
+  one_put : (v : V) → N v → (after : List (Op (OldOrNewName W))) (rest : List (Op (OldOrNewName V))) → after ≡ map (ren R) rest →
       put_if (z (r v)) (r v) after ≡ map (ren R) (put_if (m v) v rest)
   one_put v h after rest e = ap (λ o. put_if o (r v) after) (alike v h) ∙ if_put (m v) v after rest e
 
-  args_put : (vs : List V) → AllNamed N vs → (after : List (Op (Name W))) (rest : List (Op (Name V))) →
+  args_put : (vs : List V) → AllNamed N vs → (after : List (Op (OldOrNewName W))) (rest : List (Op (OldOrNewName V))) →
       after ≡ map (ren R) rest → put_args z (map r vs) after ≡ map (ren R) (put_args m vs rest)
   args_put [] h after rest e = e
   args_put (v ∷ vs) h after rest e =
       args_put vs h.1 (put_if (z (r v)) (r v) after) (put_if (m v) v rest) (one_put v h.0 after rest e)
 
-  before_put : (op : Op V) → OpNamed N AnyBlock op → (after : List (Op (Name W))) (rest : List (Op (Name V))) →
+  before_put : (op : Op V) → OpNamed N AnyBlock op → (after : List (Op (OldOrNewName W))) (rest : List (Op (OldOrNewName V))) →
       after ≡ map (ren R) rest → put_before z (ren r op) after ≡ map (ren R) (put_before m op rest)
   before_put (Const v n) h after rest e = e
   before_put (Calc a w v x y) h after rest e = one_put v h.0 after rest e
@@ -171,7 +171,7 @@ module _ {V W : Type 0} (r : V → W) (N : V → Type 0) (m : Made V) (z : Made 
   constant_same None v = refl
   constant_same (Some n) v = refl
 
-  use_same : (x : Name V) → OfValue N x → use_of z (R x) ≡ R (use_of m x)
+  use_same : (x : OldOrNewName V) → OfValue N x → use_of z (R x) ≡ R (use_of m x)
   use_same (Old v) h = ap (λ o. constant_of o (r v)) (alike v h) ∙ constant_same (m v) v
   use_same (New v) h = refl
 

@@ -4,13 +4,13 @@ use Rattle.std.proofs.Common.{refl, sym, ap, ◌∙◌, subst}
 use Rattle.std.specs.Prelude.{map, slice_get, option_map, if◌then◌else◌, ◌↔◌}
 use Rattle.std.proofs.lemmas.Option.{slice_get-map}
 use Rattle.kit_behaviour.specs.ConstantPropagation.{number_of, number_at, known_at, all_wanted, made_of, with_facts}
-use Rattle.kit_behaviour.specs.ConstantPropagation.{Propagates}
-use Rattle.kit_behaviour.specs.Facts.{Fact, Undetermined, Known, Unknown, Facts, AtOrBelow, MorePrecise, IsMostPrecise}
-use Rattle.kit_behaviour.specs.InsertedConstants.{Name, same_name, Made, put_block, use_of}
+use Rattle.kit_behaviour.specs.ConstantPropagation.{PropagatesConstants}
+use Rattle.kit_behaviour.specs.Facts.{Fact, Undetermined, Known, Unknown, FunctionFacts, FactAtOrBelow, FactsMorePrecise, AreMostPreciseFacts}
+use Rattle.kit_behaviour.specs.InsertedConstants.{OldOrNewName, same_name, Made, put_block, use_of}
 use Rattle.kit_behaviour.specs.Machine.{Arith, Op, Const, Calc, Emit, Call, Branch, Return, Block, Fun, left_in}
 use Rattle.kit_behaviour.specs.Machine.{arguments_in}
-use Rattle.kit_behaviour.specs.NamedPasses.{calc_defs, Gets, PropagatesNamed}
-use Rattle.kit_behaviour.specs.Numbering.{place_of, place_fun, HasPlace, IsDefined}
+use Rattle.kit_behaviour.specs.NamedPasses.{calc_defs, GetsConstant, PropagatesNamed}
+use Rattle.kit_behaviour.specs.Numbering.{place_of, place_fun, HasPlace, NamesAreDefined}
 use Rattle.kit_behaviour.specs.Places.{Place, Arg, Res, same_place}
 use Rattle.kit_behaviour.specs.Renaming.{rename_fun}
 use Rattle.kit_behaviour.specs.Replacement.{replace_block}
@@ -92,8 +92,8 @@ calc_at v (Branch s xs t es ∷ ops) i = one_later v (Branch s xs t es) ops (cal
 calc_at v (Return xs ∷ ops) i = one_later v (Return xs) ops (calc_at v ops i)
 
 -- a function that is not there
-none_best : {V : Type 0} (k : Facts V) → IsMostPrecise {V = V} None k →
-    IsMostPrecise {V = Place} None (record { runs = k.runs; of = λ a. Undetermined })
+none_best : {V : Type 0} (k : FunctionFacts V) → AreMostPreciseFacts {V = V} None k →
+    AreMostPreciseFacts {V = Place} None (record { runs = k.runs; of = λ a. Undetermined })
 none_best k best = record {
   closed = record { entry_runs = best.closed.entry_runs; entry_unknown = tt; ops = λ b h. tt };
   best = λ l c.
@@ -102,8 +102,8 @@ none_best k best = record {
       record { fewer = m.fewer; above = λ a. at_top (l.of a) };
 }
 
-module _ {V : Type 0} (same : V → V → Bool) (law : IsSameness same) (f : Fun V) (defined : IsDefined same (Some f))
-    (rules : Rules (place_fun same (Some f))) (k : Facts V) where
+module _ {V : Type 0} (same : V → V → Bool) (law : IsSameness same) (f : Fun V) (defined : NamesAreDefined same (Some f))
+    (rules : Rules (place_fun same (Some f))) (k : FunctionFacts V) where
   abbrev F : Option (Fun V)
   F = Some f
 
@@ -118,23 +118,23 @@ module _ {V : Type 0} (same : V → V → Bool) (law : IsSameness same) (f : Fun
 
   -- 1. the facts, said of places
 
-  abbrev K : Facts Place
+  abbrev K : FunctionFacts Place
   K = by_place same law F k
 
   named_has : (a : Place) (x : V) → name_at F a ≡ Some x → H x
   named_has a x e = has_place same law F (block_of a) x (block_at x (slice_get f (block_of a)) a e)
 
-  fact_above : (l : Facts Place) → MorePrecise k (by_name same law F l) → (a : Place) → AtOrBelow (l.of a) (K.of a)
+  fact_above : (l : FunctionFacts Place) → FactsMorePrecise k (by_name same law F l) → (a : Place) → FactAtOrBelow (l.of a) (K.of a)
   fact_above l m a = by_named (name_at F a) refl
     where
-      by_named : (o : Option V) → name_at F a ≡ o → AtOrBelow (l.of a) (fact_named k o)
+      by_named : (o : Option V) → name_at F a ≡ o → FactAtOrBelow (l.of a) (fact_named k o)
       by_named None e = at_top (l.of a)
       by_named (Some x) e =
-          subst (λ t. AtOrBelow t (k.of x))
+          subst (λ t. FactAtOrBelow t (k.of x))
           (sym (by_name_of same law F l x (named_has a x e)) ∙ ap l.of (home same law f defined rules a x e))
           (m.above x)
 
-  facts_best : IsMostPrecise F k → IsMostPrecise P K
+  facts_best : AreMostPreciseFacts F k → AreMostPreciseFacts P K
   facts_best best = record {
     closed = place_closed same law F defined k best.closed;
     best = λ l c.
@@ -153,10 +153,10 @@ module _ {V : Type 0} (same : V → V → Bool) (law : IsSameness same) (f : Fun
   known_here : (a : Place) (x : V) (n : ℕ) → name_at F a ≡ Some x → number_of (K.of a) ≡ Some n → k.of x ≡ Known n
   known_here a x n e z = number_known (k.of x) n (sym (ap (λ o. number_of (fact_named k o)) e) ∙ z)
 
-  gets_at : (a : Place) (x : V) (n : ℕ) → name_at F a ≡ Some x → known_at P K a ≡ Some n → Gets F k x n
+  gets_at : (a : Place) (x : V) (n : ℕ) → name_at F a ≡ Some x → known_at P K a ≡ Some n → GetsConstant F k x n
   gets_at (Arg b i) x n e z = by_runs (k.runs b) refl z
     where
-      by_runs : (t : Bool) → k.runs b ≡ t → (if t then number_of (K.of (Arg b i)) else None) ≡ Some n → Gets F k x n
+      by_runs : (t : Bool) → k.runs b ≡ t → (if t then number_of (K.of (Arg b i)) else None) ≡ Some n → GetsConstant F k x n
       by_runs false q w = absurd (cc w)
       by_runs true q w = record {
         known = known_here (Arg b i) x n e w;
@@ -167,7 +167,7 @@ module _ {V : Type 0} (same : V → V → Bool) (law : IsSameness same) (f : Fun
   gets_at (Res b o i) x n e z = by_runs (k.runs b) refl z
     where
       by_op : k.runs b ≡ true → (u : Option (Op V)) → slice_get (left_in F b 0) o ≡ u → name_op u i ≡ Some x →
-          number_at (option_map (ren r) u) (K.of (Res b o i)) ≡ Some n → Gets F k x n
+          number_at (option_map (ren r) u) (K.of (Res b o i)) ≡ Some n → GetsConstant F k x n
       by_op q None at w y = absurd (cc w)
       by_op q (Some (Calc a t v s u)) at w y = record {
         known = known_here (Res b o i) x n e y;
@@ -183,7 +183,7 @@ module _ {V : Type 0} (same : V → V → Bool) (law : IsSameness same) (f : Fun
       by_op q (Some (Return xs)) at w y = absurd (cc y)
 
       by_runs : (t : Bool) → k.runs b ≡ t →
-          (if t then number_at (slice_get (left_in P b 0) o) (K.of (Res b o i)) else None) ≡ Some n → Gets F k x n
+          (if t then number_at (slice_get (left_in P b 0) o) (K.of (Res b o i)) else None) ≡ Some n → GetsConstant F k x n
       by_runs false q w = absurd (cc w)
       by_runs true q w = by_op q (slice_get (left_in F b 0) o) refl (res_name F b o i x e)
           (sym (ap (λ u. number_at u (K.of (Res b o i))) (left_at b o)) ∙ w)
@@ -191,7 +191,7 @@ module _ {V : Type 0} (same : V → V → Bool) (law : IsSameness same) (f : Fun
   known_of : (a : Place) (x : V) (n : ℕ) → name_at F a ≡ Some x → k.of x ≡ Known n → number_of (K.of a) ≡ Some n
   known_of a x n e q = ap (λ o. number_of (fact_named k o)) e ∙ ap number_of q
 
-  known_back : (x : V) (n : ℕ) → Gets F k x n → known_at P K (r x) ≡ Some n
+  known_back : (x : V) (n : ℕ) → GetsConstant F k x n → known_at P K (r x) ≡ Some n
   known_back x n g =
       ⊎_elim
       (λ i.
@@ -209,7 +209,7 @@ module _ {V : Type 0} (same : V → V → Bool) (law : IsSameness same) (f : Fun
       ∙ known_of (Res g.block c.o 0) x n e g.known)
       g.place
 
-  module _ (m : Made V) (gets : (v : V) (n : ℕ) → (m v ≡ Some n) ↔ Gets F k v n) where
+  module _ (m : Made V) (gets : (v : V) (n : ℕ) → (m v ≡ Some n) ↔ GetsConstant F k v n) where
     made_same : (x : V) → H x → M (r x) ≡ m x
     made_same x h =
         same_option (M (r x)) (m x)
@@ -218,10 +218,10 @@ module _ {V : Type 0} (same : V → V → Bool) (law : IsSameness same) (f : Fun
 
     -- 3. constants put in
 
-    abbrev G : List (Block (Name V))
+    abbrev G : List (Block (OldOrNewName V))
     G = map (replace_block (use_of m)) (map (put_block m) f)
 
-    abbrev R : Name V → Name Place
+    abbrev R : OldOrNewName V → OldOrNewName Place
     R = both_renamed r
 
     with_is : with_facts all_wanted P K ≡ rename_fun R (Some G)
@@ -230,10 +230,10 @@ module _ {V : Type 0} (same : V → V → Bool) (law : IsSameness same) (f : Fun
     left_named : AreNamed (OfValue H) (Some G)
     left_named = used_named H m F (all_named same law f defined rules)
 
-    stay_apart : (x y : Name V) → OfValue H x → OfValue H y → same_name same_place (R x) (R y) ≡ same_name same x y
+    stay_apart : (x y : OldOrNewName V) → OfValue H x → OfValue H y → same_name same_place (R x) (R y) ≡ same_name same x y
     stay_apart = names_apart same same_place r H (λ x y a b. apart same law F x y a b)
 
-    pub propagates : IsMostPrecise F k → Propagates all_wanted P (place_fun (same_name same) (Some G))
+    pub propagates : AreMostPreciseFacts F k → PropagatesConstants all_wanted P (place_fun (same_name same) (Some G))
     propagates best = record {
       facts = K;
       best = facts_best best;
@@ -241,30 +241,30 @@ module _ {V : Type 0} (same : V → V → Bool) (law : IsSameness same) (f : Fun
           ∙ placed_on (same_name same) (same_name same_place) R (OfValue H) stay_apart (Some G) left_named);
     }
 
-    pub defined_after : IsDefined (same_name same) (Some G)
+    pub defined_after : NamesAreDefined (same_name same) (Some G)
     defined_after =
         defined_back (same_name same) (same_name same_place) R (OfValue H) stay_apart G left_named
-        (subst (IsDefined (same_name same_place)) with_is
+        (subst (NamesAreDefined (same_name same_place)) with_is
         (scoped_defined (same_name same_place) (same_name_law same_place place_law) (with_facts all_wanted P K)
         (facts_scoped all_wanted P K rules)))
 
 module _ {V : Type 0} (same : V → V → Bool) (law : IsSameness same) where
-  pub propagates_by_place : (f : Option (Fun V)) (g : Option (Fun (Name V))) → IsDefined same f →
+  pub propagates_by_place : (f : Option (Fun V)) (g : Option (Fun (OldOrNewName V))) → NamesAreDefined same f →
       Rules (place_fun same f) → PropagatesNamed f g →
-      Propagates all_wanted (place_fun same f) (place_fun (same_name same) g)
+      PropagatesConstants all_wanted (place_fun same f) (place_fun (same_name same) g)
   propagates_by_place None g defined rules m = record {
     facts = record { runs = m.facts.runs; of = λ a. Undetermined };
     best = none_best m.facts m.best;
     is = ap (place_fun (same_name same)) m.is;
   }
   propagates_by_place (Some f) g defined rules m =
-      subst (λ z. Propagates all_wanted (place_fun same (Some f)) (place_fun (same_name same) z)) (sym m.is)
+      subst (λ z. PropagatesConstants all_wanted (place_fun same (Some f)) (place_fun (same_name same) z)) (sym m.is)
       (propagates same law f defined rules m.facts m.made m.gets m.best)
 
-  pub propagation_defines : (f : Option (Fun V)) (g : Option (Fun (Name V))) → IsDefined same f →
-      Rules (place_fun same f) → PropagatesNamed f g → IsDefined (same_name same) g
+  pub propagation_defines : (f : Option (Fun V)) (g : Option (Fun (OldOrNewName V))) → NamesAreDefined same f →
+      Rules (place_fun same f) → PropagatesNamed f g → NamesAreDefined (same_name same) g
   propagation_defines None g defined rules m =
-      subst (IsDefined (same_name same)) (sym m.is) (record { ops = λ b. tt; arguments = λ b. tt })
+      subst (NamesAreDefined (same_name same)) (sym m.is) (record { ops = λ b. tt; arguments = λ b. tt })
   propagation_defines (Some f) g defined rules m =
-      subst (IsDefined (same_name same)) (sym m.is)
+      subst (NamesAreDefined (same_name same)) (sym m.is)
       (defined_after same law f defined rules m.facts m.made m.gets)

@@ -3,12 +3,12 @@ use Rattle.std.proofs.Common.{◌≡◌, ℕ, ◌*◌, ◌≤◌, Bool, true, Li
 use Rattle.std.specs.Prelude.{map, slice_get, option_map}
 use Rattle.std.proofs.Math.Nat.{mul-le-mul_right}
 use Rattle.std.proofs.lemmas.Option.{slice_get-map}
-use Rattle.kit_behaviour.specs.Machine.{Op, Const, Calc, Emit, Call, Branch, Return, Block, Fun, Program, ops_left, left_in, arguments_of, arguments_in, start, run, FollowsWithin, Alike}
+use Rattle.kit_behaviour.specs.Machine.{Op, Const, Calc, Emit, Call, Branch, Return, Block, Fun, FunctionsByPath, ops_left, left_in, arguments_of, arguments_in, start, run, FollowsWithin, Alike}
 use Rattle.kit_behaviour.specs.RemovedValues.{thinned, FewGo}
 use Rattle.kit_behaviour.specs.Renaming.{EdgeNamed, AllNamed, OpNamed, OpsNamed, Renames, same_block}
-use Rattle.kit_behaviour.specs.Facts.{Facts, IsClosed}
+use Rattle.kit_behaviour.specs.Facts.{FunctionFacts, AreClosedFacts}
 use Rattle.kit_behaviour.specs.Scopes.{OpScoped, BlocksWith}
-use Rattle.kit_behaviour.specs.InsertedConstants.{Name, Old, New, is_new, same_name, Made, old, put_in, use_of, with_constants, MayPut}
+use Rattle.kit_behaviour.specs.InsertedConstants.{OldOrNewName, Old, New, is_new, same_name, Made, old, put_in, use_of, with_constants, MayPut}
 use Rattle.kit_behaviour.specs.Numbering.{placed}
 use Rattle.kit_behaviour.specs.Places.{same_place}
 use Rattle.kit_behaviour.proofs.Behaviour.FrameLemmas.{IsSameness}
@@ -23,21 +23,21 @@ use Rattle.kit_behaviour.proofs.Numbering.NumberingBehaviour.{placed_alike}
 use Rattle.kit_behaviour.proofs.Behaviour.EdgeLemmas.{edges_any}
 
 module _ {U V W : Type 0} (su : U → U → Bool) (sv : V → V → Bool) (sw : W → W → Bool) where
-  follows_trans : (c d : ℕ) (p : Program U) (q : Program V) (r : Program W) → FollowsWithin su sv c p q → FollowsWithin sv sw d q r → FollowsWithin su sw (c * d) p r
+  follows_trans : (c d : ℕ) (p : FunctionsByPath U) (q : FunctionsByPath V) (r : FunctionsByPath W) → FollowsWithin su sv c p q → FollowsWithin sv sw d q r → FollowsWithin su sw (c * d) p r
   follows_trans c d p q r a b path xs n =
       let x = a path xs n in
       let y = b path xs x.0 in
       let le : x.0 * d ≤ n * c * d = mul-le-mul_right d x.1 in
       (y.0, omega (arith, y.1, le), shown_trans su sv sw (run su p n (start su p path xs)) (run sv q x.0 (start sv q path xs)) (run sw r y.0 (start sw r path xs)) x.2 y.2)
 
-pub alike_trans : {U V W : Type 0} (su : U → U → Bool) (sv : V → V → Bool) (sw : W → W → Bool) (c d : ℕ) (p : Program U) (q : Program V) (r : Program W) → Alike su sv c p q → Alike sv sw d q r → Alike su sw (c * d) p r
+pub alike_trans : {U V W : Type 0} (su : U → U → Bool) (sv : V → V → Bool) (sw : W → W → Bool) (c d : ℕ) (p : FunctionsByPath U) (q : FunctionsByPath V) (r : FunctionsByPath W) → Alike su sv c p q → Alike sv sw d q r → Alike su sw (c * d) p r
 alike_trans su sv sw c d p q r a b =
     record {
       there = follows_trans su sv sw c d p q r a.there b.there;
       back = λ path xs n. let x = follows_trans sw sv su d c r q p b.back a.back path xs n in let e : n * (d * c) ≡ n * (c * d) = omega arith in (x.0, subst (λ k. x.0 ≤ k) e x.1, x.2);
     }
 
-pub alike_flip : {U V : Type 0} (su : U → U → Bool) (sv : V → V → Bool) (c : ℕ) (p : Program U) (q : Program V) → Alike su sv c p q → Alike sv su c q p
+pub alike_flip : {U V : Type 0} (su : U → U → Bool) (sv : V → V → Bool) (c : ℕ) (p : FunctionsByPath U) (q : FunctionsByPath V) → Alike su sv c p q → Alike sv su c q p
 alike_flip su sv c p q a = record { there = a.back; back = a.there }
 
 -- the names of what was there
@@ -49,13 +49,13 @@ same_name_law {V} same law =
       same_true = self_name;
     }
   where
-    true_name : (a b : Name V) → same_name same a b ≡ true → a ≡ b
+    true_name : (a b : OldOrNewName V) → same_name same a b ≡ true → a ≡ b
     true_name (Old a) (Old b) e = ap Old (law.true_same a b e)
     true_name (New a) (New b) e = ap New (law.true_same a b e)
     true_name (Old a) (New b) e = absurd (cc e)
     true_name (New a) (Old b) e = absurd (cc e)
 
-    self_name : (a : Name V) → same_name same a a ≡ true
+    self_name : (a : OldOrNewName V) → same_name same a a ≡ true
     self_name (Old a) = law.same_true a
     self_name (New a) = law.same_true a
 
@@ -108,17 +108,17 @@ old_renames f =
       takes_named = λ b s. all_any (arguments_in f b);
     }
 
-module _ {V : Type 0} (same : V → V → Bool) (law : IsSameness same) (p : Program V) (k : List ℕ → Facts V) (m : List ℕ → Made V) (closed : (path : List ℕ) → IsClosed (p path) (k path)) (scoped : (path : List ℕ) → BlocksWith (p path) (OpScoped (p path))) (may : (path : List ℕ) → MayPut (m path) (k path) (p path)) where
-  abbrev Here : Name V → Name V → Bool
+module _ {V : Type 0} (same : V → V → Bool) (law : IsSameness same) (p : FunctionsByPath V) (k : List ℕ → FunctionFacts V) (m : List ℕ → Made V) (closed : (path : List ℕ) → AreClosedFacts (p path) (k path)) (scoped : (path : List ℕ) → BlocksWith (p path) (OpScoped (p path))) (may : (path : List ℕ) → MayPut (m path) (k path) (p path)) where
+  abbrev Here : OldOrNewName V → OldOrNewName V → Bool
   Here = same_name same
 
-  abbrev olds : Program (Name V)
+  abbrev olds : FunctionsByPath (OldOrNewName V)
   olds path = old_fun (p path)
 
-  abbrev puts : Program (Name V)
+  abbrev puts : FunctionsByPath (OldOrNewName V)
   puts path = put_in (m path) (p path)
 
-  abbrev news : List ℕ → Name V → Bool
+  abbrev news : List ℕ → OldOrNewName V → Bool
   news path = is_new
 
   old_alike : Alike same Here 1 p olds

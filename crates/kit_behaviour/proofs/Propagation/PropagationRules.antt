@@ -2,13 +2,13 @@
 use Rattle.std.proofs.Common.{◌≡◌, ℕ, zero, suc, ◌+◌, ◌<◌, ◌≤◌, Bool, false, List, [], ◌∷◌, ◌++◌, length, Option, Some, None, refl, sym, ap, ◌∙◌, subst, arith}
 use Rattle.std.specs.Prelude.{map, slice_get, option_map}
 use Rattle.std.proofs.lemmas.Option.{slice_get-map}
-use Rattle.kit_behaviour.specs.Machine.{Op, Const, Calc, Emit, Call, Branch, Return, Block, Fun, Program, ops_left, left_in, arguments_of, arguments_in, size}
-use Rattle.kit_behaviour.specs.Facts.{Facts, all_forwarded}
+use Rattle.kit_behaviour.specs.Machine.{Op, Const, Calc, Emit, Call, Branch, Return, Block, Fun, FunctionsByPath, ops_left, left_in, arguments_of, arguments_in, size}
+use Rattle.kit_behaviour.specs.Facts.{FunctionFacts, all_forwarded}
 use Rattle.kit_behaviour.specs.Scopes.{AllIn, defs, at_start, SameLength, OpScoped, OpsWith, BlocksWith}
 use Rattle.kit_behaviour.specs.Replacement.{replace_edge, replace_op, replace_block, replace}
-use Rattle.kit_behaviour.specs.InsertedConstants.{Name, Old, New, same_name, Made, put_if, put_args, old, put_before, put_ops, put_block, put_in, use_of}
-use Rattle.kit_behaviour.specs.Rules.{operands, is_terminator, EndsWell, EdgeFits, EdgesFit, AllEdgesFit, Rules}
-use Rattle.kit_behaviour.specs.ConstantPropagation.{Wants, made_of, with_facts, IsSccp}
+use Rattle.kit_behaviour.specs.InsertedConstants.{OldOrNewName, Old, New, same_name, Made, put_if, put_args, old, put_before, put_ops, put_block, put_in, use_of}
+use Rattle.kit_behaviour.specs.Rules.{operands, is_terminator, EndsWell, EdgeFits, EdgesOfOpFit, AllEdgesFit, Rules}
+use Rattle.kit_behaviour.specs.ConstantPropagation.{Wants, made_of, with_facts, IsSccpOfFunctions}
 use Rattle.kit_behaviour.specs.Numbering.{place_fun}
 use Rattle.kit_behaviour.specs.Places.{Place, Arg, Res, same_place}
 use Rattle.kit_behaviour.specs.PassLists.{Fit}
@@ -30,8 +30,8 @@ use Rattle.kit_behaviour.proofs.ControlFlow.KeptBlocks.{rules_distinct}
 
 -- what is put before an operation is nothing, or one constant for its result
 data Before {V : Type 0} (m : Made V) (op : Op V) : Type 0 where
-  nothing : ((rest : List (Op (Name V))) → put_before m op rest ≡ rest) → Before m op
-  one : (r : V) (n : ℕ) → m r ≡ Some n → name_op (Some op) 0 ≡ Some r → ((rest : List (Op (Name V))) → put_before m op rest ≡ Const (New r) n ∷ rest) → Before m op
+  nothing : ((rest : List (Op (OldOrNewName V))) → put_before m op rest ≡ rest) → Before m op
+  one : (r : V) (n : ℕ) → m r ≡ Some n → name_op (Some op) 0 ≡ Some r → ((rest : List (Op (OldOrNewName V))) → put_before m op rest ≡ Const (New r) n ∷ rest) → Before m op
 
 before : {V : Type 0} (m : Made V) (op : Op V) → Before m op
 before m (Const r n) = nothing (λ rest. refl)
@@ -78,30 +78,30 @@ module _ {V : Type 0} (m : Made V) where
   defs_old (Branch s xs e es) = refl
   defs_old (Return xs) = refl
 
-  map_old : (xs : List V) (i : ℕ) (y : Name V) → slice_get (map Old xs) i ≡ Some y → (v : V) × (y ≡ Old v) × (slice_get xs i ≡ Some v)
+  map_old : (xs : List V) (i : ℕ) (y : OldOrNewName V) → slice_get (map Old xs) i ≡ Some y → (v : V) × (y ≡ Old v) × (slice_get xs i ≡ Some v)
   map_old [] i y e = absurd (cc e)
   map_old (x ∷ xs) zero y e = let q : Old x ≡ y = cc e in (x, sym q, refl)
   map_old (x ∷ xs) (suc i) y e = map_old xs i y e
 
-  only_one : (r : V) (i : ℕ) (y : Name V) → slice_get (New r ∷ []) i ≡ Some y → (y ≡ New r) × (i ≡ 0)
+  only_one : (r : V) (i : ℕ) (y : OldOrNewName V) → slice_get (New r ∷ []) i ≡ Some y → (y ≡ New r) × (i ≡ 0)
   only_one r zero y e = let q : New r ≡ y = cc e in (sym q, refl)
   only_one r (suc i) y e = absurd (cc e)
 
   -- where a name among the operations comes from
-  data Origin (ops : List (Op V)) (p i : ℕ) (y : Name V) : Type 0 where
+  data Origin (ops : List (Op V)) (p i : ℕ) (y : OldOrNewName V) : Type 0 where
     from_op : (o : ℕ) (v : V) → y ≡ Old v → name_op (slice_get ops o) i ≡ Some v → p ≡ at_op ops o → Origin ops p i y
     from_new : (o n : ℕ) (v : V) → m v ≡ Some n → y ≡ New v → name_op (slice_get ops o) 0 ≡ Some v → p ≡ at_new ops o → i ≡ 0 → Origin ops p i y
 
-  later : (op : Op V) (ops : List (Op V)) (p q i : ℕ) (y : Name V) → p ≡ put_count op + suc q → Origin ops q i y → Origin (op ∷ ops) p i y
+  later : (op : Op V) (ops : List (Op V)) (p q i : ℕ) (y : OldOrNewName V) → p ≡ put_count op + suc q → Origin ops q i y → Origin (op ∷ ops) p i y
   unfolding at_op at_new
   later op ops p q i y e (from_op o v n h w) = from_op (suc o) v n h (e ∙ ap (λ z. put_count op + suc z) w)
   later op ops p q i y e (from_new o j v mj n h w z) = from_new (suc o) j v mj n h (e ∙ ap (λ u. put_count op + suc u) w) z
 
-  own : (op : Op V) (ops : List (Op V)) (p i : ℕ) (y : Name V) → slice_get (defs (old op)) i ≡ Some y → p ≡ put_count op → Origin (op ∷ ops) p i y
+  own : (op : Op V) (ops : List (Op V)) (p i : ℕ) (y : OldOrNewName V) → slice_get (defs (old op)) i ≡ Some y → p ≡ put_count op → Origin (op ∷ ops) p i y
   unfolding at_op
   own op ops p i y e w = let h = map_old (defs op) i y (ap (λ l. slice_get l i) (sym (defs_old op)) ∙ e) in from_op 0 h.0 h.1 h.2 w
 
-  from_ops : (ops : List (Op V)) (p i : ℕ) (y : Name V) → name_op (slice_get (put_ops m ops) p) i ≡ Some y → Origin ops p i y
+  from_ops : (ops : List (Op V)) (p i : ℕ) (y : OldOrNewName V) → name_op (slice_get (put_ops m ops) p) i ≡ Some y → Origin ops p i y
   unfolding put_count at_new
   from_ops [] p i y e = absurd (cc e)
   from_ops (op ∷ ops) p i y e = by_before (before m op) p refl (λ q. from_ops ops q i y)
@@ -119,11 +119,11 @@ module _ {V : Type 0} (m : Made V) where
           let c : put_count op ≡ 1 = ap length (h []) in
           later op ops p q i y (omega (arith, w, c)) (ih q (sym (ap (λ l. name_op (slice_get l p) i) (h (old op ∷ put_ops m ops)) ∙ ap (λ z. name_op (slice_get (Const (New r) n ∷ old op ∷ put_ops m ops) z) i) w) ∙ e))
 
-  data ArgOrigin (vs : List V) (rest : List (Op (Name V))) (p i : ℕ) (y : Name V) : Type 0 where
+  data ArgOrigin (vs : List V) (rest : List (Op (OldOrNewName V))) (p i : ℕ) (y : OldOrNewName V) : Type 0 where
     from_arg : (n j : ℕ) (v : V) → m v ≡ Some j → y ≡ New v → slice_get vs n ≡ Some v → p ≡ at_arg vs n → i ≡ 0 → ArgOrigin vs rest p i y
     from_rest : (q : ℕ) → name_op (slice_get rest q) i ≡ Some y → p ≡ args_count vs + q → ArgOrigin vs rest p i y
 
-  from_args : (vs : List V) (rest : List (Op (Name V))) (p i : ℕ) (y : Name V) → name_op (slice_get (put_args m vs rest) p) i ≡ Some y → ArgOrigin vs rest p i y
+  from_args : (vs : List V) (rest : List (Op (OldOrNewName V))) (p i : ℕ) (y : OldOrNewName V) → name_op (slice_get (put_args m vs rest) p) i ≡ Some y → ArgOrigin vs rest p i y
   unfolding args_count at_arg
   from_args [] rest p i y e = let z : p ≡ 0 + p = omega arith in from_rest p e z
   from_args (v ∷ vs) rest p i y e = by_origin (from_args vs (put_if (m v) v rest) p i y e)
@@ -150,11 +150,11 @@ module _ {V : Type 0} (m : Made V) where
   new_place k (Arg b i) = Res b (at_arg (arguments_of k) i) 0
   new_place k (Res b o i) = Res b (args_count (arguments_of k) + at_new (ops_left k 0) o) 0
 
-  pub data NameOrigin (f : Fun V) (a : Place) (y : Name V) : Type 0 where
+  pub data NameOrigin (f : Fun V) (a : Place) (y : OldOrNewName V) : Type 0 where
     was_old : (c : Place) (v : V) → y ≡ Old v → name_at (Some f) c ≡ Some v → a ≡ old_place (slice_get f (block_of c)) c → NameOrigin f a y
     was_new : (c : Place) (n : ℕ) (v : V) → m v ≡ Some n → y ≡ New v → name_at (Some f) c ≡ Some v → a ≡ new_place (slice_get f (block_of c)) c → NameOrigin f a y
 
-  pub name_put : (f : Fun V) (a : Place) (y : Name V) → name_at (put_in m (Some f)) a ≡ Some y → NameOrigin f a y
+  pub name_put : (f : Fun V) (a : Place) (y : OldOrNewName V) → name_at (put_in m (Some f)) a ≡ Some y → NameOrigin f a y
   unfolding old_place new_place
   name_put f (Arg b i) y e = by_block (slice_get f b) refl (sym (ap (λ o. name_in o (Arg b i)) (slice_get-map (put_block m) f b)) ∙ e)
     where
@@ -242,7 +242,7 @@ module _ {V : Type 0} (s : V → V) where
   as_many (t ∷ ts) [] h = absurd h
   as_many (t ∷ ts) (g ∷ gs) h = as_many ts gs h
 
-  fits_replaced : (f : Option (Fun V)) (op : Op V) → EdgesFit f op → EdgesFit (replace s f) (replace_op s op)
+  fits_replaced : (f : Option (Fun V)) (op : Op V) → EdgesOfOpFit f op → EdgesOfOpFit (replace s f) (replace_op s op)
   fits_replaced f (Branch t xs e es) h =
       edges_map (EdgeFits f) (EdgeFits (replace s f)) (replace_edge s)
       (λ x (c : EdgeFits f x). record {
@@ -282,15 +282,15 @@ cons_ends op [] t e = absurd e
 cons_ends op (next ∷ ops) t e = (t, e)
 
 module _ {V : Type 0} (m : Made V) where
-  put_if_ends : (o : Option ℕ) (v : V) (rest : List (Op (Name V))) → EndsWell rest → EndsWell (put_if o v rest)
+  put_if_ends : (o : Option ℕ) (v : V) (rest : List (Op (OldOrNewName V))) → EndsWell rest → EndsWell (put_if o v rest)
   put_if_ends None v rest e = e
   put_if_ends (Some n) v rest e = cons_ends (Const (New v) n) rest refl e
 
-  args_ends : (vs : List V) (rest : List (Op (Name V))) → EndsWell rest → EndsWell (put_args m vs rest)
+  args_ends : (vs : List V) (rest : List (Op (OldOrNewName V))) → EndsWell rest → EndsWell (put_args m vs rest)
   args_ends [] rest e = e
   args_ends (v ∷ vs) rest e = args_ends vs (put_if (m v) v rest) (put_if_ends (m v) v rest e)
 
-  before_ends : (op : Op V) (rest : List (Op (Name V))) → EndsWell rest → EndsWell (put_before m op rest)
+  before_ends : (op : Op V) (rest : List (Op (OldOrNewName V))) → EndsWell rest → EndsWell (put_before m op rest)
   before_ends (Calc a w r x y) rest e = put_if_ends (m r) r rest e
   before_ends (Const r n) rest e = e
   before_ends (Emit x) rest e = e
@@ -303,16 +303,16 @@ module _ {V : Type 0} (m : Made V) where
   put_ends (op ∷ []) e = before_ends op (old op ∷ []) (terminator_under Old op ∙ e)
   put_ends (op ∷ next ∷ ops) e = before_ends op (old op ∷ put_ops m (next ∷ ops)) (cons_ends (old op) (put_ops m (next ∷ ops)) (terminator_under Old op ∙ e.0) (put_ends (next ∷ ops) e.1))
 
-  module _ (g : Option (Fun (Name V))) where
-    put_if_fits : (o : Option ℕ) (v : V) (rest : List (Op (Name V))) → AllEdgesFit g rest → AllEdgesFit g (put_if o v rest)
+  module _ (g : Option (Fun (OldOrNewName V))) where
+    put_if_fits : (o : Option ℕ) (v : V) (rest : List (Op (OldOrNewName V))) → AllEdgesFit g rest → AllEdgesFit g (put_if o v rest)
     put_if_fits None v rest h = h
     put_if_fits (Some n) v rest h = (tt, h)
 
-    args_fit : (vs : List V) (rest : List (Op (Name V))) → AllEdgesFit g rest → AllEdgesFit g (put_args m vs rest)
+    args_fit : (vs : List V) (rest : List (Op (OldOrNewName V))) → AllEdgesFit g rest → AllEdgesFit g (put_args m vs rest)
     args_fit [] rest h = h
     args_fit (v ∷ vs) rest h = args_fit vs (put_if (m v) v rest) (put_if_fits (m v) v rest h)
 
-    before_fits : (op : Op V) (rest : List (Op (Name V))) → AllEdgesFit g rest → AllEdgesFit g (put_before m op rest)
+    before_fits : (op : Op V) (rest : List (Op (OldOrNewName V))) → AllEdgesFit g rest → AllEdgesFit g (put_before m op rest)
     before_fits (Calc a w r x y) rest h = put_if_fits (m r) r rest h
     before_fits (Const r n) rest h = h
     before_fits (Emit x) rest h = h
@@ -326,15 +326,15 @@ module _ {V : Type 0} (m : Made V) where
 
   -- 3. sizes
 
-  put_if_length : (o : Option ℕ) (v : V) (rest : List (Op (Name V))) → length (put_if o v rest) ≤ suc (length rest)
+  put_if_length : (o : Option ℕ) (v : V) (rest : List (Op (OldOrNewName V))) → length (put_if o v rest) ≤ suc (length rest)
   put_if_length None v rest = omega arith
   put_if_length (Some n) v rest = omega arith
 
-  args_length : (vs : List V) (rest : List (Op (Name V))) → length (put_args m vs rest) ≤ length vs + length rest
+  args_length : (vs : List V) (rest : List (Op (OldOrNewName V))) → length (put_args m vs rest) ≤ length vs + length rest
   args_length [] rest = omega arith
   args_length (v ∷ vs) rest = let a = args_length vs (put_if (m v) v rest) in let b = put_if_length (m v) v rest in omega (arith, a, b)
 
-  before_length : (op : Op V) (rest : List (Op (Name V))) → length (put_before m op rest) ≤ suc (length rest)
+  before_length : (op : Op V) (rest : List (Op (OldOrNewName V))) → length (put_before m op rest) ≤ suc (length rest)
   before_length (Calc a w r x y) rest = put_if_length (m r) r rest
   before_length (Const r n) rest = omega arith
   before_length (Emit x) rest = omega arith
@@ -348,11 +348,11 @@ module _ {V : Type 0} (m : Made V) where
 
 -- 4. the whole pass
 
-module _ (want : Wants) (f : Option (Fun Place)) (k : Facts Place) (rules : Rules f) where
+module _ (want : Wants) (f : Option (Fun Place)) (k : FunctionFacts Place) (rules : Rules f) where
   abbrev m : Made Place
   m = made_of want f k
 
-  abbrev g : Option (Fun (Name Place))
+  abbrev g : Option (Fun (OldOrNewName Place))
   g = put_in m f
 
   pub left_facts : (b : ℕ) → left_in (with_facts want f k) b 0 ≡ map (replace_op (use_of m)) (put_args m (arguments_in f b) (put_ops m (left_in f b 0)))
@@ -375,7 +375,7 @@ module _ (want : Wants) (f : Option (Fun Place)) (k : Facts Place) (rules : Rule
         fits = λ b. subst (AllEdgesFit (with_facts want f k)) (sym (left_facts b)) (all_fit_replaced (use_of m) g (put_args m (arguments_in f b) (put_ops m (left_in f b 0))) (args_fit m g (arguments_in f b) (put_ops m (left_in f b 0)) (ops_fit m f (left_in f b 0) (rules.fits b))));
       }
 
-  abbrev same : Name Place → Name Place → Bool
+  abbrev same : OldOrNewName Place → OldOrNewName Place → Bool
   same = same_name same_place
 
   pub sccp_rules : Rules (place_fun same (with_facts want f k))
@@ -393,7 +393,7 @@ module _ (want : Wants) (f : Option (Fun Place)) (k : Facts Place) (rules : Rule
       ap length (place_takes same (same_name_law same_place place_law) (with_facts want f k) b) ∙ length_map _ (arguments_in (with_facts want f k) b) ∙ ap length (replace_takes (use_of m) g b ∙ put_takes m f b) ∙ length_map Old (arguments_in f b)
 
 -- so after the pass the program is fit
-pub sccp_fit : (want : Wants) (p q : Program Place) → Fit p → IsSccp want p q → Fit q
+pub sccp_fit : (want : Wants) (p q : FunctionsByPath Place) → Fit p → IsSccpOfFunctions want p q → Fit q
 sccp_fit want p q h is =
     record {
       rules = λ path. subst Rules (sym (is.is path)) (sccp_rules want (p path) (is.facts path) (h.rules path));

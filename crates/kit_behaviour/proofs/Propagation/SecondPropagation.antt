@@ -2,14 +2,14 @@
 use Rattle.std.proofs.Common.{◌≡◌, ⊎_elim, inl, inr, ℕ, zero, suc, ◌+◌, Bool, true, false, List, [], ◌∷◌, Option, Some, None, refl, sym, ap, ◌∙◌, subst, arith}
 use Rattle.std.specs.Prelude.{map, slice_get, option_map, length, unwrap_or, if◌then◌else◌}
 use Rattle.std.proofs.lemmas.Option.{slice_get-map}
-use Rattle.kit_behaviour.specs.Machine.{Edge, Op, Const, Calc, Emit, Call, Branch, Return, Block, Fun, Program, ops_left, left_in, arguments_in}
+use Rattle.kit_behaviour.specs.Machine.{Edge, Op, Const, Calc, Emit, Call, Branch, Return, Block, Fun, FunctionsByPath, ops_left, left_in, arguments_in}
 use Rattle.kit_behaviour.specs.Renaming.{rename_op, same_block, rename_block, rename_fun}
-use Rattle.kit_behaviour.specs.Facts.{Fact, Facts, IsMostPrecise}
+use Rattle.kit_behaviour.specs.Facts.{Fact, FunctionFacts, AreMostPreciseFacts}
 use Rattle.kit_behaviour.specs.Scopes.{In, is_in, defs}
 use Rattle.kit_behaviour.specs.Replacement.{replace_edge, replace_op, replace_block, replace}
 use Rattle.kit_behaviour.specs.Rules.{operands, all_operands, blocks_operands, uses_in, Rules}
-use Rattle.kit_behaviour.specs.InsertedConstants.{Name, Old, New, same_name, Made, put_if, put_args, old, put_before, put_ops, put_block, put_in, constant_of, use_of}
-use Rattle.kit_behaviour.specs.ConstantPropagation.{number_of, number_at, known_at, made_of, used_wanted, with_facts, propagated, IsSccp}
+use Rattle.kit_behaviour.specs.InsertedConstants.{OldOrNewName, Old, New, same_name, Made, put_if, put_args, old, put_before, put_ops, put_block, put_in, constant_of, use_of}
+use Rattle.kit_behaviour.specs.ConstantPropagation.{number_of, number_at, known_at, made_of, used_wanted, with_facts, propagated, IsSccpOfFunctions}
 use Rattle.kit_behaviour.specs.Numbering.{place_fun, HasPlace}
 use Rattle.kit_behaviour.specs.Places.{Place, Arg, Res, same_place}
 use Rattle.kit_behaviour.proofs.Behaviour.FiniteLists.{is_in_in}
@@ -34,11 +34,11 @@ module _ {V : Type 0} where
   abbrev nothing : Made V
   nothing v = None
 
-  put_args_nothing : (vs : List V) (rest : List (Op (Name V))) → put_args nothing vs rest ≡ rest
+  put_args_nothing : (vs : List V) (rest : List (Op (OldOrNewName V))) → put_args nothing vs rest ≡ rest
   put_args_nothing [] rest = refl
   put_args_nothing (v ∷ vs) rest = put_args_nothing vs rest
 
-  put_before_nothing : (op : Op V) (rest : List (Op (Name V))) → put_before nothing op rest ≡ rest
+  put_before_nothing : (op : Op V) (rest : List (Op (OldOrNewName V))) → put_before nothing op rest ≡ rest
   put_before_nothing (Calc a w r x y) rest = refl
   put_before_nothing (Const r n) rest = refl
   put_before_nothing (Emit x) rest = refl
@@ -95,7 +95,7 @@ module _ {V : Type 0} (s : V → V) (same : (x : V) → s x ≡ x) where
   replace_stays None = refl
   replace_stays (Some f) = ap Some (blocks_stay f)
 
-use_nothing : {V : Type 0} (x : Name V) → use_of nothing x ≡ x
+use_nothing : {V : Type 0} (x : OldOrNewName V) → use_of nothing x ≡ x
 use_nothing (Old v) = refl
 use_nothing (New v) = refl
 
@@ -157,7 +157,7 @@ no_new v (x ∷ xs) (suc i) e = no_new v xs i e
 
 module _ {V : Type 0} where
   -- what defines a new value doesn't fold
-  abbrev NewPlain : List (Op (Name V)) → Type 0
+  abbrev NewPlain : List (Op (OldOrNewName V)) → Type 0
   NewPlain ops = (o i : ℕ) (v : V) → name_op (slice_get ops o) i ≡ Some (New v) → calc_at (slice_get ops o) ≡ false
 
   old_plain : (op : Op V) (i : ℕ) (v : V) → slice_get (defs (old op)) i ≡ Some (New v) → is_calc (old op) ≡ false
@@ -169,16 +169,16 @@ module _ {V : Type 0} where
   old_plain (Return xs) i v e = refl
 
   module _ (m : Made V) where
-    if_plain : (t : Option ℕ) (v : V) (rest : List (Op (Name V))) → NewPlain rest → NewPlain (put_if t v rest)
+    if_plain : (t : Option ℕ) (v : V) (rest : List (Op (OldOrNewName V))) → NewPlain rest → NewPlain (put_if t v rest)
     if_plain None v rest h o i u e = h o i u e
     if_plain (Some n) v rest h zero i u e = refl
     if_plain (Some n) v rest h (suc o) i u e = h o i u e
 
-    args_plain : (vs : List V) (rest : List (Op (Name V))) → NewPlain rest → NewPlain (put_args m vs rest)
+    args_plain : (vs : List V) (rest : List (Op (OldOrNewName V))) → NewPlain rest → NewPlain (put_args m vs rest)
     args_plain [] rest h = h
     args_plain (v ∷ vs) rest h = args_plain vs (put_if (m v) v rest) (if_plain (m v) v rest h)
 
-    before_plain : (op : Op V) (rest : List (Op (Name V))) → NewPlain rest → NewPlain (put_before m op rest)
+    before_plain : (op : Op V) (rest : List (Op (OldOrNewName V))) → NewPlain rest → NewPlain (put_before m op rest)
     before_plain (Calc a w r x y) rest h = if_plain (m r) r rest h
     before_plain (Const r n) rest h = h
     before_plain (Emit x) rest h = h
@@ -186,7 +186,7 @@ module _ {V : Type 0} where
     before_plain (Branch s xs e es) rest h = h
     before_plain (Return xs) rest h = h
 
-    cons_plain : (op : Op V) (rest : List (Op (Name V))) → NewPlain rest → NewPlain (old op ∷ rest)
+    cons_plain : (op : Op V) (rest : List (Op (OldOrNewName V))) → NewPlain rest → NewPlain (old op ∷ rest)
     cons_plain op rest h zero i v e = old_plain op i v e
     cons_plain op rest h (suc o) i v e = h o i v e
 
@@ -195,11 +195,11 @@ module _ {V : Type 0} where
     ops_plain (op ∷ ops) o i v e = before_plain op (old op ∷ put_ops m ops) (cons_plain op (put_ops m ops) (ops_plain ops)) o i v e
 
     -- where the old operations are
-    if_at : (t : Option ℕ) (v : V) (rest : List (Op (Name V))) (p : ℕ) → slice_get (put_if t v rest) (length (put_if t v []) + p) ≡ slice_get rest p
+    if_at : (t : Option ℕ) (v : V) (rest : List (Op (OldOrNewName V))) (p : ℕ) → slice_get (put_if t v rest) (length (put_if t v []) + p) ≡ slice_get rest p
     if_at None v rest p = let z : 0 + p ≡ p = omega arith in ap (slice_get rest) z
     if_at (Some n) v rest p = let z : 1 + p ≡ suc p = omega arith in ap (slice_get (Const (New v) n ∷ rest)) z
 
-    args_at : (vs : List V) (rest : List (Op (Name V))) (p : ℕ) → slice_get (put_args m vs rest) (args_count m vs + p) ≡ slice_get rest p
+    args_at : (vs : List V) (rest : List (Op (OldOrNewName V))) (p : ℕ) → slice_get (put_args m vs rest) (args_count m vs + p) ≡ slice_get rest p
     unfolding args_count
     args_at [] rest p = let z : 0 + p ≡ p = omega arith in ap (slice_get rest) z
     args_at (v ∷ vs) rest p =
@@ -207,7 +207,7 @@ module _ {V : Type 0} where
         let z : args_count m vs + length (put_if (m v) v []) + p ≡ args_count m vs + (length (put_if (m v) v []) + p) = omega arith in
         ap (slice_get (put_args m vs (put_if (m v) v rest))) z ∙ args_at vs (put_if (m v) v rest) (length (put_if (m v) v []) + p) ∙ if_at (m v) v rest p
 
-    before_at : (op : Op V) (rest : List (Op (Name V))) (p : ℕ) → slice_get (put_before m op rest) (length (put_before m op []) + p) ≡ slice_get rest p
+    before_at : (op : Op V) (rest : List (Op (OldOrNewName V))) (p : ℕ) → slice_get (put_before m op rest) (length (put_before m op []) + p) ≡ slice_get rest p
     before_at (Calc a w r x y) rest p = if_at (m r) r rest p
     before_at (Const r n) rest p = let z : 0 + p ≡ p = omega arith in ap (slice_get rest) z
     before_at (Emit x) rest p = let z : 0 + p ≡ p = omega arith in ap (slice_get rest) z
@@ -253,26 +253,26 @@ if_nothing false x e = refl
 
 -- 4. after the pass no value with a use gets a constant
 
-module _ (f : Fun Place) (k : Facts Place) (rules : Rules (Some f)) (best : IsMostPrecise (Some f) k) where
+module _ (f : Fun Place) (k : FunctionFacts Place) (rules : Rules (Some f)) (best : AreMostPreciseFacts (Some f) k) where
   abbrev F : Option (Fun Place)
   F = Some f
 
   abbrev m : Made Place
   m = made_of used_wanted F k
 
-  abbrev g : Option (Fun (Name Place))
+  abbrev g : Option (Fun (OldOrNewName Place))
   g = with_facts used_wanted F k
 
-  abbrev same : Name Place → Name Place → Bool
+  abbrev same : OldOrNewName Place → OldOrNewName Place → Bool
   same = same_name same_place
 
   abbrev q : Option (Fun Place)
   q = place_fun same g
 
-  abbrev puts : ℕ → List (Op (Name Place))
+  abbrev puts : ℕ → List (Op (OldOrNewName Place))
   puts b = put_args m (arguments_in F b) (put_ops m (left_in F b 0))
 
-  module _ (l : Facts Place) (best_l : IsMostPrecise q l) where
+  module _ (l : FunctionFacts Place) (best_l : AreMostPreciseFacts q l) where
     calc_q : (b o : ℕ) → calc_at (slice_get (left_in q b 0) o) ≡ calc_at (slice_get (puts b) o)
     calc_q b o =
         let r = place_name same (same_name_law same_place place_law) g in
@@ -283,7 +283,7 @@ module _ (f : Fun Place) (k : Facts Place) (rules : Rules (Some f)) (best : IsMo
         ∙ ap calc_at (slice_get-map (replace_op (use_of m)) (puts b) o)
         ∙ calc_replaced (use_of m) (slice_get (puts b) o)
 
-    named_put : (a : Place) (y : Name Place) → name_at g a ≡ Some y → name_at (put_in m F) a ≡ Some y
+    named_put : (a : Place) (y : OldOrNewName Place) → name_at g a ≡ Some y → name_at (put_in m F) a ≡ Some y
     named_put a y e = sym (name_replaced (use_of m) (put_in m F) a) ∙ e
 
     -- a constant that was put in
@@ -345,7 +345,7 @@ named_at : {V : Type 0} (same : V → V → Bool) (law : IsSameness same) (g : O
 named_at same law None y h = absurd h
 named_at same law (Some g) y h = ap (λ o. name_at (Some g) (unwrap_or o (Arg 0 0))) h.1 ∙ at_place same law g y h.0 h.1
 
-pub second_none : (f : Option (Fun Place)) (k : Facts Place) → Rules f → IsMostPrecise f k → (l : Facts Place) → IsMostPrecise (propagated used_wanted f k) l → (v : Place) → made_of used_wanted (propagated used_wanted f k) l v ≡ None
+pub second_none : (f : Option (Fun Place)) (k : FunctionFacts Place) → Rules f → AreMostPreciseFacts f k → (l : FunctionFacts Place) → AreMostPreciseFacts (propagated used_wanted f k) l → (v : Place) → made_of used_wanted (propagated used_wanted f k) l v ≡ None
 second_none None k rules best l best_l v = refl
 second_none (Some f) k rules best l best_l v = by_use (is_in same_place v (uses_in (propagated used_wanted (Some f) k))) refl
   where
@@ -359,12 +359,12 @@ second_none (Some f) k rules best l best_l v = by_use (is_in same_place v (uses_
         if_nothing (is_in same_place v (uses_in (propagated used_wanted (Some f) k))) (known_at (propagated used_wanted (Some f) k) l v)
         (use_none f k rules best l best_l v o.z u (ap (name_at (with_facts used_wanted (Some f) k)) o.is ∙ at))
 
-pub lean_settles : (p q r : Program Place) → ((path : List ℕ) → Rules (p path)) → IsSccp used_wanted p q → IsSccp used_wanted q r → r ≡ q
+pub lean_settles : (p q r : FunctionsByPath Place) → ((path : List ℕ) → Rules (p path)) → IsSccpOfFunctions used_wanted p q → IsSccpOfFunctions used_wanted q r → r ≡ q
 lean_settles p q r rules a b = λ i path. at_path path i
   where
     at_path : (path : List ℕ) → r path ≡ q path
     at_path path =
         let kept : Rules (q path) = subst Rules (sym (a.is path)) (sccp_rules used_wanted (p path) (a.facts path) (rules path)) in
-        let best : IsMostPrecise (propagated used_wanted (p path) (a.facts path)) (b.facts path) = subst (λ h. IsMostPrecise h (b.facts path)) (a.is path) (b.best path) in
+        let best : AreMostPreciseFacts (propagated used_wanted (p path) (a.facts path)) (b.facts path) = subst (λ h. AreMostPreciseFacts h (b.facts path)) (a.is path) (b.best path) in
         let none = subst (λ h. (v : Place) → made_of used_wanted h (b.facts path) v ≡ None) (sym (a.is path)) (second_none (p path) (a.facts path) (rules path) (a.best path) (b.facts path) best) in
         b.is path ∙ nothing_made (q path) kept (made_of used_wanted (q path) (b.facts path)) none

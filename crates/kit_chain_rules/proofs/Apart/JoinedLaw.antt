@@ -7,7 +7,7 @@ use Rattle.kit.specs.Meaning.{kit}
 use Rattle.kit_checks.specs.Words.{values_of}
 use Rattle.kit_ops.specs.declared.types.KitType.{KitType}
 use Rattle.kit_pass_rules.specs.Laws.{IsGood}
-use Rattle.kit_pass_rules.specs.Worlds.{KitTree, AreApart, IsTypedIn}
+use Rattle.kit_pass_rules.specs.Worlds.{PassedTree, HandlesAreApart, IsTypedIn}
 use Rattle.kit_chain_rules.specs.Laws.{DefinersApart, JoinedStaysGood, JoinedChainsKeepRules}
 use Rattle.kit_chain_rules.proofs.Apart.OccurrenceLemmas.{each_operation, each_block, operations_apart, blocks_apart}
 use Rattle.kit_chain_rules.proofs.Chains.InversionLemmas.{KitList, Becomes}
@@ -17,10 +17,10 @@ use Rattle.kit_chain_rules.proofs.Rules.TypeLemmas.{with_types}
 use Rattle.opt_trees.specs.Occurrences.{Has}
 use Rattle.opt_trees.specs.Simplify.{all_of, use_head, use_instead, Follows, ArgumentsApart}
 
-module _ (leads : TypeHandle → Option KitType) (typed : Value → Option TypeHandle) (t : KitTree)
+module _ (leads : TypeHandle → Option KitType) (typed : Value → Option TypeHandle) (t : PassedTree)
     (good : IsGood leads typed t)
     (names : Value → Value) (made : KitList Regions) (joins : Becomes t None Regions t.regions made) where
-  abbrev joined : KitTree
+  abbrev joined : PassedTree
   joined = record { head = use_head names t.head; regions = use_instead names made }
 
   typed_in : IsTypedIn typed joined
@@ -50,7 +50,7 @@ module _ (leads : TypeHandle → Option KitType) (typed : Value → Option TypeH
         same.1,
       )
 
-  apart : AreApart joined
+  apart : HandlesAreApart joined
   apart = record {
     operations = operations_apart kit (all_of t) t (orderly leads typed t good) (is_local leads typed t good) names made
         joins;

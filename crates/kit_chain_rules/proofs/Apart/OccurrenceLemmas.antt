@@ -3,11 +3,11 @@ use Rattle.std.proofs.Common.{◌≡◌, ⊎_elim, inl, suc, false, List, [], �
 use Rattle.std.proofs.Common.{subst}
 use Rattle.ir_trees.specs.Names.{Names, Contents}
 use Rattle.ir_trees.specs.Trees.{Head, Label, Sort, Operations, Blocks, Regions, Tree, operation, block, region, Root}
-use Rattle.opt_trees.specs.Occurrences.{Has, Occurrence, BlockOccurrence, Site, Spot, Inside, inner, next_block}
+use Rattle.opt_trees.specs.Occurrences.{Has, Occurrence, BlockOccurrence, OperationSite, Spot, Inside, inner, next_block}
 use Rattle.opt_trees.specs.Occurrences.{next_region, occurrences_in, block_occurrences_in, occurrences_of}
 use Rattle.opt_trees.specs.Occurrences.{block_occurrences_of, at_root, OperationsApart, BlocksApart}
 use Rattle.opt_trees.specs.Dialect.{Dialect}
-use Rattle.opt_trees.specs.Simplify.{Place, Joinable, use_head, use_instead, but_last, append, Joins, ends, operations}
+use Rattle.opt_trees.specs.Simplify.{StartingRegions, Joinable, use_head, use_instead, but_last, append, Joins, ends, operations}
 use Rattle.opt_trees.specs.Simplify.{regions, taken, first, chain_ends, chain_goes_on, IsOrderly, IsLocal}
 use Rattle.opt_trees.proofs.NoneDead.{has-append}
 use Rattle.opt_trees.proofs.Homes.{part_regions, part_rest, part_block, part_blocks, part_region, part_more, part_part}
@@ -15,7 +15,7 @@ use Rattle.opt_trees.proofs.Homes.{block_inside, but_last_inside, appended, bloc
 use Rattle.opt_trees.proofs.Chains.{InChain, itself, next, AtHome, HomeOf, IsNamed, InTree, leads_to, taken_later}
 use Rattle.opt_trees.proofs.Reached.{holder}
 
-module _ {N : Names} {S : Contents} {A : Type 0} (d : Dialect S A) (start : Place N) (r : Root N S)
+module _ {N : Names} {S : Contents} {A : Type 0} (d : Dialect S A) (start : StartingRegions N) (r : Root N S)
     (orderly : IsOrderly r) (local : IsLocal r)
     (names : N.value → N.value) where
   -- each block has become the first of its chain
@@ -37,7 +37,7 @@ module _ {N : Names} {S : Contents} {A : Type 0} (d : Dialect S A) (start : Plac
     pub first_same : e.first ≡ c.first
 
   -- an operation, and the first block of its chain
-  pub record LikeSite (c e : Site N S) : Type 0 where
+  pub record LikeSite (c e : OperationSite N S) : Type 0 where
     pub spot : LikeSpot c.spot e.spot
     pub chain : InChain d start r e.label.name c.label.name
     pub head : BlockOccurrence N S
@@ -69,7 +69,7 @@ module _ {N : Names} {S : Contents} {A : Type 0} (d : Dialect S A) (start : Plac
     pub joins : Joins d start r (Some it.label.name) Operations it.operations made
     pub is : y.operations ≡ use_instead names made
 
-  like_inner : (h : Head N S) (c e : Site N S) → LikeSite c e → LikeBlock (inner h c) (inner (use_head names h) e)
+  like_inner : (h : Head N S) (c e : OperationSite N S) → LikeSite c e → LikeBlock (inner h c) (inner (use_head names h) e)
   like_inner h c e k = record {
     spot = record {
       owner = refl;
@@ -133,7 +133,7 @@ module _ {N : Names} {S : Contents} {A : Type 0} (d : Dialect S A) (start : Plac
   holder_of o h = ⊎_elim (λ z. absurd z) (λ p. record { it = p.it; stands = p.stands; spot = p.spot; label = p.label })
       (holder r.regions (at_root r) o h)
 
-  last_home : (a b : N.block) (j : Joinable d start r a b) (c : Site N S) → AtHome d start r c → c.label.name ≡ a →
+  last_home : (a b : N.block) (j : Joinable d start r a b) (c : OperationSite N S) → AtHome d start r c → c.label.name ≡ a →
       j.last.site.spot ≡ c.spot
   last_home a b j c h e =
       let p = holder_of j.last j.stands in
@@ -144,7 +144,7 @@ module _ {N : Names} {S : Contents} {A : Type 0} (d : Dialect S A) (start : Plac
   -- the next block of a chain is in the same region
   like_chain : (a : N.block) (x : BlockOccurrence N S) (j : Joinable d start r a x.label.name) →
       Has x (block_occurrences_of r) →
-      (c e : Site N S) → AtHome d start r c → c.label.name ≡ a → LikeSite c e →
+      (c e : OperationSite N S) → AtHome d start r c → c.label.name ≡ a → LikeSite c e →
       LikeSite (record { spot = x.spot; label = x.label }) e
   like_chain a x j h c e home n k =
       let last = last_home a x.label.name j c home n in
@@ -349,7 +349,7 @@ module _ {N : Names} {S : Contents} {A : Type 0} (d : Dialect S A) (start : Plac
     first = same i;
   }
 
-  one_site : (c e f : Site N S) → LikeSite c e → LikeSite c f → e ≡ f
+  one_site : (c e f : OperationSite N S) → LikeSite c e → LikeSite c f → e ≡ f
   one_site c e f k m =
       let name : e.label.name ≡ f.label.name = one_first e.label.name f.label.name c.label.name k.chain m.chain in
       let head : k.head ≡ m.head =

@@ -16,7 +16,7 @@ use Rattle.kit_ops.specs.declared.kinds.KitOp.{KitOp}
 use Rattle.kit_ops.specs.declared.kinds.KitOp.TheVariants as ops
 use Rattle.kit_ops.specs.declared.types.KitType.{KitType}
 use Rattle.kit_pass_rules.specs.Laws.{IsGood}
-use Rattle.kit_pass_rules.specs.Worlds.{KitTree, kit_world}
+use Rattle.kit_pass_rules.specs.Worlds.{PassedTree, kit_world}
 use Rattle.kit_pass_rules.proofs.Lists.{map_get, map_at, has_at_index, index_of_has}
 use Rattle.kit_pass_rules.proofs.Walk.{block_of, within, occurrence_of}
 use Rattle.kit_chain_rules.specs.Laws.{DefinersApart}
@@ -40,12 +40,12 @@ picks_all all (y ∷ ys) s h =
     (λ i. cons_if ((ap (slice_get all) z ∙ h 0) i) (picks_all all ys (suc s) (λ i. let q : suc s + i ≡ s + suc i =
     omega arith in ap (slice_get all) q ∙ h (suc i)) i))
 
-module _ (leads : TypeHandle → Option KitType) (old : Value → Option TypeHandle) (t : KitTree)
+module _ (leads : TypeHandle → Option KitType) (old : Value → Option TypeHandle) (t : PassedTree)
     (good : IsGood leads old t) where
   -- the end of a block that another is joined to
   pub record LastStep (x : BlockStep t) (b c : Ptr BasicBlock) (j : JoinsTo t b c) : Type 0 where
     pub k : ℕ
-    pub u : KitTree
+    pub u : PassedTree
     pub here : slice_get (operation_list x.body.operations) k ≡ Some u
     pub is : j.last ≡ occurrence_of (within (block_stands t x).spot x.body) u
     pub names_next : Has c u.head.successors
@@ -57,7 +57,7 @@ module _ (leads : TypeHandle → Option KitType) (old : Value → Option TypeHan
     pub target : j.target ≡ block_of (block_stands t (beside t x number next next_here)).spot next
     pub types : map old u.head.operands ≡ map Some (types_of next.label.arguments)
 
-  is_plain : (k : KitOp) (u : KitTree) (c : Ptr BasicBlock) → IsBranchKind leads old t good k →
+  is_plain : (k : KitOp) (u : PassedTree) (c : Ptr BasicBlock) → IsBranchKind leads old t good k →
       rules.FitsKind (kit_world leads old) u k →
       u.head.successors ≡ c ∷ [] → k ≡ ops.Br
   is_plain _ u c plain f e = refl

@@ -18,14 +18,14 @@ use Rattle.kit_ops.specs.declared.kinds.KitOp.{KitOp}
 use Rattle.kit_ops.specs.declared.kinds.KitOp.TheVariants as ops
 use Rattle.kit_ops.specs.declared.types.KitType.{KitType}
 use Rattle.kit_pass_rules.specs.Laws.{IsGood}
-use Rattle.kit_pass_rules.specs.Worlds.{KitTree, kit_world}
+use Rattle.kit_pass_rules.specs.Worlds.{PassedTree, kit_world}
 use Rattle.kit_pass_rules.proofs.Located.{located, located_block}
 use Rattle.kit_pass_rules.proofs.Walk.{SpotOf, OccurrenceOf, BlockOf, block_of, within, occurrence_of, Standing}
 use Rattle.kit_pass_rules.proofs.Walk.{child_of}
 use Rattle.kit_chain_rules.proofs.Chains.InversionLemmas.{KitList, KitBody}
 use Rattle.kit_chain_rules.proofs.Chains.ListLemmas.{get_below}
 use Rattle.opt_trees.specs.Occurrences.{Has, EdgesLocal}
-use Rattle.opt_trees.specs.Occurrences.{Site as OccurrenceSite, inner, next_block, next_region, occurrences_in}
+use Rattle.opt_trees.specs.Occurrences.{OperationSite as OccurrenceSite, inner, next_block, next_region, occurrences_in}
 use Rattle.opt_trees.specs.Occurrences.{occurrences_of, block_occurrences_in, block_occurrences_of}
 use Rattle.opt_trees.specs.Simplify.{EndsApart, IsOrderly, IsLocal}
 use Rattle.opt_trees.proofs.Lists.{some_same, none_some}
@@ -126,7 +126,7 @@ block_spot (block l ops rest) c (suc n) body e = let p = block_spot rest (next_b
 }
 
 operation_here : (xs : KitList Operations) (c : OccurrenceSite by_handle (in_program KitOperation KitBlock)) (k : ℕ)
-    (u : KitTree) →
+    (u : PassedTree) →
     slice_get (operation_list xs) k ≡ Some u → Has (occurrence_of c u) (occurrences_in xs c)
 operation_here end c k u e = absurd (none_some u e)
 operation_here (operation h rs rest) c zero u e = inl (ap (occurrence_of c)
@@ -135,11 +135,11 @@ operation_here (operation h rs rest) c (suc k) u e =
     inr (has-right (occurrence_of c u) (occurrences_in rs (inner h c)) (occurrences_in rest c)
     (operation_here rest c k u e))
 
-module _ (t : KitTree) where
+module _ (t : PassedTree) where
   -- a block of a region of an operation of the tree
   pub record BlockStep : Type 0 where
     pub s : KitSite
-    pub outer : List KitTree
+    pub outer : List PassedTree
     pub up : Standing t s outer
     pub r : ℕ
     pub b : ℕ
@@ -157,7 +157,7 @@ module _ (t : KitTree) where
     pub region_is : spot.region ≡ x.up.spot.region + x.r
     pub first : x.b ≡ 0 → spot.first ≡ true
     pub here : Has (block_of spot x.body) (block_occurrences_of t)
-    pub operations : (k : ℕ) (u : KitTree) → slice_get (operation_list x.body.operations) k ≡ Some u →
+    pub operations : (k : ℕ) (u : PassedTree) → slice_get (operation_list x.body.operations) k ≡ Some u →
         Has (occurrence_of (within spot x.body) u) (occurrences_of t)
 
   pub block_stands : (x : BlockStep) → BlockStands x
@@ -197,7 +197,7 @@ module _ (t : KitTree) where
   pub record Step : Type 0 where
     pub in_block : BlockStep
     pub k : ℕ
-    pub u : KitTree
+    pub u : PassedTree
     pub here : slice_get (operation_list in_block.body.operations) k ≡ Some u
 
   abbrev pub around_of : (x : BlockStep) → ℕ → KitAround
@@ -218,7 +218,7 @@ module _ (t : KitTree) where
     pub step : BlockStep
     pub is : x ≡ block_of (block_stands step).spot step.body
 
-module _ (leads : TypeHandle → Option KitType) (old : Value → Option TypeHandle) (t : KitTree)
+module _ (leads : TypeHandle → Option KitType) (old : Value → Option TypeHandle) (t : PassedTree)
     (good : IsGood leads old t) where
   pub occurs_at : (o : KitOccurrence) → Has o (occurrences_of t) → OccursAt t o
   occurs_at o h =
@@ -285,7 +285,7 @@ module _ (leads : TypeHandle → Option KitType) (old : Value → Option TypeHan
   none_named [] x e h = h
   none_named (y ∷ xs) x e h = omega (arith, e)
 
-  branch_of : (u : KitTree) (b : Ptr BasicBlock) (k : KitOp) → rules.FitsKind (kit_world leads old) u k →
+  branch_of : (u : PassedTree) (b : Ptr BasicBlock) (k : KitOp) → rules.FitsKind (kit_world leads old) u k →
       Has b u.head.successors → IsBranchKind k
   branch_of u b ops.Br f h = plain
   branch_of u b ops.CondBr f h = conditional
@@ -315,7 +315,7 @@ module _ (leads : TypeHandle → Option KitType) (old : Value → Option TypeHan
     module_kind : IsHolder ops.Module
     function_kind : IsHolder ops.Func
 
-  holder_of : (u : KitTree) (bs : KitList Blocks) (r : ℕ) (k : KitOp) → rules.FitsKind (kit_world leads old) u k →
+  holder_of : (u : PassedTree) (bs : KitList Blocks) (r : ℕ) (k : KitOp) → rules.FitsKind (kit_world leads old) u k →
       slice_get (region_list u.regions) r ≡ Some bs → IsHolder k
   holder_of u bs r ops.Module f h = module_kind
   holder_of u bs r ops.Func f h = function_kind
@@ -393,7 +393,7 @@ module _ (leads : TypeHandle → Option KitType) (old : Value → Option TypeHan
   pub record EdgeTo (x : Step t) (b : Ptr BasicBlock) : Type 0 where
     pub edge : ℕ
     pub named : slice_get x.u.head.successors edge ≡ Some b
-    pub fits : rules.LeadsTo (kit_world leads old) x.u (around_of t x.in_block x.k) edge b
+    pub fits : rules.EdgeLeadsTo (kit_world leads old) x.u (around_of t x.in_block x.k) edge b
 
   index_of : {X : Type 0} (xs : List X) (x : X) → Has x xs → (k : ℕ) × (slice_get xs k ≡ Some x)
   index_of [] x h = absurd h
@@ -407,7 +407,7 @@ module _ (leads : TypeHandle → Option KitType) (old : Value → Option TypeHan
       record {
         edge = i.0;
         named = i.1;
-        fits = subst (λ a. rules.LeadsTo (kit_world leads old) x.u a i.0 b)
+        fits = subst (λ a. rules.EdgeLeadsTo (kit_world leads old) x.u a i.0 b)
             (sym (some_same (around_of t x.in_block x.k) f.0 f.1)) f.2;
       }
 

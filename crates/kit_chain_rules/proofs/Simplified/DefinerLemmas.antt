@@ -10,12 +10,12 @@ use Rattle.ir_trees.specs.Stands.{by_handle, in_program}
 use Rattle.ir_trees.specs.Trees.{Sort, Regions, end, operation, block, region}
 use Rattle.kit.specs.Meaning.{KitOperation, KitBlock, kit}
 use Rattle.kit_ops.specs.declared.attributes.IntegerAttr.{IntegerAttr}
-use Rattle.kit_pass_rules.specs.Worlds.{KitTree}
+use Rattle.kit_pass_rules.specs.Worlds.{PassedTree}
 use Rattle.kit_chain_rules.specs.Laws.{DefinersApart}
 use Rattle.kit_chain_rules.proofs.Chains.InversionLemmas.{KitList}
 use Rattle.kit_chain_rules.proofs.Chains.ListLemmas.{KitHead}
 use Rattle.kit_chain_rules.proofs.Chains.PlaceLemmas.{KitOccurrence, KitBlockOccurrence}
-use Rattle.opt_trees.specs.Dce.{Around}
+use Rattle.opt_trees.specs.Dce.{TreeSurroundings}
 use Rattle.opt_trees.specs.Occurrences.{Has, Inside, inner, next_block, next_region, occurrences_in}
 use Rattle.opt_trees.specs.Occurrences.{block_occurrences_in, at_root}
 use Rattle.opt_trees.specs.Simplify.{is_bare, along_edge, decide_head, decide, decided, keep}
@@ -136,7 +136,7 @@ module _ (v : Value) where
       (λ b. argument_of rest (next_region c) o b g) h
 
 -- a tree whose definitions are some of those of another
-pub fewer_definers : (t u : KitTree) → ((v : Value) → Has v (results_in u.regions) → Has v (results_in t.regions)) →
+pub fewer_definers : (t u : PassedTree) → ((v : Value) → Has v (results_in u.regions) → Has v (results_in t.regions)) →
     ((v : Value) → Has v (arguments_in u.regions) → Has v (arguments_in t.regions)) → DefinersApart t → DefinersApart u
 fewer_definers t u results arguments apart x o v hx ho a g =
     let y = argument_at v t.regions (at_root t) (arguments v (argument_of v u.regions (at_root u) x hx a)) in
@@ -145,7 +145,7 @@ fewer_definers t u results arguments apart x o v hx ho a g =
 
 -- ---- branches decided
 
-module _ (w : Around by_handle IntegerAttr) where
+module _ (w : TreeSurroundings by_handle IntegerAttr) where
   edge_results : (h : KitHead) (i : Option ℕ) (c : Option KitOperation) → (along_edge kit h i c).results ≡ h.results
   edge_results h None c = refl
   edge_results h (Some i) None = refl
@@ -173,7 +173,7 @@ module _ (w : Around by_handle IntegerAttr) where
       (arguments_decided xs i ++ arguments_decided rest i)
   arguments_decided (region bs rest) = λ i. arguments_decided bs i ++ arguments_decided rest i
 
-  pub decided_definers : (t : KitTree) → DefinersApart t → DefinersApart (decided kit w t)
+  pub decided_definers : (t : PassedTree) → DefinersApart t → DefinersApart (decided kit w t)
   decided_definers t = fewer_definers t (decided kit w t) (λ v h. subst (Has v) (results_decided t.regions) h)
       (λ v h. subst (Has v) (arguments_decided t.regions) h)
 
@@ -221,7 +221,7 @@ module _ (g : Ptr BasicBlock → Bool) (v : Value) where
   arguments_kept (region bs rest) h = either_kept v (arguments_in (keep g bs)) (arguments_in (keep g rest))
       (arguments_in bs) (arguments_in rest) (arguments_kept bs) (arguments_kept rest) h
 
-pub kept_definers : (g : Ptr BasicBlock → Bool) (t : KitTree) → DefinersApart t →
+pub kept_definers : (g : Ptr BasicBlock → Bool) (t : PassedTree) → DefinersApart t →
     DefinersApart (record { head = t.head; regions = keep g t.regions })
 kept_definers g t = fewer_definers t (record { head = t.head; regions = keep g t.regions })
     (λ v h. results_kept g v t.regions h) (λ v h. arguments_kept g v t.regions h)

@@ -13,15 +13,15 @@ use Rattle.kit_cut_rules.specs.Laws.{DecidedInPlaceStaysGood, CutStaysGood, Rena
 use Rattle.kit_ops.specs.declared.attributes.IntegerAttr.{IntegerAttr}
 use Rattle.kit_ops.specs.declared.types.KitType.{KitType}
 use Rattle.kit_pass_rules.specs.Laws.{IsGood}
-use Rattle.kit_pass_rules.specs.Worlds.{KitTree}
-use Rattle.opt_trees.specs.Dce.{Around}
+use Rattle.kit_pass_rules.specs.Worlds.{PassedTree}
+use Rattle.opt_trees.specs.Dce.{TreeSurroundings}
 use Rattle.opt_trees.specs.Simplify.{all_of, decided, IsJoined, IsSimplify}
 
 -- the three phases in turn
-module _ (decided_good : DecidedInPlaceStaysGood) (cut_good : CutStaysGood) (w : Around by_handle IntegerAttr)
-    (leads : TypeHandle → Option KitType) (old : Value → Option TypeHandle) (t made : KitTree)
+module _ (decided_good : DecidedInPlaceStaysGood) (cut_good : CutStaysGood) (w : TreeSurroundings by_handle IntegerAttr)
+    (leads : TypeHandle → Option KitType) (old : Value → Option TypeHandle) (t made : PassedTree)
     (good : IsGood leads old t) (definers : DefinersApart t) (is : IsSimplify kit w t made) where
-  abbrev branches : KitTree
+  abbrev branches : PassedTree
   branches = decided kit w t
 
   good_decided : IsGood leads old branches
@@ -35,7 +35,7 @@ module _ (decided_good : DecidedInPlaceStaysGood) (cut_good : CutStaysGood) (w :
       (kept_definers is.is_cut.gone branches (decided_definers w t definers))
 
   joined : IsJoined kit (all_of is.cut) is.cut made
-  joined = subst (λ p. IsJoined kit p is.cut made) (ap (λ (z : KitTree). all_of z) (sym is.is_cut.is)) is.is_joined
+  joined = subst (λ p. IsJoined kit p is.cut made) (ap (λ (z : PassedTree). all_of z) (sym is.is_cut.is)) is.is_joined
 
   good_joined : IsGood leads old made
   good_joined = joined_stays_good leads old is.cut made good_cut definers_cut joined

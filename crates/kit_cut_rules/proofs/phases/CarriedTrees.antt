@@ -6,7 +6,7 @@ use Rattle.ir_trees.specs.Renames.{names_of}
 use Rattle.kit.specs.Meaning.{KitOperation, KitBlock}
 use Rattle.kit_ops.specs.declared.types.KitType.{KitType}
 use Rattle.kit_pass_rules.specs.Laws.{IsGood}
-use Rattle.kit_pass_rules.specs.Worlds.{KitTree, kit_world, AreApart, IsTypedIn, ObeysIn}
+use Rattle.kit_pass_rules.specs.Worlds.{PassedTree, kit_world, HandlesAreApart, IsTypedIn, ObeysIn}
 use Rattle.kit_pass_rules.proofs.Walk.{OccurrenceOf, BlockOf}
 use Rattle.kit_cut_rules.proofs.pruning.PrunedTrees.{Pruning, prune_tree}
 use Rattle.kit_cut_rules.proofs.pruning.PrunedSites.{MayPrune}
@@ -16,7 +16,7 @@ use Rattle.opt_trees.proofs.Lists.{Preimage}
 
 -- each operation and block of the second tree is made of one of the first: different operations get different names,
 -- results and what a block says of itself stay
-pub record Carries (t u : KitTree) : Type 0 where
+pub record Carries (t u : PassedTree) : Type 0 where
   pub made : OccurrenceOf KitOperation KitBlock → OccurrenceOf KitOperation KitBlock
   pub block_made : BlockOf KitOperation KitBlock → BlockOf KitOperation KitBlock
   pub operations : (p : OccurrenceOf KitOperation KitBlock) → Has p (occurrences_of u) →
@@ -28,11 +28,11 @@ pub record Carries (t u : KitTree) : Type 0 where
   pub results : (o : OccurrenceOf KitOperation KitBlock) → (made o).head.results ≡ o.head.results
   pub labels : (x : BlockOf KitOperation KitBlock) → (block_made x).label ≡ x.label
 
-module _ (t u : KitTree) (c : Carries t u) where
+module _ (t u : PassedTree) (c : Carries t u) where
   same_label : (x y : BlockOf KitOperation KitBlock) → c.block_made x ≡ y → x.label ≡ y.label
   same_label x y e = sym (c.labels x) ∙ ap (λ (z : BlockOf KitOperation KitBlock). z.label) e
 
-  pub carried_apart : AreApart t → AreApart u
+  pub carried_apart : HandlesAreApart t → HandlesAreApart u
   carried_apart apart = record {
     operations = λ o p ho hp e.
         let a = c.operations o ho in
@@ -69,7 +69,7 @@ module _ (t u : KitTree) (c : Carries t u) where
   }
 
 -- so what is pruned is good where it is made so, and keeps the rules where values have the types that it says
-module _ (leads : TypeHandle → Option KitType) (g : Pruning) (t : KitTree) (may : MayPrune g t) (after : KitTree)
+module _ (leads : TypeHandle → Option KitType) (g : Pruning) (t : PassedTree) (may : MayPrune g t) (after : PassedTree)
     (is : after ≡ prune_tree g t) where
   pub keeps_from : (old new : Value → Option TypeHandle) → IsGood leads old t → IsTypedIn new after →
       ObeysIn (kit_world leads new) after

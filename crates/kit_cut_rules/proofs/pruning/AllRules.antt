@@ -7,7 +7,7 @@ use Rattle.kit_checks.specs.declared.rule.Rule.{Rule}
 use Rattle.kit_checks.specs.declared.rule.Rule.TheVariants as rule
 use Rattle.kit_ops.specs.declared.types.KitType.{KitType}
 use Rattle.kit_pass_rules.specs.Laws.{IsGood}
-use Rattle.kit_pass_rules.specs.Worlds.{KitTree, kit_world, IsTypedIn, ObeysIn}
+use Rattle.kit_pass_rules.specs.Worlds.{PassedTree, kit_world, IsTypedIn, ObeysIn}
 use Rattle.kit_pass_rules.proofs.DceCame.{KitSite}
 use Rattle.kit_cut_rules.proofs.pruning.PrunedTrees.{Pruning, prune_tree}
 use Rattle.kit_cut_rules.proofs.pruning.PrunedSites.{MayPrune, Came, came_from}
@@ -19,7 +19,7 @@ use Rattle.kit_cut_rules.proofs.pruning.PlacementRules.{rule_root, rule_module, 
 use Rattle.kit_cut_rules.proofs.pruning.PlacementRules.{rule_ends}
 use Rattle.kit_cut_rules.proofs.pruning.PlacementRules.{rule_visible}
 
-module _ (leads : TypeHandle → Option KitType) (old new : Value → Option TypeHandle) (g : Pruning) (t : KitTree)
+module _ (leads : TypeHandle → Option KitType) (old new : Value → Option TypeHandle) (g : Pruning) (t : PassedTree)
     (good : IsGood leads old t) (may : MayPrune g t)
     (typed : IsTypedIn new (prune_tree g t)) where
   kept : (r : Rule) (s : KitSite) → Came g t may s → Keeps (kit_world leads new) r s

@@ -16,7 +16,7 @@ use Rattle.kit_ops.specs.declared.attributes.KitAttr.{KitAttr}
 use Rattle.kit_ops.specs.declared.kinds.KitOp.TheVariants as ops
 use Rattle.kit_ops.specs.declared.types.KitType.{KitType}
 use Rattle.kit_pass_rules.specs.Laws.{IsGood}
-use Rattle.kit_pass_rules.specs.Worlds.{KitTree, kit_world, IsTypedIn}
+use Rattle.kit_pass_rules.specs.Worlds.{PassedTree, kit_world, IsTypedIn}
 use Rattle.kit_pass_rules.proofs.DceCame.{KitAround, KitSite}
 use Rattle.kit_pass_rules.proofs.Left.{left, has_left_over}
 use Rattle.kit_pass_rules.proofs.Lists.{has_at_index, index_of_has}
@@ -58,7 +58,7 @@ one_left (Some y) zero x e = e
 one_left (Some y) (suc k) x e = absurd (none_some x e)
 
 -- what a conditional branch forwards along an edge are the operands of the edge
-module _ (leads : TypeHandle → Option KitType) (old : Value → Option TypeHandle) (u : KitTree)
+module _ (leads : TypeHandle → Option KitType) (old : Value → Option TypeHandle) (u : PassedTree)
     (is : u.head.content.kind ≡ ops.CondBr) (h : rules.HasSegments (kit_world leads old) u) where
   abbrev attributes_of : List (List ℕ × KitAttr)
   attributes_of = u.head.content.notes.attributes
@@ -105,9 +105,9 @@ module _ (leads : TypeHandle → Option KitType) (old : Value → Option TypeHan
           ∙ sym ((λ j. segment (parts j) (was j) 2) ∙ second_segment x fs ss first second fc sc))))
       step first second count x fs ss parts fc sc was size (suc (suc i)) less = absurd (omega (arith, less))
 
-module _ (leads : TypeHandle → Option KitType) (old new : Value → Option TypeHandle) (g : Pruning) (t : KitTree)
+module _ (leads : TypeHandle → Option KitType) (old new : Value → Option TypeHandle) (g : Pruning) (t : PassedTree)
     (good : IsGood leads old t) (may : MayPrune g t)
-    (typed : IsTypedIn new (prune_tree g t)) (u : KitTree) (a : KitAround) (n : ℕ) (o : Was g t may u a n) where
+    (typed : IsTypedIn new (prune_tree g t)) (u : PassedTree) (a : KitAround) (n : ℕ) (o : Was g t may u a n) where
   same_types : (xs : List Value) → ((v : Value) → Has v xs → Has v u.head.operands) → map new xs ≡ map old xs
   same_types xs h = map_on new old xs (λ v i. operand_same leads old new g t good may typed u a n o v (h v i))
 
@@ -127,12 +127,12 @@ module _ (leads : TypeHandle → Option KitType) (old new : Value → Option Typ
       (subst (Has (prune_body g target)) (sym (blocks_pruned g a.blocks)) has)
 
   edge_before : (edge : ℕ) (target : Ptr BasicBlock) → slice_get u.head.successors edge ≡ Some target →
-      rules.LeadsTo (kit_world leads old) u a edge target
+      rules.EdgeLeadsTo (kit_world leads old) u a edge target
   edge_before edge target e =
       let r : rules.EdgesFit (kit_world leads old) (site_in leads old new g t good may u a) =
       keeps leads old new g t good may u a n o rule.EdgesFit in
       let x = r edge target e in
-      subst (λ (z : KitAround). rules.LeadsTo (kit_world leads old) u z edge target) (sym (some_same a x.0 x.1)) x.2
+      subst (λ (z : KitAround). rules.EdgeLeadsTo (kit_world leads old) u z edge target) (sym (some_same a x.0 x.1)) x.2
 
   named_has : (edge : ℕ) (target name : Ptr BasicBlock) → name ≡ target →
       slice_get u.head.successors edge ≡ Some target → Has name u.head.successors
@@ -177,7 +177,7 @@ module _ (leads : TypeHandle → Option KitType) (old new : Value → Option Typ
         },
       ))
 
-module _ (leads : TypeHandle → Option KitType) (old new : Value → Option TypeHandle) (g : Pruning) (t : KitTree)
+module _ (leads : TypeHandle → Option KitType) (old new : Value → Option TypeHandle) (g : Pruning) (t : PassedTree)
     (good : IsGood leads old t) (may : MayPrune g t) where
   pub rule_edges : IsTypedIn new (prune_tree g t) → (s : KitSite) → Came g t may s →
       rules.EdgesFit (kit_world leads new) s

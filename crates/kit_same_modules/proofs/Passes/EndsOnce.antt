@@ -3,13 +3,13 @@ use Rattle.std.proofs.Common.{◌≡◌, ⊎_elim, ℕ, suc, ◌<◌, false, Lis
 use Rattle.std.specs.Prelude.{slice_get}
 use Rattle.ir_trees.specs.Names.{Names, Contents}
 use Rattle.ir_trees.specs.Trees.{Head, Operations, Blocks, Tree, end, operation, block}
-use Rattle.opt_trees.specs.Occurrences.{Has, Occurrence, Site, Spot, inner, next_block, occurrences_in}
+use Rattle.opt_trees.specs.Occurrences.{Has, Occurrence, OperationSite, Spot, inner, next_block, occurrences_in}
 use Rattle.opt_trees.proofs.NoneDead.{has-append}
 use Rattle.kit_behaviour.specs.Machine.{Edge, Op, Fun, left_in}
 use Rattle.kit_behaviour.specs.Rules.{is_terminator, EndsWell}
 use Rattle.kit_behaviour.proofs.ControlFlow.NamedChains.{no_edges}
 use Rattle.kit_views.specs.Reading.{Reading}
-use Rattle.kit_views.specs.FlatView.{IsOp, AreOps, AreBlocks, names_in}
+use Rattle.kit_views.specs.FlatView.{IsOp, AreOps, AreFlatBlocks, names_in}
 use Rattle.kit_views.proofs.Lists.{Distinct, has_get}
 use Rattle.kit_views.proofs.Pairs.{op_pairs, pairs}
 use Rattle.kit_views.proofs.ReachedBoth.{successors_are}
@@ -28,7 +28,7 @@ module _ {N : Names} {S : Contents} (r : Reading S) (names : List N.block) where
       (successors_are r names o p is ∙ ap (map (λ (x : Edge N.value). slice_get names x.target)) (no_edges p e)) i
 
   -- of the operations of a block one names successors
-  one_end_ops : (os : Tree N S Operations) (ps : List (Op N.value)) (c : Site N S) → AreOps r names os ps →
+  one_end_ops : (os : Tree N S Operations) (ps : List (Op N.value)) (c : OperationSite N S) → AreOps r names os ps →
       EndsWell ps → (o z : Occurrence N S) → Has o (occurrences_in os c) → Has z (occurrences_in os c) →
       (n m : N.block) → Has n o.head.successors → Has m z.head.successors → o ≡ z
   one_end_ops end ps c a w o z i k n m lo lz = absurd i
@@ -53,7 +53,7 @@ module _ {N : Names} {S : Contents} (r : Reading S) (names : List N.block) where
           (has-append o (occurrences_in rs (inner h c)) (occurrences_in (operation g qs more) c) x)) i
 
   -- of the operations of blocks of one name one names successors
-  pub one_end : (ts : Tree N S Blocks) (ks : Fun N.value) (c : Spot N S) → AreBlocks r names ts ks →
+  pub one_end : (ts : Tree N S Blocks) (ks : Fun N.value) (c : Spot N S) → AreFlatBlocks r names ts ks →
       Distinct (names_in ts) → ((b : ℕ) → b < length ks → EndsWell (left_in (Some ks) b 0)) → (o z : Occurrence N S) →
       Has o (occurrences_in ts c) → Has z (occurrences_in ts c) → o.site.label.name ≡ z.site.label.name →
       (n m : N.block) → Has n o.head.successors → Has m z.head.successors → o ≡ z
@@ -77,4 +77,4 @@ module _ {N : Names} {S : Contents} (r : Reading S) (names : List N.block) where
           let p = pairs r names more ks (next_block c) a.2 o x in
           let q = op_pairs r names os j.ops (record { spot = c; label = l }) a.1 z y in
           dn.0 (has_get (names_in more) p.place l.name (p.name
-          ∙ ap Some (e ∙ ap (λ (s : Site N S). s.label.name) q.where_it_is)))
+          ∙ ap Some (e ∙ ap (λ (s : OperationSite N S). s.label.name) q.where_it_is)))

@@ -5,7 +5,7 @@ use Rattle.ir_names.specs.Dictionary.{attribute_at}
 use Rattle.ir_trees.specs.Names.{Names}
 use Rattle.ir_trees.specs.Renames.{rename_root, names_of}
 use Rattle.ir_trees.specs.Trees.{Root}
-use Rattle.opt_trees.specs.Dce.{Around}
+use Rattle.opt_trees.specs.Dce.{TreeSurroundings}
 use Rattle.opt_trees.specs.Occurrences.{Has, Occurrence, occurrences_of, defined_in, rename_occurrence, Renaming, maps}
 use Rattle.opt_trees.proofs.Lists.{at-map, has-map, has-apart, some_same, from_some, option_both}
 use Rattle.opt_meanings.specs.Laws.{KnowAlike}
@@ -26,7 +26,7 @@ use Rattle.kit_same_modules.proofs.Passes.IntegersMeant.{means_number}
 use Rattle.kit_same_modules.proofs.Passes.OperandsDefined.{operand_defined}
 
 module _ {N : Names} (c e : TypeHandle → ℕ) (r : Renaming N N) (t u : Root N kit_contents)
-    (same : rename_root (maps r) (mean_root (meanings c) t) ≡ mean_root (meanings e) u) (w z : Around N IntegerAttr)
+    (same : rename_root (maps r) (mean_root (meanings c) t) ≡ mean_root (meanings e) u) (w z : TreeSurroundings N IntegerAttr)
     (knows : KnowsConstants w t) (knows_other : KnowsConstants z u) where
   abbrev Op : Type 0
   Op = Occurrence N kit_contents
@@ -119,7 +119,7 @@ pub known_alike : {N : Names} (leads others : TypeHandle → Option KitType) (nu
     (t u : Root N kit_contents) →
     rename_root (maps r) (mean_root (meanings c.to) t) ≡ mean_root (meanings e.to) u →
     IsSound {N = N} leads numbered type_at t → IsSound {N = N} others other_numbered other_type_at u →
-    (w z : Around N IntegerAttr) → KnowsConstants w t → KnowsConstants z u →
+    (w z : TreeSurroundings N IntegerAttr) → KnowsConstants w t → KnowsConstants z u →
     KnowAlike kit_said (worded_around (integers c) w) (worded_around (integers e) z)
     (mean_root (meanings c.to) t) (mean_root (meanings e.to) u)
 known_alike {N} leads others numbered other_numbered type_at other_type_at c e r t u same sound other_sound w z knows

@@ -2,7 +2,7 @@
 use Rattle.std.proofs.Common.{◌≡◌, List, [], ◌∷◌, ◌++◌, map, sym, refl, ap, ◌∙◌, subst}
 use Rattle.std.proofs.lemmas.List.{map-append}
 use Rattle.ir_trees.specs.Names.{Names, Contents}
-use Rattle.ir_trees.specs.Renames.{Maps, IsOneToOne, IsSame, blocks_in, blocks_of, rename, rename_defined}
+use Rattle.ir_trees.specs.Renames.{Maps, IsOneToOne, IsSameUpToNames, blocks_in, blocks_of, rename, rename_defined}
 use Rattle.ir_trees.specs.Renames.{rename_head, rename_label, rename_root, values_in, values_of}
 use Rattle.ir_trees.specs.Searched.{heads_in, operation_names, Lists}
 use Rattle.ir_trees.specs.Trees.{Defined, Head, Label, Sort, Tree, end, operation, block, region, Root}
@@ -94,6 +94,6 @@ module _ {N M : Names} {S R : Contents} (m : Meanings S R) (n : Maps N M) where
   }
 
   -- a tree under names that are kept apart means the same up to names
-  pub renamed_means_same : (t : Root N S) → IsOneToOne n t → IsSame (mean_root m t) (mean_root m (rename_root n t))
+  pub renamed_means_same : (t : Root N S) → IsOneToOne n t → IsSameUpToNames (mean_root m t) (mean_root m (rename_root n t))
   renamed_means_same t o =
-      subst (IsSame (mean_root m t)) (sym (root_renamed t)) (same_renamed n (mean_root m t) (one_to_one_meant t o))
+      subst (IsSameUpToNames (mean_root m t)) (sym (root_renamed t)) (same_renamed n (mean_root m t) (one_to_one_meant t o))

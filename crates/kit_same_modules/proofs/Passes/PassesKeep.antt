@@ -4,7 +4,7 @@ use Rattle.ir_base.specs.declared.types.TypeHandle.{TypeHandle}
 use Rattle.ir_program.proofs.defined.Arrivals.{same_value}
 use Rattle.ir_program.proofs.made.Frames.{same_or_not}
 use Rattle.ir_trees.specs.Names.{Names}
-use Rattle.ir_trees.specs.Renames.{HaveTests, IsSame}
+use Rattle.ir_trees.specs.Renames.{HaveTests, IsSameUpToNames}
 use Rattle.ir_trees.specs.Stands.{by_handle}
 use Rattle.ir_trees.specs.Trees.{Root}
 use Rattle.ir_trees.proofs.Same.{same_back, same_on}
@@ -15,7 +15,7 @@ use Rattle.kit_module_programs.specs.TreePasses.{IsTreePass, maps_of}
 use Rattle.kit_ops.specs.declared.attributes.IntegerAttr.{IntegerAttr}
 use Rattle.kit_ops.specs.declared.types.KitType.{KitType}
 use Rattle.kit_views.specs.Reading.{kit_contents}
-use Rattle.kit_writable_trees.specs.Laws.{KitTree}
+use Rattle.kit_writable_trees.specs.Laws.{WritableTree}
 use Rattle.opt_meanings.specs.Laws.{NonePinned}
 use Rattle.opt_meanings.specs.Meanings.{Bijection, mean_root, worded, worded_around}
 use Rattle.opt_meanings.proofs.DceMeant.{dce_meant}
@@ -27,7 +27,7 @@ use Rattle.opt_meanings.proofs.SccpMeant.{sccp_meant}
 use Rattle.opt_meanings.proofs.SimplifyMeant.{simplify_meant}
 use Rattle.opt_meanings.proofs.SimplifyShared.{same_simplifies}
 use Rattle.opt_meanings.proofs.Worded.{sccp_worded, dce_worded, simplify_worded}
-use Rattle.opt_trees.specs.Dce.{Around, IsDce}
+use Rattle.opt_trees.specs.Dce.{TreeSurroundings, IsDce}
 use Rattle.opt_trees.specs.Occurrences.{Has, OperationsApart, defined_in}
 use Rattle.opt_trees.specs.Sccp.{fresh, IsSccp}
 use Rattle.opt_trees.specs.Simplify.{IsOrderly, IsSimplify}
@@ -49,13 +49,13 @@ module _ {N : Names} (c : Bijection TypeHandle ℕ) where
   sccp_said t put x =
       sccp_meant (meanings c.to) (worded (integers c) kit) kit_said (kit_meant c) t put (sccp_worded (integers c) kit t put x)
 
-  dce_said : (w : Around N IntegerAttr) (t after : Root N kit_contents) → IsDce kit w t after →
+  dce_said : (w : TreeSurroundings N IntegerAttr) (t after : Root N kit_contents) → IsDce kit w t after →
       IsDce kit_said (worded_around (integers c) w) (mean_root (meanings c.to) t) (mean_root (meanings c.to) after)
   dce_said w t after x =
       dce_meant (meanings c.to) (worded (integers c) kit) kit_said (kit_meant c) (worded_around (integers c) w) t after
       (dce_worded (integers c) kit w t after x)
 
-  simplify_said : (w : Around N IntegerAttr) (t after : Root N kit_contents) → OperationsApart t →
+  simplify_said : (w : TreeSurroundings N IntegerAttr) (t after : Root N kit_contents) → OperationsApart t →
       IsSimplify kit w t after →
       IsSimplify kit_said (worded_around (integers c) w) (mean_root (meanings c.to) t) (mean_root (meanings c.to) after)
   simplify_said w t after apart x =
@@ -63,31 +63,31 @@ module _ {N : Names} (c : Bijection TypeHandle ℕ) where
       apart (simplify_worded (integers c) kit w t after x)
 
   -- nothing of what is said is named from outside
-  unpinned_said : (w : Around N IntegerAttr) (t : Root N kit_contents) →
+  unpinned_said : (w : TreeSurroundings N IntegerAttr) (t : Root N kit_contents) →
       ((v : N.value) → Has v (defined_in t.regions) → w.is_pinned v ≡ true → ⊥) →
       NonePinned (worded_around (integers c) w) (mean_root (meanings c.to) t)
   unpinned_said w t none = λ v has pinned. none v (subst (Has v) (defined_meant (meanings c.to) t.regions) has) pinned
 
 -- two contexts
 module _ (c e : Bijection TypeHandle ℕ) where
-  abbrev Same : KitTree → KitTree → Type 0
+  abbrev Same : WritableTree → WritableTree → Type 0
   Same t u = SayTheSame c.to e.to t u
 
-  sccp_keeps : (t u r q : KitTree) → Same t u → IsSccpNamed {N = by_handle} t r → IsSccpNamed {N = by_handle} u q → Same r q
+  sccp_keeps : (t u r q : WritableTree) → Same t u → IsSccpNamed {N = by_handle} t r → IsSccpNamed {N = by_handle} u q → Same r q
   sccp_keeps t u r q same x y =
       let between = same_sccps kit_said handle_tests (mean_root (meanings c.to) t) (mean_root (meanings e.to) u) same
       (mean_root (meanings c.to) x.put) (mean_root (meanings e.to) y.put) (sccp_said c t x.put x.is) (sccp_said e u y.put y.is) in
-      let here : IsSame (mean_root (meanings c.to) x.put) (mean_root (meanings c.to) r) =
-      subst (λ z. IsSame (mean_root (meanings c.to) x.put) (mean_root (meanings c.to) z)) (sym x.same)
+      let here : IsSameUpToNames (mean_root (meanings c.to) x.put) (mean_root (meanings c.to) r) =
+      subst (λ z. IsSameUpToNames (mean_root (meanings c.to) x.put) (mean_root (meanings c.to) z)) (sym x.same)
       (renamed_means_same (meanings c.to) x.names x.put x.apart) in
-      let there : IsSame (mean_root (meanings e.to) y.put) (mean_root (meanings e.to) q) =
-      subst (λ z. IsSame (mean_root (meanings e.to) y.put) (mean_root (meanings e.to) z)) (sym y.same)
+      let there : IsSameUpToNames (mean_root (meanings e.to) y.put) (mean_root (meanings e.to) q) =
+      subst (λ z. IsSameUpToNames (mean_root (meanings e.to) y.put) (mean_root (meanings e.to) z)) (sym y.same)
       (renamed_means_same (meanings e.to) y.names y.put y.apart) in
       same_on (mean_root (meanings c.to) r) (mean_root (meanings c.to) x.put) (mean_root (meanings e.to) q)
       (same_back (mean_root (meanings c.to) x.put) (mean_root (meanings c.to) r) here)
       (same_on (mean_root (meanings c.to) x.put) (mean_root (meanings e.to) y.put) (mean_root (meanings e.to) q) between there)
 
-  dce_keeps : (t u r q : KitTree) → Same t u → IsDceAlone {N = by_handle} t r → IsDceAlone {N = by_handle} u q → Same r q
+  dce_keeps : (t u r q : WritableTree) → Same t u → IsDceAlone {N = by_handle} t r → IsDceAlone {N = by_handle} u q → Same r q
   dce_keeps t u r q same x y =
       same_dces kit_said handle_tests (mean_root (meanings c.to) t) (mean_root (meanings e.to) u) same
       (worded_around (integers c) x.around) (worded_around (integers e) y.around)
@@ -95,7 +95,7 @@ module _ (c e : Bijection TypeHandle ℕ) where
       (mean_root (meanings c.to) r) (mean_root (meanings e.to) q) (dce_said c x.around t r x.is) (dce_said e y.around u q y.is)
 
   module _ (leads others : TypeHandle → Option KitType) (numbered : List ℕ → ℕ) where
-    simplify_keeps : (t u r q : KitTree) → Same t u → IsSoundTree {N = by_handle} leads numbered t →
+    simplify_keeps : (t u r q : WritableTree) → Same t u → IsSoundTree {N = by_handle} leads numbered t →
         IsSoundTree {N = by_handle} others numbered u → IsSimplifiedAlone {N = by_handle} t r →
         IsSimplifiedAlone {N = by_handle} u q → Same r q
     simplify_keeps t u r q same sound well x y =
@@ -109,12 +109,12 @@ module _ (c e : Bijection TypeHandle ℕ) where
         (mean_root (meanings c.to) x.simplified) (mean_root (meanings e.to) y.simplified)
         (simplify_said c x.around t x.simplified first.operations x.is)
         (simplify_said e y.around u y.simplified second.operations y.is) in
-        let here : IsSame (mean_root (meanings c.to) x.simplified) (mean_root (meanings c.to) r) =
-        subst (λ z. IsSame (mean_root (meanings c.to) x.simplified) (mean_root (meanings c.to) z)) (sym x.same)
+        let here : IsSameUpToNames (mean_root (meanings c.to) x.simplified) (mean_root (meanings c.to) r) =
+        subst (λ z. IsSameUpToNames (mean_root (meanings c.to) x.simplified) (mean_root (meanings c.to) z)) (sym x.same)
         (renamed_means_same (meanings c.to) (maps_of x.names) x.simplified
         (record { operations = λ a b _ _ i. x.apart a b i; blocks = λ a b _ _ i. i; values = λ a b _ _ i. i })) in
-        let there : IsSame (mean_root (meanings e.to) y.simplified) (mean_root (meanings e.to) q) =
-        subst (λ z. IsSame (mean_root (meanings e.to) y.simplified) (mean_root (meanings e.to) z)) (sym y.same)
+        let there : IsSameUpToNames (mean_root (meanings e.to) y.simplified) (mean_root (meanings e.to) q) =
+        subst (λ z. IsSameUpToNames (mean_root (meanings e.to) y.simplified) (mean_root (meanings e.to) z)) (sym y.same)
         (renamed_means_same (meanings e.to) (maps_of y.names) y.simplified
         (record { operations = λ a b _ _ i. y.apart a b i; blocks = λ a b _ _ i. i; values = λ a b _ _ i. i })) in
         same_on (mean_root (meanings c.to) r) (mean_root (meanings c.to) x.simplified) (mean_root (meanings e.to) q)
@@ -122,7 +122,7 @@ module _ (c e : Bijection TypeHandle ℕ) where
         (same_on (mean_root (meanings c.to) x.simplified) (mean_root (meanings e.to) y.simplified) (mean_root (meanings e.to) q)
         between there)
 
-    pass_keeps : (x : Pass) (t u r q : KitTree) → Same t u → IsSoundTree {N = by_handle} leads numbered t →
+    pass_keeps : (x : Pass) (t u r q : WritableTree) → Same t u → IsSoundTree {N = by_handle} leads numbered t →
         IsSoundTree {N = by_handle} others numbered u → IsTreePass {N = by_handle} x t r →
         IsTreePass {N = by_handle} x u q → Same r q
     pass_keeps SccpPass t u r q same a b x y = sccp_keeps t u r q same x y
@@ -131,7 +131,7 @@ module _ (c e : Bijection TypeHandle ℕ) where
     pass_keeps SimplifyPass t u r q same a b x y = simplify_keeps t u r q same a b x y
 
     -- of a list of passes, by induction on the list
-    pub passes_keep : (xs : List Pass) (t u r q : KitTree) → Same t u → IsTreeAfter {N = by_handle} leads numbered xs t r →
+    pub passes_keep : (xs : List Pass) (t u r q : WritableTree) → Same t u → IsTreeAfter {N = by_handle} leads numbered xs t r →
         IsTreeAfter {N = by_handle} others numbered xs u q → Same r q
     passes_keep [] t u r q same x y =
         subst (λ z. Same r z) y (subst (λ z. Same z u) x same)

@@ -24,7 +24,7 @@ use Rattle.kit.specs.Meaning.{KitOperation, KitBlock}
 use Rattle.kit_ops.specs.declared.attributes.KitAttr.{KitAttr}
 use Rattle.kit_ops.specs.declared.kinds.KitOp.{KitOp}
 use Rattle.kit_texts.specs.Says.{says}
-use Rattle.kit_writable_trees.specs.Laws.{KitContext, KitTree}
+use Rattle.kit_writable_trees.specs.Laws.{WritableContext, WritableTree}
 use Rattle.kit_text_programs.specs.Laws.{HaveOwnNumbers}
 use Rattle.kit_text_programs.proofs.SaidFunctions.{KitPart, same_operation, same_label, same_region}
 use Rattle.kit_text_programs.proofs.SaidPrograms.{numbers_in}
@@ -46,7 +46,7 @@ KitLabel = Label by_handle (in_program KitOperation KitBlock)
 abbrev name_of : KitLabel → Ptr BasicBlock
 name_of l = l.name
 
-module _ (number : ValueTree → ℕ) (code : TypeHandle → ℕ) (s : KitContext) (values : List Value)
+module _ (number : ValueTree → ℕ) (code : TypeHandle → ℕ) (s : WritableContext) (values : List Value)
     (own : HaveOwnNumbers values) where
   abbrev Coded : List ValueTree → Type 0
   Coded = Numbered number code s.types.keys
@@ -163,12 +163,12 @@ module _ (number : ValueTree → ℕ) (code : TypeHandle → ℕ) (s : KitContex
     regions_mean (p ∷ ps) x (an_entity (entity (operation kind results used pieces) us) ts) tree h n = absurd h.0
 
   -- an operation means what its text says, names values with the numbers of the text, and of blocks only its own
-  pub record IsSaidRoot (t : KitTree) (text : Entity ℕ) : Type 0 where
+  pub record IsSaidRoot (t : WritableTree) (text : Entity ℕ) : Type 0 where
     pub shape : rename_root forget (mean_root (meanings code) t) ≡ root_said number text
     pub named : Pairs (Named values) (values_of (mean_root (meanings code) t)) (root_values text)
     pub blocks : blocks_of (mean_root (meanings code) t) ≡ block_names t
 
-  pub root_means : (text : Entity ℕ) (root : Ptr Operation) (t : KitTree)
+  pub root_means : (text : Entity ℕ) (root : Ptr Operation) (t : WritableTree)
       → HasTree says (Named values) HasSomeLabel (seen s) root text → StandsFor s.program root t
       → Coded (types_in_text text) → IsSaidRoot t text
   root_means (entity (operation kind results used pieces) us) root t h stands n =

@@ -3,7 +3,7 @@ use Rattle.std.proofs.Common.{ℕ, cond, List, [], ◌∷◌, ◌++◌, map, Opt
 use Rattle.std.specs.Prelude.{unwrap_or}
 use Rattle.ir_names.specs.Tree.{no_tree}
 use Rattle.ir_print.specs.Pieces.{ValueTree, Pieces, operation, a_region, block, Entity, entity, Entities, no_entity}
-use Rattle.ir_print.specs.Pieces.{an_entity, Head as TextHead}
+use Rattle.ir_print.specs.Pieces.{an_entity, EntityHead as TextHead}
 use Rattle.ir_trees.specs.Renames.{no_names}
 use Rattle.ir_trees.specs.Trees.{Defined, Head, Label, Operations, Blocks, Regions, Tree, end, Root}
 use Rattle.ir_trees.specs.Trees as trees

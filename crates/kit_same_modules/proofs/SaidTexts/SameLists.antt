@@ -3,7 +3,7 @@ use Rattle.std.proofs.Common.{◌≡◌, ◌↔◌, ℕ, List, Option, Some, Non
 use Rattle.std.proofs.lemmas.Option.{none-some, same_Some, slice_get-map}
 use Rattle.ir_print.specs.Shown.{Pairs}
 use Rattle.ir_program.specs.declared.handles.Value.{Value}
-use Rattle.ir_trees.specs.Renames.{AreAlike}
+use Rattle.ir_trees.specs.Renames.{RepeatAlike}
 use Rattle.ir_trees.specs.Searched.{AreDistinct}
 use Rattle.ir_trees.proofs.Alike.{nothing, AsLong}
 use Rattle.text_rereading.specs.Rereading.{Named}
@@ -31,7 +31,7 @@ same_there {X} {Y} xs ys distinct long j k s = by (slice_get xs j) refl
 
 -- lists of one length that name nothing twice are alike
 pub distinct_alike : {X Y : Type 0} (xs : List X) (ys : List Y) → AreDistinct xs → AreDistinct ys → AsLong xs ys
-    → AreAlike xs ys
+    → RepeatAlike xs ys
 distinct_alike xs ys a b long j k = (same_there xs ys a long j k, same_there ys xs b (sym long) j k)
 
 module _ (values : List Value) (own : HaveOwnNumbers values) where
@@ -53,6 +53,6 @@ module _ (values : List Value) (own : HaveOwnNumbers values) where
   )
 
   -- values are alike their numbers
-  pub numbers_alike : (vs : List Value) (ns : List ℕ) → Pairs (Named values) vs ns → AreAlike vs ns
+  pub numbers_alike : (vs : List Value) (ns : List ℕ) → Pairs (Named values) vs ns → RepeatAlike vs ns
   numbers_alike vs ns h j k = both_same (slice_get vs j) (slice_get vs k) (slice_get ns j) (slice_get ns k)
       (both_at (Named values) vs ns h j) (both_at (Named values) vs ns h k)

@@ -9,7 +9,7 @@ use Rattle.ir_print.specs.Shown.{Pairs}
 use Rattle.ir_program.specs.declared.handles.Operation.{Operation}
 use Rattle.ir_program.specs.declared.handles.Ptr.{Ptr}
 use Rattle.ir_program.specs.declared.handles.Value.{Value}
-use Rattle.ir_trees.specs.Renames.{forget, rename_root, values_of, blocks_of, AreAlike}
+use Rattle.ir_trees.specs.Renames.{forget, rename_root, values_of, blocks_of, RepeatAlike}
 use Rattle.ir_trees.specs.Searched.{AreDistinct, heads_in, operation_names}
 use Rattle.ir_trees.specs.Stands.{by_handle}
 use Rattle.ir_trees.specs.Trees.{Head, Sort, Tree, end, operation, block, region, Root}
@@ -22,7 +22,7 @@ use Rattle.text_rereading.specs.Rereading.{Named}
 use Rattle.kit_ruled_views.specs.Ruled.{HasOwnNames}
 use Rattle.kit_texts.specs.Says.{says}
 use Rattle.kit_views.specs.Reading.{kit_contents}
-use Rattle.kit_writable_trees.specs.Laws.{KitContext, KitTree}
+use Rattle.kit_writable_trees.specs.Laws.{WritableContext, WritableTree}
 use Rattle.kit_text_programs.proofs.SaidFunctions.{KitPart}
 use Rattle.kit_text_programs.proofs.Unlabelled.{unlabelled_tree}
 use Rattle.kit_same_modules.specs.Laws.{types_of_head, types_in_text, types_in_texts, StandsAs, HaveTextNumbers}
@@ -34,7 +34,7 @@ use Rattle.kit_same_modules.proofs.SaidTexts.SameLists.{distinct_alike, numbers_
 
 -- ---- types of texts without labels
 
-head_types : (h : texts.Head ℕ) → types_of_head (unlabelled_head h) ≡ types_of_head h
+head_types : (h : texts.EntityHead ℕ) → types_of_head (unlabelled_head h) ≡ types_of_head h
 head_types (texts.operation kind results used pieces) = refl
 head_types a_region = refl
 head_types (texts.block label arguments) = refl
@@ -76,14 +76,14 @@ module _ (code : TypeHandle → ℕ) where
   names_meant (region bs rest) = both_named meant_name head_name (heads_in (meant bs)) (heads_in (meant rest))
       (heads_in bs) (heads_in rest) (names_meant bs) (names_meant rest)
 
-  root_names : (t : KitTree) → operation_names (mean_root (meanings code) t) ≡ operation_names t
+  root_names : (t : WritableTree) → operation_names (mean_root (meanings code) t) ≡ operation_names t
   root_names t = let inside = names_meant t.regions in λ i. t.head.name ∷ inside i
 
 -- ---- the law
 
 module _ (number : ValueTree → ℕ) where
   -- what stands for a text means what the text says without its labels
-  stands_said : (code : TypeHandle → ℕ) (text : Entity ℕ) (s : KitContext) (root : Ptr Operation) (t : KitTree)
+  stands_said : (code : TypeHandle → ℕ) (text : Entity ℕ) (s : WritableContext) (root : Ptr Operation) (t : WritableTree)
       (a : StandsAs text s root t) → HaveTextNumbers number code s text
       → IsSaidRoot number code s a.values a.distinct t (unlabelled text)
   stands_said code text s root t a n =
@@ -91,7 +91,7 @@ module _ (number : ValueTree → ℕ) where
       (unlabelled_tree says (Named a.values) (seen s) text root a.stands) a.is_tree
       (λ h r shown has. n h r shown (subst (Has r) (unlabelled_types text) has))
 
-  module _ (code other_code : TypeHandle → ℕ) (t u : KitTree) where
+  module _ (code other_code : TypeHandle → ℕ) (t u : WritableTree) where
     abbrev here : Root by_handle sayings
     here = mean_root (meanings code) t
 
@@ -99,14 +99,14 @@ module _ (number : ValueTree → ℕ) where
     there = mean_root (meanings other_code) u
 
     operations_alike : rename_root forget here ≡ rename_root forget there → HasOwnNames t → HasOwnNames u
-        → AreAlike (operation_names here) (operation_names there)
+        → RepeatAlike (operation_names here) (operation_names there)
     operations_alike shape a b = distinct_alike (operation_names here) (operation_names there)
         (subst AreDistinct (sym (root_names code t)) a.operations)
         (subst AreDistinct (sym (root_names other_code u)) b.operations)
         (sym (operation_names_renamed forget here) ∙ ap operation_names shape ∙ operation_names_renamed forget there)
 
     blocks_alike : rename_root forget here ≡ rename_root forget there → AreDistinct (blocks_of here)
-        → AreDistinct (blocks_of there) → AreAlike (blocks_of here) (blocks_of there)
+        → AreDistinct (blocks_of there) → RepeatAlike (blocks_of here) (blocks_of there)
     blocks_alike shape a b = distinct_alike (blocks_of here) (blocks_of there) a b
         (sym (blocks_renamed forget here) ∙ ap blocks_of shape ∙ blocks_renamed forget there)
 

@@ -2,7 +2,7 @@
 use Rattle.std.proofs.Common.{◌≡◌, ⊎_elim, ℕ, suc, List, [], ◌∷◌, ◌++◌, length, refl, ap, ◌∙◌}
 use Rattle.ir_forest.specs.Closed.{names_of, head_defines, definitions_of, all_definitions_of}
 use Rattle.ir_forest.specs.Closed.{unlabelled_head, unlabelled, all_unlabelled}
-use Rattle.ir_print.specs.Pieces.{ValueTree, Head, operation, a_region, block, Entity, entity, Entities, no_entity}
+use Rattle.ir_print.specs.Pieces.{ValueTree, EntityHead, operation, a_region, block, Entity, entity, Entities, no_entity}
 use Rattle.ir_print.specs.Pieces.{an_entity}
 use Rattle.ir_print.specs.Shown.{Pairs}
 use Rattle.kit_same_modules.proofs.ToldTexts.SideBySide.{Both, both_parts, both_left, both_right, long_parts, split_same}
@@ -16,7 +16,7 @@ abbrev pub OfOneType : ℕ × ValueTree → ℕ × ValueTree → Type 0
 OfOneType x y = x.1 ≡ y.1
 
 -- the heads are the same but for labels and numbers
-abbrev pub AreNearHeads : Head ℕ → Head ℕ → Type 0
+abbrev pub AreNearHeads : EntityHead ℕ → EntityHead ℕ → Type 0
 AreNearHeads (operation kind results used pieces) (operation other again taken said) =
     (kind ≡ other) × Pairs OfOneType results again × (length used ≡ length taken) × (pieces ≡ said)
 AreNearHeads a_region a_region = Unit {0}
@@ -35,7 +35,7 @@ abbrev mutual
   AreAllNear _ _ = ⊥
 
 -- the numbers that a head defines or mentions
-abbrev pub head_numbers : Head ℕ → List ℕ
+abbrev pub head_numbers : EntityHead ℕ → List ℕ
 head_numbers (operation kind results used pieces) = names_of results ++ used
 head_numbers a_region = []
 head_numbers (block label arguments) = names_of arguments
@@ -72,7 +72,7 @@ definitions_same (x ∷ xs) (y ∷ ys) h e =
     ∙ ap (λ (zs : Definitions). y ∷ zs) (definitions_same xs ys h.1 rest)
 
 -- such heads define as many values
-defined_long : (h g : Head ℕ) → AreNearHeads h g → length (head_defines h) ≡ length (head_defines g)
+defined_long : (h g : EntityHead ℕ) → AreNearHeads h g → length (head_defines h) ≡ length (head_defines g)
 defined_long (operation kind results used pieces) (operation other again taken said) n = names_long results again n.1
 defined_long a_region a_region n = refl
 defined_long (block label arguments) (block other again) n = names_long arguments again n
@@ -84,7 +84,7 @@ defined_long (block label arguments) (operation other again taken said) n = absu
 defined_long (block label arguments) a_region n = absurd n
 
 -- and have as many numbers
-numbered_long : (h g : Head ℕ) → AreNearHeads h g → length (head_numbers h) ≡ length (head_numbers g)
+numbered_long : (h g : EntityHead ℕ) → AreNearHeads h g → length (head_numbers h) ≡ length (head_numbers g)
 numbered_long (operation kind results used pieces) (operation other again taken said) n =
     long_parts (names_of results) used (names_of again) taken (names_long results again n.1) n.2
 numbered_long a_region a_region n = refl
@@ -97,7 +97,7 @@ numbered_long (block label arguments) (operation other again taken said) n = abs
 numbered_long (block label arguments) a_region n = absurd n
 
 -- what heads define at one place has one place among their numbers
-head_both : (h g : Head ℕ) (n m : ℕ) → AreNearHeads h g → Both (head_defines h) (head_defines g) n m
+head_both : (h g : EntityHead ℕ) (n m : ℕ) → AreNearHeads h g → Both (head_defines h) (head_defines g) n m
     → Both (head_numbers h) (head_numbers g) n m
 head_both (operation kind results used pieces) (operation other again taken said) n m near b =
     both_left (names_of results) (names_of again) used taken n m b
@@ -111,7 +111,7 @@ head_both (block label arguments) (operation other again taken said) n m near b 
 head_both (block label arguments) a_region n m near b = absurd near
 
 -- heads of the same numbers are the same but for labels
-head_rebuilt : (h g : Head ℕ) → AreNearHeads h g → head_numbers h ≡ head_numbers g
+head_rebuilt : (h g : EntityHead ℕ) → AreNearHeads h g → head_numbers h ≡ head_numbers g
     → unlabelled_head h ≡ unlabelled_head g
 head_rebuilt (operation kind results used pieces) (operation other again taken said) n e =
     let parts = split_same (names_of results) (names_of again) used taken (names_long results again n.1) e in

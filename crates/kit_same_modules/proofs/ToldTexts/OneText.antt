@@ -2,7 +2,7 @@
 use Rattle.std.proofs.Common.{◌≡◌, ℕ, List, ◌++◌, map, Some, slice_get, sym, ap, ◌∙◌, subst}
 use Rattle.std.specs.List.{range_with_len}
 use Rattle.ir_base.specs.declared.types.TypeHandle.{TypeHandle}
-use Rattle.ir_forest.specs.Closed.{IsClosed, IsNumbered, IsSameModule, definitions_of}
+use Rattle.ir_forest.specs.Closed.{IsClosedTree, IsNumbered, IsSameModule, definitions_of}
 use Rattle.ir_forest.specs.Closed as closed
 use Rattle.ir_print.specs.Pieces.{ValueTree, Pieces, operation, a_region, block, Entity, entity, Entities}
 use Rattle.ir_print.specs.Shown.{Pairs}
@@ -24,7 +24,7 @@ use Rattle.kit_language.specs.Language.{kit_language}
 use Rattle.kit_ops.specs.declared.attributes.KitAttr.{KitAttr}
 use Rattle.kit_ops.specs.declared.kinds.KitOp.{KitOp}
 use Rattle.kit_texts.specs.Says.{says}
-use Rattle.kit_writable_trees.specs.Laws.{KitContext, KitTree}
+use Rattle.kit_writable_trees.specs.Laws.{WritableContext, WritableTree}
 use Rattle.kit_text_programs.proofs.SaidFunctions.{same_operation}
 use Rattle.kit_same_modules.specs.Laws.{HaveTextNumbers, NumbersApart, SayTheSame, StandsAs, TheSameSayOneText}
 use Rattle.kit_same_modules.specs.Laws.{types_in_texts, types_of_head, types_in_text}
@@ -40,14 +40,14 @@ use Rattle.kit_same_modules.proofs.ToldTexts.SideBySide.{pairs_parts}
 
 -- ---- one root
 
-module _ {s : KitContext} {root : Ptr Operation} {t : KitTree} {kind : ℕ} {results : Definitions} {used : List ℕ}
+module _ {s : WritableContext} {root : Ptr Operation} {t : WritableTree} {kind : ℕ} {results : Definitions} {used : List ℕ}
     {pieces : Pieces} {ts : Entities ℕ} (h : StandsAs (entity (operation kind results used pieces) ts) s root t) where
   -- what the handle leads to
   abbrev view : OperationView KitOperation
   view = h.is_tree.view
 
   -- the tree, by what its handle leads to
-  abbrev plain_root : KitTree
+  abbrev plain_root : WritableTree
   plain_root = record { head = head_of root view; regions = t.regions }
 
   -- it is that tree
@@ -82,8 +82,8 @@ module _ {s : KitContext} {root : Ptr Operation} {t : KitTree} {kind : ℕ} {res
 
 -- ---- two roots
 
-module _ (number : ValueTree → ℕ) (code other_code : TypeHandle → ℕ) (s z : KitContext) (root there : Ptr Operation)
-    (t u : KitTree) (kind kind_there : ℕ) (results again : Definitions) (used taken : List ℕ) (pieces said : Pieces)
+module _ (number : ValueTree → ℕ) (code other_code : TypeHandle → ℕ) (s z : WritableContext) (root there : Ptr Operation)
+    (t u : WritableTree) (kind kind_there : ℕ) (results again : Definitions) (used taken : List ℕ) (pieces said : Pieces)
     (ts us : Entities ℕ) where
   -- the first text
   abbrev text : Entity ℕ
@@ -96,7 +96,7 @@ module _ (number : ValueTree → ℕ) (code other_code : TypeHandle → ℕ) (s 
   module _ (same : SayTheSame code other_code t u) (here : StandsAs text s root t) (too : StandsAs other z there u)
       (coded : HaveTextNumbers number code s text) (coded_too : HaveTextNumbers number other_code z other)
       (apart : NumbersApart number (types_in_text text ++ types_in_text other))
-      (is_closed : IsClosed kit_language text) (closed_too : IsClosed kit_language other) where
+      (is_closed : IsClosedTree kit_language text) (closed_too : IsClosedTree kit_language other) where
     -- a type of the first text
     abbrev Here : ValueTree → Type 0
     Here r = Has r (types_in_text text)

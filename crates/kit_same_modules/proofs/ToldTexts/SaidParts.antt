@@ -24,14 +24,14 @@ use Rattle.kit.specs.Meaning.{KitOperation, KitBlock}
 use Rattle.kit_ops.specs.declared.attributes.KitAttr.{KitAttr}
 use Rattle.kit_ops.specs.declared.kinds.KitOp.{KitOp}
 use Rattle.kit_texts.specs.Says.{says}
-use Rattle.kit_writable_trees.specs.Laws.{KitContext}
+use Rattle.kit_writable_trees.specs.Laws.{WritableContext}
 use Rattle.kit_text_programs.specs.Laws.{HaveOwnNumbers}
 use Rattle.kit_text_programs.proofs.SaidFunctions.{KitPart, same_operation, same_label, same_region}
 use Rattle.kit_same_modules.specs.Meanings.{meanings}
 use Rattle.kit_same_modules.proofs.ToldTexts.SideBySide.{pairs_parts, three_lists}
 use Rattle.kit_same_modules.proofs.ToldTexts.Near.{Definitions, all_numbers}
 
-module _ (s : KitContext) (values : List Value) where
+module _ (s : WritableContext) (values : List Value) where
   -- a part of a tree is what these texts say
   pub data AreSaid : (k : Sort) → KitPart k → Entities ℕ → Type 0 where
     no_operations : AreSaid Operations end no_entity

@@ -4,7 +4,7 @@ use Rattle.std.proofs.Common.{sym, ap, ◌∙◌, subst, arith}
 use Rattle.std.proofs.lemmas.Option.{same_Some}
 use Rattle.ir_print.specs.Shown.{Pairs}
 use Rattle.ir_program.specs.declared.handles.Value.{Value}
-use Rattle.ir_trees.specs.Renames.{AreAlike}
+use Rattle.ir_trees.specs.Renames.{RepeatAlike}
 use Rattle.opt_trees.specs.Occurrences.{Has}
 use Rattle.text_rereading.specs.Rereading.{Named}
 use Rattle.kit_text_programs.specs.Laws.{HaveOwnNumbers}
@@ -137,7 +137,7 @@ module _ {X Y : Type 0} (R : X → Y → Type 0) where
 -- ---- numbers
 
 -- Values that are alike in two lists have the same numbers, where each number of the first stands somewhere in both.
-pub one_numbering : (values others vs us : List Value) (ns ms : List ℕ) → HaveOwnNumbers others → AreAlike vs us
+pub one_numbering : (values others vs us : List Value) (ns ms : List ℕ) → HaveOwnNumbers others → RepeatAlike vs us
     → Pairs (Named values) vs ns → Pairs (Named others) us ms → length ns ≡ length ms
     → ((k n : ℕ) → slice_get ns k ≡ Some n → (j : ℕ) × (slice_get ns j ≡ Some n) × (slice_get ms j ≡ Some n)) → ns ≡ ms
 one_numbering values others vs us ns ms owns alike here there long meet =

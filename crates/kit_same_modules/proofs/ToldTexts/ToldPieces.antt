@@ -8,7 +8,7 @@ use Rattle.ir_forest.specs.Bare.{IsBare, AreBare}
 use Rattle.ir_names.specs.declared.identifier.Identifier.{Identifier}
 use Rattle.ir_names.specs.Dictionary.{attribute_at}
 use Rattle.ir_names.specs.Identifier.{text_of}
-use Rattle.ir_names.specs.Tree.{Tree, Trees, node, no_tree, a_tree}
+use Rattle.ir_names.specs.Tree.{LabelledTree, Trees, node, no_tree, a_tree}
 use Rattle.ir_print.specs.Pieces.{Piece, attribute_of_kind, operands, region, name, number, width, ValueTree, Pieces}
 use Rattle.ir_print.specs.Shown.{Said, said_type, said_attribute, said_operands, said_region, said_name, said_number}
 use Rattle.ir_print.specs.Shown.{said_width, leaf, ShowsAll, ShowsType}
@@ -22,7 +22,7 @@ use Rattle.kit_texts.specs.Numbers.{printed_number}
 use Rattle.kit_texts.specs.Readable.{constant_says}
 use Rattle.kit_texts.specs.Says.{says, one, two, only, has_values, integer_said, said_of_attribute, said_of_module}
 use Rattle.kit_texts.specs.Says.{said_of_function, said_of_constant, pair_said, said_of_pair, said_in}
-use Rattle.kit_texts.specs.Seen.{Seen, one_seen, two_seen, three_seen}
+use Rattle.kit_texts.specs.Seen.{SeenPiece, one_seen, two_seen, three_seen}
 
 -- attributes under names
 abbrev pub Entries : Type 0
@@ -75,7 +75,7 @@ module _ (keys : List KitType) where
   -- ---- pieces
 
   -- one attribute is said
-  attr_same : (a b : KitAttr) → ◌≡◌ {A = Tree (Said KitAttr)} (leaf (said_attribute a)) (leaf (said_attribute b))
+  attr_same : (a b : KitAttr) → ◌≡◌ {A = LabelledTree (Said KitAttr)} (leaf (said_attribute a)) (leaf (said_attribute b))
       → a ≡ b
   attr_same a b e = cc
 
@@ -106,7 +106,7 @@ module _ (keys : List KitType) where
       λ i. node (attribute_of_kind (sym parts.0 i)) (is i)
 
   -- the piece that shows an integer
-  value_shown : (a : IntegerAttr) (p : ValueTree) → Seen says keys (leaf (said_attribute (attrs.Integer a))) p
+  value_shown : (a : IntegerAttr) (p : ValueTree) → SeenPiece says keys (leaf (said_attribute (attrs.Integer a))) p
       → IsBare p → p ≡ integer_piece a
   value_shown a p k b =
       let inside = k.3 in
@@ -115,7 +115,7 @@ module _ (keys : List KitType) where
       k.2 ∙ attribute_shown a k.0 inside.1 k.1 said inside.4 (subst IsBare k.2 b)
 
   -- the type that is seen is shown
-  type_shown : (ty : TypeHandle) (p : ValueTree) → Seen says keys (leaf (said_type ty)) p → ShowsType says keys ty p
+  type_shown : (ty : TypeHandle) (p : ValueTree) → SeenPiece says keys (leaf (said_type ty)) p → ShowsType says keys ty p
   type_shown ty p k = subst (ShowsType says keys ty) (sym k.2) k.3
 
   -- ---- forms

@@ -2,7 +2,7 @@
 use Rattle.std.proofs.Common.{⊎_elim, inl, inr, ℕ, zero, suc, List, [], ◌∷◌, ◌++◌, map, Option, Some, None, refl, sym}
 use Rattle.std.proofs.Common.{subst}
 use Rattle.ir_forest.specs.Bare.{IsBare, AreBare, AreBareArguments, IsBareTree, AreBareTrees}
-use Rattle.ir_forest.specs.Closed.{IsClosed, IsOperation, AreRegions, IsRegion, AreBlocks, IsBlock, AreOperations}
+use Rattle.ir_forest.specs.Closed.{IsClosedTree, IsOperation, AreRegions, IsRegion, AreBlocks, IsBlock, AreOperations}
 use Rattle.ir_names.specs.Tree.{node, no_tree, a_tree}
 use Rattle.ir_print.specs.Pieces.{type_of_kind, attribute_of_kind, list, item, operands, region, name, number, width}
 use Rattle.ir_print.specs.Pieces.{ValueTree, Pieces, operation, a_region, block, Entity, entity, Entities, no_entity}
@@ -132,5 +132,5 @@ mutual
   operations_bare (an_entity t ts) o b r h = both_bare (types_in_text t) (types_in_texts ts) (operation_bare t o.0 b.0) (operations_bare ts o.1 b.1) r h
 
 -- what a closed text says
-pub closed_bare : (t : Entity ℕ) → IsClosed kit_language t → AllBare (types_in_text t)
+pub closed_bare : (t : Entity ℕ) → IsClosedTree kit_language t → AllBare (types_in_text t)
 closed_bare t closed = operation_bare t closed.operation closed.bare

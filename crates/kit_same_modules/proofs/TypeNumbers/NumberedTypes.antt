@@ -14,7 +14,7 @@ use Rattle.kit_text_rules.proofs.WrittenTypes.{own_handles}
 use Rattle.kit.specs.declared.dialect.Unused.{Unused}
 use Rattle.kit_ops.specs.declared.types.KitType.{KitType}
 use Rattle.kit_texts.specs.Says.{says}
-use Rattle.kit_writable_trees.specs.Laws.{KitContext, KitTree}
+use Rattle.kit_writable_trees.specs.Laws.{WritableContext, WritableTree}
 use Rattle.opt_meanings.specs.Meanings.{Bijection}
 use Rattle.opt_meanings.proofs.Permuted.{Permutation, permutation}
 use Rattle.opt_trees.specs.Occurrences.{Has}
@@ -50,7 +50,7 @@ pairs_within R P (x ∷ xs) [] h k = absurd h
 pairs_within R P (x ∷ xs) (y ∷ ys) h k =
     ((h.0, k y (inl refl)), pairs_within R P xs ys h.1 (λ z m. k z (inr m)))
 
-module _ (s : KitContext) (own : HasOneHandleEach s) where
+module _ (s : WritableContext) (own : HasOneHandleEach s) where
   abbrev Shows : TypeHandle → ValueTree → Type 0
   Shows = ShowsType says s.types.keys
 
@@ -106,7 +106,7 @@ module _ (s : KitContext) (own : HasOneHandleEach s) where
         (handle_numbers f.0, λ h r shown has. numbered_so number f.0.fun handles.0 rs handles.1 f.1 h r shown has)
 
     -- so can those of two contexts with the same types in which operations stand for texts of such types
-    pub types_numbered : (z : KitContext) (text other : Entity ℕ) (root there : Ptr Operation) (t u : KitTree) →
+    pub types_numbered : (z : WritableContext) (text other : Entity ℕ) (root there : Ptr Operation) (t u : WritableTree) →
         z.types ≡ s.types → StandsAs text s root t → StandsAs other z there u →
         ((r : ValueTree) → Has r (types_in_text text ++ types_in_text other) → Has r all) →
         (codes : Bijection TypeHandle ℕ) × HaveTextNumbers number codes.to s text × HaveTextNumbers number codes.to z other

@@ -2,7 +2,7 @@
 use Rattle.std.proofs.Common.{◌≡◌, ◌↔◌, ℕ, zero, suc, List, [], ◌∷◌, map, Option, Some, None, option_map, slice_get, refl, sym, ap, ◌∙◌}
 use Rattle.std.proofs.lemmas.Option.{none-some, slice_get-map, same_Some}
 use Rattle.ir_print.specs.Shown.{Pairs}
-use Rattle.ir_trees.specs.Renames.{AreAlike}
+use Rattle.ir_trees.specs.Renames.{RepeatAlike}
 use Rattle.ir_trees.proofs.Alike.{AsLong}
 use Rattle.kit_text_rules.specs.Alike.{AreBoth}
 
@@ -35,7 +35,7 @@ module _ {X Y : Type 0} (R : X → Y → Type 0) (f : X → ℕ) (g : Y → ℕ)
       ((λ e. ap Some (forth a b c d h k (same_Some (f a) (f b) e))), (λ e. ap Some (back a b c d h k (same_Some (g c) (g d) e))))
 
   -- the numbers of the one list are the same where those of the other are
-  pub numbers_alike : (xs : List X) (ys : List Y) → Pairs R xs ys → AreAlike (map f xs) (map g ys)
+  pub numbers_alike : (xs : List X) (ys : List Y) → Pairs R xs ys → RepeatAlike (map f xs) (map g ys)
   numbers_alike xs ys h j k =
       let r = both_alike (slice_get xs j) (slice_get xs k) (slice_get ys j) (slice_get ys k) (at_both R xs ys h j) (at_both R xs ys h k) in
       let of_xs : (i : ℕ) → slice_get (map f xs) i ≡ option_map f (slice_get xs i) = λ i. slice_get-map f xs i in

@@ -4,7 +4,7 @@ use Rattle.std.specs.Prelude.{slice_get}
 use Rattle.std.proofs.lemmas.Option.{same_Some, some_pair_parts}
 use Rattle.ir_base.specs.declared.types.TypeHandle.{TypeHandle}
 use Rattle.ir_forest.specs.Bare.{IsBare, AreBare}
-use Rattle.ir_names.specs.Tree.{Tree, Trees, node, no_tree, a_tree}
+use Rattle.ir_names.specs.Tree.{LabelledTree, Trees, node, no_tree, a_tree}
 use Rattle.ir_print.specs.Pieces.{Piece, type_of_kind, attribute_of_kind, list, item, operands, region, name, number, width}
 use Rattle.ir_print.specs.Pieces.{ValueTree, Pieces}
 use Rattle.ir_print.specs.Shown.{Said, said_type, said_attribute, said_list, said_item, said_operands, said_region, said_name}
@@ -20,10 +20,10 @@ bare_node : (p : Piece) (ts us : Pieces) (q : ValueTree) → ts ≡ no_tree → 
 bare_node p ts us q e f g = same_node p p ts us refl (e ∙ sym g) ∙ sym f
 
 module _ {K A T : Type 0} (says : Saying K A T) (types : List T) where
-  one_type : (a c : TypeHandle) → ◌≡◌ {A = Tree (Said A)} (leaf (said_type a)) (leaf (said_type c)) → a ≡ c
+  one_type : (a c : TypeHandle) → ◌≡◌ {A = LabelledTree (Said A)} (leaf (said_type a)) (leaf (said_type c)) → a ≡ c
   one_type a c e = cc
 
-  one_attribute : (a c : A) → ◌≡◌ {A = Tree (Said A)} (leaf (said_attribute a)) (leaf (said_attribute c)) → a ≡ c
+  one_attribute : (a c : A) → ◌≡◌ {A = LabelledTree (Said A)} (leaf (said_attribute a)) (leaf (said_attribute c)) → a ≡ c
   one_attribute a c e = cc
 
   -- what the key under a handle says it says once
@@ -39,7 +39,7 @@ module _ {K A T : Type 0} (says : Saying K A T) (types : List T) where
   attribute_once a c n m us vs e h g = some_pair_parts n m us vs (sym h ∙ ap says.of_attribute e ∙ g)
 
   -- what is shown of what is the same
-  shown_as : (x y : Tree (Said A)) (q : ValueTree) → x ≡ y → Shows says types x q → Shows says types y q
+  shown_as : (x y : LabelledTree (Said A)) (q : ValueTree) → x ≡ y → Shows says types x q → Shows says types y q
   shown_as x y q e h = subst (λ z. Shows says types z q) e h
 
   -- pieces that show what is the same
@@ -52,7 +52,7 @@ module _ {K A T : Type 0} (says : Saying K A T) (types : List T) where
 
   mutual
     -- what is said has one text
-    pub one_text : (r q : ValueTree) (x : Tree (Said A)) → Shows says types x r → Shows says types x q → IsBare r → IsBare q → r ≡ q
+    pub one_text : (r q : ValueTree) (x : LabelledTree (Said A)) → Shows says types x r → Shows says types x q → IsBare r → IsBare q → r ≡ q
     one_text (node (type_of_kind n) ts) q x (a, key, us, e, at, h, all) k b c =
         let other = seen says types (leaf (said_type a)) q (shown_as x (leaf (said_type a)) q e k) in
         let z = other.3 in

@@ -1,6 +1,6 @@
 -- Types of several closed texts, and of contexts, are numbered.
 use Rattle.std.proofs.Common.{inl, inr, ⊎_elim, ℕ, List, [], ◌∷◌, ◌++◌, refl, subst}
-use Rattle.ir_forest.specs.Closed.{IsClosed}
+use Rattle.ir_forest.specs.Closed.{IsClosedTree}
 use Rattle.ir_forest.specs.Bare.{IsBare}
 use Rattle.ir_print.specs.Pieces.{Entity, ValueTree}
 use Rattle.kit_language.specs.Language.{kit_language}
@@ -27,7 +27,7 @@ two_within : (texts : List (Entity ℕ)) (a b : Entity ℕ) → Has a texts → 
 two_within texts a b h k r has =
     ⊎_elim (one_within texts a h r) (one_within texts b k r) (has-append r (types_in_text a) (types_in_text b) has)
 
-all_bare : (texts : List (Entity ℕ)) → ((a : Entity ℕ) → Has a texts → IsClosed kit_language a) → (r : ValueTree) →
+all_bare : (texts : List (Entity ℕ)) → ((a : Entity ℕ) → Has a texts → IsClosedTree kit_language a) → (r : ValueTree) →
     Has r (types_of_all texts) → IsBare r
 all_bare [] closed r h = absurd h
 all_bare (a ∷ texts) closed r h = ⊎_elim

@@ -3,13 +3,13 @@ use Rattle.ir_program.specs.Rows.{successors_at}
 use Rattle.ir_program.specs.declared.handles.Use.{Use}
 use Rattle.ir_program.specs.declared.handles.Ptr.{Ptr}
 use Rattle.ir_program.specs.declared.handles.BasicBlock.{BasicBlock}
-use Rattle.ir_context.specs.Chosen.{Says}
+use Rattle.ir_context.specs.Chosen.{MaySay}
 use Rattle.ir_context.proofs.ChosenPlaces.{IsChoosing, choosing-none, choosing-taken, choosing-among, choosing-chooses, says-called}
 use Rattle.ir_context.proofs.uses.choose_edges.Goals as goal
 
 pub loop-place-init : goal.loop-place-init
 loop-place-init g c =
-    let answers : Use (Ptr BasicBlock) → Bool → Type 0 = λ u. Says {F = g.row.F.Denot} {U = Use (Ptr BasicBlock)} g.F.Fn c.args.predicate.now u in (
+    let answers : Use (Ptr BasicBlock) → Bool → Type 0 = λ u. MaySay {F = g.row.F.Denot} {U = Use (Ptr BasicBlock)} g.F.Fn c.args.predicate.now u in (
       tt,
       tt,
       subst (λ (rest : List (Use (Ptr BasicBlock))). IsChoosing (successors_at c.args.program.now) c.args.used answers rest c.new-chosen.result.items) (sym c.into_iter-place-iterator.ensures.into_iter_gives)
@@ -19,7 +19,7 @@ loop-place-init g c =
 
 pub loop-place-preserved-in-Continue-1 : goal.loop-place-preserved-in-Continue-1
 loop-place-preserved-in-Continue-1 g c =
-    let answers : Use (Ptr BasicBlock) → Bool → Type 0 = λ u. Says {F = g.row.F.Denot} {U = Use (Ptr BasicBlock)} g.F.Fn c.args.predicate.now u in
+    let answers : Use (Ptr BasicBlock) → Bool → Type 0 = λ u. MaySay {F = g.row.F.Denot} {U = Use (Ptr BasicBlock)} g.F.Fn c.args.predicate.now u in
     let so_far = subst (λ (rest : List (Use (Ptr BasicBlock))). IsChoosing (successors_at c.args.program.now) c.args.used answers rest c.loop-place.chosen.items) c.in-Some.ensures.steps c.loop-place.invariant.2 in (
       tt,
       tt,
@@ -30,12 +30,12 @@ loop-place-preserved-in-Continue-1 g c =
 
 pub returns-clause-stand : goal.returns-clause-stand
 returns-clause-stand g c =
-    let answers : Use (Ptr BasicBlock) → Bool → Type 0 = λ u. Says {F = g.row.F.Denot} {U = Use (Ptr BasicBlock)} g.F.Fn c.args.predicate.now u in
+    let answers : Use (Ptr BasicBlock) → Bool → Type 0 = λ u. MaySay {F = g.row.F.Denot} {U = Use (Ptr BasicBlock)} g.F.Fn c.args.predicate.now u in
     choosing-among (successors_at c.args.program.now) c.args.used answers c.loop-place.chosen.items
     (subst (λ (rest : List (Use (Ptr BasicBlock))). IsChoosing (successors_at c.args.program.now) c.args.used answers rest c.loop-place.chosen.items) c.in-None.ensures.steps.0 c.loop-place.invariant.2)
 
 pub returns-clause-chosen : goal.returns-clause-chosen
 returns-clause-chosen g c =
-    let answers : Use (Ptr BasicBlock) → Bool → Type 0 = λ u. Says {F = g.row.F.Denot} {U = Use (Ptr BasicBlock)} g.F.Fn c.args.predicate.now u in
+    let answers : Use (Ptr BasicBlock) → Bool → Type 0 = λ u. MaySay {F = g.row.F.Denot} {U = Use (Ptr BasicBlock)} g.F.Fn c.args.predicate.now u in
     choosing-chooses (successors_at c.args.program.now) c.args.used answers c.loop-place.chosen.items
     (subst (λ (rest : List (Use (Ptr BasicBlock))). IsChoosing (successors_at c.args.program.now) c.args.used answers rest c.loop-place.chosen.items) c.in-None.ensures.steps.0 c.loop-place.invariant.2)

@@ -2,13 +2,13 @@ use Rattle.std.proofs.Common.{Bool, List, refl, sym, subst}
 use Rattle.ir_program.specs.Rows.{operands_at}
 use Rattle.ir_program.specs.declared.handles.Use.{Use}
 use Rattle.ir_program.specs.declared.handles.Value.{Value}
-use Rattle.ir_context.specs.Chosen.{Says}
+use Rattle.ir_context.specs.Chosen.{MaySay}
 use Rattle.ir_context.proofs.ChosenPlaces.{IsChoosing, choosing-none, choosing-taken, choosing-among, choosing-chooses, says-called}
 use Rattle.ir_context.proofs.uses.choose_uses.Goals as goal
 
 pub loop-place-init : goal.loop-place-init
 loop-place-init g c =
-    let answers : Use Value → Bool → Type 0 = λ u. Says {F = g.row.F.Denot} {U = Use Value} g.F.Fn c.args.predicate.now u in (
+    let answers : Use Value → Bool → Type 0 = λ u. MaySay {F = g.row.F.Denot} {U = Use Value} g.F.Fn c.args.predicate.now u in (
       tt,
       tt,
       subst (λ (rest : List (Use Value)). IsChoosing (operands_at c.args.program.now) c.args.used answers rest c.new-chosen.result.items) (sym c.into_iter-place-iterator.ensures.into_iter_gives)
@@ -18,7 +18,7 @@ loop-place-init g c =
 
 pub loop-place-preserved-in-Continue-1 : goal.loop-place-preserved-in-Continue-1
 loop-place-preserved-in-Continue-1 g c =
-    let answers : Use Value → Bool → Type 0 = λ u. Says {F = g.row.F.Denot} {U = Use Value} g.F.Fn c.args.predicate.now u in
+    let answers : Use Value → Bool → Type 0 = λ u. MaySay {F = g.row.F.Denot} {U = Use Value} g.F.Fn c.args.predicate.now u in
     let so_far = subst (λ (rest : List (Use Value)). IsChoosing (operands_at c.args.program.now) c.args.used answers rest c.loop-place.chosen.items) c.in-Some.ensures.steps c.loop-place.invariant.2 in (
       tt,
       tt,
@@ -29,12 +29,12 @@ loop-place-preserved-in-Continue-1 g c =
 
 pub returns-clause-stand : goal.returns-clause-stand
 returns-clause-stand g c =
-    let answers : Use Value → Bool → Type 0 = λ u. Says {F = g.row.F.Denot} {U = Use Value} g.F.Fn c.args.predicate.now u in
+    let answers : Use Value → Bool → Type 0 = λ u. MaySay {F = g.row.F.Denot} {U = Use Value} g.F.Fn c.args.predicate.now u in
     choosing-among (operands_at c.args.program.now) c.args.used answers c.loop-place.chosen.items
     (subst (λ (rest : List (Use Value)). IsChoosing (operands_at c.args.program.now) c.args.used answers rest c.loop-place.chosen.items) c.in-None.ensures.steps.0 c.loop-place.invariant.2)
 
 pub returns-clause-chosen : goal.returns-clause-chosen
 returns-clause-chosen g c =
-    let answers : Use Value → Bool → Type 0 = λ u. Says {F = g.row.F.Denot} {U = Use Value} g.F.Fn c.args.predicate.now u in
+    let answers : Use Value → Bool → Type 0 = λ u. MaySay {F = g.row.F.Denot} {U = Use Value} g.F.Fn c.args.predicate.now u in
     choosing-chooses (operands_at c.args.program.now) c.args.used answers c.loop-place.chosen.items
     (subst (λ (rest : List (Use Value)). IsChoosing (operands_at c.args.program.now) c.args.used answers rest c.loop-place.chosen.items) c.in-None.ensures.steps.0 c.loop-place.invariant.2)

@@ -3,7 +3,7 @@ use Rattle.ir_edits.specs.MakingEdits.{BuildsNewOperation, BuildsNewBlock}
 use Rattle.ir_edits.specs.UseEdits.{ReplacesSomeUses, RetargetsSome}
 use Rattle.ir_edits.specs.Naming.{block_named, value_named}
 use Rattle.ir_edits.specs.Resolving.{resolved}
-use Rattle.ir_edits.specs.Steps.{step, Named}
+use Rattle.ir_edits.specs.Steps.{step, IfNamed}
 use Rattle.ir_edits.proofs.Makings.{same_still}
 use Rattle.ir_edits.proofs.Named.{named_some, named_none, of_names}
 use Rattle.ir_edits.proofs.apply.apply.Goals as goal
@@ -29,7 +29,7 @@ returns-in-NewBlock g c = subst (λ e. step g.D.DialectTables.nowhere c.args.ctx
 pub returns-in-Some-block : goal.returns-in-Some-block
 returns-in-Some-block g c = subst (λ e. step g.D.DialectTables.nowhere c.args.ctx.now c.args.made.now e c.retarget_some.new.ctx c.retarget_some.result) (sym c.in-RetargetSomePredsTo.is)
     (named_some c.args.ctx.now c.retarget_some.new.ctx c.retarget_some.result
-    (λ b. Named (block_named c.args.made.now c.in-RetargetSomePredsTo.other) c.args.ctx.now c.retarget_some.new.ctx c.retarget_some.result (λ to. RetargetsSome c.args.ctx.now b c.args.made.now c.in-RetargetSomePredsTo.places.items to c.retarget_some.new.ctx c.retarget_some.result))
+    (λ b. IfNamed (block_named c.args.made.now c.in-RetargetSomePredsTo.other) c.args.ctx.now c.retarget_some.new.ctx c.retarget_some.result (λ to. RetargetsSome c.args.ctx.now b c.args.made.now c.in-RetargetSomePredsTo.places.items to c.retarget_some.new.ctx c.retarget_some.result))
     (block_named c.args.made.now c.in-RetargetSomePredsTo.block) c.block.result c.in-Some.block c.block.ensures c.in-Some.is
     (named_some c.args.ctx.now c.retarget_some.new.ctx c.retarget_some.result
     (λ to. RetargetsSome c.args.ctx.now c.in-Some.block c.args.made.now c.in-RetargetSomePredsTo.places.items to c.retarget_some.new.ctx c.retarget_some.result)
@@ -39,7 +39,7 @@ returns-in-Some-block g c = subst (λ e. step g.D.DialectTables.nowhere c.args.c
 pub returns-in-Some-value-2 : goal.returns-in-Some-value-2
 returns-in-Some-value-2 g c = subst (λ e. step g.D.DialectTables.nowhere c.args.ctx.now c.args.made.now e c.replace_some_uses.new.ctx c.replace_some_uses.result) (sym c.in-ReplaceSomeUsesWith.is)
     (named_some c.args.ctx.now c.replace_some_uses.new.ctx c.replace_some_uses.result
-    (λ v. Named (value_named c.args.ctx.now.program c.args.made.now c.in-ReplaceSomeUsesWith.other) c.args.ctx.now c.replace_some_uses.new.ctx c.replace_some_uses.result (λ w. ReplacesSomeUses c.args.ctx.now v c.args.made.now c.in-ReplaceSomeUsesWith.places.items w c.replace_some_uses.new.ctx c.replace_some_uses.result))
+    (λ v. IfNamed (value_named c.args.ctx.now.program c.args.made.now c.in-ReplaceSomeUsesWith.other) c.args.ctx.now c.replace_some_uses.new.ctx c.replace_some_uses.result (λ w. ReplacesSomeUses c.args.ctx.now v c.args.made.now c.in-ReplaceSomeUsesWith.places.items w c.replace_some_uses.new.ctx c.replace_some_uses.result))
     (value_named c.args.ctx.now.program c.args.made.now c.in-ReplaceSomeUsesWith.value) c.value.result c.in-Some-value.value c.value.ensures c.in-Some-value.is
     (named_some c.args.ctx.now c.replace_some_uses.new.ctx c.replace_some_uses.result
     (λ w. ReplacesSomeUses c.args.ctx.now c.in-Some-value.value c.args.made.now c.in-ReplaceSomeUsesWith.places.items w c.replace_some_uses.new.ctx c.replace_some_uses.result)

@@ -1,6 +1,6 @@
 use Rattle.std.proofs.Common.{◌<◌, length, ap, ◌∙◌, subst, arith}
 use Rattle.digraph.specs.Graph.{successors}
-use Rattle.digraph.specs.Sccs.{AreSccs, IsIn}
+use Rattle.digraph.specs.Sccs.{AreSccs, IsInPart}
 use Rattle.ir_graph.specs.Graphs.{AreNamedSccs}
 use Rattle.ir_graph.proofs.NamedOrders.{ok_more, graph_in}
 use Rattle.ir_graph.proofs.NamedSccs.{sccs_named}
@@ -14,7 +14,7 @@ sccs-requires-clause-graph g c = graph_in _ _ _ (g.met.G.ControlFlowGraph.distin
 
 pub sccs_at-requires : goal.sccs_at-requires
 sccs_at-requires g c = λ k n h.
-    let l = c.in_ok-parts.ensures.within k n (subst (λ ps. IsIn ps k n) c.deref-5.ensures.value h) in
+    let l = c.in_ok-parts.ensures.within k n (subst (λ ps. IsInPart ps k n) c.deref-5.ensures.value h) in
     omega (arith, l, c.in_ok-numbering.ensures.len, ap length c.deref-2.ensures.value, ap length (c.deref-4.ensures.value ∙ c.in_ok-numbering.ensures.all))
 
 pub returns : goal.returns

@@ -2,7 +2,7 @@ use Rattle.std.proofs.Common.{rules, length, get_or, refl, sym, ap, ◌∙◌, s
 use Rattle.std.specs.Prelude.{All, Contains}
 use Rattle.std.proofs.lemmas.Option.{slice_get_read}
 use Rattle.std.proofs.lemmas.List.Elements.{All-contains_itself, Contains-get_or}
-use Rattle.ir_graph.specs.Graphs.{AreNamed}
+use Rattle.ir_graph.specs.Graphs.{AreNodeNumbers}
 use Rattle.ir_graph.proofs.Numbers.{rows_more, all_rows, RowsUpTo}
 use Rattle.ir_graph.proofs.numbering.number.Goals as goal
 
@@ -26,8 +26,8 @@ loop-node-preserved g c =
     let row = c.deref-in-loop-node.ensures.value ∙ c.in_ok-row.ensures in
     rows_more (g.G.ControlFlowGraph.successors_of c.args.graph.now c.args.ctx.now) items c.loop-node.rows.items c.push.new.self.items c.in_ok-number_row.field-0 c.loop-node.node-index c.node-item.result
     (slice_get_read items (length items) c.loop-node.node-index c.node-item.result refl c.loop-node-test.true c.node-item.is) c.in_ok-push.ensures.items
-    (subst (λ ks. AreNamed ks c.in_ok-number_row.field-0.items (g.G.ControlFlowGraph.successors_of c.args.graph.now c.args.ctx.now c.node-item.result)) keys
-    (subst (λ ns. AreNamed c.in_ok-set.set.keys c.in_ok-number_row.field-0.items ns) row c.in_ok-number_row.ensures))
+    (subst (λ ks. AreNodeNumbers ks c.in_ok-number_row.field-0.items (g.G.ControlFlowGraph.successors_of c.args.graph.now c.args.ctx.now c.node-item.result)) keys
+    (subst (λ ns. AreNodeNumbers c.in_ok-set.set.keys c.in_ok-number_row.field-0.items ns) row c.in_ok-number_row.ensures))
     c.loop-node.invariant
 
 pub returns : goal.returns
@@ -38,8 +38,8 @@ returns g c =
     let keys = c.in_ok-set.ensures ∙ c.deref.ensures.value ∙ all in
     record {
       all = all;
-      named = subst (λ ks. AreNamed ks c.in_ok-numbers.numbers.items (g.G.ControlFlowGraph.nodes_of c.args.graph.now c.args.ctx.now)) keys
-          (subst (λ ns. AreNamed c.in_ok-set.set.keys c.in_ok-numbers.numbers.items ns) (c.deref-2.ensures.value ∙ all) c.in_ok-numbers.ensures);
+      named = subst (λ ks. AreNodeNumbers ks c.in_ok-numbers.numbers.items (g.G.ControlFlowGraph.nodes_of c.args.graph.now c.args.ctx.now)) keys
+          (subst (λ ns. AreNodeNumbers c.in_ok-set.set.keys c.in_ok-numbers.numbers.items ns) (c.deref-2.ensures.value ∙ all) c.in_ok-numbers.ensures);
       len = c.loop-node.invariant.len ∙ (let l = c.loop-node-test.false in let m = c.loop-node.auto.node-index-end in let n = ap length items in search rules);
       onward = all_rows next (g.G.ControlFlowGraph.nodes_of c.args.graph.now c.args.ctx.now) c.loop-node.rows.items c.loop-node.node-index (let l = c.loop-node-test.false in let n = ap length items in omega (arith, l, n))
           (subst (λ ns. RowsUpTo next ns c.loop-node.rows.items c.loop-node.node-index) items c.loop-node.invariant);

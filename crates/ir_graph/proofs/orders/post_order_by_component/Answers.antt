@@ -1,6 +1,6 @@
 use Rattle.std.proofs.Common.{sym, ◌∙◌, subst}
 use Rattle.digraph.specs.Visits.{IsPostOrderApart}
-use Rattle.ir_graph.specs.Graphs.{AreNamed, AreNamedParts}
+use Rattle.ir_graph.specs.Graphs.{AreNodeNumbers, AreNamedParts}
 use Rattle.ir_graph.specs.Orders.{lists_of}
 use Rattle.ir_graph.proofs.NamedOrders.{ok_more, graph_in, roots_in}
 use Rattle.ir_graph.proofs.NamedParts.{one_naming_parts, parts_named}
@@ -13,7 +13,7 @@ pub post_order_apart-requires-clause-roots : goal.post_order_apart-requires-clau
 post_order_apart-requires-clause-roots g c =
     let nodes = g.G.ControlFlowGraph.nodes_of c.args.graph.now c.args.ctx.now in
     roots_in _ _ _ (g.met.G.ControlFlowGraph.distinct c.args.graph.now c.args.ctx.now c.requires) _ _ c.in_ok-numbering.ensures c.deref.result.now c.deref-2.result.now nodes c.deref.ensures.value
-    (subst (λ ids. AreNamed nodes ids nodes) (sym c.deref-2.ensures.value) c.in_ok-numbering.ensures.named)
+    (subst (λ ids. AreNodeNumbers nodes ids nodes) (sym c.deref-2.ensures.value) c.in_ok-numbering.ensures.named)
 
 pub parts_at-requires : goal.parts_at-requires
 parts_at-requires g c =

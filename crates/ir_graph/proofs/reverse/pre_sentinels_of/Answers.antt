@@ -1,7 +1,7 @@
 use Rattle.std.proofs.Common.{◌<◌, length, sym, ap, ◌∙◌, subst, arith}
 use Rattle.digraph.specs.Graph.{successors}
 use Rattle.digraph.specs.Sccs.{AreSccs}
-use Rattle.ir_graph.specs.Graphs.{AreNamed}
+use Rattle.ir_graph.specs.Graphs.{AreNodeNumbers}
 use Rattle.ir_graph.proofs.NamedOrders.{ok_more, graph_in, named_at}
 use Rattle.ir_graph.proofs.NamedSccs.{names_of}
 use Rattle.ir_graph.proofs.NamedSinks.{can_reverse}
@@ -29,6 +29,6 @@ pub returns : goal.returns
 returns g c =
     let n = c.in_ok-numbering.ensures in
     ok_more c.nodes_at.result (λ found a. can_reverse _ _ _ (g.met.G.ControlFlowGraph.distinct c.args.graph.now c.args.ctx.now c.requires) _ _ n c.deref-4.result.now c.in_ok-ends.ends.items found.items c.deref-4.ensures.value
-    (subst (λ ks. AreNamed ks c.in_ok-ends.ends.items found.items) (c.deref-5.ensures.value ∙ n.all) (subst (λ ids. AreNamed c.deref-5.result.now ids found.items) c.deref-6.ensures.value a))
+    (subst (λ ks. AreNodeNumbers ks c.in_ok-ends.ends.items found.items) (c.deref-5.ensures.value ∙ n.all) (subst (λ ids. AreNodeNumbers c.deref-5.result.now ids found.items) c.deref-6.ensures.value a))
     c.in_ok-ends.ensures)
     c.nodes_at.ensures

@@ -1,5 +1,5 @@
 use Rattle.std.proofs.Common.{refl, sym}
-use Rattle.ir_scopes.specs.Scopes.{AreApart}
+use Rattle.ir_scopes.specs.Scopes.{SitesAreApart}
 use Rattle.ir_scopes.specs.Orders.{AreNamedAlike}
 use Rattle.ir_scopes.proofs.Lacking.{lacking_moved}
 use Rattle.ir_scopes.proofs.ScopeOrders.{moved_to, moved_from, still_own}
@@ -14,7 +14,7 @@ returns-clause-again c =
     let names = c.args.places.now in
     let ds = c.args.definitions.now in
     let v = c.pass_through.new.self in
-    let apart : AreApart ds c.sort_by_scope.new.sites = still_own ds c.args.mentions.now c.sort_by_scope.new.sites c.sort_by_scope.ensures.same c.requires in
+    let apart : SitesAreApart ds c.sort_by_scope.new.sites = still_own ds c.args.mentions.now c.sort_by_scope.new.sites c.sort_by_scope.ensures.same c.requires in
     let alike : AreNamedAlike names c.note_mentions.new.places ds
     = λ j s at. c.in_ok-lacking.ensures.kept s.token (λ i m has e. apart.both j i s m at has (sym e)) in
     walked names ds v.order.items v.passed v.latest.items v.again (c.pass_through.ensures.walk names alike c.in_ok-lacking.ensures.walk) (c.pass_through.ensures.all refl)

@@ -2,8 +2,8 @@ use Rattle.std.proofs.Common.{◌≡◌, ◌+◌, ◌≤◌, ◌∷◌, [], ◌+
 use Rattle.std.proofs.lemmas.List.{get_or-set_other, take_more, take_all}
 use Rattle.std.proofs.lemmas.Option.{slice_get-get_or, slice_get_within, get_or_from_slice_get}
 use Rattle.ir_scopes.specs.declared.sites.Site.{Site}
-use Rattle.ir_scopes.specs.Scopes.{AreLacking, Names, Means, IsUnresolved, name_of}
-use Rattle.ir_scopes.specs.Orders.{AreNamedAlike, IsWithin}
+use Rattle.ir_scopes.specs.Scopes.{AreLacking, SiteHasName, Means, IsUnresolved, name_of}
+use Rattle.ir_scopes.specs.Orders.{AreNamedAlike, IsWithinScope}
 use Rattle.ir_scopes.proofs.Places.{written_more, written_same}
 use Rattle.ir_scopes.proofs.Lacking.{lacking_empty, lacking_kept, lacking_added}
 use Rattle.ir_scopes.proofs.ScopeWalks.{numbered}
@@ -33,14 +33,14 @@ loop-site-preserved c =
     let alike : AreNamedAlike names c.loop-site.places ds
     = λ j s at. now.kept s.token (λ k m lt has e. c.requires.apart.both j k s m at has (sym e)) in
     let walk = c.pass_through.ensures.walk names alike now.walk in
-    let within : IsWithin v x.scope = c.pass_through.ensures.within (now.within i x (omega arith) here) in
+    let within : IsWithinScope v x.scope = c.pass_through.ensures.within (now.within i x (omega arith) here) in
     let through = c.pass_through.ensures.through now.walk.ordered in
     let name_is : c.name_of.result ≡ name_of names x.token
     = c.name_of.ensures ∙ now.kept x.token (λ j m lt at e. let same = c.requires.apart.mentions j i m x at here e in omega (arith, lt)) in
     let told : MatchOption c.number_of.result (IsUnresolved names ds x) (Means names ds x)
-    = subst (λ n. MatchOption c.number_of.result ((j : ℕ) → Names names ds x.scope n j → ⊥) (Names names ds x.scope n)) name_is
+    = subst (λ n. MatchOption c.number_of.result ((j : ℕ) → SiteHasName names ds x.scope n j → ⊥) (SiteHasName names ds x.scope n)) name_is
     (numbered names ds v.order.items v.passed v.latest.items v.again walk x.scope c.name_of.result within through c.number_of.result (sym c.number_of.ensures)) in
-    let later : (k : ℕ) (m : Site) → i + 1 ≤ k → slice_get ms k ≡ Some m → IsWithin v m.scope
+    let later : (k : ℕ) (m : Site) → i + 1 ≤ k → slice_get ms k ≡ Some m → IsWithinScope v m.scope
     = λ k m le at j y lt has. (
     let low = within j y lt has in
     let up : (get_or ms i m).scope ≤ (get_or ms k m).scope = c.requires.order i k m (omega arith) (slice_get_within ms k m at) in

@@ -1,10 +1,10 @@
 use Rattle.std.proofs.Common.{◌≤◌, ◌-◌, length}
 use Rattle.ir_characters.specs.Texts.{codes_of}
-use Rattle.ir_tokens.specs.Tokens.{is_name_char, Runs}
+use Rattle.ir_tokens.specs.Tokens.{is_name_char, AreAllOfKind}
 use Rattle.ir_tokens.proofs.scan.name_end.Given as goal
 
 abbrev pub invariant-loop-at : goal.invariant-loop-at
-invariant-loop-at l = (l.from ≤ l.at) × (l.at ≤ length (codes_of l.chars)) × Runs is_name_char (codes_of l.chars) l.from l.at
+invariant-loop-at l = (l.from ≤ l.at) × (l.at ≤ length (codes_of l.chars)) × AreAllOfKind is_name_char (codes_of l.chars) l.from l.at
 
 abbrev pub decreases-loop-at : goal.decreases-loop-at
 decreases-loop-at l = length (codes_of l.chars) - l.at

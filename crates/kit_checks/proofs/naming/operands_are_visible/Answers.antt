@@ -6,7 +6,7 @@ use Rattle.ir_program.specs.Rows.{operands_at}
 use Rattle.ir_program.specs.declared.handles.Value.{Value}
 use Rattle.opt_inside.proofs.Around.{HasLists}
 use Rattle.kit_checks.specs.Located.{IsSiteOf}
-use Rattle.kit_checks.specs.Naming.{IsOrderOf, IsSpotOf, MayName}
+use Rattle.kit_checks.specs.Naming.{IsOrderOf, IsSpotOfOperation, MayName}
 use Rattle.kit_checks.specs.Words.{Every}
 use Rattle.kit_checks.specs.World.{world_of}
 use Rattle.kit_checks.proofs.Named.{HasValues, block_inside, none_seen, operands_seen}
@@ -44,7 +44,7 @@ returns-in-Some g c s at =
     } in
     let values : HasValues c.program-program.result.now = record { definer = c.know_values.ensures.definer; stands = c.know_values.ensures.stands } in
     operands_seen (world_of c.args.ctx.now) c.args.ctx.now.program (subst HasLists p lists) (subst HasValues p values) c.args.root c.args.op s at c.in-Some.spot c.in-Some.ensures.spot.0
-    (subst (λ x. IsSpotOf x c.args.op c.in-Some.spot) p c.in-Some.ensures.spot.1)
+    (subst (λ x. IsSpotOfOperation x c.args.op c.in-Some.spot) p c.in-Some.ensures.spot.1)
     (subst (λ x. (k : ℕ) (v : Value) → slice_get (operands_at x c.args.op) k ≡ Some v → IsLiveValue x v) p (c.know_operands.ensures c.args.op))
     c.names_visible.result (subst (λ x. IsTrue c.names_visible.result ↔ Every (MayName x c.args.op c.in-Some.spot) (operands_at x c.args.op)) p c.names_visible.ensures)
 

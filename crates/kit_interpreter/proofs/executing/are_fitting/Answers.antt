@@ -3,7 +3,7 @@ use Rattle.std.proofs.lemmas.Bool.{false≢true}
 use Rattle.std.proofs.lemmas.Option.{slice_get-get_or, slice_get_within}
 use Rattle.ir_program.specs.Program.{TypedValue, arguments_at}
 use Rattle.kit_interpreter.specs.Store.{width_at}
-use Rattle.kit_interpreter.specs.Running.{IsBelow}
+use Rattle.kit_interpreter.specs.Running.{FitsWidth}
 use Rattle.kit_interpreter.proofs.Located.{next_pair}
 use Rattle.kit_interpreter.proofs.executing.are_fitting.Goals as goal
 
@@ -15,7 +15,7 @@ returns-then-not-fits_argument c = (
 )
 
 pub loop-i-preserved : goal.loop-i-preserved
-loop-i-preserved c = next_pair (λ x (t : TypedValue). IsBelow x (width_at c.args.ctx.now t.ty)) c.args.numbers.now
+loop-i-preserved c = next_pair (λ x (t : TypedValue). FitsWidth x (width_at c.args.ctx.now t.ty)) c.args.numbers.now
     (arguments_at c.args.ctx.now.program c.args.block) c.loop-i.i (omega arith) c.loop-i.invariant
     (c.if-not-fits_argument.ensures.0 refl)
 

@@ -5,9 +5,9 @@ use Rattle.ir_program.specs.Replacing.{same_value}
 use Rattle.ir_program.proofs.used.Renaming.{value-test}
 use Rattle.kit_flat.specs.View.{op_view}
 use Rattle.kit_flat.specs.Sound.{AreBelow, InstructionFits}
-use Rattle.kit_flat.specs.Renames.{rename_op, LeadsInside}
+use Rattle.kit_flat.specs.Renames.{rename_op, TargetsAreInside}
 use Rattle.kit_interpreter.specs.Numbers.{value_number, values_of, no_value, value_at, block_with, operation_with}
-use Rattle.kit_interpreter.specs.Store.{KitProgram, op_at}
+use Rattle.kit_interpreter.specs.Store.{InterpretedProgram, op_at}
 use Rattle.kit_interpreter.proofs.Rows.{moved, ended}
 use Rattle.kit_interpreter.proofs.Sets.{listed_next, next_each, next_same}
 use Rattle.kit_interpreter.proofs.Lowered.{named_back, numbers_below}
@@ -30,7 +30,7 @@ loop-op-preserved c = record {
   fits = next_each (λ j o. InstructionFits (length c.args.functions.now.handles.items)
       (length c.args.values.now.keys) o) c.loop-op.instructions.items _ c.in_ok-lower_operation.field-0
       c.in_ok-push.ensures.items c.loop-op.invariant.fits c.in_ok-lower_operation.ensures.fits;
-  inside = next_each (λ j o. LeadsInside (length c.args.blocks.now.keys) o) c.loop-op.instructions.items _
+  inside = next_each (λ j o. TargetsAreInside (length c.args.blocks.now.keys) o) c.loop-op.instructions.items _
       c.in_ok-lower_operation.field-0 c.in_ok-push.ensures.items c.loop-op.invariant.inside
       c.in_ok-lower_operation.ensures.inside;
 }
@@ -40,7 +40,7 @@ returns c =
     let keys = c.args.values.now.keys in
     let vs = values_of (arguments_at c.args.ctx.now.program c.args.block) in
     let row = c.in_ok-arguments.ensures ∙ ap
-    (λ (p : KitProgram). map (value_number keys) (values_of (arguments_at p c.args.block))) c.program-2.ensures in
+    (λ (p : InterpretedProgram). map (value_number keys) (values_of (arguments_at p c.args.block))) c.program-2.ensures in
     let all = ended (λ ps. ps ≡ operations_in c.args.ctx.now.program c.args.block) c.loop-op.yielded
     c.loop-op.op-iterator c.in-None.ensures.steps.0 c.loop-op.invariant.listed in
     record {

@@ -2,7 +2,7 @@ use Rattle.std.proofs.Common.{ℕ, ◌≡◌, ◌++◌, Some, slice_get, map, le
 use Rattle.ir_program.specs.Lists.{operations_in}
 use Rattle.kit_flat.specs.View.{op_view}
 use Rattle.kit_flat.specs.Sound.{InstructionFits}
-use Rattle.kit_flat.specs.Renames.{rename_op, LeadsInside}
+use Rattle.kit_flat.specs.Renames.{rename_op, TargetsAreInside}
 use Rattle.kit_flat.specs.declared.flat.Instruction.{Instruction}
 use Rattle.kit_interpreter.specs.Numbers.{value_at, block_with, operation_with}
 use Rattle.kit_interpreter.specs.Store.{op_at}
@@ -17,5 +17,5 @@ invariant-loop-op l = record {
   fits : (j : ℕ) (o : Instruction) → slice_get l.instructions.items j ≡ Some o
       → InstructionFits (length l.fn.functions.handles.items) (length l.fn.values.keys) o;
   inside : (j : ℕ) (o : Instruction) → slice_get l.instructions.items j ≡ Some o
-      → LeadsInside (length l.fn.blocks.keys) o;
+      → TargetsAreInside (length l.fn.blocks.keys) o;
 }

@@ -1,7 +1,7 @@
 use Rattle.std.proofs.Common.{subst}
 use Rattle.opt_inside.specs.Numbered.{numbers_of}
 use Rattle.kit_flat.specs.declared.flat.FlatFunction.{FlatFunction}
-use Rattle.kit_interpreter.specs.Store.{KitProgram}
+use Rattle.kit_interpreter.specs.Store.{InterpretedProgram}
 use Rattle.kit_interpreter.proofs.Bodies.{IsSetting, live_at, numbered_at, lowers_at}
 use Rattle.kit_interpreter.proofs.lowering.lower_function.Goals as goal
 
@@ -9,7 +9,7 @@ pub lower_blocks-requires-clause-live : goal.lower_blocks-requires-clause-live
 lower_blocks-requires-clause-live c =
     let set : IsSetting c.args.ctx.now.program c.args.op c.in-Some.region (numbers_of c.in_ok-inside.inside)
     c.in_ok-blocks.blocks.keys =
-    subst (λ (p : KitProgram). IsSetting p c.args.op c.in-Some.region (numbers_of c.in_ok-inside.inside)
+    subst (λ (p : InterpretedProgram). IsSetting p c.args.op c.in-Some.region (numbers_of c.in_ok-inside.inside)
     c.in_ok-blocks.blocks.keys) c.program-program.ensures (record {
       region_is = c.in-Some.ensures.region;
       numbers = c.in_ok-inside.ensures;
@@ -26,7 +26,7 @@ pub lower_blocks-requires-clause-numbered : goal.lower_blocks-requires-clause-nu
 lower_blocks-requires-clause-numbered c =
     let set : IsSetting c.args.ctx.now.program c.args.op c.in-Some.region (numbers_of c.in_ok-inside.inside)
     c.in_ok-blocks.blocks.keys =
-    subst (λ (p : KitProgram). IsSetting p c.args.op c.in-Some.region (numbers_of c.in_ok-inside.inside)
+    subst (λ (p : InterpretedProgram). IsSetting p c.args.op c.in-Some.region (numbers_of c.in_ok-inside.inside)
     c.in_ok-blocks.blocks.keys) c.program-program.ensures (record {
       region_is = c.in-Some.ensures.region;
       numbers = c.in_ok-inside.ensures;
@@ -43,7 +43,7 @@ pub returns : goal.returns
 returns c =
     let set : IsSetting c.args.ctx.now.program c.args.op c.in-Some.region (numbers_of c.in_ok-inside.inside)
     c.in_ok-blocks.blocks.keys =
-    subst (λ (p : KitProgram). IsSetting p c.args.op c.in-Some.region (numbers_of c.in_ok-inside.inside)
+    subst (λ (p : InterpretedProgram). IsSetting p c.args.op c.in-Some.region (numbers_of c.in_ok-inside.inside)
     c.in_ok-blocks.blocks.keys) c.program-program.ensures (record {
       region_is = c.in-Some.ensures.region;
       numbers = c.in_ok-inside.ensures;

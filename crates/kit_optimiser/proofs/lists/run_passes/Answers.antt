@@ -5,7 +5,7 @@ use Rattle.std.proofs.lemmas.Result.{err_from_is_err_and}
 use Rattle.ir_base.specs.declared.growth.GrowError.TheVariants.{CounterFull}
 use Rattle.kit_behaviour.specs.PassLists.{Pass}
 use Rattle.kit_optimiser.specs.declared.pass.KitPass.TheVariants.{Sccp}
-use Rattle.kit_optimiser.specs.Passed.{IsOptimised, Runs, pass_of}
+use Rattle.kit_optimiser.specs.Passed.{IsOptimised, RunsPasses, pass_of}
 use Rattle.kit_optimiser.proofs.LeftOutside.{kept_both, kept_none, none_come_both, none_come_none}
 use Rattle.kit_optimiser.proofs.LeftOutside.{stays_both, stays_none}
 use Rattle.kit_optimiser.proofs.PassLists.{begins, mapped_more, mapped_parts, runs_on}
@@ -42,7 +42,7 @@ loop-pass-preserved c =
     record {
       optimised = subst (λ (xs : List Pass). IsOptimised xs c.args.ctx.now c.run_next_pass.new.ctx c.args.root) more
           (done.goes_on c.args.ctx.now (map pass_of (take i ps)) before.optimised);
-      runs = subst (λ (xs : List Pass). Runs xs c.args.ctx.now c.run_next_pass.new.ctx c.args.root) more
+      runs = subst (λ (xs : List Pass). RunsPasses xs c.args.ctx.now c.run_next_pass.new.ctx c.args.root) more
           (runs_on (map pass_of (take i ps)) (pass_of (get_or ps i Sccp)) c.args.ctx.now c.loop-pass.ctx
           c.run_next_pass.new.ctx c.args.root c.loop-pass.invariant.runs c.in_ok-run_next_pass.ensures.passed
           c.in_ok-run_next_pass.ensures.numbers);
@@ -63,7 +63,7 @@ pub returns-clause-runs : goal.returns-clause-runs
 returns-clause-runs c =
     let ps = c.args.passes.now in
     let all : c.loop-pass.pass-index ≡ length ps = omega arith in
-    subst (λ (xs : List Pass). Runs xs c.args.ctx.now c.loop-pass.ctx c.args.root)
+    subst (λ (xs : List Pass). RunsPasses xs c.args.ctx.now c.loop-pass.ctx c.args.root)
     (ap (λ n. map pass_of (take n ps)) all ∙ ap (λ l. map pass_of l) (take-length ps)) c.loop-pass.invariant.runs
 
 pub returns-in_err-run_next_pass-clause-full : goal.returns-in_err-run_next_pass-clause-full

@@ -1,6 +1,6 @@
 use Rattle.std.proofs.Common.{subst}
 use Rattle.opt_inside.proofs.Around.{HasLists}
-use Rattle.opt_inside.specs.Occurring.{OfItsTree, EachFound, EachBlock, IsOccurrence, IsBlockOccurrence, BlocksApart}
+use Rattle.opt_inside.specs.Occurring.{OfItsTree, EachFound, EachBlock, IsOccurrence, IsBlockOccurrence, BlockNamesApart}
 use Rattle.kit_ruled_passes.specs.Scopes.{KitProgram}
 use Rattle.kit_ruled_passes.proofs.Determined.{none_lacks}
 use Rattle.kit_ruled_passes.proofs.FittingEdges.{edge_fits}
@@ -28,7 +28,7 @@ returns c =
     c.know_occurrences.ensures.sound in
     let blocks_sound = subst (λ (p : KitProgram). OfItsTree p root (λ u. EachBlock u (IsBlockOccurrence p root)))
     program c.know_occurrences.ensures.blocks_sound in
-    let apart = subst (λ (p : KitProgram). OfItsTree p root (λ u. BlocksApart u)) program
+    let apart = subst (λ (p : KitProgram). OfItsTree p root (λ u. BlockNamesApart u)) program
     c.know_occurrences.ensures.blocks_one in
     λ t stands k best.
     let fits = fits_edges s root lists t stands c.requires.rules in

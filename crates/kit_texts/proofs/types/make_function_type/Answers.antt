@@ -1,6 +1,6 @@
 use Rattle.std.proofs.Common.{◌≡◌, Some, None, option_map, sym, ap, ◌∙◌, subst, inl, inr}
 use Rattle.kit_ops.specs.declared.types.KitType.TheVariants as keys
-use Rattle.kit_texts.specs.Making.{each_type, MakesType, RefusesType}
+use Rattle.kit_texts.specs.Making.{each_type, MakesTypeOfKind, RefusesTypeOfKind}
 use Rattle.kit_texts.proofs.Made.{function_type_made, function_type_refused, refused_at, two_items}
 use Rattle.kit_texts.proofs.types.make_function_type.Goals as goal
 
@@ -8,17 +8,17 @@ pub returns-in_default-2-clause-refused : goal.returns-in_default-2-clause-refus
 returns-in_default-2-clause-refused g c =
     let two = two_items c.args.parts.now c.first-item.result c.second-item.result c.in-len2.len_at_least c.in-len2.len_below c.first-item.is c.second-item.is in
     let none : each_type c.in-Some.inputs.now.items ≡ None = ap each_type (sym c.deref.ensures.value) ∙ (sym c.in_ok-inputs.ensures ∙ ap (option_map (λ v. v.items)) c.in_default-2.is) in
-    refused_at (RefusesType 1 c.args.parts.now) 0 (subst (λ ps. RefusesType 1 ps 0) (sym two) (function_type_refused _ _ (inl (λ ms e. let f = c.in-Some.ensures in let same : ms ≡ c.in-Some.inputs.now = cc in ap (λ ns. each_type ns.items) same ∙ none))))
+    refused_at (RefusesTypeOfKind 1 c.args.parts.now) 0 (subst (λ ps. RefusesTypeOfKind 1 ps 0) (sym two) (function_type_refused _ _ (inl (λ ms e. let f = c.in-Some.ensures in let same : ms ≡ c.in-Some.inputs.now = cc in ap (λ ns. each_type ns.items) same ∙ none))))
 
 pub returns-in_default-3-clause-refused : goal.returns-in_default-3-clause-refused
 returns-in_default-3-clause-refused g c =
     let two = two_items c.args.parts.now c.first-item.result c.second-item.result c.in-len2.len_at_least c.in-len2.len_below c.first-item.is c.second-item.is in
     let none : each_type c.in-Some-list_in.results.now.items ≡ None = ap each_type (sym c.deref-2.ensures.value) ∙ (sym c.in_ok-results.ensures ∙ ap (option_map (λ v. v.items)) c.in_default-3.is) in
-    refused_at (RefusesType 1 c.args.parts.now) 0 (subst (λ ps. RefusesType 1 ps 0) (sym two) (function_type_refused _ _ (inr (λ ms e. let f = c.in-Some-list_in.ensures in let same : ms ≡ c.in-Some-list_in.results.now = cc in ap (λ ns. each_type ns.items) same ∙ none))))
+    refused_at (RefusesTypeOfKind 1 c.args.parts.now) 0 (subst (λ ps. RefusesTypeOfKind 1 ps 0) (sym two) (function_type_refused _ _ (inr (λ ms e. let f = c.in-Some-list_in.ensures in let same : ms ≡ c.in-Some-list_in.results.now = cc in ap (λ ns. each_type ns.items) same ∙ none))))
 
 pub returns-clause-made : goal.returns-clause-made
 returns-clause-made g c =
     let two = two_items c.args.parts.now c.first-item.result c.second-item.result c.in-len2.len_at_least c.in-len2.len_below c.first-item.is c.second-item.is in
     let inputs : each_type c.in-Some.inputs.now.items ≡ Some c.in-Some-2.inputs.items = ap each_type (sym c.deref.ensures.value) ∙ (sym c.in_ok-inputs.ensures ∙ ap (option_map (λ v. v.items)) c.in-Some-2.is) in
     let results : each_type c.in-Some-list_in.results.now.items ≡ Some c.in-Some-3.results.items = ap each_type (sym c.deref-2.ensures.value) ∙ (sym c.in_ok-results.ensures ∙ ap (option_map (λ v. v.items)) c.in-Some-3.is) in
-    subst (λ ps. MakesType 1 ps (keys.Function (record { inputs = c.in-Some-2.inputs; results = c.in-Some-3.results }))) (sym two) (function_type_made _ _ _ _ c.in-Some-2.inputs c.in-Some-3.results (sym c.in-Some.ensures) (sym c.in-Some-list_in.ensures) inputs results)
+    subst (λ ps. MakesTypeOfKind 1 ps (keys.Function (record { inputs = c.in-Some-2.inputs; results = c.in-Some-3.results }))) (sym two) (function_type_made _ _ _ _ c.in-Some-2.inputs c.in-Some-3.results (sym c.in-Some.ensures) (sym c.in-Some-list_in.ensures) inputs results)

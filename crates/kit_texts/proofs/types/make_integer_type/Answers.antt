@@ -1,5 +1,5 @@
 use Rattle.std.proofs.Common.{sym, rules}
-use Rattle.kit_texts.specs.Making.{RefusesType}
+use Rattle.kit_texts.specs.Making.{RefusesTypeOfKind}
 use Rattle.kit_texts.proofs.Made.{integer_type_made, integer_type_refused, refused_at}
 use Rattle.kit_texts.proofs.types.make_integer_type.Goals as goal
 
@@ -7,4 +7,4 @@ pub returns-clause-made : goal.returns-clause-made
 returns-clause-made g c = integer_type_made c.args.parts.now c.in-Some.integer (sym c.in-Some.ensures) (search rules)
 
 pub returns-in_default-clause-refused : goal.returns-in_default-clause-refused
-returns-in_default-clause-refused g c = refused_at (RefusesType 0 c.args.parts.now) 0 (integer_type_refused c.args.parts.now (sym c.in_default.ensures))
+returns-in_default-clause-refused g c = refused_at (RefusesTypeOfKind 0 c.args.parts.now) 0 (integer_type_refused c.args.parts.now (sym c.in_default.ensures))

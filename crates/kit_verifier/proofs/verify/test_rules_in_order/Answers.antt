@@ -1,5 +1,5 @@
 use Rattle.std.proofs.Common.{arith, ◌≡◌, ◌<◌, get_or, subst}
-use Rattle.kit_checks.specs.Searching.{IsFoundIn}
+use Rattle.kit_checks.specs.Searching.{IsFirstBreakIn}
 use Rattle.kit_checks.specs.World.{world_of}
 use Rattle.kit_checks.specs.declared.rule.Rule.{Rule}
 use Rattle.kit_checks.specs.declared.rule.Rule.TheVariants.{RootIsModule}
@@ -14,14 +14,14 @@ loop-rule-preserved g c =
     let within : c.loop-rule.rule-index < 14 = omega arith in
     let r : Rule = get_or rules_in_order c.loop-rule.rule-index RootIsModule in
     kept_more (world_of c.args.ctx.now) c.args.ctx.now.program c.args.root c.loop-rule.rule-index r (at_place c.loop-rule.rule-index RootIsModule within)
-    (subst (IsFoundIn (world_of c.args.ctx.now) c.args.ctx.now.program c.args.root r) c.in-None.is c.in_ok-place.ensures) c.loop-rule.invariant
+    (subst (IsFirstBreakIn (world_of c.args.ctx.now) c.args.ctx.now.program c.args.root r) c.in-None.is c.in_ok-place.ensures) c.loop-rule.invariant
 
 pub returns-in-Some : goal.returns-in-Some
 returns-in-Some g c t s =
     let within : c.loop-rule.rule-index < 14 = omega arith in
     let r : Rule = get_or rules_in_order c.loop-rule.rule-index RootIsModule in
     first_fault (world_of c.args.ctx.now) c.args.ctx.now.program c.args.root c.loop-rule.rule-index r c.in-Some.place (at_place c.loop-rule.rule-index RootIsModule within)
-    (subst (IsFoundIn (world_of c.args.ctx.now) c.args.ctx.now.program c.args.root r) c.in-Some.is c.in_ok-place.ensures) c.loop-rule.invariant t s
+    (subst (IsFirstBreakIn (world_of c.args.ctx.now) c.args.ctx.now.program c.args.root r) c.in-Some.is c.in_ok-place.ensures) c.loop-rule.invariant t s
 
 pub returns : goal.returns
 returns g c t s =

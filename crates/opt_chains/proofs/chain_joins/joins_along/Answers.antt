@@ -2,7 +2,7 @@ use Rattle.std.proofs.Common.{◌≡◌, ℕ, ◌<◌, true, length, Some, slice
 use Rattle.std.specs.Prelude.{◌↔◌, IfOk}
 use Rattle.std.proofs.Common.{Ok, Err, Result, Vec, Global}
 use Rattle.ir_trees.specs.Stands.{by_handle, ProgramTree, StandsFor}
-use Rattle.opt_trees.specs.Simplify.{Place}
+use Rattle.opt_trees.specs.Simplify.{StartingRegions}
 use Rattle.opt_reach.specs.Starts.{IsStartIn}
 use Rattle.opt_chains.specs.Chained.{AreChains}
 use Rattle.opt_chains.specs.declared.merging.Join.{Join}
@@ -51,7 +51,7 @@ mapped (Err e) P Q f h = h
 
 pub returns : goal.returns
 returns g c = mapped c.name_steps.result (λ (joins : Vec Join Global). AreNamedSteps g.D.Meanings.meaning c.args.program.now c.as_slice-2.result.now c.as_slice-3.result.now joins.items)
-    (λ (joins : Vec Join Global). (p : Place by_handle) → IsStartIn c.args.program.now c.args._start p → (t : ProgramTree g.row.D-Operation.Denot g.row.D-Block.Denot) → StandsFor c.args.program.now c.args.op t → AreChains g.D.Meanings.meaning p c.args.program.now t joins.items)
+    (λ (joins : Vec Join Global). (p : StartingRegions by_handle) → IsStartIn c.args.program.now c.args._start p → (t : ProgramTree g.row.D-Operation.Denot g.row.D-Block.Denot) → StandsFor c.args.program.now c.args.op t → AreChains g.D.Meanings.meaning p c.args.program.now t joins.items)
     (λ joins names p begins t stands.
     let lists : HasLists c.args.program.now = assumption c.know_lists.ensures in
     let leads = c.requires.next p begins t stands in

@@ -5,7 +5,7 @@ use Rattle.ir_trees.specs.Stands.{by_handle, ProgramTree, StandsFor}
 use Rattle.opt_inside.proofs.Around.{HasLists}
 use Rattle.opt_inside.specs.Numbered.{numbers_of}
 use Rattle.opt_solvers.specs.ChainsJoined.{AreJoined}
-use Rattle.opt_trees.specs.Simplify.{Place}
+use Rattle.opt_trees.specs.Simplify.{StartingRegions}
 use Rattle.opt_reach.specs.Starts.{IsStartIn}
 use Rattle.opt_reach.specs.declared.fates.Fate.{Fate}
 use Rattle.opt_chains.specs.Chained.{LeadsWhereJoinable}
@@ -25,7 +25,7 @@ mapped (Err e) P Q f h = h
 
 pub returns : goal.returns
 returns g c = mapped c.joined.result (λ (next : Vec (Option ℕ) Global). AreJoined c.as_slice-2.result.now next.items)
-    (λ (next : Vec (Option ℕ) Global). (p : Place by_handle) → IsStartIn c.args.program.now c.args.start p → (t : ProgramTree g.row.D-Operation.Denot g.row.D-Block.Denot) → StandsFor c.args.program.now c.args.op t → LeadsWhereJoinable g.D.Meanings.meaning p t c.args.inside.now.blocks.keys next.items)
+    (λ (next : Vec (Option ℕ) Global). (p : StartingRegions by_handle) → IsStartIn c.args.program.now c.args.start p → (t : ProgramTree g.row.D-Operation.Denot g.row.D-Block.Denot) → StandsFor c.args.program.now c.args.op t → LeadsWhereJoinable g.D.Meanings.meaning p t c.args.inside.now.blocks.keys next.items)
     (λ next joined p begins t stands.
     let lists : HasLists c.args.program.now = assumption c.know_lists.ensures in
     let occurs : Occurs c.args.program.now c.args.op t = record {

@@ -2,13 +2,13 @@ use Rattle.std.proofs.Common.{◌+◌, sym, subst, arith}
 use Rattle.std.proofs.lemmas.Option.{slice_get_within}
 use Rattle.ir_program.specs.Rows.{operands_at}
 use Rattle.opt_inside.specs.Numbered.{numbers_of}
-use Rattle.opt_dead.specs.Problems.{Keeps}
+use Rattle.opt_dead.specs.Problems.{ListsDefiners}
 use Rattle.opt_dead.proofs.Kept.{ValuesBelow, keeps_if, keeps_step, below_split, below_up, below_here}
 use Rattle.opt_dead.proofs.keeping.root_operands.Goals as goal
 
 pub loop-index-preserved : goal.loop-index-preserved
 loop-index-preserved g c =
-    subst (Keeps (numbers_of c.args.inside.now) (ValuesBelow (operands_at c.args.program.now c.args.op) (λ v. Unit {0}) (c.loop-index.index + 1))) (sym c.in_ok-push.ensures.items)
+    subst (ListsDefiners (numbers_of c.args.inside.now) (ValuesBelow (operands_at c.args.program.now c.args.op) (λ v. Unit {0}) (c.loop-index.index + 1))) (sym c.in_ok-push.ensures.items)
     (keeps_step (numbers_of c.args.inside.now) (ValuesBelow (operands_at c.args.program.now c.args.op) (λ v. Unit {0}) c.loop-index.index) (ValuesBelow (operands_at c.args.program.now c.args.op) (λ v. Unit {0}) (c.loop-index.index + 1)) (Unit {0}) c.operand.result c.loop-index.kept.items _
     (λ w h. below_split (operands_at c.args.program.now c.args.op) (λ v. Unit {0}) c.loop-index.index c.operand.result w c.operand.ensures.exact h)
     (λ w h. below_up (operands_at c.args.program.now c.args.op) (λ v. Unit {0}) c.loop-index.index w h)

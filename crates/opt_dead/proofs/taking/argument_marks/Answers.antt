@@ -4,7 +4,7 @@ use Rattle.std.proofs.lemmas.Option.{same_Some}
 use Rattle.ir_program.specs.Program.{arguments_at, value_in}
 use Rattle.ir_program.specs.declared.handles.Value.{Value}
 use Rattle.opt_inside.specs.Numbered.{numbers_of}
-use Rattle.opt_dead.specs.Taken.{IsMarked, ArgumentGoes}
+use Rattle.opt_dead.specs.Taken.{HasMarkAt, ArgumentGoes}
 use Rattle.opt_dead.proofs.Marking.{number_marked, marked_number, value_within}
 use Rattle.opt_dead.proofs.Partway.{pushed_len, marks_push}
 use Rattle.opt_dead.proofs.taking.argument_marks.Goals as goal
@@ -12,7 +12,7 @@ use Rattle.opt_dead.proofs.taking.argument_marks.Goals as goal
 pub loop-index-preserved : goal.loop-index-preserved
 loop-index-preserved g c = record {
   len = pushed_len c.loop-index.marks.items c.push.new.self.items c.is_marked.result c.loop-index.index c.in_ok-push.ensures.items c.loop-index.invariant.len;
-  goes = λ i. subst (λ xs. IsMarked xs i ↔ ((i < length xs) × ((v : Value) × (value_in (arguments_at c.args.program.now c.args.block) i ≡ Some v) × ArgumentGoes (numbers_of c.args.inside.now) c.args.arguments.now v))) (sym c.in_ok-push.ensures.items)
+  goes = λ i. subst (λ xs. HasMarkAt xs i ↔ ((i < length xs) × ((v : Value) × (value_in (arguments_at c.args.program.now c.args.block) i ≡ Some v) × ArgumentGoes (numbers_of c.args.inside.now) c.args.arguments.now v))) (sym c.in_ok-push.ensures.items)
       (marks_push (λ k. (v : Value) × (value_in (arguments_at c.args.program.now c.args.block) k ≡ Some v) × ArgumentGoes (numbers_of c.args.inside.now) c.args.arguments.now v) c.loop-index.marks.items c.is_marked.result c.loop-index.invariant.goes
       (subst (λ k. (c.is_marked.result ≡ true) ↔ ((v : Value) × (value_in (arguments_at c.args.program.now c.args.block) k ≡ Some v) × ArgumentGoes (numbers_of c.args.inside.now) c.args.arguments.now v)) (sym c.loop-index.invariant.len) (
         λ e. (c.argument.result, c.argument.ensures.value, number_marked c.args.inside.now.values.keys c.argument.result c.value_number-number.result c.args.arguments.now c.value_number-number.ensures (c.is_marked.ensures.0 e)),

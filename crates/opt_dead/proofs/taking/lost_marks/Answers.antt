@@ -2,7 +2,7 @@ use Rattle.std.proofs.Common.{◌≡◌, ◌<◌, true, length, refl, sym, ap, s
 use Rattle.std.specs.Prelude.{◌↔◌}
 use Rattle.std.proofs.lemmas.Option.{same_Some, slice_get_within}
 use Rattle.opt_solvers.specs.declared.dead_problem.Operand.{Operand}
-use Rattle.opt_dead.specs.Taken.{IsMarked, OperandGoes}
+use Rattle.opt_dead.specs.Taken.{HasMarkAt, OperandGoes}
 use Rattle.opt_dead.proofs.Partway.{pushed_len, item_at, marks_push}
 use Rattle.opt_dead.proofs.taking.lost_marks.Goals as goal
 
@@ -11,7 +11,7 @@ loop-operand-preserved c =
     let here = item_at c.args.operands.now c.args.operands.now c.loop-operand.operand-index _ refl c.loop-operand-test.true in
     record {
       len = pushed_len c.loop-operand.marks.items c.push.new.self.items c.is_marked.result c.loop-operand.operand-index c.in_ok-push.ensures.items c.loop-operand.invariant.len;
-      goes = λ i. subst (λ xs. IsMarked xs i ↔ ((i < length xs) × OperandGoes c.args.operands.now c.args.arguments.now i)) (sym c.in_ok-push.ensures.items)
+      goes = λ i. subst (λ xs. HasMarkAt xs i ↔ ((i < length xs) × OperandGoes c.args.operands.now c.args.arguments.now i)) (sym c.in_ok-push.ensures.items)
           (marks_push (OperandGoes c.args.operands.now c.args.arguments.now) c.loop-operand.marks.items c.is_marked.result c.loop-operand.invariant.goes
           (subst (λ k. (c.is_marked.result ≡ true) ↔ OperandGoes c.args.operands.now c.args.arguments.now k) (sym c.loop-operand.invariant.len) (
             λ e. let w = c.is_marked.ensures.0 e in (_, w.0, here, w.1, w.2),

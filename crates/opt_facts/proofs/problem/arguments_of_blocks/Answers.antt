@@ -1,6 +1,6 @@
 use Rattle.std.proofs.Common.{subst}
 use Rattle.opt_inside.specs.Numbered.{numbers_of}
-use Rattle.opt_facts.specs.Problem.{AreArguments, Pairs}
+use Rattle.opt_facts.specs.Problem.{AreArguments, PairsByIndex}
 use Rattle.opt_facts.proofs.Lists.{at_index, paired_next, paired_all}
 use Rattle.opt_facts.proofs.problem.arguments_of_blocks.Goals as goal
 
@@ -13,5 +13,5 @@ loop-block-preserved g c = paired_next (AreArguments c.args.program.now (numbers
 
 pub returns : goal.returns
 returns g c =
-    subst (λ keys. Pairs (AreArguments c.args.program.now (numbers_of c.args.inside.now)) keys c.loop-block.arguments.items) c.as_slice-block-items.ensures.keys
+    subst (λ keys. PairsByIndex (AreArguments c.args.program.now (numbers_of c.args.inside.now)) keys c.loop-block.arguments.items) c.as_slice-block-items.ensures.keys
     (paired_all (AreArguments c.args.program.now (numbers_of c.args.inside.now)) c.as_slice-block-items.result.now c.loop-block.arguments.items c.loop-block.block-index c.loop-block-test.false c.loop-block.invariant)

@@ -1,7 +1,7 @@
 use Rattle.opt_inside.specs.Numbered.{numbers_of}
-use Rattle.opt_facts.specs.Problem.{IsRowOf}
+use Rattle.opt_facts.specs.Problem.{IsRowOfOperation}
 use Rattle.opt_facts.proofs.Lists.{Paired}
 use Rattle.opt_facts.proofs.problem.rows_of.Given as goal
 
 abbrev pub invariant-loop-op : goal.invariant-loop-op
-invariant-loop-op g l = Paired (λ i p row. IsRowOf g.D.Meanings.meaning l.program (numbers_of l.inside) p row) l.op-items l.op-index l.rows
+invariant-loop-op g l = Paired (λ i p row. IsRowOfOperation g.D.Meanings.meaning l.program (numbers_of l.inside) p row) l.op-items l.op-index l.rows

@@ -1,5 +1,5 @@
 use Rattle.std.proofs.Common.{List, refl, sym, subst}
-use Rattle.opt_chains.specs.Chained.{IsPlan}
+use Rattle.opt_chains.specs.Chained.{IsJoiningPlan}
 use Rattle.opt_chains.specs.declared.merge_values.StandIn.{StandIn}
 use Rattle.opt_chains.specs.declared.merging.Join.{Join}
 use Rattle.opt_reach.specs.Edges.{FitsEdgesFrom}
@@ -34,8 +34,8 @@ apply_plan-requires-clause-plan g c p is t stands =
     let program = c.args.ctx.now.program in
     let found = plan_found g.D.Meanings.meaning c.program.result.now c.args.ctx.now.program c.program.ensures
     c.args.op c.args.start c.in_ok-plan.field-0 c.in_ok-plan.ensures.found c.in-Some.plan c.in-Some.is in
-    subst (λ (ss : List StandIn). IsPlan d p program t c.as_slice-2.result.now ss) (sym c.as_slice.ensures.value)
-    (subst (λ (js : List Join). IsPlan d p program t js c.in-Some.plan.stand_ins.items) (sym c.as_slice-2.ensures.value)
+    subst (λ (ss : List StandIn). IsJoiningPlan d p program t c.as_slice-2.result.now ss) (sym c.as_slice.ensures.value)
+    (subst (λ (js : List Join). IsJoiningPlan d p program t js c.in-Some.plan.stand_ins.items) (sym c.as_slice-2.ensures.value)
     (found.plan p is t stands))
 
 pub returns-clause-accepted : goal.returns-clause-accepted

@@ -1,5 +1,5 @@
 use Rattle.std.proofs.Common.{◌≡◌, inr, List, [], Ok, refl, sym, ap, ◌∙◌, subst}
-use Rattle.opt_chains.specs.Chained.{AreChains, Begins, IsPlan}
+use Rattle.opt_chains.specs.Chained.{AreChains, StartsSomewhere, IsJoiningPlan}
 use Rattle.opt_chains.specs.declared.merging.Join.{Join}
 use Rattle.opt_merge.proofs.SomeJoined.{empty_list, no_empty, none_joinable, some_joinable, begins_somewhere}
 use Rattle.opt_merge.proofs.plan.find_plan.Goals as goal
@@ -19,11 +19,11 @@ returns-in-Some-clause-found g c =
     let program = c.args.program.now in
     let js = c.in_ok-joins.joins.items in
     let some : js ≡ [] → ⊥ = no_empty js _ c.in_ok-joins.joins.ok.0 (sym c.is_empty.ensures ∙ c.if-is_empty.false) in
-    let begins : Begins program c.args.start = begins_somewhere d program c.args.op c.args.start js c.in_ok-joins.ensures.chains some c.in_ok-joins.ensures.begins in
+    let begins : StartsSomewhere program c.args.start = begins_somewhere d program c.args.op c.args.start js c.in_ok-joins.ensures.chains some c.in_ok-joins.ensures.begins in
     record {
       begins = begins;
       some = some_joinable d program c.args.op c.args.start js c.in_ok-joins.ensures.chains some begins c.know_tree.ensures;
-      plan = λ p is t stands. subst (λ (l : List Join). IsPlan d p program t l c.in-Some.stand_ins.items) c.as_slice.ensures.value (c.in_ok-found.ensures.plan c.in-Some.stand_ins (ap Ok c.in-Some.is) p is t stands);
+      plan = λ p is t stands. subst (λ (l : List Join). IsJoiningPlan d p program t l c.in-Some.stand_ins.items) c.as_slice.ensures.value (c.in_ok-found.ensures.plan c.in-Some.stand_ins (ap Ok c.in-Some.is) p is t stands);
     }
 
 pub returns-clause-refused : goal.returns-clause-refused

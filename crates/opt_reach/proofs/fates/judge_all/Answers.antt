@@ -1,6 +1,6 @@
 use Rattle.std.proofs.Common.{◌+◌, length, get_or, slice_get, ap, ◌∙◌, subst, arith}
 use Rattle.ir_program.specs.Program.{no_handle}
-use Rattle.opt_reach.specs.Fates.{IsJudged}
+use Rattle.opt_reach.specs.Fates.{IsJudgedFate}
 use Rattle.opt_inside.proofs.Around.{HasLists}
 use Rattle.opt_inside.specs.Numbered.{numbers_of}
 use Rattle.opt_reach.proofs.Lists.{at_index}
@@ -53,7 +53,7 @@ loop-number-preserved g c =
           fates_more g.D.Meanings.meaning p c.args.program.now lists c.args.op (numbers_of c.args.inside.now) c.requires.numbered t occurs c.args.start is_start c.loop-number.fates.items c.push.new.self.items _ c.is_marked-mark.result c.judge.result
           (ap (slice_get c.args.inside.now.blocks.keys) c.loop-number.invariant.len ∙ here)
           (λ under. let m = c.is_marked-mark.ensures in let r = c.requires.reached t stands c.loop-number.number _ here under in (λ h. r.0 (m.0 h), λ h. m.1 (r.1 h)))
-          (subst (λ fs. IsJudged g.D.Meanings.meaning c.args.program.now c.args.start c.args.inside.now.blocks.keys fs (get_or c.as_slice-block-items.result.now c.loop-number.number no_handle) c.is_marked-mark.result c.judge.result) c.deref.ensures.value c.judge.ensures)
+          (subst (λ fs. IsJudgedFate g.D.Meanings.meaning c.args.program.now c.args.start c.args.inside.now.blocks.keys fs (get_or c.as_slice-block-items.result.now c.loop-number.number no_handle) c.is_marked-mark.result c.judge.result) c.deref.ensures.value c.judge.ensures)
           c.in_ok-push.ensures.items (c.loop-number.invariant.fates p is_start t stands);
     }
 

@@ -2,13 +2,13 @@
 use Rattle.std.proofs.Common.{◌≡◌, Some, [], ◌∷◌, sym, ◌∙◌, subst}
 use Rattle.ir_program.specs.Program.{type_at, type_in, value_in}
 use Rattle.ir_program.specs.Definers.{values_at}
-use Rattle.opt_sccp.specs.Placed.{HasPlace, PutsAtDefiner}
+use Rattle.opt_sccp.specs.Placed.{DefinerIsPlaced, PutsAtDefiner}
 use Rattle.opt_sccp.proofs.OneConstant.{place_kept, still_live, one_put}
 use Rattle.opt_sccp.proofs.putting.put_one.Goals as goal
 
 pub put_at_definer-requires-clause-place : goal.put_at_definer-requires-clause-place
 put_at_definer-requires-clause-place g c =
-    subst (λ e. HasPlace c.new_operation.new.self.program e) (sym c.definer.ensures)
+    subst (λ e. DefinerIsPlaced c.new_operation.new.self.program e) (sym c.definer.ensures)
     (place_kept c.args.ctx.now.program c.new_operation.new.self.program c.in_ok-constant.constant c.in-Some.payload (c.constant_type-ty.result ∷ []) 0 c.in_ok-constant.ensures.built c.args.made.value.definer c.requires.place.place)
 
 pub replace_all_uses_with-requires-clause-value : goal.replace_all_uses_with-requires-clause-value

@@ -11,7 +11,7 @@ use Rattle.opt_inside.specs.Numbered.{numbers_of}
 use Rattle.opt_inside.proofs.Around.{HasLists}
 use Rattle.opt_inside.proofs.Added.{HasValues}
 use Rattle.opt_simplify.specs.Refusals.{AreUnreached}
-use Rattle.opt_simplify.specs.Removed.{is_listed, IsTakenOutside, IsWithin, TakesWithin}
+use Rattle.opt_simplify.specs.Removed.{is_listed, IsTakenOutsideBlocks, IsWithinPickedBlocks, TakesWithin}
 use Rattle.opt_simplify.proofs.RemovedKept.{cut_root}
 use Rattle.opt_simplify.proofs.RemovedLoses.{loses_use, loses_none, cut_is}
 use Rattle.opt_reach.proofs.Occurs.{Occurs}
@@ -59,8 +59,8 @@ is_taken_outside-requires-clause-all g c =
       nested = c.know_occurrences.ensures.nested t stands;
     }) c.in_ok-blocks.blocks.items c.in_ok-blocks.ensures.unreached c.in_ok-blocks.ensures.once c.in_ok-blocks.ensures.reached in
     let values : HasValues c.args.program.now = record { definer = c.know_values.ensures.definer; typed = c.know_values.ensures.typed; stands = c.know_values.ensures.stands } in
-    subst (λ (bs : List (Ptr BasicBlock)). (v : Value) → IsLiveValue c.args.program.now v → IsWithin c.args.program.now (is_listed bs) (definer_node v.definer) → Lists c.as_slice.result.now v) (sym c.deref.ensures.value)
-    (subst (λ (vs : List Value). (v : Value) → IsLiveValue c.args.program.now v → IsWithin c.args.program.now (is_listed c.in_ok-blocks.blocks.items) (definer_node v.definer) → Lists vs v) (sym c.as_slice.ensures.keys)
+    subst (λ (bs : List (Ptr BasicBlock)). (v : Value) → IsLiveValue c.args.program.now v → IsWithinPickedBlocks c.args.program.now (is_listed bs) (definer_node v.definer) → Lists c.as_slice.result.now v) (sym c.deref.ensures.value)
+    (subst (λ (vs : List Value). (v : Value) → IsLiveValue c.args.program.now v → IsWithinPickedBlocks c.args.program.now (is_listed c.in_ok-blocks.blocks.items) (definer_node v.definer) → Lists vs v) (sym c.as_slice.ensures.keys)
     (live_numbered c.args.program.now lists c.args.op (numbers_of c.in_ok-inside.inside) c.in_ok-inside.ensures values (is_listed c.in_ok-blocks.blocks.items) all.below))
 
 pub returns-clause-found : goal.returns-clause-found
@@ -112,7 +112,7 @@ returns-clause-taken g c = λ h p is_start t stands.
     } in
     let d = g.D.Meanings.meaning in
     let picks = is_listed c.in_ok-blocks.blocks.items in
-    let taken = subst (λ (bs : List (Ptr BasicBlock)). IsTakenOutside c.args.program.now (is_listed bs)) c.deref.ensures.value (c.in_ok-is_taken.ensures.taken h) in (
+    let taken = subst (λ (bs : List (Ptr BasicBlock)). IsTakenOutsideBlocks c.args.program.now (is_listed bs)) c.deref.ensures.value (c.in_ok-is_taken.ensures.taken h) in (
       cut_root picks t,
       cut_is d p c.args.program.now picks t (all.unreached p is_start t stands) (all.reached t stands),
       λ w says. loses_use c.args.program.now lists c.args.op t occurs values picks all.below d w says (numbers_of c.in_ok-inside.inside) c.in_ok-inside.ensures c.know_values.ensures.used (c.know_occurrences.ensures.defined t stands) c.know_within.ensures taken,

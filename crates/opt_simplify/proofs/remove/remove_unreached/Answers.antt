@@ -6,11 +6,11 @@ use Rattle.ir_program.specs.declared.handles.Ptr.{Ptr}
 use Rattle.ir_program.specs.declared.handles.BasicBlock.{BasicBlock}
 use Rattle.ir_trees.specs.Searched.{AreDistinct}
 use Rattle.ir_trees.specs.Stands.{by_handle, ProgramTree, StandsFor}
-use Rattle.opt_trees.specs.Simplify.{Place}
+use Rattle.opt_trees.specs.Simplify.{StartingRegions}
 use Rattle.opt_inside.proofs.Around.{HasLists}
 use Rattle.opt_reach.specs.Starts.{IsStartIn}
 use Rattle.opt_simplify.specs.Refusals.{AreUnreached, LosesNone, LosesUses}
-use Rattle.opt_simplify.specs.Removed.{is_listed, ArePickedApart, NamesWithin, ErasesPicked, TakesWithin}
+use Rattle.opt_simplify.specs.Removed.{is_listed, ArePickedApart, NamesWithin, ErasesPickedBlocks, TakesWithin}
 use Rattle.opt_simplify.proofs.RemovedEnds.{unchanged_removed, none_unreached, some_unreached, all_removed, emptied, not_emptied}
 use Rattle.opt_simplify.proofs.RemovedLocal.{edges_alike, edges_kept}
 use Rattle.opt_simplify.proofs.remove.remove_unreached.Goals as goal
@@ -54,7 +54,7 @@ returns-clause-removed g c =
     let lists : HasLists c.args.ctx.now.program = subst HasLists c.program-2.ensures lists_2 in
     let all : AreUnreached g.D.Meanings.meaning c.args.ctx.now.program c.args.op c.args.start c.in_ok-unreached.unreached.blocks.items = subst (λ p. AreUnreached g.D.Meanings.meaning p c.args.op c.args.start c.in_ok-unreached.unreached.blocks.items) c.program-4.ensures c.in_ok-unreached.ensures.found in
     all_removed g.D.Meanings.meaning c.args.ctx.now.program lists c.args.op c.args.start c.in_ok-unreached.unreached.blocks.items all c.remove_blocks.new.ctx.program
-    (subst (λ (bs : List (Ptr BasicBlock)). ErasesPicked c.args.ctx.now.program c.remove_blocks.new.ctx.program (is_listed bs)) c.deref.ensures.value c.remove_blocks.ensures.removed)
+    (subst (λ (bs : List (Ptr BasicBlock)). ErasesPickedBlocks c.args.ctx.now.program c.remove_blocks.new.ctx.program (is_listed bs)) c.deref.ensures.value c.remove_blocks.ensures.removed)
 
 pub returns-clause-unchanged : goal.returns-clause-unchanged
 returns-clause-unchanged g c =
@@ -62,7 +62,7 @@ returns-clause-unchanged g c =
     let lists : HasLists c.args.ctx.now.program = subst HasLists c.program-2.ensures lists_2 in
     let all : AreUnreached g.D.Meanings.meaning c.args.ctx.now.program c.args.op c.args.start c.in_ok-unreached.unreached.blocks.items = subst (λ p. AreUnreached g.D.Meanings.meaning p c.args.op c.args.start c.in_ok-unreached.unreached.blocks.items) c.program-4.ensures c.in_ok-unreached.ensures.found in
     let tree : (t : ProgramTree g.row.D-Operation.Denot g.row.D-Block.Denot) × StandsFor c.args.ctx.now.program c.args.op t = subst (λ p. (t : ProgramTree g.row.D-Operation.Denot g.row.D-Block.Denot) × StandsFor p c.args.op t) c.program.ensures c.know_tree.ensures in
-    let place : (p : Place by_handle) × IsStartIn c.args.ctx.now.program c.args.start p = subst (λ z. (p : Place by_handle) × IsStartIn z c.args.start p) c.program-3.ensures (c.has_start.ensures.there (cc (c.if-not-has_start.false))) in (
+    let place : (p : StartingRegions by_handle) × IsStartIn c.args.ctx.now.program c.args.start p = subst (λ z. (p : StartingRegions by_handle) × IsStartIn z c.args.start p) c.program-3.ensures (c.has_start.ensures.there (cc (c.if-not-has_start.false))) in (
       λ h. cc,
       λ none. absurd (some_unreached g.D.Meanings.meaning c.args.ctx.now.program lists c.args.op c.args.start c.in_ok-unreached.unreached.blocks.items all
           (not_emptied c.in_ok-unreached.unreached.blocks.items (vec_len c.in_ok-unreached.unreached.blocks) (search rules) c.if-is_empty.ensures) place.0 place.1 tree.0 tree.1 none),
@@ -91,4 +91,4 @@ returns-clause-edges g c =
     let lists : HasLists c.args.ctx.now.program = subst HasLists c.program-2.ensures lists_2 in
     let all : AreUnreached g.D.Meanings.meaning c.args.ctx.now.program c.args.op c.args.start c.in_ok-unreached.unreached.blocks.items = subst (λ p. AreUnreached g.D.Meanings.meaning p c.args.op c.args.start c.in_ok-unreached.unreached.blocks.items) c.program-4.ensures c.in_ok-unreached.ensures.found in
     edges_kept c.args.ctx.now.program c.remove_blocks.new.ctx.program lists c.args.op (is_listed c.in_ok-unreached.unreached.blocks.items)
-    (subst (λ (bs : List (Ptr BasicBlock)). ErasesPicked c.args.ctx.now.program c.remove_blocks.new.ctx.program (is_listed bs)) c.deref.ensures.value c.remove_blocks.ensures.removed) all.edges c.args.start g.D.Meanings.meaning c.requires.edges
+    (subst (λ (bs : List (Ptr BasicBlock)). ErasesPickedBlocks c.args.ctx.now.program c.remove_blocks.new.ctx.program (is_listed bs)) c.deref.ensures.value c.remove_blocks.ensures.removed) all.edges c.args.start g.D.Meanings.meaning c.requires.edges

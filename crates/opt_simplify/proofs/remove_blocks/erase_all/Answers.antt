@@ -2,7 +2,7 @@ use Rattle.std.proofs.Common.{get_or, IsSome, subst, sym, refl, ◌∙◌, arith
 use Rattle.std.proofs.lemmas.Option.{slice_get-get_or}
 use Rattle.ir_program.specs.Program.{no_handle, block_at}
 use Rattle.opt_inside.proofs.Around.{HasLists}
-use Rattle.opt_simplify.specs.Removed.{DecidesInside}
+use Rattle.opt_simplify.specs.Removed.{DecidesInsideBlock}
 use Rattle.opt_simplify.proofs.RemovedErased.{none_erased, apart_now, still_there, erased_next}
 use Rattle.opt_simplify.proofs.remove_blocks.erase_all.Goals as goal
 
@@ -38,7 +38,7 @@ loop-block-preserved g c =
       erased = erased_next c.args.ctx.now.program c.loop-block.ctx.program first c.args.blocks.now c.loop-block.block-index _ (slice_get-get_or c.args.blocks.now c.loop-block.block-index no_handle (omega arith)) c.loop-block.invariant.erased
           now c.erase.new.ctx.program c.requires.there
           (still_there c.args.ctx.now.program c.loop-block.ctx.program first c.args.blocks.now c.loop-block.block-index _ (slice_get-get_or c.args.blocks.now c.loop-block.block-index no_handle (omega arith)) c.loop-block.invariant.erased c.requires.once c.requires.apart c.requires.there)
-          (subst (λ p. DecidesInside p (get_or c.args.blocks.now c.loop-block.block-index no_handle)) c.program-in-loop-block-2.ensures c.know_inside.ensures) c.erase.ensures.erased;
+          (subst (λ p. DecidesInsideBlock p (get_or c.args.blocks.now c.loop-block.block-index no_handle)) c.program-in-loop-block-2.ensures c.know_inside.ensures) c.erase.ensures.erased;
       types = c.erase.ensures.types ∙ c.loop-block.invariant.types;
       numbers = c.erase.ensures.erased.counter ∙ c.loop-block.invariant.numbers;
     }

@@ -1,6 +1,6 @@
-use Rattle.opt_solvers.specs.LinkedRows.{Gains}
+use Rattle.opt_solvers.specs.LinkedRows.{RowsGain}
 use Rattle.opt_solvers.proofs.DeadNoting.{InsideOf}
 use Rattle.opt_solvers.proofs.dead_rows.inner_rows.Given as goal
 
 abbrev pub invariant-loop-number : goal.invariant-loop-number
-invariant-loop-number l = Gains (InsideOf l.problem l.number) l.initial.rows l.rows
+invariant-loop-number l = RowsGain (InsideOf l.problem l.number) l.initial.rows l.rows

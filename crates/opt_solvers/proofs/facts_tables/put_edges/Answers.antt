@@ -3,8 +3,8 @@ use Rattle.std.specs.Prelude.{Contains}
 use Rattle.std.proofs.lemmas.List.{take_all}
 use Rattle.opt_solvers.specs.OperationRows.{no_edge, row_numbered, edge_numbered}
 use Rattle.opt_solvers.specs.Facts.{arguments_of}
-use Rattle.opt_solvers.specs.LinkedRows.{Gains}
-use Rattle.opt_solvers.specs.FactsTables.{ForwardsTo, ForwardsAlong}
+use Rattle.opt_solvers.specs.LinkedRows.{RowsGain}
+use Rattle.opt_solvers.specs.FactsTables.{ForwardsToArgument, ForwardsAlong}
 use Rattle.opt_solvers.proofs.OperationLists.{row_contained, edge_contained, numbered_read}
 use Rattle.opt_solvers.proofs.FactsEntering.{row_at}
 use Rattle.opt_solvers.proofs.FactsEdging.{target_below}
@@ -35,11 +35,11 @@ loop-index-preserved c =
     let k = target_below c.args.problem.now c.args.number c.loop-index.index c.target.result c.requires.problem c.requires.in_range l c.target.ensures in
     let a : c.deref.result.now ≡ arguments_of c.args.problem.now e.target = c.deref.ensures.value ∙ (sym (row_at c.args.problem.now.arguments.items c.target.result c.index-arguments.result.now k c.index-arguments.ensures) ∙ ap (arguments_of c.args.problem.now) c.target.ensures) in
     edges_more c.args.problem.now c.args.slots.now c.loop-index.slots c.put_forwards.new.slots c.args.number r.edges r.operands c.loop-index.index e l (numbered_read r.edges c.loop-index.index no_edge l) c.loop-index.invariant
-    (subst (λ xs. Gains (λ u x. (x.row ≡ c.args.number) × (x.edge ≡ c.loop-index.index) × ForwardsTo xs e.forwards r.operands u x.argument) c.loop-index.slots c.put_forwards.new.slots) a
-    (subst (λ xs. Gains (λ u x. (x.row ≡ c.args.number) × (x.edge ≡ c.loop-index.index) × ForwardsTo c.deref.result.now xs r.operands u x.argument) c.loop-index.slots c.put_forwards.new.slots) c.forwards-forwards.ensures
-    (subst (λ xs. Gains (λ u x. (x.row ≡ c.args.number) × (x.edge ≡ c.loop-index.index) × ForwardsTo c.deref.result.now c.forwards-forwards.result.now xs u x.argument) c.loop-index.slots c.put_forwards.new.slots) c.operands-operands.ensures c.in_ok-put_forwards.ensures)))
+    (subst (λ xs. RowsGain (λ u x. (x.row ≡ c.args.number) × (x.edge ≡ c.loop-index.index) × ForwardsToArgument xs e.forwards r.operands u x.argument) c.loop-index.slots c.put_forwards.new.slots) a
+    (subst (λ xs. RowsGain (λ u x. (x.row ≡ c.args.number) × (x.edge ≡ c.loop-index.index) × ForwardsToArgument c.deref.result.now xs r.operands u x.argument) c.loop-index.slots c.put_forwards.new.slots) c.forwards-forwards.ensures
+    (subst (λ xs. RowsGain (λ u x. (x.row ≡ c.args.number) × (x.edge ≡ c.loop-index.index) × ForwardsToArgument c.deref.result.now c.forwards-forwards.result.now xs u x.argument) c.loop-index.slots c.put_forwards.new.slots) c.operands-operands.ensures c.in_ok-put_forwards.ensures)))
 
 pub returns : goal.returns
 returns c =
     let r = row_numbered c.args.problem.now.rows c.args.number in
-    subst (λ xs. Gains (λ v x. (x.row ≡ c.args.number) × ForwardsAlong c.args.problem.now xs r.operands v x.edge x.argument) c.args.slots.now c.loop-index.slots) (take_all c.loop-index.index r.edges (omega (arith, c.loop-index-test.false, c.edge_count-index-end.ensures))) c.loop-index.invariant
+    subst (λ xs. RowsGain (λ v x. (x.row ≡ c.args.number) × ForwardsAlong c.args.problem.now xs r.operands v x.edge x.argument) c.args.slots.now c.loop-index.slots) (take_all c.loop-index.index r.edges (omega (arith, c.loop-index-test.false, c.edge_count-index-end.ensures))) c.loop-index.invariant

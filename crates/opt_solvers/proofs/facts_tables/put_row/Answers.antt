@@ -1,7 +1,7 @@
 use Rattle.std.proofs.Common.{◌≡◌, Some, ◌<◌, length, sym, subst}
 use Rattle.std.specs.Prelude.{Contains, slice_get}
 use Rattle.opt_solvers.specs.OperationRows.{row_numbered}
-use Rattle.opt_solvers.specs.LinkedRows.{Gains}
+use Rattle.opt_solvers.specs.LinkedRows.{RowsGain}
 use Rattle.opt_solvers.proofs.OperationLists.{row_contained}
 use Rattle.opt_solvers.proofs.FactsTabling.{row_put}
 use Rattle.opt_solvers.proofs.facts_tables.put_row.Goals as goal
@@ -20,6 +20,6 @@ pub returns : goal.returns
 returns c =
     let r = row_numbered c.args.problem.now.rows c.args.number in
     row_put c.args.problem.now c.args.tables.now _ c.args.number r
-    (subst (λ b. Gains (λ m i. (m ≡ b) × (i ≡ c.args.number)) c.args.tables.now.rows c.put.new.table) c.block.ensures c.in_ok-put.ensures)
-    (subst (λ xs. Gains (λ v x. (x.row ≡ c.args.number) × (slice_get xs x.operand ≡ Some v)) c.args.tables.now.readers c.put_places.new.readers) c.operands.ensures c.in_ok-put_places.ensures)
+    (subst (λ b. RowsGain (λ m i. (m ≡ b) × (i ≡ c.args.number)) c.args.tables.now.rows c.put.new.table) c.block.ensures c.in_ok-put.ensures)
+    (subst (λ xs. RowsGain (λ v x. (x.row ≡ c.args.number) × (slice_get xs x.operand ≡ Some v)) c.args.tables.now.readers c.put_places.new.readers) c.operands.ensures c.in_ok-put_places.ensures)
     c.in_ok-put_edges.ensures

@@ -1,7 +1,7 @@
 use Rattle.std.proofs.Common.{◌∷◌, [], sym, subst}
 use Rattle.ir_program.specs.declared.handles.IRNode.TheVariants.{Operation as OperationNode, BasicBlock as BlockNode}
 use Rattle.text_dialect.specs.Seen.{seen}
-use Rattle.text_building.specs.Inside.{AreUnused, Erases, IsLoose, KeepsPayloadsOutside}
+use Rattle.text_building.specs.Inside.{AreUnused, ErasesNodes, IsLoose, KeepsPayloadsOutside}
 use Rattle.text_building.proofs.Stood.{HasLists, unused_apart, operation_erased, operation_outside, block_erased, block_outside}
 use Rattle.text_building.proofs.discarding.erase_thing.Goals as goal
 
@@ -15,14 +15,14 @@ pub returns-in-Operation-clause-gone : goal.returns-in-Operation-clause-gone
 returns-in-Operation-clause-gone g c =
     let lists : HasLists c.program.result.now = assumption c.know_lists.ensures in
     let now : HasLists c.args.ctx.now.program = subst HasLists c.program.ensures lists in
-    subst (λ x. Erases (seen c.args.ctx.now) (seen c.erase.new.ctx) (x ∷ [])) (sym c.in-Operation.is)
+    subst (λ x. ErasesNodes (seen c.args.ctx.now) (seen c.erase.new.ctx) (x ∷ [])) (sym c.in-Operation.is)
     (operation_erased c.args.ctx.now c.erase.new.ctx c.erase.ensures.types now c.in-Operation.op (subst (IsLoose (seen c.args.ctx.now)) c.in-Operation.is c.requires.loose) c.erase.ensures.erased)
 
 pub returns-in-BasicBlock-clause-gone : goal.returns-in-BasicBlock-clause-gone
 returns-in-BasicBlock-clause-gone g c =
     let lists : HasLists c.program.result.now = assumption c.know_lists.ensures in
     let now : HasLists c.args.ctx.now.program = subst HasLists c.program.ensures lists in
-    subst (λ x. Erases (seen c.args.ctx.now) (seen c.erase-in-BasicBlock.new.ctx) (x ∷ [])) (sym c.in-BasicBlock.is)
+    subst (λ x. ErasesNodes (seen c.args.ctx.now) (seen c.erase-in-BasicBlock.new.ctx) (x ∷ [])) (sym c.in-BasicBlock.is)
     (block_erased c.args.ctx.now c.erase-in-BasicBlock.new.ctx c.erase-in-BasicBlock.ensures.types now c.in-BasicBlock.block (subst (IsLoose (seen c.args.ctx.now)) c.in-BasicBlock.is c.requires.loose) c.erase-in-BasicBlock.ensures.erased)
 
 pub returns-in-Operation-clause-payloads : goal.returns-in-Operation-clause-payloads

@@ -1,7 +1,7 @@
 use Rattle.std.proofs.Common.{◌≡◌, Some, option_map, slice_get, length, refl, sym, ap, subst, unwrap_or, [], ◌∙◌, take, arith}
 use Rattle.std.proofs.lemmas.Option.{slice_get_read, slice_get-map}
 use Rattle.text_dialect.specs.Seen.{seen}
-use Rattle.text_building.specs.Loose.{AreLooseBlocks, AreDistinct, regions_of}
+use Rattle.text_building.specs.Loose.{AreLooseBlocks, AreDistinctHandles, regions_of}
 use Rattle.text_building.specs.Made.{FillsRegion, lists_of}
 use Rattle.text_building.proofs.Apart.{AreRegionsListed}
 use Rattle.text_building.proofs.Filled.{fills_step, next_list_loose, regions_seen, regions_distinct}
@@ -19,7 +19,7 @@ pub fill_region-requires-clause-distinct : goal.fill_region-requires-clause-dist
 fill_region-requires-clause-distinct g c =
     let read : slice_get c.args.lists.now c.loop-index.index ≡ Some c.index-lists-index.result = slice_get_read c.args.lists.now (length c.args.lists.now) c.loop-index.index c.index-lists-index.result refl (omega arith) c.index-lists-index.is in
     let here : slice_get (lists_of c.args.lists.now) c.loop-index.index ≡ Some c.index-lists-index.result.items = slice_get-map (λ xs. xs.items) c.args.lists.now c.loop-index.index ∙ ap (option_map (λ xs. xs.items)) read in
-    subst (λ bs. AreDistinct bs) (sym c.deref.ensures.value) (λ j k p a b. (c.requires.apart c.loop-index.index c.loop-index.index j k c.index-lists-index.result.items c.index-lists-index.result.items p here here a b).1)
+    subst (λ bs. AreDistinctHandles bs) (sym c.deref.ensures.value) (λ j k p a b. (c.requires.apart c.loop-index.index c.loop-index.index j k c.index-lists-index.result.items c.index-lists-index.result.items p here here a b).1)
 
 pub loop-index-preserved : goal.loop-index-preserved
 loop-index-preserved g c =
@@ -32,7 +32,7 @@ loop-index-preserved g c =
     let listed : AreRegionsListed c.program.result.now = (c.know_lists.ensures.regions, c.know_lists.ensures.regions_once) in
     let now : AreRegionsListed c.loop-index.ctx.program = subst AreRegionsListed c.program.ensures listed in
     let at : slice_get (regions_of s c.args.op) i ≡ Some c.get_region-region.result = ap (λ rs. slice_get rs i) (sym (regions_seen c.loop-index.ctx c.args.op ∙ same)) ∙ c.get_region-region.ensures.region in
-    let distinct : AreDistinct (regions_of s c.args.op) = subst (λ rs. AreDistinct rs) same (regions_distinct c.loop-index.ctx now c.args.op) in
+    let distinct : AreDistinctHandles (regions_of s c.args.op) = subst (λ rs. AreDistinctHandles rs) same (regions_distinct c.loop-index.ctx now c.args.op) in
     record {
       filled = fills_step s t (seen c.fill_region.new.ctx) (regions_of s c.args.op) (lists_of c.args.lists.now) i c.get_region-region.result c.index-lists-index.result.items c.loop-index.invariant.filled at here distinct
           (subst (λ bs. FillsRegion t (seen c.fill_region.new.ctx) c.get_region-region.result bs) c.deref.ensures.value c.fill_region.ensures.filled);

@@ -2,7 +2,7 @@ use Rattle.std.proofs.Common.{◌≡◌, ◌∙◌, ◌≤◌, ◌+◌, List, So
 use Rattle.std.proofs.lemmas.List.{take_all}
 use Rattle.ir_program.specs.declared.handles.Value.{Value}
 use Rattle.text_dialect.specs.Seen.{seen}
-use Rattle.text_building.specs.Loose.{IsDefined}
+use Rattle.text_building.specs.Loose.{IsDefinedValue}
 use Rattle.text_building.specs.Made.{LinksOperands}
 use Rattle.text_building.proofs.Later.{links_later, defined_later}
 use Rattle.text_building.proofs.Linked.{links_none}
@@ -31,7 +31,7 @@ link_operands-requires-clause-values g c =
     let same : it.0 ≡ c.in-Some.value = cc (it.2, c.in-Some.is) in
     let later = links_later s t c.args.op (take c.loop-token.token-index said.0)
     (c.loop-token.invariant.linked said.0 said.1) in
-    one_defined t c.in-Some.value (subst (λ (v : Value). IsDefined t v) same (defined_later s t later it.0 it.3))
+    one_defined t c.in-Some.value (subst (λ (v : Value). IsDefinedValue t v) same (defined_later s t later it.0 it.3))
 
 pub returns-in_err-link_operands-clause-held : goal.returns-in_err-link_operands-clause-held
 returns-in_err-link_operands-clause-held g c start xs holds new =

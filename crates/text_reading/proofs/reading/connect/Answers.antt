@@ -1,6 +1,6 @@
 use Rattle.std.proofs.Common.{sym, subst}
 use Rattle.text_dialect.specs.Seen.{seen}
-use Rattle.text_building.specs.Inside.{AreLoose, AreUsedInside, CameSince, IsOutside}
+use Rattle.text_building.specs.Inside.{AreLoose, AreUsedInside, CameSince, StartIsOutside}
 use Rattle.text_building.proofs.Discarded.{used_since}
 use Rattle.text_building.proofs.Numbers.{erased_both}
 use Rattle.text_building.proofs.Shown.{payloads_of_both, payloads_shown}
@@ -35,7 +35,7 @@ pub returns-then-is_err-clause-payloads : goal.returns-then-is_err-clause-payloa
 returns-then-is_err-clause-payloads g c = λ start mentions waiting holds.
     let held = c.link.ensures.held start mentions c.args.assembly.now.loose.items waiting holds in
     payloads_of_both start _ _ _ (payloads_shown start c.args.ctx.now c.link.new.ctx holds.came.keeps c.link.ensures.numbers.payloads)
-    (c.discard.ensures.payloads start (subst (IsOutside start (seen c.link.new.ctx)) (sym c.deref.ensures.value) held.came.old))
+    (c.discard.ensures.payloads start (subst (StartIsOutside start (seen c.link.new.ctx)) (sym c.deref.ensures.value) held.came.old))
 
 pub returns-clause-payloads : goal.returns-clause-payloads
 returns-clause-payloads g c = λ start mentions waiting holds.

@@ -1,7 +1,7 @@
 use Rattle.std.proofs.lemmas.Result.{IfOk-at_ok}
 use Rattle.std.proofs.Common.{sym, subst}
 use Rattle.text_dialect.specs.Seen.{seen}
-use Rattle.text_building.specs.Inside.{AreUsedInside, IsOutside}
+use Rattle.text_building.specs.Inside.{AreUsedInside, StartIsOutside}
 use Rattle.text_building.proofs.Discarded.{used_since}
 use Rattle.text_frames.specs.Raised.{HoldsAllNew}
 use Rattle.text_reading.proofs.reading.undo.Goals as goal
@@ -16,4 +16,4 @@ pub returns-in-Ok-clause-payloads : goal.returns-in-Ok-clause-payloads
 returns-in-Ok-clause-payloads g c = λ start holds.
     let s = seen c.args.ctx.now in
     let held = IfOk-at_ok (λ a. HoldsAllNew start s a.loose.items) c.in-Ok.is holds in
-    c.discard.ensures.payloads start (subst (IsOutside start s) (sym c.deref.ensures.value) held.came.old)
+    c.discard.ensures.payloads start (subst (StartIsOutside start s) (sym c.deref.ensures.value) held.came.old)

@@ -1,6 +1,6 @@
 use Rattle.std.proofs.Common.{[], ◌∷◌, subst}
 use Rattle.std.specs.Prelude.{MatchBool}
-use Rattle.digraph.specs.Searches.{orders, Goes, Stands}
+use Rattle.digraph.specs.Searches.{orders, Goes, RestsUnchanged}
 use Rattle.digraph.proofs.Running.{idle, enters, stands, ends}
 use Rattle.digraph.proofs.search.Search.visit.Goals as goal
 
@@ -10,5 +10,5 @@ steps-init c = enters c.args.graph.now (orders c.args.self.now) (c.args.root ∷
 
 pub returns-clause-visited : goal.returns-clause-visited
 returns-clause-visited c =
-    let s = subst (λ b. MatchBool b (Goes c.args.graph.now c.steps.self c.step.new.self) (Stands c.steps.self c.step.new.self)) c.if-branch.false c.in_ok-step.ensures in
+    let s = subst (λ b. MatchBool b (Goes c.args.graph.now c.steps.self c.step.new.self) (RestsUnchanged c.steps.self c.step.new.self)) c.if-branch.false c.in_ok-step.ensures in
     ends c.args.graph.now (orders c.args.self.now) (c.args.root ∷ []) c.step.new.self (stands c.args.graph.now (orders c.args.self.now) (c.args.root ∷ []) [] c.steps.self c.step.new.self c.steps.invariant s)

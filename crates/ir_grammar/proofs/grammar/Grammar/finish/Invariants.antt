@@ -1,5 +1,5 @@
 use Rattle.std.proofs.Common.{◌≡◌, ℕ, List}
-use Rattle.ir_grammar.specs.Table.{IsFine, IsKnown, height}
+use Rattle.ir_grammar.specs.Table.{IsFine, AreKnownSymbols, height}
 use Rattle.ir_grammar.specs.Reading.{tooks}
 use Rattle.ir_grammar.specs.Run.{Closes, IsDepth}
 use Rattle.ir_grammar.specs.Pending.{unread}
@@ -11,7 +11,7 @@ invariant-loop-symbol l = record {
       → Closes l.self root done l.fn.events.items (unread l.fn.pending)
       → Closes l.self root done l.events.items (unread l.pending);
   fine : IsFine l.self (unread l.pending);
-  known : IsKnown l.self (unread l.pending);
+  known : AreKnownSymbols l.self (unread l.pending);
   took : tooks l.events.items ≡ l.taken;
   depth : IsDepth l.deepest l.taken l.events.items l.depth;
 }

@@ -1,6 +1,6 @@
 use Rattle.std.proofs.Common.{false, ◌∷◌, ◌++◌, [], take, length, get_or, ap, not, ◌≡◌, ◌∙◌, arith, subst, ◌≤◌}
 use Rattle.std.proofs.lemmas.List.{take_more, length-take-le}
-use Rattle.ir_grammar.specs.Run.{Advances, Leads, IsDepth}
+use Rattle.ir_grammar.specs.Run.{Advances, LeadsToStack, IsDepth}
 use Rattle.ir_grammar.specs.Pending.{unread}
 use Rattle.ir_grammar.proofs.Closing.{closes_first}
 use Rattle.ir_grammar.proofs.Ends.{longest, reads_at, tooks_taken, cut}
@@ -27,7 +27,7 @@ returns-then-not-branch-clause-reads c =
     r.1 c.finish.ensures.taken c.finish.ensures.ends
 
 -- a token is taken
-taken : (c : After-is_none) → Leads c.args.self.now c.args.root (take c.loop-taken.taken c.args.kinds.now ++ get_or c.args.kinds.now c.loop-taken.taken 0 ∷ []) c.advance.new.events.items (unread c.advance.new.pending)
+taken : (c : After-is_none) → LeadsToStack c.args.self.now c.args.root (take c.loop-taken.taken c.args.kinds.now ++ get_or c.args.kinds.now c.loop-taken.taken 0 ∷ []) c.advance.new.events.items (unread c.advance.new.pending)
 taken c =
     let h = rw c.if-not-branch.false at (c.in_ok-advance.ensures.advanced c.args.root _ c.loop-taken.invariant.leads) in
     h

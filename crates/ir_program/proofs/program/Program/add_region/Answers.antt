@@ -2,7 +2,7 @@ use Rattle.std.proofs.Common.{◌≡◌, ◌<◌, ◌≤◌, ◌++◌, ◌∷◌
 use Rattle.ir_arena.specs.Arena.{get, SetsSlot, Updates, KeepsSpent}
 use Rattle.ir_entities.specs.Links.{list_at}
 use Rattle.ir_arena.proofs.Slots.{Live, live_slot}
-use Rattle.ir_entities.specs.Lists.{Lists}
+use Rattle.ir_entities.specs.Lists.{ListsView}
 use Rattle.ir_entities.specs.Forest.{Forest, shape_of}
 use Rattle.ir_program.specs.Program.{Program}
 use Rattle.ir_program.proofs.lists.There.{operation_got}
@@ -14,7 +14,7 @@ use Rattle.ir_program.proofs.made.NewRegions.{outside_bare, region-made-sound, r
 use Rattle.ir_program.proofs.program.Program.add_region.Goals as goal
 
 pub invariant_of-self : goal.invariant_of-self
-invariant_of-self g c = grown-sound (record { forest = c.self.inside.forest; values = c.self.inside.values; targets = c.self.inside.targets; counter = c.self.inside.counter }) c.new_region.new.self c.in_err-key.ensures.ops c.in_err-key.ensures.blocks c.in_err-key.ensures.err (λ i. ap (λ (l : Lists). list_at l.lists i) c.in_err-key.ensures.in_blocks) c.in_err-key.ensures.in_regions (λ i. ap (λ ls. list_at ls i) c.in_err-key.ensures.in_ops) c.self.invariant
+invariant_of-self g c = grown-sound (record { forest = c.self.inside.forest; values = c.self.inside.values; targets = c.self.inside.targets; counter = c.self.inside.counter }) c.new_region.new.self c.in_err-key.ensures.ops c.in_err-key.ensures.blocks c.in_err-key.ensures.err (λ i. ap (λ (l : ListsView). list_at l.lists i) c.in_err-key.ensures.in_blocks) c.in_err-key.ensures.in_regions (λ i. ap (λ ls. list_at ls i) c.in_err-key.ensures.in_ops) c.self.invariant
 
 pub insert_region_at_back-requires-clause-apart : goal.insert_region_at_back-requires-clause-apart
 insert_region_at_back-requires-clause-apart g c = outside_bare (shape_of c.new_region.new.self) c.in_ok-key.key.slot c.args.op.key.slot c.in_ok-key.ensures.bare

@@ -1,4 +1,4 @@
-use Rattle.ir_program.specs.Replacing.{Answers}
+use Rattle.ir_program.specs.Replacing.{MayAnswerOfUse}
 use Rattle.ir_program.specs.Spots.{operand_use}
 use Rattle.ir_program.proofs.used.Choices.{IsChoosing}
 use Rattle.ir_program.proofs.program.Program.choose_operands.Given as goal
@@ -7,4 +7,4 @@ abbrev pub invariant-loop-place : goal.invariant-loop-place
 invariant-loop-place g l =
     (goal.iterator-loop-place g).can_next l.place-iterator ×
     (goal.iterator-loop-place g).is_finite l.place-iterator ×
-    IsChoosing l.self.values l.thread (λ q. Answers g.F.Fn l.predicate l.self (operand_use l.self q)) l.place-iterator l.chosen.items
+    IsChoosing l.self.values l.thread (λ q. MayAnswerOfUse g.F.Fn l.predicate l.self (operand_use l.self q)) l.place-iterator l.chosen.items

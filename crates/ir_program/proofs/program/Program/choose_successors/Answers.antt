@@ -1,6 +1,6 @@
 use Rattle.std.proofs.Common.{ℕ, Bool, List, refl, sym, subst}
 use Rattle.ir_program.specs.Program.{Program}
-use Rattle.ir_program.specs.Replacing.{Answers}
+use Rattle.ir_program.specs.Replacing.{MayAnswerOfUse}
 use Rattle.ir_program.specs.Spots.{successor_use}
 use Rattle.ir_program.specs.declared.handles.Use.{Use}
 use Rattle.ir_program.specs.declared.handles.Ptr.{Ptr}
@@ -10,7 +10,7 @@ use Rattle.ir_program.proofs.program.Program.choose_successors.Goals as goal
 
 pub loop-place-preserved-in-Continue-1 : goal.loop-place-preserved-in-Continue-1
 loop-place-preserved-in-Continue-1 g c =
-    let answers : ℕ → Bool → Type 0 = λ q. Answers {F = g.row.F.Denot} {P = Program g.row.O.Denot g.row.B.Denot} {U = Use (Ptr BasicBlock)} g.F.Fn c.args.predicate.now c.args.self.now (successor_use c.args.self.now q) in
+    let answers : ℕ → Bool → Type 0 = λ q. MayAnswerOfUse {F = g.row.F.Denot} {P = Program g.row.O.Denot g.row.B.Denot} {U = Use (Ptr BasicBlock)} g.F.Fn c.args.predicate.now c.args.self.now (successor_use c.args.self.now q) in
     let so_far = subst (λ (rest : List ℕ). IsChoosing {K = Ptr BasicBlock} c.args.self.now.targets c.args.thread answers rest c.loop-place.chosen.items) c.in-Some.ensures.steps c.loop-place.invariant.2 in (
       tt,
       tt,

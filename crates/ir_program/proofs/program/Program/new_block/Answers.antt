@@ -1,7 +1,7 @@
 use Rattle.std.proofs.Common.{◌≡◌, Some, ap, ◌∙◌, subst}
 use Rattle.ir_entities.specs.Uses.{SetsKey}
 use Rattle.ir_entities.specs.Links.{list_at}
-use Rattle.ir_entities.specs.Lists.{Lists}
+use Rattle.ir_entities.specs.Lists.{ListsView}
 use Rattle.ir_entities.specs.Forest.{Forest}
 use Rattle.ir_program.specs.Handles.{handle}
 use Rattle.ir_arena.specs.Lends.{with_value}
@@ -12,7 +12,7 @@ use Rattle.ir_program.proofs.made.NewBlocks.{block-back-sound, block-back, block
 use Rattle.ir_program.proofs.program.Program.new_block.Goals as goal
 
 pub invariant_of-self : goal.invariant_of-self
-invariant_of-self g c = grown-sound (record { forest = c.self.inside.forest; values = c.self.inside.values; targets = c.self.inside.targets; counter = c.self.inside.counter }) c.new_block.new.self c.in_err-key.ensures.ops c.in_err-key.ensures.err c.in_err-key.ensures.regions c.in_err-key.ensures.in_blocks (λ i. ap (λ ls. list_at ls i) c.in_err-key.ensures.in_regions) (λ i. ap (λ (l : Lists). list_at l.lists i) c.in_err-key.ensures.in_ops) c.self.invariant
+invariant_of-self g c = grown-sound (record { forest = c.self.inside.forest; values = c.self.inside.values; targets = c.self.inside.targets; counter = c.self.inside.counter }) c.new_block.new.self c.in_err-key.ensures.ops c.in_err-key.ensures.err c.in_err-key.ensures.regions c.in_err-key.ensures.in_blocks (λ i. ap (λ ls. list_at ls i) c.in_err-key.ensures.in_regions) (λ i. ap (λ (l : ListsView). list_at l.lists i) c.in_err-key.ensures.in_ops) c.self.invariant
 
 pub invariant_of-self-in_default : goal.invariant_of-self-in_default
 invariant_of-self-in_default g c = rw c.in_default.ensures.err (block-back-sound (record { forest = c.self.inside.forest; values = c.self.inside.values; targets = c.self.inside.targets; counter = c.self.inside.counter }) c.free_block.new.self

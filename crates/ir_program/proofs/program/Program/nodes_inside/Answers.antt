@@ -1,7 +1,7 @@
 use Rattle.std.proofs.Common.{◌≡◌, ◌↔◌, Some, subst, sym}
 use Rattle.ir_entities.specs.declared.forest.Place.{Place}
 use Rattle.ir_entities.specs.Shape.{itself, IsInside}
-use Rattle.ir_entities.specs.Forest.{IsUsed, shape_of}
+use Rattle.ir_entities.specs.Forest.{HoldsInUse, shape_of}
 use Rattle.ir_entities.specs.Walk.{walk_of, places_from, AreOnce, IsOneOf}
 use Rattle.ir_program.specs.Program.{Program}
 use Rattle.ir_program.proofs.lists.Preorders.{place_used, in-order, are-inside, once-each, from-first}
@@ -10,8 +10,8 @@ use Rattle.ir_program.proofs.program.Program.nodes_inside.Goals as goal
 pub invariant_of-result : goal.invariant_of-result
 invariant_of-result g c x is =
     let same : c.place-place.result ≡ x = cc in
-    subst (λ p. IsUsed c.args.self.now.forest p × IsInside (shape_of c.args.self.now.forest) c.place-place.result p) same
-    (subst (IsUsed c.args.self.now.forest) (sym c.place-place.ensures) (place_used c.args.self.now c.args.outer c.requires), itself)
+    subst (λ p. HoldsInUse c.args.self.now.forest p × IsInside (shape_of c.args.self.now.forest) c.place-place.result p) same
+    (subst (HoldsInUse c.args.self.now.forest) (sym c.place-place.ensures) (place_used c.args.self.now c.args.outer c.requires), itself)
 
 pub returns-clause-list : goal.returns-clause-list
 returns-clause-list g c =

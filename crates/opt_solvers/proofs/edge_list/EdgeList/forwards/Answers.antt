@@ -1,5 +1,5 @@
 use Rattle.std.proofs.Common.{sym, ap, ◌∙◌, arith}
-use Rattle.opt_solvers.specs.OperationRows.{Edge}
+use Rattle.opt_solvers.specs.OperationRows.{BranchEdge}
 use Rattle.opt_solvers.proofs.OperationLists.{edge_at}
 use Rattle.opt_solvers.proofs.edge_list.EdgeList.forwards.Goals as goal
 
@@ -9,4 +9,4 @@ row-requires c = let h = (edge_at c.args.self.now c.self.inside.targets.items c.
 pub returns : goal.returns
 returns c =
     let e = edge_at c.args.self.now c.self.inside.targets.items c.self.inside.forwards c.args.index c.self.view_is c.requires in
-    c.row.ensures ∙ sym (ap (λ (x : Edge). x.forwards) e.1)
+    c.row.ensures ∙ sym (ap (λ (x : BranchEdge). x.forwards) e.1)

@@ -1,5 +1,5 @@
 use Rattle.std.proofs.Common.{rules, ◌≡◌, List, length, sym, ap, ◌∙◌}
-use Rattle.opt_solvers.specs.OperationRows.{Edge, edge_in}
+use Rattle.opt_solvers.specs.OperationRows.{BranchEdge, edge_in}
 use Rattle.opt_solvers.proofs.OperationLists.{numbered_len}
 use Rattle.opt_solvers.proofs.edge_list.EdgeList.len.Goals as goal
 
@@ -7,4 +7,4 @@ pub returns : goal.returns
 returns c =
     let i = c.self.inside in
     let l : c.len.result ≡ length i.targets.items = search rules in
-    l ∙ sym (numbered_len (edge_in i.targets.items i.forwards) (length i.targets.items)) ∙ ap (λ (es : List Edge). length es) c.self.view_is
+    l ∙ sym (numbered_len (edge_in i.targets.items i.forwards) (length i.targets.items)) ∙ ap (λ (es : List BranchEdge). length es) c.self.view_is

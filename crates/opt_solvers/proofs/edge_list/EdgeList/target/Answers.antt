@@ -1,7 +1,7 @@
 use Rattle.std.proofs.Common.{rules, length, refl, sym, ap, ◌∙◌}
 use Rattle.std.specs.Prelude.{unwrap_or}
 use Rattle.std.proofs.lemmas.Option.{slice_get_read}
-use Rattle.opt_solvers.specs.OperationRows.{Edge}
+use Rattle.opt_solvers.specs.OperationRows.{BranchEdge}
 use Rattle.opt_solvers.proofs.OperationLists.{edge_at}
 use Rattle.opt_solvers.proofs.edge_list.EdgeList.target.Goals as goal
 
@@ -11,4 +11,4 @@ index-requires c = let h = (edge_at c.args.self.now c.self.inside.targets.items 
 pub returns : goal.returns
 returns c =
     let e = edge_at c.args.self.now c.self.inside.targets.items c.self.inside.forwards c.args.index c.self.view_is c.requires in
-    sym (ap (λ (x : Edge). x.target) e.1 ∙ ap (λ o. unwrap_or o 0) (slice_get_read c.self.inside.targets.items (length c.self.inside.targets.items) c.args.index c.index.result.now refl e.0 c.index.ensures))
+    sym (ap (λ (x : BranchEdge). x.target) e.1 ∙ ap (λ o. unwrap_or o 0) (slice_get_read c.self.inside.targets.items (length c.self.inside.targets.items) c.args.index c.index.result.now refl e.0 c.index.ensures))

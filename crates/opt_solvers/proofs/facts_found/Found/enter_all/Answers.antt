@@ -1,7 +1,7 @@
 use Rattle.std.proofs.Common.{ℕ, ◌<◌, get_or, sym, subst, rules}
 use Rattle.std.specs.Prelude.{Contains}
 use Rattle.std.proofs.lemmas.List.{take_all}
-use Rattle.opt_solvers.specs.Facts.{Enters}
+use Rattle.opt_solvers.specs.Facts.{RunsWithAny}
 use Rattle.opt_solvers.specs.FactsFound.{Meets}
 use Rattle.std.proofs.lemmas.List.Elements.{Contains-get_or}
 use Rattle.opt_solvers.proofs.FactsEntering.{entered_more}
@@ -19,4 +19,4 @@ pub loop-block-preserved : goal.loop-block-preserved
 loop-block-preserved g c = entered_more c.args.problem.now c.args.self.now c.loop-block.self c.enter.new.self c.args.blocks.now c.loop-block.block-index (get_or c.args.blocks.now c.loop-block.block-index 0) c.loop-block-test.true (search rules) c.loop-block.invariant c.in_ok-enter.ensures
 
 pub returns : goal.returns
-returns g c = subst (λ xs. Meets (λ l. (b : ℕ) → Contains xs b → Enters c.args.problem.now l b) c.args.self.now c.loop-block.self) (take_all c.loop-block.block-index c.args.blocks.now c.loop-block-test.false) c.loop-block.invariant
+returns g c = subst (λ xs. Meets (λ l. (b : ℕ) → Contains xs b → RunsWithAny c.args.problem.now l b) c.args.self.now c.loop-block.self) (take_all c.loop-block.block-index c.args.blocks.now c.loop-block-test.false) c.loop-block.invariant

@@ -1,5 +1,5 @@
 use Rattle.std.proofs.Common.{arith, ◌+◌, ◌<◌, length, sym, ap, ◌∙◌}
-use Rattle.opt_solvers.specs.OperationRows.{Edge}
+use Rattle.opt_solvers.specs.OperationRows.{BranchEdge}
 use Rattle.opt_solvers.proofs.OperationLists.{ends_there, edge_stands}
 use Rattle.opt_solvers.proofs.operation_rows.OperationRows.forwards.Goals as goal
 
@@ -18,4 +18,4 @@ forwards-requires c = (edge_stands c.args.self.now c.self.inside.columns c.args.
 pub returns : goal.returns
 returns c =
     let e = edge_stands c.args.self.now c.self.inside.columns c.args.number c.args.edge c.start_of-start.result c.deref.result.now c.self.view_is c.self.invariant c.requires.number c.requires.edge c.deref.ensures.value c.start_of-start.ensures in
-    c.forwards.ensures ∙ sym (ap (λ (x : Edge). x.forwards) e.is)
+    c.forwards.ensures ∙ sym (ap (λ (x : BranchEdge). x.forwards) e.is)

@@ -1,6 +1,6 @@
 use Rattle.std.proofs.Common.{rules, ◌≡◌, ◌++◌, ◌∷◌, [], ℕ, List, length, sym, ap, ◌∙◌, subst, arith}
 use Rattle.std.proofs.lemmas.List.{length-append}
-use Rattle.text_frames.specs.Waiting.{Waiting, waiting_from, AreEnds}
+use Rattle.text_frames.specs.Waiting.{Waiting, waiting_from, AreRowEnds}
 use Rattle.text_frames.specs.declared.waiting.WaitingRow.{WaitingRow}
 use Rattle.text_frames.proofs.WaitingRows.{ends_more, one_more_waits}
 use Rattle.text_frames.proofs.waiting.WaitingOperands.push_reserved.Goals as goal
@@ -13,8 +13,8 @@ invariant_of-self c =
     let p : c.push_reserved.new.self.items ≡ rs ++ r ∷ [] = c.push_reserved.ensures.items in
     let n : c.len-end.result ≡ length c.extend_from_slice.new.self.items = search rules in
     let l = ap (λ (xs : List ℕ). length xs) q ∙ length-append ks c.args.tokens.now in
-    subst (λ (xs : List WaitingRow). AreEnds 0 xs (length c.extend_from_slice.new.self.items)) (sym p)
-    (subst (λ (k : ℕ). AreEnds 0 (rs ++ r ∷ []) k) n (ends_more 0 rs (length ks) r (omega (arith, n, l)) c.self.invariant))
+    subst (λ (xs : List WaitingRow). AreRowEnds 0 xs (length c.extend_from_slice.new.self.items)) (sym p)
+    (subst (λ (k : ℕ). AreRowEnds 0 (rs ++ r ∷ []) k) n (ends_more 0 rs (length ks) r (omega (arith, n, l)) c.self.invariant))
 
 pub returns : goal.returns
 returns c =
