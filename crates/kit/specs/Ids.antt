@@ -2,8 +2,6 @@
 use Rattle.std.proofs.Common.{◌≡◌, ℕ, true, List, [], ◌∷◌, Option, Some, None, refl, sym, ap, ◌∙◌, subst}
 use Rattle.std.specs.Prelude.{◌↔◌, if◌then◌else◌}
 use Rattle.std.specs.Str.{bytes_eq}
-use Rattle.kit_ops.specs.declared.kinds.Arithmetic.TheVariants as arithmetic
-use Rattle.kit_ops.specs.declared.kinds.Comparison.TheVariants as comparison
 use Rattle.kit_ops.specs.declared.kinds.KitOp.{KitOp}
 use Rattle.kit_ops.specs.declared.kinds.KitOp.TheVariants as ops
 use Rattle.kit_ops.specs.declared.types.KitTypeKind.{KitTypeKind}
@@ -17,42 +15,10 @@ use Rattle.kit_ops.specs.contracts.types.KitTypeKindEq.TheImpl.Laws as type_laws
 use Rattle.kit_ops.specs.contracts.attributes.KitAttrKindPartialEq.TheImpl as of_attributes
 use Rattle.kit_ops.specs.contracts.attributes.KitAttrKindEq.TheImpl.Laws as attribute_laws
 use Rattle.kit_ops.specs.Table.{row_of}
+use Rattle.kit_ops.specs.Named.{first_named, kind_named}
+use Rattle.kit_ops.proofs.Operators.{found}
 use Rattle.kit_ops.specs.Kinds.{op_names, type_name, type_names, attr_names}
 use Rattle.kit.specs.Same.{same_kind, same_type_kind, same_attribute_kind}
-
--- the first of the kinds that has this name
-abbrev first_named : {K : Type 0} → (K → List ℕ) → List K → List ℕ → Option K
-first_named name [] text = None
-first_named name (k ∷ ks) text = if bytes_eq (name k) text then Some k else first_named name ks text
-
--- the kind of operations with a name
-abbrev found_by : List ℕ → Option KitOp
-found_by = first_named (λ k. (row_of k).name) (
-    ops.Module ∷ ops.Func ∷ ops.Constant ∷ ops.ForwardRef
-    ∷ ops.Arithmetic arithmetic.Add ∷ ops.Arithmetic arithmetic.Sub
-    ∷ ops.Arithmetic arithmetic.Mul ∷ ops.Arithmetic arithmetic.Div
-    ∷ ops.Comparison comparison.Equal ∷ ops.Comparison comparison.NotEqual
-    ∷ ops.Comparison comparison.Less ∷ ops.Comparison comparison.LessOrEqual
-    ∷ ops.Br ∷ ops.CondBr ∷ ops.Call ∷ ops.Emit ∷ ops.Return ∷ [])
-
-found : (k : KitOp) → found_by (row_of k).name ≡ Some k
-found ops.Module = refl
-found ops.Func = refl
-found ops.Constant = refl
-found ops.ForwardRef = refl
-found (ops.Arithmetic arithmetic.Add) = refl
-found (ops.Arithmetic arithmetic.Sub) = refl
-found (ops.Arithmetic arithmetic.Mul) = refl
-found (ops.Arithmetic arithmetic.Div) = refl
-found (ops.Comparison comparison.Equal) = refl
-found (ops.Comparison comparison.NotEqual) = refl
-found (ops.Comparison comparison.Less) = refl
-found (ops.Comparison comparison.LessOrEqual) = refl
-found ops.Br = refl
-found ops.CondBr = refl
-found ops.Call = refl
-found ops.Emit = refl
-found ops.Return = refl
 
 -- the kind of types with a name
 abbrev found_type_by : List ℕ → Option KitTypeKind
@@ -86,7 +52,7 @@ one_name name find found x y e = let f : Some x ≡ Some y = sym (found x) ∙ (
 pub op_ids : (x y : KitOp) → ((op_names x ≡ op_names y) ↔ (of_kinds.eq-value.it x y ≡ true))
 op_ids x y = (
   λ e. subst (λ z. of_kinds.eq-value.it x z ≡ true)
-      (one_name (λ k. (row_of k).name) found_by found x y (ap (λ names. names.1) e)) (kind_laws.laws-law.refl x),
+      (one_name (λ k. (row_of k).name) kind_named found x y (ap (λ names. names.1) e)) (kind_laws.laws-law.refl x),
   λ e. ap op_names (same_kind x y e),
 )
 

@@ -11,35 +11,16 @@ use Rattle.kit_ops.specs.declared.attributes.IntegerAttr.{IntegerAttr}
 use Rattle.kit_ops.specs.declared.types.IntegerType.{IntegerType}
 use Rattle.kit_ops.specs.contracts.attributes.IntegerAttrPartialEq.TheImpl as of_integers
 use Rattle.kit_ops.specs.contracts.types.IntegerTypePartialEq.TheImpl as of_integer_types
-use Rattle.kit_ops.specs.declared.kinds.Arithmetic.{Arithmetic}
-use Rattle.kit_ops.specs.declared.kinds.Arithmetic.TheVariants.{Add, Sub, Mul, Div}
-use Rattle.kit_ops.specs.declared.kinds.Comparison.{Comparison}
-use Rattle.kit_ops.specs.declared.kinds.Comparison.TheVariants.{Equal, NotEqual, Less, LessOrEqual}
 use Rattle.kit_ops.specs.declared.kinds.KitOp.{KitOp}
 use Rattle.kit_ops.specs.declared.kinds.KitOp.TheVariants as ops
 use Rattle.kit_ops.specs.declared.types.KitTypeKind.{KitTypeKind}
 use Rattle.kit_ops.specs.declared.types.KitTypeKind.TheVariants as types
 use Rattle.kit_ops.specs.declared.attributes.KitAttrKind.{KitAttrKind}
 use Rattle.kit_ops.specs.declared.attributes.KitAttrKind.TheVariants as attrs
-use Rattle.kit_ops.specs.contracts.kinds.ArithmeticPartialEq.TheImpl as of_arithmetic
-use Rattle.kit_ops.specs.contracts.kinds.ComparisonPartialEq.TheImpl as of_comparisons
 use Rattle.kit_ops.specs.contracts.kinds.KitOpPartialEq.TheImpl as of_kinds
+use Rattle.kit_ops.proofs.Operators.{same_arithmetic, same_comparison}
 use Rattle.kit_ops.specs.contracts.types.KitTypeKindPartialEq.TheImpl as of_types
 use Rattle.kit_ops.specs.contracts.attributes.KitAttrKindPartialEq.TheImpl as of_attributes
-
-pub same_arithmetic : (x y : Arithmetic) → of_arithmetic.eq-value.it x y ≡ true → x ≡ y
-same_arithmetic Add Add e = refl
-same_arithmetic Sub Sub e = refl
-same_arithmetic Mul Mul e = refl
-same_arithmetic Div Div e = refl
-same_arithmetic x y e = absurd (false≢true e)
-
-pub same_comparison : (x y : Comparison) → of_comparisons.eq-value.it x y ≡ true → x ≡ y
-same_comparison Equal Equal e = refl
-same_comparison NotEqual NotEqual e = refl
-same_comparison Less Less e = refl
-same_comparison LessOrEqual LessOrEqual e = refl
-same_comparison x y e = absurd (false≢true e)
 
 pub same_kind : (x y : KitOp) → of_kinds.eq-value.it x y ≡ true → x ≡ y
 same_kind (ops.Arithmetic a) (ops.Arithmetic b) e = ap ops.Arithmetic (same_arithmetic a b e)

@@ -1,6 +1,8 @@
 -- Worked rows, by computation.
 use Rattle.std.proofs.Common.{◌≡◌, ℕ, zero, suc, Bool, true, false, [], ◌∷◌, Some, None, refl}
-use Rattle.kit_behaviour.specs.Machine.{Add, Sub, Mul, Eql, Edge, Const, Calc, Call, Plain, Nonzero, Branch, Return, Fun, State, Going, Ended, Trapped, FunctionsByPath, start, run, left_in}
+use Rattle.kit_ops.specs.declared.kinds.Arithmetic.TheVariants.{Add, Sub, Mul}
+use Rattle.kit_ops.specs.declared.kinds.Comparison.TheVariants.{Equal}
+use Rattle.kit_behaviour.specs.Machine.{Calculated, Compared, Edge, Const, Calc, Call, Plain, Nonzero, Branch, Return, Fun, State, Going, Ended, Trapped, FunctionsByPath, start, run, left_in}
 use Rattle.kit_behaviour.specs.InsertedConstants.{same_name, Made, with_constants}
 use Rattle.kit_behaviour.specs.RemovedValues.{thinned}
 use Rattle.kit_behaviour.specs.Numbering.{placed}
@@ -19,9 +21,9 @@ plain b = record { target = b; forwards = [] }
 -- n times the factorial of n - 1, by a call of itself
 abbrev factorial : Fun Place
 factorial =
-    record { arguments = Arg 0 0 ∷ []; ops = Const (Res 0 0 0) 0 ∷ Const (Res 0 1 0) 1 ∷ Calc Eql 64 (Res 0 2 0) (Arg 0 0) (Res 0 0 0) ∷ Branch Nonzero (Res 0 2 0 ∷ []) (plain 1) (plain 2 ∷ []) ∷ [] }
+    record { arguments = Arg 0 0 ∷ []; ops = Const (Res 0 0 0) 0 ∷ Const (Res 0 1 0) 1 ∷ Calc (Compared Equal) 64 (Res 0 2 0) (Arg 0 0) (Res 0 0 0) ∷ Branch Nonzero (Res 0 2 0 ∷ []) (plain 1) (plain 2 ∷ []) ∷ [] }
     ∷ record { arguments = []; ops = Return (Res 0 1 0 ∷ []) ∷ [] }
-    ∷ record { arguments = []; ops = Calc Sub 64 (Res 2 0 0) (Arg 0 0) (Res 0 1 0) ∷ Call (Res 2 1 0 ∷ []) 7 (Res 2 0 0 ∷ []) ∷ Calc Mul 64 (Res 2 2 0) (Arg 0 0) (Res 2 1 0) ∷ Return (Res 2 2 0 ∷ []) ∷ [] }
+    ∷ record { arguments = []; ops = Calc (Calculated Sub) 64 (Res 2 0 0) (Arg 0 0) (Res 0 1 0) ∷ Call (Res 2 1 0 ∷ []) 7 (Res 2 0 0 ∷ []) ∷ Calc (Calculated Mul) 64 (Res 2 2 0) (Arg 0 0) (Res 2 1 0) ∷ Return (Res 2 2 0 ∷ []) ∷ [] }
     ∷ []
 
 abbrev is_going : {V : Type 0} → State V → Bool
@@ -37,14 +39,14 @@ not_before = refl
 
 -- a known sum: its constant is put before it, and what is returned names it
 abbrev sum : Fun Place
-sum = record { arguments = []; ops = Const (Res 0 0 0) 255 ∷ Const (Res 0 1 0) 1 ∷ Calc Add 8 (Res 0 2 0) (Res 0 0 0) (Res 0 1 0) ∷ Return (Res 0 2 0 ∷ []) ∷ [] } ∷ []
+sum = record { arguments = []; ops = Const (Res 0 0 0) 255 ∷ Const (Res 0 1 0) 1 ∷ Calc (Calculated Add) 8 (Res 0 2 0) (Res 0 0 0) (Res 0 1 0) ∷ Return (Res 0 2 0 ∷ []) ∷ [] } ∷ []
 
 abbrev made : Made Place
 made (Arg b i) = None
 made (Res b (suc (suc o)) i) = Some 0
 made (Res b _ i) = None
 
-sum_after : placed (same_name same_place) (with_constants (λ path. made) (only sum)) (1 ∷ []) ≡ Some (record { arguments = []; ops = Const (Res 0 0 0) 255 ∷ Const (Res 0 1 0) 1 ∷ Const (Res 0 2 0) 0 ∷ Calc Add 8 (Res 0 3 0) (Res 0 0 0) (Res 0 1 0) ∷ Return (Res 0 2 0 ∷ []) ∷ [] } ∷ [])
+sum_after : placed (same_name same_place) (with_constants (λ path. made) (only sum)) (1 ∷ []) ≡ Some (record { arguments = []; ops = Const (Res 0 0 0) 255 ∷ Const (Res 0 1 0) 1 ∷ Const (Res 0 2 0) 0 ∷ Calc (Calculated Add) 8 (Res 0 3 0) (Res 0 0 0) (Res 0 1 0) ∷ Return (Res 0 2 0 ∷ []) ∷ [] } ∷ [])
 sum_after = refl
 
 sum_ends : run same_place (only sum) 4 (start same_place (only sum) (1 ∷ []) []) ≡ Ended (0 ∷ []) []
@@ -54,7 +56,7 @@ sum_ends = refl
 abbrev forwarding_sum : Fun Place
 forwarding_sum =
     record { arguments = []; ops = Const (Res 0 0 0) 1 ∷ Branch Plain [] (record { target = 1; forwards = Res 0 0 0 ∷ [] }) [] ∷ [] }
-    ∷ record { arguments = Arg 1 0 ∷ []; ops = Calc Add 8 (Res 1 0 0) (Arg 1 0) (Arg 1 0) ∷ Return [] ∷ [] }
+    ∷ record { arguments = Arg 1 0 ∷ []; ops = Calc (Calculated Add) 8 (Res 1 0 0) (Arg 1 0) (Arg 1 0) ∷ Return [] ∷ [] }
     ∷ []
 
 forwarding_sum_after : placed same_place (thinned (λ path v. true) (only forwarding_sum)) (1 ∷ []) ≡ Some (record { arguments = []; ops = Branch Plain [] (plain 1) [] ∷ [] } ∷ record { arguments = []; ops = Return [] ∷ [] } ∷ [])
@@ -98,8 +100,8 @@ sum_least : (l : FunctionFacts Place) → AreClosedFacts (Some sum) l → (v : P
 sum_least l c (Res zero zero zero) = (c.ops 0 c.entry_runs).0
 sum_least l c (Res zero (suc zero) zero) = (c.ops 0 c.entry_runs).1.0
 sum_least l c (Res zero (suc (suc zero)) zero) =
-    at_trans (l.of (Res 0 2 0)) (folds_to Add 8 (l.of (Res 0 0 0)) (l.of (Res 0 1 0))) (Known 0) (c.ops 0 c.entry_runs).1.1.0
-    (fold_mono Add 8 (l.of (Res 0 0 0)) (Known 255) (l.of (Res 0 1 0)) (Known 1) (c.ops 0 c.entry_runs).0 (c.ops 0 c.entry_runs).1.0)
+    at_trans (l.of (Res 0 2 0)) (folds_to (Calculated Add) 8 (l.of (Res 0 0 0)) (l.of (Res 0 1 0))) (Known 0) (c.ops 0 c.entry_runs).1.1.0
+    (fold_mono (Calculated Add) 8 (l.of (Res 0 0 0)) (Known 255) (l.of (Res 0 1 0)) (Known 1) (c.ops 0 c.entry_runs).0 (c.ops 0 c.entry_runs).1.0)
 sum_least l c (Res zero zero (suc i)) = top (l.of (Res 0 0 (suc i)))
 sum_least l c (Res zero (suc zero) (suc i)) = top (l.of (Res 0 1 (suc i)))
 sum_least l c (Res zero (suc (suc zero)) (suc i)) = top (l.of (Res 0 2 (suc i)))
@@ -115,7 +117,7 @@ sum_best = record { closed = sum_closed; best = λ l c. record { fewer = fewer l
     fewer l c (suc b) r = absurd (cc r)
 
 -- the row: the pass of these facts, and no other, gives this
-sum_is : IsSccpOfFunctions all_wanted (only sum) (λ path. Some (record { arguments = []; ops = Const (Res 0 0 0) 255 ∷ Const (Res 0 1 0) 1 ∷ Const (Res 0 2 0) 0 ∷ Calc Add 8 (Res 0 3 0) (Res 0 0 0) (Res 0 1 0) ∷ Return (Res 0 2 0 ∷ []) ∷ [] } ∷ []))
+sum_is : IsSccpOfFunctions all_wanted (only sum) (λ path. Some (record { arguments = []; ops = Const (Res 0 0 0) 255 ∷ Const (Res 0 1 0) 1 ∷ Const (Res 0 2 0) 0 ∷ Calc (Calculated Add) 8 (Res 0 3 0) (Res 0 0 0) (Res 0 1 0) ∷ Return (Res 0 2 0 ∷ []) ∷ [] } ∷ []))
 sum_is = record { facts = λ path. sum_facts; best = λ path. sum_best; is = λ path. refl }
 
 -- a loop that only passes an argument on keeps it: the least set is empty there

@@ -1,34 +1,23 @@
 -- The machine on functions of basic blocks. V is the type of the names of values: places, or handles of a store, or
 -- texts. Values are natural numbers; of an integer type of width w, those below 2 ^ w.
-use Rattle.std.specs.Prelude.{◌≡◌, ℕ, zero, suc, ◌+◌, ◌-◌, ◌*◌, ◌/◌, ◌%◌, ◌^◌, Bool, true, false, List, [], ◌∷◌, ◌++◌}
-use Rattle.std.specs.Prelude.{map, Option, Some, None, if◌then◌else◌, nat_eq, nat_lt, nat_le, length, slice_get, drop}
-use Rattle.std.specs.Prelude.{◌≤◌}
+use Rattle.std.specs.Prelude.{◌≡◌, ℕ, zero, suc, ◌*◌, ◌≤◌, Bool, List, [], ◌∷◌, ◌++◌, map, Option, Some}
+use Rattle.std.specs.Prelude.{None, if◌then◌else◌, nat_eq, length, slice_get, drop}
+use Rattle.kit_ops.specs.declared.kinds.Arithmetic.{Arithmetic}
+use Rattle.kit_ops.specs.declared.kinds.Comparison.{Comparison}
+use Rattle.kit_ops.specs.Arithmetic as numbers
+use Rattle.kit_ops.specs.Arithmetic.{compare, bit}
 
 -- 1. programs
 
 -- arithmetic and comparisons, all unsigned
 pub data Arith : Type 0 where
-  Add Sub Mul Div Eql Neq Ult Ule : Arith
-
-abbrev pub bit : Bool → ℕ
-bit true = 1
-bit false = 0
-
--- the quotient, or none where the divisor is 0
-abbrev pub quotient : ℕ → ℕ → Option ℕ
-quotient x zero = None
-quotient x (suc y) = Some (x / suc y)
+  Calculated : (a : Arithmetic) → Arith
+  Compared : (c : Comparison) → Arith
 
 -- the result at width w, or none where the operation traps
 abbrev pub calc : Arith → ℕ → ℕ → ℕ → Option ℕ
-calc Add w x y = Some ((x + y) % 2 ^ w)
-calc Sub w x y = Some ((x + 2 ^ w - y) % 2 ^ w)
-calc Mul w x y = Some ((x * y) % 2 ^ w)
-calc Div w x y = quotient x y
-calc Eql w x y = Some (bit (nat_eq x y))
-calc Neq w x y = Some (if nat_eq x y then 0 else 1)
-calc Ult w x y = Some (bit (nat_lt x y))
-calc Ule w x y = Some (bit (nat_le x y))
+calc (Calculated a) w x y = numbers.calc a w x y
+calc (Compared c) w x y = Some (bit (compare c x y))
 
 -- a successor, by its number in the function, with what the branch forwards to its arguments
 pub record Edge (V : Type 0) : Type 0 where

@@ -1,14 +1,15 @@
 -- A function without some of its values: the operations that make them, and the arguments with what is forwarded to
 -- them.
-use Rattle.std.specs.Prelude.{◌≡◌, ℕ, suc, ◌<◌, Bool, true, false, List, [], ◌∷◌, map, Option, Some, None}
+use Rattle.std.specs.Prelude.{◌≡◌, ℕ, suc, ◌<◌, Bool, false, List, [], ◌∷◌, map, Option, Some, None}
 use Rattle.std.specs.Prelude.{if◌then◌else◌}
-use Rattle.kit_behaviour.specs.Machine.{Arith, Div, AllEdges, Edge, Op, Const, Calc, Emit, Call, Branch, Return, Block}
+use Rattle.kit_ops.specs.Arithmetic.{named_arithmetic}
+use Rattle.kit_behaviour.specs.Machine.{Arith, Calculated, Compared, AllEdges, Edge, Op, Const, Calc, Emit, Call, Branch, Return, Block}
 use Rattle.kit_behaviour.specs.Machine.{Fun, FunctionsByPath, left_in, arguments_in}
 
 -- arithmetic that may trap: it is never removed
 abbrev pub may_trap : Arith → Bool
-may_trap Div = true
-may_trap _ = false
+may_trap (Calculated a) = (named_arithmetic a).has_effects
+may_trap (Compared c) = false
 
 -- the operation is removed with the set d: it has no side effects and its result is in the set
 abbrev pub goes : {V : Type 0} → (V → Bool) → Op V → Bool

@@ -8,6 +8,7 @@ use Rattle.ir_program.specs.declared.handles.Operation.{Operation}
 use Rattle.ir_program.specs.declared.handles.BasicBlock.{BasicBlock}
 use Rattle.ir_program.specs.declared.handles.Value.{Value}
 use Rattle.ir_trees.specs.Searched.{Lists}
+use Rattle.kit_ops.specs.Arithmetic.{calc, compare, bit}
 use Rattle.kit_flat.specs.Machine as machine
 use Rattle.kit_flat.specs.Machine.{Other, Code, MachineEdge, MachineFrame, MachineState, Going, Ended, Trapped, next, follow, chosen, with_result, effect, after, first_frame, on_top, returned, operations_from, rest_of, step, run, start}
 use Rattle.kit_checks.proofs.Everys.{at_index}
@@ -107,9 +108,9 @@ module _ (s : InterpretedContext) (m : Ptr Operation) (safe : (g : Ptr Operation
     goes_well : (o : KitSeen) (rest : List KitSeen)
         → GoesOn (suc f.index < length (operations_in s.program f.block)) (Lists (body_of s.program f.function)) (IsCallee s m) o → GoesWell (o ∷ rest)
     goes_well (machine.Constant r n) rest more = (tt, (next_at f (machine.bind same_value f.numbers r n) (waiting f at more), waits))
-    goes_well (machine.Calculate a w r x y) rest more = result_well r (machine.arithmetic a w (f.numbers x) (f.numbers y)) more
+    goes_well (machine.Calculate a w r x y) rest more = result_well r (calc a w (f.numbers x) (f.numbers y)) more
     goes_well (machine.Compare a r x y) rest more =
-        (tt, (next_at f (machine.bind same_value f.numbers r (machine.bit (machine.compares a (f.numbers x) (f.numbers y)))) (waiting f at more), waits))
+        (tt, (next_at f (machine.bind same_value f.numbers r (bit (compare a (f.numbers x) (f.numbers y)))) (waiting f at more), waits))
     goes_well (machine.Emit x) rest more = (tt, (next_at f f.numbers (waiting f at more), waits))
     goes_well (machine.Call rs None xs) rest none = absurd none
     goes_well (machine.Call rs (Some g) xs) rest goes = entered_on g (map f.numbers xs) (f ∷ fs) out goes.0 (waiting f at goes.1, waits)

@@ -7,7 +7,7 @@ use Rattle.ir_program.specs.declared.handles.Value.{Value}
 use Rattle.ir_trees.specs.Names.{Names, Contents}
 use Rattle.ir_trees.specs.Trees.{Head, Operations, end, operation}
 use Rattle.kit.specs.Meaning.{KitOperation, KitBlock}
-use Rattle.kit_behaviour.specs.Machine.{Arith, Add, Sub, Mul, Div, Eql, Neq, Ult, Ule, Plain, Nonzero, Cases, Op, Const}
+use Rattle.kit_behaviour.specs.Machine.{Arith, Calculated, Compared, Plain, Nonzero, Cases, Op, Const}
 use Rattle.kit_behaviour.specs.Machine.{Calc, Emit, Call, Branch, Return}
 use Rattle.kit_behaviour.specs.Rules.{is_terminator, EndsWell}
 use Rattle.kit_checks.specs.Sites.{Listed, operation_list}
@@ -17,14 +17,8 @@ use Rattle.kit_views.specs.Reading.{Reading, kit_contents}
 use Rattle.kit_ruled_views.specs.Ruled.{KitTree}
 
 goes_on : (f : Arith) → words.is_terminator (kind_of f) ≡ false
-goes_on Add = refl
-goes_on Sub = refl
-goes_on Mul = refl
-goes_on Div = refl
-goes_on Eql = refl
-goes_on Neq = refl
-goes_on Ult = refl
-goes_on Ule = refl
+goes_on (Calculated a) = refl
+goes_on (Compared c) = refl
 
 -- what ends a block in the tree ends it in the flat view
 terminators : {N : Names} {S : Contents} (r : Reading S) (names : List N.block) (h : Head N S) (op : Op N.value) →

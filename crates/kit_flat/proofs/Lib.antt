@@ -1,4 +1,3 @@
-pub mod Cuts
 pub mod Binds
 pub mod Places
 pub mod Steps

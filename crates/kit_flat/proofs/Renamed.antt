@@ -3,7 +3,12 @@ use Rattle.std.proofs.Common.{◌≡◌, ℕ, zero, suc, ◌<◌, ◌≤◌, Boo
 use Rattle.std.specs.Option.{option_map}
 use Rattle.std.proofs.lemmas.Option.{slice_get-map, slice_get_cases}
 use Rattle.std.proofs.lemmas.List.Elements.{All-head, All-tail}
-use Rattle.kit_flat.specs.Machine.{MachineOp, Code, MachineFrame, MachineState, Going, Ended, Trapped, MachineEffect, Next, Emits, Enters, Leaves, Traps, Stays, arguments_of, operations_from, rest_of, arithmetic, compares, bit, effect, after, returned, bind, bind_all, next, follow, with_result, chosen, entered, on_top, first_frame, resumed, results_of, step, run, start}
+use Rattle.kit_flat.specs.Machine.{MachineOp, Code, MachineFrame, MachineState, Going, Ended, Trapped}
+use Rattle.kit_flat.specs.Machine.{MachineEffect, Next, Emits, Enters, Leaves, Traps, Stays, arguments_of}
+use Rattle.kit_flat.specs.Machine.{operations_from, rest_of, effect, after, returned, bind, bind_all, next}
+use Rattle.kit_flat.specs.Machine.{follow, with_result, chosen, entered, on_top, first_frame, resumed}
+use Rattle.kit_flat.specs.Machine.{results_of, step, run, start}
+use Rattle.kit_ops.specs.Arithmetic.{calc, compare, bit}
 use Rattle.kit_flat.specs.declared.flat.FlatEdge.{FlatEdge}
 use Rattle.kit_flat.specs.declared.flat.Instruction.{Instruction}
 use Rattle.kit_flat.specs.declared.flat.Instruction.TheVariants.{Constant, Calculate, Compare, Emit, Call, Br, CondBr, Return}
@@ -256,16 +261,16 @@ module _ {W C G : Type 0} (same : W → W → Bool) (q : Code W C G) (names : Fl
         (effect same q g (ren (op_view x) ∷ more))
     effect_alike (Constant r k) l t = set_alike r k l
     effect_alike (Calculate a w r x y) l t =
-        let e : arithmetic a w (g.numbers (value x)) (g.numbers (value y)) ≡ arithmetic a w (f.numbers x)
-        (f.numbers y) = λ i. arithmetic a w (h.numbers x l.2 i) (h.numbers y l.3 i) in
-        subst (λ (o : Option ℕ). EffectAlike (with_result nat_eq f r (arithmetic a w (f.numbers x) (f.numbers y)))
-        (with_result same g (value r) o)) (sym e) (result_alike r l.1 (arithmetic a w (f.numbers x) (f.numbers y)))
+        let e : calc a w (g.numbers (value x)) (g.numbers (value y)) ≡ calc a w (f.numbers x)
+        (f.numbers y) = λ i. calc a w (h.numbers x l.2 i) (h.numbers y l.3 i) in
+        subst (λ (o : Option ℕ). EffectAlike (with_result nat_eq f r (calc a w (f.numbers x) (f.numbers y)))
+        (with_result same g (value r) o)) (sym e) (result_alike r l.1 (calc a w (f.numbers x) (f.numbers y)))
     effect_alike (Compare a r x y) l t =
-        let e : bit (compares a (g.numbers (value x)) (g.numbers (value y))) ≡ bit
-        (compares a (f.numbers x) (f.numbers y)) = λ i. bit (compares a (h.numbers x l.1 i) (h.numbers y l.2 i)) in
+        let e : bit (compare a (g.numbers (value x)) (g.numbers (value y))) ≡ bit
+        (compare a (f.numbers x) (f.numbers y)) = λ i. bit (compare a (h.numbers x l.1 i) (h.numbers y l.2 i)) in
         subst (λ (k : ℕ). FrameAlike (next f (bind nat_eq f.numbers r
-        (bit (compares a (f.numbers x) (f.numbers y))))) (next g (bind same g.numbers (value r) k))) (sym e)
-        (set_alike r (bit (compares a (f.numbers x) (f.numbers y))) l.0)
+        (bit (compare a (f.numbers x) (f.numbers y))))) (next g (bind same g.numbers (value r) k))) (sym e)
+        (set_alike r (bit (compare a (f.numbers x) (f.numbers y))) l.0)
     effect_alike (Emit x) l t = (h.numbers x l, next_alike f.numbers g.numbers h.numbers)
     effect_alike (Call rs k xs) l t = (refl, read xs.items l.1, l.2)
     effect_alike (Br e) l t = follow_alike e l t

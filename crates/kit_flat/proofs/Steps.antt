@@ -6,7 +6,11 @@ use Rattle.std.proofs.lemmas.List.{length-set, reverse-append}
 use Rattle.std.proofs.lemmas.List.Elements.{All-push, All-pop}
 use Rattle.kit_ops.specs.declared.kinds.Arithmetic.{Arithmetic}
 use Rattle.kit_ops.specs.declared.kinds.Comparison.{Comparison}
-use Rattle.kit_flat.specs.Machine.{MachineOp, Code, MachineFrame, MachineState, Going, Ended, Trapped, MachineEffect, Next, Stays, arguments_of, operations_from, rest_of, arithmetic, compares, bit, effect, after, returned, bind, bind_all, next, follow, with_result, chosen, first_frame, resumed, results_of, step}
+use Rattle.kit_flat.specs.Machine.{MachineOp, Code, MachineFrame, MachineState, Going, Ended, Trapped}
+use Rattle.kit_flat.specs.Machine.{MachineEffect, Next, Stays, arguments_of, operations_from, rest_of, effect}
+use Rattle.kit_flat.specs.Machine.{after, returned, bind, bind_all, next, follow, with_result, chosen}
+use Rattle.kit_flat.specs.Machine.{first_frame, resumed, results_of, step}
+use Rattle.kit_ops.specs.Arithmetic.{calc, compare, bit}
 use Rattle.kit_flat.specs.declared.flat.FlatEdge.{FlatEdge}
 use Rattle.kit_flat.specs.declared.flat.Instruction.{Instruction}
 use Rattle.kit_flat.specs.declared.flat.Instruction.TheVariants.{Constant, Calculate, Compare, Emit, Call, Br, CondBr, Return}
@@ -99,7 +103,7 @@ module _ (fs : List FlatFunction) where
     constant_turn v n at = set_turn (Constant v n) at v n refl at.fits.0
 
     pub calculate_turn : (k : Arithmetic) (w v x y n : ℕ) → Fetched fs r.top (Some (Calculate k w v x y))
-        → arithmetic k w (get_or r.top.values.items x 0) (get_or r.top.values.items y 0) ≡ Some n → (t : Running)
+        → calc k w (get_or r.top.values.items x 0) (get_or r.top.values.items y 0) ≡ Some n → (t : Running)
         → t.top.function ≡ r.top.function → t.top.block ≡ r.top.block → t.top.index ≡ r.top.index + 1
         → t.top.values.items ≡ set r.top.values.items v n → t.waiting.items ≡ r.waiting.items
         → t.emissions.items ≡ r.emissions.items → TurnShows fs S t On
@@ -107,13 +111,13 @@ module _ (fs : List FlatFunction) where
         (ap (with_result nat_eq (frame_view r.top) v) e) at.fits.0.1
 
     pub calculate_fault : (k : Arithmetic) (w v x y : ℕ) → Fetched fs r.top (Some (Calculate k w v x y))
-        → arithmetic k w (get_or r.top.values.items x 0) (get_or r.top.values.items y 0) ≡ None
+        → calc k w (get_or r.top.values.items x 0) (get_or r.top.values.items y 0) ≡ None
         → S ≡ Trapped r.emissions.items
     calculate_fault k w v x y at e = step_at (Calculate k w v x y) at
         ∙ ap (λ o. then (with_result nat_eq (frame_view r.top) v o)) e
 
     pub compare_turn : (k : Comparison) (v x y n : ℕ) → Fetched fs r.top (Some (Compare k v x y))
-        → bit (compares k (get_or r.top.values.items x 0) (get_or r.top.values.items y 0)) ≡ n → (t : Running)
+        → bit (compare k (get_or r.top.values.items x 0) (get_or r.top.values.items y 0)) ≡ n → (t : Running)
         → t.top.function ≡ r.top.function → t.top.block ≡ r.top.block → t.top.index ≡ r.top.index + 1
         → t.top.values.items ≡ set r.top.values.items v n → t.waiting.items ≡ r.waiting.items
         → t.emissions.items ≡ r.emissions.items → TurnShows fs S t On

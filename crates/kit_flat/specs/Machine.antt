@@ -1,38 +1,11 @@
 -- The machine of kit, on functions of basic blocks. V is the type of the names of values, B of blocks and F of
 -- functions: the handles of a context, or the
 -- numbers of a flat form.
-use Rattle.std.specs.Prelude.{ℕ, zero, suc, ◌+◌, ◌-◌, ◌*◌, ◌/◌, ◌%◌, ◌^◌, Bool, true, false, not, List, [], ◌∷◌, ◌++◌, map, drop, Option, Some, None, if◌then◌else◌, nat_eq, nat_lt, nat_le, option_map}
+use Rattle.std.specs.Prelude.{ℕ, zero, suc, Bool, List, [], ◌∷◌, ◌++◌, map, drop, Option, Some, None}
+use Rattle.std.specs.Prelude.{if◌then◌else◌, option_map}
 use Rattle.kit_ops.specs.declared.kinds.Arithmetic.{Arithmetic}
-use Rattle.kit_ops.specs.declared.kinds.Arithmetic.TheVariants.{Add, Sub, Mul, Div}
 use Rattle.kit_ops.specs.declared.kinds.Comparison.{Comparison}
-use Rattle.kit_ops.specs.declared.kinds.Comparison.TheVariants.{Equal, NotEqual, Less, LessOrEqual}
-
--- ---- numbers
-
--- the unsigned quotient; a zero divisor traps
-abbrev pub quotient : ℕ → ℕ → Option ℕ
-quotient x zero = None
-quotient x (suc y) = Some (x / suc y)
-
--- the result of arithmetic on numbers of w bits, or none where it traps. A difference is taken modulo 2 ^ w, so a
--- negative one wraps
-abbrev pub arithmetic : Arithmetic → ℕ → ℕ → ℕ → Option ℕ
-arithmetic Add w x y = Some ((x + y) % 2 ^ w)
-arithmetic Sub w x y = Some ((x + (2 ^ w - y % 2 ^ w)) % 2 ^ w)
-arithmetic Mul w x y = Some (x * y % 2 ^ w)
-arithmetic Div w x y = quotient x y
-
--- whether two unsigned numbers compare so
-abbrev pub compares : Comparison → ℕ → ℕ → Bool
-compares Equal x y = nat_eq x y
-compares NotEqual x y = not (nat_eq x y)
-compares Less x y = nat_lt x y
-compares LessOrEqual x y = nat_le x y
-
--- a truth value as a number of one bit
-abbrev pub bit : Bool → ℕ
-bit true = 1
-bit false = 0
+use Rattle.kit_ops.specs.Arithmetic.{calc, compare, bit}
 
 -- ---- functions
 
@@ -150,9 +123,9 @@ called (Some g) xs = Enters g xs
 abbrev pub effect : {V B F : Type 0} → (V → V → Bool) → Code V B F → MachineFrame V B F → List (MachineOp V B F) → MachineEffect V B F
 effect same code f [] = Stays
 effect same code f (Constant r n ∷ rest) = Next (next f (bind same f.numbers r n))
-effect same code f (Calculate a w r x y ∷ rest) = with_result same f r (arithmetic a w (f.numbers x) (f.numbers y))
+effect same code f (Calculate a w r x y ∷ rest) = with_result same f r (calc a w (f.numbers x) (f.numbers y))
 effect same code f (Compare a r x y ∷ rest) = Next
-    (next f (bind same f.numbers r (bit (compares a (f.numbers x) (f.numbers y)))))
+    (next f (bind same f.numbers r (bit (compare a (f.numbers x) (f.numbers y)))))
 effect same code f (Emit x ∷ rest) = Emits (f.numbers x) (next f f.numbers)
 effect same code f (Call rs callee xs ∷ rest) = called callee (map f.numbers xs)
 effect same code f (Br e ∷ rest) = Next (follow same code f e)

@@ -7,7 +7,6 @@ ghost use Rattle.kit_flat.specs.Shows.{TurnShows, FollowsEdge, OutcomeShows};
 
 use crate::flat::{FlatEdge, FlatFunction, FlatModule, Instruction};
 use crate::frames::{FlatFrame, bind_list, gather};
-use crate::numbers::{arithmetic, comparison};
 use crate::outcome::Outcome;
 use std::alloc::{AllocError, Global};
 use std::mem;
@@ -158,8 +157,7 @@ impl Running {
                 left,
                 right,
             } => {
-                match arithmetic(
-                    *function,
+                match function.calculate(
                     *width,
                     self.top.values[*left],
                     self.top.values[*right],
@@ -178,11 +176,8 @@ impl Running {
                 left,
                 right,
             } => {
-                self.top.values[*result] = comparison(
-                    *function,
-                    self.top.values[*left],
-                    self.top.values[*right],
-                );
+                self.top.values[*result] =
+                    function.bit(self.top.values[*left], self.top.values[*right]);
                 self.top.index += 1;
                 Ok(Turn::On)
             }

@@ -6,12 +6,10 @@ mod flat;
 mod forming;
 mod frames;
 mod interpreter;
-mod numbers;
 mod outcome;
 
 pub use checking::is_sound;
 pub use flat::{FlatBlock, FlatEdge, FlatFunction, FlatModule, Instruction};
 pub use forming::{FlatForm, instruction};
 pub use interpreter::interpret;
-pub use numbers::{arithmetic, comparison};
 pub use outcome::Outcome;

@@ -14,7 +14,7 @@ use Rattle.ir_trees.proofs.Members.{at_has, has_at, has_front, has_back, has_eit
 use Rattle.opt_trees.specs.Occurrences.{Has}
 use Rattle.kit_ops.specs.declared.types.KitType.{KitType}
 use Rattle.kit.specs.Meaning.{KitOperation, KitBlock}
-use Rattle.kit_behaviour.specs.Machine.{Add, Sub, Mul, Div, Eql, Neq, Ult, Ule, Plain, Nonzero, Cases, Op, Const, Calc}
+use Rattle.kit_behaviour.specs.Machine.{Calculated, Compared, Plain, Nonzero, Cases, Op, Const, Calc}
 use Rattle.kit_behaviour.specs.Machine.{Arith, Emit, Call, Branch, Return, Block, Fun, ops_left, arguments_in}
 use Rattle.kit_behaviour.specs.Machine.{arguments_of}
 use Rattle.kit_behaviour.specs.Rules.{operands, is_terminator, EndsWell}
@@ -80,14 +80,8 @@ module _ (leads : TypeHandle → Option KitType) (numbered : List ℕ → ℕ) (
   Is h op = IsOp r names h op
 
   calc_ends : (a : Arith) → words.is_terminator (kind_of a) ≡ false
-  calc_ends Add = refl
-  calc_ends Sub = refl
-  calc_ends Mul = refl
-  calc_ends Div = refl
-  calc_ends Eql = refl
-  calc_ends Neq = refl
-  calc_ends Ult = refl
-  calc_ends Ule = refl
+  calc_ends (Calculated a) = refl
+  calc_ends (Compared c) = refl
 
   -- a terminator is one in the flat view
   ends_same : (h : ProgramHead KitOperation KitBlock) (op : Op Value) → Is h op →

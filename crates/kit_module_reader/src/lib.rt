@@ -10,5 +10,6 @@ mod words;
 mod writing;
 
 pub use reading::{ReadModule, read};
+pub use typing::write_number;
 pub use unread::Unread;
 pub use writing::written;

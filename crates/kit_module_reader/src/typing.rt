@@ -8,7 +8,7 @@ use std::alloc::AllocError;
 use std::fmt::{Display, Write};
 
 /// Writes a number behind a word.
-pub(crate) fn write_number<N: Display + Drop>(
+pub fn write_number<N: Display + Drop>(
     text: &mut String,
     word: &str,
     number: N,

@@ -1,4 +1,5 @@
 pub mod Arithmetic
 pub mod Keys
 pub mod Kinds
+pub mod Named
 pub mod Table

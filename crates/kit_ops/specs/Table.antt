@@ -4,15 +4,12 @@ use Rattle.std.specs.List.{list_any}
 use Rattle.ir_names.specs.declared.interfaces.OpInterface.{OpInterface}
 use Rattle.ir_names.specs.declared.interfaces.OpInterface.TheVariants as op
 use Rattle.ir_names.specs.contracts.interfaces.OpInterfacePartialEq.TheImpl as of_interfaces
-use Rattle.kit_ops.specs.declared.kinds.Arithmetic.{Arithmetic}
-use Rattle.kit_ops.specs.declared.kinds.Arithmetic.TheVariants as arithmetic
-use Rattle.kit_ops.specs.declared.kinds.Comparison.{Comparison}
-use Rattle.kit_ops.specs.declared.kinds.Comparison.TheVariants as comparison
 use Rattle.kit_ops.specs.declared.kinds.KitOp.{KitOp}
 use Rattle.kit_ops.specs.declared.kinds.KitOp.TheVariants as ops
 use Rattle.kit_ops.specs.declared.table.Count.{Count}
 use Rattle.kit_ops.specs.declared.table.Count.TheVariants.{Exactly, Any}
 use Rattle.kit_ops.specs.declared.table.Row.{Row}
+use Rattle.kit_ops.specs.Arithmetic.{NameAndEffects, named_arithmetic, comparison_name}
 use Rattle.kit_ops.specs.Keys.{symbol_name, function_type, constant_value, segment_sizes, callee, callee_type}
 
 -- what a kind is: its dialect and its own name, how many results, operands, successors and regions its operations
@@ -28,25 +25,6 @@ pub record KindRow : Type 0 where
   pub keys : List (List ℕ)
   pub interfaces : List OpInterface
   pub has_effects : Bool
-
--- what the operations of arithmetic differ in: their names, and whether they do more than give their results
-pub record NameAndEffects : Type 0 where
-  pub name : List ℕ
-  pub has_effects : Bool
-
--- a division by zero traps, so no division may be left out
-abbrev pub named_arithmetic : Arithmetic → NameAndEffects
-named_arithmetic arithmetic.Add = record { name = codes "add"; has_effects = false }
-named_arithmetic arithmetic.Sub = record { name = codes "sub"; has_effects = false }
-named_arithmetic arithmetic.Mul = record { name = codes "mul"; has_effects = false }
-named_arithmetic arithmetic.Div = record { name = codes "div"; has_effects = true }
-
--- the names of comparisons; `u` says that numbers are compared without a sign
-abbrev pub comparison_name : Comparison → List ℕ
-comparison_name comparison.Equal = codes "eq"
-comparison_name comparison.NotEqual = codes "ne"
-comparison_name comparison.Less = codes "ult"
-comparison_name comparison.LessOrEqual = codes "ule"
 
 -- the row of the operations of arithmetic: two operands and one result, all of one type
 abbrev pub arithmetic_row : NameAndEffects → KindRow

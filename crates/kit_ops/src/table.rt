@@ -1,10 +1,9 @@
 //! What each kind of operations is: one row a kind.
 ghost use Rattle.std.specs.Prelude.{◌≡◌};
-ghost use Rattle.kit_ops.specs.Table.{arithmetic_row, comparison_row, named_arithmetic, comparison_name};
-ghost use Rattle.kit_ops.specs.Table.{row_of, said_by, has_interface};
+ghost use Rattle.kit_ops.specs.Table.{arithmetic_row, comparison_row, row_of, said_by, has_interface};
 
 use crate::attributes::keys;
-use crate::kinds::{Arithmetic, Comparison, KitOp};
+use crate::kinds::KitOp;
 use ir_names::OpInterface;
 
 /// How many results or operands an operation of a kind has.
@@ -203,7 +202,7 @@ const COMPARISON: &[OpInterface] = &[
 ];
 
 /// The row of an operation of arithmetic.
-fn arithmetic(name: &'static str, has_effects: bool) -> Row
+pub(crate) fn arithmetic(name: &'static str, has_effects: bool) -> Row
     ensures { said_by result ≡ arithmetic_row (record { name = name.now; has_effects = has_effects }) }
 {
     Row {
@@ -220,7 +219,7 @@ fn arithmetic(name: &'static str, has_effects: bool) -> Row
 }
 
 /// The row of a comparison.
-fn comparison(name: &'static str) -> Row
+pub(crate) fn comparison(name: &'static str) -> Row
     ensures { said_by result ≡ comparison_row name.now }
 {
     Row {
@@ -233,34 +232,6 @@ fn comparison(name: &'static str) -> Row
         keys: NO_KEYS,
         interfaces: COMPARISON,
         has_effects: false,
-    }
-}
-
-impl Arithmetic {
-    /// Its row.
-    pub fn row(self) -> Row
-        ensures { said_by result ≡ arithmetic_row (named_arithmetic self) }
-    {
-        match self {
-            Arithmetic::Add => arithmetic("add", false),
-            Arithmetic::Sub => arithmetic("sub", false),
-            Arithmetic::Mul => arithmetic("mul", false),
-            Arithmetic::Div => arithmetic("div", true),
-        }
-    }
-}
-
-impl Comparison {
-    /// Its row.
-    pub fn row(self) -> Row
-        ensures { said_by result ≡ comparison_row (comparison_name self) }
-    {
-        match self {
-            Comparison::Equal => comparison("eq"),
-            Comparison::NotEqual => comparison("ne"),
-            Comparison::Less => comparison("ult"),
-            Comparison::LessOrEqual => comparison("ule"),
-        }
     }
 }
 

@@ -12,7 +12,7 @@ use Rattle.kit_checks.specs.Words as words
 use Rattle.kit_ops.specs.Arithmetic.{calc, compare}
 use Rattle.kit_ops.specs.declared.attributes.IntegerAttr.{IntegerAttr}
 use Rattle.kit_ops.specs.declared.kinds.Arithmetic.{Arithmetic}
-use Rattle.kit_ops.specs.declared.kinds.Arithmetic.TheVariants as arithmetic
+use Rattle.kit_ops.proofs.Operators.{calc_below}
 use Rattle.kit_ops.specs.declared.kinds.Comparison.{Comparison}
 use Rattle.kit_ops.specs.declared.types.IntegerType.{IntegerType}
 use Rattle.kit_ops.specs.declared.types.KitType.{KitType}
@@ -58,17 +58,6 @@ module _ (leads : TypeHandle → Option KitType) where
           record { is = z; type = sym (ap (λ (x : IntegerAttr). x.ty) same) ∙ (λ i. record { number = number i }) }
       step false q z = absurd (none_some b z)
 
-  -- what arithmetic makes of a number below the power of the width is below it
-  calc_small : (k : Arithmetic) (w x y n : ℕ) → x < 2 ^ w → calc k w x y ≡ Some n → n < 2 ^ w
-  calc_small arithmetic.Add w x y n h e = subst (λ z. z < 2 ^ w) (some_same ((x + y) % 2 ^ w) n e) (mod-lt (x + y) (pow_pos w))
-  calc_small arithmetic.Sub w x y n h e = subst (λ z. z < 2 ^ w) (some_same ((x + (2 ^ 64 - y)) % 2 ^ w) n e) (mod-lt (x + (2 ^ 64 - y)) (pow_pos w))
-  calc_small arithmetic.Mul w x y n h e = subst (λ z. z < 2 ^ w) (some_same ((x * y) % 2 ^ w) n e) (mod-lt (x * y) (pow_pos w))
-  calc_small arithmetic.Div w x y n h e = step (nat_eq y 0) e
-    where
-      step : (c : Bool) → (if c then None else Some (x / y)) ≡ Some n → n < 2 ^ w
-      step true z = absurd (none_some n z)
-      step false z = let q : x / y ≡ n = some_same (x / y) n z in let d : x / y ≤ x = div-le_self x y in omega (arith, q, d, h)
-
   pub calculated_right : (k : Arithmetic) (p q b : IntegerAttr) (tx ty : TypeHandle) → Right tx p → b.ty ≡ ty → calculated k p q ≡ Some b → Right ty b
   calculated_right k p q b tx ty right type e = outer (are_numbers p q) e
     where
@@ -80,7 +69,7 @@ module _ (leads : TypeHandle → Option KitType) where
           record {
             type = type;
             integer = sym (ap (λ (x : IntegerAttr). x.integer) same) ∙ (right.integer ∙ ap (λ z. integer_of (leads z)) (sym same_type));
-            in_range = subst (λ (x : IntegerAttr). x.bits < 2 ^ x.integer.width) same (calc_small k p.integer.width p.bits q.bits n right.in_range c);
+            in_range = subst (λ (x : IntegerAttr). x.bits < 2 ^ x.integer.width) same (calc_below k p.integer.width p.bits q.bits n right.in_range c);
           }
 
       outer : (c : Bool) → (if c then with_bits p (calc k p.integer.width p.bits q.bits) else None) ≡ Some b → Right ty b

@@ -20,9 +20,7 @@ use Rattle.kit_ops.specs.Keys as keys
 use Rattle.kit_ops.specs.declared.attributes.KitAttr.{KitAttr}
 use Rattle.kit_ops.specs.declared.attributes.KitAttr.TheVariants as attrs
 use Rattle.kit_ops.specs.declared.kinds.Arithmetic.{Arithmetic}
-use Rattle.kit_ops.specs.declared.kinds.Arithmetic.TheVariants as arithmetic
 use Rattle.kit_ops.specs.declared.kinds.Comparison.{Comparison}
-use Rattle.kit_ops.specs.declared.kinds.Comparison.TheVariants as comparison
 use Rattle.kit_ops.specs.declared.kinds.KitOp.{KitOp}
 use Rattle.kit_ops.specs.declared.kinds.KitOp.TheVariants as ops
 use Rattle.kit_ops.specs.declared.types.KitType.{KitType}
@@ -220,14 +218,8 @@ module _ (s : InterpretedContext) (m q : Ptr Operation) (u : ExecutedTree) (stan
     op_seen (flat.Const v n) is =
         by_kind ops.Constant (v ∷ []) [] [] (machine.Constant v n) is.0
         (const_seen (tree_attribute u keys.constant_value) v n is.1)
-    op_seen (flat.Calc flat.Add w v x y) is = calculation arithmetic.Add w v x y is.0 is.1
-    op_seen (flat.Calc flat.Sub w v x y) is = calculation arithmetic.Sub w v x y is.0 is.1
-    op_seen (flat.Calc flat.Mul w v x y) is = calculation arithmetic.Mul w v x y is.0 is.1
-    op_seen (flat.Calc flat.Div w v x y) is = calculation arithmetic.Div w v x y is.0 is.1
-    op_seen (flat.Calc flat.Eql w v x y) is = comparison_seen comparison.Equal v x y is.0
-    op_seen (flat.Calc flat.Neq w v x y) is = comparison_seen comparison.NotEqual v x y is.0
-    op_seen (flat.Calc flat.Ult w v x y) is = comparison_seen comparison.Less v x y is.0
-    op_seen (flat.Calc flat.Ule w v x y) is = comparison_seen comparison.LessOrEqual v x y is.0
+    op_seen (flat.Calc (flat.Calculated a) w v x y) is = calculation a w v x y is.0 is.1
+    op_seen (flat.Calc (flat.Compared c) w v x y) is = comparison_seen c v x y is.0
     op_seen (flat.Emit x) is = kind_is ops.Emit [] (x ∷ []) [] is
     op_seen (flat.Call rs c xs) is =
         by_kind ops.Call rs xs [] (machine.Call rs (named c) xs) is.0

@@ -4,7 +4,4 @@ pub mod FlatOperations
 pub mod FlatBlocks
 pub mod Paths
 pub mod Outcomes
-pub mod FittingNumbers
-pub mod FunctionWidths
-pub mod ModuleWidths
 pub mod Programs

@@ -1,8 +1,6 @@
 -- A module of a context and a program whose functions are seen alike make the same steps.
-use Rattle.std.proofs.Common.{◌≡◌, ℕ, zero, suc, ◌+◌, ◌-◌, ◌<◌, ◌^◌, ◌%◌, Bool, true, false, not, List, [], ◌∷◌, ◌++◌}
-use Rattle.std.proofs.Common.{map, length, Option, Some, None, option_map, slice_get, nat_eq, refl, sym, ap, ◌∙◌, subst}
-use Rattle.std.proofs.Common.{arith, if◌then◌else◌}
-use Rattle.std.proofs.Math.Nat.{mod-eq_of_lt}
+use Rattle.std.proofs.Common.{◌≡◌, ℕ, zero, suc, ◌<◌, List, [], ◌∷◌, ◌++◌, map, length, Option, Some, None}
+use Rattle.std.proofs.Common.{option_map, slice_get, refl, sym, ap, ◌∙◌, subst, arith}
 use Rattle.std.proofs.lemmas.Option.{slice_get-get_or}
 use Rattle.ir_program.specs.Program.{no_handle}
 use Rattle.ir_program.specs.Replacing.{same_value}
@@ -10,8 +8,7 @@ use Rattle.ir_program.specs.declared.handles.Ptr.{Ptr}
 use Rattle.ir_program.specs.declared.handles.Operation.{Operation}
 use Rattle.ir_program.specs.declared.handles.BasicBlock.{BasicBlock}
 use Rattle.ir_program.specs.declared.handles.Value.{Value}
-use Rattle.kit_ops.specs.declared.kinds.Arithmetic.TheVariants as arithmetic
-use Rattle.kit_ops.specs.declared.kinds.Comparison.TheVariants as comparison
+use Rattle.kit_ops.specs.Arithmetic.{calc, compare, bit}
 use Rattle.kit_behaviour.specs.Machine as flat
 use Rattle.kit_behaviour.specs.Rules.{EdgeFits, AllEdgesFit}
 use Rattle.kit_execution.specs.Moving.{HasExecuted, Moves}
@@ -42,14 +39,8 @@ module _ (blocks : List (Ptr BasicBlock)) (named : Names) where
 
   abbrev pub seen : FlatOp → SeenOp
   seen (flat.Const r n) = machine.Constant r n
-  seen (flat.Calc flat.Add w r x y) = machine.Calculate arithmetic.Add w r x y
-  seen (flat.Calc flat.Sub w r x y) = machine.Calculate arithmetic.Sub w r x y
-  seen (flat.Calc flat.Mul w r x y) = machine.Calculate arithmetic.Mul w r x y
-  seen (flat.Calc flat.Div w r x y) = machine.Calculate arithmetic.Div w r x y
-  seen (flat.Calc flat.Eql w r x y) = machine.Compare comparison.Equal r x y
-  seen (flat.Calc flat.Neq w r x y) = machine.Compare comparison.NotEqual r x y
-  seen (flat.Calc flat.Ult w r x y) = machine.Compare comparison.Less r x y
-  seen (flat.Calc flat.Ule w r x y) = machine.Compare comparison.LessOrEqual r x y
+  seen (flat.Calc (flat.Calculated a) w r x y) = machine.Calculate a w r x y
+  seen (flat.Calc (flat.Compared c) w r x y) = machine.Compare c r x y
   seen (flat.Emit x) = machine.Emit x
   seen (flat.Call rs c xs) = machine.Call rs (named c) xs
   seen (flat.Branch flat.Plain xs e es) = machine.Br (seen_edge e)
@@ -62,14 +53,8 @@ module _ (blocks : List (Ptr BasicBlock)) (named : Names) where
   results_seen : (ops : List FlatOp) → machine.results_of (map seen ops) ≡ flat.results_of ops
   results_seen [] = refl
   results_seen (flat.Const r n ∷ ops) = refl
-  results_seen (flat.Calc flat.Add w r x y ∷ ops) = refl
-  results_seen (flat.Calc flat.Sub w r x y ∷ ops) = refl
-  results_seen (flat.Calc flat.Mul w r x y ∷ ops) = refl
-  results_seen (flat.Calc flat.Div w r x y ∷ ops) = refl
-  results_seen (flat.Calc flat.Eql w r x y ∷ ops) = refl
-  results_seen (flat.Calc flat.Neq w r x y ∷ ops) = refl
-  results_seen (flat.Calc flat.Ult w r x y ∷ ops) = refl
-  results_seen (flat.Calc flat.Ule w r x y ∷ ops) = refl
+  results_seen (flat.Calc (flat.Calculated a) w r x y ∷ ops) = refl
+  results_seen (flat.Calc (flat.Compared c) w r x y ∷ ops) = refl
   results_seen (flat.Emit x ∷ ops) = refl
   results_seen (flat.Call rs c xs ∷ ops) = refl
   results_seen (flat.Branch flat.Plain xs e es ∷ ops) = refl
@@ -80,24 +65,6 @@ module _ (blocks : List (Ptr BasicBlock)) (named : Names) where
   results_seen (flat.Return xs ∷ ops) = refl
 
 -- ---- numbers
-
-same_bit : (b : Bool) → machine.bit b ≡ flat.bit b
-same_bit true = refl
-same_bit false = refl
-
-negated : (b : Bool) → machine.bit (not b) ≡ (if b then 0 else 1)
-negated true = refl
-negated false = refl
-
-same_quotient : (x y : ℕ) → machine.quotient x y ≡ flat.quotient x y
-same_quotient x zero = refl
-same_quotient x (suc y) = refl
-
--- a difference wraps in both ways alike where what is taken away is in range
-same_difference : (x y m : ℕ) → y < m → (x + (m - y % m)) % m ≡ (x + m - y) % m
-same_difference x y m small =
-    let own : y % m ≡ y = mod-eq_of_lt small in
-    ap (λ k. (x + (m - k)) % m) own ∙ ap (λ k. k % m) (omega (arith, small))
 
 bind_same : (env : Value → ℕ) (vs : List Value) (ns : List ℕ) →
     machine.bind_all same_value env vs ns ≡ flat.bind_all same_value env vs ns
@@ -113,21 +80,9 @@ SeenFrame = machine.MachineFrame Value (Ptr BasicBlock) (Ptr Operation)
 abbrev pub SeenState : Type 0
 SeenState = machine.MachineState Value (Ptr BasicBlock) (Ptr Operation)
 
--- what a difference takes away is in the range of its width
-abbrev pub InRange : (Value → ℕ) → List SeenOp → Type 0
-InRange numbers (machine.Calculate arithmetic.Sub w r x y ∷ rest) = numbers y < 2 ^ w
-InRange numbers _ = Unit {0}
-
 module _ (s : InterpretedContext) (m : Ptr Operation) where
   abbrev code : machine.Code Value (Ptr BasicBlock) (Ptr Operation)
   code = module_code s m
-
-  -- so it is of the operation that is next
-  abbrev pub NextInRange : SeenState → Type 0
-  NextInRange (machine.Going [] out) = Unit {0}
-  NextInRange (machine.Going (f ∷ fs) out) = InRange f.numbers (machine.rest_of code f)
-  NextInRange (machine.Ended values out) = Unit {0}
-  NextInRange (machine.Trapped out) = Unit {0}
 
   module _ (named : Names) where
     -- a function of the context is seen as this flat one
@@ -273,12 +228,6 @@ module _ (s : InterpretedContext) (m : Ptr Operation) where
           right_is = refl;
         }
 
-        calc_goes : (r : Value) (o k : Option ℕ) → o ≡ k →
-            Goes (machine.with_result same_value (left p) r o) (flat.with_result same_value (right p) r k)
-        calc_goes r o k e = subst
-            (λ z. Goes (machine.with_result same_value (left p) r z) (flat.with_result same_value (right p) r k))
-            (sym e) (result_goes r k)
-
         edge_goes : (e : flat.Edge Value) → EdgeFits (fun_of p) e →
             Goes (machine.Next (machine.follow same_value code (left p) (seen_edge (blocks_of p) named e)))
             (flat.Next (flat.go same_value (fun_of p) (right p) e))
@@ -335,73 +284,49 @@ module _ (s : InterpretedContext) (m : Ptr Operation) where
         SeenAct ops = machine.effect same_value code (left p) (map (seen (blocks_of p) named) ops)
 
         op_goes : (ops : List FlatOp) → AllEdgesFit (fun_of p) ops →
-            InRange p.env (map (seen (blocks_of p) named) ops) → HasExecuted same_value code (SeenAct ops) →
+            HasExecuted same_value code (SeenAct ops) →
             Goes (SeenAct ops) (flat.effect same_value (fun_of p) (right p) ops)
-        op_goes [] fit range done = absurd done
-        op_goes (flat.Const r n ∷ ops) fit range done = result_goes r (Some n)
-        op_goes (flat.Calc flat.Add w r x y ∷ ops) fit range done =
-            result_goes r (Some ((p.env x + p.env y) % 2 ^ w))
-        op_goes (flat.Calc flat.Sub w r x y ∷ ops) fit range done =
-            calc_goes r (machine.arithmetic arithmetic.Sub w (p.env x) (p.env y))
-            (flat.calc flat.Sub w (p.env x) (p.env y)) (ap Some (same_difference (p.env x) (p.env y) (2 ^ w) range))
-        op_goes (flat.Calc flat.Mul w r x y ∷ ops) fit range done =
-            result_goes r (flat.calc flat.Mul w (p.env x) (p.env y))
-        op_goes (flat.Calc flat.Div w r x y ∷ ops) fit range done =
-            calc_goes r (machine.quotient (p.env x) (p.env y)) (flat.quotient (p.env x) (p.env y))
-            (same_quotient (p.env x) (p.env y))
-        op_goes (flat.Calc flat.Eql w r x y ∷ ops) fit range done =
-            calc_goes r (Some (machine.bit (machine.compares comparison.Equal (p.env x) (p.env y))))
-            (flat.calc flat.Eql w (p.env x) (p.env y)) (ap Some (same_bit (nat_eq (p.env x) (p.env y))))
-        op_goes (flat.Calc flat.Neq w r x y ∷ ops) fit range done =
-            calc_goes r (Some (machine.bit (machine.compares comparison.NotEqual (p.env x) (p.env y))))
-            (flat.calc flat.Neq w (p.env x) (p.env y)) (ap Some (negated (nat_eq (p.env x) (p.env y))))
-        op_goes (flat.Calc flat.Ult w r x y ∷ ops) fit range done =
-            calc_goes r (Some (machine.bit (machine.compares comparison.Less (p.env x) (p.env y))))
-            (flat.calc flat.Ult w (p.env x) (p.env y))
-            (ap Some (same_bit (machine.compares comparison.Less (p.env x) (p.env y))))
-        op_goes (flat.Calc flat.Ule w r x y ∷ ops) fit range done =
-            calc_goes r (Some (machine.bit (machine.compares comparison.LessOrEqual (p.env x) (p.env y))))
-            (flat.calc flat.Ule w (p.env x) (p.env y))
-            (ap Some (same_bit (machine.compares comparison.LessOrEqual (p.env x) (p.env y))))
-        op_goes (flat.Emit x ∷ ops) fit range done = record {
+        op_goes [] fit done = absurd done
+        op_goes (flat.Const r n ∷ ops) fit done = result_goes r (Some n)
+        op_goes (flat.Calc (flat.Calculated a) w r x y ∷ ops) fit done = result_goes r (calc a w (p.env x) (p.env y))
+        op_goes (flat.Calc (flat.Compared c) w r x y ∷ ops) fit done =
+            result_goes r (Some (bit (compare c (p.env x) (p.env y))))
+        op_goes (flat.Emit x ∷ ops) fit done = record {
           both = Runs (moved p p.env) ps (out ++ p.env x ∷ []);
           left_is = refl;
           right_is = refl;
         }
-        op_goes (flat.Call rs c xs ∷ ops) fit range done = call_goes (named c) c refl (map p.env xs) done
-        op_goes (flat.Branch flat.Plain xs e es ∷ ops) fit range done = edge_goes e fit.0.0
-        op_goes (flat.Branch flat.Nonzero [] e es ∷ ops) fit range done = absurd done
-        op_goes (flat.Branch flat.Nonzero (x ∷ xs) e [] ∷ ops) fit range done = absurd done
-        op_goes (flat.Branch flat.Nonzero (x ∷ xs) e (d ∷ ds) ∷ ops) fit range done =
+        op_goes (flat.Call rs c xs ∷ ops) fit done = call_goes (named c) c refl (map p.env xs) done
+        op_goes (flat.Branch flat.Plain xs e es ∷ ops) fit done = edge_goes e fit.0.0
+        op_goes (flat.Branch flat.Nonzero [] e es ∷ ops) fit done = absurd done
+        op_goes (flat.Branch flat.Nonzero (x ∷ xs) e [] ∷ ops) fit done = absurd done
+        op_goes (flat.Branch flat.Nonzero (x ∷ xs) e (d ∷ ds) ∷ ops) fit done =
             subst (λ k. Goes (SeenAct (flat.Branch flat.Nonzero (x ∷ xs) e (d ∷ ds) ∷ ops))
             (flat.Next (flat.go same_value (fun_of p) (right p) (flat.edge_at e (d ∷ ds) k))))
             (fork_more (p.env x) (map p.env xs)) (fork_goes (p.env x) e d ds fit.0.0 fit.0.1.0)
-        op_goes (flat.Branch (flat.Cases ns) xs e es ∷ ops) fit range done = absurd done
-        op_goes (flat.Return xs ∷ ops) fit range done = returns ps (map p.env xs) out
+        op_goes (flat.Branch (flat.Cases ns) xs e es ∷ ops) fit done = absurd done
+        op_goes (flat.Return xs ∷ ops) fit done = returns ps (map p.env xs) out
 
-      step_goes : (z : States) → Moves same_value code (left_state z) → NextInRange (left_state z) →
+      step_goes : (z : States) → Moves same_value code (left_state z) →
           InStep (machine.step same_value code (left_state z)) (flat.step same_value q (right_state z))
-      step_goes (Runs p ps out) moves range =
+      step_goes (Runs p ps out) moves =
           let rest = rest_seen p in
           subst (λ os. InStep (machine.after same_value code (left p) (map left ps) out
           (machine.effect same_value code (left p) os))
           (flat.done same_value q (right p) (map right ps) out (flat.act same_value q (right p)))) (sym rest)
           (op_goes p ps out (rest_of p) ((views p.name p.function p.is).edges p.number p.index)
-          (subst (InRange p.env) rest range)
           (subst (λ os. HasExecuted same_value code (machine.effect same_value code (left p) os)) rest moves))
-      step_goes (Ends values out) moves range = record { both = Ends values out; left_is = refl; right_is = refl }
-      step_goes (Faults out) moves range = record { both = Faults out; left_is = refl; right_is = refl }
+      step_goes (Ends values out) moves = record { both = Ends values out; left_is = refl; right_is = refl }
+      step_goes (Faults out) moves = record { both = Faults out; left_is = refl; right_is = refl }
 
       run_goes : (n : ℕ) (z : States) →
           ((k : ℕ) → Moves same_value code (machine.run same_value code k (left_state z))) →
-          ((k : ℕ) → NextInRange (machine.run same_value code k (left_state z))) →
           InStep (machine.run same_value code n (left_state z)) (flat.run same_value q n (right_state z))
-      run_goes zero z moves range = record { both = z; left_is = refl; right_is = refl }
-      run_goes (suc n) z moves range =
-          let t = step_goes z (moves 0) (range 0) in
+      run_goes zero z moves = record { both = z; left_is = refl; right_is = refl }
+      run_goes (suc n) z moves =
+          let t = step_goes z (moves 0) in
           let rest = run_goes n t.both
-          (λ k. subst (λ x. Moves same_value code (machine.run same_value code k x)) t.left_is (moves (suc k)))
-          (λ k. subst (λ x. NextInRange (machine.run same_value code k x)) t.left_is (range (suc k))) in
+          (λ k. subst (λ x. Moves same_value code (machine.run same_value code k x)) t.left_is (moves (suc k))) in
           record {
             both = rest.both;
             left_is = ap (machine.run same_value code n) t.left_is ∙ rest.left_is;
@@ -417,17 +342,15 @@ module _ (s : InterpretedContext) (m : Ptr Operation) where
       pub runs_alike : (name : ℕ) (function : Ptr Operation) → named name ≡ Some function → (xs : List ℕ) →
           ((k : ℕ) → Moves same_value code
           (machine.run same_value code k (machine.start same_value code function xs))) →
-          ((k : ℕ) → NextInRange (machine.run same_value code k (machine.start same_value code function xs))) →
           (n : ℕ) →
           SameOutcome (machine.run same_value code n (machine.start same_value code function xs))
           (flat.run same_value q n (flat.start same_value q (name ∷ within) xs))
-      runs_alike name function is xs moves range n =
+      runs_alike name function is xs moves n =
           let first : States = Runs (entering function name is xs) [] [] in
           let start : machine.start same_value code function xs ≡ left_state first =
           ap (λ o. machine.on_top o [] []) (entering_is function name is xs) in
           let runs = run_goes n first
-          (λ k. subst (λ x. Moves same_value code (machine.run same_value code k x)) start (moves k))
-          (λ k. subst (λ x. NextInRange (machine.run same_value code k x)) start (range k)) in
+          (λ k. subst (λ x. Moves same_value code (machine.run same_value code k x)) start (moves k)) in
           let same : SameOutcome (machine.run same_value code n (left_state first))
           (flat.run same_value q n (right_state first)) =
           subst (λ x. SameOutcome x (flat.run same_value q n (right_state first))) (sym runs.left_is)

@@ -1,5 +1,5 @@
 -- The runs of a function of a module that keeps the rules are those of the module's program.
-use Rattle.std.proofs.Common.{◌≡◌, ℕ, List, [], ◌∷◌, ◌++◌, map, Option, Some, None, IsSome, slice_get, refl, sym, ap}
+use Rattle.std.proofs.Common.{◌≡◌, ℕ, List, [], ◌∷◌, ◌++◌, map, Option, Some, None, IsSome, refl, sym, ap}
 use Rattle.std.proofs.Common.{◌∙◌, subst}
 use Rattle.std.specs.Prelude.{reverse}
 use Rattle.std.proofs.Math.Path.{fun_ext}
@@ -11,30 +11,20 @@ use Rattle.ir_program.specs.Program.{type_at}
 use Rattle.ir_program.specs.Replacing.{same_value}
 use Rattle.ir_program.specs.declared.handles.Ptr.{Ptr}
 use Rattle.ir_program.specs.declared.handles.Operation.{Operation}
-use Rattle.ir_program.specs.declared.handles.BasicBlock.{BasicBlock}
 use Rattle.ir_program.specs.declared.handles.Value.{Value}
-use Rattle.ir_trees.specs.Searched.{AreDistinct, operation_names}
 use Rattle.ir_trees.specs.Stands.{by_handle, StandsFor}
-use Rattle.ir_trees.specs.Trees.{Regions}
-use Rattle.ir_trees.proofs.OneTree.{one_tree}
-use Rattle.opt_trees.specs.Occurrences.{Has, Occurrence, at_root, occurrences_in, occurrences_of, defined_in}
+use Rattle.opt_trees.specs.Occurrences.{at_root}
 use Rattle.kit_behaviour.specs.Machine as flat
 use Rattle.kit_behaviour.specs.Machine.{Fun, FunctionsByPath, Alike}
 use Rattle.kit_behaviour.specs.Numbering.{place_fun, placed, NamesAreDefined}
 use Rattle.kit_behaviour.specs.Places.{Place, same_place}
 use Rattle.kit_behaviour.proofs.Numbering.NumberingBehaviour.{placed_alike}
-use Rattle.kit_checks.specs.declared.rule.Rule.{Rule}
-use Rattle.kit_checks.specs.Faults.{KeptEverywhere}
-use Rattle.kit_checks.specs.Sites.{Listed}
-use Rattle.kit_checks.specs.World.{world_of}
 use Rattle.kit_execution.specs.Obeying.{ExecutedTree}
-use Rattle.kit_execution.proofs.Bodies.{KitBlocks, KitSite}
-use Rattle.kit_execution.proofs.Functions.{IsModuleAt}
 use Rattle.kit_execution.proofs.Paths.{can_run, path_moves}
 use Rattle.kit_flat.specs.Machine as machine
 use Rattle.kit_interpreter.specs.Lowering.{CanRun}
-use Rattle.kit_interpreter.specs.Running.{TakesNumbers, place_of}
-use Rattle.kit_interpreter.specs.Store.{KitData, KitNotes, InterpretedContext, body_of, module_code, function_named}
+use Rattle.kit_interpreter.specs.Running.{place_of}
+use Rattle.kit_interpreter.specs.Store.{InterpretedContext, module_code, function_named}
 use Rattle.kit_interpreter.specs.declared.executing.Place as context
 use Rattle.kit_module_programs.specs.Paths as tree
 use Rattle.kit_module_programs.specs.Programs.{HasFunctionView}
@@ -44,18 +34,12 @@ use Rattle.kit_module_programs.proofs.Located.{located}
 use Rattle.kit_module_programs.proofs.RuledSound.{ruled_sound}
 use Rattle.kit_ruled_views.specs.Ruled.{type_or_first}
 use Rattle.kit_ruled_views.proofs.HandleSameness.{values_apart}
-use Rattle.kit_views.specs.FlatView.{FlattensTo}
-use Rattle.kit_views.specs.Reading.{Reading, kit_contents, kit_reading}
+use Rattle.kit_views.specs.Reading.{kit_reading}
 use Rattle.kit_views.specs.Typed.{IsTyped}
-use Rattle.kit_views.proofs.Standing.{whole, Given}
 use Rattle.kit_program_runs.specs.Laws.{IsProgramIn, ExistTogether, program_path}
 use Rattle.kit_program_runs.specs.Outcomes.{SameOutcome}
-use Rattle.kit_program_runs.proofs.FittingNumbers.{IsTypedFunction, AllBelow, taken_by, runs_in_range}
 use Rattle.kit_program_runs.proofs.FlatBlocks.{function_seen}
-use Rattle.kit_program_runs.proofs.FunctionWidths.{type_of, bits, function_widths}
-use Rattle.kit_program_runs.proofs.Lockstep.{NextInRange, IsSeenAs, runs_alike}
-use Rattle.kit_program_runs.proofs.ModuleWidths.{outs, module_site, root_at, IsMember, member_function, calls_typed}
-use Rattle.kit_program_runs.proofs.ModuleWidths.{returns_typed, taken_small}
+use Rattle.kit_program_runs.proofs.Lockstep.{IsSeenAs, runs_alike}
 use Rattle.kit_program_runs.proofs.Outcomes.{outcomes_same, outcome_on}
 use Rattle.kit_program_runs.proofs.Paths.{function_numbered, numbered_is, text_back, Agree, functions_agree, IsLed}
 use Rattle.kit_program_runs.proofs.Paths.{PathsAgree, paths_agree}
@@ -218,106 +202,13 @@ module _ (s : InterpretedContext) (root : Ptr Operation) (t : ExecutedTree) (num
         seen_of f (function_runs name f found) u.0 u.2 (tree.locate numbered (reverse (name ∷ within)) t) u.1
         (p (name ∷ within)) (given.is (name ∷ within))
 
-    -- ---- widths
-
-    abbrev obeys : (r : Rule) → KeptEverywhere (world_of s) t r
-    obeys = given.obeys t given.stands
-
-    module_at : (y : KitSite) × IsModuleAt s t obeys place.within y
-    module_at = module_site s t obeys root (record { op = t; around = None }) (root_at s t obeys root given.stands)
-        (map text_of path) place is
-
-    all_typed : (name : List ℕ) (f : Ptr Operation) → function_named s.program place.within name ≡ Some f →
-        (u : ExecutedTree) → StandsFor s.program f u → IsTyped (key_at s.types) {N = by_handle} (type_of s) u
-    all_typed name f found u stands =
-        let tree = function_tree (numbered name) f (agree name ∙ found) in
-        subst (IsTyped (key_at s.types) {N = by_handle} (type_of s)) (one_tree s.program f tree.0 u tree.2 stands)
-        (function_typed (reverse (numbered name ∷ within)) tree.0 tree.1)
-
-    module _ (name : List ℕ) (f : Ptr Operation) (found : function_named s.program place.within name ≡ Some f) where
-      its : IsMember s t obeys place.within module_at.0 module_at.1 name f
-      its = member_function s t obeys place.within module_at.0 module_at.1 name f found
-
-      located_op : tree.locate numbered (reverse (numbered name ∷ within)) t ≡ Some its.op
-      located_op =
-          let tree = function_tree (numbered name) f (agree name ∙ found) in
-          tree.1 ∙ ap Some (one_tree s.program f tree.0 its.op tree.2 its.stands)
-
-      abbrev reading : Reading kit_contents
-      reading = kit_reading (key_at s.types) numbered
-
-      flat_there : (o : Option ExecutedTree) (g : Option (Fun Place)) (flat_is : IsFlatOf o g) → o ≡ Some its.op →
-          (k : Fun Value) × FlattensTo reading its.op k × (flat_of o g flat_is ≡ Some k)
-      flat_there None g flat_is e = absurd (cc e)
-      flat_there (Some v) g flat_is e =
-          let same : v ≡ its.op = cc e in
-          (flat_is.0, subst (λ z. FlattensTo reading z flat_is.0) same flat_is.1, refl)
-
-      its_flat : (k : Fun Value) × FlattensTo reading its.op k × (handled (numbered name ∷ within) ≡ Some k)
-      its_flat = flat_there (tree.locate numbered (reverse (numbered name ∷ within)) t) (p (numbered name ∷ within))
-          (given.is (numbered name ∷ within)) located_op
-
-      abbrev blocks : KitBlocks
-      blocks = its_flat.1.view.blocks
-
-      abbrev Regional : Type 0
-      Regional = Listed KitData KitNotes Regions
-
-      its_typed : IsTyped (key_at s.types) {N = by_handle} (type_of s) its.op
-      its_typed = all_typed name f found its.op its.stands
-
-      whole_typed : IsTyped (key_at s.types) {N = by_handle} (type_of s) (whole reading its.op.head blocks its_flat.0)
-      whole_typed = subst (λ (rs : Regional). IsTyped (key_at s.types) {N = by_handle} (type_of s)
-          (record { head = its.op.head; regions = rs })) its_flat.1.view.region its_typed
-
-      given_flat : Given reading its.op.head blocks its_flat.0
-      given_flat = record {
-        function = its_flat.1.view.function;
-        no_operands = its_flat.1.view.no_operands;
-        are = its_flat.1.view.are;
-        operations = subst (λ (rs : Regional). AreDistinct (operation_names {N = by_handle} {S = kit_contents}
-            (record { head = its.op.head; regions = rs }))) its_flat.1.view.region its_flat.1.operations;
-        blocks = its_flat.1.blocks;
-        values = subst (λ (rs : Regional). AreDistinct (defined_in rs)) its_flat.1.view.region its_flat.1.values;
-        edges = its_flat.1.edges;
-      }
-
-      inside : (o : Occurrence by_handle kit_contents) →
-          Has o (occurrences_of (whole reading its.op.head blocks its_flat.0)) → Has o (occurrences_of its.op)
-      inside o stands = subst (λ (rs : Regional). Has o (occurrences_in rs (at_root its.op)))
-          (sym its_flat.1.view.region) stands
-
-      function_fits : IsTypedFunction s place.within (bits s) (outs s) f
-      function_fits =
-          function_widths s place.within (outs s) named numbered f its.op.head blocks its_flat.0 given_flat whole_typed
-          (subst (IsSeenAs s place.within named f) its_flat.2 (views (numbered name) f (agree name ∙ found)))
-          (λ o stands. calls_typed s t obeys place.within module_at.0 module_at.1 numbered named agree all_typed name f
-          found its blocks its_flat.1.view.region o (inside o stands))
-          (λ o stands. returns_typed s t obeys place.within module_at.0 module_at.1 numbered named agree all_typed name
-          f found its blocks its_flat.1.view.region o (inside o stands))
-
-      takes_small : (xs : List ℕ) → TakesNumbers s f xs → (b : Ptr BasicBlock) → slice_get (body_of s.program f) 0 ≡ Some b →
-          AllBelow s place.within (bits s) (outs s) (taken_by s place.within (bits s) (outs s) f b) xs
-      takes_small xs takes = taken_small s t obeys place.within module_at.0 module_at.1 name f found its its_typed
-          blocks its_flat.1.view.region xs takes
-
     -- ---- runs
 
-    -- numbers stay in the range of their widths
-    in_range : (xs : List ℕ) → TakesNumbers s place.function xs → (k : ℕ) →
-        NextInRange s place.within (machine.run same_value (module_code s place.within) k
-        (machine.start same_value (module_code s place.within) place.function xs))
-    in_range xs takes =
-        let found : function_named s.program place.within it.text ≡ Some place.function =
-        sym (agree it.text) ∙ it.named in
-        runs_in_range s place.within (bits s) (outs s) (λ g callee. function_fits callee.0 g callee.1) place.function xs
-        (it.text, found) (takes_small it.text place.function found xs takes)
-
-    pub program_runs : (xs : List ℕ) → TakesNumbers s place.function xs → (n : ℕ) →
+    pub program_runs : (xs : List ℕ) (n : ℕ) →
         SameOutcome (machine.run same_value (module_code s place.within) n
         (machine.start same_value (module_code s place.within) place.function xs))
         (flat.run same_place p n (flat.start same_place p (program_path numbered path) xs))
-    program_runs xs takes n =
+    program_runs xs n =
         subst (λ l. SameOutcome (machine.run same_value (module_code s place.within) n
         (machine.start same_value (module_code s place.within) place.function xs))
         (flat.run same_place p n (flat.start same_place p l xs))) (sym program_path_is)
@@ -326,5 +217,5 @@ module _ (s : InterpretedContext) (root : Ptr Operation) (t : ExecutedTree) (num
         (flat.run same_value handled n (flat.start same_value handled (numbered it.text ∷ within) xs))
         (flat.run same_place p n (flat.start same_place p (numbered it.text ∷ within) xs))
         (runs_alike s place.within named handled within views (numbered it.text) place.function it.named xs
-        (path_moves s root given.obeys (t, given.stands) path place is xs) (in_range xs takes) n)
+        (path_moves s root given.obeys (t, given.stands) path place is xs) n)
         (outcomes_same same_value same_place handled p alike (numbered it.text ∷ within) xs n))

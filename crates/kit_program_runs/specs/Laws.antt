@@ -13,7 +13,7 @@ use Rattle.kit_behaviour.specs.Machine.{FunctionsByPath}
 use Rattle.kit_behaviour.specs.Places as flat
 use Rattle.kit_execution.specs.Obeying.{ExecutedTree, ObeysRules}
 use Rattle.kit_flat.specs.Machine as context
-use Rattle.kit_interpreter.specs.Running.{TakesNumbers, place_of}
+use Rattle.kit_interpreter.specs.Running.{place_of}
 use Rattle.kit_interpreter.specs.Store.{InterpretedContext, module_code}
 use Rattle.kit_interpreter.specs.declared.executing.Place.{Place}
 use Rattle.kit_module_programs.specs.Programs.{IsProgramOf}
@@ -36,12 +36,11 @@ pub record IsProgramIn (s : InterpretedContext) (root : Ptr Operation) (t : Exec
   pub numbering : NumbersTextsApart numbered
   pub is : IsProgramOf {N = by_handle} same_value (key_at s.types) numbered t p
 
--- the run of the function that a path leads to, on numbers that it takes, is after as many steps that of its program
--- from the same path
+-- the run of the function that a path leads to is after as many steps that of its program from the same path
 abbrev pub RunsAsProgram : Type 0
 RunsAsProgram = (s : InterpretedContext) (root : Ptr Operation) (t : ExecutedTree) (numbered : List ℕ → ℕ)
     (p : FunctionsByPath flat.Place) → IsProgramIn s root t numbered p → (path : List Identifier) (place : Place) →
-    place_of s root path ≡ Some place → (xs : List ℕ) → TakesNumbers s place.function xs → (n : ℕ) →
+    place_of s root path ≡ Some place → (xs : List ℕ) (n : ℕ) →
     SameOutcome (context.run same_value (module_code s place.within) n
     (context.start same_value (module_code s place.within) place.function xs))
     (program.run flat.same_place p n (program.start flat.same_place p (program_path numbered path) xs))

@@ -8,10 +8,9 @@ use kit_checks::RuleFault;
 use kit_execution::execute;
 use kit_flat::Outcome;
 use kit_interpreter::ExecFault;
-use kit_module_reader::{Unread, read, written};
+use kit_module_reader::{Unread, read, write_number, written};
 use kit_verifier::verify_module;
 use std::alloc::{AllocError, Global};
-use std::fmt::{Display, Write};
 
 /// A run of the function `f`, or of one that a path of names leads to.
 #[derive(Clone, Copy)]
@@ -22,16 +21,6 @@ pub struct Run {
     pub numbers: &'static [u64],
     /// The most steps.
     pub limit: u64,
-}
-
-/// Writes a word, and a number behind it.
-fn write_number<N: Display + Drop>(
-    text: &mut String,
-    word: &str,
-    number: N,
-) -> Result<(), AllocError> {
-    text.push_str(word)?;
-    write!(text, "{number}").map_err(|_| AllocError)
 }
 
 /// Writes what was emitted.

@@ -5,11 +5,10 @@ use Rattle.std.proofs.lemmas.List.{append-nil, take_at, drop_at}
 use Rattle.ir_trees.specs.Names.{Names, Contents}
 use Rattle.ir_trees.specs.Searched.{AreDistinct}
 use Rattle.ir_trees.specs.Trees.{Head, Operations, Blocks, Tree, end, operation, block, region, Root}
-use Rattle.kit_ops.specs.declared.kinds.Arithmetic.TheVariants as arithmetic
 use Rattle.kit_ops.specs.declared.kinds.Comparison.TheVariants as comparison
 use Rattle.kit_ops.specs.declared.kinds.KitOp.{KitOp}
 use Rattle.kit_ops.specs.declared.kinds.KitOp.TheVariants as ops
-use Rattle.kit_behaviour.specs.Machine.{Arith, Add, Sub, Mul, Div, Eql, Neq, Ult, Ule, Edge, Select, Plain, Nonzero}
+use Rattle.kit_behaviour.specs.Machine.{Arith, Calculated, Compared, Edge, Select, Plain, Nonzero}
 use Rattle.kit_behaviour.specs.Machine.{Cases, Op, Const, Calc, Emit, Call, Branch, Return, Fun}
 use Rattle.kit_views.specs.FlatView.{kind_of, IsFlatBranch, IsOp, AreOps, AreFlatBlocks, names_in, IsView}
 use Rattle.kit_views.specs.Reading.{Reading}
@@ -18,25 +17,13 @@ use Rattle.kit_views.specs.Reading.{Reading}
 
 -- the arithmetic or the comparison of a kind
 abbrev arith_of : KitOp → Arith
-arith_of (ops.Arithmetic arithmetic.Add) = Add
-arith_of (ops.Arithmetic arithmetic.Sub) = Sub
-arith_of (ops.Arithmetic arithmetic.Mul) = Mul
-arith_of (ops.Arithmetic arithmetic.Div) = Div
-arith_of (ops.Comparison comparison.Equal) = Eql
-arith_of (ops.Comparison comparison.NotEqual) = Neq
-arith_of (ops.Comparison comparison.Less) = Ult
-arith_of (ops.Comparison comparison.LessOrEqual) = Ule
-arith_of _ = Add
+arith_of (ops.Arithmetic a) = Calculated a
+arith_of (ops.Comparison c) = Compared c
+arith_of _ = Compared comparison.Equal
 
 arith_back : (f : Arith) → arith_of (kind_of f) ≡ f
-arith_back Add = refl
-arith_back Sub = refl
-arith_back Mul = refl
-arith_back Div = refl
-arith_back Eql = refl
-arith_back Neq = refl
-arith_back Ult = refl
-arith_back Ule = refl
+arith_back (Calculated a) = refl
+arith_back (Compared c) = refl
 
 -- kinds of operations that a flat function tells apart, and of the operations that are none of these
 abbrev family : KitOp → ℕ
@@ -66,14 +53,8 @@ op_family (Branch s xs e es) = select_family s
 op_family (Return xs) = 7
 
 calc_family : (f : Arith) → family (kind_of f) ≡ 2
-calc_family Add = refl
-calc_family Sub = refl
-calc_family Mul = refl
-calc_family Div = refl
-calc_family Eql = refl
-calc_family Neq = refl
-calc_family Ult = refl
-calc_family Ule = refl
+calc_family (Calculated a) = refl
+calc_family (Compared c) = refl
 
 -- ---- lists
 

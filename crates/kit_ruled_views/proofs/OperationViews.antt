@@ -22,7 +22,7 @@ use Rattle.kit_ops.specs.declared.types.KitType.{KitType}
 use Rattle.kit_ops.specs.Keys as keys
 use Rattle.ir_names.specs.Dictionary.{attribute_at}
 use Rattle.kit.specs.Meaning.{KitOperation, KitBlock, sizes_in}
-use Rattle.kit_behaviour.specs.Machine.{Arith, Add, Sub, Mul, Div, Eql, Neq, Ult, Ule, AllEdges, Edge, Plain, Nonzero}
+use Rattle.kit_behaviour.specs.Machine.{Arith, Calculated, Compared, AllEdges, Edge, Plain, Nonzero}
 use Rattle.kit_behaviour.specs.Machine.{Op, Const, Calc, Emit, Call, Branch, Return}
 use Rattle.kit_checks.specs.Rules.{Counts, HasOperands, FitsKind}
 use Rattle.kit_checks.specs.Sites.{block_list}
@@ -36,18 +36,6 @@ use Rattle.kit_ruled_views.proofs.FunctionSites.{KitBlocks, KitBody}
 use Rattle.kit_ruled_views.proofs.SmallLists.{none_of, one_of, two_of, some_of, in_two, taken}
 
 -- ---- kinds
-
-arithmetic_of : (a : Arithmetic) → (f : Arith) × (kind_of f ≡ ops.Arithmetic a)
-arithmetic_of arithmetic.Add = (Add, refl)
-arithmetic_of arithmetic.Sub = (Sub, refl)
-arithmetic_of arithmetic.Mul = (Mul, refl)
-arithmetic_of arithmetic.Div = (Div, refl)
-
-comparison_of : (a : Comparison) → (f : Arith) × (kind_of f ≡ ops.Comparison a)
-comparison_of comparison.Equal = (Eql, refl)
-comparison_of comparison.NotEqual = (Neq, refl)
-comparison_of comparison.Less = (Ult, refl)
-comparison_of comparison.LessOrEqual = (Ule, refl)
 
 -- the sizes of segments, as the rules and as the optimisations read them
 pub same_sizes : (o : Option KitAttr) (sizes : List ℕ) → option_and_then words.sizes_in o ≡ Some sizes → sizes_in o
@@ -220,9 +208,9 @@ module _ (leads : TypeHandle → Option KitType) (typed : Value → Option TypeH
             goes = tt;
           }
       view_of (ops.Arithmetic a) kind ruled =
-          let f = arithmetic_of a in calc_view f.0 (kind ∙ sym f.1) ruled.format.0 ruled.format.1
+          calc_view (Calculated a) kind ruled.format.0 ruled.format.1
       view_of (ops.Comparison a) kind ruled =
-          let f = comparison_of a in calc_view f.0 (kind ∙ sym f.1) ruled.format.0 ruled.format.1
+          calc_view (Compared a) kind ruled.format.0 ruled.format.1
       view_of ops.Br kind ruled = br_view kind ruled
       view_of ops.CondBr kind ruled = cond_br_view kind ruled
       view_of ops.Call kind ruled = record {

@@ -26,7 +26,7 @@ use Rattle.kit_ops.specs.declared.kinds.KitOp.{KitOp}
 use Rattle.kit_ops.specs.declared.kinds.KitOp.TheVariants as ops
 use Rattle.kit_texts.specs.Forms.{number_of, read_ops}
 use Rattle.kit_texts.specs.Says.{says}
-use Rattle.kit_behaviour.specs.Machine.{Arith, Add, Sub, Mul, Div, Eql, Neq, Ult, Ule, Plain, Nonzero, Cases}
+use Rattle.kit_behaviour.specs.Machine.{Arith, Calculated, Compared, Plain, Nonzero, Cases}
 use Rattle.kit_behaviour.specs.Machine.{Op, Const, Calc, Emit, Call, Branch, Return, Block, Fun, left_in, arguments_in}
 use Rattle.kit_behaviour.specs.Numbering.{AnyBlock}
 use Rattle.kit_behaviour.specs.Renaming.{rename_op, rename_block, same_block, AllNamed, OpNamed, OpsNamed}
@@ -38,7 +38,8 @@ use Rattle.kit_text_programs.specs.Laws.{HaveOwnNumbers}
 use Rattle.kit_text_programs.proofs.SaidPrograms.{width_said, bits_said, first_in, second_in, op_said, numbers_in}
 use Rattle.kit_text_programs.proofs.SaidPrograms.{widths_in, ops_said, fun_said}
 use Rattle.kit_text_programs.proofs.ValueNumbers.{number_of_value, HasNumber, number_is}
-use Rattle.kit_text_programs.proofs.SaidHeads.{kind_back, said_parts, width_shown, bits_shown}
+use Rattle.kit_texts.specs.Readable.{numbered_kind}
+use Rattle.kit_text_programs.proofs.SaidHeads.{said_parts, width_shown, bits_shown}
 use Rattle.kit_text_programs.proofs.Unlabelled.{HasSomeLabel}
 
 -- parts of trees of operations of `kit`
@@ -51,14 +52,8 @@ first_same x y xs ys e = cc
 -- arithmetic that is read is that of its kind
 calc_said : (f : Arith) (ds ws us : List ℕ) (ps : Pieces)
     → op_said (Some (kind_of f)) ds ws us ps ≡ Calc f (first_in ws) (first_in ds) (first_in us) (second_in us)
-calc_said Add ds ws us ps = refl
-calc_said Sub ds ws us ps = refl
-calc_said Mul ds ws us ps = refl
-calc_said Div ds ws us ps = refl
-calc_said Eql ds ws us ps = refl
-calc_said Neq ds ws us ps = refl
-calc_said Ult ds ws us ps = refl
-calc_said Ule ds ws us ps = refl
+calc_said (Calculated a) ds ws us ps = refl
+calc_said (Compared c) ds ws us ps = refl
 
 module _ (s : WritableContext) (values : List Value) (own : HaveOwnNumbers values) (numbered : List ℕ → ℕ) where
   -- values by their numbers in the text
@@ -123,7 +118,7 @@ module _ (s : WritableContext) (values : List Value) (own : HaveOwnNumbers value
         (map (λ x. x.ty) v.results) kind h.said h.says_it).2
 
     at_kind : (k : KitOp) → v.payload.kind ≡ k → slice_get read_ops kind ≡ Some k
-    at_kind k is = kind_back v.payload.kind kind has_number ∙ ap Some is
+    at_kind k is = numbered_kind v.payload.kind kind has_number ∙ ap Some is
 
     said_by : (k : KitOp) → v.payload.kind ≡ k
         → op_said (Some k) (numbers_in results) (widths_in results) used pieces ≡ said_op

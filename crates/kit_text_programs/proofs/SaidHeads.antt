@@ -18,8 +18,6 @@ use Rattle.ir_print.specs.Shown.{said_region, leaf, ShowsAll, ShowsType}
 use Rattle.kit_ops.specs.declared.attributes.IntegerAttr.{IntegerAttr}
 use Rattle.kit_ops.specs.declared.attributes.KitAttr.{KitAttr}
 use Rattle.kit_ops.specs.declared.attributes.KitAttr.TheVariants as attrs
-use Rattle.kit_ops.specs.declared.kinds.Arithmetic.TheVariants as arithmetic
-use Rattle.kit_ops.specs.declared.kinds.Comparison.TheVariants as comparison
 use Rattle.kit_ops.specs.declared.kinds.KitOp.{KitOp}
 use Rattle.kit_ops.specs.declared.kinds.KitOp.TheVariants as ops
 use Rattle.kit_ops.specs.declared.types.KitType.{KitType}
@@ -30,36 +28,11 @@ use Rattle.kit_texts.specs.Forms.{OpForm, NamedRegion, TypedRegion, Value, form_
 use Rattle.kit_texts.specs.Numbers.{number_modulo, is_below_zero, printed_number}
 use Rattle.kit_texts.specs.Says.{says, one, two, only, types_said, integer_said, said_of_type, said_of_attribute}
 use Rattle.kit_texts.specs.Says.{said_of_module, said_of_function, said_of_constant, said_in, numbered, has_values}
-use Rattle.kit_texts.specs.Readable.{constant_says}
+use Rattle.kit_texts.specs.Readable.{constant_says, numbered_kind}
 use Rattle.kit_texts.specs.Seen.{seen, none_seen, first_seen, one_seen, two_seen}
 use Rattle.kit_views.specs.Reading.{number_in, integer_of}
 use Rattle.kit_module_programs.specs.Paths.{is_name}
 use Rattle.kit_text_programs.proofs.SaidPrograms.{width_said, bits_said, name_said, passes, is_called}
-
--- ---- kinds
-
--- a kind that has a number is the one that is read under the number
-at_number : (k : KitOp) (m n : ℕ) → slice_get read_ops m ≡ Some k → Some m ≡ Some n → slice_get read_ops n ≡ Some k
-at_number k m n at e = let same : m ≡ n = cc in subst (λ i. slice_get read_ops i ≡ Some k) same at
-
-pub kind_back : (k : KitOp) (n : ℕ) → number_of k ≡ Some n → slice_get read_ops n ≡ Some k
-kind_back ops.Module n e = at_number ops.Module 0 n refl e
-kind_back ops.Func n e = at_number ops.Func 1 n refl e
-kind_back ops.Constant n e = at_number ops.Constant 2 n refl e
-kind_back ops.Return n e = at_number ops.Return 3 n refl e
-kind_back (ops.Arithmetic arithmetic.Add) n e = at_number (ops.Arithmetic arithmetic.Add) 4 n refl e
-kind_back (ops.Arithmetic arithmetic.Sub) n e = at_number (ops.Arithmetic arithmetic.Sub) 5 n refl e
-kind_back (ops.Arithmetic arithmetic.Mul) n e = at_number (ops.Arithmetic arithmetic.Mul) 6 n refl e
-kind_back (ops.Arithmetic arithmetic.Div) n e = at_number (ops.Arithmetic arithmetic.Div) 7 n refl e
-kind_back (ops.Comparison comparison.Equal) n e = at_number (ops.Comparison comparison.Equal) 8 n refl e
-kind_back (ops.Comparison comparison.NotEqual) n e = at_number (ops.Comparison comparison.NotEqual) 9 n refl e
-kind_back (ops.Comparison comparison.Less) n e = at_number (ops.Comparison comparison.Less) 10 n refl e
-kind_back (ops.Comparison comparison.LessOrEqual) n e = at_number (ops.Comparison comparison.LessOrEqual) 11 n refl e
-kind_back ops.Emit n e = at_number ops.Emit 12 n refl e
-kind_back ops.ForwardRef n e = absurd (none-some n e)
-kind_back ops.Br n e = absurd (none-some n e)
-kind_back ops.CondBr n e = absurd (none-some n e)
-kind_back ops.Call n e = absurd (none-some n e)
 
 -- ---- what is said, in parts
 
@@ -348,7 +321,7 @@ module _ (keys : List KitType) where
         and_same (test k) (is_name numbers x (attribute_at entries symbol_name)) (nat_eq x (numbers (name_said ps)))
         named
         ∙ ap (λ o. passes test o && nat_eq x (numbers (name_said ps)))
-        (sym (kind_back k kind (said_parts k entries n tys kind said e).2))
+        (sym (numbered_kind k kind (said_parts k entries n tys kind said e).2))
 
     pub function_called : (is_function k && is_name numbers x (attribute_at entries symbol_name))
         ≡ is_called numbers is_function x kind ps

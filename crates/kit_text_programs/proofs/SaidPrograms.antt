@@ -4,14 +4,12 @@ use Rattle.std.specs.Prelude.{nat_eq, reverse, option_and_then, if◌then◌else
 use Rattle.ir_names.specs.Tree.{node, a_tree}
 use Rattle.ir_print.specs.Pieces.{type_of_kind, attribute_of_kind, name, number, width, ValueTree, Pieces}
 use Rattle.ir_print.specs.Pieces.{operation, a_region, block, Entity, entity, Entities, no_entity, an_entity}
-use Rattle.kit_ops.specs.declared.kinds.Arithmetic.TheVariants as arithmetic
-use Rattle.kit_ops.specs.declared.kinds.Comparison.TheVariants as comparison
 use Rattle.kit_ops.specs.declared.kinds.KitOp.{KitOp}
 use Rattle.kit_ops.specs.declared.kinds.KitOp.TheVariants as ops
 use Rattle.kit.specs.Meaning.{is_function, is_module}
 use Rattle.kit_texts.specs.Forms.{read_ops}
 use Rattle.kit_texts.specs.Numbers.{number_modulo}
-use Rattle.kit_behaviour.specs.Machine.{Add, Sub, Mul, Div, Eql, Neq, Ult, Ule}
+use Rattle.kit_behaviour.specs.Machine.{Calculated, Compared}
 use Rattle.kit_behaviour.specs.Machine.{Op, Const, Calc, Emit, Return, Fun, FunctionsByPath}
 use Rattle.kit_behaviour.specs.Numbering.{place_fun}
 use Rattle.kit_behaviour.specs.Places.{Place}
@@ -44,22 +42,10 @@ second_in (n ∷ ns) = first_in ns
 -- the operation of a kind that defines and uses the values with these numbers
 abbrev pub op_said : Option KitOp → (defines widths uses : List ℕ) → Pieces → Op ℕ
 op_said (Some ops.Constant) ds ws us ps = Const (first_in ds) (bits_said ps)
-op_said (Some (ops.Arithmetic arithmetic.Add)) ds ws us ps =
-    Calc Add (first_in ws) (first_in ds) (first_in us) (second_in us)
-op_said (Some (ops.Arithmetic arithmetic.Sub)) ds ws us ps =
-    Calc Sub (first_in ws) (first_in ds) (first_in us) (second_in us)
-op_said (Some (ops.Arithmetic arithmetic.Mul)) ds ws us ps =
-    Calc Mul (first_in ws) (first_in ds) (first_in us) (second_in us)
-op_said (Some (ops.Arithmetic arithmetic.Div)) ds ws us ps =
-    Calc Div (first_in ws) (first_in ds) (first_in us) (second_in us)
-op_said (Some (ops.Comparison comparison.Equal)) ds ws us ps =
-    Calc Eql (first_in ws) (first_in ds) (first_in us) (second_in us)
-op_said (Some (ops.Comparison comparison.NotEqual)) ds ws us ps =
-    Calc Neq (first_in ws) (first_in ds) (first_in us) (second_in us)
-op_said (Some (ops.Comparison comparison.Less)) ds ws us ps =
-    Calc Ult (first_in ws) (first_in ds) (first_in us) (second_in us)
-op_said (Some (ops.Comparison comparison.LessOrEqual)) ds ws us ps =
-    Calc Ule (first_in ws) (first_in ds) (first_in us) (second_in us)
+op_said (Some (ops.Arithmetic a)) ds ws us ps =
+    Calc (Calculated a) (first_in ws) (first_in ds) (first_in us) (second_in us)
+op_said (Some (ops.Comparison c)) ds ws us ps =
+    Calc (Compared c) (first_in ws) (first_in ds) (first_in us) (second_in us)
 op_said (Some ops.Emit) ds ws us ps = Emit (first_in us)
 op_said _ ds ws us ps = Return us
 

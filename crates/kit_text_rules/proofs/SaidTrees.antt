@@ -30,7 +30,8 @@ use Rattle.kit_checks.specs.Words.{Every, integer_in}
 use Rattle.kit_checks.specs.World.{Attributes, world_of}
 use Rattle.kit_writable_trees.specs.Laws.{WritableContext, WritableTree}
 use Rattle.kit_text_programs.specs.Laws.{HaveOwnNumbers}
-use Rattle.kit_text_programs.proofs.SaidHeads.{kind_back, said_parts}
+use Rattle.kit_texts.specs.Readable.{numbered_kind}
+use Rattle.kit_text_programs.proofs.SaidHeads.{said_parts}
 use Rattle.kit_text_programs.proofs.SaidFunctions.{KitPart, same_operation, same_label, same_region}
 use Rattle.kit_text_programs.proofs.Unlabelled.{HasSomeLabel}
 use Rattle.kit_text_rules.specs.Alike.{AreBoth, AreDefinedAlike, AreHeads, AreIntegers, AreAlike, operations}
@@ -130,7 +131,7 @@ module _ (s z : WritableContext) (values others : List Value) (own : HaveOwnNumb
 
     kinds_same : v.payload.kind ≡ u.payload.kind
     kinds_same = same_Some v.payload.kind u.payload.kind
-        (sym (kind_back v.payload.kind kind has_number) ∙ kind_back u.payload.kind kind too)
+        (sym (numbered_kind v.payload.kind kind has_number) ∙ numbered_kind u.payload.kind kind too)
 
     here : IsRead s.types.keys v.payload.kind v.payload.notes.attributes (types_of v.results) pieces
     here = read s.types.keys v.payload.notes.attributes _ _ kind h.said pieces h.shown v.payload.kind h.says_it

@@ -1,5 +1,5 @@
 -- The kinds with the numbers that are read, and what is made of the parts of each.
-use Rattle.std.proofs.Common.{◌≡◌, ℕ, zero, suc, List, Option, Some, None, Result, Ok, Err, option_map, option_and_then, sym, ap, ◌∙◌, subst, refl}
+use Rattle.std.proofs.Common.{◌≡◌, ℕ, zero, suc, ◌+◌, List, Option, Some, None, Result, Ok, Err, option_map, option_and_then, sym, ap, ◌∙◌, subst, refl}
 use Rattle.std.specs.List.{slice_get}
 use Rattle.std.specs.Result.{IfOk}
 use Rattle.ir_base.specs.declared.types.TypeHandle.{TypeHandle}
@@ -10,8 +10,6 @@ use Rattle.ir_print.specs.declared.format.Part.{Part}
 use Rattle.ir_names.specs.Tree.{Trees, node}
 use Rattle.ir_print.specs.Pieces.{Pieces, ValueTree, attribute_of_kind}
 use Rattle.ir_print.specs.Shown.{Said, Pairs, ShowsType, ShowsParts, ShowsKey, ShowsAttribute, operands_said}
-use Rattle.kit_ops.specs.declared.kinds.Arithmetic.TheVariants.{Add, Sub, Mul, Div}
-use Rattle.kit_ops.specs.declared.kinds.Comparison.TheVariants.{Equal, NotEqual, Less, LessOrEqual}
 use Rattle.kit_ops.specs.declared.kinds.KitOp.{KitOp}
 use Rattle.kit_ops.specs.declared.kinds.KitOp.TheVariants as ops
 use Rattle.kit_ops.specs.declared.types.KitType.{KitType}
@@ -20,6 +18,8 @@ use Rattle.kit_ops.specs.declared.types.KitTypeKind.TheVariants as type_kinds
 use Rattle.kit_ops.specs.declared.attributes.KitAttr.{KitAttr}
 use Rattle.kit_ops.specs.declared.attributes.KitAttrKind.{KitAttrKind}
 use Rattle.kit_ops.specs.declared.attributes.KitAttrKind.TheVariants as attr_kinds
+use Rattle.kit_ops.specs.Arithmetic.{arithmetic_number, comparison_number}
+use Rattle.kit_ops.proofs.Operators as operators
 use Rattle.kit_texts.specs.Forms.{OpForm, form_of, number_of, read_ops, read_types, read_attrs}
 use Rattle.kit_texts.specs.Making.{MakesTypeOfKind, RefusesTypeOfKind, MakesForm, RefusesForm}
 use Rattle.kit_texts.specs.Says.{says, values, said_in, numbered, refused_type, refused_attribute, refused_operation, refused_in, refused_by, result_types, result_types_in, result_types_by, canonical}
@@ -50,21 +50,18 @@ numbered_at n said = option_map {U = ℕ × Trees (Said KitAttr)} (λ us. (n, us
 is_kind : (x kind : KitOp) → Some x ≡ Some kind → number_of kind ≡ number_of x
 is_kind x kind e = let same : kind ≡ x = cc in ap number_of same
 
+of_operator : (kind : KitOp) (n : ℕ) → operators.operator_number kind ≡ Some n → number_of kind ≡ Some (5 + n)
+of_operator (ops.Arithmetic a) n e = let same : arithmetic_number a ≡ n = cc in ap (λ m. Some (5 + m)) same
+of_operator (ops.Comparison c) n e = let same : comparison_number c ≡ n = cc in ap (λ m. Some (5 + m)) same
+of_operator _ n e = cc
+
 op_number : (n : ℕ) (kind : KitOp) → slice_get read_ops n ≡ Some kind → number_of kind ≡ Some n
 op_number zero kind e = is_kind ops.Module kind e
 op_number (suc zero) kind e = is_kind ops.Func kind e
 op_number (suc (suc zero)) kind e = is_kind ops.Constant kind e
 op_number (suc (suc (suc zero))) kind e = is_kind ops.Return kind e
-op_number (suc (suc (suc (suc zero)))) kind e = is_kind (ops.Arithmetic Add) kind e
-op_number (suc (suc (suc (suc (suc zero))))) kind e = is_kind (ops.Arithmetic Sub) kind e
-op_number (suc (suc (suc (suc (suc (suc zero)))))) kind e = is_kind (ops.Arithmetic Mul) kind e
-op_number (suc (suc (suc (suc (suc (suc (suc zero))))))) kind e = is_kind (ops.Arithmetic Div) kind e
-op_number (suc (suc (suc (suc (suc (suc (suc (suc zero)))))))) kind e = is_kind (ops.Comparison Equal) kind e
-op_number (suc (suc (suc (suc (suc (suc (suc (suc (suc zero))))))))) kind e = is_kind (ops.Comparison NotEqual) kind e
-op_number (suc (suc (suc (suc (suc (suc (suc (suc (suc (suc zero)))))))))) kind e = is_kind (ops.Comparison Less) kind e
-op_number (suc (suc (suc (suc (suc (suc (suc (suc (suc (suc (suc zero))))))))))) kind e = is_kind (ops.Comparison LessOrEqual) kind e
-op_number (suc (suc (suc (suc (suc (suc (suc (suc (suc (suc (suc (suc zero)))))))))))) kind e = is_kind ops.Emit kind e
-op_number (suc (suc (suc (suc (suc (suc (suc (suc (suc (suc (suc (suc (suc n))))))))))))) kind e = cc
+op_number (suc (suc (suc (suc zero)))) kind e = is_kind ops.Emit kind e
+op_number (suc (suc (suc (suc (suc n))))) kind e = of_operator kind n (operators.numbered n kind e)
 
 -- what is said of a kind with a number is said of its form
 refused_so : (n : ℕ) (ps : Pieces) (kind : KitOp) (form : OpForm) → slice_get read_ops n ≡ Some kind → form_of kind ≡ Some form → refused_operation n ps ≡ refused_in form ps

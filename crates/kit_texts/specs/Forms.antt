@@ -1,15 +1,14 @@
 -- Which kinds of `kit` can be read, in the order of their numbers, and what follows the dotted name of each: its form.
-use Rattle.std.specs.Prelude.{ℕ, List, [], ◌∷◌, map, codes, Option, Some, None}
+use Rattle.std.specs.Prelude.{ℕ, suc, List, [], ◌∷◌, map, codes, Option, Some, None}
 use Rattle.ir_print.specs.Formats.{Formats, Kind, Step, Steps, no_steps, steps, word, operand, operands, an_attribute, a_type, a_region, symbol_name, a_number, a_width, list_of}
 use Rattle.text_dialect.specs.Ids.{dotted}
-use Rattle.kit_ops.specs.declared.kinds.Arithmetic.TheVariants.{Add, Sub, Mul, Div}
-use Rattle.kit_ops.specs.declared.kinds.Comparison.TheVariants.{Equal, NotEqual, Less, LessOrEqual}
 use Rattle.kit_ops.specs.declared.kinds.KitOp.{KitOp}
 use Rattle.kit_ops.specs.declared.kinds.KitOp.TheVariants as ops
 use Rattle.kit_ops.specs.declared.types.KitTypeKind.{KitTypeKind}
 use Rattle.kit_ops.specs.declared.types.KitTypeKind.TheVariants as type_kinds
 use Rattle.kit_ops.specs.declared.attributes.KitAttrKind.{KitAttrKind}
 use Rattle.kit_ops.specs.declared.attributes.KitAttrKind.TheVariants as attr_kinds
+use Rattle.kit_ops.specs.Arithmetic.{operators, arithmetic_number, comparison_number}
 use Rattle.kit_ops.specs.Kinds.{op_names, type_names, attr_names}
 
 -- what follows the dotted name of an operation
@@ -37,8 +36,7 @@ form_of ops.Call = None
 
 -- the kinds of operations that can be read, by number
 abbrev pub read_ops : List KitOp
-read_ops = ops.Module ∷ ops.Func ∷ ops.Constant ∷ ops.Return ∷ ops.Arithmetic Add ∷ ops.Arithmetic Sub ∷ ops.Arithmetic Mul ∷ ops.Arithmetic Div
-    ∷ ops.Comparison Equal ∷ ops.Comparison NotEqual ∷ ops.Comparison Less ∷ ops.Comparison LessOrEqual ∷ ops.Emit ∷ []
+read_ops = ops.Module ∷ ops.Func ∷ ops.Constant ∷ ops.Return ∷ ops.Emit ∷ operators
 
 -- the number of a kind that can be read
 abbrev pub number_of : KitOp → Option ℕ
@@ -46,15 +44,9 @@ number_of ops.Module = Some 0
 number_of ops.Func = Some 1
 number_of ops.Constant = Some 2
 number_of ops.Return = Some 3
-number_of (ops.Arithmetic Add) = Some 4
-number_of (ops.Arithmetic Sub) = Some 5
-number_of (ops.Arithmetic Mul) = Some 6
-number_of (ops.Arithmetic Div) = Some 7
-number_of (ops.Comparison Equal) = Some 8
-number_of (ops.Comparison NotEqual) = Some 9
-number_of (ops.Comparison Less) = Some 10
-number_of (ops.Comparison LessOrEqual) = Some 11
-number_of ops.Emit = Some 12
+number_of ops.Emit = Some 4
+number_of (ops.Arithmetic a) = Some (suc (suc (suc (suc (suc (arithmetic_number a))))))
+number_of (ops.Comparison c) = Some (suc (suc (suc (suc (suc (comparison_number c))))))
 number_of ops.ForwardRef = None
 number_of ops.Br = None
 number_of ops.CondBr = None

@@ -27,8 +27,8 @@ use Rattle.kit_ops.specs.declared.attributes.KitAttr.TheVariants as attrs
 use Rattle.kit_texts.specs.Numbers.{number_modulo, is_signed, is_below_zero, number_of_bits, printed_number}
 use Rattle.kit_ops.specs.Keys.{symbol_name, function_type, constant_value}
 use Rattle.kit_ops.specs.Kinds.{type_kind, attr_kind}
-use Rattle.kit_ops.specs.declared.kinds.Arithmetic.TheVariants.{Add, Sub, Mul, Div}
-use Rattle.kit_ops.specs.declared.kinds.Comparison.TheVariants.{Equal, NotEqual, Less, LessOrEqual}
+use Rattle.kit_ops.specs.Arithmetic.{arithmetic_number, comparison_number}
+use Rattle.kit_ops.proofs.Operators.{arithmetic_at, comparison_at}
 use Rattle.kit_texts.specs.Forms.{OpForm, NamedRegion, TypedRegion, Value, TwoOperands, OneOperand, AnyOperands, form_of, number_of, steps_in, steps_of_form, read_ops, read_types, read_attrs, formats, op_kind, type_form, attr_form}
 use Rattle.kit_texts.specs.Says.{says, values, one, two, only, types_said, said_of_type, said_of_attribute, said_of_operation, said_of_module, said_of_function, is_same_type, said_of_constant, said_of_pair, pair_said, said_in, numbered, has_values, integer_said, refused_unless, is_type_member, are_types, is_number_of, refused_type, refused_attribute, refused_in, refused_by, canonical}
 use Rattle.kit_texts.specs.Seen.{none_seen, first_seen, one_seen, two_seen, three_seen}
@@ -328,15 +328,9 @@ numbered_kind ops.Module n e = at_number 0 n ops.Module e refl
 numbered_kind ops.Func n e = at_number 1 n ops.Func e refl
 numbered_kind ops.Constant n e = at_number 2 n ops.Constant e refl
 numbered_kind ops.Return n e = at_number 3 n ops.Return e refl
-numbered_kind (ops.Arithmetic Add) n e = at_number 4 n (ops.Arithmetic Add) e refl
-numbered_kind (ops.Arithmetic Sub) n e = at_number 5 n (ops.Arithmetic Sub) e refl
-numbered_kind (ops.Arithmetic Mul) n e = at_number 6 n (ops.Arithmetic Mul) e refl
-numbered_kind (ops.Arithmetic Div) n e = at_number 7 n (ops.Arithmetic Div) e refl
-numbered_kind (ops.Comparison Equal) n e = at_number 8 n (ops.Comparison Equal) e refl
-numbered_kind (ops.Comparison NotEqual) n e = at_number 9 n (ops.Comparison NotEqual) e refl
-numbered_kind (ops.Comparison Less) n e = at_number 10 n (ops.Comparison Less) e refl
-numbered_kind (ops.Comparison LessOrEqual) n e = at_number 11 n (ops.Comparison LessOrEqual) e refl
-numbered_kind ops.Emit n e = at_number 12 n ops.Emit e refl
+numbered_kind ops.Emit n e = at_number 4 n ops.Emit e refl
+numbered_kind (ops.Arithmetic a) n e = at_number (5 + arithmetic_number a) n (ops.Arithmetic a) e (arithmetic_at a)
+numbered_kind (ops.Comparison c) n e = at_number (5 + comparison_number c) n (ops.Comparison c) e (comparison_at c)
 numbered_kind ops.ForwardRef n e = absurd (none-some n e)
 numbered_kind ops.Br n e = absurd (none-some n e)
 numbered_kind ops.CondBr n e = absurd (none-some n e)

@@ -1,11 +1,10 @@
 //! The ids and the formats of kinds.
 ghost use Rattle.std.specs.Prelude.{◌≡◌, slice_get};
 ghost use Rattle.ir_print.specs.Formats.{steps_of};
-ghost use Rattle.kit_ops.specs.declared.kinds.KitOp.TheVariants as ops;
 ghost use Rattle.kit_texts.specs.Forms.{read_ops, read_types, read_attrs, op_kind, type_form, attr_form};
 
 use ir_print::Directive;
-use kit_ops::{Arithmetic, Comparison, KitAttrKind, KitOp, KitTypeKind};
+use kit_ops::{KitAttrKind, KitOp, KitTypeKind};
 
 const NAMED_REGION: &[Directive] = &[Directive::SymbolHeader, Directive::Region];
 
@@ -63,16 +62,8 @@ pub fn operation_kind_at(number: usize) -> Option<KitOp>
         1 => Some(KitOp::Func),
         2 => Some(KitOp::Constant),
         3 => Some(KitOp::Return),
-        4 => Some(KitOp::Arithmetic(Arithmetic::Add)),
-        5 => Some(KitOp::Arithmetic(Arithmetic::Sub)),
-        6 => Some(KitOp::Arithmetic(Arithmetic::Mul)),
-        7 => Some(KitOp::Arithmetic(Arithmetic::Div)),
-        8 => Some(KitOp::Comparison(Comparison::Equal)),
-        9 => Some(KitOp::Comparison(Comparison::NotEqual)),
-        10 => Some(KitOp::Comparison(Comparison::Less)),
-        11 => Some(KitOp::Comparison(Comparison::LessOrEqual)),
-        12 => Some(KitOp::Emit),
-        _ => None,
+        4 => Some(KitOp::Emit),
+        _ => KitOp::operator_at(number - 5),
     }
 }
 
@@ -98,28 +89,6 @@ pub fn attribute_kind_at(number: usize) -> Option<KitAttrKind>
     }
 }
 
-fn arithmetic_name(arithmetic: Arithmetic) -> &'static str
-    ensures { result.now ≡ (op_kind (ops.Arithmetic arithmetic)).id }
-{
-    match arithmetic {
-        Arithmetic::Add => "kit.add",
-        Arithmetic::Sub => "kit.sub",
-        Arithmetic::Mul => "kit.mul",
-        Arithmetic::Div => "kit.div",
-    }
-}
-
-fn comparison_name(comparison: Comparison) -> &'static str
-    ensures { result.now ≡ (op_kind (ops.Comparison comparison)).id }
-{
-    match comparison {
-        Comparison::Equal => "kit.eq",
-        Comparison::NotEqual => "kit.ne",
-        Comparison::Less => "kit.ult",
-        Comparison::LessOrEqual => "kit.ule",
-    }
-}
-
 /// The dotted name of a kind of operations.
 pub fn operation_name(kind: KitOp) -> &'static str
     ensures { result.now ≡ (op_kind kind).id }
@@ -129,8 +98,8 @@ pub fn operation_name(kind: KitOp) -> &'static str
         KitOp::Func => "builtin.func",
         KitOp::Constant => "builtin.constant",
         KitOp::ForwardRef => "builtin.forward_ref",
-        KitOp::Arithmetic(arithmetic) => arithmetic_name(arithmetic),
-        KitOp::Comparison(comparison) => comparison_name(comparison),
+        KitOp::Arithmetic(arithmetic) => arithmetic.dotted_name(),
+        KitOp::Comparison(comparison) => comparison.dotted_name(),
         KitOp::Br => "kit.br",
         KitOp::CondBr => "kit.cond_br",
         KitOp::Call => "kit.call",

@@ -18,7 +18,7 @@ use Rattle.opt_trees.proofs.Lists.{some_same, none_some}
 use Rattle.opt_trees.proofs.Defined.{result_defined, argument_defined}
 use Rattle.kit_behaviour.specs.Facts.{Fact, Undetermined, Unknown, fold_known, folds_to, AllUnknown, OpClosed, OpsClosed}
 use Rattle.kit_behaviour.specs.Facts as flat
-use Rattle.kit_behaviour.specs.Machine.{Arith, Add, Sub, Mul, Div, Eql, Neq, Ult, Ule, Edge, Select, Plain, Nonzero, Cases, Op, Const, Calc, Emit, Call, Branch, Return, Block, Fun, ops_left, arguments_in}
+use Rattle.kit_behaviour.specs.Machine.{Arith, Calculated, Compared, Edge, Select, Plain, Nonzero, Cases, Op, Const, Calc, Emit, Call, Branch, Return, Block, Fun, ops_left, arguments_in}
 use Rattle.kit_behaviour.specs.Rules.{EdgesOfOpFit}
 use Rattle.kit_ops.specs.declared.attributes.IntegerAttr.{IntegerAttr}
 use Rattle.kit_ops.specs.declared.kinds.KitOp.{KitOp}
@@ -99,35 +99,17 @@ one_type type_at (v ∷ []) y e h = let q : v.name ≡ y = cc e in ap (λ z. z �
 one_type type_at (v ∷ (w ∷ ds)) y e h = absurd (cc e)
 
 pub arith_folds : (a : Arith) → has_interface (kind_of a) op.ConstFold ≡ true
-arith_folds Add = refl
-arith_folds Sub = refl
-arith_folds Mul = refl
-arith_folds Div = refl
-arith_folds Eql = refl
-arith_folds Neq = refl
-arith_folds Ult = refl
-arith_folds Ule = refl
+arith_folds (Calculated a) = refl
+arith_folds (Compared c) = refl
 
 module _ {N : Names} (leads : TypeHandle → Option KitType) (numbered : List ℕ → ℕ) (type_at : N.value → TypeHandle) where
   pub fits_of : (a : Arith) (h : Head N kit_contents) (b y : N.value) → TypesFit leads {N = N} type_at (kind_of a) h → Has b h.operands → Has y (names_of h.results) → Fits leads a (type_at b) (type_at y)
-  fits_of Add h b y t i j = t b y i j
-  fits_of Sub h b y t i j = t b y i j
-  fits_of Mul h b y t i j = t b y i j
-  fits_of Div h b y t i j = t b y i j
-  fits_of Eql h b y t i j = t.1 y j
-  fits_of Neq h b y t i j = t.1 y j
-  fits_of Ult h b y t i j = t.1 y j
-  fits_of Ule h b y t i j = t.1 y j
+  fits_of (Calculated a) h b y t i j = t b y i j
+  fits_of (Compared c) h b y t i j = t.1 y j
 
   alike : (a : Arith) (h : Head N kit_contents) (b c y : N.value) → TypesFit leads {N = N} type_at (kind_of a) h → Has b h.operands → Has c h.operands → Has y (names_of h.results) → type_at c ≡ type_at b
-  alike Add h b c y t i j k = t c y j k ∙ sym (t b y i k)
-  alike Sub h b c y t i j k = t c y j k ∙ sym (t b y i k)
-  alike Mul h b c y t i j k = t c y j k ∙ sym (t b y i k)
-  alike Div h b c y t i j k = t c y j k ∙ sym (t b y i k)
-  alike Eql h b c y t i j k = t.0 c b j i
-  alike Neq h b c y t i j k = t.0 c b j i
-  alike Ult h b c y t i j k = t.0 c b j i
-  alike Ule h b c y t i j k = t.0 c b j i
+  alike (Calculated a) h b c y t i j k = t c y j k ∙ sym (t b y i k)
+  alike (Compared a) h b c y t i j k = t.0 c b j i
 
   pub branch_kind : (h : Head N kit_contents) (names : List N.block) (s : Select) (xs : List N.value) (e : Edge N.value) (es : List (Edge N.value)) → IsFlatBranch (kit_reading leads numbered) names h s xs e es → (has_interface h.content.kind op.ConstFold ≡ false) × (has_interface h.content.kind op.Branch ≡ true) × (names_of h.results ≡ [])
   branch_kind h names Plain xs e es is = (ap (λ k. has_interface k op.ConstFold) is.0.kind, ap (λ k. has_interface k op.Branch) is.0.kind, is.0.results)

@@ -10,7 +10,7 @@ use Rattle.opt_trees.specs.Dce.{ForwardsTo}
 use Rattle.opt_trees.specs.Occurrences.{Has, Occurrence}
 use Rattle.opt_trees.proofs.Lists.{some_same, none_some}
 use Rattle.kit_behaviour.specs.Facts.{all_forwarded}
-use Rattle.kit_behaviour.specs.Machine.{Arith, Add, Sub, Mul, Div, Eql, Neq, Ult, Ule, Edge, Op, Const, Calc, Emit, Call, Branch, Return, Fun, arguments_in}
+use Rattle.kit_behaviour.specs.Machine.{Arith, Calculated, Compared, Edge, Op, Const, Calc, Emit, Call, Branch, Return, Fun, arguments_in}
 use Rattle.kit_behaviour.specs.RemovedValues.{may_trap}
 use Rattle.kit_behaviour.specs.DeadValues.{forwards_dead, edges_dead, use_dead}
 use Rattle.kit_behaviour.specs.Rules.{EdgesOfOpFit}
@@ -27,24 +27,12 @@ use Rattle.kit_views.proofs.Uses.{and_both, and_left, and_right, true_false, not
 use Rattle.kit_views.proofs.Standing.{whole, Given, to_tree, to_flat}
 
 pub arith_effects : (a : Arith) → (row_of (kind_of a)).has_effects ≡ may_trap a
-arith_effects Add = refl
-arith_effects Sub = refl
-arith_effects Mul = refl
-arith_effects Div = refl
-arith_effects Eql = refl
-arith_effects Neq = refl
-arith_effects Ult = refl
-arith_effects Ule = refl
+arith_effects (Calculated a) = refl
+arith_effects (Compared c) = refl
 
 pub arith_branch : (a : Arith) → has_interface (kind_of a) op.Branch ≡ false
-arith_branch Add = refl
-arith_branch Sub = refl
-arith_branch Mul = refl
-arith_branch Div = refl
-arith_branch Eql = refl
-arith_branch Neq = refl
-arith_branch Ult = refl
-arith_branch Ule = refl
+arith_branch (Calculated a) = refl
+arith_branch (Compared c) = refl
 
 module _ {V : Type 0} (same : V → V → Bool) (law : IsSameness same) (E : V → Bool) (v : V) where
   forwards_all : (ts gs : List V) → ((p : ℕ) (a : V) → slice_get ts p ≡ Some a → slice_get gs p ≡ Some v → E a ≡ true) → forwards_dead same E v ts gs ≡ true

@@ -18,7 +18,7 @@ use Rattle.opt_trees.proofs.Defined.{result_defined, argument_defined}
 use Rattle.opt_trees.proofs.NoneDead.{has-left}
 use Rattle.kit_behaviour.specs.Facts.{Fact, Undetermined, Unknown}
 use Rattle.kit_behaviour.specs.Facts as flat
-use Rattle.kit_behaviour.specs.Machine.{Arith, Add, Sub, Mul, Div, Eql, Neq, Ult, Ule, Op, Const, Calc, Emit, Call, Branch, Return, Fun}
+use Rattle.kit_behaviour.specs.Machine.{Arith, Calculated, Compared, Op, Const, Calc, Emit, Call, Branch, Return, Fun}
 use Rattle.kit_ops.specs.declared.attributes.IntegerAttr.{IntegerAttr}
 use Rattle.kit_ops.specs.declared.kinds.KitOp.{KitOp}
 use Rattle.kit_ops.specs.declared.kinds.KitOp.TheVariants as ops
@@ -55,14 +55,8 @@ known_as leads ty k (flat.Known n) a is e =
     let m : number_as leads ty n ≡ a = cc q in ap (λ (z : IntegerAttr). flat.Known z.bits) m
 
 pub arith_makes : (a : Arith) → is_constant (kind_of a) ≡ false
-arith_makes Add = refl
-arith_makes Sub = refl
-arith_makes Mul = refl
-arith_makes Div = refl
-arith_makes Eql = refl
-arith_makes Neq = refl
-arith_makes Ult = refl
-arith_makes Ule = refl
+arith_makes (Calculated a) = refl
+arith_makes (Compared c) = refl
 
 module _ {N : Names} (leads : TypeHandle → Option KitType) (numbered : List ℕ → ℕ) (type_at : N.value → TypeHandle) where
   by_kind : (h : Head N kit_contents) (kd : KitOp) (g : KitOp → Bool) (b : Bool) → h.content.kind ≡ kd → g kd ≡ b → g h.content.kind ≡ b

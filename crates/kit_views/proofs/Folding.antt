@@ -9,13 +9,13 @@ use Rattle.opt_solvers.specs.declared.known.Known.TheVariants as known
 use Rattle.opt_solvers.specs.Known.{asked}
 use Rattle.kit_behaviour.specs.Facts.{Fact, Undetermined, Unknown, fold_known, folds_to}
 use Rattle.kit_behaviour.specs.Facts as flat
-use Rattle.kit_behaviour.specs.Machine.{Arith, Add, Sub, Mul, Div, Eql, Neq, Ult, Ule, bit, calc}
+use Rattle.kit_behaviour.specs.Machine.{Arith, Calculated, Compared, calc}
+use Rattle.kit_ops.specs.Arithmetic.{compare, bit}
 use Rattle.kit_ops.specs.Arithmetic as whole
+use Rattle.kit_ops.proofs.Operators.{calc_below}
 use Rattle.kit_ops.specs.declared.attributes.IntegerAttr.{IntegerAttr}
 use Rattle.kit_ops.specs.declared.kinds.Arithmetic.{Arithmetic}
-use Rattle.kit_ops.specs.declared.kinds.Arithmetic.TheVariants as arithmetic
 use Rattle.kit_ops.specs.declared.kinds.Comparison.{Comparison}
-use Rattle.kit_ops.specs.declared.kinds.Comparison.TheVariants as comparison
 use Rattle.kit_ops.specs.declared.kinds.KitOp.TheVariants as ops
 use Rattle.kit_ops.specs.declared.types.KitType.{KitType}
 use Rattle.kit.specs.Folded.{same_number}
@@ -24,57 +24,15 @@ use Rattle.kit_views.specs.Reading.{integer_of}
 use Rattle.kit_views.specs.FlatView.{kind_of}
 use Rattle.kit_views.specs.Typed.{number_as, width_at, IsMachineInteger, LeadsToBit}
 
--- a difference modulo 2^w, taken by way of 2^64
-difference : (x y w : ℕ) → w ≤ 64 → y < 2 ^ w → (x + (2 ^ 64 - y)) % 2 ^ w ≡ (x + 2 ^ w - y) % 2 ^ w
-difference x y w l h =
-    let k : ℕ = 64 - w in
-    let e : 2 ^ 64 ≡ 2 ^ w * 2 ^ k = let q : 64 ≡ w + k = omega (arith, l) in ap (λ z. 2 ^ z) q ∙ pow-add 2 w k in
-    let p = pow_pos k in
-    let m : ℕ = 2 ^ k - 1 in
-    let s : 2 ^ k ≡ suc m = omega (arith, p) in
-    let n : 2 ^ w * 2 ^ k ≡ 2 ^ w + 2 ^ w * m = ap (λ z. 2 ^ w * z) s ∙ times (2 ^ w) m in
-    let g : x + (2 ^ 64 - y) ≡ (x + 2 ^ w - y) + 2 ^ w * m = sums x y (2 ^ w) (2 ^ w * m) (2 ^ 64) (e ∙ n) h in
-    ap (λ z. z % 2 ^ w) g ∙ add-mul-mod_self_left (x + 2 ^ w - y) (2 ^ w) m
-  where
-    times : (a m : ℕ) → a * suc m ≡ a + a * m
-    times a m = grind arith
-
-    sums : (x y a b c : ℕ) → c ≡ a + b → y < a → x + (c - y) ≡ (x + a - y) + b
-    sums x y a b c e h = omega (arith, e, h)
-
--- arithmetic of both
-calc_add : (n m w : ℕ) → whole.calc arithmetic.Add w n m ≡ calc Add w n m
-calc_add n m w = refl
-
-calc_sub : (n m w : ℕ) → w ≤ 64 → m < 2 ^ w → whole.calc arithmetic.Sub w n m ≡ calc Sub w n m
-calc_sub n m w l h = ap Some (difference n m w l h)
-
-calc_div : (n m w : ℕ) → whole.calc arithmetic.Div w n m ≡ calc Div w n m
-calc_div n zero w = refl
-calc_div n (suc m) w = ap (λ b. if b then None else Some (n / suc m)) (not_zero m)
-  where
-    not_zero : (m : ℕ) → nat_eq (suc m) 0 ≡ false
-    not_zero m = grind arith
-
 some_bit : (b : Bool) → (if b then 1 else 0) ≡ bit b
 some_bit true = refl
 some_bit false = refl
 
-some_not : (b : Bool) → ◌≡◌ {A = ℕ} (if not b then 1 else 0) (if b then 0 else 1)
-some_not true = refl
-some_not false = refl
-
 module _ (leads : TypeHandle → Option KitType) where
   -- which types arithmetic and comparisons have
   abbrev pub Fits : Arith → TypeHandle → TypeHandle → Type 0
-  Fits Add tx tr = tx ≡ tr
-  Fits Sub tx tr = tx ≡ tr
-  Fits Mul tx tr = tx ≡ tr
-  Fits Div tx tr = tx ≡ tr
-  Fits Eql tx tr = LeadsToBit leads tr
-  Fits Neq tx tr = LeadsToBit leads tr
-  Fits Ult tx tr = LeadsToBit leads tr
-  Fits Ule tx tr = LeadsToBit leads tr
+  Fits (Calculated a) tx tr = tx ≡ tr
+  Fits (Compared c) tx tr = LeadsToBit leads tr
 
   integer_width : (ty : TypeHandle) → IsMachineInteger leads ty → (1 ≤ width_at leads ty) × (width_at leads ty ≤ 64)
   integer_width ty i =
@@ -105,21 +63,17 @@ module _ (leads : TypeHandle → Option KitType) where
   bit_is : (tr : TypeHandle) (b : Bool) (c : ℕ) → LeadsToBit leads tr → (if b then 1 else 0) ≡ c → bit_of tr b ≡ number_as leads tr c
   bit_is tr b c i e = λ j. record { ty = tr; integer = ap integer_of (sym i) j; bits = e j }
 
-  fold_compare : (k : Comparison) (es : Entries) (ty tr : TypeHandle) (n m c : ℕ) → IsMachineInteger leads ty → LeadsToBit leads tr → (if whole.compare k n m then 1 else 0) ≡ c → fold_of (ops.Comparison k) es (tr ∷ []) (Some (number_as leads ty n) ∷ Some (number_as leads ty m) ∷ []) ≡ Some (number_as leads tr c) ∷ []
-  fold_compare k es ty tr n m c i t e =
-      ap (λ b. if_of_type tr (if b then Some (bit_of tr (whole.compare k n m)) else None) ∷ []) (numbers ty n m i)
-      ∙ (ap (λ z. if_of_type tr (Some z) ∷ []) (bit_is tr (whole.compare k n m) c t e) ∙ ap (λ z. z ∷ []) (of_type tr c))
+  fold_compare : (k : Comparison) (es : Entries) (ty tr : TypeHandle) (n m : ℕ) → IsMachineInteger leads ty → LeadsToBit leads tr → fold_of (ops.Comparison k) es (tr ∷ []) (Some (number_as leads ty n) ∷ Some (number_as leads ty m) ∷ []) ≡ Some (number_as leads tr (bit (compare k n m))) ∷ []
+  fold_compare k es ty tr n m i t =
+      ap (λ b. if_of_type tr (if b then Some (bit_of tr (compare k n m)) else None) ∷ []) (numbers ty n m i)
+      ∙ (ap (λ z. if_of_type tr (Some z) ∷ []) (bit_is tr (compare k n m) (bit (compare k n m)) t (some_bit (compare k n m))) ∙ ap (λ z. z ∷ []) (of_type tr (bit (compare k n m))))
 
   -- of known operands both fold alike
-  fold_numbers : (a : Arith) (es : Entries) (tx tr : TypeHandle) (n m : ℕ) → IsMachineInteger leads tx → Fits a tx tr → m < 2 ^ width_at leads tx → fold_of (kind_of a) es (tr ∷ []) (Some (number_as leads tx n) ∷ Some (number_as leads tx m) ∷ []) ≡ option_map (number_as leads tr) (calc a (width_at leads tr) n m) ∷ []
-  fold_numbers Add es tx tr n m i t h = subst (λ z. fold_of (kind_of Add) es (z ∷ []) (Some (number_as leads tx n) ∷ Some (number_as leads tx m) ∷ []) ≡ option_map (number_as leads z) (calc Add (width_at leads z) n m) ∷ []) t (fold_arith arithmetic.Add es tx n m (calc Add (width_at leads tx) n m) i refl)
-  fold_numbers Sub es tx tr n m i t h = subst (λ z. fold_of (kind_of Sub) es (z ∷ []) (Some (number_as leads tx n) ∷ Some (number_as leads tx m) ∷ []) ≡ option_map (number_as leads z) (calc Sub (width_at leads z) n m) ∷ []) t (fold_arith arithmetic.Sub es tx n m (calc Sub (width_at leads tx) n m) i (calc_sub n m (width_at leads tx) (integer_width tx i).1 h))
-  fold_numbers Mul es tx tr n m i t h = subst (λ z. fold_of (kind_of Mul) es (z ∷ []) (Some (number_as leads tx n) ∷ Some (number_as leads tx m) ∷ []) ≡ option_map (number_as leads z) (calc Mul (width_at leads z) n m) ∷ []) t (fold_arith arithmetic.Mul es tx n m (calc Mul (width_at leads tx) n m) i refl)
-  fold_numbers Div es tx tr n m i t h = subst (λ z. fold_of (kind_of Div) es (z ∷ []) (Some (number_as leads tx n) ∷ Some (number_as leads tx m) ∷ []) ≡ option_map (number_as leads z) (calc Div (width_at leads z) n m) ∷ []) t (fold_arith arithmetic.Div es tx n m (calc Div (width_at leads tx) n m) i (calc_div n m (width_at leads tx)))
-  fold_numbers Eql es tx tr n m i t h = fold_compare comparison.Equal es tx tr n m (bit (nat_eq n m)) i t (some_bit (nat_eq n m))
-  fold_numbers Neq es tx tr n m i t h = fold_compare comparison.NotEqual es tx tr n m (if nat_eq n m then 0 else 1) i t (some_not (nat_eq n m))
-  fold_numbers Ult es tx tr n m i t h = fold_compare comparison.Less es tx tr n m (bit (nat_lt n m)) i t (some_bit (nat_lt n m))
-  fold_numbers Ule es tx tr n m i t h = fold_compare comparison.LessOrEqual es tx tr n m (bit (nat_le n m)) i t (some_bit (nat_le n m))
+  fold_numbers : (a : Arith) (es : Entries) (tx tr : TypeHandle) (n m : ℕ) → IsMachineInteger leads tx → Fits a tx tr → fold_of (kind_of a) es (tr ∷ []) (Some (number_as leads tx n) ∷ Some (number_as leads tx m) ∷ []) ≡ option_map (number_as leads tr) (calc a (width_at leads tr) n m) ∷ []
+  fold_numbers (Calculated a) es tx tr n m i t =
+      subst (λ z. fold_of (ops.Arithmetic a) es (z ∷ []) (Some (number_as leads tx n) ∷ Some (number_as leads tx m) ∷ []) ≡ option_map (number_as leads z) (whole.calc a (width_at leads z) n m) ∷ []) t
+      (fold_arith a es tx n m (whole.calc a (width_at leads tx) n m) i refl)
+  fold_numbers (Compared c) es tx tr n m i t = fold_compare c es tx tr n m i t
 
   -- and what comes out fits
   bit_small : (tr : TypeHandle) (b : Bool) → LeadsToBit leads tr → bit b < 2 ^ width_at leads tr
@@ -133,22 +87,14 @@ module _ (leads : TypeHandle → Option KitType) where
   Below tr None = Unit {0}
   Below tr (Some c) = c < 2 ^ width_at leads tr
 
+  below_all : (tr : TypeHandle) (o : Option ℕ) → ((c : ℕ) → o ≡ Some c → c < 2 ^ width_at leads tr) → Below tr o
+  below_all tr None h = tt
+  below_all tr (Some c) h = h c refl
+
   fold_below : (a : Arith) (tx tr : TypeHandle) (n m : ℕ) → Fits a tx tr → n < 2 ^ width_at leads tx → Below tr (calc a (width_at leads tr) n m)
-  fold_below Add tx tr n m t h = mod-lt (n + m) (pow_pos (width_at leads tr))
-  fold_below Sub tx tr n m t h = mod-lt (n + 2 ^ width_at leads tr - m) (pow_pos (width_at leads tr))
-  fold_below Mul tx tr n m t h = mod-lt (n * m) (pow_pos (width_at leads tr))
-  fold_below Div tx tr n zero t h = tt
-  fold_below Div tx tr n (suc m) t h =
-      let q : n < 2 ^ width_at leads tr = subst (λ z. n < 2 ^ width_at leads z) t h in
-      let d : n / suc m ≤ n = div-le_self n (suc m) in omega (arith, q, d)
-  fold_below Eql tx tr n m t h = bit_small tr (nat_eq n m) t
-  fold_below Neq tx tr n m t h = subst (λ z. z < 2 ^ width_at leads tr) (negated (nat_eq n m)) (bit_small tr (not (nat_eq n m)) t)
-    where
-      negated : (b : Bool) → bit (not b) ≡ (if b then 0 else 1)
-      negated true = refl
-      negated false = refl
-  fold_below Ult tx tr n m t h = bit_small tr (nat_lt n m) t
-  fold_below Ule tx tr n m t h = bit_small tr (nat_le n m) t
+  fold_below (Calculated a) tx tr n m t h = below_all tr (whole.calc a (width_at leads tr) n m)
+      (λ c e. calc_below a (width_at leads tr) n m c (subst (λ z. n < 2 ^ width_at leads z) t h) e)
+  fold_below (Compared c) tx tr n m t h = bit_small tr (compare c n m) t
 
   -- a value is known alike in both: as a number of its type, or as any
   pub data Det (ty : TypeHandle) (k : Known IntegerAttr) (l : Fact) : Type 0 where
@@ -165,31 +111,19 @@ module _ (leads : TypeHandle → Option KitType) where
     pub below : Below tr o
 
   second_open : (a : Arith) (es : Entries) (tr : TypeHandle) (x : IntegerAttr) → fold_of (kind_of a) es (tr ∷ []) (Some x ∷ None ∷ []) ≡ None ∷ []
-  second_open Add es tr x = refl
-  second_open Sub es tr x = refl
-  second_open Mul es tr x = refl
-  second_open Div es tr x = refl
-  second_open Eql es tr x = refl
-  second_open Neq es tr x = refl
-  second_open Ult es tr x = refl
-  second_open Ule es tr x = refl
+  second_open (Calculated a) es tr x = refl
+  second_open (Compared c) es tr x = refl
 
   first_open : (a : Arith) (es : Entries) (tr : TypeHandle) (y : Option IntegerAttr) → fold_of (kind_of a) es (tr ∷ []) (None ∷ y ∷ []) ≡ None ∷ []
-  first_open Add es tr y = refl
-  first_open Sub es tr y = refl
-  first_open Mul es tr y = refl
-  first_open Div es tr y = refl
-  first_open Eql es tr y = refl
-  first_open Neq es tr y = refl
-  first_open Ult es tr y = refl
-  first_open Ule es tr y = refl
+  first_open (Calculated a) es tr y = refl
+  first_open (Compared c) es tr y = refl
 
   pub fold_pair : (a : Arith) (es : Entries) (tx tr : TypeHandle) (kx ky : Known IntegerAttr) (lx ly : Fact) → IsMachineInteger leads tx → Fits a tx tr → Det tx kx lx → Det tx ky ly → FoldPair a es tr kx ky lx ly
   fold_pair a es tx tr kx ky lx ly i t (number n e f h) (number m p q j) = record {
     qs = Some (number_as leads tx n) ∷ Some (number_as leads tx m) ∷ [];
     asks = λ z. asked (e z ∷ p z ∷ []);
     o = calc a (width_at leads tr) n m;
-    folds = fold_numbers a es tx tr n m i t j;
+    folds = fold_numbers a es tx tr n m i t;
     numbers_fold = λ z. folds_to a (width_at leads tr) (f z) (q z);
     below = fold_below a tx tr n m t h;
   }

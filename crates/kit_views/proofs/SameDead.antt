@@ -9,7 +9,7 @@ use Rattle.opt_trees.specs.Dialect.{Dialect}
 use Rattle.opt_trees.specs.Dce.{TreeSurroundings, Item, Whole, Slot, MayClose, May, Touches, IsKept, IsDead, dies, IsExcused, by_operation, by_argument, Gone, IsGoneExactly}
 use Rattle.opt_trees.specs.Occurrences.{Has, Occurrence, BlockOccurrence, defined_in, occurrences_of, block_occurrences_of, Use}
 use Rattle.opt_trees.proofs.Defined.{result_defined, argument_defined}
-use Rattle.kit_behaviour.specs.Machine.{Arith, Add, Sub, Mul, Div, Eql, Neq, Ult, Ule, Op, Const, Calc, Emit, Call, Branch, Return, Block, Fun, arguments_of, arguments_in}
+use Rattle.kit_behaviour.specs.Machine.{Arith, Calculated, Compared, Op, Const, Calc, Emit, Call, Branch, Return, Block, Fun, arguments_of, arguments_in}
 use Rattle.kit_behaviour.specs.DeadValues.{candidates, may_die, all_uses_dead, HoldsDead}
 use Rattle.kit_behaviour.specs.DeadValues as flat
 use Rattle.kit_behaviour.specs.Scopes.{is_in}
@@ -30,14 +30,8 @@ use Rattle.kit_views.proofs.Standing.{whole, Given, root_spot, pair, back, block
 use Rattle.kit_views.proofs.Excused.{arith_effects, Own, Passed, use_ok, use_back}
 
 arith_ends : (a : Arith) → has_interface (kind_of a) op.IsTerminator ≡ false
-arith_ends Add = refl
-arith_ends Sub = refl
-arith_ends Mul = refl
-arith_ends Div = refl
-arith_ends Eql = refl
-arith_ends Neq = refl
-arith_ends Ult = refl
-arith_ends Ule = refl
+arith_ends (Calculated a) = refl
+arith_ends (Compared c) = refl
 
 no_successors : {B : Type 0} (bs : List B) (b : B) → map Some bs ≡ [] → Has b bs → ⊥
 no_successors [] b e i = i

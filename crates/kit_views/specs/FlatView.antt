@@ -5,11 +5,9 @@ use Rattle.ir_trees.specs.Searched.{AreDistinct, operation_names}
 use Rattle.ir_trees.specs.Renames.{names_of}
 use Rattle.ir_trees.specs.Trees.{Head, Operations, Blocks, Tree, end, operation, block, region, Root}
 use Rattle.opt_trees.specs.Occurrences.{types_of, defined_in}
-use Rattle.kit_ops.specs.declared.kinds.Arithmetic.TheVariants as arithmetic
-use Rattle.kit_ops.specs.declared.kinds.Comparison.TheVariants as comparison
 use Rattle.kit_ops.specs.declared.kinds.KitOp.{KitOp}
 use Rattle.kit_ops.specs.declared.kinds.KitOp.TheVariants as ops
-use Rattle.kit_behaviour.specs.Machine.{Arith, Add, Sub, Mul, Div, Eql, Neq, Ult, Ule, Edge, Select, Plain, Nonzero}
+use Rattle.kit_behaviour.specs.Machine.{Arith, Calculated, Compared, Edge, Select, Plain, Nonzero}
 use Rattle.kit_behaviour.specs.Machine.{Cases, Op, Const, Calc, Emit, Call, Branch, Return, Fun, left_in}
 use Rattle.kit_behaviour.specs.Facts.{all_forwarded}
 use Rattle.kit_behaviour.specs.Rules.{AllEdgesFit}
@@ -22,14 +20,8 @@ pub record IsSameness {V : Type 0} (same : V → V → Bool) : Type 0 where
 
 -- the kind of an operation of arithmetic or of a comparison
 abbrev pub kind_of : Arith → KitOp
-kind_of Add = ops.Arithmetic arithmetic.Add
-kind_of Sub = ops.Arithmetic arithmetic.Sub
-kind_of Mul = ops.Arithmetic arithmetic.Mul
-kind_of Div = ops.Arithmetic arithmetic.Div
-kind_of Eql = ops.Comparison comparison.Equal
-kind_of Neq = ops.Comparison comparison.NotEqual
-kind_of Ult = ops.Comparison comparison.Less
-kind_of Ule = ops.Comparison comparison.LessOrEqual
+kind_of (Calculated a) = ops.Arithmetic a
+kind_of (Compared c) = ops.Comparison c
 
 module _ {N : Names} {S : Contents} (r : Reading S) (names : List N.block) where
   -- an operation of this kind, with these results and operands, whose successors are the targets of these edges by

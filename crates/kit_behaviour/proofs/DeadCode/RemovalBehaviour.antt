@@ -1,9 +1,11 @@
 -- A program without values that nothing needs behaves alike.
-use Rattle.std.proofs.Common.{◌≡◌, ℕ, zero, suc, ◌≤◌, ◌+◌, ◌-◌, ◌*◌, ◌%◌, ◌^◌, Bool, true, false, List, [], ◌∷◌, Option, Some, None, refl, sym, ap, ◌∙◌, subst, arith}
-use Rattle.std.specs.Prelude.{map, slice_get, drop, if◌then◌else◌, nat_eq, nat_lt, nat_le}
+use Rattle.std.proofs.Common.{◌≡◌, ℕ, zero, suc, ◌≤◌, Bool, true, false, List, [], ◌∷◌, Option, Some, None, refl, sym, ap, ◌∙◌, subst, arith}
+use Rattle.std.specs.Prelude.{map, slice_get, drop, if◌then◌else◌}
 use Rattle.std.proofs.lemmas.Option.{slice_get-map}
 use Rattle.std.specs.Prelude.{option_map}
-use Rattle.kit_behaviour.specs.Machine.{AllEdges, edge_at, chosen, Arith, bit, Add, Sub, Mul, Div, Eql, Neq, Ult, Ule, Edge, Op, Const, Calc, Emit, Call, Branch, Return, Block, Fun, Frame, Effect, Next, FunctionsByPath, Env, bind, bind_all, calc, next, go, with_result, effect, act, entry, results_of, ops_left, left_in, arguments_of, arguments_in, Alike}
+use Rattle.kit_ops.specs.Arithmetic.{compare, bit}
+use Rattle.kit_ops.proofs.Operators as operators
+use Rattle.kit_behaviour.specs.Machine.{AllEdges, edge_at, chosen, Arith, Calculated, Compared, Edge, Op, Const, Calc, Emit, Call, Branch, Return, Block, Fun, Frame, Effect, Next, FunctionsByPath, Env, bind, bind_all, calc, next, go, with_result, effect, act, entry, results_of, ops_left, left_in, arguments_of, arguments_in, Alike}
 use Rattle.kit_behaviour.specs.RemovedValues.{EdgeLive, may_trap, goes, live, pick, thin_edge, thin_op, thin_ops, thin_block, thin, thinned, AllLive, GivesLive, OpLive, OpsLive, SetMayGo, going, FewGo}
 use Rattle.kit_behaviour.proofs.Behaviour.FrameLemmas.{IsSameness, left_next, fr}
 use Rattle.kit_behaviour.proofs.Behaviour.Simulation.{EffectsAlike, WaitAlike, Meet, alike}
@@ -53,16 +55,10 @@ live_all d [] h = refl
 live_all d (v ∷ vs) h =
     ap (λ b. if b then live d vs else v ∷ live d vs) h.0 ∙ ap (λ l. v ∷ l) (live_all d vs h.1)
 
--- the kinds are told apart here, and nowhere else: only a kind that may trap has no number
+-- only an operation that may trap has no number
 calc_total : (a : Arith) (w x y : ℕ) → may_trap a ≡ false → (n : ℕ) × (calc a w x y ≡ Some n)
-calc_total Add w x y h = ((x + y) % 2 ^ w, refl)
-calc_total Sub w x y h = ((x + 2 ^ w - y) % 2 ^ w, refl)
-calc_total Mul w x y h = ((x * y) % 2 ^ w, refl)
-calc_total Div w x y h = absurd (cc h)
-calc_total Eql w x y h = (bit (nat_eq x y), refl)
-calc_total Neq w x y h = (if nat_eq x y then 0 else 1, refl)
-calc_total Ult w x y h = (bit (nat_lt x y), refl)
-calc_total Ule w x y h = (bit (nat_le x y), refl)
+calc_total (Calculated a) w x y h = operators.calc_total a w x y h
+calc_total (Compared c) w x y h = (bit (compare c x y), refl)
 
 -- the numbers of the values that stay are the same
 abbrev Agree : {V : Type 0} → (V → Bool) → Env V → Env V → Type 0

@@ -21,7 +21,8 @@ use Rattle.kit_ops.specs.declared.kinds.KitOp.{KitOp}
 use Rattle.kit_ops.specs.declared.kinds.KitOp.TheVariants as ops
 use Rattle.kit_ops.specs.declared.types.KitType.{KitType}
 use Rattle.kit_texts.specs.Says.{says}
-use Rattle.kit_text_programs.proofs.SaidHeads.{kind_back, said_parts}
+use Rattle.kit_texts.specs.Readable.{numbered_kind}
+use Rattle.kit_text_programs.proofs.SaidHeads.{said_parts}
 use Rattle.kit_text_programs.proofs.SaidPrograms.{numbers_in}
 use Rattle.kit_text_rules.proofs.AlikeLists.{pairs_joined}
 use Rattle.kit_same_modules.specs.Laws.{types_among}
@@ -80,7 +81,7 @@ module _ (number : ValueTree → ℕ) (code : TypeHandle → ℕ) (keys : List K
       kind_is : v.payload.kind ≡ kind_said kind
       kind_is = let parts = said_parts v.payload.kind v.payload.notes.attributes (length v.operands) (types_of v.results)
           kind h.said h.says_it in
-          sym (ap (λ o. unwrap_or o ops.Module) (kind_back v.payload.kind kind parts.2))
+          sym (ap (λ o. unwrap_or o ops.Module) (numbered_kind v.payload.kind kind parts.2))
 
       content_meant : operation_meant code v.payload ≡ operation_said number kind results pieces
       content_meant =

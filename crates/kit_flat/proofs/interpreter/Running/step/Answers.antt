@@ -1,6 +1,7 @@
 use Rattle.std.proofs.Common.{◌≡◌, ◌∙◌, sym, ap, subst, refl, ℕ, List, [], ◌∷◌, ◌++◌, length, map, nat_eq, Some, arith}
 use Rattle.std.proofs.lemmas.List.{get_or_read, nil_from_length}
-use Rattle.kit_flat.specs.Machine.{arithmetic, compares, bit, first_frame, resumed, Ended}
+use Rattle.kit_flat.specs.Machine.{first_frame, resumed, Ended}
+use Rattle.kit_ops.specs.Arithmetic.{calc, compare, bit}
 use Rattle.kit_flat.specs.View.{numbers_of, flat_code, frame_view}
 use Rattle.kit_flat.specs.Sound.{Fetched, IsActive}
 use Rattle.kit_flat.specs.declared.flat.Instruction.{Instruction}
@@ -20,8 +21,8 @@ returns-in-Constant c =
     constant_turn c.args.code.now.functions.items c.args.self.now c.requires.running c.in-Constant.result
     c.in-Constant.number at _ refl refl refl refl refl refl
 
-pub returns-in-None-arithmetic : goal.returns-in-None-arithmetic
-returns-in-None-arithmetic c =
+pub returns-in-None-calculate : goal.returns-in-None-calculate
+returns-in-None-calculate c =
     let at = subst (λ (o : Instruction). Fetched c.args.code.now.functions.items c.args.self.now.top (Some o))
     c.in-Calculate.is c.in-Some.ensures in
     let x = get_or_read c.args.self.now.top.values.items c.in-Calculate.left c.index.result.now at.fits.0.2
@@ -30,10 +31,10 @@ returns-in-None-arithmetic c =
     at.fits.0.3 c.index-in-Calculate.ensures 0 in
     calculate_fault c.args.code.now.functions.items c.args.self.now c.requires.running c.in-Calculate.function
     c.in-Calculate.width c.in-Calculate.result c.in-Calculate.left c.in-Calculate.right at
-    (sym (c.in-None-arithmetic.ensures ∙ (λ i. arithmetic c.in-Calculate.function c.in-Calculate.width (x i) (y i))))
+    (sym (c.in-None-calculate.ensures ∙ (λ i. calc c.in-Calculate.function c.in-Calculate.width (x i) (y i))))
 
-pub returns-in-Some-arithmetic : goal.returns-in-Some-arithmetic
-returns-in-Some-arithmetic c =
+pub returns-in-Some-calculate : goal.returns-in-Some-calculate
+returns-in-Some-calculate c =
     let at = subst (λ (o : Instruction). Fetched c.args.code.now.functions.items c.args.self.now.top (Some o))
     c.in-Calculate.is c.in-Some.ensures in
     let x = get_or_read c.args.self.now.top.values.items c.in-Calculate.left c.index.result.now at.fits.0.2
@@ -42,8 +43,8 @@ returns-in-Some-arithmetic c =
     at.fits.0.3 c.index-in-Calculate.ensures 0 in
     calculate_turn c.args.code.now.functions.items c.args.self.now c.requires.running c.in-Calculate.function
     c.in-Calculate.width c.in-Calculate.result c.in-Calculate.left c.in-Calculate.right
-    c.in-Some-arithmetic.number at
-    (sym (c.in-Some-arithmetic.ensures ∙ (λ i. arithmetic c.in-Calculate.function c.in-Calculate.width (x i)
+    c.in-Some-calculate.number at
+    (sym (c.in-Some-calculate.ensures ∙ (λ i. calc c.in-Calculate.function c.in-Calculate.width (x i)
     (y i)))) _ refl refl refl refl refl refl
 
 pub returns-in_ok-push-in-Emit : goal.returns-in_ok-push-in-Emit
@@ -133,6 +134,6 @@ returns-in-Compare c =
     let y = get_or_read c.args.self.now.top.values.items c.in-Compare.right c.index-in-Compare-2.result.now
     at.fits.0.2 c.index-in-Compare-2.ensures 0 in
     compare_turn c.args.code.now.functions.items c.args.self.now c.requires.running c.in-Compare.function
-    c.in-Compare.result c.in-Compare.left c.in-Compare.right c.comparison.result at
-    (sym (c.comparison.ensures ∙ (λ i. bit (compares c.in-Compare.function (x i) (y i))))) _ refl refl refl refl
+    c.in-Compare.result c.in-Compare.left c.in-Compare.right c.bit.result at
+    (sym (c.bit.ensures ∙ (λ i. bit (compare c.in-Compare.function (x i) (y i))))) _ refl refl refl refl
     refl refl
