@@ -1,9 +1,7 @@
 -- Kinds have one id exactly where they are equal.
-use Rattle.std.proofs.Common.{◌≡◌, ℕ, true, List, [], ◌∷◌, Option, Some, None, refl, sym, ap, ◌∙◌, subst}
-use Rattle.std.specs.Prelude.{◌↔◌, if◌then◌else◌}
-use Rattle.std.specs.Str.{bytes_eq}
+use Rattle.std.proofs.Common.{◌≡◌, ℕ, true, List, [], ◌∷◌, Option, Some, refl, sym, ap, ◌∙◌, subst}
+use Rattle.std.specs.Prelude.{◌↔◌}
 use Rattle.kit_ops.specs.declared.kinds.KitOp.{KitOp}
-use Rattle.kit_ops.specs.declared.kinds.KitOp.TheVariants as ops
 use Rattle.kit_ops.specs.declared.types.KitTypeKind.{KitTypeKind}
 use Rattle.kit_ops.specs.declared.types.KitTypeKind.TheVariants as types
 use Rattle.kit_ops.specs.declared.attributes.KitAttrKind.{KitAttrKind}

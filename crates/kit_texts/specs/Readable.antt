@@ -1,5 +1,5 @@
 -- What types, attributes and operations say has the shape of their formats, and can be read.
-use Rattle.std.specs.Prelude.{◌≡◌, ℕ, ◌+◌, ◌-◌, ◌*◌, ◌%◌, ◌^◌, ◌<◌, ◌≤◌, ◌==◌, ◌&&◌, nat_le, nat_lt, Bool, true, false, List, [], ◌∷◌, length, Option, Some, None, option_map, option_and_then, cond, slice_get, refl}
+use Rattle.std.specs.Prelude.{◌≡◌, ℕ, suc, ◌+◌, ◌-◌, ◌*◌, ◌%◌, ◌^◌, ◌<◌, ◌≤◌, ◌==◌, ◌&&◌, nat_le, nat_lt, Bool, true, false, List, [], ◌∷◌, length, Option, Some, None, option_map, option_and_then, cond, slice_get, refl}
 use Rattle.std.proofs.Common.{sym, ap, ◌∙◌, subst, arith}
 use Rattle.std.proofs.Math.Pow.{pow_mono}
 use Rattle.std.proofs.Math.Nat.{mod-eq_of_lt}
@@ -329,8 +329,8 @@ numbered_kind ops.Func n e = at_number 1 n ops.Func e refl
 numbered_kind ops.Constant n e = at_number 2 n ops.Constant e refl
 numbered_kind ops.Return n e = at_number 3 n ops.Return e refl
 numbered_kind ops.Emit n e = at_number 4 n ops.Emit e refl
-numbered_kind (ops.Arithmetic a) n e = at_number (5 + arithmetic_number a) n (ops.Arithmetic a) e (arithmetic_at a)
-numbered_kind (ops.Comparison c) n e = at_number (5 + comparison_number c) n (ops.Comparison c) e (comparison_at c)
+numbered_kind (ops.Arithmetic a) n e = at_number (suc (suc (suc (suc (suc (arithmetic_number a)))))) n (ops.Arithmetic a) e (arithmetic_at a)
+numbered_kind (ops.Comparison c) n e = at_number (suc (suc (suc (suc (suc (comparison_number c)))))) n (ops.Comparison c) e (comparison_at c)
 numbered_kind ops.ForwardRef n e = absurd (none-some n e)
 numbered_kind ops.Br n e = absurd (none-some n e)
 numbered_kind ops.CondBr n e = absurd (none-some n e)

@@ -10,3 +10,4 @@ pub mod Called
 pub mod NameRules
 pub mod Typed
 pub mod Verdicts
+pub mod RowLemmas

@@ -5,3 +5,4 @@ pub mod Callees
 pub mod Scopes
 pub mod Tables
 pub mod Names
+pub mod Rows

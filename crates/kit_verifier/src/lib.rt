@@ -7,6 +7,7 @@ mod modules;
 mod names;
 mod reading;
 mod repeats;
+mod rows;
 mod scopes;
 mod search;
 mod signatures;
@@ -14,4 +15,5 @@ mod symbols;
 mod table;
 mod verify;
 
+pub use rows::formats_are_rows;
 pub use verify::{first_broken, verify_module};
