@@ -24,7 +24,7 @@ use Rattle.kit_ops.specs.declared.types.KitType.{KitType}
 use Rattle.kit_ops.specs.declared.types.KitType.TheVariants as types
 use Rattle.kit_ops.specs.Keys.{symbol_name, function_type, constant_value}
 use Rattle.kit.specs.Meaning.{is_function, is_module}
-use Rattle.kit_texts.specs.Forms.{OpForm, NamedRegion, TypedRegion, Value, form_of, number_of, read_ops}
+use Rattle.kit_texts.specs.Forms.{OpForm, NamedRegion, TypedRegion, Value, form_of, number_of}
 use Rattle.kit_texts.specs.Numbers.{number_modulo, is_below_zero, printed_number}
 use Rattle.kit_texts.specs.Says.{says, one, two, only, types_said, integer_said, said_of_type, said_of_attribute}
 use Rattle.kit_texts.specs.Says.{said_of_module, said_of_function, said_of_constant, said_in, numbered, has_values}
