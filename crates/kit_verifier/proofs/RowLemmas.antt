@@ -1,5 +1,5 @@
 -- The rules and the table of kinds say the same, kind by kind.
-use Rattle.std.proofs.Common.{◌≡◌, ◌↔◌, ◌⊎◌, inl, inr, ℕ, List, [], ◌∷◌}
+use Rattle.std.proofs.Common.{◌≡◌, ◌↔◌, ◌⊎◌, inl, inr, ⊎_elim, ℕ, List, [], ◌∷◌}
 use Rattle.ir_trees.specs.Stands.{ProgramTree}
 use Rattle.opt_trees.specs.Occurrences.{Has}
 use Rattle.kit_ops.specs.declared.kinds.KitOp.{KitOp}
