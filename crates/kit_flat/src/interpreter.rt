@@ -157,11 +157,7 @@ impl Running {
                 left,
                 right,
             } => {
-                match function.calculate(
-                    *width,
-                    self.top.values[*left],
-                    self.top.values[*right],
-                ) {
+                match function.calculate(*width, self.top.values[*left], self.top.values[*right]) {
                     None => Ok(Turn::Failed),
                     Some(number) => {
                         self.top.values[*result] = number;
@@ -176,8 +172,10 @@ impl Running {
                 left,
                 right,
             } => {
-                self.top.values[*result] =
-                    function.bit(self.top.values[*left], self.top.values[*right]);
+                self.top.values[*result] = function.bit(
+                    self.top.values[*left],
+                    self.top.values[*right],
+                );
                 self.top.index += 1;
                 Ok(Turn::On)
             }
