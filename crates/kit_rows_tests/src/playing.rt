@@ -64,9 +64,12 @@ fn words_of(alloc: Global, answer: Result<Outcome, ExecFault>) -> Result<String,
     Ok(text)
 }
 
-/// The names of a path.
+/// The names of a path, of which an empty text has none.
 fn path_of(alloc: Global, names: &str) -> Result<Vec<Identifier>, Unread> {
     let mut path = Vec::new(alloc);
+    if names.is_empty() {
+        return Ok(path);
+    }
     for name in names.split('/') {
         path.push(Identifier::try_new(alloc, name)?)?;
     }
@@ -187,5 +190,23 @@ fn verdict_in(
 pub fn verdict(alloc: Global, text: &str) -> Result<String, Unread> {
     let mut ctx = Context::new(alloc);
     let verdict = verdict_in(alloc, &mut ctx, text)?;
+    words_of_verdict(alloc, verdict)
+}
+
+/// The verdict on the first function of a module that is read into a context, as if it were a module.
+fn function_verdict_in(
+    alloc: Global,
+    ctx: &mut Context<Kit>,
+    text: &str,
+) -> Result<Result<(), RuleFault>, Unread> {
+    let module = read(alloc, ctx, text)?;
+    let function = module.functions.first().ok_or(Unread::Text)?;
+    verdict_on(alloc, ctx, *function)
+}
+
+/// The verdict on the first function of a module, as if it were a module, in words.
+pub fn function_verdict(alloc: Global, text: &str) -> Result<String, Unread> {
+    let mut ctx = Context::new(alloc);
+    let verdict = function_verdict_in(alloc, &mut ctx, text)?;
     words_of_verdict(alloc, verdict)
 }

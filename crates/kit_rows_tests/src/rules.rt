@@ -1,8 +1,8 @@
 //! Verdicts on modules.
-use crate::playing::verdict;
+use crate::playing::{function_verdict, verdict};
 use crate::texts::{
-    COUNTDOWN, EARLY_OPERAND, ENDLESS, ENTRY_LOOP, FACTORIAL, FAR_OPERAND, FOREIGN_BLOCK, NESTED,
-    NO_BLOCK, UNKNOWN_BLOCK,
+    COUNTDOWN, DECIDED, EARLY_OPERAND, ENDLESS, ENTRY_LOOP, FACTORIAL, FAR_OPERAND, FOREIGN_BLOCK,
+    NESTED, NO_BLOCK, UNKNOWN_BLOCK,
 };
 use kit_module_reader::Unread;
 use std::test::Fail;
@@ -51,5 +51,13 @@ fn loops_calls_and_nested_modules_keep_the_rules(rt: HostRuntime) -> Result<(), 
         let verdict = verdict(alloc, text)?;
         assert_eq!(rt; verdict.as_str(), "ok");
     }
+    Ok(())
+}
+
+/// The first rule is broken at the root itself.
+#[test]
+fn root_is_a_module(rt: HostRuntime) -> Result<(), Fail> {
+    let verdict = function_verdict(rt.alloc(), DECIDED)?;
+    assert_eq!(rt; verdict.as_str(), "rule 1 at root");
     Ok(())
 }

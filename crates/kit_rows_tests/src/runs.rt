@@ -2,8 +2,8 @@
 use crate::optimising::{ALL, Pass};
 use crate::playing::{Run, answer};
 use crate::texts::{
-    COUNTDOWN, DECIDED, DIVISION, ENDLESS, ENTRY_LOOP, FACTORIAL, KNOWN_ARGUMENTS, LESS, NESTED,
-    TWO_EDGES,
+    COUNTDOWN, DECIDED, DIVISION, ENDLESS, ENTRY_LOOP, FACTORIAL, FUNCTIONS, KNOWN_ARGUMENTS, LESS,
+    NESTED, TWO_EDGES,
 };
 use std::test::Fail;
 
@@ -16,6 +16,48 @@ const LISTS: &[&[Pass]] = &[
     ALL,
     &[Pass::Sccp, Pass::SimplifyCfg, Pass::Dce],
     &[Pass::SimplifyCfg, Pass::Dce, Pass::Sccp],
+];
+
+/// A path, numbers and a limit, and what the run answers.
+type Answered = (&'static str, &'static [u64], u64, &'static str);
+
+/// Sums wrap, divisions by zero trap, and comparisons are unsigned, also of signed numbers.
+const RESULTS: &[Answered] = &[
+    ("sum", &[200, 100], 2, "end 44"),
+    ("sum", &[200, 100], 1, "limit"),
+    ("quotient", &[7, 2], 9, "end 3"),
+    ("quotient", &[7, 0], 9, "trap"),
+    ("less", &[255, 1], 9, "end 2"),
+    ("less", &[1, 255], 9, "end 1"),
+];
+
+/// A loop takes two steps to begin, and two in each turn; a call is a step, and so is each operation of the function
+/// that it calls.
+const STEPS: &[Answered] = &[
+    ("spin", &[], 0, "limit"),
+    ("spin", &[], 2, "limit"),
+    ("spin", &[], 3, "emit 1 limit"),
+    ("spin", &[], 7, "emit 1 emit 1 emit 1 limit"),
+    ("main", &[5], 2, "limit"),
+    ("main", &[5], 4, "emit 10 limit"),
+    ("main", &[5], 5, "emit 10 emit 10 limit"),
+    ("main", &[5], 6, "emit 10 emit 10 end 10"),
+];
+
+/// Paths lead through modules, but not through functions, and not to modules.
+const PATHS: &[Answered] = &[
+    ("inner/seven", &[], 9, "end 7"),
+    ("seven", &[], 9, "wrong path"),
+    ("inner", &[], 9, "wrong path"),
+    ("main/twice", &[1], 9, "wrong path"),
+    ("", &[], 9, "wrong path"),
+];
+
+/// Arguments are as many as the function takes, and fit.
+const ARGUMENTS: &[Answered] = &[
+    ("main", &[], 9, "wrong arguments"),
+    ("main", &[1, 1], 9, "wrong arguments"),
+    ("main", &[256], 9, "wrong arguments"),
 ];
 
 /// A run of the function `f` on numbers for some steps.
@@ -170,5 +212,23 @@ fn comparison_of_signed_numbers_is_unsigned(rt: HostRuntime) -> Result<(), Fail>
     assert_eq!(rt; falls.as_str(), "end 0");
     let rises = answer(alloc, LESS, NONE, f(&[1, 255], 2))?;
     assert_eq!(rt; rises.as_str(), "end 1");
+    Ok(())
+}
+
+#[test]
+fn each_function_has_its_outcome(rt: HostRuntime) -> Result<(), Fail> {
+    let alloc = rt.alloc();
+    for rows in [RESULTS, STEPS, PATHS, ARGUMENTS] {
+        for row in rows {
+            let (path, numbers, limit, expected) = *row;
+            let called = Run {
+                path,
+                numbers,
+                limit,
+            };
+            let words = answer(alloc, FUNCTIONS, NONE, called)?;
+            assert_eq!(rt; words.as_str(), expected);
+        }
+    }
     Ok(())
 }

@@ -253,3 +253,53 @@ c:i1 = lt a b
 return c
 }
 }";
+
+/// Functions of a module, and one of a module in it.
+pub const FUNCTIONS: &str = "module top {
+func sum i8 i8 -> i8 {
+^sum x:i8 y:i8
+s:i8 = add x y
+return s
+}
+func quotient i8 i8 -> i8 {
+^quotient n:i8 d:i8
+q:i8 = div n d
+return q
+}
+func less si8 si8 -> i8 {
+^less a:si8 b:si8
+c:i1 = lt a b
+yes:i8 = constant 1
+no:i8 = constant 2
+cond_br c ^answer yes ^answer no
+^answer r:i8
+return r
+}
+func spin -> {
+^spin
+one:i8 = constant 1
+br ^turn
+^turn
+emit one
+br ^turn
+}
+func twice i8 -> i8 {
+^twice t:i8
+u:i8 = add t t
+emit u
+return u
+}
+func main i8 -> i8 {
+^main v:i8
+w:i8 = call twice v
+emit w
+return w
+}
+module inner {
+func seven -> i8 {
+^seven
+k:i8 = constant 7
+return k
+}
+}
+}";
