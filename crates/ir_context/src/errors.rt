@@ -4,6 +4,7 @@ ghost use Rattle.std.specs.Prelude.{◌≡◌};
 use ir_names::{AttrInterface, GrowError, InvalidIdentifier};
 use ir_types::{TypeInterfaceHandleErr, TypedHandleErr};
 use std::alloc::AllocError;
+use std::fmt;
 use thiserror::Error;
 
 /// The handle leads nowhere.
@@ -42,46 +43,32 @@ pub enum DefUseVerifyErr {
 #[derive(Clone, Copy, Debug, PartialEq, Eq, Error)]
 pub enum CoreError {
     /// There is no memory.
-    #[error("out of memory")]
     Memory,
     /// A counter is at its greatest number.
-    #[error("counter full")]
     CounterFull,
     /// The handle leads nowhere.
-    #[error("the handle leads nowhere")]
     DanglingPtrDeref,
     /// The type is of another kind.
-    #[error("the type is of another kind")]
     TypedHandle,
     /// The type doesn't implement the interface.
-    #[error("the type does not implement the interface")]
     TypeInterfaceHandle,
     /// The attribute doesn't implement the interface.
-    #[error("the attribute does not implement the interface")]
     AttrInterfaceCast,
     /// The value is no result of the operation that defined it.
-    #[error("the value is no result of its operation")]
     NotInOpResult,
     /// The value is no argument of the block that defined it.
-    #[error("the value is no argument of its block")]
     NotInBlockArgument,
     /// The operand names another definition.
-    #[error("the operand is no use of the definition")]
     OperandNotUseOfDef,
     /// The block has no terminator.
-    #[error("the block has no terminator")]
     MissingTerminator,
     /// The terminator isn't the last operation of its block.
-    #[error("the terminator is not the last operation of its block")]
     TerminatorNotLast,
     /// The entity stands in nothing.
-    #[error("nothing holds the entity")]
     NoParent,
     /// The text is no identifier.
-    #[error("not an identifier")]
     InvalidIdentifier,
     /// The edit isn't allowed here.
-    #[error("the edit is not allowed here")]
     EditNotAllowed,
 }
 
@@ -108,6 +95,32 @@ impl CoreError {
             CoreError::InvalidIdentifier => 13,
             CoreError::EditNotAllowed => 14,
         }
+    }
+
+    /// What is said of the refusal.
+    fn message(&self) -> &'static str {
+        match self {
+            CoreError::Memory => "out of memory",
+            CoreError::CounterFull => "counter full",
+            CoreError::DanglingPtrDeref => "the handle leads nowhere",
+            CoreError::TypedHandle => "the type is of another kind",
+            CoreError::TypeInterfaceHandle => "the type does not implement the interface",
+            CoreError::AttrInterfaceCast => "the attribute does not implement the interface",
+            CoreError::NotInOpResult => "the value is no result of its operation",
+            CoreError::NotInBlockArgument => "the value is no argument of its block",
+            CoreError::OperandNotUseOfDef => "the operand is no use of the definition",
+            CoreError::MissingTerminator => "the block has no terminator",
+            CoreError::TerminatorNotLast => "the terminator is not the last operation of its block",
+            CoreError::NoParent => "nothing holds the entity",
+            CoreError::InvalidIdentifier => "not an identifier",
+            CoreError::EditNotAllowed => "the edit is not allowed here",
+        }
+    }
+}
+
+impl fmt::Display for CoreError {
+    fn fmt<W: fmt::Write>(&self, f: &mut fmt::Formatter<W>) -> fmt::Result {
+        f.write_str(self.message())
     }
 }
 

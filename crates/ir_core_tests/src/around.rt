@@ -1,13 +1,11 @@
 //! What stands around operations and blocks, and the order in a block.
-use crate::playing::plays;
+use crate::playing::{Script, play_all};
 use std::test::Fail;
 
-#[test]
-fn ancestors_are_the_nearest_that_hold(rt: HostRuntime) -> Result<(), Fail> {
-    plays(
-        &rt,
-        rt.alloc(),
-        "
+const AROUND: [Script; 2] = [
+    Script {
+        shows: "ancestors are the nearest that hold",
+        lines: "
             root = graph 1
             b = block
             loop = def 1
@@ -41,15 +39,10 @@ fn ancestors_are_the_nearest_that_hold(rt: HostRuntime) -> Result<(), Fail> {
             precedes x x => no
             precedes x loop => no
         ",
-    )
-}
-
-#[test]
-fn what_stands_nowhere_has_nothing_around_it(rt: HostRuntime) -> Result<(), Fail> {
-    plays(
-        &rt,
-        rt.alloc(),
-        "
+    },
+    Script {
+        shows: "what stands nowhere has nothing around it",
+        lines: "
             a = def 1
             b = block
             r is a.region.0
@@ -60,5 +53,10 @@ fn what_stands_nowhere_has_nothing_around_it(rt: HostRuntime) -> Result<(), Fail
             graph_around a => none
             precedes a a => no
         ",
-    )
+    },
+];
+
+#[test]
+fn what_stands_around_is_told(rt: HostRuntime) -> Result<(), Fail> {
+    play_all(&rt, rt.alloc(), &AROUND)
 }

@@ -1,13 +1,11 @@
 //! Each edit that makes, moves, erases or empties what holds others.
-use crate::playing::plays;
+use crate::playing::{Script, play_all};
 use std::test::Fail;
 
-#[test]
-fn uses_inside_an_operation_are_dropped(rt: HostRuntime) -> Result<(), Fail> {
-    plays(
-        &rt,
-        rt.alloc(),
-        "
+const HOLDER_EDITS: [Script; 8] = [
+    Script {
+        shows: "uses inside an operation are dropped",
+        lines: "
             t = block integer
             v is t.argument.0
             o = def 1
@@ -23,15 +21,10 @@ fn uses_inside_an_operation_are_dropped(rt: HostRuntime) -> Result<(), Fail> {
             num_uses v => 0
             num_preds t => 0
         ",
-    )
-}
-
-#[test]
-fn uses_inside_a_region_are_dropped(rt: HostRuntime) -> Result<(), Fail> {
-    plays(
-        &rt,
-        rt.alloc(),
-        "
+    },
+    Script {
+        shows: "uses inside a region are dropped",
+        lines: "
             t = block integer
             v is t.argument.0
             o = def 1
@@ -47,15 +40,10 @@ fn uses_inside_a_region_are_dropped(rt: HostRuntime) -> Result<(), Fail> {
             num_uses v => 0
             num_preds t => 0
         ",
-    )
-}
-
-#[test]
-fn uses_inside_a_block_are_dropped(rt: HostRuntime) -> Result<(), Fail> {
-    plays(
-        &rt,
-        rt.alloc(),
-        "
+    },
+    Script {
+        shows: "uses inside a block are dropped",
+        lines: "
             t = block integer
             v is t.argument.0
             o = def 1
@@ -71,15 +59,10 @@ fn uses_inside_a_block_are_dropped(rt: HostRuntime) -> Result<(), Fail> {
             num_uses v => 0
             num_preds t => 0
         ",
-    )
-}
-
-#[test]
-fn what_stands_inside_an_operation_is_erased(rt: HostRuntime) -> Result<(), Fail> {
-    plays(
-        &rt,
-        rt.alloc(),
-        "
+    },
+    Script {
+        shows: "what stands inside an operation is erased",
+        lines: "
             t = block integer
             v is t.argument.0
             o = def 1
@@ -96,15 +79,10 @@ fn what_stands_inside_an_operation_is_erased(rt: HostRuntime) -> Result<(), Fail
             num_preds t => 0
             regions o => gone
         ",
-    )
-}
-
-#[test]
-fn what_stands_inside_a_region_is_erased(rt: HostRuntime) -> Result<(), Fail> {
-    plays(
-        &rt,
-        rt.alloc(),
-        "
+    },
+    Script {
+        shows: "what stands inside a region is erased",
+        lines: "
             t = block integer
             v is t.argument.0
             o = def 1
@@ -121,15 +99,10 @@ fn what_stands_inside_a_region_is_erased(rt: HostRuntime) -> Result<(), Fail> {
             num_preds t => 0
             regions o =>
         ",
-    )
-}
-
-#[test]
-fn what_stands_inside_a_block_is_erased(rt: HostRuntime) -> Result<(), Fail> {
-    plays(
-        &rt,
-        rt.alloc(),
-        "
+    },
+    Script {
+        shows: "what stands inside a block is erased",
+        lines: "
             t = block integer
             v is t.argument.0
             o = def 1
@@ -145,15 +118,10 @@ fn what_stands_inside_a_block_is_erased(rt: HostRuntime) -> Result<(), Fail> {
             num_uses v => 0
             num_preds t => 0
         ",
-    )
-}
-
-#[test]
-fn regions_are_added_moved_and_erased(rt: HostRuntime) -> Result<(), Fail> {
-    plays(
-        &rt,
-        rt.alloc(),
-        "
+    },
+    Script {
+        shows: "regions are added moved and erased",
+        lines: "
             a = def
             b = def
             r = add_region a
@@ -165,15 +133,10 @@ fn regions_are_added_moved_and_erased(rt: HostRuntime) -> Result<(), Fail> {
             erase_region b 0
             blocks r => gone
         ",
-    )
-}
-
-#[test]
-fn what_is_made_has_its_parts(rt: HostRuntime) -> Result<(), Fail> {
-    plays(
-        &rt,
-        rt.alloc(),
-        "
+    },
+    Script {
+        shows: "what is made has its parts",
+        lines: "
             b = entry integer integer
             a = def integer b.argument.1 b 2
             x is b.argument.0
@@ -192,5 +155,10 @@ fn what_is_made_has_its_parts(rt: HostRuntime) -> Result<(), Fail> {
             loc b => unknown
             label b => entry
         ",
-    )
+    },
+];
+
+#[test]
+fn holders_are_edited(rt: HostRuntime) -> Result<(), Fail> {
+    play_all(&rt, rt.alloc(), &HOLDER_EDITS)
 }

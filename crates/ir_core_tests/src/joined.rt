@@ -89,7 +89,7 @@ fn script(alloc: Global, order: [usize; 4]) -> Result<String, AllocError> {
 fn places_are_replaced_singly_in_each_order(rt: HostRuntime) -> Result<(), Fail> {
     for order in ORDERS {
         let script = script(rt.alloc(), order)?;
-        plays(&rt, rt.alloc(), &script)?;
+        plays(&rt, rt.alloc(), "places replaced in an order", &script)?;
     }
     Ok(())
 }

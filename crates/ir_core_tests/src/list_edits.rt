@@ -1,13 +1,11 @@
 //! Each edit of the lists of blocks and of regions.
-use crate::playing::plays;
+use crate::playing::{Script, play_all};
 use std::test::Fail;
 
-#[test]
-fn operations_of_a_block_are_edited(rt: HostRuntime) -> Result<(), Fail> {
-    plays(
-        &rt,
-        rt.alloc(),
-        "
+const LIST_EDITS: [Script; 3] = [
+    Script {
+        shows: "operations of a block are edited",
+        lines: "
             x = block
             y = block
             a = def
@@ -31,15 +29,10 @@ fn operations_of_a_block_are_edited(rt: HostRuntime) -> Result<(), Fail> {
             operations_backwards x => a d b
             parent c => nowhere
         ",
-    )
-}
-
-#[test]
-fn blocks_of_a_region_are_edited(rt: HostRuntime) -> Result<(), Fail> {
-    plays(
-        &rt,
-        rt.alloc(),
-        "
+    },
+    Script {
+        shows: "blocks of a region are edited",
+        lines: "
             o = def 1
             r is o.region.0
             a = block
@@ -59,15 +52,10 @@ fn blocks_of_a_region_are_edited(rt: HostRuntime) -> Result<(), Fail> {
             blocks r => b d a
             blocks_backwards r => a d b
         ",
-    )
-}
-
-#[test]
-fn appended_blocks_stand_behind_the_others(rt: HostRuntime) -> Result<(), Fail> {
-    plays(
-        &rt,
-        rt.alloc(),
-        "
+    },
+    Script {
+        shows: "appended blocks stand behind the others",
+        lines: "
             o = def 2
             r is o.region.0
             s is o.region.1
@@ -85,5 +73,10 @@ fn appended_blocks_stand_behind_the_others(rt: HostRuntime) -> Result<(), Fail> 
             blocks s =>
             blocks_backwards s =>
         ",
-    )
+    },
+];
+
+#[test]
+fn lists_are_edited(rt: HostRuntime) -> Result<(), Fail> {
+    play_all(&rt, rt.alloc(), &LIST_EDITS)
 }

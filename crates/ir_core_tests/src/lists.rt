@@ -1,13 +1,11 @@
 //! Operations in blocks, in order.
-use crate::playing::plays;
+use crate::playing::{Script, play_all};
 use std::test::Fail;
 
-#[test]
-fn operations_stand_in_the_order_of_their_inserting(rt: HostRuntime) -> Result<(), Fail> {
-    plays(
-        &rt,
-        rt.alloc(),
-        "
+const LISTS: [Script; 3] = [
+    Script {
+        shows: "operations stand in the order of their inserting",
+        lines: "
             x = block
             y = block
             a = def
@@ -21,15 +19,10 @@ fn operations_stand_in_the_order_of_their_inserting(rt: HostRuntime) -> Result<(
             operations_backwards x => d b a
             parent c => nowhere
         ",
-    )
-}
-
-#[test]
-fn appended_operations_stand_behind_the_others(rt: HostRuntime) -> Result<(), Fail> {
-    plays(
-        &rt,
-        rt.alloc(),
-        "
+    },
+    Script {
+        shows: "appended operations stand behind the others",
+        lines: "
             x = block
             y = block
             a = def
@@ -46,15 +39,10 @@ fn appended_operations_stand_behind_the_others(rt: HostRuntime) -> Result<(), Fa
             operations y =>
             operations_backwards y =>
         ",
-    )
-}
-
-#[test]
-fn an_unlinked_operation_put_back_gives_the_list_back(rt: HostRuntime) -> Result<(), Fail> {
-    plays(
-        &rt,
-        rt.alloc(),
-        "
+    },
+    Script {
+        shows: "an unlinked operation put back gives the list back",
+        lines: "
             x = block
             y = block
             a = def
@@ -81,5 +69,10 @@ fn an_unlinked_operation_put_back_gives_the_list_back(rt: HostRuntime) -> Result
             operations x => a b c d
             operations_backwards x => d c b a
         ",
-    )
+    },
+];
+
+#[test]
+fn lists_keep_their_order(rt: HostRuntime) -> Result<(), Fail> {
+    play_all(&rt, rt.alloc(), &LISTS)
 }

@@ -1,13 +1,11 @@
 //! Edits that are not allowed, each of which leaves everything as it was.
-use crate::playing::plays;
+use crate::playing::{Script, play_all};
 use std::test::Fail;
 
-#[test]
-fn what_names_nothing_is_refused(rt: HostRuntime) -> Result<(), Fail> {
-    plays(
-        &rt,
-        rt.alloc(),
-        "
+const REFUSALS: [Script; 5] = [
+    Script {
+        shows: "what names nothing is refused",
+        lines: "
             t = block integer
             o = def 1
             b = block
@@ -39,15 +37,10 @@ fn what_names_nothing_is_refused(rt: HostRuntime) -> Result<(), Fail> {
             refuse region_drop_all_uses o.region.1
             refuse move_region_to_op #0 f
         ",
-    )
-}
-
-#[test]
-fn wrong_places_are_refused(rt: HostRuntime) -> Result<(), Fail> {
-    plays(
-        &rt,
-        rt.alloc(),
-        "
+    },
+    Script {
+        shows: "wrong places are refused",
+        lines: "
             t = block integer
             o = def 1
             b = block
@@ -81,15 +74,10 @@ fn wrong_places_are_refused(rt: HostRuntime) -> Result<(), Fail> {
             refuse replace_use_with v w j 0
             refuse retarget_pred_to b t j 0
         ",
-    )
-}
-
-#[test]
-fn what_is_used_is_not_taken_away(rt: HostRuntime) -> Result<(), Fail> {
-    plays(
-        &rt,
-        rt.alloc(),
-        "
+    },
+    Script {
+        shows: "what is used is not taken away",
+        lines: "
             t = block integer
             o = def 1
             b = block
@@ -116,15 +104,10 @@ fn what_is_used_is_not_taken_away(rt: HostRuntime) -> Result<(), Fail> {
             refuse pop_argument t
             refuse remove_argument t 0
         ",
-    )
-}
-
-#[test]
-fn what_stands_in_wrong_lists_is_refused(rt: HostRuntime) -> Result<(), Fail> {
-    plays(
-        &rt,
-        rt.alloc(),
-        "
+    },
+    Script {
+        shows: "what stands in wrong lists is refused",
+        lines: "
             t = block integer
             o = def 1
             b = block
@@ -157,15 +140,10 @@ fn what_stands_in_wrong_lists_is_refused(rt: HostRuntime) -> Result<(), Fail> {
             refuse append_blocks r r
             refuse move_region_to_op r j
         ",
-    )
-}
-
-#[test]
-fn names_of_the_wrong_sort_are_refused(rt: HostRuntime) -> Result<(), Fail> {
-    plays(
-        &rt,
-        rt.alloc(),
-        "
+    },
+    Script {
+        shows: "names of the wrong sort are refused",
+        lines: "
             b = block
             erase_operation #0
             run => EditNotAllowed at 1
@@ -174,5 +152,10 @@ fn names_of_the_wrong_sort_are_refused(rt: HostRuntime) -> Result<(), Fail> {
             pop_operand #1
             run => EditNotAllowed at 2
         ",
-    )
+    },
+];
+
+#[test]
+fn edits_are_refused(rt: HostRuntime) -> Result<(), Fail> {
+    play_all(&rt, rt.alloc(), &REFUSALS)
 }

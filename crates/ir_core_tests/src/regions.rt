@@ -1,13 +1,11 @@
 //! The blocks of a region as a graph.
-use crate::playing::plays;
+use crate::playing::{Script, play_all};
 use std::test::Fail;
 
-#[test]
-fn blocks_are_a_graph_where_edges_are_local(rt: HostRuntime) -> Result<(), Fail> {
-    plays(
-        &rt,
-        rt.alloc(),
-        "
+const REGIONS: [Script; 3] = [
+    Script {
+        shows: "blocks are a graph where edges are local",
+        lines: "
             o = def 1
             a = block
             b = block
@@ -31,15 +29,10 @@ fn blocks_are_a_graph_where_edges_are_local(rt: HostRuntime) -> Result<(), Fail>
             pre_sentinels r => d
             shown a => block1v1
         ",
-    )
-}
-
-#[test]
-fn an_empty_region_is_a_graph(rt: HostRuntime) -> Result<(), Fail> {
-    plays(
-        &rt,
-        rt.alloc(),
-        "
+    },
+    Script {
+        shows: "an empty region is a graph",
+        lines: "
             o = def 1
             r is o.region.0
             nodes r =>
@@ -47,15 +40,10 @@ fn an_empty_region_is_a_graph(rt: HostRuntime) -> Result<(), Fail> {
             post_order r =>
             pre_sentinels r =>
         ",
-    )
-}
-
-#[test]
-fn edges_that_are_not_local_are_told(rt: HostRuntime) -> Result<(), Fail> {
-    plays(
-        &rt,
-        rt.alloc(),
-        "
+    },
+    Script {
+        shows: "edges that are not local are told",
+        lines: "
             o = def 1
             a = block
             b = block
@@ -86,5 +74,10 @@ fn edges_that_are_not_local_are_told(rt: HostRuntime) -> Result<(), Fail> {
             insert_operation_at_back w b
             nodes r => edges lead out of it or into it
         ",
-    )
+    },
+];
+
+#[test]
+fn regions_are_graphs(rt: HostRuntime) -> Result<(), Fail> {
+    play_all(&rt, rt.alloc(), &REGIONS)
 }

@@ -1,13 +1,11 @@
 //! Uses of a value and edges to a block, replaced at once, at places and by a predicate.
-use crate::playing::plays;
+use crate::playing::{Script, play_all};
 use std::test::Fail;
 
-#[test]
-fn operands_are_replaced_at_places_and_all(rt: HostRuntime) -> Result<(), Fail> {
-    plays(
-        &rt,
-        rt.alloc(),
-        "
+const REPLACED: [Script; 4] = [
+    Script {
+        shows: "operands are replaced at places and all",
+        lines: "
             b = block integer integer
             c = block
             x is b.argument.0
@@ -25,15 +23,10 @@ fn operands_are_replaced_at_places_and_all(rt: HostRuntime) -> Result<(), Fail> 
             uses y => a.0:y a.1:y
             num_uses y => 2
         ",
-    )
-}
-
-#[test]
-fn successors_are_replaced_at_places_and_all(rt: HostRuntime) -> Result<(), Fail> {
-    plays(
-        &rt,
-        rt.alloc(),
-        "
+    },
+    Script {
+        shows: "successors are replaced at places and all",
+        lines: "
             b = block integer integer
             c = block
             x is b.argument.0
@@ -51,15 +44,10 @@ fn successors_are_replaced_at_places_and_all(rt: HostRuntime) -> Result<(), Fail
             uses c => a.0:c a.1:c
             num_preds c => 2
         ",
-    )
-}
-
-#[test]
-fn places_that_are_chosen_are_replaced(rt: HostRuntime) -> Result<(), Fail> {
-    plays(
-        &rt,
-        rt.alloc(),
-        "
+    },
+    Script {
+        shows: "places that are chosen are replaced",
+        lines: "
             b = block integer integer
             c = block
             x is b.argument.0
@@ -76,15 +64,10 @@ fn places_that_are_chosen_are_replaced(rt: HostRuntime) -> Result<(), Fail> {
             uses b => a.0:b
             uses c => a.1:c
         ",
-    )
-}
-
-#[test]
-fn places_are_chosen_by_a_predicate(rt: HostRuntime) -> Result<(), Fail> {
-    plays(
-        &rt,
-        rt.alloc(),
-        "
+    },
+    Script {
+        shows: "places are chosen by a predicate",
+        lines: "
             b = block integer integer
             c = block
             x is b.argument.0
@@ -97,5 +80,10 @@ fn places_are_chosen_by_a_predicate(rt: HostRuntime) -> Result<(), Fail> {
             chosen_uses x 2 =>
             chosen_preds b 2 =>
         ",
-    )
+    },
+];
+
+#[test]
+fn uses_are_replaced(rt: HostRuntime) -> Result<(), Fail> {
+    play_all(&rt, rt.alloc(), &REPLACED)
 }

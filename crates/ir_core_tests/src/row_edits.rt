@@ -1,13 +1,11 @@
 //! Each edit of operands, successors, results and arguments.
-use crate::playing::plays;
+use crate::playing::{Script, play_all};
 use std::test::Fail;
 
-#[test]
-fn operands_are_edited(rt: HostRuntime) -> Result<(), Fail> {
-    plays(
-        &rt,
-        rt.alloc(),
-        "
+const ROW_EDITS: [Script; 4] = [
+    Script {
+        shows: "operands are edited",
+        lines: "
             b = block integer integer
             a = def
             x is b.argument.0
@@ -25,15 +23,10 @@ fn operands_are_edited(rt: HostRuntime) -> Result<(), Fail> {
             pop_operand a
             operands a =>
         ",
-    )
-}
-
-#[test]
-fn successors_are_edited(rt: HostRuntime) -> Result<(), Fail> {
-    plays(
-        &rt,
-        rt.alloc(),
-        "
+    },
+    Script {
+        shows: "successors are edited",
+        lines: "
             x = block
             y = block
             a = def
@@ -50,15 +43,10 @@ fn successors_are_edited(rt: HostRuntime) -> Result<(), Fail> {
             pop_successor a
             successors a =>
         ",
-    )
-}
-
-#[test]
-fn results_are_edited(rt: HostRuntime) -> Result<(), Fail> {
-    plays(
-        &rt,
-        rt.alloc(),
-        "
+    },
+    Script {
+        shows: "results are edited",
+        lines: "
             a = def
             x = push_result a integer
             results a => x
@@ -69,15 +57,10 @@ fn results_are_edited(rt: HostRuntime) -> Result<(), Fail> {
             remove_result a 0
             results a =>
         ",
-    )
-}
-
-#[test]
-fn arguments_are_edited(rt: HostRuntime) -> Result<(), Fail> {
-    plays(
-        &rt,
-        rt.alloc(),
-        "
+    },
+    Script {
+        shows: "arguments are edited",
+        lines: "
             b = block
             x = push_argument b integer
             arguments b => x
@@ -88,5 +71,10 @@ fn arguments_are_edited(rt: HostRuntime) -> Result<(), Fail> {
             remove_argument b 0
             arguments b =>
         ",
-    )
+    },
+];
+
+#[test]
+fn rows_are_edited(rt: HostRuntime) -> Result<(), Fail> {
+    play_all(&rt, rt.alloc(), &ROW_EDITS)
 }

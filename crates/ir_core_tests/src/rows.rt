@@ -1,13 +1,11 @@
 //! Whole rows, uses and edges, as they are asked of operations and blocks.
-use crate::playing::plays;
+use crate::playing::{Script, play_all};
 use std::test::Fail;
 
-#[test]
-fn types_stand_in_the_order_of_what_has_them(rt: HostRuntime) -> Result<(), Fail> {
-    plays(
-        &rt,
-        rt.alloc(),
-        "
+const ROWS: [Script; 4] = [
+    Script {
+        shows: "types stand in the order of what has them",
+        lines: "
             b = block integer named
             x is b.argument.0
             y is b.argument.1
@@ -15,45 +13,30 @@ fn types_stand_in_the_order_of_what_has_them(rt: HostRuntime) -> Result<(), Fail
             result_types a => integer named
             operand_types a => named integer
         ",
-    )
-}
-
-#[test]
-fn operands_are_uses(rt: HostRuntime) -> Result<(), Fail> {
-    plays(
-        &rt,
-        rt.alloc(),
-        "
+    },
+    Script {
+        shows: "operands are uses",
+        lines: "
             b = block integer named
             x is b.argument.0
             y is b.argument.1
             a = jump integer named y x b b 2
             operands_as_uses a => a.0:y a.1:x
         ",
-    )
-}
-
-#[test]
-fn successors_are_uses(rt: HostRuntime) -> Result<(), Fail> {
-    plays(
-        &rt,
-        rt.alloc(),
-        "
+    },
+    Script {
+        shows: "successors are uses",
+        lines: "
             b = block integer named
             x is b.argument.0
             y is b.argument.1
             a = jump integer named y x b b 2
             successors_as_uses a => a.0:b a.1:b
         ",
-    )
-}
-
-#[test]
-fn uses_of_each_result_are_uses_of_the_operation(rt: HostRuntime) -> Result<(), Fail> {
-    plays(
-        &rt,
-        rt.alloc(),
-        "
+    },
+    Script {
+        shows: "uses of each result are uses of the operation",
+        lines: "
             a = def integer integer
             b = def a.result.1 a.result.0
             x is a.result.0
@@ -64,5 +47,10 @@ fn uses_of_each_result_are_uses_of_the_operation(rt: HostRuntime) -> Result<(), 
             uses y => b.0:y
             uses b =>
         ",
-    )
+    },
+];
+
+#[test]
+fn whole_rows_are_told(rt: HostRuntime) -> Result<(), Fail> {
+    play_all(&rt, rt.alloc(), &ROWS)
 }

@@ -1,13 +1,11 @@
 //! Values and uses that stand no more, and handles of what was erased.
-use crate::playing::plays;
+use crate::playing::{Script, play_all};
 use std::test::Fail;
 
-#[test]
-fn a_removed_result_has_no_index(rt: HostRuntime) -> Result<(), Fail> {
-    plays(
-        &rt,
-        rt.alloc(),
-        "
+const STANDING: [Script; 6] = [
+    Script {
+        shows: "a removed result has no index",
+        lines: "
             a = def integer integer
             x is a.result.0
             y is a.result.1
@@ -16,15 +14,10 @@ fn a_removed_result_has_no_index(rt: HostRuntime) -> Result<(), Fail> {
             index y => refusal 7
             index x => 0
         ",
-    )
-}
-
-#[test]
-fn a_removed_argument_has_no_index(rt: HostRuntime) -> Result<(), Fail> {
-    plays(
-        &rt,
-        rt.alloc(),
-        "
+    },
+    Script {
+        shows: "a removed argument has no index",
+        lines: "
             b = block integer integer
             x is b.argument.0
             y is b.argument.1
@@ -33,15 +26,10 @@ fn a_removed_argument_has_no_index(rt: HostRuntime) -> Result<(), Fail> {
             index x => refusal 8
             index y => 0
         ",
-    )
-}
-
-#[test]
-fn a_use_that_was_replaced_stands_no_more(rt: HostRuntime) -> Result<(), Fail> {
-    plays(
-        &rt,
-        rt.alloc(),
-        "
+    },
+    Script {
+        shows: "a use that was replaced stands no more",
+        lines: "
             b = block integer integer
             x is b.argument.0
             y is b.argument.1
@@ -50,15 +38,10 @@ fn a_use_that_was_replaced_stands_no_more(rt: HostRuntime) -> Result<(), Fail> {
             replace_operand a 0 y
             index_of_use x a 0 => refusal 9
         ",
-    )
-}
-
-#[test]
-fn an_edge_that_was_taken_away_stands_no_more(rt: HostRuntime) -> Result<(), Fail> {
-    plays(
-        &rt,
-        rt.alloc(),
-        "
+    },
+    Script {
+        shows: "an edge that was taken away stands no more",
+        lines: "
             b = block
             a = def
             push_successor a b
@@ -66,15 +49,10 @@ fn an_edge_that_was_taken_away_stands_no_more(rt: HostRuntime) -> Result<(), Fai
             pop_successor a
             index_of_edge b a 0 => refusal 9
         ",
-    )
-}
-
-#[test]
-fn an_erased_operation_is_refused_once_its_slot_is_used_again(rt: HostRuntime) -> Result<(), Fail> {
-    plays(
-        &rt,
-        rt.alloc(),
-        "
+    },
+    Script {
+        shows: "an erased operation is refused once its slot is used again",
+        lines: "
             a = def integer
             push_operand a a.result.0
             erase_operation a
@@ -87,15 +65,10 @@ fn an_erased_operation_is_refused_once_its_slot_is_used_again(rt: HostRuntime) -
             deref a => dangles
             operands a => gone
         ",
-    )
-}
-
-#[test]
-fn an_erased_block_is_refused_once_its_slot_is_used_again(rt: HostRuntime) -> Result<(), Fail> {
-    plays(
-        &rt,
-        rt.alloc(),
-        "
+    },
+    Script {
+        shows: "an erased block is refused once its slot is used again",
+        lines: "
             a = block
             erase_block a
             b = block
@@ -105,5 +78,10 @@ fn an_erased_block_is_refused_once_its_slot_is_used_again(rt: HostRuntime) -> Re
             deref a => dangles
             arguments a => gone
         ",
-    )
+    },
+];
+
+#[test]
+fn what_stands_no_more_is_told(rt: HostRuntime) -> Result<(), Fail> {
+    play_all(&rt, rt.alloc(), &STANDING)
 }

@@ -1,28 +1,21 @@
 //! Which places name which values and blocks.
-use crate::playing::plays;
+use crate::playing::{Script, play_all};
 use std::test::Fail;
 
-#[test]
-fn a_refused_edit_leaves_those_before_it(rt: HostRuntime) -> Result<(), Fail> {
-    plays(
-        &rt,
-        rt.alloc(),
-        "
+const USES: [Script; 4] = [
+    Script {
+        shows: "a refused edit leaves those before it",
+        lines: "
             a = def integer
             b = def a.result.0
             erase_operation a
             run => EditNotAllowed at 2
             is_ir_empty => false
         ",
-    )
-}
-
-#[test]
-fn the_edits_before_a_refused_one_are_found_by_what_they_take(rt: HostRuntime) -> Result<(), Fail> {
-    plays(
-        &rt,
-        rt.alloc(),
-        "
+    },
+    Script {
+        shows: "the edits before a refused one are found by what they take",
+        lines: "
             b = block integer
             v is b.argument.0
             a = def integer v
@@ -32,29 +25,19 @@ fn the_edits_before_a_refused_one_are_found_by_what_they_take(rt: HostRuntime) -
             uses v => ?.0:v
             num_uses v => 1
         ",
-    )
-}
-
-#[test]
-fn a_branch_with_two_edges_to_a_block_counts_twice(rt: HostRuntime) -> Result<(), Fail> {
-    plays(
-        &rt,
-        rt.alloc(),
-        "
+    },
+    Script {
+        shows: "a branch with two edges to a block counts twice",
+        lines: "
             b = block
             a = jump b b
             num_preds b => 2
             uses b => a.0:b a.1:b
         ",
-    )
-}
-
-#[test]
-fn each_edge_has_its_ends(rt: HostRuntime) -> Result<(), Fail> {
-    plays(
-        &rt,
-        rt.alloc(),
-        "
+    },
+    Script {
+        shows: "each edge has its ends",
+        lines: "
             o = def 1
             x = block
             y = block
@@ -67,5 +50,10 @@ fn each_edge_has_its_ends(rt: HostRuntime) -> Result<(), Fail> {
             preds y => x x
             preds x =>
         ",
-    )
+    },
+];
+
+#[test]
+fn uses_are_told(rt: HostRuntime) -> Result<(), Fail> {
+    play_all(&rt, rt.alloc(), &USES)
 }

@@ -1,13 +1,11 @@
 //! Blocks that end badly, or stand nowhere.
-use crate::playing::plays;
+use crate::playing::{Script, play_all};
 use std::test::Fail;
 
-#[test]
-fn a_block_without_a_terminator_is_refused(rt: HostRuntime) -> Result<(), Fail> {
-    plays(
-        &rt,
-        rt.alloc(),
-        "
+const VERIFIED: [Script; 3] = [
+    Script {
+        shows: "a block without a terminator is refused",
+        lines: "
             o = def 1
             b = block
             insert_block_at_back b o.region.0
@@ -19,15 +17,10 @@ fn a_block_without_a_terminator_is_refused(rt: HostRuntime) -> Result<(), Fail> 
             insert_operation_at_back j b
             verify o => fine
         ",
-    )
-}
-
-#[test]
-fn a_terminator_that_is_not_last_is_refused(rt: HostRuntime) -> Result<(), Fail> {
-    plays(
-        &rt,
-        rt.alloc(),
-        "
+    },
+    Script {
+        shows: "a terminator that is not last is refused",
+        lines: "
             o = def 1
             b = block
             insert_block_at_back b o.region.0
@@ -38,17 +31,17 @@ fn a_terminator_that_is_not_last_is_refused(rt: HostRuntime) -> Result<(), Fail>
             insert_operation_at_back k b
             verify o => TerminatorNotLast
         ",
-    )
-}
-
-#[test]
-fn a_block_that_stands_nowhere_is_refused(rt: HostRuntime) -> Result<(), Fail> {
-    plays(
-        &rt,
-        rt.alloc(),
-        "
+    },
+    Script {
+        shows: "a block that stands nowhere is refused",
+        lines: "
             b = block
             verify b => NoParent
         ",
-    )
+    },
+];
+
+#[test]
+fn blocks_are_verified(rt: HostRuntime) -> Result<(), Fail> {
+    play_all(&rt, rt.alloc(), &VERIFIED)
 }

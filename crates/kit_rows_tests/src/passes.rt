@@ -5,7 +5,16 @@ use crate::texts::{
     COUNTDOWN, DEAD_ARGUMENT, DEAD_ARGUMENT_AFTER, DECIDED, DECIDED_AFTER, DIVISION, ENTRY_LOOP,
     KNOWN_ARGUMENTS, KNOWN_ARGUMENTS_AFTER, TWO_EDGES, TWO_EDGES_AFTER,
 };
+use std::alloc::Global;
+use std::process::Abort;
 use std::test::Fail;
+
+/// A module, and what each list of optimisations makes of it.
+struct Made {
+    module: &'static str,
+    lists: &'static [&'static [Pass]],
+    after: &'static str,
+}
 
 /// Each optimisation alone, and all of them in three orders.
 const LISTS: &[&[Pass]] = &[
@@ -17,83 +26,73 @@ const LISTS: &[&[Pass]] = &[
     &[Pass::SimplifyCfg, Pass::Dce, Pass::Sccp],
 ];
 
-#[test]
-fn decided_branch_goes(rt: HostRuntime) -> Result<(), Fail> {
-    let alloc = rt.alloc();
-    let made = after(alloc, DECIDED, &[Pass::Sccp, Pass::SimplifyCfg, Pass::Dce])?;
-    let expected = after(alloc, DECIDED_AFTER, &[])?;
-    assert_eq!(rt; made, expected);
-    Ok(())
-}
+/// What goes: a decided branch; an argument without use, what is forwarded to it and what uses it; one of two edges
+/// that is decided. Known arguments become constants.
+const CHANGED: &[Made] = &[
+    Made {
+        module: DECIDED,
+        lists: &[&[Pass::Sccp, Pass::SimplifyCfg, Pass::Dce]],
+        after: DECIDED_AFTER,
+    },
+    Made {
+        module: DEAD_ARGUMENT,
+        lists: &[&[Pass::Dce]],
+        after: DEAD_ARGUMENT_AFTER,
+    },
+    Made {
+        module: TWO_EDGES,
+        lists: &[&[Pass::SimplifyCfg]],
+        after: TWO_EDGES_AFTER,
+    },
+    Made {
+        module: KNOWN_ARGUMENTS,
+        lists: &[&[Pass::Sccp]],
+        after: KNOWN_ARGUMENTS_AFTER,
+    },
+];
 
-#[test]
-fn loop_stays(rt: HostRuntime) -> Result<(), Fail> {
-    let alloc = rt.alloc();
-    let expected = after(alloc, COUNTDOWN, &[])?;
-    for passes in LISTS {
-        let made = after(alloc, COUNTDOWN, passes)?;
+/// What stays: a loop, also one to the entry; a division by zero, which traps, so that it isn't dead though nothing
+/// uses what it gives; and two edges between the same blocks, which constant propagation doesn't tell apart.
+const UNCHANGED: &[Made] = &[
+    Made {
+        module: COUNTDOWN,
+        lists: LISTS,
+        after: COUNTDOWN,
+    },
+    Made {
+        module: ENTRY_LOOP,
+        lists: LISTS,
+        after: ENTRY_LOOP,
+    },
+    Made {
+        module: DIVISION,
+        lists: LISTS,
+        after: DIVISION,
+    },
+    Made {
+        module: TWO_EDGES,
+        lists: &[&[Pass::Sccp]],
+        after: TWO_EDGES,
+    },
+];
+
+/// Asserts that each list of optimisations makes what is wanted.
+fn assert_made(rt: &impl Abort, alloc: Global, row: &Made) -> Result<(), Fail> {
+    let expected = after(alloc, row.after, &[])?;
+    for passes in row.lists {
+        let made = after(alloc, row.module, passes)?;
         assert_eq!(rt; made, expected);
     }
     Ok(())
 }
 
 #[test]
-fn loop_to_the_entry_stays(rt: HostRuntime) -> Result<(), Fail> {
+fn optimisations_make_what_is_wanted(rt: HostRuntime) -> Result<(), Fail> {
     let alloc = rt.alloc();
-    let expected = after(alloc, ENTRY_LOOP, &[])?;
-    for passes in LISTS {
-        let made = after(alloc, ENTRY_LOOP, passes)?;
-        assert_eq!(rt; made, expected);
-    }
-    Ok(())
-}
-
-/// Dead code elimination takes the argument, what is forwarded to it and what uses it.
-#[test]
-fn dead_argument_goes(rt: HostRuntime) -> Result<(), Fail> {
-    let alloc = rt.alloc();
-    let made = after(alloc, DEAD_ARGUMENT, &[Pass::Dce])?;
-    let expected = after(alloc, DEAD_ARGUMENT_AFTER, &[])?;
-    assert_eq!(rt; made, expected);
-    Ok(())
-}
-
-/// Constant propagation doesn't tell two edges between the same blocks apart.
-#[test]
-fn two_edges_stay_under_constant_propagation(rt: HostRuntime) -> Result<(), Fail> {
-    let alloc = rt.alloc();
-    let made = after(alloc, TWO_EDGES, &[Pass::Sccp])?;
-    let expected = after(alloc, TWO_EDGES, &[])?;
-    assert_eq!(rt; made, expected);
-    Ok(())
-}
-
-#[test]
-fn one_of_two_edges_is_decided(rt: HostRuntime) -> Result<(), Fail> {
-    let alloc = rt.alloc();
-    let made = after(alloc, TWO_EDGES, &[Pass::SimplifyCfg])?;
-    let expected = after(alloc, TWO_EDGES_AFTER, &[])?;
-    assert_eq!(rt; made, expected);
-    Ok(())
-}
-
-#[test]
-fn known_arguments_become_constants(rt: HostRuntime) -> Result<(), Fail> {
-    let alloc = rt.alloc();
-    let made = after(alloc, KNOWN_ARGUMENTS, &[Pass::Sccp])?;
-    let expected = after(alloc, KNOWN_ARGUMENTS_AFTER, &[])?;
-    assert_eq!(rt; made, expected);
-    Ok(())
-}
-
-/// A division by zero traps, so that it isn't dead though nothing uses what it gives.
-#[test]
-fn division_by_zero_stays(rt: HostRuntime) -> Result<(), Fail> {
-    let alloc = rt.alloc();
-    let expected = after(alloc, DIVISION, &[])?;
-    for passes in LISTS {
-        let made = after(alloc, DIVISION, passes)?;
-        assert_eq!(rt; made, expected);
+    for rows in [CHANGED, UNCHANGED] {
+        for row in rows {
+            assert_made(&rt, alloc, row)?;
+        }
     }
     Ok(())
 }

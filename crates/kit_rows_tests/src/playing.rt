@@ -12,7 +12,7 @@ use kit_module_reader::{Unread, read, write_number, written};
 use kit_verifier::verify_module;
 use std::alloc::{AllocError, Global};
 
-/// A run of the function `f`, or of one that a path of names leads to.
+/// A run of the function that a path of names leads to.
 #[derive(Clone, Copy)]
 pub struct Run {
     /// The names, with `/` between them.

@@ -7,30 +7,59 @@ use crate::texts::{
 use kit_module_reader::Unread;
 use std::test::Fail;
 
-#[test]
-fn value_of_another_block_than_the_entry_is_not_visible(rt: HostRuntime) -> Result<(), Fail> {
-    let verdict = verdict(rt.alloc(), FAR_OPERAND)?;
-    assert_eq!(rt; verdict.as_str(), "rule 7 at 0.0.0.0.2.0");
-    Ok(())
+/// A module, and the verdict on it in words.
+struct Verdict {
+    module: &'static str,
+    words: &'static str,
 }
 
-#[test]
-fn later_value_is_not_visible(rt: HostRuntime) -> Result<(), Fail> {
-    let verdict = verdict(rt.alloc(), EARLY_OPERAND)?;
-    assert_eq!(rt; verdict.as_str(), "rule 7 at 0.0.0.0.0.0");
-    Ok(())
-}
+/// A value is visible in its block behind its definition, and in other blocks where it is one of the entry. A text
+/// can't say what isn't there, but a context can hold a branch that leads nowhere or out of its function. Loops, calls
+/// and modules in modules keep the rules.
+const VERDICTS: &[Verdict] = &[
+    Verdict {
+        module: FAR_OPERAND,
+        words: "rule 7 at 0.0.0.0.2.0",
+    },
+    Verdict {
+        module: EARLY_OPERAND,
+        words: "rule 7 at 0.0.0.0.0.0",
+    },
+    Verdict {
+        module: NO_BLOCK,
+        words: "rule 14 at 0.0.0.0.0.0",
+    },
+    Verdict {
+        module: FOREIGN_BLOCK,
+        words: "rule 9 at 0.0.0.0.0.0",
+    },
+    Verdict {
+        module: COUNTDOWN,
+        words: "ok",
+    },
+    Verdict {
+        module: FACTORIAL,
+        words: "ok",
+    },
+    Verdict {
+        module: NESTED,
+        words: "ok",
+    },
+    Verdict {
+        module: ENTRY_LOOP,
+        words: "ok",
+    },
+    Verdict {
+        module: ENDLESS,
+        words: "ok",
+    },
+];
 
-/// A text can't say what isn't there, but a context can hold a branch that leads nowhere or out of its function.
 #[test]
-fn branch_leads_to_a_block_of_its_function(rt: HostRuntime) -> Result<(), Fail> {
-    let alloc = rt.alloc();
-    for (text, expected) in [
-        (NO_BLOCK, "rule 14 at 0.0.0.0.0.0"),
-        (FOREIGN_BLOCK, "rule 9 at 0.0.0.0.0.0"),
-    ] {
-        let verdict = verdict(alloc, text)?;
-        assert_eq!(rt; verdict.as_str(), expected);
+fn modules_have_their_verdicts(rt: HostRuntime) -> Result<(), Fail> {
+    for row in VERDICTS {
+        let words = verdict(rt.alloc(), row.module)?;
+        assert_eq!(rt; words.as_str(), row.words);
     }
     Ok(())
 }
@@ -40,16 +69,6 @@ fn block_that_is_not_there_is_not_read(rt: HostRuntime) -> Result<(), Fail> {
     match verdict(rt.alloc(), UNKNOWN_BLOCK) {
         Err(fault) => assert_eq!(rt; fault, Unread::Text),
         Ok(_) => Err("the text was read")?,
-    }
-    Ok(())
-}
-
-#[test]
-fn loops_calls_and_nested_modules_keep_the_rules(rt: HostRuntime) -> Result<(), Fail> {
-    let alloc = rt.alloc();
-    for text in [COUNTDOWN, FACTORIAL, NESTED, ENTRY_LOOP, ENDLESS] {
-        let verdict = verdict(alloc, text)?;
-        assert_eq!(rt; verdict.as_str(), "ok");
     }
     Ok(())
 }

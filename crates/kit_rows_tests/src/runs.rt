@@ -5,229 +5,185 @@ use crate::texts::{
     COUNTDOWN, DECIDED, DIVISION, ENDLESS, ENTRY_LOOP, FACTORIAL, FUNCTIONS, KNOWN_ARGUMENTS, LESS,
     NESTED, TWO_EDGES,
 };
+use std::alloc::Global;
+use std::process::Abort;
 use std::test::Fail;
-
-/// No optimisation.
-const NONE: &[Pass] = &[];
 
 /// No optimisation, and all of them in three orders.
 const LISTS: &[&[Pass]] = &[
-    NONE,
+    &[],
     ALL,
     &[Pass::Sccp, Pass::SimplifyCfg, Pass::Dce],
     &[Pass::SimplifyCfg, Pass::Dce, Pass::Sccp],
 ];
 
+/// No optimisation.
+const NONE: &[&[Pass]] = &[&[]];
+
 /// A path, numbers and a limit, and what the run answers.
-type Answered = (&'static str, &'static [u64], u64, &'static str);
+struct Answered(&'static str, &'static [u64], u64, &'static str);
+
+/// A module with runs that are answered alike after each list of optimisations.
+struct Example {
+    module: &'static str,
+    lists: &'static [&'static [Pass]],
+    runs: &'static [Answered],
+}
 
 /// Sums wrap, divisions by zero trap, and comparisons are unsigned, also of signed numbers.
-const RESULTS: &[Answered] = &[
-    ("sum", &[200, 100], 2, "end 44"),
-    ("sum", &[200, 100], 1, "limit"),
-    ("quotient", &[7, 2], 9, "end 3"),
-    ("quotient", &[7, 0], 9, "trap"),
-    ("less", &[255, 1], 9, "end 2"),
-    ("less", &[1, 255], 9, "end 1"),
-];
-
+///
 /// A loop takes two steps to begin, and two in each turn; a call is a step, and so is each operation of the function
-/// that it calls.
-const STEPS: &[Answered] = &[
-    ("spin", &[], 0, "limit"),
-    ("spin", &[], 2, "limit"),
-    ("spin", &[], 3, "emit 1 limit"),
-    ("spin", &[], 7, "emit 1 emit 1 emit 1 limit"),
-    ("main", &[5], 2, "limit"),
-    ("main", &[5], 4, "emit 10 limit"),
-    ("main", &[5], 5, "emit 10 emit 10 limit"),
-    ("main", &[5], 6, "emit 10 emit 10 end 10"),
+/// that it calls. Paths lead through modules, but not through functions, and not to modules. Arguments are as many as
+/// the function takes, and fit.
+const OF_FUNCTIONS: &[Example] = &[Example {
+    module: FUNCTIONS,
+    lists: NONE,
+    runs: &[
+        Answered("sum", &[200, 100], 2, "end 44"),
+        Answered("sum", &[200, 100], 1, "limit"),
+        Answered("quotient", &[7, 2], 9, "end 3"),
+        Answered("quotient", &[7, 0], 9, "trap"),
+        Answered("less", &[255, 1], 9, "end 2"),
+        Answered("less", &[1, 255], 9, "end 1"),
+        Answered("spin", &[], 0, "limit"),
+        Answered("spin", &[], 2, "limit"),
+        Answered("spin", &[], 3, "emit 1 limit"),
+        Answered("spin", &[], 7, "emit 1 emit 1 emit 1 limit"),
+        Answered("main", &[5], 2, "limit"),
+        Answered("main", &[5], 4, "emit 10 limit"),
+        Answered("main", &[5], 5, "emit 10 emit 10 limit"),
+        Answered("main", &[5], 6, "emit 10 emit 10 end 10"),
+        Answered("inner/seven", &[], 9, "end 7"),
+        Answered("seven", &[], 9, "wrong path"),
+        Answered("inner", &[], 9, "wrong path"),
+        Answered("main/twice", &[1], 9, "wrong path"),
+        Answered("", &[], 9, "wrong path"),
+        Answered("main", &[], 9, "wrong arguments"),
+        Answered("main", &[1, 1], 9, "wrong arguments"),
+        Answered("main", &[256], 9, "wrong arguments"),
+    ],
+}];
+
+/// A decided branch, two edges to a block, of which the first is taken, and known arguments.
+const OF_EDGES: &[Example] = &[
+    Example {
+        module: DECIDED,
+        lists: LISTS,
+        runs: &[Answered("f", &[9], 100, "emit 9 end")],
+    },
+    Example {
+        module: TWO_EDGES,
+        lists: LISTS,
+        runs: &[Answered("f", &[], 100, "end 1")],
+    },
+    Example {
+        module: KNOWN_ARGUMENTS,
+        lists: LISTS,
+        runs: &[Answered("f", &[], 100, "end 10")],
+    },
 ];
 
-/// Paths lead through modules, but not through functions, and not to modules.
-const PATHS: &[Answered] = &[
-    ("inner/seven", &[], 9, "end 7"),
-    ("seven", &[], 9, "wrong path"),
-    ("inner", &[], 9, "wrong path"),
-    ("main/twice", &[1], 9, "wrong path"),
-    ("", &[], 9, "wrong path"),
+/// Loops, of which the second is one to the entry, take as many steps whatever optimisations were there before.
+const OF_LOOPS: &[Example] = &[
+    Example {
+        module: COUNTDOWN,
+        lists: LISTS,
+        runs: &[
+            Answered("f", &[2], 16, "emit 2 emit 1 end"),
+            Answered("f", &[2], 15, "emit 2 emit 1 limit"),
+        ],
+    },
+    Example {
+        module: ENTRY_LOOP,
+        lists: LISTS,
+        runs: &[Answered("f", &[2], 19, "emit 2 emit 1 end")],
+    },
+    Example {
+        module: ENTRY_LOOP,
+        lists: NONE,
+        runs: &[
+            Answered("f", &[2], 18, "emit 2 emit 1 limit"),
+            Answered("f", &[256], 100, "wrong arguments"),
+            Answered("h", &[2], 1, "wrong path"),
+        ],
+    },
 ];
 
-/// Arguments are as many as the function takes, and fit.
-const ARGUMENTS: &[Answered] = &[
-    ("main", &[], 9, "wrong arguments"),
-    ("main", &[1, 1], 9, "wrong arguments"),
-    ("main", &[256], 9, "wrong arguments"),
+/// A function that calls itself with another number, or endlessly; a call calls the function of its own module.
+const OF_CALLS: &[Example] = &[
+    Example {
+        module: FACTORIAL,
+        lists: &[&[], ALL],
+        runs: &[
+            Answered("f", &[3], 100, "end 6"),
+            Answered("f", &[3], 29, "end 6"),
+            Answered("f", &[3], 28, "limit"),
+            Answered("f", &[3], 0, "limit"),
+        ],
+    },
+    Example {
+        module: ENDLESS,
+        lists: LISTS,
+        runs: &[Answered("f", &[], 1000, "limit")],
+    },
+    Example {
+        module: NESTED,
+        lists: LISTS,
+        runs: &[Answered("n/g", &[], 4, "end 2")],
+    },
 ];
 
-/// A run of the function `f` on numbers for some steps.
-fn f(numbers: &'static [u64], limit: u64) -> Run {
-    Run {
-        path: "f",
+/// A division by zero traps. 255 isn't below 1, whatever the sign of their type.
+const OF_NUMBERS: &[Example] = &[
+    Example {
+        module: DIVISION,
+        lists: LISTS,
+        runs: &[Answered("f", &[], 100, "trap")],
+    },
+    Example {
+        module: LESS,
+        lists: NONE,
+        runs: &[
+            Answered("f", &[255, 1], 2, "end 0"),
+            Answered("f", &[1, 255], 2, "end 1"),
+        ],
+    },
+];
+
+/// Asserts that a run is answered so after the optimisations.
+fn assert_answered(
+    rt: &impl Abort,
+    alloc: Global,
+    module: &str,
+    passes: &[Pass],
+    row: &Answered,
+) -> Result<(), Fail> {
+    let Answered(path, numbers, limit, expected) = *row;
+    let run = Run {
+        path,
         numbers,
         limit,
-    }
-}
-
-#[test]
-fn decided_branch_is_taken(rt: HostRuntime) -> Result<(), Fail> {
-    let alloc = rt.alloc();
-    for passes in LISTS {
-        let words = answer(alloc, DECIDED, passes, f(&[9], 100))?;
-        assert_eq!(rt; words.as_str(), "emit 9 end");
-    }
-    Ok(())
-}
-
-/// The loop takes 16 steps on 2, whatever optimisations were there before.
-#[test]
-fn loop_takes_sixteen_steps(rt: HostRuntime) -> Result<(), Fail> {
-    let alloc = rt.alloc();
-    for passes in LISTS {
-        let words = answer(alloc, COUNTDOWN, passes, f(&[2], 16))?;
-        assert_eq!(rt; words.as_str(), "emit 2 emit 1 end");
-    }
-    Ok(())
-}
-
-#[test]
-fn loop_is_cut_off_after_fifteen_steps(rt: HostRuntime) -> Result<(), Fail> {
-    let alloc = rt.alloc();
-    for passes in LISTS {
-        let words = answer(alloc, COUNTDOWN, passes, f(&[2], 15))?;
-        assert_eq!(rt; words.as_str(), "emit 2 emit 1 limit");
-    }
-    Ok(())
-}
-
-#[test]
-fn factorial_takes_as_many_steps_after_optimisations(rt: HostRuntime) -> Result<(), Fail> {
-    let alloc = rt.alloc();
-    for (passes, limit, expected) in [
-        (NONE, 29, "end 6"),
-        (NONE, 100, "end 6"),
-        (NONE, 28, "limit"),
-        (NONE, 0, "limit"),
-        (ALL, 29, "end 6"),
-        (ALL, 100, "end 6"),
-        (ALL, 28, "limit"),
-        (ALL, 0, "limit"),
-    ] {
-        let words = answer(alloc, FACTORIAL, passes, f(&[3], limit))?;
-        assert_eq!(rt; words.as_str(), expected);
-    }
-    Ok(())
-}
-
-#[test]
-fn first_of_two_edges_to_a_block_is_taken(rt: HostRuntime) -> Result<(), Fail> {
-    let alloc = rt.alloc();
-    for passes in LISTS {
-        let words = answer(alloc, TWO_EDGES, passes, f(&[], 100))?;
-        assert_eq!(rt; words.as_str(), "end 1");
-    }
-    Ok(())
-}
-
-#[test]
-fn known_arguments_are_added(rt: HostRuntime) -> Result<(), Fail> {
-    let alloc = rt.alloc();
-    for passes in LISTS {
-        let words = answer(alloc, KNOWN_ARGUMENTS, passes, f(&[], 100))?;
-        assert_eq!(rt; words.as_str(), "end 10");
-    }
-    Ok(())
-}
-
-/// A call calls the function of its own module, in four steps.
-#[test]
-fn call_stays_in_its_module(rt: HostRuntime) -> Result<(), Fail> {
-    let alloc = rt.alloc();
-    for passes in LISTS {
-        let call = Run {
-            path: "n/g",
-            numbers: &[],
-            limit: 4,
-        };
-        let words = answer(alloc, NESTED, passes, call)?;
-        assert_eq!(rt; words.as_str(), "end 2");
-    }
-    Ok(())
-}
-
-#[test]
-fn loop_to_the_entry_takes_nineteen_steps(rt: HostRuntime) -> Result<(), Fail> {
-    let alloc = rt.alloc();
-    for passes in LISTS {
-        let words = answer(alloc, ENTRY_LOOP, passes, f(&[2], 19))?;
-        assert_eq!(rt; words.as_str(), "emit 2 emit 1 end");
-    }
-    Ok(())
-}
-
-#[test]
-fn loop_to_the_entry_has_its_faults(rt: HostRuntime) -> Result<(), Fail> {
-    let alloc = rt.alloc();
-    let elsewhere = Run {
-        path: "h",
-        numbers: &[2],
-        limit: 1,
     };
-    for (called, expected) in [
-        (f(&[2], 18), "emit 2 emit 1 limit"),
-        (f(&[256], 100), "wrong arguments"),
-        (elsewhere, "wrong path"),
-    ] {
-        let words = answer(alloc, ENTRY_LOOP, NONE, called)?;
-        assert_eq!(rt; words.as_str(), expected);
+    let words = answer(alloc, module, passes, run)?;
+    assert_eq!(rt; words.as_str(), expected);
+    Ok(())
+}
+
+/// Asserts that all runs of an example are answered so after each list of optimisations.
+fn assert_example(rt: &impl Abort, alloc: Global, example: &Example) -> Result<(), Fail> {
+    for passes in example.lists {
+        for row in example.runs {
+            assert_answered(rt, alloc, example.module, passes, row)?;
+        }
     }
     Ok(())
 }
 
 #[test]
-fn function_that_calls_itself_is_cut_off(rt: HostRuntime) -> Result<(), Fail> {
-    let alloc = rt.alloc();
-    for passes in LISTS {
-        let words = answer(alloc, ENDLESS, passes, f(&[], 1000))?;
-        assert_eq!(rt; words.as_str(), "limit");
-    }
-    Ok(())
-}
-
-#[test]
-fn division_by_zero_traps_after_optimisations(rt: HostRuntime) -> Result<(), Fail> {
-    let alloc = rt.alloc();
-    for passes in LISTS {
-        let words = answer(alloc, DIVISION, passes, f(&[], 100))?;
-        assert_eq!(rt; words.as_str(), "trap");
-    }
-    Ok(())
-}
-
-/// 255 isn't below 1, whatever the sign of their type.
-#[test]
-fn comparison_of_signed_numbers_is_unsigned(rt: HostRuntime) -> Result<(), Fail> {
-    let alloc = rt.alloc();
-    let falls = answer(alloc, LESS, NONE, f(&[255, 1], 2))?;
-    assert_eq!(rt; falls.as_str(), "end 0");
-    let rises = answer(alloc, LESS, NONE, f(&[1, 255], 2))?;
-    assert_eq!(rt; rises.as_str(), "end 1");
-    Ok(())
-}
-
-#[test]
-fn each_function_has_its_outcome(rt: HostRuntime) -> Result<(), Fail> {
-    let alloc = rt.alloc();
-    for rows in [RESULTS, STEPS, PATHS, ARGUMENTS] {
-        for row in rows {
-            let (path, numbers, limit, expected) = *row;
-            let called = Run {
-                path,
-                numbers,
-                limit,
-            };
-            let words = answer(alloc, FUNCTIONS, NONE, called)?;
-            assert_eq!(rt; words.as_str(), expected);
+fn runs_are_answered(rt: HostRuntime) -> Result<(), Fail> {
+    for examples in [OF_FUNCTIONS, OF_EDGES, OF_LOOPS, OF_CALLS, OF_NUMBERS] {
+        for example in examples {
+            assert_example(&rt, rt.alloc(), example)?;
         }
     }
     Ok(())

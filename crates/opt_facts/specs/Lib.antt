@@ -1,3 +1,4 @@
 pub mod ByNumber
 pub mod Problem
 pub mod Folds
+pub mod Solved

@@ -3,6 +3,7 @@ ghost use Rattle.std.specs.Prelude.{◌≡◌, ◌<◌, ℕ, IfOk, IsSome, Some,
 ghost use Rattle.ir_program.specs.Program.{operation_at};
 ghost use Rattle.ir_trees.specs.Stands.{ProgramTree};
 ghost use Rattle.opt_facts.specs.ByNumber.{AreBestFacts, LeadsBelow};
+ghost use Rattle.opt_facts.specs.Solved.{IsSolutionOf};
 ghost use Rattle.opt_inside.specs.Numbered.{NumbersInside, numbers_of};
 
 use crate::folding::ProgramFolding;
@@ -10,7 +11,7 @@ use crate::problem::problem_of;
 use ir_program::{Operation, Program, Ptr};
 use opt_dialect::OptDialect;
 use opt_inside::{Inside, know_occurrences};
-use opt_solvers::{Known, most_precise};
+use opt_solvers::{Known, Solution, most_precise};
 use std::alloc::{AllocError, Global};
 
 /// What is known of the blocks and values inside an operation, by their numbers.
@@ -50,6 +51,27 @@ fn first_items<T: Copy>(
     Ok(first)
 }
 
+/// The most precise facts of the problem of what is inside an operation.
+fn solution_of<D: OptDialect>(
+    alloc: Global,
+    program: &Program<D::Operation, D::Block>,
+    op: Ptr<Operation>,
+    inside: &Inside,
+) -> Result<Solution<D::Constant>, AllocError>
+    requires live { IsSome (operation_at program.now op) }
+    requires numbered { NumbersInside program.now op (numbers_of inside.now) }
+    requires edges { LeadsBelow program.now op }
+    ensures { IfOk result (IsSolutionOf D.meaning program.now op (numbers_of inside.now) inside.now.operations.keys) }
+{
+    program.know_lists();
+    let problem = problem_of::<D>(alloc, program, op, inside)?;
+    let folding = ProgramFolding::<D> {
+        program,
+        operations: inside.operations.as_slice(),
+    };
+    most_precise(alloc, &problem, &folding)
+}
+
 /// The most precise facts of what is inside an operation. What comes in besides it are the numbers of what is inside.
 ///
 /// Source: Wegman and Zadeck, Constant propagation with conditional branches, 1991. The operations are numbered, which takes
@@ -72,12 +94,7 @@ pub fn best_facts<D: OptDialect>(
 {
     program.know_lists();
     know_occurrences(program, op);
-    let problem = problem_of::<D>(alloc, program, op, inside)?;
-    let folding = ProgramFolding::<D> {
-        program,
-        operations: inside.operations.as_slice(),
-    };
-    let solution = most_precise(alloc, &problem, &folding)?;
+    let solution = solution_of::<D>(alloc, program, op, inside)?;
     let runs = first_items(alloc, &solution.runs, inside.blocks.len(), false)?;
     let known = first_items(
         alloc,

@@ -62,12 +62,12 @@ pub(crate) fn problem_of<D: OptDialect>(
     requires numbered { NumbersInside program.now op (numbers_of inside.now) }
     ensures { IfOk result (λ problem. IsFactsProblemOf D.meaning program.now op (numbers_of inside.now) problem) }
 {
-    let rows = rows_of::<D>(alloc, program, inside)?;
     let arguments = arguments_of_blocks(alloc, program, inside)?;
     let mut entries = Vec::new(alloc);
     entry_numbers(program, inside, op, &mut entries)?;
     let count = inside.values.as_slice().len();
     let outside = vec![in alloc; count]?;
+    let rows = rows_of::<D>(alloc, program, inside)?;
     Ok(FactsProblem {
         rows,
         arguments,

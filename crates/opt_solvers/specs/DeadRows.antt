@@ -1,5 +1,5 @@
 -- What each item excuses once it goes, and what goes with it.
-use Rattle.std.specs.Prelude.{◌≡◌, ◌⊎◌, ℕ, List, length, Option, Some, None, slice_get}
+use Rattle.std.specs.Prelude.{◌≡◌, ◌⊎◌, ℕ, List, false, length, replicate, Option, Some, None, slice_get}
 use Rattle.digraph.specs.Work.{Adds}
 use Rattle.digraph.specs.declared.worklist.Worklist.{Worklist}
 use Rattle.opt_solvers.specs.declared.dead_problem.Operand.{Operand}
@@ -10,7 +10,8 @@ use Rattle.opt_solvers.specs.Rows.{row_at}
 use Rattle.opt_solvers.specs.LinkedRows.{TableLists}
 use Rattle.opt_solvers.specs.DeadCandidates.{all_operands}
 use Rattle.opt_solvers.specs.DeadPlaces.{ValueUse, all_places, slot, around_operation, AreKeptRows}
-use Rattle.opt_solvers.specs.DeadRelease.{ExcusesAll}
+use Rattle.opt_solvers.specs.DeadRelease.{ExcusesAll, IsStarted}
+use Rattle.opt_solvers.specs.DeadUses.{kept_by, first_uses, CountsItems}
 
 -- the number of an argument among the items, if there is one
 abbrev pub slot_of : DeadProblem → Option ℕ → Option ℕ
@@ -48,3 +49,9 @@ pub record LetsGo (p : DeadProblem) (t : DeadTables) (item : ℕ) (old new : Cou
   pub between : Worklist
   pub excuses : ExcusesAll t.keeps (IsExcusedBy p item) old.excused.items new.excused.items old.uses.items new.uses.items old.work between
   pub adds : Adds between new.work (row_at t.inner item)
+
+-- before any item goes nothing is excused, each item has as many uses as keep it, and those without any have died
+pub record AreFirstCounts (p : DeadProblem) (t : DeadTables) (c : Counts) : Type 0 where
+  pub excused : c.excused.items ≡ replicate (length t.keeps) false
+  pub uses : CountsItems (kept_by t.keeps) (first_uses p) c.uses.items
+  pub died : IsStarted c.uses.items c.work

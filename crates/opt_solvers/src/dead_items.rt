@@ -5,7 +5,7 @@ ghost use Rattle.opt_solvers.specs.Dead.{IsDeadProblem};
 ghost use Rattle.opt_solvers.specs.DeadItems.{AreDead, AreMarked};
 ghost use Rattle.opt_solvers.specs.DeadPlaces.{items};
 ghost use Rattle.opt_solvers.specs.DeadRelease.{AreCounts};
-ghost use Rattle.opt_solvers.specs.DeadRows.{AreDeadTables, LetsGo};
+ghost use Rattle.opt_solvers.specs.DeadRows.{AreDeadTables, AreFirstCounts, LetsGo};
 
 use crate::dead_kept::kept_rows;
 use crate::dead_problem::{DeadItems, DeadProblem};
@@ -84,6 +84,38 @@ fn let_go(
     }
 }
 
+/// What is known of the uses and items of a problem.
+fn tables_of(alloc: Global, problem: &DeadProblem) -> Result<DeadTables, AllocError>
+    requires { IsDeadProblem problem.now }
+    ensures { IfOk result (AreDeadTables problem.now) }
+{
+    Ok(DeadTables {
+        keeps: kept_rows(alloc, problem)?,
+        forwarded: forwarded_rows(alloc, problem)?,
+        inner: inner_rows(alloc, problem)?,
+    })
+}
+
+/// The counts before any item goes: nothing is excused, and what has no use has died.
+fn first_counts(
+    alloc: Global,
+    problem: &DeadProblem,
+    tables: &DeadTables,
+) -> Result<Counts, AllocError>
+    requires problem { IsDeadProblem problem.now }
+    requires tables { AreDeadTables problem.now tables.now }
+    ensures { IfOk result (AreFirstCounts problem.now tables.now) }
+{
+    let excused = vec![in alloc; false; tables.keeps.len()]?;
+    let uses = count_uses(alloc, problem, &tables.keeps)?;
+    let work = started(alloc, &uses)?;
+    Ok(Counts {
+        excused,
+        uses,
+        work,
+    })
+}
+
 /// The least set of dead operations and arguments: those that nothing but uses keeps and that only the dead use.
 ///
 /// Source: Cytron and others, Efficiently computing static single assignment form, 1991, the section on dead code. Here
@@ -98,19 +130,8 @@ pub fn dead(alloc: Global, problem: &DeadProblem) -> Result<DeadItems, AllocErro
     requires { IsDeadProblem problem.now }
     ensures { IfOk result (AreDead problem.now) }
 {
-    let tables = DeadTables {
-        keeps: kept_rows(alloc, problem)?,
-        forwarded: forwarded_rows(alloc, problem)?,
-        inner: inner_rows(alloc, problem)?,
-    };
-    let excused = vec![in alloc; false; tables.keeps.len()]?;
-    let uses = count_uses(alloc, problem, &tables.keeps)?;
-    let work = started(alloc, &uses)?;
-    let mut counts = Counts {
-        excused,
-        uses,
-        work,
-    };
+    let tables = tables_of(alloc, problem)?;
+    let mut counts = first_counts(alloc, problem, &tables)?;
     while let Some(item) = counts.work.take() {
         let_go(problem, &tables, &mut counts, item)?;
     }
