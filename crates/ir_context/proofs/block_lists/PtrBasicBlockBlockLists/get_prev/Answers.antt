@@ -2,3 +2,15 @@ use Rattle.ir_context.proofs.block_lists.PtrBasicBlockBlockLists.get_prev.Goals 
 
 pub returns-clause-unlinked : goal.returns-clause-unlinked
 returns-clause-unlinked g c = rw (← c.ctx.view_is) (c.previous_block.ensures.unlinked)
+
+pub previous_block-requires : goal.previous_block-requires
+previous_block-requires g c = rw (← c.ctx.view_is) at c.requires
+
+pub returns-clause-previous : goal.returns-clause-previous
+returns-clause-previous g c = rw (← c.ctx.view_is) (c.previous_block.ensures.previous)
+
+pub returns-clause-first : goal.returns-clause-first
+returns-clause-first g c = rw (← c.ctx.view_is) (c.previous_block.ensures.first)
+
+pub returns-clause-live : goal.returns-clause-live
+returns-clause-live g c = rw (← c.ctx.view_is) (c.previous_block.ensures.live)

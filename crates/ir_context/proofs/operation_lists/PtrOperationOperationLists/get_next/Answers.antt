@@ -8,3 +8,6 @@ returns-clause-unlinked g c = rw (← c.ctx.view_is) (c.next_operation.ensures.u
 
 pub returns-clause-live : goal.returns-clause-live
 returns-clause-live g c = rw (← c.ctx.view_is) (c.next_operation.ensures.live)
+
+pub next_operation-requires : goal.next_operation-requires
+next_operation-requires g c = rw (← c.ctx.view_is) at c.requires
