@@ -1,8 +1,8 @@
 -- Following numbers to their ends.
-use Rattle.std.proofs.Common.{◌≡◌, ◌⊎◌, inl, inr, ⊎_elim, ℕ, zero, suc, ◌+◌, ◌<◌, List, [], ◌∷◌, ◌++◌, take, Option, None, Some, Bool, true, false, cond, length, get_or, refl, sym, ap, ◌∙◌, subst, arith, below_more}
+use Rattle.std.proofs.Common.{◌≡◌, ◌⊎◌, inl, inr, ⊎_elim, ℕ, zero, suc, ◌+◌, ◌<◌, List, [], ◌∷◌, ◌++◌, take, Option, None, Some, Bool, true, false, cond, length, replicate, get_or, refl, sym, ap, ◌∙◌, subst, arith, below_more}
 use Rattle.std.proofs.Math.ListN.{set}
 use Rattle.std.specs.Prelude.{slice_get, Contains, count_by}
-use Rattle.std.proofs.lemmas.List.{length-set, take_more}
+use Rattle.std.proofs.lemmas.List.{length-set, length-replicate, take_more}
 use Rattle.std.proofs.lemmas.List.Sums.{sum_by-set}
 use Rattle.std.proofs.lemmas.List.Elements.{Contains-push, Contains-push_cases, Contains-append_left}
 use Rattle.std.proofs.lemmas.Option.{none-some, same_Some, slice_get_within, slice_get-get_or, get_or_from_slice_get}
@@ -10,12 +10,18 @@ use Rattle.opt_solvers.specs.declared.chains_followed.Mark.{Mark}
 use Rattle.opt_solvers.specs.declared.chains_followed.Mark.TheVariants.{New, OnPath, Done}
 use Rattle.opt_solvers.specs.declared.chains_followed.Following.{Following}
 use Rattle.opt_solvers.specs.Chains.{EndsUpAt, stops, goes_on, StepsAlong, goes, goes_by}
-use Rattle.opt_solvers.specs.ChainsFollowed.{AreLinksInRange, HasMark, HasFinal, IsFollowing, EntersPath, EndsPath, WritesBack, FinalIsKnown, AreFinals}
+use Rattle.opt_solvers.specs.ChainsFollowed.{AreLinksInRange, HasMark, HasFinal, IsFollowing, AreUnfollowed, EntersPath, EndsPath, WritesBack, FinalIsKnown, AreFinals}
 
 abbrev pub is_new : Mark → Bool
 is_new New = true
 is_new OnPath = false
 is_new Done = false
+
+-- what stands in a list of the same everywhere
+pub get_replicate : {X : Type 0} (n i : ℕ) (x y : X) → slice_get (replicate n x) i ≡ Some y → y ≡ x
+get_replicate zero i x y e = absurd (none-some y e)
+get_replicate (suc n) zero x y e = same_Some y x (sym e)
+get_replicate (suc n) (suc i) x y e = get_replicate n i x y e
 
 -- what stands at a place after a write
 pub get_set : {X : Type 0} (xs : List X) (i : ℕ) (x : X) (k : ℕ) → i < length xs → ((k ≡ i) × (slice_get (set xs i x) k ≡ Some x)) ⊎ ((k ≡ i → ⊥) × (slice_get (set xs i x) k ≡ slice_get xs k))
@@ -182,6 +188,20 @@ module _ (next : List (Option ℕ)) where
   pub record AreResolved (s : Following) (k : ℕ) : Type 0 where
     pub following : IsFollowing next s
     pub below : (v : ℕ) → v < k → HasMark s v Done
+
+  pub followed_first : (s : Following) → AreUnfollowed (length next) s → AreResolved s 0
+  followed_first s u = record {
+    following = record {
+      marks = ap length u.marks ∙ length-replicate (length next) New;
+      finals = u.finals;
+      done = λ v f m. let e : Done ≡ New = all_new v Done m in cc;
+      no_path = λ v m. let e : OnPath ≡ New = all_new v OnPath m in cc;
+    };
+    below = λ v h. absurd (omega (arith, h));
+  }
+    where
+      all_new : (v : ℕ) (m : Mark) → HasMark s v m → m ≡ New
+      all_new v m e = get_replicate (length next) v New m (sym (ap (λ (ms : List Mark). slice_get ms v) u.marks) ∙ e)
 
   pub followed_more : (a b : Following) (k : ℕ) → AreResolved a k → FinalIsKnown next a b k → AreResolved b (k + 1)
   followed_more a b k s r = record {

@@ -100,6 +100,19 @@ pub held_once : (cs : List Candidate) → map held (map may_go_of cs) ≡ map he
 held_once [] = refl
 held_once (c ∷ cs) = ap (λ (ns : List ℕ). held c.may_go ∷ ns) (held_once cs)
 
+-- no operation
+module _ (ms bs : List Bool) (ns es : List ℕ) (xs : List Operand) (may_go : ms ≡ []) (insides : bs ≡ []) (arounds : ns ≡ []) (ends : es ≡ []) (operands : xs ≡ []) where
+  pub no_columns : AreColumns ms bs ns es xs
+  no_columns = record {
+    insides = ap length insides ∙ sym (ap length may_go);
+    arounds = ap length arounds ∙ sym (ap length may_go);
+    rows = ap length ends ∙ sym (ap length may_go);
+    are_ends = subst (λ (zs : List ℕ). AreEnds 0 zs (length xs)) (sym ends) (sym (ap length operands));
+  }
+
+  pub no_candidates : candidates_of ms (arounds_of bs ns) (rows_from 0 es xs) ≡ []
+  no_candidates = ap (λ (zs : List Bool). candidates_of zs (arounds_of bs ns) (rows_from 0 es xs)) may_go
+
 module _ (ms bs : List Bool) (ns es : List ℕ) (xs : List Operand) (columns : AreColumns ms bs ns es xs) where
   abbrev os : List (Option ℕ)
   os = arounds_of bs ns
@@ -151,6 +164,25 @@ module _ (ms bs : List Bool) (ns es : List ℕ) (xs : List Operand) (columns : A
     columns_last i j e h f q g =
         let l = columns_len in let r = columns.rows in let b : j < length es = omega (arith, h, f, q, l, r) in let n : suc j ≡ i = omega (arith, f, q) in
         read_there es j e b g ∙ sym (start_is 0 es j b) ∙ ap (start_from 0 es) n ∙ columns_before i h
+
+  -- lists that stay say the same
+  module _ (fresh_ms fresh_bs : List Bool) (fresh_ns fs : List ℕ) (ys : List Operand) (may_go : fresh_ms ≡ ms) (insides : fresh_bs ≡ bs) (arounds : fresh_ns ≡ ns) (ends : fs ≡ es) (operands : ys ≡ xs) where
+    pub columns_stay : AreColumns fresh_ms fresh_bs fresh_ns fs ys
+    columns_stay = record {
+      insides = ap length insides ∙ columns.insides ∙ sym (ap length may_go);
+      arounds = ap length arounds ∙ columns.arounds ∙ sym (ap length may_go);
+      rows = ap length ends ∙ columns.rows ∙ sym (ap length may_go);
+      are_ends = subst (λ (zs : List ℕ). AreEnds 0 zs (length ys)) (sym ends) (subst (AreEnds 0 es) (sym (ap length operands)) columns.are_ends);
+    }
+
+    pub view_stays : (cs : List Candidate) → candidates_of ms os (rows_from 0 es xs) ≡ cs → candidates_of fresh_ms (arounds_of fresh_bs fresh_ns) (rows_from 0 fs ys) ≡ cs
+    view_stays cs view =
+        ap (λ (zs : List Bool). candidates_of zs (arounds_of fresh_bs fresh_ns) (rows_from 0 fs ys)) may_go
+        ∙ ap (λ (zs : List Bool). candidates_of ms (arounds_of zs fresh_ns) (rows_from 0 fs ys)) insides
+        ∙ ap (λ (zs : List ℕ). candidates_of ms (arounds_of bs zs) (rows_from 0 fs ys)) arounds
+        ∙ ap (λ (zs : List ℕ). candidates_of ms os (rows_from 0 zs ys)) ends
+        ∙ ap (λ (zs : List Operand). candidates_of ms os (rows_from 0 es zs)) operands
+        ∙ view
 
   module _ (m : Bool) (o : Option ℕ) (row : List Operand) (fresh_ms fresh_bs : List Bool) (fresh_ns fs : List ℕ) (ys : List Operand) (n : ℕ)
       (may_go : fresh_ms ≡ ms ++ m ∷ []) (insides : fresh_bs ≡ bs ++ is_some o ∷ []) (arounds : fresh_ns ≡ ns ++ unwrap_or o 0 ∷ []) (ends : fs ≡ es ++ n ∷ []) (operands : ys ≡ xs ++ row) (end : n ≡ length ys) where

@@ -1,8 +1,6 @@
 -- What a solver begins with, and that there is one solution.
-use Rattle.std.proofs.Common.{zero, ◌≡◌, inl, inr, ⊎_elim, ℕ, suc, List, [], ◌∷◌, Option, Some, None, Bool, true, false, length, map, replicate, refl, sym, ap, ◌∙◌, subst, arith}
-use Rattle.std.specs.Prelude.{Contains, slice_get, option_map}
-use Rattle.std.specs.declared.vec.Vec.{Vec}
-use Rattle.std.specs.declared.alloc.Global.{Global}
+use Rattle.std.proofs.Common.{zero, ◌≡◌, inl, inr, ⊎_elim, ℕ, suc, List, [], ◌∷◌, Some, None, Bool, true, false, length, map, replicate, refl, sym, ap, ◌∙◌, subst, arith}
+use Rattle.std.specs.Prelude.{Contains, slice_get, option_map, unwrap_or}
 use Rattle.std.proofs.lemmas.Option.{none-some, same_Some, slice_get-map}
 use Rattle.std.proofs.lemmas.List.{length-map, length-replicate}
 use Rattle.opt_solvers.specs.declared.known.Known.{Known}
@@ -17,15 +15,17 @@ use Rattle.opt_solvers.specs.declared.facts_solver.Solver.{Solver}
 use Rattle.opt_solvers.specs.Known.{AtOrBelow, AllAny}
 use Rattle.opt_solvers.specs.Facts.{Answers, NumberedFacts, RunsWithAny, IsMostPreciseSolution}
 use Rattle.opt_solvers.specs.FactsFound.{facts_of, Meets, IsNothing}
-use Rattle.opt_solvers.specs.FactsSolving.{seen_of, IsTaken, IsSolving, IsWaiting, IsInitialSolver}
+use Rattle.opt_solvers.specs.FactsSolving.{seen_of, IsTaken, IsSolving, IsWaiting, IsFirstFound, IsInitialSolver}
+use Rattle.opt_solvers.proofs.ChainsFollowing.{get_replicate}
 use Rattle.opt_solvers.proofs.FactsFalling.{at_top}
 use Rattle.opt_solvers.proofs.FactsEntering.{enters_stays}
 use Rattle.opt_solvers.proofs.FactsTabling.{contains_get}
 
-get_replicate : {X : Type 0} (n i : ℕ) (x y : X) → slice_get (replicate n x) i ≡ Some y → y ≡ x
-get_replicate zero i x y e = absurd (none-some y e)
-get_replicate (suc n) zero x y e = same_Some y x (sym e)
-get_replicate (suc n) (suc i) x y e = get_replicate n i x y e
+-- what stands in a list of the same everywhere, or past its end
+same_anywhere : {X : Type 0} (n i : ℕ) (x : X) → unwrap_or (slice_get (replicate n x) i) x ≡ x
+same_anywhere zero i x = refl
+same_anywhere (suc n) zero x = refl
+same_anywhere (suc n) (suc i) x = same_anywhere n i x
 
 true_both : (a b : Bool) → (a ≡ true → b ≡ true) → (b ≡ true → a ≡ true) → a ≡ b
 true_both true b f g = sym (f refl)
@@ -48,10 +48,18 @@ module _ {A : Type 0} where
   all_any_at f (u ∷ vs) v h zero e = subst (λ w. f w ≡ Any) (same_Some u v e) h.0
   all_any_at f (u ∷ vs) v h (suc i) e = all_any_at f vs v h.1 i e
 
+  -- no block runs and nothing is known of any value
+  pub nothing : (s : Found A) (blocks values : ℕ) → s.runs.items ≡ replicate blocks false → s.known.items ≡ replicate values Undetermined → IsNothing s blocks values
+  nothing s blocks values r k = record {
+    blocks_len = ap length r ∙ length-replicate blocks false;
+    values_len = ap length k ∙ length-replicate values Undetermined;
+    none = λ b e. let f : false ≡ true = sym (ap (λ xs. unwrap_or (slice_get xs b) false) r ∙ same_anywhere blocks b false) ∙ e in cc;
+    undetermined = λ v. ap (λ (xs : List (Known A)). unwrap_or (slice_get xs v) Undetermined) k ∙ same_anywhere values v Undetermined;
+  }
+
   -- the entries were entered, and the values from outside given up
-  pub begun : (p : FactsProblem) (a b c : Found A) (blocks values : List ℕ) (seen : List (List (Known A))) (taken : List (List Bool)) (marks : Vec (Option ℕ) Global) → blocks ≡ p.entries.items → values ≡ p.outside.items → IsNothing a (length p.arguments.items) p.values → Meets (λ l. (n : ℕ) → Contains blocks n → RunsWithAny p l n) a b → Meets (λ l. AllAny l.of values) b c
-      → seen ≡ map unseen p.rows → taken ≡ map untaken p.rows → marks.items ≡ replicate (length p.arguments.items) None → IsInitialSolver p (record { found = c; seen = seen; taken = taken; marks = marks })
-  begun p a b c blocks values seen taken marks x y n f g s t m = record {
+  pub begun : (p : FactsProblem) (a b c : Found A) (blocks values : List ℕ) → blocks ≡ p.entries.items → values ≡ p.outside.items → IsNothing a (length p.arguments.items) p.values → Meets (λ l. (n : ℕ) → Contains blocks n → RunsWithAny p l n) a b → Meets (λ l. AllAny l.of values) b c → IsFirstFound p c
+  begun p a b c blocks values x y n f g = record {
     blocks_len = g.steps.blocks_len ∙ (f.steps.blocks_len ∙ n.blocks_len);
     values_len = g.steps.values_len ∙ (f.steps.values_len ∙ n.values_len);
     entered = record {
@@ -68,9 +76,6 @@ module _ {A : Type 0} where
         (λ o. ⊎_elim (λ z. inl (o ∙ (z ∙ n.undetermined v))) (λ z. inr (g.steps.keeps_values v z)) (f.steps.value_waits v))
         (λ o. inr o)
         (g.steps.value_waits v);
-    seen = s;
-    taken = t;
-    marks = m;
   }
 
   module _ (ask : Answers A) (p : FactsProblem) (s : Solver A) (b : IsInitialSolver p s) where
@@ -88,14 +93,14 @@ module _ {A : Type 0} where
 
     pub begins_solving : IsSolving ask p s []
     begins_solving = record {
-      blocks_len = b.blocks_len;
-      values_len = b.values_len;
+      blocks_len = b.found.blocks_len;
+      values_len = b.found.values_len;
       marks_len = ap length b.marks ∙ length-replicate (length p.arguments.items) None;
       seen_len = ap length b.seen ∙ length-map p.rows unseen;
       taken_len = ap length b.taken ∙ length-map p.rows untaken;
       operands_len = λ i r a. ap length (seen_at i r a) ∙ length-replicate (length r.operands) Undetermined;
       edges_len = λ i r a. ap length (edges_at i r a) ∙ length-replicate (length r.edges) false;
-      best = λ l c. b.best l (record { entries = c.entries; outside = all_any_from l.of p.outside.items c.outside });
+      best = λ l c. b.found.best l (record { entries = c.entries; outside = all_any_from l.of p.outside.items c.outside });
       marks_best = λ l c i r a n e q k. absurd (none-some i (sym (get_replicate (length p.arguments.items) e.target None (Some i) (sym (ap (λ ms. slice_get ms e.target) b.marks) ∙ k))));
       taken_best = λ l c i n r e a q t. absurd (nothing_taken i n r a t);
       above = λ i j v r x a q e. subst (AtOrBelow ((facts_of s.found).of v)) (sym (nothing_seen i j r x a e)) (at_top ((facts_of s.found).of v));
@@ -104,10 +109,10 @@ module _ {A : Type 0} where
 
     pub begins_waiting : IsWaiting ask p s [] []
     begins_waiting = record {
-      entries = b.entered.entries;
-      outside = λ v c. all_any_at (facts_of s.found).of p.outside.items v b.entered.outside (contains_get p.outside.items v c).0 (contains_get p.outside.items v c).1;
-      rows = λ i r a e. inr (inl (b.blocks_wait r.block e));
-      seen = λ i j v r x a q e. ⊎_elim (λ o. inl (o ∙ sym (nothing_seen i j r x a e))) (λ o. inr (inl o)) (b.values_wait v);
+      entries = b.found.entered.entries;
+      outside = λ v c. all_any_at (facts_of s.found).of p.outside.items v b.found.entered.outside (contains_get p.outside.items v c).0 (contains_get p.outside.items v c).1;
+      rows = λ i r a e. inr (inl (b.found.blocks_wait r.block e));
+      seen = λ i j v r x a q e. ⊎_elim (λ o. inl (o ∙ sym (nothing_seen i j r x a e))) (λ o. inr (inl o)) (b.found.values_wait v);
     }
 
   at_both : (x y : Known A) → AtOrBelow x y → AtOrBelow y x → x ≡ y

@@ -1,6 +1,6 @@
 -- What one step of a solver keeps, and what holds when there is none.
-use Rattle.std.proofs.Common.{◌≡◌, ◌⊎◌, inl, inr, ⊎_elim, ℕ, List, [], ◌∷◌, Option, Some, None, true, false, length, map, refl, sym, ap, ◌∙◌, subst, arith}
-use Rattle.std.specs.Prelude.{Contains, slice_get, not, count_by}
+use Rattle.std.proofs.Common.{◌≡◌, ◌⊎◌, inl, inr, ⊎_elim, ℕ, zero, suc, ◌<◌, Bool, List, [], ◌∷◌, Option, Some, None, true, false, length, map, refl, sym, ap, ◌∙◌, subst, arith}
+use Rattle.std.specs.Prelude.{Contains, slice_get, unwrap_or, not, count_by}
 use Rattle.std.proofs.lemmas.Option.{same_Some}
 use Rattle.std.proofs.lemmas.List.Elements.{Contains-push, Contains-push_cases}
 use Rattle.opt_solvers.specs.declared.known.Known.TheVariants.{Any}
@@ -25,6 +25,15 @@ use Rattle.opt_solvers.proofs.FactsTelling.{waiting_steps}
 
 none_contained : {X : Type 0} (xs : List X) (x : X) → xs ≡ [] → Contains xs x → ⊥
 none_contained xs x e c = let n = ap length e in omega (arith, c.1, n)
+
+-- a block that runs is one of the blocks
+running_inside : {A : Type 0} (s : Found A) (b : ℕ) → (facts_of s).runs b ≡ true → b < length s.runs.items
+running_inside s b e = inside s.runs.items b e
+  where
+    inside : (xs : List Bool) (i : ℕ) → unwrap_or (slice_get xs i) false ≡ true → i < length xs
+    inside [] i q = absurd (cc q)
+    inside (x ∷ xs) zero q = omega arith
+    inside (x ∷ xs) (suc i) q = let h = inside xs i q in omega (arith, h)
 
 module _ {A : Type 0} (ask : Answers A) (p : FactsProblem) where
   module _ (s : Solver A) (f : Found A) (runs : f.runs ≡ s.found.runs) (known : f.known ≡ s.found.known) where
@@ -71,6 +80,12 @@ module _ {A : Type 0} (ask : Answers A) (p : FactsProblem) where
   module _ (tables : Tables) (ok : AreTables p tables) (s : Solver A) (d : IsSolving ask p s []) (w : IsWaiting ask p s [] []) where
     -- a block is taken, and its operations are visited
     module _ (f : Found A) (b : ℕ) (k : TakesBlock s.found f b) where
+      pub block_inside : b < length p.arguments.items
+      block_inside = let h = running_inside s.found b k.running in let l = d.blocks_len in omega (arith, h, l)
+
+      pub block_runs : (facts_of f).runs b ≡ true
+      block_runs = subst (λ x. unwrap_or (slice_get x.items b) false ≡ true) (sym k.runs) k.running
+
       pub block_solving : IsSolving ask p (record { found = f; seen = s.seen; taken = s.taken; marks = s.marks }) []
       block_solving = solving_popped s f k.runs k.known [] [] (λ u o. subst (λ x. Contains x.items u ⊎ Contains [] u) (sym k.values) o) d
 
@@ -108,6 +123,9 @@ module _ {A : Type 0} (ask : Answers A) (p : FactsProblem) where
       module _ (v : ℕ) (k : TakesValue f h v) where
         popped_value : (u : ℕ) → Contains s.found.values.items u → Contains h.values.items u ⊎ (v ≡ u)
         popped_value u c = Contains-push_cases h.values.items v u (subst (λ xs. Contains xs u) k.rest (subst (λ x. Contains x.items u) (sym n.values) c))
+
+        pub value_inside : v < p.values
+        value_inside = let h = k.in_range in let m = ap (λ x. length x.items) n.known in let l = d.values_len in omega (arith, h, m, l)
 
         pub value_solving : IsSolving ask p (record { found = h; seen = s.seen; taken = s.taken; marks = s.marks }) (v ∷ [])
         value_solving = solving_popped s h (k.runs ∙ n.runs) (k.known ∙ n.known) [] (v ∷ [])

@@ -2,12 +2,13 @@
 use Rattle.std.proofs.Common.{◌≡◌, ◌≤◌, ◌<◌, ℕ, zero, suc, ◌-◌, List, [], ◌∷◌, ◌++◌, Option, Some, None, ⊎_elim, length, get_or, map, replicate, refl, sym, ap, ◌∙◌, subst, arith}
 use Rattle.std.specs.Prelude.{slice_get, unwrap_or, option_map}
 use Rattle.std.proofs.Math.ListN.{set}
-use Rattle.std.proofs.lemmas.List.{length-append}
-use Rattle.std.proofs.lemmas.Option.{slice_get-get_or}
+use Rattle.std.proofs.lemmas.List.{length-append, length-map}
+use Rattle.std.proofs.lemmas.Option.{none-some, same_Some, slice_get-get_or}
 use Rattle.opt_solvers.specs.declared.linked_rows.Linked.{Linked}
 use Rattle.opt_solvers.specs.Rows.{row_at}
 use Rattle.opt_solvers.specs.LinkedRows.{some_items, items_from, LeadBack, AreLinked}
 use Rattle.opt_solvers.proofs.Rows.{read_there}
+use Rattle.opt_solvers.proofs.ChainsFollowing.{get_replicate, get_set}
 use Rattle.opt_solvers.proofs.FactsTabling.{get_push_before, get_push_last, get_push_cases}
 
 module _ {X : Type 0} where
@@ -37,6 +38,11 @@ module _ {X : Type 0} where
       let q : next ≡ suc i = omega (arith, l, e) in
       sym v ∙ (ap (items_from links) q ∙ first_item links b i (get_or links i d) (slice_get-get_or links i d (omega (arith, h, q))))
 
+  -- those behind it are linked to in the list too
+  pub rest_inside : (links : List (Linked X)) (next i : ℕ) (d : Linked X) → LeadBack links → next ≤ length links → 1 ≤ next → i ≡ next - 1 → (get_or links i d).next ≤ length links
+  rest_inside links next i d b h l e =
+      let k : i < length links = omega (arith, h, l, e) in let m = b i (get_or links i d) (slice_get-get_or links i d k) in omega (arith, m, k)
+
   some_stay : (links : List (Linked X)) → LeadBack links → (x : Linked X) (m next : ℕ) → next ≤ length links → some_items m (links ++ x ∷ []) next ≡ some_items m links next
   some_stay links b x zero next h = refl
   some_stay links b x (suc m) zero h = refl
@@ -60,6 +66,10 @@ module _ {X : Type 0} where
   row_from f [] k h = absurd (omega (arith, h))
   row_from f (n ∷ ns) zero h = refl
   row_from f (n ∷ ns) (suc k) h = row_from f ns k (omega (arith, h))
+
+  -- each row has a link to its first item
+  pub first_there : (links : List (Linked X)) (firsts : List ℕ) (rows : List (List X)) (k : ℕ) → map (items_from links) firsts ≡ rows → k < length rows → k < length firsts
+  first_there links firsts rows k view h = let m = length-map firsts (items_from links) in let v = ap length view in omega (arith, m, v, h)
 
   -- the items of a row
   pub row_items : (links : List (Linked X)) (firsts : List ℕ) (k n : ℕ) → k < length firsts → n ≡ get_or firsts k n → items_from links n ≡ row_at (map (items_from links) firsts) k
@@ -104,7 +114,22 @@ module _ {X : Type 0} where
         ∙ (ap (λ (rs : List (List X)). set rs k (items_from (links ++ one ∷ []) len)) (rows_stay links one firsts a.back a.inside)
         ∙ ap (set (map (items_from links) firsts) k) in_front))
 
+    pub item_linked : AreLinked more (set firsts k len)
+    item_linked = record {
+      back = subst (λ (ls : List (Linked X)). LeadBack ls) (sym grown) (back_more links one within a.back);
+      inside = λ i first q. ⊎_elim
+          (λ o. let s = same_Some len first (sym o.1 ∙ q) in omega (arith, s, many))
+          (λ o. let m = a.inside i first (sym o.1 ∙ q) in let l = longer in omega (arith, m, l, many))
+          (get_set firsts k len i h);
+    }
+
   -- rows with nothing in them
+  pub none_linked : (links : List (Linked X)) (firsts : List ℕ) (n : ℕ) → links ≡ [] → firsts ≡ replicate n 0 → AreLinked links firsts
+  none_linked links firsts n l f = record {
+    back = λ i x e. absurd (none-some x (sym (ap (λ (ls : List (Linked X)). slice_get ls i) l) ∙ e));
+    inside = λ i first e. let z = get_replicate n i 0 first (sym (ap (λ (ns : List ℕ). slice_get ns i) f) ∙ e) in omega (arith, z);
+  }
+
   pub no_items : (links : List (Linked X)) (n : ℕ) → map (items_from links) (replicate n 0) ≡ replicate n []
   no_items links zero = refl
   no_items links (suc n) = ap (λ (rs : List (List X)). [] ∷ rs) (no_items links n)

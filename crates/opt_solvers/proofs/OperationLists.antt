@@ -7,7 +7,7 @@ use Rattle.opt_solvers.specs.Rows.{rows_from, AreEnds, row_at, listed, start_fro
 use Rattle.opt_solvers.specs.OperationRows.{BranchEdge, Row, no_edge, no_row, edge_numbered, row_numbered, numbered, edge_in}
 use Rattle.opt_solvers.specs.declared.facts_problem.Role.TheVariants.{Other}
 use Rattle.opt_solvers.specs.declared.operation_rows.Columns.{Columns}
-use Rattle.opt_solvers.specs.OperationColumns.{edges_of, row_in, rows_in, AreInStep, GainRow}
+use Rattle.opt_solvers.specs.OperationColumns.{edges_of, row_in, rows_in, AreInStep, GainRow, AreEmpty}
 use Rattle.opt_solvers.proofs.Rows.{as_many, row_inside, row_is, row_more, ends_more}
 
 below_or_last : (i n : ℕ) → i < suc n → (i < n) ⊎ (i ≡ n)
@@ -232,3 +232,19 @@ edge_there edges i h = numbered_there edges i no_edge h
 
 pub edge_contained : (edges : List BranchEdge) (i : ℕ) → i < length edges → Contains edges (edge_numbered edges i)
 edge_contained edges i h = (i, h, sym (numbered_read edges i no_edge h))
+
+-- nothing is said of any operation
+pub in_step_none : (c : Columns) → AreEmpty c → AreInStep c
+in_step_none c e =
+    let b = ap length e.blocks in record {
+      roles = let l = ap length e.roles in omega (arith, b, l);
+      operands = let l = ap length e.operands in omega (arith, b, l);
+      results = let l = ap length e.results in omega (arith, b, l);
+      entries = let l = ap length e.entries in omega (arith, b, l);
+      edge_ends = let l = ap length e.edge_ends in omega (arith, b, l);
+      edges = subst (λ (es : List ℕ). AreEnds 0 es (length c.edges)) (sym e.edge_ends) (let l = ap length e.edges in omega (arith, l));
+      countable = let l = ap length e.edges in omega (arith, l);
+    }
+
+pub rows_none : (c : Columns) → AreEmpty c → rows_in c ≡ []
+rows_none c e = ap (λ (xs : List ℕ). numbered (row_in c) (length xs)) e.blocks

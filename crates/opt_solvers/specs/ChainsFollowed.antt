@@ -1,7 +1,7 @@
 -- What following numbers to their ends keeps and gives.
-use Rattle.std.specs.Prelude.{◌≡◌, ◌⊎◌, ◌<◌, ℕ, Bool, true, false, List, length, ◌∷◌, [], ◌++◌, Option, Some, None, slice_get, slice_set, Contains}
+use Rattle.std.specs.Prelude.{◌≡◌, ◌⊎◌, ◌<◌, ℕ, Bool, true, false, List, length, replicate, ◌∷◌, [], ◌++◌, Option, Some, None, slice_get, slice_set, Contains}
 use Rattle.opt_solvers.specs.declared.chains_followed.Mark.{Mark}
-use Rattle.opt_solvers.specs.declared.chains_followed.Mark.TheVariants.{OnPath, Done}
+use Rattle.opt_solvers.specs.declared.chains_followed.Mark.TheVariants.{New, OnPath, Done}
 use Rattle.opt_solvers.specs.declared.chains_followed.Following.{Following}
 use Rattle.opt_solvers.specs.Chains.{EndsUpAt, StepsAlong}
 
@@ -23,6 +23,11 @@ pub record IsFollowing (next : List (Option ℕ)) (s : Following) : Type 0 where
   pub finals : length s.finals.items ≡ length next
   pub done : (v f : ℕ) → HasMark s v Done → HasFinal s v f → EndsUpAt next v f
   pub no_path : (v : ℕ) → HasMark s v OnPath → ⊥
+
+-- so many numbers, of which none has been followed
+pub record AreUnfollowed (count : ℕ) (s : Following) : Type 0 where
+  pub marks : s.marks.items ≡ replicate count New
+  pub finals : length s.finals.items ≡ count
 
 -- one number more is on the path
 pub record EntersPath (old new : Following) (path longer : List ℕ) (at : ℕ) : Type 0 where

@@ -1,7 +1,8 @@
 -- What operations have seen of their operands, kept in lists of all operands.
-use Rattle.std.specs.Prelude.{◌≡◌, ℕ, Bool, true, false, List, [], ◌∷◌, length, map, replicate, Option}
+use Rattle.std.specs.Prelude.{◌≡◌, ℕ, Bool, true, false, List, [], ◌∷◌, ◌++◌, length, map, replicate, Option}
 use Rattle.opt_solvers.specs.declared.known.Known.{Known}
 use Rattle.opt_solvers.specs.declared.known.Known.TheVariants.{Undetermined, One, Any}
+use Rattle.opt_solvers.specs.declared.facts_seen.Blank.{Blank}
 use Rattle.opt_solvers.specs.OperationRows.{Row}
 use Rattle.opt_solvers.specs.Known.{answer}
 use Rattle.opt_solvers.specs.KnownFalls.{constant_of, undetermined}
@@ -39,3 +40,15 @@ pub record IsSeen {A : Type 0} (ends : List ℕ) (known : List (Known A)) (const
 -- nothing is seen of the operands of an operation
 abbrev pub unseen : {A : Type 0} → Row → List (Known A)
 unseen r = replicate (length r.operands) Undetermined
+
+-- there is no operation
+pub record IsBlank (b : Blank) : Type 0 where
+  pub ends : b.ends.items ≡ []
+  pub found : b.found.items ≡ []
+  pub missing : b.missing.items ≡ []
+
+-- there is one operation more, with so many operands, of which nothing is seen
+pub record GainsOperands (old new : Blank) (count : ℕ) : Type 0 where
+  pub ends : new.ends.items ≡ old.ends.items ++ length new.found.items ∷ []
+  pub found : new.found.items ≡ old.found.items ++ replicate count false
+  pub missing : new.missing.items ≡ old.missing.items ++ count ∷ []

@@ -198,14 +198,18 @@ pub record MeetsRootDemand {A : Type 0} (p : FactsProblem) (k : NumberedFacts A)
   pub entries : (b : ℕ) → Contains p.entries.items b → RunsWithAny p k b
   pub outside : AllAny k.of p.outside.items
 
+-- what the root asks is found, and nothing else
+pub record IsFirstFound {A : Type 0} (p : FactsProblem) (s : Found A) : Type 0 where
+  pub blocks_len : length s.runs.items ≡ length p.arguments.items
+  pub values_len : length s.known.items ≡ p.values
+  pub entered : MeetsRootDemand p (facts_of s)
+  pub best : (l : NumberedFacts A) → MeetsRootDemand p l → MorePrecise (facts_of s) l
+  pub blocks_wait : (b : ℕ) → (facts_of s).runs b ≡ true → Contains s.blocks.items b
+  pub values_wait : (v : ℕ) → ((facts_of s).of v ≡ Undetermined) ⊎ Contains s.values.items v
+
 -- what the root asks is found, nothing else, and nobody has looked at it
 pub record IsInitialSolver {A : Type 0} (p : FactsProblem) (s : Solver A) : Type 0 where
-  pub blocks_len : length s.found.runs.items ≡ length p.arguments.items
-  pub values_len : length s.found.known.items ≡ p.values
-  pub entered : MeetsRootDemand p (facts_of s.found)
-  pub best : (l : NumberedFacts A) → MeetsRootDemand p l → MorePrecise (facts_of s.found) l
-  pub blocks_wait : (b : ℕ) → (facts_of s.found).runs b ≡ true → Contains s.found.blocks.items b
-  pub values_wait : (v : ℕ) → ((facts_of s.found).of v ≡ Undetermined) ⊎ Contains s.found.values.items v
+  pub found : IsFirstFound p s.found
   pub seen : s.seen ≡ map unseen p.rows
   pub taken : s.taken ≡ map untaken p.rows
   pub marks : s.marks.items ≡ replicate (length p.arguments.items) None

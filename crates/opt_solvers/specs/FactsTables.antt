@@ -1,5 +1,5 @@
 -- Tables of the rows of blocks, of the places that read values, and of the places that they are forwarded to.
-use Rattle.std.specs.Prelude.{◌≡◌, ℕ, List, length, Some, slice_get}
+use Rattle.std.specs.Prelude.{◌≡◌, ℕ, List, [], length, replicate, Some, slice_get}
 use Rattle.opt_solvers.specs.OperationRows.{BranchEdge, Row}
 use Rattle.opt_solvers.specs.declared.facts_problem.FactsProblem.{FactsProblem}
 use Rattle.opt_solvers.specs.declared.facts_tables.Place.{Place}
@@ -57,6 +57,12 @@ pub record AreTables (p : FactsProblem) (t : Tables) : Type 0 where
   pub rows : TableLists (IsRowInBlock p.rows) t.rows (length p.arguments.items)
   pub readers : TableLists (ReadsValue p.rows) t.readers p.values
   pub slots : TableLists (IsForwardSlot p p.rows) t.slots p.values
+
+-- nothing is in any row of the tables
+pub record AreEmptyTables (p : FactsProblem) (t : Tables) : Type 0 where
+  pub rows : t.rows ≡ replicate (length p.arguments.items) []
+  pub readers : t.readers ≡ replicate p.values []
+  pub slots : t.slots ≡ replicate p.values []
 
 -- one operation more
 pub record AddsRow (p : FactsProblem) (old new : Tables) (number : ℕ) (r : Row) : Type 0 where

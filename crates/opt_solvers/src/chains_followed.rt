@@ -1,7 +1,7 @@
 //! Values that stand for others, followed to what they stand for in the end.
 ghost use Rattle.std.specs.Prelude.{ℕ, ◌≡◌, ◌<◌, [], All, IfOk, OnOk, MatchOption, length};
 ghost use Rattle.opt_solvers.specs.Chains.{StepsAlong};
-ghost use Rattle.opt_solvers.specs.ChainsFollowed.{AreLinksInRange, IsFollowing, EntersPath, Walks, WritesBack, FindsFinal, AreFinals};
+ghost use Rattle.opt_solvers.specs.ChainsFollowed.{AreLinksInRange, IsFollowing, AreUnfollowed, EntersPath, Walks, WritesBack, FindsFinal, AreFinals};
 
 use std::alloc::{AllocError, Global};
 
@@ -94,6 +94,16 @@ fn resolve(
     Ok(true)
 }
 
+/// So many numbers, of which none has been followed.
+fn unfollowed(alloc: Global, count: usize) -> Result<Following, AllocError>
+    ensures { IfOk result (AreUnfollowed count) }
+{
+    Ok(Following {
+        marks: vec![in alloc; Mark::New; count]?,
+        finals: vec![in alloc; 0; count]?,
+    })
+}
+
 /// What each number stands for in the end, where `next` says what it stands for: itself, if nothing. None, if following
 /// a number leads back to it. Each number is walked over once and written once, by an explicit path: linear time.
 ///
@@ -104,16 +114,11 @@ pub fn followed(alloc: Global, next: &[Option<usize>]) -> Result<Option<Vec<usiz
     ensures { IfOk result (λ r. MatchOption r ((v : ℕ)
         × StepsAlong next.now v v) (λ finals. AreFinals next.now finals.items)) }
 {
-    let mut known = Following {
-        marks: vec![in alloc; Mark::New; next.len()]?,
-        finals: vec![in alloc; 0; next.len()]?,
-    };
+    let mut known = unfollowed(alloc, next.len())?;
     for start in 0..next.len() {
         if !resolve(alloc, next, &mut known, start)? {
             return Ok(None);
         }
     }
-    let Following { marks, finals } = known;
-    let _ = marks;
-    Ok(Some(finals))
+    Ok(Some(known.finals))
 }

@@ -1,5 +1,5 @@
 //! Operations as dead code elimination sees them, in lists of all of them.
-ghost use Rattle.std.specs.Prelude.{◌≡◌, ◌≤◌, ◌<◌, ◌^◌, ◌++◌, ◌∷◌, [], length, map, slice_get, OnOk, OnErr, IfOk};
+ghost use Rattle.std.specs.Prelude.{◌≡◌, ◌≤◌, ◌<◌, ◌^◌, ◌++◌, ◌∷◌, [], length, map, slice_get, vec_capacity, OnOk, OnErr, IfOk};
 ghost use Rattle.opt_solvers.specs.DeadCandidates.{may_go_of, around_of, operands_of, all_operands, operands_before};
 
 use crate::dead_problem::Operand;
@@ -126,10 +126,8 @@ impl Candidates {
             (self.new ≡ self.old ++ record { may_go = may_go; around = around; operands = operands.now } ∷ []) }
         ensures err { OnErr result (self.new ≡ self.old) }
     {
-        self.may_go.reserve(1)?;
-        self.is_inside.reserve(1)?;
-        self.around.reserve(1)?;
-        self.ends.reserve(1)?;
+        reserve_one(&mut self.may_go, &mut self.ends)?;
+        reserve_one(&mut self.is_inside, &mut self.around)?;
         self.operands.extend_from_slice(operands)?;
         self.ends.push_reserved(self.operands.len());
         self.around.push_reserved(around.unwrap_or(0));
@@ -137,4 +135,16 @@ impl Candidates {
         self.may_go.push_reserved(may_go);
         Ok(())
     }
+}
+
+/// Makes room for one more mark and one more number, and leaves the lists as they are.
+fn reserve_one(marks: &mut Vec<bool>, numbers: &mut Vec<usize>) -> Result<(), AllocError>
+    ensures marks { marks.new.items ≡ marks.old.items }
+    ensures numbers { numbers.new.items ≡ numbers.old.items }
+    ensures marks_room { OnOk result (length marks.new.items < vec_capacity marks.new) }
+    ensures numbers_room { OnOk result (length numbers.new.items < vec_capacity numbers.new) }
+{
+    marks.reserve(1)?;
+    numbers.reserve(1)?;
+    Ok(())
 }

@@ -23,9 +23,15 @@ fn held_items(
 ) -> Result<Vec<usize>, AllocError>
     ensures { IfOk result (λ uses. uses.items ≡ map held may_go.now ++ map held_argument arguments.now) }
 {
-    let operations = may_go.iter().map(|may_go| held(*may_go));
-    let arguments = arguments.iter().map(|item| held(item.may_go));
-    operations.chain(arguments).collect(alloc)
+    let count = may_go.len().saturating_add(arguments.len());
+    let mut uses = Vec::with_capacity(alloc, count)?;
+    for operation in may_go {
+        uses.push(held(*operation))?;
+    }
+    for argument in arguments {
+        uses.push(held(argument.may_go))?;
+    }
+    Ok(uses)
 }
 
 /// The uses that never go, of all items.

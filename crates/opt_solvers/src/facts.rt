@@ -2,12 +2,13 @@
 //!
 //! Source: Wegman and Zadeck, Constant propagation with conditional branches, 1991, by two lists: blocks that began to
 //! run, and values of which less is known than those that look at them saw.
-ghost use Rattle.std.specs.Prelude.{ℕ, ◌≡◌, true, length, IfOk, Some, slice_get, []};
+ghost use Rattle.std.specs.Prelude.{ℕ, ◌≡◌, true, length, IfOk, OnOk, Some, slice_get, []};
 ghost use Rattle.opt_solvers.specs.OperationRows.{Row};
 ghost use Rattle.opt_solvers.specs.Facts.{IsProblem, IsMostPreciseSolution, as_facts};
 ghost use Rattle.opt_solvers.specs.FactsLaw.{OneMostPrecise};
+ghost use Rattle.opt_solvers.specs.FactsFound.{facts_of};
 ghost use Rattle.opt_solvers.specs.FactsTables.{AreTables};
-ghost use Rattle.opt_solvers.specs.FactsSolving.{IsInitialSolver, CanAskRows, IsSolving, IsWaiting, IsStep};
+ghost use Rattle.opt_solvers.specs.FactsSolving.{IsFirstFound, IsInitialSolver, CanAskRows, IsSolving, IsWaiting, IsStep};
 
 use crate::facts_found::Found;
 use crate::facts_problem::{FactsProblem, Folding};
@@ -30,20 +31,30 @@ pub struct Solution<K> {
     pub known: Vec<Known<K>>,
 }
 
-/// The entry blocks of the root run, nothing is known of the values from outside, and nothing else is found.
+/// What is found at first: the entry blocks of the root run, nothing is known of the values from outside, and nothing
+/// else.
+fn first_found<K: Copy + Eq>(alloc: Global, problem: &FactsProblem) -> Result<Found<K>, AllocError>
+    requires problem { IsProblem problem.now }
+    requires same { (x y : K) → K.eq x y ≡ true → x ≡ y }
+    ensures { IfOk result (IsFirstFound problem.now) }
+{
+    let mut found = Found::new(alloc, problem.arguments.len(), problem.values)?;
+    found.enter_all(problem, &problem.entries)?;
+    found.give_up(&problem.outside)?;
+    Ok(found)
+}
+
+/// A solver that has found what is found at first, and has not looked at any of it.
 fn begin<K: Copy + Eq>(alloc: Global, problem: &FactsProblem) -> Result<Solver<K>, AllocError>
     requires problem { IsProblem problem.now }
     requires same { (x y : K) → K.eq x y ≡ true → x ≡ y }
     ensures { IfOk result (IsInitialSolver problem.now) }
 {
-    let mut found = Found::new(alloc, problem.arguments.len(), problem.values)?;
-    found.enter_all(problem, &problem.entries)?;
-    found.give_up(&problem.outside)?;
     Ok(Solver {
-        found,
-        seen: Seen::new(alloc, &problem.rows)?,
-        taken: Taken::new(alloc, &problem.rows)?,
         marks: vec![in alloc; None; problem.arguments.len()]?,
+        taken: Taken::new(alloc, &problem.rows)?,
+        seen: Seen::new(alloc, &problem.rows)?,
+        found: first_found(alloc, problem)?,
     })
 }
 
@@ -73,6 +84,41 @@ fn step<F: Folding>(
     Ok(false)
 }
 
+/// Looks at all that blocks and values ask, until there is none left.
+fn run<F: Folding>(
+    alloc: Global,
+    problem: &FactsProblem,
+    folding: &F,
+    solver: &mut Solver<F::Constant>,
+) -> Result<(), AllocError>
+    requires problem { IsProblem problem.now }
+    requires asks { CanAskRows (F.can_ask folding.now) problem.now }
+    requires initial { IsInitialSolver problem.now solver.old }
+    ensures { OnOk result (IsMostPreciseSolution (F.answers folding.now) problem.now (facts_of solver.new.found)) }
+{
+    let tables = tables_of(alloc, problem)?;
+    'steps: loop {
+        let more = step(alloc, problem, folding, &tables, solver)?;
+        if !more {
+            break 'steps;
+        }
+    }
+    Ok(())
+}
+
+/// The facts that were found.
+fn solution_of<K: Copy>(found: Found<K>) -> Solution<K>
+    ensures { as_facts result.runs.items result.known.items ≡ facts_of found }
+{
+    let Found {
+        runs,
+        known,
+        blocks: _,
+        values: _,
+    } = found;
+    Solution { runs, known }
+}
+
 /// The most precise facts of a problem that are closed under what its operations do.
 ///
 /// Each block is visited once, and each value falls twice at most. When a value falls, each place that reads it is
@@ -93,27 +139,9 @@ pub fn most_precise<F: Folding>(
     ensures { IfOk result (λ s. IsMostPreciseSolution (F.answers folding.now) problem.now
         (as_facts s.runs.items s.known.items)) }
 {
-    let tables = tables_of(alloc, problem)?;
     let mut solver = begin(alloc, problem)?;
-    'steps: loop {
-        let more = step(alloc, problem, folding, &tables, &mut solver)?;
-        if !more {
-            break 'steps;
-        }
-    }
-    let Solver {
-        found,
-        seen: _,
-        taken: _,
-        marks: _,
-    } = solver;
-    let Found {
-        runs,
-        known,
-        blocks: _,
-        values: _,
-    } = found;
-    Ok(Solution { runs, known })
+    run(alloc, problem, folding, &mut solver)?;
+    Ok(solution_of(solver.found))
 }
 
 /// There is one solution: most precise facts of one problem are the same, whatever is answered.

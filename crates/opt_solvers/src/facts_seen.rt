@@ -1,7 +1,7 @@
 //! What operations have seen of their operands.
-ghost use Rattle.std.specs.Prelude.{◌≡◌, None, IfOk, replicate};
+ghost use Rattle.std.specs.Prelude.{◌≡◌, None, IfOk, OnOk, length, replicate};
 ghost use Rattle.opt_solvers.specs.KnownFalls.{constant_of};
-ghost use Rattle.opt_solvers.specs.FactsSeen.{is_found, one_unless};
+ghost use Rattle.opt_solvers.specs.FactsSeen.{is_found, one_unless, IsBlank, GainsOperands};
 
 use crate::known::Known;
 use crate::number_rows::start_of;
@@ -22,6 +22,17 @@ pub struct Seen<K> {
     /// Which constant each operand is seen to be, if any.
     constants: Vec<Option<K>>,
     /// How many operands of each operation are undetermined.
+    missing: Vec<usize>,
+}
+
+/// Where the operands of operations end, and that none of them has been seen yet.
+#[derive(Drop)]
+struct Blank {
+    /// Where the operands of each operation end.
+    ends: Vec<usize>,
+    /// Of each operand, that nothing is seen of it.
+    found: Vec<bool>,
+    /// How many operands each operation has.
     missing: Vec<usize>,
 }
 
@@ -53,16 +64,16 @@ impl<K: Copy> Seen<K> {
     pub fn new(alloc: Global, rows: &OperationRows) -> Result<Seen<K>, AllocError>
         ensures { IfOk result (λ s. s ≡ map unseen rows.now) }
     {
-        let mut ends = Vec::with_capacity(alloc, rows.len())?;
-        let mut missing = Vec::with_capacity(alloc, rows.len())?;
-        let mut found = Vec::with_capacity(alloc, operand_count(rows))?;
+        let mut blank = no_operands(alloc, rows)?;
         for number in 0..rows.len() {
-            let count = rows.operands(number).len();
-            found.resize(found.len() + count, false)?;
-            ends.push(found.len())?;
-            missing.push(count)?;
+            add_operands(&mut blank, rows.operands(number))?;
         }
-        let constants = no_constants(alloc, found.len())?;
+        let constants = no_constants(alloc, blank.found.len())?;
+        let Blank {
+            ends,
+            found,
+            missing,
+        } = blank;
         Ok(Seen {
             ends,
             found,
@@ -96,6 +107,28 @@ impl<K: Copy> Seen<K> {
         let start = start_of(&self.ends, row);
         Some(&self.constants[start..self.ends[row]])
     }
+}
+
+/// No operation, with room for these.
+fn no_operands(alloc: Global, rows: &OperationRows) -> Result<Blank, AllocError>
+    ensures { IfOk result IsBlank }
+{
+    Ok(Blank {
+        ends: Vec::with_capacity(alloc, rows.len())?,
+        found: Vec::with_capacity(alloc, operand_count(rows))?,
+        missing: Vec::with_capacity(alloc, rows.len())?,
+    })
+}
+
+/// Puts an operation with these operands behind the others.
+fn add_operands(blank: &mut Blank, operands: &[usize]) -> Result<(), AllocError>
+    ensures { OnOk result (GainsOperands blank.old blank.new (length operands.now)) }
+{
+    let count = operands.len();
+    blank.found.resize(blank.found.len() + count, false)?;
+    blank.ends.push(blank.found.len())?;
+    blank.missing.push(count)?;
+    Ok(())
 }
 
 /// That so many operands are no constants.

@@ -3,7 +3,7 @@ ghost use Rattle.std.specs.Prelude.{ℕ, ◌≡◌, ◌<◌, length, IfOk, OnOk,
 ghost use Rattle.opt_solvers.specs.OperationRows.{row_numbered};
 ghost use Rattle.opt_solvers.specs.Facts.{IsProblem};
 ghost use Rattle.opt_solvers.specs.LinkedRows.{RowsGain, TableLists};
-ghost use Rattle.opt_solvers.specs.FactsTables.{PlacesOf, SlotsOfEdge, SlotsOf, AreTables, AddsRow};
+ghost use Rattle.opt_solvers.specs.FactsTables.{PlacesOf, SlotsOfEdge, SlotsOf, AreEmptyTables, AreTables, AddsRow};
 
 use crate::facts_problem::FactsProblem;
 use crate::facts_seen::operand_count;
@@ -139,6 +139,17 @@ fn put_row(tables: &mut Tables, problem: &FactsProblem, number: usize) -> Result
     Ok(())
 }
 
+/// Tables with nothing in them.
+fn empty_tables(alloc: Global, problem: &FactsProblem) -> Result<Tables, AllocError>
+    ensures { IfOk result (AreEmptyTables problem.now) }
+{
+    Ok(Tables {
+        rows: LinkedRows::with_capacity(alloc, problem.arguments.len(), problem.rows.len())?,
+        readers: LinkedRows::with_capacity(alloc, problem.values, operand_count(&problem.rows))?,
+        slots: LinkedRows::with_capacity(alloc, problem.values, 0)?,
+    })
+}
+
 /// The tables of a problem.
 ///
 /// # Errors
@@ -147,11 +158,7 @@ pub fn tables_of(alloc: Global, problem: &FactsProblem) -> Result<Tables, AllocE
     requires { IsProblem problem.now }
     ensures { IfOk result (AreTables problem.now) }
 {
-    let mut tables = Tables {
-        rows: LinkedRows::with_capacity(alloc, problem.arguments.len(), problem.rows.len())?,
-        readers: LinkedRows::with_capacity(alloc, problem.values, operand_count(&problem.rows))?,
-        slots: LinkedRows::with_capacity(alloc, problem.values, 0)?,
-    };
+    let mut tables = empty_tables(alloc, problem)?;
     for number in 0..problem.rows.len() {
         put_row(&mut tables, problem, number)?;
     }

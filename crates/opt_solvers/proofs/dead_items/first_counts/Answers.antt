@@ -1,4 +1,4 @@
-use Rattle.std.proofs.Common.{◌≡◌, arith}
+use Rattle.std.proofs.Common.{arith}
 use Rattle.opt_solvers.proofs.DeadDying.{rows_first, rows_once}
 use Rattle.opt_solvers.proofs.dead_items.first_counts.Goals as goal
 

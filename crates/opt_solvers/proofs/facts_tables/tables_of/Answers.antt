@@ -1,6 +1,5 @@
-use Rattle.std.proofs.Common.{◌≡◌, ◌<◌, [], length, replicate, ap, ◌∙◌, subst, arith, rules}
+use Rattle.std.proofs.Common.{◌<◌, length, subst, arith}
 use Rattle.std.proofs.lemmas.List.{take_all}
-use Rattle.opt_solvers.specs.declared.facts_tables.Tables.{Tables}
 use Rattle.opt_solvers.specs.OperationRows.{row_numbered}
 use Rattle.opt_solvers.specs.FactsTables.{HoldRows}
 use Rattle.opt_solvers.proofs.OperationLists.{row_read}
@@ -18,7 +17,7 @@ loop-number-preserved c =
 
 pub returns : goal.returns
 returns c =
-    let t : Tables = record { rows = c.in_ok-with_capacity.field-0; readers = c.in_ok-with_capacity-2.field-0; slots = c.in_ok-with_capacity-3.field-0 } in
-    let r : c.len.result ≡ length c.args.problem.now.arguments.items = search rules in
-    tables_end c.args.problem.now t c.loop-number.tables (emptied t.rows (length c.args.problem.now.arguments.items) (c.in_ok-with_capacity.ensures ∙ ap (λ n. replicate n []) r)) (emptied t.readers c.args.problem.now.values c.in_ok-with_capacity-2.ensures) (emptied t.slots c.args.problem.now.values c.in_ok-with_capacity-3.ensures)
+    let t = c.in_ok-tables.tables in
+    let e = c.in_ok-tables.ensures in
+    tables_end c.args.problem.now t c.loop-number.tables (emptied t.rows (length c.args.problem.now.arguments.items) e.rows) (emptied t.readers c.args.problem.now.values e.readers) (emptied t.slots c.args.problem.now.values e.slots)
     (subst (λ xs. HoldRows c.args.problem.now t c.loop-number.tables xs) (take_all c.loop-number.number c.args.problem.now.rows (omega (arith, c.loop-number-test.false, c.len-number-end.ensures))) c.loop-number.invariant)

@@ -1,7 +1,39 @@
-use Rattle.std.proofs.Common.{rules, ◌≡◌, ◌++◌, ◌∷◌, [], length}
+use Rattle.std.proofs.Common.{rules, ◌≡◌, ◌++◌, ◌∷◌, [], length, refl}
 use Rattle.std.specs.Prelude.{is_some, unwrap_or}
-use Rattle.opt_solvers.proofs.DeadCandidates.{columns_more, view_more}
+use Rattle.opt_solvers.specs.Rows.{rows_from}
+use Rattle.opt_solvers.specs.DeadCandidates.{candidates_of, arounds_of}
+use Rattle.opt_solvers.proofs.DeadCandidates.{columns_stay, view_stays, columns_more, view_more}
 use Rattle.opt_solvers.proofs.dead_candidates.Candidates.push.Goals as goal
+
+pub invariant_of-self : goal.invariant_of-self
+invariant_of-self c =
+    let i = c.self.inside in
+    columns_stay i.may_go.items i.is_inside.items i.around.items i.ends.items i.operands.items c.self.invariant _ _ _ _ _ c.reserve_one.ensures.marks refl refl c.reserve_one.ensures.numbers refl
+
+pub returns-in_err-reserve_one-clause-err : goal.returns-in_err-reserve_one-clause-err
+returns-in_err-reserve_one-clause-err c =
+    let i = c.self.inside in
+    let e : candidates_of c.reserve_one.new.marks.items (arounds_of i.is_inside.items i.around.items) (rows_from 0 c.reserve_one.new.numbers.items i.operands.items) ≡ c.args.self.now = view_stays i.may_go.items i.is_inside.items i.around.items i.ends.items i.operands.items c.self.invariant _ _ _ _ _ c.reserve_one.ensures.marks refl refl c.reserve_one.ensures.numbers refl c.args.self.now c.self.view_is in search rules
+
+pub invariant_of-self-in_err-reserve_one-2 : goal.invariant_of-self-in_err-reserve_one-2
+invariant_of-self-in_err-reserve_one-2 c =
+    let i = c.self.inside in
+    columns_stay i.may_go.items i.is_inside.items i.around.items i.ends.items i.operands.items c.self.invariant _ _ _ _ _ c.reserve_one.ensures.marks c.reserve_one-2.ensures.marks c.reserve_one-2.ensures.numbers c.reserve_one.ensures.numbers refl
+
+pub returns-in_err-reserve_one-2-clause-err : goal.returns-in_err-reserve_one-2-clause-err
+returns-in_err-reserve_one-2-clause-err c =
+    let i = c.self.inside in
+    let e : candidates_of c.reserve_one.new.marks.items (arounds_of c.reserve_one-2.new.marks.items c.reserve_one-2.new.numbers.items) (rows_from 0 c.reserve_one.new.numbers.items i.operands.items) ≡ c.args.self.now = view_stays i.may_go.items i.is_inside.items i.around.items i.ends.items i.operands.items c.self.invariant _ _ _ _ _ c.reserve_one.ensures.marks c.reserve_one-2.ensures.marks c.reserve_one-2.ensures.numbers c.reserve_one.ensures.numbers refl c.args.self.now c.self.view_is in search rules
+
+pub invariant_of-self-in_err-extend_from_slice : goal.invariant_of-self-in_err-extend_from_slice
+invariant_of-self-in_err-extend_from_slice c =
+    let i = c.self.inside in
+    columns_stay i.may_go.items i.is_inside.items i.around.items i.ends.items i.operands.items c.self.invariant _ _ _ _ _ c.reserve_one.ensures.marks c.reserve_one-2.ensures.marks c.reserve_one-2.ensures.numbers c.reserve_one.ensures.numbers c.in_err-extend_from_slice.ensures.items
+
+pub returns-in_err-extend_from_slice-clause-err : goal.returns-in_err-extend_from_slice-clause-err
+returns-in_err-extend_from_slice-clause-err c =
+    let i = c.self.inside in
+    let e : candidates_of c.reserve_one.new.marks.items (arounds_of c.reserve_one-2.new.marks.items c.reserve_one-2.new.numbers.items) (rows_from 0 c.reserve_one.new.numbers.items c.extend_from_slice.new.self.items) ≡ c.args.self.now = view_stays i.may_go.items i.is_inside.items i.around.items i.ends.items i.operands.items c.self.invariant _ _ _ _ _ c.reserve_one.ensures.marks c.reserve_one-2.ensures.marks c.reserve_one-2.ensures.numbers c.reserve_one.ensures.numbers c.in_err-extend_from_slice.ensures.items c.args.self.now c.self.view_is in search rules
 
 pub invariant_of-self-2 : goal.invariant_of-self-2
 invariant_of-self-2 c =

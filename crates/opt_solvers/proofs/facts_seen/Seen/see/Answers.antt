@@ -18,6 +18,12 @@ overflow_add-place g c =
     let s = stands_at c.args.self.now i.ends.items c.deref.result.now n c.args.row c.args.index c.start_of.result c.self.view_is c.self.invariant.1.are_ends c.requires.row c.requires.index c.deref.ensures.value c.start_of.ensures in
     let h : c.start_of.result + c.args.index < length i.found.items = place_found i.ends.items i.found.items i.constants.items i.missing.items c.args.row c.args.index c.start_of.result c.self.invariant.0 c.self.invariant.1 s in search rules
 
+pub index-requires : goal.index-requires
+index-requires g c =
+    let i = c.self.inside in let n = seen_facts i.found.items i.constants.items in
+    let s = stands_at c.args.self.now i.ends.items c.deref.result.now n c.args.row c.args.index c.start_of.result c.self.view_is c.self.invariant.1.are_ends c.requires.row c.requires.index c.deref.ensures.value c.start_of.ensures in
+    let h : c.args.row < length i.missing.items = row_missing i.ends.items n i.constants.items i.missing.items c.args.row c.args.index c.start_of.result c.self.invariant.1 s in search rules
+
 pub index-requires-2 : goal.index-requires-2
 index-requires-2 g c =
     let i = c.self.inside in let n = seen_facts i.found.items i.constants.items in
@@ -40,6 +46,12 @@ overflow_add-index g c =
     let m = read_there i.missing.items c.args.row c.index.result.now (row_missing i.ends.items n i.constants.items i.missing.items c.args.row c.args.index c.start_of.result c.self.invariant.1 s) c.index.ensures in
     let f = facts_len i.found.items i.constants.items c.self.invariant.0 in
     let o = one_at_most c.has_found-found.result in let l = c.lacking-2.ensures in let k = i.found.ok in let z = i.found.small in omega (arith, e, m, f, o, l, k, z)
+
+pub index_mut-requires : goal.index_mut-requires
+index_mut-requires g c =
+    let i = c.self.inside in let n = seen_facts i.found.items i.constants.items in
+    let s = stands_at c.args.self.now i.ends.items c.deref.result.now n c.args.row c.args.index c.start_of.result c.self.view_is c.self.invariant.1.are_ends c.requires.row c.requires.index c.deref.ensures.value c.start_of.ensures in
+    let h : c.args.row < length i.missing.items = row_missing i.ends.items n i.constants.items i.missing.items c.args.row c.args.index c.start_of.result c.self.invariant.1 s in search rules
 
 pub index_mut-requires-2 : goal.index_mut-requires-2
 index_mut-requires-2 g c =

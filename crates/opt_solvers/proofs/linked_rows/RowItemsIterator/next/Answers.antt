@@ -1,7 +1,13 @@
 use Rattle.std.proofs.Common.{rules, ◌≡◌, ◌∷◌, get_or}
 use Rattle.opt_solvers.specs.LinkedRows.{items_from}
-use Rattle.opt_solvers.proofs.Linking.{first_taken}
+use Rattle.opt_solvers.proofs.Linking.{first_taken, rest_inside}
 use Rattle.opt_solvers.proofs.linked_rows.RowItemsIterator.next.Goals as goal
+
+pub invariant_of-self : goal.invariant_of-self
+invariant_of-self g c = (
+  c.self.invariant.0,
+  rest_inside c.self.inside.links.now c.self.inside.next c.in_ok-index.index c.index-self-index.result c.self.invariant.0 c.self.invariant.1 c.in_ok-index.ensures.0 c.in_ok-index.ensures.1,
+)
 
 pub returns-clause-steps : goal.returns-clause-steps
 returns-clause-steps g c =

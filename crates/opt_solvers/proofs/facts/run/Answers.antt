@@ -1,10 +1,10 @@
 use Rattle.std.proofs.Common.{◌≡◌, false, rules}
 use Rattle.opt_solvers.proofs.FactsBeginning.{begins_solving, begins_waiting}
 use Rattle.opt_solvers.proofs.FactsStepping.{solved}
-use Rattle.opt_solvers.proofs.facts.most_precise.Goals as goal
+use Rattle.opt_solvers.proofs.facts.run.Goals as goal
 
 pub steps-init : goal.steps-init
-steps-init g c = (begins_solving _ c.args.problem.now c.in_ok-solver.solver c.in_ok-solver.ensures, begins_waiting _ c.args.problem.now c.in_ok-solver.solver c.in_ok-solver.ensures)
+steps-init g c = (begins_solving _ c.args.problem.now c.args.solver.now c.requires.initial, begins_waiting _ c.args.problem.now c.args.solver.now c.requires.initial)
 
 pub returns : goal.returns
 returns g c =
