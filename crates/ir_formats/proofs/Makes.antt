@@ -1,5 +1,6 @@
 -- Steps of the making of rules.
-use Rattle.std.proofs.Common.{zero, suc, ◌+◌, ◌<◌, add-one, zero-add, drop, get_or, length, Some, None, Bool, slice_get, ◌≡◌, ℕ, List, [], ◌∷◌, ◌++◌, refl, sym, ap, ◌∙◌, append_assoc, append-nil, subst, map, arith, ◌≤◌, false, Bor}
+use Rattle.std.proofs.Common.{zero, suc, ◌+◌, ◌<◌, add-one, zero-add, drop, get_or, length, Some, None, Bool, slice_get, ◌≡◌, ℕ, List, [], ◌∷◌, ◌++◌, refl, sym, ap, ◌∙◌, append_assoc, append-nil, subst, map, arith, ◌≤◌, false, Bor, Vec}
+use Rattle.std.specs.Global.{Global}
 use Rattle.ir_names.specs.Text.{is_identifier}
 use Rattle.std.proofs.Math.Seq.{drop-cons}
 use Rattle.std.specs.List.{range_with_len}
@@ -11,8 +12,8 @@ use Rattle.ir_grammar.specs.declared.grammar.Symbol.{Symbol}
 use Rattle.ir_grammar.specs.declared.grammar.Class.{Class}
 use Rattle.ir_formats.specs.declared.rules.Sort.{Sort}
 use Rattle.ir_formats.specs.declared.rules.RuleMaker.{RuleMaker}
-use Rattle.ir_formats.specs.Rules.{MadeOfSteps, is_name, both, texts, plain_rules, plain_classes, with_word, with_words, words_in, words_in_step, words_of_kinds, step_made, steps_made, kind_made, kinds_made}
-use Rattle.ir_formats.specs.Making.{AddsSymbolsAndRules, AddsMade}
+use Rattle.ir_formats.specs.Rules.{MadeOfSteps, PlainRule, operation_rules, region_rules, block_rules, argument_rules, is_name, both, texts, plain_rules, plain_classes, with_word, with_words, words_in, words_in_step, words_of_kinds, step_made, steps_made, kind_made, kinds_made}
+use Rattle.ir_formats.specs.Making.{frame_rules, AddsRules, AddsSymbolsAndRules, AddsMade}
 
 -- ---- lists
 
@@ -113,6 +114,31 @@ kinds_more s ks i k old mid new whole at h more =
     let here = rw (drop_some ks i k at) at h in
     subst (λ (r : MadeOfSteps). Leaves old new [] [] r whole) (same_kinds s (i + 1) mid new (drop (i + 1) ks) _ more.words more.next)
     (rw add-one (leaves_less old mid new [] [] [] (kind_made (texts mid.words.items) s i k mid.next_list) _ whole (rw add-one at here) (record { rules = more; symbols = refl })))
+
+-- rules are added, and others behind them
+pub added_behind : (old mid new : RuleMaker) (xs ys : List PlainRule) (m n : ℕ) → AddsRules old mid xs m → AddsRules mid new ys n → AddsRules old new (xs ++ ys) n
+added_behind old mid new xs ys m n first more = record {
+  rules = more.rules ∙ (ap (λ rs. rs ++ ys) first.rules ∙ append_assoc (plain_rules old.rules.items) xs ys);
+  next = more.next;
+  words = more.words ∙ first.words;
+}
+
+-- the rules of each dialect's grammar are added, some behind others
+pub frame_added : (old a b c new : RuleMaker)
+    → AddsRules old a (operation_rules (texts old.words.items)) old.next_list
+    → AddsRules a b (region_rules (texts a.words.items)) a.next_list
+    → AddsRules b c (block_rules (texts b.words.items)) b.next_list
+    → AddsRules c new (argument_rules (texts c.words.items)) c.next_list
+    → AddsRules old new (frame_rules (texts old.words.items)) old.next_list
+frame_added old a b c new one two three four =
+    let words_b = two.words ∙ one.words in
+    let words_c = three.words ∙ words_b in
+    let same_b = three.next ∙ (two.next ∙ one.next) in
+    let region = subst (λ (ws : Vec (Bor (List ℕ)) Global). AddsRules a b (region_rules (texts ws.items)) a.next_list) one.words two in
+    let block = subst (λ (ws : Vec (Bor (List ℕ)) Global). AddsRules b c (block_rules (texts ws.items)) b.next_list) words_b three in
+    let argument = subst (λ (ws : Vec (Bor (List ℕ)) Global). AddsRules c new (argument_rules (texts ws.items)) c.next_list) words_c four in
+    let last = subst (λ n. AddsRules c new (argument_rules (texts old.words.items)) n) same_b argument in
+    added_behind old a new _ _ _ _ one (added_behind a b new _ _ _ _ region (added_behind b c new _ _ _ _ block last))
 
 -- no kind is left
 pub kinds_done : (s : Sort) (ks : List Kind) (i : ℕ) (old new : RuleMaker) (whole : MadeOfSteps) → slice_get ks i ≡ None

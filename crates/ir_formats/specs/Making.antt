@@ -1,11 +1,12 @@
 -- What the making of rules does to those that are there.
-use Rattle.std.specs.Prelude.{ℕ, List, ◌≡◌, ◌++◌, map}
-use Rattle.ir_print.specs.Formats.{Formats, Kind, steps_of}
+use Rattle.std.specs.Prelude.{ℕ, Bool, true, false, List, ◌≡◌, ◌++◌, map}
+use Rattle.std.specs.Borrow.{Bor}
+use Rattle.ir_print.specs.Formats.{Formats, Kind, Step, word, operands, operand, an_attribute, a_type, a_region, symbol_name, a_name, a_number, a_width, list_of, steps_of}
 use Rattle.ir_grammar.specs.declared.grammar.Symbol.{Symbol}
 use Rattle.ir_formats.specs.declared.rules.KindText.{KindText}
 use Rattle.ir_formats.specs.declared.rules.KindTexts.{KindTexts}
 use Rattle.ir_formats.specs.declared.rules.RuleMaker.{RuleMaker}
-use Rattle.ir_formats.specs.Rules.{MadeOfSteps, PlainRule, plain_rules}
+use Rattle.ir_formats.specs.Rules.{MadeOfSteps, PlainRule, plain_rules, operation_rules, region_rules, block_rules, argument_rules}
 
 -- a kind as a value
 abbrev pub kind_of : KindText → Kind
@@ -18,6 +19,28 @@ formats_of k = record {
   types = map kind_of k.types.items;
   attributes = map kind_of k.attributes.items;
 }
+
+-- a rule that the maker is given, as a value
+abbrev pub given_rule : (ℕ × Bor (List Symbol)) → PlainRule
+given_rule r = (r.0, r.1.now)
+
+-- the step has rules of its own
+abbrev pub has_rules : Step → Bool
+has_rules (word printed text) = false
+has_rules operands = true
+has_rules operand = false
+has_rules an_attribute = false
+has_rules a_type = false
+has_rules a_region = false
+has_rules symbol_name = false
+has_rules a_name = false
+has_rules a_number = false
+has_rules a_width = false
+has_rules (list_of member printed separator) = true
+
+-- the rules that the grammar of each dialect with these words has
+abbrev pub frame_rules : List (List ℕ) → List PlainRule
+frame_rules ws = operation_rules ws ++ (region_rules ws ++ (block_rules ws ++ argument_rules ws))
 
 -- The maker has these rules behind those it had, this part for the next list, and the same words.
 pub record AddsRules (old new : RuleMaker) (added : List PlainRule) (part : ℕ) : Type 0 where

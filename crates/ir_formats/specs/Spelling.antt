@@ -1,5 +1,5 @@
 -- The texts that were numbered.
-use Rattle.std.specs.Prelude.{◌≡◌, ℕ, ◌+◌, ◌<◌, ◌≤◌, true, List, [], ◌∷◌, Option, Some, length, map, slice_get, slice_index, slice_index_or, slice_set}
+use Rattle.std.specs.Prelude.{◌≡◌, ℕ, ◌+◌, ◌<◌, ◌≤◌, true, List, [], ◌∷◌, ◌++◌, ◌==◌, if◌then◌else◌, Option, Some, length, map, slice_get, slice_index, slice_index_or, slice_set}
 use Rattle.ir_tokens.specs.declared.tokens.TokenKind.{TokenKind}
 use Rattle.ir_tokens.specs.declared.tokens.TokenKind.TheVariants.{Sign}
 use Rattle.ir_tokens.specs.Tokens.{is_sign, IsLongestToken}
@@ -18,6 +18,10 @@ known_texts s = map codes_of s.known.keys
 pub record NumbersWords (words known : List (List ℕ)) (numbers : List ℕ) : Type 0 where
   pub first : length numbers ≤ length known
   pub word : (text : List ℕ) → slice_index_or numbers (number_of known text) (length words) ≡ number_of words text
+
+-- the numbers of the words that the known texts are, with that of a word whose text may be known
+abbrev pub numbers_with : List ℕ → ℕ → List (List ℕ) → List ℕ → List ℕ
+numbers_with numbers number known text = if number_of known text == length known then numbers ++ number ∷ [] else numbers
 
 -- The longest token here is the sign that stands here.
 abbrev pub IsSignAt : List ℕ → ℕ → Type 0

@@ -7,7 +7,7 @@ use ir_grammar::grammar::Facts;
 use std::alloc::{AllocError, Global};
 
 /// What a table knows of a part of the grammar. Column 0 is the end of the text, and column k + 1 a token of kind k.
-#[derive(Clone, Copy, Debug, PartialEq, Eq)]
+#[derive(Clone, Copy)]
 pub struct PartTable {
     /// Columns, each with the rule to take there.
     pub choices: &'static [(usize, usize)],
@@ -71,6 +71,20 @@ fn follows(alloc: Global, part: &PartTable, columns: usize) -> Result<Vec<bool>,
     Ok(follows)
 }
 
+/// What the table knows of a part, with a place for each of so many columns.
+fn facts(alloc: Global, part: &PartTable, columns: usize) -> Result<Facts, AllocError>
+    ensures { IfOk result (λ f. plain_facts f ≡ dense columns (plain_part part.now)) }
+{
+    Ok(Facts {
+        choices: choices(alloc, part, columns)?,
+        follows: follows(alloc, part, columns)?,
+        closing: part.closing,
+        cost: part.cost,
+        shortest: part.shortest,
+        rank: part.rank,
+    })
+}
+
 /// What the table knows of each part, with a place for each of so many columns.
 pub fn facts_of(
     alloc: Global,
@@ -81,15 +95,7 @@ pub fn facts_of(
 {
     let mut all = Vec::new(alloc);
     for part in table {
-        let facts = Facts {
-            choices: choices(alloc, part, columns)?,
-            follows: follows(alloc, part, columns)?,
-            closing: part.closing,
-            cost: part.cost,
-            shortest: part.shortest,
-            rank: part.rank,
-        };
-        all.push(facts)?;
+        all.push(facts(alloc, part, columns)?)?;
     }
     Ok(all)
 }

@@ -1,13 +1,16 @@
 //! The grammar of texts, made from the formats of their kinds.
-ghost use Rattle.std.specs.Prelude.{◌≡◌, ◌∷◌, [], ◌++◌, OnOk, IfOk, IfSome, length, map, min, ◌+◌, ◌≤◌, codes, true};
-ghost use Rattle.ir_print.specs.Formats.{is_small, operand, operands, step_of, steps_of};
-ghost use Rattle.ir_formats.specs.Rules.{up, texts, number_of, with_word, with_words, words_in, words_in_step, words_of, words_of_kinds, frame_words, sign, may_be_name, takes, class_of, classes_of, several, step_made, steps_made, kind_made, kinds_made, part_of, begin_of, end_of, operation_rules, region_rules, block_rules, argument_rules, rules_of, parts_of, plain_rule, plain_rules, plain_classes};
+ghost use Rattle.std.specs.Prelude.{◌≡◌, ◌∷◌, [], ◌++◌, OnOk, IfOk, IfSome, length, map, min, ◌+◌, ◌≤◌, codes, true, false};
+ghost use Rattle.std.specs.Str.{trim};
+ghost use Rattle.ir_print.specs.Formats.{is_small, operands, step_of, steps_of};
+ghost use Rattle.ir_grammar.specs.declared.grammar.Action.TheVariants as act;
+ghost use Rattle.ir_grammar.specs.declared.grammar.Symbol.TheVariants.{Part, Act};
+ghost use Rattle.ir_formats.specs.Rules.{up, texts, number_of, with_word, with_words, words_in, words_in_step, words_of, words_of_kinds, frame_words, sign, may_be_name, takes, class_of, classes_of, several, step_made, steps_made, kind_made, kinds_made, formats_made, part_of, begin_of, end_of, operation_rules, region_rules, block_rules, argument_rules, rules_of, parts_of, plain_rule, plain_rules, plain_classes};
 ghost use Rattle.ir_grammar.specs.Table.{CanRead};
-ghost use Rattle.ir_formats.specs.Given.{grammar_value, plain_part};
+ghost use Rattle.ir_formats.specs.Given.{dense, grammar_value, plain_part};
 ghost use Rattle.ir_formats.specs.Ordered.{PartPositions, OrdersTexts, is_ordered};
-ghost use Rattle.ir_formats.specs.Predicting.{fits};
+ghost use Rattle.ir_formats.specs.Predicting.{fits, plain_facts};
 ghost use Rattle.ir_formats.specs.Words.{shape_number};
-ghost use Rattle.ir_formats.specs.Making.{kind_of, formats_of, AddsSymbolsAndRules, AddsRules, AddsMade};
+ghost use Rattle.ir_formats.specs.Making.{kind_of, formats_of, frame_rules, given_rule, has_rules, AddsSymbolsAndRules, AddsRules, AddsMade};
 
 use crate::given::{PartTable, facts_of};
 use ir_grammar::grammar::{Action, Class, Facts, Grammar, Rule, Symbol};
@@ -247,6 +250,15 @@ fn words_of(alloc: Global, kinds: &KindTexts) -> Result<Vec<&'static str>, Alloc
     Ok(words)
 }
 
+/// The symbols of an item of a list, of which the action that begins it is there.
+fn begun_item(alloc: Global) -> Result<Vec<Symbol>, AllocError>
+    ensures { IfOk result (λ v. v.items ≡ Act act.BeginItem ∷ []) }
+{
+    let mut item = Vec::new(alloc);
+    item.push(Symbol::Act(Action::BeginItem))?;
+    Ok(item)
+}
+
 /// Rules in the making.
 #[derive(Drop)]
 struct RuleMaker {
@@ -279,6 +291,16 @@ impl RuleMaker {
         Ok(())
     }
 
+    /// Adds rules, each with its part and its symbols.
+    fn add(&mut self, rules: &[(u32, &[Symbol])]) -> Result<(), AllocError>
+        ensures { OnOk result (AddsRules self.old self.new (map given_rule rules.now) self.old.next_list) }
+    {
+        for (part, symbols) in rules {
+            self.rule(*part, symbols)?;
+        }
+        Ok(())
+    }
+
     /// The part of the next list; what follows a member of it has the part behind it.
     fn list_part(&mut self) -> u32
         ensures part { result ≡ self.old.next_list }
@@ -298,10 +320,12 @@ impl RuleMaker {
         symbols.push(separator)?;
         symbols.extend_from_slice(member)?;
         symbols.push(Symbol::Part(more))?;
-        self.rule(list, &[])?;
-        self.rule(list, &symbols[1..])?;
-        self.rule(more, &[])?;
-        self.rule(more, &symbols)
+        self.add(&[
+            (list, &[]),
+            (list, &symbols[1..]),
+            (more, &[]),
+            (more, &symbols),
+        ])
     }
 
     /// Puts what a format stands for behind these symbols.
@@ -316,6 +340,7 @@ impl RuleMaker {
         Ok(())
     }
 
+    /// Puts what a directive stands for behind these symbols.
     #[cycle(formats)]
     fn directive(
         &mut self,
@@ -325,44 +350,39 @@ impl RuleMaker {
         ensures { OnOk result (AddsSymbolsAndRules self.old self.new symbols.old.items symbols.new.items
             (step_made (texts self.old.words.items) (step_of directive) self.old.next_list)) }
     {
-        let name = Symbol::Sign(NAME_SIGN);
         match directive {
-            Directive::Literal(text) => symbols.push(self.sign(text.trim()))?,
-            Directive::Operands => self.operands(symbols)?,
-            Directive::Operand => self.operand(symbols)?,
-            Directive::Attribute => symbols.push(Symbol::Part(ATTRIBUTE))?,
-            Directive::Type => symbols.push(Symbol::Part(TYPE))?,
-            Directive::Region => symbols.push(Symbol::Part(REGION))?,
-            Directive::SymbolHeader => {
-                symbols.push(self.sign("@"))?;
-                symbols.push(name)?;
-                symbols.push(Symbol::Act(Action::Name))?;
-            }
-            Directive::Name => {
-                symbols.push(name)?;
-                symbols.push(Symbol::Act(Action::Name))?;
-            }
-            Directive::Number => {
-                symbols.push(Symbol::Sign(NUMBER_SIGN))?;
-                symbols.push(Symbol::Act(Action::Number))?;
-            }
-            Directive::Width => {
-                symbols.push(Symbol::Sign(WIDTH_SIGN))?;
-                symbols.push(Symbol::Act(Action::Width))?;
-            }
             Directive::List(member, separator) => {
                 let list = self.list_part();
-                symbols.push(Symbol::Act(Action::BeginList))?;
-                symbols.push(Symbol::Part(list))?;
-                symbols.push(Symbol::Act(Action::EndList))?;
-                let mut inner = Vec::new(self.alloc);
-                inner.push(Symbol::Act(Action::BeginItem))?;
-                self.format(&mut inner, member)?;
-                inner.push(Symbol::Act(Action::EndItem))?;
-                self.several(list, self.sign(separator.trim()), &inner)?;
+                let mut item = begun_item(self.alloc)?;
+                self.format(&mut item, member)?;
+                self.list(symbols, list, separator, item)
             }
+            Directive::Operands => self.operands(symbols),
+            _ => self.without_rules(symbols, directive),
         }
-        Ok(())
+    }
+
+    /// Puts a list of such items behind these symbols, and adds its rules. The items lack the action that ends them.
+    fn list(
+        &mut self,
+        symbols: &mut Vec<Symbol>,
+        list: u32,
+        separator: &str,
+        mut item: Vec<Symbol>,
+    ) -> Result<(), AllocError>
+        ensures symbols { OnOk result (symbols.new.items
+            ≡ symbols.old.items ++ Act act.BeginList ∷ Part list ∷ Act act.EndList ∷ []) }
+        ensures rules { OnOk result (AddsRules self.old self.new
+            (several list (sign (texts self.old.words.items) (trim separator.now)) (item.items ++ Act act.EndItem ∷ []))
+            self.old.next_list) }
+    {
+        symbols.extend_from_slice(&[
+            Symbol::Act(Action::BeginList),
+            Symbol::Part(list),
+            Symbol::Act(Action::EndList),
+        ])?;
+        item.push(Symbol::Act(Action::EndItem))?;
+        self.several(list, self.sign(separator.trim()), &item)
     }
 
     /// Names of values, none or more, with commas between them.
@@ -371,23 +391,56 @@ impl RuleMaker {
             (step_made (texts self.old.words.items) operands self.old.next_list)) }
     {
         let list = self.list_part();
-        symbols.push(Symbol::Act(Action::BeginOperands))?;
-        symbols.push(Symbol::Part(list))?;
-        symbols.push(Symbol::Act(Action::EndOperands))?;
+        symbols.extend_from_slice(&[
+            Symbol::Act(Action::BeginOperands),
+            Symbol::Part(list),
+            Symbol::Act(Action::EndOperands),
+        ])?;
         let operand = [Symbol::Sign(NAME_SIGN), Symbol::Act(Action::Operand)];
         self.several(list, self.sign(","), &operand)
     }
 
-    /// The name of one value, as the only operand between the actions that begin and end operands.
-    fn operand(&self, symbols: &mut Vec<Symbol>) -> Result<(), AllocError>
+    /// Puts what a directive with no rules of its own stands for behind these symbols.
+    fn without_rules(
+        &self,
+        symbols: &mut Vec<Symbol>,
+        directive: Directive,
+    ) -> Result<(), AllocError>
+        requires { has_rules (step_of directive) ≡ false }
         ensures { OnOk result (AddsSymbolsAndRules self.now self.now symbols.old.items symbols.new.items
-            (step_made (texts self.now.words.items) operand self.now.next_list)) }
+            (step_made (texts self.now.words.items) (step_of directive) self.now.next_list)) }
     {
-        symbols.push(Symbol::Act(Action::BeginOperands))?;
-        symbols.push(Symbol::Sign(NAME_SIGN))?;
-        symbols.push(Symbol::Act(Action::Operand))?;
-        symbols.push(Symbol::Act(Action::EndOperands))?;
-        Ok(())
+        match directive {
+            Directive::Literal(text) => symbols.extend_from_slice(&[self.sign(text.trim())]),
+            Directive::SymbolHeader => {
+                symbols.extend_from_slice(&[
+                    self.sign("@"),
+                    Symbol::Sign(NAME_SIGN),
+                    Symbol::Act(Action::Name),
+                ])
+            }
+            Directive::Operand => {
+                symbols.extend_from_slice(&[
+                    Symbol::Act(Action::BeginOperands),
+                    Symbol::Sign(NAME_SIGN),
+                    Symbol::Act(Action::Operand),
+                    Symbol::Act(Action::EndOperands),
+                ])
+            }
+            Directive::Attribute => symbols.extend_from_slice(&[Symbol::Part(ATTRIBUTE)]),
+            Directive::Type => symbols.extend_from_slice(&[Symbol::Part(TYPE)]),
+            Directive::Region => symbols.extend_from_slice(&[Symbol::Part(REGION)]),
+            Directive::Name => {
+                symbols.extend_from_slice(&[Symbol::Sign(NAME_SIGN), Symbol::Act(Action::Name)])
+            }
+            Directive::Number => {
+                symbols.extend_from_slice(&[Symbol::Sign(NUMBER_SIGN), Symbol::Act(Action::Number)])
+            }
+            Directive::Width => {
+                symbols.extend_from_slice(&[Symbol::Sign(WIDTH_SIGN), Symbol::Act(Action::Width)])
+            }
+            Directive::Operands | Directive::List(_, _) => Ok(()),
+        }
     }
 
     /// Adds the rule of a kind: its id, and between two actions what its format says.
@@ -415,6 +468,29 @@ impl RuleMaker {
         Ok(())
     }
 
+    /// Adds the rules of the kinds of a dialect.
+    fn all_kinds(&mut self, kinds: &KindTexts) -> Result<(), AllocError>
+        requires few { is_small (formats_of kinds.now) ≡ true }
+        requires first { self.old.next_list ≡ 14 }
+        ensures { OnOk result (AddsMade self.old self.new
+            (formats_made (texts self.old.words.items) (formats_of kinds.now))) }
+    {
+        self.kinds(Sort::Operation, &kinds.operations)?;
+        self.kinds(Sort::Type, &kinds.types)?;
+        self.kinds(Sort::Attribute, &kinds.attributes)
+    }
+
+    /// Adds the rules that the grammar of each dialect has.
+    fn frame_rules(&mut self) -> Result<(), AllocError>
+        ensures { OnOk result (AddsRules self.old self.new
+            (frame_rules (texts self.old.words.items)) self.old.next_list) }
+    {
+        self.operation_rules()?;
+        self.region_rules()?;
+        self.block_rules()?;
+        self.argument_rules()
+    }
+
     /// An operation with its results, whatever its kind.
     fn operation_rules(&mut self) -> Result<(), AllocError>
         ensures { OnOk result (AddsRules self.old self.new
@@ -426,11 +502,13 @@ impl RuleMaker {
         let comma = self.sign(",");
         let equals = self.sign("=");
         let body = Symbol::Part(BODY);
-        self.rule(ROOT, &[Symbol::Part(OPERATION)])?;
-        self.rule(OPERATION, &[body])?;
-        self.rule(OPERATION, &[name, result, more, equals, body])?;
-        self.rule(MORE_RESULTS, &[])?;
-        self.rule(MORE_RESULTS, &[comma, name, result, more])
+        self.add(&[
+            (ROOT, &[Symbol::Part(OPERATION)]),
+            (OPERATION, &[body]),
+            (OPERATION, &[name, result, more, equals, body]),
+            (MORE_RESULTS, &[]),
+            (MORE_RESULTS, &[comma, name, result, more]),
+        ])
     }
 
     /// Regions, blocks and their operations.
@@ -445,14 +523,16 @@ impl RuleMaker {
         let operations = Symbol::Part(OPERATIONS);
         let begin = Symbol::Act(Action::BeginRegion);
         let end = Symbol::Act(Action::EndRegion);
-        self.rule(REGION, &[open, begin, blocks, close, end])?;
-        self.rule(BLOCKS, &[])?;
-        self.rule(BLOCKS, &[Symbol::Part(BLOCK), blocks])?;
-        self.rule(OPERATIONS, &[])?;
         let more = Symbol::Part(MORE_OPERATIONS);
-        self.rule(OPERATIONS, &[Symbol::Part(OPERATION), more])?;
-        self.rule(MORE_OPERATIONS, &[])?;
-        self.rule(MORE_OPERATIONS, &[semicolon, operations])
+        self.add(&[
+            (REGION, &[open, begin, blocks, close, end]),
+            (BLOCKS, &[]),
+            (BLOCKS, &[Symbol::Part(BLOCK), blocks]),
+            (OPERATIONS, &[]),
+            (OPERATIONS, &[Symbol::Part(OPERATION), more]),
+            (MORE_OPERATIONS, &[]),
+            (MORE_OPERATIONS, &[semicolon, operations]),
+        ])
     }
 
     /// A block: its header, and its operations.
@@ -489,11 +569,13 @@ impl RuleMaker {
         let argument = Symbol::Part(ARGUMENT);
         let more = Symbol::Part(MORE_ARGUMENTS);
         let defines = Symbol::Act(Action::Argument);
-        self.rule(ARGUMENT, &[name, defines, colon, Symbol::Part(TYPE)])?;
-        self.rule(ARGUMENTS, &[])?;
-        self.rule(ARGUMENTS, &[argument, more])?;
-        self.rule(MORE_ARGUMENTS, &[])?;
-        self.rule(MORE_ARGUMENTS, &[comma, argument, more])
+        self.add(&[
+            (ARGUMENT, &[name, defines, colon, Symbol::Part(TYPE)]),
+            (ARGUMENTS, &[]),
+            (ARGUMENTS, &[argument, more]),
+            (MORE_ARGUMENTS, &[]),
+            (MORE_ARGUMENTS, &[comma, argument, more]),
+        ])
     }
 }
 
@@ -547,30 +629,20 @@ fn signs(alloc: Global, words: &[&'static str]) -> Result<Vec<Class>, AllocError
 }
 
 /// The rules of a grammar of these kinds, with so many parts.
-fn rules(
-    alloc: Global,
-    words: Vec<&'static str>,
-    kinds: &KindTexts,
-) -> Result<RuleMaker, AllocError>
-    requires words { texts words.items ≡ words_of (formats_of kinds.now) }
-    requires few { is_small (formats_of kinds.now) ≡ true }
+fn rules(alloc: Global, kinds: &KindTexts) -> Result<RuleMaker, AllocError>
+    requires { is_small (formats_of kinds.now) ≡ true }
     ensures rules { IfOk result (λ m. plain_rules m.rules.items ≡ rules_of (formats_of kinds.now)) }
     ensures parts { IfOk result (λ m. m.next_list ≡ parts_of (formats_of kinds.now)) }
     ensures words { IfOk result (λ m. texts m.words.items ≡ words_of (formats_of kinds.now)) }
 {
     let mut maker = RuleMaker {
         alloc,
-        words,
+        words: words_of(alloc, kinds)?,
         rules: Vec::new(alloc),
         next_list: FIRST_LIST,
     };
-    maker.operation_rules()?;
-    maker.region_rules()?;
-    maker.block_rules()?;
-    maker.argument_rules()?;
-    maker.kinds(Sort::Operation, &kinds.operations)?;
-    maker.kinds(Sort::Type, &kinds.types)?;
-    maker.kinds(Sort::Attribute, &kinds.attributes)?;
+    maker.frame_rules()?;
+    maker.all_kinds(kinds)?;
     Ok(maker)
 }
 
@@ -579,8 +651,7 @@ fn rules(
 pub fn table_of_kinds(alloc: Global, kinds: &KindTexts) -> Result<Vec<Facts>, AllocError>
     requires { is_small (formats_of kinds.now) ≡ true }
 {
-    let words = words_of(alloc, kinds)?;
-    let maker = rules(alloc, words, kinds)?;
+    let maker = rules(alloc, kinds)?;
     let signs = signs(alloc, &maker.words)?;
     let columns = maker.words.len() + SHAPES + 1;
     let RuleMaker {
@@ -590,6 +661,25 @@ pub fn table_of_kinds(alloc: Global, kinds: &KindTexts) -> Result<Vec<Facts>, Al
     } = maker;
     let Grammar { parts, .. } = Grammar::new(alloc, signs, rules, next_list as usize, columns)?;
     Ok(parts)
+}
+
+/// The grammar of these rules with these words, and with this table.
+fn with_table(
+    alloc: Global,
+    words: &[&'static str],
+    rules: Vec<Rule>,
+    table: &[PartTable],
+) -> Result<Grammar, AllocError>
+    ensures rules { IfOk result (λ g. g.rules ≡ rules) }
+    ensures signs { IfOk result (λ g. plain_classes g.signs.items ≡ classes_of (texts words.now)) }
+    ensures parts { IfOk result (λ g. map plain_facts g.parts.items
+        ≡ map (dense (length words.now + 6)) (map plain_part table.now)) }
+{
+    Ok(Grammar {
+        signs: signs(alloc, words)?,
+        rules,
+        parts: facts_of(alloc, table, words.len() + SHAPES + 1)?,
+    })
 }
 
 /// The grammar that these kinds make, with a table that fits it.
@@ -609,14 +699,7 @@ pub fn grammar_of_kinds(
         → is_ordered leads (rules_of (formats_of kinds.now)) ≡ true
         → OrdersTexts g.grammar) }
 {
-    let words = words_of(alloc, kinds)?;
-    let RuleMaker { rules, words, .. } = rules(alloc, words, kinds)?;
-    let signs = signs(alloc, &words)?;
-    let parts = facts_of(alloc, table, words.len() + SHAPES + 1)?;
-    let grammar = Grammar {
-        signs,
-        rules,
-        parts,
-    };
+    let RuleMaker { rules, words, .. } = rules(alloc, kinds)?;
+    let grammar = with_table(alloc, &words, rules, table)?;
     Ok(DialectGrammar { grammar, words })
 }

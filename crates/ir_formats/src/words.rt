@@ -1,13 +1,13 @@
 //! The tokens of a text: where each begins, its kind, and which are spelled alike.
-ghost use Rattle.std.specs.Prelude.{◌≡◌, ◌<◌, ◌^◌, ◌++◌, ◌∷◌, [], false, List, drop, OnOk, IfOk, IfSome, Some, length, map, ◌==◌, slice_get, slice_index, slice_index_or};
+ghost use Rattle.std.specs.Prelude.{◌≡◌, ◌<◌, ◌^◌, ◌++◌, ◌∷◌, [], true, false, List, None, drop, replicate, OnOk, IfOk, IfSome, Some, length, map, ◌==◌, slice_get, slice_index, slice_index_or};
 ghost use Rattle.ir_tokens.specs.declared.tokens.Token.{Token};
 ghost use Rattle.ir_tokens.specs.Tokens.{IsToken};
 ghost use Rattle.std.specs.Char.{is_whitespace};
 ghost use Rattle.std.specs.Str.{chars};
 ghost use Rattle.ir_characters.specs.Texts.{codes_of};
 ghost use Rattle.ir_formats.specs.Rules.{texts, number_of, with_word};
-ghost use Rattle.ir_formats.specs.Spelling.{known_texts, signs_with, NumbersWords, AreAllSigns, AreSigns, IsSignAt};
-ghost use Rattle.ir_formats.specs.Words.{spellings, text_of, is_width, are_digits, shape_kind, is_spelled, has_kind, kind_of, known_with, name_number, AreClassified};
+ghost use Rattle.ir_formats.specs.Spelling.{known_texts, numbers_with, signs_with, NumbersWords, AreAllSigns, AreSigns, IsSignAt};
+ghost use Rattle.ir_formats.specs.Words.{spellings, text_of, is_width, are_digits, shape_kind, is_spelled, has_kind, word_kind, kind_of, known_with, name_number, AreClassified};
 
 use crate::rules::{SHAPES, Shape};
 use indexmap::IndexSet;
@@ -149,6 +149,18 @@ fn has_kind(number: usize, words: usize) -> bool
     number < words && number < u32::MAX as usize - SHAPES
 }
 
+/// The kind of a token that may be a word, whose text has this number among so many words.
+#[inline]
+fn spelled_kind(number: usize, words: usize, kind: TokenKind, text: Text) -> u32
+    ensures { result ≡ word_kind number words (shape_kind kind (codes_of text.entry)) }
+{
+    if has_kind(number, words) {
+        (number + SHAPES) as u32
+    } else {
+        shape_of(kind, text)
+    }
+}
+
 /// The number of a text among those that came before, and whether it is a new one, which is added.
 #[inline]
 fn name_of<'a>(known: &mut IndexSet<Text<'a>>, text: Text<'a>) -> Result<(usize, bool), AllocError>
@@ -158,8 +170,7 @@ fn name_of<'a>(known: &mut IndexSet<Text<'a>>, text: Text<'a>) -> Result<(usize,
     ensures is_new { IfOk result (λ r. r.1 ≡
         (number_of (map codes_of known.old.keys) (codes_of text.entry) == length (map codes_of known.old.keys))) }
 {
-    let (name, is_new) = known.insert_full(text)?;
-    Ok((name, is_new))
+    Ok(known.insert_full(text)?)
 }
 
 /// Signs are below this.
@@ -185,17 +196,32 @@ fn guess_place(text: Text) -> usize {
     code % GUESSES
 }
 
+/// Whether this is the number of a text that is known.
+#[inline]
+fn has_number(known: &IndexSet<Text>, text: Text, number: usize) -> bool
+    ensures { result ≡ true → (number ≡ number_of (map codes_of known.now.keys) (codes_of text.entry))
+        × (number < length (map codes_of known.now.keys)) }
+{
+    if number >= known.len() {
+        return false;
+    }
+    match known.get_index(number) {
+        Some(found) => text == *found,
+        None => false,
+    }
+}
+
 /// The number of a text that is known, where the guess at a place is right.
 fn guessed(known: &IndexSet<Text>, guesses: &[usize], place: usize, text: Text) -> Option<usize>
     ensures { IfSome result (λ name. (name ≡ number_of (map codes_of known.now.keys) (codes_of text.entry))
         × (name < length (map codes_of known.now.keys))) }
 {
     let guess = *guesses.get(place)?;
-    if guess >= known.len() {
-        return None;
+    if has_number(known, text, guess) {
+        Some(guess)
+    } else {
+        None
     }
-    let found = *known.get_index(guess)?;
-    if text == found { Some(guess) } else { None }
 }
 
 /// A token of a text, with what the grammar knows of it.
@@ -221,28 +247,46 @@ struct Spellings<'a> {
 }
 
 impl<'a> Spellings<'a> {
+    /// No texts, with room for so many words among so many texts.
+    fn with_capacity(alloc: Global, words: usize, texts: usize) -> Result<Self, AllocError>
+        ensures known { IfOk result (λ s. s.known.keys ≡ []) }
+        ensures words { IfOk result (λ s. s.words.items ≡ []) }
+        ensures signs { IfOk result (λ s. s.signs.items ≡ replicate 128 None) }
+    {
+        Ok(Spellings {
+            signs: vec![in alloc; None; SIGNS]?,
+            guesses: vec![in alloc; 0usize; GUESSES]?,
+            words: Vec::with_capacity(alloc, words)?,
+            known: IndexSet::with_capacity(alloc, texts)?,
+        })
+    }
+
+    /// Puts in the word with this number, unless its text is known.
+    fn add_word(&mut self, number: usize, text: Text<'a>) -> Result<(), AllocError>
+        ensures known { OnOk result (known_texts self.new ≡ with_word (known_texts self.old) (codes_of text.entry)) }
+        ensures words { OnOk result (self.new.words.items
+            ≡ numbers_with self.old.words.items number (known_texts self.old) (codes_of text.entry)) }
+        ensures signs { self.new.signs ≡ self.old.signs }
+    {
+        let (_, is_new) = name_of(&mut self.known, text)?;
+        if is_new {
+            self.words.push(number)?;
+        }
+        Ok(())
+    }
+
     /// The words of a grammar, with room for the names of so many tokens.
     fn new(alloc: Global, words: &'a [Characters], tokens: usize) -> Result<Self, AllocError>
         ensures words { IfOk result (λ s. NumbersWords (spellings words.now) (known_texts s) s.words.items) }
         ensures signs { IfOk result (λ s. AreSigns (spellings words.now) (known_texts s) s.signs.items) }
     {
         // Most texts have more than eight tokens for each name.
-        let mut known = IndexSet::with_capacity(alloc, words.len() + tokens / 8)?;
-        let mut numbers = Vec::with_capacity(alloc, words.len())?;
+        let texts = words.len() + tokens / 8;
+        let mut spellings = Spellings::with_capacity(alloc, words.len(), texts)?;
         for (number, word) in words.iter().enumerate() {
-            let (_, is_new) = name_of(&mut known, word.as_text())?;
-            if is_new {
-                numbers.push(number)?;
-            }
+            spellings.add_word(number, word.as_text())?;
         }
-        let guesses = vec![in alloc; 0usize; GUESSES]?;
-        let signs = vec![in alloc; None; SIGNS]?;
-        Ok(Spellings {
-            known,
-            words: numbers,
-            guesses,
-            signs,
-        })
+        Ok(spellings)
     }
 
     /// The number of the word that the text of this number is, or how many words there are where it is none.
@@ -332,10 +376,7 @@ impl<'a> Spellings<'a> {
         }
         let name = self.number(text)?;
         let word = self.word(name, words.len());
-        if has_kind(word, words.len()) {
-            return Ok(((word + SHAPES) as u32, name));
-        }
-        Ok((shape_of(token.kind, text), name))
+        Ok((spelled_kind(word, words.len(), token.kind, text), name))
     }
 
     /// The token that begins at a place where no white space stands.
@@ -372,6 +413,57 @@ impl<'a> Spellings<'a> {
         self.keep(token.kind, kind, name);
         Ok(Classed { token, kind, name })
     }
+
+    /// Puts the tokens of a text behind none, up to its end or its first bad token, and gives where the text of the last
+    /// one ends.
+    fn classify(
+        &mut self,
+        words: &[Characters],
+        chars: Text<'a>,
+        classified: &mut Classified,
+    ) -> Result<usize, AllocError>
+        requires words { NumbersWords (spellings words.now) (known_texts self.old) self.old.words.items }
+        requires signs { AreSigns (spellings words.now) (known_texts self.old) self.old.signs.items }
+        requires starts { classified.old.starts.items ≡ [] }
+        requires kinds { classified.old.kinds.items ≡ [] }
+        requires names { classified.old.names.items ≡ [] }
+        ensures { IfOk result (λ end. (ts : List Token) × AreClassified (spellings words.now) (codes_of chars.entry) ts
+            (classified.new.starts.items ++ end ∷ []) classified.new.kinds.items classified.new.names.items) }
+    {
+        let mut at = 0;
+        'reading: while at < chars.len() {
+            if chars.at(at).is_whitespace() {
+                at += 1;
+                continue;
+            }
+            let next = self.classed(words, chars, at)?;
+            classified.add(at, next.kind, next.name)?;
+            if let TokenKind::Bad = next.token.kind {
+                return Ok(next.token.end);
+            }
+            at = next.token.end;
+        }
+        Ok(at)
+    }
+}
+
+/// Puts the tokens of a text, some so many, behind none, up to its end or its first bad token, and gives where the text of
+/// the last one ends.
+fn add_tokens(
+    alloc: Global,
+    words: &[Characters],
+    chars: Text,
+    tokens: usize,
+    classified: &mut Classified,
+) -> Result<usize, AllocError>
+    requires starts { classified.old.starts.items ≡ [] }
+    requires kinds { classified.old.kinds.items ≡ [] }
+    requires names { classified.old.names.items ≡ [] }
+    ensures { IfOk result (λ end. (ts : List Token) × AreClassified (spellings words.now) (codes_of chars.entry) ts
+        (classified.new.starts.items ++ end ∷ []) classified.new.kinds.items classified.new.names.items) }
+{
+    let mut spellings = Spellings::new(alloc, words, tokens)?;
+    spellings.classify(words, chars, classified)
 }
 
 /// The tokens of a text, up to its end or its first bad token. The words come as `spelled` gives them.
@@ -385,20 +477,7 @@ pub fn classify(alloc: Global, words: &[Characters], chars: Text) -> Result<Clas
 {
     // A token takes some six characters in most texts, with the white space before it.
     let tokens = chars.len() / 6;
-    let mut spellings = Spellings::new(alloc, words, tokens)?;
     let mut classified = Classified::with_capacity(alloc, tokens)?;
-    let mut at = 0;
-    'reading: while at < chars.len() {
-        if chars.at(at).is_whitespace() {
-            at += 1;
-            continue;
-        }
-        let next = spellings.classed(words, chars, at)?;
-        classified.add(at, next.kind, next.name)?;
-        if let TokenKind::Bad = next.token.kind {
-            return classified.ended(next.token.end);
-        }
-        at = next.token.end;
-    }
-    classified.ended(at)
+    let end = add_tokens(alloc, words, chars, tokens, &mut classified)?;
+    classified.ended(end)
 }

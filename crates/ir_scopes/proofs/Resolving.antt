@@ -8,7 +8,7 @@ use Rattle.ir_scopes.specs.declared.scopes.Resolution.{Resolution}
 use Rattle.ir_scopes.specs.declared.sites.Site.{Site}
 use Rattle.ir_scopes.specs.declared.sites.Sites.{Sites}
 use Rattle.ir_tokens.specs.Faults.{IsFirstOf, IsNamed}
-use Rattle.ir_scopes.specs.Scopes.{name_of, SiteHasName, IsAgain, IsUnresolvedName, MeanNoted, SitesAreApart, AreSites, HasScopeFault, Resolves, fault_again, definitions, labels, mentions, closings}
+use Rattle.ir_scopes.specs.Scopes.{name_of, SiteHasName, IsAgain, IsUnresolvedName, MeanNoted, SitesAreApart, AreSites, HasScopeFault, HasSiteFault, Resolves, fault_again, definitions, labels, mentions, closings}
 use Rattle.ir_tokens.proofs.FirstFault.{first_of_law}
 use Rattle.ir_scopes.proofs.Apart.{are_apart}
 use Rattle.ir_scopes.proofs.Lacking.{is_meant}
@@ -28,26 +28,29 @@ one_number names ds none scope name i j a b = go (cases_order i j)
     go (inr (inl lt)) = absurd (again i j lt a b)
     go (inr (inr lt)) = absurd (again j i lt b a)
 
+-- the first fault of three rows
+pub merged : (names : List ℕ) (s : Sites) (v l u w r : Option Fault) → IsNamed (IsAgain names s.definitions.items) v → IsNamed (IsAgain names s.labels.items) l
+    → IsNamed (IsUnresolvedName names s.definitions.items s.mentions.items s.closings.items) u → IsFirstOf l u w → IsFirstOf v w r → IsNamed (HasSiteFault names s) r
+merged names s v l u w r hv hl hu first second =
+    let Values : Fault → Type 0 = IsAgain names s.definitions.items in
+    let Labels : Fault → Type 0 = IsAgain names s.labels.items in
+    let Lacking : Fault → Type 0 = IsUnresolvedName names s.definitions.items s.mentions.items s.closings.items in
+    first_of_law Values (λ f. Labels f ⊎ Lacking f) (HasSiteFault names s) v w r (λ f x. x) (λ f x. inl x) (λ f x. inr x) hv
+    (first_of_law Labels Lacking (λ f. Labels f ⊎ Lacking f) l u w (λ f x. x) (λ f x. inl x) (λ f x. inr x) hl hu first)
+    second
+
 module _ (isolated : ℕ → Bool) (names : List ℕ) (es : List Event) (s : Sites) (are : AreSites isolated es s) where
   -- where each name has a token of its own, the definitions and mentions have one each
   pub sites_apart : OwnTokens false es → SitesAreApart s.definitions.items s.mentions.items
   sites_apart own = subst (λ ds. SitesAreApart ds s.mentions.items) (sym are.definitions) (subst (SitesAreApart (definitions isolated es)) (sym are.mentions) (are_apart isolated es own))
 
-  -- the first fault of three rows
-  pub merged : (v l u w r : Option Fault) → IsNamed (IsAgain names s.definitions.items) v → IsNamed (IsAgain names s.labels.items) l
-      → IsNamed (IsUnresolvedName names s.definitions.items s.mentions.items s.closings.items) u → IsFirstOf l u w → IsFirstOf v w r → IsNamed (HasScopeFault isolated names es) r
-  merged v l u w r hv hl hu first second =
-      let Labels : Fault → Type 0 = IsAgain names (labels isolated es) in
-      let Values : Fault → Type 0 = IsAgain names (definitions isolated es) in
-      let Lacking : Fault → Type 0 = IsUnresolvedName names (definitions isolated es) (mentions isolated es) (closings isolated es) in
-      let lacking : IsNamed Lacking u
-      = subst (λ ds. IsNamed (IsUnresolvedName names ds (mentions isolated es) (closings isolated es)) u) are.definitions
-      (subst (λ ms. IsNamed (IsUnresolvedName names s.definitions.items ms (closings isolated es)) u) are.mentions
-      (subst (λ cs. IsNamed (IsUnresolvedName names s.definitions.items s.mentions.items cs) u) are.closings hu)) in
-      first_of_law Values (λ f. Labels f ⊎ Lacking f) (HasScopeFault isolated names es) v w r (λ f x. x) (λ f x. inl x) (λ f x. inr x)
-      (subst (λ ds. IsNamed (IsAgain names ds) v) are.definitions hv)
-      (first_of_law Labels Lacking (λ f. Labels f ⊎ Lacking f) l u w (λ f x. x) (λ f x. inl x) (λ f x. inr x) (subst (λ ls. IsNamed (IsAgain names ls) l) are.labels hl) lacking first)
-      second
+  -- the first fault at the sites is the first that the events have
+  pub scope_fault : (r : Option Fault) → IsNamed (HasSiteFault names s) r → IsNamed (HasScopeFault isolated names es) r
+  scope_fault r h =
+      subst (λ ds. IsNamed (λ f. IsAgain names ds f ⊎ (IsAgain names (labels isolated es) f ⊎ IsUnresolvedName names ds (mentions isolated es) (closings isolated es) f)) r) are.definitions
+      (subst (λ ls. IsNamed (λ f. IsAgain names s.definitions.items f ⊎ (IsAgain names ls f ⊎ IsUnresolvedName names s.definitions.items (mentions isolated es) (closings isolated es) f)) r) are.labels
+      (subst (λ ms. IsNamed (λ f. IsAgain names s.definitions.items f ⊎ (IsAgain names s.labels.items f ⊎ IsUnresolvedName names s.definitions.items ms (closings isolated es) f)) r) are.mentions
+      (subst (λ cs. IsNamed (λ f. IsAgain names s.definitions.items f ⊎ (IsAgain names s.labels.items f ⊎ IsUnresolvedName names s.definitions.items s.mentions.items cs f)) r) are.closings h)))
 
   module _ (none : IsNamed (HasScopeFault isolated names es) None) where
     resolves_here : (r : Resolution) → r.count ≡ length s.definitions.items

@@ -218,7 +218,16 @@ abbrev pub HasScopeFault : (ℕ → Bool) → List ℕ → List Event → Fault 
 HasScopeFault isolated names es f =
     IsAgain names (definitions isolated es) f ⊎ (IsAgain names (labels isolated es) f ⊎ IsUnresolvedName names (definitions isolated es) (mentions isolated es) (closings isolated es) f)
 
+-- the first faults that the names at these sites can have
+abbrev pub HasSiteFault : List ℕ → Sites → Fault → Type 0
+HasSiteFault names s f =
+    IsAgain names s.definitions.items f ⊎ (IsAgain names s.labels.items f ⊎ IsUnresolvedName names s.definitions.items s.mentions.items s.closings.items f)
+
 -- ---- looking up
+
+-- the number of each definition stands at the place of its token
+abbrev pub AreNoted : List Site → List ℕ → Type 0
+AreNoted ds places = (j : ℕ) (d : Site) → slice_get ds j ≡ Some d → d.token < length places → slice_index places d.token ≡ j
 
 -- the set has the scopes in which a name is mentioned that has no definition there
 abbrev pub AreLacking : List ℕ → List Site → List Site → BTreeSet ℕ → Type 0

@@ -7,8 +7,8 @@ ghost use Rattle.std.specs.List.Sorted.{IsPermutation, IsNonDecreasingBy};
 ghost use Rattle.ir_scopes.specs.declared.sites.Site.{Site};
 ghost use Rattle.ir_grammar.specs.Nesting.{OwnTokens};
 ghost use Rattle.ir_tokens.specs.Faults.{IsNamed, IsFirstOf};
-ghost use Rattle.ir_scopes.specs.Scopes.{is_marked, name_of, fault_again, fault_unresolved, IsAgain, AreLacking, MeanNoted, EndsAmong, HaveDistinctTokens, SitesAreApart, IsResolved, IsScopeFault};
-ghost use Rattle.ir_scopes.specs.Orders.{AreNumberedSites, IsScopeOrder, token_at, AreNamedAlike, HasPlaces, IsScopeWalk, number_passed, again_at, IsWithinScope, IsThrough};
+ghost use Rattle.ir_scopes.specs.Scopes.{is_marked, name_of, fault_again, fault_unresolved, IsAgain, AreLacking, MeanNoted, AreNoted, HasSiteFault, EndsAmong, HaveDistinctTokens, SitesAreApart, IsResolved, IsScopeFault};
+ghost use Rattle.ir_scopes.specs.Orders.{AreNumberedSites, IsScopeOrder, token_at, AreNamedAlike, HasPlaces, IsScopeWalk, number_passed, number_in, again_at, IsWithinScope, IsThrough};
 
 use crate::sites::{Closing, Site, Sites, sites_of};
 use ir_grammar::grammar::Event;
@@ -28,7 +28,7 @@ pub struct Resolution {
 
 /// How many parts of each kind a text has. Nothing is proved of these numbers: a reader asks for room ahead by them, and
 /// nothing else may depend on them.
-#[derive(Clone, Copy, Debug, PartialEq, Eq)]
+#[derive(Clone, Copy)]
 pub struct Counts {
     pub operations: usize,
     pub regions: usize,
@@ -38,7 +38,7 @@ pub struct Counts {
 }
 
 /// Why names aren't looked up.
-#[derive(Clone, Copy, Debug, PartialEq, Eq)]
+#[derive(Clone, Copy)]
 pub enum ScopeFault {
     Memory,
     Text(Fault),
@@ -189,9 +189,30 @@ impl Walk {
     fn number_of(&self, scope: usize, name: usize) -> Option<usize>
         ensures { result ≡ number_passed self.now scope name }
     {
-        let place = *self.latest.get(name)?;
-        let (found, number) = *self.order.get(place)?;
-        if found == scope { Some(number) } else { None }
+        match self.latest.get(name) {
+            Some(place) => self.number_at(*place, scope),
+            None => None,
+        }
+    }
+
+    /// The number of the site at this place of the order, if it is in this scope.
+    fn number_at(&self, place: usize, scope: usize) -> Option<usize>
+        ensures { result ≡ number_in scope (slice_get self.now.order.items place) }
+    {
+        match self.order.get(place) {
+            Some((found, number)) => { if *found == scope { Some(*number) } else { None } }
+            None => None,
+        }
+    }
+
+    /// The fault at this token, if its name was passed in this scope.
+    fn fault_at(&self, scope: usize, name: usize, token: usize) -> Option<Fault>
+        ensures { result ≡ again_at (number_passed self.now scope name) token }
+    {
+        match self.number_of(scope, name) {
+            Some(_) => Some(fault_again(token)),
+            None => None,
+        }
     }
 
     /// Passes a site with this scope, name and token.
@@ -202,9 +223,7 @@ impl Walk {
         ensures latest { self.new.latest.items ≡ slice_set self.old.latest.items name self.old.passed }
         ensures again { IsFirstOf self.old.again (again_at (number_passed self.old scope name) token) self.new.again }
     {
-        if self.number_of(scope, name).is_some() {
-            self.again = first_of(self.again, Some(fault_again(token)));
-        }
+        self.again = first_of(self.again, self.fault_at(scope, name, token));
         note(&mut self.latest, name, self.passed);
         self.passed += 1;
     }
@@ -366,6 +385,28 @@ fn look_up_mentions(
     })
 }
 
+/// Writes the number of the definition that each name of a value means to the place of its token, where the name stands,
+/// and gives the first fault of the names. The mentions come into the order of their scopes.
+fn resolve(
+    alloc: Global,
+    places: &mut [usize],
+    sites: &mut Sites,
+) -> Result<Option<Fault>, AllocError>
+    requires { SitesAreApart sites.old.definitions.items sites.old.mentions.items }
+    ensures fault { IfOk result (IsNamed (HasSiteFault places.old sites.old)) }
+    ensures defined { OnOk result (AreNoted sites.old.definitions.items places.new) }
+    ensures mentioned { OnOk result (MeanNoted places.old sites.old.definitions.items sites.old.mentions.items
+        places.new) }
+    ensures many { OnOk result (length places.new ≡ length places.old) }
+    ensures definitions { OnOk result (sites.new.definitions ≡ sites.old.definitions) }
+{
+    let labels = first_again(alloc, places, &sites.labels)?;
+    let faults = look_up_mentions(alloc, places, &sites.definitions, &mut sites.mentions)?;
+    note_definitions(places, &sites.definitions);
+    let unresolved = lacking_fault(&sites.closings, &faults.lacking);
+    Ok(first_of(faults.again, first_of(labels, unresolved)))
+}
+
 fn counts_of(sites: &Sites) -> Counts {
     Counts {
         operations: sites.operations,
@@ -396,17 +437,8 @@ pub fn look_up(
     ensures many { IfOk result (λ r. length r.definitions.items ≡ length names.items) }
 {
     let mut sites = sites_of(alloc, events, isolated)?;
-    let labels = first_again(alloc, &names, &sites.labels)?;
     let mut definitions = names;
-    let faults = look_up_mentions(
-        alloc,
-        &mut definitions,
-        &sites.definitions,
-        &mut sites.mentions,
-    )?;
-    note_definitions(&mut definitions, &sites.definitions);
-    let unresolved = lacking_fault(&sites.closings, &faults.lacking);
-    match first_of(faults.again, first_of(labels, unresolved)) {
+    match resolve(alloc, &mut definitions, &mut sites)? {
         Some(fault) => Err(ScopeFault::Text(fault)),
         None => Ok(Resolution {
             definitions,

@@ -10,7 +10,7 @@ use ir_grammar::grammar::{Action, Event};
 use std::alloc::{AllocError, Global};
 
 /// An operation or a region that is being read, as far as names in it are concerned.
-#[derive(Clone, Copy, Debug, PartialEq, Eq)]
+#[derive(Clone, Copy)]
 pub struct Frame {
     /// Whether it is an operation whose regions are scopes of values.
     pub isolated: bool,
@@ -23,7 +23,7 @@ pub struct Frame {
 }
 
 /// A name in a text.
-#[derive(Clone, Copy, Debug, PartialEq, Eq)]
+#[derive(Clone, Copy)]
 pub struct Site {
     /// The scope in which it stands.
     pub scope: usize,
@@ -31,7 +31,7 @@ pub struct Site {
 }
 
 /// The end of a scope of values.
-#[derive(Clone, Copy, Debug, PartialEq, Eq)]
+#[derive(Clone, Copy)]
 pub struct Closing {
     pub scope: usize,
     /// The token at which it ends.

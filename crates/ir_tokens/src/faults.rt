@@ -4,26 +4,29 @@ ghost use Rattle.ir_tokens.specs.Faults.{row, FaultPrecedes, IsFirstOf};
 
 use ir_names::GrowError;
 use std::alloc::{AllocError, AllocFailed};
+use std::fmt;
 use thiserror::Error;
 
 /// Why names, labels or marks of a text can't be looked up.
-#[derive(Clone, Copy, Debug, PartialEq, Eq, Error)]
+#[derive(Clone, Copy, Debug, PartialEq, Eq)]
 pub enum ScopeCause {
-    #[error("MultipleDefinitions")]
     MultipleDefinitions,
-    #[error("UnresolvedReference")]
     UnresolvedReference,
-    #[error("TopLevelOpRegionNotIsolatedFromAbove")]
     TopLevelOpRegionNotIsolatedFromAbove,
-    #[error("OutlineRedefined")]
     OutlineRedefined,
-    #[error("AttributeRedefined")]
     AttributeRedefined,
-    #[error("UnknownOutline")]
     UnknownOutline,
-    #[error("GivenNamesMismatch")]
     GivenNamesMismatch,
 }
+
+/// A cause is displayed by its name.
+impl fmt::Display for ScopeCause {
+    fn fmt<W: fmt::Write>(&self, f: &mut fmt::Formatter<W>) -> fmt::Result {
+        fmt::Debug::fmt(self, f)
+    }
+}
+
+impl std::error::Error for ScopeCause {}
 
 /// The kinds of fault, in the order in which those that are met at one token are named.
 #[derive(Clone, Copy, Debug, PartialEq, Eq)]

@@ -1,11 +1,14 @@
 //! The types of a context, each interned once.
-ghost use Rattle.std.specs.Prelude.{◌≡◌, ◌↔◌, ◌<◌, [], true, false, IsTrue, Ok, Some, IfOk, OnOk, OnErr, length, option_copied};
+ghost use Rattle.std.specs.Prelude.{◌≡◌, ◌↔◌, ◌<◌, [], ◌∷◌, ◌++◌, true, false, if◌then◌else◌, IsTrue, Ok, Some, None, IfOk, OnOk, OnErr, length, slice_get, option_copied, option_and_then};
 ghost use Rattle.std.specs.Borrow.{sem};
+ghost use Rattle.std.specs.List.{IsDistinct, list_any, position_or_len};
+ghost use Rattle.indexmap.specs.IndexSet.{insert_key};
 
 use crate::{DialectTables, SavedKey};
 use indexmap::IndexSet;
 use ir_names::{TypeHandle, TypeInterface};
 use std::alloc::{AllocError, Global};
+use std::hash::Hash;
 use std::marker::Model;
 
 /// The types of a context, each with its key, and what the context keeps once beside them.
@@ -29,6 +32,65 @@ impl<D: DialectTables> Model for Types<D> {
     ghost view = { λ t. record { keys = t.keys.keys; bodies = t.bodies.items; saved = t.saved.keys } };
 
     ghost invariant = { λ t. length t.keys.keys ≡ length t.bodies.items };
+}
+
+/// The body at an index, of a type that has one. Past the end there is none.
+#[inline]
+fn body_in<B>(bodies: &[Option<B>], index: usize) -> Option<&B>
+    ensures { option_copied result ≡ option_and_then (λ body. body) (slice_get bodies.now index) }
+{
+    match bodies.get(index) {
+        Some(body) => body.as_ref(),
+        None => None,
+    }
+}
+
+/// The handle of the type with this key. Where no key equals it, it is put behind the others, with a place for a body.
+#[inline]
+fn intern_among<K: Eq + Hash + Drop, B: Drop>(
+    keys: &mut IndexSet<K>,
+    bodies: &mut Vec<Option<B>>,
+    key: K,
+) -> Result<TypeHandle, AllocError>
+    ensures distinct { IsDistinct K.eq keys.old.keys }
+    ensures still_distinct { IsDistinct K.eq keys.new.keys }
+    ensures handle { IfOk result (λ ty. ty.number ≡ position_or_len (K.eq key) keys.old.keys) }
+    ensures equal { IfOk result (λ ty. (kept : K) × (slice_get keys.new.keys ty.number ≡ Some kept)
+        × (K.eq key kept ≡ true)) }
+    ensures ok { OnOk result (keys.new.keys ≡ insert_key K.eq keys.old.keys key) }
+    ensures bodies { OnOk result (bodies.new.items ≡ (if list_any (K.eq key) keys.old.keys then bodies.old.items
+        else bodies.old.items ++ None ∷ [])) }
+    ensures absent { OnErr result (list_any (K.eq key) keys.old.keys ≡ false) }
+    ensures err_keys { OnErr result (keys.new.keys ≡ keys.old.keys) }
+    ensures err_bodies { OnErr result (bodies.new.items ≡ bodies.old.items) }
+{
+    // So no two of the keys are equal.
+    let _ = keys.len();
+    if let Some(number) = keys.get_index_of(&key) {
+        return Ok(TypeHandle::new(number));
+    }
+    bodies.reserve(1)?;
+    let (number, _) = keys.insert_full(key)?;
+    bodies.push(None)?;
+    Ok(TypeHandle::new(number))
+}
+
+/// The key of the value among those that are kept. Where none equals it, it is kept behind the others.
+#[inline]
+fn keep<T: Eq + Hash + Drop>(kept: &mut IndexSet<T>, value: T) -> Result<SavedKey, AllocError>
+    ensures distinct { IsDistinct T.eq kept.old.keys }
+    ensures still_distinct { IsDistinct T.eq kept.new.keys }
+    ensures key { IfOk result (λ key. key.number ≡ position_or_len (T.eq value) kept.old.keys) }
+    ensures equal { IfOk result (λ key. (held : T) × (slice_get kept.new.keys key.number ≡ Some held)
+        × (T.eq value held ≡ true)) }
+    ensures ok { OnOk result (kept.new.keys ≡ insert_key T.eq kept.old.keys value) }
+    ensures absent { OnErr result (list_any (T.eq value) kept.old.keys ≡ false) }
+    ensures err { OnErr result (kept.new.keys ≡ kept.old.keys) }
+{
+    // So no two of the values are equal.
+    let _ = kept.len();
+    let (number, _) = kept.insert_full(value)?;
+    Ok(SavedKey { number })
 }
 
 impl<D: DialectTables> Types<D> {
@@ -79,15 +141,7 @@ impl<D: DialectTables> Types<D> {
         ensures keeps { KeepsTypes self.old self.new }
         ensures err { OnErr result (self.new ≡ self.old) }
     {
-        // So the handle that is found is the only one of the key.
-        self.know_distinct();
-        if let Some(number) = self.keys.get_index_of(&key) {
-            return Ok(TypeHandle::new(number));
-        }
-        self.bodies.reserve(1)?;
-        let (number, _) = self.keys.insert_full(key)?;
-        self.bodies.push(None)?;
-        Ok(TypeHandle::new(number))
+        intern_among(&mut self.keys, &mut self.bodies, key)
     }
 
     /// The key of a type, or `None` for a handle that leads to none.
@@ -108,7 +162,7 @@ impl<D: DialectTables> Types<D> {
     pub fn body(&self, ty: TypeHandle) -> Option<&D::TypeBody>
         ensures { option_copied result ≡ body_at self.now ty }
     {
-        self.bodies.get(ty.number())?.as_ref()
+        body_in(&self.bodies, ty.number())
     }
 
     /// Lends the body of a type, to be given to it, changed or taken.
@@ -178,10 +232,7 @@ impl<D: DialectTables> Types<D> {
         ensures keeps { KeepsSaved self.old self.new }
         ensures err { OnErr result (self.new ≡ self.old) }
     {
-        // So the key that is found is the only one of the value.
-        self.know_saved_distinct();
-        let (number, _) = self.saved.insert_full(value)?;
-        Ok(SavedKey { number })
+        keep(&mut self.saved, value)
     }
 
     /// Whether the key leads to a saved value.

@@ -1,55 +1,9 @@
-use Rattle.std.proofs.Common.{◌≡◌, ℕ, ap, arith, sym, slice_index, true, Vec}
-use Rattle.std.specs.Char.{is_whitespace}
-use Rattle.std.specs.Global.{Global}
 use Rattle.ir_characters.specs.Texts.{codes_of}
 use Rattle.ir_formats.specs.Words.{spellings}
-use Rattle.ir_tokens.proofs.TokenSteps.{spells_after}
-use Rattle.ir_formats.proofs.Classifying.{classifying_none, classifying_gap, classifying_more, classifying_done, classifying_bad, classified_ended}
+use Rattle.ir_formats.proofs.Classifying.{classified_ended}
 use Rattle.ir_formats.proofs.words.classify.Goals as goal
-
-pub reading-init : goal.reading-init
-reading-init c =
-    let none = c.in_ok-classified.ensures in
-    (classifying_none _ _ _ _ _ _ _ c.in_ok-spellings.ensures.words none.0 none.1 none.2, c.in_ok-spellings.ensures.signs)
-
-pub reading-preserved-then-is_whitespace : goal.reading-preserved-then-is_whitespace
-reading-preserved-then-is_whitespace c =
-    let white : is_whitespace (slice_index (codes_of c.args.chars) c.reading.at) ≡ true =
-    rw (← c.at.ensures.character) (sym c.if-is_whitespace.ensures) in
-    (classifying_gap _ (codes_of c.args.chars) _ c.reading.at _ _ _ _ _ (omega arith) white c.reading.invariant.0, c.reading.invariant.1)
-
-pub classed-requires-clause-visible : goal.classed-requires-clause-visible
-classed-requires-clause-visible c = rw (← c.at.ensures.character) (sym c.if-is_whitespace.ensures)
-
-pub returns-in-Bad : goal.returns-in-Bad
-returns-in-Bad c =
-    let same = ap (λ (v : Vec ℕ Global). v.items) c.classed.ensures.words in
-    let whole =
-    classifying_bad _ (codes_of c.args.chars) _ c.reading.at _ _ _ _ _ _ _ _ _ _ c.in_ok-next.next.token _ _
-    c.reading.invariant.0 c.in_ok-next.ensures.start c.in_ok-next.ensures.token c.in-Bad.is
-    c.in_ok-next.ensures.known same c.in_ok-next.ensures.kind c.in_ok-next.ensures.name
-    c.in_ok-add.ensures.starts c.in_ok-add.ensures.kinds c.in_ok-add.ensures.names in
-    classified_ended (spellings c.args.words.now) (codes_of c.args.chars) c.ended.result _ _ _
-    c.ended.ensures.starts c.ended.ensures.kinds c.ended.ensures.names whole
-
-pub reading-smaller : goal.reading-smaller
-reading-smaller c =
-    let token = c.in_ok-next.ensures.token in
-    let after = spells_after (codes_of c.args.chars) _ _ _ token.spelled c.in_default.not-Bad in
-    omega (arith, after, c.in_ok-next.ensures.start, token.inside)
-
-pub reading-preserved : goal.reading-preserved
-reading-preserved c =
-    let same = ap (λ (v : Vec ℕ Global). v.items) c.classed.ensures.words in (
-      classifying_more _ (codes_of c.args.chars) _ c.reading.at _ _ _ _ _ _ _ _ _ _ c.in_ok-next.next.token _ _
-          c.reading.invariant.0 c.in_ok-next.ensures.start c.in_ok-next.ensures.token c.in_default.not-Bad
-          c.in_ok-next.ensures.known same c.in_ok-next.ensures.kind c.in_ok-next.ensures.name
-          c.in_ok-add.ensures.starts c.in_ok-add.ensures.kinds c.in_ok-add.ensures.names,
-      c.in_ok-next.ensures.signs,
-    )
 
 pub returns : goal.returns
 returns c =
-    let whole = classifying_done _ (codes_of c.args.chars) _ c.reading.at _ _ _ _ _ (omega arith) c.reading.invariant.0 in
-    classified_ended (spellings c.args.words.now) (codes_of c.args.chars) c.ended-2.result _ _ _
-    c.ended-2.ensures.starts c.ended-2.ensures.kinds c.ended-2.ensures.names whole
+    classified_ended (spellings c.args.words.now) (codes_of c.args.chars) c.ended.result _ _ _
+    c.ended.ensures.starts c.ended.ensures.kinds c.ended.ensures.names c.in_ok-end.ensures
