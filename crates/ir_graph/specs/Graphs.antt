@@ -23,6 +23,11 @@ module _ {X : Type 0} where
     pub members : AreNamedParts nodes (map (λ (s : Scc ℕ). s.nodes.items) parts) (map (λ (s : Scc X). s.nodes.items) named)
     pub cyclic : map (λ (s : Scc ℕ). s.is_cyclic) parts ≡ map (λ (s : Scc X). s.is_cyclic) named
 
+  -- for each node the numbers of its successors
+  pub record AreSuccessorRows (next : X → List X) (nodes : List X) (rows : List (Vec ℕ Global)) : Type 0 where
+    pub len : length rows ≡ length nodes
+    pub onward : (i : ℕ) (n : X) → slice_get nodes i ≡ Some n → AreNodeNumbers nodes (successors rows i) (next n)
+
   -- the nodes of a graph, the number of each, and for each the numbers of its successors
   pub record IsNumbering (next : X → List X) (nodes kept : List X) (numbers : List ℕ) (rows : List (Vec ℕ Global)) : Type 0 where
     pub all : kept ≡ nodes

@@ -1,6 +1,6 @@
 //! Nodes by number, so that the searches run on rows of numbers.
 ghost use Rattle.std.specs.Prelude.{◌≡◌, ℕ, true, Some, All, Contains, IfOk, map, slice_get};
-ghost use Rattle.ir_graph.specs.Graphs.{AreDistinctNodes, AreNodeNumbers, IsNumbering};
+ghost use Rattle.ir_graph.specs.Graphs.{AreDistinctNodes, AreNodeNumbers, AreSuccessorRows, IsNumbering};
 
 use crate::ControlFlowGraph;
 use indexmap::IndexSet;
@@ -67,6 +67,27 @@ pub(crate) fn nodes_at<N: Copy>(
     Ok(row)
 }
 
+/// For each node of a graph the numbers of its successors. Each is asked once.
+fn successor_rows<C, G: ControlFlowGraph<C>>(
+    alloc: Global,
+    ctx: &C,
+    graph: &G,
+    nodes: &[G::Node],
+    set: &IndexSet<G::Node>,
+) -> Result<Vec<Vec<usize>>, AllocError>
+    requires graph { G.is_graph graph.now ctx.now }
+    requires nodes { nodes.now ≡ G.nodes_of graph.now ctx.now }
+    requires set { set.now.keys ≡ nodes.now }
+    ensures { IfOk result (λ rows. AreSuccessorRows (G.successors_of graph.now ctx.now) nodes.now rows.items) }
+{
+    let mut rows = Vec::new(alloc);
+    for node in nodes {
+        let row = graph.successors(alloc, ctx, node)?;
+        rows.push(number_row(alloc, set, &row)?)?;
+    }
+    Ok(rows)
+}
+
 /// Numbers the nodes of a graph. Each node is asked once for its successors.
 pub(crate) fn number<C, G: ControlFlowGraph<C>>(
     alloc: Global,
@@ -80,11 +101,7 @@ pub(crate) fn number<C, G: ControlFlowGraph<C>>(
     let nodes = graph.nodes(alloc, ctx)?;
     let set = set_of(alloc, &nodes)?;
     let numbers = number_row(alloc, &set, &nodes)?;
-    let mut rows = Vec::new(alloc);
-    for node in &nodes {
-        let row = graph.successors(alloc, ctx, node)?;
-        rows.push(number_row(alloc, &set, &row)?)?;
-    }
+    let rows = successor_rows(alloc, ctx, graph, &nodes, &set)?;
     Ok(Numbering {
         nodes,
         numbers,

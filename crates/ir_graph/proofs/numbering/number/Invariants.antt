@@ -1,5 +1,0 @@
-use Rattle.ir_graph.proofs.Numbers.{RowsUpTo}
-use Rattle.ir_graph.proofs.numbering.number.Given as goal
-
-abbrev pub invariant-loop-node : goal.invariant-loop-node
-invariant-loop-node g l = RowsUpTo (g.G.ControlFlowGraph.successors_of l.graph l.ctx) l.node-items l.rows.items l.node-index
