@@ -89,11 +89,24 @@ impl<O, B> Program<O, B> {
     {
         let mut chosen = Vec::new(alloc);
         for place in self.values.iter(thread) {
-            if predicate(self, &self.operand_use(place)) {
+            if self.chooses_operand(place, predicate) {
                 chosen.push(place)?;
             }
         }
         Ok(chosen)
+    }
+
+    /// What the predicate answers about the use at a place of operands.
+    fn chooses_operand<F: Fn(&Program<O, B>, &Use<Value>) -> bool>(
+        &self,
+        place: usize,
+        predicate: &F,
+    ) -> bool
+        requires place { IsPlace self.now.values place }
+        requires callable { F.IsAlwaysCallable predicate.now }
+        ensures { MayAnswerOfUse F.Fn predicate.now self.now (operand_use self.now place) result }
+    {
+        predicate(self, &self.operand_use(place))
     }
 }
 

@@ -1,7 +1,7 @@
 //! Other blocks in place of successors: at all edges to a block, at one, or at those that a predicate chooses.
 ghost use Rattle.std.specs.Prelude.{◌≡◌, ◌≢◌, ◌+◌, ℕ, true, Bool, IsSome, OnOk, OnErr, IfOk};
 ghost use Rattle.ir_entities.specs.Links.{has};
-ghost use Rattle.ir_entities.specs.Uses.{IsDefined, NamesDefinition};
+ghost use Rattle.ir_entities.specs.Uses.{IsDefined, IsPlace, NamesDefinition};
 ghost use Rattle.ir_program.specs.Program.{block_at};
 ghost use Rattle.ir_program.specs.Rows.{successors_at};
 ghost use Rattle.ir_program.specs.Spots.{successor_use};
@@ -93,10 +93,23 @@ impl<O, B> Program<O, B> {
     {
         let mut chosen = Vec::new(alloc);
         for place in self.targets.iter(thread) {
-            if predicate(self, &self.successor_use(place)) {
+            if self.chooses_successor(place, predicate) {
                 chosen.push(place)?;
             }
         }
         Ok(chosen)
+    }
+
+    /// What the predicate answers about the edge at a place of successors.
+    fn chooses_successor<F: Fn(&Program<O, B>, &Use<Ptr<BasicBlock>>) -> bool>(
+        &self,
+        place: usize,
+        predicate: &F,
+    ) -> bool
+        requires place { IsPlace self.now.targets place }
+        requires callable { F.IsAlwaysCallable predicate.now }
+        ensures { MayAnswerOfUse F.Fn predicate.now self.now (successor_use self.now place) result }
+    {
+        predicate(self, &self.successor_use(place))
     }
 }

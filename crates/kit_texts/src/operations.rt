@@ -48,6 +48,20 @@ fn add_entry<D: Dialects<OpKind = KitOp, Attr = KitAttr, TypeKey = KitType>>(
     Ok(())
 }
 
+/// Attributes of one entry.
+fn one_entry<D: Dialects<OpKind = KitOp, Attr = KitAttr, TypeKey = KitType>>(
+    alloc: Global,
+    key: &str,
+    attr: KitAttr,
+) -> Result<AttributeDict<D>, AllocError>
+    requires { is_identifier key.now ≡ true }
+    ensures { IfOk result (λ attributes. attributes ≡ with_attribute [] key.now attr) }
+{
+    let mut attributes = AttributeDict::new(alloc);
+    add_entry(alloc, &mut attributes, key, attr)?;
+    Ok(attributes)
+}
+
 fn draft<D: DialectTables<OpKind = KitOp, Attr = KitAttr, TypeKey = KitType>>(
     attributes: AttributeDict<D>,
     result_types: Vec<TypeHandle>,
@@ -75,8 +89,7 @@ fn make_module<D: DialectTables<OpKind = KitOp, Attr = KitAttr, TypeKey = KitTyp
         return Err(MakeFault::Refused(0));
     };
     let name = KitAttr::Identifier(name.try_clone()?);
-    let mut attributes = AttributeDict::new(alloc);
-    add_entry(alloc, &mut attributes, keys::SYMBOL_NAME, name)?;
+    let attributes = one_entry(alloc, keys::SYMBOL_NAME, name)?;
     Ok(draft(attributes, Vec::new(alloc)))
 }
 
@@ -94,8 +107,7 @@ fn make_function<D: DialectTables<OpKind = KitOp, Attr = KitAttr, TypeKey = KitT
         return Err(MakeFault::Refused(0));
     };
     let name = KitAttr::Identifier(name.try_clone()?);
-    let mut attributes = AttributeDict::new(alloc);
-    add_entry(alloc, &mut attributes, keys::SYMBOL_NAME, name)?;
+    let mut attributes = one_entry(alloc, keys::SYMBOL_NAME, name)?;
     add_entry(
         alloc,
         &mut attributes,
@@ -147,9 +159,8 @@ fn make_constant<D: DialectTables<OpKind = KitOp, Attr = KitAttr, TypeKey = KitT
         integer: integer.integer,
         bits: integer.bits,
     });
-    let mut attributes = AttributeDict::new(alloc);
-    add_entry(alloc, &mut attributes, keys::CONSTANT_VALUE, value)?;
     let result_types = vec![in alloc; ty]?;
+    let attributes = one_entry(alloc, keys::CONSTANT_VALUE, value)?;
     Ok(draft(attributes, result_types))
 }
 

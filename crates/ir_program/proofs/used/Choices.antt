@@ -27,9 +27,17 @@ module _ {K : Type 0} (u : Uses K) (d : ℕ) (answers : ℕ → Bool → Type 0)
     answered = λ q names h. absurd (both_ways (has q all) h ((uses.exact q).1 names));
   }
 
+  -- once none is left, each was asked about
+  pub choosing-all : (rest chosen : List ℕ) → rest ≡ [] → IsChoosing u d answers rest chosen → (q : ℕ) → NamesDefinition u q d → answers q (has q chosen)
+  choosing-all rest chosen e so_far q names = so_far.answered q names (ap (has q) e)
+
   module _ (p : ℕ) (rest chosen : List ℕ) (so_far : IsChoosing u d answers (p ∷ rest) chosen) where
     here : has p (p ∷ rest) ≡ true
     here = ap (λ b. b || has p rest) (eq-eqb p p refl)
+
+    -- the next place names the definition
+    pub choosing-next : NamesDefinition u p d
+    choosing-next = so_far.left p here
 
     there : (q : ℕ) → q ≢ p → has q (p ∷ rest) ≡ has q rest
     there q ne = ap (λ b. b || has q rest) (ne_eqb q p ne)

@@ -9,4 +9,4 @@ use Rattle.kit_texts.proofs.operations.make_constant.Goals as goal
 pub returns-clause-made : goal.returns-clause-made
 returns-clause-made g c =
     drafted Value c.args.parts.now c.args.ctx.now.types.keys c.type_of_integer.new.ctx.types.keys _ _ _ _ (constant_made c.args.parts.now c.in-Some.integer c.args.ctx.now.types.keys c.type_of_integer.new.ctx.types.keys c.in_ok-ty.ty (sym c.in-Some.ensures) c.in_ok-ty.ensures.handle (λ ty k e. (c.type_of_integer.ensures.types ty k e).0))
-    (c.draft.ensures.attributes ∙ (c.in_ok-add_entry.ensures ∙ ap (λ entries. with_attribute entries constant_value (attrs.Integer (of_type c.in_ok-ty.ty c.in-Some.integer))) c.new-attributes.ensures)) (ap (λ v. v.items) c.draft.ensures.types ∙ c.in_ok-result_types.ensures.items)
+    (c.draft.ensures.attributes ∙ c.in_ok-attributes.ensures) (ap (λ v. v.items) c.draft.ensures.types ∙ c.in_ok-result_types.ensures.items)

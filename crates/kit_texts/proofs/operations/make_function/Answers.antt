@@ -8,5 +8,5 @@ use Rattle.kit_texts.proofs.operations.make_function.Goals as goal
 
 pub returns-clause-made : goal.returns-clause-made
 returns-clause-made g c = λ types. drafted TypedRegion c.args.parts.now types types _ _ _ _ (function_made c.args.parts.now c.in-Some.name.now c.in_ok-try_clone.field-0 c.in-Some.ty types (sym c.in-Some.ensures) c.in_ok-try_clone.ensures)
-    (c.draft.ensures.attributes ∙ (c.in_ok-add_entry-2.ensures ∙ ap (λ entries. with_attribute entries function_type (attrs.«Type» c.in-Some.ty)) (c.in_ok-add_entry.ensures ∙ ap (λ entries. with_attribute entries symbol_name (attrs.Identifier c.in_ok-try_clone.field-0)) c.new-attributes.ensures)))
+    (c.draft.ensures.attributes ∙ (c.in_ok-add_entry.ensures ∙ ap (λ entries. with_attribute entries function_type (attrs.«Type» c.in-Some.ty)) c.in_ok-attributes.ensures))
     (ap (λ v. v.items) c.draft.ensures.types ∙ c.new.ensures.items)

@@ -1,8 +1,12 @@
-use Rattle.std.proofs.Common.{◌≡◌, ℕ, List, cond, subst}
+use Rattle.std.proofs.Common.{◌≡◌, ℕ, List, true, cond, refl, sym, ap, subst}
 use Rattle.ir_entities.specs.Links.{has}
-use Rattle.ir_entities.specs.Uses.{place_of, naming}
+use Rattle.ir_entities.specs.Uses.{Uses, key_of, place_of, naming, IsPlace, IsDefined}
+use Rattle.ir_program.specs.Program.{Program}
 use Rattle.ir_program.specs.Replacing.{MayAnswerOfUse}
+use Rattle.ir_program.specs.declared.handles.Value.{Value}
 use Rattle.ir_program.proofs.used.Renaming.{chosen-sound, chosen-seen}
+use Rattle.ir_program.proofs.made.Lent.{some_is}
+use Rattle.ir_program.proofs.used.NamedUses.{named-place}
 use Rattle.ir_program.proofs.program.Program.replace_some_uses.Goals as goal
 
 pub invariant_of-self : goal.invariant_of-self
@@ -15,3 +19,19 @@ returns-clause-replaced g c =
     chosen-seen _ c.args.self.now c.self.view_is c.self.invariant c.rename_each.new.uses c.rename_each.ensures.definitions c.thread-to.result c.in_ok-chosen.chosen.items renames
     c.know_named.ensures c.thread-from.result c.args.value c.args.other (λ y. MayAnswerOfUse g.F.Fn c.args.predicate y)
     c.thread-from.ensures c.thread-to.ensures c.in_ok-chosen.ensures.among c.in_ok-chosen.ensures.answered
+
+pub choose_operands-requires : goal.choose_operands-requires
+choose_operands-requires g c = record {
+  thread = some_is (key_of c.args.self.now.values c.thread-from.result) c.args.value c.thread-from.ensures;
+  callable = c.requires.callable;
+}
+
+pub rename_each-requires : goal.rename_each-requires
+rename_each-requires g c =
+    let same = sym (ap (λ (p : Program g.row.O.Denot g.row.B.Denot). p.values) c.self.view_is) in record {
+      places = λ q h. subst (λ (u : Uses (Value)). IsPlace u q) same (named-place c.args.self.now.values q c.thread-from.result (c.in_ok-chosen.ensures.among q (subst (λ (places : List ℕ). has q places ≡ true) c.deref.ensures.value h)));
+      definition = subst (λ (u : Uses (Value)). IsDefined u c.thread-to.result) same (some_is (key_of c.args.self.now.values c.thread-to.result) c.args.other c.thread-to.ensures);
+    }
+
+pub returns-clause-values : goal.returns-clause-values
+returns-clause-values g c = rw (← c.self.view_is) (record { types = λ v. refl; counter = refl })
