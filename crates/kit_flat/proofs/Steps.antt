@@ -9,7 +9,7 @@ use Rattle.kit_ops.specs.declared.kinds.Comparison.{Comparison}
 use Rattle.kit_flat.specs.Machine.{MachineOp, Code, MachineFrame, MachineState, Going, Ended, Trapped}
 use Rattle.kit_flat.specs.Machine.{MachineEffect, Next, Stays, arguments_of, operations_from, rest_of, effect}
 use Rattle.kit_flat.specs.Machine.{after, returned, bind, bind_all, next, follow, with_result, chosen}
-use Rattle.kit_flat.specs.Machine.{first_frame, resumed, results_of, step}
+use Rattle.kit_flat.specs.Machine.{first_frame, entered, on_top, resumed, results_of, step}
 use Rattle.kit_ops.specs.Arithmetic.{calc, compare, bit}
 use Rattle.kit_flat.specs.declared.flat.FlatEdge.{FlatEdge}
 use Rattle.kit_flat.specs.declared.flat.Instruction.{Instruction}
@@ -21,9 +21,16 @@ use Rattle.kit_flat.specs.declared.interpreter.Running.{Running}
 use Rattle.kit_flat.specs.declared.interpreter.Turn.TheVariants.{On}
 use Rattle.kit_flat.specs.View.{edge_view, op_view, block_view, block_in, flat_code, count_of, numbers_of, frame_view, state_view}
 use Rattle.kit_flat.specs.Sound.{FlatFunctionsFit, InstructionFits, Fetched, IsActive, IsAtInstruction, IsRunning, instruction_in, results_named}
-use Rattle.kit_flat.specs.Shows.{TurnShows, FollowsEdge}
+use Rattle.kit_flat.specs.Shows.{TurnShows, BindsNumber, along}
 use Rattle.kit_flat.proofs.Binds.{bind_set}
 use Rattle.kit_flat.proofs.Places.{rest_at, rest_none}
+
+-- the frame on top went along an edge, and all else stays
+pub record FollowsEdge (fs : List FlatFunction) (r t : Running) (e : FlatEdge) : Type 0 where
+  pub goes : frame_view t.top ≡ follow nat_eq (flat_code fs) (frame_view r.top) (edge_view e)
+  pub active : IsActive fs t.top
+  pub waiting_same : t.waiting.items ≡ r.waiting.items
+  pub emissions_same : t.emissions.items ≡ r.emissions.items
 
 module _ (fs : List FlatFunction) where
   abbrev P : Code ℕ ℕ ℕ
@@ -65,13 +72,13 @@ module _ (fs : List FlatFunction) where
     abbrev then : MachineEffect ℕ ℕ ℕ → MachineState ℕ ℕ ℕ
     then = after nat_eq P (frame_view r.top) Gs r.emissions.items
 
-    step_at : (x : Instruction) → Fetched fs r.top (Some x) → S ≡ then
+    pub step_at : (x : Instruction) → Fetched fs r.top (Some x) → S ≡ then
         (effect nat_eq P (frame_view r.top) (op_view x ∷ rest r.top))
     step_at x at = ap then (effect_at r.top x at)
 
-    on : (t : Running) (g : MachineFrame ℕ ℕ ℕ) (out : List ℕ) → S ≡ Going (g ∷ Gs) out → g ≡ frame_view t.top
-        → IsActive fs t.top → t.waiting.items ≡ r.waiting.items → t.emissions.items ≡ out → TurnShows fs S t On
-    on t g out s e h w o = (
+    on : (state : MachineState ℕ ℕ ℕ) (t : Running) (g : MachineFrame ℕ ℕ ℕ) (out : List ℕ) → state ≡ Going (g ∷ Gs) out → g ≡ frame_view t.top
+        → IsActive fs t.top → t.waiting.items ≡ r.waiting.items → t.emissions.items ≡ out → TurnShows fs state t On
+    on state t g out s e h w o = (
       s ∙ (λ i. Going (e i ∷ map frame_view (reverse (sym w i))) (sym o i)),
       record { top_active = h; all_waiting = subst (All (IsAtInstruction fs)) (sym w) running.all_waiting },
     )
@@ -83,30 +90,22 @@ module _ (fs : List FlatFunction) where
     set_turn : (x : Instruction) → Fetched fs r.top (Some x) → (v n : ℕ)
         → effect nat_eq P (frame_view r.top) (op_view x ∷ rest r.top) ≡ Next
         (next (frame_view r.top) (bind nat_eq (numbers_of r.top.values.items) v n)) → v < length r.top.values.items
-        → (t : Running) → t.top.function ≡ r.top.function → t.top.block ≡ r.top.block
-        → t.top.index ≡ r.top.index + 1 → t.top.values.items ≡ set r.top.values.items v n
-        → t.waiting.items ≡ r.waiting.items → t.emissions.items ≡ r.emissions.items → TurnShows fs S t On
-    set_turn x at v n d h t f b i e w o =
-        let same : numbers_of t.top.values.items ≡ bind nat_eq (numbers_of r.top.values.items) v n = ap numbers_of e
+        → (t : Running) → BindsNumber r t v n → TurnShows fs S t On
+    set_turn x at v n d h t t_is =
+        let same : numbers_of t.top.values.items ≡ bind nat_eq (numbers_of r.top.values.items) v n = ap numbers_of t_is.bound
         ∙ bind_set r.top.values.items v n h in
-        on t (next (frame_view r.top) (bind nat_eq (numbers_of r.top.values.items) v n)) r.emissions.items
+        on S t (next (frame_view r.top) (bind nat_eq (numbers_of r.top.values.items) v n)) r.emissions.items
         (step_at x at ∙ ap then d)
-        (next_frame r.top t.top (bind nat_eq (numbers_of r.top.values.items) v n) f b i same)
-        (still_active r.top t.top running.top_active f (ap length e ∙ length-set r.top.values.items v n))
-        w
-        o
+        (next_frame r.top t.top (bind nat_eq (numbers_of r.top.values.items) v n) t_is.function_same t_is.block_same t_is.index_next same)
+        (still_active r.top t.top running.top_active t_is.function_same (ap length t_is.bound ∙ length-set r.top.values.items v n))
+        t_is.waiting_same
+        t_is.emissions_same
 
-    pub constant_turn : (v n : ℕ) → Fetched fs r.top (Some (Constant v n)) → (t : Running)
-        → t.top.function ≡ r.top.function → t.top.block ≡ r.top.block → t.top.index ≡ r.top.index + 1
-        → t.top.values.items ≡ set r.top.values.items v n → t.waiting.items ≡ r.waiting.items
-        → t.emissions.items ≡ r.emissions.items → TurnShows fs S t On
+    pub constant_turn : (v n : ℕ) → Fetched fs r.top (Some (Constant v n)) → (t : Running) → BindsNumber r t v n → TurnShows fs S t On
     constant_turn v n at = set_turn (Constant v n) at v n refl at.fits.0
 
     pub calculate_turn : (k : Arithmetic) (w v x y n : ℕ) → Fetched fs r.top (Some (Calculate k w v x y))
-        → calc k w (get_or r.top.values.items x 0) (get_or r.top.values.items y 0) ≡ Some n → (t : Running)
-        → t.top.function ≡ r.top.function → t.top.block ≡ r.top.block → t.top.index ≡ r.top.index + 1
-        → t.top.values.items ≡ set r.top.values.items v n → t.waiting.items ≡ r.waiting.items
-        → t.emissions.items ≡ r.emissions.items → TurnShows fs S t On
+        → calc k w (get_or r.top.values.items x 0) (get_or r.top.values.items y 0) ≡ Some n → (t : Running) → BindsNumber r t v n → TurnShows fs S t On
     calculate_turn k w v x y n at e = set_turn (Calculate k w v x y) at v n
         (ap (with_result nat_eq (frame_view r.top) v) e) at.fits.0.1
 
@@ -117,10 +116,7 @@ module _ (fs : List FlatFunction) where
         ∙ ap (λ o. then (with_result nat_eq (frame_view r.top) v o)) e
 
     pub compare_turn : (k : Comparison) (v x y n : ℕ) → Fetched fs r.top (Some (Compare k v x y))
-        → bit (compare k (get_or r.top.values.items x 0) (get_or r.top.values.items y 0)) ≡ n → (t : Running)
-        → t.top.function ≡ r.top.function → t.top.block ≡ r.top.block → t.top.index ≡ r.top.index + 1
-        → t.top.values.items ≡ set r.top.values.items v n → t.waiting.items ≡ r.waiting.items
-        → t.emissions.items ≡ r.emissions.items → TurnShows fs S t On
+        → bit (compare k (get_or r.top.values.items x 0) (get_or r.top.values.items y 0)) ≡ n → (t : Running) → BindsNumber r t v n → TurnShows fs S t On
     compare_turn k v x y n at e = set_turn (Compare k v x y) at v n
         (ap (λ m. Next (next (frame_view r.top) (bind nat_eq (numbers_of r.top.values.items) v m))) e) at.fits.0.0
 
@@ -129,7 +125,7 @@ module _ (fs : List FlatFunction) where
         → t.waiting.items ≡ r.waiting.items → t.emissions.items ≡ r.emissions.items ++ get_or r.top.values.items x 0
         ∷ [] → TurnShows fs S t On
     emit_turn x at t f b i e w o =
-        on t (next (frame_view r.top) (numbers_of r.top.values.items))
+        on S t (next (frame_view r.top) (numbers_of r.top.values.items))
         (r.emissions.items ++ get_or r.top.values.items x 0 ∷ [])
         (step_at (Emit x) at)
         (next_frame r.top t.top (numbers_of r.top.values.items) f b i (ap numbers_of e))
@@ -137,51 +133,35 @@ module _ (fs : List FlatFunction) where
         w
         o
 
-    pub br_turn : (e : FlatEdge) → Fetched fs r.top (Some (Br e)) → (t : Running) → FollowsEdge fs r t e
-        → TurnShows fs S t On
-    br_turn e at t h = on t (follow nat_eq P (frame_view r.top) (edge_view e)) r.emissions.items (step_at (Br e) at)
+    pub goes_along : (t : Running) (e : FlatEdge) → FollowsEdge fs r t e → TurnShows fs (along fs r e) t On
+    goes_along t e h = on (along fs r e) t (follow nat_eq P (frame_view r.top) (edge_view e)) r.emissions.items refl
         (sym h.goes) h.active h.waiting_same h.emissions_same
 
-    taken_is : (n : ℕ) (a b : FlatEdge) → n ≢ 0 → chosen n (edge_view b) (edge_view a) ≡ edge_view a
-    taken_is zero a b h = absurd (h refl)
-    taken_is (suc n) a b h = refl
+    chosen_view : (n : ℕ) (a b : FlatEdge) → chosen n (edge_view b) (edge_view a) ≡ edge_view (chosen n b a)
+    chosen_view zero a b = refl
+    chosen_view (suc n) a b = refl
 
-    pub taken_turn : (x : ℕ) (a b : FlatEdge) → Fetched fs r.top (Some (CondBr x a b))
-        → get_or r.top.values.items x 0 ≢ 0 → (t : Running) → FollowsEdge fs r t a → TurnShows fs S t On
-    taken_turn x a b at n t h =
-        on t (follow nat_eq P (frame_view r.top) (edge_view a)) r.emissions.items
-        (step_at (CondBr x a b) at ∙ ap (λ e. Going (follow nat_eq P (frame_view r.top) e ∷ Gs) r.emissions.items)
-        (taken_is (get_or r.top.values.items x 0) a b n))
-        (sym h.goes)
-        h.active
-        h.waiting_same
-        h.emissions_same
+    pub branch_at : (x : ℕ) (a b : FlatEdge) → Fetched fs r.top (Some (CondBr x a b))
+        → S ≡ along fs r (chosen (numbers_of r.top.values.items x) b a)
+    branch_at x a b at = step_at (CondBr x a b) at
+        ∙ ap (λ e. Going (follow nat_eq P (frame_view r.top) e ∷ Gs) r.emissions.items)
+        (chosen_view (numbers_of r.top.values.items x) a b)
 
-    pub otherwise_turn : (x : ℕ) (a b : FlatEdge) → Fetched fs r.top (Some (CondBr x a b))
-        → get_or r.top.values.items x 0 ≡ 0 → (t : Running) → FollowsEdge fs r t b → TurnShows fs S t On
-    otherwise_turn x a b at n t h =
-        on t (follow nat_eq P (frame_view r.top) (edge_view b)) r.emissions.items
-        (step_at (CondBr x a b) at ∙ ap (λ k. Going
-        (follow nat_eq P (frame_view r.top) (chosen k (edge_view b) (edge_view a)) ∷ Gs) r.emissions.items) n)
-        (sym h.goes)
-        h.active
-        h.waiting_same
-        h.emissions_same
+    pub call_at : (rs xs : Vec ℕ Global) (g : ℕ) (operands : List ℕ) → Fetched fs r.top (Some (Call rs g xs))
+        → operands ≡ xs.items
+        → S ≡ on_top (entered nat_eq P g (map (numbers_of r.top.values.items) operands)) (frame_view r.top ∷ Gs) r.emissions.items
+    call_at rs xs g operands at e = step_at (Call rs g xs) at
+        ∙ ap (λ l. on_top (entered nat_eq P g (map (numbers_of r.top.values.items) l)) (frame_view r.top ∷ Gs) r.emissions.items) (sym e)
 
-    pub call_turn : (rs xs : Vec ℕ Global) (g : ℕ) → Fetched fs r.top (Some (Call rs g xs)) → (t : Running)
-        → frame_view t.top ≡ first_frame nat_eq P g (map (numbers_of r.top.values.items) xs.items) 0
-        → IsActive fs t.top → t.waiting.items ≡ r.waiting.items ++ r.top ∷ []
-        → t.emissions.items ≡ r.emissions.items → TurnShows fs S t On
-    call_turn rs xs g at t e h w o =
+    pub calls : (g : ℕ) (operands : List ℕ) → IsAtInstruction fs r.top → (t : Running)
+        → frame_view t.top ≡ first_frame nat_eq P g (map (numbers_of r.top.values.items) operands) 0
+        → IsActive fs t.top → t.waiting.items ≡ r.waiting.items ++ r.top ∷ [] → t.emissions.items ≡ r.emissions.items
+        → TurnShows fs
+        (on_top (entered nat_eq P g (map (numbers_of r.top.values.items) operands)) (frame_view r.top ∷ Gs) r.emissions.items) t On
+    calls g operands here t e h w o =
         let ws = ap (λ l. map frame_view (reverse l)) w ∙ ap (map frame_view)
-        (reverse-append r.waiting.items (r.top ∷ [])) in
-        let here : IsAtInstruction fs r.top = record {
-          active = running.top_active;
-          instruction = Call rs g xs;
-          here =
-              at.here;
-        } in (
-          step_at (Call rs g xs) at ∙ (λ i. Going (sym e i ∷ sym ws i) (sym o i)),
+        (reverse-append r.waiting.items (r.top ∷ [])) in (
+          (λ i. Going (sym e i ∷ sym ws i) (sym o i)),
           record {
             top_active = h;
             all_waiting = subst (All (IsAtInstruction fs)) (sym w)
@@ -189,21 +169,22 @@ module _ (fs : List FlatFunction) where
           },
         )
 
-    pub over_turn : (xs : Vec ℕ Global) → Fetched fs r.top (Some (Return xs)) → r.waiting.items ≡ []
-        → S ≡ Ended (map (numbers_of r.top.values.items) xs.items) r.emissions.items
-    over_turn xs at w = step_at (Return xs) at ∙ ap
-        (λ l. returned nat_eq P (map frame_view (reverse l)) (map (numbers_of r.top.values.items) xs.items)
-        r.emissions.items) w
+    pub return_at : (xs : Vec ℕ Global) (values : List ℕ) → Fetched fs r.top (Some (Return xs)) → values ≡ xs.items
+        → S ≡ returned nat_eq P Gs (map (numbers_of r.top.values.items) values) r.emissions.items
+    return_at xs values at e = step_at (Return xs) at
+        ∙ ap (λ l. returned nat_eq P Gs (map (numbers_of r.top.values.items) l) r.emissions.items) (sym e)
 
-    pub return_turn : (xs : Vec ℕ Global) → Fetched fs r.top (Some (Return xs)) → (t : Running) (a : FlatFrame)
-        → r.waiting.items ≡ t.waiting.items ++ a ∷ [] → frame_view t.top ≡ resumed nat_eq P (frame_view a)
-        (map (numbers_of r.top.values.items) xs.items) → IsActive fs t.top → t.emissions.items ≡ r.emissions.items
-        → TurnShows fs S t On
-    return_turn xs at t a w e h o =
+    pub over : (ns : List ℕ) → r.waiting.items ≡ [] → returned nat_eq P Gs ns r.emissions.items ≡ Ended ns r.emissions.items
+    over ns w = ap (λ l. returned nat_eq P (map frame_view (reverse l)) ns r.emissions.items) w
+
+    pub return_turn : (ns : List ℕ) (t : Running) (a : FlatFrame) → r.waiting.items ≡ t.waiting.items ++ a ∷ []
+        → frame_view t.top ≡ resumed nat_eq P (frame_view a) ns → IsActive fs t.top
+        → t.emissions.items ≡ r.emissions.items
+        → TurnShows fs (returned nat_eq P Gs ns r.emissions.items) t On
+    return_turn ns t a w e h o =
         let ws = ap (λ l. map frame_view (reverse l)) w ∙ ap (map frame_view)
         (reverse-append t.waiting.items (a ∷ [])) in (
-          step_at (Return xs) at
-              ∙ ap (λ l. returned nat_eq P l (map (numbers_of r.top.values.items) xs.items) r.emissions.items) ws
+          ap (λ l. returned nat_eq P l ns r.emissions.items) ws
               ∙ (λ i. Going (sym e i ∷ map frame_view (reverse t.waiting.items)) (sym o i)),
           record {
             top_active = h;

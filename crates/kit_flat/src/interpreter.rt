@@ -1,9 +1,9 @@
 //! The machine: steps over the flat form, with the frames on a stack of their own.
-ghost use Rattle.std.specs.Prelude.{◌≡◌, ◌<◌, Some, length, map, nat_eq, slice_get, option_copied, option_map, IfOk, OnOk};
-ghost use Rattle.kit_flat.specs.Machine.{bind_all, arguments_of, first_frame, resumed, step, run, start};
+ghost use Rattle.std.specs.Prelude.{◌≡◌, ◌∷◌, ◌-◌, ◌^◌, ◌<◌, Some, length, map, reverse, nat_eq, slice_get, option_copied, option_map, IfOk, OnOk};
+ghost use Rattle.kit_flat.specs.Machine.{bind_all, arguments_of, first_frame, chosen, entered, on_top, resumed, returned, step, run, start};
 ghost use Rattle.kit_flat.specs.View.{numbers_of, block_view, block_in, flat_code, frame_view, state_view};
-ghost use Rattle.kit_flat.specs.Sound.{EdgeOperandsFit, ArgumentsFit, Fetched, results_named, FlatFunctionsFit, IsActive, IsAtInstruction, IsRunning};
-ghost use Rattle.kit_flat.specs.Shows.{TurnShows, FollowsEdge, OutcomeShows};
+ghost use Rattle.kit_flat.specs.Sound.{AreBelow, EdgeOperandsFit, ArgumentsFit, Fetched, results_named, FlatFunctionsFit, IsActive, IsAtInstruction, IsRunning};
+ghost use Rattle.kit_flat.specs.Shows.{TurnShows, BindsNumber, OutcomeShows, along};
 
 use crate::flat::{FlatEdge, FlatFunction, FlatModule, Instruction};
 use crate::frames::{FlatFrame, bind_list, gather};
@@ -146,8 +146,7 @@ impl Running {
         };
         match instruction {
             Instruction::Constant { result, number } => {
-                self.top.values[*result] = *number;
-                self.top.index += 1;
+                self.bind(*result, *number);
                 Ok(Turn::On)
             }
             Instruction::Calculate {
@@ -160,8 +159,7 @@ impl Running {
                 match function.calculate(*width, self.top.values[*left], self.top.values[*right]) {
                     None => Ok(Turn::Failed),
                     Some(number) => {
-                        self.top.values[*result] = number;
-                        self.top.index += 1;
+                        self.bind(*result, number);
                         Ok(Turn::On)
                     }
                 }
@@ -172,11 +170,8 @@ impl Running {
                 left,
                 right,
             } => {
-                self.top.values[*result] = function.bit(
-                    self.top.values[*left],
-                    self.top.values[*right],
-                );
-                self.top.index += 1;
+                let bit = function.bit(self.top.values[*left], self.top.values[*right]);
+                self.bind(*result, bit);
                 Ok(Turn::On)
             }
             Instruction::Emit(value) => {
@@ -188,66 +183,119 @@ impl Running {
                 callee,
                 operands,
                 ..
-            } => {
-                gather(
-                    &mut self.scratch,
-                    self.top.values.as_slice(),
-                    operands.as_slice(),
-                )?;
-                let entered = enter(alloc, code, *callee, self.scratch.as_slice())?;
-                let caller = mem::replace(&mut self.top, entered);
-                self.waiting.push(caller)?;
-                Ok(Turn::On)
-            }
-            Instruction::Br(edge) => {
-                self.follow(code, edge)?;
-                Ok(Turn::On)
-            }
+            } => self.call(alloc, code, *callee, operands.as_slice()),
+            Instruction::Br(edge) => self.follow(code, edge),
             Instruction::CondBr {
                 condition,
                 taken,
                 otherwise,
-            } => {
-                if self.top.values[*condition] == 0 {
-                    self.follow(code, otherwise)?;
-                    return Ok(Turn::On);
-                }
-                self.follow(code, taken)?;
-                Ok(Turn::On)
+            } => self.branch(code, *condition, taken, otherwise),
+            Instruction::Return(values) => self.leave(alloc, code, values.as_slice()),
+        }
+    }
+
+    /// Binds a value to a number, and goes on to the next instruction.
+    #[inline]
+    fn bind(&mut self, value: usize, number: u64)
+        requires within { value < length self.old.top.values.items }
+        requires more { self.old.top.index < 2 ^ 64 - 1 }
+        ensures { BindsNumber self.old self.new value number }
+    {
+        self.top.values[value] = number;
+        self.top.index += 1;
+    }
+
+    /// A function is called with the numbers of values: its frame is on top, and the one that was waits.
+    #[inline]
+    fn call(
+        &mut self,
+        alloc: Global,
+        code: &FlatModule,
+        callee: usize,
+        operands: &[usize],
+    ) -> Result<Turn, AllocError>
+        requires sound { FlatFunctionsFit code.now.functions.items }
+        requires running { IsRunning code.now.functions.items self.old }
+        requires waits { IsAtInstruction code.now.functions.items self.old.top }
+        requires within { callee < length code.now.functions.items }
+        requires operands { AreBelow (length self.old.top.values.items) operands.now }
+        ensures { IfOk result (TurnShows code.now.functions.items
+            (on_top (entered nat_eq (flat_code code.now.functions.items) callee
+            (map (numbers_of self.old.top.values.items) operands.now))
+            (frame_view self.old.top ∷ map frame_view (reverse self.old.waiting.items)) self.old.emissions.items) self.new) }
+    {
+        gather(&mut self.scratch, self.top.values.as_slice(), operands)?;
+        let entered = enter(alloc, code, callee, self.scratch.as_slice())?;
+        let caller = mem::replace(&mut self.top, entered);
+        self.waiting.push(caller)?;
+        Ok(Turn::On)
+    }
+
+    /// The function that runs is left with the numbers of values.
+    #[inline]
+    fn leave(
+        &mut self,
+        alloc: Global,
+        code: &FlatModule,
+        values: &[usize],
+    ) -> Result<Turn, AllocError>
+        requires sound { FlatFunctionsFit code.now.functions.items }
+        requires running { IsRunning code.now.functions.items self.old }
+        requires values { AreBelow (length self.old.top.values.items) values.now }
+        ensures { IfOk result (TurnShows code.now.functions.items
+            (returned nat_eq (flat_code code.now.functions.items) (map frame_view (reverse self.old.waiting.items))
+            (map (numbers_of self.old.top.values.items) values.now) self.old.emissions.items) self.new) }
+    {
+        gather(&mut self.scratch, self.top.values.as_slice(), values)?;
+        match self.waiting.pop() {
+            None => {
+                let numbers = mem::replace(&mut self.scratch, Vec::new(alloc));
+                Ok(Turn::Over(numbers))
             }
-            Instruction::Return(values) => {
-                gather(
-                    &mut self.scratch,
-                    self.top.values.as_slice(),
-                    values.as_slice(),
-                )?;
-                match self.waiting.pop() {
-                    None => {
-                        let numbers = Vec::from_slice(alloc, self.scratch.as_slice())?;
-                        Ok(Turn::Over(numbers))
-                    }
-                    Some(caller) => {
-                        self.top = caller;
-                        resume(&mut self.top, code, self.scratch.as_slice());
-                        Ok(Turn::On)
-                    }
-                }
+            Some(caller) => {
+                self.top = caller;
+                resume(&mut self.top, code, self.scratch.as_slice());
+                Ok(Turn::On)
             }
         }
     }
 
+    /// Along the second edge if the condition is 0, else along the first.
+    #[inline]
+    fn branch(
+        &mut self,
+        code: &FlatModule,
+        condition: usize,
+        taken: &FlatEdge,
+        otherwise: &FlatEdge,
+    ) -> Result<Turn, AllocError>
+        requires sound { FlatFunctionsFit code.now.functions.items }
+        requires running { IsRunning code.now.functions.items self.old }
+        requires within { condition < length self.old.top.values.items }
+        requires taken { EdgeOperandsFit (length self.old.top.values.items) taken.now }
+        requires otherwise { EdgeOperandsFit (length self.old.top.values.items) otherwise.now }
+        ensures { IfOk result (TurnShows code.now.functions.items (along code.now.functions.items self.old
+            (chosen (numbers_of self.old.top.values.items condition) otherwise.now taken.now)) self.new) }
+    {
+        if self.top.values[condition] == 0 {
+            self.follow(code, otherwise)
+        } else {
+            self.follow(code, taken)
+        }
+    }
+
     /// To the first instruction of the block that a branch leads to.
-    fn follow(&mut self, code: &FlatModule, edge: &FlatEdge) -> Result<(), AllocError>
+    fn follow(&mut self, code: &FlatModule, edge: &FlatEdge) -> Result<Turn, AllocError>
         requires sound { FlatFunctionsFit code.now.functions.items }
         requires running { IsRunning code.now.functions.items self.old }
         requires edge { EdgeOperandsFit (length self.old.top.values.items) edge.now }
-        ensures { OnOk result (FollowsEdge code.now.functions.items self.old self.new edge.now) }
+        ensures { IfOk result (TurnShows code.now.functions.items (along code.now.functions.items self.old edge.now) self.new) }
     {
         let function = &code.functions[self.top.function];
         forward(&mut self.top.values, function, edge, &mut self.scratch)?;
         self.top.block = edge.target;
         self.top.index = 0;
-        Ok(())
+        Ok(Turn::On)
     }
 }
 

@@ -11,3 +11,4 @@ pub mod Setting
 pub mod RowsClosed
 pub mod Transport
 pub mod InRange
+pub mod Asked

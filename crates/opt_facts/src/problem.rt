@@ -1,5 +1,5 @@
 //! The problem of the most precise facts of what is inside an operation.
-ghost use Rattle.std.specs.Prelude.{◌≡◌, IfOk, IsSome};
+ghost use Rattle.std.specs.Prelude.{◌≡◌, [], IfOk, OnOk, IsSome};
 ghost use Rattle.ir_program.specs.Program.{operation_at, block_at};
 ghost use Rattle.ir_program.specs.Lists.{IsLinkedOperation};
 ghost use Rattle.ir_trees.specs.Searched.{Lists};
@@ -14,7 +14,43 @@ use opt_inside::Inside;
 use opt_solvers::{FactsProblem, OperationRows, RowBuffer};
 use std::alloc::{AllocError, Global};
 
-/// The rows of the operations inside, in their order. Each is put together in the same lists.
+/// Puts the rows of the operations inside, in their order, where there are none. Each is put together in the same lists.
+fn push_rows<D: OptDialect>(
+    alloc: Global,
+    program: &Program<D::Operation, D::Block>,
+    inside: &Inside,
+    row: &mut RowBuffer,
+    rows: &mut OperationRows,
+) -> Result<(), AllocError>
+    requires linked { (p : _) → Lists inside.now.operations.keys p → IsLinkedOperation program.now p }
+    requires none { rows.old ≡ [] }
+    ensures { OnOk result (AreRowsOfOperations D.meaning program.now
+        (numbers_of inside.now) inside.now.operations.keys rows.new) }
+{
+    for op in inside.operations.as_slice() {
+        row_of::<D>(alloc, program, inside, *op, row)?;
+        rows.push(row)?;
+    }
+    Ok(())
+}
+
+/// The same with lists of its own, in which each is put together.
+fn add_rows<D: OptDialect>(
+    alloc: Global,
+    program: &Program<D::Operation, D::Block>,
+    inside: &Inside,
+    rows: &mut OperationRows,
+) -> Result<(), AllocError>
+    requires linked { (p : _) → Lists inside.now.operations.keys p → IsLinkedOperation program.now p }
+    requires none { rows.old ≡ [] }
+    ensures { OnOk result (AreRowsOfOperations D.meaning program.now
+        (numbers_of inside.now) inside.now.operations.keys rows.new) }
+{
+    let mut row = RowBuffer::new(alloc)?;
+    push_rows::<D>(alloc, program, inside, &mut row, rows)
+}
+
+/// The rows of the operations inside, in their order.
 fn rows_of<D: OptDialect>(
     alloc: Global,
     program: &Program<D::Operation, D::Block>,
@@ -25,11 +61,7 @@ fn rows_of<D: OptDialect>(
         (numbers_of inside.now) inside.now.operations.keys rows) }
 {
     let mut rows = OperationRows::with_capacity(alloc, inside.operations.len())?;
-    let mut row = RowBuffer::new(alloc)?;
-    for op in inside.operations.as_slice() {
-        row_of::<D>(alloc, program, inside, *op, &mut row)?;
-        rows.push(&row)?;
-    }
+    add_rows::<D>(alloc, program, inside, &mut rows)?;
     Ok(rows)
 }
 
@@ -62,11 +94,11 @@ pub(crate) fn problem_of<D: OptDialect>(
     requires numbered { NumbersInside program.now op (numbers_of inside.now) }
     ensures { IfOk result (λ problem. IsFactsProblemOf D.meaning program.now op (numbers_of inside.now) problem) }
 {
-    let arguments = arguments_of_blocks(alloc, program, inside)?;
     let mut entries = Vec::new(alloc);
     entry_numbers(program, inside, op, &mut entries)?;
     let count = inside.values.as_slice().len();
     let outside = vec![in alloc; count]?;
+    let arguments = arguments_of_blocks(alloc, program, inside)?;
     let rows = rows_of::<D>(alloc, program, inside)?;
     Ok(FactsProblem {
         rows,

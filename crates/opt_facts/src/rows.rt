@@ -38,12 +38,9 @@ fn forwarded_operands<D: OptDialect>(
     ensures { IfOk result (λ indices. AreForwarded D.meaning program.now op successor indices.items) }
 {
     let count = program.operand_count(op);
-    let indices = D::successor_operands(alloc, program.payload(op), count, successor)?;
-    indices
-        .iter()
-        .copied()
-        .filter(|i| *i < count)
-        .collect(alloc)
+    let mut indices = D::successor_operands(alloc, program.payload(op), count, successor)?;
+    indices.retain(|i| *i < count);
+    Ok(indices)
 }
 
 /// How many edges an operation has: none, where it is no branch.

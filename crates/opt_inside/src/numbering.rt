@@ -2,6 +2,7 @@
 ghost use Rattle.std.specs.Prelude.{◌≡◌, ◌++◌, IsSome, IfOk, OnOk};
 ghost use Rattle.ir_program.specs.Lists.{IsLiveNode};
 ghost use Rattle.ir_program.specs.Program.{operation_at, block_at, results_at, arguments_at};
+ghost use Rattle.ir_trees.specs.Searched.{AreDistinct};
 ghost use Rattle.opt_inside.specs.Numbered.{NumbersInside, listed_in, numbers_of, values_in, with_node};
 
 use crate::numbered_list::NumberedList;
@@ -74,6 +75,43 @@ impl Entities {
             IRNode::Region(_) => Ok(()),
         }
     }
+
+    /// The same operations, blocks and values, each by the number at which it stands.
+    fn numbered(self, alloc: Global) -> Result<Inside, AllocError>
+        requires operations { AreDistinct self.operations.items }
+        requires blocks { AreDistinct self.blocks.items }
+        requires values { AreDistinct self.values.items }
+        ensures { IfOk result (λ n. numbers_of n ≡ listed_in self) }
+    {
+        let Entities {
+            operations,
+            blocks,
+            values,
+        } = self;
+        let blocks = set_of(alloc, &blocks)?;
+        let values = NumberedList::new(alloc, values)?;
+        Inside::with_operations(alloc, operations, blocks, values)
+    }
+}
+
+impl Inside {
+    /// These operations, each by the number at which it stands, beside numbered blocks and values.
+    fn with_operations(
+        alloc: Global,
+        operations: Vec<Ptr<Operation>>,
+        blocks: IndexSet<Ptr<BasicBlock>>,
+        values: NumberedList<Value>,
+    ) -> Result<Inside, AllocError>
+        requires { AreDistinct operations.items }
+        ensures { IfOk result (λ n. numbers_of n ≡ record { operations = operations.items; blocks = blocks.keys; values = values.keys }) }
+    {
+        let operations = NumberedList::new(alloc, operations)?;
+        Ok(Inside {
+            operations,
+            blocks,
+            values,
+        })
+    }
 }
 
 /// The operations, blocks and values inside an operation, in preorder.
@@ -113,10 +151,5 @@ pub fn number_inside<O, B>(
     requires { IsSome (operation_at program.now op) }
     ensures { IfOk result (λ n. NumbersInside program.now op (numbers_of n)) }
 {
-    let found = entities_inside(alloc, program, op)?;
-    Ok(Inside {
-        operations: NumberedList::new(alloc, found.operations)?,
-        blocks: set_of(alloc, &found.blocks)?,
-        values: NumberedList::new(alloc, found.values)?,
-    })
+    entities_inside(alloc, program, op)?.numbered(alloc)
 }

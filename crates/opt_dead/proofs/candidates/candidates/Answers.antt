@@ -1,7 +1,10 @@
 use Rattle.opt_inside.specs.Numbered.{numbers_of}
 use Rattle.opt_dead.specs.Problems.{IsCandidate}
-use Rattle.opt_dead.proofs.Partway.{pushed_len, item_is, rows_step}
+use Rattle.opt_dead.proofs.Partway.{pushed_len, item_is, item_at, rows_step}
 use Rattle.opt_dead.proofs.candidates.candidates.Goals as goal
+
+pub push_candidate-requires : goal.push_candidate-requires
+push_candidate-requires g c = c.requires.operations _ (c.loop-op.op-index, item_at c.as_slice-op-items.result.now c.args.inside.now.operations.keys c.loop-op.op-index _ c.as_slice-op-items.ensures.keys c.loop-op-test.true)
 
 pub loop-op-preserved : goal.loop-op-preserved
 loop-op-preserved g c =

@@ -1,7 +1,10 @@
 use Rattle.opt_inside.specs.Numbered.{numbers_of}
 use Rattle.opt_dead.specs.Problems.{IsBlockRow}
-use Rattle.opt_dead.proofs.Partway.{pushed_len, item_is, rows_step}
+use Rattle.opt_dead.proofs.Partway.{pushed_len, item_is, item_at, rows_step}
 use Rattle.opt_dead.proofs.closing.block_rows.Goals as goal
+
+pub block_row-requires : goal.block_row-requires
+block_row-requires g c = c.requires _ (c.loop-block.block-index, item_at c.as_slice-block-items.result.now c.args.inside.now.blocks.keys c.loop-block.block-index _ c.as_slice-block-items.ensures.keys c.loop-block-test.true)
 
 pub loop-block-preserved : goal.loop-block-preserved
 loop-block-preserved g c = record {

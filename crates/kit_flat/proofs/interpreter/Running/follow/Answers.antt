@@ -1,7 +1,7 @@
 use Rattle.std.proofs.Common.{◌∙◌, sym, ap, subst, refl, ℕ}
 use Rattle.std.proofs.lemmas.Option.{slice_get_read}
 use Rattle.kit_flat.proofs.Places.{arguments_fit}
-use Rattle.kit_flat.proofs.Steps.{followed}
+use Rattle.kit_flat.proofs.Steps.{followed, goes_along}
 use Rattle.kit_flat.specs.View.{count_of}
 use Rattle.kit_flat.specs.Sound.{ArgumentsFit}
 use Rattle.kit_flat.proofs.interpreter.Running.follow.Goals as goal
@@ -19,6 +19,7 @@ pub returns : goal.returns
 returns c =
     let e = slice_get_read c.args.code.now.functions.items _ c.args.self.now.top.function
     c.index-function.result.now refl c.requires.running.top_active.within c.index-function.ensures in
-    followed c.args.code.now.functions.items c.args.self.now _ c.args.edge.now c.index-function.result.now
+    goes_along c.args.code.now.functions.items c.args.self.now c.requires.running _ c.args.edge.now
+    (followed c.args.code.now.functions.items c.args.self.now _ c.args.edge.now c.index-function.result.now
     c.requires.running.top_active e refl refl refl c.in_ok-forward.ensures.bound c.in_ok-forward.ensures.len
-    refl refl
+    refl refl)

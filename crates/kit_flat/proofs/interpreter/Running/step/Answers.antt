@@ -1,12 +1,13 @@
-use Rattle.std.proofs.Common.{◌≡◌, ◌∙◌, sym, ap, subst, refl, ℕ, List, [], ◌∷◌, ◌++◌, length, map, nat_eq, Some, arith}
-use Rattle.std.proofs.lemmas.List.{get_or_read, nil_from_length}
-use Rattle.kit_flat.specs.Machine.{first_frame, resumed, Ended}
+use Rattle.std.proofs.Common.{◌≡◌, ◌∙◌, sym, ap, subst, refl, ℕ, [], ◌∷◌, ◌++◌, Some}
+use Rattle.std.specs.Prelude.{IfOk}
+use Rattle.std.proofs.lemmas.List.{get_or_read}
+use Rattle.kit_flat.specs.Machine.{MachineState}
 use Rattle.kit_ops.specs.Arithmetic.{calc, compare, bit}
-use Rattle.kit_flat.specs.View.{numbers_of, flat_code, frame_view}
-use Rattle.kit_flat.specs.Sound.{Fetched, IsActive}
+use Rattle.kit_flat.specs.Sound.{Fetched}
+use Rattle.kit_flat.specs.Shows.{TurnShows}
 use Rattle.kit_flat.specs.declared.flat.Instruction.{Instruction}
-use Rattle.kit_flat.specs.declared.frames.FlatFrame.{FlatFrame}
-use Rattle.kit_flat.proofs.Steps.{lost, constant_turn, calculate_turn, calculate_fault, compare_turn, emit_turn, br_turn, taken_turn, otherwise_turn, call_turn, over_turn, return_turn, stuck}
+use Rattle.kit_flat.specs.declared.flat.Instruction.TheVariants.{Call, Br}
+use Rattle.kit_flat.proofs.Steps.{lost, step_at, constant_turn, calculate_turn, calculate_fault, compare_turn, emit_turn, branch_at, call_at, return_at, stuck}
 use Rattle.kit_flat.proofs.interpreter.Running.step.Goals as goal
 
 pub returns-in-None : goal.returns-in-None
@@ -19,7 +20,7 @@ returns-in-Constant c =
     let at = subst (λ (o : Instruction). Fetched c.args.code.now.functions.items c.args.self.now.top (Some o))
     c.in-Constant.is c.in-Some.ensures in
     constant_turn c.args.code.now.functions.items c.args.self.now c.requires.running c.in-Constant.result
-    c.in-Constant.number at _ refl refl refl refl refl refl
+    c.in-Constant.number at _ c.bind.ensures
 
 pub returns-in-None-calculate : goal.returns-in-None-calculate
 returns-in-None-calculate c =
@@ -45,7 +46,7 @@ returns-in-Some-calculate c =
     c.in-Calculate.width c.in-Calculate.result c.in-Calculate.left c.in-Calculate.right
     c.in-Some-calculate.number at
     (sym (c.in-Some-calculate.ensures ∙ (λ i. calc c.in-Calculate.function c.in-Calculate.width (x i)
-    (y i)))) _ refl refl refl refl refl refl
+    (y i)))) _ c.bind-in-Some-calculate.ensures
 
 pub returns-in_ok-push-in-Emit : goal.returns-in_ok-push-in-Emit
 returns-in_ok-push-in-Emit c =
@@ -57,74 +58,6 @@ returns-in_ok-push-in-Emit c =
     refl refl
     (c.in_ok-push-in-Emit.ensures.items ∙ ap (λ (n : ℕ). c.args.self.now.emissions.items ++ n ∷ []) x)
 
-pub returns-in_ok-push-in-Call : goal.returns-in_ok-push-in-Call
-returns-in_ok-push-in-Call c =
-    let at = subst (λ (o : Instruction). Fetched c.args.code.now.functions.items c.args.self.now.top (Some o))
-    c.in-Call.is c.in-Some.ensures in
-    let xs = c.as_slice-in-Call-2.ensures.value ∙ c.in_ok-gather-in-Call.ensures
-    ∙ (λ i. map (numbers_of (c.as_slice.ensures.value i)) (c.as_slice-in-Call.ensures.value i)) in
-    call_turn c.args.code.now.functions.items c.args.self.now c.requires.running c.in-Call.results
-    c.in-Call.operands c.in-Call.callee at _
-    (ap frame_view c.replace-caller.ensures.after ∙ c.in_ok-entered-in-Call.ensures.enters
-    ∙ ap (λ l. first_frame nat_eq (flat_code c.args.code.now.functions.items) c.in-Call.callee l 0) xs)
-    (subst (IsActive c.args.code.now.functions.items) (sym c.replace-caller.ensures.after)
-    c.in_ok-entered-in-Call.ensures.active)
-    (c.in_ok-push-in-Call.ensures.items ∙ ap (λ (a : FlatFrame). c.args.self.now.waiting.items ++ a ∷ [])
-    c.replace-caller.ensures.value)
-    refl
-
-pub returns-in_ok-follow-in-Br : goal.returns-in_ok-follow-in-Br
-returns-in_ok-follow-in-Br c =
-    let at = subst (λ (o : Instruction). Fetched c.args.code.now.functions.items c.args.self.now.top (Some o))
-    c.in-Br.is c.in-Some.ensures in
-    br_turn c.args.code.now.functions.items c.args.self.now c.requires.running c.in-Br.edge at _
-    c.in_ok-follow-in-Br.ensures
-
-pub returns-then-index-eq0 : goal.returns-then-index-eq0
-returns-then-index-eq0 c =
-    let at = subst (λ (o : Instruction). Fetched c.args.code.now.functions.items c.args.self.now.top (Some o))
-    c.in-CondBr.is c.in-Some.ensures in
-    let x = get_or_read c.args.self.now.top.values.items c.in-CondBr.condition c.index-in-CondBr.result.now
-    at.fits.0.0 c.index-in-CondBr.ensures 0 in
-    otherwise_turn c.args.code.now.functions.items c.args.self.now c.requires.running c.in-CondBr.condition
-    c.in-CondBr.taken c.in-CondBr.otherwise at (sym x ∙ c.if-index-eq0.true) _ c.in_ok-follow-in-CondBr.ensures
-
-pub returns-in_ok-follow-in-CondBr-2 : goal.returns-in_ok-follow-in-CondBr-2
-returns-in_ok-follow-in-CondBr-2 c =
-    let at = subst (λ (o : Instruction). Fetched c.args.code.now.functions.items c.args.self.now.top (Some o))
-    c.in-CondBr.is c.in-Some.ensures in
-    let x = get_or_read c.args.self.now.top.values.items c.in-CondBr.condition c.index-in-CondBr.result.now
-    at.fits.0.0 c.index-in-CondBr.ensures 0 in
-    taken_turn c.args.code.now.functions.items c.args.self.now c.requires.running c.in-CondBr.condition
-    c.in-CondBr.taken c.in-CondBr.otherwise at (λ e. c.if-index-eq0.false (x ∙ e)) _
-    c.in_ok-follow-in-CondBr-2.ensures
-
-pub returns-in_ok-numbers-in-None-pop : goal.returns-in_ok-numbers-in-None-pop
-returns-in_ok-numbers-in-None-pop c =
-    let at = subst (λ (o : Instruction). Fetched c.args.code.now.functions.items c.args.self.now.top (Some o))
-    c.in-Return.is c.in-Some.ensures in
-    let xs = c.in_ok-gather-in-Return.ensures ∙
-    (λ i. map (numbers_of (c.as_slice-in-Return.ensures.value i)) (c.as_slice-in-Return-2.ensures.value i)) in
-    let w = c.in-None-pop.ensures.cases in
-    let n : length c.args.self.now.waiting.items ≡ 0 = omega (arith, w.0) in
-    over_turn c.args.code.now.functions.items c.args.self.now c.requires.running c.in-Return.values at
-    (nil_from_length c.args.self.now.waiting.items n)
-    ∙ ap (λ (l : List ℕ). Ended l c.args.self.now.emissions.items)
-    (sym (c.in_ok-numbers-in-None-pop.ensures.items ∙ c.as_slice-in-None-pop.ensures.value ∙ xs))
-
-pub returns-in-Some-pop : goal.returns-in-Some-pop
-returns-in-Some-pop c =
-    let at = subst (λ (o : Instruction). Fetched c.args.code.now.functions.items c.args.self.now.top (Some o))
-    c.in-Return.is c.in-Some.ensures in
-    let xs = c.as_slice-in-Some-pop.ensures.value ∙ c.in_ok-gather-in-Return.ensures
-    ∙ (λ i. map (numbers_of (c.as_slice-in-Return.ensures.value i)) (c.as_slice-in-Return-2.ensures.value i)) in
-    return_turn c.args.code.now.functions.items c.args.self.now c.requires.running c.in-Return.values at _
-    c.in-Some-pop.caller c.in-Some-pop.ensures.items
-    (c.resume.ensures.resumes ∙ ap (resumed nat_eq (flat_code c.args.code.now.functions.items)
-    (frame_view c.in-Some-pop.caller)) xs)
-    c.resume.ensures.active
-    refl
-
 pub returns-in-Compare : goal.returns-in-Compare
 returns-in-Compare c =
     let at = subst (λ (o : Instruction). Fetched c.args.code.now.functions.items c.args.self.now.top (Some o))
@@ -134,6 +67,47 @@ returns-in-Compare c =
     let y = get_or_read c.args.self.now.top.values.items c.in-Compare.right c.index-in-Compare-2.result.now
     at.fits.0.2 c.index-in-Compare-2.ensures 0 in
     compare_turn c.args.code.now.functions.items c.args.self.now c.requires.running c.in-Compare.function
-    c.in-Compare.result c.in-Compare.left c.in-Compare.right c.bit.result at
-    (sym (c.bit.ensures ∙ (λ i. bit (compare c.in-Compare.function (x i) (y i))))) _ refl refl refl refl
-    refl refl
+    c.in-Compare.result c.in-Compare.left c.in-Compare.right c.bit-bit.result at
+    (sym (c.bit-bit.ensures ∙ (λ i. bit (compare c.in-Compare.function (x i) (y i))))) _ c.bind-in-Compare.ensures
+
+pub call-requires-clause-waits : goal.call-requires-clause-waits
+call-requires-clause-waits c =
+    let at = subst (λ (o : Instruction). Fetched c.args.code.now.functions.items c.args.self.now.top (Some o))
+    c.in-Call.is c.in-Some.ensures in
+    record {
+      active = c.requires.running.top_active;
+      instruction = Call c.in-Call.results c.in-Call.callee c.in-Call.operands;
+      here = at.here;
+    }
+
+pub returns-in-Call : goal.returns-in-Call
+returns-in-Call c =
+    let at = subst (λ (o : Instruction). Fetched c.args.code.now.functions.items c.args.self.now.top (Some o))
+    c.in-Call.is c.in-Some.ensures in
+    subst (λ (s : MachineState ℕ ℕ ℕ). IfOk c.call.result (TurnShows c.args.code.now.functions.items s c.call.new.self))
+    (sym (call_at c.args.code.now.functions.items c.args.self.now c.requires.running c.in-Call.results c.in-Call.operands c.in-Call.callee _ at c.as_slice.ensures.value))
+    c.call.ensures
+
+pub returns-in-Br : goal.returns-in-Br
+returns-in-Br c =
+    let at = subst (λ (o : Instruction). Fetched c.args.code.now.functions.items c.args.self.now.top (Some o))
+    c.in-Br.is c.in-Some.ensures in
+    subst (λ (s : MachineState ℕ ℕ ℕ). IfOk c.follow.result (TurnShows c.args.code.now.functions.items s c.follow.new.self))
+    (sym (step_at c.args.code.now.functions.items c.args.self.now c.requires.running (Br c.in-Br.edge) at))
+    c.follow.ensures
+
+pub returns-in-CondBr : goal.returns-in-CondBr
+returns-in-CondBr c =
+    let at = subst (λ (o : Instruction). Fetched c.args.code.now.functions.items c.args.self.now.top (Some o))
+    c.in-CondBr.is c.in-Some.ensures in
+    subst (λ (s : MachineState ℕ ℕ ℕ). IfOk c.branch-self.result (TurnShows c.args.code.now.functions.items s c.branch-self.new.self))
+    (sym (branch_at c.args.code.now.functions.items c.args.self.now c.requires.running c.in-CondBr.condition c.in-CondBr.taken c.in-CondBr.otherwise at))
+    c.branch-self.ensures
+
+pub returns-in-Return : goal.returns-in-Return
+returns-in-Return c =
+    let at = subst (λ (o : Instruction). Fetched c.args.code.now.functions.items c.args.self.now.top (Some o))
+    c.in-Return.is c.in-Some.ensures in
+    subst (λ (s : MachineState ℕ ℕ ℕ). IfOk c.leave.result (TurnShows c.args.code.now.functions.items s c.leave.new.self))
+    (sym (return_at c.args.code.now.functions.items c.args.self.now c.requires.running c.in-Return.values _ at c.as_slice-in-Return.ensures.value))
+    c.leave.ensures

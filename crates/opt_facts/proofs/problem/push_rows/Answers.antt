@@ -5,14 +5,17 @@ use Rattle.opt_inside.specs.Numbered.{numbers_of}
 use Rattle.opt_solvers.specs.OperationRows.{Row}
 use Rattle.opt_solvers.specs.OperationColumns.{buffered}
 use Rattle.opt_facts.specs.Problem.{IsRowOfOperation, PairsByIndex}
-use Rattle.opt_facts.proofs.Lists.{at_index, paired_next, paired_all}
-use Rattle.opt_facts.proofs.problem.rows_of.Goals as goal
+use Rattle.opt_facts.proofs.Lists.{at_index, paired_none, paired_next, paired_all}
+use Rattle.opt_facts.proofs.problem.push_rows.Goals as goal
 
 pub row_of-requires-clause-live : goal.row_of-requires-clause-live
-row_of-requires-clause-live g c = (c.requires _ (c.loop-op.op-index, at_index _ _ c.loop-op.op-index _ c.as_slice-op-items.ensures.keys c.loop-op-test.true)).1.operation
+row_of-requires-clause-live g c = (c.requires.linked _ (c.loop-op.op-index, at_index _ _ c.loop-op.op-index _ c.as_slice-op-items.ensures.keys c.loop-op-test.true)).1.operation
 
 pub row_of-requires-clause-linked : goal.row_of-requires-clause-linked
-row_of-requires-clause-linked g c = c.requires _ (c.loop-op.op-index, at_index _ _ c.loop-op.op-index _ c.as_slice-op-items.ensures.keys c.loop-op-test.true)
+row_of-requires-clause-linked g c = c.requires.linked _ (c.loop-op.op-index, at_index _ _ c.loop-op.op-index _ c.as_slice-op-items.ensures.keys c.loop-op-test.true)
+
+pub loop-op-init : goal.loop-op-init
+loop-op-init g c = paired_none (λ i (p : Ptr Operation) (row : Row). IsRowOfOperation g.D.Meanings.meaning c.args.program.now (numbers_of c.args.inside.now) p row) c.as_slice-op-items.result.now c.args.rows.now c.requires.none
 
 pub loop-op-preserved : goal.loop-op-preserved
 loop-op-preserved g c = paired_next (λ i (p : Ptr Operation) (row : Row). IsRowOfOperation g.D.Meanings.meaning c.args.program.now (numbers_of c.args.inside.now) p row) _ c.loop-op.rows c.push.new.self c.loop-op.op-index _ (buffered c.row_of.new.row)

@@ -6,7 +6,7 @@ use Rattle.opt_dead.proofs.Ground.{Ground, Occurs, ok_then}
 use Rattle.opt_dead.proofs.InRange.{in_range}
 use Rattle.opt_dead.proofs.Answered.{answered}
 use Rattle.opt_dead.proofs.Going.{Solved}
-use Rattle.opt_dead.proofs.dead.dead_plan.Goals as goal
+use Rattle.opt_dead.proofs.dead.plan_by_numbers.Goals as goal
 
 pub dead-requires : goal.dead-requires
 dead-requires g c =
@@ -29,9 +29,9 @@ dead-requires g c =
       blocks_found = c.know_occurrences.ensures.blocks_found t stands;
       inside = c.know_occurrences.ensures.defined_inside t stands;
     }) in
-    let ground : Ground g.D.Meanings.meaning c.args.program.now c.args.op (numbers_of c.in_ok-inside.inside) c.in_ok-problem.problem = record {
+    let ground : Ground g.D.Meanings.meaning c.args.program.now c.args.op (numbers_of c.args.inside.now) c.in_ok-problem.problem = record {
       lists = lists;
-      numbers = c.in_ok-inside.ensures;
+      numbers = c.requires.numbers;
       rows = c.in_ok-problem.ensures;
       there = c.know_there.ensures;
       definer = c.know_values.ensures.definer;
@@ -40,7 +40,7 @@ dead-requires g c =
       lawful = g.met.D.OptDialect.lawful;
       edges = c.requires.edges;
       root = c.requires.live;
-      parents_first = parents_first c.args.program.now c.args.op (numbers_of c.in_ok-inside.inside) lists c.in_ok-inside.ensures c.know_tree.ensures.0 (occurs c.know_tree.ensures.0 c.know_tree.ensures.1);
+      parents_first = parents_first c.args.program.now c.args.op (numbers_of c.args.inside.now) lists c.requires.numbers c.know_tree.ensures.0 (occurs c.know_tree.ensures.0 c.know_tree.ensures.1);
     } in
     in_range ground
 
@@ -65,9 +65,9 @@ returns g c =
       blocks_found = c.know_occurrences.ensures.blocks_found t stands;
       inside = c.know_occurrences.ensures.defined_inside t stands;
     }) in
-    let ground : Ground g.D.Meanings.meaning c.args.program.now c.args.op (numbers_of c.in_ok-inside.inside) c.in_ok-problem.problem = record {
+    let ground : Ground g.D.Meanings.meaning c.args.program.now c.args.op (numbers_of c.args.inside.now) c.in_ok-problem.problem = record {
       lists = lists;
-      numbers = c.in_ok-inside.ensures;
+      numbers = c.requires.numbers;
       rows = c.in_ok-problem.ensures;
       there = c.know_there.ensures;
       definer = c.know_values.ensures.definer;
@@ -76,7 +76,7 @@ returns g c =
       lawful = g.met.D.OptDialect.lawful;
       edges = c.requires.edges;
       root = c.requires.live;
-      parents_first = parents_first c.args.program.now c.args.op (numbers_of c.in_ok-inside.inside) lists c.in_ok-inside.ensures c.know_tree.ensures.0 (occurs c.know_tree.ensures.0 c.know_tree.ensures.1);
+      parents_first = parents_first c.args.program.now c.args.op (numbers_of c.args.inside.now) lists c.requires.numbers c.know_tree.ensures.0 (occurs c.know_tree.ensures.0 c.know_tree.ensures.1);
     } in
     let solved : Solved c.in_ok-problem.problem c.in_ok-items.items = record { operations = c.in_ok-items.ensures.operations; arguments = c.in_ok-items.ensures.arguments } in
     ok_then c.plan_of.result (λ plan takes t. answered ground c.in_ok-items.items solved plan takes t (occurs t)) c.plan_of.ensures
