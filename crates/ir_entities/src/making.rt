@@ -47,8 +47,7 @@ impl<O, B, R> Forest<O, B, R> {
         ensures err { OnErr result (self.new.ops ≡ self.old.ops) }
     {
         let slots = self.ops.slots();
-        make_node(&mut self.in_blocks, slots)?;
-        make_list(&mut self.in_ops, slots)?;
+        make_slot(&mut self.in_blocks, &mut self.in_ops, slots)?;
         self.ops.alloc(op)
     }
 
@@ -88,8 +87,7 @@ impl<O, B, R> Forest<O, B, R> {
         ensures err { OnErr result (self.new.blocks ≡ self.old.blocks) }
     {
         let slots = self.blocks.slots();
-        make_node(&mut self.in_regions, slots)?;
-        make_list(&mut self.in_blocks, slots)?;
+        make_slot(&mut self.in_regions, &mut self.in_blocks, slots)?;
         self.blocks.alloc(block)
     }
 
@@ -129,8 +127,7 @@ impl<O, B, R> Forest<O, B, R> {
         ensures err { OnErr result (self.new.regions ≡ self.old.regions) }
     {
         let slots = self.regions.slots();
-        make_node(&mut self.in_ops, slots)?;
-        make_list(&mut self.in_regions, slots)?;
+        make_slot(&mut self.in_ops, &mut self.in_regions, slots)?;
         self.regions.alloc(region)
     }
 
@@ -150,6 +147,22 @@ impl<O, B, R> Forest<O, B, R> {
     {
         self.regions.erase(region)
     }
+}
+
+/// Makes a node and an empty list of this number, where there are none.
+fn make_slot(nodes: &mut Siblings, lists: &mut Siblings, number: usize) -> Result<(), AllocError>
+    requires node { number ≤ nodes.old.nodes }
+    requires list { number ≤ length lists.old.lists }
+    ensures same { nodes.new.lists ≡ nodes.old.lists }
+    ensures kept { nodes.old.nodes ≤ nodes.new.nodes }
+    ensures made { OnOk result (number < nodes.new.nodes) }
+    ensures lists { (c : ℕ) → list_at lists.new.lists c ≡ list_at lists.old.lists c }
+    ensures lists_kept { length lists.old.lists ≤ length lists.new.lists }
+    ensures list_made { OnOk result (number < length lists.new.lists) }
+    ensures nodes { lists.new.nodes ≡ lists.old.nodes }
+{
+    make_node(nodes, number)?;
+    make_list(lists, number)
 }
 
 /// Makes a node of this number, if there is none.

@@ -1,5 +1,5 @@
 -- A step of the reader, over plain lists.
-use Rattle.std.proofs.Common.{true, false, ◌≡◌, ℕ, suc, ◌+◌, ◌<◌, List, [], ◌∷◌, ◌++◌, Some, None, slice_get, length, sym, subst, ap, ◌∙◌, arith, add-one, ◌⊎◌, inl, inr}
+use Rattle.std.proofs.Common.{true, false, ◌≡◌, ℕ, suc, ◌+◌, ◌<◌, List, [], ◌∷◌, ◌++◌, Some, None, slice_get, length, Option, sym, subst, ap, ◌∙◌, arith, add-one, ◌⊎◌, inl, inr, Bool, cond, Result, Ok, Err, IfOk, OnOk, IsTrue}
 use Rattle.std.proofs.lemmas.Option.{slice_get_within}
 use Rattle.ir_grammar.specs.declared.grammar.Action.{Action}
 use Rattle.ir_grammar.specs.declared.grammar.Symbol.{Symbol}
@@ -10,13 +10,37 @@ use Rattle.ir_grammar.specs.declared.grammar.Rule.{Rule}
 use Rattle.ir_grammar.specs.declared.grammar.Grammar.{Grammar}
 use Rattle.ir_grammar.specs.Grammar.{accepts}
 use Rattle.ir_grammar.specs.Table.{pick, closing_of, BeginsAtColumn, IsFine, AreKnownSymbols, height, IsPredictive}
-use Rattle.ir_grammar.specs.Run.{LeadsToStack, LeadsAt, Closes, IsStuck}
+use Rattle.ir_grammar.specs.Reading.{IsPrefix, tooks}
+use Rattle.ir_grammar.specs.Run.{LeadsToStack, LeadsAt, Closes, IsStuck, Advances, Grows, IsDepth}
+use Rattle.ir_grammar.proofs.Depths.{depth_took}
 use Rattle.ir_grammar.proofs.Derivations.{known_append, fine_expanded, height_expanded, leads_expanded, leads_acted, leads_shifted, stuck_part, stuck_sign}
 use Rattle.ir_grammar.proofs.Closing.{begins_append, closes_acted, closes_expanded}
 
 -- what may still be closed, or goes on
 abbrev pub IsOn : Grammar → (ℕ → List ℕ → Type 0) → List Event → List Symbol → ℕ → Type 0
 IsOn g P did stack c = ((root : ℕ) (done : List ℕ) → P root done → Closes g root done did stack) ⊎ BeginsAtColumn g stack c
+
+-- ---- where a token is taken, or none
+
+-- the old events grow where it is
+pub token_grows : {E : Type 0} (r : Result Bool E) (first did did' : List Event) → IsPrefix first did
+    → IfOk r (λ yes. did' ≡ cond yes (did ++ Took ∷ []) did) → IfOk r (λ yes. IsTrue yes → Grows first did')
+token_grows (Ok true) first did did' p e = λ _. (p.0, e ∙ ap (λ x. x ++ Took ∷ []) p.1)
+token_grows (Ok false) first did did' p e = λ t. cc
+token_grows (Err x) first did did' p e = e
+
+-- what is said of the symbols before is said of those behind
+pub token_symbols : {E : Type 0} (P : List Symbol → Type 0) (r : Result Bool E) (stack rest after : List Symbol) → P stack → P rest
+    → IfOk r (λ yes. after ≡ cond yes rest stack) → OnOk r (P after)
+token_symbols P (Ok true) stack rest after h t u = subst P (sym u) t
+token_symbols P (Ok false) stack rest after h t u = subst P (sym u) h
+token_symbols P (Err x) stack rest after h t u = u
+
+pub token_depth : {E : Type 0} (r : Result Bool E) (many n : ℕ) (did did' : List Event) (d : Option ℕ) → tooks did ≡ n → IsDepth many n did d
+    → IfOk r (λ yes. did' ≡ cond yes (did ++ Took ∷ []) did) → OnOk r (IsDepth many n did' d)
+token_depth (Ok true) many n did did' d took h e = rw e (depth_took many n did d (omega (arith, took)) h)
+token_depth (Ok false) many n did did' d took h e = rw e h
+token_depth (Err x) many n did did' d took h e = e
 
 module _ (g : Grammar) (ok : IsPredictive g) where
   -- the table's rule is the rule that is read
@@ -100,6 +124,14 @@ module _ (g : Grammar) (ok : IsPredictive g) where
       let same : y.0 ≡ k = omega (arith, y.1) in
       let z : accepts g i k ≡ true = rw same at y.2 in
       absurd (cc)
+
+  pub token_advances : {E : Type 0} (P : ℕ → List ℕ → Type 0) (r : Result Bool E) (did did' : List Event) (i k : ℕ) (s rest after : List Symbol) → s ≡ Sign i ∷ rest
+      → IsOn g P did s (k + 1) → ((root : ℕ) (done : List ℕ) → P root done → LeadsAt g root done did s (k + 1))
+      → IfOk r (λ yes. yes ≡ accepts g i k) → IfOk r (λ yes. after ≡ cond yes rest s) → IfOk r (λ yes. did' ≡ cond yes (did ++ Took ∷ []) did)
+      → IfOk r (λ yes. (root : ℕ) (done : List ℕ) → P root done → Advances g root done k yes did' after)
+  token_advances P (Ok true) did did' i k s rest after top on leads a u e = λ root done h. rw u (step_shifted root done did did' i k s rest top e (sym a) (leads root done h))
+  token_advances P (Ok false) did did' i k s rest after top on leads a u e = λ root done h. (stuck_token root done did i k s rest top (sym a) (leads root done h), rw (u, e) (off_sign P did s rest i k top (sym a) on root done h))
+  token_advances P (Err x) did did' i k s rest after top on leads a u e = a
 
   pub off_end : (P : ℕ → List ℕ → Type 0) (did : List Event) (c : ℕ) → IsOn g P did [] c → (root : ℕ) (done : List ℕ) → P root done → Closes g root done did []
   off_end P did c (inl f) = f

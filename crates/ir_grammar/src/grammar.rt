@@ -1,7 +1,8 @@
 //! A grammar that is data, and a reader over it that decides each step by the next token.
-ghost use Rattle.std.specs.Prelude.{◌≡◌, ℕ, List, ◌∷◌, [], ◌++◌, slice_get, cond, IfOk, OnOk, IsTrue};
+ghost use Rattle.std.specs.Prelude.{◌≡◌, ℕ, List, ◌∷◌, [], ◌++◌, slice_get, cond, IfOk, OnOk, IsTrue, Some, ◌<◌, drop, length};
 ghost use Rattle.ir_grammar.specs.declared.grammar.Change.TheVariants as change;
-ghost use Rattle.ir_grammar.specs.declared.grammar.Event.TheVariants.{Did};
+ghost use Rattle.ir_grammar.specs.declared.grammar.Event.TheVariants.{Took, Did};
+ghost use Rattle.ir_grammar.specs.declared.grammar.Rule.{Rule};
 ghost use Rattle.ir_grammar.specs.Grammar.{accepts};
 ghost use Rattle.ir_grammar.specs.Table.{pick, closing_of, IsFine, AreKnownSymbols, IsPredictive, CanRead};
 ghost use Rattle.ir_grammar.specs.Run.{LeadsToStack, Closes, Advances, Ends, Grows, IsDepth};
@@ -12,7 +13,7 @@ use crate::pending::Pending;
 use std::alloc::{AllocError, Global};
 
 /// Something that reading does at the token before it.
-#[derive(Clone, Copy, Debug, PartialEq, Eq)]
+#[derive(Clone, Copy, PartialEq, Eq)]
 pub enum Action {
     /// The name names a result of the operation that comes.
     Result,
@@ -63,7 +64,7 @@ pub enum Action {
 }
 
 /// What an action does to the number of open parts that count for the depth.
-#[derive(Clone, Copy, Debug, PartialEq, Eq)]
+#[derive(Clone, Copy, PartialEq, Eq)]
 pub enum Change {
     Opens,
     Closes,
@@ -71,7 +72,7 @@ pub enum Change {
 }
 
 /// What stands in the body of a rule.
-#[derive(Clone, Copy, Debug, PartialEq, Eq)]
+#[derive(Clone, Copy, PartialEq, Eq)]
 pub enum Symbol {
     /// A token of one of the kinds of the sign with this number.
     Sign(u32),
@@ -82,7 +83,7 @@ pub enum Symbol {
 }
 
 /// What reading does.
-#[derive(Clone, Copy, Debug, PartialEq, Eq)]
+#[derive(Clone, Copy, PartialEq, Eq)]
 pub enum Event {
     /// A token was taken.
     Took,
@@ -121,7 +122,7 @@ pub struct Facts {
 }
 
 /// Why reading stopped.
-#[derive(Clone, Copy, Debug, PartialEq, Eq)]
+#[derive(Clone, Copy, PartialEq, Eq)]
 pub enum Stop {
     /// What was taken is a whole text, and no longer front begins a text.
     Text,
@@ -215,6 +216,42 @@ impl Grammar {
         }
     }
 
+    /// Takes a token of this kind, where the sign that comes next stands for it.
+    #[inline]
+    fn take(
+        &self,
+        pending: &mut Pending<'_>,
+        events: &mut Vec<Event>,
+        sign: u32,
+        kind: u32,
+    ) -> Result<bool, AllocError>
+        requires { 0 < length pending.old.rest.now }
+        ensures accepts { IfOk result (λ yes. yes ≡ accepts self.now sign kind) }
+        ensures unread { IfOk result (λ yes. unread pending.new
+            ≡ cond yes (drop 1 (unread pending.old)) (unread pending.old)) }
+        ensures events { IfOk result (λ yes. events.new.items
+            ≡ cond yes (events.old.items ++ Took ∷ []) events.old.items) }
+    {
+        if !self.accepts(sign, kind as usize) {
+            return Ok(false);
+        }
+        events.push(Event::Took)?;
+        pending.skip();
+        Ok(true)
+    }
+
+    /// Puts the body of a rule in the place of the part that comes next.
+    #[inline]
+    fn expand<'g>(&'g self, pending: &mut Pending<'g>, rule: usize) -> Result<(), AllocError>
+        requires rule { rule < length self.now.rules.items }
+        requires next { 0 < length pending.old.rest.now }
+        ensures { OnOk result ((r : Rule) × (slice_get self.now.rules.items rule ≡ Some r)
+            × (unread pending.new ≡ r.body.items ++ drop 1 (unread pending.old))) }
+    {
+        pending.skip();
+        pending.open(&self.rules[rule].body)
+    }
+
     /// Takes a token, if one of its kind may come next. Else parts may be closed. The depth follows what is done.
     fn advance<'g>(
         &'g self,
@@ -238,29 +275,46 @@ impl Grammar {
     {
         while let Some(symbol) = pending.first() {
             match symbol {
-                Symbol::Sign(sign) => {
-                    if !self.accepts(sign, kind as usize) {
-                        return Ok(false);
-                    }
-                    events.push(Event::Took)?;
-                    pending.skip();
-                    return Ok(true);
-                }
-                Symbol::Act(action) => {
-                    events.push(Event::Did(action))?;
-                    *depth = depth_at(*depth, action, deepest);
-                    pending.skip();
-                }
+                Symbol::Sign(sign) => return self.take(pending, events, sign, kind),
+                Symbol::Act(action) => act(pending, events, depth, deepest, action)?,
                 Symbol::Part(part) => match self.pick(part, kind as usize + 1) {
                     None => return Ok(false),
-                    Some(p) => {
-                        pending.skip();
-                        pending.open(&self.rules[p].body)?;
-                    }
+                    Some(rule) => self.expand(pending, rule)?,
                 },
             }
         }
         Ok(false)
+    }
+
+    /// Closes each part that may end, where no further token is taken, and says why reading stops. The depth follows
+    /// what is done.
+    fn close<'g>(
+        &'g self,
+        pending: &mut Pending<'g>,
+        events: &mut Vec<Event>,
+        depth: &mut Option<usize>,
+        deepest: usize,
+    ) -> Result<Stop, AllocError>
+        requires predictive { IsPredictive self.now }
+        requires fine { IsFine self.now (unread pending.old) }
+        requires known { AreKnownSymbols self.now (unread pending.old) }
+        requires depth { IsDepth deepest (tooks events.old.items) events.old.items depth.old }
+        ensures ends { IfOk result (λ stop. (root : ℕ) (done : List ℕ)
+            → Closes self.now root done events.old.items (unread pending.old)
+            → Ends self.now root done stop events.new.items) }
+        ensures depth { OnOk result (IsDepth deepest (tooks events.old.items) events.new.items depth.new) }
+    {
+        while let Some(symbol) = pending.first() {
+            match symbol {
+                Symbol::Sign(_) => return Ok(Stop::Stuck),
+                Symbol::Act(action) => act(pending, events, depth, deepest, action)?,
+                Symbol::Part(part) => match self.closing(part) {
+                    None => return Ok(Stop::Stuck),
+                    Some(rule) => self.expand(pending, rule)?,
+                },
+            }
+        }
+        Ok(Stop::Text)
     }
 
     /// Closes each part that may end, where no further token is taken. The depth follows what is done.
@@ -283,39 +337,9 @@ impl Grammar {
         ensures taken { IfOk result (λ r. r.taken ≡ taken) }
         ensures deep { IfOk result (λ r. IsFirstDeep deepest r.events.items r.deep) }
     {
-        while let Some(symbol) = pending.first() {
-            match symbol {
-                Symbol::Sign(_) => {
-                    return Ok(Reading {
-                        stop: Stop::Stuck,
-                        taken,
-                        deep: deep_at(depth, taken),
-                        events,
-                    });
-                }
-                Symbol::Act(action) => {
-                    events.push(Event::Did(action))?;
-                    depth = depth_at(depth, action, deepest);
-                    pending.skip();
-                }
-                Symbol::Part(part) => match self.closing(part) {
-                    None => {
-                        return Ok(Reading {
-                            stop: Stop::Stuck,
-                            taken,
-                            deep: deep_at(depth, taken),
-                            events,
-                        });
-                    }
-                    Some(p) => {
-                        pending.skip();
-                        pending.open(&self.rules[p].body)?;
-                    }
-                },
-            }
-        }
+        let stop = self.close(&mut pending, &mut events, &mut depth, deepest)?;
         Ok(Reading {
-            stop: Stop::Text,
+            stop,
             taken,
             deep: deep_at(depth, taken),
             events,
@@ -359,6 +383,27 @@ impl Grammar {
         }
         self.finish(pending, events, depth, deepest, kinds.len())
     }
+}
+
+/// Does the action that comes next. The depth follows.
+#[inline]
+fn act(
+    pending: &mut Pending<'_>,
+    events: &mut Vec<Event>,
+    depth: &mut Option<usize>,
+    deepest: usize,
+    action: Action,
+) -> Result<(), AllocError>
+    requires { 0 < length pending.old.rest.now }
+    ensures unread { OnOk result (unread pending.new ≡ drop 1 (unread pending.old)) }
+    ensures events { OnOk result (events.new.items ≡ events.old.items ++ Did action ∷ []) }
+    ensures depth { OnOk result ((taken : ℕ) → tooks events.old.items ≡ taken
+        → IsDepth deepest taken events.old.items depth.old → IsDepth deepest taken events.new.items depth.new) }
+{
+    events.push(Event::Did(action))?;
+    *depth = depth_at(*depth, action, deepest);
+    pending.skip();
+    Ok(())
 }
 
 /// How many parts are open after one more action, or none where a part was too deep.

@@ -67,18 +67,30 @@ impl Grammar {
         ensures rules { IfOk result (λ g. g.rules ≡ rules) }
         ensures parts { IfOk result (λ g. length g.parts.items ≡ parts) }
     {
-        let drafts = drafts(alloc, &rules, parts)?;
-        let mut rows = Rows::new(alloc, &signs, parts, columns)?;
-        let edges = edges(alloc, &drafts, &rules)?;
-        rows.spread(alloc, &edges);
-        let choices = choices(alloc, &rows, &drafts, &rules, columns)?;
-        let parts = facts(alloc, &drafts, choices, rows.follow, parts)?;
+        let parts = table(alloc, &signs, &rules, parts, columns)?;
         Ok(Grammar {
             signs,
             rules,
             parts,
         })
     }
+}
+
+/// What is known of each part, worked out of the rules.
+fn table(
+    alloc: Global,
+    signs: &[Class],
+    rules: &[Rule],
+    parts: usize,
+    columns: usize,
+) -> Result<Vec<Facts>, AllocError>
+    ensures { IfOk result (λ facts. length facts.items ≡ parts) }
+{
+    let drafts = drafts(alloc, rules, parts)?;
+    let mut rows = Rows::new(alloc, signs, parts, columns)?;
+    rows.spread_by(alloc, &drafts, rules)?;
+    let choices = choices(alloc, &rows, &drafts, rules, columns)?;
+    facts(alloc, &drafts, choices, rows.follow, parts)
 }
 
 /// What the table knows of each part.
@@ -287,20 +299,28 @@ fn choices(
     rules: &[Rule],
     columns: usize,
 ) -> Result<Vec<Vec<Option<usize>>>, AllocError> {
-    let mut choices = Vec::new(alloc);
-    for _ in drafts {
-        choices.push(vec![in alloc; None; columns]?)?;
-    }
+    let mut choices = filled_rows(alloc, None, drafts.len(), columns)?;
     for (number, rule) in rules.iter().enumerate() {
         if let Some(chosen) = choices.get_mut(rule.part as usize) {
-            let (row, other) = openers(drafts, rule.part, &rule.body);
-            choose(chosen, rows.row(row), number);
-            if let Some(row) = other {
-                choose(chosen, rows.row(row), number);
-            }
+            choose_rule(chosen, rows, drafts, rule, number);
         }
     }
     Ok(choices)
+}
+
+/// Chooses the rule for its part at each column at which its body may begin.
+fn choose_rule(
+    chosen: &mut [Option<usize>],
+    rows: &Rows,
+    drafts: &[Draft],
+    rule: &Rule,
+    number: usize,
+) {
+    let (row, other) = openers(drafts, rule.part, &rule.body);
+    choose(chosen, rows.row(row), number);
+    if let Some(row) = other {
+        choose(chosen, rows.row(row), number);
+    }
 }
 
 /// Chooses the rule at each column that is marked.
@@ -315,33 +335,17 @@ fn choose(chosen: &mut [Option<usize>], marks: Option<&Vec<bool>>, rule: usize) 
 }
 
 impl Rows {
-    /// The rows before anything is worked out: the kinds of the signs, and the end behind part 0.
+    /// The rows before anything is worked out: the kinds of the signs.
     fn new(
         alloc: Global,
         signs: &[Class],
         parts: usize,
         columns: usize,
     ) -> Result<Rows, AllocError> {
-        let mut sign_rows = Vec::new(alloc);
-        for class in signs {
-            let mut row = vec![in alloc; false]?;
-            row.extend_from_slice(&class.kinds)?;
-            sign_rows.push(row)?;
-        }
-        let mut first = Vec::new(alloc);
-        let mut follow = Vec::new(alloc);
-        for part in 0..parts {
-            first.push(vec![in alloc; false; columns]?)?;
-            let mut row = vec![in alloc; false; columns]?;
-            if part == 0 && columns > 0 {
-                row[0] = true;
-            }
-            follow.push(row)?;
-        }
         Ok(Rows {
-            signs: sign_rows,
-            first,
-            follow,
+            signs: sign_rows(alloc, signs)?,
+            first: filled_rows(alloc, false, parts, columns)?,
+            follow: filled_rows(alloc, false, parts, columns)?,
         })
     }
 
@@ -368,6 +372,21 @@ impl Rows {
         }
     }
 
+    /// Marks the end behind part 0, and what the rules say, until nothing is new.
+    fn spread_by(
+        &mut self,
+        alloc: Global,
+        drafts: &[Draft],
+        rules: &[Rule],
+    ) -> Result<(), AllocError> {
+        if let Some(row) = self.row_mut(Row::Follow(0)) {
+            add_marks(row, &[true]);
+        }
+        let edges = edges(alloc, drafts, rules)?;
+        self.spread(alloc, &edges);
+        Ok(())
+    }
+
     /// Marks along the edges until nothing is new.
     fn spread(&mut self, alloc: Global, edges: &[Edge]) {
         let mut from = Vec::new(alloc);
@@ -385,6 +404,31 @@ impl Rows {
             }
         }
     }
+}
+
+/// The columns of the tokens of each sign.
+fn sign_rows(alloc: Global, signs: &[Class]) -> Result<Vec<Vec<bool>>, AllocError> {
+    let mut rows = Vec::new(alloc);
+    for class in signs {
+        let mut row = vec![in alloc; false]?;
+        row.extend_from_slice(&class.kinds)?;
+        rows.push(row)?;
+    }
+    Ok(rows)
+}
+
+/// So many rows, with the same at each column.
+fn filled_rows<T: Copy>(
+    alloc: Global,
+    value: T,
+    rows: usize,
+    columns: usize,
+) -> Result<Vec<Vec<T>>, AllocError> {
+    let mut filled = Vec::new(alloc);
+    for _ in 0..rows {
+        filled.push(vec![in alloc; value; columns]?)?;
+    }
+    Ok(filled)
 }
 
 /// Marks in a row what another marks. Says whether a mark is new.

@@ -1,14 +1,16 @@
 -- Look-ups in the entries of an attribute dictionary.
-use Rattle.std.proofs.Common.{◌≡◌, ℕ, Bool, true, false, cond, List, [], ◌∷◌, Option, Some, None, String, option_map, refl, ap, ◌∙◌}
+use Rattle.std.proofs.Common.{◌≡◌, ℕ, Bool, true, false, cond, List, [], ◌∷◌, Option, Some, None, String, option_map, Result, OnOk, length, suc, refl, sym, ap, subst, ◌∙◌, arith}
 use Rattle.std.specs.Map.{lookup, remove_entry}
 use Rattle.std.proofs.lemmas.Bool.{false≢true}
+use Rattle.std.proofs.lemmas.Result.{on_ok_weaker}
 use Rattle.std.proofs.lemmas.Map.{lookup-remove_entry}
 use Rattle.std.specs.Str.{bytes_eq}
 use Rattle.std.specs.String.{string_bytes, string_eq}
 use Rattle.std.specs.Cmp.Lexicographic.{nat_list_eq_equiv}
 use Rattle.indexmap.specs.IndexMap.{insert_entry}
 use Rattle.ir_names.specs.declared.dictionary.Entry.{Entry}
-use Rattle.ir_names.specs.Dictionary.{named, named_entries, all_entries, is_under, attribute_at, with_attribute, without_attribute, SetsAttribute, RemovesAttribute, AreNamesDistinct}
+use Rattle.ir_names.specs.Lends.{with_first_attribute}
+use Rattle.ir_names.specs.Dictionary.{named, named_entries, with_first, all_entries, is_under, attribute_at, with_attribute, without_attribute, SetsAttribute, RemovesAttribute, AreNamesDistinct}
 
 -- a look-up by bytes, over the entries as they are held
 pub attribute_at-named_entries : {X Y : Type 0} (key : List ℕ) (es : List (String Y × X)) → attribute_at (named_entries es) key ≡ lookup (λ k. bytes_eq key (string_bytes k)) es
@@ -79,6 +81,10 @@ module _ {D K A T Y : Type 0} where
   attribute_at-others None es key h = attribute_at-named_entries key es
   attribute_at-others (Some e) es key h = rw h (attribute_at-named_entries key es)
 
+  pub attribute_at-string : (first : Option (Entry D K A T)) (es : List (String Y × A)) (k : String Y) (key : List ℕ) → string_bytes k ≡ key → is_under first key ≡ false → lookup (string_eq k) es ≡ attribute_at (all_entries first es) key
+  attribute_at-string first es k key name h =
+      subst (λ key. lookup (string_eq k) es ≡ lookup (λ x. bytes_eq key (string_bytes x)) es) name refl ∙ sym (attribute_at-others first es key h)
+
   pub without_attribute-others : (first : Option (Entry D K A T)) (es new : List (String Y × A)) (key : List ℕ) → is_under first key ≡ false → new ≡ remove_entry (λ k. bytes_eq key (string_bytes k)) es
       → all_entries first new ≡ without_attribute (all_entries first es) key
   unfolding all_entries
@@ -95,3 +101,37 @@ module _ {D K A T Y : Type 0} where
   unfolding all_entries
   without_attribute-first None es key h = absurd (false≢true h)
   without_attribute-first (Some e) es key h = rw h refl
+
+  -- an attribute is put in the place of the first entry's
+  pub with_attribute-first : (first : Option (Entry D K A T)) (es : List (String Y × A)) (key : List ℕ) (attr : A) → is_under first key ≡ true → all_entries (with_first_attribute first attr) es ≡ with_attribute (all_entries first es) key attr
+  unfolding all_entries
+  with_attribute-first None es key attr h = absurd (false≢true h)
+  with_attribute-first (Some e) es key attr h = rw h refl
+
+  -- an attribute is put among the others
+  pub with_attribute-others : (first : Option (Entry D K A T)) (es new : List (String Y × A)) (k : String Y) (key : List ℕ) (attr : A) → string_bytes k ≡ key → is_under first key ≡ false → new ≡ insert_entry string_eq es k attr
+      → all_entries first new ≡ with_attribute (all_entries first es) key attr
+  unfolding all_entries
+  with_attribute-others None es new k key attr name h put = ap named_entries put ∙ (named_entries-insert_entry k attr es ∙ ap (λ key. with_attribute (named_entries es) key attr) name)
+  with_attribute-others (Some e) es new k key attr name h put = put_behind e es new k key attr name h put
+
+  -- an attribute is put where there is none
+  pub with_attribute-only : (first new : Option (Entry D K A T)) (es : List (String Y × A)) (key : List ℕ) (attr : A) → length (all_entries first es) ≡ 0 → option_map named new ≡ Some (key, attr)
+      → all_entries new es ≡ with_attribute (all_entries first es) key attr
+  unfolding all_entries
+  with_attribute-only None new [] key attr none one = ap (λ o. with_first o []) one
+  with_attribute-only None new (e ∷ es) key attr none one = let no : suc (length (named_entries es)) ≡ 0 = none in absurd (omega (arith, no))
+  with_attribute-only (Some e) new es key attr none one = let no : suc (length (named_entries es)) ≡ 0 = none in absurd (omega (arith, no))
+
+-- nothing stands under any name
+pub attribute_at-none : {X : Type 0} (es : List (List ℕ × X)) (key : List ℕ) → length es ≡ 0 → None ≡ attribute_at es key
+attribute_at-none [] key none = refl
+attribute_at-none (e ∷ es) key none = let no : suc (length es) ≡ 0 = none in absurd (omega (arith, no))
+
+-- an attribute is put among the others, if there is memory
+module _ {D K A T Y V E : Type 0} (r : Result V E) (first : Option (Entry D K A T)) (es new : List (String Y × A)) (old : List (List ℕ × A)) (k : String Y) (key : List ℕ) (attr : A) (name : string_bytes k ≡ key) (other : is_under first key ≡ false) (seen : all_entries first es ≡ old) (put : OnOk r (new ≡ insert_entry string_eq es k attr)) where
+  pub put-entries : OnOk r (all_entries first new ≡ with_attribute old key attr)
+  put-entries = on_ok_weaker r (λ e. with_attribute-others first es new k key attr name other e ∙ ap (λ es. with_attribute es key attr) seen) put
+
+  pub put-attribute : OnOk r (SetsAttribute old (all_entries first new) key attr)
+  put-attribute = on_ok_weaker r (λ e. subst (λ es. SetsAttribute old es key attr) (sym e) (attribute_at-with_attribute old key attr)) put-entries

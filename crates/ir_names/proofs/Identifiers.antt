@@ -1,9 +1,9 @@
 -- Texts of identifiers, one behind the other.
-use Rattle.std.proofs.Common.{◌≡◌, ◌<◌, ℕ, ◌+◌, ◌^◌, ◌%◌, nat_le, Bool, true, false, cond, ◌&&◌, ◌||◌, List, [], ◌∷◌, ◌++◌, map, refl, arith, mod-lt}
+use Rattle.std.proofs.Common.{◌≡◌, ◌<◌, ℕ, ◌+◌, ◌^◌, ◌%◌, nat_le, nat_eq, ⊎_elim, get_or, length, zero, suc, Bool, true, false, cond, ◌&&◌, ◌||◌, List, [], ◌∷◌, ◌++◌, map, refl, arith, mod-lt}
 use Rattle.std.specs.Fmt.{decimal}
 use Rattle.std.proofs.lemmas.Fmt.{decimal_by_steps}
 use Rattle.std.specs.List.{list_all}
-use Rattle.std.proofs.lemmas.Bool.{and_parts, false≢true, le-leb}
+use Rattle.std.proofs.lemmas.Bool.{and_parts, or_cases, eqb-true, leb-true, false≢true, le-leb}
 use Rattle.ir_names.specs.Text.{is_first_code, is_later_code, is_identifier, is_digit_code, clean_code, clean_text}
 
 and_true : (a b : Bool) → a ≡ true → b ≡ true → (a && b) ≡ true
@@ -73,3 +73,25 @@ one_later d low = and_true (is_later_code (48 + d)) true (digit_later d low) ref
 -- and so can the digits of a number
 pub decimal_later : (n : ℕ) → n < 2 ^ 64 → list_all is_later_code (decimal n) ≡ true
 decimal_later = decimal_by_steps (λ m ds. list_all is_later_code ds ≡ true) one_later (λ m ds l h. all_append is_later_code ds ((48 + m % 10) ∷ []) h (one_later (m % 10) (mod-lt m (omega arith))))
+
+-- ---- each code of an identifier is below 128
+
+range_small : (low c high : ℕ) → high < 128 → (nat_le low c && nat_le c high) ≡ true → c < 128
+range_small low c high less h = let le = leb-true c high (and_parts (nat_le low c) (nat_le c high) h).1 in omega (arith, le, less)
+
+first_small : (c : ℕ) → is_first_code c ≡ true → c < 128
+first_small c h = ⊎_elim
+    (λ a. ⊎_elim (λ b. range_small 97 c 122 (omega arith) b) (λ b. range_small 65 c 90 (omega arith) b) (or_cases (nat_le 97 c && nat_le c 122) (nat_le 65 c && nat_le c 90) a))
+    (λ e. let same = eqb-true c 95 e in omega (arith, same))
+    (or_cases ((nat_le 97 c && nat_le c 122) || (nat_le 65 c && nat_le c 90)) (nat_eq c 95) h)
+
+later_small : (c : ℕ) → is_later_code c ≡ true → c < 128
+later_small c h = ⊎_elim (λ f. first_small c f) (λ d. range_small 48 c 57 (omega arith) d) (or_cases (is_first_code c) (nat_le 48 c && nat_le c 57) h)
+
+all_small : (cs : List ℕ) (i d : ℕ) → list_all is_later_code cs ≡ true → i < length cs → get_or cs i d < 128
+all_small [] i d h lt = absurd (omega arith)
+all_small (c ∷ cs) zero d h lt = later_small c (and_parts (is_later_code c) (list_all is_later_code cs) h).0
+all_small (c ∷ cs) (suc i) d h lt = all_small cs i d (and_parts (is_later_code c) (list_all is_later_code cs) h).1 (omega arith)
+
+pub identifier_small : (cs : List ℕ) (i d : ℕ) → is_identifier cs ≡ true → i < length cs → get_or cs i d < 128
+identifier_small cs i d h lt = all_small cs i d (identifier_later cs h) lt

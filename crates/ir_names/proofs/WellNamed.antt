@@ -1,5 +1,5 @@
 -- What keeps the names of an attribute dictionary distinct, and identifiers.
-use Rattle.std.proofs.Common.{◌≡◌, ℕ, Bool, true, false, cond, ◌||◌, ◌&&◌, List, [], ◌∷◌, ◌++◌, refl, sym, ap, subst, ◌∙◌, length, arith, suc, String}
+use Rattle.std.proofs.Common.{◌≡◌, ℕ, Bool, true, false, cond, ◌||◌, ◌&&◌, List, [], ◌∷◌, ◌++◌, refl, sym, ap, subst, ◌∙◌}
 use Rattle.std.specs.List.{list_any, list_all, AllByRecursion, IsDistinct}
 use Rattle.std.specs.Map.{remove_entry}
 use Rattle.std.specs.Str.{bytes_eq}
@@ -7,7 +7,7 @@ use Rattle.std.specs.Cmp.Lexicographic.{nat_list_eq_equiv}
 use Rattle.std.proofs.lemmas.Bool.{false≢true}
 use Rattle.std.proofs.lemmas.Map.Keys.{IsDistinct-push}
 use Rattle.ir_names.specs.Text.{is_identifier}
-use Rattle.ir_names.specs.Dictionary.{named_entries, with_attribute, without_attribute, names_of, AreNamesDistinct, AreNamesIdentifiers, AreEntries}
+use Rattle.ir_names.specs.Dictionary.{with_attribute, without_attribute, names_of, AreNamesDistinct, AreNamesIdentifiers, AreEntries}
 
 -- the names after one is put: it goes last where it is new
 abbrev put_name : Bool → List (List ℕ) → List ℕ → List (List ℕ)
@@ -50,15 +50,6 @@ module _ {X : Type 0} where
   pub no_entries : AreEntries {X = X} []
   unfolding IsDistinct
   no_entries = record { distinct = tt; identifiers = refl }
-
-  one_entry : (key : List ℕ) (attr : X) → is_identifier key ≡ true → AreEntries ((key, attr) ∷ [])
-  unfolding IsDistinct
-  one_entry key attr k = record { distinct = (tt, tt); identifiers = ap (λ (name : Bool). name && true) k }
-
-  -- an attribute is put where there is none
-  pub only_entry : {Y : Type 0} (es : List (String Y × X)) (key : List ℕ) (attr : X) → is_identifier key ≡ true → length es ≡ 0 → AreEntries ((key, attr) ∷ named_entries es)
-  only_entry [] key attr k none = one_entry key attr k
-  only_entry (e ∷ es) key attr k none = let no : suc (length es) ≡ 0 = none in absurd (omega (arith, no))
 
   -- an attribute is put under the name of an identifier
   pub entries_put : (es : List (List ℕ × X)) (key : List ℕ) (attr : X) → is_identifier key ≡ true → AreEntries es → AreEntries (with_attribute es key attr)

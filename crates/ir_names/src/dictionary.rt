@@ -1,15 +1,15 @@
 //! Attributes under names.
-ghost use Rattle.std.specs.Prelude.{◌≡◌, ℕ, ◌%◌, ◌^◌, true, false, List, [], ◌∷◌, IfOk, OnOk, OnErr, length, option_copied, option_map, slice_get, ◌==◌, IsPermutation, IsSorted};
+ghost use Rattle.std.specs.Prelude.{◌≡◌, ℕ, ◌%◌, ◌^◌, true, false, List, [], ◌∷◌, Some, IfOk, OnOk, OnErr, length, option_copied, option_map, slice_get, ◌==◌, IsPermutation, IsSorted};
 ghost use Rattle.std.specs.Borrow.{sem};
 ghost use Rattle.std.specs.Cmp.Lexicographic.{slice_cmp};
 ghost use Rattle.std.specs.List.{list_all};
 ghost use Rattle.std.specs.Map.Iter.{ShowsInOrder, deref_pair};
 ghost use Rattle.std.specs.Option.{option_copied_mut};
 ghost use Rattle.std.specs.Ordering.{nat_cmp};
-ghost use Rattle.ir_names.specs.Dictionary.{all_entries, is_under, names_of, texts, contains_name, attribute_at, with_attribute, without_attribute, SetsAttribute, RemovesAttribute, AreNamesDistinct, AreNamesIdentifiers, AddsCopy, AreCopies, are_equal, agrees};
+ghost use Rattle.ir_names.specs.Dictionary.{all_entries, is_under, named, names_of, texts, contains_name, attribute_at, with_attribute, without_attribute, SetsAttribute, RemovesAttribute, AreNamesDistinct, AreNamesIdentifiers, AddsCopy, AreCopies, are_equal, agrees};
 ghost use Rattle.ir_names.specs.Hashed.{entry_hash, hash_total};
 ghost use Rattle.ir_names.specs.Identifier.{text_of};
-ghost use Rattle.ir_names.specs.Lends.{lends_first, lends_attribute};
+ghost use Rattle.ir_names.specs.Lends.{lends_first, lends_attribute, with_first_attribute};
 ghost use Rattle.ir_names.specs.Text.{is_identifier};
 
 use crate::lazy_map::LazyMap;
@@ -129,24 +129,14 @@ impl<D: Dialects> AttributeDict<D> {
         ensures set { OnOk result (SetsAttribute self.old self.new (text_of key) attr) }
         ensures err { OnErr result (self.new ≡ self.old) }
     {
-        match &mut self.first {
-            Some(entry) => {
-                if key.as_str() == entry.name.as_str() {
-                    return Ok(Some(std::mem::replace(&mut entry.attr, attr)));
-                }
-                Ok(self.others.insert(key.into_string(), attr)?)
-            }
-            None => {
-                if self.others.is_empty() {
-                    self.first = Some(Entry {
-                        name: key.into_string(),
-                        attr,
-                    });
-                    return Ok(None);
-                }
-                Ok(self.others.insert(key.into_string(), attr)?)
-            }
+        if has_name(&self.first, key.as_str()) {
+            return Ok(replace_attribute(&mut self.first, attr));
         }
+        if self.is_empty() {
+            begin(&mut self.first, key, attr);
+            return Ok(None);
+        }
+        self.others.insert(key.into_string(), attr)
     }
 
     /// Takes the attribute under a name out, and answers it. The others keep their order. No memory
@@ -276,6 +266,27 @@ fn has_name<D: Dialects>(entry: &Option<Entry<D>>, name: &str) -> bool
     ensures { result ≡ is_under entry.now name.now }
 {
     matches!(entry, Some(entry) if name == entry.name.as_str())
+}
+
+/// Puts an attribute in the place of the entry's, and answers that one.
+fn replace_attribute<D: Dialects>(entry: &mut Option<Entry<D>>, attr: D::Attr) -> Option<D::Attr>
+    ensures old { result ≡ option_map (λ e. e.attr) entry.old }
+    ensures new { entry.new ≡ with_first_attribute entry.old attr }
+{
+    match entry {
+        Some(entry) => Some(std::mem::replace(&mut entry.attr, attr)),
+        None => None,
+    }
+}
+
+/// Makes this the entry.
+fn begin<D: Dialects>(entry: &mut Option<Entry<D>>, key: Identifier, attr: D::Attr)
+    ensures { option_map named entry.new ≡ Some (text_of key, attr) }
+{
+    *entry = Some(Entry {
+        name: key.into_string(),
+        attr,
+    });
 }
 
 /// The attribute of the entry, to be changed.

@@ -38,7 +38,7 @@ pub struct Counts {
 }
 
 /// Why names aren't looked up.
-#[derive(Clone, Copy)]
+#[derive(Clone, Copy, Debug, PartialEq, Eq)]
 pub enum ScopeFault {
     Memory,
     Text(Fault),

@@ -1,59 +1,90 @@
-use Rattle.std.proofs.Common.{◌≡◌, ◌∷◌, false, sym, ◌∙◌, ap, subst}
-use Rattle.std.specs.Str.{bytes_eq}
-use Rattle.std.specs.String.{string_bytes}
-use Rattle.ir_names.specs.Dictionary.{all_entries, named, named_entries, attribute_at, SetsAttribute, AreEntries}
+use Rattle.std.proofs.Common.{◌≡◌, true, false, eqb, length, Result, Ok, Err, IfOk, OnOk, OnErr, sym, ◌∙◌, ap, subst}
+use Rattle.std.proofs.lemmas.Bool.{eqb-true}
+use Rattle.ir_names.specs.Dictionary.{all_entries, is_under, attribute_at, SetsAttribute}
 use Rattle.ir_names.specs.Identifier.{text_of}
-use Rattle.ir_names.proofs.Entries.{attribute_at-named_entries, named_entries-insert_entry, put_behind, attribute_at-with_attribute}
-use Rattle.ir_names.proofs.WellNamed.{entries_put, only_entry}
+use Rattle.ir_names.proofs.Entries.{attribute_at-first, attribute_at-string, attribute_at-none, with_attribute-first, with_attribute-others, with_attribute-only, attribute_at-with_attribute, put-entries, put-attribute}
+use Rattle.ir_names.proofs.WellNamed.{entries_put}
 use Rattle.ir_names.proofs.dictionary.AttributeDict.set.Goals as goal
 
-pub returns-in_ok-insert-in-None-clause-old : goal.returns-in_ok-insert-in-None-clause-old
-unfolding all_entries
-returns-in_ok-insert-in-None-clause-old g c = rw (← c.self.view_is, ← c.into_string-in-None.ensures.text, c.in-None.is) (c.in_ok-insert-in-None.ensures.old ∙ sym (attribute_at-named_entries _ c.self.inside.others))
+if_ok_same : {T E : Type 0} (r : Result T E) (v w : T) → v ≡ w → IfOk r (λ x. x ≡ v) → IfOk r (λ x. x ≡ w)
+if_ok_same r v w e h = subst (λ v. IfOk r (λ x. x ≡ v)) e h
 
-pub returns-in_ok-insert-in-None-clause-entries : goal.returns-in_ok-insert-in-None-clause-entries
-unfolding all_entries
-returns-in_ok-insert-in-None-clause-entries g c = rw (← c.self.view_is, ← c.into_string-in-None.ensures.text, c.in-None.is) (ap named_entries c.in_ok-insert-in-None.ensures.entries ∙ named_entries-insert_entry _ _ c.self.inside.others)
+either : {T E P Q R : Type 0} (r : Result T E) → OnOk r P → OnErr r Q → (P → R) → (Q → R) → R
+either (Ok x) p q f g = f p
+either (Err e) p q f g = g q
 
-pub returns-in_ok-insert-in-None-clause-set : goal.returns-in_ok-insert-in-None-clause-set
-unfolding all_entries
-returns-in_ok-insert-in-None-clause-set g c = rw (returns-in_ok-insert-in-None-clause-entries g c) (attribute_at-with_attribute _ _ _)
+-- an attribute takes the place of the first one
+pub returns-then-has_name-clause-old : goal.returns-then-has_name-clause-old
+returns-then-has_name-clause-old g c =
+    let under : is_under c.self.inside.first (text_of c.args.key) ≡ true = subst (λ key. is_under c.self.inside.first key ≡ true) c.as_str.ensures.text (sym c.has_name.ensures ∙ c.if-has_name.true) in
+    rw (← c.self.view_is) (c.replace_attribute.ensures.old ∙ sym (attribute_at-first c.self.inside.first c.self.inside.others (text_of c.args.key) under))
 
-pub returns-in_ok-insert-in-Some-clause-old : goal.returns-in_ok-insert-in-Some-clause-old
-unfolding all_entries
-returns-in_ok-insert-in-Some-clause-old g c =
-    let e : bytes_eq (text_of c.args.key) (string_bytes c.in-Some.entry.name) ≡ false = rw (← c.as_str.ensures.text, ← c.as_str-in-Some.ensures.value) (sym c.eq.ensures ∙ c.if-eq.false) in
-    rw (← c.self.view_is, c.in-Some.is, e)
-    (subst (λ key. c.in_ok-insert-in-Some.field-0 ≡ attribute_at (named_entries c.self.inside.others) key) c.into_string.ensures.text
-    (c.in_ok-insert-in-Some.ensures.old ∙ sym (attribute_at-named_entries _ c.self.inside.others)))
+pub returns-then-has_name-clause-entries : goal.returns-then-has_name-clause-entries
+returns-then-has_name-clause-entries g c =
+    let under : is_under c.self.inside.first (text_of c.args.key) ≡ true = subst (λ key. is_under c.self.inside.first key ≡ true) c.as_str.ensures.text (sym c.has_name.ensures ∙ c.if-has_name.true) in
+    rw (← c.self.view_is, c.replace_attribute.ensures.new) (with_attribute-first c.self.inside.first c.self.inside.others (text_of c.args.key) c.args.attr under)
 
-pub returns-in_ok-insert-in-Some-clause-entries : goal.returns-in_ok-insert-in-Some-clause-entries
-unfolding all_entries
-returns-in_ok-insert-in-Some-clause-entries g c =
-    let e : bytes_eq (text_of c.args.key) (string_bytes c.in-Some.entry.name) ≡ false = rw (← c.as_str.ensures.text, ← c.as_str-in-Some.ensures.value) (sym c.eq.ensures ∙ c.if-eq.false) in
-    rw (← c.self.view_is, c.in-Some.is) (put_behind c.in-Some.entry c.self.inside.others _ _ (text_of c.args.key) c.args.attr c.into_string.ensures.text e c.in_ok-insert-in-Some.ensures.entries)
+pub returns-then-has_name-clause-set : goal.returns-then-has_name-clause-set
+returns-then-has_name-clause-set g c =
+    subst (λ es. SetsAttribute c.args.self.now es (text_of c.args.key) c.args.attr) (sym (returns-then-has_name-clause-entries g c)) (attribute_at-with_attribute _ _ _)
 
-pub returns-in_ok-insert-in-Some-clause-set : goal.returns-in_ok-insert-in-Some-clause-set
-unfolding all_entries
-returns-in_ok-insert-in-Some-clause-set g c =
-    subst (λ es. SetsAttribute c.args.self.now es (text_of c.args.key) c.args.attr) (sym (returns-in_ok-insert-in-Some-clause-entries g c)) (attribute_at-with_attribute _ _ _)
+pub invariant_of-self : goal.invariant_of-self
+invariant_of-self g c =
+    let under : is_under c.self.inside.first (text_of c.args.key) ≡ true = subst (λ key. is_under c.self.inside.first key ≡ true) c.as_str.ensures.text (sym c.has_name.ensures ∙ c.if-has_name.true) in
+    rw (c.replace_attribute.ensures.new, with_attribute-first c.self.inside.first c.self.inside.others (text_of c.args.key) c.args.attr under) (entries_put _ (text_of c.args.key) c.args.attr c.args.key.valid c.self.invariant)
 
-pub invariant_of-self-in-Some : goal.invariant_of-self-in-Some
-unfolding all_entries
-invariant_of-self-in-Some g c =
-    let e : bytes_eq (text_of c.args.key) (string_bytes c.in-Some.entry.name) ≡ false = rw (← c.as_str.ensures.text, ← c.as_str-in-Some.ensures.value) (sym c.eq.ensures ∙ c.if-eq.false) in
-    let old : AreEntries (named c.in-Some.entry ∷ named_entries c.self.inside.others) = subst (λ o. AreEntries (all_entries o c.self.inside.others)) c.in-Some.is c.self.invariant in
-    rw (put_behind c.in-Some.entry c.self.inside.others _ _ (text_of c.args.key) c.args.attr c.into_string.ensures.text e c.in_ok-insert-in-Some.ensures.entries)
-    (entries_put _ (text_of c.args.key) c.args.attr c.args.key.valid old)
+-- an attribute is the first one
+pub returns-then-is_empty-clause-old : goal.returns-then-is_empty-clause-old
+returns-then-is_empty-clause-old g c =
+    let seen = c.self.view_is in
+    let is = c.is_empty.ensures in
+    let so = c.if-is_empty.true in
+    let empty : eqb (length c.args.self.now) 0 ≡ true = cc in
+    attribute_at-none c.args.self.now (text_of c.args.key) (eqb-true (length c.args.self.now) 0 empty)
+
+pub returns-then-is_empty-clause-entries : goal.returns-then-is_empty-clause-entries
+returns-then-is_empty-clause-entries g c =
+    let seen = c.self.view_is in
+    let is = c.is_empty.ensures in
+    let so = c.if-is_empty.true in
+    let empty : eqb (length c.args.self.now) 0 ≡ true = cc in
+    let none : length (all_entries c.self.inside.first c.self.inside.others) ≡ 0 = subst (λ es. length es ≡ 0) (sym seen) (eqb-true (length c.args.self.now) 0 empty) in
+    rw (← c.self.view_is) (with_attribute-only c.self.inside.first c.begin.new.entry c.self.inside.others (text_of c.args.key) c.args.attr none c.begin.ensures)
+
+pub returns-then-is_empty-clause-set : goal.returns-then-is_empty-clause-set
+returns-then-is_empty-clause-set g c =
+    subst (λ es. SetsAttribute c.args.self.now es (text_of c.args.key) c.args.attr) (sym (returns-then-is_empty-clause-entries g c)) (attribute_at-with_attribute _ _ _)
 
 pub invariant_of-self-then-is_empty : goal.invariant_of-self-then-is_empty
-unfolding all_entries
 invariant_of-self-then-is_empty g c =
-    rw c.into_string-then-is_empty.ensures.text (only_entry c.self.inside.others (text_of c.args.key) c.args.attr c.args.key.valid (c.is_empty.ensures.0 c.if-is_empty.true))
+    let seen = c.self.view_is in
+    let is = c.is_empty.ensures in
+    let so = c.if-is_empty.true in
+    let empty : eqb (length c.args.self.now) 0 ≡ true = cc in
+    let none : length (all_entries c.self.inside.first c.self.inside.others) ≡ 0 = subst (λ es. length es ≡ 0) (sym seen) (eqb-true (length c.args.self.now) 0 empty) in
+    rw (with_attribute-only c.self.inside.first c.begin.new.entry c.self.inside.others (text_of c.args.key) c.args.attr none c.begin.ensures)
+    (entries_put _ (text_of c.args.key) c.args.attr c.args.key.valid c.self.invariant)
 
-pub invariant_of-self-in-None : goal.invariant_of-self-in-None
-unfolding all_entries
-invariant_of-self-in-None g c =
-    let old : AreEntries (named_entries c.self.inside.others) = subst (λ o. AreEntries (all_entries o c.self.inside.others)) c.in-None.is c.self.invariant in
-    let put = ap named_entries c.in_ok-insert-in-None.ensures.entries ∙ named_entries-insert_entry _ _ c.self.inside.others in
-    rw (c.in-None.is, put, c.into_string-in-None.ensures.text) (entries_put _ (text_of c.args.key) c.args.attr c.args.key.valid old)
+-- an attribute stands among the others
+pub returns-clause-old : goal.returns-clause-old
+returns-clause-old g c =
+    let other : is_under c.self.inside.first (text_of c.args.key) ≡ false = subst (λ key. is_under c.self.inside.first key ≡ false) c.as_str.ensures.text (sym c.has_name.ensures ∙ c.if-has_name.false) in
+    if_ok_same c.insert.result _ _ (attribute_at-string c.self.inside.first c.self.inside.others c.into_string.result (text_of c.args.key) c.into_string.ensures.text other ∙ ap (λ es. attribute_at es (text_of c.args.key)) c.self.view_is)
+    c.insert.ensures.old
+
+pub returns-clause-entries : goal.returns-clause-entries
+returns-clause-entries g c =
+    let other : is_under c.self.inside.first (text_of c.args.key) ≡ false = subst (λ key. is_under c.self.inside.first key ≡ false) c.as_str.ensures.text (sym c.has_name.ensures ∙ c.if-has_name.false) in
+    put-entries c.insert.result c.self.inside.first c.self.inside.others c.insert.new.self c.args.self.now c.into_string.result (text_of c.args.key) c.args.attr c.into_string.ensures.text other c.self.view_is c.insert.ensures.entries
+
+pub returns-clause-set : goal.returns-clause-set
+returns-clause-set g c =
+    let other : is_under c.self.inside.first (text_of c.args.key) ≡ false = subst (λ key. is_under c.self.inside.first key ≡ false) c.as_str.ensures.text (sym c.has_name.ensures ∙ c.if-has_name.false) in
+    put-attribute c.insert.result c.self.inside.first c.self.inside.others c.insert.new.self c.args.self.now c.into_string.result (text_of c.args.key) c.args.attr c.into_string.ensures.text other c.self.view_is c.insert.ensures.entries
+
+pub invariant_of-self-2 : goal.invariant_of-self-2
+invariant_of-self-2 g c =
+    let other : is_under c.self.inside.first (text_of c.args.key) ≡ false = subst (λ key. is_under c.self.inside.first key ≡ false) c.as_str.ensures.text (sym c.has_name.ensures ∙ c.if-has_name.false) in
+    either c.insert.result c.insert.ensures.entries c.insert.ensures.err
+    (λ put. rw (with_attribute-others c.self.inside.first c.self.inside.others _ c.into_string.result (text_of c.args.key) c.args.attr c.into_string.ensures.text other put) (entries_put _ (text_of c.args.key) c.args.attr c.args.key.valid c.self.invariant))
+    (λ same. rw same c.self.invariant)
