@@ -1,5 +1,6 @@
 //! The machine: steps over the flat form, with the frames on a stack of their own.
-ghost use Rattle.std.specs.Prelude.{◌≡◌, ◌∷◌, ◌-◌, ◌^◌, ◌<◌, Some, length, map, reverse, nat_eq, slice_get, option_copied, option_map, IfOk, OnOk};
+ghost use Rattle.std.specs.Prelude.{◌≡◌, ◌∷◌, ◌-◌, ◌^◌, ◌<◌, ◌≤◌, Some, length, map, reverse, nat_eq, slice_get, option_copied, option_map, IfOk, OnOk};
+ghost use Rattle.kit_ops.specs.Arithmetic.{calc, compare, bit};
 ghost use Rattle.kit_flat.specs.Machine.{bind_all, arguments_of, first_frame, chosen, entered, on_top, resumed, returned, step, run, start};
 ghost use Rattle.kit_flat.specs.View.{numbers_of, block_view, block_in, flat_code, frame_view, state_view};
 ghost use Rattle.kit_flat.specs.Sound.{AreBelow, EdgeOperandsFit, ArgumentsFit, Fetched, results_named, FlatFunctionsFit, IsActive, IsAtInstruction, IsRunning};
@@ -8,6 +9,7 @@ ghost use Rattle.kit_flat.specs.Shows.{TurnShows, BindsNumber, OutcomeShows, alo
 use crate::flat::{FlatEdge, FlatFunction, FlatModule, Instruction};
 use crate::frames::{FlatFrame, bind_list, gather};
 use crate::outcome::Outcome;
+use kit_ops::{Arithmetic, Comparison};
 use std::alloc::{AllocError, Global};
 use std::mem;
 
@@ -156,7 +158,7 @@ impl Running {
                 left,
                 right,
             } => {
-                match function.calculate(*width, self.top.values[*left], self.top.values[*right]) {
+                match self.calculated(*function, *width, *left, *right) {
                     None => Ok(Turn::Failed),
                     Some(number) => {
                         self.bind(*result, number);
@@ -170,7 +172,7 @@ impl Running {
                 left,
                 right,
             } => {
-                let bit = function.bit(self.top.values[*left], self.top.values[*right]);
+                let bit = self.compared(*function, *left, *right);
                 self.bind(*result, bit);
                 Ok(Turn::On)
             }
@@ -192,6 +194,29 @@ impl Running {
             } => self.branch(code, *condition, taken, otherwise),
             Instruction::Return(values) => self.leave(alloc, code, values.as_slice()),
         }
+    }
+
+    /// The result of arithmetic on the numbers of two values, or `None` where it traps.
+    #[inline]
+    fn calculated(&self, function: Arithmetic, width: u32, left: usize, right: usize) -> Option<u64>
+        requires width { width ≤ 64 }
+        requires left { left < length self.now.top.values.items }
+        requires right { right < length self.now.top.values.items }
+        ensures { result ≡ calc function width (numbers_of self.now.top.values.items left)
+            (numbers_of self.now.top.values.items right) }
+    {
+        function.calculate(width, self.top.values[left], self.top.values[right])
+    }
+
+    /// Whether the numbers of two values compare so, as a number of one bit.
+    #[inline]
+    fn compared(&self, function: Comparison, left: usize, right: usize) -> u64
+        requires left { left < length self.now.top.values.items }
+        requires right { right < length self.now.top.values.items }
+        ensures { result ≡ bit (compare function (numbers_of self.now.top.values.items left)
+            (numbers_of self.now.top.values.items right)) }
+    {
+        function.bit(self.top.values[left], self.top.values[right])
     }
 
     /// Binds a value to a number, and goes on to the next instruction.

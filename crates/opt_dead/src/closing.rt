@@ -1,8 +1,10 @@
 //! Which arguments of blocks may go.
-ghost use Rattle.std.specs.Prelude.{◌≡◌, ◌↔◌, IfOk, IsSome, IsTrue, length};
+ghost use Rattle.std.specs.Prelude.{◌≡◌, ◌↔◌, ℕ, IfOk, IsSome, IsTrue, Some, length, slice_get};
 ghost use Rattle.ir_program.specs.Program.{block_at};
 ghost use Rattle.ir_program.specs.declared.handles.BasicBlock.{BasicBlock};
 ghost use Rattle.ir_program.specs.declared.handles.Ptr.{Ptr};
+ghost use Rattle.ir_program.specs.declared.handles.Value.{Value};
+ghost use Rattle.opt_solvers.specs.declared.dead_problem.Argument.{Argument};
 ghost use Rattle.opt_inside.specs.Numbered.{numbers_of};
 ghost use Rattle.opt_dead.specs.Problems.{AreBlockRows, AreThere, AreValueRows, HasBranchesOnly, IsBlockRow, IsRemovable, TakesRow};
 ghost use Rattle.ir_program.specs.declared.handles.DefiningEntity.TheVariants.{Block};
@@ -103,6 +105,27 @@ fn value_row(inside: &Inside, blocks: &[Argument], value: Value) -> Argument
     }
 }
 
+/// What is to be known of each value as an argument, by what is to be known of the arguments of each block.
+fn value_rows_by(
+    alloc: Global,
+    inside: &Inside,
+    blocks: &[Argument],
+) -> Result<Vec<Argument>, AllocError>
+    requires blocks { length blocks.now ≡ length (numbers_of inside.now).blocks }
+    requires definers { (v : Value) (b : Ptr BasicBlock) → Lists (numbers_of inside.now).values v
+        → v.definer ≡ Block b → Lists (numbers_of inside.now).blocks b }
+    ensures len { IfOk result (λ rows. length rows.items ≡ length (numbers_of inside.now).values) }
+    ensures rows { IfOk result (λ rows. (k : ℕ) (v : Value) (row : Argument)
+        → slice_get (numbers_of inside.now).values k ≡ Some v → slice_get rows.items k ≡ Some row
+        → TakesRow (numbers_of inside.now) blocks.now v row) }
+{
+    let mut rows = Vec::with_capacity(alloc, inside.values.len())?;
+    for value in inside.values.as_slice() {
+        rows.push(value_row(inside, blocks, *value))?;
+    }
+    Ok(rows)
+}
+
 /// What is to be known of each value as an argument.
 pub(crate) fn value_rows<D: OptDialect>(
     alloc: Global,
@@ -114,9 +137,5 @@ pub(crate) fn value_rows<D: OptDialect>(
     ensures rows { IfOk result (λ rows. AreValueRows D.meaning program.now (numbers_of inside.now) rows.items) }
 {
     let blocks = block_rows::<D>(alloc, program, inside)?;
-    let mut rows = Vec::with_capacity(alloc, inside.values.len())?;
-    for value in inside.values.as_slice() {
-        rows.push(value_row(inside, &blocks, *value))?;
-    }
-    Ok(rows)
+    value_rows_by(alloc, inside, &blocks)
 }

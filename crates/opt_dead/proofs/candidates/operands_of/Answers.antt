@@ -1,4 +1,4 @@
-use Rattle.std.proofs.Common.{◌≡◌, ℕ, ◌++◌, ◌∷◌, List, [], Option, Some, None, slice_get, get_or, sym, ap, subst, ◌∙◌}
+use Rattle.std.proofs.Common.{◌≡◌, ℕ, ◌++◌, ◌∷◌, List, [], Option, Some, None, slice_get, get_or, length, arith, sym, ap, subst, ◌∙◌}
 use Rattle.opt_inside.specs.Numbered.{numbers_of}
 use Rattle.opt_solvers.specs.declared.dead_problem.Operand.{Operand}
 use Rattle.opt_dead.specs.Problems.{IsOperandOf}
@@ -10,6 +10,9 @@ pub plain_operands-requires-clause-plain : goal.plain_operands-requires-clause-p
 plain_operands-requires-clause-plain g c =
     not_branch g.D.Meanings.meaning c.args.program.now c.args.op c.payload.result.now c.is_branch.result
     c.payload.ensures c.is_branch.ensures c.if-not-is_branch.true
+
+pub operand-requires : goal.operand-requires
+operand-requires g c = let e = ap length c.deref-target-items.ensures.value in omega (arith, e, c.in_ok-targets.ensures.len, c.loop-index-test.true)
 
 pub loop-index-preserved : goal.loop-index-preserved
 loop-index-preserved g c =
@@ -32,3 +35,6 @@ loop-index-preserved g c =
 
 pub returns-clause-operands : goal.returns-clause-operands
 returns-clause-operands g c = c.loop-index.invariant.operands
+
+pub returns-clause-len : goal.returns-clause-len
+returns-clause-len g c = let e = ap length c.deref-target-items.ensures.value in omega (arith, e, c.in_ok-targets.ensures.len, c.loop-index-test.false, c.loop-index.invariant.len, c.loop-index.auto.index-end)

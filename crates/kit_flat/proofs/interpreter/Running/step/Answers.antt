@@ -1,8 +1,7 @@
-use Rattle.std.proofs.Common.{◌≡◌, ◌∙◌, sym, ap, subst, refl, ℕ, [], ◌∷◌, ◌++◌, Some}
+use Rattle.std.proofs.Common.{◌∙◌, sym, ap, subst, refl, ℕ, [], ◌∷◌, ◌++◌, Some}
 use Rattle.std.specs.Prelude.{IfOk}
 use Rattle.std.proofs.lemmas.List.{get_or_read}
 use Rattle.kit_flat.specs.Machine.{MachineState}
-use Rattle.kit_ops.specs.Arithmetic.{calc, compare, bit}
 use Rattle.kit_flat.specs.Sound.{Fetched}
 use Rattle.kit_flat.specs.Shows.{TurnShows}
 use Rattle.kit_flat.specs.declared.flat.Instruction.{Instruction}
@@ -22,38 +21,28 @@ returns-in-Constant c =
     constant_turn c.args.code.now.functions.items c.args.self.now c.requires.running c.in-Constant.result
     c.in-Constant.number at _ c.bind.ensures
 
-pub returns-in-None-calculate : goal.returns-in-None-calculate
-returns-in-None-calculate c =
+pub returns-in-None-calculated : goal.returns-in-None-calculated
+returns-in-None-calculated c =
     let at = subst (λ (o : Instruction). Fetched c.args.code.now.functions.items c.args.self.now.top (Some o))
     c.in-Calculate.is c.in-Some.ensures in
-    let x = get_or_read c.args.self.now.top.values.items c.in-Calculate.left c.index.result.now at.fits.0.2
-    c.index.ensures 0 in
-    let y = get_or_read c.args.self.now.top.values.items c.in-Calculate.right c.index-in-Calculate.result.now
-    at.fits.0.3 c.index-in-Calculate.ensures 0 in
     calculate_fault c.args.code.now.functions.items c.args.self.now c.requires.running c.in-Calculate.function
     c.in-Calculate.width c.in-Calculate.result c.in-Calculate.left c.in-Calculate.right at
-    (sym (c.in-None-calculate.ensures ∙ (λ i. calc c.in-Calculate.function c.in-Calculate.width (x i) (y i))))
+    (sym c.in-None-calculated.ensures)
 
-pub returns-in-Some-calculate : goal.returns-in-Some-calculate
-returns-in-Some-calculate c =
+pub returns-in-Some-calculated : goal.returns-in-Some-calculated
+returns-in-Some-calculated c =
     let at = subst (λ (o : Instruction). Fetched c.args.code.now.functions.items c.args.self.now.top (Some o))
     c.in-Calculate.is c.in-Some.ensures in
-    let x = get_or_read c.args.self.now.top.values.items c.in-Calculate.left c.index.result.now at.fits.0.2
-    c.index.ensures 0 in
-    let y = get_or_read c.args.self.now.top.values.items c.in-Calculate.right c.index-in-Calculate.result.now
-    at.fits.0.3 c.index-in-Calculate.ensures 0 in
     calculate_turn c.args.code.now.functions.items c.args.self.now c.requires.running c.in-Calculate.function
     c.in-Calculate.width c.in-Calculate.result c.in-Calculate.left c.in-Calculate.right
-    c.in-Some-calculate.number at
-    (sym (c.in-Some-calculate.ensures ∙ (λ i. calc c.in-Calculate.function c.in-Calculate.width (x i)
-    (y i)))) _ c.bind-in-Some-calculate.ensures
+    c.in-Some-calculated.number at (sym c.in-Some-calculated.ensures) _ c.bind-in-Some-calculated.ensures
 
 pub returns-in_ok-push-in-Emit : goal.returns-in_ok-push-in-Emit
 returns-in_ok-push-in-Emit c =
     let at = subst (λ (o : Instruction). Fetched c.args.code.now.functions.items c.args.self.now.top (Some o))
     c.in-Emit.is c.in-Some.ensures in
-    let x = get_or_read c.args.self.now.top.values.items c.in-Emit.value c.index-in-Emit.result.now at.fits.0
-    c.index-in-Emit.ensures 0 in
+    let x = get_or_read c.args.self.now.top.values.items c.in-Emit.value c.index.result.now at.fits.0
+    c.index.ensures 0 in
     emit_turn c.args.code.now.functions.items c.args.self.now c.requires.running c.in-Emit.value at _ refl refl refl
     refl refl
     (c.in_ok-push-in-Emit.ensures.items ∙ ap (λ (n : ℕ). c.args.self.now.emissions.items ++ n ∷ []) x)
@@ -62,13 +51,9 @@ pub returns-in-Compare : goal.returns-in-Compare
 returns-in-Compare c =
     let at = subst (λ (o : Instruction). Fetched c.args.code.now.functions.items c.args.self.now.top (Some o))
     c.in-Compare.is c.in-Some.ensures in
-    let x = get_or_read c.args.self.now.top.values.items c.in-Compare.left c.index-in-Compare.result.now at.fits.0.1
-    c.index-in-Compare.ensures 0 in
-    let y = get_or_read c.args.self.now.top.values.items c.in-Compare.right c.index-in-Compare-2.result.now
-    at.fits.0.2 c.index-in-Compare-2.ensures 0 in
     compare_turn c.args.code.now.functions.items c.args.self.now c.requires.running c.in-Compare.function
-    c.in-Compare.result c.in-Compare.left c.in-Compare.right c.bit-bit.result at
-    (sym (c.bit-bit.ensures ∙ (λ i. bit (compare c.in-Compare.function (x i) (y i))))) _ c.bind-in-Compare.ensures
+    c.in-Compare.result c.in-Compare.left c.in-Compare.right c.compared-bit.result at
+    (sym c.compared-bit.ensures) _ c.bind-in-Compare.ensures
 
 pub call-requires-clause-waits : goal.call-requires-clause-waits
 call-requires-clause-waits c =

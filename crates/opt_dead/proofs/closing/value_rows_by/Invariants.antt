@@ -2,11 +2,11 @@ use Rattle.std.proofs.Common.{◌≡◌, ℕ, Some, length, slice_get}
 use Rattle.ir_program.specs.declared.handles.Value.{Value}
 use Rattle.opt_solvers.specs.declared.dead_problem.Argument.{Argument}
 use Rattle.opt_inside.specs.Numbered.{numbers_of}
-use Rattle.opt_dead.specs.Problems.{IsValueRow}
-use Rattle.opt_dead.proofs.closing.value_rows.Given as goal
+use Rattle.opt_dead.specs.Problems.{TakesRow}
+use Rattle.opt_dead.proofs.closing.value_rows_by.Given as goal
 
 abbrev pub invariant-loop-value : goal.invariant-loop-value
-invariant-loop-value g l = record {
+invariant-loop-value l = record {
   len : length l.rows.items ≡ l.value-index;
-  rows : (k : ℕ) (row : Argument) → slice_get l.rows.items k ≡ Some row → (v : Value) → slice_get l.inside.values.keys k ≡ Some v → IsValueRow g.D.Meanings.meaning l.program (numbers_of l.inside) v row;
+  rows : (k : ℕ) (row : Argument) → slice_get l.rows.items k ≡ Some row → (v : Value) → slice_get l.inside.values.keys k ≡ Some v → TakesRow (numbers_of l.inside) l.blocks v row;
 }
