@@ -1,19 +1,26 @@
 //! Tests of dictionaries of attributes.
 use ir_names::{AttributeDict, Identifier, IdentifierError};
 use ir_scripts::tiny::{Tiny, TinyAttr};
-use std::alloc::Global;
+use std::alloc::{AllocError, Global};
 use std::hash::{FoldHasher, Hash, Hasher};
+use std::process::Abort;
 use std::test::Fail;
 
-#[test]
-fn holds_attributes(rt: HostRuntime) -> Result<(), Fail> {
-    let mut dict: AttributeDict<Tiny> = AttributeDict::new(rt.alloc());
+/// Lets a dictionary go. It stands in a function of its own so that it is proved once.
+fn finish(_dict: AttributeDict<Tiny>) {}
+
+/// The test of the same name, in a new dictionary.
+fn holds_attributes_in(
+    rt: &impl Abort,
+    alloc: Global,
+    dict: &mut AttributeDict<Tiny>,
+) -> Result<(), Fail> {
     assert!(rt; dict.is_empty());
-    let old = dict.set(Identifier::try_new(rt.alloc(), "b")?, TinyAttr::Number(3))?;
+    let old = dict.set(Identifier::try_new(alloc, "b")?, TinyAttr::Number(3))?;
     assert_eq!(rt; old, None);
-    let old = dict.set(Identifier::try_new(rt.alloc(), "a")?, TinyAttr::Number(4))?;
+    let old = dict.set(Identifier::try_new(alloc, "a")?, TinyAttr::Number(4))?;
     assert_eq!(rt; old, None);
-    let old = dict.set(Identifier::try_new(rt.alloc(), "b")?, TinyAttr::Number(5))?;
+    let old = dict.set(Identifier::try_new(alloc, "b")?, TinyAttr::Number(5))?;
     assert_eq!(rt; old, Some(TinyAttr::Number(3)));
     assert_eq!(rt; dict.len(), 2);
     assert_eq!(rt; dict.get("b"), Some(&TinyAttr::Number(5)));
@@ -21,6 +28,14 @@ fn holds_attributes(rt: HostRuntime) -> Result<(), Fail> {
     assert_eq!(rt; dict.entry(1), Some(("a", &TinyAttr::Number(4))));
     assert_eq!(rt; dict.entry(2), None);
     Ok(())
+}
+
+#[test]
+fn holds_attributes(rt: HostRuntime) -> Result<(), Fail> {
+    let mut dict: AttributeDict<Tiny> = AttributeDict::new(rt.alloc());
+    let outcome = holds_attributes_in(&rt, rt.alloc(), &mut dict);
+    finish(dict);
+    outcome
 }
 
 /// A dictionary of two numbers, under these names in this order.
@@ -41,20 +56,25 @@ fn pair(
     Ok(dict)
 }
 
-#[test]
-fn removes_attributes(rt: HostRuntime) -> Result<(), Fail> {
-    let mut dict = pair(rt.alloc(), ("b", 3), ("a", 4))?;
+/// Asserts that the two attributes of a dictionary are taken out of it.
+fn assert_removed(rt: &impl Abort, dict: &mut AttributeDict<Tiny>) {
     assert_eq!(rt; dict.remove("b"), Some(TinyAttr::Number(3)));
     assert_eq!(rt; dict.remove("b"), None);
     assert_eq!(rt; dict.get("a"), Some(&TinyAttr::Number(4)));
     assert_eq!(rt; dict.remove("a"), Some(TinyAttr::Number(4)));
     assert!(rt; dict.is_empty());
-    Ok(())
 }
 
 #[test]
-fn lends_attributes(rt: HostRuntime) -> Result<(), Fail> {
+fn removes_attributes(rt: HostRuntime) -> Result<(), Fail> {
     let mut dict = pair(rt.alloc(), ("b", 3), ("a", 4))?;
+    assert_removed(&rt, &mut dict);
+    finish(dict);
+    Ok(())
+}
+
+/// Gives a dictionary other attributes under its two names.
+fn change(rt: &impl Abort, dict: &mut AttributeDict<Tiny>) {
     if let Some(attr) = dict.get_mut("a") {
         *attr = TinyAttr::Number(9);
     }
@@ -62,20 +82,58 @@ fn lends_attributes(rt: HostRuntime) -> Result<(), Fail> {
         *attr = TinyAttr::Number(8);
     }
     assert!(rt; dict.get_mut("c").is_none());
+}
+
+/// Asserts that a dictionary has these two attributes, in this order, and no other.
+fn assert_pair(
+    rt: &impl Abort,
+    dict: &AttributeDict<Tiny>,
+    first: (&str, u64),
+    second: (&str, u64),
+) {
     let mut left = dict.iter();
-    assert_eq!(rt; left.next(), Some(("b", &TinyAttr::Number(8))));
-    assert_eq!(rt; left.next(), Some(("a", &TinyAttr::Number(9))));
+    assert_eq!(rt; left.next(), Some((first.0, &TinyAttr::Number(first.1))));
+    assert_eq!(rt; left.next(), Some((second.0, &TinyAttr::Number(second.1))));
     assert_eq!(rt; left.next(), None);
+}
+
+#[test]
+fn lends_attributes(rt: HostRuntime) -> Result<(), Fail> {
+    let mut dict = pair(rt.alloc(), ("b", 3), ("a", 4))?;
+    change(&rt, &mut dict);
+    assert_pair(&rt, &dict, ("b", 8), ("a", 9));
+    finish(dict);
     Ok(())
+}
+
+/// Whether dictionaries of two numbers each are equal.
+fn are_equal(
+    alloc: Global,
+    one: [(&str, u64); 2],
+    other: [(&str, u64); 2],
+) -> Result<bool, IdentifierError> {
+    let one = pair(alloc, one[0], one[1])?;
+    let other = pair(alloc, other[0], other[1])?;
+    Ok(one == other)
+}
+
+/// Whether a dictionary of two numbers is equal to one without any.
+fn is_empty_one(alloc: Global, one: [(&str, u64); 2]) -> Result<bool, IdentifierError> {
+    let one = pair(alloc, one[0], one[1])?;
+    Ok(one == AttributeDict::new(alloc))
 }
 
 #[test]
 fn compares_dictionaries(rt: HostRuntime) -> Result<(), Fail> {
-    let dict = pair(rt.alloc(), ("b", 3), ("a_1", 4))?;
-    assert!(rt; pair(rt.alloc(), ("a_1", 4), ("b", 3))? == dict);
-    assert!(rt; pair(rt.alloc(), ("b", 3), ("a_1", 5))? != dict);
-    assert!(rt; pair(rt.alloc(), ("b", 3), ("a", 4))? != dict);
-    assert!(rt; AttributeDict::new(rt.alloc()) != dict);
+    let one = [("b", 3), ("a_1", 4)];
+    for (other, equal) in [
+        ([("a_1", 4), ("b", 3)], true),
+        ([("b", 3), ("a_1", 5)], false),
+        ([("b", 3), ("a", 4)], false),
+    ] {
+        assert_eq!(rt; are_equal(rt.alloc(), one, other)?, equal);
+    }
+    assert!(rt; !is_empty_one(rt.alloc(), one)?);
     Ok(())
 }
 
@@ -86,24 +144,44 @@ fn hash_of(dict: &AttributeDict<Tiny>) -> u64 {
     hasher.finish()
 }
 
+/// What a dictionary of two numbers hashes to.
+fn hash_of_pair(alloc: Global, one: [(&str, u64); 2]) -> Result<u64, IdentifierError> {
+    Ok(hash_of(&pair(alloc, one[0], one[1])?))
+}
+
 #[test]
 fn hashes_dictionaries(rt: HostRuntime) -> Result<(), Fail> {
-    let hash = hash_of(&pair(rt.alloc(), ("b", 3), ("a_1", 4))?);
-    assert_eq!(rt; hash_of(&pair(rt.alloc(), ("a_1", 4), ("b", 3))?), hash);
-    assert_ne!(rt; hash_of(&pair(rt.alloc(), ("b", 3), ("a_1", 5))?), hash);
-    assert_ne!(rt; hash_of(&pair(rt.alloc(), ("b", 4), ("a_1", 3))?), hash);
+    let hash = hash_of_pair(rt.alloc(), [("b", 3), ("a_1", 4)])?;
+    for (other, equal) in [
+        ([("a_1", 4), ("b", 3)], true),
+        ([("b", 3), ("a_1", 5)], false),
+        ([("b", 4), ("a_1", 3)], false),
+    ] {
+        assert_eq!(rt; hash_of_pair(rt.alloc(), other)? == hash, equal);
+    }
     assert_ne!(rt; hash_of(&AttributeDict::new(rt.alloc())), hash);
+    Ok(())
+}
+
+/// Asserts that a copy of a dictionary of two numbers is that dictionary.
+fn assert_copied(
+    rt: &impl Abort,
+    alloc: Global,
+    dict: &AttributeDict<Tiny>,
+) -> Result<(), AllocError> {
+    let copy = dict.clone(alloc)?;
+    assert_pair(rt, &copy, ("b", 3), ("a", 4));
+    assert!(rt; copy == *dict);
+    finish(copy);
     Ok(())
 }
 
 #[test]
 fn copies_dictionaries(rt: HostRuntime) -> Result<(), Fail> {
     let dict = pair(rt.alloc(), ("b", 3), ("a", 4))?;
-    let copy = dict.clone(rt.alloc())?;
-    assert_eq!(rt; copy.entry(0), Some(("b", &TinyAttr::Number(3))));
-    assert_eq!(rt; copy.entry(1), Some(("a", &TinyAttr::Number(4))));
-    assert_eq!(rt; copy.len(), 2);
-    assert!(rt; copy == dict);
+    let outcome = assert_copied(&rt, rt.alloc(), &dict);
+    finish(dict);
+    outcome?;
     Ok(())
 }
 

@@ -2,6 +2,7 @@
 ghost use Rattle.std.specs.Prelude.{◌≡◌, IfOk, OnOk, IsSome};
 ghost use Rattle.ir_program.specs.Program.{operation_at};
 
+use crate::playing::finish;
 use ir_core::{
     BasicBlock, Context, GrowError, NewBlock, NewOperation, Operation, Ptr, Region, Room,
 };
@@ -58,6 +59,7 @@ fn make_each(alloc: Global, ctx: &mut Context<Tiny>) -> Result<(), AllocError>
 fn a_fresh_context_has_numbers(rt: HostRuntime) -> Result<(), Fail> {
     let mut ctx: Context<Tiny> = Context::new(rt.alloc());
     let outcome = make_each(rt.alloc(), &mut ctx);
+    finish(ctx);
     assert!(rt; outcome.is_ok());
     Ok(())
 }
@@ -78,6 +80,7 @@ fn make_room(ctx: &mut Context<Tiny>) -> Result<(), AllocError> {
 fn room_is_made_where_memory_is_ample(rt: HostRuntime) -> Result<(), Fail> {
     let mut ctx: Context<Tiny> = Context::new(rt.alloc());
     let made = make_room(&mut ctx);
+    finish(ctx);
     assert!(rt; made.is_ok());
     Ok(())
 }

@@ -122,9 +122,12 @@ fn assert_source(
     Ok(())
 }
 
-#[test]
-fn legalises_sources(rt: HostRuntime) -> Result<(), Fail> {
-    let mut legaliser = Legaliser::new(rt.alloc());
+/// The test of the same name, with a new legaliser.
+fn legalises_sources_in(
+    rt: &impl Abort,
+    alloc: Global,
+    legaliser: &mut Legaliser,
+) -> Result<(), Fail> {
     let rows = [
         ("hello_", "hello_"),
         ("hello.", "hello__0"),
@@ -135,18 +138,19 @@ fn legalises_sources(rt: HostRuntime) -> Result<(), Fail> {
         ("7é", "_7_"),
     ];
     for (source, name) in rows {
-        assert_legalised(&rt, &mut legaliser, source, name)?;
+        assert_legalised(rt, legaliser, source, name)?;
     }
     for (source, name) in rows {
-        assert_source(&rt, rt.alloc(), &legaliser, name, Some(source))?;
+        assert_source(rt, alloc, legaliser, name, Some(source))?;
     }
-    assert_source(&rt, rt.alloc(), &legaliser, "hello", None)?;
+    assert_source(rt, alloc, legaliser, "hello", None)?;
     Ok(())
 }
 
-/// Asserts that a source gets no name since the counter is full.
-fn assert_full(rt: &impl Abort, legaliser: &mut Legaliser, source: &str) {
-    assert_eq!(rt; legaliser.legalise(source), Err(GrowError::CounterFull));
+#[test]
+fn legalises_sources(rt: HostRuntime) -> Result<(), Fail> {
+    let mut legaliser = Legaliser::new(rt.alloc());
+    legalises_sources_in(&rt, rt.alloc(), &mut legaliser)
 }
 
 /// A legaliser that has one number left.
@@ -154,15 +158,27 @@ fn last_number(alloc: Global) -> Legaliser {
     Legaliser::counting_from(alloc, u64::MAX - 1)
 }
 
+/// Asserts what name a source gets, or that it gets none since the counter is full.
+fn assert_counted(rt: &impl Abort, legaliser: &mut Legaliser, source: &str, name: Option<&str>) {
+    match (legaliser.legalise(source), name) {
+        (Ok(found), Some(name)) => assert_eq!(rt; found.as_str(), name),
+        (found, _) => assert_eq!(rt; found, Err(GrowError::CounterFull)),
+    }
+}
+
 #[test]
 fn refuses_a_full_counter(rt: HostRuntime) -> Result<(), Fail> {
     let mut legaliser = last_number(rt.alloc());
     let numbered = "a__18446744073709551614";
-    assert_legalised(&rt, &mut legaliser, "a_", "a_")?;
-    assert_legalised(&rt, &mut legaliser, "a.", numbered)?;
-    assert_full(&rt, &mut legaliser, "a-");
-    assert_legalised(&rt, &mut legaliser, "a.", numbered)?;
-    assert_legalised(&rt, &mut legaliser, "b", "b")?;
+    for (source, name) in [
+        ("a_", Some("a_")),
+        ("a.", Some(numbered)),
+        ("a-", None),
+        ("a.", Some(numbered)),
+        ("b", Some("b")),
+    ] {
+        assert_counted(&rt, &mut legaliser, source, name);
+    }
     Ok(())
 }
 

@@ -12,9 +12,11 @@ use std::alloc::{AllocError, Global};
 use std::process::Abort;
 use std::test::Fail;
 
-#[test]
-fn interns_types(rt: HostRuntime) -> Result<(), Fail> {
-    let mut types: Types<Tiny> = Types::new(rt.alloc());
+/// Lets a table go. It stands in a function of its own so that it is proved once.
+fn finish_types(_types: Types<Tiny>) {}
+
+/// The test of the same name, in a new table.
+fn interns_types_in(rt: &impl Abort, types: &mut Types<Tiny>) -> Result<(), Fail> {
     assert!(rt; types.is_empty());
     let first = types.intern(TinyType::Integer(IntegerType { width: 7 }))?;
     let second = types.intern(TinyType::Named(NamedType { name: 7 }))?;
@@ -35,6 +37,14 @@ fn interns_types(rt: HostRuntime) -> Result<(), Fail> {
     Ok(())
 }
 
+#[test]
+fn interns_types(rt: HostRuntime) -> Result<(), Fail> {
+    let mut types: Types<Tiny> = Types::new(rt.alloc());
+    let outcome = interns_types_in(&rt, &mut types);
+    finish_types(types);
+    outcome
+}
+
 /// Gives a type of any dialect a body.
 fn give_body<D: DialectTables>(types: &mut Types<D>, ty: TypeHandle, body: D::TypeBody)
     requires { IsKnown types.old ty }
@@ -51,14 +61,13 @@ fn give_tiny_body(types: &mut Types<Tiny>, ty: TypeHandle, body: u64)
     *types.body_mut(ty) = Some(body);
 }
 
-#[test]
-fn gives_bodies(rt: HostRuntime) -> Result<(), Fail> {
-    let mut types: Types<Tiny> = Types::new(rt.alloc());
+/// The test of the same name, in a new table.
+fn gives_bodies_in(rt: &impl Abort, types: &mut Types<Tiny>) -> Result<(), Fail> {
     let first = types.intern(TinyType::Named(NamedType { name: 1 }))?;
     let second = types.intern(TinyType::Named(NamedType { name: 2 }))?;
     assert!(rt; types.is_known(first) && types.is_known(second));
-    give_body(&mut types, first, 10);
-    give_tiny_body(&mut types, second, 20);
+    give_body(types, first, 10);
+    give_tiny_body(types, second, 20);
     assert_eq!(rt; types.body(first), Some(&10));
     assert_eq!(rt; types.body(second), Some(&20));
     assert_eq!(rt;
@@ -72,8 +81,15 @@ fn gives_bodies(rt: HostRuntime) -> Result<(), Fail> {
 }
 
 #[test]
-fn tells_kinds_and_interfaces(rt: HostRuntime) -> Result<(), Fail> {
+fn gives_bodies(rt: HostRuntime) -> Result<(), Fail> {
     let mut types: Types<Tiny> = Types::new(rt.alloc());
+    let outcome = gives_bodies_in(&rt, &mut types);
+    finish_types(types);
+    outcome
+}
+
+/// The test of the same name, in a new table.
+fn tells_kinds_and_interfaces_in(rt: &impl Abort, types: &mut Types<Tiny>) -> Result<(), Fail> {
     let named = types.intern(TinyType::Named(NamedType { name: 1 }))?;
     assert!(rt; types.has_kind(named, TinyTypeKind::Named));
     assert!(rt; !types.has_kind(named, TinyTypeKind::Integer));
@@ -86,8 +102,15 @@ fn tells_kinds_and_interfaces(rt: HostRuntime) -> Result<(), Fail> {
 }
 
 #[test]
-fn saves_values(rt: HostRuntime) -> Result<(), Fail> {
+fn tells_kinds_and_interfaces(rt: HostRuntime) -> Result<(), Fail> {
     let mut types: Types<Tiny> = Types::new(rt.alloc());
+    let outcome = tells_kinds_and_interfaces_in(&rt, &mut types);
+    finish_types(types);
+    outcome
+}
+
+/// The test of the same name, in a new table.
+fn saves_values_in(rt: &impl Abort, types: &mut Types<Tiny>) -> Result<(), Fail> {
     let first = types.save(70)?;
     let second = types.save(80)?;
     assert_eq!(rt; types.save(70)?, first);
@@ -97,6 +120,14 @@ fn saves_values(rt: HostRuntime) -> Result<(), Fail> {
     assert_eq!(rt; *types.saved(second), 80);
     types.know_saved_distinct();
     Ok(())
+}
+
+#[test]
+fn saves_values(rt: HostRuntime) -> Result<(), Fail> {
+    let mut types: Types<Tiny> = Types::new(rt.alloc());
+    let outcome = saves_values_in(&rt, &mut types);
+    finish_types(types);
+    outcome
 }
 
 /// Asserts whether a kind implements an interface.

@@ -1,4 +1,5 @@
 //! Types, saved values, and what their markers say.
+use crate::playing::finish;
 use ir_core::{
     AttributeDict, AttributeLookups, Context, CoreError, Identifier, IdentifierError, Instantiate,
     InvalidIdentifier, TypeCalls, TypeHandle, TypeInterfaceHandle, TypedHandle, Uniqued,
@@ -9,9 +10,6 @@ use ir_scripts::tiny::{IntegerType, NamedType, Tiny, TinyAttr, TinyOp, TinyType}
 use std::alloc::{AllocError, Global};
 use std::process::Abort;
 use std::test::Fail;
-
-/// Lets a context go. It stands in a function of its own so that it is proved once.
-fn finish(_ctx: Context<Tiny>) {}
 
 /// The type of integers of 32 bits.
 fn integer(alloc: Global, ctx: &mut Context<Tiny>) -> Result<TypeHandle, AllocError> {

@@ -1,5 +1,5 @@
 -- What integers are read of their parts.
-use Rattle.std.proofs.Common.{◌≡◌, ℕ, ◌-◌, ◌*◌, ◌%◌, ◌^◌, ◌<◌, ◌≤◌, Bool, true, false, cond, ◌&&◌, List, [], ◌∷◌, length, Option, Some, None, nat_le, nat_lt, refl, sym, ap, ◌∙◌, subst, arith}
+use Rattle.std.proofs.Common.{◌≡◌, ℕ, ◌-◌, ◌*◌, ◌%◌, ◌^◌, ◌<◌, ◌≤◌, Bool, true, false, cond, ◌&&◌, List, [], ◌∷◌, length, get_or, Option, Some, None, nat_le, nat_lt, refl, sym, ap, ◌∙◌, subst, arith}
 use Rattle.std.proofs.Math.Pow.{pow_mono}
 use Rattle.std.proofs.lemmas.Nat.{pow_pos}
 use Rattle.std.proofs.lemmas.Bool.Decides.{nat_tests}
@@ -66,6 +66,13 @@ too_great w true m most (Some n) e h r = cc
 too_great w false m most (Some n) e h r = cc
 too_great w true m most None e h r = let top : 2 ^ w ≤ 2 ^ 64 = pow_mono most in omega arith
 too_great w false m most None e h r = let top : 2 ^ w ≤ 2 ^ 64 = pow_mono most in omega arith
+
+-- a list of two elements by its second
+pub second_of_two : {X : Type 0} (xs : List X) (y : X) → length xs ≡ 2 → y ≡ get_or xs 1 y → (x : X) × (xs ≡ x ∷ y ∷ [])
+second_of_two [] y n e = absurd (omega arith)
+second_of_two (a ∷ []) y n e = absurd (omega arith)
+second_of_two (a ∷ b ∷ []) y n e = (a, ap (λ z. a ∷ z ∷ []) (sym e))
+second_of_two (a ∷ b ∷ c ∷ rest) y n e = absurd (omega arith)
 
 module _ {D : Type 0} where
   -- what is no width has no values

@@ -1,11 +1,12 @@
 -- What is made of parts, and what is refused.
-use Rattle.std.proofs.Common.{◌≡◌, ℕ, ◌<◌, ◌≤◌, ◌^◌, Bool, true, false, ◌&&◌, ◌⊎◌, inl, inr, List, [], ◌∷◌, Option, Some, None, Result, Err, Vec, length, get_or, option_map, option_and_then, nat_lt, refl, sym, ap, ◌∙◌, subst, arith}
+use Rattle.std.proofs.Common.{◌≡◌, ℕ, ◌<◌, ◌≤◌, ◌^◌, ◌+◌, Bool, true, false, ◌&&◌, ◌⊎◌, inl, inr, List, [], ◌∷◌, ◌++◌, drop, Option, Some, None, Result, Ok, Err, IsErrAnd, Vec, length, get_or, option_map, option_and_then, nat_lt, refl, sym, ap, ◌∙◌, subst, arith}
 use Rattle.std.proofs.lemmas.Bool.Decides.{nat_tests}
+use Rattle.std.proofs.lemmas.List.{append_assoc, append-nil, drop_more, drop_all}
 use Rattle.std.specs.Global.{Global}
 use Rattle.ir_base.specs.declared.types.TypeHandle.{TypeHandle}
 use Rattle.ir_names.specs.Tree.{node, no_tree, a_tree}
 use Rattle.text_dialect.specs.declared.dialect.MakeFault.{MakeFault}
-use Rattle.text_dialect.specs.declared.dialect.MakeFault.TheVariants.{Refused}
+use Rattle.text_dialect.specs.declared.dialect.MakeFault.TheVariants.{Refused, Memory}
 use Rattle.ir_print.specs.declared.format.Part.{Part}
 use Rattle.ir_print.specs.Pieces.{list, item, ValueTree, Pieces}
 use Rattle.ir_print.specs.Shown.{said_width, said_type, said_list, leaf, ShowsAll, ShowsPart, ShowsParts, ShowsMembers, ShowsKey}
@@ -26,6 +27,17 @@ Equal X x y = x ≡ y
 pub refused_at : {X : Type 0} (P : ℕ → Type 0) (j : ℕ) → P j → (i : ℕ) → Equal (Result X MakeFault) (Err (Refused j)) (Err (Refused i)) → P i
 refused_at P j h i e = let same : j ≡ i = cc in subst P same h
 
+-- a fault of memory refuses no part
+pub memory_refuses_none : {X : Type 0} (r : Result X MakeFault) {P : Type 0} → IsErrAnd r (λ e. e ≡ Memory) → (i : ℕ) → r ≡ Err (Refused i) → P
+memory_refuses_none (Ok x) h i e = cc
+memory_refuses_none (Err x) h i e = cc
+
+none_is_no : {X Y : Type 0} {x : X} → None ≡ Some x → Y
+none_is_no e = cc
+
+pub no_value : {X Y : Type 0} (o : Option X) {x : X} → None ≡ o → o ≡ Some x → Y
+no_value o e f = none_is_no (e ∙ f)
+
 -- a value of two options
 both : {A B C : Type 0} (o : Option A) (p : Option B) (f : A → B → C) (z : C) → option_and_then (λ x. option_map (λ y. f x y) p) o ≡ Some z → (x : A) × (y : B) × (o ≡ Some x) × (p ≡ Some y) × (f x y ≡ z)
 both (Some x) (Some y) f z e = (x, y, refl, refl, cc)
@@ -44,6 +56,15 @@ two_items [] x y least most e f = absurd (omega arith)
 two_items (a ∷ []) x y least most e f = absurd (omega arith)
 two_items (a ∷ b ∷ []) x y least most e f = cc
 two_items (a ∷ b ∷ c ∷ rest) x y least most e f = absurd (omega arith)
+
+none_before : {X : Type 0} (o : Option (List X)) → o ≡ option_map (λ rest. [] ++ rest) o
+none_before (Some xs) = refl
+none_before None = refl
+
+one_before : {X : Type 0} (o : Option X) (x : X) (rest : Option (List X)) (xs ys : List X) → o ≡ Some x → ys ≡ xs ++ (x ∷ []) → option_map (λ r. xs ++ r) (option_and_then (λ y. option_map (λ r. y ∷ r) rest) o) ≡ option_map (λ r. ys ++ r) rest
+one_before None x rest xs ys e f = cc
+one_before (Some y) x None xs ys e f = refl
+one_before (Some y) x (Some r) xs ys e f = let same : y ≡ x = cc in ap Some (ap (λ z. xs ++ (z ∷ r)) same ∙ (sym (append_assoc xs (x ∷ []) r) ∙ ap (λ zs. zs ++ r) (sym f)))
 
 pub and_false : (a b : Bool) → (a ≡ false) ⊎ (b ≡ false) → (a && b) ≡ false
 and_false true b (inl h) = cc
@@ -72,6 +93,23 @@ module _ {D : Type 0} where
       let only = one_shown says types p ts h in
       let shown = type_shown says types p ty only.0 e only.2 in
       subst (λ (us : Pieces). (is_one is_type us ≡ true) × ShowsAll says types (one (leaf (said_type ty))) us) (sym (only.1 ∙ ap (λ t. a_tree t no_tree) shown.2)) (refl, (shown.3, tt))
+
+  -- the types of the members, of those so far and of what is left
+  pub types_first : (ms : List (Vec (Part D KitOp KitAttr KitType) Global)) (xs : List TypeHandle) → xs ≡ [] → each_type ms ≡ option_map (λ rest. xs ++ rest) (each_type ms)
+  types_first ms xs e = subst (λ ys. each_type ms ≡ option_map (λ rest. ys ++ rest) (each_type ms)) (sym e) (none_before (each_type ms))
+
+  here : (ms : List (Vec (Part D KitOp KitAttr KitType) Global)) (k : ℕ) (m : Vec (Part D KitOp KitAttr KitType) Global) → k < length ms → m ≡ get_or ms k m → drop k ms ≡ m ∷ drop (k + 1) ms
+  here ms k m small is = drop_more ms k m small ∙ ap (λ z. z ∷ drop (k + 1) ms) (sym is)
+
+  pub types_next : (ms : List (Vec (Part D KitOp KitAttr KitType) Global)) (k : ℕ) (m : Vec (Part D KitOp KitAttr KitType) Global) (ty : TypeHandle) (xs ys : List TypeHandle) → k < length ms → m ≡ get_or ms k m → one_type m.items ≡ Some ty → ys ≡ xs ++ (ty ∷ []) → each_type ms ≡ option_map (λ rest. xs ++ rest) (each_type (drop k ms)) →
+      each_type ms ≡ option_map (λ rest. ys ++ rest) (each_type (drop (k + 1) ms))
+  types_next ms k m ty xs ys small is e f h = h ∙ (ap (λ l. option_map (λ rest. xs ++ rest) (each_type l)) (here ms k m small is) ∙ one_before (one_type m.items) ty (each_type (drop (k + 1) ms)) xs ys e f)
+
+  pub types_none : (ms : List (Vec (Part D KitOp KitAttr KitType) Global)) (k : ℕ) (m : Vec (Part D KitOp KitAttr KitType) Global) (xs : List TypeHandle) → k < length ms → m ≡ get_or ms k m → one_type m.items ≡ None → each_type ms ≡ option_map (λ rest. xs ++ rest) (each_type (drop k ms)) → each_type ms ≡ None
+  types_none ms k m xs small is e h = h ∙ (ap (λ l. option_map (λ rest. xs ++ rest) (each_type l)) (here ms k m small is) ∙ ap (λ o. option_map (λ rest. xs ++ rest) (option_and_then (λ ty. option_map (λ tys. ty ∷ tys) (each_type (drop (k + 1) ms))) o)) e)
+
+  pub types_all : (ms : List (Vec (Part D KitOp KitAttr KitType) Global)) (k : ℕ) (xs : List TypeHandle) → length ms ≤ k → each_type ms ≡ option_map (λ rest. xs ++ rest) (each_type (drop k ms)) → each_type ms ≡ Some xs
+  types_all ms k xs past h = h ∙ (ap (λ l. option_map (λ rest. xs ++ rest) (each_type l)) (drop_all k ms past) ∙ ap Some (append-nil xs))
 
   not_one_type : (types : List KitType) (parts : List (Part D KitOp KitAttr KitType)) (ts : Pieces) → one_type parts ≡ None → ShowsParts says types parts ts → is_one is_type ts ≡ false
   not_one_type types parts ts e h = not_one says types is_type parts ts h (λ p t f s. not_type says types p t (sym (ap one_type f) ∙ e) s)

@@ -1,7 +1,6 @@
-use Rattle.std.proofs.Common.{◌≡◌, ◌∙◌, Some, IsSome, ap, sym, subst, slice_get}
+use Rattle.std.proofs.Common.{◌≡◌, ◌∙◌, Some, ap, sym, subst, slice_get}
 use Rattle.ir_trees.proofs.Members.{has_at}
 use Rattle.ir_program.specs.Lists.{StandsInOperation, regions_in}
-use Rattle.ir_program.specs.Program.{operation_at}
 use Rattle.kit_checks.specs.Passing.{BlockPasses}
 use Rattle.kit_checks.specs.World.{world_of}
 use Rattle.kit_checks.proofs.Passed.{seen_none, seen_more, seen_all, next_has, RegionGood, region_good_if, bad_region, all_regions}
@@ -34,6 +33,3 @@ pub returns : goal.returns
 returns g c =
     all_regions c.args.ctx.now.program (BlockPasses (world_of c.args.ctx.now) c.args.test) c.args.op
     (seen_all (RegionGood c.args.ctx.now.program (BlockPasses (world_of c.args.ctx.now) c.args.test)) (regions_in c.args.ctx.now.program c.args.op) c.loop-region.region-iterator c.in-None.ensures.steps.0 c.loop-region.invariant)
-
-pub regions-region-items-requires : goal.regions-region-items-requires
-regions-region-items-requires g c = subst (λ p. IsSome (operation_at p c.args.op)) (sym c.program-program.ensures) c.requires

@@ -1,7 +1,6 @@
-use Rattle.std.proofs.Common.{◌≡◌, ◌∙◌, Some, IsSome, ap, sym, subst, slice_get}
+use Rattle.std.proofs.Common.{◌≡◌, ◌∙◌, Some, ap, sym, subst, slice_get}
 use Rattle.ir_trees.proofs.Members.{has_at}
 use Rattle.ir_program.specs.Lists.{StandsInRegion, blocks_in}
-use Rattle.ir_program.specs.Program.{region_at}
 use Rattle.kit_checks.specs.Passing.{BlockPasses}
 use Rattle.kit_checks.specs.World.{world_of}
 use Rattle.kit_checks.proofs.Passed.{seen_none, seen_more, seen_all, next_has, BlockGood, good_if, bad_block, all_blocks}
@@ -34,6 +33,3 @@ pub returns : goal.returns
 returns g c =
     all_blocks c.args.ctx.now.program (BlockPasses (world_of c.args.ctx.now) c.args.test) c.args.region
     (seen_all (BlockGood c.args.ctx.now.program (BlockPasses (world_of c.args.ctx.now) c.args.test)) (blocks_in c.args.ctx.now.program c.args.region) c.loop-block.block-iterator c.in-None.ensures.steps.0 c.loop-block.invariant)
-
-pub blocks-block-items-requires : goal.blocks-block-items-requires
-blocks-block-items-requires g c = subst (λ p. IsSome (region_at p c.args.region)) (sym c.program-program.ensures) c.requires

@@ -3,7 +3,7 @@ use Rattle.std.proofs.lemmas.List.{length-drop, length-map, length-take-le}
 use Rattle.std.proofs.lemmas.Option.{slice_get-map}
 use Rattle.ir_program.specs.Program.{TypedValue, arguments_at, type_at}
 use Rattle.ir_program.specs.Rows.{operands_at}
-use Rattle.kit_checks.proofs.Rows.{agree_more, agree_all, get_run, not_at}
+use Rattle.kit_checks.proofs.Rows.{agree_more, agree_all, get_run, not_at, agree_none}
 use Rattle.kit_checks.proofs.edges.fit_arguments.Goals as goal
 
 pub loop-index-preserved : goal.loop-index-preserved
@@ -42,3 +42,6 @@ returns g c =
           (left ∙ sym same ∙ sym right) (let end = c.loop-index-test.false in omega arith) c.loop-index.invariant,
       λ h. refl,
     )
+
+pub loop-index-init : goal.loop-index-init
+loop-index-init g c = let p = c.args.ctx.now.program in agree_none (map (type_at p) (take c.args.count (drop c.args.first (operands_at p c.args.op)))) (map Some (map (λ (t : TypedValue). t.ty) (arguments_at p c.args.block)))

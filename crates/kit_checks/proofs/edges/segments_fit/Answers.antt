@@ -4,8 +4,8 @@ use Rattle.ir_program.specs.declared.handles.Ptr.{Ptr}
 use Rattle.ir_program.specs.declared.handles.BasicBlock.{BasicBlock}
 use Rattle.kit_checks.specs.Handing.{FitBlockArguments, segment_of}
 use Rattle.kit_checks.specs.World.{world_of}
-use Rattle.kit_checks.proofs.Handed.{behind_next, run_is}
-use Rattle.kit_checks.proofs.Rows.{each_more, each_all, not_each}
+use Rattle.kit_checks.proofs.Handed.{behind_next, run_is, behind_first}
+use Rattle.kit_checks.proofs.Rows.{each_more, each_all, not_each, each_none}
 use Rattle.kit_checks.proofs.edges.segments_fit.Goals as goal
 
 pub loop-index-preserved : goal.loop-index-preserved
@@ -35,3 +35,11 @@ returns g c =
     let p = c.args.ctx.now.program in
     each_all (λ (edge : ℕ) (b : Ptr BasicBlock). FitBlockArguments (world_of c.args.ctx.now) p (segment_of (operands_at p c.args.op) c.args.sizes.now edge) b) (successors_at p c.args.op) c.loop-index.index
     (let many = c.get_num_successors-index-end.ensures in let end = c.loop-index-test.false in omega arith) c.loop-index.invariant.fit
+
+pub loop-index-init : goal.loop-index-init
+loop-index-init g c =
+    let p = c.args.ctx.now.program in
+    record {
+      fit = each_none (λ (edge : ℕ) (b : Ptr BasicBlock). FitBlockArguments (world_of c.args.ctx.now) p (segment_of (operands_at p c.args.op) c.args.sizes.now edge) b) (successors_at p c.args.op);
+      next = behind_first (operands_at p c.args.op) c.args.sizes.now c.size_at-first.result (c.size_at-first.ensures ∙ ap (min (get_or c.args.sizes.now 0 0)) c.get_num_operands-operands.ensures);
+    }

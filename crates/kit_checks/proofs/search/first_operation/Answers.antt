@@ -1,4 +1,5 @@
-use Rattle.std.proofs.Common.{◌∙◌, subst, ap}
+use Rattle.ir_program.specs.Lists.{IsLiveNode}
+use Rattle.std.proofs.Common.{◌∙◌, subst, ap, sym}
 use Rattle.ir_program.specs.Preorder.{nodes_inside, AreInside}
 use Rattle.ir_program.specs.declared.handles.IRNode.TheVariants.{Operation as OperationNode}
 use Rattle.kit_checks.specs.World.{world_of}
@@ -35,3 +36,12 @@ returns-in-Some-broken_at g c =
 
 pub returns : goal.returns
 returns g c = search_ends (world_of c.args.ctx.now) c.args.ctx.now.program c.args.root c.args.rule c.loop-node.node-iterator c.in-None.ensures.steps.0 c.loop-node.invariant
+
+pub nodes_inside-node-items-requires : goal.nodes_inside-node-items-requires
+nodes_inside-node-items-requires g c = subst (λ p. IsLiveNode p (OperationNode c.args.root)) (sym c.program-program.ensures) c.requires.root
+
+pub broken_at-requires-clause-order : goal.broken_at-requires-clause-order
+broken_at-requires-clause-order g c = c.requires.order
+
+pub broken_at-requires-clause-tested : goal.broken_at-requires-clause-tested
+broken_at-requires-clause-tested g c = c.requires.tested

@@ -1,5 +1,6 @@
-use Rattle.std.proofs.Common.{◌∙◌, ap, refl, subst, sym, true≢false}
-use Rattle.ir_program.specs.Lists.{StandsInside}
+use Rattle.ir_program.specs.Program.{operation_at}
+use Rattle.std.proofs.Common.{◌∙◌, ap, refl, subst, sym, true≢false, IsSome}
+use Rattle.ir_program.specs.Lists.{StandsInside, IsLiveNode}
 use Rattle.ir_program.specs.Preorder.{nodes_inside, AreInside}
 use Rattle.ir_program.specs.declared.handles.IRNode.TheVariants.{Operation as OperationNode}
 use Rattle.ir_trees.specs.Stands.{StandsFor}
@@ -82,3 +83,12 @@ returns g c =
           c.loop-node.node-iterator c.in-None.ensures.steps.0 c.loop-node.invariant r tested,
       λ kept. refl,
     )
+
+pub know_tree-requires : goal.know_tree-requires
+know_tree-requires g c = subst (λ p. IsSome (operation_at p c.args.root)) (sym c.program-program.ensures) c.requires.root
+
+pub nodes_inside-node-items-requires : goal.nodes_inside-node-items-requires
+nodes_inside-node-items-requires g c = subst (λ p. IsLiveNode p (OperationNode c.args.root)) (sym c.program-program.ensures) c.requires.root
+
+pub keeps_all_at-requires-clause-order : goal.keeps_all_at-requires-clause-order
+keeps_all_at-requires-clause-order g c = c.requires.order

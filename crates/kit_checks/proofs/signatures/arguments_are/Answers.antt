@@ -2,7 +2,7 @@ use Rattle.std.proofs.Common.{◌≡◌, ◌↔◌, ◌∙◌, IsTrue, Some, ap,
 use Rattle.std.proofs.lemmas.List.{length-map}
 use Rattle.std.proofs.lemmas.Option.{slice_get-get_or, slice_get-map}
 use Rattle.ir_program.specs.Program.{TypedValue, arguments_at}
-use Rattle.kit_checks.proofs.Rows.{agree_more, agree_all, not_at}
+use Rattle.kit_checks.proofs.Rows.{agree_more, agree_all, not_at, agree_none}
 use Rattle.kit_checks.proofs.Trees.{argument_types}
 use Rattle.kit_checks.proofs.signatures.arguments_are.Goals as goal
 
@@ -28,3 +28,6 @@ returns g c b s = (
       m ∙ sym c.argument_count.ensures ∙ (let e : c.argument_count.result ≡ length c.args.types.now = omega arith in e)) c.loop-index-test.false c.loop-index.invariant,
   λ h. refl,
 )
+
+pub loop-index-init : goal.loop-index-init
+loop-index-init g c = let p = c.args.ctx.now.program in agree_none (map (λ (t : TypedValue). t.ty) (arguments_at p c.args.block)) c.args.types.now

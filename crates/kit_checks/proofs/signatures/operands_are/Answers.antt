@@ -3,7 +3,7 @@ use Rattle.std.proofs.lemmas.List.{length-map}
 use Rattle.std.proofs.lemmas.Option.{slice_get-get_or, slice_get-map}
 use Rattle.ir_program.specs.Program.{type_at}
 use Rattle.ir_program.specs.Rows.{operands_at}
-use Rattle.kit_checks.proofs.Rows.{agree_more, agree_all, not_at}
+use Rattle.kit_checks.proofs.Rows.{agree_more, agree_all, not_at, agree_none}
 use Rattle.kit_checks.proofs.Trees.{operands_are}
 use Rattle.kit_checks.proofs.signatures.operands_are.Goals as goal
 
@@ -32,3 +32,6 @@ returns g c u s = (
       (let m = length-map c.args.types.now Some in let l = c.loop-index-test.false in omega arith) c.loop-index.invariant,
   λ h. refl,
 )
+
+pub loop-index-init : goal.loop-index-init
+loop-index-init g c = let p = c.args.ctx.now.program in agree_none (map (type_at p) (operands_at p c.args.op)) (map Some c.args.types.now)

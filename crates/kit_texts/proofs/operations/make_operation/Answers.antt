@@ -1,4 +1,4 @@
-use Rattle.std.proofs.Common.{ap}
+use Rattle.std.proofs.Common.{ap, refl}
 use Rattle.kit_texts.specs.Forms.{NamedRegion, TypedRegion, Value, TwoOperands, OneOperand, AnyOperands, form_of}
 use Rattle.kit_texts.proofs.Numbered.{operation_made, operation_made_of, operation_refused, unread_refused}
 use Rattle.kit_texts.proofs.operations.make_operation.Goals as goal
@@ -56,3 +56,81 @@ returns-in-CondBr-clause-refused g c = λ i f. unread_refused c.args.kind c.args
 
 pub returns-in-Call-clause-refused : goal.returns-in-Call-clause-refused
 returns-in-Call-clause-refused g c = λ i f. unread_refused c.args.kind c.args.parts.now c.args.ctx.now.types.keys i (ap form_of c.in-Call.is) f
+
+pub returns-in-Module-clause-program : goal.returns-in-Module-clause-program
+returns-in-Module-clause-program g c = refl
+
+pub returns-in-Module-clause-types : goal.returns-in-Module-clause-types
+returns-in-Module-clause-types g c = λ ty key e. (e, refl)
+
+pub returns-in-Func-clause-program : goal.returns-in-Func-clause-program
+returns-in-Func-clause-program g c = refl
+
+pub returns-in-Func-clause-types : goal.returns-in-Func-clause-types
+returns-in-Func-clause-types g c = λ ty key e. (e, refl)
+
+pub returns-in-Arithmetic-clause-program : goal.returns-in-Arithmetic-clause-program
+returns-in-Arithmetic-clause-program g c = refl
+
+pub returns-in-Arithmetic-clause-types : goal.returns-in-Arithmetic-clause-types
+returns-in-Arithmetic-clause-types g c = λ ty key e. (e, refl)
+
+pub returns-in-Comparison-clause-program : goal.returns-in-Comparison-clause-program
+returns-in-Comparison-clause-program g c = refl
+
+pub returns-in-Comparison-clause-types : goal.returns-in-Comparison-clause-types
+returns-in-Comparison-clause-types g c = λ ty key e. (e, refl)
+
+pub returns-in-Emit-clause-program : goal.returns-in-Emit-clause-program
+returns-in-Emit-clause-program g c = refl
+
+pub returns-in-Emit-clause-types : goal.returns-in-Emit-clause-types
+returns-in-Emit-clause-types g c = λ ty key e. (e, refl)
+
+pub returns-in-Return-clause-program : goal.returns-in-Return-clause-program
+returns-in-Return-clause-program g c = refl
+
+pub returns-in-Return-clause-types : goal.returns-in-Return-clause-types
+returns-in-Return-clause-types g c = λ ty key e. (e, refl)
+
+pub returns-in-ForwardRef-clause-program : goal.returns-in-ForwardRef-clause-program
+returns-in-ForwardRef-clause-program g c = refl
+
+pub returns-in-ForwardRef-clause-types : goal.returns-in-ForwardRef-clause-types
+returns-in-ForwardRef-clause-types g c = λ ty key e. (e, refl)
+
+pub returns-in-Br-clause-program : goal.returns-in-Br-clause-program
+returns-in-Br-clause-program g c = refl
+
+pub returns-in-Br-clause-types : goal.returns-in-Br-clause-types
+returns-in-Br-clause-types g c = λ ty key e. (e, refl)
+
+pub returns-in-CondBr-clause-program : goal.returns-in-CondBr-clause-program
+returns-in-CondBr-clause-program g c = refl
+
+pub returns-in-CondBr-clause-types : goal.returns-in-CondBr-clause-types
+returns-in-CondBr-clause-types g c = λ ty key e. (e, refl)
+
+pub returns-in-Call-clause-program : goal.returns-in-Call-clause-program
+returns-in-Call-clause-program g c = refl
+
+pub returns-in-Call-clause-types : goal.returns-in-Call-clause-types
+returns-in-Call-clause-types g c = λ ty key e. (e, refl)
+
+pub returns-in-ForwardRef-clause-made : goal.returns-in-ForwardRef-clause-made
+returns-in-ForwardRef-clause-made g c = tt
+
+pub returns-in-Br-clause-made : goal.returns-in-Br-clause-made
+returns-in-Br-clause-made g c = tt
+
+pub returns-in-CondBr-clause-made : goal.returns-in-CondBr-clause-made
+returns-in-CondBr-clause-made g c = tt
+
+pub returns-in-Call-clause-made : goal.returns-in-Call-clause-made
+returns-in-Call-clause-made g c = tt
+
+pub returns-in-Constant-clause-program : goal.returns-in-Constant-clause-program
+returns-in-Constant-clause-program g c = c.make_constant.ensures.program
+
+pub returns-in-Constant-clause-types : goal.returns-in-Constant-clause-types
+returns-in-Constant-clause-types g c = c.make_constant.ensures.types
