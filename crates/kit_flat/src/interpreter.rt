@@ -314,7 +314,8 @@ impl Running {
         requires sound { FlatFunctionsFit code.now.functions.items }
         requires running { IsRunning code.now.functions.items self.old }
         requires edge { EdgeOperandsFit (length self.old.top.values.items) edge.now }
-        ensures { IfOk result (TurnShows code.now.functions.items (along code.now.functions.items self.old edge.now) self.new) }
+        ensures { IfOk result (TurnShows code.now.functions.items
+            (along code.now.functions.items self.old edge.now) self.new) }
     {
         let function = &code.functions[self.top.function];
         forward(&mut self.top.values, function, edge, &mut self.scratch)?;

@@ -103,7 +103,8 @@ impl Inside {
         values: NumberedList<Value>,
     ) -> Result<Inside, AllocError>
         requires { AreDistinct operations.items }
-        ensures { IfOk result (λ n. numbers_of n ≡ record { operations = operations.items; blocks = blocks.keys; values = values.keys }) }
+        ensures { IfOk result (λ n. numbers_of n
+            ≡ record { operations = operations.items; blocks = blocks.keys; values = values.keys }) }
     {
         let operations = NumberedList::new(alloc, operations)?;
         Ok(Inside {
