@@ -1,6 +1,7 @@
 //! Numbers of values that come to an end.
 use ir_base::{GrowError, TypeHandle};
 use ir_program::{Operation, Program, Ptr, Value};
+use std::alloc::Global;
 use std::process::Abort;
 use std::test::Fail;
 
@@ -20,15 +21,26 @@ fn result_count(rt: &impl Abort, program: &Program<u32, u64>, op: Ptr<Operation>
     program.result_count(op)
 }
 
+/// The test of the same name, in a new program that has one number left.
+fn numbers_come_to_an_end_in(
+    rt: &impl Abort,
+    alloc: Global,
+    program: &mut Program<u32, u64>,
+) -> Result<(), Fail> {
+    let op = program.new_operation(alloc, 1)?;
+    push_result(rt, program, op)?;
+    assert_eq!(rt; push_result(rt, program, op), Err(GrowError::CounterFull));
+    assert_eq!(rt; result_count(rt, program, op), 1);
+    Ok(())
+}
+
+/// Lets a program go. It stands in a function of its own so that it is proved once.
+fn finish(_program: Program<u32, u64>) {}
+
 #[test]
 fn numbers_come_to_an_end(rt: HostRuntime) -> Result<(), Fail> {
     let mut program: Program<u32, u64> = Program::counting_from(rt.alloc(), u64::MAX - 1);
-    let op = program.new_operation(rt.alloc(), 1)?;
-    push_result(&rt, &mut program, op)?;
-    assert_eq!(rt;
-        push_result(&rt, &mut program, op),
-        Err(GrowError::CounterFull)
-    );
-    assert_eq!(rt; result_count(&rt, &program, op), 1);
-    Ok(())
+    let outcome = numbers_come_to_an_end_in(&rt, rt.alloc(), &mut program);
+    finish(program);
+    outcome
 }
