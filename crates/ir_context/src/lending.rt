@@ -108,8 +108,8 @@ impl<D: DialectTables> TypedProgram<OperationData<D>, BlockNotes<D>, Types<D>> {
         // The first three lines name the type of `self`: by the dialect, its types, and what its traits say of them.
         ensures* lends { sem 𝓛
             (lends_type_body D.row D.TypeKind.row D.AttrKind.row D.TypeBody.row D.Saved.row D.Location.row D.OpKind.row D.Attr.row D.TypeKey.row
-            D.DialectTables.own D.OpKind.PartialEq D.OpKind.Hash.own D.OpKind.Debug D.Attr.PartialEq D.Attr.Hash.own D.Attr.Debug D.TypeKey.PartialEq D.TypeKey.Hash.own D.TypeKey.Debug
-            D.TypeKind.PartialEq D.TypeKind.Hash.own D.TypeKind.Debug D.AttrKind.PartialEq D.AttrKind.Hash.own D.AttrKind.Debug D.Saved.PartialEq D.Saved.Hash.own D.Location.PartialEq D.Location.Hash.own
+            D.DialectTables.own D.OpKind.PartialEq D.Attr.PartialEq D.Attr.Hash.own D.TypeKey.PartialEq D.TypeKey.Hash.own
+            D.TypeKind.PartialEq D.AttrKind.PartialEq D.Saved.PartialEq D.Saved.Hash.own D.Location.PartialEq D.Location.Hash.own
             ⟦<Types<D> as TypeTable>⟧ self.entry ty result) }
         ensures value { result.now ≡ body_at self.old.types ty }
     {

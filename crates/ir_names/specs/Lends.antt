@@ -3,7 +3,7 @@ use Rattle.std.specs.Prelude.{ℕ, List, Option, Some, None, String}
 use Rattle.std.specs.Borrow.{LendsIf, Fml, RattleType, MutBor}
 use Rattle.std.specs.HashMap.Lent.{HashMembers}
 use Rattle.std.specs.declared.alloc.Global.{Global}
-use Rattle.std.specs.declared.fmt.Debug as debug
+use Rattle.std.specs.declared.cmp.PartialEq as equality
 use Rattle.std.specs.contracts.option.Option.{the_row as option_row}
 use Rattle.indexmap.specs.IndexMap.{set_value_at}
 use Rattle.ir_names.specs.declared.dictionary.Entry.{Entry}
@@ -27,12 +27,11 @@ module _ (D K A T : RattleType) where
   abbrev pub lends_first : MutBor (Option (Entry D.Denot K.Denot A.Denot T.Denot)) → Option (MutBor A.Denot) → Fml
   lends_first s r = LendsIf (option_row (the_entry_row D K A T)) A s r (with_first_attribute s.now) s.now
 
-module _ (D K A T : RattleType) (k : HashMembers K.Denot) (kd : debug.Ghosts K.Denot) (a : HashMembers A.Denot) (ad : debug.Ghosts A.Denot) (t : HashMembers T.Denot) (td : debug.Ghosts T.Denot) where
+module _ (D K A T : RattleType) (k : equality.Ghosts K.Denot) (a : HashMembers A.Denot) (t : HashMembers T.Denot) where
   -- the dictionary's type, as the logic holds it
   abbrev pub dictionary_row : RattleType
   dictionary_row =
-      the_row D K A T (record { eq = k.eq }) (record { hash_input = k.hash_input }) kd (record { eq = a.eq }) (record { hash_input = a.hash_input }) ad
-      (record { eq = t.eq }) (record { hash_input = t.hash_input }) td
+      the_row D K A T k (record { eq = a.eq }) (record { hash_input = a.hash_input }) (record { eq = t.eq }) (record { hash_input = t.hash_input })
 
   -- the last attribute written through r stands under the name, in the place of what stood there, and at `None` nothing changes
   abbrev pub lends_attribute : MutBor (List (List ℕ × A.Denot)) → List ℕ → Option (MutBor A.Denot) → Fml

@@ -110,8 +110,8 @@ impl<D: Dialects> AttributeDict<D> {
     #[tactic(auto, unfolding(crate::specs::Dictionary::all_entries))]
     pub fn get_mut(&mut self, key: &str) -> Option<&mut D::Attr>
         ensures* lends { sem 𝓛
-            (lends_attribute D.row D.OpKind.row D.Attr.row D.TypeKey.row D.OpKind.Hash D.OpKind.Debug D.Attr.Hash
-            D.Attr.Debug D.TypeKey.Hash D.TypeKey.Debug self.entry key.now result) }
+            (lends_attribute D.row D.OpKind.row D.Attr.row D.TypeKey.row D.OpKind.PartialEq D.Attr.Hash D.TypeKey.Hash
+            self.entry key.now result) }
         ensures value { option_copied_mut result ≡ attribute_at self.old key.now }
     {
         if has_name(&self.first, key) {

@@ -15,7 +15,6 @@ use ir_names::{
     TypeInterface,
 };
 use std::alloc::{AllocError, Global};
-use std::fmt::Debug;
 use std::hash::Hash;
 
 /// A dialect that says what its kinds are called and which interfaces they implement.
@@ -24,10 +23,10 @@ use std::hash::Hash;
 /// that equals it, and what implements an interface implements those that it stands on.
 pub trait DialectTables: Dialects {
     /// The kinds of types.
-    type TypeKind: Copy + Eq + Hash + Debug;
+    type TypeKind: Copy + Eq;
 
     /// The kinds of attributes.
-    type AttrKind: Copy + Eq + Hash + Debug;
+    type AttrKind: Copy + Eq;
 
     /// What a type may get once it is interned, as the fields of a named struct. Types are equal
     /// whatever their bodies are.
