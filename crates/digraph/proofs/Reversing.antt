@@ -23,6 +23,9 @@ row_cases (x ∷ r) zero row (suc b) = inr refl
 row_cases (x ∷ r) (suc s) row zero = inr refl
 row_cases (x ∷ r) (suc s) row (suc b) = ⊎_elim (λ e. inl (ap suc e)) (λ e. inr e) (row_cases r s row b)
 
+pub no_row : (q : List (Vec ℕ Global)) → q ≡ [] → IsEmptyRows q 0
+no_row q e = subst (λ xs. IsEmptyRows xs 0) (sym e) (record { len = refl; none = λ n. refl })
+
 -- one more row with nothing in it
 pub empty_row_more : (r q : List (Vec ℕ Global)) (row : Vec ℕ Global) (i : ℕ) → q ≡ r ++ row ∷ [] → row.items ≡ [] → IsEmptyRows r i → IsEmptyRows q (i + 1)
 empty_row_more r q row i e h s = record {

@@ -2,7 +2,7 @@
 ghost use Rattle.std.specs.Prelude.{◌≡◌, ℕ, ◌<◌, [], All, IfOk, OnOk, length};
 ghost use Rattle.digraph.specs.Graph.{successors, InRange};
 ghost use Rattle.digraph.specs.Orders.{order_of, rows_of, AddsComponent};
-ghost use Rattle.digraph.specs.Searches.{IsSearch, orders};
+ghost use Rattle.digraph.specs.Searches.{IsNewSearch, IsSearch, orders};
 ghost use Rattle.digraph.specs.Visits.{empty, Visits, IsPostOrderApart};
 
 use crate::search::Search;
@@ -62,6 +62,26 @@ fn visit_root(
     Ok(())
 }
 
+/// Visits the roots by a search that has seen nothing: the nodes in the order in which it leaves them, apart for each
+/// root that none before it reached.
+fn visit_roots(
+    search: &mut Search,
+    alloc: Global,
+    graph: &[Vec<usize>],
+    roots: &[usize],
+) -> Result<Vec<Vec<usize>>, AllocError>
+    requires graph { InRange graph.now }
+    requires search { IsNewSearch search.old (length graph.now) }
+    requires roots { All (λ n. n < length graph.now) roots.now }
+    ensures { IfOk result (λ parts. IsPostOrderApart (successors graph.now) roots.now (rows_of parts.items)) }
+{
+    let mut parts = Vec::new(alloc);
+    for root in roots {
+        visit_root(search, &mut parts, alloc, graph, *root)?;
+    }
+    Ok(parts)
+}
+
 /// The nodes in the order in which the same search leaves them, apart for each root that none before it reached.
 ///
 /// # Errors
@@ -76,9 +96,5 @@ pub fn post_order_apart(
     ensures { IfOk result (λ parts. IsPostOrderApart (successors graph.now) roots.now (rows_of parts.items)) }
 {
     let mut search = Search::new(alloc, graph.len())?;
-    let mut parts = Vec::new(alloc);
-    for root in roots {
-        visit_root(&mut search, &mut parts, alloc, graph, *root)?;
-    }
-    Ok(parts)
+    visit_roots(&mut search, alloc, graph, roots)
 }

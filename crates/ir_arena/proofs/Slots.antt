@@ -123,6 +123,27 @@ module _ {T : Type 0} where
       (λ ne. rw (ne_eqb p.slot q.slot ne) refl)
       (cases_eq p.slot q.slot)
 
+  pub newer_unspent : (slots : List (Slot T)) (p : Key) → (slot_at slots p.slot).version < p.version → IsSpent slots p → ⊥
+  newer_unspent slots p more spent = omega (arith, more, spent.version)
+
+  pub empty_nothing : (slots : List (Slot T)) (p : Key) → (slot_at slots p.slot).value ≡ None → get slots p ≡ None
+  empty_nothing slots p empty = value_none (slot_at slots p.slot) p.version empty
+
+  pub past_nothing : (slots : List (Slot T)) (p : Key) → length slots ≤ p.slot → get slots p ≡ None
+  past_nothing slots p past = empty_nothing slots p (rw (get_or_past slots p.slot no_slot past) refl)
+
+  pub past_unspent : (slots : List (Slot T)) (p : Key) → length slots ≤ p.slot → IsSpent slots p → ⊥
+  past_unspent slots p past spent = omega (arith, past, spent.slot)
+
+  pub pushed_keeps : (slots : List (Slot T)) (s : Slot T) → KeepsSpent slots (slots ++ s ∷ [])
+  pushed_keeps slots s q spent =
+      let kept : slot_at (slots ++ s ∷ []) q.slot ≡ slot_at slots q.slot = get_or_append_left slots (s ∷ []) no_slot q.slot spent.slot in
+      record {
+        slot = rw length-append (omega (arith, spent.slot));
+        version = rw kept spent.version;
+        gone = rw kept spent.gone;
+      }
+
   pub cond_none : (b : Bool) → cond {A = Option T} b None None ≡ None
   cond_none true = refl
   cond_none false = refl
@@ -162,6 +183,22 @@ module _ {T : Type 0} where
       let is : eqb p.slot q.slot ≡ false = ne_eqb p.slot q.slot (λ e. ne (sym e)) in
       rw (is, get_or-set_other slots p.slot q.slot s no_slot ne) refl)
       (cases_eq q.slot p.slot)
+
+  -- the slot that was lent at a live pointer
+  pub lent_slot : (slots : List (Slot T)) (p : Key) (s : Slot T) → Live slots p → s ≡ get_or slots p.slot s → s ≡ slot_at slots p.slot
+  lent_slot slots p s live read = read ∙ get_or_default slots p.slot s no_slot live.within
+
+  pub live_value : (slots : List (Slot T)) (p : Key) → Live slots p → get slots p ≡ (slot_at slots p.slot).value
+  live_value slots p live = rw (eq-eqb (slot_at slots p.slot).version p.version live.version) refl
+
+  pub erased_spent : (slots : List (Slot T)) (p : Key) (s : Slot T) → Live slots p → s.value ≡ None → s.version ≡ p.version → IsSpent (set slots p.slot s) p
+  erased_spent slots p s live gone version =
+      let here : slot_at (set slots p.slot s) p.slot ≡ s = get_or-set_same slots p.slot s no_slot live.within in
+      record {
+        slot = rw length-set live.within;
+        version = rw here (omega (arith, version));
+        gone = value_none (slot_at (set slots p.slot s) p.slot) p.version (rw here gone);
+      }
 
   -- what was spent stays so where a live pointer's slot loses its value
   pub erased_keeps : (slots : List (Slot T)) (p : Key) (s : Slot T) → Live slots p → s.value ≡ None → s.version ≡ (slot_at slots p.slot).version → KeepsSpent slots (set slots p.slot s)

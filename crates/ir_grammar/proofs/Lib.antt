@@ -5,3 +5,4 @@ pub mod Ends
 pub mod Checks
 pub mod Changes
 pub mod Depths
+pub mod Lookups

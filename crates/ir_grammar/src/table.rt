@@ -89,16 +89,16 @@ fn table(
     let drafts = drafts(alloc, rules, parts)?;
     let mut rows = Rows::new(alloc, signs, parts, columns)?;
     rows.spread_by(alloc, &drafts, rules)?;
-    let choices = choices(alloc, &rows, &drafts, rules, columns)?;
-    facts(alloc, &drafts, choices, rows.follow, parts)
+    let mut choices = choices(alloc, &rows, &drafts, rules, columns)?;
+    facts(alloc, &drafts, &mut choices, &mut rows.follow, parts)
 }
 
-/// What the table knows of each part.
+/// What the table knows of each part, which leaves empty rows behind.
 fn facts(
     alloc: Global,
     drafts: &[Draft],
-    mut choices: Vec<Vec<Option<usize>>>,
-    mut follows: Vec<Vec<bool>>,
+    choices: &mut [Vec<Option<usize>>],
+    follows: &mut [Vec<bool>],
     parts: usize,
 ) -> Result<Vec<Facts>, AllocError>
     ensures { IfOk result (λ facts. length facts.items ≡ parts) }
@@ -107,8 +107,8 @@ fn facts(
     for part in 0..parts {
         let draft = drafts.get(part).copied().unwrap_or(UNKNOWN);
         facts.push(Facts {
-            choices: taken(alloc, &mut choices, part),
-            follows: taken(alloc, &mut follows, part),
+            choices: taken(alloc, choices, part),
+            follows: taken(alloc, follows, part),
             closing: draft.closing,
             cost: draft.cost,
             shortest: draft.shortest,
@@ -300,7 +300,8 @@ fn choices(
     columns: usize,
 ) -> Result<Vec<Vec<Option<usize>>>, AllocError> {
     let mut choices = filled_rows(alloc, None, drafts.len(), columns)?;
-    for (number, rule) in rules.iter().enumerate() {
+    for number in 0..rules.len() {
+        let rule = &rules[number];
         if let Some(chosen) = choices.get_mut(rule.part as usize) {
             choose_rule(chosen, rows, drafts, rule, number);
         }
@@ -326,9 +327,9 @@ fn choose_rule(
 /// Chooses the rule at each column that is marked.
 fn choose(chosen: &mut [Option<usize>], marks: Option<&Vec<bool>>, rule: usize) {
     if let Some(marks) = marks {
-        for (choice, is_marked) in chosen.iter_mut().zip(marks.iter()) {
-            if *is_marked {
-                *choice = Some(rule);
+        for column in 0..chosen.len().min(marks.len()) {
+            if marks[column] {
+                chosen[column] = Some(rule);
             }
         }
     }
@@ -434,9 +435,9 @@ fn filled_rows<T: Copy>(
 /// Marks in a row what another marks. Says whether a mark is new.
 fn add_marks(row: &mut [bool], more: &[bool]) -> bool {
     let mut is_new = false;
-    for (mark, other) in row.iter_mut().zip(more.iter()) {
-        if *other && !*mark {
-            *mark = true;
+    for column in 0..row.len().min(more.len()) {
+        if more[column] && !row[column] {
+            row[column] = true;
             is_new = true;
         }
     }

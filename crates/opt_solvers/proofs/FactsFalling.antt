@@ -1,11 +1,12 @@
 -- What lowering facts keeps.
-use Rattle.std.proofs.Common.{zero, ◌≡◌, ◌⊎◌, inl, inr, ⊎_elim, ℕ, suc, ◌+◌, ◌<◌, List, [], ◌∷◌, ◌++◌, Bool, true, false, nat_eq, length, get_or, cond, refl, sym, ap, ◌∙◌, subst, arith, eq-eqb}
-use Rattle.std.specs.Prelude.{Contains, slice_get, unwrap_or, not, count_by}
+use Rattle.std.proofs.Common.{zero, ◌≡◌, ◌⊎◌, inl, inr, ⊎_elim, ℕ, suc, ◌+◌, ◌<◌, List, [], ◌∷◌, ◌++◌, Some, Bool, true, false, nat_eq, length, get_or, cond, refl, sym, ap, ◌∙◌, subst, arith, eq-eqb}
+use Rattle.std.specs.Prelude.{All, Contains, slice_get, unwrap_or, not, count_by, if◌then◌else◌}
 use Rattle.std.proofs.Math.ListN.{set}
 use Rattle.std.proofs.lemmas.Option.{unwrap_or-slice_get}
 use Rattle.std.proofs.lemmas.List.{get_or_default, length-set, length-append, get_or-set_other, get_or-set_same}
 use Rattle.std.proofs.lemmas.List.Sums.{sum_by-set}
-use Rattle.std.proofs.lemmas.List.Elements.{Contains-push, Contains-append_left}
+use Rattle.std.proofs.lemmas.List.Elements.{All-push, Contains-push, Contains-append_left}
+use Rattle.digraph.proofs.Marking.{mark_kept, mark_put}
 use Rattle.opt_solvers.specs.declared.known.Known.{Known}
 use Rattle.opt_solvers.specs.declared.known.Known.TheVariants.{Undetermined, One, Any}
 use Rattle.opt_solvers.specs.declared.facts_found.Found.{Found}
@@ -36,6 +37,14 @@ module _ {X : Type 0} where
 
 count_set : (ms : List Bool) (i : ℕ) → i < length ms → get_or ms i false ≡ false → count_by not (set ms i true) + 1 ≡ count_by not ms
 count_set ms i h e = let s = sum_by-set (λ b. cond (not b) 1 0) ms i true false h in let f : Bool → ℕ = λ b. cond (not b) 1 0 in let q = ap f e in omega (arith, s, q)
+
+-- of the blocks in the list each runs, where one that runs now may be put behind the others
+pub blocks_run : (runs : List Bool) (old new : List ℕ) (block : ℕ) (pushed : Bool) → block < length runs → All (λ b. slice_get runs b ≡ Some true) old → new ≡ (if pushed then old ++ block ∷ [] else old)
+    → All (λ b. slice_get (set runs block true) b ≡ Some true) new
+blocks_run runs old new block true h all e = subst (λ bs. All (λ b. slice_get (set runs block true) b ≡ Some true) bs) (sym e)
+    (All-push (λ b. slice_get (set runs block true) b ≡ Some true) old block (λ k d l. mark_kept runs block (get_or old k d) (all k d l)) (mark_put runs block h))
+blocks_run runs old new block false h all e = subst (λ bs. All (λ b. slice_get (set runs block true) b ≡ Some true) bs) (sym e)
+    (λ k d l. mark_kept runs block (get_or old k d) (all k d l))
 
 module _ {A : Type 0} where
   pub at_top : (x : Known A) → AtOrBelow x Undetermined

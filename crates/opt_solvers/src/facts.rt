@@ -97,12 +97,7 @@ fn run<F: Folding>(
     ensures { OnOk result (IsMostPreciseSolution (F.answers folding.now) problem.now (facts_of solver.new.found)) }
 {
     let tables = tables_of(alloc, problem)?;
-    'steps: loop {
-        let more = step(alloc, problem, folding, &tables, solver)?;
-        if !more {
-            break 'steps;
-        }
-    }
+    'steps: while step(alloc, problem, folding, &tables, solver)? {}
     Ok(())
 }
 

@@ -11,7 +11,7 @@ use crate::linked_rows::LinkedRows;
 use std::alloc::{AllocError, Global};
 
 /// An operand of an operation.
-#[derive(Clone, Copy, Debug, PartialEq, Eq)]
+#[derive(Clone, Copy)]
 pub struct Place {
     /// The operation.
     pub row: usize,
@@ -20,7 +20,7 @@ pub struct Place {
 }
 
 /// An argument that a value is forwarded to.
-#[derive(Clone, Copy, Debug, PartialEq, Eq)]
+#[derive(Clone, Copy)]
 pub struct Slot {
     /// The operation.
     pub row: usize,

@@ -1,4 +1,4 @@
-use Rattle.std.proofs.Common.{rules, ◌≡◌, ◌∙◌, Bool, Vec, Global, length, ap, subst, refl}
+use Rattle.std.proofs.Common.{◌≡◌, ◌∙◌, Bool, Vec, Global, length, ap, subst, refl}
 use Rattle.std.proofs.lemmas.Result.{IfOk-weaker}
 use Rattle.opt_solvers.specs.DeadItems.{AreMarked}
 use Rattle.opt_solvers.proofs.DeadDying.{item_taken, dying_begins, dying_goes_on, dying_ends, are_dead}
@@ -31,6 +31,6 @@ loop-item-preserved c =
 
 pub returns : goal.returns
 returns c =
-    let a : c.len.result ≡ length c.args.problem.now.operations = search rules in
+    let a : c.len.result ≡ length c.args.problem.now.operations = c.len.ensures.len in
     let f = dying_ends c.args.problem.now c.in_ok-tables.tables c.requires c.loop-item.invariant.0 c.loop-item.counts.excused.items c.loop-item.counts.uses.items c.loop-item.counts.work c.loop-item.invariant.1 c.in_default.ensures.none in
     IfOk-weaker c.unused.result _ _ (λ d m. are_dead c.args.problem.now c.len.result c.loop-item.counts.uses.items d a c.loop-item.invariant.1.len f (subst (λ xs. AreMarked c.len.result xs d) c.deref.ensures.value m)) c.unused.ensures

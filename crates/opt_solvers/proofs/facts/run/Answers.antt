@@ -1,4 +1,3 @@
-use Rattle.std.proofs.Common.{◌≡◌, false, rules}
 use Rattle.opt_solvers.proofs.FactsBeginning.{begins_solving, begins_waiting}
 use Rattle.opt_solvers.proofs.FactsStepping.{solved}
 use Rattle.opt_solvers.proofs.facts.run.Goals as goal
@@ -8,6 +7,5 @@ steps-init g c = (begins_solving _ c.args.problem.now c.args.solver.now c.requir
 
 pub returns : goal.returns
 returns g c =
-    let s = c.in_ok-more.ensures in
-    let e : c.in_ok-more.more ≡ false = search rules in
-    solved _ c.args.problem.now c.step.new.solver s.solving s.waiting (s.no_blocks e) (s.no_values e)
+    let s = c.in_ok-step.ensures in
+    solved _ c.args.problem.now c.step.new.solver s.solving s.waiting (s.no_blocks c.if-branch.false) (s.no_values c.if-branch.false)

@@ -1,4 +1,4 @@
-use Rattle.std.proofs.Common.{◌<◌, length, subst, arith}
+use Rattle.std.proofs.Common.{◌<◌, ◌∙◌, length, subst, arith}
 use Rattle.std.proofs.lemmas.List.{take_all}
 use Rattle.opt_solvers.specs.OperationRows.{row_numbered}
 use Rattle.opt_solvers.specs.FactsTables.{HoldRows}
@@ -8,6 +8,18 @@ use Rattle.opt_solvers.proofs.facts_tables.tables_of.Goals as goal
 
 pub loop-number-init : goal.loop-number-init
 loop-number-init c = no_rows c.args.problem.now _
+
+pub put_row-requires-clause-blocks : goal.put_row-requires-clause-blocks
+put_row-requires-clause-blocks c = c.loop-number.invariant.rows.len ∙ (emptied c.in_ok-tables.tables.rows (length c.args.problem.now.arguments.items) c.in_ok-tables.ensures.rows).len
+
+pub put_row-requires-clause-readers : goal.put_row-requires-clause-readers
+put_row-requires-clause-readers c = c.loop-number.invariant.readers.len ∙ (emptied c.in_ok-tables.tables.readers c.args.problem.now.values c.in_ok-tables.ensures.readers).len
+
+pub put_row-requires-clause-slots : goal.put_row-requires-clause-slots
+put_row-requires-clause-slots c = c.loop-number.invariant.slots.len ∙ (emptied c.in_ok-tables.tables.slots c.args.problem.now.values c.in_ok-tables.ensures.slots).len
+
+pub put_row-requires-clause-in_range : goal.put_row-requires-clause-in_range
+put_row-requires-clause-in_range c = omega (arith, c.loop-number-test.true, c.len-number-end.ensures)
 
 pub loop-number-preserved : goal.loop-number-preserved
 loop-number-preserved c =

@@ -41,3 +41,13 @@ returns c _ = record {
   closed = λ n p e. c.loop-n.invariant.closed n p (let w = closing_within c.args.self.now.parts.items n p e in omega (arith, c.args.self.now.parts.ok.0)) e;
   shortest = λ n f e. c.loop-n.invariant.shortest n (let w = slice_get_within c.args.self.now.parts.items n f e in omega (arith, c.args.self.now.parts.ok.0)) f e;
 }
+
+pub loop-p-init : goal.loop-p-init
+loop-p-init c = λ p lt r e. absurd (omega (arith, lt))
+
+pub loop-n-init : goal.loop-n-init
+loop-n-init c = record {
+  picked = λ n d p lt e. absurd (omega (arith, lt));
+  closed = λ n p lt e. absurd (omega (arith, lt));
+  shortest = λ n lt f e. absurd (omega (arith, lt));
+}

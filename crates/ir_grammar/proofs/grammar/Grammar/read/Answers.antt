@@ -1,4 +1,4 @@
-use Rattle.std.proofs.Common.{false, ◌∷◌, ◌++◌, [], take, length, get_or, ap, not, ◌≡◌, ◌∙◌, arith, subst, ◌≤◌}
+use Rattle.std.proofs.Common.{false, ◌∷◌, ◌++◌, [], take, length, get_or, ap, not, ◌≡◌, ◌∙◌, arith, sym, subst, ◌≤◌}
 use Rattle.std.proofs.lemmas.List.{take_more, length-take-le}
 use Rattle.ir_grammar.specs.Run.{Advances, LeadsToStack, IsDepth}
 use Rattle.ir_grammar.specs.Pending.{unread}
@@ -59,3 +59,38 @@ returns-clause-reads c =
     let h = rw e at l in
     let leads = rw e at c.loop-taken.invariant.leads in
     reads_at g c.args.root c.args.deepest c.args.kinds.now (length c.args.kinds.now) _ _ _ h (closes_first g c.requires.predictive c.args.root _ _ _ leads) c.finish-2.ensures.taken c.finish-2.ensures.ends
+
+pub advance-requires-clause-depth : goal.advance-requires-clause-depth
+advance-requires-clause-depth c =
+    let took = tooks_taken c.loop-taken.taken c.args.kinds.now c.loop-taken.invariant.leads (omega arith) in
+    subst (λ n. IsDepth c.args.deepest n c.loop-taken.events.items c.loop-taken.depth) (sym took) c.loop-taken.invariant.depth
+
+pub advance-requires-clause-fine : goal.advance-requires-clause-fine
+advance-requires-clause-fine c = c.loop-taken.invariant.fine
+
+pub finish-requires-clause-fine : goal.finish-requires-clause-fine
+finish-requires-clause-fine c = c.in_ok-advance.ensures.fine
+
+pub finish-requires-clause-known : goal.finish-requires-clause-known
+finish-requires-clause-known c = c.in_ok-advance.ensures.known
+
+pub finish-requires-clause-depth : goal.finish-requires-clause-depth
+finish-requires-clause-depth c =
+    let took = tooks_taken c.loop-taken.taken c.args.kinds.now c.loop-taken.invariant.leads (omega arith) in
+    subst (λ n. IsDepth c.args.deepest n c.advance.new.events.items c.advance.new.depth) took c.in_ok-advance.ensures.depth
+
+pub finish-requires-2-clause-depth : goal.finish-requires-2-clause-depth
+finish-requires-2-clause-depth c =
+    let e : c.loop-taken.taken ≡ length c.args.kinds.now = omega arith in
+    subst (λ n. IsDepth c.args.deepest n c.loop-taken.events.items c.loop-taken.depth) e c.loop-taken.invariant.depth
+
+pub finish-requires-2-clause-took : goal.finish-requires-2-clause-took
+finish-requires-2-clause-took c =
+    let e : c.loop-taken.taken ≡ length c.args.kinds.now = omega arith in
+    tooks_taken c.loop-taken.taken c.args.kinds.now c.loop-taken.invariant.leads (omega arith) ∙ e
+
+pub returns-then-not-branch-clause-deep : goal.returns-then-not-branch-clause-deep
+returns-then-not-branch-clause-deep c = c.finish.ensures.deep
+
+pub returns-clause-deep : goal.returns-clause-deep
+returns-clause-deep c = c.finish-2.ensures.deep

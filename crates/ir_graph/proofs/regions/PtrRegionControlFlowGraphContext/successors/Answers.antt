@@ -3,6 +3,3 @@ use Rattle.ir_graph.proofs.regions.PtrRegionControlFlowGraphContext.successors.G
 
 pub succs-requires : goal.succs-requires
 succs-requires g c = live_block c.program.result.now c.args.ctx.now.program c.program.ensures c.know_lists.ensures.blocks c.args.self.now c.args.node.now c.requires.node
-
-pub returns : goal.returns
-returns g c = c.succs.ensures

@@ -1,4 +1,4 @@
-use Rattle.std.proofs.Common.{rules, ◌≡◌, ◌++◌, ◌∷◌, [], length, refl}
+use Rattle.std.proofs.Common.{rules, ◌≡◌, ◌∙◌, ap, ◌++◌, ◌∷◌, [], length, refl}
 use Rattle.std.specs.Prelude.{is_some, unwrap_or}
 use Rattle.opt_solvers.specs.Rows.{rows_from}
 use Rattle.opt_solvers.specs.DeadCandidates.{candidates_of, arounds_of}
@@ -39,20 +39,20 @@ pub invariant_of-self-2 : goal.invariant_of-self-2
 invariant_of-self-2 c =
     let i = c.self.inside in
     let q : c.extend_from_slice.new.self.items ≡ i.operands.items ++ c.args.operands.now = c.in_ok-extend_from_slice.ensures.items in
-    let n : c.len.result ≡ length c.extend_from_slice.new.self.items = search rules in
-    let es : c.push_reserved.new.self.items ≡ i.ends.items ++ c.len.result ∷ [] = search rules in
-    let ns : c.push_reserved-2.new.self.items ≡ i.around.items ++ unwrap_or c.args.around 0 ∷ [] = search rules in
-    let bs : c.push_reserved-3.new.self.items ≡ i.is_inside.items ++ is_some c.args.around ∷ [] = search rules in
-    let ms : c.push_reserved-4.new.self.items ≡ i.may_go.items ++ c.args.may_go ∷ [] = search rules in
+    let n : c.len.result ≡ length c.extend_from_slice.new.self.items = c.len.ensures ∙ c.extend_from_slice.new.self.ok.0 in
+    let es : c.push_reserved.new.self.items ≡ i.ends.items ++ c.len.result ∷ [] = c.push_reserved.ensures.items ∙ ap (λ xs. xs ++ c.len.result ∷ []) c.reserve_one.ensures.numbers in
+    let ns : c.push_reserved-2.new.self.items ≡ i.around.items ++ unwrap_or c.args.around 0 ∷ [] = c.push_reserved-2.ensures.items ∙ ap (λ xs. xs ++ c.unwrap_or.result ∷ []) c.reserve_one-2.ensures.numbers ∙ ap (λ x. i.around.items ++ x ∷ []) c.unwrap_or.ensures in
+    let bs : c.push_reserved-3.new.self.items ≡ i.is_inside.items ++ is_some c.args.around ∷ [] = c.push_reserved-3.ensures.items ∙ ap (λ xs. xs ++ c.is_some.result ∷ []) c.reserve_one-2.ensures.marks ∙ ap (λ x. i.is_inside.items ++ x ∷ []) c.is_some.ensures in
+    let ms : c.push_reserved-4.new.self.items ≡ i.may_go.items ++ c.args.may_go ∷ [] = c.push_reserved-4.ensures.items ∙ ap (λ xs. xs ++ c.args.may_go ∷ []) c.reserve_one.ensures.marks in
     columns_more i.may_go.items i.is_inside.items i.around.items i.ends.items i.operands.items c.self.invariant c.args.may_go c.args.around c.args.operands.now _ _ _ _ _ c.len.result ms bs ns es q n
 
 pub returns-clause-ok : goal.returns-clause-ok
 returns-clause-ok c =
     let i = c.self.inside in
     let q : c.extend_from_slice.new.self.items ≡ i.operands.items ++ c.args.operands.now = c.in_ok-extend_from_slice.ensures.items in
-    let n : c.len.result ≡ length c.extend_from_slice.new.self.items = search rules in
-    let es : c.push_reserved.new.self.items ≡ i.ends.items ++ c.len.result ∷ [] = search rules in
-    let ns : c.push_reserved-2.new.self.items ≡ i.around.items ++ unwrap_or c.args.around 0 ∷ [] = search rules in
-    let bs : c.push_reserved-3.new.self.items ≡ i.is_inside.items ++ is_some c.args.around ∷ [] = search rules in
-    let ms : c.push_reserved-4.new.self.items ≡ i.may_go.items ++ c.args.may_go ∷ [] = search rules in
+    let n : c.len.result ≡ length c.extend_from_slice.new.self.items = c.len.ensures ∙ c.extend_from_slice.new.self.ok.0 in
+    let es : c.push_reserved.new.self.items ≡ i.ends.items ++ c.len.result ∷ [] = c.push_reserved.ensures.items ∙ ap (λ xs. xs ++ c.len.result ∷ []) c.reserve_one.ensures.numbers in
+    let ns : c.push_reserved-2.new.self.items ≡ i.around.items ++ unwrap_or c.args.around 0 ∷ [] = c.push_reserved-2.ensures.items ∙ ap (λ xs. xs ++ c.unwrap_or.result ∷ []) c.reserve_one-2.ensures.numbers ∙ ap (λ x. i.around.items ++ x ∷ []) c.unwrap_or.ensures in
+    let bs : c.push_reserved-3.new.self.items ≡ i.is_inside.items ++ is_some c.args.around ∷ [] = c.push_reserved-3.ensures.items ∙ ap (λ xs. xs ++ c.is_some.result ∷ []) c.reserve_one-2.ensures.marks ∙ ap (λ x. i.is_inside.items ++ x ∷ []) c.is_some.ensures in
+    let ms : c.push_reserved-4.new.self.items ≡ i.may_go.items ++ c.args.may_go ∷ [] = c.push_reserved-4.ensures.items ∙ ap (λ xs. xs ++ c.args.may_go ∷ []) c.reserve_one.ensures.marks in
     view_more i.may_go.items i.is_inside.items i.around.items i.ends.items i.operands.items c.self.invariant c.args.may_go c.args.around c.args.operands.now _ _ _ _ _ c.len.result ms bs ns es q n c.args.self.now c.self.view_is
