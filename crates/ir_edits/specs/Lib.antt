@@ -1,4 +1,5 @@
 pub mod Naming
+pub mod Shapes
 pub mod Resolving
 pub mod Answered
 pub mod Same

@@ -11,12 +11,14 @@ mod holders;
 mod listed_uses;
 mod making;
 mod name_lists;
+mod named_edits;
 mod naming;
 mod operands;
 mod operation_lists;
 mod resolve;
 mod results;
 mod run;
+mod shapes;
 mod successors;
 mod uses;
 

@@ -3,8 +3,13 @@ ghost use Rattle.std.specs.Prelude.{◌≡◌};
 ghost use Rattle.ir_edits.specs.Resolving.{resolved};
 
 use crate::direct_edit::DirectEdit;
+use crate::named_edits::{
+    append_blocks, drop_region_uses, insert_into_region, move_region, of_block, of_blocks,
+    of_operation, of_operation_and_block, of_operation_and_value, of_operations, replace_all,
+};
+use crate::shapes::{BlockEdit, BlocksEdit, EdgeEdit, End, OperandEdit, OperationEdit, Side};
 use crate::{Edit, Entity, naming};
-use ir_program::{IRNode, Program};
+use ir_program::Program;
 
 /// The edit on what its names stand for, if each of them stands for something and it has no lists. What the edits before
 /// it made is in `made`.
@@ -16,191 +21,151 @@ pub fn resolve<O, B, K: Copy>(
     ensures { result ≡ resolved program.now made.now edit.now }
 {
     match edit {
-        Edit::PushResult(op, ty) => {
-            let op = naming::operation(made, *op)?;
-            Some(DirectEdit::PushResult(op, *ty))
-        }
-        Edit::PopResult(op) => {
-            let op = naming::operation(made, *op)?;
-            Some(DirectEdit::PopResult(op))
-        }
-        Edit::InsertResult(op, index, ty) => {
-            let op = naming::operation(made, *op)?;
-            Some(DirectEdit::InsertResult(op, *index, *ty))
-        }
-        Edit::RemoveResult(op, index) => {
-            let op = naming::operation(made, *op)?;
-            Some(DirectEdit::RemoveResult(op, *index))
-        }
-        Edit::PushArgument(block, ty) => {
-            let block = naming::block(made, *block)?;
-            Some(DirectEdit::PushArgument(block, *ty))
-        }
-        Edit::PopArgument(block) => {
-            let block = naming::block(made, *block)?;
-            Some(DirectEdit::PopArgument(block))
-        }
-        Edit::InsertArgument(block, index, ty) => {
-            let block = naming::block(made, *block)?;
-            Some(DirectEdit::InsertArgument(block, *index, *ty))
-        }
-        Edit::RemoveArgument(block, index) => {
-            let block = naming::block(made, *block)?;
-            Some(DirectEdit::RemoveArgument(block, *index))
-        }
-        Edit::PushOperand(op, value) => {
-            let op = naming::operation(made, *op)?;
-            let value = naming::value_in_program(program, made, *value)?;
-            Some(DirectEdit::PushOperand(op, value))
-        }
-        Edit::PopOperand(op) => {
-            let op = naming::operation(made, *op)?;
-            Some(DirectEdit::PopOperand(op))
-        }
-        Edit::InsertOperand(op, index, value) => {
-            let op = naming::operation(made, *op)?;
-            let value = naming::value_in_program(program, made, *value)?;
-            Some(DirectEdit::InsertOperand(op, *index, value))
-        }
-        Edit::RemoveOperand(op, index) => {
-            let op = naming::operation(made, *op)?;
-            Some(DirectEdit::RemoveOperand(op, *index))
-        }
-        Edit::ReplaceOperand(op, index, value) => {
-            let op = naming::operation(made, *op)?;
-            let value = naming::value_in_program(program, made, *value)?;
-            Some(DirectEdit::ReplaceOperand(op, *index, value))
-        }
-        Edit::PushSuccessor(op, block) => {
-            let op = naming::operation(made, *op)?;
-            let block = naming::block(made, *block)?;
-            Some(DirectEdit::PushSuccessor(op, block))
-        }
-        Edit::PopSuccessor(op) => {
-            let op = naming::operation(made, *op)?;
-            Some(DirectEdit::PopSuccessor(op))
-        }
-        Edit::InsertSuccessor(op, index, block) => {
-            let op = naming::operation(made, *op)?;
-            let block = naming::block(made, *block)?;
-            Some(DirectEdit::InsertSuccessor(op, *index, block))
-        }
-        Edit::RemoveSuccessor(op, index) => {
-            let op = naming::operation(made, *op)?;
-            Some(DirectEdit::RemoveSuccessor(op, *index))
-        }
-        Edit::ReplaceSuccessor(op, index, block) => {
-            let op = naming::operation(made, *op)?;
-            let block = naming::block(made, *block)?;
-            Some(DirectEdit::ReplaceSuccessor(op, *index, block))
-        }
-        Edit::AddRegion(op) => {
-            let op = naming::operation(made, *op)?;
-            Some(DirectEdit::AddRegion(op))
-        }
-        Edit::EraseRegion(op, index) => {
-            let op = naming::operation(made, *op)?;
-            Some(DirectEdit::EraseRegion(op, *index))
-        }
-        Edit::EraseOperation(op) => {
-            let op = naming::operation(made, *op)?;
-            Some(DirectEdit::EraseOperation(op))
-        }
-        Edit::EraseBlock(block) => {
-            let block = naming::block(made, *block)?;
-            Some(DirectEdit::EraseBlock(block))
-        }
-        Edit::MoveRegionToOp(region, op) => {
-            let region = naming::region(program, made, *region)?;
-            let op = naming::operation(made, *op)?;
-            Some(DirectEdit::MoveRegionToOp(region, op))
-        }
-        Edit::OperationDropAllUses(op) => {
-            let op = naming::operation(made, *op)?;
-            Some(DirectEdit::DropAllUses(IRNode::Operation(op)))
-        }
-        Edit::RegionDropAllUses(region) => {
-            let region = naming::region(program, made, *region)?;
-            Some(DirectEdit::DropAllUses(IRNode::Region(region)))
-        }
-        Edit::BlockDropAllUses(block) => {
-            let block = naming::block(made, *block)?;
-            Some(DirectEdit::DropAllUses(IRNode::BasicBlock(block)))
-        }
-        Edit::InsertOperationAfter(op, mark) => {
-            let op = naming::operation(made, *op)?;
-            let mark = naming::operation(made, *mark)?;
-            Some(DirectEdit::InsertOperationAfter(op, mark))
-        }
-        Edit::InsertOperationBefore(op, mark) => {
-            let op = naming::operation(made, *op)?;
-            let mark = naming::operation(made, *mark)?;
-            Some(DirectEdit::InsertOperationBefore(op, mark))
-        }
-        Edit::InsertOperationAtFront(op, block) => {
-            let op = naming::operation(made, *op)?;
-            let block = naming::block(made, *block)?;
-            Some(DirectEdit::InsertOperationAtFront(op, block))
-        }
-        Edit::InsertOperationAtBack(op, block) => {
-            let op = naming::operation(made, *op)?;
-            let block = naming::block(made, *block)?;
-            Some(DirectEdit::InsertOperationAtBack(op, block))
-        }
-        Edit::UnlinkOperation(op) => {
-            let op = naming::operation(made, *op)?;
-            Some(DirectEdit::UnlinkOperation(op))
-        }
-        Edit::AppendOperations(donee, donor) => {
-            let donee = naming::block(made, *donee)?;
-            let donor = naming::block(made, *donor)?;
-            Some(DirectEdit::AppendOperations(donee, donor))
-        }
-        Edit::InsertBlockAfter(block, mark) => {
-            let block = naming::block(made, *block)?;
-            let mark = naming::block(made, *mark)?;
-            Some(DirectEdit::InsertBlockAfter(block, mark))
-        }
-        Edit::InsertBlockBefore(block, mark) => {
-            let block = naming::block(made, *block)?;
-            let mark = naming::block(made, *mark)?;
-            Some(DirectEdit::InsertBlockBefore(block, mark))
-        }
-        Edit::InsertBlockAtFront(block, region) => {
-            let block = naming::block(made, *block)?;
-            let region = naming::region(program, made, *region)?;
-            Some(DirectEdit::InsertBlockAtFront(block, region))
-        }
-        Edit::InsertBlockAtBack(block, region) => {
-            let block = naming::block(made, *block)?;
-            let region = naming::region(program, made, *region)?;
-            Some(DirectEdit::InsertBlockAtBack(block, region))
-        }
-        Edit::UnlinkBlock(block) => {
-            let block = naming::block(made, *block)?;
-            Some(DirectEdit::UnlinkBlock(block))
-        }
-        Edit::AppendBlocks(donee, donor) => {
-            let donee = naming::region(program, made, *donee)?;
-            let donor = naming::region(program, made, *donor)?;
-            Some(DirectEdit::AppendBlocks(donee, donor))
-        }
-        Edit::ReplaceAllUsesWith(value, other) => {
-            let value = naming::value_in_program(program, made, *value)?;
-            let other = naming::value_in_program(program, made, *other)?;
-            Some(DirectEdit::ReplaceAllUsesWith(value, other))
-        }
+        Edit::PushResult(op, ty) => of_operation(made, *op, OperationEdit::PushResult(*ty)),
+        Edit::PopResult(op) => of_operation(made, *op, OperationEdit::PopResult),
+        Edit::InsertResult(op, index, ty) => of_operation(
+            made,
+            *op,
+            OperationEdit::InsertResult(*index, *ty),
+        ),
+        Edit::RemoveResult(op, index) => of_operation(
+            made,
+            *op,
+            OperationEdit::RemoveResult(*index),
+        ),
+        Edit::PushArgument(block, ty) => of_block(made, *block, BlockEdit::PushArgument(*ty)),
+        Edit::PopArgument(block) => of_block(made, *block, BlockEdit::PopArgument),
+        Edit::InsertArgument(block, index, ty) => of_block(
+            made,
+            *block,
+            BlockEdit::InsertArgument(*index, *ty),
+        ),
+        Edit::RemoveArgument(block, index) => of_block(
+            made,
+            *block,
+            BlockEdit::RemoveArgument(*index),
+        ),
+        Edit::PushOperand(op, value) => of_operation_and_value(
+            program,
+            made,
+            *op,
+            *value,
+            OperandEdit::Push,
+        ),
+        Edit::PopOperand(op) => of_operation(made, *op, OperationEdit::PopOperand),
+        Edit::InsertOperand(op, index, value) => of_operation_and_value(
+            program,
+            made,
+            *op,
+            *value,
+            OperandEdit::Insert(*index),
+        ),
+        Edit::RemoveOperand(op, index) => of_operation(
+            made,
+            *op,
+            OperationEdit::RemoveOperand(*index),
+        ),
+        Edit::ReplaceOperand(op, index, value) => of_operation_and_value(
+            program,
+            made,
+            *op,
+            *value,
+            OperandEdit::Replace(*index),
+        ),
+        Edit::PushSuccessor(op, block) => of_operation_and_block(
+            made,
+            *op,
+            *block,
+            EdgeEdit::PushSuccessor,
+        ),
+        Edit::PopSuccessor(op) => of_operation(made, *op, OperationEdit::PopSuccessor),
+        Edit::InsertSuccessor(op, index, block) => of_operation_and_block(
+            made,
+            *op,
+            *block,
+            EdgeEdit::InsertSuccessor(*index),
+        ),
+        Edit::RemoveSuccessor(op, index) => of_operation(
+            made,
+            *op,
+            OperationEdit::RemoveSuccessor(*index),
+        ),
+        Edit::ReplaceSuccessor(op, index, block) => of_operation_and_block(
+            made,
+            *op,
+            *block,
+            EdgeEdit::ReplaceSuccessor(*index),
+        ),
+        Edit::AddRegion(op) => of_operation(made, *op, OperationEdit::AddRegion),
+        Edit::EraseRegion(op, index) => of_operation(made, *op, OperationEdit::EraseRegion(*index)),
+        Edit::EraseOperation(op) => of_operation(made, *op, OperationEdit::Erase),
+        Edit::EraseBlock(block) => of_block(made, *block, BlockEdit::Erase),
+        Edit::MoveRegionToOp(region, op) => move_region(program, made, *region, *op),
+        Edit::OperationDropAllUses(op) => of_operation(made, *op, OperationEdit::DropAllUses),
+        Edit::RegionDropAllUses(region) => drop_region_uses(program, made, *region),
+        Edit::BlockDropAllUses(block) => of_block(made, *block, BlockEdit::DropAllUses),
+        Edit::InsertOperationAfter(op, mark) => of_operations(made, *op, *mark, Side::After),
+        Edit::InsertOperationBefore(op, mark) => of_operations(made, *op, *mark, Side::Before),
+        Edit::InsertOperationAtFront(op, block) => of_operation_and_block(
+            made,
+            *op,
+            *block,
+            EdgeEdit::InsertAtFront,
+        ),
+        Edit::InsertOperationAtBack(op, block) => of_operation_and_block(
+            made,
+            *op,
+            *block,
+            EdgeEdit::InsertAtBack,
+        ),
+        Edit::UnlinkOperation(op) => of_operation(made, *op, OperationEdit::Unlink),
+        Edit::AppendOperations(donee, donor) => of_blocks(
+            made,
+            *donee,
+            *donor,
+            BlocksEdit::AppendOperations,
+        ),
+        Edit::InsertBlockAfter(block, mark) => of_blocks(
+            made,
+            *block,
+            *mark,
+            BlocksEdit::InsertAfter,
+        ),
+        Edit::InsertBlockBefore(block, mark) => of_blocks(
+            made,
+            *block,
+            *mark,
+            BlocksEdit::InsertBefore,
+        ),
+        Edit::InsertBlockAtFront(block, region) => insert_into_region(
+            program,
+            made,
+            *block,
+            *region,
+            End::Front,
+        ),
+        Edit::InsertBlockAtBack(block, region) => insert_into_region(
+            program,
+            made,
+            *block,
+            *region,
+            End::Back,
+        ),
+        Edit::UnlinkBlock(block) => of_block(made, *block, BlockEdit::Unlink),
+        Edit::AppendBlocks(donee, donor) => append_blocks(program, made, *donee, *donor),
+        Edit::ReplaceAllUsesWith(value, other) => replace_all(program, made, *value, *other),
         Edit::ReplaceUseWith(value, place, other) => {
             let value = naming::value_in_program(program, made, *value)?;
             let op = naming::operation(made, place.user_op)?;
             let other = naming::value_in_program(program, made, *other)?;
             Some(DirectEdit::ReplaceUseWith(value, op, place.index, other))
         }
-        Edit::RetargetAllPredsTo(block, other) => {
-            let block = naming::block(made, *block)?;
-            let other = naming::block(made, *other)?;
-            Some(DirectEdit::RetargetAllPredsTo(block, other))
-        }
+        Edit::RetargetAllPredsTo(block, other) => of_blocks(
+            made,
+            *block,
+            *other,
+            BlocksEdit::RetargetAll,
+        ),
         Edit::RetargetPredTo(block, place, other) => {
             let block = naming::block(made, *block)?;
             let op = naming::operation(made, place.user_op)?;
