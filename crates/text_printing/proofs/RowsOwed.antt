@@ -1,6 +1,7 @@
 -- Rows of names, arguments, blocks and operations.
 use Rattle.std.proofs.Common.{◌≡◌, ℕ, ◌<◌, Bool, true, false, cond, length, List, [], ◌∷◌, ◌++◌, map, refl, sym, ap, ◌∙◌, subst, arith}
 use Rattle.std.specs.Prelude.{codes}
+use Rattle.std.proofs.lemmas.List.{append_assoc, append-nil}
 use Rattle.ir_base.specs.declared.types.TypeHandle.{TypeHandle}
 use Rattle.ir_program.specs.declared.handles.Ptr.{Ptr}
 use Rattle.ir_program.specs.declared.handles.Operation.{Operation}
@@ -15,7 +16,7 @@ use Rattle.text_dialect.specs.Seen.{Seen}
 use Rattle.text_dialect.specs.Standing.{HasDefinition}
 use Rattle.text_dialect.specs.Printed.{PrintsAs, IsValueName, value_name}
 use Rattle.text_printing.specs.Added.{AddsType, AddsOperation, AddsBlock, PrintsBlock, PrintsBlocks, PrintsOperations}
-use Rattle.text_printing.specs.Printing.{AddsText}
+use Rattle.text_printing.specs.Printing.{AddsText, next_line}
 use Rattle.text_printing.proofs.Owed.{IsRow, Prints, wrote}
 
 -- ---- pairs
@@ -124,6 +125,11 @@ module _ {K A T : Type 0} (says : Saying K A T) (types : List T) where
         print x.1 rest (subst (λ y. ShowsType says types y x.1) et k.0.1) k.1 ∙ wrote b c (codes ": ") (spell (type_on f x.1 rest)) h
         ∙ name_printed v a b g x.0 (word (codes ": ") (codes ":") ∷ type_on f x.1 rest) (k.0.0 ∙ ap (λ y. value_name y.number) ev)
 
+-- what stands before an operation of a block
+pub next_lined : (b : Bool) (n : ℕ) (x y z : List ℕ) → y ≡ x ++ cond b [] (codes ";") → z ≡ y ++ line n → z ≡ x ++ next_line b n
+next_lined true n x y z e h = h ∙ ap (λ xs. xs ++ line n) (e ∙ append-nil x)
+next_lined false n x y z e h = h ∙ ap (λ xs. xs ++ line n) e ∙ append_assoc x (codes ";") (line n)
+
 -- ---- entities
 
 -- each of some entities is one of these
@@ -218,6 +224,12 @@ module _ {K A T : Type 0} (says : Saying K A T) (s : Seen K A T) (f : Formats) (
       Prints ShallowBlock lined_block b x z
   block_lined b x y z e print t rest h = print t rest h.0 h.1 ∙ wrote x y (line n) (spell (block_on f n t rest)) e
 
-  pub operation_lined : (p : Ptr Operation) (x y z : List ℕ) → y ≡ x ++ line n → AddsOperation says s f n left p y z →
+  operation_lined : (p : Ptr Operation) (x y z : List ℕ) → y ≡ x ++ line n → AddsOperation says s f n left p y z →
       Prints ShallowOperation lined_operation p x z
   operation_lined p x y z e print t rest h = print t rest h.0 h.1 ∙ wrote x y (line n) (spell (operation_on f n t rest)) e
+
+  pub operation_next : (b : Bool) (p : Ptr Operation) (x y z : List ℕ) → y ≡ x ++ next_line b n → AddsOperation says s f n left p y z →
+      Prints ShallowOperation lined_operation p (x ++ cond b [] (codes ";")) z
+  operation_next true p x y z e print = operation_lined p (x ++ []) y z (e ∙ ap (λ xs. xs ++ line n) (sym (append-nil x))) print
+  operation_next false p x y z e print =
+      operation_lined p (x ++ codes ";") y z (e ∙ sym (append_assoc x (codes ";") (line n))) print

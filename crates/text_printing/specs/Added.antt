@@ -1,5 +1,5 @@
 -- What was written of types, attributes, operations, regions and blocks: their layout, whatever tree of texts they have.
-use Rattle.std.specs.Prelude.{ℕ, List, Vec}
+use Rattle.std.specs.Prelude.{◌≡◌, ℕ, List, ◌∷◌, Some, Vec}
 use Rattle.std.specs.Global.{Global}
 use Rattle.std.specs.Str.{trim}
 use Rattle.ir_base.specs.declared.types.TypeHandle.{TypeHandle}
@@ -11,12 +11,12 @@ use Rattle.ir_program.specs.declared.handles.BasicBlock.{BasicBlock}
 use Rattle.ir_program.specs.declared.handles.Value.{Value}
 use Rattle.ir_print.specs.declared.format.Part.{Part}
 use Rattle.ir_print.specs.Formats.{Formats, Step, Steps, list_of}
-use Rattle.ir_print.specs.Layout.{Chunk, Before, type_on, piece_on, parts_on, format_on, members_on, names_on, results_on, arguments_on, operation_on, region_on, block_on, IsFlat, AreFlat, AreFlatArguments, IsShallow, AreShallow}
-use Rattle.ir_print.specs.Pieces.{ValueTree, Pieces, EntityHead, Entity, entity, Entities}
+use Rattle.ir_print.specs.Layout.{Chunk, token, Before, type_on, piece_on, parts_on, format_on, members_on, names_on, results_on, arguments_on, block_head_on, operation_on, region_on, block_on, IsFlat, AreFlat, AreFlatArguments, IsShallow, AreShallow}
+use Rattle.ir_print.specs.Pieces.{ValueTree, Pieces, EntityHead, block, Entity, entity, Entities}
 use Rattle.ir_print.specs.Shown.{Saying, Pairs, ShowsType, ShowsAttribute, ShowsPart, ShowsParts, ShowsMembers}
-use Rattle.text_dialect.specs.Seen.{Seen}
+use Rattle.text_dialect.specs.Seen.{SeenBlock, Seen}
 use Rattle.text_dialect.specs.Standing.{HasDefinition, HasRegionTree, HasBlockTree, HaveRegionTrees, HaveBlockTrees, HaveTrees}
-use Rattle.text_dialect.specs.Printed.{IsValueName, IsBlockName, PrintsAs}
+use Rattle.text_dialect.specs.Printed.{IsValueName, IsBlockName, PrintsAs, block_name, label_front}
 use Rattle.text_printing.specs.Printing.{AddsText, IsReadable, AreReadable}
 
 -- the names of operands were written
@@ -63,6 +63,12 @@ module _ {K A T : Type 0} (says : Saying K A T) (f : Formats) (types : List T) w
       (rs : List (List ℕ × ValueTree)) (rest : List Chunk) → Pairs (HasDefinition says IsValueName types) vs rs →
       AddsText old new rest (results_on rs rest)
 
+  -- the same, and this id behind them
+  abbrev pub AddsOperationHead : List TypedValue → (id : List ℕ) → (old new : List ℕ) → Type 0
+  AddsOperationHead vs id old new =
+      (rs : List (List ℕ × ValueTree)) (rest : List Chunk) → Pairs (HasDefinition says IsValueName types) vs rs →
+      AddsText old new rest (results_on rs (token id ∷ rest))
+
   -- the arguments of a block were written
   abbrev pub AddsArgumentList : (left : ℕ) → List TypedValue → (old new : List ℕ) → Type 0
   AddsArgumentList left vs old new =
@@ -86,6 +92,13 @@ module _ {K A T : Type 0} (says : Saying K A T) (s : Seen K A T) where
 
   abbrev pub PrintsOperations : List (Ptr Operation) → Entities (List ℕ) → Type 0
   PrintsOperations ps ts = HaveTrees says IsValueName IsBlockName s ps ts
+
+  -- the head of a block was written: its label, and its arguments
+  abbrev pub AddsBlockHead : Formats → (left : ℕ) → Ptr BasicBlock → List TypedValue → (old new : List ℕ) → Type 0
+  AddsBlockHead f left b vs old new =
+      (v : SeenBlock) (xs : List (List ℕ × ValueTree)) (rest : List Chunk) → s.block b ≡ Some v →
+      Pairs (HasDefinition says IsValueName s.types) vs xs → AreFlatArguments left xs →
+      AddsText old new rest (block_head_on f (block (block_name (label_front v.label) b.key.slot b.key.version) xs) rest)
 
   -- Written from a line with this indentation on, where at most so many regions, types and attributes stand in one another.
   module _ (f : Formats) (indent left : ℕ) where

@@ -5,15 +5,15 @@ use Rattle.ir_program.specs.declared.handles.Ptr.{Ptr}
 use Rattle.ir_program.specs.declared.handles.Region.{Region}
 use Rattle.ir_program.specs.declared.handles.Value.{Value}
 use Rattle.ir_print.specs.declared.format.Part.{Part}
-use Rattle.ir_print.specs.Formats.{Formats, Step}
-use Rattle.ir_print.specs.Layout.{Chunk, white, Before, a_part, Printer, gap_of_part, piece_on, operands_on, first_region_on, regions_on, IsFlat, AreShallow}
-use Rattle.ir_print.specs.Pieces.{operands, region, ValueTree, Entities, no_entity, an_entity}
-use Rattle.ir_print.specs.Shown.{Saying, Pairs, ShowsPart}
+use Rattle.ir_print.specs.Formats.{Formats, Step, Steps}
+use Rattle.ir_print.specs.Layout.{Chunk, white, Before, an_id, a_part, Printer, gap_of_part, piece_on, format_on, all_parts_on, operands_on, first_region_on, regions_on, IsFlat, AreFlat, AreShallow}
+use Rattle.ir_print.specs.Pieces.{operands, region, ValueTree, Pieces, Entities, no_entity, an_entity}
+use Rattle.ir_print.specs.Shown.{Saying, Pairs, ShowsPart, ShowsParts}
 use Rattle.text_dialect.specs.Seen.{Seen}
 use Rattle.text_dialect.specs.Printed.{IsValueName}
 use Rattle.text_printing.specs.declared.operations.Progress.{Progress}
 use Rattle.text_printing.specs.Added.{PrintsRegions}
-use Rattle.text_printing.specs.Printing.{before_of, AddsText, IsReadable}
+use Rattle.text_printing.specs.Printing.{before_of, AddsText, IsReadable, AreReadable}
 
 -- how a piece of an operation is printed, with the names of the operands and the regions that are left
 abbrev pub head_on : Formats → ValueTree → List (List ℕ) → List (List Chunk → List Chunk) → Option Printer
@@ -70,3 +70,10 @@ module _ {K A T : Type 0} (says : Saying K A T) (s : Seen K A T) (values : List 
       pub printed : (t : ValueTree) (us : List (List ℕ)) (es : Entities (List ℕ)) (rest : List Chunk) →
           ShowsPart says s.types part t → IsFlat left t → IsReadable 64 t → AreLeft progress.operands progress.regions us es →
           IsPartPrinted at t us es (before_of progress.before) after rest old new
+
+    -- parts were written behind the id of their operation, one for each step of a format that is no word
+    abbrev pub AddsOperationParts : {D : Type 0} → Steps → List (Part D K A T) → (old new : List ℕ) → Type 0
+    AddsOperationParts format parts old new =
+        (ts : Pieces) (us : List (List ℕ)) (es : Entities (List ℕ)) (rest : List Chunk) → ShowsParts says s.types parts ts →
+        AreFlat left ts → AreReadable 64 ts → AreLeft 0 0 us es →
+        AddsText old new rest (format_on an_id format (all_parts_on f ts us (regions_on f indent es)) rest)

@@ -1,10 +1,10 @@
 -- What the parts of printing say of themselves.
-use Rattle.std.specs.Prelude.{◌≡◌, ℕ, ◌<◌, ◌^◌, Bool, List, ◌++◌, Option}
+use Rattle.std.specs.Prelude.{◌≡◌, ℕ, ◌<◌, ◌^◌, Bool, true, false, List, ◌++◌, Option, codes}
 use Rattle.ir_names.specs.Tree.{node, no_tree, a_tree}
 use Rattle.ir_names.specs.declared.kinds.Signedness.{Signedness}
 use Rattle.ir_print.specs.declared.format.Number.{Number}
 use Rattle.ir_print.specs.Formats.{Step}
-use Rattle.ir_print.specs.Layout.{Chunk, spell, Before, an_id, a_word, a_part, Deeper, name_on, number_text, width_text}
+use Rattle.ir_print.specs.Layout.{Chunk, spell, line, Before, an_id, a_word, a_part, Deeper, name_on, number_text, width_text}
 use Rattle.ir_print.specs.Pieces.{type_of_kind, attribute_of_kind, list, item, operands, region, name, number, width, ValueTree, Pieces}
 use Rattle.ir_print.specs.Shown.{IsNumber, IsWidth}
 use Rattle.text_printing.specs.declared.words.Before as code
@@ -15,6 +15,11 @@ abbrev pub before_of : code.Before → Before
 before_of code_before.Id = an_id
 before_of code_before.Literal = a_word
 before_of code_before.Part = a_part
+
+-- what stands before an operation of a block: `;` behind another one, and a line end
+abbrev pub next_line : (is_first : Bool) (indent : ℕ) → List ℕ
+next_line true n = line n
+next_line false n = codes ";" ++ line n
 
 -- a text that was written, where these chunks stand for the rest
 abbrev pub AddsText : (old new : List ℕ) → List Chunk → List Chunk → Type 0

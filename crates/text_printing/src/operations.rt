@@ -1,18 +1,19 @@
 //! The texts of operations, with the regions and blocks in them.
-ghost use Rattle.std.specs.Prelude.{◌≡◌, ◌+◌, ◌*◌, ◌<◌, ◌≤◌, ◌^◌, ◌++◌, IsSome, IfSome, IfOk, OnOk, List, ℕ, length, take, drop};
+ghost use Rattle.std.specs.Prelude.{◌≡◌, ◌+◌, ◌*◌, ◌<◌, ◌≤◌, ◌^◌, ◌++◌, ◌⊎◌, IsSome, IfSome, IfOk, OnOk, MatchOption, Some, List, ℕ, length, slice_get, take, drop};
 ghost use Rattle.std.specs.String.{string_bytes};
 ghost use Rattle.ir_context.specs.Kept.{label_at};
-ghost use Rattle.ir_print.specs.Formats.{step_of};
-ghost use Rattle.ir_print.specs.Layout.{a_part, layout, IsShallow};
+ghost use Rattle.ir_print.specs.Formats.{step_of, steps_of};
+ghost use Rattle.ir_print.specs.Layout.{a_part, layout, line, IsShallow};
 ghost use Rattle.ir_print.specs.Pieces.{Entity};
+ghost use Rattle.ir_print.specs.declared.format.Part.TheVariants as piece;
 ghost use Rattle.ir_program.specs.Lists.{regions_in};
 ghost use Rattle.ir_program.specs.Program.{operation_at, block_at, region_at, results_at, arguments_at};
 ghost use Rattle.ir_program.specs.Rows.{operands_at};
 ghost use Rattle.text_dialect.specs.Printed.{PrintsAs, block_name, label_front};
 ghost use Rattle.text_dialect.specs.Seen.{seen};
-ghost use Rattle.text_printing.specs.Added.{AddsResultList, AddsOperandNames, AddsArgumentList, AddsOperation, AddsRegion, AddsBlock};
-ghost use Rattle.text_printing.specs.PartPrinted.{PartPrinted};
-ghost use Rattle.text_printing.specs.Printing.{before_of};
+ghost use Rattle.text_printing.specs.Added.{AddsResultList, AddsOperandNames, AddsArgumentList, AddsOperationHead, AddsBlockHead, AddsOperation, AddsRegion, AddsBlock};
+ghost use Rattle.text_printing.specs.PartPrinted.{PartPrinted, AddsOperationParts};
+ghost use Rattle.text_printing.specs.Printing.{before_of, next_line};
 
 use crate::values::{LISTS, print_part, print_type};
 use crate::words::{Before, print_gap, print_line, print_literal, print_value};
@@ -73,6 +74,21 @@ fn print_results<D: TextDialect>(
     }
     out.push_str(" = ")?;
     Ok(())
+}
+
+/// The results of an operation, and the id of its kind.
+fn print_operation_head<D: TextDialect>(
+    ctx: &Context<D>,
+    out: &mut String,
+    op: Ptr<Operation>,
+    kind: D::OpKind,
+) -> Result<(), AllocError>
+    requires { IsSome (operation_at ctx.now.program op) }
+    ensures { OnOk result (AddsOperationHead D.says D.formats ctx.now.types.keys (results_at ctx.now.program op)
+        (D.op_kind kind).id (string_bytes out.old) (string_bytes out.new)) }
+{
+    print_results(ctx, out, op)?;
+    out.push_str(D::op_name(kind))
 }
 
 /// The operands from one on, up to another.
@@ -148,6 +164,43 @@ fn print_arguments<D: TextDialect>(
     Ok(())
 }
 
+/// The label and the arguments of a block, from where its line begins.
+fn print_block_head<D: TextDialect>(
+    alloc: Global,
+    ctx: &Context<D>,
+    out: &mut String,
+    block: Ptr<BasicBlock>,
+    left: u32,
+) -> Result<(), AllocError>
+    requires { IsSome (block_at ctx.now.program block) }
+    ensures { OnOk result (AddsBlockHead D.says (seen ctx.now) D.formats left block
+        (arguments_at ctx.now.program block) (string_bytes out.old) (string_bytes out.new)) }
+{
+    out.push_str("^")?;
+    print_label(ctx, out, block)?;
+    out.push_str("(")?;
+    print_arguments(alloc, ctx, out, block, left)?;
+    out.push_str("):")
+}
+
+/// A line of its own for a sign, up to the sign.
+fn print_sign_line(out: &mut String, indent: usize, sign: &str) -> Result<(), AllocError>
+    ensures { OnOk result (string_bytes out.new ≡ string_bytes out.old ++ (line indent ++ sign.now)) }
+{
+    print_line(out, indent)?;
+    out.push_str(sign)
+}
+
+/// What stands before the next operation of a block.
+fn print_next_line(out: &mut String, is_first: bool, indent: usize) -> Result<(), AllocError>
+    ensures { OnOk result (string_bytes out.new ≡ string_bytes out.old ++ next_line is_first indent) }
+{
+    if !is_first {
+        out.push_str(";")?;
+    }
+    print_line(out, indent)
+}
+
 /// How far the format of an operation has been printed.
 #[derive(Clone, Copy)]
 struct Progress {
@@ -170,6 +223,60 @@ fn behind_part(operands: usize, regions: usize) -> Progress
     }
 }
 
+/// A part of an operation that is no region, and how far its format has been printed then.
+fn print_flat_part<D: TextDialect>(
+    alloc: Global,
+    ctx: &Context<D>,
+    out: &mut String,
+    op: Ptr<Operation>,
+    directive: Directive,
+    part: &Part<D>,
+    progress: Progress,
+    left: u32,
+) -> Result<Progress, AllocError>
+    requires live { IsSome (operation_at ctx.now.program op) }
+    requires flat { part.now ≡ piece.Region → ⊥ }
+    ensures { IfOk result (λ after. (indent : ℕ) → PartPrinted D.says (seen ctx.now)
+        (operands_at ctx.now.program op) (regions_in ctx.now.program op) left D.formats indent
+        (step_of directive) part.now progress after (string_bytes out.old) (string_bytes out.new)) }
+{
+    let operands = progress.operands;
+    if let Part::Operands(count) = part {
+        let to = operands
+            .saturating_add(*count)
+            .min(op.get_num_operands(ctx));
+        if operands >= to {
+            return Ok(progress);
+        }
+        print_gap(out, progress.before)?;
+        print_operands(ctx, out, op, operands, to)?;
+        return Ok(behind_part(to, progress.regions));
+    }
+    print_gap(out, progress.before)?;
+    print_part(alloc, ctx, out, directive, part, left, LISTS)?;
+    Ok(behind_part(operands, progress.regions))
+}
+
+/// The next region of an operation, unless none is left or it would be too deep.
+fn next_region<D: TextDialect>(
+    ctx: &Context<D>,
+    op: Ptr<Operation>,
+    regions: usize,
+    left: u32,
+) -> Option<Ptr<Region>>
+    requires { IsSome (operation_at ctx.now.program op) }
+    ensures region { MatchOption result ((left ≡ 0) ⊎ (length (regions_in ctx.now.program op) ≤ regions))
+        (λ region. slice_get (regions_in ctx.now.program op) regions ≡ Some region) }
+    ensures live { IfSome result (λ region. IsSome (region_at ctx.now.program region)) }
+    ensures deep { IfSome result (λ _. 0 < left) }
+    ensures few { IfSome result (λ _. regions + 1 < 2 ^ 64) }
+{
+    if left == 0 || regions >= op.num_regions(ctx) {
+        return None;
+    }
+    Some(op.get_region(ctx, regions))
+}
+
 /// An operation, from where its line begins, where `left` regions, types and attributes may stand in one another.
 #[cycle(operations)]
 fn print_operation<D: TextDialect>(
@@ -185,17 +292,46 @@ fn print_operation<D: TextDialect>(
     ensures { OnOk result (AddsOperation D.says (seen ctx.now) D.formats indent left op
         (string_bytes out.old) (string_bytes out.new)) }
 {
-    print_results(ctx, out, op)?;
     let kind = op.kind(ctx);
-    out.push_str(D::op_name(kind))?;
+    print_operation_head(ctx, out, op, kind)?;
     let parts = D::operation_parts(alloc, ctx, op)?;
+    print_operation_parts(
+        alloc,
+        ctx,
+        out,
+        op,
+        D::op_format(kind),
+        &parts,
+        indent,
+        left,
+    )
+}
+
+/// What an operation says behind its id: the parts, at the directives of the format.
+#[cycle(operations)]
+fn print_operation_parts<D: TextDialect>(
+    alloc: Global,
+    ctx: &Context<D>,
+    out: &mut String,
+    op: Ptr<Operation>,
+    format: &[Directive],
+    parts: &[Part<D>],
+    indent: usize,
+    left: u32,
+) -> Result<(), AllocError>
+    requires live { IsSome (operation_at ctx.now.program op) }
+    requires narrow { indent + 4 * left < 2 ^ 60 }
+    ensures { OnOk result (AddsOperationParts D.says (seen ctx.now)
+        (operands_at ctx.now.program op) (regions_in ctx.now.program op) left D.formats indent
+        (steps_of format.now) parts.now (string_bytes out.old) (string_bytes out.new)) }
+{
     let mut progress = Progress {
         before: Before::Id,
         operands: 0,
         regions: 0,
     };
     let mut next = 0;
-    for directive in D::op_format(kind) {
+    for directive in format {
         if let Directive::Literal(text) = directive {
             print_literal(out, progress.before, text)?;
             progress.before = Before::Literal;
@@ -230,30 +366,15 @@ fn print_operation_part<D: TextDialect>(
         (operands_at ctx.now.program op) (regions_in ctx.now.program op) left D.formats indent
         (step_of directive) part.now progress after (string_bytes out.old) (string_bytes out.new)) }
 {
-    let regions = progress.regions;
-    let operands = progress.operands;
-    if let Part::Operands(count) = part {
-        let to = operands
-            .saturating_add(*count)
-            .min(op.get_num_operands(ctx));
-        if operands >= to {
-            return Ok(progress);
-        }
-        print_gap(out, progress.before)?;
-        print_operands(ctx, out, op, operands, to)?;
-        return Ok(behind_part(to, regions));
-    }
-    print_gap(out, progress.before)?;
     if let Part::Region = part {
-        if left == 0 || regions >= op.num_regions(ctx) {
-            return Ok(behind_part(operands, regions));
-        }
-        let region = op.get_region(ctx, regions);
+        print_gap(out, progress.before)?;
+        let Some(region) = next_region(ctx, op, progress.regions, left) else {
+            return Ok(behind_part(progress.operands, progress.regions));
+        };
         print_region(alloc, ctx, out, region, indent, left - 1)?;
-        return Ok(behind_part(operands, regions + 1));
+        return Ok(behind_part(progress.operands, progress.regions + 1));
     }
-    print_part(alloc, ctx, out, directive, part, left, LISTS)?;
-    Ok(behind_part(operands, regions))
+    print_flat_part(alloc, ctx, out, op, directive, part, progress, left)
 }
 
 /// A region, from the end of the line on which its operation stands.
@@ -271,15 +392,12 @@ fn print_region<D: TextDialect>(
     ensures { OnOk result (AddsRegion D.says (seen ctx.now) D.formats indent left region
         (string_bytes out.old) (string_bytes out.new)) }
 {
-    print_line(out, indent)?;
-    out.push_str("{")?;
+    print_sign_line(out, indent, "{")?;
     for block in region.iter(ctx) {
         print_line(out, indent + 2)?;
         print_block(alloc, ctx, out, block, indent + 2, left)?;
     }
-    print_line(out, indent)?;
-    out.push_str("}")?;
-    Ok(())
+    print_sign_line(out, indent, "}")
 }
 
 /// A block, from where its line begins.
@@ -297,18 +415,11 @@ fn print_block<D: TextDialect>(
     ensures { OnOk result (AddsBlock D.says (seen ctx.now) D.formats indent left block
         (string_bytes out.old) (string_bytes out.new)) }
 {
-    out.push_str("^")?;
-    print_label(ctx, out, block)?;
-    out.push_str("(")?;
-    print_arguments(alloc, ctx, out, block, left)?;
-    out.push_str("):")?;
+    print_block_head(alloc, ctx, out, block, left)?;
     let mut is_first = true;
     for op in block.iter(ctx) {
-        if !is_first {
-            out.push_str(";")?;
-        }
+        print_next_line(out, is_first, indent + 2)?;
         is_first = false;
-        print_line(out, indent + 2)?;
         print_operation(alloc, ctx, out, op, indent + 2, left)?;
     }
     Ok(())

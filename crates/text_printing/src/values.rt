@@ -46,8 +46,7 @@ pub(crate) fn print_type<D: TextDialect>(
         Before::Id,
         left - 1,
         LISTS,
-    )?;
-    Ok(())
+    )
 }
 
 /// An attribute, where `left` types and attributes may stand in one another from here on.
@@ -77,8 +76,7 @@ fn print_attribute<D: TextDialect>(
         Before::Id,
         left - 1,
         LISTS,
-    )?;
-    Ok(())
+    )
 }
 
 /// The parts of a type or an attribute, or of a member of a list in one; `lists` lists may stand in one another from here on.

@@ -1,24 +1,24 @@
-use Rattle.std.proofs.Common.{rules, ℕ, inl, inr, ◌≡◌, ◌≤◌, ◌+◌, ◌++◌, [], true, false, ltb, ap, ◌∙◌, refl, arith, length, Some, subst}
-use Rattle.std.specs.Prelude.{IfSome, IsSome}
+use Rattle.std.proofs.Common.{rules, ℕ, ◌≡◌, ◌≤◌, ◌+◌, [], true, false, ltb, ap, ◌∙◌, refl, arith, length, Some}
+use Rattle.std.specs.Prelude.{IsSome}
 use Rattle.std.specs.String.{string_bytes}
 use Rattle.std.proofs.lemmas.Bool.Decides.{nat_tests}
+use Rattle.std.proofs.lemmas.Result.{IfOk-weaker, on_ok_weaker}
 use Rattle.std.proofs.lemmas.Option.{slice_get_read}
 use Rattle.ir_program.specs.Lists.{StandsInBlock, StandsInRegion, blocks_in, operations_in, regions_in}
 use Rattle.ir_program.specs.Program.{operation_at, block_at, results_at, arguments_at}
 use Rattle.ir_program.specs.Rows.{operands_at}
 use Rattle.ir_print.specs.Formats.{step_of, steps_of}
-use Rattle.text_dialect.specs.Printed.{block_name, label_front}
 use Rattle.text_dialect.specs.Seen.{seen}
 use Rattle.text_printing.specs.declared.words.Before.TheVariants.{Literal}
 use Rattle.text_printing.proofs.EntitiesPrinted.{operation_printed, region_lines, block_lines}
 use Rattle.text_printing.proofs.OperationOwed.{operation_start, operation_past, operation_word_at, operation_part_at, operation_none_at}
-use Rattle.text_printing.proofs.OpsPrinted.{operands_printed, piece_printed, no_region_printed, region_printed}
-use Rattle.text_printing.proofs.Owed.{separated, not_separated}
-use Rattle.text_printing.proofs.Read.{operation_read, region_read, block_read, label_read}
-use Rattle.text_printing.proofs.RowsOwed.{Each, ShallowBlock, ShallowOperation, blocks_left, operations_left, blocks_row, operations_row, block_lined, operation_lined}
+use Rattle.text_printing.proofs.OpsPrinted.{no_region_printed, region_printed}
+use Rattle.text_printing.proofs.Owed.{not_separated}
+use Rattle.text_printing.proofs.Read.{operation_read, region_read, block_read}
+use Rattle.text_printing.proofs.RowsOwed.{Each, ShallowBlock, ShallowOperation, blocks_left, operations_left, blocks_row, operations_row, block_lined, operation_next}
 use Rattle.text_printing.proofs.Walked.{any_walked, walk_start, walk_holds, walk_next, walk_end}
 use Rattle.text_printing.proofs.operations.+operations.Goals as goal
-use Rattle.text_printing.proofs.operations.+operations.Goals.{print_operation-in-Some+in_ok-progress, print_operation-in_default-get, print_operation_part-then-left-eq0-via-then-left-eq0, print_operation_part-then-left-eq0-via-else-left-eq0+then-regions-num_regions, print_block-then-not-is_first+in_ok-push_str-4, print_block-else-not-is_first}
+use Rattle.text_printing.proofs.operations.+operations.Goals.{print_operation_parts-in-Some+in_ok-progress, print_operation_parts-in_default-get}
 
 -- ---- blocks
 
@@ -44,27 +44,20 @@ print_block-loop-op-preserved g t c =
     walk_next (λ op. StandsInBlock c.args.ctx.now.program op c.args.block)
     (operations_row g.D.TextDialect.says (seen c.args.ctx.now) g.D.TextDialect.formats (c.args.indent + 2) c.args.left)
     (operations_in c.args.ctx.now.program c.args.block) c.loop-op.op-iterator c.loop-op.is_first
-    (string_bytes c.push_str-3.new.self) (string_bytes c.loop-op.out) c.loop-op.invariant c.in-Some.op c.next.new.self _ _
-    c.in-Some.ensures.steps
-    (elim c.if-not-is_first.branch [
-      | print_block-then-not-is_first+in_ok-push_str-4 w ↦ separated _ c.loop-op.is_first _ _ w.if-not-is_first.true (ap string_bytes w.out-is ∙ w.in_ok-push_str-4.ensures.bytes)
-      | print_block-else-not-is_first w ↦ not_separated _ c.loop-op.is_first _ _ w.if-not-is_first.false (ap string_bytes w.out-is)
-    ])
-    (operation_lined g.D.TextDialect.says (seen c.args.ctx.now) g.D.TextDialect.formats (c.args.indent + 2) c.args.left c.in-Some.op _ _ _
-    c.in_ok-print_line.ensures c.in_ok-print_operation.ensures)
+    (string_bytes c.print_block_head.new.out) (string_bytes c.loop-op.out) c.loop-op.invariant c.in-Some.op c.next.new.self _ _
+    c.in-Some.ensures.steps refl
+    (operation_next g.D.TextDialect.says (seen c.args.ctx.now) g.D.TextDialect.formats (c.args.indent + 2) c.args.left
+    c.loop-op.is_first c.in-Some.op _ _ _ c.in_ok-print_next_line.ensures c.in_ok-print_operation.ensures)
 
 pub print_block-returns : goal.print_block-returns
 print_block-returns g t c =
     block_lines g.D.TextDialect.says g.D.TextDialect.formats (seen c.args.ctx.now) c.args.indent c.args.left c.args.block
     (arguments_at c.args.ctx.now.program c.args.block) (operations_in c.args.ctx.now.program c.args.block)
-    (block_read c.args.ctx.now c.args.block) _ _ _ _ _ _ _ c.in_ok-push_str.ensures.bytes
-    (λ v e. subst (λ o. IfSome o (λ label. string_bytes c.print_label.new.out ≡ string_bytes c.push_str.new.self ++ block_name (label_front label) c.args.block.key.slot c.args.block.key.version))
-    (label_read c.args.ctx.now c.args.block v e) c.in_ok-print_label.ensures)
-    c.in_ok-push_str-2.ensures.bytes c.in_ok-print_arguments.ensures c.in_ok-push_str-3.ensures.bytes
+    (block_read c.args.ctx.now c.args.block) _ _ _ c.in_ok-print_block_head.ensures
     (walk_end (λ op. StandsInBlock c.args.ctx.now.program op c.args.block)
     (operations_row g.D.TextDialect.says (seen c.args.ctx.now) g.D.TextDialect.formats (c.args.indent + 2) c.args.left)
     (operations_in c.args.ctx.now.program c.args.block) c.loop-op.op-iterator c.loop-op.is_first
-    (string_bytes c.push_str-3.new.self) (string_bytes c.loop-op.out) c.loop-op.invariant c.in-None.ensures.steps.0)
+    (string_bytes c.print_block_head.new.out) (string_bytes c.loop-op.out) c.loop-op.invariant c.in-None.ensures.steps.0)
 
 -- ---- regions
 
@@ -91,108 +84,98 @@ print_region-loop-block-preserved g t c =
     (λ block. StandsInRegion c.args.ctx.now.program block c.args.region) false
     (walk_next (λ block. StandsInRegion c.args.ctx.now.program block c.args.region)
     (blocks_row g.D.TextDialect.says (seen c.args.ctx.now) g.D.TextDialect.formats (c.args.indent + 2) c.args.left)
-    (blocks_in c.args.ctx.now.program c.args.region) c.loop-block.block-iterator true (string_bytes c.push_str.new.self)
+    (blocks_in c.args.ctx.now.program c.args.region) c.loop-block.block-iterator true (string_bytes c.print_sign_line.new.out)
     (string_bytes c.loop-block.out) c.loop-block.invariant c.in-Some.block c.next.new.self _ _ c.in-Some.ensures.steps
     (not_separated [] true (string_bytes c.loop-block.out) _ refl refl)
     (block_lined g.D.TextDialect.says (seen c.args.ctx.now) g.D.TextDialect.formats (c.args.indent + 2) c.args.left c.in-Some.block _ _ _
-    c.in_ok-print_line-2.ensures c.in_ok-print_block.ensures))
+    c.in_ok-print_line.ensures c.in_ok-print_block.ensures))
 
 pub print_region-returns : goal.print_region-returns
 print_region-returns g t c =
+    on_ok_weaker c.print_sign_line-2.result (
     region_lines g.D.TextDialect.says g.D.TextDialect.formats (seen c.args.ctx.now) c.args.indent c.args.left c.args.region
-    (blocks_in c.args.ctx.now.program c.args.region) (region_read c.args.ctx.now c.args.region) _ _ _ _ _ _
-    c.in_ok-print_line.ensures c.in_ok-push_str.ensures.bytes
+    (blocks_in c.args.ctx.now.program c.args.region) (region_read c.args.ctx.now c.args.region) _ _ _ _ c.in_ok-print_sign_line.ensures
     (walk_end (λ block. StandsInRegion c.args.ctx.now.program block c.args.region)
     (blocks_row g.D.TextDialect.says (seen c.args.ctx.now) g.D.TextDialect.formats (c.args.indent + 2) c.args.left)
-    (blocks_in c.args.ctx.now.program c.args.region) c.loop-block.block-iterator true (string_bytes c.push_str.new.self)
+    (blocks_in c.args.ctx.now.program c.args.region) c.loop-block.block-iterator true (string_bytes c.print_sign_line.new.out)
     (string_bytes c.loop-block.out) c.loop-block.invariant c.in-None.ensures.steps.0)
-    c.in_ok-print_line-3.ensures c.in_ok-push_str-2.ensures.bytes
+    )
+    c.print_sign_line-2.ensures
 
 -- ---- operations
-
-pub print_operation-loop-directive-init : goal.print_operation-loop-directive-init
-print_operation-loop-directive-init g t c =
-    operation_start g.D.TextDialect.says g.D.TextDialect.formats (seen c.args.ctx.now)
-    (operands_at c.args.ctx.now.program c.args.op) (regions_in c.args.ctx.now.program c.args.op) c.args.indent c.args.left
-    c.in_ok-parts.parts.items c.op_format-directive-items.result.now _ _ refl refl refl
 
 pub print_operation-returns : goal.print_operation-returns
 print_operation-returns g t c =
     let d = g.D.TextDialect in
     let m = g.met.D.TextDialect in
+    on_ok_weaker c.print_operation_parts.result (λ print.
     operation_printed d.says d.formats (seen c.args.ctx.now) c.args.indent c.args.left d.values c.args.op d.kind_at d.op_kind m.nested
     m.says_operations m.operations m.says_kinds c.kind-kind.result (results_at c.args.ctx.now.program c.args.op)
     (operands_at c.args.ctx.now.program c.args.op) (regions_in c.args.ctx.now.program c.args.op)
     (operation_read c.args.ctx.now c.args.op c.kind-kind.result c.kind-kind.ensures) c.in_ok-parts.parts.items
-    (steps_of c.op_format-directive-items.result.now) _ _ _ _ c.in_ok-print_results.ensures
-    (c.in_ok-push_str.ensures.bytes ∙ ap (λ s. string_bytes c.print_results.new.out ++ s) c.op_name.ensures)
-    c.op_format-directive-items.ensures c.in_ok-parts.ensures
-    (operation_past d.says d.formats (seen c.args.ctx.now) (operands_at c.args.ctx.now.program c.args.op)
-    (regions_in c.args.ctx.now.program c.args.op) c.args.indent c.args.left c.in_ok-parts.parts.items _
-    c.op_format-directive-items.result.now c.loop-directive.directive-index c.loop-directive.progress
-    (string_bytes c.push_str.new.self) (string_bytes c.loop-directive.out) (omega arith) c.loop-directive.invariant)
+    (steps_of c.op_format.result.now) _ _ _ c.in_ok-print_operation_head.ensures c.op_format.ensures c.in_ok-parts.ensures
+    (λ ts us es rest h. print ts us es rest (rw c.deref.ensures.value h)))
+    c.print_operation_parts.ensures
+
+-- ---- formats of operations
+
+pub print_operation_parts-loop-directive-init : goal.print_operation_parts-loop-directive-init
+print_operation_parts-loop-directive-init g t c =
+    operation_start g.D.TextDialect.says g.D.TextDialect.formats (seen c.args.ctx.now)
+    (operands_at c.args.ctx.now.program c.args.op) (regions_in c.args.ctx.now.program c.args.op) c.args.indent c.args.left
+    c.args.parts.now c.args.format.now _ _ refl refl refl
+
+pub print_operation_parts-returns : goal.print_operation_parts-returns
+print_operation_parts-returns g t c =
+    operation_past g.D.TextDialect.says g.D.TextDialect.formats (seen c.args.ctx.now)
+    (operands_at c.args.ctx.now.program c.args.op) (regions_in c.args.ctx.now.program c.args.op) c.args.indent c.args.left
+    c.args.parts.now _ c.args.format.now c.loop-directive.directive-index c.loop-directive.progress
+    (string_bytes c.args.out.now) (string_bytes c.loop-directive.out) (omega arith) c.loop-directive.invariant
 
 past : (i n : ℕ) → false ≡ ltb i n → n ≤ i
 past i n h = grind (arith, nat_tests)
 
-pub print_operation-loop-directive-preserved-in-Literal : goal.print_operation-loop-directive-preserved-in-Literal
-print_operation-loop-directive-preserved-in-Literal g t c =
-    let ds = c.op_format-directive-items.result.now in
-    operation_word_at _ _ _ _ _ _ _ c.in_ok-parts.parts.items _ ds c.loop-directive.directive-index c.in-Literal.text c.loop-directive.progress (record c.loop-directive.progress { before = Literal }) _ _ _
+pub print_operation_parts-loop-directive-preserved-in-Literal : goal.print_operation_parts-loop-directive-preserved-in-Literal
+print_operation_parts-loop-directive-preserved-in-Literal g t c =
+    let ds = c.args.format.now in
+    operation_word_at _ _ _ _ _ _ _ c.args.parts.now _ ds c.loop-directive.directive-index c.in-Literal.text c.loop-directive.progress (record c.loop-directive.progress { before = Literal }) _ _ _
     (slice_get_read ds (length ds) c.loop-directive.directive-index c.directive-item.result refl (omega arith) c.directive-item.is ∙ ap Some c.in-Literal.is) c.loop-directive.invariant refl refl refl c.in_ok-print_literal.ensures
 
-pub print_operation-loop-directive-preserved : goal.print_operation-loop-directive-preserved
-print_operation-loop-directive-preserved g t c =
-    let ds = c.op_format-directive-items.result.now in
-    let ps = c.in_ok-parts.parts.items in
+pub print_operation_parts-loop-directive-preserved : goal.print_operation_parts-loop-directive-preserved
+print_operation_parts-loop-directive-preserved g t c =
+    let ds = c.args.format.now in
+    let ps = c.args.parts.now in
     elim c.match-get.branch [
-      | print_operation-in-Some+in_ok-progress w ↦ rw (w.out-is, w.next-is, w.progress-is) (
+      | print_operation_parts-in-Some+in_ok-progress w ↦ rw (w.out-is, w.next-is, w.progress-is) (
           operation_part_at _ _ _ _ _ _ _ ps c.loop-directive.next w.in-Some.part.now ds c.loop-directive.directive-index c.directive-item.result c.loop-directive.progress _ _ _ _
           (slice_get_read ds (length ds) c.loop-directive.directive-index c.directive-item.result refl (omega arith) c.directive-item.is)
-          (slice_get_read ps (length ps) c.loop-directive.next w.in-Some.part.now refl (rw c.deref.ensures.value at w.in-Some.ensures.lookup.3.0) (rw c.deref.ensures.value at w.in-Some.ensures.lookup.1))
+          (slice_get_read ps (length ps) c.loop-directive.next w.in-Some.part.now refl w.in-Some.ensures.lookup.3.0 w.in-Some.ensures.lookup.1)
           c.in_default.not-Literal c.loop-directive.invariant w.in_ok-progress.ensures)
-      | print_operation-in_default-get w ↦ rw (w.out-is, w.next-is, w.progress-is) (
+      | print_operation_parts-in_default-get w ↦ rw (w.out-is, w.next-is, w.progress-is) (
           operation_none_at _ _ _ _ _ _ _ ps c.loop-directive.next ds c.loop-directive.directive-index c.directive-item.result c.loop-directive.progress _ _
           (slice_get_read ds (length ds) c.loop-directive.directive-index c.directive-item.result refl (omega arith) c.directive-item.is)
-          (past c.loop-directive.next (length ps) (rw c.deref.ensures.value at w.in_default-get.ensures.lookup.0)) c.in_default.not-Literal c.loop-directive.invariant)
+          (past c.loop-directive.next (length ps) w.in_default-get.ensures.lookup.0) c.in_default.not-Literal c.loop-directive.invariant)
     ]
 
 -- ---- parts of operations
 
-pub print_operation_part-returns-in-Operands : goal.print_operation_part-returns-in-Operands
-print_operation_part-returns-in-Operands g t c =
+pub print_operation_part-returns-in_default-next_region : goal.print_operation_part-returns-in_default-next_region
+print_operation_part-returns-in_default-next_region g t c =
     let b = c.behind_part.ensures in
-    operands_printed g.D.TextDialect.says g.D.TextDialect.formats (seen c.args.ctx.now)
-    (operands_at c.args.ctx.now.program c.args.op) (regions_in c.args.ctx.now.program c.args.op) (step_of c.args.directive)
-    c.args.part.now c.args.indent c.args.left c.args.progress c.behind_part.result c.in-Operands.count _ _ _ c.in-Operands.is
-    (omega (arith, b.operands)) (omega (arith, b.operands)) (omega (arith, b.operands)) (λ lt. omega (arith, b.operands)) b.before
-    b.regions c.in_ok-print_gap.ensures (λ xs rest h. c.in_ok-print_operands.ensures xs rest (rw (← b.operands) h))
-
-pub print_operation_part-returns-then-left-eq0 : goal.print_operation_part-returns-then-left-eq0
-print_operation_part-returns-then-left-eq0 g t c =
-    let b = c.behind_part-then-left-eq0.ensures in
     no_region_printed g.D.TextDialect.says g.D.TextDialect.formats (seen c.args.ctx.now)
     (operands_at c.args.ctx.now.program c.args.op) (regions_in c.args.ctx.now.program c.args.op) (step_of c.args.directive)
-    c.args.part.now c.args.indent c.args.left c.args.progress c.behind_part-then-left-eq0.result _ _ c.in-Region.is
-    (elim c.then-left-eq0.branch [
-      | print_operation_part-then-left-eq0-via-then-left-eq0 w ↦ inl (omega arith)
-      | print_operation_part-then-left-eq0-via-else-left-eq0+then-regions-num_regions w ↦ inr (omega arith)
-    ])
-    b.before b.operands b.regions c.in_ok-print_gap-2.ensures
+    c.args.part.now c.args.indent c.args.left c.args.progress c.behind_part.result _ _ c.in-Region.is
+    c.in_default-next_region.ensures.region b.before b.operands b.regions c.in_ok-print_gap.ensures
 
 pub print_operation_part-returns-in-Region : goal.print_operation_part-returns-in-Region
 print_operation_part-returns-in-Region g t c =
     let b = c.behind_part-in-Region.ensures in
     region_printed g.D.TextDialect.says g.D.TextDialect.formats (seen c.args.ctx.now)
     (operands_at c.args.ctx.now.program c.args.op) (regions_in c.args.ctx.now.program c.args.op) (step_of c.args.directive)
-    c.args.part.now c.args.indent c.args.left c.args.progress c.behind_part-in-Region.result c.get_region-region.result _ _ _
-    c.in-Region.is (omega arith) c.get_region-region.ensures.region b.before b.operands b.regions c.in_ok-print_gap-2.ensures
+    c.args.part.now c.args.indent c.args.left c.args.progress c.behind_part-in-Region.result c.in-Some.region _ _ _
+    c.in-Region.is c.in-Some.ensures.deep c.in-Some.ensures.region b.before b.operands b.regions c.in_ok-print_gap.ensures
     c.in_ok-print_region.ensures
 
 pub print_operation_part-returns : goal.print_operation_part-returns
 print_operation_part-returns g t c =
-    let b = c.behind_part-2.ensures in
-    piece_printed g.D.TextDialect.says g.D.TextDialect.formats (seen c.args.ctx.now)
-    (operands_at c.args.ctx.now.program c.args.op) (regions_in c.args.ctx.now.program c.args.op) (step_of c.args.directive)
-    c.args.part.now c.args.indent c.args.left c.args.progress c.behind_part-2.result _ _ _ c.in_default.not-Operands
-    c.in_default-part.not-Region b.before b.operands b.regions c.in_ok-print_gap-2.ensures c.in_ok-print_part.ensures
+    IfOk-weaker c.print_flat_part.result _ _ (λ after printed. printed c.args.indent) c.print_flat_part.ensures

@@ -9,22 +9,25 @@ use Rattle.text_printing.proofs.Walked.{IsWalked}
 use Rattle.text_printing.proofs.operations.+operations.Given as goal
 
 abbrev pub decreases-print_operation : goal.decreases-print_operation
-decreases-print_operation g l = 4 * l.left + 1
+decreases-print_operation g l = 5 * l.left + 2
+
+abbrev pub decreases-print_operation_parts : goal.decreases-print_operation_parts
+decreases-print_operation_parts g l = 5 * l.left + 1
 
 abbrev pub decreases-print_operation_part : goal.decreases-print_operation_part
-decreases-print_operation_part g l = 4 * l.left
+decreases-print_operation_part g l = 5 * l.left
 
 abbrev pub decreases-print_region : goal.decreases-print_region
-decreases-print_region g l = 4 * l.left + 3
+decreases-print_region g l = 5 * l.left + 4
 
 abbrev pub decreases-print_block : goal.decreases-print_block
-decreases-print_block g l = 4 * l.left + 2
+decreases-print_block g l = 5 * l.left + 3
 
-abbrev pub invariant-print_operation-loop-directive : goal.invariant-print_operation-loop-directive
-invariant-print_operation-loop-directive g l =
+abbrev pub invariant-print_operation_parts-loop-directive : goal.invariant-print_operation_parts-loop-directive
+invariant-print_operation_parts-loop-directive g l =
     OperationOwed g.D.TextDialect.says g.D.TextDialect.formats (seen l.ctx) (operands_at l.ctx.program l.op)
-    (regions_in l.ctx.program l.op) l.indent l.left l.parts.items (drop l.next l.parts.items) l.directive-items
-    (drop l.directive-index l.directive-items) l.progress (string_bytes l.initial.out) (string_bytes l.out)
+    (regions_in l.ctx.program l.op) l.indent l.left l.parts (drop l.next l.parts) l.format
+    (drop l.directive-index l.format) l.progress (string_bytes l.fn.out) (string_bytes l.out)
 
 abbrev pub invariant-print_block-loop-op : goal.invariant-print_block-loop-op
 invariant-print_block-loop-op g l =

@@ -3,6 +3,7 @@ use Rattle.std.specs.String.{string_bytes}
 use Rattle.std.specs.Str.{trim}
 use Rattle.std.proofs.lemmas.Bool.Decides.{nat_tests}
 use Rattle.std.proofs.lemmas.Option.{slice_get_read}
+use Rattle.std.proofs.lemmas.Result.{on_ok_weaker}
 use Rattle.text_printing.proofs.FormatSteps.{step_of-List}
 use Rattle.text_printing.proofs.KindsPrinted.{type_printed, attribute_printed, type_part_printed, attribute_part_printed, no_list_printed, list_printed}
 use Rattle.text_printing.proofs.ListOwed.{members_row}
@@ -20,17 +21,21 @@ pub print_type-returns : goal.print_type-returns
 print_type-returns g t c =
     let d = g.D.TextDialect in
     let m = g.met.D.TextDialect in
+    on_ok_weaker c.print_parts.result (λ print.
     type_printed d.says d.formats d.values c.args.ctx.now.types.keys d.type_kinds d.type_form m.nested m.says_types m.types c.args.ty c.in-Some.key.now c.type_kind-kind.result c.in_ok-parts.parts.items c.args.left (steps_of c.type_format.result.now) _ _ _
     (sym c.in-Some.ensures) (λ n us e. m.says_type_kinds c.in-Some.key.now n us e ∙ ap Some (sym c.type_kind-kind.ensures)) (c.in_ok-push_str-2.ensures.bytes ∙ ap (λ s. string_bytes c.args.out.now ++ s) c.type_name.ensures) c.type_format.ensures c.in_ok-parts.ensures
-    (λ ts rest h. c.in_ok-print_parts.ensures ts rest (rw c.deref.ensures.value h))
+    (λ ts rest h. print ts rest (rw c.deref.ensures.value h)))
+    c.print_parts.ensures
 
 pub print_attribute-returns : goal.print_attribute-returns
 print_attribute-returns g t c =
     let d = g.D.TextDialect in
     let m = g.met.D.TextDialect in
+    on_ok_weaker c.print_parts.result (λ print.
     attribute_printed d.says d.formats d.values c.args.ctx.now.types.keys d.attr_kinds d.attr_form m.nested m.says_attributes m.attributes c.args.attr.now c.attr_kind-kind.result c.in_ok-parts.parts.items c.args.left (steps_of c.attr_format.result.now) _ _ _
     (λ n us e. m.says_attr_kinds c.args.attr.now n us e ∙ ap Some (sym c.attr_kind-kind.ensures)) (c.in_ok-push_str.ensures.bytes ∙ ap (λ s. string_bytes c.args.out.now ++ s) c.attr_name.ensures) c.attr_format.ensures c.in_ok-parts.ensures
-    (λ ts rest h. c.in_ok-print_parts.ensures ts rest (rw c.deref.ensures.value h))
+    (λ ts rest h. print ts rest (rw c.deref.ensures.value h)))
+    c.print_parts.ensures
 
 pub print_parts-loop-directive-preserved-in-Literal : goal.print_parts-loop-directive-preserved-in-Literal
 print_parts-loop-directive-preserved-in-Literal g t c =
