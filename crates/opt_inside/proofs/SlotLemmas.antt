@@ -1,5 +1,6 @@
 -- What the tables of numbers lead to so far, as the loops go, and what is found by them.
 use Rattle.std.proofs.Common.{◌≡◌, ◌≢◌, ◌↔◌, ⊎_elim, ℕ, ◌+◌, ◌-◌, ◌<◌, ◌≤◌, Bool, true, false, true≢false, List, length, set, get_or, Option, Some, None, slice_get, refl, sym, ap, ◌∙◌, subst, arith}
+use Rattle.std.specs.Ordering.{nat_cmp, ord_max}
 use Rattle.std.proofs.lemmas.Option.{slice_get_within, slice_get-get_or, get_or_from_slice_get, none-some}
 use Rattle.std.proofs.lemmas.Bool.{cases_lt}
 use Rattle.std.proofs.lemmas.List.{length-set, get_or-set_same, get_or-set_other}
@@ -15,10 +16,26 @@ written_elsewhere xs i j x y apart at =
     slice_get-get_or (set xs i x) j y (omega (arith, slice_get_within xs j y at, length-set xs i x))
     ∙ ap Some (get_or-set_other xs i j x y apart ∙ get_or_from_slice_get xs j y y at)
 
+-- the greater of two numbers
+pub greatest_of : (a b r : ℕ) → r ≡ ord_max nat_cmp a b → (a ≤ r) × (b ≤ r)
+greatest_of a b r is = (grind (arith, is), grind (arith, is))
+
 module _ {K : Type 0} (slot : K → ℕ) (items : List K) where
   -- the slots of the first items
   abbrev pub HaveSlotsUpTo : ℕ → ℕ → ℕ → Type 0
   HaveSlotsUpTo end least greatest = (n : ℕ) (k : K) → n < end → slice_get items n ≡ Some k → (least ≤ slot k) × (slot k ≤ greatest)
+
+  -- with the next item they are between a lesser and a greater slot
+  pub slots_next : (end least greatest : ℕ) → HaveSlotsUpTo end least greatest → (x : K) → slice_get items end ≡ Some x → (low high : ℕ)
+      → low ≤ least → low ≤ slot x → greatest ≤ high → slot x ≤ high → HaveSlotsUpTo (end + 1) low high
+  slots_next end least greatest so_far x at low high under least_here over greatest_here n k before there = ⊎_elim
+      (λ (e : n < end). let h = so_far n k e there in (omega (arith, h.0, under), omega (arith, h.1, over)))
+      (λ (e : end ≤ n).
+      let last : n ≡ end = omega (arith, e, before) in
+      let some : Some x ≡ Some k = sym at ∙ ap (slice_get items) (sym last) ∙ there in
+      let same : x ≡ k = cc in
+      (subst (λ z. low ≤ slot z) same least_here, subst (λ z. slot z ≤ high) same greatest_here))
+      (cases_lt n end)
 
   -- the table leads to the first items
   pub record LeadsUpTo (least places : ℕ) (numbers : List ℕ) (end : ℕ) : Type 0 where
