@@ -1,16 +1,10 @@
-use Rattle.std.proofs.Common.{◌∙◌, [], ap, subst, sym}
+use Rattle.std.proofs.Common.{subst}
 use Rattle.ir_program.specs.Preorder.{AreInside, nodes_inside}
 use Rattle.ir_program.specs.declared.handles.IRNode.TheVariants.{Operation as OperationNode}
 use Rattle.kit_checks.specs.World.{world_of}
 use Rattle.kit_verifier.specs.Callees.{callables_of, IsCallableAt}
-use Rattle.kit_verifier.proofs.Sets.{Collected, all_done, collected_all, collected_more, collected_none, is_live, next_of, one_further}
+use Rattle.kit_verifier.proofs.Sets.{Collected, all_done, collected_all, collected_more, is_live, next_of, one_further}
 use Rattle.kit_verifier.proofs.callees.callees_inside.Goals as goal
-
-pub loop-node-init : goal.loop-node-init
-loop-node-init g c = record {
-  listed = c.into_iter-node-iterator.ensures.into_iter_gives ∙ c.nodes_inside-node-items.ensures.list ∙ ap (λ p. nodes_inside p (OperationNode c.args.root)) c.program-program.ensures;
-  collected = subst (λ l. Collected (IsCallableAt (world_of c.args.ctx.now) c.args.ctx.now.program) [] (callables_of l)) (sym c.new-callees.ensures.empty) (collected_none (IsCallableAt (world_of c.args.ctx.now) c.args.ctx.now.program));
-}
 
 pub add_callee_at-requires : goal.add_callee_at-requires
 add_callee_at-requires g c =

@@ -3,7 +3,7 @@ use Rattle.ir_program.specs.Around.{IsWayUp, nodes_around}
 use Rattle.ir_program.specs.declared.handles.IRNode.TheVariants.{Operation as OperationNode}
 use Rattle.kit_checks.specs.World.{world_of}
 use Rattle.kit_verifier.specs.Scopes.{IsModuleAt}
-use Rattle.kit_verifier.proofs.Climbed.{climb_begins, climb_ends, climb_finds, climb_goes_on, never_ends, next_is_live}
+use Rattle.kit_verifier.proofs.Climbed.{climb_begins, climb_ends, climb_finds, climb_goes_on, next_is_live}
 use Rattle.kit_verifier.proofs.scopes.nearest_module.Goals as goal
 
 pub loop-node-init : goal.loop-node-init
@@ -32,6 +32,3 @@ loop-node-preserved g c =
     climb_goes_on (world_of c.args.ctx.now) c.args.ctx.now.program c.args.root c.args.op c.loop-node.node-iterator c.next.new.self c.in-Some.node c.in-Some.ensures.steps
     (subst (IsModuleAt (world_of c.args.ctx.now) c.args.ctx.now.program c.in-Some.node) c.in-None-module_at.is c.module_at.ensures)
     (λ same. true≢false (sym (c.is_operation.ensures.1 same) ∙ c.if-is_operation.false)) c.loop-node.invariant
-
-pub unreachable-requires : goal.unreachable-requires
-unreachable-requires g c = never_ends (world_of c.args.ctx.now) c.args.ctx.now.program c.args.root c.args.op c.loop-node.node-iterator c.in-None.ensures.steps.0 c.loop-node.invariant
