@@ -9,3 +9,6 @@ pub mod ReadTrees
 pub mod ReadDepths
 pub mod ReadClosed
 pub mod PrintAndRead
+pub mod SameNames
+pub mod WholeTexts
+pub mod OneTree

@@ -145,3 +145,9 @@ pub fn printed_texts_are_read()
         → length (text ++ 10 ∷ []) < 2 ^ 63 → (again : Entity ℕ) × Says l (text ++ 10 ∷ []) again
         × IsSameModule again tree }
 {}
+
+/// In a language that is in order, two trees that one text says are the same.
+pub fn texts_say_one_tree()
+    ensures { (l : Language) (leads : PartPositions) → is_ordered leads (rules_of l.formats) ≡ true
+        → (cs : List ℕ) (t u : Entity ℕ) → Says l cs t → Says l cs u → t ≡ u }
+{}

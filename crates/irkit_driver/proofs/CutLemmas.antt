@@ -11,7 +11,7 @@ use Rattle.ir_trees.proofs.OneTree.{one_tree}
 use Rattle.ir_trees.proofs.Same.{same_on}
 use Rattle.ir_trees.specs.Stands.{by_handle}
 use Rattle.ir_types.specs.Interned.{key_at}
-use Rattle.ir_unique_trees.proofs.OneTree.{one_tree_said}
+use Rattle.ir_rereading.proofs.OneTree.{one_tree_said}
 use Rattle.kit.specs.Leads.{leads}
 use Rattle.kit_language.specs.Language.{kit_language}
 use Rattle.kit_module_programs.specs.TreePasses.{IsTreeAfter}
@@ -22,19 +22,19 @@ use Rattle.kit_optimiser.specs.Passed.{pass_of}
 use Rattle.kit_optimiser.specs.declared.pass.KitPass.{KitPass}
 use Rattle.kit_ruled_views.specs.Functions.{KitContext}
 use Rattle.kit_ruled_views.specs.Ruled.{KitTree}
-use Rattle.kit_same_modules.specs.Laws.{OneTextSaysTheSame, PassesKeepSame, SayTheSame, StandsAs, TheSameSayOneText}
-use Rattle.kit_same_modules.specs.Laws.{ListsOfPassesCut, TypesAreNumbered}
-use Rattle.kit_same_modules.specs.Meanings.{meanings}
+use Rattle.kit_text_programs.specs.SameLaws.{OneTextSaysTheSame, PassesKeepSame, SayTheSame, StandsAs, TheSameSayOneText}
+use Rattle.kit_text_programs.specs.SameLaws.{ListsOfPassesCut, TypesAreNumbered}
+use Rattle.kit_text_programs.specs.Meanings.{meanings}
 use Rattle.kit_texts.specs.Says.{says}
 use Rattle.opt_meanings.specs.Meanings.{mean_root}
 use Rattle.opt_trees.specs.Occurrences.{Has}
 use Rattle.text_dialect.specs.Seen.{Seen, seen}
 use Rattle.text_dialect.specs.Standing.{StandsForTexts}
 use Rattle.text_rereading.specs.Rereading.{Named}
-use Rattle.irkit_driver.specs.Lists.{PassesGive}
-use Rattle.irkit_driver.specs.Outcomes.{RunGives}
+use Rattle.irkit_running.specs.Lists.{PassesGive}
+use Rattle.irkit_running.specs.Outcomes.{RunGives}
 use Rattle.irkit_driver.specs.Same.{HaveOneModule}
-use Rattle.irkit_driver.specs.Texts.{HoldsText, SaysTree}
+use Rattle.irkit_refusals.specs.Texts.{HoldsText, SaysTree}
 
 -- bytes say one tree
 pub one_said : (bytes : List ℕ) (text other : Entity ℕ) → SaysTree bytes text → SaysTree bytes other → text ≡ other

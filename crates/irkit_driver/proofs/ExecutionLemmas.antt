@@ -10,23 +10,23 @@ use Rattle.ir_program.specs.declared.handles.Operation.{Operation}
 use Rattle.ir_program.specs.declared.handles.Ptr.{Ptr}
 use Rattle.kit_flat.specs.declared.outcome.Outcome.{Outcome}
 use Rattle.kit_interpreter.specs.Running.{Runs}
-use Rattle.kit_interpreter.specs.Store.{locate}
+use Rattle.kit_places.specs.Store.{locate}
 use Rattle.kit_interpreter.specs.declared.executing.ExecFault.{ExecFault}
 use Rattle.kit_interpreter.specs.declared.executing.ExecFault.TheVariants as exec
 use Rattle.kit_ruled_views.specs.Functions.{KitContext}
 use Rattle.irkit_streams.specs.Ends.{EndsWriting}
 use Rattle.irkit_streams.specs.declared.faults.WriteFault.{WriteFault}
 use Rattle.irkit_streams.specs.declared.watched.Watched.{Watched}
-use Rattle.irkit_driver.proofs.ReadLemmas.{at_error}
-use Rattle.irkit_driver.specs.Outcomes.{Loads, EndsExecution, EndsLoad, EndsReport, ExecutionGives, GaveAnswer, GivesOutcome, Refuses}
-use Rattle.irkit_driver.specs.Paths.{IsAnswerOfRun, SaysPath, names_in}
-use Rattle.irkit_driver.specs.Refusals.{of_exec_fault, of_write_fault}
-use Rattle.irkit_driver.specs.Reports.{lines_of}
-use Rattle.irkit_driver.specs.Texts.{Overfills}
-use Rattle.irkit_driver.specs.declared.refusal.ExecutionFault.{ExecutionFault}
-use Rattle.irkit_driver.specs.declared.refusal.ExecutionFault.TheVariants.{Refused, WrongPath, WrongArguments}
-use Rattle.irkit_driver.specs.declared.refusal.Refusal.{Refusal}
-use Rattle.irkit_driver.specs.declared.refusal.Refusal.TheVariants.{NotUtf8, Syntax, TooDeep, Scope, Rule, Memory, CounterFull, Read, Write}
+use Rattle.irkit_running.proofs.ReadLemmas.{at_error}
+use Rattle.irkit_running.specs.Outcomes.{Loads, EndsExecution, EndsLoad, EndsReport, ExecutionGives, GaveAnswer, GivesOutcome, Refuses}
+use Rattle.irkit_running.specs.Paths.{IsAnswerOfRun, SaysPath, names_in}
+use Rattle.irkit_refusals.specs.Refusals.{of_exec_fault, of_write_fault}
+use Rattle.irkit_running.specs.Reports.{lines_of}
+use Rattle.irkit_refusals.specs.Texts.{Overfills}
+use Rattle.irkit_refusals.specs.declared.refusal.ExecutionFault.{ExecutionFault}
+use Rattle.irkit_refusals.specs.declared.refusal.ExecutionFault.TheVariants.{Refused, WrongPath, WrongArguments}
+use Rattle.irkit_refusals.specs.declared.refusal.Refusal.{Refusal}
+use Rattle.irkit_refusals.specs.declared.refusal.Refusal.TheVariants.{NotUtf8, Syntax, TooDeep, Scope, Rule, Memory, CounterFull, Read, Write}
 
 -- texts of which one is no identifier are not those of identifiers
 pub not_names : (texts : List (Bor (List ℕ))) (i : ℕ) (d : Bor (List ℕ)) → i < length texts

@@ -1,11 +1,5 @@
-pub mod ReadLemmas
-pub mod VerdictLemmas
-pub mod HoldingLemmas
-pub mod WrittenLemmas
 pub mod FaultLemmas
 pub mod CutLemmas
-pub mod PassLemmas
-pub mod EndLemmas
 pub mod MistakeLemmas
 pub mod ExecutionLemmas
 pub mod ModuleLemmas

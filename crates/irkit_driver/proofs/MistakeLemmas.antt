@@ -7,10 +7,10 @@ use Rattle.clap.specs.declared.error.kind.ErrorKind.TheVariants.{OutOfMemory, Di
 use Rattle.irkit_streams.specs.declared.watched.Watched.{Watched}
 use Rattle.irkit_streams.specs.declared.faults.WriteFault.{WriteFault}
 use Rattle.irkit_streams.specs.Ends.{EndsWriting}
-use Rattle.irkit_driver.specs.declared.refusal.Refusal.{Refusal}
-use Rattle.irkit_driver.specs.declared.refusal.Refusal.TheVariants.{Memory}
-use Rattle.irkit_driver.specs.Refusals.{of_write_fault}
-use Rattle.irkit_driver.proofs.ReadLemmas.{at_error}
+use Rattle.irkit_refusals.specs.declared.refusal.Refusal.{Refusal}
+use Rattle.irkit_refusals.specs.declared.refusal.Refusal.TheVariants.{Memory}
+use Rattle.irkit_refusals.specs.Refusals.{of_write_fault}
+use Rattle.irkit_running.proofs.ReadLemmas.{at_error}
 use Rattle.irkit_words.specs.CommandLine.{IsMistake}
 use Rattle.irkit_words.specs.declared.request.RequestFault.{RequestFault}
 use Rattle.irkit_words.specs.declared.request.RequestFault.TheVariants as fault

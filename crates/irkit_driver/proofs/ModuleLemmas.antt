@@ -19,9 +19,9 @@ use Rattle.kit_behaviour.proofs.Lattice.FactLemmas.{best_unique}
 use Rattle.kit_behaviour.proofs.PassListLemmas.{after_alike, after_faces, after_goal, after_rules}
 use Rattle.kit_behaviour.proofs.Propagation.BestFactsExist.{best_exists}
 use Rattle.kit_behaviour.proofs.Propagation.FactsByPlace.{facts_stay}
-use Rattle.kit_fit_programs.specs.Operations.{operations_below}
-use Rattle.kit_fit_programs.proofs.FitPrograms.{fit_program}
-use Rattle.kit_fit_programs.proofs.FunctionSizes.{one_pass, program_within}
+use Rattle.kit_module_programs.specs.Operations.{operations_below}
+use Rattle.kit_module_programs.proofs.FitPrograms.{fit_program}
+use Rattle.kit_module_programs.proofs.FunctionSizes.{one_pass, program_within}
 use Rattle.kit_module_programs.proofs.ListsOnTrees.{is_after, list_on}
 use Rattle.kit_module_programs.proofs.ProgramsOfTrees.{program_exists}
 use Rattle.kit_module_programs.proofs.RuledSound.{ruled_sound}
@@ -38,7 +38,7 @@ use Rattle.kit_ruled_views.proofs.HandleSameness.{values_apart}
 use Rattle.opt_trees.proofs.FactsKept.{facts_kept}
 use Rattle.irkit_driver.specs.Facts.{TreeFactsStay}
 use Rattle.irkit_driver.specs.Programs.{ArePassed, HasProgram, IsMadeBy, IsModule}
-use Rattle.irkit_driver.specs.Texts.{IsAcceptedAs}
+use Rattle.irkit_refusals.specs.Texts.{IsAcceptedAs}
 
 -- what bytes are accepted as is a module that keeps the rules
 pub accepted_module : (bytes : List ℕ) (s : KitContext) (root : Ptr Operation) (said : IsAcceptedAs bytes s root)

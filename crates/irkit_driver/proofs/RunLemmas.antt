@@ -9,17 +9,17 @@ use Rattle.kit_behaviour.specs.Laws.{AlikeWithin}
 use Rattle.kit_behaviour.specs.Machine.{FunctionsByPath}
 use Rattle.kit_behaviour.specs.PassLists.{Goal, IsAfter, SameFaces}
 use Rattle.kit_behaviour.specs.Places.{Place}
-use Rattle.kit_fit_programs.specs.Operations.{operations_below}
-use Rattle.kit_fit_programs.proofs.FunctionSizes.{one_pass}
+use Rattle.kit_module_programs.specs.Operations.{operations_below}
+use Rattle.kit_module_programs.proofs.FunctionSizes.{one_pass}
 use Rattle.kit_optimised_programs.specs.Programs.{PassedPrograms}
 use Rattle.kit_optimiser.specs.Passed.{pass_of}
 use Rattle.kit_optimiser.specs.declared.pass.KitPass.{KitPass}
 use Rattle.kit_ruled_views.specs.Functions.{KitContext}
 use Rattle.kit_ruled_views.specs.Ruled.{KitTree}
 use Rattle.kit_text_programs.specs.Laws.{TextsHaveOneProgram}
-use Rattle.irkit_driver.specs.Lists.{IsWrittenAs}
+use Rattle.irkit_running.specs.Lists.{IsWrittenAs}
 use Rattle.irkit_driver.specs.Programs.{AreRun, HasProgram, operations_said, SaysProgram}
-use Rattle.irkit_driver.specs.Texts.{HoldsText, IsAcceptedAs}
+use Rattle.irkit_refusals.specs.Texts.{HoldsText, IsAcceptedAs}
 use Rattle.irkit_driver.proofs.CutLemmas.{one_said}
 use Rattle.irkit_driver.proofs.ModuleLemmas.{accepted_module, has_program, module_fit, module_within}
 

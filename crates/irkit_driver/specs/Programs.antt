@@ -11,7 +11,7 @@ use Rattle.kit_behaviour.specs.Places.{Place}
 use Rattle.kit_checks.specs.Faults.{KeptEverywhere}
 use Rattle.kit_checks.specs.World.{world_of}
 use Rattle.kit_checks.specs.declared.rule.Rule.{Rule}
-use Rattle.kit_fit_programs.specs.Operations.{operations_below}
+use Rattle.kit_module_programs.specs.Operations.{operations_below}
 use Rattle.kit_module_programs.specs.Programs.{IsProgramOf}
 use Rattle.kit_module_programs.specs.TreePasses.{IsTreeAfter}
 use Rattle.kit_optimiser.specs.Passed.{pass_of}
@@ -19,8 +19,8 @@ use Rattle.kit_optimiser.specs.declared.pass.KitPass.{KitPass}
 use Rattle.kit_program_runs.specs.Numberings.{NumbersTextsApart}
 use Rattle.kit_ruled_views.specs.Functions.{KitContext}
 use Rattle.kit_ruled_views.specs.Ruled.{HasOwnNames, HaveTypesIn, KitTree}
-use Rattle.irkit_driver.specs.Outcomes.{RunGives}
-use Rattle.irkit_driver.specs.Texts.{IsAcceptedAs}
+use Rattle.irkit_running.specs.Outcomes.{RunGives}
+use Rattle.irkit_refusals.specs.Texts.{IsAcceptedAs}
 
 -- The tree is that of a module of the context, and keeps all rules. The last two fields hold of the tree of each
 -- operation of a context: no two operations, blocks or definitions in it have one handle, and values have the types that

@@ -2,7 +2,7 @@
 use Rattle.std.specs.Prelude.{ℕ, List}
 use Rattle.ir_forest.specs.Closed.{IsSameModule}
 use Rattle.ir_print.specs.Pieces.{Entity}
-use Rattle.irkit_driver.specs.Texts.{SaysTree}
+use Rattle.irkit_refusals.specs.Texts.{SaysTree}
 
 -- The texts say trees that are the same but for labels: kinds, types and attributes at each place, and which
 -- definitions operands name. No text of today has successors.

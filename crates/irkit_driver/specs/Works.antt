@@ -2,13 +2,13 @@
 use Rattle.std.specs.Prelude.{◌≡◌, ◌⊎◌, ℕ, List, Option, Result, Ok, Err, string_bytes}
 use Rattle.clap.specs.Words.{Row, Text}
 use Rattle.irkit_streams.specs.declared.watched.Watched.{Watched}
-use Rattle.irkit_driver.specs.declared.refusal.Refusal.{Refusal}
-use Rattle.irkit_driver.specs.declared.refusal.Refusal.TheVariants.{Memory, Write}
-use Rattle.irkit_driver.specs.Outcomes.{EndsCheck, EndsExecution, EndsRun}
+use Rattle.irkit_refusals.specs.declared.refusal.Refusal.{Refusal}
+use Rattle.irkit_refusals.specs.declared.refusal.Refusal.TheVariants.{Memory, Write}
+use Rattle.irkit_running.specs.Outcomes.{EndsCheck, EndsExecution, EndsRun}
 use Rattle.irkit_streams.specs.Ends.{TookAll, TookFirst}
 use Rattle.kit_flat.specs.declared.outcome.Outcome.{Outcome}
 use Rattle.kit_flat.specs.declared.outcome.Outcome.TheVariants.{Ended, Trapped, Limit}
-use Rattle.irkit_driver.specs.declared.refusal.ExecutionFault.{ExecutionFault}
+use Rattle.irkit_refusals.specs.declared.refusal.ExecutionFault.{ExecutionFault}
 use Rattle.irkit_words.specs.declared.request.Execution.{Execution}
 use Rattle.irkit_words.specs.declared.request.Request.{Request}
 use Rattle.irkit_words.specs.declared.request.Request.TheVariants.{Check, Optimise, Run}

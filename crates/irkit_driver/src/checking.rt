@@ -1,11 +1,11 @@
 //! Testing a module.
 ghost use Rattle.std.specs.Prelude.{◌≡◌, false};
 ghost use Rattle.irkit_streams.specs.Streams.{has_failed};
-ghost use Rattle.irkit_driver.specs.Outcomes.{Accepts, EndsCheck};
+ghost use Rattle.irkit_running.specs.Outcomes.{Accepts, EndsCheck};
 
-use crate::loading::load;
-use crate::refusal::Refusal;
 use ir_context::Context;
+use irkit_refusals::Refusal;
+use irkit_running::{let_go, load};
 use irkit_streams::{Watched, write_text};
 use kit::Kit;
 use std::alloc::Global;
@@ -23,7 +23,9 @@ pub fn check<R: Read, W: Write>(
     ensures { EndsCheck R.remaining W.contents reader.old reader.new writer.old writer.new result }
 {
     let mut ctx = Context::new(alloc);
-    check_in(alloc, &mut ctx, reader, writer)
+    let outcome = check_in(alloc, &mut ctx, reader, writer);
+    let_go(ctx);
+    outcome
 }
 
 /// The same, where the module is read into a new context.

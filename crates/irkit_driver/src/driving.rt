@@ -8,11 +8,11 @@ ghost use Rattle.irkit_driver.specs.Works.{Complains, Drives, EndsDrive, EndsHel
 use crate::checking::check_in;
 use crate::executing::execute_in;
 use crate::faults::{report_fault, tell};
-use crate::refusal::{ExecutionFault, Refusal};
-use crate::running::run_in;
 use clap::error::ErrorKind;
 use clap::{ArgMatches, Error};
 use ir_context::Context;
+use irkit_refusals::{ExecutionFault, Refusal};
+use irkit_running::run_in;
 use irkit_streams::{Watched, write_text};
 use irkit_words::{Execution, Request, RequestFault, parse, request_of};
 use kit::Kit;

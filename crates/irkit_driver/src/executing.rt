@@ -5,15 +5,15 @@ ghost use Rattle.ir_names.specs.declared.identifier.Identifier.{Identifier as Na
 ghost use Rattle.ir_program.specs.Program.{operation_at};
 ghost use Rattle.kit_execution.specs.Obeying.{ObeysRules};
 ghost use Rattle.irkit_streams.specs.Streams.{has_failed};
-ghost use Rattle.irkit_driver.specs.Outcomes.{EndsExecution, GivesOutcome};
-ghost use Rattle.irkit_driver.specs.Paths.{IsAnswerOfRun, SaysPath, names_in};
+ghost use Rattle.irkit_running.specs.Outcomes.{EndsExecution, GivesOutcome};
+ghost use Rattle.irkit_running.specs.Paths.{IsAnswerOfRun, SaysPath, names_in};
 
-use crate::loading::load;
-use crate::refusal::ExecutionFault;
 use crate::reporting::report;
 use ir_context::Context;
 use ir_names::{Identifier, IdentifierError};
 use ir_program::{Operation, Ptr};
+use irkit_refusals::ExecutionFault;
+use irkit_running::{let_go, load};
 use irkit_streams::Watched;
 use kit::Kit;
 use kit_execution::execute as run_function;
@@ -41,7 +41,9 @@ pub fn execute<R: Read, W: Write>(
         path.now arguments.now limit result }
 {
     let mut ctx = Context::new(alloc);
-    execute_in(alloc, &mut ctx, path, arguments, limit, reader, writer)
+    let outcome = execute_in(alloc, &mut ctx, path, arguments, limit, reader, writer);
+    let_go(ctx);
+    outcome
 }
 
 /// The same, where the module is read into a new context.

@@ -10,24 +10,25 @@ ghost use Rattle.kit_behaviour.specs.Machine.{FunctionsByPath};
 ghost use Rattle.kit_behaviour.specs.PassLists.{Goal, SameFaces};
 ghost use Rattle.kit_behaviour.specs.Places.{Place};
 ghost use Rattle.kit_checks.specs.declared.rule.Rule.{Rule};
-ghost use Rattle.kit_fit_programs.specs.Operations.{operations_below};
+ghost use Rattle.kit_module_programs.specs.Operations.{operations_below};
 ghost use Rattle.kit_optimised_programs.specs.Functions.{function_content};
 ghost use Rattle.kit_optimiser.specs.Passed.{pass_of};
 ghost use Rattle.kit_optimiser.specs.declared.pass.KitPass.{KitPass};
 ghost use Rattle.kit_ruled_views.specs.Functions.{KitContext};
 ghost use Rattle.kit_ruled_views.specs.Ruled.{KitTree};
 ghost use Rattle.irkit_driver.specs.Facts.{FactsExist, PassedFactsStay, TreeFactsStay};
-ghost use Rattle.irkit_driver.specs.Outcomes.{RunGives};
+ghost use Rattle.irkit_running.specs.Outcomes.{RunGives};
 ghost use Rattle.irkit_driver.specs.Programs.{ArePassed, AreRun, IsMadeBy, IsModule};
 ghost use Rattle.irkit_driver.specs.Programs.{operations_said, SaysProgram};
 ghost use Rattle.irkit_driver.specs.Same.{HaveOneModule};
-ghost use Rattle.irkit_driver.specs.Texts.{BreaksRule, HasFirstTextFault, IsAccepted, IsAcceptedAs, SaysTree};
+ghost use Rattle.irkit_refusals.specs.Texts.{BreaksRule, HasFirstTextFault, IsAccepted, IsAcceptedAs, SaysTree};
 
 use kit::Kit;
 use kit_language::kit_can_print;
-use kit_same_modules::{passes_keep_same, texts_say_the_same, types_are_numbered};
-use kit_text_programs::texts_have_one_program;
-use kit_text_rules::texts_have_one_verdict;
+use kit_text_programs::{
+    passes_keep_same, texts_have_one_program, texts_have_one_verdict, texts_say_the_same,
+    types_are_numbered,
+};
 use text_rereading::laws::trees_of_texts_are_closed;
 
 /// The bytes of an input have one reading: they have one fault of the text at most, and none where they say a tree; and

@@ -2,10 +2,10 @@
 ghost use Rattle.std.specs.Prelude.{◌≡◌, ◌++◌, false, flat_map, IfOk, OnOk};
 ghost use Rattle.std.specs.String.{string_bytes};
 ghost use Rattle.irkit_streams.specs.Streams.{has_failed};
-ghost use Rattle.irkit_driver.specs.Outcomes.{EndsReport};
-ghost use Rattle.irkit_driver.specs.Reports.{emit_line, spaced, lines_of};
+ghost use Rattle.irkit_running.specs.Outcomes.{EndsReport};
+ghost use Rattle.irkit_running.specs.Reports.{emit_line, spaced, lines_of};
 
-use crate::refusal::Refusal;
+use irkit_refusals::Refusal;
 use irkit_streams::{Watched, write_text};
 use kit_flat::Outcome;
 use std::alloc::{AllocError, Global};

@@ -15,7 +15,7 @@ use Rattle.kit_checks.proofs.Down.{step_to, region_listed, block_listed, regions
 use Rattle.kit_checks.proofs.Everys.{at_index}
 use Rattle.kit_checks.proofs.Passed.{every_has}
 use Rattle.kit_checks.proofs.Upward.{block_tree, operation_tree}
-use Rattle.kit_interpreter.specs.Store.{KitData, KitNotes, InterpretedProgram, body_of, members}
+use Rattle.kit_places.specs.Store.{KitData, KitNotes, InterpretedProgram, body_of, members}
 use Rattle.kit_execution.specs.Obeying.{ExecutedTree}
 use Rattle.kit_execution.proofs.Reached.{outer_if, IsReached, step_reached}
 

@@ -27,7 +27,7 @@ use Rattle.kit_checks.specs.Words.{Every, IsValueType, integer_of, integer_in, i
 use Rattle.kit_checks.specs.World.{world_of}
 use Rattle.kit_checks.proofs.Everys.{at_index}
 use Rattle.kit_checks.proofs.Trees.{result_types}
-use Rattle.kit_interpreter.specs.Store.{InterpretedContext, width_of, width_at, constant_form, by_sizes, conditional_form, call_form, form_of}
+use Rattle.kit_places.specs.Store.{InterpretedContext, width_of, width_at, constant_form, by_sizes, conditional_form, call_form, form_of}
 use Rattle.kit_execution.specs.Obeying.{ExecutedTree}
 use Rattle.kit_execution.proofs.Shapes.{FormGoesOn, constant_runs, calculation_runs, comparison_runs, emission_runs, call_runs, branch_runs, conditional_runs, return_runs}
 use Rattle.kit_execution.proofs.Words.{tree_attribute}

@@ -1,6 +1,6 @@
 -- The first of a list that passes a test.
 use Rattle.std.proofs.Common.{◌≡◌, ℕ, zero, suc, Bool, true, false, List, [], ◌∷◌, Some, slice_get, refl, ap, ◌∙◌, subst, if◌then◌else◌}
-use Rattle.kit_interpreter.specs.Store.{first_with}
+use Rattle.kit_places.specs.Store.{first_with}
 
 -- it passes
 pub first_passes : {X : Type 0} (test : X → Bool) (xs : List X) (x : X) → first_with test xs ≡ Some x → test x ≡ true

@@ -28,10 +28,10 @@ use Rattle.kit_checks.specs.World.{world_of}
 use Rattle.kit_checks.proofs.Down.{step_to, operation_listed, operations_are}
 use Rattle.kit_checks.proofs.Trees.{operands_are, successors_are, operation_count}
 use Rattle.kit_checks.proofs.Upward.{block_tree}
-use Rattle.kit_interpreter.specs.Numbers.{values_of}
-use Rattle.kit_interpreter.specs.Store.{KitData, KitNotes, InterpretedContext, body_of, members, function_named, is_function_named, width_at, form_of, form_at, op_if, op_at}
+use Rattle.kit_places.specs.Numbers.{values_of}
+use Rattle.kit_places.specs.Store.{KitData, KitNotes, InterpretedContext, body_of, members, function_named, is_function_named, width_at, form_of, form_at, op_if, op_at}
 use Rattle.kit_interpreter.specs.Lowering.{IsValueIn, CanRun, FunctionsCanRun}
-use Rattle.kit_interpreter.proofs.Located.{first_listed}
+use Rattle.kit_places.proofs.Located.{first_listed}
 use Rattle.kit_execution.specs.Obeying.{ExecutedTree}
 use Rattle.kit_execution.proofs.Reached.{outer_if, IsReached}
 use Rattle.kit_execution.proofs.First.{first_passes, passing_found}

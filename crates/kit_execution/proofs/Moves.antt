@@ -12,7 +12,7 @@ use Rattle.kit_ops.specs.Arithmetic.{calc, compare, bit}
 use Rattle.kit_flat.specs.Machine as machine
 use Rattle.kit_flat.specs.Machine.{Other, Code, MachineEdge, MachineFrame, MachineState, Going, Ended, Trapped, next, follow, chosen, with_result, effect, after, first_frame, on_top, returned, operations_from, rest_of, step, run, start}
 use Rattle.kit_checks.proofs.Everys.{at_index}
-use Rattle.kit_interpreter.specs.Store.{InterpretedContext, KitNotes, body_of, block_seen, module_code, op_at}
+use Rattle.kit_places.specs.Store.{InterpretedContext, KitNotes, body_of, block_seen, module_code, op_at}
 use Rattle.kit_execution.specs.Moving.{HasExecuted, Moves}
 use Rattle.kit_execution.proofs.Safe.{IsCallee, IsSafe}
 use Rattle.kit_execution.proofs.Shapes.{KitSeen, GoesOn}

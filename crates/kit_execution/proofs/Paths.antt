@@ -13,11 +13,12 @@ use Rattle.kit_checks.specs.declared.rule.Rule.TheVariants as rule
 use Rattle.kit_checks.specs.Faults.{KeptEverywhere}
 use Rattle.kit_checks.specs.World.{world_of}
 use Rattle.kit_checks.proofs.Down.{both, step_to}
-use Rattle.kit_interpreter.specs.declared.executing.Place.{Place}
-use Rattle.kit_interpreter.specs.Store.{InterpretedContext, is_name, is_module, attribute_of, members, function_named, module_named, locate}
+use Rattle.kit_places.specs.declared.places.Place.{Place}
+use Rattle.kit_places.specs.Store.{InterpretedContext, is_name, is_module, attribute_of, members, function_named, module_named, locate}
+use Rattle.kit_places.specs.Placed.{place_of}
 use Rattle.kit_interpreter.specs.Lowering.{FunctionsCanRun}
-use Rattle.kit_interpreter.specs.Running.{PathCanRun, place_of}
-use Rattle.kit_interpreter.proofs.Located.{first_listed}
+use Rattle.kit_interpreter.specs.Running.{PathCanRun}
+use Rattle.kit_places.proofs.Located.{first_listed}
 use Rattle.kit_execution.specs.Obeying.{ExecutedTree, ObeysRules}
 use Rattle.kit_execution.specs.Moving.{NeverStays, PathMoves}
 use Rattle.kit_execution.proofs.Reached.{outer_if, root_reached}

@@ -6,7 +6,7 @@ use Rattle.ir_program.specs.declared.handles.Ptr.{Ptr}
 use Rattle.ir_program.specs.declared.handles.Operation.{Operation}
 use Rattle.ir_program.specs.declared.handles.BasicBlock.{BasicBlock}
 use Rattle.ir_trees.specs.Searched.{Lists}
-use Rattle.kit_interpreter.specs.Store.{InterpretedContext, body_of, function_named, op_at}
+use Rattle.kit_places.specs.Store.{InterpretedContext, body_of, function_named, op_at}
 use Rattle.kit_execution.proofs.Shapes.{GoesOn}
 
 module _ (s : InterpretedContext) (m : Ptr Operation) where

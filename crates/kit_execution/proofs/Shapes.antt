@@ -10,7 +10,7 @@ use Rattle.kit_ops.specs.declared.kinds.Comparison.{Comparison}
 use Rattle.kit_flat.specs.Machine as machine
 use Rattle.kit_flat.specs.Machine.{MachineOp, Other}
 use Rattle.kit_flat.specs.Forms.{Form, Constant, Calculate, Compare, Emit, Call, Br, CondBr, Return, op_of}
-use Rattle.kit_interpreter.specs.Store.{op_if}
+use Rattle.kit_places.specs.Store.{op_if}
 
 -- what the machine sees
 abbrev pub KitSeen : Type 0

@@ -16,8 +16,8 @@ use Rattle.kit_checks.specs.Sites.{operation_list, block_list, Around}
 use Rattle.kit_checks.specs.Words as words
 use Rattle.kit_checks.specs.Words.{joined, results_of, values_in, values_before, values_if, first_body, visible}
 use Rattle.kit_checks.proofs.Down.{block_listed, operation_listed, operations_are}
-use Rattle.kit_interpreter.specs.Numbers.{values_of}
-use Rattle.kit_interpreter.specs.Store.{KitData, KitNotes, InterpretedProgram, body_of}
+use Rattle.kit_places.specs.Numbers.{values_of}
+use Rattle.kit_places.specs.Store.{KitData, KitNotes, InterpretedProgram, body_of}
 use Rattle.kit_interpreter.specs.Lowering.{IsValueIn}
 use Rattle.kit_execution.specs.Obeying.{ExecutedTree}
 use Rattle.kit_execution.proofs.Bodies.{KitBlocks, KitBody}

@@ -24,7 +24,7 @@ use Rattle.kit_ops.specs.declared.kinds.KitOp.TheVariants as ops
 use Rattle.kit_ops.specs.declared.types.KitType.{KitType}
 use Rattle.kit_ops.specs.declared.types.KitTypeKind.{KitTypeKind}
 use Rattle.kit_checks.specs.Words.{identifier_in}
-use Rattle.kit_interpreter.specs.Store.{KitData, KitNotes, InterpretedProgram, is_name, is_function, is_module, attribute_of, is_function_named}
+use Rattle.kit_places.specs.Store.{KitData, KitNotes, InterpretedProgram, is_name, is_function, is_module, attribute_of, is_function_named}
 use Rattle.kit_execution.specs.Obeying.{ExecutedTree}
 
 -- the notes of operations of `kit`

@@ -5,9 +5,9 @@ use Rattle.ir_program.specs.Replacing.{same_value}
 use Rattle.ir_program.specs.declared.handles.Ptr.{Ptr}
 use Rattle.ir_program.specs.declared.handles.Operation.{Operation}
 use Rattle.kit_flat.specs.Machine.{Code, MachineState, Going, Ended, Trapped, MachineEffect, Next, Emits, Enters, Leaves, Traps, Stays, effect, rest_of, run, start}
-use Rattle.kit_interpreter.specs.declared.executing.Place.{Place}
-use Rattle.kit_interpreter.specs.Store.{InterpretedContext, module_code}
-use Rattle.kit_interpreter.specs.Running.{place_of}
+use Rattle.kit_places.specs.declared.places.Place.{Place}
+use Rattle.kit_places.specs.Store.{InterpretedContext, module_code}
+use Rattle.kit_places.specs.Placed.{place_of}
 
 module _ {V B F : Type 0} (same : V → V → Bool) (code : Code V B F) where
   -- the machine has executed an operation, and a function that is called has a block

@@ -5,7 +5,7 @@ use Rattle.ir_trees.specs.Stands.{ProgramTree, StandsFor}
 use Rattle.kit_checks.specs.declared.rule.Rule.{Rule}
 use Rattle.kit_checks.specs.Faults.{KeptEverywhere}
 use Rattle.kit_checks.specs.World.{world_of}
-use Rattle.kit_interpreter.specs.Store.{KitData, KitNotes, InterpretedContext}
+use Rattle.kit_places.specs.Store.{KitData, KitNotes, InterpretedContext}
 
 -- trees of operations of `kit`
 abbrev pub ExecutedTree : Type 0

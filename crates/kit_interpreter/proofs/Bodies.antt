@@ -22,8 +22,8 @@ use Rattle.kit_flat.specs.Sound.{BlockFits, FunctionFits}
 use Rattle.kit_flat.specs.Renames.{rename_op, rename_block, TargetsAreInside, IsFunctionOf}
 use Rattle.kit_flat.specs.declared.flat.FlatBlock.{FlatBlock}
 use Rattle.kit_flat.specs.declared.flat.FlatFunction.{FlatFunction}
-use Rattle.kit_interpreter.specs.Numbers.{values_of, no_value, value_at, block_with, operation_with}
-use Rattle.kit_interpreter.specs.Store.{InterpretedContext, InterpretedProgram, KitNotes, body_of, op_at, block_seen, module_code}
+use Rattle.kit_places.specs.Numbers.{values_of, no_value, value_at, block_with, operation_with}
+use Rattle.kit_places.specs.Store.{InterpretedContext, InterpretedProgram, KitNotes, body_of, op_at, block_seen, module_code}
 use Rattle.kit_interpreter.specs.Lowering.{IsValueIn, CanRun, IsBlockNumbered, LowersBlock, LowersFunction}
 
 -- values in a row are listed

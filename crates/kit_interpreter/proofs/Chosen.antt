@@ -14,8 +14,8 @@ use Rattle.kit_flat.specs.Renames.{FlatNames, IsFunctionOf, IsModuleOf}
 use Rattle.kit_flat.specs.declared.flat.FlatFunction.{FlatFunction}
 use Rattle.kit_flat.specs.declared.outcome.Outcome.{Outcome}
 use Rattle.kit_flat.proofs.Renamed.{run_alike, shows_alike, started_alike}
-use Rattle.kit_interpreter.specs.Numbers.{no_value, block_with, operation_with}
-use Rattle.kit_interpreter.specs.Store.{InterpretedContext, body_of, module_code}
+use Rattle.kit_places.specs.Numbers.{no_value, block_with, operation_with}
+use Rattle.kit_places.specs.Store.{InterpretedContext, body_of, module_code}
 use Rattle.kit_interpreter.specs.Lowering.{LowersModule}
 
 module _ (s : InterpretedContext) (m : Ptr Operation) (handles : List (Ptr Operation)) (fs : List FlatFunction)

@@ -1,10 +1,8 @@
 pub mod Places
 pub mod ValueTests
-pub mod Rows
 pub mod Sets
-pub mod Found
 pub mod Tables
 pub mod Lowered
 pub mod Bodies
-pub mod Located
+pub mod Fitting
 pub mod Chosen

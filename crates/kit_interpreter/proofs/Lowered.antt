@@ -22,8 +22,8 @@ use Rattle.kit_flat.specs.declared.flat.Instruction.{Instruction}
 use Rattle.kit_flat.specs.declared.forming.FlatForm.{FlatForm}
 use Rattle.kit_flat.proofs.Natural.{natural}
 use Rattle.kit_flat.proofs.Fitting.{formed_fits}
-use Rattle.kit_interpreter.specs.Numbers.{value_number, block_number, values_of, no_value, value_at, block_with, operation_with}
-use Rattle.kit_interpreter.specs.Store.{InterpretedContext, op_if, form_at, op_at}
+use Rattle.kit_places.specs.Numbers.{value_number, block_number, values_of, no_value, value_at, block_with, operation_with}
+use Rattle.kit_places.specs.Store.{InterpretedContext, op_if, form_at, op_at}
 use Rattle.kit_interpreter.specs.Lowering.{IsLowerable, LowersOperation}
 use Rattle.kit_interpreter.proofs.Places.{placed}
 

@@ -12,10 +12,10 @@ use Rattle.ir_names.proofs.Entries.{attribute_at-named_entries, named_entries-in
 use Rattle.ir_program.specs.Program.{no_handle}
 use Rattle.ir_program.specs.declared.handles.Ptr.{Ptr}
 use Rattle.ir_program.specs.declared.handles.Operation.{Operation}
-use Rattle.kit_interpreter.specs.Numbers.{operation_with}
-use Rattle.kit_interpreter.specs.Store.{InterpretedProgram, is_function_named, first_with}
+use Rattle.kit_places.specs.Numbers.{operation_with}
+use Rattle.kit_places.specs.Store.{InterpretedProgram, is_function_named, first_with}
 use Rattle.kit_interpreter.specs.Lowering.{number_of, IsFunctionTable}
-use Rattle.kit_interpreter.proofs.Found.{appended, only, kept}
+use Rattle.kit_places.proofs.Found.{appended, only, kept}
 
 -- the number of a name after one was put in
 pub inserted : {K : Type 0} (k : String K) (v : ℕ) (old new : List (String K × ℕ)) (name other : List ℕ) (n : ℕ)

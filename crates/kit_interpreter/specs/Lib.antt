@@ -1,4 +1,2 @@
-pub mod Numbers
-pub mod Store
 pub mod Lowering
 pub mod Running

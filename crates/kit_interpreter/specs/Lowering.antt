@@ -21,8 +21,8 @@ use Rattle.kit_flat.specs.Renames.{rename_op, TargetsAreInside, IsFunctionOf}
 use Rattle.kit_flat.specs.declared.flat.Instruction.{Instruction}
 use Rattle.kit_flat.specs.declared.flat.FlatBlock.{FlatBlock}
 use Rattle.kit_flat.specs.declared.flat.FlatFunction.{FlatFunction}
-use Rattle.kit_interpreter.specs.Numbers.{values_of, value_at, block_with, operation_with}
-use Rattle.kit_interpreter.specs.Store.{InterpretedContext, InterpretedProgram, body_of, function_named, is_function_named, first_with, op_at, module_code}
+use Rattle.kit_places.specs.Numbers.{values_of, value_at, block_with, operation_with}
+use Rattle.kit_places.specs.Store.{InterpretedContext, InterpretedProgram, body_of, function_named, is_function_named, first_with, op_at, module_code}
 
 -- ---- what it needs
 

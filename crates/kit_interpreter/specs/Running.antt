@@ -1,8 +1,7 @@
 -- What running a function of a module answers.
-use Rattle.std.specs.Prelude.{◌≡◌, ℕ, ◌<◌, ◌-◌, ◌^◌, IsSome, List, map, Option, Some, None, Result, Ok, Err, length, slice_get}
+use Rattle.std.specs.Prelude.{◌≡◌, ℕ, ◌<◌, ◌^◌, List, Option, Some, None, Result, Ok, Err, length, slice_get}
 use Rattle.ir_names.specs.declared.identifier.Identifier.{Identifier}
-use Rattle.ir_names.specs.Identifier.{text_of}
-use Rattle.ir_program.specs.Program.{TypedValue, operation_at, arguments_at}
+use Rattle.ir_program.specs.Program.{TypedValue, arguments_at}
 use Rattle.ir_program.specs.Replacing.{same_value}
 use Rattle.ir_program.specs.declared.handles.Ptr.{Ptr}
 use Rattle.ir_program.specs.declared.handles.Operation.{Operation}
@@ -12,8 +11,9 @@ use Rattle.kit_flat.specs.Shows.{OutcomeShows}
 use Rattle.kit_flat.specs.declared.outcome.Outcome.{Outcome}
 use Rattle.kit_interpreter.specs.declared.executing.ExecFault.{ExecFault}
 use Rattle.kit_interpreter.specs.declared.executing.ExecFault.TheVariants.{Memory, WrongPath, WrongArguments}
-use Rattle.kit_interpreter.specs.declared.executing.Place.{Place}
-use Rattle.kit_interpreter.specs.Store.{InterpretedContext, InterpretedProgram, body_of, function_named, locate, width_at, module_code}
+use Rattle.kit_places.specs.declared.places.Place.{Place}
+use Rattle.kit_places.specs.Store.{InterpretedContext, body_of, width_at, module_code}
+use Rattle.kit_places.specs.Placed.{place_of}
 use Rattle.kit_interpreter.specs.Lowering.{FunctionsCanRun}
 
 -- the number is below 2 to the power of the width, where there is one
@@ -31,23 +31,6 @@ pub record AreFitting (s : InterpretedContext) (ts : List TypedValue) (xs : List
 abbrev pub TakesNumbers : InterpretedContext → Ptr Operation → List ℕ → Type 0
 TakesNumbers s f xs = (b : Ptr BasicBlock) × (slice_get (body_of s.program f) 0 ≡ Some b)
     × AreFitting s (arguments_at s.program b) xs
-
--- where a path of names leads from a module
-abbrev pub place_of : InterpretedContext → Ptr Operation → List Identifier → Option Place
-place_of s root path = locate s.program root (map text_of path)
-
--- the place is that of a function of this name, and it is there
-pub record IsPlaceOfFunction (c : InterpretedProgram) (name : List ℕ) (p : Place) : Type 0 where
-  pub within_live : IsSome (operation_at c p.within)
-  pub function_live : IsSome (operation_at c p.function)
-  pub named : function_named c p.within name ≡ Some p.function
-
--- so it is for the last name of a path
-pub record IsLocated (c : InterpretedProgram) (path : List Identifier) (p : Place) : Type 0 where
-  pub nonempty : 0 < length path
-  pub within_live : IsSome (operation_at c p.within)
-  pub function_live : IsSome (operation_at c p.function)
-  pub place : (x : Identifier) → slice_get path (length path - 1) ≡ Some x → IsPlaceOfFunction c (text_of x) p
 
 -- all functions that a run may call can run
 abbrev pub PathCanRun : InterpretedContext → Ptr Operation → List Identifier → Type 0

@@ -1,24 +1,23 @@
 //! Running a function that a path leads to.
-ghost use Rattle.std.specs.Prelude.{◌≡◌, ◌↔◌, ◌<◌, ◌^◌, Some, IsSome, IfOk, IfSome, IsTrue, slice_get, option_map};
-ghost use Rattle.ir_names.specs.Identifier.{text_of};
+ghost use Rattle.std.specs.Prelude.{◌≡◌, ◌↔◌, ◌<◌, ◌^◌, Some, IsSome, IfOk, IsTrue, slice_get};
 ghost use Rattle.ir_program.specs.Program.{TypedValue, operation_at, block_at, arguments_at, argument_count};
 ghost use Rattle.ir_program.specs.Replacing.{same_value};
 ghost use Rattle.ir_program.specs.declared.handles.Ptr.{Ptr};
 ghost use Rattle.ir_program.specs.declared.handles.Operation.{Operation};
 ghost use Rattle.kit_flat.specs.Machine.{run, start};
 ghost use Rattle.kit_flat.specs.Shows.{OutcomeShows};
-ghost use Rattle.kit_interpreter.specs.Store.{function_named, width_at, module_code};
+ghost use Rattle.kit_places.specs.Store.{function_named, width_at, module_code};
 ghost use Rattle.kit_interpreter.specs.Lowering.{FunctionsCanRun};
-ghost use Rattle.kit_interpreter.specs.Running.{IsPlaceOfFunction, IsLocated, FitsWidth, AreFitting, TakesNumbers, place_of, PathCanRun, Runs};
+ghost use Rattle.kit_interpreter.specs.Running.{FitsWidth, AreFitting, TakesNumbers, PathCanRun, Runs};
 
 use crate::functions::functions_of;
 use crate::lowering::lower_module;
-use crate::reading::{entry, find_function, find_module, width};
 use ir_context::{ArgumentCalls, Context, ValueCalls};
 use ir_names::Identifier;
 use ir_program::{BasicBlock, Operation, Ptr};
 use kit::Kit;
 use kit_flat::{Outcome, interpret};
+use kit_places::{entry, find_place, width};
 use std::alloc::{AllocError, AllocFailed, Global};
 
 /// Why a function isn't run.
@@ -49,45 +48,6 @@ impl<T: Drop> From<AllocFailed<T>> for ExecFault {
     fn from(_error: AllocFailed<T>) -> ExecFault {
         ExecFault::Memory
     }
-}
-
-/// A function, and the module that it is in, which is the nearest one that encloses the operations of its blocks.
-#[derive(Clone, Copy)]
-pub struct Place {
-    within: Ptr<Operation>,
-    function: Ptr<Operation>,
-}
-
-/// The function of a name in a module, with the module.
-fn place_in(ctx: &Context<Kit>, within: Ptr<Operation>, name: &Identifier) -> Option<Place>
-    requires { IsSome (operation_at ctx.now.program within) }
-    ensures found { result ≡ option_map (λ f. record { within = within; function = f })
-        (function_named ctx.now.program within (text_of name.now)) }
-    ensures place { IfSome result (IsPlaceOfFunction ctx.now.program (text_of name.now)) }
-{
-    match find_function(ctx, within, name.as_str()) {
-        Some(function) => Some(Place { within, function }),
-        None => None,
-    }
-}
-
-/// Where a path of names leads from a module.
-fn find_place(ctx: &Context<Kit>, root: Ptr<Operation>, path: &[Identifier]) -> Option<Place>
-    requires { IsSome (operation_at ctx.now.program root) }
-    ensures place { result ≡ place_of ctx.now root path.now }
-    ensures located { IfSome result (IsLocated ctx.now.program path.now) }
-{
-    let mut outer = root;
-    for i in 0..path.len() {
-        if i + 1 == path.len() {
-            return place_in(ctx, outer, &path[i]);
-        }
-        match find_module(ctx, outer, path[i].as_str()) {
-            Some(inner) => outer = inner,
-            None => return None,
-        }
-    }
-    None
 }
 
 /// Whether a number is below 2 to the power of the width.

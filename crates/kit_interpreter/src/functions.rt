@@ -5,15 +5,15 @@ ghost use Rattle.ir_program.specs.Program.{operation_at, block_at};
 ghost use Rattle.ir_program.specs.Lists.{operations_in};
 ghost use Rattle.ir_program.specs.declared.handles.Ptr.{Ptr};
 ghost use Rattle.ir_program.specs.declared.handles.Operation.{Operation};
-ghost use Rattle.kit_interpreter.specs.Store.{is_function_named, members};
+ghost use Rattle.kit_places.specs.Store.{is_function_named, members};
 ghost use Rattle.kit_interpreter.specs.Lowering.{number_of, IsFunctionTable};
 
-use crate::reading::{attribute, entry};
 use indexmap::IndexMap;
 use ir_context::{Context, OperationCalls};
 use ir_program::{BasicBlock, Operation, Ptr};
 use kit::Kit;
 use kit_ops::{KitAttr, KitOp, keys};
+use kit_places::{attribute, entry};
 use std::alloc::{AllocError, Global};
 
 /// The functions of a module, and their numbers by their names. Of several functions of one name it has the first.

@@ -5,6 +5,5 @@ mod executing;
 mod functions;
 mod lowering;
 mod numbering;
-mod reading;
 
 pub use executing::{ExecFault, exec};

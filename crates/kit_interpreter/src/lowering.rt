@@ -6,21 +6,21 @@ ghost use Rattle.ir_program.specs.declared.handles.Operation.{Operation};
 ghost use Rattle.ir_program.specs.declared.handles.BasicBlock.{BasicBlock};
 ghost use Rattle.kit_ops.specs.Keys.{constant_value, segment_sizes, callee};
 ghost use Rattle.kit_flat.specs.Formed.{FormFits};
-ghost use Rattle.kit_interpreter.specs.Numbers.{block_with, operation_with};
-ghost use Rattle.kit_interpreter.specs.Store.{attribute_of, constant_form, conditional_form, call_form, form_at, function_named, members};
+ghost use Rattle.kit_places.specs.Numbers.{block_with, operation_with};
+ghost use Rattle.kit_places.specs.Store.{attribute_of, constant_form, conditional_form, call_form, form_at, function_named, members};
 ghost use Rattle.kit_interpreter.specs.Lowering.{IsFunctionTable, IsFormOf, IsLowerable, IsBlockNumbered, FunctionsCanRun, CanRun, LowersOperation, LowersBlock, LowersFunction, LowersModule};
 
 use crate::functions::Functions;
 use crate::numbering::{
     argument_numbers, number_blocks, operand_numbers, result_numbers, successor_numbers,
 };
-use crate::reading::{attribute, result_width};
 use indexmap::IndexSet;
 use ir_context::{Context, OperationCalls};
 use ir_program::{BasicBlock, Operation, Ptr, Value};
 use kit::Kit;
 use kit_flat::{FlatBlock, FlatForm, FlatFunction, FlatModule, Instruction, instruction};
 use kit_ops::{KitAttr, KitOp, keys};
+use kit_places::{attribute, result_width};
 use opt_inside::{NumberedList, number_inside};
 use std::alloc::{AllocError, Global};
 

@@ -3,7 +3,7 @@ ghost use Rattle.std.specs.Prelude.{◌≡◌, IfOk, IsSome, map};
 ghost use Rattle.ir_program.specs.Program.{operation_at, block_at, region_at, results_at, arguments_at};
 ghost use Rattle.ir_program.specs.Lists.{blocks_in};
 ghost use Rattle.ir_program.specs.Rows.{operands_at, successors_at};
-ghost use Rattle.kit_interpreter.specs.Numbers.{value_number, block_number, values_of};
+ghost use Rattle.kit_places.specs.Numbers.{value_number, block_number, values_of};
 
 use indexmap::IndexSet;
 use ir_program::{BasicBlock, Operation, Program, Ptr, Region, Value};

@@ -26,3 +26,10 @@ pub mod SimplifyLocated
 pub mod FlatShallow
 pub mod SimplifyOnPrograms
 pub mod ListsOnTrees
+pub mod FlatEnds
+pub mod FlatScopes
+pub mod RuledFlat
+pub mod RuledPaths
+pub mod FiniteFunctions
+pub mod FitPrograms
+pub mod FunctionSizes

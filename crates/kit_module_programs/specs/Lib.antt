@@ -3,3 +3,5 @@ pub mod Programs
 pub mod Sound
 pub mod TreePasses
 pub mod Laws
+pub mod Operations
+pub mod FitLaws

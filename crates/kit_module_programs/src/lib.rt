@@ -3,6 +3,7 @@
 #![tactic(auto)]
 
 ghost use Rattle.ir_trees.specs.Renames.{named};
+ghost use Rattle.kit_module_programs.specs.FitLaws.{ModulesBoundFunctions, RulesMakeFit};
 ghost use Rattle.kit_module_programs.specs.Laws.{ProgramsExist, OneProgram, DceIsDce, SccpIsSccp, SimplifyIsSimplify};
 ghost use Rattle.kit_module_programs.specs.Laws.{RulesMakeSound, SoundIsFlat, ListsAreLists, TreesAlike, TreesGoal};
 ghost use Rattle.kit_module_programs.specs.Laws.{TreesKeepFaces, TreeListsCut};
@@ -65,4 +66,15 @@ pub fn rules_make_sound()
 /// The functions of a sound module have flat views, so it has a program.
 pub fn sound_is_flat<O, B, V>()
     ensures { SoundIsFlat (named O B V) }
+{}
+
+/// The program of a module that keeps the rules, under names that are distinct, keeps the flat rules, and there are
+/// bounds for its functions.
+pub fn rules_make_fit()
+    ensures { RulesMakeFit }
+{}
+
+/// No function of the program of a module has more operations than the module.
+pub fn modules_bound_functions()
+    ensures { ModulesBoundFunctions }
 {}

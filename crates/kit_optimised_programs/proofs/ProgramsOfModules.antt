@@ -19,9 +19,9 @@ use Rattle.kit_module_programs.proofs.ListsOnTrees.{list_on}
 use Rattle.kit_module_programs.proofs.ProgramsOfTrees.{program_exists}
 use Rattle.kit_module_programs.proofs.RuledSound.{ruled_sound}
 use Rattle.kit_module_programs.proofs.SoundFlat.{sound_flat}
-use Rattle.kit_fit_programs.specs.Operations.{operations_below}
-use Rattle.kit_fit_programs.proofs.FitPrograms.{fit_program}
-use Rattle.kit_fit_programs.proofs.FunctionSizes.{one_pass, program_within}
+use Rattle.kit_module_programs.specs.Operations.{operations_below}
+use Rattle.kit_module_programs.proofs.FitPrograms.{fit_program}
+use Rattle.kit_module_programs.proofs.FunctionSizes.{one_pass, program_within}
 use Rattle.kit_ops.specs.declared.types.KitType.{KitType}
 use Rattle.kit_optimiser.specs.Passed.{IsOptimised}
 use Rattle.kit_program_runs.specs.Laws.{IsProgramIn}

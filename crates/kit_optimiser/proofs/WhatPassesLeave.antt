@@ -11,7 +11,7 @@ use Rattle.opt_trees.specs.Simplify.{IsSimplify}
 use Rattle.kit.specs.declared.dialect.Unused.{Unused}
 use Rattle.kit.specs.Meaning.{kit}
 use Rattle.kit_behaviour.specs.PassLists.{SccpPass, DcePass, SimplifyPass}
-use Rattle.kit_chain_rules.specs.Laws.{DefinersApart, SimplifiedKeepsRules}
+use Rattle.kit_pass_rules.specs.ChainLaws.{DefinersApart, SimplifiedKeepsRules}
 use Rattle.kit_held_modules.specs.Held.{HoldsModule}
 use Rattle.kit_module_programs.specs.TreePasses.{IsTreePass, IsSccpNamed, IsDceAlone, IsSimplifiedAlone}
 use Rattle.kit_ops.specs.declared.types.KitType.{KitType}

@@ -17,11 +17,12 @@ use ir_program::{Operation, Ptr};
 use ir_trees::know_tree;
 use ir_types::Types;
 use kit::Kit;
-use kit_chain_rules::{know_definers, simplify_keeps_rules};
 use kit_held_modules::{
     dce_stays_apart, know_no_live_use, know_surroundings, sccp_stays_apart, simplify_stays_apart,
 };
-use kit_pass_rules::{dce_keeps_rules, know_handles_and_types, sccp_keeps_rules};
+use kit_pass_rules::{
+    dce_keeps_rules, know_definers, know_handles_and_types, sccp_keeps_rules, simplify_keeps_rules,
+};
 use kit_passed_trees::{know_propagated, removed_stand_alone, simplified_stand_alone};
 use kit_ruled_passes::{know_determined, know_premises};
 use kit_writable_passes::{dce_stays_writable, sccp_stays_writable, simplify_stays_writable};

@@ -22,3 +22,10 @@ pub mod FactsClosed
 pub mod FactsFolds
 pub mod FactsBranches
 pub mod SccpLaw
+pub mod pruning
+pub mod phases
+pub mod Chains
+pub mod Rules
+pub mod Apart
+pub mod Simplified
+pub mod Programs

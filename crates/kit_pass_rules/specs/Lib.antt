@@ -1,3 +1,5 @@
 pub mod Worlds
 pub mod Names
 pub mod Laws
+pub mod CutLaws
+pub mod ChainLaws

@@ -20,9 +20,9 @@ use Rattle.kit_execution.specs.Obeying.{ExecutedTree}
 use Rattle.kit_execution.proofs.Bodies.{KitBlocks, body_tree}
 use Rattle.kit_flat.specs.Machine as machine
 use Rattle.kit_interpreter.specs.Lowering.{CanRun}
-use Rattle.kit_interpreter.specs.Numbers.{values_of}
-use Rattle.kit_interpreter.specs.Store.{KitData, KitNotes, InterpretedContext, body_of, op_at, block_seen, module_code}
-use Rattle.kit_interpreter.specs.Store.{function_named}
+use Rattle.kit_places.specs.Numbers.{values_of}
+use Rattle.kit_places.specs.Store.{KitData, KitNotes, InterpretedContext, body_of, op_at, block_seen, module_code}
+use Rattle.kit_places.specs.Store.{function_named}
 use Rattle.kit_views.specs.FlatView.{AreOps, AreFlatBlocks, FlattensTo, names_in}
 use Rattle.kit_views.specs.Reading.{Reading, kit_contents, kit_reading}
 use Rattle.kit_program_runs.proofs.FlatOperations.{op_seen}

@@ -34,9 +34,9 @@ use Rattle.kit_execution.proofs.Values.{result_values}
 use Rattle.kit_execution.proofs.Words.{KitOperationNotes, tree_attribute, payload_is}
 use Rattle.kit_flat.specs.Forms.{Calculate, Call}
 use Rattle.kit_flat.specs.Machine as machine
-use Rattle.kit_interpreter.specs.Numbers.{block_with}
-use Rattle.kit_interpreter.specs.Store.{KitData, InterpretedContext, width_of, width_at, constant_form, by_sizes}
-use Rattle.kit_interpreter.specs.Store.{conditional_form, call_form, form_of, form_at, op_if, op_at, function_named}
+use Rattle.kit_places.specs.Numbers.{block_with}
+use Rattle.kit_places.specs.Store.{KitData, InterpretedContext, width_of, width_at, constant_form, by_sizes}
+use Rattle.kit_places.specs.Store.{conditional_form, call_form, form_of, form_at, op_if, op_at, function_named}
 use Rattle.kit_views.specs.FlatView.{IsOf, IsOp}
 use Rattle.kit_views.specs.Reading.{kit_reading, number_in, named_in, integer_of}
 use Rattle.kit_program_runs.proofs.Lockstep.{FlatOp, SeenOp, Names, seen_edge, seen}

@@ -30,10 +30,10 @@ use Rattle.kit_execution.specs.Obeying.{ExecutedTree}
 use Rattle.kit_execution.proofs.Bodies.{KitBlocks}
 use Rattle.kit_execution.proofs.First.{first_passes}
 use Rattle.kit_execution.proofs.Words.{kind_is, attribute_is}
-use Rattle.kit_interpreter.specs.Store as store
-use Rattle.kit_interpreter.specs.Store.{KitData, KitNotes, InterpretedProgram, attribute_of, members, function_named}
-use Rattle.kit_interpreter.specs.Store.{module_named}
-use Rattle.kit_interpreter.specs.declared.executing.Place.{Place}
+use Rattle.kit_places.specs.Store as store
+use Rattle.kit_places.specs.Store.{KitData, KitNotes, InterpretedProgram, attribute_of, members, function_named}
+use Rattle.kit_places.specs.Store.{module_named}
+use Rattle.kit_places.specs.declared.places.Place.{Place}
 use Rattle.kit_module_programs.specs.Paths as tree
 use Rattle.kit_program_runs.specs.Numberings.{NumbersTextsApart}
 

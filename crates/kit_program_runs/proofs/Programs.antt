@@ -23,9 +23,9 @@ use Rattle.kit_execution.specs.Obeying.{ExecutedTree}
 use Rattle.kit_execution.proofs.Paths.{can_run, path_moves}
 use Rattle.kit_flat.specs.Machine as machine
 use Rattle.kit_interpreter.specs.Lowering.{CanRun}
-use Rattle.kit_interpreter.specs.Running.{place_of}
-use Rattle.kit_interpreter.specs.Store.{InterpretedContext, module_code, function_named}
-use Rattle.kit_interpreter.specs.declared.executing.Place as context
+use Rattle.kit_places.specs.Placed.{place_of}
+use Rattle.kit_places.specs.Store.{InterpretedContext, module_code, function_named}
+use Rattle.kit_places.specs.declared.places.Place as context
 use Rattle.kit_module_programs.specs.Paths as tree
 use Rattle.kit_module_programs.specs.Programs.{HasFunctionView}
 use Rattle.kit_module_programs.specs.Sound.{IsSound}

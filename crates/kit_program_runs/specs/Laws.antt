@@ -13,9 +13,9 @@ use Rattle.kit_behaviour.specs.Machine.{FunctionsByPath}
 use Rattle.kit_behaviour.specs.Places as flat
 use Rattle.kit_execution.specs.Obeying.{ExecutedTree, ObeysRules}
 use Rattle.kit_flat.specs.Machine as context
-use Rattle.kit_interpreter.specs.Running.{place_of}
-use Rattle.kit_interpreter.specs.Store.{InterpretedContext, module_code}
-use Rattle.kit_interpreter.specs.declared.executing.Place.{Place}
+use Rattle.kit_places.specs.Placed.{place_of}
+use Rattle.kit_places.specs.Store.{InterpretedContext, module_code}
+use Rattle.kit_places.specs.declared.places.Place.{Place}
 use Rattle.kit_module_programs.specs.Programs.{IsProgramOf}
 use Rattle.kit_ruled_views.specs.Ruled.{HasOwnNames, HaveTypesIn}
 use Rattle.kit_program_runs.specs.Numberings.{NumbersTextsApart}

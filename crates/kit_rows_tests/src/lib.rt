@@ -1,8 +1,13 @@
-//! Tests that modules of `kit`, built by calls, keep or break the rules, run and are optimised as expected.
+//! Tests that modules of `kit`, built by calls, keep or break the rules, run and are optimised as expected; runs of flat
+//! modules; and the table by which the texts of `kit` are read.
 #![tactic(auto)]
 
 #[cfg(test)]
 mod comparing;
+#[cfg(test)]
+mod flat_modules;
+#[cfg(test)]
+mod flat_runs;
 #[cfg(test)]
 mod optimising;
 #[cfg(test)]
@@ -13,5 +18,7 @@ mod playing;
 mod rules;
 #[cfg(test)]
 mod runs;
+#[cfg(test)]
+mod table;
 #[cfg(test)]
 mod texts;

@@ -4,3 +4,15 @@ pub mod SaidHeads
 pub mod Unlabelled
 pub mod SaidFunctions
 pub mod SaidModules
+pub mod AlikeLists
+pub mod AlikeParts
+pub mod AlikeRules
+pub mod SameTypes
+pub mod WrittenTypes
+pub mod Verdicts
+pub mod ReadHeads
+pub mod SaidTrees
+pub mod Passes
+pub mod SaidTexts
+pub mod ToldTexts
+pub mod TypeNumbers

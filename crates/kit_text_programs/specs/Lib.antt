@@ -1,1 +1,6 @@
 pub mod Laws
+pub mod Alike
+pub mod Same
+pub mod RuleLaws
+pub mod Meanings
+pub mod SameLaws

@@ -1,4 +1,4 @@
-use Rattle.irkit_driver.proofs.EndLemmas.{unaccepted, unloaded}
+use Rattle.irkit_running.proofs.EndLemmas.{unaccepted, unloaded}
 use Rattle.irkit_driver.proofs.checking.accept.Goals as goal
 
 pub returns-in_err-load : goal.returns-in_err-load

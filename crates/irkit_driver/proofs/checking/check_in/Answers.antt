@@ -1,7 +1,7 @@
 use Rattle.std.proofs.Common.{refl, subst}
-use Rattle.irkit_driver.specs.Outcomes.{Accepts, CheckGives, Refuses, ok_line}
-use Rattle.irkit_driver.specs.Texts.{Overfills}
-use Rattle.irkit_driver.proofs.EndLemmas.{half_written, unwritten}
+use Rattle.irkit_running.specs.Outcomes.{Accepts, CheckGives, Refuses, ok_line}
+use Rattle.irkit_refusals.specs.Texts.{Overfills}
+use Rattle.irkit_running.proofs.EndLemmas.{half_written, unwritten}
 use Rattle.irkit_driver.proofs.checking.check_in.Goals as goal
 
 pub returns-in_err-accept : goal.returns-in_err-accept

@@ -1,6 +1,6 @@
 use Rattle.std.proofs.Common.{List, subst}
 use Rattle.kit_optimiser.specs.declared.pass.KitPass.{KitPass}
-use Rattle.irkit_driver.specs.Outcomes.{EndsRun}
+use Rattle.irkit_running.specs.Outcomes.{EndsRun}
 use Rattle.irkit_driver.proofs.driving.serve.Goals as goal
 
 pub returns-in-Optimise : goal.returns-in-Optimise

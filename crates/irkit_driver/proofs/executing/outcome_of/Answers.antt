@@ -1,4 +1,4 @@
-use Rattle.irkit_driver.proofs.EndLemmas.{unloaded}
+use Rattle.irkit_running.proofs.EndLemmas.{unloaded}
 use Rattle.irkit_driver.proofs.ExecutionLemmas.{gave, not_ran, not_loaded}
 use Rattle.irkit_driver.proofs.executing.outcome_of.Goals as goal
 

@@ -1,12 +1,12 @@
 use Rattle.std.proofs.Common.{ap, chars, refl, subst}
 use Rattle.ir_forest.specs.Closed.{unlabelled}
-use Rattle.ir_unique_trees.proofs.OneTree.{one_tree_said}
+use Rattle.ir_rereading.proofs.OneTree.{one_tree_said}
 use Rattle.kit.specs.Leads.{leads}
 use Rattle.kit_checks.specs.World.{world_of}
 use Rattle.kit_language.specs.Language.{kit_language}
 use Rattle.irkit_driver.proofs.FaultLemmas.{not_kept, one_first_fault}
-use Rattle.irkit_driver.proofs.VerdictLemmas.{accepted_anywhere, one_verdict}
-use Rattle.irkit_driver.specs.Texts.{HoldsText}
+use Rattle.irkit_refusals.proofs.VerdictLemmas.{accepted_anywhere, one_verdict}
+use Rattle.irkit_refusals.specs.Texts.{HoldsText}
 use Rattle.irkit_driver.proofs.laws.inputs_have_one_verdict.Goals as goal
 
 pub returns : goal.returns

@@ -1,5 +1,5 @@
 use Rattle.std.proofs.Common.{refl, chars}
-use Rattle.ir_unique_trees.proofs.OneTree.{one_tree_said}
+use Rattle.ir_rereading.proofs.OneTree.{one_tree_said}
 use Rattle.ir_rereading.proofs.verdicts.Verdicts.{one_told, no_fault_said}
 use Rattle.kit.specs.Leads.{leads}
 use Rattle.kit_language.specs.Language.{kit_language}

@@ -1,6 +1,6 @@
 use Rattle.std.proofs.Common.{◌≡◌, ◌++◌, flat_map, take}
 use Rattle.std.specs.String.{string_bytes}
-use Rattle.irkit_driver.specs.Reports.{spaced}
+use Rattle.irkit_running.specs.Reports.{spaced}
 use Rattle.irkit_driver.proofs.reporting.put_values.Given as goal
 
 abbrev pub invariant-loop-number : goal.invariant-loop-number

@@ -1,6 +1,6 @@
 use Rattle.std.proofs.Common.{subst}
 use Rattle.ir_trees.specs.Stands.{StandsFor}
-use Rattle.kit_interpreter.specs.Store.{InterpretedProgram}
+use Rattle.kit_places.specs.Store.{InterpretedProgram}
 use Rattle.kit_execution.specs.Obeying.{ExecutedTree}
 use Rattle.kit_execution.proofs.Paths.{can_run, path_moves}
 use Rattle.kit_execution.proofs.executing.know_runs.Goals as goal

@@ -2,9 +2,9 @@ use Rattle.std.proofs.Common.{refl, get_or, arith}
 use Rattle.std.proofs.lemmas.Bool.{false≢true}
 use Rattle.std.proofs.lemmas.Option.{slice_get-get_or, slice_get_within}
 use Rattle.ir_program.specs.Program.{TypedValue, arguments_at}
-use Rattle.kit_interpreter.specs.Store.{width_at}
+use Rattle.kit_places.specs.Store.{width_at}
 use Rattle.kit_interpreter.specs.Running.{FitsWidth}
-use Rattle.kit_interpreter.proofs.Located.{next_pair}
+use Rattle.kit_interpreter.proofs.Fitting.{next_pair}
 use Rattle.kit_interpreter.proofs.executing.are_fitting.Goals as goal
 
 pub returns-then-not-fits_argument : goal.returns-then-not-fits_argument

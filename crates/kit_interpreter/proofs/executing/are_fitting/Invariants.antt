@@ -1,6 +1,6 @@
 use Rattle.std.proofs.Common.{ℕ, ◌≡◌, ◌<◌, Some, slice_get}
 use Rattle.ir_program.specs.Program.{TypedValue, arguments_at}
-use Rattle.kit_interpreter.specs.Store.{width_at}
+use Rattle.kit_places.specs.Store.{width_at}
 use Rattle.kit_interpreter.specs.Running.{FitsWidth}
 use Rattle.kit_interpreter.proofs.executing.are_fitting.Given as goal
 

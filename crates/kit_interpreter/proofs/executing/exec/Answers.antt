@@ -1,6 +1,6 @@
 use Rattle.std.proofs.Common.{◌∙◌, sym, ap, subst, refl, ◌-◌, length, IsSome, arith}
 use Rattle.std.proofs.lemmas.Option.{slice_get_read}
-use Rattle.kit_interpreter.specs.Store.{function_named}
+use Rattle.kit_places.specs.Store.{function_named}
 use Rattle.kit_interpreter.proofs.executing.exec.Goals as goal
 
 pub run_function-requires-clause-named : goal.run_function-requires-clause-named

@@ -1,5 +1,5 @@
 use Rattle.std.proofs.Common.{arith, refl}
-use Rattle.kit_interpreter.proofs.Located.{within_any}
+use Rattle.kit_interpreter.proofs.Fitting.{within_any}
 use Rattle.kit_interpreter.proofs.executing.is_below_power.Goals as goal
 
 pub returns-then-width-ge64 : goal.returns-then-width-ge64

@@ -3,10 +3,10 @@ use Rattle.std.specs.Prelude.{option_map}
 use Rattle.std.proofs.lemmas.Option.{same_Some}
 use Rattle.ir_program.specs.declared.handles.Ptr.{Ptr}
 use Rattle.ir_program.specs.declared.handles.Operation.{Operation}
-use Rattle.kit_interpreter.specs.Numbers.{operation_with}
-use Rattle.kit_interpreter.specs.Store.{is_function_named, members}
+use Rattle.kit_places.specs.Numbers.{operation_with}
+use Rattle.kit_places.specs.Store.{is_function_named, members}
 use Rattle.kit_interpreter.specs.Lowering.{FunctionsCanRun}
-use Rattle.kit_interpreter.proofs.Located.{first_listed, member_live}
+use Rattle.kit_places.proofs.Located.{first_listed, member_live}
 use Rattle.kit_interpreter.proofs.Chosen.{sound, ran}
 use Rattle.kit_interpreter.proofs.executing.run_function.Goals as goal
 

@@ -6,9 +6,9 @@ use Rattle.ir_program.proofs.used.Renaming.{value-test}
 use Rattle.kit_flat.specs.View.{op_view}
 use Rattle.kit_flat.specs.Sound.{AreBelow, InstructionFits}
 use Rattle.kit_flat.specs.Renames.{rename_op, TargetsAreInside}
-use Rattle.kit_interpreter.specs.Numbers.{value_number, values_of, no_value, value_at, block_with, operation_with}
-use Rattle.kit_interpreter.specs.Store.{InterpretedProgram, op_at}
-use Rattle.kit_interpreter.proofs.Rows.{moved, ended}
+use Rattle.kit_places.specs.Numbers.{value_number, values_of, no_value, value_at, block_with, operation_with}
+use Rattle.kit_places.specs.Store.{InterpretedProgram, op_at}
+use Rattle.kit_places.proofs.Rows.{moved, ended}
 use Rattle.kit_interpreter.proofs.Sets.{listed_next, next_each, next_same}
 use Rattle.kit_interpreter.proofs.Lowered.{named_back, numbers_below}
 use Rattle.kit_interpreter.proofs.lowering.lower_block.Goals as goal

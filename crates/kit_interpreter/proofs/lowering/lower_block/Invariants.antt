@@ -4,8 +4,8 @@ use Rattle.kit_flat.specs.View.{op_view}
 use Rattle.kit_flat.specs.Sound.{InstructionFits}
 use Rattle.kit_flat.specs.Renames.{rename_op, TargetsAreInside}
 use Rattle.kit_flat.specs.declared.flat.Instruction.{Instruction}
-use Rattle.kit_interpreter.specs.Numbers.{value_at, block_with, operation_with}
-use Rattle.kit_interpreter.specs.Store.{op_at}
+use Rattle.kit_places.specs.Numbers.{value_at, block_with, operation_with}
+use Rattle.kit_places.specs.Store.{op_at}
 use Rattle.kit_interpreter.proofs.lowering.lower_block.Given as goal
 
 abbrev pub invariant-loop-op : goal.invariant-loop-op

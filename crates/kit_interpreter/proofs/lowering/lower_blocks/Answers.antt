@@ -4,7 +4,7 @@ use Rattle.std.proofs.lemmas.Option.{get_or_from_slice_get}
 use Rattle.ir_program.specs.Program.{no_handle}
 use Rattle.ir_program.specs.declared.handles.Ptr.{Ptr}
 use Rattle.ir_program.specs.declared.handles.BasicBlock.{BasicBlock}
-use Rattle.kit_interpreter.specs.Numbers.{block_with}
+use Rattle.kit_places.specs.Numbers.{block_with}
 use Rattle.kit_interpreter.specs.Lowering.{LowersBlock}
 use Rattle.kit_interpreter.proofs.Sets.{next_each}
 use Rattle.kit_interpreter.proofs.lowering.lower_blocks.Goals as goal

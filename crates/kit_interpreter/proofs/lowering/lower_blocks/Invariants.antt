@@ -1,6 +1,6 @@
 use Rattle.std.proofs.Common.{ℕ, ◌≡◌, Some, slice_get, length}
 use Rattle.kit_flat.specs.declared.flat.FlatBlock.{FlatBlock}
-use Rattle.kit_interpreter.specs.Numbers.{block_with}
+use Rattle.kit_places.specs.Numbers.{block_with}
 use Rattle.kit_interpreter.specs.Lowering.{LowersBlock}
 use Rattle.kit_interpreter.proofs.lowering.lower_blocks.Given as goal
 

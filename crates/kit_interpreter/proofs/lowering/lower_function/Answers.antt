@@ -1,7 +1,7 @@
 use Rattle.std.proofs.Common.{subst}
 use Rattle.opt_inside.specs.Numbered.{numbers_of}
 use Rattle.kit_flat.specs.declared.flat.FlatFunction.{FlatFunction}
-use Rattle.kit_interpreter.specs.Store.{InterpretedProgram}
+use Rattle.kit_places.specs.Store.{InterpretedProgram}
 use Rattle.kit_interpreter.proofs.Bodies.{IsSetting, live_at, numbered_at, lowers_at}
 use Rattle.kit_interpreter.proofs.lowering.lower_function.Goals as goal
 

@@ -4,7 +4,7 @@ use Rattle.std.proofs.lemmas.Option.{slice_get_read, get_or_from_slice_get}
 use Rattle.ir_program.specs.Program.{no_handle}
 use Rattle.ir_program.specs.declared.handles.Ptr.{Ptr}
 use Rattle.ir_program.specs.declared.handles.Operation.{Operation}
-use Rattle.kit_interpreter.specs.Numbers.{operation_with}
+use Rattle.kit_places.specs.Numbers.{operation_with}
 use Rattle.kit_interpreter.specs.Lowering.{LowersFunction}
 use Rattle.kit_interpreter.proofs.Sets.{next_each}
 use Rattle.kit_interpreter.proofs.lowering.lower_module.Goals as goal

@@ -1,6 +1,6 @@
 use Rattle.std.proofs.Common.{ℕ, ◌≡◌, Some, slice_get, length}
 use Rattle.kit_flat.specs.declared.flat.FlatFunction.{FlatFunction}
-use Rattle.kit_interpreter.specs.Numbers.{operation_with}
+use Rattle.kit_places.specs.Numbers.{operation_with}
 use Rattle.kit_interpreter.specs.Lowering.{LowersFunction}
 use Rattle.kit_interpreter.proofs.lowering.lower_module.Given as goal
 

@@ -3,8 +3,8 @@ use Rattle.ir_program.specs.Program.{results_at}
 use Rattle.ir_program.specs.Rows.{operands_at, successors_at}
 use Rattle.kit_flat.specs.Forms.{op_of, form_view}
 use Rattle.kit_flat.specs.Formed.{IsFormed}
-use Rattle.kit_interpreter.specs.Numbers.{value_number, block_number, values_of}
-use Rattle.kit_interpreter.specs.Store.{InterpretedProgram}
+use Rattle.kit_places.specs.Numbers.{value_number, block_number, values_of}
+use Rattle.kit_places.specs.Store.{InterpretedProgram}
 use Rattle.kit_interpreter.proofs.Lowered.{unformed, lowers}
 use Rattle.kit_interpreter.proofs.lowering.lower_operation.Goals as goal
 

@@ -3,7 +3,7 @@ use Rattle.ir_program.specs.Lists.{blocks_in}
 use Rattle.ir_program.specs.Replacing.{same_block}
 use Rattle.ir_program.proofs.used.Renaming.{block-test}
 use Rattle.ir_trees.specs.Searched.{AreDistinct}
-use Rattle.kit_interpreter.proofs.Rows.{moved}
+use Rattle.kit_places.proofs.Rows.{moved}
 use Rattle.kit_interpreter.proofs.Sets.{put_next, once_in, tested}
 use Rattle.kit_interpreter.proofs.numbering.number_blocks.Goals as goal
 

@@ -1,7 +1,7 @@
 use Rattle.std.proofs.Common.{arith}
 use Rattle.ir_program.specs.Rows.{operands_at}
-use Rattle.kit_interpreter.specs.Numbers.{value_number}
-use Rattle.kit_interpreter.proofs.Rows.{mapped_next, mapped_all}
+use Rattle.kit_places.specs.Numbers.{value_number}
+use Rattle.kit_places.proofs.Rows.{mapped_next, mapped_all}
 use Rattle.kit_interpreter.proofs.numbering.operand_numbers.Goals as goal
 
 pub loop-i-preserved : goal.loop-i-preserved

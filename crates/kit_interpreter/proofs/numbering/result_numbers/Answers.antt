@@ -2,8 +2,8 @@ use Rattle.std.proofs.Common.{◌∙◌, arith}
 use Rattle.std.proofs.lemmas.Option.{slice_get-map}
 use Rattle.std.proofs.lemmas.List.{length-map}
 use Rattle.ir_program.specs.Program.{TypedValue, results_at}
-use Rattle.kit_interpreter.specs.Numbers.{value_number, values_of}
-use Rattle.kit_interpreter.proofs.Rows.{mapped_next, mapped_all}
+use Rattle.kit_places.specs.Numbers.{value_number, values_of}
+use Rattle.kit_places.proofs.Rows.{mapped_next, mapped_all}
 use Rattle.kit_interpreter.proofs.numbering.result_numbers.Goals as goal
 
 pub loop-i-preserved : goal.loop-i-preserved

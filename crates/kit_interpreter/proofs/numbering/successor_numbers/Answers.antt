@@ -1,7 +1,7 @@
 use Rattle.std.proofs.Common.{arith}
 use Rattle.ir_program.specs.Rows.{successors_at}
-use Rattle.kit_interpreter.specs.Numbers.{block_number}
-use Rattle.kit_interpreter.proofs.Rows.{mapped_next, mapped_all}
+use Rattle.kit_places.specs.Numbers.{block_number}
+use Rattle.kit_places.proofs.Rows.{mapped_next, mapped_all}
 use Rattle.kit_interpreter.proofs.numbering.successor_numbers.Goals as goal
 
 pub loop-i-preserved : goal.loop-i-preserved

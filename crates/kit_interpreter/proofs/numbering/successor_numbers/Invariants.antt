@@ -1,7 +1,7 @@
 use Rattle.std.proofs.Common.{◌≡◌, take}
 use Rattle.std.specs.Prelude.{map}
 use Rattle.ir_program.specs.Rows.{successors_at}
-use Rattle.kit_interpreter.specs.Numbers.{block_number}
+use Rattle.kit_places.specs.Numbers.{block_number}
 use Rattle.kit_interpreter.proofs.numbering.successor_numbers.Given as goal
 
 -- the numbers of the first ones

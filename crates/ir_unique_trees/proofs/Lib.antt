@@ -1,3 +1,0 @@
-pub mod SameNames
-pub mod WholeTexts
-pub mod OneTree

@@ -1,5 +1,0 @@
-use Rattle.ir_unique_trees.proofs.OneTree.{one_tree_said}
-use Rattle.ir_unique_trees.proofs.texts_say_one_tree.Goals as goal
-
-pub returns : goal.returns
-returns c = one_tree_said

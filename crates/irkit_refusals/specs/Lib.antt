@@ -1,0 +1,3 @@
+pub use Rattle.irkit_streams.specs.Ends
+pub mod Texts
+pub mod Refusals

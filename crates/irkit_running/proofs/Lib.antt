@@ -1,0 +1,5 @@
+pub mod ReadLemmas
+pub mod HoldingLemmas
+pub mod WrittenLemmas
+pub mod PassLemmas
+pub mod EndLemmas

@@ -1,0 +1,9 @@
+pub use Rattle.irkit_streams.specs.Streams
+pub use Rattle.irkit_streams.specs.Ends
+pub use Rattle.irkit_refusals.specs.Texts
+pub use Rattle.irkit_refusals.specs.Refusals
+pub mod Known
+pub mod Lists
+pub mod Paths
+pub mod Reports
+pub mod Outcomes

@@ -1,5 +1,0 @@
-use Rattle.kit_chain_rules.proofs.Apart.JoinedLaw as law
-use Rattle.kit_chain_rules.proofs.joined_keeps_rules.Goals as goal
-
-pub returns : goal.returns
-returns c = law.joined_keeps_rules

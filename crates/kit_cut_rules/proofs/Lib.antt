@@ -1,2 +1,0 @@
-pub mod pruning
-pub mod phases

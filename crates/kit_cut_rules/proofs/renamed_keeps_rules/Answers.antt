@@ -1,5 +1,0 @@
-use Rattle.kit_cut_rules.proofs.phases.RenamedTrees.{renamed_keeps}
-use Rattle.kit_cut_rules.proofs.renamed_keeps_rules.Goals as goal
-
-pub returns : goal.returns
-returns c = renamed_keeps

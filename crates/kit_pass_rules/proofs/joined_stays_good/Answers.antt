@@ -1,0 +1,5 @@
+use Rattle.kit_pass_rules.proofs.Apart.JoinedLaw as law
+use Rattle.kit_pass_rules.proofs.joined_stays_good.Goals as goal
+
+pub returns : goal.returns
+returns c = law.joined_stays_good

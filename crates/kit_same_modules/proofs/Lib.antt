@@ -1,4 +1,0 @@
-pub mod Passes
-pub mod SaidTexts
-pub mod ToldTexts
-pub mod TypeNumbers

@@ -1,6 +1,0 @@
-use Rattle.kit_same_modules.proofs.ToldTexts.OneText.{say_one_text}
-use Rattle.kit_same_modules.proofs.SaidTexts.SameTexts.{one_text}
-use Rattle.kit_same_modules.proofs.laws.texts_say_the_same.Goals as goal
-
-pub returns : goal.returns
-returns c = record { same = one_text; one = say_one_text }
