@@ -6,6 +6,7 @@ ghost use Rattle.ir_program.specs.declared.handles.Operation.{Operation};
 ghost use Rattle.ir_program.specs.declared.handles.BasicBlock.{BasicBlock};
 ghost use Rattle.kit_ops.specs.Keys.{constant_value, segment_sizes, callee};
 ghost use Rattle.kit_flat.specs.Formed.{FormFits};
+ghost use Rattle.opt_inside.specs.Numbered.{NumbersInside, numbers_of};
 ghost use Rattle.kit_places.specs.Numbers.{block_with, operation_with};
 ghost use Rattle.kit_places.specs.Store.{attribute_of, constant_form, conditional_form, call_form, form_at, function_named, members};
 ghost use Rattle.kit_interpreter.specs.Lowering.{IsFunctionTable, IsFormOf, IsLowerable, IsBlockNumbered, FunctionsCanRun, CanRun, LowersOperation, LowersBlock, LowersFunction, LowersModule};
@@ -21,7 +22,7 @@ use kit::Kit;
 use kit_flat::{FlatBlock, FlatForm, FlatFunction, FlatModule, Instruction, instruction};
 use kit_ops::{KitAttr, KitOp, keys};
 use kit_places::{attribute, result_width};
-use opt_inside::{NumberedList, number_inside};
+use opt_inside::{Inside, NumberedList, number_inside};
 use std::alloc::{AllocError, Global};
 
 /// The form of a constant.
@@ -186,6 +187,35 @@ fn lower_blocks(
     Ok(lowered)
 }
 
+/// A function as a flat function, by the numbers of what is inside it.
+fn lower_inside(
+    alloc: Global,
+    ctx: &Context<Kit>,
+    functions: &Functions,
+    op: Ptr<Operation>,
+    inside: &Inside,
+) -> Result<FlatFunction, AllocError>
+    requires live { IsSome (operation_at ctx.now.program op) }
+    requires table { IsFunctionTable ctx.now.program (members ctx.now.program functions.now.outer)
+        functions.now.handles.items functions.now.names.entries }
+    requires can_run { CanRun ctx.now functions.now.outer op }
+    requires numbers { NumbersInside ctx.now.program op (numbers_of inside.now) }
+    ensures { IfOk result (LowersFunction ctx.now functions.now.outer functions.now.handles.items op) }
+{
+    let program = ctx.program();
+    program.know_lists();
+    let region = match program.region(op, 0) {
+        Some(region) => region,
+        None => unreachable!(),
+    };
+    let blocks = number_blocks(alloc, program, region)?;
+    let lowered = lower_blocks(alloc, ctx, functions, &inside.values, &blocks)?;
+    Ok(FlatFunction {
+        values: inside.values.len(),
+        blocks: lowered,
+    })
+}
+
 /// A function as a flat function.
 fn lower_function(
     alloc: Global,
@@ -199,19 +229,8 @@ fn lower_function(
     requires can_run { CanRun ctx.now functions.now.outer op }
     ensures { IfOk result (LowersFunction ctx.now functions.now.outer functions.now.handles.items op) }
 {
-    let program = ctx.program();
-    program.know_lists();
-    let region = match program.region(op, 0) {
-        Some(region) => region,
-        None => unreachable!(),
-    };
-    let inside = number_inside(alloc, program, op)?;
-    let blocks = number_blocks(alloc, program, region)?;
-    let lowered = lower_blocks(alloc, ctx, functions, &inside.values, &blocks)?;
-    Ok(FlatFunction {
-        values: inside.values.len(),
-        blocks: lowered,
-    })
+    let inside = number_inside(alloc, ctx.program(), op)?;
+    lower_inside(alloc, ctx, functions, op, &inside)
 }
 
 /// The functions of a module as a flat module, each under its number.

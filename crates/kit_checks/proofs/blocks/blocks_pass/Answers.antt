@@ -1,15 +1,10 @@
-use Rattle.std.proofs.Common.{◌≡◌, ◌∙◌, Some, ap, sym, subst, slice_get}
+use Rattle.std.proofs.Common.{◌≡◌, Some, sym, subst, slice_get}
 use Rattle.ir_trees.proofs.Members.{has_at}
 use Rattle.ir_program.specs.Lists.{StandsInOperation, regions_in}
 use Rattle.kit_checks.specs.Passing.{BlockPasses}
 use Rattle.kit_checks.specs.World.{world_of}
-use Rattle.kit_checks.proofs.Passed.{seen_none, seen_more, seen_all, next_has, RegionGood, region_good_if, bad_region, all_regions}
+use Rattle.kit_checks.proofs.Passed.{seen_more, seen_all, next_has, RegionGood, region_good_if, bad_region, all_regions}
 use Rattle.kit_checks.proofs.blocks.blocks_pass.Goals as goal
-
-pub loop-region-init : goal.loop-region-init
-loop-region-init g c =
-    seen_none (RegionGood c.args.ctx.now.program (BlockPasses (world_of c.args.ctx.now) c.args.test)) (regions_in c.args.ctx.now.program c.args.op) c.into_iter-region-iterator.result
-    (c.into_iter-region-iterator.ensures.into_iter_gives ∙ c.regions-region-items.ensures.list ∙ ap (λ p. regions_in p c.args.op) c.program-program.ensures)
 
 pub region_passes-requires : goal.region_passes-requires
 region_passes-requires g c =

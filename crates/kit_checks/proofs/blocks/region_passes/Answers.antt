@@ -1,15 +1,10 @@
-use Rattle.std.proofs.Common.{◌≡◌, ◌∙◌, Some, ap, sym, subst, slice_get}
+use Rattle.std.proofs.Common.{◌≡◌, Some, sym, subst, slice_get}
 use Rattle.ir_trees.proofs.Members.{has_at}
 use Rattle.ir_program.specs.Lists.{StandsInRegion, blocks_in}
 use Rattle.kit_checks.specs.Passing.{BlockPasses}
 use Rattle.kit_checks.specs.World.{world_of}
-use Rattle.kit_checks.proofs.Passed.{seen_none, seen_more, seen_all, next_has, BlockGood, good_if, bad_block, all_blocks}
+use Rattle.kit_checks.proofs.Passed.{seen_more, seen_all, next_has, BlockGood, good_if, bad_block, all_blocks}
 use Rattle.kit_checks.proofs.blocks.region_passes.Goals as goal
-
-pub loop-block-init : goal.loop-block-init
-loop-block-init g c =
-    seen_none (BlockGood c.args.ctx.now.program (BlockPasses (world_of c.args.ctx.now) c.args.test)) (blocks_in c.args.ctx.now.program c.args.region) c.into_iter-block-iterator.result
-    (c.into_iter-block-iterator.ensures.into_iter_gives ∙ c.blocks-block-items.ensures.list ∙ ap (λ p. blocks_in p c.args.region) c.program-program.ensures)
 
 pub block_passes-requires : goal.block_passes-requires
 block_passes-requires g c =

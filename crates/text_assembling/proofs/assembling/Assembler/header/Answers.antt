@@ -1,6 +1,5 @@
-use Rattle.std.proofs.Common.{rules, ◌≡◌, ◌∙◌, ◌∷◌, ◌++◌, [], List, Err, refl, ap, sym, true}
+use Rattle.std.proofs.Common.{rules, ◌≡◌, ◌∙◌, ◌∷◌, ◌++◌, [], List, refl, ap, sym, true}
 use Rattle.std.proofs.lemmas.List.{with_items_is, places}
-use Rattle.std.proofs.lemmas.Result.{err_from_is_err_and}
 use Rattle.ir_characters.specs.Texts.{codes_of}
 use Rattle.ir_names.specs.Text.{is_identifier}
 use Rattle.ir_program.specs.Program.{arguments_at}
@@ -10,8 +9,6 @@ use Rattle.ir_program.specs.declared.handles.IRNode.TheVariants.{BasicBlock as B
 use Rattle.text_building.proofs.Linked.{values_seen}
 use Rattle.text_frames.specs.Makes.{types_in}
 use Rattle.text_frames.proofs.Defining.{arguments_made, values_made}
-use Rattle.text_assembling.proofs.Gathering.{errors_same}
-use Rattle.text_assembling.proofs.Operating.{growth_full}
 use Rattle.text_assembling.proofs.assembling.Assembler.header.Goals as goal
 
 pub returns-clause-made : goal.returns-clause-made
@@ -39,9 +36,3 @@ returns-clause-made g c =
 
 pub open_block-requires : goal.open_block-requires
 open_block-requires g c = record { known = rw (c.deref-3.ensures.value ∙ c.in_ok-types.ensures ∙ ap types_in (c.deref-2.ensures.value ∙ ap (λ x. x.parts.items) c.deref.ensures)) c.requires.known }
-
-pub returns-in_err-block-clause-full : goal.returns-in_err-block-clause-full
-returns-in_err-block-clause-full g c e =
-    let p = err_from_is_err_and c.from_residual-in_err-block.result c.from_residual-in_err-block.ensures.1 in
-    let types = c.deref-3.ensures.value ∙ c.in_ok-types.ensures ∙ ap types_in (c.deref-2.ensures.value ∙ ap (λ x. x.parts.items) c.deref.ensures) in
-    rw (← types) (c.in_err-block.ensures.full (ap Err (growth_full c.in_err-block.field-0.0 (sym p.2 ∙ errors_same (sym p.1 ∙ e)))))
