@@ -99,13 +99,17 @@ fn number_of(words: &[&str]) -> Result<u64, Unread> {
 /// Without memory, or where the text says no module.
 pub fn read(alloc: Global, ctx: &mut Context<Kit>, text: &str) -> Result<ReadModule, Unread> {
     let mut reader = Reader::new(alloc);
-    reader.lines(ctx, text)?;
-    reader.link(ctx)?;
-    let root = reader.root.ok_or(Unread::Text)?;
-    Ok(ReadModule {
-        root,
-        functions: reader.bodies,
-    })
+    let root = reader.text(ctx, text);
+    reader.finish(root)
+}
+
+/// The words of a line.
+fn words_of<'a>(alloc: Global, line: &'a str) -> Result<Vec<&'a str>, Unread> {
+    let mut words: Vec<&'a str> = Vec::new(alloc);
+    for word in line.split_whitespace() {
+        words.push(word)?;
+    }
+    Ok(words)
 }
 
 impl<'a> Reader<'a> {
@@ -124,6 +128,21 @@ impl<'a> Reader<'a> {
         }
     }
 
+    /// Reads a text, and answers the operation of its module.
+    fn text(&mut self, ctx: &mut Context<Kit>, text: &'a str) -> Result<Ptr<Operation>, Unread> {
+        self.lines(ctx, text)?;
+        self.link(ctx)?;
+        self.root.ok_or(Unread::Text)
+    }
+
+    /// The module whose operation this is, with the functions that were read.
+    fn finish(self, root: Result<Ptr<Operation>, Unread>) -> Result<ReadModule, Unread> {
+        Ok(ReadModule {
+            root: root?,
+            functions: self.bodies,
+        })
+    }
+
     /// Reads all lines.
     fn lines(&mut self, ctx: &mut Context<Kit>, text: &'a str) -> Result<(), Unread> {
         for line in text.lines() {
@@ -134,11 +153,13 @@ impl<'a> Reader<'a> {
 
     /// Reads a line.
     fn line(&mut self, ctx: &mut Context<Kit>, line: &'a str) -> Result<(), Unread> {
-        let mut words: Vec<&str> = Vec::new(self.alloc);
-        for word in line.split_whitespace() {
-            words.push(word)?;
-        }
-        match words.as_slice() {
+        let words = words_of(self.alloc, line)?;
+        self.words(ctx, &words)
+    }
+
+    /// Reads the words of a line.
+    fn words(&mut self, ctx: &mut Context<Kit>, words: &[&'a str]) -> Result<(), Unread> {
+        match words {
             [] => Ok(()),
             ["}"] => self.close(),
             ["module", name, "{"] => self.module(ctx, name),
@@ -245,14 +266,25 @@ impl<'a> Reader<'a> {
         let block = BasicBlock::new(self.alloc, ctx, None, &[])?;
         append_block(ctx, region, block)?;
         for word in arguments {
-            let (name, integer) = typed(word)?;
-            let ty = self.integer(ctx, integer)?;
-            self.values
-                .insert(name, new_argument(ctx, self.alloc, block, ty)?)?;
+            self.argument(ctx, block, word)?;
         }
         self.labels.insert(label, block)?;
         self.blocks.pop();
         self.blocks.push(Some(block))?;
+        Ok(())
+    }
+
+    /// Makes an argument of a block.
+    fn argument(
+        &mut self,
+        ctx: &mut Context<Kit>,
+        block: Ptr<BasicBlock>,
+        word: &'a str,
+    ) -> Result<(), Unread> {
+        let (name, integer) = typed(word)?;
+        let ty = self.integer(ctx, integer)?;
+        let argument = new_argument(ctx, self.alloc, block, ty)?;
+        self.values.insert(name, argument)?;
         Ok(())
     }
 
@@ -314,11 +346,28 @@ impl<'a> Reader<'a> {
         let attributes = self.attributes(ctx, kind, result.map(|(_, integer)| integer), words)?;
         let op = self.place(ctx, kind, attributes, 0)?;
         if let Some((name, integer)) = result {
-            let ty = self.integer(ctx, integer)?;
-            self.values
-                .insert(name, new_result(ctx, self.alloc, op, ty)?)?;
+            self.result(ctx, op, name, integer)?;
         }
-        let words = Vec::from_slice(self.alloc, &words[others_in(kind, words)..])?;
+        self.mentioned(op, &words[others_in(kind, words)..])
+    }
+
+    /// Gives an operation its result.
+    fn result(
+        &mut self,
+        ctx: &mut Context<Kit>,
+        op: Ptr<Operation>,
+        name: &'a str,
+        integer: IntegerType,
+    ) -> Result<(), Unread> {
+        let ty = self.integer(ctx, integer)?;
+        let result = new_result(ctx, self.alloc, op, ty)?;
+        self.values.insert(name, result)?;
+        Ok(())
+    }
+
+    /// Keeps what an operation mentions.
+    fn mentioned(&mut self, op: Ptr<Operation>, words: &[&'a str]) -> Result<(), Unread> {
+        let words = Vec::from_slice(self.alloc, words)?;
         self.mentions.push(Mentions { op, words })?;
         Ok(())
     }
