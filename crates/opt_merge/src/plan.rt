@@ -2,6 +2,7 @@
 ghost use Rattle.std.specs.Prelude.{◌≡◌, ◌⊎◌, IfErr, IfOk, IsSome};
 ghost use Rattle.ir_program.specs.Program.{operation_at};
 ghost use Rattle.opt_dialect.specs.declared.status.OptError.TheVariants.{LiveUse, Memory};
+ghost use Rattle.opt_inside.specs.Numbered.{NumbersInside, numbers_of};
 ghost use Rattle.opt_merge.specs.Answers.{HasCircle};
 ghost use Rattle.opt_merge.specs.Plans.{FindsPlan};
 ghost use Rattle.opt_reach.specs.Edges.{FitsEdgesFrom, HasLocalEdgesFrom};
@@ -10,7 +11,7 @@ use ir_program::{Operation, Program, Ptr};
 use ir_trees::know_tree;
 use opt_chains::{Join, StandIn, find_joins};
 use opt_dialect::{OptDialect, OptError};
-use opt_inside::number_inside;
+use opt_inside::{Inside, number_inside};
 use opt_reach::Start;
 use opt_stand_ins::find_stand_ins;
 use std::alloc::Global;
@@ -22,6 +23,36 @@ pub(crate) struct MergePlan {
     pub joins: Vec<Join>,
     /// The arguments, and the values in their place.
     pub stand_ins: Vec<StandIn>,
+}
+
+/// The plan that joins each chain of blocks, by the numbers of what is inside.
+///
+/// # Errors
+/// `Memory`, and `LiveUse` where following what was forwarded to an argument comes back to it.
+fn plan_inside<D: OptDialect>(
+    alloc: Global,
+    program: &Program<D::Operation, D::Block>,
+    op: Ptr<Operation>,
+    start: Start,
+    inside: &Inside,
+) -> Result<Option<MergePlan>, OptError>
+    requires live { IsSome (operation_at program.now op) }
+    requires edges { HasLocalEdgesFrom D.meaning.is_terminator program.now start }
+    requires fits { FitsEdgesFrom D.meaning program.now start }
+    requires numbered { NumbersInside program.now op (numbers_of inside.now) }
+    ensures found { IfOk result (FindsPlan D.meaning program.now op start) }
+    ensures refused { IfErr result (λ e. (e ≡ Memory) ⊎ ((e ≡ LiveUse) × HasCircle D.meaning program.now op start)) }
+{
+    know_tree(program, op);
+    let joins = find_joins::<D>(alloc, program, op, start, inside)?;
+    if joins.is_empty() {
+        return Ok(None);
+    }
+    let found = find_stand_ins::<D>(alloc, program, op, start, inside, joins.as_slice())?;
+    match found {
+        Some(stand_ins) => Ok(Some(MergePlan { joins, stand_ins })),
+        None => Err(OptError::LiveUse),
+    }
 }
 
 /// The plan that joins each chain of blocks of visited SSA regions below an operation at its first block, where looking
@@ -41,15 +72,6 @@ pub(crate) fn find_plan<D: OptDialect>(
     ensures found { IfOk result (FindsPlan D.meaning program.now op start) }
     ensures refused { IfErr result (λ e. (e ≡ Memory) ⊎ ((e ≡ LiveUse) × HasCircle D.meaning program.now op start)) }
 {
-    know_tree(program, op);
     let inside = number_inside(alloc, program, op)?;
-    let joins = find_joins::<D>(alloc, program, op, start, &inside)?;
-    if joins.is_empty() {
-        return Ok(None);
-    }
-    let found = find_stand_ins::<D>(alloc, program, op, start, &inside, joins.as_slice())?;
-    match found {
-        Some(stand_ins) => Ok(Some(MergePlan { joins, stand_ins })),
-        None => Err(OptError::LiveUse),
-    }
+    plan_inside::<D>(alloc, program, op, start, &inside)
 }

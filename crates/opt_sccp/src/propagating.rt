@@ -7,6 +7,7 @@ ghost use Rattle.ir_context.specs.Known.{HasKnownTypes};
 ghost use Rattle.opt_dialect.specs.declared.status.IRStatus.TheVariants.{Unchanged};
 ghost use Rattle.opt_dialect.specs.declared.status.OptError.TheVariants.{CounterFull, UndeterminedOperand};
 ghost use Rattle.opt_facts.specs.ByNumber.{LeadsBelow};
+ghost use Rattle.opt_inside.specs.Numbered.{NumbersInside, numbers_of};
 ghost use Rattle.opt_inside.specs.Occurring.{OfItsTree};
 ghost use Rattle.opt_sccp.specs.Made.{AreTyped, PutsList};
 ghost use Rattle.opt_sccp.specs.Sccp.{IsDecided, IsPartlyPropagated, IsPropagated, IsSccpRefusal, LacksIn, MovesCounterTo};
@@ -18,8 +19,41 @@ use ir_program::{Operation, Program, Ptr};
 use ir_trees::know_tree;
 use opt_dialect::{IRStatus, OptDialect, OptError};
 use opt_facts::best_facts;
-use opt_inside::{know_occurrences, number_inside};
+use opt_inside::{Inside, know_occurrences, number_inside};
 use std::alloc::Global;
+
+/// Which values get constants, and which, by the numbers of what is inside an operation. Nothing is changed.
+///
+/// # Errors
+/// `UndeterminedOperand`, where nothing is found out of an operand that an operation is asked for. There may be no
+/// memory.
+fn decide_inside<D: OptDialect>(
+    alloc: Global,
+    program: &Program<D::Operation, D::Block>,
+    op: Ptr<Operation>,
+    inside: &Inside,
+) -> Result<Vec<Made<D::Constant>>, OptError>
+    requires live { IsSome (operation_at program.now op) }
+    requires edges { LeadsBelow program.now op }
+    requires numbered { NumbersInside program.now op (numbers_of inside.now) }
+    ensures decided { IfOk result (λ made. IsDecided D.meaning program.now op made.items) }
+    ensures known { IfOk result (λ made. (count : ℕ) → HasKnownTypes count program.now
+        → AreTyped D.meaning count made.items) }
+    ensures lacking { result ≡ Err UndeterminedOperand → OfItsTree program.now op (LacksIn D.meaning) }
+    ensures refused { IfErr result IsSccpRefusal }
+    ensures counted { result ≢ Err CounterFull }
+{
+    program.know_lists();
+    program.know_values();
+    know_tree(program, op);
+    know_occurrences(program, op);
+    let facts = best_facts::<D>(alloc, program, op, inside)?;
+    if is_lacking::<D>(program, inside, &facts) {
+        return Err(OptError::UndeterminedOperand);
+    }
+    let made = made_constants::<D>(alloc, program, inside, &facts)?;
+    Ok(made)
+}
 
 /// Which values below an operation get constants, and which. Nothing is changed.
 ///
@@ -40,17 +74,8 @@ fn decide<D: OptDialect>(
     ensures refused { IfErr result IsSccpRefusal }
     ensures counted { result ≢ Err CounterFull }
 {
-    program.know_lists();
-    program.know_values();
-    know_tree(program, op);
-    know_occurrences(program, op);
     let inside = number_inside(alloc, program, op)?;
-    let facts = best_facts::<D>(alloc, program, op, &inside)?;
-    if is_lacking::<D>(program, &inside, &facts) {
-        return Err(OptError::UndeterminedOperand);
-    }
-    let made = made_constants::<D>(alloc, program, &inside, &facts)?;
-    Ok(made)
+    decide_inside::<D>(alloc, program, op, &inside)
 }
 
 /// Tells that where nothing is put in, nothing changes. It does nothing.

@@ -1,8 +1,9 @@
 //! Constants put in for values.
-ghost use Rattle.std.specs.Prelude.{◌≡◌, ◌≢◌, ◌≤◌, ◌+◌, ◌^◌, [], Err, IfErr, IsSome, OnErr, OnOk, length};
+ghost use Rattle.std.specs.Prelude.{◌≡◌, ◌≢◌, ◌≤◌, ◌+◌, ◌^◌, [], ◌∷◌, Err, Some, IfErr, IfOk, IsSome, OnErr, OnOk, length};
 ghost use Rattle.ir_program.specs.Adds.{SomeCame};
 ghost use Rattle.ir_program.specs.Edits.{KeepsValues};
 ghost use Rattle.ir_program.specs.Lists.{IsUnlinkedOperation, regions_in};
+ghost use Rattle.ir_program.specs.Made.{BuildsOperation};
 ghost use Rattle.ir_program.specs.Program.{operation_at};
 ghost use Rattle.ir_program.specs.declared.handles.DefiningEntity.TheVariants.{Op as ByOp};
 ghost use Rattle.ir_context.specs.Known.{IsKnownIn};
@@ -56,6 +57,32 @@ pub fn put_constants<D: OptDialect, T: TypeTable>(
     Ok(())
 }
 
+/// Makes the operation of a constant. It stands in no block.
+///
+/// # Errors
+/// `Memory`, and `CounterFull` where no number of a value is left. Each handle leads to what it led to then.
+fn new_constant<D: OptDialect, T: TypeTable>(
+    alloc: Global,
+    ctx: &mut TypedProgram<D::Operation, D::Block, T>,
+    constant: D::Constant,
+) -> Result<Ptr<Operation>, OptError>
+    requires maker { IsSome (D.meaning.constant constant) }
+    requires known { IsKnownIn (T.type_count ctx.old.types) (D.meaning.constant_type constant) }
+    ensures built { IfOk result (λ p. (content : D.Operation) × (D.meaning.constant constant ≡ Some content)
+        × BuildsOperation ctx.old.program ctx.new.program p content (D.meaning.constant_type constant ∷ []) [] [] 0) }
+    ensures same { OnErr result (LeadsAlike ctx.old.program ctx.new.program) }
+    ensures refused { IfErr result IsShortage }
+    ensures full { result ≡ Err CounterFull → 2 ^ 64 ≤ ctx.old.program.counter + 1 }
+    ensures types { ctx.new.types ≡ ctx.old.types }
+{
+    let Some(payload) = D::constant(alloc, constant)? else {
+        unreachable!()
+    };
+    let ty = D::constant_type(constant);
+    let made = ctx.new_operation(alloc, payload, &[ty], &[], &[], 0)?;
+    Ok(made)
+}
+
 /// Puts a constant in for a value that stands at its definer, in an operation that is new there, and makes all uses of
 /// the value uses of the constant.
 ///
@@ -77,11 +104,7 @@ fn put_one<D: OptDialect, T: TypeTable>(
     ensures types { ctx.new.types ≡ ctx.old.types }
 {
     ctx.program().know_values();
-    let Some(payload) = D::constant(alloc, made.constant)? else {
-        unreachable!()
-    };
-    let ty = D::constant_type(made.constant);
-    let constant = ctx.new_operation(alloc, payload, &[ty], &[], &[], 0)?;
+    let constant = new_constant::<D, T>(alloc, ctx, made.constant)?;
     put_at_definer(ctx, constant, made.value.definer());
     let result = constant.get_result(ctx, 0);
     made.value.replace_all_uses_with(alloc, ctx, result)?;

@@ -67,6 +67,33 @@ fn unreached_blocks<D: Meanings>(
     unreached_among(alloc, inside.blocks.as_slice(), &fates)
 }
 
+/// Finds the blocks inside an operation that nothing reaches, by the numbers of what is inside.
+fn unreached_inside<D: Meanings>(
+    alloc: Global,
+    program: &Program<D::Operation, D::Block>,
+    op: Ptr<Operation>,
+    start: Start,
+    inside: &Inside,
+) -> Result<Unreached, AllocError>
+    requires live { IsSome (operation_at program.now op) }
+    requires start { (p : StartingRegions by_handle) × IsStartIn program.now start p }
+    requires edges { HasLocalEdgesFrom D.meaning.is_terminator program.now start }
+    requires numbered { NumbersInside program.now op (numbers_of inside.now) }
+    ensures found { IfOk result (λ u. AreUnreached D.meaning program.now op start u.blocks.items) }
+    ensures taken { IfOk result (λ u. u.is_taken ≡ true → LosesUses D.meaning program.now op start) }
+    ensures not_taken { IfOk result (λ u. u.is_taken ≡ false → LosesNone D.meaning program.now op start) }
+    ensures within { IfOk result (λ u. u.is_taken ≡ false → TakesWithin program.now (is_listed u.blocks.items)) }
+{
+    know_tree(program, op);
+    know_within(program, op);
+    program.know_lists();
+    program.know_values();
+    know_occurrences(program, op);
+    let blocks = unreached_blocks::<D>(alloc, program, op, start, inside)?;
+    let is_taken = is_taken_outside(alloc, program, inside.values.as_slice(), &blocks)?;
+    Ok(Unreached { blocks, is_taken })
+}
+
 /// Finds the blocks inside an operation that nothing reaches, where looking begins there.
 fn find_unreached<D: Meanings>(
     alloc: Global,
@@ -82,15 +109,8 @@ fn find_unreached<D: Meanings>(
     ensures not_taken { IfOk result (λ u. u.is_taken ≡ false → LosesNone D.meaning program.now op start) }
     ensures within { IfOk result (λ u. u.is_taken ≡ false → TakesWithin program.now (is_listed u.blocks.items)) }
 {
-    know_tree(program, op);
-    know_within(program, op);
-    program.know_lists();
-    program.know_values();
-    know_occurrences(program, op);
     let inside = number_inside(alloc, program, op)?;
-    let blocks = unreached_blocks::<D>(alloc, program, op, start, &inside)?;
-    let is_taken = is_taken_outside(alloc, program, inside.values.as_slice(), &blocks)?;
-    Ok(Unreached { blocks, is_taken })
+    unreached_inside::<D>(alloc, program, op, start, &inside)
 }
 
 /// Removes the blocks of visited SSA regions inside an operation that no path from the entry of their region reaches, with

@@ -1,8 +1,8 @@
-use Rattle.std.proofs.Common.{◌≡◌, inr, List, [], Ok, refl, sym, ap, ◌∙◌, subst}
+use Rattle.std.proofs.Common.{◌≡◌, List, [], Ok, sym, ap, ◌∙◌, subst}
 use Rattle.opt_chains.specs.Chained.{AreChains, StartsSomewhere, IsJoiningPlan}
 use Rattle.opt_chains.specs.declared.merging.Join.{Join}
 use Rattle.opt_merge.proofs.SomeJoined.{empty_list, no_empty, none_joinable, some_joinable, begins_somewhere}
-use Rattle.opt_merge.proofs.plan.find_plan.Goals as goal
+use Rattle.opt_merge.proofs.plan.plan_inside.Goals as goal
 
 pub returns-then-is_empty-clause-found : goal.returns-then-is_empty-clause-found
 returns-then-is_empty-clause-found g c =
@@ -25,6 +25,3 @@ returns-in-Some-clause-found g c =
       some = some_joinable d program c.args.op c.args.start js c.in_ok-joins.ensures.chains some begins c.know_tree.ensures;
       plan = λ p is t stands. subst (λ (l : List Join). IsJoiningPlan d p program t l c.in-Some.stand_ins.items) c.as_slice.ensures.value (c.in_ok-found.ensures.plan c.in-Some.stand_ins (ap Ok c.in-Some.is) p is t stands);
     }
-
-pub returns-clause-refused : goal.returns-clause-refused
-returns-clause-refused g c = inr (refl, c.in_ok-found.ensures.circle (ap Ok c.in-None.is))
