@@ -2,10 +2,10 @@
 ghost use Rattle.std.specs.Prelude.{◌≡◌, IfOk, OnOk, IsSome};
 ghost use Rattle.ir_program.specs.Program.{operation_at};
 
-use crate::playing::finish;
 use ir_core::{
     BasicBlock, Context, GrowError, NewBlock, NewOperation, Operation, Ptr, Region, Room,
 };
+use ir_scripts::finish;
 use ir_scripts::tiny::{Tiny, TinyOp};
 use std::alloc::{AllocError, Global};
 use std::test::Fail;

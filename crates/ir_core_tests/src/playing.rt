@@ -1,7 +1,5 @@
-//! Scripts as tests, and the end of a context.
-use ir_core::Context;
+//! Scripts as tests.
 use ir_scripts::play;
-use ir_scripts::tiny::Tiny;
 use std::alloc::Global;
 use std::process::Abort;
 use std::test::Fail;
@@ -26,6 +24,3 @@ pub fn play_all(rt: &impl Abort, alloc: Global, scripts: &[Script]) -> Result<()
     }
     Ok(())
 }
-
-/// Lets a context go. It stands in a function of its own so that it is proved once.
-pub fn finish(_ctx: Context<Tiny>) {}

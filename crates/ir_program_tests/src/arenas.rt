@@ -15,7 +15,7 @@ fn finish_forest(_forest: Forest<u8, u8, u8>) {}
 fn finish_uses(_uses: Uses<u8>) {}
 
 /// Lets a program go.
-fn finish_program(_program: Program<u32, u64>) {}
+pub fn finish_program(_program: Program<u32, u64>) {}
 
 /// The test of the same name, in a new arena.
 fn a_slot_is_used_again_in(rt: &impl Abort, arena: &mut Arena<u8>) -> Result<(), Fail> {

@@ -1,4 +1,5 @@
 //! Numbers of values that come to an end.
+use crate::arenas::finish_program;
 use ir_base::{GrowError, TypeHandle};
 use ir_program::{Operation, Program, Ptr, Value};
 use std::alloc::Global;
@@ -34,13 +35,10 @@ fn numbers_come_to_an_end_in(
     Ok(())
 }
 
-/// Lets a program go. It stands in a function of its own so that it is proved once.
-fn finish(_program: Program<u32, u64>) {}
-
 #[test]
 fn numbers_come_to_an_end(rt: HostRuntime) -> Result<(), Fail> {
     let mut program: Program<u32, u64> = Program::counting_from(rt.alloc(), u64::MAX - 1);
     let outcome = numbers_come_to_an_end_in(&rt, rt.alloc(), &mut program);
-    finish(program);
+    finish_program(program);
     outcome
 }

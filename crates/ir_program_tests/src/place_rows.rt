@@ -1,11 +1,9 @@
 //! Rows of places that grow where memory is ample.
+use crate::use_tables::finish;
 use ir_entities::{Spot, Uses, insert_place, push_place};
 use std::alloc::Global;
 use std::process::Abort;
 use std::test::Fail;
-
-/// Lets a table go. It stands in a function of its own so that it is proved once.
-fn finish(_uses: Uses<u64>) {}
 
 /// The test of the same name, in a new table.
 fn a_place_is_pushed_in(rt: &impl Abort, alloc: Global, uses: &mut Uses<u64>) -> Result<(), Fail> {

@@ -74,7 +74,7 @@ fn end(rt: &impl Abort, uses: &mut Uses<u64>, definition: usize)
 }
 
 /// Lets a table go. It stands in a function of its own so that it is proved once.
-fn finish(_uses: Uses<u64>) {}
+pub fn finish(_uses: Uses<u64>) {}
 
 /// The test of the same name, in a new table.
 fn numbers_are_used_again_in(rt: &impl Abort, uses: &mut Uses<u64>) -> Result<(), Fail> {

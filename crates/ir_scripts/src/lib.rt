@@ -20,4 +20,4 @@ pub mod tiny;
 mod values;
 mod verifying;
 
-pub use player::{Surprise, play};
+pub use player::{Surprise, finish, play};

@@ -36,8 +36,8 @@ pub fn play<'a>(alloc: Global, script: &'a str) -> Result<Option<Surprise>, Allo
     outcome
 }
 
-/// Lets a context go.
-fn finish(_ctx: Context<Tiny>) {}
+/// Lets a context go. It stands in a function of its own so that it is proved once.
+pub fn finish(_ctx: Context<Tiny>) {}
 
 /// Plays a script in a context.
 fn play_in<'a>(

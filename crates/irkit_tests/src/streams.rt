@@ -6,6 +6,7 @@ use crate::printed::{SUM, SUM_PRINTED};
 use ir_characters::Text;
 use ir_context::Context;
 use irkit_driver::{KitPass, Refusal, Watched, check, load, run};
+use irkit_running::let_go;
 use irkit_streams::{DecodeFault, ReadFault, decode, read_to_end};
 use kit::Kit;
 use std::alloc::{AllocError, Global};
@@ -73,8 +74,10 @@ fn loads(alloc: Global, ctx: &mut Context<Kit>, rest: &[u8], fault: &Option<Refu
 /// Whether a module is loaded into a new context, and a text that is none is refused after it.
 fn loads_one(alloc: Global) -> bool {
     let mut ctx = Context::new(alloc);
-    loads(alloc, &mut ctx, EMPTY, &None)
-        && loads(alloc, &mut ctx, b"", &Some(Refusal::Syntax(1, 1)))
+    let loaded = loads(alloc, &mut ctx, EMPTY, &None)
+        && loads(alloc, &mut ctx, b"", &Some(Refusal::Syntax(1, 1)));
+    let_go(ctx);
+    loaded
 }
 
 /// A module gives its root, and a text that is none doesn't.

@@ -3,6 +3,7 @@ use crate::calls::{does, function, ran, runs_to};
 use crate::passes::{DCE, SCCP, SIMPLIFY};
 use ir_context::Context;
 use irkit_driver::{KitPass, Refusal, Watched, load};
+use irkit_running::let_go;
 use kit::Kit;
 use std::alloc::{AllocError, Global};
 use std::process::Abort;
@@ -62,7 +63,9 @@ fn is_loaded(
 /// Whether loading a text into a new context ends with this fault, or none.
 fn loads(alloc: Global, text: &[u8], fault: &str) -> Result<bool, AllocError> {
     let mut ctx = Context::new(alloc);
-    is_loaded(alloc, &mut ctx, text, fault)
+    let loaded = is_loaded(alloc, &mut ctx, text, fault);
+    let_go(ctx);
+    loaded
 }
 
 /// Whether a check accepts a text, and what is printed of it is accepted.

@@ -1,14 +1,13 @@
-//! The machine: steps over the flat form, with the frames on a stack of their own.
+//! Steps of the machine over the flat form, with the frames on a stack of their own.
 ghost use Rattle.std.specs.Prelude.{◌≡◌, ◌∷◌, ◌-◌, ◌^◌, ◌<◌, ◌≤◌, Some, length, map, reverse, nat_eq, slice_get, option_copied, option_map, IfOk, OnOk};
 ghost use Rattle.kit_ops.specs.Arithmetic.{calc, compare, bit};
-ghost use Rattle.kit_flat.specs.Machine.{bind_all, arguments_of, first_frame, chosen, entered, on_top, resumed, returned, step, run, start};
+ghost use Rattle.kit_flat.specs.Machine.{bind_all, arguments_of, first_frame, chosen, entered, on_top, resumed, returned, step, start};
 ghost use Rattle.kit_flat.specs.View.{numbers_of, block_view, block_in, flat_code, frame_view, state_view};
 ghost use Rattle.kit_flat.specs.Sound.{AreBelow, EdgeOperandsFit, ArgumentsFit, Fetched, results_named, FlatFunctionsFit, IsActive, IsAtInstruction, IsRunning};
-ghost use Rattle.kit_flat.specs.Shows.{TurnShows, BindsNumber, OutcomeShows, along};
+ghost use Rattle.kit_flat.specs.Shows.{TurnShows, BindsNumber, along};
 
 use crate::flat::{FlatEdge, FlatFunction, FlatModule, Instruction};
 use crate::frames::{FlatFrame, bind_list, gather};
-use crate::outcome::Outcome;
 use kit_ops::{Arithmetic, Comparison};
 use std::alloc::{AllocError, Global};
 use std::mem;
@@ -16,9 +15,12 @@ use std::mem;
 /// A run that goes on: the frame of the innermost call, those that wait, the innermost last, and what was emitted.
 #[derive(Drop)]
 pub struct Running {
-    top: FlatFrame,
-    waiting: Vec<FlatFrame>,
-    emissions: Vec<u64>,
+    /// The frame of the innermost call.
+    pub top: FlatFrame,
+    /// Those that wait, the innermost last.
+    pub waiting: Vec<FlatFrame>,
+    /// What was emitted, in order.
+    pub emissions: Vec<u64>,
     /// Numbers on their way from values to values.
     scratch: Vec<u64>,
 }
@@ -135,8 +137,36 @@ fn resume(top: &mut FlatFrame, code: &FlatModule, numbers: &[u64])
 }
 
 impl Running {
+    /// The run of a function with these arguments, of which no step is made yet.
+    ///
+    /// # Errors
+    /// There may be no memory.
+    pub fn begin(
+        alloc: Global,
+        code: &FlatModule,
+        function: usize,
+        arguments: &[u64],
+    ) -> Result<Running, AllocError>
+        requires sound { FlatFunctionsFit code.now.functions.items }
+        requires within { function < length code.now.functions.items }
+        ensures starts { IfOk result (λ running. state_view running
+            ≡ start nat_eq (flat_code code.now.functions.items) function arguments.now) }
+        ensures running { IfOk result (IsRunning code.now.functions.items) }
+    {
+        let top = enter(alloc, code, function, arguments)?;
+        Ok(Running {
+            top,
+            waiting: Vec::new(alloc),
+            emissions: Vec::new(alloc),
+            scratch: Vec::new(alloc),
+        })
+    }
+
     /// One step.
-    fn step(&mut self, alloc: Global, code: &FlatModule) -> Result<Turn, AllocError>
+    ///
+    /// # Errors
+    /// There may be no memory for a frame or for what is emitted.
+    pub fn step(&mut self, alloc: Global, code: &FlatModule) -> Result<Turn, AllocError>
         requires sound { FlatFunctionsFit code.now.functions.items }
         requires running { IsRunning code.now.functions.items self.old }
         ensures { IfOk result (TurnShows code.now.functions.items
@@ -323,54 +353,4 @@ impl Running {
         self.top.index = 0;
         Ok(Turn::On)
     }
-}
-
-/// At most `limit` steps.
-fn drive(
-    alloc: Global,
-    code: &FlatModule,
-    mut running: Running,
-    limit: u64,
-) -> Result<Outcome, AllocError>
-    requires sound { FlatFunctionsFit code.now.functions.items }
-    requires running { IsRunning code.now.functions.items running }
-    ensures { IfOk result (OutcomeShows (run nat_eq (flat_code code.now.functions.items) limit (state_view running))) }
-{
-    let mut left = limit;
-    while left > 0 {
-        left -= 1;
-        match running.step(alloc, code)? {
-            Turn::On => {}
-            Turn::Over(values) => return Ok(Outcome::Ended(values, running.emissions)),
-            Turn::Failed => return Ok(Outcome::Trapped(running.emissions)),
-            Turn::Lost => return Ok(Outcome::Limit(running.emissions)),
-        }
-    }
-    Ok(Outcome::Limit(running.emissions))
-}
-
-/// What a function does with numbers, after at most `limit` steps of the machine.
-///
-/// # Errors
-/// `AllocError` if there is no memory for the frames or for what was emitted.
-pub fn interpret(
-    alloc: Global,
-    code: &FlatModule,
-    function: usize,
-    arguments: &[u64],
-    limit: u64,
-) -> Result<Outcome, AllocError>
-    requires sound { FlatFunctionsFit code.now.functions.items }
-    requires within { function < length code.now.functions.items }
-    ensures { IfOk result (OutcomeShows (run nat_eq (flat_code code.now.functions.items) limit
-        (start nat_eq (flat_code code.now.functions.items) function arguments.now))) }
-{
-    let top = enter(alloc, code, function, arguments)?;
-    let running = Running {
-        top,
-        waiting: Vec::new(alloc),
-        emissions: Vec::new(alloc),
-        scratch: Vec::new(alloc),
-    };
-    drive(alloc, code, running, limit)
 }

@@ -1,4 +1,4 @@
-//! Functions of `kit` in a flat, numbered form, and the machine that runs them.
+//! Functions of `kit` in a flat, numbered form, and the steps of the machine over them.
 #![tactic(auto)]
 
 mod checking;
@@ -11,5 +11,5 @@ mod outcome;
 pub use checking::is_sound;
 pub use flat::{FlatBlock, FlatEdge, FlatFunction, FlatModule, Instruction};
 pub use forming::{FlatForm, instruction};
-pub use interpreter::interpret;
+pub use interpreter::{Running, Turn};
 pub use outcome::Outcome;

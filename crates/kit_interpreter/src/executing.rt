@@ -16,7 +16,8 @@ use ir_context::{ArgumentCalls, Context, ValueCalls};
 use ir_names::Identifier;
 use ir_program::{BasicBlock, Operation, Ptr};
 use kit::Kit;
-use kit_flat::{Outcome, interpret};
+use kit_flat::Outcome;
+use kit_machine::interpret;
 use kit_places::{entry, find_place, width};
 use std::alloc::{AllocError, AllocFailed, Global};
 

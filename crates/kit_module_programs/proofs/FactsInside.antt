@@ -6,13 +6,11 @@ use Rattle.ir_base.specs.declared.types.TypeHandle.{TypeHandle}
 use Rattle.ir_trees.specs.Names.{Names}
 use Rattle.ir_trees.specs.Renames.{names_of}
 use Rattle.ir_trees.specs.Trees.{Head, Sort, Blocks, Regions, Tree, end, operation, block, region, Root}
-use Rattle.opt_solvers.specs.declared.known.Known.{Known}
-use Rattle.opt_solvers.specs.declared.known.Known.TheVariants.{Any}
-use Rattle.opt_solvers.specs.Known.{AtOrBelow, asked, AllBelow, AllAny}
-use Rattle.opt_trees.specs.Facts.{Facts, Asked, FoldClosed, EdgeClosed, BranchClosed, forwarded, EntriesRun}
-use Rattle.opt_trees.specs.Facts.{OperationClosed, IsClosed}
-use Rattle.opt_trees.specs.Occurrences.{Has, Occurrence, BlockOccurrence, Inside, next_region, cons_if, picks}
-use Rattle.opt_trees.specs.Occurrences.{block_occurrences_in, occurrences_of, block_occurrences_of, at_root, defined_in}
+use Rattle.opt_rows.specs.declared.known.Known.{Known}
+use Rattle.opt_rows.specs.declared.known.Known.TheVariants.{Any}
+use Rattle.opt_rows.specs.Known.{AtOrBelow, asked, AllBelow, AllAny}
+use Rattle.opt_trees.specs.Facts.{Facts, Asked, FoldClosed, EdgeClosed, BranchClosed, forwarded, EntriesRun, OperationClosed, IsClosed}
+use Rattle.opt_trees.specs.Occurrences.{Has, Occurrence, BlockOccurrence, Inside, next_region, cons_if, picks, block_occurrences_in, occurrences_of, block_occurrences_of, at_root, defined_in}
 use Rattle.opt_trees.proofs.Defined.{result_defined, argument_defined}
 use Rattle.opt_trees.proofs.Homes.{spot_at}
 use Rattle.opt_trees.proofs.NoneDead.{has-left, has-right}

@@ -7,13 +7,11 @@ use Rattle.ir_trees.specs.Names.{Names}
 use Rattle.ir_trees.specs.Renames.{names_of, rename_defined}
 use Rattle.ir_trees.specs.Searched.{operation_names, heads_in}
 use Rattle.ir_trees.specs.Trees.{Defined, Head, Sort, Operations, Tree, end, operation, block, region, Root}
-use Rattle.opt_solvers.specs.declared.known.Known.TheVariants.{Any}
-use Rattle.opt_solvers.specs.Known.{AtOrBelow, MorePrecise}
+use Rattle.opt_rows.specs.declared.known.Known.TheVariants.{Any}
+use Rattle.opt_rows.specs.Known.{AtOrBelow, MorePrecise}
 use Rattle.opt_trees.specs.Facts.{Facts, EntriesRun, OperationClosed, IsClosed, IsMostPrecise}
-use Rattle.opt_trees.specs.Occurrences.{Has, Occurrence, BlockOccurrence, inner, occurrences_of, block_occurrences_of}
-use Rattle.opt_trees.specs.Occurrences.{at_root, defined_in}
-use Rattle.opt_trees.specs.Sccp.{Old, fresh, IsResult, IsArgument, Gets, AreMadeConstants, used_as, put_one, put_results}
-use Rattle.opt_trees.specs.Sccp.{put_arguments, old_head, old_label, put, put_root, IsSccp}
+use Rattle.opt_trees.specs.Occurrences.{Has, Occurrence, BlockOccurrence, inner, occurrences_of, block_occurrences_of, at_root, defined_in}
+use Rattle.opt_trees.specs.Sccp.{Old, fresh, IsResult, IsArgument, Gets, AreMadeConstants, used_as, put_one, put_results, put_arguments, old_head, old_label, put, put_root, IsSccp}
 use Rattle.opt_trees.proofs.Defined.{result_defined, argument_defined, definer}
 use Rattle.opt_trees.proofs.Lists.{none_some, map-map, has-map, has-from_map}
 use Rattle.opt_trees.proofs.NoneDead.{has-left, has-right, true_false}

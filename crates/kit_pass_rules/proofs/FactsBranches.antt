@@ -28,7 +28,7 @@ use Rattle.kit_pass_rules.proofs.Located.{Located}
 use Rattle.kit_pass_rules.proofs.PutIn.{append_assoc}
 use Rattle.kit_pass_rules.proofs.Segments.{condition_of, first_segment, second_segment, first_is}
 use Rattle.kit_pass_rules.proofs.Walk.{OccurrenceOf, BlockOf, block_of, block_here}
-use Rattle.opt_solvers.specs.Known.{asked}
+use Rattle.opt_rows.specs.Known.{asked}
 use Rattle.opt_trees.specs.Facts.{Facts, BranchClosed, forwarded}
 use Rattle.opt_trees.specs.Occurrences.{Has, picks, cons_if, occurrences_of, block_occurrences_of}
 use Rattle.opt_trees.proofs.Lists.{some_same}

@@ -10,7 +10,7 @@ use Rattle.ir_trees.specs.Trees.{Defined}
 use Rattle.kit.specs.Meaning as kit_meaning
 use Rattle.kit.specs.Meaning.{KitOperation, KitBlock, kit, calculated, compared, value_of, if_of_type, fold_of}
 use Rattle.kit_checks.specs.Rules as rules
-use Rattle.kit_checks.specs.Words.{types_of, IsBit, Every}
+use Rattle.kit_checks.specs.Words.{types_of}
 use Rattle.kit_checks.specs.Words as words
 use Rattle.kit_checks.specs.declared.rule.Rule.TheVariants as rule
 use Rattle.kit_ops.specs.declared.attributes.IntegerAttr.{IntegerAttr}
@@ -28,7 +28,7 @@ use Rattle.kit_pass_rules.proofs.FactsFit.{Right, Tests, of_type, of_integer, ca
 use Rattle.kit_pass_rules.proofs.Located.{Located}
 use Rattle.kit_pass_rules.proofs.Walk.{OccurrenceOf}
 use Rattle.kit_views.specs.Reading.{integer_of}
-use Rattle.opt_solvers.specs.Known.{asked}
+use Rattle.opt_rows.specs.Known.{asked}
 use Rattle.opt_trees.specs.Facts.{Facts, FoldClosed}
 use Rattle.opt_trees.specs.Occurrences.{Has, occurrences_of}
 use Rattle.opt_trees.proofs.Lists.{some_same, none_some}

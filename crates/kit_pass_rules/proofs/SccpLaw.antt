@@ -36,8 +36,8 @@ use Rattle.kit_pass_rules.proofs.SccpMore.{rule_module, rule_ends, rule_types, r
 use Rattle.kit_pass_rules.proofs.SccpRules.{rule_root, rule_function, rule_holds, rule_values, rule_visible}
 use Rattle.kit_pass_rules.proofs.SccpSee.{Fits}
 use Rattle.kit_views.specs.Reading.{integer_of}
-use Rattle.opt_solvers.specs.declared.known.Known.TheVariants.{Undetermined, One}
-use Rattle.opt_solvers.specs.Known.{AtOrBelow, asked}
+use Rattle.opt_rows.specs.declared.known.Known.TheVariants.{Undetermined, One}
+use Rattle.opt_rows.specs.Known.{AtOrBelow, asked}
 use Rattle.opt_trees.specs.Facts.{Facts, IsClosed, IsMostPrecise, FoldClosed, BranchClosed}
 use Rattle.opt_trees.specs.Occurrences.{Has, block_occurrences_of}
 use Rattle.opt_trees.specs.Sccp.{Gets, IsArgument, IsResult, fresh}

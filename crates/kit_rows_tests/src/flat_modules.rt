@@ -1,7 +1,6 @@
 //! Flat modules, built by calls.
-use kit_flat::{
-    FlatBlock, FlatEdge, FlatFunction, FlatModule, Instruction, Outcome, interpret, is_sound,
-};
+use kit_flat::{FlatBlock, FlatEdge, FlatFunction, FlatModule, Instruction, Outcome, is_sound};
+use kit_machine::interpret;
 use kit_ops::{Arithmetic, Comparison};
 use std::alloc::{AllocError, Global};
 

@@ -140,10 +140,15 @@ fn after_in(
     Ok(written(alloc, ctx, root)?)
 }
 
+/// Lets a context go.
+fn finish(_ctx: Context<Kit>) {}
+
 /// What the optimisations make of a module, as `written` writes it.
 pub fn after(alloc: Global, text: &str, passes: &[Pass]) -> Result<String, Unread> {
     let mut ctx = Context::new(alloc);
-    after_in(alloc, &mut ctx, text, passes)
+    let words = after_in(alloc, &mut ctx, text, passes);
+    finish(ctx);
+    words
 }
 
 /// What a run answers, in words, once the module is read into a context and optimised.
@@ -163,7 +168,9 @@ fn answer_in(
 /// What a run answers, in words, once the module is optimised.
 pub fn answer(alloc: Global, text: &str, passes: &[Pass], run: Run) -> Result<String, Unread> {
     let mut ctx = Context::new(alloc);
-    answer_in(alloc, &mut ctx, text, passes, run)
+    let words = answer_in(alloc, &mut ctx, text, passes, run);
+    finish(ctx);
+    words
 }
 
 /// A verdict in words.
@@ -176,37 +183,35 @@ fn words_of_verdict(alloc: Global, verdict: Result<(), RuleFault>) -> Result<Str
     Ok(text)
 }
 
-/// The verdict on a module that is read into a context.
-fn verdict_in(
-    alloc: Global,
-    ctx: &mut Context<Kit>,
-    text: &str,
-) -> Result<Result<(), RuleFault>, Unread> {
+/// The verdict on a module that is read into a context, in words.
+fn verdict_in(alloc: Global, ctx: &mut Context<Kit>, text: &str) -> Result<String, Unread> {
     let module = read(alloc, ctx, text)?;
-    verdict_on(alloc, ctx, module.root)
+    words_of_verdict(alloc, verdict_on(alloc, ctx, module.root)?)
 }
 
 /// The verdict on a module, in words.
 pub fn verdict(alloc: Global, text: &str) -> Result<String, Unread> {
     let mut ctx = Context::new(alloc);
-    let verdict = verdict_in(alloc, &mut ctx, text)?;
-    words_of_verdict(alloc, verdict)
+    let words = verdict_in(alloc, &mut ctx, text);
+    finish(ctx);
+    words
 }
 
-/// The verdict on the first function of a module that is read into a context, as if it were a module.
+/// The verdict on the first function of a module that is read into a context, as if it were a module, in words.
 fn function_verdict_in(
     alloc: Global,
     ctx: &mut Context<Kit>,
     text: &str,
-) -> Result<Result<(), RuleFault>, Unread> {
+) -> Result<String, Unread> {
     let module = read(alloc, ctx, text)?;
     let function = module.functions.first().ok_or(Unread::Text)?;
-    verdict_on(alloc, ctx, *function)
+    words_of_verdict(alloc, verdict_on(alloc, ctx, *function)?)
 }
 
 /// The verdict on the first function of a module, as if it were a module, in words.
 pub fn function_verdict(alloc: Global, text: &str) -> Result<String, Unread> {
     let mut ctx = Context::new(alloc);
-    let verdict = function_verdict_in(alloc, &mut ctx, text)?;
-    words_of_verdict(alloc, verdict)
+    let words = function_verdict_in(alloc, &mut ctx, text);
+    finish(ctx);
+    words
 }

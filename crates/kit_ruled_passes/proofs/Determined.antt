@@ -12,14 +12,11 @@ use Rattle.ir_trees.specs.Renames.{names_of}
 use Rattle.ir_trees.specs.Stands.{by_handle}
 use Rattle.ir_trees.specs.Trees.{Sort, Operations, Blocks, Regions, end, operation, block, region}
 use Rattle.opt_inside.proofs.Closed.{blocks_below}
-use Rattle.opt_solvers.specs.declared.known.Known.{Known}
-use Rattle.opt_solvers.specs.declared.known.Known.TheVariants.{Undetermined, One, Any}
-use Rattle.opt_solvers.specs.Known.{AtOrBelow, AllBelow, AllAny, and_known, asked, answer}
-use Rattle.opt_trees.specs.Facts.{Facts, Asked, FoldClosed, BranchClosed, IsClosed, IsMostPrecise, IsLacking}
-use Rattle.opt_trees.specs.Facts.{EntriesRun}
-use Rattle.opt_trees.specs.Facts.{forwarded}
-use Rattle.opt_trees.specs.Occurrences.{Has, inner, next_block, next_region, at_root, occurrences_in, occurrences_of}
-use Rattle.opt_trees.specs.Occurrences.{block_occurrences_in, block_occurrences_of, types_of}
+use Rattle.opt_rows.specs.declared.known.Known.{Known}
+use Rattle.opt_rows.specs.declared.known.Known.TheVariants.{Undetermined, One, Any}
+use Rattle.opt_rows.specs.Known.{AtOrBelow, AllBelow, AllAny, and_known, asked, answer}
+use Rattle.opt_trees.specs.Facts.{Facts, Asked, FoldClosed, BranchClosed, IsClosed, IsMostPrecise, IsLacking, EntriesRun, forwarded}
+use Rattle.opt_trees.specs.Occurrences.{Has, inner, next_block, next_region, at_root, occurrences_in, occurrences_of, block_occurrences_in, block_occurrences_of, types_of}
 use Rattle.opt_trees.proofs.NoneDead.{has-append, has-left, has-right}
 use Rattle.std.proofs.lemmas.List.{length-map}
 use Rattle.kit.specs.Lawful.{kit_lawful}

@@ -8,17 +8,14 @@ use Rattle.ir_trees.specs.Names.{Names}
 use Rattle.ir_trees.specs.Renames.{names_of, rename_defined}
 use Rattle.ir_trees.specs.Trees.{Defined, Head, Label, Root}
 use Rattle.opt_trees.specs.Dce.{ForwardsTo}
-use Rattle.opt_trees.specs.Occurrences.{Has, Occurrence, BlockOccurrence, at_root, occurrences_of, block_occurrences_of}
-use Rattle.opt_trees.specs.Occurrences.{defined_in}
-use Rattle.opt_solvers.specs.declared.known.Known.{Known}
-use Rattle.opt_solvers.specs.declared.known.Known.TheVariants as known
+use Rattle.opt_trees.specs.Occurrences.{Has, Occurrence, BlockOccurrence, at_root, occurrences_of, block_occurrences_of, defined_in}
+use Rattle.opt_rows.specs.declared.known.Known.{Known}
+use Rattle.opt_rows.specs.declared.known.Known.TheVariants as known
 use Rattle.opt_trees.specs.Facts.{Facts, IsMostPrecise}
-use Rattle.opt_trees.specs.Sccp.{Name, Old, New, fresh, IsResult, IsArgument, AreMadeConstants, IsSccp, used_as, constant_head}
-use Rattle.opt_trees.specs.Sccp.{old_head, put, put_root}
+use Rattle.opt_trees.specs.Sccp.{Name, Old, New, fresh, IsResult, IsArgument, AreMadeConstants, IsSccp, used_as, constant_head, old_head, put, put_root}
 use Rattle.opt_trees.proofs.Defined.{result_defined, argument_defined}
 use Rattle.opt_trees.proofs.Lists.{some_same, names-map, length-map, has-from_map}
-use Rattle.opt_trees.proofs.Put.{Constant, WasOld, IsThere, operation_was, block_was, result_there, argument_there}
-use Rattle.opt_trees.proofs.Put.{value_is, value_was}
+use Rattle.opt_trees.proofs.Put.{Constant, WasOld, IsThere, operation_was, block_was, result_there, argument_there, value_is, value_was}
 use Rattle.kit_ops.specs.declared.attributes.IntegerAttr.{IntegerAttr}
 use Rattle.kit_ops.specs.declared.attributes.KitAttr.TheVariants as attrs
 use Rattle.kit_ops.specs.declared.kinds.KitOp.{KitOp}

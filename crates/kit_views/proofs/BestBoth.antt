@@ -8,9 +8,9 @@ use Rattle.ir_names.specs.declared.kinds.Signedness.TheVariants.{Signless, Signe
 use Rattle.ir_names.specs.contracts.kinds.SignednessPartialEq.TheImpl as of_signs
 use Rattle.ir_trees.specs.Names.{Names}
 use Rattle.ir_trees.specs.Trees.{Head, Blocks, Tree, end, region}
-use Rattle.opt_solvers.specs.declared.known.Known.{Known}
-use Rattle.opt_solvers.specs.declared.known.Known.TheVariants as known
-use Rattle.opt_solvers.specs.Known as tree
+use Rattle.opt_rows.specs.declared.known.Known.{Known}
+use Rattle.opt_rows.specs.declared.known.Known.TheVariants as known
+use Rattle.opt_rows.specs.Known as tree
 use Rattle.opt_trees.specs.Facts as trees
 use Rattle.opt_trees.specs.Occurrences.{Has, defined_in}
 use Rattle.opt_trees.proofs.Lists.{some_same, none_some}

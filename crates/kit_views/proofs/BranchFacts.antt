@@ -6,15 +6,15 @@ use Rattle.ir_base.specs.declared.types.TypeHandle.{TypeHandle}
 use Rattle.ir_trees.specs.Names.{Names}
 use Rattle.ir_trees.specs.Renames.{names_of}
 use Rattle.ir_trees.specs.Trees.{Head, Blocks, Tree, end, region}
-use Rattle.opt_solvers.specs.declared.known.Known.TheVariants as known
-use Rattle.opt_solvers.specs.Known as tree
-use Rattle.opt_solvers.specs.Known.{asked}
+use Rattle.opt_rows.specs.declared.known.Known.TheVariants as known
+use Rattle.opt_rows.specs.Known as tree
+use Rattle.opt_rows.specs.Known.{asked}
 use Rattle.opt_trees.specs.Facts as trees
 use Rattle.opt_trees.specs.Facts.{forwarded, IsFeasible}
 use Rattle.opt_trees.specs.Occurrences.{Has, Occurrence, BlockOccurrence, occurrences_of, block_occurrences_of, defined_in, picks}
 use Rattle.opt_trees.proofs.Lists.{some_same, none_some}
 use Rattle.opt_trees.proofs.Defined.{argument_defined}
-use Rattle.kit_behaviour.specs.Facts.{Fact, Undetermined, Unknown, Knows, Lacks, Numbers, Open, knows_more, knows, all_forwarded, branch_knows, BranchClosedIn, EdgeClosedIn}
+use Rattle.kit_behaviour.specs.Facts.{Undetermined, Knows, Lacks, Numbers, Open, knows_more, knows, all_forwarded, branch_knows, BranchClosedIn, EdgeClosedIn}
 use Rattle.kit_behaviour.specs.Facts as flat
 use Rattle.kit_behaviour.specs.Machine.{AllEdges, Edge, Select, Plain, Nonzero, Cases, chosen, edge_at, Fun}
 use Rattle.kit_behaviour.specs.Rules.{EdgeFits}

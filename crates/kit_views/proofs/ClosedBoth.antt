@@ -7,10 +7,10 @@ use Rattle.ir_names.specs.Dictionary.{attribute_at}
 use Rattle.ir_trees.specs.Names.{Names}
 use Rattle.ir_trees.specs.Renames.{names_of}
 use Rattle.ir_trees.specs.Trees.{Defined, Head, Blocks, Tree, end, block, region}
-use Rattle.opt_solvers.specs.declared.known.Known.{Known}
-use Rattle.opt_solvers.specs.declared.known.Known.TheVariants as known
-use Rattle.opt_solvers.specs.Known as tree
-use Rattle.opt_solvers.specs.Known.{asked, answer, AllAny}
+use Rattle.opt_rows.specs.declared.known.Known.{Known}
+use Rattle.opt_rows.specs.declared.known.Known.TheVariants as known
+use Rattle.opt_rows.specs.Known as tree
+use Rattle.opt_rows.specs.Known.{asked, answer, AllAny}
 use Rattle.opt_trees.specs.Facts as trees
 use Rattle.opt_trees.specs.Facts.{FoldClosed, EntriesRun}
 use Rattle.opt_trees.specs.Occurrences.{Has, types_of, Occurrence, occurrences_of, block_occurrences_of, defined_in}

@@ -2,10 +2,10 @@
 use Rattle.std.proofs.Common.{◌≡◌, ⊎_elim, inl, inr, ℕ, zero, suc, ◌+◌, List, [], ◌∷◌, map, length, Option, Some, None, refl, sym, ap, ◌∙◌, subst, arith}
 use Rattle.std.specs.Prelude.{slice_get}
 use Rattle.ir_base.specs.declared.types.TypeHandle.{TypeHandle}
-use Rattle.opt_solvers.specs.declared.known.Known.{Known}
-use Rattle.opt_solvers.specs.declared.known.Known.TheVariants as known
-use Rattle.opt_solvers.specs.Known as tree
-use Rattle.opt_solvers.specs.Known.{and_known, asked}
+use Rattle.opt_rows.specs.declared.known.Known.{Known}
+use Rattle.opt_rows.specs.declared.known.Known.TheVariants as known
+use Rattle.opt_rows.specs.Known as tree
+use Rattle.opt_rows.specs.Known.{and_known, asked}
 use Rattle.opt_trees.specs.Occurrences.{Has, cons_if, picks}
 use Rattle.opt_trees.proofs.Lists.{some_same, none_some}
 use Rattle.kit_behaviour.specs.Facts.{Fact, Undetermined, Unknown, Knows, Lacks, Numbers, Open, knows_more, knows, unless_lacking}

@@ -7,12 +7,12 @@ use Rattle.ir_trees.specs.Names.{Names}
 use Rattle.ir_trees.specs.Renames.{names_of}
 use Rattle.ir_trees.specs.Searched.{AreDistinct, operation_names, heads_in}
 use Rattle.ir_trees.specs.Trees.{Head, Blocks, Tree, end, region, Root}
-use Rattle.opt_solvers.specs.declared.known.Known.{Known}
-use Rattle.opt_solvers.specs.declared.known.Known.TheVariants as known
+use Rattle.opt_rows.specs.declared.known.Known.{Known}
+use Rattle.opt_rows.specs.declared.known.Known.TheVariants as known
 use Rattle.opt_trees.specs.Facts as trees
 use Rattle.opt_trees.specs.Occurrences.{Has, Occurrence, occurrences_in, occurrences_of, defined_in}
 use Rattle.opt_trees.specs.Sccp as sccp
-use Rattle.opt_trees.specs.Sccp.{Name, fresh, IsResult, IsArgument, AreMadeConstants, put, put_root, IsSccp}
+use Rattle.opt_trees.specs.Sccp.{fresh, IsResult, IsArgument, AreMadeConstants, put, put_root, IsSccp}
 use Rattle.opt_trees.proofs.Lists.{some_same, none_some}
 use Rattle.opt_trees.proofs.Defined.{result_defined, argument_defined}
 use Rattle.opt_trees.proofs.NoneDead.{has-left}

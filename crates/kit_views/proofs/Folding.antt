@@ -2,10 +2,10 @@
 use Rattle.std.proofs.Common.{◌≡◌, ℕ, ◌^◌, ◌<◌, ◌≤◌, Bool, true, false, List, [], ◌∷◌, Option, Some, None, refl, sym, ap, ◌∙◌, subst, arith}
 use Rattle.std.specs.Prelude.{nat_le, option_map, if◌then◌else◌, ◌&&◌}
 use Rattle.ir_base.specs.declared.types.TypeHandle.{TypeHandle}
-use Rattle.opt_solvers.specs.declared.known.Known.{Known}
-use Rattle.opt_solvers.specs.declared.known.Known.TheVariants as known
-use Rattle.opt_solvers.specs.Known.{asked}
-use Rattle.kit_behaviour.specs.Facts.{Fact, Undetermined, Unknown, fold_known, folds_to}
+use Rattle.opt_rows.specs.declared.known.Known.{Known}
+use Rattle.opt_rows.specs.declared.known.Known.TheVariants as known
+use Rattle.opt_rows.specs.Known.{asked}
+use Rattle.kit_behaviour.specs.Facts.{Fact, Unknown, fold_known, folds_to}
 use Rattle.kit_behaviour.specs.Facts as flat
 use Rattle.kit_behaviour.specs.Machine.{Arith, Calculated, Compared, calc}
 use Rattle.kit_ops.specs.Arithmetic.{compare, bit}

@@ -15,9 +15,9 @@ use Rattle.ir_trees.specs.Trees.{Regions, Tree}
 use Rattle.opt_inside.proofs.Around.{HasLists}
 use Rattle.opt_inside.specs.Numbered.{Numbers, NumbersInside}
 use Rattle.opt_inside.specs.Occurring.{Found, FoundBlock, EachFound, EachBlock, BlockNamesApart, IsBelowRoot, IsBlockBelow, IsFound, IsBlockFound, IsOccurrence, IsBlockOccurrence, SiteIsFound, OperationsFound}
-use Rattle.opt_solvers.specs.Chains.{IsJoinedTo}
-use Rattle.opt_solvers.specs.ChainsJoined.{AreJoined}
-use Rattle.opt_solvers.specs.declared.chains.ChainBlock.{ChainBlock}
+use Rattle.opt_rows.specs.Chains.{IsJoinedTo}
+use Rattle.opt_steps.specs.ChainsJoined.{AreJoined}
+use Rattle.opt_rows.specs.declared.chains.ChainBlock.{ChainBlock}
 use Rattle.opt_trees.specs.Dialect.{Dialect}
 use Rattle.opt_trees.specs.Occurrences.{OperationsApart, occurrences_of, block_occurrences_of}
 use Rattle.opt_trees.specs.Simplify.{StartingRegions, Joinable, IsReached, IsVisited, IsEntered, is_bare, is_empty, is_end}

@@ -9,7 +9,7 @@ use Rattle.ir_program.specs.declared.handles.Region.{Region as ARegion}
 use Rattle.ir_program.specs.declared.handles.BasicBlock.{BasicBlock}
 use Rattle.ir_trees.specs.Searched.{Lists}
 use Rattle.ir_trees.specs.Stands.{in_program}
-use Rattle.opt_solvers.specs.declared.chains.ChainBlock.{ChainBlock}
+use Rattle.opt_rows.specs.declared.chains.ChainBlock.{ChainBlock}
 use Rattle.opt_trees.specs.Dialect.{Dialect}
 use Rattle.opt_reach.specs.declared.fates.Fate.{Fate}
 use Rattle.opt_reach.specs.declared.fates.Fate.TheVariants.{Entered}

@@ -21,7 +21,8 @@ use ir_trees::know_tree;
 use opt_dialect::Meanings;
 use opt_inside::{Inside, know_occurrences};
 use opt_reach::{Fate, Start, find_fates};
-use opt_solvers::{ChainBlock, joined};
+use opt_rows::ChainBlock;
+use opt_steps::joined;
 use std::alloc::{AllocError, Global};
 
 /// The number of a block, if it has one.

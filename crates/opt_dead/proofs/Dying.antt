@@ -12,10 +12,10 @@ use Rattle.ir_trees.specs.Stands.{by_handle, in_program, ProgramTree}
 use Rattle.opt_trees.specs.Dialect.{Dialect}
 use Rattle.opt_trees.specs.Occurrences.{Has, occurrences_of}
 use Rattle.opt_trees.specs.Dce.{TreeSurroundings, Item, Whole, Slot, IsDead, dies, IsExcused, by_operation, by_argument}
-use Rattle.opt_solvers.specs.declared.dead_problem.Operand.{Operand}
-use Rattle.opt_solvers.specs.DeadCandidates.{Candidate}
-use Rattle.opt_solvers.specs.declared.dead_problem.DeadProblem.{DeadProblem}
-use Rattle.opt_solvers.specs.Dead.{NumberedItem as Number, Whole as WholeAt, Slot as SlotAt, IsInOperation, itself as alone, further, IsDeadItem as IsDeadAt, dies as dies_at, IsExcusedOperand as IsExcusedAt, by_operation as by_operation_at, by_argument as by_argument_at}
+use Rattle.opt_rows.specs.declared.dead_problem.Operand.{Operand}
+use Rattle.opt_rows.specs.DeadCandidates.{Candidate}
+use Rattle.opt_rows.specs.declared.dead_problem.DeadProblem.{DeadProblem}
+use Rattle.opt_rows.specs.Dead.{NumberedItem as Number, Whole as WholeAt, Slot as SlotAt, IsInOperation, itself as alone, further, IsDeadItem as IsDeadAt, dies as dies_at, IsExcusedOperand as IsExcusedAt, by_operation as by_operation_at, by_argument as by_argument_at}
 use Rattle.opt_inside.specs.Numbered.{Numbers}
 use Rattle.opt_inside.specs.Occurring.{Found}
 use Rattle.opt_dead.specs.Plans.{SaysPins}

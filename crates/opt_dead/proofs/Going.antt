@@ -16,12 +16,12 @@ use Rattle.ir_trees.specs.Stands.{by_handle, in_program, ProgramTree}
 use Rattle.opt_trees.specs.Dialect.{Dialect}
 use Rattle.opt_trees.specs.Occurrences.{Has}
 use Rattle.opt_trees.specs.Dce.{TreeSurroundings, Gone, Item, Whole, Slot, May, IsDead, dies, IsLost, IsGoneExactly}
-use Rattle.opt_solvers.specs.declared.dead_problem.Argument.{Argument}
-use Rattle.opt_solvers.specs.declared.dead_problem.Operand.{Operand}
-use Rattle.opt_solvers.specs.DeadCandidates.{Candidate}
-use Rattle.opt_solvers.specs.declared.dead_problem.DeadProblem.{DeadProblem}
-use Rattle.opt_solvers.specs.declared.dead_problem.DeadItems.{DeadItems}
-use Rattle.opt_solvers.specs.Dead.{NumberedItem as Number, Whole as WholeAt, Slot as SlotAt, ItemMayGo as MayAt, IsDeadItem as IsDeadAt, dies as dies_at}
+use Rattle.opt_rows.specs.declared.dead_problem.Argument.{Argument}
+use Rattle.opt_rows.specs.declared.dead_problem.Operand.{Operand}
+use Rattle.opt_rows.specs.DeadCandidates.{Candidate}
+use Rattle.opt_rows.specs.declared.dead_problem.DeadProblem.{DeadProblem}
+use Rattle.opt_rows.specs.declared.dead_problem.DeadItems.{DeadItems}
+use Rattle.opt_rows.specs.Dead.{NumberedItem as Number, Whole as WholeAt, Slot as SlotAt, ItemMayGo as MayAt, IsDeadItem as IsDeadAt, dies as dies_at}
 use Rattle.opt_inside.specs.Numbered.{Numbers}
 use Rattle.opt_dead.specs.Plans.{SaysPins}
 use Rattle.opt_dead.specs.Problems.{Forwards}

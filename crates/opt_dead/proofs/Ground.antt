@@ -17,7 +17,7 @@ use Rattle.ir_trees.specs.Renames.{names_of}
 use Rattle.ir_trees.specs.Stands.{in_program, defined_by, ProgramTree, StandsFor}
 use Rattle.opt_trees.specs.Dialect.{Dialect, Lawful}
 use Rattle.opt_trees.specs.Occurrences.{Has, OperationsApart, occurrences_of, block_occurrences_of, defined_in}
-use Rattle.opt_solvers.specs.declared.dead_problem.DeadProblem.{DeadProblem}
+use Rattle.opt_rows.specs.declared.dead_problem.DeadProblem.{DeadProblem}
 use Rattle.opt_inside.specs.Edges.{HasLocalEdgesBelow}
 use Rattle.opt_inside.specs.Numbered.{Numbers, NumbersInside}
 use Rattle.opt_inside.specs.Occurring.{Found, FoundBlock, IsBelowRoot, IsBlockBelow, IsDefinedBelow, IsOccurrence, IsBlockOccurrence}
@@ -51,10 +51,6 @@ pub record Occurs {O B : Type 0} (c : Program O B) (op : Ptr Operation) (t : Pro
 
 pub at_index : {X Y : Type 0} (xs : List X) (ys : List Y) (i : ℕ) (x : X) → slice_get xs i ≡ Some x → length ys ≡ length xs → (y : Y) × (slice_get ys i ≡ Some y)
 at_index xs ys i x h e = ⊎_elim (λ w. (w.0, w.2)) (λ w. absurd (omega (arith, slice_get_within xs i x h, w.0, e))) (slice_get_cases ys i).1
-
-pub the_some : {X : Type 0} (o : Option X) → IsSome o → (x : X) × (o ≡ Some x)
-the_some None h = cc
-the_some (Some x) h = (x, refl)
 
 pub none_or : {X : Type 0} (o : Option X) → (o ≡ None) ⊎ ((x : X) × (o ≡ Some x))
 none_or None = inl refl

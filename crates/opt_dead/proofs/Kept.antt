@@ -3,7 +3,7 @@ use Rattle.std.proofs.Common.{◌≡◌, ◌⊎◌, inl, inr, ⊎_elim, ℕ, ◌
 use Rattle.std.proofs.lemmas.List.Elements.{Contains-push, Contains-push_cases, Contains-append_left}
 use Rattle.std.proofs.lemmas.Option.{same_Some}
 use Rattle.ir_program.specs.declared.handles.Value.{Value}
-use Rattle.opt_solvers.specs.declared.dead_problem.Definer.{Definer}
+use Rattle.opt_rows.specs.declared.dead_problem.Definer.{Definer}
 use Rattle.opt_inside.specs.Numbered.{Numbers}
 use Rattle.opt_dead.specs.Problems.{IsDefiner, ListsDefiners, KeepsIf}
 

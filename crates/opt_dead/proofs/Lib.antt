@@ -15,7 +15,6 @@ pub mod Noting
 pub mod Kept
 pub mod Picking
 pub mod There
-pub mod Removing
 pub mod Edges
 pub mod Marking
 pub mod Before

@@ -18,15 +18,16 @@ use Rattle.ir_trees.specs.Stands.{by_handle, in_program, ProgramTree}
 use Rattle.opt_trees.specs.Dialect.{Dialect}
 use Rattle.opt_trees.specs.Occurrences.{Has, occurrences_of, defined_in}
 use Rattle.opt_trees.specs.Dce.{Item, Whole, Slot, Touches, IsUseOfItem}
-use Rattle.opt_solvers.specs.declared.dead_problem.Definer.{Definer}
-use Rattle.opt_solvers.specs.declared.dead_problem.Definer.TheVariants.{Result, Argument as ByArgument, Outside}
-use Rattle.opt_solvers.specs.declared.dead_problem.DeadProblem.{DeadProblem}
-use Rattle.opt_solvers.specs.Dead.{NumberedItem as Number, Whole as WholeAt, Slot as SlotAt, IsInner, IsBelow, ItemMakes, CountsForItem}
+use Rattle.opt_rows.specs.declared.dead_problem.Definer.{Definer}
+use Rattle.opt_rows.specs.declared.dead_problem.Definer.TheVariants.{Result, Argument as ByArgument, Outside}
+use Rattle.opt_rows.specs.declared.dead_problem.DeadProblem.{DeadProblem}
+use Rattle.opt_rows.specs.Dead.{NumberedItem as Number, Whole as WholeAt, Slot as SlotAt, IsInner, IsBelow, ItemMakes, CountsForItem}
 use Rattle.opt_inside.specs.Numbered.{Numbers}
 use Rattle.opt_inside.specs.Occurring.{Found}
 use Rattle.opt_inside.proofs.Around.{inside_both, not_root}
 use Rattle.opt_dead.specs.Problems.{IsDefiner}
-use Rattle.opt_dead.proofs.Ground.{Ground, Occurs, the_some, has_value_in, value_in_has, results_here, arguments_here}
+use Rattle.opt_dead.proofs.Ground.{Ground, Occurs, has_value_in, value_in_has, results_here, arguments_here}
+use Rattle.opt_dialect.proofs.Removing.{the_some}
 use Rattle.opt_dead.proofs.Within.{block_around, row_of, below_of, number_of, its_block, below_in_block, below_is, below_inside, argument_is, argument_inside}
 
 module _ {O B A : Type 0} {d : Dialect (in_program O B) A} {c : Program O B} {op : Ptr Operation} {n : Numbers} {problem : DeadProblem} (g : Ground d c op n problem) where

@@ -1,5 +1,5 @@
 -- What may go, what is kept and what is forwarded, by numbers and in a tree.
-use Rattle.std.proofs.Common.{◌≡◌, inl, inr, ⊎_elim, ℕ, zero, suc, Bool, true, false, List, [], ◌∷◌, Some, map, length, slice_get, option_map, unwrap_or, refl, sym, ap, subst, ◌∙◌}
+use Rattle.std.proofs.Common.{◌≡◌, inl, inr, ⊎_elim, ℕ, zero, suc, true, List, [], ◌∷◌, Some, map, length, slice_get, option_map, unwrap_or, refl, sym, ap, subst, ◌∙◌}
 use Rattle.std.proofs.lemmas.Option.{same_Some}
 use Rattle.ir_program.specs.Program.{Program, OperationView, TypedValue, IsLiveValue, operation_at, arguments_at, value_in}
 use Rattle.ir_program.specs.Lists.{StandsInside, regions_in, blocks_in}
@@ -19,23 +19,20 @@ use Rattle.ir_trees.proofs.Members.{at_has, has_at}
 use Rattle.opt_trees.specs.Dialect.{Dialect}
 use Rattle.opt_trees.specs.Occurrences.{Has, Spot, occurrences_of}
 use Rattle.opt_trees.specs.Dce.{TreeSurroundings, Item, Whole, Slot, Touches, May, IsKept, ForwardsTo}
-use Rattle.opt_solvers.specs.DeadCandidates.{Candidate}
-use Rattle.opt_solvers.specs.declared.dead_problem.Argument.{Argument}
-use Rattle.opt_solvers.specs.declared.dead_problem.DeadProblem.{DeadProblem}
-use Rattle.opt_solvers.specs.Dead.{NumberedItem as Number, Whole as WholeAt, Slot as SlotAt, ItemMayGo as MayAt, IsKeptItem as IsKeptAt}
+use Rattle.opt_rows.specs.DeadCandidates.{Candidate}
+use Rattle.opt_rows.specs.declared.dead_problem.Argument.{Argument}
+use Rattle.opt_rows.specs.declared.dead_problem.DeadProblem.{DeadProblem}
+use Rattle.opt_rows.specs.Dead.{NumberedItem as Number, Whole as WholeAt, Slot as SlotAt, ItemMayGo as MayAt, IsKeptItem as IsKeptAt}
 use Rattle.opt_inside.specs.Numbered.{Numbers}
 use Rattle.opt_inside.specs.Occurring.{Found, IsBelowRoot, IsSpotOf}
 use Rattle.opt_inside.proofs.Around.{inside_both, is_root}
 use Rattle.opt_dead.specs.Plans.{SaysPins}
-use Rattle.opt_dead.specs.Problems.{IsRemovable, HasBranchesOnly, IsKeptValue, Forwards}
+use Rattle.opt_dialect.specs.Removable.{IsRemovable}
+use Rattle.opt_dialect.proofs.Removing.{same_truth}
+use Rattle.opt_dead.specs.Problems.{HasBranchesOnly, IsKeptValue, Forwards}
 use Rattle.opt_dead.proofs.Ground.{Ground, Occurs, has_value_in, value_in_has, arguments_here, operands_here, successors_here, same_view}
 use Rattle.opt_dead.proofs.Within.{row_of, value_row_of}
 use Rattle.opt_dead.proofs.Made.{at_definer, SameItem, occurrence_of, touches_to, touches_from}
-
-pub same_truth : (x y : Bool) → (x ≡ true → y ≡ true) → (y ≡ true → x ≡ true) → x ≡ y
-same_truth true y f h = sym (f refl)
-same_truth false true f h = h refl
-same_truth false false f h = refl
 
 names_at : (ts : List TypedValue) (k : ℕ) → slice_get (names_of (map defined_by ts)) k ≡ value_in ts k
 names_at [] k = refl

@@ -9,7 +9,7 @@ use Rattle.ir_trees.specs.Stands.{in_program}
 use Rattle.opt_inside.specs.Numbered.{Numbers}
 use Rattle.opt_trees.specs.Dialect.{Dialect}
 use Rattle.opt_dead.specs.Problems.{Forwards, IsBranch}
-use Rattle.opt_dead.proofs.Removing.{payload_is}
+use Rattle.opt_dialect.proofs.Removing.{payload_is}
 
 -- what forwards an operand is a branch
 pub branch_by : {O B A : Type 0} (d : Dialect (in_program O B) A) (c : Program O B) (n : Numbers) (p : Ptr Operation)

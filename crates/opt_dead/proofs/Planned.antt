@@ -11,17 +11,18 @@ use Rattle.ir_trees.specs.Searched.{Lists}
 use Rattle.ir_trees.specs.Stands.{in_program}
 use Rattle.opt_trees.specs.Dialect.{Dialect}
 use Rattle.opt_trees.specs.Dce.{Whole, Slot}
-use Rattle.opt_solvers.specs.DeadCandidates.{Candidate}
-use Rattle.opt_solvers.specs.declared.dead_problem.DeadProblem.{DeadProblem}
-use Rattle.opt_solvers.specs.declared.dead_problem.DeadItems.{DeadItems}
-use Rattle.opt_solvers.specs.Dead.{Slot as SlotAt}
+use Rattle.opt_rows.specs.DeadCandidates.{Candidate}
+use Rattle.opt_rows.specs.declared.dead_problem.DeadProblem.{DeadProblem}
+use Rattle.opt_rows.specs.declared.dead_problem.DeadItems.{DeadItems}
+use Rattle.opt_rows.specs.Dead.{Slot as SlotAt}
 use Rattle.opt_inside.specs.Numbered.{Numbers}
 use Rattle.opt_dead.specs.declared.plan.DeadPlan.{DeadPlan}
 use Rattle.opt_dead.specs.declared.plan.LostOperands.{LostOperands}
 use Rattle.opt_dead.specs.declared.plan.DeadArguments.{DeadArguments}
 use Rattle.opt_dead.specs.Plans.{IsPlan}
 use Rattle.opt_dead.specs.Taken.{OperandGoes, TakesMarked}
-use Rattle.opt_dead.proofs.Ground.{Ground, the_some, operands_here, arguments_here}
+use Rattle.opt_dead.proofs.Ground.{Ground, operands_here, arguments_here}
+use Rattle.opt_dialect.proofs.Removing.{the_some}
 use Rattle.opt_dead.proofs.Made.{at_definer}
 use Rattle.opt_dead.proofs.Decide.{truth_yes, truth_of}
 use Rattle.opt_dead.proofs.Going.{Solved, gone, told_item, told_operand, slot_by, may_at}

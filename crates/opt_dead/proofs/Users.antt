@@ -18,18 +18,19 @@ use Rattle.ir_trees.specs.Searched.{Lists}
 use Rattle.ir_trees.specs.Stands.{in_program}
 use Rattle.opt_trees.specs.Dialect.{Dialect}
 use Rattle.opt_trees.specs.Dce.{Whole, Slot}
-use Rattle.opt_solvers.specs.declared.dead_problem.Definer.{Definer}
-use Rattle.opt_solvers.specs.declared.dead_problem.Definer.TheVariants.{Result, Argument as ByArgument, Outside}
-use Rattle.opt_solvers.specs.declared.dead_problem.Operand.{Operand}
-use Rattle.opt_solvers.specs.DeadCandidates.{Candidate}
-use Rattle.opt_solvers.specs.declared.dead_problem.DeadProblem.{DeadProblem}
-use Rattle.opt_solvers.specs.declared.dead_problem.DeadItems.{DeadItems}
-use Rattle.opt_solvers.specs.Dead.{NumberedItem as Number, Whole as WholeAt, Slot as SlotAt, IsInOperation, further, IsInner, ItemMakes, IsKeptItem as IsKeptAt, IsDeadItem as IsDeadAt, dies as dies_at, IsExcusedOperand as IsExcusedAt, by_operation as by_operation_at, by_argument as by_argument_at, CountsForItem, HasOperand, IsDeadProblem}
+use Rattle.opt_rows.specs.declared.dead_problem.Definer.{Definer}
+use Rattle.opt_rows.specs.declared.dead_problem.Definer.TheVariants.{Result, Argument as ByArgument, Outside}
+use Rattle.opt_rows.specs.declared.dead_problem.Operand.{Operand}
+use Rattle.opt_rows.specs.DeadCandidates.{Candidate}
+use Rattle.opt_rows.specs.declared.dead_problem.DeadProblem.{DeadProblem}
+use Rattle.opt_rows.specs.declared.dead_problem.DeadItems.{DeadItems}
+use Rattle.opt_rows.specs.Dead.{NumberedItem as Number, Whole as WholeAt, Slot as SlotAt, IsInOperation, further, IsInner, ItemMakes, IsKeptItem as IsKeptAt, IsDeadItem as IsDeadAt, dies as dies_at, IsExcusedOperand as IsExcusedAt, by_operation as by_operation_at, by_argument as by_argument_at, CountsForItem, HasOperand, IsDeadProblem}
 use Rattle.opt_inside.specs.Numbered.{Numbers}
 use Rattle.opt_inside.proofs.Around.{inside_both, around_block}
 use Rattle.opt_dead.specs.Plans.{GoesWith, IsGoing, UsesGo}
 use Rattle.opt_dead.specs.Problems.{IsDefiner, IsKeptValue}
-use Rattle.opt_dead.proofs.Ground.{Ground, at_index, the_some, results_here, arguments_here, value_in_has}
+use Rattle.opt_dead.proofs.Ground.{Ground, at_index, results_here, arguments_here, value_in_has}
+use Rattle.opt_dialect.proofs.Removing.{the_some}
 use Rattle.opt_dead.proofs.Within.{block_around, row_of, below_of, number_of, below_in_block, below_is, argument_is, inside_of, decide_in}
 use Rattle.opt_dead.proofs.Made.{at_definer, by_operation_of, by_argument_of}
 use Rattle.opt_dead.proofs.Dying.{contains_at, start_of}

@@ -12,10 +12,10 @@ use Rattle.ir_program.specs.declared.handles.BasicBlock.{BasicBlock}
 use Rattle.ir_program.specs.declared.handles.Value.{Value}
 use Rattle.ir_trees.specs.Stands.{in_program}
 use Rattle.opt_trees.specs.Dialect.{Dialect}
-use Rattle.opt_solvers.specs.DeadCandidates.{Candidate}
-use Rattle.opt_solvers.specs.declared.dead_problem.Argument.{Argument}
-use Rattle.opt_solvers.specs.declared.dead_problem.DeadProblem.{DeadProblem}
-use Rattle.opt_solvers.specs.Dead.{IsInOperation, itself as alone, further, IsBelow, IsArgumentIn}
+use Rattle.opt_rows.specs.DeadCandidates.{Candidate}
+use Rattle.opt_rows.specs.declared.dead_problem.Argument.{Argument}
+use Rattle.opt_rows.specs.declared.dead_problem.DeadProblem.{DeadProblem}
+use Rattle.opt_rows.specs.Dead.{IsInOperation, itself as alone, further, IsBelow, IsArgumentIn}
 use Rattle.opt_inside.specs.Numbered.{Numbers}
 use Rattle.opt_inside.specs.Occurring.{IsBelowRoot}
 use Rattle.opt_inside.proofs.Around.{inside_both, not_root}

@@ -1,7 +1,7 @@
 -- What a numbered problem says of the operation that it is made of: operations and values inside it by their numbers.
 use Rattle.std.specs.Prelude.{◌≡◌, ◌↔◌, ◌⊎◌, ◌<◌, ℕ, Bool, true, false, List, length, Option, Some, None, IsSome, slice_get, Contains}
 use Rattle.ir_program.specs.Program.{Program, OperationView, IsLiveValue, operation_at, block_at, arguments_at, value_in}
-use Rattle.ir_program.specs.Lists.{StandsInBlock, StandsInRegion, StandsInOperation, StandsInside, blocks_in}
+use Rattle.ir_program.specs.Lists.{StandsInBlock, StandsInRegion, StandsInOperation, StandsInside}
 use Rattle.ir_program.specs.Rows.{operands_at}
 use Rattle.ir_program.specs.declared.handles.IRNode.TheVariants.{Operation as OperationNode}
 use Rattle.ir_program.specs.declared.handles.DefiningEntity.TheVariants.{Op as ByOp, Block as ByBlock}
@@ -13,12 +13,13 @@ use Rattle.ir_program.specs.declared.handles.Value.{Value}
 use Rattle.ir_trees.specs.Searched.{Lists}
 use Rattle.ir_trees.specs.Stands.{in_program}
 use Rattle.opt_trees.specs.Dialect.{Dialect}
-use Rattle.opt_solvers.specs.declared.dead_problem.Definer.{Definer}
-use Rattle.opt_solvers.specs.declared.dead_problem.Definer.TheVariants.{Result, Argument as ByArgument, Outside}
-use Rattle.opt_solvers.specs.declared.dead_problem.Operand.{Operand}
-use Rattle.opt_solvers.specs.DeadCandidates.{Candidate}
-use Rattle.opt_solvers.specs.declared.dead_problem.Argument.{Argument}
-use Rattle.opt_solvers.specs.declared.dead_problem.DeadProblem.{DeadProblem}
+use Rattle.opt_dialect.specs.Removable.{IsRemovable}
+use Rattle.opt_rows.specs.declared.dead_problem.Definer.{Definer}
+use Rattle.opt_rows.specs.declared.dead_problem.Definer.TheVariants.{Result, Argument as ByArgument, Outside}
+use Rattle.opt_rows.specs.declared.dead_problem.Operand.{Operand}
+use Rattle.opt_rows.specs.DeadCandidates.{Candidate}
+use Rattle.opt_rows.specs.declared.dead_problem.Argument.{Argument}
+use Rattle.opt_rows.specs.declared.dead_problem.DeadProblem.{DeadProblem}
 use Rattle.opt_inside.specs.Numbered.{Numbers}
 
 -- the number of x among these, where it has one
@@ -73,19 +74,6 @@ module _ {O B : Type 0} (c : Program O B) (n : Numbers) where
     pub number : slice_get n.values x ≡ Some argument
 
 module _ {O B A : Type 0} (d : Dialect (in_program O B) A) (c : Program O B) where
-  -- the dialect lets arguments of the block go
-  pub record IsRemovable (b : Ptr BasicBlock) : Type 0 where
-    pub region : Ptr Region
-    pub in_region : StandsInRegion c b region
-    pub owner : Ptr Operation
-    pub view : OperationView O
-    pub there : operation_at c owner ≡ Some view
-    pub index : ℕ
-    pub here : slice_get view.regions index ≡ Some region
-    pub first : Bool
-    pub entry : (first ≡ true) ↔ (slice_get (blocks_in c region) 0 ≡ Some b)
-    pub removable : d.can_remove view.payload index first ≡ true
-
   -- the operation is a branch
   abbrev pub IsBranch : Ptr Operation → Type 0
   IsBranch p = (view : OperationView O) → operation_at c p ≡ Some view → d.is_branch view.payload ≡ true
@@ -101,7 +89,7 @@ module _ {O B A : Type 0} (d : Dialect (in_program O B) A) (c : Program O B) whe
   module _ (n : Numbers) where
     -- what is said of each argument of the block
     pub record IsBlockRow (b : Ptr BasicBlock) (row : Argument) : Type 0 where
-      pub may_go : (row.may_go ≡ true) ↔ (IsRemovable b × HasBranchesOnly b)
+      pub may_go : (row.may_go ≡ true) ↔ (IsRemovable d c b × HasBranchesOnly b)
       pub around : IsNumberOfHolder c n b row.around
 
     -- what is said of the value: a result never goes as an argument does

@@ -3,7 +3,7 @@ ghost use Rattle.std.specs.Prelude.{◌≡◌, ◌++◌, ◌∷◌, [], IfOk, Is
 ghost use Rattle.ir_program.specs.Program.{operation_at};
 ghost use Rattle.ir_program.specs.Rows.{operands_at};
 ghost use Rattle.opt_inside.specs.Numbered.{numbers_of};
-ghost use Rattle.opt_solvers.specs.DeadCandidates.{Candidate};
+ghost use Rattle.opt_rows.specs.DeadCandidates.{Candidate};
 ghost use Rattle.opt_dead.specs.Problems.{AreCandidates, AreOperandsOf, AreThere, IsBranch, IsCandidate, SaysMayGo};
 
 use crate::definers::{around_operation, definer_of};
@@ -11,7 +11,7 @@ use crate::forwarding::targets_of;
 use ir_program::{Operation, Program, Ptr};
 use opt_dialect::OptDialect;
 use opt_inside::Inside;
-use opt_solvers::{Candidates, Operand};
+use opt_rows::{Candidates, Operand};
 use std::alloc::{AllocError, Global};
 
 /// Brings together the operands of an operation that is no branch, by numbers: none of them is forwarded.

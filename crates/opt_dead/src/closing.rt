@@ -4,18 +4,18 @@ ghost use Rattle.ir_program.specs.Program.{block_at};
 ghost use Rattle.ir_program.specs.declared.handles.BasicBlock.{BasicBlock};
 ghost use Rattle.ir_program.specs.declared.handles.Ptr.{Ptr};
 ghost use Rattle.ir_program.specs.declared.handles.Value.{Value};
-ghost use Rattle.opt_solvers.specs.declared.dead_problem.Argument.{Argument};
+ghost use Rattle.opt_rows.specs.declared.dead_problem.Argument.{Argument};
 ghost use Rattle.opt_inside.specs.Numbered.{numbers_of};
-ghost use Rattle.opt_dead.specs.Problems.{AreBlockRows, AreThere, AreValueRows, HasBranchesOnly, IsBlockRow, IsRemovable, TakesRow};
+ghost use Rattle.opt_dead.specs.Problems.{AreBlockRows, AreThere, AreValueRows, HasBranchesOnly, IsBlockRow, TakesRow};
 ghost use Rattle.ir_program.specs.declared.handles.DefiningEntity.TheVariants.{Block};
 ghost use Rattle.ir_trees.specs.Searched.{Lists};
 
 use crate::definers::around_block;
 use crate::numbers::block_number;
 use ir_program::{BasicBlock, DefiningEntity, Program, Ptr, Value};
-use opt_dialect::OptDialect;
+use opt_dialect::{OptDialect, is_removable};
 use opt_inside::Inside;
-use opt_solvers::Argument;
+use opt_rows::Argument;
 use std::alloc::{AllocError, Global};
 
 /// Whether each edge to a block comes from a branch.
@@ -32,27 +32,6 @@ fn has_branches_only<D: OptDialect>(
         }
     }
     true
-}
-
-/// Whether the dialect lets arguments of a block go.
-fn is_removable<D: OptDialect>(
-    program: &Program<D::Operation, D::Block>,
-    block: Ptr<BasicBlock>,
-) -> bool
-    requires { IsSome (block_at program.now block) }
-    ensures { IsTrue result ↔ IsRemovable D.meaning program.now block }
-{
-    program.know_lists();
-    let Some(region) = program.parent_region(block) else {
-        return false;
-    };
-    let owner = program.parent_operation(region);
-    let is_entry = program.first_block(region) == Some(block);
-    D::can_remove_block_args(
-        program.payload(owner),
-        program.region_index(region),
-        is_entry,
-    )
 }
 
 /// What is to be known of each argument of a block.

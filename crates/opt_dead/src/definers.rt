@@ -7,7 +7,7 @@ ghost use Rattle.opt_dead.specs.Problems.{IsNumberOfHolder, IsAroundOperation, I
 use crate::numbers::{operation_number, value_number};
 use ir_program::{BasicBlock, DefiningEntity, Operation, Program, Ptr, Value};
 use opt_inside::Inside;
-use opt_solvers::Definer;
+use opt_rows::Definer;
 
 /// What defines a value.
 pub(crate) fn definer_of(inside: &Inside, value: Value) -> Definer

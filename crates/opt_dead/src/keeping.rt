@@ -1,5 +1,5 @@
 //! What is kept from outside.
-ghost use Rattle.std.specs.Prelude.{◌≡◌, ◌↔◌, IfOk, IsSome, IsTrue, OnOk};
+ghost use Rattle.std.specs.Prelude.{◌↔◌, IfOk, IsSome, IsTrue, OnOk};
 ghost use Rattle.ir_program.specs.Program.{IsLiveValue, operation_at};
 ghost use Rattle.ir_program.specs.Rows.{operands_at};
 ghost use Rattle.ir_trees.specs.Searched.{Lists};
@@ -10,7 +10,7 @@ use crate::definers::definer_of;
 use crate::numbers::operation_number;
 use ir_program::{Operation, Program, Ptr, Value};
 use opt_inside::Inside;
-use opt_solvers::Definer;
+use opt_rows::Definer;
 use std::alloc::{AllocError, Global};
 
 /// Whether an operation that isn't inside the root takes a value.

@@ -10,7 +10,7 @@ use crate::keeping::kept_definers;
 use ir_program::{Operation, Program, Ptr};
 use opt_dialect::OptDialect;
 use opt_inside::Inside;
-use opt_solvers::DeadProblem;
+use opt_rows::DeadProblem;
 use std::alloc::{AllocError, Global};
 
 /// Tells that all that is numbered is there. It does nothing.

@@ -6,14 +6,13 @@ ghost use Rattle.ir_program.specs.declared.handles.Ptr.{Ptr};
 ghost use Rattle.ir_trees.specs.Searched.{AreDistinct};
 ghost use Rattle.opt_inside.specs.Numbered.{numbers_of};
 ghost use Rattle.opt_dead.specs.Problems.{AreThere};
-ghost use Rattle.opt_dead.specs.Taken.{AreDeadArguments, AreDeadOperations, AreGoing, AreLost, AreLostOperands, HasMarkAt, OperandGoes};
-ghost use Rattle.opt_dead.specs.Taken.{TakesArguments, TakesLost, TakesMarked, TakesOperation};
+ghost use Rattle.opt_dead.specs.Taken.{AreDeadArguments, AreDeadOperations, AreGoing, AreLost, AreLostOperands, HasMarkAt, OperandGoes, TakesArguments, TakesLost, TakesMarked, TakesOperation};
 
 use crate::numbers::value_number;
 use crate::plan::{DeadArguments, DeadPlan, LostOperands};
 use ir_program::{BasicBlock, Operation, Program, Ptr};
 use opt_inside::Inside;
-use opt_solvers::{Candidates, DeadItems, DeadProblem, Operand};
+use opt_rows::{Candidates, DeadItems, DeadProblem, Operand};
 use std::alloc::{AllocError, Global};
 
 /// Whether there is a mark at an index, if there is one.

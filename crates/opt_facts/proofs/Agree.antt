@@ -7,10 +7,10 @@ use Rattle.ir_program.specs.declared.handles.BasicBlock.{BasicBlock}
 use Rattle.ir_program.specs.declared.handles.Value.{Value}
 use Rattle.ir_trees.specs.Searched.{Lists}
 use Rattle.ir_trees.specs.Stands.{by_handle}
-use Rattle.opt_solvers.specs.declared.known.Known.{Known}
-use Rattle.opt_solvers.specs.declared.known.Known.TheVariants.{Any}
-use Rattle.opt_solvers.specs.Known.{AtOrBelow, asked, AllBelow, AllAny}
-use Rattle.opt_solvers.specs.Facts.{NumberedFacts, ForwardedBelow}
+use Rattle.opt_rows.specs.declared.known.Known.{Known}
+use Rattle.opt_rows.specs.declared.known.Known.TheVariants.{Any}
+use Rattle.opt_rows.specs.Known.{AtOrBelow, asked, AllBelow, AllAny}
+use Rattle.opt_rows.specs.Facts.{NumberedFacts, ForwardedBelow}
 use Rattle.opt_trees.specs.Facts.{Facts}
 use Rattle.opt_inside.specs.Numbered.{Numbers}
 use Rattle.opt_facts.specs.Problem.{value_number, block_number}

@@ -11,7 +11,7 @@ use Rattle.ir_program.specs.declared.handles.Operation.{Operation}
 use Rattle.ir_program.specs.declared.handles.BasicBlock.{BasicBlock}
 use Rattle.ir_program.specs.declared.handles.Value.{Value}
 use Rattle.ir_trees.specs.Stands.{in_program}
-use Rattle.opt_solvers.specs.OperationRows.{BranchEdge, Row}
+use Rattle.opt_rows.specs.OperationRows.{BranchEdge, Row}
 use Rattle.opt_trees.specs.Occurrences.{cons_if, picks}
 use Rattle.opt_trees.specs.Dialect.{Dialect}
 use Rattle.opt_inside.specs.Numbered.{Numbers}

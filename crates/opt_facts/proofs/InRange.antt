@@ -16,9 +16,9 @@ use Rattle.ir_program.specs.declared.handles.Value.{Value}
 use Rattle.ir_program.proofs.used.Renaming.{block-test}
 use Rattle.ir_trees.specs.Searched.{Lists}
 use Rattle.ir_trees.specs.Stands.{in_program}
-use Rattle.opt_solvers.specs.OperationRows.{Row}
-use Rattle.opt_solvers.specs.declared.facts_problem.FactsProblem.{FactsProblem}
-use Rattle.opt_solvers.specs.Facts.{IsRow, IsProblem}
+use Rattle.opt_rows.specs.OperationRows.{Row}
+use Rattle.opt_rows.specs.declared.facts_problem.FactsProblem.{FactsProblem}
+use Rattle.opt_rows.specs.Facts.{IsRow, IsProblem}
 use Rattle.opt_trees.specs.Occurrences.{Has, picks}
 use Rattle.opt_trees.specs.Dialect.{Dialect}
 use Rattle.opt_inside.specs.Numbered.{Numbers}

@@ -13,10 +13,10 @@ use Rattle.ir_trees.specs.Trees.{Head, Regions}
 use Rattle.ir_trees.specs.Renames.{names_of}
 use Rattle.ir_trees.specs.Searched.{Lists}
 use Rattle.ir_trees.specs.Stands.{by_handle, in_program, ProgramTree, head_of, defined_by, AreTree}
-use Rattle.opt_solvers.specs.OperationRows.{BranchEdge, Row}
-use Rattle.opt_solvers.specs.declared.facts_problem.FactsProblem.{FactsProblem}
-use Rattle.opt_solvers.specs.Known.{asked, answer, AllBelow, AllAny}
-use Rattle.opt_solvers.specs.Facts.{NumberedFacts, RunsWithAny, ForwardedBelow, arguments_of, picked, ResultsClosed, EdgesClosed, RoleClosed, RowClosed, RowEdgeClosed as IsNumberEdgeClosed}
+use Rattle.opt_rows.specs.OperationRows.{BranchEdge, Row}
+use Rattle.opt_rows.specs.declared.facts_problem.FactsProblem.{FactsProblem}
+use Rattle.opt_rows.specs.Known.{asked, answer, AllBelow, AllAny}
+use Rattle.opt_rows.specs.Facts.{NumberedFacts, RunsWithAny, ForwardedBelow, arguments_of, picked, ResultsClosed, EdgesClosed, RoleClosed, RowClosed, RowEdgeClosed as IsNumberEdgeClosed}
 use Rattle.opt_trees.specs.Occurrences.{Has, Occurrence, occurrences_of, block_occurrences_of, picks}
 use Rattle.opt_trees.specs.Dialect.{Dialect}
 use Rattle.opt_trees.specs.Facts.{Facts, FoldClosed, forwarded, EdgeClosed, BranchClosed, OperationClosed}

@@ -17,9 +17,9 @@ use Rattle.ir_trees.specs.Trees.{Label, Blocks, Regions, Tree}
 use Rattle.ir_trees.specs.Renames.{names_of}
 use Rattle.ir_trees.specs.Searched.{Lists}
 use Rattle.ir_trees.specs.Stands.{by_handle, in_program, ProgramTree, defined_by, AreTree, no_blocks, no_regions, first_block, first_region}
-use Rattle.opt_solvers.specs.declared.facts_problem.FactsProblem.{FactsProblem}
-use Rattle.opt_solvers.specs.Known.{AllAny}
-use Rattle.opt_solvers.specs.Facts.{NumberedFacts, RunsWithAny, arguments_of}
+use Rattle.opt_rows.specs.declared.facts_problem.FactsProblem.{FactsProblem}
+use Rattle.opt_rows.specs.Known.{AllAny}
+use Rattle.opt_rows.specs.Facts.{NumberedFacts, RunsWithAny, arguments_of}
 use Rattle.opt_trees.specs.Occurrences.{Has, BlockOccurrence, block_occurrences_of, types_of}
 use Rattle.opt_trees.specs.Dialect.{Dialect, Lawful}
 use Rattle.opt_trees.specs.Facts.{Facts, EntriesRun}

@@ -12,12 +12,12 @@ use Rattle.ir_program.proofs.used.Renaming.{block-test, value-test}
 use Rattle.ir_trees.specs.Trees.{Label}
 use Rattle.ir_trees.specs.Searched.{Lists, AreDistinct}
 use Rattle.ir_trees.specs.Stands.{by_handle, in_program, ProgramTree, StandsFor}
-use Rattle.opt_solvers.specs.OperationRows.{Row}
-use Rattle.opt_solvers.specs.declared.facts_problem.FactsProblem.{FactsProblem}
-use Rattle.opt_solvers.specs.declared.known.Known.{Known}
-use Rattle.opt_solvers.specs.declared.known.Known.TheVariants.{Any, Undetermined}
-use Rattle.opt_solvers.specs.Known.{AtOrBelow}
-use Rattle.opt_solvers.specs.Facts.{NumberedFacts, RunsWithAny, IsClosedSolution as IsNumberClosed, IsMostPreciseSolution as IsMostPreciseByNumber, as_facts}
+use Rattle.opt_rows.specs.OperationRows.{Row}
+use Rattle.opt_rows.specs.declared.facts_problem.FactsProblem.{FactsProblem}
+use Rattle.opt_rows.specs.declared.known.Known.{Known}
+use Rattle.opt_rows.specs.declared.known.Known.TheVariants.{Any, Undetermined}
+use Rattle.opt_rows.specs.Known.{AtOrBelow}
+use Rattle.opt_rows.specs.Facts.{NumberedFacts, RunsWithAny, IsClosedSolution as IsNumberClosed, IsMostPreciseSolution as IsMostPreciseByNumber, as_facts}
 use Rattle.opt_trees.specs.Occurrences.{Has, Occurrence, occurrences_of, defined_in}
 use Rattle.opt_trees.specs.Dialect.{Dialect}
 use Rattle.opt_trees.specs.Facts.{Facts, IsClosed, IsMostPrecise}

@@ -5,8 +5,8 @@ use Rattle.ir_program.specs.Program.{Program, OperationView, TypedValue, operati
 use Rattle.ir_program.specs.declared.handles.Ptr.{Ptr}
 use Rattle.ir_program.specs.declared.handles.Operation.{Operation}
 use Rattle.ir_trees.specs.Stands.{in_program}
-use Rattle.opt_solvers.specs.Known.{KnowsMore}
-use Rattle.opt_solvers.specs.Facts.{Answers}
+use Rattle.opt_rows.specs.Known.{KnowsMore}
+use Rattle.opt_rows.specs.Facts.{Answers}
 use Rattle.opt_trees.specs.Dialect.{Dialect, Lawful}
 
 -- the types of definitions

@@ -5,8 +5,8 @@ use Rattle.ir_program.specs.declared.handles.Ptr.{Ptr}
 use Rattle.ir_program.specs.declared.handles.Operation.{Operation}
 use Rattle.ir_trees.specs.Stands.{in_program}
 use Rattle.opt_solvers.specs.declared.facts.Solution.{Solution}
-use Rattle.opt_solvers.specs.declared.facts_problem.FactsProblem.{FactsProblem}
-use Rattle.opt_solvers.specs.Facts.{IsMostPreciseSolution, as_facts}
+use Rattle.opt_rows.specs.declared.facts_problem.FactsProblem.{FactsProblem}
+use Rattle.opt_rows.specs.Facts.{IsMostPreciseSolution, as_facts}
 use Rattle.opt_trees.specs.Dialect.{Dialect}
 use Rattle.opt_inside.specs.Numbered.{Numbers}
 use Rattle.opt_facts.specs.Folds.{answers_of}

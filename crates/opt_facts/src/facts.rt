@@ -11,7 +11,8 @@ use crate::problem::problem_of;
 use ir_program::{Operation, Program, Ptr};
 use opt_dialect::OptDialect;
 use opt_inside::{Inside, know_occurrences};
-use opt_solvers::{Known, Solution, most_precise};
+use opt_rows::Known;
+use opt_solvers::{Solution, most_precise};
 use std::alloc::{AllocError, Global};
 
 /// What is known of the blocks and values inside an operation, by their numbers.

@@ -6,7 +6,7 @@ ghost use Rattle.opt_facts.specs.Folds.{result_types};
 use ir_base::TypeHandle;
 use ir_program::{Operation, Program, Ptr};
 use opt_dialect::OptDialect;
-use opt_solvers::Folding;
+use opt_rows::Folding;
 use std::alloc::{AllocError, Global};
 
 /// The types of the results of an operation.

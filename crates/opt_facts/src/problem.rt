@@ -11,7 +11,7 @@ use crate::rows::row_of;
 use ir_program::{Operation, Program, Ptr};
 use opt_dialect::OptDialect;
 use opt_inside::Inside;
-use opt_solvers::{FactsProblem, OperationRows, RowBuffer};
+use opt_rows::{FactsProblem, OperationRows, RowBuffer};
 use std::alloc::{AllocError, Global};
 
 /// Puts the rows of the operations inside, in their order, where there are none. Each is put together in the same lists.

@@ -3,14 +3,14 @@ ghost use Rattle.std.specs.Prelude.{◌≡◌, IfOk, OnOk, IsSome};
 ghost use Rattle.ir_program.specs.Program.{operation_at};
 ghost use Rattle.ir_program.specs.Lists.{IsLinkedOperation};
 ghost use Rattle.opt_inside.specs.Numbered.{numbers_of};
-ghost use Rattle.opt_solvers.specs.OperationColumns.{buffered};
+ghost use Rattle.opt_rows.specs.OperationColumns.{buffered};
 ghost use Rattle.opt_facts.specs.Problem.{role_of, AreForwarded, IsEdgeCount, AreEdges, IsRowOfOperation};
 
 use crate::numbers::{entry_numbers, number_of_block, operand_numbers, result_numbers};
 use ir_program::{Operation, Program, Ptr};
 use opt_dialect::OptDialect;
 use opt_inside::Inside;
-use opt_solvers::{EdgeList, Role, RowBuffer};
+use opt_rows::{EdgeList, Role, RowBuffer};
 use std::alloc::{AllocError, Global};
 
 /// What an operation is asked.

@@ -6,13 +6,11 @@ use Rattle.ir_trees.specs.Renames.{names_of}
 use Rattle.ir_trees.specs.Trees.{Head, Sort, Tree, end, operation, block, region, Root}
 use Rattle.opt_trees.specs.Occurrences.{Has, types_of, picks, Occurrence, BlockOccurrence, block_occurrences_of}
 use Rattle.opt_trees.specs.Dialect.{Dialect}
-use Rattle.opt_solvers.specs.declared.known.Known.{Known}
-use Rattle.opt_solvers.specs.Known.{asked, answer, AllBelow, AllAny}
-use Rattle.opt_trees.specs.Facts.{Facts, Asked, FoldClosed, forwarded, EdgeClosed, BranchClosed, EntriesRun, OperationClosed}
-use Rattle.opt_trees.specs.Facts.{IsClosed, IsMostPrecise}
+use Rattle.opt_rows.specs.declared.known.Known.{Known}
+use Rattle.opt_rows.specs.Known.{asked, answer, AllBelow, AllAny}
+use Rattle.opt_trees.specs.Facts.{Facts, Asked, FoldClosed, forwarded, EdgeClosed, BranchClosed, EntriesRun, OperationClosed, IsClosed, IsMostPrecise}
 use Rattle.opt_meanings.specs.Meanings.{Meanings, IsMeant, mean_head, mean, mean_root}
-use Rattle.opt_meanings.proofs.Said.{names-mean, types-mean, mean_occurrence, mean_block_occurrence, defined_meant}
-use Rattle.opt_meanings.proofs.Said.{operation_there, operation_from, block_there, block_from}
+use Rattle.opt_meanings.proofs.Said.{names-mean, types-mean, mean_occurrence, mean_block_occurrence, defined_meant, operation_there, operation_from, block_there, block_from}
 
 module _ {N : Names} {S R : Contents} {A : Type 0} (m : Meanings S R) (d : Dialect S A) (e : Dialect R A) (meant : IsMeant m d e) where
   -- the same entries run

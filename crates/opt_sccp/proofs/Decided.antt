@@ -18,8 +18,8 @@ use Rattle.ir_trees.proofs.ListEdited.{AreOrderly}
 use Rattle.opt_facts.specs.ByNumber.{AreFactsBy, AreBestFacts}
 use Rattle.opt_inside.specs.Numbered.{Numbers, NumbersInside}
 use Rattle.opt_inside.specs.Occurring.{IsDefinedBelow}
-use Rattle.opt_solvers.specs.declared.known.Known.{Known}
-use Rattle.opt_solvers.specs.declared.known.Known.TheVariants.{One}
+use Rattle.opt_rows.specs.declared.known.Known.{Known}
+use Rattle.opt_rows.specs.declared.known.Known.TheVariants.{One}
 use Rattle.opt_trees.specs.Dialect.{Dialect, Lawful}
 use Rattle.opt_trees.specs.Facts.{Facts}
 use Rattle.opt_trees.specs.Occurrences.{Has, types_of}

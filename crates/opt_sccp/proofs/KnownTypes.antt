@@ -5,9 +5,9 @@ use Rattle.ir_base.specs.declared.types.TypeHandle.{TypeHandle}
 use Rattle.ir_trees.specs.Names.{Names}
 use Rattle.ir_trees.specs.Renames.{names_of, holding}
 use Rattle.ir_trees.specs.Trees.{Head, Sort, Tree, end, operation, block, region, Root}
-use Rattle.opt_solvers.specs.declared.known.Known.{Known}
-use Rattle.opt_solvers.specs.declared.known.Known.TheVariants.{Undetermined, One, Any}
-use Rattle.opt_solvers.specs.Known.{AtOrBelow, and_known, asked, answer, AllBelow, AllAny}
+use Rattle.opt_rows.specs.declared.known.Known.{Known}
+use Rattle.opt_rows.specs.declared.known.Known.TheVariants.{Undetermined, One, Any}
+use Rattle.opt_rows.specs.Known.{AtOrBelow, and_known, asked, answer, AllBelow, AllAny}
 use Rattle.opt_trees.specs.Dialect.{Dialect, Lawful}
 use Rattle.opt_trees.specs.Facts.{Facts, Asked, FoldClosed, EdgeClosed, BranchClosed, forwarded, EntriesRun, IsClosed, IsMostPrecise}
 use Rattle.opt_trees.specs.Occurrences.{Has, types_of, Occurrence, BlockOccurrence, occurrences_of, block_occurrences_of}

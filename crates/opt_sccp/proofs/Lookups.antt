@@ -15,8 +15,8 @@ use Rattle.ir_program.proofs.used.Renames.{IsTestOf}
 use Rattle.ir_program.proofs.used.Renaming.{value-test, block-test}
 use Rattle.ir_trees.specs.Searched.{Lists}
 use Rattle.ir_trees.specs.Stands.{by_handle}
-use Rattle.opt_solvers.specs.declared.known.Known.{Known}
-use Rattle.opt_solvers.specs.declared.known.Known.TheVariants.{Any}
+use Rattle.opt_rows.specs.declared.known.Known.{Known}
+use Rattle.opt_rows.specs.declared.known.Known.TheVariants.{Any}
 use Rattle.opt_inside.specs.Numbered.{Numbers}
 use Rattle.opt_trees.specs.Facts.{Facts}
 use Rattle.opt_facts.specs.ByNumber.{AreFactsBy}

@@ -10,7 +10,7 @@ use Rattle.ir_program.specs.declared.handles.DefiningEntity.TheVariants.{Op as B
 use Rattle.ir_trees.specs.Renames.{names_of}
 use Rattle.ir_trees.specs.Stands.{by_handle, in_program, ProgramTree, ProgramHead, ProgramLabel, defined_by, head_of, label_of}
 use Rattle.ir_trees.proofs.ListEdited.{AreOrderly}
-use Rattle.opt_solvers.specs.Known.{asked}
+use Rattle.opt_rows.specs.Known.{asked}
 use Rattle.opt_trees.specs.Dialect.{Dialect}
 use Rattle.opt_trees.specs.Facts.{Facts, IsLacking}
 use Rattle.opt_trees.specs.Occurrences.{Has}

@@ -17,8 +17,8 @@ use Rattle.ir_trees.specs.Searched.{Lists}
 use Rattle.ir_trees.specs.Stands.{by_handle, in_program}
 use Rattle.opt_facts.specs.ByNumber.{AreFactsBy}
 use Rattle.opt_inside.specs.Numbered.{Numbers}
-use Rattle.opt_solvers.specs.declared.known.Known.{Known}
-use Rattle.opt_solvers.specs.declared.known.Known.TheVariants.{Any, Undetermined}
+use Rattle.opt_rows.specs.declared.known.Known.{Known}
+use Rattle.opt_rows.specs.declared.known.Known.TheVariants.{Any, Undetermined}
 use Rattle.opt_trees.specs.Dialect.{Dialect}
 use Rattle.opt_trees.specs.Facts.{Facts}
 use Rattle.opt_sccp.proofs.Options.{something, is_something, same_some}

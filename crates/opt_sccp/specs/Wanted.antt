@@ -15,8 +15,8 @@ use Rattle.opt_facts.specs.ByNumber.{AreFactsBy}
 use Rattle.opt_facts.specs.declared.facts.KnownFacts.{KnownFacts}
 use Rattle.opt_inside.specs.Numbered.{numbers_of}
 use Rattle.opt_inside.specs.declared.numbering.Inside.{Inside}
-use Rattle.opt_solvers.specs.declared.known.Known.{Known}
-use Rattle.opt_solvers.specs.declared.known.Known.TheVariants.{One, Any, Undetermined}
+use Rattle.opt_rows.specs.declared.known.Known.{Known}
+use Rattle.opt_rows.specs.declared.known.Known.TheVariants.{One, Any, Undetermined}
 use Rattle.opt_trees.specs.Dialect.{Dialect}
 use Rattle.opt_trees.specs.Facts.{Facts}
 use Rattle.opt_trees.specs.Occurrences.{Has}

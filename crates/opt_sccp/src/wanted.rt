@@ -1,7 +1,6 @@
 //! Which values get constants, and which operations lack an operand.
 ghost use Rattle.std.specs.Prelude.{◌≡◌, ◌⊎◌, ◌↔◌, true, false, Some, IfOk, IsSome, IsTrue, slice_get, unwrap_or};
 ghost use Rattle.std.specs.List.{list_all};
-ghost use Rattle.ir_program.specs.Lent.{payload_at};
 ghost use Rattle.ir_program.specs.Program.{operation_at, block_at};
 ghost use Rattle.ir_program.specs.Rows.{operands_at};
 ghost use Rattle.ir_program.specs.declared.handles.Operation.{Operation};
@@ -16,7 +15,7 @@ use ir_program::{BasicBlock, DefiningEntity, Operation, Program, Ptr, Value};
 use opt_dialect::OptDialect;
 use opt_facts::KnownFacts;
 use opt_inside::Inside;
-use opt_solvers::Known;
+use opt_rows::Known;
 use std::alloc::{AllocError, Global};
 
 /// The item at an index, or another one past the end.

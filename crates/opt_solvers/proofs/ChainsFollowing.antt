@@ -1,5 +1,5 @@
 -- Following numbers to their ends.
-use Rattle.std.proofs.Common.{◌≡◌, ◌⊎◌, inl, inr, ⊎_elim, ℕ, zero, suc, ◌+◌, ◌<◌, List, [], ◌∷◌, ◌++◌, take, Option, None, Some, Bool, true, false, cond, length, replicate, get_or, refl, sym, ap, ◌∙◌, subst, arith, below_more}
+use Rattle.std.proofs.Common.{◌≡◌, ◌⊎◌, inl, inr, ⊎_elim, ℕ, ◌+◌, ◌<◌, List, [], ◌∷◌, ◌++◌, take, Option, None, Some, Bool, true, false, cond, length, get_or, refl, sym, ap, ◌∙◌, subst, arith, below_more}
 use Rattle.std.proofs.Math.ListN.{set}
 use Rattle.std.specs.Prelude.{slice_get, Contains, count_by}
 use Rattle.std.proofs.lemmas.List.{length-set, length-replicate, take_more}
@@ -9,30 +9,14 @@ use Rattle.std.proofs.lemmas.Option.{none-some, same_Some, slice_get_within, sli
 use Rattle.opt_solvers.specs.declared.chains_followed.Mark.{Mark}
 use Rattle.opt_solvers.specs.declared.chains_followed.Mark.TheVariants.{New, OnPath, Done}
 use Rattle.opt_solvers.specs.declared.chains_followed.Following.{Following}
-use Rattle.opt_solvers.specs.Chains.{EndsUpAt, stops, goes_on, StepsAlong, goes, goes_by}
+use Rattle.opt_rows.specs.Chains.{EndsUpAt, stops, goes_on, StepsAlong, goes, goes_by}
 use Rattle.opt_solvers.specs.ChainsFollowed.{AreLinksInRange, HasMark, HasFinal, IsFollowing, AreUnfollowed, EntersPath, EndsPath, WritesBack, FinalIsKnown, AreFinals}
+use Rattle.opt_rows.proofs.Lists.{get_replicate, get_set}
 
 abbrev pub is_new : Mark → Bool
 is_new New = true
 is_new OnPath = false
 is_new Done = false
-
--- what stands in a list of the same everywhere
-pub get_replicate : {X : Type 0} (n i : ℕ) (x y : X) → slice_get (replicate n x) i ≡ Some y → y ≡ x
-get_replicate zero i x y e = absurd (none-some y e)
-get_replicate (suc n) zero x y e = same_Some y x (sym e)
-get_replicate (suc n) (suc i) x y e = get_replicate n i x y e
-
--- what stands at a place after a write
-pub get_set : {X : Type 0} (xs : List X) (i : ℕ) (x : X) (k : ℕ) → i < length xs → ((k ≡ i) × (slice_get (set xs i x) k ≡ Some x)) ⊎ ((k ≡ i → ⊥) × (slice_get (set xs i x) k ≡ slice_get xs k))
-get_set [] i x k h = absurd (omega (arith, h))
-get_set (y ∷ xs) zero x zero h = inl (refl, refl)
-get_set (y ∷ xs) zero x (suc k) h = inr ((λ e. omega (arith, e)), refl)
-get_set (y ∷ xs) (suc i) x zero h = inr ((λ e. omega (arith, e)), refl)
-get_set (y ∷ xs) (suc i) x (suc k) h = ⊎_elim
-    (λ o. inl (ap suc o.0, o.1))
-    (λ o. inr ((λ e. o.0 (omega (arith, e))), o.1))
-    (get_set xs i x k (omega (arith, h)))
 
 module _ (next : List (Option ℕ)) where
   pub chase_more : (v u x : ℕ) → StepsAlong next v u → slice_get next u ≡ Some (Some x) → StepsAlong next v x

@@ -2,19 +2,19 @@
 use Rattle.std.proofs.Common.{◌≡◌, ◌⊎◌, inl, inr, ⊎_elim, ℕ, zero, suc, ◌+◌, ◌<◌, List, [], ◌∷◌, ◌++◌, Option, None, Some, Bool, true, false, length, get_or, map, refl, sym, ap, ◌∙◌, subst, arith}
 use Rattle.std.specs.Prelude.{slice_get}
 use Rattle.std.proofs.lemmas.Option.{same_Some, none-some, slice_get_within}
-use Rattle.opt_solvers.specs.declared.dead_problem.Definer.{Definer}
-use Rattle.opt_solvers.specs.declared.dead_problem.Definer.TheVariants.{Result, Argument as ByArgument, Outside}
-use Rattle.opt_solvers.specs.declared.dead_problem.Operand.{Operand}
-use Rattle.opt_solvers.specs.DeadCandidates.{Candidate, around_of}
-use Rattle.opt_solvers.specs.declared.dead_problem.Argument.{Argument}
-use Rattle.opt_solvers.specs.declared.dead_problem.DeadProblem.{DeadProblem}
-use Rattle.opt_solvers.specs.Dead.{NumberedItem, Whole, Slot, IsInOperation, itself, further, IsBelow, IsInner, ItemMakes, CountsForItem, ItemMayGo, IsDeadItem, dies, IsExcusedOperand, by_operation, by_argument, IsDeadProblem}
-use Rattle.opt_solvers.specs.DeadPlaces.{ValueUse, IsValueUse, around_of_argument, around_operation, around_definer, slot, items, maker, IsAtOrAround, PlaceKeeps, IsKnownDefiner}
+use Rattle.opt_rows.specs.declared.dead_problem.Definer.{Definer}
+use Rattle.opt_rows.specs.declared.dead_problem.Definer.TheVariants.{Result, Argument as ByArgument, Outside}
+use Rattle.opt_rows.specs.declared.dead_problem.Operand.{Operand}
+use Rattle.opt_rows.specs.DeadCandidates.{Candidate, around_of}
+use Rattle.opt_rows.specs.declared.dead_problem.Argument.{Argument}
+use Rattle.opt_rows.specs.declared.dead_problem.DeadProblem.{DeadProblem}
+use Rattle.opt_rows.specs.Dead.{NumberedItem, Whole, Slot, IsInOperation, itself, further, IsBelow, IsInner, ItemMakes, CountsForItem, ItemMayGo, IsDeadItem, dies, IsExcusedOperand, by_operation, by_argument, IsDeadProblem}
+use Rattle.opt_steps.specs.DeadPlaces.{ValueUse, IsValueUse, around_of_argument, around_operation, around_definer, slot, items, maker, IsAtOrAround, PlaceKeeps, IsKnownDefiner}
 use Rattle.opt_solvers.specs.DeadRows.{slot_of, Excuses}
 use Rattle.opt_solvers.specs.DeadUses.{held, held_operation, held_argument, first_uses}
-use Rattle.opt_solvers.proofs.DeadLists.{there_is}
-use Rattle.opt_solvers.proofs.DeadCrossing.{around_there, in_below}
-use Rattle.opt_solvers.proofs.DeadKeeping.{argument_there, around_definer_number, user_number}
+use Rattle.opt_steps.proofs.DeadLists.{there_is}
+use Rattle.opt_steps.proofs.DeadCrossing.{around_there, in_below}
+use Rattle.opt_steps.proofs.DeadKeeping.{argument_there, around_definer_number, user_number}
 
 held_zero : (b : Bool) → held b ≡ 0 → b ≡ true
 held_zero true e = refl

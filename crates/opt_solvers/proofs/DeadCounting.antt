@@ -1,33 +1,18 @@
 -- Counting how often numbers are in rows.
-use Rattle.std.proofs.Common.{◌≡◌, ◌⊎◌, inl, inr, ⊎_elim, ℕ, zero, suc, ◌+◌, ◌<◌, ◌≤◌, List, [], ◌∷◌, ◌++◌, take, drop, Bool, true, false, nat_eq, length, get_or, map, refl, sym, ap, ◌∙◌, subst, arith, eq-eqb}
+use Rattle.std.proofs.Common.{◌≡◌, ◌⊎◌, ⊎_elim, ℕ, zero, suc, ◌+◌, ◌<◌, ◌≤◌, List, [], ◌∷◌, ◌++◌, take, drop, Bool, true, false, length, get_or, map, refl, sym, ap, ◌∙◌, subst, arith, eq-eqb}
 use Rattle.std.proofs.Math.ListN.{set}
-use Rattle.std.proofs.lemmas.List.{length-set, get_or-set_other, take_more, take-append-drop}
-use Rattle.std.proofs.lemmas.Grind.{get_or-set_at}
+use Rattle.std.proofs.lemmas.List.{length-set, take_more, take-append-drop}
 use Rattle.std.proofs.lemmas.Option.{slice_get_read, get_or_from_slice_get}
 use Rattle.digraph.specs.Counts.{one, count_of}
-use Rattle.opt_solvers.specs.Rows.{row_at}
-use Rattle.digraph.proofs.Counting.{count-append, same_numbers}
-use Rattle.opt_solvers.specs.DeadCandidates.{Candidate}
-use Rattle.opt_solvers.specs.declared.dead_problem.Argument.{Argument}
-use Rattle.opt_solvers.specs.declared.dead_problem.DeadProblem.{DeadProblem}
+use Rattle.opt_rows.specs.Rows.{row_at}
+use Rattle.opt_rows.specs.DeadCandidates.{Candidate, may_go_of}
+use Rattle.opt_rows.specs.declared.dead_problem.Argument.{Argument}
+use Rattle.opt_rows.specs.declared.dead_problem.DeadProblem.{DeadProblem}
 use Rattle.opt_solvers.specs.DeadUses.{held, held_operation, held_argument, first_uses, kept_by, CountsItems}
-
--- what is read at a place after a write
-pub read_set : (xs : List ℕ) (i v k : ℕ) → i < length xs → ((k ≡ i) × (get_or (set xs i v) k 0 ≡ v) × (one (nat_eq k i) ≡ 1)) ⊎ ((get_or (set xs i v) k 0 ≡ get_or xs k 0) × (one (nat_eq k i) ≡ 0))
-read_set xs i v k h = go (nat_eq k i) refl
-  where
-    go : (b : Bool) → nat_eq k i ≡ b → ((k ≡ i) × (get_or (set xs i v) k 0 ≡ v) × (one (nat_eq k i) ≡ 1)) ⊎ ((get_or (set xs i v) k 0 ≡ get_or xs k 0) × (one (nat_eq k i) ≡ 0))
-    go true e = inl (same_numbers k i e, get_or-set_at xs i k v 0 (same_numbers k i e) h, ap one e)
-    go false e = inr (get_or-set_other xs i k v 0 (λ q. let t = eq-eqb k i q in cc), ap one e)
+use Rattle.opt_steps.proofs.DeadReleasing.{read_set, count_more, count_take}
 
 pub read_any : (xs : List ℕ) (i x : ℕ) → i < length xs → x ≡ get_or xs i x → x ≡ get_or xs i 0
 read_any xs i x h e = sym (get_or_from_slice_get xs i x 0 (slice_get_read xs (length xs) i x refl h e))
-
-pub count_more : (x : ℕ) (xs : List ℕ) (i y : ℕ) → i < length xs → y ≡ get_or xs i y → count_of x (take (i + 1) xs) ≡ count_of x (take i xs) + one (nat_eq x y)
-count_more x xs i y h e = let a = ap (count_of x) (take_more xs i y h ∙ ap (λ z. take i xs ++ z ∷ []) (sym e)) in let b = count-append x (take i xs) (y ∷ []) in omega (arith, a, b)
-
-pub count_take : (x i : ℕ) (xs : List ℕ) → count_of x (take i xs) ≤ count_of x xs
-count_take x i xs = let a = ap (count_of x) (take-append-drop i xs) in let b = count-append x (take i xs) (drop i xs) in omega (arith, a, b)
 
 pub counting_begins : (old : List ℕ) → CountsItems (λ x. count_of x []) old old
 counting_begins old = record { len = refl; counts = λ x. omega arith }
@@ -88,3 +73,8 @@ first_most (c ∷ cs) vs (suc x) = first_most cs vs x
 
 pub uses_fit : (p : DeadProblem) (limit : ℕ) (rows : List (List ℕ)) → length rows + 1 < limit → ((k x : ℕ) → count_of x (row_at rows k) ≤ 1) → (x : ℕ) → get_or (first_uses p) x 0 + kept_by rows x < limit
 uses_fit p limit rows h f x = let a = kept_most rows x (λ k. f k x) in let b = first_most p.operations p.arguments.items x in omega (arith, a, b, h)
+
+-- what keeps each operation, by whether it may go
+pub held_once : (cs : List Candidate) → map held (map may_go_of cs) ≡ map held_operation cs
+held_once [] = refl
+held_once (c ∷ cs) = ap (λ (ns : List ℕ). held c.may_go ∷ ns) (held_once cs)

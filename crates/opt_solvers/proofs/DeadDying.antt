@@ -9,23 +9,23 @@ use Rattle.digraph.specs.Marks.{IsMarked}
 use Rattle.digraph.specs.Work.{HasNode, Waits, Adds, Takes, IsDone}
 use Rattle.digraph.specs.declared.worklist.Worklist.{Worklist}
 use Rattle.digraph.proofs.Counting.{same_numbers}
-use Rattle.opt_solvers.specs.declared.dead_problem.Operand.{Operand}
-use Rattle.opt_solvers.specs.declared.dead_problem.DeadProblem.{DeadProblem}
-use Rattle.opt_solvers.specs.declared.dead_problem.DeadItems.{DeadItems}
+use Rattle.opt_rows.specs.declared.dead_problem.Operand.{Operand}
+use Rattle.opt_rows.specs.declared.dead_problem.DeadProblem.{DeadProblem}
+use Rattle.opt_rows.specs.declared.dead_problem.DeadItems.{DeadItems}
 use Rattle.opt_solvers.specs.declared.dead_items.DeadTables.{DeadTables}
-use Rattle.opt_solvers.specs.Dead.{NumberedItem, Whole, Slot, IsInOperation, itself, further, IsDeadItem, dies, IsExcusedOperand, by_operation, by_argument, IsDeadProblem}
-use Rattle.opt_solvers.specs.DeadCandidates.{around_of}
-use Rattle.opt_solvers.specs.DeadPlaces.{ValueUse, operand_place, kept_place, all_places, around_operation, slot, items, PlaceKeeps}
+use Rattle.opt_rows.specs.Dead.{NumberedItem, Whole, Slot, IsInOperation, itself, further, IsDeadItem, dies, IsExcusedOperand, by_operation, by_argument, IsDeadProblem}
+use Rattle.opt_rows.specs.DeadCandidates.{around_of}
+use Rattle.opt_steps.specs.DeadPlaces.{ValueUse, operand_place, kept_place, all_places, around_operation, slot, items, PlaceKeeps}
 use Rattle.opt_solvers.specs.DeadRows.{slot_of, Excuses, IsExcusedBy, AreDeadTables}
-use Rattle.opt_solvers.specs.Rows.{row_at}
+use Rattle.opt_rows.specs.Rows.{row_at}
 use Rattle.opt_solvers.specs.DeadUses.{held_operation, held_argument, first_uses, kept_by, CountsItems}
-use Rattle.opt_solvers.specs.DeadRelease.{IsStarted, keeping, IsCounted, ExcusesAll}
+use Rattle.opt_steps.specs.DeadRelease.{IsStarted, keeping, IsCounted, ExcusesAll}
 use Rattle.opt_solvers.specs.DeadItems.{AreMarked, AreDead}
-use Rattle.opt_solvers.proofs.DeadLists.{below_or_at}
-use Rattle.opt_solvers.proofs.DeadPlacing.{default, same_operand, same_kept, place_is, is_place}
-use Rattle.opt_solvers.proofs.DeadCrossing.{around_there, around_number, in_more}
-use Rattle.opt_solvers.proofs.DeadKeeping.{known}
-use Rattle.opt_solvers.proofs.DeadReleasing.{keeping_zero, none_keeping}
+use Rattle.opt_steps.proofs.DeadLists.{below_or_at}
+use Rattle.opt_steps.proofs.DeadPlacing.{default, same_operand, same_kept, place_is, is_place}
+use Rattle.opt_steps.proofs.DeadCrossing.{around_there, around_number, in_more}
+use Rattle.opt_steps.proofs.DeadKeeping.{known}
+use Rattle.opt_steps.proofs.DeadReleasing.{keeping_zero, none_keeping}
 use Rattle.opt_solvers.proofs.DeadCases.{number, IsItem, item_within, may_item, may_unused, unused_may, counts_keeps, makes_keeps, keeps_counts, keeps_makes, dead_item, IsGone, IsExcusedPlace, excused_by}
 
 row_within : (rows : List (List ℕ)) (k x : ℕ) → Contains (row_at rows k) x → k < length rows

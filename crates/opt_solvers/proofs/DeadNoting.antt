@@ -2,18 +2,18 @@
 use Rattle.std.proofs.Common.{◌≡◌, ◌⊎◌, inl, inr, ⊎_elim, ℕ, zero, suc, ◌+◌, ◌<◌, ◌≤◌, List, [], ◌∷◌, Option, None, Some, get_or, length, take, replicate, refl, sym, ap, ◌∙◌, subst, arith}
 use Rattle.std.specs.Prelude.{Contains, slice_get}
 use Rattle.std.proofs.lemmas.Option.{same_Some, none-some, slice_get_within}
-use Rattle.opt_solvers.specs.declared.dead_problem.Operand.{Operand}
-use Rattle.opt_solvers.specs.declared.dead_problem.DeadProblem.{DeadProblem}
-use Rattle.opt_solvers.specs.Dead.{IsDeadProblem}
-use Rattle.opt_solvers.specs.LinkedRows.{RowsGain}
-use Rattle.opt_solvers.specs.Rows.{row_at}
-use Rattle.opt_solvers.specs.DeadCandidates.{all_operands, operands_before}
-use Rattle.opt_solvers.specs.DeadPlaces.{ValueUse, IsValueUse, all_places, slot, around_operation}
+use Rattle.opt_rows.specs.declared.dead_problem.Operand.{Operand}
+use Rattle.opt_rows.specs.declared.dead_problem.DeadProblem.{DeadProblem}
+use Rattle.opt_rows.specs.Dead.{IsDeadProblem}
+use Rattle.opt_rows.specs.LinkedRows.{RowsGain}
+use Rattle.opt_rows.specs.Rows.{row_at}
+use Rattle.opt_rows.specs.DeadCandidates.{all_operands, operands_before}
+use Rattle.opt_steps.specs.DeadPlaces.{ValueUse, IsValueUse, all_places, slot, around_operation}
 use Rattle.opt_solvers.specs.DeadRows.{slot_of, IsExcusedBy, ForwardsOperand, AreForwardedPlaces, AreInner}
-use Rattle.opt_solvers.proofs.FactsTabling.{gained_then, gained_as, all_listed, emptied, get_more_left, get_more_last, get_more_cases}
-use Rattle.opt_solvers.proofs.DeadCrossing.{around_there}
-use Rattle.opt_solvers.proofs.DeadKeeping.{user_number}
-use Rattle.opt_solvers.proofs.DeadPlacing.{place_is, user_between, between_user, forwarded_there, there_forwarded}
+use Rattle.opt_rows.proofs.Lists.{gained_then, gained_as, all_listed, emptied, get_more_left, get_more_last, get_more_cases}
+use Rattle.opt_steps.proofs.DeadCrossing.{around_there}
+use Rattle.opt_steps.proofs.DeadKeeping.{user_number}
+use Rattle.opt_steps.proofs.DeadPlacing.{place_is, user_between, between_user, forwarded_there, there_forwarded}
 
 -- the next operand
 pub operands_noted : (a b c : List (List ℕ)) (os : List Operand) (i : ℕ) (o : Operand) → i < length os → o ≡ get_or os i o

@@ -2,11 +2,11 @@
 use Rattle.std.proofs.Common.{zero, ◌≡◌, ℕ, suc, ◌<◌, List, [], ◌∷◌, Option, Some, None, true, length, map, refl, sym, ap, ◌∙◌, subst, arith}
 use Rattle.std.specs.Prelude.{slice_get}
 use Rattle.std.proofs.lemmas.Option.{none-some, same_Some}
-use Rattle.opt_solvers.specs.declared.known.Known.{Known}
-use Rattle.opt_solvers.specs.declared.known.Known.TheVariants.{Undetermined, One, Any}
-use Rattle.opt_solvers.specs.Known.{AtOrBelow, AllBelow, KnowsMore, asked, and_known, answer, MorePrecise}
-use Rattle.opt_solvers.specs.Facts.{Answers, NumberedFacts}
-use Rattle.opt_solvers.proofs.FactsFalling.{at_same, at_trans}
+use Rattle.opt_rows.specs.declared.known.Known.{Known}
+use Rattle.opt_rows.specs.declared.known.Known.TheVariants.{Undetermined, One, Any}
+use Rattle.opt_rows.specs.Known.{AtOrBelow, AllBelow, KnowsMore, asked, and_known, answer, MorePrecise}
+use Rattle.opt_rows.specs.Facts.{Answers, NumberedFacts}
+use Rattle.opt_rows.proofs.FactsFalling.{at_same, at_trans}
 
 -- the laws of what is answered
 pub record AreLawful {A : Type 0} (ask : Answers A) : Type 0 where

@@ -1,31 +1,25 @@
 -- What a solver begins with, and that there is one solution.
-use Rattle.std.proofs.Common.{zero, ◌≡◌, inl, inr, ⊎_elim, ℕ, suc, List, [], ◌∷◌, Some, None, Bool, true, false, length, map, replicate, refl, sym, ap, ◌∙◌, subst, arith}
-use Rattle.std.specs.Prelude.{Contains, slice_get, option_map, unwrap_or}
+use Rattle.std.proofs.Common.{zero, ◌≡◌, inl, inr, ⊎_elim, ℕ, suc, List, [], ◌∷◌, Some, None, Bool, true, false, length, map, refl, sym, ap, ◌∙◌, subst, arith}
+use Rattle.std.specs.Prelude.{Contains, slice_get, option_map}
 use Rattle.std.proofs.lemmas.Option.{none-some, same_Some, slice_get-map}
 use Rattle.std.proofs.lemmas.List.{length-map, length-replicate}
-use Rattle.opt_solvers.specs.declared.known.Known.{Known}
-use Rattle.opt_solvers.specs.declared.known.Known.TheVariants.{Undetermined, One, Any}
-use Rattle.opt_solvers.specs.OperationRows.{Row}
-use Rattle.opt_solvers.specs.declared.facts_problem.FactsProblem.{FactsProblem}
-use Rattle.opt_solvers.specs.Rows.{listed, row_at}
+use Rattle.opt_rows.specs.declared.known.Known.{Known}
+use Rattle.opt_rows.specs.declared.known.Known.TheVariants.{Undetermined, One, Any}
+use Rattle.opt_rows.specs.OperationRows.{Row}
+use Rattle.opt_rows.specs.declared.facts_problem.FactsProblem.{FactsProblem}
+use Rattle.opt_rows.specs.Rows.{listed, row_at}
 use Rattle.opt_solvers.specs.FactsSeen.{unseen}
-use Rattle.opt_solvers.specs.FactsTaken.{untaken}
-use Rattle.opt_solvers.specs.declared.facts_found.Found.{Found}
+use Rattle.opt_rows.specs.FactsTaken.{untaken}
+use Rattle.opt_rows.specs.declared.facts_found.Found.{Found}
 use Rattle.opt_solvers.specs.declared.facts_solver.Solver.{Solver}
-use Rattle.opt_solvers.specs.Known.{AtOrBelow, AllAny}
-use Rattle.opt_solvers.specs.Facts.{Answers, NumberedFacts, RunsWithAny, IsMostPreciseSolution}
-use Rattle.opt_solvers.specs.FactsFound.{facts_of, Meets, IsNothing}
-use Rattle.opt_solvers.specs.FactsSolving.{seen_of, IsTaken, IsSolving, IsWaiting, IsFirstFound, IsInitialSolver}
-use Rattle.opt_solvers.proofs.ChainsFollowing.{get_replicate}
-use Rattle.opt_solvers.proofs.FactsFalling.{at_top}
-use Rattle.opt_solvers.proofs.FactsEntering.{enters_stays}
-use Rattle.opt_solvers.proofs.FactsTabling.{contains_get}
-
--- what stands in a list of the same everywhere, or past its end
-same_anywhere : {X : Type 0} (n i : ℕ) (x : X) → unwrap_or (slice_get (replicate n x) i) x ≡ x
-same_anywhere zero i x = refl
-same_anywhere (suc n) zero x = refl
-same_anywhere (suc n) (suc i) x = same_anywhere n i x
+use Rattle.opt_rows.specs.Known.{AtOrBelow, AllAny}
+use Rattle.opt_rows.specs.Facts.{Answers, NumberedFacts, RunsWithAny, IsMostPreciseSolution}
+use Rattle.opt_rows.specs.FactsFound.{facts_of, Meets, IsNothing}
+use Rattle.opt_solvers.specs.FactsSolving.{seen_of, IsSolving, IsWaiting, IsFirstFound, IsInitialSolver}
+use Rattle.opt_steps.specs.FactsEdges.{IsTaken}
+use Rattle.opt_rows.proofs.Lists.{get_replicate, contains_get}
+use Rattle.opt_rows.proofs.FactsFalling.{at_top}
+use Rattle.opt_rows.proofs.FactsEntering.{enters_stays}
 
 true_both : (a b : Bool) → (a ≡ true → b ≡ true) → (b ≡ true → a ≡ true) → a ≡ b
 true_both true b f g = sym (f refl)
@@ -47,15 +41,6 @@ module _ {A : Type 0} where
   all_any_at f [] v h i e = absurd (none-some v e)
   all_any_at f (u ∷ vs) v h zero e = subst (λ w. f w ≡ Any) (same_Some u v e) h.0
   all_any_at f (u ∷ vs) v h (suc i) e = all_any_at f vs v h.1 i e
-
-  -- no block runs and nothing is known of any value
-  pub nothing : (s : Found A) (blocks values : ℕ) → s.runs.items ≡ replicate blocks false → s.known.items ≡ replicate values Undetermined → IsNothing s blocks values
-  nothing s blocks values r k = record {
-    blocks_len = ap length r ∙ length-replicate blocks false;
-    values_len = ap length k ∙ length-replicate values Undetermined;
-    none = λ b e. let f : false ≡ true = sym (ap (λ xs. unwrap_or (slice_get xs b) false) r ∙ same_anywhere blocks b false) ∙ e in cc;
-    undetermined = λ v. ap (λ (xs : List (Known A)). unwrap_or (slice_get xs v) Undetermined) k ∙ same_anywhere values v Undetermined;
-  }
 
   -- the entries were entered, and the values from outside given up
   pub begun : (p : FactsProblem) (a b c : Found A) (blocks values : List ℕ) → blocks ≡ p.entries.items → values ≡ p.outside.items → IsNothing a (length p.arguments.items) p.values → Meets (λ l. (n : ℕ) → Contains blocks n → RunsWithAny p l n) a b → Meets (λ l. AllAny l.of values) b c → IsFirstFound p c

@@ -1,15 +1,15 @@
 -- What is seen of operands, and what is asked by it.
 use Rattle.std.proofs.Common.{zero, ◌≡◌, ℕ, suc, Bool, true, false, ◌+◌, ◌-◌, ◌<◌, ◌≤◌, List, [], ◌∷◌, ◌++◌, Option, Some, None, length, get_or, take, drop, map, replicate, refl, sym, ap, ◌∙◌, subst, arith}
 use Rattle.std.proofs.Math.ListN.{set}
-use Rattle.std.proofs.lemmas.List.{take_all, length-set, length-map, length-append, length-replicate, map-append, replicate-append-replicate}
-use Rattle.opt_solvers.specs.declared.known.Known.{Known}
-use Rattle.opt_solvers.specs.declared.known.Known.TheVariants.{Undetermined, One, Any}
-use Rattle.opt_solvers.specs.Known.{asked, and_known}
-use Rattle.opt_solvers.specs.KnownFalls.{constant_of, one_if_undetermined, undetermined}
-use Rattle.opt_solvers.specs.OperationRows.{Row}
-use Rattle.opt_solvers.specs.Rows.{rows_from, AreEnds, row_at}
+use Rattle.std.proofs.lemmas.List.{length-set, length-map, length-append, length-replicate, map-append, replicate-append-replicate}
+use Rattle.opt_rows.specs.declared.known.Known.{Known}
+use Rattle.opt_rows.specs.declared.known.Known.TheVariants.{Undetermined, One, Any}
+use Rattle.opt_rows.specs.Known.{asked, and_known}
+use Rattle.opt_rows.specs.KnownFalls.{constant_of, one_if_undetermined, undetermined}
+use Rattle.opt_rows.specs.OperationRows.{Row}
+use Rattle.opt_rows.specs.Rows.{rows_from, AreEnds, row_at}
 use Rattle.opt_solvers.specs.FactsSeen.{seen_fact, seen_facts, is_found, one_unless, IsSeen, unseen}
-use Rattle.opt_solvers.proofs.Rows.{as_many, row_inside, row_more, ends_more, take_mapped, drop_mapped, StandsAt, row_length, entry_in, entry_read, entry_written}
+use Rattle.opt_rows.proofs.Rows.{as_many, row_inside, row_more, ends_more, take_mapped, drop_mapped, StandsAt, row_length, entry_in, entry_read, entry_written}
 
 pub undetermined-replicate : (A : Type 0) (n : ℕ) → undetermined {A = A} (replicate n Undetermined) ≡ n
 undetermined-replicate A zero = refl
@@ -31,11 +31,6 @@ facts_unseen A (suc n) = ap (λ (xs : List (Known A)). Undetermined ∷ xs) (fac
 unseen_counts : (A : Type 0) (rows : List Row) → map (λ (r : Row). length r.operands) rows ≡ map undetermined (map (unseen {A = A}) rows)
 unseen_counts A [] = refl
 unseen_counts A (r ∷ rows) = ap (λ (ms : List ℕ). length r.operands ∷ ms) (unseen_counts A rows) ∙ ap (λ (n : ℕ). n ∷ map undetermined (map (unseen {A = A}) rows)) (sym (undetermined-replicate A (length r.operands)))
-
--- a list that is made longer
-pub resized : {X : Type 0} (old new : List X) (n l k m : ℕ) (x : X) → new ≡ take n old ++ replicate (n - m) x → n ≡ l + k → l ≡ length old → m ≡ length old → new ≡ old ++ replicate k x
-resized old new n l k m x e h q r =
-    e ∙ (ap (λ (xs : List _). xs ++ replicate (n - m) x) (take_all n old (omega (arith, h, q))) ∙ ap (λ (j : ℕ). old ++ replicate j x) (omega (arith, h, q, r)))
 
 -- nothing is seen of the operands of these operations
 pub record IsUnseen (A : Type 0) (rows : List Row) (es : List ℕ) (fs : List Bool) (ms : List ℕ) : Type 0 where

@@ -3,23 +3,24 @@ use Rattle.std.proofs.Common.{◌≡◌, ◌⊎◌, inl, inr, ⊎_elim, ℕ, zer
 use Rattle.std.specs.Prelude.{Contains, slice_get, unwrap_or, not, count_by}
 use Rattle.std.proofs.lemmas.Option.{same_Some}
 use Rattle.std.proofs.lemmas.List.Elements.{Contains-push, Contains-push_cases}
-use Rattle.opt_solvers.specs.declared.known.Known.TheVariants.{Any}
-use Rattle.opt_solvers.specs.declared.facts_problem.Role.{Role}
-use Rattle.opt_solvers.specs.declared.facts_problem.Role.TheVariants.{Folds, Branches, Other}
-use Rattle.opt_solvers.specs.OperationRows.{BranchEdge, Row}
-use Rattle.opt_solvers.specs.declared.facts_problem.FactsProblem.{FactsProblem}
-use Rattle.opt_solvers.specs.declared.facts_found.Found.{Found}
+use Rattle.opt_rows.specs.declared.known.Known.TheVariants.{Any}
+use Rattle.opt_rows.specs.declared.facts_problem.Role.{Role}
+use Rattle.opt_rows.specs.declared.facts_problem.Role.TheVariants.{Folds, Branches, Other}
+use Rattle.opt_rows.specs.OperationRows.{BranchEdge, Row}
+use Rattle.opt_rows.specs.declared.facts_problem.FactsProblem.{FactsProblem}
+use Rattle.opt_rows.specs.declared.facts_found.Found.{Found}
 use Rattle.opt_solvers.specs.declared.facts_tables.Place.{Place}
 use Rattle.opt_solvers.specs.declared.facts_tables.Tables.{Tables}
 use Rattle.opt_solvers.specs.declared.facts_solver.Solver.{Solver}
-use Rattle.opt_solvers.specs.Known.{AtOrBelow, MorePrecise, asked}
-use Rattle.opt_solvers.specs.KnownFalls.{heights}
-use Rattle.opt_solvers.specs.Facts.{Answers, NumberedFacts, as_facts, arguments_of, RunsWithAny, RowEdgeClosed, EdgesClosed, ResultsClosed, RoleClosed, IsMostPreciseSolution}
-use Rattle.opt_solvers.specs.FactsFound.{facts_of, TakesBlock, TakesValue, HasNoBlock, HasNoValue}
-use Rattle.opt_solvers.specs.Rows.{row_at}
+use Rattle.opt_rows.specs.Known.{AtOrBelow, MorePrecise, asked}
+use Rattle.opt_rows.specs.KnownFalls.{heights}
+use Rattle.opt_rows.specs.Facts.{Answers, NumberedFacts, as_facts, arguments_of, RunsWithAny, RowEdgeClosed, EdgesClosed, ResultsClosed, RoleClosed, IsMostPreciseSolution}
+use Rattle.opt_rows.specs.FactsFound.{facts_of, TakesBlock, TakesValue, HasNoBlock, HasNoValue}
+use Rattle.opt_rows.specs.Rows.{row_at}
 use Rattle.opt_solvers.specs.FactsTables.{AreTables}
-use Rattle.opt_solvers.specs.FactsSolving.{seen_of, IsTaken, AnyResults, Started, EdgesTaken, Refreshed, IsSolving, IsWaiting, VisitsOperations, HasToTell, IsStep}
-use Rattle.opt_solvers.proofs.FactsEdging.{forwards_to}
+use Rattle.opt_solvers.specs.FactsSolving.{seen_of, AnyResults, Started, EdgesTaken, Refreshed, IsSolving, IsWaiting, VisitsOperations, HasToTell, IsStep}
+use Rattle.opt_steps.specs.FactsEdges.{IsTaken}
+use Rattle.opt_steps.proofs.FactsEdging.{forwards_to}
 use Rattle.opt_solvers.proofs.FactsAsking.{same_lists}
 use Rattle.opt_solvers.proofs.FactsTelling.{waiting_steps}
 

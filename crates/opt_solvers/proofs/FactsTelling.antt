@@ -5,25 +5,26 @@ use Rattle.std.proofs.Math.ListN.{set}
 use Rattle.std.proofs.lemmas.Option.{slice_get_within, same_Some}
 use Rattle.std.proofs.lemmas.List.{length-set}
 use Rattle.std.proofs.lemmas.List.Elements.{Contains-push, Contains-push_cases, Contains-append_left, Contains-append_cases}
-use Rattle.opt_solvers.specs.declared.known.Known.{Known}
-use Rattle.opt_solvers.specs.declared.known.Known.TheVariants.{Undetermined}
-use Rattle.opt_solvers.specs.OperationRows.{Row}
-use Rattle.opt_solvers.specs.declared.facts_problem.FactsProblem.{FactsProblem}
-use Rattle.opt_solvers.specs.Rows.{row_at}
-use Rattle.opt_solvers.specs.declared.facts_found.Found.{Found}
+use Rattle.opt_rows.specs.declared.known.Known.{Known}
+use Rattle.opt_rows.specs.declared.known.Known.TheVariants.{Undetermined}
+use Rattle.opt_rows.specs.OperationRows.{Row}
+use Rattle.opt_rows.specs.declared.facts_problem.FactsProblem.{FactsProblem}
+use Rattle.opt_rows.specs.Rows.{row_at}
+use Rattle.opt_rows.specs.declared.facts_found.Found.{Found}
 use Rattle.opt_solvers.specs.declared.facts_tables.Place.{Place}
 use Rattle.opt_solvers.specs.declared.facts_tables.Slot.{Slot}
 use Rattle.opt_solvers.specs.declared.facts_tables.Tables.{Tables}
 use Rattle.opt_solvers.specs.declared.facts_solver.Solver.{Solver}
-use Rattle.opt_solvers.specs.Known.{AtOrBelow, MorePrecise}
-use Rattle.opt_solvers.specs.Facts.{Answers, NumberedFacts, arguments_of, IsClosedSolution, IsProblem}
-use Rattle.opt_solvers.specs.FactsFound.{facts_of, Falls, Meets}
-use Rattle.opt_solvers.specs.FactsTables.{ReadsValue, ForwardsToArgument, AreTables}
-use Rattle.opt_solvers.specs.FactsSolving.{seen_of, IsTaken, SlotBelow, SlotsBelow, Refreshed, IsSolving, IsWaiting, SolverSteps, Refreshes, Sees, HasToTell}
-use Rattle.opt_solvers.proofs.FactsFalling.{decide, at_same, at_trans, falls_none, falls_as, meets_then, meets_as, meets_none, any_below, or_read}
-use Rattle.opt_solvers.proofs.FactsEntering.{enters_stays}
-use Rattle.opt_solvers.proofs.FactsTabling.{get-set_same, get-set_other, get_contains, table-set_same, table-set_other, contains_first, contains_behind}
-use Rattle.opt_solvers.proofs.FactsEdging.{forwards_from, lie_stays}
+use Rattle.opt_rows.specs.Known.{AtOrBelow, MorePrecise}
+use Rattle.opt_rows.specs.Facts.{Answers, NumberedFacts, arguments_of, IsClosedSolution, IsProblem}
+use Rattle.opt_rows.specs.FactsFound.{facts_of, Falls, Meets}
+use Rattle.opt_solvers.specs.FactsTables.{ReadsValue, AreTables}
+use Rattle.opt_steps.specs.FactsEdges.{ForwardsToArgument, IsTaken}
+use Rattle.opt_solvers.specs.FactsSolving.{seen_of, SlotBelow, SlotsBelow, Refreshed, IsSolving, IsWaiting, SolverSteps, Refreshes, Sees, HasToTell}
+use Rattle.opt_rows.proofs.Lists.{decide, get-set_same, get-set_other, get_contains, table-set_same, table-set_other, contains_first, contains_behind}
+use Rattle.opt_rows.proofs.FactsFalling.{at_same, at_trans, falls_none, falls_as, meets_then, meets_as, meets_none, any_below, or_read}
+use Rattle.opt_rows.proofs.FactsEntering.{enters_stays}
+use Rattle.opt_steps.proofs.FactsEdging.{forwards_from, lie_stays}
 use Rattle.opt_solvers.proofs.FactsVisiting.{done_stays, started_stays, refreshed_stays}
 
 pub one_contained : (v u : ℕ) → Contains (v ∷ []) u → u ≡ v

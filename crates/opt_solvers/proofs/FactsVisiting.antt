@@ -5,21 +5,23 @@ use Rattle.std.specs.declared.vec.Vec.{Vec}
 use Rattle.std.specs.declared.alloc.Global.{Global}
 use Rattle.std.proofs.lemmas.Option.{slice_get_read, slice_get_within, same_Some}
 use Rattle.std.proofs.lemmas.List.Elements.{Contains-push_cases}
-use Rattle.opt_solvers.specs.declared.known.Known.{Known}
-use Rattle.opt_solvers.specs.declared.facts_problem.Role.{Role}
-use Rattle.opt_solvers.specs.declared.facts_problem.Role.TheVariants.{Folds, Branches, Other}
-use Rattle.opt_solvers.specs.OperationRows.{BranchEdge, Row}
-use Rattle.opt_solvers.specs.declared.facts_problem.FactsProblem.{FactsProblem}
-use Rattle.opt_solvers.specs.declared.facts_found.Found.{Found}
+use Rattle.opt_rows.specs.declared.known.Known.{Known}
+use Rattle.opt_rows.specs.declared.facts_problem.Role.{Role}
+use Rattle.opt_rows.specs.declared.facts_problem.Role.TheVariants.{Folds, Branches, Other}
+use Rattle.opt_rows.specs.OperationRows.{BranchEdge, Row}
+use Rattle.opt_rows.specs.declared.facts_problem.FactsProblem.{FactsProblem}
+use Rattle.opt_rows.specs.declared.facts_found.Found.{Found}
 use Rattle.opt_solvers.specs.declared.facts_solver.Solver.{Solver}
-use Rattle.opt_solvers.specs.Known.{AtOrBelow, AllBelow, MorePrecise, asked, answer}
-use Rattle.opt_solvers.specs.Facts.{Answers, NumberedFacts, RunsWithAny, IsFeasibleTarget, RowEdgeClosed, EdgesClosed, ResultsClosed, RoleClosed, IsClosedSolution}
-use Rattle.opt_solvers.specs.FactsFound.{facts_of, Falls, Meets}
-use Rattle.opt_solvers.specs.Rows.{row_at}
-use Rattle.opt_solvers.specs.FactsSolving.{seen_of, IsTaken, Marks, EdgeLies, MarkedClosed, TakesMarkedEdges, AnyResults, Started, EdgesTaken, Refreshed, RowDone, IsSolving, SolverSteps, Refreshes, VisitsOperations}
-use Rattle.opt_solvers.proofs.FactsFalling.{decide, at_trans, falls_none, falls_then, falls_as, meets_then, meets_as, meets_none}
-use Rattle.opt_solvers.proofs.FactsEntering.{all_any_stays, enters_stays}
-use Rattle.opt_solvers.proofs.FactsEdging.{edge_stays}
+use Rattle.opt_rows.specs.Known.{AtOrBelow, AllBelow, MorePrecise, asked, answer}
+use Rattle.opt_rows.specs.Facts.{Answers, NumberedFacts, RunsWithAny, IsFeasibleTarget, RowEdgeClosed, EdgesClosed, ResultsClosed, RoleClosed, IsClosedSolution}
+use Rattle.opt_rows.specs.FactsFound.{facts_of, Falls, Meets}
+use Rattle.opt_rows.specs.Rows.{row_at}
+use Rattle.opt_solvers.specs.FactsSolving.{seen_of, AnyResults, Started, EdgesTaken, Refreshed, RowDone, IsSolving, SolverSteps, Refreshes, VisitsOperations}
+use Rattle.opt_steps.specs.FactsEdges.{IsTaken, Marks, EdgeLies, MarkedClosed, TakesMarkedEdges}
+use Rattle.opt_rows.proofs.Lists.{decide}
+use Rattle.opt_rows.proofs.FactsFalling.{at_trans, falls_none, falls_then, falls_as, meets_then, meets_as, meets_none}
+use Rattle.opt_rows.proofs.FactsEntering.{all_any_stays, enters_stays}
+use Rattle.opt_steps.proofs.FactsEdging.{edge_stays}
 use Rattle.opt_solvers.proofs.FactsAsking.{AreLawful, BelowUpto, AskedBelow, pairs, asked_below, answers_below, all_below_stays, all_below_at, all_below_from, asked_length}
 
 -- what is asked of an operation that stands at a row

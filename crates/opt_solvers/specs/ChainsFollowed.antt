@@ -3,7 +3,7 @@ use Rattle.std.specs.Prelude.{◌≡◌, ◌⊎◌, ◌<◌, ℕ, Bool, true, fa
 use Rattle.opt_solvers.specs.declared.chains_followed.Mark.{Mark}
 use Rattle.opt_solvers.specs.declared.chains_followed.Mark.TheVariants.{New, OnPath, Done}
 use Rattle.opt_solvers.specs.declared.chains_followed.Following.{Following}
-use Rattle.opt_solvers.specs.Chains.{EndsUpAt, StepsAlong}
+use Rattle.opt_rows.specs.Chains.{EndsUpAt, StepsAlong}
 
 -- what a number stands for is a number below the count
 abbrev pub AreLinksInRange : List (Option ℕ) → Type 0

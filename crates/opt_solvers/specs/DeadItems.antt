@@ -1,8 +1,8 @@
 -- Marks of items, by their counts of uses.
 use Rattle.std.specs.Prelude.{◌≡◌, ℕ, List, length, map, nat_eq, take, drop, true, Some, slice_get, ◌↔◌}
-use Rattle.opt_solvers.specs.declared.dead_problem.DeadProblem.{DeadProblem}
-use Rattle.opt_solvers.specs.declared.dead_problem.DeadItems.{DeadItems}
-use Rattle.opt_solvers.specs.Dead.{Whole, Slot, IsDeadItem}
+use Rattle.opt_rows.specs.declared.dead_problem.DeadProblem.{DeadProblem}
+use Rattle.opt_rows.specs.declared.dead_problem.DeadItems.{DeadItems}
+use Rattle.opt_rows.specs.Dead.{Whole, Slot, IsDeadItem}
 
 -- the lists are as long as there are operations and arguments, and exactly the dead are marked
 pub record AreDead (p : DeadProblem) (dead : DeadItems) : Type 0 where

@@ -2,15 +2,15 @@
 use Rattle.std.specs.Prelude.{◌≡◌, ◌⊎◌, ℕ, List, false, length, replicate, Option, Some, None, slice_get}
 use Rattle.digraph.specs.Work.{Adds}
 use Rattle.digraph.specs.declared.worklist.Worklist.{Worklist}
-use Rattle.opt_solvers.specs.declared.dead_problem.Operand.{Operand}
-use Rattle.opt_solvers.specs.declared.dead_problem.DeadProblem.{DeadProblem}
-use Rattle.opt_solvers.specs.declared.dead_release.Counts.{Counts}
+use Rattle.opt_rows.specs.declared.dead_problem.Operand.{Operand}
+use Rattle.opt_rows.specs.declared.dead_problem.DeadProblem.{DeadProblem}
+use Rattle.opt_steps.specs.declared.dead_release.Counts.{Counts}
 use Rattle.opt_solvers.specs.declared.dead_items.DeadTables.{DeadTables}
-use Rattle.opt_solvers.specs.Rows.{row_at}
-use Rattle.opt_solvers.specs.LinkedRows.{TableLists}
-use Rattle.opt_solvers.specs.DeadCandidates.{all_operands}
-use Rattle.opt_solvers.specs.DeadPlaces.{ValueUse, all_places, slot, around_operation, AreKeptRows}
-use Rattle.opt_solvers.specs.DeadRelease.{ExcusesAll, IsStarted}
+use Rattle.opt_rows.specs.Rows.{row_at}
+use Rattle.opt_rows.specs.LinkedRows.{TableLists}
+use Rattle.opt_rows.specs.DeadCandidates.{all_operands}
+use Rattle.opt_steps.specs.DeadPlaces.{ValueUse, all_places, slot, around_operation, AreKeptRows}
+use Rattle.opt_steps.specs.DeadRelease.{ExcusesAll, IsStarted}
 use Rattle.opt_solvers.specs.DeadUses.{kept_by, first_uses, CountsItems}
 
 -- the number of an argument among the items, if there is one

@@ -1,7 +1,7 @@
 -- There is one solution.
 use Rattle.std.specs.Prelude.{◌≡◌}
-use Rattle.opt_solvers.specs.declared.facts_problem.FactsProblem.{FactsProblem}
-use Rattle.opt_solvers.specs.Facts.{Answers, NumberedFacts, IsMostPreciseSolution}
+use Rattle.opt_rows.specs.declared.facts_problem.FactsProblem.{FactsProblem}
+use Rattle.opt_rows.specs.Facts.{Answers, NumberedFacts, IsMostPreciseSolution}
 
 -- most precise facts of one problem are the same functions, whatever is answered
 abbrev pub OneMostPrecise : Type 0 → Type 0

@@ -1,12 +1,12 @@
 -- What operations have seen of their operands, kept in lists of all operands.
 use Rattle.std.specs.Prelude.{◌≡◌, ℕ, Bool, true, false, List, [], ◌∷◌, ◌++◌, length, map, replicate, Option}
-use Rattle.opt_solvers.specs.declared.known.Known.{Known}
-use Rattle.opt_solvers.specs.declared.known.Known.TheVariants.{Undetermined, One, Any}
+use Rattle.opt_rows.specs.declared.known.Known.{Known}
+use Rattle.opt_rows.specs.declared.known.Known.TheVariants.{Undetermined, One, Any}
 use Rattle.opt_solvers.specs.declared.facts_seen.Blank.{Blank}
-use Rattle.opt_solvers.specs.OperationRows.{Row}
-use Rattle.opt_solvers.specs.Known.{answer}
-use Rattle.opt_solvers.specs.KnownFalls.{constant_of, undetermined}
-use Rattle.opt_solvers.specs.Rows.{rows_from, AreEnds}
+use Rattle.opt_rows.specs.OperationRows.{Row}
+use Rattle.opt_rows.specs.Known.{answer}
+use Rattle.opt_rows.specs.KnownFalls.{constant_of, undetermined}
+use Rattle.opt_rows.specs.Rows.{rows_from, AreEnds}
 
 -- what is seen of an operand, by whether anything is, and by the constant, if it is one
 abbrev pub seen_fact : {A : Type 0} → Bool → Option A → Known A

@@ -1,22 +1,22 @@
 -- What a solver keeps true while facts fall.
 use Rattle.std.specs.Prelude.{◌≡◌, ◌⊎◌, ℕ, ◌<◌, ◌≤◌, Bool, true, false, List, [], map, length, Option, Some, None, slice_get, Contains, replicate}
-use Rattle.opt_solvers.specs.declared.known.Known.{Known}
-use Rattle.opt_solvers.specs.declared.known.Known.TheVariants.{Any, Undetermined}
-use Rattle.opt_solvers.specs.declared.facts_problem.Role.{Role}
-use Rattle.opt_solvers.specs.declared.facts_problem.Role.TheVariants.{Folds, Branches, Other}
-use Rattle.opt_solvers.specs.OperationRows.{BranchEdge, Row}
-use Rattle.opt_solvers.specs.declared.facts_problem.FactsProblem.{FactsProblem}
-use Rattle.opt_solvers.specs.Rows.{row_at}
-use Rattle.opt_solvers.specs.declared.facts_found.Found.{Found}
+use Rattle.opt_rows.specs.declared.known.Known.{Known}
+use Rattle.opt_rows.specs.declared.known.Known.TheVariants.{Any, Undetermined}
+use Rattle.opt_rows.specs.declared.facts_problem.Role.{Role}
+use Rattle.opt_rows.specs.declared.facts_problem.Role.TheVariants.{Folds, Branches, Other}
+use Rattle.opt_rows.specs.OperationRows.{BranchEdge, Row}
+use Rattle.opt_rows.specs.declared.facts_problem.FactsProblem.{FactsProblem}
+use Rattle.opt_rows.specs.Rows.{row_at}
+use Rattle.opt_rows.specs.declared.facts_found.Found.{Found}
 use Rattle.opt_solvers.specs.declared.facts_tables.Place.{Place}
 use Rattle.opt_solvers.specs.declared.facts_tables.Slot.{Slot}
 use Rattle.opt_solvers.specs.declared.facts_solver.Solver.{Solver}
-use Rattle.opt_solvers.specs.Known.{AtOrBelow, AllBelow, AllAny, MorePrecise, asked, answer}
-use Rattle.opt_solvers.specs.Facts.{Answers, NumberedFacts, arguments_of, RunsWithAny, IsFeasibleTarget, RowEdgeClosed, ResultsClosed, IsClosedSolution}
-use Rattle.opt_solvers.specs.FactsFound.{facts_of, left, Falls}
-use Rattle.opt_solvers.specs.FactsTables.{ForwardsToArgument}
+use Rattle.opt_rows.specs.Known.{AtOrBelow, AllBelow, AllAny, MorePrecise, asked, answer}
+use Rattle.opt_rows.specs.Facts.{Answers, NumberedFacts, RunsWithAny, IsFeasibleTarget, RowEdgeClosed, ResultsClosed, IsClosedSolution}
+use Rattle.opt_rows.specs.FactsFound.{facts_of, left, Falls}
+use Rattle.opt_steps.specs.FactsEdges.{IsTaken, EdgeLies, MarkedClosed}
 use Rattle.opt_solvers.specs.FactsSeen.{unseen}
-use Rattle.opt_solvers.specs.FactsTaken.{untaken}
+use Rattle.opt_rows.specs.FactsTaken.{untaken}
 
 -- what an operation has seen of its operands
 abbrev pub seen_of : {A : Type 0} → List (List (Known A)) → ℕ → List (Known A)
@@ -33,62 +33,6 @@ HasRole p i role = (r : Row) → slice_get p.rows i ≡ Some r → r.role ≡ ro
 -- its block runs
 abbrev pub RowRuns : {A : Type 0} → FactsProblem → Found A → ℕ → Type 0
 RowRuns p s i = (r : Row) → slice_get p.rows i ≡ Some r → (facts_of s).runs r.block ≡ true
-
--- the edge of the operation is taken
-abbrev pub IsTaken : List (List Bool) → ℕ → ℕ → Type 0
-IsTaken ts i n = slice_get (row_at ts i) n ≡ Some true
-
--- the targets of feasible edges are marked with the operation's number, as far as the edges were looked at, and no other block
-pub record Marks {A : Type 0} (ask : Answers A) (i : ℕ) (r : Row) (xs : List (Option A)) (upto : ℕ) (old new : List (Option ℕ)) : Type 0 where
-  pub len : length new ≡ length old
-  pub keeps : (b : ℕ) → slice_get old b ≡ Some (Some i) → slice_get new b ≡ Some (Some i)
-  pub has : (n : ℕ) (e : BranchEdge) → n < upto → slice_get r.edges n ≡ Some e → ask.feasible i xs n ≡ true → slice_get new e.target ≡ Some (Some i)
-  pub only : (b j : ℕ) → slice_get new b ≡ Some (Some j) → (slice_get old b ≡ Some (Some j)) ⊎ ((j ≡ i) × IsFeasibleTarget ask i r xs b)
-
--- all edges were looked at
-abbrev pub MarksTargets : {A : Type 0} → Answers A → ℕ → Row → List (Option A) → List (Option ℕ) → List (Option ℕ) → Type 0
-MarksTargets ask i r xs = Marks ask i r xs (length r.edges)
-
--- each argument lies at or below what is forwarded to it
-abbrev pub ForwardsBelow : {A : Type 0} → List ℕ → List ℕ → List ℕ → NumberedFacts A → Type 0
-ForwardsBelow arguments forwards operands k = (v w : ℕ) → ForwardsToArgument arguments forwards operands v w → AtOrBelow (k.of w) (k.of v)
-
--- or what is forwarded waits
-abbrev pub ForwardsLie : {A : Type 0} → List ℕ → List ℕ → List ℕ → Found A → List ℕ → Type 0
-ForwardsLie arguments forwards operands s popped = (v w : ℕ) → ForwardsToArgument arguments forwards operands v w → AtOrBelow ((facts_of s).of w) ((facts_of s).of v) ⊎ (Contains s.values.items v ⊎ Contains popped v)
-
--- the arguments were lowered by what is forwarded to them
-pub record ForwardsAll {A : Type 0} (arguments forwards operands : List ℕ) (old new : Found A) : Type 0 where
-  pub steps : Falls (ForwardsBelow arguments forwards operands) old new
-  pub lie : ForwardsLie arguments forwards operands new []
-
--- a taken edge: its target runs, and its arguments lie at or below what is forwarded, unless that waits
-pub record EdgeLies {A : Type 0} (p : FactsProblem) (s : Found A) (popped : List ℕ) (r : Row) (e : BranchEdge) : Type 0 where
-  pub target : (facts_of s).runs e.target ≡ true
-  pub arguments : ForwardsLie (arguments_of p e.target) e.forwards r.operands s popped
-
--- an edge was taken
-pub record TakesEdge {A : Type 0} (p : FactsProblem) (r : Row) (e : BranchEdge) (old new : Found A) : Type 0 where
-  pub steps : Falls (λ l. RowEdgeClosed p l r e) old new
-  pub lies : EdgeLies p new [] r e
-
--- the edges with marked targets are closed
-abbrev pub MarkedClosed : {A : Type 0} → FactsProblem → ℕ → Row → List (Option ℕ) → NumberedFacts A → Type 0
-MarkedClosed p i r marks l = (n : ℕ) (e : BranchEdge) → slice_get r.edges n ≡ Some e → slice_get marks e.target ≡ Some (Some i) → RowEdgeClosed p l r e
-
--- the edges with marked targets are taken, as far as they were looked at, and no other operation's
-pub record TakesMarkedEdges {A : Type 0} (p : FactsProblem) (i : ℕ) (r : Row) (marks : List (Option ℕ)) (upto : ℕ) (taken after : List (List Bool)) (old new : Found A) : Type 0 where
-  pub len : length after ≡ length taken
-  pub edges_len : length (row_at after i) ≡ length (row_at taken i)
-  pub others : (j : ℕ) → (j ≡ i → ⊥) → row_at after j ≡ row_at taken j
-  pub steps : Falls (MarkedClosed p i r marks) old new
-  pub keeps : (n : ℕ) → IsTaken taken i n → IsTaken after i n
-  pub has : (n : ℕ) (e : BranchEdge) → n < upto → slice_get r.edges n ≡ Some e → slice_get marks e.target ≡ Some (Some i) → IsTaken after i n
-  pub only : (n : ℕ) (e : BranchEdge) → slice_get r.edges n ≡ Some e → IsTaken after i n → IsTaken taken i n ⊎ ((slice_get marks e.target ≡ Some (Some i)) × EdgeLies p new [] r e)
-
--- all edges were looked at
-abbrev pub TakesAllMarked : {A : Type 0} → FactsProblem → ℕ → Row → List (Option ℕ) → List (List Bool) → List (List Bool) → Found A → Found A → Type 0
-TakesAllMarked p i r marks = TakesMarkedEdges p i r marks (length r.edges)
 
 -- the results lie at or below what the operation folds to
 abbrev pub FoldsBelow : {A : Type 0} → Answers A → ℕ → List ℕ → List (Option A) → NumberedFacts A → Type 0

@@ -1,12 +1,13 @@
 -- Tables of the rows of blocks, of the places that read values, and of the places that they are forwarded to.
 use Rattle.std.specs.Prelude.{◌≡◌, ℕ, List, [], length, replicate, Some, slice_get}
-use Rattle.opt_solvers.specs.OperationRows.{BranchEdge, Row}
-use Rattle.opt_solvers.specs.declared.facts_problem.FactsProblem.{FactsProblem}
+use Rattle.opt_rows.specs.OperationRows.{BranchEdge, Row}
+use Rattle.opt_rows.specs.declared.facts_problem.FactsProblem.{FactsProblem}
 use Rattle.opt_solvers.specs.declared.facts_tables.Place.{Place}
 use Rattle.opt_solvers.specs.declared.facts_tables.Slot.{Slot}
 use Rattle.opt_solvers.specs.declared.facts_tables.Tables.{Tables}
-use Rattle.opt_solvers.specs.LinkedRows.{RowsGain, TableLists}
-use Rattle.opt_solvers.specs.Facts.{arguments_of}
+use Rattle.opt_rows.specs.LinkedRows.{RowsGain, TableLists}
+use Rattle.opt_rows.specs.Facts.{arguments_of}
+use Rattle.opt_steps.specs.FactsEdges.{ForwardsToArgument}
 
 -- the operation with this number is in the block
 pub record IsRowInBlock (rows : List Row) (b i : ℕ) : Type 0 where
@@ -19,14 +20,6 @@ pub record ReadsValue (rows : List Row) (v : ℕ) (x : Place) : Type 0 where
   pub row : Row
   pub there : slice_get rows x.row ≡ Some row
   pub operand : slice_get row.operands x.operand ≡ Some v
-
--- by an edge with these forwards the value is forwarded to the argument
-pub record ForwardsToArgument (arguments indices operands : List ℕ) (v w : ℕ) : Type 0 where
-  pub index : ℕ
-  pub argument : slice_get arguments index ≡ Some w
-  pub operand : ℕ
-  pub forwards : slice_get indices index ≡ Some operand
-  pub value : slice_get operands operand ≡ Some v
 
 -- along the edge with this number
 pub record ForwardsAlong (p : FactsProblem) (edges : List BranchEdge) (operands : List ℕ) (v n w : ℕ) : Type 0 where

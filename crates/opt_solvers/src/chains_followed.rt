@@ -1,6 +1,6 @@
 //! Values that stand for others, followed to what they stand for in the end.
 ghost use Rattle.std.specs.Prelude.{ℕ, ◌≡◌, ◌<◌, [], All, IfOk, OnOk, MatchOption, length};
-ghost use Rattle.opt_solvers.specs.Chains.{StepsAlong};
+ghost use Rattle.opt_rows.specs.Chains.{StepsAlong};
 ghost use Rattle.opt_solvers.specs.ChainsFollowed.{AreLinksInRange, IsFollowing, AreUnfollowed, EntersPath, Walks, WritesBack, FindsFinal, AreFinals};
 
 use std::alloc::{AllocError, Global};

@@ -1,20 +1,17 @@
 //! The dead operations and arguments.
 ghost use Rattle.std.specs.Prelude.{ℕ, ◌≡◌, ◌≤◌, ◌<◌, Contains, IfOk, OnOk, length, map, nat_eq};
 ghost use Rattle.digraph.specs.Work.{Adds};
-ghost use Rattle.opt_solvers.specs.Dead.{IsDeadProblem};
+ghost use Rattle.opt_rows.specs.Dead.{IsDeadProblem};
 ghost use Rattle.opt_solvers.specs.DeadItems.{AreDead, AreMarked};
-ghost use Rattle.opt_solvers.specs.DeadPlaces.{items};
-ghost use Rattle.opt_solvers.specs.DeadRelease.{AreCounts};
+ghost use Rattle.opt_steps.specs.DeadPlaces.{items};
+ghost use Rattle.opt_steps.specs.DeadRelease.{AreCounts};
 ghost use Rattle.opt_solvers.specs.DeadRows.{AreDeadTables, AreFirstCounts, LetsGo};
 
-use crate::dead_kept::kept_rows;
-use crate::dead_problem::{DeadItems, DeadProblem};
-use crate::dead_release::{Counts, excuse_between, excuse_row, started};
 use crate::dead_rows::{forwarded_rows, inner_rows};
 use crate::dead_uses::count_uses;
-use crate::linked_rows::{LinkedRows, RowItems};
-use crate::number_rows::NumberRows;
 use digraph::Worklist;
+use opt_rows::{DeadItems, DeadProblem, LinkedRows, NumberRows, RowItems};
+use opt_steps::{Counts, excuse_between, excuse_row, kept_rows, started};
 use std::alloc::{AllocError, Global};
 
 /// What is known of uses and items before any item goes.

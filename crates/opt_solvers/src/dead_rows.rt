@@ -1,11 +1,10 @@
 //! What each item excuses once it goes: places, and what is inside it.
 ghost use Rattle.std.specs.Prelude.{ℕ, ◌≡◌, ◌<◌, IfOk, OnOk, length};
-ghost use Rattle.opt_solvers.specs.Dead.{IsDeadProblem};
-ghost use Rattle.opt_solvers.specs.LinkedRows.{RowsGain};
+ghost use Rattle.opt_rows.specs.Dead.{IsDeadProblem};
+ghost use Rattle.opt_rows.specs.LinkedRows.{RowsGain};
 ghost use Rattle.opt_solvers.specs.DeadRows.{AreForwardedPlaces, AreInner};
 
-use crate::dead_problem::DeadProblem;
-use crate::linked_rows::LinkedRows;
+use opt_rows::{DeadProblem, LinkedRows};
 use std::alloc::{AllocError, Global};
 
 /// Puts a number into a row, if there is one.

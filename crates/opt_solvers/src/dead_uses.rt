@@ -1,11 +1,10 @@
 //! How many uses keep each item.
 ghost use Rattle.std.specs.Prelude.{ℕ, ◌≡◌, ◌<◌, ◌≤◌, ◌+◌, ◌++◌, ◌^◌, IfOk, Contains, length, map, slice_index};
 ghost use Rattle.digraph.specs.Counts.{count_of};
-ghost use Rattle.opt_solvers.specs.Rows.{row_at};
+ghost use Rattle.opt_rows.specs.Rows.{row_at};
 ghost use Rattle.opt_solvers.specs.DeadUses.{held, held_argument, first_uses, kept_by, CountsItems};
 
-use crate::dead_problem::{Argument, DeadProblem};
-use crate::number_rows::NumberRows;
+use opt_rows::{Argument, DeadProblem, NumberRows};
 use std::alloc::{AllocError, Global};
 
 /// A use that never goes, of an item that may not go.

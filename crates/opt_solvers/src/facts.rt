@@ -3,23 +3,19 @@
 //! Source: Wegman and Zadeck, Constant propagation with conditional branches, 1991, by two lists: blocks that began to
 //! run, and values of which less is known than those that look at them saw.
 ghost use Rattle.std.specs.Prelude.{ℕ, ◌≡◌, true, length, IfOk, OnOk, Some, slice_get, []};
-ghost use Rattle.opt_solvers.specs.OperationRows.{Row};
-ghost use Rattle.opt_solvers.specs.Facts.{IsProblem, IsMostPreciseSolution, as_facts};
+ghost use Rattle.opt_rows.specs.OperationRows.{Row};
+ghost use Rattle.opt_rows.specs.Facts.{IsProblem, IsMostPreciseSolution, as_facts};
 ghost use Rattle.opt_solvers.specs.FactsLaw.{OneMostPrecise};
-ghost use Rattle.opt_solvers.specs.FactsFound.{facts_of};
+ghost use Rattle.opt_rows.specs.FactsFound.{facts_of};
 ghost use Rattle.opt_solvers.specs.FactsTables.{AreTables};
 ghost use Rattle.opt_solvers.specs.FactsSolving.{IsFirstFound, IsInitialSolver, CanAskRows, IsSolving, IsWaiting, IsStep};
 
-use crate::facts_found::Found;
-use crate::facts_problem::{FactsProblem, Folding};
 use crate::facts_rows::visit_block;
 use crate::facts_seen::Seen;
 use crate::facts_solver::Solver;
 use crate::facts_tables::{Tables, tables_of};
-use crate::facts_taken::Taken;
 use crate::facts_values::tell_value;
-use crate::known::Known;
-use crate::operation_rows::OperationRows;
+use opt_rows::{FactsProblem, Folding, Found, Known, Taken};
 use std::alloc::{AllocError, Global};
 
 /// What is known of a problem's blocks and values.

@@ -1,19 +1,16 @@
 //! Operations, looked at as their blocks begin to run and as their operands become known.
 ghost use Rattle.std.specs.Prelude.{ℕ, ◌≡◌, ◌<◌, true, [], length, OnOk, Contains};
-ghost use Rattle.opt_solvers.specs.declared.facts_problem.Role.TheVariants.{Folds, Branches};
-ghost use Rattle.opt_solvers.specs.OperationRows.{row_numbered};
-ghost use Rattle.opt_solvers.specs.Facts.{IsProblem};
-ghost use Rattle.opt_solvers.specs.FactsFound.{facts_of, Meets};
+ghost use Rattle.opt_rows.specs.declared.facts_problem.Role.TheVariants.{Folds, Branches};
+ghost use Rattle.opt_rows.specs.OperationRows.{row_numbered};
+ghost use Rattle.opt_rows.specs.Facts.{IsProblem};
+ghost use Rattle.opt_rows.specs.FactsFound.{facts_of, Meets};
 ghost use Rattle.opt_solvers.specs.FactsTables.{AreTables};
-ghost use Rattle.opt_solvers.specs.FactsSolving.{CanAskRows, HasRole, RowRuns, FoldsBelow, AnyResults};
-ghost use Rattle.opt_solvers.specs.FactsSolving.{Started, IsSolving, Refreshes, VisitsOperations};
+ghost use Rattle.opt_solvers.specs.FactsSolving.{CanAskRows, HasRole, RowRuns, FoldsBelow, AnyResults, Started, IsSolving, Refreshes, VisitsOperations};
 
-use crate::facts_edges::{mark_targets, take_marked};
-use crate::facts_found::Found;
-use crate::facts_problem::{FactsProblem, Folding, Role};
 use crate::facts_solver::Solver;
 use crate::facts_tables::Tables;
-use crate::known::of_answer;
+use opt_rows::{FactsProblem, Folding, Found, Role, of_answer};
+use opt_steps::{mark_targets, take_marked};
 use std::alloc::{AllocError, Global};
 
 /// Lowers the results of an operation by what it folds to.

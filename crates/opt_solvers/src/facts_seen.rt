@@ -1,11 +1,9 @@
 //! What operations have seen of their operands.
 ghost use Rattle.std.specs.Prelude.{◌≡◌, None, IfOk, OnOk, length, replicate};
-ghost use Rattle.opt_solvers.specs.KnownFalls.{constant_of};
+ghost use Rattle.opt_rows.specs.KnownFalls.{constant_of};
 ghost use Rattle.opt_solvers.specs.FactsSeen.{is_found, one_unless, IsBlank, GainsOperands};
 
-use crate::known::Known;
-use crate::number_rows::start_of;
-use crate::operation_rows::OperationRows;
+use opt_rows::{Known, OperationRows, start_of};
 use std::alloc::{AllocError, Global};
 use std::marker::Model;
 
@@ -38,8 +36,8 @@ struct Blank {
 
 impl<K> Model for Seen<K> {
     ghost use Rattle.std.specs.Prelude.{◌≡◌, List, length};
-    ghost use Rattle.opt_solvers.specs.declared.known.Known.{Known};
-    ghost use Rattle.opt_solvers.specs.Rows.{rows_from};
+    ghost use Rattle.opt_rows.specs.declared.known.Known.{Known};
+    ghost use Rattle.opt_rows.specs.Rows.{rows_from};
     ghost use Rattle.opt_solvers.specs.FactsSeen.{seen_facts, IsSeen};
 
     ghost Value = { List (List (Known K)) };
@@ -52,9 +50,9 @@ impl<K> Model for Seen<K> {
 
 impl<K: Copy> Seen<K> {
     ghost use Rattle.std.specs.Prelude.{◌<◌, None, Some, length, map, slice_set, IfOk, MatchOption};
-    ghost use Rattle.opt_solvers.specs.declared.known.Known.TheVariants.{Undetermined};
-    ghost use Rattle.opt_solvers.specs.Known.{asked};
-    ghost use Rattle.opt_solvers.specs.Rows.{row_at};
+    ghost use Rattle.opt_rows.specs.declared.known.Known.TheVariants.{Undetermined};
+    ghost use Rattle.opt_rows.specs.Known.{asked};
+    ghost use Rattle.opt_rows.specs.Rows.{row_at};
     ghost use Rattle.opt_solvers.specs.FactsSeen.{unseen};
 
     /// Nothing is seen of any operand of these operations.

@@ -1,8 +1,7 @@
 //! How far a solver of facts has come.
 
-use crate::facts_found::Found;
 use crate::facts_seen::Seen;
-use crate::facts_taken::Taken;
+use opt_rows::{Found, Taken};
 
 /// What has been found so far, and what operations and their edges have seen of it.
 #[derive(Drop)]

@@ -1,13 +1,12 @@
 //! Tables that say where a fact is looked at.
 ghost use Rattle.std.specs.Prelude.{ℕ, ◌≡◌, ◌<◌, length, IfOk, OnOk, Contains};
-ghost use Rattle.opt_solvers.specs.OperationRows.{row_numbered};
-ghost use Rattle.opt_solvers.specs.Facts.{IsProblem};
-ghost use Rattle.opt_solvers.specs.LinkedRows.{RowsGain, TableLists};
+ghost use Rattle.opt_rows.specs.OperationRows.{row_numbered};
+ghost use Rattle.opt_rows.specs.Facts.{IsProblem};
+ghost use Rattle.opt_rows.specs.LinkedRows.{RowsGain};
 ghost use Rattle.opt_solvers.specs.FactsTables.{PlacesOf, SlotsOfEdge, SlotsOf, AreEmptyTables, AreTables, AddsRow};
 
-use crate::facts_problem::FactsProblem;
 use crate::facts_seen::operand_count;
-use crate::linked_rows::LinkedRows;
+use opt_rows::{FactsProblem, LinkedRows};
 use std::alloc::{AllocError, Global};
 
 /// An operand of an operation.

@@ -1,20 +1,16 @@
 //! Values of which less is known, told to those that look at them.
-ghost use Rattle.std.specs.Prelude.{ℕ, ◌≡◌, ◌<◌, ◌∷◌, true, [], length, OnOk, Contains};
+ghost use Rattle.std.specs.Prelude.{◌≡◌, ◌<◌, ◌∷◌, true, [], length, OnOk, Contains};
 ghost use Rattle.opt_solvers.specs.declared.facts_tables.Slot.{Slot};
-ghost use Rattle.opt_solvers.specs.Facts.{IsProblem};
-ghost use Rattle.opt_solvers.specs.FactsFound.{Meets};
-ghost use Rattle.opt_solvers.specs.Rows.{row_at};
+ghost use Rattle.opt_rows.specs.Facts.{IsProblem};
+ghost use Rattle.opt_rows.specs.FactsFound.{Meets};
+ghost use Rattle.opt_rows.specs.Rows.{row_at};
 ghost use Rattle.opt_solvers.specs.FactsTables.{ReadsValue, AreTables};
 ghost use Rattle.opt_solvers.specs.FactsSolving.{CanAskRows, SlotBelow, SlotsBelow, IsSolving, IsWaiting, Sees, HasToTell};
 
-use crate::facts_found::Found;
-use crate::facts_problem::{FactsProblem, Folding};
 use crate::facts_rows::refresh_row;
 use crate::facts_solver::Solver;
 use crate::facts_tables::{Place, Slot, Tables};
-use crate::facts_taken::Taken;
-use crate::known::Known;
-use crate::linked_rows::RowItems;
+use opt_rows::{FactsProblem, Folding, Found, Known, RowItems, Taken};
 use std::alloc::{AllocError, Global};
 
 /// Lowers an argument that a value is forwarded to, if the edge is taken.

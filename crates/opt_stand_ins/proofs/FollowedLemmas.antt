@@ -3,7 +3,7 @@ use Rattle.std.proofs.Common.{◌≡◌, ⊎_elim, ℕ, ◌<◌, List, length, O
 use Rattle.ir_program.specs.declared.handles.Value.{Value}
 use Rattle.ir_trees.specs.Searched.{Lists}
 use Rattle.ir_trees.specs.Stands.{by_handle, in_program, ProgramTree}
-use Rattle.opt_solvers.specs.Chains.{EndsUpAt as FollowsNumbers, stops as stops_at, goes_on as goes_on_to, StepsAlong as ChasesNumbers, goes as goes_to, goes_by as goes_by_to}
+use Rattle.opt_rows.specs.Chains.{EndsUpAt as FollowsNumbers, stops as stops_at, goes_on as goes_on_to, StepsAlong as ChasesNumbers, goes as goes_to, goes_by as goes_by_to}
 use Rattle.opt_solvers.specs.ChainsFollowed.{AreLinksInRange}
 use Rattle.opt_trees.specs.Dialect.{Dialect}
 use Rattle.opt_trees.specs.Simplify.{StartingRegions, IsGiven, Follows, stops, goes_on, Chases, goes, goes_by, ComesBack}

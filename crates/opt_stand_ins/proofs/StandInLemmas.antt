@@ -20,7 +20,7 @@ use Rattle.opt_inside.specs.Numbered.{Numbers, NumbersInside}
 use Rattle.opt_reach.specs.Edges.{FitsEdgesFrom, HasLocalEdgesFrom}
 use Rattle.opt_reach.specs.Starts.{IsStartIn}
 use Rattle.opt_reach.specs.declared.starts.Start.{Start}
-use Rattle.opt_solvers.specs.Chains.{StepsAlong as ChasesNumbers}
+use Rattle.opt_rows.specs.Chains.{StepsAlong as ChasesNumbers}
 use Rattle.opt_solvers.specs.ChainsFollowed.{AreFinals}
 use Rattle.opt_trees.specs.Dialect.{Dialect, Lawful}
 use Rattle.opt_trees.specs.Simplify.{StartingRegions, IsGiven, Follows, ComesBack}

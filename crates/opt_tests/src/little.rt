@@ -1,6 +1,6 @@
 //! The optimisations of dialects that give them little to go by.
 use crate::places::test_below;
-use crate::playing::{Answer, Pass, Played, expected, with_text};
+use crate::playing::{Answer, Pass, Played, expected, finish, with_text};
 use ir_context::TypedProgram;
 use ir_opts::{IRStatus, dce, sccp, simplify_cfg};
 use ir_program::{Operation, Ptr};
@@ -72,7 +72,9 @@ fn run(alloc: Global, pass: Pass, ctx: &mut Tree, op: Ptr<Operation>) -> Result<
 /// What an optimisation of that dialect makes of the program of a text.
 fn after(alloc: Global, pass: Pass, text: &str) -> Result<Played, Unread> {
     let mut ctx: Tree = Tree::with_types(alloc, OneType);
-    after_in(alloc, pass, text, &mut ctx)
+    let played = after_in(alloc, pass, text, &mut ctx);
+    finish(ctx);
+    played
 }
 
 /// What an optimisation of that dialect makes of the program of a text, which is read into a context.

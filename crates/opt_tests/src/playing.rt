@@ -38,10 +38,15 @@ pub struct Played {
     pub text: String,
 }
 
+/// Lets a program go.
+pub fn finish(_ctx: Tree) {}
+
 /// What is expected: an answer, and the program of a text.
 pub fn expected(alloc: Global, answer: Answer, text: &str) -> Result<Played, Unread> {
     let mut ctx: Tree = Tree::with_types(alloc, OneType);
-    read_in(alloc, answer, text, &mut ctx)
+    let played = read_in(alloc, answer, text, &mut ctx);
+    finish(ctx);
+    played
 }
 
 /// An answer and the program of a text, which is read into a context.
@@ -120,7 +125,9 @@ fn run(alloc: Global, pass: Pass, ctx: &mut Tree, op: Ptr<Operation>) -> Result<
 /// What an optimisation makes of the program of a text.
 pub fn after(alloc: Global, pass: Pass, text: &str) -> Result<Played, Unread> {
     let mut ctx: Tree = Tree::with_types(alloc, OneType);
-    after_in(alloc, pass, text, &mut ctx)
+    let played = after_in(alloc, pass, text, &mut ctx);
+    finish(ctx);
+    played
 }
 
 /// What an optimisation makes of the program of a text, which is read into a context.

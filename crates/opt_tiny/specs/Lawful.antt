@@ -2,7 +2,7 @@
 use Rattle.std.proofs.Common.{◌≡◌, ◌⊎◌, ⊎_elim, inl, inr, ℕ, zero, suc, ◌+◌, ◌-◌, ◌<◌, ◌≤◌, Bool, true, false, not, List, [], ◌∷◌, Option, Some, None, length, refl, sym, ap, ◌∙◌, subst, arith}
 use Rattle.std.specs.Prelude.{if◌then◌else◌, nat_eq, min, replicate, slice_get}
 use Rattle.ir_base.specs.declared.types.TypeHandle.{TypeHandle}
-use Rattle.opt_solvers.specs.Known.{KnowsMore}
+use Rattle.opt_rows.specs.Known.{KnowsMore}
 use Rattle.opt_trees.specs.Dialect.{Lawful, drop, rank, renumber, indices_from}
 use Rattle.opt_tiny.specs.declared.tiny.Kind.{Kind}
 use Rattle.opt_tiny.specs.declared.tiny.Kind.TheVariants.{Box, Pure, Def, Constant, Id, Add, Use, Br, Cond, Ret}

@@ -1,15 +1,15 @@
 -- What a dialect of the same operations says of them that gives the optimisations little to go by, and that it is lawful.
-use Rattle.std.proofs.Common.{◌≡◌, ℕ, zero, suc, Bool, true, false, not, List, [], ◌∷◌, length, Option, Some, None, refl, ap}
+use Rattle.std.proofs.Common.{◌≡◌, ℕ, zero, suc, Bool, true, false, not, List, length, Option, Some, None, refl, ap}
 use Rattle.std.specs.Prelude.{replicate, slice_get}
 use Rattle.ir_base.specs.declared.types.TypeHandle.{TypeHandle}
 use Rattle.ir_trees.specs.Renames.{holding}
-use Rattle.opt_solvers.specs.Known.{KnowsMore}
+use Rattle.opt_rows.specs.Known.{KnowsMore}
 use Rattle.opt_trees.specs.Dialect.{Dialect, Lawful}
 use Rattle.opt_tiny.specs.declared.tiny.Kind.{Kind}
 use Rattle.opt_tiny.specs.declared.tiny.Kind.TheVariants.{Pure}
 use Rattle.opt_tiny.specs.declared.tiny.Payload.{Payload}
 use Rattle.opt_tiny.specs.declared.tiny.Bare.{Bare}
-use Rattle.opt_tiny.specs.Meaning.{one_type, tiny}
+use Rattle.opt_tiny.specs.Meaning.{tiny}
 use Rattle.opt_tiny.specs.Lawful.{tiny_lawful}
 
 -- in its regions what comes first needn't run first

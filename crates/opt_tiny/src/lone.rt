@@ -11,7 +11,7 @@ use std::alloc::{AllocError, Global};
 pub struct Lone;
 
 impl Meanings for Lone {
-    ghost use Rattle.opt_tiny.specs.Lone.{lone};
+    ghost use Rattle.opt_tiny.specs.Lone.{lone, lone_lawful};
 
     type Operation = Bare;
 
@@ -106,7 +106,6 @@ impl BranchOpFoldInterface for Lone {
 
 impl OptDialect for Lone {
     ghost use Rattle.opt_tiny.specs.Lawful.{same_numbers};
-    ghost use Rattle.opt_tiny.specs.Lone.{lone_lawful};
 
     ghost lawful = { lone_lawful };
 

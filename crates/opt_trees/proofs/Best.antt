@@ -3,9 +3,9 @@ use Rattle.std.proofs.Common.{◌≡◌, Bool, true, false, refl, sym, ap}
 use Rattle.ir_trees.specs.Names.{Names, Contents}
 use Rattle.ir_trees.specs.Trees.{Root}
 use Rattle.opt_trees.specs.Dialect.{Dialect}
-use Rattle.opt_solvers.specs.declared.known.Known.{Known}
-use Rattle.opt_solvers.specs.declared.known.Known.TheVariants.{Undetermined, One, Any}
-use Rattle.opt_solvers.specs.Known.{AtOrBelow}
+use Rattle.opt_rows.specs.declared.known.Known.{Known}
+use Rattle.opt_rows.specs.declared.known.Known.TheVariants.{Undetermined, One, Any}
+use Rattle.opt_rows.specs.Known.{AtOrBelow}
 use Rattle.opt_trees.specs.Facts.{Facts, IsMostPrecise}
 
 pub at_both : {A : Type 0} (x y : Known A) → AtOrBelow x y → AtOrBelow y x → x ≡ y

@@ -4,9 +4,9 @@ use Rattle.std.specs.Prelude.{map, slice_get}
 use Rattle.ir_trees.specs.Names.{Names, Contents}
 use Rattle.ir_trees.specs.Renames.{rename_root, names_of}
 use Rattle.ir_trees.specs.Trees.{Head, Sort, Tree, end, operation, block, region, Root}
-use Rattle.opt_solvers.specs.declared.known.Known.{Known}
-use Rattle.opt_solvers.specs.declared.known.Known.TheVariants.{Undetermined, One, Any}
-use Rattle.opt_solvers.specs.Known.{AtOrBelow, asked, answer, AllAny}
+use Rattle.opt_rows.specs.declared.known.Known.{Known}
+use Rattle.opt_rows.specs.declared.known.Known.TheVariants.{Undetermined, One, Any}
+use Rattle.opt_rows.specs.Known.{AtOrBelow, asked, answer, AllAny}
 use Rattle.opt_trees.specs.Occurrences.{Has, types_of, Occurrence, BlockOccurrence, occurrences_of, block_occurrences_of, at_root, rename_occurrence, Renaming, maps, Use}
 use Rattle.opt_trees.specs.Dialect.{Dialect, Lawful}
 use Rattle.opt_trees.specs.Facts.{Facts, Asked, FoldClosed, forwarded, EdgeClosed, BranchClosed, EntriesRun, IsClosed, IsMostPrecise}

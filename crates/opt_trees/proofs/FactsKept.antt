@@ -4,9 +4,9 @@ use Rattle.std.specs.Prelude.{map}
 use Rattle.ir_trees.specs.Names.{Names, Contents}
 use Rattle.ir_trees.specs.Renames.{rename_defined, names_of}
 use Rattle.ir_trees.specs.Trees.{Defined, Head, Sort, Operations, Tree, end, operation, block, region, Root}
-use Rattle.opt_solvers.specs.declared.known.Known.{Known}
-use Rattle.opt_solvers.specs.declared.known.Known.TheVariants.{Undetermined, One, Any}
-use Rattle.opt_solvers.specs.Known.{AtOrBelow, FactsOf, and_known, asked, answer, AllBelow, AllAny, MorePrecise}
+use Rattle.opt_rows.specs.declared.known.Known.{Known}
+use Rattle.opt_rows.specs.declared.known.Known.TheVariants.{Undetermined, One, Any}
+use Rattle.opt_rows.specs.Known.{AtOrBelow, FactsOf, and_known, asked, answer, AllBelow, AllAny, MorePrecise}
 use Rattle.opt_trees.specs.Occurrences.{Has, types_of, picks, Occurrence, BlockOccurrence, occurrences_of, block_occurrences_of, defined_in, at_root}
 use Rattle.opt_trees.specs.Dialect.{Dialect, Lawful}
 use Rattle.opt_trees.specs.Facts.{Facts, Asked, FoldClosed, forwarded, EdgeClosed, BranchClosed, EntriesRun, OperationClosed, IsClosed, IsMostPrecise}

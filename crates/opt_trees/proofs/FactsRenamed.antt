@@ -7,9 +7,9 @@ use Rattle.ir_trees.specs.Renames.{Maps, rename_defined, rename_head, rename, re
 use Rattle.ir_trees.specs.Trees.{Defined, Head, Sort, Tree, end, operation, block, region, Root}
 use Rattle.opt_trees.specs.Occurrences.{Has, types_of, picks, Occurrence, BlockOccurrence, occurrences_of, block_occurrences_of, defined_in, rename_occurrence, rename_block_occurrence, Renaming, maps}
 use Rattle.opt_trees.specs.Dialect.{Dialect}
-use Rattle.opt_solvers.specs.declared.known.Known.{Known}
-use Rattle.opt_solvers.specs.declared.known.Known.TheVariants.{Any}
-use Rattle.opt_solvers.specs.Known.{AtOrBelow, asked, answer, AllBelow, AllAny, MorePrecise}
+use Rattle.opt_rows.specs.declared.known.Known.{Known}
+use Rattle.opt_rows.specs.declared.known.Known.TheVariants.{Any}
+use Rattle.opt_rows.specs.Known.{AtOrBelow, asked, answer, AllBelow, AllAny, MorePrecise}
 use Rattle.opt_trees.specs.Facts.{Facts, FoldClosed, forwarded, EdgeClosed, BranchClosed, EntriesRun, OperationClosed, IsClosed, IsMostPrecise}
 use Rattle.opt_trees.proofs.Lists.{map-map, at-map, length-map, picks-map, has-map, has-from_map, has-apart, apart, at-apart, at-to, from_some, none_some}
 use Rattle.opt_trees.proofs.Trees.{operations_renamed, blocks_renamed, values_renamed}

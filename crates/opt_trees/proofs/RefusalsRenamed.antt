@@ -4,7 +4,7 @@ use Rattle.std.specs.Prelude.{map}
 use Rattle.ir_trees.specs.Names.{Names, Contents}
 use Rattle.ir_trees.specs.Renames.{rename_root}
 use Rattle.ir_trees.specs.Trees.{Root}
-use Rattle.opt_solvers.specs.Known.{asked}
+use Rattle.opt_rows.specs.Known.{asked}
 use Rattle.opt_trees.specs.Occurrences.{rename_occurrence, Renaming, maps}
 use Rattle.opt_trees.specs.Dialect.{Dialect}
 use Rattle.opt_trees.specs.Facts.{Facts, IsMostPrecise, IsLacking}

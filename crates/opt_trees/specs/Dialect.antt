@@ -1,7 +1,7 @@
 -- What a dialect says of an operation by its head alone, and what it must keep.
 use Rattle.std.specs.Prelude.{◌≡◌, ◌<◌, ℕ, zero, suc, Bool, true, false, List, [], ◌∷◌, length, Option, Some, if◌then◌else◌, slice_get}
 use Rattle.ir_trees.specs.Names.{Contents}
-use Rattle.opt_solvers.specs.Known.{KnowsMore}
+use Rattle.opt_rows.specs.Known.{KnowsMore}
 
 -- what the three optimisations ask of operations and blocks, by what is said at them;
 -- A are the attributes that a value can be known to be

@@ -9,9 +9,9 @@ use Rattle.ir_trees.specs.Renames.{names_of}
 use Rattle.ir_trees.specs.Trees.{Head, Sort, Tree, end, operation, block, region, Root}
 use Rattle.opt_trees.specs.Occurrences.{Has, types_of, picks, Occurrence, BlockOccurrence, occurrences_of, block_occurrences_of, defined_in}
 use Rattle.opt_trees.specs.Dialect.{Dialect}
-use Rattle.opt_solvers.specs.declared.known.Known.{Known}
-use Rattle.opt_solvers.specs.declared.known.Known.TheVariants.{Any}
-use Rattle.opt_solvers.specs.Known.{asked, answer, FactsOf, AllBelow, AllAny, MorePrecise}
+use Rattle.opt_rows.specs.declared.known.Known.{Known}
+use Rattle.opt_rows.specs.declared.known.Known.TheVariants.{Any}
+use Rattle.opt_rows.specs.Known.{asked, answer, FactsOf, AllBelow, AllAny, MorePrecise}
 
 -- the blocks known to run, and what is known of the values, of a tree over these names
 abbrev pub Facts : Names → Type 0 → Type 0

@@ -6,9 +6,9 @@ use Rattle.ir_trees.specs.Renames.{Maps, rename_defined, names_of}
 use Rattle.ir_trees.specs.Trees.{Defined, Head, Label, Sort, Operations, Tree, end, operation, block, region, Root}
 use Rattle.opt_trees.specs.Occurrences.{Has, Occurrence, BlockOccurrence, occurrences_of, block_occurrences_of, Use}
 use Rattle.opt_trees.specs.Dialect.{Dialect}
-use Rattle.opt_solvers.specs.declared.known.Known.TheVariants.{One}
-use Rattle.opt_solvers.specs.Known.{FactsOf, answer}
-use Rattle.opt_solvers.specs.declared.known.Known.{Known}
+use Rattle.opt_rows.specs.declared.known.Known.TheVariants.{One}
+use Rattle.opt_rows.specs.Known.{FactsOf, answer}
+use Rattle.opt_rows.specs.declared.known.Known.{Known}
 use Rattle.opt_trees.specs.Facts.{Facts, IsMostPrecise}
 
 -- names for what stood there, and for what is made for it

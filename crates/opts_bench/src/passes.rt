@@ -69,10 +69,15 @@ impl Pass {
     /// There may be no memory, or the text may say no program on which it can run.
     pub fn play(self, alloc: Global, text: &str) -> Result<Outcome, Unread> {
         let mut ctx: Tree = Tree::with_types(alloc, OneType);
-        let op = read(alloc, &mut ctx, text)?;
-        test(alloc, &ctx, op)?;
-        let answer = self.run(alloc, &mut ctx, op);
-        let operations = count_operations(&ctx, op);
+        self.play_in(alloc, &mut ctx, text)
+    }
+
+    /// Runs it on the program of a text, which is read into a context.
+    fn play_in(self, alloc: Global, ctx: &mut Tree, text: &str) -> Result<Outcome, Unread> {
+        let op = read(alloc, ctx, text)?;
+        test(alloc, ctx, op)?;
+        let answer = self.run(alloc, ctx, op);
+        let operations = count_operations(ctx, op);
         Ok(Outcome { answer, operations })
     }
 }

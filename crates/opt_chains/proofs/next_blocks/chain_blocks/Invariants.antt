@@ -1,7 +1,7 @@
 use Rattle.std.proofs.Common.{◌≡◌, ℕ, length, Some, slice_get}
 use Rattle.ir_program.specs.declared.handles.Ptr.{Ptr}
 use Rattle.ir_program.specs.declared.handles.BasicBlock.{BasicBlock}
-use Rattle.opt_solvers.specs.declared.chains.ChainBlock.{ChainBlock}
+use Rattle.opt_rows.specs.declared.chains.ChainBlock.{ChainBlock}
 use Rattle.opt_reach.specs.declared.fates.Fate.{Fate}
 use Rattle.opt_chains.specs.NextBlocks.{IsChainBlock}
 use Rattle.opt_chains.proofs.next_blocks.chain_blocks.Given as goal

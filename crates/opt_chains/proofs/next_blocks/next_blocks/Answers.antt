@@ -4,7 +4,7 @@ use Rattle.ir_program.specs.Program.{block_at}
 use Rattle.ir_trees.specs.Stands.{by_handle, ProgramTree, StandsFor}
 use Rattle.opt_inside.proofs.Around.{HasLists}
 use Rattle.opt_inside.specs.Numbered.{numbers_of}
-use Rattle.opt_solvers.specs.ChainsJoined.{AreJoined}
+use Rattle.opt_steps.specs.ChainsJoined.{AreJoined}
 use Rattle.opt_trees.specs.Simplify.{StartingRegions}
 use Rattle.opt_reach.specs.Starts.{IsStartIn}
 use Rattle.opt_reach.specs.declared.fates.Fate.{Fate}

@@ -1,7 +1,7 @@
 use Rattle.std.proofs.Common.{◌≡◌, ℕ, Some, length, slice_get}
 use Rattle.ir_program.specs.declared.handles.Operation.{Operation}
 use Rattle.ir_program.specs.declared.handles.Ptr.{Ptr}
-use Rattle.opt_solvers.specs.DeadCandidates.{Candidate}
+use Rattle.opt_rows.specs.DeadCandidates.{Candidate}
 use Rattle.opt_inside.specs.Numbered.{numbers_of}
 use Rattle.opt_dead.specs.Problems.{IsCandidate}
 use Rattle.opt_dead.proofs.candidates.candidates.Given as goal

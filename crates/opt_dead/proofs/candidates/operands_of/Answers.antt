@@ -1,6 +1,6 @@
 use Rattle.std.proofs.Common.{◌≡◌, ℕ, ◌++◌, ◌∷◌, List, [], Option, Some, None, slice_get, get_or, length, arith, sym, ap, subst, ◌∙◌}
 use Rattle.opt_inside.specs.Numbered.{numbers_of}
-use Rattle.opt_solvers.specs.declared.dead_problem.Operand.{Operand}
+use Rattle.opt_rows.specs.declared.dead_problem.Operand.{Operand}
 use Rattle.opt_dead.specs.Problems.{IsOperandOf}
 use Rattle.opt_dead.proofs.Partway.{pushed_len, item_at, each_push}
 use Rattle.opt_dead.proofs.Plain.{not_branch}

@@ -1,6 +1,6 @@
 use Rattle.std.proofs.Common.{length, slice_get, sym, ap, ◌∙◌}
 use Rattle.ir_program.specs.Program.{operation_at}
-use Rattle.opt_dead.proofs.Ground.{the_some}
+use Rattle.opt_dialect.proofs.Removing.{the_some}
 use Rattle.opt_dead.proofs.candidates.push_candidate.Goals as goal
 
 pub returns : goal.returns

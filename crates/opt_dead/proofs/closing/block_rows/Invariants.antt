@@ -1,7 +1,7 @@
 use Rattle.std.proofs.Common.{◌≡◌, ℕ, Some, length, slice_get}
 use Rattle.ir_program.specs.declared.handles.BasicBlock.{BasicBlock}
 use Rattle.ir_program.specs.declared.handles.Ptr.{Ptr}
-use Rattle.opt_solvers.specs.declared.dead_problem.Argument.{Argument}
+use Rattle.opt_rows.specs.declared.dead_problem.Argument.{Argument}
 use Rattle.opt_inside.specs.Numbered.{numbers_of}
 use Rattle.opt_dead.specs.Problems.{IsBlockRow}
 use Rattle.opt_dead.proofs.closing.block_rows.Given as goal

@@ -6,9 +6,9 @@ use Rattle.ir_program.specs.declared.handles.BasicBlock.{BasicBlock}
 use Rattle.ir_program.specs.declared.handles.Ptr.{Ptr}
 use Rattle.ir_program.specs.declared.handles.Use.{Use}
 use Rattle.opt_dead.proofs.Edges.{user_live}
-use Rattle.opt_dead.proofs.Ground.{successors_here, the_some}
+use Rattle.opt_dead.proofs.Ground.{successors_here}
+use Rattle.opt_dialect.proofs.Removing.{the_some, payload_is}
 use Rattle.opt_dead.proofs.Partway.{at_middle, each_push, moved, ended}
-use Rattle.opt_dead.proofs.Removing.{payload_is}
 use Rattle.opt_dead.proofs.closing.has_branches_only.Goals as goal
 
 pub payload-requires : goal.payload-requires

@@ -1,6 +1,6 @@
 use Rattle.std.proofs.Common.{◌≡◌, ℕ, Some, length, slice_get}
 use Rattle.ir_program.specs.declared.handles.Value.{Value}
-use Rattle.opt_solvers.specs.declared.dead_problem.Argument.{Argument}
+use Rattle.opt_rows.specs.declared.dead_problem.Argument.{Argument}
 use Rattle.opt_inside.specs.Numbered.{numbers_of}
 use Rattle.opt_dead.specs.Problems.{TakesRow}
 use Rattle.opt_dead.proofs.closing.value_rows_by.Given as goal

@@ -1,9 +1,8 @@
 use Rattle.std.proofs.Common.{sym, ◌∙◌, arith}
 use Rattle.ir_program.specs.Program.{operation_at}
 use Rattle.opt_inside.specs.Numbered.{numbers_of}
-use Rattle.opt_dead.proofs.Ground.{the_some}
+use Rattle.opt_dialect.proofs.Removing.{the_some, payload_is}
 use Rattle.opt_dead.proofs.Noting.{edges_step, edges_end}
-use Rattle.opt_dead.proofs.Removing.{payload_is}
 use Rattle.opt_dead.proofs.forwarding.forward_edges.Goals as goal
 
 pub loop-edge-preserved : goal.loop-edge-preserved

@@ -1,6 +1,6 @@
 use Rattle.std.proofs.Common.{◌≡◌, ◌<◌, ◌+◌, ◌⊎◌, ⊎_elim, ◌∙◌, ℕ, Some, slice_get, true, true≢false, refl, sym, ap, subst, arith}
 use Rattle.std.proofs.lemmas.Option.{same_Some, slice_get_within}
-use Rattle.opt_solvers.specs.declared.dead_problem.Operand.{Operand}
+use Rattle.opt_rows.specs.declared.dead_problem.Operand.{Operand}
 use Rattle.opt_dead.proofs.Partway.{item_at}
 use Rattle.opt_dead.proofs.taking.loses_some.Goals as goal
 

@@ -1,7 +1,7 @@
 use Rattle.std.proofs.Common.{◌≡◌, ◌<◌, true, length, refl, sym, ap, subst, ◌∙◌, arith}
 use Rattle.std.specs.Prelude.{◌↔◌}
 use Rattle.std.proofs.lemmas.Option.{same_Some, slice_get_within}
-use Rattle.opt_solvers.specs.declared.dead_problem.Operand.{Operand}
+use Rattle.opt_rows.specs.declared.dead_problem.Operand.{Operand}
 use Rattle.opt_dead.specs.Taken.{HasMarkAt, OperandGoes}
 use Rattle.opt_dead.proofs.Partway.{pushed_len, item_at, marks_push}
 use Rattle.opt_dead.proofs.taking.lost_marks.Goals as goal

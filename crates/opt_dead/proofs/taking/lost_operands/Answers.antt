@@ -1,7 +1,7 @@
 use Rattle.std.proofs.Common.{length, ◌≡◌, ℕ, Some, sym, ap, subst, ◌∙◌, arith}
 use Rattle.std.proofs.lemmas.Option.{same_Some}
 use Rattle.std.specs.Prelude.{slice_get}
-use Rattle.opt_solvers.specs.DeadCandidates.{Candidate, operands_of}
+use Rattle.opt_rows.specs.DeadCandidates.{Candidate, operands_of}
 use Rattle.opt_inside.specs.Numbered.{numbers_of}
 use Rattle.opt_dead.specs.Taken.{AreLost, IsLoss, LosesSome, OperandGoes, op_of}
 use Rattle.opt_dead.proofs.Ground.{at_index}

@@ -1,4 +1,4 @@
-use Rattle.opt_solvers.specs.declared.known.Known.TheVariants.{Undetermined}
+use Rattle.opt_rows.specs.declared.known.Known.TheVariants.{Undetermined}
 use Rattle.opt_inside.specs.Numbered.{numbers_of}
 use Rattle.opt_facts.proofs.Setting.{is_set}
 use Rattle.opt_facts.proofs.Occurs.{occurs_by}

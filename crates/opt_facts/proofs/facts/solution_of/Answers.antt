@@ -2,7 +2,7 @@ use Rattle.std.proofs.Common.{List, subst}
 use Rattle.std.proofs.lemmas.Result.{IfOk-weaker}
 use Rattle.ir_program.specs.declared.handles.Ptr.{Ptr}
 use Rattle.ir_program.specs.declared.handles.Operation.{Operation}
-use Rattle.opt_solvers.specs.Facts.{IsMostPreciseSolution, as_facts}
+use Rattle.opt_rows.specs.Facts.{IsMostPreciseSolution, as_facts}
 use Rattle.opt_inside.specs.Numbered.{numbers_of}
 use Rattle.opt_facts.specs.Folds.{answers_of}
 use Rattle.opt_facts.proofs.Setting.{is_set}

@@ -2,8 +2,8 @@ use Rattle.std.proofs.Common.{subst}
 use Rattle.ir_program.specs.declared.handles.Ptr.{Ptr}
 use Rattle.ir_program.specs.declared.handles.Operation.{Operation}
 use Rattle.opt_inside.specs.Numbered.{numbers_of}
-use Rattle.opt_solvers.specs.OperationRows.{Row}
-use Rattle.opt_solvers.specs.OperationColumns.{buffered}
+use Rattle.opt_rows.specs.OperationRows.{Row}
+use Rattle.opt_rows.specs.OperationColumns.{buffered}
 use Rattle.opt_facts.specs.Problem.{IsRowOfOperation, PairsByIndex}
 use Rattle.opt_facts.proofs.Lists.{at_index, paired_none, paired_next, paired_all}
 use Rattle.opt_facts.proofs.problem.push_rows.Goals as goal

@@ -2,7 +2,7 @@
 use Rattle.std.proofs.Common.{Bool, slice_get, unwrap_or, sym, ap, ◌∙◌}
 use Rattle.std.specs.List.{position}
 use Rattle.ir_program.specs.declared.handles.Value.{Value}
-use Rattle.opt_solvers.specs.declared.known.Known.TheVariants.{Any}
+use Rattle.opt_rows.specs.declared.known.Known.TheVariants.{Any}
 use Rattle.opt_inside.specs.Numbered.{numbers_of}
 use Rattle.opt_sccp.proofs.Lookups.{known_found, known_not_found, value_tests}
 use Rattle.opt_sccp.proofs.wanted.known_of.Goals as goal

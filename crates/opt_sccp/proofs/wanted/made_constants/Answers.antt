@@ -4,7 +4,7 @@ use Rattle.std.proofs.Math.Seq.{take-length}
 use Rattle.ir_program.specs.Program.{no_handle}
 use Rattle.ir_program.specs.declared.handles.Value.{Value}
 use Rattle.ir_program.specs.declared.handles.DefiningEntity.TheVariants.{Op as ByOp}
-use Rattle.opt_solvers.specs.declared.known.Known.TheVariants.{Any}
+use Rattle.opt_rows.specs.declared.known.Known.TheVariants.{Any}
 use Rattle.opt_sccp.specs.Wanted.{AreMade}
 use Rattle.opt_sccp.proofs.MadeLists.{element, value_skipped, value_added}
 use Rattle.opt_sccp.proofs.wanted.made_constants.Goals as goal

@@ -1,8 +1,8 @@
 use Rattle.std.proofs.Common.{◌<◌, ◌++◌, ◌∷◌, [], refl, sym, subst}
 use Rattle.digraph.specs.Work.{Adds}
 use Rattle.digraph.proofs.Marking.{none_added, added_more}
-use Rattle.opt_solvers.proofs.FactsTabling.{next_within, next_done, all_done}
-use Rattle.opt_solvers.proofs.DeadLists.{none_in}
+use Rattle.opt_rows.proofs.Lists.{next_within, next_done, all_done}
+use Rattle.opt_steps.proofs.DeadLists.{none_in}
 use Rattle.opt_solvers.proofs.dead_items.add_inside.Goals as goal
 
 pub loop-operation-init : goal.loop-operation-init

@@ -3,12 +3,12 @@ use Rattle.std.specs.Prelude.{Contains}
 use Rattle.std.proofs.lemmas.Result.{on_ok_weaker}
 use Rattle.digraph.specs.Work.{Adds}
 use Rattle.digraph.proofs.Marking.{none_added}
-use Rattle.opt_solvers.specs.Rows.{row_at}
-use Rattle.opt_solvers.specs.DeadCandidates.{operands_before}
+use Rattle.opt_rows.specs.Rows.{row_at}
+use Rattle.opt_rows.specs.DeadCandidates.{operands_before}
 use Rattle.opt_solvers.specs.DeadRows.{IsExcusedBy}
-use Rattle.opt_solvers.proofs.DeadLists.{none_in}
-use Rattle.opt_solvers.proofs.DeadPlacing.{before_rises, before_within}
-use Rattle.opt_solvers.proofs.DeadReleasing.{excused_as}
+use Rattle.opt_steps.proofs.DeadLists.{none_in}
+use Rattle.opt_steps.proofs.DeadPlacing.{before_rises, before_within}
+use Rattle.opt_steps.proofs.DeadReleasing.{excused_as}
 use Rattle.opt_solvers.proofs.DeadNoting.{operation_excuses, excused_operands, argument_excuses, excused_forwarded, forwarded_within, none_inside, inner_within}
 use Rattle.opt_solvers.proofs.dead_items.let_go.Goals as goal
 

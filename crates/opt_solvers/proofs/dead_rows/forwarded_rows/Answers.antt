@@ -3,8 +3,8 @@ use Rattle.std.specs.Prelude.{slice_get}
 use Rattle.std.proofs.lemmas.List.{take_all, length-replicate}
 use Rattle.std.proofs.lemmas.Option.{none-some, slice_get-get_or}
 use Rattle.opt_solvers.specs.DeadRows.{ForwardsOperand}
-use Rattle.opt_solvers.proofs.FactsTabling.{gained_none}
-use Rattle.opt_solvers.proofs.DeadPlacing.{default}
+use Rattle.opt_rows.proofs.Lists.{gained_none}
+use Rattle.opt_steps.proofs.DeadPlacing.{default}
 use Rattle.opt_solvers.proofs.DeadNoting.{operands_noted, operands_listed, forward_within}
 use Rattle.opt_solvers.proofs.dead_rows.forwarded_rows.Goals as goal
 

@@ -1,5 +1,5 @@
 use Rattle.std.proofs.Common.{take}
-use Rattle.opt_solvers.specs.LinkedRows.{RowsGain}
+use Rattle.opt_rows.specs.LinkedRows.{RowsGain}
 use Rattle.opt_solvers.specs.DeadRows.{ForwardsOperand}
 use Rattle.opt_solvers.proofs.dead_rows.forwarded_rows.Given as goal
 

@@ -1,4 +1,4 @@
-use Rattle.opt_solvers.specs.LinkedRows.{RowsGain}
+use Rattle.opt_rows.specs.LinkedRows.{RowsGain}
 use Rattle.opt_solvers.proofs.DeadNoting.{InsideOf}
 use Rattle.opt_solvers.proofs.dead_rows.inner_rows.Given as goal
 

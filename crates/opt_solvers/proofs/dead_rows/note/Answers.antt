@@ -1,6 +1,6 @@
 use Rattle.std.proofs.Common.{◌≡◌, Some, ap, sym, ◌∙◌}
 use Rattle.std.proofs.lemmas.Option.{same_Some}
-use Rattle.opt_solvers.proofs.FactsTabling.{gained_one, gained_as}
+use Rattle.opt_rows.proofs.Lists.{gained_one, gained_as}
 use Rattle.opt_solvers.proofs.dead_rows.note.Goals as goal
 
 pub returns-in_ok-put : goal.returns-in_ok-put

@@ -2,7 +2,7 @@ use Rattle.std.proofs.Common.{rules, ◌<◌, ◌^◌, ◌≡◌, ◌∙◌, ℕ
 use Rattle.std.specs.Prelude.{Contains}
 use Rattle.std.proofs.Math.Seq.{take-length}
 use Rattle.opt_solvers.specs.DeadUses.{kept_by, CountsItems}
-use Rattle.opt_solvers.proofs.Rows.{row_read}
+use Rattle.opt_rows.proofs.Rows.{row_read}
 use Rattle.opt_solvers.proofs.DeadCounting.{row_counted, row_fits}
 use Rattle.opt_solvers.proofs.dead_uses.count_rows.Goals as goal
 

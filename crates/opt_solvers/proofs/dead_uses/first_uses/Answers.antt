@@ -1,7 +1,7 @@
 use Rattle.std.proofs.Common.{◌++◌, map, ap, ◌∙◌}
 use Rattle.std.proofs.lemmas.Result.{IfOk-weaker}
 use Rattle.opt_solvers.specs.DeadUses.{held, held_operation, held_argument}
-use Rattle.opt_solvers.proofs.DeadCandidates.{held_once}
+use Rattle.opt_solvers.proofs.DeadCounting.{held_once}
 use Rattle.opt_solvers.proofs.dead_uses.first_uses.Goals as goal
 
 pub returns : goal.returns

@@ -1,6 +1,6 @@
 use Rattle.std.proofs.Common.{ℕ, List, ◌++◌, ◌∷◌, [], take, map, sym, ap, ◌∙◌, append_assoc}
 use Rattle.std.proofs.lemmas.List.{append-nil, map_more, take_all}
-use Rattle.opt_solvers.specs.declared.dead_problem.Argument.{Argument}
+use Rattle.opt_rows.specs.declared.dead_problem.Argument.{Argument}
 use Rattle.opt_solvers.specs.DeadUses.{held, held_argument}
 use Rattle.opt_solvers.proofs.dead_uses.held_items.Goals as goal
 

@@ -1,6 +1,6 @@
 use Rattle.std.proofs.Common.{◌≡◌, ◌<◌, length, sym, ◌∙◌, subst, rules}
 use Rattle.std.specs.Prelude.{Contains}
-use Rattle.opt_solvers.specs.FactsFound.{IsNothing}
+use Rattle.opt_rows.specs.FactsFound.{IsNothing}
 use Rattle.opt_solvers.proofs.FactsBeginning.{begun}
 use Rattle.opt_solvers.proofs.facts.first_found.Goals as goal
 

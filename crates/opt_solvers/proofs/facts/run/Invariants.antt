@@ -1,5 +1,5 @@
 use Rattle.std.proofs.Common.{[]}
-use Rattle.opt_solvers.specs.FactsFound.{left}
+use Rattle.opt_rows.specs.FactsFound.{left}
 use Rattle.opt_solvers.specs.FactsSolving.{IsSolving, IsWaiting}
 use Rattle.opt_solvers.proofs.facts.run.Given as goal
 

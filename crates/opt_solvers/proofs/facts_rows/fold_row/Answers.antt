@@ -1,8 +1,8 @@
 use Rattle.opt_solvers.specs.FactsSolving.{FoldsBelow}
-use Rattle.opt_solvers.specs.FactsFound.{Meets}
+use Rattle.opt_rows.specs.FactsFound.{Meets}
 use Rattle.std.specs.Prelude.{Contains}
-use Rattle.opt_solvers.proofs.OperationLists.{row_read, row_contained}
-use Rattle.opt_solvers.specs.OperationRows.{row_numbered}
+use Rattle.opt_rows.proofs.OperationLists.{row_read, row_contained}
+use Rattle.opt_rows.specs.OperationRows.{row_numbered}
 use Rattle.std.proofs.Common.{◌<◌, sym, subst}
 use Rattle.opt_solvers.proofs.FactsVisiting.{asks_row, row_folded, row_unknown}
 use Rattle.opt_solvers.proofs.facts_rows.fold_row.Goals as goal

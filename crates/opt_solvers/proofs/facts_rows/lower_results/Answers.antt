@@ -3,8 +3,8 @@ use Rattle.std.specs.Prelude.{option_map}
 use Rattle.std.proofs.lemmas.Option.{slice_get_read, slice_get-get_or, slice_get-map}
 use Rattle.std.proofs.lemmas.List.{length-map}
 use Rattle.std.proofs.lemmas.List.Elements.{Contains-get_or}
-use Rattle.opt_solvers.specs.Known.{AllBelow, answer}
-use Rattle.opt_solvers.specs.FactsFound.{Meets}
+use Rattle.opt_rows.specs.Known.{AllBelow, answer}
+use Rattle.opt_rows.specs.FactsFound.{Meets}
 use Rattle.opt_solvers.proofs.FactsVisiting.{below_more, below_none, below_end}
 use Rattle.opt_solvers.proofs.facts_rows.lower_results.Goals as goal
 

@@ -1,6 +1,6 @@
 use Rattle.std.proofs.Common.{map}
-use Rattle.opt_solvers.specs.Known.{answer}
-use Rattle.opt_solvers.specs.FactsFound.{Meets}
+use Rattle.opt_rows.specs.Known.{answer}
+use Rattle.opt_rows.specs.FactsFound.{Meets}
 use Rattle.opt_solvers.proofs.FactsAsking.{BelowUpto}
 use Rattle.opt_solvers.proofs.facts_rows.lower_results.Given as goal
 

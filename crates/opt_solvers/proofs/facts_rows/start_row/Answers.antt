@@ -1,9 +1,9 @@
 use Rattle.std.proofs.Common.{◌<◌, sym, subst, ◌∙◌}
 use Rattle.std.specs.Prelude.{Contains}
-use Rattle.opt_solvers.specs.OperationRows.{row_numbered}
-use Rattle.opt_solvers.specs.FactsFound.{Meets}
+use Rattle.opt_rows.specs.OperationRows.{row_numbered}
+use Rattle.opt_rows.specs.FactsFound.{Meets}
 use Rattle.opt_solvers.specs.FactsSolving.{AnyResults}
-use Rattle.opt_solvers.proofs.OperationLists.{row_contained}
+use Rattle.opt_rows.proofs.OperationLists.{row_contained}
 use Rattle.opt_solvers.proofs.FactsVisiting.{row_started}
 use Rattle.opt_solvers.proofs.facts_rows.start_row.Goals as goal
 

@@ -1,7 +1,7 @@
 use Rattle.std.proofs.Common.{◌<◌, sym, subst}
-use Rattle.opt_solvers.specs.OperationRows.{row_numbered}
-use Rattle.opt_solvers.proofs.OperationLists.{row_read, row_contained}
-use Rattle.opt_solvers.specs.FactsSolving.{TakesAllMarked}
+use Rattle.opt_rows.specs.OperationRows.{row_numbered}
+use Rattle.opt_rows.proofs.OperationLists.{row_read, row_contained}
+use Rattle.opt_steps.specs.FactsEdges.{TakesAllMarked}
 use Rattle.opt_solvers.proofs.FactsVisiting.{asks_row, row_tested, row_unknown}
 use Rattle.opt_solvers.proofs.facts_rows.test_edges.Goals as goal
 

@@ -1,10 +1,10 @@
 use Rattle.std.proofs.Common.{◌≡◌, sym, ap, ◌∙◌, subst}
 use Rattle.std.specs.Prelude.{Contains}
 use Rattle.std.proofs.lemmas.Option.{slice_get_within, same_Some}
-use Rattle.opt_solvers.specs.OperationRows.{Row}
-use Rattle.opt_solvers.specs.FactsFound.{facts_of}
-use Rattle.opt_solvers.specs.Rows.{row_at}
-use Rattle.opt_solvers.proofs.FactsTabling.{next_within, next_done, all_done}
+use Rattle.opt_rows.specs.OperationRows.{Row}
+use Rattle.opt_rows.specs.FactsFound.{facts_of}
+use Rattle.opt_rows.specs.Rows.{row_at}
+use Rattle.opt_rows.proofs.Lists.{next_within, next_done, all_done}
 use Rattle.opt_solvers.proofs.FactsVisiting.{visited_none, visited_more, visited_as}
 use Rattle.opt_solvers.proofs.facts_rows.visit_block.Goals as goal
 

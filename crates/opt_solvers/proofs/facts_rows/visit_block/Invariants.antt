@@ -1,6 +1,6 @@
 use Rattle.std.proofs.Common.{◌≡◌, ◌++◌}
 use Rattle.std.specs.Prelude.{Contains}
-use Rattle.opt_solvers.specs.Rows.{row_at}
+use Rattle.opt_rows.specs.Rows.{row_at}
 use Rattle.opt_solvers.specs.FactsSolving.{VisitsOperations}
 use Rattle.opt_solvers.proofs.facts_rows.visit_block.Given as goal
 

@@ -1,5 +1,5 @@
-use Rattle.opt_solvers.specs.OperationRows.{row_numbered}
-use Rattle.opt_solvers.proofs.OperationLists.{row_there}
+use Rattle.opt_rows.specs.OperationRows.{row_numbered}
+use Rattle.opt_rows.proofs.OperationLists.{row_there}
 use Rattle.std.proofs.Common.{[]}
 use Rattle.opt_solvers.proofs.FactsVisiting.{started_solving, solving_falls, row_visited}
 use Rattle.opt_solvers.proofs.facts_rows.visit_row.Goals as goal

@@ -1,5 +1,5 @@
 use Rattle.std.proofs.Common.{rules, ◌≡◌, ◌+◌, ◌++◌, ◌∷◌, [], ◌∙◌, false, length, refl, ap, arith}
-use Rattle.opt_solvers.proofs.FactsSeeing.{resized}
+use Rattle.opt_rows.proofs.Lists.{resized}
 use Rattle.opt_solvers.proofs.facts_seen.add_operands.Goals as goal
 
 pub returns : goal.returns

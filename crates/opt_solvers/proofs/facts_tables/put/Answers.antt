@@ -1,4 +1,4 @@
-use Rattle.opt_solvers.proofs.FactsTabling.{gained_one}
+use Rattle.opt_rows.proofs.Lists.{gained_one}
 use Rattle.opt_solvers.proofs.facts_tables.put.Goals as goal
 
 pub returns : goal.returns

@@ -1,13 +1,14 @@
 use Rattle.std.proofs.Common.{◌≡◌, ◌<◌, length, sym, ap, ◌∙◌, subst, arith, rules}
 use Rattle.std.specs.Prelude.{Contains}
 use Rattle.std.proofs.lemmas.List.{take_all}
-use Rattle.opt_solvers.specs.OperationRows.{no_edge, row_numbered, edge_numbered}
-use Rattle.opt_solvers.specs.Facts.{arguments_of}
-use Rattle.opt_solvers.specs.LinkedRows.{RowsGain}
-use Rattle.opt_solvers.specs.FactsTables.{ForwardsToArgument, ForwardsAlong}
-use Rattle.opt_solvers.proofs.OperationLists.{row_contained, edge_contained, numbered_read}
-use Rattle.opt_solvers.proofs.FactsEntering.{row_at}
-use Rattle.opt_solvers.proofs.FactsEdging.{target_below}
+use Rattle.opt_rows.specs.OperationRows.{no_edge, row_numbered, edge_numbered}
+use Rattle.opt_rows.specs.Facts.{arguments_of}
+use Rattle.opt_rows.specs.LinkedRows.{RowsGain}
+use Rattle.opt_steps.specs.FactsEdges.{ForwardsToArgument}
+use Rattle.opt_solvers.specs.FactsTables.{ForwardsAlong}
+use Rattle.opt_rows.proofs.OperationLists.{row_contained, edge_contained, numbered_read}
+use Rattle.opt_rows.proofs.FactsEntering.{row_at}
+use Rattle.opt_steps.proofs.FactsEdging.{target_below}
 use Rattle.opt_solvers.proofs.FactsTabling.{edges_more}
 use Rattle.opt_solvers.proofs.facts_tables.put_edges.Goals as goal
 

@@ -1,6 +1,6 @@
 use Rattle.std.proofs.Common.{◌≡◌, take}
-use Rattle.opt_solvers.specs.OperationRows.{row_numbered}
-use Rattle.opt_solvers.specs.LinkedRows.{RowsGain}
+use Rattle.opt_rows.specs.OperationRows.{row_numbered}
+use Rattle.opt_rows.specs.LinkedRows.{RowsGain}
 use Rattle.opt_solvers.specs.FactsTables.{ForwardsAlong}
 use Rattle.opt_solvers.proofs.facts_tables.put_edges.Given as goal
 

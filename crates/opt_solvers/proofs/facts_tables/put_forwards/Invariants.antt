@@ -1,6 +1,6 @@
 use Rattle.std.proofs.Common.{◌≡◌, take}
-use Rattle.opt_solvers.specs.LinkedRows.{RowsGain}
-use Rattle.opt_solvers.specs.FactsTables.{ForwardsToArgument}
+use Rattle.opt_rows.specs.LinkedRows.{RowsGain}
+use Rattle.opt_steps.specs.FactsEdges.{ForwardsToArgument}
 use Rattle.opt_solvers.proofs.facts_tables.put_forwards.Given as goal
 
 abbrev pub invariant-loop-index : goal.invariant-loop-index

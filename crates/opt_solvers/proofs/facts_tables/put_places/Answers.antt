@@ -1,7 +1,7 @@
 use Rattle.std.proofs.Common.{◌≡◌, ◌<◌, get_or, sym, subst, rules, Some}
 use Rattle.std.specs.Prelude.{slice_get}
 use Rattle.std.proofs.lemmas.List.{take_all}
-use Rattle.opt_solvers.specs.LinkedRows.{RowsGain}
+use Rattle.opt_rows.specs.LinkedRows.{RowsGain}
 use Rattle.std.proofs.lemmas.List.Elements.{Contains-get_or}
 use Rattle.opt_solvers.proofs.FactsTabling.{places_more}
 use Rattle.opt_solvers.proofs.facts_tables.put_places.Goals as goal

@@ -1,6 +1,6 @@
 use Rattle.std.proofs.Common.{◌≡◌, Some, take}
 use Rattle.std.specs.Prelude.{slice_get}
-use Rattle.opt_solvers.specs.LinkedRows.{RowsGain}
+use Rattle.opt_rows.specs.LinkedRows.{RowsGain}
 use Rattle.opt_solvers.proofs.facts_tables.put_places.Given as goal
 
 abbrev pub invariant-loop-operand : goal.invariant-loop-operand

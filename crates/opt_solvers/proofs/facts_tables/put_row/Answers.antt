@@ -1,8 +1,8 @@
 use Rattle.std.proofs.Common.{◌≡◌, Some, ◌<◌, length, sym, subst}
 use Rattle.std.specs.Prelude.{Contains, slice_get}
-use Rattle.opt_solvers.specs.OperationRows.{row_numbered}
-use Rattle.opt_solvers.specs.LinkedRows.{RowsGain}
-use Rattle.opt_solvers.proofs.OperationLists.{row_contained}
+use Rattle.opt_rows.specs.OperationRows.{row_numbered}
+use Rattle.opt_rows.specs.LinkedRows.{RowsGain}
+use Rattle.opt_rows.proofs.OperationLists.{row_contained}
 use Rattle.opt_solvers.proofs.FactsTabling.{row_put}
 use Rattle.opt_solvers.proofs.facts_tables.put_row.Goals as goal
 

@@ -1,9 +1,10 @@
 use Rattle.std.proofs.Common.{◌<◌, ◌∙◌, length, subst, arith}
 use Rattle.std.proofs.lemmas.List.{take_all}
-use Rattle.opt_solvers.specs.OperationRows.{row_numbered}
+use Rattle.opt_rows.specs.OperationRows.{row_numbered}
 use Rattle.opt_solvers.specs.FactsTables.{HoldRows}
-use Rattle.opt_solvers.proofs.OperationLists.{row_read}
-use Rattle.opt_solvers.proofs.FactsTabling.{no_rows, rows_more, tables_end, emptied}
+use Rattle.opt_rows.proofs.OperationLists.{row_read}
+use Rattle.opt_solvers.proofs.FactsTabling.{no_rows, rows_more, tables_end}
+use Rattle.opt_rows.proofs.Lists.{emptied}
 use Rattle.opt_solvers.proofs.facts_tables.tables_of.Goals as goal
 
 pub loop-number-init : goal.loop-number-init

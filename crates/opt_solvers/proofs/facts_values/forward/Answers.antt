@@ -1,7 +1,7 @@
 use Rattle.std.proofs.Common.{◌<◌, sym, subst}
-use Rattle.opt_solvers.specs.FactsFound.{Meets}
+use Rattle.opt_rows.specs.FactsFound.{Meets}
 use Rattle.opt_solvers.specs.FactsSolving.{SlotsBelow}
-use Rattle.opt_solvers.proofs.FactsTabling.{next_within, next_done, all_done}
+use Rattle.opt_rows.proofs.Lists.{next_within, next_done, all_done}
 use Rattle.opt_solvers.proofs.FactsTelling.{slots_none, slot_more}
 use Rattle.opt_solvers.proofs.facts_values.forward.Goals as goal
 

@@ -1,5 +1,5 @@
 use Rattle.std.proofs.Common.{◌≡◌, ◌++◌}
-use Rattle.opt_solvers.specs.FactsFound.{Meets}
+use Rattle.opt_rows.specs.FactsFound.{Meets}
 use Rattle.opt_solvers.specs.FactsSolving.{SlotsBelow}
 use Rattle.opt_solvers.proofs.facts_values.forward.Given as goal
 

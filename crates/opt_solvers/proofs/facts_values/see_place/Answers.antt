@@ -1,10 +1,10 @@
-use Rattle.opt_solvers.specs.OperationRows.{row_numbered, Row}
-use Rattle.opt_solvers.proofs.OperationLists.{row_there, row_contained}
+use Rattle.opt_rows.specs.OperationRows.{row_numbered, Row}
+use Rattle.opt_rows.proofs.OperationLists.{row_there, row_contained}
 use Rattle.std.proofs.Common.{◌≡◌, ◌<◌, true, false, length, sym, ap, ◌∙◌, subst, rules}
 use Rattle.std.proofs.lemmas.Option.{slice_get_within, same_Some}
-use Rattle.opt_solvers.specs.FactsFound.{facts_of}
-use Rattle.opt_solvers.proofs.FactsFalling.{or_read}
-use Rattle.opt_solvers.proofs.FactsTabling.{get_contains}
+use Rattle.opt_rows.specs.FactsFound.{facts_of}
+use Rattle.opt_rows.proofs.FactsFalling.{or_read}
+use Rattle.opt_rows.proofs.Lists.{get_contains}
 use Rattle.opt_solvers.proofs.FactsTelling.{place_solving, place_refreshed, place_idle}
 use Rattle.opt_solvers.proofs.facts_values.see_place.Goals as goal
 

@@ -1,10 +1,10 @@
 use Rattle.std.proofs.Common.{◌<◌, sym, ◌∙◌, subst}
 use Rattle.std.specs.Prelude.{Contains}
 use Rattle.std.proofs.lemmas.Option.{slice_get_within}
-use Rattle.opt_solvers.specs.declared.known.Known.TheVariants.{Undetermined}
-use Rattle.opt_solvers.specs.Facts.{arguments_of}
-use Rattle.opt_solvers.proofs.FactsFalling.{or_read}
-use Rattle.opt_solvers.proofs.FactsTabling.{get_contains}
+use Rattle.opt_rows.specs.declared.known.Known.TheVariants.{Undetermined}
+use Rattle.opt_rows.specs.Facts.{arguments_of}
+use Rattle.opt_rows.proofs.FactsFalling.{or_read}
+use Rattle.opt_rows.proofs.Lists.{get_contains}
 use Rattle.opt_solvers.proofs.FactsTelling.{told_begins, next_reads, next_told, told_all}
 use Rattle.opt_solvers.proofs.facts_values.tell_value.Goals as goal
 

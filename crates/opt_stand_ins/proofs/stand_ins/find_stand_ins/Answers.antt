@@ -5,7 +5,7 @@ use Rattle.opt_chains.specs.Chained.{IsJoiningPlan}
 use Rattle.opt_chains.specs.declared.merge_values.StandIn.{StandIn}
 use Rattle.opt_inside.proofs.Around.{HasLists}
 use Rattle.opt_inside.specs.Numbered.{numbers_of}
-use Rattle.opt_solvers.specs.Chains.{StepsAlong}
+use Rattle.opt_rows.specs.Chains.{StepsAlong}
 use Rattle.opt_solvers.specs.ChainsFollowed.{AreFinals, AreLinksInRange}
 use Rattle.opt_stand_ins.specs.Forwarded.{IsForwarded}
 use Rattle.opt_stand_ins.specs.Tables.{IsGivenTable, AreNumbersOf, AreFollowed}

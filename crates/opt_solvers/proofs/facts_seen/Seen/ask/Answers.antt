@@ -1,7 +1,7 @@
 use Rattle.std.proofs.Common.{rules, ◌≡◌, ◌≤◌, Some, length, get_or, refl, sym, ap, ◌∙◌, arith}
-use Rattle.opt_solvers.specs.Rows.{row_at}
+use Rattle.opt_rows.specs.Rows.{row_at}
 use Rattle.opt_solvers.specs.FactsSeen.{seen_facts}
-use Rattle.opt_solvers.proofs.Rows.{as_many, read_there, row_bounds, row_found}
+use Rattle.opt_rows.proofs.Rows.{as_many, read_there, row_bounds, row_found}
 use Rattle.opt_solvers.proofs.FactsSeeing.{asked_all, asked_none, constants_len, row_constants, row_undetermined}
 use Rattle.opt_solvers.proofs.facts_seen.Seen.ask.Goals as goal
 

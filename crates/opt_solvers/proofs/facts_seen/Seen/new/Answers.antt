@@ -1,9 +1,9 @@
 use Rattle.std.proofs.Common.{rules, ◌≡◌, ◌<◌, ℕ, List, None, length, take, map, replicate, refl, sym, ap, ◌∙◌, subst, arith}
 use Rattle.std.proofs.lemmas.List.{take_all}
-use Rattle.opt_solvers.specs.OperationRows.{Row, row_numbered}
+use Rattle.opt_rows.specs.OperationRows.{Row, row_numbered}
 use Rattle.opt_solvers.specs.FactsSeen.{unseen, GainsOperands}
-use Rattle.opt_solvers.proofs.OperationLists.{row_read}
-use Rattle.opt_solvers.proofs.FactsEntering.{next_of}
+use Rattle.opt_rows.proofs.OperationLists.{row_read}
+use Rattle.opt_rows.proofs.Lists.{next_of}
 use Rattle.opt_solvers.proofs.FactsSeeing.{IsUnseen, unseen_begins, unseen_more, unseen_is, unseen_rows}
 use Rattle.opt_solvers.proofs.facts_seen.Seen.new.Goals as goal
 

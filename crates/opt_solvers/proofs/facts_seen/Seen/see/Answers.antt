@@ -1,9 +1,9 @@
 use Rattle.std.proofs.Common.{rules, ◌<◌, ◌+◌, ◌-◌, List, length, ap, ◌∙◌, arith}
 use Rattle.std.proofs.Math.ListN.{set}
-use Rattle.opt_solvers.specs.declared.known.Known.{Known}
+use Rattle.opt_rows.specs.declared.known.Known.{Known}
 use Rattle.opt_solvers.specs.FactsSeen.{seen_facts}
-use Rattle.opt_solvers.specs.Rows.{rows_from, row_at}
-use Rattle.opt_solvers.proofs.Rows.{as_many, read_there, stands_at}
+use Rattle.opt_rows.specs.Rows.{rows_from, row_at}
+use Rattle.opt_rows.proofs.Rows.{as_many, read_there, stands_at}
 use Rattle.opt_solvers.proofs.FactsSeeing.{one_at_most, row_missing, place_constant, place_found, lacked_enough, missing_small, rows_saw, facts_saw, saw_all, facts_len}
 use Rattle.opt_solvers.proofs.facts_seen.Seen.see.Goals as goal
 

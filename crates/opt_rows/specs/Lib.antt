@@ -1,0 +1,12 @@
+pub mod Known
+pub mod KnownFalls
+pub mod Facts
+pub mod FactsFound
+pub mod LinkedRows
+pub mod Rows
+pub mod OperationRows
+pub mod OperationColumns
+pub mod FactsTaken
+pub mod DeadCandidates
+pub mod Dead
+pub mod Chains

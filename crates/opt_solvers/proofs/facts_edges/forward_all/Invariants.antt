@@ -1,6 +1,0 @@
-use Rattle.std.proofs.Common.{take}
-use Rattle.opt_solvers.specs.FactsSolving.{ForwardsAll}
-use Rattle.opt_solvers.proofs.facts_edges.forward_all.Given as goal
-
-abbrev pub invariant-loop-index : goal.invariant-loop-index
-invariant-loop-index g l = ForwardsAll (take l.index l.arguments) l.forwards l.operands l.initial.found l.found

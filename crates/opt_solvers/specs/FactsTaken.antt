@@ -1,7 +1,0 @@
--- Which edges are taken.
-use Rattle.std.specs.Prelude.{Bool, false, List, length, replicate}
-use Rattle.opt_solvers.specs.OperationRows.{Row}
-
--- no edge of the operation is taken
-abbrev pub untaken : Row → List Bool
-untaken r = replicate (length r.edges) false

@@ -1,0 +1,4 @@
+pub mod FactsEdges
+pub mod ChainsJoined
+pub mod DeadPlaces
+pub mod DeadRelease
