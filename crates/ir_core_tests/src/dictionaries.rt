@@ -1,4 +1,5 @@
 //! Tests of dictionaries of attributes.
+use asserting::same;
 use ir_names::{AttributeDict, Identifier, IdentifierError};
 use ir_scripts::tiny::{Tiny, TinyAttr};
 use std::alloc::{AllocError, Global};
@@ -17,16 +18,16 @@ fn holds_attributes_in(
 ) -> Result<(), Fail> {
     assert!(rt; dict.is_empty());
     let old = dict.set(Identifier::try_new(alloc, "b")?, TinyAttr::Number(3))?;
-    assert_eq!(rt; old, None);
+    same(rt, old, None);
     let old = dict.set(Identifier::try_new(alloc, "a")?, TinyAttr::Number(4))?;
-    assert_eq!(rt; old, None);
+    same(rt, old, None);
     let old = dict.set(Identifier::try_new(alloc, "b")?, TinyAttr::Number(5))?;
-    assert_eq!(rt; old, Some(TinyAttr::Number(3)));
-    assert_eq!(rt; dict.len(), 2);
-    assert_eq!(rt; dict.get("b"), Some(&TinyAttr::Number(5)));
-    assert_eq!(rt; dict.get("c"), None);
-    assert_eq!(rt; dict.entry(1), Some(("a", &TinyAttr::Number(4))));
-    assert_eq!(rt; dict.entry(2), None);
+    same(rt, old, Some(TinyAttr::Number(3)));
+    same(rt, dict.len(), 2);
+    same(rt, dict.get("b"), Some(&TinyAttr::Number(5)));
+    same(rt, dict.get("c"), None);
+    same(rt, dict.entry(1), Some(("a", &TinyAttr::Number(4))));
+    same(rt, dict.entry(2), None);
     Ok(())
 }
 
@@ -58,10 +59,10 @@ fn pair(
 
 /// Asserts that the two attributes of a dictionary are taken out of it.
 fn assert_removed(rt: &impl Abort, dict: &mut AttributeDict<Tiny>) {
-    assert_eq!(rt; dict.remove("b"), Some(TinyAttr::Number(3)));
-    assert_eq!(rt; dict.remove("b"), None);
-    assert_eq!(rt; dict.get("a"), Some(&TinyAttr::Number(4)));
-    assert_eq!(rt; dict.remove("a"), Some(TinyAttr::Number(4)));
+    same(rt, dict.remove("b"), Some(TinyAttr::Number(3)));
+    same(rt, dict.remove("b"), None);
+    same(rt, dict.get("a"), Some(&TinyAttr::Number(4)));
+    same(rt, dict.remove("a"), Some(TinyAttr::Number(4)));
     assert!(rt; dict.is_empty());
 }
 
@@ -92,9 +93,13 @@ fn assert_pair(
     second: (&str, u64),
 ) {
     let mut left = dict.iter();
-    assert_eq!(rt; left.next(), Some((first.0, &TinyAttr::Number(first.1))));
-    assert_eq!(rt; left.next(), Some((second.0, &TinyAttr::Number(second.1))));
-    assert_eq!(rt; left.next(), None);
+    same(rt, left.next(), Some((first.0, &TinyAttr::Number(first.1))));
+    same(
+        rt,
+        left.next(),
+        Some((second.0, &TinyAttr::Number(second.1))),
+    );
+    same(rt, left.next(), None);
 }
 
 #[test]
@@ -131,7 +136,7 @@ fn compares_dictionaries(rt: HostRuntime) -> Result<(), Fail> {
         ([("b", 3), ("a_1", 5)], false),
         ([("b", 3), ("a", 4)], false),
     ] {
-        assert_eq!(rt; are_equal(rt.alloc(), one, other)?, equal);
+        same(&rt, are_equal(rt.alloc(), one, other)?, equal);
     }
     assert!(rt; !is_empty_one(rt.alloc(), one)?);
     Ok(())
@@ -157,7 +162,7 @@ fn hashes_dictionaries(rt: HostRuntime) -> Result<(), Fail> {
         ([("b", 3), ("a_1", 5)], false),
         ([("b", 4), ("a_1", 3)], false),
     ] {
-        assert_eq!(rt; hash_of_pair(rt.alloc(), other)? == hash, equal);
+        same(&rt, hash_of_pair(rt.alloc(), other)? == hash, equal);
     }
     assert_ne!(rt; hash_of(&AttributeDict::new(rt.alloc())), hash);
     Ok(())

@@ -1,4 +1,5 @@
 //! Tests of identifiers and names. What a test looks at comes as an argument, so that proofs compute nothing of it.
+use asserting::same;
 use ir_names::{
     AttrName, DialectName, Dialects, GrowError, Identifier, IdentifierError, InvalidIdentifier,
     Legaliser, OpId, OpName, Place, TypeHandle, TypeName,
@@ -15,9 +16,9 @@ fn assert_name(
     name: &Identifier,
     text: &str,
 ) -> Result<(), AllocError> {
-    assert_eq!(rt; name.as_str(), text);
-    assert_eq!(rt; format!(in alloc; "{name}")?.as_str(), text);
-    assert_eq!(rt; name.try_clone()?.as_str(), text);
+    same(rt, name.as_str(), text);
+    same(rt, format!(in alloc; "{name}")?.as_str(), text);
+    same(rt, name.try_clone()?.as_str(), text);
     Ok(())
 }
 
@@ -36,10 +37,10 @@ fn assert_valid(rt: &impl Abort, alloc: Global, text: &str) -> Result<(), Fail> 
 fn assert_invalid(rt: &impl Abort, alloc: Global, text: &str) -> Result<(), Fail> {
     assert!(rt; !Identifier::is_valid(text), "{text}");
     let made = Identifier::try_new(alloc, text);
-    assert_eq!(rt; made, Err(IdentifierError::Invalid(InvalidIdentifier)));
+    same(rt, made, Err(IdentifierError::Invalid(InvalidIdentifier)));
     let chars: Vec<char> = text.chars().collect(alloc)?;
     let made = Identifier::from_chars(alloc, &chars);
-    assert_eq!(rt; made, Err(IdentifierError::Invalid(InvalidIdentifier)));
+    same(rt, made, Err(IdentifierError::Invalid(InvalidIdentifier)));
     Ok(())
 }
 
@@ -64,7 +65,7 @@ fn assert_place(
     let place = Place {
         children: children.to_vec(alloc)?,
     };
-    assert_eq!(rt; format!(in alloc; "{place}")?.as_str(), text);
+    same(rt, format!(in alloc; "{place}")?.as_str(), text);
     Ok(())
 }
 
@@ -83,18 +84,18 @@ fn assert_copied(
     ty: Option<TypeHandle>,
 ) -> Result<(), AllocError> {
     let copy = Tiny::clone_attr(alloc, attr)?;
-    assert_eq!(rt; copy, *attr);
-    assert_eq!(rt; Tiny::attr_type(&copy), ty);
+    same(rt, &copy, attr);
+    same(rt, Tiny::attr_type(&copy), ty);
     Ok(())
 }
 
 #[test]
 fn clones_attributes(rt: HostRuntime) -> Result<(), Fail> {
     let ty = TypeHandle::new(2);
-    assert_eq!(rt; ty.number(), 2);
+    same(&rt, ty.number(), 2);
     assert_copied(&rt, rt.alloc(), &TinyAttr::Type(ty), Some(ty))?;
     assert_copied(&rt, rt.alloc(), &TinyAttr::Number(2), None)?;
-    assert_eq!(rt; GrowError::from(AllocError), GrowError::Memory);
+    same(&rt, GrowError::from(AllocError), GrowError::Memory);
     Ok(())
 }
 
@@ -105,7 +106,7 @@ fn assert_legalised(
     source: &str,
     name: &str,
 ) -> Result<(), GrowError> {
-    assert_eq!(rt; legaliser.legalise(source)?.as_str(), name);
+    same(rt, legaliser.legalise(source)?.as_str(), name);
     Ok(())
 }
 
@@ -118,7 +119,7 @@ fn assert_source(
     source: Option<&str>,
 ) -> Result<(), IdentifierError> {
     let name = Identifier::try_new(alloc, name)?;
-    assert_eq!(rt; legaliser.source_name(&name), source);
+    same(rt, legaliser.source_name(&name), source);
     Ok(())
 }
 
@@ -161,8 +162,8 @@ fn last_number(alloc: Global) -> Legaliser {
 /// Asserts what name a source gets, or that it gets none since the counter is full.
 fn assert_counted(rt: &impl Abort, legaliser: &mut Legaliser, source: &str, name: Option<&str>) {
     match (legaliser.legalise(source), name) {
-        (Ok(found), Some(name)) => assert_eq!(rt; found.as_str(), name),
-        (found, _) => assert_eq!(rt; found, Err(GrowError::CounterFull)),
+        (Ok(found), Some(name)) => same(rt, found.as_str(), name),
+        (found, _) => same(rt, found, Err(GrowError::CounterFull)),
     }
 }
 
@@ -190,7 +191,7 @@ fn assert_joined(
     expected: &str,
 ) -> Result<(), IdentifierError> {
     let joined = ((first + "1")? + second)?;
-    assert_eq!(rt; joined.as_str(), expected);
+    same(rt, joined.as_str(), expected);
     let same = Identifier::try_from_string(joined.into_string());
     assert!(rt; same.is_ok());
     Ok(())
@@ -203,14 +204,18 @@ fn assert_cleaned(
     text: &str,
     name: &str,
 ) -> Result<(), AllocError> {
-    assert_eq!(rt; Identifier::clean(alloc, text)?.as_str(), name);
+    same(rt, Identifier::clean(alloc, text)?.as_str(), name);
     Ok(())
 }
 
 /// Asserts that a text isn't taken as an identifier.
 fn assert_not_taken(rt: &impl Abort, alloc: Global, text: &str) -> Result<(), AllocError> {
     let text = String::from_str(alloc, text)?;
-    assert_eq!(rt; Identifier::try_from_string(text), Err(InvalidIdentifier));
+    same(
+        rt,
+        Identifier::try_from_string(text),
+        Err(InvalidIdentifier),
+    );
     Ok(())
 }
 
@@ -227,13 +232,13 @@ fn joins_identifiers(rt: HostRuntime) -> Result<(), Fail> {
 
 /// Asserts how the id of an operation is shown.
 fn assert_id(rt: &impl Abort, alloc: Global, id: OpId, text: &str) -> Result<(), AllocError> {
-    assert_eq!(rt; format!(in alloc; "{id}")?.as_str(), text);
+    same(rt, format!(in alloc; "{id}")?.as_str(), text);
     Ok(())
 }
 
 #[test]
 fn shows_ids(rt: HostRuntime) -> Result<(), Fail> {
-    assert_eq!(rt; OpName::try_new("1"), Err(InvalidIdentifier));
+    same(&rt, OpName::try_new("1"), Err(InvalidIdentifier));
     let id = OpId {
         dialect: DialectName::try_new("tiny")?,
         name: OpName::try_new("define")?,
@@ -244,7 +249,7 @@ fn shows_ids(rt: HostRuntime) -> Result<(), Fail> {
 
 /// Asserts that a name is a text.
 fn assert_text(rt: &impl Abort, name: &Identifier, text: &str) {
-    assert_eq!(rt; name.as_str(), text);
+    same(rt, name.as_str(), text);
 }
 
 #[test]

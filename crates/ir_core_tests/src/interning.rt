@@ -3,6 +3,7 @@ ghost use Rattle.std.specs.Prelude.{◌≡◌, Some};
 ghost use Rattle.ir_types.specs.Interned.{IsKnown};
 ghost use Rattle.ir_types.specs.Lends.{with_body};
 
+use asserting::same;
 use ir_names::{AttrInterface, OpInterface, TypeHandle, TypeInterface};
 use ir_scripts::tiny::{
     IntegerType, NamedType, Tiny, TinyAttr, TinyLocation, TinyOp, TinyType, TinyTypeKind,
@@ -20,19 +21,21 @@ fn interns_types_in(rt: &impl Abort, types: &mut Types<Tiny>) -> Result<(), Fail
     assert!(rt; types.is_empty());
     let first = types.intern(TinyType::Integer(IntegerType { width: 7 }))?;
     let second = types.intern(TinyType::Named(NamedType { name: 7 }))?;
-    assert_eq!(rt;
+    same(
+        rt,
         types.intern(TinyType::Integer(IntegerType { width: 7 }))?,
-        first
+        first,
     );
     assert!(rt; first != second);
-    assert_eq!(rt; types.len(), 2);
-    assert_eq!(rt;
+    same(rt, types.len(), 2);
+    same(
+        rt,
         types.key(second),
-        Some(&TinyType::Named(NamedType { name: 7 }))
+        Some(&TinyType::Named(NamedType { name: 7 })),
     );
-    assert_eq!(rt; types.key(TypeHandle::new(2)), None);
+    same(rt, types.key(TypeHandle::new(2)), None);
     assert!(rt; types.is_known(second) && !types.is_known(TypeHandle::new(2)));
-    assert_eq!(rt; types.body(second), None);
+    same(rt, types.body(second), None);
     types.know_distinct();
     Ok(())
 }
@@ -68,15 +71,16 @@ fn gives_bodies_in(rt: &impl Abort, types: &mut Types<Tiny>) -> Result<(), Fail>
     assert!(rt; types.is_known(first) && types.is_known(second));
     give_body(types, first, 10);
     give_tiny_body(types, second, 20);
-    assert_eq!(rt; types.body(first), Some(&10));
-    assert_eq!(rt; types.body(second), Some(&20));
-    assert_eq!(rt;
+    same(rt, types.body(first), Some(&10));
+    same(rt, types.body(second), Some(&20));
+    same(
+        rt,
         types.intern(TinyType::Named(NamedType { name: 1 }))?,
-        first
+        first,
     );
-    assert_eq!(rt; types.body(first), Some(&10));
+    same(rt, types.body(first), Some(&10));
     *types.body_mut(second) = None;
-    assert_eq!(rt; types.body(second), None);
+    same(rt, types.body(second), None);
     Ok(())
 }
 
@@ -113,11 +117,11 @@ fn tells_kinds_and_interfaces(rt: HostRuntime) -> Result<(), Fail> {
 fn saves_values_in(rt: &impl Abort, types: &mut Types<Tiny>) -> Result<(), Fail> {
     let first = types.save(70)?;
     let second = types.save(80)?;
-    assert_eq!(rt; types.save(70)?, first);
+    same(rt, types.save(70)?, first);
     assert!(rt; first != second);
     assert!(rt; types.is_saved(first) && types.is_saved(second));
-    assert_eq!(rt; *types.saved(first), 70);
-    assert_eq!(rt; *types.saved(second), 80);
+    same(rt, *types.saved(first), 70);
+    same(rt, *types.saved(second), 80);
     types.know_saved_distinct();
     Ok(())
 }
@@ -132,7 +136,7 @@ fn saves_values(rt: HostRuntime) -> Result<(), Fail> {
 
 /// Asserts whether a kind implements an interface.
 fn assert_implements(rt: &impl Abort, kind: TinyOp, interface: OpInterface, answer: bool) {
-    assert_eq!(rt; Tiny::op_implements(kind, interface), answer);
+    same(rt, Tiny::op_implements(kind, interface), answer);
 }
 
 /// Asserts what copies of a key of types and of a location are.
@@ -142,14 +146,14 @@ fn assert_copies(
     key: &TinyType,
     location: &TinyLocation,
 ) -> Result<(), AllocError> {
-    assert_eq!(rt; Tiny::clone_type_key(alloc, key)?, *key);
-    assert_eq!(rt; Tiny::clone_location(alloc, location)?, *location);
+    same(rt, &Tiny::clone_type_key(alloc, key)?, key);
+    same(rt, &Tiny::clone_location(alloc, location)?, location);
     Ok(())
 }
 
 /// Asserts that an attribute has no type and implements nothing that has one.
 fn assert_untyped(rt: &impl Abort, attr: &TinyAttr) {
-    assert_eq!(rt; Tiny::type_of(attr), None);
+    same(rt, Tiny::type_of(attr), None);
     assert!(rt; !Tiny::attr_implements(attr, AttrInterface::TypedAttr));
 }
 
@@ -171,7 +175,7 @@ fn assert_shown(
     text: &str,
 ) -> Result<(), AllocError> {
     let id = Tiny::op_id(kind);
-    assert_eq!(rt; format!(in alloc; "{id}")?.as_str(), text);
+    same(rt, format!(in alloc; "{id}")?.as_str(), text);
     Ok(())
 }
 
@@ -186,7 +190,7 @@ fn assert_other_kind(
     let expected = Tiny::type_id(expected);
     let found = Tiny::type_id(found);
     let error = TypedHandleErr { expected, found };
-    assert_eq!(rt; format!(in alloc; "{error}")?.as_str(), text);
+    same(rt, format!(in alloc; "{error}")?.as_str(), text);
     Ok(())
 }
 
@@ -200,7 +204,7 @@ fn assert_lacks(
 ) -> Result<(), AllocError> {
     let found = Tiny::type_id(found);
     let error = TypeInterfaceHandleErr { interface, found };
-    assert_eq!(rt; format!(in alloc; "{error}")?.as_str(), text);
+    same(rt, format!(in alloc; "{error}")?.as_str(), text);
     Ok(())
 }
 

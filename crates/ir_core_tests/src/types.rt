@@ -1,4 +1,5 @@
 //! Types, saved values, and what their markers say.
+use asserting::same;
 use ir_core::{
     AttributeDict, AttributeLookups, Context, CoreError, Identifier, IdentifierError, Instantiate,
     InvalidIdentifier, TypeCalls, TypeHandle, TypeInterfaceHandle, TypedHandle, Uniqued,
@@ -39,11 +40,11 @@ fn a_type_that_is_there_keeps_its_handle_in(
 ) -> Result<(), Fail> {
     let first = integer(alloc, ctx)?;
     let other = named(alloc, ctx)?;
-    assert_eq!(rt; integer(alloc, ctx)?, first);
+    same(rt, integer(alloc, ctx)?, first);
     assert!(rt; other != first);
     let key = TinyType::Integer(IntegerType { width: 32 });
-    assert_eq!(rt; ctx.type_key(first), Some(&key));
-    assert_eq!(rt; instantiated(alloc, ctx, 32)?, (first, 32));
+    same(rt, ctx.type_key(first), Some(&key));
+    same(rt, instantiated(alloc, ctx, 32)?, (first, 32));
     Ok(())
 }
 
@@ -75,10 +76,10 @@ fn a_value_that_is_kept_keeps_its_key_in(
     let first = keep(alloc, ctx, 5)?;
     let other = keep(alloc, ctx, 6)?;
     let again = keep(alloc, ctx, 5)?;
-    assert_eq!(rt; again, first);
+    same(rt, again, first);
     assert!(rt; other != first);
-    assert_eq!(rt; again.key(), first.key());
-    assert_eq!(rt; kept_number(alloc, ctx, 6)?, 6);
+    same(rt, again.key(), first.key());
+    same(rt, kept_number(alloc, ctx, 6)?, 6);
     Ok(())
 }
 
@@ -102,9 +103,9 @@ fn a_saved_value_is_found_by_its_key_in(
     alloc: Global,
     ctx: &mut Context<Tiny>,
 ) -> Result<(), Fail> {
-    assert_eq!(rt; saved_number(alloc, ctx, 5)?, 5);
-    assert_eq!(rt; saved_number(alloc, ctx, 6)?, 6);
-    assert_eq!(rt; saved_number(alloc, ctx, 5)?, 5);
+    same(rt, saved_number(alloc, ctx, 5)?, 5);
+    same(rt, saved_number(alloc, ctx, 6)?, 6);
+    same(rt, saved_number(alloc, ctx, 5)?, 5);
     Ok(())
 }
 
@@ -126,12 +127,13 @@ fn a_type_of_another_kind_is_refused_in(
     let Err(error) = TypedHandle::<IntegerType>::from_handle(ty, ctx) else {
         panic!(rt; "the type is one of integers");
     };
-    assert_eq!(rt;
+    same(
+        rt,
         format!(in alloc; "{error}")?.as_str(),
-        "expected a type tiny.integer, found tiny.named"
+        "expected a type tiny.integer, found tiny.named",
     );
-    assert_eq!(rt; CoreError::from(error), CoreError::TypedHandle);
-    assert_eq!(rt; CoreError::from(error).number(), 4);
+    same(rt, CoreError::from(error), CoreError::TypedHandle);
+    same(rt, CoreError::from(error).number(), 4);
     let ty = integer(alloc, ctx)?;
     assert!(rt; TypedHandle::<IntegerType>::from_handle(ty, ctx).is_ok());
     Ok(())
@@ -155,12 +157,12 @@ fn a_type_without_the_interface_is_refused_in(
     let Err(error) = TypeInterfaceHandle::<Function>::from_handle(ty, ctx) else {
         panic!(rt; "integers are functions");
     };
-    assert_eq!(rt; CoreError::from(error), CoreError::TypeInterfaceHandle);
-    assert_eq!(rt; CoreError::from(error).number(), 5);
+    same(rt, CoreError::from(error), CoreError::TypeInterfaceHandle);
+    same(rt, CoreError::from(error).number(), 5);
     assert!(rt; !type_impls::<Tiny, Function>(ty, ctx));
     let ty = named(alloc, ctx)?;
     let handle = TypeInterfaceHandle::<Function>::from_handle(ty, ctx)?;
-    assert_eq!(rt; handle.to_handle(), ty);
+    same(rt, handle.to_handle(), ty);
     Ok(())
 }
 
@@ -183,13 +185,13 @@ fn an_attribute_without_the_interface_is_refused_in(
     attributes.set(ident(alloc, "number")?, TinyAttr::Number(7))?;
     attributes.set(ident(alloc, "type")?, TinyAttr::Type(ty))?;
     let found = attributes.try_get_as::<TypedAttribute>("type")?;
-    assert_eq!(rt; attr_type::<Tiny>(found), Some(ty));
+    same(rt, attr_type::<Tiny>(found), Some(ty));
     for key in ["number", "absent"] {
         let Err(error) = attributes.try_get_as::<TypedAttribute>(key) else {
             panic!(rt; "{key} says its type");
         };
-        assert_eq!(rt; CoreError::from(error), CoreError::AttrInterfaceCast);
-        assert_eq!(rt; CoreError::from(error).number(), 6);
+        same(rt, CoreError::from(error), CoreError::AttrInterfaceCast);
+        same(rt, CoreError::from(error).number(), 6);
     }
     Ok(())
 }
@@ -208,9 +210,9 @@ fn a_copy_has_the_attributes_that_are_not_printed_behind(rt: HostRuntime) -> Res
     attributes.set(ident(rt.alloc(), "first")?, TinyAttr::Number(7))?;
     attributes.set(ident(rt.alloc(), "second")?, TinyAttr::Number(8))?;
     let copy = attributes.clone_skip_outlined(rt.alloc())?;
-    assert_eq!(rt; copy.len(), 2);
-    assert_eq!(rt; copy.entry(0), Some(("first", &TinyAttr::Number(7))));
-    assert_eq!(rt; copy.entry(1), Some(("second", &TinyAttr::Number(8))));
+    same(&rt, copy.len(), 2);
+    same(&rt, copy.entry(0), Some(("first", &TinyAttr::Number(7))));
+    same(&rt, copy.entry(1), Some(("second", &TinyAttr::Number(8))));
     Ok(())
 }
 
@@ -219,9 +221,9 @@ fn a_text_that_is_no_identifier_is_refused(rt: HostRuntime) -> Result<(), Fail> 
     let Err(error) = Identifier::try_new(rt.alloc(), "a-b") else {
         panic!(rt; "a-b is an identifier");
     };
-    assert_eq!(rt; error, IdentifierError::Invalid(InvalidIdentifier));
-    assert_eq!(rt; CoreError::from(InvalidIdentifier).number(), 13);
-    assert_eq!(rt; Identifier::try_new(rt.alloc(), "a_b")?.as_str(), "a_b");
+    same(&rt, error, IdentifierError::Invalid(InvalidIdentifier));
+    same(&rt, CoreError::from(InvalidIdentifier).number(), 13);
+    same(&rt, Identifier::try_new(rt.alloc(), "a_b")?.as_str(), "a_b");
     Ok(())
 }
 

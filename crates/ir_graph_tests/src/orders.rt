@@ -1,4 +1,5 @@
 //! Orders and components.
+use asserting::same;
 use edge_graphs::{Nothing, graph_of};
 use ir_graph::{
     post_order, post_order_by_component, sccs_in_topological_order, topological_order,
@@ -43,9 +44,9 @@ fn components(alloc: Global, count: usize, edges: &[(usize, usize)]) -> Result<S
 fn a_node_is_left_after_all_that_are_first_seen_from_it(rt: HostRuntime) -> Result<(), Fail> {
     let alloc = rt.alloc();
     let diamond = orders(alloc, 4, &[(0, 1), (0, 2), (1, 3), (2, 3)])?;
-    assert_eq!(rt; diamond.as_str(), "[3, 1, 2, 0] [0, 2, 1, 3]");
+    same(&rt, diamond.as_str(), "[3, 1, 2, 0] [0, 2, 1, 3]");
     let chain = orders(alloc, 3, &[(0, 1), (1, 2)])?;
-    assert_eq!(rt; chain.as_str(), "[2, 1, 0] [0, 1, 2]");
+    same(&rt, chain.as_str(), "[2, 1, 0] [0, 1, 2]");
     Ok(())
 }
 
@@ -53,9 +54,9 @@ fn a_node_is_left_after_all_that_are_first_seen_from_it(rt: HostRuntime) -> Resu
 fn components_keep_their_order(rt: HostRuntime) -> Result<(), Fail> {
     let alloc = rt.alloc();
     let apart = orders(alloc, 5, &[(0, 1), (2, 3)])?;
-    assert_eq!(rt; apart.as_str(), "[1, 0, 3, 2, 4] [0, 1, 2, 3, 4]");
+    same(&rt, apart.as_str(), "[1, 0, 3, 2, 4] [0, 1, 2, 3, 4]");
     let cycle = orders_by_component(alloc, 4, &[(0, 1), (1, 2), (2, 0)])?;
-    assert_eq!(rt; cycle.as_str(), "[[2, 1, 0], [3]] [[0, 1, 2], [3]]");
+    same(&rt, cycle.as_str(), "[[2, 1, 0], [3]] [[0, 1, 2], [3]]");
     Ok(())
 }
 
@@ -80,7 +81,7 @@ fn what_reaches_each_other_is_one_component(rt: HostRuntime) -> Result<(), Fail>
         ),
         (1, [(0, 0)].as_slice(), "[0] true;"),
     ] {
-        assert_eq!(rt; components(alloc, count, edges)?.as_str(), expected);
+        same(&rt, components(alloc, count, edges)?.as_str(), expected);
     }
     Ok(())
 }
@@ -90,9 +91,9 @@ fn a_component_is_cyclic_alone(rt: HostRuntime) -> Result<(), Fail> {
     let alloc = rt.alloc();
     let graph = graph_of(alloc, 4, &[(0, 1), (2, 3), (3, 2)])?;
     let parts = sccs_in_topological_order(alloc, &Nothing {}, &graph)?;
-    assert_eq!(rt; parts.len(), 3);
+    same(&rt, parts.len(), 3);
     for part in &parts {
-        assert_eq!(rt; part.is_cyclic, part.nodes.len() == 2);
+        same(&rt, part.is_cyclic, part.nodes.len() == 2);
     }
     Ok(())
 }
@@ -104,7 +105,7 @@ fn a_component_is_copied_and_shown(rt: HostRuntime) -> Result<(), Fail> {
     for part in &sccs_in_topological_order(alloc, &Nothing {}, &graph)? {
         let copy = part.clone()?;
         let text = format!(in alloc; "{copy:?}")?;
-        assert_eq!(rt; text.as_str(), "Scc { nodes: [0], is_cyclic: false }");
+        same(&rt, text.as_str(), "Scc { nodes: [0], is_cyclic: false }");
     }
     Ok(())
 }

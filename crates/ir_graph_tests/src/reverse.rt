@@ -1,4 +1,5 @@
 //! Graphs with their edges turned round.
+use asserting::same;
 use edge_graphs::{Nothing, graph_of};
 use ir_graph::{ControlFlowGraph, HasLabel, ReverseGraph, ReverseNode};
 use std::alloc::{AllocError, Global};
@@ -40,12 +41,13 @@ fn reversed(alloc: Global, count: usize, edges: &[(usize, usize)]) -> Result<Str
 fn edges_are_turned_round(rt: HostRuntime) -> Result<(), Fail> {
     let alloc = rt.alloc();
     let text = reversed(alloc, 6, &[(0, 1), (0, 2), (1, 3), (2, 4), (4, 2), (5, 3)])?;
-    assert_eq!(rt;
+    same(
+        &rt,
         text.as_str(),
         "[3, 4] Sentinel; Real(0) [] [Real(1), Real(2)]; Real(1) [Real(0)] [Real(3)]; Real(2) [Real(0), Real(4)] [Real(4)]; Real(3) [Real(1), Real(5)] [Sentinel]; Real(4) [Real(2)] [Real(2), Sentinel]; Real(5) [] [Real(3)];",
     );
     let empty = reversed(alloc, 0, &[])?;
-    assert_eq!(rt; empty.as_str(), "[] Sentinel;");
+    same(&rt, empty.as_str(), "[] Sentinel;");
     Ok(())
 }
 
@@ -53,8 +55,8 @@ fn edges_are_turned_round(rt: HostRuntime) -> Result<(), Fail> {
 fn the_sentinel_has_a_label(rt: HostRuntime) -> Result<(), Fail> {
     let sentinel: ReverseNode<usize> = ReverseNode::Sentinel;
     let label = sentinel.label(rt.alloc(), &Nothing {})?;
-    assert_eq!(rt; label.as_str(), "sentinel");
-    assert_eq!(rt; sentinel.into_real(), None);
-    assert_eq!(rt; ReverseNode::Real(3).as_real(), Some(&3));
+    same(&rt, label.as_str(), "sentinel");
+    same(&rt, sentinel.into_real(), None);
+    same(&rt, ReverseNode::Real(3).as_real(), Some(&3));
     Ok(())
 }

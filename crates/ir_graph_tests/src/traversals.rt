@@ -1,4 +1,5 @@
 //! Searches from the entry.
+use asserting::same;
 use edge_graphs::{Nothing, graph_of};
 use ir_graph::{DFSEdgeKind, DFSTraversal};
 use std::alloc::{AllocError, Global};
@@ -55,9 +56,10 @@ fn edges_have_kinds(rt: HostRuntime) -> Result<(), Fail> {
     let alloc = rt.alloc();
     let found = kinds(alloc, 4, &[(0, 1), (0, 2), (1, 3), (2, 3), (3, 0), (3, 3)])?;
     let text = format!(in alloc; "{found:?}")?;
-    assert_eq!(rt;
+    same(
+        &rt,
         text.as_str(),
-        "[Forward, Forward, Forward, Cross, Back, Back]"
+        "[Forward, Forward, Forward, Cross, Back, Back]",
     );
     Ok(())
 }
@@ -81,18 +83,19 @@ fn loops_have_back_edges(rt: HostRuntime) -> Result<(), Fail> {
     let graph = graph_of(alloc, 7, &edges)?;
     let search = DFSTraversal::new(alloc, &Nothing {}, &graph)?;
     let text = orders(alloc, &search)?;
-    assert_eq!(rt;
+    same(
+        &rt,
         text.as_str(),
-        "[0, 1, 2, 3, 4, 5, 6] [5, 4, 3, 6, 2, 1, 0] [0, 1, 2, 6, 3, 4, 5]"
+        "[0, 1, 2, 3, 4, 5, 6] [5, 4, 3, 6, 2, 1, 0] [0, 1, 2, 6, 3, 4, 5]",
     );
-    assert_eq!(rt; numbers(&search, 6), Some((6, 3, 3)));
+    same(&rt, numbers(&search, 6), Some((6, 3, 3)));
     for (from, to) in edges {
         let expected = match (from, to) {
             (3, 2) | (4, 1) => DFSEdgeKind::Back,
             (6, 3) => DFSEdgeKind::Cross,
             _ => DFSEdgeKind::Forward,
         };
-        assert_eq!(rt; kind(&search, from, to), Some(expected));
+        same(&rt, kind(&search, from, to), Some(expected));
     }
     Ok(())
 }
@@ -103,7 +106,7 @@ fn an_empty_graph_has_an_empty_search(rt: HostRuntime) -> Result<(), Fail> {
     let graph = graph_of(alloc, 0, &[])?;
     let search = DFSTraversal::new(alloc, &Nothing {}, &graph)?;
     let text = orders(alloc, &search)?;
-    assert_eq!(rt; text.as_str(), "[] [] []");
+    same(&rt, text.as_str(), "[] [] []");
     assert!(rt; !search.contains(&0));
     Ok(())
 }

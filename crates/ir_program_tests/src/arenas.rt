@@ -1,4 +1,5 @@
 //! What is made where memory is ample.
+use asserting::same;
 use ir_entities::{Arena, Forest, Siblings, Uses};
 use ir_program::{Program, Room};
 use std::alloc::AllocError;
@@ -20,11 +21,11 @@ pub fn finish_program(_program: Program<u32, u64>) {}
 /// The test of the same name, in a new arena.
 fn a_slot_is_used_again_in(rt: &impl Abort, arena: &mut Arena<u8>) -> Result<(), Fail> {
     let old = arena.alloc(7)?;
-    assert_eq!(rt; arena.erase(old), 7);
+    same(rt, arena.erase(old), 7);
     let new = arena.alloc(8)?;
-    assert_eq!(rt; new.slot(), 0);
+    same(rt, new.slot(), 0);
     assert!(rt; !arena.is_live(old));
-    assert_eq!(rt; arena.try_deref(new), Some(&8));
+    same(rt, arena.try_deref(new), Some(&8));
     Ok(())
 }
 
@@ -46,8 +47,8 @@ fn add_both(siblings: &mut Siblings) -> Result<(), AllocError> {
 fn tables_of_siblings_grow(rt: HostRuntime) -> Result<(), Fail> {
     let mut siblings = Siblings::new(rt.alloc());
     add_both(&mut siblings)?;
-    assert_eq!(rt; siblings.lists(), 1);
-    assert_eq!(rt; siblings.nodes(), 1);
+    same(&rt, siblings.lists(), 1);
+    same(&rt, siblings.nodes(), 1);
     Ok(())
 }
 

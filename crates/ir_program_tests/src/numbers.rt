@@ -1,5 +1,6 @@
 //! Numbers of values that come to an end.
 use crate::arenas::finish_program;
+use asserting::same;
 use ir_base::{GrowError, TypeHandle};
 use ir_program::{Operation, Program, Ptr, Value};
 use std::alloc::Global;
@@ -30,8 +31,12 @@ fn numbers_come_to_an_end_in(
 ) -> Result<(), Fail> {
     let op = program.new_operation(alloc, 1)?;
     push_result(rt, program, op)?;
-    assert_eq!(rt; push_result(rt, program, op), Err(GrowError::CounterFull));
-    assert_eq!(rt; result_count(rt, program, op), 1);
+    same(
+        rt,
+        push_result(rt, program, op),
+        Err(GrowError::CounterFull),
+    );
+    same(rt, result_count(rt, program, op), 1);
     Ok(())
 }
 

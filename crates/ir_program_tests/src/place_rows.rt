@@ -1,5 +1,6 @@
 //! Rows of places that grow where memory is ample.
 use crate::use_tables::finish;
+use asserting::same;
 use ir_entities::{Spot, Uses, insert_place, push_place};
 use std::alloc::Global;
 use std::process::Abort;
@@ -11,9 +12,9 @@ fn a_place_is_pushed_in(rt: &impl Abort, alloc: Global, uses: &mut Uses<u64>) ->
     let definition = uses.define(70)?;
     push_place(uses, &mut row, 5, definition)?;
     push_place(uses, &mut row, 5, definition)?;
-    assert_eq!(rt; row.len(), 2);
-    assert_eq!(rt; uses.spot(row[1]), Spot { user: 5, index: 1 });
-    assert_eq!(rt; uses.count(definition), 2);
+    same(rt, row.len(), 2);
+    same(rt, uses.spot(row[1]), Spot { user: 5, index: 1 });
+    same(rt, uses.count(definition), 2);
     Ok(())
 }
 
@@ -25,14 +26,25 @@ fn a_place_is_pushed(rt: HostRuntime) -> Result<(), Fail> {
     outcome
 }
 
+/// The test of the same name, in a new table.
+fn a_place_is_inserted_in(
+    rt: &impl Abort,
+    alloc: Global,
+    uses: &mut Uses<u64>,
+) -> Result<(), Fail> {
+    let mut row = Vec::new(alloc);
+    let definition = uses.define(70)?;
+    insert_place(uses, &mut row, 5, 0, definition)?;
+    same(rt, row.len(), 1);
+    same(rt, uses.spot(row[0]), Spot { user: 5, index: 0 });
+    same(rt, uses.count(definition), 1);
+    Ok(())
+}
+
 #[test]
 fn a_place_is_inserted(rt: HostRuntime) -> Result<(), Fail> {
     let mut uses: Uses<u64> = Uses::new(rt.alloc());
-    let mut row = Vec::new(rt.alloc());
-    let definition = uses.define(70)?;
-    insert_place(&mut uses, &mut row, 5, 0, definition)?;
-    assert_eq!(rt; row.len(), 1);
-    assert_eq!(rt; uses.spot(row[0]), Spot { user: 5, index: 0 });
-    assert_eq!(rt; uses.count(definition), 1);
-    Ok(())
+    let outcome = a_place_is_inserted_in(&rt, rt.alloc(), &mut uses);
+    finish(uses);
+    outcome
 }

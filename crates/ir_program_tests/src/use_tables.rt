@@ -2,6 +2,7 @@
 ghost use Rattle.std.specs.Prelude.{◌≡◌, IfOk};
 ghost use Rattle.ir_entities.specs.Uses.{IsDefined, IsPlace};
 
+use asserting::same;
 use ir_entities::{Spot, Uses};
 use std::alloc::AllocError;
 use std::process::Abort;
@@ -15,8 +16,8 @@ fn define_two(rt: &impl Abort, uses: &mut Uses<u64>) -> Result<(usize, usize), A
     let first = uses.define(70)?;
     let second = uses.define(80)?;
     assert!(rt; first != second);
-    assert_eq!(rt; uses.key(first), 70);
-    assert_eq!(rt; uses.key(second), 80);
+    same(rt, uses.key(first), 70);
+    same(rt, uses.key(second), 80);
     assert!(rt; !uses.is_used(first));
     Ok((first, second))
 }
@@ -37,9 +38,9 @@ fn add_three(
     uses.add(first, Spot { user: 5, index: 0 })?;
     let right = uses.add(first, Spot { user: 5, index: 1 })?;
     let last = uses.add(second, Spot { user: 6, index: 0 })?;
-    assert_eq!(rt; uses.count(first), 2);
-    assert_eq!(rt; uses.count(second), 1);
-    assert_eq!(rt; uses.first(second), Some(last));
+    same(rt, uses.count(first), 2);
+    same(rt, uses.count(second), 1);
+    same(rt, uses.first(second), Some(last));
     Ok((right, last))
 }
 
@@ -51,13 +52,13 @@ fn rename_all(rt: &impl Abort, uses: &mut Uses<u64>, first: usize, second: usize
     ensures definitions { uses.new.definitions ≡ uses.old.definitions }
 {
     uses.rename(right, second);
-    assert_eq!(rt; uses.definition(right), second);
-    assert_eq!(rt; uses.count(first), 1);
-    assert_eq!(rt; uses.count(second), 2);
+    same(rt, uses.definition(right), second);
+    same(rt, uses.count(first), 1);
+    same(rt, uses.count(second), 2);
     uses.replace_all(first, second);
-    assert_eq!(rt; uses.first(first), None);
-    assert_eq!(rt; uses.count(second), 3);
-    assert_eq!(rt; uses.iter(second).count(), 3);
+    same(rt, uses.first(first), None);
+    same(rt, uses.count(second), 3);
+    same(rt, uses.iter(second).count(), 3);
 }
 
 /// Takes all places of a definition out of use, and the definition with them.
@@ -81,12 +82,12 @@ fn numbers_are_used_again_in(rt: &impl Abort, uses: &mut Uses<u64>) -> Result<()
     let (first, second) = define_two(rt, uses)?;
     let (right, last) = add_three(rt, uses, first, second)?;
     uses.set_index(last, 9);
-    assert_eq!(rt; uses.spot(last), Spot { user: 6, index: 9 });
-    assert_eq!(rt; uses.spot(right), Spot { user: 5, index: 1 });
+    same(rt, uses.spot(last), Spot { user: 6, index: 9 });
+    same(rt, uses.spot(right), Spot { user: 5, index: 1 });
     rename_all(rt, uses, first, second, right);
     end(rt, uses, second);
     let again = uses.define(90)?;
-    assert_eq!(rt; again, second);
+    same(rt, again, second);
     let place = uses.add(again, Spot { user: 7, index: 0 })?;
     assert!(rt; place < 3);
     Ok(())

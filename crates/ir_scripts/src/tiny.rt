@@ -8,7 +8,7 @@ use std::alloc::{AllocError, Global};
 pub struct Tiny;
 
 /// The kinds of operations.
-#[derive(Clone, Copy, Debug, PartialEq, Eq, Hash)]
+#[derive(Clone, Copy, PartialEq, Eq)]
 pub enum TinyOp {
     /// A plain one.
     Def,
@@ -18,13 +18,13 @@ pub enum TinyOp {
     Graph,
 }
 
-#[derive(Clone, Copy, Debug, PartialEq, Eq, Hash)]
+#[derive(Clone, Copy, PartialEq, Eq)]
 pub enum TinyTypeKind {
     Integer,
     Named,
 }
 
-#[derive(Clone, Copy, Debug, PartialEq, Eq, Hash)]
+#[derive(Clone, Copy, PartialEq, Eq)]
 pub enum TinyAttrKind {
     Number,
     Type,

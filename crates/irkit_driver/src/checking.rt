@@ -5,9 +5,9 @@ ghost use Rattle.irkit_running.specs.Outcomes.{Accepts, EndsCheck};
 
 use ir_context::Context;
 use irkit_refusals::Refusal;
-use irkit_running::{let_go, load};
+use irkit_running::load;
 use irkit_streams::{Watched, write_text};
-use kit::Kit;
+use kit::{Kit, let_go};
 use std::alloc::Global;
 use std::io::{Read, Write};
 

@@ -15,7 +15,7 @@ use ir_program::{Operation, Ptr};
 use ir_trees::know_tree;
 use irkit_refusals::Refusal;
 use irkit_streams::{Watched, write_text};
-use kit::Kit;
+use kit::{Kit, let_go};
 use kit_language::kit_can_print;
 use kit_optimised_programs::optimised_modules_have_programs;
 use kit_optimiser::{KitPass, run_passes};
@@ -43,9 +43,6 @@ pub fn run<R: Read, W: Write>(
     let_go(ctx);
     outcome
 }
-
-/// Lets a context go, with all that it holds.
-pub fn let_go(_ctx: Context<Kit>) {}
 
 /// As [`run`], where the module is read into a new context.
 pub fn run_in<R: Read, W: Write>(

@@ -6,9 +6,8 @@ use crate::printed::{SUM, SUM_PRINTED};
 use ir_characters::Text;
 use ir_context::Context;
 use irkit_driver::{KitPass, Refusal, Watched, check, load, run};
-use irkit_running::let_go;
 use irkit_streams::{DecodeFault, ReadFault, decode, read_to_end};
-use kit::Kit;
+use kit::{Kit, let_go};
 use std::alloc::{AllocError, Global};
 use std::process::Abort;
 

@@ -3,8 +3,7 @@ use crate::calls::{does, function, ran, runs_to};
 use crate::passes::{DCE, SCCP, SIMPLIFY};
 use ir_context::Context;
 use irkit_driver::{KitPass, Refusal, Watched, load};
-use irkit_running::let_go;
-use kit::Kit;
+use kit::{Kit, let_go};
 use std::alloc::{AllocError, Global};
 use std::process::Abort;
 

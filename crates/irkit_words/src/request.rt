@@ -7,7 +7,7 @@ use std::alloc::{AllocError, AllocFailed, Global};
 use thiserror::Error;
 
 /// A run: the word for a function's path, the numbers that it takes, and at most how many steps.
-#[derive(Debug, Drop)]
+#[derive(Drop)]
 pub struct Execution {
     pub limit: u64,
     pub path: String,
@@ -15,7 +15,7 @@ pub struct Execution {
 }
 
 /// What the program is asked to do.
-#[derive(Debug, Drop)]
+#[derive(Drop)]
 pub enum Request {
     /// To test a module.
     Check,

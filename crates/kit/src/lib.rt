@@ -3,8 +3,10 @@
 
 mod dialect;
 mod dropping;
+mod ending;
 mod meaning;
 mod table;
 mod texts;
 
 pub use dialect::{Kit, Unused};
+pub use ending::let_go;

@@ -15,7 +15,7 @@ use ir_types::DialectTables;
 use kit_ops::{KitAttr, KitOp, KitType};
 
 /// What is asked of a block.
-#[derive(Clone, Copy, Debug)]
+#[derive(Clone, Copy)]
 pub(crate) enum BlockTest {
     /// Its arguments have types that values can have.
     Values,

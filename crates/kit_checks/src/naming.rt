@@ -20,7 +20,7 @@ use kit_ops::{KitAttr, KitOp, KitType};
 use std::alloc::{AllocError, Global};
 
 /// Where an operation is: its block, and the first block of the region.
-#[derive(Clone, Copy, Debug)]
+#[derive(Clone, Copy)]
 pub(crate) struct Spot {
     block: Ptr<BasicBlock>,
     entry: Ptr<BasicBlock>,

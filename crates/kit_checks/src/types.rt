@@ -14,7 +14,7 @@ use ir_types::DialectTables;
 use kit_ops::{KitAttr, KitOp, KitType};
 
 /// What is asked of a type.
-#[derive(Clone, Copy, Debug)]
+#[derive(Clone, Copy)]
 pub(crate) enum TypeTest {
     /// Values can have it.
     Value,

@@ -11,7 +11,7 @@ use std::alloc::{AllocError, Global};
 
 /// A number for each operation inside a root: the later it comes in walk order, the greater. It is kept at the slot of
 /// the operation, which no other one that is there has, so nothing is hashed and no list is searched.
-#[derive(Debug, Drop)]
+#[derive(Drop)]
 pub(crate) struct WalkOrder {
     numbers: Vec<usize>,
 }

@@ -3,14 +3,14 @@
 use kit_ops::{Arithmetic, Comparison};
 
 /// A block that a branch may go on to, and the values that are forwarded to its arguments.
-#[derive(Debug, PartialEq, Eq, Drop)]
+#[derive(Drop)]
 pub struct FlatEdge {
     pub target: usize,
     pub operands: Vec<usize>,
 }
 
 /// An operation.
-#[derive(Debug, PartialEq, Eq, Drop)]
+#[derive(Drop)]
 pub enum Instruction {
     /// The result is a known number.
     Constant {
@@ -53,21 +53,21 @@ pub enum Instruction {
 }
 
 /// A block: its arguments, and its instructions in order.
-#[derive(Debug, PartialEq, Eq, Drop)]
+#[derive(Drop)]
 pub struct FlatBlock {
     pub arguments: Vec<usize>,
     pub instructions: Vec<Instruction>,
 }
 
 /// A function: how many values it has, and its blocks, the entry first.
-#[derive(Debug, PartialEq, Eq, Drop)]
+#[derive(Drop)]
 pub struct FlatFunction {
     pub values: usize,
     pub blocks: Vec<FlatBlock>,
 }
 
 /// The functions of a module, which may call each other.
-#[derive(Debug, PartialEq, Eq, Drop)]
+#[derive(Drop)]
 pub struct FlatModule {
     pub functions: Vec<FlatFunction>,
 }

@@ -10,7 +10,7 @@ use kit_ops::{Arithmetic, Comparison};
 use std::alloc::{AllocError, Global};
 
 /// What an operation has besides its values and blocks.
-#[derive(Clone, Copy, Debug, PartialEq, Eq)]
+#[derive(Clone, Copy)]
 pub enum FlatForm {
     /// A known number.
     Constant(u64),

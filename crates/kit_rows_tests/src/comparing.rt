@@ -1,6 +1,7 @@
 //! What modules are compared by: their texts without the names of values and blocks.
 use crate::playing::after;
 use crate::texts::{LESS, NESTED, TWO_EDGES};
+use asserting::same;
 use std::test::Fail;
 
 /// Modules, each with its text.
@@ -65,7 +66,7 @@ fn modules_are_written_with_types_and_symbols(rt: HostRuntime) -> Result<(), Fai
     let alloc = rt.alloc();
     for (module, expected) in WRITTEN {
         let text = after(alloc, module, &[])?;
-        assert_eq!(rt; text.as_str(), *expected);
+        same(&rt, text.as_str(), *expected);
     }
     Ok(())
 }

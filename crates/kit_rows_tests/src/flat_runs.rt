@@ -1,5 +1,6 @@
 //! Runs of a loop, of calls, of recursion to the limit, and a trap.
 use crate::flat_modules::run;
+use asserting::same;
 use kit_flat::Outcome;
 use std::test::Fail;
 
@@ -8,9 +9,10 @@ fn loop_emits_and_calls(rt: HostRuntime) -> Result<(), Fail> {
     let alloc = rt.alloc();
     let values = vec![in alloc; 10u64, 10u64]?;
     let emissions = vec![in alloc; 1u64, 3u64, 6u64, 10u64]?;
-    assert_eq!(rt;
+    same(
+        &rt,
         run(alloc, 0, &[4], 1000)?,
-        Some(Outcome::Ended(values, emissions))
+        Some(Outcome::Ended(values, emissions)),
     );
     Ok(())
 }
@@ -18,17 +20,20 @@ fn loop_emits_and_calls(rt: HostRuntime) -> Result<(), Fail> {
 #[test]
 fn division_by_zero_traps(rt: HostRuntime) -> Result<(), Fail> {
     let alloc = rt.alloc();
-    assert_eq!(rt;
+    same(
+        &rt,
         run(alloc, 0, &[0], 1000)?,
-        Some(Outcome::Trapped(Vec::new(alloc)))
+        Some(Outcome::Trapped(Vec::new(alloc))),
     );
-    assert_eq!(rt;
+    same(
+        &rt,
         run(alloc, 1, &[0], 2)?,
-        Some(Outcome::Trapped(Vec::new(alloc)))
+        Some(Outcome::Trapped(Vec::new(alloc))),
     );
-    assert_eq!(rt;
+    same(
+        &rt,
         run(alloc, 1, &[0], 1)?,
-        Some(Outcome::Limit(Vec::new(alloc)))
+        Some(Outcome::Limit(Vec::new(alloc))),
     );
     Ok(())
 }
@@ -38,10 +43,15 @@ fn steps_run_out(rt: HostRuntime) -> Result<(), Fail> {
     let alloc = rt.alloc();
     // Two steps to begin, and in each turn two of the test and five of the sum.
     let emissions = vec![in alloc; 1u64]?;
-    assert_eq!(rt; run(alloc, 0, &[4], 8)?, Some(Outcome::Limit(emissions)));
-    assert_eq!(rt;
+    same(
+        &rt,
+        run(alloc, 0, &[4], 8)?,
+        Some(Outcome::Limit(emissions)),
+    );
+    same(
+        &rt,
         run(alloc, 0, &[4], 7)?,
-        Some(Outcome::Limit(Vec::new(alloc)))
+        Some(Outcome::Limit(Vec::new(alloc))),
     );
     Ok(())
 }
@@ -49,9 +59,10 @@ fn steps_run_out(rt: HostRuntime) -> Result<(), Fail> {
 #[test]
 fn recursion_goes_on_to_the_limit(rt: HostRuntime) -> Result<(), Fail> {
     let alloc = rt.alloc();
-    assert_eq!(rt;
+    same(
+        &rt,
         run(alloc, 2, &[], 100_000)?,
-        Some(Outcome::Limit(Vec::new(alloc)))
+        Some(Outcome::Limit(Vec::new(alloc))),
     );
     Ok(())
 }

@@ -5,6 +5,7 @@ use crate::texts::{
     COUNTDOWN, DEAD_ARGUMENT, DEAD_ARGUMENT_AFTER, DECIDED, DECIDED_AFTER, DIVISION, ENTRY_LOOP,
     KNOWN_ARGUMENTS, KNOWN_ARGUMENTS_AFTER, TWO_EDGES, TWO_EDGES_AFTER,
 };
+use asserting::same;
 use std::alloc::Global;
 use std::process::Abort;
 use std::test::Fail;
@@ -81,7 +82,7 @@ fn assert_made(rt: &impl Abort, alloc: Global, row: &Made) -> Result<(), Fail> {
     let expected = after(alloc, row.after, &[])?;
     for passes in row.lists {
         let made = after(alloc, row.module, passes)?;
-        assert_eq!(rt; made, expected);
+        same(rt, &made, &expected);
     }
     Ok(())
 }

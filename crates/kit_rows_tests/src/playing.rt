@@ -3,7 +3,7 @@ use crate::optimising::{Pass, optimise_all};
 use ir_context::{Context, OperationCalls};
 use ir_names::Identifier;
 use ir_program::{Operation, Ptr};
-use kit::Kit;
+use kit::{Kit, let_go};
 use kit_checks::RuleFault;
 use kit_execution::execute;
 use kit_flat::Outcome;
@@ -140,14 +140,11 @@ fn after_in(
     Ok(written(alloc, ctx, root)?)
 }
 
-/// Lets a context go.
-fn finish(_ctx: Context<Kit>) {}
-
 /// What the optimisations make of a module, as `written` writes it.
 pub fn after(alloc: Global, text: &str, passes: &[Pass]) -> Result<String, Unread> {
     let mut ctx = Context::new(alloc);
     let words = after_in(alloc, &mut ctx, text, passes);
-    finish(ctx);
+    let_go(ctx);
     words
 }
 
@@ -169,7 +166,7 @@ fn answer_in(
 pub fn answer(alloc: Global, text: &str, passes: &[Pass], run: Run) -> Result<String, Unread> {
     let mut ctx = Context::new(alloc);
     let words = answer_in(alloc, &mut ctx, text, passes, run);
-    finish(ctx);
+    let_go(ctx);
     words
 }
 
@@ -193,7 +190,7 @@ fn verdict_in(alloc: Global, ctx: &mut Context<Kit>, text: &str) -> Result<Strin
 pub fn verdict(alloc: Global, text: &str) -> Result<String, Unread> {
     let mut ctx = Context::new(alloc);
     let words = verdict_in(alloc, &mut ctx, text);
-    finish(ctx);
+    let_go(ctx);
     words
 }
 
@@ -212,6 +209,6 @@ fn function_verdict_in(
 pub fn function_verdict(alloc: Global, text: &str) -> Result<String, Unread> {
     let mut ctx = Context::new(alloc);
     let words = function_verdict_in(alloc, &mut ctx, text);
-    finish(ctx);
+    let_go(ctx);
     words
 }

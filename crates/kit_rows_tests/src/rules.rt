@@ -4,6 +4,7 @@ use crate::texts::{
     COUNTDOWN, DECIDED, EARLY_OPERAND, ENDLESS, ENTRY_LOOP, FACTORIAL, FAR_OPERAND, FOREIGN_BLOCK,
     NESTED, NO_BLOCK, UNKNOWN_BLOCK,
 };
+use asserting::same;
 use kit_module_reader::Unread;
 use std::test::Fail;
 
@@ -59,7 +60,7 @@ const VERDICTS: &[Verdict] = &[
 fn modules_have_their_verdicts(rt: HostRuntime) -> Result<(), Fail> {
     for row in VERDICTS {
         let words = verdict(rt.alloc(), row.module)?;
-        assert_eq!(rt; words.as_str(), row.words);
+        same(&rt, words.as_str(), row.words);
     }
     Ok(())
 }
@@ -67,7 +68,7 @@ fn modules_have_their_verdicts(rt: HostRuntime) -> Result<(), Fail> {
 #[test]
 fn block_that_is_not_there_is_not_read(rt: HostRuntime) -> Result<(), Fail> {
     match verdict(rt.alloc(), UNKNOWN_BLOCK) {
-        Err(fault) => assert_eq!(rt; fault, Unread::Text),
+        Err(fault) => same(&rt, fault, Unread::Text),
         Ok(_) => Err("the text was read")?,
     }
     Ok(())
@@ -77,6 +78,6 @@ fn block_that_is_not_there_is_not_read(rt: HostRuntime) -> Result<(), Fail> {
 #[test]
 fn root_is_a_module(rt: HostRuntime) -> Result<(), Fail> {
     let verdict = function_verdict(rt.alloc(), DECIDED)?;
-    assert_eq!(rt; verdict.as_str(), "rule 1 at root");
+    same(&rt, verdict.as_str(), "rule 1 at root");
     Ok(())
 }

@@ -5,6 +5,7 @@ use crate::texts::{
     COUNTDOWN, DECIDED, DIVISION, ENDLESS, ENTRY_LOOP, FACTORIAL, FUNCTIONS, KNOWN_ARGUMENTS, LESS,
     NESTED, TWO_EDGES,
 };
+use asserting::same;
 use std::alloc::Global;
 use std::process::Abort;
 use std::test::Fail;
@@ -165,7 +166,7 @@ fn assert_answered(
         limit,
     };
     let words = answer(alloc, module, passes, run)?;
-    assert_eq!(rt; words.as_str(), expected);
+    same(rt, words.as_str(), expected);
     Ok(())
 }
 

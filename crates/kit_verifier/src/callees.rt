@@ -19,7 +19,7 @@ use kit_ops::{KitAttr, KitOp, KitType, keys};
 use std::alloc::{AllocError, Global};
 
 /// What a call may call: a function by the operation that it is in, its name and its type.
-#[derive(Clone, Copy, Debug, PartialEq, Eq, Hash)]
+#[derive(Clone, Copy, PartialEq, Eq, Hash)]
 pub(crate) struct Callee<'a> {
     pub(crate) scope: Ptr<Operation>,
     pub(crate) name: &'a str,

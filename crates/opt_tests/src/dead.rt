@@ -1,5 +1,6 @@
 //! Dead code elimination.
 use crate::playing::{Pass, Played, after, expected, test_after};
+use asserting::same;
 use ir_opts::IRStatus;
 use opt_tiny::Unread;
 use std::alloc::{AllocError, Global};
@@ -141,9 +142,10 @@ fn what_the_dead_alone_use_goes(rt: HostRuntime) -> Result<(), Fail> {
 #[test]
 fn a_thousand_nested_operations_go(rt: HostRuntime) -> Result<(), Fail> {
     let alloc = rt.alloc();
-    assert_eq!(rt;
+    same(
+        &rt,
         nest_after(alloc, 1_000)?,
-        expected(alloc, Ok(IRStatus::Changed), EMPTY)?
+        expected(alloc, Ok(IRStatus::Changed), EMPTY)?,
     );
     Ok(())
 }

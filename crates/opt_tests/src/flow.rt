@@ -1,5 +1,6 @@
 //! Simplification of control flow.
 use crate::playing::{Pass, Played, after, expected, test_after};
+use asserting::same;
 use ir_opts::{IRStatus, OptError};
 use opt_tiny::Unread;
 use std::alloc::{AllocError, Global};
@@ -389,6 +390,10 @@ fn a_phase_that_is_refused_changes_nothing(rt: HostRuntime) -> Result<(), Fail> 
 #[test]
 fn a_chain_of_a_thousand_blocks_becomes_one(rt: HostRuntime) -> Result<(), Fail> {
     let alloc = rt.alloc();
-    assert_eq!(rt; chain_after(alloc, 1_000)?, chain_expected(alloc, 1_000)?);
+    same(
+        &rt,
+        chain_after(alloc, 1_000)?,
+        chain_expected(alloc, 1_000)?,
+    );
     Ok(())
 }

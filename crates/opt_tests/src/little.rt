@@ -1,10 +1,11 @@
 //! The optimisations of dialects that give them little to go by.
 use crate::places::test_below;
-use crate::playing::{Answer, Pass, Played, expected, finish, with_text};
+use crate::playing::{Answer, Pass, Played, expected, with_text};
+use asserting::same;
 use ir_context::TypedProgram;
 use ir_opts::{IRStatus, dce, sccp, simplify_cfg};
 use ir_program::{Operation, Ptr};
-use opt_tiny::{Bare, Lone, OneType, Sparse, Tree, Unread, read};
+use opt_tiny::{Bare, Lone, OneType, Sparse, Tree, Unread, let_go, read};
 use std::alloc::Global;
 use std::test::Fail;
 
@@ -73,7 +74,7 @@ fn run(alloc: Global, pass: Pass, ctx: &mut Tree, op: Ptr<Operation>) -> Result<
 fn after(alloc: Global, pass: Pass, text: &str) -> Result<Played, Unread> {
     let mut ctx: Tree = Tree::with_types(alloc, OneType);
     let played = after_in(alloc, pass, text, &mut ctx);
-    finish(ctx);
+    let_go(ctx);
     played
 }
 
@@ -106,9 +107,10 @@ fn answers_in(alloc: Global, ctx: &mut LoneTree) -> Result<[Answer; 3], Unread> 
 fn little_is_done_where_little_is_said(rt: HostRuntime) -> Result<(), Fail> {
     let alloc = rt.alloc();
     for (pass, status, text) in LITTLE_DONE {
-        assert_eq!(rt;
+        same(
+            &rt,
             after(alloc, *pass, LITTLE)?,
-            expected(alloc, Ok(*status), text)?
+            expected(alloc, Ok(*status), text)?,
         );
     }
     Ok(())
@@ -117,9 +119,10 @@ fn little_is_done_where_little_is_said(rt: HostRuntime) -> Result<(), Fail> {
 #[test]
 fn one_kind_alone_stays_as_it_is(rt: HostRuntime) -> Result<(), Fail> {
     let unchanged = Ok(IRStatus::Unchanged);
-    assert_eq!(rt;
+    same(
+        &rt,
         answers_of_one_kind(rt.alloc())?,
-        [unchanged, unchanged, unchanged]
+        [unchanged, unchanged, unchanged],
     );
     Ok(())
 }

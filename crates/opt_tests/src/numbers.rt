@@ -1,4 +1,5 @@
 //! Numbers of keys whose slots are near each other, far from each other, or the same.
+use asserting::same;
 use opt_inside::{NumberedList, Slotted};
 use std::alloc::{AllocError, Global};
 use std::process::Abort;
@@ -57,17 +58,18 @@ fn list_of(alloc: Global, slots: [usize; 3]) -> Result<NumberedList<Named>, Allo
 /// Tests that each of three keys with these slots has its number, and that others at these slots and beside them have none.
 fn test_numbers(rt: &impl Abort, alloc: Global, slots: [usize; 3]) -> Result<(), Fail> {
     let list = list_of(alloc, slots)?;
-    assert_eq!(rt; list.len(), 3);
+    same(rt, list.len(), 3);
     for (name, slot) in slots.iter().enumerate() {
         let slot = *slot;
-        assert_eq!(rt; list.get_index_of(Named { name, slot }), Some(name));
+        same(rt, list.get_index_of(Named { name, slot }), Some(name));
         for other in [slot, slot.saturating_sub(1), slot.saturating_add(1)] {
-            assert_eq!(rt;
+            same(
+                rt,
                 list.get_index_of(Named {
                     name: 3,
-                    slot: other
+                    slot: other,
                 }),
-                None
+                None,
             );
         }
     }
@@ -86,6 +88,6 @@ fn keys_are_numbered_whatever_slots_they_have(rt: HostRuntime) -> Result<(), Fai
 #[test]
 fn no_key_has_a_number_in_a_list_of_none(rt: HostRuntime) -> Result<(), Fail> {
     let list: NumberedList<Named> = NumberedList::new(rt.alloc(), Vec::new(rt.alloc()))?;
-    assert_eq!(rt; list.get_index_of(Named { name: 0, slot: 0 }), None);
+    same(&rt, list.get_index_of(Named { name: 0, slot: 0 }), None);
     Ok(())
 }

@@ -1,12 +1,13 @@
 //! What the optimisations make of texts.
 use crate::places::{Place, start_at, test_below, test_block, test_op, test_region};
+use asserting::same;
 use ir_opts::{
     IRStatus, OptError, Rewriter, Start, dce, merge_inside_block, merge_inside_op,
     merge_inside_region, remove_blocks_inside_block, remove_blocks_inside_op,
     remove_blocks_inside_region, sccp, simplify_cfg,
 };
 use ir_program::{Operation, Ptr};
-use opt_tiny::{OneType, Tiny, Tree, Unread, read, written};
+use opt_tiny::{OneType, Tiny, Tree, Unread, let_go, read, written};
 use std::alloc::{AllocError, Global};
 use std::process::Abort;
 use std::test::Fail;
@@ -38,14 +39,11 @@ pub struct Played {
     pub text: String,
 }
 
-/// Lets a program go.
-pub fn finish(_ctx: Tree) {}
-
 /// What is expected: an answer, and the program of a text.
 pub fn expected(alloc: Global, answer: Answer, text: &str) -> Result<Played, Unread> {
     let mut ctx: Tree = Tree::with_types(alloc, OneType);
     let played = read_in(alloc, answer, text, &mut ctx);
-    finish(ctx);
+    let_go(ctx);
     played
 }
 
@@ -126,7 +124,7 @@ fn run(alloc: Global, pass: Pass, ctx: &mut Tree, op: Ptr<Operation>) -> Result<
 pub fn after(alloc: Global, pass: Pass, text: &str) -> Result<Played, Unread> {
     let mut ctx: Tree = Tree::with_types(alloc, OneType);
     let played = after_in(alloc, pass, text, &mut ctx);
-    finish(ctx);
+    let_go(ctx);
     played
 }
 
@@ -146,9 +144,10 @@ pub fn test_after(
     answer: Answer,
     program: &str,
 ) -> Result<(), Fail> {
-    assert_eq!(rt;
+    same(
+        rt,
         after(alloc, pass, text)?,
-        expected(alloc, answer, program)?
+        expected(alloc, answer, program)?,
     );
     Ok(())
 }

@@ -9,7 +9,7 @@ mod tiny;
 mod writing;
 
 pub use lone::Lone;
-pub use reading::{Tree, Unread, read};
+pub use reading::{Tree, Unread, let_go, read};
 pub use sparse::Sparse;
 pub use tiny::{Bare, Kind, OneType, Payload, Tiny};
 pub use writing::written;

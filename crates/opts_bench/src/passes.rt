@@ -11,7 +11,7 @@ use ir_opts::{
     simplify_cfg,
 };
 use ir_program::{IRNode, Operation, Ptr};
-use opt_tiny::{OneType, Tiny, Tree, Unread, read};
+use opt_tiny::{OneType, Tiny, Tree, Unread, let_go, read};
 use std::alloc::Global;
 
 /// An optimisation, or none.
@@ -69,7 +69,9 @@ impl Pass {
     /// There may be no memory, or the text may say no program on which it can run.
     pub fn play(self, alloc: Global, text: &str) -> Result<Outcome, Unread> {
         let mut ctx: Tree = Tree::with_types(alloc, OneType);
-        self.play_in(alloc, &mut ctx, text)
+        let outcome = self.play_in(alloc, &mut ctx, text);
+        let_go(ctx);
+        outcome
     }
 
     /// Runs it on the program of a text, which is read into a context.
