@@ -1,5 +1,5 @@
 //! Tests of dictionaries of attributes.
-use asserting::same;
+use crate::asserting::same;
 use ir_names::{AttributeDict, Identifier, IdentifierError};
 use ir_scripts::tiny::{Tiny, TinyAttr};
 use std::alloc::{AllocError, Global};

@@ -1,5 +1,5 @@
 //! Tests of identifiers and names. What a test looks at comes as an argument, so that proofs compute nothing of it.
-use asserting::same;
+use crate::asserting::same;
 use ir_names::{
     AttrName, DialectName, Dialects, GrowError, Identifier, IdentifierError, InvalidIdentifier,
     Legaliser, OpId, OpName, Place, TypeHandle, TypeName,

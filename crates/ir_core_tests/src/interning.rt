@@ -3,7 +3,7 @@ ghost use Rattle.std.specs.Prelude.{◌≡◌, Some};
 ghost use Rattle.ir_types.specs.Interned.{IsKnown};
 ghost use Rattle.ir_types.specs.Lends.{with_body};
 
-use asserting::same;
+use crate::asserting::same;
 use ir_names::{AttrInterface, OpInterface, TypeHandle, TypeInterface};
 use ir_scripts::tiny::{
     IntegerType, NamedType, Tiny, TinyAttr, TinyLocation, TinyOp, TinyType, TinyTypeKind,

@@ -5,6 +5,8 @@
 #[cfg(test)]
 mod around;
 #[cfg(test)]
+mod asserting;
+#[cfg(test)]
 mod dictionaries;
 #[cfg(test)]
 mod fresh;

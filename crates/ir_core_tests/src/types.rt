@@ -1,5 +1,5 @@
 //! Types, saved values, and what their markers say.
-use asserting::same;
+use crate::asserting::same;
 use ir_core::{
     AttributeDict, AttributeLookups, Context, CoreError, Identifier, IdentifierError, Instantiate,
     InvalidIdentifier, TypeCalls, TypeHandle, TypeInterfaceHandle, TypedHandle, Uniqued,

@@ -1,5 +1,5 @@
 //! Orders and components.
-use asserting::same;
+use crate::asserting::same;
 use edge_graphs::{Nothing, graph_of};
 use ir_graph::{
     post_order, post_order_by_component, sccs_in_topological_order, topological_order,

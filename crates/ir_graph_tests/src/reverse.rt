@@ -1,5 +1,5 @@
 //! Graphs with their edges turned round.
-use asserting::same;
+use crate::asserting::same;
 use edge_graphs::{Nothing, graph_of};
 use ir_graph::{ControlFlowGraph, HasLabel, ReverseGraph, ReverseNode};
 use std::alloc::{AllocError, Global};

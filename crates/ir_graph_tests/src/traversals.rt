@@ -1,5 +1,5 @@
 //! Searches from the entry.
-use asserting::same;
+use crate::asserting::same;
 use edge_graphs::{Nothing, graph_of};
 use ir_graph::{DFSEdgeKind, DFSTraversal};
 use std::alloc::{AllocError, Global};

@@ -1,5 +1,5 @@
 //! What is made where memory is ample.
-use asserting::same;
+use crate::asserting::same;
 use ir_entities::{Arena, Forest, Siblings, Uses};
 use ir_program::{Program, Room};
 use std::alloc::AllocError;

@@ -5,6 +5,8 @@
 #[cfg(test)]
 mod arenas;
 #[cfg(test)]
+mod asserting;
+#[cfg(test)]
 mod numbers;
 #[cfg(test)]
 mod place_rows;

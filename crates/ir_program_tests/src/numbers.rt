@@ -1,6 +1,6 @@
 //! Numbers of values that come to an end.
 use crate::arenas::finish_program;
-use asserting::same;
+use crate::asserting::same;
 use ir_base::{GrowError, TypeHandle};
 use ir_program::{Operation, Program, Ptr, Value};
 use std::alloc::Global;

@@ -1,6 +1,6 @@
 //! Rows of places that grow where memory is ample.
+use crate::asserting::same;
 use crate::use_tables::finish;
-use asserting::same;
 use ir_entities::{Spot, Uses, insert_place, push_place};
 use std::alloc::Global;
 use std::process::Abort;

@@ -2,7 +2,7 @@
 ghost use Rattle.std.specs.Prelude.{◌≡◌, IfOk};
 ghost use Rattle.ir_entities.specs.Uses.{IsDefined, IsPlace};
 
-use asserting::same;
+use crate::asserting::same;
 use ir_entities::{Spot, Uses};
 use std::alloc::AllocError;
 use std::process::Abort;

@@ -1,7 +1,7 @@
 //! What modules are compared by: their texts without the names of values and blocks.
+use crate::asserting::same;
 use crate::playing::after;
 use crate::texts::{LESS, NESTED, TWO_EDGES};
-use asserting::same;
 use std::test::Fail;
 
 /// Modules, each with its text.

@@ -1,6 +1,6 @@
 //! Runs of a loop, of calls, of recursion to the limit, and a trap.
+use crate::asserting::same;
 use crate::flat_modules::run;
-use asserting::same;
 use kit_flat::Outcome;
 use std::test::Fail;
 

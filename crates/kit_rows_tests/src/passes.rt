@@ -1,11 +1,11 @@
 //! What the optimisations make of modules.
+use crate::asserting::same;
 use crate::optimising::{ALL, Pass};
 use crate::playing::after;
 use crate::texts::{
     COUNTDOWN, DEAD_ARGUMENT, DEAD_ARGUMENT_AFTER, DECIDED, DECIDED_AFTER, DIVISION, ENTRY_LOOP,
     KNOWN_ARGUMENTS, KNOWN_ARGUMENTS_AFTER, TWO_EDGES, TWO_EDGES_AFTER,
 };
-use asserting::same;
 use std::alloc::Global;
 use std::process::Abort;
 use std::test::Fail;

@@ -1,10 +1,10 @@
 //! Verdicts on modules.
+use crate::asserting::same;
 use crate::playing::{function_verdict, verdict};
 use crate::texts::{
     COUNTDOWN, DECIDED, EARLY_OPERAND, ENDLESS, ENTRY_LOOP, FACTORIAL, FAR_OPERAND, FOREIGN_BLOCK,
     NESTED, NO_BLOCK, UNKNOWN_BLOCK,
 };
-use asserting::same;
 use kit_module_reader::Unread;
 use std::test::Fail;
 

@@ -1,11 +1,11 @@
 //! Runs of functions, before and after the optimisations.
+use crate::asserting::same;
 use crate::optimising::{ALL, Pass};
 use crate::playing::{Run, answer};
 use crate::texts::{
     COUNTDOWN, DECIDED, DIVISION, ENDLESS, ENTRY_LOOP, FACTORIAL, FUNCTIONS, KNOWN_ARGUMENTS, LESS,
     NESTED, TWO_EDGES,
 };
-use asserting::same;
 use std::alloc::Global;
 use std::process::Abort;
 use std::test::Fail;

@@ -1,6 +1,6 @@
 //! Dead code elimination.
+use crate::asserting::same;
 use crate::playing::{Pass, Played, after, expected, test_after};
-use asserting::same;
 use ir_opts::IRStatus;
 use opt_tiny::Unread;
 use std::alloc::{AllocError, Global};

@@ -1,6 +1,6 @@
 //! Simplification of control flow.
+use crate::asserting::same;
 use crate::playing::{Pass, Played, after, expected, test_after};
-use asserting::same;
 use ir_opts::{IRStatus, OptError};
 use opt_tiny::Unread;
 use std::alloc::{AllocError, Global};

@@ -1,7 +1,7 @@
 //! The optimisations of dialects that give them little to go by.
+use crate::asserting::same;
 use crate::places::test_below;
 use crate::playing::{Answer, Pass, Played, expected, with_text};
-use asserting::same;
 use ir_context::TypedProgram;
 use ir_opts::{IRStatus, dce, sccp, simplify_cfg};
 use ir_program::{Operation, Ptr};

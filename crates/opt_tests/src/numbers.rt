@@ -1,5 +1,5 @@
 //! Numbers of keys whose slots are near each other, far from each other, or the same.
-use asserting::same;
+use crate::asserting::same;
 use opt_inside::{NumberedList, Slotted};
 use std::alloc::{AllocError, Global};
 use std::process::Abort;

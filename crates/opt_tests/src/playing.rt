@@ -1,6 +1,6 @@
 //! What the optimisations make of texts.
+use crate::asserting::same;
 use crate::places::{Place, start_at, test_below, test_block, test_op, test_region};
-use asserting::same;
 use ir_opts::{
     IRStatus, OptError, Rewriter, Start, dce, merge_inside_block, merge_inside_op,
     merge_inside_region, remove_blocks_inside_block, remove_blocks_inside_op,

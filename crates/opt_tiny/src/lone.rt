@@ -11,7 +11,7 @@ use std::alloc::{AllocError, Global};
 pub struct Lone;
 
 impl Meanings for Lone {
-    ghost use Rattle.opt_tiny.specs.Lone.{lone, lone_lawful};
+    ghost use Rattle.opt_tiny.specs.Lone.{lone};
 
     type Operation = Bare;
 
@@ -106,6 +106,7 @@ impl BranchOpFoldInterface for Lone {
 
 impl OptDialect for Lone {
     ghost use Rattle.opt_tiny.specs.Lawful.{same_numbers};
+    ghost use Rattle.opt_tiny.specs.Lone.{lone_lawful};
 
     ghost lawful = { lone_lawful };
 

@@ -12,7 +12,7 @@ use std::alloc::{AllocError, Global};
 pub struct Sparse;
 
 impl Meanings for Sparse {
-    ghost use Rattle.opt_tiny.specs.Sparse.{sparse, sparse_lawful};
+    ghost use Rattle.opt_tiny.specs.Sparse.{sparse};
 
     type Operation = Payload;
 
@@ -109,6 +109,7 @@ impl BranchOpFoldInterface for Sparse {
 
 impl OptDialect for Sparse {
     ghost use Rattle.opt_tiny.specs.Lawful.{same_numbers};
+    ghost use Rattle.opt_tiny.specs.Sparse.{sparse_lawful};
 
     ghost lawful = { sparse_lawful };
 

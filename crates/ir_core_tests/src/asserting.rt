@@ -1,6 +1,4 @@
 //! What tests assert.
-#![tactic(auto)]
-
 use std::fmt::Debug;
 use std::process::Abort;
 
