@@ -93,13 +93,9 @@ fn assert_pair(
     second: (&str, u64),
 ) {
     let mut left = dict.iter();
-    same(rt, left.next(), Some((first.0, &TinyAttr::Number(first.1))));
-    same(
-        rt,
-        left.next(),
-        Some((second.0, &TinyAttr::Number(second.1))),
-    );
-    same(rt, left.next(), None);
+    assert_eq!(rt; left.next(), Some((first.0, &TinyAttr::Number(first.1))));
+    assert_eq!(rt; left.next(), Some((second.0, &TinyAttr::Number(second.1))));
+    assert_eq!(rt; left.next(), None);
 }
 
 #[test]

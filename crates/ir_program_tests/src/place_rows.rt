@@ -26,25 +26,14 @@ fn a_place_is_pushed(rt: HostRuntime) -> Result<(), Fail> {
     outcome
 }
 
-/// The test of the same name, in a new table.
-fn a_place_is_inserted_in(
-    rt: &impl Abort,
-    alloc: Global,
-    uses: &mut Uses<u64>,
-) -> Result<(), Fail> {
-    let mut row = Vec::new(alloc);
-    let definition = uses.define(70)?;
-    insert_place(uses, &mut row, 5, 0, definition)?;
-    same(rt, row.len(), 1);
-    same(rt, uses.spot(row[0]), Spot { user: 5, index: 0 });
-    same(rt, uses.count(definition), 1);
-    Ok(())
-}
-
 #[test]
 fn a_place_is_inserted(rt: HostRuntime) -> Result<(), Fail> {
     let mut uses: Uses<u64> = Uses::new(rt.alloc());
-    let outcome = a_place_is_inserted_in(&rt, rt.alloc(), &mut uses);
-    finish(uses);
-    outcome
+    let mut row = Vec::new(rt.alloc());
+    let definition = uses.define(70)?;
+    insert_place(&mut uses, &mut row, 5, 0, definition)?;
+    same(&rt, row.len(), 1);
+    same(&rt, uses.spot(row[0]), Spot { user: 5, index: 0 });
+    same(&rt, uses.count(definition), 1);
+    Ok(())
 }
