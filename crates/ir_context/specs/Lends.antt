@@ -60,7 +60,7 @@ module _ (D TypeKind AttrKind TypeBody Saved Location OpKind Attr TypeKey : Ratt
     (key_eq : eq.Ghosts TypeKey.Denot) (key_hash : hash.Ghosts TypeKey.Denot)
     (type_kind_eq : eq.Ghosts TypeKind.Denot) (attr_kind_eq : eq.Ghosts AttrKind.Denot)
     (saved_eq : eq.Ghosts Saved.Denot) (saved_hash : hash.Ghosts Saved.Denot)
-    (location_eq : eq.Ghosts Location.Denot) (location_hash : hash.Ghosts Location.Denot)
+    (location_eq : eq.Ghosts Location.Denot)
     (in_table : table.Ghosts (TypesView TypeKey.Denot TypeBody.Denot Saved.Denot)) where
   -- the dialect's contexts, as the logic holds them
   abbrev pub context_row : RattleType
@@ -68,7 +68,7 @@ module _ (D TypeKind AttrKind TypeBody Saved Location OpKind Attr TypeKey : Ratt
       (the_data_row D TypeKind AttrKind TypeBody Saved Location OpKind Attr TypeKey op_eq attr_eq attr_hash key_eq key_hash)
       (the_notes_row D TypeKind AttrKind TypeBody Saved Location OpKind Attr TypeKey op_eq attr_eq attr_hash key_eq key_hash)
       (the_types_row D TypeKind AttrKind TypeBody Saved Location OpKind Attr TypeKey own op_eq attr_eq attr_hash key_eq key_hash
-      type_kind_eq attr_kind_eq saved_eq saved_hash location_eq location_hash)
+      type_kind_eq attr_kind_eq saved_eq saved_hash location_eq)
       in_table
 
   -- the type ends with the last body written through r, and all else stays

@@ -109,7 +109,7 @@ impl<D: DialectTables> TypedProgram<OperationData<D>, BlockNotes<D>, Types<D>> {
         ensures* lends { sem 𝓛
             (lends_type_body D.row D.TypeKind.row D.AttrKind.row D.TypeBody.row D.Saved.row D.Location.row D.OpKind.row D.Attr.row D.TypeKey.row
             D.DialectTables.own D.OpKind.PartialEq D.Attr.PartialEq D.Attr.Hash.own D.TypeKey.PartialEq D.TypeKey.Hash.own
-            D.TypeKind.PartialEq D.AttrKind.PartialEq D.Saved.PartialEq D.Saved.Hash.own D.Location.PartialEq D.Location.Hash.own
+            D.TypeKind.PartialEq D.AttrKind.PartialEq D.Saved.PartialEq D.Saved.Hash.own D.Location.PartialEq
             ⟦<Types<D> as TypeTable>⟧ self.entry ty result) }
         ensures value { result.now ≡ body_at self.old.types ty }
     {

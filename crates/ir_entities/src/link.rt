@@ -6,7 +6,7 @@ use std::marker::Model;
 
 /// The number of a node or of a list, or none. An `Option<usize>` takes twice the space, so none is 0 here, and the
 /// number `n` is kept as `n + 1`.
-#[derive(Clone, Copy, Debug, PartialEq, Eq)]
+#[derive(Clone, Copy)]
 pub struct Link {
     code: usize,
 }

@@ -9,7 +9,7 @@ use std::alloc::{AllocError, Global};
 use std::marker::Model;
 
 /// Where a node stands.
-#[derive(Clone, Copy, Debug, PartialEq, Eq)]
+#[derive(Clone, Copy)]
 pub struct Node {
     pub parent: Link,
     pub prev: Link,
@@ -17,7 +17,7 @@ pub struct Node {
 }
 
 /// The first and the last node of a list.
-#[derive(Clone, Copy, Debug, PartialEq, Eq)]
+#[derive(Clone, Copy)]
 pub struct Ends {
     pub head: Link,
     pub tail: Link,
@@ -92,7 +92,7 @@ impl<'a> Iterator for Backward<'a> {
 }
 
 /// Some nodes that stand one after the other in a list, by the first and the last of them.
-#[derive(Clone, Copy, Debug, PartialEq, Eq)]
+#[derive(Clone, Copy)]
 pub struct Span {
     pub first: usize,
     pub last: usize,

@@ -2,7 +2,7 @@
 use ir_core::{At, BasicBlock, Entity, Operation, PlaceAt, Ptr, RegionAt, TypeHandle, ValueAt};
 
 /// What a word stands for: what is there or yet to be made, a type or a number.
-#[derive(Clone, Copy, Debug, PartialEq, Eq)]
+#[derive(Clone, Copy)]
 pub enum Argument {
     Operation(At<Ptr<Operation>>),
     Block(At<Ptr<BasicBlock>>),

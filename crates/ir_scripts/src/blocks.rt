@@ -3,7 +3,7 @@ use crate::edges::predecessors;
 use crate::graphs::{ask_graph, shown};
 use crate::names::Names;
 use crate::operations::location_word;
-use crate::texts::{names_of, number, places, plain};
+use crate::texts::{names_in, names_of, number, places, plain, spelt, spelt_or_none};
 use crate::tiny::Tiny;
 use crate::verifying::flaw_of_block;
 use ir_core::{
@@ -34,12 +34,12 @@ pub fn ask_block(
         return plain(alloc, "gone");
     }
     match question {
-        "arguments" => names_of(alloc, names, &block.arguments(alloc, ctx)?),
-        "operations" => names_of(alloc, names, &operations(alloc, ctx, block)?),
-        "operations_backwards" => names_of(alloc, names, &operations_backwards(alloc, ctx, block)?),
-        "succs" => names_of(alloc, names, &block.succs(alloc, ctx)?),
+        "arguments" => names_in(alloc, names, block.arguments(alloc, ctx)),
+        "operations" => names_in(alloc, names, operations(alloc, ctx, block)),
+        "operations_backwards" => names_in(alloc, names, operations_backwards(alloc, ctx, block)),
+        "succs" => names_in(alloc, names, block.succs(alloc, ctx)),
         "preds" => predecessors(alloc, ctx, names, block),
-        "uses" => places(alloc, names, &block.uses(alloc, ctx)?),
+        "uses" => places(alloc, names, block.uses(alloc, ctx)),
         "num_preds" => number(alloc, block.num_preds(ctx)),
         _ => ask_names(alloc, ctx, question, block),
     }
@@ -56,12 +56,9 @@ fn ask_names(
         return plain(alloc, "gone");
     }
     match question {
-        "id" => Ok(Some(block.id(alloc, ctx)?.into_string())),
-        "unique_name" => Ok(Some(block.unique_name(alloc, ctx)?.into_string())),
-        "given_name" => match block.given_name(alloc, ctx)? {
-            Some(name) => Ok(Some(name.into_string())),
-            None => plain(alloc, "none"),
-        },
+        "id" => spelt(block.id(alloc, ctx)),
+        "unique_name" => spelt(block.unique_name(alloc, ctx)),
+        "given_name" => spelt_or_none(alloc, block.given_name(alloc, ctx)),
         "label" => match block.label(ctx) {
             Some(label) => plain(alloc, label.as_str()),
             None => plain(alloc, "none"),
@@ -115,8 +112,8 @@ pub fn ask_region(
         return plain(alloc, "gone");
     }
     match question {
-        "blocks" => names_of(alloc, names, &blocks(alloc, ctx, region)?),
-        "blocks_backwards" => names_of(alloc, names, &blocks_backwards(alloc, ctx, region)?),
+        "blocks" => names_in(alloc, names, blocks(alloc, ctx, region)),
+        "blocks_backwards" => names_in(alloc, names, blocks_backwards(alloc, ctx, region)),
         "parent" => match region.get_parent_op(ctx) {
             Some(op) => names_of(alloc, names, &[op]),
             None => plain(alloc, "nowhere"),

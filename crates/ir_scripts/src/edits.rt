@@ -2,7 +2,7 @@
 use crate::argument::{Argument, block, number, operation, place, region, ty, value};
 use crate::making::edit_with_lists;
 use crate::tiny::TinyOp;
-use ir_core::{At, BasicBlock, Edit, Operation, Ptr, RegionAt, ValueAt};
+use ir_core::{At, Edit, Operation, Ptr};
 use std::alloc::{AllocError, Global};
 
 /// The edit that a command with arguments is, or none where it is none.
@@ -11,41 +11,17 @@ pub fn edit(
     command: &str,
     arguments: &[Argument],
 ) -> Result<Option<Edit<TinyOp>>, AllocError> {
-    match plain_edit(command, arguments) {
+    match edit_of_row(command, arguments) {
         Some(edit) => Ok(Some(edit)),
         None => edit_with_lists(alloc, command, arguments),
     }
 }
 
-/// The edit that a command without lists is, by the sort of its first argument.
-fn plain_edit(command: &str, arguments: &[Argument]) -> Option<Edit<TinyOp>> {
-    if let Some(op) = operation(arguments, 0) {
-        if let Some(edit) = edit_of_row(command, op, arguments) {
-            return Some(edit);
-        }
-        if let Some(edit) = edit_of_operation(command, op, arguments) {
-            return Some(edit);
-        }
-    }
-    if let Some(block) = block(arguments, 0) {
-        if let Some(edit) = edit_of_block(command, block, arguments) {
-            return Some(edit);
-        }
-    }
-    if let Some(region) = region(arguments, 0) {
-        if let Some(edit) = edit_of_region(command, region, arguments) {
-            return Some(edit);
-        }
-    }
-    edit_of_value(command, value(arguments, 0)?, arguments)
-}
-
-/// Edits of operands and successors.
-fn edit_of_row(
-    command: &str,
-    op: At<Ptr<Operation>>,
-    arguments: &[Argument],
-) -> Option<Edit<TinyOp>> {
+/// Edits of operands and successors, and those that come behind them.
+fn edit_of_row(command: &str, arguments: &[Argument]) -> Option<Edit<TinyOp>> {
+    let Some(op) = operation(arguments, 0) else {
+        return edit_of_block(command, arguments);
+    };
     match command {
         "push_operand" => Some(Edit::PushOperand(op, value(arguments, 1)?)),
         "pop_operand" => Some(Edit::PopOperand(op)),
@@ -67,11 +43,11 @@ fn edit_of_row(
         "replace_successor" => {
             Some(Edit::ReplaceSuccessor(op, number(arguments, 1)?, block(arguments, 2)?))
         }
-        _ => None,
+        _ => edit_of_operation(command, op, arguments),
     }
 }
 
-/// Edits of results and regions, and of operations in lists.
+/// Edits of results and regions and of operations in lists, and those that come behind them.
 fn edit_of_operation(
     command: &str,
     op: At<Ptr<Operation>>,
@@ -94,16 +70,15 @@ fn edit_of_operation(
         "insert_operation_at_front" => Some(Edit::InsertOperationAtFront(op, block(arguments, 1)?)),
         "insert_operation_at_back" => Some(Edit::InsertOperationAtBack(op, block(arguments, 1)?)),
         "unlink_operation" => Some(Edit::UnlinkOperation(op)),
-        _ => None,
+        _ => edit_of_block(command, arguments),
     }
 }
 
-/// Edits of blocks.
-fn edit_of_block(
-    command: &str,
-    old: At<Ptr<BasicBlock>>,
-    arguments: &[Argument],
-) -> Option<Edit<TinyOp>> {
+/// Edits of blocks, and those that come behind them.
+fn edit_of_block(command: &str, arguments: &[Argument]) -> Option<Edit<TinyOp>> {
+    let Some(old) = block(arguments, 0) else {
+        return edit_of_region(command, arguments);
+    };
     match command {
         "push_argument" => Some(Edit::PushArgument(old, ty(arguments, 1)?)),
         "pop_argument" => Some(Edit::PopArgument(old)),
@@ -125,22 +100,26 @@ fn edit_of_block(
         "insert_block_at_back" => Some(Edit::InsertBlockAtBack(old, region(arguments, 1)?)),
         "unlink_block" => Some(Edit::UnlinkBlock(old)),
         "append_operations" => Some(Edit::AppendOperations(old, block(arguments, 1)?)),
-        _ => None,
+        _ => edit_of_region(command, arguments),
     }
 }
 
-/// Edits of regions.
-fn edit_of_region(command: &str, old: RegionAt, arguments: &[Argument]) -> Option<Edit<TinyOp>> {
+/// Edits of regions and of values.
+fn edit_of_region(command: &str, arguments: &[Argument]) -> Option<Edit<TinyOp>> {
+    let Some(old) = region(arguments, 0) else {
+        return edit_of_value(command, arguments);
+    };
     match command {
         "move_region_to_op" => Some(Edit::MoveRegionToOp(old, operation(arguments, 1)?)),
         "region_drop_all_uses" => Some(Edit::RegionDropAllUses(old)),
         "append_blocks" => Some(Edit::AppendBlocks(old, region(arguments, 1)?)),
-        _ => None,
+        _ => edit_of_value(command, arguments),
     }
 }
 
 /// Edits of values.
-fn edit_of_value(command: &str, old: ValueAt, arguments: &[Argument]) -> Option<Edit<TinyOp>> {
+fn edit_of_value(command: &str, arguments: &[Argument]) -> Option<Edit<TinyOp>> {
+    let old = value(arguments, 0)?;
     match command {
         "replace_all_uses_with" => Some(Edit::ReplaceAllUsesWith(old, value(arguments, 1)?)),
         "replace_use_with" => {

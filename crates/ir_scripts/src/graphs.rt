@@ -1,6 +1,6 @@
 //! Questions about the blocks of regions as graphs.
 use crate::names::Names;
-use crate::texts::{names_of, plain};
+use crate::texts::{names_in, names_of, plain};
 use crate::tiny::Tiny;
 use ir_core::{BasicBlock, BlockCalls, Context, Ptr, Region, RegionCalls};
 use ir_graph::{
@@ -23,13 +23,13 @@ pub fn ask_graph(
         return plain(alloc, "edges lead out of it or into it");
     }
     match question {
-        "nodes" => names_of(alloc, names, &region.nodes(alloc, ctx)?),
+        "nodes" => names_in(alloc, names, region.nodes(alloc, ctx)),
         "entry_node" => match region.entry_node(ctx) {
             Some(block) => names_of(alloc, names, &[block]),
             None => plain(alloc, "none"),
         },
-        "post_order" => names_of(alloc, names, &post_order(alloc, ctx, &region)?),
-        "topological_order" => names_of(alloc, names, &topological_order(alloc, ctx, &region)?),
+        "post_order" => names_in(alloc, names, post_order(alloc, ctx, &region)),
+        "topological_order" => names_in(alloc, names, topological_order(alloc, ctx, &region)),
         "pre_sentinels" => {
             names_of(
                 alloc,

@@ -1,7 +1,7 @@
 //! Questions about operations.
 use crate::around::ask_around_operation;
 use crate::names::Names;
-use crate::texts::{names_of, number, places, plain, type_words};
+use crate::texts::{names_in, names_of, number, places, plain, type_words};
 use crate::tiny::{Tiny, TinyLocation, TinyOp};
 use crate::verifying::flaw_of_operation;
 use ir_core::{Context, Operation, OperationCalls, OperationRows, Ptr};
@@ -29,12 +29,12 @@ pub fn ask_operation(
         return plain(alloc, "gone");
     }
     match question {
-        "operands" => names_of(alloc, names, &op.operands(alloc, ctx)?),
-        "successors" => names_of(alloc, names, &op.successors(alloc, ctx)?),
-        "results" => names_of(alloc, names, &op.results(alloc, ctx)?),
-        "regions" => names_of(alloc, names, &op.regions(alloc, ctx)?),
-        "operand_types" => type_words(alloc, names, &op.operand_types(alloc, ctx)?),
-        "result_types" => type_words(alloc, names, &op.result_types(alloc, ctx)?),
+        "operands" => names_in(alloc, names, op.operands(alloc, ctx)),
+        "successors" => names_in(alloc, names, op.successors(alloc, ctx)),
+        "results" => names_in(alloc, names, op.results(alloc, ctx)),
+        "regions" => names_in(alloc, names, op.regions(alloc, ctx)),
+        "operand_types" => type_words(alloc, names, op.operand_types(alloc, ctx)),
+        "result_types" => type_words(alloc, names, op.result_types(alloc, ctx)),
         _ => ask_uses(alloc, ctx, names, question, op),
     }
 }
@@ -51,9 +51,9 @@ fn ask_uses(
         return plain(alloc, "gone");
     }
     match question {
-        "operands_as_uses" => places(alloc, names, &op.operands_as_uses(alloc, ctx)?),
-        "successors_as_uses" => places(alloc, names, &op.successors_as_uses(alloc, ctx)?),
-        "uses" => places(alloc, names, &op.uses(alloc, ctx)?),
+        "operands_as_uses" => places(alloc, names, op.operands_as_uses(alloc, ctx)),
+        "successors_as_uses" => places(alloc, names, op.successors_as_uses(alloc, ctx)),
+        "uses" => places(alloc, names, op.uses(alloc, ctx)),
         "num_uses" => number(alloc, op.num_uses(ctx)),
         _ => ask_records(alloc, ctx, names, question, op),
     }

@@ -4,6 +4,7 @@ use crate::names::Names;
 use crate::tiny::Tiny;
 use ir_core::{Context, Entity};
 use std::alloc::{AllocError, Global};
+use std::fmt::Write;
 
 /// The questions that are asked about everything.
 const QUESTIONS: [&str; 12] = [
@@ -25,26 +26,34 @@ const QUESTIONS: [&str; 12] = [
 pub fn picture(alloc: Global, ctx: &Context<Tiny>, names: &Names) -> Result<String, AllocError> {
     let mut text = String::new(alloc);
     for (name, entity) in &names.known {
-        let answers = answers_about(alloc, ctx, names, *entity)?;
         text.push_str(name)?;
-        text.push_str(&answers)?;
+        push_answers(&mut text, alloc, ctx, names, *entity)?;
     }
     Ok(text)
 }
 
-/// The answers to all questions about an entity.
-fn answers_about(
+/// Adds the answers to all questions about an entity.
+fn push_answers(
+    text: &mut String,
     alloc: Global,
     ctx: &Context<Tiny>,
     names: &Names,
     entity: Entity,
-) -> Result<String, AllocError> {
-    let mut text = String::new(alloc);
+) -> Result<(), AllocError> {
     for question in QUESTIONS {
-        if let Some(answer) = ask(alloc, ctx, names, question, entity)? {
-            let answer = format!(in alloc; " {question}: {answer};")?;
-            text.push_str(&answer)?;
-        }
+        push_answer(text, question, ask(alloc, ctx, names, question, entity)?)?;
     }
-    Ok(text)
+    Ok(())
+}
+
+/// Adds a question with its answer, if there is one.
+fn push_answer(
+    text: &mut String,
+    question: &str,
+    answer: Option<String>,
+) -> Result<(), AllocError> {
+    match answer {
+        Some(answer) => write!(text, " {question}: {answer};"),
+        None => Ok(()),
+    }
 }

@@ -5,6 +5,7 @@ use crate::edits::edit;
 use crate::names::Names;
 use crate::parts::entity_of;
 use crate::picture::picture;
+use crate::texts::plain;
 use crate::tiny::{IntegerType, NamedType, Tiny, TinyOp, TinyType};
 use ir_core::{Context, CoreError, Edit, Entity, RunEdits, TypeCalls};
 use std::alloc::{AllocError, Global};
@@ -46,15 +47,23 @@ fn play_in<'a>(
     script: &'a str,
 ) -> Result<Option<Surprise>, AllocError> {
     let mut player = make_player(alloc, ctx)?;
-    for line in script.lines() {
-        let (words, expected) = line.split_once("=>").unwrap_or((line, ""));
-        let answer = player.answer(ctx, words)?;
-        if answer.trim() != expected.trim() {
-            let line = String::from_str(alloc, line.trim())?;
-            return Ok(Some(Surprise { line, answer }));
-        }
+    player.play(ctx, script)
+}
+
+/// The surprise that a line was answered so, where it says otherwise.
+fn surprise_at(
+    alloc: Global,
+    line: &str,
+    expected: &str,
+    answer: String,
+) -> Result<Option<Surprise>, AllocError> {
+    if answer.trim() == expected.trim() {
+        return Ok(None);
     }
-    Ok(None)
+    Ok(Some(Surprise {
+        line: String::from_str(alloc, line.trim())?,
+        answer,
+    }))
 }
 
 /// A player without names, in a context that has the types.
@@ -68,11 +77,54 @@ fn make_player<'a>(alloc: Global, ctx: &mut Context<Tiny>) -> Result<Player<'a>,
     })
 }
 
+/// The word for how an edit alone ended.
+fn outcome_word(outcome: Result<Vec<Option<Entity>>, (usize, CoreError)>) -> &'static str {
+    match outcome {
+        Err((0, CoreError::EditNotAllowed)) => "",
+        Err(_) => "another refusal",
+        Ok(_) => "allowed",
+    }
+}
+
 impl<'a> Player<'a> {
+    /// Plays a script. Answers the first line that was answered otherwise than it says.
+    fn play(
+        &mut self,
+        ctx: &mut Context<Tiny>,
+        script: &'a str,
+    ) -> Result<Option<Surprise>, AllocError> {
+        for line in script.lines() {
+            if let Some(surprise) = self.line(ctx, line)? {
+                return Ok(Some(surprise));
+            }
+        }
+        Ok(None)
+    }
+
+    /// Plays a line. Answers it where it was answered otherwise than it says.
+    fn line(
+        &mut self,
+        ctx: &mut Context<Tiny>,
+        line: &'a str,
+    ) -> Result<Option<Surprise>, AllocError> {
+        let (words, expected) = line.split_once("=>").unwrap_or((line, ""));
+        let answer = self.answer(ctx, words)?;
+        surprise_at(self.alloc, line, expected, answer)
+    }
+
     /// What a line is answered.
     fn answer(&mut self, ctx: &mut Context<Tiny>, line: &'a str) -> Result<String, AllocError> {
         let words: Vec<&'a str> = line.split_whitespace().collect(self.alloc)?;
-        match words.as_slice() {
+        self.answer_words(ctx, &words)
+    }
+
+    /// What a line of these words is answered.
+    fn answer_words(
+        &mut self,
+        ctx: &mut Context<Tiny>,
+        words: &[&'a str],
+    ) -> Result<String, AllocError> {
+        match words {
             [] => Ok(String::new(self.alloc)),
             [name, "=", command, arguments @ ..] => {
                 self.names.promise(name, self.edits.len(), command)?;
@@ -92,14 +144,22 @@ impl<'a> Player<'a> {
         command: &str,
         words: &[&str],
     ) -> Result<String, AllocError> {
-        let arguments = self.arguments(words)?;
-        match edit(self.alloc, command, &arguments)? {
-            Some(edit) => {
-                self.edits.push(edit)?;
-                Ok(String::new(self.alloc))
-            }
+        match self.edit(command, words)? {
+            Some(edit) => self.put(edit),
             None => self.question(ctx, command, words),
         }
+    }
+
+    /// The edit that a command is with what words stand for, or none where it is none.
+    fn edit(&self, command: &str, words: &[&str]) -> Result<Option<Edit<TinyOp>>, AllocError> {
+        let arguments = self.arguments(words)?;
+        edit(self.alloc, command, &arguments)
+    }
+
+    /// Puts an edit behind the others of the list.
+    fn put(&mut self, edit: Edit<TinyOp>) -> Result<String, AllocError> {
+        self.edits.push(edit)?;
+        Ok(String::new(self.alloc))
     }
 
     /// What words stand for. A word that stands for nothing is left out.
@@ -117,15 +177,21 @@ impl<'a> Player<'a> {
     fn run(&mut self, ctx: &mut Context<Tiny>) -> Result<String, AllocError> {
         let edits = mem::replace(&mut self.edits, Vec::new(self.alloc));
         match ctx.run(edits) {
-            Ok(made) => {
-                self.names.keep(&made)?;
-                Ok(String::new(self.alloc))
-            }
-            Err((number, refusal)) => {
-                self.names.promised.clear();
-                format!(in self.alloc; "{refusal:?} at {number}")
-            }
+            Ok(made) => self.keep(&made),
+            Err((number, refusal)) => self.give_up(number, refusal),
         }
+    }
+
+    /// Keeps what edits made.
+    fn keep(&mut self, made: &[Option<Entity>]) -> Result<String, AllocError> {
+        self.names.keep(made)?;
+        Ok(String::new(self.alloc))
+    }
+
+    /// Forgets what refused edits were to make, and says which was refused and why.
+    fn give_up(&mut self, number: usize, refusal: CoreError) -> Result<String, AllocError> {
+        self.names.promised.clear();
+        format!(in self.alloc; "{refusal:?} at {number}")
     }
 
     /// Names what a word stands for.
@@ -156,16 +222,39 @@ impl<'a> Player<'a> {
         words: &[&str],
     ) -> Result<String, AllocError> {
         let before = self.run(ctx)?;
-        if !before.is_empty() {
-            return Ok(before);
+        if before.is_empty() {
+            self.refused(ctx, command, words)
+        } else {
+            Ok(before)
         }
+    }
+
+    /// The same, once the edits of the list are made.
+    fn refused(
+        &mut self,
+        ctx: &mut Context<Tiny>,
+        command: &str,
+        words: &[&str],
+    ) -> Result<String, AllocError> {
         let before = picture(self.alloc, ctx, &self.names)?;
-        let arguments = self.arguments(words)?;
-        let refusal = self.make_alone(ctx, command, &arguments)?;
-        if picture(self.alloc, ctx, &self.names)? != before {
-            return String::from_str(self.alloc, "something changed");
-        }
-        Ok(refusal)
+        let answer = self.make_alone(ctx, command, words)?;
+        self.compared(ctx, &before, answer)
+    }
+
+    /// The answer, where what can be seen is as before.
+    fn compared(
+        &self,
+        ctx: &Context<Tiny>,
+        before: &str,
+        answer: &str,
+    ) -> Result<String, AllocError> {
+        let after = picture(self.alloc, ctx, &self.names)?;
+        let answer = if after.as_str() == before {
+            answer
+        } else {
+            "something changed"
+        };
+        String::from_str(self.alloc, answer)
     }
 
     /// Makes an edit alone. The answer is empty where it is refused as not allowed.
@@ -173,17 +262,12 @@ impl<'a> Player<'a> {
         &mut self,
         ctx: &mut Context<Tiny>,
         command: &str,
-        arguments: &[Argument],
-    ) -> Result<String, AllocError> {
-        let Some(edit) = edit(self.alloc, command, arguments)? else {
-            return String::from_str(self.alloc, "no edit");
-        };
-        let answer = match ctx.run(vec![in self.alloc; edit]?) {
-            Err((0, CoreError::EditNotAllowed)) => "",
-            Err(_) => "another refusal",
-            Ok(_) => "allowed",
-        };
-        String::from_str(self.alloc, answer)
+        words: &[&str],
+    ) -> Result<&'static str, AllocError> {
+        match self.edit(command, words)? {
+            None => Ok("no edit"),
+            Some(edit) => Ok(outcome_word(ctx.run(vec![in self.alloc; edit]?))),
+        }
     }
 
     /// What a question is answered, after the edits of the list are made.
@@ -194,9 +278,20 @@ impl<'a> Player<'a> {
         words: &[&str],
     ) -> Result<String, AllocError> {
         let refusal = self.run(ctx)?;
-        if !refusal.is_empty() {
-            return Ok(refusal);
+        if refusal.is_empty() {
+            self.told(ctx, question, words)
+        } else {
+            Ok(refusal)
         }
+    }
+
+    /// The same, once the edits of the list are made.
+    fn told(
+        &mut self,
+        ctx: &mut Context<Tiny>,
+        question: &str,
+        words: &[&str],
+    ) -> Result<String, AllocError> {
         match self.reply(ctx, question, words)? {
             Some(answer) => Ok(answer),
             None => String::from_str(self.alloc, "no edit and no question"),
@@ -210,31 +305,52 @@ impl<'a> Player<'a> {
         question: &str,
         words: &[&str],
     ) -> Result<Option<String>, AllocError> {
-        let (entities, index) = self.entities(words)?;
+        let entities = self.entities(words)?;
         match (question, entities.as_slice()) {
-            ("is_ir_empty", _) => Ok(Some(format!(in self.alloc; "{}", ctx.is_ir_empty())?)),
+            ("is_ir_empty", _) => plain(
+                self.alloc,
+                if ctx.is_ir_empty() { "true" } else { "false" },
+            ),
             (_, [entity]) if words.len() == 1 => {
                 ask(self.alloc, ctx, &self.names, question, *entity)
             }
-            _ => match call(self.alloc, ctx, question, &entities, index)? {
-                Some(answer) => Ok(Some(answer)),
-                None => ask_about(self.alloc, ctx, &self.names, question, &entities, index),
-            },
+            (_, entities) => self.reply_about(ctx, question, entities, last_number(words)),
         }
     }
 
-    /// What is there under words, and the last number among them.
-    fn entities(&self, words: &[&str]) -> Result<(Vec<Entity>, usize), AllocError> {
+    /// What a question with further arguments is answered.
+    fn reply_about(
+        &mut self,
+        ctx: &mut Context<Tiny>,
+        question: &str,
+        entities: &[Entity],
+        index: usize,
+    ) -> Result<Option<String>, AllocError> {
+        match call(self.alloc, ctx, question, entities, index)? {
+            Some(answer) => Ok(Some(answer)),
+            None => ask_about(self.alloc, ctx, &self.names, question, entities, index),
+        }
+    }
+
+    /// What is there under words.
+    fn entities(&self, words: &[&str]) -> Result<Vec<Entity>, AllocError> {
         let mut entities = Vec::new(self.alloc);
-        let mut index = 0;
         for word in words {
-            if let Ok(number) = word.parse() {
-                index = number;
-            }
             if let Some(entity) = self.names.entity(word) {
                 entities.push(entity)?;
             }
         }
-        Ok((entities, index))
+        Ok(entities)
     }
+}
+
+/// The last number among words, 0 where there is none.
+fn last_number(words: &[&str]) -> usize {
+    let mut index = 0;
+    for word in words {
+        if let Ok(number) = word.parse() {
+            index = number;
+        }
+    }
+    index
 }

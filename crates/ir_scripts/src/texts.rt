@@ -1,7 +1,8 @@
 //! Answers as texts.
 use crate::names::Names;
-use ir_core::{BasicBlock, Entity, Operation, Ptr, Region, TypeHandle, Use, Value};
+use ir_core::{BasicBlock, Entity, Identifier, Operation, Ptr, Region, TypeHandle, Use, Value};
 use std::alloc::{AllocError, Global};
+use std::fmt::Write;
 
 /// What can have a name.
 pub trait Nameable: Copy {
@@ -33,16 +34,24 @@ impl Nameable for Value {
     }
 }
 
-/// Words with spaces between them.
-fn joined(alloc: Global, words: &[&str]) -> Result<String, AllocError> {
-    let mut text = String::new(alloc);
-    for word in words {
-        if !text.is_empty() {
-            text.push(' ')?;
-        }
-        text.push_str(word)?;
+/// Adds a word, behind a space where there is one already.
+fn push_word(text: &mut String, word: &str) -> Result<(), AllocError> {
+    if !text.is_empty() {
+        text.push(' ')?;
     }
-    Ok(text)
+    text.push_str(word)
+}
+
+/// Adds the names of these, in this order.
+fn push_names<T: Nameable>(
+    text: &mut String,
+    names: &Names,
+    items: &[T],
+) -> Result<(), AllocError> {
+    for item in items {
+        push_word(text, names.word_of(item.entity()))?;
+    }
+    Ok(())
 }
 
 /// The names of these, in this order.
@@ -51,44 +60,91 @@ pub fn names_of<T: Nameable>(
     names: &Names,
     items: &[T],
 ) -> Result<Option<String>, AllocError> {
-    let mut words = Vec::new(alloc);
-    for item in items {
-        words.push(names.word_of(item.entity()))?;
-    }
-    Ok(Some(joined(alloc, &words)?))
+    let mut text = String::new(alloc);
+    push_names(&mut text, names, items)?;
+    Ok(Some(text))
 }
 
-/// The words for these types, in this order.
+/// The names of what was asked for, in this order.
+pub fn names_in<T: Nameable>(
+    alloc: Global,
+    names: &Names,
+    items: Result<Vec<T>, AllocError>,
+) -> Result<Option<String>, AllocError> {
+    names_of(alloc, names, &items?)
+}
+
+/// Adds the words for these types, in this order.
+fn push_types(text: &mut String, names: &Names, types: &[TypeHandle]) -> Result<(), AllocError> {
+    for ty in types {
+        push_word(text, names.type_word(*ty))?;
+    }
+    Ok(())
+}
+
+/// The words for the types that were asked for, in this order.
 pub fn type_words(
     alloc: Global,
     names: &Names,
-    types: &[TypeHandle],
+    types: Result<Vec<TypeHandle>, AllocError>,
 ) -> Result<Option<String>, AllocError> {
-    let mut words = Vec::new(alloc);
-    for ty in types {
-        words.push(names.type_word(*ty))?;
-    }
-    Ok(Some(joined(alloc, &words)?))
+    let mut text = String::new(alloc);
+    push_types(&mut text, names, &types?)?;
+    Ok(Some(text))
 }
 
-/// Uses as `user.index:definition`, in the order of users' names and indices.
-pub fn places<T: Nameable>(
+/// A use by the names of its user and what is used, in the order of which uses are written.
+type NamedUse<'a> = (&'a str, usize, &'a str);
+
+/// Uses by their names, in order.
+fn named_uses<'a, T: Nameable>(
     alloc: Global,
-    names: &Names,
+    names: &Names<'a>,
     uses: &[Use<T>],
-) -> Result<Option<String>, AllocError> {
+) -> Result<Vec<NamedUse<'a>>, AllocError> {
     let mut places = Vec::new(alloc);
     for place in uses {
         let user = names.word_of(Entity::Operation(place.user_op));
         places.push((user, place.index, names.word_of(place.def.entity())))?;
     }
     places.sort()?;
-    let mut text = String::new(alloc);
-    for (user, index, def) in &places {
-        let place = format!(in alloc; "{user}.{index}:{def} ")?;
-        text.push_str(&place)?;
+    Ok(places)
+}
+
+/// Adds uses as `user.index:definition`.
+fn push_places(text: &mut String, places: &[NamedUse]) -> Result<(), AllocError> {
+    for (user, index, def) in places {
+        write!(text, "{user}.{index}:{def} ")?;
     }
+    Ok(())
+}
+
+/// The uses that were asked for as `user.index:definition`, in the order of users' names and indices.
+pub fn places<T: Nameable>(
+    alloc: Global,
+    names: &Names,
+    uses: Result<Vec<Use<T>>, AllocError>,
+) -> Result<Option<String>, AllocError> {
+    let places = named_uses(alloc, names, &uses?)?;
+    let mut text = String::new(alloc);
+    push_places(&mut text, &places)?;
     Ok(Some(text))
+}
+
+/// The name that was asked for.
+pub fn spelt(name: Result<Identifier, AllocError>) -> Result<Option<String>, AllocError> {
+    Ok(Some(name?.into_string()))
+}
+
+/// The name that was asked for, if there is one.
+pub fn spelt_or_none(
+    alloc: Global,
+    name: Result<Option<Identifier>, AllocError>,
+) -> Result<Option<String>, AllocError> {
+    match name? {
+        Some(name) => Ok(Some(name.into_string())),
+        None => plain(alloc, "none"),
+    }
 }
 
 /// A text that doesn't depend on anything.

@@ -52,7 +52,7 @@ pub enum TinyAttr {
     Type(TypeHandle),
 }
 
-#[derive(Debug, PartialEq, Eq, Hash, Drop)]
+#[derive(PartialEq, Eq, Hash, Drop)]
 pub enum TinyLocation {
     Unknown,
     Line(u32),

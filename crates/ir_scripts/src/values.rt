@@ -1,6 +1,6 @@
 //! Questions about values, and about places that name values and blocks.
 use crate::names::Names;
-use crate::texts::{number, places, plain};
+use crate::texts::{number, places, plain, spelt, spelt_or_none};
 use crate::tiny::Tiny;
 use ir_core::{
     BasicBlock, BlockCalls, Context, CoreError, Named, OperandPlace, Operation, PredecessorCalls,
@@ -23,14 +23,11 @@ pub fn ask_value(
         return plain(alloc, "gone");
     }
     match question {
-        "uses" => places(alloc, names, &value.uses(alloc, ctx)?),
+        "uses" => places(alloc, names, value.uses(alloc, ctx)),
         "num_uses" => number(alloc, value.num_uses(ctx)),
-        "id" => Ok(Some(value.id(alloc, ctx)?.into_string())),
-        "unique_name" => Ok(Some(value.unique_name(alloc, ctx)?.into_string())),
-        "given_name" => match value.given_name(alloc, ctx)? {
-            Some(name) => Ok(Some(name.into_string())),
-            None => plain(alloc, "none"),
-        },
+        "id" => spelt(value.id(alloc, ctx)),
+        "unique_name" => spelt(value.unique_name(alloc, ctx)),
+        "given_name" => spelt_or_none(alloc, value.given_name(alloc, ctx)),
         _ => Ok(None),
     }
 }
@@ -101,8 +98,8 @@ pub fn chosen_uses(
     if !value.is_live(ctx) {
         return plain(alloc, "gone");
     }
-    let uses = value.chosen_uses(alloc, ctx, |place: &Use<Value>| place.index == index)?;
-    places(alloc, names, &uses)
+    let uses = value.chosen_uses(alloc, ctx, |place: &Use<Value>| place.index == index);
+    places(alloc, names, uses)
 }
 
 /// The edges to a block at an index.
@@ -120,8 +117,8 @@ pub fn chosen_preds(
         alloc,
         ctx,
         |place: &Use<Ptr<BasicBlock>>| place.index == index,
-    )?;
-    places(alloc, names, &edges)
+    );
+    places(alloc, names, edges)
 }
 
 /// Another value in place of a value, at its uses at an index.

@@ -21,12 +21,12 @@ module _ (D TypeKind AttrKind TypeBody Saved Location OpKind Attr TypeKey : Ratt
     (key_eq : eq.Ghosts TypeKey.Denot) (key_hash : hash.Ghosts TypeKey.Denot)
     (type_kind_eq : eq.Ghosts TypeKind.Denot) (attr_kind_eq : eq.Ghosts AttrKind.Denot)
     (saved_eq : eq.Ghosts Saved.Denot) (saved_hash : hash.Ghosts Saved.Denot)
-    (location_eq : eq.Ghosts Location.Denot) (location_hash : hash.Ghosts Location.Denot) where
+    (location_eq : eq.Ghosts Location.Denot) where
   -- the dialect's types, as the logic holds them
   abbrev pub types_row : RattleType
   types_row =
       the_row D TypeKind AttrKind TypeBody Saved Location OpKind Attr TypeKey own op_eq attr_eq attr_hash key_eq key_hash
-      type_kind_eq attr_kind_eq saved_eq saved_hash location_eq location_hash
+      type_kind_eq attr_kind_eq saved_eq saved_hash location_eq
 
   -- the type ends with the last body behind r, and all else stays
   abbrev pub lends_body : MutBor (TypesView TypeKey.Denot TypeBody.Denot Saved.Denot) → TypeHandle → MutBor (Option TypeBody.Denot) → Fml

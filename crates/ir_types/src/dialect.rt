@@ -36,7 +36,7 @@ pub trait DialectTables: Dialects {
     type Saved: Eq + Hash + Drop;
 
     /// Where in a source an operation comes from.
-    type Location: Eq + Hash + Drop;
+    type Location: Eq + Drop;
 
     /// The names of the dialect and of the kind, of which the id of a kind of operations is made.
     ghost op_text: { Self.OpKind → List ℕ × List ℕ };

@@ -68,20 +68,49 @@ fn put(
     Ok(())
 }
 
-/// A name under a key, alone.
-fn naming(alloc: Global, key: &str, name: &str) -> Result<AttributeDict<Kit>, Unread> {
-    let mut attributes = AttributeDict::new(alloc);
-    let attr = KitAttr::Identifier(Identifier::try_new(alloc, name)?);
+/// Attributes with one more, under a key.
+fn with(
+    alloc: Global,
+    mut attributes: AttributeDict<Kit>,
+    key: &str,
+    attr: KitAttr,
+) -> Result<AttributeDict<Kit>, Unread> {
     put(alloc, &mut attributes, key, attr)?;
     Ok(attributes)
 }
 
+/// An attribute under a key, alone.
+fn alone(alloc: Global, key: &str, attr: KitAttr) -> Result<AttributeDict<Kit>, Unread> {
+    with(alloc, AttributeDict::new(alloc), key, attr)
+}
+
+/// A name under a key, alone.
+fn naming(alloc: Global, key: &str, name: &str) -> Result<AttributeDict<Kit>, Unread> {
+    alone(
+        alloc,
+        key,
+        KitAttr::Identifier(Identifier::try_new(alloc, name)?),
+    )
+}
+
+/// A name and a type under keys.
+fn typed_name(
+    alloc: Global,
+    (name_key, name): (&str, &str),
+    (type_key, ty): (&str, TypeHandle),
+) -> Result<AttributeDict<Kit>, Unread> {
+    with(
+        alloc,
+        naming(alloc, name_key, name)?,
+        type_key,
+        KitAttr::Type(ty),
+    )
+}
+
 /// How many operands each part of a branch has among the words.
 fn edge_attributes(alloc: Global, words: &[&str]) -> Result<AttributeDict<Kit>, Unread> {
-    let mut attributes = AttributeDict::new(alloc);
-    let sizes = KitAttr::SegmentSizes(Vec::from_slice(alloc, &sizes_of(words))?);
-    put(alloc, &mut attributes, keys::SEGMENT_SIZES, sizes)?;
-    Ok(attributes)
+    let sizes = Vec::from_slice(alloc, &sizes_of(words))?;
+    alone(alloc, keys::SEGMENT_SIZES, KitAttr::SegmentSizes(sizes))
 }
 
 /// The first word as a number.
@@ -105,11 +134,7 @@ pub fn read(alloc: Global, ctx: &mut Context<Kit>, text: &str) -> Result<ReadMod
 
 /// The words of a line.
 fn words_of<'a>(alloc: Global, line: &'a str) -> Result<Vec<&'a str>, Unread> {
-    let mut words: Vec<&'a str> = Vec::new(alloc);
-    for word in line.split_whitespace() {
-        words.push(word)?;
-    }
-    Ok(words)
+    Ok(line.split_whitespace().collect(alloc)?)
 }
 
 impl<'a> Reader<'a> {
@@ -215,10 +240,13 @@ impl<'a> Reader<'a> {
         Ok(())
     }
 
-    /// The function type of types around an arrow.
-    fn function_type(&self, ctx: &mut Context<Kit>, words: &[&str]) -> Result<TypeHandle, Unread> {
-        let mut inputs: Vec<TypeHandle> = Vec::new(self.alloc);
-        let mut results: Vec<TypeHandle> = Vec::new(self.alloc);
+    /// Adds types around an arrow to a function type.
+    fn push_types(
+        &self,
+        ctx: &mut Context<Kit>,
+        function: &mut FunctionType,
+        words: &[&str],
+    ) -> Result<(), Unread> {
         let mut behind = false;
         for word in words {
             if *word == "->" {
@@ -227,12 +255,21 @@ impl<'a> Reader<'a> {
             }
             let ty = self.integer(ctx, integer_of(word).ok_or(Unread::Text)?)?;
             if behind {
-                results.push(ty)?;
+                function.results.push(ty)?;
             } else {
-                inputs.push(ty)?;
+                function.inputs.push(ty)?;
             }
         }
-        let function = FunctionType { inputs, results };
+        Ok(())
+    }
+
+    /// The function type of types around an arrow.
+    fn function_type(&self, ctx: &mut Context<Kit>, words: &[&str]) -> Result<TypeHandle, Unread> {
+        let mut function = FunctionType {
+            inputs: Vec::new(self.alloc),
+            results: Vec::new(self.alloc),
+        };
+        self.push_types(ctx, &mut function, words)?;
         Ok(ctx.instantiate_key(self.alloc, KitType::Function(function))?)
     }
 
@@ -244,9 +281,11 @@ impl<'a> Reader<'a> {
         types: &[&str],
     ) -> Result<(), Unread> {
         let ty = self.function_type(ctx, types)?;
-        let mut attributes = naming(self.alloc, keys::SYMBOL_NAME, name)?;
-        let attr = KitAttr::Type(ty);
-        put(self.alloc, &mut attributes, keys::FUNCTION_TYPE, attr)?;
+        let attributes = typed_name(
+            self.alloc,
+            (keys::SYMBOL_NAME, name),
+            (keys::FUNCTION_TYPE, ty),
+        )?;
         let op = self.place(ctx, KitOp::Func, attributes, 1)?;
         self.functions.insert(name, ty)?;
         self.bodies.push(op)?;
@@ -299,19 +338,14 @@ impl<'a> Reader<'a> {
         let ty = self.integer(ctx, integer)?;
         let bits = number_of(words)?;
         let value = KitAttr::Integer(IntegerAttr { ty, integer, bits });
-        let mut attributes = AttributeDict::new(self.alloc);
-        put(self.alloc, &mut attributes, keys::CONSTANT_VALUE, value)?;
-        Ok(attributes)
+        alone(self.alloc, keys::CONSTANT_VALUE, value)
     }
 
     /// What a call calls, and its type.
     fn call_attributes(&self, words: &[&str]) -> Result<AttributeDict<Kit>, Unread> {
         let name = *words.first().ok_or(Unread::Text)?;
         let ty = *self.functions.get(name).ok_or(Unread::Text)?;
-        let mut attributes = naming(self.alloc, keys::CALLEE, name)?;
-        let attr = KitAttr::Type(ty);
-        put(self.alloc, &mut attributes, keys::CALLEE_TYPE, attr)?;
-        Ok(attributes)
+        typed_name(self.alloc, (keys::CALLEE, name), (keys::CALLEE_TYPE, ty))
     }
 
     /// The attributes of an operation in a function.

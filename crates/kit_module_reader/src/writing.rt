@@ -46,6 +46,18 @@ impl Order {
         Ok(())
     }
 
+    /// Notes what is in an operation.
+    fn note_all(&mut self, ctx: &Context<Kit>, op: Ptr<Operation>) -> Result<(), AllocError> {
+        let program = ctx.program();
+        if !program.has_operation(op) {
+            return Ok(());
+        }
+        for node in program.nodes_inside(IRNode::Operation(op)) {
+            self.note(ctx, node)?;
+        }
+        Ok(())
+    }
+
     /// Writes a value by its number.
     fn value(&self, text: &mut String, value: Value) -> Result<(), AllocError> {
         match self.values.get_index_of(&value) {
@@ -131,6 +143,23 @@ impl Order {
             IRNode::Region(_) => text.push_str(" {"),
         }
     }
+
+    /// Writes the lines of what is in an operation.
+    fn lines(
+        &self,
+        text: &mut String,
+        ctx: &Context<Kit>,
+        op: Ptr<Operation>,
+    ) -> Result<(), AllocError> {
+        let program = ctx.program();
+        if !program.has_operation(op) {
+            return Ok(());
+        }
+        for node in program.nodes_inside(IRNode::Operation(op)) {
+            self.line(text, ctx, node)?;
+        }
+        Ok(())
+    }
 }
 
 /// Writes how many operands each part has.
@@ -190,20 +219,18 @@ pub fn written(
     ctx: &Context<Kit>,
     op: Ptr<Operation>,
 ) -> Result<String, AllocError> {
-    let program = ctx.program();
+    let order = order_in(alloc, ctx, op)?;
     let mut text = String::new(alloc);
-    if !program.has_operation(op) {
-        return Ok(text);
-    }
+    order.lines(&mut text, ctx, op)?;
+    Ok(text)
+}
+
+/// The values and blocks in an operation, in their order.
+fn order_in(alloc: Global, ctx: &Context<Kit>, op: Ptr<Operation>) -> Result<Order, AllocError> {
     let mut order = Order {
         values: IndexSet::new(alloc),
         blocks: IndexSet::new(alloc),
     };
-    for node in program.nodes_inside(IRNode::Operation(op)) {
-        order.note(ctx, node)?;
-    }
-    for node in program.nodes_inside(IRNode::Operation(op)) {
-        order.line(&mut text, ctx, node)?;
-    }
-    Ok(text)
+    order.note_all(ctx, op)?;
+    Ok(order)
 }

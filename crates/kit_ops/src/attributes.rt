@@ -66,7 +66,7 @@ pub enum KitAttr {
 }
 
 /// The kinds of attributes.
-#[derive(Clone, Copy, Debug, PartialEq, Eq, Hash)]
+#[derive(Clone, Copy, Debug, PartialEq, Eq)]
 pub enum KitAttrKind {
     Integer,
     Identifier,

@@ -1,7 +1,7 @@
 //! The kinds of operations of `kit`.
 
 /// The operations of arithmetic on two integers of one type, whose result is modulo 2^w for a type of w bits.
-#[derive(Clone, Copy, Debug, PartialEq, Eq, Hash)]
+#[derive(Clone, Copy, Debug, PartialEq, Eq)]
 pub enum Arithmetic {
     Add,
     Sub,
@@ -11,7 +11,7 @@ pub enum Arithmetic {
 }
 
 /// Comparisons of two integers of one type, as unsigned numbers. The result is one bit.
-#[derive(Clone, Copy, Debug, PartialEq, Eq, Hash)]
+#[derive(Clone, Copy, Debug, PartialEq, Eq)]
 pub enum Comparison {
     Equal,
     NotEqual,
@@ -20,7 +20,7 @@ pub enum Comparison {
 }
 
 /// The kinds of operations.
-#[derive(Clone, Copy, Debug, PartialEq, Eq, Hash)]
+#[derive(Clone, Copy, Debug, PartialEq, Eq)]
 pub enum KitOp {
     /// Holds modules and functions under distinct names.
     Module,

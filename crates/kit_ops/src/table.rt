@@ -16,7 +16,7 @@ pub enum Count {
 }
 
 /// What a kind of operations is.
-#[derive(Clone, Copy, Debug)]
+#[derive(Clone, Copy)]
 pub struct Row {
     /// The name of its dialect, and its own.
     pub dialect: &'static str,

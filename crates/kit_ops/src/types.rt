@@ -31,7 +31,7 @@ pub enum KitType {
 }
 
 /// The kinds of types.
-#[derive(Clone, Copy, Debug, PartialEq, Eq, Hash)]
+#[derive(Clone, Copy, Debug, PartialEq, Eq)]
 pub enum KitTypeKind {
     Integer,
     Function,

@@ -1,7 +1,7 @@
 //! Chains of blocks that are joined, and values that stand for others.
 
 /// A block, as joining sees it.
-#[derive(Clone, Copy, Debug, PartialEq, Eq)]
+#[derive(Clone, Copy)]
 pub struct ChainBlock {
     /// The one block that it goes on to, if it may be joined with that one as far as it is concerned.
     pub only: Option<usize>,

@@ -3,7 +3,7 @@
 use crate::dead_candidates::Candidates;
 
 /// What defines a value.
-#[derive(Clone, Copy, Debug, PartialEq, Eq)]
+#[derive(Clone, Copy)]
 pub enum Definer {
     /// The operation with this number, of which it is a result.
     Result(usize),
@@ -14,7 +14,7 @@ pub enum Definer {
 }
 
 /// An operand.
-#[derive(Clone, Copy, Debug, PartialEq, Eq)]
+#[derive(Clone, Copy)]
 pub struct Operand {
     /// What defines the value that it names.
     pub definer: Definer,
@@ -23,7 +23,7 @@ pub struct Operand {
 }
 
 /// A block argument.
-#[derive(Clone, Copy, Debug, PartialEq, Eq)]
+#[derive(Clone, Copy)]
 pub struct Argument {
     /// Whether nothing but uses keeps it.
     pub may_go: bool,

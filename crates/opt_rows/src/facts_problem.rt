@@ -7,7 +7,7 @@ use crate::operation_rows::OperationRows;
 use std::alloc::{AllocError, Global};
 
 /// What an operation is asked.
-#[derive(Clone, Copy, Debug, PartialEq, Eq)]
+#[derive(Clone, Copy)]
 pub enum Role {
     /// What its results fold to.
     Folds,

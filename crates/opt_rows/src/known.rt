@@ -5,7 +5,7 @@ ghost use Rattle.opt_rows.specs.KnownFalls.{FallsBelow};
 
 /// What is known of a value before a program runs. It is Wegman and Zadeck's lattice, top to bottom: undetermined
 /// ("top"), one constant, any value ("bottom").
-#[derive(Clone, Copy, Debug, PartialEq, Eq)]
+#[derive(Clone, Copy)]
 pub enum Known<A> {
     /// Nothing has been found out of it yet.
     Undetermined,

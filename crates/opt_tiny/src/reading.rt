@@ -111,36 +111,51 @@ fn forwarded_first(words: &[&str]) -> usize {
 /// # Errors
 /// Without memory, or where the text says no program.
 pub fn read(alloc: Global, ctx: &mut Tree, text: &str) -> Result<Ptr<Operation>, Unread> {
-    let mut reader = Reader {
-        alloc,
-        regions: Vec::new(alloc),
-        blocks: Vec::new(alloc),
-        values: IndexMap::new(alloc),
-        labels: IndexMap::new(alloc),
-        mentions: Vec::new(alloc),
-        root: None,
-    };
-    for line in text.lines() {
-        reader.line(ctx, line.trim())?;
-    }
-    reader.link(ctx)?;
-    reader.root.ok_or(Unread::Text)
+    let mut reader = Reader::new(alloc);
+    reader.text(ctx, text)
 }
 
 impl<'a> Reader<'a> {
+    /// Nothing is read.
+    fn new(alloc: Global) -> Reader<'a> {
+        Reader {
+            alloc,
+            regions: Vec::new(alloc),
+            blocks: Vec::new(alloc),
+            values: IndexMap::new(alloc),
+            labels: IndexMap::new(alloc),
+            mentions: Vec::new(alloc),
+            root: None,
+        }
+    }
+
+    /// Reads a text, and answers its operation.
+    fn text(&mut self, ctx: &mut Tree, text: &'a str) -> Result<Ptr<Operation>, Unread> {
+        for line in text.lines() {
+            self.line(ctx, line.trim())?;
+        }
+        self.link(ctx)?;
+        self.root.ok_or(Unread::Text)
+    }
+
     /// Reads a line.
     fn line(&mut self, ctx: &mut Tree, line: &'a str) -> Result<(), Unread> {
-        if line == "}" {
-            self.regions.pop();
-            self.blocks.pop();
-            return Ok(());
-        }
-        let mut words: Vec<&str> = Vec::new(self.alloc);
-        for word in line.split_whitespace() {
-            words.push(word)?;
-        }
-        match words.as_slice() {
+        let words: Vec<&'a str> = line.split_whitespace().collect(self.alloc)?;
+        self.words(ctx, &words)
+    }
+
+    /// Ends what is open.
+    fn close(&mut self) -> Result<(), Unread> {
+        self.regions.pop();
+        self.blocks.pop();
+        Ok(())
+    }
+
+    /// Reads the words of a line.
+    fn words(&mut self, ctx: &mut Tree, words: &[&'a str]) -> Result<(), Unread> {
+        match words {
             [] => Ok(()),
+            ["}"] => self.close(),
             [label, arguments @ ..] if label.starts_with('^') => self.block(ctx, label, arguments),
             [result, "=", kind, operands @ ..] => self.operation(ctx, Some(result), kind, operands),
             [kind, operands @ ..] => self.operation(ctx, None, kind, operands),
@@ -202,6 +217,11 @@ impl<'a> Reader<'a> {
             self.regions.push(region_of(ctx, op)?)?;
             self.blocks.push(None)?;
         }
+        self.mentioned(op, words)
+    }
+
+    /// Keeps what an operation mentions.
+    fn mentioned(&mut self, op: Ptr<Operation>, words: &[&'a str]) -> Result<(), Unread> {
         let words = Vec::from_slice(self.alloc, words)?;
         self.mentions.push(Mentions { op, words })?;
         Ok(())

@@ -5,7 +5,7 @@ use ir_base::TypeHandle;
 use ir_context::TypeTable;
 
 /// The kinds of operations.
-#[derive(Clone, Copy, Debug, PartialEq, Eq)]
+#[derive(Clone, Copy, PartialEq, Eq)]
 pub enum Kind {
     /// Holds regions.
     Box,
@@ -30,7 +30,7 @@ pub enum Kind {
 }
 
 /// What an operation carries.
-#[derive(Clone, Copy, Debug, PartialEq, Eq)]
+#[derive(Clone, Copy)]
 pub struct Payload {
     pub kind: Kind,
     /// The number of a constant.
@@ -40,7 +40,7 @@ pub struct Payload {
 }
 
 /// What a block carries.
-#[derive(Clone, Copy, Debug, PartialEq, Eq)]
+#[derive(Clone, Copy)]
 pub struct Bare;
 
 /// The table of the one type.

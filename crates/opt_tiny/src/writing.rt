@@ -52,6 +52,18 @@ impl Order {
         Ok(())
     }
 
+    /// Notes what is in an operation.
+    fn note_all(&mut self, ctx: &Tree, op: Ptr<Operation>) -> Result<(), AllocError> {
+        let program = ctx.program();
+        if !program.has_operation(op) {
+            return Ok(());
+        }
+        for node in program.nodes_inside(IRNode::Operation(op)) {
+            self.note(ctx, node)?;
+        }
+        Ok(())
+    }
+
     /// Writes a value by its number.
     fn value(&self, text: &mut String, value: Value) -> Result<(), AllocError> {
         match self.values.get_index_of(&value) {
@@ -118,6 +130,29 @@ impl Order {
         }
         Ok(())
     }
+
+    /// Writes the line of a region, a block or an operation.
+    fn line(&self, text: &mut String, ctx: &Tree, node: IRNode) -> Result<(), AllocError> {
+        text.push('\n')?;
+        write_dots(text, ctx, node)?;
+        match node {
+            IRNode::Operation(op) => self.operation(text, ctx, op),
+            IRNode::BasicBlock(block) => self.header(text, ctx, block),
+            IRNode::Region(_) => text.push_str(" {"),
+        }
+    }
+
+    /// Writes the lines of what is in an operation.
+    fn lines(&self, text: &mut String, ctx: &Tree, op: Ptr<Operation>) -> Result<(), AllocError> {
+        let program = ctx.program();
+        if !program.has_operation(op) {
+            return Ok(());
+        }
+        for node in program.nodes_inside(IRNode::Operation(op)) {
+            self.line(text, ctx, node)?;
+        }
+        Ok(())
+    }
 }
 
 /// Writes a number behind a word.
@@ -137,28 +172,20 @@ fn write_number<N: Display + Drop>(
 /// # Errors
 /// There may be no memory.
 pub fn written(alloc: Global, ctx: &Tree, op: Ptr<Operation>) -> Result<String, AllocError> {
-    let program = ctx.program();
+    let order = order_in(alloc, ctx, op)?;
     let mut text = String::new(alloc);
-    if !program.has_operation(op) {
-        return Ok(text);
-    }
+    order.lines(&mut text, ctx, op)?;
+    Ok(text)
+}
+
+/// The values and blocks in an operation, in their order.
+fn order_in(alloc: Global, ctx: &Tree, op: Ptr<Operation>) -> Result<Order, AllocError> {
     let mut order = Order {
         values: IndexSet::new(alloc),
         blocks: IndexSet::new(alloc),
     };
-    for node in program.nodes_inside(IRNode::Operation(op)) {
-        order.note(ctx, node)?;
-    }
-    for node in program.nodes_inside(IRNode::Operation(op)) {
-        text.push('\n')?;
-        write_dots(&mut text, ctx, node)?;
-        match node {
-            IRNode::Operation(op) => order.operation(&mut text, ctx, op)?,
-            IRNode::BasicBlock(block) => order.header(&mut text, ctx, block)?,
-            IRNode::Region(_) => text.push_str(" {")?,
-        }
-    }
-    Ok(text)
+    order.note_all(ctx, op)?;
+    Ok(order)
 }
 
 /// Writes a dot for each entity around this one, itself too.
