@@ -4,7 +4,7 @@ use Rattle.digraph.specs.Transpose.{AreTransposed}
 use Rattle.ir_graph.specs.Reverse.{CanReverse}
 use Rattle.edge_graphs.specs.Numbers.{numbers}
 use Rattle.edge_graphs.specs.declared.edges.Edges.{Edges}
-use Rattle.ir_graph_tests.proofs.reverse.reversed.Goals as goal
+use Rattle.ir_tests.proofs.reverse.reversed.Goals as goal
 
 pub rows_of-requires : goal.rows_of-requires
 rows_of-requires c = (

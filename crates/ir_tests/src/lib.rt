@@ -1,7 +1,9 @@
-//! Tests of the core by its public calls: that calls succeed where memory is ample, and worked examples of what they answer. They stand
-//! here so that each crate of the core is proved once.
+//! Tests of the store, of the core and of graphs by their public calls: that calls succeed where memory is ample, and worked examples of
+//! what they answer. They stand here so that each of those crates is proved once.
 #![tactic(auto)]
 
+#[cfg(test)]
+mod arenas;
 #[cfg(test)]
 mod around;
 #[cfg(test)]
@@ -23,6 +25,12 @@ mod list_edits;
 #[cfg(test)]
 mod lists;
 #[cfg(test)]
+mod numbers;
+#[cfg(test)]
+mod orders;
+#[cfg(test)]
+mod place_rows;
+#[cfg(test)]
 mod playing;
 #[cfg(test)]
 mod refusals;
@@ -31,15 +39,21 @@ mod regions;
 #[cfg(test)]
 mod replaced;
 #[cfg(test)]
+mod reverse;
+#[cfg(test)]
 mod row_edits;
 #[cfg(test)]
 mod rows;
 #[cfg(test)]
 mod standing;
 #[cfg(test)]
+mod traversals;
+#[cfg(test)]
 mod types;
 #[cfg(test)]
 mod unique_names;
+#[cfg(test)]
+mod use_tables;
 #[cfg(test)]
 mod uses;
 #[cfg(test)]
