@@ -16,7 +16,7 @@ use Rattle.kit_module_programs.specs.Programs.{IsProgramOf}
 use Rattle.kit_module_programs.specs.TreePasses.{IsTreeAfter}
 use Rattle.kit_optimiser.specs.Passed.{pass_of}
 use Rattle.kit_optimiser.specs.declared.pass.KitPass.{KitPass}
-use Rattle.kit_program_runs.specs.Numberings.{NumbersTextsApart}
+use Rattle.kit_execution.specs.Numberings.{NumbersTextsApart}
 use Rattle.kit_ruled_views.specs.Functions.{KitContext}
 use Rattle.kit_ruled_views.specs.Ruled.{HasOwnNames, HaveTypesIn, KitTree}
 use Rattle.irkit_running.specs.Outcomes.{RunGives}

@@ -10,7 +10,7 @@ use Rattle.kit_language.specs.Language.{kit_language}
 use Rattle.kit_optimised_programs.specs.Programs.{PassedPrograms}
 use Rattle.kit_optimiser.specs.Passed.{IsOptimised, FillsUp, pass_of}
 use Rattle.kit_optimiser.specs.declared.pass.KitPass.{KitPass}
-use Rattle.kit_program_runs.specs.Numberings.{NumbersTextsApart}
+use Rattle.kit_execution.specs.Numberings.{NumbersTextsApart}
 use Rattle.kit_ruled_views.specs.Functions.{KitContext}
 use Rattle.module_printing.specs.Again.{IsTextOfModule}
 use Rattle.irkit_refusals.specs.Texts.{HoldsText, IsAcceptedText}

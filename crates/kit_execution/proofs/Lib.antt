@@ -9,3 +9,10 @@ pub mod Safe
 pub mod Functions
 pub mod Moves
 pub mod Paths
+pub mod Pairing
+pub mod Lockstep
+pub mod FlatOperations
+pub mod FlatBlocks
+pub mod TreePaths
+pub mod Outcomes
+pub mod Programs

@@ -1,2 +1,5 @@
 pub mod Obeying
 pub mod Moving
+pub mod Numberings
+pub mod Outcomes
+pub mod Laws

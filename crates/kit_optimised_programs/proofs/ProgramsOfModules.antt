@@ -24,8 +24,8 @@ use Rattle.kit_module_programs.proofs.FitPrograms.{fit_program}
 use Rattle.kit_module_programs.proofs.FunctionSizes.{one_pass, program_within}
 use Rattle.kit_ops.specs.declared.types.KitType.{KitType}
 use Rattle.kit_optimiser.specs.Passed.{IsOptimised}
-use Rattle.kit_program_runs.specs.Laws.{IsProgramIn}
-use Rattle.kit_program_runs.specs.Numberings.{NumbersTextsApart}
+use Rattle.kit_execution.specs.Laws.{IsProgramIn}
+use Rattle.kit_execution.specs.Numberings.{NumbersTextsApart}
 use Rattle.kit_ruled_views.specs.Functions.{KitContext}
 use Rattle.kit_ruled_views.specs.Ruled.{KitTree, type_or_first}
 use Rattle.kit_ruled_views.proofs.HandleSameness.{values_apart}

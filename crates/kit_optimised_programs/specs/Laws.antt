@@ -11,7 +11,7 @@ use Rattle.kit_behaviour.specs.PassLists.{Pass}
 use Rattle.kit_held_modules.specs.Held.{HoldsModule}
 use Rattle.kit_module_programs.specs.TreePasses.{IsTreeAfter}
 use Rattle.kit_optimiser.specs.Passed.{IsOptimised}
-use Rattle.kit_program_runs.specs.Numberings.{NumbersTextsApart}
+use Rattle.kit_execution.specs.Numberings.{NumbersTextsApart}
 use Rattle.kit_ruled_views.specs.Functions.{KitContext}
 use Rattle.kit_ruled_views.specs.Ruled.{KitTree}
 use Rattle.kit_views.specs.Reading.{kit_contents}

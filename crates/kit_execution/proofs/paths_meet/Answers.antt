@@ -1,5 +1,5 @@
-use Rattle.kit_program_runs.proofs.Programs.{path_meets}
-use Rattle.kit_program_runs.proofs.paths_meet.Goals as goal
+use Rattle.kit_execution.proofs.Programs.{path_meets}
+use Rattle.kit_execution.proofs.paths_meet.Goals as goal
 
 pub returns : goal.returns
 returns c = λ s root t numbered p given path. path_meets s root t numbered p given path

@@ -18,8 +18,8 @@ use Rattle.kit_places.specs.Store.{InterpretedContext, module_code}
 use Rattle.kit_places.specs.declared.places.Place.{Place}
 use Rattle.kit_module_programs.specs.Programs.{IsProgramOf}
 use Rattle.kit_ruled_views.specs.Ruled.{HasOwnNames, HaveTypesIn}
-use Rattle.kit_program_runs.specs.Numberings.{NumbersTextsApart}
-use Rattle.kit_program_runs.specs.Outcomes.{SameOutcome}
+use Rattle.kit_execution.specs.Numberings.{NumbersTextsApart}
+use Rattle.kit_execution.specs.Outcomes.{SameOutcome}
 
 -- a path of names, as programs have it: the numbers of the names, the innermost first
 abbrev pub program_path : (List ℕ → ℕ) → List Identifier → List ℕ

@@ -15,7 +15,7 @@ use Rattle.kit_execution.specs.Moving.{HasExecuted, Moves}
 use Rattle.kit_flat.specs.Machine as machine
 use Rattle.kit_places.specs.Numbers.{block_with}
 use Rattle.kit_places.specs.Store.{InterpretedContext, body_of, module_code}
-use Rattle.kit_program_runs.specs.Outcomes.{SameOutcome}
+use Rattle.kit_execution.specs.Outcomes.{SameOutcome}
 
 -- ---- operations
 

@@ -39,7 +39,7 @@ use Rattle.kit_places.specs.Store.{KitData, InterpretedContext, width_of, width_
 use Rattle.kit_places.specs.Store.{conditional_form, call_form, form_of, form_at, op_if, op_at, function_named}
 use Rattle.kit_views.specs.FlatView.{IsOf, IsOp}
 use Rattle.kit_views.specs.Reading.{kit_reading, number_in, named_in, integer_of}
-use Rattle.kit_program_runs.proofs.Lockstep.{FlatOp, SeenOp, Names, seen_edge, seen}
+use Rattle.kit_execution.proofs.Lockstep.{FlatOp, SeenOp, Names, seen_edge, seen}
 
 -- ---- lists
 

@@ -6,7 +6,7 @@ use Rattle.kit_behaviour.specs.Machine.{Frame, State, Going, Ended, Trapped, Fun
 use Rattle.kit_behaviour.specs.Machine.{Shown, Alike}
 use Rattle.kit_behaviour.proofs.Behaviour.RunLemmas.{run-add, ended_stays, trapped_stays, run_out, prefix_trans}
 use Rattle.kit_flat.specs.Machine as machine
-use Rattle.kit_program_runs.specs.Outcomes.{SameOutcome}
+use Rattle.kit_execution.specs.Outcomes.{SameOutcome}
 
 -- both go on, or have ended with the same values, or have trapped; what was emitted is the same
 abbrev pub BothSame : {V W : Type 0} → State V → State W → Type 0

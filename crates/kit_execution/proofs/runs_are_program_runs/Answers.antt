@@ -1,5 +1,5 @@
-use Rattle.kit_program_runs.proofs.Programs.{program_runs}
-use Rattle.kit_program_runs.proofs.runs_are_program_runs.Goals as goal
+use Rattle.kit_execution.proofs.Programs.{program_runs}
+use Rattle.kit_execution.proofs.runs_are_program_runs.Goals as goal
 
 pub returns : goal.returns
 returns c = λ s root t numbered p given path place is xs n.

@@ -36,13 +36,13 @@ use Rattle.kit_ruled_views.specs.Ruled.{type_or_first}
 use Rattle.kit_ruled_views.proofs.HandleSameness.{values_apart}
 use Rattle.kit_views.specs.Reading.{kit_reading}
 use Rattle.kit_views.specs.Typed.{IsTyped}
-use Rattle.kit_program_runs.specs.Laws.{IsProgramIn, ExistTogether, program_path}
-use Rattle.kit_program_runs.specs.Outcomes.{SameOutcome}
-use Rattle.kit_program_runs.proofs.FlatBlocks.{function_seen}
-use Rattle.kit_program_runs.proofs.Lockstep.{IsSeenAs, runs_alike}
-use Rattle.kit_program_runs.proofs.Outcomes.{outcomes_same, outcome_on}
-use Rattle.kit_program_runs.proofs.Paths.{function_numbered, numbered_is, text_back, Agree, functions_agree, IsLed}
-use Rattle.kit_program_runs.proofs.Paths.{PathsAgree, paths_agree}
+use Rattle.kit_execution.specs.Laws.{IsProgramIn, ExistTogether, program_path}
+use Rattle.kit_execution.specs.Outcomes.{SameOutcome}
+use Rattle.kit_execution.proofs.FlatBlocks.{function_seen}
+use Rattle.kit_execution.proofs.Lockstep.{IsSeenAs, runs_alike}
+use Rattle.kit_execution.proofs.Outcomes.{outcomes_same, outcome_on}
+use Rattle.kit_execution.proofs.TreePaths.{function_numbered, numbered_is, text_back, Agree, functions_agree, IsLed}
+use Rattle.kit_execution.proofs.TreePaths.{PathsAgree, paths_agree}
 
 mapped_twice : {X Y Z : Type 0} (f : Y → Z) (g : X → Y) (xs : List X) → map f (map g xs) ≡ map (λ x. f (g x)) xs
 mapped_twice f g [] = refl

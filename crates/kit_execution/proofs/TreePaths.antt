@@ -35,7 +35,7 @@ use Rattle.kit_places.specs.Store.{KitData, KitNotes, InterpretedProgram, attrib
 use Rattle.kit_places.specs.Store.{module_named}
 use Rattle.kit_places.specs.declared.places.Place.{Place}
 use Rattle.kit_module_programs.specs.Paths as tree
-use Rattle.kit_program_runs.specs.Numberings.{NumbersTextsApart}
+use Rattle.kit_execution.specs.Numberings.{NumbersTextsApart}
 
 -- ---- names
 

@@ -25,8 +25,8 @@ use Rattle.kit_places.specs.Store.{KitData, KitNotes, InterpretedContext, body_o
 use Rattle.kit_places.specs.Store.{function_named}
 use Rattle.kit_views.specs.FlatView.{AreOps, AreFlatBlocks, FlattensTo, names_in}
 use Rattle.kit_views.specs.Reading.{Reading, kit_contents, kit_reading}
-use Rattle.kit_program_runs.proofs.FlatOperations.{op_seen}
-use Rattle.kit_program_runs.proofs.Lockstep.{FlatOp, SeenOp, Names, seen, IsSeenAs}
+use Rattle.kit_execution.proofs.FlatOperations.{op_seen}
+use Rattle.kit_execution.proofs.Lockstep.{FlatOp, SeenOp, Names, seen, IsSeenAs}
 
 defined_values : (ts : List TypedValue) → names_of (map defined_by ts) ≡ values_of ts
 defined_values [] = refl

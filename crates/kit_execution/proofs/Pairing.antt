@@ -1,6 +1,6 @@
 -- A numbering of texts, by pairs of numbers.
 use Rattle.std.proofs.Common.{◌≡◌, ℕ, zero, suc, ◌+◌, ◌≤◌, List, [], ◌∷◌, refl, ap, arith}
-use Rattle.kit_program_runs.specs.Numberings.{NumbersTextsApart}
+use Rattle.kit_execution.specs.Numberings.{NumbersTextsApart}
 
 -- the number of a pair
 abbrev pair : ℕ → ℕ → ℕ

@@ -1,7 +1,0 @@
-pub mod Pairing
-pub mod Lockstep
-pub mod FlatOperations
-pub mod FlatBlocks
-pub mod Paths
-pub mod Outcomes
-pub mod Programs

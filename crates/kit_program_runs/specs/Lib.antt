@@ -1,3 +1,0 @@
-pub mod Numberings
-pub mod Outcomes
-pub mod Laws
