@@ -23,7 +23,7 @@ use Rattle.kit_ruled_passes.specs.Entering.{IsEnteredNowhere}
 use Rattle.kit_ruled_passes.specs.Scopes.{KitProgram}
 use Rattle.kit_ruled_views.specs.Functions.{KitContext, IsSelfContained}
 use Rattle.kit_ruled_views.specs.Ruled.{KitTree}
-use Rattle.kit_writable_passes.specs.Laws.{DceStaysWritable, SccpStaysWritable, SimplifyStaysWritable}
+use Rattle.kit_written_trees.specs.PassLaws.{DceStaysWritable, SccpStaysWritable, SimplifyStaysWritable}
 use Rattle.kit_writable_trees.specs.Writable.{IsWritableRoot}
 use Rattle.kit_optimiser.specs.Passed.{Leaves, IsPassed}
 

@@ -25,7 +25,7 @@ use kit_pass_rules::{
 };
 use kit_passed_trees::{know_propagated, removed_stand_alone, simplified_stand_alone};
 use kit_ruled_passes::{know_determined, know_premises};
-use kit_writable_passes::{dce_stays_writable, sccp_stays_writable, simplify_stays_writable};
+use kit_written_trees::{dce_stays_writable, sccp_stays_writable, simplify_stays_writable};
 use opt_inside::know_occurrences;
 use std::alloc::Global;
 

@@ -4,3 +4,11 @@ pub mod Standing
 pub mod Numbered
 pub mod Scoping
 pub mod Texts
+pub mod HeadLemmas
+pub mod ListLemmas
+pub mod DceLemmas
+pub mod RenameLemmas
+pub mod SimplifyLemmas
+pub mod ConstantLemmas
+pub mod DepthLemmas
+pub mod SccpLemmas

@@ -7,7 +7,7 @@ use Rattle.ir_trees.specs.Renames.{Maps, rename_defined, rename_head, rename_lab
 use Rattle.ir_trees.specs.Trees.{Defined, Head, Label, Sort, Blocks, Regions, Tree, end, operation, block, region, Root}
 use Rattle.kit_ops.specs.declared.types.KitType.{KitType}
 use Rattle.kit_views.specs.Reading.{kit_contents}
-use Rattle.kit_writable_passes.proofs.HeadLemmas.{head_like}
+use Rattle.kit_written_trees.proofs.HeadLemmas.{head_like}
 use Rattle.kit_writable_trees.specs.Writable.{types_in, count_of, label_text, labels_in, AreWritten, IsWritableHead, IsWritableLabel, IsWritable, IsWritableRoot}
 use Rattle.opt_trees.proofs.Lists.{length-map}
 

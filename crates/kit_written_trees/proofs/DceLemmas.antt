@@ -12,9 +12,9 @@ use Rattle.kit_ops.specs.declared.types.KitType.{KitType}
 use Rattle.kit_pass_rules.proofs.DceVisible.{if_not}
 use Rattle.kit_views.proofs.Dropped.{drop_none}
 use Rattle.kit_views.specs.Reading.{kit_contents}
-use Rattle.kit_writable_passes.specs.Laws.{DceStaysWritable}
-use Rattle.kit_writable_passes.proofs.HeadLemmas.{dropped_same, no_branches, head_like}
-use Rattle.kit_writable_passes.proofs.ListLemmas.{types_left, written_left}
+use Rattle.kit_written_trees.specs.PassLaws.{DceStaysWritable}
+use Rattle.kit_written_trees.proofs.HeadLemmas.{dropped_same, no_branches, head_like}
+use Rattle.kit_written_trees.proofs.ListLemmas.{types_left, written_left}
 use Rattle.kit_writable_trees.specs.Writable.{types_in, count_of, label_text, labels_in, AreWritten, IsWritableHead, IsWritableLabel, IsWritable, IsWritableRoot}
 use Rattle.opt_trees.specs.Dce.{Whole, Gone, gone_at, thin_head, thin_label, thin}
 use Rattle.opt_trees.specs.Occurrences.{at_root}

@@ -15,10 +15,10 @@ use Rattle.kit_ops.specs.declared.types.KitType.{KitType}
 use Rattle.kit_pass_rules.specs.Names.{maps_of}
 use Rattle.kit_pass_rules.specs.Worlds.{PassedTree}
 use Rattle.kit_views.specs.Reading.{kit_contents}
-use Rattle.kit_writable_passes.specs.Laws.{SimplifyStaysWritable}
-use Rattle.kit_writable_passes.proofs.HeadLemmas.{head_no_branch, no_branches, head_like}
-use Rattle.kit_writable_passes.proofs.ListLemmas.{distinct_right, distinct_fewer}
-use Rattle.kit_writable_passes.proofs.RenameLemmas.{root_renamed}
+use Rattle.kit_written_trees.specs.PassLaws.{SimplifyStaysWritable}
+use Rattle.kit_written_trees.proofs.HeadLemmas.{head_no_branch, no_branches, head_like}
+use Rattle.kit_written_trees.proofs.ListLemmas.{distinct_right, distinct_fewer}
+use Rattle.kit_written_trees.proofs.RenameLemmas.{root_renamed}
 use Rattle.kit_writable_trees.specs.Writable.{count_of, label_text, labels_in, IsWritableHead, IsWritable, IsWritableRoot}
 use Rattle.opt_trees.specs.Dce.{TreeSurroundings}
 use Rattle.opt_trees.specs.Occurrences.{Has, at_root}

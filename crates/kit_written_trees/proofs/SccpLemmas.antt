@@ -26,11 +26,11 @@ use Rattle.kit_pass_rules.proofs.SccpLaw.{fits}
 use Rattle.kit_pass_rules.proofs.Walk.{OccurrenceOf, BlockOf, child_of}
 use Rattle.kit_texts.specs.Says.{says, form_at}
 use Rattle.kit_views.specs.Reading.{kit_contents}
-use Rattle.kit_writable_passes.specs.Laws.{leads_by, SccpStaysWritable}
-use Rattle.kit_writable_passes.proofs.ConstantLemmas.{IsNumber, key_of, constant_writable}
-use Rattle.kit_writable_passes.proofs.DepthLemmas.{IsAbove, first_above, results_above}
-use Rattle.kit_writable_passes.proofs.HeadLemmas.{head_like}
-use Rattle.kit_writable_passes.proofs.RenameLemmas.{types_renamed, root_renamed}
+use Rattle.kit_written_trees.specs.PassLaws.{leads_by, SccpStaysWritable}
+use Rattle.kit_written_trees.proofs.ConstantLemmas.{IsNumber, key_of, constant_writable}
+use Rattle.kit_written_trees.proofs.DepthLemmas.{IsAbove, first_above, results_above}
+use Rattle.kit_written_trees.proofs.HeadLemmas.{head_like}
+use Rattle.kit_written_trees.proofs.RenameLemmas.{types_renamed, root_renamed}
 use Rattle.kit_writable_trees.specs.Writable.{types_in, count_of, label_text, labels_in, AreWritten, IsWritableHead, IsWritableLabel, IsWritable, IsWritableRoot}
 use Rattle.opt_trees.specs.Occurrences.{Has, occurrences_of, block_occurrences_of}
 use Rattle.opt_trees.specs.Sccp.{Old, fresh, used_as, put_one, put_results, put_arguments, old_head, old_label, put, put_root}
