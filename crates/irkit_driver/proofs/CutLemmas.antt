@@ -14,7 +14,7 @@ use Rattle.ir_types.specs.Interned.{key_at}
 use Rattle.ir_rereading.proofs.OneTree.{one_tree_said}
 use Rattle.kit.specs.Leads.{leads}
 use Rattle.kit_language.specs.Language.{kit_language}
-use Rattle.kit_module_programs.specs.TreePasses.{IsTreeAfter}
+use Rattle.kit_ruled_views.specs.TreePasses.{IsTreeAfter}
 use Rattle.kit_ops.specs.declared.attributes.KitAttr.{KitAttr}
 use Rattle.kit_ops.specs.declared.kinds.KitOp.{KitOp}
 use Rattle.kit_ops.specs.declared.types.KitType.{KitType}

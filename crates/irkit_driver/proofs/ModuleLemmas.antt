@@ -19,13 +19,13 @@ use Rattle.kit_behaviour.proofs.Lattice.FactLemmas.{best_unique}
 use Rattle.kit_behaviour.proofs.PassListLemmas.{after_alike, after_faces, after_goal, after_rules}
 use Rattle.kit_behaviour.proofs.Propagation.BestFactsExist.{best_exists}
 use Rattle.kit_behaviour.proofs.Propagation.FactsByPlace.{facts_stay}
-use Rattle.kit_module_programs.specs.Operations.{operations_below}
-use Rattle.kit_module_programs.proofs.FitPrograms.{fit_program}
-use Rattle.kit_module_programs.proofs.FunctionSizes.{one_pass, program_within}
-use Rattle.kit_module_programs.proofs.ListsOnTrees.{is_after, list_on}
-use Rattle.kit_module_programs.proofs.ProgramsOfTrees.{program_exists}
-use Rattle.kit_module_programs.proofs.RuledSound.{ruled_sound}
-use Rattle.kit_module_programs.proofs.SoundFlat.{sound_flat}
+use Rattle.kit_ruled_views.specs.Operations.{operations_below}
+use Rattle.kit_ruled_views.proofs.FitPrograms.{fit_program}
+use Rattle.kit_ruled_views.proofs.FunctionSizes.{one_pass, program_within}
+use Rattle.kit_ruled_views.proofs.ListsOnTrees.{is_after, list_on}
+use Rattle.kit_ruled_views.proofs.ProgramsOfTrees.{program_exists}
+use Rattle.kit_ruled_views.proofs.RuledSound.{ruled_sound}
+use Rattle.kit_ruled_views.proofs.SoundFlat.{sound_flat}
 use Rattle.kit_optimised_programs.specs.Functions.{function_content}
 use Rattle.kit_optimised_programs.proofs.HandlesTold.{handles_told}
 use Rattle.kit_optimised_programs.proofs.HeadsKept.{list_keeps}

@@ -9,8 +9,8 @@ use Rattle.kit_behaviour.specs.Laws.{AlikeWithin}
 use Rattle.kit_behaviour.specs.Machine.{FunctionsByPath}
 use Rattle.kit_behaviour.specs.PassLists.{Goal, IsAfter, SameFaces}
 use Rattle.kit_behaviour.specs.Places.{Place}
-use Rattle.kit_module_programs.specs.Operations.{operations_below}
-use Rattle.kit_module_programs.proofs.FunctionSizes.{one_pass}
+use Rattle.kit_ruled_views.specs.Operations.{operations_below}
+use Rattle.kit_ruled_views.proofs.FunctionSizes.{one_pass}
 use Rattle.kit_optimised_programs.specs.Programs.{PassedPrograms}
 use Rattle.kit_optimiser.specs.Passed.{pass_of}
 use Rattle.kit_optimiser.specs.declared.pass.KitPass.{KitPass}

@@ -11,9 +11,9 @@ use Rattle.kit_behaviour.specs.Places.{Place}
 use Rattle.kit_checks.specs.Faults.{KeptEverywhere}
 use Rattle.kit_checks.specs.World.{world_of}
 use Rattle.kit_checks.specs.declared.rule.Rule.{Rule}
-use Rattle.kit_module_programs.specs.Operations.{operations_below}
-use Rattle.kit_module_programs.specs.Programs.{IsProgramOf}
-use Rattle.kit_module_programs.specs.TreePasses.{IsTreeAfter}
+use Rattle.kit_ruled_views.specs.Operations.{operations_below}
+use Rattle.kit_ruled_views.specs.Programs.{IsProgramOf}
+use Rattle.kit_ruled_views.specs.TreePasses.{IsTreeAfter}
 use Rattle.kit_optimiser.specs.Passed.{pass_of}
 use Rattle.kit_optimiser.specs.declared.pass.KitPass.{KitPass}
 use Rattle.kit_execution.specs.Numberings.{NumbersTextsApart}

@@ -26,12 +26,12 @@ use Rattle.kit_interpreter.specs.Lowering.{CanRun}
 use Rattle.kit_places.specs.Placed.{place_of}
 use Rattle.kit_places.specs.Store.{InterpretedContext, module_code, function_named}
 use Rattle.kit_places.specs.declared.places.Place as context
-use Rattle.kit_module_programs.specs.Paths as tree
-use Rattle.kit_module_programs.specs.Programs.{HasFunctionView}
-use Rattle.kit_module_programs.specs.Sound.{IsSound}
-use Rattle.kit_module_programs.proofs.FlatDefined.{flat_defined}
-use Rattle.kit_module_programs.proofs.Located.{located}
-use Rattle.kit_module_programs.proofs.RuledSound.{ruled_sound}
+use Rattle.kit_ruled_views.specs.Paths as tree
+use Rattle.kit_ruled_views.specs.Programs.{HasFunctionView}
+use Rattle.kit_ruled_views.specs.Sound.{IsSound}
+use Rattle.kit_ruled_views.proofs.FlatDefined.{flat_defined}
+use Rattle.kit_ruled_views.proofs.Located.{located}
+use Rattle.kit_ruled_views.proofs.RuledSound.{ruled_sound}
 use Rattle.kit_ruled_views.specs.Ruled.{type_or_first}
 use Rattle.kit_ruled_views.proofs.HandleSameness.{values_apart}
 use Rattle.kit_views.specs.Reading.{kit_reading}

@@ -34,7 +34,7 @@ use Rattle.kit_places.specs.Store as store
 use Rattle.kit_places.specs.Store.{KitData, KitNotes, InterpretedProgram, attribute_of, members, function_named}
 use Rattle.kit_places.specs.Store.{module_named}
 use Rattle.kit_places.specs.declared.places.Place.{Place}
-use Rattle.kit_module_programs.specs.Paths as tree
+use Rattle.kit_ruled_views.specs.Paths as tree
 use Rattle.kit_execution.specs.Numberings.{NumbersTextsApart}
 
 -- ---- names

@@ -16,7 +16,7 @@ use Rattle.kit_flat.specs.Machine as context
 use Rattle.kit_places.specs.Placed.{place_of}
 use Rattle.kit_places.specs.Store.{InterpretedContext, module_code}
 use Rattle.kit_places.specs.declared.places.Place.{Place}
-use Rattle.kit_module_programs.specs.Programs.{IsProgramOf}
+use Rattle.kit_ruled_views.specs.Programs.{IsProgramOf}
 use Rattle.kit_ruled_views.specs.Ruled.{HasOwnNames, HaveTypesIn}
 use Rattle.kit_execution.specs.Numberings.{NumbersTextsApart}
 use Rattle.kit_execution.specs.Outcomes.{SameOutcome}

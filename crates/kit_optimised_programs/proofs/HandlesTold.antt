@@ -8,7 +8,7 @@ use Rattle.ir_program.specs.declared.handles.Value.{Value}
 use Rattle.ir_program.specs.Replacing.{same_value, same_block}
 use Rattle.ir_trees.specs.ListRewrites.{same_operation}
 use Rattle.ir_trees.specs.Stands.{by_handle}
-use Rattle.kit_module_programs.specs.Laws.{AreTold}
+use Rattle.kit_ruled_views.specs.ProgramLaws.{AreTold}
 use Rattle.kit_ruled_views.proofs.HandleSameness.{values_apart, blocks_apart}
 use Rattle.kit_views.specs.FlatView.{IsSameness}
 

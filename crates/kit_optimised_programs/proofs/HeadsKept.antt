@@ -21,16 +21,16 @@ use Rattle.kit.specs.Meaning.{KitOperation, kit}
 use Rattle.kit_behaviour.specs.PassLists.{Pass, SccpPass, LeanSccpPass, DcePass, SimplifyPass}
 use Rattle.kit_views.specs.Reading.{kit_contents}
 use Rattle.kit_views.proofs.Read.{kit_reads}
-use Rattle.kit_module_programs.specs.Paths.{locate}
-use Rattle.kit_module_programs.specs.Sound.{IsSound}
-use Rattle.kit_module_programs.specs.TreePasses.{maps_of, IsSccpNamed, IsDceAlone, IsSimplifiedAlone}
-use Rattle.kit_module_programs.specs.TreePasses.{IsTreePass, IsSoundTree, IsTreeAfter}
-use Rattle.kit_module_programs.proofs.DeadInside.{holder_effects}
-use Rattle.kit_module_programs.proofs.FlatShallow.{sound_local}
-use Rattle.kit_module_programs.proofs.Lifted.{one_operation}
-use Rattle.kit_module_programs.proofs.Located.{Located, located, heads_aside, thin_root, HoldersStay, locate_thinned}
-use Rattle.kit_module_programs.proofs.PutLocated.{old_root, locate_put, locate_renamed}
-use Rattle.kit_module_programs.proofs.SimplifyLocated.{cut_tree, Follow, is_func, arrives, whole}
+use Rattle.kit_ruled_views.specs.Paths.{locate}
+use Rattle.kit_ruled_views.specs.Sound.{IsSound}
+use Rattle.kit_ruled_views.specs.TreePasses.{maps_of, IsSccpNamed, IsDceAlone, IsSimplifiedAlone}
+use Rattle.kit_ruled_views.specs.TreePasses.{IsTreePass, IsSoundTree, IsTreeAfter}
+use Rattle.kit_ruled_views.proofs.DeadInside.{holder_effects}
+use Rattle.kit_ruled_views.proofs.FlatShallow.{sound_local}
+use Rattle.kit_ruled_views.proofs.Lifted.{one_operation}
+use Rattle.kit_ruled_views.proofs.Located.{Located, located, heads_aside, thin_root, HoldersStay, locate_thinned}
+use Rattle.kit_ruled_views.proofs.PutLocated.{old_root, locate_put, locate_renamed}
+use Rattle.kit_ruled_views.proofs.SimplifyLocated.{cut_tree, Follow, is_func, arrives, whole}
 use Rattle.kit_optimised_programs.specs.Functions.{function_content}
 
 func_cond : ops.Func ≡ ops.CondBr → ⊥

@@ -3,7 +3,7 @@ use Rattle.std.specs.Prelude.{ℕ, List, Option, option_map}
 use Rattle.ir_trees.specs.Names.{Names}
 use Rattle.ir_trees.specs.Trees.{Root}
 use Rattle.kit.specs.Meaning.{KitOperation}
-use Rattle.kit_module_programs.specs.Paths.{locate}
+use Rattle.kit_ruled_views.specs.Paths.{locate}
 use Rattle.kit_views.specs.Reading.{kit_contents}
 
 -- what the function that a path leads to carries: its kind and its attributes, the name and the type among them

@@ -8,7 +8,7 @@ use Rattle.kit_behaviour.specs.Laws.{AlikeWithin}
 use Rattle.kit_behaviour.specs.Machine.{FunctionsByPath}
 use Rattle.kit_behaviour.specs.PassLists.{Pass, IsAfter, Goal, SameFaces}
 use Rattle.kit_behaviour.specs.Places.{Place}
-use Rattle.kit_module_programs.specs.Operations.{operations_below}
+use Rattle.kit_ruled_views.specs.Operations.{operations_below}
 use Rattle.kit_execution.specs.Laws.{IsProgramIn}
 use Rattle.kit_ruled_views.specs.Functions.{KitContext}
 use Rattle.kit_ruled_views.specs.Ruled.{KitTree, HasOwnNames, HaveTypesIn}

@@ -13,7 +13,7 @@ use Rattle.kit.specs.Meaning.{kit}
 use Rattle.kit_behaviour.specs.PassLists.{SccpPass, DcePass, SimplifyPass}
 use Rattle.kit_pass_rules.specs.ChainLaws.{DefinersApart, SimplifiedKeepsRules}
 use Rattle.kit_held_modules.specs.Held.{HoldsModule}
-use Rattle.kit_module_programs.specs.TreePasses.{IsTreePass, IsSccpNamed, IsDceAlone, IsSimplifiedAlone}
+use Rattle.kit_ruled_views.specs.TreePasses.{IsTreePass, IsSccpNamed, IsDceAlone, IsSimplifiedAlone}
 use Rattle.kit_ops.specs.declared.types.KitType.{KitType}
 use Rattle.kit_pass_rules.specs.Laws as laws
 use Rattle.kit_pass_rules.specs.Laws.{IsGood, MakesUpToNames, DceKeepsRules, SccpKeepsRules}

@@ -7,7 +7,7 @@ use Rattle.ir_types.specs.Interned.{key_at}
 use Rattle.kit.specs.Meaning.{kit}
 use Rattle.kit_behaviour.specs.PassLists.{Pass, SccpPass, LeanSccpPass, DcePass, SimplifyPass}
 use Rattle.kit_held_modules.specs.Held.{HoldsModule}
-use Rattle.kit_module_programs.specs.TreePasses.{IsTreePass, IsTreeAfter, IsSoundTree}
+use Rattle.kit_ruled_views.specs.TreePasses.{IsTreePass, IsTreeAfter, IsSoundTree}
 use Rattle.kit_optimiser.specs.declared.pass.KitPass.{KitPass}
 use Rattle.kit_optimiser.specs.declared.pass.KitPass.TheVariants as passes
 use Rattle.kit_ruled_views.specs.Functions.{KitContext}

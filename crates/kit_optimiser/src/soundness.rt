@@ -6,8 +6,8 @@ use ir_context::Context;
 use ir_program::{IRNode, Operation, Ptr};
 use ir_trees::know_handles;
 use kit::Kit;
-use kit_module_programs::rules_make_sound;
 use kit_pass_rules::know_handles_and_types;
+use kit_ruled_views::rules_make_sound;
 
 /// Tells of a module that a context holds that its tree is sound: so the optimisations on it are those on its program.
 /// It does nothing.

@@ -1,7 +1,7 @@
 -- What passes leave of a tree is made of the tree alone.
 use Rattle.std.proofs.Common.{◌∙◌, refl, sym, ap}
 use Rattle.ir_trees.specs.Renames.{rename_root}
-use Rattle.kit_module_programs.specs.TreePasses.{maps_of}
+use Rattle.kit_ruled_views.specs.TreePasses.{maps_of}
 use Rattle.kit_passed_trees.specs.Laws.{RemovedStandAlone, SimplifiedStandAlone}
 
 pub removed : RemovedStandAlone

@@ -18,7 +18,7 @@ use Rattle.opt_sccp.specs.Sccp.{Propagates}
 use Rattle.opt_dialect.specs.declared.status.IRStatus.{IRStatus}
 use Rattle.kit.specs.Meaning.{KitOperation, KitBlock, kit}
 use Rattle.kit_ops.specs.declared.attributes.IntegerAttr.{IntegerAttr}
-use Rattle.kit_module_programs.specs.TreePasses.{IsSccpNamed}
+use Rattle.kit_ruled_views.specs.TreePasses.{IsSccpNamed}
 use Rattle.kit_ruled_passes.specs.Scopes.{KitProgram}
 use Rattle.kit_ruled_views.specs.Ruled.{KitTree}
 use Rattle.kit_passed_trees.proofs.LiveValues.{KnowsValues, IsOfNoneGone, IsHere, has_left, has_right, has_parts, all_live, all_here}

@@ -13,7 +13,7 @@ use Rattle.kit.specs.Meaning.{kit}
 use Rattle.kit_ops.specs.declared.attributes.IntegerAttr.{IntegerAttr}
 use Rattle.kit_views.specs.FlatBranches.{KnowsConstants}
 use Rattle.kit_ruled_views.specs.Ruled.{KitTree}
-use Rattle.kit_module_programs.specs.TreePasses.{IsDceAlone, IsSimplifiedAlone}
+use Rattle.kit_ruled_views.specs.TreePasses.{IsDceAlone, IsSimplifiedAlone}
 use Rattle.kit_ruled_passes.specs.Scopes.{KitProgram}
 
 -- where the operation stood for a tree, it stands for one now of which this holds

@@ -4,7 +4,7 @@ ghost use Rattle.ir_program.specs.Program.{operation_at};
 ghost use Rattle.opt_dialect.specs.declared.status.IRStatus.{IRStatus};
 ghost use Rattle.opt_sccp.specs.Sccp.{IsPropagated};
 ghost use Rattle.kit.specs.Meaning.{kit};
-ghost use Rattle.kit_module_programs.specs.TreePasses.{IsSccpNamed};
+ghost use Rattle.kit_ruled_views.specs.TreePasses.{IsSccpNamed};
 ghost use Rattle.kit_ruled_passes.specs.Scopes.{KitProgram};
 ghost use Rattle.kit_passed_trees.specs.Laws.{LeavesTree};
 

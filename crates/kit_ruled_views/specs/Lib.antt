@@ -1,3 +1,10 @@
 pub mod Ruled
 pub mod Laws
 pub mod Functions
+pub mod Paths
+pub mod Programs
+pub mod Sound
+pub mod TreePasses
+pub mod ProgramLaws
+pub mod Operations
+pub mod FitLaws

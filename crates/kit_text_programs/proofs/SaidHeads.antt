@@ -31,7 +31,7 @@ use Rattle.kit_texts.specs.Says.{said_of_module, said_of_function, said_of_const
 use Rattle.kit_texts.specs.Readable.{constant_says, numbered_kind}
 use Rattle.kit_texts.specs.Seen.{seen, none_seen, first_seen, one_seen, two_seen}
 use Rattle.kit_views.specs.Reading.{number_in, integer_of}
-use Rattle.kit_module_programs.specs.Paths.{is_name}
+use Rattle.kit_ruled_views.specs.Paths.{is_name}
 use Rattle.kit_text_programs.proofs.SaidPrograms.{width_said, bits_said, name_said, passes, is_called}
 
 -- ---- what is said, in parts

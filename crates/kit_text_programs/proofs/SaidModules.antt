@@ -27,8 +27,8 @@ use Rattle.kit_behaviour.specs.Places.{Place}
 use Rattle.kit_behaviour.proofs.ControlFlow.NamedPlacing.{placed_on}
 use Rattle.kit_views.specs.FlatView.{AreFlatBlocks, names_in}
 use Rattle.kit_views.specs.Reading.{kit_reading}
-use Rattle.kit_module_programs.specs.Paths.{is_function_named, is_module_named, first_with, members_in, locate}
-use Rattle.kit_module_programs.specs.Programs.{HasFunctionView, IsProgramOf}
+use Rattle.kit_ruled_views.specs.Paths.{is_function_named, is_module_named, first_with, members_in, locate}
+use Rattle.kit_ruled_views.specs.Programs.{HasFunctionView, IsProgramOf}
 use Rattle.kit_writable_trees.specs.Laws.{WritableContext, WritableTree}
 use Rattle.kit_text_programs.specs.Laws.{HaveOwnNumbers}
 use Rattle.kit_text_programs.proofs.SaidPrograms.{fun_said, first_inside, members_said, regions_below, first_said}

@@ -14,7 +14,7 @@ use Rattle.ir_trees.specs.Stands.{by_handle, StandsFor}
 use Rattle.kit.specs.Meaning.{kit}
 use Rattle.kit_behaviour.specs.PassLists.{Pass}
 use Rattle.kit_language.specs.Language.{kit_language}
-use Rattle.kit_module_programs.specs.TreePasses.{IsTreeAfter}
+use Rattle.kit_ruled_views.specs.TreePasses.{IsTreeAfter}
 use Rattle.kit_ops.specs.declared.types.KitType.{KitType}
 use Rattle.kit_ruled_views.specs.Ruled.{HasOwnNames}
 use Rattle.kit_text_programs.specs.Laws.{HaveOwnNumbers}

@@ -17,7 +17,7 @@ use Rattle.kit_ops.specs.declared.types.KitType.{KitType}
 use Rattle.kit_views.specs.FlatBranches.{KnowsConstants}
 use Rattle.kit_views.specs.Reading.{kit_contents}
 use Rattle.kit_views.proofs.Lists.{has_get}
-use Rattle.kit_module_programs.specs.Sound.{IsSound}
+use Rattle.kit_ruled_views.specs.Sound.{IsSound}
 use Rattle.kit_text_programs.specs.Meanings.{sayings, Number, number_meant, attribute_meant, meanings, integers}
 use Rattle.kit_text_programs.specs.Meanings.{kit_said}
 use Rattle.kit_text_programs.proofs.Passes.Beside.{Beside, from_one, from_other, one_kind, results_are, attributes_are}

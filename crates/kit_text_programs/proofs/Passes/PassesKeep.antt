@@ -10,8 +10,8 @@ use Rattle.ir_trees.specs.Trees.{Root}
 use Rattle.ir_trees.proofs.Same.{same_back, same_on}
 use Rattle.kit.specs.Meaning.{kit}
 use Rattle.kit_behaviour.specs.PassLists.{Pass, SccpPass, LeanSccpPass, DcePass, SimplifyPass}
-use Rattle.kit_module_programs.specs.TreePasses.{IsDceAlone, IsSccpNamed, IsSimplifiedAlone, IsSoundTree, IsTreeAfter}
-use Rattle.kit_module_programs.specs.TreePasses.{IsTreePass, maps_of}
+use Rattle.kit_ruled_views.specs.TreePasses.{IsDceAlone, IsSccpNamed, IsSimplifiedAlone, IsSoundTree, IsTreeAfter}
+use Rattle.kit_ruled_views.specs.TreePasses.{IsTreePass, maps_of}
 use Rattle.kit_ops.specs.declared.attributes.IntegerAttr.{IntegerAttr}
 use Rattle.kit_ops.specs.declared.types.KitType.{KitType}
 use Rattle.kit_views.specs.Reading.{kit_contents}

@@ -1,5 +1,0 @@
-use Rattle.kit_module_programs.proofs.ProgramsOfTrees as programs
-use Rattle.kit_module_programs.proofs.one_program.Goals as goal
-
-pub returns : goal.returns
-returns g c = λ same leads numbered t p q a b. programs.one_program same leads numbered t p q a b

@@ -1,5 +1,0 @@
-use Rattle.kit_module_programs.proofs.ProgramsOfTrees.{program_exists}
-use Rattle.kit_module_programs.proofs.programs_exist.Goals as goal
-
-pub returns : goal.returns
-returns g c = λ same leads numbered t h. program_exists same leads numbered t h

@@ -1,6 +1,0 @@
-use Rattle.kit_module_programs.proofs.FitPrograms.{fit_program}
-use Rattle.kit_module_programs.proofs.rules_make_fit.Goals as goal
-
-pub returns : goal.returns
-returns c = λ leads typed numbered same t p law keeps own have is.
-    fit_program leads typed numbered same t p law keeps is own have

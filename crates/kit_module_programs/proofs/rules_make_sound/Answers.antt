@@ -1,5 +1,0 @@
-use Rattle.kit_module_programs.proofs.RuledSound.{ruled_sound}
-use Rattle.kit_module_programs.proofs.rules_make_sound.Goals as goal
-
-pub returns : goal.returns
-returns c = λ leads typed numbered t keeps own have. ruled_sound leads typed t keeps numbered own have

@@ -1,5 +1,0 @@
-use Rattle.kit_module_programs.proofs.SoundFlat.{sound_flat}
-use Rattle.kit_module_programs.proofs.sound_is_flat.Goals as goal
-
-pub returns : goal.returns
-returns g c = λ leads numbered type_at t sound. sound_flat leads numbered type_at t sound

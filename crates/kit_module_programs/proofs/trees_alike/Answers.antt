@@ -1,7 +1,0 @@
-use Rattle.kit_behaviour.proofs.PassListLemmas.{after_alike}
-use Rattle.kit_module_programs.proofs.ListsOnTrees.{is_after}
-use Rattle.kit_module_programs.proofs.trees_alike.Goals as goal
-
-pub returns : goal.returns
-returns g c = λ told leads numbered xs t r p q after a b fit. after_alike xs p q fit
-    (is_after told leads numbered xs t r p q after a b)
