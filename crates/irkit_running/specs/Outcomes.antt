@@ -7,7 +7,7 @@ use Rattle.ir_program.specs.declared.handles.Ptr.{Ptr}
 use Rattle.kit_flat.specs.declared.outcome.Outcome.{Outcome}
 use Rattle.kit_interpreter.specs.declared.executing.ExecFault.{ExecFault}
 use Rattle.kit_interpreter.specs.declared.executing.ExecFault.TheVariants as exec
-use Rattle.kit_held_modules.specs.Held.{HoldsModule}
+use Rattle.kit_ruled_passes.specs.Held.{HoldsModule}
 use Rattle.kit_optimiser.specs.Passed.{FillsUp, pass_of}
 use Rattle.kit_optimiser.specs.declared.pass.KitPass.{KitPass}
 use Rattle.kit_ruled_views.specs.Functions.{KitContext}

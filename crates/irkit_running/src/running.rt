@@ -2,7 +2,7 @@
 ghost use Rattle.std.specs.Prelude.{◌≡◌, false, IfOk};
 ghost use Rattle.std.specs.String.{string_bytes};
 ghost use Rattle.irkit_streams.specs.Streams.{has_failed};
-ghost use Rattle.kit_held_modules.specs.Held.{HoldsModule};
+ghost use Rattle.kit_ruled_passes.specs.Held.{HoldsModule};
 ghost use Rattle.irkit_running.specs.Known.{CanBeWritten, HasGrammar};
 ghost use Rattle.irkit_running.specs.Lists.{EndsPasses, IsWrittenAs};
 ghost use Rattle.irkit_running.specs.Outcomes.{EndsRun, GivesText};

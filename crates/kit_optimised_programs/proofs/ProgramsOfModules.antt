@@ -12,7 +12,7 @@ use Rattle.kit_behaviour.specs.Machine.{FunctionsByPath}
 use Rattle.kit_behaviour.specs.PassLists.{Pass, Fit, IsAfter}
 use Rattle.kit_behaviour.specs.Places.{Place}
 use Rattle.kit_behaviour.proofs.PassListLemmas.{after_alike, after_goal, after_faces}
-use Rattle.kit_held_modules.specs.Held.{HoldsModule}
+use Rattle.kit_ruled_passes.specs.Held.{HoldsModule}
 use Rattle.kit_ruled_views.specs.Programs.{IsProgramOf}
 use Rattle.kit_ruled_views.specs.Sound.{IsSound}
 use Rattle.kit_ruled_views.proofs.ListsOnTrees.{list_on}

@@ -8,7 +8,7 @@ use Rattle.ir_trees.specs.Stands.{StandsFor}
 use Rattle.ir_trees.specs.Trees.{Root}
 use Rattle.kit_ops.specs.declared.types.KitType.{KitType}
 use Rattle.kit_behaviour.specs.PassLists.{Pass}
-use Rattle.kit_held_modules.specs.Held.{HoldsModule}
+use Rattle.kit_ruled_passes.specs.Held.{HoldsModule}
 use Rattle.kit_ruled_views.specs.TreePasses.{IsTreeAfter}
 use Rattle.kit_optimiser.specs.Passed.{IsOptimised}
 use Rattle.kit_execution.specs.Numberings.{NumbersTextsApart}

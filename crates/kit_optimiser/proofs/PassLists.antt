@@ -11,7 +11,7 @@ use Rattle.ir_types.specs.Interned.{key_at}
 use Rattle.ir_types.specs.Views.{TypesView}
 use Rattle.kit.specs.declared.dialect.Unused.{Unused}
 use Rattle.kit_behaviour.specs.PassLists.{Pass}
-use Rattle.kit_held_modules.specs.Held.{HoldsModule}
+use Rattle.kit_ruled_passes.specs.Held.{HoldsModule}
 use Rattle.kit_ruled_views.specs.TreePasses.{IsTreePass, IsTreeAfter, IsSoundTree}
 use Rattle.kit_ops.specs.declared.types.KitType.{KitType}
 use Rattle.kit_ruled_views.specs.Functions.{KitContext}

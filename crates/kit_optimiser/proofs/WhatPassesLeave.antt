@@ -12,13 +12,13 @@ use Rattle.kit.specs.declared.dialect.Unused.{Unused}
 use Rattle.kit.specs.Meaning.{kit}
 use Rattle.kit_behaviour.specs.PassLists.{SccpPass, DcePass, SimplifyPass}
 use Rattle.kit_pass_rules.specs.ChainLaws.{DefinersApart, SimplifiedKeepsRules}
-use Rattle.kit_held_modules.specs.Held.{HoldsModule}
+use Rattle.kit_ruled_passes.specs.Held.{HoldsModule}
 use Rattle.kit_ruled_views.specs.TreePasses.{IsTreePass, IsSccpNamed, IsDceAlone, IsSimplifiedAlone}
 use Rattle.kit_ops.specs.declared.types.KitType.{KitType}
 use Rattle.kit_pass_rules.specs.Laws as laws
 use Rattle.kit_pass_rules.specs.Laws.{IsGood, MakesUpToNames, DceKeepsRules, SccpKeepsRules}
 use Rattle.kit_pass_rules.specs.Worlds.{kit_world, HandlesAreApart, IsTypedIn, ObeysIn}
-use Rattle.kit_passed_trees.specs.Laws.{LeavesTree}
+use Rattle.kit_ruled_passes.specs.Laws.{LeavesTree}
 use Rattle.kit_ruled_passes.specs.Entering.{IsEnteredNowhere}
 use Rattle.kit_ruled_passes.specs.Scopes.{KitProgram}
 use Rattle.kit_ruled_views.specs.Functions.{KitContext, IsSelfContained}

@@ -1,7 +1,7 @@
 //! Lists of optimisations of a module.
 ghost use Rattle.std.specs.Prelude.{◌≡◌, Err, OnOk, map};
 ghost use Rattle.ir_base.specs.declared.growth.GrowError.TheVariants.{CounterFull};
-ghost use Rattle.kit_held_modules.specs.Held.{HoldsModule};
+ghost use Rattle.kit_ruled_passes.specs.Held.{HoldsModule};
 ghost use Rattle.kit_optimiser.specs.Outside.{KeepsRest, StaysOutside};
 ghost use Rattle.kit_optimiser.specs.Passed.{CountsTo, FillsUp, ExtendsPasses, IsOptimised, IsPassed, RunsPasses, StopsFull, pass_of};
 ghost use Rattle.opt_inside.specs.Outside.{AddsNoneOutside};

@@ -2,7 +2,7 @@
 ghost use Rattle.std.specs.Prelude.{◌≡◌, Err, IfErr, OnErr, OnOk};
 ghost use Rattle.ir_base.specs.declared.growth.GrowError.TheVariants.{CounterFull, Memory};
 ghost use Rattle.kit_behaviour.specs.PassLists.{DcePass, SccpPass, SimplifyPass};
-ghost use Rattle.kit_held_modules.specs.Held.{HoldsModule};
+ghost use Rattle.kit_ruled_passes.specs.Held.{HoldsModule};
 ghost use Rattle.kit_optimiser.specs.Outside.{KeepsRest, StaysOutside};
 ghost use Rattle.kit_optimiser.specs.Passed.{CountsTo, IsPassed, StopsFull};
 ghost use Rattle.opt_inside.specs.Outside.{AddsNoneOutside};
@@ -17,14 +17,14 @@ use ir_program::{Operation, Ptr};
 use ir_trees::know_tree;
 use ir_types::Types;
 use kit::Kit;
-use kit_held_modules::{
-    dce_stays_apart, know_no_live_use, know_surroundings, sccp_stays_apart, simplify_stays_apart,
-};
 use kit_pass_rules::{
     dce_keeps_rules, know_definers, know_handles_and_types, sccp_keeps_rules, simplify_keeps_rules,
 };
-use kit_passed_trees::{know_propagated, removed_stand_alone, simplified_stand_alone};
-use kit_ruled_passes::{know_determined, know_premises};
+use kit_ruled_passes::{
+    dce_stays_apart, know_determined, know_no_live_use, know_premises, know_propagated,
+    know_surroundings, removed_stand_alone, sccp_stays_apart, simplified_stand_alone,
+    simplify_stays_apart,
+};
 use kit_written_trees::{dce_stays_writable, sccp_stays_writable, simplify_stays_writable};
 use opt_inside::know_occurrences;
 use std::alloc::Global;

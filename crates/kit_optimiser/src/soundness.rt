@@ -1,5 +1,5 @@
 //! Of the trees of a module, that they are sound.
-ghost use Rattle.kit_held_modules.specs.Held.{HoldsModule};
+ghost use Rattle.kit_ruled_passes.specs.Held.{HoldsModule};
 ghost use Rattle.kit_optimiser.specs.Passed.{IsSoundRoot};
 
 use ir_context::Context;

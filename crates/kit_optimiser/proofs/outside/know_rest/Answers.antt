@@ -1,10 +1,10 @@
 use Rattle.std.proofs.Common.{subst}
 use Rattle.ir_program.specs.Program.{Program}
 use Rattle.kit.specs.Meaning.{KitOperation, KitBlock}
-use Rattle.kit_held_modules.proofs.LeftApart.{IsKnownBefore}
-use Rattle.kit_held_modules.proofs.PropagatedApart.{propagated_apart}
-use Rattle.kit_held_modules.proofs.RemovedApart.{removed_apart}
-use Rattle.kit_held_modules.proofs.SimplifiedApart.{simplified_apart}
+use Rattle.kit_ruled_passes.proofs.LeftApart.{IsKnownBefore}
+use Rattle.kit_ruled_passes.proofs.PropagatedApart.{propagated_apart}
+use Rattle.kit_ruled_passes.proofs.RemovedApart.{removed_apart}
+use Rattle.kit_ruled_passes.proofs.SimplifiedApart.{simplified_apart}
 use Rattle.kit_optimiser.proofs.LeftOutside.{leaves_rest, part_rest, propagated_outside}
 use Rattle.kit_optimiser.proofs.LeftOutside.{simplified_outside, stopped_rest}
 use Rattle.kit_optimiser.proofs.outside.know_rest.Goals as goal
