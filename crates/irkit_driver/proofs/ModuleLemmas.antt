@@ -26,9 +26,9 @@ use Rattle.kit_ruled_views.proofs.ListsOnTrees.{is_after, list_on}
 use Rattle.kit_ruled_views.proofs.ProgramsOfTrees.{program_exists}
 use Rattle.kit_ruled_views.proofs.RuledSound.{ruled_sound}
 use Rattle.kit_ruled_views.proofs.SoundFlat.{sound_flat}
-use Rattle.kit_optimised_programs.specs.Functions.{function_content}
-use Rattle.kit_optimised_programs.proofs.HandlesTold.{handles_told}
-use Rattle.kit_optimised_programs.proofs.HeadsKept.{list_keeps}
+use Rattle.kit_optimiser.specs.Functions.{function_content}
+use Rattle.kit_optimiser.proofs.HandlesTold.{handles_told}
+use Rattle.kit_optimiser.proofs.HeadsKept.{list_keeps}
 use Rattle.kit_optimiser.specs.Passed.{pass_of}
 use Rattle.kit_optimiser.specs.declared.pass.KitPass.{KitPass}
 use Rattle.kit_optimiser.specs.declared.pass.KitPass.TheVariants.{Sccp}

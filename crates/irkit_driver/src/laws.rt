@@ -11,7 +11,7 @@ ghost use Rattle.kit_behaviour.specs.PassLists.{Goal, SameFaces};
 ghost use Rattle.kit_behaviour.specs.Places.{Place};
 ghost use Rattle.kit_checks.specs.declared.rule.Rule.{Rule};
 ghost use Rattle.kit_ruled_views.specs.Operations.{operations_below};
-ghost use Rattle.kit_optimised_programs.specs.Functions.{function_content};
+ghost use Rattle.kit_optimiser.specs.Functions.{function_content};
 ghost use Rattle.kit_optimiser.specs.Passed.{pass_of};
 ghost use Rattle.kit_optimiser.specs.declared.pass.KitPass.{KitPass};
 ghost use Rattle.kit_ruled_views.specs.Functions.{KitContext};

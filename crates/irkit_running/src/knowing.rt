@@ -4,7 +4,7 @@ ghost use Rattle.ir_print.specs.Pieces.{Entity};
 ghost use Rattle.ir_program.specs.Program.{operation_at};
 ghost use Rattle.ir_program.specs.declared.handles.Value.{Value};
 ghost use Rattle.kit_ruled_passes.specs.Held.{HoldsModule};
-ghost use Rattle.kit_optimised_programs.specs.Programs.{IsOrdinary};
+ghost use Rattle.kit_optimiser.specs.Programs.{IsOrdinary};
 ghost use Rattle.kit_text_programs.specs.Laws.{HaveOwnNumbers};
 ghost use Rattle.kit_texts.specs.Says.{says};
 ghost use Rattle.text_dialect.specs.Seen.{seen};

@@ -3,3 +3,7 @@ mod PassLists
 mod Refusals
 mod WhatPassesLeave
 mod LeftOutside
+pub mod HandlesTold
+pub mod HeadsKept
+mod ProgramsOfModules
+mod CutLists

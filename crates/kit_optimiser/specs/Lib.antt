@@ -1,2 +1,5 @@
 pub mod Passed
 pub mod Outside
+pub mod Functions
+pub mod Programs
+pub mod Laws

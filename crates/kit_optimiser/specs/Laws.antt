@@ -15,8 +15,8 @@ use Rattle.kit_execution.specs.Numberings.{NumbersTextsApart}
 use Rattle.kit_ruled_views.specs.Functions.{KitContext}
 use Rattle.kit_ruled_views.specs.Ruled.{KitTree}
 use Rattle.kit_views.specs.Reading.{kit_contents}
-use Rattle.kit_optimised_programs.specs.Functions.{function_content}
-use Rattle.kit_optimised_programs.specs.Programs.{IsOrdinary, PassedPrograms}
+use Rattle.kit_optimiser.specs.Functions.{function_content}
+use Rattle.kit_optimiser.specs.Programs.{IsOrdinary, PassedPrograms}
 
 -- a module that a context holds and what a list of passes left of it have programs, of which the passes and the laws on
 -- programs tell

@@ -12,7 +12,7 @@ use Rattle.kit_ruled_views.specs.Operations.{operations_below}
 use Rattle.kit_execution.specs.Laws.{IsProgramIn}
 use Rattle.kit_ruled_views.specs.Functions.{KitContext}
 use Rattle.kit_ruled_views.specs.Ruled.{KitTree, HasOwnNames, HaveTypesIn}
-use Rattle.kit_optimised_programs.specs.Functions.{function_content}
+use Rattle.kit_optimiser.specs.Functions.{function_content}
 
 -- in the operation's tree names are distinct, and values have the types that the context says: so it is in each context
 abbrev pub IsOrdinary : KitContext → Ptr Operation → Type 0

@@ -31,7 +31,7 @@ use Rattle.kit_ruled_views.proofs.Lifted.{one_operation}
 use Rattle.kit_ruled_views.proofs.Located.{Located, located, heads_aside, thin_root, HoldersStay, locate_thinned}
 use Rattle.kit_ruled_views.proofs.PutLocated.{old_root, locate_put, locate_renamed}
 use Rattle.kit_ruled_views.proofs.SimplifyLocated.{cut_tree, Follow, is_func, arrives, whole}
-use Rattle.kit_optimised_programs.specs.Functions.{function_content}
+use Rattle.kit_optimiser.specs.Functions.{function_content}
 
 func_cond : ops.Func ≡ ops.CondBr → ⊥
 func_cond e = absurd (cc e)

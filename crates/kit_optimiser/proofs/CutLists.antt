@@ -7,8 +7,8 @@ use Rattle.kit_behaviour.specs.PassLists.{Pass, IsAfter}
 use Rattle.kit_behaviour.specs.Places.{Place}
 use Rattle.kit_behaviour.proofs.PassListLemmas.{after_cut}
 use Rattle.kit_ruled_views.specs.Functions.{KitContext}
-use Rattle.kit_optimised_programs.specs.Programs.{PassedPrograms}
-use Rattle.kit_optimised_programs.proofs.ProgramsOfModules.{fit}
+use Rattle.kit_optimiser.specs.Programs.{PassedPrograms}
+use Rattle.kit_optimiser.proofs.ProgramsOfModules.{fit}
 
 pub cut : (xs ys : List Pass) (start mid again end other new : KitContext) (root root_again root_there : Ptr Operation)
     (numbered : List ℕ → ℕ) (begun : PassedPrograms xs start mid root numbered)

@@ -29,9 +29,9 @@ use Rattle.kit_execution.specs.Numberings.{NumbersTextsApart}
 use Rattle.kit_ruled_views.specs.Functions.{KitContext}
 use Rattle.kit_ruled_views.specs.Ruled.{KitTree, type_or_first}
 use Rattle.kit_ruled_views.proofs.HandleSameness.{values_apart}
-use Rattle.kit_optimised_programs.specs.Programs.{IsOrdinary, PassedPrograms}
-use Rattle.kit_optimised_programs.proofs.HandlesTold.{handles_told}
-use Rattle.kit_optimised_programs.proofs.HeadsKept.{list_keeps}
+use Rattle.kit_optimiser.specs.Programs.{IsOrdinary, PassedPrograms}
+use Rattle.kit_optimiser.proofs.HandlesTold.{handles_told}
+use Rattle.kit_optimiser.proofs.HeadsKept.{list_keeps}
 
 -- the program of a tree of a context is fit
 pub fit : (s : KitContext) (root : Ptr Operation) (t : KitTree) (numbered : List ℕ → ℕ) (p : FunctionsByPath Place)

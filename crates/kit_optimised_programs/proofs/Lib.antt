@@ -1,4 +1,0 @@
-pub mod HandlesTold
-pub mod HeadsKept
-mod ProgramsOfModules
-mod CutLists
