@@ -11,7 +11,7 @@ ghost use Rattle.text_building.specs.Kept.{KeepsPayloads, KeepsPayloadsOf, SameS
 ghost use Rattle.text_dialect.specs.Seen.{Seen, seen};
 ghost use Rattle.text_frames.specs.Linking.{CanLink, Links};
 ghost use Rattle.text_frames.specs.Raised.{AreWaiting, HoldsAllNew};
-ghost use Rattle.text_scopes.specs.Isolated.{is_isolated};
+ghost use Rattle.text_formats.specs.Isolated.{is_isolated};
 ghost use Rattle.text_reading.specs.Understood.{IsRead};
 
 use crate::finding::verdict;
@@ -28,12 +28,11 @@ use std::alloc::{AllocError, Global};
 use text_assembling::assembling::assemble;
 use text_building::discard;
 use text_dialect::TextDialect;
-use text_formats::{ReadDialect, grammar_of};
+use text_formats::{ReadDialect, grammar_of, resolve};
 use text_frames::assembly::Assembly;
 use text_frames::linking::link;
 use text_frames::opened::AssemblyFault;
 use text_frames::source::Source;
-use text_scopes::resolve;
 
 /// Reads one operation with all that stands in it, into a context.
 ///

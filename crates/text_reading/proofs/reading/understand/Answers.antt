@@ -18,7 +18,7 @@ use Rattle.ir_rereading.specs.Texts.{language_of}
 use Rattle.ir_rereading.proofs.trees.DefinedTokens.{many_defined}
 use Rattle.ir_rereading.proofs.verdicts.Identifiers.{reading_spelt}
 use Rattle.ir_rereading.proofs.verdicts.TextReadings.{read_in_order, read_whole}
-use Rattle.text_scopes.specs.Isolated.{is_isolated}
+use Rattle.text_formats.specs.Isolated.{is_isolated}
 use Rattle.text_frames.specs.Raised.{HoldsAllNew, IsAssembled}
 use Rattle.text_reading.proofs.Judged.{judged_so}
 use Rattle.text_reading.proofs.Understood.{can_link_all, answers_read}

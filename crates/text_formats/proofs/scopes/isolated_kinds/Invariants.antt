@@ -1,8 +1,8 @@
 use Rattle.std.proofs.Common.{◌≡◌, map}
 use Rattle.std.specs.List.{range_with_len}
 use Rattle.ir_scopes.specs.Scopes.{isolated_at}
-use Rattle.text_scopes.specs.Isolated.{is_isolated}
-use Rattle.text_scopes.proofs.scopes.isolated_kinds.Given as goal
+use Rattle.text_formats.specs.Isolated.{is_isolated}
+use Rattle.text_formats.proofs.scopes.isolated_kinds.Given as goal
 
 abbrev pub invariant-loop-number : goal.invariant-loop-number
 invariant-loop-number g l =

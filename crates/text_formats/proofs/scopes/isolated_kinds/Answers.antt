@@ -1,8 +1,8 @@
 use Rattle.std.proofs.Common.{arith, ap, ◌∙◌}
 use Rattle.ir_scopes.specs.Scopes.{is_isolated_kind}
 use Rattle.ir_scopes.proofs.Marks.{few_kinds, few_operations, mark_more, marks_all}
-use Rattle.text_scopes.specs.Isolated.{is_isolated}
-use Rattle.text_scopes.proofs.scopes.isolated_kinds.Goals as goal
+use Rattle.text_formats.specs.Isolated.{is_isolated}
+use Rattle.text_formats.proofs.scopes.isolated_kinds.Goals as goal
 
 pub loop-number-preserved : goal.loop-number-preserved
 loop-number-preserved g c =

@@ -2,7 +2,7 @@
 ghost use Rattle.std.specs.Prelude.{◌≡◌, IfOk, MatchResult, false, length};
 ghost use Rattle.ir_grammar.specs.Nesting.{OwnTokens};
 ghost use Rattle.ir_scopes.specs.Scopes.{isolated_at, is_marked, IsResolved, IsScopeFault};
-ghost use Rattle.text_scopes.specs.Isolated.{is_isolated};
+ghost use Rattle.text_formats.specs.Isolated.{is_isolated};
 
 use ir_grammar::grammar::Event;
 use ir_names::OpInterface;

@@ -1,6 +1,6 @@
 use Rattle.std.proofs.Common.{MatchResult, subst, ap, ◌∙◌}
 use Rattle.ir_scopes.specs.Scopes.{is_marked, IsResolved, IsScopeFault}
-use Rattle.text_scopes.proofs.scopes.resolve.Goals as goal
+use Rattle.text_formats.proofs.scopes.resolve.Goals as goal
 
 pub returns-clause-resolved : goal.returns-clause-resolved
 returns-clause-resolved g c =
