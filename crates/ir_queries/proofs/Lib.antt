@@ -10,3 +10,5 @@ pub mod Held
 pub mod Splits
 pub mod OwnNames
 pub mod SkippedCopies
+pub mod Ways
+pub mod FirstOf

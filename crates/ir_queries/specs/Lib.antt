@@ -9,3 +9,4 @@ pub mod TypedHandles
 pub mod Kept
 pub mod Subjects
 pub mod Lookups
+pub mod Ancestors

@@ -3,12 +3,12 @@ use crate::markers::{Graph, Terminator};
 use crate::names::Names;
 use crate::texts::{Nameable, plain};
 use crate::tiny::Tiny;
-use ir_ancestors::{
+use ir_core::{BasicBlock, BlockCalls, Context, Entity, Operation, OperationCalls, Ptr, Region};
+use ir_queries::{
     find_ancestor_block_of_block_in_region, find_ancestor_block_of_op_in_region,
     find_ancestor_of_op_interface, find_ancestor_of_op_type, find_ancestor_op_of_op_in_block,
     find_ancestor_op_of_op_in_region, strictly_precedes_in_block,
 };
-use ir_core::{BasicBlock, BlockCalls, Context, Entity, Operation, OperationCalls, Ptr, Region};
 use std::alloc::{AllocError, Global};
 
 /// The name of what was found.
