@@ -7,7 +7,7 @@ use Rattle.ir_rereading.specs.Texts.{Says}
 use Rattle.kit_language.specs.Language.{kit_language}
 use Rattle.kit_ruled_views.specs.Functions.{KitContext, KeepsRules}
 use Rattle.kit_text_programs.specs.RuleLaws.{TextsHaveOneVerdict}
-use Rattle.module_printing.specs.Again.{IsReadAgain, IsTextOfModule}
+use Rattle.text_printing.specs.Again.{IsReadAgain, IsTextOfModule}
 use Rattle.irkit_refusals.proofs.VerdictLemmas.{rules_carry}
 use Rattle.irkit_running.specs.Known.{HasOwnText}
 use Rattle.irkit_running.specs.Lists.{IsWrittenAs}

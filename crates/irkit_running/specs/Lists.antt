@@ -12,7 +12,7 @@ use Rattle.kit_optimiser.specs.Passed.{IsOptimised, FillsUp, pass_of}
 use Rattle.kit_optimiser.specs.declared.pass.KitPass.{KitPass}
 use Rattle.kit_execution.specs.Numberings.{NumbersTextsApart}
 use Rattle.kit_ruled_views.specs.Functions.{KitContext}
-use Rattle.module_printing.specs.Again.{IsTextOfModule}
+use Rattle.text_printing.specs.Again.{IsTextOfModule}
 use Rattle.irkit_refusals.specs.Texts.{HoldsText, IsAcceptedText}
 
 -- The text is one of the tree that an operation stands for, with a line end, and is accepted again, as the same module:

@@ -19,9 +19,9 @@ use kit::{Kit, let_go};
 use kit_language::kit_can_print;
 use kit_optimiser::{KitPass, optimised_modules_have_programs, run_passes};
 use kit_text_programs::texts_have_one_verdict;
-use module_printing::print_module;
 use std::alloc::{AllocError, Global};
 use std::io::{Read, Write};
+use text_printing::print_module;
 
 /// Reads a module, runs the passes over it, one after the other, and writes its text and a line end.
 ///

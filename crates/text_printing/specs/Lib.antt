@@ -1,3 +1,4 @@
 pub mod Printing
 pub mod Added
 pub mod PartPrinted
+pub mod Again

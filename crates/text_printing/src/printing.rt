@@ -10,17 +10,17 @@ ghost use Rattle.ir_print.specs.Pieces.{Entity};
 ghost use Rattle.ir_program.specs.Program.{operation_at};
 ghost use Rattle.ir_program.specs.declared.handles.Value.{Value};
 ghost use Rattle.ir_rereading.specs.Printable.{CanPrint};
-ghost use Rattle.module_printing.specs.Again.{IsReadAgain, IsTextOfModule};
+ghost use Rattle.text_printing.specs.Again.{IsReadAgain, IsTextOfModule};
 ghost use Rattle.text_dialect.specs.Printed.{PrintsAs};
 ghost use Rattle.text_dialect.specs.Seen.{seen};
 ghost use Rattle.text_dialect.specs.Standing.{StandsForTexts};
 ghost use Rattle.text_rereading.specs.Rereading.{Named};
 
+use crate::operations::print_root;
 use ir_context::Context;
 use ir_program::{Operation, Ptr};
 use std::alloc::{AllocError, Global};
 use text_dialect::TextDialect;
-use text_printing::print_root;
 use text_rereading::know_small_numbers;
 use text_rereading::laws::{
     know_places, printed_modules_are_read_again, printed_trees_are_layouts,

@@ -3,7 +3,7 @@ use Rattle.std.specs.String.{string_bytes}
 use Rattle.ir_rereading.specs.Texts.{Says}
 use Rattle.text_dialect.specs.Seen.{seen}
 use Rattle.text_rereading.specs.Rereading.{IsPrinted}
-use Rattle.module_printing.proofs.printing.print_module.Goals as goal
+use Rattle.text_printing.proofs.printing.print_module.Goals as goal
 
 -- a string has fewer than 2^63 bytes
 string_few : {A : Type 0} (s : String A) → length (string_bytes s) < 2 ^ 63

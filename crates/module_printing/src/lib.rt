@@ -1,6 +1,0 @@
-//! Printing of modules, as texts that are read again.
-#![tactic(auto)]
-
-mod printing;
-
-pub use printing::print_module;
